@@ -1,0 +1,72 @@
+-- What stands at each place of a volume, and after a cell is put in.
+use Rattle.std.proofs.Common.{◌≡◌, ◌≢◌, ℕ, zero, suc, ◌<◌, List, [], ◌∷◌, length, refl, ap, sym, ◌∙◌, subst, arith, get_or}
+use Rattle.std.specs.Prelude.{Option, Some, None, IsSome, slice_get, slice_set, option_and_then, unwrap_or}
+use Rattle.std.proofs.lemmas.Option.{slice_get-get_or}
+use mathlib.Core.Bool.{false≢true}
+use Rattle.cells.specs.declared.place.At.{At}
+use Rattle.cells.specs.Places.{IsInside, index_in}
+use Rattle.cells.specs.Cells.{Cells, IsCell, IsVolume, HasCell, cell_at, put_cell, set_nth}
+use Rattle.cells.proofs.Raster.{one_place, index_below, has_index}
+
+-- reads of a list after a write
+pub get-set_same : {X : Type 0} (xs : List X) (i : ℕ) (x : X) → i < length xs → slice_get (slice_set xs i x) i ≡ Some x
+get-set_same [] i x lt = absurd (omega arith)
+get-set_same (y ∷ xs) zero x lt = refl
+get-set_same (y ∷ xs) (suc i) x lt = get-set_same xs i x (omega arith)
+
+pub get-set_other : {X : Type 0} (xs : List X) (i j : ℕ) (x : X) → j ≢ i → slice_get (slice_set xs i x) j ≡ slice_get xs j
+get-set_other [] i j x apart = refl
+get-set_other (y ∷ xs) zero zero x apart = absurd (apart refl)
+get-set_other (y ∷ xs) zero (suc j) x apart = refl
+get-set_other (y ∷ xs) (suc i) zero x apart = refl
+get-set_other (y ∷ xs) (suc i) (suc j) x apart = get-set_other xs i j x (λ e. apart (ap suc e))
+
+-- what an option holds, if anything, is a cell
+abbrev pub IfCell : ℕ → Option (List ℕ) → Type 0
+IfCell k None = Unit {0}
+IfCell k (Some cell) = IsCell k cell
+
+pub cell_at-inside : (v : Cells) (p : At) (i : ℕ) → index_in v.size p ≡ Some i → cell_at v p ≡ slice_get v.cells i
+cell_at-inside v p i at = ap (option_and_then (slice_get v.cells)) at
+
+pub cell_at-outside : (v : Cells) (p : At) → index_in v.size p ≡ None → cell_at v p ≡ None
+cell_at-outside v p out = ap (option_and_then (slice_get v.cells)) out
+
+-- each place inside has a cell
+pub cell_is : (v : Cells) → IsVolume v → (p : At) (i : ℕ) → index_in v.size p ≡ Some i → cell_at v p ≡ Some (get_or v.cells i [])
+cell_is v is p i at = cell_at-inside v p i at ∙ slice_get-get_or v.cells i [] (subst (λ n. i < n) (sym is.count) (index_below v.size p i at))
+
+pub inside_has_cell : (v : Cells) → IsVolume v → (p : At) → IsInside v.size p → HasCell v p
+inside_has_cell v is p inside =
+    let i = unwrap_or (index_in v.size p) 0 in
+    subst IsSome (sym (cell_is v is p i (has_index (index_in v.size p) 0 inside))) refl
+
+pub cell_is_inside : (v : Cells) (p : At) → HasCell v p → IsInside v.size p
+cell_is_inside v p has = by (index_in v.size p) has
+  where
+    by : (o : Option ℕ) → IsSome (option_and_then (slice_get v.cells) o) → IsSome o
+    by None some = absurd (false≢true some)
+    by (Some i) some = refl
+
+pub cell_is_cell : (v : Cells) → IsVolume v → (p : At) → IfCell v.k (cell_at v p)
+cell_is_cell v is p = by (index_in v.size p) refl
+  where
+    by : (o : Option ℕ) → index_in v.size p ≡ o → IfCell v.k (cell_at v p)
+    by None out = subst (IfCell v.k) (sym (cell_at-outside v p out)) tt
+    by (Some i) at = subst (IfCell v.k) (sym (cell_is v is p i at)) (is.cells i [] (subst (λ n. i < n) (sym is.count) (index_below v.size p i at)))
+
+-- the law of a write, place by place
+pub cell_at-put_same : (v : Cells) → IsVolume v → (p : At) (cell : List ℕ) → IsInside v.size p → cell_at (put_cell v p cell) p ≡ Some cell
+cell_at-put_same v is p cell inside =
+    let i = unwrap_or (index_in v.size p) 0 in
+    let at : index_in v.size p ≡ Some i = has_index (index_in v.size p) 0 inside in
+    cell_at-inside (put_cell v p cell) p i at ∙ ap (λ o. slice_get (set_nth v.cells o cell) i) at
+    ∙ get-set_same v.cells i cell (subst (λ n. i < n) (sym is.count) (index_below v.size p i at))
+
+pub cell_at-put_other : (v : Cells) (p q : At) (cell : List ℕ) → p ≢ q → cell_at (put_cell v p cell) q ≡ cell_at v q
+cell_at-put_other v p q cell apart = by (index_in v.size p) (index_in v.size q) refl refl
+  where
+    by : (i j : Option ℕ) → index_in v.size p ≡ i → index_in v.size q ≡ j → option_and_then (slice_get (set_nth v.cells i cell)) j ≡ option_and_then (slice_get v.cells) j
+    by None j ei ej = refl
+    by (Some i) None ei ej = refl
+    by (Some i) (Some j) ei ej = get-set_other v.cells i j cell (λ e. apart (one_place v.size p q i ei (subst (λ k. index_in v.size q ≡ Some k) e ej)))

@@ -1,0 +1,4 @@
+pub mod Chunks
+pub mod Raster
+pub mod Buffering
+pub mod CellLaws

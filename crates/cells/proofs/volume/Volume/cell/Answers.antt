@@ -1,0 +1,19 @@
+use Rattle.std.proofs.Common.{◌≤◌, ◌+◌, ◌*◌, ap, sym, ◌∙◌, subst, length, take, drop}
+use Rattle.std.specs.Prelude.{Some}
+use Rattle.cells.specs.Cells.{Cells, cell_at}
+use Rattle.cells.proofs.Buffering.{fits, cell_of}
+use Rattle.cells.proofs.volume.Volume.cell.Goals as goal
+
+pub piece_of-requires : goal.piece_of-requires
+piece_of-requires c =
+    subst (λ bytes. c.self.inside.k * c.in_ok-i.i + c.self.inside.k ≤ length bytes) (sym c.deref.ensures.value)
+    (fits c.self.inside.size c.self.inside.k c.self.inside.bytes.items c.in_ok-i.i c.self.invariant (c.in_ok-i.ensures {u = tt}).below)
+
+pub returns-clause-bytes : goal.returns-clause-bytes
+returns-clause-bytes c =
+    ap Some (c.piece_of.ensures.piece ∙ ap (λ bytes. take c.self.inside.k (drop (c.self.inside.k * c.in_ok-i.i) bytes)) c.deref.ensures.value)
+    ∙ sym (cell_of c.self.inside.size c.self.inside.k c.self.inside.bytes.items c.args.at c.in_ok-i.i (sym (c.in_ok-i.ensures {u = tt}).index) (c.in_ok-i.ensures {u = tt}).below)
+    ∙ ap (λ (v : Cells). cell_at v c.args.at) c.self.view_is
+
+pub returns-clause-samples : goal.returns-clause-samples
+returns-clause-samples c = c.piece_of.ensures.len ∙ ap (λ (v : Cells). v.k) c.self.view_is

@@ -1,0 +1,21 @@
+-- Boxes inside a size. (Own.)
+use Rattle.std.specs.Prelude.{◌≤◌, ℕ, ℤ, pos, ◌+ℤ◌, ◌≤ℤ◌}
+use Rattle.cells.specs.declared.place.At.{At}
+use Rattle.cells.specs.declared.place.Size.{Size}
+
+-- a run of cells along one axis lies within it
+pub record AxisHolds (n : ℕ) (corner : ℤ) (len : ℕ) : Type 0 where
+  pub from : pos 0 ≤ℤ corner
+  pub to : (corner +ℤ pos len) ≤ℤ pos n
+
+-- the box lies inside on each axis, and so does each of its places
+pub record HoldsBox (size : Size) (corner : At) (inner : Size) : Type 0 where
+  pub x : AxisHolds size.w corner.x inner.w
+  pub y : AxisHolds size.h corner.y inner.h
+  pub f : AxisHolds size.f corner.f inner.f
+
+-- the box has a cell
+pub record HasCells (size : Size) : Type 0 where
+  pub w : 1 ≤ size.w
+  pub h : 1 ≤ size.h
+  pub f : 1 ≤ size.f

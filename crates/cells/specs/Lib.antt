@@ -1,0 +1,4 @@
+pub mod Places
+pub mod Boxes
+pub mod Cells
+pub mod Buffers

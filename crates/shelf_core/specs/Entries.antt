@@ -1,0 +1,16 @@
+-- A list of files as a map from names. (Own.)
+use Rattle.std.specs.Prelude.{ℕ, Bool, List, map, nat_eq}
+use Rattle.std.specs.Cmp.Lexicographic.{pointwise}
+use Rattle.std.specs.FinMap.{from_entries}
+use Rattle.shelf_core.specs.Files.{Files}
+use Rattle.shelf_core.specs.declared.mem_shelf.MemFile.{MemFile}
+
+abbrev pub entry_of : MemFile → List ℕ × List ℕ
+entry_of f = (f.name, f.bytes)
+
+abbrev pub files_of : List MemFile → Files
+files_of files = from_entries (map entry_of files)
+
+-- the file has this name
+abbrev pub is_named : List ℕ → MemFile → Bool
+is_named name f = pointwise nat_eq f.name name

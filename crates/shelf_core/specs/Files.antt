@@ -1,0 +1,65 @@
+-- What the calls of a shelf do to its files, and those of a sink to its bytes. (Own.)
+use Rattle.std.specs.Prelude.{◌≡◌, ◌<◌, ◌≤◌, ◌-◌, ◌⊎◌, ℕ, List, [], ◌++◌, length, take, drop, min, Option, Some, None, unwrap_or}
+use Rattle.std.specs.Ordering.{nat_cmp}
+use Rattle.std.specs.Cmp.Lexicographic.{slice_cmp}
+use Rattle.std.specs.FinMap as map
+
+-- files: a finite map from the bytes of a name to the bytes of the file
+abbrev pub Files : Type 0
+Files = map.FinMap (slice_cmp nat_cmp) (List ℕ)
+
+-- what a shelf means: its files, where it tells them, and for each name how often a read and a write have failed
+pub record ShelfState : Type 0 where
+  pub files : Option Files
+  pub reads : List ℕ → ℕ
+  pub writes : List ℕ → ℕ
+
+-- what a sink means: the bytes written, where it tells them, and how often a write has failed
+pub record SinkState : Type 0 where
+  pub bytes : Option (List ℕ)
+  pub faults : ℕ
+
+-- the bytes of a file; a missing one counts as empty
+abbrev pub content_of : Files → List ℕ → List ℕ
+content_of files name = unwrap_or (map.get files name) []
+
+-- what is told at the exit was told at the entry, and a step leads from this to that; nothing is said where nothing is told at the exit
+abbrev pub Told : {C : Type 0} → Option C → Option C → (C → C → Type 0) → Type 0
+Told was None step = Unit {0}
+Told None (Some now) step = ⊥
+Told (Some was) (Some now) step = step was now
+
+-- the files of a shelf go by a step from those at the entry to those at the exit
+abbrev pub Changes : ShelfState → ShelfState → (Files → Files → Type 0) → Type 0
+Changes was now step = Told was.files now.files step
+
+-- a count has risen, or stands at the last value of its type
+abbrev pub Rose : ℕ → ℕ → Type 0
+Rose before now = (before < now) ⊎ (18446744073709551615 ≤ now)
+
+abbrev pub NeverFalls : (List ℕ → ℕ) → (List ℕ → ℕ) → Type 0
+NeverFalls before now = (name : List ℕ) → before name ≤ now name
+
+-- the files stay, and the counts of write faults
+pub record OnlyReads (was now : ShelfState) : Type 0 where
+  pub files : Changes was now (λ before after. after ≡ before)
+  pub reads : NeverFalls was.reads now.reads
+  pub writes : now.writes ≡ was.writes
+
+-- the counts of read faults stay
+pub record OnlyWrites (was now : ShelfState) : Type 0 where
+  pub writes : NeverFalls was.writes now.writes
+  pub reads : now.reads ≡ was.reads
+
+-- a read of n bytes from a place on: as many as the buffer and the file have, and those of the file
+pub record Reads (bytes : List ℕ) (at : ℕ) (into : List ℕ) (n : ℕ) : Type 0 where
+  pub count : n ≡ min (length into) (length bytes - at)
+  pub read : take n into ≡ take n (drop at bytes)
+
+-- some of a piece, from its front, stands behind what there was
+abbrev pub IsPrefixAdded : List ℕ → List ℕ → List ℕ → Type 0
+IsPrefixAdded was piece now = (n : ℕ) × (now ≡ was ++ take n piece)
+
+-- some of a piece, from its front, stands behind the bytes of one file
+abbrev pub GrowsByPrefix : Files → List ℕ → List ℕ → Files → Type 0
+GrowsByPrefix was name piece now = (n : ℕ) × (now ≡ map.insert was name (content_of was name ++ take n piece))

@@ -1,0 +1,66 @@
+-- What the stores in memory mean. (Own.)
+use Rattle.std.specs.Prelude.{◌≡◌, ◌⊎◌, ℕ, List, [], ◌++◌, take, Option, Some, None, IsSome}
+use Rattle.std.specs.FinMap as fin
+use Rattle.shelf_core.specs.Files.{Files, ShelfState, SinkState, content_of}
+use Rattle.shelf_core.specs.Listings.{due, after_call, one_more}
+use Rattle.shelf_core.specs.declared.listing.Call.{Call}
+use Rattle.shelf_core.specs.declared.listing.Call.TheVariants.{Get, Add}
+use Rattle.shelf_core.specs.declared.listing.Listing.{Listing}
+
+-- the files, the calls that are listed to fail, and one count of faults of each kind for all names
+pub record MemShelfState : Type 0 where
+  pub files : Files
+  pub listings : List Listing
+  pub reads : ℕ
+  pub writes : ℕ
+
+-- the bytes, the calls of add that are listed to fail, and the count of faults
+pub record MemSinkState : Type 0 where
+  pub bytes : List ℕ
+  pub listings : List Listing
+  pub faults : ℕ
+
+-- what the trait sees of each: everything is told, and the counts are those of every name
+abbrev pub mem_shelf_state : MemShelfState → ShelfState
+mem_shelf_state m = record { files = Some m.files; reads = λ _. m.reads; writes = λ _. m.writes }
+
+abbrev pub mem_sink_state : MemSinkState → SinkState
+mem_sink_state m = record { bytes = Some m.bytes; faults = m.faults }
+
+-- after a call that went well: the files are these
+abbrev pub well : Call → List ℕ → MemShelfState → Files → MemShelfState
+well call name was files = record was { files = files; listings = after_call call name was.listings }
+
+-- after a read that failed
+abbrev pub unread : List ℕ → MemShelfState → MemShelfState
+unread name was = record was { listings = after_call Get name was.listings; reads = one_more was.reads }
+
+-- after a write that failed: the files are these
+abbrev pub unwritten : Call → List ℕ → MemShelfState → Files → MemShelfState
+unwritten call name was files = record was { files = files; listings = after_call call name was.listings; writes = one_more was.writes }
+
+-- a sink after an add that went well
+abbrev pub told_whole : List ℕ → MemSinkState → MemSinkState
+told_whole piece was = record was { bytes = was.bytes ++ piece; listings = after_call Add [] was.listings }
+
+-- a sink after an add that failed: the bytes are these
+abbrev pub untold : MemSinkState → List ℕ → MemSinkState
+untold was bytes = record was { bytes = bytes; listings = after_call Add [] was.listings; faults = one_more was.faults }
+
+-- a read of this name fails now: it is listed, or the name is missing
+abbrev pub FailsToGet : List ℕ → MemShelfState → Type 0
+FailsToGet name was = IsSome (due Get name was.listings) ⊎ (fin.get was.files name ≡ None)
+
+-- the file with what a listed add keeps of its piece
+abbrev pub kept_in : Files → List ℕ → List ℕ → ℕ → Files
+kept_in files name piece kept = fin.insert files name (content_of files name ++ take kept piece)
+
+-- the files after an add that failed: as before after a refused growth, or with what the listing keeps
+abbrev pub KeptBy : Option ℕ → Files → List ℕ → List ℕ → Files → Type 0
+KeptBy None was name piece now = now ≡ was
+KeptBy (Some kept) was name piece now = (now ≡ was) ⊎ (now ≡ kept_in was name piece kept)
+
+-- the bytes of a sink after an add that failed
+abbrev pub SinkKeptBy : Option ℕ → List ℕ → List ℕ → List ℕ → Type 0
+SinkKeptBy None was piece now = now ≡ was
+SinkKeptBy (Some kept) was piece now = (now ≡ was) ⊎ (now ≡ was ++ take kept piece)

@@ -1,7 +1,9 @@
 -- What stands at each place of a volume, and after a cell is put in.
 use Rattle.std.proofs.Common.{◌≡◌, ◌≢◌, ℕ, zero, suc, ◌<◌, List, [], ◌∷◌, length, refl, ap, sym, ◌∙◌, subst, arith, get_or}
-use Rattle.std.specs.Prelude.{Option, Some, None, IsSome, slice_get, slice_set, option_and_then, unwrap_or}
+use Rattle.std.specs.Prelude.{Option, Some, None, IsSome, slice_get, slice_set, option_and_then, unwrap_or, All}
 use Rattle.std.proofs.lemmas.Option.{slice_get-get_or}
+use Rattle.std.proofs.lemmas.List.{length-set}
+use Rattle.std.proofs.lemmas.List.Elements.{All-set}
 use mathlib.Core.Bool.{false≢true}
 use Rattle.cells.specs.declared.place.At.{At}
 use Rattle.cells.specs.Places.{IsInside, index_in}
@@ -70,3 +72,19 @@ cell_at-put_other v p q cell apart = by (index_in v.size p) (index_in v.size q) 
     by None j ei ej = refl
     by (Some i) None ei ej = refl
     by (Some i) (Some j) ei ej = get-set_other v.cells i j cell (λ e. apart (one_place v.size p q i ei (subst (λ k. index_in v.size q ≡ Some k) e ej)))
+
+pub length-set_nth : {X : Type 0} (xs : List X) (i : Option ℕ) (x : X) → length (set_nth xs i x) ≡ length xs
+length-set_nth xs None x = refl
+length-set_nth xs (Some i) x = length-set xs i x
+
+pub All-set_nth : {X : Type 0} (P : X → Type 0) (xs : List X) (i : Option ℕ) (x : X) → P x → All P xs → All P (set_nth xs i x)
+All-set_nth P xs None x here all = all
+All-set_nth P xs (Some i) x here all = All-set P xs i x here all
+
+pub put_is_volume : (v : Cells) → IsVolume v → (p : At) (cell : List ℕ) → IsCell v.k cell → IsVolume (put_cell v p cell)
+put_is_volume v is p cell here = record {
+  small = is.small;
+  samples = is.samples;
+  count = length-set_nth v.cells (index_in v.size p) cell ∙ is.count;
+  cells = All-set_nth (IsCell v.k) v.cells (index_in v.size p) cell here is.cells;
+}

@@ -2,3 +2,4 @@ pub mod Chunks
 pub mod Raster
 pub mod Buffering
 pub mod CellLaws
+pub mod BoxLaws

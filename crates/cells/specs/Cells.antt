@@ -5,6 +5,7 @@ use Rattle.std.specs.List.{concat}
 use Rattle.cells.specs.declared.place.At.{At}
 use Rattle.cells.specs.declared.place.Size.{Size}
 use Rattle.cells.specs.Places.{IsSmall, cell_count, index_in}
+use Rattle.cells.specs.Boxes.{HoldsBox}
 
 pub record Cells : Type 0 where
   pub size : Size
@@ -63,3 +64,7 @@ run_from cells w (Some i) = concat (take w (drop i cells))
 -- the bytes of w cells from a place on
 abbrev pub row_at : Cells → At → ℕ → List ℕ
 row_at v p w = run_from v.cells w (index_in v.size p)
+
+-- each place of a box has a cell
+abbrev pub Holds : Cells → At → Size → Type 0
+Holds v corner inner = HoldsBox v.size corner inner

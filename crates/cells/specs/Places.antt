@@ -1,6 +1,7 @@
 -- Places, sizes and raster order: x runs fastest, then y, then f. (The order of rows and columns is
 -- Netpbm's; frames follow one another as in a clip.)
-use Rattle.std.specs.Prelude.{◌≤◌, ◌*◌, ◌+◌, ◌/◌, ◌%◌, ℕ, ℤ, pos, negsuc, ◌+ℤ◌, ◌-ℤ◌, Option, Some, None, nat_lt, if◌then◌else◌, IsSome}
+use Rattle.std.specs.Prelude.{◌≤◌, ◌*◌, ◌+◌, ◌/◌, ◌%◌, ℕ, ℤ, pos, negsuc, ◌+ℤ◌, ◌-ℤ◌, Option, Some, None, nat_lt, if◌then◌else◌, IsSome, FitsSigned}
+use Rattle.std.specs.Int.{w32}
 use Rattle.cells.specs.declared.place.At.{At}
 use Rattle.cells.specs.declared.place.Size.{Size}
 
@@ -42,6 +43,12 @@ plus p q = record { x = p.x +ℤ q.x; y = p.y +ℤ q.y; f = p.f +ℤ q.f }
 
 abbrev pub minus : At → At → At
 minus p q = record { x = p.x -ℤ q.x; y = p.y -ℤ q.y; f = p.f -ℤ q.f }
+
+-- the sums of the coordinates are numbers of 32 bits
+pub record SumFits (p q : At) : Type 0 where
+  pub x : FitsSigned w32 (p.x +ℤ q.x)
+  pub y : FitsSigned w32 (p.y +ℤ q.y)
+  pub f : FitsSigned w32 (p.f +ℤ q.f)
 
 -- the place of three counts
 abbrev pub spot : ℕ → ℕ → ℕ → At

@@ -1,4 +1,7 @@
 // Places, sizes and axes.
+ghost use Rattle.std.specs.Prelude.{◌≡◌, ◌<◌, ◌+ℤ◌, FitsSigned, IfSome};
+ghost use Rattle.std.specs.Int.{w32};
+ghost use Rattle.cells.specs.Places.{IsSmall, SumFits, cell_count, index_in, place_of, plus};
 
 /// A place in a volume: column, row and frame, each counted from 0. Places outside are allowed.
 #[derive(Clone, Copy, Debug, Drop, PartialEq, Eq)]
@@ -8,12 +11,76 @@ pub struct At {
     pub f: i32,
 }
 
+// A sum of two coordinates.
+fn sum_of(a: i32, b: i32) -> i32
+    requires { FitsSigned w32 (a +ℤ b) }
+    ensures { result ≡ a +ℤ b }
+{
+    a + b
+}
+
+impl At {
+    /// The place that is as far from this one as `by` is from the first cell.
+    pub fn plus(self, by: At) -> At
+        requires { SumFits self by }
+        ensures { result ≡ plus self by }
+    {
+        At {
+            x: sum_of(self.x, by.x),
+            y: sum_of(self.y, by.y),
+            f: sum_of(self.f, by.f),
+        }
+    }
+}
+
 /// Columns, rows and frames. A picture has one frame.
 #[derive(Clone, Copy, Debug, Drop, PartialEq, Eq)]
 pub struct Size {
     pub w: u32,
     pub h: u32,
     pub f: u32,
+}
+
+impl Size {
+    /// How many cells there are.
+    pub fn cells(self) -> usize
+        requires { IsSmall self }
+        ensures { result ≡ cell_count self }
+    {
+        self.w as usize * (self.h as usize * self.f as usize)
+    }
+
+    /// The index of a place in raster order; None outside.
+    pub fn index_of(self, at: At) -> Option<usize>
+        requires { IsSmall self }
+        ensures index { result ≡ index_in self at }
+        ensures below { IfSome result (λ i. i < cell_count self) }
+    {
+        if at.x < 0 || at.y < 0 || at.f < 0 {
+            return None;
+        }
+        let x = at.x as u32;
+        let y = at.y as u32;
+        let f = at.f as u32;
+        if x >= self.w || y >= self.h || f >= self.f {
+            return None;
+        }
+        Some(x as usize + self.w as usize * (y as usize + self.h as usize * f as usize))
+    }
+
+    /// The place at an index in raster order.
+    pub fn place_at(self, i: usize) -> At
+        requires small { IsSmall self }
+        requires below { i < cell_count self }
+        ensures { result ≡ place_of self i }
+    {
+        let i = i as u32;
+        At {
+            x: (i % self.w) as i32,
+            y: (i / self.w % self.h) as i32,
+            f: (i / self.w / self.h) as i32,
+        }
+    }
 }
 
 /// The axes of a volume: columns, rows, frames.

@@ -1,6 +1,6 @@
 // A volume over one buffer of bytes.
 ghost use Rattle.std.specs.Prelude.{◌≡◌, ◌≤◌, ◌<◌, ◌*◌, ◌+◌, ◌++◌, ◌≤ℤ◌, ◌+ℤ◌, pos, IfOk, IfSome, option_copied, length, take, drop, replicate};
-ghost use Rattle.cells.specs.Places.{index_in, IsInside, IsSmall, cell_count};
+ghost use Rattle.cells.specs.Places.{IsInside, IsSmall, cell_count};
 ghost use Rattle.cells.specs.Cells.{cell_at, put_cell, row_at, blank, volume_of, bytes_of, IsVolume};
 
 use crate::{At, Size};
@@ -25,24 +25,6 @@ impl Model for Volume {
     ghost view = { λ a. volume_of a.size a.k a.bytes.items };
 
     ghost invariant = { λ a. IsBuffer a.size a.k a.bytes.items };
-}
-
-// The index of a place in raster order.
-pub fn index_of(size: Size, at: At) -> Option<usize>
-    requires { IsSmall size }
-    ensures index { result ≡ index_in size at }
-    ensures below { IfSome result (λ i. i < cell_count size) }
-{
-    if at.x < 0 || at.y < 0 || at.f < 0 {
-        return None;
-    }
-    let x = at.x as u32;
-    let y = at.y as u32;
-    let f = at.f as u32;
-    if x >= size.w || y >= size.h || f >= size.f {
-        return None;
-    }
-    Some(x as usize + size.w as usize * (y as usize + size.h as usize * f as usize))
 }
 
 // So many bytes from a place on.
@@ -76,8 +58,7 @@ impl Volume {
         requires samples { (1 ≤ k) × (k ≤ 6) }
         ensures { IfOk result (λ v. v ≡ blank size k) }
     {
-        let count = size.w as usize * (size.h as usize * size.f as usize);
-        let bytes = zeros(alloc, k as usize * count)?;
+        let bytes = zeros(alloc, k as usize * size.cells())?;
         Ok(Volume { size, k, bytes })
     }
 
@@ -127,7 +108,7 @@ impl Volume {
         ensures bytes { option_copied result ≡ cell_at self.now at }
         ensures samples { IfSome result (λ cell. length cell.now ≡ self.now.k) }
     {
-        let i = index_of(self.size, at)?;
+        let i = self.size.index_of(at)?;
         let k = self.k as usize;
         Some(piece_of(&self.bytes, k * i, k))
     }
@@ -139,7 +120,7 @@ impl Volume {
         ensures { self.new ≡ put_cell self.old at bytes.now }
     {
         let k = self.k as usize;
-        let i = index_of(self.size, at).unwrap();
+        let i = self.size.index_of(at).unwrap();
         put_at(&mut self.bytes, k * i, bytes);
     }
 
@@ -150,7 +131,7 @@ impl Volume {
         ensures { result.now ≡ row_at self.now at w }
     {
         let k = self.k as usize;
-        let i = index_of(self.size, at).unwrap();
+        let i = self.size.index_of(at).unwrap();
         piece_of(&self.bytes, k * i, k * w as usize)
     }
 }

@@ -1,0 +1,105 @@
+-- What the conditions of a placement give for each cell of its box, and what a canvas is after one more cell.
+use Rattle.std.proofs.Common.{◌≡◌, ◌≢◌, ℕ, ◌<◌, ◌≤◌, List, [], length, get_or, refl, ap, sym, ◌∙◌, subst, arith, ⊎_elim}
+use Rattle.std.proofs.lemmas.Bool.{cases_eq}
+use Rattle.std.proofs.lemmas.Int.{ints}
+use Rattle.std.specs.Prelude.{ℤ, pos, ◌≤ℤ◌, Option, Some, None, IsSome, IfSome, unwrap_or, slice_set}
+use Rattle.cells.specs.declared.place.At.{At}
+use Rattle.cells.specs.declared.place.Size.{Size}
+use Rattle.cells.specs.Places.{IsInside, IsSmall, HasAxes, SumFits, cell_count, index_in, place_of, plus}
+use Rattle.cells.specs.Boxes.{HoldsBox, HasCells}
+use Rattle.cells.specs.Cells.{Cells, IsCell, IsVolume, HasCell, cell_at, put_cell, set_nth}
+use Rattle.cells.proofs.Raster.{IsAt, OnAxis, index_parts, index_below, has_index, one_place, place_at}
+use Rattle.cells.proofs.BoxLaws.{box_small, box_inside, box_sum_fits}
+use Rattle.cells.proofs.CellLaws.{IfCell, inside_has_cell, cell_is_inside, cell_is_cell, cell_at-put_same, cell_at-put_other, put_is_volume, length-set_nth, All-set_nth}
+use Rattle.source_map.specs.declared.canvas.Placement.{Placement}
+use Rattle.source_map.specs.Maps.{SourceMap, IsMap, IsSource, IsCoordinate, map_at, with_source, sample_cell}
+use Rattle.source_map.specs.Canvases.{CanvasState, IsCanvas, Stands}
+use Rattle.source_map.specs.Choices.{Fits, box_count, box_cell, box_source}
+use Rattle.source_map.proofs.ChoiceLaws.{map_at-with_same, map_at-with_other}
+
+module _ (output : Size) (sample : Cells) (placement : Placement) (fits : Fits output sample placement) where
+  pub fits_small : IsSmall output → IsSmall placement.rect.size
+  fits_small small = box_small output placement.rect.corner placement.rect.size small fits.some fits.inside
+
+  pub fits_cell : (i : ℕ) → i < box_count placement → IsInside output (box_cell placement i)
+  fits_cell i lt = box_inside output placement.rect.corner placement.rect.size i fits.inside fits.some lt
+
+  pub fits_cell_sum : HasAxes output → (i : ℕ) → i < box_count placement → SumFits placement.rect.corner (place_of placement.rect.size i)
+  fits_cell_sum axes i lt = box_sum_fits output placement.rect.corner placement.rect.size i axes fits.inside fits.some lt
+
+  pub fits_source_sum : IsVolume sample → (i : ℕ) → i < box_count placement → SumFits placement.from (place_of placement.rect.size i)
+  fits_source_sum is i lt = box_sum_fits sample.size placement.from placement.rect.size i is.small.axes fits.sources fits.some lt
+
+  pub fits_source : IsVolume sample → (i : ℕ) → i < box_count placement → HasCell sample (box_source placement i)
+  fits_source is i lt = inside_has_cell sample is (box_source placement i) (box_inside sample.size placement.from placement.rect.size i fits.sources fits.some lt)
+
+-- a place with a cell may be a source
+pub cell_is_source : (sample : Cells) → IsVolume sample → (from : At) → HasCell sample from → IsSource from
+cell_is_source sample is from has =
+    let at = index_parts sample.size from _ (has_index (index_in sample.size from) 0 (cell_is_inside sample from has)) in
+    record {
+      x = coordinate from.x at.x sample.size.w at.x_on is.small.axes.w.1;
+      y = coordinate from.y at.y sample.size.h at.y_on is.small.axes.h.1;
+      f = coordinate from.f at.f sample.size.f at.f_on is.small.axes.f.1;
+    }
+  where
+    coordinate : (z : ℤ) (c n : ℕ) → OnAxis n z c → n ≤ 4096 → IsCoordinate z
+    coordinate z c n on le = subst IsCoordinate (sym on.is) (omega (arith, ints), omega (arith, ints, on.below))
+
+-- one more cell of a canvas
+abbrev pub filled : CanvasState → Cells → At → At → CanvasState
+filled canvas sample p from = record { map = with_source canvas.map p from; picture = put_cell canvas.picture p (sample_cell sample (Some from)) }
+
+some_of : {A : Type 0} (o : Option A) (d : A) → IsSome o → o ≡ Some (unwrap_or o d)
+some_of o d some = has_index o d some
+
+sample_cell_is : (sample : Cells) (from : At) → HasCell sample from → cell_at sample from ≡ Some (sample_cell sample (Some from))
+sample_cell_is sample from has = some_of (cell_at sample from) [] has
+
+module _ (canvas : CanvasState) (sample : Cells) (p from : At) (o : ℕ) (is : IsCanvas canvas) (stands : Stands canvas sample) (volume : IsVolume sample) (at : index_in canvas.map.size p ≡ Some o) (has : HasCell sample from) where
+  cell : IsCell sample.k (sample_cell sample (Some from))
+  cell = subst (IfCell sample.k) (sample_cell_is sample from has) (cell_is_cell sample volume from)
+
+  pub filled_is : IsCanvas (filled canvas sample p from)
+  filled_is = record {
+    map = record {
+      small = is.map.small;
+      count = length-set_nth canvas.map.sources (index_in canvas.map.size p) (Some from) ∙ is.map.count;
+      sources = All-set_nth (λ source. IfSome source IsSource) canvas.map.sources (index_in canvas.map.size p) (Some from) (cell_is_source sample volume from has) is.map.sources;
+    };
+    picture = put_is_volume canvas.picture is.picture p (sample_cell sample (Some from)) (subst (λ k. IsCell k (sample_cell sample (Some from))) (sym stands.samples) cell);
+    size = is.size;
+  }
+
+  in_picture : IsInside canvas.picture.size p
+  in_picture = subst (λ s. IsInside s p) (sym is.size) (subst IsSome (sym at) refl)
+
+  in_map : o < length canvas.map.sources
+  in_map = subst (λ n. o < n) (sym is.map.count) (index_below canvas.map.size p o at)
+
+  -- what holds of the filled cell and of any other
+  split : (P : At → At → Type 0) → P p from → ((q f : At) → p ≢ q → map_at canvas.map q ≡ Some f → P q f) → (q f : At) → map_at (with_source canvas.map p from) q ≡ Some f → P q f
+  split P here other q f e = by (index_in canvas.map.size q) refl
+    where
+      apart_case : p ≢ q → P q f
+      apart_case apart = other q f apart (sym (map_at-with_other canvas.map p q from apart) ∙ e)
+
+      same_case : p ≡ q → P q f
+      same_case same =
+          let found : Some from ≡ Some f = sym (map_at-with_same canvas.map p from o at in_map) ∙ ap (map_at (with_source canvas.map p from)) same ∙ e in
+          let source : from ≡ f = cc in
+          subst (λ t. P t f) same (subst (P p) source here)
+
+      by : (j : Option ℕ) → index_in canvas.map.size q ≡ j → P q f
+      by None out = apart_case (λ same. let no : Some o ≡ None = sym at ∙ ap (index_in canvas.map.size) same ∙ out in cc)
+      by (Some j) ej = ⊎_elim (λ is_o. same_case (one_place canvas.map.size p q o at (ej ∙ ap Some is_o)))
+          (λ differ. apart_case (λ same. differ (let both : Some j ≡ Some o = sym ej ∙ ap (index_in canvas.map.size) (sym same) ∙ at in cc))) (cases_eq j o)
+
+  pub filled_stands : Stands (filled canvas sample p from) sample
+  filled_stands = record {
+    samples = stands.samples;
+    over = split (λ q f. HasCell sample f) has (λ q f apart e. stands.over q f e);
+    bytes = split (λ q f. cell_at (put_cell canvas.picture p (sample_cell sample (Some from))) q ≡ cell_at sample f)
+        (cell_at-put_same canvas.picture is.picture p (sample_cell sample (Some from)) in_picture ∙ sym (sample_cell_is sample from has))
+        (λ q f apart e. cell_at-put_other canvas.picture p q (sample_cell sample (Some from)) apart ∙ stands.bytes q f e);
+  }

@@ -1,0 +1,10 @@
+use Rattle.std.proofs.Common.{subst, sym, ◌≤◌}
+use Rattle.std.specs.Prelude.{is_none}
+use Rattle.std.specs.List.{position_or_len}
+use Rattle.source_map.proofs.AfterLaws.{front_stays}
+use Rattle.source_map.proofs.canvas.Canvas.put_choice.Goals as goal
+
+pub filled-self-inside-requires : goal.filled-self-inside-requires
+filled-self-inside-requires c =
+    subst (λ reached. reached ≤ position_or_len is_none c.fill_choice.new.map.sources) (sym c.self.invariant.1)
+    (front_stays c.self.inside.map c.args.placement.now c.args.choice.now c.fill_choice.new.map c.self.invariant.0.map c.fill_choice.ensures.canvas.map c.fill_choice.ensures.after)

@@ -1,0 +1,48 @@
+-- Placements, choices, and the map after a choice. (Kwatra et al. 2003: a patch of the sample is laid over
+-- the output, and of each cell old or new is taken.)
+use Rattle.std.specs.Prelude.{◌≡◌, ℕ, Bool, false, List, slice_index_or, Option, Some, None, option_map, unwrap_or, if◌then◌else◌}
+use Rattle.cells.specs.declared.place.At.{At}
+use Rattle.cells.specs.declared.place.Size.{Size}
+use Rattle.cells.specs.Places.{cell_count, index_in, place_of, plus, minus}
+use Rattle.cells.specs.Boxes.{HoldsBox, HasCells}
+use Rattle.cells.specs.Cells.{Cells, Holds}
+use Rattle.source_map.specs.declared.canvas.Placement.{Placement}
+use Rattle.source_map.specs.Maps.{SourceMap, map_at}
+
+-- the box has a cell and lies in the output, and the same box at `from` lies in the sample
+pub record Fits (output : Size) (sample : Cells) (placement : Placement) : Type 0 where
+  pub some : HasCells placement.rect.size
+  pub inside : HoldsBox output placement.rect.corner placement.rect.size
+  pub sources : Holds sample placement.from placement.rect.size
+
+-- the number of cells of the box
+abbrev pub box_count : Placement → ℕ
+box_count placement = cell_count placement.rect.size
+
+-- the index of a cell in the box, in raster order
+abbrev pub box_index : Placement → At → Option ℕ
+box_index placement p = index_in placement.rect.size (minus p placement.rect.corner)
+
+-- the new source of a cell: as far from `from` as the cell is from the corner
+abbrev pub new_source : Placement → At → At
+new_source placement p = plus placement.from (minus p placement.rect.corner)
+
+-- the cell of the box at an index, and its new source
+abbrev pub box_cell : Placement → ℕ → At
+box_cell placement i = plus placement.rect.corner (place_of placement.rect.size i)
+
+abbrev pub box_source : Placement → ℕ → At
+box_source placement i = plus placement.from (place_of placement.rect.size i)
+
+-- a choice says of each cell of the box, by its index, whether it is new; past its end a choice says old
+abbrev pub chosen : List Bool → Option ℕ → Bool
+chosen choice index = unwrap_or (option_map (λ i. slice_index_or choice i false) index) false
+
+-- the source of a cell after a choice: new cells have their new source, all others are as before
+abbrev pub after_at : SourceMap → Placement → List Bool → At → Option At
+after_at m placement choice p = if chosen choice (box_index placement p) then Some (new_source placement p) else map_at m p
+
+-- the map after a choice
+pub record IsAfter (m : SourceMap) (placement : Placement) (choice : List Bool) (after : SourceMap) : Type 0 where
+  pub size : after.size ≡ m.size
+  pub sources : (p : At) → map_at after p ≡ after_at m placement choice p

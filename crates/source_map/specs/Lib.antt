@@ -1,0 +1,4 @@
+pub mod Maps
+pub mod Choices
+pub mod Canvases
+pub mod MapFiles

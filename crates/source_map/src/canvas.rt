@@ -1,0 +1,175 @@
+// A map with its picture.
+ghost use Rattle.std.specs.Prelude.{◌≡◌, ◌<◌, ◌≤◌, ◌↔◌, length, IfOk, IsTrue, Some};
+ghost use Rattle.cells.specs.Places.{IsSmall, IsInside};
+ghost use Rattle.cells.specs.Cells.{Cells, HasCell, IsVolume, blank, put_cell};
+ghost use Rattle.source_map.specs.Maps.{IsFilled, IsFull, IsSource, empty_map, first_unfilled, picture_of, sample_cell, with_source};
+ghost use Rattle.source_map.specs.Canvases.{IsCanvas, Stands};
+ghost use Rattle.source_map.specs.Choices.{Fits, IsAfter, box_cell, box_count, box_source};
+
+use crate::Map;
+use cells::{At, Box3, Size, Volume};
+use std::alloc::{AllocError, Global};
+use std::marker::Model;
+
+/// A box of the output, and the sample place whose cell comes to the box's corner.
+#[derive(Clone, Copy, Debug, Drop, PartialEq, Eq)]
+pub struct Placement {
+    pub rect: Box3,
+    pub from: At,
+}
+
+/// A map and its picture, kept side by side: each filled cell of the picture has the bytes of the
+/// sample cell that the map names.
+#[derive(Drop)]
+pub struct Canvas {
+    map: Map,
+    picture: Volume,
+    // how many cells from the front, in raster order, are filled
+    reached: usize,
+}
+
+impl Model for Canvas {
+    ghost use Rattle.source_map.specs.Canvases.{CanvasState, IsCanvas, IsFront};
+
+    ghost Value = { CanvasState };
+
+    ghost view = { λ a. record { map = a.map; picture = a.picture } };
+
+    ghost invariant = { λ a. IsCanvas (record { map = a.map; picture = a.picture }) × IsFront a.map a.reached };
+}
+
+// Fills one cell from the sample.
+fn fill_cell(map: &mut Map, picture: &mut Volume, sample: &Volume, p: At, from: At)
+    requires inside { IsInside map.old.size p }
+    requires sizes { picture.old.size ≡ map.old.size }
+    requires samples { picture.old.k ≡ sample.now.k }
+    requires cell { HasCell sample.now from }
+    requires source { IsSource from }
+    ensures map { map.new ≡ with_source map.old p from }
+    ensures picture { picture.new ≡ put_cell picture.old p (sample_cell sample.now (Some from)) }
+{
+    let cell = sample.cell(from).unwrap();
+    picture.set_cell(p, cell);
+    map.set(p, from);
+}
+
+// Fills one cell of a placement's box, by its index.
+fn fill_nth(
+    map: &mut Map,
+    picture: &mut Volume,
+    sample: &Volume,
+    placement: &Placement,
+    i: usize,
+)
+    requires sizes { picture.old.size ≡ map.old.size }
+    requires samples { picture.old.k ≡ sample.now.k }
+    requires output { IsSmall map.old.size }
+    requires sample { IsVolume sample.now }
+    requires fits { Fits map.old.size sample.now placement.now }
+    requires below { i < box_count placement.now }
+    ensures map { map.new ≡ with_source map.old (box_cell placement.now i) (box_source placement.now i) }
+    ensures picture { picture.new ≡ put_cell picture.old (box_cell placement.now i) (sample_cell sample.now (Some (box_source placement.now i))) }
+{
+    let step = placement.rect.size.place_at(i);
+    let p = placement.rect.corner.plus(step);
+    let from = placement.from.plus(step);
+    fill_cell(map, picture, sample, p, from);
+}
+
+// Fills the new cells of a choice.
+fn fill_choice(
+    map: &mut Map,
+    picture: &mut Volume,
+    sample: &Volume,
+    placement: &Placement,
+    choice: &[bool],
+)
+    requires canvas { IsCanvas (record { map = map.old; picture = picture.old }) }
+    requires stands { Stands (record { map = map.old; picture = picture.old }) sample.now }
+    requires sample { IsVolume sample.now }
+    requires fits { Fits map.old.size sample.now placement.now }
+    requires choices { length choice.now ≡ box_count placement.now }
+    ensures canvas { IsCanvas (record { map = map.new; picture = picture.new }) }
+    ensures stands { Stands (record { map = map.new; picture = picture.new }) sample.now }
+    ensures after { IsAfter map.old placement.now choice.now map.new }
+{
+    for (i, new) in choice.iter().enumerate() {
+        if *new {
+            fill_nth(map, picture, sample, placement, i);
+        }
+    }
+}
+
+impl Canvas {
+    /// A canvas of that size with no cell filled, for cells of k samples.
+    pub fn empty(alloc: Global, size: Size, k: u32) -> Result<Canvas, AllocError>
+        requires small { IsSmall size }
+        requires samples { (1 ≤ k) × (k ≤ 6) }
+        ensures { IfOk result (λ c. c ≡ record { map = empty_map size; picture = blank size k }) }
+    {
+        let map = Map::empty(alloc, size)?;
+        let picture = Volume::make(alloc, size, k)?;
+        Ok(Canvas {
+            map,
+            picture,
+            reached: 0,
+        })
+    }
+
+    /// The map.
+    pub fn map(&self) -> &Map
+        ensures map { result.now ≡ self.now.map }
+        ensures canvas { IsCanvas self.now }
+    {
+        &self.map
+    }
+
+    /// The picture; cells that aren't filled are free.
+    pub fn picture(&self) -> &Volume
+        ensures picture { result.now ≡ self.now.picture }
+        ensures canvas { IsCanvas self.now }
+        ensures full { (sample : Cells) → Stands self.now sample → IsFull self.now.map → result.now ≡ picture_of self.now.map sample }
+    {
+        &self.picture
+    }
+
+    /// Whether a cell has a source.
+    pub fn is_filled(&self, p: At) -> bool
+        ensures { IsTrue result ↔ IsFilled self.now.map p }
+    {
+        self.map.at(p).is_some()
+    }
+
+    /// The first cell in raster order that isn't filled; None where all are.
+    pub fn first_unfilled(&self) -> Option<At>
+        ensures { result ≡ first_unfilled self.now.map }
+    {
+        let size = self.map.size();
+        if self.reached < size.cells() {
+            Some(size.place_at(self.reached))
+        } else {
+            None
+        }
+    }
+
+    /// Puts in a choice over a placement, one entry for each cell of its box: the map after it, and
+    /// its picture.
+    pub fn put_choice(&mut self, sample: &Volume, placement: &Placement, choice: &[bool])
+        requires stands { Stands self.old sample.now }
+        requires fits { Fits self.old.map.size sample.now placement.now }
+        requires choices { length choice.now ≡ box_count placement.now }
+        ensures after { IsAfter self.old.map placement.now choice.now self.new.map }
+        ensures stands { Stands self.new sample.now }
+        ensures canvas { IsCanvas self.new }
+    {
+        let _sample = sample.size();
+        fill_choice(
+            &mut self.map,
+            &mut self.picture,
+            sample,
+            placement,
+            choice,
+        );
+        self.reached = self.map.filled(self.reached);
+    }
+}

@@ -1,0 +1,90 @@
+// A map from output cells to sample places.
+ghost use Rattle.std.specs.Prelude.{◌≡◌, ◌≤◌, IfOk, is_none};
+ghost use Rattle.std.specs.List.{position_or_len};
+ghost use Rattle.cells.specs.Places.{IsInside, IsSmall};
+ghost use Rattle.source_map.specs.Maps.{map_at, with_source, empty_map, IsMap, IsSource};
+
+use cells::{At, Size};
+use std::alloc::{AllocError, Global};
+use std::marker::Model;
+
+/// For each cell of an output, in raster order, nothing or a place of the sample.
+#[derive(Drop)]
+pub struct Map {
+    size: Size,
+    sources: Vec<Option<At>>,
+}
+
+impl Model for Map {
+    ghost use Rattle.source_map.specs.Maps.{SourceMap, IsMap};
+
+    ghost Value = { SourceMap };
+
+    ghost view = { λ a. record { size = a.size; sources = a.sources.items } };
+
+    ghost invariant = { λ a. IsMap (record { size = a.size; sources = a.sources.items }) };
+}
+
+// How many sources from the front are there, from so many on.
+fn filled_from(sources: &[Option<At>], start: usize) -> usize
+    requires { start ≤ position_or_len is_none sources.now }
+    ensures { result ≡ position_or_len is_none sources.now }
+{
+    let mut reached = start;
+    'filled: while reached < sources.len() && sources[reached].is_some() {
+        reached += 1;
+    }
+    reached
+}
+
+impl Map {
+    // The map of a size with no source.
+    pub fn empty(alloc: Global, size: Size) -> Result<Map, AllocError>
+        requires { IsSmall size }
+        ensures { IfOk result (λ m. m ≡ empty_map size) }
+    {
+        let sources = vec![in alloc; None; size.cells()]?;
+        Ok(Map { size, sources })
+    }
+
+    /// The size of the output.
+    pub fn size(&self) -> Size
+        ensures size { result ≡ self.now.size }
+        ensures map { IsMap self.now }
+    {
+        self.size
+    }
+
+    /// The source of a cell; None where it is unfilled or outside the output.
+    pub fn at(&self, p: At) -> Option<At>
+        ensures { result ≡ map_at self.now p }
+    {
+        let i = self.size.index_of(p)?;
+        self.sources.get(i).copied().flatten()
+    }
+
+    // All sources, in raster order.
+    pub fn sources(&self) -> &[Option<At>]
+        ensures { result.now ≡ self.now.sources }
+    {
+        self.sources.as_slice()
+    }
+
+    // Names a source for a cell.
+    pub fn set(&mut self, p: At, from: At)
+        requires inside { IsInside self.old.size p }
+        requires source { IsSource from }
+        ensures { self.new ≡ with_source self.old p from }
+    {
+        let i = self.size.index_of(p).unwrap();
+        self.sources[i] = Some(from);
+    }
+
+    // How many cells from the front are filled, from so many on.
+    pub fn filled(&self, start: usize) -> usize
+        requires { start ≤ position_or_len is_none self.now.sources }
+        ensures { result ≡ position_or_len is_none self.now.sources }
+    {
+        filled_from(&self.sources, start)
+    }
+}

@@ -8,7 +8,7 @@ use Rattle.std.specs.FinMap.{get, insert, get-insert, same_map, slice_cmp-IsAnti
 use Rattle.shelf_core.specs.Files.{Files, ShelfState, OnlyReads, OnlyWrites, content_of, Told, Rose}
 
 -- a name ties with itself
-name_itself : (name : List ℕ) → eq_by_cmp (slice_cmp nat_cmp) name name ≡ true
+pub name_itself : (name : List ℕ) → eq_by_cmp (slice_cmp nat_cmp) name name ≡ true
 name_itself name = (eq_by_cmp_equiv nat_list_cmp_total).refl name
 
 -- and with no other name
@@ -45,6 +45,15 @@ insert_again files name first second = same_map nat_list_cmp_total (slice_cmp-Is
     ∙ ap (cond (eq_by_cmp (slice_cmp nat_cmp) q name) (Some second)) (get-insert nat_list_cmp_total files name first q)
     ∙ twice (eq_by_cmp (slice_cmp nat_cmp) q name) _ _ _
     ∙ sym (get-insert nat_list_cmp_total files name second q))
+
+-- a file that has the bytes already
+pub insert_same : (files : Files) (name bytes : List ℕ) → get files name ≡ Some bytes → insert files name bytes ≡ files
+insert_same files name bytes there = same_map nat_list_cmp_total (slice_cmp-IsAntisymmetric nat_cmp-IsAntisymmetric) _ _ (λ q.
+    get-insert nat_list_cmp_total files name bytes q ∙ tested q (eq_by_cmp (slice_cmp nat_cmp) q name) refl)
+  where
+    tested : (q : List ℕ) (t : Bool) → eq_by_cmp (slice_cmp nat_cmp) q name ≡ t → cond t (Some bytes) (get files q) ≡ get files q
+    tested q true e = sym there ∙ ap (get files) (sym (slice_cmp-IsAntisymmetric nat_cmp-IsAntisymmetric q name ((Equal-is (slice_cmp nat_cmp q name)).0 e)))
+    tested q false e = refl
 
 -- one step and then another
 pub told_then : {C : Type 0} (P Q R : C → C → Type 0) (a b c : Option C) → ((x y z : C) → P x y → Q y z → R x z) → Told a b P → Told b c Q → Told a c R

@@ -1,3 +1,5 @@
 pub mod FileLaws
 pub mod WrittenLaws
-pub mod EntryLaws
+mod EntryLaws
+mod TapeLaws
+mod SureLaws

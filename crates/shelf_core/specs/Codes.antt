@@ -1,11 +1,12 @@
 -- How the values of the stores in memory are stored as numbers, pairs and lists, by which two of them are told apart. (Own.)
-use Rattle.std.specs.Prelude.{◌≡◌, ℕ, zero, suc, List, refl}
-use Rattle.std.specs.Coded.{Coded, code_by, coded×, coded_ℕ, coded_list}
+use Rattle.std.specs.Prelude.{◌≡◌, ℕ, zero, suc, List, Option, refl}
+use Rattle.std.specs.Coded.{Coded, code_by, coded×, coded_ℕ, coded_list, coded_option}
 use Rattle.std.specs.Ordering.{nat_cmp}
 use Rattle.std.specs.Cmp.Lexicographic.{slice_cmp}
 use Rattle.std.specs.FinMap as fin
 use Rattle.shelf_core.specs.Files.{Files}
 use Rattle.shelf_core.specs.MemStates.{MemShelfState}
+use Rattle.shelf_core.specs.SureStates.{SureShelfState}
 use Rattle.shelf_core.specs.declared.listing.Call.{Call}
 use Rattle.shelf_core.specs.declared.listing.Call.TheVariants.{Get, Begin, Add}
 use Rattle.shelf_core.specs.declared.listing.Listing.{Listing}
@@ -38,3 +39,6 @@ files_code = fin.code {R = slice_cmp nat_cmp} (coded_list coded_ℕ) (coded_list
 abbrev pub mem_shelf_code : Coded MemShelfState
 mem_shelf_code = code_by (Files × (List Listing × (ℕ × ℕ))) (coded× files_code (coded× (coded_list listing_code) (coded× coded_ℕ coded_ℕ)))
     (λ s. (s.files, (s.listings, (s.reads, s.writes)))) (λ p. record { files = p.0; listings = p.1.0; reads = p.1.1.0; writes = p.1.1.1 }) (λ _. refl)
+
+abbrev pub sure_shelf_code : Coded SureShelfState
+sure_shelf_code = code_by (ℕ × Option Files) (coded× coded_ℕ (coded_option files_code)) (λ s. (s.room, s.files)) (λ p. record { room = p.0; files = p.1 }) (λ _. refl)

@@ -5,11 +5,15 @@ use Rattle.std.specs.FinMap.{from_entries}
 use Rattle.shelf_core.specs.Files.{Files}
 use Rattle.shelf_core.specs.declared.mem_shelf.MemFile.{MemFile}
 
+-- a list of files, each a name and its bytes, as a map; of two files of one name it has the first
+abbrev pub map_of : List (List ℕ × List ℕ) → Files
+map_of entries = from_entries entries
+
 abbrev pub entry_of : MemFile → List ℕ × List ℕ
 entry_of f = (f.name, f.bytes)
 
 abbrev pub files_of : List MemFile → Files
-files_of files = from_entries (map entry_of files)
+files_of files = map_of (map entry_of files)
 
 -- the file has this name
 abbrev pub is_named : List ℕ → MemFile → Bool

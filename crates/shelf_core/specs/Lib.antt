@@ -3,4 +3,6 @@ pub mod Written
 pub mod Listings
 pub mod MemStates
 pub mod Entries
+pub mod Tapes
+pub mod SureStates
 pub mod Codes

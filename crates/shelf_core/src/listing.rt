@@ -1,7 +1,7 @@
 // Calls that a store in memory is to fail.
-ghost use Rattle.std.specs.Prelude.{◌≡◌, ◌≤◌, ◌++◌, [], ◌∷◌, OnOk, OnErr, map};
+ghost use Rattle.std.specs.Prelude.{◌≡◌, ◌≤◌, ◌++◌, [], ◌∷◌, OnOk, OnErr};
 ghost use Rattle.shelf_core.specs.Files.{Rose};
-ghost use Rattle.shelf_core.specs.Listings.{due, counted, after_call, is_about, one_more};
+ghost use Rattle.shelf_core.specs.Listings.{due, counted, after_call, is_about, is_due, one_more};
 
 use crate::bytes::Bytes;
 use std::alloc::{AllocError, Global};
@@ -46,12 +46,20 @@ fn is_listed(listing: &Listing, call: Call, name: &[u8]) -> bool
     listing.call == call && listing.name.as_slice() == name
 }
 
+// The listing names the next call of this kind on this name.
+fn is_next(listing: &Listing, call: Call, name: &[u8]) -> bool
+    ensures { result ≡ is_due call name.now listing.now }
+{
+    is_listed(listing, call, name) && listing.nth == 1
+}
+
 // How many bytes the next call keeps, where it is listed.
 fn kept_by(listings: &[Listing], call: Call, name: &[u8]) -> Option<usize>
     ensures { result ≡ due call name.now listings.now }
 {
-    let listing = listings.iter().find(|listing| is_listed(listing, call, name)
-        && listing.nth == 1)?;
+    let listing = listings
+        .iter()
+        .find(|listing| is_next(listing, call, name))?;
     Some(listing.kept)
 }
 

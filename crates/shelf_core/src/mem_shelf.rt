@@ -1,13 +1,14 @@
 // A shelf in memory, which always tells its files.
-ghost use Rattle.std.specs.Prelude.{◌≡◌, ◌≤◌, ◌⊎◌, ◌++◌, ◌∷◌, [], ◌↔◌, IfOk, OnOk, OnErr, IfErr, IsErr, IsSome, IfSome, Some, None, take, option_copied, position, length};
+ghost use Rattle.std.specs.Prelude.{◌≡◌, ◌≤◌, ◌⊎◌, ◌++◌, ◌∷◌, [], ◌↔◌, IfOk, OnOk, OnErr, IsErr, IsSome, option_copied, position, length};
 ghost use Rattle.std.specs.FinMap as map;
-ghost use Rattle.shelf_core.specs.Files.{Reads, content_of, Told, Changes, Rose, OnlyReads, OnlyWrites, GrowsByPrefix};
+ghost use Rattle.shelf_core.specs.Files.{Reads, content_of, Changes, Rose, OnlyReads, OnlyWrites, GrowsByPrefix};
 ghost use Rattle.shelf_core.specs.Listings.{due, one_more};
 ghost use Rattle.shelf_core.specs.MemStates.{mem_shelf_state, well, unread, unwritten, FailsToGet, KeptBy};
 ghost use Rattle.shelf_core.specs.Entries.{files_of, is_named};
 
 use crate::bytes::Bytes;
 use crate::listing::{Call, Listing, Listings, raised};
+use crate::pieces::{copy_out, front_of};
 use crate::{Failed, Shelf};
 use std::alloc::{AllocError, Global};
 use std::marker::Model;
@@ -95,28 +96,6 @@ fn extend(
             Ok(())
         }
     }
-}
-
-// The bytes of a file from a place on, as far as the buffer goes.
-fn copy_out(bytes: &[u8], at: u64, into: &mut [u8]) -> usize
-    ensures within { result ≤ length into.old }
-    ensures read { Reads bytes.now at into.new result }
-{
-    let start = if at < bytes.len() as u64 {
-        at as usize
-    } else {
-        bytes.len()
-    };
-    let n = into.len().min(bytes.len() - start);
-    into[..n].copy_from_slice(&bytes[start..start + n]);
-    n
-}
-
-// The front of a piece that a listed call keeps.
-pub fn front_of(piece: &[u8], kept: usize) -> &[u8]
-    ensures { result.now ≡ take kept piece.now }
-{
-    &piece[..kept.min(piece.len())]
 }
 
 impl MemShelf {

@@ -1,0 +1,80 @@
+// Words and names.
+ghost use Rattle.std.specs.Prelude.{◌≡◌, ◌++◌, ◌∷◌, [], IfOk, OnOk, OnErr};
+
+use std::alloc::{AllocError, Global};
+use std::marker::Model;
+
+/// A name of a file, as it stood in its word.
+#[derive(Drop)]
+pub struct Name {
+    text: String,
+}
+
+impl Model for Name {
+    ghost use Rattle.std.specs.Prelude.{List, ℕ, string_bytes};
+
+    ghost Value = { List ℕ };
+
+    ghost view = { λ a. string_bytes a.text };
+}
+
+impl Name {
+    // A name with this text.
+    pub(crate) fn copy(alloc: Global, text: &str) -> Result<Name, AllocError>
+        ensures { IfOk result (λ name. name ≡ text.now) }
+    {
+        let text = String::from_str(alloc, text)?;
+        Ok(Name { text })
+    }
+
+    /// The text of the name.
+    pub fn as_text(&self) -> &str
+        ensures { result.now ≡ self.now }
+    {
+        self.text.as_str()
+    }
+}
+
+/// The words of a run, the command first.
+#[derive(Drop)]
+pub struct Words {
+    alloc: Global,
+    words: Vec<Name>,
+}
+
+impl Model for Words {
+    ghost use Rattle.std.specs.Prelude.{List, ℕ};
+
+    ghost Value = { List (List ℕ) };
+
+    ghost view = { λ a. a.words.items };
+}
+
+impl Words {
+    /// No word.
+    pub fn new(alloc: Global) -> Words
+        ensures { result ≡ [] }
+    {
+        Words {
+            alloc,
+            words: Vec::new(alloc),
+        }
+    }
+
+    /// Adds a word behind the others.
+    pub fn push(&mut self, word: &str) -> Result<(), AllocError>
+        ensures ok { OnOk result (self.new ≡ self.old ++ word.now ∷ []) }
+        ensures err { OnErr result (self.new ≡ self.old) }
+    {
+        let word = Name::copy(self.alloc, word)?;
+        self.words.push(word)?;
+        Ok(())
+    }
+
+    // The words in their order.
+    pub(crate) fn as_slice(&self) -> &[Name]
+        ensures { result.now ≡ self.now }
+    {
+        self.words.as_slice()
+    }
+}

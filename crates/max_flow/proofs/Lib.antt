@@ -1,0 +1,10 @@
+pub mod Arcs
+pub mod Chains
+pub mod Searching
+pub mod Walking
+pub mod Moving
+pub mod Limits
+pub mod Augmenting
+pub mod FlowLists
+pub mod Duality
+pub mod Solving

@@ -1,0 +1,6 @@
+use Rattle.std.proofs.Common.{arith}
+use Rattle.max_flow.proofs.Moving.{IsPushing_more}
+use Rattle.max_flow.proofs.blocking.augment.Goals as goal
+
+pub loop-arc-preserved : goal.loop-arc-preserved
+loop-arc-preserved c = IsPushing_more _ _ _ _ _ _ _ _ _ c.requires.path c.loop-arc.invariant (omega arith) c.push.ensures.residuals c.push.ensures.others c.push.ensures.moved

@@ -1,0 +1,23 @@
+use Rattle.std.proofs.Common.{arith}
+use Rattle.max_flow.proofs.Limits.{Carries_more, value_limit, total_limit}
+use Rattle.max_flow.proofs.Walking.{IsPath-take}
+use Rattle.max_flow.proofs.Augmenting.{IsBlocking_begins}
+use Rattle.max_flow.proofs.blocking.blocking_flow.Goals as goal
+
+pub paths-init : goal.paths-init
+paths-init c =
+    (IsBlocking_begins _ _ _ _ _ _ _ _ _ _ c.args.graph.now.pipes_sound c.args.graph.now.chained c.copy_from_slice.ensures.after c.requires.carries c.requires.levels, c.requires.path)
+
+pub augment-requires-clause-path : goal.augment-requires-clause-path
+augment-requires-clause-path c = IsPath-take _ _ _ _ c.find_path.new.path c.in-Some.depth (omega (arith, c.in-Some.ensures.within, c.paths.invariant.1)) c.in-Some.ensures.path
+
+pub overflow_add-value : goal.overflow_add-value
+overflow_add-value c =
+    let carries = Carries_more _ _ _ _ _ _ _ c.args.graph.now.ends_differ c.paths.invariant.0.carries c.augment.ensures.residuals c.augment.ensures.moved in
+    omega (arith, value_limit _ _ _ _ _ carries, total_limit _ _ c.args.graph.now.pipes_sound, c.args.graph.now.pipes_limit, c.from-value.ensures)
+
+pub paths-smaller : goal.paths-smaller
+paths-smaller c =
+    let carries = Carries_more _ _ _ _ _ _ _ c.args.graph.now.ends_differ c.paths.invariant.0.carries c.augment.ensures.residuals c.augment.ensures.moved in
+    let limit = value_limit _ _ _ _ _ carries in
+    omega (arith, limit, c.augment.ensures.some, c.from-value.ensures)

@@ -1,0 +1,32 @@
+use Rattle.std.proofs.Common.{◌≡◌, ◌-◌, slice_index, set, arith, sym, ap, ◌∙◌}
+use Rattle.max_flow.proofs.Walking.{lowered, lower_at, forward, backwards, backwards_smaller, no_way}
+use Rattle.max_flow.proofs.paths.find_path.Goals as goal
+
+pub steps-preserved-then-cursor-gt0 : goal.steps-preserved-then-cursor-gt0
+steps-preserved-then-cursor-gt0 c =
+    let e = c.next_admissible-cursor.ensures in
+    forward _ _ _ _ _ _ _ _ _ _ _ c.steps.invariant (c.requires.levels.limit c.steps.node) c.next_admissible-cursor.result
+    (record { low = e.low; here = e.here; passed = e.passed }) c.head-node.result c.head-node.ensures.within c.head-node.ensures.value (omega arith) (e.admissible (omega arith))
+
+pub steps-smaller : goal.steps-smaller
+steps-smaller c =
+    let e = c.next_admissible-cursor.ensures in
+    backwards_smaller _ _ _ _ _ _ _ _ _ _ _ c.steps.invariant (c.requires.levels.limit c.steps.node) c.next_admissible-cursor.result
+    (record { low = e.low; here = e.here; passed = e.passed }) c.tail-node.result c.tail-node.ensures.within _ c.tail-node.ensures.value (omega arith) (omega arith)
+    (c.args.graph.now.chained.goes_on _ (c.steps.invariant.steps (c.steps.depth - 1) (omega arith)).arc_in)
+
+pub steps-preserved : goal.steps-preserved
+steps-preserved c =
+    let e = c.next_admissible-cursor.ensures in
+    backwards _ _ _ _ _ _ _ _ _ _ _ c.steps.invariant (c.requires.levels.limit c.steps.node) c.next_admissible-cursor.result
+    (record { low = e.low; here = e.here; passed = e.passed }) c.tail-node.result c.tail-node.ensures.within _ c.tail-node.ensures.value (omega arith) (omega arith)
+    (c.args.graph.now.chained.goes_on _ (c.steps.invariant.steps (c.steps.depth - 1) (omega arith)).arc_in) c.steps-test.true
+
+pub returns-else-depth-gt0-clause-found : goal.returns-else-depth-gt0-clause-found
+returns-else-depth-gt0-clause-found c = λ are reached dead.
+    let e = c.next_admissible-cursor.ensures in
+    let w = lowered _ _ _ _ _ _ _ _ _ _ _ c.steps.invariant c.next_admissible-cursor.result (record { low = e.low; here = e.here; passed = e.passed }) in
+    let here : c.steps.node ≡ c.args.graph.now.source = c.steps.invariant.ends.begins (omega arith) in
+    absurd (no_way _ _ _ _ _ _ _ are (w.dead dead) reached c.args.graph.now.ends_differ
+    (ap (slice_index (set c.steps.current c.steps.node c.next_admissible-cursor.result)) (sym here)
+    ∙ lower_at _ _ c.steps.current c.steps.node c.next_admissible-cursor.result c.steps.invariant.sound c.steps.invariant.node_in e.low ∙ omega arith))

@@ -1,0 +1,28 @@
+//! Maximum flow: for a network of pipes between a source and a sink, a flow of greatest value, and of
+//! all least cuts the one with the smallest source side.
+//!
+//! Make a [`Network`] with room for its pipes, add them one by one, and [`solve`] it. The contract of
+//! `solve` promises the theorem of Ford and Fulkerson in whole: a flow and a cut of equal size, so that no
+//! flow has a greater value and no cut a smaller capacity. It also promises that the source side is
+//! contained in that of every least cut, so that there is one answer. Which of the greatest flows is found
+//! is left open.
+//!
+//! Read on in `specs/Flows.antt`, which says what a flow and a cut are, and in `solver.rt`. The method is
+//! Dinic's: a level graph (`levels.rt`) and a blocking flow in it (`paths.rt`, `blocking.rt`), over the
+//! residual network (`graph.rt`), until the sink has no level.
+#![tactic(auto)]
+
+mod blocking;
+mod graph;
+mod items;
+mod levels;
+mod network;
+mod paths;
+mod solver;
+
+pub use items::Items;
+pub use network::{Network, Pipe};
+pub use solver::{Solved, solve};
+
+#[cfg(test)]
+mod tests;

@@ -1,0 +1,196 @@
+//! The solver: level graphs and blocking flows, until the sink has no level.
+
+ghost use Rattle.std.specs.Prelude.{◌≡◌, ◌≤◌, ◌^◌, ℕ, ℤ, pos, ◌≤ℤ◌, nat_lt, Bool, List};
+ghost use Rattle.std.specs.Prelude.{IfOk, length, vec_len};
+ghost use Rattle.max_flow.specs.Flows.{IsFlow, flow_value, is_in, IsCut, cut_capacity};
+ghost use Rattle.max_flow.specs.Flows.{IsLeastCut, IsContained};
+ghost use Rattle.max_flow.specs.Residual.{AreResiduals, Carries, flows_of};
+ghost use Rattle.max_flow.specs.Levels.{AreLevels, IsClosed, level_of};
+ghost use Rattle.max_flow.specs.Solutions.{IsSolution};
+ghost use Rattle.max_flow.specs.Workspaces.{IsReady};
+
+use crate::blocking::blocking_flow;
+use crate::graph::{Graph, link};
+use crate::items::Items;
+use crate::levels::find_levels;
+use crate::network::{Network, Pipe};
+use std::alloc::{AllocError, Global};
+
+/// A flow of greatest value, and the least cut with the fewest nodes on the source's side.
+#[derive(Debug, Drop)]
+pub struct Solved {
+    /// The flow of each pipe, from its `from` to its `to`.
+    pub flow: Items<i32>,
+    /// For each node whether it's on the source's side of the cut.
+    pub source_side: Items<bool>,
+    /// What leaves the source, and the capacity of the cut.
+    pub value: u64,
+}
+
+/// The tables of the searches: one entry for each node in each of them.
+#[derive(Drop)]
+struct NodeTables {
+    levels: Vec<usize>,
+    queue: Vec<usize>,
+    current: Vec<usize>,
+    path: Vec<usize>,
+}
+
+/// All that a solver works on and hands out, so that it takes its memory before it begins.
+#[derive(Drop)]
+struct Workspace {
+    flow: Vec<i32>,
+    source_side: Vec<bool>,
+    last: Vec<usize>,
+    previous: Vec<usize>,
+    backward: Vec<u32>,
+    tables: NodeTables,
+}
+
+impl NodeTables {
+    ghost use Rattle.max_flow.specs.Workspaces.{HaveNodes};
+
+    fn make(alloc: Global, nodes: usize) -> Result<NodeTables, AllocError>
+        ensures { IfOk result (HaveNodes nodes) }
+    {
+        let levels = vec![in alloc; 0usize; nodes]?;
+        let queue = vec![in alloc; 0usize; nodes]?;
+        let current = vec![in alloc; 0usize; nodes]?;
+        let path = vec![in alloc; 0usize; nodes]?;
+        Ok(NodeTables {
+            levels,
+            queue,
+            current,
+            path,
+        })
+    }
+}
+
+impl Workspace {
+    ghost use Rattle.max_flow.specs.Workspaces.{IsReady};
+
+    /// Makes the tables for a network with these pipes, over which nothing flows.
+    fn make(alloc: Global, nodes: usize, pipes: &[Pipe]) -> Result<Workspace, AllocError>
+        requires { length pipes.now ≤ 2 ^ 32 }
+        ensures { IfOk result (IsReady nodes pipes.now) }
+    {
+        let flow = vec![in alloc; 0i32; pipes.len()]?;
+        let source_side = vec![in alloc; false; nodes]?;
+        let last = vec![in alloc; 0usize; nodes]?;
+        let previous = vec![in alloc; 0usize; 2 * pipes.len()]?;
+        let backward = pipes.iter().map(|pipe| pipe.back).collect(alloc)?;
+        let tables = NodeTables::make(alloc, nodes)?;
+        Ok(Workspace {
+            flow,
+            source_side,
+            last,
+            previous,
+            backward,
+            tables,
+        })
+    }
+}
+
+/// Writes the flows of the pipes.
+fn write_flows(graph: &Graph, backward: &[u32], flow: &mut [i32])
+    requires residuals { AreResiduals graph.now.pipes.now backward.now }
+    requires sized { length flow.old ≡ length graph.now.pipes.now }
+    ensures { flow.new ≡ flows_of graph.now.pipes.now backward.now }
+{
+    for j in 0..flow.len() {
+        flow[j] = backward[j] as i32 - graph.pipes[j].back as i32;
+    }
+}
+
+/// Puts the nodes with a level on the source's side.
+fn write_sides(levels: &[usize], sides: &mut [bool])
+    requires { length sides.old ≡ length levels.now }
+    ensures { (n : ℕ) → is_in sides.new n ≡ nat_lt 0 (level_of levels.now n) }
+{
+    for n in 0..sides.len() {
+        sides[n] = levels[n] > 0;
+    }
+}
+
+/// Adds blocking flows until the sink has no level. Returns the value of the flow, and leaves the last
+/// levels in the tables.
+fn run(graph: &Graph, backward: &mut [u32], tables: &mut NodeTables) -> u64
+    requires carries { Carries graph.now.pipes.now graph.now.source graph.now.sink backward.old 0 }
+    requires levels { vec_len tables.old.levels ≡ graph.now.nodes }
+    requires queue { vec_len tables.old.queue ≡ graph.now.nodes }
+    requires current { vec_len tables.old.current ≡ graph.now.nodes }
+    requires path { vec_len tables.old.path ≡ graph.now.nodes }
+    ensures carries { Carries graph.now.pipes.now graph.now.source graph.now.sink backward.new
+        result }
+    ensures levels { AreLevels graph.now.pipes.now graph.now.nodes graph.now.source backward.new
+        tables.new.levels.items }
+    ensures closed { IsClosed graph.now.pipes.now backward.new tables.new.levels.items }
+    ensures sink { level_of tables.new.levels.items graph.now.sink ≡ 0 }
+{
+    let mut value = 0;
+    'phases: while find_levels(graph, backward, &mut tables.levels, &mut tables.queue) {
+        value = blocking_flow(
+            graph,
+            backward,
+            &tables.levels,
+            &mut tables.current,
+            &mut tables.path,
+            value,
+        );
+    }
+    value
+}
+
+/// Solves the network in the tables.
+fn solve_in(network: &Network, space: Workspace) -> Solved
+    requires { IsReady network.now.nodes network.now.pipes space }
+    ensures { IsSolution network.now result.flow result.source_side result.value }
+{
+    let Workspace {
+        mut flow,
+        mut source_side,
+        mut last,
+        mut previous,
+        mut backward,
+        mut tables,
+    } = space;
+    let pipes = network.pipes();
+    link(pipes, &mut last, &mut previous);
+    let graph = Graph {
+        pipes,
+        nodes: network.nodes(),
+        source: network.source() as usize,
+        sink: network.sink() as usize,
+        last: &last,
+        previous: &previous,
+    };
+    let value = run(&graph, &mut backward, &mut tables);
+    write_flows(&graph, &backward, &mut flow);
+    write_sides(&tables.levels, &mut source_side);
+    Solved {
+        flow: Items::from_vec(flow),
+        source_side: Items::from_vec(source_side),
+        value,
+    }
+}
+
+/// Finds a flow of greatest value, and of all least cuts the one whose source side is contained in that of
+/// every other, by Dinic's method (1970). It takes all its memory before it begins, and answers want of
+/// memory alone.
+pub fn solve(alloc: Global, network: &Network) -> Result<Solved, AllocError>
+    ensures flow { IfOk result (λ solved. IsFlow network.now solved.flow) }
+    ensures value { IfOk result (λ solved. flow_value network.now solved.flow ≡ pos solved.value) }
+    ensures cut { IfOk result (λ solved. IsCut network.now solved.source_side) }
+    ensures capacity { IfOk result (λ solved.
+        cut_capacity network.now solved.source_side ≡ solved.value) }
+    // No flow has a greater value, and no cut a smaller capacity.
+    ensures greatest { IfOk result (λ solved. (other : List ℤ) → IsFlow network.now other
+        → flow_value network.now other ≤ℤ pos solved.value) }
+    ensures least { IfOk result (λ solved. IsLeastCut network.now solved.source_side) }
+    // The source side is contained in that of every least cut.
+    ensures smallest { IfOk result (λ solved. (other : List Bool) → IsLeastCut network.now other
+        → IsContained solved.source_side other) }
+{
+    let space = Workspace::make(alloc, network.nodes() as usize, network.pipes())?;
+    Ok(solve_in(network, space))
+}

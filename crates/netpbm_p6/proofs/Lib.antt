@@ -1,0 +1,11 @@
+pub mod Writing
+pub mod Runs
+pub mod Accepts
+pub mod Shapes
+pub mod Headers
+pub mod Sees
+pub mod RasterLaws
+pub mod HeaderLaws
+pub mod PictureLaws
+pub mod OneReading
+pub mod ReadAgain

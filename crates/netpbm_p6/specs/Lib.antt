@@ -1,0 +1,4 @@
+pub mod Header
+pub mod Pictures
+pub mod Scanning
+pub mod Reading

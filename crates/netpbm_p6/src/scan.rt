@@ -1,0 +1,198 @@
+// The scanner of a header: a machine of small steps, one for each byte.
+ghost use Rattle.std.specs.Prelude.{◌≡◌, length, IfSome};
+ghost use Rattle.netpbm_p6.specs.Pictures.{capped};
+ghost use Rattle.netpbm_p6.specs.Scanning.{kind_of, opened, separated, commented, completed, ended, counted, step_of, IsOpen, IsSound, IsScanned, IsSoundScanned};
+
+/// What a byte is in a header.
+#[derive(Clone, Copy)]
+pub enum Kind {
+    /// A blank or a TAB.
+    Blank,
+    /// CR or LF.
+    LineEnd,
+    /// `#`.
+    Hash,
+    /// A decimal digit.
+    Digit,
+    /// Any other byte.
+    Other,
+}
+
+/// The numbers that were read: none, the width, or width and height.
+#[derive(Clone, Copy)]
+pub enum Numbers {
+    Nothing,
+    Width(u64),
+    Both(u64, u64),
+}
+
+/// A place in a header. Numbers stand as far as a u64 goes.
+#[derive(Clone, Copy)]
+pub enum Scan {
+    /// Before everything.
+    Start,
+    /// Behind the `P`.
+    Letter,
+    /// Behind the magic.
+    Magic,
+    /// In a separator, behind a whole item.
+    Between(Numbers),
+    /// In a comment.
+    Comment(Numbers),
+    /// In a number, with its value so far.
+    Digits(Numbers, u64),
+    /// Behind the header: width, height and maxval.
+    Whole(u64, u64, u64),
+}
+
+/// The numbers of a header, as far as a u64 goes, and its length in bytes.
+#[derive(Clone, Copy)]
+pub struct Header {
+    pub width: u64,
+    pub height: u64,
+    pub maxval: u64,
+    pub length: u64,
+}
+
+/// What the scanner made of a piece.
+#[derive(Clone, Copy)]
+pub enum Scanned {
+    /// More is to come.
+    Open(Scan),
+    /// The byte at this index of the piece, or the end of the file there, has no place in a header.
+    Broken(usize),
+    /// The header ends in the piece, after `length` of its bytes.
+    Ended(Header),
+}
+
+fn classify(byte: u8) -> Kind
+    ensures { result ≡ kind_of byte }
+{
+    match byte {
+        b' ' | b'\t' => Kind::Blank,
+        b'\r' | b'\n' => Kind::LineEnd,
+        b'#' => Kind::Hash,
+        b'0'..=b'9' => Kind::Digit,
+        _ => Kind::Other,
+    }
+}
+
+// A byte that may begin a separator.
+fn open(numbers: Numbers, kind: Kind) -> Option<Scan>
+    ensures { result ≡ opened numbers kind }
+{
+    match kind {
+        Kind::Blank | Kind::LineEnd => Some(Scan::Between(numbers)),
+        Kind::Hash => Some(Scan::Comment(numbers)),
+        Kind::Digit | Kind::Other => None,
+    }
+}
+
+// A byte behind an item of a separator.
+fn separate(numbers: Numbers, byte: u8, kind: Kind) -> Option<Scan>
+    ensures { result ≡ separated numbers byte kind }
+{
+    match kind {
+        Kind::Digit => Some(Scan::Digits(numbers, u64::from(byte.saturating_sub(b'0')))),
+        _ => open(numbers, kind),
+    }
+}
+
+// A byte in a comment.
+fn comment(numbers: Numbers, kind: Kind) -> Scan
+    ensures { Some result ≡ commented numbers kind }
+{
+    match kind {
+        Kind::LineEnd => Scan::Between(numbers),
+        _ => Scan::Comment(numbers),
+    }
+}
+
+// A byte that is to end the header.
+fn complete(width: u64, height: u64, maxval: u64, kind: Kind) -> Option<Scan>
+    ensures { result ≡ completed width height maxval kind }
+{
+    match kind {
+        Kind::Blank | Kind::LineEnd => Some(Scan::Whole(width, height, maxval)),
+        _ => None,
+    }
+}
+
+// A byte behind a number of at least 1.
+fn end(numbers: Numbers, number: u64, kind: Kind) -> Option<Scan>
+    ensures { result ≡ ended numbers number kind }
+{
+    match numbers {
+        Numbers::Nothing => open(Numbers::Width(number), kind),
+        Numbers::Width(width) => open(Numbers::Both(width, number), kind),
+        Numbers::Both(width, height) => complete(width, height, number, kind),
+    }
+}
+
+// A byte behind a digit.
+fn count(numbers: Numbers, number: u64, byte: u8, kind: Kind) -> Option<Scan>
+    ensures { result ≡ counted capped numbers number byte kind }
+{
+    match kind {
+        Kind::Digit => {
+            let digit = u64::from(byte.saturating_sub(b'0'));
+            Some(Scan::Digits(numbers, number.saturating_mul(10).saturating_add(digit)))
+        }
+        _ => if number == 0 {
+            None
+        } else {
+            end(numbers, number, kind)
+        },
+    }
+}
+
+// One byte; None where it has no place there.
+fn step(scan: Scan, byte: u8) -> Option<Scan>
+    requires { IsOpen scan }
+    ensures step { result ≡ step_of capped scan byte }
+    ensures sound { IfSome result IsSound }
+{
+    match scan {
+        Scan::Start => if byte == b'P' {
+            Some(Scan::Letter)
+        } else {
+            None
+        },
+        Scan::Letter => if byte == b'6' {
+            Some(Scan::Magic)
+        } else {
+            None
+        },
+        Scan::Magic => open(Numbers::Nothing, classify(byte)),
+        Scan::Between(numbers) => separate(numbers, byte, classify(byte)),
+        Scan::Comment(numbers) => Some(comment(numbers, classify(byte))),
+        Scan::Digits(numbers, number) => count(numbers, number, byte, classify(byte)),
+        Scan::Whole(..) => None,
+    }
+}
+
+/// Scans a piece of a header, from an open place on.
+pub fn scan_piece(start: Scan, piece: &[u8]) -> Scanned
+    requires { IsOpen start }
+    ensures scanned { IsScanned start piece.now result }
+    ensures sound { IsSoundScanned (length piece.now) result }
+{
+    let mut scan = start;
+    for (i, byte) in piece.iter().enumerate() {
+        match step(scan, *byte) {
+            None => return Scanned::Broken(i),
+            Some(next) => match next {
+                Scan::Whole(width, height, maxval) => {
+                    return Scanned::Ended(Header {
+                        width,
+                        height,
+                        maxval,
+                        length: i as u64 + 1,
+                    });
+                }
+                _ => scan = next,
+            },
+        }
+    }
+    Scanned::Open(scan)
+}

@@ -1,0 +1,4 @@
+pub mod Strips
+pub mod Boundaries
+pub mod Records
+pub mod Tables

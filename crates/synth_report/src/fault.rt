@@ -1,0 +1,85 @@
+// Why a run ends without its result.
+ghost use Rattle.std.specs.Prelude.{◌≡◌};
+ghost use Rattle.synth_report.specs.declared.fault.Fault.TheVariants as of;
+ghost use Rattle.synth_report.specs.Texts.{file_text, status_of};
+
+use job_words::WordFault;
+use shelf_core::{FormFault, What};
+use std::alloc::AllocError;
+
+/// A file of a run, by its part in it. `Report` is the sink that the report is written to.
+#[derive(Clone, Copy, Debug, Drop, PartialEq, Eq)]
+pub enum FileOf {
+    Sample,
+    Out,
+    Map,
+    /// The record.
+    Cert,
+    Report,
+}
+
+impl FileOf {
+    // The file as it stands in a line.
+    pub(crate) fn text(self) -> &'static str
+        ensures { result.now ≡ file_text self }
+    {
+        match self {
+            FileOf::Sample => "sample",
+            FileOf::Out => "out",
+            FileOf::Map => "map",
+            FileOf::Cert => "record",
+            FileOf::Report => "report",
+        }
+    }
+}
+
+/// Why a run ends without its result.
+#[derive(Clone, Copy, Debug, Drop, PartialEq, Eq)]
+pub enum Fault {
+    /// The words ask for no job.
+    Words(WordFault),
+    /// A file's bytes break its form.
+    Form { file: FileOf, why: FormFault },
+    /// A number passes its bound.
+    Limit { what: What, number: u64, bound: u64 },
+    /// A file can't be read.
+    Read(FileOf),
+    /// A file can't be written whole.
+    Write(FileOf),
+    /// Want of memory.
+    NoMemory,
+    /// The sample has no loop of this length.
+    NoLoop(u32),
+}
+
+impl From<WordFault> for Fault {
+    ghost from_gives = { λ fault e. e ≡ of.Words fault };
+
+    fn from(fault: WordFault) -> Self {
+        Fault::Words(fault)
+    }
+}
+
+impl From<AllocError> for Fault {
+    ghost from_gives = { λ _ e. e ≡ of.NoMemory };
+
+    fn from(_: AllocError) -> Self {
+        Fault::NoMemory
+    }
+}
+
+/// The status that a run with this fault ends with: 2 for words, 3 for a form, 4 for a limit, 5 for a
+/// read and 6 for a write that failed, 7 for want of memory, 8 where there is no loop.
+pub fn status(fault: &Fault) -> u8
+    ensures { result ≡ status_of fault.now }
+{
+    match fault {
+        Fault::Words(WordFault::NoMemory) | Fault::NoMemory => 7,
+        Fault::Words(_) => 2,
+        Fault::Form { .. } => 3,
+        Fault::Limit { .. } => 4,
+        Fault::Read(_) => 5,
+        Fault::Write(_) => 6,
+        Fault::NoLoop(_) => 8,
+    }
+}

@@ -1,0 +1,43 @@
+// The program: its words are those of the command line, its files those of the system.
+//
+// All that it does is `run` of weave_engine. `real` has the shelf and the sinks that stand for the
+// system; they tell no content, and are the trusted edge.
+#![tactic(auto)]
+
+mod real;
+
+use job_words::Words;
+use real::{ErrorOutput, Output, RealShelf};
+use std::alloc::{AllocError, Global};
+use std::process::ExitCode;
+use std::{env, io};
+use synth_report::{Fault, say_fault};
+use weave_engine::run;
+
+// The status of want of memory.
+const NO_MEMORY: u8 = 7;
+
+// The words behind the program's name.
+fn words_of(rt: &HostRuntime, alloc: Global) -> Result<Words, AllocError> {
+    let mut words = Words::new(alloc);
+    let Ok(given) = env::args(rt) else {
+        return Err(AllocError);
+    };
+    for word in given.skip(1) {
+        words.push(word.as_str())?;
+    }
+    Ok(words)
+}
+
+fn main(rt: HostRuntime) -> io::Result<ExitCode> {
+    let alloc = rt.alloc();
+    let mut out = Output::new(rt.clone()?);
+    let mut err = ErrorOutput::new(rt.clone()?);
+    let Ok(words) = words_of(&rt, alloc) else {
+        let _ = say_fault(&Fault::NoMemory, &mut err);
+        return Ok(ExitCode::from(NO_MEMORY));
+    };
+    let mut shelf = RealShelf::new(rt);
+    let status = run(alloc, &words, &mut shelf, &mut out, &mut err);
+    Ok(ExitCode::from(status))
+}

@@ -1,0 +1,4 @@
+pub mod TileLaws
+pub mod TileSteps
+pub mod Growing
+pub mod Samples

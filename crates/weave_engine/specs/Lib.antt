@@ -1,0 +1,3 @@
+pub mod Tiles
+pub mod Growths
+pub mod Outcomes

@@ -1,14 +1,14 @@
 -- Boxes inside a size: they are small, their places are inside, and sums of their coordinates fit.
-use Rattle.std.proofs.Common.{◌≡◌, ℕ, ◌+◌, ◌*◌, ◌/◌, ◌%◌, ◌<◌, ◌≤◌, refl, ap, sym, ◌∙◌, subst, arith, rules}
-use Rattle.std.proofs.Math.Nat.{mul-le-mul_left, mul-le-mul}
+use Rattle.std.proofs.Common.{◌≡◌, ℕ, ◌+◌, ◌/◌, ◌%◌, ◌<◌, ◌≤◌, refl, sym, subst, arith, rules}
+use Rattle.std.proofs.Math.Nat.{mul-le-mul}
 use Rattle.std.proofs.lemmas.Int.{ints}
-use Rattle.std.specs.Prelude.{ℤ, pos, negsuc, ◌+ℤ◌, ◌-ℤ◌, ◌≤ℤ◌, IsSome, FitsSigned}
+use Rattle.std.specs.Prelude.{ℤ, pos, negsuc, ◌+ℤ◌, ◌-ℤ◌, IsSome, FitsSigned}
 use Rattle.std.specs.Int.{w32}
 use Rattle.cells.specs.declared.place.At.{At}
 use Rattle.cells.specs.declared.place.Size.{Size}
-use Rattle.cells.specs.Places.{HasAxes, IsSmall, IsInside, SumFits, cell_count, index_in, place_of, plus, minus, spot}
+use Rattle.cells.specs.Places.{HasAxes, IsSmall, IsInside, SumFits, cell_count, place_of, plus, minus, spot}
 use Rattle.cells.specs.Boxes.{AxisHolds, HoldsBox, HasCells}
-use Rattle.cells.proofs.Raster.{IsAt, OnAxis, index_parts, index_of_spot, place_at}
+use Rattle.cells.proofs.Raster.{index_parts, index_of_spot, place_at}
 
 -- a box of some cells inside a small size is small
 pub box_small : (size : Size) (corner : At) (inner : Size) → IsSmall size → HasCells inner → HoldsBox size corner inner → IsSmall inner

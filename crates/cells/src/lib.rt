@@ -7,6 +7,8 @@
 #![tactic(auto)]
 
 mod place;
+#[cfg(test)]
+mod tests;
 mod volume;
 
 pub use place::{At, Axis, Box3, Size, Taps};

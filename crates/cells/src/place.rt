@@ -6,12 +6,15 @@ ghost use Rattle.cells.specs.Places.{IsSmall, SumFits, cell_count, index_in, pla
 /// A place in a volume: column, row and frame, each counted from 0. Places outside are allowed.
 #[derive(Clone, Copy, Debug, Drop, PartialEq, Eq)]
 pub struct At {
+    /// The column, from the left.
     pub x: i32,
+    /// The row, from the top.
     pub y: i32,
+    /// The frame, from the first.
     pub f: i32,
 }
 
-// A sum of two coordinates.
+// A sum of two coordinates, apart so that the check adds two numbers and not three pairs of them.
 fn sum_of(a: i32, b: i32) -> i32
     requires { FitsSigned w32 (a +ℤ b) }
     ensures { result ≡ a +ℤ b }
@@ -33,11 +36,14 @@ impl At {
     }
 }
 
-/// Columns, rows and frames. A picture has one frame.
+/// The size of a volume or a box, in cells on each axis. A picture has one frame.
 #[derive(Clone, Copy, Debug, Drop, PartialEq, Eq)]
 pub struct Size {
+    /// The width: how many columns.
     pub w: u32,
+    /// The height: how many rows.
     pub h: u32,
+    /// How many frames.
     pub f: u32,
 }
 
@@ -50,7 +56,7 @@ impl Size {
         self.w as usize * (self.h as usize * self.f as usize)
     }
 
-    /// The index of a place in raster order; None outside.
+    /// The index of a place in raster order, from 0: x runs fastest, then y, then f. None outside.
     pub fn index_of(self, at: At) -> Option<usize>
         requires { IsSmall self }
         ensures index { result ≡ index_in self at }
@@ -86,23 +92,31 @@ impl Size {
 /// The axes of a volume: columns, rows, frames.
 #[derive(Clone, Copy, Debug, Drop, PartialEq, Eq)]
 pub enum Axis {
+    /// From column to column.
     X,
+    /// From row to row.
     Y,
+    /// From frame to frame.
     F,
 }
 
 /// The cells from a corner on, as far as a size goes.
 #[derive(Clone, Copy, Debug, Drop, PartialEq, Eq)]
 pub struct Box3 {
+    /// The first cell in raster order: the least column, row and frame.
     pub corner: At,
+    /// How many cells from there on, on each axis.
     pub size: Size,
 }
 
-/// The filter of frame distances: no filter, two frames of weights 1 and 1, or four frames of
-/// weights 1, 3, 3 and 1 (the binomial filters of Schödl et al. 2000).
+/// The filter of frame distances, which compares the frames around two frames too (the binomial
+/// filters of Schödl et al. 2000).
 #[derive(Clone, Copy, Debug, Drop, PartialEq, Eq)]
 pub enum Taps {
+    /// No filter.
     None0,
+    /// Two frames, of weights 1 and 1.
     Two,
+    /// Four frames, of weights 1, 3, 3 and 1.
     Four,
 }

@@ -7,8 +7,9 @@ use crate::{At, Size};
 use std::alloc::{AllocError, Global};
 use std::marker::Model;
 
-/// A picture or a clip: w x h x f cells of k bytes each, in one buffer of w*h*f*k bytes, in raster
-/// order.
+/// A picture or a clip: w x h x f cells of k samples each, one byte a sample, in one buffer of
+/// w*h*f*k bytes, in raster order. An axis has 1 to 4,096 cells, a volume at most 2^25, and a cell 1
+/// to 6 samples.
 #[derive(Drop)]
 pub struct Volume {
     size: Size,
@@ -52,7 +53,7 @@ fn zeros(alloc: Global, n: usize) -> Result<Vec<u8>, AllocError>
 }
 
 impl Volume {
-    /// A volume of that size with k bytes of 0 in each cell.
+    /// A volume of that size with k bytes of 0 in each cell. The one error is want of memory.
     pub fn make(alloc: Global, size: Size, k: u32) -> Result<Volume, AllocError>
         requires small { IsSmall size }
         requires samples { (1 ≤ k) × (k ≤ 6) }
@@ -62,8 +63,8 @@ impl Volume {
         Ok(Volume { size, k, bytes })
     }
 
-    /// The volume whose cells have these bytes, one cell after another. It keeps the buffer and
-    /// takes no memory.
+    /// The volume whose cells have these w*h*f*k bytes, k bytes a cell, one cell after another in
+    /// raster order. It keeps the buffer and takes no memory.
     pub fn from_bytes(size: Size, k: u32, bytes: Vec<u8>) -> Volume
         requires small { IsSmall size }
         requires samples { (1 ≤ k) × (k ≤ 6) }
@@ -79,6 +80,7 @@ impl Volume {
         ensures size { result ≡ self.now.size }
         ensures volume { IsVolume self.now }
     {
+        // The slice is taken only to show the check that its items are bytes, as `volume` says.
         let bytes = self.bytes.as_slice();
         let size = self.size;
         let _bytes = bytes;
@@ -90,20 +92,21 @@ impl Volume {
         ensures samples { result ≡ self.now.k }
         ensures volume { IsVolume self.now }
     {
+        // The slice is taken only to show the check that its items are bytes, as `volume` says.
         let bytes = self.bytes.as_slice();
         let k = self.k;
         let _bytes = bytes;
         k
     }
 
-    /// All bytes, one cell after another.
+    /// All w*h*f*k bytes, one cell after another in raster order.
     pub fn bytes(&self) -> &[u8]
         ensures { result.now ≡ bytes_of self.now }
     {
         self.bytes.as_slice()
     }
 
-    /// The bytes of a cell; None outside the volume.
+    /// The k bytes of a cell; None exactly outside the volume.
     pub fn cell(&self, at: At) -> Option<&[u8]>
         ensures bytes { option_copied result ≡ cell_at self.now at }
         ensures samples { IfSome result (λ cell. length cell.now ≡ self.now.k) }
@@ -113,7 +116,7 @@ impl Volume {
         Some(piece_of(&self.bytes, k * i, k))
     }
 
-    /// Puts other bytes into a cell.
+    /// Puts k other bytes into a cell. All other cells stay.
     pub fn set_cell(&mut self, at: At, bytes: &[u8])
         requires inside { IsInside self.old.size at }
         requires samples { length bytes.now ≡ self.old.k }
@@ -124,7 +127,7 @@ impl Volume {
         put_at(&mut self.bytes, k * i, bytes);
     }
 
-    /// The k*w bytes of w cells along X.
+    /// The k*w bytes of a run of w cells along X, from a place on; the whole run lies inside.
     pub fn row(&self, at: At, w: u32) -> &[u8]
         requires inside { IsInside self.now.size at }
         requires room { (at.x +ℤ pos w) ≤ℤ pos self.now.size.w }

@@ -1,9 +1,9 @@
 -- What a choice leaves: filled cells stay filled.
 use Rattle.std.proofs.Common.{◌≡◌, ℕ, ◌<◌, ◌≤◌, List, length, get_or, refl, ap, sym, ◌∙◌, subst, arith, Bool, true, false}
-use Rattle.std.specs.Prelude.{Option, Some, None, IsSome, is_none, is_some, not, if◌then◌else◌}
+use Rattle.std.specs.Prelude.{Option, Some, None, IsSome, is_none, not, if◌then◌else◌}
 use Rattle.std.specs.List.{position_or_len}
 use Rattle.cells.specs.declared.place.At.{At}
-use Rattle.cells.specs.Places.{index_in, place_of, cell_count}
+use Rattle.cells.specs.Places.{place_of, cell_count}
 use Rattle.cells.proofs.Raster.{place_at}
 use Rattle.source_map.specs.declared.canvas.Placement.{Placement}
 use Rattle.source_map.specs.Maps.{SourceMap, IsMap, IsFilled, map_at, source_at}
@@ -22,7 +22,7 @@ stays_filled m placement choice after is p filled = subst IsSome (sym (is.source
     by true = refl
     by false = filled
 
-filled_of : {A : Type 0} (o : Option A) → is_none o ≡ false → IsSome o
+pub filled_of : {A : Type 0} (o : Option A) → is_none o ≡ false → IsSome o
 filled_of None e = cc
 filled_of (Some a) e = refl
 

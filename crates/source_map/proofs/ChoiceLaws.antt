@@ -1,13 +1,12 @@
 -- What one more cell of a choice does to a map.
-use Rattle.std.proofs.Common.{◌≡◌, ◌≢◌, ℕ, ◌+◌, ◌<◌, ◌≤◌, List, [], length, take, get_or, refl, ap, sym, ◌∙◌, subst, arith, ⊎_elim, Bool, true, false, get_or-set_same, get_or-set_other}
+use Rattle.std.proofs.Common.{◌≡◌, ◌≢◌, ℕ, ◌+◌, ◌<◌, List, [], length, take, get_or, refl, ap, sym, ◌∙◌, subst, arith, ⊎_elim, Bool, true, false, get_or-set_same, get_or-set_other}
 use Rattle.std.proofs.lemmas.List.{get_or-take, get_or_past, length-take}
 use Rattle.std.proofs.lemmas.Bool.{cases_lt, cases_eq}
 use Rattle.std.specs.Prelude.{Option, Some, None, if◌then◌else◌}
 use Rattle.cells.specs.declared.place.At.{At}
-use Rattle.cells.specs.declared.place.Size.{Size}
-use Rattle.cells.specs.Places.{index_in, cell_count, plus, minus, place_of}
+use Rattle.cells.specs.Places.{index_in, plus, minus, place_of}
 use Rattle.cells.specs.Cells.{set_nth}
-use Rattle.cells.proofs.Raster.{one_place, index_below}
+use Rattle.cells.proofs.Raster.{one_place}
 use Rattle.cells.proofs.BoxLaws.{plus_minus, minus_plus}
 use Rattle.source_map.specs.declared.canvas.Placement.{Placement}
 use Rattle.source_map.specs.Maps.{SourceMap, map_at, with_source, source_at}
@@ -53,7 +52,6 @@ map_at-with_other m p q from apart = by (index_in m.size p) (index_in m.size q) 
 
 -- one more chosen cell
 module _ (m now : SourceMap) (placement : Placement) (choice : List Bool) (i : ℕ) (at : index_in placement.rect.size (place_of placement.rect.size i) ≡ Some i) (so_far : IsAfter m placement (take i choice) now) where
-
   pub after_old : get_or choice i false ≡ false → IsAfter m placement (take (i + 1) choice) now
   after_old old = record {
     size = so_far.size;
@@ -64,7 +62,7 @@ module _ (m now : SourceMap) (placement : Placement) (choice : List Bool) (i : �
       same None = refl
       same (Some j) = ⊎_elim
           (λ is. ap (λ k. chosen (take (i + 1) choice) (Some k)) is ∙ chosen_more_same choice i ∙ old
-              ∙ sym (get_or_past (take i choice) i false (omega (arith, length-take i choice))) ∙ ap (λ k. chosen (take i choice) (Some k)) (sym is))
+          ∙ sym (get_or_past (take i choice) i false (omega (arith, length-take i choice))) ∙ ap (λ k. chosen (take i choice) (Some k)) (sym is))
           (λ other. chosen_more_other choice i (Some j) (λ is. other (cc))) (cases_eq j i)
 
   pub after_new : (o : ℕ) → index_in now.size (box_cell placement i) ≡ Some o → o < length now.sources → get_or choice i false ≡ true

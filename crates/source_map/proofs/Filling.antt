@@ -1,18 +1,17 @@
 -- What the conditions of a placement give for each cell of its box, and what a canvas is after one more cell.
-use Rattle.std.proofs.Common.{◌≡◌, ◌≢◌, ℕ, ◌<◌, ◌≤◌, List, [], length, get_or, refl, ap, sym, ◌∙◌, subst, arith, ⊎_elim}
+use Rattle.std.proofs.Common.{◌≡◌, ◌≢◌, ℕ, ◌<◌, ◌≤◌, [], length, refl, ap, sym, ◌∙◌, subst, arith, ⊎_elim}
 use Rattle.std.proofs.lemmas.Bool.{cases_eq}
 use Rattle.std.proofs.lemmas.Int.{ints}
-use Rattle.std.specs.Prelude.{ℤ, pos, ◌≤ℤ◌, Option, Some, None, IsSome, IfSome, unwrap_or, slice_set}
+use Rattle.std.specs.Prelude.{ℤ, Option, Some, None, IsSome, IfSome, unwrap_or}
 use Rattle.cells.specs.declared.place.At.{At}
 use Rattle.cells.specs.declared.place.Size.{Size}
-use Rattle.cells.specs.Places.{IsInside, IsSmall, HasAxes, SumFits, cell_count, index_in, place_of, plus}
-use Rattle.cells.specs.Boxes.{HoldsBox, HasCells}
-use Rattle.cells.specs.Cells.{Cells, IsCell, IsVolume, HasCell, cell_at, put_cell, set_nth}
-use Rattle.cells.proofs.Raster.{IsAt, OnAxis, index_parts, index_below, has_index, one_place, place_at}
+use Rattle.cells.specs.Places.{IsInside, IsSmall, HasAxes, SumFits, index_in, place_of}
+use Rattle.cells.specs.Cells.{Cells, IsCell, IsVolume, HasCell, cell_at, put_cell}
+use Rattle.cells.proofs.Raster.{OnAxis, index_parts, index_below, has_index, one_place}
 use Rattle.cells.proofs.BoxLaws.{box_small, box_inside, box_sum_fits}
 use Rattle.cells.proofs.CellLaws.{IfCell, inside_has_cell, cell_is_inside, cell_is_cell, cell_at-put_same, cell_at-put_other, put_is_volume, length-set_nth, All-set_nth}
 use Rattle.source_map.specs.declared.canvas.Placement.{Placement}
-use Rattle.source_map.specs.Maps.{SourceMap, IsMap, IsSource, IsCoordinate, map_at, with_source, sample_cell}
+use Rattle.source_map.specs.Maps.{IsSource, IsCoordinate, map_at, with_source, sample_cell}
 use Rattle.source_map.specs.Canvases.{CanvasState, IsCanvas, Stands}
 use Rattle.source_map.specs.Choices.{Fits, box_count, box_cell, box_source}
 use Rattle.source_map.proofs.ChoiceLaws.{map_at-with_same, map_at-with_other}

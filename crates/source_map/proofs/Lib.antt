@@ -5,3 +5,4 @@ pub mod AfterLaws
 pub mod Pictures
 pub mod Packing
 pub mod MapWriting
+pub mod Writable

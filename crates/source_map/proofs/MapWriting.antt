@@ -1,20 +1,20 @@
 -- A map file on its way: what was written, and what is still to come.
-use Rattle.std.proofs.Common.{◌≡◌, ℕ, ◌+◌, ◌<◌, ◌≤◌, ◌⊎◌, List, [], ◌++◌, length, take, drop, get_or, refl, ap, sym, ◌∙◌, subst, arith, append_assoc}
+use Rattle.std.proofs.Common.{◌≡◌, ℕ, ◌+◌, ◌<◌, ◌≤◌, ◌⊎◌, List, ◌++◌, take, drop, get_or, refl, ap, sym, ◌∙◌, subst, arith, append_assoc}
 use Rattle.std.proofs.lemmas.List.{take-append-drop, get_or_default, get_or-drop, length-drop}
 use mathlib.Core.Bool.{false≢true}
 use Rattle.std.proofs.lemmas.List.Concat.{flat_map-append}
 use Rattle.std.proofs.lemmas.Int.{ints}
-use Rattle.std.specs.Prelude.{ℤ, pos, ◌≤ℤ◌, Option, Some, None, IsSome, IsSomeAnd, All, unwrap_or, Result, Ok, Err, OnErr}
+use Rattle.std.specs.Prelude.{ℤ, Option, Some, None, IsSome, IsSomeAnd, All, Result, Ok, Err, OnErr}
 use Rattle.std.specs.List.{flat_map}
 use Rattle.std.specs.FinMap.{insert}
 use Rattle.cells.specs.declared.place.At.{At}
 use Rattle.cells.specs.declared.place.Size.{Size}
-use Rattle.cells.specs.Places.{HasAxes, IsInside, index_in, place_of, cell_count}
+use Rattle.cells.specs.Places.{HasAxes, IsInside, index_in, place_of}
 use Rattle.cells.proofs.Raster.{OnAxis, index_parts, has_index, place_at}
 use Rattle.shelf_core.specs.Files.{ShelfState, Changes, content_of, GrowsByPrefix}
 use Rattle.shelf_core.specs.Written.{Holds, HoldsPart}
 use Rattle.shelf_core.proofs.WrittenLaws.{shelf_added, shelf_added_part}
-use Rattle.source_map.specs.Maps.{SourceMap, IsMap, IsFull, map_at}
+use Rattle.source_map.specs.Maps.{SourceMap, IsMap, map_at}
 use Rattle.source_map.specs.MapFiles.{IsShort, IsShortCoordinate, IsWritable, source_field}
 use Rattle.source_map.proofs.AfterLaws.{source_of_place}
 

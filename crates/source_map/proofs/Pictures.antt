@@ -1,20 +1,19 @@
 -- The picture of a canvas whose map is full is the map's picture.
-use Rattle.std.proofs.Common.{◌≡◌, ℕ, ◌<◌, List, [], length, get_or, refl, ap, sym, ◌∙◌, subst, arith}
+use Rattle.std.proofs.Common.{◌≡◌, ℕ, ◌<◌, [], length, get_or, refl, ap, sym, ◌∙◌, subst}
 use Rattle.std.proofs.lemmas.List.{ext_get_or, length-map}
 use Rattle.std.proofs.lemmas.Option.{get_or_from_slice_get, slice_get-map, slice_get-get_or}
-use Rattle.std.specs.Prelude.{Option, Some, None, IsSome, map, option_and_then, option_map, unwrap_or, slice_get}
+use Rattle.std.specs.Prelude.{Option, Some, None, IsSome, map, option_and_then, option_map, unwrap_or}
 use mathlib.Core.Bool.{false≢true}
 use Rattle.cells.specs.declared.place.At.{At}
-use Rattle.cells.specs.Places.{IsInside, index_in, place_of, cell_count}
-use Rattle.cells.specs.Cells.{Cells, IsVolume, cell_at}
-use Rattle.cells.proofs.Raster.{has_index, place_at}
+use Rattle.cells.specs.Places.{index_in, place_of, cell_count}
+use Rattle.cells.specs.Cells.{Cells, cell_at}
+use Rattle.cells.proofs.Raster.{place_at}
 use Rattle.cells.proofs.CellLaws.{cell_is}
-use Rattle.source_map.specs.Maps.{SourceMap, IsMap, IsFull, map_at, sample_cell, picture_of}
+use Rattle.source_map.specs.Maps.{IsFull, map_at, sample_cell, picture_of}
 use Rattle.source_map.specs.Canvases.{CanvasState, IsCanvas, Stands}
 use Rattle.source_map.proofs.AfterLaws.{source_of_place}
 
 module _ (canvas : CanvasState) (sample : Cells) (is : IsCanvas canvas) (stands : Stands canvas sample) (full : IsFull canvas.map) where
-
   same_length : length canvas.picture.cells ≡ length canvas.map.sources
   same_length = is.picture.count ∙ ap cell_count is.size ∙ sym is.map.count
 

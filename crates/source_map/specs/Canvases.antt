@@ -1,5 +1,5 @@
 -- A canvas: a map beside its picture. (Own.)
-use Rattle.std.specs.Prelude.{◌≡◌, ℕ, List, [], Some, is_none}
+use Rattle.std.specs.Prelude.{◌≡◌, ℕ, Some, is_none}
 use Rattle.std.specs.List.{position_or_len}
 use Rattle.cells.specs.declared.place.At.{At}
 use Rattle.cells.specs.Cells.{Cells, HasCell, IsVolume, cell_at}

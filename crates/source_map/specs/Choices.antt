@@ -1,6 +1,6 @@
 -- Placements, choices, and the map after a choice. (Kwatra et al. 2003: a patch of the sample is laid over
 -- the output, and of each cell old or new is taken.)
-use Rattle.std.specs.Prelude.{◌≡◌, ℕ, Bool, false, List, slice_index_or, Option, Some, None, option_map, unwrap_or, if◌then◌else◌}
+use Rattle.std.specs.Prelude.{◌≡◌, ℕ, Bool, false, List, slice_index_or, Option, Some, option_map, unwrap_or, if◌then◌else◌}
 use Rattle.cells.specs.declared.place.At.{At}
 use Rattle.cells.specs.declared.place.Size.{Size}
 use Rattle.cells.specs.Places.{cell_count, index_in, place_of, plus, minus}

@@ -1,6 +1,6 @@
 -- A map: for each output cell nothing, or a place of the sample. (Own; the record of where each pixel
 -- came from, which Kwatra et al. 2003 keep for their old seams.)
-use Rattle.std.specs.Prelude.{◌≡◌, ◌≤◌, ◌≤ℤ◌, ℕ, ℤ, pos, List, [], length, replicate, slice_index_or, All, Option, Some, None, is_none, option_and_then, option_map, unwrap_or, map, position, IsSome, IfSome}
+use Rattle.std.specs.Prelude.{◌≡◌, ◌≤ℤ◌, ℕ, ℤ, pos, List, [], length, replicate, slice_index_or, All, Option, Some, None, is_none, option_and_then, option_map, unwrap_or, map, position, IsSome, IfSome}
 use Rattle.cells.specs.declared.place.At.{At}
 use Rattle.cells.specs.declared.place.Size.{Size}
 use Rattle.cells.specs.Places.{IsSmall, IsInside, cell_count, index_in, place_of}

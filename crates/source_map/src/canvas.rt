@@ -14,7 +14,9 @@ use std::marker::Model;
 /// A box of the output, and the sample place whose cell comes to the box's corner.
 #[derive(Clone, Copy, Debug, Drop, PartialEq, Eq)]
 pub struct Placement {
+    /// The box of the output, in cells.
     pub rect: Box3,
+    /// The place in the sample that comes to the box's corner.
     pub from: At,
 }
 
@@ -54,13 +56,7 @@ fn fill_cell(map: &mut Map, picture: &mut Volume, sample: &Volume, p: At, from: 
 }
 
 // Fills one cell of a placement's box, by its index.
-fn fill_nth(
-    map: &mut Map,
-    picture: &mut Volume,
-    sample: &Volume,
-    placement: &Placement,
-    i: usize,
-)
+fn fill_nth(map: &mut Map, picture: &mut Volume, sample: &Volume, placement: &Placement, i: usize)
     requires sizes { picture.old.size ≡ map.old.size }
     requires samples { picture.old.k ≡ sample.now.k }
     requires output { IsSmall map.old.size }
@@ -101,7 +97,8 @@ fn fill_choice(
 }
 
 impl Canvas {
-    /// A canvas of that size with no cell filled, for cells of k samples.
+    /// A canvas of that size with no cell filled, for cells of k samples. The one error is want of
+    /// memory.
     pub fn empty(alloc: Global, size: Size, k: u32) -> Result<Canvas, AllocError>
         requires small { IsSmall size }
         requires samples { (1 ≤ k) × (k ≤ 6) }
@@ -116,7 +113,7 @@ impl Canvas {
         })
     }
 
-    /// The map.
+    /// The map, of the canvas's size.
     pub fn map(&self) -> &Map
         ensures map { result.now ≡ self.now.map }
         ensures canvas { IsCanvas self.now }
@@ -124,7 +121,7 @@ impl Canvas {
         &self.map
     }
 
-    /// The picture; cells that aren't filled are free.
+    /// The picture, of the canvas's size; the bytes of cells that aren't filled are free.
     pub fn picture(&self) -> &Volume
         ensures picture { result.now ≡ self.now.picture }
         ensures canvas { IsCanvas self.now }
@@ -133,7 +130,7 @@ impl Canvas {
         &self.picture
     }
 
-    /// Whether a cell has a source.
+    /// Whether a cell has a source. A place outside has none.
     pub fn is_filled(&self, p: At) -> bool
         ensures { IsTrue result ↔ IsFilled self.now.map p }
     {
@@ -152,8 +149,8 @@ impl Canvas {
         }
     }
 
-    /// Puts in a choice over a placement, one entry for each cell of its box: the map after it, and
-    /// its picture.
+    /// Puts in a choice over a placement. It has one entry for each cell of the box in raster order:
+    /// true makes the cell a copy of its new source, false leaves it as it is.
     pub fn put_choice(&mut self, sample: &Volume, placement: &Placement, choice: &[bool])
         requires stands { Stands self.old sample.now }
         requires fits { Fits self.old.map.size sample.now placement.now }
@@ -162,14 +159,9 @@ impl Canvas {
         ensures stands { Stands self.new sample.now }
         ensures canvas { IsCanvas self.new }
     {
+        // The size is asked only to show the check that the sample is a volume.
         let _sample = sample.size();
-        fill_choice(
-            &mut self.map,
-            &mut self.picture,
-            sample,
-            placement,
-            choice,
-        );
+        fill_choice(&mut self.map, &mut self.picture, sample, placement, choice);
         self.reached = self.map.filled(self.reached);
     }
 }

@@ -9,6 +9,8 @@
 mod canvas;
 mod map;
 mod map_file;
+#[cfg(test)]
+mod tests;
 
 pub use canvas::{Canvas, Placement};
 pub use map::Map;

@@ -8,7 +8,7 @@ use cells::{At, Size};
 use std::alloc::{AllocError, Global};
 use std::marker::Model;
 
-/// For each cell of an output, in raster order, nothing or a place of the sample.
+/// For each of the w x h x f cells of an output, in raster order, nothing or a place of the sample.
 #[derive(Drop)]
 pub struct Map {
     size: Size,
@@ -25,7 +25,7 @@ impl Model for Map {
     ghost invariant = { λ a. IsMap (record { size = a.size; sources = a.sources.items }) };
 }
 
-// How many sources from the front are there, from so many on.
+// How many entries from the front are sources. The first `start` of them are known to be.
 fn filled_from(sources: &[Option<At>], start: usize) -> usize
     requires { start ≤ position_or_len is_none sources.now }
     ensures { result ≡ position_or_len is_none sources.now }
@@ -38,8 +38,8 @@ fn filled_from(sources: &[Option<At>], start: usize) -> usize
 }
 
 impl Map {
-    // The map of a size with no source.
-    pub fn empty(alloc: Global, size: Size) -> Result<Map, AllocError>
+    /// The map of an output of that size with no source. The one error is want of memory.
+    pub(crate) fn empty(alloc: Global, size: Size) -> Result<Map, AllocError>
         requires { IsSmall size }
         ensures { IfOk result (λ m. m ≡ empty_map size) }
     {
@@ -47,7 +47,7 @@ impl Map {
         Ok(Map { size, sources })
     }
 
-    /// The size of the output.
+    /// The size of the output, in cells.
     pub fn size(&self) -> Size
         ensures size { result ≡ self.now.size }
         ensures map { IsMap self.now }
@@ -63,15 +63,15 @@ impl Map {
         self.sources.get(i).copied().flatten()
     }
 
-    // All sources, in raster order.
-    pub fn sources(&self) -> &[Option<At>]
+    /// The sources of all cells, in raster order; None for each cell that is unfilled.
+    pub(crate) fn sources(&self) -> &[Option<At>]
         ensures { result.now ≡ self.now.sources }
     {
         self.sources.as_slice()
     }
 
-    // Names a source for a cell.
-    pub fn set(&mut self, p: At, from: At)
+    /// Names a source for a cell, in place of the one that it has, if any.
+    pub(crate) fn set(&mut self, p: At, from: At)
         requires inside { IsInside self.old.size p }
         requires source { IsSource from }
         ensures { self.new ≡ with_source self.old p from }
@@ -80,8 +80,9 @@ impl Map {
         self.sources[i] = Some(from);
     }
 
-    // How many cells from the front are filled, from so many on.
-    pub fn filled(&self, start: usize) -> usize
+    /// How many cells from the front, in raster order, are filled. The first `start` of them are known
+    /// to be, and aren't looked at again.
+    pub(crate) fn filled(&self, start: usize) -> usize
         requires { start ≤ position_or_len is_none self.now.sources }
         ensures { result ≡ position_or_len is_none self.now.sources }
     {

@@ -13,7 +13,7 @@ use shelf_core::{Shelf, WriteFault};
 // The bytes of a source.
 const SOURCE: usize = 6;
 
-// The cells whose sources are written at a time.
+// The cells whose sources are written at a time: few calls of the shelf, from a buffer of 12 KiB.
 const CELLS: usize = 2048;
 
 // A size in the file's form.
@@ -92,8 +92,8 @@ fn head_bytes(size: Size, sample: Size) -> [u8; 34]
     let [a, b, c, d, e, f, g, h, i, j, k, l] = size_bytes(size);
     let [m, n, o, p, q, r, s, t, u, v, w, x] = size_bytes(sample);
     [
-        b'W', b'E', b'A', b'V', b'E', b'M', b'A', b'P', 1, 0, a, b, c, d, e, f, g, h, i, j, k, l, m,
-        n, o, p, q, r, s, t, u, v, w, x,
+        b'W', b'E', b'A', b'V', b'E', b'M', b'A', b'P', 1, 0, a, b, c, d, e, f, g, h, i, j, k, l,
+        m, n, o, p, q, r, s, t, u, v, w, x,
     ]
 }
 
@@ -109,8 +109,9 @@ fn start<S: Shelf>(size: Size, sample: Size, shelf: &mut S, name: &str) -> Resul
     Ok(())
 }
 
-/// Writes the file of a full map of at most 2^20 cells, whose sources lie inside the sample size. It
-/// takes no memory.
+/// Writes the file of a full map of at most 2^20 cells, whose sources lie inside the sample size: what
+/// version and kind it is of, the two sizes, and the source of each cell, 6 bytes a cell. It takes no
+/// memory. After a `WriteFault` the shelf has failed, and the file may be cut off anywhere.
 pub fn write_cell_map<S: Shelf>(
     map: &Map,
     sample: Size,

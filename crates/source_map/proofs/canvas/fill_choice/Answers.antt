@@ -1,9 +1,7 @@
-use Rattle.std.proofs.Common.{◌≡◌, ◌<◌, ◌+◌, ◌∙◌, sym, subst, arith, length, take}
+use Rattle.std.proofs.Common.{◌≡◌, ◌<◌, ◌+◌, ◌∙◌, sym, subst, arith, take}
 use Rattle.std.specs.Prelude.{Some, unwrap_or}
 use Rattle.cells.specs.Places.{index_in, cell_count, place_of}
-use Rattle.cells.specs.Cells.{Cells}
 use Rattle.cells.proofs.Raster.{has_index, place_at, index_below}
-use Rattle.source_map.specs.Maps.{SourceMap}
 use Rattle.source_map.specs.Canvases.{CanvasState, IsCanvas, Stands}
 use Rattle.source_map.specs.Choices.{IsAfter, Fits, box_cell, box_source}
 use Rattle.source_map.proofs.ChoiceLaws.{after_new, after_old}

@@ -1,7 +1,6 @@
 use Rattle.std.proofs.Common.{subst, sym, ap, ◌∙◌}
 use Rattle.cells.specs.Places.{IsInside, SumFits, plus}
 use Rattle.cells.specs.Cells.{HasCell}
-use Rattle.source_map.specs.Choices.{box_cell, box_source}
 use Rattle.source_map.proofs.Filling.{fits_small, fits_cell, fits_cell_sum, fits_source, fits_source_sum, cell_is_source}
 use Rattle.source_map.proofs.canvas.fill_nth.Goals as goal
 

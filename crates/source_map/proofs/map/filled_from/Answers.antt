@@ -1,4 +1,4 @@
-use Rattle.std.proofs.Common.{◌≡◌, ◌∙◌, ap, sym, arith, true, false}
+use Rattle.std.proofs.Common.{◌∙◌, ap, sym, arith}
 use Rattle.std.specs.Prelude.{None, is_none, not}
 use Rattle.source_map.proofs.Fronts.{front_in, front_more, front_here}
 use Rattle.source_map.proofs.map.filled_from.Goals as goal

@@ -1,10 +1,8 @@
-use Rattle.std.proofs.Common.{◌≡◌, ◌++◌, ap, sym, ◌∙◌, subst, arith, List, ℕ, length, take, drop, refl}
-use Rattle.std.specs.Prelude.{Option, All, IsSomeAnd}
+use Rattle.std.proofs.Common.{◌++◌, ap, sym, ◌∙◌, subst, arith, refl}
+use Rattle.std.specs.Prelude.{All, IsSomeAnd}
 use Rattle.std.specs.List.{flat_map}
-use Rattle.std.specs.FinMap.{insert}
-use Rattle.cells.specs.declared.place.At.{At}
-use Rattle.shelf_core.specs.Files.{Changes, content_of, GrowsByPrefix}
-use Rattle.shelf_core.specs.Written.{Holds, HoldsPart}
+use Rattle.shelf_core.specs.Files.{Changes}
+use Rattle.shelf_core.specs.Written.{Holds}
 use Rattle.shelf_core.proofs.FileLaws.{only_writes_then}
 use Rattle.source_map.specs.MapFiles.{IsShort, cell_map_form, cell_map_head, source_field}
 use Rattle.source_map.proofs.MapWriting.{Writes, all_short, drop_short, fields_split, on_err, writes_more, writes_part}

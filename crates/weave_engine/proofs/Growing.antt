@@ -13,6 +13,7 @@ use Rattle.job_words.specs.declared.job.GrowJob.{GrowJob}
 use Rattle.job_words.specs.declared.job.Job.{Job}
 use Rattle.job_words.specs.declared.job.Job.TheVariants.{Grow}
 use Rattle.job_words.specs.declared.job.WordFault.{WordFault}
+use Rattle.job_words.specs.Jobs.{IsGrowJob}
 use Rattle.synth_report.specs.declared.fault.FileOf.{FileOf}
 use Rattle.synth_report.specs.declared.fault.FileOf.TheVariants.{Sample, Out, Map, Cert, Report}
 use Rattle.synth_report.specs.declared.fault.Fault.{Fault}
@@ -84,12 +85,12 @@ module _ (job : GrowJob) (a b : ShelfState) (reads : OnlyReads a b) where
   grown growth c (Err (NoLoop length)) plan wrote = absurd wrote
 
 -- the command that the words ask for ran
-pub ran_grown : (asked : Result Job WordFault) (job : GrowJob) (a b : ShelfState) (result : Result (Unit {0}) Fault) → asked ≡ Ok (Grow job) → Grown job a b result → RanAs asked a b result
-ran_grown asked job a b (Ok done) e left = subst (λ r. RanAs r a b (Ok done)) (sym e) left
-ran_grown asked job a b (Err (Words fault)) e left = absurd left
-ran_grown asked job a b (Err (Form file why)) e left = subst (λ r. RanAs r a b (Err (Form file why))) (sym e) left
-ran_grown asked job a b (Err (Limit what number bound)) e left = subst (λ r. RanAs r a b (Err (Limit what number bound))) (sym e) left
-ran_grown asked job a b (Err (Read file)) e left = subst (λ r. RanAs r a b (Err (Read file))) (sym e) left
-ran_grown asked job a b (Err (Write file)) e left = subst (λ r. RanAs r a b (Err (Write file))) (sym e) left
-ran_grown asked job a b (Err NoMemory) e left = subst (λ r. RanAs r a b (Err NoMemory)) (sym e) left
-ran_grown asked job a b (Err (NoLoop length)) e left = absurd left
+pub ran_grown : (asked : Result Job WordFault) (job : GrowJob) (a b : ShelfState) (result : Result (Unit {0}) Fault) → asked ≡ Ok (Grow job) → IsGrowJob job → Grown job a b result → RanAs asked a b result
+ran_grown asked job a b (Ok done) e lawful left = subst (λ r. RanAs r a b (Ok done)) (sym e) (lawful, left)
+ran_grown asked job a b (Err (Words fault)) e lawful left = absurd left
+ran_grown asked job a b (Err (Form file why)) e lawful left = subst (λ r. RanAs r a b (Err (Form file why))) (sym e) (lawful, left)
+ran_grown asked job a b (Err (Limit what number bound)) e lawful left = subst (λ r. RanAs r a b (Err (Limit what number bound))) (sym e) (lawful, left)
+ran_grown asked job a b (Err (Read file)) e lawful left = subst (λ r. RanAs r a b (Err (Read file))) (sym e) (lawful, left)
+ran_grown asked job a b (Err (Write file)) e lawful left = subst (λ r. RanAs r a b (Err (Write file))) (sym e) (lawful, left)
+ran_grown asked job a b (Err NoMemory) e lawful left = subst (λ r. RanAs r a b (Err NoMemory)) (sym e) (lawful, left)
+ran_grown asked job a b (Err (NoLoop length)) e lawful left = absurd left

@@ -1,3 +1,4 @@
 pub mod Tiles
 pub mod Growths
 pub mod Outcomes
+pub mod Promises

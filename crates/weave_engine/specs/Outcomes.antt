@@ -8,6 +8,7 @@ use Rattle.job_words.specs.declared.job.Job.TheVariants.{Grow}
 use Rattle.job_words.specs.declared.job.WordFault.{WordFault}
 use Rattle.job_words.specs.declared.job.WordFault.TheVariants as word
 use Rattle.job_words.specs.Words.{job_of}
+use Rattle.job_words.specs.Jobs.{IsGrowJob}
 use Rattle.synth_report.specs.declared.fault.FileOf.{FileOf}
 use Rattle.synth_report.specs.declared.fault.FileOf.TheVariants.{Sample, Out, Map, Cert}
 use Rattle.synth_report.specs.declared.fault.Fault.{Fault}
@@ -62,11 +63,11 @@ Grown job was now (Err fault) = ⊥
 abbrev pub WordsRefuse : Result Job WordFault → WordFault → Type 0
 WordsRefuse asked fault = (asked ≡ Err fault) ⊎ (fault ≡ word.NoMemory)
 
--- what the command that the words ask for leaves
+-- what the command that the words ask for leaves; its job's values are in the ranges of their keys, and its file names differ
 abbrev pub RanAs : Result Job WordFault → ShelfState → ShelfState → Result (Unit {0}) Fault → Type 0
 RanAs asked was now (Err (Words fault)) = Unchanged was now × WordsRefuse asked fault
 RanAs (Err refusal) was now answer = ⊥
-RanAs (Ok (Grow job)) was now answer = Grown job was now answer
+RanAs (Ok (Grow job)) was now answer = IsGrowJob job × Grown job was now answer
 
 abbrev pub answer_status : Result (Unit {0}) Fault → ℕ
 answer_status (Ok done) = 0
@@ -78,9 +79,12 @@ SaysAnswer (Ok done) err err' = err' ≡ err
 SaysAnswer (Err fault) err err' = Says err err' (fault_line fault)
 
 -- a run, from its words to its status
-pub record Ran (words : List (List ℕ)) (was now : ShelfState) (out out' err err' : SinkState) (status : ℕ) : Type 0 where
+pub record RanWhole (words : List (List ℕ)) (was now : ShelfState) (err err' : SinkState) (status : ℕ) : Type 0 where
   pub answer : Result (Unit {0}) Fault
   pub left : RanAs (job_of words) was now answer
-  pub out_stays : out' ≡ out
   pub said : SaysAnswer answer err err'
   pub number : status ≡ answer_status answer
+
+-- such a run, which writes nothing to out
+abbrev pub Ran : List (List ℕ) → ShelfState → ShelfState → SinkState → SinkState → SinkState → SinkState → ℕ → Type 0
+Ran words was now out out' err err' status = RanWhole words was now err err' status × (out' ≡ out)

@@ -1,0 +1,22 @@
+use Rattle.std.proofs.Common.{◌*◌, ◌/◌, ◌%◌, ◌+◌, length, refl, sym, ◌∙◌, ap, get_or}
+use Rattle.frame_distance.specs.Frames.{distance_in, frame_in}
+use Rattle.frame_distance.proofs.EntryLaws.{entries_of-at, across_before, row_below}
+use Rattle.frame_distance.proofs.FrameLaws.{ssd_same, ssd_turned}
+use Rattle.frame_distance.proofs.table.next_distance.Goals as goal
+
+pub returns-then-j-i-clause-distance : goal.returns-then-j-i-clause-distance
+returns-then-j-i-clause-distance c =
+    let k = length c.args.so_far.now in
+    let n = c.args.n in
+    let i = k / n in
+    let j = k % n in
+    let row = row_below n k c.requires.more in
+    ap (λ xs. get_or xs (j * n + i) 0) c.requires.so_far
+    ∙ entries_of-at n (distance_in c.args.bytes.now c.args.len) k j i 0 row (across_before n k i j refl refl row c.if-j-i.true)
+    ∙ ssd_turned (frame_in c.args.bytes.now c.args.len j) (frame_in c.args.bytes.now c.args.len i)
+
+pub returns-then-j-i-2-clause-distance : goal.returns-then-j-i-2-clause-distance
+returns-then-j-i-2-clause-distance c =
+    let k = length c.args.so_far.now in
+    let i = k / c.args.n in
+    sym (ssd_same (frame_in c.args.bytes.now c.args.len i)) ∙ ap (distance_in c.args.bytes.now c.args.len i) (sym c.if-j-i-2.true)

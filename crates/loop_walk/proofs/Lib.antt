@@ -6,3 +6,4 @@ pub mod TableLaws
 pub mod WayLaws
 pub mod TraceLaws
 pub mod RecordLaws
+pub mod CheckLaws

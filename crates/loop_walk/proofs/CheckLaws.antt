@@ -1,7 +1,7 @@
 -- Steps round a walk by their positions, and entries by their places.
-use Rattle.std.proofs.Common.{◌≡◌, ℕ, zero, suc, ◌+◌, ◌-◌, ◌*◌, ◌/◌, ◌%◌, ◌<◌, ◌≤◌, List, [], ◌∷◌, ◌++◌, length, get_or, take, refl, ap, sym, ◌∙◌, subst, arith, ⊎_elim}
-use Rattle.std.specs.Prelude.{◌⊎◌, Option, Some, None, Bool, true, false, ◌&&◌, nat_lt, if◌then◌else◌, slice_index_or}
-use Rattle.std.proofs.lemmas.Bool.{le-ltb, and_left, and_right, cases_lt}
+use Rattle.std.proofs.Common.{◌≡◌, ℕ, zero, suc, ◌+◌, ◌*◌, ◌/◌, ◌%◌, ◌<◌, ◌≤◌, List, [], ◌∷◌, ◌++◌, length, get_or, take, refl, ap, sym, ◌∙◌, subst, arith, ⊎_elim}
+use Rattle.std.specs.Prelude.{◌⊎◌, Some, None, nat_lt, if◌then◌else◌, slice_index_or}
+use Rattle.std.proofs.lemmas.Bool.{le-ltb, and_left, and_right}
 use Rattle.std.proofs.lemmas.Nat.{mul-add-lt, div-mul-add, mod-mul-add, div_below}
 use Rattle.std.proofs.lemmas.List.{get_or_append_left, get_or_push, take_more}
 use Rattle.std.proofs.Math.Nat.{mul-le-mul_right}
@@ -10,7 +10,7 @@ use Rattle.loop_walk.specs.Walks.{cost_of, plus, steps_along, steps_round}
 use Rattle.loop_walk.specs.Tables.{EntriesHold, EntryHolds, IsBelowSums, entry_at, length_before, second_table, sum_at, table_count, table_lengths}
 use Rattle.loop_walk.specs.Records.{IsFirstBroken, PlaceHolds}
 use Rattle.loop_walk.specs.Products.{IsBelow}
-use Rattle.loop_walk.proofs.Lengths.{earlier_length, table_count-more}
+use Rattle.loop_walk.proofs.Lengths.{earlier_length}
 use Rattle.loop_walk.proofs.TraceLaws.{cost_of-append}
 
 steps_along-at : (from : ℕ) (rest : List ℕ) (to p : ℕ) → p < suc (length rest) → get_or (steps_along from rest to) p (0, 0) ≡ (get_or (from ∷ rest) p 0, get_or (rest ++ to ∷ []) p 0)

@@ -1,10 +1,10 @@
 -- Entries as numbers: none is the greatest, and a sum that stops there is the sum of what is there.
-use Rattle.std.proofs.Common.{◌≡◌, ℕ, ◌+◌, ◌-◌, ◌*◌, ◌^◌, ◌<◌, ◌≤◌, refl, ap, sym, ◌∙◌, subst, arith, ⊎_elim, inl, inr}
-use Rattle.std.specs.Prelude.{◌⊎◌, Option, Some, None, IfSome, Bool, ◌==◌, if◌then◌else◌, min}
-use Rattle.std.proofs.lemmas.Bool.{cases_eq, eq-eqb, ne_eqb, cases_lt}
+use Rattle.std.proofs.Common.{◌≡◌, ℕ, ◌+◌, ◌<◌, ◌≤◌, refl, ap, sym, ◌∙◌, subst, arith, ⊎_elim, inl, inr}
+use Rattle.std.specs.Prelude.{Option, Some, None, IfSome, if◌then◌else◌}
+use Rattle.std.proofs.lemmas.Bool.{cases_eq, eq-eqb, ne_eqb}
 use Rattle.loop_walk.specs.Walks.{plus, AtMost}
-use Rattle.loop_walk.specs.Tables.{IsLeastSum, entry_of}
-use Rattle.loop_walk.specs.Products.{IsLeastNumber, IsSmall, number_of, stopped_sum}
+use Rattle.loop_walk.specs.Tables.{entry_of}
+use Rattle.loop_walk.specs.Products.{IsSmall, number_of, stopped_sum}
 
 abbrev none : ℕ
 none = 18446744073709551615

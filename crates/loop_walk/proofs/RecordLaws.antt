@@ -1,10 +1,10 @@
 -- The least closed walk out of filled tables.
-use Rattle.std.proofs.Common.{◌≡◌, ℕ, suc, ◌+◌, ◌*◌, ◌^◌, ◌<◌, ◌≤◌, List, length, get_or, ap, sym, ◌∙◌, subst, arith, ⊎_elim}
-use Rattle.std.specs.Prelude.{Option, Some, None, IsSome}
+use Rattle.std.proofs.Common.{◌≡◌, ℕ, suc, ◌+◌, ◌*◌, ◌^◌, ◌<◌, ◌≤◌, List, get_or, ap, sym, ◌∙◌, subst, arith, ⊎_elim}
+use Rattle.std.specs.Prelude.{Some, IsSome}
 use Rattle.std.proofs.lemmas.Bool.{cases_eq}
 use Rattle.std.proofs.lemmas.Nat.{mul-add-lt}
 use Rattle.frame_distance.specs.Steps.{Steps}
-use Rattle.loop_walk.specs.Walks.{AtMost, HasNoWalk, IsLeastWalk, walk_cost}
+use Rattle.loop_walk.specs.Walks.{AtMost, HasNoWalk, walk_cost}
 use Rattle.loop_walk.specs.Tables.{EntriesHold, entry_at, entry_of, table_count}
 use Rattle.loop_walk.specs.Products.{AllowsCost, AreFilled, FindsLeast, GoesRound, IsSmall, IsStepTable, table_in}
 use Rattle.loop_walk.proofs.Numbers.{at_most, entry_of-none, entry_of-some}

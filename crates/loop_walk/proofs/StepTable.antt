@@ -1,5 +1,5 @@
 -- The table of the step costs, made of the steps.
-use Rattle.std.proofs.Common.{◌≡◌, ℕ, ◌+◌, ◌*◌, ◌/◌, ◌%◌, ◌^◌, ◌<◌, ◌≤◌, List, length, get_or, ap, sym, ◌∙◌, subst, arith}
+use Rattle.std.proofs.Common.{◌≡◌, ℕ, ◌+◌, ◌*◌, ◌/◌, ◌%◌, ◌^◌, ◌<◌, List, length, get_or, ap, sym, ◌∙◌, subst, arith}
 use Rattle.std.specs.Prelude.{Option, None, Some, IfSome}
 use Rattle.std.proofs.lemmas.Nat.{mul-add-lt}
 use Rattle.std.proofs.lemmas.List.FromFn.{get_or-map-range_with_len}
@@ -8,7 +8,7 @@ use Rattle.frame_distance.specs.Steps.{Steps, AreSteps, step_at}
 use Rattle.frame_distance.proofs.EntryLaws.{entries_of-inside, length-entries_of, row_below, column_below}
 use Rattle.frame_distance.proofs.StepLaws.{step_at-inside}
 use Rattle.loop_walk.specs.Tables.{entry_of}
-use Rattle.loop_walk.specs.Products.{IsSmall, IsStepTable, number_of, step_numbers}
+use Rattle.loop_walk.specs.Products.{IsSmall, IsStepTable, step_numbers}
 use Rattle.loop_walk.proofs.Numbers.{entry_of-number_of, small-number_of}
 
 below_more : (o : Option ℕ) → IfSome o (λ x. x < 2 ^ 46) → IfSome o (λ x. x < 18446744073709551615)

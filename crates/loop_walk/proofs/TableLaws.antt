@@ -1,15 +1,15 @@
 -- The tables for a length: one more table, and the tables for the length before.
-use Rattle.std.proofs.Common.{◌≡◌, ℕ, zero, suc, ◌+◌, ◌-◌, ◌*◌, ◌^◌, ◌/◌, ◌<◌, ◌≤◌, List, ◌++◌, length, get_or, take, drop, refl, ap, sym, ◌∙◌, subst, arith, ⊎_elim, inl, inr, get_or-take, get_or-drop, length-append, length-drop, ◌%◌}
-use Rattle.std.specs.Prelude.{◌⊎◌, Option, Some, None, IfSome, min}
+use Rattle.std.proofs.Common.{◌≡◌, ℕ, zero, suc, ◌+◌, ◌-◌, ◌*◌, ◌^◌, ◌/◌, ◌<◌, ◌≤◌, List, ◌++◌, length, get_or, drop, refl, ap, sym, ◌∙◌, subst, arith, ⊎_elim, inl, get_or-take, get_or-drop, length-append, length-drop, ◌%◌}
+use Rattle.std.specs.Prelude.{◌⊎◌, Option, Some, None, IfSome}
 use Rattle.std.proofs.Math.Nat.{mul-le-mul_right}
 use Rattle.std.proofs.lemmas.Bool.{cases_eq, cases_lt}
 use Rattle.std.proofs.lemmas.Nat.{mul-add-lt, div-add-mod', div_below, mod_below}
 use Rattle.std.proofs.lemmas.List.{get_or_append_left, get_or-append_right, length-take-le}
 use Rattle.frame_distance.specs.Steps.{Steps}
 use Rattle.loop_walk.specs.Walks.{plus, AtMost}
-use Rattle.loop_walk.specs.Tables.{length_before, table_lengths, table_count, entry_of, entry_at, second_table, sum_at, IsBelowSums, IsLeastSum, EntryIsTight, EntriesAreTight, EntriesHold, EntryHolds, AreTight}
-use Rattle.loop_walk.specs.Products.{AreFilled, AreSmall, IsLeastNumber, IsProduct, IsSmall, IsStepTable, stopped_sum, sum_through, table_in}
-use Rattle.loop_walk.proofs.Lengths.{IsBefore, is_before, last_length, earlier_length, table_count-one, table_count-more, second-odd, second-even}
+use Rattle.loop_walk.specs.Tables.{length_before, table_lengths, table_count, entry_of, entry_at, second_table, sum_at, IsBelowSums, IsLeastSum, EntryIsTight, EntriesAreTight, EntriesHold}
+use Rattle.loop_walk.specs.Products.{AreFilled, AreSmall, IsLeastNumber, IsProduct, IsSmall, IsStepTable, stopped_sum, table_in}
+use Rattle.loop_walk.proofs.Lengths.{IsBefore, is_before, last_length, earlier_length, table_count-more, second-odd, second-even}
 use Rattle.loop_walk.proofs.Numbers.{at_most, entry_of-none, entry_of-some, entry_of-stopped_sum, small-more, small-stopped_sum}
 
 pub least_sum-same : (n : ℕ) (e e' : Option ℕ) (s s' : ℕ → Option ℕ) → e ≡ e' → ((v : ℕ) → v < n → s v ≡ s' v) → IsLeastSum n e s → IsLeastSum n e' s'

@@ -1,15 +1,15 @@
 -- A way of least cost through the frame at which its halves meet.
-use Rattle.std.proofs.Common.{◌≡◌, ℕ, zero, suc, ◌+◌, ◌-◌, ◌*◌, ◌^◌, ◌%◌, ◌<◌, ◌≤◌, List, [], ◌∷◌, ◌++◌, length, get_or, refl, ap, sym, ◌∙◌, subst, arith, ⊎_elim, append_assoc, length-append}
+use Rattle.std.proofs.Common.{◌≡◌, ℕ, suc, ◌+◌, ◌-◌, ◌*◌, ◌^◌, ◌%◌, ◌<◌, ◌≤◌, List, [], ◌∷◌, ◌++◌, length, get_or, refl, ap, sym, ◌∙◌, subst, arith, ⊎_elim, append_assoc, length-append}
 use Rattle.std.specs.Prelude.{Option, Some, None, IfSome, IsSome, Result, OnOk, Ok, Err}
 use Rattle.std.proofs.Math.Nat.{mul-le-mul_right}
 use Rattle.std.proofs.lemmas.Bool.{cases_eq, false≢true}
 use Rattle.std.proofs.lemmas.Nat.{mul-add-lt}
 use Rattle.std.proofs.lemmas.List.{append-nil}
 use Rattle.frame_distance.specs.Steps.{Steps, step_at}
-use Rattle.loop_walk.specs.Walks.{plus, AtMost, cost_of, steps_along, steps_round, walk_cost}
+use Rattle.loop_walk.specs.Walks.{plus, AtMost, cost_of, steps_along, walk_cost}
 use Rattle.loop_walk.specs.Tables.{length_before, table_lengths, table_count, entry_at, entry_of, second_table, sum_at, IsLeastSum}
-use Rattle.loop_walk.specs.Products.{AddsWay, AreFilled, GoesRound, HoldsTables, IsStepTable, stopped_sum, sum_through, table_in}
-use Rattle.loop_walk.proofs.Lengths.{IsBefore, is_before, last_length, second_is, second-odd, second-even, table_count-more, table_count-one}
+use Rattle.loop_walk.specs.Products.{AddsWay, AreFilled, GoesRound, HoldsTables, IsStepTable, sum_through, table_in}
+use Rattle.loop_walk.proofs.Lengths.{IsBefore, is_before, last_length, second_is, table_count-more, table_count-one}
 use Rattle.loop_walk.proofs.Numbers.{entry_is, entry_not, entry_of-some, entry_of-stopped_sum, small-more}
 use Rattle.loop_walk.proofs.TableLaws.{second_le, table_in-entry, table_in-small, tight-before}
 

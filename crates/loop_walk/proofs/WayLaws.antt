@@ -1,14 +1,14 @@
 -- Ways from frame to frame, and what the tables say of them: an entry is at most the cost of each way
 -- of its length.
-use Rattle.std.proofs.Common.{◌≡◌, ℕ, zero, suc, ◌+◌, ◌-◌, ◌*◌, ◌%◌, ◌<◌, ◌≤◌, List, [], ◌∷◌, ◌++◌, length, get_or, refl, ap, sym, ◌∙◌, subst, arith, ⊎_elim}
-use Rattle.std.specs.Prelude.{Option, Some, None, IsSome, is_some, Bool, true, false, All, ◌&&◌, nat_lt, if◌then◌else◌, slice_index_or}
+use Rattle.std.proofs.Common.{◌≡◌, ℕ, zero, suc, ◌+◌, ◌-◌, ◌*◌, ◌%◌, ◌<◌, ◌≤◌, List, [], ◌∷◌, length, get_or, refl, ap, sym, ◌∙◌, subst, arith, ⊎_elim}
+use Rattle.std.specs.Prelude.{Option, Some, None, IsSome, is_some, All, ◌&&◌, nat_lt, if◌then◌else◌, slice_index_or}
 use Rattle.std.proofs.lemmas.Option.{same_Some}
 use Rattle.std.proofs.lemmas.Bool.{cases_eq, cases_lt, cases_Bool, and_parts, ltb-true, false≢true}
 use Rattle.std.proofs.lemmas.List.Elements.{All-head, All-tail, All-cons, All-nil}
 use Rattle.frame_distance.specs.Steps.{Steps, step_at}
-use Rattle.loop_walk.specs.Walks.{plus, AtMost, HasStep, HasNoWalk, IsClosedWalk, IsLeastWalk, BeginsFirst, cost_of, steps_along, steps_round, walk_cost}
-use Rattle.loop_walk.specs.Tables.{length_before, table_lengths, table_count, entry_at, second_table, sum_at, EntriesHold}
-use Rattle.loop_walk.proofs.Lengths.{IsBefore, by_length, is_before, last_length, second-even, second-odd, table_count-more}
+use Rattle.loop_walk.specs.Walks.{plus, AtMost, HasStep, HasNoWalk, IsLeastWalk, BeginsFirst, cost_of, steps_along, steps_round, walk_cost}
+use Rattle.loop_walk.specs.Tables.{length_before, table_count, entry_at, second_table, sum_at, EntriesHold}
+use Rattle.loop_walk.proofs.Lengths.{by_length, is_before, last_length, second-even, second-odd, table_count-more}
 use Rattle.loop_walk.proofs.TableLaws.{holds-before}
 
 pub plus_some : (a b : Option ℕ) (x : ℕ) → plus a b ≡ Some x → (y : ℕ) × (z : ℕ) × (a ≡ Some y) × (b ≡ Some z) × (x ≡ y + z)

@@ -91,6 +91,7 @@ pub record FindsLeast (costs : Steps) (len : ℕ) (tables walk : List ℕ) (cost
   pub first : BeginsFirst costs len walk
   pub cost_is : walk_cost costs walk ≡ Some cost
   pub diagonals : (i : ℕ) → i < costs.frames → AllowsCost costs len tables cost i
+
 -- the step round a walk at a position
 abbrev pub step_round_at : Steps → List ℕ → ℕ → Option ℕ
 step_round_at costs walk position =

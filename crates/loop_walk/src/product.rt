@@ -39,6 +39,11 @@ pub fn fill_product(n: usize, left: &[u64], right: &[u64], made: &mut [u64])
     ensures { IsProduct n left.now right.now made.new }
 {
     for i in 0..n {
-        fill_row(n, &left[i * n..i * n + n], right, &mut made[i * n..i * n + n]);
+        fill_row(
+            n,
+            &left[i * n..i * n + n],
+            right,
+            &mut made[i * n..i * n + n],
+        );
     }
 }

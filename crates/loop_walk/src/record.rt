@@ -45,7 +45,12 @@ impl From<AllocError> for LoopError {
 }
 
 // The tables for a length.
-fn made_tables(alloc: Global, costs: &StepCosts, steps: &[u64], length: u32) -> Result<Vec<u64>, AllocError>
+fn made_tables(
+    alloc: Global,
+    costs: &StepCosts,
+    steps: &[u64],
+    length: u32,
+) -> Result<Vec<u64>, AllocError>
     requires steps { IsStepTable costs.now steps.now }
     requires length { (1 ≤ length) × (length ≤ 4096) }
     ensures { IfOk result (λ tables. AreFilled costs.now length tables.items) }

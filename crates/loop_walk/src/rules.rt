@@ -188,7 +188,12 @@ fn allows_cost(entry: Option<u64>, cost: u64) -> bool
 }
 
 /// Rule 14: the cost is at most each diagonal entry of the last table.
-pub fn check_diagonal(costs: &StepCosts, tables: &[u64], length: u32, cost: u64) -> Result<(), LoopFault>
+pub fn check_diagonal(
+    costs: &StepCosts,
+    tables: &[u64],
+    length: u32,
+    cost: u64,
+) -> Result<(), LoopFault>
     requires length { (1 ≤ length) × (length ≤ 4096) }
     requires enough { table_count length * (costs.now.frames * costs.now.frames) ≤ length_of tables.now }
     ensures hold { OnOk result ((i : ℕ) → i < costs.now.frames → AllowsCost costs.now length tables.now cost i) }

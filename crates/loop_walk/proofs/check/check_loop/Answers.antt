@@ -1,7 +1,6 @@
-use Rattle.std.proofs.Common.{◌≡◌, ℕ, ◌<◌, ◌*◌, length, ap, sym, ◌∙◌, subst, arith, inl, inr, refl}
-use Rattle.std.specs.Prelude.{◌⊎◌, Option, Some, OnOk, IfErr, IfOk}
+use Rattle.std.proofs.Common.{◌≡◌, ℕ, ◌<◌, length, sym, subst, arith, inl, inr, refl}
+use Rattle.std.specs.Prelude.{Some}
 use Rattle.std.proofs.lemmas.Result.{IfErr-weaker, err_from_is_err_and}
-use Rattle.loop_walk.specs.declared.fault.LoopFault.{LoopFault}
 use Rattle.loop_walk.specs.Walks.{AtMost, IsLeastWalk, steps_round, walk_cost}
 use Rattle.loop_walk.specs.Tables.{entry_at, table_count}
 use Rattle.loop_walk.specs.Records.{DiagonalHolds, IsFirstBroken, IsFirstFault, PlaceHolds, Stands}

@@ -1,5 +1,4 @@
-use Rattle.std.proofs.Common.{◌≡◌, ℕ, ◌+◌, ◌*◌, ◌<◌, ◌≤◌, length, ap, sym, ◌∙◌, subst, arith, get_or}
-use Rattle.loop_walk.specs.Tables.{table_count}
+use Rattle.std.proofs.Common.{◌*◌, length, ap, ◌∙◌, arith}
 use Rattle.loop_walk.specs.Products.{table_in}
 use Rattle.loop_walk.proofs.TableLaws.{length-table_in}
 use Rattle.loop_walk.proofs.RecordLaws.{finds_least, no_walk}
@@ -11,7 +10,7 @@ first_frame-first-requires-clause-whole c =
     rw c.frames-n.ensures.frames
     (ap length c.table_in-last.ensures
     ∙ length-table_in c.args.costs.now c.args.steps.now c.requires.steps c.args.tables.now c.table_count.result
-      (omega (arith, c.requires.tables.made.whole, ap (λ k. k * area) c.table_count.ensures.count)))
+    (omega (arith, c.requires.tables.made.whole, ap (λ k. k * area) c.table_count.ensures.count)))
 
 pub returns-then-cost-clause-no_loop : goal.returns-then-cost-clause-no_loop
 returns-then-cost-clause-no_loop c = λ _.

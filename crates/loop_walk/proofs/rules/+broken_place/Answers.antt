@@ -15,9 +15,13 @@ broken_place-requires t c =
     let before = is_before c.args.length (omega arith) in
     let is_b = c.length_before-before.ensures in
     let area = c.args.costs.now.frames * c.args.costs.now.frames in
-    let count = ap (λ k. k * area) (counts c.args.length c.length_before-before.result c.table_count-t.result (omega arith) is_b c.table_count-t.ensures.count) in
-    (omega (arith, c.decreases, before.less, is_b), ((omega (arith, before.some, is_b), omega (arith, before.less, is_b)),
-    omega (arith, c.requires.enough, count, ap (λ k. k * area) c.table_count-t.ensures.count)))
+    let count = ap (λ k. k * area) (counts c.args.length c.length_before-before.result c.table_count-t.result (omega arith) is_b c.table_count-t.ensures.count) in (
+      omega (arith, c.decreases, before.less, is_b),
+      (
+        (omega (arith, before.some, is_b), omega (arith, before.less, is_b)),
+        omega (arith, c.requires.enough, count, ap (λ k. k * area) c.table_count-t.ensures.count),
+      ),
+    )
 
 pub broken_entry-requires-clause-last : goal.broken_entry-requires-clause-last
 broken_entry-requires-clause-last t c =

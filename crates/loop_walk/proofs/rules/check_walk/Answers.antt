@@ -1,4 +1,4 @@
-use Rattle.std.proofs.Common.{◌≡◌, ◌<◌, length, sym, ◌∙◌, ap, arith, below_more, get_or}
+use Rattle.std.proofs.Common.{◌<◌, length, sym, ◌∙◌, ap, arith, below_more, get_or}
 use Rattle.std.proofs.lemmas.List.{take_all}
 use Rattle.frame_distance.specs.Steps.{step_at}
 use Rattle.loop_walk.specs.Walks.{cost_of, steps_round}

@@ -1,4 +1,4 @@
-use Rattle.std.proofs.Common.{sym, ◌∙◌, ◌≤◌, arith, ⊎_elim, inl, inr, subst}
+use Rattle.std.proofs.Common.{sym, ◌∙◌, ◌≤◌, arith, ⊎_elim, inl, inr}
 use Rattle.std.specs.Prelude.{◌⊎◌}
 use Rattle.frame_distance.specs.Steps.{step_at}
 use Rattle.loop_walk.proofs.CheckLaws.{no_step, step_from}

@@ -1,9 +1,9 @@
-use Rattle.std.proofs.Common.{◌≡◌, ℕ, ◌+◌, ◌-◌, ◌*◌, ◌<◌, ◌≤◌, length, ap, sym, ◌∙◌, subst, arith}
+use Rattle.std.proofs.Common.{◌≡◌, ℕ, ◌+◌, ◌*◌, ◌≤◌, length, ap, sym, ◌∙◌, arith}
 use Rattle.std.proofs.Math.Nat.{mul-le-mul_right}
 use Rattle.loop_walk.specs.Tables.{length_before, table_count, second_table}
-use Rattle.loop_walk.specs.Products.{AreFilled, IsProduct, table_in}
+use Rattle.loop_walk.specs.Products.{IsProduct, table_in}
 use Rattle.loop_walk.proofs.Lengths.{is_before, table_count-more}
-use Rattle.loop_walk.proofs.TableLaws.{filled-one, filled-more, length-table_in, second_le}
+use Rattle.loop_walk.proofs.TableLaws.{filled-more, length-table_in, second_le}
 use Rattle.loop_walk.proofs.tables.+fill_tables.Goals as goal
 
 -- room for the earlier tables and one more

@@ -1,4 +1,4 @@
-use Rattle.std.proofs.Common.{◌≡◌, ◌<◌, ◌*◌, ap, sym, ◌∙◌, arith, subst}
+use Rattle.std.proofs.Common.{◌≡◌, ◌*◌, ap, sym, ◌∙◌, arith}
 use Rattle.frame_distance.specs.Tables.{entries_of}
 use Rattle.frame_distance.proofs.EntryLaws.{entries_of_more}
 use Rattle.loop_walk.specs.Products.{step_numbers}

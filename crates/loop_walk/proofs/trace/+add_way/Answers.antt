@@ -1,11 +1,11 @@
-use Rattle.std.proofs.Common.{◌≡◌, ℕ, ◌+◌, ◌-◌, ◌*◌, ◌<◌, ◌≤◌, length, ap, sym, ◌∙◌, subst, arith}
-use Rattle.std.specs.Prelude.{IsSome, Option, OnOk}
+use Rattle.std.proofs.Common.{◌-◌, ◌≤◌, length, ap, sym, ◌∙◌, subst, arith}
+use Rattle.std.specs.Prelude.{IsSome}
 use Rattle.loop_walk.specs.Walks.{plus}
-use Rattle.loop_walk.specs.Tables.{entry_at, length_before, table_count, second_table}
-use Rattle.loop_walk.specs.Products.{AddsWay, sum_through, table_in}
+use Rattle.loop_walk.specs.Tables.{entry_at, table_count, second_table}
+use Rattle.loop_walk.specs.Products.{AddsWay, table_in}
 use Rattle.loop_walk.proofs.Lengths.{IsBefore, is_before}
 use Rattle.loop_walk.proofs.TableLaws.{length-table_in}
-use Rattle.loop_walk.proofs.TraceLaws.{both_some, fits, fits_second, halves, holds_before, holds_rest, on_ok, one_way, second_count, ways_joined}
+use Rattle.loop_walk.proofs.TraceLaws.{both_some, fits, fits_second, halves, holds_before, holds_rest, on_ok, second_count, ways_joined}
 use Rattle.loop_walk.proofs.trace.+add_way.Goals as goal
 
 pub table_in-left-requires-clause-there : goal.table_in-left-requires-clause-there
@@ -40,9 +40,16 @@ add_way-requires t c =
     let below = rw c.frames-n.ensures.frames at c.middle-v.ensures.below in
     let sum = halves costs m b s two c.length_before-before.ensures c.table_count-t.ensures.count c.args.steps.now c.requires.steps c.args.tables.now c.requires.tables c.args.i c.args.j v c.requires.from c.requires.to below c.requires.there
     (rw (c.frames-n.ensures.frames, c.table_in-left.ensures, c.table_in-right.ensures, c.second_table.ensures) at c.middle-v.ensures.least) in
-    let some = both_some (entry_at costs c.args.tables.now s c.args.i v) (entry_at costs c.args.tables.now (second_table m s) v c.args.j) _ sum c.requires.there in
-    (omega (arith, c.decreases, lengths.less), (c.requires.steps, (holds_before costs m b s two c.length_before-before.ensures c.table_count-t.ensures.count c.args.steps.now c.requires.steps c.args.tables.now c.requires.tables,
-    ((lengths.some, omega (arith, lengths.less)), (c.requires.from, (below, subst (λ k. IsSome (entry_at costs c.args.tables.now k c.args.i v)) c.table_count-t.ensures.count some.0))))))
+    let some = both_some (entry_at costs c.args.tables.now s c.args.i v) (entry_at costs c.args.tables.now (second_table m s) v c.args.j) _ sum c.requires.there in (
+      omega (arith, c.decreases, lengths.less),
+      (
+        c.requires.steps,
+        (
+          holds_before costs m b s two c.length_before-before.ensures c.table_count-t.ensures.count c.args.steps.now c.requires.steps c.args.tables.now c.requires.tables,
+          ((lengths.some, omega (arith, lengths.less)), (c.requires.from, (below, subst (λ k. IsSome (entry_at costs c.args.tables.now k c.args.i v)) c.table_count-t.ensures.count some.0))),
+        ),
+      ),
+    )
 
 pub add_way-requires-2 : goal.add_way-requires-2
 add_way-requires-2 t c =
@@ -57,9 +64,16 @@ add_way-requires-2 t c =
     let sum = halves costs m b s two c.length_before-before.ensures c.table_count-t.ensures.count c.args.steps.now c.requires.steps c.args.tables.now c.requires.tables c.args.i c.args.j v c.requires.from c.requires.to below c.requires.there
     (rw (c.frames-n.ensures.frames, c.table_in-left.ensures, c.table_in-right.ensures, c.second_table.ensures) at c.middle-v.ensures.least) in
     let some = both_some (entry_at costs c.args.tables.now s c.args.i v) (entry_at costs c.args.tables.now (second_table m s) v c.args.j) _ sum c.requires.there in
-    let count = second_count costs m b s two c.length_before-before.ensures c.table_count-t.ensures.count c.args.steps.now c.requires.steps c.args.tables.now c.requires.tables in
-    (omega (arith, c.decreases, lengths.some, lengths.less), (c.requires.steps, (holds_rest costs m b s two c.length_before-before.ensures c.table_count-t.ensures.count c.args.steps.now c.requires.steps c.args.tables.now c.requires.tables,
-    ((omega (arith, lengths.less), omega arith), (below, (c.requires.to, subst (λ k. IsSome (entry_at costs c.args.tables.now k v c.args.j)) count some.1))))))
+    let count = second_count costs m b s two c.length_before-before.ensures c.table_count-t.ensures.count c.args.steps.now c.requires.steps c.args.tables.now c.requires.tables in (
+      omega (arith, c.decreases, lengths.some, lengths.less),
+      (
+        c.requires.steps,
+        (
+          holds_rest costs m b s two c.length_before-before.ensures c.table_count-t.ensures.count c.args.steps.now c.requires.steps c.args.tables.now c.requires.tables,
+          ((omega (arith, lengths.less), omega arith), (below, (c.requires.to, subst (λ k. IsSome (entry_at costs c.args.tables.now k v c.args.j)) count some.1))),
+        ),
+      ),
+    )
 
 pub returns : goal.returns
 returns t c =

@@ -1,0 +1,69 @@
+-- The least closed walk out of filled tables.
+use Rattle.std.proofs.Common.{◌≡◌, ℕ, suc, ◌+◌, ◌*◌, ◌^◌, ◌<◌, ◌≤◌, List, get_or, ap, sym, ◌∙◌, subst, arith, ⊎_elim}
+use Rattle.std.specs.Prelude.{Some, IsSome}
+use Rattle.std.proofs.lemmas.Bool.{cases_eq}
+use Rattle.std.proofs.lemmas.Nat.{mul-add-lt}
+use Rattle.frame_distance.specs.Steps.{Steps}
+use Rattle.loop_walk.specs.Walks.{AtMost, HasNoWalk, walk_cost}
+use Rattle.loop_walk.specs.Tables.{EntriesHold, entry_at, entry_of, table_count}
+use Rattle.loop_walk.specs.Products.{AllowsCost, AreFilled, FindsLeast, GoesRound, IsSmall, IsStepTable, table_in}
+use Rattle.loop_walk.proofs.Numbers.{at_most, entry_of-none, entry_of-some}
+use Rattle.loop_walk.proofs.TableLaws.{holds_from_tight, table_in-entry, table_in-small}
+use Rattle.loop_walk.proofs.WayLaws.{first_from, least_from, none_from, some_is}
+
+module _ (costs : Steps) (m : ℕ) (some : 1 ≤ m) (few : m ≤ 4096) (steps : List ℕ) (is : IsStepTable costs steps) (tables : List ℕ) (filled : AreFilled costs m tables)
+    (last : List ℕ) (is_last : last ≡ table_in steps tables (table_count m))
+    (first : ℕ) (below : first < costs.frames)
+    (least : (i : ℕ) → i < costs.frames → get_or last (first * costs.frames + first) 0 ≤ get_or last (i * costs.frames + i) 0)
+    (firsts : (i : ℕ) → i < first → get_or last (first * costs.frames + first) 0 < get_or last (i * costs.frames + i) 0) where
+  diagonal : (i : ℕ) → i < costs.frames → entry_of (get_or last (i * costs.frames + i) 0) ≡ entry_at costs tables (table_count m) i i
+  diagonal i lt =
+      ap (λ xs. entry_of (get_or xs (i * costs.frames + i) 0)) is_last
+      ∙ table_in-entry costs steps is tables (table_count m) i i (omega (arith, filled.made.whole)) lt lt
+
+  top : (i : ℕ) → i < costs.frames → get_or last (i * costs.frames + i) 0 ≤ 18446744073709551615
+  top i lt = ⊎_elim (λ none. omega arith) (λ small. omega arith)
+      (subst (λ xs. IsSmall (m * 2 ^ 46) (get_or xs (i * costs.frames + i) 0)) (sym is_last)
+      (table_in-small costs steps is tables (m * 2 ^ 46) (table_count m) (i * costs.frames + i) (omega arith) filled.small (omega (arith, filled.made.whole)) (mul-add-lt i costs.frames i costs.frames lt lt)))
+
+  holds : EntriesHold costs m tables
+  holds = holds_from_tight costs m tables filled.made.tight
+
+  pub no_walk : get_or last (first * costs.frames + first) 0 ≡ 18446744073709551615 → HasNoWalk costs m
+  no_walk none = none_from costs tables m some holds
+      (λ i lt. sym (diagonal i lt) ∙ entry_of-none (get_or last (i * costs.frames + i) 0) (omega (arith, least i lt, top i lt)))
+
+  module _ (there : get_or last (first * costs.frames + first) 0 ≡ 18446744073709551615 → ⊥) where
+    entry_is_cost : entry_at costs tables (table_count m) first first ≡ Some (get_or last (first * costs.frames + first) 0)
+    entry_is_cost = sym (diagonal first below) ∙ entry_of-some (get_or last (first * costs.frames + first) 0) there
+
+    pub there_is : IsSome (entry_at costs tables (table_count m) first first)
+    there_is = some_is (entry_at costs tables (table_count m) first first) (get_or last (first * costs.frames + first) 0) entry_is_cost
+
+    allows : (i : ℕ) → i < costs.frames → AllowsCost costs m tables (get_or last (first * costs.frames + first) 0) i
+    allows i lt =
+        let cost = get_or last (first * costs.frames + first) 0 in
+        let x = get_or last (i * costs.frames + i) 0 in
+        subst (AtMost (Some cost)) (diagonal i lt) (subst (λ o. AtMost o (entry_of x)) (entry_of-some cost there) (at_most cost x (least i lt) (top i lt)))
+
+    above : (i : ℕ) → i < first → AtMost (Some (suc (get_or last (first * costs.frames + first) 0))) (entry_at costs tables (table_count m) i i)
+    above i lt =
+        let cost = get_or last (first * costs.frames + first) 0 in
+        let x = get_or last (i * costs.frames + i) 0 in
+        let higher = firsts i lt in
+        subst (AtMost (Some (suc cost))) (diagonal i (omega (arith, below)))
+        (⊎_elim (λ none. subst (AtMost (Some (suc cost))) (sym (entry_of-none x none)) tt)
+        (λ apart. subst (AtMost (Some (suc cost))) (sym (entry_of-some x apart)) (let le : suc cost ≤ x = omega arith in le))
+        (cases_eq x 18446744073709551615))
+
+    pub finds_least : (walk : List ℕ) → GoesRound costs m tables first walk → FindsLeast costs m tables walk (get_or last (first * costs.frames + first) 0)
+    finds_least walk goes =
+        let cost = get_or last (first * costs.frames + first) 0 in
+        let cost_is : walk_cost costs walk ≡ Some cost = goes.cost ∙ entry_is_cost in
+        let it = least_from costs tables m some holds walk cost goes.frames cost_is allows in
+        record {
+          least = it;
+          first = first_from costs tables m some holds walk cost it cost_is (λ i lt. above i (subst (λ f. i < f) goes.begins lt));
+          cost_is = cost_is;
+          diagonals = allows;
+        }

@@ -1,0 +1,31 @@
+//! Least closed walks through the frames of a clip: the loops of a fixed length that show the least
+//! change at their jumps, and records by which anyone can check that they are least.
+//!
+//! `least_loop` promises a closed walk of the length such that no closed walk of that length costs
+//! less, from the smallest frame that any such walk visits, and answers `NoLoop` exactly where there
+//! is no closed walk. `check_loop` accepts exactly the records that stand, names the first broken rule
+//! and its first place otherwise, and what it accepts is least, whoever made it. specs/Walks.antt
+//! defines walks and their costs over lists of frames alone, specs/Tables.antt the tables of a record,
+//! and specs/Records.antt a record that stands.
+//!
+//! `product` has the sums of two tables, `tables` the tables along the digits of a length, `trace` a
+//! way out of the tables, `record` the least walk and its record, `rules` the rules of a record and
+//! `check` the checker.
+#![tactic(auto)]
+
+mod check;
+mod fault;
+mod items;
+mod product;
+mod record;
+mod rules;
+mod tables;
+#[cfg(test)]
+mod tests;
+mod trace;
+
+pub use check::check_loop;
+pub use fault::LoopFault;
+pub use items::Items;
+pub use record::{LoopError, LoopRecord, least_loop};
+pub use tables::table_count;

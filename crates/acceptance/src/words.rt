@@ -3,7 +3,7 @@ use crate::stage::{ONE_CELL, refused};
 use std::alloc::{AllocError, Global};
 use std::test::Fail;
 
-// A width of 400 digits, the last of them 7 or 3.
+// A width of 400 digits.
 fn long_width(alloc: Global, digit: char, last: &str) -> Result<String, AllocError> {
     let mut words = String::from_str(alloc, "grow width=")?;
     for _ in 0..399u32 {

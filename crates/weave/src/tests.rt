@@ -18,15 +18,13 @@ const MAP: &[u8] = b"WEAVEMAP\x01\x00\
 // The status of a run in a folder, with these names of its sample and its picture.
 fn ran(rt: &HostRuntime, folder: &str, sample: &str, out: &str) -> Result<u8, Fail> {
     let alloc = rt.alloc();
+    let files = format!(in alloc;
+        "sample={folder}/{sample}\nout={folder}/{out}\nmap={folder}/m\nrecord={folder}/r"
+    )?;
     let mut words = Words::new(alloc);
     words.push("grow")?;
-    for (key, name) in [
-        ("sample", sample),
-        ("out", out),
-        ("map", "m"),
-        ("record", "r"),
-    ] {
-        words.push(format!(in alloc; "{key}={folder}/{name}")?.as_str())?;
+    for word in files.as_str().split('\n') {
+        words.push(word)?;
     }
     words.push("width=3")?;
     words.push("height=1")?;

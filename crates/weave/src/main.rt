@@ -5,6 +5,8 @@
 #![tactic(auto)]
 
 mod real;
+#[cfg(test)]
+mod tests;
 
 use job_words::Words;
 use real::{ErrorOutput, Output, RealShelf};

@@ -1,0 +1,106 @@
+// Great samples and outputs.
+use crate::stage::{Case, Failing, ONE_CELL, holds, refused};
+use std::alloc::{AllocError, Global};
+use std::test::Fail;
+
+// The four bytes of a size number.
+fn put_number(bytes: &mut Vec<u8>, number: u32) -> Result<(), AllocError> {
+    bytes.extend_from_slice(&number.to_be_bytes())
+}
+
+// The six bytes of a source.
+fn put_source(bytes: &mut Vec<u8>, x: u16, y: u16) -> Result<(), AllocError> {
+    bytes.extend_from_slice(&x.to_be_bytes())?;
+    bytes.extend_from_slice(&y.to_be_bytes())?;
+    bytes.extend_from_slice(&[0, 0])
+}
+
+// The sources of a row, cell x from the column x mod w.
+fn put_row(bytes: &mut Vec<u8>, width: u16, y: u16, sample: u16) -> Result<(), AllocError> {
+    for x in 0..width {
+        put_source(bytes, x.checked_rem(sample).unwrap_or(0), y)?;
+    }
+    Ok(())
+}
+
+// The map file of tiles: cell (x, y) comes from (x mod w, y mod h).
+fn tiled_map(alloc: Global, output: (u16, u16), sample: (u16, u16)) -> Result<Vec<u8>, AllocError> {
+    let mut bytes = Vec::from_slice(alloc, b"WEAVEMAP\x01\x00")?;
+    for (w, h) in [output, sample] {
+        put_number(&mut bytes, u32::from(w))?;
+        put_number(&mut bytes, u32::from(h))?;
+        put_number(&mut bytes, 1)?;
+    }
+    for y in 0..output.1 {
+        put_row(
+            &mut bytes,
+            output.0,
+            y.checked_rem(sample.1).unwrap_or(0),
+            sample.0,
+        )?;
+    }
+    Ok(bytes)
+}
+
+// So many bytes behind a head, byte i being i mod `period`.
+fn picture(alloc: Global, head: &[u8], count: u32, period: u8) -> Result<Vec<u8>, AllocError> {
+    let mut bytes = Vec::from_slice(alloc, head)?;
+    let mut next = 0u8;
+    for _ in 0..count {
+        bytes.push(next)?;
+        next = next.wrapping_add(1).checked_rem(period).unwrap_or(0);
+    }
+    Ok(bytes)
+}
+
+#[test]
+fn an_output_above_the_bound(rt: HostRuntime) -> Result<(), Fail> {
+    let alloc = rt.alloc();
+    let words = "grow sample=s out=o map=m record=r width=1025 height=1024";
+    let line = "weave: limit output 1049600 over 1048576\n";
+    assert!(rt; refused(alloc, words, ONE_CELL, 4, line)?);
+    Ok(())
+}
+
+#[test]
+fn the_greatest_output(rt: HostRuntime) -> Result<(), Fail> {
+    let alloc = rt.alloc();
+    let sample = picture(alloc, b"P6\n64 64\n255\n", 12_288, 1)?;
+    let wanted = picture(alloc, b"P6\n1024 1024\n255\n", 3_145_728, 1)?;
+    let map = tiled_map(alloc, (1024, 1024), (64, 64))?;
+    let case = Case {
+        words: "grow sample=s out=o map=m record=r width=1024 height=1024",
+        sample: &sample,
+        failing: Failing::Nothing,
+        status: 0,
+        line: "",
+        picture: &wanted,
+        map: &map,
+    };
+    assert!(rt; holds(alloc, &case)?);
+    Ok(())
+}
+
+#[test]
+fn a_picture_with_a_comment_is_copied(rt: HostRuntime) -> Result<(), Fail> {
+    let alloc = rt.alloc();
+    let sample = picture(
+        alloc,
+        b"P6\n# made by a paint program\n640 480\n255\n",
+        921_600,
+        251,
+    )?;
+    let wanted = picture(alloc, b"P6\n640 480\n255\n", 921_600, 251)?;
+    let map = tiled_map(alloc, (640, 480), (640, 480))?;
+    let case = Case {
+        words: "grow sample=s out=o map=m record=r width=640 height=480 place=grid overlap=0",
+        sample: &sample,
+        failing: Failing::Nothing,
+        status: 0,
+        line: "",
+        picture: &wanted,
+        map: &map,
+    };
+    assert!(rt; holds(alloc, &case)?);
+    Ok(())
+}

@@ -1,0 +1,117 @@
+// A line of words is run, and what stands afterwards is compared.
+use job_words::Words;
+use shelf_core::{Call, MemShelf, MemSink, Shelf, Sink};
+use std::alloc::{AllocError, Global};
+use std::test::Fail;
+use weave_engine::run;
+
+// What the files of a run hold before it.
+pub const BEFORE: &[u8] = b"as before";
+
+// One cell of (7, 8, 9), and its copies on 3 x 2 cells.
+pub const ONE_CELL: &[u8] = b"P6\n1 1\n255\n\x07\x08\x09";
+
+pub const SIX_CELLS: &str =
+    "grow sample=s out=o map=m record=r width=3 height=2 place=grid overlap=0";
+
+// Two cells of grey 10 and 20, and their copies on 5 x 1 cells.
+pub const TWO_CELLS: &[u8] = b"P6\n2 1\n255\n\x0a\x0a\x0a\x14\x14\x14";
+
+pub const FIVE_CELLS: &str =
+    "grow sample=s out=o map=m record=r width=5 height=1 place=grid overlap=0";
+
+// Runs the words of a line, which blanks part.
+pub fn ran<S: Shelf, O: Sink, E: Sink>(
+    alloc: Global,
+    line: &str,
+    shelf: &mut S,
+    out: &mut O,
+    err: &mut E,
+) -> Result<u8, AllocError> {
+    let mut words = Words::new(alloc);
+    for word in line.split(' ') {
+        if !word.is_empty() {
+            words.push(word)?;
+        }
+    }
+    Ok(run(alloc, &words, shelf, out, err))
+}
+
+pub fn is_file(found: Option<&[u8]>, wanted: &[u8]) -> bool {
+    match found {
+        Some(bytes) => bytes == wanted,
+        None => false,
+    }
+}
+
+// What fails in a run: nothing, or the first call of a kind on a file. A write that fails in mid-piece
+// keeps so many bytes of it.
+#[derive(Clone, Copy, Drop)]
+pub enum Failing {
+    Nothing,
+    SampleRead,
+    PictureBegin,
+    MapBegin,
+    MapWrite(usize),
+}
+
+fn list_failing(shelf: &mut MemShelf, failing: Failing) -> Result<(), AllocError> {
+    match failing {
+        Failing::Nothing => Ok(()),
+        Failing::SampleRead => shelf.fail_at(Call::Get, "s", 1, 0),
+        Failing::PictureBegin => shelf.fail_at(Call::Begin, "o", 1, 0),
+        Failing::MapBegin => shelf.fail_at(Call::Begin, "m", 1, 0),
+        Failing::MapWrite(kept) => shelf.fail_at(Call::Add, "m", 1, kept),
+    }
+}
+
+// A run over stores in memory, where every file of it stands: the words, the sample, what fails, and
+// what is to stand afterwards.
+#[derive(Clone, Copy, Drop)]
+pub struct Case<'a> {
+    pub words: &'a str,
+    pub sample: &'a [u8],
+    pub failing: Failing,
+    pub status: u8,
+    pub line: &'a str,
+    pub picture: &'a [u8],
+    pub map: &'a [u8],
+}
+
+// Runs a case, and says whether all is as it is to be. The sample and the record file stay, and
+// nothing is added to `out`.
+pub fn holds(alloc: Global, case: &Case) -> Result<bool, Fail> {
+    let mut shelf = MemShelf::new(alloc);
+    shelf.put_file("s", case.sample)?;
+    shelf.put_file("o", BEFORE)?;
+    shelf.put_file("m", BEFORE)?;
+    shelf.put_file("r", BEFORE)?;
+    list_failing(&mut shelf, case.failing)?;
+    let mut out = MemSink::new(alloc);
+    let mut err = MemSink::new(alloc);
+    let status = ran(alloc, case.words, &mut shelf, &mut out, &mut err)?;
+    let said = out.bytes().is_empty() && err.bytes() == case.line.as_bytes();
+    let kept = is_file(shelf.file("s"), case.sample) && is_file(shelf.file("r"), BEFORE);
+    let written = is_file(shelf.file("o"), case.picture) && is_file(shelf.file("m"), case.map);
+    Ok(status == case.status && said && kept && written)
+}
+
+// A run that is refused: every file stays.
+pub fn refused<'a>(
+    alloc: Global,
+    words: &'a str,
+    sample: &'a [u8],
+    status: u8,
+    line: &'a str,
+) -> Result<bool, Fail> {
+    let case = Case {
+        words,
+        sample,
+        failing: Failing::Nothing,
+        status,
+        line,
+        picture: BEFORE,
+        map: BEFORE,
+    };
+    holds(alloc, &case)
+}

@@ -1,0 +1,43 @@
+#!/bin/sh
+# Prints the user time and the peak memory of the program, of `cp` of the same bytes, and for reading also of
+# a plain C program. Each line is the mean user time of 20 runs, and the most memory that one of them took.
+#
+#   examples/measure.sh
+set -eu
+top=$(cd "$(dirname "$0")/.." && pwd)
+weave=$top/crates/weave/out/weave
+(cd "$top/crates/weave" && rt run >/dev/null 2>&1) || true
+test -x "$weave" || { echo "the program is not built: run 'rt run' in crates/weave" >&2; exit 1; }
+work=$(mktemp -d)
+trap 'rm -rf "$work"' EXIT
+cd "$work"
+cc -O2 -o plain_read "$top/examples/plain_read.c"
+
+# measure NAME STATUS COMMAND..: the command is to end with that status each time.
+measure() {
+    name=$1 wanted=$2
+    shift 2
+    /usr/bin/time -o figures -f '%U %S %M' sh -c '
+        wanted=$1; shift; i=0
+        while [ $i -lt 20 ]; do
+            status=0; "$@" >said 2>&1 || status=$?
+            [ $status -eq $wanted ] || { cat said >&2; exit 1; }
+            i=$((i + 1))
+        done' sh "$wanted" "$@"
+    awk -v name="$name" '{ printf "%-34s user %6.1f ms   system %6.1f ms   peak %6.1f MiB\n",
+        name, $1 * 50, $2 * 50, $3 / 1024 }' figures
+}
+
+cp "$top/examples/netpbm_camouflage.ppm" sample.ppm
+measure 'tile 64x64 to 1024x1024' 0 "$weave" grow sample=sample.ppm out=out.ppm map=out.map \
+    record=out.record width=1024 height=1024 place=grid overlap=0
+cat sample.ppm out.ppm out.map >moved
+measure 'cp of the bytes read and written' 0 cp moved copy
+
+# The output's size is refused once the sample is read, so this is the reading alone. With a maxval of 254 a
+# byte can break the form, so each has to be looked at.
+{ printf 'P6\n4096 2048\n254\n'; head -c 25165824 /dev/urandom | LC_ALL=C tr '\377' '\376'; } >great.ppm
+measure 'read 4096x2048' 4 "$weave" grow sample=great.ppm out=out.ppm map=out.map \
+    record=out.record width=4096 height=4096 place=grid overlap=0
+measure 'plain C, reads and checks' 0 ./plain_read great.ppm
+measure 'cp of the bytes read' 0 cp great.ppm copy

@@ -1,0 +1,4 @@
+pub mod Additions
+pub mod Axes
+pub mod Boxes
+pub mod Bounds

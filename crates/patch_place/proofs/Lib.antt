@@ -1,0 +1,4 @@
+pub mod Walking
+pub mod Spans
+pub mod Fitting
+pub mod BoxLists

@@ -1,0 +1,6 @@
+pub mod Draws
+pub mod Axes
+pub mod Lists
+pub mod Modes
+pub mod Counts
+pub mod Fitting

@@ -1,0 +1,24 @@
+//! Where the next patch may be laid over the output, and the draws that choose among such placements.
+//!
+//! `Mode` says how an output is grown. Its contract gives the list of the placements that it allows for
+//! the first unfilled cell (specs/Modes.antt), and says that there is at least one, and that each fits and
+//! covers the cell (specs/Fitting.antt). `Candidates` walks a list by index (specs/Lists.antt), so that no
+//! list of placements is kept. `Draws` gives words of a ChaCha8 stream by their place
+//! (specs/Draws.antt).
+//!
+//! `axis` has what happens along one axis, `candidates` the lists, `mode` the modes and the size of a
+//! window, `draws` the draws, and `laws` what follows from the definitions.
+#![tactic(auto)]
+
+mod axis;
+mod candidates;
+mod draws;
+mod laws;
+mod mode;
+#[cfg(test)]
+mod tests;
+
+pub use candidates::Candidates;
+pub use draws::Draws;
+pub use laws::{box_list_is_all_that_fit, grid_corner_is_least};
+pub use mode::{Mode, window_size};

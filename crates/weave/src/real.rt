@@ -17,7 +17,13 @@ pub struct RealShelf {
 }
 
 impl RealShelf {
-    pub fn new(rt: HostRuntime) -> RealShelf {
+    ghost use Rattle.std.specs.Prelude.{◌≡◌};
+
+    /// The files of the system, with no fault counted.
+    pub fn new(rt: HostRuntime) -> RealShelf
+        ensures reads { result.reads ≡ 0 }
+        ensures writes { result.writes ≡ 0 }
+    {
         RealShelf {
             rt,
             reads: 0,
@@ -106,7 +112,12 @@ pub struct Output {
 }
 
 impl Output {
-    pub fn new(rt: HostRuntime) -> Output {
+    ghost use Rattle.std.specs.Prelude.{◌≡◌};
+
+    /// The standard output, with no fault counted.
+    pub fn new(rt: HostRuntime) -> Output
+        ensures { result.faults ≡ 0 }
+    {
         Output { rt, faults: 0 }
     }
 }
@@ -133,7 +144,12 @@ pub struct ErrorOutput {
 }
 
 impl ErrorOutput {
-    pub fn new(rt: HostRuntime) -> ErrorOutput {
+    ghost use Rattle.std.specs.Prelude.{◌≡◌};
+
+    /// The standard error, with no fault counted.
+    pub fn new(rt: HostRuntime) -> ErrorOutput
+        ensures { result.faults ≡ 0 }
+    {
         ErrorOutput { rt, faults: 0 }
     }
 }

@@ -33,7 +33,7 @@ pub record OnAxis (n : ℕ) (z : ℤ) (c : ℕ) : Type 0 where
 some_same : {A : Type 0} (x y : A) → Some x ≡ Some y → x ≡ y
 some_same x y e = cc
 
-on_axis_is : (n : ℕ) (z : ℤ) (c : ℕ) → on_axis n z ≡ Some c → OnAxis n z c
+pub on_axis_is : (n : ℕ) (z : ℤ) (c : ℕ) → on_axis n z ≡ Some c → OnAxis n z c
 on_axis_is n (pos d) c e = tested (nat_lt d n) refl
   where
     tested : (b : Bool) → nat_lt d n ≡ b → OnAxis n (pos d) c

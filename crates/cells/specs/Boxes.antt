@@ -1,7 +1,9 @@
 -- Boxes inside a size. (Own.)
 use Rattle.std.specs.Prelude.{◌≤◌, ℕ, ℤ, pos, ◌+ℤ◌, ◌≤ℤ◌}
 use Rattle.cells.specs.declared.place.At.{At}
+use Rattle.cells.specs.declared.place.Box3.{Box3}
 use Rattle.cells.specs.declared.place.Size.{Size}
+use Rattle.cells.specs.Places.{IsInside, minus}
 
 -- a run of cells along one axis lies within it
 pub record AxisHolds (n : ℕ) (corner : ℤ) (len : ℕ) : Type 0 where
@@ -19,3 +21,11 @@ pub record HasCells (size : Size) : Type 0 where
   pub w : 1 ≤ size.w
   pub h : 1 ≤ size.h
   pub f : 1 ≤ size.f
+
+-- the place is one of the box's: from its corner on, below its size on each axis
+abbrev pub IsInBox : Box3 → At → Type 0
+IsInBox rect p = IsInside rect.size (minus p rect.corner)
+
+-- each place of the box is inside the size, as each of a box without cells is
+abbrev pub HoldsEach : Size → Box3 → Type 0
+HoldsEach size rect = (p : At) → IsInBox rect p → IsInside size p

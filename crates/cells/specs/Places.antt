@@ -50,6 +50,12 @@ pub record SumFits (p q : At) : Type 0 where
   pub y : FitsSigned w32 (p.y +ℤ q.y)
   pub f : FitsSigned w32 (p.f +ℤ q.f)
 
+-- the differences of the coordinates are
+pub record DifferenceFits (p q : At) : Type 0 where
+  pub x : FitsSigned w32 (p.x -ℤ q.x)
+  pub y : FitsSigned w32 (p.y -ℤ q.y)
+  pub f : FitsSigned w32 (p.f -ℤ q.f)
+
 -- the place of three counts
 abbrev pub spot : ℕ → ℕ → ℕ → At
 spot x y f = record { x = pos x; y = pos y; f = pos f }

@@ -2,14 +2,17 @@
 //! several.
 //!
 //! The contracts see a volume as its size, the number of samples of a cell, and the list of its cells
-//! in raster order (specs/Cells.antt); that it lies in one buffer is told by no clause. `place` has
-//! places and sizes, `volume` the volume.
+//! in raster order (specs/Cells.antt); that it lies in one buffer is told by no clause. The distance of
+//! two cells obeys the triangle inequality (specs/Distances.antt). `place` has places, sizes and boxes,
+//! `volume` the volume, `distance` the distance.
 #![tactic(auto)]
 
+mod distance;
 mod place;
 #[cfg(test)]
 mod tests;
 mod volume;
 
+pub use distance::cell_distance;
 pub use place::{At, Axis, Box3, Size, Taps};
 pub use volume::Volume;

@@ -1,7 +1,9 @@
 // Places, sizes and axes.
-ghost use Rattle.std.specs.Prelude.{◌≡◌, ◌<◌, ◌+ℤ◌, FitsSigned, IfSome};
+ghost use Rattle.std.specs.Prelude.{◌≡◌, ◌<◌, ◌+ℤ◌, ◌-ℤ◌, ◌↔◌, FitsSigned, IfSome, IsSome, IsTrue};
 ghost use Rattle.std.specs.Int.{w32};
-ghost use Rattle.cells.specs.Places.{IsSmall, SumFits, cell_count, index_in, place_of, plus};
+ghost use Rattle.cells.specs.Places.{DifferenceFits, IsSmall, SumFits, cell_count, index_in, minus, on_axis, place_of, plus};
+ghost use Rattle.cells.specs.Neighbours.{unit_step};
+ghost use Rattle.cells.specs.Boxes.{AxisHolds, HasCells, HoldsBox, HoldsEach, IsInBox};
 
 /// A place in a volume: column, row and frame, each counted from 0. Places outside are allowed.
 #[derive(Clone, Copy, Debug, Drop, PartialEq, Eq)]
@@ -22,6 +24,14 @@ fn sum_of(a: i32, b: i32) -> i32
     a + b
 }
 
+// A difference of two coordinates, apart for the same reason.
+fn difference_of(a: i32, b: i32) -> i32
+    requires { FitsSigned w32 (a -ℤ b) }
+    ensures { result ≡ a -ℤ b }
+{
+    a - b
+}
+
 impl At {
     /// The place that is as far from this one as `by` is from the first cell.
     pub fn plus(self, by: At) -> At
@@ -32,6 +42,18 @@ impl At {
             x: sum_of(self.x, by.x),
             y: sum_of(self.y, by.y),
             f: sum_of(self.f, by.f),
+        }
+    }
+
+    /// The place from which this one is as far as `by` is from the first cell.
+    pub fn minus(self, by: At) -> At
+        requires { DifferenceFits self by }
+        ensures { result ≡ minus self by }
+    {
+        At {
+            x: difference_of(self.x, by.x),
+            y: difference_of(self.y, by.y),
+            f: difference_of(self.f, by.f),
         }
     }
 }
@@ -100,6 +122,19 @@ pub enum Axis {
     F,
 }
 
+impl Axis {
+    /// One cell along the axis.
+    pub fn unit(self) -> At
+        ensures { result ≡ unit_step self }
+    {
+        match self {
+            Axis::X => At { x: 1, y: 0, f: 0 },
+            Axis::Y => At { x: 0, y: 1, f: 0 },
+            Axis::F => At { x: 0, y: 0, f: 1 },
+        }
+    }
+}
+
 /// The cells from a corner on, as far as a size goes.
 #[derive(Clone, Copy, Debug, Drop, PartialEq, Eq)]
 pub struct Box3 {
@@ -107,6 +142,63 @@ pub struct Box3 {
     pub corner: At,
     /// How many cells from there on, on each axis.
     pub size: Size,
+}
+
+// How far a coordinate lies behind another.
+fn steps_from(corner: i32, z: i32) -> i64
+    ensures { result ≡ z -ℤ corner }
+{
+    i64::from(z) - i64::from(corner)
+}
+
+// Whether a coordinate lies on a run of cells along one axis.
+fn is_on_run(corner: i32, len: u32, z: i32) -> bool
+    ensures { IsTrue result ↔ IsSome (on_axis len (z -ℤ corner)) }
+{
+    let step = steps_from(corner, z);
+    0 <= step && step < i64::from(len)
+}
+
+// Whether a run of cells along one axis lies within it.
+fn axis_holds(n: u32, corner: i32, len: u32) -> bool
+    ensures { IsTrue result ↔ AxisHolds n corner len }
+{
+    0 <= corner && i64::from(corner) + i64::from(len) <= i64::from(n)
+}
+
+impl Box3 {
+    /// Whether a place is one of the box's.
+    pub fn contains(&self, p: At) -> bool
+        ensures { IsTrue result ↔ IsInBox self.now p }
+    {
+        is_on_run(self.corner.x, self.size.w, p.x)
+            && is_on_run(self.corner.y, self.size.h, p.y)
+            && is_on_run(self.corner.f, self.size.f, p.f)
+    }
+
+    // Whether the box has a cell.
+    fn has_cells(&self) -> bool
+        ensures { IsTrue result ↔ HasCells self.now.size }
+    {
+        self.size.w > 0 && self.size.h > 0 && self.size.f > 0
+    }
+
+    // Whether the box lies inside a size on each axis.
+    fn lies_in(&self, size: Size) -> bool
+        ensures { IsTrue result ↔ HoldsBox size self.now.corner self.now.size }
+    {
+        axis_holds(size.w, self.corner.x, self.size.w)
+            && axis_holds(size.h, self.corner.y, self.size.h)
+            && axis_holds(size.f, self.corner.f, self.size.f)
+    }
+
+    // Whether each place of the box is inside a size.
+    pub(crate) fn is_within(&self, size: Size) -> bool
+        ensures each { IsTrue result ↔ HoldsEach size self.now }
+        ensures fits { HasCells self.now.size → (IsTrue result ↔ HoldsBox size self.now.corner self.now.size) }
+    {
+        !self.has_cells() || self.lies_in(size)
+    }
 }
 
 /// The filter of frame distances, which compares the frames around two frames too (the binomial

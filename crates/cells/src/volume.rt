@@ -1,9 +1,10 @@
 // A volume over one buffer of bytes.
-ghost use Rattle.std.specs.Prelude.{◌≡◌, ◌≤◌, ◌<◌, ◌*◌, ◌+◌, ◌++◌, ◌≤ℤ◌, ◌+ℤ◌, pos, IfOk, IfSome, option_copied, length, take, drop, replicate};
+ghost use Rattle.std.specs.Prelude.{◌≡◌, ◌≤◌, ◌<◌, ◌*◌, ◌+◌, ◌++◌, ◌≤ℤ◌, ◌+ℤ◌, ◌↔◌, pos, IfOk, IfSome, IsTrue, option_copied, length, take, drop, replicate};
 ghost use Rattle.cells.specs.Places.{IsInside, IsSmall, cell_count};
-ghost use Rattle.cells.specs.Cells.{cell_at, put_cell, row_at, blank, volume_of, bytes_of, IsVolume};
+ghost use Rattle.cells.specs.Cells.{cell_at, put_cell, row_at, blank, volume_of, bytes_of, Holds, IsVolume};
+ghost use Rattle.cells.specs.Boxes.{HasCells, HoldsEach};
 
-use crate::{At, Size};
+use crate::{At, Box3, Size};
 use std::alloc::{AllocError, Global};
 use std::marker::Model;
 
@@ -131,10 +132,19 @@ impl Volume {
     pub fn row(&self, at: At, w: u32) -> &[u8]
         requires inside { IsInside self.now.size at }
         requires room { (at.x +ℤ pos w) ≤ℤ pos self.now.size.w }
-        ensures { result.now ≡ row_at self.now at w }
+        ensures bytes { result.now ≡ row_at self.now at w }
+        ensures len { length result.now ≡ self.now.k * w }
     {
         let k = self.k as usize;
         let i = self.size.index_of(at).unwrap();
         piece_of(&self.bytes, k * i, k * w as usize)
+    }
+
+    /// Whether each place of a box is inside the volume. A box without cells has no place that isn't.
+    pub fn holds(&self, rect: &Box3) -> bool
+        ensures each { IsTrue result ↔ HoldsEach self.now.size rect.now }
+        ensures fits { HasCells rect.now.size → (IsTrue result ↔ Holds self.now rect.now.corner rect.now.size) }
+    {
+        rect.is_within(self.size)
     }
 }

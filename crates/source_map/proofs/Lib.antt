@@ -6,3 +6,6 @@ pub mod Pictures
 pub mod Packing
 pub mod MapWriting
 pub mod Writable
+pub mod Marks
+pub mod Keeping
+pub mod Rendering

@@ -3,12 +3,15 @@
 //! A canvas keeps a map beside its picture; the contracts say that the picture is the map's picture
 //! (specs/Canvases.antt), that a choice over a placement leaves the map after it (specs/Choices.antt),
 //! and which bytes the map file has (specs/MapFiles.antt). `map` has the map, `canvas` the canvas and
-//! its placements, `map_file` the writer.
+//! its placements, `kept` the cells that a choice may not change, `rendered` the test of a picture
+//! against a sample, `map_file` the writer.
 #![tactic(auto)]
 
 mod canvas;
+mod kept;
 mod map;
 mod map_file;
+mod rendered;
 #[cfg(test)]
 mod tests;
 

@@ -149,6 +149,107 @@ fn choices_fill_a_canvas(rt: HostRuntime) -> Result<(), Fail> {
     Ok(())
 }
 
+// A canvas of two rows over a sample of one, of 2 samples a cell, with three filled cells.
+fn part_filled(rt: &impl Abort, alloc: Global, sample: &Volume) -> Result<Canvas, AllocError>
+    ensures { IfOk result (λ canvas. Stands canvas sample.now) }
+{
+    let mut canvas = canvas_over(alloc, Size { w: 4, h: 2, f: 1 }, sample)?;
+    put(rt, &mut canvas, sample, (0, 0), 0, &[true, true]);
+    put(rt, &mut canvas, sample, (1, 1), 1, &[true]);
+    Ok(canvas)
+}
+
+#[test]
+fn kept_cells_of_a_box(rt: HostRuntime) -> Result<(), Fail> {
+    let bytes = Vec::from_slice(rt.alloc(), &[10, 11, 20, 21])?;
+    let sample = Volume::from_bytes(Size { w: 2, h: 1, f: 1 }, 2, bytes);
+    let canvas = part_filled(&rt, rt.alloc(), &sample)?;
+    // The box's corner and size, a cell, and whether it is kept: cells (0, 0), (1, 0) and (1, 1) are
+    // filled.
+    let cells = [
+        ((1, 0), (3, 2), (1, 0), true),
+        ((1, 0), (3, 2), (1, 1), false),
+        ((1, 0), (3, 2), (2, 0), false),
+        ((1, 0), (3, 2), (0, 0), false),
+        ((0, 0), (4, 2), (1, 0), false),
+        ((0, 0), (4, 1), (0, 0), false),
+        ((0, 0), (4, 1), (1, 0), true),
+        ((0, 1), (4, 1), (1, 1), true),
+        ((-9, 0), (9, 2), (-1, 0), false),
+    ];
+    for (corner, (w, h), cell, kept) in cells {
+        let rect = Box3 {
+            corner: At {
+                x: corner.0,
+                y: corner.1,
+                f: 0,
+            },
+            size: Size { w, h, f: 1 },
+        };
+        let p = At {
+            x: cell.0,
+            y: cell.1,
+            f: 0,
+        };
+        assert_eq!(rt;
+            canvas.is_kept(&rect, p),
+            kept,
+            "{cell:?} of {w} x {h} at {corner:?}"
+        );
+    }
+    Ok(())
+}
+
+// Asserts the marks of a run of cells.
+fn assert_marks(rt: &impl Abort, canvas: &Canvas, place: (i32, i32), w: u32, marks: &[u8]) {
+    let size = canvas.map().size();
+    let p = At {
+        x: place.0,
+        y: place.1,
+        f: 0,
+    };
+    assert!(rt; size.index_of(p).is_some());
+    assert!(rt; holds_axis(size.w, p.x, w));
+    assert_eq!(rt; canvas.filled_row(p, w), marks);
+}
+
+#[test]
+fn marks_of_filled_cells(rt: HostRuntime) -> Result<(), Fail> {
+    let bytes = Vec::from_slice(rt.alloc(), &[10, 11, 20, 21])?;
+    let sample = Volume::from_bytes(Size { w: 2, h: 1, f: 1 }, 2, bytes);
+    let canvas = part_filled(&rt, rt.alloc(), &sample)?;
+    assert_marks(&rt, &canvas, (0, 0), 4, &[1, 1, 1, 1, 0, 0, 0, 0]);
+    assert_marks(&rt, &canvas, (0, 1), 3, &[0, 0, 1, 1, 0, 0]);
+    assert_marks(&rt, &canvas, (3, 1), 1, &[0, 0]);
+    Ok(())
+}
+
+#[test]
+fn samples_that_a_canvas_stands_over(rt: HostRuntime) -> Result<(), Fail> {
+    let bytes = Vec::from_slice(rt.alloc(), &[10, 11, 20, 21])?;
+    let sample = Volume::from_bytes(Size { w: 2, h: 1, f: 1 }, 2, bytes);
+    let canvas = part_filled(&rt, rt.alloc(), &sample)?;
+    assert!(rt; canvas.render_equals(&sample));
+
+    // A cell that no filled cell names.
+    let bytes = Vec::from_slice(rt.alloc(), &[10, 11, 20, 21, 30, 31])?;
+    let wider = Volume::from_bytes(Size { w: 3, h: 1, f: 1 }, 2, bytes);
+    assert!(rt; canvas.render_equals(&wider));
+
+    let bytes = Vec::from_slice(rt.alloc(), &[10, 11, 20, 22])?;
+    let other = Volume::from_bytes(Size { w: 2, h: 1, f: 1 }, 2, bytes);
+    assert!(rt; !canvas.render_equals(&other));
+
+    let bytes = Vec::from_slice(rt.alloc(), &[10, 11])?;
+    let narrower = Volume::from_bytes(Size { w: 1, h: 1, f: 1 }, 2, bytes);
+    assert!(rt; !canvas.render_equals(&narrower));
+
+    let bytes = Vec::from_slice(rt.alloc(), &[10, 20])?;
+    let grey = Volume::from_bytes(Size { w: 2, h: 1, f: 1 }, 1, bytes);
+    assert!(rt; !canvas.render_equals(&grey));
+    Ok(())
+}
+
 // An output of 3 x 2 cells, each from the one cell of its sample.
 fn filled(rt: &impl Abort, alloc: Global, sample: &Volume) -> Result<Canvas, AllocError>
     ensures { IfOk result (λ canvas. Stands canvas sample.now) }

@@ -1,8 +1,10 @@
-use Rattle.std.proofs.Common.{◌≡◌, ◌<◌, ◌+◌, ◌∙◌, sym, subst, arith, take}
+use Rattle.std.proofs.Common.{◌≡◌, ◌<◌, ◌+◌, ◌∙◌, ap, sym, subst, arith, take}
 use Rattle.std.specs.Prelude.{Some, unwrap_or}
 use Rattle.cells.specs.Places.{index_in, cell_count, place_of}
 use Rattle.cells.proofs.Raster.{has_index, place_at, index_below}
-use Rattle.source_map.specs.Canvases.{CanvasState, IsCanvas, Stands}
+use Rattle.source_map.specs.Canvases.{CanvasState, IsCanvas, Stands, marks_of}
+use Rattle.source_map.specs.Maps.{SourceMap}
+use Rattle.cells.specs.Cells.{Cells}
 use Rattle.source_map.specs.Choices.{IsAfter, Fits, box_cell, box_source}
 use Rattle.source_map.proofs.ChoiceLaws.{after_new, after_old}
 use Rattle.source_map.proofs.Filling.{fits_cell, fits_source, filled_is, filled_stands, filled}
@@ -32,6 +34,7 @@ loop-i-preserved c =
           record {
             canvas = subst IsCanvas (sym now) (filled_is canvas sample p from o so_far.canvas so_far.stands c.requires.sample inside has);
             stands = subst (λ s. Stands s sample) (sym now) (filled_stands canvas sample p from o so_far.canvas so_far.stands c.requires.sample inside has);
+            marks = w.marks-is ∙ w.fill_nth.ensures.marks ∙ ap (λ (v : Cells). marks_of w.fill_nth.new.map v.k) (sym w.picture-is) ∙ ap (λ (m : SourceMap). marks_of m c.if-new.picture.k) (sym w.map-is);
             after = subst (λ (s : CanvasState). IsAfter c.args.map.now placement (take (i + 1) choice) s.map) (sym now)
                 (after_new c.args.map.now c.loop-i.map placement choice i at so_far.after o inside (subst (λ n. o < n) (sym so_far.canvas.map.count) (index_below c.loop-i.map.size p o inside)) w.if-new.true);
           }
@@ -40,6 +43,7 @@ loop-i-preserved c =
           record {
             canvas = subst IsCanvas (sym now) so_far.canvas;
             stands = subst (λ s. Stands s sample) (sym now) so_far.stands;
+            marks = w.marks-is ∙ so_far.marks ∙ ap (λ (v : Cells). marks_of c.loop-i.map v.k) (sym w.picture-is) ∙ ap (λ (m : SourceMap). marks_of m c.if-new.picture.k) (sym w.map-is);
             after = subst (λ (s : CanvasState). IsAfter c.args.map.now placement (take (i + 1) choice) s.map) (sym now) (after_old c.args.map.now c.loop-i.map placement choice i at so_far.after w.if-new.false);
           }
     ]

@@ -13,10 +13,13 @@ piece_of-requires c =
     subst (λ bytes. c.self.inside.k * c.unwrap-i.result + c.self.inside.k * c.args.w ≤ length bytes) (sym c.deref.ensures.value)
     (fits_run c.self.inside.size c.self.inside.k c.self.inside.bytes.items c.unwrap-i.result c.args.w c.self.invariant (run_below c.self.inside.size c.args.at c.unwrap-i.result c.args.w at room))
 
-pub returns : goal.returns
-returns c =
+pub returns-clause-bytes : goal.returns-clause-bytes
+returns-clause-bytes c =
     let at : index_in c.self.inside.size c.args.at ≡ Some c.unwrap-i.result = sym c.index_of.ensures.index ∙ c.unwrap-i.ensures in
     let room : (c.args.at.x +ℤ pos c.args.w) ≤ℤ pos c.self.inside.size.w = subst (λ (v : Cells). (c.args.at.x +ℤ pos c.args.w) ≤ℤ pos v.size.w) (sym c.self.view_is) c.requires.room in
     c.piece_of.ensures.piece ∙ ap (λ bytes. take (c.self.inside.k * c.args.w) (drop (c.self.inside.k * c.unwrap-i.result) bytes)) c.deref.ensures.value
     ∙ row_of c.self.inside.size c.self.inside.k c.self.inside.bytes.items c.args.at c.unwrap-i.result c.args.w c.self.invariant at (run_below c.self.inside.size c.args.at c.unwrap-i.result c.args.w at room)
     ∙ ap (λ (v : Cells). row_at v c.args.at c.args.w) c.self.view_is
+
+pub returns-clause-len : goal.returns-clause-len
+returns-clause-len c = c.piece_of.ensures.len ∙ ap (λ (v : Cells). v.k * c.args.w) c.self.view_is

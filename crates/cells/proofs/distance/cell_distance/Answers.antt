@@ -1,0 +1,20 @@
+use Rattle.std.proofs.Common.{◌≡◌, ◌∙◌, arith}
+use Rattle.cells.specs.Distances.{distance, distance_of}
+use Rattle.cells.proofs.DistanceLaws.{distance_bound, distance_laws}
+use Rattle.cells.proofs.distance.cell_distance.Goals as goal
+
+pub returns-in-Some-Some-clause-bound : goal.returns-in-Some-Some-clause-bound
+returns-in-Some-Some-clause-bound c =
+    let v = c.args.v.now in
+    let whole : c.difference.result ≡ distance v c.args.a c.args.b =
+    c.difference.ensures ∙ (λ i. distance_of v.k (c.in-Some-Some.ensures.bytes i) (c.in-Some-Some.ensures'.bytes i)) in
+    omega (arith, whole, distance_bound v c.samples-k.ensures.volume c.args.a c.args.b)
+
+pub returns-in-Some-Some-clause-laws : goal.returns-in-Some-Some-clause-laws
+returns-in-Some-Some-clause-laws c = distance_laws c.args.v.now c.samples-k.ensures.volume
+
+pub returns-in-None-None-clause-laws : goal.returns-in-None-None-clause-laws
+returns-in-None-None-clause-laws c = distance_laws c.args.v.now c.samples-k.ensures.volume
+
+pub returns-in_default-clause-laws : goal.returns-in_default-clause-laws
+returns-in_default-clause-laws c = distance_laws c.args.v.now c.samples-k.ensures.volume

@@ -1,0 +1,16 @@
+//! Seam costs: what it costs that two neighbours of the output come from cells of the sample that
+//! aren't neighbours there, and which choices between old and new cost the least.
+//!
+//! specs/Costs.antt defines the cost of two neighbours, the total of a map, the window sum of a box and
+//! the worst window, for any distance of sample places; specs/Lawful.antt kept and free cells, lawful
+//! choices and least ones, by totals alone. The calls of this crate give the costs of those definitions,
+//! with the distance of cells.
+#![tactic(auto)]
+
+mod pairs;
+mod sums;
+#[cfg(test)]
+mod tests;
+
+pub use pairs::pair_cost;
+pub use sums::{total, window};

@@ -15,7 +15,6 @@
 
 mod check;
 mod fault;
-mod items;
 mod product;
 mod record;
 mod rules;

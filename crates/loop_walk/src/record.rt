@@ -5,11 +5,11 @@ ghost use Rattle.loop_walk.specs.Tables.{AreTight, entry_at, table_count};
 ghost use Rattle.loop_walk.specs.Records.{Stands};
 ghost use Rattle.loop_walk.specs.Products.{AreFilled, FindsLeast, GoesRound, HoldsTables, IsStepTable};
 
-use crate::items::Items;
 use crate::product::NONE;
 use crate::tables::{fill_tables, step_table, table_count, table_in};
 use crate::trace::add_way;
 use frame_distance::StepCosts;
+use items::Items;
 use std::alloc::{AllocError, Global};
 
 /// A closed walk, and the tables that show that it is least.

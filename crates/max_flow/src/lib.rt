@@ -14,7 +14,6 @@
 
 mod blocking;
 mod graph;
-mod items;
 mod levels;
 mod network;
 mod paths;

@@ -11,9 +11,9 @@ ghost use Rattle.max_flow.specs.Workspaces.{IsReady};
 
 use crate::blocking::blocking_flow;
 use crate::graph::{Graph, link};
-use crate::items::Items;
 use crate::levels::find_levels;
 use crate::network::{Network, Pipe};
+use items::Items;
 use std::alloc::{AllocError, Global};
 
 /// A flow of greatest value, and the least cut with the fewest nodes on the source's side.

@@ -4,3 +4,4 @@ pub mod Lists
 pub mod Modes
 pub mod Counts
 pub mod Fitting
+pub mod Picks

@@ -3,10 +3,10 @@ ghost use Rattle.std.specs.Prelude.{IfOk, List, ◌≡◌};
 ghost use Rattle.quilt.specs.Boundaries.{IsBoundary, IsLeast, IsFirstLeast};
 ghost use Rattle.quilt.specs.Records.{Stands, AreTight};
 
-use crate::items::Items;
 use crate::strip::Strip;
 use crate::sums::running_sums;
 use crate::trace::trace_back;
+use items::Items;
 use std::alloc::{AllocError, Global};
 
 /// A boundary through a strip, and the sums that show that it is least.

@@ -15,7 +15,6 @@
 
 mod boundary;
 mod check;
-mod items;
 mod laws;
 mod strip;
 mod sums;

@@ -1,3 +1,5 @@
 pub mod Places
 pub mod Costs
 pub mod Lawful
+pub mod Pairs
+pub mod Tables

@@ -1,8 +1,11 @@
-//! A list that a contract sees as the list of its items.
+//! A list as a field of a public record: whoever reads a contract sees the list of its items, and no
+//! capacity or pointer. Making one keeps the vector that it is made from, and reading one lends it, so
+//! neither takes memory.
+#![tactic(auto)]
 
 use std::marker::Model;
 
-/// A list of values, as the fields of a [`Solved`](crate::Solved) hold it.
+/// A list that is made once and then read.
 #[derive(Debug, Drop)]
 pub struct Items<T> {
     items: Vec<T>,
@@ -22,14 +25,14 @@ impl<T> Model for Items<T> {
 impl<T> Items<T> {
     ghost use Rattle.std.specs.Prelude.{◌≡◌};
 
-    /// Makes the list of a vector's items, without copying them.
+    /// The list of these items, in their order. It takes no memory.
     pub fn from_vec(items: Vec<T>) -> Self
         ensures { result ≡ items.items }
     {
         Items { items }
     }
 
-    /// Lends the items.
+    /// The items, in order. It takes no memory.
     pub fn as_slice(&self) -> &[T]
         ensures { result.now ≡ self.now }
     {

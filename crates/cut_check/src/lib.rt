@@ -1,0 +1,7 @@
+//! The checker of cuts: whether the record of a placement shows that its choice between old and new
+//! costs the least.
+#![tactic(auto)]
+
+mod record;
+
+pub use record::{CutFault, CutRecord, Flow};

@@ -1,0 +1,40 @@
+-- Overlap errors: how far the cells of a placement are from what stands there already. (Kwatra et al. 2003 and
+-- Efros and Freeman 2001 compare overlapping patches by the sum of squared differences; the count beside it,
+-- and the tolerance in hundredths, are own.)
+use Rattle.std.specs.Prelude.{◌+◌, ◌*◌, ℕ, Bool, Option, Some, None, nat_le}
+use Rattle.cells.specs.declared.place.At.{At}
+use Rattle.cells.specs.Places.{plus, spot}
+use Rattle.cells.specs.Cells.{Cells}
+use Rattle.box_sums.specs.Sums.{sum_box}
+use Rattle.lane_kernels.specs.Sums.{sum_of_squared_differences}
+use Rattle.source_map.specs.declared.canvas.Placement.{Placement}
+use Rattle.source_map.specs.Maps.{SourceMap, map_at, sample_cell}
+use Rattle.source_map.specs.Choices.{new_source}
+use Rattle.match_error.specs.declared.error.Error.{Error}
+
+-- the squared difference of a cell's source and another place of the sample; nothing of an unfilled cell
+abbrev pub cell_error : Cells → Option At → At → ℕ
+cell_error sample None new = 0
+cell_error sample (Some from) new = sum_of_squared_differences (sample_cell sample (Some from)) (sample_cell sample (Some new))
+
+-- 1 for a filled cell
+abbrev pub one_filled : Option At → ℕ
+one_filled None = 0
+one_filled (Some from) = 1
+
+-- the sum over the filled cells of the box of the squared differences from their new sources
+abbrev pub error_sum : SourceMap → Cells → Placement → ℕ
+error_sum m sample placement =
+    sum_box placement.rect.size (λ x y f. cell_error sample (map_at m (plus placement.rect.corner (spot x y f))) (new_source placement (plus placement.rect.corner (spot x y f))))
+
+-- how many cells of the box are filled
+abbrev pub filled_count : SourceMap → Placement → ℕ
+filled_count m placement = sum_box placement.rect.size (λ x y f. one_filled (map_at m (plus placement.rect.corner (spot x y f))))
+
+-- the overlap error of a placement
+abbrev pub error_of : SourceMap → Cells → Placement → Error
+error_of m sample placement = record { sum = error_sum m sample placement; count = filled_count m placement }
+
+-- the error per filled cell is at most that of another and so many hundredths of it
+abbrev pub is_within : ℕ → Error → Error → Bool
+is_within tol best other = nat_le (other.sum * best.count * 100) (best.sum * other.count * (100 + tol))

@@ -1,6 +1,6 @@
 -- Cut records: a placement, a choice, and a flow that shows that the choice is least. (Own, from the cuts of
 -- Kwatra et al. 2003; that a flow bounds every cut is Ford and Fulkerson 1956.)
-use Rattle.std.specs.Prelude.{◌≡◌, ◌≤◌, ◌<◌, ◌⊎◌, ℕ, ℤ, pos, Bool, true, false, List, Option, Some, None, slice_index_or}
+use Rattle.std.specs.Prelude.{◌≡◌, ◌≤◌, ◌<◌, ◌⊎◌, ℕ, ℤ, pos, Bool, true, false, List, [], length, Option, Some, None, slice_index_or}
 use Rattle.cells.specs.declared.place.At.{At}
 use Rattle.cells.specs.declared.place.Size.{Size}
 use Rattle.cells.specs.declared.place.Axis.{Axis}
@@ -11,7 +11,7 @@ use Rattle.source_map.specs.declared.canvas.Placement.{Placement}
 use Rattle.source_map.specs.Maps.{SourceMap, map_at}
 use Rattle.source_map.specs.Choices.{Fits, box_cell}
 use Rattle.box_sums.specs.Sums.{signed_sum_box}
-use Rattle.seam_cost.specs.Lawful.{IsFree, StaysOld, window_after}
+use Rattle.seam_cost.specs.Lawful.{AreHeld, IsFree, StaysOld, window_after}
 use Rattle.seam_cost.specs.Pairs.{AreCounts, at_index, cell_in, has_next, pair_count, pair_number}
 use Rattle.cut_check.specs.declared.record.Flow.{Flow}
 use Rattle.cut_check.specs.declared.record.CutRecord.{CutRecord}
@@ -23,6 +23,16 @@ pub record Setting : Type 0 where
   pub map : SourceMap
   pub sample : Cells
   pub held : List Bool
+
+-- the marks of an optional list, which stand for no held cell where it is missing
+abbrev pub marks_of : Option (List Bool) → List Bool
+marks_of None = []
+marks_of (Some held) = held
+
+-- there is a mark for each cell of the box, and a marked cell is filled
+pub record AreMarks (m : SourceMap) (placement : Placement) (held : List Bool) : Type 0 where
+  pub count : length held ≡ cell_count placement.rect.size
+  pub filled : AreHeld m placement held
 
 -- what the choice of a record says of the cell at an index
 abbrev pub choice_at : CutRecord → ℕ → Bool

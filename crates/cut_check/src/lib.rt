@@ -2,6 +2,8 @@
 //! costs the least.
 #![tactic(auto)]
 
+mod check;
 mod record;
 
+pub use check::{check_cut, check_held};
 pub use record::{CutFault, CutRecord, Flow};

@@ -24,16 +24,6 @@ pub record Setting : Type 0 where
   pub sample : Cells
   pub held : List Bool
 
--- the marks of an optional list, which stand for no held cell where it is missing
-abbrev pub marks_of : Option (List Bool) → List Bool
-marks_of None = []
-marks_of (Some held) = held
-
--- there is a mark for each cell of the box, and a marked cell is filled
-pub record AreMarks (m : SourceMap) (placement : Placement) (held : List Bool) : Type 0 where
-  pub count : length held ≡ cell_count placement.rect.size
-  pub filled : AreHeld m placement held
-
 -- what the choice of a record says of the cell at an index
 abbrev pub choice_at : CutRecord → ℕ → Bool
 choice_at cut i = slice_index_or cut.choice i false

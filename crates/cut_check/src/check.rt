@@ -4,9 +4,9 @@ ghost use Rattle.cells.specs.Boxes.{HasCells};
 ghost use Rattle.cells.specs.Distances.{distance};
 ghost use Rattle.cells.specs.Places.{cell_count};
 ghost use Rattle.source_map.specs.Canvases.{Stands as StandsOver};
-ghost use Rattle.seam_cost.specs.Lawful.{IsLeast, IsLeastHeld};
+ghost use Rattle.seam_cost.specs.Lawful.{AreMarks, IsLeast, IsLeastHeld, marks_of};
 ghost use Rattle.seam_cost.specs.Pairs.{pair_count};
-ghost use Rattle.cut_check.specs.Records.{AreMarks, IsFirstFault, Stands, marks_of};
+ghost use Rattle.cut_check.specs.Records.{IsFirstFault, Stands};
 
 use crate::record::{CutFault, CutRecord};
 use cells::Volume;

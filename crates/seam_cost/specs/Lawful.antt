@@ -1,8 +1,9 @@
 -- Which choices between old and new are lawful, and which of them cost the least. (Kwatra et al. 2003, who
 -- hold the old pixels at the border of a patch; cells that are held beside those are own.)
-use Rattle.std.specs.Prelude.{◌≡◌, ◌≤◌, ◌+◌, ◌⊎◌, ℕ, Bool, true, false, List, None}
+use Rattle.std.specs.Prelude.{◌≡◌, ◌≤◌, ◌+◌, ◌⊎◌, ℕ, Bool, true, false, List, [], length, Option, Some, None}
 use Rattle.cells.specs.declared.place.At.{At}
 use Rattle.cells.specs.Boxes.{IsInBox}
+use Rattle.cells.specs.Places.{cell_count}
 use Rattle.source_map.specs.declared.canvas.Placement.{Placement}
 use Rattle.source_map.specs.Maps.{SourceMap, IsFilled, map_at}
 use Rattle.source_map.specs.Choices.{after_at, box_index, chosen}
@@ -30,6 +31,16 @@ pub record IsFree (m : SourceMap) (placement : Placement) (held : List Bool) (p 
 -- held cells are filled
 abbrev pub AreHeld : SourceMap → Placement → List Bool → Type 0
 AreHeld m placement held = (p : At) → is_held placement held p ≡ true → IsFilled m p
+
+-- the marks of an optional list, which stand for no held cell where it is missing
+abbrev pub marks_of : Option (List Bool) → List Bool
+marks_of None = []
+marks_of (Some held) = held
+
+-- there is a mark for each cell of the box, and a marked cell is filled
+pub record AreMarks (m : SourceMap) (placement : Placement) (held : List Bool) : Type 0 where
+  pub count : length held ≡ cell_count placement.rect.size
+  pub filled : AreHeld m placement held
 
 -- each unfilled cell of the box is new, and no kept cell
 pub record IsLawful (m : SourceMap) (placement : Placement) (choice : List Bool) : Type 0 where

@@ -1,0 +1,9 @@
+//! The network of a placement: its cuts are the choices between old and new, and the least capacity of a
+//! choice is its cost.
+#![tactic(auto)]
+
+mod network;
+mod places;
+
+pub use network::{build, build_held};
+pub use places::Places;

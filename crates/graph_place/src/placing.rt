@@ -1,0 +1,47 @@
+// Placements that are put in.
+ghost use Rattle.std.specs.Prelude.{◌≡◌, IfSome, OnErr, OnOk, IfOk, option_copied, []};
+ghost use Rattle.source_map.specs.Canvases.{Stands};
+ghost use Rattle.source_map.specs.Choices.{Fits};
+ghost use Rattle.seam_cost.specs.Lawful.{AreMarks, marks_of};
+ghost use Rattle.graph_place.specs.Placed.{IsPlaced};
+
+use cells::Volume;
+use cut_check::CutRecord;
+use source_map::{Canvas, Placement};
+use std::alloc::{AllocError, Global};
+
+/// Puts a placement in, with cells of its box that are held old too: of the lawful choices without a held cell the
+/// one that leaves the least total seam cost, and of these the one with the fewest old cells. `held` has a
+/// mark for each cell of the box, in raster order, or is missing where none is held. Gives the record, which
+/// `check_held` accepts over the canvas as it was. The one error is want of memory, which leaves the canvas
+/// as it was. The method is that of Kwatra et al. (2003).
+pub fn place_held(
+    alloc: Global,
+    canvas: &mut Canvas,
+    sample: &Volume,
+    placement: Placement,
+    held: Option<&[bool]>,
+) -> Result<CutRecord, AllocError>
+    requires over { Stands canvas.old sample.now }
+    requires fits { Fits canvas.old.map.size sample.now placement }
+    requires held { IfSome (option_copied held) (AreMarks canvas.old.map placement) }
+    ensures placed { IfOk result (IsPlaced canvas.old sample.now placement (marks_of (option_copied held.entry)) canvas.new) }
+    ensures kept { OnErr result (canvas.new ≡ canvas.old) }
+{
+    Err(AllocError)
+}
+
+/// The same with no cell held.
+pub fn place(
+    alloc: Global,
+    canvas: &mut Canvas,
+    sample: &Volume,
+    placement: Placement,
+) -> Result<CutRecord, AllocError>
+    requires over { Stands canvas.old sample.now }
+    requires fits { Fits canvas.old.map.size sample.now placement }
+    ensures placed { IfOk result (IsPlaced canvas.old sample.now placement [] canvas.new) }
+    ensures kept { OnErr result (canvas.new ≡ canvas.old) }
+{
+    place_held(alloc, canvas, sample, placement, None)
+}

@@ -1,2 +1,5 @@
 pub mod Near
 pub mod Wholes
+pub mod Boxes
+pub mod Locality
+pub mod Existence

@@ -4,13 +4,15 @@
 //! specs/Costs.antt defines the cost of two neighbours, the total of a map, the window sum of a box and
 //! the worst window, for any distance of sample places; specs/Lawful.antt kept and free cells, lawful
 //! choices and least ones, by totals alone. The calls of this crate give the costs of those definitions,
-//! with the distance of cells.
+//! with the distance of cells; `laws` has what follows from the definitions.
 #![tactic(auto)]
 
+mod laws;
 mod pairs;
 mod sums;
 #[cfg(test)]
 mod tests;
 
+pub use laws::{choices_change_the_total_as_their_window, some_choice_is_lawful};
 pub use pairs::pair_cost;
 pub use sums::{total, window};

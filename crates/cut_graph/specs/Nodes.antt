@@ -60,6 +60,7 @@ pub record StandsForSeam (m : SourceMap) (placement : Placement) (places : Place
 
 -- the nodes of cells and seams: the ends for what can't be chosen, and a node of its own for each free cell and each seam
 pub record AreNodes (m : SourceMap) (placement : Placement) (held : List Bool) (places : Places) (nodes : ℕ) : Type 0 where
+  pub ends : 2 ≤ nodes
   pub cell_nodes : length places.cell_nodes ≡ cell_count placement.rect.size
   pub seam_nodes : length places.seam_nodes ≡ pair_count placement.rect.size
   pub old : (x y f : ℕ) → AreCounts placement.rect.size x y f → StaysOld m placement held (cell_in placement.rect x y f)

@@ -14,6 +14,14 @@ index_parts n x y lt = (ap (λ i. i % n) turned ∙ mod-mul-add y n x lt, ap (λ
     turned : x + n * y ≡ y * n + x
     turned = omega (arith, mul_comm n y)
 
+-- a term by the three counts of an index is that of the counts
+pub at_counts : {A : Type 0} (size : Size) (g : ℕ → ℕ → ℕ → A) (x y f : ℕ) → x < size.w → y < size.h
+    → let i = x + size.w * (y + size.h * f) in g (i % size.w) (i / size.w % size.h) (i / size.w / size.h) ≡ g x y f
+at_counts size g x y f lx ly =
+    let row = index_parts size.w x (y + size.h * f) lx in
+    let frame = index_parts size.h y f ly in
+    λ k. g (row.0 k) ((ap (λ j. j % size.h) row.1 ∙ frame.0) k) ((ap (λ j. j / size.h) row.1 ∙ frame.1) k)
+
 -- a relation that two additions keep holds of two sums if it holds of their terms
 pub box_related : {A B : Type 0} (add : Addition A) (add' : Addition B) (Related : A → B → Type 0)
     → Related add.none add'.none → ((a c : A) (b d : B) → Related a b → Related c d → Related (add.plus a c) (add'.plus b d))
@@ -122,11 +130,4 @@ module _ {A : Type 0} (add : Addition A) where
   -- the same for terms by the three counts of an index
   pub box_counts : (size : Size) (g : ℕ → ℕ → ℕ → A)
       → sum_of add (cell_count size) (λ i. g (i % size.w) (i / size.w % size.h) (i / size.w / size.h)) ≡ sum_over add size g
-  box_counts size g = box_raster size _ ∙ box_equal size _ g (λ x y f lx ly lf. at x y f lx ly)
-    where
-      at : (x y f : ℕ) → x < size.w → y < size.h
-          → let i = x + size.w * (y + size.h * f) in g (i % size.w) (i / size.w % size.h) (i / size.w / size.h) ≡ g x y f
-      at x y f lx ly =
-          let row = index_parts size.w x (y + size.h * f) lx in
-          let frame = index_parts size.h y f ly in
-          λ k. g (row.0 k) ((ap (λ j. j % size.h) row.1 ∙ frame.0) k) ((ap (λ j. j / size.h) row.1 ∙ frame.1) k)
+  box_counts size g = box_raster size _ ∙ box_equal size _ g (λ x y f lx ly lf. at_counts size g x y f lx ly)

@@ -44,7 +44,7 @@ abbrev pub pipes_along : (At → At → ℕ) → SourceMap → Placement → Pla
 pipes_along d m placement places axis x y f =
     if has_next placement.rect.size axis x y f
     then pipes_between d m placement axis (cell_in placement.rect x y f) (plus (cell_in placement.rect x y f) (unit_step axis))
-        (cell_node places placement.rect.size x y f) (next_node places placement.rect.size axis x y f) (seam_node places placement.rect.size axis x y f)
+    (cell_node places placement.rect.size x y f) (next_node places placement.rect.size axis x y f) (seam_node places placement.rect.size axis x y f)
     else []
 
 -- those of a cell and the ones behind it along X, Y and F

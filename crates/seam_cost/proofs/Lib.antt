@@ -3,3 +3,4 @@ pub mod Wholes
 pub mod Boxes
 pub mod Locality
 pub mod Existence
+pub mod Windows

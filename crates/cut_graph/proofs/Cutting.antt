@@ -109,8 +109,8 @@ module _ (d : At → At → ℕ) (m : SourceMap) (placement : Placement) (held :
 
   -- a cell that has to stay old isn't new in an open choice
   stays_old : (choice : List Bool) → IsOpen m placement held choice → (p : At) → StaysOld m placement held p → is_new placement choice p ≡ false
-  stays_old choice open' p (inl kept) = open'.lawful.kept p kept
-  stays_old choice open' p (inr mark) = open'.held_old p mark
+  stays_old choice opened p (inl kept) = opened.lawful.kept p kept
+  stays_old choice opened p (inr mark) = opened.held_old p mark
 
   -- any cut is a choice
   module _ (sides choice : List Bool) (cut : IsCut network sides) (agree : Agree placement places sides choice) where
@@ -150,7 +150,7 @@ module _ (d : At → At → ℕ) (m : SourceMap) (placement : Placement) (held :
     seam : (axis : Axis) (x y f : ℕ) → HasSeam m placement axis x y f → seam_node places placement.rect.size axis x y f ≡ n
         → side ≡ not (is_new placement choice (cell_in placement.rect x y f)) && not (is_new placement choice (plus (cell_in placement.rect x y f) (unit_step axis)))
 
-  module _ (choice : List Bool) (is_open' : IsOpen m placement held choice) where
+  module _ (choice : List Bool) (opened : IsOpen m placement held choice) where
     -- nodes are told apart by what they stand for
     of_free : (n : ℕ) → StandsForCell m placement held places n → IsInner network.nodes n → (side : Bool) × IsSideOf choice n side
     of_free n stands inner = (
@@ -235,12 +235,12 @@ module _ (d : At → At → ℕ) (m : SourceMap) (placement : Placement) (held :
         first filled e true new =
             let is : IsFreeAt m placement held x y f = record {
               counts = at;
-              free = record { inside = cell_inside placement.rect x y f at; filled = filled; free = λ stays. absurd (false≢true (sym (stays_old choice is_open' _ stays) ∙ new)) };
+              free = record { inside = cell_inside placement.rect x y f at; filled = filled; free = λ stays. absurd (false≢true (sym (stays_old choice opened _ stays) ∙ new)) };
             } in
             absurd (omega (arith, (of.nodes.free x y f is).above))
 
         by : (a : Option At) → map_at m (cell_in placement.rect x y f) ≡ a → is_new placement choice (cell_in placement.rect x y f) ≡ not (is_in cut_sides (cell_node places placement.rect.size x y f))
-        by None e = is_open'.lawful.unfilled _ (cell_inside placement.rect x y f at) e ∙ sym (ap not (ap (is_in cut_sides) (of.nodes.unfilled x y f at e) ∙ second_side))
+        by None e = opened.lawful.unfilled _ (cell_inside placement.rect x y f at) e ∙ sym (ap not (ap (is_in cut_sides) (of.nodes.unfilled x y f at e) ∙ second_side))
         by (Some a) e =
             ⊎_elim (λ is. first (ap is_some e) is _ refl ∙ sym (ap not (ap (is_in cut_sides) is ∙ first_side)))
             (λ other. free (record {
@@ -270,5 +270,5 @@ pub choices_are_cuts : (d : At → At → ℕ) → IsPseudometric d → (m : Sou
     → IsNetworkOf d m placement held network places → ChoicesAreCuts d m placement held network places
 choices_are_cuts d is m placement held network places of = record {
   choices = λ sides choice cut agree. (is_open d m placement held network places of sides choice cut agree, window_below d m placement held network places of sides choice cut agree is);
-  cuts = λ choice is_open'. has_cut d m placement held network places of choice is_open' is;
+  cuts = λ choice opened. has_cut d m placement held network places of choice opened is;
 }

@@ -1,9 +1,9 @@
 -- Sums over a list that is made part by part, and where its parts stand in it.
-use Rattle.std.proofs.Common.{◌≡◌, ℕ, zero, suc, ◌+◌, ◌*◌, ◌<◌, ◌≤◌, refl, ap, sym, ◌∙◌, subst, arith, ⊎_elim, Bool, List, [], ◌∷◌, ◌++◌, length, get_or, drop, length-append, drop-drop}
+use Rattle.std.proofs.Common.{◌≡◌, ℕ, zero, suc, ◌+◌, ◌*◌, ◌<◌, ◌≤◌, refl, ap, sym, ◌∙◌, subst, arith, ⊎_elim, Bool, List, [], ◌∷◌, ◌++◌, length, get_or, drop, length-append, drop-drop, drop-cons}
 use Rattle.std.proofs.lemmas.Int.{ints}
 use Rattle.std.proofs.lemmas.List.{get_or_append_left, get_or-append-add}
 use Rattle.std.proofs.lemmas.Bool.{cases_eq}
-use Rattle.std.specs.Prelude.{ℤ, pos, ◌+ℤ◌}
+use Rattle.std.specs.Prelude.{ℤ, pos, ◌+ℤ◌, ◌-ℤ◌}
 use Rattle.cells.specs.declared.place.At.{At}
 use Rattle.cells.specs.declared.place.Axis.{Axis}
 use Rattle.cells.specs.declared.place.Axis.TheVariants.{X, Y, F}
@@ -11,11 +11,13 @@ use Rattle.cells.specs.Places.{cell_count}
 use Rattle.cells.proofs.Raster.{in_rows}
 use Rattle.source_map.specs.declared.canvas.Placement.{Placement}
 use Rattle.source_map.specs.Maps.{SourceMap}
-use Rattle.box_sums.specs.Sums.{signed_sum_box, sum_box}
+use Rattle.box_sums.specs.Sums.{signed_sum_box, signed_sum_to, sum_box}
 use Rattle.box_sums.proofs.Additions.{Addition, counts, integers, sum_of, sum_over}
+use Rattle.box_sums.proofs.Axes.{sum_equal, sum_first}
 use Rattle.box_sums.proofs.Boxes.{at_counts, box_equal, box_raster}
 use Rattle.max_flow.specs.declared.network.Pipe.{Pipe}
-use Rattle.max_flow.specs.Flows.{capacity_out, net_leaving}
+use Rattle.max_flow.specs.Networks.{FlowNetwork, no_pipe, pipe_at}
+use Rattle.max_flow.specs.Flows.{FitsPipe, IsFlow, capacity_out, flow_at, net_leaving, part_if}
 use Rattle.seam_cost.specs.Pairs.{AreCounts, at_index}
 use Rattle.cut_graph.specs.declared.places.Places.{Places}
 use Rattle.cut_graph.specs.Pipes.{first_pipe, joined, pipes_along, pipes_from, pipes_of}
@@ -149,3 +151,31 @@ module _ (d : At → At → ℕ) (m : SourceMap) (placement : Placement) (places
   pub leaving_of_pairs : (flows : List ℤ) → net_leaving side (pipes_of d m placement places) flows
       ≡ signed_sum_box placement.rect.size (λ x y f. (pair_leaving flows X x y f +ℤ pair_leaving flows Y x y f) +ℤ pair_leaving flows F x y f)
   leaving_of_pairs flows = sum_pipes d m placement places integers (λ pipes o. net_leaving side pipes (drop o flows)) (leaving_additive side flows)
+
+-- what leaves a set of nodes along one pipe
+abbrev pub pipe_leaving : (ℕ → Bool) → Pipe → ℤ → ℤ
+pipe_leaving side pipe flow = part_if (side pipe.from) flow -ℤ part_if (side pipe.to) flow
+
+-- what leaves along pipes whose flows begin at a place of a list of flows, pipe by pipe
+pub leaving_by_pipe : (side : ℕ → Bool) (pipes : List Pipe) (flows : List ℤ) (o : ℕ) → o + length pipes ≤ length flows
+    → net_leaving side pipes (drop o flows) ≡ signed_sum_to (length pipes) (λ k. pipe_leaving side (pipe_at pipes k) (flow_at flows (o + k)))
+leaving_by_pipe side [] flows o fits = refl
+leaving_by_pipe side (p ∷ ps) flows o fits =
+    ap (net_leaving side (p ∷ ps)) (drop-cons flows o (pos 0) (omega arith))
+    ∙ (λ k. pipe_leaving side p (flow_at flows (first k)) +ℤ (leaving_by_pipe side ps flows (suc o) (omega arith) ∙ sum_equal integers (length ps) _ _ (λ i lt. ap (λ j. pipe_leaving side (pipe_at ps i) (flow_at flows j)) (next i))) k)
+    ∙ sym (sum_first integers (length ps) _)
+  where
+    first : o ≡ o + 0
+    first = omega arith
+
+    next : (i : ℕ) → suc o + i ≡ o + suc i
+    next i = omega arith
+
+-- the flow of each pipe of a pair fits the pipe
+pub pair_fits : (d : At → At → ℕ) (m : SourceMap) (placement : Placement) (places : Places) (network : FlowNetwork) (flows : List ℤ)
+    → network.pipes ≡ pipes_of d m placement places → IsFlow network flows → (axis : Axis) (x y f k : ℕ) → AreCounts placement.rect.size x y f → k < length (pipes_along d m placement places axis x y f)
+    → FitsPipe (pipe_at (pipes_along d m placement places axis x y f) k) (flow_at flows (first_pipe d m placement places axis x y f + k))
+pair_fits d m placement places network flows same flow axis x y f k at lt =
+    let stands = pair_stands d m placement places axis x y f at in
+    subst (λ p. FitsPipe p (flow_at flows (first_pipe d m placement places axis x y f + k))) (ap (λ ps. pipe_at ps (first_pipe d m placement places axis x y f + k)) same ∙ stands.same k no_pipe lt)
+    (flow.fits (first_pipe d m placement places axis x y f + k) (omega (arith, stands.fits, ap length same)))

@@ -1,0 +1,4 @@
+pub mod BoxPairs
+pub mod Leaving
+pub mod Duality
+pub mod Least

@@ -3,7 +3,9 @@
 #![tactic(auto)]
 
 mod check;
+mod laws;
 mod record;
 
 pub use check::{check_cut, check_held};
+pub use laws::choice_of_a_record_is_least;
 pub use record::{CutFault, CutRecord, Flow};

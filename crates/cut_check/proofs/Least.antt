@@ -10,11 +10,11 @@ use Rattle.cells.specs.Distances.{distance}
 use Rattle.source_map.specs.declared.canvas.Placement.{Placement}
 use Rattle.source_map.specs.Maps.{SourceMap, map_at}
 use Rattle.source_map.specs.Choices.{box_index, chosen}
-use Rattle.seam_cost.specs.Lawful.{AreHeld, IsLawful, IsLeast, IsLeastHeld, LeavesHeld, StaysOld, is_held, total_after}
+use Rattle.seam_cost.specs.Lawful.{AreHeld, AreMarks, IsLawful, IsLeast, IsLeastHeld, LeavesHeld, StaysOld, is_held, marks_of, total_after}
 use Rattle.seam_cost.proofs.Existence.{index_of_cell, new_inside}
 use Rattle.seam_cost.proofs.Locality.{changes_as_window}
 use Rattle.cut_check.specs.declared.record.CutRecord.{CutRecord}
-use Rattle.cut_check.specs.Records.{AreMarks, IsLawfulCut, Setting, Stands, marks_of}
+use Rattle.cut_check.specs.Records.{IsLawfulCut, Setting, Stands}
 use Rattle.cut_check.proofs.Duality.{weak_duality}
 
 -- what a rule says of each index it says of each cell: the choice is lawful, and leaves the held cells

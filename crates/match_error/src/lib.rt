@@ -1,6 +1,13 @@
 //! Overlap errors: how far a patch of the sample is from the cells that it would be laid over.
+//!
+//! specs/Errors.antt defines the error of a placement: the sum over the filled cells of its box, and the
+//! samples of each, of the squared differences from the cells that the placement would put there, and
+//! beside it the count of those cells. The calls of this crate give exactly that, `error_sum_within`
+//! with leave to stop where the sum passes a limit, and `within` compares two errors cell for cell, with
+//! a tolerance. None of them takes memory. `overlap` has the sums, `counts` the counts, `error` the error
+//! and the comparison.
 #![tactic(auto)]
 
 mod error;
 
-pub use error::Error;
+pub use error::{Error, within};

@@ -3,9 +3,10 @@
 -- and the tolerance in hundredths, are own.)
 use Rattle.std.specs.Prelude.{◌+◌, ◌*◌, ℕ, Bool, Option, Some, None, nat_le}
 use Rattle.cells.specs.declared.place.At.{At}
+use Rattle.cells.specs.declared.place.Box3.{Box3}
 use Rattle.cells.specs.Places.{plus, spot}
 use Rattle.cells.specs.Cells.{Cells}
-use Rattle.box_sums.specs.Sums.{sum_box}
+use Rattle.box_sums.specs.Sums.{sum_box, sum_to}
 use Rattle.lane_kernels.specs.Sums.{sum_of_squared_differences}
 use Rattle.source_map.specs.declared.canvas.Placement.{Placement}
 use Rattle.source_map.specs.Maps.{SourceMap, map_at, sample_cell}
@@ -22,14 +23,27 @@ abbrev pub one_filled : Option At → ℕ
 one_filled None = 0
 one_filled (Some from) = 1
 
--- the sum over the filled cells of the box of the squared differences from their new sources
+-- the sum over the filled cells of a row of the box of the squared differences from their new sources
+abbrev pub row_error : SourceMap → Cells → Placement → ℕ → ℕ → ℕ
+row_error m sample placement y f =
+    sum_to placement.rect.size.w (λ x. cell_error sample (map_at m (plus placement.rect.corner (spot x y f))) (new_source placement (plus placement.rect.corner (spot x y f))))
+
+-- over a frame of it
+abbrev pub frame_error : SourceMap → Cells → Placement → ℕ → ℕ
+frame_error m sample placement f = sum_to placement.rect.size.h (λ y. row_error m sample placement y f)
+
+-- over the box
 abbrev pub error_sum : SourceMap → Cells → Placement → ℕ
 error_sum m sample placement =
     sum_box placement.rect.size (λ x y f. cell_error sample (map_at m (plus placement.rect.corner (spot x y f))) (new_source placement (plus placement.rect.corner (spot x y f))))
 
--- how many cells of the box are filled
+-- how many cells of a box are filled
+abbrev pub filled_cells : SourceMap → Box3 → ℕ
+filled_cells m rect = sum_box rect.size (λ x y f. one_filled (map_at m (plus rect.corner (spot x y f))))
+
+-- how many cells of a placement's box are
 abbrev pub filled_count : SourceMap → Placement → ℕ
-filled_count m placement = sum_box placement.rect.size (λ x y f. one_filled (map_at m (plus placement.rect.corner (spot x y f))))
+filled_count m placement = filled_cells m placement.rect
 
 -- the overlap error of a placement
 abbrev pub error_of : SourceMap → Cells → Placement → Error

@@ -1,0 +1,99 @@
+// The sums of the squared differences over the filled cells of a placement's box.
+ghost use Rattle.std.specs.Prelude.{◌≡◌, ◌≤◌, ◌<◌, ◌+◌, ◌*◌, ◌^◌, IfNone, IfSome};
+ghost use Rattle.source_map.specs.Canvases.{Stands};
+ghost use Rattle.source_map.specs.Choices.{Fits};
+ghost use Rattle.match_error.specs.Errors.{error_of, error_sum, frame_error, row_error};
+ghost use Rattle.box_sums.specs.Sums.{sum_to};
+
+use crate::Error;
+use crate::counts::filled_count;
+use cells::{At, Volume};
+use lane_kernels::ssd_masked;
+use source_map::{Canvas, Placement};
+
+// The sum over a row of the box.
+fn row_sum(canvas: &Canvas, sample: &Volume, placement: &Placement, y: u32, f: u32) -> u64
+    requires over { Stands canvas.now sample.now }
+    requires fits { Fits canvas.now.map.size sample.now placement.now }
+    requires counts { (y < placement.now.rect.size.h) × (f < placement.now.rect.size.f) }
+    ensures sum { result ≡ row_error canvas.now.map sample.now placement.now y f }
+    ensures small { result ≤ 1598054400 }
+{
+    let step = At {
+        x: 0,
+        y: y as i32,
+        f: f as i32,
+    };
+    let at = placement.rect.corner.plus(step);
+    let from = placement.from.plus(step);
+    let w = placement.rect.size.w;
+    ssd_masked(
+        canvas.picture().row(at, w),
+        sample.row(from, w),
+        canvas.filled_row(at, w),
+    )
+}
+
+// The sum over a frame of the box on top of that over the frames before it, where both are at most a
+// limit together.
+fn with_frame(
+    canvas: &Canvas,
+    sample: &Volume,
+    placement: &Placement,
+    f: u32,
+    before: u64,
+    limit: u64,
+) -> Option<u64>
+    requires over { Stands canvas.now sample.now }
+    requires fits { Fits canvas.now.map.size sample.now placement.now }
+    requires count { f < placement.now.rect.size.f }
+    requires before { before ≤ 6545630822400 * f }
+    ensures some { IfSome result (λ sum. sum ≡ before + frame_error canvas.now.map sample.now placement.now f) }
+    ensures most { IfSome result (λ sum. sum ≤ limit) }
+    ensures small { IfSome result (λ sum. sum ≤ 6545630822400 * (f + 1)) }
+    ensures none { IfNone result (limit < before + frame_error canvas.now.map sample.now placement.now f) }
+{
+    let mut sum = before;
+    for y in 0..placement.rect.size.h {
+        sum += row_sum(canvas, sample, placement, y, f);
+        if sum > limit {
+            return None;
+        }
+    }
+    Some(sum)
+}
+
+/// The sum of the overlap error of a placement where it is at most a limit, else None. It stops after
+/// the row in which the sum passes the limit.
+pub fn error_sum_within(
+    canvas: &Canvas,
+    sample: &Volume,
+    placement: &Placement,
+    limit: u64,
+) -> Option<u64>
+    requires over { Stands canvas.now sample.now }
+    requires fits { Fits canvas.now.map.size sample.now placement.now }
+    ensures some { IfSome result (λ sum. sum ≡ error_sum canvas.now.map sample.now placement.now) }
+    ensures most { IfSome result (λ sum. sum ≤ limit) }
+    ensures small { IfSome result (λ sum. sum ≤ 2 ^ 48) }
+    ensures none { IfNone result (limit < error_sum canvas.now.map sample.now placement.now) }
+{
+    let mut sum: u64 = 0;
+    for f in 0..placement.rect.size.f {
+        sum = with_frame(canvas, sample, placement, f, sum, limit)?;
+    }
+    Some(sum)
+}
+
+/// The overlap error of a placement.
+pub fn overlap_error(canvas: &Canvas, sample: &Volume, placement: &Placement) -> Error
+    requires over { Stands canvas.now sample.now }
+    requires fits { Fits canvas.now.map.size sample.now placement.now }
+    ensures error { result ≡ error_of canvas.now.map sample.now placement.now }
+    ensures small { result.sum ≤ 2 ^ 48 }
+{
+    Error {
+        sum: error_sum_within(canvas, sample, placement, u64::MAX).unwrap_or(0),
+        count: filled_count(canvas, &placement.rect),
+    }
+}

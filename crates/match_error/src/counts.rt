@@ -1,13 +1,22 @@
 // How many cells of a box are filled.
-ghost use Rattle.std.specs.Prelude.{◌≡◌, ◌≤◌, ◌<◌, ◌*◌};
+ghost use Rattle.std.specs.Prelude.{◌≡◌, ◌≤◌, ◌<◌, ◌*◌, length, sum};
 ghost use Rattle.cells.specs.Boxes.{HoldsBox};
 ghost use Rattle.cells.specs.Places.{cell_count, plus, spot};
 ghost use Rattle.source_map.specs.Maps.{map_at};
 ghost use Rattle.box_sums.specs.Sums.{sum_to};
 ghost use Rattle.match_error.specs.Errors.{filled_cells, one_filled};
 
-use cells::{At, Box3};
+use crate::rows::row_start;
+use cells::Box3;
 use source_map::Canvas;
+
+// The sum of the marks of a row of cells.
+fn mark_sum(marks: &[u8]) -> u32
+    requires { length marks.now ≤ 24576 }
+    ensures { result ≡ sum marks.now }
+{
+    marks.iter().map(|mark| u32::from(*mark)).sum()
+}
 
 // The filled cells of a row of the box. Each has k marks of 1, and the others have marks of 0.
 fn row_count(canvas: &Canvas, rect: &Box3, y: u32, f: u32) -> u32
@@ -16,14 +25,9 @@ fn row_count(canvas: &Canvas, rect: &Box3, y: u32, f: u32) -> u32
     ensures count { result ≡ sum_to rect.now.size.w (λ x. one_filled (map_at canvas.now.map (plus rect.now.corner (spot x y f)))) }
     ensures small { result ≤ rect.now.size.w }
 {
-    let step = At {
-        x: 0,
-        y: y as i32,
-        f: f as i32,
-    };
-    let marks = canvas.filled_row(rect.corner.plus(step), rect.size.w);
-    let filled: u32 = marks.iter().map(|mark| u32::from(*mark)).sum();
-    filled / canvas.picture().samples()
+    let samples = canvas.picture().samples();
+    let at = row_start(rect.corner, y, f);
+    mark_sum(canvas.filled_row(at, rect.size.w)) / samples
 }
 
 // The filled cells of a frame of the box.
@@ -33,6 +37,8 @@ fn frame_count(canvas: &Canvas, rect: &Box3, f: u32) -> u32
     ensures count { result ≡ sum_to rect.now.size.h (λ y. sum_to rect.now.size.w (λ x. one_filled (map_at canvas.now.map (plus rect.now.corner (spot x y f))))) }
     ensures small { result ≤ rect.now.size.w * rect.now.size.h }
 {
+    // The map is asked only to show the check that its size is small.
+    let _map = canvas.map();
     let mut count = 0;
     for y in 0..rect.size.h {
         count += row_count(canvas, rect, y, f);
@@ -50,6 +56,8 @@ pub fn filled_count(canvas: &Canvas, rect: &Box3) -> u32
     if rect.size.w == 0 {
         return 0;
     }
+    // The map is asked only to show the check that its size is small.
+    let _map = canvas.map();
     let mut count = 0;
     for f in 0..rect.size.f {
         count += frame_count(canvas, rect, f);

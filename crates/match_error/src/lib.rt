@@ -4,13 +4,14 @@
 //! samples of each, of the squared differences from the cells that the placement would put there, and
 //! beside it the count of those cells. The calls of this crate give exactly that, `error_sum_within`
 //! with leave to stop where the sum passes a limit, and `within` compares two errors per filled cell,
-//! with a tolerance. None of them takes memory. `overlap` has the sums, `counts` the counts, `error` the
-//! error and the comparison.
+//! with a tolerance. None of them takes memory. `overlap` has the sums, `counts` the counts, `rows`
+//! where the rows of a box begin, `error` the error and the comparison.
 #![tactic(auto)]
 
 mod counts;
 mod error;
 mod overlap;
+mod rows;
 
 pub use counts::filled_count;
 pub use error::{Error, within};

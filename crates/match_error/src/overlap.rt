@@ -1,5 +1,6 @@
 // The sums of the squared differences over the filled cells of a placement's box.
 ghost use Rattle.std.specs.Prelude.{◌≡◌, ◌≤◌, ◌<◌, ◌+◌, ◌*◌, ◌^◌, IfNone, IfSome};
+ghost use Rattle.cells.specs.Places.{IsSmall};
 ghost use Rattle.source_map.specs.Canvases.{Stands};
 ghost use Rattle.source_map.specs.Choices.{Fits};
 ghost use Rattle.match_error.specs.Errors.{error_of, error_sum, frame_error, row_error};
@@ -7,7 +8,8 @@ ghost use Rattle.box_sums.specs.Sums.{sum_to};
 
 use crate::Error;
 use crate::counts::filled_count;
-use cells::{At, Volume};
+use crate::rows::row_start;
+use cells::Volume;
 use lane_kernels::ssd_masked;
 use source_map::{Canvas, Placement};
 
@@ -19,16 +21,14 @@ fn row_sum(canvas: &Canvas, sample: &Volume, placement: &Placement, y: u32, f: u
     ensures sum { result ≡ row_error canvas.now.map sample.now placement.now y f }
     ensures small { result ≤ 1598054400 }
 {
-    let step = At {
-        x: 0,
-        y: y as i32,
-        f: f as i32,
-    };
-    let at = placement.rect.corner.plus(step);
-    let from = placement.from.plus(step);
+    // The size is asked only to show the check that the sample is a volume.
+    let _sample = sample.size();
+    let picture = canvas.picture();
+    let at = row_start(placement.rect.corner, y, f);
+    let from = row_start(placement.from, y, f);
     let w = placement.rect.size.w;
     ssd_masked(
-        canvas.picture().row(at, w),
+        picture.row(at, w),
         sample.row(from, w),
         canvas.filled_row(at, w),
     )
@@ -46,8 +46,10 @@ fn with_frame(
 ) -> Option<u64>
     requires over { Stands canvas.now sample.now }
     requires fits { Fits canvas.now.map.size sample.now placement.now }
+    requires small { IsSmall placement.now.rect.size }
     requires count { f < placement.now.rect.size.f }
     requires before { before ≤ 6545630822400 * f }
+    requires so_far { before ≤ limit }
     ensures some { IfSome result (λ sum. sum ≡ before + frame_error canvas.now.map sample.now placement.now f) }
     ensures most { IfSome result (λ sum. sum ≤ limit) }
     ensures small { IfSome result (λ sum. sum ≤ 6545630822400 * (f + 1)) }
@@ -76,8 +78,12 @@ pub fn error_sum_within(
     ensures some { IfSome result (λ sum. sum ≡ error_sum canvas.now.map sample.now placement.now) }
     ensures most { IfSome result (λ sum. sum ≤ limit) }
     ensures small { IfSome result (λ sum. sum ≤ 2 ^ 48) }
+    ensures bound { error_sum canvas.now.map sample.now placement.now ≤ 2 ^ 48 }
     ensures none { IfNone result (limit < error_sum canvas.now.map sample.now placement.now) }
 {
+    // The sizes are asked only to show the check that they are small.
+    let _map = canvas.map();
+    let _sample = sample.size();
     let mut sum: u64 = 0;
     for f in 0..placement.rect.size.f {
         sum = with_frame(canvas, sample, placement, f, sum, limit)?;
@@ -93,7 +99,7 @@ pub fn overlap_error(canvas: &Canvas, sample: &Volume, placement: &Placement) ->
     ensures small { result.sum ≤ 2 ^ 48 }
 {
     Error {
-        sum: error_sum_within(canvas, sample, placement, u64::MAX).unwrap_or(0),
+        sum: error_sum_within(canvas, sample, placement, u64::MAX).unwrap(),
         count: filled_count(canvas, &placement.rect),
     }
 }

@@ -1,0 +1,5 @@
+pub mod RowPlaces
+pub mod Runs
+pub mod Overlaps
+pub mod Bounds
+pub mod Filled

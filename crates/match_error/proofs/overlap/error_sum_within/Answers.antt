@@ -1,0 +1,31 @@
+use Rattle.std.proofs.Common.{◌≡◌, ◌<◌, ap, arith, subst, sym}
+use Rattle.std.specs.Prelude.{IfNone}
+use Rattle.box_sums.specs.Sums.{sum_to}
+use Rattle.source_map.proofs.Filling.{fits_small}
+use Rattle.match_error.specs.Errors.{error_sum, frame_error}
+use Rattle.match_error.proofs.Bounds.{error_small, passed}
+use Rattle.match_error.proofs.overlap.error_sum_within.Goals as goal
+
+pub with_frame-requires-clause-small : goal.with_frame-requires-clause-small
+with_frame-requires-clause-small c = fits_small c.args.canvas.now.map.size c.args.sample.now c.args.placement.now c.requires.fits c.map-map.ensures.canvas.map.small
+
+pub returns-in_err-sum-clause-none : goal.returns-in_err-sum-clause-none
+returns-in_err-sum-clause-none c =
+    let m = c.args.canvas.now.map in
+    let sample = c.args.sample.now in
+    let placement = c.args.placement.now in
+    let over : c.args.limit < error_sum m sample placement =
+    omega (arith, passed c.args.limit 0 placement.rect.size.f c.loop-f.f (frame_error m sample placement) c.loop-f-test.true (omega (arith, c.in_err-sum.ensures.none, c.loop-f.invariant.sum))) in
+    subst (λ found. IfNone found (c.args.limit < error_sum m sample placement)) (sym c.from_residual.ensures) over
+
+pub returns-in_err-sum-clause-bound : goal.returns-in_err-sum-clause-bound
+returns-in_err-sum-clause-bound c = error_small c.args.canvas.now.map c.args.sample.now c.args.placement.now c.map-map.ensures.canvas.map.small c.size-sample.ensures.volume c.requires.fits
+
+pub returns-clause-bound : goal.returns-clause-bound
+returns-clause-bound c = error_small c.args.canvas.now.map c.args.sample.now c.args.placement.now c.map-map.ensures.canvas.map.small c.size-sample.ensures.volume c.requires.fits
+
+pub returns-clause-small : goal.returns-clause-small
+returns-clause-small c =
+    let whole : c.loop-f.f ≡ c.args.placement.now.rect.size.f = omega (arith, c.loop-f-test.false, c.loop-f.auto.f-end) in
+    let sum = ap (λ n. sum_to n (frame_error c.args.canvas.now.map c.args.sample.now c.args.placement.now)) whole in
+    omega (arith, returns-clause-bound c, c.loop-f.invariant.sum, sum)

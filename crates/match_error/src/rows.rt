@@ -1,0 +1,19 @@
+// Where the rows of a box begin.
+ghost use Rattle.std.specs.Prelude.{◌≡◌, ◌<◌};
+ghost use Rattle.cells.specs.Places.{SumFits, plus, spot};
+
+use cells::At;
+
+/// The first place of a row of a box, by the counts of its row and frame from the box's corner.
+pub(crate) fn row_start(corner: At, y: u32, f: u32) -> At
+    requires counts { (y < 4096) × (f < 4096) }
+    requires fits { SumFits corner (spot 0 y f) }
+    ensures { result ≡ plus corner (spot 0 y f) }
+{
+    let step = At {
+        x: 0,
+        y: y as i32,
+        f: f as i32,
+    };
+    corner.plus(step)
+}

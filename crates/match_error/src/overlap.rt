@@ -27,11 +27,10 @@ fn row_sum(canvas: &Canvas, sample: &Volume, placement: &Placement, y: u32, f: u
     let at = row_start(placement.rect.corner, y, f);
     let from = row_start(placement.from, y, f);
     let w = placement.rect.size.w;
-    ssd_masked(
-        picture.row(at, w),
-        sample.row(from, w),
-        canvas.filled_row(at, w),
-    )
+    let old = picture.row(at, w);
+    let new = sample.row(from, w);
+    let marks = canvas.filled_row(at, w);
+    ssd_masked(old, new, marks)
 }
 
 // The sum over a frame of the box on top of that over the frames before it, where both are at most a

@@ -13,7 +13,7 @@ returns-clause-sum c =
     let w = placement.rect.size.w in
     c.ssd_masked.ensures.sum
     ∙ (λ k. masked_sum_of_squared_differences
-    ((c.row.ensures.bytes ∙ (λ j. row_at (c.picture-picture.ensures.picture j) (c.row_start-at.ensures j) w)) k)
-    ((c.row-2.ensures.bytes ∙ (λ j. row_at sample (c.row_start-from.ensures j) w)) k)
-    ((c.filled_row.ensures.marks ∙ (λ j. row_at (marks_of canvas.map canvas.picture.k) (c.row_start-at.ensures j) w)) k))
+    ((c.row-old.ensures.bytes ∙ (λ j. row_at (c.picture-picture.ensures.picture j) (c.row_start-at.ensures j) w)) k)
+    ((c.row-new.ensures.bytes ∙ (λ j. row_at sample (c.row_start-from.ensures j) w)) k)
+    ((c.filled_row-marks.ensures.marks ∙ (λ j. row_at (marks_of canvas.map canvas.picture.k) (c.row_start-at.ensures j) w)) k))
     ∙ row_is_error canvas sample placement c.picture-picture.ensures.canvas c.size-sample.ensures.volume c.requires.over c.requires.fits c.args.y c.args.f c.requires.counts.0 c.requires.counts.1

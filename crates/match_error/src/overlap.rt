@@ -2,7 +2,7 @@
 ghost use Rattle.std.specs.Prelude.{◌≡◌, ◌≤◌, ◌<◌, ◌+◌, ◌*◌, ◌^◌, IfNone, IfSome};
 ghost use Rattle.cells.specs.Places.{IsSmall};
 ghost use Rattle.source_map.specs.Canvases.{Stands};
-ghost use Rattle.source_map.specs.Choices.{Fits};
+ghost use Rattle.source_map.specs.Choices.{Fits, box_count};
 ghost use Rattle.match_error.specs.Errors.{error_of, error_sum, frame_error, row_error};
 ghost use Rattle.box_sums.specs.Sums.{sum_to};
 
@@ -96,6 +96,7 @@ pub fn overlap_error(canvas: &Canvas, sample: &Volume, placement: &Placement) ->
     requires fits { Fits canvas.now.map.size sample.now placement.now }
     ensures error { result ≡ error_of canvas.now.map sample.now placement.now }
     ensures small { result.sum ≤ 2 ^ 48 }
+    ensures few { result.count ≤ box_count placement.now }
 {
     Error {
         sum: error_sum_within(canvas, sample, placement, u64::MAX).unwrap(),

@@ -4,3 +4,9 @@ pub mod Boxes
 pub mod Locality
 pub mod Existence
 pub mod Windows
+pub mod Runs
+pub mod Rows
+pub mod Worsts
+pub mod Reaches
+pub mod AxisSums
+pub mod Changes

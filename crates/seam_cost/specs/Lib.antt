@@ -3,3 +3,4 @@ pub mod Costs
 pub mod Lawful
 pub mod Pairs
 pub mod Tables
+pub mod Slides

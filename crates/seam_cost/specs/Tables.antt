@@ -1,6 +1,6 @@
 -- Tables of window sums: the sum of every window of one size that the output holds, by its corner. (Own; the
 -- error of each region of a texture, which Kwatra et al. 2003 refine where it is greatest.)
-use Rattle.std.specs.Prelude.{◌≡◌, ◌≤◌, ℕ, ◌+◌, ◌-◌, List, length, slice_index}
+use Rattle.std.specs.Prelude.{◌≡◌, ◌≤◌, ◌<◌, ℕ, ◌+◌, ◌-◌, List, length, slice_index}
 use Rattle.std.specs.Prelude.{Option, Some}
 use Rattle.cells.specs.declared.place.At.{At}
 use Rattle.cells.specs.declared.place.Size.{Size}
@@ -54,3 +54,9 @@ pub record Touches (window : Size) (changed : Box3) (corner : At) : Type 0 where
 -- each sum of a window without a cell of the box is that of the window
 abbrev pub IsRightBeside : (At → At → ℕ) → (At → Option At) → Box3 → WindowSums → Type 0
 IsRightBeside d m changed table = (corner : At) → (Touches table.window changed corner → ⊥) → IsRightAt d m table corner
+
+-- of the first numbers of a list the greatest, and the first of those
+pub record IsGreatest (numbers : List ℕ) (n best : ℕ) : Type 0 where
+  pub below : best < n
+  pub most : (i : ℕ) → i < n → slice_index numbers i ≤ slice_index numbers best
+  pub first : (i : ℕ) → i < n → slice_index numbers i ≡ slice_index numbers best → best ≤ i

@@ -7,12 +7,17 @@
 //! with the distance of cells; `laws` has what follows from the definitions.
 #![tactic(auto)]
 
+mod block;
 mod laws;
 mod pairs;
+mod reach;
+mod slide;
 mod sums;
+mod table;
 #[cfg(test)]
 mod tests;
 
 pub use laws::{choices_change_the_total_as_their_window, some_choice_is_lawful};
 pub use pairs::pair_cost;
 pub use sums::{total, window};
+pub use table::{SeamTable, Worst};

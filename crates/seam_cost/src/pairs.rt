@@ -43,6 +43,18 @@ fn source_of(map: &Map, p: At) -> Option<At>
     map.at(p)
 }
 
+// The cost of the cell at a place and the next one along an axis; 0 where one of the two has no source.
+pub(crate) fn pair_of(map: &Map, sample: &Volume, at: At, axis: Axis) -> u32
+    ensures cost { result ≡ pair_at (distance sample.now) (map_at map.now) axis at }
+    ensures small { result ≤ 3060 }
+{
+    let _size = map.size();
+    match source_of(map, at) {
+        Some(a) => seam_of(sample, axis, Some(a), source_of(map, at.plus(axis.unit()))),
+        None => 0,
+    }
+}
+
 /// The cost of the cell at a place and the next one along an axis: how far the source of the first is
 /// from what stands before the source of the next in the sample, and what stands behind the source of
 /// the first from that of the next. It is 0 where one of the two isn't a filled cell of the output.
@@ -50,11 +62,7 @@ pub fn pair_cost(canvas: &Canvas, sample: &Volume, at: At, axis: Axis) -> u32
     ensures cost { result ≡ pair_at (distance sample.now) (map_at canvas.now.map) axis at }
     ensures small { result ≤ 3060 }
 {
-    let map = canvas.map();
-    match source_of(map, at) {
-        Some(a) => seam_of(sample, axis, Some(a), source_of(map, at.plus(axis.unit()))),
-        None => 0,
-    }
+    pair_of(canvas.map(), sample, at, axis)
 }
 
 // The source of a cell of a box; none outside the box.

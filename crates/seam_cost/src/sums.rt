@@ -13,7 +13,7 @@ use cells::{At, Axis, Box3, Volume};
 use source_map::{Canvas, Map};
 
 // The place of three counts.
-fn spot(x: u32, y: u32, f: u32) -> At
+pub(crate) fn spot(x: u32, y: u32, f: u32) -> At
     requires { (x < 4096) × (y < 4096) × (f < 4096) }
     ensures { result ≡ spot x y f }
 {

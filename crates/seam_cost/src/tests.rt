@@ -3,6 +3,7 @@ ghost use Rattle.std.specs.Prelude.{◌≡◌, ◌≤◌, IfOk, IsTrue};
 ghost use Rattle.cells.specs.Places.{IsSmall};
 ghost use Rattle.cells.specs.Boxes.{AxisHolds, HoldsBox};
 ghost use Rattle.source_map.specs.Canvases.{Stands};
+ghost use Rattle.seam_cost.specs.Tables.{IsWindow};
 
 use super::*;
 use cells::{At, Axis, Box3, Size, Volume};
@@ -156,5 +157,47 @@ fn copies_of_one_cell(rt: HostRuntime) -> Result<(), Fail> {
     put(&rt, &mut canvas, &sample, At { x: 1, y: 1, f: 0 }, from);
     put(&rt, &mut canvas, &sample, At { x: 2, y: 1, f: 0 }, from);
     assert_eq!(rt; total(&canvas, &sample), 10710);
+    Ok(())
+}
+
+// Asserts that an output has windows of a size.
+fn assert_window(rt: &impl Abort, output: Size, window: Size)
+    ensures { IsWindow output window }
+{
+    assert!(rt; 1 <= window.w && window.w <= output.w);
+    assert!(rt; 1 <= window.h && window.h <= output.h);
+    assert!(rt; 1 <= window.f && window.f <= output.f);
+}
+
+#[test]
+fn worst_of_a_row(rt: HostRuntime) -> Result<(), Fail> {
+    let greys = [10, 10, 10, 20, 20, 20, 30, 30, 30, 40, 40, 40];
+    let bytes = Vec::from_slice(rt.alloc(), &greys)?;
+    let sample = Volume::from_bytes(Size { w: 4, h: 1, f: 1 }, 3, bytes);
+    let mut canvas = canvas_over(rt.alloc(), Size { w: 6, h: 1, f: 1 }, &sample)?;
+    put_row(&rt, &mut canvas, &sample, &[0, 1, 2, 1, 2, 3]);
+    let window = Size { w: 4, h: 1, f: 1 };
+    assert_window(&rt, canvas.map().size(), window);
+    let mut table = SeamTable::make(rt.alloc(), &canvas, &sample, window)?;
+    let first = At { x: 0, y: 0, f: 0 };
+    let worst = table.worst();
+    assert_eq!(rt; worst.corner, first);
+    assert_eq!(rt; worst.cost, 120);
+
+    let rect = Box3 {
+        corner: At { x: 2, y: 0, f: 0 },
+        size: window,
+    };
+    assert_holds(&rt, canvas.map().size(), rect.corner, rect.size);
+    assert_holds(&rt, sample.size(), first, rect.size);
+    canvas.put_choice(
+        &sample,
+        &Placement { rect, from: first },
+        &[true, true, true, true],
+    );
+    table.update(&canvas, &sample, &rect);
+    let worst = table.worst();
+    assert_eq!(rt; worst.corner, first);
+    assert_eq!(rt; worst.cost, 825);
     Ok(())
 }

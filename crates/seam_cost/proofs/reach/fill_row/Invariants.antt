@@ -1,0 +1,12 @@
+use Rattle.std.proofs.Common.{◌≡◌, ◌≤◌, ◌<◌, ℕ, ◌+◌, get_or}
+use Rattle.cells.specs.Distances.{distance}
+use Rattle.cells.specs.Places.{spot}
+use Rattle.source_map.specs.Maps.{map_at}
+use Rattle.seam_cost.specs.Costs.{pair_at}
+use Rattle.seam_cost.proofs.reach.fill_row.Given as goal
+
+abbrev pub invariant-loop-k : goal.invariant-loop-k
+invariant-loop-k l = record {
+  costs : (i : ℕ) → i < l.k → get_or l.costs i 0 ≡ pair_at (distance l.sample) (map_at l.map) l.axis (spot (l.x + i) l.y l.f);
+  small : (i : ℕ) → i < l.k → get_or l.costs i 0 ≤ 3060;
+}

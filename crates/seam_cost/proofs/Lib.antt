@@ -10,3 +10,4 @@ pub mod Worsts
 pub mod Reaches
 pub mod AxisSums
 pub mod Changes
+pub mod Besides

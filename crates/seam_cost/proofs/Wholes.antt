@@ -37,7 +37,7 @@ to_first p = λ k. record { x = same p.x k; y = same p.y k; f = same p.f k }
     same : (z : ℤ) → pos 0 +ℤ z ≡ z
     same z = omega (arith, ints)
 
-no_index : (o : Option ℕ) → is_some o ≡ false → o ≡ None
+pub no_index : (o : Option ℕ) → is_some o ≡ false → o ≡ None
 no_index None none = refl
 no_index (Some i) none = absurd (false≢true (sym none))
 

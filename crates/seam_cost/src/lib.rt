@@ -5,6 +5,11 @@
 //! the worst window, for any distance of sample places; specs/Lawful.antt kept and free cells, lawful
 //! choices and least ones, by totals alone. The calls of this crate give the costs of those definitions,
 //! with the distance of cells; `laws` has what follows from the definitions.
+//!
+//! specs/Tables.antt defines the table of all window sums of one window size. `SeamTable` keeps one right
+//! after each change of a box, and tells the worst window. It costs each pair of the cells that the touched
+//! windows have once, and sums runs of the costs along each axis in place (src/reach.rt, src/slide.rt;
+//! specs/Slides.antt has the words, and proofs/AxisSums.antt the law behind).
 #![tactic(auto)]
 
 mod block;

@@ -3,7 +3,9 @@ ghost use Rattle.std.specs.Prelude.{◌≡◌, ◌≤◌, IfOk, IsTrue};
 ghost use Rattle.cells.specs.Places.{IsSmall};
 ghost use Rattle.cells.specs.Boxes.{AxisHolds, HoldsBox};
 ghost use Rattle.source_map.specs.Canvases.{Stands};
-ghost use Rattle.seam_cost.specs.Tables.{IsWindow};
+ghost use Rattle.source_map.specs.Maps.{map_at};
+ghost use Rattle.cells.specs.Distances.{distance};
+ghost use Rattle.seam_cost.specs.Tables.{IsRight, IsWindow};
 
 use super::*;
 use cells::{At, Axis, Box3, Size, Volume};
@@ -169,6 +171,31 @@ fn assert_window(rt: &impl Abort, output: Size, window: Size)
     assert!(rt; 1 <= window.f && window.f <= output.f);
 }
 
+// Makes all cells of a box new, and the table right again.
+fn put_box(
+    rt: &impl Abort,
+    canvas: &mut Canvas,
+    table: &mut SeamTable,
+    sample: &Volume,
+    placement: &Placement,
+    all: &[bool],
+)
+    requires stands { Stands canvas.old sample.now }
+    requires size { canvas.old.map.size ≡ table.old.output }
+    requires right { IsRight (distance sample.now) (map_at canvas.old.map) table.old }
+    ensures stands { Stands canvas.new sample.now }
+    ensures size { canvas.new.map.size ≡ table.new.output }
+    ensures right { IsRight (distance sample.now) (map_at canvas.new.map) table.new }
+{
+    let rect = placement.rect;
+    assert_window(rt, canvas.map().size(), rect.size);
+    assert_holds(rt, canvas.map().size(), rect.corner, rect.size);
+    assert_holds(rt, sample.size(), placement.from, rect.size);
+    assert!(rt; all.len() == rect.size.cells());
+    canvas.put_choice(sample, placement, all);
+    table.update(canvas, sample, &rect);
+}
+
 #[test]
 fn worst_of_a_row(rt: HostRuntime) -> Result<(), Fail> {
     let greys = [10, 10, 10, 20, 20, 20, 30, 30, 30, 40, 40, 40];
@@ -176,9 +203,9 @@ fn worst_of_a_row(rt: HostRuntime) -> Result<(), Fail> {
     let sample = Volume::from_bytes(Size { w: 4, h: 1, f: 1 }, 3, bytes);
     let mut canvas = canvas_over(rt.alloc(), Size { w: 6, h: 1, f: 1 }, &sample)?;
     put_row(&rt, &mut canvas, &sample, &[0, 1, 2, 1, 2, 3]);
-    let window = Size { w: 4, h: 1, f: 1 };
-    assert_window(&rt, canvas.map().size(), window);
-    let mut table = SeamTable::make(rt.alloc(), &canvas, &sample, window)?;
+    let size = Size { w: 4, h: 1, f: 1 };
+    assert_window(&rt, canvas.map().size(), size);
+    let mut table = SeamTable::make(rt.alloc(), &canvas, &sample, size)?;
     let first = At { x: 0, y: 0, f: 0 };
     let worst = table.worst();
     assert_eq!(rt; worst.corner, first);
@@ -186,16 +213,17 @@ fn worst_of_a_row(rt: HostRuntime) -> Result<(), Fail> {
 
     let rect = Box3 {
         corner: At { x: 2, y: 0, f: 0 },
-        size: window,
+        size,
     };
-    assert_holds(&rt, canvas.map().size(), rect.corner, rect.size);
-    assert_holds(&rt, sample.size(), first, rect.size);
-    canvas.put_choice(
+    let placement = Placement { rect, from: first };
+    put_box(
+        &rt,
+        &mut canvas,
+        &mut table,
         &sample,
-        &Placement { rect, from: first },
-        &[true, true, true, true],
+        &placement,
+        &[true; 4],
     );
-    table.update(&canvas, &sample, &rect);
     let worst = table.worst();
     assert_eq!(rt; worst.corner, first);
     assert_eq!(rt; worst.cost, 825);

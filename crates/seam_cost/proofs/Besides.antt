@@ -1,0 +1,42 @@
+-- A table that was right before a choice is right beside the choice's box after it.
+use Rattle.std.proofs.Common.{◌≡◌, ℕ, refl, ap, sym, ◌∙◌}
+use Rattle.std.specs.Prelude.{Bool, true, false, List, Option, None, if◌then◌else◌, is_some}
+use Rattle.cells.specs.declared.place.At.{At}
+use Rattle.cells.specs.declared.place.Box3.{Box3}
+use Rattle.cells.specs.Boxes.{IsInBox}
+use Rattle.cells.specs.Places.{plus, spot}
+use Rattle.box_sums.specs.Sums.{sum_box}
+use Rattle.source_map.specs.declared.canvas.Placement.{Placement}
+use Rattle.source_map.specs.Choices.{IsAfter, after_at, box_index, chosen, new_source}
+use Rattle.source_map.specs.Maps.{SourceMap, map_at}
+use Rattle.std.specs.Prelude.{Some}
+use Rattle.seam_cost.specs.Costs.{map_within, pairs_at, window_of}
+use Rattle.seam_cost.specs.Places.{in_box}
+use Rattle.seam_cost.specs.Tables.{IsRight, IsRightBeside, Touches, WindowSums}
+use Rattle.seam_cost.proofs.Wholes.{no_index}
+
+-- outside its box a choice changes nothing
+outside_same : (before : SourceMap) (placement : Placement) (choice : List Bool) (p : At) → (IsInBox placement.rect p → ⊥) → after_at before placement choice p ≡ map_at before p
+outside_same before placement choice p out = by (is_some (box_index placement p)) refl
+  where
+    by : (b : Bool) → is_some (box_index placement p) ≡ b → after_at before placement choice p ≡ map_at before p
+    by true is = absurd (out is)
+    by false is = ap (λ index. if chosen choice index then Some (new_source placement p) else map_at before p) (no_index (box_index placement p) is)
+
+-- two maps that agree in a window have one sum there
+window_same : (d : At → At → ℕ) (rect : Box3) (m n : At → Option At) → ((p : At) → IsInBox rect p → m p ≡ n p) → window_of d rect m ≡ window_of d rect n
+window_same d rect m n same = λ k. sum_box rect.size (λ x y f. pairs_at d (λ p. each p k) (plus rect.corner (spot x y f)))
+  where
+    each : (p : At) → map_within rect m p ≡ map_within rect n p
+    each p = by (in_box rect p) refl
+      where
+        by : (b : Bool) → in_box rect p ≡ b → map_within rect m p ≡ map_within rect n p
+        by true is = ap (λ b. if b then m p else None) is ∙ same p is ∙ sym (ap (λ b. if b then n p else None) is)
+        by false is = ap (λ b. if b then m p else None) is ∙ sym (ap (λ b. if b then n p else None) is)
+
+pub right_beside_choice : (d : At → At → ℕ) (before after : SourceMap) (placement : Placement) (choice : List Bool) (table : WindowSums)
+    → IsAfter before placement choice after → IsRight d (map_at before) table → IsRightBeside d (map_at after) placement.rect table
+right_beside_choice d before after placement choice table is right corner untouched i at =
+    right corner i at
+    ∙ window_same d (record { corner = corner; size = table.window }) (map_at before) (map_at after)
+    (λ p inside. sym (is.sources p ∙ outside_same before placement choice p (λ changed. untouched (record { cell = p; in_window = inside; in_box = changed }))))

@@ -11,3 +11,4 @@ pub mod Reaches
 pub mod AxisSums
 pub mod Changes
 pub mod Besides
+pub mod Placing

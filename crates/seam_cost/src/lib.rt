@@ -12,6 +12,7 @@
 //! specs/Slides.antt has the words, and proofs/AxisSums.antt the law behind).
 #![tactic(auto)]
 
+mod after;
 mod block;
 mod laws;
 mod pairs;
@@ -22,7 +23,8 @@ mod table;
 #[cfg(test)]
 mod tests;
 
+pub use after::window_after;
 pub use laws::{choices_change_the_total_as_their_window, some_choice_is_lawful};
-pub use pairs::pair_cost;
+pub use pairs::{pair_cost, seam_of};
 pub use sums::{total, window};
 pub use table::{SeamTable, Worst};

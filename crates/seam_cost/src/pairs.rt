@@ -21,8 +21,10 @@ fn seam(sample: &Volume, axis: Axis, a: At, b: At) -> u32
     cell_distance(sample, a, b.minus(step)) + cell_distance(sample, a.plus(step), b)
 }
 
-// The same, and nothing where one of the two cells has no source.
-fn seam_of(sample: &Volume, axis: Axis, a: Option<At>, b: Option<At>) -> u32
+/// The cost of a cell of source `a` and the next one along an axis, of source `b`: how far `a` is from
+/// what stands before `b` in the sample, and what stands behind `a` from `b`. It is 0 where one of the
+/// two is missing.
+pub fn seam_of(sample: &Volume, axis: Axis, a: Option<At>, b: Option<At>) -> u32
     requires a { IfSome a IsSource }
     requires b { IfSome b IsSource }
     ensures cost { result ≡ seam_of (distance sample.now) axis a b }
@@ -35,7 +37,7 @@ fn seam_of(sample: &Volume, axis: Axis, a: Option<At>, b: Option<At>) -> u32
 }
 
 // The source of a cell.
-fn source_of(map: &Map, p: At) -> Option<At>
+pub(crate) fn source_of(map: &Map, p: At) -> Option<At>
     ensures source { result ≡ map_at map.now p }
     ensures near { IfSome result IsSource }
 {

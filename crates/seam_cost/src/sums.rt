@@ -26,7 +26,7 @@ pub(crate) fn spot(x: u32, y: u32, f: u32) -> At
 
 // The cell of a box at three counts from its corner.
 #[tactic(auto, using(crate::proofs::Near::cell_fits))]
-fn cell(rect: &Box3, x: u32, y: u32, f: u32) -> At
+pub(crate) fn cell(rect: &Box3, x: u32, y: u32, f: u32) -> At
     requires inside { HoldsBox largest rect.now.corner rect.now.size }
     requires counts { (x < rect.now.size.w) × (y < rect.now.size.h) × (f < rect.now.size.f) }
     ensures { result ≡ plus rect.now.corner (spot x y f) }

@@ -1,16 +1,100 @@
 // The checker: the rules of a cut record, in their order.
-ghost use Rattle.std.specs.Prelude.{◌≡◌, IfErr, IfSome, OnOk, length, option_copied, []};
+ghost use Rattle.std.specs.Prelude.{◌≡◌, ◌<◌, ◌≤◌, IfErr, IfSome, MatchBool, OnOk, length, option_copied, []};
 ghost use Rattle.cells.specs.Boxes.{HasCells};
 ghost use Rattle.cells.specs.Distances.{distance};
 ghost use Rattle.cells.specs.Places.{cell_count};
 ghost use Rattle.source_map.specs.Canvases.{Stands as StandsOver};
+ghost use Rattle.source_map.specs.Choices.{Fits};
 ghost use Rattle.seam_cost.specs.Lawful.{AreMarks, IsLeast, IsLeastHeld, marks_of};
 ghost use Rattle.seam_cost.specs.Pairs.{pair_count};
-ghost use Rattle.cut_check.specs.Records.{IsFirstFault, Stands};
+ghost use Rattle.cut_check.specs.Records.{IsFirstFault, IsLawfulCut, Stands};
+ghost use Rattle.cut_check.specs.Spots.{FitsOver};
 
+use crate::bounds::first_unbounded;
 use crate::record::{CutFault, CutRecord};
-use cells::Volume;
-use source_map::Canvas;
+use crate::rules::{first_new, first_unbalanced, first_unfilled};
+use crate::value::{is_window, value_of};
+use cells::{Box3, Volume};
+use seam_cost::window_after;
+use source_map::{Canvas, Placement};
+
+// Rule 1, for a box that has a cell.
+fn fits(canvas: &Canvas, sample: &Volume, placement: &Placement) -> bool
+    requires { HasCells placement.now.rect.size }
+    ensures { MatchBool result (FitsOver canvas.now.map sample.now placement.now) (Fits canvas.now.map.size sample.now placement.now → ⊥) }
+{
+    let sources = Box3 {
+        corner: placement.from,
+        size: placement.rect.size,
+    };
+    // The size is asked only to show the check that the sample is a volume.
+    let _sample = sample.size();
+    canvas.picture().holds(&placement.rect) && sample.holds(&sources)
+}
+
+// The marks of the held cells; none where they are missing.
+fn marks(held: Option<&[bool]>) -> &[bool]
+    ensures { result.now ≡ marks_of (option_copied held.entry) }
+{
+    held.unwrap_or(&[])
+}
+
+// The rules of flows, 4 to 6.
+fn check_flows(
+    canvas: &Canvas,
+    sample: &Volume,
+    cut: &CutRecord,
+    held: &[bool],
+) -> Result<(), CutFault>
+    requires fits { FitsOver canvas.now.map sample.now cut.now.placement }
+    requires lawful { IsLawfulCut (record { map = canvas.now.map; sample = sample.now; held = held.now }) cut.now }
+    ensures stands { OnOk result (Stands (record { map = canvas.now.map; sample = sample.now; held = held.now }) cut.now) }
+    ensures fault { IfErr result (IsFirstFault (record { map = canvas.now.map; sample = sample.now; held = held.now }) cut.now) }
+{
+    if let Some(number) = first_unbounded(canvas.map(), sample, cut) {
+        return Err(CutFault {
+            kind: 4,
+            place: number,
+        });
+    }
+    if let Some(i) = first_unbalanced(canvas, cut, held) {
+        return Err(CutFault {
+            kind: 5,
+            place: i as u64,
+        });
+    }
+    let window = window_after(canvas, sample, &cut.placement, cut.choice.as_slice());
+    if !is_window(value_of(canvas, cut, held), window) {
+        return Err(CutFault { kind: 6, place: 0 });
+    }
+    Ok(())
+}
+
+// The rules after the first.
+fn check_fitting(
+    canvas: &Canvas,
+    sample: &Volume,
+    cut: &CutRecord,
+    held: &[bool],
+) -> Result<(), CutFault>
+    requires fits { FitsOver canvas.now.map sample.now cut.now.placement }
+    ensures stands { OnOk result (Stands (record { map = canvas.now.map; sample = sample.now; held = held.now }) cut.now) }
+    ensures fault { IfErr result (IsFirstFault (record { map = canvas.now.map; sample = sample.now; held = held.now }) cut.now) }
+{
+    if let Some(i) = first_unfilled(canvas.map(), cut) {
+        return Err(CutFault {
+            kind: 2,
+            place: i as u64,
+        });
+    }
+    if let Some(i) = first_new(canvas, cut, held) {
+        return Err(CutFault {
+            kind: 3,
+            place: i as u64,
+        });
+    }
+    check_flows(canvas, sample, cut, held)
+}
 
 /// Whether a cut record stands over a canvas, with cells of its box that are held too: no lawful choice
 /// without a held cell leaves a smaller total then. `held` has a mark for each cell of the box, in raster
@@ -30,7 +114,10 @@ pub fn check_held(
     ensures fault { IfErr result (IsFirstFault (record { map = canvas.now.map; sample = sample.now; held = marks_of (option_copied held.entry) }) cut.now) }
     ensures least { OnOk result (IsLeastHeld (distance sample.now) canvas.now.map cut.now.placement (marks_of (option_copied held.entry)) cut.now.choice) }
 {
-    Err(CutFault { kind: 1, place: 0 })
+    if !fits(canvas, sample, &cut.placement) {
+        return Err(CutFault { kind: 1, place: 0 });
+    }
+    check_fitting(canvas, sample, cut, marks(held))
 }
 
 /// The same with no cell held: no lawful choice leaves a smaller total.

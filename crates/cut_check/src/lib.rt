@@ -2,9 +2,14 @@
 //! costs the least.
 #![tactic(auto)]
 
+mod bounds;
 mod check;
+mod flows;
 mod laws;
 mod record;
+mod rules;
+mod spots;
+mod value;
 
 pub use check::{check_cut, check_held};
 pub use laws::choice_of_a_record_is_least;

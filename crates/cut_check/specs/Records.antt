@@ -1,15 +1,14 @@
 -- Cut records: a placement, a choice, and a flow that shows that the choice is least. (Own, from the cuts of
 -- Kwatra et al. 2003; that a flow bounds every cut is Ford and Fulkerson 1956.)
-use Rattle.std.specs.Prelude.{◌≡◌, ◌<◌, ◌⊎◌, ℕ, ℤ, pos, Bool, true, false, List, [], length, Option, Some, None, slice_index_or}
+use Rattle.std.specs.Prelude.{◌≡◌, ◌<◌, ◌⊎◌, ℕ, ℤ, pos, Bool, true, false, List, None, slice_index_or}
 use Rattle.cells.specs.declared.place.Axis.{Axis}
 use Rattle.cells.specs.Places.{cell_count}
 use Rattle.cells.specs.Cells.{Cells}
 use Rattle.cells.specs.Distances.{distance}
-use Rattle.source_map.specs.declared.canvas.Placement.{Placement}
 use Rattle.source_map.specs.Maps.{SourceMap, map_at}
 use Rattle.source_map.specs.Choices.{Fits, box_cell}
 use Rattle.box_sums.specs.Sums.{signed_sum_box}
-use Rattle.seam_cost.specs.Lawful.{AreHeld, IsFree, StaysOld, window_after}
+use Rattle.seam_cost.specs.Lawful.{IsFree, StaysOld, window_after}
 use Rattle.seam_cost.specs.Pairs.{AreCounts, at_index, cell_in, has_next, pair_count, pair_number}
 use Rattle.cut_check.specs.declared.record.CutRecord.{CutRecord}
 use Rattle.cut_check.specs.declared.record.CutFault.{CutFault}

@@ -12,7 +12,7 @@ use Rattle.source_map.specs.Maps.{SourceMap, map_at}
 use Rattle.std.specs.Prelude.{Some}
 use Rattle.seam_cost.specs.Costs.{map_within, pairs_at, window_of}
 use Rattle.seam_cost.specs.Places.{in_box}
-use Rattle.seam_cost.specs.Tables.{IsRight, IsRightBeside, Touches, WindowSums}
+use Rattle.seam_cost.specs.Tables.{IsRight, IsRightBeside, WindowSums}
 use Rattle.seam_cost.proofs.Wholes.{no_index}
 
 -- outside its box a choice changes nothing

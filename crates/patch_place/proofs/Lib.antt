@@ -2,3 +2,8 @@ pub mod Walking
 pub mod Spans
 pub mod Fitting
 pub mod BoxLists
+pub mod Bests
+pub mod Counting
+pub mod Picking
+pub mod Stepping
+pub mod Limits

@@ -5,3 +5,5 @@ pub mod Modes
 pub mod Counts
 pub mod Fitting
 pub mod Picks
+pub mod Tables
+pub mod Steps

@@ -1,5 +1,10 @@
 //! Where the next patch may be laid over the output, and the draws that choose among such placements.
 //!
+//! `next_placement` is one step of growing. Its contract (specs/Steps.antt) says, answer by answer, which
+//! placement comes next and how many draws are taken. It takes that placement by `pick`, whose contract
+//! (specs/Picks.antt) gives the candidates that are about as good as the best, by their overlap errors
+//! (crate match_error), and says that the next draw counts among them.
+//!
 //! `Mode` says how an output is grown. Its contract gives the list of the placements that it allows for
 //! the first unfilled cell (specs/Modes.antt), and says that there is at least one, and that each fits and
 //! covers the cell (specs/Fitting.antt). `Candidates` walks a list by index (specs/Lists.antt), so that no
@@ -7,14 +12,20 @@
 //! (specs/Draws.antt).
 //!
 //! `axis` has what happens along one axis, `candidates` the lists, `mode` the modes and the size of a
-//! window, `draws` the draws, and `laws` what follows from the definitions.
+//! window, `draws` the draws, and `laws` what follows from the definitions. `steps` has the step, `picks`
+//! the pick, `errors` the table of errors that it is made from, where a sum that can't be eligible is left
+//! unfinished, and `eligible` which entry of such a table a draw picks (specs/Tables.antt).
 #![tactic(auto)]
 
 mod axis;
 mod candidates;
 mod draws;
+mod eligible;
+mod errors;
 mod laws;
 mod mode;
+mod picks;
+mod steps;
 #[cfg(test)]
 mod tests;
 
@@ -22,3 +33,5 @@ pub use candidates::Candidates;
 pub use draws::Draws;
 pub use laws::{box_list_is_all_that_fit, grid_corner_is_least};
 pub use mode::{Mode, window_size};
+pub use picks::pick;
+pub use steps::next_placement;

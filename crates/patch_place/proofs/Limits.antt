@@ -1,0 +1,119 @@
+-- Sums that are left unfinished: past the limit an error is beaten by an entry of the table.
+use Rattle.std.proofs.Common.{◌≡◌, ℕ, ◌+◌, ◌*◌, ◌^◌, ◌<◌, ◌≤◌, min, List, [], ◌∷◌, ◌++◌, length, map, sym, subst, ap, ◌∙◌, inl, inr, arith}
+use Rattle.std.proofs.Math.Nat.{mul-le-mul_right}
+use Rattle.std.proofs.lemmas.Bool.{cases_lt, lt-leb}
+use Rattle.std.proofs.lemmas.List.{length-map}
+use Rattle.std.proofs.lemmas.List.Elements.{All-map, AllZip-push, Contains-append_left, Contains-push}
+use Rattle.std.specs.Prelude.{◌⊎◌, All, Some, replicate, slice_get}
+use Rattle.std.specs.List.{AllZip}
+use Rattle.match_error.specs.declared.error.Error.{Error}
+use Rattle.match_error.specs.Errors.{error_of, filled_cells}
+use Rattle.cells.specs.declared.place.At.{At}
+use Rattle.cells.specs.declared.place.Box3.{Box3}
+use Rattle.cells.specs.declared.place.Size.{Size}
+use Rattle.cells.specs.Boxes.{HoldsBox}
+use Rattle.cells.specs.Cells.{Cells}
+use Rattle.source_map.specs.declared.canvas.Placement.{Placement}
+use Rattle.source_map.specs.Choices.{Fits}
+use Rattle.source_map.specs.Maps.{SourceMap}
+use Rattle.patch_place.specs.Lists.{fit_list, places, room}
+use Rattle.patch_place.specs.Tables.{IsBeaten, IsEntry, IsLimit, IsTable, IsUnfilled, StandsFor}
+use Rattle.patch_place.proofs.Counting.{All-each, All-slice_get, AllZip-replicate, AllZip-weaker, first_at, map_at}
+
+still_beaten : (tol : ℕ) (table : List Error) (entry error : Error) → IsBeaten tol table error → IsBeaten tol (table ++ entry ∷ []) error
+still_beaten tol table entry error is = record {
+  other = is.other;
+  listed = Contains-append_left table (entry ∷ []) is.other is.listed;
+  filled = is.filled;
+  far = is.far;
+}
+
+still_stands : (tol : ℕ) (table : List Error) (more entry error : Error) → StandsFor tol table entry error → StandsFor tol (table ++ more ∷ []) entry error
+still_stands tol table more entry error stands =
+    elim stands [
+      | inl same ↦ inl same
+      | inr other ↦ inr (other.0, why other.1)
+    ]
+  where
+    why : IsUnfilled error ⊎ IsBeaten tol table error → IsUnfilled error ⊎ IsBeaten tol (table ++ more ∷ []) error
+    why is =
+        elim is [
+          | inl unfilled ↦ inl unfilled
+          | inr beaten ↦ inr (still_beaten tol table more error beaten)
+        ]
+
+-- a limit that stays
+pub limit_stays : (tol : ℕ) (table : List Error) (entry : Error) (count limit : ℕ) → IsLimit tol table count limit → IsLimit tol (table ++ entry ∷ []) count limit
+limit_stays tol table entry count limit is = λ error counted low past. still_beaten tol table entry error (is error counted low past)
+
+-- the limit of an entry
+beaten_by_last : (tol : ℕ) (table : List Error) (entry error : Error) → 1 ≤ entry.count → error.count ≡ entry.count → entry.sum * (100 + tol) < error.sum * 100 → IsBeaten tol (table ++ entry ∷ []) error
+beaten_by_last tol table entry error some counted past = record {
+  other = entry;
+  listed = Contains-push table entry;
+  filled = some;
+  far =
+      let more : (entry.sum * (100 + tol) + 1) * entry.count ≤ error.sum * 100 * entry.count = mul-le-mul_right entry.count (omega (arith, past)) in
+      let all : entry.sum * entry.count * (100 + tol) < error.sum * entry.count * 100 = omega (arith, more, some) in
+      lt-leb (error.sum * entry.count * 100) (entry.sum * error.count * (100 + tol)) (subst (λ n. entry.sum * n * (100 + tol) < error.sum * entry.count * 100) (sym counted) all);
+}
+
+pub limit_falls : (tol : ℕ) (table : List Error) (entry : Error) (count limit made : ℕ) → 1 ≤ count → entry.count ≡ count → ((other : ℕ) → other ≤ 2 ^ 48 → made < other → entry.sum * (100 + tol) < other * 100) → IsLimit tol table count limit → IsLimit tol (table ++ entry ∷ []) count (min limit made)
+limit_falls tol table entry count limit made some filled past is = λ error counted low beyond.
+    elim (cases_lt limit error.sum) [
+      | inr within ↦ beaten_by_last tol table entry error (omega (arith, some, filled)) (counted ∙ sym filled) (past error.sum low (omega (arith, within, beyond)))
+      | inl over ↦ still_beaten tol table entry error (is error counted low over)
+    ]
+
+-- one more entry of a table
+pub table_more : (tol : ℕ) (table errors : List Error) (entry error : Error) (count limit : ℕ) → IsTable tol table errors → IsLimit tol table count limit → error.count ≡ count → IsEntry limit entry error → IsTable tol (table ++ entry ∷ []) (errors ++ error ∷ [])
+table_more tol table errors entry error count limit stands is counted made =
+    AllZip-push (StandsFor tol (table ++ entry ∷ [])) table errors entry error
+    (AllZip-weaker (StandsFor tol table) (StandsFor tol (table ++ entry ∷ [])) (still_stands tol table entry) table errors stands)
+    (elim made [
+      | inl same ↦ inl same
+      | inr past ↦ inr (past.0, inr (still_beaten tol table entry error (is error counted past.1 past.2)))
+    ])
+
+-- each entry of a box's list has the box
+pub same_box : (sample : Size) (rect : Box3) (i : ℕ) (placement : Placement) → slice_get (fit_list sample rect) i ≡ Some placement → placement.rect ≡ rect
+same_box sample rect i placement at =
+    let made = map_at (λ (from : At). record { rect = rect; from = from }) (places (room sample rect.size)) i placement at in
+    ap (λ (p : Placement). p.rect) (sym made.2)
+
+-- the box of a list with an entry lies in the output
+pub box_inside : (output : Size) (sample : Cells) (rect : Box3) → 0 < length (fit_list sample.size rect) → All (Fits output sample) (fit_list sample.size rect) → HoldsBox output rect.corner rect.size
+box_inside output sample rect some all =
+    let first = first_at (fit_list sample.size rect) some in
+    let fits = All-slice_get (Fits output sample) (fit_list sample.size rect) 0 first.0 all first.1 in
+    subst (λ (r : Box3). HoldsBox output r.corner r.size) (same_box sample.size rect 0 first.0 first.1) fits.inside
+
+-- as many cells of each candidate are filled
+pub same_count : (m : SourceMap) (sample : Size) (rect : Box3) (i : ℕ) (placement : Placement) → slice_get (fit_list sample rect) i ≡ Some placement → filled_cells m placement.rect ≡ filled_cells m rect
+same_count m sample rect i placement at = ap (filled_cells m) (same_box sample rect i placement at)
+
+-- entries without filled cells stand for errors that have none
+pub unfilled_stands : (tol : ℕ) (m : SourceMap) (sample : Cells) (rect : Box3) → filled_cells m rect ≡ 0 → (unfilled : Error) → IsUnfilled unfilled → IsTable tol (replicate (length (fit_list sample.size rect)) unfilled) (map (error_of m sample) (fit_list sample.size rect))
+unfilled_stands tol m sample rect none unfilled is =
+    let list = fit_list sample.size rect in
+    let errors = map (error_of m sample) list in
+    let R = StandsFor tol (replicate (length list) unfilled) in
+    let all : All (R unfilled) errors = All-map (R unfilled) (error_of m sample) list (All-each (λ placement. R unfilled (error_of m sample placement)) list
+    (λ i placement at. inr (is, inl (same_count m sample.size rect i placement at ∙ none)))) in
+    subst (λ n. AllZip R (replicate n unfilled) errors) (length-map list (error_of m sample)) (AllZip-replicate R unfilled errors all)
+
+-- an entry has as many filled cells as its error, or none
+pub entry_count : (limit count : ℕ) (entry error : Error) → error.count ≡ count → IsEntry limit entry error → IsUnfilled entry ⊎ (entry.count ≡ count)
+entry_count limit count entry error counted made =
+    elim made [
+      | inl same ↦ inr (ap (λ (e : Error). e.count) same ∙ counted)
+      | inr past ↦ inl past.0
+    ]
+
+-- the same of an entry that has filled cells
+pub limit_after : (tol : ℕ) (table : List Error) (entry : Error) (count limit made least : ℕ) → least ≡ min limit made → 1 ≤ count → (entry.count ≡ 0 → ⊥) → IsUnfilled entry ⊎ (entry.count ≡ count) → ((other : ℕ) → other ≤ 2 ^ 48 → made < other → entry.sum * (100 + tol) < other * 100) → IsLimit tol table count limit → IsLimit tol (table ++ entry ∷ []) count least
+limit_after tol table entry count limit made least e some not filled past is =
+    elim filled [
+      | inl unfilled ↦ absurd (not unfilled)
+      | inr counted ↦ subst (IsLimit tol (table ++ entry ∷ []) count) (sym e) (limit_falls tol table entry count limit made some counted past is)
+    ]

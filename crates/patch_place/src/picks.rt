@@ -1,0 +1,67 @@
+// Picks: one of the candidates that are about as good as the best, by a draw.
+ghost use Rattle.std.specs.Prelude.{◌≡◌, ◌<◌, ◌+◌, ◌%◌, ◌^◌, All, Contains, IfOk, IsSome, OnErr, OnOk, Some, length};
+ghost use Rattle.source_map.specs.Canvases.{Stands};
+ghost use Rattle.source_map.specs.Choices.{Fits};
+ghost use Rattle.match_error.specs.Errors.{error_of};
+ghost use Rattle.patch_place.specs.Lists.{IsWithin, listed};
+ghost use Rattle.patch_place.specs.Picks.{IsPick};
+ghost use Rattle.patch_place.specs.Steps.{after_draw};
+ghost use Rattle.patch_place.specs.Tables.{IsPickAt};
+
+use crate::eligible::picked_of;
+use crate::errors::{count_for, entry_for, table_of};
+use crate::{Candidates, Draws};
+use cells::Volume;
+use source_map::{Canvas, Placement};
+use std::alloc::{AllocError, Global};
+
+// The index of the picked candidate.
+fn picked_at(
+    alloc: Global,
+    list: &Candidates,
+    tol: Option<u32>,
+    canvas: &Canvas,
+    sample: &Volume,
+    draws: &mut Draws,
+) -> Result<u32, AllocError>
+    requires over { Stands canvas.now sample.now }
+    requires within { IsWithin list.now canvas.now.map.size }
+    requires some { 0 < length (listed list.now canvas.now.map.size sample.now.size) }
+    requires fit { All (Fits canvas.now.map.size sample.now) (listed list.now canvas.now.map.size sample.now.size) }
+    ensures picked { IfOk result (IsPickAt (error_of canvas.now.map sample.now) tol (listed list.now canvas.now.map.size sample.now.size) draws.old) }
+    ensures next { OnOk result (draws.new ≡ after_draw draws.old) }
+    ensures kept { OnErr result (draws.new ≡ draws.old) }
+    ensures memory { OnErr result (IsSome tol) }
+{
+    let Some(tol) = tol else {
+        return Ok(draws.below(count_for(list, canvas, sample)));
+    };
+    let errors = table_of(alloc, list, tol, canvas, sample)?;
+    Ok(picked_of(&errors, tol, draws))
+}
+
+/// Picks one of the candidates that are about as good as the best, by the next draw: those whose error
+/// per filled cell is at most that of the best and `tol` hundredths of it. All of them are where `tol` is
+/// None, and where none of them covers a filled cell. It takes one draw, for a single candidate too, and
+/// none where there isn't the memory for the errors, which is the one error.
+pub fn pick(
+    alloc: Global,
+    list: &Candidates,
+    tol: Option<u32>,
+    canvas: &Canvas,
+    sample: &Volume,
+    draws: &mut Draws,
+) -> Result<Placement, AllocError>
+    requires over { Stands canvas.now sample.now }
+    requires within { IsWithin list.now canvas.now.map.size }
+    requires some { 0 < length (listed list.now canvas.now.map.size sample.now.size) }
+    requires fit { All (Fits canvas.now.map.size sample.now) (listed list.now canvas.now.map.size sample.now.size) }
+    ensures picked { IfOk result (IsPick (error_of canvas.now.map sample.now) tol (listed list.now canvas.now.map.size sample.now.size) draws.old) }
+    ensures listed { IfOk result (Contains (listed list.now canvas.now.map.size sample.now.size)) }
+    ensures next { OnOk result (draws.new ≡ record draws.old { place = (draws.old.place + 1) % 2 ^ 64 }) }
+    ensures kept { OnErr result (draws.new ≡ draws.old) }
+    ensures memory { OnErr result (IsSome tol) }
+{
+    let i = picked_at(alloc, list, tol, canvas, sample, draws)?;
+    Ok(entry_for(list, canvas, sample, i))
+}

@@ -25,6 +25,8 @@ mod errors;
 mod laws;
 mod mode;
 mod picks;
+#[cfg(test)]
+mod step_tests;
 mod steps;
 #[cfg(test)]
 mod tests;

@@ -27,7 +27,7 @@ impl Mode {
 }
 
 // The candidates of a mode for the first unfilled cell.
-fn candidates_for(mode: &Mode, q: At, canvas: &Canvas, sample: &Volume) -> Candidates
+pub(crate) fn candidates_for(mode: &Mode, q: At, canvas: &Canvas, sample: &Volume) -> Candidates
     requires part { HasPart mode.now }
     requires first { first_unfilled canvas.now.map ≡ Some q }
     ensures listed { listed result canvas.now.map.size sample.now.size ≡ candidates mode.now canvas.now.map.size sample.now.size q }

@@ -19,7 +19,7 @@ use seam_cost::window_after;
 use source_map::{Canvas, Placement};
 
 // Rule 1, for a box that has a cell.
-fn fits(canvas: &Canvas, sample: &Volume, placement: &Placement) -> bool
+pub(crate) fn fits(canvas: &Canvas, sample: &Volume, placement: &Placement) -> bool
     requires { HasCells placement.now.rect.size }
     ensures { MatchBool result (FitsOver canvas.now.map sample.now placement.now) (Fits canvas.now.map.size sample.now placement.now → ⊥) }
 {
@@ -71,7 +71,7 @@ fn check_flows(
 }
 
 // The rules after the first.
-fn check_fitting(
+pub(crate) fn check_fitting(
     canvas: &Canvas,
     sample: &Volume,
     cut: &CutRecord,

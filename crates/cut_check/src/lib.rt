@@ -9,6 +9,8 @@ mod laws;
 mod record;
 mod rules;
 mod spots;
+#[cfg(test)]
+mod tests;
 mod value;
 
 pub use check::{check_cut, check_held};

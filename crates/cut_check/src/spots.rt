@@ -69,8 +69,8 @@ pub fn next_spot(size: Size, i: usize, spot: Spot) -> Spot
     }
 }
 
-#[tactic(auto, using(crate::proofs::Cells::cell_sum_fits, crate::proofs::Cells::counts_at))]
 /// The cell of a placement's box at an index in raster order.
+#[tactic(auto, using(crate::proofs::Cells::cell_sum_fits, crate::proofs::Cells::counts_at))]
 pub fn box_cell(map: &Map, placement: &Placement, i: usize, spot: Spot) -> At
     requires lies { LiesIn map.now placement.now }
     requires here { spot ≡ spot_of placement.now.rect.size i }

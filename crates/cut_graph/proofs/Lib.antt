@@ -1,3 +1,5 @@
 pub mod Joined
 pub mod Crossing
 pub mod Cutting
+pub mod Numbers
+pub mod Numbered

@@ -1,3 +1,5 @@
 pub mod Nodes
 pub mod Pipes
 pub mod Cuts
+pub mod Numberings
+pub mod Building

@@ -2,7 +2,10 @@
 //! choice is its cost.
 #![tactic(auto)]
 
+mod cell_nodes;
+mod counts;
 mod network;
+mod numbering;
 mod places;
 
 pub use network::{build, build_held};

@@ -1,6 +1,12 @@
 // Which node and which pipe of a network stand for what.
 use items::Items;
 
+// The node that stands for old.
+pub(crate) const SOURCE: u32 = 0;
+
+// The node that stands for new.
+pub(crate) const SINK: u32 = 1;
+
 /// For each cell and each pair of a placement's box, its nodes and pipes in the network.
 #[derive(Debug, Drop)]
 pub struct Places {

@@ -1,0 +1,109 @@
+// The nodes of the cells of a placement's box.
+ghost use Rattle.std.specs.Prelude.{◌≡◌, ◌<◌, ◌+◌, Bool, List, IfOk, IfSome, OnOk, option_copied, length, false, slice_index_or};
+ghost use Rattle.cells.specs.Boxes.{HoldsBox, IsInBox};
+ghost use Rattle.cells.specs.Places.{IsSmall, cell_count};
+ghost use Rattle.seam_cost.specs.Lawful.{marks_of, is_held};
+ghost use Rattle.seam_cost.specs.Pairs.{AreCounts};
+ghost use Rattle.cut_graph.specs.Building.{AreCellNodes, Gives, IsNodeOf, IsStanding};
+ghost use Rattle.cut_graph.specs.Numberings.{IsNumbering, index_of};
+
+use crate::counts::Counts;
+use crate::numbering::Numbering;
+use crate::places::{SINK, SOURCE};
+use cells::At;
+use source_map::{Canvas, Placement};
+use std::alloc::{AllocError, Global};
+
+// How a cell of the box stands.
+#[derive(Clone, Copy, Debug, Drop)]
+pub(crate) enum Standing {
+    // It is filled, and kept or held.
+    Old,
+    // It has nothing old.
+    Unfilled,
+    // It may stay old or become new.
+    Free,
+}
+
+// Whether the cell at an index is held.
+fn is_marked(held: Option<&[bool]>, i: usize) -> bool
+    requires { IfSome (option_copied held) (λ marks. i < length marks) }
+    ensures { result ≡ slice_index_or (marks_of (option_copied held.entry)) i false }
+{
+    match held {
+        Some(marks) => marks[i],
+        None => false,
+    }
+}
+
+// How a cell of the box stands, by whether it is held.
+fn standing_of(canvas: &Canvas, placement: &Placement, p: At, held: bool) -> Standing
+    requires { IsInBox placement.now.rect p }
+    ensures { (marks : List Bool) → is_held placement.now marks p ≡ held → IsStanding canvas.now.map placement.now marks p result }
+{
+    if !canvas.is_filled(p) {
+        Standing::Unfilled
+    } else if held || canvas.is_kept(&placement.rect, p) {
+        Standing::Old
+    } else {
+        Standing::Free
+    }
+}
+
+// Gives a cell a node.
+fn give(cells: &mut Numbering, standing: Standing) -> Result<(), AllocError>
+    requires room { cells.old.next < 4294967295 }
+    requires numbering { IsNumbering 2 cells.old.next cells.old.nodes.items }
+    ensures { OnOk result (Gives (IsNodeOf standing) 2 cells.old cells.new) }
+{
+    match standing {
+        Standing::Old => cells.give(SOURCE),
+        Standing::Unfilled => cells.give(SINK),
+        Standing::Free => cells.give_own(),
+    }
+}
+
+// Gives the cell at an index its node.
+fn give_at(
+    cells: &mut Numbering,
+    canvas: &Canvas,
+    placement: &Placement,
+    held: Option<&[bool]>,
+    at: Counts,
+    i: usize,
+) -> Result<(), AllocError>
+    requires inside { HoldsBox canvas.now.map.size placement.now.rect.corner placement.now.rect.size }
+    requires counts { AreCounts placement.now.rect.size at.x at.y at.f }
+    requires index { index_of placement.now.rect.size at.x at.y at.f ≡ i }
+    requires marks { IfSome (option_copied held) (λ marks. i < length marks) }
+    requires few { i < 33554432 }
+    requires cells { AreCellNodes canvas.now.map placement.now (marks_of (option_copied held)) i cells.old }
+    ensures { OnOk result (AreCellNodes canvas.now.map placement.now (marks_of (option_copied held.entry)) (i + 1) cells.new) }
+{
+    let _size = canvas.map().size();
+    let p = at.cell(&placement.rect);
+    let standing = standing_of(canvas, placement, p, is_marked(held, i));
+    give(cells, standing)
+}
+
+// The nodes of all cells of the box, in raster order.
+pub(crate) fn number_cells(
+    alloc: Global,
+    canvas: &Canvas,
+    placement: &Placement,
+    held: Option<&[bool]>,
+) -> Result<Numbering, AllocError>
+    requires small { IsSmall placement.now.rect.size }
+    requires inside { HoldsBox canvas.now.map.size placement.now.rect.corner placement.now.rect.size }
+    requires marks { IfSome (option_copied held) (λ marks. length marks ≡ cell_count placement.now.rect.size) }
+    ensures { IfOk result (AreCellNodes canvas.now.map placement.now (marks_of (option_copied held.entry)) (cell_count placement.now.rect.size)) }
+{
+    let size = placement.rect.size;
+    let mut cells = Numbering::begin(alloc, SINK + 1, size.cells())?;
+    let mut at = Counts::first();
+    for i in 0..size.cells() {
+        give_at(&mut cells, canvas, placement, held, at, i)?;
+        at = at.next(size);
+    }
+    Ok(cells)
+}

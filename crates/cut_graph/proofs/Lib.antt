@@ -3,3 +3,5 @@ pub mod Crossing
 pub mod Cutting
 pub mod Numbers
 pub mod Numbered
+pub mod PairNumbers
+pub mod AtPairs

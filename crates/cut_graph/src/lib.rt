@@ -7,6 +7,7 @@ mod counts;
 mod network;
 mod numbering;
 mod places;
+mod seam_nodes;
 
 pub use network::{build, build_held};
 pub use places::Places;

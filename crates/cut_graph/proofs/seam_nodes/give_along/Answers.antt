@@ -1,0 +1,30 @@
+use Rattle.std.proofs.Common.{◌≡◌, ◌+◌, true, sym, ap, ◌∙◌, subst, arith}
+use Rattle.std.specs.Prelude.{OnOk}
+use Rattle.std.proofs.lemmas.Result.{on_ok_weaker}
+use Rattle.seam_cost.specs.Pairs.{has_next, one_if, pair_number}
+use Rattle.cut_graph.specs.Building.{AreSeamNodes, Gives, IsSeamNode, are_filled, both_filled}
+use Rattle.cut_graph.specs.Nodes.{IsPair}
+use Rattle.cut_graph.proofs.AtPairs.{behind, more_seams}
+use Rattle.cut_graph.proofs.seam_nodes.give_along.Goals as goal
+
+pub are_filled-requires-clause-second : goal.are_filled-requires-clause-second
+are_filled-requires-clause-second c =
+    let at = c.args.at in
+    let is : IsPair c.args.size c.args.axis at.x at.y at.f = record { counts = c.requires.counts; next = sym c.has_next.ensures ∙ c.if-has_next.true } in
+    omega (arith, behind c.args.size c.args.axis at.x at.y at.f is, c.requires.index, c.stride.ensures, c.requires.cells)
+
+pub returns-then-has_next-clause-seams : goal.returns-then-has_next-clause-seams
+returns-then-has_next-clause-seams c first some was =
+    let at = c.args.at in
+    let size = c.args.size in
+    let axis = c.args.axis in
+    let cells = c.args.cells.now in
+    let result = c.give.result in
+    let seams = c.give.new.seams in
+    let next : has_next size axis at.x at.y at.f ≡ true = sym c.has_next.ensures ∙ c.if-has_next.true in
+    let is : IsPair size axis at.x at.y at.f = record { counts = c.requires.counts; next = next } in
+    let filled : c.are_filled.result ≡ are_filled cells size axis at.x at.y at.f =
+    c.are_filled.ensures ∙ (λ k. both_filled cells (sym c.requires.index k) (sym c.requires.index k + c.stride.ensures k)) in
+    let gives = subst (λ b. OnOk result (Gives (IsSeamNode first b) first c.args.seams.now seams)) filled (c.give.ensures.seams first some was.numbering) in
+    let more = on_ok_weaker result (more_seams cells size first axis at.x at.y at.f c.args.seams.now seams is was) gives in
+    subst (λ n. OnOk result (AreSeamNodes cells size first (pair_number size axis at.x at.y at.f + n) seams)) (sym (ap one_if next)) more

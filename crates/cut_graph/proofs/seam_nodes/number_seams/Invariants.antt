@@ -1,0 +1,10 @@
+use Rattle.seam_cost.specs.Pairs.{pairs_before}
+use Rattle.cut_graph.specs.Building.{AreSeamNodes}
+use Rattle.cut_graph.specs.Numberings.{IsAtIndex}
+use Rattle.cut_graph.proofs.seam_nodes.number_seams.Given as goal
+
+abbrev pub invariant-loop-i : goal.invariant-loop-i
+invariant-loop-i l = record {
+  at : IsAtIndex l.size l.i l.at.x l.at.y l.at.f;
+  seams : AreSeamNodes l.cells l.size l.first (pairs_before l.size l.i) l.seams;
+}

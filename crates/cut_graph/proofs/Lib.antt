@@ -5,3 +5,4 @@ pub mod Numbers
 pub mod Numbered
 pub mod PairNumbers
 pub mod AtPairs
+pub mod PlanCells

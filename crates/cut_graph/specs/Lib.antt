@@ -3,3 +3,4 @@ pub mod Pipes
 pub mod Cuts
 pub mod Numberings
 pub mod Building
+pub mod Plans

@@ -6,7 +6,9 @@ mod cell_nodes;
 mod counts;
 mod network;
 mod numbering;
+mod piping;
 mod places;
+mod plan;
 mod seam_nodes;
 
 pub use network::{build, build_held};

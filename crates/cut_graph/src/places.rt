@@ -10,6 +10,9 @@ pub(crate) const SINK: u32 = 1;
 // What stands for no seam node.
 pub(crate) const NO_SEAM: u32 = 0;
 
+// What stands for no pipe.
+pub(crate) const NO_PIPE: u32 = 0;
+
 /// For each cell and each pair of a placement's box, its nodes and pipes in the network.
 #[derive(Debug, Drop)]
 pub struct Places {

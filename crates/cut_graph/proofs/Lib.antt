@@ -6,3 +6,4 @@ pub mod Numbered
 pub mod PairNumbers
 pub mod AtPairs
 pub mod PlanCells
+pub mod Laying

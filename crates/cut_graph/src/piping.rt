@@ -1,11 +1,14 @@
 // The pipes of the pairs of a placement's box, one pair after another.
-ghost use Rattle.std.specs.Prelude.{◌≡◌, ◌≤◌, ◌<◌, ◌+◌, ◌*◌, ◌^◌, ◌∷◌, [], length, IfOk, OnOk, Some};
+ghost use Rattle.std.specs.Prelude.{◌≡◌, ◌≤◌, ◌<◌, ◌+◌, ◌*◌, ◌^◌, ◌∷◌, List, [], length, IfOk, OnOk, Some};
 ghost use Rattle.cells.specs.Distances.{distance};
+ghost use Rattle.cells.specs.Places.{cell_count};
+ghost use Rattle.max_flow.specs.Networks.{empty_network};
+ghost use Rattle.max_flow.specs.declared.network.Pipe.{Pipe};
 ghost use Rattle.source_map.specs.Maps.{IsSource};
-ghost use Rattle.seam_cost.specs.Pairs.{cell_in, pair_count, pairs_before};
+ghost use Rattle.seam_cost.specs.Pairs.{AreCounts, cell_in, pair_count, pairs_before};
 ghost use Rattle.cut_graph.specs.Nodes.{IsPair};
 ghost use Rattle.cut_graph.specs.Numberings.{index_of};
-ghost use Rattle.cut_graph.specs.Pipes.{pair_pipes};
+ghost use Rattle.cut_graph.specs.Pipes.{first_or_none, pair_pipes};
 ghost use Rattle.cut_graph.specs.Plans.{HasNodes, HasSources, IsCellAt, IsPiped, IsPipedPast, IsPipedTo, IsPlan, before, with_pipes};
 
 use crate::counts::{Counts, stride};
@@ -122,4 +125,111 @@ fn join(
         }
         (None, None) => 0,
     }
+}
+
+// Where so many pipes more begin.
+fn first_of(count: u32, added: u32) -> u32
+    ensures { (pipes : List Pipe) → added ≡ length pipes → result ≡ first_or_none pipes count }
+{
+    if added > 0 { count } else { NO_PIPE }
+}
+
+impl Piping {
+    // No pipe, in a network of so many nodes with room for those of so many pairs.
+    fn begin(alloc: Global, nodes: u32, pairs: usize) -> Result<Piping, AllocError>
+        requires nodes { 2 ≤ nodes }
+        requires pairs { pairs ≤ 100663296 }
+        ensures { IfOk result (λ made. (made.network ≡ empty_network nodes 0 1 (3 * pairs)) × (made.count ≡ 0) × (made.first.items ≡ [])) }
+    {
+        let network = Network::make(alloc, nodes, SOURCE, SINK, 3 * pairs)?;
+        let first = Vec::with_capacity(alloc, pairs)?;
+        Ok(Piping {
+            network,
+            count: 0,
+            first,
+        })
+    }
+
+    // Adds the pipes of the pair of a cell, at an index, and the one behind it along an axis.
+    fn add_pair(
+        &mut self,
+        plan: &Plan,
+        axis: Axis,
+        at: Counts,
+        i: usize,
+        first: &PairCell,
+    ) -> Result<(), AllocError>
+        requires plan { IsPlan plan.now }
+        requires nodes { HasNodes plan.now self.old.network.nodes }
+        requires pair { IsPair plan.now.placement.rect.size axis at.x at.y at.f }
+        requires index { index_of plan.now.placement.rect.size at.x at.y at.f ≡ i }
+        requires first { IsCellAt plan.now (cell_in plan.now.placement.rect at.x at.y at.f) i first.now }
+        requires sources { HasSources first.now }
+        requires so_far { IsPipedTo plan.now self.old.network.nodes axis at.x at.y at.f self.old }
+        ensures { OnOk result (IsPipedPast plan.now self.old.network.nodes axis at.x at.y at.f self.new) }
+    {
+        let place = at.cell(&plan.placement.rect).plus(axis.unit());
+        let second = plan.cell(place, i + stride(plan.placement.rect.size, axis));
+        let seam = plan.seams[self.first.len()];
+        let added = join(&mut self.network, plan.sample, axis, first, &second, seam);
+        self.first.push(first_of(self.count, added))?;
+        self.count += added;
+        Ok(())
+    }
+
+    // The same where the box has the cell behind.
+    fn add_along(
+        &mut self,
+        plan: &Plan,
+        axis: Axis,
+        at: Counts,
+        i: usize,
+        first: &PairCell,
+    ) -> Result<(), AllocError>
+        requires plan { IsPlan plan.now }
+        requires nodes { HasNodes plan.now self.old.network.nodes }
+        requires counts { AreCounts plan.now.placement.rect.size at.x at.y at.f }
+        requires index { index_of plan.now.placement.rect.size at.x at.y at.f ≡ i }
+        requires first { IsCellAt plan.now (cell_in plan.now.placement.rect at.x at.y at.f) i first.now }
+        requires sources { HasSources first.now }
+        requires so_far { IsPipedTo plan.now self.old.network.nodes axis at.x at.y at.f self.old }
+        ensures { OnOk result (IsPipedPast plan.now self.old.network.nodes axis at.x at.y at.f self.new) }
+    {
+        if at.has_next(plan.placement.rect.size, axis) {
+            self.add_pair(plan, axis, at, i, first)
+        } else {
+            Ok(())
+        }
+    }
+
+    // Adds the pipes of a cell, at an index, and the ones behind it.
+    fn add_behind(&mut self, plan: &Plan, at: Counts, i: usize) -> Result<(), AllocError>
+        requires plan { IsPlan plan.now }
+        requires nodes { HasNodes plan.now self.old.network.nodes }
+        requires counts { AreCounts plan.now.placement.rect.size at.x at.y at.f }
+        requires index { index_of plan.now.placement.rect.size at.x at.y at.f ≡ i }
+        requires so_far { IsPiped plan.now self.old.network.nodes (before plan.now i) (pairs_before plan.now.placement.rect.size i) self.old }
+        ensures { OnOk result (IsPiped plan.now self.old.network.nodes (before plan.now (i + 1)) (pairs_before plan.now.placement.rect.size (i + 1)) self.new) }
+    {
+        let first = plan.cell(at.cell(&plan.placement.rect), i);
+        self.add_along(plan, Axis::X, at, i, &first)?;
+        self.add_along(plan, Axis::Y, at, i, &first)?;
+        self.add_along(plan, Axis::F, at, i, &first)
+    }
+}
+
+// The network of a plan, of so many nodes, with the first pipes of its pairs.
+pub(crate) fn lay_pipes(alloc: Global, plan: &Plan, nodes: u32) -> Result<Piping, AllocError>
+    requires plan { IsPlan plan.now }
+    requires nodes { HasNodes plan.now nodes }
+    ensures { IfOk result (IsPiped plan.now nodes (before plan.now (cell_count plan.now.placement.rect.size)) (pair_count plan.now.placement.rect.size)) }
+{
+    let mut piping = Piping::begin(alloc, nodes, plan.seams.len())?;
+    let size = plan.placement.rect.size;
+    let mut at = Counts::first();
+    for i in 0..plan.cells.len() {
+        piping.add_behind(plan, at, i)?;
+        at = at.next(size);
+    }
+    Ok(piping)
 }

@@ -1,0 +1,157 @@
+-- The pipes of one pair more, and of all pairs of a cell.
+use Rattle.std.proofs.Common.{◌≡◌, ℕ, ◌+◌, ◌*◌, ◌≤◌, List, [], ◌∷◌, ◌++◌, length, sym, ap, ◌∙◌, subst, arith, true, append_assoc}
+use Rattle.std.proofs.Math.Numerals.{add-one}
+use Rattle.std.proofs.lemmas.Int.{ints}
+use Rattle.std.proofs.lemmas.List.{length-append}
+use Rattle.std.specs.Prelude.{ℤ, pos, ◌+ℤ◌, Option, Some, None, slice_index, if◌then◌else◌}
+use borrow.Author.Tests.{ltb-true}
+use Rattle.cells.specs.declared.place.At.{At}
+use Rattle.cells.specs.declared.place.Axis.{Axis}
+use Rattle.cells.specs.declared.place.Axis.TheVariants.{X, Y, F}
+use Rattle.cells.specs.declared.place.Box3.{Box3}
+use Rattle.cells.specs.declared.place.Size.{Size}
+use Rattle.cells.specs.Boxes.{IsInBox}
+use Rattle.cells.specs.Distances.{distance}
+use Rattle.cells.specs.Neighbours.{unit_step}
+use Rattle.cells.specs.Places.{IsSmall, plus}
+use Rattle.source_map.specs.Choices.{new_source}
+use Rattle.source_map.specs.Maps.{map_at}
+use Rattle.cells.proofs.BoxLaws.{box_small}
+use Rattle.max_flow.specs.declared.network.Pipe.{Pipe}
+use Rattle.seam_cost.specs.Pairs.{AreCounts, at_index, cell_in, has_next, one_if, pair_number, pairs_before}
+use Rattle.cut_graph.specs.declared.piping.Piping.{Piping}
+use Rattle.cut_graph.specs.declared.plan.PairCell.{PairCell}
+use Rattle.cut_graph.specs.declared.plan.Plan.{Plan}
+use Rattle.cut_graph.specs.Nodes.{IsPair, cell_node, seam_node}
+use Rattle.cut_graph.specs.Numberings.{AtPairs, index_of, stride}
+use Rattle.cut_graph.specs.Pipes.{first_or_none, joined, next_node, pair_pipes, pipes_between, pipes_from}
+use Rattle.cut_graph.specs.Plans.{IsCellAt, IsFirst, IsPiped, IsPipedPast, IsPipedTo, IsPlan, along, before, pipes_of_pair, places_of, up_to, with_pipes}
+use Rattle.cut_graph.proofs.AtPairs.{at_more}
+use Rattle.cut_graph.proofs.Numbered.{in_box}
+use Rattle.cut_graph.proofs.Numbers.{at_counts, length-end}
+use Rattle.cut_graph.proofs.PairNumbers.{number_below, pairs_next}
+
+pub plan_small : (plan : Plan) → IsPlan plan → IsSmall plan.placement.rect.size
+plan_small plan is = box_small plan.map.now.size plan.placement.rect.corner plan.placement.rect.size is.over.small is.fits.some is.fits.inside
+
+-- a step by steps on two axes or three
+next_along : (z : ℤ) (n : ℕ) → z +ℤ pos (n + 1) ≡ (z +ℤ pos n) +ℤ pos 1
+next_along z n = omega (arith, ints)
+
+same_along : (z : ℤ) (n : ℕ) → z +ℤ pos n ≡ (z +ℤ pos n) +ℤ pos 0
+same_along z n = omega (arith, ints)
+
+next_x : (rect : Box3) (x y f : ℕ) → cell_in rect (x + 1) y f ≡ plus (cell_in rect x y f) (unit_step X)
+next_x rect x y f = λ k. record { x = next_along rect.corner.x x k; y = same_along rect.corner.y y k; f = same_along rect.corner.f f k }
+
+next_y : (rect : Box3) (x y f : ℕ) → cell_in rect x (y + 1) f ≡ plus (cell_in rect x y f) (unit_step Y)
+next_y rect x y f = λ k. record { x = same_along rect.corner.x x k; y = next_along rect.corner.y y k; f = same_along rect.corner.f f k }
+
+next_f : (rect : Box3) (x y f : ℕ) → cell_in rect x y (f + 1) ≡ plus (cell_in rect x y f) (unit_step F)
+next_f rect x y f = λ k. record { x = same_along rect.corner.x x k; y = same_along rect.corner.y y k; f = next_along rect.corner.f f k }
+
+-- the second cell of a pair is in the box
+pub second_in_box : (rect : Box3) (axis : Axis) (x y f : ℕ) → IsPair rect.size axis x y f → IsInBox rect (plus (cell_in rect x y f) (unit_step axis))
+second_in_box rect X x y f is =
+    subst (IsInBox rect) (next_x rect x y f) (in_box rect (x + 1) y f (record { column = ltb-true (x + 1) rect.size.w is.next; row = is.counts.row; frame = is.counts.frame }))
+second_in_box rect Y x y f is =
+    subst (IsInBox rect) (next_y rect x y f) (in_box rect x (y + 1) f (record { column = is.counts.column; row = ltb-true (y + 1) rect.size.h is.next; frame = is.counts.frame }))
+second_in_box rect F x y f is =
+    subst (IsInBox rect) (next_f rect x y f) (in_box rect x y (f + 1) (record { column = is.counts.column; row = is.counts.row; frame = ltb-true (f + 1) rect.size.f is.next }))
+
+-- and its node stands so far behind
+next_is : (plan : Plan) (axis : Axis) (x y f : ℕ)
+    → next_node (places_of plan) plan.placement.rect.size axis x y f ≡ slice_index plan.cells.now (index_of plan.placement.rect.size x y f + stride plan.placement.rect.size axis)
+next_is plan X x y f =
+    let size = plan.placement.rect.size in
+    let e : index_of size (x + 1) y f ≡ index_of size x y f + 1 = omega arith in ap (slice_index plan.cells.now) e
+next_is plan Y x y f =
+    let size = plan.placement.rect.size in
+    let e : index_of size x (y + 1) f ≡ index_of size x y f + size.w = omega arith in ap (slice_index plan.cells.now) e
+next_is plan F x y f =
+    let size = plan.placement.rect.size in
+    let e : index_of size x y (f + 1) ≡ index_of size x y f + size.w * size.h = omega arith in ap (slice_index plan.cells.now) e
+
+-- the pipes of a pair by its two cells
+module _ (plan : Plan) (axis : Axis) (x y f i : ℕ) (p : At) (first second : PairCell) (seam : ℕ) (index : index_of plan.placement.rect.size x y f ≡ i)
+    (place : p ≡ plus (cell_in plan.placement.rect x y f) (unit_step axis)) (next : has_next plan.placement.rect.size axis x y f ≡ true)
+    (is_first : IsCellAt plan (cell_in plan.placement.rect x y f) i first) (is_second : IsCellAt plan p (i + stride plan.placement.rect.size axis) second)
+    (is_seam : seam ≡ seam_node (places_of plan) plan.placement.rect.size axis x y f) where
+  first_node : first.node ≡ cell_node (places_of plan) plan.placement.rect.size x y f
+  first_node = is_first.own ∙ ap (slice_index plan.cells.now) (sym index)
+
+  second_node : second.node ≡ next_node (places_of plan) plan.placement.rect.size axis x y f
+  second_node = is_second.own ∙ ap (λ n. slice_index plan.cells.now (n + stride plan.placement.rect.size axis)) (sym index) ∙ sym (next_is plan axis x y f)
+
+  abbrev between : List Pipe
+  between = pipes_between (distance plan.sample.now) plan.map.now plan.placement axis (cell_in plan.placement.rect x y f) (plus (cell_in plan.placement.rect x y f) (unit_step axis))
+      (cell_node (places_of plan) plan.placement.rect.size x y f) (next_node (places_of plan) plan.placement.rect.size axis x y f) (seam_node (places_of plan) plan.placement.rect.size axis x y f)
+
+  pub pair_is : pipes_of_pair plan axis first second seam ≡ along plan axis x y f
+  pair_is =
+      (λ k. pair_pipes (distance plan.sample.now) axis (is_first.source k) ((is_second.source ∙ ap (map_at plan.map.now) place) k) (is_first.new k)
+      ((is_second.new ∙ ap (new_source plan.placement) place) k) (first_node k) (second_node k) (is_seam k))
+      ∙ sym (ap (λ b. if b then between else []) next)
+
+-- a pair has three pipes at most
+pub pipes_most : (plan : Plan) (axis : Axis) (first second : PairCell) (seam : ℕ) → length (pipes_of_pair plan axis first second seam) ≤ 3
+pipes_most plan axis first second seam = by first.before second.before
+  where
+    by : (a b : Option At) → length (pair_pipes (distance plan.sample.now) axis a b first.after second.after first.node second.node seam) ≤ 3
+    by (Some a) (Some b) = omega arith
+    by (Some a) None = omega arith
+    by None (Some b) = omega arith
+    by None None = omega arith
+
+-- there is room for those of one pair more
+pub has_room : (plan : Plan) (nodes : ℕ) (axis : Axis) (x y f : ℕ) (was : Piping) → IsPair plan.placement.rect.size axis x y f → IsPipedTo plan nodes axis x y f was → 3 ≤ was.network.spare
+has_room plan nodes axis x y f was is so_far = omega (arith, so_far.room, number_below plan.placement.rect.size axis x y f is)
+
+-- what comes of one pair more
+pub record Grows (plan : Plan) (made : List Pipe) (was now : Piping) : Type 0 where
+  pub network : now.network ≡ with_pipes was.network made
+  pub total : now.count ≡ was.count + length made
+  pub firsts : now.first.items ≡ was.first.items ++ first_or_none made was.count ∷ []
+  pub few : length made ≤ 3
+
+pub grown : (plan : Plan) (nodes : ℕ) (axis : Axis) (x y f : ℕ) (made : List Pipe) (was now : Piping) → IsPair plan.placement.rect.size axis x y f → made ≡ along plan axis x y f
+    → Grows plan made was now → IsPipedTo plan nodes axis x y f was → IsPipedPast plan nodes axis x y f now
+grown plan nodes axis x y f made was now is same grows so_far = record {
+  size = ap (λ n. n.nodes) grows.network ∙ so_far.size;
+  source = ap (λ n. n.source) grows.network ∙ so_far.source;
+  sink = ap (λ n. n.sink) grows.network ∙ so_far.sink;
+  pipes = ap (λ n. n.pipes) grows.network ∙ (λ k. so_far.pipes k ++ same k);
+  room = omega (arith, so_far.room, ap (λ n. n.spare) grows.network, grows.few, more, number_below plan.placement.rect.size axis x y f is);
+  total = omega (arith, grows.total, so_far.total, ap length same, lengths);
+  few = omega (arith, so_far.few, grows.few, ap length same, lengths, more);
+  number = ap length grows.firsts ∙ length-end was.first.items (first_or_none made was.count) ∙ (λ k. so_far.number k + sym more k);
+  firsts = subst (AtPairs plan.placement.rect.size (IsFirst plan)) (sym grows.firsts)
+      (at_more plan.placement.rect.size (IsFirst plan) axis x y f (first_or_none made was.count) was.first.items is so_far.number (λ k. first_or_none (same k) (so_far.total k)) so_far.firsts);
+}
+  where
+    more : one_if (has_next plan.placement.rect.size axis x y f) ≡ 1
+    more = ap one_if is.next
+
+    lengths : length (up_to plan axis x y f ++ along plan axis x y f) ≡ length (up_to plan axis x y f) + length (along plan axis x y f)
+    lengths = length-append (up_to plan axis x y f) (along plan axis x y f)
+
+-- past the third pair of a cell is before the next cell
+pub past_cell : (plan : Plan) (nodes : ℕ) (x y f i : ℕ) (now : Piping) → AreCounts plan.placement.rect.size x y f → index_of plan.placement.rect.size x y f ≡ i
+    → IsPipedPast plan nodes F x y f now → IsPiped plan nodes (before plan (i + 1)) (pairs_before plan.placement.rect.size (i + 1)) now
+past_cell plan nodes x y f i now at index past =
+    subst (λ n. IsPiped plan nodes (before plan (i + 1)) n now) numbers (subst (λ made. IsPiped plan nodes made (pair_number plan.placement.rect.size F x y f + one_if (has_next plan.placement.rect.size F x y f)) now) lists past)
+  where
+    size : Size
+    size = plan.placement.rect.size
+
+    numbers : pair_number size F x y f + one_if (has_next size F x y f) ≡ pairs_before size (i + 1)
+    numbers = omega (arith, pairs_next size x y f at, ap (λ i. pairs_before size (i + 1)) index)
+
+    from : ℕ → ℕ → ℕ → List Pipe
+    from = pipes_from (distance plan.sample.now) plan.map.now plan.placement (places_of plan)
+
+    lists : up_to plan F x y f ++ along plan F x y f ≡ before plan (i + 1)
+    lists = append_assoc (before plan (index_of size x y f) ++ along plan X x y f) (along plan Y x y f) (along plan F x y f)
+        ∙ append_assoc (before plan (index_of size x y f)) (along plan X x y f) (along plan Y x y f ++ along plan F x y f)
+        ∙ ap (λ made. before plan (index_of size x y f) ++ made) (sym (at_counts size from x y f at.column at.row))
+        ∙ ap (joined (at_index size from)) (sym (add-one (index_of size x y f)) ∙ ap (λ n. n + 1) index)

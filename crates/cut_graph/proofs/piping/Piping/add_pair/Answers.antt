@@ -1,0 +1,80 @@
+use Rattle.std.proofs.Common.{◌≡◌, ℕ, ◌+◌, ◌<◌, [], ◌∷◌, ◌++◌, sym, ap, ◌∙◌, subst, arith, rules, Fits, w32}
+use Rattle.std.specs.Prelude.{slice_index}
+use Rattle.cells.specs.Boxes.{IsInBox}
+use Rattle.cells.specs.Neighbours.{unit_step}
+use Rattle.cells.specs.Places.{cell_count, plus}
+use Rattle.seam_cost.specs.Pairs.{cell_in, pair_number}
+use Rattle.cut_graph.specs.declared.piping.Piping.{Piping}
+use Rattle.cut_graph.specs.Plans.{IsCellAt, pipes_of_pair}
+use Rattle.cut_graph.proofs.AtPairs.{behind}
+use Rattle.cut_graph.proofs.Laying.{Grows, grown, has_room, pair_is, pipes_most, plan_small, second_in_box}
+use Rattle.cut_graph.proofs.PairNumbers.{number_below, pairs_few}
+use Rattle.cut_graph.proofs.piping.Piping.add_pair.Goals as goal
+
+pub stride-requires : goal.stride-requires
+stride-requires c = plan_small c.args.plan.now c.requires.plan
+
+pub cell-second-requires-clause-inside : goal.cell-second-requires-clause-inside
+cell-second-requires-clause-inside c =
+    let rect = c.args.plan.now.placement.rect in
+    let at = c.args.at in
+    let place : c.plus-place.result ≡ plus (cell_in rect at.x at.y at.f) (unit_step c.args.axis) = c.plus-place.ensures ∙ (λ k. plus (c.cell.ensures k) (c.unit.ensures k)) in
+    subst (IsInBox rect) (sym place) (second_in_box rect c.args.axis at.x at.y at.f c.requires.pair)
+
+pub cell-second-requires-clause-below : goal.cell-second-requires-clause-below
+cell-second-requires-clause-below c =
+    let at = c.args.at in
+    omega (arith, behind c.args.plan.now.placement.rect.size c.args.axis at.x at.y at.f c.requires.pair, c.requires.index, c.stride.ensures, c.requires.plan.cells_count)
+
+pub bounds-plan-len : goal.bounds-plan-len
+bounds-plan-len c =
+    let at = c.args.at in
+    let first = c.args.self.now.first in
+    omega (arith, number_below c.args.plan.now.placement.rect.size c.args.axis at.x at.y at.f c.requires.pair, c.requires.so_far.number, c.requires.plan.seams_count, c.len.ensures, first.ok)
+
+pub offset_bounds-plan-len : goal.offset_bounds-plan-len
+offset_bounds-plan-len c = let lt = bounds-plan-len c in search rules
+
+pub join-added-requires-clause-room : goal.join-added-requires-clause-room
+join-added-requires-clause-room c =
+    let at = c.args.at in
+    has_room c.args.plan.now c.args.self.now.network.nodes c.args.axis at.x at.y at.f c.args.self.now c.requires.pair c.requires.so_far
+
+small_fits : (n : ℕ) → n < 400000000 → Fits w32 n
+small_fits n lt = search rules
+
+pub overflow_add-self : goal.overflow_add-self
+overflow_add-self c =
+    let plan = c.args.plan.now in
+    let size = plan.placement.rect.size in
+    let at = c.args.at in
+    let so_far = c.requires.so_far in
+    let most = pipes_most plan c.args.axis c.args.first.now c.cell-second.result (slice_index plan.seams.now c.len.result) in
+    let few : c.args.self.now.count + c.join-added.result < 400000000 =
+    omega (arith, so_far.total, so_far.few, number_below size c.args.axis at.x at.y at.f c.requires.pair, pairs_few size (cell_count size), (plan_small plan c.requires.plan).cells, c.join-added.ensures.count, most) in
+    small_fits (c.args.self.now.count + c.join-added.result) few
+
+pub returns : goal.returns
+returns c =
+    let plan = c.args.plan.now in
+    let size = plan.placement.rect.size in
+    let rect = plan.placement.rect in
+    let at = c.args.at in
+    let axis = c.args.axis in
+    let first = c.args.first.now in
+    let second = c.cell-second.result in
+    let was = c.args.self.now in
+    let now : Piping = record { network = c.join-added.new.network; count = was.count + c.join-added.result; first = c.push.new.self } in
+    let seam = slice_index plan.seams.now c.len.result in
+    let made = pipes_of_pair plan axis first second seam in
+    let number : c.len.result ≡ pair_number size axis at.x at.y at.f = omega (arith, c.len.ensures, was.first.ok, c.requires.so_far.number) in
+    let place : c.plus-place.result ≡ plus (cell_in rect at.x at.y at.f) (unit_step axis) = c.plus-place.ensures ∙ (λ k. plus (c.cell.ensures k) (c.unit.ensures k)) in
+    let is_second = subst (λ n. IsCellAt plan c.plus-place.result (c.args.i + n) second) c.stride.ensures c.cell-second.ensures.cell in
+    let same = pair_is plan axis at.x at.y at.f c.args.i c.plus-place.result first second seam c.requires.index place c.requires.pair.next c.requires.first is_second (ap (slice_index plan.seams.now) number) in
+    let grows : Grows plan made was now = record {
+      network = c.join-added.ensures.network;
+      total = ap (λ n. was.count + n) c.join-added.ensures.count;
+      firsts = c.in_ok-push.ensures.items ∙ ap (λ v. was.first.items ++ v ∷ []) (c.first_of.ensures made c.join-added.ensures.count);
+      few = pipes_most plan axis first second seam;
+    } in
+    grown plan was.network.nodes axis at.x at.y at.f made was now c.requires.pair same grows c.requires.so_far

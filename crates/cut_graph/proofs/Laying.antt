@@ -1,5 +1,5 @@
 -- The pipes of one pair more, and of all pairs of a cell.
-use Rattle.std.proofs.Common.{◌≡◌, ℕ, ◌+◌, ◌*◌, ◌≤◌, List, [], ◌∷◌, ◌++◌, length, sym, ap, ◌∙◌, subst, arith, true, append_assoc}
+use Rattle.std.proofs.Common.{◌≡◌, ℕ, ◌+◌, ◌*◌, ◌≤◌, List, [], ◌∷◌, ◌++◌, length, refl, sym, ap, ◌∙◌, subst, arith, true, append_assoc}
 use Rattle.std.proofs.Math.Numerals.{add-one}
 use Rattle.std.proofs.lemmas.Int.{ints}
 use Rattle.std.proofs.lemmas.List.{length-append}
@@ -13,18 +13,19 @@ use Rattle.cells.specs.declared.place.Size.{Size}
 use Rattle.cells.specs.Boxes.{IsInBox}
 use Rattle.cells.specs.Distances.{distance}
 use Rattle.cells.specs.Neighbours.{unit_step}
-use Rattle.cells.specs.Places.{IsSmall, plus}
+use Rattle.cells.specs.Places.{IsSmall, cell_count, plus}
 use Rattle.source_map.specs.Choices.{new_source}
 use Rattle.source_map.specs.Maps.{map_at}
 use Rattle.cells.proofs.BoxLaws.{box_small}
 use Rattle.max_flow.specs.declared.network.Pipe.{Pipe}
-use Rattle.seam_cost.specs.Pairs.{AreCounts, at_index, cell_in, has_next, one_if, pair_number, pairs_before}
+use Rattle.seam_cost.specs.Pairs.{AreCounts, at_index, cell_in, has_next, one_if, pair_count, pair_number, pairs_before}
 use Rattle.cut_graph.specs.declared.piping.Piping.{Piping}
 use Rattle.cut_graph.specs.declared.plan.PairCell.{PairCell}
 use Rattle.cut_graph.specs.declared.plan.Plan.{Plan}
 use Rattle.cut_graph.specs.Nodes.{IsPair, cell_node, seam_node}
 use Rattle.cut_graph.specs.Numberings.{AtPairs, index_of, stride}
-use Rattle.cut_graph.specs.Pipes.{first_or_none, joined, next_node, pair_pipes, pipes_between, pipes_from}
+use Rattle.cut_graph.specs.Building.{IsLaid}
+use Rattle.cut_graph.specs.Pipes.{first_or_none, first_pipe, joined, next_node, pair_pipes, pipes_between, pipes_from}
 use Rattle.cut_graph.specs.Plans.{IsCellAt, IsFirst, IsPiped, IsPipedPast, IsPipedTo, IsPlan, along, before, pipes_of_pair, places_of, up_to, with_pipes}
 use Rattle.cut_graph.proofs.AtPairs.{at_more}
 use Rattle.cut_graph.proofs.Numbered.{in_box}
@@ -50,14 +51,46 @@ next_y rect x y f = λ k. record { x = same_along rect.corner.x x k; y = next_al
 next_f : (rect : Box3) (x y f : ℕ) → cell_in rect x y (f + 1) ≡ plus (cell_in rect x y f) (unit_step F)
 next_f rect x y f = λ k. record { x = same_along rect.corner.x x k; y = same_along rect.corner.y y k; f = next_along rect.corner.f f k }
 
--- the second cell of a pair is in the box
+-- the second cell of a pair, by its counts
+pub record HasBehind (rect : Box3) (axis : Axis) (x y f : ℕ) : Type 0 where
+  pub a : ℕ
+  pub b : ℕ
+  pub c : ℕ
+  pub counts : AreCounts rect.size a b c
+  pub place : cell_in rect a b c ≡ plus (cell_in rect x y f) (unit_step axis)
+  pub index : index_of rect.size a b c ≡ index_of rect.size x y f + stride rect.size axis
+
+pub behind_of : (rect : Box3) (axis : Axis) (x y f : ℕ) → IsPair rect.size axis x y f → HasBehind rect axis x y f
+behind_of rect X x y f is = record {
+  a = x + 1;
+  b = y;
+  c = f;
+  counts = record { column = ltb-true (x + 1) rect.size.w is.next; row = is.counts.row; frame = is.counts.frame };
+  place = next_x rect x y f;
+  index = omega arith;
+}
+behind_of rect Y x y f is = record {
+  a = x;
+  b = y + 1;
+  c = f;
+  counts = record { column = is.counts.column; row = ltb-true (y + 1) rect.size.h is.next; frame = is.counts.frame };
+  place = next_y rect x y f;
+  index = omega arith;
+}
+behind_of rect F x y f is = record {
+  a = x;
+  b = y;
+  c = f + 1;
+  counts = record { column = is.counts.column; row = is.counts.row; frame = ltb-true (f + 1) rect.size.f is.next };
+  place = next_f rect x y f;
+  index = omega arith;
+}
+
+-- it is in the box
 pub second_in_box : (rect : Box3) (axis : Axis) (x y f : ℕ) → IsPair rect.size axis x y f → IsInBox rect (plus (cell_in rect x y f) (unit_step axis))
-second_in_box rect X x y f is =
-    subst (IsInBox rect) (next_x rect x y f) (in_box rect (x + 1) y f (record { column = ltb-true (x + 1) rect.size.w is.next; row = is.counts.row; frame = is.counts.frame }))
-second_in_box rect Y x y f is =
-    subst (IsInBox rect) (next_y rect x y f) (in_box rect x (y + 1) f (record { column = is.counts.column; row = ltb-true (y + 1) rect.size.h is.next; frame = is.counts.frame }))
-second_in_box rect F x y f is =
-    subst (IsInBox rect) (next_f rect x y f) (in_box rect x y (f + 1) (record { column = is.counts.column; row = is.counts.row; frame = ltb-true (f + 1) rect.size.f is.next }))
+second_in_box rect axis x y f is =
+    let next = behind_of rect axis x y f is in
+    subst (IsInBox rect) next.place (in_box rect next.a next.b next.c next.counts)
 
 -- and its node stands so far behind
 next_is : (plan : Plan) (axis : Axis) (x y f : ℕ)
@@ -155,3 +188,27 @@ past_cell plan nodes x y f i now at index past =
         ∙ append_assoc (before plan (index_of size x y f)) (along plan X x y f) (along plan Y x y f ++ along plan F x y f)
         ∙ ap (λ made. before plan (index_of size x y f) ++ made) (sym (at_counts size from x y f at.column at.row))
         ∙ ap (joined (at_index size from)) (sym (add-one (index_of size x y f)) ∙ ap (λ n. n + 1) index)
+
+-- all pipes of a plan
+first_is : (plan : Plan) (axis : Axis) (x y f : ℕ)
+    → length (up_to plan axis x y f) ≡ first_pipe (distance plan.sample.now) plan.map.now plan.placement (places_of plan) axis x y f
+first_is plan X x y f = refl
+first_is plan Y x y f = length-append (up_to plan X x y f) (along plan X x y f)
+first_is plan F x y f =
+    length-append (up_to plan Y x y f) (along plan Y x y f) ∙ ap (λ n. n + length (along plan Y x y f)) (length-append (up_to plan X x y f) (along plan X x y f))
+
+pub laid : (plan : Plan) (nodes : ℕ) (piping : Piping) → length plan.seams.now ≡ pair_count plan.placement.rect.size
+    → IsPiped plan nodes (before plan (cell_count plan.placement.rect.size)) (pair_count plan.placement.rect.size) piping
+    → IsLaid (distance plan.sample.now) plan.map.now plan.placement plan.cells.now plan.seams.now nodes piping
+laid plan nodes piping count piped = record {
+  size = piped.size;
+  source = piped.source;
+  sink = piped.sink;
+  pipes = piped.pipes;
+  first = record {
+    count = piped.number ∙ sym count;
+    first = λ axis x y f pair.
+        piped.firsts.each axis x y f pair (omega (arith, number_below plan.placement.rect.size axis x y f pair, piped.number))
+        ∙ ap (first_or_none (along plan axis x y f)) (first_is plan axis x y f);
+  };
+}

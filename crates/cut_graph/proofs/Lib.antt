@@ -7,3 +7,4 @@ pub mod PairNumbers
 pub mod AtPairs
 pub mod PlanCells
 pub mod Laying
+pub mod Whole

@@ -11,6 +11,8 @@ use Rattle.seam_cost.specs.Pairs.{at_index, cell_in}
 use Rattle.cut_graph.specs.declared.cell_nodes.Standing.{Standing}
 use Rattle.cut_graph.specs.declared.cell_nodes.Standing.TheVariants.{Old, Unfilled, Free}
 use Rattle.cut_graph.specs.declared.numbering.Numbering.{Numbering}
+use Rattle.cut_graph.specs.declared.piping.Piping.{Piping}
+use Rattle.cut_graph.specs.Pipes.{AreFirstPipes, pipes_of}
 use Rattle.cut_graph.specs.Numberings.{AtPairs, IsNumbering, index_of, stride}
 
 -- a numbering with one node more, and the next number that is free then
@@ -68,3 +70,11 @@ pub record AreSeamNodes (cells : List ℕ) (size : Size) (middle n : ℕ) (seams
   pub count : length seams.nodes.items ≡ n
   pub numbering : IsNumbering middle seams.next seams.nodes.items
   pub each : AtPairs size (λ axis x y f. IsSeamNode middle (are_filled cells size axis x y f)) seams.nodes.items
+
+-- the network has the pipes of all pairs between these nodes
+pub record IsLaid (d : At → At → ℕ) (m : SourceMap) (placement : Placement) (cells seams : List ℕ) (nodes : ℕ) (piping : Piping) : Type 0 where
+  pub size : piping.network.nodes ≡ nodes
+  pub source : piping.network.source ≡ 0
+  pub sink : piping.network.sink ≡ 1
+  pub pipes : piping.network.pipes ≡ pipes_of d m placement (record { cell_nodes = cells; seam_nodes = seams; pipes = piping.first.items })
+  pub first : AreFirstPipes d m placement (record { cell_nodes = cells; seam_nodes = seams; pipes = piping.first.items })

@@ -4,13 +4,50 @@ ghost use Rattle.cells.specs.Distances.{distance};
 ghost use Rattle.source_map.specs.Canvases.{Stands};
 ghost use Rattle.source_map.specs.Choices.{Fits};
 ghost use Rattle.seam_cost.specs.Lawful.{AreMarks, marks_of};
+ghost use Rattle.seam_cost.specs.Pairs.{pair_count};
+ghost use Rattle.cells.specs.Places.{cell_count};
+ghost use Rattle.cut_graph.specs.Building.{AreSeamNodes, IsLaid};
 ghost use Rattle.cut_graph.specs.Cuts.{ChoicesAreCuts, IsNetworkOf};
+ghost use Rattle.cut_graph.specs.Numberings.{IsNumbering};
 
+use crate::cell_nodes::number_cells;
+use crate::numbering::Numbering;
+use crate::piping::{Piping, lay_pipes};
 use crate::places::Places;
+use crate::plan::Plan;
+use crate::seam_nodes::number_seams;
 use cells::Volume;
+use items::Items;
 use max_flow::Network;
 use source_map::{Canvas, Placement};
 use std::alloc::{AllocError, Global};
+
+// Lays the pipes of a placement between its nodes.
+fn lay(
+    alloc: Global,
+    canvas: &Canvas,
+    sample: &Volume,
+    placement: &Placement,
+    cells: &Numbering,
+    seams: &Numbering,
+) -> Result<Piping, AllocError>
+    requires fits { Fits canvas.now.map.size sample.now placement.now }
+    requires cells { IsNumbering 2 cells.now.next cells.now.nodes.items }
+    requires cells_count { length cells.now.nodes.items ≡ cell_count placement.now.rect.size }
+    requires seams { AreSeamNodes cells.now.nodes.items placement.now.rect.size cells.now.next (pair_count placement.now.rect.size) seams.now }
+    ensures { IfOk result (IsLaid (distance sample.now) canvas.now.map placement.now cells.now.nodes.items seams.now.nodes.items seams.now.next) }
+{
+    // The size is asked for only to show the check that the sample is a volume.
+    let _size = sample.size();
+    let plan = Plan {
+        map: canvas.map(),
+        sample,
+        placement: *placement,
+        cells: &cells.nodes,
+        seams: &seams.nodes,
+    };
+    lay_pipes(alloc, &plan, seams.next)
+}
 
 /// The network of a placement, whose cuts are the choices between old and new, with cells of its box that
 /// are held too. `held` has a mark for each cell of the box, in raster order, or is missing where none is
@@ -28,7 +65,17 @@ pub fn build_held(
     ensures network { IfOk result (λ made. IsNetworkOf (distance sample.now) canvas.now.map placement.now (marks_of (option_copied held.entry)) made.0 made.1) }
     ensures cuts { IfOk result (λ made. ChoicesAreCuts (distance sample.now) canvas.now.map placement.now (marks_of (option_copied held.entry)) made.0 made.1) }
 {
-    Err(AllocError)
+    // The map is asked for only to show the check that the box is small.
+    let _map = canvas.map();
+    let cells = number_cells(alloc, canvas, placement, held)?;
+    let seams = number_seams(alloc, &cells.nodes, placement.rect.size, cells.next)?;
+    let piping = lay(alloc, canvas, sample, placement, &cells, &seams)?;
+    let places = Places {
+        cell_nodes: Items::from_vec(cells.nodes),
+        seam_nodes: Items::from_vec(seams.nodes),
+        pipes: Items::from_vec(piping.first),
+    };
+    Ok((piping.network, places))
 }
 
 /// The same with no cell held.

@@ -7,6 +7,7 @@ use cells::{At, Volume};
 use source_map::{Map, Placement};
 
 // A placement over a map, with the nodes of its cells and pairs.
+#[derive(Drop)]
 pub(crate) struct Plan<'a> {
     pub map: &'a Map,
     pub sample: &'a Volume,

@@ -1,0 +1,26 @@
+use Rattle.std.proofs.Common.{◌≡◌, length, ap, ◌∙◌, subst}
+use Rattle.std.proofs.lemmas.Result.{IfOk-weaker}
+use Rattle.cells.specs.Distances.{distance}
+use Rattle.cells.specs.Places.{cell_count}
+use Rattle.seam_cost.specs.Pairs.{pair_count}
+use Rattle.cut_graph.specs.declared.plan.Plan.{Plan}
+use Rattle.cut_graph.specs.Building.{IsLaid}
+use Rattle.cut_graph.specs.Plans.{IsPiped, before}
+use Rattle.cut_graph.proofs.Laying.{laid}
+use Rattle.cut_graph.proofs.network.lay.Goals as goal
+
+pub returns : goal.returns
+returns c =
+    let plan : Plan = record { map = c.map.result; sample = c.args.sample; placement = c.args.placement.now; cells = c.deref.result; seams = c.deref-2.result } in
+    let d = distance c.args.sample.now in
+    let placement = c.args.placement.now in
+    let cells = c.args.cells.now.nodes.items in
+    let nodes = c.args.seams.now.next in
+    let count : length c.deref-2.result.now ≡ pair_count placement.rect.size = ap length c.deref-2.ensures.value ∙ c.requires.seams.count in
+    IfOk-weaker c.lay_pipes.result (IsPiped plan nodes (before plan (cell_count placement.rect.size)) (pair_count placement.rect.size))
+    (IsLaid d c.args.canvas.now.map placement cells c.args.seams.now.nodes.items nodes)
+    (λ piping piped.
+    subst (λ m. IsLaid d m placement cells c.args.seams.now.nodes.items nodes piping) c.map.ensures.map
+    (subst (λ list. IsLaid d c.map.result.now placement list c.args.seams.now.nodes.items nodes piping) c.deref.ensures.value
+    (subst (λ list. IsLaid d c.map.result.now placement c.deref.result.now list nodes piping) c.deref-2.ensures.value (laid plan nodes piping count piped))))
+    c.lay_pipes.ensures

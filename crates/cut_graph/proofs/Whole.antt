@@ -207,6 +207,7 @@ module _ (m : SourceMap) (placement : Placement) (held : List Bool) (cells seams
 
   pub are_nodes : AreNodes m placement held places seams.next
   are_nodes = record {
+    ends = omega (arith, is_cells.numbering.order, is_seams.numbering.order);
     cell_nodes = is_cells.count;
     seam_nodes = is_seams.count;
     old = λ x y f at stays. node_old m placement held _ _ (cell_at x y f at) held_filled stays;

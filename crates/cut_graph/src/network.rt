@@ -65,8 +65,10 @@ pub fn build_held(
     ensures network { IfOk result (λ made. IsNetworkOf (distance sample.now) canvas.now.map placement.now (marks_of (option_copied held.entry)) made.0 made.1) }
     ensures cuts { IfOk result (λ made. ChoicesAreCuts (distance sample.now) canvas.now.map placement.now (marks_of (option_copied held.entry)) made.0 made.1) }
 {
-    // The map is asked for only to show the check that the box is small.
+    // The map is asked for only to show the check that the box is small, and the size that the sample
+    // is a volume.
     let _map = canvas.map();
+    let _size = sample.size();
     let cells = number_cells(alloc, canvas, placement, held)?;
     let seams = number_seams(alloc, &cells.nodes, placement.rect.size, cells.next)?;
     let piping = lay(alloc, canvas, sample, placement, &cells, &seams)?;

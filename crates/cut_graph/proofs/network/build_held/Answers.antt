@@ -7,6 +7,8 @@ use Rattle.cut_graph.specs.Building.{AreSeamNodes}
 use Rattle.cut_graph.specs.Cuts.{IsNetworkOf}
 use Rattle.cut_graph.proofs.Whole.{are_nodes, held_filled, is_network}
 use Rattle.cells.proofs.BoxLaws.{box_small}
+use Rattle.cells.proofs.DistanceLaws.{distance_laws}
+use Rattle.cut_graph.proofs.Cutting.{choices_are_cuts}
 use Rattle.cut_graph.proofs.network.build_held.Goals as goal
 
 pub number_cells-requires-clause-small : goal.number_cells-requires-clause-small
@@ -39,7 +41,6 @@ returns c =
     let is_seams = subst (λ list. AreSeamNodes list placement.rect.size cells.next (pair_count placement.rect.size) seams) c.deref.ensures.value c.in_ok-seams.ensures in
     let nodes = are_nodes m placement (marks_of marks) cells seams piping.first.items c.requires.fits.some (held_filled m placement marks c.requires.held) c.in_ok-cells.ensures is_seams in
     let whole = is_network d m placement (marks_of marks) cells.nodes.items seams.nodes.items seams.next piping nodes c.in_ok-piping.ensures in
-    record {
-      network = subst (IsNetworkOf d m placement (marks_of marks) piping.network)
-          (λ k. record { cell_nodes = sym c.from_vec.ensures k; seam_nodes = sym c.from_vec-2.ensures k; pipes = sym c.from_vec-3.ensures k }) whole;
-    }
+    let network = subst (IsNetworkOf d m placement (marks_of marks) piping.network)
+        (λ k. record { cell_nodes = sym c.from_vec.ensures k; seam_nodes = sym c.from_vec-2.ensures k; pipes = sym c.from_vec-3.ensures k }) whole in
+    record { network = network; cuts = choices_are_cuts d (distance_laws c.args.sample.now c.size-size.ensures.volume) m placement (marks_of marks) _ _ network }

@@ -1,5 +1,6 @@
 -- Sums of numbers in order, and signed sums of numbers and of differences.
-use Rattle.std.proofs.Common.{◌≡◌, ℕ, zero, suc, ◌+◌, ◌-◌, ◌*◌, ◌<◌, ◌≤◌, refl, ap, arith}
+use Rattle.std.proofs.Common.{◌≡◌, ℕ, zero, suc, ◌+◌, ◌-◌, ◌*◌, ◌<◌, ◌≤◌, refl, ap, sym, ◌∙◌, arith, ⊎_elim}
+use Rattle.std.proofs.lemmas.Bool.{cases_eq}
 use Rattle.std.proofs.lemmas.Int.{ints}
 use Rattle.std.specs.Prelude.{ℤ, pos, ◌+ℤ◌, ◌-ℤ◌, ◌≤ℤ◌}
 use Rattle.cells.specs.declared.place.Size.{Size}
@@ -44,6 +45,33 @@ sum_of_more n m g le = omega (arith, sum_split counts n (m - n) g, ap (λ k. sum
 -- a term is at most its sum
 pub term_at_most : (n i : ℕ) (g : ℕ → ℕ) → i < n → g i ≤ sum_to n g
 term_at_most n i g lt = omega (arith, sum_of_more (suc i) n g (omega arith))
+
+-- where no term is greater than the other sum's, and the sum isn't smaller, each two terms are equal
+pub terms_equal : (n : ℕ) (g h : ℕ → ℕ) → ((i : ℕ) → i < n → g i ≤ h i) → sum_to n h ≤ sum_to n g → (i : ℕ) → i < n → g i ≡ h i
+terms_equal zero g h le total i lt = absurd (omega arith)
+terms_equal (suc n) g h le total i lt =
+    let before : sum_to n g ≤ sum_to n h = sum_at_most n g h (λ j less. le j (omega arith)) in
+    let last : g n ≤ h n = le n (omega arith) in
+    ⊎_elim (λ same. ap g same ∙ (let both : g n ≡ h n = omega arith in both) ∙ ap h (sym same))
+    (λ other. terms_equal n g h (λ j less. le j (omega arith)) (omega arith) i (omega (arith, other))) (cases_eq i n)
+
+pub box_terms_equal : (size : Size) (g h : ℕ → ℕ → ℕ → ℕ) → ((x y f : ℕ) → x < size.w → y < size.h → f < size.f → g x y f ≤ h x y f) → sum_box size h ≤ sum_box size g
+    → (x y f : ℕ) → x < size.w → y < size.h → f < size.f → g x y f ≡ h x y f
+box_terms_equal size g h le total x y f lx ly lf =
+    terms_equal size.w (λ x. g x y f) (λ x. h x y f) (λ x lx. le x y f lx ly lf) (no_more (sym row)) x lx
+  where
+    no_more : {a b : ℕ} → a ≡ b → a ≤ b
+    no_more {a} {b} e = omega (arith, e)
+
+    rows : (f : ℕ) → f < size.f → (y : ℕ) → y < size.h → sum_to size.w (λ x. g x y f) ≤ sum_to size.w (λ x. h x y f)
+    rows f lf y ly = sum_at_most size.w _ _ (λ x lx. le x y f lx ly lf)
+
+    frame : sum_to size.h (λ y. sum_to size.w (λ x. g x y f)) ≡ sum_to size.h (λ y. sum_to size.w (λ x. h x y f))
+    frame = terms_equal size.f (λ f. sum_to size.h (λ y. sum_to size.w (λ x. g x y f))) (λ f. sum_to size.h (λ y. sum_to size.w (λ x. h x y f)))
+        (λ f lf. sum_at_most size.h _ _ (rows f lf)) total f lf
+
+    row : sum_to size.w (λ x. g x y f) ≡ sum_to size.w (λ x. h x y f)
+    row = terms_equal size.h (λ y. sum_to size.w (λ x. g x y f)) (λ y. sum_to size.w (λ x. h x y f)) (rows f lf) (no_more (sym frame)) y ly
 
 -- the signed sum of numbers is their sum
 pub signed_sum_pos : (n : ℕ) (g : ℕ → ℕ) → signed_sum_to n (λ i. pos (g i)) ≡ pos (sum_to n g)

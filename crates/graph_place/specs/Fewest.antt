@@ -1,5 +1,5 @@
 -- The least choice with the fewest old cells. (Own: of the least cuts of Kwatra et al. 2003 the one with the smallest source side.)
-use Rattle.std.specs.Prelude.{◌≡◌, ◌≤◌, ℕ, Bool, true, false, not, List}
+use Rattle.std.specs.Prelude.{◌≡◌, ◌≤◌, ℕ, Bool, not, List}
 use Rattle.cells.specs.declared.place.At.{At}
 use Rattle.cells.specs.Boxes.{IsInBox}
 use Rattle.source_map.specs.declared.canvas.Placement.{Placement}

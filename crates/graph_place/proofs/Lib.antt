@@ -1,0 +1,5 @@
+pub mod Pipes
+pub mod Nodes
+pub mod Balance
+pub mod Standing
+pub mod Fewest

@@ -3,3 +3,4 @@ pub mod Nodes
 pub mod Balance
 pub mod Standing
 pub mod Fewest
+pub mod Recording

@@ -71,8 +71,15 @@ module _ (side : ℕ → Bool) (d : At → At → ℕ) (axis : Axis) (s t middle
         ≡ part_if (side s) (flow_of a b flows o).x -ℤ part_if (side t) (flow_of a b flows o).y
     pair_leaves (Some a) (Some b) new_a new_b o out =
         let none = λ (z : ℤ). ap (λ b. part_if b z) (out tt) in
-        omega (arith, ints, three_leave side (pipe s middle (seam d axis a new_b) (seam d axis a new_b)) (pipe middle t (seam d axis new_a b) (seam d axis new_a b)) (pipe middle 1 (seam d axis a b) 0) flows o,
-        none (flow_at flows o), none (flow_at flows (o + 1)), none (flow_at flows (o + 2)), gone_out (flow_at flows (o + 2)))
+        omega (
+          arith,
+          ints,
+          three_leave side (pipe s middle (seam d axis a new_b) (seam d axis a new_b)) (pipe middle t (seam d axis new_a b) (seam d axis new_a b)) (pipe middle 1 (seam d axis a b) 0) flows o,
+          none (flow_at flows o),
+          none (flow_at flows (o + 1)),
+          none (flow_at flows (o + 2)),
+          gone_out (flow_at flows (o + 2)),
+        )
     pair_leaves (Some a) None new_a new_b o out =
         omega (arith, ints, one_leaves side (pipe s 1 (seam d axis a new_b) 0) flows o, gone_out (flow_at flows o), part_none (side t))
     pair_leaves None (Some b) new_a new_b o out =
@@ -87,8 +94,15 @@ module _ (side : ℕ → Bool) (d : At → At → ℕ) (axis : Axis) (s t middle
     pub seam_leaves : side s ≡ false → side t ≡ false → (a b : Option At) (new_a new_b : At) (o : ℕ)
         → net_leaving side (pair_pipes d axis a b new_a new_b s t middle) (drop o flows) ≡ part_if (side middle) (left_at_seam a b flows o)
     seam_leaves out_s out_t (Some a) (Some b) new_a new_b o =
-        omega (arith, ints, three_leave side (pipe s middle (seam d axis a new_b) (seam d axis a new_b)) (pipe middle t (seam d axis new_a b) (seam d axis new_a b)) (pipe middle 1 (seam d axis a b) 0) flows o,
-        ap (λ b. part_if b (flow_at flows o)) out_s, ap (λ b. part_if b (flow_at flows (o + 1))) out_t, gone_out (flow_at flows (o + 2)), put_together (side middle) (flow_at flows (o + 1)) (flow_at flows (o + 2)) (flow_at flows o))
+        omega (
+          arith,
+          ints,
+          three_leave side (pipe s middle (seam d axis a new_b) (seam d axis a new_b)) (pipe middle t (seam d axis new_a b) (seam d axis new_a b)) (pipe middle 1 (seam d axis a b) 0) flows o,
+          ap (λ b. part_if b (flow_at flows o)) out_s,
+          ap (λ b. part_if b (flow_at flows (o + 1))) out_t,
+          gone_out (flow_at flows (o + 2)),
+          put_together (side middle) (flow_at flows (o + 1)) (flow_at flows (o + 2)) (flow_at flows o),
+        )
       where
         put_together : (b : Bool) (x y z : ℤ) → part_if b ((x +ℤ y) -ℤ z) ≡ (part_if b x +ℤ part_if b y) -ℤ part_if b z
         put_together true x y z = refl

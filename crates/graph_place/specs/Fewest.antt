@@ -21,4 +21,3 @@ pub record IsFewestHeld (d : At → At → ℕ) (m : SourceMap) (placement : Pla
   pub least : IsLeastHeld d m placement held choice
   pub fewest : (other : List Bool) → IsLeastHeld d m placement held other → old_count placement choice ≤ old_count placement other
   pub only : (other : List Bool) → IsLeastHeld d m placement held other → old_count placement other ≤ old_count placement choice → AreSame placement choice other
-

@@ -1,3 +1,4 @@
 pub mod Records
 pub mod Fewest
 pub mod Placed
+pub mod Parts

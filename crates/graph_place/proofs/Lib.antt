@@ -4,3 +4,5 @@ pub mod Balance
 pub mod Standing
 pub mod Fewest
 pub mod Recording
+pub mod Solving
+pub mod Placed

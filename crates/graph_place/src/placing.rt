@@ -5,8 +5,11 @@ ghost use Rattle.source_map.specs.Choices.{Fits};
 ghost use Rattle.seam_cost.specs.Lawful.{AreMarks, marks_of};
 ghost use Rattle.graph_place.specs.Placed.{IsPlaced};
 
+use crate::record::to_record;
 use cells::Volume;
 use cut_check::CutRecord;
+use cut_graph::build_held;
+use max_flow::solve;
 use source_map::{Canvas, Placement};
 use std::alloc::{AllocError, Global};
 
@@ -28,7 +31,13 @@ pub fn place_held(
     ensures placed { IfOk result (IsPlaced canvas.old sample.now placement (marks_of (option_copied held.entry)) canvas.new) }
     ensures kept { OnErr result (canvas.new ≡ canvas.old) }
 {
-    Err(AllocError)
+    // The size is asked only to show the check that the sample is a volume.
+    let _size = sample.size();
+    let (network, places) = build_held(alloc, canvas, sample, &placement, held)?;
+    let solved = solve(alloc, &network)?;
+    let record = to_record(alloc, canvas, placement, &places, &solved)?;
+    canvas.put_choice(sample, &placement, record.choice.as_slice());
+    Ok(record)
 }
 
 /// The same with no cell held.

@@ -82,7 +82,8 @@ fn add_pair(
     let next = cell.plus(axis.unit());
     if placement.rect.contains(next) {
         let first = places.pipes.as_slice()[flows.len()] as usize;
-        flows.push(flow_of(map.at(cell), map.at(next), solved.flow.as_slice(), first))?;
+        let flow = flow_of(map.at(cell), map.at(next), solved.flow.as_slice(), first);
+        flows.push(flow)?;
     }
     Ok(())
 }

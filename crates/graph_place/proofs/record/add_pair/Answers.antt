@@ -60,9 +60,9 @@ bounds-as_slice-len c =
     rw (c.len.ensures, c.requires.number, c.as_slice.ensures)
     (number_below c.args.canvas.now.map c.args.placement.now c.args.places.now c.args.solved.now c.requires.solved c.requires.cells c.args.i c.requires.below c.args.axis (has at ∙ c.if-contains.true))
 
-pub flow_of-requires-clause-pipes : goal.flow_of-requires-clause-pipes
-flow_of-requires-clause-pipes c =
-    let at = (goal.at.flow_of-requires-clause-pipes c).After-contains in
+pub flow_of-flow-requires-clause-pipes : goal.flow_of-flow-requires-clause-pipes
+flow_of-flow-requires-clause-pipes c =
+    let at = (goal.at.flow_of-flow-requires-clause-pipes c).After-contains in
     rw (c.len.ensures, c.requires.number, c.as_slice.ensures, c.at.ensures, c.at-then-contains.ensures, c.map-map.ensures.map, cell_is at, next_is at, c.as_slice-then-contains.ensures)
     (pipes_in c.args.canvas.now.map c.args.placement.now c.args.places.now c.args.solved.now c.requires.solved c.requires.cells c.args.i c.requires.below c.args.axis (has at ∙ c.if-contains.true))
 
@@ -71,7 +71,7 @@ returns-in_ok-push c =
     let at = (goal.at.returns-in_ok-push c).After-contains in
     c.in_ok-push.ensures.items
     ∙ ap (λ flow. c.args.flows.now.items ++ flow ∷ [])
-    (c.flow_of.ensures
+    (c.flow_of-flow.ensures
     ∙ (λ k. flow_of ((c.at.ensures ∙ (λ j. map_at (c.map-map.ensures.map j) (cell_is at j))) k) ((c.at-then-contains.ensures ∙ (λ j. map_at (c.map-map.ensures.map j) (next_is at j))) k)
     (c.as_slice-then-contains.ensures k) (get_or (c.as_slice.ensures k) ((c.len.ensures ∙ c.requires.number) k) 0)))
     ∙ ap (λ more. c.args.flows.now.items ++ more) (sym (along_pair c.args.canvas.now.map c.args.placement.now c.args.places.now c.args.solved.now.flow c.args.axis _ _ _ (has at ∙ c.if-contains.true)))

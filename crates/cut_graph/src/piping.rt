@@ -27,6 +27,22 @@ pub(crate) struct Piping {
     pub first: Vec<u32>,
 }
 
+// Adds a pipe to the sink.
+fn join_sink(network: &mut Network, node: u32, cost: u32)
+    requires room { 1 ≤ network.old.spare }
+    requires node_in { node < network.old.nodes }
+    requires ends { 2 ≤ network.old.nodes }
+    requires small { cost ≤ 3060 }
+    ensures { network.new ≡ with_pipes network.old (record { from = node; to = 1; ahead = cost; back = 0 } ∷ []) }
+{
+    network.add_pipe(Pipe {
+        from: node,
+        to: SINK,
+        ahead: cost,
+        back: 0,
+    });
+}
+
 // Adds the pipes of two filled cells, of sources a and b: through the seam node as much both ways as old
 // meets new, and from there to the sink what old meets old.
 fn join_filled(
@@ -65,28 +81,7 @@ fn join_filled(
         back,
     });
     let old = seam_of(sample, axis, Some(a), Some(b));
-    network.add_pipe(Pipe {
-        from: seam,
-        to: SINK,
-        ahead: old,
-        back: 0,
-    });
-}
-
-// Adds the pipe of a filled cell beside an unfilled one, which will be new.
-fn join_sink(network: &mut Network, node: u32, cost: u32)
-    requires room { 1 ≤ network.old.spare }
-    requires node_in { node < network.old.nodes }
-    requires ends { 2 ≤ network.old.nodes }
-    requires small { cost ≤ 3060 }
-    ensures { network.new ≡ with_pipes network.old (record { from = node; to = 1; ahead = cost; back = 0 } ∷ []) }
-{
-    network.add_pipe(Pipe {
-        from: node,
-        to: SINK,
-        ahead: cost,
-        back: 0,
-    });
+    join_sink(network, seam, old);
 }
 
 // Adds the pipes of a pair, and says how many they are.

@@ -12,3 +12,4 @@ pub mod AxisSums
 pub mod Changes
 pub mod Besides
 pub mod Placing
+pub mod Copies

@@ -18,6 +18,10 @@ fn seam(sample: &Volume, axis: Axis, a: At, b: At) -> u32
     ensures small { result ≤ 3060 }
 {
     let step = axis.unit();
+    // Most neighbours have been copied together, and are neighbours in the sample too.
+    if a.plus(step) == b {
+        return 0;
+    }
     cell_distance(sample, a, b.minus(step)) + cell_distance(sample, a.plus(step), b)
 }
 

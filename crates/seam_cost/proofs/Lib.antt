@@ -13,3 +13,4 @@ pub mod Changes
 pub mod Besides
 pub mod Placing
 pub mod Copies
+pub mod Fills

@@ -1,5 +1,6 @@
 // The sums of all windows of a block of corners, from the costs of the pairs of all their cells.
 ghost use Rattle.std.specs.Prelude.{◌≡◌, ◌≤◌, ◌<◌, ℕ, ◌+◌, ◌*◌, ◌/◌, ◌%◌, length, slice_index};
+ghost use Rattle.cells.specs.declared.place.Axis.TheVariants.{X};
 ghost use Rattle.cells.specs.Boxes.{HasCells};
 ghost use Rattle.cells.specs.Distances.{distance};
 ghost use Rattle.cells.specs.Places.{IsSmall, cell_count, spot};
@@ -10,11 +11,40 @@ ghost use Rattle.seam_cost.specs.Slides.{HoldsBlock, IsInBlock, IsLens, axis_sum
 ghost use Rattle.seam_cost.specs.Tables.{IsWindow, corners};
 
 use crate::block::{Block, corners, has_cells};
-use crate::pairs::pair_of;
+use crate::pairs::{pair_of, seam_of, source_of};
 use crate::slide::sum_boxes;
 use crate::sums::spot;
 use cells::{Axis, Size, Volume};
 use source_map::Map;
+
+// The costs of the cells of a row and the next ones in it, from a cell on. The source of each is asked
+// for once: it is the second of one pair, and the first of the next.
+#[tactic(auto, using(crate::proofs::Fills::pair_along))]
+fn fill_along(costs: &mut [u64], map: &Map, sample: &Volume, x: u32, y: u32, f: u32)
+    requires row { x + length costs.old ≤ 4096 }
+    requires counts { (y < 4096) × (f < 4096) }
+    ensures costs { (k : ℕ) → k < length costs.old → slice_index costs.new k ≡ pair_at (distance sample.now) (map_at map.now) X (spot (x + k) y f) }
+    ensures small { (k : ℕ) → slice_index costs.new k ≤ 3060 }
+{
+    let mut source = source_of(map, spot(x, y, f));
+    for k in 0..costs.len() {
+        let next = source_of(map, spot(x + k as u32 + 1, y, f));
+        costs[k] = u64::from(seam_of(sample, Axis::X, source, next));
+        source = next;
+    }
+}
+
+// The costs of the cells of a row and the next ones along an axis, from a cell on.
+fn fill_across(costs: &mut [u64], map: &Map, sample: &Volume, x: u32, y: u32, f: u32, axis: Axis)
+    requires row { x + length costs.old ≤ 4096 }
+    requires counts { (y < 4096) × (f < 4096) }
+    ensures costs { (k : ℕ) → k < length costs.old → slice_index costs.new k ≡ pair_at (distance sample.now) (map_at map.now) axis (spot (x + k) y f) }
+    ensures small { (k : ℕ) → slice_index costs.new k ≤ 3060 }
+{
+    for k in 0..costs.len() {
+        costs[k] = u64::from(pair_of(map, sample, spot(x + k as u32, y, f), axis));
+    }
+}
 
 // The costs of the cells of a row and the next ones along an axis, from a cell on.
 fn fill_row(costs: &mut [u64], map: &Map, sample: &Volume, x: u32, y: u32, f: u32, axis: Axis)
@@ -23,8 +53,9 @@ fn fill_row(costs: &mut [u64], map: &Map, sample: &Volume, x: u32, y: u32, f: u3
     ensures costs { (k : ℕ) → k < length costs.old → slice_index costs.new k ≡ pair_at (distance sample.now) (map_at map.now) axis (spot (x + k) y f) }
     ensures small { (k : ℕ) → slice_index costs.new k ≤ 3060 }
 {
-    for k in 0..costs.len() {
-        costs[k] = u64::from(pair_of(map, sample, spot(x + k as u32, y, f), axis));
+    match axis {
+        Axis::X => fill_along(costs, map, sample, x, y, f),
+        _ => fill_across(costs, map, sample, x, y, f, axis),
     }
 }
 

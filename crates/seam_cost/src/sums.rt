@@ -14,7 +14,7 @@ use source_map::{Canvas, Map};
 
 // The place of three counts.
 pub(crate) fn spot(x: u32, y: u32, f: u32) -> At
-    requires { (x < 4096) × (y < 4096) × (f < 4096) }
+    requires { (x ≤ 4096) × (y ≤ 4096) × (f ≤ 4096) }
     ensures { result ≡ spot x y f }
 {
     At {

@@ -3,7 +3,7 @@ use Rattle.cells.specs.Distances.{distance}
 use Rattle.cells.specs.Places.{spot}
 use Rattle.source_map.specs.Maps.{map_at}
 use Rattle.seam_cost.specs.Costs.{pair_at}
-use Rattle.seam_cost.proofs.reach.fill_row.Given as goal
+use Rattle.seam_cost.proofs.reach.fill_across.Given as goal
 
 abbrev pub invariant-loop-k : goal.invariant-loop-k
 invariant-loop-k l = record {

@@ -42,5 +42,5 @@ returns c =
     let nodes = are_nodes m placement (marks_of marks) cells seams piping.first.items c.requires.fits.some (held_filled m placement marks c.requires.held) c.in_ok-cells.ensures is_seams in
     let whole = is_network d m placement (marks_of marks) cells.nodes.items seams.nodes.items seams.next piping nodes c.in_ok-piping.ensures in
     let network = subst (IsNetworkOf d m placement (marks_of marks) piping.network)
-        (λ k. record { cell_nodes = sym c.from_vec.ensures k; seam_nodes = sym c.from_vec-2.ensures k; pipes = sym c.from_vec-3.ensures k }) whole in
+    (λ k. record { cell_nodes = sym c.from_vec.ensures k; seam_nodes = sym c.from_vec-2.ensures k; pipes = sym c.from_vec-3.ensures k }) whole in
     record { network = network; cuts = choices_are_cuts d (distance_laws c.args.sample.now c.size-size.ensures.volume) m placement (marks_of marks) _ _ network }

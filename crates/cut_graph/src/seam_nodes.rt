@@ -1,6 +1,5 @@
 // The seam nodes of the pairs of a placement's box.
 ghost use Rattle.std.specs.Prelude.{◌≡◌, ◌≤◌, ◌<◌, ◌+◌, ℕ, length, IfOk, OnOk};
-ghost use Rattle.cells.specs.Boxes.{HasCells};
 ghost use Rattle.cells.specs.Places.{IsSmall, cell_count};
 ghost use Rattle.seam_cost.specs.Pairs.{AreCounts, has_next, one_if, pair_count, pair_number, pairs_before};
 ghost use Rattle.cut_graph.specs.Building.{AreSeamNodes, Gives, IsSeamNode, both_filled};

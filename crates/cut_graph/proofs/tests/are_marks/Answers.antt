@@ -1,10 +1,10 @@
 use Rattle.std.proofs.Common.{◌≡◌, ℕ, ◌<◌, List, length, get_or, refl, sym, ap, ◌∙◌, subst, arith, Bool, true, false}
-use Rattle.std.specs.Prelude.{Option, Some, None, slice_index_or, option_map, unwrap_or}
+use Rattle.std.specs.Prelude.{Option, Some, None}
 use mathlib.Core.Bool.{false≢true}
 use Rattle.cells.specs.declared.place.At.{At}
 use Rattle.cells.specs.Boxes.{HasCells}
-use Rattle.cells.specs.Places.{SumFits, minus, place_of}
-use Rattle.cells.proofs.BoxLaws.{box_small, box_sum_fits, minus_plus}
+use Rattle.cells.specs.Places.{minus, place_of}
+use Rattle.cells.proofs.BoxLaws.{minus_plus}
 use Rattle.cells.proofs.Raster.{index_below, one_place, place_at}
 use Rattle.source_map.specs.declared.canvas.Placement.{Placement}
 use Rattle.source_map.specs.Choices.{box_cell, box_count, box_index, chosen}

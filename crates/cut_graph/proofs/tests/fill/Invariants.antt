@@ -1,4 +1,3 @@
-use Rattle.std.proofs.Common.{◌≡◌}
 use Rattle.source_map.specs.Canvases.{Stands}
 use Rattle.cut_graph.proofs.tests.fill.Given as goal
 

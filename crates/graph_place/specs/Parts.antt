@@ -2,14 +2,15 @@
 use Rattle.std.specs.Prelude.{◌≡◌, ◌<◌, ℕ, ℤ, Bool, false, not, List, [], ◌∷◌, ◌++◌, length, slice_index, slice_index_or, if◌then◌else◌}
 use Rattle.cells.specs.declared.place.Axis.{Axis}
 use Rattle.cells.specs.declared.place.Axis.TheVariants.{X, Y, F}
-use Rattle.cells.specs.Places.{plus}
+use Rattle.cells.specs.Places.{cell_count, plus}
 use Rattle.cells.specs.Neighbours.{unit_step}
 use Rattle.source_map.specs.declared.canvas.Placement.{Placement}
 use Rattle.source_map.specs.Maps.{SourceMap, map_at}
-use Rattle.seam_cost.specs.Pairs.{at_index, cell_in, has_next}
+use Rattle.seam_cost.specs.Pairs.{at_index, cell_in, has_next, pair_count}
 use Rattle.max_flow.specs.Flows.{is_in}
 use Rattle.cut_graph.specs.declared.places.Places.{Places}
 use Rattle.cut_graph.specs.Pipes.{joined}
+use Rattle.cut_check.specs.declared.record.CutRecord.{CutRecord}
 use Rattle.cut_check.specs.declared.record.Flow.{Flow}
 use Rattle.graph_place.specs.Records.{flow_of, pipe_of}
 
@@ -33,3 +34,8 @@ flows_from m placement places flows x y f =
 -- those of the cells before an index
 abbrev pub flows_before : SourceMap → Placement → Places → List ℤ → ℕ → List Flow
 flows_before m placement places flows = joined (at_index placement.rect.size (flows_from m placement places flows))
+
+-- a record has an entry for each cell of its box, and a flow for each pair
+pub record IsSized (cut : CutRecord) : Type 0 where
+  pub choice : length cut.choice ≡ cell_count cut.placement.rect.size
+  pub flows : length cut.flows ≡ pair_count cut.placement.rect.size

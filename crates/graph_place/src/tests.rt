@@ -1,14 +1,15 @@
 // What no clause says: that the definitions give the records of worked examples, and that the choice is the one
 // that a search through all choices finds.
-ghost use Rattle.std.specs.Prelude.{◌≡◌, ◌≤◌, IsTrue};
+ghost use Rattle.std.specs.Prelude.{◌≡◌, ◌≤◌, IfOk, IsTrue};
 ghost use Rattle.cells.specs.Boxes.{AxisHolds, HoldsBox};
 ghost use Rattle.cells.specs.Places.{IsSmall};
 ghost use Rattle.source_map.specs.Choices.{Fits};
 ghost use Rattle.seam_cost.specs.Lawful.{AreMarks};
+ghost use Rattle.graph_place.specs.Parts.{IsSized};
 
 use super::*;
 use cells::{At, Box3, Size, Volume};
-use cut_check::{CutRecord, Flow};
+use cut_check::{CutRecord, Flow, check_cut, check_held};
 use seam_cost::{window, window_after};
 use source_map::{Canvas, Placement};
 use std::alloc::{AllocError, Global};
@@ -83,14 +84,37 @@ fn put(
     sample: &Volume,
     placement: Placement,
     held: &[bool],
-) -> Result<CutRecord, AllocError> {
+) -> Result<CutRecord, AllocError>
+    ensures { IfOk result IsSized }
+{
     assert!(rt; canvas.render_equals(sample));
     assert_fits(rt, canvas, sample, &placement);
     if held.is_empty() {
-        return place(alloc, canvas, sample, placement);
+        place(alloc, canvas, sample, placement)
+    } else {
+        assert!(rt; are_marks(canvas, sample, &placement, held));
+        place_held(alloc, canvas, sample, placement, Some(held))
     }
-    assert!(rt; are_marks(canvas, sample, &placement, held));
-    place_held(alloc, canvas, sample, placement, Some(held))
+}
+
+// Asserts that a record is accepted over the canvas before it.
+fn assert_accepted(
+    rt: &impl Abort,
+    before: &Canvas,
+    sample: &Volume,
+    cut: &CutRecord,
+    held: &[bool],
+)
+    requires { IsSized cut.now }
+{
+    assert!(rt; before.render_equals(sample));
+    assert_fits(rt, before, sample, &cut.placement);
+    if held.is_empty() {
+        assert!(rt; check_cut(before, sample, cut).is_ok());
+    } else {
+        assert!(rt; are_marks(before, sample, &cut.placement, held));
+        assert!(rt; check_held(before, sample, cut, Some(held)).is_ok());
+    }
 }
 
 fn flow(x: i16, y: i16) -> Flow {
@@ -401,11 +425,13 @@ fn canvas_of(
     Ok(canvas)
 }
 
-// Asserts that a placement over a box of n cells is put in as the best choice, and that no other is as good.
+// Asserts that a placement over a box of n cells is put in as the best choice, that no other is as good, and that the
+// record is accepted over the canvas before.
 fn assert_put(
     rt: &impl Abort,
     alloc: Global,
     canvas: &mut Canvas,
+    before: &Canvas,
     sample: &Volume,
     placement: Placement,
     n: usize,
@@ -414,7 +440,9 @@ fn assert_put(
 ) -> Result<(), AllocError>
     requires { n ≤ 8 }
 {
-    let cut = put(rt, alloc, canvas, sample, placement, &bits_of(held)[..n])?;
+    let held = bits_of(held);
+    let cut = put(rt, alloc, canvas, sample, placement, &held[..n])?;
+    assert_accepted(rt, before, sample, &cut, &held[..n]);
     assert!(rt; cut.choice.as_slice() == &bits_of(best.bits)[..n]);
     assert!(rt; best.ties == 1);
     assert_fits(rt, canvas, sample, &placement);
@@ -443,12 +471,23 @@ fn assert_best(
 ) -> Result<(), AllocError> {
     let sample = sample_of(rt, alloc, Size { w: 4, h: 3, f: 3 }, seed, levels)?;
     let mut canvas = canvas_of(rt, alloc, output, &sample, seed)?;
+    let before = canvas_of(rt, alloc, output, &sample, seed)?;
     let placement = Placement { rect, from: FIRST };
     assert_fits(rt, &canvas, &sample, &placement);
     let n = few_cells(rt, rect.size);
     let held = some_held(&canvas, &sample, &placement, seed);
     let best = best_of(rt, &canvas, &sample, &placement, n, held).expect(rt, "a lawful choice");
-    assert_put(rt, alloc, &mut canvas, &sample, placement, n, held, best)
+    assert_put(
+        rt,
+        alloc,
+        &mut canvas,
+        &before,
+        &sample,
+        placement,
+        n,
+        held,
+        best,
+    )
 }
 
 // A box.

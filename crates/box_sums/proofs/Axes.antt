@@ -30,7 +30,7 @@ module _ {A : Type 0} (add : Addition A) where
   pub sum_more : (n : ℕ) (g : ℕ → A) → sum_of add (n + 1) g ≡ add.plus (sum_of add n g) (g n)
   sum_more n g = ap (λ m. sum_of add m g) (add-one n)
 
-  -- the first a terms, and the b behind them
+  -- the first a terms, and the b after them
   pub sum_split : (a b : ℕ) (g : ℕ → A) → sum_of add (a + b) g ≡ add.plus (sum_of add a g) (sum_of add b (λ i. g (a + i)))
   sum_split a zero g = ap (λ n. sum_of add n g) none ∙ sym (add.plus_none _)
     where
@@ -41,12 +41,12 @@ module _ {A : Type 0} (add : Addition A) where
       more : a + suc b ≡ suc (a + b)
       more = omega arith
 
-  -- the first term, and those behind it
+  -- the first term, and those after it
   pub sum_first : (n : ℕ) (g : ℕ → A) → sum_of add (suc n) g ≡ add.plus (g 0) (sum_of add n (λ i. g (suc i)))
   sum_first zero g = add.none_plus _ ∙ sym (add.plus_none _)
   sum_first (suc n) g = ap (λ s. add.plus s (g (suc n))) (sum_first n g) ∙ add.assoc _ _ _
 
-  -- a run of terms moved one further: the first term is left behind, and one comes in at the end
+  -- a run of terms moved one further: the first term goes out, and one comes in at the end
   pub sum_slide : (len : ℕ) (g : ℕ → A) → add.plus (g 0) (sum_of add len (λ i. g (suc i))) ≡ add.plus (sum_of add len g) (g len)
   sum_slide len g = sym (sum_first len g)
 

@@ -6,6 +6,7 @@ use Rattle.std.specs.Prelude.{ℤ, pos, negsuc, ◌+ℤ◌, ◌-ℤ◌, IsSome, 
 use Rattle.std.specs.Int.{w32}
 use Rattle.cells.specs.declared.place.At.{At}
 use Rattle.cells.specs.declared.place.Size.{Size}
+use Rattle.cells.specs.declared.bounds.TheConstants.{GREATEST_AXIS}
 use Rattle.cells.specs.Places.{HasAxes, IsSmall, IsInside, SumFits, cell_count, place_of, plus, minus, spot}
 use Rattle.cells.specs.Boxes.{AxisHolds, HoldsBox, HasCells}
 use Rattle.cells.proofs.Raster.{index_parts, index_of_spot, place_at}
@@ -64,10 +65,10 @@ box_sum_fits size corner inner i axes box some lt =
       f = sum_fits size.f corner.f inner.f _ box.f axes.f.1 step.f;
     }
   where
-    small : (d : ℕ) → d < 4096 → FitsSigned w32 (pos d)
+    small : (d : ℕ) → d < GREATEST_AXIS → FitsSigned w32 (pos d)
     small d lt = search rules
 
-    sum_fits : (n : ℕ) (z : ℤ) (len c : ℕ) → AxisHolds n z len → n ≤ 4096 → c < len → FitsSigned w32 (z +ℤ pos c)
+    sum_fits : (n : ℕ) (z : ℤ) (len c : ℕ) → AxisHolds n z len → n ≤ GREATEST_AXIS → c < len → FitsSigned w32 (z +ℤ pos c)
     sum_fits n z len c holds le lt = let at = on_box n z len c holds lt in subst (FitsSigned w32) (sym at.1) (small at.0 (omega (arith, at.2)))
 
 -- back from the place to the step

@@ -6,7 +6,7 @@ use mathlib.Core.Bool.{false≢true}
 use Rattle.cells.specs.declared.place.At.{At}
 use Rattle.cells.specs.declared.place.Box3.{Box3}
 use Rattle.cells.specs.declared.place.Size.{Size}
-use Rattle.cells.specs.Places.{IsInside, index_at, index_in, on_axis, place_of, plus, minus, spot}
+use Rattle.cells.specs.Places.{IsInside, index_on_axes, index_in, on_axis, place_of, plus, minus, spot}
 use Rattle.cells.specs.Boxes.{AxisHolds, HasCells, HoldsBox, HoldsEach, IsInBox}
 use Rattle.cells.proofs.Raster.{OnAxis, has_index, index_below, index_of_spot, index_parts, on_axis_in, on_axis_is, one_place, place_at}
 use Rattle.cells.proofs.BoxLaws.{box_inside, minus_plus, plus_minus}
@@ -31,7 +31,7 @@ pub record OnAxes (size : Size) (p : At) : Type 0 where
 pub inside_of : (size : Size) (p : At) → OnAxes size p → IsInside size p
 inside_of size p on = by (on_axis size.w p.x) (on_axis size.h p.y) (on_axis size.f p.f) on.x on.y on.f
   where
-    by : (x y f : Option ℕ) → IsSome x → IsSome y → IsSome f → IsSome (index_at size x y f)
+    by : (x y f : Option ℕ) → IsSome x → IsSome y → IsSome f → IsSome (index_on_axes size x y f)
     by None y f ix iy if' = absurd (false≢true ix)
     by (Some x) None f ix iy if' = absurd (false≢true iy)
     by (Some x) (Some y) None ix iy if' = absurd (false≢true if')

@@ -1,9 +1,9 @@
 -- The cells of a buffer: what stands at an index, in a run, and after a write.
 use Rattle.std.proofs.Common.{◌≡◌, ℕ, zero, suc, ◌+◌, ◌*◌, ◌-◌, ◌<◌, ◌≤◌, List, ◌∷◌, ◌++◌, length, take, drop, refl, ap, sym, ◌∙◌, arith, append_assoc}
-use Rattle.std.specs.Prelude.{Some, slice_get, slice_index, slice_set, replicate}
+use Rattle.std.specs.Prelude.{Some, slice_get, slice_index, slice_set}
 use Rattle.std.specs.List.{concat, AllByRecursion}
 use Rattle.std.proofs.Math.Nat.{mul-le-mul_left}
-use Rattle.std.proofs.lemmas.List.{length-take-le, length-drop, drop-drop, take-append-drop, take-append-le, drop-append-le, take_at, drop_at, take-take, take_all, take-replicate, drop-replicate, get_or-take, get_or-drop, get_or_default, drop-take}
+use Rattle.std.proofs.lemmas.List.{length-take-le, length-drop, drop-drop, take-append-drop, take-append-le, drop-append-le, take_at, drop_at, take-take, take_all, get_or-take, get_or-drop, get_or_default, drop-take}
 use Rattle.cells.specs.Cells.{IsCell, cells_of}
 
 pub length-cells_of : (k n : ℕ) (bytes : List ℕ) → length (cells_of k n bytes) ≡ n
@@ -79,14 +79,6 @@ set-cells_of k (suc n) (suc i) bytes cell lt long whole =
         ∙ ap (λ xs. xs ++ (cell ++ tail)) (drop-take k (k * i) bytes)
         ∙ sym (append_assoc (take (k * i) (drop k bytes)) cell tail)
         ∙ ap (λ xs. take (k * i) (drop k bytes) ++ cell ++ xs) (ap (λ m. drop m bytes) (omega arith) ∙ sym (drop-drop (k * i + length cell) k bytes))
-
--- cells of zeros
-pub cells_of-zeros : (k n m : ℕ) → k * n ≤ m → cells_of k n (replicate m 0) ≡ replicate n (replicate k 0)
-cells_of-zeros k zero m le = refl
-cells_of-zeros k (suc n) m le =
-    ap (λ xs. xs ∷ cells_of k n (drop k (replicate m 0))) (take-replicate {X = ℕ} k m 0 (omega arith))
-    ∙ ap (λ xs. replicate k 0 ∷ cells_of k n xs) (drop-replicate {X = ℕ} k m 0)
-    ∙ ap (λ xs. replicate k 0 ∷ xs) (cells_of-zeros k n (m - k) (omega arith))
 
 -- each is a cell of k samples
 pub cells_of-are : (k n : ℕ) (bytes : List ℕ) → length bytes ≡ k * n → ((i : ℕ) → slice_index bytes i < 256) → AllByRecursion (IsCell k) (cells_of k n bytes)

@@ -1,7 +1,16 @@
 pub mod Chunks
 pub mod Raster
+pub mod PartLaws
+pub mod PartBoxes
+pub mod Joining
 pub mod Buffering
 pub mod CellLaws
 pub mod BoxLaws
 pub mod DistanceLaws
 pub mod BoxTests
+pub mod SizeLaws
+pub mod PartPlaces
+pub mod PartLists
+pub mod PlaceLists
+pub mod Rows
+pub mod Steps

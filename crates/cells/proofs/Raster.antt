@@ -9,7 +9,7 @@ use mathlib.Core.Bool.{false≢true}
 use Rattle.std.proofs.lemmas.Int.{ints}
 use Rattle.cells.specs.declared.place.At.{At}
 use Rattle.cells.specs.declared.place.Size.{Size}
-use Rattle.cells.specs.Places.{on_axis, index_at, index_in, cell_count, place_of, spot}
+use Rattle.cells.specs.Places.{on_axis, index_on_axes, index_in, cell_count, place_of, spot}
 
 -- one more row fits
 pub in_rows : (w h y x : ℕ) → x < w → y < h → x + w * y < w * h
@@ -19,7 +19,7 @@ in_rows w h y x lt below = omega (arith, mul-le-mul_left w (let le : y + 1 ≤ h
 pub run_in_rows : (w h y x n : ℕ) → x + n ≤ w → y < h → x + w * y + n ≤ w * h
 run_in_rows w h y x n le below = omega (arith, mul-le-mul_left w (let more : y + 1 ≤ h = omega arith in more))
 
-row_split : (w x y a b : ℕ) → x < w → y < w → x + w * a ≡ y + w * b → (x ≡ y) × (a ≡ b)
+pub row_split : (w x y a b : ℕ) → x < w → y < w → x + w * a ≡ y + w * b → (x ≡ y) × (a ≡ b)
 row_split w x y a b lx ly e =
     ⊎_elim (λ lt. absurd (omega (arith, e, mul-le-mul_left w (let le : a + 1 ≤ b = omega arith in le))))
     (λ le. ⊎_elim (λ lt. absurd (omega (arith, e, mul-le-mul_left w (let more : b + 1 ≤ a = omega arith in more))))
@@ -59,7 +59,7 @@ pub record IsAt (size : Size) (p : At) (i : ℕ) : Type 0 where
 pub index_parts : (size : Size) (p : At) (i : ℕ) → index_in size p ≡ Some i → IsAt size p i
 index_parts size p i e = split (on_axis size.w p.x) (on_axis size.h p.y) (on_axis size.f p.f) refl refl refl e
   where
-    split : (a b c : Option ℕ) → on_axis size.w p.x ≡ a → on_axis size.h p.y ≡ b → on_axis size.f p.f ≡ c → index_at size a b c ≡ Some i → IsAt size p i
+    split : (a b c : Option ℕ) → on_axis size.w p.x ≡ a → on_axis size.h p.y ≡ b → on_axis size.f p.f ≡ c → index_on_axes size a b c ≡ Some i → IsAt size p i
     split (Some x) (Some y) (Some f) ex ey ef is = record {
       x = x;
       y = y;
@@ -75,7 +75,7 @@ index_parts size p i e = split (on_axis size.w p.x) (on_axis size.h p.y) (on_axi
 
 -- the index of three counts that are on their axes
 pub index_of_spot : (size : Size) (x y f : ℕ) → x < size.w → y < size.h → f < size.f → index_in size (spot x y f) ≡ Some (x + size.w * (y + size.h * f))
-index_of_spot size x y f lx ly lf = λ k. index_at size (on_axis_in size.w x lx k) (on_axis_in size.h y ly k) (on_axis_in size.f f lf k)
+index_of_spot size x y f lx ly lf = λ k. index_on_axes size (on_axis_in size.w x lx k) (on_axis_in size.h y ly k) (on_axis_in size.f f lf k)
 
 pub index_below : (size : Size) (p : At) (i : ℕ) → index_in size p ≡ Some i → i < cell_count size
 index_below size p i e =
@@ -100,7 +100,7 @@ one_place size p q i ep eq =
     let high = row_split size.h a.y b.y a.f b.f a.y_on.below b.y_on.below low.1 in
     same_place p q (a.x_on.is ∙ ap pos low.0 ∙ sym b.x_on.is) (a.y_on.is ∙ ap pos high.0 ∙ sym b.y_on.is) (a.f_on.is ∙ ap pos high.1 ∙ sym b.f_on.is)
 
-below_of_div : (w n i : ℕ) → 0 < w → i < w * n → i / w < n
+pub below_of_div : (w n i : ℕ) → 0 < w → i < w * n → i / w < n
 below_of_div w n i some lt = ⊎_elim (λ less. less) (λ ge. absurd (omega (arith, mul-le-mul_left w ge))) (cases_lt (i / w) n)
 
 -- the place at an index is inside, and has that index

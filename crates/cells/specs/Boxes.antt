@@ -1,4 +1,4 @@
--- Boxes inside a size. (Own.)
+-- What a reader has to trust: boxes inside a size. (Own.)
 use Rattle.std.specs.Prelude.{◌≤◌, ℕ, ℤ, pos, ◌+ℤ◌, ◌≤ℤ◌}
 use Rattle.cells.specs.declared.place.At.{At}
 use Rattle.cells.specs.declared.place.Box3.{Box3}

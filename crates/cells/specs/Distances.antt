@@ -1,5 +1,6 @@
--- How far the cells of two places are apart. (Kwatra et al. 2003 weigh a seam by such distances; the sum
--- of absolute differences as the norm, and the value outside, are own.)
+-- What a reader has to trust: how far the cells of two places are apart. (Kwatra et al. 2003 weigh
+-- a seam by such distances; the sum of absolute differences as the norm, and the value outside, are
+-- own.)
 use Rattle.std.specs.Prelude.{◌≡◌, ◌≤◌, ◌+◌, ◌*◌, ℕ, List, Option, Some, None}
 use Rattle.std.specs.Int.{abs_diff}
 use Rattle.std.specs.List.{sum_by, zip}
@@ -10,7 +11,8 @@ use Rattle.cells.specs.Cells.{Cells, cell_at}
 abbrev pub difference : List ℕ → List ℕ → ℕ
 difference a b = sum_by (λ pair. abs_diff pair.0 pair.1) (zip a b)
 
--- with a place outside: as far as two cells of k samples can be from one that has a cell, and nothing from another outside
+-- the distance of two cells; a place outside is as far as two cells of k samples can be from one
+-- that has a cell, and at no distance from another outside
 abbrev pub distance_of : ℕ → Option (List ℕ) → Option (List ℕ) → ℕ
 distance_of k (Some a) (Some b) = difference a b
 distance_of k (Some a) None = 255 * k

@@ -1,6 +1,9 @@
 pub mod Places
 pub mod Neighbours
 pub mod Boxes
+pub mod Parts
 pub mod Cells
 pub mod Buffers
+pub mod SizeLists
+pub mod PartLists
 pub mod Distances

@@ -1,4 +1,4 @@
--- Neighbours: two places that differ by 1 on exactly one axis. (Own.)
+-- What a reader has to trust: neighbours, two places that differ by 1 on exactly one axis. (Own.)
 use Rattle.std.specs.Prelude.{◌≡◌, ◌⊎◌, pos}
 use Rattle.cells.specs.declared.place.At.{At}
 use Rattle.cells.specs.declared.place.Axis.{Axis}

@@ -1,7 +1,9 @@
--- Places, sizes and raster order: x runs fastest, then y, then f. (The order of rows and columns is
--- Netpbm's; frames follow one another as in a clip.)
-use Rattle.std.specs.Prelude.{◌≤◌, ◌*◌, ◌+◌, ◌/◌, ◌%◌, ℕ, ℤ, pos, negsuc, ◌+ℤ◌, ◌-ℤ◌, Option, Some, None, nat_lt, if◌then◌else◌, IsSome, FitsSigned}
+-- What a reader has to trust: places, sizes and raster order. x runs fastest, then y, then f. (The
+-- order of rows and columns is Netpbm's; frames follow one another as in a clip.)
+use Rattle.std.specs.Prelude.{◌≤◌, ◌*◌, ◌+◌, ◌/◌, ◌%◌, ℕ, ℤ, pos, negsuc, ◌+ℤ◌, ◌-ℤ◌, List, map, Option, Some, None, nat_lt, if◌then◌else◌, IsSome, FitsSigned}
+use Rattle.std.specs.List.{range_with_len}
 use Rattle.std.specs.Int.{w32}
+use Rattle.cells.specs.declared.bounds.TheConstants.{GREATEST_AXIS, MOST_CELLS}
 use Rattle.cells.specs.declared.place.At.{At}
 use Rattle.cells.specs.declared.place.Size.{Size}
 
@@ -9,29 +11,33 @@ use Rattle.cells.specs.declared.place.Size.{Size}
 abbrev pub cell_count : Size → ℕ
 cell_count size = size.w * (size.h * size.f)
 
--- axes from 1 to 4,096
+-- axes from 1 to the greatest
 pub record HasAxes (size : Size) : Type 0 where
-  pub w : (1 ≤ size.w) × (size.w ≤ 4096)
-  pub h : (1 ≤ size.h) × (size.h ≤ 4096)
-  pub f : (1 ≤ size.f) × (size.f ≤ 4096)
+  pub w : (1 ≤ size.w) × (size.w ≤ GREATEST_AXIS)
+  pub h : (1 ≤ size.h) × (size.h ≤ GREATEST_AXIS)
+  pub f : (1 ≤ size.f) × (size.f ≤ GREATEST_AXIS)
 
--- such axes, and at most 2^25 cells
+-- such axes, and no more cells than a volume may have
 pub record IsSmall (size : Size) : Type 0 where
   pub axes : HasAxes size
-  pub cells : cell_count size ≤ 33554432
+  pub cells : cell_count size ≤ MOST_CELLS
 
 -- the coordinate, where it is at least 0 and below the axis
 abbrev pub on_axis : ℕ → ℤ → Option ℕ
 on_axis n (pos c) = if nat_lt c n then Some c else None
 on_axis n (negsuc c) = None
 
-abbrev pub index_at : Size → Option ℕ → Option ℕ → Option ℕ → Option ℕ
-index_at size (Some x) (Some y) (Some f) = Some (x + size.w * (y + size.h * f))
-index_at size x y f = None
+-- the index of three counts in raster order
+abbrev pub raster_index : Size → ℕ → ℕ → ℕ → ℕ
+raster_index size x y f = x + size.w * (y + size.h * f)
+
+abbrev pub index_on_axes : Size → Option ℕ → Option ℕ → Option ℕ → Option ℕ
+index_on_axes size (Some x) (Some y) (Some f) = Some (raster_index size x y f)
+index_on_axes size x y f = None
 
 -- the index of a place in raster order, where it is inside; nothing outside
 abbrev pub index_in : Size → At → Option ℕ
-index_in size p = index_at size (on_axis size.w p.x) (on_axis size.h p.y) (on_axis size.f p.f)
+index_in size p = index_on_axes size (on_axis size.w p.x) (on_axis size.h p.y) (on_axis size.f p.f)
 
 -- the place is at least 0 and below the axis on each axis
 abbrev pub IsInside : Size → At → Type 0
@@ -63,3 +69,7 @@ spot x y f = record { x = pos x; y = pos y; f = pos f }
 -- the place at an index in raster order
 abbrev pub place_of : Size → ℕ → At
 place_of size i = spot (i % size.w) (i / size.w % size.h) (i / size.w / size.h)
+
+-- all places of a size, in raster order
+abbrev pub places : Size → List At
+places size = map (place_of size) (range_with_len 0 (cell_count size))

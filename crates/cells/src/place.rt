@@ -3,7 +3,7 @@ ghost use Rattle.std.specs.Prelude.{◌≡◌, ◌<◌, ◌+ℤ◌, ◌-ℤ◌, 
 ghost use Rattle.std.specs.Int.{w32};
 ghost use Rattle.cells.specs.Places.{DifferenceFits, IsSmall, SumFits, cell_count, index_in, minus, on_axis, place_of, plus};
 ghost use Rattle.cells.specs.Neighbours.{unit_step};
-ghost use Rattle.cells.specs.Boxes.{AxisHolds, HasCells, HoldsBox, HoldsEach, IsInBox};
+ghost use Rattle.cells.specs.Boxes.{AxisHolds, HasCells, HoldsBox, IsInBox};
 
 /// A place in a volume: column, row and frame, each counted from 0. Places outside are allowed.
 #[derive(Clone, Copy, Debug, Drop, PartialEq, Eq)]
@@ -17,7 +17,7 @@ pub struct At {
 }
 
 // A sum of two coordinates, apart so that the check adds two numbers and not three pairs of them.
-fn sum_of(a: i32, b: i32) -> i32
+pub(crate) fn sum_of(a: i32, b: i32) -> i32
     requires { FitsSigned w32 (a +ℤ b) }
     ensures { result ≡ a +ℤ b }
 {
@@ -144,7 +144,7 @@ pub struct Box3 {
     pub size: Size,
 }
 
-// How far a coordinate lies behind another.
+// How far a coordinate lies past another.
 fn steps_from(corner: i32, z: i32) -> i64
     ensures { result ≡ z -ℤ corner }
 {
@@ -177,27 +177,19 @@ impl Box3 {
     }
 
     // Whether the box has a cell.
-    fn has_cells(&self) -> bool
+    pub(crate) fn has_cells(&self) -> bool
         ensures { IsTrue result ↔ HasCells self.now.size }
     {
         self.size.w > 0 && self.size.h > 0 && self.size.f > 0
     }
 
     // Whether the box lies inside a size on each axis.
-    fn lies_in(&self, size: Size) -> bool
+    pub(crate) fn lies_in(&self, size: Size) -> bool
         ensures { IsTrue result ↔ HoldsBox size self.now.corner self.now.size }
     {
         axis_holds(size.w, self.corner.x, self.size.w)
             && axis_holds(size.h, self.corner.y, self.size.h)
             && axis_holds(size.f, self.corner.f, self.size.f)
-    }
-
-    // Whether each place of the box is inside a size.
-    pub(crate) fn is_within(&self, size: Size) -> bool
-        ensures each { IsTrue result ↔ HoldsEach size self.now }
-        ensures fits { HasCells self.now.size → (IsTrue result ↔ HoldsBox size self.now.corner self.now.size) }
-    {
-        !self.has_cells() || self.lies_in(size)
     }
 }
 

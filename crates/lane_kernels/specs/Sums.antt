@@ -1,4 +1,5 @@
--- The plain sums that the kernels compute: rows of bytes are read in step, one pair of bytes at a time.
+-- A reader has to trust this file. The plain sums that the kernels compute: rows of bytes are read
+-- in step, one pair of bytes at a time.
 use Rattle.std.specs.Prelude.{ℕ, ◌*◌, ◌==◌, if◌then◌else◌, List}
 use Rattle.std.specs.Int.{abs_diff}
 use Rattle.std.specs.List.{sum_by, zip}
@@ -11,7 +12,8 @@ absolute_difference pair = abs_diff pair.0 pair.1
 abbrev pub squared_difference : ℕ × ℕ → ℕ
 squared_difference pair = absolute_difference pair * absolute_difference pair
 
--- the squared difference of a pair whose byte of the mask isn't 0, and nothing for another pair: own
+-- the squared difference of a pair whose byte of the mask isn't 0, and nothing for another pair:
+-- own
 abbrev pub masked_squared_difference : (ℕ × ℕ) × ℕ → ℕ
 masked_squared_difference masked = if masked.1 == 0 then 0 else squared_difference masked.0
 
@@ -23,6 +25,7 @@ sum_of_absolute_differences a b = sum_by absolute_difference (zip a b)
 abbrev pub sum_of_squared_differences : List ℕ → List ℕ → ℕ
 sum_of_squared_differences a b = sum_by squared_difference (zip a b)
 
--- SSD over the pairs that a mask keeps, as Efros and Freeman (2001) compare a block with what is already there
+-- SSD over the pairs that a mask keeps, as Efros and Freeman (2001) compare a block with what is
+-- already there
 abbrev pub masked_sum_of_squared_differences : List ℕ → List ℕ → List ℕ → ℕ
 masked_sum_of_squared_differences a b mask = sum_by masked_squared_difference (zip (zip a b) mask)

@@ -43,7 +43,7 @@ pub fn ssd(a: &[u8], b: &[u8]) -> u64
     requires same_length { length a.now ≡ length b.now }
     requires within_limit { length a.now ≤ 2 ^ 26 }
     ensures sum { result ≡ sum_of_squared_differences a.now b.now }
-    ensures bound { result ≤ 65025 * length a.now }
+    ensures bound { result ≤ 255 * 255 * length a.now }
 {
     let mut total = 0;
     let mut at = 0;
@@ -61,7 +61,7 @@ pub fn ssd_masked(a: &[u8], b: &[u8], mask: &[u8]) -> u64
     requires mask_length { length a.now ≡ length mask.now }
     requires within_limit { length a.now ≤ 2 ^ 26 }
     ensures sum { result ≡ masked_sum_of_squared_differences a.now b.now mask.now }
-    ensures bound { result ≤ 65025 * length a.now }
+    ensures bound { result ≤ 255 * 255 * length a.now }
 {
     let mut total = 0;
     let mut at = 0;

@@ -7,4 +7,4 @@ use Rattle.cells.proofs.volume.Volume.size.Goals as goal
 pub returns-clause-volume : goal.returns-clause-volume
 returns-clause-volume c =
     let small : (i : ℕ) → slice_index c.self.inside.bytes.items i < 256 = search rules in
-    subst IsVolume c.self.view_is (is_volume c.self.inside.size c.self.inside.k c.self.inside.bytes.items c.self.invariant small)
+    subst IsVolume c.self.view_is (is_volume c.self.inside.size c.self.inside.more c.self.inside.k c.self.inside.bytes.items c.self.invariant small)

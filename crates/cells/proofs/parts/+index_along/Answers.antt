@@ -1,0 +1,17 @@
+use Rattle.std.proofs.Common.{◌≡◌, ◌<◌, sym, arith}
+use Rattle.std.proofs.lemmas.Int.{ints, to_z-of_z}
+use Rattle.cells.proofs.PartLaws.{small_of, index_front, index_from_below, none_before}
+use Rattle.cells.proofs.parts.+index_along.Goals as goal
+
+pub index_of-requires : goal.index_of-requires
+index_of-requires t c = small_of c.args.size c.args.more.now c.requires.parts
+
+pub returns-in-Some-clause-index : goal.returns-in-Some-clause-index
+returns-in-Some-clause-index t c = sym (index_front c.args.size c.args.more.now c.args.at c.in-Some.i (sym c.in-Some.ensures.index))
+
+pub returns-in-Some-clause-below : goal.returns-in-Some-clause-below
+returns-in-Some-clause-below t c =
+    index_from_below c.args.size c.args.more.now c.args.at c.in-Some.i (index_front c.args.size c.args.more.now c.args.at c.in-Some.i (sym c.in-Some.ensures.index))
+
+pub returns-then-at-lt0-clause-index : goal.returns-then-at-lt0-clause-index
+returns-then-at-lt0-clause-index t c = sym (none_before c.args.size c.args.more.now c.args.at (grind (arith, to_z-of_z, c.if-at-lt0.true)))

@@ -1,0 +1,15 @@
+use Rattle.std.proofs.Common.{◌≡◌, ◌+◌, ◌∷◌, List, sym, ◌∙◌, subst}
+use mathlib.Core.Bool.{false≢true}
+use Rattle.cells.specs.declared.place.Size.{Size}
+use Rattle.cells.specs.declared.place.At.{At}
+use Rattle.cells.specs.SizeLists.{IsPartFound}
+use Rattle.cells.proofs.PartPlaces.{found_behind}
+use Rattle.cells.proofs.sizes.+part_along.Goals as goal
+
+pub returns : goal.returns
+returns t c =
+    let others : List Size = c.in_ok-next.next.now ∷ c.in_ok-next.more.now in
+    let is : c.args.more.now ≡ others = (c.in_ok-next.ensures {u = tt}).cases.0 in
+    subst (λ (more : List Size). IsPartFound c.args.number (c.args.size ∷ more) c.args.at c.part_along.result) (sym is)
+    (found_behind c.args.number c.args.size others c.args.at c.part_along.result (λ inside. absurd (false≢true (sym c.if-has.false ∙ c.has.ensures.1 inside)))
+    (subst (λ (p : At). IsPartFound (c.args.number + 1) others p c.part_along.result) c.past.ensures c.part_along.ensures))

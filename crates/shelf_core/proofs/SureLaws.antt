@@ -15,7 +15,7 @@ use Rattle.std.specs.FinMap.Entries.{below_all, by_order}
 use Rattle.shelf_core.specs.Files.{Files, content_of, Told}
 use Rattle.shelf_core.specs.Entries.{map_of}
 use Rattle.shelf_core.specs.Tapes.{spent, has_name}
-use Rattle.shelf_core.specs.SureStates.{size_of, fitting, kept, written_over, IsSized, Opens}
+use Rattle.shelf_core.specs.SureStates.{size_of, fitting, kept_bytes, written_over, HasNamesOnce, Opens}
 use Rattle.shelf_core.proofs.FileLaws.{name_itself, content_inserted, insert_again, insert_same}
 use Rattle.shelf_core.proofs.EntryLaws.{name_found, entry_found, entry_missing, entry_over, entry_behind}
 
@@ -120,7 +120,7 @@ file_behind name bytes es none =
     ap map_of (sym (map-id (es ++ (name, bytes) ∷ []))) ∙ entry_behind name_of bytes_of name bytes (name, bytes) es none refl refl
     ∙ ap (λ (l : List (List ℕ × List ℕ)). insert (map_of l) name bytes) (map-id es)
 
-sized_over : (name bytes : List ℕ) (es : List (List ℕ × List ℕ)) (i : ℕ) → position (has_name name) es ≡ Some i → i < length es → IsSized es → IsSized (set es i ((get_or es i nothing).0, bytes))
+sized_over : (name bytes : List ℕ) (es : List (List ℕ × List ℕ)) (i : ℕ) → position (has_name name) es ≡ Some i → i < length es → HasNamesOnce es → HasNamesOnce (set es i ((get_or es i nothing).0, bytes))
 sized_over name bytes es i at lt sized =
     omega (
       arith,
@@ -132,7 +132,7 @@ sized_over name bytes es i at lt sized =
       ap (length {A = ℕ}) (name_found name_of bytes_of name nothing es i at),
     )
 
-sized_behind : (name : List ℕ) (es : List (List ℕ × List ℕ)) → position (has_name name) es ≡ None → IsSized es → IsSized (es ++ (name, []) ∷ [])
+sized_behind : (name : List ℕ) (es : List (List ℕ × List ℕ)) → position (has_name name) es ≡ None → HasNamesOnce es → HasNamesOnce (es ++ (name, []) ∷ [])
 sized_behind name es none sized =
     omega (arith, sized, ap size_of (file_behind name [] es none), size_insert (map_of es) name [], ap (taken name) (file_missing name es none), spent_push es (name, []))
 
@@ -178,41 +178,41 @@ opens_kept name es i at =
 pub opens_cleared : (name : List ℕ) (es : List (List ℕ × List ℕ)) (i : ℕ) → position (has_name name) es ≡ Some i → Opens es (set es i ((get_or es i nothing).0, [])) name false i
 opens_cleared name es i at = record { at = position_stays name i es [] ∙ at; files = file_over name [] es i at }
 
-pub sized_cleared : (name : List ℕ) (es : List (List ℕ × List ℕ)) (i : ℕ) → position (has_name name) es ≡ Some i → IsSized es → IsSized (set es i ((get_or es i nothing).0, []))
+pub sized_cleared : (name : List ℕ) (es : List (List ℕ × List ℕ)) (i : ℕ) → position (has_name name) es ≡ Some i → HasNamesOnce es → HasNamesOnce (set es i ((get_or es i nothing).0, []))
 sized_cleared name es i at sized = sized_over name [] es i at (position_within name es i at) sized
 
 -- and a new one
 pub opens_new : (name : List ℕ) (keeps : Bool) (es : List (List ℕ × List ℕ)) → position (has_name name) es ≡ None → Opens es (es ++ (name, []) ∷ []) name keeps (length es)
 opens_new name keeps es none = record { at = position_last name [] es none; files = file_behind name [] es none ∙ ap (insert (map_of es) name) (empty keeps) }
   where
-    empty : (keeps : Bool) → [] ≡ kept keeps (content_of (map_of es) name) ++ []
+    empty : (keeps : Bool) → [] ≡ kept_bytes keeps (content_of (map_of es) name) ++ []
     empty true = ap (λ o. unwrap_or o [] ++ []) (sym (file_missing name es none))
     empty false = refl
 
-pub sized_new : (name : List ℕ) (es : List (List ℕ × List ℕ)) → position (has_name name) es ≡ None → IsSized es → IsSized (es ++ (name, []) ∷ [])
+pub sized_new : (name : List ℕ) (es : List (List ℕ × List ℕ)) → position (has_name name) es ≡ None → HasNamesOnce es → HasNamesOnce (es ++ (name, []) ∷ [])
 sized_new name es none sized = sized_behind name es none sized
 
 -- a name with no room passes the room
-pub new_passes : (room : ℕ) (name : List ℕ) (es : List (List ℕ × List ℕ)) → position (has_name name) es ≡ None → IsSized es → room < spent es + length name → room < size_of (insert (map_of es) name [])
+pub new_passes : (room : ℕ) (name : List ℕ) (es : List (List ℕ × List ℕ)) → position (has_name name) es ≡ None → HasNamesOnce es → room < spent es + length name → room < size_of (insert (map_of es) name [])
 new_passes room name es none sized over = omega (arith, sized, over, size_insert (map_of es) name [], ap (taken name) (file_missing name es none))
 
--- the piece behind what was kept
+-- the piece behind what was kept_bytes
 pub stored : (was now : List (List ℕ × List ℕ)) (name piece : List ℕ) (keeps : Bool) (i : ℕ) → Opens was now name keeps i
     → map_of (set now i ((get_or now i nothing).0, (get_or now i nothing).1 ++ piece)) ≡ written_over was name keeps piece
 stored was now name piece keeps i opens =
     let files : Files = map_of was in
-    let front : List ℕ = kept keeps (content_of files name) in
+    let front : List ℕ = kept_bytes keeps (content_of files name) in
     let own : (get_or now i nothing).1 ≡ front = sym (ap (λ o. unwrap_or o []) (file_found name now i opens.at)) ∙ ap (λ (m : Files). content_of m name) opens.files ∙ content_inserted files name (front ++ []) ∙ append-nil front in
     file_over name ((get_or now i nothing).1 ++ piece) now i opens.at
     ∙ ap (λ (m : Files). insert m name ((get_or now i nothing).1 ++ piece)) opens.files
     ∙ insert_again files name (front ++ []) ((get_or now i nothing).1 ++ piece)
     ∙ ap (λ bytes. insert files name (bytes ++ piece)) own
 
-pub sized_stored : (now : List (List ℕ × List ℕ)) (name piece : List ℕ) (i : ℕ) → position (has_name name) now ≡ Some i → IsSized now → IsSized (set now i ((get_or now i nothing).0, (get_or now i nothing).1 ++ piece))
+pub sized_stored : (now : List (List ℕ × List ℕ)) (name piece : List ℕ) (i : ℕ) → position (has_name name) now ≡ Some i → HasNamesOnce now → HasNamesOnce (set now i ((get_or now i nothing).0, (get_or now i nothing).1 ++ piece))
 sized_stored now name piece i at sized = sized_over name ((get_or now i nothing).1 ++ piece) now i at (position_within name now i at) sized
 
 -- its bytes are those before and those of the piece
-pub size_stored : (was now : List (List ℕ × List ℕ)) (name piece : List ℕ) (keeps : Bool) (i : ℕ) → Opens was now name keeps i → IsSized now → size_of (written_over was name keeps piece) ≡ spent now + length piece
+pub size_stored : (was now : List (List ℕ × List ℕ)) (name piece : List ℕ) (keeps : Bool) (i : ℕ) → Opens was now name keeps i → HasNamesOnce now → size_of (written_over was name keeps piece) ≡ spent now + length piece
 size_stored was now name piece keeps i opens sized =
     let own : List ℕ = (get_or now i nothing).1 in
     omega (
@@ -233,5 +233,5 @@ told_fitting room write (Some files) = fits (nat_le (size_of (write files)) room
     fits false = tt
 
 -- no file takes no byte
-pub sized_none : IsSized []
+pub sized_none : HasNamesOnce []
 sized_none = ap spent (nil_from_length (entries empty) (sym (len-entries empty) ∙ len-empty (slice_cmp nat_cmp) (List ℕ)))

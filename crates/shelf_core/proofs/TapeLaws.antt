@@ -8,7 +8,7 @@ use Rattle.std.specs.List.{position_from}
 use Rattle.std.proofs.lemmas.Iterator.Adapters.{position_from-zero}
 use Rattle.std.specs.Cmp.Lexicographic.{pointwise}
 use Rattle.shelf_core.specs.declared.tape.Span.{Span}
-use Rattle.shelf_core.specs.Tapes.{has_name, no_span, cut, spent, spanned, nameless, IsLaid}
+use Rattle.shelf_core.specs.Tapes.{has_name, no_span, cut, spent, spanned, nameless, CoversBytes}
 
 -- How many bytes stand before a file.
 
@@ -260,8 +260,8 @@ content_at i start len spans bytes lt starts lasts =
     ∙ ap (λ (file : List ℕ × List ℕ). file.1) (sym (cut_at i spans bytes t ([], []) lt refl))
 
 -- the memory still suffices after an edit of one file
-pub laid_set : (room space space' marks i : ℕ) (spans : List Span) (bytes after : List ℕ) (s t : Span) → IsLaid room spans bytes space marks → i < length spans → s ≡ get_or spans i s → t.name ≡ s.name
-    → length after + s.bytes ≡ length bytes + t.bytes → length after ≤ room → space ≤ space' → IsLaid room (set spans i t) after space' marks
+pub laid_set : (room space space' marks i : ℕ) (spans : List Span) (bytes after : List ℕ) (s t : Span) → CoversBytes room spans bytes space marks → i < length spans → s ≡ get_or spans i s → t.name ≡ s.name
+    → length after + s.bytes ≡ length bytes + t.bytes → length after ≤ room → space ≤ space' → CoversBytes room (set spans i t) after space' marks
 laid_set room space space' marks i spans bytes after s t laid lt at named sized within no_less =
     let own = own_span i spans s lt at in
     record {
@@ -273,13 +273,13 @@ laid_set room space space' marks i spans bytes after s t laid lt at named sized 
     }
 
 -- there is a mark for one more file
-pub mark_left : (room space marks : ℕ) (spans : List Span) (bytes name : List ℕ) → IsLaid room spans bytes space marks → position (has_name name) (cut spans bytes) ≡ None → length bytes + length name ≤ room → length spans < marks
+pub mark_left : (room space marks : ℕ) (spans : List Span) (bytes name : List ℕ) → CoversBytes room spans bytes space marks → position (has_name name) (cut spans bytes) ≡ None → length bytes + length name ≤ room → length spans < marks
 mark_left room space marks spans bytes [] laid missing fits = omega (arith, laid.covered, laid.has_marks, few_files spans, all_named spans bytes missing)
 mark_left room space marks spans bytes (x ∷ name) laid missing fits = omega (arith, laid.covered, laid.has_marks, laid.one_nameless, few_files spans)
 
 -- and the memory suffices with it
-pub laid_push : (room space space' marks marks' : ℕ) (spans : List Span) (bytes name : List ℕ) (s : Span) → IsLaid room spans bytes space marks → position (has_name name) (cut spans bytes) ≡ None → length bytes + length name ≤ room
-    → s.name ≡ length name → s.bytes ≡ 0 → space ≤ space' → marks ≤ marks' → IsLaid room (spans ++ s ∷ []) (bytes ++ name) space' marks'
+pub laid_push : (room space space' marks marks' : ℕ) (spans : List Span) (bytes name : List ℕ) (s : Span) → CoversBytes room spans bytes space marks → position (has_name name) (cut spans bytes) ≡ None → length bytes + length name ≤ room
+    → s.name ≡ length name → s.bytes ≡ 0 → space ≤ space' → marks ≤ marks' → CoversBytes room (spans ++ s ∷ []) (bytes ++ name) space' marks'
 laid_push room space space' marks marks' spans bytes name s laid missing fits sized empty no_less no_fewer = record {
   covered = omega (arith, laid.covered, spanned_push spans s, length-append bytes name);
   within = omega (arith, length-append bytes name);

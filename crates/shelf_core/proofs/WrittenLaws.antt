@@ -4,7 +4,7 @@ use Rattle.std.proofs.lemmas.List.{take-append-drop, append-nil}
 use Rattle.std.proofs.Math.Seq.{take-append_seam}
 use Rattle.std.specs.FinMap.{insert}
 use Rattle.shelf_core.specs.Files.{Files, ShelfState, SinkState, content_of, Told, Changes, Rose, IsPrefixAdded, GrowsByPrefix}
-use Rattle.shelf_core.specs.Written.{Holds, HoldsPart, Says}
+use Rattle.shelf_core.specs.Written.{HoldsText, HoldsPart, Says}
 use Rattle.shelf_core.proofs.FileLaws.{content_inserted, insert_again, told_then, told_weaker, told_same, rose_later}
 
 -- a front of a text is one of its prefixes
@@ -20,7 +20,7 @@ added_front text piece rest n =
 -- A file.
 
 -- a file that was begun holds the empty text
-pub begun : (name : List ℕ) (x y : Files) → y ≡ insert x name [] → Holds name [] x y
+pub begun : (name : List ℕ) (x y : Files) → y ≡ insert x name [] → HoldsText name [] x y
 begun name x y step = step
 
 -- a file whose begin failed holds part of whatever was to be written
@@ -29,14 +29,14 @@ begun_part name text x y (inl same) = inl same
 begun_part name text x y (inr empty) = inr (0, empty)
 
 -- a file that holds a text holds a longer one after an add
-pub added : (name text piece : List ℕ) (x y z : Files) → Holds name text x y → z ≡ insert y name (content_of y name ++ piece) → Holds name (text ++ piece) x z
+pub added : (name text piece : List ℕ) (x y z : Files) → HoldsText name text x y → z ≡ insert y name (content_of y name ++ piece) → HoldsText name (text ++ piece) x z
 added name text piece x y z holds step =
     step ∙ ap (λ files. insert files name (content_of files name ++ piece)) holds
     ∙ ap (λ bytes. insert (insert x name text) name (bytes ++ piece)) (content_inserted x name text)
     ∙ insert_again x name text (text ++ piece)
 
 -- and after an add that failed it holds part of the whole text, whatever was to follow
-pub added_part : (name text piece rest : List ℕ) (x y z : Files) → Holds name text x y → (z ≡ y) ⊎ GrowsByPrefix y name piece z → HoldsPart name ((text ++ piece) ++ rest) x z
+pub added_part : (name text piece rest : List ℕ) (x y z : Files) → HoldsText name text x y → (z ≡ y) ⊎ GrowsByPrefix y name piece z → HoldsPart name ((text ++ piece) ++ rest) x z
 added_part name text piece rest x y z holds (inl same) =
     inr (length text, same ∙ holds ∙ ap (insert x name) (front text (piece ++ rest) ((text ++ piece) ++ rest) (sym (append_assoc text _ _))))
 added_part name text piece rest x y z holds (inr grown) =
@@ -49,22 +49,22 @@ added_part name text piece rest x y z holds (inr grown) =
 
 -- The same steps on a shelf, as its calls promise them.
 
-pub shelf_begun : (name : List ℕ) (a b : ShelfState) → Changes a b (λ was now. now ≡ insert was name []) → Changes a b (Holds name [])
+pub shelf_begun : (name : List ℕ) (a b : ShelfState) → Changes a b (λ was now. now ≡ insert was name []) → Changes a b (HoldsText name [])
 shelf_begun name a b step = step
 
 pub shelf_begun_part : (name text : List ℕ) (a b : ShelfState) → Changes a b (λ was now. (now ≡ was) ⊎ (now ≡ insert was name [])) → Changes a b (HoldsPart name text)
 shelf_begun_part name text a b step =
     told_weaker (λ was now. (now ≡ was) ⊎ (now ≡ insert was name [])) (HoldsPart name text) a.files b.files (begun_part name text) step
 
-pub shelf_added : (name text piece : List ℕ) (a b c : ShelfState) → Changes a b (Holds name text)
-    → Changes b c (λ was now. now ≡ insert was name (content_of was name ++ piece)) → Changes a c (Holds name (text ++ piece))
+pub shelf_added : (name text piece : List ℕ) (a b c : ShelfState) → Changes a b (HoldsText name text)
+    → Changes b c (λ was now. now ≡ insert was name (content_of was name ++ piece)) → Changes a c (HoldsText name (text ++ piece))
 shelf_added name text piece a b c holds step =
-    told_then (Holds name text) (λ was now. now ≡ insert was name (content_of was name ++ piece)) (Holds name (text ++ piece)) a.files b.files c.files (added name text piece) holds step
+    told_then (HoldsText name text) (λ was now. now ≡ insert was name (content_of was name ++ piece)) (HoldsText name (text ++ piece)) a.files b.files c.files (added name text piece) holds step
 
-pub shelf_added_part : (name text piece rest : List ℕ) (a b c : ShelfState) → Changes a b (Holds name text)
+pub shelf_added_part : (name text piece rest : List ℕ) (a b c : ShelfState) → Changes a b (HoldsText name text)
     → Changes b c (λ was now. (now ≡ was) ⊎ GrowsByPrefix was name piece now) → Changes a c (HoldsPart name ((text ++ piece) ++ rest))
 shelf_added_part name text piece rest a b c holds step =
-    told_then (Holds name text) (λ was now. (now ≡ was) ⊎ GrowsByPrefix was name piece now) (HoldsPart name ((text ++ piece) ++ rest)) a.files b.files c.files (added_part name text piece rest) holds step
+    told_then (HoldsText name text) (λ was now. (now ≡ was) ⊎ GrowsByPrefix was name piece now) (HoldsPart name ((text ++ piece) ++ rest)) a.files b.files c.files (added_part name text piece rest) holds step
 
 -- A sink, which is told a line in several pieces.
 

@@ -1,4 +1,5 @@
--- How the values of the stores in memory are stored as numbers, pairs and lists, by which two of them are told apart. (Own.)
+-- No promise rests on this file: how the values of the stores in memory are stored as numbers,
+-- pairs and lists, by which two of them are told apart. (Own.)
 use Rattle.std.specs.Prelude.{◌≡◌, ℕ, zero, suc, List, Option, refl}
 use Rattle.std.specs.Coded.{Coded, code_by, coded×, coded_ℕ, coded_list, coded_option}
 use Rattle.std.specs.Ordering.{nat_cmp}
@@ -30,15 +31,21 @@ abbrev pub call_code : Coded Call
 call_code = code_by ℕ coded_ℕ call_number numbered_call numbered-number
 
 abbrev pub listing_code : Coded Listing
-listing_code = code_by (Call × (List ℕ × (ℕ × ℕ))) (coded× call_code (coded× (coded_list coded_ℕ) (coded× coded_ℕ coded_ℕ)))
-    (λ a. (a.call, (a.name, (a.nth, a.kept)))) (λ p. record { call = p.0; name = p.1.0; nth = p.1.1.0; kept = p.1.1.1 }) (λ _. refl)
+listing_code = code_by (Call × (List ℕ × (ℕ × ℕ)))
+    (coded× call_code (coded× (coded_list coded_ℕ) (coded× coded_ℕ coded_ℕ)))
+    (λ a. (a.call, (a.name, (a.nth, a.kept))))
+    (λ p. record { call = p.0; name = p.1.0; nth = p.1.1.0; kept = p.1.1.1 }) (λ _. refl)
 
 abbrev pub files_code : Coded Files
 files_code = fin.code {R = slice_cmp nat_cmp} (coded_list coded_ℕ) (coded_list coded_ℕ)
 
 abbrev pub mem_shelf_code : Coded MemShelfState
-mem_shelf_code = code_by (Files × (List Listing × (ℕ × ℕ))) (coded× files_code (coded× (coded_list listing_code) (coded× coded_ℕ coded_ℕ)))
-    (λ s. (s.files, (s.listings, (s.reads, s.writes)))) (λ p. record { files = p.0; listings = p.1.0; reads = p.1.1.0; writes = p.1.1.1 }) (λ _. refl)
+mem_shelf_code = code_by (Files × (List Listing × (ℕ × ℕ)))
+    (coded× files_code (coded× (coded_list listing_code) (coded× coded_ℕ coded_ℕ)))
+    (λ s. (s.files, (s.listings, (s.reads, s.writes))))
+    (λ p. record { files = p.0; listings = p.1.0; reads = p.1.1.0; writes = p.1.1.1 })
+    (λ _. refl)
 
 abbrev pub sure_shelf_code : Coded SureShelfState
-sure_shelf_code = code_by (ℕ × Option Files) (coded× coded_ℕ (coded_option files_code)) (λ s. (s.room, s.files)) (λ p. record { room = p.0; files = p.1 }) (λ _. refl)
+sure_shelf_code = code_by (ℕ × Option Files) (coded× coded_ℕ (coded_option files_code))
+    (λ s. (s.room, s.files)) (λ p. record { room = p.0; files = p.1 }) (λ _. refl)

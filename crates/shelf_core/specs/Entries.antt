@@ -1,4 +1,5 @@
--- A list of files as a map from names. (Own.)
+-- A reader has to trust this file for the stores in memory. A list of files as a map from names.
+-- (Own.)
 use Rattle.std.specs.Prelude.{ℕ, Bool, List, map, nat_eq}
 use Rattle.std.specs.Cmp.Lexicographic.{pointwise}
 use Rattle.std.specs.FinMap.{from_entries}
@@ -9,11 +10,11 @@ use Rattle.shelf_core.specs.declared.mem_shelf.MemFile.{MemFile}
 abbrev pub map_of : List (List ℕ × List ℕ) → Files
 map_of entries = from_entries entries
 
-abbrev pub entry_of : MemFile → List ℕ × List ℕ
-entry_of f = (f.name, f.bytes)
+abbrev pub file_entry : MemFile → List ℕ × List ℕ
+file_entry f = (f.name, f.bytes)
 
 abbrev pub files_of : List MemFile → Files
-files_of files = map_of (map entry_of files)
+files_of files = map_of (map file_entry files)
 
 -- the file has this name
 abbrev pub is_named : List ℕ → MemFile → Bool

@@ -1,4 +1,5 @@
--- What the calls of a shelf do to its files, and those of a sink to its bytes. (Own.)
+-- A reader has to trust this file. What the calls of a shelf do to its files, and those of a sink
+-- to its bytes. (Own.)
 use Rattle.std.specs.Prelude.{◌≡◌, ◌<◌, ◌≤◌, ◌-◌, ◌⊎◌, ℕ, List, [], ◌++◌, length, take, drop, min, Option, Some, None, unwrap_or}
 use Rattle.std.specs.Ordering.{nat_cmp}
 use Rattle.std.specs.Cmp.Lexicographic.{slice_cmp}
@@ -8,7 +9,8 @@ use Rattle.std.specs.FinMap as map
 abbrev pub Files : Type 0
 Files = map.FinMap (slice_cmp nat_cmp) (List ℕ)
 
--- what a shelf means: its files, where it tells them, and for each name how often a read and a write have failed
+-- what a shelf means: its files, where it tells them, and for each name how often a read and a
+-- write have failed
 pub record ShelfState : Type 0 where
   pub files : Option Files
   pub reads : List ℕ → ℕ
@@ -23,7 +25,8 @@ pub record SinkState : Type 0 where
 abbrev pub content_of : Files → List ℕ → List ℕ
 content_of files name = unwrap_or (map.get files name) []
 
--- what is told at the exit was told at the entry, and a step leads from this to that; nothing is said where nothing is told at the exit
+-- what is told at the exit was told at the entry, and a step leads from this to that; nothing is
+-- said where nothing is told at the exit
 abbrev pub Told : {C : Type 0} → Option C → Option C → (C → C → Type 0) → Type 0
 Told was None step = Unit {0}
 Told None (Some now) step = ⊥
@@ -33,9 +36,24 @@ Told (Some was) (Some now) step = step was now
 abbrev pub Changes : ShelfState → ShelfState → (Files → Files → Type 0) → Type 0
 Changes was now step = Told was.files now.files step
 
--- a count has risen, or stands at the last value of its type
+-- the last value of a count
+abbrev pub last_count : ℕ
+last_count = 18446744073709551615
+
+-- a count has risen, or stands at its last value
 abbrev pub Rose : ℕ → ℕ → Type 0
-Rose before now = (before < now) ⊎ (18446744073709551615 ≤ now)
+Rose before now = (before < now) ⊎ (last_count ≤ now)
+
+-- the count of read faults of a file rose, and that of its write faults
+abbrev pub ReadsRose : List ℕ → ShelfState → ShelfState → Type 0
+ReadsRose name was now = Rose (was.reads name) (now.reads name)
+
+abbrev pub WritesRose : List ℕ → ShelfState → ShelfState → Type 0
+WritesRose name was now = Rose (was.writes name) (now.writes name)
+
+-- a fact of the bytes that a file has at the entry
+abbrev pub InFile : List ℕ → ShelfState → ShelfState → (List ℕ → Type 0) → Type 0
+InFile name was now Holds = Changes was now (λ before after. Holds (content_of before name))
 
 abbrev pub NeverFalls : (List ℕ → ℕ) → (List ℕ → ℕ) → Type 0
 NeverFalls before now = (name : List ℕ) → before name ≤ now name
@@ -62,4 +80,19 @@ IsPrefixAdded was piece now = (n : ℕ) × (now ≡ was ++ take n piece)
 
 -- some of a piece, from its front, stands behind the bytes of one file
 abbrev pub GrowsByPrefix : Files → List ℕ → List ℕ → Files → Type 0
-GrowsByPrefix was name piece now = (n : ℕ) × (now ≡ map.insert was name (content_of was name ++ take n piece))
+GrowsByPrefix was name piece now = (n : ℕ)
+    × (now ≡ map.insert was name (content_of was name ++ take n piece))
+
+-- a file becomes present and empty; or it is as before, or empty
+abbrev pub Begins : List ℕ → Files → Files → Type 0
+Begins name was now = now ≡ map.insert was name []
+
+abbrev pub BeginsPart : List ℕ → Files → Files → Type 0
+BeginsPart name was now = (now ≡ was) ⊎ (now ≡ map.insert was name [])
+
+-- a piece is put after the bytes of a file; or only a prefix of it is
+abbrev pub Appends : List ℕ → List ℕ → Files → Files → Type 0
+Appends name piece was now = now ≡ map.insert was name (content_of was name ++ piece)
+
+abbrev pub AppendsPart : List ℕ → List ℕ → Files → Files → Type 0
+AppendsPart name piece was now = (now ≡ was) ⊎ GrowsByPrefix was name piece now

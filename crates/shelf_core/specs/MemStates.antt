@@ -1,4 +1,4 @@
--- What the stores in memory mean. (Own.)
+-- A reader has to trust this file for the stores in memory. What the stores in memory mean. (Own.)
 use Rattle.std.specs.Prelude.{◌≡◌, ◌⊎◌, ℕ, List, [], ◌++◌, take, Option, Some, None, IsSome}
 use Rattle.std.specs.FinMap as fin
 use Rattle.shelf_core.specs.Files.{Files, ShelfState, SinkState, content_of}
@@ -29,23 +29,34 @@ mem_sink_state m = record { bytes = Some m.bytes; faults = m.faults }
 
 -- after a call that went well: the files are these
 abbrev pub well : Call → List ℕ → MemShelfState → Files → MemShelfState
-well call name was files = record was { files = files; listings = after_call call name was.listings }
+well call name was files =
+    record was { files = files; listings = after_call call name was.listings }
 
 -- after a read that failed
 abbrev pub unread : List ℕ → MemShelfState → MemShelfState
-unread name was = record was { listings = after_call Get name was.listings; reads = one_more was.reads }
+unread name was =
+    record was { listings = after_call Get name was.listings; reads = one_more was.reads }
 
 -- after a write that failed: the files are these
 abbrev pub unwritten : Call → List ℕ → MemShelfState → Files → MemShelfState
-unwritten call name was files = record was { files = files; listings = after_call call name was.listings; writes = one_more was.writes }
+unwritten call name was files = record was {
+  files = files;
+  listings = after_call call name was.listings;
+  writes = one_more was.writes;
+}
 
 -- a sink after an add that went well
 abbrev pub told_whole : List ℕ → MemSinkState → MemSinkState
-told_whole piece was = record was { bytes = was.bytes ++ piece; listings = after_call Add [] was.listings }
+told_whole piece was =
+    record was { bytes = was.bytes ++ piece; listings = after_call Add [] was.listings }
 
 -- a sink after an add that failed: the bytes are these
 abbrev pub untold : MemSinkState → List ℕ → MemSinkState
-untold was bytes = record was { bytes = bytes; listings = after_call Add [] was.listings; faults = one_more was.faults }
+untold was bytes = record was {
+  bytes = bytes;
+  listings = after_call Add [] was.listings;
+  faults = one_more was.faults;
+}
 
 -- a read of this name fails now: it is listed, or the name is missing
 abbrev pub FailsToGet : List ℕ → MemShelfState → Type 0
@@ -55,7 +66,8 @@ FailsToGet name was = IsSome (due Get name was.listings) ⊎ (fin.get was.files 
 abbrev pub kept_in : Files → List ℕ → List ℕ → ℕ → Files
 kept_in files name piece kept = fin.insert files name (content_of files name ++ take kept piece)
 
--- the files after an add that failed: as before after a refused growth, or with what the listing keeps
+-- the files after an add that failed: as before after a refused growth, or with what the listing
+-- keeps
 abbrev pub KeptBy : Option ℕ → Files → List ℕ → List ℕ → Files → Type 0
 KeptBy None was name piece now = now ≡ was
 KeptBy (Some kept) was name piece now = (now ≡ was) ⊎ (now ≡ kept_in was name piece kept)

@@ -1,4 +1,5 @@
--- What the stores that never fail mean. (Own.)
+-- A reader has to trust this file for the stores in memory. What the stores that never fail mean.
+-- (Own.)
 use Rattle.std.specs.Prelude.{◌≡◌, ℕ, Bool, nat_le, List, [], ◌++◌, length, Option, Some, None, option_map, option_and_then, unwrap_or, position, if◌then◌else◌}
 use Rattle.std.specs.FinMap as fin
 use Rattle.shelf_core.specs.Files.{Files, ShelfState, SinkState, content_of}
@@ -46,21 +47,25 @@ fitting_bytes room (Some bytes) = if nat_le (length bytes) room then Some bytes 
 
 -- the sink after a piece: it tells nothing from the first piece on that doesn't fit
 abbrev pub after_piece : SureSinkState → List ℕ → SureSinkState
-after_piece was piece = record was { bytes = fitting_bytes was.room (option_map (λ bytes. bytes ++ piece) was.bytes) }
+after_piece was piece =
+    record was { bytes = fitting_bytes was.room (option_map (λ bytes. bytes ++ piece) was.bytes) }
 
 -- what a write keeps of the bytes of a file
-abbrev pub kept : Bool → List ℕ → List ℕ
-kept keeps bytes = if keeps then bytes else []
+abbrev pub kept_bytes : Bool → List ℕ → List ℕ
+kept_bytes keeps bytes = if keeps then bytes else []
 
--- the files, each a name and its bytes, after a piece was put behind what is kept of the named one
+-- the files, each a name and its bytes, after a piece was put behind what is kept_bytes of the
+-- named one
 abbrev pub written_over : List (List ℕ × List ℕ) → List ℕ → Bool → List ℕ → Files
-written_over files name keeps piece = fin.insert (map_of files) name (kept keeps (content_of (map_of files) name) ++ piece)
+written_over files name keeps piece = fin.insert (map_of files) name
+    (kept_bytes keeps (content_of (map_of files) name) ++ piece)
 
 -- no name stands twice, so that the bytes of all files are those of the map
-abbrev pub IsSized : List (List ℕ × List ℕ) → Type 0
-IsSized files = size_of (map_of files) ≡ spent files
+abbrev pub HasNamesOnce : List (List ℕ × List ℕ) → Type 0
+HasNamesOnce files = size_of (map_of files) ≡ spent files
 
--- file i is the named one, and holds what is kept of it; the other files stay
-pub record Opens (was now : List (List ℕ × List ℕ)) (name : List ℕ) (keeps : Bool) (i : ℕ) : Type 0 where
+-- file i is the named one, and holds what is kept_bytes of it; the other files stay
+pub record Opens (was now : List (List ℕ × List ℕ)) (name : List ℕ) (keeps : Bool)
+    (i : ℕ) : Type 0 where
   pub at : position (has_name name) now ≡ Some i
   pub files : map_of now ≡ written_over was name keeps []

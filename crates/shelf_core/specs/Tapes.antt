@@ -1,4 +1,5 @@
--- Files that stand one behind another in one list of bytes. (Own.)
+-- The state of a store that never fails: files that stand one after another in one list of bytes.
+-- (Own.)
 use Rattle.std.specs.Prelude.{◌≡◌, ◌<◌, ◌≤◌, ◌+◌, ℕ, Bool, nat_eq, List, [], ◌∷◌, take, drop, length, if◌then◌else◌}
 use Rattle.std.specs.Cmp.Lexicographic.{pointwise}
 use Rattle.shelf_core.specs.declared.tape.Span.{Span}
@@ -13,7 +14,8 @@ no_span = record { name = 0; bytes = 0 }
 -- the files of a list of bytes, by the spans of their names and bytes
 abbrev pub cut : List Span → List ℕ → List (List ℕ × List ℕ)
 cut [] bytes = []
-cut (s ∷ spans) bytes = (take s.name bytes, take s.bytes (drop s.name bytes)) ∷ cut spans (drop (s.name + s.bytes) bytes)
+cut (s ∷ spans) bytes = (take s.name bytes, take s.bytes (drop s.name bytes)) ∷ cut spans
+    (drop (s.name + s.bytes) bytes)
 
 -- the bytes of all names and files
 abbrev pub spent : List (List ℕ × List ℕ) → ℕ
@@ -35,8 +37,10 @@ pub record TapeState : Type 0 where
   pub room : ℕ
   pub files : List (List ℕ × List ℕ)
 
--- the spans cover the bytes, which keep within the room; memory for both is there, since at most one name is empty
-pub record IsLaid (room : ℕ) (spans : List Span) (bytes : List ℕ) (space marks : ℕ) : Type 0 where
+-- the spans cover the bytes, which keep within the room; memory for both is there, since at most
+-- one name is empty
+pub record CoversBytes (room : ℕ) (spans : List Span) (bytes : List ℕ)
+    (space marks : ℕ) : Type 0 where
   pub covered : spanned spans ≡ length bytes
   pub within : length bytes ≤ room
   pub one_nameless : nameless spans ≤ 1

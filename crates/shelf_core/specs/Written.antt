@@ -1,11 +1,12 @@
--- What stands after texts are written to files one after another, and what a sink was told. (Own.)
+-- A reader has to trust this file. What stands after texts are written to files one after another,
+-- and what a sink was told. (Own.)
 use Rattle.std.specs.Prelude.{◌≡◌, ◌⊎◌, ℕ, List, [], ◌∷◌, ◌++◌, take, drop}
 use Rattle.std.specs.FinMap as map
 use Rattle.shelf_core.specs.Files.{Files, ShelfState, SinkState, Told, Changes, Rose, IsPrefixAdded}
 
 -- the named file holds the text, and all others are as before
-abbrev pub Holds : List ℕ → List ℕ → Files → Files → Type 0
-Holds name text was now = now ≡ map.insert was name text
+abbrev pub HoldsText : List ℕ → List ℕ → Files → Files → Type 0
+HoldsText name text was now = now ≡ map.insert was name text
 
 -- the named file is as before, or holds a prefix of the text; all others are as before
 abbrev pub HoldsPart : List ℕ → List ℕ → Files → Files → Type 0
@@ -21,7 +22,8 @@ abbrev pub FirstInPart : List (List ℕ × List ℕ) → Files → Files → Typ
 FirstInPart [] was now = now ≡ was
 FirstInPart (piece ∷ pieces) was now = HoldsPart piece.0 piece.1 was now
 
--- the writing stopped at pair i: those before it are whole, it may stand in part, and all else is as before
+-- the writing stopped at pair i: those before it are whole, it may stand in part, and all else is
+-- as before
 abbrev pub StoppedAt : List (List ℕ × List ℕ) → ℕ → Files → Files → Type 0
 StoppedAt pieces i was now = FirstInPart (drop i pieces) (written (take i pieces) was) now
 
@@ -34,4 +36,5 @@ pub record Untouched (was now : ShelfState) (out out' : SinkState) : Type 0 wher
 abbrev pub Says : SinkState → SinkState → List ℕ → Type 0
 Says err err' line =
     Told err.bytes err'.bytes (λ before after. after ≡ before ++ line)
-    ⊎ (Rose err.faults err'.faults × Told err.bytes err'.bytes (λ before after. IsPrefixAdded before line after))
+    ⊎ (Rose err.faults err'.faults × Told err.bytes err'.bytes
+    (λ before after. IsPrefixAdded before line after))

@@ -23,6 +23,8 @@ pub enum What {
     Loop,
     /// Cells of all boxes of one run or record file.
     Records,
+    /// Parts of a sample, turned ones counted apart.
+    Parts,
 }
 
 /// How a file's bytes break its form. Places count bytes from 0.

@@ -1,7 +1,7 @@
 // Calls that a store in memory is to fail.
 ghost use Rattle.std.specs.Prelude.{◌≡◌, ◌≤◌, ◌++◌, [], ◌∷◌, OnOk, OnErr};
 ghost use Rattle.shelf_core.specs.Files.{Rose};
-ghost use Rattle.shelf_core.specs.Listings.{due, counted, after_call, is_about, is_due, one_more};
+ghost use Rattle.shelf_core.specs.Listings.{due, one_call_less, after_call, is_about, is_due, one_more};
 
 use crate::bytes::Bytes;
 use std::alloc::{AllocError, Global};
@@ -65,7 +65,7 @@ fn kept_by(listings: &[Listing], call: Call, name: &[u8]) -> Option<usize>
 
 // Counts one more call in one listing.
 fn count_one(listing: &mut Listing, call: Call, name: &[u8])
-    ensures { listing.new ≡ counted call name.now listing.old }
+    ensures { listing.new ≡ one_call_less call name.now listing.old }
 {
     if is_listed(listing, call, name) {
         listing.nth = listing.nth.saturating_sub(1);

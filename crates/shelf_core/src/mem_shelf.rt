@@ -1,7 +1,7 @@
 // A shelf in memory, which always tells its files.
 ghost use Rattle.std.specs.Prelude.{◌≡◌, ◌≤◌, ◌⊎◌, ◌++◌, ◌∷◌, [], ◌↔◌, IfOk, OnOk, OnErr, IsErr, IsSome, option_copied, position, length};
 ghost use Rattle.std.specs.FinMap as map;
-ghost use Rattle.shelf_core.specs.Files.{Reads, content_of, Changes, Rose, OnlyReads, OnlyWrites, GrowsByPrefix};
+ghost use Rattle.shelf_core.specs.Files.{Changes, Rose, Reads, OnlyReads, OnlyWrites, content_of, Begins, BeginsPart, Appends, AppendsPart};
 ghost use Rattle.shelf_core.specs.Listings.{due, one_more};
 ghost use Rattle.shelf_core.specs.MemStates.{mem_shelf_state, well, unread, unwritten, FailsToGet, KeptBy};
 ghost use Rattle.shelf_core.specs.Entries.{files_of, is_named};
@@ -41,7 +41,12 @@ impl Model for MemShelf {
 
     ghost use Rattle.shelf_core.specs.Entries.{files_of};
 
-    ghost view = { λ a. record { files = files_of a.files.items; listings = a.listings; reads = a.read_faults; writes = a.write_faults } };
+    ghost view = { λ a. record {
+      files = files_of a.files.items;
+      listings = a.listings;
+      reads = a.read_faults;
+      writes = a.write_faults;
+    } };
 }
 
 // Where the file of a name stands.
@@ -61,7 +66,8 @@ fn content<'a>(files: &'a [MemFile], name: &[u8]) -> Option<&'a [u8]>
 
 // Puts bytes in the place of those of a name, or behind all.
 fn put(alloc: Global, files: &mut Vec<MemFile>, name: &[u8], bytes: Bytes) -> Result<(), AllocError>
-    ensures ok { OnOk result (files_of files.new.items ≡ map.insert (files_of files.old.items) name.now bytes) }
+    ensures ok { OnOk result (files_of files.new.items ≡
+        map.insert (files_of files.old.items) name.now bytes) }
     ensures err { OnErr result (files_of files.new.items ≡ files_of files.old.items) }
 {
     match place_of(files, name) {
@@ -84,7 +90,9 @@ fn extend(
     name: &[u8],
     piece: &[u8],
 ) -> Result<(), AllocError>
-    ensures ok { OnOk result (files_of files.new.items ≡ map.insert (files_of files.old.items) name.now (content_of (files_of files.old.items) name.now ++ piece.now)) }
+    ensures ok { OnOk result (files_of files.new.items ≡
+        map.insert (files_of files.old.items) name.now
+        (content_of (files_of files.old.items) name.now ++ piece.now)) }
     ensures err { OnErr result (files_of files.new.items ≡ files_of files.old.items) }
 {
     match place_of(files, name) {
@@ -115,7 +123,8 @@ impl MemShelf {
     /// Sets the named file to the bytes and leaves the others. It is no call of the shelf: no
     /// listing counts it.
     pub fn put_file(&mut self, name: &str, bytes: &[u8]) -> Result<(), AllocError>
-        ensures ok { OnOk result (self.new ≡ record self.old { files = map.insert self.old.files name.now bytes.now }) }
+        ensures ok { OnOk result (self.new ≡
+            record self.old { files = map.insert self.old.files name.now bytes.now }) }
         ensures err { OnErr result (self.new ≡ self.old) }
     {
         let bytes = Bytes::copy(self.alloc, bytes)?;
@@ -133,7 +142,11 @@ impl MemShelf {
         kept: usize,
     ) -> Result<(), AllocError>
         requires { 1 ≤ nth }
-        ensures ok { OnOk result (self.new ≡ record self.old { listings = self.old.listings ++ (record { call = call; name = name.now; nth = nth; kept = kept }) ∷ [] }) }
+        ensures ok { OnOk result (self.new ≡
+            record self.old {
+              listings = self.old.listings
+                  ++ (record { call = call; name = name.now; nth = nth; kept = kept }) ∷ [];
+            }) }
         ensures err { OnErr result (self.new ≡ self.old) }
     {
         let name = Bytes::copy(self.alloc, name.as_bytes())?;
@@ -182,7 +195,9 @@ impl Shelf for MemShelf {
 
     fn get(&mut self, name: &str, at: u64, into: &mut [u8]) -> Result<usize, Failed>
         ensures within { IfOk result (λ n. n ≤ length into.old) }
-        ensures read { IfOk result (λ n. Changes (mem_shelf_state self.old) (mem_shelf_state self.new) (λ was now. Reads (content_of was name.now) at into.new n)) }
+        ensures read { IfOk result (λ n.
+            Changes (mem_shelf_state self.old) (mem_shelf_state self.new)
+            (λ was now. Reads (content_of was name.now) at into.new n)) }
         ensures reads { OnlyReads (mem_shelf_state self.old) (mem_shelf_state self.new) }
         ensures failed { OnErr result (Rose self.old.reads self.new.reads) }
         ensures fails { IsErr result ↔ FailsToGet name.now self.old }
@@ -199,13 +214,17 @@ impl Shelf for MemShelf {
     }
 
     fn begin(&mut self, name: &str) -> Result<(), Failed>
-        ensures begun { OnOk result (Changes (mem_shelf_state self.old) (mem_shelf_state self.new) (λ was now. now ≡ map.insert was name.now [])) }
-        ensures part { OnErr result (Changes (mem_shelf_state self.old) (mem_shelf_state self.new) (λ was now. (now ≡ was) ⊎ (now ≡ map.insert was name.now []))) }
+        ensures begun { OnOk result (Changes (mem_shelf_state self.old) (mem_shelf_state self.new)
+            (Begins name.now)) }
+        ensures part { OnErr result (Changes (mem_shelf_state self.old) (mem_shelf_state self.new)
+            (BeginsPart name.now)) }
         ensures writes { OnlyWrites (mem_shelf_state self.old) (mem_shelf_state self.new) }
         ensures failed { OnErr result (Rose self.old.writes self.new.writes) }
         ensures listed { IsSome (due Call.Begin name.now self.old.listings) → IsErr result }
-        ensures ok { OnOk result (self.new ≡ well Call.Begin name.now self.old (map.insert self.old.files name.now [])) }
-        ensures err { OnErr result (self.new ≡ unwritten Call.Begin name.now self.old self.old.files) }
+        ensures ok { OnOk result (self.new ≡
+            well Call.Begin name.now self.old (map.insert self.old.files name.now [])) }
+        ensures err { OnErr result (self.new ≡
+            unwritten Call.Begin name.now self.old self.old.files) }
     {
         let listed = self.listings.pass(Call::Begin, name.as_bytes());
         if listed.is_none()
@@ -222,14 +241,21 @@ impl Shelf for MemShelf {
     }
 
     fn add(&mut self, name: &str, piece: &[u8]) -> Result<(), Failed>
-        ensures added { OnOk result (Changes (mem_shelf_state self.old) (mem_shelf_state self.new) (λ was now. now ≡ map.insert was name.now (content_of was name.now ++ piece.now))) }
-        ensures part { OnErr result (Changes (mem_shelf_state self.old) (mem_shelf_state self.new) (λ was now. (now ≡ was) ⊎ GrowsByPrefix was name.now piece.now now)) }
+        ensures added { OnOk result (Changes (mem_shelf_state self.old) (mem_shelf_state self.new)
+            (Appends name.now piece.now)) }
+        ensures part { OnErr result (Changes (mem_shelf_state self.old) (mem_shelf_state self.new)
+            (AppendsPart name.now piece.now)) }
         ensures writes { OnlyWrites (mem_shelf_state self.old) (mem_shelf_state self.new) }
         ensures failed { OnErr result (Rose self.old.writes self.new.writes) }
         ensures listed { IsSome (due Call.Add name.now self.old.listings) → IsErr result }
-        ensures ok { OnOk result (self.new ≡ well Call.Add name.now self.old (map.insert self.old.files name.now (content_of self.old.files name.now ++ piece.now))) }
-        ensures kept { OnErr result (KeptBy (due Call.Add name.now self.old.listings) self.old.files name.now piece.now self.new.files) }
-        ensures err { OnErr result (self.new ≡ unwritten Call.Add name.now self.old self.new.files) }
+        ensures ok { OnOk result (self.new ≡
+            well Call.Add name.now self.old
+            (map.insert self.old.files name.now
+            (content_of self.old.files name.now ++ piece.now))) }
+        ensures kept { OnErr result (KeptBy
+            (due Call.Add name.now self.old.listings) self.old.files name.now piece.now self.new.files) }
+        ensures err { OnErr result (self.new ≡
+            unwritten Call.Add name.now self.old self.new.files) }
     {
         if let Some(kept) = self.listings.pass(Call::Add, name.as_bytes()) {
             let _ = extend(

@@ -46,7 +46,11 @@ impl MemSink {
     /// `kept` bytes of its piece. Where two listings name one call, the earlier one's `kept` holds.
     pub fn fail_at(&mut self, nth: u32, kept: usize) -> Result<(), AllocError>
         requires { 1 ≤ nth }
-        ensures ok { OnOk result (self.new ≡ record self.old { listings = self.old.listings ++ (record { call = Call.Add; name = []; nth = nth; kept = kept }) ∷ [] }) }
+        ensures ok { OnOk result (self.new ≡
+            record self.old {
+              listings = self.old.listings
+                  ++ (record { call = Call.Add; name = []; nth = nth; kept = kept }) ∷ [];
+            }) }
         ensures err { OnErr result (self.new ≡ self.old) }
     {
         self.listings.push(Listing {
@@ -86,13 +90,16 @@ impl Sink for MemSink {
     ghost state = { mem_sink_state };
 
     fn add(&mut self, piece: &[u8]) -> Result<(), Failed>
-        ensures added { OnOk result (Told (mem_sink_state self.old).bytes (mem_sink_state self.new).bytes (λ was now. now ≡ was ++ piece.now)) }
-        ensures part { OnErr result (Told (mem_sink_state self.old).bytes (mem_sink_state self.new).bytes (λ was now. IsPrefixAdded was piece.now now)) }
+        ensures added { OnOk result (Told (mem_sink_state self.old).bytes
+            (mem_sink_state self.new).bytes (λ was now. now ≡ was ++ piece.now)) }
+        ensures part { OnErr result (Told (mem_sink_state self.old).bytes
+            (mem_sink_state self.new).bytes (λ was now. IsPrefixAdded was piece.now now)) }
         ensures counted { self.old.faults ≤ self.new.faults }
         ensures failed { OnErr result (Rose self.old.faults self.new.faults) }
         ensures listed { IsSome (due Call.Add [] self.old.listings) → IsErr result }
         ensures ok { OnOk result (self.new ≡ told_whole piece.now self.old) }
-        ensures kept { OnErr result (SinkKeptBy (due Call.Add [] self.old.listings) self.old.bytes piece.now self.new.bytes) }
+        ensures kept { OnErr result (SinkKeptBy
+            (due Call.Add [] self.old.listings) self.old.bytes piece.now self.new.bytes) }
         ensures err { OnErr result (self.new ≡ untold self.old self.new.bytes) }
     {
         if let Some(kept) = self.listings.pass(Call::Add, &[]) {

@@ -1,7 +1,6 @@
 // The traits of the outside, and what a caller may rely on.
 ghost use Rattle.std.specs.Prelude.{◌≡◌, ◌≤◌, ◌++◌, ◌⊎◌, [], length, IfOk, OnOk, OnErr};
-ghost use Rattle.std.specs.FinMap as map;
-ghost use Rattle.shelf_core.specs.Files.{ShelfState, SinkState, Told, Changes, Rose, Reads, OnlyReads, OnlyWrites, content_of, GrowsByPrefix, IsPrefixAdded};
+ghost use Rattle.shelf_core.specs.Files.{ShelfState, SinkState, Told, Changes, Rose, ReadsRose, WritesRose, Reads, OnlyReads, OnlyWrites, content_of, IsPrefixAdded, Begins, BeginsPart, Appends, AppendsPart};
 
 /// A call to the outside that failed. The count of faults of its kind tells that it did.
 #[derive(Clone, Copy, Debug, Drop, PartialEq, Eq)]
@@ -14,8 +13,10 @@ pub trait Sink {
 
     /// Writes a piece behind what was written. After `Failed` a prefix of the piece may stand there.
     fn add(&mut self, piece: &[u8]) -> Result<(), Failed>
-        ensures added { OnOk result (Told (state self.old).bytes (state self.new).bytes (λ was now. now ≡ was ++ piece.now)) }
-        ensures part { OnErr result (Told (state self.old).bytes (state self.new).bytes (λ was now. IsPrefixAdded was piece.now now)) }
+        ensures added { OnOk result (Told (state self.old).bytes (state self.new).bytes
+            (λ was now. now ≡ was ++ piece.now)) }
+        ensures part { OnErr result (Told (state self.old).bytes (state self.new).bytes
+            (λ was now. IsPrefixAdded was piece.now now)) }
         ensures counted { (state self.old).faults ≤ (state self.new).faults }
         ensures failed { OnErr result (Rose (state self.old).faults (state self.new).faults) };
 }
@@ -29,22 +30,27 @@ pub trait Shelf {
     /// gives their number. A name that isn't there reads as an empty file.
     fn get(&mut self, name: &str, at: u64, into: &mut [u8]) -> Result<usize, Failed>
         ensures within { IfOk result (λ n. n ≤ length into.old) }
-        ensures read { IfOk result (λ n. Changes (state self.old) (state self.new) (λ was now. Reads (content_of was name.now) at into.new n)) }
+        ensures read { IfOk result (λ n.
+            Changes (state self.old) (state self.new)
+            (λ was now. Reads (content_of was name.now) at into.new n)) }
         ensures reads { OnlyReads (state self.old) (state self.new) }
-        ensures failed { OnErr result (Rose ((state self.old).reads name.now) ((state self.new).reads name.now)) };
+        ensures failed { OnErr result (ReadsRose name.now (state self.old) (state self.new)) };
 
     /// Makes a file present and empty. After `Failed` it is as before or empty.
     fn begin(&mut self, name: &str) -> Result<(), Failed>
-        ensures begun { OnOk result (Changes (state self.old) (state self.new) (λ was now. now ≡ map.insert was name.now [])) }
-        ensures part { OnErr result (Changes (state self.old) (state self.new) (λ was now. (now ≡ was) ⊎ (now ≡ map.insert was name.now []))) }
+        ensures begun { OnOk result (Changes (state self.old) (state self.new) (Begins name.now)) }
+        ensures part { OnErr result (Changes (state self.old) (state self.new)
+            (BeginsPart name.now)) }
         ensures writes { OnlyWrites (state self.old) (state self.new) }
-        ensures failed { OnErr result (Rose ((state self.old).writes name.now) ((state self.new).writes name.now)) };
+        ensures failed { OnErr result (WritesRose name.now (state self.old) (state self.new)) };
 
     /// Writes a piece behind the bytes of a file; a missing one counts as empty. After `Failed` a
     /// prefix of the piece may stand there.
     fn add(&mut self, name: &str, piece: &[u8]) -> Result<(), Failed>
-        ensures added { OnOk result (Changes (state self.old) (state self.new) (λ was now. now ≡ map.insert was name.now (content_of was name.now ++ piece.now))) }
-        ensures part { OnErr result (Changes (state self.old) (state self.new) (λ was now. (now ≡ was) ⊎ GrowsByPrefix was name.now piece.now now)) }
+        ensures added { OnOk result (Changes (state self.old) (state self.new)
+            (Appends name.now piece.now)) }
+        ensures part { OnErr result (Changes (state self.old) (state self.new)
+            (AppendsPart name.now piece.now)) }
         ensures writes { OnlyWrites (state self.old) (state self.new) }
-        ensures failed { OnErr result (Rose ((state self.old).writes name.now) ((state self.new).writes name.now)) };
+        ensures failed { OnErr result (WritesRose name.now (state self.old) (state self.new)) };
 }

@@ -2,9 +2,9 @@
 ghost use Rattle.std.specs.Prelude.{◌≡◌, ◌≤◌, ◌<◌, ◌++◌, [], Some, None, IfOk, IsOk, IfSome, IfNone, OnOk, nat_le, length, option_copied, option_and_then};
 ghost use Rattle.std.specs.Bool.{OnTrue};
 ghost use Rattle.std.specs.FinMap as map;
-ghost use Rattle.shelf_core.specs.Files.{Told, Changes, OnlyReads, OnlyWrites, Reads, content_of};
+ghost use Rattle.shelf_core.specs.Files.{Told, Changes, Reads, OnlyReads, OnlyWrites, content_of, Begins, Appends};
 ghost use Rattle.shelf_core.specs.Entries.{map_of};
-ghost use Rattle.shelf_core.specs.SureStates.{sure_shelf_state, size_of, after_write, told_content, kept, written_over, Opens, IsSized};
+ghost use Rattle.shelf_core.specs.SureStates.{sure_shelf_state, size_of, after_write, told_content, kept_bytes, written_over, Opens, HasNamesOnce};
 
 use crate::pieces::copy_out;
 use crate::tape::Tape;
@@ -23,26 +23,31 @@ pub struct SureShelf {
 impl Model for SureShelf {
     ghost use Rattle.std.specs.Prelude.{Some, None, if◌then◌else◌};
     ghost use Rattle.shelf_core.specs.Entries.{map_of};
-    ghost use Rattle.shelf_core.specs.SureStates.{SureShelfState, IsSized};
+    ghost use Rattle.shelf_core.specs.SureStates.{SureShelfState, HasNamesOnce};
     ghost use Rattle.shelf_core.specs.Codes.{sure_shelf_code};
 
     ghost Value = { SureShelfState };
 
     ghost coded = { sure_shelf_code };
 
-    ghost view = { λ s. record { room = s.tape.room; files = (if s.told then Some (map_of s.tape.files) else None) } };
+    ghost view = { λ s. record {
+      room = s.tape.room;
+      files =
+          (if s.told then Some (map_of s.tape.files) else None);
+    } };
 
-    ghost invariant = { λ s. IsSized s.tape.files };
+    ghost invariant = { λ s. HasNamesOnce s.tape.files };
 }
 
 // Makes a file present, with its bytes or with none, and says where it stands; None where its name
 // has no room.
 fn open(tape: &mut Tape, name: &[u8], keeps: bool) -> Option<usize>
-    requires { IsSized tape.old.files }
+    requires { HasNamesOnce tape.old.files }
     ensures room { tape.new.room ≡ tape.old.room }
-    ensures sized { IsSized tape.new.files }
+    ensures sized { HasNamesOnce tape.new.files }
     ensures opened { IfSome result (λ i. Opens tape.old.files tape.new.files name.now keeps i) }
-    ensures passed { IfNone result (tape.old.room < size_of (map.insert (map_of tape.old.files) name.now [])) }
+    ensures passed { IfNone result (tape.old.room <
+        size_of (map.insert (map_of tape.old.files) name.now [])) }
 {
     match tape.find(name) {
         Some(i) => {
@@ -62,11 +67,13 @@ fn open(tape: &mut Tape, name: &[u8], keeps: bool) -> Option<usize>
 
 // Puts a piece behind what is kept of a file, where the files then fit, and says whether they do.
 fn store(tape: &mut Tape, name: &[u8], keeps: bool, piece: &[u8]) -> bool
-    requires { IsSized tape.old.files }
+    requires { HasNamesOnce tape.old.files }
     ensures room { tape.new.room ≡ tape.old.room }
-    ensures sized { IsSized tape.new.files }
-    ensures fits { result ≡ nat_le (size_of (written_over tape.old.files name.now keeps piece.now)) tape.old.room }
-    ensures stored { OnTrue result (map_of tape.new.files ≡ written_over tape.old.files name.now keeps piece.now) }
+    ensures sized { HasNamesOnce tape.new.files }
+    ensures fits { result ≡ nat_le (size_of
+        (written_over tape.old.files name.now keeps piece.now)) tape.old.room }
+    ensures stored { OnTrue result (map_of tape.new.files ≡
+        written_over tape.old.files name.now keeps piece.now) }
 {
     let Some(i) = open(tape, name, keeps) else {
         return false;
@@ -98,7 +105,8 @@ impl SureShelf {
     /// The bytes of the named file; None where there is no such file, and after a write that
     /// didn't fit.
     pub fn file(&self, name: &str) -> Option<&[u8]>
-        ensures { option_copied result ≡ option_and_then (λ files. map.get files name.now) self.now.files }
+        ensures { option_copied result ≡
+            option_and_then (λ files. map.get files name.now) self.now.files }
     {
         if !self.told {
             return None;
@@ -109,8 +117,12 @@ impl SureShelf {
 
     // Puts a piece behind what is kept of a file, as far as the room goes.
     fn write(&mut self, name: &[u8], keeps: bool, piece: &[u8])
-        ensures after { self.new ≡ after_write self.old (λ files. map.insert files name.now (kept keeps (content_of files name.now) ++ piece.now)) }
-        ensures told { Told self.old.files self.new.files (λ was now. now ≡ map.insert was name.now (kept keeps (content_of was name.now) ++ piece.now)) }
+        ensures after { self.new ≡ after_write self.old
+            (λ files. map.insert files name.now
+            (kept_bytes keeps (content_of files name.now) ++ piece.now)) }
+        ensures told { Told self.old.files self.new.files
+            (λ was now. now ≡ map.insert was name.now
+            (kept_bytes keeps (content_of was name.now) ++ piece.now)) }
     {
         if self.told && !store(&mut self.tape, name, keeps, piece) {
             self.told = false;
@@ -123,7 +135,9 @@ impl Shelf for SureShelf {
 
     fn get(&mut self, name: &str, at: u64, into: &mut [u8]) -> Result<usize, Failed>
         ensures within { IfOk result (λ n. n ≤ length into.old) }
-        ensures read { IfOk result (λ n. Changes (sure_shelf_state self.old) (sure_shelf_state self.new) (λ was now. Reads (content_of was name.now) at into.new n)) }
+        ensures read { IfOk result (λ n.
+            Changes (sure_shelf_state self.old) (sure_shelf_state self.new)
+            (λ was now. Reads (content_of was name.now) at into.new n)) }
         ensures reads { OnlyReads (sure_shelf_state self.old) (sure_shelf_state self.new) }
         ensures sure { IsOk result }
         ensures same { self.new ≡ self.old }
@@ -134,7 +148,8 @@ impl Shelf for SureShelf {
     }
 
     fn begin(&mut self, name: &str) -> Result<(), Failed>
-        ensures begun { OnOk result (Changes (sure_shelf_state self.old) (sure_shelf_state self.new) (λ was now. now ≡ map.insert was name.now [])) }
+        ensures begun { OnOk result (Changes (sure_shelf_state self.old) (sure_shelf_state self.new)
+            (Begins name.now)) }
         ensures writes { OnlyWrites (sure_shelf_state self.old) (sure_shelf_state self.new) }
         ensures sure { IsOk result }
         ensures after { self.new ≡ after_write self.old (λ files. map.insert files name.now []) }
@@ -144,10 +159,12 @@ impl Shelf for SureShelf {
     }
 
     fn add(&mut self, name: &str, piece: &[u8]) -> Result<(), Failed>
-        ensures added { OnOk result (Changes (sure_shelf_state self.old) (sure_shelf_state self.new) (λ was now. now ≡ map.insert was name.now (content_of was name.now ++ piece.now))) }
+        ensures added { OnOk result (Changes (sure_shelf_state self.old) (sure_shelf_state self.new)
+            (Appends name.now piece.now)) }
         ensures writes { OnlyWrites (sure_shelf_state self.old) (sure_shelf_state self.new) }
         ensures sure { IsOk result }
-        ensures after { self.new ≡ after_write self.old (λ files. map.insert files name.now (content_of files name.now ++ piece.now)) }
+        ensures after { self.new ≡ after_write self.old
+            (λ files. map.insert files name.now (content_of files name.now ++ piece.now)) }
     {
         self.write(name.as_bytes(), true, piece);
         Ok(())

@@ -22,7 +22,11 @@ impl Model for SureSink {
 
     ghost Value = { SureSinkState };
 
-    ghost view = { λ s. record { room = s.room; bytes = (if s.told then Some s.bytes.items else None) } };
+    ghost view = { λ s. record {
+      room = s.room;
+      bytes =
+          (if s.told then Some s.bytes.items else None);
+    } };
 
     ghost invariant = { λ s. (length s.bytes.items ≤ s.room) × (s.room ≤ vec_capacity s.bytes) };
 }
@@ -56,7 +60,8 @@ impl Sink for SureSink {
     ghost state = { sure_sink_state };
 
     fn add(&mut self, piece: &[u8]) -> Result<(), Failed>
-        ensures added { OnOk result (Told self.old.bytes self.new.bytes (λ was now. now ≡ was ++ piece.now)) }
+        ensures added { OnOk result (Told self.old.bytes self.new.bytes
+            (λ was now. now ≡ was ++ piece.now)) }
         ensures sure { IsOk result }
         ensures after { self.new ≡ after_piece self.old piece.now }
     {

@@ -25,13 +25,14 @@ pub struct Tape {
 
 impl Model for Tape {
     ghost use Rattle.std.specs.Prelude.{vec_capacity};
-    ghost use Rattle.shelf_core.specs.Tapes.{TapeState, IsLaid, cut};
+    ghost use Rattle.shelf_core.specs.Tapes.{TapeState, CoversBytes, cut};
 
     ghost Value = { TapeState };
 
     ghost view = { λ t. record { room = t.room; files = cut t.spans.items t.bytes.items } };
 
-    ghost invariant = { λ t. IsLaid t.room t.spans.items t.bytes.items (vec_capacity t.bytes) (vec_capacity t.spans) };
+    ghost invariant = { λ t. CoversBytes t.room t.spans.items t.bytes.items (vec_capacity t.bytes)
+        (vec_capacity t.spans) };
 }
 
 // How many bytes stand before file i.
@@ -59,7 +60,8 @@ struct Place {
 fn place_of(spans: &[Span], i: usize) -> Place
     requires within { i < length spans.now }
     requires fits { spanned spans.now < 2 ^ 64 }
-    ensures start { result.start ≡ spanned (take i spans.now) + (slice_index_or spans.now i no_span).name }
+    ensures start { result.start ≡ spanned (take i spans.now) +
+        (slice_index_or spans.now i no_span).name }
     ensures len { result.len ≡ (slice_index_or spans.now i no_span).bytes }
     ensures within { result.start + result.len ≤ spanned spans.now }
 {
@@ -99,7 +101,8 @@ fn put_behind(bytes: &mut Vec<u8>, piece: &[u8])
 fn put_in(bytes: &mut Vec<u8>, at: usize, piece: &[u8])
     requires within { at ≤ vec_len bytes.old }
     requires room { vec_len bytes.old + length piece.now ≤ vec_capacity bytes.old }
-    ensures items { bytes.new.items ≡ take at bytes.old.items ++ (piece.now ++ drop at bytes.old.items) }
+    ensures items { bytes.new.items ≡ take at bytes.old.items
+        ++ (piece.now ++ drop at bytes.old.items) }
     ensures capacity { vec_capacity bytes.old ≤ vec_capacity bytes.new }
 {
     put_behind(bytes, piece);
@@ -157,7 +160,10 @@ impl Tape {
     // Leaves a file with no byte.
     pub fn clear(&mut self, i: usize)
         requires { i < length self.old.files }
-        ensures { self.new ≡ record self.old { files = slice_set self.old.files i ((slice_index_or self.old.files i ([], [])).0, []) } }
+        ensures { self.new ≡ record self.old {
+          files =
+              slice_set self.old.files i ((slice_index_or self.old.files i ([], [])).0, []);
+        } }
     {
         let own = place_of(&self.spans, i);
         take_out(&mut self.bytes, own.start, own.len);
@@ -168,7 +174,13 @@ impl Tape {
     pub fn append(&mut self, i: usize, piece: &[u8])
         requires within { i < length self.old.files }
         requires fits { spent self.old.files + length piece.now ≤ self.old.room }
-        ensures { self.new ≡ record self.old { files = slice_set self.old.files i ((slice_index_or self.old.files i ([], [])).0, (slice_index_or self.old.files i ([], [])).1 ++ piece.now) } }
+        ensures { self.new ≡ record self.old {
+          files =
+              slice_set self.old.files i (
+                (slice_index_or self.old.files i ([], [])).0,
+                (slice_index_or self.old.files i ([], [])).1 ++ piece.now,
+              );
+        } }
     {
         let own = place_of(&self.spans, i);
         put_in(&mut self.bytes, own.start + own.len, piece);
@@ -180,7 +192,10 @@ impl Tape {
         requires new { position (has_name name.now) self.old.files ≡ None }
         requires fits { spent self.old.files + length name.now ≤ self.old.room }
         ensures place { result ≡ length self.old.files }
-        ensures files { self.new ≡ record self.old { files = self.old.files ++ (name.now, []) ∷ [] } }
+        ensures files { self.new ≡ record self.old {
+          files = self.old.files
+              ++ (name.now, []) ∷ [];
+        } }
     {
         let i = self.spans.len();
         put_behind(&mut self.bytes, name);

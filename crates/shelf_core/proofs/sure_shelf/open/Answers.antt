@@ -1,7 +1,7 @@
 use Rattle.std.proofs.Common.{sym, ap, subst, arith, Bool, List, [], ◌∷◌, ◌++◌, ℕ, get_or}
 use Rattle.std.proofs.Math.ListN.{set}
 use Rattle.shelf_core.specs.Tapes.{TapeState}
-use Rattle.shelf_core.specs.SureStates.{IsSized, Opens}
+use Rattle.shelf_core.specs.SureStates.{HasNamesOnce, Opens}
 use Rattle.shelf_core.proofs.SureLaws.{nothing, new_passes, sized_cleared, opens_cleared, opens_kept, sized_new, opens_new}
 use Rattle.shelf_core.proofs.sure_shelf.open.Goals as goal
 
@@ -10,7 +10,7 @@ returns-then-name-free-clause-passed c = new_passes c.args.tape.now.room c.args.
 
 pub returns-then-not-keeps-clause-sized : goal.returns-then-not-keeps-clause-sized
 returns-then-not-keeps-clause-sized c =
-    let P : List (List ℕ × List ℕ) → Type 0 = λ files. IsSized files in
+    let P : List (List ℕ × List ℕ) → Type 0 = λ files. HasNamesOnce files in
     subst P (sym (ap (λ (t : TapeState). t.files) c.clear.ensures)) (sized_cleared c.args.name.now c.args.tape.now.files c.in-Some.i (sym (c.in-Some.ensures {u = tt})) c.requires)
 
 pub returns-then-not-keeps-clause-opened : goal.returns-then-not-keeps-clause-opened
@@ -26,7 +26,7 @@ returns-else-not-keeps-clause-opened c =
 
 pub returns-else-name-free-clause-sized : goal.returns-else-name-free-clause-sized
 returns-else-name-free-clause-sized c =
-    let P : List (List ℕ × List ℕ) → Type 0 = λ files. IsSized files in
+    let P : List (List ℕ × List ℕ) → Type 0 = λ files. HasNamesOnce files in
     subst P (sym (ap (λ (t : TapeState). t.files) c.push.ensures.files)) (sized_new c.args.name.now c.args.tape.now.files (sym (c.in-None.ensures {u = tt})) c.requires)
 
 pub returns-else-name-free-clause-opened : goal.returns-else-name-free-clause-opened

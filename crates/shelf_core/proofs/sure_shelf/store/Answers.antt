@@ -2,7 +2,7 @@ use Rattle.std.proofs.Common.{sym, ap, ◌∙◌, subst, arith, List, ℕ, le-le
 use Rattle.std.proofs.lemmas.Bool.{lt-leb}
 use Rattle.shelf_core.specs.Tapes.{TapeState}
 use Rattle.shelf_core.specs.Entries.{map_of}
-use Rattle.shelf_core.specs.SureStates.{IsSized}
+use Rattle.shelf_core.specs.SureStates.{HasNamesOnce}
 use Rattle.shelf_core.proofs.SureLaws.{passes, stored, sized_stored, size_stored}
 use Rattle.shelf_core.proofs.sure_shelf.store.Goals as goal
 
@@ -15,7 +15,7 @@ returns-then-piece-free-clause-fits c =
 
 pub returns-clause-sized : goal.returns-clause-sized
 returns-clause-sized c =
-    let P : List (List ℕ × List ℕ) → Type 0 = λ files. IsSized files in
+    let P : List (List ℕ × List ℕ) → Type 0 = λ files. HasNamesOnce files in
     subst P (sym (ap (λ (t : TapeState). t.files) c.append.ensures))
     (sized_stored c.open.new.tape.files c.args.name.now c.args.piece.now c.in-Some.i (c.in-Some.ensures {u = tt}).opened.at c.open.ensures.sized)
 

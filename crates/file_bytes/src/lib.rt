@@ -1,0 +1,12 @@
+//! Fields of binary files over a shelf: written through one buffer without memory, and read with the
+//! place of each.
+//!
+//! The contracts speak of the whole text that has been put to a file, and of the bytes of a file up to
+//! a place. `writer` writes, `reader` reads. A number has its most significant byte first.
+#![tactic(auto)]
+
+mod reader;
+mod writer;
+
+pub use reader::FileReader;
+pub use writer::FileWriter;

@@ -1,0 +1,356 @@
+// Reading a file through one buffer.
+ghost use Rattle.std.specs.Prelude.{◌≡◌, ◌≤◌, ◌<◌, ◌+◌, ◌*◌, ◌^◌, ◌++◌, [], ◌∷◌, length, take, drop, min, IsTrue, ◌↔◌, OnOk, OnErr, IfOk, IfErr, true, false, vec_len};
+ghost use Rattle.shelf_core.specs.Files.{OnlyReads, ReadsRose};
+ghost use Rattle.file_bytes.specs.Fields.{field_16, field_32, field_64, fields_16, fields_32, fields_64};
+ghost use Rattle.file_bytes.specs.Reading.{Follows, Stops, StopsInList, StopsShort, Took, after_serving};
+
+use shelf_core::{Failed, FormFault, ReadError, Shelf};
+use std::alloc::{AllocError, Global};
+use std::marker::Model;
+
+// How many bytes are asked for at a time.
+const ROOM: usize = 8192;
+
+// The least number of items that a list takes memory for.
+const LEAST_ROOM: usize = 1024;
+
+/// A file that is being read from its first byte on. Each byte is asked for once.
+///
+/// Each call takes the same shelf and name. No call takes memory but those that give a list, which take
+/// it as bytes come.
+#[derive(Drop)]
+pub struct FileReader {
+    buffer: [u8; ROOM],
+    start: usize,
+    end: usize,
+    at: u64,
+    ended: bool,
+}
+
+impl Model for FileReader {
+    ghost use Rattle.std.specs.Prelude.{take, drop, ◌-◌, ◌≤◌};
+    ghost use Rattle.file_bytes.specs.Fields.{field_16, field_32, field_64, fields_16, fields_32, fields_64};
+    ghost use Rattle.file_bytes.specs.Reading.{Reading};
+    ghost use Rattle.file_bytes.specs.declared.reader.TheConstants.{ROOM};
+
+    ghost Value = { Reading };
+
+    ghost view = { λ a. record {
+      at = a.at;
+      waiting = take (a.end - a.start) (drop a.start a.buffer);
+      ended = a.ended;
+    } };
+
+    ghost invariant = { λ a. (a.start ≤ a.end) × (a.end ≤ ROOM) };
+}
+
+// The number that a field stands for.
+fn number_16(field: &[u8]) -> u16
+    requires { length field.now ≡ 2 }
+    ensures { field_16 result ≡ field.now }
+{
+    u16::from_be_bytes([field[0], field[1]])
+}
+
+// The number that a field stands for.
+fn number_32(field: &[u8]) -> u32
+    requires { length field.now ≡ 4 }
+    ensures { field_32 result ≡ field.now }
+{
+    u32::from_be_bytes([field[0], field[1], field[2], field[3]])
+}
+
+// The number that a field stands for.
+fn number_64(field: &[u8]) -> u64
+    requires { length field.now ≡ 8 }
+    ensures { field_64 result ≡ field.now }
+{
+    u64::from_be_bytes([
+        field[0], field[1], field[2], field[3], field[4], field[5], field[6], field[7],
+    ])
+}
+
+// Makes room for one more item. Where there is none, it takes room for an eighth more than there are,
+// but for no more than are missing: a list takes memory as its items come.
+fn make_room<T>(items: &mut Vec<T>, missing: usize) -> Result<(), AllocError>
+    ensures { items.new.items ≡ items.old.items }
+{
+    if items.len() < items.capacity() {
+        return Ok(());
+    }
+    items.reserve_exact((items.len() / 8).max(LEAST_ROOM).min(missing))
+}
+
+impl FileReader {
+    /// A reader at the first byte of a file, of which nothing has been asked for.
+    pub fn new() -> FileReader
+        ensures { result ≡ record { at = 0; waiting = []; ended = false } }
+    {
+        FileReader {
+            buffer: [0; ROOM],
+            start: 0,
+            end: 0,
+            at: 0,
+            ended: false,
+        }
+    }
+
+    // Asks for the next bytes, where none wait and the file isn't known to have ended.
+    fn refill<S: Shelf>(&mut self, shelf: &mut S, name: &str) -> Result<(), Failed>
+        requires follows { Follows name.now (S.state shelf.old) self.old }
+        requires empty { self.old.waiting ≡ [] }
+        ensures follows { OnOk result (Follows name.now (S.state shelf.new) self.new) }
+        ensures at { OnOk result (self.new.at ≡ self.old.at) }
+        ensures ended { OnOk result (self.new.waiting ≡ [] → self.new.ended ≡ true) }
+        ensures reads { OnlyReads (S.state shelf.old) (S.state shelf.new) }
+        ensures failed { OnErr result (ReadsRose name.now (S.state shelf.old) (S.state shelf.new)) }
+    {
+        if !self.ended {
+            let count = shelf.get(name, self.at, &mut self.buffer)?;
+            self.start = 0;
+            self.end = count;
+            self.ended = count < ROOM;
+        }
+        Ok(())
+    }
+
+    // Copies what waits, as far as there is room for it, and tells how much that is.
+    fn serve(&mut self, into: &mut [u8]) -> usize
+        requires { self.old.at + length into.old < 2 ^ 63 }
+        ensures count { result ≡ min (length self.old.waiting) (length into.old) }
+        ensures into { into.new ≡ take result self.old.waiting ++ drop result into.old }
+        ensures left { self.new ≡ after_serving self.old result }
+    {
+        let n = (self.end - self.start).min(into.len());
+        into[..n].copy_from_slice(&self.buffer[self.start..self.start + n]);
+        self.start += n;
+        self.at += n as u64;
+        n
+    }
+
+    // Whether no byte waits.
+    fn is_empty(&self) -> bool
+        ensures { IsTrue result ↔ (self.now.waiting ≡ []) }
+    {
+        self.start == self.end
+    }
+
+    // Asks for bytes where none wait; the file may have ended.
+    fn look<S: Shelf>(&mut self, shelf: &mut S, name: &str) -> Result<(), Failed>
+        requires { Follows name.now (S.state shelf.old) self.old }
+        ensures follows { OnOk result (Follows name.now (S.state shelf.new) self.new) }
+        ensures at { OnOk result (self.new.at ≡ self.old.at) }
+        ensures ended { OnOk result (self.new.waiting ≡ [] → self.new.ended ≡ true) }
+        ensures reads { OnlyReads (S.state shelf.old) (S.state shelf.new) }
+        ensures failed { OnErr result (ReadsRose name.now (S.state shelf.old) (S.state shelf.new)) }
+    {
+        if self.is_empty() {
+            self.refill(shelf, name)?;
+        }
+        Ok(())
+    }
+
+    // Reads some of the bytes that are wanted, and tells how many.
+    fn take_some<S: Shelf>(
+        &mut self,
+        into: &mut [u8],
+        shelf: &mut S,
+        name: &str,
+    ) -> Result<usize, ReadError>
+        requires follows { Follows name.now (S.state shelf.old) self.old }
+        requires wanted { 0 < length into.old }
+        requires room { self.old.at + length into.old < 2 ^ 63 }
+        ensures count { IfOk result (λ n. (0 < n) × (n ≤ length into.old)) }
+        ensures took { IfOk result (λ n.
+            Took name.now self.old.at (take n into.new) (S.state shelf.new) self.new) }
+        ensures stops { IfErr result
+            (StopsShort name.now (self.old.at + 1) (S.state shelf.old) (S.state shelf.new)) }
+        ensures reads { OnlyReads (S.state shelf.old) (S.state shelf.new) }
+    {
+        self.look(shelf, name)?;
+        if self.is_empty() {
+            return Err(ReadError::Bad(FormFault::Form(self.at)));
+        }
+        Ok(self.serve(into))
+    }
+
+    /// Reads as many bytes as the buffer has. Where the file ends before, it answers `Form` at the
+    /// file's length.
+    pub fn take<S: Shelf>(
+        &mut self,
+        into: &mut [u8],
+        shelf: &mut S,
+        name: &str,
+    ) -> Result<(), ReadError>
+        requires follows { Follows name.now (S.state shelf.old) self.old }
+        requires room { self.old.at + length into.old < 2 ^ 63 }
+        ensures took { OnOk result (Took name.now self.old.at into.new
+            (S.state shelf.new) self.new) }
+        ensures stops { IfErr result (StopsShort name.now (self.old.at + length into.old)
+            (S.state shelf.old) (S.state shelf.new)) }
+        ensures reads { OnlyReads (S.state shelf.old) (S.state shelf.new) }
+    {
+        let mut filled = 0;
+        'filling: while filled < into.len() {
+            filled += self.take_some(&mut into[filled..], shelf, name)?;
+        }
+        Ok(())
+    }
+
+    /// Reads a byte.
+    pub fn u8<S: Shelf>(&mut self, shelf: &mut S, name: &str) -> Result<u8, ReadError>
+        requires follows { Follows name.now (S.state shelf.old) self.old }
+        requires room { self.old.at + 1 < 2 ^ 63 }
+        ensures took { IfOk result (λ n.
+            Took name.now self.old.at (n ∷ []) (S.state shelf.new) self.new) }
+        ensures stops { IfErr result
+            (StopsShort name.now (self.old.at + 1) (S.state shelf.old) (S.state shelf.new)) }
+        ensures reads { OnlyReads (S.state shelf.old) (S.state shelf.new) }
+    {
+        let mut field = [0; 1];
+        self.take(&mut field, shelf, name)?;
+        Ok(field[0])
+    }
+
+    /// Reads a number of 2 bytes.
+    pub fn u16<S: Shelf>(&mut self, shelf: &mut S, name: &str) -> Result<u16, ReadError>
+        requires follows { Follows name.now (S.state shelf.old) self.old }
+        requires room { self.old.at + 2 < 2 ^ 63 }
+        ensures took { IfOk result (λ n.
+            Took name.now self.old.at (field_16 n) (S.state shelf.new) self.new) }
+        ensures stops { IfErr result
+            (StopsShort name.now (self.old.at + 2) (S.state shelf.old) (S.state shelf.new)) }
+        ensures reads { OnlyReads (S.state shelf.old) (S.state shelf.new) }
+    {
+        let mut field = [0; 2];
+        self.take(&mut field, shelf, name)?;
+        Ok(number_16(&field))
+    }
+
+    /// Reads a number of 4 bytes.
+    pub fn u32<S: Shelf>(&mut self, shelf: &mut S, name: &str) -> Result<u32, ReadError>
+        requires follows { Follows name.now (S.state shelf.old) self.old }
+        requires room { self.old.at + 4 < 2 ^ 63 }
+        ensures took { IfOk result (λ n.
+            Took name.now self.old.at (field_32 n) (S.state shelf.new) self.new) }
+        ensures stops { IfErr result
+            (StopsShort name.now (self.old.at + 4) (S.state shelf.old) (S.state shelf.new)) }
+        ensures reads { OnlyReads (S.state shelf.old) (S.state shelf.new) }
+    {
+        let mut field = [0; 4];
+        self.take(&mut field, shelf, name)?;
+        Ok(number_32(&field))
+    }
+
+    /// Reads a number of 8 bytes.
+    pub fn u64<S: Shelf>(&mut self, shelf: &mut S, name: &str) -> Result<u64, ReadError>
+        requires follows { Follows name.now (S.state shelf.old) self.old }
+        requires room { self.old.at + 8 < 2 ^ 63 }
+        ensures took { IfOk result (λ n.
+            Took name.now self.old.at (field_64 n) (S.state shelf.new) self.new) }
+        ensures stops { IfErr result
+            (StopsShort name.now (self.old.at + 8) (S.state shelf.old) (S.state shelf.new)) }
+        ensures reads { OnlyReads (S.state shelf.old) (S.state shelf.new) }
+    {
+        let mut field = [0; 8];
+        self.take(&mut field, shelf, name)?;
+        Ok(number_64(&field))
+    }
+
+    /// Whether the file ends here. A byte that stands here is answered by `Form` at its place.
+    pub fn end<S: Shelf>(&mut self, shelf: &mut S, name: &str) -> Result<(), ReadError>
+        requires { Follows name.now (S.state shelf.old) self.old }
+        ensures stops { Stops name.now self.old.at (S.state shelf.old) (S.state shelf.new) result }
+        ensures reads { OnlyReads (S.state shelf.old) (S.state shelf.new) }
+    {
+        self.look(shelf, name)?;
+        if !self.is_empty() {
+            return Err(ReadError::Bad(FormFault::Form(self.at)));
+        }
+        Ok(())
+    }
+
+    /// Reads so many numbers of 2 bytes. It takes memory as they come.
+    pub fn list_u16<S: Shelf>(
+        &mut self,
+        alloc: Global,
+        count: usize,
+        shelf: &mut S,
+        name: &str,
+    ) -> Result<Vec<u16>, ReadError>
+        requires follows { Follows name.now (S.state shelf.old) self.old }
+        requires room { self.old.at + 2 * count < 2 ^ 63 }
+        ensures count { IfOk result (λ list. vec_len list ≡ count) }
+        ensures took { IfOk result (λ list.
+            Took name.now self.old.at (fields_16 list.items) (S.state shelf.new) self.new) }
+        ensures stops { IfErr result (StopsInList name.now (self.old.at + 2 * count)
+            (S.state shelf.old) (S.state shelf.new)) }
+        ensures reads { OnlyReads (S.state shelf.old) (S.state shelf.new) }
+    {
+        let mut numbers = Vec::new(alloc);
+        for i in 0..count {
+            make_room(&mut numbers, count - i)?;
+            let number = self.u16(shelf, name)?;
+            let Ok(()) = numbers.push(number) else {
+                return Err(ReadError::NoMemory);
+            };
+        }
+        Ok(numbers)
+    }
+
+    /// Reads so many numbers of 4 bytes. It takes memory as they come.
+    pub fn list_u32<S: Shelf>(
+        &mut self,
+        alloc: Global,
+        count: usize,
+        shelf: &mut S,
+        name: &str,
+    ) -> Result<Vec<u32>, ReadError>
+        requires follows { Follows name.now (S.state shelf.old) self.old }
+        requires room { self.old.at + 4 * count < 2 ^ 63 }
+        ensures count { IfOk result (λ list. vec_len list ≡ count) }
+        ensures took { IfOk result (λ list.
+            Took name.now self.old.at (fields_32 list.items) (S.state shelf.new) self.new) }
+        ensures stops { IfErr result (StopsInList name.now (self.old.at + 4 * count)
+            (S.state shelf.old) (S.state shelf.new)) }
+        ensures reads { OnlyReads (S.state shelf.old) (S.state shelf.new) }
+    {
+        let mut numbers = Vec::new(alloc);
+        for i in 0..count {
+            make_room(&mut numbers, count - i)?;
+            let number = self.u32(shelf, name)?;
+            let Ok(()) = numbers.push(number) else {
+                return Err(ReadError::NoMemory);
+            };
+        }
+        Ok(numbers)
+    }
+
+    /// Reads so many numbers of 8 bytes. It takes memory as they come.
+    pub fn list_u64<S: Shelf>(
+        &mut self,
+        alloc: Global,
+        count: usize,
+        shelf: &mut S,
+        name: &str,
+    ) -> Result<Vec<u64>, ReadError>
+        requires follows { Follows name.now (S.state shelf.old) self.old }
+        requires room { self.old.at + 8 * count < 2 ^ 63 }
+        ensures count { IfOk result (λ list. vec_len list ≡ count) }
+        ensures took { IfOk result (λ list.
+            Took name.now self.old.at (fields_64 list.items) (S.state shelf.new) self.new) }
+        ensures stops { IfErr result (StopsInList name.now (self.old.at + 8 * count)
+            (S.state shelf.old) (S.state shelf.new)) }
+        ensures reads { OnlyReads (S.state shelf.old) (S.state shelf.new) }
+    {
+        let mut numbers = Vec::new(alloc);
+        for i in 0..count {
+            make_room(&mut numbers, count - i)?;
+            let number = self.u64(shelf, name)?;
+            let Ok(()) = numbers.push(number) else {
+                return Err(ReadError::NoMemory);
+            };
+        }
+        Ok(numbers)
+    }
+}

@@ -1,0 +1,195 @@
+// Writing a file through one buffer.
+ghost use Rattle.std.specs.Prelude.{◌≡◌, ◌≤◌, ◌<◌, ◌+◌, ◌++◌, [], ◌∷◌, List, ℕ, ◌⊎◌, length, take, drop, OnOk, OnErr};
+ghost use Rattle.shelf_core.specs.Files.{ShelfState, Changes, OnlyWrites, Rose};
+ghost use Rattle.shelf_core.specs.Written.{HoldsText, HoldsPart};
+ghost use Rattle.file_bytes.specs.Fields.{field_16, field_32, field_64, fields_16, fields_32, fields_64};
+ghost use Rattle.file_bytes.specs.Writing.{HasPut, Keeps, Puts, pending};
+
+use shelf_core::{Shelf, WriteFault};
+use std::marker::Model;
+
+// How many bytes may wait.
+const ROOM: usize = 8192;
+
+/// A file that is being written, piece by piece. Short pieces wait in a buffer, so that the shelf is
+/// called seldom. After a write that failed no more calls are made, and `finish` tells of it.
+///
+/// Each call takes the same shelf and name. No call takes memory.
+#[derive(Drop)]
+pub struct FileWriter {
+    buffer: [u8; ROOM],
+    len: usize,
+    failed: bool,
+}
+
+impl Model for FileWriter {
+    ghost use Rattle.std.specs.Prelude.{take, ◌≤◌};
+    ghost use Rattle.file_bytes.specs.Writing.{Pending};
+    ghost use Rattle.file_bytes.specs.declared.writer.TheConstants.{ROOM};
+
+    ghost Value = { Pending };
+
+    ghost view = { λ a. record { waiting = take a.len a.buffer; failed = a.failed } };
+
+    ghost invariant = { λ a. a.len ≤ ROOM };
+}
+
+// Writes a piece over the bytes from a place on.
+fn put_at(bytes: &mut [u8], start: usize, piece: &[u8])
+    requires { start + length piece.now ≤ length bytes.old }
+    ensures { bytes.new ≡ take start bytes.old ++ piece.now
+        ++ drop (start + length piece.now) bytes.old }
+{
+    bytes[start..start + piece.len()].copy_from_slice(piece);
+}
+
+// Adds a piece that waits to the file, unless a write has failed before. It tells whether one has.
+fn pass<S: Shelf>(failed: bool, piece: &[u8], shelf: &mut S, name: &str) -> bool
+    ensures { Keeps name.now (S.state shelf.old) (S.state shelf.new)
+        (pending piece.now failed) (pending [] result) }
+{
+    if failed {
+        return true;
+    }
+    match shelf.add(name, piece) {
+        Ok(()) => false,
+        Err(_) => true,
+    }
+}
+
+impl FileWriter {
+    /// Begins the named file: it becomes present and empty.
+    pub fn begin<S: Shelf>(shelf: &mut S, name: &str) -> FileWriter
+        ensures { HasPut name.now [] (S.state shelf.old) (S.state shelf.new) result }
+    {
+        let failed = shelf.begin(name).is_err();
+        FileWriter {
+            buffer: [0; ROOM],
+            len: 0,
+            failed,
+        }
+    }
+
+    // Adds what waits to the file.
+    fn flush<S: Shelf>(&mut self, shelf: &mut S, name: &str)
+        ensures put { Keeps name.now (S.state shelf.old) (S.state shelf.new) self.old self.new }
+        ensures empty { self.new.waiting ≡ [] }
+    {
+        self.failed = pass(self.failed, &self.buffer[..self.len], shelf, name);
+        self.len = 0;
+    }
+
+    // Adds a piece to the file past the buffer, in which nothing waits.
+    fn send<S: Shelf>(&mut self, piece: &[u8], shelf: &mut S, name: &str)
+        requires { self.old.waiting ≡ [] }
+        ensures { Puts name.now piece.now (S.state shelf.old)
+            (S.state shelf.new) self.old self.new }
+    {
+        self.failed = pass(self.failed, piece, shelf, name);
+    }
+
+    // Lets a piece wait for which there is room.
+    fn keep(&mut self, piece: &[u8])
+        requires { length self.old.waiting + length piece.now ≤ ROOM }
+        ensures { self.new ≡ pending (self.old.waiting ++ piece.now) self.old.failed }
+    {
+        put_at(&mut self.buffer, self.len, piece);
+        self.len += piece.len();
+    }
+
+    // Makes room for so many bytes, where what waits leaves too little.
+    fn make_room<S: Shelf>(&mut self, n: usize, shelf: &mut S, name: &str)
+        ensures put { Keeps name.now (S.state shelf.old) (S.state shelf.new) self.old self.new }
+        ensures room { (length self.new.waiting + n ≤ ROOM) ⊎ (self.new.waiting ≡ []) }
+    {
+        if n > ROOM - self.len {
+            self.flush(shelf, name);
+        }
+    }
+
+    /// Puts a piece of any length.
+    pub fn put<S: Shelf>(&mut self, piece: &[u8], shelf: &mut S, name: &str)
+        ensures { Puts name.now piece.now (S.state shelf.old)
+            (S.state shelf.new) self.old self.new }
+    {
+        self.make_room(piece.len(), shelf, name);
+        if piece.len() <= ROOM - self.len {
+            self.keep(piece);
+        } else {
+            self.send(piece, shelf, name);
+        }
+    }
+
+    /// Puts a number as 2 bytes.
+    pub fn put_u16<S: Shelf>(&mut self, number: u16, shelf: &mut S, name: &str)
+        ensures { Puts name.now (field_16 number) (S.state shelf.old) (S.state shelf.new)
+            self.old self.new }
+    {
+        self.put(&number.to_be_bytes(), shelf, name);
+    }
+
+    /// Puts a number as 4 bytes.
+    pub fn put_u32<S: Shelf>(&mut self, number: u32, shelf: &mut S, name: &str)
+        ensures { Puts name.now (field_32 number) (S.state shelf.old) (S.state shelf.new)
+            self.old self.new }
+    {
+        self.put(&number.to_be_bytes(), shelf, name);
+    }
+
+    /// Puts a number as 8 bytes.
+    pub fn put_u64<S: Shelf>(&mut self, number: u64, shelf: &mut S, name: &str)
+        ensures { Puts name.now (field_64 number) (S.state shelf.old) (S.state shelf.new)
+            self.old self.new }
+    {
+        self.put(&number.to_be_bytes(), shelf, name);
+    }
+
+    /// Puts numbers, one after another, as 2 bytes each.
+    pub fn put_all_u16<S: Shelf>(&mut self, numbers: &[u16], shelf: &mut S, name: &str)
+        ensures { Puts name.now (fields_16 numbers.now) (S.state shelf.old) (S.state shelf.new)
+            self.old self.new }
+    {
+        for number in numbers {
+            self.put_u16(*number, shelf, name);
+        }
+    }
+
+    /// Puts numbers, one after another, as 4 bytes each.
+    pub fn put_all_u32<S: Shelf>(&mut self, numbers: &[u32], shelf: &mut S, name: &str)
+        ensures { Puts name.now (fields_32 numbers.now) (S.state shelf.old) (S.state shelf.new)
+            self.old self.new }
+    {
+        for number in numbers {
+            self.put_u32(*number, shelf, name);
+        }
+    }
+
+    /// Puts numbers, one after another, as 8 bytes each.
+    pub fn put_all_u64<S: Shelf>(&mut self, numbers: &[u64], shelf: &mut S, name: &str)
+        ensures { Puts name.now (fields_64 numbers.now) (S.state shelf.old) (S.state shelf.new)
+            self.old self.new }
+    {
+        for number in numbers {
+            self.put_u64(*number, shelf, name);
+        }
+    }
+
+    /// Ends the writing: what waits goes to the file. The error is the first write that failed.
+    pub fn finish<S: Shelf>(mut self, shelf: &mut S, name: &str) -> Result<(), WriteFault>
+        ensures ok { (was : ShelfState) (text : List ℕ) →
+            HasPut name.now text was (S.state shelf.old) self →
+            OnOk result (Changes was (S.state shelf.new) (HoldsText name.now text)) }
+        ensures err { (was : ShelfState) (text : List ℕ) →
+            HasPut name.now text was (S.state shelf.old) self →
+            OnErr result (Changes was (S.state shelf.new) (HoldsPart name.now text)) }
+        ensures writes { (was : ShelfState) (text : List ℕ) →
+            HasPut name.now text was (S.state shelf.old) self →
+            OnlyWrites was (S.state shelf.new) }
+        ensures failed { (was : ShelfState) (text : List ℕ) →
+            HasPut name.now text was (S.state shelf.old) self →
+            OnErr result (Rose (was.writes name.now) ((S.state shelf.new).writes name.now)) }
+    {
+        self.flush(shelf, name);
+        if self.failed { Err(WriteFault) } else { Ok(()) }
+    }
+}

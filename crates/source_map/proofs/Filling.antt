@@ -1,19 +1,20 @@
 -- What the conditions of a placement give for each cell of its box, and what a canvas is after one more cell.
-use Rattle.std.proofs.Common.{◌≡◌, ◌≢◌, ℕ, ◌<◌, ◌≤◌, [], length, refl, ap, sym, ◌∙◌, subst, arith, ⊎_elim}
+use Rattle.std.proofs.Common.{◌≡◌, ◌≢◌, ℕ, ◌<◌, [], length, refl, ap, sym, ◌∙◌, subst, arith, ⊎_elim}
 use Rattle.std.proofs.lemmas.Bool.{cases_eq}
 use Rattle.std.proofs.lemmas.Int.{ints}
-use Rattle.std.specs.Prelude.{ℤ, Option, Some, None, IsSome, IfSome, unwrap_or}
+use Rattle.std.specs.Prelude.{Option, Some, None, IsSome, IfSome, unwrap_or}
 use Rattle.cells.specs.declared.place.At.{At}
 use Rattle.cells.specs.declared.place.Size.{Size}
-use Rattle.cells.specs.Places.{IsInside, IsSmall, HasAxes, SumFits, index_in, place_of}
-use Rattle.cells.specs.Cells.{Cells, IsCell, IsVolume, HasCell, cell_at, put_cell}
-use Rattle.cells.proofs.Raster.{OnAxis, index_parts, index_below, has_index, one_place}
-use Rattle.cells.proofs.BoxLaws.{box_small, box_inside, box_sum_fits}
-use Rattle.cells.proofs.CellLaws.{IfCell, inside_has_cell, cell_is_inside, cell_is_cell, cell_at-put_same, cell_at-put_other, put_is_volume, length-set_nth, All-set_nth}
+use Rattle.cells.specs.Places.{IsInside, IsSmall, HasAxes, SumFits, index_in, place_of, plus, minus}
+use Rattle.cells.specs.Cells.{Cells, IsCell, IsVolume, HasCell, IsInsideOf, cell_at, put_cell}
+use Rattle.cells.proofs.Raster.{index_below, has_index, one_place}
+use Rattle.cells.proofs.BoxLaws.{box_small, box_inside, box_sum_fits, plus_minus}
+use Rattle.cells.proofs.CellLaws.{IfCell, indexed_has_cell, cell_is_cell, cell_at-put_same, cell_at-put_other, put_is_volume, length-set_nth, All-set_nth}
+use Rattle.cells.proofs.PartBoxes.{cell_is_near, held_cell, held_sum_fits, inside_sum_fits}
 use Rattle.source_map.specs.declared.canvas.Placement.{Placement}
-use Rattle.source_map.specs.Maps.{IsSource, IsCoordinate, map_at, with_source, sample_cell}
-use Rattle.source_map.specs.Canvases.{CanvasState, IsCanvas, Stands}
-use Rattle.source_map.specs.Choices.{Fits, box_count, box_cell, box_source}
+use Rattle.source_map.specs.Maps.{IsSource, map_at, with_source, sample_cell}
+use Rattle.source_map.specs.Canvases.{CanvasState, IsCanvas, StandsOver}
+use Rattle.source_map.specs.Choices.{Fits, HasNewSources, IsNewSource, box_count, box_cell, box_source}
 use Rattle.source_map.proofs.ChoiceLaws.{map_at-with_same, map_at-with_other}
 
 module _ (output : Size) (sample : Cells) (placement : Placement) (fits : Fits output sample placement) where
@@ -27,23 +28,39 @@ module _ (output : Size) (sample : Cells) (placement : Placement) (fits : Fits o
   fits_cell_sum axes i lt = box_sum_fits output placement.rect.corner placement.rect.size i axes fits.inside fits.some lt
 
   pub fits_source_sum : IsVolume sample → (i : ℕ) → i < box_count placement → SumFits placement.from (place_of placement.rect.size i)
-  fits_source_sum is i lt = box_sum_fits sample.size placement.from placement.rect.size i is.small.axes fits.sources fits.some lt
+  fits_source_sum is i lt = held_sum_fits sample is placement.from placement.rect.size i fits.some fits.sources lt
 
   pub fits_source : IsVolume sample → (i : ℕ) → i < box_count placement → HasCell sample (box_source placement i)
-  fits_source is i lt = inside_has_cell sample is (box_source placement i) (box_inside sample.size placement.from placement.rect.size i fits.sources fits.some lt)
+  fits_source is i lt = held_cell sample is placement.from placement.rect.size i fits.some fits.sources lt
 
 -- a place with a cell may be a source
 pub cell_is_source : (sample : Cells) → IsVolume sample → (from : At) → HasCell sample from → IsSource from
 cell_is_source sample is from has =
-    let at = index_parts sample.size from _ (has_index (index_in sample.size from) 0 (cell_is_inside sample from has)) in
+    let near = cell_is_near sample is from has in
     record {
-      x = coordinate from.x at.x sample.size.w at.x_on is.small.axes.w.1;
-      y = coordinate from.y at.y sample.size.h at.y_on is.small.axes.h.1;
-      f = coordinate from.f at.f sample.size.f at.f_on is.small.axes.f.1;
+      x = (near.x.0, omega (arith, ints, near.x.1));
+      y = (near.y.0, omega (arith, ints, near.y.1));
+      f = (near.f.0, omega (arith, ints, near.f.1));
     }
-  where
-    coordinate : (z : ℤ) (c n : ℕ) → OnAxis n z c → n ≤ 4096 → IsCoordinate z
-    coordinate z c n on le = subst IsCoordinate (sym on.is) (omega (arith, ints), omega (arith, ints, on.below))
+
+-- a placement that fits gives each cell of its box a new source
+pub step_source : (output : Size) (sample : Cells) (placement : Placement) → Fits output sample placement → IsVolume sample → (step : At) → IsInside placement.rect.size step → IsNewSource sample (plus placement.from step)
+step_source output sample placement fits is step inside =
+    let has = indexed_has_cell sample is.count (plus placement.from step) (fits.sources (plus placement.from step) (subst (IsInside placement.rect.size) (sym (plus_minus placement.from step)) inside)) in
+    record { cell = has; source = cell_is_source sample is (plus placement.from step) has }
+
+pub step_inside : (output : Size) (sample : Cells) (placement : Placement) → Fits output sample placement → (step : At) → IsInside placement.rect.size step → IsInsideOf sample (plus placement.from step)
+step_inside output sample placement fits step inside = fits.sources (plus placement.from step) (subst (IsInside placement.rect.size) (sym (plus_minus placement.from step)) inside)
+
+pub step_sum : (output : Size) (sample : Cells) (placement : Placement) → Fits output sample placement → IsVolume sample → (step : At) → IsInside placement.rect.size step → SumFits placement.from step
+step_sum output sample placement fits is step inside = inside_sum_fits sample is placement.from step (step_inside output sample placement fits step inside)
+
+pub new_sources : (output : Size) (sample : Cells) (placement : Placement) → Fits output sample placement → IsVolume sample → HasNewSources sample placement
+new_sources output sample placement fits is = record {
+  cells = λ p inside. step_source output sample placement fits is (minus p placement.rect.corner) inside;
+  steps = step_source output sample placement fits is;
+  sums = step_sum output sample placement fits is;
+}
 
 -- one more cell of a canvas
 abbrev pub filled : CanvasState → Cells → At → At → CanvasState
@@ -55,7 +72,7 @@ some_of o d some = has_index o d some
 sample_cell_is : (sample : Cells) (from : At) → HasCell sample from → cell_at sample from ≡ Some (sample_cell sample (Some from))
 sample_cell_is sample from has = some_of (cell_at sample from) [] has
 
-module _ (canvas : CanvasState) (sample : Cells) (p from : At) (o : ℕ) (is : IsCanvas canvas) (stands : Stands canvas sample) (volume : IsVolume sample) (at : index_in canvas.map.size p ≡ Some o) (has : HasCell sample from) where
+module _ (canvas : CanvasState) (sample : Cells) (p from : At) (o : ℕ) (is : IsCanvas canvas) (stands : StandsOver canvas sample) (volume : IsVolume sample) (at : index_in canvas.map.size p ≡ Some o) (has : HasCell sample from) where
   cell : IsCell sample.k (sample_cell sample (Some from))
   cell = subst (IfCell sample.k) (sample_cell_is sample from has) (cell_is_cell sample volume from)
 
@@ -68,6 +85,7 @@ module _ (canvas : CanvasState) (sample : Cells) (p from : At) (o : ℕ) (is : I
     };
     picture = put_is_volume canvas.picture is.picture p (sample_cell sample (Some from)) (subst (λ k. IsCell k (sample_cell sample (Some from))) (sym stands.samples) cell);
     size = is.size;
+    part = is.part;
   }
 
   in_picture : IsInside canvas.picture.size p
@@ -94,7 +112,7 @@ module _ (canvas : CanvasState) (sample : Cells) (p from : At) (o : ℕ) (is : I
       by (Some j) ej = ⊎_elim (λ is_o. same_case (one_place canvas.map.size p q o at (ej ∙ ap Some is_o)))
           (λ differ. apart_case (λ same. differ (let both : Some j ≡ Some o = sym ej ∙ ap (index_in canvas.map.size) (sym same) ∙ at in cc))) (cases_eq j o)
 
-  pub filled_stands : Stands (filled canvas sample p from) sample
+  pub filled_stands : StandsOver (filled canvas sample p from) sample
   filled_stands = record {
     samples = stands.samples;
     over = split (λ q f. HasCell sample f) has (λ q f apart e. stands.over q f e);

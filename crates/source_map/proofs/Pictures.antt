@@ -6,16 +6,17 @@ use Rattle.std.specs.Prelude.{Option, Some, None, IsSome, map, option_and_then, 
 use mathlib.Core.Bool.{false≢true}
 use Rattle.cells.specs.declared.place.At.{At}
 use Rattle.cells.specs.Places.{index_in, place_of, cell_count}
+use Rattle.cells.specs.Parts.{count_from}
 use Rattle.cells.specs.Cells.{Cells, cell_at}
 use Rattle.cells.proofs.Raster.{place_at}
 use Rattle.cells.proofs.CellLaws.{cell_is}
 use Rattle.source_map.specs.Maps.{IsFull, map_at, sample_cell, picture_of}
-use Rattle.source_map.specs.Canvases.{CanvasState, IsCanvas, Stands}
+use Rattle.source_map.specs.Canvases.{CanvasState, IsCanvas, StandsOver}
 use Rattle.source_map.proofs.AfterLaws.{source_of_place}
 
-module _ (canvas : CanvasState) (sample : Cells) (is : IsCanvas canvas) (stands : Stands canvas sample) (full : IsFull canvas.map) where
+module _ (canvas : CanvasState) (sample : Cells) (is : IsCanvas canvas) (stands : StandsOver canvas sample) (full : IsFull canvas.map) where
   same_length : length canvas.picture.cells ≡ length canvas.map.sources
-  same_length = is.picture.count ∙ ap cell_count is.size ∙ sym is.map.count
+  same_length = is.picture.count ∙ ap (count_from canvas.picture.size) is.part ∙ ap cell_count is.size ∙ sym is.map.count
 
   same_cell : (i : ℕ) → i < length canvas.map.sources → get_or canvas.picture.cells i [] ≡ sample_cell sample (get_or canvas.map.sources i None)
   same_cell i lt = sym taken ∙ ap (λ o. unwrap_or o []) (in_sample (map_at canvas.map p) refl) ∙ ap (sample_cell sample) source
@@ -47,4 +48,4 @@ module _ (canvas : CanvasState) (sample : Cells) (is : IsCanvas canvas) (stands 
       (slice_get-map (sample_cell sample) canvas.map.sources i ∙ ap (option_map (sample_cell sample)) (slice_get-get_or canvas.map.sources i None below))))
 
   pub full_picture : canvas.picture ≡ picture_of canvas.map sample
-  full_picture = λ k. record { size = is.size k; k = stands.samples k; cells = same_cells k }
+  full_picture = λ k. record { size = is.size k; more = is.part k; k = stands.samples k; cells = same_cells k }

@@ -6,7 +6,7 @@ use Rattle.cells.specs.Places.{cell_count, index_in, place_of}
 use Rattle.cells.specs.Cells.{Cells}
 use Rattle.cells.proofs.Raster.{has_index, index_below, one_place, place_at}
 use Rattle.source_map.specs.Maps.{SourceMap, IsMap}
-use Rattle.source_map.specs.Canvases.{CanvasState, IsRendered, IsRenderedAt, Stands}
+use Rattle.source_map.specs.Canvases.{CanvasState, IsRendered, IsRenderedAt, StandsOver}
 use Rattle.source_map.proofs.Keeping.{filled_inside}
 
 pub rendered_all : (m : SourceMap) (picture sample : Cells) → IsMap m → ((i : ℕ) → i < cell_count m.size → IsRenderedAt m picture sample (place_of m.size i)) → IsRendered m picture sample
@@ -18,8 +18,8 @@ rendered_all m picture sample is each p from named =
     let here : place_of m.size i ≡ p = one_place m.size _ _ i (place_at m.size i is.small.axes.w.0 is.small.axes.h.0 below) at in
     subst (IsRenderedAt m picture sample) here (each i below) from named
 
-pub stands_of : (canvas : CanvasState) (sample : Cells) → canvas.picture.k ≡ sample.k → IsRendered canvas.map canvas.picture sample → Stands canvas sample
+pub stands_of : (canvas : CanvasState) (sample : Cells) → canvas.picture.k ≡ sample.k → IsRendered canvas.map canvas.picture sample → StandsOver canvas sample
 stands_of canvas sample samples rendered = record { samples = samples; over = λ p from named. (rendered p from named).0; bytes = λ p from named. (rendered p from named).1 }
 
-pub rendered_of : (canvas : CanvasState) (sample : Cells) → Stands canvas sample → IsRendered canvas.map canvas.picture sample
+pub rendered_of : (canvas : CanvasState) (sample : Cells) → StandsOver canvas sample → IsRendered canvas.map canvas.picture sample
 rendered_of canvas sample stands p from named = (stands.over p from named, stands.bytes p from named)

@@ -6,11 +6,11 @@ use Rattle.std.specs.List.{position_or_len}
 use Rattle.cells.specs.declared.place.At.{At}
 use Rattle.cells.specs.declared.place.Size.{Size}
 use Rattle.cells.specs.Places.{cell_count, index_in, place_of}
-use Rattle.cells.specs.Cells.{Cells, IsVolume, blank}
+use Rattle.cells.specs.Cells.{Cells, IsOnePart, IsVolume, blank}
 use Rattle.cells.proofs.Raster.{has_index, index_below}
 use Rattle.cells.proofs.CellLaws.{cell_is_inside}
 use Rattle.source_map.specs.Maps.{SourceMap, IsFull, IsMap, empty_map, first_unfilled, map_at, source_at}
-use Rattle.source_map.specs.Canvases.{CanvasState, IsCanvas, Stands}
+use Rattle.source_map.specs.Canvases.{CanvasState, IsCanvas, StandsOver}
 use Rattle.source_map.specs.MapFiles.{IsWritable}
 use Rattle.source_map.proofs.AfterLaws.{filled_of}
 use Rattle.source_map.proofs.Fronts.{front_passes}
@@ -31,7 +31,7 @@ map_at-empty size p = by (index_in size p)
     by None = refl
     by (Some i) = one_item None (cell_count size) i
 
-pub empty_stands : (size : Size) (k : ℕ) (sample : Cells) → k ≡ sample.k → Stands (record { map = empty_map size; picture = blank size k }) sample
+pub empty_stands : (size : Size) (k : ℕ) (sample : Cells) → k ≡ sample.k → StandsOver (record { map = empty_map size; picture = blank size k }) sample
 empty_stands size k sample same = record {
   samples = same;
   over = λ p from e. absurd (none_or_some from (sym (map_at-empty size p) ∙ e));
@@ -62,11 +62,11 @@ whole_is_full m is whole p inside = subst IsSome (sym source) (filled_of (get_or
     below : i < position_or_len is_none m.sources
     below = omega (arith, reached, is.count, index_below m.size p i at)
 
-pub whole_is_writable : (canvas : CanvasState) (sample : Cells) → IsCanvas canvas → IsVolume sample → Stands canvas sample → first_unfilled canvas.map ≡ None → cell_count canvas.map.size ≤ 1048576
+pub whole_is_writable : (canvas : CanvasState) (sample : Cells) → IsCanvas canvas → IsVolume sample → IsOnePart sample → StandsOver canvas sample → first_unfilled canvas.map ≡ None → cell_count canvas.map.size ≤ 1048576
     → IsWritable canvas.map sample.size
-whole_is_writable canvas sample is volume stands whole few = record {
+whole_is_writable canvas sample is volume one stands whole few = record {
   full = whole_is_full canvas.map is.map whole;
   cells = few;
   axes = volume.small.axes;
-  sources = λ p from e. cell_is_inside sample from (stands.over p from e);
+  sources = λ p from e. cell_is_inside sample one from (stands.over p from e);
 }

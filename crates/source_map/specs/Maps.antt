@@ -1,8 +1,10 @@
--- A map: for each output cell nothing, or a place of the sample. (Own; the record of where each pixel
--- came from, which Kwatra et al. 2003 keep for their old seams.)
+-- What a reader has to trust: a map, which has for each output cell nothing, or a place of the
+-- sample. (Own; the record of where each pixel came from, which Kwatra et al. 2003 keep for their
+-- old seams.)
 use Rattle.std.specs.Prelude.{◌≡◌, ◌≤ℤ◌, ℕ, ℤ, pos, List, [], length, replicate, slice_index_or, All, Option, Some, None, is_none, option_and_then, option_map, unwrap_or, map, position, IsSome, IfSome}
 use Rattle.cells.specs.declared.place.At.{At}
 use Rattle.cells.specs.declared.place.Size.{Size}
+use Rattle.source_map.specs.declared.map.TheConstants.{GREATEST_COORDINATE}
 use Rattle.cells.specs.Places.{IsSmall, IsInside, cell_count, index_in, place_of}
 use Rattle.cells.specs.Cells.{Cells, HasCell, cell_at, set_nth}
 
@@ -13,7 +15,7 @@ pub record SourceMap : Type 0 where
 
 -- a coordinate that a source may have, in a sample of up to 16 parts
 abbrev pub IsCoordinate : ℤ → Type 0
-IsCoordinate z = (pos 0 ≤ℤ z) × (z ≤ℤ pos 131072)
+IsCoordinate z = (pos 0 ≤ℤ z) × (z ≤ℤ GREATEST_COORDINATE)
 
 pub record IsSource (p : At) : Type 0 where
   pub x : IsCoordinate p.x
@@ -60,6 +62,11 @@ IsOver m sample = (p from : At) → map_at m p ≡ Some from → HasCell sample 
 abbrev pub sample_cell : Cells → Option At → List ℕ
 sample_cell sample source = unwrap_or (option_and_then (cell_at sample) source) []
 
--- the picture of a map: at each output cell the sample's cell that the map names
+-- the picture of a map, one part: at each output cell the sample's cell that the map names
 abbrev pub picture_of : SourceMap → Cells → Cells
-picture_of m sample = record { size = m.size; k = sample.k; cells = map (sample_cell sample) m.sources }
+picture_of m sample = record {
+  size = m.size;
+  more = [];
+  k = sample.k;
+  cells = map (sample_cell sample) m.sources;
+}

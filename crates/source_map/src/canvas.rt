@@ -1,15 +1,16 @@
 // A map with its picture.
-ghost use Rattle.std.specs.Prelude.{◌≡◌, ◌<◌, ◌≤◌, ◌*◌, ◌+ℤ◌, ◌≤ℤ◌, ◌↔◌, pos, length, replicate, IfOk, IsTrue, Some};
-ghost use Rattle.cells.specs.Places.{IsSmall, IsInside};
-ghost use Rattle.cells.specs.Cells.{Cells, HasCell, IsVolume, blank, put_cell, row_at};
-ghost use Rattle.source_map.specs.Maps.{IsFilled, IsFull, IsSource, empty_map, first_unfilled, picture_of, sample_cell, with_source};
-ghost use Rattle.source_map.specs.Canvases.{IsCanvas, IsKept, Stands, marks_of};
-ghost use Rattle.source_map.specs.Choices.{Fits, IsAfter, box_cell, box_count, box_source};
+ghost use Rattle.std.specs.Prelude.{◌≡◌, ◌<◌, ◌≤◌, ◌+◌, ◌*◌, ◌%◌, ◌+ℤ◌, ◌≤ℤ◌, ◌↔◌, ℕ, pos, length, slice_index_or, true, false, IfOk, IfSome, IsTrue, None};
+ghost use Rattle.cells.specs.Places.{IsSmall, IsInside, plus, spot};
+ghost use Rattle.cells.specs.Cells.{Cells, HasRun, IsVolume, row_at};
+ghost use Rattle.source_map.specs.Maps.{IsFilled, IsFull, IsMap, IsSource, first_unfilled, picture_of};
+ghost use Rattle.source_map.specs.Runs.{AreNew, put_copies, with_run};
+ghost use Rattle.source_map.specs.Canvases.{IsCanvas, IsFilledPrefix, IsKept, StandsOver, empty_canvas, filled_marks};
+ghost use Rattle.source_map.specs.Choices.{Fits, IsAfter, box_cell, box_count, box_source, map_after};
 
 use crate::Map;
 use crate::kept::meets_outside;
 use crate::rendered::is_rendered;
-use cells::{At, Box3, Size, Volume};
+use cells::{At, Box3, MOST_SAMPLES, Size, Volume};
 use std::alloc::{AllocError, Global};
 use std::marker::Model;
 
@@ -30,81 +31,98 @@ pub struct Canvas {
     picture: Volume,
     // 1 for each sample of a filled cell, and 0 for each of an unfilled one
     marks: Volume,
-    // how many cells from the front, in raster order, are filled
+    // how many cells, from the first in raster order on, are filled
     reached: usize,
 }
 
 impl Model for Canvas {
-    ghost use Rattle.source_map.specs.Canvases.{CanvasState, IsCanvas, IsFront, marks_of};
+    ghost use Rattle.source_map.specs.Canvases.{CanvasState, IsCanvas, IsFilledPrefix, filled_marks};
     ghost use Rattle.std.specs.Prelude.{◌≡◌};
 
     ghost Value = { CanvasState };
 
     ghost view = { λ a. record { map = a.map; picture = a.picture } };
 
-    ghost invariant = { λ a. IsCanvas (record { map = a.map; picture = a.picture }) × IsFront a.map a.reached × (a.marks ≡ marks_of a.map a.picture.k) };
+    ghost invariant = { λ a. IsCanvas (record { map = a.map; picture = a.picture })
+        × IsFilledPrefix a.map a.reached × (a.marks ≡ filled_marks a.map a.picture.k) };
 }
 
-// A mark for each sample of the largest cell.
-const FULL: [u8; 6] = [1; 6];
-
-// The marks of a filled cell of k samples.
-fn full_mark(k: u32) -> &'static [u8]
-    requires { k ≤ 6 }
-    ensures { result.now ≡ replicate k 1 }
-{
-    &FULL[..k as usize]
-}
-
-// Fills one cell from the sample.
-fn fill_cell(
+// Fills a run of cells along X from the sample.
+fn fill_run(
     map: &mut Map,
     picture: &mut Volume,
     marks: &mut Volume,
     sample: &Volume,
     p: At,
     from: At,
+    w: u32,
 )
     requires inside { IsInside map.old.size p }
-    requires sizes { picture.old.size ≡ map.old.size }
+    requires room { (p.x +ℤ pos w) ≤ℤ pos map.old.size.w }
+    requires canvas { IsCanvas (record { map = map.old; picture = picture.old }) }
     requires samples { picture.old.k ≡ sample.now.k }
-    requires marks { marks.old ≡ marks_of map.old picture.old.k }
-    requires cell { HasCell sample.now from }
-    requires source { IsSource from }
-    ensures map { map.new ≡ with_source map.old p from }
-    ensures picture { picture.new ≡ put_cell picture.old p (sample_cell sample.now (Some from)) }
-    ensures marks { marks.new ≡ marks_of map.new picture.new.k }
+    requires marks { marks.old ≡ filled_marks map.old picture.old.k }
+    requires run { HasRun sample.now from w }
+    requires sources { (j : ℕ) → j < w → IsSource (plus from (spot j 0 0)) }
+    ensures map { map.new ≡ with_run map.old p from w }
+    ensures picture { picture.new ≡ put_copies picture.old sample.now p from w }
+    ensures marks { marks.new ≡ filled_marks map.new picture.new.k }
 {
-    let cell = sample.cell(from).unwrap();
-    picture.set_cell(p, cell);
-    marks.set_cell(p, full_mark(sample.samples()));
-    map.set(p, from);
+    picture.set_row(p, w, sample.row(from, w));
+    marks.fill_row(p, w, 1);
+    map.set_row(p, from, w);
 }
 
-// Fills one cell of a placement's box, by its index.
-fn fill_nth(
+// How many cells a choice makes new, from one that it does on, as far as so many.
+fn new_cells(choice: &[bool], start: usize, most: u32) -> u32
+    requires first { slice_index_or choice.now start false ≡ true }
+    requires some { 1 ≤ most }
+    requires room { start + most ≤ length choice.now }
+    ensures some { 1 ≤ result }
+    ensures most { result ≤ most }
+    ensures new { AreNew choice.now start result }
+{
+    let mut n = 1;
+    'new: while n < most && choice[start + n as usize] {
+        n += 1;
+    }
+    n
+}
+
+// Fills the new cells of a placement's box from one on, by its index, as far as they follow one another
+// in its row. Gives how many they are.
+fn fill_from(
     map: &mut Map,
     picture: &mut Volume,
     marks: &mut Volume,
     sample: &Volume,
     placement: &Placement,
+    choice: &[bool],
     i: usize,
-)
-    requires sizes { picture.old.size ≡ map.old.size }
+) -> u32
+    requires canvas { IsCanvas (record { map = map.old; picture = picture.old }) }
     requires samples { picture.old.k ≡ sample.now.k }
-    requires marks { marks.old ≡ marks_of map.old picture.old.k }
-    requires output { IsSmall map.old.size }
+    requires marks { marks.old ≡ filled_marks map.old picture.old.k }
     requires sample { IsVolume sample.now }
     requires fits { Fits map.old.size sample.now placement.now }
+    requires choices { length choice.now ≡ box_count placement.now }
     requires below { i < box_count placement.now }
-    ensures map { map.new ≡ with_source map.old (box_cell placement.now i) (box_source placement.now i) }
-    ensures picture { picture.new ≡ put_cell picture.old (box_cell placement.now i) (sample_cell sample.now (Some (box_source placement.now i))) }
-    ensures marks { marks.new ≡ marks_of map.new picture.new.k }
+    requires first { slice_index_or choice.now i false ≡ true }
+    ensures some { 1 ≤ result }
+    ensures row { i % placement.now.rect.size.w + result ≤ placement.now.rect.size.w }
+    ensures new { AreNew choice.now i result }
+    ensures map { map.new
+        ≡ with_run map.old (box_cell placement.now i) (box_source placement.now i) result }
+    ensures picture { picture.new
+        ≡ put_copies picture.old sample.now (box_cell placement.now i) (box_source placement.now i) result }
+    ensures marks { marks.new ≡ filled_marks map.new picture.new.k }
 {
     let step = placement.rect.size.place_at(i);
+    let n = new_cells(choice, i, placement.rect.size.w - step.x as u32);
     let p = placement.rect.corner.plus(step);
     let from = placement.from.plus(step);
-    fill_cell(map, picture, marks, sample, p, from);
+    fill_run(map, picture, marks, sample, p, from, n);
+    n
 }
 
 // Fills the new cells of a choice.
@@ -117,30 +135,49 @@ fn fill_choice(
     choice: &[bool],
 )
     requires canvas { IsCanvas (record { map = map.old; picture = picture.old }) }
-    requires stands { Stands (record { map = map.old; picture = picture.old }) sample.now }
-    requires marks { marks.old ≡ marks_of map.old picture.old.k }
+    requires stands { StandsOver (record { map = map.old; picture = picture.old }) sample.now }
+    requires marks { marks.old ≡ filled_marks map.old picture.old.k }
     requires sample { IsVolume sample.now }
     requires fits { Fits map.old.size sample.now placement.now }
     requires choices { length choice.now ≡ box_count placement.now }
     ensures canvas { IsCanvas (record { map = map.new; picture = picture.new }) }
-    ensures stands { Stands (record { map = map.new; picture = picture.new }) sample.now }
-    ensures marks { marks.new ≡ marks_of map.new picture.new.k }
+    ensures stands { StandsOver (record { map = map.new; picture = picture.new }) sample.now }
+    ensures marks { marks.new ≡ filled_marks map.new picture.new.k }
     ensures after { IsAfter map.old placement.now choice.now map.new }
 {
-    for (i, new) in choice.iter().enumerate() {
-        if *new {
-            fill_nth(map, picture, marks, sample, placement, i);
+    let mut i = 0;
+    'runs: while i < choice.len() {
+        if choice[i] {
+            i += fill_from(map, picture, marks, sample, placement, choice, i) as usize;
+        } else {
+            i += 1;
         }
     }
 }
 
+// The first unfilled cell of a map of which so many cells, from the first in raster order on, are filled.
+fn unfilled_after(map: &Map, reached: usize) -> Option<At>
+    requires { IsFilledPrefix map.now reached }
+    ensures first { result ≡ first_unfilled map.now }
+    ensures map { IsMap map.now }
+{
+    let size = map.size();
+    if reached < size.cells() {
+        Some(size.place_at(reached))
+    } else {
+        None
+    }
+}
+
 impl Canvas {
-    /// A canvas of that size with no cell filled, for cells of k samples. The one error is want of
+    /// A canvas of that size with no cell filled, for cells of k samples. The one error is out of
     /// memory.
     pub fn empty(alloc: Global, size: Size, k: u32) -> Result<Canvas, AllocError>
         requires small { IsSmall size }
-        requires samples { (1 ≤ k) × (k ≤ 6) }
-        ensures { IfOk result (λ c. c ≡ record { map = empty_map size; picture = blank size k }) }
+        requires samples { (1 ≤ k) × (k ≤ MOST_SAMPLES) }
+        ensures empty { IfOk result (λ c. c ≡ empty_canvas size k) }
+        ensures canvas { IfOk result IsCanvas }
+        ensures stands { IfOk result (λ c. (sample : Cells) → sample.k ≡ k → StandsOver c sample) }
     {
         let map = Map::empty(alloc, size)?;
         let picture = Volume::make(alloc, size, k)?;
@@ -165,7 +202,8 @@ impl Canvas {
     pub fn picture(&self) -> &Volume
         ensures picture { result.now ≡ self.now.picture }
         ensures canvas { IsCanvas self.now }
-        ensures full { (sample : Cells) → Stands self.now sample → IsFull self.now.map → result.now ≡ picture_of self.now.map sample }
+        ensures full { (sample : Cells) → StandsOver self.now sample → IsFull self.now.map →
+            result.now ≡ picture_of self.now.map sample }
     {
         &self.picture
     }
@@ -179,14 +217,11 @@ impl Canvas {
 
     /// The first cell in raster order that isn't filled; None where all are.
     pub fn first_unfilled(&self) -> Option<At>
-        ensures { result ≡ first_unfilled self.now.map }
+        ensures first { result ≡ first_unfilled self.now.map }
+        ensures full { (result ≡ None) ↔ IsFull self.now.map }
+        ensures inside { IfSome result (IsInside self.now.map.size) }
     {
-        let size = self.map.size();
-        if self.reached < size.cells() {
-            Some(size.place_at(self.reached))
-        } else {
-            None
-        }
+        unfilled_after(&self.map, self.reached)
     }
 
     /// Whether a place is a filled cell of a box that has a filled neighbour outside the box. A choice
@@ -202,7 +237,7 @@ impl Canvas {
     pub fn filled_row(&self, at: At, w: u32) -> &[u8]
         requires inside { IsInside self.now.map.size at }
         requires room { (at.x +ℤ pos w) ≤ℤ pos self.now.map.size.w }
-        ensures marks { result.now ≡ row_at (marks_of self.now.map self.now.picture.k) at w }
+        ensures marks { result.now ≡ row_at (filled_marks self.now.map self.now.picture.k) at w }
         ensures len { length result.now ≡ self.now.picture.k * w }
     {
         self.marks.row(at, w)
@@ -211,7 +246,7 @@ impl Canvas {
     /// Whether the canvas stands over a sample: cells of both have as many samples, and each filled cell
     /// has the bytes of the sample cell that the map names.
     pub fn render_equals(&self, sample: &Volume) -> bool
-        ensures { IsTrue result ↔ Stands self.now sample.now }
+        ensures { IsTrue result ↔ StandsOver self.now sample.now }
     {
         self.picture.samples() == sample.samples() && is_rendered(&self.map, &self.picture, sample)
     }
@@ -219,15 +254,16 @@ impl Canvas {
     /// Puts in a choice over a placement. It has one entry for each cell of the box in raster order:
     /// true makes the cell a copy of its new source, false leaves it as it is.
     pub fn put_choice(&mut self, sample: &Volume, placement: &Placement, choice: &[bool])
-        requires stands { Stands self.old sample.now }
+        requires stands { StandsOver self.old sample.now }
         requires fits { Fits self.old.map.size sample.now placement.now }
         requires choices { length choice.now ≡ box_count placement.now }
+        ensures map { self.new.map ≡ map_after self.old.map placement.now choice.now }
         ensures after { IsAfter self.old.map placement.now choice.now self.new.map }
-        ensures stands { Stands self.new sample.now }
+        ensures stands { StandsOver self.new sample.now }
         ensures canvas { IsCanvas self.new }
     {
-        // The size is asked only to show the check that the sample is a volume.
-        let _sample = sample.size();
+        // It is asked for only to show the check that the sample is a volume.
+        let _samples = sample.samples();
         fill_choice(
             &mut self.map,
             &mut self.picture,

@@ -9,12 +9,11 @@
 
 mod canvas;
 mod kept;
+pub mod laws;
 mod map;
 mod map_file;
 mod rendered;
-#[cfg(test)]
-mod tests;
 
 pub use canvas::{Canvas, Placement};
-pub use map::Map;
-pub use map_file::write_cell_map;
+pub use map::{GREATEST_COORDINATE, Map};
+pub use map_file::{MOST_MAP_CELLS, write_cell_map};

@@ -1,12 +1,17 @@
 // A map from output cells to sample places.
-ghost use Rattle.std.specs.Prelude.{◌≡◌, ◌≤◌, IfOk, is_none};
+ghost use Rattle.std.specs.Prelude.{◌≡◌, ◌<◌, ◌≤◌, ◌+◌, ◌+ℤ◌, ◌≤ℤ◌, ℕ, pos, length, IfOk, IfSome, Some, is_none};
 ghost use Rattle.std.specs.List.{position_or_len};
-ghost use Rattle.cells.specs.Places.{IsInside, IsSmall};
+ghost use Rattle.cells.specs.Places.{IsInside, IsSmall, plus, spot};
+ghost use Rattle.cells.specs.Cells.{put_run};
 ghost use Rattle.source_map.specs.Maps.{map_at, with_source, empty_map, IsMap, IsSource};
+ghost use Rattle.source_map.specs.Runs.{source_run, with_run};
 
 use cells::{At, Size};
 use std::alloc::{AllocError, Global};
 use std::marker::Model;
+
+/// The greatest coordinate of a source: past the last frame of a sample of 16 parts.
+pub const GREATEST_COORDINATE: i32 = 131072;
 
 /// For each of the w x h x f cells of an output, in raster order, nothing or a place of the sample.
 #[derive(Drop)]
@@ -25,7 +30,7 @@ impl Model for Map {
     ghost invariant = { λ a. IsMap (record { size = a.size; sources = a.sources.items }) };
 }
 
-// How many entries from the front are sources. The first `start` of them are known to be.
+// How many entries, from the first on, are sources. The first `start` of them are known to be.
 fn filled_from(sources: &[Option<At>], start: usize) -> usize
     requires { start ≤ position_or_len is_none sources.now }
     ensures { result ≡ position_or_len is_none sources.now }
@@ -37,9 +42,25 @@ fn filled_from(sources: &[Option<At>], start: usize) -> usize
     reached
 }
 
+// Names the places along X from a source on for so many cells, from an index on.
+fn name_run(sources: &mut [Option<At>], start: usize, from: At, w: u32)
+    requires room { start + w ≤ length sources.old }
+    requires sources { (j : ℕ) → j < w → IsSource (plus from (spot j 0 0)) }
+    ensures { sources.new ≡ put_run sources.old (Some start) (source_run from w) }
+{
+    for j in 0..w {
+        let step = At {
+            x: j as i32,
+            y: 0,
+            f: 0,
+        };
+        sources[start + j as usize] = Some(from.plus(step));
+    }
+}
+
 impl Map {
-    /// The map of an output of that size with no source. The one error is want of memory.
-    pub(crate) fn empty(alloc: Global, size: Size) -> Result<Map, AllocError>
+    /// The map of an output of that size with no source. The one error is out of memory.
+    pub fn empty(alloc: Global, size: Size) -> Result<Map, AllocError>
         requires { IsSmall size }
         ensures { IfOk result (λ m. m ≡ empty_map size) }
     {
@@ -57,7 +78,8 @@ impl Map {
 
     /// The source of a cell; None where it is unfilled or outside the output.
     pub fn at(&self, p: At) -> Option<At>
-        ensures { result ≡ map_at self.now p }
+        ensures named { result ≡ map_at self.now p }
+        ensures source { IfSome result IsSource }
     {
         let i = self.size.index_of(p)?;
         self.sources.get(i).copied().flatten()
@@ -71,7 +93,7 @@ impl Map {
     }
 
     /// Names a source for a cell, in place of the one that it has, if any.
-    pub(crate) fn set(&mut self, p: At, from: At)
+    pub fn set(&mut self, p: At, from: At)
         requires inside { IsInside self.old.size p }
         requires source { IsSource from }
         ensures { self.new ≡ with_source self.old p from }
@@ -80,8 +102,20 @@ impl Map {
         self.sources[i] = Some(from);
     }
 
-    /// How many cells from the front, in raster order, are filled. The first `start` of them are known
-    /// to be, and aren't looked at again.
+    /// Names the places along X from a source on for a run of w cells along X, from a cell on; the whole
+    /// run lies inside.
+    pub(crate) fn set_row(&mut self, p: At, from: At, w: u32)
+        requires inside { IsInside self.old.size p }
+        requires room { (p.x +ℤ pos w) ≤ℤ pos self.old.size.w }
+        requires sources { (j : ℕ) → j < w → IsSource (plus from (spot j 0 0)) }
+        ensures { self.new ≡ with_run self.old p from w }
+    {
+        let i = self.size.index_of(p).unwrap();
+        name_run(&mut self.sources, i, from, w);
+    }
+
+    /// How many cells, from the first in raster order on, are filled. The first `start` of them are
+    /// known to be, and aren't looked at again.
     pub(crate) fn filled(&self, start: usize) -> usize
         requires { start ≤ position_or_len is_none self.now.sources }
         ensures { result ≡ position_or_len is_none self.now.sources }

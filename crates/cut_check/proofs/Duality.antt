@@ -19,14 +19,16 @@ use Rattle.box_sums.specs.Sums.{signed_sum_box}
 use Rattle.box_sums.proofs.Additions.{integers}
 use Rattle.box_sums.proofs.Boxes.{box_equal}
 use Rattle.box_sums.proofs.Bounds.{signed_box_at_most, signed_box_pos}
-use Rattle.seam_cost.specs.Costs.{map_within, pair_at, pairs_at, seam_of}
-use Rattle.seam_cost.specs.Lawful.{AreHeld, IsFree, IsLawful, LeavesHeld, StaysOld, is_new, window_after}
-use Rattle.seam_cost.specs.Pairs.{AreCounts, cell_in, has_next, pair_count}
+use Rattle.seams.specs.Costs.{map_within, pair_at, pairs_at, seam_of}
+use Rattle.seams.specs.Lawful.{AreHeld, IsFree, IsLawful, LeavesHeld, StaysOld, is_new, window_after}
+use Rattle.box_walk.specs.Pairs.{AreCounts, cell_in, has_next, pair_count}
 use Rattle.cut_check.specs.declared.record.Flow.{Flow}
 use Rattle.cut_check.specs.declared.record.CutRecord.{CutRecord}
-use Rattle.cut_check.specs.Flows.{IsBounded, IsBoundedAt, flow_at, leaving}
+use Rattle.cut_check.specs.Flows.{IsBounded, IsBoundedAt, pair_flow, leaving}
 use Rattle.cut_check.specs.Records.{Each, IsBalanced, IsBoundedPair, IsPartWhere, IsValue, Setting}
-use Rattle.cut_check.proofs.BoxPairs.{cell_inside, each_cell, next_inside, pair_number_below}
+use Rattle.box_walk.proofs.Cells.{cell_inside, next_inside}
+use Rattle.box_walk.proofs.Indices.{each_cell}
+use Rattle.box_walk.proofs.PairNumbers.{number_below}
 use Rattle.cut_check.proofs.Leaving.{given, given_is_left, no_pair, part_if, part_none}
 
 -- whether a cell with this source before stays old
@@ -77,8 +79,8 @@ module _ (s : Setting) (cut : CutRecord) (marks : AreHeld s.map cut.placement s.
   abbrev cell : ℕ → ℕ → ℕ → At
   cell x y f = cell_in cut.placement.rect x y f
 
-  abbrev behind : Axis → ℕ → ℕ → ℕ → At
-  behind axis x y f = plus (cell x y f) (unit_step axis)
+  abbrev following : Axis → ℕ → ℕ → ℕ → At
+  following axis x y f = plus (cell x y f) (unit_step axis)
 
   -- whether a cell stays old under the other choice
   abbrev stays : At → Bool
@@ -95,18 +97,18 @@ module _ (s : Setting) (cut : CutRecord) (marks : AreHeld s.map cut.placement s.
   pair_gives : (axis : Axis) (x y f : ℕ) → AreCounts size x y f → has_next size axis x y f ≡ true → given stays cut.placement.rect cut.flows axis x y f ≤ℤ pos (pair_at (distance s.sample) within axis (cell x y f))
   pair_gives axis x y f are more =
       let here = cell_inside cut.placement.rect x y f are in
-      let there = next_inside cut.placement.rect axis x y f are more in
-      let bounds : IsBoundedAt (distance s.sample) s.map cut.placement cut.flows axis x y f = bounded _ (pair_number_below size axis x y f are more) axis x y f are more refl in
+      let there = next_inside cut.placement.rect axis x y f (record { counts = are; next = more }) in
+      let bounds : IsBoundedAt (distance s.sample) s.map cut.placement cut.flows axis x y f = bounded _ (number_below size axis x y f (record { counts = are; next = more })) axis x y f are more refl in
       subst (λ n. given stays cut.placement.rect cut.flows axis x y f ≤ℤ pos n)
-      (sym (λ k. seam_of (distance s.sample) axis (within_is (cell x y f) here k) (within_is (behind axis x y f) there k)))
-      (pair_bound (distance s.sample) axis (map_at s.map (cell x y f)) (map_at s.map (behind axis x y f)) (new_source cut.placement (cell x y f)) (new_source cut.placement (behind axis x y f))
-      (flow_at size cut.flows axis x y f) (is_new cut.placement other (cell x y f)) (is_new cut.placement other (behind axis x y f)) bounds (lawful.unfilled (cell x y f) here) (lawful.unfilled (behind axis x y f) there))
+      (sym (λ k. seam_of (distance s.sample) axis (within_is (cell x y f) here k) (within_is (following axis x y f) there k)))
+      (pair_bound (distance s.sample) axis (map_at s.map (cell x y f)) (map_at s.map (following axis x y f)) (new_source cut.placement (cell x y f)) (new_source cut.placement (following axis x y f))
+      (pair_flow size cut.flows axis x y f) (is_new cut.placement other (cell x y f)) (is_new cut.placement other (following axis x y f)) bounds (lawful.unfilled (cell x y f) here) (lawful.unfilled (following axis x y f) there))
 
   -- and where there is none, nothing
   none_gives : (axis : Axis) (x y f n : ℕ) → has_next size axis x y f ≡ false → given stays cut.placement.rect cut.flows axis x y f ≤ℤ pos n
   none_gives axis x y f n e =
       nothing _ _ (part (stays (cell x y f)) _ (ap (λ flow. flow.x) (no_pair size cut.flows axis x y f e)))
-      (part (stays (behind axis x y f)) _ (ap (λ flow. flow.y) (no_pair size cut.flows axis x y f e)))
+      (part (stays (following axis x y f)) _ (ap (λ flow. flow.y) (no_pair size cut.flows axis x y f e)))
     where
       part : (b : Bool) (z : ℤ) → z ≡ pos 0 → part_if b z ≡ pos 0
       part b z none = ap (part_if b) none ∙ part_none b

@@ -8,9 +8,9 @@ use Rattle.cells.proofs.BoxLaws.{box_small}
 use Rattle.source_map.specs.declared.canvas.Placement.{Placement}
 use Rattle.source_map.specs.Choices.{Fits}
 use Rattle.source_map.specs.Maps.{IsMap, SourceMap}
-use Rattle.cut_check.specs.Spots.{FitsOver, LiesIn}
+use Rattle.cut_check.specs.Steps.{LiesOver, LiesIn}
 
-pub fits_of : (m : SourceMap) (sample : Cells) (placement : Placement) → FitsOver m sample placement → Fits m.size sample placement
+pub fits_of : (m : SourceMap) (sample : Cells) (placement : Placement) → LiesOver m sample placement → Fits m.size sample placement
 fits_of m sample placement over = record { some = over.lies.some; inside = over.lies.inside; sources = over.sources }
 
 lies_in : (m : SourceMap) (placement : Placement) → IsMap m → HasCells placement.rect.size → HoldsBox m.size placement.rect.corner placement.rect.size → LiesIn m placement
@@ -18,6 +18,6 @@ lies_in m placement is some inside = record { map = is; some = some; small = box
 
 -- a box in the output fits if its sources are in the sample
 pub fits_if : (m : SourceMap) (sample : Cells) (placement : Placement) (r : Bool) → IsMap m → IsVolume sample → HasCells placement.rect.size → HoldsBox m.size placement.rect.corner placement.rect.size
-    → (IsTrue r ↔ Holds sample placement.from placement.rect.size) → MatchBool r (FitsOver m sample placement) (Fits m.size sample placement → ⊥)
+    → (IsTrue r ↔ Holds sample placement.from placement.rect.size) → MatchBool r (LiesOver m sample placement) (Fits m.size sample placement → ⊥)
 fits_if m sample placement true is volume some inside sources = record { lies = lies_in m placement is some inside; volume = volume; sources = sources.0 refl }
 fits_if m sample placement false is volume some inside sources = λ fits. absurd (false≢true (sources.1 fits.sources))

@@ -10,11 +10,11 @@ use Rattle.cells.specs.Distances.{distance}
 use Rattle.source_map.specs.declared.canvas.Placement.{Placement}
 use Rattle.source_map.specs.Maps.{SourceMap, map_at}
 use Rattle.source_map.specs.Choices.{box_index, chosen}
-use Rattle.seam_cost.specs.Lawful.{AreHeld, AreMarks, IsLawful, IsLeast, IsLeastHeld, LeavesHeld, StaysOld, is_held, marks_of, total_after}
-use Rattle.seam_cost.proofs.Existence.{index_of_cell, new_inside}
-use Rattle.seam_cost.proofs.Locality.{changes_as_window}
+use Rattle.seams.specs.Lawful.{AreHeld, AreMarks, IsLawful, IsLeastChoice, IsLeastHeld, LeavesHeld, StaysOld, is_held, held_marks, total_after}
+use Rattle.seams.proofs.Existence.{index_of_cell, new_inside}
+use Rattle.seams.proofs.Locality.{changes_as_window}
 use Rattle.cut_check.specs.declared.record.CutRecord.{CutRecord}
-use Rattle.cut_check.specs.Records.{IsLawfulCut, Setting, Stands}
+use Rattle.cut_check.specs.Records.{IsLawfulCut, Setting, CutStands}
 use Rattle.cut_check.proofs.Duality.{weak_duality}
 
 -- what a rule says of each index it says of each cell: the choice is lawful, and leaves the held cells
@@ -33,7 +33,7 @@ module _ (s : Setting) (cut : CutRecord) (is : IsLawfulCut s cut) where
       ap (chosen cut.choice) at.1.index ∙ is.old at.0 at.1.below (subst (StaysOld s.map cut.placement s.held) at.1.cell (inr held))
 
 -- no lawful choice that leaves the held cells costs less
-total_at_most : (s : Setting) (cut : CutRecord) → AreHeld s.map cut.placement s.held → Stands s cut → (other : List Bool) → IsLawful s.map cut.placement other → LeavesHeld cut.placement s.held other
+total_at_most : (s : Setting) (cut : CutRecord) → AreHeld s.map cut.placement s.held → CutStands s cut → (other : List Bool) → IsLawful s.map cut.placement other → LeavesHeld cut.placement s.held other
     → total_after (distance s.sample) s.map cut.placement cut.choice ≤ total_after (distance s.sample) s.map cut.placement other
 total_at_most s cut marks stands other lawful leaves =
     compare _ _ _ _ (changes_as_window (distance s.sample) s.map cut.placement stands.lawful.fits.inside cut.choice other (cut_is_lawful s cut stands.lawful) lawful)
@@ -43,7 +43,7 @@ total_at_most s cut marks stands other lawful leaves =
     compare a b v w e le = omega (arith, ints)
 
 -- the choice of a record that stands is least among the lawful ones without a held cell
-pub record_is_least : (s : Setting) (cut : CutRecord) → AreHeld s.map cut.placement s.held → Stands s cut → IsLeastHeld (distance s.sample) s.map cut.placement s.held cut.choice
+pub record_is_least : (s : Setting) (cut : CutRecord) → AreHeld s.map cut.placement s.held → CutStands s cut → IsLeastHeld (distance s.sample) s.map cut.placement s.held cut.choice
 record_is_least s cut marks stands = record {
   one = (cut_is_lawful s cut stands.lawful, cut_leaves_held s cut stands.lawful);
   least = λ other is. total_at_most s cut marks stands other is.0 is.1;
@@ -57,17 +57,17 @@ none_held placement p = by (box_index placement p)
     by None = refl
     by (Some i) = refl
 
-held_filled : (m : SourceMap) (placement : Placement) (held : Option (List Bool)) → IfSome held (AreMarks m placement) → AreHeld m placement (marks_of held)
+held_filled : (m : SourceMap) (placement : Placement) (held : Option (List Bool)) → IfSome held (AreMarks m placement) → AreHeld m placement (held_marks held)
 held_filled m placement None marks = λ p held. absurd (false≢true (sym (none_held placement p) ∙ held))
 held_filled m placement (Some held) marks = marks.filled
 
 -- the same with marks, or without
 pub stands_least : (m : SourceMap) (sample : Cells) (cut : CutRecord) (held : Option (List Bool)) → IfSome held (AreMarks m cut.placement)
-    → Stands (record { map = m; sample = sample; held = marks_of held }) cut → IsLeastHeld (distance sample) m cut.placement (marks_of held) cut.choice
-stands_least m sample cut held marks = record_is_least (record { map = m; sample = sample; held = marks_of held }) cut (held_filled m cut.placement held marks)
+    → CutStands (record { map = m; sample = sample; held = held_marks held }) cut → IsLeastHeld (distance sample) m cut.placement (held_marks held) cut.choice
+stands_least m sample cut held marks = record_is_least (record { map = m; sample = sample; held = held_marks held }) cut (held_filled m cut.placement held marks)
 
 -- where no cell is held, it is least among all lawful ones
-pub stands_least_alone : (m : SourceMap) (sample : Cells) (cut : CutRecord) → Stands (record { map = m; sample = sample; held = [] }) cut → IsLeast (distance sample) m cut.placement cut.choice
+pub stands_least_alone : (m : SourceMap) (sample : Cells) (cut : CutRecord) → CutStands (record { map = m; sample = sample; held = [] }) cut → IsLeastChoice (distance sample) m cut.placement cut.choice
 stands_least_alone m sample cut stands =
     let least = stands_least m sample cut None tt stands in
     record { one = least.one.0; least = λ other lawful. least.least other (lawful, λ p held. absurd (false≢true (sym (none_held cut.placement p) ∙ held))) }

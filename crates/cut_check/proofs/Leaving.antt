@@ -14,10 +14,10 @@ use Rattle.box_sums.specs.Sums.{signed_sum_box}
 use Rattle.box_sums.proofs.Additions.{integers}
 use Rattle.box_sums.proofs.Boxes.{box_equal, box_moved_f, box_moved_x, box_moved_y, box_plus}
 use Rattle.box_sums.proofs.Bounds.{signed_box_minus}
-use Rattle.seam_cost.specs.Pairs.{cell_in, has_next, pair_number}
+use Rattle.box_walk.specs.Pairs.{cell_in, has_next, pair_number}
 use Rattle.cut_check.specs.declared.record.Flow.{Flow}
-use Rattle.cut_check.specs.Flows.{flow_at, flow_into, leaving, leaving_along, no_flow}
-use Rattle.cut_check.proofs.BoxPairs.{cell_behind_f, cell_behind_x, cell_behind_y}
+use Rattle.cut_check.specs.Flows.{pair_flow, flow_into, leaving, leaving_along, no_flow}
+use Rattle.box_walk.proofs.Cells.{next_suc_f, next_suc_x, next_suc_y}
 
 -- a number where a test holds, and 0 elsewhere
 abbrev pub part_if : Bool → ℤ → ℤ
@@ -36,19 +36,19 @@ part_plus true a c e = refl
 part_plus false a c e = refl
 
 -- where there is no pair, nothing flows
-pub no_pair : (size : Size) (flows : List Flow) (axis : Axis) (x y f : ℕ) → has_next size axis x y f ≡ false → flow_at size flows axis x y f ≡ no_flow
+pub no_pair : (size : Size) (flows : List Flow) (axis : Axis) (x y f : ℕ) → has_next size axis x y f ≡ false → pair_flow size flows axis x y f ≡ no_flow
 no_pair size flows axis x y f e = ap (λ b. if b then slice_index_or flows (pair_number size axis x y f) no_flow else no_flow) e
 
 module _ (selected : At → Bool) (rect : Box3) (flows : List Flow) where
-  -- what leaves a cell along an axis, what comes to it from the one before, and what comes to the one behind it
+  -- what leaves a cell along an axis, what comes to it from the one before, and what comes to the next one
   abbrev gone : Axis → ℕ → ℕ → ℕ → ℤ
-  gone axis x y f = part_if (selected (cell_in rect x y f)) (flow_at rect.size flows axis x y f).x
+  gone axis x y f = part_if (selected (cell_in rect x y f)) (pair_flow rect.size flows axis x y f).x
 
   abbrev come : Axis → ℕ → ℕ → ℕ → ℤ
   come axis x y f = part_if (selected (cell_in rect x y f)) (flow_into rect.size flows axis x y f).y
 
   abbrev passed : Axis → ℕ → ℕ → ℕ → ℤ
-  passed axis x y f = part_if (selected (plus (cell_in rect x y f) (unit_step axis))) (flow_at rect.size flows axis x y f).y
+  passed axis x y f = part_if (selected (plus (cell_in rect x y f) (unit_step axis))) (pair_flow rect.size flows axis x y f).y
 
   -- what a pair gives to the selected cells
   abbrev pub given : Axis → ℕ → ℕ → ℕ → ℤ
@@ -66,22 +66,22 @@ module _ (selected : At → Bool) (rect : Box3) (flows : List Flow) where
   comes_from_before : (axis : Axis) → signed_sum_box rect.size (come axis) ≡ signed_sum_box rect.size (passed axis)
   comes_from_before X =
       box_moved_x integers rect.size (come X) (passed X) (λ y f ly lf. part_none (selected (cell_in rect 0 y f)))
-      (λ x y f lx ly lf. ap (λ p. part_if (selected p) (flow_at rect.size flows X x y f).y) (sym (cell_behind_x rect x y f)))
+      (λ x y f lx ly lf. ap (λ p. part_if (selected p) (pair_flow rect.size flows X x y f).y) (sym (next_suc_x rect x y f)))
       (λ x y f e ly lf. none_passed X x y f (le-ltb (x + 1) rect.size.w (omega arith)))
   comes_from_before Y =
       box_moved_y integers rect.size (come Y) (passed Y) (λ x f lx lf. part_none (selected (cell_in rect x 0 f)))
-      (λ x y f lx ly lf. ap (λ p. part_if (selected p) (flow_at rect.size flows Y x y f).y) (sym (cell_behind_y rect x y f)))
+      (λ x y f lx ly lf. ap (λ p. part_if (selected p) (pair_flow rect.size flows Y x y f).y) (sym (next_suc_y rect x y f)))
       (λ x y f lx e lf. none_passed Y x y f (le-ltb (y + 1) rect.size.h (omega arith)))
   comes_from_before F =
       box_moved_f integers rect.size (come F) (passed F) (λ x y lx ly. part_none (selected (cell_in rect x y 0)))
-      (λ x y f lx ly lf. ap (λ p. part_if (selected p) (flow_at rect.size flows F x y f).y) (sym (cell_behind_f rect x y f)))
+      (λ x y f lx ly lf. ap (λ p. part_if (selected p) (pair_flow rect.size flows F x y f).y) (sym (next_suc_f rect x y f)))
       (λ x y f lx ly e. none_passed F x y f (le-ltb (f + 1) rect.size.f (omega arith)))
 
   given_along : (axis : Axis) → signed_sum_box rect.size (given axis) ≡ signed_sum_box rect.size (left_along axis)
   given_along axis =
       signed_box_minus rect.size (gone axis) (passed axis) ∙ ap (λ z. signed_sum_box rect.size (gone axis) -ℤ z) (sym (comes_from_before axis))
       ∙ sym (signed_box_minus rect.size (gone axis) (come axis))
-      ∙ box_equal integers rect.size _ _ (λ x y f lx ly lf. sym (part_minus (selected (cell_in rect x y f)) (flow_at rect.size flows axis x y f).x (flow_into rect.size flows axis x y f).y))
+      ∙ box_equal integers rect.size _ _ (λ x y f lx ly lf. sym (part_minus (selected (cell_in rect x y f)) (pair_flow rect.size flows axis x y f).x (flow_into rect.size flows axis x y f).y))
 
   three : (g h i : ℕ → ℕ → ℕ → ℤ) → signed_sum_box rect.size (λ x y f. (g x y f +ℤ h x y f) +ℤ i x y f) ≡ (signed_sum_box rect.size g +ℤ signed_sum_box rect.size h) +ℤ signed_sum_box rect.size i
   three g h i = box_plus integers rect.size _ _ ∙ ap (λ z. z +ℤ signed_sum_box rect.size i) (box_plus integers rect.size g h)

@@ -1,10 +1,8 @@
-pub mod BoxPairs
 pub mod Leaving
 pub mod Duality
 pub mod Least
-pub mod Numbers
-pub mod Ranks
 pub mod Cells
 pub mod Order
 pub mod Parts
 pub mod Fitting
+pub mod NoFault

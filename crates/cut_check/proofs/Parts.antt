@@ -14,12 +14,12 @@ use Rattle.source_map.specs.declared.canvas.Placement.{Placement}
 use Rattle.source_map.specs.Canvases.{IsFilledOutside, IsKept, MeetsAlong, MeetsOutside}
 use Rattle.source_map.specs.Maps.{SourceMap, IsFilled}
 use Rattle.source_map.proofs.Keeping.{meets_of, meets_third}
-use Rattle.seam_cost.specs.Lawful.{StaysOld, is_held}
-use Rattle.seam_cost.specs.Pairs.{cell_in}
+use Rattle.seams.specs.Lawful.{StaysOld, is_held}
+use Rattle.box_walk.specs.Pairs.{cell_in}
 use Rattle.cut_check.specs.declared.record.CutRecord.{CutRecord}
 use Rattle.cut_check.specs.Flows.{leaving}
 use Rattle.cut_check.specs.Records.{IsPartWhere, Setting}
-use Rattle.cut_check.specs.Spots.{AreParts}
+use Rattle.cut_check.specs.Steps.{ArePartsOfValue}
 
 -- a signed number that can't but be 0 is 0
 stable : (d : ℤ) → ((d ≡ pos 0 → ⊥) → ⊥) → d ≡ pos 0
@@ -101,7 +101,7 @@ pub part_at : Setting → CutRecord → ℕ → ℕ → ℕ → ℤ
 part_at s cut x y f =
     part_if (StaysOld s.map cut.placement s.held (cell_in cut.placement.rect x y f)) (sure_old s.map cut.placement s.held (cell_in cut.placement.rect x y f)) (leaving cut.placement.rect.size cut.flows x y f)
 
-pub parts_are : (s : Setting) (cut : CutRecord) → AreParts s cut (part_at s cut)
+pub parts_are : (s : Setting) (cut : CutRecord) → ArePartsOfValue s cut (part_at s cut)
 unfolding part_at
 parts_are s cut x y f inside =
     part_if_is (StaysOld s.map cut.placement s.held (cell_in cut.placement.rect x y f)) (sure_old s.map cut.placement s.held (cell_in cut.placement.rect x y f)) (leaving cut.placement.rect.size cut.flows x y f)

@@ -1,3 +1,3 @@
 pub mod Flows
 pub mod Records
-pub mod Spots
+pub mod Steps

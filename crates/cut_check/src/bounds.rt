@@ -1,28 +1,27 @@
 // Rule 4: the flow of each pair is within its bounds.
-ghost use Rattle.std.specs.Prelude.{◌≡◌, ◌<◌, ◌≤◌, ◌-ℤ◌, IfNone, IfSome, List, Bool, MatchBool, Some, pos, true};
-ghost use Rattle.cells.specs.declared.place.Box3.{Box3};
+ghost use Rattle.std.specs.Prelude.{◌≡◌, ◌≤◌, ◌-ℤ◌, ◌↔◌, IfNone, IfSome, IsTrue, List, Bool, pos};
 ghost use Rattle.cells.specs.Cells.{Holds, IsVolume};
 ghost use Rattle.cells.specs.Distances.{distance};
-ghost use Rattle.cells.specs.Neighbours.{unit_step};
-ghost use Rattle.cells.specs.Places.{IsSmall, cell_count, plus};
 ghost use Rattle.source_map.specs.Choices.{new_source};
-ghost use Rattle.source_map.specs.Maps.{IsSource, map_at};
-ghost use Rattle.seam_cost.specs.Pairs.{AreCounts, cell_in, has_next, pair_count};
-ghost use Rattle.cut_check.specs.Flows.{IsBetween, IsBetweenOld, IsBounded, IsBoundedAt, LeavesFirst, LeavesNone, LeavesSecond, minus_of};
-ghost use Rattle.cut_check.specs.Records.{Each, IsBoundedPair, IsFirstWithout};
-ghost use Rattle.cut_check.specs.Spots.{EachAxis, FitsOver, HoldsAlong, IsFirstAxis, LiesIn, spot_of};
+ghost use Rattle.source_map.specs.Maps.{IsSource};
+ghost use Rattle.box_walk.specs.Pairs.{AreCounts, cell_in, pair_number};
+ghost use Rattle.box_walk.specs.Walks.{IsWalkIn};
+ghost use Rattle.seams.specs.Costs.{most_of_pair};
+ghost use Rattle.cut_check.specs.Flows.{IsBetween, IsBetweenOld, IsBounded, LeavesFirst, LeavesNone, LeavesSecond, minus_of};
+ghost use Rattle.cut_check.specs.Records.{BoundsAll, IsFirstUnbounded, setting};
+ghost use Rattle.cut_check.specs.Steps.{EachAxis, HoldsAlong, IsFirstAxis, IsLaid, LiesOver};
 
-use crate::flows::{flow_at, has_next, pair_number};
+use crate::flows::flow_at;
 use crate::record::{CutRecord, Flow};
-use crate::spots::{Spot, first_spot, next_spot};
-use cells::{At, Axis, Size, Volume};
-use seam_cost::seam_of;
+use box_walk::{Counts, Walk};
+use cells::{At, Axis, Volume};
+use seams::seam_of;
 use source_map::{Map, Placement};
 
 // A number between minus a cost and the cost.
 fn is_within(cost: u32, z: i16) -> bool
-    requires { cost ≤ 3060 }
-    ensures { MatchBool result (IsBetween (minus_of cost) (pos cost) z) (IsBetween (minus_of cost) (pos cost) z → ⊥) }
+    requires { cost ≤ most_of_pair }
+    ensures { IsTrue result ↔ IsBetween (minus_of cost) (pos cost) z }
 {
     let z = i32::from(z);
     let cost = cost as i32;
@@ -31,16 +30,16 @@ fn is_within(cost: u32, z: i16) -> bool
 
 // A number between 0 and a cost.
 fn is_up_to(cost: u32, z: i32) -> bool
-    requires { cost ≤ 3060 }
-    ensures { MatchBool result (IsBetween (pos 0) (pos cost) z) (IsBetween (pos 0) (pos cost) z → ⊥) }
+    requires { cost ≤ most_of_pair }
+    ensures { IsTrue result ↔ IsBetween (pos 0) (pos cost) z }
 {
     0 <= z && z <= cost as i32
 }
 
 // A number between minus a cost and 0.
 fn is_down_to(cost: u32, z: i16) -> bool
-    requires { cost ≤ 3060 }
-    ensures { MatchBool result (IsBetween (minus_of cost) (pos 0) z) (IsBetween (minus_of cost) (pos 0) z → ⊥) }
+    requires { cost ≤ most_of_pair }
+    ensures { IsTrue result ↔ IsBetween (minus_of cost) (pos 0) z }
 {
     let z = i32::from(z);
     -(cost as i32) <= z && z <= 0
@@ -48,18 +47,18 @@ fn is_down_to(cost: u32, z: i16) -> bool
 
 // What ends between the two cells is between 0 and a cost.
 fn ends_up_to(cost: u32, flow: Flow) -> bool
-    requires { cost ≤ 3060 }
-    ensures { MatchBool result (IsBetween (pos 0) (pos cost) (flow.x -ℤ flow.y)) (IsBetween (pos 0) (pos cost) (flow.x -ℤ flow.y) → ⊥) }
+    requires { cost ≤ most_of_pair }
+    ensures { IsTrue result ↔ IsBetween (pos 0) (pos cost) (flow.x -ℤ flow.y) }
 {
     is_up_to(cost, i32::from(flow.x) - i32::from(flow.y))
 }
 
 // The bounds of a pair with both cells filled.
 fn is_between_old(old_new: u32, new_old: u32, old_old: u32, flow: Flow) -> bool
-    requires old_new { old_new ≤ 3060 }
-    requires new_old { new_old ≤ 3060 }
-    requires old_old { old_old ≤ 3060 }
-    ensures { MatchBool result (IsBetweenOld old_new new_old old_old flow) (IsBetweenOld old_new new_old old_old flow → ⊥) }
+    requires old_new { old_new ≤ most_of_pair }
+    requires new_old { new_old ≤ most_of_pair }
+    requires old_old { old_old ≤ most_of_pair }
+    ensures { IsTrue result ↔ IsBetweenOld old_new new_old old_old flow }
 {
     if !is_within(old_new, flow.x) {
         return false;
@@ -69,23 +68,23 @@ fn is_between_old(old_new: u32, new_old: u32, old_old: u32, flow: Flow) -> bool
 
 // Those of a pair with the first cell filled alone.
 fn leaves_first(old_new: u32, flow: Flow) -> bool
-    requires { old_new ≤ 3060 }
-    ensures { MatchBool result (LeavesFirst old_new flow) (LeavesFirst old_new flow → ⊥) }
+    requires { old_new ≤ most_of_pair }
+    ensures { IsTrue result ↔ LeavesFirst old_new flow }
 {
     is_up_to(old_new, i32::from(flow.x)) && flow.y == 0
 }
 
 // Those of a pair with the second cell filled alone.
 fn leaves_second(new_old: u32, flow: Flow) -> bool
-    requires { new_old ≤ 3060 }
-    ensures { MatchBool result (LeavesSecond new_old flow) (LeavesSecond new_old flow → ⊥) }
+    requires { new_old ≤ most_of_pair }
+    ensures { IsTrue result ↔ LeavesSecond new_old flow }
 {
     flow.x == 0 && is_down_to(new_old, flow.y)
 }
 
 // Those of a pair with neither filled.
 fn leaves_none(flow: Flow) -> bool
-    ensures { MatchBool result (LeavesNone flow) (LeavesNone flow → ⊥) }
+    ensures { IsTrue result ↔ LeavesNone flow }
 {
     flow.x == 0 && flow.y == 0
 }
@@ -104,7 +103,7 @@ fn is_bounded(
     requires b { IfSome b IsSource }
     requires new_a { IsSource new_a }
     requires new_b { IsSource new_b }
-    ensures { MatchBool result (IsBounded (distance sample.now) axis a b new_a new_b flow) (IsBounded (distance sample.now) axis a b new_a new_b flow → ⊥) }
+    ensures { IsTrue result ↔ IsBounded (distance sample.now) axis a b new_a new_b flow }
 {
     match (a, b) {
         (Some(a), Some(b)) => is_between_old(
@@ -119,118 +118,107 @@ fn is_bounded(
     }
 }
 
-// The cell behind one along an axis.
-fn behind(size: Size, axis: Axis, spot: Spot) -> Spot
-    requires small { IsSmall size }
-    requires inside { AreCounts size spot.x spot.y spot.f }
-    requires next { has_next size axis spot.x spot.y spot.f ≡ true }
-    ensures inside { AreCounts size result.x result.y result.f }
-    ensures behind { (rect : Box3) → plus (cell_in rect spot.x spot.y spot.f) (unit_step axis) ≡ cell_in rect result.x result.y result.f }
-{
-    match axis {
-        Axis::X => Spot {
-            x: spot.x + 1,
-            y: spot.y,
-            f: spot.f,
-        },
-        Axis::Y => Spot {
-            x: spot.x,
-            y: spot.y + 1,
-            f: spot.f,
-        },
-        Axis::F => Spot {
-            x: spot.x,
-            y: spot.y,
-            f: spot.f + 1,
-        },
-    }
-}
-
-// The source of a cell of the box.
-#[tactic(auto, using(crate::proofs::Cells::cell_sum_fits, seam_cost::proofs::Near::source_near))]
-fn source_in(map: &Map, placement: &Placement, spot: Spot) -> Option<At>
-    requires lies { LiesIn map.now placement.now }
-    requires inside { AreCounts placement.now.rect.size spot.x spot.y spot.f }
-    ensures source { result ≡ map_at map.now (cell_in placement.now.rect spot.x spot.y spot.f) }
-    ensures near { IfSome result IsSource }
-{
-    map.at(placement.rect.corner.plus(spot.place()))
+// A cell of the box, with its source before the placement and its new one.
+#[derive(Clone, Copy, Debug, Drop)]
+struct Laid {
+    at: Counts,
+    old: Option<At>,
+    new: At,
 }
 
 // The new source of a cell of the box.
 #[tactic(auto, using(crate::proofs::Cells::source_sum_fits))]
-fn new_source(sample: &Volume, placement: &Placement, spot: Spot) -> At
+fn new_source(sample: &Volume, placement: &Placement, at: Counts) -> At
     requires volume { IsVolume sample.now }
     requires sources { Holds sample.now placement.now.from placement.now.rect.size }
-    requires inside { AreCounts placement.now.rect.size spot.x spot.y spot.f }
-    ensures source { result ≡ new_source placement.now (cell_in placement.now.rect spot.x spot.y spot.f) }
+    requires counts { AreCounts placement.now.rect.size at.x at.y at.f }
+    ensures source { result ≡ new_source placement.now (cell_in placement.now.rect at.x at.y at.f) }
     ensures near { IsSource result }
 {
-    placement.from.plus(spot.place())
+    placement.from.plus(at.place())
 }
 
-// Whether the pair of a cell and the one behind it along an axis is within its bounds.
-fn is_bounded_at(map: &Map, sample: &Volume, cut: &CutRecord, axis: Axis, spot: Spot) -> bool
-    requires fits { FitsOver map.now sample.now cut.now.placement }
-    requires inside { AreCounts cut.now.placement.rect.size spot.x spot.y spot.f }
-    requires next { has_next cut.now.placement.rect.size axis spot.x spot.y spot.f ≡ true }
-    ensures { MatchBool result (IsBoundedAt (distance sample.now) map.now cut.now.placement cut.now.flows axis spot.x spot.y spot.f) (IsBoundedAt (distance sample.now) map.now cut.now.placement cut.now.flows axis spot.x spot.y spot.f → ⊥) }
+// The cell of the box at some counts.
+#[tactic(auto, using(crate::proofs::Cells::holds_largest))]
+fn lay(map: &Map, sample: &Volume, placement: &Placement, at: Counts) -> Laid
+    requires lies { LiesOver map.now sample.now placement.now }
+    requires counts { AreCounts placement.now.rect.size at.x at.y at.f }
+    ensures at { result.at ≡ at }
+    ensures laid { IsLaid map.now placement.now result }
 {
-    let placement = &cut.placement;
-    let next = behind(placement.rect.size, axis, spot);
-    is_bounded(
-        sample,
-        axis,
-        source_in(map, placement, spot),
-        source_in(map, placement, next),
-        new_source(sample, placement, spot),
-        new_source(sample, placement, next),
-        flow_at(placement.rect.size, cut.flows.as_slice(), axis, spot),
-    )
+    Laid {
+        at,
+        old: map.at(at.cell(&placement.rect)),
+        new: new_source(sample, placement, at),
+    }
 }
 
 // The pair of a cell along an axis, if it has one, is within its bounds.
-fn holds_along(map: &Map, sample: &Volume, cut: &CutRecord, axis: Axis, spot: Spot) -> bool
-    requires fits { FitsOver map.now sample.now cut.now.placement }
-    requires inside { AreCounts cut.now.placement.rect.size spot.x spot.y spot.f }
-    ensures { MatchBool result (HoldsAlong (distance sample.now) map.now cut.now spot axis) (HoldsAlong (distance sample.now) map.now cut.now spot axis → ⊥) }
+fn holds_along(
+    map: &Map,
+    sample: &Volume,
+    cut: &CutRecord,
+    axis: Axis,
+    first: Laid,
+    number: u64,
+) -> bool
+    requires lies { LiesOver map.now sample.now cut.now.placement }
+    requires laid { IsLaid map.now cut.now.placement first }
+    requires number { number ≡
+        pair_number cut.now.placement.rect.size axis first.at.x first.at.y first.at.f }
+    ensures { IsTrue result ↔ HoldsAlong
+        (distance sample.now) map.now cut.now first.at.x first.at.y first.at.f axis }
 {
-    !has_next(cut.placement.rect.size, axis, spot) || is_bounded_at(map, sample, cut, axis, spot)
+    let size = cut.placement.rect.size;
+    if !first.at.has_next(size, axis) {
+        return true;
+    }
+    let next = lay(map, sample, &cut.placement, first.at.next_along(size, axis));
+    let flow = flow_at(size, cut.flows.as_slice(), axis, first.at, number);
+    is_bounded(sample, axis, first.old, next.old, first.new, next.new, flow)
 }
 
-// The first axis along which a cell's pair isn't.
-fn first_axis(map: &Map, sample: &Volume, cut: &CutRecord, spot: Spot) -> Option<Axis>
-    requires fits { FitsOver map.now sample.now cut.now.placement }
-    requires inside { AreCounts cut.now.placement.rect.size spot.x spot.y spot.f }
-    ensures hold { IfNone result (EachAxis (HoldsAlong (distance sample.now) map.now cut.now spot)) }
-    ensures broken { IfSome result (IsFirstAxis (HoldsAlong (distance sample.now) map.now cut.now spot)) }
+// The first axis along which the pair of a cell isn't.
+fn first_axis(map: &Map, sample: &Volume, cut: &CutRecord, walk: Walk) -> Option<Axis>
+    requires lies { LiesOver map.now sample.now cut.now.placement }
+    requires inside { IsWalkIn cut.now.placement.rect.size walk }
+    ensures hold { IfNone result (EachAxis
+        (HoldsAlong (distance sample.now) map.now cut.now walk.at.x walk.at.y walk.at.f)) }
+    ensures broken { IfSome result (IsFirstAxis
+        (HoldsAlong (distance sample.now) map.now cut.now walk.at.x walk.at.y walk.at.f)) }
 {
-    if !holds_along(map, sample, cut, Axis::X, spot) {
+    let size = cut.placement.rect.size;
+    let first = lay(map, sample, &cut.placement, walk.at);
+    let number = walk.pair_number(size, Axis::X);
+    if !holds_along(map, sample, cut, Axis::X, first, number) {
         return Some(Axis::X);
     }
-    if !holds_along(map, sample, cut, Axis::Y, spot) {
+    let number = walk.pair_number(size, Axis::Y);
+    if !holds_along(map, sample, cut, Axis::Y, first, number) {
         return Some(Axis::Y);
     }
-    if !holds_along(map, sample, cut, Axis::F, spot) {
+    let number = walk.pair_number(size, Axis::F);
+    if !holds_along(map, sample, cut, Axis::F, first, number) {
         return Some(Axis::F);
     }
     None
 }
 
 /// Rule 4: the number of the first pair of the box whose flow isn't within its bounds.
-#[tactic(auto, using(crate::proofs::Cells::counts_at))]
 pub fn first_unbounded(map: &Map, sample: &Volume, cut: &CutRecord) -> Option<u64>
-    requires fits { FitsOver map.now sample.now cut.now.placement }
-    ensures hold { (held : List Bool) → IfNone result (Each (pair_count cut.now.placement.rect.size) (IsBoundedPair (record { map = map.now; sample = sample.now; held = held }) cut.now)) }
-    ensures broken { (held : List Bool) → IfSome result (IsFirstWithout (pair_count cut.now.placement.rect.size) (IsBoundedPair (record { map = map.now; sample = sample.now; held = held }) cut.now)) }
+    requires lies { LiesOver map.now sample.now cut.now.placement }
+    ensures hold { (held : List Bool) → IfNone result
+        (BoundsAll (setting map.now sample.now held) cut.now) }
+    ensures broken { (held : List Bool) →
+        IfSome result (IsFirstUnbounded (setting map.now sample.now held) cut.now) }
 {
     let size = cut.placement.rect.size;
-    let mut spot = first_spot();
-    for i in 0..size.cells() {
-        if let Some(axis) = first_axis(map, sample, cut, spot) {
-            return Some(pair_number(size, axis, spot));
+    let mut walk = Walk::first();
+    'cells: for _ in 0..size.cells() {
+        if let Some(axis) = first_axis(map, sample, cut, walk) {
+            return Some(walk.pair_number(size, axis));
         }
-        spot = next_spot(size, i, spot);
+        walk = walk.next(size);
     }
     None
 }

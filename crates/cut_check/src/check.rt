@@ -3,38 +3,41 @@ ghost use Rattle.std.specs.Prelude.{◌≡◌, ◌<◌, ◌≤◌, IfErr, IfSome
 ghost use Rattle.cells.specs.Boxes.{HasCells};
 ghost use Rattle.cells.specs.Distances.{distance};
 ghost use Rattle.cells.specs.Places.{cell_count};
-ghost use Rattle.source_map.specs.Canvases.{Stands as StandsOver};
+ghost use Rattle.source_map.specs.Canvases.{StandsOver};
 ghost use Rattle.source_map.specs.Choices.{Fits};
-ghost use Rattle.seam_cost.specs.Lawful.{AreMarks, IsLeast, IsLeastHeld, marks_of};
-ghost use Rattle.seam_cost.specs.Pairs.{pair_count};
-ghost use Rattle.cut_check.specs.Records.{IsFirstFault, IsLawfulCut, Stands};
-ghost use Rattle.cut_check.specs.Spots.{FitsOver};
+ghost use Rattle.seams.specs.Lawful.{AreMarks, IsLeastChoice, IsLeastHeld, held_marks};
+ghost use Rattle.box_walk.specs.Pairs.{pair_count};
+ghost use Rattle.cut_check.specs.Records.{CutStands, IsFirstCutFault, IsLawfulCut, setting};
+ghost use Rattle.cut_check.specs.Steps.{LiesOver};
 
+use crate::balance::{is_window, value_of};
 use crate::bounds::first_unbounded;
-use crate::record::{CutFault, CutRecord};
-use crate::rules::{first_new, first_unbalanced, first_unfilled};
-use crate::value::{is_window, value_of};
+use crate::record::{
+    BALANCE_RULE, BOUNDS_RULE, CutFault, CutRecord, FILL_RULE, FIT_RULE, KEEP_RULE, VALUE_RULE,
+};
+use crate::rules::{first_new, first_unfilled};
 use cells::{Box3, Volume};
-use seam_cost::window_after;
+use seams::window_after;
 use source_map::{Canvas, Placement};
 
 // Rule 1, for a box that has a cell.
 pub(crate) fn fits(canvas: &Canvas, sample: &Volume, placement: &Placement) -> bool
     requires { HasCells placement.now.rect.size }
-    ensures { MatchBool result (FitsOver canvas.now.map sample.now placement.now) (Fits canvas.now.map.size sample.now placement.now → ⊥) }
+    ensures { MatchBool result (LiesOver canvas.now.map sample.now placement.now)
+        (Fits canvas.now.map.size sample.now placement.now → ⊥) }
 {
     let sources = Box3 {
         corner: placement.from,
         size: placement.rect.size,
     };
-    // The size is asked only to show the check that the sample is a volume.
-    let _sample = sample.size();
+    // It is asked for only to show the check that the sample is a volume.
+    let _sample = sample.samples();
     canvas.picture().holds(&placement.rect) && sample.holds(&sources)
 }
 
 // The marks of the held cells; none where they are missing.
 fn marks(held: Option<&[bool]>) -> &[bool]
-    ensures { result.now ≡ marks_of (option_copied held.entry) }
+    ensures { result.now ≡ held_marks (option_copied held.entry) }
 {
     held.unwrap_or(&[])
 }
@@ -46,28 +49,36 @@ fn check_flows(
     cut: &CutRecord,
     held: &[bool],
 ) -> Result<(), CutFault>
-    requires fits { FitsOver canvas.now.map sample.now cut.now.placement }
-    requires lawful { IsLawfulCut (record { map = canvas.now.map; sample = sample.now; held = held.now }) cut.now }
-    ensures stands { OnOk result (Stands (record { map = canvas.now.map; sample = sample.now; held = held.now }) cut.now) }
-    ensures fault { IfErr result (IsFirstFault (record { map = canvas.now.map; sample = sample.now; held = held.now }) cut.now) }
+    requires fits { LiesOver canvas.now.map sample.now cut.now.placement }
+    requires lawful { IsLawfulCut (setting canvas.now.map sample.now held.now) cut.now }
+    ensures stands { OnOk result (CutStands (setting canvas.now.map sample.now held.now) cut.now) }
+    ensures fault { IfErr result (IsFirstCutFault
+        (setting canvas.now.map sample.now held.now) cut.now) }
 {
     if let Some(number) = first_unbounded(canvas.map(), sample, cut) {
         return Err(CutFault {
-            kind: 4,
+            kind: BOUNDS_RULE,
             place: number,
         });
     }
-    if let Some(i) = first_unbalanced(canvas, cut, held) {
-        return Err(CutFault {
-            kind: 5,
-            place: i as u64,
-        });
-    }
+    let value = match value_of(canvas, cut, held) {
+        Ok(value) => value,
+        Err(i) => {
+            return Err(CutFault {
+                kind: BALANCE_RULE,
+                place: i as u64,
+            });
+        }
+    };
     let window = window_after(canvas, sample, &cut.placement, cut.choice.as_slice());
-    if !is_window(value_of(canvas, cut, held), window) {
-        return Err(CutFault { kind: 6, place: 0 });
+    if is_window(value, window) {
+        Ok(())
+    } else {
+        Err(CutFault {
+            kind: VALUE_RULE,
+            place: 0,
+        })
     }
-    Ok(())
 }
 
 // The rules after the first.
@@ -77,19 +88,20 @@ pub(crate) fn check_fitting(
     cut: &CutRecord,
     held: &[bool],
 ) -> Result<(), CutFault>
-    requires fits { FitsOver canvas.now.map sample.now cut.now.placement }
-    ensures stands { OnOk result (Stands (record { map = canvas.now.map; sample = sample.now; held = held.now }) cut.now) }
-    ensures fault { IfErr result (IsFirstFault (record { map = canvas.now.map; sample = sample.now; held = held.now }) cut.now) }
+    requires fits { LiesOver canvas.now.map sample.now cut.now.placement }
+    ensures stands { OnOk result (CutStands (setting canvas.now.map sample.now held.now) cut.now) }
+    ensures fault { IfErr result (IsFirstCutFault
+        (setting canvas.now.map sample.now held.now) cut.now) }
 {
     if let Some(i) = first_unfilled(canvas.map(), cut) {
         return Err(CutFault {
-            kind: 2,
+            kind: FILL_RULE,
             place: i as u64,
         });
     }
     if let Some(i) = first_new(canvas, cut, held) {
         return Err(CutFault {
-            kind: 3,
+            kind: KEEP_RULE,
             place: i as u64,
         });
     }
@@ -110,12 +122,18 @@ pub fn check_held(
     requires choice { length cut.now.choice ≡ cell_count cut.now.placement.rect.size }
     requires flows { length cut.now.flows ≡ pair_count cut.now.placement.rect.size }
     requires held { IfSome (option_copied held) (AreMarks canvas.now.map cut.now.placement) }
-    ensures stands { OnOk result (Stands (record { map = canvas.now.map; sample = sample.now; held = marks_of (option_copied held.entry) }) cut.now) }
-    ensures fault { IfErr result (IsFirstFault (record { map = canvas.now.map; sample = sample.now; held = marks_of (option_copied held.entry) }) cut.now) }
-    ensures least { OnOk result (IsLeastHeld (distance sample.now) canvas.now.map cut.now.placement (marks_of (option_copied held.entry)) cut.now.choice) }
+    ensures stands { OnOk result (CutStands
+        (setting canvas.now.map sample.now (held_marks (option_copied held.entry))) cut.now) }
+    ensures fault { IfErr result (IsFirstCutFault
+        (setting canvas.now.map sample.now (held_marks (option_copied held.entry))) cut.now) }
+    ensures least { OnOk result (IsLeastHeld (distance sample.now) canvas.now.map cut.now.placement
+        (held_marks (option_copied held.entry)) cut.now.choice) }
 {
     if !fits(canvas, sample, &cut.placement) {
-        return Err(CutFault { kind: 1, place: 0 });
+        return Err(CutFault {
+            kind: FIT_RULE,
+            place: 0,
+        });
     }
     check_fitting(canvas, sample, cut, marks(held))
 }
@@ -126,9 +144,10 @@ pub fn check_cut(canvas: &Canvas, sample: &Volume, cut: &CutRecord) -> Result<()
     requires cells { HasCells cut.now.placement.rect.size }
     requires choice { length cut.now.choice ≡ cell_count cut.now.placement.rect.size }
     requires flows { length cut.now.flows ≡ pair_count cut.now.placement.rect.size }
-    ensures stands { OnOk result (Stands (record { map = canvas.now.map; sample = sample.now; held = [] }) cut.now) }
-    ensures fault { IfErr result (IsFirstFault (record { map = canvas.now.map; sample = sample.now; held = [] }) cut.now) }
-    ensures least { OnOk result (IsLeast (distance sample.now) canvas.now.map cut.now.placement cut.now.choice) }
+    ensures stands { OnOk result (CutStands (setting canvas.now.map sample.now []) cut.now) }
+    ensures fault { IfErr result (IsFirstCutFault (setting canvas.now.map sample.now []) cut.now) }
+    ensures least { OnOk result (IsLeastChoice
+        (distance sample.now) canvas.now.map cut.now.placement cut.now.choice) }
 {
     check_held(canvas, sample, cut, None)
 }

@@ -6,21 +6,22 @@
 //! accept is least among all lawful choices without a held cell, whoever made it: the flow of the record
 //! bounds the cost of every choice (proofs/Least.antt). No memory is taken.
 //!
-//! `record` has the types, `check` the rules in their order, `rules` those of the choice and of free
-//! cells, `bounds` those of pairs, `value` that of the value, and `flows` the flow of a pair by its number.
+//! `record` has the types, `check` the rules in their order, `rules` those of the choice, `bounds` that of
+//! pairs, `balance` that of free cells with the value, and `flows` the flows of the pairs of a cell. All of
+//! them go over the box by the walk of the crate `box_walk`.
 #![tactic(auto)]
 
+mod balance;
 mod bounds;
 mod check;
 mod flows;
 mod laws;
 mod record;
 mod rules;
-mod spots;
-#[cfg(test)]
-mod tests;
-mod value;
 
 pub use check::{check_cut, check_held};
-pub use laws::choice_of_a_record_is_least;
-pub use record::{CutFault, CutRecord, Flow};
+pub use laws::{choice_of_a_record_is_least, standing_record_has_no_fault};
+pub use record::{
+    BALANCE_RULE, BOUNDS_RULE, CutFault, CutRecord, FILL_RULE, FIT_RULE, Flow, KEEP_RULE,
+    VALUE_RULE,
+};

@@ -24,15 +24,25 @@ pub struct CutRecord {
     pub flows: Items<Flow>,
 }
 
+/// Rule 1: the placement fits.
+pub const FIT_RULE: u32 = 1;
+/// Rule 2: each unfilled cell of the box is new.
+pub const FILL_RULE: u32 = 2;
+/// Rule 3: no kept or held cell is new.
+pub const KEEP_RULE: u32 = 3;
+/// Rule 4: the flow of each pair is within its bounds.
+pub const BOUNDS_RULE: u32 = 4;
+/// Rule 5: as much leaves each free cell as comes to it.
+pub const BALANCE_RULE: u32 = 5;
+/// Rule 6: what leaves the kept and held cells is the window sum of the box after the choice.
+pub const VALUE_RULE: u32 = 6;
+
 /// The first rule that a cut record breaks.
 #[derive(Clone, Copy, Debug, Drop, PartialEq, Eq)]
 pub struct CutFault {
-    /// The number of the rule: 1, the placement fits; 2, each unfilled cell is new; 3, no kept or held
-    /// cell is new; 4, the flow of each pair is within its bounds; 5, as much leaves each free cell as
-    /// comes to it; 6, what leaves the kept and held cells is the window sum of the box after the
-    /// choice.
+    /// The number of the rule, from `FIT_RULE` to `VALUE_RULE`.
     pub kind: u32,
-    /// The first place where it is broken: for rules 2, 3 and 5 the index of a cell in the box, in raster
-    /// order, for rule 4 the number of a pair, and 0 for rules 1 and 6.
+    /// The first place where it is broken: for `FILL_RULE`, `KEEP_RULE` and `BALANCE_RULE` the index of a
+    /// cell in the box, in raster order, for `BOUNDS_RULE` the number of a pair, and 0 for the others.
     pub place: u64,
 }

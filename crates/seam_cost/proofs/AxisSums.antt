@@ -16,11 +16,12 @@ use Rattle.cells.proofs.Raster.{index_of_spot}
 use Rattle.box_sums.specs.Sums.{sum_box}
 use Rattle.box_sums.proofs.Additions.{counts}
 use Rattle.box_sums.proofs.Boxes.{box_equal, box_part, box_plus}
-use Rattle.seam_cost.specs.Costs.{map_within, pair_at, seam_of, window_at}
-use Rattle.seam_cost.specs.Pairs.{AreCounts}
-use Rattle.seam_cost.specs.Places.{in_box}
+use Rattle.seams.specs.Costs.{map_within, pair_at, seam_of}
+use Rattle.seam_cost.specs.Windows.{window_at}
+use Rattle.box_walk.specs.Pairs.{AreCounts}
+use Rattle.box_walk.specs.Pairs.{in_box}
 use Rattle.seam_cost.specs.Slides.{axis_sum, less_one}
-use Rattle.seam_cost.proofs.Wholes.{outside_none}
+use Rattle.seams.proofs.Wholes.{outside_none}
 
 -- the cells of a box are those whose counts are below its axes
 pub in_box_of : (rect : Box3) (x y f : ℕ) → AreCounts rect.size x y f → IsInBox rect (plus rect.corner (spot x y f))

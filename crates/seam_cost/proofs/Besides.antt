@@ -10,10 +10,10 @@ use Rattle.source_map.specs.declared.canvas.Placement.{Placement}
 use Rattle.source_map.specs.Choices.{IsAfter, after_at, box_index, chosen, new_source}
 use Rattle.source_map.specs.Maps.{SourceMap, map_at}
 use Rattle.std.specs.Prelude.{Some}
-use Rattle.seam_cost.specs.Costs.{map_within, pairs_at, window_of}
-use Rattle.seam_cost.specs.Places.{in_box}
-use Rattle.seam_cost.specs.Tables.{IsRight, IsRightBeside, WindowSums}
-use Rattle.seam_cost.proofs.Wholes.{no_index}
+use Rattle.seams.specs.Costs.{map_within, pairs_at, window_of}
+use Rattle.box_walk.specs.Pairs.{in_box}
+use Rattle.seam_cost.specs.Tables.{IsRight, IsRightBeside, SameBeside, WindowSums}
+use Rattle.seams.proofs.Wholes.{no_index}
 
 -- outside its box a choice changes nothing
 outside_same : (before : SourceMap) (placement : Placement) (choice : List Bool) (p : At) → (IsInBox placement.rect p → ⊥) → after_at before placement choice p ≡ map_at before p
@@ -34,9 +34,16 @@ window_same d rect m n same = λ k. sum_box rect.size (λ x y f. pairs_at d (λ 
         by true is = ap (λ b. if b then m p else None) is ∙ same p is ∙ sym (ap (λ b. if b then n p else None) is)
         by false is = ap (λ b. if b then m p else None) is ∙ sym (ap (λ b. if b then n p else None) is)
 
+-- a table that was right is right beside a box in which alone the map has changed
+pub right_beside_change : (d : At → At → ℕ) (m n : At → Option At) (changed : Box3) (table : WindowSums)
+    → SameBeside changed m n → IsRight d m table → IsRightBeside d n changed table
+right_beside_change d m n changed table same is corner untouched i at =
+    is corner i at
+    ∙ window_same d (record { corner = corner; size = table.window }) m n
+    (λ p inside. sym (same p (λ here. untouched (record { cell = p; in_window = inside; in_box = here }))))
+
 pub right_beside_choice : (d : At → At → ℕ) (before after : SourceMap) (placement : Placement) (choice : List Bool) (table : WindowSums)
     → IsAfter before placement choice after → IsRight d (map_at before) table → IsRightBeside d (map_at after) placement.rect table
-right_beside_choice d before after placement choice table is right corner untouched i at =
-    right corner i at
-    ∙ window_same d (record { corner = corner; size = table.window }) (map_at before) (map_at after)
-    (λ p inside. sym (is.sources p ∙ outside_same before placement choice p (λ changed. untouched (record { cell = p; in_window = inside; in_box = changed }))))
+right_beside_choice d before after placement choice table is =
+    right_beside_change d (map_at before) (map_at after) placement.rect table
+    (λ p out. is.sources p ∙ outside_same before placement choice p out)

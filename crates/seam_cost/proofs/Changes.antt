@@ -7,37 +7,33 @@ use Rattle.cells.specs.declared.place.At.{At}
 use Rattle.cells.specs.declared.place.Size.{Size}
 use Rattle.cells.specs.declared.place.Box3.{Box3}
 use Rattle.cells.specs.Boxes.{HasCells}
-use Rattle.cells.specs.Places.{index_in, minus, on_axis, spot}
+use Rattle.cells.specs.Places.{index_in, minus, on_axis, raster_index, spot}
 use Rattle.cells.proofs.BoxTests.{of_inside, on_axis_bounds}
 use Rattle.cells.proofs.Raster.{index_parts}
 use Rattle.seam_cost.specs.declared.block.Block.{Block}
 use Rattle.seam_cost.specs.declared.block.Run.{Run}
-use Rattle.seam_cost.specs.Costs.{window_at}
-use Rattle.seam_cost.specs.Pairs.{AreCounts}
-use Rattle.seam_cost.specs.Slides.{HoldsBlock, IsInBlock, IsOnRun, block_size, index_at}
+use Rattle.seam_cost.specs.Windows.{window_at}
+use Rattle.box_walk.specs.Pairs.{AreCounts}
+use Rattle.seam_cost.specs.Slides.{AreApart, AreOthers, HoldsBlock, IsInBlock, IsOnRun, block_size}
 use Rattle.seam_cost.specs.Tables.{IsRight, IsRightAt, Touches, corners}
 use Rattle.seam_cost.proofs.Rows.{one_row}
-
--- a run of cells ends before another, or begins behind it
-abbrev pub AreApart : ℕ → ℕ → ℤ → ℕ → Type 0
-AreApart c window from len = ((pos c +ℤ pos window) ≤ℤ from) ⊎ ((from +ℤ pos len) ≤ℤ pos c)
 
 -- then they share no cell
 apart : (c window : ℕ) (z from : ℤ) (len : ℕ) → IsSome (on_axis window (z -ℤ pos c)) → IsSome (on_axis len (z -ℤ from)) → AreApart c window from len → ⊥
 apart c window z from len own other out =
     let a = on_axis_bounds window (z -ℤ pos c) own in
     let b = on_axis_bounds len (z -ℤ from) other in
-    ⊎_elim (λ before. absurd (omega (arith, ints, a.0, a.1, b.0, b.1, before))) (λ behind. absurd (omega (arith, ints, a.0, a.1, b.0, b.1, behind))) out
+    ⊎_elim (λ before. absurd (omega (arith, ints, a.0, a.1, b.0, b.1, before))) (λ past. absurd (omega (arith, ints, a.0, a.1, b.0, b.1, past))) out
 
--- a count is on a run, or before it or behind it
+-- a count is on a run, or before it or past it
 on_run : (run : Run) (c : ℕ) → IsOnRun run c ⊎ ((c < run.from) ⊎ (run.from + run.len ≤ c))
 on_run run c = ⊎_elim
     (λ before. inr (inl before))
-    (λ from. ⊎_elim (λ lt. inl (from, lt)) (λ behind. inr (inr behind)) (cases_lt c (run.from + run.len)))
+    (λ from. ⊎_elim (λ lt. inl (from, lt)) (λ past. inr (inr past)) (cases_lt c (run.from + run.len)))
     (cases_lt c run.from)
 
 off_run : (run : Run) (c : ℕ) → (c < run.from) ⊎ (run.from + run.len ≤ c) → IsOnRun run c → ⊥
-off_run run c out on = ⊎_elim (λ before. absurd (omega (arith, on.0))) (λ behind. absurd (omega (arith, on.1))) out
+off_run run c out on = ⊎_elim (λ before. absurd (omega (arith, on.0))) (λ past. absurd (omega (arith, on.1))) out
 
 pub in_block : (block : Block) (x y f : ℕ) → IsInBlock block x y f ⊎ (IsInBlock block x y f → ⊥)
 in_block block x y f = ⊎_elim
@@ -54,10 +50,6 @@ in_block block x y f = ⊎_elim
 -- a block with a cell has cells on each axis
 pub cells_of_block : (block : Block) (x y f : ℕ) → IsInBlock block x y f → HasCells (block_size block)
 cells_of_block block x y f inside = record { w = omega (arith, inside.column); h = omega (arith, inside.row); f = omega (arith, inside.frame) }
-
--- the corners that are on no run of those whose windows may meet the change on an axis
-abbrev pub AreOthers : ℕ → ℕ → ℤ → ℕ → Run → Type 0
-AreOthers count window from len run = (c : ℕ) → c < count → (c < run.from) ⊎ (run.from + run.len ≤ c) → AreApart c window from len
 
 pub others_beside : (size window : Size) (changed : Box3) (block : Block)
     → AreOthers size.w window.w changed.corner.x changed.size.w block.x → AreOthers size.h window.h changed.corner.y changed.size.h block.y
@@ -78,7 +70,7 @@ others_beside size window changed block ox oy of x y f are out touches =
     (on_run block.x x)
 
 -- three counts by their index
-one_index : (size : Size) (x y f a b c : ℕ) → AreCounts size x y f → AreCounts size a b c → index_at size x y f ≡ index_at size a b c → (x ≡ a) × (y ≡ b) × (f ≡ c)
+one_index : (size : Size) (x y f a b c : ℕ) → AreCounts size x y f → AreCounts size a b c → raster_index size x y f ≡ raster_index size a b c → (x ≡ a) × (y ≡ b) × (f ≡ c)
 one_index size x y f a b c p q e =
     let rows = one_row size.w x (y + size.h * f) a (b + size.h * c) p.column q.column e in
     let frames = one_row size.h y f b c p.row q.row rows in
@@ -86,8 +78,8 @@ one_index size x y f a b c p q e =
 
 -- a table is right where the sums of a block are, and no other sum has changed that wasn't right
 pub right_of : (d : At → At → ℕ) (m : At → Option At) (output window : Size) (block : Block) (old sums : List ℕ) → HoldsBlock (corners output window) block
-    → ((x y f : ℕ) → IsInBlock block x y f → get_or sums (index_at (corners output window) x y f) 0 ≡ window_at d window m (spot x y f))
-    → ((i : ℕ) → ((x y f : ℕ) → IsInBlock block x y f → i ≡ index_at (corners output window) x y f → ⊥) → get_or sums i 0 ≡ get_or old i 0)
+    → ((x y f : ℕ) → IsInBlock block x y f → get_or sums (raster_index (corners output window) x y f) 0 ≡ window_at d window m (spot x y f))
+    → ((i : ℕ) → ((x y f : ℕ) → IsInBlock block x y f → i ≡ raster_index (corners output window) x y f → ⊥) → get_or sums i 0 ≡ get_or old i 0)
     → ((x y f : ℕ) → AreCounts (corners output window) x y f → (IsInBlock block x y f → ⊥) → IsRightAt d m (record { output = output; window = window; sums = old }) (spot x y f))
     → IsRight d m (record { output = output; window = window; sums = sums })
 right_of d m output window block old sums holds put others beside corner i at =

@@ -6,7 +6,7 @@ use Rattle.cells.specs.declared.place.At.{At}
 use Rattle.cells.specs.declared.place.Axis.TheVariants.{X}
 use Rattle.cells.specs.Neighbours.{unit_step}
 use Rattle.cells.specs.Places.{plus, spot}
-use Rattle.seam_cost.specs.Costs.{pair_at, seam_of}
+use Rattle.seams.specs.Costs.{pair_at, seam_of}
 
 next_in_row : (x y f : ℕ) → plus (spot x y f) (unit_step X) ≡ spot (x + 1) y f
 next_in_row x y f = λ k. record { x = more x k; y = same y k; f = same f k }

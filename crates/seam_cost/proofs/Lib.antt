@@ -1,9 +1,3 @@
-pub mod Near
-pub mod Wholes
-pub mod Boxes
-pub mod Locality
-pub mod Existence
-pub mod Windows
 pub mod Runs
 pub mod Rows
 pub mod Worsts
@@ -11,6 +5,5 @@ pub mod Reaches
 pub mod AxisSums
 pub mod Changes
 pub mod Besides
-pub mod Placing
-pub mod Copies
 pub mod Fills
+pub mod OneWorst

@@ -8,13 +8,13 @@ use Rattle.cells.specs.declared.place.Size.{Size}
 use Rattle.cells.specs.declared.place.Axis.{Axis}
 use Rattle.cells.specs.declared.place.Axis.TheVariants.{X, Y, F}
 use Rattle.cells.specs.Boxes.{HasCells}
-use Rattle.cells.specs.Places.{IsSmall, cell_count, spot}
+use Rattle.cells.specs.Places.{IsSmall, cell_count, raster_index, spot}
 use Rattle.cells.proofs.Raster.{in_rows}
 use Rattle.box_sums.proofs.Additions.{counts}
 use Rattle.box_sums.proofs.Boxes.{box_equal, box_none}
 use Rattle.seam_cost.specs.declared.block.Block.{Block}
-use Rattle.seam_cost.specs.Costs.{pair_at}
-use Rattle.seam_cost.specs.Slides.{HoldsBlock, IsInBlock, axis_sum, block_size, box_run, index_at, less_one, reach_of, row_offset, row_start}
+use Rattle.seams.specs.Costs.{pair_at}
+use Rattle.seam_cost.specs.Slides.{AreCosts, HoldsBlock, IsInBlock, axis_sum, block_size, box_run, less_one, reach_of, row_offset, row_start}
 use Rattle.seam_cost.specs.Tables.{IsWindow, corners}
 use Rattle.seam_cost.proofs.Rows.{frame_below, row_below}
 
@@ -65,15 +65,9 @@ less_at_most X size = record { w = omega arith; h = omega arith; f = omega arith
 less_at_most Y size = record { w = omega arith; h = omega arith; f = omega arith }
 less_at_most F size = record { w = omega arith; h = omega arith; f = omega arith }
 
--- the index of a cell some columns, rows and frames behind another
-index_behind : (w h k x yr y fr f : ℕ) → w * (yr + h * fr) + k + w * h * f + w * y + 1 * x ≡ k + x + w * (yr + y + h * (fr + f))
-index_behind w h k x yr y fr f = omega arith
-
--- the costs of the rows of a reach
-abbrev pub AreCosts : (At → At → ℕ) → (At → Option At) → Axis → Block → List ℕ → Type 0
-AreCosts d m axis reach costs =
-    (row k : ℕ) → row < reach.y.len * reach.f.len → k < reach.x.len
-    → get_or costs (k + reach.x.len * row) 0 ≡ pair_at d m axis (spot (reach.x.from + k) (reach.y.from + row % reach.y.len) (reach.f.from + row / reach.y.len))
+-- the index of a cell some columns, rows and frames after another
+index_on : (w h k x yr y fr f : ℕ) → w * (yr + h * fr) + k + w * h * f + w * y + 1 * x ≡ k + x + w * (yr + y + h * (fr + f))
+index_on w h k x yr y fr f = omega arith
 
 -- the runs of the costs from the first cells of the reach on are what the pairs cost in the windows there
 pub axis_of_runs : (d : At → At → ℕ) (m : At → Option At) (axis : Axis) (window : Size) (block : Block) (costs sums : List ℕ) → HasCells window
@@ -109,7 +103,7 @@ axis_of_runs d m axis window block costs sums some are runs row k below lt =
         let ex : block.x.from + (k + x) ≡ block.x.from + k + x = omega arith in
         let ey : block.y.from + (row % block.y.len + y + size.h * (row / block.y.len + f)) % size.h ≡ block.y.from + row % block.y.len + y = omega (arith, parts.0) in
         let ef : block.f.from + (row % block.y.len + y + size.h * (row / block.y.len + f)) / size.h ≡ block.f.from + row / block.y.len + f = omega (arith, parts.1) in
-        ap (λ p. get_or costs p 0) (index_behind size.w size.h k x (row % block.y.len) y (row / block.y.len) f)
+        ap (λ p. get_or costs p 0) (index_on size.w size.h k x (row % block.y.len) y (row / block.y.len) f)
         ∙ are (row % block.y.len + y + size.h * (row / block.y.len + f)) (k + x) (in_rows size.h size.f (row / block.y.len + f) (row % block.y.len + y) row' frame) column
         ∙ (λ i. pair_at d m axis (spot (ex i) (ey i) (ef i)))
 
@@ -126,7 +120,7 @@ pub record IsRowOf (size : Size) (block : Block) (x y f row k : ℕ) : Type 0 wh
   pub x_is : block.x.from + k ≡ x
   pub y_is : block.y.from + row % block.y.len ≡ y
   pub f_is : block.f.from + row / block.y.len ≡ f
-  pub index : row_start size block row + k ≡ index_at size x y f
+  pub index : row_start size block row + k ≡ raster_index size x y f
 
 pub row_of : (size : Size) (block : Block) (x y f : ℕ) → IsInBlock block x y f
     → IsRowOf size block x y f (y - block.y.from + block.y.len * (f - block.f.from)) (x - block.x.from)
@@ -161,7 +155,7 @@ cell_of_row block row k below lt =
       frame = (omega arith, omega arith);
     }
 
-pub index_of_row : (size : Size) (block : Block) (row k : ℕ) → row_start size block row + k ≡ index_at size (block.x.from + k) (block.y.from + row % block.y.len) (block.f.from + row / block.y.len)
+pub index_of_row : (size : Size) (block : Block) (row k : ℕ) → row_start size block row + k ≡ raster_index size (block.x.from + k) (block.y.from + row % block.y.len) (block.f.from + row / block.y.len)
 index_of_row size block row k = last block.x.from (size.w * (block.y.from + row % block.y.len + size.h * (block.f.from + row / block.y.len))) k
   where
     last : (a n k : ℕ) → a + n + k ≡ a + k + n

@@ -9,7 +9,7 @@ use Rattle.cells.specs.declared.place.Size.{Size}
 use Rattle.cells.specs.Places.{cell_count}
 use Rattle.cells.proofs.Raster.{in_rows, run_in_rows}
 use Rattle.seam_cost.specs.declared.block.Block.{Block}
-use Rattle.seam_cost.specs.Slides.{HoldsBlock, kept, row_start, row_offset}
+use Rattle.seam_cost.specs.Slides.{HoldsBlock, number_if, row_start, row_offset}
 
 -- the counts of a row
 pub row_below : (h n row : ℕ) → row < h * n → row % h < h
@@ -24,7 +24,7 @@ frame_below h n row lt = ⊎_elim
     (λ from. let some = row_below h n row lt in absurd (omega (arith, mul-le-mul_left h from)))
     (cases_lt (row / h) n)
 
--- an entry of a list with a row written over a part of it: before the row, in it, and behind it
+-- an entry of a list with a row written over a part of it: before the row, in it, and after it
 pub before_row : (made row : List ℕ) (a k q : ℕ) → q < a → a ≤ length made → get_or (put_mid a k made row) q 0 ≡ get_or made q 0
 before_row made row a k q lt fits =
     get_or_append_left (take a made) (row ++ post_of a k made) 0 q (omega (arith, length-take-le a made fits)) ∙ get_or-take a made q 0 lt
@@ -34,8 +34,8 @@ in_row made row a k q lt fits =
     subst (λ p. get_or (put_mid a k made row) (p + q) 0 ≡ get_or (row ++ post_of a k made) q 0) (length-take-le a made fits) (get_or-append-add (take a made) (row ++ post_of a k made) q 0)
     ∙ get_or_append_left row (post_of a k made) 0 q lt
 
-pub behind_row : (made row : List ℕ) (a k q : ℕ) → a + k ≤ q → length row ≡ k → a + k ≤ length made → get_or (put_mid a k made row) q 0 ≡ get_or made q 0
-behind_row made row a k q le long fits =
+pub after_row : (made row : List ℕ) (a k q : ℕ) → a + k ≤ q → length row ≡ k → a + k ≤ length made → get_or (put_mid a k made row) q 0 ≡ get_or made q 0
+after_row made row a k q le long fits =
     let r = q - (a + k) in
     let place : q ≡ a + (k + r) = omega arith in
     ap (λ p. get_or (put_mid a k made row) p 0) place
@@ -122,7 +122,7 @@ rows_apart size block row r k i holds lt less lk li e =
 
 -- one more row put into sums
 pub record RowsPut (w row : ℕ) (start offset : ℕ → ℕ) (keep : Bool) (old more sums : List ℕ) : Type 0 where
-  pub put : (r k : ℕ) → r < row → k < w → get_or sums (start r + k) 0 ≡ kept keep (get_or old (start r + k) 0) + get_or more (offset r + k) 0
+  pub put : (r k : ℕ) → r < row → k < w → get_or sums (start r + k) 0 ≡ number_if keep (get_or old (start r + k) 0) + get_or more (offset r + k) 0
   pub others : (i : ℕ) → ((r k : ℕ) → r < row → k < w → i ≡ start r + k → ⊥) → get_or sums i 0 ≡ get_or old i 0
 
 -- what stood where the row comes, and what comes there
@@ -138,7 +138,7 @@ row_more w from offset more at k lt = in_part more from w k lt ∙ ap (λ p. get
 pub rows_put : (w row to from : ℕ) (start offset : ℕ → ℕ) (keep : Bool) (old more sums new : List ℕ) → RowsPut w row start offset keep old more sums
     → to ≡ start row → from ≡ offset row → to + w ≤ length sums → length new ≡ w
     → ((r k i : ℕ) → r < row → k < w → i < w → start r + k ≡ start row + i → ⊥)
-    → ((k : ℕ) → k < w → get_or new k 0 ≡ kept keep (get_or (take (to + w - to) (drop to sums)) k 0) + get_or (take (from + w - from) (drop from more)) k 0)
+    → ((k : ℕ) → k < w → get_or new k 0 ≡ number_if keep (get_or (take (to + w - to) (drop to sums)) k 0) + get_or (take (from + w - from) (drop from more)) k 0)
     → RowsPut w (row + 1) start offset keep old more (put_mid to (to + w - to) sums new)
 rows_put w row to from start offset keep old more sums new put at off fits long apart here = record {
   put = λ r k below lt. ⊎_elim
@@ -149,8 +149,8 @@ rows_put w row to from start offset keep old more sums new put at off fits long 
       let same : r ≡ row = omega arith in
       let place : start r + k ≡ to + k = omega (arith, at, ap start same) in
       ap (λ p. get_or written p 0) place ∙ in_row sums new to (to + w - to) k (omega arith) (omega arith) ∙ here k lt
-      ∙ (λ j. kept keep (row_before w row to start offset keep old more sums put at apart k lt j) + row_more w from (offset row) more off k lt j)
-      ∙ (λ j. kept keep (get_or old (start (sym same j) + k) 0) + get_or more (offset (sym same j) + k) 0))
+      ∙ (λ j. number_if keep (row_before w row to start offset keep old more sums put at apart k lt j) + row_more w from (offset row) more off k lt j)
+      ∙ (λ j. number_if keep (get_or old (start (sym same j) + k) 0) + get_or more (offset (sym same j) + k) 0))
       (cases_lt r row);
   others = λ i none.
       elsewhere i (λ k lt e. none row k (omega arith) lt e) ∙ put.others i (λ r k less lt e. none r k (omega arith) lt e);
@@ -164,6 +164,6 @@ rows_put w row to from start offset keep old more sums new put at off fits long 
         (λ before. before_row sums new to (to + w - to) q before (omega arith))
         (λ from'. ⊎_elim
         (λ inside. absurd (out (q - to) (omega arith) (omega (arith, at))))
-        (λ behind. behind_row sums new to (to + w - to) q (omega arith) (omega arith) (omega arith))
+        (λ past. after_row sums new to (to + w - to) q (omega arith) (omega arith) (omega arith))
         (cases_lt q (to + w)))
         (cases_lt q to)

@@ -1,15 +1,15 @@
--- Sums of runs of entries at equal steps, by the sums of all entries behind.
+-- Sums of runs of entries at equal steps, by the sums of all entries after.
 use Rattle.std.proofs.Common.{◌≡◌, ℕ, zero, suc, ◌+◌, ◌*◌, ◌≤◌, List, get_or, ap, arith}
 use Rattle.box_sums.specs.Sums.{sum_to}
 use Rattle.box_sums.proofs.Bounds.{sum_bound}
 
--- where each sum has its own entry and the sum one step behind, it has a run and the sum behind the run
-pub sum_behind : (old sums : List ℕ) (step : ℕ) → ((j : ℕ) → get_or sums j 0 ≡ get_or old j 0 + get_or sums (j + step) 0)
+-- where each sum has its own entry and the sum one step on, it has a run and the sum after the run
+pub sum_after : (old sums : List ℕ) (step : ℕ) → ((j : ℕ) → get_or sums j 0 ≡ get_or old j 0 + get_or sums (j + step) 0)
     → (n j : ℕ) → get_or sums j 0 ≡ sum_to n (λ t. get_or old (j + step * t) 0) + get_or sums (j + step * n) 0
-sum_behind old sums step each zero j = let here : j ≡ j + step * 0 = omega arith in omega (arith, ap (λ k. get_or sums k 0) here)
-sum_behind old sums step each (suc n) j =
+sum_after old sums step each zero j = let here : j ≡ j + step * 0 = omega arith in omega (arith, ap (λ k. get_or sums k 0) here)
+sum_after old sums step each (suc n) j =
     let next : j + step * n + step ≡ j + step * suc n = omega arith in
-    omega (arith, sum_behind old sums step each n j, each (j + step * n), ap (λ k. get_or sums k 0) next)
+    omega (arith, sum_after old sums step each n j, each (j + step * n), ap (λ k. get_or sums k 0) next)
 
 -- one entry is the sum of a run of one
 pub run_of_one : (old : List ℕ) (step len j : ℕ) → len ≡ 1 → get_or old j 0 ≡ sum_to len (λ t. get_or old (j + step * t) 0)

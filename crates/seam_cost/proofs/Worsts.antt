@@ -10,8 +10,8 @@ use Rattle.cells.specs.Places.{cell_count, index_in, place_of}
 use Rattle.cells.specs.Boxes.{AxisHolds, HoldsBox}
 use Rattle.cells.proofs.Raster.{index_below, index_of_spot, index_parts, place_at}
 use Rattle.seam_cost.proofs.Rows.{row_at_most}
-use Rattle.seam_cost.specs.Costs.{IsWorst, NotBehind, window_at}
-use Rattle.seam_cost.specs.Tables.{IsGreatest, IsRight, IsTable, IsWindow, WindowSums, corners}
+use Rattle.seam_cost.specs.Windows.{IsWorst, NotAfter, window_at}
+use Rattle.seam_cost.specs.Tables.{IsGreatest, IsRight, IsSumTable, IsWindow, WindowSums, corners}
 
 pub greatest_of_one : (xs : List ℕ) → IsGreatest xs 1 0
 greatest_of_one xs = record {
@@ -60,9 +60,9 @@ wider w wide x r a s lx la le lt = ⊎_elim
     (cases_lt r s)
 
 -- nor does the order of raster indices
-not_behind : (w h wide high x y f a b c : ℕ) → x < w → y < h → a < w → b < h → w ≤ wide → h ≤ high
+not_after : (w h wide high x y f a b c : ℕ) → x < w → y < h → a < w → b < h → w ≤ wide → h ≤ high
     → x + w * (y + h * f) ≤ a + w * (b + h * c) → x + wide * (y + high * f) ≤ a + wide * (b + high * c)
-not_behind w h wide high x y f a b c lx ly la lb lw lh le = ⊎_elim
+not_after w h wide high x y f a b c lx ly la lb lw lh le = ⊎_elim
     (λ less.
     let more : y + high * f + 1 ≤ b + high * c = omega (arith, wider h high y f b c ly lb lh less) in
     omega (arith, mul-le-mul_left wide more))
@@ -106,14 +106,14 @@ index_of_window output window corner is holds =
 
 -- raster order of corners is that of the output
 corners_in_order : (output window : Size) (p q : At) (i j : ℕ) → IsWindow output window
-    → index_in (corners output window) p ≡ Some i → index_in (corners output window) q ≡ Some j → i ≤ j → NotBehind output p q
+    → index_in (corners output window) p ≡ Some i → index_in (corners output window) q ≡ Some j → i ≤ j → NotAfter output p q
 corners_in_order output window p q i j is ep eq le = λ n m en em.
     let size = corners output window in
     let a = index_parts size p i ep in
     let b = index_parts size q j eq in
     let c = index_parts output p n en in
     let d = index_parts output q m em in
-    let order = not_behind size.w size.h output.w output.h a.x a.y a.f b.x b.y b.f a.x_on.below a.y_on.below b.x_on.below b.y_on.below (omega (arith, is.some.w)) (omega (arith, is.some.h)) (omega (arith, le, a.index, b.index)) in
+    let order = not_after size.w size.h output.w output.h a.x a.y a.f b.x b.y b.f a.x_on.below a.y_on.below b.x_on.below b.y_on.below (omega (arith, is.some.w)) (omega (arith, is.some.h)) (omega (arith, le, a.index, b.index)) in
     let first = same_index output a.x a.y a.f c.x c.y c.f (one_count p.x a.x c.x a.x_on.is c.x_on.is) (one_count p.y a.y c.y a.y_on.is c.y_on.is) (one_count p.f a.f c.f a.f_on.is c.f_on.is) in
     let second = same_index output b.x b.y b.f d.x d.y d.f (one_count q.x b.x d.x b.x_on.is d.x_on.is) (one_count q.y b.y d.y b.y_on.is d.y_on.is) (one_count q.f b.f d.f b.f_on.is d.f_on.is) in
     omega (arith, order, first, second, c.index, d.index)
@@ -129,7 +129,7 @@ pub record IsWorstAt (d : At → At → ℕ) (m : At → Option At) (table : Win
   pub worst : IsWorst d table.output m table.window (place_of (corners table.output table.window) i)
   pub cost : get_or table.sums i 0 ≡ window_at d table.window m (place_of (corners table.output table.window) i)
 
-pub worst_of_greatest : (d : At → At → ℕ) (m : At → Option At) (table : WindowSums) (i : ℕ) → IsTable table → IsGreatest table.sums (length table.sums) i
+pub worst_of_greatest : (d : At → At → ℕ) (m : At → Option At) (table : WindowSums) (i : ℕ) → IsSumTable table → IsGreatest table.sums (length table.sums) i
     → IsRight d m table → IsWorstAt d m table i
 worst_of_greatest d m table i is greatest right =
     let size = corners table.output table.window in
@@ -152,7 +152,7 @@ worst_of_greatest d m table i is greatest right =
     }
 
 -- the same for a corner and a cost as they were found
-pub worst_found : (d : At → At → ℕ) (m : At → Option At) (table : WindowSums) (sums : List ℕ) (size : Size) (i : ℕ) (corner : At) → IsTable table
+pub worst_found : (d : At → At → ℕ) (m : At → Option At) (table : WindowSums) (sums : List ℕ) (size : Size) (i : ℕ) (corner : At) → IsSumTable table
     → sums ≡ table.sums → size ≡ corners table.output table.window → IsGreatest sums (length sums) i → corner ≡ place_of size i → IsRight d m table
     → IsWorst d table.output m table.window corner × (get_or sums i 0 ≡ window_at d table.window m corner)
 worst_found d m table sums size i corner is same shape greatest at right =

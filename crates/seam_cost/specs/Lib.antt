@@ -1,6 +1,6 @@
-pub mod Places
-pub mod Costs
-pub mod Lawful
-pub mod Pairs
+pub use Rattle.box_walk.specs.Pairs
+pub use Rattle.seams.specs.Costs
+pub use Rattle.seams.specs.Lawful
+pub mod Windows
 pub mod Tables
 pub mod Slides

@@ -1,13 +1,14 @@
 // Blocks: boxes inside an output, by counts from its first cell. The corners of the windows that a
 // change touches are a block, and so are the cells of those windows.
-ghost use Rattle.std.specs.Prelude.{◌≡◌, ◌≤◌, ◌<◌, ◌⊎◌, ◌+◌, ◌+ℤ◌, ◌≤ℤ◌, ◌<ℤ◌, ◌↔◌, ℕ, pos, IsTrue};
+ghost use Rattle.std.specs.Prelude.{◌≡◌, ◌≤◌, ◌<◌, ◌⊎◌, ◌+◌, ◌*◌, ◌+ℤ◌, ◌≤ℤ◌, ℕ, pos};
 ghost use Rattle.cells.specs.Boxes.{HasCells};
 ghost use Rattle.cells.specs.Places.{IsSmall, cell_count, spot};
-ghost use Rattle.seam_cost.specs.Pairs.{AreCounts};
-ghost use Rattle.seam_cost.specs.Slides.{HoldsBlock, IsInBlock, block_size, reach_of, reach_run};
+ghost use Rattle.box_walk.specs.Pairs.{AreCounts};
+ghost use Rattle.seam_cost.specs.Slides.{AreOthers, HoldsBlock, IsInBlock, block_size, reach_of, reach_run};
 ghost use Rattle.seam_cost.specs.Tables.{IsWindow, Touches, corners};
 
-use cells::{Box3, Size};
+use box_walk::clipped;
+use cells::{Box3, GREATEST_AXIS, Size};
 
 /// A run of cells along one axis.
 #[derive(Clone, Copy, Debug, Drop, PartialEq, Eq)]
@@ -21,7 +22,7 @@ pub(crate) struct Run {
 impl Run {
     // The cells of all windows, of a length, that begin here.
     fn reach(self, window: u32) -> Run
-        requires { (1 ≤ window) × (self.len + window ≤ 8192) }
+        requires { (1 ≤ window) × (self.len + window ≤ 2 * GREATEST_AXIS) }
         ensures { result ≡ reach_run window self }
     {
         Run {
@@ -42,27 +43,12 @@ pub(crate) struct Block {
     pub f: Run,
 }
 
-// A number as a count of at most n: the nearest one.
-fn clipped(z: i64, n: u32) -> u32
-    ensures most { result ≤ n }
-    ensures below { (c : ℕ) → c < result → pos c <ℤ z }
-    ensures behind { (c : ℕ) → result ≤ c → c < n → z ≤ℤ pos c }
-{
-    if z <= 0 {
-        0
-    } else if z >= i64::from(n) {
-        n
-    } else {
-        z as u32
-    }
-}
-
 // The corners on one axis, of so many, whose windows may meet a run of cells: each other one's window
-// ends before the run or begins behind it.
+// ends before the run or begins after it.
 fn touched_run(count: u32, window: u32, from: i32, len: u32) -> Run
-    requires { count ≤ 4096 }
+    requires { count ≤ GREATEST_AXIS }
     ensures inside { result.from + result.len ≤ count }
-    ensures others { (c : ℕ) → c < count → (c < result.from) ⊎ (result.from + result.len ≤ c) → ((pos c +ℤ pos window) ≤ℤ from) ⊎ ((from +ℤ pos len) ≤ℤ pos c) }
+    ensures others { AreOthers count window from len result }
 {
     let start = i64::from(from);
     let first = clipped(start - i64::from(window) + 1, count);
@@ -85,13 +71,6 @@ pub(crate) fn corners(output: Size, window: Size) -> Size
         h: output.h + 1 - window.h,
         f: output.f + 1 - window.f,
     }
-}
-
-/// Whether a size has a cell.
-pub(crate) fn has_cells(size: Size) -> bool
-    ensures { IsTrue result ↔ HasCells size }
-{
-    size.w > 0 && size.h > 0 && size.f > 0
 }
 
 impl Block {
@@ -121,7 +100,8 @@ impl Block {
     pub(crate) fn touched(corners: Size, window: Size, changed: &Box3) -> Block
         requires { IsSmall corners }
         ensures inside { HoldsBlock corners result }
-        ensures others { (x y f : ℕ) → AreCounts corners x y f → (IsInBlock result x y f → ⊥) → Touches window changed.now (spot x y f) → ⊥ }
+        ensures others { (x y f : ℕ) → AreCounts corners x y f → (IsInBlock result x y f → ⊥) →
+            Touches window changed.now (spot x y f) → ⊥ }
     {
         let from = changed.corner;
         let size = changed.size;

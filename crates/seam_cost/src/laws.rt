@@ -1,21 +1,30 @@
-// What the definitions mean.
-ghost use Rattle.std.specs.Prelude.{◌≡◌, ℕ, Bool, false, List};
-ghost use Rattle.cells.specs.Boxes.{HoldsBox};
-ghost use Rattle.source_map.specs.Maps.{IsFull, SourceMap};
-ghost use Rattle.seam_cost.specs.Lawful.{AreHeld, ChangesAsWindow, IsLawful, LeavesHeld, is_new};
+// What the definitions of tables and worst windows mean.
+ghost use Rattle.std.specs.Prelude.{◌≡◌, ℕ, Bool, List, Option};
+ghost use Rattle.cells.specs.declared.place.At.{At};
+ghost use Rattle.cells.specs.declared.place.Box3.{Box3};
+ghost use Rattle.cells.specs.declared.place.Size.{Size};
+ghost use Rattle.cells.specs.Boxes.{HasCells};
+ghost use Rattle.source_map.specs.declared.canvas.Placement.{Placement};
+ghost use Rattle.source_map.specs.Choices.{IsAfter};
+ghost use Rattle.source_map.specs.Maps.{SourceMap, map_at};
+ghost use Rattle.seam_cost.specs.Tables.{IsRight, IsRightBeside, SameBeside, WindowSums};
+ghost use Rattle.seam_cost.specs.Windows.{IsWorst};
 
-use cells::At;
-use source_map::Placement;
-
-/// A law, with nothing to run: two lawful choices of a placement change the total of a map as they change
-/// the window sum of the placement's box, where the output holds the box.
-pub fn choices_change_the_total_as_their_window(placement: &Placement)
-    ensures { (d : At → At → ℕ) (m : SourceMap) → HoldsBox m.size placement.now.rect.corner placement.now.rect.size → ChangesAsWindow d m placement.now }
+/// A law, with nothing to run: a table that was right for a map is right beside a box for a map that has
+/// changed in the box alone; so after a choice beside the box of its placement.
+pub fn table_right_beside_a_change()
+    ensures change { (d : At → At → ℕ) (m n : At → Option At) (changed : Box3) (table : WindowSums)
+        → SameBeside changed m n → IsRight d m table → IsRightBeside d n changed table }
+    ensures choice { (d : At → At → ℕ) (before after : SourceMap) (placement : Placement)
+        (choice : List Bool)
+        (table : WindowSums) → IsAfter before placement choice after
+        → IsRight d (map_at before) table → IsRightBeside d (map_at after) placement.rect table }
 {}
 
-/// A law, with nothing to run: whatever is held, some lawful choice leaves it; and where every cell of the
-/// output is filled, a choice with no new cell is lawful.
-pub fn some_choice_is_lawful(placement: &Placement)
-    ensures some { (m : SourceMap) (held : List Bool) → AreHeld m placement.now held → (choice : List Bool) × (IsLawful m placement.now choice × LeavesHeld placement.now held choice) }
-    ensures old { (m : SourceMap) → IsFull m → HoldsBox m.size placement.now.rect.corner placement.now.rect.size → (choice : List Bool) → ((p : At) → is_new placement.now choice p ≡ false) → IsLawful m placement.now choice }
+/// A law, with nothing to run: of the windows of a size that has a cell there is one worst.
+pub fn worst_window_is_one()
+    ensures { (d : At → At → ℕ) (output : Size) (m : At → Option At) (window : Size)
+        (corner other : At)
+        → HasCells window → IsWorst d output m window corner → IsWorst d output m window other
+        → corner ≡ other }
 {}

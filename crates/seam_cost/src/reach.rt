@@ -1,57 +1,74 @@
 // The sums of all windows of a block of corners, from the costs of the pairs of all their cells.
-ghost use Rattle.std.specs.Prelude.{◌≡◌, ◌≤◌, ◌<◌, ℕ, ◌+◌, ◌*◌, ◌/◌, ◌%◌, length, slice_index};
+ghost use Rattle.std.specs.Prelude.{◌≡◌, ◌≤◌, ◌<◌, ℕ, ◌+◌, ◌*◌, ◌/◌, ◌%◌, ◌^◌, length, slice_index};
 ghost use Rattle.cells.specs.declared.place.Axis.TheVariants.{X};
 ghost use Rattle.cells.specs.Boxes.{HasCells};
 ghost use Rattle.cells.specs.Distances.{distance};
-ghost use Rattle.cells.specs.Places.{IsSmall, cell_count, spot};
+ghost use Rattle.cells.specs.Places.{IsSmall, cell_count, raster_index, spot};
 ghost use Rattle.source_map.specs.Maps.{map_at};
-ghost use Rattle.seam_cost.specs.Costs.{pair_at, window_at};
-ghost use Rattle.seam_cost.specs.Pairs.{AreCounts};
-ghost use Rattle.seam_cost.specs.Slides.{HoldsBlock, IsInBlock, IsLens, axis_sum, block_size, index_at, kept, less_one, reach_of, row_start, row_offset};
+ghost use Rattle.seams.specs.Costs.{most_of_pair, pair_at};
+ghost use Rattle.seam_cost.specs.Windows.{window_at};
+ghost use Rattle.box_walk.specs.Pairs.{AreCounts};
+ghost use Rattle.seam_cost.specs.Slides.{AreAtMost, AreCosts, AreRowCosts, EachOfRows, HoldsBlock, IsInBlock, SameElsewhere, added, at_row, axis_sum, block_size, less_one, IsLens, most_after_three, number_if, reach_of, row_offset, row_start};
 ghost use Rattle.seam_cost.specs.Tables.{IsWindow, corners};
 
-use crate::block::{Block, corners, has_cells};
-use crate::pairs::{pair_of, seam_of, source_of};
+use crate::block::{Block, corners};
 use crate::slide::sum_boxes;
-use crate::sums::spot;
-use cells::{Axis, Size, Volume};
+use box_walk::{Counts, has_cells};
+use cells::{Axis, GREATEST_AXIS, Size, Volume};
+use seams::{Sources, seam_of};
 use source_map::Map;
 
 // The costs of the cells of a row and the next ones in it, from a cell on. The source of each is asked
 // for once: it is the second of one pair, and the first of the next.
 #[tactic(auto, using(crate::proofs::Fills::pair_along))]
 fn fill_along(costs: &mut [u64], map: &Map, sample: &Volume, x: u32, y: u32, f: u32)
-    requires row { x + length costs.old ≤ 4096 }
-    requires counts { (y < 4096) × (f < 4096) }
-    ensures costs { (k : ℕ) → k < length costs.old → slice_index costs.new k ≡ pair_at (distance sample.now) (map_at map.now) X (spot (x + k) y f) }
-    ensures small { (k : ℕ) → slice_index costs.new k ≤ 3060 }
+    requires row { x + length costs.old ≤ GREATEST_AXIS }
+    requires counts { (y < GREATEST_AXIS) × (f < GREATEST_AXIS) }
+    ensures costs { AreRowCosts (distance sample.now) (map_at map.now) X x y f costs.new }
+    ensures small { AreAtMost most_of_pair costs.new }
 {
-    let mut source = source_of(map, spot(x, y, f));
+    let mut source = map.source(Counts { x, y, f }.place());
     for k in 0..costs.len() {
-        let next = source_of(map, spot(x + k as u32 + 1, y, f));
+        let x = x + k as u32 + 1;
+        let next = map.source(Counts { x, y, f }.place());
         costs[k] = u64::from(seam_of(sample, Axis::X, source, next));
         source = next;
     }
 }
 
+// The cost of a cell and the next one along an axis.
+fn pair_at(map: &Map, sample: &Volume, at: Counts, axis: Axis) -> u32
+    requires { (at.x < GREATEST_AXIS) × (at.y < GREATEST_AXIS) × (at.f < GREATEST_AXIS) }
+    ensures cost { result ≡ pair_at (distance sample.now) (map_at map.now) axis
+        (spot at.x at.y at.f) }
+    ensures small { result ≤ most_of_pair }
+{
+    let p = at.place();
+    match map.source(p) {
+        Some(a) => seam_of(sample, axis, Some(a), map.source(p.plus(axis.unit()))),
+        None => 0,
+    }
+}
+
 // The costs of the cells of a row and the next ones along an axis, from a cell on.
 fn fill_across(costs: &mut [u64], map: &Map, sample: &Volume, x: u32, y: u32, f: u32, axis: Axis)
-    requires row { x + length costs.old ≤ 4096 }
-    requires counts { (y < 4096) × (f < 4096) }
-    ensures costs { (k : ℕ) → k < length costs.old → slice_index costs.new k ≡ pair_at (distance sample.now) (map_at map.now) axis (spot (x + k) y f) }
-    ensures small { (k : ℕ) → slice_index costs.new k ≤ 3060 }
+    requires row { x + length costs.old ≤ GREATEST_AXIS }
+    requires counts { (y < GREATEST_AXIS) × (f < GREATEST_AXIS) }
+    ensures costs { AreRowCosts (distance sample.now) (map_at map.now) axis x y f costs.new }
+    ensures small { AreAtMost most_of_pair costs.new }
 {
     for k in 0..costs.len() {
-        costs[k] = u64::from(pair_of(map, sample, spot(x + k as u32, y, f), axis));
+        let x = x + k as u32;
+        costs[k] = u64::from(pair_at(map, sample, Counts { x, y, f }, axis));
     }
 }
 
 // The costs of the cells of a row and the next ones along an axis, from a cell on.
 fn fill_row(costs: &mut [u64], map: &Map, sample: &Volume, x: u32, y: u32, f: u32, axis: Axis)
-    requires row { x + length costs.old ≤ 4096 }
-    requires counts { (y < 4096) × (f < 4096) }
-    ensures costs { (k : ℕ) → k < length costs.old → slice_index costs.new k ≡ pair_at (distance sample.now) (map_at map.now) axis (spot (x + k) y f) }
-    ensures small { (k : ℕ) → slice_index costs.new k ≤ 3060 }
+    requires row { x + length costs.old ≤ GREATEST_AXIS }
+    requires counts { (y < GREATEST_AXIS) × (f < GREATEST_AXIS) }
+    ensures costs { AreRowCosts (distance sample.now) (map_at map.now) axis x y f costs.new }
+    ensures small { AreAtMost most_of_pair costs.new }
 {
     match axis {
         Axis::X => fill_along(costs, map, sample, x, y, f),
@@ -63,8 +80,8 @@ fn fill_row(costs: &mut [u64], map: &Map, sample: &Volume, x: u32, y: u32, f: u3
 fn fill(costs: &mut [u64], map: &Map, sample: &Volume, block: &Block, axis: Axis)
     requires inside { HoldsBlock map.now.size block.now }
     requires count { length costs.old ≡ cell_count (block_size block.now) }
-    ensures costs { (row k : ℕ) → row < block.now.y.len * block.now.f.len → k < block.now.x.len → slice_index costs.new (k + block.now.x.len * row) ≡ pair_at (distance sample.now) (map_at map.now) axis (spot (block.now.x.from + k) (block.now.y.from + row % block.now.y.len) (block.now.f.from + row / block.now.y.len)) }
-    ensures small { (k : ℕ) → slice_index costs.new k ≤ 3060 }
+    ensures costs { AreCosts (distance sample.now) (map_at map.now) axis block.now costs.new }
+    ensures small { AreAtMost most_of_pair costs.new }
 {
     let _size = map.size();
     let w = block.x.len as usize;
@@ -88,8 +105,9 @@ fn fill(costs: &mut [u64], map: &Map, sample: &Volume, block: &Block, axis: Axis
 // Puts a row of numbers into a row of sums, added to those where these are kept.
 fn put_row(sums: &mut [u64], more: &[u64], keep: bool)
     requires lengths { length sums.old ≡ length more.now }
-    requires fits { (k : ℕ) → k < length sums.old → kept keep (slice_index sums.old k) + slice_index more.now k < 18446744073709551616 }
-    ensures { (k : ℕ) → k < length sums.old → slice_index sums.new k ≡ kept keep (slice_index sums.old k) + slice_index more.now k }
+    requires fits { (k : ℕ) → k < length sums.old → added keep sums.old more.now k k < 2 ^ 64 }
+    ensures { (k : ℕ) → k < length sums.old →
+        slice_index sums.new k ≡ added keep sums.old more.now k k }
 {
     for k in 0..sums.len() {
         let before = if keep { sums[k] } else { 0 };
@@ -97,50 +115,53 @@ fn put_row(sums: &mut [u64], more: &[u64], keep: bool)
     }
 }
 
-// The index of a cell of a size by its counts.
-fn index_of(size: Size, x: u32, y: u32, f: u32) -> usize
-    requires small { IsSmall size }
-    requires counts { (x ≤ 4096) × (y ≤ 4096) × (f ≤ 4096) }
-    ensures { result ≡ x + size.w * (y + size.h * f) }
-{
-    x as usize + size.w as usize * (y as usize + size.h as usize * f as usize)
-}
-
 // The index, among the cells of a size, of the first cell of a row of a block.
 fn start_of(size: Size, block: &Block, row: u32) -> usize
     requires small { IsSmall size }
     requires inside { HoldsBlock size block.now }
+    requires some { 1 ≤ block.now.x.len }
     requires row { row < block.now.y.len * block.now.f.len }
     ensures start { result ≡ row_start size block.now row }
     ensures end { result + block.now.x.len ≤ cell_count size }
 {
     let y = block.y.from + row % block.y.len;
     let f = block.f.from + row / block.y.len;
-    index_of(size, block.x.from, y, f)
+    let x = block.x.from;
+    Counts { x, y, f }.index(size)
 }
 
 // The same, among the cells of a size from the block's first cell on.
 fn offset_of(size: Size, block: &Block, row: u32) -> usize
     requires small { IsSmall size }
-    requires room { (block.now.x.len ≤ size.w) × (block.now.y.len ≤ size.h) × (block.now.f.len ≤ size.f) }
+    requires room { (block.now.x.len ≤ size.w) × (block.now.y.len ≤ size.h)
+        × (block.now.f.len ≤ size.f) }
+    requires some { 1 ≤ block.now.x.len }
     requires row { row < block.now.y.len * block.now.f.len }
     ensures start { result ≡ row_offset size block.now row }
     ensures end { result + block.now.x.len ≤ cell_count size }
 {
-    index_of(size, 0, row % block.y.len, row / block.y.len)
+    let y = row % block.y.len;
+    let f = row / block.y.len;
+    Counts { x: 0, y, f }.index(size)
 }
 
 // Puts the first entries of each row of a box of numbers, at the corners of a block, into their sums.
 fn put_rows(sums: &mut [u64], corners: Size, block: &Block, more: &[u64], size: Size, keep: bool)
     requires small { IsSmall corners }
     requires inside { HoldsBlock corners block.now }
+    requires some { 1 ≤ block.now.x.len }
     requires sums { length sums.old ≡ cell_count corners }
     requires reach { IsSmall size }
     requires more { length more.now ≡ cell_count size }
-    requires room { (block.now.x.len ≤ size.w) × (block.now.y.len ≤ size.h) × (block.now.f.len ≤ size.f) }
-    requires fits { (row k : ℕ) → row < block.now.y.len * block.now.f.len → k < block.now.x.len → kept keep (slice_index sums.old (row_start corners block.now row + k)) + slice_index more.now (row_offset size block.now row + k) < 18446744073709551616 }
-    ensures put { (row k : ℕ) → row < block.now.y.len * block.now.f.len → k < block.now.x.len → slice_index sums.new (row_start corners block.now row + k) ≡ kept keep (slice_index sums.old (row_start corners block.now row + k)) + slice_index more.now (row_offset size block.now row + k) }
-    ensures others { (i : ℕ) → ((row k : ℕ) → row < block.now.y.len * block.now.f.len → k < block.now.x.len → i ≡ row_start corners block.now row + k → ⊥) → slice_index sums.new i ≡ slice_index sums.old i }
+    requires room { (block.now.x.len ≤ size.w) × (block.now.y.len ≤ size.h)
+        × (block.now.f.len ≤ size.f) }
+    requires fits { EachOfRows block.now (λ row k.
+        added keep sums.old more.now (row_start corners block.now row + k) (row_offset size block.now row + k) < 2 ^ 64) }
+    ensures put { EachOfRows block.now (λ row k.
+        slice_index sums.new (row_start corners block.now row + k)
+        ≡ added keep sums.old more.now (row_start corners block.now row + k)
+        (row_offset size block.now row + k)) }
+    ensures others { SameElsewhere corners block.now sums.old sums.new }
 {
     let w = block.x.len as usize;
     let rows = block.y.len * block.f.len;
@@ -174,8 +195,10 @@ fn sum_axis(costs: &mut [u64], map: &Map, sample: &Volume, window: Size, block: 
     requires some { HasCells (block_size block.now) }
     requires inside { HoldsBlock (corners map.now.size window) block.now }
     requires count { length costs.old ≡ cell_count (block_size (reach_of window block.now)) }
-    ensures sums { (row k : ℕ) → row < block.now.y.len * block.now.f.len → k < block.now.x.len → slice_index costs.new (row_offset (block_size (reach_of window block.now)) block.now row + k) ≡ axis_sum (distance sample.now) (map_at map.now) axis window (block.now.x.from + k) (block.now.y.from + row % block.now.y.len) (block.now.f.from + row / block.now.y.len) }
-    ensures small { (i : ℕ) → slice_index costs.new i ≤ 281474976710656 }
+    ensures sums { EachOfRows block.now (λ row k.
+        slice_index costs.new (row_offset (block_size (reach_of window block.now)) block.now row + k)
+        ≡ at_row block.now (axis_sum (distance sample.now) (map_at map.now) axis window) row k) }
+    ensures small { AreAtMost most_after_three costs.new }
 {
     let reach = block.reach(map.size(), window);
     fill(costs, map, sample, &reach, axis);
@@ -198,10 +221,19 @@ fn put_axis(
     requires inside { HoldsBlock (corners map.now.size window) block.now }
     requires sums { length sums.old ≡ cell_count (corners map.now.size window) }
     requires scratch { length scratch.old ≡ cell_count map.now.size }
-    requires fits { (row k : ℕ) → row < block.now.y.len * block.now.f.len → k < block.now.x.len → kept keep (slice_index sums.old (row_start (corners map.now.size window) block.now row + k)) ≤ 1152921504606846976 }
-    ensures put { (row k : ℕ) → row < block.now.y.len * block.now.f.len → k < block.now.x.len → slice_index sums.new (row_start (corners map.now.size window) block.now row + k) ≡ kept keep (slice_index sums.old (row_start (corners map.now.size window) block.now row + k)) + axis_sum (distance sample.now) (map_at map.now) axis window (block.now.x.from + k) (block.now.y.from + row % block.now.y.len) (block.now.f.from + row / block.now.y.len) }
-    ensures small { (row k : ℕ) → row < block.now.y.len * block.now.f.len → k < block.now.x.len → slice_index sums.new (row_start (corners map.now.size window) block.now row + k) ≤ kept keep (slice_index sums.old (row_start (corners map.now.size window) block.now row + k)) + 281474976710656 }
-    ensures others { (i : ℕ) → ((row k : ℕ) → row < block.now.y.len * block.now.f.len → k < block.now.x.len → i ≡ row_start (corners map.now.size window) block.now row + k → ⊥) → slice_index sums.new i ≡ slice_index sums.old i }
+    requires fits { EachOfRows block.now (λ row k.
+        number_if keep (slice_index sums.old
+        (row_start (corners map.now.size window) block.now row + k)) ≤ 2 ^ 60) }
+    ensures put { EachOfRows block.now (λ row k.
+        slice_index sums.new (row_start (corners map.now.size window) block.now row + k)
+        ≡ number_if keep (slice_index sums.old
+        (row_start (corners map.now.size window) block.now row + k))
+        + at_row block.now (axis_sum (distance sample.now) (map_at map.now) axis window) row k) }
+    ensures small { EachOfRows block.now
+        (λ row k. slice_index sums.new (row_start (corners map.now.size window) block.now row + k)
+        ≤ number_if keep (slice_index sums.old
+        (row_start (corners map.now.size window) block.now row + k)) + most_after_three) }
+    ensures others { SameElsewhere (corners map.now.size window) block.now sums.old sums.new }
 {
     let output = map.size();
     let size = block.reach(output, window).size();
@@ -225,10 +257,17 @@ fn add_axis(
     requires inside { HoldsBlock (corners map.now.size window) block.now }
     requires sums { length sums.old ≡ cell_count (corners map.now.size window) }
     requires scratch { length scratch.old ≡ cell_count map.now.size }
-    requires fits { (row k : ℕ) → row < block.now.y.len * block.now.f.len → k < block.now.x.len → slice_index sums.old (row_start (corners map.now.size window) block.now row + k) ≤ 1152921504606846976 }
-    ensures put { (row k : ℕ) → row < block.now.y.len * block.now.f.len → k < block.now.x.len → slice_index sums.new (row_start (corners map.now.size window) block.now row + k) ≡ slice_index sums.old (row_start (corners map.now.size window) block.now row + k) + axis_sum (distance sample.now) (map_at map.now) axis window (block.now.x.from + k) (block.now.y.from + row % block.now.y.len) (block.now.f.from + row / block.now.y.len) }
-    ensures small { (row k : ℕ) → row < block.now.y.len * block.now.f.len → k < block.now.x.len → slice_index sums.new (row_start (corners map.now.size window) block.now row + k) ≤ slice_index sums.old (row_start (corners map.now.size window) block.now row + k) + 281474976710656 }
-    ensures others { (i : ℕ) → ((row k : ℕ) → row < block.now.y.len * block.now.f.len → k < block.now.x.len → i ≡ row_start (corners map.now.size window) block.now row + k → ⊥) → slice_index sums.new i ≡ slice_index sums.old i }
+    requires fits { EachOfRows block.now (λ row k.
+        slice_index sums.old (row_start (corners map.now.size window) block.now row + k) ≤ 2 ^ 60) }
+    ensures put { EachOfRows block.now (λ row k.
+        slice_index sums.new (row_start (corners map.now.size window) block.now row + k)
+        ≡ slice_index sums.old (row_start (corners map.now.size window) block.now row + k)
+        + at_row block.now (axis_sum (distance sample.now) (map_at map.now) axis window) row k) }
+    ensures small { EachOfRows block.now
+        (λ row k. slice_index sums.new (row_start (corners map.now.size window) block.now row + k)
+        ≤ slice_index sums.old (row_start
+        (corners map.now.size window) block.now row + k) + most_after_three) }
+    ensures others { SameElsewhere (corners map.now.size window) block.now sums.old sums.new }
 {
     let _size = map.size();
     let less = less_one(axis, window);
@@ -252,8 +291,12 @@ pub(crate) fn refresh(
     requires inside { HoldsBlock (corners map.now.size window) block.now }
     requires sums { length sums.old ≡ cell_count (corners map.now.size window) }
     requires scratch { length scratch.old ≡ cell_count map.now.size }
-    ensures put { (x y f : ℕ) → IsInBlock block.now x y f → slice_index sums.new (index_at (corners map.now.size window) x y f) ≡ window_at (distance sample.now) window (map_at map.now) (spot x y f) }
-    ensures others { (i : ℕ) → ((x y f : ℕ) → IsInBlock block.now x y f → i ≡ index_at (corners map.now.size window) x y f → ⊥) → slice_index sums.new i ≡ slice_index sums.old i }
+    ensures put { (x y f : ℕ) → IsInBlock block.now x y f →
+        slice_index sums.new (raster_index (corners map.now.size window) x y f) ≡
+        window_at (distance sample.now) window (map_at map.now) (spot x y f) }
+    ensures others { (i : ℕ) → ((x y f : ℕ) → IsInBlock block.now x y f →
+        i ≡ raster_index (corners map.now.size window) x y f → ⊥) →
+        slice_index sums.new i ≡ slice_index sums.old i }
 {
     put_axis(sums, scratch, map, sample, window, block, Axis::X, false);
     add_axis(sums, scratch, map, sample, window, block, Axis::Y);

@@ -2,13 +2,14 @@
 ghost use Rattle.std.specs.Prelude.{◌≡◌, ◌<◌, ℕ, Option, IfOk, length};
 ghost use Rattle.cells.specs.declared.place.At.{At};
 ghost use Rattle.cells.specs.Distances.{distance};
-ghost use Rattle.source_map.specs.Canvases.{Stands};
+ghost use Rattle.source_map.specs.Canvases.{StandsOver};
 ghost use Rattle.source_map.specs.Maps.{map_at};
-ghost use Rattle.seam_cost.specs.Costs.{IsWorst, window_at};
+ghost use Rattle.seam_cost.specs.Windows.{IsWorst, window_at};
 ghost use Rattle.seam_cost.specs.Tables.{IsGreatest, IsRight, IsRightBeside, IsWindow};
 
-use crate::block::{Block, corners, has_cells};
+use crate::block::{Block, corners};
 use crate::reach::refresh;
+use box_walk::has_cells;
 use cells::{At, Box3, Size, Volume};
 use source_map::Canvas;
 use std::alloc::{AllocError, Global};
@@ -36,13 +37,17 @@ impl Model for SeamTable {
     ghost use Rattle.std.specs.Prelude.{◌≡◌};
     ghost use Rattle.std.specs.Prelude.{vec_len};
     ghost use Rattle.cells.specs.Places.{cell_count};
-    ghost use Rattle.seam_cost.specs.Tables.{WindowSums, IsTable};
+    ghost use Rattle.seam_cost.specs.Tables.{WindowSums, IsSumTable};
 
     ghost Value = { WindowSums };
 
     ghost view = { λ a. record { output = a.output; window = a.window; sums = a.sums.items } };
 
-    ghost invariant = { λ a. IsTable (record { output = a.output; window = a.window; sums = a.sums.items }) × (vec_len a.scratch ≡ cell_count a.output) };
+    ghost invariant = { λ a. IsSumTable (record {
+      output = a.output;
+      window = a.window;
+      sums = a.sums.items;
+    }) × (vec_len a.scratch ≡ cell_count a.output) };
 }
 
 // The index of the greatest number, and the first where several are.
@@ -60,17 +65,19 @@ fn greatest(sums: &[u64]) -> usize
 }
 
 impl SeamTable {
-    /// The table of a canvas. It takes all memory that its updates need. The one error is want of memory.
+    /// The table of a canvas. It takes all memory that its updates need. The one error is out of memory.
     pub fn make(
         alloc: Global,
         canvas: &Canvas,
         sample: &Volume,
         window: Size,
     ) -> Result<SeamTable, AllocError>
-        requires over { Stands canvas.now sample.now }
+        requires over { StandsOver canvas.now sample.now }
         requires window { IsWindow canvas.now.map.size window }
-        ensures sizes { IfOk result (λ table. (table.output ≡ canvas.now.map.size) × (table.window ≡ window)) }
-        ensures right { IfOk result (λ table. IsRight (distance sample.now) (map_at canvas.now.map) table) }
+        ensures sizes { IfOk result (λ table. (table.output ≡ canvas.now.map.size)
+            × (table.window ≡ window)) }
+        ensures right { IfOk result (λ table.
+            IsRight (distance sample.now) (map_at canvas.now.map) table) }
     {
         let map = canvas.map();
         let output = map.size();
@@ -95,9 +102,10 @@ impl SeamTable {
 
     /// Makes the sums right after the canvas has changed inside a box, which may lie outside the output.
     pub fn update(&mut self, canvas: &Canvas, sample: &Volume, changed: &Box3)
-        requires over { Stands canvas.now sample.now }
+        requires over { StandsOver canvas.now sample.now }
         requires size { canvas.now.map.size ≡ self.old.output }
-        requires beside { IsRightBeside (distance sample.now) (map_at canvas.now.map) changed.now self.old }
+        requires beside { IsRightBeside (distance sample.now)
+            (map_at canvas.now.map) changed.now self.old }
         ensures sizes { (self.new.output ≡ self.old.output) × (self.new.window ≡ self.old.window) }
         ensures right { IsRight (distance sample.now) (map_at canvas.now.map) self.new }
     {
@@ -117,8 +125,10 @@ impl SeamTable {
 
     /// The window of greatest sum, and of several the first in raster order of their corners.
     pub fn worst(&self) -> Worst
-        ensures worst { (d : At → At → ℕ) (m : At → Option At) → IsRight d m self.now → IsWorst d self.now.output m self.now.window result.corner }
-        ensures cost { (d : At → At → ℕ) (m : At → Option At) → IsRight d m self.now → result.cost ≡ window_at d self.now.window m result.corner }
+        ensures worst { (d : At → At → ℕ) (m : At → Option At) → IsRight d m self.now →
+            IsWorst d self.now.output m self.now.window result.corner }
+        ensures cost { (d : At → At → ℕ) (m : At → Option At) → IsRight d m self.now →
+            result.cost ≡ window_at d self.now.window m result.corner }
     {
         let sums = self.sums.as_slice();
         let i = greatest(sums);

@@ -1,10 +1,10 @@
-use Rattle.std.proofs.Common.{◌≡◌, ℕ, ◌<◌}
 use Rattle.cells.specs.Distances.{distance}
-use Rattle.cut_check.specs.Spots.{EachAxis, HoldsAlong, spot_of}
+use Rattle.box_walk.specs.Walks.{IsWalkAt}
+use Rattle.cut_check.specs.Steps.{EachAxis, EachBefore, HoldsAlong}
 use Rattle.cut_check.proofs.bounds.first_unbounded.Given as goal
 
-abbrev pub invariant-loop-i : goal.invariant-loop-i
-invariant-loop-i l = record {
-  spot : l.spot ≡ spot_of l.cut.placement.rect.size l.i;
-  before : (k : ℕ) → k < l.i → EachAxis (HoldsAlong (distance l.sample) l.map l.cut (spot_of l.cut.placement.rect.size k));
+abbrev pub invariant-cells : goal.invariant-cells
+invariant-cells l = record {
+  walk : IsWalkAt l.cut.placement.rect.size l.counter l.walk;
+  before : EachBefore l.cut.placement.rect.size l.counter (λ x y f. EachAxis (HoldsAlong (distance l.sample) l.map l.cut x y f));
 }

@@ -1,7 +1,7 @@
 use Rattle.std.proofs.Common.{subst}
 use Rattle.std.specs.Prelude.{OnOk, option_copied}
 use Rattle.std.proofs.lemmas.Result.{on_ok_weaker}
-use Rattle.cut_check.specs.Records.{Stands}
+use Rattle.cut_check.specs.Records.{CutStands}
 use Rattle.cut_check.proofs.Least.{stands_least}
 use Rattle.cut_check.proofs.check.check_held.Goals as goal
 
@@ -9,5 +9,5 @@ use Rattle.cut_check.proofs.check.check_held.Goals as goal
 pub returns-clause-least : goal.returns-clause-least
 returns-clause-least c = on_ok_weaker c.check_fitting.result
     (stands_least c.args.canvas.now.map c.args.sample.now c.args.cut.now (option_copied c.args.held) c.requires.held)
-    (subst (λ held. OnOk c.check_fitting.result (Stands (record { map = c.args.canvas.now.map; sample = c.args.sample.now; held = held }) c.args.cut.now))
+    (subst (λ held. OnOk c.check_fitting.result (CutStands (record { map = c.args.canvas.now.map; sample = c.args.sample.now; held = held }) c.args.cut.now))
     c.marks.ensures c.check_fitting.ensures.stands)

@@ -1,9 +1,31 @@
-use Rattle.std.proofs.Common.{◌≡◌, List, Bool, subst, below_more}
+use Rattle.std.proofs.Common.{◌≡◌, ◌∙◌, List, Bool, sym, subst, arith, below_more}
 use Rattle.std.specs.Prelude.{false, slice_index_or}
+use mathlib.Core.Bool.{false≢true}
 use Rattle.cells.specs.declared.place.At.{At}
 use Rattle.source_map.specs.Choices.{box_cell}
-use Rattle.seam_cost.specs.Lawful.{StaysOld}
+use Rattle.seams.specs.Lawful.{StaysOld}
+use Rattle.cut_check.proofs.Cells.{counts_in, index_at}
 use Rattle.cut_check.proofs.rules.first_new.Goals as goal
+
+pub leaves_old-requires : goal.leaves_old-requires
+leaves_old-requires c = record { index = index_at c.args.canvas.now.map c.args.cut.now.placement c.box_cell-p.result c.loop-i.i c.requires.lies (omega (arith, c.cells-i-end.ensures, c.loop-i-test.true)) c.box_cell-p.ensures }
+
+pub returns-then-not-leaves_old-clause-broken : goal.returns-then-not-leaves_old-clause-broken
+returns-then-not-leaves_old-clause-broken c = λ sample.
+    let m = c.args.canvas.now.map in
+    let cut = c.args.cut.now in
+    let held = c.args.held.now in
+    let i = c.loop-i.i in
+    record {
+      below = omega (arith, c.cells-i-end.ensures, c.loop-i-test.true);
+      before = c.loop-i.invariant.before;
+      here = λ leaves. false≢true (sym c.if-not-leaves_old.true ∙ c.leaves_old.ensures.1
+          (subst (λ (choice : List Bool). StaysOld m cut.placement held c.box_cell-p.result → slice_index_or choice i false ≡ false) (sym c.as_slice-choice.ensures)
+          (subst (λ (p : At). StaysOld m cut.placement held p → slice_index_or cut.choice i false ≡ false) (sym c.box_cell-p.ensures) leaves)));
+    }
+
+pub next-at-requires : goal.next-at-requires
+next-at-requires c = counts_in c.args.cut.now.placement c.loop-i.i c.loop-i.at c.loop-i.invariant.at (omega (arith, c.cells-i-end.ensures, c.loop-i-test.true))
 
 pub loop-i-preserved : goal.loop-i-preserved
 loop-i-preserved c =
@@ -12,8 +34,9 @@ loop-i-preserved c =
     let held = c.args.held.now in
     let i = c.loop-i.i in
     record {
-      spot = c.next_spot-spot.ensures;
+      at = c.next-at.ensures i c.loop-i.invariant.at;
       before = below_more (λ k. StaysOld m cut.placement held (box_cell cut.placement k) → slice_index_or cut.choice k false ≡ false) i c.loop-i.invariant.before
           (subst (λ (p : At). StaysOld m cut.placement held p → slice_index_or cut.choice i false ≡ false) c.box_cell-p.ensures
-          (subst (λ (choice : List Bool). StaysOld m cut.placement held c.box_cell-p.result → slice_index_or choice i false ≡ false) c.as_slice-choice.ensures c.if-not-leaves_old.ensures));
+          (subst (λ (choice : List Bool). StaysOld m cut.placement held c.box_cell-p.result → slice_index_or choice i false ≡ false) c.as_slice-choice.ensures
+          (c.leaves_old.ensures.0 c.if-not-leaves_old.false)));
     }

@@ -1,12 +1,12 @@
 use Rattle.std.proofs.Common.{◌≡◌, ℕ, ◌<◌}
 use Rattle.std.specs.Prelude.{slice_index_or, false}
 use Rattle.source_map.specs.Choices.{box_cell}
-use Rattle.seam_cost.specs.Lawful.{StaysOld}
-use Rattle.cut_check.specs.Spots.{spot_of}
+use Rattle.seams.specs.Lawful.{StaysOld}
+use Rattle.cut_check.specs.Steps.{IsAt}
 use Rattle.cut_check.proofs.rules.first_new.Given as goal
 
 abbrev pub invariant-loop-i : goal.invariant-loop-i
 invariant-loop-i l = record {
-  spot : l.spot ≡ spot_of l.cut.placement.rect.size l.i;
+  at : IsAt l.cut.placement.rect.size l.i l.at;
   before : (k : ℕ) → k < l.i → StaysOld l.canvas.map l.cut.placement l.held (box_cell l.cut.placement k) → slice_index_or l.cut.choice k false ≡ false;
 }

@@ -1,5 +1,5 @@
 use Rattle.std.proofs.Common.{◌≡◌, ℕ, ◌<◌}
-use Rattle.cut_check.specs.Spots.{spot_of}
+use Rattle.cut_check.specs.Steps.{IsAt}
 use Rattle.std.specs.Prelude.{None, true, slice_index_or, false}
 use Rattle.source_map.specs.Choices.{box_cell}
 use Rattle.source_map.specs.Maps.{map_at}
@@ -7,6 +7,6 @@ use Rattle.cut_check.proofs.rules.first_unfilled.Given as goal
 
 abbrev pub invariant-loop-i : goal.invariant-loop-i
 invariant-loop-i l = record {
-  spot : l.spot ≡ spot_of l.cut.placement.rect.size l.i;
+  at : IsAt l.cut.placement.rect.size l.i l.at;
   before : (k : ℕ) → k < l.i → map_at l.map (box_cell l.cut.placement k) ≡ None → slice_index_or l.cut.choice k false ≡ true;
 }

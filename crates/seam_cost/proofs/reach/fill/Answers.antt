@@ -3,7 +3,7 @@ use Rattle.std.proofs.Math.Nat.{mul-le-mul_left}
 use Rattle.cells.specs.Distances.{distance}
 use Rattle.cells.specs.Places.{spot}
 use Rattle.source_map.specs.Maps.{map_at}
-use Rattle.seam_cost.specs.Costs.{pair_at}
+use Rattle.seams.specs.Costs.{most_of_pair, pair_at}
 use Rattle.seam_cost.proofs.Rows.{rows_at_most, rows_filled}
 use Rattle.seam_cost.proofs.reach.fill.Goals as goal
 
@@ -18,5 +18,5 @@ loop-row-preserved c =
     record {
       costs = rows_filled w row made c.fill_row.new.costs (λ r k. pair_at (distance c.args.sample.now) (map_at c.args.map.now) c.args.axis (spot (block.x.from + k) (block.y.from + r % block.y.len) (block.f.from + r / block.y.len)))
           fits long c.loop-row.invariant.costs (λ k lt. c.fill_row.ensures.costs k (omega arith));
-      small = rows_at_most w row 3060 made c.fill_row.new.costs fits long c.loop-row.invariant.small c.fill_row.ensures.small;
+      small = rows_at_most w row most_of_pair made c.fill_row.new.costs fits long c.loop-row.invariant.small c.fill_row.ensures.small;
     }

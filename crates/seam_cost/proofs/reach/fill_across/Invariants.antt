@@ -2,11 +2,11 @@ use Rattle.std.proofs.Common.{◌≡◌, ◌≤◌, ◌<◌, ℕ, ◌+◌, get_o
 use Rattle.cells.specs.Distances.{distance}
 use Rattle.cells.specs.Places.{spot}
 use Rattle.source_map.specs.Maps.{map_at}
-use Rattle.seam_cost.specs.Costs.{pair_at}
+use Rattle.seams.specs.Costs.{most_of_pair, pair_at}
 use Rattle.seam_cost.proofs.reach.fill_across.Given as goal
 
 abbrev pub invariant-loop-k : goal.invariant-loop-k
 invariant-loop-k l = record {
   costs : (i : ℕ) → i < l.k → get_or l.costs i 0 ≡ pair_at (distance l.sample) (map_at l.map) l.axis (spot (l.x + i) l.y l.f);
-  small : (i : ℕ) → i < l.k → get_or l.costs i 0 ≤ 3060;
+  small : (i : ℕ) → i < l.k → get_or l.costs i 0 ≤ most_of_pair;
 }

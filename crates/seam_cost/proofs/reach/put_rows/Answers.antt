@@ -1,5 +1,5 @@
 use Rattle.std.proofs.Common.{◌≡◌, ◌<◌, ◌+◌, ◌-◌, drop, length, sym, subst, arith, length-take, length-drop}
-use Rattle.seam_cost.specs.Slides.{kept, row_offset, row_start}
+use Rattle.seam_cost.specs.Slides.{number_if, row_offset, row_start}
 use Rattle.seam_cost.proofs.Rows.{row_before, row_more, rows_apart, rows_put}
 use Rattle.seam_cost.proofs.reach.put_rows.Goals as goal
 
@@ -14,7 +14,7 @@ put_row-requires-clause-fits c = λ k below.
     let before = row_before w row to start (row_offset c.args.size block) c.args.keep c.args.sums.now c.args.more.now c.loop-row.sums c.loop-row.invariant c.start_of-to.ensures.start
     (λ r i j less li lj. rows_apart c.args.corners block row r i j c.requires.inside c.loop-row-test.true less li lj) k lt in
     let more = row_more w c.offset_of-from.result (row_offset c.args.size block row) c.args.more.now c.offset_of-from.ensures.start k lt in
-    subst (λ n. n < 18446744073709551616) (sym (λ i. kept c.args.keep (before i) + more i)) (c.requires.fits row k c.loop-row-test.true lt)
+    subst (λ n. n < 18446744073709551616) (sym (λ i. number_if c.args.keep (before i) + more i)) (c.requires.fits row k c.loop-row-test.true lt)
 
 pub loop-row-preserved : goal.loop-row-preserved
 loop-row-preserved c =

@@ -1,6 +1,7 @@
 use Rattle.std.proofs.Common.{arith}
 use Rattle.std.proofs.lemmas.Int.{to_z-of_z}
-use Rattle.seam_cost.proofs.Changes.{AreOthers, others_beside}
+use Rattle.seam_cost.specs.Slides.{AreOthers}
+use Rattle.seam_cost.proofs.Changes.{others_beside}
 use Rattle.seam_cost.proofs.block.Block.touched.Goals as goal
 
 pub returns-clause-others : goal.returns-clause-others

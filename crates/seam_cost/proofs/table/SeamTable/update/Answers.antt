@@ -3,11 +3,11 @@ use Rattle.std.proofs.lemmas.List.{with_items_is}
 use mathlib.Core.Bool.{false≢true}
 use Rattle.cells.specs.Boxes.{HasCells}
 use Rattle.cells.specs.Distances.{distance}
-use Rattle.cells.specs.Places.{spot}
+use Rattle.cells.specs.Places.{raster_index, spot}
 use Rattle.source_map.specs.Maps.{map_at}
-use Rattle.seam_cost.specs.Costs.{window_at}
-use Rattle.seam_cost.specs.Pairs.{AreCounts}
-use Rattle.seam_cost.specs.Slides.{HoldsBlock, index_at}
+use Rattle.seam_cost.specs.Windows.{window_at}
+use Rattle.box_walk.specs.Pairs.{AreCounts}
+use Rattle.seam_cost.specs.Slides.{HoldsBlock}
 use Rattle.seam_cost.specs.Tables.{IsRight, IsRightBeside, corners}
 use Rattle.seam_cost.proofs.Changes.{cells_of_block, right_of}
 use Rattle.seam_cost.proofs.table.SeamTable.update.Goals as goal
@@ -25,8 +25,8 @@ returns-then-has_cells-clause-right c =
     let beside : IsRightBeside d m c.args.changed.now (record { output = output; window = window; sums = old }) = subst (IsRightBeside d m c.args.changed.now) (sym c.self.view_is) c.requires.beside in
     let right : IsRight d m (record { output = output; window = window; sums = sums }) =
     right_of d m output window block old sums (subst (λ size. HoldsBlock size block) c.corners.ensures.corners c.touched-block.ensures.inside)
-    (λ x y f inside. ap (λ size. get_or sums (index_at (corners size window) x y f) 0) (sym same) ∙ c.refresh.ensures.put x y f inside ∙ (λ i. window_at d window (map_at (c.map.ensures.map i)) (spot x y f)))
-    (λ i none. c.refresh.ensures.others i (λ x y f inside e. none x y f inside (e ∙ ap (λ size. index_at (corners size window) x y f) same)) ∙ ap (λ xs. get_or xs i 0) c.deref_mut.ensures.value)
+    (λ x y f inside. ap (λ size. get_or sums (raster_index (corners size window) x y f) 0) (sym same) ∙ c.refresh.ensures.put x y f inside ∙ (λ i. window_at d window (map_at (c.map.ensures.map i)) (spot x y f)))
+    (λ i none. c.refresh.ensures.others i (λ x y f inside e. none x y f inside (e ∙ ap (λ size. raster_index (corners size window) x y f) same)) ∙ ap (λ xs. get_or xs i 0) c.deref_mut.ensures.value)
     (λ x y f are out. beside (spot x y f) (c.touched-block.ensures.others x y f (subst (λ size. AreCounts size x y f) (sym c.corners.ensures.corners) are) out)) in
     subst (λ xs. IsRight d m (record { output = output; window = window; sums = xs })) (sym (with_items_is c.self.inside.sums sums (omega arith))) right
 

@@ -1,0 +1,4 @@
+pub mod Cells
+pub mod Indices
+pub mod PairNumbers
+pub mod ClosedForm

@@ -1,0 +1,3 @@
+pub mod Raster
+pub mod Pairs
+pub mod Walks

@@ -1,0 +1,18 @@
+use Rattle.std.proofs.Common.{◌≡◌, ℕ, ◌*◌, ◌<◌, neg_ℤ, pos, ◌≤ℤ◌, ℤ}
+use Rattle.cells.specs.Cells.{Cells}
+use Rattle.box_sums.specs.Sums.{signed_sum_to}
+use Rattle.box_walk.specs.Pairs.{at_index}
+use Rattle.box_walk.specs.Walks.{IsWalkAt}
+use Rattle.cut_check.specs.Records.{IsBalanced, setting}
+use Rattle.cut_check.specs.Steps.{ArePartsOfValue, most_leaving}
+use Rattle.cut_check.proofs.balance.value_of.Given as goal
+
+abbrev pub invariant-loop-i : goal.invariant-loop-i
+invariant-loop-i l = record {
+  walk : IsWalkAt l.cut.placement.rect.size l.i l.walk;
+  balanced : (sample : Cells) (k : ℕ) → k < l.i → IsBalanced (setting l.canvas.map sample l.held) l.cut k;
+  sum : (sample : Cells) (part : ℕ → ℕ → ℕ → ℤ) → ArePartsOfValue (setting l.canvas.map sample l.held) l.cut part
+      → l.sum ≡ signed_sum_to l.i (at_index l.cut.placement.rect.size part);
+  low : neg_ℤ (pos (most_leaving * l.i)) ≤ℤ l.sum;
+  high : l.sum ≤ℤ pos (most_leaving * l.i);
+}

@@ -1,0 +1,89 @@
+-- A reader need not trust this file: it says what each rule takes as known, and how far a walk has
+-- come. (Own.)
+use Rattle.std.specs.Prelude.{◌≡◌, ◌<◌, ◌*◌, ◌^◌, ⊤, ℕ, ℤ, true, IfSome}
+use Rattle.cells.specs.declared.bounds.TheConstants.{MOST_CELLS}
+use Rattle.cells.specs.declared.place.At.{At}
+use Rattle.cells.specs.declared.place.Axis.{Axis}
+use Rattle.cells.specs.declared.place.Axis.TheVariants.{X, Y, F}
+use Rattle.cells.specs.declared.place.Size.{Size}
+use Rattle.cells.specs.Boxes.{HasCells, HoldsBox}
+use Rattle.cells.specs.Places.{IsSmall, raster_index}
+use Rattle.cells.specs.Cells.{Cells, Holds, IsVolume}
+use Rattle.source_map.specs.declared.canvas.Placement.{Placement}
+use Rattle.source_map.specs.Maps.{IsMap, IsSource, SourceMap, map_at}
+use Rattle.source_map.specs.Choices.{new_source}
+use Rattle.box_walk.specs.declared.counts.Counts.{Counts}
+use Rattle.box_walk.specs.Pairs.{AreCounts, cell_in, has_next}
+use Rattle.box_walk.specs.Walks.{IsAtIndex}
+use Rattle.seams.specs.Lawful.{StaysOld}
+use Rattle.cut_check.specs.declared.bounds.Laid.{Laid}
+use Rattle.cut_check.specs.declared.record.CutRecord.{CutRecord}
+use Rattle.cut_check.specs.Flows.{IsBoundedAt, leaving}
+use Rattle.cut_check.specs.Records.{IsPartWhere, Setting}
+
+-- the box has a cell and lies in a map's output
+pub record LiesIn (m : SourceMap) (placement : Placement) : Type 0 where
+  pub map : IsMap m
+  pub some : HasCells placement.rect.size
+  pub small : IsSmall placement.rect.size
+  pub inside : HoldsBox m.size placement.rect.corner placement.rect.size
+
+-- and its sources lie in a sample
+pub record LiesOver (m : SourceMap) (sample : Cells) (placement : Placement) : Type 0 where
+  pub lies : LiesIn m placement
+  pub volume : IsVolume sample
+  pub sources : Holds sample placement.from placement.rect.size
+
+-- a walk has come to the cell at an index
+abbrev pub IsAt : Size → ℕ → Counts → Type 0
+IsAt size i at = IsAtIndex size i at.x at.y at.f
+
+-- something holds of each cell before an index
+abbrev pub EachBefore : Size → ℕ → (ℕ → ℕ → ℕ → Type 0) → Type 0
+EachBefore size i Holds = (x y f : ℕ) → AreCounts size x y f → raster_index size x y f < i →
+    Holds x y f
+
+-- the pair of a cell along an axis, if it has one, is within its bounds
+abbrev pub HoldsAlong : (At → At → ℕ) → SourceMap → CutRecord → ℕ → ℕ → ℕ → Axis → Type 0
+HoldsAlong d m cut x y f axis = has_next cut.placement.rect.size axis x y f ≡ true
+    → IsBoundedAt d m cut.placement cut.flows axis x y f
+
+-- a cell of the box has its source before the placement, and its new one
+pub record IsLaid (m : SourceMap) (placement : Placement) (laid : Laid) : Type 0 where
+  pub counts : AreCounts placement.rect.size laid.at.x laid.at.y laid.at.f
+  pub old : laid.old ≡ map_at m (cell_in placement.rect laid.at.x laid.at.y laid.at.f)
+  pub new : laid.new ≡ new_source placement (cell_in placement.rect laid.at.x laid.at.y laid.at.f)
+  pub near_old : IfSome laid.old IsSource
+  pub near_new : IsSource laid.new
+
+-- something holds of each axis
+abbrev pub EachAxis : (Axis → Type 0) → Type 0
+EachAxis Holds = (axis : Axis) → Holds axis
+
+-- something holds of each axis before one
+abbrev pub HoldsBefore : (Axis → Type 0) → Axis → Type 0
+HoldsBefore Holds X = ⊤
+HoldsBefore Holds Y = Holds X
+HoldsBefore Holds F = Holds X × Holds Y
+
+-- the first axis of which something doesn't hold
+pub record IsFirstAxis (Holds : Axis → Type 0) (axis : Axis) : Type 0 where
+  pub before : HoldsBefore Holds axis
+  pub here : Holds axis → ⊥
+
+-- of each cell of the box what leaves it, if it has to stay old, and 0 otherwise
+abbrev pub ArePartsOfValue : Setting → CutRecord → (ℕ → ℕ → ℕ → ℤ) → Type 0
+ArePartsOfValue s cut part = (x y f : ℕ) → AreCounts cut.placement.rect.size x y f
+    → IsPartWhere (StaysOld s.map cut.placement s.held (cell_in cut.placement.rect x y f))
+    (leaving cut.placement.rect.size cut.flows x y f) (part x y f)
+
+-- the most that leaves a cell along an axis, and altogether: sums of numbers of 16 bits
+abbrev pub most_along : ℕ
+most_along = 2 ^ 16
+
+abbrev pub most_leaving : ℕ
+most_leaving = 3 * most_along
+
+-- the greatest value: that of as many cells as a box may have
+abbrev pub most_value : ℕ
+most_value = most_leaving * MOST_CELLS

@@ -1,0 +1,10 @@
+use Rattle.std.proofs.Common.{◌∙◌, ap}
+use Rattle.cells.specs.Distances.{distance}
+use Rattle.source_map.specs.Maps.{SourceMap}
+use Rattle.seams.specs.Lawful.{window_after}
+use Rattle.seams.proofs.after.window_after.Goals as goal
+
+pub returns : goal.returns
+returns c =
+    c.pairs_of_box.ensures
+    ∙ ap (λ (m : SourceMap). window_after (distance c.args.sample.now) m c.args.placement.now c.args.choice.now) c.map-map.ensures.map

@@ -1,0 +1,12 @@
+use Rattle.std.proofs.Common.{◌≡◌, ◌≤◌, ◌*◌}
+use Rattle.cells.specs.Distances.{distance}
+use Rattle.box_sums.specs.Sums.{sum_to}
+use Rattle.box_walk.specs.Pairs.{cell_in}
+use Rattle.seams.specs.Costs.{most_of_cell, pairs_at}
+use Rattle.seams.proofs.sums.row.Given as goal
+
+abbrev pub invariant-loop-x : goal.invariant-loop-x
+invariant-loop-x g l = record {
+  sum : l.sum ≡ sum_to l.x (λ x. pairs_at (distance l.sample) (g.S.Sources.source_at l.sources) (cell_in l.rect x l.y l.f));
+  fits : l.sum ≤ most_of_cell * l.x;
+}

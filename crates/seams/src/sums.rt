@@ -1,0 +1,120 @@
+// The sums of the costs over the neighbours of a box, and of the whole output.
+ghost use Rattle.std.specs.Prelude.{◌≡◌, ◌<◌, ◌≤◌, IfSome};
+ghost use Rattle.cells.specs.Boxes.{HoldsBox};
+ghost use Rattle.cells.specs.Distances.{distance};
+ghost use Rattle.source_map.specs.Maps.{IsSource, map_at};
+ghost use Rattle.box_walk.specs.Pairs.{AreCounts, cell_in};
+ghost use Rattle.box_walk.specs.Raster.{largest};
+ghost use Rattle.seams.specs.Costs.{most_of_cell, most_of_frame, most_of_pair, most_of_row, pair_at, pairs_at, pairs_of_box, pairs_of_frame, pairs_of_row, total_of, window_of};
+
+use crate::intersection::intersection;
+use crate::pairs::seam_of;
+use crate::sources::{Sources, Within};
+use box_walk::{Counts, has_cells};
+use cells::{At, Axis, Box3, Volume};
+use source_map::Canvas;
+
+// The cost of a cell of source `a` and the next one along an axis.
+#[tactic(auto, using(crate::proofs::Near::next_asked))]
+fn pair<S: Sources>(
+    sources: &S,
+    sample: &Volume,
+    rect: &Box3,
+    at: Counts,
+    a: Option<At>,
+    axis: Axis,
+) -> u32
+    requires inside { HoldsBox largest rect.now.corner rect.now.size }
+    requires counts { AreCounts rect.now.size at.x at.y at.f }
+    requires source { a ≡ S.source_at sources.now (cell_in rect.now at.x at.y at.f) }
+    requires near { IfSome a IsSource }
+    ensures cost { result ≡ pair_at (distance sample.now) (S.source_at sources.now) axis
+        (cell_in rect.now at.x at.y at.f) }
+    ensures small { result ≤ most_of_pair }
+{
+    let next = at.cell(rect).plus(axis.unit());
+    seam_of(sample, axis, a, sources.source(next))
+}
+
+// The costs of a cell and the next one along each axis.
+#[tactic(auto, using(crate::proofs::Near::cell_asked))]
+fn pairs<S: Sources>(sources: &S, sample: &Volume, rect: &Box3, at: Counts) -> u32
+    requires inside { HoldsBox largest rect.now.corner rect.now.size }
+    requires counts { AreCounts rect.now.size at.x at.y at.f }
+    ensures cost { result ≡ pairs_at (distance sample.now) (S.source_at sources.now)
+        (cell_in rect.now at.x at.y at.f) }
+    ensures small { result ≤ most_of_cell }
+{
+    let a = sources.source(at.cell(rect));
+    pair(sources, sample, rect, at, a, Axis::X)
+        + pair(sources, sample, rect, at, a, Axis::Y)
+        + pair(sources, sample, rect, at, a, Axis::F)
+}
+
+// The costs of a row.
+fn row<S: Sources>(sources: &S, sample: &Volume, rect: &Box3, y: u32, f: u32) -> u64
+    requires inside { HoldsBox largest rect.now.corner rect.now.size }
+    requires counts { (y < rect.now.size.h) × (f < rect.now.size.f) }
+    ensures sum { result ≡ pairs_of_row (distance sample.now)
+        (S.source_at sources.now) rect.now y f }
+    ensures small { result ≤ most_of_row }
+{
+    let mut sum: u64 = 0;
+    for x in 0..rect.size.w {
+        sum += u64::from(pairs(sources, sample, rect, Counts { x, y, f }));
+    }
+    sum
+}
+
+// The costs of a frame.
+fn frame<S: Sources>(sources: &S, sample: &Volume, rect: &Box3, f: u32) -> u64
+    requires inside { HoldsBox largest rect.now.corner rect.now.size }
+    requires count { f < rect.now.size.f }
+    ensures sum { result ≡ pairs_of_frame (distance sample.now)
+        (S.source_at sources.now) rect.now f }
+    ensures small { result ≤ most_of_frame }
+{
+    let mut sum: u64 = 0;
+    for y in 0..rect.size.h {
+        sum += row(sources, sample, rect, y, f);
+    }
+    sum
+}
+
+/// Over the cells of a box, the costs of each and the next one along each axis, which may lie outside the
+/// box.
+pub fn pairs_of_box<S: Sources>(sources: &S, sample: &Volume, rect: &Box3) -> u64
+    requires { HoldsBox largest rect.now.corner rect.now.size }
+    ensures { result ≡ pairs_of_box (distance sample.now) (S.source_at sources.now) rect.now }
+{
+    let mut sum: u64 = 0;
+    for f in 0..rect.size.f {
+        sum += frame(sources, sample, rect, f);
+    }
+    sum
+}
+
+/// The window sum of a box: the sum of the costs over all neighbours that are both in the box. What of
+/// the box lies outside the output adds nothing.
+pub fn window(canvas: &Canvas, sample: &Volume, rect: &Box3) -> u64
+    ensures { result ≡ window_of (distance sample.now) rect.now (map_at canvas.now.map) }
+{
+    let map = canvas.map();
+    let inner = intersection(map.size(), rect);
+    if !has_cells(inner.size) {
+        return 0;
+    }
+    pairs_of_box(&Within { map, rect: inner }, sample, &inner)
+}
+
+/// The sum of the costs over all neighbours of the output: the window sum of the whole.
+pub fn total(canvas: &Canvas, sample: &Volume) -> u64
+    ensures { result ≡ total_of (distance sample.now) canvas.now.map.size (map_at canvas.now.map) }
+{
+    let map = canvas.map();
+    let rect = Box3 {
+        corner: At { x: 0, y: 0, f: 0 },
+        size: map.size(),
+    };
+    pairs_of_box(map, sample, &rect)
+}

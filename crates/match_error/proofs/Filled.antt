@@ -17,7 +17,7 @@ use Rattle.box_sums.proofs.Additions.{counts}
 use Rattle.box_sums.proofs.Axes.{sum_equal, sum_none}
 use Rattle.box_sums.proofs.Bounds.{sum_bound}
 use Rattle.source_map.specs.Maps.{SourceMap, IsMap, map_at, source_at}
-use Rattle.source_map.specs.Canvases.{mark_of, marks_of}
+use Rattle.source_map.specs.Canvases.{mark_of, filled_marks}
 use Rattle.match_error.specs.Errors.{filled_cells, one_filled}
 use Rattle.match_error.proofs.RowPlaces.{row_of}
 use Rattle.match_error.proofs.Runs.{run, run_more}
@@ -26,20 +26,20 @@ sum-mark : (k : ℕ) (source : Option At) → sum (mark_of k source) ≡ k * one
 sum-mark k None = omega (arith, sum_by-replicate (λ (n : ℕ). n) k 0)
 sum-mark k (Some from) = omega (arith, sum_by-replicate (λ (n : ℕ). n) k 1)
 
-sum-marks : (m : SourceMap) (k i w : ℕ) → i + w ≤ length m.sources → sum (run (marks_of m k).cells i w) ≡ k * sum_to w (λ x. one_filled (get_or m.sources (i + x) None))
+sum-marks : (m : SourceMap) (k i w : ℕ) → i + w ≤ length m.sources → sum (run (filled_marks m k).cells i w) ≡ k * sum_to w (λ x. one_filled (get_or m.sources (i + x) None))
 sum-marks m k i zero le = omega arith
 sum-marks m k i (suc w) le =
-    ap sum (run_more (marks_of m k).cells i w (omega (arith, length-map m.sources (mark_of k))))
-    ∙ sum_by-append (λ (n : ℕ). n) (run (marks_of m k).cells i w) (get_or (marks_of m k).cells (i + w) [])
-    ∙ ap (λ cell. sum (run (marks_of m k).cells i w) + sum cell) (get_or-map (mark_of k) m.sources (i + w) None [] (omega arith))
+    ap sum (run_more (filled_marks m k).cells i w (omega (arith, length-map m.sources (mark_of k))))
+    ∙ sum_by-append (λ (n : ℕ). n) (run (filled_marks m k).cells i w) (get_or (filled_marks m k).cells (i + w) [])
+    ∙ ap (λ cell. sum (run (filled_marks m k).cells i w) + sum cell) (get_or-map (mark_of k) m.sources (i + w) None [] (omega arith))
     ∙ omega (arith, sum-marks m k i w (omega arith), sum-mark k (get_or m.sources (i + w) None))
 
 -- the sum of the marks of a row is k for each filled cell
 pub row_marks : (m : SourceMap) (k : ℕ) (rect : Box3) (y f : ℕ) → IsMap m → 1 ≤ k → HoldsBox m.size rect.corner rect.size → 1 ≤ rect.size.w → y < rect.size.h → f < rect.size.f
-    → sum (row_at (marks_of m k) (plus rect.corner (spot 0 y f)) rect.size.w) / k ≡ sum_to rect.size.w (λ x. one_filled (map_at m (plus rect.corner (spot x y f))))
+    → sum (row_at (filled_marks m k) (plus rect.corner (spot 0 y f)) rect.size.w) / k ≡ sum_to rect.size.w (λ x. one_filled (map_at m (plus rect.corner (spot x y f))))
 row_marks m k rect y f is some inside wide ly lf =
     let row = row_of m.size rect.corner rect.size y f inside wide ly lf in
-    ap (λ bytes. sum bytes / k) (ap (run_from (marks_of m k).cells rect.size.w) row.start)
+    ap (λ bytes. sum bytes / k) (ap (run_from (filled_marks m k).cells rect.size.w) row.start)
     ∙ ap (λ n. n / k) (sum-marks m k row.first rect.size.w (omega (arith, is.count, row.fits)))
     ∙ mul-div_cancel_left _ some
     ∙ sum_equal counts rect.size.w _ _ (λ x lx. ap one_filled (sym (ap (source_at m.sources) (row.cell x lx))))

@@ -1,14 +1,15 @@
 -- Where the cells of a row of a box stand, and what stands in them.
 use Rattle.std.proofs.Common.{◌≡◌, ℕ, ◌+◌, ◌*◌, ◌<◌, ◌≤◌, [], refl, ap, sym, ◌∙◌, subst, arith, rules}
 use Rattle.std.proofs.lemmas.Int.{ints}
-use Rattle.std.specs.Prelude.{ℤ, pos, negsuc, ◌+ℤ◌, ◌≤ℤ◌, Some, FitsSigned, IsSome}
+use Rattle.std.specs.Prelude.{ℤ, pos, negsuc, ◌+ℤ◌, ◌≤ℤ◌, Some, FitsSigned, IsSome, length, unwrap_or}
 use Rattle.std.specs.Int.{w32}
 use Rattle.cells.specs.declared.place.At.{At}
 use Rattle.cells.specs.declared.place.Size.{Size}
 use Rattle.cells.specs.Boxes.{AxisHolds, HoldsBox}
-use Rattle.cells.specs.Cells.{Cells, IsVolume, row_at, run_from}
+use Rattle.cells.specs.Cells.{Cells, HasRun, Holds, IsVolume, index_of, row_at, run_from}
 use Rattle.cells.specs.Places.{HasAxes, IsInside, SumFits, cell_count, index_in, plus, spot}
-use Rattle.cells.proofs.Raster.{in_rows, index_of_spot, run_in_rows}
+use Rattle.cells.proofs.Raster.{has_index, in_rows, index_of_spot, run_in_rows}
+use Rattle.cells.proofs.PartBoxes.{held_run, inside_sum_fits, row_step, run_cells, run_of_volume}
 use Rattle.match_error.proofs.Runs.{HaveSamples, run}
 
 -- a run of cells along one axis, from a number on
@@ -76,5 +77,28 @@ module _ (v : Cells) (is : IsVolume v) where
   pub have_samples : HaveSamples v.k v.cells
   have_samples n lt = (is.cells n [] lt).samples
 
-  pub row_is_run : (p : At) (i w : ℕ) → index_in v.size p ≡ Some i → row_at v p w ≡ run v.cells i w
+  pub row_is_run : (p : At) (i w : ℕ) → index_of v p ≡ Some i → row_at v p w ≡ run v.cells i w
   row_is_run p i w at = ap (run_from v.cells w) at
+
+-- where a row of a box that the volume holds begins in it, in whichever part
+pub record IsVolumeRow (v : Cells) (corner : At) (w y f : ℕ) : Type 0 where
+  pub first : ℕ
+  pub fits : first + w ≤ length v.cells
+  pub cell : (x : ℕ) → x < w → index_of v (plus corner (spot x y f)) ≡ Some (first + x)
+  pub start : index_of v (plus corner (spot 0 y f)) ≡ Some first
+  pub run : HasRun v (plus corner (spot 0 y f)) w
+  pub sum : SumFits corner (spot 0 y f)
+
+pub row_in_volume : (v : Cells) → IsVolume v → (corner : At) (inner : Size) (y f : ℕ) → Holds v corner inner → 1 ≤ inner.w → y < inner.h → f < inner.f → IsVolumeRow v corner inner.w y f
+row_in_volume v is corner inner y f holds some ly lf =
+    let run = held_run v corner inner y f holds some ly lf in
+    let first = unwrap_or (index_of v (plus corner (spot 0 y f))) 0 in
+    let start : index_of v (plus corner (spot 0 y f)) ≡ Some first = has_index (index_of v (plus corner (spot 0 y f))) 0 run.first in
+    record {
+      first = first;
+      fits = omega (arith, is.count, run_of_volume v (plus corner (spot 0 y f)) first inner.w start run);
+      cell = λ x lx. ap (index_of v) (row_step corner x y f) ∙ run_cells v (plus corner (spot 0 y f)) first inner.w start run x lx;
+      start = start;
+      run = run;
+      sum = inside_sum_fits v is corner (spot 0 y f) run.first;
+    }

@@ -7,12 +7,12 @@ ghost use Rattle.box_sums.specs.Sums.{sum_to};
 ghost use Rattle.match_error.specs.Errors.{filled_cells, one_filled};
 
 use crate::rows::row_start;
-use cells::Box3;
+use cells::{Box3, GREATEST_AXIS, MOST_SAMPLES};
 use source_map::Canvas;
 
 // The sum of the marks of a row of cells.
 fn mark_sum(marks: &[u8]) -> u32
-    requires { length marks.now ≤ 24576 }
+    requires { length marks.now ≤ MOST_SAMPLES * GREATEST_AXIS }
     ensures { result ≡ sum marks.now }
 {
     marks.iter().map(|mark| u32::from(*mark)).sum()
@@ -22,7 +22,8 @@ fn mark_sum(marks: &[u8]) -> u32
 fn row_count(canvas: &Canvas, rect: &Box3, y: u32, f: u32) -> u32
     requires inside { HoldsBox canvas.now.map.size rect.now.corner rect.now.size }
     requires counts { (1 ≤ rect.now.size.w) × (y < rect.now.size.h) × (f < rect.now.size.f) }
-    ensures count { result ≡ sum_to rect.now.size.w (λ x. one_filled (map_at canvas.now.map (plus rect.now.corner (spot x y f)))) }
+    ensures count { result ≡ sum_to rect.now.size.w
+        (λ x. one_filled (map_at canvas.now.map (plus rect.now.corner (spot x y f)))) }
     ensures small { result ≤ rect.now.size.w }
 {
     let samples = canvas.picture().samples();
@@ -34,7 +35,9 @@ fn row_count(canvas: &Canvas, rect: &Box3, y: u32, f: u32) -> u32
 fn frame_count(canvas: &Canvas, rect: &Box3, f: u32) -> u32
     requires inside { HoldsBox canvas.now.map.size rect.now.corner rect.now.size }
     requires counts { (1 ≤ rect.now.size.w) × (f < rect.now.size.f) }
-    ensures count { result ≡ sum_to rect.now.size.h (λ y. sum_to rect.now.size.w (λ x. one_filled (map_at canvas.now.map (plus rect.now.corner (spot x y f))))) }
+    ensures count { result ≡ sum_to rect.now.size.h
+        (λ y. sum_to rect.now.size.w (λ x.
+        one_filled (map_at canvas.now.map (plus rect.now.corner (spot x y f))))) }
     ensures small { result ≤ rect.now.size.w * rect.now.size.h }
 {
     // The map is asked only to show the check that its size is small.
@@ -52,7 +55,7 @@ pub fn filled_count(canvas: &Canvas, rect: &Box3) -> u32
     ensures count { result ≡ filled_cells canvas.now.map rect.now }
     ensures small { result ≤ cell_count rect.now.size }
 {
-    // A box without columns may lie behind the last one, where there is no row to read.
+    // A box without columns may lie past the last one, where there is no row to read.
     if rect.size.w == 0 {
         return 0;
     }

@@ -12,8 +12,6 @@ mod counts;
 mod error;
 mod overlap;
 mod rows;
-#[cfg(test)]
-mod tests;
 
 pub use counts::filled_count;
 pub use error::{Error, within};

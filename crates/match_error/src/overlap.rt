@@ -1,9 +1,9 @@
 // The sums of the squared differences over the filled cells of a placement's box.
 ghost use Rattle.std.specs.Prelude.{◌≡◌, ◌≤◌, ◌<◌, ◌+◌, ◌*◌, ◌^◌, IfNone, IfSome};
 ghost use Rattle.cells.specs.Places.{IsSmall};
-ghost use Rattle.source_map.specs.Canvases.{Stands};
+ghost use Rattle.source_map.specs.Canvases.{StandsOver};
 ghost use Rattle.source_map.specs.Choices.{Fits, box_count};
-ghost use Rattle.match_error.specs.Errors.{error_of, error_sum, frame_error, row_error};
+ghost use Rattle.match_error.specs.Errors.{error_of, error_sum, frame_error, most_frame_error, most_row_error, row_error};
 ghost use Rattle.box_sums.specs.Sums.{sum_to};
 
 use crate::Error;
@@ -15,14 +15,14 @@ use source_map::{Canvas, Placement};
 
 // The sum over a row of the box.
 fn row_sum(canvas: &Canvas, sample: &Volume, placement: &Placement, y: u32, f: u32) -> u64
-    requires over { Stands canvas.now sample.now }
+    requires over { StandsOver canvas.now sample.now }
     requires fits { Fits canvas.now.map.size sample.now placement.now }
     requires counts { (y < placement.now.rect.size.h) × (f < placement.now.rect.size.f) }
     ensures sum { result ≡ row_error canvas.now.map sample.now placement.now y f }
-    ensures small { result ≤ 1598054400 }
+    ensures small { result ≤ most_row_error }
 {
-    // The size is asked only to show the check that the sample is a volume.
-    let _sample = sample.size();
+    // It is asked for only to show the check that the sample is a volume.
+    let _sample = sample.samples();
     let picture = canvas.picture();
     let at = row_start(placement.rect.corner, y, f);
     let from = row_start(placement.from, y, f);
@@ -43,16 +43,18 @@ fn with_frame(
     before: u64,
     limit: u64,
 ) -> Option<u64>
-    requires over { Stands canvas.now sample.now }
+    requires over { StandsOver canvas.now sample.now }
     requires fits { Fits canvas.now.map.size sample.now placement.now }
     requires small { IsSmall placement.now.rect.size }
     requires count { f < placement.now.rect.size.f }
-    requires before { before ≤ 6545630822400 * f }
+    requires before { before ≤ most_frame_error * f }
     requires so_far { before ≤ limit }
-    ensures some { IfSome result (λ sum. sum ≡ before + frame_error canvas.now.map sample.now placement.now f) }
+    ensures some { IfSome result (λ sum. sum ≡
+        before + frame_error canvas.now.map sample.now placement.now f) }
     ensures most { IfSome result (λ sum. sum ≤ limit) }
-    ensures small { IfSome result (λ sum. sum ≤ 6545630822400 * (f + 1)) }
-    ensures none { IfNone result (limit < before + frame_error canvas.now.map sample.now placement.now f) }
+    ensures small { IfSome result (λ sum. sum ≤ most_frame_error * (f + 1)) }
+    ensures none { IfNone result (limit <
+        before + frame_error canvas.now.map sample.now placement.now f) }
 {
     let mut sum = before;
     for y in 0..placement.rect.size.h {
@@ -72,7 +74,7 @@ pub fn error_sum_within(
     placement: &Placement,
     limit: u64,
 ) -> Option<u64>
-    requires over { Stands canvas.now sample.now }
+    requires over { StandsOver canvas.now sample.now }
     requires fits { Fits canvas.now.map.size sample.now placement.now }
     ensures some { IfSome result (λ sum. sum ≡ error_sum canvas.now.map sample.now placement.now) }
     ensures most { IfSome result (λ sum. sum ≤ limit) }
@@ -80,9 +82,9 @@ pub fn error_sum_within(
     ensures bound { error_sum canvas.now.map sample.now placement.now ≤ 2 ^ 48 }
     ensures none { IfNone result (limit < error_sum canvas.now.map sample.now placement.now) }
 {
-    // The sizes are asked only to show the check that they are small.
+    // They are asked for only to show the check that these are a map and a volume.
     let _map = canvas.map();
-    let _sample = sample.size();
+    let _sample = sample.samples();
     let mut sum: u64 = 0;
     for f in 0..placement.rect.size.f {
         sum = with_frame(canvas, sample, placement, f, sum, limit)?;
@@ -92,7 +94,7 @@ pub fn error_sum_within(
 
 /// The overlap error of a placement.
 pub fn overlap_error(canvas: &Canvas, sample: &Volume, placement: &Placement) -> Error
-    requires over { Stands canvas.now sample.now }
+    requires over { StandsOver canvas.now sample.now }
     requires fits { Fits canvas.now.map.size sample.now placement.now }
     ensures error { result ≡ error_of canvas.now.map sample.now placement.now }
     ensures small { result.sum ≤ 2 ^ 48 }

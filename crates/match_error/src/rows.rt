@@ -2,11 +2,11 @@
 ghost use Rattle.std.specs.Prelude.{◌≡◌, ◌<◌};
 ghost use Rattle.cells.specs.Places.{SumFits, plus, spot};
 
-use cells::At;
+use cells::{At, GREATEST_AXIS};
 
 /// The first place of a row of a box, by the counts of its row and frame from the box's corner.
 pub(crate) fn row_start(corner: At, y: u32, f: u32) -> At
-    requires counts { (y < 4096) × (f < 4096) }
+    requires counts { (y < GREATEST_AXIS) × (f < GREATEST_AXIS) }
     requires fits { SumFits corner (spot 0 y f) }
     ensures { result ≡ plus corner (spot 0 y f) }
 {

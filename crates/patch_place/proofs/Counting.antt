@@ -34,7 +34,7 @@ AllZip-take R [] (y ∷ ys) (suc i) zip = absurd zip
 AllZip-take R (x ∷ xs) [] (suc i) zip = absurd zip
 AllZip-take R (x ∷ xs) (y ∷ ys) (suc i) zip = (zip.0, AllZip-take R xs ys i zip.1)
 
--- an entry that passes stands behind those before it that pass
+-- an entry that passes stands after those before it that pass
 pub passed_at : {X : Type 0} (q : X → Bool) (xs : List X) (i : ℕ) (x : X) → slice_get xs i ≡ Some x → q x ≡ true → slice_get (filter q xs) (length (filter q (take i xs))) ≡ Some x
 passed_at q [] i x at passes = absurd (none-some x at)
 passed_at q (y ∷ ys) zero x at passes = here (q y) (subst (λ z. q z ≡ true) (sym (same_Some y x at)) passes)

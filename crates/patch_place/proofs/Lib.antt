@@ -1,5 +1,7 @@
+pub mod Parts
 pub mod Walking
 pub mod Spans
+pub mod Stocks
 pub mod Fitting
 pub mod BoxLists
 pub mod Bests
@@ -7,3 +9,6 @@ pub mod Counting
 pub mod Picking
 pub mod Stepping
 pub mod Limits
+pub mod PartLists
+pub mod BoxWalk
+pub mod OnePick

@@ -1,24 +1,25 @@
 -- Sums that are left unfinished: past the limit an error is beaten by an entry of the table.
-use Rattle.std.proofs.Common.{◌≡◌, ℕ, ◌+◌, ◌*◌, ◌^◌, ◌<◌, ◌≤◌, min, List, [], ◌∷◌, ◌++◌, length, map, sym, subst, ap, ◌∙◌, inl, inr, arith}
+use Rattle.std.proofs.Common.{◌≡◌, ℕ, ◌+◌, ◌*◌, ◌^◌, ◌<◌, ◌≤◌, min, List, [], ◌∷◌, ◌++◌, length, map, sym, subst, ap, ◌∙◌, inl, inr, refl, arith}
 use Rattle.std.proofs.Math.Nat.{mul-le-mul_right}
 use Rattle.std.proofs.lemmas.Bool.{cases_lt, lt-leb}
-use Rattle.std.proofs.lemmas.List.{length-map}
-use Rattle.std.proofs.lemmas.List.Elements.{All-map, AllZip-push, Contains-append_left, Contains-push}
+use Rattle.std.proofs.lemmas.List.{length-map, length-replicate}
+use Rattle.std.proofs.lemmas.List.Elements.{All-map, All-replicate, All-push, All-same, AllZip-push, Contains-append_left, Contains-push}
 use Rattle.std.specs.Prelude.{◌⊎◌, All, Some, replicate, slice_get}
 use Rattle.std.specs.List.{AllZip}
 use Rattle.match_error.specs.declared.error.Error.{Error}
 use Rattle.match_error.specs.Errors.{error_of, filled_cells}
-use Rattle.cells.specs.declared.place.At.{At}
 use Rattle.cells.specs.declared.place.Box3.{Box3}
 use Rattle.cells.specs.declared.place.Size.{Size}
 use Rattle.cells.specs.Boxes.{HoldsBox}
-use Rattle.cells.specs.Cells.{Cells}
+use Rattle.cells.specs.Cells.{Cells, sizes_of}
 use Rattle.source_map.specs.declared.canvas.Placement.{Placement}
 use Rattle.source_map.specs.Choices.{Fits}
 use Rattle.source_map.specs.Maps.{SourceMap}
-use Rattle.patch_place.specs.Lists.{fit_list, places, room}
-use Rattle.patch_place.specs.Tables.{IsBeaten, IsEntry, IsLimit, IsTable, IsUnfilled, StandsFor}
-use Rattle.patch_place.proofs.Counting.{All-each, All-slice_get, AllZip-replicate, AllZip-weaker, first_at, map_at}
+use Rattle.patch_place.specs.declared.errors.BoxTable.{BoxTable}
+use Rattle.patch_place.specs.Lists.{filled_from, fit_list, from_part, part_lists, room}
+use Rattle.patch_place.specs.Tables.{AreTableErrors, IsBeaten, IsEntry, IsLimit, IsLow, IsMore, IsNextLimit, IsTableOf, IsUnfilled, StandsForError}
+use Rattle.patch_place.proofs.Counting.{All-each, All-slice_get, AllZip-replicate, AllZip-weaker, first_at}
+use Rattle.patch_place.proofs.Fitting.{all_over, over_parts}
 
 still_beaten : (tol : ℕ) (table : List Error) (entry error : Error) → IsBeaten tol table error → IsBeaten tol (table ++ entry ∷ []) error
 still_beaten tol table entry error is = record {
@@ -28,7 +29,7 @@ still_beaten tol table entry error is = record {
   far = is.far;
 }
 
-still_stands : (tol : ℕ) (table : List Error) (more entry error : Error) → StandsFor tol table entry error → StandsFor tol (table ++ more ∷ []) entry error
+still_stands : (tol : ℕ) (table : List Error) (more entry error : Error) → StandsForError tol table entry error → StandsForError tol (table ++ more ∷ []) entry error
 still_stands tol table more entry error stands =
     elim stands [
       | inl same ↦ inl same
@@ -66,41 +67,48 @@ limit_falls tol table entry count limit made some filled past is = λ error coun
     ]
 
 -- one more entry of a table
-pub table_more : (tol : ℕ) (table errors : List Error) (entry error : Error) (count limit : ℕ) → IsTable tol table errors → IsLimit tol table count limit → error.count ≡ count → IsEntry limit entry error → IsTable tol (table ++ entry ∷ []) (errors ++ error ∷ [])
+pub table_more : (tol : ℕ) (table errors : List Error) (entry error : Error) (count limit : ℕ) → AreTableErrors tol table errors → IsLimit tol table count limit → error.count ≡ count → IsEntry limit entry error → AreTableErrors tol (table ++ entry ∷ []) (errors ++ error ∷ [])
 table_more tol table errors entry error count limit stands is counted made =
-    AllZip-push (StandsFor tol (table ++ entry ∷ [])) table errors entry error
-    (AllZip-weaker (StandsFor tol table) (StandsFor tol (table ++ entry ∷ [])) (still_stands tol table entry) table errors stands)
+    AllZip-push (StandsForError tol (table ++ entry ∷ [])) table errors entry error
+    (AllZip-weaker (StandsForError tol table) (StandsForError tol (table ++ entry ∷ [])) (still_stands tol table entry) table errors stands)
     (elim made [
       | inl same ↦ inl same
       | inr past ↦ inr (past.0, inr (still_beaten tol table entry error (is error counted past.1 past.2)))
     ])
 
 -- each entry of a box's list has the box
-pub same_box : (sample : Size) (rect : Box3) (i : ℕ) (placement : Placement) → slice_get (fit_list sample rect) i ≡ Some placement → placement.rect ≡ rect
-same_box sample rect i placement at =
-    let made = map_at (λ (from : At). record { rect = rect; from = from }) (places (room sample rect.size)) i placement at in
-    ap (λ (p : Placement). p.rect) (sym made.2)
+has_box : (sample : Cells) (rect : Box3) → All (λ (placement : Placement). placement.rect ≡ rect) (part_lists (fit_list rect) sample)
+has_box sample rect =
+    over_parts (λ placement. placement.rect ≡ rect) (fit_list rect) sample
+    (λ number n part e at. all_over (λ placement. (from_part (sizes_of sample) number placement).rect ≡ rect) (filled_from rect) (room part rect.size) (λ i lt. refl))
+
+same_box : (sample : Cells) (rect : Box3) (i : ℕ) (placement : Placement) → slice_get (part_lists (fit_list rect) sample) i ≡ Some placement → placement.rect ≡ rect
+same_box sample rect i placement at = All-slice_get (λ (placement : Placement). placement.rect ≡ rect) (part_lists (fit_list rect) sample) i placement (has_box sample rect) at
 
 -- the box of a list with an entry lies in the output
-pub box_inside : (output : Size) (sample : Cells) (rect : Box3) → 0 < length (fit_list sample.size rect) → All (Fits output sample) (fit_list sample.size rect) → HoldsBox output rect.corner rect.size
+pub box_inside : (output : Size) (sample : Cells) (rect : Box3) → 0 < length (part_lists (fit_list rect) sample) → All (Fits output sample) (part_lists (fit_list rect) sample) → HoldsBox output rect.corner rect.size
 box_inside output sample rect some all =
-    let first = first_at (fit_list sample.size rect) some in
-    let fits = All-slice_get (Fits output sample) (fit_list sample.size rect) 0 first.0 all first.1 in
-    subst (λ (r : Box3). HoldsBox output r.corner r.size) (same_box sample.size rect 0 first.0 first.1) fits.inside
-
--- as many cells of each candidate are filled
-pub same_count : (m : SourceMap) (sample : Size) (rect : Box3) (i : ℕ) (placement : Placement) → slice_get (fit_list sample rect) i ≡ Some placement → filled_cells m placement.rect ≡ filled_cells m rect
-same_count m sample rect i placement at = ap (filled_cells m) (same_box sample rect i placement at)
+    let first = first_at (part_lists (fit_list rect) sample) some in
+    let fits = All-slice_get (Fits output sample) (part_lists (fit_list rect) sample) 0 first.0 all first.1 in
+    subst (λ (r : Box3). HoldsBox output r.corner r.size) (same_box sample rect 0 first.0 first.1) fits.inside
 
 -- entries without filled cells stand for errors that have none
-pub unfilled_stands : (tol : ℕ) (m : SourceMap) (sample : Cells) (rect : Box3) → filled_cells m rect ≡ 0 → (unfilled : Error) → IsUnfilled unfilled → IsTable tol (replicate (length (fit_list sample.size rect)) unfilled) (map (error_of m sample) (fit_list sample.size rect))
+pub unfilled_stands : (tol : ℕ) (m : SourceMap) (sample : Cells) (rect : Box3) → filled_cells m rect ≡ 0 → (unfilled : Error) → IsUnfilled unfilled → AreTableErrors tol (replicate (length (part_lists (fit_list rect) sample)) unfilled) (map (error_of m sample) (part_lists (fit_list rect) sample))
 unfilled_stands tol m sample rect none unfilled is =
-    let list = fit_list sample.size rect in
+    let list = part_lists (fit_list rect) sample in
     let errors = map (error_of m sample) list in
-    let R = StandsFor tol (replicate (length list) unfilled) in
+    let R = StandsForError tol (replicate (length list) unfilled) in
     let all : All (R unfilled) errors = All-map (R unfilled) (error_of m sample) list (All-each (λ placement. R unfilled (error_of m sample placement)) list
-    (λ i placement at. inr (is, inl (same_count m sample.size rect i placement at ∙ none)))) in
+    (λ i placement at. inr (is, inl (ap (filled_cells m) (same_box sample rect i placement at) ∙ none)))) in
     subst (λ n. AllZip R (replicate n unfilled) errors) (length-map list (error_of m sample)) (AllZip-replicate R unfilled errors all)
+
+pub unfilled_table : (tol : ℕ) (m : SourceMap) (sample : Cells) (rect : Box3) → filled_cells m rect ≡ 0 → (unfilled : Error) → IsUnfilled unfilled → IsLow unfilled → length (part_lists (fit_list rect) sample) < 2 ^ 32
+    → IsTableOf tol (replicate (length (part_lists (fit_list rect) sample)) unfilled) (map (error_of m sample) (part_lists (fit_list rect) sample))
+unfilled_table tol m sample rect none unfilled is low few = record {
+  stands = unfilled_stands tol m sample rect none unfilled is;
+  low = All-replicate IsLow (length (part_lists (fit_list rect) sample)) unfilled low;
+  few = omega (arith, few, length-replicate {A = Error});
+}
 
 -- an entry has as many filled cells as its error, or none
 pub entry_count : (limit count : ℕ) (entry error : Error) → error.count ≡ count → IsEntry limit entry error → IsUnfilled entry ⊎ (entry.count ≡ count)
@@ -117,3 +125,19 @@ limit_after tol table entry count limit made least e some not filled past is =
       | inl unfilled ↦ absurd (not unfilled)
       | inr counted ↦ subst (IsLimit tol (table ++ entry ∷ []) count) (sym e) (limit_falls tol table entry count limit made some counted past is)
     ]
+
+-- one more entry of a table of a box
+pub box_more : (was now : BoxTable) (entry error : Error) → now.tol ≡ was.tol → now.count ≡ was.count → now.errors.items ≡ was.errors.items ++ entry ∷ [] → error.count ≡ was.count → 1 ≤ was.count → IsLow entry → IsEntry was.limit entry error → IsNextLimit was.tol was.limit entry now.limit → IsMore was now error
+box_more was now entry error tol counted items filled some low made next count errors is = record {
+  filled = counted ∙ is.filled;
+  stands =
+      subst (λ t. AreTableErrors t now.errors.items (errors ++ error ∷ [])) (sym tol)
+      (subst (λ table. AreTableErrors was.tol table (errors ++ error ∷ [])) (sym items)
+      (table_more was.tol was.errors.items errors entry error was.count was.limit is.stands is.limited filled made));
+  limited =
+      subst (λ t. IsLimit t now.errors.items now.count now.limit) (sym tol)
+      (subst (λ n. IsLimit was.tol now.errors.items n now.limit) (sym counted)
+      (subst (λ table. IsLimit was.tol table was.count now.limit) (sym items)
+      (next was.errors.items was.count some (entry_count was.limit was.count entry error filled made) is.limited)));
+  low = All-same IsLow _ _ items (All-push IsLow was.errors.items entry is.low low);
+}

@@ -12,19 +12,19 @@ use Rattle.match_error.specs.Errors.{is_within}
 use Rattle.source_map.specs.declared.canvas.Placement.{Placement}
 use Rattle.patch_place.specs.Draws.{DrawState, draw}
 use Rattle.patch_place.specs.Picks.{AreEligible, IsBest, is_eligible}
-use Rattle.patch_place.specs.Tables.{IsBeaten, IsNear, IsPickAt, IsPickOf, IsTable, IsUnfilled, StandsFor}
+use Rattle.patch_place.specs.Tables.{IsBeaten, IsNear, IsPickAt, IsPickOf, AreTableErrors, IsUnfilled, StandsForError}
 use Rattle.patch_place.proofs.Bests.{between, far_is_more, same_eligible, still_within}
 use Rattle.patch_place.proofs.Counting.{AllZip-from_map, AllZip-left, AllZip-right, AllZip-same, AllZip-take, Contains-slice_get, kept_alike, map_at, passed_at, slice_get-Contains}
 
 -- a table of the errors themselves
-pub table_of_errors : (t : ℕ) (table errors : List Error) → table ≡ errors → IsTable t table errors
-table_of_errors t table errors e = subst (IsTable t table) e (AllZip-same (StandsFor t table) (λ error. inl refl) table)
+pub table_of_errors : (t : ℕ) (table errors : List Error) → table ≡ errors → AreTableErrors t table errors
+table_of_errors t table errors e = subst (AreTableErrors t table) e (AllZip-same (StandsForError t table) (λ error. inl refl) table)
 
 -- where no entry has a filled cell, no candidate has one
-unfilled_errors : (t : ℕ) (table errors : List Error) → IsTable t table errors → All IsUnfilled table → (error : Error) → Contains errors error → error.count ≡ 0
+unfilled_errors : (t : ℕ) (table errors : List Error) → AreTableErrors t table errors → All IsUnfilled table → (error : Error) → Contains errors error → error.count ≡ 0
 unfilled_errors t table errors stands none error has =
     let at = Contains-slice_get errors error has in
-    let entry = AllZip-right (StandsFor t table) table errors at.0 error stands at.1 in
+    let entry = AllZip-right (StandsForError t table) table errors at.0 error stands at.1 in
     elim entry.2 [
       | inl same ↦ subst IsUnfilled same (All-contains IsUnfilled table entry.0 none (slice_get-Contains table entry.0 at.0 entry.1))
       | inr other ↦ elim other.1 [
@@ -34,11 +34,11 @@ unfilled_errors t table errors stands none error has =
     ]
 
 -- the best of the table is the best of the errors
-best_of_table : (t : ℕ) (table errors : List Error) (best : Error) → IsTable t table errors → IsBest table best → IsBest errors best
+best_of_table : (t : ℕ) (table errors : List Error) (best : Error) → AreTableErrors t table errors → IsBest table best → IsBest errors best
 best_of_table t table errors best stands is = record {
   listed =
       let at = Contains-slice_get table best is.listed in
-      let error = AllZip-left (StandsFor t table) table errors at.0 best stands at.1 in
+      let error = AllZip-left (StandsForError t table) table errors at.0 best stands at.1 in
       elim error.2 [
         | inl same ↦ subst (Contains errors) (sym same) (slice_get-Contains errors error.0 at.0 error.1)
         | inr other ↦ absurd (omega (arith, is.filled, other.0))
@@ -46,7 +46,7 @@ best_of_table t table errors best stands is = record {
   filled = is.filled;
   least = λ error has filled.
       let at = Contains-slice_get errors error has in
-      let entry = AllZip-right (StandsFor t table) table errors at.0 error stands at.1 in
+      let entry = AllZip-right (StandsForError t table) table errors at.0 error stands at.1 in
       elim entry.2 [
         | inl same ↦ is.least error (subst (Contains table) same (slice_get-Contains table entry.0 at.0 entry.1)) filled
         | inr other ↦ elim other.1 [
@@ -69,7 +69,7 @@ far_is_not t best error far = ap (λ (b : Bool). nat_lt 0 error.count && b) far 
     neither false = refl
 
 -- an entry is eligible exactly where its error is
-same_in_table : (t : ℕ) (table : List Error) (best : Error) → IsBest table best → (entry error : Error) → StandsFor t table entry error → is_eligible t best entry ≡ is_eligible t best error
+same_in_table : (t : ℕ) (table : List Error) (best : Error) → IsBest table best → (entry error : Error) → StandsForError t table entry error → is_eligible t best entry ≡ is_eligible t best error
 same_in_table t table best is entry error stands =
     elim stands [
       | inl same ↦ ap (is_eligible t best) same
@@ -94,25 +94,25 @@ all_unfilled : (f : Placement → Error) (t : ℕ) (list : List Placement) → (
 all_unfilled f t list none = record {
   all_alike = λ e. refl;
   none_filled = λ e. refl;
-  near = λ u e best is. absurd (omega (arith, is.filled, none best is.listed));
+  near_best = λ u e best is. absurd (omega (arith, is.filled, none best is.listed));
 }
 
 -- those near the best are eligible
-near_best : (f : Placement → Error) (t : ℕ) (list : List Placement) (best : Error) → IsBest (map f list) best → AreEligible f (Some t) list (filter (λ candidate. is_eligible t best (f candidate)) list)
-near_best f t list best is = record {
+near_best_are : (f : Placement → Error) (t : ℕ) (list : List Placement) (best : Error) → IsBest (map f list) best → AreEligible f (Some t) list (filter (λ candidate. is_eligible t best (f candidate)) list)
+near_best_are f t list best is = record {
   all_alike = λ e. absurd (none-some t (sym e));
   none_filled = λ none.
       let at = Contains-slice_get (map f list) best is.listed in
       let candidate = map_at f list at.0 best at.1 in
       absurd (omega (arith, is.filled, none candidate.0 (slice_get-Contains list candidate.0 at.0 candidate.1), ap (λ (e : Error). e.count) candidate.2));
-  near = λ u e other also.
+  near_best = λ u e other also.
       filter_agree (λ candidate. is_eligible t best (f candidate)) (λ candidate. is_eligible u other (f candidate))
       (λ candidate. same_eligible t (map f list) best other is also (f candidate) ∙ ap (λ (n : ℕ). is_eligible n other (f candidate)) (same_Some t u e)) list;
 }
 
-pick_unfilled : (f : Placement → Error) (t : ℕ) (list : List Placement) (table : List Error) (draws : DrawState) (i : ℕ) → 0 < length list → IsTable t table (map f list) → All IsUnfilled table → i ≡ draw draws.seed draws.place (length table) → IsPickAt f (Some t) list draws i
+pick_unfilled : (f : Placement → Error) (t : ℕ) (list : List Placement) (table : List Error) (draws : DrawState) (i : ℕ) → 0 < length list → AreTableErrors t table (map f list) → All IsUnfilled table → i ≡ draw draws.seed draws.place (length table) → IsPickAt f (Some t) list draws i
 pick_unfilled f t list table draws i some stands none e =
-    let long : length table ≡ length list = length_all_zip (StandsFor t table) table (map f list) stands ∙ length-map list f in
+    let long : length table ≡ length list = length_all_zip (StandsForError t table) table (map f list) stands ∙ length-map list f in
     let drawn : i ≡ draw draws.seed draws.place (length list) = e ∙ ap (λ n. draw draws.seed draws.place n) long in
     record {
       below = omega (arith, drawn);
@@ -123,12 +123,12 @@ pick_unfilled f t list table draws i some stands none e =
       };
     }
 
-pick_near : (f : Placement → Error) (t : ℕ) (list : List Placement) (table : List Error) (draws : DrawState) (i : ℕ) → IsTable t table (map f list) → (best : Error) → IsNear t table draws i best → IsPickAt f (Some t) list draws i
+pick_near : (f : Placement → Error) (t : ℕ) (list : List Placement) (table : List Error) (draws : DrawState) (i : ℕ) → AreTableErrors t table (map f list) → (best : Error) → IsNear t table draws i best → IsPickAt f (Some t) list draws i
 pick_near f t list table draws i stands best near =
-    let zip : AllZip (λ entry candidate. StandsFor t table entry (f candidate)) table list = AllZip-from_map (StandsFor t table) f table list stands in
+    let zip : AllZip (λ entry candidate. StandsForError t table entry (f candidate)) table list = AllZip-from_map (StandsForError t table) f table list stands in
     let p : Error → Bool = is_eligible t best in
     let q : Placement → Bool = λ candidate. is_eligible t best (f candidate) in
-    let R : Error → Placement → Type 0 = λ entry candidate. StandsFor t table entry (f candidate) in
+    let R : Error → Placement → Type 0 = λ entry candidate. StandsForError t table entry (f candidate) in
     let same : (entry : Error) (candidate : Placement) → R entry candidate → p entry ≡ q candidate = λ entry candidate. same_in_table t table best near.best_one entry (f candidate) in
     let partner = AllZip-left R table list i near.nth.entry zip near.nth.at in
     let all : count_by p table ≡ length (filter q list) = sym (length-filter p table) ∙ kept_alike R p q same table list zip in
@@ -141,12 +141,12 @@ pick_near f t list table draws i stands best near =
           let passes : q placement ≡ true = subst (λ candidate. q candidate ≡ true) here (sym (same near.nth.entry partner.0 partner.2) ∙ near.nth.passes) in
           record {
             eligible = filter q list;
-            are = near_best f t list best (best_of_table t table (map f list) best stands near.best_one);
+            are = near_best_are f t list best (best_of_table t table (map f list) best stands near.best_one);
             drawn = subst (λ n. slice_get (filter q list) n ≡ Some placement) front (passed_at q list i placement at passes);
           };
     }
 
-pub pick_from_table : (f : Placement → Error) (t : ℕ) (list : List Placement) (table : List Error) (draws : DrawState) (i : ℕ) → 0 < length list → IsTable t table (map f list) → IsPickOf t table draws i → IsPickAt f (Some t) list draws i
+pub pick_from_table : (f : Placement → Error) (t : ℕ) (list : List Placement) (table : List Error) (draws : DrawState) (i : ℕ) → 0 < length list → AreTableErrors t table (map f list) → IsPickOf t table draws i → IsPickAt f (Some t) list draws i
 pick_from_table f t list table draws i some stands is =
     elim is [
       | inl none ↦ pick_unfilled f t list table draws i some stands none.0 none.1

@@ -1,16 +1,11 @@
 -- Along each axis a candidate lies in the output and in the sample, and has q.
-use Rattle.std.proofs.Common.{◌≡◌, ℕ, ◌+◌, ◌-◌, ◌*◌, ◌/◌, ◌<◌, ◌≤◌, min, refl, arith}
+use Rattle.std.proofs.Common.{◌≡◌, ℕ, ◌+◌, ◌-◌, ◌*◌, ◌/◌, ◌%◌, ◌<◌, ◌≤◌, min, refl, ap, sym, subst, arith, ⊎_elim}
+use Rattle.std.proofs.Math.Nat.{mul-le-mul_right}
+use Rattle.std.proofs.lemmas.Bool.{cases_lt}
 use Rattle.std.proofs.lemmas.Int.{ints}
+use Rattle.std.proofs.lemmas.Nat.{div-add-mod', mod_below}
 use Rattle.std.specs.Prelude.{ℤ, pos, negsuc, ◌+ℤ◌, ◌-ℤ◌, ◌≤ℤ◌}
-use Rattle.patch_place.specs.declared.axis.Span.{Span}
-use Rattle.patch_place.specs.Axes.{at_least_0, grid_corner, grid_on, grid_step, laid_on, part_corner, part_len}
-
-pub record SpanFits (T S q : ℕ) (span : Span) : Type 0 where
-  pub some : 1 ≤ span.len
-  pub inside : span.corner + span.len ≤ T
-  pub sources : span.from + span.len ≤ S
-  pub before : span.corner ≤ q
-  pub covers : q < span.corner + span.len
+use Rattle.patch_place.specs.Axes.{IsGridCorner, SpanFits, at_least_0, grid_corner, grid_on, grid_overlap, grid_step, laid_on, patch_corner, patch_len}
 
 -- a number that is at least 0 stands, and a lesser one becomes 0
 at_least_pos : (z : ℤ) (n : ℕ) → z ≡ pos n → at_least_0 z ≡ n
@@ -53,16 +48,36 @@ grid_fits T S overlap q some inside =
       covers = omega arith;
     }
 
--- the same of a part of the length B from a coordinate of the sample on
-pub part_fits : (T S side overlap q from : ℕ) → 1 ≤ side → 1 ≤ S → q < T → from < S + 1 - part_len T S side → SpanFits T S q (record { corner = part_corner T (part_len T S side) overlap q; len = part_len T S side; from = from })
-part_fits T S side overlap q from has some inside free =
-    parts (part_len T S side) (part_corner T (part_len T S side) overlap q) (omega arith) (omega arith) free (omega (arith, difference q (min overlap (part_len T S side - 1))))
+-- the same of a patch of the length B from a coordinate of the part on, where L is the least axis of all parts
+pub patch_fits : (T L S side overlap q from : ℕ) → 1 ≤ side → 1 ≤ L → L ≤ S → q < T → from < S + 1 - patch_len T L side → SpanFits T S q (record { corner = patch_corner T (patch_len T L side) overlap q; len = patch_len T L side; from = from })
+patch_fits T L S side overlap q from has some least inside free =
+    patches (patch_len T L side) (patch_corner T (patch_len T L side) overlap q) (omega arith) (omega arith) free (omega (arith, difference q (min overlap (patch_len T L side - 1))))
   where
-    parts : (B corner : ℕ) → 1 ≤ B → B ≤ T → from < S + 1 - B → corner ≡ min (T - B) (q - min overlap (B - 1)) → SpanFits T S q (record { corner = corner; len = B; from = from })
-    parts B corner least most room e = record {
+    patches : (B corner : ℕ) → 1 ≤ B → B ≤ T → from < S + 1 - B → corner ≡ min (T - B) (q - min overlap (B - 1)) → SpanFits T S q (record { corner = corner; len = B; from = from })
+    patches B corner least most room e = record {
       some = omega arith;
       inside = omega arith;
       sources = omega arith;
       before = omega arith;
       covers = omega arith;
     }
+
+pub least_corner : (S step q : ℕ) → 1 ≤ step → step ≤ S → IsGridCorner S step q (grid_corner S step q)
+least_corner S step q some most = by ((q + step - S) / step) ((q + step - S) % step) (div-add-mod' (q + step - S) step) (mod_below (q + step - S) step some)
+  where
+    by : (d r : ℕ) → d * step + r ≡ q + step - S → r < step → IsGridCorner S step q (d * step)
+    by d r whole below = record {
+      multiple = (d, refl);
+      greater = omega (arith, ints, whole);
+      least = λ k past.
+          ⊎_elim (λ more. let next : (k + 1) * step ≤ d * step = mul-le-mul_right step (let le : k + 1 ≤ d = omega arith in le) in absurd (omega (arith, ints, whole, next, past))) (λ le. mul-le-mul_right step le) (cases_lt k d);
+    }
+
+-- where the code begins a copy in the grid
+pub grid_corner_at : (S overlap q o n : ℕ) → 1 ≤ S → o ≡ grid_overlap S overlap → n ≡ q - o → IsGridCorner S (grid_step S overlap) q (n / (S - o) * (S - o))
+grid_corner_at S overlap q o n some e is =
+    let step = grid_step S overlap in
+    let same_step : S - o ≡ step = ap (λ k. S - k) e in
+    let start : n ≡ q + step - S = omega (arith, is, e) in
+    subst (λ k. IsGridCorner S step q (k / (S - o) * (S - o))) (sym start)
+    (subst (λ k. IsGridCorner S step q ((q + step - S) / k * k)) (sym same_step) (least_corner S step q (omega arith) (omega arith)))

@@ -1,20 +1,20 @@
--- Lists over the places of a size, by index.
-use Rattle.std.proofs.Common.{◌≡◌, ℕ, ◌+◌, ◌*◌, ◌<◌, ◌≤◌, length, map, ap, sym, subst, ◌∙◌, arith}
+-- Lists over the places of a size, by index, and walks from place to place.
+use Rattle.std.proofs.Common.{◌≡◌, ℕ, ◌+◌, ◌*◌, ◌/◌, ◌%◌, ◌<◌, ◌≤◌, length, map, ap, sym, subst, ◌∙◌, arith}
 use Rattle.std.proofs.Math.Nat.{mul-le-mul}
 use Rattle.std.proofs.lemmas.List.{length-map}
+use Rattle.std.proofs.lemmas.Nat.{div-add-mod', div-mul-add, mod_below}
 use Rattle.std.proofs.lemmas.List.FromFn.{length-map-range_with_len, length-range_with_len, get_or-range_with_len}
 use Rattle.std.proofs.lemmas.Option.{slice_get-map, slice_get-get_or}
 use Rattle.std.specs.Prelude.{Some, option_map, slice_get}
 use Rattle.std.specs.List.{range_with_len}
 use Rattle.cells.specs.declared.place.At.{At}
 use Rattle.cells.specs.declared.place.Size.{Size}
-use Rattle.cells.specs.declared.place.Box3.{Box3}
-use Rattle.cells.specs.Places.{IsSmall, cell_count, place_of}
-use Rattle.source_map.specs.declared.canvas.Placement.{Placement}
+use Rattle.cells.specs.Places.{IsSmall, HasAxes, cell_count, place_of, places}
 use Rattle.patch_place.specs.declared.candidates.Candidates.{Candidates}
-use Rattle.patch_place.specs.declared.candidates.Candidates.TheVariants.{Laid, Fits}
-use Rattle.patch_place.specs.Lists.{places, first_half, laid, listed, room}
-use Rattle.patch_place.specs.Counts.{FitsCount}
+use Rattle.patch_place.specs.declared.candidates.Candidates.TheVariants.{One, Laid, Fits}
+use Rattle.patch_place.specs.declared.candidates.Spot.{Spot}
+use Rattle.patch_place.specs.Lists.{first_half, room}
+use Rattle.patch_place.specs.Counts.{FitsCount, IsSpotAt, steps_in}
 
 -- as many entries as the size has places
 pub count_over : {X : Type 0} (f : At → X) (size : Size) → length (map f (places size)) ≡ cell_count size
@@ -31,33 +31,69 @@ entry_over f size i lt =
     slice_get-map f (places size) i
     ∙ ap (option_map f) (slice_get-map (place_of size) (range_with_len 0 (cell_count size)) i ∙ ap (option_map (place_of size)) (number_at (cell_count size) i lt))
 
--- a box has at most one more place on each axis than the sample has cells
-pub room_fits : (sample inner : Size) → IsSmall sample → FitsCount (room sample inner)
-room_fits sample inner small =
-    let made = room sample inner in
-    let w : made.w ≤ 2 * sample.w = omega (arith, small.axes.w) in
-    let h : made.h ≤ 2 * sample.h = omega (arith, small.axes.h) in
-    let f : made.f ≤ 2 * sample.f = omega (arith, small.axes.f) in
+-- at most twice as many steps on each axis as the part has cells, so eight times as many together
+within_eight : (part made : Size) → made.w ≤ 2 * part.w → made.h ≤ 2 * part.h → made.f ≤ 2 * part.f → cell_count made ≤ 8 * cell_count part
+within_eight part made w h f = omega (arith, mul-le-mul w (mul-le-mul h f))
+
+-- a box has at most one more place on each axis than the part has cells
+pub room_few : (part inner : Size) → HasAxes part → cell_count (room part inner) ≤ 8 * cell_count part
+room_few part inner axes = within_eight part (room part inner) (omega (arith, axes.w)) (omega (arith, axes.h)) (omega (arith, axes.f))
+
+pub room_fits : (part inner : Size) → IsSmall part → FitsCount (room part inner)
+room_fits part inner small = record {
+  w = omega (arith, small.axes.w);
+  h = omega (arith, small.axes.h);
+  f = omega (arith, small.axes.f);
+  cells = omega (arith, small.cells, room_few part inner small.axes);
+}
+
+pub steps_few : (list : Candidates) (part : Size) → HasAxes part → cell_count (steps_in list part) ≤ 8 * cell_count part
+steps_few (One placement) part axes = within_eight part (record { w = 1; h = 1; f = 1 }) (omega (arith, axes.w)) (omega (arith, axes.h)) (omega (arith, axes.f))
+steps_few (Laid q) part axes = within_eight part (first_half part) (omega (arith, axes.w)) (omega (arith, axes.h)) (omega (arith, axes.f))
+steps_few (Fits rect) part axes = room_few part rect.size axes
+
+-- one count further: within its axis, or to the next
+pub record IsCarry (w i : ℕ) : Type 0 where
+  pub within : i % w + 1 < w → ((i + 1) % w ≡ i % w + 1) × ((i + 1) / w ≡ i / w)
+  pub over : w ≤ i % w + 1 → ((i + 1) % w ≡ 0) × ((i + 1) / w ≡ i / w + 1)
+
+pub carry : (w i : ℕ) → 1 ≤ w → IsCarry w i
+carry w i some = record { within = λ lt. turn (i / w) (i % w + 1) lt (omega (arith, whole)); over = λ le. let full : i % w + 1 ≡ w = omega (arith, mod_below i w some) in turn (i / w + 1) 0 some (omega (arith, whole, full)) }
+  where
+    whole : i / w * w + i % w ≡ i
+    whole = div-add-mod' i w
+
+    turn : (a b : ℕ) → b < w → i + 1 ≡ a * w + b → ((i + 1) % w ≡ b) × ((i + 1) / w ≡ a)
+    turn a b lt e =
+        let whole_part : (i + 1) / w ≡ a = ap (λ n. n / w) e ∙ div-mul-add a w b lt in
+        (omega (arith, div-add-mod' (i + 1) w, ap (λ n. n * w) whole_part, e), whole_part)
+
+-- the place after one in raster order
+pub spot_along : (size : Size) (frames i : ℕ) (was now : Spot) → 1 ≤ size.w → was.x + 1 < size.w → now.x ≡ was.x + 1 → now.y ≡ was.y → now.f ≡ was.f → IsSpotAt size frames i was → IsSpotAt size frames (i + 1) now
+spot_along size frames i was now some lt x y f is =
+    let next = (carry size.w i some).within (subst (λ n. n + 1 < size.w) is.x lt) in
     record {
-      w = omega (arith, small.axes.w);
-      h = omega (arith, small.axes.h);
-      f = omega (arith, small.axes.f);
-      cells = omega (arith, small.cells, mul-le-mul w (mul-le-mul h f));
+      x = omega (arith, x, is.x, next.0);
+      y = y ∙ is.y ∙ ap (λ n. n % size.h) (sym next.1);
+      f = f ∙ is.f ∙ ap (λ n. frames + n / size.h) (sym next.1);
     }
 
--- the entries of both lists, as they are made from the place at the index
-pub laid_entry : (self : Candidates) (output sample half : Size) (q c : At) (i : ℕ) (made : Placement) → self ≡ Laid q → half ≡ first_half sample → i < length (listed self output sample) → c ≡ place_of half i → made ≡ laid output sample q c → slice_get (listed self output sample) i ≡ Some made
-laid_entry self output sample half q c i made is halved lt at e =
-    let all : length (listed self output sample) ≡ cell_count (first_half sample) = ap (λ s. length (listed s output sample)) is ∙ count_over (laid output sample q) (first_half sample) in
-    let place : c ≡ place_of (first_half sample) i = at ∙ ap (λ s. place_of s i) halved in
-    ap (λ s. slice_get (listed s output sample) i) is
-    ∙ entry_over (laid output sample q) (first_half sample) i (subst (λ n. i < n) all lt)
-    ∙ ap Some (sym (e ∙ ap (laid output sample q) place))
+pub spot_down : (size : Size) (frames i : ℕ) (was now : Spot) → 1 ≤ size.w → 1 ≤ size.h → size.w ≤ was.x + 1 → was.y + 1 < size.h → now.x ≡ 0 → now.y ≡ was.y + 1 → now.f ≡ was.f → IsSpotAt size frames i was → IsSpotAt size frames (i + 1) now
+spot_down size frames i was now some rows over lt x y f is =
+    let next = (carry size.w i some).over (subst (λ n. size.w ≤ n + 1) is.x over) in
+    let row = (carry size.h (i / size.w) rows).within (subst (λ n. n + 1 < size.h) is.y lt) in
+    record {
+      x = x ∙ sym next.0;
+      y = y ∙ ap (λ n. n + 1) is.y ∙ sym row.0 ∙ ap (λ n. n % size.h) (sym next.1);
+      f = f ∙ is.f ∙ ap (λ n. frames + n) (sym row.1) ∙ ap (λ n. frames + n / size.h) (sym next.1);
+    }
 
-pub fit_entry : (self : Candidates) (output sample free : Size) (rect : Box3) (from : At) (i : ℕ) → self ≡ Fits rect → free ≡ room sample rect.size → i < length (listed self output sample) → from ≡ place_of free i → slice_get (listed self output sample) i ≡ Some (record { rect = rect; from = from })
-fit_entry self output sample free rect from i is freed lt at =
-    let all : length (listed self output sample) ≡ cell_count (room sample rect.size) = ap (λ s. length (listed s output sample)) is ∙ count_over (λ (p : At). record { rect = rect; from = p }) (room sample rect.size) in
-    let place : from ≡ place_of (room sample rect.size) i = at ∙ ap (λ s. place_of s i) freed in
-    ap (λ s. slice_get (listed s output sample) i) is
-    ∙ entry_over (λ (p : At). record { rect = rect; from = p }) (room sample rect.size) i (subst (λ n. i < n) all lt)
-    ∙ ap (λ p. Some (record { rect = rect; from = p })) (sym place)
+pub spot_over : (size : Size) (frames i : ℕ) (was now : Spot) → 1 ≤ size.w → 1 ≤ size.h → size.w ≤ was.x + 1 → size.h ≤ was.y + 1 → now.x ≡ 0 → now.y ≡ 0 → now.f ≡ was.f + 1 → IsSpotAt size frames i was → IsSpotAt size frames (i + 1) now
+spot_over size frames i was now some rows over last x y f is =
+    let next = (carry size.w i some).over (subst (λ n. size.w ≤ n + 1) is.x over) in
+    let row = (carry size.h (i / size.w) rows).over (subst (λ n. size.h ≤ n + 1) is.y last) in
+    record {
+      x = x ∙ sym next.0;
+      y = y ∙ sym row.0 ∙ ap (λ n. n % size.h) (sym next.1);
+      f = f ∙ ap (λ n. n + 1) is.f ∙ (let e : frames + i / size.w / size.h + 1 ≡ frames + (i / size.w / size.h + 1) = omega arith in e) ∙ ap (λ n. frames + n) (sym row.1) ∙ ap (λ n. frames + n / size.h) (sym next.1);
+    }

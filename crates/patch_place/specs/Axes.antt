@@ -1,7 +1,7 @@
--- Placements along one axis, on which the output has T cells and the sample S, and where the first
--- unfilled cell has the coordinate q. (Kwatra et al. 2003 lay the whole sample or a part of it; the grid,
--- and where a part is laid, are own.)
-use Rattle.std.specs.Prelude.{◌≡◌, ◌≤◌, ◌+◌, ◌-◌, ◌*◌, ◌/◌, ℕ, ℤ, pos, negsuc, ◌+ℤ◌, ◌-ℤ◌, ◌<ℤ◌, min}
+-- To be trusted: placements along one axis, on which the output has T cells and a part of the
+-- sample S, and where the first unfilled cell has the coordinate q. (Kwatra et al. 2003 lay the
+-- whole sample or a patch of it; the grid, and where a patch is laid, are own.)
+use Rattle.std.specs.Prelude.{◌≡◌, ◌≤◌, ◌<◌, ◌+◌, ◌-◌, ◌*◌, ◌/◌, ℕ, ℤ, pos, negsuc, ◌+ℤ◌, ◌-ℤ◌, ◌<ℤ◌, min}
 use Rattle.patch_place.specs.declared.axis.Span.{Span}
 
 -- the greater of a number and 0
@@ -9,7 +9,16 @@ abbrev pub at_least_0 : ℤ → ℕ
 at_least_0 (pos n) = n
 at_least_0 (negsuc n) = 0
 
--- the whole sample, laid so that it begins at o, which may lie before the output: what of it is inside
+-- the span has a cell, lies in the output and, from its source on, in the part, and has q
+pub record SpanFits (T S q : ℕ) (span : Span) : Type 0 where
+  pub some : 1 ≤ span.len
+  pub inside : span.corner + span.len ≤ T
+  pub sources : span.from + span.len ≤ S
+  pub before : span.corner ≤ q
+  pub covers : q < span.corner + span.len
+
+-- the whole part, laid so that it begins at o, which may lie before the output: what of it is
+-- inside
 abbrev pub laid_at : ℕ → ℕ → ℤ → Span
 laid_at T S o = record {
   corner = at_least_0 o;
@@ -17,11 +26,11 @@ laid_at T S o = record {
   from = at_least_0 (pos (at_least_0 o) -ℤ o);
 }
 
--- the whole sample, laid so that its coordinate c comes to q
+-- the whole part, laid so that its coordinate c comes to q
 abbrev pub laid_on : ℕ → ℕ → ℕ → ℕ → Span
 laid_on T S q c = laid_at T S (pos q -ℤ pos c)
 
--- how far the sample's copies in a grid overlap, and how far one begins behind another
+-- how far copies of the part in a grid overlap, and how far one begins after another
 abbrev pub grid_overlap : ℕ → ℕ → ℕ
 grid_overlap S overlap = min overlap (S - 1)
 
@@ -38,16 +47,16 @@ pub record IsGridCorner (S step q corner : ℕ) : Type 0 where
 abbrev pub grid_corner : ℕ → ℕ → ℕ → ℕ
 grid_corner S step q = (q + step - S) / step * step
 
--- the sample's copy in the grid that has q
+-- the part's copy in the grid that has q
 abbrev pub grid_on : ℕ → ℕ → ℕ → ℕ → Span
 grid_on T S overlap q =
     let corner = grid_corner S (grid_step S overlap) q in
     record { corner = corner; len = min S (T - corner); from = 0 }
 
--- the length of a part of the sample, which fits in both
-abbrev pub part_len : ℕ → ℕ → ℕ → ℕ
-part_len T S side = min side (min S T)
+-- the length of a patch, which fits in the output and in each part, where S is the least of these
+abbrev pub patch_len : ℕ → ℕ → ℕ → ℕ
+patch_len T S side = min side (min S T)
 
--- where a part of the length B begins: as far before q as it may overlap, and inside the output
-abbrev pub part_corner : ℕ → ℕ → ℕ → ℕ → ℕ
-part_corner T B overlap q = min (T - B) (at_least_0 (pos q -ℤ pos (min overlap (B - 1))))
+-- where a patch of the length B begins: as far before q as it may overlap, and inside the output
+abbrev pub patch_corner : ℕ → ℕ → ℕ → ℕ → ℕ
+patch_corner T B overlap q = min (T - B) (at_least_0 (pos q -ℤ pos (min overlap (B - 1))))

@@ -1,5 +1,5 @@
--- Draws: the words of a stream of ChaCha8 (Bernstein 2008), by their place. (That a seed is the key's
--- first bytes, most significant first, is own.)
+-- To be trusted: draws, the words of a stream of ChaCha8 (Bernstein 2008), by their place. (That a
+-- seed is the first bytes of the key, most significant first, is own.)
 use Rattle.std.specs.Prelude.{◌≡◌, ◌<◌, ◌%◌, ◌^◌, ℕ, List, ◌++◌, replicate}
 use Rattle.std.specs.Int.{w64, to_be_bytes}
 use Rattle.rand_chacha.specs.ChaCha.{ChaCha, word_at, key_of}
@@ -22,7 +22,7 @@ abbrev pub draw : ℕ → ℕ → ℕ → ℕ
 draw seed j n = draw_word seed j % n
 
 -- a generator at a place of the seed's stream
-pub record IsAt (seed : ℕ) (stream : ChaCha) : Type 0 where
+pub record IsStreamAt (seed : ℕ) (stream : ChaCha) : Type 0 where
   pub key : stream.key ≡ key_of (seed_bytes seed)
   pub number : stream.stream ≡ 0
   pub small : stream.word_pos < 2 ^ 64

@@ -1,14 +1,19 @@
 // Placements along one axis.
 ghost use Rattle.std.specs.Prelude.{◌≡◌, ◌≤◌, ◌<◌, pos};
-ghost use Rattle.patch_place.specs.Axes.{at_least_0, grid_on, laid_on, part_corner, part_len};
+ghost use Rattle.patch_place.specs.Axes.{IsGridCorner, SpanFits, at_least_0, grid_on, grid_step, laid_on, patch_corner, patch_len};
+
+use cells::GREATEST_AXIS;
 
 /// The box of a placement along one axis: where it begins, how long it is, and which coordinate of
-/// the sample comes to its beginning.
+/// the sample's part comes to its beginning.
 #[derive(Clone, Copy, Debug, Drop, PartialEq, Eq)]
-pub(crate) struct Span {
-    pub(crate) corner: u32,
-    pub(crate) len: u32,
-    pub(crate) from: u32,
+pub struct Span {
+    /// Its first coordinate in the output.
+    pub corner: u32,
+    /// How many cells it has.
+    pub len: u32,
+    /// The coordinate of the part that comes to the first one.
+    pub from: u32,
 }
 
 /// A coordinate as a count; 0 before the first cell.
@@ -18,52 +23,56 @@ pub(crate) fn count_of(z: i32) -> u32
     if z < 0 { 0 } else { z as u32 }
 }
 
-/// The whole sample, laid so that its coordinate c comes to q, as far as it is inside the output.
-pub(crate) fn laid_on(output: u32, sample: u32, q: u32, c: u32) -> Span
-    requires sample { sample ≤ 4096 }
-    requires output { output ≤ 4096 }
+/// The whole part, laid so that its coordinate c comes to q, as far as it is inside the output.
+pub(crate) fn laid_on(output: u32, part: u32, q: u32, c: u32) -> Span
+    requires part { part ≤ GREATEST_AXIS }
+    requires output { output ≤ GREATEST_AXIS }
     requires q { q < output }
-    requires c { c ≤ sample }
-    ensures span { result ≡ laid_on output sample q c }
+    requires c { c ≤ part }
+    ensures span { result ≡ laid_on output part q c }
     ensures corner { result.corner ≤ q }
     ensures from { result.from ≤ c }
 {
     let corner = q.saturating_sub(c);
     Span {
         corner,
-        len: output.min(q + sample - c) - corner,
+        len: output.min(q + part - c) - corner,
         from: c.saturating_sub(q),
     }
 }
 
-/// The sample's copy in the grid that has q.
-pub(crate) fn grid_on(output: u32, sample: u32, overlap: u32, q: u32) -> Span
-    requires sample { (1 ≤ sample) × (sample ≤ 4096) }
-    requires output { output ≤ 4096 }
+/// Along one axis, the copy in a grid that has the coordinate q: copies of `size` cells that overlap by
+/// `overlap`, at most by all but one of their cells, the first of which begins at 0. What of it is inside the
+/// output.
+pub fn grid_on(output: u32, size: u32, overlap: u32, q: u32) -> Span
+    requires size { (1 ≤ size) × (size ≤ GREATEST_AXIS) }
+    requires output { output ≤ GREATEST_AXIS }
     requires q { q < output }
-    ensures { result ≡ grid_on output sample overlap q }
+    ensures span { result ≡ grid_on output size overlap q }
+    ensures corner { IsGridCorner size (grid_step size overlap) q result.corner }
+    ensures fits { SpanFits output size q result }
 {
-    let overlap = overlap.min(sample - 1);
-    let step = sample - overlap;
+    let overlap = overlap.min(size - 1);
+    let step = size - overlap;
     let corner = q.saturating_sub(overlap) / step * step;
     Span {
         corner,
-        len: sample.min(output - corner),
+        len: size.min(output - corner),
         from: 0,
     }
 }
 
-/// The length of a part of the sample, which fits in both.
-pub(crate) fn part_len(output: u32, sample: u32, side: u32) -> u32
-    ensures { result ≡ part_len output sample side }
+/// The length of a patch, which fits in both.
+pub(crate) fn patch_len(output: u32, part: u32, side: u32) -> u32
+    ensures { result ≡ patch_len output part side }
 {
-    side.min(sample.min(output))
+    side.min(part.min(output))
 }
 
-/// Where a part of the sample begins.
-pub(crate) fn part_corner(output: u32, len: u32, overlap: u32, q: u32) -> u32
+/// Where a patch begins.
+pub(crate) fn patch_corner(output: u32, len: u32, overlap: u32, q: u32) -> u32
     requires { len ≤ output }
-    ensures { result ≡ part_corner output len overlap q }
+    ensures { result ≡ patch_corner output len overlap q }
 {
     let overlap = overlap.min(len.saturating_sub(1));
     q.saturating_sub(overlap).min(output - len)

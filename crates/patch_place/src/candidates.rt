@@ -1,12 +1,14 @@
 // Lists of placements, walked by index.
-ghost use Rattle.std.specs.Prelude.{◌≡◌, ◌≤◌, ◌<◌, ◌*◌, ◌^◌, Some, length, slice_get, pos};
-ghost use Rattle.cells.specs.Places.{IsInside, IsSmall, cell_count, place_of};
+ghost use Rattle.std.specs.Prelude.{◌≡◌, ◌≤◌, ◌<◌, ◌+◌, ◌*◌, ◌^◌, Some, length, slice_get, pos};
+ghost use Rattle.cells.specs.Cells.{sizes_of};
+ghost use Rattle.cells.specs.Places.{IsInside, IsSmall, cell_count, place_of, spot};
+ghost use Rattle.cells.specs.SizeLists.{frames_to_part};
 ghost use Rattle.patch_place.specs.Axes.{at_least_0};
-ghost use Rattle.patch_place.specs.Lists.{IsWithin, first_half, laid, listed, placed, room};
-ghost use Rattle.patch_place.specs.Counts.{FitsCount, IsBelow};
+ghost use Rattle.patch_place.specs.Lists.{IsWithin, first_half, from_part, laid, listed, placed, room};
+ghost use Rattle.patch_place.specs.Counts.{AreVolumeParts, FitsCount, IsBelowSize, IsNearFrame, IsNextSpot, IsOverParts, all_entries, entries_in, steps_in};
 
 use crate::axis::{Span, count_of, laid_on};
-use cells::{At, Box3, Size};
+use cells::{At, Box3, Size, Sizes, Volume};
 use source_map::Placement;
 
 /// Placements that may be taken, in an order; no list of them is kept.
@@ -14,13 +16,14 @@ use source_map::Placement;
 pub enum Candidates {
     /// This one alone.
     One(Placement),
-    /// The whole sample, laid so that a cell of its first half on each axis comes to q: one for each
-    /// such cell, in raster order.
+    /// A whole part of the sample, laid so that a cell of its first half on each axis comes to q: one for
+    /// each such cell, in raster order, for part 1, part 2 and so on.
     Laid {
         /// The output cell that each of them covers.
         q: At,
     },
-    /// One box, filled from each place of the sample where it fits, in raster order.
+    /// One box, filled from each place of a part where it fits, in raster order, for part 1, part 2 and
+    /// so on.
     Fits {
         /// The box of the output.
         rect: Box3,
@@ -28,7 +31,7 @@ pub enum Candidates {
 }
 
 // How many places a size has.
-fn place_count(size: Size) -> u32
+pub(crate) fn place_count(size: Size) -> u32
     requires { FitsCount size }
     ensures { result ≡ cell_count size }
 {
@@ -40,7 +43,7 @@ fn place_in(size: Size, i: u32) -> At
     requires fits { FitsCount size }
     requires below { i < cell_count size }
     ensures place { result ≡ place_of size i }
-    ensures below { IsBelow size result }
+    ensures below { IsBelowSize size result }
 {
     At {
         x: (i % size.w) as i32,
@@ -49,29 +52,75 @@ fn place_in(size: Size, i: u32) -> At
     }
 }
 
-// The first half of the sample on each axis; of an odd number, with the middle.
-fn first_half(sample: Size) -> Size
-    requires { IsSmall sample }
-    ensures half { result ≡ first_half sample }
-    ensures fits { FitsCount result }
-{
-    Size {
-        w: (sample.w + 1) / 2,
-        h: (sample.h + 1) / 2,
-        f: (sample.f + 1) / 2,
+/// The counts of a place, for walks that go on from place to place without a division.
+#[derive(Clone, Copy, Drop)]
+pub(crate) struct Spot {
+    pub(crate) x: u32,
+    pub(crate) y: u32,
+    pub(crate) f: u32,
+}
+
+impl Spot {
+    // The place.
+    pub(crate) fn place(self) -> At
+        requires x { self.x < 2 ^ 31 }
+        requires y { self.y < 2 ^ 31 }
+        requires f { self.f < 2 ^ 31 }
+        ensures { result ≡ spot self.x self.y self.f }
+    {
+        At {
+            x: self.x as i32,
+            y: self.y as i32,
+            f: self.f as i32,
+        }
+    }
+
+    // The place after this one in raster order; the frames go on without an end.
+    pub(crate) fn next(self, size: Size) -> Spot
+        requires rows { (1 ≤ size.w) × (1 ≤ size.h) }
+        requires x { self.x < 2 ^ 31 }
+        requires y { self.y < 2 ^ 31 }
+        requires f { self.f < 2 ^ 31 }
+        ensures { IsNextSpot size self result }
+    {
+        let Spot { x, y, f } = self;
+        if x + 1 < size.w {
+            return Spot { x: x + 1, y, f };
+        }
+        if y + 1 < size.h {
+            return Spot { x: 0, y: y + 1, f };
+        }
+        Spot {
+            x: 0,
+            y: 0,
+            f: f + 1,
+        }
     }
 }
 
-// How many places a box of this size may have in the sample, on each axis.
-fn room(sample: Size, inner: Size) -> Size
-    requires { IsSmall sample }
-    ensures room { result ≡ room sample inner }
+// The first half of a part on each axis; of an odd number, with the middle.
+fn first_half(part: Size) -> Size
+    requires { IsSmall part }
+    ensures half { result ≡ first_half part }
     ensures fits { FitsCount result }
 {
     Size {
-        w: (sample.w + 1).saturating_sub(inner.w),
-        h: (sample.h + 1).saturating_sub(inner.h),
-        f: (sample.f + 1).saturating_sub(inner.f),
+        w: (part.w + 1) / 2,
+        h: (part.h + 1) / 2,
+        f: (part.f + 1) / 2,
+    }
+}
+
+// How many places a box of this size may have in a part, on each axis.
+pub(crate) fn room(part: Size, inner: Size) -> Size
+    requires { IsSmall part }
+    ensures room { result ≡ room part inner }
+    ensures fits { FitsCount result }
+{
+    Size {
+        w: (part.w + 1).saturating_sub(inner.w),
+        h: (part.h + 1).saturating_sub(inner.h),
+        f: (part.f + 1).saturating_sub(inner.f),
     }
 }
 
@@ -103,49 +152,161 @@ pub(crate) fn placed(x: Span, y: Span, f: Span) -> Placement
     }
 }
 
-// The whole sample, laid so that its place c comes to q, as far as it is inside the output.
-fn laid(output: Size, sample: Size, q: At, c: At) -> Placement
+// A whole part, laid so that its place c comes to q, as far as it is inside the output.
+fn laid(output: Size, part: Size, q: At, c: At) -> Placement
     requires output { IsSmall output }
-    requires sample { IsSmall sample }
-    requires q { IsBelow output q }
-    requires c { IsBelow sample c }
-    ensures { result ≡ laid output sample q c }
+    requires part { IsSmall part }
+    requires q { IsBelowSize output q }
+    requires c { IsBelowSize part c }
+    ensures laid { result ≡ laid output part q c }
+    ensures near { IsNearFrame result.from.f }
 {
-    let x = laid_on(output.w, sample.w, count_of(q.x), count_of(c.x));
-    let y = laid_on(output.h, sample.h, count_of(q.y), count_of(c.y));
-    let f = laid_on(output.f, sample.f, count_of(q.f), count_of(c.f));
+    let x = laid_on(output.w, part.w, count_of(q.x), count_of(c.x));
+    let y = laid_on(output.h, part.h, count_of(q.y), count_of(c.y));
+    let f = laid_on(output.f, part.f, count_of(q.f), count_of(c.f));
     placed(x, y, f)
 }
 
+// The sizes of the parts of a volume.
+pub(crate) fn parts_of(sample: &Volume) -> Sizes
+    ensures sizes { result ≡ sizes_of sample.now }
+    ensures parts { AreVolumeParts result }
+{
+    // It is asked for only to show the check that the sample is a volume.
+    let _sample = sample.samples();
+    sample.sizes()
+}
+
+// The size of the part after the first n.
+pub(crate) fn part_after(sizes: &Sizes, n: u32) -> Size
+    requires parts { AreVolumeParts sizes.now }
+    requires below { n < length sizes.now }
+    ensures size { slice_get sizes.now n ≡ Some result }
+    ensures small { IsSmall result }
+{
+    sizes.at(n + 1)
+}
+
+// How many frames the first n parts take, with the empty one after each.
+pub(crate) fn frames_before(sizes: &Sizes, n: u32) -> u32
+    requires parts { AreVolumeParts sizes.now }
+    requires below { n < length sizes.now }
+    ensures frames { result ≡ frames_to_part sizes.now n }
+    ensures few { result ≤ 2 ^ 17 }
+{
+    let first = At { x: 0, y: 0, f: 0 };
+    sizes.stock(n + 1, first).f as u32
+}
+
+// A placement from a place of the part after the first n, as one from the place of the joined volume.
+fn in_stock(sizes: &Sizes, n: u32, placement: Placement) -> Placement
+    requires parts { AreVolumeParts sizes.now }
+    requires below { n < length sizes.now }
+    requires near { IsNearFrame placement.from.f }
+    ensures { result ≡ from_part sizes.now (n + 1) placement }
+{
+    let At { x, y, f } = placement.from;
+    let f = f + frames_before(sizes, n) as i32;
+    Placement {
+        rect: placement.rect,
+        from: At { x, y, f },
+    }
+}
+
 impl Candidates {
-    /// How many there are, in an output and of a sample of these sizes.
-    pub fn count(&self, output: Size, sample: Size) -> u32
-        requires output { IsSmall output }
-        requires sample { IsSmall sample }
-        ensures { result ≡ length (listed self.now output sample) }
+    // The places of a part from which entries are made, as a size.
+    fn steps_in(&self, part: Size) -> Size
+        requires { IsSmall part }
+        ensures steps { result ≡ steps_in self.now part }
+        ensures fits { FitsCount result }
     {
         match self {
-            Candidates::One(_) => 1,
-            Candidates::Laid { .. } => place_count(first_half(sample)),
-            Candidates::Fits { rect } => place_count(room(sample, rect.size)),
+            Candidates::One(_) => Size { w: 1, h: 1, f: 1 },
+            Candidates::Laid { .. } => first_half(part),
+            Candidates::Fits { rect } => room(part, rect.size),
         }
     }
 
-    /// The candidate at an index, counted from 0.
-    pub fn entry(&self, i: u32, output: Size, sample: Size) -> Placement
+    // The entry of a part at an index.
+    fn entry_in(&self, i: u32, output: Size, part: Size) -> Placement
         requires output { IsSmall output }
-        requires sample { IsSmall sample }
-        requires below { i < length (listed self.now output sample) }
+        requires part { IsSmall part }
         requires within { IsWithin self.now output }
-        ensures { slice_get (listed self.now output sample) i ≡ Some result }
+        requires over { IsOverParts self.now }
+        requires below { i < length (entries_in self.now output part) }
+        ensures at { slice_get (entries_in self.now output part) i ≡ Some result }
+        ensures near { IsNearFrame result.from.f }
+    {
+        let c = place_in(self.steps_in(part), i);
+        match self {
+            Candidates::One(placement) => *placement,
+            Candidates::Laid { q } => laid(output, part, *q, c),
+            Candidates::Fits { rect } => Placement {
+                rect: *rect,
+                from: c,
+            },
+        }
+    }
+
+    // How many entries all parts have.
+    fn count_in_parts(&self, output: Size, sizes: &Sizes) -> u32
+        requires parts { AreVolumeParts sizes.now }
+        ensures { result ≡ length (all_entries self.now output sizes.now) }
+    {
+        let mut count = 0;
+        'parts: for n in 0..sizes.len() {
+            let part = part_after(sizes, n);
+            count += place_count(self.steps_in(part));
+        }
+        count
+    }
+
+    /// How many there are, in an output of this size and of a sample.
+    pub fn count(&self, output: Size, sample: &Volume) -> u32
+        requires { IsSmall output }
+        ensures { result ≡ length (listed self.now output sample.now) }
+    {
+        match self {
+            Candidates::One(_) => 1,
+            Candidates::Laid { .. } | Candidates::Fits { .. } => {
+                self.count_in_parts(output, &parts_of(sample))
+            }
+        }
+    }
+
+    // The entry of all parts at an index.
+    fn entry_in_parts(&self, i: u32, output: Size, sizes: &Sizes) -> Placement
+        requires output { IsSmall output }
+        requires parts { AreVolumeParts sizes.now }
+        requires within { IsWithin self.now output }
+        requires over { IsOverParts self.now }
+        requires below { i < length (all_entries self.now output sizes.now) }
+        ensures { slice_get (all_entries self.now output sizes.now) i ≡ Some result }
+    {
+        let mut after = i;
+        'parts: for n in 0..sizes.len() {
+            let part = part_after(sizes, n);
+            let count = place_count(self.steps_in(part));
+            if after < count {
+                return in_stock(sizes, n, self.entry_in(after, output, part));
+            }
+            after -= count;
+        }
+        unreachable!()
+    }
+
+    /// The candidate at an index, counted from 0.
+    pub fn entry(&self, i: u32, output: Size, sample: &Volume) -> Placement
+        requires output { IsSmall output }
+        requires below { i < length (listed self.now output sample.now) }
+        requires within { IsWithin self.now output }
+        ensures { slice_get (listed self.now output sample.now) i ≡ Some result }
     {
         match self {
             Candidates::One(placement) => *placement,
-            Candidates::Laid { q } => laid(output, sample, *q, place_in(first_half(sample), i)),
-            Candidates::Fits { rect } => Placement {
-                rect: *rect,
-                from: place_in(room(sample, rect.size), i),
-            },
+            Candidates::Laid { .. } | Candidates::Fits { .. } => {
+                self.entry_in_parts(i, output, &parts_of(sample))
+            }
         }
     }
 }

@@ -15,13 +15,13 @@ pub struct Draws {
 }
 
 impl Model for Draws {
-    ghost use Rattle.patch_place.specs.Draws.{DrawState, IsAt};
+    ghost use Rattle.patch_place.specs.Draws.{DrawState, IsStreamAt};
 
     ghost Value = { DrawState };
 
     ghost view = { λ a. record { seed = a.seed; place = a.stream.word_pos } };
 
-    ghost invariant = { λ a. IsAt a.seed a.stream };
+    ghost invariant = { λ a. IsStreamAt a.seed a.stream };
 }
 
 // The seed, most significant byte first, and then zeros.

@@ -23,7 +23,8 @@ fn is_less(error: &Error, other: &Error) -> bool
 fn better(best: Option<Error>, error: &Error) -> Option<Error>
     requires best { IfSome best IsLow }
     requires error { IsLow error.now }
-    ensures best { (errors : List Error) → IsBestOf errors best → IsBestOf (errors ++ error.now ∷ []) result }
+    ensures best { (errors : List Error) → IsBestOf errors best
+        → IsBestOf (errors ++ error.now ∷ []) result }
     ensures low { IfSome result IsLow }
 {
     if error.count == 0 {

@@ -11,10 +11,11 @@
 //! list of placements is kept. `Draws` gives words of a ChaCha8 stream by their place
 //! (specs/Draws.antt).
 //!
-//! `axis` has what happens along one axis, `candidates` the lists, `mode` the modes and the size of a
-//! window, `draws` the draws, and `laws` what follows from the definitions. `steps` has the step, `picks`
-//! the pick, `errors` the table of errors that it is made from, where a sum that can't be eligible is left
-//! unfinished, and `eligible` which entry of such a table a draw picks (specs/Tables.antt).
+//! `axis` has what happens along one axis, `candidates` the lists over the parts of a sample, `mode` the
+//! modes and the size of a window, `draws` the draws, and `laws` what follows from the definitions. `steps`
+//! has the step, `picks` the pick, `errors` the table of errors that it is made from, where a sum that can't
+//! be eligible is left unfinished, and `eligible` which entry of such a table a draw picks. README.md says
+//! the definitions and the promises in words.
 #![tactic(auto)]
 
 mod axis;
@@ -25,15 +26,14 @@ mod errors;
 mod laws;
 mod mode;
 mod picks;
-#[cfg(test)]
-mod step_tests;
 mod steps;
-#[cfg(test)]
-mod tests;
 
+pub use axis::{Span, grid_on};
 pub use candidates::Candidates;
 pub use draws::Draws;
-pub use laws::{box_list_is_all_that_fit, grid_corner_is_least};
+pub use laws::{
+    box_list_is_all_that_fit, grid_corner_is_least, there_is_one_next_placement, there_is_one_pick,
+};
 pub use mode::{Mode, window_size};
 pub use picks::pick;
 pub use steps::next_placement;

@@ -1,12 +1,11 @@
 // Picks: one of the candidates that are about as good as the best, by a draw.
-ghost use Rattle.std.specs.Prelude.{◌≡◌, ◌<◌, ◌+◌, ◌%◌, ◌^◌, All, Contains, IfOk, IsSome, OnErr, OnOk, Some, length};
-ghost use Rattle.source_map.specs.Canvases.{Stands};
+ghost use Rattle.std.specs.Prelude.{◌≡◌, Contains, IfOk, IsSome, OnErr, OnOk};
+ghost use Rattle.source_map.specs.Canvases.{StandsOver};
 ghost use Rattle.source_map.specs.Choices.{Fits};
-ghost use Rattle.match_error.specs.Errors.{error_of};
-ghost use Rattle.patch_place.specs.Lists.{IsWithin, listed};
-ghost use Rattle.patch_place.specs.Picks.{IsPick};
+ghost use Rattle.patch_place.specs.Lists.{IsWithin};
+ghost use Rattle.patch_place.specs.Picks.{AllFit, HasEntries, IsPickOn, listed_on};
 ghost use Rattle.patch_place.specs.Steps.{after_draw};
-ghost use Rattle.patch_place.specs.Tables.{IsPickAt};
+ghost use Rattle.patch_place.specs.Tables.{IsPickAtOn};
 
 use crate::eligible::picked_of;
 use crate::errors::{count_for, entry_for, table_of};
@@ -24,11 +23,11 @@ fn picked_at(
     sample: &Volume,
     draws: &mut Draws,
 ) -> Result<u32, AllocError>
-    requires over { Stands canvas.now sample.now }
+    requires over { StandsOver canvas.now sample.now }
     requires within { IsWithin list.now canvas.now.map.size }
-    requires some { 0 < length (listed list.now canvas.now.map.size sample.now.size) }
-    requires fit { All (Fits canvas.now.map.size sample.now) (listed list.now canvas.now.map.size sample.now.size) }
-    ensures picked { IfOk result (IsPickAt (error_of canvas.now.map sample.now) tol (listed list.now canvas.now.map.size sample.now.size) draws.old) }
+    requires some { HasEntries canvas.now sample.now list.now }
+    requires fit { AllFit canvas.now sample.now list.now }
+    ensures picked { IfOk result (IsPickAtOn canvas.now sample.now list.now tol draws.old) }
     ensures next { OnOk result (draws.new ≡ after_draw draws.old) }
     ensures kept { OnErr result (draws.new ≡ draws.old) }
     ensures memory { OnErr result (IsSome tol) }
@@ -52,13 +51,14 @@ pub fn pick(
     sample: &Volume,
     draws: &mut Draws,
 ) -> Result<Placement, AllocError>
-    requires over { Stands canvas.now sample.now }
+    requires over { StandsOver canvas.now sample.now }
     requires within { IsWithin list.now canvas.now.map.size }
-    requires some { 0 < length (listed list.now canvas.now.map.size sample.now.size) }
-    requires fit { All (Fits canvas.now.map.size sample.now) (listed list.now canvas.now.map.size sample.now.size) }
-    ensures picked { IfOk result (IsPick (error_of canvas.now.map sample.now) tol (listed list.now canvas.now.map.size sample.now.size) draws.old) }
-    ensures listed { IfOk result (Contains (listed list.now canvas.now.map.size sample.now.size)) }
-    ensures next { OnOk result (draws.new ≡ record draws.old { place = (draws.old.place + 1) % 2 ^ 64 }) }
+    requires some { HasEntries canvas.now sample.now list.now }
+    requires fit { AllFit canvas.now sample.now list.now }
+    ensures picked { IfOk result (IsPickOn canvas.now sample.now list.now tol draws.old) }
+    ensures listed { IfOk result (Contains (listed_on canvas.now sample.now list.now)) }
+    ensures fits { IfOk result (Fits canvas.now.map.size sample.now) }
+    ensures next { OnOk result (draws.new ≡ after_draw draws.old) }
     ensures kept { OnErr result (draws.new ≡ draws.old) }
     ensures memory { OnErr result (IsSome tol) }
 {

@@ -1,11 +1,11 @@
 // Steps of growing: the next placement of a mode.
-ghost use Rattle.std.specs.Prelude.{◌≡◌, ◌<◌, All, IsSome, IfOk, OnErr, OnOk, Some, length};
-ghost use Rattle.source_map.specs.Canvases.{Stands};
-ghost use Rattle.source_map.specs.Choices.{Fits};
-ghost use Rattle.source_map.specs.Maps.{first_unfilled};
-ghost use Rattle.patch_place.specs.Fitting.{FitsOver, HasPart};
-ghost use Rattle.patch_place.specs.Lists.{IsWithin, listed};
+ghost use Rattle.std.specs.Prelude.{◌≡◌, All, IsSome, IfOk, OnErr, OnOk};
+ghost use Rattle.cells.specs.Places.{IsInside};
+ghost use Rattle.source_map.specs.Canvases.{StandsOver};
+ghost use Rattle.patch_place.specs.Fitting.{FitsAndCovers, HasPatch};
+ghost use Rattle.patch_place.specs.Lists.{IsWithin};
 ghost use Rattle.patch_place.specs.Modes.{candidates};
+ghost use Rattle.patch_place.specs.Picks.{AllFit, HasEntries, listed_on};
 ghost use Rattle.patch_place.specs.Steps.{IsChosen, IsNext, draws_after, tolerance};
 
 use crate::errors::entry_for;
@@ -27,16 +27,18 @@ impl Mode {
 }
 
 // The candidates of a mode for the first unfilled cell.
-pub(crate) fn candidates_for(mode: &Mode, q: At, canvas: &Canvas, sample: &Volume) -> Candidates
-    requires part { HasPart mode.now }
-    requires first { first_unfilled canvas.now.map ≡ Some q }
-    ensures listed { listed result canvas.now.map.size sample.now.size ≡ candidates mode.now canvas.now.map.size sample.now.size q }
+fn candidates_for(mode: &Mode, q: At, canvas: &Canvas, sample: &Volume) -> Candidates
+    requires patch { HasPatch mode.now }
+    requires inside { IsInside canvas.now.map.size q }
+    ensures listed { listed_on canvas.now sample.now result
+        ≡ candidates mode.now canvas.now.map.size sample.now q }
     ensures within { IsWithin result canvas.now.map.size }
-    ensures some { 0 < length (listed result canvas.now.map.size sample.now.size) }
-    ensures over { All (FitsOver canvas.now.map.size sample.now q) (listed result canvas.now.map.size sample.now.size) }
-    ensures fit { All (Fits canvas.now.map.size sample.now) (listed result canvas.now.map.size sample.now.size) }
+    ensures some { HasEntries canvas.now sample.now result }
+    ensures over { All (FitsAndCovers canvas.now.map.size sample.now q)
+        (listed_on canvas.now sample.now result) }
+    ensures fit { AllFit canvas.now sample.now result }
 {
-    mode.candidates(q, canvas.map().size(), sample.size())
+    mode.candidates(q, canvas.map().size(), sample)
 }
 
 // The placement that a mode makes for the first unfilled cell.
@@ -48,11 +50,11 @@ fn placement_over(
     sample: &Volume,
     draws: &mut Draws,
 ) -> Result<Placement, AllocError>
-    requires over { Stands canvas.now sample.now }
-    requires part { HasPart mode.now }
-    requires first { first_unfilled canvas.now.map ≡ Some q }
+    requires over { StandsOver canvas.now sample.now }
+    requires patch { HasPatch mode.now }
+    requires inside { IsInside canvas.now.map.size q }
     ensures chosen { IfOk result (IsChosen mode.now canvas.now.map sample.now draws.old q) }
-    ensures fits { IfOk result (FitsOver canvas.now.map.size sample.now q) }
+    ensures fits { IfOk result (FitsAndCovers canvas.now.map.size sample.now q) }
     ensures next { OnOk result (draws.new ≡ draws_after mode.now draws.old) }
     ensures kept { OnErr result (draws.new ≡ draws.old) }
     ensures memory { OnErr result (IsSome (tolerance mode.now)) }
@@ -67,7 +69,7 @@ fn placement_over(
 /// The next placement of a mode, for the first unfilled cell, which it covers; None where the canvas is
 /// full. In the grid it's the one candidate, and no draw is taken. All other modes pick among their
 /// candidates, by one draw: `Random` among all of them, `Whole` and `Sub` among those within their
-/// tolerance of the best. The one error is want of memory, where no draw is taken.
+/// tolerance of the best. The one error is that there is no memory; no draw is taken then.
 pub fn next_placement(
     alloc: Global,
     mode: &Mode,
@@ -75,8 +77,8 @@ pub fn next_placement(
     sample: &Volume,
     draws: &mut Draws,
 ) -> Result<Option<Placement>, AllocError>
-    requires over { Stands canvas.now sample.now }
-    requires part { HasPart mode.now }
+    requires over { StandsOver canvas.now sample.now }
+    requires patch { HasPatch mode.now }
     ensures { IsNext mode.now canvas.now.map sample.now draws.old draws.new result }
 {
     let Some(q) = canvas.first_unfilled() else {

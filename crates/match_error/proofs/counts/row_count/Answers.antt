@@ -1,7 +1,7 @@
 use Rattle.std.proofs.Common.{◌∙◌, ◌/◌, ◌≤◌, ap, subst, sym}
 use Rattle.std.specs.Prelude.{sum}
 use Rattle.cells.specs.Cells.{row_at}
-use Rattle.source_map.specs.Canvases.{marks_of}
+use Rattle.source_map.specs.Canvases.{filled_marks}
 use Rattle.match_error.proofs.Filled.{row_at_most, row_marks}
 use Rattle.match_error.proofs.counts.row_count.Goals as goal
 
@@ -9,7 +9,7 @@ pub returns-clause-count : goal.returns-clause-count
 returns-clause-count c =
     let canvas = c.args.canvas.now in
     let rect = c.args.rect.now in
-    (λ i. (c.mark_sum.ensures ∙ ap sum (c.filled_row.ensures.marks ∙ (λ j. row_at (marks_of canvas.map canvas.picture.k) (c.row_start-at.ensures j) rect.size.w))) i
+    (λ i. (c.mark_sum.ensures ∙ ap sum (c.filled_row.ensures.marks ∙ (λ j. row_at (filled_marks canvas.map canvas.picture.k) (c.row_start-at.ensures j) rect.size.w))) i
     / (c.samples-samples.ensures.samples ∙ (λ j. (c.picture.ensures.picture j).k)) i)
     ∙ row_marks canvas.map canvas.picture.k rect c.args.y c.args.f c.picture.ensures.canvas.map c.picture.ensures.canvas.picture.samples.0 c.requires.inside c.requires.counts.0 c.requires.counts.1 c.requires.counts.2
 

@@ -19,10 +19,10 @@ returns-in_err-sum-clause-none c =
     subst (λ found. IfNone found (c.args.limit < error_sum m sample placement)) (sym c.from_residual.ensures) over
 
 pub returns-in_err-sum-clause-bound : goal.returns-in_err-sum-clause-bound
-returns-in_err-sum-clause-bound c = error_small c.args.canvas.now.map c.args.sample.now c.args.placement.now c.map-map.ensures.canvas.map.small c.size-sample.ensures.volume c.requires.fits
+returns-in_err-sum-clause-bound c = error_small c.args.canvas.now.map c.args.sample.now c.args.placement.now c.map-map.ensures.canvas.map.small c.samples-sample.ensures.volume c.requires.fits
 
 pub returns-clause-bound : goal.returns-clause-bound
-returns-clause-bound c = error_small c.args.canvas.now.map c.args.sample.now c.args.placement.now c.map-map.ensures.canvas.map.small c.size-sample.ensures.volume c.requires.fits
+returns-clause-bound c = error_small c.args.canvas.now.map c.args.sample.now c.args.placement.now c.map-map.ensures.canvas.map.small c.samples-sample.ensures.volume c.requires.fits
 
 pub returns-clause-small : goal.returns-clause-small
 returns-clause-small c =

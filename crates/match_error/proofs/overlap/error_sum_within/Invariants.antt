@@ -1,11 +1,11 @@
 use Rattle.std.proofs.Common.{◌≡◌, ◌≤◌, ◌*◌}
 use Rattle.box_sums.specs.Sums.{sum_to}
-use Rattle.match_error.specs.Errors.{frame_error}
+use Rattle.match_error.specs.Errors.{frame_error, most_frame_error}
 use Rattle.match_error.proofs.overlap.error_sum_within.Given as goal
 
 abbrev pub invariant-loop-f : goal.invariant-loop-f
 invariant-loop-f l = record {
   sum : l.sum ≡ sum_to l.f (λ f. frame_error l.canvas.map l.sample l.placement f);
   most : l.sum ≤ l.limit;
-  fits : l.sum ≤ 6545630822400 * l.f;
+  fits : l.sum ≤ most_frame_error * l.f;
 }

@@ -1,14 +1,14 @@
 use Rattle.std.proofs.Common.{map, take, ap, sym, ◌∙◌, ◌++◌, ◌∷◌, []}
 use Rattle.std.proofs.lemmas.List.Elements.{All-push, All-same}
 use Rattle.match_error.specs.Errors.{error_of}
-use Rattle.patch_place.specs.Lists.{listed}
+use Rattle.patch_place.specs.Picks.{listed_on}
 use Rattle.patch_place.specs.Tables.{IsLow}
 use Rattle.patch_place.proofs.Counting.{map_more}
 use Rattle.patch_place.proofs.errors.all_errors.Goals as goal
 
 pub entries-preserved : goal.entries-preserved
 entries-preserved c =
-    let list = listed c.args.list.now c.args.canvas.now.map.size c.args.sample.now.size in
+    let list = listed_on c.args.canvas.now c.args.sample.now c.args.list.now in
     let f = error_of c.args.canvas.now.map c.args.sample.now in
     record {
       errors =

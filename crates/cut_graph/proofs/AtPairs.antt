@@ -1,18 +1,14 @@
 -- Lists with a value for each pair, as they grow.
-use Rattle.std.proofs.Common.{◌≡◌, ℕ, ◌+◌, ◌<◌, List, [], ◌∷◌, ◌++◌, length, sym, ap, ◌∙◌, subst, arith, ⊎_elim}
+use Rattle.std.proofs.Common.{◌≡◌, ℕ, ◌+◌, List, [], ◌∷◌, ◌++◌, length, sym, ap, ◌∙◌, subst, arith, ⊎_elim}
 use Rattle.std.proofs.lemmas.Bool.{cases_lt}
-use borrow.Author.Tests.{ltb-true}
 use Rattle.cells.specs.declared.place.Size.{Size}
 use Rattle.cells.specs.declared.place.Axis.{Axis}
-use Rattle.cells.specs.declared.place.Axis.TheVariants.{X, Y, F}
-use Rattle.cells.specs.Places.{cell_count}
-use Rattle.seam_cost.specs.Pairs.{pair_number}
+use Rattle.box_walk.proofs.PairNumbers.{SamePair, number_apart}
+use Rattle.box_walk.specs.Pairs.{pair_number, IsPair}
 use Rattle.cut_graph.specs.declared.numbering.Numbering.{Numbering}
 use Rattle.cut_graph.specs.Building.{AreSeamNodes, Gives, IsSeamNode, are_filled}
-use Rattle.cut_graph.specs.Nodes.{IsPair}
-use Rattle.cut_graph.specs.Numberings.{AtPairs, index_of, stride}
+use Rattle.cut_graph.specs.Numberings.{AtPairs}
 use Rattle.cut_graph.proofs.Numbers.{get-end, get-left, length-end}
-use Rattle.cut_graph.proofs.PairNumbers.{SamePair, index_below, number_apart}
 
 pub at_none : (size : Size) (IsGood : Axis → ℕ → ℕ → ℕ → ℕ → Type 0) (values : List ℕ) → values ≡ [] → AtPairs size IsGood values
 at_none size IsGood values none = subst (AtPairs size IsGood) (sym none) (record { each = λ axis x y f is lt. absurd (omega arith) })
@@ -34,15 +30,6 @@ at_more size IsGood axis x y f v values is count good at = record {
       (of_same IsGood other axis a b c x y f v (number_apart size other axis a b c x y f is' is (last ∙ count)) good))
       (cases_lt (pair_number size other a b c) (length values));
 }
-
--- the cell behind one along an axis
-pub behind : (size : Size) (axis : Axis) (x y f : ℕ) → IsPair size axis x y f → index_of size x y f + stride size axis < cell_count size
-behind size X x y f is =
-    omega (arith, index_below size (x + 1) y f (record { column = ltb-true (x + 1) size.w is.next; row = is.counts.row; frame = is.counts.frame }))
-behind size Y x y f is =
-    omega (arith, index_below size x (y + 1) f (record { column = is.counts.column; row = ltb-true (y + 1) size.h is.next; frame = is.counts.frame }))
-behind size F x y f is =
-    omega (arith, index_below size x y (f + 1) (record { column = is.counts.column; row = is.counts.row; frame = ltb-true (f + 1) size.f is.next }))
 
 -- the nodes of one pair more
 pub more_seams : (cells : List ℕ) (size : Size) (first : ℕ) (axis : Axis) (x y f : ℕ) (was now : Numbering) → IsPair size axis x y f

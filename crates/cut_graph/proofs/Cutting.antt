@@ -21,15 +21,16 @@ use Rattle.box_sums.proofs.Additions.{counts}
 use Rattle.box_sums.proofs.Boxes.{box_related}
 use Rattle.max_flow.specs.Networks.{FlowNetwork}
 use Rattle.max_flow.specs.Flows.{IsCut, capacity_out, cut_capacity, is_in}
-use Rattle.seam_cost.specs.Costs.{pair_at, seam_of}
-use Rattle.seam_cost.specs.Lawful.{StaysOld, is_new, window_after}
-use Rattle.seam_cost.specs.Pairs.{AreCounts, cell_in, has_next}
-use Rattle.seam_cost.proofs.Existence.{new_inside}
-use Rattle.seam_cost.proofs.Windows.{behind_is, cell_inside, cell_of, pair_within, window_pairs}
+use Rattle.seams.specs.Costs.{pair_at, seam_of}
+use Rattle.seams.specs.Lawful.{StaysOld, is_new, window_after}
+use Rattle.box_walk.specs.Pairs.{AreCounts, cell_in, has_next, IsPair}
+use Rattle.seams.proofs.Existence.{new_inside}
+use Rattle.box_walk.proofs.Cells.{next_is, cell_inside, cell_of}
+use Rattle.seams.proofs.Windows.{pair_within, window_pairs}
 use Rattle.cut_graph.specs.declared.places.Places.{Places}
-use Rattle.cut_graph.specs.Nodes.{HasSeam, IsFreeAt, IsInner, IsPair, StandsForCell, StandsForSeam, cell_node, seam_node}
+use Rattle.cut_graph.specs.Nodes.{HasSeam, IsFreeAt, IsInner, StandsForCell, StandsForSeam, cell_node, seam_node}
 use Rattle.cut_graph.specs.Pipes.{next_node, pipes_along, pipes_between}
-use Rattle.cut_graph.specs.Cuts.{Agree, ChoicesAreCuts, HasCut, IsNetworkOf, IsOpen}
+use Rattle.cut_graph.specs.Cuts.{Agree, ChoicesAreCuts, HasCut, IsNetworkOf, IsLawfulHeld}
 use Rattle.cut_graph.proofs.Joined.{capacity_of_pairs}
 use Rattle.cut_graph.proofs.Crossing.{capacity_is, carried, cost_at_most, cost_exact, source_if}
 
@@ -39,13 +40,13 @@ module _ (placement : Placement) (places : Places) (Holds : At → ℕ → Type 
   pub of_second : (axis : Axis) (x y f : ℕ) → IsPair placement.rect.size axis x y f
       → Holds (plus (cell_in placement.rect x y f) (unit_step axis)) (next_node places placement.rect.size axis x y f)
   of_second X x y f pair =
-      subst (λ p. Holds p (cell_node places placement.rect.size (x + 1) y f)) (sym (behind_is placement.rect X x y f))
+      subst (λ p. Holds p (cell_node places placement.rect.size (x + 1) y f)) (sym (next_is placement.rect X x y f))
       (each (x + 1) y f (record { column = ltb-true _ _ pair.next; row = pair.counts.row; frame = pair.counts.frame }))
   of_second Y x y f pair =
-      subst (λ p. Holds p (cell_node places placement.rect.size x (y + 1) f)) (sym (behind_is placement.rect Y x y f))
+      subst (λ p. Holds p (cell_node places placement.rect.size x (y + 1) f)) (sym (next_is placement.rect Y x y f))
       (each x (y + 1) f (record { column = pair.counts.column; row = ltb-true _ _ pair.next; frame = pair.counts.frame }))
   of_second F x y f pair =
-      subst (λ p. Holds p (cell_node places placement.rect.size x y (f + 1))) (sym (behind_is placement.rect F x y f))
+      subst (λ p. Holds p (cell_node places placement.rect.size x y (f + 1))) (sym (next_is placement.rect F x y f))
       (each x y (f + 1) (record { column = pair.counts.column; row = pair.counts.row; frame = ltb-true _ _ pair.next }))
 
 new_behind : (placement : Placement) (p e : At) → new_source placement (plus p e) ≡ plus (new_source placement p) e
@@ -108,7 +109,7 @@ module _ (d : At → At → ℕ) (m : SourceMap) (placement : Placement) (held :
         both _ _ _ _ (both _ _ _ _ (pair_related pairs X x y f at) (pair_related pairs Y x y f at)) (pair_related pairs F x y f at)))
 
   -- a cell that has to stay old isn't new in an open choice
-  stays_old : (choice : List Bool) → IsOpen m placement held choice → (p : At) → StaysOld m placement held p → is_new placement choice p ≡ false
+  stays_old : (choice : List Bool) → IsLawfulHeld m placement held choice → (p : At) → StaysOld m placement held p → is_new placement choice p ≡ false
   stays_old choice opened p (inl kept) = opened.lawful.kept p kept
   stays_old choice opened p (inr mark) = opened.held_old p mark
 
@@ -132,7 +133,7 @@ module _ (d : At → At → ℕ) (m : SourceMap) (placement : Placement) (held :
         ap (is_new placement choice) at.cell ∙ agree at.x at.y at.f at.counts
         ∙ ap (λ n. not (is_in sides n)) (of.nodes.unfilled at.x at.y at.f at.counts (ap (map_at m) (sym at.cell) ∙ e)) ∙ ap not sink
 
-    is_open : IsOpen m placement held choice
+    is_open : IsLawfulHeld m placement held choice
     is_open = record {
       lawful = record { unfilled = new; kept = λ p kept. old p kept.inside (inl kept) };
       held_old = λ p mark. let at = new_inside placement held p mark in old p (ap is_some at.1.index) (inr mark);
@@ -150,7 +151,7 @@ module _ (d : At → At → ℕ) (m : SourceMap) (placement : Placement) (held :
     seam : (axis : Axis) (x y f : ℕ) → HasSeam m placement axis x y f → seam_node places placement.rect.size axis x y f ≡ n
         → side ≡ not (is_new placement choice (cell_in placement.rect x y f)) && not (is_new placement choice (plus (cell_in placement.rect x y f) (unit_step axis)))
 
-  module _ (choice : List Bool) (opened : IsOpen m placement held choice) where
+  module _ (choice : List Bool) (opened : IsLawfulHeld m placement held choice) where
     -- nodes are told apart by what they stand for
     of_free : (n : ℕ) → StandsForCell m placement held places n → IsInner network.nodes n → (side : Bool) × IsSideOf choice n side
     of_free n stands inner = (

@@ -17,8 +17,8 @@ use Rattle.box_sums.proofs.Axes.{sum_equal, sum_first}
 use Rattle.box_sums.proofs.Boxes.{at_counts, box_equal, box_raster}
 use Rattle.max_flow.specs.declared.network.Pipe.{Pipe}
 use Rattle.max_flow.specs.Networks.{FlowNetwork, no_pipe, pipe_at}
-use Rattle.max_flow.specs.Flows.{FitsPipe, IsFlow, capacity_out, flow_at, net_leaving, part_if}
-use Rattle.seam_cost.specs.Pairs.{AreCounts, at_index}
+use Rattle.max_flow.specs.Flows.{FitsPipe, IsFlow, capacity_out, pipe_flow, net_leaving, part_if}
+use Rattle.box_walk.specs.Pairs.{AreCounts, at_index}
 use Rattle.cut_graph.specs.declared.places.Places.{Places}
 use Rattle.cut_graph.specs.Pipes.{first_pipe, joined, pipes_along, pipes_from, pipes_of}
 
@@ -158,11 +158,11 @@ pipe_leaving side pipe flow = part_if (side pipe.from) flow -ℤ part_if (side p
 
 -- what leaves along pipes whose flows begin at a place of a list of flows, pipe by pipe
 pub leaving_by_pipe : (side : ℕ → Bool) (pipes : List Pipe) (flows : List ℤ) (o : ℕ) → o + length pipes ≤ length flows
-    → net_leaving side pipes (drop o flows) ≡ signed_sum_to (length pipes) (λ k. pipe_leaving side (pipe_at pipes k) (flow_at flows (o + k)))
+    → net_leaving side pipes (drop o flows) ≡ signed_sum_to (length pipes) (λ k. pipe_leaving side (pipe_at pipes k) (pipe_flow flows (o + k)))
 leaving_by_pipe side [] flows o fits = refl
 leaving_by_pipe side (p ∷ ps) flows o fits =
     ap (net_leaving side (p ∷ ps)) (drop-cons flows o (pos 0) (omega arith))
-    ∙ (λ k. pipe_leaving side p (flow_at flows (first k)) +ℤ (leaving_by_pipe side ps flows (suc o) (omega arith) ∙ sum_equal integers (length ps) _ _ (λ i lt. ap (λ j. pipe_leaving side (pipe_at ps i) (flow_at flows j)) (next i))) k)
+    ∙ (λ k. pipe_leaving side p (pipe_flow flows (first k)) +ℤ (leaving_by_pipe side ps flows (suc o) (omega arith) ∙ sum_equal integers (length ps) _ _ (λ i lt. ap (λ j. pipe_leaving side (pipe_at ps i) (pipe_flow flows j)) (next i))) k)
     ∙ sym (sum_first integers (length ps) _)
   where
     first : o ≡ o + 0
@@ -174,8 +174,8 @@ leaving_by_pipe side (p ∷ ps) flows o fits =
 -- the flow of each pipe of a pair fits the pipe
 pub pair_fits : (d : At → At → ℕ) (m : SourceMap) (placement : Placement) (places : Places) (network : FlowNetwork) (flows : List ℤ)
     → network.pipes ≡ pipes_of d m placement places → IsFlow network flows → (axis : Axis) (x y f k : ℕ) → AreCounts placement.rect.size x y f → k < length (pipes_along d m placement places axis x y f)
-    → FitsPipe (pipe_at (pipes_along d m placement places axis x y f) k) (flow_at flows (first_pipe d m placement places axis x y f + k))
+    → FitsPipe (pipe_at (pipes_along d m placement places axis x y f) k) (pipe_flow flows (first_pipe d m placement places axis x y f + k))
 pair_fits d m placement places network flows same flow axis x y f k at lt =
     let stands = pair_stands d m placement places axis x y f at in
-    subst (λ p. FitsPipe p (flow_at flows (first_pipe d m placement places axis x y f + k))) (ap (λ ps. pipe_at ps (first_pipe d m placement places axis x y f + k)) same ∙ stands.same k no_pipe lt)
+    subst (λ p. FitsPipe p (pipe_flow flows (first_pipe d m placement places axis x y f + k))) (ap (λ ps. pipe_at ps (first_pipe d m placement places axis x y f + k)) same ∙ stands.same k no_pipe lt)
     (flow.fits (first_pipe d m placement places axis x y f + k) (omega (arith, stands.fits, ap length same)))

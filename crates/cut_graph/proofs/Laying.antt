@@ -13,24 +13,26 @@ use Rattle.cells.specs.declared.place.Size.{Size}
 use Rattle.cells.specs.Boxes.{IsInBox}
 use Rattle.cells.specs.Distances.{distance}
 use Rattle.cells.specs.Neighbours.{unit_step}
-use Rattle.cells.specs.Places.{IsSmall, cell_count, plus}
+use Rattle.cells.specs.Places.{IsSmall, cell_count, plus, raster_index}
 use Rattle.source_map.specs.Choices.{new_source}
 use Rattle.source_map.specs.Maps.{map_at}
 use Rattle.cells.proofs.BoxLaws.{box_small}
 use Rattle.max_flow.specs.declared.network.Pipe.{Pipe}
-use Rattle.seam_cost.specs.Pairs.{AreCounts, at_index, cell_in, has_next, one_if, pair_count, pair_number, pairs_before}
+use Rattle.box_walk.proofs.PairNumbers.{number_below, pairs_next}
+use Rattle.box_walk.proofs.Indices.{at_counts}
+use Rattle.box_walk.specs.Raster.{stride}
+use Rattle.box_walk.specs.Pairs.{AreCounts, at_index, cell_in, has_next, one_if, pair_count, pair_number, pairs_before, IsPair}
 use Rattle.cut_graph.specs.declared.piping.Piping.{Piping}
 use Rattle.cut_graph.specs.declared.plan.PairCell.{PairCell}
 use Rattle.cut_graph.specs.declared.plan.Plan.{Plan}
-use Rattle.cut_graph.specs.Nodes.{IsPair, cell_node, seam_node}
-use Rattle.cut_graph.specs.Numberings.{AtPairs, index_of, stride}
-use Rattle.cut_graph.specs.Building.{IsLaid}
+use Rattle.cut_graph.specs.Nodes.{cell_node, seam_node}
+use Rattle.cut_graph.specs.Numberings.{AtPairs}
+use Rattle.cut_graph.specs.Building.{HasAllPipes}
 use Rattle.cut_graph.specs.Pipes.{first_or_none, first_pipe, joined, next_node, pair_pipes, pipes_between, pipes_from}
 use Rattle.cut_graph.specs.Plans.{IsCellAt, IsFirst, IsPiped, IsPipedPast, IsPipedTo, IsPlan, along, before, pipes_of_pair, places_of, up_to, with_pipes}
 use Rattle.cut_graph.proofs.AtPairs.{at_more}
 use Rattle.cut_graph.proofs.Numbered.{in_box}
-use Rattle.cut_graph.proofs.Numbers.{at_counts, length-end}
-use Rattle.cut_graph.proofs.PairNumbers.{number_below, pairs_next}
+use Rattle.cut_graph.proofs.Numbers.{length-end}
 
 pub plan_small : (plan : Plan) → IsPlan plan → IsSmall plan.placement.rect.size
 plan_small plan is = box_small plan.map.now.size plan.placement.rect.corner plan.placement.rect.size is.over.small is.fits.some is.fits.inside
@@ -58,7 +60,7 @@ pub record HasBehind (rect : Box3) (axis : Axis) (x y f : ℕ) : Type 0 where
   pub c : ℕ
   pub counts : AreCounts rect.size a b c
   pub place : cell_in rect a b c ≡ plus (cell_in rect x y f) (unit_step axis)
-  pub index : index_of rect.size a b c ≡ index_of rect.size x y f + stride rect.size axis
+  pub index : raster_index rect.size a b c ≡ raster_index rect.size x y f + stride rect.size axis
 
 pub behind_of : (rect : Box3) (axis : Axis) (x y f : ℕ) → IsPair rect.size axis x y f → HasBehind rect axis x y f
 behind_of rect X x y f is = record {
@@ -94,19 +96,19 @@ second_in_box rect axis x y f is =
 
 -- and its node stands so far behind
 next_is : (plan : Plan) (axis : Axis) (x y f : ℕ)
-    → next_node (places_of plan) plan.placement.rect.size axis x y f ≡ slice_index plan.cells.now (index_of plan.placement.rect.size x y f + stride plan.placement.rect.size axis)
+    → next_node (places_of plan) plan.placement.rect.size axis x y f ≡ slice_index plan.cells.now (raster_index plan.placement.rect.size x y f + stride plan.placement.rect.size axis)
 next_is plan X x y f =
     let size = plan.placement.rect.size in
-    let e : index_of size (x + 1) y f ≡ index_of size x y f + 1 = omega arith in ap (slice_index plan.cells.now) e
+    let e : raster_index size (x + 1) y f ≡ raster_index size x y f + 1 = omega arith in ap (slice_index plan.cells.now) e
 next_is plan Y x y f =
     let size = plan.placement.rect.size in
-    let e : index_of size x (y + 1) f ≡ index_of size x y f + size.w = omega arith in ap (slice_index plan.cells.now) e
+    let e : raster_index size x (y + 1) f ≡ raster_index size x y f + size.w = omega arith in ap (slice_index plan.cells.now) e
 next_is plan F x y f =
     let size = plan.placement.rect.size in
-    let e : index_of size x y (f + 1) ≡ index_of size x y f + size.w * size.h = omega arith in ap (slice_index plan.cells.now) e
+    let e : raster_index size x y (f + 1) ≡ raster_index size x y f + size.w * size.h = omega arith in ap (slice_index plan.cells.now) e
 
 -- the pipes of a pair by its two cells
-module _ (plan : Plan) (axis : Axis) (x y f i : ℕ) (p : At) (first second : PairCell) (seam : ℕ) (index : index_of plan.placement.rect.size x y f ≡ i)
+module _ (plan : Plan) (axis : Axis) (x y f i : ℕ) (p : At) (first second : PairCell) (seam : ℕ) (index : raster_index plan.placement.rect.size x y f ≡ i)
     (place : p ≡ plus (cell_in plan.placement.rect x y f) (unit_step axis)) (next : has_next plan.placement.rect.size axis x y f ≡ true)
     (is_first : IsCellAt plan (cell_in plan.placement.rect x y f) i first) (is_second : IsCellAt plan p (i + stride plan.placement.rect.size axis) second)
     (is_seam : seam ≡ seam_node (places_of plan) plan.placement.rect.size axis x y f) where
@@ -169,7 +171,7 @@ grown plan nodes axis x y f made was now is same grows so_far = record {
     lengths = length-append (up_to plan axis x y f) (along plan axis x y f)
 
 -- past the third pair of a cell is before the next cell
-pub past_cell : (plan : Plan) (nodes : ℕ) (x y f i : ℕ) (now : Piping) → AreCounts plan.placement.rect.size x y f → index_of plan.placement.rect.size x y f ≡ i
+pub past_cell : (plan : Plan) (nodes : ℕ) (x y f i : ℕ) (now : Piping) → AreCounts plan.placement.rect.size x y f → raster_index plan.placement.rect.size x y f ≡ i
     → IsPipedPast plan nodes F x y f now → IsPiped plan nodes (before plan (i + 1)) (pairs_before plan.placement.rect.size (i + 1)) now
 past_cell plan nodes x y f i now at index past =
     subst (λ n. IsPiped plan nodes (before plan (i + 1)) n now) numbers (subst (λ made. IsPiped plan nodes made (pair_number plan.placement.rect.size F x y f + one_if (has_next plan.placement.rect.size F x y f)) now) lists past)
@@ -184,10 +186,10 @@ past_cell plan nodes x y f i now at index past =
     from = pipes_from (distance plan.sample.now) plan.map.now plan.placement (places_of plan)
 
     lists : up_to plan F x y f ++ along plan F x y f ≡ before plan (i + 1)
-    lists = append_assoc (before plan (index_of size x y f) ++ along plan X x y f) (along plan Y x y f) (along plan F x y f)
-        ∙ append_assoc (before plan (index_of size x y f)) (along plan X x y f) (along plan Y x y f ++ along plan F x y f)
-        ∙ ap (λ made. before plan (index_of size x y f) ++ made) (sym (at_counts size from x y f at.column at.row))
-        ∙ ap (joined (at_index size from)) (sym (add-one (index_of size x y f)) ∙ ap (λ n. n + 1) index)
+    lists = append_assoc (before plan (raster_index size x y f) ++ along plan X x y f) (along plan Y x y f) (along plan F x y f)
+        ∙ append_assoc (before plan (raster_index size x y f)) (along plan X x y f) (along plan Y x y f ++ along plan F x y f)
+        ∙ ap (λ made. before plan (raster_index size x y f) ++ made) (sym (at_counts size from x y f at.column at.row))
+        ∙ ap (joined (at_index size from)) (sym (add-one (raster_index size x y f)) ∙ ap (λ n. n + 1) index)
 
 -- all pipes of a plan
 first_is : (plan : Plan) (axis : Axis) (x y f : ℕ)
@@ -199,7 +201,7 @@ first_is plan F x y f =
 
 pub laid : (plan : Plan) (nodes : ℕ) (piping : Piping) → length plan.seams.now ≡ pair_count plan.placement.rect.size
     → IsPiped plan nodes (before plan (cell_count plan.placement.rect.size)) (pair_count plan.placement.rect.size) piping
-    → IsLaid (distance plan.sample.now) plan.map.now plan.placement plan.cells.now plan.seams.now nodes piping
+    → HasAllPipes (distance plan.sample.now) plan.map.now plan.placement plan.cells.now plan.seams.now nodes piping
 laid plan nodes piping count piped = record {
   size = piped.size;
   source = piped.source;

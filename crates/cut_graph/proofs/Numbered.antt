@@ -2,7 +2,7 @@
 use Rattle.std.proofs.Common.{◌≡◌, ℕ, ◌+◌, ◌<◌, List, length, get_or, refl, sym, ap, ◌∙◌, subst, arith, Bool, false, ⊎_elim}
 use Rattle.std.proofs.lemmas.Bool.{cases_lt}
 use Rattle.std.specs.Prelude.{Some, IsSome, unwrap_or, option_map, slice_index_or}
-use Rattle.cells.specs.Places.{index_in, minus, spot}
+use Rattle.cells.specs.Places.{index_in, minus, spot, raster_index}
 use Rattle.cells.specs.declared.place.At.{At}
 use Rattle.cells.specs.declared.place.Box3.{Box3}
 use Rattle.cells.specs.Boxes.{IsInBox}
@@ -10,13 +10,14 @@ use Rattle.cells.proofs.BoxLaws.{plus_minus}
 use Rattle.cells.proofs.Raster.{index_of_spot}
 use Rattle.source_map.specs.declared.canvas.Placement.{Placement}
 use Rattle.source_map.specs.Maps.{SourceMap}
-use Rattle.seam_cost.specs.Lawful.{is_held}
-use Rattle.seam_cost.specs.Pairs.{AreCounts, at_index, cell_in}
+use Rattle.seams.specs.Lawful.{is_held}
+use Rattle.box_walk.proofs.Indices.{at_counts}
+use Rattle.box_walk.specs.Pairs.{AreCounts, at_index, cell_in}
 use Rattle.cut_graph.specs.declared.cell_nodes.Standing.{Standing}
 use Rattle.cut_graph.specs.declared.numbering.Numbering.{Numbering}
 use Rattle.cut_graph.specs.Building.{Adds, AreCellNodes, Gives, IsCellNode, IsNodeOf, IsStanding}
-use Rattle.cut_graph.specs.Numberings.{IsNumbering, index_of}
-use Rattle.cut_graph.proofs.Numbers.{at_counts, get-end, get-left, length-end, numbering_end, numbering_own}
+use Rattle.cut_graph.specs.Numberings.{IsNumbering}
+use Rattle.cut_graph.proofs.Numbers.{get-end, get-left, length-end, numbering_end, numbering_own}
 
 -- one node more that others have too
 pub gives_end : (IsOne : ℕ → Type 0) (from node : ℕ) (was now : Numbering) → IsNumbering from was.next was.nodes.items → node < from → IsOne node → Adds node was.next was now → Gives IsOne from was now
@@ -37,7 +38,7 @@ gives_own IsOne from was now is some one adds = record {
 }
 
 -- the index of a cell in its box
-pub index_in_box : (rect : Box3) (x y f : ℕ) → AreCounts rect.size x y f → index_in rect.size (minus (cell_in rect x y f) rect.corner) ≡ Some (index_of rect.size x y f)
+pub index_in_box : (rect : Box3) (x y f : ℕ) → AreCounts rect.size x y f → index_in rect.size (minus (cell_in rect x y f) rect.corner) ≡ Some (raster_index rect.size x y f)
 index_in_box rect x y f at = ap (index_in rect.size) (plus_minus rect.corner (spot x y f)) ∙ index_of_spot rect.size x y f at.column at.row at.frame
 
 pub in_box : (rect : Box3) (x y f : ℕ) → AreCounts rect.size x y f → IsInBox rect (cell_in rect x y f)
@@ -45,12 +46,12 @@ in_box rect x y f at = subst IsSome (sym (index_in_box rect x y f at)) refl
 
 -- a mark by the cell and by its index
 pub held_by_index : (placement : Placement) (held : List Bool) (x y f : ℕ) → AreCounts placement.rect.size x y f
-    → is_held placement held (cell_in placement.rect x y f) ≡ slice_index_or held (index_of placement.rect.size x y f) false
+    → is_held placement held (cell_in placement.rect x y f) ≡ slice_index_or held (raster_index placement.rect.size x y f) false
 held_by_index placement held x y f at = ap (λ o. unwrap_or (option_map (λ i. slice_index_or held i false) o) false) (index_in_box placement.rect x y f at)
 
 -- the nodes of one cell more
 pub more_cells : (m : SourceMap) (placement : Placement) (held : List Bool) (x y f i : ℕ) (standing : Standing) (was now : Numbering)
-    → AreCounts placement.rect.size x y f → index_of placement.rect.size x y f ≡ i → IsStanding m placement held (cell_in placement.rect x y f) standing
+    → AreCounts placement.rect.size x y f → raster_index placement.rect.size x y f ≡ i → IsStanding m placement held (cell_in placement.rect x y f) standing
     → AreCellNodes m placement held i was → Gives (IsNodeOf standing) 2 was now → AreCellNodes m placement held (i + 1) now
 more_cells m placement held x y f i standing was now at index is cells gives = record {
   count = ap length gives.items ∙ length-end was.nodes.items gives.node ∙ ap (λ n. n + 1) cells.count;

@@ -9,11 +9,14 @@ use Rattle.cells.specs.declared.place.Axis.{Axis}
 use Rattle.cells.specs.declared.place.Size.{Size}
 use Rattle.cells.specs.Boxes.{HasCells}
 use Rattle.cells.specs.Neighbours.{unit_step}
-use Rattle.cells.specs.Places.{cell_count, plus}
+use Rattle.cells.specs.Places.{cell_count, plus, raster_index}
 use Rattle.source_map.specs.declared.canvas.Placement.{Placement}
 use Rattle.source_map.specs.Maps.{SourceMap, IsFilled, map_at}
-use Rattle.seam_cost.specs.Lawful.{AreHeld, AreMarks, IsFree, StaysOld, marks_of}
-use Rattle.seam_cost.specs.Pairs.{AreCounts, cell_in, pair_count, pair_number}
+use Rattle.seams.specs.Lawful.{AreHeld, AreMarks, IsFree, StaysOld, held_marks}
+use Rattle.box_walk.proofs.PairNumbers.{HasPair, find_pair, number_apart, number_below}
+use Rattle.box_walk.proofs.Indices.{at_counts, counts_at, index_below, same_counts}
+use Rattle.box_walk.specs.Raster.{stride}
+use Rattle.box_walk.specs.Pairs.{AreCounts, cell_in, pair_count, pair_number, IsPair}
 use Rattle.cut_graph.specs.declared.cell_nodes.Standing.{Standing}
 use Rattle.cut_graph.specs.declared.cell_nodes.Standing.TheVariants.{Old, Unfilled, Free}
 use Rattle.cut_graph.specs.declared.numbering.Numbering.{Numbering}
@@ -21,12 +24,9 @@ use Rattle.cut_graph.specs.declared.places.Places.{Places}
 use Rattle.cut_graph.specs.declared.piping.Piping.{Piping}
 use Rattle.source_map.specs.Choices.{box_index, chosen}
 use Rattle.cut_graph.specs.Cuts.{IsNetworkOf}
-use Rattle.cut_graph.specs.Building.{IsLaid, AreCellNodes, AreSeamNodes, IsCellNode, IsNodeOf, IsSeamNode, IsStanding, are_filled, both_filled}
-use Rattle.cut_graph.specs.Nodes.{AreNodes, HasSeam, IsFreeAt, IsPair, StandsForCell, StandsForSeam, cell_node, seam_node}
-use Rattle.cut_graph.specs.Numberings.{index_of, stride}
+use Rattle.cut_graph.specs.Building.{HasAllPipes, AreCellNodes, AreSeamNodes, IsCellNode, IsNodeOf, IsSeamNode, IsStanding, are_filled, both_filled}
+use Rattle.cut_graph.specs.Nodes.{AreNodes, HasSeam, IsFreeAt, StandsForCell, StandsForSeam, cell_node, seam_node}
 use Rattle.cut_graph.proofs.Laying.{behind_of}
-use Rattle.cut_graph.proofs.Numbers.{at_counts, same_counts}
-use Rattle.cut_graph.proofs.PairNumbers.{HasPair, counts_at, find_pair, index_below, number_apart, number_below}
 
 -- what a cell's node says of it
 module _ (m : SourceMap) (placement : Placement) (held : List Bool) (p : At) (n : ℕ) (cell : IsCellNode m placement held p n) where
@@ -121,11 +121,11 @@ module _ (m : SourceMap) (placement : Placement) (held : List Bool) (cells seams
   cell_at : (x y f : ℕ) → AreCounts size x y f → IsCellNode m placement held (cell_in placement.rect x y f) (cell_node places size x y f)
   cell_at x y f at =
       subst (λ p. IsCellNode m placement held p (cell_node places size x y f)) (at_counts size (cell_in placement.rect) x y f at.column at.row)
-      (is_cells.each (index_of size x y f) (index_below size x y f at))
+      (is_cells.each (raster_index size x y f) (index_below size x y f at))
 
   -- a pair has a seam where both of its cells are filled
   second_at : (axis : Axis) (x y f : ℕ) → IsPair size axis x y f
-      → IsCellNode m placement held (plus (cell_in placement.rect x y f) (unit_step axis)) (slice_index cells.nodes.items (index_of size x y f + stride size axis))
+      → IsCellNode m placement held (plus (cell_in placement.rect x y f) (unit_step axis)) (slice_index cells.nodes.items (raster_index size x y f + stride size axis))
   second_at axis x y f is =
       let next = behind_of placement.rect axis x y f is in
       subst (λ i. IsCellNode m placement held (plus (cell_in placement.rect x y f) (unit_step axis)) (slice_index cells.nodes.items i)) next.index
@@ -133,12 +133,12 @@ module _ (m : SourceMap) (placement : Placement) (held : List Bool) (cells seams
 
   filled_seam : (axis : Axis) (x y f : ℕ) → HasSeam m placement axis x y f → are_filled cells.nodes.items size axis x y f ≡ true
   filled_seam axis x y f has =
-      both_of cells.nodes.items (index_of size x y f) (index_of size x y f + stride size axis)
+      both_of cells.nodes.items (raster_index size x y f) (raster_index size x y f + stride size axis)
       (not_sink m placement held _ _ (cell_at x y f has.pair.counts) has.first) (not_sink m placement held _ _ (second_at axis x y f has.pair) has.second)
 
   seam_filled : (axis : Axis) (x y f : ℕ) → IsPair size axis x y f → are_filled cells.nodes.items size axis x y f ≡ true → HasSeam m placement axis x y f
   seam_filled axis x y f is both =
-      let other = of_both cells.nodes.items (index_of size x y f) (index_of size x y f + stride size axis) both in
+      let other = of_both cells.nodes.items (raster_index size x y f) (raster_index size x y f + stride size axis) both in
       record {
         pair = is;
         first = filled_of m placement held _ _ (cell_at x y f is.counts) other.0;
@@ -212,24 +212,24 @@ module _ (m : SourceMap) (placement : Placement) (held : List Bool) (cells seams
     seam_nodes = is_seams.count;
     old = λ x y f at stays. node_old m placement held _ _ (cell_at x y f at) held_filled stays;
     unfilled = λ x y f at none. node_unfilled m placement held _ _ (cell_at x y f at) none;
-    free = λ x y f is. record { above = free_own x y f is; below = omega (arith, is_cells.numbering.below (index_of size x y f), is_seams.numbering.order) };
+    free = λ x y f is. record { above = free_own x y f is; below = omega (arith, is_cells.numbering.below (raster_index size x y f), is_seams.numbering.order) };
     seam = λ axis x y f has. record {
       above = omega (arith, is_cells.numbering.order, seam_own axis x y f has);
       below = is_seams.numbering.below (pair_number size axis x y f);
     };
     no_seam = no_seam;
     cells_apart = λ x y f a b c is other e.
-        let at = same_counts size x y f a b c is.counts other.counts (is_cells.numbering.apart (index_of size x y f) (index_of size a b c) (free_own x y f is) e) in
+        let at = same_counts size x y f a b c is.counts other.counts (is_cells.numbering.apart (raster_index size x y f) (raster_index size a b c) (free_own x y f is) e) in
         (at.x_same, at.y_same, at.f_same);
     seams_apart = λ axis other x y f a b c has has' e.
         let at = number_apart size axis other x y f a b c has.pair has'.pair (is_seams.numbering.apart (pair_number size axis x y f) (pair_number size other a b c) (seam_own axis x y f has) e) in
         (at.axis_same, at.x_same, at.y_same, at.f_same);
-    apart = λ axis x y f a b c has is e. absurd (omega (arith, e, seam_own axis x y f has, is_cells.numbering.below (index_of size a b c)));
+    apart = λ axis x y f a b c has is e. absurd (omega (arith, e, seam_own axis x y f has, is_cells.numbering.below (raster_index size a b c)));
     each = λ n inner. ⊎_elim (λ lt. inl (for_cell n inner.above lt)) (λ ge. inr (for_seam n ge inner.below)) (cases_lt n cells.next);
   }
 
 -- marks that are given or missing
-pub held_filled : (m : SourceMap) (placement : Placement) (marks : Option (List Bool)) → IfSome marks (AreMarks m placement) → AreHeld m placement (marks_of marks)
+pub held_filled : (m : SourceMap) (placement : Placement) (marks : Option (List Bool)) → IfSome marks (AreMarks m placement) → AreHeld m placement (held_marks marks)
 held_filled m placement None is p held = none (box_index placement p) held
   where
     none : (index : Option ℕ) → chosen [] index ≡ true → IsFilled m p
@@ -239,7 +239,7 @@ held_filled m placement (Some marks) is p held = is.filled p held
 
 -- the nodes and the pipes are those of the network
 pub is_network : (d : At → At → ℕ) (m : SourceMap) (placement : Placement) (held : List Bool) (cells seams : List ℕ) (nodes : ℕ) (piping : Piping)
-    → AreNodes m placement held (record { cell_nodes = cells; seam_nodes = seams; pipes = piping.first.items }) nodes → IsLaid d m placement cells seams nodes piping
+    → AreNodes m placement held (record { cell_nodes = cells; seam_nodes = seams; pipes = piping.first.items }) nodes → HasAllPipes d m placement cells seams nodes piping
     → IsNetworkOf d m placement held piping.network (record { cell_nodes = cells; seam_nodes = seams; pipes = piping.first.items })
 is_network d m placement held cells seams nodes piping is laid = record {
   nodes = subst (AreNodes m placement held (record { cell_nodes = cells; seam_nodes = seams; pipes = piping.first.items })) (sym laid.size) is;

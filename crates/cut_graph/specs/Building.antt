@@ -1,4 +1,5 @@
--- How far the network of a placement has come: the nodes of its first cells, of its first pairs, and the pipes of its
+-- For the contracts within the crate; nobody has to trust this file. How far the network of a
+-- placement has come: the nodes of its first cells, of its first pairs, and the pipes of its
 -- first pairs. (Own.)
 use Rattle.std.specs.Prelude.{◌≡◌, ◌≤◌, ◌<◌, ◌+◌, ◌==◌, ℕ, Bool, true, false, not, List, [], ◌∷◌, ◌++◌, length, slice_index, None, if◌then◌else◌}
 use Rattle.cells.specs.declared.place.At.{At}
@@ -6,14 +7,16 @@ use Rattle.cells.specs.declared.place.Size.{Size}
 use Rattle.cells.specs.declared.place.Axis.{Axis}
 use Rattle.source_map.specs.declared.canvas.Placement.{Placement}
 use Rattle.source_map.specs.Maps.{SourceMap, IsFilled, map_at}
-use Rattle.seam_cost.specs.Lawful.{IsFree, StaysOld}
-use Rattle.seam_cost.specs.Pairs.{at_index, cell_in}
+use Rattle.seams.specs.Lawful.{IsFree, StaysOld}
+use Rattle.box_walk.specs.Raster.{stride}
+use Rattle.box_walk.specs.Pairs.{at_index, cell_in}
 use Rattle.cut_graph.specs.declared.cell_nodes.Standing.{Standing}
 use Rattle.cut_graph.specs.declared.cell_nodes.Standing.TheVariants.{Old, Unfilled, Free}
 use Rattle.cut_graph.specs.declared.numbering.Numbering.{Numbering}
 use Rattle.cut_graph.specs.declared.piping.Piping.{Piping}
 use Rattle.cut_graph.specs.Pipes.{AreFirstPipes, pipes_of}
-use Rattle.cut_graph.specs.Numberings.{AtPairs, IsNumbering, index_of, stride}
+use Rattle.cells.specs.Places.{raster_index}
+use Rattle.cut_graph.specs.Numberings.{AtPairs, IsNumbering}
 
 -- a numbering with one node more, and the next number that is free then
 pub record Adds (node next : ℕ) (was now : Numbering) : Type 0 where
@@ -40,41 +43,51 @@ IsNodeOf Unfilled n = n ≡ 1
 IsNodeOf Free n = 2 ≤ n
 
 -- the node is one for the cell
-pub record IsCellNode (m : SourceMap) (placement : Placement) (held : List Bool) (p : At) (n : ℕ) : Type 0 where
+pub record IsCellNode (m : SourceMap) (placement : Placement) (held : List Bool) (p : At)
+    (n : ℕ) : Type 0 where
   pub standing : Standing
   pub is : IsStanding m placement held p standing
   pub node : IsNodeOf standing n
 
 -- the first n cells have their nodes
-pub record AreCellNodes (m : SourceMap) (placement : Placement) (held : List Bool) (n : ℕ) (cells : Numbering) : Type 0 where
+pub record AreCellNodes (m : SourceMap) (placement : Placement) (held : List Bool) (n : ℕ)
+    (cells : Numbering) : Type 0 where
   pub count : length cells.nodes.items ≡ n
   pub numbering : IsNumbering 2 cells.next cells.nodes.items
   pub each : (i : ℕ) → i < n
-      → IsCellNode m placement held (at_index placement.rect.size (cell_in placement.rect) i) (slice_index cells.nodes.items i)
+      → IsCellNode m placement held (at_index placement.rect.size (cell_in placement.rect) i)
+      (slice_index cells.nodes.items i)
 
 -- whether two cells are both filled, by their nodes
 abbrev pub both_filled : List ℕ → ℕ → ℕ → Bool
 both_filled cells i j = if slice_index cells i == 1 then false else not (slice_index cells j == 1)
 
--- whether a cell and the one behind it along an axis are
+-- whether a cell and the next one along an axis are
 abbrev pub are_filled : List ℕ → Size → Axis → ℕ → ℕ → ℕ → Bool
-are_filled cells size axis x y f = both_filled cells (index_of size x y f) (index_of size x y f + stride size axis)
+are_filled cells size axis x y f = both_filled cells (raster_index size x y f)
+    (raster_index size x y f + stride size axis)
 
--- the nodes that a pair may have, from the number of the first seam on, by whether both of its cells are filled
+-- the nodes that a pair may have, from the number of the first seam on, by whether both of its
+-- cells are filled
 abbrev pub IsSeamNode : ℕ → Bool → ℕ → Type 0
 IsSeamNode middle true n = middle ≤ n
 IsSeamNode middle false n = n ≡ 0
 
 -- the first n pairs have their nodes
-pub record AreSeamNodes (cells : List ℕ) (size : Size) (middle n : ℕ) (seams : Numbering) : Type 0 where
+pub record AreSeamNodes (cells : List ℕ) (size : Size) (middle n : ℕ)
+    (seams : Numbering) : Type 0 where
   pub count : length seams.nodes.items ≡ n
   pub numbering : IsNumbering middle seams.next seams.nodes.items
-  pub each : AtPairs size (λ axis x y f. IsSeamNode middle (are_filled cells size axis x y f)) seams.nodes.items
+  pub each : AtPairs size (λ axis x y f.
+      IsSeamNode middle (are_filled cells size axis x y f)) seams.nodes.items
 
 -- the network has the pipes of all pairs between these nodes
-pub record IsLaid (d : At → At → ℕ) (m : SourceMap) (placement : Placement) (cells seams : List ℕ) (nodes : ℕ) (piping : Piping) : Type 0 where
+pub record HasAllPipes (d : At → At → ℕ) (m : SourceMap) (placement : Placement)
+    (cells seams : List ℕ) (nodes : ℕ) (piping : Piping) : Type 0 where
   pub size : piping.network.nodes ≡ nodes
   pub source : piping.network.source ≡ 0
   pub sink : piping.network.sink ≡ 1
-  pub pipes : piping.network.pipes ≡ pipes_of d m placement (record { cell_nodes = cells; seam_nodes = seams; pipes = piping.first.items })
-  pub first : AreFirstPipes d m placement (record { cell_nodes = cells; seam_nodes = seams; pipes = piping.first.items })
+  pub pipes : piping.network.pipes ≡ pipes_of d m placement
+      (record { cell_nodes = cells; seam_nodes = seams; pipes = piping.first.items })
+  pub first : AreFirstPipes d m placement
+      (record { cell_nodes = cells; seam_nodes = seams; pipes = piping.first.items })

@@ -1,16 +1,16 @@
 // The nodes of the cells of a placement's box.
 ghost use Rattle.std.specs.Prelude.{◌≡◌, ◌<◌, ◌+◌, Bool, List, IfOk, IfSome, OnOk, option_copied, length, false, slice_index_or};
 ghost use Rattle.cells.specs.Boxes.{HoldsBox, IsInBox};
-ghost use Rattle.cells.specs.Places.{IsSmall, cell_count};
-ghost use Rattle.seam_cost.specs.Lawful.{marks_of, is_held};
-ghost use Rattle.seam_cost.specs.Pairs.{AreCounts};
+ghost use Rattle.cells.specs.Places.{IsSmall, cell_count, raster_index};
+ghost use Rattle.seams.specs.Lawful.{held_marks, is_held};
+ghost use Rattle.box_walk.specs.Pairs.{AreCounts};
 ghost use Rattle.cut_graph.specs.Building.{AreCellNodes, Gives, IsNodeOf, IsStanding};
-ghost use Rattle.cut_graph.specs.Numberings.{IsNumbering, index_of};
+ghost use Rattle.cut_graph.specs.Numberings.{IsNumbering};
 
-use crate::counts::Counts;
 use crate::numbering::Numbering;
 use crate::places::{SINK, SOURCE};
-use cells::At;
+use box_walk::Counts;
+use cells::{At, MOST_CELLS};
 use source_map::{Canvas, Placement};
 use std::alloc::{AllocError, Global};
 
@@ -28,7 +28,7 @@ pub(crate) enum Standing {
 // Whether the cell at an index is held.
 fn is_marked(held: Option<&[bool]>, i: usize) -> bool
     requires { IfSome (option_copied held) (λ marks. i < length marks) }
-    ensures { result ≡ slice_index_or (marks_of (option_copied held.entry)) i false }
+    ensures { result ≡ slice_index_or (held_marks (option_copied held.entry)) i false }
 {
     match held {
         Some(marks) => marks[i],
@@ -39,7 +39,8 @@ fn is_marked(held: Option<&[bool]>, i: usize) -> bool
 // How a cell of the box stands, by whether it is held.
 fn standing_of(canvas: &Canvas, placement: &Placement, p: At, held: bool) -> Standing
     requires { IsInBox placement.now.rect p }
-    ensures { (marks : List Bool) → is_held placement.now marks p ≡ held → IsStanding canvas.now.map placement.now marks p result }
+    ensures { (marks : List Bool) → is_held placement.now marks p ≡ held →
+        IsStanding canvas.now.map placement.now marks p result }
 {
     if !canvas.is_filled(p) {
         Standing::Unfilled
@@ -52,7 +53,7 @@ fn standing_of(canvas: &Canvas, placement: &Placement, p: At, held: bool) -> Sta
 
 // Gives a cell a node.
 fn give(cells: &mut Numbering, standing: Standing) -> Result<(), AllocError>
-    requires room { cells.old.next < 4294967295 }
+    requires room { cells.old.next < u32.MAX }
     requires numbering { IsNumbering 2 cells.old.next cells.old.nodes.items }
     ensures { OnOk result (Gives (IsNodeOf standing) 2 cells.old cells.new) }
 {
@@ -72,13 +73,16 @@ fn give_at(
     at: Counts,
     i: usize,
 ) -> Result<(), AllocError>
-    requires inside { HoldsBox canvas.now.map.size placement.now.rect.corner placement.now.rect.size }
+    requires inside { HoldsBox canvas.now.map.size
+        placement.now.rect.corner placement.now.rect.size }
     requires counts { AreCounts placement.now.rect.size at.x at.y at.f }
-    requires index { index_of placement.now.rect.size at.x at.y at.f ≡ i }
+    requires index { raster_index placement.now.rect.size at.x at.y at.f ≡ i }
     requires marks { IfSome (option_copied held) (λ marks. i < length marks) }
-    requires few { i < 33554432 }
-    requires cells { AreCellNodes canvas.now.map placement.now (marks_of (option_copied held)) i cells.old }
-    ensures { OnOk result (AreCellNodes canvas.now.map placement.now (marks_of (option_copied held.entry)) (i + 1) cells.new) }
+    requires few { i < MOST_CELLS }
+    requires cells { AreCellNodes canvas.now.map placement.now
+        (held_marks (option_copied held)) i cells.old }
+    ensures { OnOk result (AreCellNodes canvas.now.map placement.now
+        (held_marks (option_copied held.entry)) (i + 1) cells.new) }
 {
     let _size = canvas.map().size();
     let p = at.cell(&placement.rect);
@@ -94,9 +98,12 @@ pub(crate) fn number_cells(
     held: Option<&[bool]>,
 ) -> Result<Numbering, AllocError>
     requires small { IsSmall placement.now.rect.size }
-    requires inside { HoldsBox canvas.now.map.size placement.now.rect.corner placement.now.rect.size }
-    requires marks { IfSome (option_copied held) (λ marks. length marks ≡ cell_count placement.now.rect.size) }
-    ensures { IfOk result (AreCellNodes canvas.now.map placement.now (marks_of (option_copied held.entry)) (cell_count placement.now.rect.size)) }
+    requires inside { HoldsBox canvas.now.map.size
+        placement.now.rect.corner placement.now.rect.size }
+    requires marks { IfSome (option_copied held)
+        (λ marks. length marks ≡ cell_count placement.now.rect.size) }
+    ensures { IfOk result (AreCellNodes canvas.now.map placement.now
+        (held_marks (option_copied held.entry)) (cell_count placement.now.rect.size)) }
 {
     let size = placement.rect.size;
     let mut cells = Numbering::begin(alloc, SINK + 1, size.cells())?;

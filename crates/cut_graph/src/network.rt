@@ -1,12 +1,12 @@
 // The network of a placement.
 ghost use Rattle.std.specs.Prelude.{◌≡◌, IfOk, IfSome, length, option_copied, []};
 ghost use Rattle.cells.specs.Distances.{distance};
-ghost use Rattle.source_map.specs.Canvases.{Stands};
+ghost use Rattle.source_map.specs.Canvases.{StandsOver};
 ghost use Rattle.source_map.specs.Choices.{Fits};
-ghost use Rattle.seam_cost.specs.Lawful.{AreMarks, marks_of};
-ghost use Rattle.seam_cost.specs.Pairs.{pair_count};
+ghost use Rattle.seams.specs.Lawful.{AreMarks, held_marks};
+ghost use Rattle.box_walk.specs.Pairs.{pair_count};
 ghost use Rattle.cells.specs.Places.{cell_count};
-ghost use Rattle.cut_graph.specs.Building.{AreSeamNodes, IsLaid};
+ghost use Rattle.cut_graph.specs.Building.{AreSeamNodes, HasAllPipes};
 ghost use Rattle.cut_graph.specs.Cuts.{ChoicesAreCuts, IsNetworkOf};
 ghost use Rattle.cut_graph.specs.Numberings.{IsNumbering};
 
@@ -34,11 +34,13 @@ fn lay(
     requires fits { Fits canvas.now.map.size sample.now placement.now }
     requires cells { IsNumbering 2 cells.now.next cells.now.nodes.items }
     requires cells_count { length cells.now.nodes.items ≡ cell_count placement.now.rect.size }
-    requires seams { AreSeamNodes cells.now.nodes.items placement.now.rect.size cells.now.next (pair_count placement.now.rect.size) seams.now }
-    ensures { IfOk result (IsLaid (distance sample.now) canvas.now.map placement.now cells.now.nodes.items seams.now.nodes.items seams.now.next) }
+    requires seams { AreSeamNodes cells.now.nodes.items placement.now.rect.size cells.now.next
+        (pair_count placement.now.rect.size) seams.now }
+    ensures { IfOk result (HasAllPipes (distance sample.now) canvas.now.map placement.now
+        cells.now.nodes.items seams.now.nodes.items seams.now.next) }
 {
-    // The size is asked for only to show the check that the sample is a volume.
-    let _size = sample.size();
+    // It is asked for only to show the check that the sample is a volume.
+    let _samples = sample.samples();
     let plan = Plan {
         map: canvas.map(),
         sample,
@@ -51,7 +53,7 @@ fn lay(
 
 /// The network of a placement, whose cuts are the choices between old and new, with cells of its box that
 /// are held too. `held` has a mark for each cell of the box, in raster order, or is missing where none is
-/// held. The method is that of Kwatra et al. (2003). The one error is want of memory.
+/// held. The method is that of Kwatra et al. (2003). The one error is that there is no memory.
 pub fn build_held(
     alloc: Global,
     canvas: &Canvas,
@@ -59,16 +61,20 @@ pub fn build_held(
     placement: &Placement,
     held: Option<&[bool]>,
 ) -> Result<(Network, Places), AllocError>
-    requires over { Stands canvas.now sample.now }
+    requires over { StandsOver canvas.now sample.now }
     requires fits { Fits canvas.now.map.size sample.now placement.now }
     requires held { IfSome (option_copied held) (AreMarks canvas.now.map placement.now) }
-    ensures network { IfOk result (λ made. IsNetworkOf (distance sample.now) canvas.now.map placement.now (marks_of (option_copied held.entry)) made.0 made.1) }
-    ensures cuts { IfOk result (λ made. ChoicesAreCuts (distance sample.now) canvas.now.map placement.now (marks_of (option_copied held.entry)) made.0 made.1) }
+    ensures network { IfOk result (λ made.
+        IsNetworkOf (distance sample.now) canvas.now.map placement.now
+        (held_marks (option_copied held.entry)) made.0 made.1) }
+    ensures cuts { IfOk result (λ made. ChoicesAreCuts
+        (distance sample.now) canvas.now.map placement.now
+        (held_marks (option_copied held.entry)) made.0 made.1) }
 {
-    // The map is asked for only to show the check that the box is small, and the size that the sample
-    // is a volume.
+    // The map is asked for only to show the check that the box is small, and the samples that the
+    // sample is a volume.
     let _map = canvas.map();
-    let _size = sample.size();
+    let _samples = sample.samples();
     let cells = number_cells(alloc, canvas, placement, held)?;
     let seams = number_seams(alloc, &cells.nodes, placement.rect.size, cells.next)?;
     let piping = lay(alloc, canvas, sample, placement, &cells, &seams)?;
@@ -87,10 +93,12 @@ pub fn build(
     sample: &Volume,
     placement: &Placement,
 ) -> Result<(Network, Places), AllocError>
-    requires over { Stands canvas.now sample.now }
+    requires over { StandsOver canvas.now sample.now }
     requires fits { Fits canvas.now.map.size sample.now placement.now }
-    ensures network { IfOk result (λ made. IsNetworkOf (distance sample.now) canvas.now.map placement.now [] made.0 made.1) }
-    ensures cuts { IfOk result (λ made. ChoicesAreCuts (distance sample.now) canvas.now.map placement.now [] made.0 made.1) }
+    ensures network { IfOk result (λ made.
+        IsNetworkOf (distance sample.now) canvas.now.map placement.now [] made.0 made.1) }
+    ensures cuts { IfOk result (λ made. ChoicesAreCuts
+        (distance sample.now) canvas.now.map placement.now [] made.0 made.1) }
 {
     build_held(alloc, canvas, sample, placement, None)
 }

@@ -32,7 +32,7 @@ impl Numbering {
 
     // Gives a node of its own.
     pub(crate) fn give_own(&mut self) -> Result<(), AllocError>
-        requires { self.old.next < 4294967295 }
+        requires { self.old.next < u32.MAX }
         ensures { OnOk result (Adds self.old.next (self.old.next + 1) self.old self.new) }
     {
         self.nodes.push(self.next)?;

@@ -1,22 +1,22 @@
 // The pipes of the pairs of a placement's box, one pair after another.
 ghost use Rattle.std.specs.Prelude.{◌≡◌, ◌≤◌, ◌<◌, ◌+◌, ◌*◌, ◌∷◌, List, [], length, IfOk, OnOk, Some};
 ghost use Rattle.cells.specs.Distances.{distance};
-ghost use Rattle.cells.specs.Places.{cell_count};
+ghost use Rattle.cells.specs.Places.{cell_count, raster_index};
 ghost use Rattle.max_flow.specs.Networks.{empty_network};
 ghost use Rattle.max_flow.specs.declared.network.Pipe.{Pipe};
 ghost use Rattle.source_map.specs.Maps.{IsSource};
-ghost use Rattle.seam_cost.specs.Pairs.{AreCounts, cell_in, pair_count, pairs_before};
-ghost use Rattle.cut_graph.specs.Nodes.{IsPair};
-ghost use Rattle.cut_graph.specs.Numberings.{index_of};
+ghost use Rattle.box_walk.specs.Pairs.{AreCounts, cell_in, pair_count, pairs_before, IsPair};
+ghost use Rattle.box_walk.specs.Walks.{most_pairs};
+ghost use Rattle.seams.specs.Costs.{most_of_pair};
 ghost use Rattle.cut_graph.specs.Pipes.{first_or_none, pair_pipes};
 ghost use Rattle.cut_graph.specs.Plans.{HasNodes, HasSources, IsCellAt, IsPiped, IsPipedPast, IsPipedTo, IsPlan, before, with_pipes};
 
-use crate::counts::{Counts, stride};
 use crate::places::{NO_PIPE, SINK, SOURCE};
 use crate::plan::{PairCell, Plan};
+use box_walk::{Counts, stride};
 use cells::{At, Axis, Volume};
 use max_flow::{Network, Pipe};
-use seam_cost::seam_of;
+use seams::seam_of;
 use std::alloc::{AllocError, Global};
 
 // The network with the pipes so far, how many they are, and the first pipe of each pair so far.
@@ -32,8 +32,9 @@ fn join_sink(network: &mut Network, node: u32, cost: u32)
     requires room { 1 ≤ network.old.spare }
     requires node_in { node < network.old.nodes }
     requires ends { 2 ≤ network.old.nodes }
-    requires small { cost ≤ 3060 }
-    ensures { network.new ≡ with_pipes network.old (record { from = node; to = 1; ahead = cost; back = 0 } ∷ []) }
+    requires small { cost ≤ most_of_pair }
+    ensures { network.new ≡ with_pipes network.old
+        (record { from = node; to = 1; ahead = cost; back = 0 } ∷ []) }
 {
     network.add_pipe(Pipe {
         from: node,
@@ -64,7 +65,9 @@ fn join_filled(
     requires b { IsSource b }
     requires first_new { IsSource first.now.after }
     requires second_new { IsSource second.now.after }
-    ensures { network.new ≡ with_pipes network.old (pair_pipes (distance sample.now) axis (Some a) (Some b) first.now.after second.now.after first.now.node second.now.node seam) }
+    ensures { network.new ≡ with_pipes network.old
+        (pair_pipes (distance sample.now) axis (Some a)
+        (Some b) first.now.after second.now.after first.now.node second.now.node seam) }
 {
     let ahead = seam_of(sample, axis, Some(a), Some(second.after));
     network.add_pipe(Pipe {
@@ -100,8 +103,10 @@ fn join(
     requires ends { 2 ≤ network.old.nodes }
     requires first_sources { HasSources first.now }
     requires second_sources { HasSources second.now }
-    ensures network { network.new ≡ with_pipes network.old (pair_pipes (distance sample.now) axis first.now.before second.now.before first.now.after second.now.after first.now.node second.now.node seam) }
-    ensures count { result ≡ length (pair_pipes (distance sample.now) axis first.now.before second.now.before first.now.after second.now.after first.now.node second.now.node seam) }
+    ensures network { network.new ≡ with_pipes network.old
+        (pair_pipes (distance sample.now) axis first.now.before second.now.before first.now.after second.now.after first.now.node second.now.node seam) }
+    ensures count { result ≡ length (pair_pipes
+        (distance sample.now) axis first.now.before second.now.before first.now.after second.now.after first.now.node second.now.node seam) }
 {
     match (first.before, second.before) {
         (Some(a), Some(b)) => {
@@ -133,8 +138,9 @@ impl Piping {
     // No pipe, in a network of so many nodes with room for those of so many pairs.
     fn begin(alloc: Global, nodes: u32, pairs: usize) -> Result<Piping, AllocError>
         requires nodes { 2 ≤ nodes }
-        requires pairs { pairs ≤ 100663296 }
-        ensures { IfOk result (λ made. (made.network ≡ empty_network nodes 0 1 (3 * pairs)) × (made.count ≡ 0) × (made.first.items ≡ [])) }
+        requires pairs { pairs ≤ most_pairs }
+        ensures { IfOk result (λ made. (made.network ≡ empty_network nodes 0 1 (3 * pairs))
+            × (made.count ≡ 0) × (made.first.items ≡ [])) }
     {
         let network = Network::make(alloc, nodes, SOURCE, SINK, 3 * pairs)?;
         let first = Vec::with_capacity(alloc, pairs)?;
@@ -145,7 +151,7 @@ impl Piping {
         })
     }
 
-    // Adds the pipes of the pair of a cell, at an index, and the one behind it along an axis.
+    // Adds the pipes of the pair of a cell, at an index, and the next one along an axis.
     fn add_pair(
         &mut self,
         plan: &Plan,
@@ -157,11 +163,13 @@ impl Piping {
         requires plan { IsPlan plan.now }
         requires nodes { HasNodes plan.now self.old.network.nodes }
         requires pair { IsPair plan.now.placement.rect.size axis at.x at.y at.f }
-        requires index { index_of plan.now.placement.rect.size at.x at.y at.f ≡ i }
-        requires first { IsCellAt plan.now (cell_in plan.now.placement.rect at.x at.y at.f) i first.now }
+        requires index { raster_index plan.now.placement.rect.size at.x at.y at.f ≡ i }
+        requires first { IsCellAt plan.now
+            (cell_in plan.now.placement.rect at.x at.y at.f) i first.now }
         requires sources { HasSources first.now }
         requires so_far { IsPipedTo plan.now self.old.network.nodes axis at.x at.y at.f self.old }
-        ensures { OnOk result (IsPipedPast plan.now self.old.network.nodes axis at.x at.y at.f self.new) }
+        ensures { OnOk result
+            (IsPipedPast plan.now self.old.network.nodes axis at.x at.y at.f self.new) }
     {
         let place = at.cell(&plan.placement.rect).plus(axis.unit());
         let second = plan.cell(place, i + stride(plan.placement.rect.size, axis));
@@ -172,7 +180,7 @@ impl Piping {
         Ok(())
     }
 
-    // The same where the box has the cell behind.
+    // The same where the box has the next cell.
     fn add_along(
         &mut self,
         plan: &Plan,
@@ -184,11 +192,13 @@ impl Piping {
         requires plan { IsPlan plan.now }
         requires nodes { HasNodes plan.now self.old.network.nodes }
         requires counts { AreCounts plan.now.placement.rect.size at.x at.y at.f }
-        requires index { index_of plan.now.placement.rect.size at.x at.y at.f ≡ i }
-        requires first { IsCellAt plan.now (cell_in plan.now.placement.rect at.x at.y at.f) i first.now }
+        requires index { raster_index plan.now.placement.rect.size at.x at.y at.f ≡ i }
+        requires first { IsCellAt plan.now
+            (cell_in plan.now.placement.rect at.x at.y at.f) i first.now }
         requires sources { HasSources first.now }
         requires so_far { IsPipedTo plan.now self.old.network.nodes axis at.x at.y at.f self.old }
-        ensures { OnOk result (IsPipedPast plan.now self.old.network.nodes axis at.x at.y at.f self.new) }
+        ensures { OnOk result
+            (IsPipedPast plan.now self.old.network.nodes axis at.x at.y at.f self.new) }
     {
         if at.has_next(plan.placement.rect.size, axis) {
             self.add_pair(plan, axis, at, i, first)
@@ -197,14 +207,16 @@ impl Piping {
         }
     }
 
-    // Adds the pipes of a cell, at an index, and the ones behind it.
-    fn add_behind(&mut self, plan: &Plan, at: Counts, i: usize) -> Result<(), AllocError>
+    // Adds the pipes of a cell, at an index, and the next ones.
+    fn add_next(&mut self, plan: &Plan, at: Counts, i: usize) -> Result<(), AllocError>
         requires plan { IsPlan plan.now }
         requires nodes { HasNodes plan.now self.old.network.nodes }
         requires counts { AreCounts plan.now.placement.rect.size at.x at.y at.f }
-        requires index { index_of plan.now.placement.rect.size at.x at.y at.f ≡ i }
-        requires so_far { IsPiped plan.now self.old.network.nodes (before plan.now i) (pairs_before plan.now.placement.rect.size i) self.old }
-        ensures { OnOk result (IsPiped plan.now self.old.network.nodes (before plan.now (i + 1)) (pairs_before plan.now.placement.rect.size (i + 1)) self.new) }
+        requires index { raster_index plan.now.placement.rect.size at.x at.y at.f ≡ i }
+        requires so_far { IsPiped plan.now self.old.network.nodes (before plan.now i)
+            (pairs_before plan.now.placement.rect.size i) self.old }
+        ensures { OnOk result (IsPiped plan.now self.old.network.nodes (before plan.now (i + 1))
+            (pairs_before plan.now.placement.rect.size (i + 1)) self.new) }
     {
         let first = plan.cell(at.cell(&plan.placement.rect), i);
         self.add_along(plan, Axis::X, at, i, &first)?;
@@ -217,13 +229,15 @@ impl Piping {
 pub(crate) fn lay_pipes(alloc: Global, plan: &Plan, nodes: u32) -> Result<Piping, AllocError>
     requires plan { IsPlan plan.now }
     requires nodes { HasNodes plan.now nodes }
-    ensures { IfOk result (IsPiped plan.now nodes (before plan.now (cell_count plan.now.placement.rect.size)) (pair_count plan.now.placement.rect.size)) }
+    ensures { IfOk result (IsPiped plan.now nodes
+        (before plan.now (cell_count plan.now.placement.rect.size))
+        (pair_count plan.now.placement.rect.size)) }
 {
     let mut piping = Piping::begin(alloc, nodes, plan.seams.len())?;
     let size = plan.placement.rect.size;
     let mut at = Counts::first();
     for i in 0..plan.cells.len() {
-        piping.add_behind(plan, at, i)?;
+        piping.add_next(plan, at, i)?;
         at = at.next(size);
     }
     Ok(piping)

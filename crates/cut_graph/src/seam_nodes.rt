@@ -1,14 +1,14 @@
 // The seam nodes of the pairs of a placement's box.
 ghost use Rattle.std.specs.Prelude.{◌≡◌, ◌≤◌, ◌<◌, ◌+◌, ℕ, length, IfOk, OnOk};
-ghost use Rattle.cells.specs.Places.{IsSmall, cell_count};
-ghost use Rattle.seam_cost.specs.Pairs.{AreCounts, has_next, one_if, pair_count, pair_number, pairs_before};
+ghost use Rattle.cells.specs.Places.{IsSmall, cell_count, raster_index};
+ghost use Rattle.box_walk.specs.Pairs.{AreCounts, has_next, one_if, pair_count, pair_number, pairs_before};
 ghost use Rattle.cut_graph.specs.Building.{AreSeamNodes, Gives, IsSeamNode, both_filled};
-ghost use Rattle.cut_graph.specs.Numberings.{IsNumbering, index_of};
+ghost use Rattle.cut_graph.specs.Numberings.{IsNumbering};
 
-use crate::counts::{Counts, stride};
 use crate::numbering::Numbering;
 use crate::places::{NO_SEAM, SINK};
-use cells::{Axis, Size};
+use box_walk::{Counts, stride};
+use cells::{Axis, MOST_CELLS, Size};
 use std::alloc::{AllocError, Global};
 
 // Whether two cells are both filled, by their nodes.
@@ -22,8 +22,10 @@ fn are_filled(cells: &[u32], i: usize, j: usize) -> bool
 
 // Gives a pair its seam node, if it has a seam.
 fn give(seams: &mut Numbering, has_seam: bool) -> Result<(), AllocError>
-    requires room { seams.old.next < 4294967295 }
-    ensures seams { (first : ℕ) → 0 < first → IsNumbering first seams.old.next seams.old.nodes.items → OnOk result (Gives (IsSeamNode first has_seam) first seams.old seams.new) }
+    requires room { seams.old.next < u32.MAX }
+    ensures seams { (first : ℕ) → 0 < first →
+        IsNumbering first seams.old.next seams.old.nodes.items →
+        OnOk result (Gives (IsSeamNode first has_seam) first seams.old seams.new) }
     ensures next { OnOk result (seams.new.next ≤ seams.old.next + 1) }
 {
     if has_seam {
@@ -33,7 +35,7 @@ fn give(seams: &mut Numbering, has_seam: bool) -> Result<(), AllocError>
     }
 }
 
-// Gives the pair of the cell at an index and the one behind it along an axis its node, where the box has it.
+// Gives the pair of the cell at an index and the next one along an axis its node, where the box has it.
 fn give_along(
     seams: &mut Numbering,
     cells: &[u32],
@@ -44,10 +46,14 @@ fn give_along(
 ) -> Result<(), AllocError>
     requires small { IsSmall size }
     requires counts { AreCounts size at.x at.y at.f }
-    requires index { index_of size at.x at.y at.f ≡ i }
+    requires index { raster_index size at.x at.y at.f ≡ i }
     requires cells { length cells.now ≡ cell_count size }
-    requires room { seams.old.next < 4294967295 }
-    ensures seams { (first : ℕ) → 0 < first → AreSeamNodes cells.now size first (pair_number size axis at.x at.y at.f) seams.old → OnOk result (AreSeamNodes cells.now size first (pair_number size axis at.x at.y at.f + one_if (has_next size axis at.x at.y at.f)) seams.new) }
+    requires room { seams.old.next < u32.MAX }
+    ensures seams { (first : ℕ) → 0 < first →
+        AreSeamNodes cells.now size first (pair_number size axis at.x at.y at.f) seams.old →
+        OnOk result (AreSeamNodes cells.now size first
+        (pair_number size axis at.x at.y at.f + one_if
+        (has_next size axis at.x at.y at.f)) seams.new) }
     ensures next { OnOk result (seams.new.next ≤ seams.old.next + 1) }
 {
     if at.has_next(size, axis) {
@@ -57,8 +63,8 @@ fn give_along(
     }
 }
 
-// Gives the pairs of the cell at an index and the ones behind it their nodes.
-fn give_behind(
+// Gives the pairs of the cell at an index and the next ones their nodes.
+fn give_next(
     seams: &mut Numbering,
     cells: &[u32],
     size: Size,
@@ -67,10 +73,12 @@ fn give_behind(
 ) -> Result<(), AllocError>
     requires small { IsSmall size }
     requires counts { AreCounts size at.x at.y at.f }
-    requires index { index_of size at.x at.y at.f ≡ i }
+    requires index { raster_index size at.x at.y at.f ≡ i }
     requires cells { length cells.now ≡ cell_count size }
-    requires room { seams.old.next < 4294967293 }
-    ensures { (first : ℕ) → 0 < first → AreSeamNodes cells.now size first (pairs_before size i) seams.old → OnOk result (AreSeamNodes cells.now size first (pairs_before size (i + 1)) seams.new) }
+    requires room { seams.old.next + 2 < u32.MAX }
+    ensures { (first : ℕ) → 0 < first → AreSeamNodes cells.now size first
+        (pairs_before size i) seams.old →
+        OnOk result (AreSeamNodes cells.now size first (pairs_before size (i + 1)) seams.new) }
 {
     give_along(seams, cells, size, Axis::X, at, i)?;
     give_along(seams, cells, size, Axis::Y, at, i)?;
@@ -94,13 +102,13 @@ pub(crate) fn number_seams(
 ) -> Result<Numbering, AllocError>
     requires small { IsSmall size }
     requires cells { length cells.now ≡ cell_count size }
-    requires first { (0 < first) × (first ≤ 33554434) }
+    requires first { (0 < first) × (first ≤ MOST_CELLS + 2) }
     ensures { IfOk result (AreSeamNodes cells.now size first (pair_count size)) }
 {
     let mut seams = Numbering::begin(alloc, first, pairs(size))?;
     let mut at = Counts::first();
     for i in 0..cells.len() {
-        give_behind(&mut seams, cells, size, at, i)?;
+        give_next(&mut seams, cells, size, at, i)?;
         at = at.next(size);
     }
     Ok(seams)

@@ -14,18 +14,18 @@ use Rattle.source_map.specs.Choices.{new_source}
 use Rattle.box_sums.specs.Sums.{signed_sum_box}
 use Rattle.box_sums.proofs.Additions.{integers}
 use Rattle.box_sums.proofs.Boxes.{box_equal, box_single}
-use Rattle.seam_cost.specs.Lawful.{StaysOld}
-use Rattle.seam_cost.specs.Pairs.{AreCounts, cell_in, has_next, pair_number}
+use Rattle.seams.specs.Lawful.{StaysOld}
+use Rattle.box_walk.specs.Pairs.{AreCounts, cell_in, has_next, pair_number, IsPair}
 use Rattle.max_flow.specs.declared.network.Pipe.{Pipe}
 use Rattle.max_flow.specs.Networks.{FlowNetwork, no_pipe, pipe_at}
-use Rattle.max_flow.specs.Flows.{FitsPipe, IsFlow, flow_at, flow_value, net_leaving, part_if}
+use Rattle.max_flow.specs.Flows.{FitsPipe, IsFlow, pipe_flow, flow_value, net_leaving, part_if}
 use Rattle.cut_graph.specs.declared.places.Places.{Places}
-use Rattle.cut_graph.specs.Nodes.{HasSeam, IsFreeAt, IsPair, cell_node, seam_node}
+use Rattle.cut_graph.specs.Nodes.{HasSeam, IsFreeAt, cell_node, seam_node}
 use Rattle.cut_graph.specs.Pipes.{first_or_none, first_pipe, next_node, pipes_along, pipes_between}
 use Rattle.cut_graph.specs.Cuts.{IsNetworkOf}
 use Rattle.cut_graph.proofs.Joined.{StandsAt, leaving_of_pairs, pair_leaving, pair_stands}
 use Rattle.cut_check.specs.declared.record.Flow.{Flow}
-use Rattle.cut_check.specs.Flows.{IsBoundedAt, IsBoundedOn, leaving, no_flow, flow_at as recorded_at}
+use Rattle.cut_check.specs.Flows.{IsBoundedAt, IsBoundedOn, leaving, no_flow, pair_flow as recorded_at}
 use Rattle.cut_check.specs.Records.{IsPartWhere}
 use Rattle.cut_check.proofs.Leaving.{given, given_is_left, no_pair, part_if as part_where}
 use Rattle.graph_place.specs.Records.{flow_of, pipe_of}
@@ -164,7 +164,7 @@ module _ (d : At → At → ℕ) (m : SourceMap) (placement : Placement) (held :
   pipes_fit axis x y f pair k i e lt =
       let stands = subst (λ ps. StandsAt network.pipes ps (begin axis x y f)) (along_pair axis x y f pair)
       (subst (λ ps. StandsAt ps (pipes_along d m placement places axis x y f) (begin axis x y f)) (sym net.pipes) (pair_stands d m placement places axis x y f pair.counts)) in
-      subst (λ p. FitsPipe p (flow_at flows i)) (ap (pipe_at network.pipes) (sym e) ∙ stands.same k no_pipe lt) (flow.fits i (omega (arith, stands.fits, e, lt)))
+      subst (λ p. FitsPipe p (pipe_flow flows i)) (ap (pipe_at network.pipes) (sym e) ∙ stands.same k no_pipe lt) (flow.fits i (omega (arith, stands.fits, e, lt)))
 
   nothing_behind : (axis : Axis) (x y f : ℕ) → IsPair placement.rect.size axis x y f → behind axis x y f ≡ pos 0
   nothing_behind axis x y f pair = by (first x y f) (second axis x y f) refl refl

@@ -6,14 +6,14 @@ use Rattle.cells.specs.declared.place.At.{At}
 use Rattle.source_map.specs.declared.canvas.Placement.{Placement}
 use Rattle.source_map.specs.Maps.{SourceMap}
 use Rattle.box_sums.proofs.Bounds.{box_at_most, box_terms_equal}
-use Rattle.seam_cost.specs.Lawful.{ChangesAsWindow, IsLeastHeld, is_new, window_after}
-use Rattle.seam_cost.specs.Pairs.{AreCounts, cell_in, one_if}
+use Rattle.seams.specs.Lawful.{ChangesAsWindow, IsLeastHeld, is_new, window_after}
+use Rattle.box_walk.specs.Pairs.{AreCounts, cell_in, one_if}
 use Rattle.max_flow.specs.Networks.{FlowNetwork}
 use Rattle.max_flow.specs.Flows.{IsLeastCut, is_in}
 use Rattle.max_flow.specs.Solutions.{IsSolution}
 use Rattle.cut_graph.specs.declared.places.Places.{Places}
 use Rattle.cut_graph.specs.Nodes.{cell_node}
-use Rattle.cut_graph.specs.Cuts.{Agree, ChoicesAreCuts, HasCut, IsOpen}
+use Rattle.cut_graph.specs.Cuts.{Agree, ChoicesAreCuts, HasCut, IsLawfulHeld}
 use Rattle.graph_place.specs.Fewest.{AreSame, IsFewestHeld, old_count}
 use Rattle.graph_place.proofs.Nodes.{cell_of}
 
@@ -31,9 +31,9 @@ same_of_count false false e = refl
 
 module _ (d : At → At → ℕ) (m : SourceMap) (placement : Placement) (held : List Bool) (network : FlowNetwork) (places : Places)
     (choices : ChoicesAreCuts d m placement held network places) (flows : List ℤ) (sides : List Bool) (amount : ℕ) (is : IsSolution network flows sides amount)
-    (choice : List Bool) (agree : Agree placement places sides choice) (opened : IsOpen m placement held choice) (value : amount ≡ window_after d m placement choice)
+    (choice : List Bool) (agree : Agree placement places sides choice) (opened : IsLawfulHeld m placement held choice) (value : amount ≡ window_after d m placement choice)
     (changes : ChangesAsWindow d m placement) where
-  least_window : (other : List Bool) → IsOpen m placement held other → window_after d m placement choice ≤ window_after d m placement other
+  least_window : (other : List Bool) → IsLawfulHeld m placement held other → window_after d m placement choice ≤ window_after d m placement other
   least_window other its = let cut = choices.cuts other its in omega (arith, value, is.capacity, cut.capacity, is.least.least cut.sides cut.cut)
 
   is_least : IsLeastHeld d m placement held choice

@@ -9,7 +9,7 @@ use Rattle.cells.specs.declared.place.Size.{Size}
 use Rattle.cells.specs.declared.place.Box3.{Box3}
 use Rattle.cells.specs.declared.place.Axis.{Axis}
 use Rattle.cells.specs.declared.place.Axis.TheVariants.{X, Y, F}
-use Rattle.cells.specs.Places.{cell_count, index_in, minus, plus, spot}
+use Rattle.cells.specs.Places.{cell_count, index_in, minus, plus, spot, raster_index}
 use Rattle.cells.specs.Neighbours.{unit_step}
 use Rattle.cells.specs.Boxes.{HasCells, IsInBox}
 use Rattle.cells.proofs.Raster.{has_index, index_of_spot, index_parts, place_at}
@@ -18,12 +18,12 @@ use Rattle.source_map.specs.declared.canvas.Placement.{Placement}
 use Rattle.source_map.specs.Maps.{SourceMap, map_at}
 use Rattle.source_map.specs.Choices.{box_cell, box_index, chosen}
 use Rattle.source_map.proofs.ChoiceLaws.{box_index_of}
-use Rattle.seam_cost.specs.Lawful.{StaysOld, is_new}
-use Rattle.seam_cost.specs.Pairs.{AreCounts, cell_in}
+use Rattle.seams.specs.Lawful.{StaysOld, is_new}
+use Rattle.box_walk.specs.Pairs.{AreCounts, cell_in, IsPair}
+use Rattle.box_walk.proofs.Cells.{next_suc_f, next_suc_x, next_suc_y, cell_inside}
 use Rattle.cut_graph.specs.declared.places.Places.{Places}
-use Rattle.cut_graph.specs.Nodes.{AreNodes, HasSeam, IsFreeAt, IsPair, cell_node, seam_node}
+use Rattle.cut_graph.specs.Nodes.{AreNodes, HasSeam, IsFreeAt, cell_node, seam_node}
 use Rattle.cut_graph.specs.Pipes.{next_node}
-use Rattle.cut_check.proofs.BoxPairs.{cell_behind_f, cell_behind_x, cell_behind_y, cell_inside, index_of}
 
 pub counts_of : (size : Size) (i : ℕ) → HasCells size → i < cell_count size → AreCounts size (i % size.w) (i / size.w % size.h) (i / size.w / size.h)
 counts_of size i some lt = let step = step_of size i some lt in record { column = step.x; row = step.y; frame = step.f }
@@ -47,11 +47,11 @@ cell_of rect p inside =
       cell = minus_plus p rect.corner (spot at.x at.y at.f) (λ k. record { x = at.x_on.is k; y = at.y_on.is k; f = at.f_on.is k });
     }
 
-pub cell_index : (placement : Placement) (x y f : ℕ) → AreCounts placement.rect.size x y f → box_index placement (cell_in placement.rect x y f) ≡ Some (index_of placement.rect.size x y f)
+pub cell_index : (placement : Placement) (x y f : ℕ) → AreCounts placement.rect.size x y f → box_index placement (cell_in placement.rect x y f) ≡ Some (raster_index placement.rect.size x y f)
 cell_index placement x y f at = ap (index_in placement.rect.size) (plus_minus placement.rect.corner (spot x y f)) ∙ index_of_spot placement.rect.size x y f at.column at.row at.frame
 
 pub is_new_at : (placement : Placement) (choice : List Bool) (x y f : ℕ) → AreCounts placement.rect.size x y f
-    → is_new placement choice (cell_in placement.rect x y f) ≡ slice_index_or choice (index_of placement.rect.size x y f) false
+    → is_new placement choice (cell_in placement.rect x y f) ≡ slice_index_or choice (raster_index placement.rect.size x y f) false
 is_new_at placement choice x y f at = ap (chosen choice) (cell_index placement x y f at)
 
 pub is_new_of : (placement : Placement) (choice : List Bool) (i : ℕ) → HasCells placement.rect.size → i < cell_count placement.rect.size
@@ -73,7 +73,7 @@ next_of placement places X x y f pair = record {
   row = y;
   frame = f;
   counts = record { column = ltb-true (x + 1) placement.rect.size.w pair.next; row = pair.counts.row; frame = pair.counts.frame };
-  cell = cell_behind_x placement.rect x y f ∙ ap (λ n. cell_in placement.rect n y f) (sym (add-one x));
+  cell = next_suc_x placement.rect x y f ∙ ap (λ n. cell_in placement.rect n y f) (sym (add-one x));
   node = refl;
 }
 next_of placement places Y x y f pair = record {
@@ -81,7 +81,7 @@ next_of placement places Y x y f pair = record {
   row = y + 1;
   frame = f;
   counts = record { column = pair.counts.column; row = ltb-true (y + 1) placement.rect.size.h pair.next; frame = pair.counts.frame };
-  cell = cell_behind_y placement.rect x y f ∙ ap (λ n. cell_in placement.rect x n f) (sym (add-one y));
+  cell = next_suc_y placement.rect x y f ∙ ap (λ n. cell_in placement.rect x n f) (sym (add-one y));
   node = refl;
 }
 next_of placement places F x y f pair = record {
@@ -89,7 +89,7 @@ next_of placement places F x y f pair = record {
   row = y;
   frame = f + 1;
   counts = record { column = pair.counts.column; row = pair.counts.row; frame = ltb-true (f + 1) placement.rect.size.f pair.next };
-  cell = cell_behind_f placement.rect x y f ∙ ap (λ n. cell_in placement.rect x y n) (sym (add-one f));
+  cell = next_suc_f placement.rect x y f ∙ ap (λ n. cell_in placement.rect x y n) (sym (add-one f));
   node = refl;
 }
 

@@ -7,8 +7,8 @@ use Rattle.cells.specs.declared.place.At.{At}
 use Rattle.cells.specs.declared.place.Axis.{Axis}
 use Rattle.max_flow.specs.declared.network.Pipe.{Pipe}
 use Rattle.max_flow.specs.Networks.{pipe_at}
-use Rattle.max_flow.specs.Flows.{FitsPipe, flow_at, net_leaving, part_if}
-use Rattle.seam_cost.specs.Costs.{seam}
+use Rattle.max_flow.specs.Flows.{FitsPipe, pipe_flow, net_leaving, part_if}
+use Rattle.seams.specs.Costs.{seam}
 use Rattle.cut_graph.specs.Pipes.{first_or_none, pair_pipes, pipe}
 use Rattle.cut_check.specs.Flows.{IsBounded}
 use Rattle.graph_place.specs.Records.{flow_of, pipe_count}
@@ -23,32 +23,32 @@ module _ (side : ℕ → Bool) where
   leaving_none (pipe ∷ pipes) = refl
 
   leaving_first : (pipe : Pipe) (pipes : List Pipe) (flows : List ℤ)
-      → net_leaving side (pipe ∷ pipes) flows ≡ (part_if (side pipe.from) (flow_at flows 0) -ℤ part_if (side pipe.to) (flow_at flows 0)) +ℤ net_leaving side pipes (drop 1 flows)
+      → net_leaving side (pipe ∷ pipes) flows ≡ (part_if (side pipe.from) (pipe_flow flows 0) -ℤ part_if (side pipe.to) (pipe_flow flows 0)) +ℤ net_leaving side pipes (drop 1 flows)
   leaving_first pipe pipes [] = omega (arith, ints, part_none (side pipe.from), part_none (side pipe.to), leaving_none pipes)
   leaving_first pipe pipes (flow ∷ flows) = refl
 
   -- the first pipe of a list, whose flow is that of an index
   leaving_at : (pipe : Pipe) (pipes : List Pipe) (flows : List ℤ) (o i : ℕ) → o + 0 ≡ i
-      → net_leaving side (pipe ∷ pipes) (drop o flows) ≡ (part_if (side pipe.from) (flow_at flows i) -ℤ part_if (side pipe.to) (flow_at flows i)) +ℤ net_leaving side pipes (drop (o + 1) flows)
+      → net_leaving side (pipe ∷ pipes) (drop o flows) ≡ (part_if (side pipe.from) (pipe_flow flows i) -ℤ part_if (side pipe.to) (pipe_flow flows i)) +ℤ net_leaving side pipes (drop (o + 1) flows)
   leaving_at pipe pipes flows o i e =
       leaving_first pipe pipes (drop o flows)
       ∙ (λ k. (part_if (side pipe.from) (here k) -ℤ part_if (side pipe.to) (here k)) +ℤ net_leaving side pipes (drop-drop 1 o flows k))
     where
-      here : flow_at (drop o flows) 0 ≡ flow_at flows i
-      here = get_or-drop o flows 0 (pos 0) ∙ ap (flow_at flows) e
+      here : pipe_flow (drop o flows) 0 ≡ pipe_flow flows i
+      here = get_or-drop o flows 0 (pos 0) ∙ ap (pipe_flow flows) e
 
-  one_leaves : (p : Pipe) (flows : List ℤ) (o : ℕ) → net_leaving side (p ∷ []) (drop o flows) ≡ part_if (side p.from) (flow_at flows o) -ℤ part_if (side p.to) (flow_at flows o)
+  one_leaves : (p : Pipe) (flows : List ℤ) (o : ℕ) → net_leaving side (p ∷ []) (drop o flows) ≡ part_if (side p.from) (pipe_flow flows o) -ℤ part_if (side p.to) (pipe_flow flows o)
   one_leaves p flows o = omega (arith, ints, leaving_at p [] flows o o (omega arith))
 
   three_leave : (p q r : Pipe) (flows : List ℤ) (o : ℕ) → net_leaving side (p ∷ q ∷ r ∷ []) (drop o flows)
-      ≡ ((part_if (side p.from) (flow_at flows o) -ℤ part_if (side p.to) (flow_at flows o)) +ℤ (part_if (side q.from) (flow_at flows (o + 1)) -ℤ part_if (side q.to) (flow_at flows (o + 1))))
-      +ℤ (part_if (side r.from) (flow_at flows (o + 2)) -ℤ part_if (side r.to) (flow_at flows (o + 2)))
+      ≡ ((part_if (side p.from) (pipe_flow flows o) -ℤ part_if (side p.to) (pipe_flow flows o)) +ℤ (part_if (side q.from) (pipe_flow flows (o + 1)) -ℤ part_if (side q.to) (pipe_flow flows (o + 1))))
+      +ℤ (part_if (side r.from) (pipe_flow flows (o + 2)) -ℤ part_if (side r.to) (pipe_flow flows (o + 2)))
   three_leave p q r flows o =
       omega (arith, ints, leaving_at p (q ∷ r ∷ []) flows o o (omega arith), leaving_at q (r ∷ []) flows (o + 1) (o + 1) (omega arith), leaving_at r [] flows (o + 1 + 1) (o + 2) (omega arith))
 
 -- what a pair leaves behind at its seam node: nothing, where that balances
 abbrev pub left_at_seam : Option At → Option At → List ℤ → ℕ → ℤ
-left_at_seam (Some a) (Some b) flows o = (flow_at flows (o + 1) +ℤ flow_at flows (o + 2)) -ℤ flow_at flows o
+left_at_seam (Some a) (Some b) flows o = (pipe_flow flows (o + 1) +ℤ pipe_flow flows (o + 2)) -ℤ pipe_flow flows o
 left_at_seam (Some a) None flows o = pos 0
 left_at_seam None b flows o = pos 0
 
@@ -75,15 +75,15 @@ module _ (side : ℕ → Bool) (d : At → At → ℕ) (axis : Axis) (s t middle
           arith,
           ints,
           three_leave side (pipe s middle (seam d axis a new_b) (seam d axis a new_b)) (pipe middle t (seam d axis new_a b) (seam d axis new_a b)) (pipe middle 1 (seam d axis a b) 0) flows o,
-          none (flow_at flows o),
-          none (flow_at flows (o + 1)),
-          none (flow_at flows (o + 2)),
-          gone_out (flow_at flows (o + 2)),
+          none (pipe_flow flows o),
+          none (pipe_flow flows (o + 1)),
+          none (pipe_flow flows (o + 2)),
+          gone_out (pipe_flow flows (o + 2)),
         )
     pair_leaves (Some a) None new_a new_b o out =
-        omega (arith, ints, one_leaves side (pipe s 1 (seam d axis a new_b) 0) flows o, gone_out (flow_at flows o), part_none (side t))
+        omega (arith, ints, one_leaves side (pipe s 1 (seam d axis a new_b) 0) flows o, gone_out (pipe_flow flows o), part_none (side t))
     pair_leaves None (Some b) new_a new_b o out =
-        omega (arith, ints, one_leaves side (pipe t 1 (seam d axis new_a b) 0) flows o, gone_out (flow_at flows o), part_none (side s), turned (side t) (flow_at flows o))
+        omega (arith, ints, one_leaves side (pipe t 1 (seam d axis new_a b) 0) flows o, gone_out (pipe_flow flows o), part_none (side s), turned (side t) (pipe_flow flows o))
       where
         turned : (b : Bool) (z : ℤ) → part_if b (pos 0 -ℤ z) ≡ pos 0 -ℤ part_if b z
         turned true z = refl
@@ -98,19 +98,19 @@ module _ (side : ℕ → Bool) (d : At → At → ℕ) (axis : Axis) (s t middle
           arith,
           ints,
           three_leave side (pipe s middle (seam d axis a new_b) (seam d axis a new_b)) (pipe middle t (seam d axis new_a b) (seam d axis new_a b)) (pipe middle 1 (seam d axis a b) 0) flows o,
-          ap (λ b. part_if b (flow_at flows o)) out_s,
-          ap (λ b. part_if b (flow_at flows (o + 1))) out_t,
-          gone_out (flow_at flows (o + 2)),
-          put_together (side middle) (flow_at flows (o + 1)) (flow_at flows (o + 2)) (flow_at flows o),
+          ap (λ b. part_if b (pipe_flow flows o)) out_s,
+          ap (λ b. part_if b (pipe_flow flows (o + 1))) out_t,
+          gone_out (pipe_flow flows (o + 2)),
+          put_together (side middle) (pipe_flow flows (o + 1)) (pipe_flow flows (o + 2)) (pipe_flow flows o),
         )
       where
         put_together : (b : Bool) (x y z : ℤ) → part_if b ((x +ℤ y) -ℤ z) ≡ (part_if b x +ℤ part_if b y) -ℤ part_if b z
         put_together true x y z = refl
         put_together false x y z = refl
     seam_leaves out_s out_t (Some a) None new_a new_b o =
-        omega (arith, ints, one_leaves side (pipe s 1 (seam d axis a new_b) 0) flows o, ap (λ b. part_if b (flow_at flows o)) out_s, gone_out (flow_at flows o), part_none (side middle))
+        omega (arith, ints, one_leaves side (pipe s 1 (seam d axis a new_b) 0) flows o, ap (λ b. part_if b (pipe_flow flows o)) out_s, gone_out (pipe_flow flows o), part_none (side middle))
     seam_leaves out_s out_t None (Some b) new_a new_b o =
-        omega (arith, ints, one_leaves side (pipe t 1 (seam d axis new_a b) 0) flows o, ap (λ b. part_if b (flow_at flows o)) out_t, gone_out (flow_at flows o), part_none (side middle))
+        omega (arith, ints, one_leaves side (pipe t 1 (seam d axis new_a b) 0) flows o, ap (λ b. part_if b (pipe_flow flows o)) out_t, gone_out (pipe_flow flows o), part_none (side middle))
     seam_leaves out_s out_t None None new_a new_b o = omega (arith, ints, part_none (side middle))
 
 -- the flow of a pair, whose first pipe has an index where it has one
@@ -123,7 +123,7 @@ flow_of_first d axis None None new_a new_b s t middle flows o = refl
 
 -- flows of the pipes of a pair from an index on
 abbrev pub AreFlowsAt : List Pipe → List ℤ → ℕ → Type 0
-AreFlowsAt pipes flows o = (k i : ℕ) → o + k ≡ i → k < length pipes → FitsPipe (pipe_at pipes k) (flow_at flows i)
+AreFlowsAt pipes flows o = (k i : ℕ) → o + k ≡ i → k < length pipes → FitsPipe (pipe_at pipes k) (pipe_flow flows i)
 
 -- where they fit and the seam node balances, the flow of the record is within its bounds
 pub pair_bounded : (d : At → At → ℕ) (axis : Axis) (a b : Option At) (new_a new_b : At) (s t middle : ℕ) (flows : List ℤ) (o : ℕ)

@@ -1,11 +1,11 @@
 -- What a placement leaves, by its network, the solution and the record.
-use Rattle.std.specs.Prelude.{Bool, List}
+use Rattle.std.specs.Prelude.{◌≡◌, Bool, List}
 use Rattle.cells.specs.Cells.{Cells}
 use Rattle.cells.specs.Distances.{distance}
 use Rattle.source_map.specs.declared.canvas.Placement.{Placement}
-use Rattle.source_map.specs.Canvases.{CanvasState, Stands as StandsOver}
-use Rattle.source_map.specs.Choices.{Fits, IsAfter}
-use Rattle.seam_cost.proofs.Locality.{changes_as_window}
+use Rattle.source_map.specs.Canvases.{CanvasState, StandsOver}
+use Rattle.source_map.specs.Choices.{Fits, IsAfter, map_after}
+use Rattle.seams.proofs.Locality.{changes_as_window}
 use Rattle.max_flow.specs.declared.solver.Solved.{Solved}
 use Rattle.max_flow.specs.Networks.{FlowNetwork}
 use Rattle.max_flow.specs.Solutions.{IsSolution}
@@ -20,9 +20,9 @@ use Rattle.graph_place.proofs.Standing.{own_agree, own_open, own_value, record_s
 pub placed : (before after : CanvasState) (sample : Cells) (placement : Placement) (held : List Bool) (network : FlowNetwork) (places : Places) (solved : Solved) (cut : CutRecord)
     → Fits before.map.size sample placement → IsNetworkOf (distance sample) before.map placement held network places → ChoicesAreCuts (distance sample) before.map placement held network places
     → IsSolution network solved.flow solved.source_side solved.value → IsRecordOf before.map placement places solved cut
-    → IsAfter before.map placement cut.choice after.map → StandsOver after sample
+    → after.map ≡ map_after before.map placement cut.choice → IsAfter before.map placement cut.choice after.map → StandsOver after sample
     → IsPlaced before sample placement held after cut
-placed before after sample placement held network places solved cut fits net choices is rec step over = record {
+placed before after sample placement held network places solved cut fits net choices is rec made step over = record {
   same_placement = rec.same_placement;
   choice_count = rec.choice_count;
   flow_count = rec.flow_count;
@@ -32,6 +32,7 @@ placed before after sample placement held network places solved cut fits net cho
       (own_open (distance sample) before.map placement held network places choices solved is cut rec)
       (own_value (distance sample) before.map placement held network places choices solved is cut rec)
       (changes_as_window (distance sample) before.map placement fits.inside);
-  map = step;
+  map = made;
+  each = step;
   over = over;
 }

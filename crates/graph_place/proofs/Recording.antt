@@ -1,68 +1,32 @@
 -- The flows of a record, pair by pair, and where each stands in the list.
-use Rattle.std.proofs.Common.{◌≡◌, ℕ, suc, ◌+◌, ◌*◌, ◌/◌, ◌%◌, ◌<◌, ◌≤◌, refl, ap, sym, ◌∙◌, subst, arith, Bool, true, false, List, [], ◌∷◌, ◌++◌, length, get_or, length-append}
+use Rattle.std.proofs.Common.{◌≡◌, ℕ, ◌+◌, ◌*◌, ◌/◌, ◌%◌, ◌<◌, ◌≤◌, refl, ap, ◌∙◌, subst, arith, Bool, true, false, List, [], ◌∷◌, ◌++◌, length, get_or, length-append}
 use Rattle.std.proofs.Math.Numerals.{add-one}
 use mathlib.Core.Bool.{false≢true}
-use Rattle.std.proofs.lemmas.Int.{ints}
-use borrow.Author.Tests.{lt-ltb}
-use Rattle.std.specs.Prelude.{ℤ, pos, ◌+ℤ◌, if◌then◌else◌, slice_index, slice_index_or}
+use Rattle.std.specs.Prelude.{ℤ, if◌then◌else◌, slice_index, slice_index_or}
 use Rattle.cells.specs.declared.place.Size.{Size}
-use Rattle.cells.specs.declared.place.Box3.{Box3}
 use Rattle.cells.specs.declared.place.Axis.{Axis}
 use Rattle.cells.specs.declared.place.Axis.TheVariants.{X, Y, F}
-use Rattle.cells.specs.Places.{IsSmall, cell_count, plus}
-use Rattle.cells.specs.Neighbours.{unit_step}
-use Rattle.cells.specs.Boxes.{HasCells, IsInBox}
+use Rattle.cells.specs.Places.{IsSmall, cell_count, raster_index}
+use Rattle.cells.specs.Boxes.{HasCells}
 use Rattle.source_map.specs.declared.canvas.Placement.{Placement}
-use Rattle.source_map.specs.Maps.{SourceMap, map_at}
-use Rattle.source_map.specs.Choices.{box_cell}
+use Rattle.source_map.specs.Maps.{SourceMap}
 use Rattle.box_sums.proofs.Additions.{counts}
 use Rattle.box_sums.proofs.Axes.{sum_equal}
 use Rattle.box_sums.proofs.Boxes.{at_counts}
-use Rattle.box_sums.proofs.Bounds.{sum_bound}
-use Rattle.seam_cost.specs.Pairs.{AreCounts, at_index, cell_in, has_next, one_if, pair_number, pairs_before, pairs_from}
+use Rattle.box_walk.specs.Pairs.{at_index, has_next, one_if, pair_number, pairs_before, pairs_from, IsPair}
+use Rattle.box_walk.proofs.Indices.{index_below}
+use Rattle.box_walk.proofs.PairNumbers.{number_below as pair_number_below, pairs_few}
 use Rattle.max_flow.specs.declared.solver.Solved.{Solved}
 use Rattle.cut_graph.specs.declared.places.Places.{Places}
-use Rattle.cut_graph.specs.Nodes.{IsPair}
 use Rattle.cut_graph.proofs.Joined.{StandsAt, joined_at, sum_joined}
 use Rattle.cut_check.specs.declared.record.Flow.{Flow}
 use Rattle.cut_check.specs.Flows.{no_flow}
-use Rattle.cut_check.proofs.BoxPairs.{cell_behind_f, cell_behind_x, cell_behind_y, index_of, index_of_below, next_inside, pair_number_below}
-use Rattle.graph_place.specs.Records.{IsRecordOf, IsSolvedFor, flow_of, pipe_count, pipe_of}
+use Rattle.graph_place.specs.Records.{IsRecordOf, IsSolvedFor, flow_at_pair}
 use Rattle.graph_place.specs.Parts.{IsChoiceOf, flow_along, flows_before, flows_from}
-use Rattle.graph_place.proofs.Nodes.{cell_of, counts_of, node_below}
-
-same_counts : (rect : Box3) (x y f a b c : ℕ) → cell_in rect x y f ≡ cell_in rect a b c → (x ≡ a) × (y ≡ b) × (f ≡ c)
-same_counts rect x y f a b c e = (same rect.corner.x x a (λ k. (e k).x), same rect.corner.y y b (λ k. (e k).y), same rect.corner.f f c (λ k. (e k).f))
-  where
-    same : (z : ℤ) (n k : ℕ) → z +ℤ pos n ≡ z +ℤ pos k → n ≡ k
-    same z n k e = omega (arith, ints, e)
-
--- the box has the cell behind another where that is one of its places
-next_of_inside : (rect : Box3) (axis : Axis) (x y f : ℕ) → IsInBox rect (plus (cell_in rect x y f) (unit_step axis)) → has_next rect.size axis x y f ≡ true
-next_of_inside rect X x y f inside =
-    let at = cell_of rect (plus (cell_in rect x y f) (unit_step X)) inside in
-    let same = same_counts rect (suc x) y f at.x at.y at.f (sym (cell_behind_x rect x y f) ∙ at.cell) in
-    lt-ltb (x + 1) rect.size.w (omega (arith, same.0, at.counts.column))
-next_of_inside rect Y x y f inside =
-    let at = cell_of rect (plus (cell_in rect x y f) (unit_step Y)) inside in
-    let same = same_counts rect x (suc y) f at.x at.y at.f (sym (cell_behind_y rect x y f) ∙ at.cell) in
-    lt-ltb (y + 1) rect.size.h (omega (arith, same.1, at.counts.row))
-next_of_inside rect F x y f inside =
-    let at = cell_of rect (plus (cell_in rect x y f) (unit_step F)) inside in
-    let same = same_counts rect x y (suc f) at.x at.y at.f (sym (cell_behind_f rect x y f) ∙ at.cell) in
-    lt-ltb (f + 1) rect.size.f (omega (arith, same.2, at.counts.frame))
-
-pub next_where : (rect : Box3) (axis : Axis) (x y f : ℕ) → AreCounts rect.size x y f → (b : Bool) → (IsInBox rect (plus (cell_in rect x y f) (unit_step axis)) → b ≡ true)
-    → (b ≡ true → IsInBox rect (plus (cell_in rect x y f) (unit_step axis))) → has_next rect.size axis x y f ≡ b
-next_where rect axis x y f at true to from = next_of_inside rect axis x y f (from refl)
-next_where rect axis x y f at false to from = by (has_next rect.size axis x y f) refl
-  where
-    by : (b : Bool) → has_next rect.size axis x y f ≡ b → has_next rect.size axis x y f ≡ false
-    by true e = absurd (false≢true (to (next_inside rect axis x y f at e)))
-    by false e = e
+use Rattle.graph_place.proofs.Nodes.{counts_of, node_below}
 
 -- the index of the counts of an index
-pub index_again : (size : Size) (i : ℕ) → index_of size (i % size.w) (i / size.w % size.h) (i / size.w / size.h) ≡ i
+pub index_again : (size : Size) (i : ℕ) → raster_index size (i % size.w) (i / size.w % size.h) (i / size.w / size.h) ≡ i
 index_again size i =
     let row : i / size.w % size.h + size.h * (i / size.w / size.h) ≡ i / size.w = parts (i / size.w) size.h in
     ap (λ n. i % size.w + size.w * n) row ∙ parts i size.w
@@ -70,33 +34,12 @@ index_again size i =
     parts : (n w : ℕ) → n % w + w * (n / w) ≡ n
     parts n w = omega arith
 
--- how many pairs come before those of the cell at an index
-pub number_x : (size : Size) (i : ℕ) → at_index size (pair_number size X) i ≡ pairs_before size i
-number_x size i = ap (pairs_before size) (index_again size i)
-
-pub number_y : (size : Size) (i : ℕ) → at_index size (pair_number size Y) i ≡ pairs_before size i + one_if (at_index size (has_next size X) i)
-number_y size i = ap (λ n. n + one_if (at_index size (has_next size X) i)) (number_x size i)
-
-pub number_f : (size : Size) (i : ℕ) → at_index size (pair_number size F) i ≡ pairs_before size i + one_if (at_index size (has_next size X) i) + one_if (at_index size (has_next size Y) i)
-number_f size i = ap (λ n. n + one_if (at_index size (has_next size Y) i)) (number_y size i)
-
--- each cell is the first of at most three pairs
-pub pairs_few : (size : Size) (i : ℕ) → pairs_before size i ≤ i * 3
-pairs_few size i = sum_bound i 3 (at_index size (pairs_from size)) (λ j lt. few (at_index size (has_next size X) j) (at_index size (has_next size Y) j) (at_index size (has_next size F) j))
-  where
-    one : (b : Bool) → one_if b ≤ 1
-    one true = omega arith
-    one false = omega arith
-
-    few : (a b c : Bool) → one_if a + one_if b + one_if c ≤ 3
-    few a b c = omega (arith, one a, one b, one c)
-
 module _ (m : SourceMap) (placement : Placement) (places : Places) (flows : List ℤ) where
   abbrev along : Axis → ℕ → ℕ → ℕ → List Flow
   along = flow_along m placement places flows
 
   abbrev own : Axis → ℕ → ℕ → ℕ → Flow
-  own axis x y f = flow_of (map_at m (cell_in placement.rect x y f)) (map_at m (plus (cell_in placement.rect x y f) (unit_step axis))) flows (pipe_of placement places axis x y f)
+  own = flow_at_pair m placement places flows
 
   pub along_pair : (axis : Axis) (x y f : ℕ) → has_next placement.rect.size axis x y f ≡ true → along axis x y f ≡ own axis x y f ∷ []
   along_pair axis x y f e = ap (λ b. if b then own axis x y f ∷ [] else []) e
@@ -146,17 +89,17 @@ module _ (m : SourceMap) (placement : Placement) (places : Places) (flows : List
   flow_stands axis x y f pair = by axis pair.next
     where
       stands : StandsAt (flows_before m placement places flows (cell_count placement.rect.size)) (flows_from m placement places flows x y f)
-          (length (flows_before m placement places flows (index_of placement.rect.size x y f)))
-      stands = subst (λ fs. StandsAt (flows_before m placement places flows (cell_count placement.rect.size)) fs (length (flows_before m placement places flows (index_of placement.rect.size x y f))))
+          (length (flows_before m placement places flows (raster_index placement.rect.size x y f)))
+      stands = subst (λ fs. StandsAt (flows_before m placement places flows (cell_count placement.rect.size)) fs (length (flows_before m placement places flows (raster_index placement.rect.size x y f))))
           (at_counts placement.rect.size (flows_from m placement places flows) x y f pair.counts.column pair.counts.row)
-          (joined_at (at_index placement.rect.size (flows_from m placement places flows)) (cell_count placement.rect.size) _ (index_of_below placement.rect.size x y f pair.counts))
+          (joined_at (at_index placement.rect.size (flows_from m placement places flows)) (cell_count placement.rect.size) _ (index_below placement.rect.size x y f pair.counts))
 
-      place : (k n : ℕ) → n ≡ pairs_before placement.rect.size (index_of placement.rect.size x y f) + k → k < length (flows_from m placement places flows x y f)
+      place : (k n : ℕ) → n ≡ pairs_before placement.rect.size (raster_index placement.rect.size x y f) + k → k < length (flows_from m placement places flows x y f)
           → slice_index_or (flows_before m placement places flows (cell_count placement.rect.size)) n no_flow ≡ slice_index_or (flows_from m placement places flows x y f) k no_flow
       place k n e lt = ap (λ j. slice_index_or (flows_before m placement places flows (cell_count placement.rect.size)) j no_flow) (at k n e) ∙ stands.same k no_flow lt
         where
-          at : (k n : ℕ) → n ≡ pairs_before placement.rect.size (index_of placement.rect.size x y f) + k → n ≡ length (flows_before m placement places flows (index_of placement.rect.size x y f)) + k
-          at k n e = omega (arith, e, length-before (index_of placement.rect.size x y f))
+          at : (k n : ℕ) → n ≡ pairs_before placement.rect.size (raster_index placement.rect.size x y f) + k → n ≡ length (flows_before m placement places flows (raster_index placement.rect.size x y f)) + k
+          at k n e = omega (arith, e, length-before (raster_index placement.rect.size x y f))
 
       by : (a : Axis) → has_next placement.rect.size a x y f ≡ true
           → slice_index_or (flows_before m placement places flows (cell_count placement.rect.size)) (pair_number placement.rect.size a x y f) no_flow ≡ own a x y f
@@ -167,30 +110,20 @@ module _ (m : SourceMap) (placement : Placement) (places : Places) (flows : List
       by F e = place (one_if (has_next placement.rect.size X x y f) + one_if (has_next placement.rect.size Y x y f)) _ (omega arith) (omega (arith, length-from x y f, ap one_if e))
           ∙ pick_f (has_next placement.rect.size X x y f) (has_next placement.rect.size Y x y f) (has_next placement.rect.size F x y f) (own X x y f) (own Y x y f) (own F x y f) e
 
--- the pair of the cell at an index and the one behind it
-module _ (m : SourceMap) (placement : Placement) (places : Places) (solved : Solved) (is : IsSolvedFor m placement places solved) (some : HasCells placement.rect.size)
-    (i : ℕ) (lt : i < cell_count placement.rect.size) (axis : Axis) where
-  pub next_at : (b : Bool) → (IsInBox placement.rect (plus (box_cell placement i) (unit_step axis)) → b ≡ true) → (b ≡ true → IsInBox placement.rect (plus (box_cell placement i) (unit_step axis)))
-      → at_index placement.rect.size (has_next placement.rect.size axis) i ≡ b
-  next_at = next_where placement.rect axis _ _ _ (counts_of placement.rect.size i some lt)
+-- a pair of the box
+module _ (m : SourceMap) (placement : Placement) (places : Places) (solved : Solved) (is : IsSolvedFor m placement places solved) (axis : Axis) (x y f : ℕ) (pair : IsPair placement.rect.size axis x y f) where
+  pub number_below : pair_number placement.rect.size axis x y f < length places.pipes
+  number_below = omega (arith, is.first.count, is.nodes.seam_nodes, pair_number_below placement.rect.size axis x y f pair)
 
-  module _ (next : at_index placement.rect.size (has_next placement.rect.size axis) i ≡ true) where
-    pub number_below : at_index placement.rect.size (pair_number placement.rect.size axis) i < length places.pipes
-    number_below = omega (arith, is.first.count, is.nodes.seam_nodes, pair_number_below placement.rect.size axis _ _ _ (counts_of placement.rect.size i some lt) next)
-
-    pub number_small : IsSmall placement.rect.size → at_index placement.rect.size (pair_number placement.rect.size axis) i ≤ 100663296
-    number_small small = omega (arith, pair_number_below placement.rect.size axis _ _ _ (counts_of placement.rect.size i some lt) next, pairs_few placement.rect.size (cell_count placement.rect.size), small.cells)
-
-    pub pipes_in : slice_index places.pipes (at_index placement.rect.size (pair_number placement.rect.size axis) i)
-        + pipe_count (map_at m (box_cell placement i)) (map_at m (plus (box_cell placement i) (unit_step axis))) ≤ length solved.flow
-    pipes_in = is.pipes axis _ _ _ (record { counts = counts_of placement.rect.size i some lt; next = next })
+  pub number_small : IsSmall placement.rect.size → pair_number placement.rect.size axis x y f ≤ 100663296
+  number_small small = omega (arith, pair_number_below placement.rect.size axis x y f pair, pairs_few placement.rect.size (cell_count placement.rect.size), small.cells)
 
 module _ (m : SourceMap) (placement : Placement) (places : Places) (solved : Solved) (is : IsSolvedFor m placement places solved) (some : HasCells placement.rect.size) where
   -- each cell's node has a side
   pub nodes_in : (i : ℕ) → i < length places.cell_nodes → slice_index places.cell_nodes i < length solved.source_side
   nodes_in i lt =
       subst (λ n. slice_index places.cell_nodes n < length solved.source_side) (index_again placement.rect.size i)
-      (node_below m placement is.held places (length solved.source_side) is.nodes _ _ _ (counts_of placement.rect.size i some (omega (arith, lt, is.nodes.cell_nodes))))
+      (omega (arith, node_below m placement is.held places is.count is.nodes _ _ _ (counts_of placement.rect.size i some (omega (arith, lt, is.nodes.cell_nodes))), is.sides))
 
   pub record_of : (choice : List Bool) (flows : List Flow) → IsChoiceOf places.cell_nodes solved.source_side choice
       → flows ≡ flows_before m placement places solved.flow (cell_count placement.rect.size)

@@ -2,7 +2,7 @@
 use Rattle.std.proofs.Common.{◌≡◌, ℕ, zero, suc, ◌+◌, ◌<◌, ◌≤◌, ap, sym, ◌∙◌, subst, arith, Bool, true, false, List, [], ◌∷◌, All, length}
 use Rattle.std.proofs.lemmas.Int.{ints}
 use Rattle.std.proofs.lemmas.List.Elements.{All-append, All-cons, All-nil}
-use Rattle.std.specs.Prelude.{pos, negsuc, ◌≤ℤ◌, Option, Some, None, if◌then◌else◌}
+use Rattle.std.specs.Prelude.{Option, Some, None, if◌then◌else◌}
 use Rattle.cells.specs.declared.place.At.{At}
 use Rattle.cells.specs.declared.place.Axis.{Axis}
 use Rattle.cells.specs.declared.place.Axis.TheVariants.{X, Y, F}
@@ -13,19 +13,19 @@ use Rattle.cells.specs.Places.{cell_count, minus, plus}
 use Rattle.cells.proofs.DistanceLaws.{distance_bound}
 use Rattle.source_map.specs.declared.canvas.Placement.{Placement}
 use Rattle.source_map.specs.Maps.{SourceMap, map_at}
-use Rattle.seam_cost.specs.Costs.{seam}
-use Rattle.seam_cost.specs.Pairs.{cell_in, has_next}
+use Rattle.seams.specs.Costs.{seam}
+use Rattle.box_walk.specs.Pairs.{cell_in, has_next, IsPair}
 use Rattle.max_flow.specs.declared.network.Pipe.{Pipe}
 use Rattle.max_flow.specs.declared.solver.Solved.{Solved}
 use Rattle.max_flow.specs.Networks.{FlowNetwork, no_pipe}
-use Rattle.max_flow.specs.Flows.{flow_at}
+use Rattle.max_flow.specs.Flows.{pipe_flow}
 use Rattle.max_flow.specs.Solutions.{IsSolution}
 use Rattle.cut_graph.specs.declared.places.Places.{Places}
-use Rattle.cut_graph.specs.Nodes.{AreNodes, IsPair, cell_node, seam_node}
+use Rattle.cut_graph.specs.Nodes.{cell_node, seam_node}
 use Rattle.cut_graph.specs.Pipes.{first_or_none, first_pipe, joined, next_node, pair_pipes, pipe, pipes_along, pipes_between, pipes_of}
 use Rattle.cut_graph.specs.Cuts.{IsNetworkOf}
 use Rattle.cut_graph.proofs.Joined.{pair_stands}
-use Rattle.graph_place.specs.Records.{IsSolvedFor, pipe_count, pipe_of}
+use Rattle.graph_place.specs.Records.{IsSmallFlow, IsSolvedFor, pipe_count, pipe_of}
 use Rattle.graph_place.proofs.Pipes.{pipe_count_fits}
 
 -- a pipe of at most this much each way
@@ -75,10 +75,11 @@ module _ (v : Cells) (volume : IsVolume v) where
     solved_for held network solved net is = record {
       d = distance v;
       held = held;
-      nodes = subst (AreNodes m placement held places) (sym is.cut.sized) net.nodes;
+      count = network.nodes;
+      nodes = net.nodes;
       first = net.first;
-      pipes = fits;
-      small = λ j lt. narrow j (omega (arith, lt, is.flow.sized));
+      sides = omega (arith, is.cut.sized);
+      flows = λ axis x y f pair. record { inside = fits axis x y f pair; small = λ j from to. narrow j (omega (arith, to, fits axis x y f pair, is.flow.sized)) };
     }
       where
         fits : (axis : Axis) (x y f : ℕ) → IsPair placement.rect.size axis x y f
@@ -94,7 +95,7 @@ module _ (v : Cells) (volume : IsVolume v) where
             same = ap (λ b. if b then pipes_between (distance v) m placement axis (cell_in placement.rect x y f) (plus (cell_in placement.rect x y f) (unit_step axis))
                 (cell_node places placement.rect.size x y f) (next_node places placement.rect.size axis x y f) (seam_node places placement.rect.size axis x y f) else []) pair.next
 
-        narrow : (j : ℕ) → j < length network.pipes → (negsuc 32766 ≤ℤ flow_at solved.flow j) × (flow_at solved.flow j ≤ℤ pos 32767)
+        narrow : (j : ℕ) → j < length network.pipes → IsSmallFlow (pipe_flow solved.flow j)
         narrow j lt =
             let fit = is.flow.fits j lt in
             let is_narrow = subst (All IsNarrow) (sym net.pipes) all_narrow j no_pipe lt in

@@ -11,15 +11,15 @@ use Rattle.source_map.specs.declared.canvas.Placement.{Placement}
 use Rattle.source_map.specs.Maps.{SourceMap}
 use Rattle.source_map.specs.Choices.{Fits, box_cell}
 use Rattle.source_map.proofs.ChoiceLaws.{box_index_of}
-use Rattle.seam_cost.specs.Lawful.{is_new, window_after}
+use Rattle.seams.specs.Lawful.{is_new, window_after}
+use Rattle.box_walk.proofs.Indices.{index_below}
 use Rattle.max_flow.specs.declared.solver.Solved.{Solved}
 use Rattle.max_flow.specs.Networks.{FlowNetwork}
 use Rattle.max_flow.specs.Solutions.{IsSolution}
 use Rattle.cut_graph.specs.declared.places.Places.{Places}
-use Rattle.cut_graph.specs.Cuts.{Agree, ChoicesAreCuts, IsNetworkOf, IsOpen}
+use Rattle.cut_graph.specs.Cuts.{Agree, ChoicesAreCuts, IsNetworkOf, IsLawfulHeld}
 use Rattle.cut_check.specs.declared.record.CutRecord.{CutRecord}
-use Rattle.cut_check.specs.Records.{Stands}
-use Rattle.cut_check.proofs.BoxPairs.{index_of_below}
+use Rattle.cut_check.specs.Records.{CutStands}
 use Rattle.graph_place.specs.Records.{IsRecordOf}
 use Rattle.graph_place.proofs.Nodes.{counts_of, is_new_at, is_new_of}
 use Rattle.graph_place.proofs.Balance.{all_bounded, free_balances, source_leaves, source_part, source_parts}
@@ -28,9 +28,9 @@ module _ (d : At → At → ℕ) (m : SourceMap) (placement : Placement) (held :
     (choices : ChoicesAreCuts d m placement held network places) (solved : Solved) (is : IsSolution network solved.flow solved.source_side solved.value)
     (cut : CutRecord) (rec : IsRecordOf m placement places solved cut) where
   pub own_agree : Agree placement places solved.source_side cut.choice
-  own_agree x y f at = is_new_at placement cut.choice x y f at ∙ rec.choice _ (index_of_below placement.rect.size x y f at)
+  own_agree x y f at = is_new_at placement cut.choice x y f at ∙ rec.choice _ (index_below placement.rect.size x y f at)
 
-  pub own_open : IsOpen m placement held cut.choice
+  pub own_open : IsLawfulHeld m placement held cut.choice
   own_open = (choices.choices solved.source_side cut.choice is.cut own_agree).0
 
   -- the value of the flow is the window sum after the choice
@@ -43,7 +43,7 @@ module _ (m : SourceMap) (sample : Cells) (placement : Placement) (held : List B
     (net : IsNetworkOf (distance sample) m placement held network places) (choices : ChoicesAreCuts (distance sample) m placement held network places)
     (solved : Solved) (is : IsSolution network solved.flow solved.source_side solved.value)
     (cut : CutRecord) (rec : IsRecordOf m placement places solved cut) (fits : Fits m.size sample placement) where
-  abbrev opened : IsOpen m placement held cut.choice
+  abbrev opened : IsLawfulHeld m placement held cut.choice
   opened = own_open (distance sample) m placement held network places choices solved is cut rec
 
   in_box : (i : ℕ) → i < cell_count placement.rect.size → IsInBox placement.rect (box_cell placement i)
@@ -52,7 +52,7 @@ module _ (m : SourceMap) (sample : Cells) (placement : Placement) (held : List B
   chosen_at : (i : ℕ) → i < cell_count placement.rect.size → is_new placement cut.choice (box_cell placement i) ≡ slice_index_or cut.choice i false
   chosen_at i lt = is_new_of placement cut.choice i fits.some lt
 
-  stands_at : Stands (record { map = m; sample = sample; held = held }) (record { placement = placement; choice = cut.choice; flows = cut.flows })
+  stands_at : CutStands (record { map = m; sample = sample; held = held }) (record { placement = placement; choice = cut.choice; flows = cut.flows })
   stands_at = record {
     lawful = record {
       fits = fits;
@@ -70,5 +70,5 @@ module _ (m : SourceMap) (sample : Cells) (placement : Placement) (held : List B
     };
   }
 
-  pub record_stands : Stands (record { map = m; sample = sample; held = held }) cut
-  record_stands = subst (λ p. Stands (record { map = m; sample = sample; held = held }) (record { placement = p; choice = cut.choice; flows = cut.flows })) (sym rec.same_placement) stands_at
+  pub record_stands : CutStands (record { map = m; sample = sample; held = held }) cut
+  record_stands = subst (λ p. CutStands (record { map = m; sample = sample; held = held }) (record { placement = p; choice = cut.choice; flows = cut.flows })) (sym rec.same_placement) stands_at

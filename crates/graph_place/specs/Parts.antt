@@ -1,41 +1,44 @@
--- The parts of a record, as far as it has come: the choice of a list of nodes, and the flows of the first cells' pairs. (Own.)
+-- How far a record has come, for the contracts within the crate: the choice of a list of nodes, and
+-- the
+-- flows of the first cells' pairs. Nobody has to trust this file.
 use Rattle.std.specs.Prelude.{◌≡◌, ◌<◌, ℕ, ℤ, Bool, false, not, List, [], ◌∷◌, ◌++◌, length, slice_index, slice_index_or, if◌then◌else◌}
 use Rattle.cells.specs.declared.place.Axis.{Axis}
 use Rattle.cells.specs.declared.place.Axis.TheVariants.{X, Y, F}
-use Rattle.cells.specs.Places.{cell_count, plus}
-use Rattle.cells.specs.Neighbours.{unit_step}
+use Rattle.cells.specs.Places.{cell_count}
 use Rattle.source_map.specs.declared.canvas.Placement.{Placement}
-use Rattle.source_map.specs.Maps.{SourceMap, map_at}
-use Rattle.seam_cost.specs.Pairs.{at_index, cell_in, has_next, pair_count}
+use Rattle.source_map.specs.Maps.{SourceMap}
+use Rattle.box_walk.specs.Pairs.{at_index, has_next, pair_count}
 use Rattle.max_flow.specs.Flows.{is_in}
 use Rattle.cut_graph.specs.declared.places.Places.{Places}
 use Rattle.cut_graph.specs.Pipes.{joined}
 use Rattle.cut_check.specs.declared.record.CutRecord.{CutRecord}
 use Rattle.cut_check.specs.declared.record.Flow.{Flow}
-use Rattle.graph_place.specs.Records.{flow_of, pipe_of}
+use Rattle.graph_place.specs.Records.{flow_at_pair}
 
 -- each entry says whether its node isn't on the source's side
 pub record IsChoiceOf (nodes : List ℕ) (sides choice : List Bool) : Type 0 where
   pub count : length choice ≡ length nodes
-  pub says : (i : ℕ) → i < length nodes → slice_index_or choice i false ≡ not (is_in sides (slice_index nodes i))
+  pub says : (i : ℕ) → i < length nodes
+      → slice_index_or choice i false ≡ not (is_in sides (slice_index nodes i))
 
--- the flow of a cell and the one behind it along an axis, where the box has it
+-- the flow of a cell and the next one along an axis, where the box has it
 abbrev pub flow_along : SourceMap → Placement → Places → List ℤ → Axis → ℕ → ℕ → ℕ → List Flow
 flow_along m placement places flows axis x y f =
     if has_next placement.rect.size axis x y f
-    then flow_of (map_at m (cell_in placement.rect x y f)) (map_at m (plus (cell_in placement.rect x y f) (unit_step axis))) flows (pipe_of placement places axis x y f) ∷ []
-    else []
+    then flow_at_pair m placement places flows axis x y f ∷ [] else []
 
--- those of a cell and the ones behind it along X, Y and F
+-- those of a cell and the next ones along X, Y and F
 abbrev pub flows_from : SourceMap → Placement → Places → List ℤ → ℕ → ℕ → ℕ → List Flow
 flows_from m placement places flows x y f =
-    flow_along m placement places flows X x y f ++ (flow_along m placement places flows Y x y f ++ flow_along m placement places flows F x y f)
+    flow_along m placement places flows X x y f
+    ++ (flow_along m placement places flows Y x y f ++ flow_along m placement places flows F x y f)
 
 -- those of the cells before an index
 abbrev pub flows_before : SourceMap → Placement → Places → List ℤ → ℕ → List Flow
-flows_before m placement places flows = joined (at_index placement.rect.size (flows_from m placement places flows))
+flows_before m placement places flows =
+    joined (at_index placement.rect.size (flows_from m placement places flows))
 
 -- a record has an entry for each cell of its box, and a flow for each pair
-pub record IsSized (cut : CutRecord) : Type 0 where
+pub record IsSizedRecord (cut : CutRecord) : Type 0 where
   pub choice : length cut.choice ≡ cell_count cut.placement.rect.size
   pub flows : length cut.flows ≡ pair_count cut.placement.rect.size

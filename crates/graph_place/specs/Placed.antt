@@ -1,23 +1,36 @@
--- What a placement by a graph cut leaves. (Kwatra et al. 2003.)
-use Rattle.std.specs.Prelude.{◌≡◌, List, Bool, length}
+-- To be trusted: what a placement by a graph cut leaves. (Kwatra et al. 2003.)
+use Rattle.std.specs.Prelude.{◌≡◌, ◌≤◌, ℕ, List, Bool, length}
 use Rattle.cells.specs.Cells.{Cells}
 use Rattle.cells.specs.Distances.{distance}
 use Rattle.cells.specs.Places.{cell_count}
 use Rattle.source_map.specs.declared.canvas.Placement.{Placement}
-use Rattle.source_map.specs.Canvases.{CanvasState, Stands as StandsOver}
-use Rattle.source_map.specs.Choices.{IsAfter}
-use Rattle.seam_cost.specs.Pairs.{pair_count}
+use Rattle.source_map.specs.Canvases.{CanvasState, StandsOver}
+use Rattle.source_map.specs.Choices.{IsAfter, map_after}
+use Rattle.source_map.specs.Maps.{IsFull, SourceMap, map_at}
+use Rattle.seams.specs.Costs.{total_of}
+use Rattle.box_walk.specs.Pairs.{pair_count}
 use Rattle.cut_check.specs.declared.record.CutRecord.{CutRecord}
-use Rattle.cut_check.specs.Records.{Stands}
+use Rattle.cut_check.specs.Records.{CutStands}
 use Rattle.graph_place.specs.Fewest.{IsFewestHeld}
 
--- the record is one of the placement and stands over the canvas before; its choice is the least one with the fewest old cells; the
--- canvas after has the map after that choice, over the same sample
-pub record IsPlaced (before : CanvasState) (sample : Cells) (placement : Placement) (held : List Bool) (after : CanvasState) (cut : CutRecord) : Type 0 where
+-- the record is one of the placement and stands over the canvas before; its choice is the least one
+-- with
+-- the fewest old cells; the canvas after has the map after that choice, over the same sample
+pub record IsPlaced (before : CanvasState) (sample : Cells) (placement : Placement)
+    (held : List Bool) (after : CanvasState) (cut : CutRecord) : Type 0 where
   pub same_placement : cut.placement ≡ placement
   pub choice_count : length cut.choice ≡ cell_count placement.rect.size
   pub flow_count : length cut.flows ≡ pair_count placement.rect.size
-  pub stands : Stands (record { map = before.map; sample = sample; held = held }) cut
+  pub stands : CutStands (record { map = before.map; sample = sample; held = held }) cut
   pub fewest : IsFewestHeld (distance sample) before.map placement held cut.choice
-  pub map : IsAfter before.map placement cut.choice after.map
+  pub map : after.map ≡ map_after before.map placement cut.choice
+  pub each : IsAfter before.map placement cut.choice after.map
   pub over : StandsOver after sample
+
+-- the total seam cost of a map
+abbrev pub map_total : Cells → SourceMap → ℕ
+map_total sample m = total_of (distance sample) m.size (map_at m)
+
+-- a map that was full has no greater total than before
+abbrev pub KeepsTotal : Cells → SourceMap → SourceMap → Type 0
+KeepsTotal sample before after = IsFull before → map_total sample after ≤ map_total sample before

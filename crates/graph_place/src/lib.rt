@@ -9,10 +9,10 @@
 //! `cut_check` judges the record.
 #![tactic(auto)]
 
+mod laws;
 mod placing;
 mod record;
-#[cfg(test)]
-mod tests;
 
+pub use laws::there_is_one_fewest_choice;
 pub use placing::{place, place_held};
 pub use record::to_record;

@@ -1,9 +1,11 @@
 // Placements that are put in.
 ghost use Rattle.std.specs.Prelude.{◌≡◌, IfSome, OnErr, OnOk, IfOk, option_copied, []};
-ghost use Rattle.source_map.specs.Canvases.{Stands};
+ghost use Rattle.cells.specs.Distances.{distance};
+ghost use Rattle.source_map.specs.Canvases.{IsCanvas, StandsOver};
 ghost use Rattle.source_map.specs.Choices.{Fits};
-ghost use Rattle.seam_cost.specs.Lawful.{AreMarks, marks_of};
-ghost use Rattle.graph_place.specs.Placed.{IsPlaced};
+ghost use Rattle.seams.specs.Lawful.{AreMarks, IsLeastChoice, held_marks};
+ghost use Rattle.graph_place.specs.Fewest.{IsLeastWith};
+ghost use Rattle.graph_place.specs.Placed.{IsPlaced, KeepsTotal};
 
 use crate::record::to_record;
 use cells::Volume;
@@ -16,8 +18,8 @@ use std::alloc::{AllocError, Global};
 /// Puts a placement in, with cells of its box that are held old too: of the lawful choices without a held cell the
 /// one that leaves the least total seam cost, and of these the one with the fewest old cells. `held` has a
 /// mark for each cell of the box, in raster order, or is missing where none is held. Gives the record, which
-/// `check_held` accepts over the canvas as it was. The one error is want of memory, which leaves the canvas
-/// as it was. The method is that of Kwatra et al. (2003).
+/// `check_held` accepts over the canvas as it was. The one error is that there is no memory, and leaves the
+/// canvas as it was. The method is that of Kwatra et al. (2003).
 pub fn place_held(
     alloc: Global,
     canvas: &mut Canvas,
@@ -25,14 +27,20 @@ pub fn place_held(
     placement: Placement,
     held: Option<&[bool]>,
 ) -> Result<CutRecord, AllocError>
-    requires over { Stands canvas.old sample.now }
+    requires over { StandsOver canvas.old sample.now }
     requires fits { Fits canvas.old.map.size sample.now placement }
     requires held { IfSome (option_copied held) (AreMarks canvas.old.map placement) }
-    ensures placed { IfOk result (IsPlaced canvas.old sample.now placement (marks_of (option_copied held.entry)) canvas.new) }
+    ensures placed { IfOk result (IsPlaced canvas.old sample.now placement
+        (held_marks (option_copied held.entry)) canvas.new) }
+    ensures least { IfOk result (λ cut. IsLeastWith (distance sample.now) canvas.old.map placement
+        (option_copied held.entry) cut.choice) }
+    ensures total { OnOk result (KeepsTotal sample.now canvas.old.map canvas.new.map) }
+    ensures canvas { IsCanvas canvas.new }
     ensures kept { OnErr result (canvas.new ≡ canvas.old) }
 {
-    // The size is asked only to show the check that the sample is a volume.
-    let _size = sample.size();
+    // They are asked for only to show the check that these are a map and a volume.
+    let _map = canvas.map();
+    let _samples = sample.samples();
     let (network, places) = build_held(alloc, canvas, sample, &placement, held)?;
     let solved = solve(alloc, &network)?;
     let record = to_record(alloc, canvas, placement, &places, &solved)?;
@@ -47,9 +55,13 @@ pub fn place(
     sample: &Volume,
     placement: Placement,
 ) -> Result<CutRecord, AllocError>
-    requires over { Stands canvas.old sample.now }
+    requires over { StandsOver canvas.old sample.now }
     requires fits { Fits canvas.old.map.size sample.now placement }
     ensures placed { IfOk result (IsPlaced canvas.old sample.now placement [] canvas.new) }
+    ensures least { IfOk result (λ cut. IsLeastChoice (distance sample.now) canvas.old.map placement
+        cut.choice) }
+    ensures total { OnOk result (KeepsTotal sample.now canvas.old.map canvas.new.map) }
+    ensures canvas { IsCanvas canvas.new }
     ensures kept { OnErr result (canvas.new ≡ canvas.old) }
 {
     place_held(alloc, canvas, sample, placement, None)

@@ -1,18 +1,20 @@
 // The record of a solved network.
-ghost use Rattle.std.specs.Prelude.{◌≡◌, ◌≤◌, ◌<◌, ◌+◌, ◌++◌, ◌≤ℤ◌, ℕ, pos, negsuc, IfOk, OnOk, length, slice_index, vec_len};
+ghost use Rattle.std.specs.Prelude.{◌≡◌, ◌<◌, ◌++◌, ℕ, IfOk, OnOk, length, slice_index, vec_len};
 ghost use Rattle.cells.specs.Boxes.{HasCells, HoldsBox};
-ghost use Rattle.cells.specs.Places.{cell_count};
-ghost use Rattle.seam_cost.specs.Pairs.{at_index, pair_number, pairs_before};
-ghost use Rattle.max_flow.specs.Flows.{flow_at};
+ghost use Rattle.cells.specs.Places.{IsSmall, cell_count, raster_index};
+ghost use Rattle.box_walk.specs.Pairs.{AreCounts, pair_number, pairs_before};
+ghost use Rattle.box_walk.specs.Raster.{largest};
+ghost use Rattle.max_flow.specs.Flows.{pipe_flow};
 ghost use Rattle.graph_place.specs.Parts.{IsChoiceOf, flow_along, flows_before, flows_from};
-ghost use Rattle.graph_place.specs.Records.{IsRecordOf, IsSolvedFor, flow_of, pipe_count};
+ghost use Rattle.graph_place.specs.Records.{HasFlows, IsRecordOf, IsSmallFlow, IsSolvedFor, flow_of, pipe_count, source_in};
 
+use box_walk::Counts;
 use cells::{At, Axis};
 use cut_check::{CutRecord, Flow};
 use cut_graph::Places;
 use items::Items;
 use max_flow::Solved;
-use source_map::{Canvas, Placement};
+use source_map::{Canvas, Map, Placement};
 use std::alloc::{AllocError, Global};
 
 // A cell is new where its node isn't on the source's side.
@@ -30,16 +32,15 @@ fn choice_of(alloc: Global, nodes: &[u32], sides: &[bool]) -> Result<Vec<bool>, 
 // The flow of one pipe.
 fn pipe_flow(flows: &[i32], j: usize) -> i16
     requires below { j < length flows.now }
-    requires small { (negsuc 32766 ≤ℤ flow_at flows.now j) × (flow_at flows.now j ≤ℤ pos 32767) }
-    ensures { result ≡ flow_at flows.now j }
+    requires small { IsSmallFlow (pipe_flow flows.now j) }
+    ensures { result ≡ pipe_flow flows.now j }
 {
     flows[j] as i16
 }
 
 // The flow of a pair of which these are the sources and this is the first pipe.
 fn flow_of(a: Option<At>, b: Option<At>, flows: &[i32], first: usize) -> Flow
-    requires pipes { first + pipe_count a b ≤ length flows.now }
-    requires small { (j : ℕ) → j < length flows.now → (negsuc 32766 ≤ℤ flow_at flows.now j) × (flow_at flows.now j ≤ℤ pos 32767) }
+    requires { HasFlows flows.now first (pipe_count a b) }
     ensures { result ≡ flow_of a b flows.now first }
 {
     match (a, b) {
@@ -59,54 +60,58 @@ fn flow_of(a: Option<At>, b: Option<At>, flows: &[i32], first: usize) -> Flow
     }
 }
 
-// Adds the flow of the cell at an index and the one behind it along an axis, where the box has it.
+// Adds the flow of a cell of this source and the next one along an axis, where the box has it.
 fn add_pair(
     flows: &mut Vec<Flow>,
-    canvas: &Canvas,
+    map: &Map,
     placement: &Placement,
     places: &Places,
     solved: &Solved,
     axis: Axis,
-    i: usize,
+    at: Counts,
+    source: Option<At>,
 ) -> Result<(), AllocError>
-    requires cells { HasCells placement.now.rect.size }
-    requires inside { HoldsBox canvas.now.map.size placement.now.rect.corner placement.now.rect.size }
-    requires solved { IsSolvedFor canvas.now.map placement.now places.now solved.now }
-    requires below { i < cell_count placement.now.rect.size }
-    requires number { vec_len flows.old ≡ at_index placement.now.rect.size (pair_number placement.now.rect.size axis) i }
-    ensures { OnOk result (flows.new.items ≡ flows.old.items ++ at_index placement.now.rect.size (flow_along canvas.now.map placement.now places.now solved.now.flow axis) i) }
+    requires small { IsSmall placement.now.rect.size }
+    requires inside { HoldsBox largest placement.now.rect.corner placement.now.rect.size }
+    requires solved { IsSolvedFor map.now placement.now places.now solved.now }
+    requires counts { AreCounts placement.now.rect.size at.x at.y at.f }
+    requires source { source ≡ source_in map.now placement.now at.x at.y at.f }
+    requires number { vec_len flows.old ≡ pair_number placement.now.rect.size axis at.x at.y at.f }
+    ensures { OnOk result (flows.new.items ≡ flows.old.items
+        ++ flow_along map.now placement.now places.now solved.now.flow axis at.x at.y at.f) }
 {
-    let map = canvas.map();
-    let _size = map.size();
-    let cell = placement.rect.corner.plus(placement.rect.size.place_at(i));
-    let next = cell.plus(axis.unit());
-    if placement.rect.contains(next) {
-        let first = places.pipes.as_slice()[flows.len()] as usize;
-        let flow = flow_of(map.at(cell), map.at(next), solved.flow.as_slice(), first);
-        flows.push(flow)?;
+    let size = placement.rect.size;
+    if !at.has_next(size, axis) {
+        return Ok(());
     }
+    let next = map.at(at.next_along(size, axis).cell(&placement.rect));
+    let first = places.pipes.as_slice()[flows.len()] as usize;
+    flows.push(flow_of(source, next, solved.flow.as_slice(), first))?;
     Ok(())
 }
 
-// Adds the flows of the cell at an index and the ones behind it along X, Y and F.
+// Adds the flows of a cell and the next ones along X, Y and F.
 fn add_pairs(
     flows: &mut Vec<Flow>,
-    canvas: &Canvas,
+    map: &Map,
     placement: &Placement,
     places: &Places,
     solved: &Solved,
-    i: usize,
+    at: Counts,
 ) -> Result<(), AllocError>
-    requires cells { HasCells placement.now.rect.size }
-    requires inside { HoldsBox canvas.now.map.size placement.now.rect.corner placement.now.rect.size }
-    requires solved { IsSolvedFor canvas.now.map placement.now places.now solved.now }
-    requires below { i < cell_count placement.now.rect.size }
-    requires number { vec_len flows.old ≡ pairs_before placement.now.rect.size i }
-    ensures { OnOk result (flows.new.items ≡ flows.old.items ++ at_index placement.now.rect.size (flows_from canvas.now.map placement.now places.now solved.now.flow) i) }
+    requires small { IsSmall placement.now.rect.size }
+    requires inside { HoldsBox largest placement.now.rect.corner placement.now.rect.size }
+    requires solved { IsSolvedFor map.now placement.now places.now solved.now }
+    requires counts { AreCounts placement.now.rect.size at.x at.y at.f }
+    requires number { vec_len flows.old ≡
+        pairs_before placement.now.rect.size (raster_index placement.now.rect.size at.x at.y at.f) }
+    ensures { OnOk result (flows.new.items ≡ flows.old.items
+        ++ flows_from map.now placement.now places.now solved.now.flow at.x at.y at.f) }
 {
-    add_pair(flows, canvas, placement, places, solved, Axis::X, i)?;
-    add_pair(flows, canvas, placement, places, solved, Axis::Y, i)?;
-    add_pair(flows, canvas, placement, places, solved, Axis::F, i)
+    let source = map.at(at.cell(&placement.rect));
+    add_pair(flows, map, placement, places, solved, Axis::X, at, source)?;
+    add_pair(flows, map, placement, places, solved, Axis::Y, at, source)?;
+    add_pair(flows, map, placement, places, solved, Axis::F, at, source)
 }
 
 // The flows of all pairs.
@@ -118,20 +123,26 @@ fn flows_of(
     solved: &Solved,
 ) -> Result<Vec<Flow>, AllocError>
     requires cells { HasCells placement.now.rect.size }
-    requires inside { HoldsBox canvas.now.map.size placement.now.rect.corner placement.now.rect.size }
+    requires inside { HoldsBox canvas.now.map.size
+        placement.now.rect.corner placement.now.rect.size }
     requires solved { IsSolvedFor canvas.now.map placement.now places.now solved.now }
-    ensures { IfOk result (λ flows. flows.items ≡ flows_before canvas.now.map placement.now places.now solved.now.flow (cell_count placement.now.rect.size)) }
+    ensures { IfOk result (λ flows. flows.items ≡ flows_before canvas.now.map placement.now
+        places.now solved.now.flow (cell_count placement.now.rect.size)) }
 {
-    let _size = canvas.map().size();
+    let map = canvas.map();
+    let size = placement.rect.size;
     let mut flows = Vec::with_capacity(alloc, places.pipes.as_slice().len())?;
-    for i in 0..placement.rect.size.cells() {
-        add_pairs(&mut flows, canvas, placement, places, solved, i)?;
+    let mut at = Counts::first();
+    for i in 0..size.cells() {
+        add_pairs(&mut flows, map, placement, places, solved, at)?;
+        at = at.next(size);
     }
     Ok(flows)
 }
 
 /// The record that a solved network of a placement gives: a cell is new where its node isn't on the
-/// source's side, and the flow of a pair is that of its pipes. The one error is want of memory.
+/// source's side, and the flow of a pair is that of its pipes. The one error is that there is no
+/// memory.
 pub fn to_record(
     alloc: Global,
     canvas: &Canvas,

@@ -5,7 +5,7 @@ use Rattle.std.proofs.lemmas.Int.{ints}
 use Rattle.std.proofs.lemmas.List.Elements.{All-head, All-tail}
 use Rattle.max_flow.specs.declared.network.Pipe.{Pipe}
 use Rattle.max_flow.specs.Networks.{FlowNetwork, IsPipeOf, pipe_at}
-use Rattle.max_flow.specs.Flows.{part_if, flow_at, net_leaving, FitsPipe, IsFlow, flow_value, crossing, capacity_out}
+use Rattle.max_flow.specs.Flows.{part_if, pipe_flow, net_leaving, FitsPipe, IsFlow, flow_value, crossing, capacity_out}
 
 -- two sets that agree at the ends of all pipes
 net_same : (n : ℕ) (side other : ℕ → Bool) (pipes : List Pipe) (flows : List ℤ) → All (IsPipeOf n) pipes → ((k : ℕ) → k < n → side k ≡ other k) → net_leaving side pipes flows ≡ net_leaving other pipes flows
@@ -107,7 +107,7 @@ module _ (network : FlowNetwork) (flows : List ℤ) (flow : IsFlow network flows
 
 -- the flow of each pipe fits it
 abbrev pub AllFit : List Pipe → List ℤ → Type 0
-AllFit pipes flows = (j : ℕ) → j < length pipes → FitsPipe (pipe_at pipes j) (flow_at flows j)
+AllFit pipes flows = (j : ℕ) → j < length pipes → FitsPipe (pipe_at pipes j) (pipe_flow flows j)
 
 pipe_crosses : (a b : Bool) (p : Pipe) (f : ℤ) → FitsPipe p f → (part_if a f -ℤ part_if b f) ≤ℤ pos (crossing a b p)
 pipe_crosses true true p f h = omega (arith, ints)
@@ -127,7 +127,7 @@ abbrev pub IsFull : Bool → Bool → Pipe → ℤ → Type 0
 IsFull a b p f = (part_if a f -ℤ part_if b f) ≡ pos (crossing a b p)
 
 abbrev pub AllFull : (ℕ → Bool) → List Pipe → List ℤ → Type 0
-AllFull side pipes flows = (j : ℕ) → j < length pipes → IsFull (side (pipe_at pipes j).from) (side (pipe_at pipes j).to) (pipe_at pipes j) (flow_at flows j)
+AllFull side pipes flows = (j : ℕ) → j < length pipes → IsFull (side (pipe_at pipes j).from) (side (pipe_at pipes j).to) (pipe_at pipes j) (pipe_flow flows j)
 
 pub full_leaves : (side : ℕ → Bool) (pipes : List Pipe) (flows : List ℤ) → length flows ≡ length pipes → AllFull side pipes flows → net_leaving side pipes flows ≡ pos (capacity_out side pipes)
 full_leaves side [] flows sized full = refl

@@ -3,7 +3,7 @@ use Rattle.std.proofs.Common.{◌≡◌, ◌<◌, ◌≤◌, ◌+◌, ◌==◌, 
 use Rattle.std.proofs.lemmas.Int.{ints}
 use Rattle.max_flow.specs.declared.network.Pipe.{Pipe}
 use Rattle.max_flow.specs.Networks.{pipe_at}
-use Rattle.max_flow.specs.Flows.{part_if, net_leaving, flow_at}
+use Rattle.max_flow.specs.Flows.{part_if, net_leaving, pipe_flow}
 use Rattle.max_flow.specs.Residual.{flows_of, excess, Carries}
 
 pub length-flows_of : (pipes : List Pipe) (backward : List ℕ) → length backward ≡ length pipes → length (flows_of pipes backward) ≡ length pipes
@@ -12,7 +12,7 @@ length-flows_of [] backward e = refl
 length-flows_of (p ∷ ps) [] e = absurd (omega arith)
 length-flows_of (p ∷ ps) (r ∷ rs) e = ap suc (length-flows_of ps rs (omega arith))
 
-pub flow_at-flows_of : (pipes : List Pipe) (backward : List ℕ) (j : ℕ) → length backward ≡ length pipes → j < length pipes → flow_at (flows_of pipes backward) j ≡ pos (slice_index backward j) -ℤ pos (pipe_at pipes j).back
+pub flow_at-flows_of : (pipes : List Pipe) (backward : List ℕ) (j : ℕ) → length backward ≡ length pipes → j < length pipes → pipe_flow (flows_of pipes backward) j ≡ pos (slice_index backward j) -ℤ pos (pipe_at pipes j).back
 unfolding flows_of
 flow_at-flows_of [] backward j e lt = absurd (omega arith)
 flow_at-flows_of (p ∷ ps) [] j e lt = absurd (omega arith)

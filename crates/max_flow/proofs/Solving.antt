@@ -4,7 +4,7 @@ use Rattle.std.proofs.lemmas.Bool.{cases_eq, cases_lt, lt-ltb, le-ltb, ltb-true,
 use Rattle.std.proofs.lemmas.Int.{ints}
 use Rattle.max_flow.specs.declared.network.Pipe.{Pipe}
 use Rattle.max_flow.specs.Networks.{FlowNetwork, IsPipeOf, pipe_at}
-use Rattle.max_flow.specs.Flows.{flow_at, net_leaving, IsFlow, flow_value, is_in, IsCut, capacity_out, cut_capacity, IsLeastCut, IsContained}
+use Rattle.max_flow.specs.Flows.{pipe_flow, net_leaving, IsFlow, flow_value, is_in, IsCut, capacity_out, cut_capacity, IsLeastCut, IsContained}
 use Rattle.max_flow.specs.Residual.{arc_count, tail, head, residual, AreResiduals, flows_of, excess, Carries}
 use Rattle.max_flow.specs.Levels.{level_of, AreLevels, IsClosed}
 use Rattle.max_flow.specs.Solutions.{IsSolution}
@@ -13,21 +13,21 @@ use Rattle.max_flow.proofs.FlowLists.{length-flows_of, flow_at-flows_of}
 use Rattle.max_flow.proofs.Duality.{value_leaves, leaves_le, IsFull, AllFull, full_leaves, leaves_full}
 
 module _ (pipes : List Pipe) (backward : List ℕ) (are : AreResiduals pipes backward) (side : ℕ → Bool) where
-  flow_is : (j : ℕ) → j < length pipes → flow_at (flows_of pipes backward) j ≡ pos (slice_index backward j) -ℤ pos (pipe_at pipes j).back
+  flow_is : (j : ℕ) → j < length pipes → pipe_flow (flows_of pipes backward) j ≡ pos (slice_index backward j) -ℤ pos (pipe_at pipes j).back
   flow_is j lt = flow_at-flows_of pipes backward j are.sized lt
 
   -- sides of a full pipe
   at_sides : (a b : Bool) (j : ℕ) → side (pipe_at pipes j).from ≡ a → side (pipe_at pipes j).to ≡ b
-      → IsFull (side (pipe_at pipes j).from) (side (pipe_at pipes j).to) (pipe_at pipes j) (flow_at (flows_of pipes backward) j) → IsFull a b (pipe_at pipes j) (flow_at (flows_of pipes backward) j)
+      → IsFull (side (pipe_at pipes j).from) (side (pipe_at pipes j).to) (pipe_at pipes j) (pipe_flow (flows_of pipes backward) j) → IsFull a b (pipe_at pipes j) (pipe_flow (flows_of pipes backward) j)
   at_sides a b j from to h =
-      subst (λ x. IsFull a x (pipe_at pipes j) (flow_at (flows_of pipes backward) j)) to
-      (subst (λ x. IsFull x (side (pipe_at pipes j).to) (pipe_at pipes j) (flow_at (flows_of pipes backward) j)) from h)
+      subst (λ x. IsFull a x (pipe_at pipes j) (pipe_flow (flows_of pipes backward) j)) to
+      (subst (λ x. IsFull x (side (pipe_at pipes j).to) (pipe_at pipes j) (pipe_flow (flows_of pipes backward) j)) from h)
 
   from_sides : (a b : Bool) (j : ℕ) → side (pipe_at pipes j).from ≡ a → side (pipe_at pipes j).to ≡ b
-      → IsFull a b (pipe_at pipes j) (flow_at (flows_of pipes backward) j) → IsFull (side (pipe_at pipes j).from) (side (pipe_at pipes j).to) (pipe_at pipes j) (flow_at (flows_of pipes backward) j)
+      → IsFull a b (pipe_at pipes j) (pipe_flow (flows_of pipes backward) j) → IsFull (side (pipe_at pipes j).from) (side (pipe_at pipes j).to) (pipe_at pipes j) (pipe_flow (flows_of pipes backward) j)
   from_sides a b j from to h =
-      subst (λ x. IsFull (side (pipe_at pipes j).from) x (pipe_at pipes j) (flow_at (flows_of pipes backward) j)) (sym to)
-      (subst (λ x. IsFull x b (pipe_at pipes j) (flow_at (flows_of pipes backward) j)) (sym from) h)
+      subst (λ x. IsFull (side (pipe_at pipes j).from) x (pipe_at pipes j) (pipe_flow (flows_of pipes backward) j)) (sym to)
+      (subst (λ x. IsFull x b (pipe_at pipes j) (pipe_flow (flows_of pipes backward) j)) (sym from) h)
 
   -- where each pipe carries all that it can out of a set, no arc out of it can carry more
   pub full_shut : AllFull side pipes (flows_of pipes backward) → (arc : ℕ) → arc < arc_count pipes → side (tail pipes arc) ≡ true → side (head pipes arc) ≡ false → residual pipes backward arc ≡ 0

@@ -1,4 +1,5 @@
--- Flows and cuts of a network, after Ford and Fulkerson, "Maximal flow through a network" (1956).
+-- A reader has to trust this file. Flows and cuts of a network, after Ford and Fulkerson, "Maximal
+-- flow through a network" (1956).
 use Rattle.std.specs.Prelude.{◌≡◌, ◌≢◌, ◌<◌, ◌≤◌, ◌+◌, ◌==◌, ℕ, ℤ, pos, ◌+ℤ◌, ◌-ℤ◌, ◌≤ℤ◌, Bool, true, false, List, [], ◌∷◌, length, slice_index_or}
 use Rattle.max_flow.specs.declared.network.Pipe.{Pipe}
 use Rattle.max_flow.specs.Networks.{FlowNetwork, pipe_at}
@@ -9,8 +10,8 @@ part_if true z = z
 part_if false z = pos 0
 
 -- the flow of the pipe of that number
-abbrev pub flow_at : List ℤ → ℕ → ℤ
-flow_at flows j = slice_index_or flows j (pos 0)
+abbrev pub pipe_flow : List ℤ → ℕ → ℤ
+pipe_flow flows j = slice_index_or flows j (pos 0)
 
 -- what leaves a set of nodes along the pipes, less what enters it
 abbrev pub net_leaving : (ℕ → Bool) → List Pipe → List ℤ → ℤ
@@ -28,7 +29,7 @@ pub record FitsPipe (pipe : Pipe) (flow : ℤ) : Type 0 where
 pub record IsFlow (network : FlowNetwork) (flows : List ℤ) : Type 0 where
   pub sized : length flows ≡ length network.pipes
   pub fits : (j : ℕ) → j < length network.pipes
-      → FitsPipe (pipe_at network.pipes j) (flow_at flows j)
+      → FitsPipe (pipe_at network.pipes j) (pipe_flow flows j)
   pub balance : (n : ℕ) → n ≢ network.source → n ≢ network.sink
       → net_leaving (λ k. k == n) network.pipes flows ≡ pos 0
 

@@ -1,5 +1,5 @@
--- Level graphs, after Dinic, "Algorithm for solution of a problem of maximum flow in networks with power
--- estimation" (1970).
+-- The state of the solver: level graphs, after Dinic, "Algorithm for solution of a problem of
+-- maximum flow in networks with power estimation" (1970).
 use Rattle.std.specs.Prelude.{◌≡◌, ◌<◌, ◌≤◌, ◌+◌, ℕ, List, length, slice_index, nat_lt, count_by}
 use Rattle.max_flow.specs.declared.network.Pipe.{Pipe}
 use Rattle.max_flow.specs.Residual.{arc_count, tail, head, residual}
@@ -22,7 +22,8 @@ pub record AreLevelNumbers (nodes source : ℕ) (levels : List ℕ) : Type 0 whe
   pub limit : (n : ℕ) → level_of levels n ≤ nodes
 
 -- levels from a source: each level but the first is led to from the one before
-pub record AreLevels (pipes : List Pipe) (nodes source : ℕ) (backward levels : List ℕ) : Type 0 where
+pub record AreLevels (pipes : List Pipe) (nodes source : ℕ)
+    (backward levels : List ℕ) : Type 0 where
   pub numbers : AreLevelNumbers nodes source levels
   pub only : (n : ℕ) → level_of levels n ≡ 1 → n ≡ source
   pub led : (n : ℕ) → 1 < level_of levels n → (arc : ℕ) × LeadsTo pipes backward levels n arc
@@ -30,7 +31,8 @@ pub record AreLevels (pipes : List Pipe) (nodes source : ℕ) (backward levels :
 -- no arc with residual capacity leads from a node with a level to one without
 abbrev pub IsClosed : List Pipe → List ℕ → List ℕ → Type 0
 IsClosed pipes backward levels =
-    (arc : ℕ) → arc < arc_count pipes → 0 < level_of levels (tail pipes arc) → 0 < residual pipes backward arc
+    (arc : ℕ) → arc < arc_count pipes → 0 < level_of levels (tail pipes arc) →
+    0 < residual pipes backward arc
     → 0 < level_of levels (head pipes arc)
 
 -- an arc of the level graph
@@ -38,8 +40,8 @@ pub record IsAdmissible (pipes : List Pipe) (backward levels : List ℕ) (arc : 
   pub open_arc : 0 < residual pipes backward arc
   pub rises : level_of levels (head pipes arc) ≡ level_of levels (tail pipes arc) + 1
 
--- a search by breadth: the queue has the nodes with a level, and all arcs of the first `done` of them were
--- tried
+-- a search by breadth: the queue has the nodes with a level, and all arcs of the first `done` of
+-- them were tried
 pub record IsSearch (pipes : List Pipe) (nodes source : ℕ) (backward levels queue : List ℕ)
     (done reached : ℕ) : Type 0 where
   pub levels_sized : length levels ≡ nodes
@@ -49,8 +51,10 @@ pub record IsSearch (pipes : List Pipe) (nodes source : ℕ) (backward levels qu
   pub led : (n : ℕ) → 1 < level_of levels n → (arc : ℕ) × LeadsTo pipes backward levels n arc
   pub counted : count_by (λ level. nat_lt 0 level) levels ≡ reached
   pub queued : (k : ℕ) → k < reached → (slice_index queue k < nodes)
-      × (0 < level_of levels (slice_index queue k)) × (level_of levels (slice_index queue k) ≤ k + 1)
+      × (0 < level_of levels (slice_index queue k))
+      × (level_of levels (slice_index queue k) ≤ k + 1)
   pub all_queued : (n : ℕ) → 0 < level_of levels n
       → (k : ℕ) × (k < reached) × (slice_index queue k ≡ n)
-  pub tried : (k : ℕ) → k < done → (arc : ℕ) → arc < arc_count pipes → tail pipes arc ≡ slice_index queue k
+  pub tried : (k : ℕ) → k < done → (arc : ℕ) → arc < arc_count pipes →
+      tail pipes arc ≡ slice_index queue k
       → 0 < residual pipes backward arc → 0 < level_of levels (head pipes arc)

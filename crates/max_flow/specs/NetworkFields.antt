@@ -1,4 +1,4 @@
--- What the fields of a `Network` stand for.
+-- The state of a network: what its fields stand for.
 use Rattle.std.specs.Prelude.{◌≢◌, ◌<◌, ◌≤◌, ◌-◌, ◌^◌, All, vec_len, vec_capacity}
 use Rattle.max_flow.specs.declared.network.Network.TheInside.{Inside}
 use Rattle.max_flow.specs.Networks.{FlowNetwork, IsPipeOf}

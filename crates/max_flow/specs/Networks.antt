@@ -1,4 +1,5 @@
--- Flow networks and their pipes, after Ford and Fulkerson, "Maximal flow through a network" (1956).
+-- A reader has to trust this file. Flow networks and their pipes, after Ford and Fulkerson,
+-- "Maximal flow through a network" (1956).
 use Rattle.std.specs.Prelude.{◌<◌, ◌≤◌, ◌-◌, ◌^◌, ℕ, List, [], ◌∷◌, ◌++◌, slice_index_or}
 use Rattle.max_flow.specs.declared.network.Pipe.{Pipe}
 

@@ -1,5 +1,5 @@
--- The residual network of a flow, after Ford and Fulkerson. Pipe j has two arcs: 2j from its first end to its
--- second, and 2j + 1 the other way.
+-- The state of the solver: the residual network of a flow, after Ford and Fulkerson. Pipe j has two
+-- arcs: 2j from its first end to its second, and 2j + 1 the other way.
 use Rattle.std.specs.Prelude.{◌≡◌, ◌≢◌, ◌<◌, ◌≤◌, ◌+◌, ◌-◌, ◌*◌, ◌/◌, ◌%◌, ◌==◌, ℕ, ℤ, pos, ◌+ℤ◌, ◌-ℤ◌, List, [], ◌∷◌, length, slice_index, if◌then◌else◌}
 use Rattle.max_flow.specs.declared.network.Pipe.{Pipe}
 use Rattle.max_flow.specs.Networks.{pipe_at}
@@ -23,7 +23,8 @@ head pipes arc =
 unfoldable pub residual : List Pipe → List ℕ → ℕ → ℕ
 residual pipes backward arc =
     if arc % 2 == 0
-    then ((pipe_at pipes (arc / 2)).ahead + (pipe_at pipes (arc / 2)).back) - slice_index backward (arc / 2)
+    then ((pipe_at pipes (arc / 2)).ahead + (pipe_at pipes (arc / 2)).back)
+    - slice_index backward (arc / 2)
     else slice_index backward (arc / 2)
 
 -- no arc can carry more both ways than its pipe's two capacities
@@ -36,7 +37,8 @@ pub record AreResiduals (pipes : List Pipe) (backward : List ℕ) : Type 0 where
 unfoldable pub flows_of : List Pipe → List ℕ → List ℤ
 flows_of [] backward = []
 flows_of (pipe ∷ pipes) [] = []
-flows_of (pipe ∷ pipes) (against ∷ backward) = (pos against -ℤ pos pipe.back) ∷ flows_of pipes backward
+flows_of (pipe ∷ pipes) (against ∷ backward) =
+    (pos against -ℤ pos pipe.back) ∷ flows_of pipes backward
 
 -- what leaves a node, less what enters it
 unfoldable pub excess : List Pipe → List ℕ → ℕ → ℤ
@@ -49,7 +51,8 @@ Moves pipes from to amount before after =
     ≡ (excess pipes before n +ℤ part_if (from == n) (pos amount)) -ℤ part_if (to == n) (pos amount)
 
 -- a flow of that value, from the one node to the other
-pub record Carries (pipes : List Pipe) (source sink : ℕ) (backward : List ℕ) (value : ℕ) : Type 0 where
+pub record Carries (pipes : List Pipe) (source sink : ℕ) (backward : List ℕ)
+    (value : ℕ) : Type 0 where
   pub residuals : AreResiduals pipes backward
   pub leaves : excess pipes backward source ≡ pos value
   pub balance : (n : ℕ) → n ≢ source → n ≢ sink → excess pipes backward n ≡ pos 0

@@ -1,4 +1,4 @@
--- The tables of a solver.
+-- The state of the solver: its tables.
 use Rattle.std.specs.Prelude.{◌≡◌, ◌*◌, ℕ, List, length, map, slice_index, vec_len}
 use Rattle.max_flow.specs.declared.network.Pipe.{Pipe}
 use Rattle.max_flow.specs.declared.solver.NodeTables.{NodeTables}

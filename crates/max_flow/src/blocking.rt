@@ -1,4 +1,4 @@
-//! Blocking flows: flow along paths of the level graph, until no path is left.
+// Blocking flows: flow along paths of the level graph, until no path is left.
 
 ghost use Rattle.std.specs.Prelude.{◌≡◌, ◌≢◌, ◌<◌, ◌≤◌, ◌/◌, ℕ, length, slice_index};
 ghost use Rattle.max_flow.specs.Residual.{arc_count, tail, head, residual, AreResiduals, Carries, Moves};
@@ -8,7 +8,7 @@ ghost use Rattle.max_flow.specs.Paths.{IsPath, LeadsFrom};
 use crate::graph::Graph;
 use crate::paths::find_path;
 
-/// The most that all arcs of the path can still carry.
+// The most that all arcs of the path can still carry.
 fn bottleneck(graph: &Graph, backward: &[u32], path: &[usize]) -> u32
     requires residuals { AreResiduals graph.now.pipes.now backward.now }
     requires arcs { (k : ℕ) → k < length path.now
@@ -26,14 +26,15 @@ fn bottleneck(graph: &Graph, backward: &[u32], path: &[usize]) -> u32
     least
 }
 
-/// Sends more flow over an arc.
+// Sends more flow over an arc.
 fn push(graph: &Graph, backward: &mut [u32], arc: usize, amount: u32)
     requires residuals { AreResiduals graph.now.pipes.now backward.old }
     requires arc { arc < arc_count graph.now.pipes.now }
     requires amount { amount ≤ residual graph.now.pipes.now backward.old arc }
     ensures residuals { AreResiduals graph.now.pipes.now backward.new }
     ensures others { (other : ℕ) → other / 2 ≢ arc / 2
-        → residual graph.now.pipes.now backward.new other ≡ residual graph.now.pipes.now backward.old other }
+        → residual graph.now.pipes.now backward.new other ≡
+        residual graph.now.pipes.now backward.old other }
     ensures moved { Moves graph.now.pipes.now
         (tail graph.now.pipes.now arc) (head graph.now.pipes.now arc) amount backward.old backward.new }
 {
@@ -44,7 +45,7 @@ fn push(graph: &Graph, backward: &mut [u32], arc: usize, amount: u32)
     }
 }
 
-/// Sends as much flow along the path as it can carry. Returns how much.
+// Sends as much flow along the path as it can carry. Returns how much.
 fn augment(graph: &Graph, backward: &mut [u32], levels: &[usize], path: &[usize]) -> u32
     requires residuals { AreResiduals graph.now.pipes.now backward.old }
     requires path { IsPath graph.now.pipes.now graph.now.source backward.old levels.now path.now

@@ -1,4 +1,4 @@
-//! The residual network: its arcs, what they can still carry, and the chain of the arcs of each node.
+// The residual network: its arcs, what they can still carry, and the chain of the arcs of each node.
 
 ghost use Rattle.std.specs.Prelude.{◌≡◌, ◌≢◌, ◌<◌, ◌≤◌, ◌^◌, ℕ, All, length, slice_index};
 ghost use Rattle.max_flow.specs.Networks.{IsPipeOf};
@@ -71,7 +71,7 @@ impl Graph<'_> {
     }
 }
 
-/// The node that an arc leaves.
+// The node that an arc leaves.
 #[inline(always)]
 #[tactic(auto, unfolding(crate::specs::Residual::tail))]
 fn tail(pipes: &[Pipe], arc: usize) -> usize

@@ -1,4 +1,4 @@
-//! The levels of a residual network, by a search by breadth from the source.
+// The levels of a residual network, by a search by breadth from the source.
 
 ghost use Rattle.std.specs.Prelude.{◌≡◌, ◌<◌, ◌≤◌, ◌+◌, ◌↔◌, ℕ, IsTrue, length, slice_index};
 ghost use Rattle.std.specs.Bool.{OnFalse};
@@ -7,8 +7,8 @@ ghost use Rattle.max_flow.specs.Levels.{AreLevels, IsClosed, IsSearch, level_of}
 
 use crate::graph::Graph;
 
-/// Puts the node that an arc enters into the queue, where the arc can carry more and the node has no level
-/// yet. Returns how many nodes have a level then.
+// Puts the node that an arc enters into the queue, where the arc can carry more and the node has no level
+// yet. Returns how many nodes have a level then.
 fn try_arc(
     graph: &Graph,
     backward: &[u32],
@@ -41,7 +41,7 @@ fn try_arc(
     reached + 1
 }
 
-/// Tries all arcs of the node at place `done` of the queue. Returns how many nodes have a level then.
+// Tries all arcs of the node at place `done` of the queue. Returns how many nodes have a level then.
 fn visit(
     graph: &Graph,
     backward: &[u32],

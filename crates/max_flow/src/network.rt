@@ -1,4 +1,4 @@
-//! The network that a solver is given: nodes, two ends, and pipes between nodes.
+// The network that a solver is given: nodes, two ends, and pipes between nodes.
 
 ghost use Rattle.std.specs.Prelude.{◌≡◌, ◌≢◌, ◌<◌, ◌≤◌, ◌^◌, All, IfOk, length};
 

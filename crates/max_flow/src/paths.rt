@@ -1,5 +1,5 @@
-//! Paths from the source to the sink in a level graph, by a search in depth that passes over each arc at
-//! most once.
+// Paths from the source to the sink in a level graph, by a search in depth that passes over each arc at
+// most once.
 
 ghost use Rattle.std.specs.Prelude.{◌≡◌, ◌<◌, ◌≤◌, ◌-◌, ℕ, IfSome, IsSome, length};
 ghost use Rattle.max_flow.specs.Residual.{arc_count, tail, AreResiduals};
@@ -8,7 +8,7 @@ ghost use Rattle.max_flow.specs.Paths.{AreCurrent, IsPath, LeadsFrom, PassedAreD
 
 use crate::graph::Graph;
 
-/// One more than the first arc of the node's chain, from `cursor` on, that is in the level graph, or 0.
+// One more than the first arc of the node's chain, from `cursor` on, that is in the level graph, or 0.
 fn next_admissible(
     graph: &Graph,
     backward: &[u32],
@@ -61,7 +61,8 @@ pub fn find_path(
         levels.now path.new) }
     ensures sink { IfSome result (λ depth. LeadsFrom graph.now.pipes.now graph.now.source path.new
         depth graph.now.sink) }
-    ensures found { AreLevels graph.now.pipes.now graph.now.nodes graph.now.source backward.now levels.now
+    ensures found { AreLevels graph.now.pipes.now graph.now.nodes graph.now.source backward.now
+        levels.now
         → 0 < level_of levels.now graph.now.sink
         → PassedAreDead graph.now.pipes.now graph.now.sink backward.now levels.now current.old
         → IsSome result }

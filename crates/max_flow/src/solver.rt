@@ -1,4 +1,4 @@
-//! The solver: level graphs and blocking flows, until the sink has no level.
+// The solver: level graphs and blocking flows, until the sink has no level.
 
 ghost use Rattle.std.specs.Prelude.{◌≡◌, ◌≤◌, ◌^◌, ℕ, ℤ, pos, ◌≤ℤ◌, nat_lt, Bool, List};
 ghost use Rattle.std.specs.Prelude.{IfOk, length, vec_len};
@@ -27,7 +27,7 @@ pub struct Solved {
     pub value: u64,
 }
 
-/// The tables of the searches: one entry for each node in each of them.
+// The tables of the searches: one entry for each node in each of them.
 #[derive(Drop)]
 struct NodeTables {
     levels: Vec<usize>,
@@ -36,7 +36,7 @@ struct NodeTables {
     path: Vec<usize>,
 }
 
-/// All that a solver works on and hands out, so that it takes its memory before it begins.
+// All that a solver works on and hands out, so that it takes its memory before it begins.
 #[derive(Drop)]
 struct Workspace {
     flow: Vec<i32>,
@@ -69,7 +69,7 @@ impl NodeTables {
 impl Workspace {
     ghost use Rattle.max_flow.specs.Workspaces.{IsReady};
 
-    /// Makes the tables for a network with these pipes, over which nothing flows.
+    // Makes the tables for a network with these pipes, over which nothing flows.
     fn make(alloc: Global, nodes: usize, pipes: &[Pipe]) -> Result<Workspace, AllocError>
         requires { length pipes.now ≤ 2 ^ 32 }
         ensures { IfOk result (IsReady nodes pipes.now) }
@@ -91,7 +91,7 @@ impl Workspace {
     }
 }
 
-/// Writes the flows of the pipes.
+// Writes the flows of the pipes.
 fn write_flows(graph: &Graph, backward: &[u32], flow: &mut [i32])
     requires residuals { AreResiduals graph.now.pipes.now backward.now }
     requires sized { length flow.old ≡ length graph.now.pipes.now }
@@ -102,7 +102,7 @@ fn write_flows(graph: &Graph, backward: &[u32], flow: &mut [i32])
     }
 }
 
-/// Puts the nodes with a level on the source's side.
+// Puts the nodes with a level on the source's side.
 fn write_sides(levels: &[usize], sides: &mut [bool])
     requires { length sides.old ≡ length levels.now }
     ensures { (n : ℕ) → is_in sides.new n ≡ nat_lt 0 (level_of levels.now n) }
@@ -112,8 +112,8 @@ fn write_sides(levels: &[usize], sides: &mut [bool])
     }
 }
 
-/// Adds blocking flows until the sink has no level. Returns the value of the flow, and leaves the last
-/// levels in the tables.
+// Adds blocking flows until the sink has no level. Returns the value of the flow, and leaves the last
+// levels in the tables.
 fn run(graph: &Graph, backward: &mut [u32], tables: &mut NodeTables) -> u64
     requires carries { Carries graph.now.pipes.now graph.now.source graph.now.sink backward.old 0 }
     requires levels { vec_len tables.old.levels ≡ graph.now.nodes }
@@ -141,7 +141,7 @@ fn run(graph: &Graph, backward: &mut [u32], tables: &mut NodeTables) -> u64
     value
 }
 
-/// Solves the network in the tables.
+// Solves the network in the tables.
 fn solve_in(network: &Network, space: Workspace) -> Solved
     requires { IsReady network.now.nodes network.now.pipes space }
     ensures { IsSolution network.now result.flow result.source_side result.value }

@@ -1,4 +1,4 @@
-//! Worked examples, small networks against all their cuts, and a larger one that another program solved.
+// Worked examples, small networks against all their cuts, and a larger one that another program solved.
 
 use crate::{Network, Pipe, Solved, solve};
 use std::alloc::{AllocError, Global};

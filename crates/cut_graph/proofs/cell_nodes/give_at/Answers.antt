@@ -2,7 +2,7 @@ use Rattle.std.proofs.Common.{◌≡◌, false, sym, ap, ◌∙◌, subst}
 use Rattle.std.specs.Prelude.{option_copied, slice_index_or}
 use Rattle.std.proofs.lemmas.Result.{on_ok_weaker}
 use Rattle.cells.specs.Boxes.{IsInBox}
-use Rattle.seam_cost.specs.Lawful.{is_held, marks_of}
+use Rattle.seams.specs.Lawful.{is_held, held_marks}
 use Rattle.cut_graph.specs.Building.{IsStanding}
 use Rattle.cut_graph.proofs.Numbered.{held_by_index, in_box, more_cells}
 use Rattle.cut_graph.proofs.cell_nodes.give_at.Goals as goal
@@ -17,7 +17,7 @@ returns c =
     let m = c.args.canvas.now.map in
     let placement = c.args.placement.now in
     let at = c.args.at in
-    let marks = marks_of (option_copied c.args.held) in
+    let marks = held_marks (option_copied c.args.held) in
     let standing = c.standing_of-standing.result in
     let held : is_held placement marks c.cell-p.result ≡ c.is_marked.result =
     ap (is_held placement marks) c.cell-p.ensures ∙ held_by_index placement marks at.x at.y at.f c.requires.counts

@@ -1,11 +1,11 @@
 use Rattle.std.specs.Prelude.{option_copied}
-use Rattle.seam_cost.specs.Lawful.{marks_of}
+use Rattle.seams.specs.Lawful.{held_marks}
+use Rattle.box_walk.specs.Walks.{IsAtIndex}
 use Rattle.cut_graph.specs.Building.{AreCellNodes}
-use Rattle.cut_graph.specs.Numberings.{IsAtIndex}
 use Rattle.cut_graph.proofs.cell_nodes.number_cells.Given as goal
 
 abbrev pub invariant-loop-i : goal.invariant-loop-i
 invariant-loop-i l = record {
   at : IsAtIndex l.size l.i l.at.x l.at.y l.at.f;
-  cells : AreCellNodes l.canvas.map l.placement (marks_of (option_copied l.held)) l.i l.cells;
+  cells : AreCellNodes l.canvas.map l.placement (held_marks (option_copied l.held)) l.i l.cells;
 }

@@ -1,8 +1,8 @@
 use Rattle.std.proofs.Common.{sym, subst, arith}
 use Rattle.std.specs.Prelude.{option_copied}
 use Rattle.cells.specs.Distances.{distance}
-use Rattle.seam_cost.specs.Lawful.{marks_of}
-use Rattle.seam_cost.specs.Pairs.{pair_count}
+use Rattle.seams.specs.Lawful.{held_marks}
+use Rattle.box_walk.specs.Pairs.{pair_count}
 use Rattle.cut_graph.specs.Building.{AreSeamNodes}
 use Rattle.cut_graph.specs.Cuts.{IsNetworkOf}
 use Rattle.cut_graph.proofs.Whole.{are_nodes, held_filled, is_network}
@@ -39,8 +39,8 @@ returns c =
     let seams = c.in_ok-seams.seams in
     let piping = c.in_ok-piping.piping in
     let is_seams = subst (λ list. AreSeamNodes list placement.rect.size cells.next (pair_count placement.rect.size) seams) c.deref.ensures.value c.in_ok-seams.ensures in
-    let nodes = are_nodes m placement (marks_of marks) cells seams piping.first.items c.requires.fits.some (held_filled m placement marks c.requires.held) c.in_ok-cells.ensures is_seams in
-    let whole = is_network d m placement (marks_of marks) cells.nodes.items seams.nodes.items seams.next piping nodes c.in_ok-piping.ensures in
-    let network = subst (IsNetworkOf d m placement (marks_of marks) piping.network)
+    let nodes = are_nodes m placement (held_marks marks) cells seams piping.first.items c.requires.fits.some (held_filled m placement marks c.requires.held) c.in_ok-cells.ensures is_seams in
+    let whole = is_network d m placement (held_marks marks) cells.nodes.items seams.nodes.items seams.next piping nodes c.in_ok-piping.ensures in
+    let network = subst (IsNetworkOf d m placement (held_marks marks) piping.network)
     (λ k. record { cell_nodes = sym c.from_vec.ensures k; seam_nodes = sym c.from_vec-2.ensures k; pipes = sym c.from_vec-3.ensures k }) whole in
-    record { network = network; cuts = choices_are_cuts d (distance_laws c.args.sample.now c.size-size.ensures.volume) m placement (marks_of marks) _ _ network }
+    record { network = network; cuts = choices_are_cuts d (distance_laws c.args.sample.now c.samples-samples.ensures.volume) m placement (held_marks marks) _ _ network }

@@ -2,9 +2,9 @@ use Rattle.std.proofs.Common.{◌≡◌, length, ap, ◌∙◌, subst}
 use Rattle.std.proofs.lemmas.Result.{IfOk-weaker}
 use Rattle.cells.specs.Distances.{distance}
 use Rattle.cells.specs.Places.{cell_count}
-use Rattle.seam_cost.specs.Pairs.{pair_count}
+use Rattle.box_walk.specs.Pairs.{pair_count}
 use Rattle.cut_graph.specs.declared.plan.Plan.{Plan}
-use Rattle.cut_graph.specs.Building.{IsLaid}
+use Rattle.cut_graph.specs.Building.{HasAllPipes}
 use Rattle.cut_graph.specs.Plans.{IsPiped, before}
 use Rattle.cut_graph.proofs.Laying.{laid}
 use Rattle.cut_graph.proofs.network.lay.Goals as goal
@@ -18,9 +18,9 @@ returns c =
     let nodes = c.args.seams.now.next in
     let count : length c.deref-2.result.now ≡ pair_count placement.rect.size = ap length c.deref-2.ensures.value ∙ c.requires.seams.count in
     IfOk-weaker c.lay_pipes.result (IsPiped plan nodes (before plan (cell_count placement.rect.size)) (pair_count placement.rect.size))
-    (IsLaid d c.args.canvas.now.map placement cells c.args.seams.now.nodes.items nodes)
+    (HasAllPipes d c.args.canvas.now.map placement cells c.args.seams.now.nodes.items nodes)
     (λ piping piped.
-    subst (λ m. IsLaid d m placement cells c.args.seams.now.nodes.items nodes piping) c.map.ensures.map
-    (subst (λ list. IsLaid d c.map.result.now placement list c.args.seams.now.nodes.items nodes piping) c.deref.ensures.value
-    (subst (λ list. IsLaid d c.map.result.now placement c.deref.result.now list nodes piping) c.deref-2.ensures.value (laid plan nodes piping count piped))))
+    subst (λ m. HasAllPipes d m placement cells c.args.seams.now.nodes.items nodes piping) c.map.ensures.map
+    (subst (λ list. HasAllPipes d c.map.result.now placement list c.args.seams.now.nodes.items nodes piping) c.deref.ensures.value
+    (subst (λ list. HasAllPipes d c.map.result.now placement c.deref.result.now list nodes piping) c.deref-2.ensures.value (laid plan nodes piping count piped))))
     c.lay_pipes.ensures

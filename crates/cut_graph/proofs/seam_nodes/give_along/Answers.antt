@@ -1,17 +1,17 @@
 use Rattle.std.proofs.Common.{◌≡◌, ◌+◌, true, sym, ap, ◌∙◌, subst, arith}
 use Rattle.std.specs.Prelude.{OnOk}
 use Rattle.std.proofs.lemmas.Result.{on_ok_weaker}
-use Rattle.seam_cost.specs.Pairs.{has_next, one_if, pair_number}
+use Rattle.box_walk.proofs.Indices.{stride_below}
+use Rattle.box_walk.specs.Pairs.{has_next, one_if, pair_number, IsPair}
 use Rattle.cut_graph.specs.Building.{AreSeamNodes, Gives, IsSeamNode, are_filled, both_filled}
-use Rattle.cut_graph.specs.Nodes.{IsPair}
-use Rattle.cut_graph.proofs.AtPairs.{behind, more_seams}
+use Rattle.cut_graph.proofs.AtPairs.{more_seams}
 use Rattle.cut_graph.proofs.seam_nodes.give_along.Goals as goal
 
 pub are_filled-requires-clause-second : goal.are_filled-requires-clause-second
 are_filled-requires-clause-second c =
     let at = c.args.at in
     let is : IsPair c.args.size c.args.axis at.x at.y at.f = record { counts = c.requires.counts; next = sym c.has_next.ensures ∙ c.if-has_next.true } in
-    omega (arith, behind c.args.size c.args.axis at.x at.y at.f is, c.requires.index, c.stride.ensures, c.requires.cells)
+    omega (arith, stride_below c.args.size c.args.axis at.x at.y at.f is, c.requires.index, c.stride.ensures, c.requires.cells)
 
 pub returns-then-has_next-clause-seams : goal.returns-then-has_next-clause-seams
 returns-then-has_next-clause-seams c first some was =

@@ -1,6 +1,6 @@
-use Rattle.seam_cost.specs.Pairs.{pairs_before}
+use Rattle.box_walk.specs.Walks.{IsAtIndex}
+use Rattle.box_walk.specs.Pairs.{pairs_before}
 use Rattle.cut_graph.specs.Building.{AreSeamNodes}
-use Rattle.cut_graph.specs.Numberings.{IsAtIndex}
 use Rattle.cut_graph.proofs.seam_nodes.number_seams.Given as goal
 
 abbrev pub invariant-loop-i : goal.invariant-loop-i

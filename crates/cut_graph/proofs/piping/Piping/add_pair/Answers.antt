@@ -3,12 +3,12 @@ use Rattle.std.specs.Prelude.{slice_index}
 use Rattle.cells.specs.Boxes.{IsInBox}
 use Rattle.cells.specs.Neighbours.{unit_step}
 use Rattle.cells.specs.Places.{cell_count, plus}
-use Rattle.seam_cost.specs.Pairs.{cell_in, pair_number}
+use Rattle.box_walk.proofs.PairNumbers.{number_below, pairs_few}
+use Rattle.box_walk.proofs.Indices.{stride_below}
+use Rattle.box_walk.specs.Pairs.{cell_in, pair_number}
 use Rattle.cut_graph.specs.declared.piping.Piping.{Piping}
 use Rattle.cut_graph.specs.Plans.{IsCellAt, pipes_of_pair}
-use Rattle.cut_graph.proofs.AtPairs.{behind}
 use Rattle.cut_graph.proofs.Laying.{Grows, grown, has_room, pair_is, pipes_most, plan_small, second_in_box}
-use Rattle.cut_graph.proofs.PairNumbers.{number_below, pairs_few}
 use Rattle.cut_graph.proofs.piping.Piping.add_pair.Goals as goal
 
 pub stride-requires : goal.stride-requires
@@ -24,7 +24,7 @@ cell-second-requires-clause-inside c =
 pub cell-second-requires-clause-below : goal.cell-second-requires-clause-below
 cell-second-requires-clause-below c =
     let at = c.args.at in
-    omega (arith, behind c.args.plan.now.placement.rect.size c.args.axis at.x at.y at.f c.requires.pair, c.requires.index, c.stride.ensures, c.requires.plan.cells_count)
+    omega (arith, stride_below c.args.plan.now.placement.rect.size c.args.axis at.x at.y at.f c.requires.pair, c.requires.index, c.stride.ensures, c.requires.plan.cells_count)
 
 pub bounds-plan-len : goal.bounds-plan-len
 bounds-plan-len c =

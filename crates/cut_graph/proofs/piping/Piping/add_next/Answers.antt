@@ -4,7 +4,7 @@ use Rattle.std.proofs.lemmas.Result.{on_ok_weaker}
 use Rattle.cells.specs.declared.place.Axis.TheVariants.{F}
 use Rattle.cut_graph.specs.Plans.{IsPipedPast}
 use Rattle.cut_graph.proofs.Laying.{past_cell}
-use Rattle.cut_graph.proofs.piping.Piping.add_behind.Goals as goal
+use Rattle.cut_graph.proofs.piping.Piping.add_next.Goals as goal
 
 pub returns : goal.returns
 returns c =

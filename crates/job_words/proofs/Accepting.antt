@@ -1,21 +1,24 @@
 -- One word that is accepted: it sets a key that was unset to a value of its kind, and a file name that no setting has.
-use Rattle.std.proofs.Common.{◌≡◌, ◌≢◌, ℕ, ◌≤◌, List, [], ◌∷◌, refl, sym, ap, ◌∙◌, subst, arith, Bool, true, false, ◌&&◌, ◌||◌}
-use Rattle.std.specs.Prelude.{Option, Some, None, is_some, Result, Ok, Err, if◌then◌else◌, codes, nat_le}
+use Rattle.std.proofs.Common.{◌≡◌, ◌≢◌, ℕ, ◌≤◌, List, [], ◌∷◌, refl, sym, ap, ◌∙◌, subst, arith, ◌⊎◌, inl, inr, Bool, true, false, ◌||◌, eqb-true}
+use Rattle.std.specs.Prelude.{Option, Some, None, is_some, Result, Ok, Err, if◌then◌else◌, nat_eq, position}
 use Rattle.std.specs.Str.Parse.{digits_value}
 use Rattle.std.proofs.lemmas.Bool.Decides.{nat_tests}
-use Rattle.job_words.specs.declared.job.Place.TheVariants.{Grid}
+use Rattle.std.proofs.lemmas.List.Quantifiers.{position-Some}
 use Rattle.job_words.specs.declared.job.WordFault.{WordFault}
 use Rattle.job_words.specs.declared.job.WordFault.TheVariants.{BadWord, Repeated, BadValue, OutOfRange, SameName}
 use Rattle.job_words.specs.declared.keys.Key.{Key}
-use Rattle.job_words.specs.declared.keys.Kind.{Kind}
-use Rattle.job_words.specs.declared.keys.Kind.TheVariants.{FileName, Within, Placing}
-use Rattle.job_words.specs.declared.keys.Choice.TheVariants.{Number, Mode}
-use Rattle.job_words.specs.declared.keys.Row.{Row}
+use Rattle.job_words.specs.declared.table.Kind.{Kind}
+use Rattle.job_words.specs.declared.table.Kind.TheVariants.{FileName, Within, Among, OneOf}
+use Rattle.job_words.specs.declared.table.Texts.{Texts}
+use Rattle.job_words.specs.declared.table.Choice.{Choice}
+use Rattle.job_words.specs.declared.table.Choice.TheVariants.{Number, Nth}
+use Rattle.job_words.specs.declared.table.Row.{Row}
 use Rattle.job_words.specs.declared.settings.Value.{Value}
 use Rattle.job_words.specs.declared.settings.Value.TheVariants.{Named, Chosen}
 use Rattle.job_words.specs.declared.settings.Setting.{Setting}
-use Rattle.job_words.specs.Words.{same, is_empty, before_equals, after_equals, row_of, value_at, is_taken, within, is_numeral, value_of, set_to, setting_by, setting_of}
-use Rattle.job_words.specs.Jobs.{IsOfKind}
+use Rattle.job_words.specs.Texts.{is_empty, same_text}
+use Rattle.job_words.specs.Tables.{IsOfKind, texts_of}
+use Rattle.job_words.specs.Words.{before_equals, after_equals, row_of, value_at, is_taken, in_range, is_among, is_numeral, lies_within, position_value, number_of, value_of, set_to, setting_by, setting_of}
 
 pub record Accepted (rows : List Row) (settings : List Setting) (new : Setting) : Type 0 where
   pub row : Row
@@ -39,27 +42,62 @@ given : (bytes : List ℕ) → is_empty bytes ≡ false → bytes ≢ []
 given [] e = absurd (cc)
 given (b ∷ bytes) e = λ h. cc
 
-both : (least most n : ℕ) → (nat_le least n && nat_le n most) ≡ true → (least ≤ n) × (n ≤ most)
-both least most n e = grind (arith, nat_tests)
-
 record IsRead (kind : Kind) (settings : List Setting) (value : Value) : Type 0 where
   of_kind : IsOfKind kind value
   fresh : (name : List ℕ) → value ≡ Named name → is_taken name settings ≡ false
+
+-- a number that was read passes the test of its range
+record IsNumberRead (test : ℕ → Bool) (value : Value) : Type 0 where
+  number : ℕ
+  passes : test number ≡ true
+  is : value ≡ Chosen (Number number)
+
+number_read : (i : ℕ) (test : ℕ → Bool) (text : List ℕ) (value : Value) → number_of i test text ≡ Ok value → IsNumberRead test value
+number_read i test text value e =
+    let n = digits_value 10 text in
+    let o = other_first (is_numeral text) (BadValue i) (in_range i (test n) n) value e in
+    let p = other_first (test n) (OutOfRange i) (Ok (Chosen (Number n))) value o.1 in
+    let is : Chosen (Number n) ≡ value = cc in
+    record { number = n; passes = p.0; is = sym is }
+
+-- a value that isn't a name is one that no setting has
+chosen_read : (kind : Kind) (settings : List Setting) (choice : Choice) (value : Value) → value ≡ Chosen choice → IsOfKind kind (Chosen choice) → IsRead kind settings value
+chosen_read kind settings choice value is of_kind = record {
+  of_kind = subst (IsOfKind kind) (sym is) of_kind;
+  fresh = λ name named. absurd (cc);
+}
+
+both : (least most n : ℕ) → lies_within least most n ≡ true → (least ≤ n) × (n ≤ most)
+both least most n e = grind (arith, nat_tests)
+
+one_of : (a b c n : ℕ) → is_among a b c n ≡ true → (n ≡ a) ⊎ (n ≡ b) ⊎ (n ≡ c)
+one_of a b c n e = tried (nat_eq n a) (nat_eq n b) (nat_eq n c) refl refl refl e
+  where
+    tried : (x y z : Bool) → nat_eq n a ≡ x → nat_eq n b ≡ y → nat_eq n c ≡ z → (x || y || z) ≡ true → (n ≡ a) ⊎ (n ≡ b) ⊎ (n ≡ c)
+    tried true y z is_a is_b is_c some = inl (eqb-true n a is_a)
+    tried false true z is_a is_b is_c some = inr (inl (eqb-true n b is_b))
+    tried false false true is_a is_b is_c some = inr (inr (eqb-true n c is_c))
+    tried false false false is_a is_b is_c some = absurd (cc)
+
+position_read : (i : ℕ) (settings : List Setting) (texts : Texts) (o : Option ℕ) (text : List ℕ) (value : Value) → position (same_text text) (texts_of texts) ≡ o → position_value i o ≡ Ok value → IsRead (OneOf texts) settings value
+position_read i settings texts None text value found e = absurd (cc)
+position_read i settings texts (Some n) text value found e =
+    let is : Chosen (Nth n) ≡ value = cc in
+    chosen_read (OneOf texts) settings (Nth n) value (sym is) (position-Some (same_text text) (texts_of texts) n [] found).0
 
 read : (i : ℕ) (settings : List Setting) (kind : Kind) (text : List ℕ) (value : Value) → text ≢ [] → value_of i settings kind text ≡ Ok value → IsRead kind settings value
 read i settings FileName text value some e =
     let o = other (is_taken text settings) (SameName i) (Ok (Named text)) value e in
     let is : Named text ≡ value = cc in
-    subst (λ v. IsRead FileName settings v) is (record { of_kind = some; fresh = λ name h. let same_text : text ≡ name = cc in subst (λ t. is_taken t settings ≡ false) same_text o.0 })
+    subst (λ v. IsRead FileName settings v) is (record { of_kind = some; fresh = λ name h. let same_name : text ≡ name = cc in subst (λ t. is_taken t settings ≡ false) same_name o.0 })
 read i settings (Within least most) text value some e =
-    let o = other_first (is_numeral text) (BadValue i) (within i least most (digits_value 10 text)) value e in
-    let p = other_first (nat_le least (digits_value 10 text) && nat_le (digits_value 10 text) most) (OutOfRange i) (Ok (Chosen (Number (digits_value 10 text)))) value o.1 in
-    let is : Chosen (Number (digits_value 10 text)) ≡ value = cc in
-    subst (λ v. IsRead (Within least most) settings v) is (record { of_kind = both least most (digits_value 10 text) p.0; fresh = λ name h. absurd (cc) })
-read i settings Placing text value some e =
-    let o = other_first (same text (codes "grid")) (BadValue i) (Ok (Chosen (Mode Grid))) value e in
-    let is : Chosen (Mode Grid) ≡ value = cc in
-    subst (λ v. IsRead Placing settings v) is (record { of_kind = tt; fresh = λ name h. absurd (cc) })
+    let r = number_read i (lies_within least most) text value e in
+    chosen_read (Within least most) settings (Number r.number) value r.is (both least most r.number r.passes)
+read i settings (Among a b c) text value some e =
+    let r = number_read i (is_among a b c) text value e in
+    chosen_read (Among a b c) settings (Number r.number) value r.is (one_of a b c r.number r.passes)
+read i settings (OneOf texts) text value some e =
+    position_read i settings texts (position (same_text text) (texts_of texts)) text value refl e
 
 set : (key : Key) (r : Result Value WordFault) (new : Setting) → set_to key r ≡ Ok new → (value : Value) × (r ≡ Ok value) × (new.key ≡ key) × (new.value ≡ value)
 set key (Ok value) new e =

@@ -2,10 +2,11 @@
 use Rattle.std.proofs.Common.{◌≡◌, ℕ, ◌+◌, ◌≤◌, List, [], ◌∷◌, ◌++◌, length, refl, sym, ap, ◌∙◌, subst, arith, Bool, true, false, cond}
 use Rattle.std.specs.Prelude.{Option, Some, None, is_some}
 use Rattle.std.specs.Option.{option_or}
-use Rattle.job_words.specs.declared.keys.Row.{Row}
+use Rattle.job_words.specs.declared.table.Row.{Row}
 use Rattle.job_words.specs.declared.settings.Value.{Value}
 use Rattle.job_words.specs.declared.settings.Setting.{Setting}
-use Rattle.job_words.specs.Words.{same_key, has_text, row_of, value_at}
+use Rattle.job_words.specs.Keys.{same_key}
+use Rattle.job_words.specs.Words.{has_text, row_of, value_at}
 use Rattle.job_words.proofs.Keyed.{value_at-append, key_itself}
 use Rattle.job_words.proofs.Accepting.{Accepted}
 

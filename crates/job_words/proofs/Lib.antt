@@ -1,6 +1,8 @@
 pub mod Digits
+pub mod Texting
 pub mod Keyed
 pub mod Accepting
 pub mod Counting
 pub mod Reading
-pub mod Lawful
+pub mod Full
+pub mod GrowLawful

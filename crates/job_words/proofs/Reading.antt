@@ -8,15 +8,17 @@ use Rattle.std.proofs.Math.Seq.{take-suc}
 use Rattle.job_words.specs.declared.job.WordFault.{WordFault}
 use Rattle.job_words.specs.declared.job.WordFault.TheVariants.{NoMemory}
 use Rattle.job_words.specs.declared.keys.Key.{Key}
-use Rattle.job_words.specs.declared.keys.Kind.{Kind}
-use Rattle.job_words.specs.declared.keys.Row.{Row}
+use Rattle.job_words.specs.declared.table.Kind.{Kind}
+use Rattle.job_words.specs.declared.table.Row.{Row}
 use Rattle.job_words.specs.declared.settings.Value.{Value}
 use Rattle.job_words.specs.declared.settings.Value.TheVariants.{Named}
 use Rattle.job_words.specs.declared.settings.Setting.{Setting}
-use Rattle.job_words.specs.Keys.{key_text}
-use Rattle.job_words.specs.Words.{and_then, same, same_key, has_text, row_of, is_of, value_at, is_name, is_taken, setting_of, settings_of, default_of}
-use Rattle.job_words.specs.Jobs.{IsOfKind}
-use Rattle.job_words.proofs.Keyed.{same_itself, key_exact, key_itself, value_at-append}
+use Rattle.job_words.specs.Keys.{key_text, same_key}
+use Rattle.job_words.specs.Texts.{same_text}
+use Rattle.job_words.specs.Words.{and_then, has_text, row_of, is_of, value_at, is_name, is_taken, setting_of, settings_of, default_of}
+use Rattle.job_words.specs.Tables.{IsOfKind}
+use Rattle.job_words.proofs.Texting.{same_itself}
+use Rattle.job_words.proofs.Keyed.{key_exact, key_itself, value_at-append}
 use Rattle.job_words.proofs.Accepting.{Accepted, accepted}
 
 -- the reading after one word more
@@ -82,7 +84,7 @@ kind_of_found (r ∷ rows) text row e = tried (has_text text r) (same_key r.key 
         absurd (cc)
     tried false true test key found later =
         let is : r.key ≡ row.key = key_exact r.key row.key key in
-        let own : has_text text r ≡ true = subst (λ k. same (key_text k) text ≡ true) (sym is) (text_of_found rows text row found) in
+        let own : has_text text r ≡ true = subst (λ k. same_text (key_text k) text ≡ true) (sym is) (text_of_found rows text row found) in
         absurd (cc)
     tried false false test key found later = later found
 

@@ -1,47 +1,56 @@
--- The keys of a command, with the kind of their values and their defaults. (Own.)
-use Rattle.std.specs.Prelude.{ℕ, List, [], ◌∷◌, Option, Some, None, codes}
-use Rattle.job_words.specs.declared.job.Place.TheVariants.{Grid}
+-- The keys as they stand in words. To be trusted: contracts cite these words. (Own.)
+use Rattle.std.specs.Prelude.{ℕ, ◌&&◌, Bool, true, false, nat_eq, List, [], ◌++◌, Option, Some, None, codes, decimal}
 use Rattle.job_words.specs.declared.keys.Key.{Key}
-use Rattle.job_words.specs.declared.keys.Key.TheVariants.{Sample, Out, Map, Cert, Width, Height, Length, N, Frames, Place, Side, Block, Overlap, Tol, Rounds, Seed, Taps, Gap}
-use Rattle.job_words.specs.declared.keys.Kind.{Kind}
-use Rattle.job_words.specs.declared.keys.Kind.TheVariants.{FileName, Within, Placing}
-use Rattle.job_words.specs.declared.keys.Choice.{Choice}
-use Rattle.job_words.specs.declared.keys.Choice.TheVariants.{Number, Mode}
-use Rattle.job_words.specs.declared.keys.Row.{Row}
+use Rattle.job_words.specs.declared.keys.Key.TheVariants.{Sample, More, Target, Marks, Out, Map, Cert, NewMap, NewCert, Width, Height, Length, N, Frames, Place, Side, Block, Overlap, Tol, Alpha, Rounds, Seed, Taps, Gap, Wrap, Turns}
+use Rattle.job_words.specs.Texts.{same_text}
+
+-- a key as it stands in a word, up to the number of a further sample
+abbrev pub key_stem : Key → List ℕ
+key_stem Sample = codes "sample"
+key_stem (More n) = codes "sample"
+key_stem Target = codes "target"
+key_stem Marks = codes "marks"
+key_stem Out = codes "out"
+key_stem Map = codes "map"
+key_stem Cert = codes "record"
+key_stem NewMap = codes "newmap"
+key_stem NewCert = codes "newrecord"
+key_stem Width = codes "width"
+key_stem Height = codes "height"
+key_stem Length = codes "length"
+key_stem N = codes "n"
+key_stem Frames = codes "frames"
+key_stem Place = codes "place"
+key_stem Side = codes "box"
+key_stem Block = codes "block"
+key_stem Overlap = codes "overlap"
+key_stem Tol = codes "tol"
+key_stem Alpha = codes "alpha"
+key_stem Rounds = codes "rounds"
+key_stem Seed = codes "seed"
+key_stem Taps = codes "taps"
+key_stem Gap = codes "gap"
+key_stem Wrap = codes "wrap"
+key_stem Turns = codes "turns"
+
+-- the number of a further sample
+abbrev pub key_number : Key → Option ℕ
+key_number (More n) = Some n
+key_number key = None
+
+abbrev pub number_text : Option ℕ → List ℕ
+number_text None = []
+number_text (Some n) = decimal n
 
 -- a key as it stands in a word
 abbrev pub key_text : Key → List ℕ
-key_text Sample = codes "sample"
-key_text Out = codes "out"
-key_text Map = codes "map"
-key_text Cert = codes "record"
-key_text Width = codes "width"
-key_text Height = codes "height"
-key_text Length = codes "length"
-key_text N = codes "n"
-key_text Frames = codes "frames"
-key_text Place = codes "place"
-key_text Side = codes "box"
-key_text Block = codes "block"
-key_text Overlap = codes "overlap"
-key_text Tol = codes "tol"
-key_text Rounds = codes "rounds"
-key_text Seed = codes "seed"
-key_text Taps = codes "taps"
-key_text Gap = codes "gap"
+key_text key = key_stem key ++ number_text (key_number key)
 
-abbrev row : Key → Kind → Option Choice → Row
-row key kind default = record { key = key; kind = kind; default = default }
+abbrev pub same_number : Option ℕ → Option ℕ → Bool
+same_number None None = true
+same_number (Some m) (Some n) = nat_eq m n
+same_number m n = false
 
--- the keys of `grow`, in the order in which missing ones are looked for; one without a default has to be set
-abbrev pub grow_rows : List Row
-grow_rows =
-    row Sample FileName None
-    ∷ row Out FileName None
-    ∷ row Map FileName None
-    ∷ row Cert FileName None
-    ∷ row Width (Within 1 4096) None
-    ∷ row Height (Within 1 4096) None
-    ∷ row Place Placing (Some (Mode Grid))
-    ∷ row Overlap (Within 0 0) (Some (Number 0))
-    ∷ []
+-- keys are told apart by both
+abbrev pub same_key : Key → Key → Bool
+same_key a b = same_text (key_stem a) (key_stem b) && same_number (key_number a) (key_number b)

@@ -2,17 +2,11 @@
 ghost use Rattle.std.specs.Prelude.{◌≡◌};
 ghost use Rattle.job_words.specs.declared.job.WordFault.TheVariants as word;
 
+use crate::grow::GrowJob;
 use crate::keys::Key;
 use crate::name::Name;
-use cells::Size;
+use cells::Axis;
 use std::alloc::AllocError;
-
-/// How the places of patches are chosen.
-#[derive(Clone, Copy, Debug, Drop, PartialEq, Eq)]
-pub enum Place {
-    /// Copies of the whole sample, laid as tiles.
-    Grid,
-}
 
 /// The files of a run.
 #[derive(Drop)]
@@ -25,17 +19,6 @@ pub struct Names {
     pub map: Name,
     /// The record, by which the result can be checked.
     pub cert: Name,
-}
-
-/// Growing an output from a sample.
-#[derive(Drop)]
-pub struct GrowJob {
-    pub names: Names,
-    /// The output's size in cells: 1 to 4,096 on each axis.
-    pub size: Size,
-    pub place: Place,
-    /// How many cells neighbouring patches share on an axis: 0.
-    pub overlap: u32,
 }
 
 /// What a run is to do.
@@ -57,7 +40,7 @@ pub enum WordFault {
     UnknownKey(u32),
     /// An earlier word has the same key.
     Repeated(u32),
-    /// No word has this key, and it has no default.
+    /// No word has this key, and one has to.
     Missing(Key),
     /// The value is none of the key's kind.
     BadValue(u32),
@@ -65,8 +48,10 @@ pub enum WordFault {
     OutOfRange(u32),
     /// An earlier word has the same file name.
     SameName(u32),
-    /// Want of memory.
+    /// Out of memory.
     NoMemory,
+    /// The output has too few cells on an axis on which its edges are to meet.
+    Narrow(Axis),
 }
 
 impl From<AllocError> for WordFault {

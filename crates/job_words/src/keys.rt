@@ -1,17 +1,25 @@
-// The keys, and the table of the keys of a command.
-ghost use Rattle.std.specs.Prelude.{◌≡◌, List, IsTrue};
-ghost use Rattle.job_words.specs.Keys.{key_text, grow_rows};
+// The keys of all commands.
+ghost use Rattle.std.specs.Prelude.{◌≡◌, ◌++◌, decimal};
+ghost use Rattle.job_words.specs.Keys.{key_stem, key_number, key_text};
+ghost use Rattle.job_words.specs.Texts.{same_text};
 
-use crate::job::Place;
+use itoa::Buffer;
 
 /// The keys of all commands, in the order in which missing ones are looked for.
 #[derive(Clone, Copy, Debug, Drop, PartialEq, Eq)]
 pub enum Key {
     Sample,
+    /// The key `sample` with a number, from 2 to 16.
+    More(u8),
+    Target,
+    Marks,
     Out,
     Map,
     /// The key `record`.
     Cert,
+    NewMap,
+    /// The key `newrecord`.
+    NewCert,
     Width,
     Height,
     Length,
@@ -23,22 +31,29 @@ pub enum Key {
     Block,
     Overlap,
     Tol,
+    Alpha,
     Rounds,
     Seed,
     Taps,
     Gap,
+    Wrap,
+    Turns,
 }
 
 impl Key {
-    /// The key as it stands in a word.
-    pub fn text(self) -> &'static str
-        ensures { result.now ≡ key_text self }
+    /// The key as it stands in a word, up to the number of a further sample.
+    pub fn stem(self) -> &'static str
+        ensures { result.now ≡ key_stem self }
     {
         match self {
-            Key::Sample => "sample",
+            Key::Sample | Key::More(_) => "sample",
+            Key::Target => "target",
+            Key::Marks => "marks",
             Key::Out => "out",
             Key::Map => "map",
             Key::Cert => "record",
+            Key::NewMap => "newmap",
+            Key::NewCert => "newrecord",
             Key::Width => "width",
             Key::Height => "height",
             Key::Length => "length",
@@ -49,90 +64,44 @@ impl Key {
             Key::Block => "block",
             Key::Overlap => "overlap",
             Key::Tol => "tol",
+            Key::Alpha => "alpha",
             Key::Rounds => "rounds",
             Key::Seed => "seed",
             Key::Taps => "taps",
             Key::Gap => "gap",
+            Key::Wrap => "wrap",
+            Key::Turns => "turns",
+        }
+    }
+
+    /// The number that ends the key of a further sample.
+    pub fn number(self) -> Option<u8>
+        ensures { result ≡ key_number self }
+    {
+        match self {
+            Key::More(number) => Some(number),
+            _ => None,
+        }
+    }
+
+    // Whether the key stands in a word as this text.
+    pub(crate) fn has_text(self, text: &str) -> bool
+        ensures { result ≡ same_text (key_text self) text.now }
+    {
+        match self.number() {
+            Some(number) => is_numbered(self.stem(), number, text),
+            None => self.stem() == text,
         }
     }
 }
 
-/// What stands behind the `=` of a key.
-#[derive(Clone, Copy, Debug, Drop, PartialEq, Eq)]
-pub enum Kind {
-    FileName,
-    /// A number between two bounds, both included.
-    Within { least: u64, most: u64 },
-    /// The text of a `Place`.
-    Placing,
-}
-
-/// A value that is no file name.
-#[derive(Clone, Copy, Debug, Drop, PartialEq, Eq)]
-pub enum Choice {
-    Number(u64),
-    Mode(Place),
-}
-
-/// A key of a command. One without a default has to be set by a word.
-#[derive(Drop)]
-pub struct Row {
-    pub key: Key,
-    pub kind: Kind,
-    pub default: Option<Choice>,
-}
-
-const AXIS: Kind = Kind::Within {
-    least: 1,
-    most: 4096,
-};
-
-// The keys of `grow`.
-const GROW_ROWS: [Row; 8] = [
-    Row {
-        key: Key::Sample,
-        kind: Kind::FileName,
-        default: None,
-    },
-    Row {
-        key: Key::Out,
-        kind: Kind::FileName,
-        default: None,
-    },
-    Row {
-        key: Key::Map,
-        kind: Kind::FileName,
-        default: None,
-    },
-    Row {
-        key: Key::Cert,
-        kind: Kind::FileName,
-        default: None,
-    },
-    Row {
-        key: Key::Width,
-        kind: AXIS,
-        default: None,
-    },
-    Row {
-        key: Key::Height,
-        kind: AXIS,
-        default: None,
-    },
-    Row {
-        key: Key::Place,
-        kind: Kind::Placing,
-        default: Some(Choice::Mode(Place::Grid)),
-    },
-    Row {
-        key: Key::Overlap,
-        kind: Kind::Within { least: 0, most: 0 },
-        default: Some(Choice::Number(0)),
-    },
-];
-
-pub fn grow_keys() -> &'static [Row]
-    ensures { result.now ≡ grow_rows }
+// The text is a stem, and then the number in decimal.
+fn is_numbered(stem: &str, number: u8, text: &str) -> bool
+    ensures { result ≡ same_text (stem.now ++ decimal number) text.now }
 {
-    &GROW_ROWS
+    let mut buffer = Buffer::new();
+    match text.as_bytes().strip_prefix(stem.as_bytes()) {
+        Some(rest) => rest == buffer.format(number).as_bytes(),
+        None => false,
+    }
 }

@@ -1,19 +1,24 @@
 //! The words of a run, and the job that they ask for.
 //!
 //! `read_job` gives exactly the job of a list of words or its first refusal, for every list of words
-//! (specs/Words.antt, over the table of keys in specs/Keys.antt), and a job that it gives has values
-//! in the ranges of its keys and file names that differ (specs/Jobs.antt). `job` has the jobs and
-//! refusals, `keys` the table, `settings` the reading of one word, and `read` the order of trial.
+//! (specs/Jobs.antt), and a job that it gives has values in the ranges of its keys and file names that
+//! differ. specs/Words.antt has the settings of words by a table of keys, and specs/Tables.antt the
+//! kinds of values. Each command has a module with its table and its job, as `grow`; README.md says
+//! how one is added.
 #![tactic(auto)]
 
+mod fields;
+mod grow;
 mod job;
 mod keys;
 mod name;
 mod read;
 mod settings;
+mod table;
 
 pub use cells::Taps;
-pub use job::{GrowJob, Job, Names, Place, WordFault};
+pub use grow::{GrowJob, Place};
+pub use job::{Job, Names, WordFault};
 pub use keys::Key;
 pub use name::{Name, Words};
 pub use read::read_job;

@@ -61,7 +61,7 @@ impl Words {
         }
     }
 
-    /// Adds a word behind the others.
+    /// Adds a word after the others.
     pub fn push(&mut self, word: &str) -> Result<(), AllocError>
         ensures ok { OnOk result (self.new ≡ self.old ++ word.now ∷ []) }
         ensures err { OnErr result (self.new ≡ self.old) }

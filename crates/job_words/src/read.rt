@@ -1,15 +1,14 @@
 // All words of a run, in the order in which their refusals are tried.
-ghost use Rattle.std.specs.Prelude.{◌≡◌, ◌⊎◌, ◌<◌, ◌++◌, ◌∷◌, [], Ok, Err, IsErrOf, IfOk, IfErr, OnOk, length, option_copied};
-ghost use Rattle.job_words.specs.Keys.{grow_rows};
+ghost use Rattle.std.specs.Prelude.{◌≡◌, ◌⊎◌, ◌<◌, ◌++◌, ◌∷◌, [], Ok, Err, IfOk, IfErr, OnOk, length, option_copied};
 ghost use Rattle.job_words.specs.Words as by;
-ghost use Rattle.job_words.specs.Words.{job_of};
-ghost use Rattle.job_words.specs.Jobs.{IsFull, IsJob};
+ghost use Rattle.job_words.specs.Jobs.{IsJob, job_of};
 
-use crate::job::{GrowJob, Job, Names, Place, WordFault};
-use crate::keys::{Choice, Key, Row, grow_keys};
+use crate::grow::read_grow;
+use crate::job::{Job, WordFault};
+use crate::keys::Key;
 use crate::name::{Name, Words};
 use crate::settings::{Setting, Value, read_setting, value_at};
-use cells::Size;
+use crate::table::{Choice, Need, Row};
 use std::alloc::{AllocError, Global};
 
 fn add(settings: &mut Vec<Setting>, setting: Setting) -> Result<(), AllocError>
@@ -19,11 +18,13 @@ fn add(settings: &mut Vec<Setting>, setting: Setting) -> Result<(), AllocError>
     Ok(())
 }
 
-// The settings of the words behind the command.
+// The settings of the words after the command.
 fn read_settings(alloc: Global, rows: &[Row], words: &[Name]) -> Result<Vec<Setting>, WordFault>
     requires { length rows.now < 100 }
-    ensures ok { IfOk result (λ settings. by.settings_of rows.now 2 [] words.now ≡ Ok settings.items) }
-    ensures err { IfErr result (λ fault. (by.settings_of rows.now 2 [] words.now ≡ Err fault) ⊎ (fault ≡ WordFault.NoMemory)) }
+    ensures ok { IfOk result (λ settings.
+        by.settings_of rows.now 2 [] words.now ≡ Ok settings.items) }
+    ensures err { IfErr result (λ fault.
+        (by.settings_of rows.now 2 [] words.now ≡ Err fault) ⊎ (fault ≡ WordFault.NoMemory)) }
 {
     let mut settings = Vec::new(alloc);
     for word in words {
@@ -35,18 +36,27 @@ fn read_settings(alloc: Global, rows: &[Row], words: &[Name]) -> Result<Vec<Sett
     Ok(settings)
 }
 
+fn default_in(need: Need) -> Option<Choice>
+    ensures { result ≡ by.default_in need }
+{
+    match need {
+        Need::Default(choice) => Some(choice),
+        _ => None,
+    }
+}
+
 // The setting that a default makes.
 fn default_of(row: &Row) -> Option<Setting>
     ensures { result ≡ by.default_of row.now }
 {
-    let choice = row.default?;
+    let choice = default_in(row.need)?;
     Some(Setting {
         key: row.key,
         value: Value::Chosen(choice),
     })
 }
 
-// Puts the defaults behind the settings of the words.
+// Puts the defaults after the settings of the words.
 fn add_defaults(rows: &[Row], settings: &mut Vec<Setting>) -> Result<(), AllocError>
     ensures { OnOk result (settings.new.items ≡ by.with_defaults rows.now settings.old.items) }
 {
@@ -58,25 +68,53 @@ fn add_defaults(rows: &[Row], settings: &mut Vec<Setting>) -> Result<(), AllocEr
     Ok(())
 }
 
-// The row has no value.
+fn is_greater(number: Option<u8>, other: Option<u8>) -> bool
+    ensures { result ≡ by.is_greater number other }
+{
+    match (number, other) {
+        (Some(number), Some(other)) => number < other,
+        _ => false,
+    }
+}
+
+// A further sample of a greater number is set.
+fn is_below_another(settings: &[Setting], key: Key) -> bool
+    ensures { result ≡ by.is_below_another settings.now key }
+{
+    settings
+        .iter()
+        .any(|setting| is_greater(key.number(), setting.key.number()))
+}
+
+fn is_needed(settings: &[Setting], key: Key, need: Need) -> bool
+    ensures { result ≡ by.is_needed settings.now key need }
+{
+    match need {
+        Need::BelowAnother => is_below_another(settings, key),
+        Need::Always | Need::Default(_) => true,
+    }
+}
+
+// The row has no value, and needs one.
 fn is_missing(row: &Row, settings: &[Setting]) -> bool
     ensures { result ≡ by.is_missing settings.now row.now }
 {
-    value_at(settings, row.key).is_none()
+    value_at(settings, row.key).is_none() && is_needed(settings, row.key, row.need)
 }
 
-// The first key without a value.
+// The first key that is missing.
 fn first_missing<'a>(rows: &'a [Row], settings: &[Setting]) -> Option<&'a Row>
     ensures { option_copied result ≡ by.first_missing rows.now settings.now }
 {
     rows.iter().find(|row| is_missing(row, settings))
 }
 
-// The value of each key, by the words and the defaults.
-fn all_settings(alloc: Global, rows: &[Row], words: &[Name]) -> Result<Vec<Setting>, WordFault>
+/// The value of each key, by the words after the command and the defaults.
+pub fn all_settings(alloc: Global, rows: &[Row], words: &[Name]) -> Result<Vec<Setting>, WordFault>
     requires { length rows.now < 100 }
     ensures ok { IfOk result (λ settings. by.all_settings rows.now words.now ≡ Ok settings.items) }
-    ensures err { IfErr result (λ fault. (by.all_settings rows.now words.now ≡ Err fault) ⊎ (fault ≡ WordFault.NoMemory)) }
+    ensures err { IfErr result (λ fault.
+        (by.all_settings rows.now words.now ≡ Err fault) ⊎ (fault ≡ WordFault.NoMemory)) }
 {
     let mut settings = read_settings(alloc, rows, words)?;
     add_defaults(rows, &mut settings)?;
@@ -86,90 +124,18 @@ fn all_settings(alloc: Global, rows: &[Row], words: &[Name]) -> Result<Vec<Setti
     }
 }
 
-// The file name of a key; empty where it has none.
-fn text_at(settings: &[Setting], key: Key) -> &str
-    ensures { result.now ≡ by.text_in (by.value_at key settings.now) }
-{
-    match value_at(settings, key) {
-        Some(Value::Named(name)) => name.as_text(),
-        _ => "",
-    }
-}
-
-// The number of a key; 0 where it has none.
-fn number_at(settings: &[Setting], key: Key) -> u64
-    ensures { result ≡ by.number_in (by.value_at key settings.now) }
-{
-    match value_at(settings, key) {
-        Some(Value::Chosen(Choice::Number(number))) => *number,
-        _ => 0,
-    }
-}
-
-// The mode of a key; `grid` where it has none.
-fn place_at(settings: &[Setting], key: Key) -> Place
-    ensures { result ≡ by.place_in (by.value_at key settings.now) }
-{
-    match value_at(settings, key) {
-        Some(Value::Chosen(Choice::Mode(place))) => *place,
-        _ => Place::Grid,
-    }
-}
-
-// The file names of a run.
-fn names_at(alloc: Global, settings: &[Setting]) -> Result<Names, AllocError>
-    ensures { IfOk result (λ names. names ≡ by.names_of settings.now) }
-{
-    Ok(Names {
-        sample: Name::copy(alloc, text_at(settings, Key::Sample))?,
-        out: Name::copy(alloc, text_at(settings, Key::Out))?,
-        map: Name::copy(alloc, text_at(settings, Key::Map))?,
-        cert: Name::copy(alloc, text_at(settings, Key::Cert))?,
-    })
-}
-
-fn grow_job(alloc: Global, settings: &[Setting]) -> Result<Job, AllocError>
-    requires { IsFull grow_rows settings.now }
-    ensures { IfOk result (λ job. job ≡ by.grow_of settings.now) }
-{
-    let names = names_at(alloc, settings)?;
-    let size = Size {
-        w: number_at(settings, Key::Width) as u32,
-        h: number_at(settings, Key::Height) as u32,
-        f: 1,
-    };
-    let place = place_at(settings, Key::Place);
-    let overlap = number_at(settings, Key::Overlap) as u32;
-    Ok(Job::Grow(GrowJob {
-        names,
-        size,
-        place,
-        overlap,
-    }))
-}
-
-// The words behind the command `grow`.
-fn read_grow(alloc: Global, words: &[Name]) -> Result<Job, WordFault>
-    ensures exact { (result ≡ by.grow_job_of words.now) ⊎ IsErrOf result WordFault.NoMemory }
-    ensures lawful { IfOk result IsJob }
-{
-    let settings = all_settings(alloc, grow_keys(), words)?;
-    let job = grow_job(alloc, &settings)?;
-    Ok(job)
-}
-
 /// The job that words ask for, or the first of their refusals: the command is tried first, then word
 /// by word, with all refusals of a word before the next word, and last the keys that no word sets.
-/// Only want of memory may come at any place.
+/// Only `NoMemory` may come at any place.
 pub fn read_job(alloc: Global, words: &Words) -> Result<Job, WordFault>
-    ensures exact { (result ≡ job_of words.now) ⊎ IsErrOf result WordFault.NoMemory }
+    ensures exact { by.AnswersAs (job_of words.now) result }
     ensures lawful { IfOk result IsJob }
 {
     let [command, words @ ..] = words.as_slice() else {
         return Err(WordFault::NoCommand);
     };
-    if command.as_text() != "grow" {
-        return Err(WordFault::UnknownCommand);
+    match command.as_text() {
+        "grow" => Ok(Job::Grow(read_grow(alloc, words)?)),
+        _ => Err(WordFault::UnknownCommand),
     }
-    read_grow(alloc, words)
 }

@@ -1,13 +1,14 @@
 // One word as the setting of a key.
-ghost use Rattle.std.specs.Prelude.{◌≡◌, ◌⊎◌, ◌+◌, ◌*◌, ◌^◌, ◌<◌, IsErrOf, option_copied, IsTrue};
+ghost use Rattle.std.specs.Prelude.{◌≡◌, ◌+◌, ◌*◌, ◌^◌, ◌<◌, option_copied, IsTrue};
 ghost use Rattle.std.specs.Option.{SomeIff};
 ghost use Rattle.std.specs.Char.{is_ascii_digit, digit_value};
 ghost use Rattle.std.specs.Str.Parse.{digits_value};
 ghost use Rattle.job_words.specs.Words as by;
 
-use crate::job::{Place, WordFault};
-use crate::keys::{Choice, Key, Kind, Row};
+use crate::job::WordFault;
+use crate::keys::Key;
 use crate::name::Name;
+use crate::table::{Choice, Kind, Row, Texts};
 use std::alloc::Global;
 
 /// The value of a key.
@@ -58,7 +59,7 @@ fn is_taken(settings: &[Setting], text: &str) -> bool
 
 // A file name that no earlier word has.
 fn read_name(alloc: Global, i: u32, settings: &[Setting], text: &str) -> Result<Value, WordFault>
-    ensures { (result ≡ by.name_of i settings.now text.now) ⊎ IsErrOf result WordFault.NoMemory }
+    ensures { by.AnswersAs (by.name_of i settings.now text.now) result }
 {
     if is_taken(settings, text) {
         return Err(WordFault::SameName(i));
@@ -77,7 +78,8 @@ fn is_number(text: &str) -> bool
 // The number that has one digit more, where it is below 2^64.
 fn with_digit(number: u64, digit: u8) -> Option<u64>
     requires { IsTrue (is_ascii_digit digit) }
-    ensures { SomeIff result (number * 10 + digit_value digit < 2 ^ 64) (number * 10 + digit_value digit) }
+    ensures { let longer = number * 10 + digit_value digit in
+        SomeIff result (longer < 2 ^ 64) longer }
 {
     number.checked_mul(10)?.checked_add(u64::from(digit - b'0'))
 }
@@ -99,7 +101,7 @@ fn number_of(digits: &[u8]) -> Option<u64>
 
 // A number between its bounds. One of 2^64 or more is above every bound.
 fn read_number(i: u32, least: u64, most: u64, text: &str) -> Result<Value, WordFault>
-    ensures { result ≡ by.number_of i least most text.now }
+    ensures { result ≡ by.number_of i (by.lies_within least most) text.now }
 {
     if !is_number(text) {
         return Err(WordFault::BadValue(i));
@@ -112,13 +114,28 @@ fn read_number(i: u32, least: u64, most: u64, text: &str) -> Result<Value, WordF
     }
 }
 
-fn read_place(i: u32, text: &str) -> Result<Value, WordFault>
-    ensures { result ≡ by.place_of i text.now }
+// One of three numbers.
+fn read_one(i: u32, a: u64, b: u64, c: u64, text: &str) -> Result<Value, WordFault>
+    ensures { result ≡ by.number_of i (by.is_among a b c) text.now }
 {
-    if text == "grid" {
-        Ok(Value::Chosen(Choice::Mode(Place::Grid)))
-    } else {
-        Err(WordFault::BadValue(i))
+    if !is_number(text) {
+        return Err(WordFault::BadValue(i));
+    }
+    match number_of(text.as_bytes()) {
+        Some(number) if number == a || number == b || number == c => {
+            Ok(Value::Chosen(Choice::Number(number)))
+        }
+        _ => Err(WordFault::OutOfRange(i)),
+    }
+}
+
+// One of the texts of a list.
+fn read_text(i: u32, texts: Texts, text: &str) -> Result<Value, WordFault>
+    ensures { result ≡ by.text_value i texts text.now }
+{
+    match texts.position(text) {
+        Some(n) => Ok(Value::Chosen(Choice::Nth(n))),
+        None => Err(WordFault::BadValue(i)),
     }
 }
 
@@ -130,12 +147,13 @@ fn read_value(
     kind: Kind,
     text: &str,
 ) -> Result<Value, WordFault>
-    ensures { (result ≡ by.value_of i settings.now kind text.now) ⊎ IsErrOf result WordFault.NoMemory }
+    ensures { by.AnswersAs (by.value_of i settings.now kind text.now) result }
 {
     match kind {
         Kind::FileName => read_name(alloc, i, settings, text),
         Kind::Within { least, most } => read_number(i, least, most, text),
-        Kind::Placing => read_place(i, text),
+        Kind::Among(a, b, c) => read_one(i, a, b, c, text),
+        Kind::OneOf(texts) => read_text(i, texts, text),
     }
 }
 
@@ -143,7 +161,7 @@ fn read_value(
 fn has_text(row: &Row, text: &str) -> bool
     ensures { result ≡ by.has_text text.now row.now }
 {
-    row.key.text() == text
+    row.key.has_text(text)
 }
 
 // The key with this text.
@@ -162,7 +180,8 @@ fn read_pair(
     key: &str,
     value: &str,
 ) -> Result<Setting, WordFault>
-    ensures { (result ≡ by.setting_by i settings.now (by.row_of rows.now key.now) value.now) ⊎ IsErrOf result WordFault.NoMemory }
+    ensures { by.AnswersAs (by.setting_by i settings.now (by.row_of rows.now key.now) value.now)
+        result }
 {
     let Some(row) = row_of(rows, key) else {
         return Err(WordFault::UnknownKey(i));
@@ -185,7 +204,7 @@ pub fn read_setting(
     settings: &[Setting],
     word: &str,
 ) -> Result<Setting, WordFault>
-    ensures { (result ≡ by.setting_of rows.now i settings.now word.now) ⊎ IsErrOf result WordFault.NoMemory }
+    ensures { by.AnswersAs (by.setting_of rows.now i settings.now word.now) result }
 {
     let Some((key, value)) = word.split_once('=') else {
         return Err(WordFault::BadWord(i));

@@ -1,7 +1,7 @@
 // Why a run ends without its result.
 ghost use Rattle.std.specs.Prelude.{◌≡◌};
 ghost use Rattle.synth_report.specs.declared.fault.Fault.TheVariants as of;
-ghost use Rattle.synth_report.specs.Texts.{file_text, status_of};
+ghost use Rattle.synth_report.specs.Texts.{file_stem, file_number, status_of};
 
 use job_words::WordFault;
 use shelf_core::{FormFault, What};
@@ -11,24 +11,48 @@ use std::alloc::AllocError;
 #[derive(Clone, Copy, Debug, Drop, PartialEq, Eq)]
 pub enum FileOf {
     Sample,
+    /// A further sample, by its number from 2 to 16.
+    More(u8),
+    /// The picture that a transfer paints.
+    Target,
+    /// The marks of a merge.
+    Marks,
     Out,
     Map,
     /// The record.
     Cert,
+    /// The map that an upgrade writes.
+    NewMap,
+    /// The record that an upgrade writes.
+    NewCert,
     Report,
 }
 
 impl FileOf {
-    // The file as it stands in a line.
-    pub(crate) fn text(self) -> &'static str
-        ensures { result.now ≡ file_text self }
+    // The file as it stands in a line, up to the number of a further sample.
+    pub(crate) fn stem(self) -> &'static str
+        ensures { result.now ≡ file_stem self }
     {
         match self {
-            FileOf::Sample => "sample",
+            FileOf::Sample | FileOf::More(_) => "sample",
+            FileOf::Target => "target",
+            FileOf::Marks => "marks",
             FileOf::Out => "out",
             FileOf::Map => "map",
             FileOf::Cert => "record",
+            FileOf::NewMap => "newmap",
+            FileOf::NewCert => "newrecord",
             FileOf::Report => "report",
+        }
+    }
+
+    // The number of a further sample.
+    pub(crate) fn number(self) -> Option<u8>
+        ensures { result ≡ file_number self }
+    {
+        match self {
+            FileOf::More(number) => Some(number),
+            _ => None,
         }
     }
 }
@@ -40,13 +64,17 @@ pub enum Fault {
     Words(WordFault),
     /// A file's bytes break its form.
     Form { file: FileOf, why: FormFault },
+    /// A file doesn't go with the first sample: another form, maxval, colour kind or size.
+    Unlike(FileOf),
+    /// The cell of the marks at this raster index marks no picture.
+    Mark(u32),
     /// A number passes its bound.
     Limit { what: What, number: u64, bound: u64 },
     /// A file can't be read.
     Read(FileOf),
     /// A file can't be written whole.
     Write(FileOf),
-    /// Want of memory.
+    /// Out of memory.
     NoMemory,
     /// The sample has no loop of this length.
     NoLoop(u32),
@@ -69,14 +97,14 @@ impl From<AllocError> for Fault {
 }
 
 /// The status that a run with this fault ends with: 2 for words, 3 for a form, 4 for a limit, 5 for a
-/// read and 6 for a write that failed, 7 for want of memory, 8 where there is no loop.
+/// read and 6 for a write that failed, 7 where memory ran out, 8 where there is no loop.
 pub fn status(fault: &Fault) -> u8
     ensures { result ≡ status_of fault.now }
 {
     match fault {
         Fault::Words(WordFault::NoMemory) | Fault::NoMemory => 7,
         Fault::Words(_) => 2,
-        Fault::Form { .. } => 3,
+        Fault::Form { .. } | Fault::Unlike(_) | Fault::Mark(_) => 3,
         Fault::Limit { .. } => 4,
         Fault::Read(_) => 5,
         Fault::Write(_) => 6,

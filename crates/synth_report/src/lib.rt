@@ -8,11 +8,13 @@
 
 mod fault;
 mod piece;
+mod reports;
 mod say;
 mod summary;
 
 pub use fault::{Fault, FileOf, status};
-pub use say::{report, say_fault};
+pub use reports::report;
+pub use say::say_fault;
 pub use summary::Summary;
 
 #[cfg(test)]

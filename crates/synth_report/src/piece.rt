@@ -1,5 +1,5 @@
-// A text that is told in pieces.
-ghost use Rattle.synth_report.specs.Telling.{piece_text, text_of, Tells};
+// A text that is told in pieces, one after another.
+ghost use Rattle.synth_report.specs.Telling.{piece_text, joined_texts, TellsText};
 
 use itoa::Buffer;
 use shelf_core::{Sink, WriteFault};
@@ -9,25 +9,30 @@ use shelf_core::{Sink, WriteFault};
 pub enum Piece<'a> {
     Text(&'a str),
     Number(u64),
+    Short(u32),
+    /// A number, or nothing.
+    Maybe(Option<u8>),
 }
 
 // Tells one piece.
 fn tell_piece<E: Sink>(piece: Piece<'_>, sink: &mut E) -> Result<(), WriteFault>
-    ensures { Tells (piece_text piece.entry) (E.state sink.old) (E.state sink.new) result }
+    ensures { TellsText (piece_text piece.entry) (E.state sink.old) (E.state sink.new) result }
 {
+    let mut buffer = Buffer::new();
     match piece {
         Piece::Text(text) => sink.add(text.as_bytes())?,
-        Piece::Number(number) => {
-            let mut buffer = Buffer::new();
-            sink.add(buffer.format(number).as_bytes())?
-        }
+        Piece::Number(number) => sink.add(buffer.format(number).as_bytes())?,
+        Piece::Short(number) => sink.add(buffer.format(number).as_bytes())?,
+        Piece::Maybe(Some(number)) => sink.add(buffer.format(number).as_bytes())?,
+        Piece::Maybe(None) => sink.add(b"")?,
     }
     Ok(())
 }
 
 /// Tells pieces one after another, up to a failure.
 pub fn tell<E: Sink>(pieces: &[Piece<'_>], sink: &mut E) -> Result<(), WriteFault>
-    ensures { Tells (text_of pieces.now) (E.state sink.old) (E.state sink.new) result }
+    ensures { TellsText (joined_texts piece_text pieces.now)
+        (E.state sink.old) (E.state sink.new) result }
 {
     for piece in pieces {
         tell_piece(*piece, sink)?;

@@ -1,12 +1,10 @@
-use Rattle.std.proofs.Common.{◌≡◌}
-use Rattle.job_words.specs.Keys.{key_text}
 use Rattle.synth_report.proofs.say.tell_words.Goals as goal
 
 pub returns-in-NoCommand : goal.returns-in-NoCommand
-returns-in-NoCommand g c = rw c.in-NoCommand.is c.tell.ensures
+returns-in-NoCommand g c = rw c.in-NoCommand.is c.tell_plain.ensures
 
 pub returns-in-UnknownCommand : goal.returns-in-UnknownCommand
-returns-in-UnknownCommand g c = rw c.in-UnknownCommand.is c.tell-in-UnknownCommand.ensures
+returns-in-UnknownCommand g c = rw c.in-UnknownCommand.is c.tell_plain-in-UnknownCommand.ensures
 
 pub returns-in-BadWord : goal.returns-in-BadWord
 returns-in-BadWord g c = rw c.in-BadWord.is c.tell_word.ensures
@@ -18,9 +16,7 @@ pub returns-in-Repeated : goal.returns-in-Repeated
 returns-in-Repeated g c = rw c.in-Repeated.is c.tell_word-in-Repeated.ensures
 
 pub returns-in-Missing : goal.returns-in-Missing
-returns-in-Missing g c =
-    let same : c.text.result.now ≡ key_text c.in-Missing.key = c.text.ensures in
-    rw (c.in-Missing.is, ← same) c.tell-in-Missing.ensures
+returns-in-Missing g c = rw c.in-Missing.is c.tell_missing.ensures
 
 pub returns-in-BadValue : goal.returns-in-BadValue
 returns-in-BadValue g c = rw c.in-BadValue.is c.tell_word-in-BadValue.ensures
@@ -32,4 +28,7 @@ pub returns-in-SameName : goal.returns-in-SameName
 returns-in-SameName g c = rw c.in-SameName.is c.tell_word-in-SameName.ensures
 
 pub returns-in-NoMemory : goal.returns-in-NoMemory
-returns-in-NoMemory g c = rw c.in-NoMemory.is c.tell-in-NoMemory.ensures
+returns-in-NoMemory g c = rw c.in-NoMemory.is c.tell_plain-in-NoMemory.ensures
+
+pub returns-in-Narrow : goal.returns-in-Narrow
+returns-in-Narrow g c = rw c.in-Narrow.is c.tell_narrow.ensures

@@ -1,0 +1,81 @@
+// The table of the keys of a command: the kind of each value, and what holds where no word sets it.
+ghost use Rattle.std.specs.Prelude.{◌≡◌, map, position};
+ghost use Rattle.job_words.specs.Texts.{same_text};
+ghost use Rattle.job_words.specs.Tables.{texts_of};
+
+use crate::keys::Key;
+
+/// Lists of texts, of which a value is one.
+#[derive(Clone, Copy, Drop)]
+pub enum Texts {
+    /// How the places of patches are chosen.
+    Places,
+    /// The axes on which an output's edges meet.
+    Wraps,
+    /// Whether the samples are turned.
+    Turns,
+}
+
+impl Texts {
+    fn all(self) -> &'static [&'static str]
+        ensures { map (λ text. text.now) result.now ≡ texts_of self }
+    {
+        match self {
+            Texts::Places => &["grid"],
+            Texts::Wraps => &["x", "y", "xy", "f", "xyf"],
+            Texts::Turns => &["none", "all"],
+        }
+    }
+
+    /// The position of a text in its list, from 0.
+    pub fn position(self, text: &str) -> Option<usize>
+        ensures { result ≡ position (same_text text.now) (texts_of self) }
+    {
+        position_of(self.all(), text)
+    }
+}
+
+// The position of the first of some texts that is this one.
+fn position_of(texts: &[&str], text: &str) -> Option<usize>
+    ensures { result ≡ position (λ each. same_text text.now each.now) texts.now }
+{
+    texts.iter().position(|each| text == *each)
+}
+
+/// What follows the `=` of a key.
+#[derive(Clone, Copy, Drop)]
+pub enum Kind {
+    FileName,
+    /// A number between two bounds, both included.
+    Within { least: u64, most: u64 },
+    /// One of three numbers. Any other number is out of range.
+    Among(u64, u64, u64),
+    /// One of the texts of a list.
+    OneOf(Texts),
+}
+
+/// A value that is no file name.
+#[derive(Clone, Copy, Drop)]
+pub enum Choice {
+    Number(u64),
+    /// The text at this position of its list, from 0.
+    Nth(usize),
+}
+
+/// When a word has to set a key.
+#[derive(Clone, Copy, Drop)]
+pub enum Need {
+    Always,
+    /// Never: without a word the key has this value.
+    Default(Choice),
+    /// Exactly where a word sets a further sample of a greater number.
+    BelowAnother,
+}
+
+/// A key of a command.
+#[derive(Clone, Copy, Drop)]
+pub struct Row {
+    pub key: Key,
+    pub kind: Kind,
+    pub need: Need,
+}

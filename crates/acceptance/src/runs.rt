@@ -16,6 +16,8 @@ const SIX_MAP: &[u8] = b"\x57\x45\x41\x56\x45\x4d\x41\x50\x01\x00\
 \x00\x00\x00\x00\x00\x00\x00\x00\x00\x00\x00\x00\x00\x00\x00\x00\x00\x00\
 \x00\x00\x00\x00\x00\x00\x00\x00\x00\x00\x00\x00\x00\x00\x00\x00\x00\x00";
 
+const SIX_REPORT: &str = "grow 3x2x1\nplacements 6\nrounds 0\nseams 10710\n";
+
 const FIVE_PICTURE: &[u8] =
     b"P6\n5 1\n255\n\x0a\x0a\x0a\x14\x14\x14\x0a\x0a\x0a\x14\x14\x14\x0a\x0a\x0a";
 
@@ -26,6 +28,8 @@ const FIVE_MAP: &[u8] = b"WEAVEMAP\x01\x00\
 \x00\x00\x00\x00\x00\x00\x00\x01\x00\x00\x00\x00\
 \x00\x00\x00\x00\x00\x00\x00\x01\x00\x00\x00\x00\x00\x00\x00\x00\x00\x00";
 
+const FIVE_REPORT: &str = "grow 5x1x1\nplacements 3\nrounds 0\nseams 3060\n";
+
 #[test]
 fn the_files_after_each_status(rt: HostRuntime) -> Result<(), Fail> {
     let six = Case {
@@ -33,6 +37,7 @@ fn the_files_after_each_status(rt: HostRuntime) -> Result<(), Fail> {
         sample: ONE_CELL,
         failing: Failing::Nothing,
         status: 0,
+        report: SIX_REPORT,
         line: "",
         picture: SIX_PICTURE,
         map: SIX_MAP,
@@ -42,11 +47,13 @@ fn the_files_after_each_status(rt: HostRuntime) -> Result<(), Fail> {
         sample: TWO_CELLS,
         failing: Failing::Nothing,
         status: 0,
+        report: FIVE_REPORT,
         line: "",
         picture: FIVE_PICTURE,
         map: FIVE_MAP,
     };
     let map_fault = "weave: map: write fault\n";
+    let report_fault = "weave: report: write fault\n";
     let cases = [
         Case { ..six },
         Case {
@@ -61,6 +68,7 @@ fn the_files_after_each_status(rt: HostRuntime) -> Result<(), Fail> {
         Case {
             failing: Failing::SampleRead,
             status: 5,
+            report: "",
             line: "weave: sample: read fault\n",
             picture: BEFORE,
             map: BEFORE,
@@ -69,6 +77,7 @@ fn the_files_after_each_status(rt: HostRuntime) -> Result<(), Fail> {
         Case {
             failing: Failing::PictureBegin,
             status: 6,
+            report: "",
             line: "weave: out: write fault\n",
             picture: BEFORE,
             map: BEFORE,
@@ -77,6 +86,7 @@ fn the_files_after_each_status(rt: HostRuntime) -> Result<(), Fail> {
         Case {
             failing: Failing::MapBegin,
             status: 6,
+            report: "",
             line: map_fault,
             map: BEFORE,
             ..five
@@ -84,6 +94,7 @@ fn the_files_after_each_status(rt: HostRuntime) -> Result<(), Fail> {
         Case {
             failing: Failing::MapWrite(0),
             status: 6,
+            report: "",
             line: map_fault,
             map: b"",
             ..five
@@ -91,8 +102,23 @@ fn the_files_after_each_status(rt: HostRuntime) -> Result<(), Fail> {
         Case {
             failing: Failing::MapWrite(1),
             status: 6,
+            report: "",
             line: map_fault,
             map: b"W",
+            ..five
+        },
+        Case {
+            failing: Failing::ReportWrite(0),
+            status: 6,
+            report: "",
+            line: report_fault,
+            ..five
+        },
+        Case {
+            failing: Failing::ReportWrite(2),
+            status: 6,
+            report: "gr",
+            line: report_fault,
             ..five
         },
     ];
@@ -102,25 +128,21 @@ fn the_files_after_each_status(rt: HostRuntime) -> Result<(), Fail> {
     Ok(())
 }
 
-// A refusal of words, said on an `err` whose first write fails: what is said is a prefix of the line.
+// A refusal of words, said on an `err` that keeps so many bytes of its first piece and fails: it has
+// exactly these.
 fn says_a_prefix(alloc: Global, kept: usize) -> Result<bool, Fail> {
     let mut shelf = MemShelf::new(alloc);
     let mut out = MemSink::new(alloc);
     let mut err = MemSink::new(alloc);
     err.fail_at(1, kept)?;
     let status = ran(alloc, "grow sample", &mut shelf, &mut out, &mut err)?;
-    let line = b"weave: word 2: not key=value\n";
-    Ok(
-        status == 2
-            && err.faults() == 1
-            && line.starts_with(err.bytes())
-            && err.bytes().len() <= kept,
-    )
+    let said = b"weave: word 2: not key=value\n".get(..kept);
+    Ok(status == 2 && err.faults() == 1 && said == Some(err.bytes()))
 }
 
 #[test]
 fn a_fault_of_err_changes_no_status(rt: HostRuntime) -> Result<(), Fail> {
-    for kept in [0, 1, 3] {
+    for kept in [0, 1, 12] {
         assert!(rt; says_a_prefix(rt.alloc(), kept)?, "kept {kept}");
     }
     Ok(())
@@ -131,6 +153,7 @@ fn surely_holds(
     alloc: Global,
     words: &str,
     sample: &[u8],
+    report: &str,
     picture: &[u8],
     map: &[u8],
 ) -> Result<bool, Fail> {
@@ -139,7 +162,7 @@ fn surely_holds(
     let mut out = SureSink::make(alloc, 256)?;
     let mut err = SureSink::make(alloc, 256)?;
     let status = ran(alloc, words, &mut shelf, &mut out, &mut err)?;
-    let said = is_file(out.bytes(), b"") && is_file(err.bytes(), b"");
+    let said = is_file(out.bytes(), report.as_bytes()) && is_file(err.bytes(), b"");
     let written = is_file(shelf.file("o"), picture) && is_file(shelf.file("m"), map);
     Ok(status == 0 && said && written && shelf.file("r").is_none())
 }
@@ -163,8 +186,17 @@ fn surely_refused(alloc: Global) -> Result<bool, Fail> {
 #[test]
 fn stores_that_never_fail(rt: HostRuntime) -> Result<(), Fail> {
     let alloc = rt.alloc();
-    assert!(rt; surely_holds(alloc, SIX_CELLS, ONE_CELL, SIX_PICTURE, SIX_MAP)?);
-    assert!(rt; surely_holds(alloc, FIVE_CELLS, TWO_CELLS, FIVE_PICTURE, FIVE_MAP)?);
+    assert!(rt; surely_holds(alloc, SIX_CELLS, ONE_CELL, SIX_REPORT, SIX_PICTURE, SIX_MAP)?);
+    assert!(rt;
+        surely_holds(
+            alloc,
+            FIVE_CELLS,
+            TWO_CELLS,
+            FIVE_REPORT,
+            FIVE_PICTURE,
+            FIVE_MAP
+        )?
+    );
     assert!(rt; surely_refused(alloc)?);
     Ok(())
 }

@@ -1,4 +1,4 @@
-// Great samples and outputs.
+// Great samples and outputs. What a seam between two tiles costs doesn't depend on their cells.
 use crate::stage::{Case, Failing, ONE_CELL, holds, refused};
 use std::alloc::{AllocError, Global};
 use std::test::Fail;
@@ -42,13 +42,44 @@ fn tiled_map(alloc: Global, output: (u16, u16), sample: (u16, u16)) -> Result<Ve
     Ok(bytes)
 }
 
-// So many bytes behind a head, byte i being i mod `period`.
-fn picture(alloc: Global, head: &[u8], count: u32, period: u8) -> Result<Vec<u8>, AllocError> {
-    let mut bytes = Vec::from_slice(alloc, head)?;
+// Byte i is i mod 251, so that no two cells near each other are alike.
+fn raster(alloc: Global, count: u32) -> Result<Vec<u8>, AllocError> {
+    let mut bytes = Vec::new(alloc);
     let mut next = 0u8;
     for _ in 0..count {
         bytes.push(next)?;
-        next = next.wrapping_add(1).checked_rem(period).unwrap_or(0);
+        next = next.wrapping_add(1).checked_rem(251).unwrap_or(0);
+    }
+    Ok(bytes)
+}
+
+// A head, and then bytes.
+fn picture(alloc: Global, head: &[u8], raster: &[u8]) -> Result<Vec<u8>, AllocError> {
+    let mut bytes = Vec::from_slice(alloc, head)?;
+    bytes.extend_from_slice(raster)?;
+    Ok(bytes)
+}
+
+// A row of bytes so many times, one after another.
+fn put_copies(bytes: &mut Vec<u8>, row: &[u8], times: u32) -> Result<(), AllocError> {
+    for _ in 0..times {
+        bytes.extend_from_slice(row)?;
+    }
+    Ok(())
+}
+
+// Copies of rows of so many bytes, side by side, and all of them so many times from the top.
+fn tiled_raster(
+    alloc: Global,
+    sample: &[u8],
+    row: usize,
+    times: u32,
+) -> Result<Vec<u8>, AllocError> {
+    let mut bytes = Vec::new(alloc);
+    for _ in 0..times {
+        for part in sample.chunks(row.max(1)) {
+            put_copies(&mut bytes, part, times)?;
+        }
     }
     Ok(bytes)
 }
@@ -65,14 +96,17 @@ fn an_output_above_the_bound(rt: HostRuntime) -> Result<(), Fail> {
 #[test]
 fn the_greatest_output(rt: HostRuntime) -> Result<(), Fail> {
     let alloc = rt.alloc();
-    let sample = picture(alloc, b"P6\n64 64\n255\n", 12_288, 1)?;
-    let wanted = picture(alloc, b"P6\n1024 1024\n255\n", 3_145_728, 1)?;
+    let cells = raster(alloc, 12_288)?;
+    let sample = picture(alloc, b"P6\n64 64\n255\n", &cells)?;
+    let tiles = tiled_raster(alloc, &cells, 192, 16)?;
+    let wanted = picture(alloc, b"P6\n1024 1024\n255\n", &tiles)?;
     let map = tiled_map(alloc, (1024, 1024), (64, 64))?;
     let case = Case {
         words: "grow sample=s out=o map=m record=r width=1024 height=1024",
         sample: &sample,
         failing: Failing::Nothing,
         status: 0,
+        report: "grow 1024x1024x1\nplacements 256\nrounds 0\nseams 47001600\n",
         line: "",
         picture: &wanted,
         map: &map,
@@ -84,19 +118,17 @@ fn the_greatest_output(rt: HostRuntime) -> Result<(), Fail> {
 #[test]
 fn a_picture_with_a_comment_is_copied(rt: HostRuntime) -> Result<(), Fail> {
     let alloc = rt.alloc();
-    let sample = picture(
-        alloc,
-        b"P6\n# made by a paint program\n640 480\n255\n",
-        921_600,
-        251,
-    )?;
-    let wanted = picture(alloc, b"P6\n640 480\n255\n", 921_600, 251)?;
+    let cells = raster(alloc, 921_600)?;
+    let head = b"P6\n# made by a paint program\n640 480\n255\n";
+    let sample = picture(alloc, head, &cells)?;
+    let wanted = picture(alloc, b"P6\n640 480\n255\n", &cells)?;
     let map = tiled_map(alloc, (640, 480), (640, 480))?;
     let case = Case {
         words: "grow sample=s out=o map=m record=r width=640 height=480 place=grid overlap=0",
         sample: &sample,
         failing: Failing::Nothing,
         status: 0,
+        report: "grow 640x480x1\nplacements 1\nrounds 0\nseams 0\n",
         line: "",
         picture: &wanted,
         map: &map,

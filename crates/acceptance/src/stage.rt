@@ -53,15 +53,21 @@ pub enum Failing {
     PictureBegin,
     MapBegin,
     MapWrite(usize),
+    ReportWrite(usize),
 }
 
-fn list_failing(shelf: &mut MemShelf, failing: Failing) -> Result<(), AllocError> {
+fn list_failing(
+    shelf: &mut MemShelf,
+    out: &mut MemSink,
+    failing: Failing,
+) -> Result<(), AllocError> {
     match failing {
         Failing::Nothing => Ok(()),
         Failing::SampleRead => shelf.fail_at(Call::Get, "s", 1, 0),
         Failing::PictureBegin => shelf.fail_at(Call::Begin, "o", 1, 0),
         Failing::MapBegin => shelf.fail_at(Call::Begin, "m", 1, 0),
         Failing::MapWrite(kept) => shelf.fail_at(Call::Add, "m", 1, kept),
+        Failing::ReportWrite(kept) => out.fail_at(1, kept),
     }
 }
 
@@ -73,30 +79,30 @@ pub struct Case<'a> {
     pub sample: &'a [u8],
     pub failing: Failing,
     pub status: u8,
+    pub report: &'a str,
     pub line: &'a str,
     pub picture: &'a [u8],
     pub map: &'a [u8],
 }
 
-// Runs a case, and says whether all is as it is to be. The sample and the record file stay, and
-// nothing is added to `out`.
+// Runs a case, and says whether all is as it is to be. The sample and the record file stay.
 pub fn holds(alloc: Global, case: &Case) -> Result<bool, Fail> {
     let mut shelf = MemShelf::new(alloc);
     shelf.put_file("s", case.sample)?;
     shelf.put_file("o", BEFORE)?;
     shelf.put_file("m", BEFORE)?;
     shelf.put_file("r", BEFORE)?;
-    list_failing(&mut shelf, case.failing)?;
     let mut out = MemSink::new(alloc);
+    list_failing(&mut shelf, &mut out, case.failing)?;
     let mut err = MemSink::new(alloc);
     let status = ran(alloc, case.words, &mut shelf, &mut out, &mut err)?;
-    let said = out.bytes().is_empty() && err.bytes() == case.line.as_bytes();
+    let said = out.bytes() == case.report.as_bytes() && err.bytes() == case.line.as_bytes();
     let kept = is_file(shelf.file("s"), case.sample) && is_file(shelf.file("r"), BEFORE);
     let written = is_file(shelf.file("o"), case.picture) && is_file(shelf.file("m"), case.map);
     Ok(status == case.status && said && kept && written)
 }
 
-// A run that is refused: every file stays.
+// A run that is refused: every file stays, and nothing is reported.
 pub fn refused<'a>(
     alloc: Global,
     words: &'a str,
@@ -109,6 +115,7 @@ pub fn refused<'a>(
         sample,
         failing: Failing::Nothing,
         status,
+        report: "",
         line,
         picture: BEFORE,
         map: BEFORE,

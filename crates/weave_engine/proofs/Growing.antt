@@ -1,96 +1,75 @@
--- From the reading of the sample to the whole command.
-use Rattle.std.proofs.Common.{◌≡◌, ◌≤◌, inl, sym, subst}
-use Rattle.std.specs.Prelude.{Result, Ok, Err}
+-- What `grow` plans: from the reading of the sample to all that is to be written.
+use Rattle.std.proofs.Common.{◌≡◌, ℕ, ◌≤◌, ◌<◌, inl, inr, List, ap, sym, ◌∙◌, subst, refl, arith}
+use Rattle.cells.specs.Cells.{Cells, IsOnePart}
+use Rattle.cells.specs.Distances.{distance}
 use Rattle.cells.specs.Places.{cell_count}
-use Rattle.shelf_core.specs.Files.{Files, ShelfState, Changes, Rose, OnlyReads, content_of}
-use Rattle.shelf_core.specs.Written.{written, StoppedAt}
-use Rattle.shelf_core.proofs.FileLaws.{told_then, told_both, told_weaker}
+use Rattle.shelf_core.specs.Files.{Files, ShelfState, OnlyReads, Changes, content_of}
+use Rattle.shelf_core.proofs.FileLaws.{told_both, told_weaker}
+use Rattle.shelf_core.specs.declared.fault.What.TheVariants.{Output}
 use Rattle.shelf_core.specs.declared.fault.ReadError.{ReadError}
-use Rattle.shelf_core.specs.declared.fault.ReadError.TheVariants.{ReadFault, Bad, Limit as Passes, NoMemory as OutOfMemory}
-use Rattle.netpbm_p6.specs.Pictures.{IsRead, Refuses, ReadsAs}
-use Rattle.source_map.specs.Canvases.{IsCanvas, Stands}
-use Rattle.job_words.specs.declared.job.GrowJob.{GrowJob}
-use Rattle.job_words.specs.declared.job.Job.{Job}
-use Rattle.job_words.specs.declared.job.Job.TheVariants.{Grow}
-use Rattle.job_words.specs.declared.job.WordFault.{WordFault}
-use Rattle.job_words.specs.Jobs.{IsGrowJob}
-use Rattle.synth_report.specs.declared.fault.FileOf.{FileOf}
-use Rattle.synth_report.specs.declared.fault.FileOf.TheVariants.{Sample, Out, Map, Cert, Report}
+use Rattle.source_map.specs.Maps.{map_at}
+use Rattle.source_map.specs.Canvases.{IsCanvas, StandsOver}
+use Rattle.seams.specs.Costs.{total_of}
+use Rattle.job_words.specs.declared.grow.GrowJob.{GrowJob}
 use Rattle.synth_report.specs.declared.fault.Fault.{Fault}
-use Rattle.synth_report.specs.declared.fault.Fault.TheVariants.{Words, Form, Limit, Read, Write, NoMemory, NoLoop}
+use Rattle.synth_report.specs.declared.fault.Fault.TheVariants.{Limit}
+use Rattle.synth_report.specs.declared.fault.FileOf.TheVariants as part
+use Rattle.run_outcome.specs.Faults.{FailsToRead, fault_of_read}
+use Rattle.run_outcome.specs.Outcomes.{AreRefused, IsPlanned, NoneRefused, NotMade}
+use Rattle.run_outcome.specs.Writing.{texts_in}
+use Rattle.run_outcome.proofs.Halves.{not_read}
+use Rattle.weave_engine.specs.declared.growth.TheConstants.{MOST_OUTPUT_CELLS}
 use Rattle.weave_engine.specs.declared.growth.Growth.{Growth}
-use Rattle.weave_engine.specs.Growths.{IsGrowth, RefusesGrowth, WithGrowth, growth_files, sample_fault}
+use Rattle.weave_engine.specs.declared.sample.Form.{Form}
+use Rattle.weave_engine.specs.declared.sample.Form.TheVariants.{Picture}
+use Rattle.weave_engine.specs.declared.sample.Sample.{Sample}
+use Rattle.weave_engine.specs.Samples.{IsSampleOf, IsSoundIn, IsSoundSample, RefusesSample}
 use Rattle.weave_engine.specs.Tiles.{IsTiled}
-use Rattle.weave_engine.specs.Outcomes.{Grown, GrowWriteRose, PlannedGrowth, RanAs, WroteGrowth, turn_of}
+use Rattle.weave_engine.specs.Growths.{IsGrowth, MakesGrowth, RefusesGrowth, grow_command, growth_files, growth_summary}
 
-module _ (job : GrowJob) (a b : ShelfState) (reads : OnlyReads a b) where
-  -- the sample is refused or not read
-  pub sample_refused : (error : ReadError) → ReadsAs job.names.sample a b (Err error) → PlannedGrowth job a b (Err (sample_fault error))
-  sample_refused ReadFault read = read
-  sample_refused OutOfMemory read = tt
-  sample_refused (Bad why) read = told_both (λ before after. after ≡ before) (λ before after. Refuses (content_of before job.names.sample) (Bad why)) a.files b.files reads.files read
-  sample_refused (Passes what number bound) read =
-      told_weaker (λ before after. (after ≡ before) × Refuses (content_of before job.names.sample) (Passes what number bound)) (RefusesGrowth job (Limit what number bound)) a.files b.files (λ x y p. (p.0, inl p.1))
-      (told_both (λ before after. after ≡ before) (λ before after. Refuses (content_of before job.names.sample) (Passes what number bound)) a.files b.files reads.files read)
+-- a sample that is read has one part
+pub sound_one : (sample : Sample) → IsSoundSample sample → IsOnePart sample.volume
+sound_one sample = by sample.form sample.volume
+  where
+    by : (form : Form) (cells : Cells) → IsSoundIn form cells → IsOnePart cells
+    by (Picture maxval) cells sound = sound.one
 
-  -- the sample is read, and all that is to be written is made
-  pub growth_planned : (growth : Growth) → Changes a b (λ before after. IsRead (content_of before job.names.sample) growth.sample) → cell_count job.size ≤ 1048576
-      → IsTiled job.size growth.sample.volume.size growth.canvas.map → IsCanvas growth.canvas → Stands growth.canvas growth.sample.volume → PlannedGrowth job a b (Ok growth)
-  growth_planned growth read fits tiles canvas stands =
-      told_weaker (λ before after. (after ≡ before) × IsRead (content_of before job.names.sample) growth.sample) (λ before after. (after ≡ before) × IsGrowth job (content_of before job.names.sample) growth) a.files b.files
-      (λ x y p. (p.0, record { sample = p.1; fits = fits; tiles = tiles; canvas = canvas; stands = stands }))
-      (told_both (λ before after. after ≡ before) (λ before after. IsRead (content_of before job.names.sample) growth.sample) a.files b.files reads.files read)
+module _ (job : GrowJob) (a b : ShelfState) (seen : List ℕ) (named : seen ≡ job.names.sample) (reads : OnlyReads a b) where
+  -- the sample is the first file that is read
+  nothing_earlier : Changes a b (λ before after. NoneRefused (grow_command job) 0 before)
+  nothing_earlier = told_weaker (λ before after. after ≡ before) (λ before after. NoneRefused (grow_command job) 0 before) a.files b.files
+      (λ x y same m fault le refuses. omega (arith, le, refuses.0)) reads.files
 
-  -- what was not planned is the command's answer
-  pub not_grown : (fault : Fault) → PlannedGrowth job a b (Err fault) → Grown job a b (Err fault)
-  not_grown (Form Sample why) plan = plan
-  not_grown (Limit what number bound) plan = plan
-  not_grown (Read Sample) plan = (reads.files, plan)
-  not_grown NoMemory plan = reads.files
-  not_grown (Form Out why) plan = absurd plan
-  not_grown (Form Map why) plan = absurd plan
-  not_grown (Form Cert why) plan = absurd plan
-  not_grown (Form Report why) plan = absurd plan
-  not_grown (Read Out) plan = absurd plan
-  not_grown (Read Map) plan = absurd plan
-  not_grown (Read Cert) plan = absurd plan
-  not_grown (Read Report) plan = absurd plan
-  not_grown (Words fault) plan = absurd plan
-  not_grown (Write file) plan = absurd plan
-  not_grown (NoLoop length) plan = absurd plan
+  pub sample_unread : (answer : ReadError) (fault : Fault) → fault ≡ fault_of_read part.Sample answer → FailsToRead RefusesSample seen a b answer → NotMade (grow_command job) a b fault
+  sample_unread answer fault is left =
+      subst (NotMade (grow_command job) a b) (sym is)
+      (not_read (grow_command job) a b 0 part.Sample job.names.sample refl RefusesSample (λ why. inl (why, refl)) (λ what number bound. inr (what, number, bound, refl))
+      (λ files refusal refuses. (refl, inl (refusal, refuses, refl))) nothing_earlier answer (subst (λ name. FailsToRead RefusesSample name a b answer) named left))
 
-  -- a step of the files after what was planned is one of the command
-  pub with_growth : (growth : Growth) (c : ShelfState) (P : Growth → Files → Files → Type 0) → PlannedGrowth job a b (Ok growth) → Changes b c (P growth) → Changes a c (WithGrowth job P)
-  with_growth growth c P plan wrote =
-      told_then (λ before after. (after ≡ before) × IsGrowth job (content_of before job.names.sample) growth) (P growth) (WithGrowth job P) a.files b.files c.files
-      (λ x y z p q. (growth, p.1, subst (λ files. P growth files z) p.0 q)) plan wrote
+  Read : Sample → Files → Files → Type 0
+  Read sample before after = IsSampleOf (content_of before seen) sample
 
-  -- the count of a file's write faults, from the entry on
-  rose_since : (file : FileOf) (c : ShelfState) → GrowWriteRose job file b c → GrowWriteRose job file a c
-  rose_since Out c rose = subst (λ writes. Rose (writes job.names.out) (c.writes job.names.out)) reads.writes rose
-  rose_since Map c rose = subst (λ writes. Rose (writes job.names.map) (c.writes job.names.map)) reads.writes rose
-  rose_since Sample c rose = absurd rose
-  rose_since Cert c rose = absurd rose
-  rose_since Report c rose = absurd rose
+  module _ (sample : Sample) (read : Changes a b (λ before after. IsSampleOf (content_of before seen) sample)) where
+    own : Changes a b (λ before after. IsSampleOf (content_of before job.names.sample) sample)
+    own = subst (λ name. Changes a b (λ before after. IsSampleOf (content_of before name) sample)) named read
 
-  -- the writing of what was planned ends the command
-  pub grown : (growth : Growth) (c : ShelfState) (result : Result (Unit {0}) Fault) → PlannedGrowth job a b (Ok growth) → WroteGrowth job growth b c result → Grown job a c result
-  grown growth c (Ok done) plan wrote = with_growth growth c (λ growth before after. after ≡ written (growth_files job growth) before) plan wrote
-  grown growth c (Err (Write file)) plan wrote = (with_growth growth c (λ growth. StoppedAt (growth_files job growth) (turn_of file)) plan wrote.0, rose_since file c wrote.1)
-  grown growth c (Err (Form file why)) plan wrote = absurd wrote
-  grown growth c (Err (Limit what number bound)) plan wrote = absurd wrote
-  grown growth c (Err (Read file)) plan wrote = absurd wrote
-  grown growth c (Err (Words fault)) plan wrote = absurd wrote
-  grown growth c (Err NoMemory) plan wrote = absurd wrote
-  grown growth c (Err (NoLoop length)) plan wrote = absurd wrote
+    pub output_passes : (cells : ℕ) → cells ≡ cell_count job.size → MOST_OUTPUT_CELLS < cells → AreRefused (grow_command job) (Limit Output cells MOST_OUTPUT_CELLS) a b
+    output_passes cells is passes = record {
+      known = inr (Output, cells, MOST_OUTPUT_CELLS, refl);
+      refused = told_weaker (λ before after. IsSampleOf (content_of before job.names.sample) sample) (λ before after. (n : ℕ) × (grow_command job).Refuses n before (Limit Output cells MOST_OUTPUT_CELLS)) a.files b.files
+          (λ before after stands. (1, (refl, inr (record { read = sample; sample = stands; passes = omega (arith, is, passes); is = ap (λ n. Limit Output n MOST_OUTPUT_CELLS) is })))) own;
+    }
 
--- the command that the words ask for ran
-pub ran_grown : (asked : Result Job WordFault) (job : GrowJob) (a b : ShelfState) (result : Result (Unit {0}) Fault) → asked ≡ Ok (Grow job) → IsGrowJob job → Grown job a b result → RanAs asked a b result
-ran_grown asked job a b (Ok done) e lawful left = subst (λ r. RanAs r a b (Ok done)) (sym e) (lawful, left)
-ran_grown asked job a b (Err (Words fault)) e lawful left = absurd left
-ran_grown asked job a b (Err (Form file why)) e lawful left = subst (λ r. RanAs r a b (Err (Form file why))) (sym e) (lawful, left)
-ran_grown asked job a b (Err (Limit what number bound)) e lawful left = subst (λ r. RanAs r a b (Err (Limit what number bound))) (sym e) (lawful, left)
-ran_grown asked job a b (Err (Read file)) e lawful left = subst (λ r. RanAs r a b (Err (Read file))) (sym e) (lawful, left)
-ran_grown asked job a b (Err (Write file)) e lawful left = subst (λ r. RanAs r a b (Err (Write file))) (sym e) (lawful, left)
-ran_grown asked job a b (Err NoMemory) e lawful left = subst (λ r. RanAs r a b (Err NoMemory)) (sym e) (lawful, left)
-ran_grown asked job a b (Err (NoLoop length)) e lawful left = absurd left
+  module _ (growth : Growth) (read : Changes a b (λ before after. IsSampleOf (content_of before seen) growth.sample)) (fits : cell_count job.size ≤ MOST_OUTPUT_CELLS) (tiles : IsTiled job.size growth.sample.volume.size growth.canvas.map) (canvas : IsCanvas growth.canvas)
+      (stands : StandsOver growth.canvas growth.sample.volume) (seams : growth.seams ≡ total_of (distance growth.sample.volume) growth.canvas.map.size (map_at growth.canvas.map)) where
+    grown : (bytes : List ℕ) → IsSampleOf bytes growth.sample → IsGrowth job bytes growth
+    grown bytes sample = record { sample = sample; fits = fits; tiles = tiles; canvas = canvas; stands = stands; seams = seams }
+
+    pub growth_made : IsPlanned (grow_command job) (growth_files job growth) (growth_summary job growth) a b
+    growth_made = record {
+      known = (_, _, _, _, refl);
+      named = refl;
+      made = told_weaker (λ before after. (after ≡ before) × IsSampleOf (content_of before job.names.sample) growth.sample) (λ before after. (after ≡ before) × (grow_command job).Makes before (texts_in (growth_files job growth)) (growth_summary job growth)) a.files b.files
+          (λ before after p. (p.0, record { growth = growth; grown = grown (content_of before job.names.sample) p.1; texts_are = refl; summary_is = refl }))
+          (told_both (λ before after. after ≡ before) (λ before after. IsSampleOf (content_of before job.names.sample) growth.sample) a.files b.files reads.files (own growth.sample read));
+    }

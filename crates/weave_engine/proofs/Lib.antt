@@ -1,5 +1,8 @@
 pub mod TileLaws
 pub mod TileSteps
+pub mod Pictures
+pub mod SampleLaws
+pub mod GrowLaws
 pub mod Growing
-pub mod Samples
-pub mod Promising
+pub mod Ready
+pub mod Ending

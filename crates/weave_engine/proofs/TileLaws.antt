@@ -9,9 +9,10 @@ use Rattle.cells.specs.declared.place.Size.{Size}
 use Rattle.cells.specs.Places.{HasAxes, index_in, minus, spot}
 use Rattle.cells.specs.Boxes.{AxisHolds}
 use Rattle.cells.specs.Cells.{Cells}
+use Rattle.cells.proofs.PartBoxes.{box_held}
 use Rattle.cells.proofs.Raster.{IsAt, OnAxis, index_parts, index_of_spot}
 use Rattle.source_map.specs.Choices.{Fits, box_index, new_source}
-use Rattle.weave_engine.specs.Tiles.{count_of, wrapped, tile_source, tile_at, tile_corner, tile_length}
+use Rattle.weave_engine.specs.Tiles.{counted_from, wrapped, tile_source, tile_at, tile_corner, tile_length}
 
 -- one axis of the tile that a coordinate is in
 pub record AxisTile (sample output : ℕ) (z : ℤ) : Type 0 where
@@ -38,7 +39,7 @@ axis_tile sample output (negsuc q) c some on = absurd (omega (arith, ints, on.is
 -- a coordinate as far from the tile's corner as a step of the tile is counted anew to that step
 pub axis_source : (sample output : ℕ) (z q : ℤ) (step : ℕ) → tile_length sample output q ≤ sample → OnAxis (tile_length sample output q) (z -ℤ pos (tile_corner sample q)) step → pos 0 +ℤ (z -ℤ pos (tile_corner sample q)) ≡ wrapped sample z
 axis_source sample output z q step within on =
-    let k = count_of q / sample in
+    let k = counted_from q / sample in
     let at : z ≡ pos (sample * k + step) = omega (arith, ints, on.is) in
     let again : (sample * k + step) % sample ≡ step = ap (λ n. (n + step) % sample) (mul_comm sample k) ∙ mod-mul-add k sample step (omega (arith, on.below)) in
     subst (λ w. pos 0 +ℤ (w -ℤ pos (sample * k)) ≡ wrapped sample w) (sym at) (let back : pos 0 +ℤ (pos (sample * k + step) -ℤ pos (sample * k)) ≡ pos step = omega (arith, ints) in back ∙ ap pos (sym again))
@@ -60,7 +61,7 @@ module _ (output : Size) (sample : Cells) (q : At) (some : HasAxes sample.size) 
   tile_fits = record {
     some = record { w = x.some; h = y.some; f = f.some };
     inside = record { x = x.holds; y = y.holds; f = f.holds };
-    sources = record { x = from_start x.within; y = from_start y.within; f = from_start f.within };
+    sources = box_held sample _ _ (record { x = from_start x.within; y = from_start y.within; f = from_start f.within });
   }
     where
       from_start : {n len : ℕ} → len ≤ n → AxisHolds n (pos 0) len

@@ -11,12 +11,13 @@ use borrow.Author.Tests.{lt-ltb}
 use Rattle.cells.specs.declared.place.At.{At}
 use Rattle.cells.specs.declared.place.Size.{Size}
 use Rattle.cells.specs.Places.{HasAxes, IsInside, IsSmall, cell_count, index_in, place_of}
-use Rattle.cells.specs.Cells.{Cells, IsVolume}
+use Rattle.cells.specs.Cells.{Cells, IsVolume, IsOnePart}
+use Rattle.cells.proofs.PartBoxes.{held_box}
 use Rattle.cells.proofs.Raster.{index_below, has_index, place_at}
 use Rattle.cells.proofs.BoxLaws.{box_small}
 use Rattle.source_map.specs.declared.canvas.Placement.{Placement}
 use Rattle.source_map.specs.Maps.{SourceMap, IsFilled, IsFull, IsMap, first_unfilled, map_at, source_at}
-use Rattle.source_map.specs.Canvases.{CanvasState, IsCanvas, Stands}
+use Rattle.source_map.specs.Canvases.{CanvasState, IsCanvas, StandsOver}
 use Rattle.source_map.specs.Choices.{Fits, IsAfter, box_count, box_index, chosen, new_source}
 use Rattle.source_map.proofs.Fronts.{front_in, front_more, front_passes}
 use Rattle.source_map.proofs.AfterLaws.{front_stays}
@@ -94,11 +95,12 @@ module _ (output : Size) (sample : Cells) (canvas after : CanvasState) (q : At) 
       omega (arith, same, more, first.here, first.below, front_in is_none after.map.sources)
 
 -- a tile has no more cells than the sample
-pub tile_count : (output : Size) (sample : Cells) (placement : Placement) → Fits output sample placement → cell_count placement.rect.size ≤ cell_count sample.size
-tile_count output sample placement fits =
-    let w : placement.rect.size.w ≤ sample.size.w = omega (arith, ints, fits.sources.x.from, fits.sources.x.to) in
-    let h : placement.rect.size.h ≤ sample.size.h = omega (arith, ints, fits.sources.y.from, fits.sources.y.to) in
-    let f : placement.rect.size.f ≤ sample.size.f = omega (arith, ints, fits.sources.f.from, fits.sources.f.to) in
+pub tile_count : (output : Size) (sample : Cells) (placement : Placement) → IsOnePart sample → Fits output sample placement → cell_count placement.rect.size ≤ cell_count sample.size
+tile_count output sample placement one fits =
+    let box = held_box sample placement.from placement.rect.size one fits.some fits.sources in
+    let w : placement.rect.size.w ≤ sample.size.w = omega (arith, ints, box.x.from, box.x.to) in
+    let h : placement.rect.size.h ≤ sample.size.h = omega (arith, ints, box.y.from, box.y.to) in
+    let f : placement.rect.size.f ≤ sample.size.f = omega (arith, ints, box.f.from, box.f.to) in
     mul-le-mul w (mul-le-mul h f)
 
 -- the front of a list of new cells
@@ -127,7 +129,7 @@ none_unfilled m is absent p inside = by (position is_none m.sources) refl absent
         subst IsSome (sym (ap (source_at m.sources) at)) (filled (get_or m.sources index None) (front_passes is_none m.sources index None (omega (arith, below, whole e))))
 
 -- what a tile's placement is before it is put in, and what the canvas is after it
-module _ (output : Size) (sample : Cells) (canvas : CanvasState) (q : At) (placement : Placement) (so_far : TiledSoFar output sample canvas) (is : IsCanvas canvas) (volume : IsVolume sample)
+module _ (output : Size) (sample : Cells) (canvas : CanvasState) (q : At) (placement : Placement) (so_far : TiledSoFar output sample canvas) (is : IsCanvas canvas) (volume : IsVolume sample) (one : IsOnePart sample)
     (unfilled : first_unfilled canvas.map ≡ Some q) (tile : placement ≡ tile_at sample.size output q) where
   first : IsFirst canvas.map q
   first = first_is canvas.map is.map q unfilled
@@ -147,9 +149,9 @@ module _ (output : Size) (sample : Cells) (canvas : CanvasState) (q : At) (place
   tile_small = box_small canvas.map.size placement.rect.corner placement.rect.size is.map.small tile_fits_canvas.some tile_fits_canvas.inside
 
   pub tile_has_few : cell_count placement.rect.size ≤ cell_count sample.size
-  tile_has_few = tile_count output sample placement tile_fits_output
+  tile_has_few = tile_count output sample placement one tile_fits_output
 
-  module _ (after : CanvasState) (choice : List Bool) (is' : IsCanvas after) (stands : Stands after sample) (new : choice ≡ replicate (box_count placement) true) (step : IsAfter canvas.map placement choice after.map) where
+  module _ (after : CanvasState) (choice : List Bool) (is' : IsCanvas after) (stands : StandsOver after sample) (new : choice ≡ replicate (box_count placement) true) (step : IsAfter canvas.map placement choice after.map) where
     as_tile : IsAfter canvas.map (tile_at sample.size output q) (replicate (box_count (tile_at sample.size output q)) true) after.map
     as_tile = subst (λ p. IsAfter canvas.map p (replicate (box_count p) true) after.map) tile (subst (λ cells. IsAfter canvas.map placement cells after.map) new step)
 

@@ -1,4 +1,5 @@
 pub mod Tiles
+pub mod Samples
 pub mod Growths
-pub mod Outcomes
-pub mod Promises
+pub mod Engine
+pub mod Headlines

@@ -1,84 +1,117 @@
 // The command that grows a texture from a sample.
 ghost use Rattle.std.specs.Prelude.{◌≡◌, IfOk};
-ghost use Rattle.shelf_core.specs.Files.{OnlyReads};
-ghost use Rattle.netpbm_p6.specs.Pictures.{Refuses};
-ghost use Rattle.job_words.specs.Jobs.{IsGrowJob};
-ghost use Rattle.weave_engine.specs.Growths.{IsMade, sample_fault};
-ghost use Rattle.weave_engine.specs.Outcomes.{Grown, PlannedGrowth};
+ghost use Rattle.shelf_core.specs.Files.{OnlyReads, OnlyWrites};
+ghost use Rattle.job_words.specs.GrowWords.{IsGrowJob};
+ghost use Rattle.run_outcome.specs.Outcomes.{Leaves, Plans};
+ghost use Rattle.run_outcome.specs.Writing.{WritesRun};
+ghost use Rattle.weave_engine.specs.Growths.{IsMade, grow_command, growth_files, growth_summary};
 
-use crate::tile::tiled;
-use crate::write::write_growth;
+use crate::files::{MapFile, OutFile};
+use crate::sample::{Sample, read_sample};
+use crate::tile::{tile_count, tiled};
 use job_words::GrowJob;
-use netpbm_p6::{Picture, read_p6};
-use shelf_core::{ReadError, Shelf, What};
+use run_outcome::{Then, read_fault, write_run};
+use seams::total;
+use shelf_core::{Shelf, Sink, What};
 use source_map::Canvas;
 use std::alloc::Global;
-use synth_report::{Fault, FileOf};
+use synth_report::{Fault, FileOf, Summary};
 
 /// The greatest number of cells of an output.
-const MOST_CELLS: usize = 1_048_576;
+const MOST_OUTPUT_CELLS: usize = 1_048_576;
 
-/// The sample that was read, and the output grown from it: its map and its picture.
+/// The sample that was read, and the output grown from it: its map and its picture, and what its seams
+/// cost in all.
 #[derive(Drop)]
 pub struct Growth {
-    pub sample: Picture,
+    pub sample: Sample,
     pub canvas: Canvas,
-}
-
-// The fault of a sample that isn't read.
-fn sample_fault(error: ReadError) -> Fault
-    ensures { result ≡ sample_fault error }
-{
-    match error {
-        ReadError::ReadFault => Fault::Read(FileOf::Sample),
-        ReadError::Bad(why) => Fault::Form {
-            file: FileOf::Sample,
-            why,
-        },
-        ReadError::Limit {
-            what,
-            number,
-            bound,
-        } => Fault::Limit {
-            what,
-            number,
-            bound,
-        },
-        ReadError::NoMemory => Fault::NoMemory,
-    }
+    pub seams: u64,
 }
 
 // Reads the sample and computes all that is to be written. Nothing is written yet.
 fn plan<S: Shelf>(alloc: Global, job: &GrowJob, shelf: &mut S) -> Result<Growth, Fault>
     requires { IsGrowJob job.now }
-    ensures planned { PlannedGrowth job.now (S.state shelf.old) (S.state shelf.new) result }
+    ensures planned { Plans (grow_command job.now) (growth_files job.now) (growth_summary job.now)
+        (S.state shelf.old) (S.state shelf.new) result }
     ensures made { IfOk result IsMade }
     ensures reads { OnlyReads (S.state shelf.old) (S.state shelf.new) }
 {
-    let sample = match read_p6(alloc, shelf, job.names.sample.as_text()) {
+    let sample = match read_sample(alloc, shelf, job.names.sample.as_text()) {
         Ok(sample) => sample,
-        Err(error) => return Err(sample_fault(error)),
+        Err(error) => return Err(read_fault(FileOf::Sample, error)),
     };
     let cells = job.size.cells();
-    if cells > MOST_CELLS {
+    if cells > MOST_OUTPUT_CELLS {
         return Err(Fault::Limit {
             what: What::Output,
             number: cells as u64,
-            bound: MOST_CELLS as u64,
+            bound: MOST_OUTPUT_CELLS as u64,
         });
     }
     let Ok(canvas) = tiled(alloc, &sample.volume, job.size) else {
         return Err(Fault::NoMemory);
     };
-    Ok(Growth { sample, canvas })
+    let seams = total(&canvas, &sample.volume);
+    Ok(Growth {
+        sample,
+        canvas,
+        seams,
+    })
 }
 
-/// Grows a texture: reads the sample, computes the output, and writes the picture and then the map.
-/// All is computed before the first file is begun, and no memory is taken after it.
-pub fn grow<S: Shelf>(alloc: Global, job: &GrowJob, shelf: &mut S) -> Result<(), Fault>
+// The summary of a growth.
+fn summary_of(job: &GrowJob, growth: &Growth) -> Summary
+    requires job { IsGrowJob job.now }
+    requires made { IsMade growth.now }
+    ensures { result ≡ growth_summary job.now growth.now }
+{
+    Summary::Grow {
+        size: job.size,
+        placements: tile_count(job.size, growth.sample.volume.size()),
+        rounds: 0,
+        seams: growth.seams,
+    }
+}
+
+// Writes the picture of a growth, its map, and the report.
+fn write_growth<S: Shelf, O: Sink>(
+    job: &GrowJob,
+    growth: &Growth,
+    shelf: &mut S,
+    out: &mut O,
+) -> Result<Summary, Fault>
+    requires job { IsGrowJob job.now }
+    requires made { IsMade growth.now }
+    ensures wrote { WritesRun (growth_files job.now growth.now) (growth_summary job.now growth.now)
+        (S.state shelf.old) (S.state shelf.new) (O.state out.old) (O.state out.new) result }
+    ensures writes { OnlyWrites (S.state shelf.old) (S.state shelf.new) }
+{
+    let picture = OutFile {
+        name: &job.names.out,
+        form: growth.sample.form,
+        picture: growth.canvas.picture(),
+    };
+    let map = MapFile {
+        name: &job.names.map,
+        map: growth.canvas.map(),
+        sample: growth.sample.volume.size(),
+    };
+    write_run(&mut Then(picture, map), summary_of(job, growth), shelf, out)
+}
+
+/// Grows a texture: reads the sample, computes the output, and writes the picture, then the map, and
+/// then the report. All is computed before the first file is begun, and no memory is taken after it.
+pub fn grow<S: Shelf, O: Sink>(
+    alloc: Global,
+    job: &GrowJob,
+    shelf: &mut S,
+    out: &mut O,
+) -> Result<Summary, Fault>
     requires { IsGrowJob job.now }
-    ensures { Grown job.now (S.state shelf.old) (S.state shelf.new) result }
+    ensures { Leaves (grow_command job.now)
+        (S.state shelf.old) (S.state shelf.new) (O.state out.old) (O.state out.new) result }
 {
     let growth = plan(alloc, job, shelf)?;
-    write_growth(job, &growth, shelf)
+    write_growth(job, &growth, shelf, out)
 }

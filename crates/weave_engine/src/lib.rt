@@ -1,15 +1,18 @@
 //! The commands of weave, and `run`, which does all that the program does.
 //!
 //! `run` promises what each status means and what the files hold after it, from the words to the bytes
-//! written. Each command is one relation of its answer to what it leaves (specs/Outcomes.antt); the
-//! promises in words follow from it (specs/Promises.antt). `grow` has the command that grows a texture,
-//! `tile` the copies of the sample side by side, `write` the files of a run.
+//! written. Each command is a value (`command_of` in specs/Engine.antt), over which the crate
+//! run_outcome has what any run leaves, and its promises. A command has a module of its own: `growth`
+//! the one that grows a texture. `sample` reads samples, `files` has the files that commands write, and
+//! `tile` the copies of a sample side by side. README.md says what a new command brings.
 #![tactic(auto)]
 
 mod engine;
+mod files;
 mod growth;
+mod sample;
 mod tile;
-mod write;
 
 pub use engine::run;
 pub use growth::{Growth, grow};
+pub use sample::{Form, Sample};

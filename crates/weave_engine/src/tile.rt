@@ -1,10 +1,11 @@
 // Tiles: copies of the whole sample, side by side.
 ghost use Rattle.std.specs.Prelude.{◌≡◌, ◌<◌, ◌≤◌, ◌<ℤ◌, ◌≤ℤ◌, pos, IfOk, Some, length, replicate, take, true};
+ghost use Rattle.cells.specs.declared.bounds.TheConstants.{GREATEST_AXIS};
 ghost use Rattle.cells.specs.Places.{HasAxes, IsInside, IsSmall, cell_count};
-ghost use Rattle.cells.specs.Cells.{IsVolume};
+ghost use Rattle.cells.specs.Cells.{IsVolume, IsOnePart};
 ghost use Rattle.source_map.specs.Maps.{first_unfilled};
-ghost use Rattle.source_map.specs.Canvases.{IsCanvas, Stands};
-ghost use Rattle.weave_engine.specs.Tiles.{IsTiled, TiledSoFar, cells_left, tile_at, tile_corner, tile_length};
+ghost use Rattle.source_map.specs.Canvases.{IsCanvas, StandsOver};
+ghost use Rattle.weave_engine.specs.Tiles.{IsTiled, TiledSoFar, cells_left, tile_at, tile_corner, tile_count, tile_length, tiles_along};
 
 use cells::{At, Box3, Size, Volume};
 use source_map::{Canvas, Placement};
@@ -54,6 +55,26 @@ fn placement_at(q: At, sample: Size, output: Size) -> Placement
     }
 }
 
+// How many tiles stand along an axis.
+fn tiles_along(sample: u32, output: u32) -> u64
+    requires some { 1 ≤ sample }
+    requires few { (1 ≤ output) × (output ≤ GREATEST_AXIS) }
+    ensures tiles { result ≡ tiles_along sample output }
+    ensures few { result ≤ GREATEST_AXIS }
+{
+    u64::from((output - 1) / sample + 1)
+}
+
+/// How many tiles an output has.
+pub fn tile_count(output: Size, sample: Size) -> u64
+    requires sample { HasAxes sample }
+    requires output { HasAxes output }
+    ensures { result ≡ tile_count sample output }
+{
+    tiles_along(sample.w, output.w)
+        * (tiles_along(sample.h, output.h) * tiles_along(sample.f, output.f))
+}
+
 // As many cells that are new.
 fn all_new(alloc: Global, n: usize) -> Result<Vec<bool>, AllocError>
     ensures { IfOk result (λ choice. choice.items ≡ replicate n true) }
@@ -75,6 +96,7 @@ fn put_tile(canvas: &mut Canvas, sample: &Volume, output: Size, q: At, choice: &
     requires so_far { TiledSoFar output sample.now canvas.old }
     requires canvas { IsCanvas canvas.old }
     requires sample { IsVolume sample.now }
+    requires one { IsOnePart sample.now }
     requires first { first_unfilled canvas.old.map ≡ Some q }
     requires choice { choice.now ≡ replicate (cell_count sample.now.size) true }
     ensures so_far { TiledSoFar output sample.now canvas.new }
@@ -89,10 +111,11 @@ fn put_tile(canvas: &mut Canvas, sample: &Volume, output: Size, q: At, choice: &
 /// An output of that size, filled with tiles of the sample: cell (x, y, f) comes from sample cell
 /// (x mod w, y mod h, f mod frames).
 pub fn tiled(alloc: Global, sample: &Volume, output: Size) -> Result<Canvas, AllocError>
-    requires { IsSmall output }
+    requires small { IsSmall output }
+    requires one { IsOnePart sample.now }
     ensures tiles { IfOk result (λ canvas. IsTiled output sample.now.size canvas.map) }
     ensures canvas { IfOk result IsCanvas }
-    ensures stands { IfOk result (λ canvas. Stands canvas sample.now) }
+    ensures stands { IfOk result (λ canvas. StandsOver canvas sample.now) }
 {
     let choice = all_new(alloc, sample.size().cells())?;
     let mut canvas = Canvas::empty(alloc, output, sample.samples())?;

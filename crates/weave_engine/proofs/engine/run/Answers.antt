@@ -1,30 +1,57 @@
-use Rattle.weave_engine.proofs.Promising.{complete_promise, form_promise, headline_promise, limit_promise, read_promise, words_promise, write_promise}
+use Rattle.run_outcome.proofs.Promising.{complete_promise, done_promise, keeps_promise, memory_promise, others_promise, read_promise, refused_promise, words_promise, write_promise}
+use Rattle.run_outcome.proofs.Views.{form_number, limit_number, loop_number}
+use Rattle.weave_engine.specs.Engine.{command_of}
+use Rattle.weave_engine.proofs.Ending.{grow_headline, known_status, one_answer}
 use Rattle.weave_engine.proofs.engine.run.Goals as goal
 
--- src/engine.rt:57:1
+pub returns-clause-status_done : goal.returns-clause-status_done
+returns-clause-status_done g c =
+    done_promise command_of one_answer c.args.words.now (g.S.Shelf.state c.args.shelf.now) (g.S.Shelf.state c.run_whole.new.shelf) (g.O.Sink.state c.args.out.now) (g.O.Sink.state c.run_whole.new.out) (g.E.Sink.state c.args.err.now) (g.E.Sink.state c.run_whole.new.err) c.run_whole.result c.run_whole.ensures
+
 pub returns-clause-status_words : goal.returns-clause-status_words
-returns-clause-status_words g c = words_promise c.args.words.now (g.S.Shelf.state c.args.shelf.now) (g.S.Shelf.state c.run_whole.new.shelf) (g.E.Sink.state c.args.err.now) (g.E.Sink.state c.run_whole.new.err) c.run_whole.result c.run_whole.ensures
+returns-clause-status_words g c =
+    words_promise command_of one_answer c.args.words.now (g.S.Shelf.state c.args.shelf.now) (g.S.Shelf.state c.run_whole.new.shelf) (g.O.Sink.state c.args.out.now) (g.O.Sink.state c.run_whole.new.out) (g.E.Sink.state c.args.err.now) (g.E.Sink.state c.run_whole.new.err) c.run_whole.result c.run_whole.ensures
 
--- src/engine.rt:57:1
 pub returns-clause-status_form : goal.returns-clause-status_form
-returns-clause-status_form g c = form_promise c.args.words.now (g.S.Shelf.state c.args.shelf.now) (g.S.Shelf.state c.run_whole.new.shelf) (g.E.Sink.state c.args.err.now) (g.E.Sink.state c.run_whole.new.err) c.run_whole.result c.run_whole.ensures
+returns-clause-status_form g c =
+    refused_promise command_of one_answer c.args.words.now (g.S.Shelf.state c.args.shelf.now) (g.S.Shelf.state c.run_whole.new.shelf) (g.O.Sink.state c.args.out.now) (g.O.Sink.state c.run_whole.new.out) (g.E.Sink.state c.args.err.now) (g.E.Sink.state c.run_whole.new.err) c.run_whole.result 3 form_number c.run_whole.ensures
 
--- src/engine.rt:57:1
 pub returns-clause-status_limit : goal.returns-clause-status_limit
-returns-clause-status_limit g c = limit_promise c.args.words.now (g.S.Shelf.state c.args.shelf.now) (g.S.Shelf.state c.run_whole.new.shelf) (g.E.Sink.state c.args.err.now) (g.E.Sink.state c.run_whole.new.err) c.run_whole.result c.run_whole.ensures
+returns-clause-status_limit g c =
+    refused_promise command_of one_answer c.args.words.now (g.S.Shelf.state c.args.shelf.now) (g.S.Shelf.state c.run_whole.new.shelf) (g.O.Sink.state c.args.out.now) (g.O.Sink.state c.run_whole.new.out) (g.E.Sink.state c.args.err.now) (g.E.Sink.state c.run_whole.new.err) c.run_whole.result 4 limit_number c.run_whole.ensures
 
--- src/engine.rt:57:1
 pub returns-clause-status_read : goal.returns-clause-status_read
-returns-clause-status_read g c = read_promise c.args.words.now (g.S.Shelf.state c.args.shelf.now) (g.S.Shelf.state c.run_whole.new.shelf) (g.E.Sink.state c.args.err.now) (g.E.Sink.state c.run_whole.new.err) c.run_whole.result c.run_whole.ensures
+returns-clause-status_read g c =
+    read_promise command_of one_answer c.args.words.now (g.S.Shelf.state c.args.shelf.now) (g.S.Shelf.state c.run_whole.new.shelf) (g.O.Sink.state c.args.out.now) (g.O.Sink.state c.run_whole.new.out) (g.E.Sink.state c.args.err.now) (g.E.Sink.state c.run_whole.new.err) c.run_whole.result c.run_whole.ensures
 
--- src/engine.rt:57:1
 pub returns-clause-status_write : goal.returns-clause-status_write
-returns-clause-status_write g c = write_promise c.args.words.now (g.S.Shelf.state c.args.shelf.now) (g.S.Shelf.state c.run_whole.new.shelf) (g.E.Sink.state c.args.err.now) (g.E.Sink.state c.run_whole.new.err) c.run_whole.result c.run_whole.ensures
+returns-clause-status_write g c =
+    write_promise command_of one_answer c.args.words.now (g.S.Shelf.state c.args.shelf.now) (g.S.Shelf.state c.run_whole.new.shelf) (g.O.Sink.state c.args.out.now) (g.O.Sink.state c.run_whole.new.out) (g.E.Sink.state c.args.err.now) (g.E.Sink.state c.run_whole.new.err) c.run_whole.result c.run_whole.ensures
 
--- src/engine.rt:57:1
+pub returns-clause-status_memory : goal.returns-clause-status_memory
+returns-clause-status_memory g c =
+    memory_promise command_of one_answer c.args.words.now (g.S.Shelf.state c.args.shelf.now) (g.S.Shelf.state c.run_whole.new.shelf) (g.O.Sink.state c.args.out.now) (g.O.Sink.state c.run_whole.new.out) (g.E.Sink.state c.args.err.now) (g.E.Sink.state c.run_whole.new.err) c.run_whole.result c.run_whole.ensures
+
+pub returns-clause-status_loop : goal.returns-clause-status_loop
+returns-clause-status_loop g c =
+    refused_promise command_of one_answer c.args.words.now (g.S.Shelf.state c.args.shelf.now) (g.S.Shelf.state c.run_whole.new.shelf) (g.O.Sink.state c.args.out.now) (g.O.Sink.state c.run_whole.new.out) (g.E.Sink.state c.args.err.now) (g.E.Sink.state c.run_whole.new.err) c.run_whole.result 8 loop_number c.run_whole.ensures
+
 pub returns-clause-complete : goal.returns-clause-complete
-returns-clause-complete g c = complete_promise c.args.words.now (g.S.Shelf.state c.args.shelf.now) (g.S.Shelf.state c.run_whole.new.shelf) (g.E.Sink.state c.args.err.now) (g.E.Sink.state c.run_whole.new.err) c.run_whole.result c.run_whole.ensures
+returns-clause-complete g c =
+    complete_promise command_of one_answer c.args.words.now (g.S.Shelf.state c.args.shelf.now) (g.S.Shelf.state c.run_whole.new.shelf) (g.O.Sink.state c.args.out.now) (g.O.Sink.state c.run_whole.new.out) (g.E.Sink.state c.args.err.now) (g.E.Sink.state c.run_whole.new.err) c.run_whole.result c.run_whole.ensures
 
--- src/engine.rt:57:1
+pub returns-clause-refused_files : goal.returns-clause-refused_files
+returns-clause-refused_files g c =
+    keeps_promise command_of one_answer c.args.words.now (g.S.Shelf.state c.args.shelf.now) (g.S.Shelf.state c.run_whole.new.shelf) (g.O.Sink.state c.args.out.now) (g.O.Sink.state c.run_whole.new.out) (g.E.Sink.state c.args.err.now) (g.E.Sink.state c.run_whole.new.err) c.run_whole.result c.run_whole.ensures
+
+pub returns-clause-other_files : goal.returns-clause-other_files
+returns-clause-other_files g c =
+    others_promise command_of one_answer c.args.words.now (g.S.Shelf.state c.args.shelf.now) (g.S.Shelf.state c.run_whole.new.shelf) (g.O.Sink.state c.args.out.now) (g.O.Sink.state c.run_whole.new.out) (g.E.Sink.state c.args.err.now) (g.E.Sink.state c.run_whole.new.err) c.run_whole.result c.run_whole.ensures
+
+pub returns-clause-no_other_status : goal.returns-clause-no_other_status
+returns-clause-no_other_status g c =
+    known_status c.args.words.now (g.S.Shelf.state c.args.shelf.now) (g.S.Shelf.state c.run_whole.new.shelf) (g.O.Sink.state c.args.out.now) (g.O.Sink.state c.run_whole.new.out) (g.E.Sink.state c.args.err.now) (g.E.Sink.state c.run_whole.new.err) c.run_whole.result c.run_whole.ensures
+
 pub returns-clause-headline : goal.returns-clause-headline
-returns-clause-headline g c = headline_promise c.args.words.now (g.S.Shelf.state c.args.shelf.now) (g.S.Shelf.state c.run_whole.new.shelf) (g.E.Sink.state c.args.err.now) (g.E.Sink.state c.run_whole.new.err) c.run_whole.result c.run_whole.ensures
+returns-clause-headline g c =
+    grow_headline c.args.words.now (g.S.Shelf.state c.args.shelf.now) (g.S.Shelf.state c.run_whole.new.shelf) (g.O.Sink.state c.args.out.now) (g.O.Sink.state c.run_whole.new.out) (g.E.Sink.state c.args.err.now) (g.E.Sink.state c.run_whole.new.err) c.run_whole.result c.run_whole.ensures

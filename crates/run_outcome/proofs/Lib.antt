@@ -1,0 +1,4 @@
+pub mod WritingLaws
+pub mod Halves
+pub mod Views
+pub mod Promising

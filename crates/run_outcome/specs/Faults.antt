@@ -1,0 +1,38 @@
+-- The faults of files that weren't read. To be trusted: contracts cite these words. (Own.)
+use Rattle.std.specs.Prelude.{◌≡◌, ℕ, List}
+use Rattle.shelf_core.specs.Files.{ShelfState, Changes, Rose, content_of}
+use Rattle.shelf_core.specs.declared.fault.FormFault.{FormFault}
+use Rattle.shelf_core.specs.declared.fault.What.{What}
+use Rattle.shelf_core.specs.declared.fault.ReadError.{ReadError}
+use Rattle.shelf_core.specs.declared.fault.ReadError.TheVariants as error
+use Rattle.synth_report.specs.declared.fault.FileOf.{FileOf}
+use Rattle.synth_report.specs.declared.fault.Fault.{Fault}
+use Rattle.synth_report.specs.declared.fault.Fault.TheVariants.{Form, Limit, Read, NoMemory}
+
+-- the fault of a file of this part that wasn't read
+abbrev pub fault_of_read : FileOf → ReadError → Fault
+fault_of_read part error.ReadFault = Read part
+fault_of_read part (error.Bad why) = Form part why
+fault_of_read part (error.Limit what number bound) = Limit what number bound
+fault_of_read part error.NoMemory = NoMemory
+
+-- the fault is one of the form of a file of this part, or a limit
+abbrev pub IsFormFault : FileOf → Fault → Type 0
+IsFormFault part fault = (why : FormFault) × (fault ≡ Form part why)
+
+abbrev pub IsLimitFault : Fault → Type 0
+IsLimitFault fault = (what : What) × (number : ℕ) × (bound : ℕ) × (fault ≡ Limit what number bound)
+
+-- the reader of a file of this part refuses its bytes, for this fault
+abbrev pub ReaderRefuses : (List ℕ → ReadError → Type 0) → FileOf → List ℕ → Fault → Type 0
+ReaderRefuses Refuses part bytes fault =
+    (refusal : ReadError) × Refuses bytes refusal × (fault ≡ fault_of_read part refusal)
+
+-- what a reader of a file answers where it doesn't read it, by the refusals of its form
+abbrev pub FailsToRead : (List ℕ → ReadError → Type 0) → List ℕ → ShelfState → ShelfState
+    → ReadError
+    → Type 0
+FailsToRead Refuses name was now error.ReadFault = Rose (was.reads name) (now.reads name)
+FailsToRead Refuses name was now error.NoMemory = Unit {0}
+FailsToRead Refuses name was now refusal =
+    Changes was now (λ before after. Refuses (content_of before name) refusal)

@@ -1,0 +1,5 @@
+pub mod Commands
+pub mod Writing
+pub mod Faults
+pub mod Outcomes
+pub mod Promises

@@ -1,17 +1,17 @@
 -- Frames in a clip's bytes, and the laws of their distance.
 use Rattle.std.proofs.Common.{◌≡◌, ℕ, zero, suc, ◌+◌, ◌*◌, ◌<◌, ◌≤◌, List, [], ◌∷◌, ◌++◌, length, take, drop, refl, ap, sym, ◌∙◌, subst, arith}
-use Rattle.std.specs.Prelude.{Some, None, if◌then◌else◌, All}
+use Rattle.std.specs.Prelude.{All}
 use Rattle.std.specs.Int.{abs_diff}
-use Rattle.std.specs.List.{concat, sum_by, zip}
+use Rattle.std.specs.List.{concat, zip}
 use Rattle.std.proofs.Math.Nat.{mul-le-mul_left}
 use Rattle.std.proofs.lemmas.List.{length-append, drop-drop, drop_at, length-drop}
 use Rattle.std.proofs.lemmas.List.Elements.{All-head, All-tail, All-drop}
 use Rattle.std.proofs.lemmas.List.Sums.{sum_by-cons}
-use borrow.Author.Tests.{lt-ltb}
 use Rattle.lane_kernels.specs.Sums.{squared_difference, sum_of_squared_differences}
-use Rattle.cells.specs.declared.place.Size.{Size}
-use Rattle.cells.specs.Places.{on_axis, index_at, index_in, cell_count, spot}
-use Rattle.cells.specs.Cells.{Cells, IsCell, IsVolume, bytes_of, run_from}
+use Rattle.cells.specs.Places.{cell_count}
+use Rattle.cells.specs.Parts.{count_from}
+use Rattle.cells.specs.Cells.{Cells, IsCell, IsOnePart, IsVolume, bytes_of}
+use Rattle.frame_distance.proofs.FramePlaces.{frame_cells}
 use Rattle.frame_distance.specs.Frames.{frame_of, frame_in, frame_distance, distance_in}
 
 -- the distance of a row to itself, and the other way round
@@ -58,30 +58,24 @@ module _ (k : ℕ) where
           over [] = let e : 0 + m ≡ m = omega arith in rw e refl
           over (z ∷ zs) = let e : suc (length zs) + m ≡ suc (length zs + m) = omega arith in rw e (ap (λ l. z ∷ l) (over zs))
 
-on_axis_in : (n c : ℕ) → c < n → on_axis n (Rattle.std.specs.Prelude.pos c) ≡ Some c
-on_axis_in n c lt = ap (λ b. if b then Some c else None) (lt-ltb c n lt)
+module _ (clip : Cells) (is : IsVolume clip) (one : IsOnePart clip) where
+  whole : length clip.cells ≡ cell_count clip.size
+  whole = is.count ∙ ap (count_from clip.size) one
 
--- the index of a frame's first cell
-pub index_of_frame : (size : Size) (i : ℕ) → 1 ≤ size.w → 1 ≤ size.h → i < size.f → index_in size (spot 0 0 i) ≡ Some (size.w * size.h * i)
-index_of_frame size i w h f =
-    (λ t. index_at size (on_axis_in size.w 0 (let lt : 0 < size.w = omega arith in lt) t) (on_axis_in size.h 0 (let lt : 0 < size.h = omega arith in lt) t) (on_axis_in size.f i f t))
-    ∙ ap Some (let e : 0 + size.w * (0 + size.h * i) ≡ size.w * size.h * i = omega arith in e)
-
-module _ (clip : Cells) (is : IsVolume clip) where
   -- all frames together
   pub length-bytes_of : length (bytes_of clip) ≡ clip.k * (clip.size.w * clip.size.h) * clip.size.f
-  length-bytes_of = length-concat clip.k clip.cells is.cells ∙ ap (λ n. clip.k * n) is.count ∙ omega arith
+  length-bytes_of = length-concat clip.k clip.cells is.cells ∙ ap (λ n. clip.k * n) whole ∙ omega arith
 
   -- a frame of the clip, in its bytes
   pub frame_in-bytes_of : (i : ℕ) → i < clip.size.f → frame_in (bytes_of clip) (clip.k * (clip.size.w * clip.size.h)) i ≡ frame_of clip i
   frame_in-bytes_of i below =
       let area = clip.size.w * clip.size.h in
-      let all : area * clip.size.f ≡ length clip.cells = (let e : area * clip.size.f ≡ cell_count clip.size = omega arith in e) ∙ sym is.count in
+      let all : area * clip.size.f ≡ length clip.cells = (let e : area * clip.size.f ≡ cell_count clip.size = omega arith in e) ∙ sym whole in
       let before : area * i + area ≤ length clip.cells = omega (arith, all, mul-le-mul_left area (let le : i + 1 ≤ clip.size.f = omega arith in le)) in
       ap (λ m. take (clip.k * area) (drop m (bytes_of clip))) (let e : clip.k * area * i ≡ clip.k * (area * i) = omega arith in e)
       ∙ ap (take (clip.k * area)) (drop-concat clip.k clip.cells (area * i) is.cells (omega (arith, before)))
       ∙ take-concat clip.k (drop (area * i) clip.cells) area (All-drop (IsCell clip.k) (area * i) clip.cells is.cells) (omega (arith, before, length-drop (area * i) clip.cells))
-      ∙ ap (run_from clip.cells area) (sym (index_of_frame clip.size i is.small.axes.w.0 is.small.axes.h.0 below))
+      ∙ frame_cells clip i is.small.axes.w.0 below before
 
   pub distance_in-bytes_of : (i j : ℕ) → i < clip.size.f → j < clip.size.f → distance_in (bytes_of clip) (clip.k * (clip.size.w * clip.size.h)) i j ≡ frame_distance clip i j
   distance_in-bytes_of i j row column = λ t. sum_of_squared_differences (frame_in-bytes_of i row t) (frame_in-bytes_of j column t)

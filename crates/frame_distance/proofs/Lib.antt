@@ -1,3 +1,4 @@
+pub mod FramePlaces
+pub mod FrameLaws
 pub mod EntryLaws
 pub mod StepLaws
-pub mod FrameLaws

@@ -1,12 +1,24 @@
--- The frames of a clip, and how far apart two of them are.
-use Rattle.std.specs.Prelude.{ℕ, ◌*◌, List, take, drop}
+-- A reader has to trust this file, down to `frame_distance`. The frames of a clip of one part, and
+-- how far apart two of them are.
+use Rattle.std.specs.Prelude.{ℕ, ◌*◌, List, [], take, drop, unwrap_or}
+use Rattle.std.specs.List.{flat_map}
 use Rattle.lane_kernels.specs.Sums.{sum_of_squared_differences}
-use Rattle.cells.specs.Places.{spot}
-use Rattle.cells.specs.Cells.{Cells, row_at}
+use Rattle.cells.specs.declared.place.At.{At}
+use Rattle.cells.specs.declared.place.Size.{Size}
+use Rattle.cells.specs.Places.{places, plus, spot}
+use Rattle.cells.specs.Cells.{Cells, cell_at}
 
--- the bytes of a frame: those of its w*h cells, from its first cell on (own)
+-- the places of a frame, in raster order
+abbrev pub frame_size : Cells → Size
+frame_size clip = record { w = clip.size.w; h = clip.size.h; f = 1 }
+
+-- the bytes of the cell at a place of frame i
+abbrev pub cell_of_frame : Cells → ℕ → At → List ℕ
+cell_of_frame clip i p = unwrap_or (cell_at clip (plus p (spot 0 0 i))) []
+
+-- the bytes of a frame: those of its cells, one after another in raster order (own)
 abbrev pub frame_of : Cells → ℕ → List ℕ
-frame_of clip i = row_at clip (spot 0 0 i) (clip.size.w * clip.size.h)
+frame_of clip i = flat_map (cell_of_frame clip i) (places (frame_size clip))
 
 -- the frame distance D: the sum of squared differences over the samples of two frames
 -- (Schödl et al. 2000)

@@ -1,4 +1,4 @@
--- A table of frame distances. (Own.)
+-- A reader has to trust this file. A table of frame distances. (Own.)
 use Rattle.std.specs.Prelude.{◌≡◌, ◌≤◌, ◌<◌, ℕ, ◌+◌, ◌*◌, ◌/◌, ◌%◌, ◌^◌, List, length, map, All, slice_index}
 use Rattle.std.specs.List.{range_with_len}
 use Rattle.cells.specs.Cells.{Cells}
@@ -23,8 +23,13 @@ distances_of clip = record {
   numbers = entries_of clip.size.f (frame_distance clip) (clip.size.f * clip.size.f);
 }
 
+-- the numbers of a table are the distances of the frames of a clip
+abbrev pub AreDistancesOf : Cells → Distances → Type 0
+AreDistancesOf clip table = (i j : ℕ) → i < clip.size.f → j < clip.size.f →
+    distance_at table i j ≡ frame_distance clip i j
+
 -- what every table of distances is
-pub record IsTable (table : Distances) : Type 0 where
+pub record IsDistanceTable (table : Distances) : Type 0 where
   pub frames : (1 ≤ table.frames) × (table.frames ≤ 256)
   pub whole : length table.numbers ≡ table.frames * table.frames
   pub below : All (λ number. number < 2 ^ 43) table.numbers

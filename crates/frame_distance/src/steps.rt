@@ -1,6 +1,6 @@
 // The costs of steps from frame to frame.
 ghost use Rattle.std.specs.Prelude.{◌≡◌, ◌≤◌, ◌<◌, ℕ, ◌+◌, ◌-◌, ◌^◌, true, IfOk, IfSome};
-ghost use Rattle.frame_distance.specs.Steps.{AreSteps, has_terms, filter_sum, filtered_distance, step_cost, step_at, steps_of};
+ghost use Rattle.frame_distance.specs.Steps.{AreSteps, AreStepsOf, has_terms, filter_sum, filtered_distance, step_cost, step_at, steps_of};
 
 use crate::table::Table;
 use cells::Taps;
@@ -118,7 +118,7 @@ fn step_cost(table: &Table, taps: Taps, gap: u32, i: u32, j: u32) -> Option<u64>
 /// one that is jumped to where the two are at least `gap` apart.
 pub fn filtered(alloc: Global, table: &Table, taps: Taps, gap: u32) -> Result<StepCosts, AllocError>
     ensures steps { IfOk result (λ costs. costs ≡ steps_of table.now taps gap) }
-    ensures each { IfOk result (λ costs. (i j : ℕ) → i < table.now.frames → j < table.now.frames → step_at costs i j ≡ step_cost table.now taps gap i j) }
+    ensures each { IfOk result (AreStepsOf table.now taps gap) }
 {
     let n = table.frames();
     let mut costs = Vec::with_capacity(alloc, n as usize * n as usize)?;

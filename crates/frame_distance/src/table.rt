@@ -1,13 +1,20 @@
 // Distances of each two frames of a clip.
 ghost use Rattle.std.specs.Prelude.{◌≡◌, ◌≤◌, ◌<◌, ℕ, ◌+◌, ◌*◌, ◌/◌, ◌%◌, ◌^◌, IfOk, All, length};
+ghost use Rattle.cells.specs.Cells.{IsOnePart};
 ghost use Rattle.cells.specs.Places.{cell_count};
 ghost use Rattle.frame_distance.specs.Frames.{frame_distance, frame_in, distance_in};
-ghost use Rattle.frame_distance.specs.Tables.{IsTable, distance_at, distances_of, entries_of};
+ghost use Rattle.frame_distance.specs.Tables.{AreDistancesOf, IsDistanceTable, distance_at, distances_of, entries_of};
 
 use cells::Volume;
 use lane_kernels::ssd;
 use std::alloc::{AllocError, Global};
 use std::marker::Model;
+
+/// The most cells of a clip whose frames are compared.
+pub const MOST_CLIP_CELLS: usize = 8388608;
+
+// The most bytes of a frame: one of all these cells, of 6 samples each.
+const MOST_FRAME_BYTES: usize = 50331648;
 
 /// The distance of each two frames of a clip: from 1 to 256 frames, each number below 2^43.
 #[derive(Drop)]
@@ -17,20 +24,21 @@ pub struct Table {
 }
 
 impl Model for Table {
-    ghost use Rattle.frame_distance.specs.Tables.{Distances, IsTable};
+    ghost use Rattle.frame_distance.specs.Tables.{Distances, IsDistanceTable};
 
     ghost Value = { Distances };
 
     ghost view = { λ a. record { frames = a.frames; numbers = a.numbers.items } };
 
-    ghost invariant = { λ a. IsTable (record { frames = a.frames; numbers = a.numbers.items }) };
+    ghost invariant = { λ a. IsDistanceTable
+        (record { frames = a.frames; numbers = a.numbers.items }) };
 }
 
 impl Table {
     /// The number of frames.
     pub fn frames(&self) -> u32
         ensures frames { result ≡ self.now.frames }
-        ensures table { IsTable self.now }
+        ensures table { IsDistanceTable self.now }
     {
         let numbers = self.numbers.as_slice();
         let frames = self.frames;
@@ -62,11 +70,12 @@ fn frame(bytes: &[u8], len: usize, i: usize) -> &[u8]
 // diagonal is read from the rows before, and each two frames are summed once.
 fn next_distance(bytes: &[u8], len: usize, n: usize, so_far: &[u64]) -> u64
     requires frames { length bytes.now ≡ len * n }
-    requires len { len ≤ 50331648 }
+    requires len { len ≤ MOST_FRAME_BYTES }
     requires more { length so_far.now < n * n }
     requires so_far { so_far.now ≡ entries_of n (distance_in bytes.now len) (length so_far.now) }
     requires small { All (λ number. number < 2 ^ 43) so_far.now }
-    ensures distance { result ≡ distance_in bytes.now len (length so_far.now / n) (length so_far.now % n) }
+    ensures distance { result ≡
+        distance_in bytes.now len (length so_far.now / n) (length so_far.now % n) }
     ensures below { result < 2 ^ 43 }
 {
     let i = so_far.len() / n;
@@ -83,9 +92,10 @@ fn next_distance(bytes: &[u8], len: usize, n: usize, so_far: &[u64]) -> u64
 // The table of n frames of `len` bytes, row by row.
 fn all_distances(alloc: Global, bytes: &[u8], len: usize, n: usize) -> Result<Vec<u64>, AllocError>
     requires frames { length bytes.now ≡ len * n }
-    requires len { len ≤ 50331648 }
+    requires len { len ≤ MOST_FRAME_BYTES }
     requires few { n ≤ 256 }
-    ensures numbers { IfOk result (λ numbers. numbers.items ≡ entries_of n (distance_in bytes.now len) (n * n)) }
+    ensures numbers { IfOk result (λ numbers.
+        numbers.items ≡ entries_of n (distance_in bytes.now len) (n * n)) }
     ensures small { IfOk result (λ numbers. All (λ number. number < 2 ^ 43) numbers.items) }
 {
     let mut numbers = Vec::with_capacity(alloc, n * n)?;
@@ -99,10 +109,11 @@ fn all_distances(alloc: Global, bytes: &[u8], len: usize, n: usize) -> Result<Ve
 /// The distance of each two frames of a clip of at most 256 frames and 2^23 cells: the sum of squared
 /// differences over their samples.
 pub fn distances(alloc: Global, clip: &Volume) -> Result<Table, AllocError>
+    requires part { IsOnePart clip.now }
     requires frames { clip.now.size.f ≤ 256 }
-    requires cells { cell_count clip.now.size ≤ 8388608 }
+    requires cells { cell_count clip.now.size ≤ MOST_CLIP_CELLS }
     ensures table { IfOk result (λ table. table ≡ distances_of clip.now) }
-    ensures each { IfOk result (λ table. (i j : ℕ) → i < clip.now.size.f → j < clip.now.size.f → distance_at table i j ≡ frame_distance clip.now i j) }
+    ensures each { IfOk result (AreDistancesOf clip.now) }
 {
     let size = clip.size();
     let n = size.f as usize;

@@ -1,5 +1,5 @@
 // Worked examples, and the calls that take memory once each.
-ghost use Rattle.std.specs.Prelude.{◌≡◌, ◌≤◌, IfOk, length};
+ghost use Rattle.std.specs.Prelude.{◌≡◌, ◌≤◌, IfOk, length, []};
 
 use super::*;
 use cells::{Size, Taps, Volume};
@@ -10,7 +10,8 @@ use std::test::Fail;
 fn clip_of(alloc: Global, frames: &[u8]) -> Result<Volume, AllocError>
     requires some { 1 ≤ length frames.now }
     requires few { length frames.now ≤ 16 }
-    ensures { IfOk result (λ clip. (clip.size.w ≡ 1) × (clip.size.h ≡ 1) × (clip.size.f ≡ length frames.now)) }
+    ensures { IfOk result (λ clip. (clip.size.w ≡ 1) × (clip.size.h ≡ 1)
+        × (clip.size.f ≡ length frames.now) × (clip.more ≡ [])) }
 {
     let size = Size {
         w: 1,

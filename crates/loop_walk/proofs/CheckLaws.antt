@@ -6,10 +6,10 @@ use Rattle.std.proofs.lemmas.Nat.{mul-add-lt, div-mul-add, mod-mul-add, div_belo
 use Rattle.std.proofs.lemmas.List.{get_or_append_left, get_or_push, take_more}
 use Rattle.std.proofs.Math.Nat.{mul-le-mul_right}
 use Rattle.frame_distance.specs.Steps.{Steps, step_at}
-use Rattle.loop_walk.specs.Walks.{cost_of, plus, steps_along, steps_round}
+use Rattle.loop_walk.specs.Walks.{steps_cost, sum_if_both, steps_along, steps_round}
 use Rattle.loop_walk.specs.Tables.{EntriesHold, EntryHolds, IsBelowSums, entry_at, length_before, second_table, sum_at, table_count, table_lengths}
-use Rattle.loop_walk.specs.Records.{IsFirstBroken, PlaceHolds}
-use Rattle.loop_walk.specs.Products.{IsBelow}
+use Rattle.loop_walk.specs.Records.{IsFirstPlace, PlaceHolds}
+use Rattle.loop_walk.specs.Products.{IsBelowProducts}
 use Rattle.loop_walk.proofs.Lengths.{earlier_length}
 use Rattle.loop_walk.proofs.TraceLaws.{cost_of-append}
 
@@ -48,11 +48,11 @@ no_step costs i j out =
     (⊎_elim (λ le. and_left (nat_lt i costs.frames) (nat_lt j costs.frames) (le-ltb i costs.frames le)) (λ le. and_right (nat_lt i costs.frames) (nat_lt j costs.frames) (le-ltb j costs.frames le)) out)
 
 -- one more step
-pub cost_more : (costs : Steps) (steps : List (ℕ × ℕ)) (p cost step : ℕ) → p < length steps → cost_of costs (take p steps) ≡ Some cost
-    → Some step ≡ step_at costs (get_or steps p (0, 0)).0 (get_or steps p (0, 0)).1 → cost_of costs (take (p + 1) steps) ≡ Some (cost + step)
+pub cost_more : (costs : Steps) (steps : List (ℕ × ℕ)) (p cost step : ℕ) → p < length steps → steps_cost costs (take p steps) ≡ Some cost
+    → Some step ≡ step_at costs (get_or steps p (0, 0)).0 (get_or steps p (0, 0)).1 → steps_cost costs (take (p + 1) steps) ≡ Some (cost + step)
 cost_more costs steps p cost step lt so_far is =
-    ap (cost_of costs) (take_more steps p (0, 0) lt) ∙ cost_of-append costs (take p steps) (get_or steps p (0, 0) ∷ [])
-    ∙ (λ k. plus (so_far k) (plus (sym is k) (Some 0))) ∙ ap Some (let e : cost + (step + 0) ≡ cost + step = omega arith in e)
+    ap (steps_cost costs) (take_more steps p (0, 0) lt) ∙ cost_of-append costs (take p steps) (get_or steps p (0, 0) ∷ [])
+    ∙ (λ k. sum_if_both (so_far k) (sum_if_both (sym is k) (Some 0))) ∙ ap Some (let e : cost + (step + 0) ≡ cost + step = omega arith in e)
 
 module _ (costs : Steps) (len : ℕ) (tables : List ℕ) (t q : ℕ) (lt : q < costs.frames * costs.frames) where
   -- the place of an entry of table t + 1
@@ -71,11 +71,11 @@ module _ (costs : Steps) (len : ℕ) (tables : List ℕ) (t q : ℕ) (lt : q < c
       (subst (λ d. EntryHolds costs len tables d (place % area / costs.frames) (place % area % costs.frames)) (div-mul-add t area q lt) holds)
 
   module _ (last : get_or (table_lengths len) t 0 ≡ len) where
-    pub below_at_place : IsBelow costs tables t (second_table len t) (q / costs.frames) (q % costs.frames) → PlaceHolds costs len tables (t * (costs.frames * costs.frames) + q)
+    pub below_at_place : IsBelowProducts costs tables t (second_table len t) (q / costs.frames) (q % costs.frames) → PlaceHolds costs len tables (t * (costs.frames * costs.frames) + q)
     below_at_place below = holds_at_place
         (subst (λ l. IsBelowSums costs.frames (entry_at costs tables (suc t) (q / costs.frames) (q % costs.frames)) (sum_at costs tables l t (q / costs.frames) (q % costs.frames))) (sym last) below)
 
-    pub below_from_place : PlaceHolds costs len tables (t * (costs.frames * costs.frames) + q) → IsBelow costs tables t (second_table len t) (q / costs.frames) (q % costs.frames)
+    pub below_from_place : PlaceHolds costs len tables (t * (costs.frames * costs.frames) + q) → IsBelowProducts costs tables t (second_table len t) (q / costs.frames) (q % costs.frames)
     below_from_place holds =
         subst (λ l. IsBelowSums costs.frames (entry_at costs tables (suc t) (q / costs.frames) (q % costs.frames)) (sum_at costs tables l t (q / costs.frames) (q % costs.frames))) last (holds_from_place holds)
 
@@ -113,7 +113,7 @@ entries_from_places costs len tables places t i j lt row column =
     subst (λ r. EntryHolds costs len tables t r j) (div-mul-add i n j column)
     (subst (λ r. EntryHolds costs len tables t (q / n) r) (mod-mul-add i n j column) (holds_from_place costs len tables t q inside (places (t * (n * n) + q) below)))
 
-pub first_broken-same : (n n' : ℕ) (P Q : ℕ → Type 0) (place : ℕ) → n ≤ n' → ((p : ℕ) → p < n → P p → Q p) → ((p : ℕ) → p < n → Q p → P p) → IsFirstBroken n P place → IsFirstBroken n' Q place
+pub first_broken-same : (n n' : ℕ) (P Q : ℕ → Type 0) (place : ℕ) → n ≤ n' → ((p : ℕ) → p < n → P p → Q p) → ((p : ℕ) → p < n → Q p → P p) → IsFirstPlace n P place → IsFirstPlace n' Q place
 first_broken-same n n' P Q place le to from first = record {
   below = omega (arith, first.below);
   before = λ earlier lt. to earlier (omega (arith, first.below)) (first.before earlier lt);

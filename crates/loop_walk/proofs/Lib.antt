@@ -7,3 +7,4 @@ pub mod WayLaws
 pub mod TraceLaws
 pub mod RecordLaws
 pub mod CheckLaws
+pub mod OneAnswer

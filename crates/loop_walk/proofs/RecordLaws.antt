@@ -5,8 +5,8 @@ use Rattle.std.proofs.lemmas.Bool.{cases_eq}
 use Rattle.std.proofs.lemmas.Nat.{mul-add-lt}
 use Rattle.frame_distance.specs.Steps.{Steps}
 use Rattle.loop_walk.specs.Walks.{AtMost, HasNoWalk, walk_cost}
-use Rattle.loop_walk.specs.Tables.{EntriesHold, entry_at, entry_of, table_count}
-use Rattle.loop_walk.specs.Products.{AllowsCost, AreFilled, FindsLeast, GoesRound, IsSmall, IsStepTable, table_in}
+use Rattle.loop_walk.specs.Tables.{EntriesHold, entry_at, table_entry, table_count}
+use Rattle.loop_walk.specs.Products.{AllowsCost, AreFilled, FindsLeast, GoesRound, IsNoneOrAtMost, IsStepTable, table_in}
 use Rattle.loop_walk.proofs.Numbers.{at_most, entry_of-none, entry_of-some}
 use Rattle.loop_walk.proofs.TableLaws.{holds_from_tight, table_in-entry, table_in-small}
 use Rattle.loop_walk.proofs.WayLaws.{first_from, least_from, none_from, some_is}
@@ -16,14 +16,14 @@ module _ (costs : Steps) (m : ℕ) (some : 1 ≤ m) (few : m ≤ 4096) (steps : 
     (first : ℕ) (below : first < costs.frames)
     (least : (i : ℕ) → i < costs.frames → get_or last (first * costs.frames + first) 0 ≤ get_or last (i * costs.frames + i) 0)
     (firsts : (i : ℕ) → i < first → get_or last (first * costs.frames + first) 0 < get_or last (i * costs.frames + i) 0) where
-  diagonal : (i : ℕ) → i < costs.frames → entry_of (get_or last (i * costs.frames + i) 0) ≡ entry_at costs tables (table_count m) i i
+  diagonal : (i : ℕ) → i < costs.frames → table_entry (get_or last (i * costs.frames + i) 0) ≡ entry_at costs tables (table_count m) i i
   diagonal i lt =
-      ap (λ xs. entry_of (get_or xs (i * costs.frames + i) 0)) is_last
+      ap (λ xs. table_entry (get_or xs (i * costs.frames + i) 0)) is_last
       ∙ table_in-entry costs steps is tables (table_count m) i i (omega (arith, filled.made.whole)) lt lt
 
   top : (i : ℕ) → i < costs.frames → get_or last (i * costs.frames + i) 0 ≤ 18446744073709551615
   top i lt = ⊎_elim (λ none. omega arith) (λ small. omega arith)
-      (subst (λ xs. IsSmall (m * 2 ^ 46) (get_or xs (i * costs.frames + i) 0)) (sym is_last)
+      (subst (λ xs. IsNoneOrAtMost (m * 2 ^ 46) (get_or xs (i * costs.frames + i) 0)) (sym is_last)
       (table_in-small costs steps is tables (m * 2 ^ 46) (table_count m) (i * costs.frames + i) (omega arith) filled.small (omega (arith, filled.made.whole)) (mul-add-lt i costs.frames i costs.frames lt lt)))
 
   holds : EntriesHold costs m tables
@@ -44,7 +44,7 @@ module _ (costs : Steps) (m : ℕ) (some : 1 ≤ m) (few : m ≤ 4096) (steps : 
     allows i lt =
         let cost = get_or last (first * costs.frames + first) 0 in
         let x = get_or last (i * costs.frames + i) 0 in
-        subst (AtMost (Some cost)) (diagonal i lt) (subst (λ o. AtMost o (entry_of x)) (entry_of-some cost there) (at_most cost x (least i lt) (top i lt)))
+        subst (AtMost (Some cost)) (diagonal i lt) (subst (λ o. AtMost o (table_entry x)) (entry_of-some cost there) (at_most cost x (least i lt) (top i lt)))
 
     above : (i : ℕ) → i < first → AtMost (Some (suc (get_or last (first * costs.frames + first) 0))) (entry_at costs tables (table_count m) i i)
     above i lt =

@@ -7,8 +7,8 @@ use Rattle.frame_distance.specs.Tables.{entries_of}
 use Rattle.frame_distance.specs.Steps.{Steps, AreSteps, step_at}
 use Rattle.frame_distance.proofs.EntryLaws.{entries_of-inside, length-entries_of, row_below, column_below}
 use Rattle.frame_distance.proofs.StepLaws.{step_at-inside}
-use Rattle.loop_walk.specs.Tables.{entry_of}
-use Rattle.loop_walk.specs.Products.{IsSmall, IsStepTable, step_numbers}
+use Rattle.loop_walk.specs.Tables.{table_entry}
+use Rattle.loop_walk.specs.Products.{IsNoneOrAtMost, IsStepTable, step_numbers}
 use Rattle.loop_walk.proofs.Numbers.{entry_of-number_of, small-number_of}
 
 below_more : (o : Option ℕ) → IfSome o (λ x. x < 2 ^ 46) → IfSome o (λ x. x < 18446744073709551615)
@@ -28,11 +28,11 @@ module _ (costs : Steps) (are : AreSteps costs) where
       record {
         whole = whole;
         entries = λ i j row column.
-            ap entry_of (ap (λ xs. get_or xs (i * n + j) 0) is ∙ entries_of-inside n (step_numbers costs) i j 0 row column)
+            ap table_entry (ap (λ xs. get_or xs (i * n + j) 0) is ∙ entries_of-inside n (step_numbers costs) i j 0 row column)
             ∙ entry_of-number_of (step_at costs i j) (below_more (step_at costs i j) (step_small i j row column));
         small = λ k lt.
             let below : k < n * n = omega arith in
-            subst (IsSmall (2 ^ 46))
+            subst (IsNoneOrAtMost (2 ^ 46))
             (sym (ap (λ xs. get_or xs k 0) is ∙ get_or-map-range_with_len (λ k. step_numbers costs (k / n) (k % n)) 0 (n * n) k k 0 below (omega arith)))
             (small-number_of (step_at costs (k / n) (k % n)) (2 ^ 46) (step_small (k / n) (k % n) (row_below n k below) (column_below n k below)));
       }

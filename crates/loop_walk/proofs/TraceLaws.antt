@@ -6,8 +6,8 @@ use Rattle.std.proofs.lemmas.Bool.{cases_eq, false≢true}
 use Rattle.std.proofs.lemmas.Nat.{mul-add-lt}
 use Rattle.std.proofs.lemmas.List.{append-nil}
 use Rattle.frame_distance.specs.Steps.{Steps, step_at}
-use Rattle.loop_walk.specs.Walks.{plus, AtMost, cost_of, steps_along, walk_cost}
-use Rattle.loop_walk.specs.Tables.{length_before, table_lengths, table_count, entry_at, entry_of, second_table, sum_at, IsLeastSum}
+use Rattle.loop_walk.specs.Walks.{sum_if_both, AtMost, steps_cost, steps_along, walk_cost}
+use Rattle.loop_walk.specs.Tables.{length_before, table_lengths, table_count, entry_at, table_entry, second_table, sum_at, IsLeastSum}
 use Rattle.loop_walk.specs.Products.{AddsWay, AreFilled, GoesRound, HoldsTables, IsStepTable, sum_through, table_in}
 use Rattle.loop_walk.proofs.Lengths.{IsBefore, is_before, last_length, second_is, table_count-more, table_count-one}
 use Rattle.loop_walk.proofs.Numbers.{entry_is, entry_not, entry_of-some, entry_of-stopped_sum, small-more}
@@ -17,29 +17,29 @@ pub on_ok : {A E : Type 0} (r : Result A E) (P Q : Type 0) → (P → Q) → OnO
 on_ok (Ok x) P Q f p = f p
 on_ok (Err e) P Q f p = p
 
-pub both_some : (a b o : Option ℕ) → plus a b ≡ o → IsSome o → IsSome a × IsSome b
+pub both_some : (a b o : Option ℕ) → sum_if_both a b ≡ o → IsSome o → IsSome a × IsSome b
 both_some None b o is some = absurd (false≢true (subst IsSome (sym is) some))
 both_some (Some a) None o is some = absurd (false≢true (subst IsSome (sym is) some))
 both_some (Some a) (Some b) o is some = (refl, refl)
 
-plus-zero : (o : Option ℕ) → plus o (Some 0) ≡ o
+plus-zero : (o : Option ℕ) → sum_if_both o (Some 0) ≡ o
 plus-zero None = refl
 plus-zero (Some a) = ap Some (let e : a + 0 ≡ a = omega arith in e)
 
-zero-plus : (o : Option ℕ) → plus (Some 0) o ≡ o
+zero-plus : (o : Option ℕ) → sum_if_both (Some 0) o ≡ o
 zero-plus None = refl
 zero-plus (Some a) = ap Some (let e : 0 + a ≡ a = omega arith in e)
 
-plus-assoc : (a b c : Option ℕ) → plus a (plus b c) ≡ plus (plus a b) c
+plus-assoc : (a b c : Option ℕ) → sum_if_both a (sum_if_both b c) ≡ sum_if_both (sum_if_both a b) c
 plus-assoc None b c = refl
 plus-assoc (Some a) None c = refl
 plus-assoc (Some a) (Some b) None = refl
 plus-assoc (Some a) (Some b) (Some c) = ap Some (let e : a + (b + c) ≡ a + b + c = omega arith in e)
 
-pub cost_of-append : (costs : Steps) (xs ys : List (ℕ × ℕ)) → cost_of costs (xs ++ ys) ≡ plus (cost_of costs xs) (cost_of costs ys)
-cost_of-append costs [] ys = sym (zero-plus (cost_of costs ys))
+pub cost_of-append : (costs : Steps) (xs ys : List (ℕ × ℕ)) → steps_cost costs (xs ++ ys) ≡ sum_if_both (steps_cost costs xs) (steps_cost costs ys)
+cost_of-append costs [] ys = sym (zero-plus (steps_cost costs ys))
 cost_of-append costs (x ∷ xs) ys =
-    ap (plus (step_at costs x.0 x.1)) (cost_of-append costs xs ys) ∙ plus-assoc (step_at costs x.0 x.1) (cost_of costs xs) (cost_of costs ys)
+    ap (sum_if_both (step_at costs x.0 x.1)) (cost_of-append costs xs ys) ∙ plus-assoc (step_at costs x.0 x.1) (steps_cost costs xs) (steps_cost costs ys)
 
 steps_along-append : (i v j : ℕ) (xs ys : List ℕ) → steps_along i (xs ++ v ∷ ys) j ≡ steps_along i xs v ++ steps_along v ys j
 steps_along-append i v j [] ys = refl
@@ -55,7 +55,7 @@ one_way costs i j walk = record {
 }
 
 -- two ways that meet at v are a way
-pub ways_joined : (costs : Steps) (m b rest i v j : ℕ) (first second cost : Option ℕ) (old middle pushed new : List ℕ) → b + rest ≡ m → plus first second ≡ cost
+pub ways_joined : (costs : Steps) (m b rest i v j : ℕ) (first second cost : Option ℕ) (old middle pushed new : List ℕ) → b + rest ≡ m → sum_if_both first second ≡ cost
     → AddsWay costs b i v first old middle → pushed ≡ middle ++ v ∷ [] → AddsWay costs rest v j second pushed new → AddsWay costs m i j cost old new
 ways_joined costs m b rest i v j first second cost old middle pushed new lengths sum way push way' = record {
   between = way.between ++ v ∷ way'.between;
@@ -64,9 +64,9 @@ ways_joined costs m b rest i v j first second cost old middle pushed new lengths
       ∙ append_assoc (old ++ way.between) (v ∷ []) way'.between ∙ append_assoc old way.between (v ∷ way'.between);
   steps = omega (arith, length-append way.between (v ∷ way'.between), way.steps, way'.steps);
   costs_so_much =
-      ap (cost_of costs) (steps_along-append i v j way.between way'.between)
+      ap (steps_cost costs) (steps_along-append i v j way.between way'.between)
       ∙ cost_of-append costs (steps_along i way.between v) (steps_along v way'.between j)
-      ∙ (λ k. plus (way.costs_so_much k) (way'.costs_so_much k)) ∙ sum;
+      ∙ (λ k. sum_if_both (way.costs_so_much k) (way'.costs_so_much k)) ∙ sum;
 }
 
 -- a way from a frame back to it goes round
@@ -125,25 +125,25 @@ module _ (costs : Steps) (m b t : ℕ) (two : 2 ≤ m) (is_b : b ≡ length_befo
 
   -- the sum through a frame, as a number and as an entry
   sum_is : (i j v : ℕ) → i < costs.frames → j < costs.frames → v < costs.frames
-      → entry_of (sum_through costs.frames (table_in steps tables t) (table_in steps tables (second_table m t)) i j v) ≡ plus (entry_at costs tables t i v) (entry_at costs tables (second_table m t) v j)
+      → table_entry (sum_through costs.frames (table_in steps tables t) (table_in steps tables (second_table m t)) i j v) ≡ sum_if_both (entry_at costs tables t i v) (entry_at costs tables (second_table m t) v j)
   sum_is i j v row column lt =
       let n = costs.frames in
       entry_of-stopped_sum (2 ^ 58) (2 ^ 58) (get_or (table_in steps tables t) (i * n + v) 0) (get_or (table_in steps tables (second_table m t)) (v * n + j) 0) (omega arith)
       (table_in-small costs steps is tables (2 ^ 58) t (i * n + v) (omega arith) holds.small fits (mul-add-lt i n v n row lt))
       (table_in-small costs steps is tables (2 ^ 58) (second_table m t) (v * n + j) (omega arith) holds.small fits_second (mul-add-lt v n j n lt column))
-      ∙ (λ k. plus (table_in-entry costs steps is tables t i v fits row lt k) (table_in-entry costs steps is tables (second_table m t) v j fits_second lt column k))
+      ∙ (λ k. sum_if_both (table_in-entry costs steps is tables t i v fits row lt k) (table_in-entry costs steps is tables (second_table m t) v j fits_second lt column k))
 
   -- through the frame with the least sum the halves cost what the entry says
   pub halves : (i j v : ℕ) → i < costs.frames → j < costs.frames → v < costs.frames → IsSome (entry_at costs tables (table_count m) i j)
       → ((u : ℕ) → u < costs.frames → sum_through costs.frames (table_in steps tables t) (table_in steps tables (second_table m t)) i j v ≤ sum_through costs.frames (table_in steps tables t) (table_in steps tables (second_table m t)) i j u)
-      → plus (entry_at costs tables t i v) (entry_at costs tables (second_table m t) v j) ≡ entry_at costs tables (table_count m) i j
+      → sum_if_both (entry_at costs tables t i v) (entry_at costs tables (second_table m t) v j) ≡ entry_at costs tables (table_count m) i j
   halves i j v row column lt some least = by (entry_at costs tables (suc t) i j) refl (subst (λ c. IsSome (entry_at costs tables c i j)) count_is some)
     where
       tight : IsLeastSum costs.frames (entry_at costs tables (suc t) i j) (sum_at costs tables m t i j)
       tight = subst (λ l. IsLeastSum costs.frames (entry_at costs tables (suc t) i j) (sum_at costs tables l t i j))
           (ap (λ c. get_or (table_lengths m) c 0) (is_t ∙ ap table_count is_b) ∙ last_length m 0 two) (holds.tight t i j (omega (arith, count_is)) row column)
 
-      by : (o : Option ℕ) → entry_at costs tables (suc t) i j ≡ o → IsSome o → plus (entry_at costs tables t i v) (entry_at costs tables (second_table m t) v j) ≡ entry_at costs tables (table_count m) i j
+      by : (o : Option ℕ) → entry_at costs tables (suc t) i j ≡ o → IsSome o → sum_if_both (entry_at costs tables t i v) (entry_at costs tables (second_table m t) v j) ≡ entry_at costs tables (table_count m) i j
       by None at some = absurd (false≢true some)
       by (Some e) at some =
           let n = costs.frames in
@@ -155,10 +155,10 @@ module _ (costs : Steps) (m b t : ℕ) (two : 2 ≤ m) (is_b : b ≡ length_befo
           let there : e ≡ 18446744073709551615 → ⊥ = entry_apart e sum_u (sum_is i j found.0 row column found.1 ∙ found.2) in
           let top : sum_v ≤ 18446744073709551615 = omega arith in
           let top_u : sum_u ≤ 18446744073709551615 = omega arith in
-          let here : entry_of sum_v ≡ Some sum_v = entry_of-some sum_v (λ x. absurd (there (omega arith))) in
+          let here : table_entry sum_v ≡ Some sum_v = entry_of-some sum_v (λ x. absurd (there (omega arith))) in
           let low : AtMost (Some e) (Some sum_v) =
           subst (λ o. AtMost o (Some sum_v)) at (subst (AtMost (entry_at costs tables (suc t) i j)) (sym (sum_is i j v row column lt) ∙ here) (tight.below v lt)) in
           sym (sum_is i j v row column lt) ∙ here ∙ ap Some (let same : sum_v ≡ e = omega arith in same) ∙ sym at ∙ ap (λ c. entry_at costs tables c i j) (sym count_is)
         where
-          entry_apart : (e x : ℕ) → entry_of x ≡ Some e → e ≡ 18446744073709551615 → ⊥
+          entry_apart : (e x : ℕ) → table_entry x ≡ Some e → e ≡ 18446744073709551615 → ⊥
           entry_apart e x is top = entry_not x e is (entry_is x e is ∙ top)

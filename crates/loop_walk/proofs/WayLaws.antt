@@ -6,17 +6,17 @@ use Rattle.std.proofs.lemmas.Option.{same_Some}
 use Rattle.std.proofs.lemmas.Bool.{cases_eq, cases_lt, cases_Bool, and_parts, ltb-true, false≢true}
 use Rattle.std.proofs.lemmas.List.Elements.{All-head, All-tail, All-cons, All-nil}
 use Rattle.frame_distance.specs.Steps.{Steps, step_at}
-use Rattle.loop_walk.specs.Walks.{plus, AtMost, HasStep, HasNoWalk, IsLeastWalk, BeginsFirst, cost_of, steps_along, steps_round, walk_cost}
+use Rattle.loop_walk.specs.Walks.{sum_if_both, AtMost, HasStep, HasNoWalk, IsLeastWalk, BeginsFirst, steps_cost, steps_along, steps_round, walk_cost}
 use Rattle.loop_walk.specs.Tables.{length_before, table_count, entry_at, second_table, sum_at, EntriesHold}
 use Rattle.loop_walk.proofs.Lengths.{by_length, is_before, last_length, second-even, second-odd, table_count-more}
 use Rattle.loop_walk.proofs.TableLaws.{holds-before}
 
-pub plus_some : (a b : Option ℕ) (x : ℕ) → plus a b ≡ Some x → (y : ℕ) × (z : ℕ) × (a ≡ Some y) × (b ≡ Some z) × (x ≡ y + z)
+pub plus_some : (a b : Option ℕ) (x : ℕ) → sum_if_both a b ≡ Some x → (y : ℕ) × (z : ℕ) × (a ≡ Some y) × (b ≡ Some z) × (x ≡ y + z)
 plus_some None b x is = absurd cc
 plus_some (Some a) None x is = absurd cc
 plus_some (Some a) (Some b) x is = (a, b, refl, refl, sym (same_Some (a + b) x is))
 
-pub plus_at_most : (a b : Option ℕ) (y z : ℕ) → AtMost a (Some y) → AtMost b (Some z) → AtMost (plus a b) (Some (y + z))
+pub plus_at_most : (a b : Option ℕ) (y z : ℕ) → AtMost a (Some y) → AtMost b (Some z) → AtMost (sum_if_both a b) (Some (y + z))
 plus_at_most None b y z la lb = absurd la
 plus_at_most (Some a) None y z la lb = absurd lb
 plus_at_most (Some a) (Some b) y z la lb = omega arith
@@ -104,21 +104,21 @@ module _ (costs : Steps) where
       (at_most_trans (entry_at costs tables (suc t) i j) (sum_at costs tables m t i j v) x entry sum))
 
   -- a list of frames as a way
-  pub from_list : (from : ℕ) (rest : List ℕ) (to x : ℕ) → cost_of costs (steps_along from rest to) ≡ Some x → Way (suc (length rest)) from to x
+  pub from_list : (from : ℕ) (rest : List ℕ) (to x : ℕ) → steps_cost costs (steps_along from rest to) ≡ Some x → Way (suc (length rest)) from to x
   from_list from [] to x is =
       let parts = plus_some (step_at costs from to) (Some 0) x is in
       (to, parts.0, 0, parts.2, (refl, refl), omega (arith, parts.4, same_Some 0 parts.1 parts.3))
   from_list from (next ∷ rest) to x is =
-      let parts = plus_some (step_at costs from next) (cost_of costs (steps_along next rest to)) x is in
+      let parts = plus_some (step_at costs from next) (steps_cost costs (steps_along next rest to)) x is in
       (next, parts.0, parts.1, parts.2, from_list next rest to parts.1 parts.3, parts.4)
 
   -- the parts of such a way before and after a frame that it visits
-  visited : (from : ℕ) (rest : List ℕ) (to x p d : ℕ) → cost_of costs (steps_along from rest to) ≡ Some x → p < suc (length rest)
+  visited : (from : ℕ) (rest : List ℕ) (to x p d : ℕ) → steps_cost costs (steps_along from rest to) ≡ Some x → p < suc (length rest)
       → (k : ℕ) × (y : ℕ) × (z : ℕ) × Way p from (get_or (from ∷ rest) p d) y × Way k (get_or (from ∷ rest) p d) to z × (p + k ≡ suc (length rest)) × (x ≡ y + z)
   visited from rest to x zero d is lt = (suc (length rest), 0, x, (refl, refl), from_list from rest to x is, omega arith, omega arith)
   visited from [] to x (suc p) d is lt = absurd (omega arith)
   visited from (next ∷ rest) to x (suc p) d is lt =
-      let parts = plus_some (step_at costs from next) (cost_of costs (steps_along next rest to)) x is in
+      let parts = plus_some (step_at costs from next) (steps_cost costs (steps_along next rest to)) x is in
       let r = visited next rest to parts.1 p d parts.3 (omega arith) in
       (r.0, parts.0 + r.1, r.2, (next, parts.0, r.1, parts.2, r.3, refl), r.4, omega (arith, r.5), omega (arith, parts.4, r.6))
 
@@ -129,17 +129,17 @@ module _ (costs : Steps) where
       let r = visited first rest first x p d is lt in
       join r.0 p (suc (length rest)) (get_or (first ∷ rest) p d) first (get_or (first ∷ rest) p d) r.2 r.1 x (omega (arith, r.5)) (omega (arith, r.6)) r.4 r.3
 
-  pub closed_cost : (steps : List (ℕ × ℕ)) → All (HasStep costs) steps → (x : ℕ) × (cost_of costs steps ≡ Some x)
+  pub closed_cost : (steps : List (ℕ × ℕ)) → All (HasStep costs) steps → (x : ℕ) × (steps_cost costs steps ≡ Some x)
   closed_cost [] all = (0, refl)
   closed_cost (step ∷ steps) all =
       let first = has_some (step_at costs step.0 step.1) (All-head (HasStep costs) step steps all) in
       let rest = closed_cost steps (All-tail (HasStep costs) step steps all) in
-      (first.0 + rest.0, (λ i. plus (first.1 i) (rest.1 i)))
+      (first.0 + rest.0, (λ i. sum_if_both (first.1 i) (rest.1 i)))
 
-  pub cost_closed : (steps : List (ℕ × ℕ)) (x : ℕ) → cost_of costs steps ≡ Some x → All (HasStep costs) steps
+  pub cost_closed : (steps : List (ℕ × ℕ)) (x : ℕ) → steps_cost costs steps ≡ Some x → All (HasStep costs) steps
   cost_closed [] x is = All-nil (HasStep costs)
   cost_closed (step ∷ steps) x is =
-      let parts = plus_some (step_at costs step.0 step.1) (cost_of costs steps) x is in
+      let parts = plus_some (step_at costs step.0 step.1) (steps_cost costs steps) x is in
       All-cons (HasStep costs) step steps (some_is (step_at costs step.0 step.1) parts.0 parts.2) (cost_closed steps parts.1 parts.3)
 
   module _ (tables : List ℕ) (n : ℕ) (some : 1 ≤ n) (holds : EntriesHold costs n tables) where

@@ -1,42 +1,50 @@
--- What the code keeps within the crate: numbers of 64 bits, of which 2^64 - 1 stands for none and a
--- sum stops at it.
+-- What the code keeps within the crate, which no public clause needs: numbers of 64 bits, of which
+-- the greatest stands for none and a sum stops at it.
 use Rattle.std.specs.Prelude.{◌≡◌, ◌≤◌, ◌<◌, ◌⊎◌, ℕ, ◌+◌, ◌-◌, ◌*◌, ◌^◌, zero, suc, min, List, ◌++◌, length, take, drop, Option, Some, None, slice_index, slice_index_or}
 use Rattle.frame_distance.specs.Steps.{Steps, step_at}
-use Rattle.loop_walk.specs.Walks.{AtMost, BeginsFirst, IsLeastWalk, cost_of, plus, steps_along, steps_round, walk_cost}
-use Rattle.loop_walk.specs.Tables.{entry_at, entry_of, table_count, AreTight, EntriesAreTight, IsBelowSums}
+use Rattle.loop_walk.specs.Walks.{AtMost, BeginsFirst, IsLeastWalk, steps_cost, sum_if_both, steps_along, steps_round, walk_cost}
+use Rattle.loop_walk.specs.Tables.{table_size, entry_at, entry_count, none_number, table_entry, table_count, AreTightTables, EntriesAreTight, IsBelowSums}
 
 -- the sum that stops at none
 abbrev pub stopped_sum : ℕ → ℕ → ℕ
 stopped_sum a b = min (a + b) (2 ^ 64 - 1)
 
 -- none, or at most a bound
-abbrev pub IsSmall : ℕ → ℕ → Type 0
-IsSmall bound number = (number ≡ 18446744073709551615) ⊎ (number ≤ bound)
+abbrev pub IsNoneOrAtMost : ℕ → ℕ → Type 0
+IsNoneOrAtMost bound number = (number ≡ none_number) ⊎ (number ≤ bound)
 
 abbrev pub AreSmall : ℕ → List ℕ → Type 0
-AreSmall bound numbers = (k : ℕ) → k < length numbers → IsSmall bound (slice_index numbers k)
+AreSmall bound numbers = (k : ℕ) → k < length numbers → IsNoneOrAtMost bound (slice_index numbers k)
 
 -- the least of n numbers, or none
-pub record IsLeastNumber (n number : ℕ) (number_of : ℕ → ℕ) : Type 0 where
-  pub below : (v : ℕ) → v < n → number ≤ number_of v
-  pub reached : (number ≡ 18446744073709551615) ⊎ ((v : ℕ) × (v < n) × (number ≡ number_of v))
+pub record IsLeastNumber (n number : ℕ) (step_number : ℕ → ℕ) : Type 0 where
+  pub below : (v : ℕ) → v < n → number ≤ step_number v
+  pub reached : (number ≡ none_number) ⊎ ((v : ℕ) × (v < n) × (number ≡ step_number v))
 
 -- a row of the one table and column j of the other, entry by entry
 abbrev pub row_sum : ℕ → List ℕ → List ℕ → ℕ → ℕ → ℕ
-row_sum n firsts right j v = stopped_sum (slice_index firsts v) (slice_index right (v * n + j))
+row_sum n firsts right j v =
+    stopped_sum (slice_index firsts v) (slice_index right (v * n + j))
 
 -- row i of the one table and column j of the other, entry by entry
 abbrev pub sum_through : ℕ → List ℕ → List ℕ → ℕ → ℕ → ℕ → ℕ
-sum_through n left right i j v = stopped_sum (slice_index left (i * n + v)) (slice_index right (v * n + j))
+sum_through n left right i j v =
+    stopped_sum (slice_index left (i * n + v)) (slice_index right (v * n + j))
+
+-- the entry of a table of n frames in row and column i
+abbrev pub diagonal : ℕ → List ℕ → ℕ → ℕ
+diagonal n table i = slice_index table (i * n + i)
 
 -- each entry of a table is the least of the sums of the two tables before it
 abbrev pub IsProduct : ℕ → List ℕ → List ℕ → List ℕ → Type 0
-IsProduct n left right made = (i j : ℕ) → i < n → j < n → IsLeastNumber n (slice_index made (i * n + j)) (sum_through n left right i j)
+IsProduct n left right made = (i j : ℕ) → i < n → j < n →
+    IsLeastNumber n (slice_index made (i * n + j)) (sum_through n left right i j)
 
 -- the table of the step costs
 pub record IsStepTable (costs : Steps) (table : List ℕ) : Type 0 where
-  pub whole : length table ≡ costs.frames * costs.frames
-  pub entries : (i j : ℕ) → i < costs.frames → j < costs.frames → entry_of (slice_index table (i * costs.frames + j)) ≡ step_at costs i j
+  pub whole : length table ≡ table_size costs
+  pub entries : (i j : ℕ) → i < costs.frames → j < costs.frames →
+      table_entry (slice_index table (i * costs.frames + j)) ≡ step_at costs i j
   pub small : AreSmall (2 ^ 46) table
 
 -- the frames of a way from frame i to frame j, between the two, are added to a walk
@@ -44,15 +52,15 @@ pub record AddsWay (costs : Steps) (m i j : ℕ) (cost : Option ℕ) (old new : 
   pub between : List ℕ
   pub added : new ≡ old ++ between
   pub steps : suc (length between) ≡ m
-  pub costs_so_much : cost_of costs (steps_along i between j) ≡ cost
+  pub costs_so_much : steps_cost costs (steps_along i between j) ≡ cost
 
 -- a step as a number of a table
-abbrev pub number_of : Option ℕ → ℕ
-number_of None = 18446744073709551615
-number_of (Some cost) = cost
+abbrev pub step_number : Option ℕ → ℕ
+step_number None = none_number
+step_number (Some cost) = cost
 
 abbrev pub step_numbers : Steps → ℕ → ℕ → ℕ
-step_numbers costs i j = number_of (step_at costs i j)
+step_numbers costs i j = step_number (step_at costs i j)
 
 -- table number t of so many entries, where number 0 is that of the step costs
 abbrev pub table_in : List ℕ → List ℕ → ℕ → List ℕ
@@ -61,29 +69,32 @@ table_in steps tables (suc t) = take (length steps) (drop (t * length steps) tab
 
 -- the tables for a length, tight and far below the greatest number
 pub record AreFilled (costs : Steps) (len : ℕ) (tables : List ℕ) : Type 0 where
-  pub made : AreTight costs len tables
+  pub made : AreTightTables costs len tables
   pub small : AreSmall (len * 2 ^ 46) tables
 
--- the tables for a length stand in front, tight, and no sum of two entries wraps
+-- the tables for a length come first, tight, and no sum of two entries wraps
 pub record HoldsTables (costs : Steps) (len : ℕ) (tables : List ℕ) : Type 0 where
-  pub enough : table_count len * (costs.frames * costs.frames) ≤ length tables
+  pub enough : entry_count costs len ≤ length tables
   pub tight : EntriesAreTight costs len tables
   pub small : AreSmall (2 ^ 58) tables
 
 -- a walk of so many frames from one, round at the cost that the last table says
-pub record GoesRound (costs : Steps) (len : ℕ) (tables : List ℕ) (first : ℕ) (walk : List ℕ) : Type 0 where
+pub record GoesRound (costs : Steps) (len : ℕ) (tables : List ℕ) (first : ℕ)
+    (walk : List ℕ) : Type 0 where
   pub frames : length walk ≡ len
   pub begins : slice_index walk 0 ≡ first
   pub cost : walk_cost costs walk ≡ entry_at costs tables (table_count len) first first
 
 -- an entry is at most the sums with second halves of another table
-abbrev pub IsBelow : Steps → List ℕ → ℕ → ℕ → ℕ → ℕ → Type 0
-IsBelow costs tables t second i j =
-    IsBelowSums costs.frames (entry_at costs tables (suc t) i j) (λ v. plus (entry_at costs tables t i v) (entry_at costs tables second v j))
+abbrev pub IsBelowProducts : Steps → List ℕ → ℕ → ℕ → ℕ → ℕ → Type 0
+IsBelowProducts costs tables t second i j =
+    IsBelowSums costs.frames (entry_at costs tables (suc t) i j)
+    (λ v. sum_if_both (entry_at costs tables t i v) (entry_at costs tables second v j))
 
 -- the last table says of no closed walk from frame i that it costs less
 abbrev pub AllowsCost : Steps → ℕ → List ℕ → ℕ → ℕ → Type 0
-AllowsCost costs len tables cost i = AtMost (Some cost) (entry_at costs tables (table_count len) i i)
+AllowsCost costs len tables cost i =
+    AtMost (Some cost) (entry_at costs tables (table_count len) i i)
 
 -- a least closed walk and its cost, which is at most each diagonal entry of the last table
 pub record FindsLeast (costs : Steps) (len : ℕ) (tables walk : List ℕ) (cost : ℕ) : Type 0 where

@@ -1,8 +1,8 @@
 // The checker: whether a record of a walk stands.
-ghost use Rattle.std.specs.Prelude.{◌≡◌, ◌≤◌, ◌*◌, IfErr, OnOk, length as length_of};
+ghost use Rattle.std.specs.Prelude.{◌≡◌, IfErr, OnOk, length as length_of};
 ghost use Rattle.loop_walk.specs.Walks.{IsLeastWalk};
-ghost use Rattle.loop_walk.specs.Tables.{table_count};
-ghost use Rattle.loop_walk.specs.Records.{IsFirstFault, Stands};
+ghost use Rattle.loop_walk.specs.Tables.{IsLength, entry_count};
+ghost use Rattle.loop_walk.specs.Records.{IsFirstLoopFault, WalkStands};
 
 use crate::fault::LoopFault;
 use crate::rules::{check_diagonal, check_tables, check_walk};
@@ -12,11 +12,11 @@ use frame_distance::StepCosts;
 /// of its sums, and the walk costs at most each diagonal entry of the last table. `table_count` says
 /// how many tables the walk's length has.
 pub fn check_loop(costs: &StepCosts, walk: &[u16], tables: &[u64]) -> Result<(), LoopFault>
-    requires walk { (1 ≤ length_of walk.now) × (length_of walk.now ≤ 4096) }
-    requires tables { length_of tables.now ≡ table_count (length_of walk.now) * (costs.now.frames * costs.now.frames) }
-    ensures stands { OnOk result (Stands costs.now walk.now tables.now) }
+    requires walk { IsLength (length_of walk.now) }
+    requires tables { length_of tables.now ≡ entry_count costs.now (length_of walk.now) }
+    ensures stands { OnOk result (WalkStands costs.now walk.now tables.now) }
     ensures least { OnOk result (IsLeastWalk costs.now (length_of walk.now) walk.now) }
-    ensures fault { IfErr result (λ fault. IsFirstFault costs.now walk.now tables.now fault) }
+    ensures fault { IfErr result (λ fault. IsFirstLoopFault costs.now walk.now tables.now fault) }
 {
     let length = walk.len() as u32;
     let cost = check_walk(costs, walk)?;

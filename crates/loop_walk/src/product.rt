@@ -8,7 +8,8 @@ pub const NONE: u64 = u64::MAX;
 // Lowers each number of a row to a first half with the second half that stands there.
 fn lower(sums: &mut [u64], first: u64, seconds: &[u64])
     requires { length sums.old ≡ length seconds.now }
-    ensures { (j : ℕ) → j < length sums.old → slice_index sums.new j ≡ min (slice_index sums.old j) (stopped_sum first (slice_index seconds.now j)) }
+    ensures { (j : ℕ) → j < length sums.old → slice_index sums.new j ≡
+        min (slice_index sums.old j) (stopped_sum first (slice_index seconds.now j)) }
 {
     for j in 0..sums.len() {
         sums[j] = sums[j].min(first.saturating_add(seconds[j]));
@@ -21,7 +22,8 @@ fn fill_row(n: usize, firsts: &[u64], right: &[u64], sums: &mut [u64])
     requires firsts { length firsts.now ≡ n }
     requires right { length right.now ≡ n * n }
     requires sums { length sums.old ≡ n }
-    ensures { (j : ℕ) → j < n → IsLeastNumber n (slice_index sums.new j) (row_sum n firsts.now right.now j) }
+    ensures { (j : ℕ) → j < n →
+        IsLeastNumber n (slice_index sums.new j) (row_sum n firsts.now right.now j) }
 {
     sums.fill(NONE);
     for v in 0..n {

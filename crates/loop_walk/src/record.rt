@@ -1,9 +1,9 @@
 // The least closed walk of a length, and its record.
 ghost use Rattle.std.specs.Prelude.{◌≡◌, ◌≤◌, ◌<◌, ℕ, ◌+◌, ◌*◌, Some, IfOk, IfErr, IsSome, slice_index, length as length_of};
 ghost use Rattle.loop_walk.specs.Walks.{BeginsFirst, HasNoWalk, IsLeastWalk, walk_cost};
-ghost use Rattle.loop_walk.specs.Tables.{AreTight, entry_at, table_count};
-ghost use Rattle.loop_walk.specs.Records.{Stands};
-ghost use Rattle.loop_walk.specs.Products.{AreFilled, FindsLeast, GoesRound, HoldsTables, IsStepTable};
+ghost use Rattle.loop_walk.specs.Tables.{AreTightTables, IsLength, entry_at, table_count};
+ghost use Rattle.loop_walk.specs.Records.{WalkStands};
+ghost use Rattle.loop_walk.specs.Products.{AreFilled, FindsLeast, GoesRound, HoldsTables, IsStepTable, diagonal};
 
 use crate::product::NONE;
 use crate::tables::{fill_tables, step_table, table_count, table_in};
@@ -11,6 +11,10 @@ use crate::trace::add_way;
 use frame_distance::StepCosts;
 use items::Items;
 use std::alloc::{AllocError, Global};
+use thiserror::Error;
+
+/// The most frames of a walk.
+pub const GREATEST_LENGTH: u32 = 4096;
 
 /// A closed walk, and the tables that show that it is least.
 #[derive(Drop)]
@@ -25,11 +29,13 @@ pub struct LoopRecord {
 }
 
 /// Why there is no record.
-#[derive(Clone, Copy, Debug, Drop, PartialEq, Eq)]
+#[derive(Clone, Copy, Debug, Drop, PartialEq, Eq, Error)]
 pub enum LoopError {
     /// No closed walk has that length.
+    #[error("no closed walk")]
     NoLoop,
     /// Memory ran out.
+    #[error("no memory")]
     NoMemory,
 }
 
@@ -52,7 +58,7 @@ fn made_tables(
     length: u32,
 ) -> Result<Vec<u64>, AllocError>
     requires steps { IsStepTable costs.now steps.now }
-    requires length { (1 ≤ length) × (length ≤ 4096) }
+    requires length { IsLength length }
     ensures { IfOk result (λ tables. AreFilled costs.now length tables.items) }
 {
     let n = costs.frames() as usize;
@@ -67,8 +73,8 @@ fn first_frame(n: usize, table: &[u64]) -> usize
     requires few { n ≤ 256 }
     requires whole { length_of table.now ≡ n * n }
     ensures below { result < n }
-    ensures least { (i : ℕ) → i < n → slice_index table.now (result * n + result) ≤ slice_index table.now (i * n + i) }
-    ensures first { (i : ℕ) → i < result → slice_index table.now (result * n + result) < slice_index table.now (i * n + i) }
+    ensures least { (i : ℕ) → i < n → diagonal n table.now result ≤ diagonal n table.now i }
+    ensures first { (i : ℕ) → i < result → diagonal n table.now result < diagonal n table.now i }
 {
     let mut first = 0;
     for i in 1..n {
@@ -90,7 +96,7 @@ fn walk_from(
 ) -> Result<Vec<u16>, AllocError>
     requires steps { IsStepTable costs.now steps.now }
     requires tables { HoldsTables costs.now length tables.now }
-    requires length { (1 ≤ length) × (length ≤ 4096) }
+    requires length { IsLength length }
     requires first { first < costs.now.frames }
     requires there { IsSome (entry_at costs.now tables.now (table_count length) first first) }
     ensures { IfOk result (λ walk. GoesRound costs.now length tables.now first walk.items) }
@@ -112,9 +118,11 @@ fn least_walk(
 ) -> Result<(Vec<u16>, u64), LoopError>
     requires steps { IsStepTable costs.now steps.now }
     requires tables { AreFilled costs.now length tables.now }
-    requires length { (1 ≤ length) × (length ≤ 4096) }
-    ensures found { IfOk result (λ found. FindsLeast costs.now length tables.now found.0.items found.1) }
-    ensures no_loop { IfErr result (λ error. error ≡ LoopError.NoLoop → HasNoWalk costs.now length) }
+    requires length { IsLength length }
+    ensures found { IfOk result (λ found.
+        FindsLeast costs.now length tables.now found.0.items found.1) }
+    ensures no_loop { IfErr result (λ error.
+        error ≡ LoopError.NoLoop → HasNoWalk costs.now length) }
 {
     let n = costs.frames() as usize;
     let last = table_in(steps, tables, table_count(length) as usize);
@@ -128,15 +136,16 @@ fn least_walk(
 }
 
 /// The closed walk of `length` frames that costs least, with its record. It begins at the smallest
-/// frame that any least closed walk of that length visits; ties among those walks are broken anyhow.
+/// frame that any least closed walk of that length visits; which of those walks it is isn't said.
 pub fn least_loop(alloc: Global, costs: &StepCosts, length: u32) -> Result<LoopRecord, LoopError>
-    requires { (1 ≤ length) × (length ≤ 4096) }
+    requires { IsLength length }
     ensures least { IfOk result (λ made. IsLeastWalk costs.now length made.walk) }
     ensures first { IfOk result (λ made. BeginsFirst costs.now length made.walk) }
     ensures cost { IfOk result (λ made. walk_cost costs.now made.walk ≡ Some made.cost) }
-    ensures tight { IfOk result (λ made. AreTight costs.now length made.tables) }
-    ensures stands { IfOk result (λ made. Stands costs.now made.walk made.tables) }
-    ensures no_loop { IfErr result (λ error. error ≡ LoopError.NoLoop → HasNoWalk costs.now length) }
+    ensures tight { IfOk result (λ made. AreTightTables costs.now length made.tables) }
+    ensures stands { IfOk result (λ made. WalkStands costs.now made.walk made.tables) }
+    ensures no_loop { IfErr result (λ error.
+        error ≡ LoopError.NoLoop → HasNoWalk costs.now length) }
 {
     let steps = step_table(alloc, costs)?;
     let tables = made_tables(alloc, costs, &steps, length)?;

@@ -1,12 +1,13 @@
 // The rules of a record of a walk, one after another.
-ghost use Rattle.std.specs.Prelude.{◌≡◌, ◌≤◌, ◌<◌, ℕ, ◌+◌, ◌*◌, ◌^◌, Some, IfErr, IfOk, IfNone, IfSome, MatchBool, OnOk, length as length_of, slice_index, slice_index_or};
-ghost use Rattle.loop_walk.specs.Walks.{AtMost, plus, steps_round, walk_cost};
-ghost use Rattle.loop_walk.specs.Tables.{EntriesHold, entry_at, entry_of, table_count, table_lengths};
-ghost use Rattle.loop_walk.specs.Records.{BreaksWalk, IsFirstBroken, PlaceHolds};
-ghost use Rattle.loop_walk.specs.Products.{AllowsCost, IsBelow, step_round_at};
+ghost use Rattle.std.specs.Prelude.{◌≡◌, ◌≤◌, ◌<◌, ℕ, ◌+◌, ◌*◌, ◌^◌, Some, IfErr, IfOk, IfNone, IfSome, IsTrue, ◌↔◌, OnOk, length as length_of, slice_index, slice_index_or};
+ghost use Rattle.loop_walk.specs.Walks.{AtMost, sum_if_both, steps_round, walk_cost};
+ghost use Rattle.loop_walk.specs.Tables.{EntriesHold, IsLength, entry_at, entry_count, table_entry, table_lengths, table_size};
+ghost use Rattle.loop_walk.specs.Records.{BreaksWalk, IsFirstPlace, PlaceHolds, PlacesHold};
+ghost use Rattle.loop_walk.specs.Products.{AllowsCost, IsBelowProducts, step_round_at};
 
-use crate::fault::LoopFault;
+use crate::fault::{DIAGONAL_RULE, LoopFault, TABLES_RULE, WALK_RULE};
 use crate::product::NONE;
+use crate::record::GREATEST_LENGTH;
 use crate::tables::{length_before, second_table, table_count};
 use frame_distance::StepCosts;
 
@@ -38,9 +39,9 @@ fn step_round(costs: &StepCosts, walk: &[u16], position: usize) -> Option<u64>
     }
 }
 
-/// Rule 12: the walk is closed. Its cost where it is.
+/// Whether the walk is closed, and its cost where it is.
 pub fn check_walk(costs: &StepCosts, walk: &[u16]) -> Result<u64, LoopFault>
-    requires { length_of walk.now ≤ 4096 }
+    requires { length_of walk.now ≤ GREATEST_LENGTH }
     ensures cost { IfOk result (λ cost. walk_cost costs.now walk.now ≡ Some cost) }
     ensures fault { IfErr result (λ fault. BreaksWalk costs.now walk.now fault) }
 {
@@ -48,7 +49,7 @@ pub fn check_walk(costs: &StepCosts, walk: &[u16]) -> Result<u64, LoopFault>
     for position in 0..walk.len() {
         let Some(step) = step_round(costs, walk, position) else {
             return Err(LoopFault {
-                kind: 12,
+                kind: WALK_RULE,
                 place: position as u64,
             });
         };
@@ -60,11 +61,11 @@ pub fn check_walk(costs: &StepCosts, walk: &[u16]) -> Result<u64, LoopFault>
 // Entry (i, j) of table number t + 1 for n frames.
 fn stored_entry(tables: &[u64], n: usize, t: usize, i: usize, j: usize) -> Option<u64>
     requires few { n ≤ 256 }
-    requires number { t ≤ 4096 }
+    requires number { t ≤ GREATEST_LENGTH }
     requires enough { (t + 1) * (n * n) ≤ length_of tables.now }
     requires row { i < n }
     requires column { j < n }
-    ensures { result ≡ entry_of (slice_index tables.now (t * (n * n) + (i * n + j))) }
+    ensures { result ≡ table_entry (slice_index tables.now (t * (n * n) + (i * n + j))) }
 {
     let number = tables[t * (n * n) + (i * n + j)];
     if number == NONE { None } else { Some(number) }
@@ -72,8 +73,8 @@ fn stored_entry(tables: &[u64], n: usize, t: usize, i: usize, j: usize) -> Optio
 
 // Entry (i, j) of table number t, where number 0 is that of the step costs.
 fn entry_in(costs: &StepCosts, tables: &[u64], t: usize, i: u32, j: u32) -> Option<u64>
-    requires number { t ≤ 4096 }
-    requires enough { t * (costs.now.frames * costs.now.frames) ≤ length_of tables.now }
+    requires number { t ≤ GREATEST_LENGTH }
+    requires enough { t * table_size costs.now ≤ length_of tables.now }
     requires row { i < costs.now.frames }
     requires column { j < costs.now.frames }
     ensures { result ≡ entry_at costs.now tables.now t i j }
@@ -88,7 +89,7 @@ fn entry_in(costs: &StepCosts, tables: &[u64], t: usize, i: u32, j: u32) -> Opti
 
 // An entry is at most a sum. A sum with a none is no bound, and none is above each other sum.
 fn is_at_most(entry: Option<u64>, first: Option<u64>, second: Option<u64>) -> bool
-    ensures { MatchBool result (AtMost entry (plus first second)) (AtMost entry (plus first second) → ⊥) }
+    ensures { IsTrue result ↔ AtMost entry (sum_if_both first second) }
 {
     let Some(first) = first else {
         return true;
@@ -104,12 +105,12 @@ fn is_at_most(entry: Option<u64>, first: Option<u64>, second: Option<u64>) -> bo
 
 // Entry (i, j) of table number t + 1 is at most each of its sums.
 fn is_below_sums(costs: &StepCosts, tables: &[u64], t: usize, second: usize, i: u32, j: u32) -> bool
-    requires number { t ≤ 4095 }
-    requires enough { (t + 1) * (costs.now.frames * costs.now.frames) ≤ length_of tables.now }
+    requires number { t < GREATEST_LENGTH }
+    requires enough { (t + 1) * table_size costs.now ≤ length_of tables.now }
     requires second { second ≤ t }
     requires row { i < costs.now.frames }
     requires column { j < costs.now.frames }
-    ensures { MatchBool result (IsBelow costs.now tables.now t second i j) (IsBelow costs.now tables.now t second i j → ⊥) }
+    ensures { IsTrue result ↔ IsBelowProducts costs.now tables.now t second i j }
 {
     let n = costs.frames();
     let entry = stored_entry(tables, n as usize, t, i as usize, j as usize);
@@ -125,12 +126,14 @@ fn is_below_sums(costs: &StepCosts, tables: &[u64], t: usize, second: usize, i: 
 
 // The first place in the last table for a length where an entry is above one of its sums.
 fn broken_entry(costs: &StepCosts, tables: &[u64], length: u32, t: usize) -> Option<usize>
-    requires number { t ≤ 4095 }
+    requires number { t < GREATEST_LENGTH }
     requires last { slice_index (table_lengths length) t ≡ length }
-    requires enough { (t + 1) * (costs.now.frames * costs.now.frames) ≤ length_of tables.now }
-    requires before { (place : ℕ) → place < t * (costs.now.frames * costs.now.frames) → PlaceHolds costs.now length tables.now place }
-    ensures hold { IfNone result ((place : ℕ) → place < (t + 1) * (costs.now.frames * costs.now.frames) → PlaceHolds costs.now length tables.now place) }
-    ensures broken { IfSome result (λ place. IsFirstBroken ((t + 1) * (costs.now.frames * costs.now.frames)) (PlaceHolds costs.now length tables.now) place) }
+    requires enough { (t + 1) * table_size costs.now ≤ length_of tables.now }
+    requires before { PlacesHold costs.now length tables.now (t * table_size costs.now) }
+    ensures hold { IfNone result
+        (PlacesHold costs.now length tables.now ((t + 1) * table_size costs.now)) }
+    ensures broken { IfSome result
+        (IsFirstPlace ((t + 1) * table_size costs.now) (PlaceHolds costs.now length tables.now)) }
 {
     let n = costs.frames();
     let second = second_table(length, t);
@@ -145,10 +148,12 @@ fn broken_entry(costs: &StepCosts, tables: &[u64], length: u32, t: usize) -> Opt
 
 // The first place in all tables for a length where an entry is above one of its sums.
 fn broken_place(costs: &StepCosts, tables: &[u64], length: u32) -> Option<usize>
-    requires length { (1 ≤ length) × (length ≤ 4096) }
-    requires enough { table_count length * (costs.now.frames * costs.now.frames) ≤ length_of tables.now }
-    ensures hold { IfNone result ((place : ℕ) → place < table_count length * (costs.now.frames * costs.now.frames) → PlaceHolds costs.now length tables.now place) }
-    ensures broken { IfSome result (λ place. IsFirstBroken (table_count length * (costs.now.frames * costs.now.frames)) (PlaceHolds costs.now length tables.now) place) }
+    requires length { IsLength length }
+    requires enough { entry_count costs.now length ≤ length_of tables.now }
+    ensures hold { IfNone result
+        (PlacesHold costs.now length tables.now (entry_count costs.now length)) }
+    ensures broken { IfSome result
+        (IsFirstPlace (entry_count costs.now length) (PlaceHolds costs.now length tables.now)) }
 {
     if length == 1 {
         return None;
@@ -161,16 +166,17 @@ fn broken_place(costs: &StepCosts, tables: &[u64], length: u32) -> Option<usize>
     }
 }
 
-/// Rule 13: each entry is at most each of its sums.
+/// Whether each entry is at most each of its sums.
 pub fn check_tables(costs: &StepCosts, tables: &[u64], length: u32) -> Result<(), LoopFault>
-    requires length { (1 ≤ length) × (length ≤ 4096) }
-    requires enough { table_count length * (costs.now.frames * costs.now.frames) ≤ length_of tables.now }
+    requires length { IsLength length }
+    requires enough { entry_count costs.now length ≤ length_of tables.now }
     ensures hold { OnOk result (EntriesHold costs.now length tables.now) }
-    ensures fault { IfErr result (λ fault. (fault.kind ≡ 13) × IsFirstBroken (table_count length * (costs.now.frames * costs.now.frames)) (PlaceHolds costs.now length tables.now) fault.place) }
+    ensures fault { IfErr result (λ fault. (fault.kind ≡ TABLES_RULE) × IsFirstPlace
+        (entry_count costs.now length) (PlaceHolds costs.now length tables.now) fault.place) }
 {
     match broken_place(costs, tables, length) {
         Some(place) => Err(LoopFault {
-            kind: 13,
+            kind: TABLES_RULE,
             place: place as u64,
         }),
         None => Ok(()),
@@ -179,7 +185,7 @@ pub fn check_tables(costs: &StepCosts, tables: &[u64], length: u32) -> Result<()
 
 // A diagonal entry says of no walk that it costs less.
 fn allows_cost(entry: Option<u64>, cost: u64) -> bool
-    ensures { MatchBool result (AtMost (Some cost) entry) (AtMost (Some cost) entry → ⊥) }
+    ensures { IsTrue result ↔ AtMost (Some cost) entry }
 {
     match entry {
         None => true,
@@ -187,23 +193,25 @@ fn allows_cost(entry: Option<u64>, cost: u64) -> bool
     }
 }
 
-/// Rule 14: the cost is at most each diagonal entry of the last table.
+/// Whether the cost is at most each diagonal entry of the last table.
 pub fn check_diagonal(
     costs: &StepCosts,
     tables: &[u64],
     length: u32,
     cost: u64,
 ) -> Result<(), LoopFault>
-    requires length { (1 ≤ length) × (length ≤ 4096) }
-    requires enough { table_count length * (costs.now.frames * costs.now.frames) ≤ length_of tables.now }
-    ensures hold { OnOk result ((i : ℕ) → i < costs.now.frames → AllowsCost costs.now length tables.now cost i) }
-    ensures fault { IfErr result (λ fault. (fault.kind ≡ 14) × IsFirstBroken costs.now.frames (AllowsCost costs.now length tables.now cost) fault.place) }
+    requires length { IsLength length }
+    requires enough { entry_count costs.now length ≤ length_of tables.now }
+    ensures hold { OnOk result ((i : ℕ) → i < costs.now.frames →
+        AllowsCost costs.now length tables.now cost i) }
+    ensures fault { IfErr result (λ fault. (fault.kind ≡ DIAGONAL_RULE) × IsFirstPlace
+        costs.now.frames (AllowsCost costs.now length tables.now cost) fault.place) }
 {
     let t = table_count(length) as usize;
     for i in 0..costs.frames() {
         if !allows_cost(entry_in(costs, tables, t, i, i), cost) {
             return Err(LoopFault {
-                kind: 14,
+                kind: DIAGONAL_RULE,
                 place: u64::from(i),
             });
         }

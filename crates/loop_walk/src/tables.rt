@@ -1,9 +1,10 @@
 // The tables along the binary digits of a length.
-ghost use Rattle.std.specs.Prelude.{◌≡◌, ◌≤◌, ◌<◌, ◌*◌, IfOk, length as length_of};
-ghost use Rattle.loop_walk.specs.Tables.{length_before, second_table, table_count};
+ghost use Rattle.std.specs.Prelude.{◌≡◌, ◌≤◌, ◌<◌, ◌*◌, ◌^◌, IfOk, length as length_of};
+ghost use Rattle.loop_walk.specs.Tables.{IsLength, entry_count, length_before, second_table, table_count};
 ghost use Rattle.loop_walk.specs.Products.{AreFilled, IsStepTable, step_numbers, table_in};
 
 use crate::product::{NONE, fill_product};
+use crate::record::GREATEST_LENGTH;
 use frame_distance::StepCosts;
 use std::alloc::{AllocError, Global};
 
@@ -61,8 +62,8 @@ pub fn step_table(alloc: Global, costs: &StepCosts) -> Result<Vec<u64>, AllocErr
 
 /// Table number t of a length, where number 0 is that of the step costs.
 pub fn table_in<'a>(steps: &'a [u64], tables: &'a [u64], t: usize) -> &'a [u64]
-    requires few { length_of steps.now ≤ 65536 }
-    requires count { t ≤ 4096 }
+    requires few { length_of steps.now ≤ 2 ^ 16 }
+    requires count { t ≤ GREATEST_LENGTH }
     requires there { t * length_of steps.now ≤ length_of tables.now }
     ensures { result.now ≡ table_in steps.now tables.now t }
 {
@@ -76,8 +77,8 @@ pub fn table_in<'a>(steps: &'a [u64], tables: &'a [u64], t: usize) -> &'a [u64]
 /// Fills in the tables for a length, one after another.
 pub fn fill_tables(costs: &StepCosts, steps: &[u64], length: u32, tables: &mut [u64])
     requires steps { IsStepTable costs.now steps.now }
-    requires length { (1 ≤ length) × (length ≤ 4096) }
-    requires whole { length_of tables.old ≡ table_count length * (costs.now.frames * costs.now.frames) }
+    requires length { IsLength length }
+    requires whole { length_of tables.old ≡ entry_count costs.now length }
     ensures { AreFilled costs.now length tables.new }
 {
     if length == 1 {

@@ -148,7 +148,11 @@ fn short_lengths_against_all_walks(rt: HostRuntime) -> Result<(), Fail> {
                         Some(Ok(()))
                     );
                 }
-                Err(_) => assert_eq!(rt; least.0, None, "length {length} at gap {gap}"),
+                Err(error) => assert_eq!(rt;
+                    (error, least.0),
+                    (LoopError::NoLoop, None),
+                    "length {length} at gap {gap}"
+                ),
             }
         }
     }

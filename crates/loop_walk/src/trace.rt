@@ -1,6 +1,6 @@
 // A way of least cost, read out of the tables.
 ghost use Rattle.std.specs.Prelude.{◌≡◌, ◌≤◌, ◌<◌, ℕ, ◌*◌, IsSome, OnOk, length as length_of};
-ghost use Rattle.loop_walk.specs.Tables.{entry_at, table_count};
+ghost use Rattle.loop_walk.specs.Tables.{IsLength, entry_at, table_count};
 ghost use Rattle.loop_walk.specs.Products.{AddsWay, HoldsTables, IsStepTable, sum_through};
 
 use crate::tables::{length_before, second_table, table_count, table_in};
@@ -28,7 +28,8 @@ fn middle(n: usize, left: &[u64], right: &[u64], i: usize, j: usize) -> usize
     requires from { i < n }
     requires to { j < n }
     ensures below { result < n }
-    ensures least { (v : ℕ) → v < n → sum_through n left.now right.now i j result ≤ sum_through n left.now right.now i j v }
+    ensures least { (v : ℕ) → v < n →
+        sum_through n left.now right.now i j result ≤ sum_through n left.now right.now i j v }
 {
     let mut best = 0;
     for v in 1..n {
@@ -52,11 +53,12 @@ pub fn add_way(
 ) -> Result<(), AllocError>
     requires steps { IsStepTable costs.now steps.now }
     requires tables { HoldsTables costs.now length tables.now }
-    requires length { (1 ≤ length) × (length ≤ 4096) }
+    requires length { IsLength length }
     requires from { i < costs.now.frames }
     requires to { j < costs.now.frames }
     requires there { IsSome (entry_at costs.now tables.now (table_count length) i j) }
-    ensures { OnOk result (AddsWay costs.now length i j (entry_at costs.now tables.now (table_count length) i j) walk.old.items walk.new.items) }
+    ensures { OnOk result (AddsWay costs.now length i j
+        (entry_at costs.now tables.now (table_count length) i j) walk.old.items walk.new.items) }
 {
     if length == 1 {
         return Ok(());

@@ -10,8 +10,8 @@ use Rattle.netpbm_p6.specs.declared.scan.Numbers.{Numbers}
 use Rattle.netpbm_p6.specs.declared.scan.Numbers.TheVariants.{Nothing, Width, Both}
 use Rattle.netpbm_p6.specs.declared.scan.Scan.{Scan}
 use Rattle.netpbm_p6.specs.declared.scan.Scan.TheVariants.{Start, Magic, Between, Comment, Digits, Whole}
-use Rattle.netpbm_p6.specs.Header.{IsWhite, EndsLine, IsItem, IsSeparator, IsDigit, value_behind, value_of, IsNumber, IsGroup, IsHeader}
-use Rattle.netpbm_p6.specs.Scanning.{kind_of, opened, separated, commented, ended, numbered, counted, step_of, run_of}
+use Rattle.netpbm_p6.specs.Header.{IsWhite, EndsLine, IsItem, IsSeparator, IsDigit, value_behind, digits_number, IsNumber, IsGroup, IsHeader}
+use Rattle.netpbm_p6.specs.Scanning.{kind_of, opened, separated, commented, ended, number_end, after_digit, step_of, run_of}
 use Rattle.netpbm_p6.proofs.Runs.{exact, run_then, test_positive}
 
 -- The kinds of bytes.
@@ -59,21 +59,21 @@ opens_magic = record { blank = λ b. ap (opened Nothing); line_end = λ b. ap (o
 opens_between : (numbers : Numbers) → Opens (Between numbers) numbers
 opens_between numbers = record { blank = λ b. ap (separated numbers b); line_end = λ b. ap (separated numbers b); hash = λ b. ap (separated numbers b) }
 
-numbered_is : (numbers : Numbers) (n : ℕ) (kind : Kind) → 1 ≤ n → numbered numbers n kind ≡ ended numbers n kind
+numbered_is : (numbers : Numbers) (n : ℕ) (kind : Kind) → 1 ≤ n → number_end numbers n kind ≡ ended numbers n kind
 numbered_is numbers n kind some = ap (λ t. cond t None (ended numbers n kind)) (test_positive n some)
 
 opens_width : (n : ℕ) → 1 ≤ n → Opens (Digits Nothing n) (Width n)
 opens_width n some = record {
-  blank = λ b is. ap (counted exact Nothing n b) is ∙ numbered_is Nothing n Blank some;
-  line_end = λ b is. ap (counted exact Nothing n b) is ∙ numbered_is Nothing n LineEnd some;
-  hash = λ b is. ap (counted exact Nothing n b) is ∙ numbered_is Nothing n Hash some;
+  blank = λ b is. ap (after_digit exact Nothing n b) is ∙ numbered_is Nothing n Blank some;
+  line_end = λ b is. ap (after_digit exact Nothing n b) is ∙ numbered_is Nothing n LineEnd some;
+  hash = λ b is. ap (after_digit exact Nothing n b) is ∙ numbered_is Nothing n Hash some;
 }
 
 opens_height : (w n : ℕ) → 1 ≤ n → Opens (Digits (Width w) n) (Both w n)
 opens_height w n some = record {
-  blank = λ b is. ap (counted exact (Width w) n b) is ∙ numbered_is (Width w) n Blank some;
-  line_end = λ b is. ap (counted exact (Width w) n b) is ∙ numbered_is (Width w) n LineEnd some;
-  hash = λ b is. ap (counted exact (Width w) n b) is ∙ numbered_is (Width w) n Hash some;
+  blank = λ b is. ap (after_digit exact (Width w) n b) is ∙ numbered_is (Width w) n Blank some;
+  line_end = λ b is. ap (after_digit exact (Width w) n b) is ∙ numbered_is (Width w) n LineEnd some;
+  hash = λ b is. ap (after_digit exact (Width w) n b) is ∙ numbered_is (Width w) n Hash some;
 }
 
 -- Items and separators.
@@ -118,12 +118,12 @@ separator_run s numbers text opens separator = ap (run_of exact s) separator.is 
 digits_run : (numbers : Numbers) (n : ℕ) (digits : List ℕ) → AllByRecursion IsDigit digits → run_of exact (Digits numbers n) digits ≡ Some (Digits numbers (value_behind n digits))
 digits_run numbers n [] each = refl
 digits_run numbers n (b ∷ digits) each =
-    ap (option_and_then (λ next. run_of exact next digits)) (ap (counted exact numbers n b) (digit_kind b each.0)) ∙ digits_run numbers (10 * n + (b - 48)) digits each.1
+    ap (option_and_then (λ next. run_of exact next digits)) (ap (after_digit exact numbers n b) (digit_kind b each.0)) ∙ digits_run numbers (10 * n + (b - 48)) digits each.1
 
 number_run : (numbers : Numbers) (text : List ℕ) (n : ℕ) → IsNumber text n → run_of exact (Between numbers) text ≡ Some (Digits numbers n)
 number_run numbers text n number = some text number.some (recursion_from_All IsDigit text number.digits) ∙ ap (λ m. Some (Digits numbers m)) number.value
   where
-    some : (digits : List ℕ) → 1 ≤ length digits → AllByRecursion IsDigit digits → run_of exact (Between numbers) digits ≡ Some (Digits numbers (value_of digits))
+    some : (digits : List ℕ) → 1 ≤ length digits → AllByRecursion IsDigit digits → run_of exact (Between numbers) digits ≡ Some (Digits numbers (digits_number digits))
     some [] least each = absurd (omega arith)
     some (b ∷ digits) least each =
         ap (option_and_then (λ next. run_of exact next digits)) (ap (separated numbers b) (digit_kind b each.0))
@@ -137,8 +137,8 @@ group_run s numbers text n opens group =
 -- The whole header.
 
 last_run : (w h n b : ℕ) → 1 ≤ n → (kind_of b ≡ Blank) ⊎ (kind_of b ≡ LineEnd) → run_of exact (Digits (Both w h) n) (b ∷ []) ≡ Some (Whole w h n)
-last_run w h n b some (inl is) = run_one (Digits (Both w h) n) (Whole w h n) b (ap (counted exact (Both w h) n b) is ∙ numbered_is (Both w h) n Blank some)
-last_run w h n b some (inr is) = run_one (Digits (Both w h) n) (Whole w h n) b (ap (counted exact (Both w h) n b) is ∙ numbered_is (Both w h) n LineEnd some)
+last_run w h n b some (inl is) = run_one (Digits (Both w h) n) (Whole w h n) b (ap (after_digit exact (Both w h) n b) is ∙ numbered_is (Both w h) n Blank some)
+last_run w h n b some (inr is) = run_one (Digits (Both w h) n) (Whole w h n) b (ap (after_digit exact (Both w h) n b) is ∙ numbered_is (Both w h) n LineEnd some)
 
 pub header_run : (text : List ℕ) (w h m : ℕ) → IsHeader text w h m → run_of exact Start text ≡ Some (Whole w h m)
 header_run text w h m header =

@@ -14,7 +14,7 @@ use Rattle.netpbm_p6.specs.declared.scan.Scanned.{Scanned}
 use Rattle.netpbm_p6.specs.declared.scan.Scanned.TheVariants.{Open, Broken, Ended}
 use Rattle.netpbm_p6.specs.Header.{IsPrefix}
 use Rattle.netpbm_p6.specs.Pictures.{capped, BreaksAt, EndsEarly, HeaderTooLong, Refuses, ReadsAs}
-use Rattle.netpbm_p6.specs.Scanning.{run_of, IsOpen, EndsIn, IsSoundHeader, IsSoundScanned}
+use Rattle.netpbm_p6.specs.Scanning.{run_of, IsOpenScan, EndsIn, IsSoundHeader, IsSoundScanned}
 use Rattle.netpbm_p6.specs.Reading.{Reached, BreaksOff, HasHeader, ScansOn, PassesAs, past_of}
 use Rattle.netpbm_p6.proofs.Sees.{Sees, sees_weaker, sees_then, fault_later}
 use Rattle.netpbm_p6.proofs.Runs.{run_then}
@@ -76,7 +76,7 @@ has_header bytes at scan header early reached ends =
       maxval_is = found.maxval_is;
     }
 
-pub too_long : (bytes : List ℕ) (scan next : Scan) → IsOpen scan → Reached bytes 65536 scan → 1 ≤ length (drop 65536 bytes) → run_of capped scan (take 1 (drop 65536 bytes)) ≡ Some next → HeaderTooLong bytes
+pub too_long : (bytes : List ℕ) (scan next : Scan) → IsOpenScan scan → Reached bytes 65536 scan → 1 ≤ length (drop 65536 bytes) → run_of capped scan (take 1 (drop 65536 bytes)) ≡ Some next → HeaderTooLong bytes
 too_long bytes scan next is_open reached more run = record {
   longer = omega (arith, length-drop 65536 bytes, more);
   starts = open_proper scan (take 65536 bytes) reached.run is_open;
@@ -114,7 +114,7 @@ header_more name at room scan next scanned a b c is first second reached scans =
     first second reached scans
 
 -- what follows the first 65,536 bytes of a header
-pub passes : (name : List ℕ) (scan : Scan) (scanned : Scanned) (r : ReadError) (a b : ShelfState) → IsOpen scan → IsSoundScanned 1 scanned → r ≡ past_of scanned
+pub passes : (name : List ℕ) (scan : Scan) (scanned : Scanned) (r : ReadError) (a b : ShelfState) → IsOpenScan scan → IsSoundScanned 1 scanned → r ≡ past_of scanned
     → Sees a b (λ files. ScansOn (drop 65536 (content_of files name)) scan 1 scanned) → PassesAs name scan a b r
 passes name scan scanned r a b is_open sound is scans = subst (PassesAs name scan a b) (sym is) (by_scanned scanned sound scans)
   where

@@ -10,7 +10,7 @@ use Rattle.netpbm_p6.specs.declared.scan.Scan.{Scan}
 use Rattle.netpbm_p6.specs.declared.scan.Scan.TheVariants.{Start, Letter, Magic, Between, Comment, Digits, Whole}
 use Rattle.netpbm_p6.specs.Header.{IsHeader, IsPrefix, IsProperPrefix}
 use Rattle.netpbm_p6.specs.Pictures.{capped}
-use Rattle.netpbm_p6.specs.Scanning.{run_of, IsOpen}
+use Rattle.netpbm_p6.specs.Scanning.{run_of, IsOpenScan}
 use Rattle.netpbm_p6.proofs.Runs.{exact, run_then, run_front, run_over, test_positive, capped_scan, run_exact, run_to_capped}
 use Rattle.netpbm_p6.proofs.Accepts.{header_run}
 use Rattle.netpbm_p6.proofs.Shapes.{shape_of}
@@ -72,14 +72,14 @@ none_some x e = cc
 
 -- The same for the reader's runs, whose numbers go as far as a u64.
 
-pub open_proper : (s : Scan) (text : List ℕ) → run_of capped Start text ≡ Some s → IsOpen s → IsProperPrefix text
+pub open_proper : (s : Scan) (text : List ℕ) → run_of capped Start text ≡ Some s → IsOpenScan s → IsProperPrefix text
 open_proper s text run is_open =
     let e = run_exact s text run in
     record {
       starts = prefix_of_run e.0 text e.1;
       proper = λ w h m header.
           let whole : s ≡ Whole (capped w) (capped h) (capped m) = e.2 ∙ ap capped_scan (some_same e.0 (Whole w h m) (sym e.1 ∙ header_run text w h m header)) in
-          subst IsOpen whole is_open;
+          subst IsOpenScan whole is_open;
     }
 
 pub run_is_prefix : (s : Scan) (text : List ℕ) → run_of capped Start text ≡ Some s → IsPrefix text

@@ -10,10 +10,10 @@ use Rattle.cells.specs.Cells.{volume_of}
 use Rattle.shelf_core.specs.declared.fault.ReadError.{ReadError}
 use Rattle.shelf_core.specs.declared.fault.ReadError.TheVariants.{ReadFault, Bad, Limit, NoMemory}
 use Rattle.shelf_core.specs.declared.fault.FormFault.TheVariants.{Form, Depth, Space, Cell, NoFrames, Sample, Trailing}
-use Rattle.shelf_core.specs.declared.fault.What.TheVariants.{Axis, Cells as CellsLimit, Header as HeaderLimit, Frames, Output, Loop, Records}
+use Rattle.shelf_core.specs.declared.fault.What.TheVariants.{Axis, Cells as CellsLimit, Header as HeaderLimit, Frames, Output, Loop, Records, Parts}
 use Rattle.netpbm_p6.specs.declared.picture.Picture.{Picture}
 use Rattle.netpbm_p6.specs.Header.{IsHeader, IsPrefix, IsProperPrefix}
-use Rattle.netpbm_p6.specs.Pictures.{capped, picture_size, Headed, raster_length, StandsFor, IsRead, ShortHeaded, Within, BreaksAt, HeaderTooLong, AxisPasses, Refuses}
+use Rattle.netpbm_p6.specs.Pictures.{capped, picture_size, Headed, raster_length, IsPictureOf, IsRead, ShortHeaded, Within, BreaksAt, HeaderTooLong, AxisPasses, Refuses}
 use Rattle.netpbm_p6.proofs.Headers.{same_header, same_numbers}
 
 -- One header.
@@ -40,7 +40,7 @@ one_header {bytes} a b =
 same_picture : (p q : Picture) → p.maxval ≡ q.maxval → p.volume ≡ q.volume → p ≡ q
 same_picture p q maxval volume = λ i. record { maxval = maxval i; volume = volume i }
 
-pub one_picture : (bytes : List ℕ) (first second : Picture) → StandsFor bytes first → StandsFor bytes second → first ≡ second
+pub one_picture : (bytes : List ℕ) (first second : Picture) → IsPictureOf bytes first → IsPictureOf bytes second → first ≡ second
 one_picture bytes first second a b =
     let same = one_header a.headed b.headed in
     same_picture first second (a.maxval ∙ same.maxval ∙ sym b.maxval)
@@ -163,8 +163,8 @@ cause_of bytes (Limit CellsLimit number bound) passes =
     let headed = passes.0.headed in
     inr (inr (
       passes.0,
-      cells_answer headed.width headed.height headed.maxval (length headed.header) headed.raster passes.1 passes.2 passes.3 passes.4
-          ∙ (λ i. Err (Limit CellsLimit (sym passes.5 i) (sym passes.6 i))),
+      cells_answer headed.width headed.height headed.maxval (length headed.header) headed.raster passes.1 passes.2.width_fits passes.2.height_fits passes.2.passes
+          ∙ (λ i. Err (Limit CellsLimit (sym passes.2.number_is i) (sym passes.3 i))),
     ))
 cause_of bytes ReadFault refuses = absurd refuses
 cause_of bytes NoMemory refuses = absurd refuses
@@ -175,6 +175,7 @@ cause_of bytes (Limit Frames number bound) refuses = absurd refuses
 cause_of bytes (Limit Output number bound) refuses = absurd refuses
 cause_of bytes (Limit Loop number bound) refuses = absurd refuses
 cause_of bytes (Limit Records number bound) refuses = absurd refuses
+cause_of bytes (Limit Parts number bound) refuses = absurd refuses
 
 -- No two of them hold, and no two places.
 

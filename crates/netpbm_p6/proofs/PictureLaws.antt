@@ -10,10 +10,10 @@ use Rattle.shelf_core.specs.Files.{ShelfState, OnlyReads, content_of}
 use Rattle.shelf_core.specs.declared.fault.ReadError.{ReadError}
 use Rattle.shelf_core.specs.declared.fault.ReadError.TheVariants.{ReadFault, Bad, Limit, NoMemory}
 use Rattle.shelf_core.specs.declared.fault.FormFault.TheVariants.{Form, Depth, Space, Cell, NoFrames, Sample, Trailing}
-use Rattle.shelf_core.specs.declared.fault.What.TheVariants.{Axis, Cells as CellsLimit, Header as HeaderLimit, Frames, Output, Loop, Records}
+use Rattle.shelf_core.specs.declared.fault.What.TheVariants.{Axis, Cells as CellsLimit, Header as HeaderLimit, Frames, Output, Loop, Records, Parts}
 use Rattle.netpbm_p6.specs.declared.scan.Header.{Header}
 use Rattle.netpbm_p6.specs.Pictures.{capped, picture_size, Headed, raster_length, IsRead, Within, AxisPasses, Refuses, ReadsAs}
-use Rattle.netpbm_p6.specs.Reading.{HasHeader, Exceeds, Fits, IsFirstAbove, RasterRefuses, IsRaster, RastersAs}
+use Rattle.netpbm_p6.specs.Reading.{HasHeader, Exceeds, HeaderFits, IsFirstAbove, RasterRefuses, IsRaster, RastersAs}
 use Rattle.netpbm_p6.proofs.Sees.{Sees, sees_weaker, sees_then, fault_later}
 
 -- a number that passes a small bound as far as a u64 goes passes it, and one within it stands as it is
@@ -40,16 +40,18 @@ limits_refuse : (bytes : List ℕ) (header : Header) (e : ReadError) → HasHead
 limits_refuse bytes header (Bad Depth) has exceeds = (has.short, capped_above has.short.headed.maxval 255 (subst (λ n. 255 < n) has.maxval_is exceeds))
 limits_refuse bytes header (Limit Axis number bound) has exceeds = (has.short, depth_small bytes header has exceeds.0, axis_passes bytes header number has exceeds.1, exceeds.2)
 limits_refuse bytes header (Limit CellsLimit number bound) has exceeds =
-    let w = capped_small has.short.headed.width header.width 4096 has.width_is exceeds.1 (omega arith) in
-    let h = capped_small has.short.headed.height header.height 4096 has.height_is exceeds.2 (omega arith) in
+    let w = capped_small has.short.headed.width header.width 4096 has.width_is exceeds.1.width_fits (omega arith) in
+    let h = capped_small has.short.headed.height header.height 4096 has.height_is exceeds.1.height_fits (omega arith) in
     let cells : header.width * header.height ≡ has.short.headed.width * has.short.headed.height = ap (λ n. n * header.height) w ∙ ap (λ n. has.short.headed.width * n) h in (
       has.short,
       depth_small bytes header has exceeds.0,
-      subst (λ n. n ≤ 4096) w exceeds.1,
-      subst (λ n. n ≤ 4096) h exceeds.2,
-      subst (λ n. 8388608 < n) cells exceeds.3,
-      exceeds.4 ∙ cells,
-      exceeds.5,
+      record {
+        width_fits = subst (λ n. n ≤ 4096) w exceeds.1.width_fits;
+        height_fits = subst (λ n. n ≤ 4096) h exceeds.1.height_fits;
+        passes = subst (λ n. 8388608 < n) cells exceeds.1.passes;
+        number_is = exceeds.1.number_is ∙ cells;
+      },
+      exceeds.2,
     )
 limits_refuse bytes header ReadFault has exceeds = absurd exceeds
 limits_refuse bytes header NoMemory has exceeds = absurd exceeds
@@ -64,6 +66,7 @@ limits_refuse bytes header (Limit Frames number bound) has exceeds = absurd exce
 limits_refuse bytes header (Limit Output number bound) has exceeds = absurd exceeds
 limits_refuse bytes header (Limit Loop number bound) has exceeds = absurd exceeds
 limits_refuse bytes header (Limit Records number bound) has exceeds = absurd exceeds
+limits_refuse bytes header (Limit Parts number bound) has exceeds = absurd exceeds
 
 pub limits_as : (name : List ℕ) (header : Header) (e : ReadError) (a b : ShelfState) → Sees a b (λ files. HasHeader (content_of files name) header) → Exceeds header e → ReadsAs name a b (Err e)
 limits_as name header ReadFault a b seen exceeds = absurd exceeds
@@ -85,7 +88,7 @@ record Found (bytes : List ℕ) (header : Header) (size : Size) (maxval : ℕ) :
   maxval_is : maxval ≡ within.headed.maxval
   want : 3 * cell_count size ≡ raster_length within.headed
 
-found : (bytes : List ℕ) (header : Header) (size : Size) (maxval : ℕ) → HasHeader bytes header → Fits header size maxval → Found bytes header size maxval
+found : (bytes : List ℕ) (header : Header) (size : Size) (maxval : ℕ) → HasHeader bytes header → HeaderFits header size maxval → Found bytes header size maxval
 found bytes header size maxval has fits =
     let headed = has.short.headed in
     let w = capped_small headed.width header.width 4096 has.width_is fits.width_fits (omega arith) in
@@ -150,7 +153,7 @@ raster_refuses bytes header size maxval (Bad Cell) at refuses = absurd refuses
 raster_refuses bytes header size maxval (Bad NoFrames) at refuses = absurd refuses
 raster_refuses bytes header size maxval (Limit what number bound) at refuses = absurd refuses
 
-pub raster_as : (name : List ℕ) (header : Header) (size : Size) (maxval : ℕ) (e : ReadError) (a b c : ShelfState) → OnlyReads a b → OnlyReads b c → Sees a b (λ files. HasHeader (content_of files name) header) → Fits header size maxval
+pub raster_as : (name : List ℕ) (header : Header) (size : Size) (maxval : ℕ) (e : ReadError) (a b c : ShelfState) → OnlyReads a b → OnlyReads b c → Sees a b (λ files. HasHeader (content_of files name) header) → HeaderFits header size maxval
     → RastersAs name header.length maxval size b c (Err e) → ReadsAs name a c (Err e)
 raster_as name header size maxval ReadFault a b c first second seen fits fault = fault_later name a b c first fault
 raster_as name header size maxval NoMemory a b c first second seen fits refused = tt
@@ -177,7 +180,7 @@ is_read bytes header size maxval volume at raster = record {
   limits = at.within.limits;
 }
 
-pub read_as : (name : List ℕ) (header : Header) (size : Size) (maxval : ℕ) (volume : Cells) (a b c : ShelfState) → OnlyReads a b → OnlyReads b c → Sees a b (λ files. HasHeader (content_of files name) header) → Fits header size maxval
+pub read_as : (name : List ℕ) (header : Header) (size : Size) (maxval : ℕ) (volume : Cells) (a b c : ShelfState) → OnlyReads a b → OnlyReads b c → Sees a b (λ files. HasHeader (content_of files name) header) → HeaderFits header size maxval
     → Sees b c (λ files. IsRaster (drop header.length (content_of files name)) size maxval volume) → Sees a c (λ files. IsRead (content_of files name) (record { maxval = maxval; volume = volume }))
 read_as name header size maxval volume a b c first second seen fits raster =
     sees_then (λ files. HasHeader (content_of files name) header) (λ files. IsRaster (drop header.length (content_of files name)) size maxval volume)

@@ -7,9 +7,10 @@ use Rattle.std.proofs.lemmas.List.{length-append, take_at, drop_at}
 use Rattle.std.proofs.lemmas.List.Elements.{All-from_recursion, recursion_from_All}
 use Rattle.cells.specs.declared.place.Size.{Size}
 use Rattle.cells.specs.Places.{cell_count}
-use Rattle.cells.specs.Cells.{Cells, IsCell, IsVolume, cells_of, volume_of, bytes_of}
-use Rattle.netpbm_p6.specs.Header.{IsDigit, value_of, IsNumber, IsGroup, IsHeader, IsWhite}
-use Rattle.netpbm_p6.specs.Pictures.{picture_size, StandsFor, IsPicture, p6_form}
+use Rattle.cells.specs.Parts.{count_from}
+use Rattle.cells.specs.Cells.{Cells, IsCell, IsOnePart, IsVolume, cells_of, volume_of, bytes_of}
+use Rattle.netpbm_p6.specs.Header.{IsDigit, digits_number, IsNumber, IsGroup, IsHeader, IsWhite}
+use Rattle.netpbm_p6.specs.Pictures.{picture_size, IsPictureOf, IsRead, IsPicture, p6_form}
 use Rattle.netpbm_p6.proofs.Shapes.{AllByRecursion-push, length-push, value-push, one_item, white_item}
 
 -- Numbers in decimal.
@@ -17,7 +18,7 @@ use Rattle.netpbm_p6.proofs.Shapes.{AllByRecursion-push, length-push, value-push
 record WritesNumber (n : ℕ) (text : List ℕ) : Type 0 where
   some : 1 ≤ length text
   digits : AllByRecursion IsDigit text
-  value : value_of text ≡ n
+  value : digits_number text ≡ n
 
 decimal_writes : (n : ℕ) → n < 2 ^ 64 → WritesNumber n (decimal n)
 decimal_writes n small = decimal_by_steps WritesNumber one more n small
@@ -78,23 +79,23 @@ cells_again k (cell ∷ cells) each =
 same_size : (size : Size) → size.f ≡ 1 → picture_size size.w size.h ≡ size
 same_size size one = λ i. record { w = size.w; h = size.h; f = sym one i }
 
-same_volume : (a b : Cells) → a.size ≡ b.size → a.k ≡ b.k → a.cells ≡ b.cells → a ≡ b
-same_volume a b size k cells = λ i. record { size = size i; k = k i; cells = cells i }
+same_volume : (a b : Cells) → a.size ≡ b.size → a.more ≡ b.more → a.k ≡ b.k → a.cells ≡ b.cells → a ≡ b
+same_volume a b size more k cells = λ i. record { size = size i; more = more i; k = k i; cells = cells i }
 
-volume_again : (volume : Cells) → IsVolume volume → volume.size.f ≡ 1 → volume.k ≡ 3 → volume_of (picture_size volume.size.w volume.size.h) 3 (bytes_of volume) ≡ volume
-volume_again volume is frames colours =
+volume_again : (volume : Cells) → IsVolume volume → IsOnePart volume → volume.size.f ≡ 1 → volume.k ≡ 3 → volume_of (picture_size volume.size.w volume.size.h) 3 (bytes_of volume) ≡ volume
+volume_again volume is one frames colours =
     let size = same_size volume.size frames in
     let each = recursion_from_All (IsCell volume.k) volume.cells is.cells in
-    same_volume (volume_of (picture_size volume.size.w volume.size.h) 3 (bytes_of volume)) volume size (sym colours)
-    ((λ i. cells_of (sym colours i) (cell_count (size i)) (bytes_of volume)) ∙ ap (λ n. cells_of volume.k n (bytes_of volume)) (sym is.count) ∙ cells_again volume.k volume.cells each)
+    same_volume (volume_of (picture_size volume.size.w volume.size.h) 3 (bytes_of volume)) volume size (sym one) (sym colours)
+    ((λ i. cells_of (sym colours i) (cell_count (size i)) (bytes_of volume)) ∙ ap (λ n. cells_of volume.k n (bytes_of volume)) (sym (is.count ∙ ap (count_from volume.size) one)) ∙ cells_again volume.k volume.cells each)
 
-raster_whole : (volume : Cells) → IsVolume volume → volume.size.f ≡ 1 → volume.k ≡ 3 → length (bytes_of volume) ≡ 3 * (volume.size.w * volume.size.h)
-raster_whole volume is frames colours =
+raster_whole : (volume : Cells) → IsVolume volume → IsOnePart volume → volume.size.f ≡ 1 → volume.k ≡ 3 → length (bytes_of volume) ≡ 3 * (volume.size.w * volume.size.h)
+raster_whole volume is part frames colours =
     let one : volume.size.h * 1 ≡ volume.size.h = omega arith in
     length_cells volume.k volume.cells (recursion_from_All (IsCell volume.k) volume.cells is.cells)
-    ∙ (λ i. colours i * is.count i) ∙ ap (λ f. 3 * (volume.size.w * (volume.size.h * f))) frames ∙ ap (λ h. 3 * (volume.size.w * h)) one
+    ∙ (λ i. colours i * (is.count ∙ ap (count_from volume.size) part) i) ∙ ap (λ f. 3 * (volume.size.w * (volume.size.h * f))) frames ∙ ap (λ h. 3 * (volume.size.w * h)) one
 
-pub read_again : (maxval : ℕ) (volume : Cells) → IsPicture maxval volume → StandsFor (p6_form maxval volume) (record { maxval = maxval; volume = volume })
+pub read_again : (maxval : ℕ) (volume : Cells) → IsPicture maxval volume → IsPictureOf (p6_form maxval volume) (record { maxval = maxval; volume = volume })
 read_again maxval volume picture =
     let axes = picture.volume_is.small.axes in
     record {
@@ -108,8 +109,56 @@ read_again maxval volume picture =
         is = refl;
       };
       depth = picture.fits;
-      whole = raster_whole volume picture.volume_is picture.frames picture.colours;
+      whole = raster_whole volume picture.volume_is picture.one picture.frames picture.colours;
       samples = picture.samples;
       maxval = refl;
-      volume = sym (volume_again volume picture.volume_is picture.frames picture.colours);
+      volume = sym (volume_again volume picture.volume_is picture.one picture.frames picture.colours);
+    }
+
+-- Within the limits.
+
+record IsShortText (n : ℕ) (text : List ℕ) : Type 0 where
+  short : length text ≤ n + 1
+
+decimal_short : (n : ℕ) → n < 2 ^ 64 → IsShortText n (decimal n)
+decimal_short n small = decimal_by_steps IsShortText one more n small
+  where
+    one : (n' : ℕ) → n' < 10 → IsShortText n' ((48 + n') ∷ [])
+    one n' below = record { short = omega arith }
+
+    more : (n' : ℕ) (text : List ℕ) → 10 ≤ n' → IsShortText (n' / 10) text → IsShortText n' (text ++ ((48 + n' % 10) ∷ []))
+    more n' text least writes = record { short = omega (arith, length-append text ((48 + n' % 10) ∷ []), writes.short) }
+
+header_short : (w h m : List ℕ) → length w ≤ 4097 → length h ≤ 4097 → length m ≤ 256 → length (codes "P6\n" ++ w ++ codes " " ++ h ++ codes "\n" ++ m ++ codes "\n") ≤ 65536
+header_short w h m ws hs ms =
+    omega (
+      arith,
+      ws,
+      hs,
+      ms,
+      length-append (codes "P6\n") w,
+      length-append (codes "P6\n" ++ w) (codes " "),
+      length-append (codes "P6\n" ++ w ++ codes " ") h,
+      length-append (codes "P6\n" ++ w ++ codes " " ++ h) (codes "\n"),
+      length-append (codes "P6\n" ++ w ++ codes " " ++ h ++ codes "\n") m,
+      length-append (codes "P6\n" ++ w ++ codes " " ++ h ++ codes "\n" ++ m) (codes "\n"),
+    )
+
+pub written_is_read : (maxval : ℕ) (volume : Cells) → IsPicture maxval volume → cell_count volume.size ≤ 8388608 → IsRead (p6_form maxval volume) (record { maxval = maxval; volume = volume })
+unfolding read_again
+written_is_read maxval volume picture few =
+    let axes = picture.volume_is.small.axes in
+    let one : volume.size.h * 1 ≡ volume.size.h = omega arith in
+    let count : cell_count volume.size ≡ volume.size.w * volume.size.h = ap (λ f. volume.size.w * (volume.size.h * f)) picture.frames ∙ ap (λ h. volume.size.w * h) one in
+    record {
+      stands = read_again maxval volume picture;
+      limits = record {
+        header_fits = header_short (decimal volume.size.w) (decimal volume.size.h) (decimal maxval)
+            (omega (arith, axes.w.1, (decimal_short volume.size.w (omega (arith, axes.w.1))).short))
+            (omega (arith, axes.h.1, (decimal_short volume.size.h (omega (arith, axes.h.1))).short))
+            (omega (arith, picture.fits, (decimal_short maxval (omega (arith, picture.fits))).short));
+        width_fits = axes.w.1;
+        height_fits = axes.h.1;
+        cells_fit = omega (arith, few, count);
+      };
     }

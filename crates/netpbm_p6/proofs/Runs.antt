@@ -12,7 +12,7 @@ use Rattle.netpbm_p6.specs.declared.scan.Scan.{Scan}
 use Rattle.netpbm_p6.specs.declared.scan.Scan.TheVariants.{Start, Letter, Magic, Between, Comment, Digits, Whole}
 use Rattle.netpbm_p6.specs.Header.{IsDigit}
 use Rattle.netpbm_p6.specs.Pictures.{capped}
-use Rattle.netpbm_p6.specs.Scanning.{kind_of, opened, separated, commented, completed, ended, numbered, counted, step_of, run_of, IsOpen, IsSound}
+use Rattle.netpbm_p6.specs.Scanning.{kind_of, opened, separated, commented, completed, ended, number_end, after_digit, step_of, run_of, IsOpenScan, IsSound}
 
 -- a number as it is
 abbrev pub exact : ℕ → ℕ
@@ -60,7 +60,7 @@ pub run_over : (keep : ℕ → ℕ) (s : Scan) (w h m : ℕ) (a : List ℕ) (x :
 run_over keep s w h m a x b whole = run_then keep s (Whole w h m) None a (x ∷ b) whole refl
 
 -- what is no whole header is open
-pub still_open : (s : Scan) → IsSound s → ((w h m : ℕ) → s ≡ Whole w h m → ⊥) → IsOpen s
+pub still_open : (s : Scan) → IsSound s → ((w h m : ℕ) → s ≡ Whole w h m → ⊥) → IsOpenScan s
 still_open Start sound other = tt
 still_open Letter sound other = tt
 still_open Magic sound other = tt
@@ -127,14 +127,14 @@ ended_capped Nothing n kind = opened_capped (Width n) kind
 ended_capped (Width w) n kind = opened_capped (Both w n) kind
 ended_capped (Both w h) n kind = completed_capped w h n kind
 
-numbered_capped : (numbers : Numbers) (n : ℕ) (kind : Kind) → numbered (capped_numbers numbers) (capped n) kind ≡ option_map capped_scan (numbered numbers n kind)
+numbered_capped : (numbers : Numbers) (n : ℕ) (kind : Kind) → number_end (capped_numbers numbers) (capped n) kind ≡ option_map capped_scan (number_end numbers n kind)
 numbered_capped numbers zero kind = refl
 numbered_capped numbers (suc n) kind =
     let some : 1 ≤ capped (suc n) = omega arith in
     ap (λ t. cond t None (ended (capped_numbers numbers) (capped (suc n)) kind)) (test_positive (capped (suc n)) some) ∙ ended_capped numbers (suc n) kind
     ∙ sym (ap (λ t. option_map capped_scan (cond t None (ended numbers (suc n) kind))) (test_positive (suc n) (omega arith)))
 
-counted_capped : (numbers : Numbers) (n b : ℕ) (kind : Kind) → counted capped (capped_numbers numbers) (capped n) b kind ≡ option_map capped_scan (counted exact numbers n b kind)
+counted_capped : (numbers : Numbers) (n b : ℕ) (kind : Kind) → after_digit capped (capped_numbers numbers) (capped n) b kind ≡ option_map capped_scan (after_digit exact numbers n b kind)
 counted_capped numbers n b Digit =
     let same : capped (10 * capped n + (b - 48)) ≡ capped (10 * n + (b - 48)) = omega arith in
     ap (λ m. Some (Digits (capped_numbers numbers) m)) same

@@ -13,8 +13,8 @@ use Rattle.netpbm_p6.specs.declared.scan.Numbers.{Numbers}
 use Rattle.netpbm_p6.specs.declared.scan.Numbers.TheVariants.{Nothing, Width, Both}
 use Rattle.netpbm_p6.specs.declared.scan.Scan.{Scan}
 use Rattle.netpbm_p6.specs.declared.scan.Scan.TheVariants.{Start, Letter, Magic, Between, Comment, Digits, Whole}
-use Rattle.netpbm_p6.specs.Header.{IsWhite, EndsLine, IsItem, IsSeparator, IsDigit, value_behind, value_of, IsGroup, IsHeader}
-use Rattle.netpbm_p6.specs.Scanning.{kind_of, opened, separated, commented, completed, ended, numbered, counted, step_of, run_of}
+use Rattle.netpbm_p6.specs.Header.{IsWhite, EndsLine, IsItem, IsSeparator, IsDigit, value_behind, digits_number, IsGroup, IsHeader}
+use Rattle.netpbm_p6.specs.Scanning.{kind_of, opened, separated, commented, completed, ended, number_end, after_digit, step_of, run_of}
 use Rattle.netpbm_p6.proofs.Runs.{exact, digit_bounds}
 use Rattle.netpbm_p6.proofs.Accepts.{line_end_bounds}
 
@@ -62,7 +62,7 @@ pub record InNumber (numbers : Numbers) (n : ℕ) (text : List ℕ) : Type 0 whe
   pub separates : IsSeparator separator
   pub some : 1 ≤ length digits
   pub each : AllByRecursion IsDigit digits
-  pub value : value_of digits ≡ n
+  pub value : digits_number digits ≡ n
   pub is : text ≡ front ++ (separator ++ digits)
 
 -- what was read, at each place
@@ -259,14 +259,14 @@ ended_shape (Both w h) n text b kind is positive at = completed_shape kind is
     completed_shape Digit is' = tt
     completed_shape Other is' = tt
 
-numbered_shape : (numbers : Numbers) (n : ℕ) (text : List ℕ) (b : ℕ) (kind : Kind) → kind_of b ≡ kind → InNumber numbers n text → IfSome (numbered numbers n kind) (λ next. HasShape next (text ++ b ∷ []))
+numbered_shape : (numbers : Numbers) (n : ℕ) (text : List ℕ) (b : ℕ) (kind : Kind) → kind_of b ≡ kind → InNumber numbers n text → IfSome (number_end numbers n kind) (λ next. HasShape next (text ++ b ∷ []))
 numbered_shape numbers n text b kind is at = tested (n == 0) refl
   where
     tested : (t : Bool) → (n == 0) ≡ t → IfSome (cond t None (ended numbers n kind)) (λ next. HasShape next (text ++ b ∷ []))
     tested true e = tt
     tested false e = let positive : 1 ≤ n = omega (arith, eqb-false n 0 e) in ended_shape numbers n text b kind is positive at
 
-counted_shape : (numbers : Numbers) (n : ℕ) (text : List ℕ) (b : ℕ) (kind : Kind) → kind_of b ≡ kind → InNumber numbers n text → IfSome (counted exact numbers n b kind) (λ next. HasShape next (text ++ b ∷ []))
+counted_shape : (numbers : Numbers) (n : ℕ) (text : List ℕ) (b : ℕ) (kind : Kind) → kind_of b ≡ kind → InNumber numbers n text → IfSome (after_digit exact numbers n b kind) (λ next. HasShape next (text ++ b ∷ []))
 counted_shape numbers n text b Digit is at = record {
   front = at.front;
   separator = at.separator;

@@ -5,7 +5,7 @@ use Rattle.std.proofs.lemmas.List.{take-append-drop, append-nil}
 use Rattle.std.specs.Prelude.{drop, Result, Ok, Err, OnErr}
 use Rattle.std.specs.FinMap.{insert}
 use Rattle.shelf_core.specs.Files.{Files, ShelfState, content_of, Changes, GrowsByPrefix}
-use Rattle.shelf_core.specs.Written.{Holds, HoldsPart}
+use Rattle.shelf_core.specs.Written.{HoldsText, HoldsPart}
 use Rattle.shelf_core.proofs.FileLaws.{content_inserted, insert_again, told_then, told_weaker}
 use Rattle.shelf_core.proofs.WrittenLaws.{shelf_added, shelf_added_part}
 
@@ -76,22 +76,22 @@ joined_is text (piece ∷ pieces) =
     ap (λ more. text ++ more) (sym (joined_is piece pieces)) ∙ sym (append_assoc text piece (joined [] pieces)) ∙ joined_is (text ++ piece) pieces
 
 -- one more piece, as it was given
-pub piece_added : (name text given piece : List ℕ) (a b c : ShelfState) → given ≡ piece → Changes a b (Holds name text) → Changes b c (Adds name given) → Changes a c (Holds name (text ++ piece))
+pub piece_added : (name text given piece : List ℕ) (a b c : ShelfState) → given ≡ piece → Changes a b (HoldsText name text) → Changes b c (Adds name given) → Changes a c (HoldsText name (text ++ piece))
 piece_added name text given piece a b c is holds step = shelf_added name text piece a b c holds (subst (λ p. Changes b c (Adds name p)) is step)
 
 -- a number and what ends it
-pub number_added : (name text given p q : List ℕ) (a b c : ShelfState) → given ≡ p → Changes a b (Holds name text) → Changes b c (Adds name (given ++ q)) → Changes a c (Holds name ((text ++ p) ++ q))
+pub number_added : (name text given p q : List ℕ) (a b c : ShelfState) → given ≡ p → Changes a b (HoldsText name text) → Changes b c (Adds name (given ++ q)) → Changes a c (HoldsText name ((text ++ p) ++ q))
 number_added name text given p q a b c is holds step =
-    subst (λ bytes. Changes a c (Holds name bytes)) (sym (append_assoc text p q)) (piece_added name text (given ++ q) (p ++ q) a b c (ap (λ n. n ++ q) is) holds step)
+    subst (λ bytes. Changes a c (HoldsText name bytes)) (sym (append_assoc text p q)) (piece_added name text (given ++ q) (p ++ q) a b c (ap (λ n. n ++ q) is) holds step)
 
 -- the writing stopped in a piece, whatever was to follow
-pub stopped : (name text given piece : List ℕ) (rest : List (List ℕ)) (a b c : ShelfState) → given ≡ piece → Changes a b (Holds name text) → Changes b c (AddsPart name given)
+pub stopped : (name text given piece : List ℕ) (rest : List (List ℕ)) (a b c : ShelfState) → given ≡ piece → Changes a b (HoldsText name text) → Changes b c (AddsPart name given)
     → Changes a c (HoldsPart name (joined (text ++ piece) rest))
 stopped name text given piece rest a b c is holds step =
     subst (λ bytes. Changes a c (HoldsPart name bytes)) (joined_is (text ++ piece) rest)
     (shelf_added_part name text piece (joined [] rest) a b c holds (subst (λ p. Changes b c (AddsPart name p)) is step))
 
-pub number_stopped : (name text given p q : List ℕ) (rest : List (List ℕ)) (a b c : ShelfState) → given ≡ p → Changes a b (Holds name text) → Changes b c (AddsPart name (given ++ q))
+pub number_stopped : (name text given p q : List ℕ) (rest : List (List ℕ)) (a b c : ShelfState) → given ≡ p → Changes a b (HoldsText name text) → Changes b c (AddsPart name (given ++ q))
     → Changes a c (HoldsPart name (joined ((text ++ p) ++ q) rest))
 number_stopped name text given p q rest a b c is holds step =
     subst (λ bytes. Changes a c (HoldsPart name (joined bytes rest))) (sym (append_assoc text p q)) (stopped name text (given ++ q) (p ++ q) rest a b c (ap (λ n. n ++ q) is) holds step)

@@ -1,5 +1,6 @@
--- The header of a P6 picture. (Netpbm's PPM, binary form; where a comment may stand is this project's
--- choice: after the magic, the width and the height, with or without white space before it.)
+-- A reader has to trust this file. The header of a P6 picture. (Netpbm's PPM, binary form; where a
+-- comment may stand is this project's choice: after the magic, the width and the height, with or
+-- without white space before it.)
 use Rattle.std.specs.Prelude.{◌≡◌, ◌≢◌, ◌≤◌, ◌⊎◌, ◌+◌, ◌*◌, ◌-◌, ℕ, List, [], ◌∷◌, ◌++◌, length, All, codes}
 use Rattle.std.specs.List.{AllByRecursion, concat}
 
@@ -37,14 +38,14 @@ abbrev pub value_behind : ℕ → List ℕ → ℕ
 value_behind n [] = n
 value_behind n (digit ∷ digits) = value_behind (10 * n + (digit - 48)) digits
 
-abbrev pub value_of : List ℕ → ℕ
-value_of digits = value_behind 0 digits
+abbrev pub digits_number : List ℕ → ℕ
+digits_number digits = value_behind 0 digits
 
 -- one or more decimal digits with a value of at least 1
 pub record IsNumber (text : List ℕ) (n : ℕ) : Type 0 where
   pub some : 1 ≤ length text
   pub digits : All IsDigit text
-  pub value : value_of text ≡ n
+  pub value : digits_number text ≡ n
   pub positive : 1 ≤ n
 
 -- a separator and a number

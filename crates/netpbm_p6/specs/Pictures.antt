@@ -1,14 +1,16 @@
--- P6 pictures: which bytes stand for which picture, and which refusal comes at which place. (Netpbm's
+-- A reader has to trust this file. P6 pictures: which bytes stand for which picture, and which
+-- refusal comes at which place. (Netpbm's
 -- PPM, binary form, with a maxval of at most 255; the bounds are this project's own.)
 use Rattle.std.specs.Prelude.{◌≡◌, ◌≤◌, ◌<◌, ◌⊎◌, ◌+◌, ◌*◌, ℕ, List, ◌++◌, length, take, min, slice_index, All, codes, decimal, Result, Ok, Err}
 use Rattle.cells.specs.declared.place.Size.{Size}
-use Rattle.cells.specs.Cells.{Cells, IsVolume, volume_of, bytes_of}
-use Rattle.shelf_core.specs.Files.{ShelfState, Changes, Rose, content_of}
+use Rattle.cells.specs.Cells.{Cells, IsOnePart, IsVolume, volume_of, bytes_of}
+use Rattle.shelf_core.specs.Files.{ShelfState, InFile, ReadsRose}
 use Rattle.shelf_core.specs.declared.fault.ReadError.{ReadError}
 use Rattle.shelf_core.specs.declared.fault.ReadError.TheVariants.{ReadFault, Bad, Limit, NoMemory}
 use Rattle.shelf_core.specs.declared.fault.FormFault.TheVariants.{Form, Depth, Sample, Trailing}
 use Rattle.shelf_core.specs.declared.fault.What.TheVariants.{Axis, Cells as CellsLimit, Header}
 use Rattle.netpbm_p6.specs.declared.picture.Picture.{Picture}
+use Rattle.netpbm_p6.specs.declared.header.TheConstants.{MOST_BYTES, MOST_CELLS, MOST_ON_AXIS}
 use Rattle.netpbm_p6.specs.Header.{IsHeader, IsPrefix, IsProperPrefix}
 
 -- the size of a picture
@@ -29,8 +31,9 @@ pub record Headed (bytes : List ℕ) : Type 0 where
 abbrev pub raster_length : {bytes : List ℕ} → Headed bytes → ℕ
 raster_length headed = 3 * (headed.width * headed.height)
 
--- the bytes are a header with a maxval of at most 255, a raster with no byte above maxval, and nothing more; the picture is that raster
-pub record StandsFor (bytes : List ℕ) (picture : Picture) : Type 0 where
+-- the bytes are a header with a maxval of at most 255, a raster with no byte above maxval, and
+-- nothing more; the picture is that raster
+pub record IsPictureOf (bytes : List ℕ) (picture : Picture) : Type 0 where
   pub headed : Headed bytes
   pub depth : headed.maxval ≤ 255
   pub whole : length headed.raster ≡ raster_length headed
@@ -40,20 +43,20 @@ pub record StandsFor (bytes : List ℕ) (picture : Picture) : Type 0 where
 
 -- the bounds on a header's length, on the axes and on the cells
 pub record IsWithinLimits (header : List ℕ) (width height : ℕ) : Type 0 where
-  pub header_fits : length header ≤ 65536
-  pub width_fits : width ≤ 4096
-  pub height_fits : height ≤ 4096
-  pub cells_fit : width * height ≤ 8388608
+  pub header_fits : length header ≤ MOST_BYTES
+  pub width_fits : width ≤ MOST_ON_AXIS
+  pub height_fits : height ≤ MOST_ON_AXIS
+  pub cells_fit : width * height ≤ MOST_CELLS
 
 -- the bytes stand for the picture, within the limits
 pub record IsRead (bytes : List ℕ) (picture : Picture) : Type 0 where
-  pub stands : StandsFor bytes picture
+  pub stands : IsPictureOf bytes picture
   pub limits : IsWithinLimits stands.headed.header stands.headed.width stands.headed.height
 
--- a header of at most 65,536 bytes
+-- a header that isn't too long
 pub record ShortHeaded (bytes : List ℕ) : Type 0 where
   pub headed : Headed bytes
-  pub short : length headed.header ≤ 65536
+  pub short : length headed.header ≤ MOST_BYTES
 
 -- a header with a maxval of at most 255, within the limits
 pub record Within (bytes : List ℕ) : Type 0 where
@@ -61,18 +64,19 @@ pub record Within (bytes : List ℕ) : Type 0 where
   pub depth : headed.maxval ≤ 255
   pub limits : IsWithinLimits headed.header headed.width headed.height
 
--- the header breaks off or goes wrong at a place of at most 65,536
+-- the header breaks off or goes wrong at a place before it is too long
 pub record BreaksAt (bytes : List ℕ) (at : ℕ) : Type 0 where
-  pub early : at ≤ 65536
+  pub early : at ≤ MOST_BYTES
   pub inside : at ≤ length bytes
   pub before : IsProperPrefix (take at bytes)
   pub here : (length bytes ≡ at) ⊎ ((at < length bytes) × (IsPrefix (take (at + 1) bytes) → ⊥))
 
--- the header goes on behind 65,536 bytes: these are the front of one, hold none, more bytes follow, and a next byte could still follow
+-- the header is too long: the most bytes of one are a proper prefix of one, and the byte that
+-- follows could still be one of it
 pub record HeaderTooLong (bytes : List ℕ) : Type 0 where
-  pub longer : 65536 < length bytes
-  pub starts : IsProperPrefix (take 65536 bytes)
-  pub lawful : IsPrefix (take 65537 bytes)
+  pub longer : MOST_BYTES < length bytes
+  pub starts : IsProperPrefix (take MOST_BYTES bytes)
+  pub lawful : IsPrefix (take (MOST_BYTES + 1) bytes)
 
 -- the raster ends early, with no byte above maxval
 pub record EndsEarly (bytes : List ℕ) (at : ℕ) : Type 0 where
@@ -91,55 +95,74 @@ pub record IsAbove (bytes : List ℕ) (at : ℕ) : Type 0 where
   pub above : within.headed.maxval < slice_index within.headed.raster index
   pub place : at ≡ length within.headed.header + index
 
--- a byte behind a whole raster with no byte above maxval
+-- a byte after a whole raster with no byte above maxval
 pub record GoesOn (bytes : List ℕ) (at : ℕ) : Type 0 where
   pub within : Within bytes
   pub longer : raster_length within.headed < length within.headed.raster
-  pub samples : All (λ b. b ≤ within.headed.maxval) (take (raster_length within.headed) within.headed.raster)
+  pub samples : All (λ b. b ≤ within.headed.maxval)
+      (take (raster_length within.headed) within.headed.raster)
   pub place : at ≡ length within.headed.header + raster_length within.headed
 
 -- a number as far as a u64 goes
+abbrev pub greatest_number : ℕ
+greatest_number = 18446744073709551615
+
 abbrev pub capped : ℕ → ℕ
-capped n = min n 18446744073709551615
+capped n = min n greatest_number
 
 -- width above its bound, or height where width is in it
 abbrev pub AxisPasses : ℕ → ℕ → ℕ → Type 0
 AxisPasses width height number =
-    ((4096 < width) × (number ≡ capped width)) ⊎ ((width ≤ 4096) × (4096 < height) × (number ≡ capped height))
+    ((MOST_ON_AXIS < width) × (number ≡ capped width))
+    ⊎ ((width ≤ MOST_ON_AXIS) × (MOST_ON_AXIS < height) × (number ≡ capped height))
 
--- the refusal of the bytes, the first in the order of trial: the header's form, its length, the depth, the axes, the cells, and then the raster in the order of its bytes
+-- a width and a height in their bounds that make too many cells
+pub record CellsPass (width height number : ℕ) : Type 0 where
+  pub width_fits : width ≤ MOST_ON_AXIS
+  pub height_fits : height ≤ MOST_ON_AXIS
+  pub passes : MOST_CELLS < width * height
+  pub number_is : number ≡ width * height
+
+-- the refusal of the bytes, the first in the order of trial: the header's form, its length, the
+-- depth, the axes, the cells, and then the raster in the order of its bytes
 abbrev pub Refuses : List ℕ → ReadError → Type 0
 Refuses bytes (Bad (Form at)) = BreaksAt bytes at ⊎ EndsEarly bytes at
-Refuses bytes (Limit Header number bound) = HeaderTooLong bytes × (number ≡ 65537) × (bound ≡ 65536)
+Refuses bytes (Limit Header number bound) =
+    HeaderTooLong bytes × (number ≡ MOST_BYTES + 1) × (bound ≡ MOST_BYTES)
 Refuses bytes (Bad Depth) = (short : ShortHeaded bytes) × (255 < short.headed.maxval)
-Refuses bytes (Limit Axis number bound) = (short : ShortHeaded bytes) × (short.headed.maxval ≤ 255) × AxisPasses short.headed.width short.headed.height number × (bound ≡ 4096)
+Refuses bytes (Limit Axis number bound) =
+    (short : ShortHeaded bytes) × (short.headed.maxval ≤ 255)
+    × AxisPasses short.headed.width short.headed.height number × (bound ≡ MOST_ON_AXIS)
 Refuses bytes (Limit CellsLimit number bound) =
-    (short : ShortHeaded bytes) × (short.headed.maxval ≤ 255) × (short.headed.width ≤ 4096) × (short.headed.height ≤ 4096)
-    × (8388608 < short.headed.width * short.headed.height) × (number ≡ short.headed.width * short.headed.height) × (bound ≡ 8388608)
+    (short : ShortHeaded bytes) × (short.headed.maxval ≤ 255)
+    × CellsPass short.headed.width short.headed.height number × (bound ≡ MOST_CELLS)
 Refuses bytes (Bad (Sample at)) = IsAbove bytes at
 Refuses bytes (Bad (Trailing at)) = GoesOn bytes at
 Refuses bytes error = ⊥
 
 -- what a reader of the named file leaves and answers
 abbrev pub ReadsAs : List ℕ → ShelfState → ShelfState → Result Picture ReadError → Type 0
-ReadsAs name was now (Ok picture) = Changes was now (λ before after. IsRead (content_of before name) picture)
-ReadsAs name was now (Err ReadFault) = Rose (was.reads name) (now.reads name)
+ReadsAs name was now (Ok picture) = InFile name was now (λ bytes. IsRead bytes picture)
+ReadsAs name was now (Err ReadFault) = ReadsRose name was now
 ReadsAs name was now (Err NoMemory) = Unit {0}
-ReadsAs name was now (Err error) = Changes was now (λ before after. Refuses (content_of before name) error)
+ReadsAs name was now (Err error) = InFile name was now (λ bytes. Refuses bytes error)
 
 -- what every picture that is read is, whether or not the shelf tells its files
 pub record IsSound (picture : Picture) : Type 0 where
   pub positive : 1 ≤ picture.maxval
   pub fits : picture.maxval ≤ 255
+  pub one : IsOnePart picture.volume
   pub frames : picture.volume.size.f ≡ 1
   pub colours : picture.volume.k ≡ 3
   pub samples : All (λ b. b ≤ picture.maxval) (bytes_of picture.volume)
 
--- a picture that can be written: a maxval of at least 1, one frame, three samples, and no byte above maxval
+-- a picture that can be written: a maxval of at least 1, one frame, three samples, and no byte
+-- above maxval
 pub record IsPicture (maxval : ℕ) (volume : Cells) : Type 0 where
   pub positive : 1 ≤ maxval
   pub fits : maxval ≤ 255
   pub volume_is : IsVolume volume
+  pub one : IsOnePart volume
   pub frames : volume.size.f ≡ 1
   pub colours : volume.k ≡ 3
   pub samples : All (λ b. b ≤ maxval) (bytes_of volume)
@@ -147,4 +170,5 @@ pub record IsPicture (maxval : ℕ) (volume : Cells) : Type 0 where
 -- the one spelling of a picture that the writer gives
 abbrev pub p6_form : ℕ → Cells → List ℕ
 p6_form maxval volume =
-    codes "P6\n" ++ decimal volume.size.w ++ codes " " ++ decimal volume.size.h ++ codes "\n" ++ decimal maxval ++ codes "\n" ++ bytes_of volume
+    codes "P6\n" ++ decimal volume.size.w ++ codes " " ++ decimal volume.size.h ++ codes "\n"
+    ++ decimal maxval ++ codes "\n" ++ bytes_of volume

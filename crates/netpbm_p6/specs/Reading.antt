@@ -1,9 +1,10 @@
--- What the parts of the reader make of a file. (Own: the public promise speaks of Pictures.antt alone.)
+-- The state of the reader: what its parts make of a file. The public promise speaks of
+-- Pictures.antt alone. (Own.)
 use Rattle.std.specs.Prelude.{◌≡◌, ◌≤◌, ◌<◌, ◌⊎◌, ◌+◌, ◌*◌, ℕ, List, length, take, drop, All, slice_index, nat_lt, if◌then◌else◌, Some, None, Result, Ok, Err}
 use Rattle.cells.specs.declared.place.Size.{Size}
 use Rattle.cells.specs.Places.{cell_count}
-use Rattle.cells.specs.Cells.{Cells, bytes_of, volume_of}
-use Rattle.shelf_core.specs.Files.{ShelfState, Changes, Rose, content_of}
+use Rattle.cells.specs.Cells.{Cells, IsOnePart, bytes_of, volume_of}
+use Rattle.shelf_core.specs.Files.{ShelfState, InFile, ReadsRose}
 use Rattle.shelf_core.specs.declared.fault.ReadError.{ReadError}
 use Rattle.shelf_core.specs.declared.fault.ReadError.TheVariants.{ReadFault, Bad, Limit, NoMemory}
 use Rattle.shelf_core.specs.declared.fault.FormFault.TheVariants.{Form, Depth, Sample, Trailing}
@@ -13,23 +14,26 @@ use Rattle.netpbm_p6.specs.declared.scan.Scan.TheVariants.{Start}
 use Rattle.netpbm_p6.specs.declared.scan.Header.{Header}
 use Rattle.netpbm_p6.specs.declared.scan.Scanned.{Scanned}
 use Rattle.netpbm_p6.specs.declared.scan.Scanned.TheVariants.{Open, Broken, Ended}
-use Rattle.netpbm_p6.specs.Pictures.{capped, picture_size, ShortHeaded, Refuses, ReadsAs}
+use Rattle.netpbm_p6.specs.Pictures.{capped, picture_size, CellsPass, ShortHeaded, Refuses, ReadsAs}
+use Rattle.netpbm_p6.specs.declared.header.TheConstants.{MOST_BYTES, MOST_CELLS, MOST_ON_AXIS}
 use Rattle.netpbm_p6.specs.Scanning.{run_of, RunsOn, EndsIn}
 
--- the scanner came to this place behind so many bytes of the file
+-- the scanner came to this place after so many bytes of the file
 pub record Reached (bytes : List ℕ) (at : ℕ) (scan : Scan) : Type 0 where
   pub inside : at ≤ length bytes
   pub run : run_of capped Start (take at bytes) ≡ Some scan
 
--- a header that goes wrong behind i bytes, or breaks off there
+-- a header that goes wrong after i bytes, or breaks off there
 pub record BreaksOff (rest : List ℕ) (scan : Scan) (i : ℕ) : Type 0 where
   pub inside : i ≤ length rest
   pub before : RunsOn scan (take i rest)
-  pub here : (length rest ≡ i) ⊎ ((i < length rest) × (run_of capped scan (take (i + 1) rest) ≡ None))
+  pub here : (length rest ≡ i)
+      ⊎ ((i < length rest) × (run_of capped scan (take (i + 1) rest) ≡ None))
 
 -- what the scanner makes of the bytes that are left, as far as the room goes
 abbrev pub ScansOn : List ℕ → Scan → ℕ → Scanned → Type 0
-ScansOn rest scan room (Open next) = (room ≤ length rest) × (run_of capped scan (take room rest) ≡ Some next)
+ScansOn rest scan room (Open next) =
+    (room ≤ length rest) × (run_of capped scan (take room rest) ≡ Some next)
 ScansOn rest scan room (Broken i) = BreaksOff rest scan i
 ScansOn rest scan room (Ended header) = EndsIn scan rest header
 
@@ -48,40 +52,43 @@ pub record HasHeader (bytes : List ℕ) (header : Header) : Type 0 where
   pub maxval_is : header.maxval ≡ capped short.headed.maxval
 
 abbrev pub HeadsAs : List ℕ → ShelfState → ShelfState → Result Header ReadError → Type 0
-HeadsAs name was now (Ok header) = Changes was now (λ before after. HasHeader (content_of before name) header)
+HeadsAs name was now (Ok header) = InFile name was now (λ bytes. HasHeader bytes header)
 HeadsAs name was now (Err error) = ReadsAs name was now (Err error)
 
--- the refusal of a header of more than 65,536 bytes, by what the scanner makes of the byte past them
+-- the refusal of a header that is too long, by what the scanner makes of the byte past them
 abbrev pub past_of : Scanned → ReadError
-past_of (Open next) = Limit HeaderLimit 65537 65536
-past_of (Broken i) = Bad (Form 65536)
-past_of (Ended header) = Limit HeaderLimit 65537 65536
+past_of (Open next) = Limit HeaderLimit (MOST_BYTES + 1) MOST_BYTES
+past_of (Broken i) = Bad (Form MOST_BYTES)
+past_of (Ended header) = Limit HeaderLimit (MOST_BYTES + 1) MOST_BYTES
 
--- the refusal of a file whose first 65,536 bytes lead to this place
+-- the refusal of a file in which the most bytes of a header lead to this place
 abbrev pub PassesAs : List ℕ → Scan → ShelfState → ShelfState → ReadError → Type 0
-PassesAs name scan was now ReadFault = Rose (was.reads name) (now.reads name)
-PassesAs name scan was now error = Changes was now (λ before after. Reached (content_of before name) 65536 scan → Refuses (content_of before name) error)
+PassesAs name scan was now ReadFault = ReadsRose name was now
+PassesAs name scan was now error =
+    InFile name was now (λ bytes. Reached bytes MOST_BYTES scan → Refuses bytes error)
 
 -- the refusal of a header's numbers
 abbrev pub Exceeds : Header → ReadError → Type 0
 Exceeds header (Bad Depth) = 255 < header.maxval
 Exceeds header (Limit Axis number bound) =
-    (header.maxval ≤ 255) × (((4096 < header.width) × (number ≡ header.width)) ⊎ ((header.width ≤ 4096) × (4096 < header.height) × (number ≡ header.height))) × (bound ≡ 4096)
+    (header.maxval ≤ 255) × (((MOST_ON_AXIS < header.width) × (number ≡ header.width))
+    ⊎ ((header.width ≤ MOST_ON_AXIS) × (MOST_ON_AXIS < header.height) × (number ≡ header.height)))
+    × (bound ≡ MOST_ON_AXIS)
 Exceeds header (Limit CellsLimit number bound) =
-    (header.maxval ≤ 255) × (header.width ≤ 4096) × (header.height ≤ 4096) × (8388608 < header.width * header.height) × (number ≡ header.width * header.height) × (bound ≡ 8388608)
+    (header.maxval ≤ 255) × CellsPass header.width header.height number × (bound ≡ MOST_CELLS)
 Exceeds header error = ⊥
 
 -- numbers within the limits, as a size and a maxval
-pub record Fits (header : Header) (size : Size) (maxval : ℕ) : Type 0 where
+pub record HeaderFits (header : Header) (size : Size) (maxval : ℕ) : Type 0 where
   pub depth : header.maxval ≤ 255
-  pub width_fits : header.width ≤ 4096
-  pub height_fits : header.height ≤ 4096
-  pub cells_fit : header.width * header.height ≤ 8388608
+  pub width_fits : header.width ≤ MOST_ON_AXIS
+  pub height_fits : header.height ≤ MOST_ON_AXIS
+  pub cells_fit : header.width * header.height ≤ MOST_CELLS
   pub size_is : size ≡ picture_size header.width header.height
   pub maxval_is : maxval ≡ header.maxval
 
 abbrev pub IsAllowed : Header → Result (Size × ℕ) ReadError → Type 0
-IsAllowed header (Ok found) = Fits header found.0 found.1
+IsAllowed header (Ok found) = HeaderFits header found.0 found.1
 IsAllowed header (Err error) = Exceeds header error
 
 -- the first byte above maxval
@@ -90,7 +97,7 @@ pub record IsFirstAbove (maxval : ℕ) (bytes : List ℕ) (i : ℕ) : Type 0 whe
   pub before : All (λ b. b ≤ maxval) (take i bytes)
   pub above : maxval < slice_index bytes i
 
--- the refusal of the bytes behind a header, of which so many are wanted
+-- the refusal of the bytes after a header, of which so many are wanted
 pub record IsAboveIn (rest : List ℕ) (start maxval want place : ℕ) : Type 0 where
   pub index : ℕ
   pub early : index < want
@@ -113,23 +120,28 @@ RasterRefuses rest start maxval want (Bad (Form place)) = EndsShort rest start m
 RasterRefuses rest start maxval want (Bad (Trailing place)) = GoesPast rest start maxval want place
 RasterRefuses rest start maxval want error = ⊥
 
--- the bytes behind the header begin with the raster
+-- the bytes after the header begin with the raster
 pub record BeginsWith (rest raster : List ℕ) (maxval : ℕ) : Type 0 where
   pub long : length raster ≤ length rest
   pub is : raster ≡ take (length raster) rest
   pub samples : All (λ b. b ≤ maxval) raster
 
 -- a raster was filled from a place of the file
-abbrev pub FillsAs : List ℕ → ℕ → ℕ → List ℕ → ShelfState → ShelfState → Result (Unit {0}) ReadError → Type 0
-FillsAs name start maxval raster was now (Ok done) = Changes was now (λ before after. BeginsWith (drop start (content_of before name)) raster maxval)
-FillsAs name start maxval raster was now (Err ReadFault) = Rose (was.reads name) (now.reads name)
-FillsAs name start maxval raster was now (Err error) = Changes was now (λ before after. RasterRefuses (drop start (content_of before name)) start maxval (length raster) error)
+abbrev pub FillsAs : List ℕ → ℕ → ℕ → List ℕ → ShelfState → ShelfState
+    → Result (Unit {0}) ReadError → Type 0
+FillsAs name start maxval raster was now (Ok done) =
+    InFile name was now (λ bytes. BeginsWith (drop start bytes) raster maxval)
+FillsAs name start maxval raster was now (Err ReadFault) = ReadsRose name was now
+FillsAs name start maxval raster was now (Err error) =
+    InFile name was now (λ bytes. RasterRefuses (drop start bytes) start maxval
+    (length raster) error)
 
--- the file was looked at behind its raster
+-- the file was looked at after its raster
 abbrev pub StopsAs : List ℕ → ℕ → ShelfState → ShelfState → Result (Unit {0}) ReadError → Type 0
-StopsAs name end was now (Ok done) = Changes was now (λ before after. length (content_of before name) ≤ end)
-StopsAs name end was now (Err ReadFault) = Rose (was.reads name) (now.reads name)
-StopsAs name end was now (Err (Bad (Trailing place))) = (place ≡ end) × Changes was now (λ before after. end < length (content_of before name))
+StopsAs name end was now (Ok done) = InFile name was now (λ bytes. length bytes ≤ end)
+StopsAs name end was now (Err ReadFault) = ReadsRose name was now
+StopsAs name end was now (Err (Bad (Trailing place))) =
+    (place ≡ end) × InFile name was now (λ bytes. end < length bytes)
 StopsAs name end was now (Err error) = ⊥
 
 -- the whole rest of the file is a raster of this size
@@ -141,11 +153,16 @@ pub record IsRaster (rest : List ℕ) (size : Size) (maxval : ℕ) (volume : Cel
 -- a volume of this size with three samples a cell, none of them above maxval
 pub record IsMadeOf (size : Size) (maxval : ℕ) (volume : Cells) : Type 0 where
   pub size_is : volume.size ≡ size
+  pub one : IsOnePart volume
   pub colours : volume.k ≡ 3
   pub samples : All (λ b. b ≤ maxval) (bytes_of volume)
 
-abbrev pub RastersAs : List ℕ → ℕ → ℕ → Size → ShelfState → ShelfState → Result Cells ReadError → Type 0
-RastersAs name start maxval size was now (Ok volume) = Changes was now (λ before after. IsRaster (drop start (content_of before name)) size maxval volume)
-RastersAs name start maxval size was now (Err ReadFault) = Rose (was.reads name) (now.reads name)
+abbrev pub RastersAs : List ℕ → ℕ → ℕ → Size → ShelfState → ShelfState
+    → Result Cells ReadError → Type 0
+RastersAs name start maxval size was now (Ok volume) =
+    InFile name was now (λ bytes. IsRaster (drop start bytes) size maxval volume)
+RastersAs name start maxval size was now (Err ReadFault) = ReadsRose name was now
 RastersAs name start maxval size was now (Err NoMemory) = Unit {0}
-RastersAs name start maxval size was now (Err error) = Changes was now (λ before after. RasterRefuses (drop start (content_of before name)) start maxval (3 * cell_count size) error)
+RastersAs name start maxval size was now (Err error) =
+    InFile name was now (λ bytes. RasterRefuses (drop start bytes) start maxval
+    (3 * cell_count size) error)

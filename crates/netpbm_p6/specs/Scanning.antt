@@ -1,5 +1,6 @@
--- The scanner of a header, a step for each byte: the reader goes by it. (Own. The grammar that it
--- keeps to stands in Header.antt, and the public promise speaks of the grammar alone.)
+-- The state of the reader: The scanner of a header, a step for each byte: the reader goes by it.
+-- (Own. The grammar that it keeps to stands in Header.antt, and the public promise speaks of the
+-- grammar alone.)
 use Rattle.std.specs.Prelude.{◌≡◌, ◌≤◌, ◌<◌, ◌+◌, ◌*◌, ◌-◌, ℕ, ◌==◌, nat_le, ◌||◌, ◌&&◌, if◌then◌else◌, List, [], ◌∷◌, length, take, Option, Some, None, option_and_then}
 use Rattle.netpbm_p6.specs.declared.scan.Kind.{Kind}
 use Rattle.netpbm_p6.specs.declared.scan.Kind.TheVariants.{Blank, LineEnd, Hash, Digit, Other}
@@ -58,16 +59,16 @@ ended Nothing n kind = opened (Width n) kind
 ended (Width width) n kind = opened (Both width n) kind
 ended (Both width height) n kind = completed width height n kind
 
-abbrev pub numbered : Numbers → ℕ → Kind → Option Scan
-numbered numbers n kind = if n == 0 then None else ended numbers n kind
+abbrev pub number_end : Numbers → ℕ → Kind → Option Scan
+number_end numbers n kind = if n == 0 then None else ended numbers n kind
 
 -- a byte behind a digit; a number is kept by `keep`
-abbrev pub counted : (ℕ → ℕ) → Numbers → ℕ → ℕ → Kind → Option Scan
-counted keep numbers n b Digit = Some (Digits numbers (keep (10 * n + (b - 48))))
-counted keep numbers n b Blank = numbered numbers n Blank
-counted keep numbers n b LineEnd = numbered numbers n LineEnd
-counted keep numbers n b Hash = numbered numbers n Hash
-counted keep numbers n b Other = numbered numbers n Other
+abbrev pub after_digit : (ℕ → ℕ) → Numbers → ℕ → ℕ → Kind → Option Scan
+after_digit keep numbers n b Digit = Some (Digits numbers (keep (10 * n + (b - 48))))
+after_digit keep numbers n b Blank = number_end numbers n Blank
+after_digit keep numbers n b LineEnd = number_end numbers n LineEnd
+after_digit keep numbers n b Hash = number_end numbers n Hash
+after_digit keep numbers n b Other = number_end numbers n Other
 
 -- one byte; nothing where it has no place there
 abbrev pub step_of : (ℕ → ℕ) → Scan → ℕ → Option Scan
@@ -76,13 +77,14 @@ step_of keep Letter b = if b == 54 then Some Magic else None
 step_of keep Magic b = opened Nothing (kind_of b)
 step_of keep (Between numbers) b = separated numbers b (kind_of b)
 step_of keep (Comment numbers) b = commented numbers (kind_of b)
-step_of keep (Digits numbers n) b = counted keep numbers n b (kind_of b)
+step_of keep (Digits numbers n) b = after_digit keep numbers n b (kind_of b)
 step_of keep (Whole width height maxval) b = None
 
 -- one byte after another
 abbrev pub run_of : (ℕ → ℕ) → Scan → List ℕ → Option Scan
 run_of keep scan [] = Some scan
-run_of keep scan (b ∷ bytes) = option_and_then (λ next. run_of keep next bytes) (step_of keep scan b)
+run_of keep scan (b ∷ bytes) = option_and_then (λ next. run_of keep next bytes)
+    (step_of keep scan b)
 
 abbrev pub ArePositive : Numbers → Type 0
 ArePositive Nothing = Unit {0}
@@ -90,14 +92,14 @@ ArePositive (Width width) = 1 ≤ width
 ArePositive (Both width height) = (1 ≤ width) × (1 ≤ height)
 
 -- more is to come, and the numbers so far are at least 1
-abbrev pub IsOpen : Scan → Type 0
-IsOpen Start = Unit {0}
-IsOpen Letter = Unit {0}
-IsOpen Magic = Unit {0}
-IsOpen (Between numbers) = ArePositive numbers
-IsOpen (Comment numbers) = ArePositive numbers
-IsOpen (Digits numbers n) = ArePositive numbers
-IsOpen (Whole width height maxval) = ⊥
+abbrev pub IsOpenScan : Scan → Type 0
+IsOpenScan Start = Unit {0}
+IsOpenScan Letter = Unit {0}
+IsOpenScan Magic = Unit {0}
+IsOpenScan (Between numbers) = ArePositive numbers
+IsOpenScan (Comment numbers) = ArePositive numbers
+IsOpenScan (Digits numbers n) = ArePositive numbers
+IsOpenScan (Whole width height maxval) = ⊥
 
 -- a step from an open place leads to an open one or to the end, with numbers of at least 1
 abbrev pub IsSound : Scan → Type 0
@@ -111,7 +113,7 @@ IsSound (Whole width height maxval) = (1 ≤ width) × (1 ≤ height)
 
 -- the bytes lead to an open place
 abbrev pub RunsOn : Scan → List ℕ → Type 0
-RunsOn scan bytes = (next : Scan) × (run_of capped scan bytes ≡ Some next) × IsOpen next
+RunsOn scan bytes = (next : Scan) × (run_of capped scan bytes ≡ Some next) × IsOpenScan next
 
 -- the byte at a place has no place there
 pub record BreaksIn (scan : Scan) (bytes : List ℕ) (i : ℕ) : Type 0 where
@@ -122,7 +124,8 @@ pub record BreaksIn (scan : Scan) (bytes : List ℕ) (i : ℕ) : Type 0 where
 -- the header ends in these bytes
 pub record EndsIn (scan : Scan) (bytes : List ℕ) (header : Header) : Type 0 where
   pub inside : header.length ≤ length bytes
-  pub run : run_of capped scan (take header.length bytes) ≡ Some (Whole header.width header.height header.maxval)
+  pub run : run_of capped scan (take header.length bytes) ≡
+      Some (Whole header.width header.height header.maxval)
 
 -- what the scanner makes of a piece
 abbrev pub IsScanned : Scan → List ℕ → Scanned → Type 0
@@ -139,6 +142,6 @@ pub record IsSoundHeader (room : ℕ) (header : Header) : Type 0 where
   pub maxval : 1 ≤ header.maxval
 
 abbrev pub IsSoundScanned : ℕ → Scanned → Type 0
-IsSoundScanned room (Open next) = IsOpen next
+IsSoundScanned room (Open next) = IsOpenScan next
 IsSoundScanned room (Broken i) = i < room
 IsSoundScanned room (Ended header) = IsSoundHeader room header

@@ -1,7 +1,7 @@
 // Reading the header of a picture, and its limits.
 ghost use Rattle.std.specs.Prelude.{◌≡◌, ◌≤◌, ◌<◌, length, drop, IfOk, OnErr};
-ghost use Rattle.shelf_core.specs.Files.{Changes, OnlyReads, Rose, content_of};
-ghost use Rattle.netpbm_p6.specs.Scanning.{IsOpen, IsSoundScanned, IsSoundHeader};
+ghost use Rattle.shelf_core.specs.Files.{InFile, OnlyReads, ReadsRose};
+ghost use Rattle.netpbm_p6.specs.Scanning.{IsOpenScan, IsSoundScanned, IsSoundHeader};
 ghost use Rattle.netpbm_p6.specs.Reading.{ScansOn, cut_at, past_of, HeadsAs, PassesAs, IsAllowed};
 
 use crate::scan::{Header, Scan, Scanned, scan_piece};
@@ -9,11 +9,11 @@ use cells::Size;
 use shelf_core::{Failed, FormFault, ReadError, Shelf, What};
 
 /// The greatest number of bytes of a header.
-const MOST_BYTES: u64 = 65536;
+pub const MOST_BYTES: u64 = 65536;
 /// The greatest width and height.
-const MOST_ON_AXIS: u64 = 4096;
+pub const MOST_ON_AXIS: u64 = 4096;
 /// The greatest number of cells.
-const MOST_CELLS: u64 = 8388608;
+pub const MOST_CELLS: u64 = 8388608;
 /// How many bytes of a header are read at once, and how often for a header of `MOST_BYTES`.
 const PIECE: usize = 4096;
 
@@ -37,11 +37,13 @@ fn scan_at<S: Shelf>(
     scan: Scan,
     buffer: &mut [u8],
 ) -> Result<Scanned, Failed>
-    requires { IsOpen scan }
-    ensures scanned { IfOk result (λ scanned. Changes (S.state shelf.old) (S.state shelf.new) (λ before after. ScansOn (drop at (content_of before name.now)) scan (length buffer.old) scanned)) }
+    requires { IsOpenScan scan }
+    ensures scanned { IfOk result (λ scanned.
+        InFile name.now (S.state shelf.old) (S.state shelf.new) (λ bytes.
+        ScansOn (drop at bytes) scan (length buffer.old) scanned)) }
     ensures sound { IfOk result (IsSoundScanned (length buffer.old)) }
     ensures reads { OnlyReads (S.state shelf.old) (S.state shelf.new) }
-    ensures failed { OnErr result (Rose ((S.state shelf.old).reads name.now) ((S.state shelf.new).reads name.now)) }
+    ensures failed { OnErr result (ReadsRose name.now (S.state shelf.old) (S.state shelf.new)) }
 {
     let count = shelf.get(name, at, buffer)?;
     let scanned = scan_piece(scan, &buffer[..count]);
@@ -64,7 +66,7 @@ fn past(scanned: Scanned) -> ReadError
 
 // The refusal of a file whose header is still open behind `MOST_BYTES` bytes.
 fn past_limit<S: Shelf>(shelf: &mut S, name: &str, scan: Scan) -> ReadError
-    requires { IsOpen scan }
+    requires { IsOpenScan scan }
     ensures refusal { PassesAs name.now scan (S.state shelf.old) (S.state shelf.new) result }
     ensures reads { OnlyReads (S.state shelf.old) (S.state shelf.new) }
 {
@@ -78,7 +80,7 @@ fn past_limit<S: Shelf>(shelf: &mut S, name: &str, scan: Scan) -> ReadError
 /// Reads the header of the named file, in pieces.
 pub fn read_header<S: Shelf>(shelf: &mut S, name: &str) -> Result<Header, ReadError>
     ensures header { HeadsAs name.now (S.state shelf.old) (S.state shelf.new) result }
-    ensures sound { IfOk result (IsSoundHeader 65536) }
+    ensures sound { IfOk result (IsSoundHeader MOST_BYTES) }
     ensures reads { OnlyReads (S.state shelf.old) (S.state shelf.new) }
 {
     let mut buffer = [0u8; PIECE];
@@ -130,7 +132,7 @@ pub fn within_limits(header: &Header) -> Result<(Size, u8), ReadError>
 }
 
 fn axis_passed(number: u64) -> ReadError
-    ensures { result ≡ ReadError.Limit What.Axis number 4096 }
+    ensures { result ≡ ReadError.Limit What.Axis number MOST_ON_AXIS }
 {
     ReadError::Limit {
         what: What::Axis,

@@ -4,6 +4,7 @@ ghost use Rattle.shelf_core.specs.Files.{OnlyReads};
 ghost use Rattle.cells.specs.Places.{IsSmall, cell_count};
 ghost use Rattle.netpbm_p6.specs.Reading.{IsFirstAbove, IsMadeOf, FillsAs, StopsAs, RastersAs};
 
+use crate::header::MOST_BYTES;
 use cells::{Size, Volume};
 use shelf_core::{FormFault, ReadError, Shelf};
 use std::alloc::{AllocError, Global};
@@ -39,7 +40,8 @@ fn fill<S: Shelf>(
     raster: &mut [u8],
 ) -> Result<(), ReadError>
     requires { start + length raster.old < 2 ^ 64 }
-    ensures fills { FillsAs name.now start maxval raster.new (S.state shelf.old) (S.state shelf.new) result }
+    ensures fills { FillsAs name.now start maxval raster.new (S.state shelf.old)
+        (S.state shelf.new) result }
     ensures samples { OnOk result (All (λ b. b ≤ maxval) raster.new) }
     ensures reads { OnlyReads (S.state shelf.old) (S.state shelf.new) }
 {
@@ -84,8 +86,9 @@ pub fn read_raster<S: Shelf>(
     size: Size,
 ) -> Result<Volume, ReadError>
     requires small { IsSmall size }
-    requires early { start ≤ 65536 }
-    ensures raster { RastersAs name.now start maxval size (S.state shelf.old) (S.state shelf.new) result }
+    requires early { start ≤ MOST_BYTES }
+    ensures raster { RastersAs name.now start maxval size (S.state shelf.old)
+        (S.state shelf.new) result }
     ensures made { IfOk result (IsMadeOf size maxval) }
     ensures reads { OnlyReads (S.state shelf.old) (S.state shelf.new) }
 {

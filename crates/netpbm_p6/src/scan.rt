@@ -1,7 +1,7 @@
 // The scanner of a header: a machine of small steps, one for each byte.
 ghost use Rattle.std.specs.Prelude.{◌≡◌, length, IfSome};
 ghost use Rattle.netpbm_p6.specs.Pictures.{capped};
-ghost use Rattle.netpbm_p6.specs.Scanning.{kind_of, opened, separated, commented, completed, ended, counted, step_of, IsOpen, IsSound, IsScanned, IsSoundScanned};
+ghost use Rattle.netpbm_p6.specs.Scanning.{kind_of, opened, separated, commented, completed, ended, after_digit, step_of, IsOpenScan, IsSound, IsScanned, IsSoundScanned};
 
 /// What a byte is in a header.
 #[derive(Clone, Copy)]
@@ -131,7 +131,7 @@ fn end(numbers: Numbers, number: u64, kind: Kind) -> Option<Scan>
 
 // A byte behind a digit.
 fn count(numbers: Numbers, number: u64, byte: u8, kind: Kind) -> Option<Scan>
-    ensures { result ≡ counted capped numbers number byte kind }
+    ensures { result ≡ after_digit capped numbers number byte kind }
 {
     match kind {
         Kind::Digit => {
@@ -148,7 +148,7 @@ fn count(numbers: Numbers, number: u64, byte: u8, kind: Kind) -> Option<Scan>
 
 // One byte; None where it has no place there.
 fn step(scan: Scan, byte: u8) -> Option<Scan>
-    requires { IsOpen scan }
+    requires { IsOpenScan scan }
     ensures step { result ≡ step_of capped scan byte }
     ensures sound { IfSome result IsSound }
 {
@@ -173,7 +173,7 @@ fn step(scan: Scan, byte: u8) -> Option<Scan>
 
 /// Scans a piece of a header, from an open place on.
 pub fn scan_piece(start: Scan, piece: &[u8]) -> Scanned
-    requires { IsOpen start }
+    requires { IsOpenScan start }
     ensures scanned { IsScanned start piece.now result }
     ensures sound { IsSoundScanned (length piece.now) result }
 {

@@ -5,7 +5,7 @@ use Rattle.std.proofs.lemmas.List.{ext_get_or}
 use Rattle.std.proofs.Math.Nat.{mul-le-mul_right}
 use Rattle.quilt.specs.Strips.{ErrorTable, at_cell}
 use Rattle.quilt.specs.Boundaries.{IsFirstLeast, ComesNoLater}
-use Rattle.quilt.specs.Records.{AreTight}
+use Rattle.quilt.specs.Records.{AreTightSums}
 
 -- of two paths neither of which comes later, the columns are the same
 same_columns : (path other : List ℕ) (rows : ℕ) → ComesNoLater path other rows → ComesNoLater other path rows →
@@ -32,7 +32,7 @@ one_first_least strip path other first second =
     row (omega (arith, long, inside)))
 
 -- two tables of tight sums have the same rows
-same_sums : (strip : ErrorTable) (sums other : List ℕ) → AreTight strip sums → AreTight strip other →
+same_sums : (strip : ErrorTable) (sums other : List ℕ) → AreTightSums strip sums → AreTightSums strip other →
     (row : ℕ) → row < strip.rows → (col : ℕ) → col < strip.cols → at_cell strip sums row col ≡ at_cell strip other row col
 same_sums strip sums other tight too zero in_rows col in_cols =
     (tight.tight zero col in_rows in_cols).first refl ∙ sym ((too.tight zero col in_rows in_cols).first refl)
@@ -65,7 +65,7 @@ same_index (suc less) rows sums other same index inside =
     let P : ℕ → Type 0 = λ n. slice_index sums n ≡ slice_index other n in
     subst P split (same (index / suc less) in_rows (index % suc less) in_cols)
 
-pub one_tight : (strip : ErrorTable) (sums other : List ℕ) → AreTight strip sums → AreTight strip other → sums ≡ other
+pub one_tight : (strip : ErrorTable) (sums other : List ℕ) → AreTightSums strip sums → AreTightSums strip other → sums ≡ other
 one_tight strip sums other tight too =
     let long : length sums ≡ strip.rows * strip.cols = tight.sum_per_cell in
     let long_too : length other ≡ strip.rows * strip.cols = too.sum_per_cell in

@@ -2,14 +2,14 @@
 use Rattle.std.proofs.Common.{◌≡◌, ℕ, ◌+◌, ◌<◌, ◌≤◌, inl, inr, List, slice_index, arith, refl, suc, zero, subst}
 use Rattle.std.proofs.lemmas.Bool.{cases_lt}
 use Rattle.quilt.specs.Strips.{ErrorTable, at_cell, error_at}
-use Rattle.quilt.specs.Boundaries.{AreNear, IsBoundary, IsLeast, IsFirstLeast, ComesNoLater, cost_of, cost_of_rows}
-use Rattle.quilt.specs.Records.{SumsHold, IsLeastOfLastRow, AreTight, Stands}
+use Rattle.quilt.specs.Boundaries.{AreNear, IsBoundary, IsLeastBoundary, IsFirstLeast, ComesNoLater, boundary_cost, cost_of_rows}
+use Rattle.quilt.specs.Records.{SumsHold, IsLeastOfLastRow, AreTightSums, BoundaryStands}
 use Rattle.quilt.specs.Tables.{IsTracedFrom, IsFirstLeastNear}
 use Rattle.quilt.specs.declared.boundary.BoundaryRecord.{BoundaryRecord}
 use Rattle.quilt.proofs.SumLaws.{holds_from_tight, sum_below_cost, least_from_sums}
 
 -- the sums of a tight table hold
-pub hold_from_tight : (strip : ErrorTable) (sums : List ℕ) → AreTight strip sums → SumsHold strip sums
+pub hold_from_tight : (strip : ErrorTable) (sums : List ℕ) → AreTightSums strip sums → SumsHold strip sums
 hold_from_tight strip sums tight row col in_rows in_cols = holds_from_tight strip sums row col (tight.tight row col in_rows in_cols)
 
 -- a traced path stays within the strip
@@ -38,7 +38,7 @@ back_from strip sums path traced row below =
     subst P same (traced.back row (omega arith) (omega arith))
 
 -- down to each row a traced path costs the sum at its column there
-pub traced_cost : (strip : ErrorTable) (sums path : List ℕ) → AreTight strip sums → IsTracedFrom strip sums path 0 →
+pub traced_cost : (strip : ErrorTable) (sums path : List ℕ) → AreTightSums strip sums → IsTracedFrom strip sums path 0 →
     (row : ℕ) → row < strip.rows → at_cell strip sums row (slice_index path row) ≡ cost_of_rows strip path (suc row)
 traced_cost strip sums path tight traced zero inside =
     let is_error : at_cell strip sums zero (slice_index path zero) ≡ error_at strip zero (slice_index path zero)
@@ -55,7 +55,7 @@ traced_cost strip sums path tight traced (suc row) inside =
     omega (arith, from_above.2, less, more, rest)
 
 -- so its whole cost is the least sum of the last row
-pub traced_cost_is_least : (strip : ErrorTable) (sums path : List ℕ) → AreTight strip sums → IsTracedFrom strip sums path 0 →
+pub traced_cost_is_least : (strip : ErrorTable) (sums path : List ℕ) → AreTightSums strip sums → IsTracedFrom strip sums path 0 →
     (rows : ℕ) → strip.rows ≡ rows → IsLeastOfLastRow strip sums (cost_of_rows strip path rows)
 traced_cost_is_least strip sums path tight traced zero is = record {
   reached = λ row last. absurd (omega arith);
@@ -81,8 +81,8 @@ traced_cost_is_least strip sums path tight traced (suc last) is = record {
 }
 
 -- a path that is traced through tight sums makes a record that stands
-pub stands_from_traced : (strip : ErrorTable) (boundary : BoundaryRecord) → AreTight strip boundary.sums →
-    IsTracedFrom strip boundary.sums boundary.path 0 → Stands strip boundary
+pub stands_from_traced : (strip : ErrorTable) (boundary : BoundaryRecord) → AreTightSums strip boundary.sums →
+    IsTracedFrom strip boundary.sums boundary.path 0 → BoundaryStands strip boundary
 stands_from_traced strip boundary tight traced = record {
   path = boundary_from_traced strip boundary.sums boundary.path traced;
   sum_per_cell = tight.sum_per_cell;
@@ -92,7 +92,7 @@ stands_from_traced strip boundary tight traced = record {
 
 -- a boundary whose cost is the least sum of the last row is least, where the sums hold
 pub least_path : (strip : ErrorTable) (sums path : List ℕ) → IsBoundary strip path → SumsHold strip sums →
-    IsLeastOfLastRow strip sums (cost_of strip path) → IsLeast strip path
+    IsLeastOfLastRow strip sums (boundary_cost strip path) → IsLeastBoundary strip path
 least_path strip sums path boundary holds cost = record {
   boundary = boundary;
   least = λ other is_boundary. least_from_sums strip sums path other holds cost is_boundary strip.rows refl;
@@ -100,7 +100,7 @@ least_path strip sums path boundary holds cost = record {
 
 -- Where another boundary costs no more down to a row than the sum there, and the traced path is not to
 -- its right in that row, the traced path comes no later.
-comes_no_later : (strip : ErrorTable) (sums path other : List ℕ) → AreTight strip sums → IsTracedFrom strip sums path 0 →
+comes_no_later : (strip : ErrorTable) (sums path other : List ℕ) → AreTightSums strip sums → IsTracedFrom strip sums path 0 →
     IsBoundary strip other → (row : ℕ) → row < strip.rows → slice_index path row ≤ slice_index other row →
     cost_of_rows strip other (suc row) ≤ at_cell strip sums row (slice_index other row) →
     ComesNoLater path other (suc row)
@@ -141,8 +141,8 @@ comes_no_later strip sums path other tight traced boundary (suc row) inside befo
     ]
 
 -- so a traced path comes no later than any other least boundary
-no_least_before : (strip : ErrorTable) (sums path other : List ℕ) → AreTight strip sums → IsTracedFrom strip sums path 0 →
-    IsLeast strip other → (rows : ℕ) → strip.rows ≡ rows → ComesNoLater path other rows
+no_least_before : (strip : ErrorTable) (sums path other : List ℕ) → AreTightSums strip sums → IsTracedFrom strip sums path 0 →
+    IsLeastBoundary strip other → (rows : ℕ) → strip.rows ≡ rows → ComesNoLater path other rows
 no_least_before strip sums path other tight traced least zero is = tt
 no_least_before strip sums path other tight traced least (suc last) is =
     let boundary : IsBoundary strip path = boundary_from_traced strip sums path traced in
@@ -168,7 +168,7 @@ no_least_before strip sums path other tight traced least (suc last) is =
     comes_no_later strip sums path other tight traced least.boundary last inside not_right (omega (arith, no_more_here, cost, less))
 
 -- a path that is traced through tight sums is the first least boundary
-pub first_least_from_traced : (strip : ErrorTable) (sums path : List ℕ) → AreTight strip sums → IsTracedFrom strip sums path 0 →
+pub first_least_from_traced : (strip : ErrorTable) (sums path : List ℕ) → AreTightSums strip sums → IsTracedFrom strip sums path 0 →
     IsFirstLeast strip path
 first_least_from_traced strip sums path tight traced = record {
   least = least_path strip sums path (boundary_from_traced strip sums path traced) (hold_from_tight strip sums tight)

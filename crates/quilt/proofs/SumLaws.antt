@@ -4,7 +4,7 @@ use Rattle.std.proofs.Math.Nat.{mul-le-mul_right}
 use Rattle.std.proofs.lemmas.Bool.{cases_lt}
 use Rattle.std.proofs.lemmas.List.{get_or_append_left, get_or_push, length_push}
 use Rattle.quilt.specs.Strips.{ErrorTable, IsStrip, at_cell, error_at}
-use Rattle.quilt.specs.Boundaries.{AreNear, IsBoundary, cost_of, cost_of_rows}
+use Rattle.quilt.specs.Boundaries.{AreNear, IsBoundary, boundary_cost, cost_of_rows}
 use Rattle.quilt.specs.Records.{SumHolds, SumsHold, IsLeastOfLastRow, IsTightSum, IsTightAt}
 use Rattle.quilt.specs.Tables.{AreTightUpTo, IsFirstLeastWithin}
 
@@ -161,12 +161,12 @@ sum_below_cost strip sums other holds path (suc row) inside =
 
 -- a path whose cost is the least sum of the last row is least, where the sums hold
 pub least_from_sums : (strip : ErrorTable) (sums path other : List ℕ) → SumsHold strip sums →
-    IsLeastOfLastRow strip sums (cost_of strip path) → IsBoundary strip other →
-    (rows : ℕ) → strip.rows ≡ rows → cost_of strip path ≤ cost_of_rows strip other rows
+    IsLeastOfLastRow strip sums (boundary_cost strip path) → IsBoundary strip other →
+    (rows : ℕ) → strip.rows ≡ rows → boundary_cost strip path ≤ cost_of_rows strip other rows
 least_from_sums strip sums path other holds cost boundary zero is = rw is (omega arith)
 least_from_sums strip sums path other holds cost boundary (suc last) is =
     let inside : last < strip.rows = omega arith in
-    let below : cost_of strip path ≤ at_cell strip sums last (slice_index other last)
+    let below : boundary_cost strip path ≤ at_cell strip sums last (slice_index other last)
     = cost.below last (slice_index other last) (omega arith) (boundary.inside last inside) in
     let rest : at_cell strip sums last (slice_index other last) ≤ cost_of_rows strip other (suc last)
     = sum_below_cost strip sums other holds boundary last inside in

@@ -1,4 +1,4 @@
--- Strips, as tables of errors.
+-- A reader has to trust this file. Strips, as tables of errors.
 use Rattle.std.specs.Prelude.{ℕ, ◌+◌, ◌*◌, ◌≤◌, ◌≡◌, List, length, slice_index, All}
 use Rattle.quilt.specs.declared.strip.TheConstants.{GREATEST_AXIS, GREATEST_ERROR}
 
@@ -8,7 +8,11 @@ pub record ErrorTable : Type 0 where
   pub cols : ℕ
   pub errors : List ℕ
 
--- what every strip keeps (own): 1 to 4,096 rows and columns, and one error per cell, at most 3 * 255 * 255
+-- the table with these rows and columns and these errors, row by row
+abbrev pub table_of : ℕ → ℕ → List ℕ → ErrorTable
+table_of rows cols errors = record { rows = rows; cols = cols; errors = errors }
+
+-- what every strip keeps (own): at least one row and column, and one error per cell
 pub record IsStrip (strip : ErrorTable) : Type 0 where
   pub some_rows : 1 ≤ strip.rows
   pub most_rows : strip.rows ≤ GREATEST_AXIS

@@ -1,5 +1,5 @@
--- The least numbers of a row, and sums and paths that are made in part, for the contracts within the
--- crate.
+-- The state of loops, for the contracts within the crate: the least numbers of a row, and sums and
+-- paths that are made in part.
 use Rattle.std.specs.Prelude.{ℕ, ◌+◌, ◌*◌, ◌≤◌, ◌<◌, ◌≡◌, List, length, slice_index}
 use Rattle.quilt.specs.Strips.{ErrorTable, at_cell}
 use Rattle.quilt.specs.Boundaries.{AreNear}
@@ -23,8 +23,8 @@ pub record AreTightUpTo (strip : ErrorTable) (sums : List ℕ) (rows cols : ℕ)
   pub rows_above : (row col : ℕ) → row < rows → col < strip.cols → IsTightAt strip sums row col
   pub cols_before : (col : ℕ) → col < cols → IsTightAt strip sums rows col
 
--- from the last row back to row `start`, the first column with the least sum: of the whole last row,
--- and near the column of the row below in every other
+-- from the last row back to row `start`, the first column with the least sum: of the whole last
+-- row, and near the column of the row below in every other
 pub record IsTracedFrom (strip : ErrorTable) (sums path : List ℕ) (start : ℕ) : Type 0 where
   pub column_per_row : length path ≡ strip.rows
   pub last : (row : ℕ) → row + 1 ≡ strip.rows → start ≤ row →

@@ -1,7 +1,7 @@
 // Boundaries and their records.
 ghost use Rattle.std.specs.Prelude.{IfOk, List, ◌≡◌};
-ghost use Rattle.quilt.specs.Boundaries.{IsBoundary, IsLeast, IsFirstLeast};
-ghost use Rattle.quilt.specs.Records.{Stands, AreTight};
+ghost use Rattle.quilt.specs.Boundaries.{IsBoundary, IsLeastBoundary, IsFirstLeast};
+ghost use Rattle.quilt.specs.Records.{BoundaryStands, AreTightSums};
 
 use crate::strip::Strip;
 use crate::sums::running_sums;
@@ -25,10 +25,10 @@ pub struct BoundaryRecord {
 /// the last, then back along the least ones.
 pub fn least_boundary(alloc: Global, strip: &Strip) -> Result<BoundaryRecord, AllocError>
     ensures boundary { IfOk result (λ made. IsBoundary strip.now made.path) }
-    ensures least { IfOk result (λ made. IsLeast strip.now made.path) }
+    ensures least { IfOk result (λ made. IsLeastBoundary strip.now made.path) }
     ensures first { IfOk result (λ made. IsFirstLeast strip.now made.path) }
-    ensures stands { IfOk result (λ made. Stands strip.now made) }
-    ensures tight { IfOk result (λ made. AreTight strip.now made.sums) }
+    ensures stands { IfOk result (λ made. BoundaryStands strip.now made) }
+    ensures tight { IfOk result (λ made. AreTightSums strip.now made.sums) }
 {
     let sums = running_sums(alloc, strip)?;
     let path = trace_back(alloc, strip, sums.as_slice())?;

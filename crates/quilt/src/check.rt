@@ -1,7 +1,7 @@
 // The check of a boundary record against its strip.
 ghost use Rattle.std.specs.Prelude.{◌≡◌, ◌+◌, ◌*◌, ◌<◌, ◌≤◌, ◌↔◌, length, IsTrue, IsOk, IfErr, IfSome, IfNone, OnOk, MatchOption, ℕ, slice_index};
-ghost use Rattle.quilt.specs.Boundaries.{IsBoundary, IsLeast, cost_of};
-ghost use Rattle.quilt.specs.Records.{Stands, IsFirstBroken, SumHolds, SumsHold, IsLeastOfLastRow, ColumnHolds, FirstBadColumn, FirstBadSum};
+ghost use Rattle.quilt.specs.Boundaries.{IsBoundary, IsLeastBoundary, boundary_cost};
+ghost use Rattle.quilt.specs.Records.{BoundaryStands, IsFirstBoundaryFault, SumHolds, SumsHold, IsLeastOfLastRow, ColumnHolds, FirstBadColumn, FirstBadSum};
 
 use crate::boundary::BoundaryRecord;
 use crate::strip::Strip;
@@ -31,9 +31,9 @@ pub struct BlockFault {
 /// So a path that costs the least sum of the last row is least.
 pub fn check_boundary(strip: &Strip, boundary: &BoundaryRecord) -> Result<(), BlockFault>
     requires { length boundary.now.sums ≡ strip.now.rows * strip.now.cols }
-    ensures stands { IsOk result ↔ Stands strip.now boundary.now }
-    ensures broken { IfErr result (λ fault. IsFirstBroken strip.now boundary.now fault) }
-    ensures least { OnOk result (IsLeast strip.now boundary.now.path) }
+    ensures stands { IsOk result ↔ BoundaryStands strip.now boundary.now }
+    ensures broken { IfErr result (λ fault. IsFirstBoundaryFault strip.now boundary.now fault) }
+    ensures least { OnOk result (IsLeastBoundary strip.now boundary.now.path) }
 {
     let path = boundary.path.as_slice();
     let sums = boundary.sums.as_slice();
@@ -60,7 +60,8 @@ pub fn check_boundary(strip: &Strip, boundary: &BoundaryRecord) -> Result<(), Bl
 
 /// The first strip row without a fit column, or the number of strip rows where only the path goes on.
 fn first_bad_column(strip: &Strip, path: &[u16]) -> Option<usize>
-    ensures { MatchOption result (IsBoundary strip.now path.now) (λ row. FirstBadColumn strip.now path.now row) }
+    ensures { MatchOption result (IsBoundary strip.now path.now)
+        (FirstBadColumn strip.now path.now) }
 {
     for row in 0..strip.rows() {
         if !column_holds(strip, path, row) {
@@ -86,7 +87,8 @@ fn column_holds(strip: &Strip, path: &[u16], row: usize) -> bool
 /// The first strip cell whose sum doesn't hold.
 fn first_bad_sum(strip: &Strip, sums: &[u32]) -> Option<usize>
     requires { length sums.now ≡ strip.now.rows * strip.now.cols }
-    ensures { MatchOption result (SumsHold strip.now sums.now) (λ cell. FirstBadSum strip.now sums.now cell) }
+    ensures { MatchOption result (SumsHold strip.now sums.now)
+        (FirstBadSum strip.now sums.now) }
 {
     for row in 0..strip.rows() {
         if let Some(col) = first_bad_sum_of(strip, sums, row) {
@@ -100,7 +102,8 @@ fn first_bad_sum(strip: &Strip, sums: &[u32]) -> Option<usize>
 fn first_bad_sum_of(strip: &Strip, sums: &[u32], row: usize) -> Option<usize>
     requires row { row < strip.now.rows }
     requires sums { length sums.now ≡ strip.now.rows * strip.now.cols }
-    ensures none { IfNone result ((col : ℕ) → col < strip.now.cols → SumHolds strip.now sums.now row col) }
+    ensures none { IfNone result ((col : ℕ) → col < strip.now.cols →
+        SumHolds strip.now sums.now row col) }
     ensures inside { IfSome result (λ col. col < strip.now.cols) }
     ensures before { IfSome result (λ col. (c : ℕ) → c < col → SumHolds strip.now sums.now row c) }
     ensures here { IfSome result (λ col. ¬ (SumHolds strip.now sums.now row col)) }
@@ -136,7 +139,8 @@ fn sum_holds(strip: &Strip, sums: &[u32], row: usize, col: usize) -> bool
 fn has_least_cost(strip: &Strip, path: &[u16], sums: &[u32]) -> bool
     requires path { IsBoundary strip.now path.now }
     requires sums { length sums.now ≡ strip.now.rows * strip.now.cols }
-    ensures { IsTrue result ↔ IsLeastOfLastRow strip.now sums.now (cost_of strip.now path.now) }
+    ensures { IsTrue result ↔ IsLeastOfLastRow strip.now sums.now
+        (boundary_cost strip.now path.now) }
 {
     let last = strip.row_of(sums, strip.rows() - 1);
     cost(strip, path) == last[first_least(last, 0, strip.cols())]
@@ -145,7 +149,7 @@ fn has_least_cost(strip: &Strip, path: &[u16], sums: &[u32]) -> bool
 /// The sum of the errors along a boundary.
 fn cost(strip: &Strip, path: &[u16]) -> u32
     requires { IsBoundary strip.now path.now }
-    ensures { result ≡ cost_of strip.now path.now }
+    ensures { result ≡ boundary_cost strip.now path.now }
 {
     let mut cost = 0;
     for row in 0..strip.rows() {

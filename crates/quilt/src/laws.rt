@@ -2,7 +2,7 @@
 ghost use Rattle.std.specs.Prelude.{◌≡◌, List, ℕ};
 ghost use Rattle.quilt.specs.Strips.{ErrorTable};
 ghost use Rattle.quilt.specs.Boundaries.{IsFirstLeast};
-ghost use Rattle.quilt.specs.Records.{AreTight};
+ghost use Rattle.quilt.specs.Records.{AreTightSums};
 
 /// A strip has one first least boundary: what depends on it is a function of the strip.
 pub fn first_least_boundary_is_one()
@@ -13,5 +13,5 @@ pub fn first_least_boundary_is_one()
 /// A strip has one table of tight sums.
 pub fn tight_sums_are_one()
     ensures { (strip : ErrorTable) (sums other : List ℕ) →
-        AreTight strip sums → AreTight strip other → sums ≡ other }
+        AreTightSums strip sums → AreTightSums strip other → sums ≡ other }
 {}

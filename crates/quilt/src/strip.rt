@@ -1,5 +1,5 @@
 // Strips: tables of errors.
-ghost use Rattle.std.specs.Prelude.{◌≡◌, ℕ, ◌+◌, ◌*◌, ◌<◌, ◌≤◌, length, slice_index, All, IfOk};
+ghost use Rattle.std.specs.Prelude.{◌≡◌, ℕ, ◌+◌, ◌*◌, ◌<◌, ◌≤◌, length, slice_index, IfOk};
 
 use std::alloc::{AllocError, Global};
 use std::marker::Model;
@@ -21,34 +21,37 @@ pub struct Strip {
 }
 
 impl Model for Strip {
-    ghost use Rattle.quilt.specs.Strips.{ErrorTable, IsStrip};
+    ghost use Rattle.quilt.specs.Strips.{ErrorTable, IsStrip, table_of};
 
     ghost Value = { ErrorTable };
 
-    ghost view = { λ a. record { rows = a.rows; cols = a.cols; errors = a.errors.items } };
+    ghost view = { λ a. table_of a.rows a.cols a.errors.items };
 
-    ghost invariant = { λ a. IsStrip (record { rows = a.rows; cols = a.cols; errors = a.errors.items }) };
+    ghost invariant = { λ a. IsStrip (table_of a.rows a.cols a.errors.items) };
 }
 
 impl Strip {
-    ghost use Rattle.quilt.specs.Strips.{IsStrip, error_at, at_cell};
+    ghost use Rattle.quilt.specs.Strips.{IsStrip, error_at, at_cell, table_of};
 
-    /// A strip of `rows` rows and `cols` columns, with its errors row by row.
+    /// A strip of `rows` rows and `cols` columns, with its errors row by row. It copies them; the one
+    /// error is out of memory.
     pub fn make(alloc: Global, rows: u32, cols: u32, errors: &[u32]) -> Result<Strip, AllocError>
-        requires some_rows { 1 ≤ rows }
-        requires most_rows { rows ≤ GREATEST_AXIS }
-        requires some_cols { 1 ≤ cols }
-        requires most_cols { cols ≤ GREATEST_AXIS }
-        requires error_per_cell { length errors.now ≡ rows * cols }
-        requires greatest { All (λ error. error ≤ GREATEST_ERROR) errors.now }
-        ensures { IfOk result (λ strip. strip ≡ record { rows = rows; cols = cols; errors = errors.now }) }
+        requires { IsStrip (table_of rows cols errors.now) }
+        ensures { IfOk result (λ strip. strip ≡ table_of rows cols errors.now) }
     {
-        let errors = Vec::from_slice(alloc, errors)?;
-        Ok(Strip {
+        Ok(Strip::from_vec(rows, cols, Vec::from_slice(alloc, errors)?))
+    }
+
+    /// A strip of `rows` rows and `cols` columns that keeps the errors that it is given, row by row.
+    pub fn from_vec(rows: u32, cols: u32, errors: Vec<u32>) -> Strip
+        requires { IsStrip (table_of rows cols errors.items) }
+        ensures { result ≡ table_of rows cols errors.items }
+    {
+        Strip {
             rows: rows as usize,
             cols: cols as usize,
             errors,
-        })
+        }
     }
 
     /// How many rows the strip has.

@@ -1,6 +1,6 @@
 // The running sums of a strip: the cost of the cheapest way from the first row to each cell.
 ghost use Rattle.std.specs.Prelude.{◌≡◌, ◌+◌, ◌*◌, ◌<◌, ◌≤◌, IfOk, OnOk, length, slice_index};
-ghost use Rattle.quilt.specs.Records.{AreTight, IsTightSum};
+ghost use Rattle.quilt.specs.Records.{AreTightSums, IsTightSum};
 ghost use Rattle.quilt.specs.Tables.{IsFirstLeastWithin, IsFirstLeastNear, AreTightUpTo};
 
 use crate::strip::Strip;
@@ -8,7 +8,7 @@ use std::alloc::{AllocError, Global};
 
 /// The tight sums of all cells, row by row.
 pub fn running_sums(alloc: Global, strip: &Strip) -> Result<Vec<u32>, AllocError>
-    ensures { IfOk result (λ sums. AreTight strip.now sums.items) }
+    ensures { IfOk result (λ sums. AreTightSums strip.now sums.items) }
 {
     let mut sums = Vec::with_capacity(alloc, strip.rows() * strip.cols())?;
     for row in 0..strip.rows() {

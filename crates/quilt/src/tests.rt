@@ -1,5 +1,4 @@
-// Worked examples: what the definitions mean on strips that are small enough to work by hand, or to
-// try every boundary of.
+// Worked examples: what the definitions mean on strips that are small enough to work by hand.
 ghost use Rattle.std.specs.Prelude.{◌≡◌, ◌*◌, IfOk, length};
 
 use super::*;
@@ -104,75 +103,6 @@ fn checked_records(rt: HostRuntime) -> Result<(), Fail> {
             check_boundary(&strip, &boundary),
             expected,
             "path {path:?}, sums {sums:?}"
-        );
-    }
-    Ok(())
-}
-
-/// The path whose columns are the digits of a code, the last row's the most significant.
-fn path_of(alloc: Global, rows: u32, cols: u32, code: u32) -> Result<Vec<u16>, AllocError> {
-    let mut path = Vec::new(alloc);
-    let mut rest = code;
-    for _ in 0..rows {
-        path.push(u16::try_from(rest % cols.max(1)).unwrap_or(0))?;
-        rest /= cols.max(1);
-    }
-    Ok(path)
-}
-
-/// The cost of a path, or none where it jumps.
-fn cost_of(cols: u32, errors: &[u32], path: &[u16]) -> Option<u32> {
-    let mut cost = 0u32;
-    let mut before = None;
-    let mut start = 0usize;
-    for col in path {
-        if before.is_some_and(|other: u16| other.abs_diff(*col) > 1) {
-            return None;
-        }
-        let error = errors.get(start.saturating_add(usize::from(*col)))?;
-        cost = cost.saturating_add(*error);
-        before = Some(*col);
-        start = start.saturating_add(cols as usize);
-    }
-    Some(cost)
-}
-
-/// The first of the cheapest paths, with all paths tried. Codes in order are paths in lexicographic
-/// order from the last row to the first.
-fn searched(alloc: Global, rows: u32, cols: u32, errors: &[u32]) -> Result<Vec<u16>, AllocError> {
-    let mut best = Vec::new(alloc);
-    let mut least = u32::MAX;
-    for code in 0..cols.wrapping_pow(rows) {
-        let path = path_of(alloc, rows, cols, code)?;
-        if let Some(cost) = cost_of(cols, errors, path.as_slice()) {
-            if cost < least {
-                least = cost;
-                best = path;
-            }
-        }
-    }
-    Ok(best)
-}
-
-#[test]
-fn exhaustive_search(rt: HostRuntime) -> Result<(), Fail> {
-    let mut state = 1u32;
-    for turn in 0..300u32 {
-        let rows = 1 + turn % 4;
-        let cols = 1 + turn / 4 % 4;
-        // Few different errors, so that there are many ties.
-        let mut errors = Vec::new(rt.alloc());
-        for _ in 0..rows * cols {
-            state = state.wrapping_mul(1_664_525).wrapping_add(1_013_904_223);
-            errors.push((state >> 16) % 3)?;
-        }
-        let strip = strip_of(&rt, rt.alloc(), rows, cols, errors.as_slice())?;
-        let made = least_boundary(rt.alloc(), &strip)?;
-        let expected = searched(rt.alloc(), rows, cols, errors.as_slice())?;
-        assert_eq!(rt;
-            made.path.as_slice(),
-            expected.as_slice(),
-            "at {rows}x{cols} {errors:?}"
         );
     }
     Ok(())

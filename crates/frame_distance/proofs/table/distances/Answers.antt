@@ -10,14 +10,14 @@ use Rattle.frame_distance.proofs.table.distances.Goals as goal
 pub all_distances-requires-clause-frames : goal.all_distances-requires-clause-frames
 all_distances-requires-clause-frames c =
     let clip = c.args.clip.now in
-    rw (c.bytes-bytes.ensures, c.samples.ensures.samples, c.size-size.ensures.size) (length-bytes_of clip c.size-size.ensures.volume)
+    rw (c.bytes-bytes.ensures, c.samples.ensures.samples, c.size-size.ensures.size) (length-bytes_of clip c.size-size.ensures.volume c.requires.part)
 
 -- the numbers are those of the clip
 numbers_are : (c : goal.In_ok-numbers) → c.in_ok-numbers.numbers.items ≡ entries_of c.args.clip.now.size.f (frame_distance c.args.clip.now) (c.args.clip.now.size.f * c.args.clip.now.size.f)
 numbers_are c =
     let clip = c.args.clip.now in
     rw (c.bytes-bytes.ensures, c.samples.ensures.samples, c.size-size.ensures.size) at c.in_ok-numbers.ensures.numbers
-    ∙ entries_of-same clip.size.f (distance_in (bytes_of clip) (clip.k * (clip.size.w * clip.size.h))) (frame_distance clip) (distance_in-bytes_of clip c.size-size.ensures.volume)
+    ∙ entries_of-same clip.size.f (distance_in (bytes_of clip) (clip.k * (clip.size.w * clip.size.h))) (frame_distance clip) (distance_in-bytes_of clip c.size-size.ensures.volume c.requires.part)
 
 pub invariant_of-result : goal.invariant_of-result
 invariant_of-result c =

@@ -3,7 +3,7 @@ use Rattle.std.specs.Prelude.{Some}
 use Rattle.std.proofs.lemmas.Result.{IfErr-weaker, err_from_is_err_and}
 use Rattle.loop_walk.specs.Walks.{AtMost, IsLeastWalk, steps_round, walk_cost}
 use Rattle.loop_walk.specs.Tables.{entry_at, table_count}
-use Rattle.loop_walk.specs.Records.{DiagonalHolds, IsFirstBroken, IsFirstFault, PlaceHolds, Stands}
+use Rattle.loop_walk.specs.Records.{DiagonalHolds, IsFirstPlace, IsFirstLoopFault, PlaceHolds, WalkStands}
 use Rattle.loop_walk.specs.Products.{AllowsCost}
 use Rattle.loop_walk.proofs.CheckLaws.{first_broken-same}
 use Rattle.loop_walk.proofs.TraceLaws.{on_ok}
@@ -21,7 +21,7 @@ returns-in_err-check_tables-clause-fault c =
     (inr (inl (record {
       kind = found.0;
       closed = cost_closed costs (steps_round walk) c.in_ok-cost.cost c.in_ok-cost.ensures.cost;
-      place = subst (λ n. IsFirstBroken n (PlaceHolds costs (length walk) tables) c.in_err-check_tables.field-0.0.place) (sym c.requires.tables) found.1;
+      place = subst (λ n. IsFirstPlace n (PlaceHolds costs (length walk) tables) c.in_err-check_tables.field-0.0.place) (sym c.requires.tables) found.1;
     })))
 
 pub returns-clause-stands : goal.returns-clause-stands
@@ -29,7 +29,7 @@ returns-clause-stands c =
     let costs = c.args.costs.now in
     let walk = c.args.walk.now in
     let is : walk_cost costs walk ≡ Some c.in_ok-cost.cost = c.in_ok-cost.ensures.cost in
-    on_ok c.check_diagonal.result ((i : ℕ) → i < costs.frames → AllowsCost costs (length walk) c.args.tables.now c.in_ok-cost.cost i) (Stands costs walk c.args.tables.now)
+    on_ok c.check_diagonal.result ((i : ℕ) → i < costs.frames → AllowsCost costs (length walk) c.args.tables.now c.in_ok-cost.cost i) (WalkStands costs walk c.args.tables.now)
     (λ allows. record {
       closed = cost_closed costs (steps_round walk) c.in_ok-cost.cost is;
       entries = c.in_ok-check_tables.ensures.hold;
@@ -50,7 +50,7 @@ returns-clause-fault c =
     let walk = c.args.walk.now in
     let tables = c.args.tables.now in
     let is : walk_cost costs walk ≡ Some c.in_ok-cost.cost = c.in_ok-cost.ensures.cost in
-    IfErr-weaker c.check_diagonal.result (λ fault. (fault.kind ≡ 14) × IsFirstBroken costs.frames (AllowsCost costs (length walk) tables c.in_ok-cost.cost) fault.place) (IsFirstFault costs walk tables)
+    IfErr-weaker c.check_diagonal.result (λ fault. (fault.kind ≡ 14) × IsFirstPlace costs.frames (AllowsCost costs (length walk) tables c.in_ok-cost.cost) fault.place) (IsFirstLoopFault costs walk tables)
     (λ fault first. inr (inr (record {
       kind = first.0;
       closed = cost_closed costs (steps_round walk) c.in_ok-cost.cost is;

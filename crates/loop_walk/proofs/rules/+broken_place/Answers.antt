@@ -1,7 +1,7 @@
 use Rattle.std.proofs.Common.{◌≡◌, ℕ, ◌+◌, ◌*◌, ◌<◌, ◌≤◌, ap, sym, ◌∙◌, subst, arith, get_or}
 use Rattle.std.specs.Prelude.{IfNone, IfSome}
 use Rattle.loop_walk.specs.Tables.{length_before, table_count, table_lengths}
-use Rattle.loop_walk.specs.Records.{IsFirstBroken, PlaceHolds}
+use Rattle.loop_walk.specs.Records.{IsFirstPlace, PlaceHolds}
 use Rattle.loop_walk.proofs.Lengths.{is_before, last_length, table_count-more}
 use Rattle.loop_walk.proofs.CheckLaws.{first_broken-same, place_holds-fewer, place_holds-more}
 use Rattle.loop_walk.proofs.rules.+broken_place.Goals as goal
@@ -48,7 +48,7 @@ returns-in-Some-clause-broken t c =
     let tables = c.args.tables.now in
     let area = costs.frames * costs.frames in
     let two : 2 ≤ m = omega arith in
-    let first = subst (λ b. IsFirstBroken (table_count b * area) (PlaceHolds costs b tables) c.in-Some.place) c.length_before-before.ensures c.in-Some.ensures.broken in
+    let first = subst (λ b. IsFirstPlace (table_count b * area) (PlaceHolds costs b tables) c.in-Some.place) c.length_before-before.ensures c.in-Some.ensures.broken in
     first_broken-same (table_count (length_before m) * area) (table_count m * area) (PlaceHolds costs (length_before m) tables) (PlaceHolds costs m tables) c.in-Some.place
     (omega (arith, ap (λ k. k * area) (table_count-more m two)))
     (λ p lt holds. place_holds-more costs m two tables p lt holds) (λ p lt holds. place_holds-fewer costs m two tables p lt holds) first
@@ -64,5 +64,5 @@ pub returns-in-None-clause-broken : goal.returns-in-None-clause-broken
 returns-in-None-clause-broken t c =
     let costs = c.args.costs.now in
     let area = costs.frames * costs.frames in
-    subst (λ n. IfSome c.broken_entry.result (λ place. IsFirstBroken n (PlaceHolds costs c.args.length c.args.tables.now) place))
+    subst (λ n. IfSome c.broken_entry.result (λ place. IsFirstPlace n (PlaceHolds costs c.args.length c.args.tables.now) place))
     (ap (λ k. k * area) (counts c.args.length c.length_before-before.result c.table_count-t.result (omega arith) c.length_before-before.ensures c.table_count-t.ensures.count)) c.broken_entry.ensures.broken

@@ -1,7 +1,7 @@
 use Rattle.std.proofs.Common.{◌<◌, length, sym, ◌∙◌, ap, arith, below_more, get_or}
 use Rattle.std.proofs.lemmas.List.{take_all}
 use Rattle.frame_distance.specs.Steps.{step_at}
-use Rattle.loop_walk.specs.Walks.{cost_of, steps_round}
+use Rattle.loop_walk.specs.Walks.{steps_cost, steps_round}
 use Rattle.loop_walk.proofs.CheckLaws.{cost_more, length-steps_round}
 use Rattle.loop_walk.proofs.WayLaws.{some_is}
 use Rattle.loop_walk.specs.Records.{StepHolds}
@@ -23,4 +23,4 @@ loop-position-preserved c =
 pub returns-clause-cost : goal.returns-clause-cost
 returns-clause-cost c =
     let steps = steps_round c.args.walk.now in
-    ap (cost_of c.args.costs.now) (sym (take_all c.loop-position.position steps (omega (arith, length-steps_round c.args.walk.now)))) ∙ c.loop-position.invariant.so_far
+    ap (steps_cost c.args.costs.now) (sym (take_all c.loop-position.position steps (omega (arith, length-steps_round c.args.walk.now)))) ∙ c.loop-position.invariant.so_far

@@ -1,6 +1,6 @@
 use Rattle.std.proofs.Common.{◌-◌, ◌≤◌, length, ap, sym, ◌∙◌, subst, arith}
 use Rattle.std.specs.Prelude.{IsSome}
-use Rattle.loop_walk.specs.Walks.{plus}
+use Rattle.loop_walk.specs.Walks.{sum_if_both}
 use Rattle.loop_walk.specs.Tables.{entry_at, table_count, second_table}
 use Rattle.loop_walk.specs.Products.{AddsWay, table_in}
 use Rattle.loop_walk.proofs.Lengths.{IsBefore, is_before}
@@ -88,7 +88,7 @@ returns t c =
     let sum = halves costs m b s two c.length_before-before.ensures c.table_count-t.ensures.count c.args.steps.now c.requires.steps c.args.tables.now c.requires.tables c.args.i c.args.j v c.requires.from c.requires.to below c.requires.there
     (rw (c.frames-n.ensures.frames, c.table_in-left.ensures, c.table_in-right.ensures, c.second_table.ensures) at c.middle-v.ensures.least) in
     let count = second_count costs m b s two c.length_before-before.ensures c.table_count-t.ensures.count c.args.steps.now c.requires.steps c.args.tables.now c.requires.tables in
-    let whole = (λ k. plus (entry_at costs c.args.tables.now (sym c.table_count-t.ensures.count k) c.args.i v) (entry_at costs c.args.tables.now (sym count k) v c.args.j)) ∙ sum in
+    let whole = (λ k. sum_if_both (entry_at costs c.args.tables.now (sym c.table_count-t.ensures.count k) c.args.i v) (entry_at costs c.args.tables.now (sym count k) v c.args.j)) ∙ sum in
     on_ok c.add_way-2.result _ (AddsWay costs m c.args.i c.args.j (entry_at costs c.args.tables.now (table_count m) c.args.i c.args.j) c.args.walk.now.items c.add_way-2.new.walk.items)
     (λ (second : AddsWay costs (m - b) v c.args.j (entry_at costs c.args.tables.now (table_count (m - b)) v c.args.j) c.push.new.self.items c.add_way-2.new.walk.items).
     ways_joined costs m b (m - b) c.args.i v c.args.j (entry_at costs c.args.tables.now (table_count b) c.args.i v) (entry_at costs c.args.tables.now (table_count (m - b)) v c.args.j) (entry_at costs c.args.tables.now (table_count m) c.args.i c.args.j)

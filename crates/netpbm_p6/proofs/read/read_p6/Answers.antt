@@ -29,6 +29,7 @@ returns-clause-picture g c =
     record {
       positive = subst (λ n. 1 ≤ n) (sym fits.maxval_is) (c.in_ok-header.ensures {u = tt}).sound.maxval;
       fits = subst (λ n. n ≤ 255) (sym fits.maxval_is) fits.depth;
+      one = made.one;
       frames = ap (λ (size : Size). size.f) (made.size_is ∙ fits.size_is);
       colours = made.colours;
       samples = made.samples;

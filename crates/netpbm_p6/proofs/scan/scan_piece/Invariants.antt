@@ -1,8 +1,8 @@
 use Rattle.std.proofs.Common.{◌≡◌, take}
 use Rattle.std.specs.Prelude.{Some}
 use Rattle.netpbm_p6.specs.Pictures.{capped}
-use Rattle.netpbm_p6.specs.Scanning.{run_of, IsOpen}
+use Rattle.netpbm_p6.specs.Scanning.{run_of, IsOpenScan}
 use Rattle.netpbm_p6.proofs.scan.scan_piece.Given as goal
 
 abbrev pub invariant-loop-i : goal.invariant-loop-i
-invariant-loop-i l = record { run : run_of capped l.fn.start (take l.i l.piece) ≡ Some l.scan; is_open : IsOpen l.scan }
+invariant-loop-i l = record { run : run_of capped l.fn.start (take l.i l.piece) ≡ Some l.scan; is_open : IsOpenScan l.scan }

@@ -1,0 +1,131 @@
+// Worked examples of cut_graph: the nodes and pipes of networks over a row, and their values.
+ghost use Rattle.std.specs.Prelude.{option_copied};
+ghost use Rattle.source_map.specs.Canvases.{StandsOver};
+
+use crate::rows::{assert_fits, greys, row_at, row_of};
+use cells::Volume;
+use cut_graph::build_held;
+use max_flow::solve;
+use seams::are_marks;
+use source_map::{Canvas, Placement};
+use std::alloc::{AllocError, Global};
+use std::process::Abort;
+use std::test::Fail;
+
+// What a network and its places are to be: the node of each cell, the seam node and the first pipe of each
+// pair, and the value of a greatest flow.
+#[derive(Drop)]
+struct Expected<'a> {
+    cells: &'a [u32],
+    seams: &'a [u32],
+    pipes: &'a [u32],
+    value: u64,
+}
+
+// Asserts that the network of a placement is so.
+fn assert_is(
+    rt: &impl Abort,
+    alloc: Global,
+    canvas: &Canvas,
+    sample: &Volume,
+    placement: &Placement,
+    held: Option<&[bool]>,
+    expected: &Expected,
+) -> Result<(), AllocError>
+    requires { StandsOver canvas.now sample.now }
+{
+    assert_fits(rt, canvas, sample, placement);
+    assert!(rt; are_marks(canvas, placement, held));
+    let (network, places) = build_held(alloc, canvas, sample, placement, held)?;
+    assert_eq!(rt; places.cell_nodes.as_slice(), expected.cells);
+    assert_eq!(rt; places.seam_nodes.as_slice(), expected.seams);
+    assert_eq!(rt; places.pipes.as_slice(), expected.pipes);
+    assert_eq!(rt; solve(alloc, &network)?.value, expected.value);
+    Ok(())
+}
+
+// Every cell of the box is unfilled, and there is no pipe.
+#[test]
+fn row_without_old_cells(rt: HostRuntime) -> Result<(), Fail> {
+    let sample = greys(rt.alloc())?;
+    let canvas = row_of(&rt, rt.alloc(), &sample, &[])?;
+    let all_new = Expected {
+        cells: &[1, 1, 1, 1],
+        seams: &[0, 0, 0],
+        pipes: &[0, 0, 0],
+        value: 0,
+    };
+    assert_is(
+        &rt,
+        rt.alloc(),
+        &canvas,
+        &sample,
+        &row_at(0),
+        None,
+        &all_new,
+    )?;
+    Ok(())
+}
+
+// The first cell of the box is kept, the second is free, two are unfilled. With the second one held, old meets
+// new after it.
+#[test]
+fn row_half_filled(rt: HostRuntime) -> Result<(), Fail> {
+    let sample = greys(rt.alloc())?;
+    let canvas = row_of(&rt, rt.alloc(), &sample, &[0, 1, 2, 3])?;
+    let one_free = Expected {
+        cells: &[0, 2, 1, 1],
+        seams: &[3, 0, 0],
+        pipes: &[0, 3, 0],
+        value: 120,
+    };
+    assert_is(
+        &rt,
+        rt.alloc(),
+        &canvas,
+        &sample,
+        &row_at(2),
+        None,
+        &one_free,
+    )?;
+    let none_free = Expected {
+        cells: &[0, 0, 1, 1],
+        seams: &[2, 0, 0],
+        pipes: &[0, 3, 0],
+        value: 825,
+    };
+    let held = Some([false, true, false, false].as_slice());
+    assert_is(
+        &rt,
+        rt.alloc(),
+        &canvas,
+        &sample,
+        &row_at(2),
+        held,
+        &none_free,
+    )?;
+    Ok(())
+}
+
+// The last cell of the box is kept, and its seam stays as it was.
+#[test]
+fn row_filled(rt: HostRuntime) -> Result<(), Fail> {
+    let sample = greys(rt.alloc())?;
+    let canvas = row_of(&rt, rt.alloc(), &sample, &[0, 1, 2, 1, 2, 3])?;
+    let three_free = Expected {
+        cells: &[2, 3, 4, 0],
+        seams: &[5, 6, 7],
+        pipes: &[0, 3, 6],
+        value: 120,
+    };
+    assert_is(
+        &rt,
+        rt.alloc(),
+        &canvas,
+        &sample,
+        &row_at(0),
+        None,
+        &three_free,
+    )?;
+    Ok(())
+}

@@ -1,0 +1,50 @@
+// Worked examples of match_error.
+use crate::rows::{assert_fits, greys, row_at, row_of};
+use match_error::{Error, error_sum_within, filled_count, overlap_error, within};
+use std::test::Fail;
+
+// Over an empty row, and over one of which two cells of the box are filled, with 30 and 40 where the sample
+// has 10 and 20.
+#[test]
+fn errors_of_a_row(rt: HostRuntime) -> Result<(), Fail> {
+    let sample = greys(rt.alloc())?;
+    let cases: [(&[i32], u64, u32); 2] = [(&[], 0, 0), (&[0, 1, 2, 3], 2400, 2)];
+    for (sources, sum, count) in cases {
+        let canvas = row_of(&rt, rt.alloc(), &sample, sources)?;
+        let placement = row_at(2);
+        assert_fits(&rt, &canvas, &sample, &placement);
+        assert_eq!(rt;
+            overlap_error(&canvas, &sample, &placement),
+            Error { sum, count }
+        );
+        assert_eq!(rt; filled_count(&canvas, &placement.rect), count);
+        assert_eq!(rt;
+            error_sum_within(&canvas, &sample, &placement, 2400),
+            Some(sum)
+        );
+        let below = error_sum_within(&canvas, &sample, &placement, 2399);
+        assert_eq!(rt; below.is_none(), sum > 2399);
+    }
+    Ok(())
+}
+
+#[test]
+fn tolerance_in_hundredths(rt: HostRuntime) {
+    let best = Error {
+        sum: 2400,
+        count: 2,
+    };
+    let cases = [
+        (10, 2640, 2, true),
+        (10, 2641, 2, false),
+        (10, 1320, 1, true),
+        (10, 1321, 1, false),
+        (10, 3960, 3, true),
+        (0, 2400, 2, true),
+        (0, 2401, 2, false),
+    ];
+    for (tol, sum, count, holds) in cases {
+        let other = Error { sum, count };
+        assert_eq!(rt; within(tol, &best, &other), holds, "{sum} over {count}");
+    }
+}

@@ -1,0 +1,184 @@
+// Worked examples of graph_place: choices and flows over a row, and over boxes of two and three axes whose
+// flows are forced.
+ghost use Rattle.source_map.specs.Canvases.{StandsOver};
+
+use crate::rows::{assert_fits, canvas_over, greys, put, row_at, row_of};
+use cells::{At, Box3, Size, Volume};
+use cut_check::Flow;
+use graph_place::place_held;
+use seams::{are_marks, window};
+use source_map::{Canvas, Placement};
+use std::alloc::{AllocError, Global};
+use std::process::Abort;
+use std::test::Fail;
+
+const FIRST: At = At { x: 0, y: 0, f: 0 };
+
+fn flow(x: i16, y: i16) -> Flow {
+    Flow { x, y }
+}
+
+// Asserts that a placement is put in with this choice, these flows and this window sum after it.
+fn assert_placed(
+    rt: &impl Abort,
+    alloc: Global,
+    canvas: &mut Canvas,
+    sample: &Volume,
+    placement: Placement,
+    held: Option<&[bool]>,
+    choice: &[bool],
+    flows: &[Flow],
+    sum: u64,
+) -> Result<(), AllocError>
+    requires { StandsOver canvas.old sample.now }
+    ensures { StandsOver canvas.new sample.now }
+{
+    assert_fits(rt, canvas, sample, &placement);
+    assert!(rt; are_marks(canvas, &placement, held));
+    let cut = place_held(alloc, canvas, sample, placement, held)?;
+    assert_eq!(rt; cut.choice.as_slice(), choice);
+    assert_eq!(rt; cut.flows.as_slice(), flows);
+    assert_eq!(rt; window(canvas, sample, &placement.rect), sum);
+    Ok(())
+}
+
+// A row that is empty at first; then the first cell of the box is kept, and the second becomes new; then all
+// cells are filled, and the last of the box is kept.
+#[test]
+fn rows_of_greys(rt: HostRuntime) -> Result<(), Fail> {
+    let sample = greys(rt.alloc())?;
+    let mut canvas = row_of(&rt, rt.alloc(), &sample, &[])?;
+    assert_placed(
+        &rt,
+        rt.alloc(),
+        &mut canvas,
+        &sample,
+        row_at(0),
+        None,
+        &[true, true, true, true],
+        &[flow(0, 0), flow(0, 0), flow(0, 0)],
+        0,
+    )?;
+    assert_placed(
+        &rt,
+        rt.alloc(),
+        &mut canvas,
+        &sample,
+        row_at(2),
+        None,
+        &[false, true, true, true],
+        &[flow(120, 120), flow(120, 0), flow(0, 0)],
+        120,
+    )?;
+    assert_placed(
+        &rt,
+        rt.alloc(),
+        &mut canvas,
+        &sample,
+        row_at(0),
+        None,
+        &[true, true, true, false],
+        &[flow(0, 0), flow(0, 0), flow(0, -120)],
+        120,
+    )?;
+    let map = canvas.map();
+    for (x, source) in [0, 1, 2, 1, 2, 3].iter().enumerate() {
+        let from = map.at(At {
+            x: x as i32,
+            y: 0,
+            f: 0,
+        });
+        assert_eq!(rt; from.map(|from| from.x), Some(*source), "at {x}");
+    }
+    Ok(())
+}
+
+// With its second cell held, two cells of the box stay old; what comes to the one goes on to the other.
+#[test]
+fn row_with_a_held_cell(rt: HostRuntime) -> Result<(), Fail> {
+    let sample = greys(rt.alloc())?;
+    let mut canvas = row_of(&rt, rt.alloc(), &sample, &[0, 1, 2, 3])?;
+    let placement = row_at(2);
+    let held = Some([false, true, false, false].as_slice());
+    assert_fits(&rt, &canvas, &sample, &placement);
+    assert!(rt; are_marks(&canvas, &placement, held));
+    let cut = place_held(rt.alloc(), &mut canvas, &sample, placement, held)?;
+    assert_eq!(rt;
+        cut.choice.as_slice(),
+        [false, false, true, true].as_slice()
+    );
+    let flows = cut.flows.as_slice();
+    assert!(rt; flows.len() == 3);
+    assert_eq!(rt; flows[0].x, flows[0].y);
+    assert_eq!(rt; &flows[1..], [flow(825, 0), flow(0, 0)].as_slice());
+    assert_eq!(rt; window(&canvas, &sample, &placement.rect), 825);
+    Ok(())
+}
+
+// A box of two rows with one kept cell: what leaves it along X and along Y.
+#[test]
+fn flows_of_two_axes(rt: HostRuntime) -> Result<(), Fail> {
+    let bytes = Vec::from_slice(rt.alloc(), &[0, 10, 50, 30, 70, 100])?;
+    let size = Size { w: 3, h: 2, f: 1 };
+    let sample = Volume::from_bytes(size, 1, bytes);
+    let mut canvas = canvas_over(rt.alloc(), size, &sample)?;
+    put(&rt, &mut canvas, &sample, FIRST, At { x: 1, y: 1, f: 0 });
+    let second = At { x: 1, y: 0, f: 0 };
+    put(&rt, &mut canvas, &sample, second, At { x: 2, y: 0, f: 0 });
+    let placement = Placement {
+        rect: Box3 {
+            corner: second,
+            size: Size { w: 2, h: 2, f: 1 },
+        },
+        from: FIRST,
+    };
+    assert_placed(
+        &rt,
+        rt.alloc(),
+        &mut canvas,
+        &sample,
+        placement,
+        None,
+        &[false, true, true, true],
+        &[flow(305, 0), flow(120, 0), flow(0, 0), flow(0, 0)],
+        425,
+    )?;
+    Ok(())
+}
+
+// A box of two cells on each axis whose last cell is kept: what leaves it along F, Y and X, by the numbers 7,
+// 10 and 11 of these pairs.
+#[test]
+fn flows_of_three_axes(rt: HostRuntime) -> Result<(), Fail> {
+    let bytes = Vec::from_slice(rt.alloc(), &[0, 10, 30, 70, 150, 200, 90, 255])?;
+    let cube = Size { w: 2, h: 2, f: 2 };
+    let sample = Volume::from_bytes(cube, 1, bytes);
+    let mut canvas = canvas_over(rt.alloc(), Size { w: 3, h: 2, f: 2 }, &sample)?;
+    put(&rt, &mut canvas, &sample, At { x: 2, y: 1, f: 1 }, FIRST);
+    let last = At { x: 1, y: 1, f: 1 };
+    put(&rt, &mut canvas, &sample, last, At { x: 0, y: 1, f: 1 });
+    let placement = Placement {
+        rect: Box3 {
+            corner: FIRST,
+            size: cube,
+        },
+        from: FIRST,
+    };
+    let mut flows = [flow(0, 0); 12];
+    flows[7] = flow(0, -205);
+    flows[10] = flow(0, -215);
+    flows[11] = flow(0, -420);
+    let choice = [true, true, true, true, true, true, true, false];
+    assert_placed(
+        &rt,
+        rt.alloc(),
+        &mut canvas,
+        &sample,
+        placement,
+        None,
+        &choice,
+        &flows,
+        840,
+    )?;
+    Ok(())
+}

@@ -1,0 +1,22 @@
+#!/bin/sh
+# Tiles each picture of this folder to 100x75 cells with the built program, and compares the status and
+# the line of each with what examples/README.md says. Build it first: cd crates/weave && rt run.
+cd "$(dirname "$0")/.." || exit 2
+weave=crates/weave/out/weave
+[ -x "$weave" ] || { echo "no $weave: build it first"; exit 2; }
+room=$(mktemp -d) || exit 2
+trap 'rm -rf "$room"' EXIT
+wrong=0
+for picture in examples/*.ppm; do
+    "$weave" grow sample="$picture" out="$room/o" map="$room/m" record="$room/r" \
+        width=100 height=75 >"$room/report" 2>"$room/line"
+    status=$?
+    case $picture in
+        *_deep.ppm) wanted="3 weave: sample: depth" ;;
+        *) wanted="0 " ;;
+    esac
+    answer="$status $(cat "$room/line")"
+    [ "$answer" = "$wanted" ] || { echo "$picture: $answer"; wrong=$((wrong + 1)); }
+done
+[ "$wrong" = 0 ] && echo "each picture is answered as it should be"
+exit "$wrong"

@@ -10,11 +10,11 @@ use Rattle.cells.proofs.BoxLaws.{plus_minus}
 use Rattle.cells.proofs.CellLaws.{indexed_has_cell}
 use Rattle.cells.proofs.PartBoxes.{inside_sum_fits}
 use Rattle.cells.proofs.Raster.{index_of_spot, place_at}
-use Rattle.source_map.specs.declared.canvas.Placement.{Placement}
-use Rattle.source_map.specs.Choices.{box_cell, box_index, new_source}
-use Rattle.source_map.specs.Maps.{SourceMap, IsFilled, IsSource}
-use Rattle.source_map.proofs.ChoiceLaws.{box_index_of}
-use Rattle.source_map.proofs.Filling.{cell_is_source}
+use Rattle.map_canvas.specs.declared.canvas.Placement.{Placement}
+use Rattle.map_canvas.specs.Choices.{box_cell, box_index, new_source}
+use Rattle.map_canvas.specs.Maps.{SourceMap, IsFilled, IsSource}
+use Rattle.map_canvas.proofs.ChoiceLaws.{box_index_of}
+use Rattle.map_canvas.proofs.Filling.{cell_is_source}
 use Rattle.box_walk.specs.declared.counts.Counts.{Counts}
 use Rattle.box_walk.specs.Pairs.{AreCounts, at_index, cell_in}
 use Rattle.box_walk.specs.Raster.{largest}

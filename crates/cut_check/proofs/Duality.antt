@@ -13,8 +13,8 @@ use Rattle.cells.specs.Places.{cell_count, plus}
 use Rattle.cells.specs.Neighbours.{unit_step}
 use Rattle.cells.specs.Boxes.{IsInBox}
 use Rattle.cells.specs.Distances.{distance}
-use Rattle.source_map.specs.Maps.{IsFilled, map_at}
-use Rattle.source_map.specs.Choices.{after_at, new_source}
+use Rattle.map_canvas.specs.Maps.{IsFilled, map_at}
+use Rattle.map_canvas.specs.Choices.{after_at, new_source}
 use Rattle.box_sums.specs.Sums.{signed_sum_box}
 use Rattle.box_sums.proofs.Additions.{integers}
 use Rattle.box_sums.proofs.Boxes.{box_equal}

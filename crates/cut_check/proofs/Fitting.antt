@@ -5,9 +5,9 @@ use mathlib.Core.Bool.{false≢true}
 use Rattle.cells.specs.Boxes.{HasCells, HoldsBox}
 use Rattle.cells.specs.Cells.{Cells, Holds, IsVolume}
 use Rattle.cells.proofs.BoxLaws.{box_small}
-use Rattle.source_map.specs.declared.canvas.Placement.{Placement}
-use Rattle.source_map.specs.Choices.{Fits}
-use Rattle.source_map.specs.Maps.{IsMap, SourceMap}
+use Rattle.map_canvas.specs.declared.canvas.Placement.{Placement}
+use Rattle.map_canvas.specs.Choices.{Fits}
+use Rattle.map_canvas.specs.Maps.{IsMap, SourceMap}
 use Rattle.cut_check.specs.Steps.{LiesOver, LiesIn}
 
 pub fits_of : (m : SourceMap) (sample : Cells) (placement : Placement) → LiesOver m sample placement → Fits m.size sample placement

@@ -7,9 +7,9 @@ use Rattle.std.specs.Prelude.{pos, ◌≤ℤ◌, Option, Some, None, IfSome}
 use Rattle.cells.specs.declared.place.At.{At}
 use Rattle.cells.specs.Cells.{Cells}
 use Rattle.cells.specs.Distances.{distance}
-use Rattle.source_map.specs.declared.canvas.Placement.{Placement}
-use Rattle.source_map.specs.Maps.{SourceMap, map_at}
-use Rattle.source_map.specs.Choices.{box_index, chosen}
+use Rattle.map_canvas.specs.declared.canvas.Placement.{Placement}
+use Rattle.map_canvas.specs.Maps.{SourceMap, map_at}
+use Rattle.map_canvas.specs.Choices.{box_index, chosen}
 use Rattle.seams.specs.Lawful.{AreHeld, AreMarks, IsLawful, IsLeastChoice, IsLeastHeld, LeavesHeld, StaysOld, is_held, held_marks, total_after}
 use Rattle.seams.proofs.Existence.{index_of_cell, new_inside}
 use Rattle.seams.proofs.Locality.{changes_as_window}

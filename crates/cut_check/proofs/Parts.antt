@@ -10,10 +10,10 @@ use Rattle.cells.specs.declared.place.Box3.{Box3}
 use Rattle.cells.specs.Boxes.{IsInBox}
 use Rattle.cells.specs.Neighbours.{unit_step}
 use Rattle.cells.specs.Places.{minus, plus}
-use Rattle.source_map.specs.declared.canvas.Placement.{Placement}
-use Rattle.source_map.specs.Canvases.{IsFilledOutside, IsKept, MeetsAlong, MeetsOutside}
-use Rattle.source_map.specs.Maps.{SourceMap, IsFilled}
-use Rattle.source_map.proofs.Keeping.{meets_of, meets_third}
+use Rattle.map_canvas.specs.declared.canvas.Placement.{Placement}
+use Rattle.map_canvas.specs.Canvases.{IsFilledOutside, IsKept, MeetsAlong, MeetsOutside}
+use Rattle.map_canvas.specs.Maps.{SourceMap, IsFilled}
+use Rattle.map_canvas.proofs.Keeping.{meets_of, meets_third}
 use Rattle.seams.specs.Lawful.{StaysOld, is_held}
 use Rattle.box_walk.specs.Pairs.{cell_in}
 use Rattle.cut_check.specs.declared.record.CutRecord.{CutRecord}

@@ -8,9 +8,9 @@ use Rattle.cells.specs.declared.place.Axis.{Axis}
 use Rattle.cells.specs.declared.place.Axis.TheVariants.{X, Y, F}
 use Rattle.cells.specs.Places.{plus}
 use Rattle.cells.specs.Neighbours.{unit_step}
-use Rattle.source_map.specs.declared.canvas.Placement.{Placement}
-use Rattle.source_map.specs.Maps.{SourceMap, map_at}
-use Rattle.source_map.specs.Choices.{new_source}
+use Rattle.map_canvas.specs.declared.canvas.Placement.{Placement}
+use Rattle.map_canvas.specs.Maps.{SourceMap, map_at}
+use Rattle.map_canvas.specs.Choices.{new_source}
 use Rattle.seams.specs.Costs.{seam}
 use Rattle.box_walk.specs.Pairs.{cell_in, has_next, pair_number}
 use Rattle.cut_check.specs.declared.record.Flow.{Flow}

@@ -6,8 +6,8 @@ use Rattle.cells.specs.declared.place.Axis.{Axis}
 use Rattle.cells.specs.Places.{cell_count}
 use Rattle.cells.specs.Cells.{Cells}
 use Rattle.cells.specs.Distances.{distance}
-use Rattle.source_map.specs.Maps.{SourceMap, map_at}
-use Rattle.source_map.specs.Choices.{Fits, box_cell}
+use Rattle.map_canvas.specs.Maps.{SourceMap, map_at}
+use Rattle.map_canvas.specs.Choices.{Fits, box_cell}
 use Rattle.box_sums.specs.Sums.{signed_sum_box}
 use Rattle.seams.specs.Lawful.{IsFree, StaysOld, window_after}
 use Rattle.box_walk.specs.Pairs.{AreCounts, at_index, cell_in, has_next, pair_count, pair_number}

@@ -9,9 +9,9 @@ use Rattle.cells.specs.declared.place.Size.{Size}
 use Rattle.cells.specs.Boxes.{HasCells, HoldsBox}
 use Rattle.cells.specs.Places.{IsSmall, raster_index}
 use Rattle.cells.specs.Cells.{Cells, Holds, IsVolume}
-use Rattle.source_map.specs.declared.canvas.Placement.{Placement}
-use Rattle.source_map.specs.Maps.{IsMap, IsSource, SourceMap, map_at}
-use Rattle.source_map.specs.Choices.{new_source}
+use Rattle.map_canvas.specs.declared.canvas.Placement.{Placement}
+use Rattle.map_canvas.specs.Maps.{IsMap, IsSource, SourceMap, map_at}
+use Rattle.map_canvas.specs.Choices.{new_source}
 use Rattle.box_walk.specs.declared.counts.Counts.{Counts}
 use Rattle.box_walk.specs.Pairs.{AreCounts, cell_in, has_next}
 use Rattle.box_walk.specs.Walks.{IsAtIndex}

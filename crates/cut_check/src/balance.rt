@@ -3,7 +3,7 @@ ghost use Rattle.std.specs.Prelude.{◌≡◌, ◌<◌, ◌↔◌, IfOk, IfSome,
 ghost use Rattle.cells.specs.Cells.{Cells};
 ghost use Rattle.cells.specs.Places.{cell_count};
 ghost use Rattle.box_sums.specs.Sums.{signed_sum_box};
-ghost use Rattle.source_map.specs.Choices.{box_cell};
+ghost use Rattle.map_canvas.specs.Choices.{box_cell};
 ghost use Rattle.box_walk.specs.Pairs.{at_index};
 ghost use Rattle.box_walk.specs.Walks.{IsWalkAt};
 ghost use Rattle.seams.specs.Lawful.{StaysOld};
@@ -15,7 +15,7 @@ use crate::flows::leaving;
 use crate::record::CutRecord;
 use crate::rules::{box_cell, stays_old};
 use box_walk::Walk;
-use source_map::Canvas;
+use map_canvas::Canvas;
 
 // What leaves a cell, if it has to stay old, and 0 for another that is balanced; None where it isn't. Where
 // nothing leaves it, nothing else is asked of it.

@@ -2,8 +2,8 @@
 ghost use Rattle.std.specs.Prelude.{◌≡◌, ◌≤◌, ◌-ℤ◌, ◌↔◌, IfNone, IfSome, IsTrue, List, Bool, pos};
 ghost use Rattle.cells.specs.Cells.{Holds, IsVolume};
 ghost use Rattle.cells.specs.Distances.{distance};
-ghost use Rattle.source_map.specs.Choices.{new_source};
-ghost use Rattle.source_map.specs.Maps.{IsSource};
+ghost use Rattle.map_canvas.specs.Choices.{new_source};
+ghost use Rattle.map_canvas.specs.Maps.{IsSource};
 ghost use Rattle.box_walk.specs.Pairs.{AreCounts, cell_in, pair_number};
 ghost use Rattle.box_walk.specs.Walks.{IsWalkIn};
 ghost use Rattle.seams.specs.Costs.{most_of_pair};
@@ -16,7 +16,7 @@ use crate::record::{CutRecord, Flow};
 use box_walk::{Counts, Walk};
 use cells::{At, Axis, Volume};
 use seams::seam_of;
-use source_map::{Map, Placement};
+use map_canvas::{Map, Placement};
 
 // A number between minus a cost and the cost.
 fn is_within(cost: u32, z: i16) -> bool

@@ -3,8 +3,8 @@ ghost use Rattle.std.specs.Prelude.{◌≡◌, ◌<◌, ◌≤◌, IfErr, IfSome
 ghost use Rattle.cells.specs.Boxes.{HasCells};
 ghost use Rattle.cells.specs.Distances.{distance};
 ghost use Rattle.cells.specs.Places.{cell_count};
-ghost use Rattle.source_map.specs.Canvases.{StandsOver};
-ghost use Rattle.source_map.specs.Choices.{Fits};
+ghost use Rattle.map_canvas.specs.Canvases.{StandsOver};
+ghost use Rattle.map_canvas.specs.Choices.{Fits};
 ghost use Rattle.seams.specs.Lawful.{AreMarks, IsLeastChoice, IsLeastHeld, held_marks};
 ghost use Rattle.box_walk.specs.Pairs.{pair_count};
 ghost use Rattle.cut_check.specs.Records.{CutStands, IsFirstCutFault, IsLawfulCut, setting};
@@ -18,7 +18,7 @@ use crate::record::{
 use crate::rules::{first_new, first_unfilled};
 use cells::{Box3, Volume};
 use seams::window_after;
-use source_map::{Canvas, Placement};
+use map_canvas::{Canvas, Placement};
 
 // Rule 1, for a box that has a cell.
 pub(crate) fn fits(canvas: &Canvas, sample: &Volume, placement: &Placement) -> bool

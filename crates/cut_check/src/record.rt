@@ -1,6 +1,6 @@
 // Cut records, and what is wrong with one.
 use items::Items;
-use source_map::Placement;
+use map_canvas::Placement;
 
 /// The flow of a pair: two neighbours of a placement's box.
 #[derive(Clone, Copy, Debug, Drop, PartialEq, Eq)]

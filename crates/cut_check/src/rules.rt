@@ -2,8 +2,8 @@
 ghost use Rattle.std.specs.Prelude.{◌≡◌, ◌<◌, ◌↔◌, IfNone, IfSome, IsTrue, Some, None, slice_index_or, true, false, []};
 ghost use Rattle.cells.specs.Cells.{Cells};
 ghost use Rattle.cells.specs.Places.{cell_count};
-ghost use Rattle.source_map.specs.Choices.{box_cell, box_index};
-ghost use Rattle.source_map.specs.Maps.{map_at};
+ghost use Rattle.map_canvas.specs.Choices.{box_cell, box_index};
+ghost use Rattle.map_canvas.specs.Maps.{map_at};
 ghost use Rattle.seams.specs.Lawful.{StaysOld};
 ghost use Rattle.cut_check.specs.Records.{FillsAll, IsFirstNotOld, IsFirstUnfilled, LeavesAllOld, setting};
 ghost use Rattle.cut_check.specs.Steps.{IsAt, LiesIn};
@@ -11,7 +11,7 @@ ghost use Rattle.cut_check.specs.Steps.{IsAt, LiesIn};
 use crate::record::CutRecord;
 use box_walk::Counts;
 use cells::At;
-use source_map::{Canvas, Map, Placement};
+use map_canvas::{Canvas, Map, Placement};
 
 // What a list of marks says of the cell at an index: past its end it says no.
 fn is_marked(marks: &[bool], i: usize) -> bool

@@ -14,9 +14,9 @@ use Rattle.cells.specs.Places.{plus}
 use Rattle.cells.specs.Neighbours.{unit_step}
 use Rattle.cells.specs.Boxes.{IsInBox}
 use Rattle.cells.specs.Distances.{IsPseudometric}
-use Rattle.source_map.specs.declared.canvas.Placement.{Placement}
-use Rattle.source_map.specs.Maps.{SourceMap, IsFilled, map_at}
-use Rattle.source_map.specs.Choices.{after_at, new_source}
+use Rattle.map_canvas.specs.declared.canvas.Placement.{Placement}
+use Rattle.map_canvas.specs.Maps.{SourceMap, IsFilled, map_at}
+use Rattle.map_canvas.specs.Choices.{after_at, new_source}
 use Rattle.box_sums.proofs.Additions.{counts}
 use Rattle.box_sums.proofs.Boxes.{box_related}
 use Rattle.max_flow.specs.Networks.{FlowNetwork}

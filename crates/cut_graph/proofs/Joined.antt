@@ -9,8 +9,8 @@ use Rattle.cells.specs.declared.place.Axis.{Axis}
 use Rattle.cells.specs.declared.place.Axis.TheVariants.{X, Y, F}
 use Rattle.cells.specs.Places.{cell_count}
 use Rattle.cells.proofs.Raster.{in_rows}
-use Rattle.source_map.specs.declared.canvas.Placement.{Placement}
-use Rattle.source_map.specs.Maps.{SourceMap}
+use Rattle.map_canvas.specs.declared.canvas.Placement.{Placement}
+use Rattle.map_canvas.specs.Maps.{SourceMap}
 use Rattle.box_sums.specs.Sums.{signed_sum_box, signed_sum_to, sum_box}
 use Rattle.box_sums.proofs.Additions.{Addition, counts, integers, sum_of, sum_over}
 use Rattle.box_sums.proofs.Axes.{sum_equal, sum_first}

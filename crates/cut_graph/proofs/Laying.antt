@@ -14,8 +14,8 @@ use Rattle.cells.specs.Boxes.{IsInBox}
 use Rattle.cells.specs.Distances.{distance}
 use Rattle.cells.specs.Neighbours.{unit_step}
 use Rattle.cells.specs.Places.{IsSmall, cell_count, plus, raster_index}
-use Rattle.source_map.specs.Choices.{new_source}
-use Rattle.source_map.specs.Maps.{map_at}
+use Rattle.map_canvas.specs.Choices.{new_source}
+use Rattle.map_canvas.specs.Maps.{map_at}
 use Rattle.cells.proofs.BoxLaws.{box_small}
 use Rattle.max_flow.specs.declared.network.Pipe.{Pipe}
 use Rattle.box_walk.proofs.PairNumbers.{number_below, pairs_next}

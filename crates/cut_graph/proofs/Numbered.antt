@@ -8,8 +8,8 @@ use Rattle.cells.specs.declared.place.Box3.{Box3}
 use Rattle.cells.specs.Boxes.{IsInBox}
 use Rattle.cells.proofs.BoxLaws.{plus_minus}
 use Rattle.cells.proofs.Raster.{index_of_spot}
-use Rattle.source_map.specs.declared.canvas.Placement.{Placement}
-use Rattle.source_map.specs.Maps.{SourceMap}
+use Rattle.map_canvas.specs.declared.canvas.Placement.{Placement}
+use Rattle.map_canvas.specs.Maps.{SourceMap}
 use Rattle.seams.specs.Lawful.{is_held}
 use Rattle.box_walk.proofs.Indices.{at_counts}
 use Rattle.box_walk.specs.Pairs.{AreCounts, at_index, cell_in}

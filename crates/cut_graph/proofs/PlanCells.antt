@@ -7,8 +7,8 @@ use Rattle.cells.specs.declared.place.At.{At}
 use Rattle.cells.specs.Boxes.{IsInBox}
 use Rattle.cells.specs.Places.{DifferenceFits, SumFits, index_in, minus, plus}
 use Rattle.cells.proofs.Raster.{OnAxis, has_index, index_parts}
-use Rattle.source_map.specs.Maps.{IsSource}
-use Rattle.source_map.proofs.Filling.{fits_small, step_source, step_sum}
+use Rattle.map_canvas.specs.Maps.{IsSource}
+use Rattle.map_canvas.proofs.Filling.{fits_small, step_source, step_sum}
 use Rattle.cut_graph.specs.declared.plan.Plan.{Plan}
 use Rattle.cut_graph.specs.Plans.{IsPlan}
 

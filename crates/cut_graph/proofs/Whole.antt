@@ -10,8 +10,8 @@ use Rattle.cells.specs.declared.place.Size.{Size}
 use Rattle.cells.specs.Boxes.{HasCells}
 use Rattle.cells.specs.Neighbours.{unit_step}
 use Rattle.cells.specs.Places.{cell_count, plus, raster_index}
-use Rattle.source_map.specs.declared.canvas.Placement.{Placement}
-use Rattle.source_map.specs.Maps.{SourceMap, IsFilled, map_at}
+use Rattle.map_canvas.specs.declared.canvas.Placement.{Placement}
+use Rattle.map_canvas.specs.Maps.{SourceMap, IsFilled, map_at}
 use Rattle.seams.specs.Lawful.{AreHeld, AreMarks, IsFree, StaysOld, held_marks}
 use Rattle.box_walk.proofs.PairNumbers.{HasPair, find_pair, number_apart, number_below}
 use Rattle.box_walk.proofs.Indices.{at_counts, counts_at, index_below, same_counts}
@@ -22,7 +22,7 @@ use Rattle.cut_graph.specs.declared.cell_nodes.Standing.TheVariants.{Old, Unfill
 use Rattle.cut_graph.specs.declared.numbering.Numbering.{Numbering}
 use Rattle.cut_graph.specs.declared.places.Places.{Places}
 use Rattle.cut_graph.specs.declared.piping.Piping.{Piping}
-use Rattle.source_map.specs.Choices.{box_index, chosen}
+use Rattle.map_canvas.specs.Choices.{box_index, chosen}
 use Rattle.cut_graph.specs.Cuts.{IsNetworkOf}
 use Rattle.cut_graph.specs.Building.{HasAllPipes, AreCellNodes, AreSeamNodes, IsCellNode, IsNodeOf, IsSeamNode, IsStanding, are_filled, both_filled}
 use Rattle.cut_graph.specs.Nodes.{AreNodes, HasSeam, IsFreeAt, StandsForCell, StandsForSeam, cell_node, seam_node}

@@ -2,8 +2,8 @@
 -- least cut is the best seam.)
 use Rattle.std.specs.Prelude.{◌≡◌, ◌≤◌, ℕ, Bool, not, List}
 use Rattle.cells.specs.declared.place.At.{At}
-use Rattle.source_map.specs.declared.canvas.Placement.{Placement}
-use Rattle.source_map.specs.Maps.{SourceMap}
+use Rattle.map_canvas.specs.declared.canvas.Placement.{Placement}
+use Rattle.map_canvas.specs.Maps.{SourceMap}
 use Rattle.seams.specs.Lawful.{IsLawful, LeavesHeld, is_new, window_after}
 use Rattle.box_walk.specs.Pairs.{AreCounts, cell_in}
 use Rattle.max_flow.specs.Networks.{FlowNetwork}

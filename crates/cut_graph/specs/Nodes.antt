@@ -8,8 +8,8 @@ use Rattle.cells.specs.declared.place.Size.{Size}
 use Rattle.cells.specs.declared.place.Axis.{Axis}
 use Rattle.cells.specs.Places.{cell_count, plus}
 use Rattle.cells.specs.Neighbours.{unit_step}
-use Rattle.source_map.specs.declared.canvas.Placement.{Placement}
-use Rattle.source_map.specs.Maps.{SourceMap, IsFilled, map_at}
+use Rattle.map_canvas.specs.declared.canvas.Placement.{Placement}
+use Rattle.map_canvas.specs.Maps.{SourceMap, IsFilled, map_at}
 use Rattle.seams.specs.Lawful.{IsFree, StaysOld}
 use Rattle.box_walk.specs.Pairs.{AreCounts, IsPair, cell_in, pair_count, pair_number}
 use Rattle.cut_graph.specs.declared.places.Places.{Places}

@@ -9,9 +9,9 @@ use Rattle.cells.specs.declared.place.Axis.TheVariants.{X, Y, F}
 use Rattle.cells.specs.Places.{cell_count, plus}
 use Rattle.cells.specs.Neighbours.{unit_step}
 use Rattle.max_flow.specs.declared.network.Pipe.{Pipe}
-use Rattle.source_map.specs.declared.canvas.Placement.{Placement}
-use Rattle.source_map.specs.Maps.{SourceMap, map_at}
-use Rattle.source_map.specs.Choices.{new_source}
+use Rattle.map_canvas.specs.declared.canvas.Placement.{Placement}
+use Rattle.map_canvas.specs.Maps.{SourceMap, map_at}
+use Rattle.map_canvas.specs.Choices.{new_source}
 use Rattle.seams.specs.Costs.{seam}
 use Rattle.box_walk.specs.Pairs.{at_index, cell_in, has_next, pair_number, IsPair}
 use Rattle.cut_graph.specs.declared.places.Places.{Places}

@@ -7,8 +7,8 @@ use Rattle.cells.specs.declared.place.Axis.TheVariants.{X, Y, F}
 use Rattle.cells.specs.Cells.{IsVolume}
 use Rattle.cells.specs.Distances.{distance}
 use Rattle.cells.specs.Places.{cell_count, raster_index}
-use Rattle.source_map.specs.Choices.{Fits, new_source}
-use Rattle.source_map.specs.Maps.{IsMap, IsSource, map_at}
+use Rattle.map_canvas.specs.Choices.{Fits, new_source}
+use Rattle.map_canvas.specs.Maps.{IsMap, IsSource, map_at}
 use Rattle.box_walk.specs.Pairs.{has_next, one_if, pair_count, pair_number}
 use Rattle.max_flow.specs.Networks.{FlowNetwork}
 use Rattle.max_flow.specs.declared.network.Pipe.{Pipe}

@@ -11,7 +11,7 @@ use crate::numbering::Numbering;
 use crate::places::{SINK, SOURCE};
 use box_walk::Counts;
 use cells::{At, MOST_CELLS};
-use source_map::{Canvas, Placement};
+use map_canvas::{Canvas, Placement};
 use std::alloc::{AllocError, Global};
 
 // How a cell of the box stands.

@@ -1,8 +1,8 @@
 // The network of a placement.
 ghost use Rattle.std.specs.Prelude.{◌≡◌, IfOk, IfSome, length, option_copied, []};
 ghost use Rattle.cells.specs.Distances.{distance};
-ghost use Rattle.source_map.specs.Canvases.{StandsOver};
-ghost use Rattle.source_map.specs.Choices.{Fits};
+ghost use Rattle.map_canvas.specs.Canvases.{StandsOver};
+ghost use Rattle.map_canvas.specs.Choices.{Fits};
 ghost use Rattle.seams.specs.Lawful.{AreMarks, held_marks};
 ghost use Rattle.box_walk.specs.Pairs.{pair_count};
 ghost use Rattle.cells.specs.Places.{cell_count};
@@ -19,7 +19,7 @@ use crate::seam_nodes::number_seams;
 use cells::Volume;
 use items::Items;
 use max_flow::Network;
-use source_map::{Canvas, Placement};
+use map_canvas::{Canvas, Placement};
 use std::alloc::{AllocError, Global};
 
 // Lays the pipes of a placement between its nodes.

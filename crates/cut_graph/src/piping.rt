@@ -4,7 +4,7 @@ ghost use Rattle.cells.specs.Distances.{distance};
 ghost use Rattle.cells.specs.Places.{cell_count, raster_index};
 ghost use Rattle.max_flow.specs.Networks.{empty_network};
 ghost use Rattle.max_flow.specs.declared.network.Pipe.{Pipe};
-ghost use Rattle.source_map.specs.Maps.{IsSource};
+ghost use Rattle.map_canvas.specs.Maps.{IsSource};
 ghost use Rattle.box_walk.specs.Pairs.{AreCounts, cell_in, pair_count, pairs_before, IsPair};
 ghost use Rattle.box_walk.specs.Walks.{most_pairs};
 ghost use Rattle.seams.specs.Costs.{most_of_pair};

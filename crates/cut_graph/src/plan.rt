@@ -4,7 +4,7 @@ ghost use Rattle.cells.specs.Boxes.{IsInBox};
 ghost use Rattle.cut_graph.specs.Plans.{HasSources, IsCellAt, IsPlan};
 
 use cells::{At, Volume};
-use source_map::{Map, Placement};
+use map_canvas::{Map, Placement};
 
 // A placement over a map, with the nodes of its cells and pairs.
 #[derive(Drop)]

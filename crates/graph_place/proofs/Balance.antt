@@ -8,9 +8,9 @@ use Rattle.cells.specs.declared.place.Axis.{Axis}
 use Rattle.cells.specs.declared.place.Axis.TheVariants.{X, Y, F}
 use Rattle.cells.specs.Places.{plus}
 use Rattle.cells.specs.Neighbours.{unit_step}
-use Rattle.source_map.specs.declared.canvas.Placement.{Placement}
-use Rattle.source_map.specs.Maps.{SourceMap, map_at}
-use Rattle.source_map.specs.Choices.{new_source}
+use Rattle.map_canvas.specs.declared.canvas.Placement.{Placement}
+use Rattle.map_canvas.specs.Maps.{SourceMap, map_at}
+use Rattle.map_canvas.specs.Choices.{new_source}
 use Rattle.box_sums.specs.Sums.{signed_sum_box}
 use Rattle.box_sums.proofs.Additions.{integers}
 use Rattle.box_sums.proofs.Boxes.{box_equal, box_single}

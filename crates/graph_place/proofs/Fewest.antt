@@ -3,8 +3,8 @@ use Rattle.std.proofs.Common.{◌≡◌, ℕ, ◌≤◌, refl, ap, sym, subst, a
 use mathlib.Core.Bool.{false≢true}
 use Rattle.std.specs.Prelude.{ℤ, not}
 use Rattle.cells.specs.declared.place.At.{At}
-use Rattle.source_map.specs.declared.canvas.Placement.{Placement}
-use Rattle.source_map.specs.Maps.{SourceMap}
+use Rattle.map_canvas.specs.declared.canvas.Placement.{Placement}
+use Rattle.map_canvas.specs.Maps.{SourceMap}
 use Rattle.box_sums.proofs.Bounds.{box_at_most, box_terms_equal}
 use Rattle.seams.specs.Lawful.{ChangesAsWindow, IsLeastHeld, is_new, window_after}
 use Rattle.box_walk.specs.Pairs.{AreCounts, cell_in, one_if}

@@ -14,10 +14,10 @@ use Rattle.cells.specs.Neighbours.{unit_step}
 use Rattle.cells.specs.Boxes.{HasCells, IsInBox}
 use Rattle.cells.proofs.Raster.{has_index, index_of_spot, index_parts, place_at}
 use Rattle.cells.proofs.BoxLaws.{minus_plus, plus_minus, step_of}
-use Rattle.source_map.specs.declared.canvas.Placement.{Placement}
-use Rattle.source_map.specs.Maps.{SourceMap, map_at}
-use Rattle.source_map.specs.Choices.{box_cell, box_index, chosen}
-use Rattle.source_map.proofs.ChoiceLaws.{box_index_of}
+use Rattle.map_canvas.specs.declared.canvas.Placement.{Placement}
+use Rattle.map_canvas.specs.Maps.{SourceMap, map_at}
+use Rattle.map_canvas.specs.Choices.{box_cell, box_index, chosen}
+use Rattle.map_canvas.proofs.ChoiceLaws.{box_index_of}
 use Rattle.seams.specs.Lawful.{StaysOld, is_new}
 use Rattle.box_walk.specs.Pairs.{AreCounts, cell_in, IsPair}
 use Rattle.box_walk.proofs.Cells.{next_suc_f, next_suc_x, next_suc_y, cell_inside}

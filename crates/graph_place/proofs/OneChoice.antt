@@ -5,9 +5,9 @@ use Rattle.std.specs.Prelude.{IsSome, Some}
 use Rattle.cells.specs.Boxes.{HasCells}
 use Rattle.cells.specs.Places.{cell_count}
 use Rattle.cells.proofs.Raster.{place_at}
-use Rattle.source_map.specs.declared.canvas.Placement.{Placement}
-use Rattle.source_map.specs.Choices.{box_cell, box_index, chosen}
-use Rattle.source_map.proofs.ChoiceLaws.{box_index_of}
+use Rattle.map_canvas.specs.declared.canvas.Placement.{Placement}
+use Rattle.map_canvas.specs.Choices.{box_cell, box_index, chosen}
+use Rattle.map_canvas.proofs.ChoiceLaws.{box_index_of}
 use Rattle.graph_place.specs.Fewest.{AreSame, ThereIsOneFewest}
 
 same_choice : (placement : Placement) (one other : List Bool) → HasCells placement.rect.size → length one ≡ cell_count placement.rect.size → length other ≡ cell_count placement.rect.size → AreSame placement one other → one ≡ other

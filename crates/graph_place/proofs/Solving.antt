@@ -11,8 +11,8 @@ use Rattle.cells.specs.Distances.{distance}
 use Rattle.cells.specs.Neighbours.{unit_step}
 use Rattle.cells.specs.Places.{cell_count, minus, plus}
 use Rattle.cells.proofs.DistanceLaws.{distance_bound}
-use Rattle.source_map.specs.declared.canvas.Placement.{Placement}
-use Rattle.source_map.specs.Maps.{SourceMap, map_at}
+use Rattle.map_canvas.specs.declared.canvas.Placement.{Placement}
+use Rattle.map_canvas.specs.Maps.{SourceMap, map_at}
 use Rattle.seams.specs.Costs.{seam}
 use Rattle.box_walk.specs.Pairs.{cell_in, has_next, IsPair}
 use Rattle.max_flow.specs.declared.network.Pipe.{Pipe}

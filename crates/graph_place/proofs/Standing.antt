@@ -7,10 +7,10 @@ use Rattle.cells.specs.Cells.{Cells}
 use Rattle.cells.specs.Distances.{distance}
 use Rattle.cells.specs.Places.{cell_count}
 use Rattle.cells.proofs.Raster.{place_at}
-use Rattle.source_map.specs.declared.canvas.Placement.{Placement}
-use Rattle.source_map.specs.Maps.{SourceMap}
-use Rattle.source_map.specs.Choices.{Fits, box_cell}
-use Rattle.source_map.proofs.ChoiceLaws.{box_index_of}
+use Rattle.map_canvas.specs.declared.canvas.Placement.{Placement}
+use Rattle.map_canvas.specs.Maps.{SourceMap}
+use Rattle.map_canvas.specs.Choices.{Fits, box_cell}
+use Rattle.map_canvas.proofs.ChoiceLaws.{box_index_of}
 use Rattle.seams.specs.Lawful.{is_new, window_after}
 use Rattle.box_walk.proofs.Indices.{index_below}
 use Rattle.max_flow.specs.declared.solver.Solved.{Solved}

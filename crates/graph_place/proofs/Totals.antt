@@ -9,9 +9,9 @@ use Rattle.cells.specs.Cells.{Cells}
 use Rattle.cells.specs.Distances.{distance}
 use Rattle.cells.specs.Places.{spot}
 use Rattle.box_sums.specs.Sums.{sum_box}
-use Rattle.source_map.specs.declared.canvas.Placement.{Placement}
-use Rattle.source_map.specs.Choices.{IsAfter, after_at, box_index, chosen, new_source}
-use Rattle.source_map.specs.Maps.{SourceMap, map_at}
+use Rattle.map_canvas.specs.declared.canvas.Placement.{Placement}
+use Rattle.map_canvas.specs.Choices.{IsAfter, after_at, box_index, chosen, new_source}
+use Rattle.map_canvas.specs.Maps.{SourceMap, map_at}
 use Rattle.seams.specs.Costs.{pairs_at, total_of}
 use Rattle.seams.specs.Lawful.{IsLeastChoice, IsLeastHeld, held_marks, is_new}
 use Rattle.seams.proofs.Existence.{old_lawful}

@@ -5,8 +5,8 @@ use Rattle.std.specs.Prelude.{◌≡◌, ◌≤◌, ℕ, Bool, not, List, Option
 use Rattle.cells.specs.declared.place.At.{At}
 use Rattle.cells.specs.Boxes.{HasCells, IsInBox}
 use Rattle.cells.specs.Places.{cell_count}
-use Rattle.source_map.specs.declared.canvas.Placement.{Placement}
-use Rattle.source_map.specs.Maps.{SourceMap}
+use Rattle.map_canvas.specs.declared.canvas.Placement.{Placement}
+use Rattle.map_canvas.specs.Maps.{SourceMap}
 use Rattle.box_sums.specs.Sums.{sum_box}
 use Rattle.seams.specs.Lawful.{IsLeastChoice, IsLeastHeld, is_new}
 use Rattle.box_walk.specs.Pairs.{cell_in, one_if}

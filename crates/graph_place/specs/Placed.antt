@@ -3,10 +3,10 @@ use Rattle.std.specs.Prelude.{◌≡◌, ◌≤◌, ℕ, List, Bool, length}
 use Rattle.cells.specs.Cells.{Cells}
 use Rattle.cells.specs.Distances.{distance}
 use Rattle.cells.specs.Places.{cell_count}
-use Rattle.source_map.specs.declared.canvas.Placement.{Placement}
-use Rattle.source_map.specs.Canvases.{CanvasState, StandsOver}
-use Rattle.source_map.specs.Choices.{IsAfter, map_after}
-use Rattle.source_map.specs.Maps.{IsFull, SourceMap, map_at}
+use Rattle.map_canvas.specs.declared.canvas.Placement.{Placement}
+use Rattle.map_canvas.specs.Canvases.{CanvasState, StandsOver}
+use Rattle.map_canvas.specs.Choices.{IsAfter, map_after}
+use Rattle.map_canvas.specs.Maps.{IsFull, SourceMap, map_at}
 use Rattle.seams.specs.Costs.{total_of}
 use Rattle.box_walk.specs.Pairs.{pair_count}
 use Rattle.cut_check.specs.declared.record.CutRecord.{CutRecord}

@@ -1,8 +1,8 @@
 // Placements that are put in.
 ghost use Rattle.std.specs.Prelude.{◌≡◌, IfSome, OnErr, OnOk, IfOk, option_copied, []};
 ghost use Rattle.cells.specs.Distances.{distance};
-ghost use Rattle.source_map.specs.Canvases.{IsCanvas, StandsOver};
-ghost use Rattle.source_map.specs.Choices.{Fits};
+ghost use Rattle.map_canvas.specs.Canvases.{IsCanvas, StandsOver};
+ghost use Rattle.map_canvas.specs.Choices.{Fits};
 ghost use Rattle.seams.specs.Lawful.{AreMarks, IsLeastChoice, held_marks};
 ghost use Rattle.graph_place.specs.Fewest.{IsLeastWith};
 ghost use Rattle.graph_place.specs.Placed.{IsPlaced, KeepsTotal};
@@ -12,7 +12,7 @@ use cells::Volume;
 use cut_check::CutRecord;
 use cut_graph::build_held;
 use max_flow::solve;
-use source_map::{Canvas, Placement};
+use map_canvas::{Canvas, Placement};
 use std::alloc::{AllocError, Global};
 
 /// Puts a placement in, with cells of its box that are held old too: of the lawful choices without a held cell the

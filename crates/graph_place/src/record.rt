@@ -14,7 +14,7 @@ use cut_check::{CutRecord, Flow};
 use cut_graph::Places;
 use items::Items;
 use max_flow::Solved;
-use source_map::{Canvas, Map, Placement};
+use map_canvas::{Canvas, Map, Placement};
 use std::alloc::{AllocError, Global};
 
 // A cell is new where its node isn't on the source's side.

@@ -11,9 +11,9 @@ use Rattle.cells.proofs.CellLaws.{IfCell, cell_is_cell}
 use Rattle.box_sums.specs.Sums.{sum_to}
 use Rattle.box_sums.proofs.Bounds.{box_bound, sum_of_more}
 use Rattle.lane_kernels.proofs.Bounds.{ssd_bound}
-use Rattle.source_map.specs.declared.canvas.Placement.{Placement}
-use Rattle.source_map.specs.Maps.{SourceMap, map_at, sample_cell}
-use Rattle.source_map.specs.Choices.{Fits, new_source}
+use Rattle.map_canvas.specs.declared.canvas.Placement.{Placement}
+use Rattle.map_canvas.specs.Maps.{SourceMap, map_at, sample_cell}
+use Rattle.map_canvas.specs.Choices.{Fits, new_source}
 use Rattle.match_error.specs.Errors.{cell_error, error_sum}
 
 -- at most 6 samples, each a byte

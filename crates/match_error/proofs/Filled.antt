@@ -16,8 +16,8 @@ use Rattle.box_sums.specs.Sums.{sum_to}
 use Rattle.box_sums.proofs.Additions.{counts}
 use Rattle.box_sums.proofs.Axes.{sum_equal, sum_none}
 use Rattle.box_sums.proofs.Bounds.{sum_bound}
-use Rattle.source_map.specs.Maps.{SourceMap, IsMap, map_at, source_at}
-use Rattle.source_map.specs.Canvases.{mark_of, filled_marks}
+use Rattle.map_canvas.specs.Maps.{SourceMap, IsMap, map_at, source_at}
+use Rattle.map_canvas.specs.Canvases.{mark_of, filled_marks}
 use Rattle.match_error.specs.Errors.{filled_cells, one_filled}
 use Rattle.match_error.proofs.RowPlaces.{row_of}
 use Rattle.match_error.proofs.Runs.{run, run_more}

@@ -16,10 +16,10 @@ use Rattle.cells.proofs.CellLaws.{cell_is, cell_by_index}
 use Rattle.box_sums.proofs.Additions.{counts}
 use Rattle.box_sums.proofs.Axes.{sum_equal}
 use Rattle.lane_kernels.specs.Sums.{masked_sum_of_squared_differences, sum_of_squared_differences}
-use Rattle.source_map.specs.declared.canvas.Placement.{Placement}
-use Rattle.source_map.specs.Maps.{SourceMap, map_at, source_at}
-use Rattle.source_map.specs.Canvases.{CanvasState, IsCanvas, StandsOver, mark_of, filled_marks}
-use Rattle.source_map.specs.Choices.{Fits, new_source}
+use Rattle.map_canvas.specs.declared.canvas.Placement.{Placement}
+use Rattle.map_canvas.specs.Maps.{SourceMap, map_at, source_at}
+use Rattle.map_canvas.specs.Canvases.{CanvasState, IsCanvas, StandsOver, mark_of, filled_marks}
+use Rattle.map_canvas.specs.Choices.{Fits, new_source}
 use Rattle.match_error.specs.Errors.{cell_error, row_error}
 use Rattle.match_error.proofs.RowPlaces.{IsRow, IsVolumeRow, row_in_volume, have_samples, row_is_run, row_of}
 use Rattle.match_error.proofs.Runs.{HaveSamples, masked_by_ones, masked_by_zeros, masked_cells}

@@ -9,9 +9,9 @@ use Rattle.cells.specs.Places.{plus, spot}
 use Rattle.cells.specs.Cells.{Cells}
 use Rattle.box_sums.specs.Sums.{sum_box, sum_to}
 use Rattle.lane_kernels.specs.Sums.{sum_of_squared_differences}
-use Rattle.source_map.specs.declared.canvas.Placement.{Placement}
-use Rattle.source_map.specs.Maps.{SourceMap, map_at, sample_cell}
-use Rattle.source_map.specs.Choices.{new_source}
+use Rattle.map_canvas.specs.declared.canvas.Placement.{Placement}
+use Rattle.map_canvas.specs.Maps.{SourceMap, map_at, sample_cell}
+use Rattle.map_canvas.specs.Choices.{new_source}
 use Rattle.match_error.specs.declared.error.Error.{Error}
 
 -- the squared difference of a cell's source and another place of the sample; nothing of an unfilled

@@ -2,13 +2,13 @@
 ghost use Rattle.std.specs.Prelude.{◌≡◌, ◌≤◌, ◌<◌, ◌*◌, length, sum};
 ghost use Rattle.cells.specs.Boxes.{HoldsBox};
 ghost use Rattle.cells.specs.Places.{cell_count, plus, spot};
-ghost use Rattle.source_map.specs.Maps.{map_at};
+ghost use Rattle.map_canvas.specs.Maps.{map_at};
 ghost use Rattle.box_sums.specs.Sums.{sum_to};
 ghost use Rattle.match_error.specs.Errors.{filled_cells, one_filled};
 
 use crate::rows::row_start;
 use cells::{Box3, GREATEST_AXIS, MOST_SAMPLES};
-use source_map::Canvas;
+use map_canvas::Canvas;
 
 // The sum of the marks of a row of cells.
 fn mark_sum(marks: &[u8]) -> u32

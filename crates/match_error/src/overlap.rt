@@ -1,8 +1,8 @@
 // The sums of the squared differences over the filled cells of a placement's box.
 ghost use Rattle.std.specs.Prelude.{◌≡◌, ◌≤◌, ◌<◌, ◌+◌, ◌*◌, ◌^◌, IfNone, IfSome};
 ghost use Rattle.cells.specs.Places.{IsSmall};
-ghost use Rattle.source_map.specs.Canvases.{StandsOver};
-ghost use Rattle.source_map.specs.Choices.{Fits, box_count};
+ghost use Rattle.map_canvas.specs.Canvases.{StandsOver};
+ghost use Rattle.map_canvas.specs.Choices.{Fits, box_count};
 ghost use Rattle.match_error.specs.Errors.{error_of, error_sum, frame_error, most_frame_error, most_row_error, row_error};
 ghost use Rattle.box_sums.specs.Sums.{sum_to};
 
@@ -11,7 +11,7 @@ use crate::counts::filled_count;
 use crate::rows::row_start;
 use cells::Volume;
 use lane_kernels::ssd_masked;
-use source_map::{Canvas, Placement};
+use map_canvas::{Canvas, Placement};
 
 // The sum over a row of the box.
 fn row_sum(canvas: &Canvas, sample: &Volume, placement: &Placement, y: u32, f: u32) -> u64

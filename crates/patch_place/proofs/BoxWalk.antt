@@ -10,7 +10,7 @@ use Rattle.cells.specs.declared.place.Size.{Size}
 use Rattle.cells.specs.Places.{cell_count, place_of, spot, places}
 use Rattle.cells.specs.SizeLists.{frames_to_part, stock_place}
 use Rattle.cells.proofs.BoxLaws.{step_of}
-use Rattle.source_map.specs.declared.canvas.Placement.{Placement}
+use Rattle.map_canvas.specs.declared.canvas.Placement.{Placement}
 use Rattle.match_error.specs.declared.error.Error.{Error}
 use Rattle.patch_place.specs.declared.candidates.Spot.{Spot}
 use Rattle.patch_place.specs.Counts.{FitsCount, IsSpotAt, entries_before, room_entries}

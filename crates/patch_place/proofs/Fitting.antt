@@ -13,7 +13,7 @@ use Rattle.cells.specs.Places.{HasAxes, IsInside, cell_count, index_in, minus, p
 use Rattle.cells.proofs.BoxLaws.{step_of}
 use Rattle.cells.proofs.PartBoxes.{box_held}
 use Rattle.cells.proofs.Raster.{has_index, index_of_spot, index_parts}
-use Rattle.source_map.specs.declared.canvas.Placement.{Placement}
+use Rattle.map_canvas.specs.declared.canvas.Placement.{Placement}
 use Rattle.patch_place.specs.declared.axis.Span.{Span}
 use Rattle.patch_place.specs.declared.mode.Mode.{Mode}
 use Rattle.patch_place.specs.declared.mode.Mode.TheVariants.{Grid, Random, Whole, Sub}

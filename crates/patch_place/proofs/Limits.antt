@@ -12,9 +12,9 @@ use Rattle.cells.specs.declared.place.Box3.{Box3}
 use Rattle.cells.specs.declared.place.Size.{Size}
 use Rattle.cells.specs.Boxes.{HoldsBox}
 use Rattle.cells.specs.Cells.{Cells, sizes_of}
-use Rattle.source_map.specs.declared.canvas.Placement.{Placement}
-use Rattle.source_map.specs.Choices.{Fits}
-use Rattle.source_map.specs.Maps.{SourceMap}
+use Rattle.map_canvas.specs.declared.canvas.Placement.{Placement}
+use Rattle.map_canvas.specs.Choices.{Fits}
+use Rattle.map_canvas.specs.Maps.{SourceMap}
 use Rattle.patch_place.specs.declared.errors.BoxTable.{BoxTable}
 use Rattle.patch_place.specs.Lists.{filled_from, fit_list, from_part, part_lists, room}
 use Rattle.patch_place.specs.Tables.{AreTableErrors, IsBeaten, IsEntry, IsLimit, IsLow, IsMore, IsNextLimit, IsTableOf, IsUnfilled, StandsForError}

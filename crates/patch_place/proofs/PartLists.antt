@@ -11,7 +11,7 @@ use Rattle.cells.specs.declared.place.Box3.{Box3}
 use Rattle.cells.specs.declared.place.Size.{Size}
 use Rattle.cells.specs.Cells.{Cells, sizes_of}
 use Rattle.cells.specs.Places.{HasAxes, cell_count, place_of}
-use Rattle.source_map.specs.declared.canvas.Placement.{Placement}
+use Rattle.map_canvas.specs.declared.canvas.Placement.{Placement}
 use Rattle.patch_place.specs.declared.candidates.Candidates.{Candidates}
 use Rattle.patch_place.specs.declared.candidates.Candidates.TheVariants.{One, Laid, Fits}
 use Rattle.patch_place.specs.Counts.{AreVolumeParts, IsOverParts, all_entries, entries_after, entries_before, entries_in, made_from, part_cells, steps_in}

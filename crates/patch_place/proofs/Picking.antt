@@ -9,7 +9,7 @@ use Rattle.std.specs.Prelude.{◌⊎◌, ◌&&◌, nat_lt, All, Contains, Some, 
 use Rattle.std.specs.List.{AllZip, count_by, filter}
 use Rattle.match_error.specs.declared.error.Error.{Error}
 use Rattle.match_error.specs.Errors.{is_within}
-use Rattle.source_map.specs.declared.canvas.Placement.{Placement}
+use Rattle.map_canvas.specs.declared.canvas.Placement.{Placement}
 use Rattle.patch_place.specs.Draws.{DrawState, draw}
 use Rattle.patch_place.specs.Picks.{AreEligible, IsBest, is_eligible}
 use Rattle.patch_place.specs.Tables.{IsBeaten, IsNear, IsPickAt, IsPickOf, AreTableErrors, IsUnfilled, StandsForError}

@@ -5,8 +5,8 @@ use Rattle.std.specs.Prelude.{All}
 use Rattle.cells.specs.declared.place.At.{At}
 use Rattle.cells.specs.declared.place.Size.{Size}
 use Rattle.cells.specs.Cells.{Cells}
-use Rattle.source_map.specs.declared.canvas.Placement.{Placement}
-use Rattle.source_map.specs.Choices.{Fits}
+use Rattle.map_canvas.specs.declared.canvas.Placement.{Placement}
+use Rattle.map_canvas.specs.Choices.{Fits}
 use Rattle.patch_place.specs.declared.candidates.Candidates.{Candidates}
 use Rattle.patch_place.specs.Fitting.{FitsAndCovers}
 use Rattle.patch_place.specs.Lists.{listed}

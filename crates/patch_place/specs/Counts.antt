@@ -6,7 +6,7 @@ use Rattle.cells.specs.declared.place.At.{At}
 use Rattle.cells.specs.declared.place.Box3.{Box3}
 use Rattle.cells.specs.declared.place.Size.{Size}
 use Rattle.cells.specs.Places.{HasAxes, cell_count, places}
-use Rattle.source_map.specs.declared.canvas.Placement.{Placement}
+use Rattle.map_canvas.specs.declared.canvas.Placement.{Placement}
 use Rattle.patch_place.specs.declared.candidates.Candidates.{Candidates}
 use Rattle.patch_place.specs.declared.candidates.Candidates.TheVariants.{One, Laid, Fits}
 use Rattle.patch_place.specs.declared.candidates.Spot.{Spot}

@@ -6,7 +6,7 @@ use Rattle.cells.specs.declared.place.At.{At}
 use Rattle.cells.specs.declared.place.Size.{Size}
 use Rattle.cells.specs.declared.place.Box3.{Box3}
 use Rattle.cells.specs.Cells.{Cells}
-use Rattle.source_map.specs.declared.canvas.Placement.{Placement}
+use Rattle.map_canvas.specs.declared.canvas.Placement.{Placement}
 use Rattle.patch_place.specs.declared.mode.Mode.{Mode}
 use Rattle.patch_place.specs.declared.mode.Mode.TheVariants.{Grid, Random, Whole, Sub}
 use Rattle.patch_place.specs.Axes.{at_least_0, grid_on, patch_len, patch_corner}

@@ -4,9 +4,9 @@
 use Rattle.std.specs.Prelude.{◌≡◌, ◌≤◌, ◌<◌, ◌*◌, ℕ, nat_lt, ◌&&◌, Bool, List, length, map, All, Contains, Option, Some, None, slice_get}
 use Rattle.std.specs.List.{filter}
 use Rattle.cells.specs.Cells.{Cells}
-use Rattle.source_map.specs.declared.canvas.Placement.{Placement}
-use Rattle.source_map.specs.Canvases.{CanvasState}
-use Rattle.source_map.specs.Choices.{Fits}
+use Rattle.map_canvas.specs.declared.canvas.Placement.{Placement}
+use Rattle.map_canvas.specs.Canvases.{CanvasState}
+use Rattle.map_canvas.specs.Choices.{Fits}
 use Rattle.match_error.specs.declared.error.Error.{Error}
 use Rattle.match_error.specs.Errors.{error_of, is_within}
 use Rattle.patch_place.specs.declared.candidates.Candidates.{Candidates}

@@ -4,8 +4,8 @@ use Rattle.std.specs.Prelude.{◌≡◌, ◌+◌, ◌%◌, ◌^◌, ℕ, Option,
 use Rattle.std.specs.declared.alloc.AllocError.{AllocError}
 use Rattle.cells.specs.declared.place.At.{At}
 use Rattle.cells.specs.Cells.{Cells}
-use Rattle.source_map.specs.declared.canvas.Placement.{Placement}
-use Rattle.source_map.specs.Maps.{SourceMap, first_unfilled}
+use Rattle.map_canvas.specs.declared.canvas.Placement.{Placement}
+use Rattle.map_canvas.specs.Maps.{SourceMap, first_unfilled}
 use Rattle.match_error.specs.Errors.{error_of}
 use Rattle.patch_place.specs.declared.mode.Mode.{Mode}
 use Rattle.patch_place.specs.declared.mode.Mode.TheVariants.{Grid, Random, Whole, Sub}

@@ -9,7 +9,7 @@ ghost use Rattle.patch_place.specs.Counts.{AreVolumeParts, FitsCount, IsBelowSiz
 
 use crate::axis::{Span, count_of, laid_on};
 use cells::{At, Box3, Size, Sizes, Volume};
-use source_map::Placement;
+use map_canvas::Placement;
 
 /// Placements that may be taken, in an order; no list of them is kept.
 #[derive(Clone, Copy, Debug, Drop, PartialEq, Eq)]

@@ -1,8 +1,8 @@
 // The errors of candidates, as a table of which a draw picks an entry.
 ghost use Rattle.std.specs.Prelude.{◌≡◌, ◌≤◌, ◌<◌, ◌+◌, ◌*◌, ◌^◌, ℕ, ◌⊎◌, ◌++◌, [], ◌∷◌, All, IfOk, List, OnOk, Some, length, map, replicate, slice_get};
 ghost use Rattle.cells.specs.Cells.{sizes_of};
-ghost use Rattle.source_map.specs.Canvases.{StandsOver};
-ghost use Rattle.source_map.specs.Choices.{Fits};
+ghost use Rattle.map_canvas.specs.Canvases.{StandsOver};
+ghost use Rattle.map_canvas.specs.Choices.{Fits};
 ghost use Rattle.match_error.specs.declared.error.Error.{Error};
 ghost use Rattle.match_error.specs.Errors.{error_of, filled_cells};
 ghost use Rattle.patch_place.specs.Counts.{AreVolumeParts};
@@ -14,7 +14,7 @@ use crate::Candidates;
 use crate::candidates::{Spot, frames_before, part_after, parts_of, place_count, room};
 use cells::{At, Box3, Sizes, Volume};
 use match_error::{Error, error_sum_within, filled_count, overlap_error};
-use source_map::{Canvas, Placement};
+use map_canvas::{Canvas, Placement};
 use std::alloc::{AllocError, Global};
 
 // How many candidates there are for a canvas and a sample.

@@ -4,7 +4,7 @@ ghost use Rattle.cells.specs.declared.place.At.{At};
 ghost use Rattle.cells.specs.Boxes.{HasCells, HoldsBox};
 ghost use Rattle.cells.specs.Cells.{sizes_of};
 ghost use Rattle.cells.specs.SizeLists.{size_of_part};
-ghost use Rattle.source_map.specs.Choices.{Fits};
+ghost use Rattle.map_canvas.specs.Choices.{Fits};
 ghost use Rattle.patch_place.specs.Axes.{IsGridCorner, grid_corner};
 ghost use Rattle.patch_place.specs.Fitting.{HasRoom};
 ghost use Rattle.patch_place.specs.Lists.{filled_from, fit_list, part_lists};

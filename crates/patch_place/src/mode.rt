@@ -12,7 +12,7 @@ use crate::Candidates;
 use crate::axis::{count_of, grid_on, patch_corner, patch_len};
 use crate::candidates::{part_after, parts_of, placed};
 use cells::{At, Box3, Size, Sizes, Volume};
-use source_map::Placement;
+use map_canvas::Placement;
 
 /// How an output is grown from its first unfilled cell on.
 #[derive(Clone, Copy, Debug, Drop, PartialEq, Eq)]

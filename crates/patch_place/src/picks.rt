@@ -1,7 +1,7 @@
 // Picks: one of the candidates that are about as good as the best, by a draw.
 ghost use Rattle.std.specs.Prelude.{◌≡◌, Contains, IfOk, IsSome, OnErr, OnOk};
-ghost use Rattle.source_map.specs.Canvases.{StandsOver};
-ghost use Rattle.source_map.specs.Choices.{Fits};
+ghost use Rattle.map_canvas.specs.Canvases.{StandsOver};
+ghost use Rattle.map_canvas.specs.Choices.{Fits};
 ghost use Rattle.patch_place.specs.Lists.{IsWithin};
 ghost use Rattle.patch_place.specs.Picks.{AllFit, HasEntries, IsPickOn, listed_on};
 ghost use Rattle.patch_place.specs.Steps.{after_draw};
@@ -11,7 +11,7 @@ use crate::eligible::picked_of;
 use crate::errors::{count_for, entry_for, table_of};
 use crate::{Candidates, Draws};
 use cells::Volume;
-use source_map::{Canvas, Placement};
+use map_canvas::{Canvas, Placement};
 use std::alloc::{AllocError, Global};
 
 // The index of the picked candidate.

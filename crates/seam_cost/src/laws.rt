@@ -4,9 +4,9 @@ ghost use Rattle.cells.specs.declared.place.At.{At};
 ghost use Rattle.cells.specs.declared.place.Box3.{Box3};
 ghost use Rattle.cells.specs.declared.place.Size.{Size};
 ghost use Rattle.cells.specs.Boxes.{HasCells};
-ghost use Rattle.source_map.specs.declared.canvas.Placement.{Placement};
-ghost use Rattle.source_map.specs.Choices.{IsAfter};
-ghost use Rattle.source_map.specs.Maps.{SourceMap, map_at};
+ghost use Rattle.map_canvas.specs.declared.canvas.Placement.{Placement};
+ghost use Rattle.map_canvas.specs.Choices.{IsAfter};
+ghost use Rattle.map_canvas.specs.Maps.{SourceMap, map_at};
 ghost use Rattle.seam_cost.specs.Tables.{IsRight, IsRightBeside, SameBeside, WindowSums};
 ghost use Rattle.seam_cost.specs.Windows.{IsWorst};
 

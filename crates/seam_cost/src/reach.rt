@@ -4,7 +4,7 @@ ghost use Rattle.cells.specs.declared.place.Axis.TheVariants.{X};
 ghost use Rattle.cells.specs.Boxes.{HasCells};
 ghost use Rattle.cells.specs.Distances.{distance};
 ghost use Rattle.cells.specs.Places.{IsSmall, cell_count, raster_index, spot};
-ghost use Rattle.source_map.specs.Maps.{map_at};
+ghost use Rattle.map_canvas.specs.Maps.{map_at};
 ghost use Rattle.seams.specs.Costs.{most_of_pair, pair_at};
 ghost use Rattle.seam_cost.specs.Windows.{window_at};
 ghost use Rattle.box_walk.specs.Pairs.{AreCounts};
@@ -16,7 +16,7 @@ use crate::slide::sum_boxes;
 use box_walk::{Counts, has_cells};
 use cells::{Axis, GREATEST_AXIS, Size, Volume};
 use seams::{Sources, seam_of};
-use source_map::Map;
+use map_canvas::Map;
 
 // The costs of the cells of a row and the next ones in it, from a cell on. The source of each is asked
 // for once: it is the second of one pair, and the first of the next.

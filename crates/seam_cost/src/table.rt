@@ -2,8 +2,8 @@
 ghost use Rattle.std.specs.Prelude.{◌≡◌, ◌<◌, ℕ, Option, IfOk, length};
 ghost use Rattle.cells.specs.declared.place.At.{At};
 ghost use Rattle.cells.specs.Distances.{distance};
-ghost use Rattle.source_map.specs.Canvases.{StandsOver};
-ghost use Rattle.source_map.specs.Maps.{map_at};
+ghost use Rattle.map_canvas.specs.Canvases.{StandsOver};
+ghost use Rattle.map_canvas.specs.Maps.{map_at};
 ghost use Rattle.seam_cost.specs.Windows.{IsWorst, window_at};
 ghost use Rattle.seam_cost.specs.Tables.{IsGreatest, IsRight, IsRightBeside, IsWindow};
 
@@ -11,7 +11,7 @@ use crate::block::{Block, corners};
 use crate::reach::refresh;
 use box_walk::has_cells;
 use cells::{At, Box3, Size, Volume};
-use source_map::Canvas;
+use map_canvas::Canvas;
 use std::alloc::{AllocError, Global};
 use std::marker::Model;
 

@@ -10,10 +10,10 @@ use Rattle.cells.specs.Places.{minus}
 use Rattle.cells.specs.Boxes.{HoldsBox, IsInBox}
 use Rattle.cells.proofs.Raster.{has_index, index_below, place_at}
 use Rattle.cells.proofs.BoxTests.{box_has_cells, each_of_axes}
-use Rattle.source_map.specs.declared.canvas.Placement.{Placement}
-use Rattle.source_map.specs.Maps.{SourceMap, IsFilled, IsFull, map_at}
-use Rattle.source_map.specs.Choices.{box_cell, box_count, box_index, chosen}
-use Rattle.source_map.proofs.ChoiceLaws.{box_cell_of}
+use Rattle.map_canvas.specs.declared.canvas.Placement.{Placement}
+use Rattle.map_canvas.specs.Maps.{SourceMap, IsFilled, IsFull, map_at}
+use Rattle.map_canvas.specs.Choices.{box_cell, box_count, box_index, chosen}
+use Rattle.map_canvas.proofs.ChoiceLaws.{box_cell_of}
 use Rattle.seams.specs.Lawful.{AreHeld, IsLawful, LeavesHeld, is_new}
 
 -- a cell of a box has an index in it, and is the cell at that index

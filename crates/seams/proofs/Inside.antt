@@ -13,7 +13,7 @@ use Rattle.cells.proofs.BoxTests.{of_inside, on_axis_bounds}
 use Rattle.box_sums.specs.Sums.{sum_box}
 use Rattle.box_sums.proofs.Additions.{counts}
 use Rattle.box_sums.proofs.Boxes.{box_equal, box_none, box_part}
-use Rattle.source_map.specs.Maps.{SourceMap, map_at, source_at}
+use Rattle.map_canvas.specs.Maps.{SourceMap, map_at, source_at}
 use Rattle.box_walk.specs.Pairs.{cell_in, in_box}
 use Rattle.box_walk.proofs.Cells.{cell_inside, cell_of}
 use Rattle.seams.specs.Costs.{map_within, pairs_at, window_of}

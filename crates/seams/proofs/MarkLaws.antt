@@ -4,10 +4,10 @@ use Rattle.std.specs.Prelude.{Some}
 use Rattle.cells.specs.Boxes.{HasCells}
 use Rattle.cells.specs.Places.{plus}
 use Rattle.cells.proofs.Raster.{place_at}
-use Rattle.source_map.specs.declared.canvas.Placement.{Placement}
-use Rattle.source_map.specs.Choices.{box_cell, box_count, box_index, chosen}
-use Rattle.source_map.specs.Maps.{SourceMap, IsFilled}
-use Rattle.source_map.proofs.ChoiceLaws.{box_index_of}
+use Rattle.map_canvas.specs.declared.canvas.Placement.{Placement}
+use Rattle.map_canvas.specs.Choices.{box_cell, box_count, box_index, chosen}
+use Rattle.map_canvas.specs.Maps.{SourceMap, IsFilled}
+use Rattle.map_canvas.proofs.ChoiceLaws.{box_index_of}
 use Rattle.box_walk.specs.Pairs.{cell_in}
 use Rattle.box_walk.specs.Walks.{IsAtIndex}
 use Rattle.box_walk.proofs.Indices.{place_is}

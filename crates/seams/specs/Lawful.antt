@@ -5,10 +5,10 @@ use Rattle.std.specs.Prelude.{◌≡◌, ◌≤◌, ◌+◌, ◌⊎◌, ℕ, Boo
 use Rattle.cells.specs.declared.place.At.{At}
 use Rattle.cells.specs.Boxes.{IsInBox}
 use Rattle.cells.specs.Places.{cell_count}
-use Rattle.source_map.specs.declared.canvas.Placement.{Placement}
-use Rattle.source_map.specs.Maps.{SourceMap, IsFilled, map_at}
-use Rattle.source_map.specs.Choices.{after_at, box_index, chosen}
-use Rattle.source_map.specs.Canvases.{IsKept}
+use Rattle.map_canvas.specs.declared.canvas.Placement.{Placement}
+use Rattle.map_canvas.specs.Maps.{SourceMap, IsFilled, map_at}
+use Rattle.map_canvas.specs.Choices.{after_at, box_index, chosen}
+use Rattle.map_canvas.specs.Canvases.{IsKept}
 use Rattle.seams.specs.Costs.{total_of, window_of}
 
 -- what a choice says of a cell: whether it is new

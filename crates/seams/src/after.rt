@@ -1,15 +1,15 @@
 // The window sum of a placement's box after a choice, from the map before it.
 ghost use Rattle.std.specs.Prelude.{◌≡◌, IfSome, false, slice_index_or};
 ghost use Rattle.cells.specs.Distances.{distance};
-ghost use Rattle.source_map.specs.Choices.{Fits, after_at};
-ghost use Rattle.source_map.specs.Maps.{IsSource};
+ghost use Rattle.map_canvas.specs.Choices.{Fits, after_at};
+ghost use Rattle.map_canvas.specs.Maps.{IsSource};
 ghost use Rattle.seams.specs.Costs.{IsAsked, map_within};
 ghost use Rattle.seams.specs.Lawful.{window_after};
 
 use crate::sources::Sources;
 use crate::sums::pairs_of_box;
 use cells::{At, Volume};
-use source_map::{Canvas, Map, Placement};
+use map_canvas::{Canvas, Map, Placement};
 
 // What a choice says of the cell at an index: past its end it says old.
 fn is_new(choice: &[bool], i: usize) -> bool

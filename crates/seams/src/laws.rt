@@ -1,11 +1,11 @@
 // What the definitions mean.
 ghost use Rattle.std.specs.Prelude.{◌≡◌, ℕ, Bool, false, List};
 ghost use Rattle.cells.specs.Boxes.{HoldsBox};
-ghost use Rattle.source_map.specs.Maps.{IsFull, SourceMap};
+ghost use Rattle.map_canvas.specs.Maps.{IsFull, SourceMap};
 ghost use Rattle.seams.specs.Lawful.{AreHeld, ChangesAsWindow, IsLawful, LeavesHeld, is_new};
 
 use cells::At;
-use source_map::Placement;
+use map_canvas::Placement;
 
 /// A law, with nothing to run: two lawful choices of a placement change the total of a map as they change
 /// the window sum of the placement's box, where the output holds the box.

@@ -2,14 +2,14 @@
 ghost use Rattle.std.specs.Prelude.{◌≡◌, ◌≤◌, ◌↔◌, ◌+ℤ◌, IfSome, IsTrue, MatchOption, pos, length, option_copied, true};
 ghost use Rattle.cells.specs.Boxes.{HasCells};
 ghost use Rattle.cells.specs.Places.{IsInside, IsSmall, cell_count};
-ghost use Rattle.source_map.specs.Maps.{IsFilled};
+ghost use Rattle.map_canvas.specs.Maps.{IsFilled};
 ghost use Rattle.box_walk.specs.Pairs.{cell_in};
 ghost use Rattle.seams.specs.Intersections.{IsOn};
 ghost use Rattle.seams.specs.Lawful.{AreMarks};
 
 use box_walk::Counts;
 use cells::{At, Box3, GREATEST_AXIS, Size};
-use source_map::{Canvas, Placement};
+use map_canvas::{Canvas, Placement};
 
 // Whether a size has so many cells.
 fn has_count(size: Size, n: usize) -> bool

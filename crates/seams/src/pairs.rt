@@ -1,11 +1,11 @@
 // The cost of two neighbours.
 ghost use Rattle.std.specs.Prelude.{◌≡◌, ◌≤◌, IfSome};
 ghost use Rattle.cells.specs.Distances.{distance};
-ghost use Rattle.source_map.specs.Maps.{IsSource, map_at};
+ghost use Rattle.map_canvas.specs.Maps.{IsSource, map_at};
 ghost use Rattle.seams.specs.Costs.{most_of_pair, pair_at, seam, seam_of};
 
 use cells::{At, Axis, Volume, cell_distance};
-use source_map::Canvas;
+use map_canvas::Canvas;
 
 // The cost of a cell of source a and the next one along an axis, of source b.
 #[tactic(auto, using(crate::proofs::Near::step_fits))]

@@ -1,11 +1,11 @@
 // What says which source the cell at a place has.
 ghost use Rattle.std.specs.Prelude.{◌≡◌, Option, IfSome};
 ghost use Rattle.cells.specs.declared.place.At.{At};
-ghost use Rattle.source_map.specs.Maps.{IsSource, map_at};
+ghost use Rattle.map_canvas.specs.Maps.{IsSource, map_at};
 ghost use Rattle.seams.specs.Costs.{IsAsked, map_within};
 
 use cells::{At, Box3};
-use source_map::Map;
+use map_canvas::Map;
 
 /// What says which source the cell at a place has.
 pub trait Sources {

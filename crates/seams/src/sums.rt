@@ -2,7 +2,7 @@
 ghost use Rattle.std.specs.Prelude.{◌≡◌, ◌<◌, ◌≤◌, IfSome};
 ghost use Rattle.cells.specs.Boxes.{HoldsBox};
 ghost use Rattle.cells.specs.Distances.{distance};
-ghost use Rattle.source_map.specs.Maps.{IsSource, map_at};
+ghost use Rattle.map_canvas.specs.Maps.{IsSource, map_at};
 ghost use Rattle.box_walk.specs.Pairs.{AreCounts, cell_in};
 ghost use Rattle.box_walk.specs.Raster.{largest};
 ghost use Rattle.seams.specs.Costs.{most_of_cell, most_of_frame, most_of_pair, most_of_row, pair_at, pairs_at, pairs_of_box, pairs_of_frame, pairs_of_row, total_of, window_of};
@@ -12,7 +12,7 @@ use crate::pairs::seam_of;
 use crate::sources::{Sources, Within};
 use box_walk::{Counts, has_cells};
 use cells::{At, Axis, Box3, Volume};
-use source_map::Canvas;
+use map_canvas::Canvas;
 
 // The cost of a cell of source `a` and the next one along an axis.
 #[tactic(auto, using(crate::proofs::Near::next_asked))]

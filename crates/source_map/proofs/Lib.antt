@@ -1,14 +1,2 @@
-pub mod Fronts
-pub mod ChoiceLaws
-pub mod Filling
-pub mod AfterLaws
-pub mod Pictures
 pub mod MapWriting
 pub mod Writable
-pub mod Marks
-pub mod Keeping
-pub mod Rendering
-pub mod Afters
-pub mod Unfilled
-pub mod Runs
-pub mod RunSteps

@@ -8,9 +8,9 @@ use Rattle.cells.specs.declared.place.At.{At}
 use Rattle.cells.specs.declared.place.Size.{Size}
 use Rattle.cells.specs.Places.{HasAxes, IsInside, index_in, place_of}
 use Rattle.cells.proofs.Raster.{OnAxis, index_parts, has_index, place_at}
-use Rattle.source_map.specs.Maps.{SourceMap, IsMap, map_at}
+use Rattle.map_canvas.specs.Maps.{SourceMap, IsMap, map_at}
 use Rattle.source_map.specs.MapFiles.{IsShort, IsShortCoordinate, IsWritable}
-use Rattle.source_map.proofs.AfterLaws.{source_of_place}
+use Rattle.map_canvas.proofs.AfterLaws.{source_of_place}
 
 short_inside : (size : Size) → HasAxes size → (p : At) → IsInside size p → IsShort p
 short_inside size axes p inside =

@@ -1,5 +1,1 @@
-pub mod Maps
-pub mod Runs
-pub mod Choices
-pub mod Canvases
 pub mod MapFiles

@@ -7,7 +7,7 @@ use Rattle.cells.specs.declared.place.At.{At}
 use Rattle.cells.specs.declared.place.Size.{Size}
 use Rattle.source_map.specs.declared.map_file.TheConstants.{MOST_MAP_CELLS}
 use Rattle.cells.specs.Places.{IsInside, HasAxes, cell_count}
-use Rattle.source_map.specs.Maps.{SourceMap, IsFull, map_at}
+use Rattle.map_canvas.specs.Maps.{SourceMap, IsFull, map_at}
 
 -- a size: w, h, f, four bytes each, the most significant first
 abbrev pub size_field : Size → List ℕ

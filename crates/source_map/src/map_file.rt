@@ -6,9 +6,9 @@ ghost use Rattle.shelf_core.specs.Written.{HoldsText, HoldsPart};
 ghost use Rattle.file_bytes.specs.Writing.{Puts};
 ghost use Rattle.source_map.specs.MapFiles.{IsShort, IsShortCoordinate, IsWritable, cell_map_form, cell_map_head, coordinate_field, size_field, source_field};
 
-use crate::Map;
 use cells::{At, Size};
 use file_bytes::FileWriter;
+use map_canvas::Map;
 use shelf_core::{Shelf, WriteFault};
 
 /// The most cells of a map in a file.

@@ -1,13 +1,13 @@
 // Worked examples of cut_graph: the nodes and pipes of networks over a row, and their values.
 ghost use Rattle.std.specs.Prelude.{option_copied};
-ghost use Rattle.source_map.specs.Canvases.{StandsOver};
+ghost use Rattle.map_canvas.specs.Canvases.{StandsOver};
 
 use crate::rows::{assert_fits, greys, row_at, row_of};
 use cells::Volume;
 use cut_graph::build_held;
+use map_canvas::{Canvas, Placement};
 use max_flow::solve;
 use seams::are_marks;
-use source_map::{Canvas, Placement};
 use std::alloc::{AllocError, Global};
 use std::process::Abort;
 use std::test::Fail;

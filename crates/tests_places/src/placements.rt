@@ -1,13 +1,13 @@
 // Worked examples of graph_place: choices and flows over a row, and over boxes of two and three axes whose
 // flows are forced.
-ghost use Rattle.source_map.specs.Canvases.{StandsOver};
+ghost use Rattle.map_canvas.specs.Canvases.{StandsOver};
 
 use crate::rows::{assert_fits, canvas_over, greys, put, row_at, row_of};
 use cells::{At, Box3, Size, Volume};
 use cut_check::Flow;
 use graph_place::place_held;
+use map_canvas::{Canvas, Placement};
 use seams::{are_marks, window};
-use source_map::{Canvas, Placement};
 use std::alloc::{AllocError, Global};
 use std::process::Abort;
 use std::test::Fail;

@@ -2,11 +2,11 @@
 ghost use Rattle.std.specs.Prelude.{◌≤◌, IfOk, IsTrue};
 ghost use Rattle.cells.specs.Boxes.{AxisHolds, HoldsBox};
 ghost use Rattle.cells.specs.Places.{IsSmall};
-ghost use Rattle.source_map.specs.Canvases.{StandsOver};
-ghost use Rattle.source_map.specs.Choices.{Fits};
+ghost use Rattle.map_canvas.specs.Canvases.{StandsOver};
+ghost use Rattle.map_canvas.specs.Choices.{Fits};
 
 use cells::{At, Box3, Size, Volume};
-use source_map::{Canvas, Placement};
+use map_canvas::{Canvas, Placement};
 use std::alloc::{AllocError, Global};
 use std::process::Abort;
 

@@ -7,7 +7,7 @@ use Rattle.shelf_core.specs.Files.{Files, content_of}
 use Rattle.shelf_core.specs.Written.{written}
 use Rattle.shelf_core.proofs.FileLaws.{content_inserted, content_beside, get_beside}
 use Rattle.source_map.specs.MapFiles.{cell_map_form}
-use Rattle.source_map.proofs.Pictures.{full_picture}
+use Rattle.map_canvas.proofs.Pictures.{full_picture}
 use Rattle.job_words.specs.declared.grow.GrowJob.{GrowJob}
 use Rattle.job_words.specs.Names.{name_list}
 use Rattle.job_words.specs.GrowWords.{IsGrowJob}

@@ -7,8 +7,8 @@ use Rattle.shelf_core.specs.Files.{Files, ShelfState, OnlyReads, Changes, conten
 use Rattle.shelf_core.proofs.FileLaws.{told_both, told_weaker}
 use Rattle.shelf_core.specs.declared.fault.What.TheVariants.{Output}
 use Rattle.shelf_core.specs.declared.fault.ReadError.{ReadError}
-use Rattle.source_map.specs.Maps.{map_at}
-use Rattle.source_map.specs.Canvases.{IsCanvas, StandsOver}
+use Rattle.map_canvas.specs.Maps.{map_at}
+use Rattle.map_canvas.specs.Canvases.{IsCanvas, StandsOver}
 use Rattle.seams.specs.Costs.{total_of}
 use Rattle.job_words.specs.declared.grow.GrowJob.{GrowJob}
 use Rattle.synth_report.specs.declared.fault.Fault.{Fault}

@@ -12,8 +12,8 @@ use Rattle.cells.specs.Cells.{Cells, IsVolume, HasCell, bytes_of, index_of}
 use Rattle.cells.proofs.Raster.{has_index, index_below, place_at}
 use Rattle.cells.proofs.CellLaws.{cell_by_index, cell_has_index}
 use Rattle.cells.proofs.PartLaws.{index_from_below}
-use Rattle.source_map.specs.Maps.{SourceMap, IsMap, IsFull, map_at, picture_of, sample_cell}
-use Rattle.source_map.proofs.AfterLaws.{source_of_place}
+use Rattle.map_canvas.specs.Maps.{SourceMap, IsMap, IsFull, map_at, picture_of, sample_cell}
+use Rattle.map_canvas.proofs.AfterLaws.{source_of_place}
 
 module _ (P : ℕ → Type 0) where
   -- what holds of each byte of each cell holds of all bytes, and the reverse

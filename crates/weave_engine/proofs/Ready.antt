@@ -4,10 +4,10 @@ use Rattle.std.specs.Prelude.{All}
 use Rattle.cells.specs.declared.place.Size.{Size}
 use Rattle.cells.specs.Cells.{Cells, IsVolume, bytes_of}
 use Rattle.cells.proofs.CellLaws.{cell_is_inside}
-use Rattle.source_map.specs.Maps.{IsFull, SourceMap}
-use Rattle.source_map.specs.Canvases.{CanvasState, IsCanvas, StandsOver}
+use Rattle.map_canvas.specs.Maps.{IsFull, SourceMap}
+use Rattle.map_canvas.specs.Canvases.{CanvasState, IsCanvas, StandsOver}
 use Rattle.source_map.specs.MapFiles.{IsWritable}
-use Rattle.source_map.proofs.Pictures.{full_picture}
+use Rattle.map_canvas.proofs.Pictures.{full_picture}
 use Rattle.weave_engine.specs.declared.growth.Growth.{Growth}
 use Rattle.weave_engine.specs.declared.sample.Form.{Form}
 use Rattle.weave_engine.specs.declared.sample.Form.TheVariants.{Picture}

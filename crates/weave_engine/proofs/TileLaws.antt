@@ -11,7 +11,7 @@ use Rattle.cells.specs.Boxes.{AxisHolds}
 use Rattle.cells.specs.Cells.{Cells}
 use Rattle.cells.proofs.PartBoxes.{box_held}
 use Rattle.cells.proofs.Raster.{IsAt, OnAxis, index_parts, index_of_spot}
-use Rattle.source_map.specs.Choices.{Fits, box_index, new_source}
+use Rattle.map_canvas.specs.Choices.{Fits, box_index, new_source}
 use Rattle.weave_engine.specs.Tiles.{counted_from, wrapped, tile_source, tile_at, tile_corner, tile_length}
 
 -- one axis of the tile that a coordinate is in

@@ -15,12 +15,12 @@ use Rattle.cells.specs.Cells.{Cells, IsVolume, IsOnePart}
 use Rattle.cells.proofs.PartBoxes.{held_box}
 use Rattle.cells.proofs.Raster.{index_below, has_index, place_at}
 use Rattle.cells.proofs.BoxLaws.{box_small}
-use Rattle.source_map.specs.declared.canvas.Placement.{Placement}
-use Rattle.source_map.specs.Maps.{SourceMap, IsFilled, IsFull, IsMap, first_unfilled, map_at, source_at}
-use Rattle.source_map.specs.Canvases.{CanvasState, IsCanvas, StandsOver}
-use Rattle.source_map.specs.Choices.{Fits, IsAfter, box_count, box_index, chosen, new_source}
-use Rattle.source_map.proofs.Fronts.{front_in, front_more, front_passes}
-use Rattle.source_map.proofs.AfterLaws.{front_stays}
+use Rattle.map_canvas.specs.declared.canvas.Placement.{Placement}
+use Rattle.map_canvas.specs.Maps.{SourceMap, IsFilled, IsFull, IsMap, first_unfilled, map_at, source_at}
+use Rattle.map_canvas.specs.Canvases.{CanvasState, IsCanvas, StandsOver}
+use Rattle.map_canvas.specs.Choices.{Fits, IsAfter, box_count, box_index, chosen, new_source}
+use Rattle.map_canvas.proofs.Fronts.{front_in, front_more, front_passes}
+use Rattle.map_canvas.proofs.AfterLaws.{front_stays}
 use Rattle.weave_engine.specs.Tiles.{FollowsTiles, TiledSoFar, cells_left, tile_at, tile_source}
 use Rattle.weave_engine.proofs.TileLaws.{tile_fits, tile_holds, tile_new_source}
 

@@ -6,8 +6,8 @@ use Rattle.cells.specs.Places.{cell_count}
 use Rattle.cells.specs.Distances.{distance}
 use Rattle.shelf_core.specs.Files.{Files, content_of}
 use Rattle.shelf_core.specs.declared.fault.What.TheVariants.{Output}
-use Rattle.source_map.specs.Maps.{IsFull, map_at}
-use Rattle.source_map.specs.Canvases.{IsCanvas, StandsOver}
+use Rattle.map_canvas.specs.Maps.{IsFull, map_at}
+use Rattle.map_canvas.specs.Canvases.{IsCanvas, StandsOver}
 use Rattle.source_map.specs.MapFiles.{cell_map_form}
 use Rattle.seams.specs.Costs.{total_of}
 use Rattle.job_words.specs.declared.grow.GrowJob.{GrowJob}

@@ -5,7 +5,7 @@ use Rattle.std.specs.FinMap as fin
 use Rattle.cells.specs.declared.place.At.{At}
 use Rattle.cells.specs.Cells.{Cells, IsVolume, cell_at}
 use Rattle.shelf_core.specs.Files.{Files, ShelfState, Changes, content_of}
-use Rattle.source_map.specs.Maps.{SourceMap, IsFull, IsMap, IsOver, map_at, picture_of}
+use Rattle.map_canvas.specs.Maps.{SourceMap, IsFull, IsMap, IsOver, map_at, picture_of}
 use Rattle.source_map.specs.MapFiles.{cell_map_form}
 use Rattle.job_words.specs.declared.grow.GrowJob.{GrowJob}
 use Rattle.job_words.specs.declared.job.Job.TheVariants.{Grow}

@@ -5,10 +5,10 @@ use Rattle.std.specs.List.{position_or_len}
 use Rattle.cells.specs.declared.place.At.{At}
 use Rattle.cells.specs.declared.place.Size.{Size}
 use Rattle.cells.specs.Places.{spot}
-use Rattle.source_map.specs.declared.canvas.Placement.{Placement}
+use Rattle.map_canvas.specs.declared.canvas.Placement.{Placement}
 use Rattle.cells.specs.Cells.{Cells}
-use Rattle.source_map.specs.Canvases.{CanvasState, StandsOver}
-use Rattle.source_map.specs.Maps.{SourceMap, IsFull, map_at}
+use Rattle.map_canvas.specs.Canvases.{CanvasState, StandsOver}
+use Rattle.map_canvas.specs.Maps.{SourceMap, IsFull, map_at}
 
 -- a coordinate counted anew in each tile
 abbrev pub wrapped : ℕ → ℤ → ℤ

@@ -13,7 +13,7 @@ use job_words::GrowJob;
 use run_outcome::{Then, read_fault, write_run};
 use seams::total;
 use shelf_core::{Shelf, Sink, What};
-use source_map::Canvas;
+use map_canvas::Canvas;
 use std::alloc::Global;
 use synth_report::{Fault, FileOf, Summary};
 

@@ -3,12 +3,12 @@ ghost use Rattle.std.specs.Prelude.{◌≡◌, ◌<◌, ◌≤◌, ◌<ℤ◌, �
 ghost use Rattle.cells.specs.declared.bounds.TheConstants.{GREATEST_AXIS};
 ghost use Rattle.cells.specs.Places.{HasAxes, IsInside, IsSmall, cell_count};
 ghost use Rattle.cells.specs.Cells.{IsVolume, IsOnePart};
-ghost use Rattle.source_map.specs.Maps.{first_unfilled};
-ghost use Rattle.source_map.specs.Canvases.{IsCanvas, StandsOver};
+ghost use Rattle.map_canvas.specs.Maps.{first_unfilled};
+ghost use Rattle.map_canvas.specs.Canvases.{IsCanvas, StandsOver};
 ghost use Rattle.weave_engine.specs.Tiles.{IsTiled, TiledSoFar, cells_left, tile_at, tile_corner, tile_count, tile_length, tiles_along};
 
 use cells::{At, Box3, Size, Volume};
-use source_map::{Canvas, Placement};
+use map_canvas::{Canvas, Placement};
 use std::alloc::{AllocError, Global};
 
 // The corner of the tile that a coordinate is in.

@@ -2,8 +2,8 @@ use Rattle.std.proofs.Common.{◌≡◌, ◌∙◌, List, refl, sym, ap, subst, 
 use Rattle.std.proofs.lemmas.Int.{ints}
 use Rattle.std.specs.Prelude.{pos}
 use mathlib.Core.Bool.{false≢true}
-use Rattle.source_map.specs.Choices.{box_cell}
-use Rattle.source_map.specs.Maps.{IsFilled}
+use Rattle.map_canvas.specs.Choices.{box_cell}
+use Rattle.map_canvas.specs.Maps.{IsFilled}
 use Rattle.box_walk.specs.Pairs.{at_index}
 use Rattle.box_walk.proofs.Indices.{at_index_is}
 use Rattle.box_walk.proofs.PairNumbers.{walk_in}

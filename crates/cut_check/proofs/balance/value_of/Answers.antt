@@ -6,7 +6,7 @@ use Rattle.box_sums.specs.Sums.{signed_sum_to}
 use Rattle.box_sums.proofs.Additions.{integers}
 use Rattle.box_sums.proofs.Axes.{sum_more}
 use Rattle.box_sums.proofs.Boxes.{box_counts}
-use Rattle.source_map.specs.Choices.{box_cell}
+use Rattle.map_canvas.specs.Choices.{box_cell}
 use Rattle.box_walk.specs.Pairs.{at_index}
 use Rattle.box_walk.proofs.Indices.{counts_at}
 use Rattle.box_walk.proofs.PairNumbers.{walk_in}

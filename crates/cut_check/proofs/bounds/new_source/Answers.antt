@@ -2,7 +2,7 @@ use Rattle.std.proofs.Common.{◌∙◌, sym, subst, ap, arith}
 use Rattle.cells.specs.Boxes.{HasCells}
 use Rattle.cells.specs.Places.{SumFits, plus}
 use Rattle.cells.proofs.PartBoxes.{held_small}
-use Rattle.source_map.specs.Maps.{IsSource}
+use Rattle.map_canvas.specs.Maps.{IsSource}
 use Rattle.cut_check.proofs.Cells.{new_source_is, new_source_near, source_sum_fits}
 use Rattle.cut_check.proofs.bounds.new_source.Goals as goal
 

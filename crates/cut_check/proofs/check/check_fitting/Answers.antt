@@ -1,6 +1,6 @@
 use Rattle.std.proofs.Common.{refl, subst, inl, inr, []}
 use Rattle.cells.specs.Places.{cell_count}
-use Rattle.source_map.specs.Maps.{SourceMap}
+use Rattle.map_canvas.specs.Maps.{SourceMap}
 use Rattle.cut_check.specs.Records.{Each, FillsUnfilled, IsFirstWithout}
 use Rattle.cut_check.proofs.Fitting.{fits_of}
 use Rattle.cut_check.proofs.check.check_fitting.Goals as goal

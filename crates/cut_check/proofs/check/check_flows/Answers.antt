@@ -3,7 +3,7 @@ use Rattle.std.proofs.lemmas.Int.{ints}
 use Rattle.std.specs.Prelude.{pos}
 use mathlib.Core.Bool.{false≢true}
 use Rattle.cells.specs.Distances.{distance}
-use Rattle.source_map.specs.Maps.{SourceMap}
+use Rattle.map_canvas.specs.Maps.{SourceMap}
 use Rattle.seams.specs.Lawful.{window_after}
 use Rattle.cut_check.specs.Records.{BoundsAll, IsFirstUnbounded, Setting, setting}
 use Rattle.cut_check.proofs.Parts.{part_at, parts_are}

@@ -2,7 +2,7 @@ use Rattle.std.proofs.Common.{◌≡◌, ◌∙◌, List, Bool, sym, subst, arit
 use Rattle.std.specs.Prelude.{false, slice_index_or}
 use mathlib.Core.Bool.{false≢true}
 use Rattle.cells.specs.declared.place.At.{At}
-use Rattle.source_map.specs.Choices.{box_cell}
+use Rattle.map_canvas.specs.Choices.{box_cell}
 use Rattle.seams.specs.Lawful.{StaysOld}
 use Rattle.cut_check.proofs.Cells.{counts_in, index_at}
 use Rattle.cut_check.proofs.rules.first_new.Goals as goal

@@ -1,8 +1,8 @@
 use Rattle.std.proofs.Common.{◌≡◌, List, Bool, subst, below_more}
 use Rattle.std.specs.Prelude.{None, true, false, slice_index_or}
 use Rattle.cells.specs.declared.place.At.{At}
-use Rattle.source_map.specs.Choices.{box_cell}
-use Rattle.source_map.specs.Maps.{map_at}
+use Rattle.map_canvas.specs.Choices.{box_cell}
+use Rattle.map_canvas.specs.Maps.{map_at}
 use Rattle.cut_check.proofs.rules.first_unfilled.Goals as goal
 
 pub loop-i-preserved : goal.loop-i-preserved

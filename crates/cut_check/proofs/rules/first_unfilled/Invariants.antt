@@ -1,8 +1,8 @@
 use Rattle.std.proofs.Common.{◌≡◌, ℕ, ◌<◌}
 use Rattle.cut_check.specs.Steps.{IsAt}
 use Rattle.std.specs.Prelude.{None, true, slice_index_or, false}
-use Rattle.source_map.specs.Choices.{box_cell}
-use Rattle.source_map.specs.Maps.{map_at}
+use Rattle.map_canvas.specs.Choices.{box_cell}
+use Rattle.map_canvas.specs.Maps.{map_at}
 use Rattle.cut_check.proofs.rules.first_unfilled.Given as goal
 
 abbrev pub invariant-loop-i : goal.invariant-loop-i

@@ -1,7 +1,7 @@
 use Rattle.std.proofs.Common.{◌∙◌, ◌/◌, ◌≤◌, ap, subst, sym}
 use Rattle.std.specs.Prelude.{sum}
 use Rattle.cells.specs.Cells.{row_at}
-use Rattle.source_map.specs.Canvases.{filled_marks}
+use Rattle.map_canvas.specs.Canvases.{filled_marks}
 use Rattle.match_error.proofs.Filled.{row_at_most, row_marks}
 use Rattle.match_error.proofs.counts.row_count.Goals as goal
 

@@ -1,7 +1,7 @@
 use Rattle.std.proofs.Common.{◌≡◌, ◌<◌, ap, arith, subst, sym}
 use Rattle.std.specs.Prelude.{IfNone}
 use Rattle.box_sums.specs.Sums.{sum_to}
-use Rattle.source_map.proofs.Filling.{fits_small}
+use Rattle.map_canvas.proofs.Filling.{fits_small}
 use Rattle.match_error.specs.Errors.{error_sum, frame_error}
 use Rattle.match_error.proofs.Bounds.{error_small, passed}
 use Rattle.match_error.proofs.overlap.error_sum_within.Goals as goal

@@ -1,7 +1,7 @@
 use Rattle.std.proofs.Common.{◌≡◌, ◌≤◌, ◌*◌, ◌∙◌, ap, sym, subst, arith}
 use Rattle.cells.specs.Cells.{Cells, HasRun, row_at}
 use Rattle.lane_kernels.specs.Sums.{masked_sum_of_squared_differences}
-use Rattle.source_map.specs.Canvases.{filled_marks}
+use Rattle.map_canvas.specs.Canvases.{filled_marks}
 use Rattle.match_error.proofs.Overlaps.{in_sample, row_is_error, row_short}
 use Rattle.match_error.proofs.overlap.row_sum.Goals as goal
 

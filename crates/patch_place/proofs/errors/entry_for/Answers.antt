@@ -1,5 +1,5 @@
 use Rattle.std.proofs.Common.{◌≡◌, Some, slice_get}
-use Rattle.source_map.specs.Choices.{Fits}
+use Rattle.map_canvas.specs.Choices.{Fits}
 use Rattle.patch_place.specs.Picks.{listed_on}
 use Rattle.patch_place.proofs.Counting.{All-slice_get}
 use Rattle.patch_place.proofs.errors.entry_for.Goals as goal

@@ -2,7 +2,7 @@ use Rattle.std.proofs.Common.{◌+◌, ◌/◌, ◌%◌, ◌∙◌, sym, subst, 
 use mathlib.Core.Bool.{false≢true}
 use Rattle.cells.specs.Boxes.{HasCells}
 use Rattle.cells.specs.Distances.{distance}
-use Rattle.source_map.specs.Maps.{map_at}
+use Rattle.map_canvas.specs.Maps.{map_at}
 use Rattle.seam_cost.proofs.Reaches.{axis_none}
 use Rattle.seam_cost.proofs.reach.add_axis.Goals as goal
 

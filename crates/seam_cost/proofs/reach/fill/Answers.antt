@@ -2,7 +2,7 @@ use Rattle.std.proofs.Common.{◌+◌, ◌-◌, ◌*◌, ◌/◌, ◌%◌, ◌�
 use Rattle.std.proofs.Math.Nat.{mul-le-mul_left}
 use Rattle.cells.specs.Distances.{distance}
 use Rattle.cells.specs.Places.{spot}
-use Rattle.source_map.specs.Maps.{map_at}
+use Rattle.map_canvas.specs.Maps.{map_at}
 use Rattle.seams.specs.Costs.{most_of_pair, pair_at}
 use Rattle.seam_cost.proofs.Rows.{rows_at_most, rows_filled}
 use Rattle.seam_cost.proofs.reach.fill.Goals as goal

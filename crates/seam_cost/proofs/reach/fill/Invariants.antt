@@ -1,7 +1,7 @@
 use Rattle.std.proofs.Common.{◌≡◌, ◌≤◌, ◌<◌, ℕ, ◌+◌, ◌*◌, ◌/◌, ◌%◌, get_or}
 use Rattle.cells.specs.Distances.{distance}
 use Rattle.cells.specs.Places.{spot}
-use Rattle.source_map.specs.Maps.{map_at}
+use Rattle.map_canvas.specs.Maps.{map_at}
 use Rattle.seams.specs.Costs.{most_of_pair, pair_at}
 use Rattle.seam_cost.proofs.reach.fill.Given as goal
 

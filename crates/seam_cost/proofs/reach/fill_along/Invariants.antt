@@ -3,7 +3,7 @@ use Rattle.std.specs.Prelude.{IfSome}
 use Rattle.cells.specs.declared.place.Axis.TheVariants.{X}
 use Rattle.cells.specs.Distances.{distance}
 use Rattle.cells.specs.Places.{spot}
-use Rattle.source_map.specs.Maps.{IsSource, map_at}
+use Rattle.map_canvas.specs.Maps.{IsSource, map_at}
 use Rattle.seams.specs.Costs.{most_of_pair, pair_at}
 use Rattle.seam_cost.proofs.reach.fill_along.Given as goal
 

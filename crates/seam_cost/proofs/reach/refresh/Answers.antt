@@ -1,7 +1,7 @@
 use Rattle.std.proofs.Common.{◌≡◌, ◌<◌, ◌+◌, ◌-◌, ◌*◌, ◌/◌, ◌%◌, ℕ, get_or, ap, sym, ◌∙◌, arith}
 use Rattle.cells.specs.declared.place.Axis.TheVariants.{X, Y, F}
 use Rattle.cells.specs.Distances.{distance}
-use Rattle.source_map.specs.Maps.{map_at}
+use Rattle.map_canvas.specs.Maps.{map_at}
 use Rattle.seam_cost.specs.Slides.{axis_sum, row_start}
 use Rattle.seam_cost.specs.Tables.{corners}
 use Rattle.seam_cost.proofs.Reaches.{cell_of_row, index_of_row, row_of}

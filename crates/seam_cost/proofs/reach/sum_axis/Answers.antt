@@ -1,6 +1,6 @@
 use Rattle.std.proofs.Common.{ap, ◌∙◌, subst}
 use Rattle.cells.specs.Distances.{distance}
-use Rattle.source_map.specs.Maps.{map_at}
+use Rattle.map_canvas.specs.Maps.{map_at}
 use Rattle.seam_cost.specs.Slides.{AreCosts, block_size, box_run}
 use Rattle.seam_cost.proofs.Reaches.{axis_of_runs}
 use Rattle.seam_cost.proofs.reach.sum_axis.Goals as goal

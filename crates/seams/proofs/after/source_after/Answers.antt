@@ -1,8 +1,8 @@
 use Rattle.std.proofs.Common.{◌≡◌, refl, sym, subst}
 use Rattle.std.specs.Prelude.{Some, IsSome}
 use Rattle.cells.specs.Places.{index_in}
-use Rattle.source_map.specs.Maps.{IsSource}
-use Rattle.source_map.proofs.Filling.{fits_small, step_source, step_sum}
+use Rattle.map_canvas.specs.Maps.{IsSource}
+use Rattle.map_canvas.proofs.Filling.{fits_small, step_source, step_sum}
 use Rattle.seams.proofs.Near.{asked_apart, in_largest}
 use Rattle.seams.proofs.after.source_after.Goals as goal
 

@@ -1,6 +1,6 @@
 use Rattle.std.proofs.Common.{◌∙◌, ap}
 use Rattle.cells.specs.Distances.{distance}
-use Rattle.source_map.specs.Maps.{SourceMap}
+use Rattle.map_canvas.specs.Maps.{SourceMap}
 use Rattle.seams.specs.Lawful.{window_after}
 use Rattle.seams.proofs.after.window_after.Goals as goal
 

@@ -1,7 +1,7 @@
 use Rattle.std.proofs.Common.{◌≡◌, ◌∙◌, get_or, sym, subst, arith, below_more, true, false}
 use mathlib.Core.Bool.{false≢true}
-use Rattle.source_map.specs.Choices.{box_cell}
-use Rattle.source_map.specs.Maps.{IsFilled}
+use Rattle.map_canvas.specs.Choices.{box_cell}
+use Rattle.map_canvas.specs.Maps.{IsFilled}
 use Rattle.seams.proofs.MarkLaws.{cell_at, marked_filled, marks_if}
 use Rattle.seams.proofs.marks.are_all_marks.Goals as goal
 

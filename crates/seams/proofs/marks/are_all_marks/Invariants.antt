@@ -1,6 +1,6 @@
 use Rattle.std.proofs.Common.{◌≡◌, ℕ, ◌<◌, get_or, true, false}
-use Rattle.source_map.specs.Choices.{box_cell}
-use Rattle.source_map.specs.Maps.{IsFilled}
+use Rattle.map_canvas.specs.Choices.{box_cell}
+use Rattle.map_canvas.specs.Maps.{IsFilled}
 use Rattle.box_walk.specs.Walks.{IsAtIndex}
 use Rattle.seams.proofs.marks.are_all_marks.Given as goal
 

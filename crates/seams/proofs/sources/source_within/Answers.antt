@@ -1,6 +1,6 @@
 use Rattle.std.proofs.Common.{sym, ◌∙◌}
 use mathlib.Core.Bool.{false≢true}
-use Rattle.source_map.specs.Maps.{map_at}
+use Rattle.map_canvas.specs.Maps.{map_at}
 use Rattle.seams.proofs.Wholes.{outside_none}
 use Rattle.seams.proofs.sources.source_within.Goals as goal
 

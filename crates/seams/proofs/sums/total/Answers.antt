@@ -1,7 +1,7 @@
 use Rattle.std.proofs.Common.{ap, ◌∙◌}
 use Rattle.cells.specs.Distances.{distance}
 use Rattle.cells.specs.Places.{spot}
-use Rattle.source_map.specs.Maps.{map_at}
+use Rattle.map_canvas.specs.Maps.{map_at}
 use Rattle.seams.specs.Costs.{pairs_of_box}
 use Rattle.seams.proofs.Wholes.{pairs_whole}
 use Rattle.seams.proofs.sums.total.Goals as goal

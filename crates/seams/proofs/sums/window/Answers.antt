@@ -2,7 +2,7 @@ use Rattle.std.proofs.Common.{◌∙◌, sym, ap, subst}
 use mathlib.Core.Bool.{false≢true}
 use Rattle.cells.specs.declared.place.Size.{Size}
 use Rattle.cells.specs.Distances.{distance}
-use Rattle.source_map.specs.Maps.{SourceMap, map_at}
+use Rattle.map_canvas.specs.Maps.{SourceMap, map_at}
 use Rattle.seams.specs.Costs.{window_of}
 use Rattle.seams.specs.Intersections.{IsIntersection}
 use Rattle.seams.proofs.Inside.{inner_holds, window_nothing, window_same}

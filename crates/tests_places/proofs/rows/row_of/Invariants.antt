@@ -1,4 +1,4 @@
-use Rattle.source_map.specs.Canvases.{StandsOver}
+use Rattle.map_canvas.specs.Canvases.{StandsOver}
 use Rattle.tests_places.proofs.rows.row_of.Given as goal
 
 abbrev pub invariant-cells : goal.invariant-cells

@@ -2,7 +2,7 @@ use Rattle.std.proofs.Common.{◌≡◌, ◌∙◌, ap, arith, length, take, tru
 use Rattle.std.proofs.lemmas.List.{length-replicate}
 use Rattle.std.specs.Prelude.{replicate}
 use Rattle.cells.specs.Places.{cell_count}
-use Rattle.source_map.specs.Choices.{box_count}
+use Rattle.map_canvas.specs.Choices.{box_count}
 use Rattle.weave_engine.specs.Tiles.{tile_at}
 use Rattle.weave_engine.proofs.TileSteps.{front_new, tile_fits_canvas, tile_has_few, tile_inside, tile_leaves_fewer, tile_small, tile_so_far}
 use Rattle.weave_engine.proofs.tile.put_tile.Goals as goal

@@ -1,10 +1,10 @@
 use Rattle.std.proofs.Common.{◌≡◌, ◌≤◌, ap, sym, subst, ◌∙◌}
 use Rattle.std.specs.Prelude.{Some, None}
 use Rattle.cells.specs.Cells.{blank}
-use Rattle.source_map.specs.Maps.{empty_map, map_at}
-use Rattle.source_map.specs.Canvases.{CanvasState, IsCanvas, StandsOver}
-use Rattle.source_map.proofs.Marks.{empty_is_canvas}
-use Rattle.source_map.proofs.Writable.{empty_stands, map_at-empty}
+use Rattle.map_canvas.specs.Maps.{empty_map, map_at}
+use Rattle.map_canvas.specs.Canvases.{CanvasState, IsCanvas, StandsOver}
+use Rattle.map_canvas.proofs.Marks.{empty_is_canvas}
+use Rattle.map_canvas.proofs.EmptyAndFull.{empty_stands, map_at-empty}
 use Rattle.weave_engine.proofs.TileSteps.{none_unfilled}
 use Rattle.weave_engine.proofs.tile.tiled.Goals as goal
 

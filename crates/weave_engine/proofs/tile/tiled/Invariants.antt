@@ -1,4 +1,4 @@
-use Rattle.source_map.specs.Canvases.{IsCanvas}
+use Rattle.map_canvas.specs.Canvases.{IsCanvas}
 use Rattle.weave_engine.specs.Tiles.{TiledSoFar, cells_left}
 use Rattle.weave_engine.proofs.tile.tiled.Given as goal
 

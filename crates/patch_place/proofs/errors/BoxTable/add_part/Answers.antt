@@ -2,7 +2,7 @@ use Rattle.std.proofs.Common.{◌≡◌, ◌≤◌, ◌+◌, ◌++◌, map, take
 use Rattle.std.specs.Prelude.{Some, slice_get}
 use Rattle.cells.specs.Places.{cell_count}
 use Rattle.cells.specs.SizeLists.{frames_to_part}
-use Rattle.source_map.specs.Choices.{Fits}
+use Rattle.map_canvas.specs.Choices.{Fits}
 use Rattle.match_error.specs.Errors.{error_of, filled_cells}
 use Rattle.patch_place.specs.Counts.{entries_before, room_entries}
 use Rattle.patch_place.specs.Lists.{filled_from, fit_list, lists_from}

@@ -2,7 +2,7 @@ use Rattle.std.proofs.Common.{◌≡◌, ◌∙◌, get_or, ap, sym, subst, arit
 use Rattle.std.proofs.lemmas.List.{with_items_is}
 use Rattle.cells.specs.Distances.{distance}
 use Rattle.cells.specs.Places.{raster_index, spot}
-use Rattle.source_map.specs.Maps.{map_at}
+use Rattle.map_canvas.specs.Maps.{map_at}
 use Rattle.seam_cost.specs.Windows.{window_at}
 use Rattle.box_walk.specs.Pairs.{AreCounts}
 use Rattle.seam_cost.specs.Slides.{HoldsBlock}

@@ -4,7 +4,7 @@ use mathlib.Core.Bool.{false≢true}
 use Rattle.cells.specs.Boxes.{HasCells}
 use Rattle.cells.specs.Distances.{distance}
 use Rattle.cells.specs.Places.{raster_index, spot}
-use Rattle.source_map.specs.Maps.{map_at}
+use Rattle.map_canvas.specs.Maps.{map_at}
 use Rattle.seam_cost.specs.Windows.{window_at}
 use Rattle.box_walk.specs.Pairs.{AreCounts}
 use Rattle.seam_cost.specs.Slides.{HoldsBlock}

@@ -1,0 +1,13 @@
+pub mod Fronts
+pub mod ChoiceLaws
+pub mod Filling
+pub mod AfterLaws
+pub mod Pictures
+pub mod EmptyAndFull
+pub mod Marks
+pub mod Keeping
+pub mod Rendering
+pub mod Afters
+pub mod Unfilled
+pub mod Runs
+pub mod RunSteps

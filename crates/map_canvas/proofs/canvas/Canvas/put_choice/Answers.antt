@@ -1,0 +1,18 @@
+use Rattle.std.proofs.Common.{subst, sym, ap, ◌∙◌, ◌≤◌}
+use Rattle.std.specs.Prelude.{is_none}
+use Rattle.std.specs.List.{position_or_len}
+use Rattle.map_canvas.specs.Canvases.{CanvasState}
+use Rattle.map_canvas.specs.Choices.{map_after}
+use Rattle.map_canvas.proofs.Afters.{after_one}
+use Rattle.map_canvas.proofs.AfterLaws.{front_stays}
+use Rattle.map_canvas.proofs.canvas.Canvas.put_choice.Goals as goal
+
+pub filled-self-inside-requires : goal.filled-self-inside-requires
+filled-self-inside-requires c =
+    subst (λ reached. reached ≤ position_or_len is_none c.fill_choice.new.map.sources) (sym c.self.invariant.1)
+    (front_stays c.self.inside.map c.args.placement.now c.args.choice.now c.fill_choice.new.map c.self.invariant.0.map c.fill_choice.ensures.canvas.map c.fill_choice.ensures.after)
+
+pub returns-clause-map : goal.returns-clause-map
+returns-clause-map c =
+    after_one c.self.inside.map c.fill_choice.new.map c.args.placement.now c.args.choice.now c.self.invariant.0.map c.fill_choice.ensures.canvas.map c.fill_choice.ensures.after
+    ∙ ap (λ (s : CanvasState). map_after s.map c.args.placement.now c.args.choice.now) c.self.view_is

@@ -1,0 +1,59 @@
+use Rattle.std.proofs.Common.{◌≡◌, ◌≤◌, ◌<◌, ◌+◌, ◌-◌, ◌%◌, ℕ, ap, sym, ◌∙◌, subst, arith, length}
+use Rattle.std.proofs.lemmas.Int.{ints}
+use Rattle.std.specs.Prelude.{ℤ, pos, ◌+ℤ◌, ◌≤ℤ◌}
+use Rattle.std.specs.Int.{w32}
+use Rattle.cells.specs.declared.place.At.{At}
+use Rattle.cells.specs.Places.{IsInside, SumFits, cell_count, place_of, plus, spot}
+use Rattle.cells.specs.Cells.{HasRun}
+use Rattle.cells.proofs.Steps.{row_end}
+use Rattle.map_canvas.specs.Maps.{IsSource}
+use Rattle.map_canvas.specs.Choices.{box_cell, box_source}
+use Rattle.map_canvas.proofs.Filling.{fits_small, fits_cell, fits_cell_sum, fits_source_sum}
+use Rattle.map_canvas.proofs.Runs.{run_below_count, run_in_sample, run_is_source, run_room}
+use Rattle.map_canvas.proofs.canvas.fill_from.Goals as goal
+
+pub place_at-step-requires-clause-small : goal.place_at-step-requires-clause-small
+place_at-step-requires-clause-small c = fits_small c.args.map.now.size c.args.sample.now c.args.placement.now c.requires.fits c.requires.canvas.map.small
+
+pub new_cells-n-requires-clause-room : goal.new_cells-n-requires-clause-room
+new_cells-n-requires-clause-room c =
+    let size = c.args.placement.now.rect.size in
+    let x : c.place_at-step.result.x ≡ pos (c.args.i % size.w) = λ k. (c.place_at-step.ensures k).x in
+    let small = fits_small c.args.map.now.size c.args.sample.now c.args.placement.now c.requires.fits c.requires.canvas.map.small in
+    let ends : c.args.i + (size.w - c.args.i % size.w) ≤ cell_count size = row_end size c.args.i (size.w - c.args.i % size.w) small.axes.w.0 c.requires.below (omega (arith, small.axes.w)) in
+    omega (arith, ints, x, ends, small.axes.w, c.requires.choices)
+
+pub plus-p-requires : goal.plus-p-requires
+plus-p-requires c =
+    subst (SumFits c.args.placement.now.rect.corner) (sym c.place_at-step.ensures)
+    (fits_cell_sum c.args.map.now.size c.args.sample.now c.args.placement.now c.requires.fits c.requires.canvas.map.small.axes c.args.i c.requires.below)
+
+pub plus-from-requires : goal.plus-from-requires
+plus-from-requires c =
+    subst (SumFits c.args.placement.now.from) (sym c.place_at-step.ensures)
+    (fits_source_sum c.args.map.now.size c.args.sample.now c.args.placement.now c.requires.fits c.requires.sample c.args.i c.requires.below)
+
+pub fill_run-requires-clause-inside : goal.fill_run-requires-clause-inside
+fill_run-requires-clause-inside c =
+    subst (IsInside c.args.map.now.size) (sym (c.plus-p.ensures ∙ ap (plus c.args.placement.now.rect.corner) c.place_at-step.ensures))
+    (fits_cell c.args.map.now.size c.args.sample.now c.args.placement.now c.requires.fits c.args.i c.requires.below)
+
+row : (c : goal.After-fill_run-arg-3-1) → c.args.i % c.args.placement.now.rect.size.w + c.new_cells-n.result ≤ c.args.placement.now.rect.size.w
+row c =
+    let size = c.args.placement.now.rect.size in
+    let x : c.place_at-step.result.x ≡ pos (c.args.i % size.w) = λ k. (c.place_at-step.ensures k).x in
+    let small = fits_small c.args.map.now.size c.args.sample.now c.args.placement.now c.requires.fits c.requires.canvas.map.small in
+    omega (arith, ints, x, small.axes.w, c.new_cells-n.ensures.most, c.new_cells-n.ensures.some)
+
+from_is : (c : goal.After-fill_run-arg-3-1) → c.plus-from.result ≡ box_source c.args.placement.now c.args.i
+from_is c = c.plus-from.ensures ∙ ap (plus c.args.placement.now.from) c.place_at-step.ensures
+
+pub fill_run-requires-clause-run : goal.fill_run-requires-clause-run
+fill_run-requires-clause-run c =
+    subst (λ from. HasRun c.args.sample.now from c.new_cells-n.result) (sym (from_is c))
+    (run_in_sample c.args.map.now.size c.args.sample.now c.args.placement.now c.requires.fits c.requires.sample c.args.i c.new_cells-n.result c.requires.below (row c))
+
+pub fill_run-requires-clause-sources : goal.fill_run-requires-clause-sources
+fill_run-requires-clause-sources c = λ j lt.
+    subst (λ from. IsSource (plus from (spot j 0 0))) (sym (from_is c))
+    (run_is_source c.args.map.now.size c.args.sample.now c.args.placement.now c.requires.fits c.requires.sample c.args.i c.new_cells-n.result c.requires.below (row c) j lt)

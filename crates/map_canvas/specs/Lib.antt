@@ -1,0 +1,4 @@
+pub mod Maps
+pub mod Runs
+pub mod Choices
+pub mod Canvases

@@ -1,0 +1,17 @@
+//! Which sample cell stands at each output cell, and the picture that follows from it.
+//!
+//! A canvas keeps a map beside its picture; the contracts say that the picture is the map's picture
+//! (specs/Canvases.antt), and that a choice over a placement leaves the map after it
+//! (specs/Choices.antt). `map` has the map, `canvas` the canvas and its placements, `kept` the cells
+//! that a choice may not change, `rendered` the test of a picture against a sample. The files of maps
+//! are those of the crate source_map.
+#![tactic(auto)]
+
+mod canvas;
+mod kept;
+pub mod laws;
+mod map;
+mod rendered;
+
+pub use canvas::{Canvas, Placement};
+pub use map::{GREATEST_COORDINATE, Map};

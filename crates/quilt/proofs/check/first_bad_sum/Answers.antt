@@ -1,8 +1,0 @@
-use Rattle.std.proofs.Common.{ℕ, ◌<◌, below_more}
-use Rattle.quilt.specs.Records.{SumHolds}
-use Rattle.quilt.proofs.check.first_bad_sum.Goals as goal
-
-pub loop-row-preserved : goal.loop-row-preserved
-loop-row-preserved c =
-    below_more (λ row. (col : ℕ) → col < c.args.strip.now.cols → SumHolds c.args.strip.now c.args.sums.now row col)
-    _ c.loop-row.invariant c.in_default.ensures.none

@@ -1,5 +1,0 @@
-use Rattle.std.proofs.Common.{below_more}
-use Rattle.quilt.proofs.check.first_bad_sum_of.Goals as goal
-
-pub loop-col-preserved : goal.loop-col-preserved
-loop-col-preserved c = below_more _ _ c.loop-col.invariant (c.sum_holds.ensures.0 c.if-not-sum_holds.false)

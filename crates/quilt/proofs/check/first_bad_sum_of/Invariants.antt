@@ -1,6 +1,0 @@
-use Rattle.std.proofs.Common.{ℕ, ◌<◌}
-use Rattle.quilt.specs.Records.{SumHolds}
-use Rattle.quilt.proofs.check.first_bad_sum_of.Given as goal
-
-abbrev pub invariant-loop-col : goal.invariant-loop-col
-invariant-loop-col l = (col : ℕ) → col < l.col → SumHolds l.strip l.sums l.row col

@@ -1,5 +1,0 @@
-use Rattle.quilt.proofs.OneAnswer.{one_first_least}
-use Rattle.quilt.proofs.laws.first_least_boundary_is_one.Goals as goal
-
-pub returns : goal.returns
-returns c = one_first_least

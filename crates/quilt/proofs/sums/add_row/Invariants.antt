@@ -1,5 +1,0 @@
-use Rattle.quilt.specs.Tables.{AreTightUpTo}
-use Rattle.quilt.proofs.sums.add_row.Given as goal
-
-abbrev pub invariant-loop-col : goal.invariant-loop-col
-invariant-loop-col l = AreTightUpTo l.strip l.sums.items l.row l.col

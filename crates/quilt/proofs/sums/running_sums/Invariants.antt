@@ -1,5 +1,0 @@
-use Rattle.quilt.specs.Tables.{AreTightUpTo}
-use Rattle.quilt.proofs.sums.running_sums.Given as goal
-
-abbrev pub invariant-loop-row : goal.invariant-loop-row
-invariant-loop-row l = AreTightUpTo l.strip l.sums.items l.row 0

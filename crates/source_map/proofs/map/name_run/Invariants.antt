@@ -1,7 +1,0 @@
-use Rattle.std.proofs.Common.{◌≡◌}
-use Rattle.std.proofs.Math.Seq.{paste}
-use Rattle.source_map.specs.Runs.{source_run}
-use Rattle.source_map.proofs.map.name_run.Given as goal
-
-abbrev pub invariant-loop-j : goal.invariant-loop-j
-invariant-loop-j l = l.sources ≡ paste l.initial.sources l.start (source_run l.from l.w) l.j

@@ -1,0 +1,9 @@
+use Rattle.strip_boundary.proofs.PathLaws.{least_path}
+use Rattle.strip_boundary.proofs.check.check_boundary.Goals as goal
+
+pub returns-clause-least : goal.returns-clause-least
+returns-clause-least c =
+    rw (← c.as_slice-path.ensures)
+    (least_path c.args.strip.now c.as_slice-sums.result.now c.as_slice-path.result.now
+    c.in_default.ensures c.in_default-first_bad_sum.ensures
+    (c.has_least_cost.ensures.0 c.if-not-has_least_cost.false))

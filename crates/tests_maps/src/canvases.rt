@@ -1,0 +1,363 @@
+// Worked examples of map_canvas and of map files: that the calls that take memory succeed while there is some, what choices
+// leave, which cells are kept, and the bytes of a whole map file.
+ghost use Rattle.std.specs.Prelude.{◌≡◌, pos, IfOk, IsTrue};
+ghost use Rattle.cells.specs.Boxes.{AxisHolds, HoldsBox};
+ghost use Rattle.cells.specs.Cells.{IsOnePart};
+ghost use Rattle.cells.specs.Places.{IsInside, IsSmall};
+ghost use Rattle.map_canvas.specs.Canvases.{StandsOver};
+ghost use Rattle.source_map.specs.MapFiles.{IsWritable};
+
+use cells::{At, Box3, Size, Volume};
+use map_canvas::{Canvas, Map, Placement};
+use shelf_core::{Call, MemShelf, WriteFault};
+use source_map::write_cell_map;
+use std::alloc::{AllocError, Global};
+use std::process::Abort;
+use std::test::Fail;
+
+// The sources of a sample of one row.
+const LEFT: Option<At> = Some(At { x: 0, y: 0, f: 0 });
+
+const RIGHT: Option<At> = Some(At { x: 1, y: 0, f: 0 });
+
+// The map file of an output of 3 x 2 cells, each from the one cell of its sample.
+const ONE_SOURCE: [u8; 70] = [
+    0x57, 0x45, 0x41, 0x56, 0x45, 0x4d, 0x41, 0x50, 0x01, 0x00, 0x00, 0x00, 0x00, 0x03, 0x00, 0x00,
+    0x00, 0x02, 0x00, 0x00, 0x00, 0x01, 0x00, 0x00, 0x00, 0x01, 0x00, 0x00, 0x00, 0x01, 0x00, 0x00,
+    0x00, 0x01, 0x00, 0x00, 0x00, 0x00, 0x00, 0x00, 0x00, 0x00, 0x00, 0x00, 0x00, 0x00, 0x00, 0x00,
+    0x00, 0x00, 0x00, 0x00, 0x00, 0x00, 0x00, 0x00, 0x00, 0x00, 0x00, 0x00, 0x00, 0x00, 0x00, 0x00,
+    0x00, 0x00, 0x00, 0x00, 0x00, 0x00,
+];
+
+fn at(x: i32, y: i32) -> At
+    ensures { result ≡ record { x = x; y = y; f = pos 0 } }
+{
+    At { x, y, f: 0 }
+}
+
+// A canvas with no cell filled, over a sample.
+fn canvas_over(alloc: Global, size: Size, sample: &Volume) -> Result<Canvas, AllocError>
+    requires { IsSmall size }
+    ensures { IfOk result (λ canvas. StandsOver canvas sample.now) }
+{
+    Canvas::empty(alloc, size, sample.samples())
+}
+
+// A run of cells lies within one axis.
+fn holds_axis(n: u32, corner: i32, len: u32) -> bool
+    ensures { IsTrue result → AxisHolds n corner len }
+{
+    corner >= 0 && len <= n && corner as u32 <= n - len
+}
+
+// Asserts that a box lies within a size.
+fn assert_holds(rt: &impl Abort, size: Size, corner: At, inner: Size)
+    ensures { HoldsBox size corner inner }
+{
+    assert!(rt; holds_axis(size.w, corner.x, inner.w));
+    assert!(rt; holds_axis(size.h, corner.y, inner.h));
+    assert!(rt; holds_axis(size.f, corner.f, inner.f));
+}
+
+// Puts in a choice over a box of rows of this width.
+fn put(
+    rt: &impl Abort,
+    canvas: &mut Canvas,
+    sample: &Volume,
+    corner: At,
+    from: At,
+    rows: (u32, u32),
+    choice: &[bool],
+)
+    requires { StandsOver canvas.old sample.now }
+    ensures { StandsOver canvas.new sample.now }
+{
+    let (w, h) = rows;
+    assert!(rt; 1 <= w && w <= 9 && 1 <= h && h <= 9);
+    assert!(rt; choice.len() == w as usize * h as usize);
+    let size = Size { w, h, f: 1 };
+    assert_holds(rt, canvas.map().size(), corner, size);
+    assert!(rt; sample.holds(&Box3 { corner: from, size }));
+    let placement = Placement {
+        rect: Box3 { corner, size },
+        from,
+    };
+    canvas.put_choice(sample, &placement, choice);
+}
+
+// Asserts the sources of a canvas of one row, its samples, and where its first unfilled cell is.
+fn assert_row(
+    rt: &impl Abort,
+    canvas: &Canvas,
+    sources: &[Option<At>],
+    bytes: &[u8],
+    first: Option<i32>,
+) {
+    for (x, source) in sources.iter().enumerate() {
+        assert!(rt; x < 9);
+        let p = at(x as i32, 0);
+        assert_eq!(rt; canvas.map().at(p), *source, "at {x}");
+        assert_eq!(rt; canvas.is_filled(p), source.is_some(), "at {x}");
+    }
+    assert_eq!(rt; canvas.picture().bytes(), bytes);
+    assert_eq!(rt; canvas.first_unfilled().map(|p| p.x), first);
+}
+
+#[test]
+fn choices_fill_a_canvas(rt: HostRuntime) -> Result<(), Fail> {
+    let bytes = Vec::from_slice(rt.alloc(), &[10, 20])?;
+    let sample = Volume::from_bytes(Size { w: 2, h: 1, f: 1 }, 1, bytes);
+    let mut canvas = canvas_over(rt.alloc(), Size { w: 5, h: 1, f: 1 }, &sample)?;
+    assert_row(&rt, &canvas, &[None; 5], &[0; 5], Some(0));
+
+    put(
+        &rt,
+        &mut canvas,
+        &sample,
+        at(0, 0),
+        at(0, 0),
+        (2, 1),
+        &[true, true],
+    );
+    let sources = [LEFT, RIGHT, None, None, None];
+    assert_row(&rt, &canvas, &sources, &[10, 20, 0, 0, 0], Some(2));
+
+    // Cell 1 stays old.
+    put(
+        &rt,
+        &mut canvas,
+        &sample,
+        at(1, 0),
+        at(0, 0),
+        (2, 1),
+        &[false, true],
+    );
+    let sources = [LEFT, RIGHT, RIGHT, None, None];
+    assert_row(&rt, &canvas, &sources, &[10, 20, 20, 0, 0], Some(3));
+
+    // Cell 3 stays unfilled, before a filled one.
+    put(
+        &rt,
+        &mut canvas,
+        &sample,
+        at(4, 0),
+        at(0, 0),
+        (1, 1),
+        &[true],
+    );
+    let sources = [LEFT, RIGHT, RIGHT, None, LEFT];
+    assert_row(&rt, &canvas, &sources, &[10, 20, 20, 0, 10], Some(3));
+
+    put(
+        &rt,
+        &mut canvas,
+        &sample,
+        at(3, 0),
+        at(0, 0),
+        (2, 1),
+        &[true, false],
+    );
+    let sources = [LEFT, RIGHT, RIGHT, LEFT, LEFT];
+    assert_row(&rt, &canvas, &sources, &[10, 20, 20, 10, 10], None);
+    Ok(())
+}
+
+// A canvas of two rows over a sample of one, of 2 samples a cell, with three filled cells.
+fn part_filled(rt: &impl Abort, alloc: Global, sample: &Volume) -> Result<Canvas, AllocError>
+    ensures { IfOk result (λ canvas. StandsOver canvas sample.now) }
+{
+    let mut canvas = canvas_over(alloc, Size { w: 4, h: 2, f: 1 }, sample)?;
+    put(
+        rt,
+        &mut canvas,
+        sample,
+        at(0, 0),
+        at(0, 0),
+        (2, 1),
+        &[true, true],
+    );
+    put(rt, &mut canvas, sample, at(1, 1), at(1, 0), (1, 1), &[true]);
+    Ok(canvas)
+}
+
+#[test]
+fn kept_cells_of_a_box(rt: HostRuntime) -> Result<(), Fail> {
+    let bytes = Vec::from_slice(rt.alloc(), &[10, 11, 20, 21])?;
+    let sample = Volume::from_bytes(Size { w: 2, h: 1, f: 1 }, 2, bytes);
+    let canvas = part_filled(&rt, rt.alloc(), &sample)?;
+    // The box's corner and size, a cell, and whether it is kept: cells (0, 0), (1, 0) and (1, 1) are
+    // filled.
+    let cells = [
+        ((1, 0), (3, 2), (1, 0), true),
+        ((1, 0), (3, 2), (1, 1), false),
+        ((1, 0), (3, 2), (2, 0), false),
+        ((1, 0), (3, 2), (0, 0), false),
+        ((0, 0), (4, 2), (1, 0), false),
+        ((0, 0), (4, 1), (0, 0), false),
+        ((0, 0), (4, 1), (1, 0), true),
+        ((0, 1), (4, 1), (1, 1), true),
+        ((-9, 0), (9, 2), (-1, 0), false),
+    ];
+    for (corner, (w, h), cell, kept) in cells {
+        let rect = Box3 {
+            corner: at(corner.0, corner.1),
+            size: Size { w, h, f: 1 },
+        };
+        assert_eq!(rt;
+            canvas.is_kept(&rect, at(cell.0, cell.1)),
+            kept,
+            "{cell:?} of {w} x {h} at {corner:?}"
+        );
+    }
+    Ok(())
+}
+
+// Runs of new cells of every length in rows of three, from every place of a row.
+#[test]
+fn runs_of_new_cells(rt: HostRuntime) -> Result<(), Fail> {
+    let bytes = Vec::from_slice(rt.alloc(), &[1, 2, 3, 4, 5, 6])?;
+    let sample = Volume::from_bytes(Size { w: 3, h: 2, f: 1 }, 1, bytes);
+    let choices: [([bool; 6], [u8; 10]); 4] = [
+        (
+            [true, true, true, true, true, true],
+            [0, 0, 1, 2, 3, 0, 0, 4, 5, 6],
+        ),
+        (
+            [false, true, true, true, false, true],
+            [0, 0, 0, 2, 3, 0, 0, 4, 0, 6],
+        ),
+        (
+            [true, false, true, false, true, true],
+            [0, 0, 1, 0, 3, 0, 0, 0, 5, 6],
+        ),
+        (
+            [true, true, false, true, true, false],
+            [0, 0, 1, 2, 0, 0, 0, 4, 5, 0],
+        ),
+    ];
+    for (choice, picture) in choices {
+        let mut canvas = canvas_over(rt.alloc(), Size { w: 5, h: 2, f: 1 }, &sample)?;
+        put(
+            &rt,
+            &mut canvas,
+            &sample,
+            at(2, 0),
+            at(0, 0),
+            (3, 2),
+            &choice,
+        );
+        assert_eq!(rt; canvas.picture().bytes(), picture.as_slice());
+        assert!(rt; canvas.render_equals(&sample));
+        let size = canvas.map().size();
+        let start = at(0, 1);
+        assert!(rt; size.index_of(start).is_some());
+        assert!(rt; holds_axis(size.w, start.x, 5));
+        let marks = canvas.filled_row(start, 5);
+        assert!(rt;
+            marks
+                .iter()
+                .zip(&picture[5..])
+                .all(|(m, b)| (*m == 1) == (*b > 0))
+        );
+    }
+    Ok(())
+}
+
+#[test]
+fn samples_that_a_canvas_stands_over(rt: HostRuntime) -> Result<(), Fail> {
+    let bytes = Vec::from_slice(rt.alloc(), &[10, 11, 20, 21])?;
+    let sample = Volume::from_bytes(Size { w: 2, h: 1, f: 1 }, 2, bytes);
+    let canvas = part_filled(&rt, rt.alloc(), &sample)?;
+
+    // Its size, its bytes, the samples of a cell, and whether the canvas stands over it.
+    let others: [(u32, &[u8], u32, bool); 4] = [
+        (3, &[10, 11, 20, 21, 30, 31], 2, true),
+        (2, &[10, 11, 20, 22], 2, false),
+        (1, &[10, 11], 2, false),
+        (2, &[10, 20], 1, false),
+    ];
+    for (w, bytes, k, stands) in others {
+        let bytes = Vec::from_slice(rt.alloc(), bytes)?;
+        assert!(rt; 1 <= w && w <= 3 && 1 <= k && k <= 2);
+        assert!(rt; bytes.len() == k as usize * w as usize);
+        let other = Volume::from_bytes(Size { w, h: 1, f: 1 }, k, bytes);
+        assert_eq!(rt; canvas.render_equals(&other), stands, "{w} cells of {k}");
+    }
+    Ok(())
+}
+
+#[test]
+fn a_map_by_itself(rt: HostRuntime) -> Result<(), Fail> {
+    let mut map = Map::empty(rt.alloc(), Size { w: 2, h: 2, f: 1 })?;
+    let from = At {
+        x: 131072,
+        y: 0,
+        f: 131072,
+    };
+    map.set(at(1, 1), from);
+    map.set(at(0, 1), at(7, 7));
+    map.set(at(0, 1), at(8, 8));
+    let cells = [
+        ((0, 0), None),
+        ((1, 0), None),
+        ((0, 1), Some(at(8, 8))),
+        ((1, 1), Some(from)),
+        ((2, 1), None),
+    ];
+    for (p, source) in cells {
+        assert_eq!(rt; map.at(at(p.0, p.1)), source, "at {p:?}");
+    }
+    Ok(())
+}
+
+// Writes the map of a canvas.
+fn write(
+    rt: &impl Abort,
+    canvas: &Canvas,
+    sample: &Volume,
+    shelf: &mut MemShelf,
+) -> Result<(), WriteFault>
+    requires stands { StandsOver canvas.now sample.now }
+    requires one { IsOnePart sample.now }
+{
+    let map = canvas.map();
+    assert!(rt; map.size().cells() <= 6);
+    assert!(rt; canvas.first_unfilled().is_none());
+    write_cell_map(map, sample.size(), shelf, "map")
+}
+
+// An output of 3 x 2 cells, each from the one cell of its sample.
+fn filled(rt: &impl Abort, alloc: Global, sample: &Volume) -> Result<Canvas, AllocError>
+    ensures { IfOk result (λ canvas. StandsOver canvas sample.now) }
+{
+    let mut canvas = canvas_over(alloc, Size { w: 3, h: 2, f: 1 }, sample)?;
+    put(rt, &mut canvas, sample, at(0, 0), at(0, 0), (1, 1), &[true]);
+    put(rt, &mut canvas, sample, at(1, 0), at(0, 0), (1, 1), &[true]);
+    put(rt, &mut canvas, sample, at(2, 0), at(0, 0), (1, 1), &[true]);
+    put(rt, &mut canvas, sample, at(0, 1), at(0, 0), (1, 1), &[true]);
+    put(rt, &mut canvas, sample, at(1, 1), at(0, 0), (1, 1), &[true]);
+    put(rt, &mut canvas, sample, at(2, 1), at(0, 0), (1, 1), &[true]);
+    Ok(canvas)
+}
+
+#[test]
+fn the_file_of_a_map(rt: HostRuntime) -> Result<(), Fail> {
+    let bytes = Vec::from_slice(rt.alloc(), &[7, 8, 9])?;
+    let sample = Volume::from_bytes(Size { w: 1, h: 1, f: 1 }, 3, bytes);
+    let canvas = filled(&rt, rt.alloc(), &sample)?;
+    let mut shelf = MemShelf::new(rt.alloc());
+    assert!(rt; write(&rt, &canvas, &sample, &mut shelf).is_ok());
+    assert_eq!(rt; shelf.file("map"), Some(ONE_SOURCE.as_slice()));
+
+    // A call that fails, and how many bytes of its piece it keeps.
+    let faults = [(Call::Begin, 0), (Call::Add, 0), (Call::Add, 42)];
+    for (call, kept) in faults {
+        let mut shelf = MemShelf::new(rt.alloc());
+        shelf.fail_at(call, "map", 1, kept)?;
+        assert!(rt; write(&rt, &canvas, &sample, &mut shelf).is_err());
+        assert_eq!(rt; shelf.write_faults(), 1);
+        let file = shelf.file("map").unwrap_or(&[]);
+        assert_eq!(rt; Some(file), ONE_SOURCE.get(..kept), "{call:?}");
+    }
+    Ok(())
+}

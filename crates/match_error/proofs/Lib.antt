@@ -3,3 +3,4 @@ pub mod Runs
 pub mod Overlaps
 pub mod Bounds
 pub mod Filled
+pub mod RunLists

@@ -79,3 +79,15 @@ masked_by_ones (suc k) (x ∷ a) (y ∷ b) long =
     sum_by-cons masked_squared_difference ((x, y), 1) (zip (zip a b) (replicate k 1))
     ∙ ap (λ s. squared_difference (x, y) + s) (masked_by_ones k a b (omega arith))
     ∙ sym (sum_by-cons squared_difference (x, y) (zip a b))
+
+ssd-append : (a a' b b' : List ℕ) → length a ≡ length b → sum_of_squared_differences (a ++ a') (b ++ b') ≡ sum_of_squared_differences a b + sum_of_squared_differences a' b'
+ssd-append a a' b b' same = ap (sum_by squared_difference) (zip-append a a' b b' same) ∙ sum_by-append squared_difference (zip a b) (zip a' b')
+
+-- the sum over two runs of cells of k samples is that of each two cells, added up
+pub plain_cells : (k : ℕ) (olds news : List (List ℕ)) → HaveSamples k olds → HaveSamples k news → (i j w : ℕ) → i + w ≤ length olds → j + w ≤ length news
+    → sum_of_squared_differences (run olds i w) (run news j w) ≡ sum_to w (λ x. sum_of_squared_differences (get_or olds (i + x) []) (get_or news (j + x) []))
+plain_cells k olds news in_olds in_news i j zero le_a le_b = refl
+plain_cells k olds news in_olds in_news i j (suc w) le_a le_b =
+    (λ t. sum_of_squared_differences (run_more olds i w (omega arith) t) (run_more news j w (omega arith) t))
+    ∙ ssd-append (run olds i w) _ (run news j w) _ (length-run k olds in_olds i w (omega arith) ∙ sym (length-run k news in_news j w (omega arith)))
+    ∙ ap (λ s. s + sum_of_squared_differences (get_or olds (i + w) []) (get_or news (j + w) [])) (plain_cells k olds news in_olds in_news i j w (omega arith) (omega arith))

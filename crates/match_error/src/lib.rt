@@ -10,9 +10,11 @@
 
 mod counts;
 mod error;
+mod gathered;
 mod overlap;
 mod rows;
 
 pub use counts::filled_count;
 pub use error::{Error, within};
+pub use gathered::FilledRuns;
 pub use overlap::{error_sum_within, overlap_error};

@@ -1,4 +1,4 @@
-use Rattle.std.proofs.Common.{◌≡◌, ◌≤◌, ◌*◌, ◌∙◌, ap, sym, subst, arith}
+use Rattle.std.proofs.Common.{◌*◌, ◌∙◌, ap, sym, subst, arith}
 use Rattle.cells.specs.Cells.{Cells, HasRun, row_at}
 use Rattle.lane_kernels.specs.Sums.{masked_sum_of_squared_differences}
 use Rattle.map_canvas.specs.Canvases.{filled_marks}

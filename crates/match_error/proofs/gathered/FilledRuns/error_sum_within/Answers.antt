@@ -1,0 +1,37 @@
+use Rattle.std.proofs.Common.{◌≡◌, arith}
+use Rattle.std.proofs.lemmas.List.Sums.{sum_by-take-le}
+use Rattle.std.specs.List.{sum_by}
+use Rattle.match_error.specs.Errors.{error_sum}
+use Rattle.match_error.specs.Runs.{run_error}
+use Rattle.match_error.proofs.Bounds.{error_small}
+use Rattle.match_error.proofs.RunLists.{part_of_sum}
+use Rattle.match_error.proofs.gathered.FilledRuns.error_sum_within.Goals as goal
+
+pub overflow_add-sum : goal.overflow_add-sum
+overflow_add-sum c =
+    let error = run_error c.args.self.now.bytes.items c.args.sample.now c.args.placement.now.from in
+    let within =
+    part_of_sum error c.deref-run-items.result.now c.args.self.now.runs.items c.runs.run-index _ c.runs.sum c.run_sum-sum.result (error_sum c.args.canvas.now.map c.args.sample.now c.args.placement.now) c.deref-run-items.ensures.value c.runs-test.true c.run_sum-sum.ensures.sum c.runs.invariant.sum
+    (c.requires.cells.error c.args.sample.now c.args.placement.now.from (record { volume = c.samples-sample.ensures.volume; stands = c.requires.over; fits = c.requires.fits })) in
+    omega (arith, within, error_small c.args.canvas.now.map c.args.sample.now c.args.placement.now c.map-map.ensures.canvas.map.small c.samples-sample.ensures.volume c.requires.fits)
+
+pub returns-then-sum-limit-clause-none : goal.returns-then-sum-limit-clause-none
+returns-then-sum-limit-clause-none c =
+    let error = run_error c.args.self.now.bytes.items c.args.sample.now c.args.placement.now.from in
+    let within =
+    part_of_sum error c.deref-run-items.result.now c.args.self.now.runs.items c.runs.run-index _ c.runs.sum c.run_sum-sum.result (error_sum c.args.canvas.now.map c.args.sample.now c.args.placement.now) c.deref-run-items.ensures.value c.runs-test.true c.run_sum-sum.ensures.sum c.runs.invariant.sum
+    (c.requires.cells.error c.args.sample.now c.args.placement.now.from (record { volume = c.samples-sample.ensures.volume; stands = c.requires.over; fits = c.requires.fits })) in
+    omega (arith, c.if-sum-limit.true, within)
+
+pub returns-clause-small : goal.returns-clause-small
+returns-clause-small c =
+    let error = run_error c.args.self.now.bytes.items c.args.sample.now c.args.placement.now.from in
+    let whole : sum_by error c.args.self.now.runs.items ≡ error_sum c.args.canvas.now.map c.args.sample.now c.args.placement.now =
+    c.requires.cells.error c.args.sample.now c.args.placement.now.from (record { volume = c.samples-sample.ensures.volume; stands = c.requires.over; fits = c.requires.fits }) in
+    omega (
+      arith,
+      whole,
+      c.runs.invariant.sum,
+      sum_by-take-le error c.args.self.now.runs.items c.runs.run-index,
+      error_small c.args.canvas.now.map c.args.sample.now c.args.placement.now c.map-map.ensures.canvas.map.small c.samples-sample.ensures.volume c.requires.fits,
+    )

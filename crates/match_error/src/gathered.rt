@@ -1,0 +1,187 @@
+// The filled cells of a box as runs along X, gathered once for all placements of the box.
+ghost use Rattle.std.specs.Prelude.{◌≡◌, ◌≤◌, ◌<◌, ◌+◌, ◌*◌, ◌^◌, ℕ, IfNone, IfOk, IfSome, OnOk, length};
+ghost use Rattle.cells.specs.Boxes.{HasCells, HoldsBox};
+ghost use Rattle.cells.specs.Cells.{Holds, IsVolume};
+ghost use Rattle.cells.specs.Places.{SumFits, plus, spot};
+ghost use Rattle.map_canvas.specs.Canvases.{StandsOver};
+ghost use Rattle.map_canvas.specs.Choices.{Fits};
+ghost use Rattle.map_canvas.specs.Maps.{IsFilled};
+ghost use Rattle.match_error.specs.Errors.{error_sum};
+ghost use Rattle.match_error.specs.Runs.{AddsFrame, AddsRow, AddsRun, AreFilledRuns, AreRunsIn, IsInRow, IsRunIn, run_error};
+
+use cells::{At, Box3, GREATEST_AXIS, Volume};
+use lane_kernels::ssd;
+use map_canvas::{Canvas, Placement};
+use std::alloc::{AllocError, Global};
+
+/// A run of filled cells along X.
+#[derive(Clone, Copy, Drop)]
+struct FilledRun {
+    // how far its first cell is from the box's corner
+    step: At,
+    // how many cells it has
+    w: u32,
+    // where its bytes begin
+    start: usize,
+}
+
+/// The filled cells of a box, as runs along X with the bytes that stand there. They serve all
+/// placements of the box, as long as the canvas stays as it is.
+#[derive(Drop)]
+pub struct FilledRuns {
+    runs: Vec<FilledRun>,
+    // of all runs, one after another
+    bytes: Vec<u8>,
+}
+
+// The step to a cell of the box.
+fn step_to(x: u32, y: u32, f: u32) -> At
+    requires { (x < GREATEST_AXIS) × (y < GREATEST_AXIS) × (f < GREATEST_AXIS) }
+    ensures { result ≡ spot x y f }
+{
+    At {
+        x: x as i32,
+        y: y as i32,
+        f: f as i32,
+    }
+}
+
+// How many filled cells follow one another from a place on, along X, as far as so many.
+fn filled_from(canvas: &Canvas, at: At, most: u32) -> u32
+    requires few { most ≤ GREATEST_AXIS }
+    requires fits { (j : ℕ) → j < most → SumFits at (spot j 0 0) }
+    ensures most { result ≤ most }
+    ensures filled { (j : ℕ) → j < result → IsFilled canvas.now.map (plus at (spot j 0 0)) }
+    ensures end { result < most → IsFilled canvas.now.map (plus at (spot result 0 0)) → ⊥ }
+{
+    let mut n = 0;
+    'filled: while n < most && canvas.is_filled(at.plus(step_to(n, 0, 0))) {
+        n += 1;
+    }
+    n
+}
+
+impl FilledRuns {
+    // One more run of n filled cells.
+    fn add_run(
+        &mut self,
+        canvas: &Canvas,
+        rect: &Box3,
+        x: u32,
+        y: u32,
+        f: u32,
+        n: u32,
+    ) -> Result<(), AllocError>
+        requires inside { HoldsBox canvas.now.map.size rect.now.corner rect.now.size }
+        requires some { 1 ≤ n }
+        requires row { IsInRow rect.now (x + n) y f }
+        requires filled { (j : ℕ) → j < n
+            → IsFilled canvas.now.map (plus rect.now.corner (spot (x + j) y f)) }
+        requires runs { AreRunsIn canvas.now.picture.k rect.now self.old }
+        ensures runs { OnOk result (AreRunsIn canvas.now.picture.k rect.now self.new) }
+        ensures adds { OnOk result (AddsRun canvas.now rect.now x y f n self.old self.new) }
+    {
+        let picture = canvas.picture();
+        let step = step_to(x, y, f);
+        let start = self.bytes.as_slice().len();
+        let old = picture.row(rect.corner.plus(step), n);
+        self.bytes.extend_from_slice(old)?;
+        self.runs.push(FilledRun { step, w: n, start })?;
+        Ok(())
+    }
+
+    // The runs of a row of the box.
+    fn add_row(&mut self, canvas: &Canvas, rect: &Box3, y: u32, f: u32) -> Result<(), AllocError>
+        requires inside { HoldsBox canvas.now.map.size rect.now.corner rect.now.size }
+        requires row { IsInRow rect.now 0 y f }
+        requires runs { AreRunsIn canvas.now.picture.k rect.now self.old }
+        ensures runs { OnOk result (AreRunsIn canvas.now.picture.k rect.now self.new) }
+        ensures adds { OnOk result (AddsRow canvas.now rect.now y f self.old self.new) }
+    {
+        // It is asked for only to show the check that this is a canvas.
+        let _picture = canvas.picture();
+        let w = rect.size.w;
+        let mut x = 0;
+        'cells: while x < w {
+            let n = filled_from(canvas, rect.corner.plus(step_to(x, y, f)), w - x);
+            if n > 0 {
+                self.add_run(canvas, rect, x, y, f, n)?;
+                x += n;
+            } else {
+                x += 1;
+            }
+        }
+        Ok(())
+    }
+
+    // The runs of a frame of the box.
+    fn add_frame(&mut self, canvas: &Canvas, rect: &Box3, f: u32) -> Result<(), AllocError>
+        requires inside { HoldsBox canvas.now.map.size rect.now.corner rect.now.size }
+        requires frame { f < rect.now.size.f }
+        requires runs { AreRunsIn canvas.now.picture.k rect.now self.old }
+        ensures runs { OnOk result (AreRunsIn canvas.now.picture.k rect.now self.new) }
+        ensures adds { OnOk result (AddsFrame canvas.now rect.now f self.old self.new) }
+    {
+        for y in 0..rect.size.h {
+            self.add_row(canvas, rect, y, f)?;
+        }
+        Ok(())
+    }
+
+    /// The filled cells of a box inside the output.
+    pub fn gather(alloc: Global, canvas: &Canvas, rect: &Box3) -> Result<FilledRuns, AllocError>
+        requires inside { HoldsBox canvas.now.map.size rect.now.corner rect.now.size }
+        ensures { IfOk result (AreFilledRuns canvas.now rect.now) }
+    {
+        let mut cells = FilledRuns {
+            runs: Vec::new(alloc),
+            bytes: Vec::new(alloc),
+        };
+        for f in 0..rect.size.f {
+            cells.add_frame(canvas, rect, f)?;
+        }
+        Ok(cells)
+    }
+
+    // The sum over a run.
+    fn run_sum(&self, run: &FilledRun, sample: &Volume, placement: &Placement) -> u64
+        requires run { IsRunIn sample.now.k placement.now.rect (length self.now.bytes.items) run.now }
+        requires volume { IsVolume sample.now }
+        requires some { HasCells placement.now.rect.size }
+        requires sources { Holds sample.now placement.now.from placement.now.rect.size }
+        ensures sum { result ≡ run_error self.now.bytes.items sample.now placement.now.from run.now }
+    {
+        let new = sample.row(placement.from.plus(run.step), run.w);
+        ssd(&self.bytes[run.start..run.start + new.len()], new)
+    }
+
+    /// The sum of the overlap error of a placement of the box where it is at most a limit, else None. It
+    /// stops after the run in which the sum passes the limit.
+    pub fn error_sum_within(
+        &self,
+        canvas: &Canvas,
+        sample: &Volume,
+        placement: &Placement,
+        limit: u64,
+    ) -> Option<u64>
+        requires cells { AreFilledRuns canvas.now placement.now.rect self.now }
+        requires over { StandsOver canvas.now sample.now }
+        requires fits { Fits canvas.now.map.size sample.now placement.now }
+        ensures some { IfSome result (λ sum. sum ≡ error_sum canvas.now.map sample.now placement.now) }
+        ensures most { IfSome result (λ sum. sum ≤ limit) }
+        ensures small { IfSome result (λ sum. sum ≤ 2 ^ 48) }
+        ensures none { IfNone result (limit < error_sum canvas.now.map sample.now placement.now) }
+    {
+        // They are asked for only to show the check that these are a map and a volume.
+        let _map = canvas.map();
+        let _sample = sample.samples();
+        let mut sum: u64 = 0;
+        'runs: for run in &self.runs {
+            sum += self.run_sum(run, sample, placement);
+            if sum > limit {
+                return None;
+            }
+        }
+        Some(sum)
+    }
+}

@@ -8,5 +8,5 @@
 mod reader;
 mod writer;
 
-pub use reader::FileReader;
+pub use reader::{FileReader, make_room};
 pub use writer::FileWriter;

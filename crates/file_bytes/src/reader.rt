@@ -70,9 +70,9 @@ fn number_64(field: &[u8]) -> u64
     ])
 }
 
-// Makes room for one more item. Where there is none, it takes room for an eighth more than there are,
-// but for no more than are missing: a list takes memory as its items come.
-fn make_room<T>(items: &mut Vec<T>, missing: usize) -> Result<(), AllocError>
+/// Makes room for one more item of a list that is read. Where there is none, it takes room for an eighth
+/// more than there are, but for no more than are missing: a list takes memory as its items come.
+pub fn make_room<T>(items: &mut Vec<T>, missing: usize) -> Result<(), AllocError>
     ensures { items.new.items ≡ items.old.items }
 {
     if items.len() < items.capacity() {
@@ -93,6 +93,13 @@ impl FileReader {
             at: 0,
             ended: false,
         }
+    }
+
+    /// The place of the next byte, from 0.
+    pub fn place(&self) -> u64
+        ensures { result ≡ self.now.at }
+    {
+        self.at
     }
 
     // Asks for the next bytes, where none wait and the file isn't known to have ended.

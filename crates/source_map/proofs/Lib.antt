@@ -1,2 +1,4 @@
+pub mod FieldLaws
+pub mod HeadWriting
 pub mod MapWriting
 pub mod Writable

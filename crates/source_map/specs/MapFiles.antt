@@ -1,17 +1,14 @@
 -- What a reader has to trust: the map file of version 1, kind 0, which has the source of each
 -- output cell. (Own.)
 use Rattle.std.specs.Prelude.{◌≡◌, ◌≤◌, ◌^◌, ◌≤ℤ◌, ◌<ℤ◌, ℕ, ℤ, pos, negsuc, List, [], ◌∷◌, ◌++◌, Option, Some, None, codes}
-use Rattle.std.specs.Int.{to_be_bytes, w16, w32}
+use Rattle.std.specs.Int.{to_be_bytes, w16}
 use Rattle.std.specs.List.{flat_map}
 use Rattle.cells.specs.declared.place.At.{At}
 use Rattle.cells.specs.declared.place.Size.{Size}
 use Rattle.source_map.specs.declared.map_file.TheConstants.{MOST_MAP_CELLS}
 use Rattle.cells.specs.Places.{IsInside, HasAxes, cell_count}
 use Rattle.map_canvas.specs.Maps.{SourceMap, IsFull, map_at}
-
--- a size: w, h, f, four bytes each, the most significant first
-abbrev pub size_field : Size → List ℕ
-size_field size = to_be_bytes w32 size.w ++ to_be_bytes w32 size.h ++ to_be_bytes w32 size.f
+use Rattle.source_map.specs.Heads.{size_field}
 
 -- a coordinate, two bytes
 abbrev pub coordinate_field : ℤ → List ℕ

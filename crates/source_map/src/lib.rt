@@ -4,7 +4,11 @@
 //! keep them beside their pictures, are those of the crate map_canvas, named here again.
 #![tactic(auto)]
 
+mod head;
+mod head_reading;
 mod map_file;
 
+pub use head::{Head, Version, put_head};
+pub use head_reading::read_head;
 pub use map_canvas::{Canvas, GREATEST_COORDINATE, Map, Placement};
 pub use map_file::{MOST_MAP_CELLS, write_cell_map};

@@ -4,7 +4,8 @@ ghost use Rattle.std.specs.List.{flat_map};
 ghost use Rattle.shelf_core.specs.Files.{Changes, WritesRose, OnlyWrites};
 ghost use Rattle.shelf_core.specs.Written.{HoldsText, HoldsPart};
 ghost use Rattle.file_bytes.specs.Writing.{Puts};
-ghost use Rattle.source_map.specs.MapFiles.{IsShort, IsShortCoordinate, IsWritable, cell_map_form, cell_map_head, coordinate_field, size_field, source_field};
+ghost use Rattle.source_map.specs.Heads.{size_field};
+ghost use Rattle.source_map.specs.MapFiles.{IsShort, IsShortCoordinate, IsWritable, cell_map_form, cell_map_head, coordinate_field, source_field};
 
 use cells::{At, Size};
 use file_bytes::FileWriter;

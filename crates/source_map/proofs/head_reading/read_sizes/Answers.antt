@@ -1,0 +1,25 @@
+use Rattle.std.proofs.Common.{◌<◌, [], arith}
+use Rattle.std.proofs.lemmas.Result.{err_from_is_err_and}
+use Rattle.shelf_core.proofs.FileLaws.{only_reads_same}
+use Rattle.source_map.specs.Heads.{size_read}
+use Rattle.source_map.proofs.FieldLaws.{list_stops, made}
+use Rattle.source_map.proofs.head_reading.read_sizes.Goals as goal
+
+pub returns-in_err-read_size-clause-answer : goal.returns-in_err-read_size-clause-answer
+returns-in_err-read_size-clause-answer g c =
+    let start = g.S.Shelf.state c.args.shelf.now in
+    let name = c.args.name.now in
+    let file = c.args.file.now in
+    let p = err_from_is_err_and c.from_residual.result c.from_residual.ensures.1 in
+    let some : 0 < c.args.count = omega arith in
+    rw (p.1, p.2)
+    (list_stops ⊥ name file.at 0 c.args.count size_read start start (g.S.Shelf.state c.read_size.new.shelf) file c.read_size.new.file [] c.in_err-read_size.field-0.0
+    some (only_reads_same start) c.in_err-read_size.ensures.reads (made ⊥ name start start file [] c.requires.follows) c.in_err-read_size.ensures.answer)
+
+pub returns-in_err-read_size-2-clause-answer : goal.returns-in_err-read_size-2-clause-answer
+returns-in_err-read_size-2-clause-answer g c =
+    let state = g.S.Shelf.state in
+    let p = err_from_is_err_and c.from_residual-in_err-read_size-2.result c.from_residual-in_err-read_size-2.ensures.1 in
+    rw (p.1, p.2)
+    (list_stops ⊥ c.args.name.now c.args.file.now.at c.loop-i.i c.args.count size_read (state c.args.shelf.now) (state c.loop-i.shelf) (state c.read_size-in-loop-i.new.shelf) c.loop-i.file c.read_size-in-loop-i.new.file
+    c.loop-i.sizes c.in_err-read_size-2.field-0.0 c.loop-i-test.true c.loop-i.invariant.reads c.in_err-read_size-2.ensures.reads c.loop-i.invariant.found c.in_err-read_size-2.ensures.answer)

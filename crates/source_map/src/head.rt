@@ -1,0 +1,114 @@
+// The head of map and record files.
+ghost use Rattle.std.specs.Prelude.{◌≡◌};
+ghost use Rattle.std.specs.List.{flat_map};
+ghost use Rattle.file_bytes.specs.Writing.{Puts};
+ghost use Rattle.source_map.specs.Heads.{IsHead, count_field, head_form, size_field, start_form, version_number};
+
+use cells::{Size, Sizes};
+use file_bytes::FileWriter;
+use shelf_core::Shelf;
+
+/// The version of a map or record file.
+#[derive(Clone, Copy, Debug, Drop, PartialEq, Eq)]
+pub enum Version {
+    /// Over one sample.
+    One,
+    /// Over 1 to 16 samples, of which each source names one.
+    Two,
+}
+
+/// What map and record files begin with.
+#[derive(Drop)]
+pub struct Head {
+    /// The size of the output, in cells.
+    pub output: Size,
+    /// The sizes of the samples, in cells.
+    pub samples: Sizes,
+    /// The version of the file.
+    pub version: Version,
+}
+
+impl Version {
+    // Its number in a file.
+    fn number(self) -> u8
+        ensures { result ≡ version_number self }
+    {
+        match self {
+            Version::One => 1,
+            Version::Two => 2,
+        }
+    }
+}
+
+// Puts a size.
+fn put_size<S: Shelf>(file: &mut FileWriter, size: Size, shelf: &mut S, name: &str)
+    ensures { Puts name.now (size_field size) (S.state shelf.old) (S.state shelf.new)
+        file.old file.new }
+{
+    file.put_u32(size.w, shelf, name);
+    file.put_u32(size.h, shelf, name);
+    file.put_u32(size.f, shelf, name);
+}
+
+// Puts sizes, one after another.
+fn put_sizes<S: Shelf>(file: &mut FileWriter, sizes: &Sizes, shelf: &mut S, name: &str)
+    ensures { Puts name.now (flat_map size_field sizes.now) (S.state shelf.old) (S.state shelf.new)
+        file.old file.new }
+{
+    for part in 0..sizes.len() {
+        put_size(file, sizes.at(part + 1), shelf, name);
+    }
+}
+
+// Puts what stands before the samples.
+fn put_start<S: Shelf>(
+    file: &mut FileWriter,
+    magic: [u8; 8],
+    kind: u8,
+    head: &Head,
+    shelf: &mut S,
+    name: &str,
+)
+    ensures { Puts name.now (start_form magic kind head.now.version head.now.output)
+        (S.state shelf.old) (S.state shelf.new) file.old file.new }
+{
+    file.put(&magic, shelf, name);
+    file.put(&[head.version.number(), kind], shelf, name);
+    put_size(file, head.output, shelf, name);
+}
+
+// Puts how many samples there are, where the version tells it.
+fn put_count<S: Shelf>(
+    file: &mut FileWriter,
+    version: Version,
+    count: u16,
+    shelf: &mut S,
+    name: &str,
+)
+    ensures { Puts name.now (count_field version count) (S.state shelf.old) (S.state shelf.new)
+        file.old file.new }
+{
+    match version {
+        Version::One => {}
+        Version::Two => file.put_u16(count, shelf, name),
+    }
+}
+
+/// Puts a head: the magic, the version and the kind, a byte each, the output's size, and the size of the
+/// one sample; in version 2 the count of the samples and their sizes. It takes no memory.
+pub fn put_head<S: Shelf>(
+    file: &mut FileWriter,
+    magic: [u8; 8],
+    kind: u8,
+    head: &Head,
+    shelf: &mut S,
+    name: &str,
+)
+    requires { IsHead head.now }
+    ensures { Puts name.now (head_form magic kind head.now) (S.state shelf.old)
+        (S.state shelf.new) file.old file.new }
+{
+    put_start(file, magic, kind, head, shelf, name);
+    put_count(file, head.version, head.samples.len() as u16, shelf, name);
+    put_sizes(file, &head.samples, shelf, name);
+}

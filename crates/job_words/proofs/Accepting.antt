@@ -67,10 +67,10 @@ chosen_read kind settings choice value is of_kind = record {
   fresh = λ name named. absurd (cc);
 }
 
-both : (least most n : ℕ) → lies_within least most n ≡ true → (least ≤ n) × (n ≤ most)
+pub both : (least most n : ℕ) → lies_within least most n ≡ true → (least ≤ n) × (n ≤ most)
 both least most n e = grind (arith, nat_tests)
 
-one_of : (a b c n : ℕ) → is_among a b c n ≡ true → (n ≡ a) ⊎ (n ≡ b) ⊎ (n ≡ c)
+pub one_of : (a b c n : ℕ) → is_among a b c n ≡ true → (n ≡ a) ⊎ (n ≡ b) ⊎ (n ≡ c)
 one_of a b c n e = tried (nat_eq n a) (nat_eq n b) (nat_eq n c) refl refl refl e
   where
     tried : (x y z : Bool) → nat_eq n a ≡ x → nat_eq n b ≡ y → nat_eq n c ≡ z → (x || y || z) ≡ true → (n ≡ a) ⊎ (n ≡ b) ⊎ (n ≡ c)

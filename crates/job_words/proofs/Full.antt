@@ -1,15 +1,18 @@
 -- The values of all keys of a table: each is of its kind, and no two keys have the same file name.
-use Rattle.std.proofs.Common.{◌≡◌, ◌≢◌, ℕ, ◌≤◌, ◌<◌, List, [], ◌∷◌, ◌++◌, length, refl, sym, ap, ◌∙◌, subst, arith, Bool, true, false, cond, not, ◌&&◌, ◌||◌}
-use Rattle.std.specs.Prelude.{Option, Some, None, All, AllPairs, map, find, filter_map, is_none, option_map, Result, Ok, Err, IfSome}
-use Rattle.std.specs.List.{list_any}
+use Rattle.std.proofs.Common.{◌≡◌, ◌≢◌, ℕ, ◌≤◌, List, [], ◌∷◌, ◌++◌, length, refl, sym, ap, ◌∙◌, subst, arith, Bool, true, false, cond, not, ◌&&◌, ◌||◌, eqb-true}
+use Rattle.std.specs.Prelude.{Option, Some, None, All, AllPairs, find, filter_map, is_none, option_map, nat_eq, nat_lt, Result, Ok, Err}
+use Rattle.std.specs.List.{list_any, cons_option}
 use Rattle.std.specs.Option.{option_or, IsSomeAnd}
-use Rattle.std.proofs.lemmas.List.Elements.{All-cons, All-nil}
+use Rattle.std.proofs.lemmas.Bool.Decides.{nat_tests}
+use Rattle.std.proofs.lemmas.List.Elements.{All-cons, All-nil, filter_map-append}
 use Rattle.std.proofs.lemmas.List.Kept.{AllPairs-cons}
 use Rattle.job_words.specs.declared.job.WordFault.{WordFault}
 use Rattle.job_words.specs.declared.keys.Key.{Key}
+use Rattle.job_words.specs.declared.keys.Key.TheVariants as key
 use Rattle.job_words.specs.declared.table.Texts.{Texts}
+use Rattle.job_words.specs.declared.table.Texts.TheVariants.{Places, Wraps, Turns}
 use Rattle.job_words.specs.declared.table.Kind.{Kind}
-use Rattle.job_words.specs.declared.table.Kind.TheVariants.{FileName, Within, OneOf}
+use Rattle.job_words.specs.declared.table.Kind.TheVariants.{FileName, Within, Among, OneOf}
 use Rattle.job_words.specs.declared.table.Choice.{Choice}
 use Rattle.job_words.specs.declared.table.Choice.TheVariants.{Number, Nth}
 use Rattle.job_words.specs.declared.table.Need.{Need}
@@ -20,8 +23,9 @@ use Rattle.job_words.specs.declared.settings.Value.TheVariants.{Named, Chosen}
 use Rattle.job_words.specs.declared.settings.Setting.{Setting}
 use Rattle.job_words.specs.Keys.{same_key}
 use Rattle.job_words.specs.Tables.{IsOfKind, texts_of}
-use Rattle.job_words.specs.Words.{and_then, value_at, settings_of, default_of, with_defaults, is_missing, is_needed, first_missing, unless_missing, complete, all_settings, text_in, text_of, number_in, nth_in, IsGivenAs, HasAllValues}
-use Rattle.job_words.specs.Names.{AreNames}
+use Rattle.job_words.specs.Words.{lies_within, is_among, IsNamed, and_then, value_at, settings_of, default_of, with_defaults, is_missing, is_needed, first_missing, unless_missing, complete, all_settings, text_in, text_of, number_in, IsGivenAs, HasAllValues}
+use Rattle.job_words.specs.Names.{AreNames, HasNames, more_keys, more_names, name_if_set, name_in, name_list, names_of}
+use Rattle.job_words.proofs.Accepting.{both, one_of}
 use Rattle.job_words.proofs.Keyed.{value_at-append, key_exact, key_itself}
 use Rattle.job_words.proofs.Reading.{kind_of, HasKind, AreSettings, settings_of_words}
 
@@ -34,6 +38,103 @@ DefaultFits need kind = Unit {0}
 abbrev pub AreSound : List Row → List Row → Type 0
 AreSound all [] = Unit {0}
 AreSound all (row ∷ rows) = (kind_of all row.key ≡ Some row.kind) × DefaultFits row.need row.kind × AreSound all rows
+
+-- The same as a test, which computes.
+
+abbrev pub same_texts : Texts → Texts → Bool
+same_texts Places Places = true
+same_texts Wraps Wraps = true
+same_texts Turns Turns = true
+same_texts a b = false
+
+abbrev pub same_kind : Kind → Kind → Bool
+same_kind FileName FileName = true
+same_kind (Within a b) (Within c d) = nat_eq a c && nat_eq b d
+same_kind (Among a b c) (Among d e f) = nat_eq a d && (nat_eq b e && nat_eq c f)
+same_kind (OneOf a) (OneOf b) = same_texts a b
+same_kind a b = false
+
+abbrev pub has_kind : Option Kind → Kind → Bool
+has_kind None kind = false
+has_kind (Some other) kind = same_kind other kind
+
+abbrev pub is_of_kind : Kind → Choice → Bool
+is_of_kind (Within least most) (Number n) = lies_within least most n
+is_of_kind (Among a b c) (Number n) = is_among a b c n
+is_of_kind (OneOf texts) (Nth n) = nat_lt n (length (texts_of texts))
+is_of_kind kind choice = false
+
+abbrev pub default_fits : Need → Kind → Bool
+default_fits (Default choice) kind = is_of_kind kind choice
+default_fits need kind = true
+
+abbrev pub are_sound : List Row → List Row → Bool
+are_sound all [] = true
+are_sound all (row ∷ rows) = has_kind (kind_of all row.key) row.kind && (default_fits row.need row.kind && are_sound all rows)
+
+parts : (a b : Bool) → (a && b) ≡ true → (a ≡ true) × (b ≡ true)
+parts true b e = (refl, e)
+parts false b e = absurd (cc)
+
+texts_exact : (a b : Texts) → same_texts a b ≡ true → a ≡ b
+texts_exact Places Places e = refl
+texts_exact Wraps Wraps e = refl
+texts_exact Turns Turns e = refl
+texts_exact Places Wraps e = absurd (cc)
+texts_exact Places Turns e = absurd (cc)
+texts_exact Wraps Places e = absurd (cc)
+texts_exact Wraps Turns e = absurd (cc)
+texts_exact Turns Places e = absurd (cc)
+texts_exact Turns Wraps e = absurd (cc)
+
+kind_exact : (a b : Kind) → same_kind a b ≡ true → a ≡ b
+kind_exact FileName FileName e = refl
+kind_exact (Within a b) (Within c d) e =
+    let t = parts (nat_eq a c) (nat_eq b d) e in
+    ap (λ n. Within n b) (eqb-true a c t.0) ∙ ap (Within c) (eqb-true b d t.1)
+kind_exact (Among a b c) (Among d f g) e =
+    let t = parts (nat_eq a d) (nat_eq b f && nat_eq c g) e in
+    let u = parts (nat_eq b f) (nat_eq c g) t.1 in
+    ap (λ n. Among n b c) (eqb-true a d t.0) ∙ ap (λ n. Among d n c) (eqb-true b f u.0) ∙ ap (Among d f) (eqb-true c g u.1)
+kind_exact (OneOf a) (OneOf b) e = ap OneOf (texts_exact a b e)
+kind_exact FileName (Within c d) e = absurd (cc)
+kind_exact FileName (Among d f g) e = absurd (cc)
+kind_exact FileName (OneOf b) e = absurd (cc)
+kind_exact (Within a b) FileName e = absurd (cc)
+kind_exact (Within a b) (Among d f g) e = absurd (cc)
+kind_exact (Within a b) (OneOf d) e = absurd (cc)
+kind_exact (Among a b c) FileName e = absurd (cc)
+kind_exact (Among a b c) (Within d f) e = absurd (cc)
+kind_exact (Among a b c) (OneOf d) e = absurd (cc)
+kind_exact (OneOf a) FileName e = absurd (cc)
+kind_exact (OneOf a) (Within c d) e = absurd (cc)
+kind_exact (OneOf a) (Among d f g) e = absurd (cc)
+
+option_kind_exact : (o : Option Kind) (kind : Kind) → has_kind o kind ≡ true → o ≡ Some kind
+option_kind_exact None kind e = absurd (cc)
+option_kind_exact (Some other) kind e = ap Some (kind_exact other kind e)
+
+choice_of_kind : (kind : Kind) (choice : Choice) → is_of_kind kind choice ≡ true → IsOfKind kind (Chosen choice)
+choice_of_kind (Within least most) (Number n) e = both least most n e
+choice_of_kind (Among a b c) (Number n) e = one_of a b c n e
+choice_of_kind (OneOf texts) (Nth n) e = grind (arith, nat_tests)
+choice_of_kind FileName (Number n) e = absurd (cc)
+choice_of_kind FileName (Nth n) e = absurd (cc)
+choice_of_kind (Within least most) (Nth n) e = absurd (cc)
+choice_of_kind (Among a b c) (Nth n) e = absurd (cc)
+choice_of_kind (OneOf texts) (Number n) e = absurd (cc)
+
+fits : (need : Need) (kind : Kind) → default_fits need kind ≡ true → DefaultFits need kind
+fits Always kind e = tt
+fits BelowAnother kind e = tt
+fits (Default choice) kind e = choice_of_kind kind choice e
+
+pub sound : (all rows : List Row) → are_sound all rows ≡ true → AreSound all rows
+sound all [] e = tt
+sound all (row ∷ rows) e =
+    let t = parts (has_kind (kind_of all row.key) row.kind) (default_fits row.need row.kind && are_sound all rows) e in
+    let u = parts (default_fits row.need row.kind) (are_sound all rows) t.1 in
+    (option_kind_exact (kind_of all row.key) row.kind t.0, fits row.need row.kind u.0, sound all rows u.1)
 
 -- the settings of the words with the defaults
 pub record AreAll (rows : List Row) (all : List Setting) : Type 0 where
@@ -135,62 +236,109 @@ module _ (rows : List Row) (all : List Setting) (sound : AreSound rows rows) (a 
   pub full : HasAllValues rows all
   full = all_valued rows sound a.none
 
--- The file names of some keys.
+-- The value of a key of the table.
 
--- each of them has one
-abbrev pub AreFiles : List Setting → List Key → Type 0
-AreFiles all [] = Unit {0}
-AreFiles all (key ∷ keys) = IsSomeAnd (value_at key all) (IsOfKind FileName) × AreFiles all keys
+abbrev pub GivenBy : Option Row → Key → List Setting → Type 0
+GivenBy None key all = Unit {0}
+GivenBy (Some row) key all = IsGivenAs row.need row.kind (value_at key all)
+
+pub given_at : (rows : List Row) (all : List Setting) → HasAllValues rows all → (key : Key) → GivenBy (find (λ (row : Row). same_key row.key key) rows) key all
+given_at [] all h key = tt
+given_at (row ∷ rows) all h key = tried (same_key row.key key) refl (given_at rows all h.1 key)
+  where
+    tried : (b : Bool) → same_key row.key key ≡ b → GivenBy (find (λ (r : Row). same_key r.key key) rows) key all → GivenBy (cond b (Some row) (find (λ (r : Row). same_key r.key key) rows)) key all
+    tried true same later = subst (λ k. IsGivenAs row.need row.kind (value_at k all)) (key_exact row.key key same) h.0
+    tried false same later = later
+
+pub is_named : (o : Option Value) → IsSomeAnd o (IsOfKind FileName) → IsNamed o
+is_named None h = absurd h
+is_named (Some (Named name)) h = tt
+is_named (Some (Chosen choice)) h = absurd h
+
+-- The file names of some keys.
 
 -- no two are the same key
 abbrev pub differ : List Key → Bool
 differ [] = true
 differ (key ∷ keys) = not (list_any (same_key key) keys) && differ keys
 
-name_is : (o : Option Value) → IsSomeAnd o (IsOfKind FileName) → (o ≡ Some (Named (text_in o))) × (text_in o ≢ [])
-name_is None h = absurd h
-name_is (Some (Named name)) h = (refl, h)
-name_is (Some (Chosen choice)) h = absurd h
-
-parts : (a b : Bool) → (a && b) ≡ true → (a ≡ true) × (b ≡ true)
-parts true b e = (refl, e)
-parts false b e = absurd (cc)
-
 neither : (a b : Bool) → not (a || b) ≡ true → (a ≡ false) × (not b ≡ true)
 neither true b e = absurd (cc)
 neither false b e = (refl, e)
 
-module _ (rows : List Row) (all : List Setting) (sound : AreSound rows rows) (a : AreAll rows all) where
-  abbrev names_at : List Key → List (List ℕ)
-  names_at keys = map (λ key. text_of key all) keys
+-- a file name of any kind isn't empty
+name_given : (o : Option Kind) (name : List ℕ) → HasKind o (Named name) → name ≢ []
+name_given None name h = absurd h
+name_given (Some FileName) name h = h
+name_given (Some (Within least most)) name h = absurd h
+name_given (Some (Among a b c)) name h = absurd h
+name_given (Some (OneOf texts)) name h = absurd h
 
-  given : (keys : List Key) → AreFiles all keys → All (λ name. name ≢ []) (names_at keys)
-  given [] files = All-nil _
-  given (key ∷ keys) files = All-cons (λ name. name ≢ []) (text_of key all) (names_at keys) (name_is (value_at key all) files.0).1 (given keys files.1)
+module _ (rows : List Row) (all : List Setting) (sound : AreSound rows rows) (a : AreAll rows all) where
+  -- the names of those keys that have one
+  abbrev names_at : List Key → List (List ℕ)
+  names_at keys = filter_map (name_if_set all) keys
+
+  given : (keys : List Key) → All (λ name. name ≢ []) (names_at keys)
+  given [] = All-nil _
+  given (key ∷ keys) = by (value_at key all) refl (given keys)
+    where
+      by : (o : Option Value) → value_at key all ≡ o → All (λ name. name ≢ []) (names_at keys) → All (λ name. name ≢ []) (cons_option (name_in o) (names_at keys))
+      by None was rest = rest
+      by (Some (Chosen choice)) was rest = rest
+      by (Some (Named name)) was rest = All-cons (λ n. n ≢ []) name (names_at keys) (name_given (kind_of rows key) name (of_kind rows all sound a key (Named name) was)) rest
 
   -- a key's name is none of those of other keys
-  apart_from : (key : Key) → IsSomeAnd (value_at key all) (IsOfKind FileName) → (keys : List Key) → AreFiles all keys → not (list_any (same_key key) keys) ≡ true → All (λ name. text_of key all ≢ name) (names_at keys)
-  apart_from key named [] files e = All-nil _
-  apart_from key named (other ∷ keys) files e =
+  apart_from : (key : Key) (name : List ℕ) → value_at key all ≡ Some (Named name) → (keys : List Key) → not (list_any (same_key key) keys) ≡ true → All (λ n. name ≢ n) (names_at keys)
+  apart_from key name named [] e = All-nil _
+  apart_from key name named (other ∷ keys) e =
       let test = neither (same_key key other) (list_any (same_key key) keys) e in
-      All-cons (λ name. text_of key all ≢ name) (text_of other all) (names_at keys) (apart test.0) (apart_from key named keys files.1 test.1)
+      by (value_at other all) refl test.0 (apart_from key name named keys test.1)
     where
-      apart : same_key key other ≡ false → text_of key all ≢ text_of other all
-      apart differs same_name =
-          let first = (name_is (value_at key all) named).0 in
-          let second = (name_is (value_at other all) files.0).0 ∙ ap (λ t. Some (Named t)) (sym same_name) in
-          let one : key ≡ other = one_key rows all sound a key other (text_of key all) first second in
+      differs : (n : List ℕ) → value_at other all ≡ Some (Named n) → same_key key other ≡ false → name ≢ n
+      differs n was unlike same_name =
+          let one : key ≡ other = one_key rows all sound a key other name named (was ∙ ap (λ t. Some (Named t)) (sym same_name)) in
           let test : same_key key other ≡ true = ap (same_key key) (sym one) ∙ key_itself key in
           absurd (cc)
 
-  apart_all : (keys : List Key) → AreFiles all keys → differ keys ≡ true → AllPairs (λ a b. a ≢ b) (names_at keys)
-  apart_all [] files e = λ i j d lt below. absurd (omega arith)
-  apart_all (key ∷ keys) files e =
-      let test = parts (not (list_any (same_key key) keys)) (differ keys) e in
-      AllPairs-cons (λ a b. a ≢ b) (text_of key all) (names_at keys) (apart_from key files.0 keys files.1 test.0) (apart_all keys files.1 test.1)
+      by : (o : Option Value) → value_at other all ≡ o → same_key key other ≡ false → All (λ n. name ≢ n) (names_at keys) → All (λ n. name ≢ n) (cons_option (name_in o) (names_at keys))
+      by None was unlike rest = rest
+      by (Some (Chosen choice)) was unlike rest = rest
+      by (Some (Named n)) was unlike rest = All-cons (λ t. name ≢ t) n (names_at keys) (differs n was unlike) rest
 
-  pub are_names : (keys : List Key) → AreFiles all keys → differ keys ≡ true → AreNames (names_at keys)
-  are_names keys files e = record { given = given keys files; apart = apart_all keys files e }
+  apart_all : (keys : List Key) → differ keys ≡ true → AllPairs (λ a b. a ≢ b) (names_at keys)
+  apart_all [] e = λ i j d lt below. absurd (omega arith)
+  apart_all (key ∷ keys) e =
+      let test = parts (not (list_any (same_key key) keys)) (differ keys) e in
+      by (value_at key all) refl test.0 (apart_all keys test.1)
+    where
+      by : (o : Option Value) → value_at key all ≡ o → not (list_any (same_key key) keys) ≡ true → AllPairs (λ a b. a ≢ b) (names_at keys) → AllPairs (λ a b. a ≢ b) (cons_option (name_in o) (names_at keys))
+      by None was unlike rest = rest
+      by (Some (Chosen choice)) was unlike rest = rest
+      by (Some (Named name)) was unlike rest = AllPairs-cons (λ a b. a ≢ b) name (names_at keys) (apart_from key name was keys unlike) rest
+
+  pub are_names : (keys : List Key) → differ keys ≡ true → AreNames (names_at keys)
+  are_names keys e = record { given = given keys; apart = apart_all keys e }
+
+  name_set : (o : Option Value) → IsNamed o → name_in o ≡ Some (text_in o)
+  name_set None h = absurd h
+  name_set (Some (Named name)) h = refl
+  name_set (Some (Chosen choice)) h = absurd h
+
+  -- the names of a run are those of their keys
+  names_listed : HasNames all → names_at (key.Sample ∷ (more_keys ++ key.Out ∷ key.Map ∷ key.Cert ∷ [])) ≡ name_list (names_of all)
+  names_listed has =
+      let set = λ (k : Key) (rest : List (List ℕ)) (named : IsNamed (value_at k all)). ap (λ o. cons_option o rest) (name_set (value_at k all) named) in
+      let last : names_at (key.Out ∷ key.Map ∷ key.Cert ∷ []) ≡ text_of key.Out all ∷ text_of key.Map all ∷ text_of key.Cert all ∷ [] =
+      set key.Out (names_at (key.Map ∷ key.Cert ∷ [])) has.out
+      ∙ ap (λ rest. text_of key.Out all ∷ rest) (set key.Map (names_at (key.Cert ∷ [])) has.map)
+      ∙ ap (λ rest. text_of key.Out all ∷ text_of key.Map all ∷ rest) (set key.Cert [] has.cert) in
+      set key.Sample (names_at (more_keys ++ key.Out ∷ key.Map ∷ key.Cert ∷ [])) has.sample
+      ∙ ap (λ rest. text_of key.Sample all ∷ rest)
+      (filter_map-append (name_if_set all) more_keys (key.Out ∷ key.Map ∷ key.Cert ∷ []) ∙ ap (λ rest. more_names all ++ rest) last)
+
+  pub names_of_run : HasNames all → AreNames (name_list (names_of all))
+  names_of_run has = subst AreNames (names_listed has) (are_names (key.Sample ∷ (more_keys ++ key.Out ∷ key.Map ∷ key.Cert ∷ [])) refl)
 
 -- A number in its range, and the position of a text in its list.
 

@@ -1,5 +1,6 @@
 pub mod Digits
 pub mod Texting
+pub mod Keeping
 pub mod Keyed
 pub mod Accepting
 pub mod Counting

@@ -1,45 +1,69 @@
 -- The words of `grow`: its keys, and its job. To be trusted: contracts cite these words. (Own.)
-use Rattle.std.specs.Prelude.{◌≡◌, ℕ, List, [], ◌∷◌, Result, Ok, slice_index_or}
+use Rattle.std.specs.Prelude.{◌≤◌, ℕ, List, [], ◌∷◌, ◌++◌, map, Result, Ok, slice_index_or}
 use Rattle.cells.specs.Places.{HasAxes}
 use Rattle.cells.specs.declared.bounds.TheConstants.{GREATEST_AXIS}
+use Rattle.cells.specs.declared.place.Size.{Size}
+use Rattle.job_words.specs.declared.bounds.TheConstants.{GREATEST_OVERLAP, GREATEST_SEED, GREATEST_TOLERANCE, MOST_ROUNDS}
 use Rattle.job_words.specs.declared.job.WordFault.{WordFault}
 use Rattle.job_words.specs.declared.keys.Key.TheVariants as key
 use Rattle.job_words.specs.declared.table.Texts.TheVariants.{Places}
 use Rattle.job_words.specs.declared.table.Kind.TheVariants.{Within, OneOf}
-use Rattle.job_words.specs.declared.table.Choice.TheVariants.{Number, Nth}
-use Rattle.job_words.specs.declared.table.Need.TheVariants.{Always, Default}
+use Rattle.job_words.specs.declared.table.Choice.TheVariants.{Nth}
+use Rattle.job_words.specs.declared.table.Need.TheVariants.{Default}
 use Rattle.job_words.specs.declared.table.Row.{Row}
 use Rattle.job_words.specs.declared.settings.Setting.{Setting}
 use Rattle.job_words.specs.declared.grow.Place.{Place}
-use Rattle.job_words.specs.declared.grow.Place.TheVariants.{Grid}
+use Rattle.job_words.specs.declared.grow.Place.TheVariants.{Grid, Random, Whole, Sub}
 use Rattle.job_words.specs.declared.grow.GrowJob.{GrowJob}
-use Rattle.job_words.specs.Tables.{row, file_row}
-use Rattle.job_words.specs.Words.{and_then, all_settings, number_at, nth_at}
-use Rattle.job_words.specs.Names.{AreNames, names_of, name_list}
+use Rattle.job_words.specs.Tables.{row, file_row, sample_row, number_row, default_row}
+use Rattle.job_words.specs.Words.{IsGiven, and_then, all_settings, number_at, nth_at}
+use Rattle.job_words.specs.Names.{AreNames, HasNames, names_of, name_list}
+
+-- the rows of further samples, in the order of their numbers
+abbrev pub sample_rows : List Row
+sample_rows =
+    map sample_row (2 ∷ 3 ∷ 4 ∷ 5 ∷ 6 ∷ 7 ∷ 8 ∷ 9 ∷ 10 ∷ 11 ∷ 12 ∷ 13 ∷ 14 ∷ 15 ∷ 16 ∷ [])
 
 -- the keys of `grow`, in the order in which missing ones are looked for
 abbrev pub grow_rows : List Row
 grow_rows =
     file_row key.Sample
-    ∷ file_row key.Out
+    ∷ (sample_rows
+    ++ file_row key.Out
     ∷ file_row key.Map
     ∷ file_row key.Cert
-    ∷ row key.Width (Within 1 GREATEST_AXIS) Always
-    ∷ row key.Height (Within 1 GREATEST_AXIS) Always
-    ∷ row key.Place (OneOf Places) (Default (Nth 0))
-    ∷ row key.Overlap (Within 0 0) (Default (Number 0))
-    ∷ []
+    ∷ number_row key.Width 1 GREATEST_AXIS
+    ∷ number_row key.Height 1 GREATEST_AXIS
+    ∷ default_row key.Frames 1 GREATEST_AXIS 1
+    ∷ row key.Place (OneOf Places) (Default (Nth 3))
+    ∷ default_row key.Side 1 GREATEST_AXIS 32
+    ∷ default_row key.Overlap 0 GREATEST_OVERLAP 8
+    ∷ default_row key.Tol 0 GREATEST_TOLERANCE 10
+    ∷ default_row key.Rounds 0 MOST_ROUNDS 0
+    ∷ default_row key.Seed 0 GREATEST_SEED 0
+    ∷ [])
 
 -- the mode at a position of the list of their texts
 abbrev pub place_nth : ℕ → Place
-place_nth n = slice_index_or (Grid ∷ []) n Grid
+place_nth n = slice_index_or (Grid ∷ Random ∷ Whole ∷ Sub ∷ []) n Grid
+
+abbrev pub grow_size : List Setting → Size
+grow_size settings = record {
+  w = number_at key.Width settings;
+  h = number_at key.Height settings;
+  f = number_at key.Frames settings;
+}
 
 abbrev pub grow_of : List Setting → GrowJob
 grow_of settings = record {
   names = names_of settings;
-  size = record { w = number_at key.Width settings; h = number_at key.Height settings; f = 1 };
+  size = grow_size settings;
   place = place_nth (nth_at key.Place settings);
+  side = number_at key.Side settings;
   overlap = number_at key.Overlap settings;
+  tol = number_at key.Tol settings;
+  rounds = number_at key.Rounds settings;
+  seed = number_at key.Seed settings;
 }
 
 -- the job of the words after `grow`
@@ -50,5 +74,21 @@ grow_job_of words = and_then (λ settings. Ok (grow_of settings)) (all_settings 
 pub record IsGrowJob (job : GrowJob) : Type 0 where
   pub names : AreNames (name_list job.names)
   pub axes : HasAxes job.size
-  pub frames : job.size.f ≡ 1
-  pub overlap : job.overlap ≡ 0
+  pub side : (1 ≤ job.side) × (job.side ≤ GREATEST_AXIS)
+  pub overlap : job.overlap ≤ GREATEST_OVERLAP
+  pub tol : job.tol ≤ GREATEST_TOLERANCE
+  pub rounds : job.rounds ≤ MOST_ROUNDS
+  pub seed : job.seed ≤ GREATEST_SEED
+
+-- the values by which a job is made are of their keys' kinds
+pub record HasGrowValues (settings : List Setting) : Type 0 where
+  pub names : HasNames settings
+  pub width : IsGiven (Within 1 GREATEST_AXIS) key.Width settings
+  pub height : IsGiven (Within 1 GREATEST_AXIS) key.Height settings
+  pub frames : IsGiven (Within 1 GREATEST_AXIS) key.Frames settings
+  pub place : IsGiven (OneOf Places) key.Place settings
+  pub side : IsGiven (Within 1 GREATEST_AXIS) key.Side settings
+  pub overlap : IsGiven (Within 0 GREATEST_OVERLAP) key.Overlap settings
+  pub tol : IsGiven (Within 0 GREATEST_TOLERANCE) key.Tol settings
+  pub rounds : IsGiven (Within 0 MOST_ROUNDS) key.Rounds settings
+  pub seed : IsGiven (Within 0 GREATEST_SEED) key.Seed settings

@@ -14,7 +14,7 @@ use Rattle.job_words.specs.declared.table.Kind.TheVariants.{FileName, Within, Am
 use Rattle.job_words.specs.declared.table.Choice.{Choice}
 use Rattle.job_words.specs.declared.table.Choice.TheVariants.{Number, Nth}
 use Rattle.job_words.specs.declared.table.Need.{Need}
-use Rattle.job_words.specs.declared.table.Need.TheVariants.{Always, Default, BelowAnother}
+use Rattle.job_words.specs.declared.table.Need.TheVariants.{Default, BelowAnother}
 use Rattle.job_words.specs.declared.table.Row.{Row}
 use Rattle.job_words.specs.declared.settings.Value.{Value}
 use Rattle.job_words.specs.declared.settings.Value.TheVariants.{Named, Chosen}
@@ -221,6 +221,10 @@ IsPosition value = ⊥
 abbrev pub IsGivenAs : Need → Kind → Option Value → Type 0
 IsGivenAs BelowAnother kind value = IfSome value (IsOfKind kind)
 IsGivenAs need kind value = IsSomeAnd value (IsOfKind kind)
+
+-- the key has a value of this kind
+abbrev pub IsGiven : Kind → Key → List Setting → Type 0
+IsGiven kind key settings = IsSomeAnd (value_at key settings) (IsOfKind kind)
 
 -- each key of the table has a value so
 abbrev pub HasAllValues : List Row → List Setting → Type 0

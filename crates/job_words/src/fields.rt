@@ -1,12 +1,12 @@
 // The values of keys, as the fields of a job take them.
-ghost use Rattle.std.specs.Prelude.{◌≡◌, IfOk};
+ghost use Rattle.std.specs.Prelude.{◌≡◌, ◌++◌, ◌∷◌, [], IfOk, OnOk};
 ghost use Rattle.job_words.specs.Words as by;
 ghost use Rattle.job_words.specs.Words.{IsNamed, IsNumeric, IsPosition};
-ghost use Rattle.job_words.specs.Names.{HasNames, names_of};
+ghost use Rattle.job_words.specs.Names.{HasNames, more_keys, more_names, name_if_set, names_of};
 
 use crate::job::Names;
 use crate::keys::Key;
-use crate::name::Name;
+use crate::name::{Name, Names16};
 use crate::settings::{Setting, Value, value_at};
 use crate::table::Choice;
 use std::alloc::{AllocError, Global};
@@ -44,6 +44,62 @@ pub fn nth_at(settings: &[Setting], key: Key) -> usize
     *n
 }
 
+const MORE_KEYS: [Key; 15] = [
+    Key::More(2),
+    Key::More(3),
+    Key::More(4),
+    Key::More(5),
+    Key::More(6),
+    Key::More(7),
+    Key::More(8),
+    Key::More(9),
+    Key::More(10),
+    Key::More(11),
+    Key::More(12),
+    Key::More(13),
+    Key::More(14),
+    Key::More(15),
+    Key::More(16),
+];
+
+// The keys of further samples.
+fn more_keys() -> &'static [Key]
+    ensures { result.now ≡ more_keys }
+{
+    &MORE_KEYS
+}
+
+// The file name of a key, where one is set.
+fn name_if_set(alloc: Global, settings: &[Setting], key: Key) -> Result<Option<Name>, AllocError>
+    ensures { IfOk result (λ name. name ≡ name_if_set settings.now key) }
+{
+    match value_at(settings, key) {
+        Some(Value::Named(name)) => Ok(Some(Name::copy(alloc, name.as_text())?)),
+        _ => Ok(None),
+    }
+}
+
+fn add_name(names: &mut Vec<Name>, name: Name) -> Result<(), AllocError>
+    ensures { OnOk result (names.new.items ≡ names.old.items ++ name ∷ []) }
+{
+    names.push(name)?;
+    Ok(())
+}
+
+// The file names of the further samples.
+fn more_at(alloc: Global, settings: &[Setting]) -> Result<Names16, AllocError>
+    ensures { IfOk result (λ names. names ≡ more_names settings.now) }
+{
+    let mut names = Vec::new(alloc);
+    let keys = more_keys();
+    for key in keys {
+        if let Some(name) = name_if_set(alloc, settings, *key)? {
+            add_name(&mut names, name)?;
+        }
+    }
+    Ok(Names16::from_vec(names))
+}
+
 /// The file names of a run.
 pub fn names_at(alloc: Global, settings: &[Setting]) -> Result<Names, AllocError>
     requires { HasNames settings.now }
@@ -51,6 +107,7 @@ pub fn names_at(alloc: Global, settings: &[Setting]) -> Result<Names, AllocError
 {
     Ok(Names {
         sample: name_at(alloc, settings, Key::Sample)?,
+        more: more_at(alloc, settings)?,
         out: name_at(alloc, settings, Key::Out)?,
         map: name_at(alloc, settings, Key::Map)?,
         cert: name_at(alloc, settings, Key::Cert)?,

@@ -1,16 +1,16 @@
 // The words of `grow`.
 ghost use Rattle.std.specs.Prelude.{◌≡◌, ◌<◌, IfOk};
 ghost use Rattle.job_words.specs.Words as by;
-ghost use Rattle.job_words.specs.Words.{HasAllValues};
-ghost use Rattle.job_words.specs.GrowWords.{IsGrowJob, grow_job_of, grow_of, grow_rows, place_nth};
+ghost use Rattle.job_words.specs.GrowWords.{HasGrowValues, IsGrowJob, grow_job_of, grow_of, grow_rows, grow_size, place_nth};
 
+use crate::bounds::{GREATEST_OVERLAP, GREATEST_SEED, GREATEST_TOLERANCE, MOST_ROUNDS};
 use crate::fields::{names_at, nth_at, number_at};
 use crate::job::{Names, WordFault};
 use crate::keys::Key;
 use crate::name::Name;
 use crate::read::all_settings;
 use crate::settings::Setting;
-use crate::table::{Choice, Kind, Need, Row, Texts};
+use crate::table::{Choice, Kind, Need, Row, Texts, file_row, number_row, sample_row};
 use cells::{GREATEST_AXIS, Size};
 use std::alloc::{AllocError, Global};
 
@@ -19,66 +19,66 @@ use std::alloc::{AllocError, Global};
 pub enum Place {
     /// Copies of the whole sample, laid as tiles.
     Grid,
+    /// Copies of the whole sample, laid at random.
+    Random,
+    /// Copies of the whole sample, laid where they fit what stands there.
+    Whole,
+    /// Patches of the sample that fit what stands there.
+    Sub,
 }
 
-/// Growing an output from a sample.
+/// Growing an output from samples.
 #[derive(Drop)]
 pub struct GrowJob {
     pub names: Names,
     /// The output's size in cells: 1 to 4,096 on each axis.
     pub size: Size,
     pub place: Place,
-    /// How many cells neighbouring patches share on an axis: 0.
+    /// How many cells a patch has on an axis, cut to the sample and the output: 1 to 4,096.
+    pub side: u32,
+    /// How many cells neighbouring patches share on an axis, cut to the patch: 0 to 4,095.
     pub overlap: u32,
+    /// By how much more than the best a pick may differ, in hundredths: 0 to 1,000.
+    pub tol: u32,
+    /// The most rounds of refinement: 0 to 1,000.
+    pub rounds: u32,
+    /// The seed of the draws.
+    pub seed: u64,
 }
 
-const ROWS: [Row; 8] = [
-    Row {
-        key: Key::Sample,
-        kind: Kind::FileName,
-        need: Need::Always,
-    },
-    Row {
-        key: Key::Out,
-        kind: Kind::FileName,
-        need: Need::Always,
-    },
-    Row {
-        key: Key::Map,
-        kind: Kind::FileName,
-        need: Need::Always,
-    },
-    Row {
-        key: Key::Cert,
-        kind: Kind::FileName,
-        need: Need::Always,
-    },
-    Row {
-        key: Key::Width,
-        kind: Kind::Within {
-            least: 1,
-            most: GREATEST_AXIS as u64,
-        },
-        need: Need::Always,
-    },
-    Row {
-        key: Key::Height,
-        kind: Kind::Within {
-            least: 1,
-            most: GREATEST_AXIS as u64,
-        },
-        need: Need::Always,
-    },
+const ROWS: [Row; 28] = [
+    file_row!(Sample),
+    sample_row!(2),
+    sample_row!(3),
+    sample_row!(4),
+    sample_row!(5),
+    sample_row!(6),
+    sample_row!(7),
+    sample_row!(8),
+    sample_row!(9),
+    sample_row!(10),
+    sample_row!(11),
+    sample_row!(12),
+    sample_row!(13),
+    sample_row!(14),
+    sample_row!(15),
+    sample_row!(16),
+    file_row!(Out),
+    file_row!(Map),
+    file_row!(Cert),
+    number_row!(Width, 1, GREATEST_AXIS as u64),
+    number_row!(Height, 1, GREATEST_AXIS as u64),
+    number_row!(Frames, 1, GREATEST_AXIS as u64, 1),
     Row {
         key: Key::Place,
         kind: Kind::OneOf(Texts::Places),
-        need: Need::Default(Choice::Nth(0)),
+        need: Need::Default(Choice::Nth(3)),
     },
-    Row {
-        key: Key::Overlap,
-        kind: Kind::Within { least: 0, most: 0 },
-        need: Need::Default(Choice::Number(0)),
-    },
+    number_row!(Side, 1, GREATEST_AXIS as u64, 32),
+    number_row!(Overlap, 0, GREATEST_OVERLAP as u64, 8),
+    number_row!(Tol, 0, GREATEST_TOLERANCE as u64, 10),
+    number_row!(Rounds, 0, MOST_ROUNDS as u64, 0),
+    number_row!(Seed, 0, GREATEST_SEED, 0),
 ];
 
 fn rows() -> &'static [Row]
@@ -89,30 +89,38 @@ fn rows() -> &'static [Row]
 
 // The mode at a position of their list.
 fn place_nth(n: usize) -> Place
-    requires { n < 1 }
+    requires { n < 4 }
     ensures { result ≡ place_nth n }
 {
-    [Place::Grid][n]
+    [Place::Grid, Place::Random, Place::Whole, Place::Sub][n]
+}
+
+// The output's size.
+fn size_at(settings: &[Setting]) -> Size
+    requires { HasGrowValues settings.now }
+    ensures { result ≡ grow_size settings.now }
+{
+    Size {
+        w: number_at(settings, Key::Width) as u32,
+        h: number_at(settings, Key::Height) as u32,
+        f: number_at(settings, Key::Frames) as u32,
+    }
 }
 
 // The job of the values of all keys.
 fn job_of(alloc: Global, settings: &[Setting]) -> Result<GrowJob, AllocError>
-    requires { HasAllValues grow_rows settings.now }
+    requires { HasGrowValues settings.now }
     ensures { IfOk result (λ job. job ≡ grow_of settings.now) }
 {
-    let names = names_at(alloc, settings)?;
-    let size = Size {
-        w: number_at(settings, Key::Width) as u32,
-        h: number_at(settings, Key::Height) as u32,
-        f: 1,
-    };
-    let place = place_nth(nth_at(settings, Key::Place));
-    let overlap = number_at(settings, Key::Overlap) as u32;
     Ok(GrowJob {
-        names,
-        size,
-        place,
-        overlap,
+        names: names_at(alloc, settings)?,
+        size: size_at(settings),
+        place: place_nth(nth_at(settings, Key::Place)),
+        side: number_at(settings, Key::Side) as u32,
+        overlap: number_at(settings, Key::Overlap) as u32,
+        tol: number_at(settings, Key::Tol) as u32,
+        rounds: number_at(settings, Key::Rounds) as u32,
+        seed: number_at(settings, Key::Seed),
     })
 }
 

@@ -4,15 +4,17 @@ ghost use Rattle.job_words.specs.declared.job.WordFault.TheVariants as word;
 
 use crate::grow::GrowJob;
 use crate::keys::Key;
-use crate::name::Name;
+use crate::name::{Name, Names16};
 use cells::Axis;
 use std::alloc::AllocError;
 
 /// The files of a run.
 #[derive(Drop)]
 pub struct Names {
-    /// The sample, which is read.
+    /// The first sample, which is read.
     pub sample: Name,
+    /// The further samples.
+    pub more: Names16,
     /// The picture or clip.
     pub out: Name,
     /// The map.

@@ -7,6 +7,7 @@
 //! how one is added.
 #![tactic(auto)]
 
+mod bounds;
 mod fields;
 mod grow;
 mod job;
@@ -16,11 +17,12 @@ mod read;
 mod settings;
 mod table;
 
+pub use bounds::{GREATEST_OVERLAP, GREATEST_SEED, GREATEST_TOLERANCE, MOST_ROUNDS};
 pub use cells::Taps;
 pub use grow::{GrowJob, Place};
 pub use job::{Job, Names, WordFault};
 pub use keys::Key;
-pub use name::{Name, Words};
+pub use name::{Name, Names16, Words};
 pub use read::read_job;
 
 #[cfg(test)]

@@ -1,5 +1,5 @@
 // Words and names.
-ghost use Rattle.std.specs.Prelude.{◌≡◌, ◌++◌, ◌∷◌, [], IfOk, OnOk, OnErr};
+ghost use Rattle.std.specs.Prelude.{◌≡◌, ◌≤◌, ◌++◌, ◌∷◌, [], length, IfOk, OnOk, OnErr};
 
 use std::alloc::{AllocError, Global};
 use std::marker::Model;
@@ -32,6 +32,40 @@ impl Name {
         ensures { result.now ≡ self.now }
     {
         self.text.as_str()
+    }
+}
+
+/// The names of the further samples, from 2 to at most 16, in the order of their numbers.
+#[derive(Drop)]
+pub struct Names16 {
+    names: Vec<Name>,
+}
+
+impl Model for Names16 {
+    ghost use Rattle.std.specs.Prelude.{◌≤◌, List, ℕ, length};
+
+    ghost Value = { List (List ℕ) };
+
+    ghost view = { λ a. a.names.items };
+
+    ghost invariant = { λ a. length a.names.items ≤ 15 };
+}
+
+impl Names16 {
+    // These names.
+    pub(crate) fn from_vec(names: Vec<Name>) -> Names16
+        requires { length names.items ≤ 15 }
+        ensures { result ≡ names.items }
+    {
+        Names16 { names }
+    }
+
+    /// The names in the order of their numbers: the first is that of sample 2.
+    pub fn as_slice(&self) -> &[Name]
+        ensures names { result.now ≡ self.now }
+        ensures few { length result.now ≤ 15 }
+    {
+        self.names.as_slice()
     }
 }
 

@@ -21,7 +21,7 @@ impl Texts {
         ensures { map (λ text. text.now) result.now ≡ texts_of self }
     {
         match self {
-            Texts::Places => &["grid"],
+            Texts::Places => &["grid", "random", "whole", "sub"],
             Texts::Wraps => &["x", "y", "xy", "f", "xyf"],
             Texts::Turns => &["none", "all"],
         }
@@ -79,3 +79,54 @@ pub struct Row {
     pub kind: Kind,
     pub need: Need,
 }
+
+// The row of a key that a word has to set to the name of a file.
+macro_rules! file_row {
+    ($key:ident) => {
+        Row {
+            key: Key::$key,
+            kind: Kind::FileName,
+            need: Need::Always,
+        }
+    };
+}
+
+// The row of the key of a further sample.
+macro_rules! sample_row {
+    ($number:literal) => {
+        Row {
+            key: Key::More($number),
+            kind: Kind::FileName,
+            need: Need::BelowAnother,
+        }
+    };
+}
+
+// The row of a key with a number, both bounds included. Without a word it has the default, if one is
+// given.
+macro_rules! number_row {
+    ($key:ident, $least:expr, $most:expr) => {
+        Row {
+            key: Key::$key,
+            kind: Kind::Within {
+                least: $least,
+                most: $most,
+            },
+            need: Need::Always,
+        }
+    };
+    ($key:ident, $least:expr, $most:expr, $default:expr) => {
+        Row {
+            key: Key::$key,
+            kind: Kind::Within {
+                least: $least,
+                most: $most,
+            },
+            need: Need::Default(Choice::Number($default)),
+        }
+    };
+}
+
+pub(crate) use file_row;
+pub(crate) use number_row;
+pub(crate) use sample_row;

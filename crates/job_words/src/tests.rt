@@ -29,7 +29,7 @@ fn long_word(
 #[test]
 fn refusals(rt: HostRuntime) -> Result<(), Fail> {
     let alloc = rt.alloc();
-    let table: [(&[&str], WordFault); 25] = [
+    let table: [(&[&str], WordFault); 37] = [
         (&[], WordFault::NoCommand),
         (&["quilt"], WordFault::UnknownCommand),
         (&["grow "], WordFault::UnknownCommand),
@@ -39,7 +39,10 @@ fn refusals(rt: HostRuntime) -> Result<(), Fail> {
         (&["grow", "sample="], WordFault::BadWord(2)),
         (&["grow", "=x"], WordFault::BadWord(2)),
         (&["grow", ""], WordFault::BadWord(2)),
-        (&["grow", "box=4"], WordFault::UnknownKey(2)),
+        (&["grow", "block=4"], WordFault::UnknownKey(2)),
+        (&["grow", "sample1=a"], WordFault::UnknownKey(2)),
+        (&["grow", "sample02=a"], WordFault::UnknownKey(2)),
+        (&["grow", "sample17=a"], WordFault::UnknownKey(2)),
         (&["grow", "Sample=a"], WordFault::UnknownKey(2)),
         (&["grow", "größe=7"], WordFault::UnknownKey(2)),
         (&["grow", "width=7", "width=8"], WordFault::Repeated(3)),
@@ -49,10 +52,28 @@ fn refusals(rt: HostRuntime) -> Result<(), Fail> {
         (&["grow", "height=7 "], WordFault::BadValue(2)),
         (&["grow", "width=0"], WordFault::OutOfRange(2)),
         (&["grow", "width=4097"], WordFault::OutOfRange(2)),
-        (&["grow", "overlap=1"], WordFault::OutOfRange(2)),
+        (&["grow", "frames=4097"], WordFault::OutOfRange(2)),
+        (&["grow", "box=0"], WordFault::OutOfRange(2)),
+        (&["grow", "overlap=4096"], WordFault::OutOfRange(2)),
+        (&["grow", "tol=1001"], WordFault::OutOfRange(2)),
+        (&["grow", "rounds=1001"], WordFault::OutOfRange(2)),
+        (
+            &["grow", "seed=18446744073709551616"],
+            WordFault::OutOfRange(2),
+        ),
         (&["grow", "out=a", "map=a"], WordFault::SameName(3)),
+        (&["grow", "sample16=a", "sample2=a"], WordFault::SameName(3)),
         (&["grow", "width=0", "sample"], WordFault::OutOfRange(2)),
         (&["grow", "sample", "width=0"], WordFault::BadWord(2)),
+        (&["grow", "sample2=b"], WordFault::Missing(Key::Sample)),
+        (
+            &["grow", "sample=a", "sample3=c"],
+            WordFault::Missing(Key::More(2)),
+        ),
+        (
+            &["grow", "sample=a", "sample2=b"],
+            WordFault::Missing(Key::Out),
+        ),
         (
             &["grow", "record=d", "map=c", "sample=a", "width=1"],
             WordFault::Missing(Key::Out),
@@ -86,7 +107,7 @@ fn job(alloc: Global, words: &[&str]) -> Result<GrowJob, WordFault> {
 }
 
 #[test]
-fn jobs(rt: HostRuntime) -> Result<(), Fail> {
+fn defaults(rt: HostRuntime) -> Result<(), Fail> {
     let alloc = rt.alloc();
     let seven = long_word(alloc, "height=", '0', 399, "7")?;
     let plain = job(
@@ -104,29 +125,59 @@ fn jobs(rt: HostRuntime) -> Result<(), Fail> {
     .ok()
     .ok_or("refused")?;
     assert_eq!(rt; plain.names.sample.as_text(), "a");
+    assert_eq!(rt; plain.names.more.as_slice().len(), 0);
     assert_eq!(rt; plain.names.out.as_text(), "place");
     assert_eq!(rt; plain.names.map.as_text(), "größe=x");
     assert_eq!(rt; plain.names.cert.as_text(), "d");
     assert_eq!(rt; (plain.size.w, plain.size.h, plain.size.f), (4096, 7, 1));
-    assert_eq!(rt; (plain.place, plain.overlap), (Place::Grid, 0));
+    assert_eq!(rt;
+        (plain.place, plain.side, plain.overlap),
+        (Place::Sub, 32, 8)
+    );
+    assert_eq!(rt; (plain.tol, plain.rounds, plain.seed), (10, 0, 0));
+    Ok(())
+}
+
+#[test]
+fn all_keys(rt: HostRuntime) -> Result<(), Fail> {
+    let alloc = rt.alloc();
     let whole = job(
         alloc,
         &[
             "grow",
-            "overlap=00",
-            "place=grid",
+            "seed=18446744073709551615",
+            "rounds=1000",
+            "tol=01000",
+            "overlap=4095",
+            "box=4096",
+            "place=random",
+            "frames=3",
             "height=1",
             "width=2",
-            "record=4",
-            "map=3",
-            "out=2",
-            "sample=1",
+            "record=r",
+            "map=m",
+            "out=o",
+            "sample3=c",
+            "sample=a",
+            "sample2=b",
         ],
     )
     .ok()
     .ok_or("refused")?;
-    assert_eq!(rt; whole.names.cert.as_text(), "4");
-    assert_eq!(rt; (whole.size.w, whole.size.h), (2, 1));
-    assert_eq!(rt; (whole.place, whole.overlap), (Place::Grid, 0));
+    assert_eq!(rt; whole.names.sample.as_text(), "a");
+    let [second, third] = whole.names.more.as_slice() else {
+        return Err(Fail::from("not two further samples"));
+    };
+    assert_eq!(rt; (second.as_text(), third.as_text()), ("b", "c"));
+    assert_eq!(rt; whole.names.cert.as_text(), "r");
+    assert_eq!(rt; (whole.size.w, whole.size.h, whole.size.f), (2, 1, 3));
+    assert_eq!(rt;
+        (whole.place, whole.side, whole.overlap),
+        (Place::Random, 4096, 4095)
+    );
+    assert_eq!(rt;
+        (whole.tol, whole.rounds, whole.seed),
+        (1000, 1000, u64::MAX)
+    );
     Ok(())
 }

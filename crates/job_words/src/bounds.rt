@@ -1,0 +1,13 @@
+// The greatest numbers of words.
+
+/// The greatest overlap of neighbouring patches or blocks, in cells.
+pub const GREATEST_OVERLAP: u32 = 4095;
+
+/// The greatest tolerance of a pick, in hundredths.
+pub const GREATEST_TOLERANCE: u32 = 1000;
+
+/// The most rounds of refinement.
+pub const MOST_ROUNDS: u32 = 1000;
+
+/// The greatest seed of draws.
+pub const GREATEST_SEED: u64 = 18446744073709551615;

@@ -1,0 +1,176 @@
+-- What the scanner makes of a file's front tells the answer of its stream line.
+use Rattle.std.proofs.Common.{◌≡◌, ℕ, zero, suc, ◌≤◌, ◌<◌, ◌+◌, ◌-◌, ◌⊎◌, inl, inr, List, [], ◌∷◌, ◌++◌, length, take, drop, min, refl, sym, ap, ◌∙◌, subst, arith, append_assoc, Bool, true, false, cond}
+use Rattle.std.specs.Prelude.{Option, Some, None, nat_lt, replicate, Result, Ok, Err, IfOk}
+use Rattle.std.proofs.lemmas.List.{append-nil, length-append, take-append-drop, length-take-le, take-take, take_all, length-drop}
+use Rattle.std.proofs.lemmas.Bool.{ltb-true, ltb-false}
+use Rattle.shelf_core.specs.declared.fault.ReadError.{ReadError}
+use Rattle.shelf_core.specs.declared.fault.ReadError.TheVariants.{ReadFault, Bad, Limit, NoMemory}
+use Rattle.shelf_core.specs.declared.fault.FormFault.TheVariants.{Form}
+use Rattle.shelf_core.specs.declared.fault.What.TheVariants.{Header}
+use Rattle.shelf_core.specs.Files.{ShelfState, Reads, content_of, Changes}
+use Rattle.y4m_clip.specs.declared.scan.Scan.TheVariants.{Magic, Whole}
+use Rattle.y4m_clip.specs.declared.scan.Scanned.{Scanned}
+use Rattle.y4m_clip.specs.declared.scan.Scanned.TheVariants.{Open, Broken, Ended}
+use Rattle.y4m_clip.specs.StreamLine.{Continues, IsStreamLine, IsLinePrefix, IsProperLinePrefix}
+use Rattle.y4m_clip.specs.Scanning.{line_run, IsSoundLine}
+use Rattle.y4m_clip.specs.Reading.{GoesWrong, EndsAfter, IsStreamScanned, line_judged, IsLineFound, FindsLineAs}
+use Rattle.y4m_clip.specs.Refusals.{LineBreaks, LineTooLong}
+use Rattle.y4m_clip.proofs.Runs.{run_then}
+use Rattle.y4m_clip.proofs.Prefixes.{magic, line_runs}
+use Rattle.y4m_clip.proofs.Sees.{Sees, sees_weaker}
+
+-- No stream line is the front of another.
+
+nothing_behind : (text : List ℕ) → line_run Whole text ≡ Some Whole → text ≡ []
+nothing_behind [] run = refl
+nothing_behind (b ∷ text) run = let none : None ≡ Some Whole = run in cc
+
+runs_at : (line : List ℕ) (tags : List (List ℕ)) → (is : IsStreamLine line tags) → line_run Magic is.rest ≡ Some Whole
+runs_at line tags is = line_runs is.rest tags (subst (λ t. IsStreamLine t tags) is.is is)
+
+pub no_longer : (line more : List ℕ) (tags tags' : List (List ℕ)) → IsStreamLine line tags → IsStreamLine (line ++ more) tags' → more ≡ []
+no_longer line more tags tags' first second =
+    let joined : first.rest ++ more ≡ second.rest = ap (drop 9) (ap (λ t. t ++ more) (sym first.is) ∙ second.is) in
+    let both : line_run Magic (first.rest ++ more) ≡ Some Whole = ap (line_run Magic) joined ∙ runs_at (line ++ more) tags' second in
+    nothing_behind more (sym (run_then Magic Whole (line_run Whole more) first.rest more (runs_at line tags first) refl) ∙ both)
+
+pub shorter_prefix : (text : List ℕ) (i : ℕ) → IsLinePrefix text → IsLinePrefix (take i text)
+shorter_prefix text i prefix = record {
+  rest = drop i text ++ prefix.rest;
+  tags = prefix.tags;
+  line = subst (λ t. IsStreamLine t prefix.tags) (ap (λ t. t ++ prefix.rest) (sym (take-append-drop i text)) ∙ append_assoc (take i text) (drop i text) prefix.rest) prefix.line;
+}
+
+-- so a shorter front is a proper one
+pub proper_shorter : (text : List ℕ) (i : ℕ) → IsLinePrefix text → i < length text → IsProperLinePrefix (take i text)
+unfolding shorter_prefix
+proper_shorter text i prefix shorter = record {
+  starts = shorter_prefix text i prefix;
+  proper = λ tags line.
+      let none : drop i text ++ prefix.rest ≡ []
+      = no_longer (take i text) (drop i text ++ prefix.rest) tags prefix.tags line (shorter_prefix text i prefix).line in
+      omega (arith, ap length none, length-append (drop i text) prefix.rest, length-drop i text);
+}
+
+-- The front of a file.
+
+front_of : (bytes : List ℕ) (count i : ℕ) → i ≤ count → take i (take count bytes) ≡ take i bytes
+front_of bytes count i le = take-take i count bytes le
+
+open_found : (bytes : List ℕ) (count : ℕ) (past : Bool) → count ≡ min 4097 (length bytes) → nat_lt 4096 count ≡ past → IsProperLinePrefix (take count bytes)
+    → IsLineFound bytes (cond past (Err (Limit Header 4097 4096)) (Err (Bad (Form count))))
+open_found bytes count true is e proper =
+    let more : 4096 < count = ltb-true 4096 count e in
+    let all : count ≡ 4097 = omega arith in (
+      record {
+        longer = omega arith;
+        starts = subst IsProperLinePrefix (front_of bytes count 4096 (omega arith)) (proper_shorter (take count bytes) 4096 proper.starts (omega (arith, length-take-le count bytes (omega arith))));
+        lawful = subst (λ n. IsLinePrefix (take n bytes)) all proper.starts;
+      },
+      refl,
+      refl,
+    )
+open_found bytes count false is e proper =
+    let few : count ≤ 4096 = ltb-false 4096 count e in
+    record { early = few; inside = omega arith; before = proper; here = inl (omega arith) }
+
+ended_found : (bytes : List ℕ) (count n : ℕ) (past : Bool) → count ≡ min 4097 (length bytes) → nat_lt 4096 n ≡ past → EndsAfter (take count bytes) n
+    → IsLineFound bytes (cond past (Err (Limit Header 4097 4096)) (Ok n))
+ended_found bytes count n true is e ends =
+    let more : 4096 < n = ltb-true 4096 n e in
+    let room : length (take count bytes) ≡ count = length-take-le count bytes (omega arith) in
+    let all : n ≡ 4097 = omega (arith, ends.inside) in
+    let before : n - 1 ≡ 4096 = omega arith in (
+      record {
+        longer = omega (arith, ends.inside);
+        starts = subst IsProperLinePrefix (ap (λ m. take m (take count bytes)) before ∙ front_of bytes count 4096 (omega (arith, ends.inside))) ends.before;
+        lawful = record {
+          rest = [];
+          tags = ends.line.0;
+          line = subst (λ t. IsStreamLine t ends.line.0) (front_of bytes count n (omega (arith, ends.inside)) ∙ ap (λ m. take m bytes) all ∙ sym (append-nil (take 4097 bytes))) ends.line.1;
+        };
+      },
+      refl,
+      refl,
+    )
+ended_found bytes count n false is e ends =
+    let few : n ≤ 4096 = ltb-false 4096 n e in
+    let room : length (take count bytes) ≡ count = length-take-le count bytes (omega arith) in
+    let le : n ≤ count = omega (arith, ends.inside) in (
+      record {
+        some = ends.some;
+        inside = omega arith;
+        before = subst IsProperLinePrefix (front_of bytes count (n - 1) (omega arith)) ends.before;
+        line = (ends.line.0, subst (λ t. IsStreamLine t ends.line.0) (front_of bytes count n le) ends.line.1);
+      },
+      few,
+    )
+
+broken_found : (bytes : List ℕ) (count i : ℕ) → count ≡ min 4097 (length bytes) → GoesWrong (take count bytes) i → LineBreaks bytes i
+broken_found bytes count i is wrong =
+    let room : length (take count bytes) ≡ count = length-take-le count bytes (omega arith) in
+    let less : i < count = omega (arith, wrong.inside) in
+    record {
+      early = omega arith;
+      inside = omega arith;
+      before = subst IsProperLinePrefix (front_of bytes count i (omega arith)) wrong.before;
+      here = inr (omega arith, λ prefix. wrong.here (subst IsLinePrefix (sym (front_of bytes count (i + 1) (omega arith))) prefix));
+    }
+
+pub line_found : (bytes buffer : List ℕ) (count : ℕ) (scanned : Scanned) → length buffer ≡ 4097 → Reads bytes 0 buffer count → IsStreamScanned (take count buffer) scanned
+    → IsLineFound bytes (line_judged count scanned)
+line_found bytes buffer count scanned room reads is = by scanned (subst (λ t. IsStreamScanned t scanned) reads.read is)
+  where
+    all : count ≡ min 4097 (length bytes)
+    all = omega (arith, reads.count)
+
+    by : (s : Scanned) → IsStreamScanned (take count bytes) s → IsLineFound bytes (line_judged count s)
+    by Open proper = open_found bytes count (nat_lt 4096 count) all refl proper
+    by (Broken i) wrong = broken_found bytes count i all wrong
+    by (Ended n) ends = ended_found bytes count n (nat_lt 4096 n) all refl ends
+
+-- as the shelf tells it
+pub finds_as : (name buffer : List ℕ) (count : ℕ) (scanned : Scanned) (a b : ShelfState) → length buffer ≡ 4097 → Changes a b (λ was now. Reads (content_of was name) 0 buffer count)
+    → IsStreamScanned (take count buffer) scanned → FindsLineAs name a b (line_judged count scanned)
+finds_as name buffer count scanned a b room reads is =
+    by scanned
+    (sees_weaker (λ files. Reads (content_of files name) 0 buffer count) (λ files. IsLineFound (content_of files name) (line_judged count scanned)) a b
+    (λ files read. line_found (content_of files name) buffer count scanned room read is) reads)
+  where
+    limit_or_form : (past : Bool) → Sees a b (λ files. IsLineFound (content_of files name) (cond past (Err (Limit Header 4097 4096)) (Err (Bad (Form count)))))
+        → FindsLineAs name a b (cond past (Err (Limit Header 4097 4096)) (Err (Bad (Form count))))
+    limit_or_form true seen = seen
+    limit_or_form false seen = seen
+
+    limit_or_length : (n : ℕ) (past : Bool) → Sees a b (λ files. IsLineFound (content_of files name) (cond past (Err (Limit Header 4097 4096)) (Ok n)))
+        → FindsLineAs name a b (cond past (Err (Limit Header 4097 4096)) (Ok n))
+    limit_or_length n true seen = seen
+    limit_or_length n false seen = seen
+
+    by : (s : Scanned) → Sees a b (λ files. IsLineFound (content_of files name) (line_judged count s)) → FindsLineAs name a b (line_judged count s)
+    by Open seen = limit_or_form (nat_lt 4096 count) seen
+    by (Broken i) seen = seen
+    by (Ended n) seen = limit_or_length n (nat_lt 4096 n) seen
+
+-- a whole line has more bytes than the magic
+some_continues : (letters : List ℕ) (tags : List (List ℕ)) (text : List ℕ) → Continues letters tags text → 1 ≤ length text
+some_continues letters [] text (both, zero, is) = omega (arith, ap length is)
+some_continues letters [] text (both, suc n, is) = let e : text ≡ 32 ∷ (replicate n 32 ++ 10 ∷ []) = is in omega (arith, ap length e)
+some_continues letters ([] ∷ tags) text goes = absurd goes
+some_continues letters ((letter ∷ value) ∷ tags) text goes = let e : text ≡ 32 ∷ (replicate goes.3 32 ++ letter ∷ value ++ goes.4) = goes.5 in omega (arith, ap length e)
+
+pub judged_sound : (text : List ℕ) (count : ℕ) (scanned : Scanned) → IsStreamScanned text scanned → IfOk (line_judged count scanned) (λ n. (10 ≤ n) × (n ≤ 4096))
+judged_sound text count Open is = tested (nat_lt 4096 count)
+  where
+    tested : (past : Bool) → IfOk (cond past (Err (Limit Header 4097 4096)) (Err (Bad (Form count)))) (λ n. (10 ≤ n) × (n ≤ 4096))
+    tested true = tt
+    tested false = tt
+judged_sound text count (Broken i) is = tt
+judged_sound text count (Ended n) is = tested (nat_lt 4096 n) refl
+  where
+    whole : IsStreamLine (take n text) is.line.0
+    whole = is.line.1
+
+    tested : (past : Bool) → nat_lt 4096 n ≡ past → IfOk (cond past (Err (Limit Header 4097 4096)) (Ok n)) (λ m. (10 ≤ m) × (m ≤ 4096))
+    tested true e = tt
+    tested false e = (omega (arith, length-take-le n text is.inside, ap length whole.is, length-append magic whole.rest, some_continues [] is.line.0 whole.rest whole.continues), ltb-false 4096 n e)

@@ -1,0 +1,35 @@
+-- What was seen of files over several reads, none of which changes them.
+use Rattle.std.proofs.Common.{◌≡◌, ℕ, List, subst}
+use Rattle.shelf_core.specs.Files.{Files, ShelfState, OnlyReads, Changes, Rose}
+use Rattle.shelf_core.proofs.FileLaws.{told_then, told_weaker, told_both, rose_later}
+
+-- it holds of the files at the entry
+abbrev pub Sees : ShelfState → ShelfState → (Files → Type 0) → Type 0
+Sees was now P = Changes was now (λ before after. P before)
+
+pub sees_weaker : (P Q : Files → Type 0) (a b : ShelfState) → ((files : Files) → P files → Q files) → Sees a b P → Sees a b Q
+sees_weaker P Q a b weaker seen = told_weaker (λ x y. P x) (λ x y. Q x) a.files b.files (λ x y. weaker x) seen
+
+-- seen at the same time
+pub sees_both : (P Q R : Files → Type 0) (a b : ShelfState) → ((files : Files) → P files → Q files → R files) → Sees a b P → Sees a b Q → Sees a b R
+sees_both P Q R a b join p q = told_weaker (λ x y. P x × Q x) (λ x y. R x) a.files b.files (λ x y both. join x both.0 both.1) (told_both (λ x y. P x) (λ x y. Q x) a.files b.files p q)
+
+-- seen in a later read
+pub sees_later : (P : Files → Type 0) (a b c : ShelfState) → OnlyReads a b → Sees b c P → Sees a c P
+sees_later P a b c reads seen = told_then (λ x y. y ≡ x) (λ x y. P x) (λ x y. P x) a.files b.files c.files (λ x y z same p. subst P same p) reads.files seen
+
+-- and in an earlier one
+pub sees_earlier : (P : Files → Type 0) (a b c : ShelfState) → Sees a b P → OnlyReads b c → Sees a c P
+sees_earlier P a b c seen reads = told_then (λ x y. P x) (λ x y. y ≡ x) (λ x y. P x) a.files b.files c.files (λ x y z p same. p) seen reads.files
+
+-- seen in two reads in a row
+pub sees_then : (P Q R : Files → Type 0) (a b c : ShelfState) → ((files : Files) → P files → Q files → R files) → OnlyReads a b → OnlyReads b c → Sees a b P → Sees b c Q → Sees a c R
+sees_then P Q R a b c join first second p q = sees_both P Q R a c join (sees_earlier P a b c p second) (sees_later Q a b c first q)
+
+-- nothing but that the files are told is needed
+pub sees_all : (P : Files → Type 0) (a b : ShelfState) → ((files : Files) → P files) → OnlyReads a b → Sees a b P
+sees_all P a b holds reads = told_weaker (λ x y. y ≡ x) (λ x y. P x) a.files b.files (λ x y same. holds x) reads.files
+
+-- a read fault in a later read
+pub fault_later : (name : List ℕ) (a b c : ShelfState) → OnlyReads a b → Rose (b.reads name) (c.reads name) → Rose (a.reads name) (c.reads name)
+fault_later name a b c reads rose = rose_later (a.reads name) (b.reads name) (c.reads name) (reads.reads name) rose

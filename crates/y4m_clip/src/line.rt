@@ -1,0 +1,160 @@
+// Reading the stream line of a clip.
+ghost use Rattle.std.specs.Prelude.{◌≡◌, ◌≤◌, ◌<◌, ◌+◌, ◌++◌, length, take, drop, IfOk, OnOk, OnErr, IsTrue, [], ◌∷◌, codes};
+ghost use Rattle.shelf_core.specs.Files.{InFile, OnlyReads};
+ghost use Rattle.y4m_clip.specs.Scanning.{line_kind, IsSoundLine};
+ghost use Rattle.y4m_clip.specs.Reading.{Matches, IsStreamScanned, flushed, gathered, Gathers, line_limit, line_judged, FindsLineAs, LinesAs};
+
+use crate::bounds::MOST_LINE;
+use crate::form::Tags;
+use crate::scan::{Kind, Scanned, classify, scan_line};
+use items::Items;
+use shelf_core::{FormFault, ReadError, Shelf, What};
+use std::alloc::{AllocError, Global};
+
+/// The most bytes of a line, and one more.
+pub const LINE_ROOM: usize = 4097;
+
+/// The tags of a stream line, and its length in bytes.
+#[derive(Drop)]
+pub struct Line {
+    pub tags: Tags,
+    pub length: u64,
+}
+
+/// How many bytes of a text are those of a word.
+pub fn matched(text: &[u8], word: &[u8]) -> usize
+    ensures { Matches text.now word.now result }
+{
+    let mut n = 0;
+    'matching: while n < text.len() && n < word.len() && text[n] == word[n] {
+        n += 1;
+    }
+    n
+}
+
+// Scans the front of a file.
+fn scan_stream(text: &[u8]) -> Scanned
+    ensures scanned { IsStreamScanned text.now result }
+    ensures sound { IsSoundLine (length text.now) result }
+{
+    let n = matched(text, b"YUV4MPEG2");
+    if n < 9 {
+        return if n < text.len() {
+            Scanned::Broken(n)
+        } else {
+            Scanned::Open
+        };
+    }
+    match scan_line(&text[9..]) {
+        Scanned::Open => Scanned::Open,
+        Scanned::Broken(i) => Scanned::Broken(9 + i),
+        Scanned::Ended(n) => Scanned::Ended(9 + n),
+    }
+}
+
+// The refusal of a line that is too long.
+pub fn too_long() -> ReadError
+    ensures { result ≡ line_limit }
+{
+    ReadError::Limit {
+        what: What::Header,
+        number: MOST_LINE + 1,
+        bound: MOST_LINE,
+    }
+}
+
+// The length of the line, or its refusal, where `count` bytes were scanned.
+fn judge(scanned: Scanned, count: usize) -> Result<usize, ReadError>
+    ensures { result ≡ line_judged count scanned }
+{
+    match scanned {
+        Scanned::Open => if count as u64 > MOST_LINE {
+            Err(too_long())
+        } else {
+            Err(ReadError::Bad(FormFault::Form(count as u64)))
+        },
+        Scanned::Broken(i) => Err(ReadError::Bad(FormFault::Form(i as u64))),
+        Scanned::Ended(n) => if n as u64 > MOST_LINE {
+            Err(too_long())
+        } else {
+            Ok(n)
+        },
+    }
+}
+
+// Finds the end of the stream line in the file's first bytes.
+fn find_line<S: Shelf>(
+    shelf: &mut S,
+    name: &str,
+    buffer: &mut [u8; LINE_ROOM],
+) -> Result<usize, ReadError>
+    ensures found { FindsLineAs name.now (S.state shelf.old) (S.state shelf.new) result }
+    ensures front { IfOk result (λ n. InFile name.now (S.state shelf.old) (S.state shelf.new)
+        (λ bytes. take n buffer.new ≡ take n bytes)) }
+    ensures sound { IfOk result (λ n. (10 ≤ n) × (n ≤ MOST_LINE)) }
+    ensures reads { OnlyReads (S.state shelf.old) (S.state shelf.new) }
+{
+    let count = shelf.get(name, 0, buffer)?;
+    judge(scan_stream(&buffer[..count]), count)
+}
+
+// Puts a word behind the tags, where it isn't empty.
+fn flush(tags: &mut Vec<Items<u8>>, word: Vec<u8>) -> Result<(), AllocError>
+    ensures { OnOk result (tags.new.items ≡ tags.old.items ++ flushed word.items []) }
+{
+    if !word.is_empty() {
+        tags.push(Items::from_vec(word))?;
+    }
+    Ok(())
+}
+
+// One byte more of the line, behind a word that has begun. It gives the word that has begun behind it.
+fn gather(
+    alloc: Global,
+    tags: &mut Vec<Items<u8>>,
+    word: Vec<u8>,
+    byte: u8,
+) -> Result<Vec<u8>, AllocError>
+    ensures { IfOk result (λ next. Gathers tags.old.items word.items byte
+        tags.new.items next.items) }
+{
+    let mut word = word;
+    match classify(byte) {
+        Kind::Ink => {
+            word.push(byte)?;
+            Ok(word)
+        }
+        _ => {
+            flush(tags, word)?;
+            Ok(Vec::new(alloc))
+        }
+    }
+}
+
+// The tags of what stands behind the magic of a stream line.
+fn gather_all(alloc: Global, text: &[u8]) -> Result<Vec<Items<u8>>, AllocError>
+    ensures { IfOk result (λ tags. tags.items ≡ gathered [] text.now) }
+{
+    let mut tags = Vec::new(alloc);
+    let mut word = Vec::new(alloc);
+    for byte in text {
+        word = gather(alloc, &mut tags, word, *byte)?;
+    }
+    flush(&mut tags, word)?;
+    Ok(tags)
+}
+
+/// Reads the stream line of the named file.
+pub fn read_line<S: Shelf>(alloc: Global, shelf: &mut S, name: &str) -> Result<Line, ReadError>
+    ensures line { LinesAs name.now (S.state shelf.old) (S.state shelf.new) result }
+    ensures sound { IfOk result (λ line. line.length ≤ MOST_LINE) }
+    ensures reads { OnlyReads (S.state shelf.old) (S.state shelf.new) }
+{
+    let mut buffer = [0u8; LINE_ROOM];
+    let length = find_line(shelf, name, &mut buffer)?;
+    let tags = gather_all(alloc, &buffer[9..length])?;
+    Ok(Line {
+        tags: Items::from_vec(tags),
+        length: length as u64,
+    })
+}

@@ -6,5 +6,6 @@ pub mod Moving
 pub mod Limits
 pub mod Augmenting
 pub mod FlowLists
+pub mod Counting
 pub mod Duality
 pub mod Solving

@@ -5,4 +5,5 @@ pub mod Residual
 pub mod Levels
 pub mod Paths
 pub mod Solutions
+pub mod Checking
 pub mod Workspaces

@@ -1,5 +1,5 @@
 -- The state of the solver: its tables.
-use Rattle.std.specs.Prelude.{◌≡◌, ◌*◌, ℕ, List, length, map, slice_index, vec_len}
+use Rattle.std.specs.Prelude.{◌≡◌, ◌*◌, ℕ, List, length, slice_index, vec_len}
 use Rattle.max_flow.specs.declared.network.Pipe.{Pipe}
 use Rattle.max_flow.specs.declared.solver.NodeTables.{NodeTables}
 use Rattle.max_flow.specs.declared.solver.Workspace.{Workspace}
@@ -10,13 +10,14 @@ pub record HaveNodes (nodes : ℕ) (tables : NodeTables) : Type 0 where
   pub queue_sized : vec_len tables.queue ≡ nodes
   pub current_sized : vec_len tables.current ≡ nodes
   pub path_sized : vec_len tables.path ≡ nodes
+  pub excess_sized : vec_len tables.excess ≡ nodes
 
--- tables as large as the network, with no arc linked and nothing flowing
+-- tables as large as the network, with no arc linked
 pub record IsReady (nodes : ℕ) (pipes : List Pipe) (space : Workspace) : Type 0 where
   pub flow_sized : vec_len space.flow ≡ length pipes
   pub sides_sized : vec_len space.source_side ≡ nodes
   pub last_sized : vec_len space.last ≡ nodes
   pub none_linked : (n : ℕ) → slice_index space.last.items n ≡ 0
   pub previous_sized : vec_len space.previous ≡ 2 * length pipes
-  pub at_rest : space.backward.items ≡ map (λ pipe. pipe.back) pipes
+  pub backward_sized : vec_len space.backward ≡ length pipes
   pub tables : HaveNodes nodes space.tables

@@ -7,17 +7,22 @@
 //! contained in that of every least cut, so that there is one answer. Which of the greatest flows is found
 //! is left open.
 //!
-//! Read on in `specs/Flows.antt`, which says what a flow and a cut are, and in `solver.rt`. The method is
-//! Dinic's: a level graph (`levels.rt`) and a blocking flow in it (`paths.rt`, `blocking.rt`), over the
-//! residual network (`graph.rt`), until the sink has no level.
+//! Read on in `specs/Flows.antt`, which says what a flow and a cut are, and in `solver.rt`. Search trees
+//! (`trees.rt`) over packed arcs (`packed.rt`) find a flow fast, of which nothing is promised; a check in one
+//! pass (`checking.rt`) takes it or begins with none. Dinic's method goes on from there: a level graph
+//! (`levels.rt`) and a blocking flow in it (`paths.rt`, `blocking.rt`), over the residual network
+//! (`graph.rt`), until the sink has no level.
 #![tactic(auto)]
 
 mod blocking;
+mod checking;
 mod graph;
 mod levels;
 mod network;
+mod packed;
 mod paths;
 mod solver;
+mod trees;
 
 pub use items::Items;
 pub use network::{Network, Pipe};

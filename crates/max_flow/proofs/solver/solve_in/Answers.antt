@@ -1,16 +1,15 @@
 use Rattle.std.proofs.Common.{◌≡◌, ℕ, List, subst, sym, ap, ◌∙◌, arith, nat_lt, rules, Bool, length}
 use Rattle.std.proofs.lemmas.List.{with_items_is}
 use Rattle.max_flow.specs.Flows.{is_in}
-use Rattle.max_flow.specs.Residual.{Carries, flows_of}
+use Rattle.max_flow.specs.Residual.{AreResiduals, flows_of}
 use Rattle.max_flow.specs.Levels.{level_of}
-use Rattle.max_flow.proofs.FlowLists.{Carries-at_rest, at_rest}
 use Rattle.max_flow.proofs.Solving.{solution_at}
 use Rattle.max_flow.proofs.solver.solve_in.Goals as goal
 
-pub run-value-requires-clause-carries : goal.run-value-requires-clause-carries
-run-value-requires-clause-carries c =
-    let e : c.deref_mut-3.result.now ≡ at_rest c.pipes-pipes.result.now = c.deref_mut-3.ensures.value ∙ c.requires.at_rest ∙ ap at_rest (sym c.pipes-pipes.ensures.value) in
-    subst (λ (backward : List ℕ). Carries c.pipes-pipes.result.now c.source.result c.sink.result backward 0) (sym e) (Carries-at_rest _ _ _)
+pub write_flows-requires-clause-residuals : goal.write_flows-requires-clause-residuals
+write_flows-requires-clause-residuals c =
+    let backward_is : c.deref-3.result.now ≡ c.run-value.new.backward = c.deref-3.ensures.value ∙ with_items_is c.args.space.backward c.run-value.new.backward (omega (arith, c.run-value.auto.backward, c.deref_mut-3.ensures.len)) in
+    subst (AreResiduals c.pipes-pipes.result.now) (sym backward_is) c.run-value.ensures.carries.residuals
 
 pub returns : goal.returns
 returns c =

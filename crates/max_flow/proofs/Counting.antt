@@ -1,0 +1,72 @@
+-- What leaves each node, counted pipe by pipe from the last.
+use Rattle.std.proofs.Common.{◌≡◌, ◌<◌, ◌≤◌, ◌+◌, ◌==◌, ℕ, List, ◌∷◌, length, slice_index, drop, replicate, refl, ap, sym, ◌∙◌, subst, arith, ⊎_elim, Bool, true, false, ℤ, pos, ◌+ℤ◌, ◌-ℤ◌}
+use Rattle.std.proofs.lemmas.Bool.{cases_eq, cases_lt}
+use Rattle.std.proofs.lemmas.Int.{ints}
+use Rattle.std.proofs.lemmas.List.{get_or-replicate, get_or_past, length-replicate, drop_all, drop_more}
+use Rattle.max_flow.specs.declared.network.Pipe.{Pipe}
+use Rattle.max_flow.specs.Networks.{pipe_at, no_pipe}
+use Rattle.max_flow.specs.Flows.{part_if, net_leaving}
+use Rattle.max_flow.specs.Residual.{Carries, flows_of, excess}
+use Rattle.max_flow.specs.Checking.{excess_at, AddsAt, CountsPipe, AreExcesses, IsBalanced}
+
+part_opposite : (b : Bool) (y z : ℤ) → y +ℤ z ≡ pos 0 → part_if b y +ℤ part_if b z ≡ pos 0
+part_opposite true y z e = e
+part_opposite false y z e = refl
+
+-- a flow is added at a pipe's first end and taken away at its second
+pub CountsPipe_at : (pipe : Pipe) (against : ℕ) (flow less : ℤ) (before between after : List ℤ) → AddsAt pipe.from flow before between → AddsAt pipe.to less between after
+    → against ≤ pipe.ahead + pipe.back → flow ≡ pos against -ℤ pos pipe.back → less +ℤ flow ≡ pos 0 → CountsPipe pipe against before after
+CountsPipe_at pipe against flow less before between after first second fits is opposite = record {
+  within = fits;
+  counted = λ n. omega (arith, ints, first n, second n, part_opposite (pipe.to == n) less flow opposite, ap (part_if (pipe.from == n)) is, ap (part_if (pipe.to == n)) is);
+}
+
+-- the pipes from a place on are counted
+pub record AreCountedFrom (pipes : List Pipe) (backward : List ℕ) (table : List ℤ) (left : ℕ) : Type 0 where
+  pub fits : (j : ℕ) → left ≤ j → j < length pipes → slice_index backward j ≤ (pipe_at pipes j).ahead + (pipe_at pipes j).back
+  pub counted : (n : ℕ) → excess_at table n ≡ net_leaving (λ k. k == n) (drop left pipes) (flows_of (drop left pipes) (drop left backward))
+
+zero_at : (nodes n : ℕ) → excess_at (replicate nodes (pos 0)) n ≡ pos 0
+zero_at nodes n = ⊎_elim (λ lt. get_or-replicate nodes n (pos 0) (pos 0) lt) (λ past. get_or_past (replicate nodes (pos 0)) n (pos 0) (omega (arith, length-replicate {A = ℤ} nodes (pos 0)))) (cases_lt n nodes)
+
+pub AreCountedFrom_none : (pipes : List Pipe) (backward : List ℕ) (nodes left : ℕ) → length pipes ≤ left → AreCountedFrom pipes backward (replicate nodes (pos 0)) left
+AreCountedFrom_none pipes backward nodes left past = record {
+  fits = λ j low lt. absurd (omega arith);
+  counted = λ n. zero_at nodes n ∙ sym (ap (λ ps. net_leaving (λ k. k == n) ps (flows_of ps (drop left backward))) (drop_all left pipes past));
+}
+
+-- one pipe more
+module _ (pipes : List Pipe) (backward : List ℕ) (left : ℕ) (left_in : left < length pipes) (sized : length backward ≡ length pipes) where
+  counted_first : (side : ℕ → Bool) → net_leaving side (drop left pipes) (flows_of (drop left pipes) (drop left backward))
+      ≡ (part_if (side (pipe_at pipes left).from) (pos (slice_index backward left) -ℤ pos (pipe_at pipes left).back)
+      -ℤ part_if (side (pipe_at pipes left).to) (pos (slice_index backward left) -ℤ pos (pipe_at pipes left).back))
+      +ℤ net_leaving side (drop (left + 1) pipes) (flows_of (drop (left + 1) pipes) (drop (left + 1) backward))
+  unfolding flows_of
+  counted_first side =
+      ap (λ ps. net_leaving side ps (flows_of ps (drop left backward))) (drop_more pipes left no_pipe left_in)
+      ∙ ap (λ bs. net_leaving side (pipe_at pipes left ∷ drop (left + 1) pipes) (flows_of (pipe_at pipes left ∷ drop (left + 1) pipes) bs)) (drop_more backward left 0 (omega arith))
+
+  pub AreCountedFrom_more : (table table' : List ℤ) (before : ℕ) → before ≡ left + 1 → AreCountedFrom pipes backward table before → CountsPipe (pipe_at pipes left) (slice_index backward left) table table' → AreCountedFrom pipes backward table' left
+  AreCountedFrom_more table table' before next from_next counts = let h = subst (AreCountedFrom pipes backward table) next from_next in record {
+    fits = λ j low lt. ⊎_elim
+        (λ same. subst (λ i. slice_index backward i ≤ (pipe_at pipes i).ahead + (pipe_at pipes i).back) (sym same) counts.within)
+        (λ other. h.fits j (omega arith) lt)
+        (cases_eq j left);
+    counted = λ n. omega (arith, ints, counts.counted n, h.counted n, counted_first (λ k. k == n));
+  }
+
+pub AreCountedFrom_all : (pipes : List Pipe) (backward : List ℕ) (table : List ℤ) (left : ℕ) → length backward ≡ length pipes → AreCountedFrom pipes backward table left → left ≡ 0 → AreExcesses pipes backward table
+unfolding excess
+AreCountedFrom_all pipes backward table left sized from_left none = let h = subst (AreCountedFrom pipes backward table) none from_left in record {
+  residuals = record { sized = sized; within = λ j lt. h.fits j (omega arith) lt };
+  counted = λ n. h.counted n;
+}
+
+-- a flow that balances has the value that leaves the source
+pub Carries_counted : (pipes : List Pipe) (source sink : ℕ) (backward : List ℕ) (table : List ℤ) (value : ℕ) → AreExcesses pipes backward table → IsBalanced source sink table → excess_at table source ≡ pos value
+    → Carries pipes source sink backward value
+Carries_counted pipes source sink backward table value h balanced is = record {
+  residuals = h.residuals;
+  leaves = sym (h.counted source) ∙ is;
+  balance = λ n other off. sym (h.counted n) ∙ balanced n other off;
+}

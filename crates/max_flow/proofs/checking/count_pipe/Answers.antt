@@ -1,0 +1,7 @@
+use Rattle.std.proofs.Common.{arith}
+use Rattle.std.proofs.lemmas.Int.{ints}
+use Rattle.max_flow.proofs.Counting.{CountsPipe_at}
+use Rattle.max_flow.proofs.checking.count_pipe.Goals as goal
+
+pub returns : goal.returns
+returns c = CountsPipe_at _ _ _ _ _ c.add_at.new.excess _ c.if-not-add_at.ensures c.if-not-add_at-2.ensures (omega arith) (omega (arith, ints)) (omega (arith, ints))

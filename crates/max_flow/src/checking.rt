@@ -1,0 +1,81 @@
+// Whether what a search left for the arcs is a flow: each pipe can carry its part, and as much leaves as
+// enters at each node but the ends.
+
+ghost use Rattle.std.specs.Prelude.{◌≡◌, ◌<◌, ℤ, IfSome, length};
+ghost use Rattle.std.specs.Bool.{OnTrue};
+ghost use Rattle.max_flow.specs.Networks.{IsPipeOf};
+ghost use Rattle.max_flow.specs.Residual.{Carries};
+ghost use Rattle.max_flow.specs.Checking.{AddsAt, CountsPipe, AreExcesses, IsBalanced};
+
+use crate::graph::Graph;
+use crate::network::Pipe;
+
+// Adds an amount at a node. Returns whether the sum has room.
+fn add_at(excess: &mut [i64], node: usize, amount: i64) -> bool
+    requires { node < length excess.old }
+    ensures { OnTrue result (AddsAt node amount excess.old excess.new) }
+{
+    let Some(sum) = excess[node].checked_add(amount) else {
+        return false;
+    };
+    excess[node] = sum;
+    true
+}
+
+// Counts what a pipe carries at its two ends. Returns whether it can carry as much.
+fn count_pipe(pipe: &Pipe, against: u32, excess: &mut [i64]) -> bool
+    requires { IsPipeOf (length excess.old) pipe.now }
+    ensures { OnTrue result (CountsPipe pipe.now against excess.old excess.new) }
+{
+    if against > pipe.ahead + pipe.back {
+        return false;
+    }
+    let flow = i64::from(against) - i64::from(pipe.back);
+    if !add_at(excess, pipe.from as usize, flow) || !add_at(excess, pipe.to as usize, -flow) {
+        return false;
+    }
+    true
+}
+
+// Counts what leaves each node, less what enters it. Returns whether each pipe can carry its part.
+fn count_pipes(graph: &Graph, backward: &[u32], excess: &mut [i64]) -> bool
+    requires sized { length backward.now ≡ length graph.now.pipes.now }
+    requires nodes { length excess.old ≡ graph.now.nodes }
+    ensures { OnTrue result (AreExcesses graph.now.pipes.now backward.now excess.new) }
+{
+    excess.fill(0);
+    let mut left = backward.len();
+    'pipes: while left > 0 {
+        left -= 1;
+        if !count_pipe(&graph.pipes[left], backward[left], excess) {
+            return false;
+        }
+    }
+    true
+}
+
+// Whether as much leaves as enters at each node but the two ends.
+fn is_balanced(excess: &[i64], source: usize, sink: usize) -> bool
+    ensures { OnTrue result (IsBalanced source sink excess.now) }
+{
+    for n in 0..excess.len() {
+        if n != source && n != sink && excess[n] != 0 {
+            return false;
+        }
+    }
+    true
+}
+
+/// The value of the flow that leaves so much for the arc against each pipe, or None where it isn't one.
+/// `excess` is a table to count in.
+pub fn flow_left(graph: &Graph, backward: &[u32], excess: &mut [i64]) -> Option<u64>
+    requires sized { length backward.now ≡ length graph.now.pipes.now }
+    requires nodes { length excess.old ≡ graph.now.nodes }
+    ensures { IfSome result (Carries graph.now.pipes.now graph.now.source graph.now.sink backward.now) }
+{
+    if !count_pipes(graph, backward, excess) || !is_balanced(excess, graph.source, graph.sink) {
+        return None;
+    }
+    let value = excess[graph.source];
+    if value < 0 { None } else { Some(value as u64) }
+}

@@ -170,6 +170,7 @@ impl FilledRuns {
         ensures some { IfSome result (λ sum. sum ≡ error_sum canvas.now.map sample.now placement.now) }
         ensures most { IfSome result (λ sum. sum ≤ limit) }
         ensures small { IfSome result (λ sum. sum ≤ 2 ^ 48) }
+        ensures bound { error_sum canvas.now.map sample.now placement.now ≤ 2 ^ 48 }
         ensures none { IfNone result (limit < error_sum canvas.now.map sample.now placement.now) }
     {
         // They are asked for only to show the check that these are a map and a volume.

@@ -19,7 +19,7 @@ use Rattle.patch_place.proofs.Counting.{Contains-slice_get, slice_get-Contains}
 use Rattle.patch_place.proofs.Fitting.{all_over, axis_holds, over_parts, same_place, some_over}
 use Rattle.patch_place.proofs.PartLists.{entry_of_all, some_of_part}
 use Rattle.patch_place.proofs.Stocks.{held_in_part, part_held, stock_moved}
-use Rattle.patch_place.proofs.Walking.{count_over, entry_over}
+use Rattle.cells.proofs.PlaceLists.{count_over, entry_over}
 
 -- what has an index has cells
 times_some : (a b i : ℕ) → i < a * b → (1 ≤ a) × (1 ≤ b)

@@ -17,9 +17,12 @@ use Rattle.patch_place.specs.Counts.{FitsCount, IsSpotAt, entries_before, room_e
 use Rattle.patch_place.specs.Lists.{filled_from, fit_list, from_part, lists_from, room}
 use Rattle.patch_place.proofs.BoxLists.{cells_of_index}
 use Rattle.patch_place.proofs.Counting.{map_more, slice_get-Contains}
-use Rattle.patch_place.proofs.PartLists.{before_step, entry_of_all}
+use Rattle.patch_place.specs.declared.candidates.Candidates.TheVariants.{Fits}
+use Rattle.patch_place.specs.Counts.{AreVolumeParts}
+use Rattle.patch_place.specs.Tables.{IsSeenTo}
+use Rattle.patch_place.proofs.PartLists.{before_step, count_step, entries_few, entry_of_all}
 use Rattle.patch_place.proofs.Stocks.{stock_moved}
-use Rattle.patch_place.proofs.Walking.{count_over, entry_over}
+use Rattle.cells.proofs.PlaceLists.{count_over, entry_over}
 
 -- the counts of a place are numbers of 31 bits
 pub record IsNearSpot (s : Spot) : Type 0 where
@@ -66,3 +69,10 @@ errors_all f sizes n rect part free i at e le =
     ap (λ list. map f (entries_before (fit_list rect) sizes n) ++ map f list) (take_all i here (omega (arith, many, le)) ∙ ap (room_entries rect sizes n) e)
     ∙ sym (map-append f (entries_before (fit_list rect) sizes n) (room_entries rect sizes n (room part rect.size)))
     ∙ ap (map f) (sym (before_step (fit_list rect) sizes n part at))
+
+-- how many candidates are seen with one more part, and with any
+pub box_step : (rect : Box3) (sizes : List Size) (n seen : ℕ) (part free : Size) → slice_get sizes n ≡ Some part → free ≡ room part rect.size → IsSeenTo rect sizes n seen → IsSeenTo rect sizes (n + 1) (seen + cell_count free)
+box_step rect sizes n seen part free at e is = count_step (Fits rect) rect.size sizes n seen part free at e is
+
+pub box_few : (rect : Box3) (sizes : List Size) (n seen : ℕ) → AreVolumeParts sizes → IsSeenTo rect sizes n seen → seen ≤ 268435456
+box_few rect sizes n seen parts is = omega (arith, is, entries_few (Fits rect) rect.size sizes parts)

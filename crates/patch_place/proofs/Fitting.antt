@@ -24,7 +24,7 @@ use Rattle.patch_place.specs.Fitting.{FitsAndCovers, HasPatch}
 use Rattle.patch_place.proofs.PartLists.{all_of_parts, some_of_part}
 use Rattle.patch_place.proofs.Spans.{laid_fits, grid_fits, patch_fits}
 use Rattle.patch_place.proofs.Stocks.{axes_at, least_some, least_within, part_held}
-use Rattle.patch_place.proofs.Walking.{count_over, entry_over}
+use Rattle.cells.proofs.PlaceLists.{count_over, entry_over}
 
 pub axis_holds : (n a len : ℕ) → a + len ≤ n → AxisHolds n (pos a) len
 axis_holds n a len le = record { from = omega (arith, ints); to = omega (arith, ints) }

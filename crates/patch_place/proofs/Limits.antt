@@ -1,11 +1,8 @@
--- Sums that are left unfinished: past the limit an error is beaten by an entry of the table.
-use Rattle.std.proofs.Common.{◌≡◌, ℕ, ◌+◌, ◌*◌, ◌^◌, ◌<◌, ◌≤◌, min, List, [], ◌∷◌, ◌++◌, length, map, sym, subst, ap, ◌∙◌, inl, inr, refl, arith}
-use Rattle.std.proofs.Math.Nat.{mul-le-mul_right}
-use Rattle.std.proofs.lemmas.Bool.{cases_lt, lt-leb}
-use Rattle.std.proofs.lemmas.List.{length-map, length-replicate}
-use Rattle.std.proofs.lemmas.List.Elements.{All-map, All-replicate, All-push, All-same, AllZip-push, Contains-append_left, Contains-push}
-use Rattle.std.specs.Prelude.{◌⊎◌, All, Some, replicate, slice_get}
-use Rattle.std.specs.List.{AllZip}
+-- Sums that are left unfinished: past the limit an error is beaten by the best of the table.
+use Rattle.std.proofs.Common.{◌≡◌, ℕ, ◌+◌, ◌*◌, ◌<◌, ◌≤◌, List, [], ◌∷◌, ◌++◌, length, map, sym, subst, ap, ◌∙◌, inl, inr, refl}
+use Rattle.std.proofs.lemmas.Bool.{lt-leb}
+use Rattle.std.proofs.lemmas.List.Elements.{All-map, AllZip-push, Contains-append_left}
+use Rattle.std.specs.Prelude.{◌⊎◌, All, Some, slice_get}
 use Rattle.match_error.specs.declared.error.Error.{Error}
 use Rattle.match_error.specs.Errors.{error_of, filled_cells}
 use Rattle.cells.specs.declared.place.Box3.{Box3}
@@ -15,10 +12,10 @@ use Rattle.cells.specs.Cells.{Cells, sizes_of}
 use Rattle.map_canvas.specs.declared.canvas.Placement.{Placement}
 use Rattle.map_canvas.specs.Choices.{Fits}
 use Rattle.map_canvas.specs.Maps.{SourceMap}
-use Rattle.patch_place.specs.declared.errors.BoxTable.{BoxTable}
 use Rattle.patch_place.specs.Lists.{filled_from, fit_list, from_part, part_lists, room}
-use Rattle.patch_place.specs.Tables.{AreTableErrors, IsBeaten, IsEntry, IsLimit, IsLow, IsMore, IsNextLimit, IsTableOf, IsUnfilled, StandsForError}
-use Rattle.patch_place.proofs.Counting.{All-each, All-slice_get, AllZip-replicate, AllZip-weaker, first_at}
+use Rattle.patch_place.specs.Picks.{IsBest}
+use Rattle.patch_place.specs.Tables.{AreTableErrors, IsBeaten, IsUnfilled, StandsForError}
+use Rattle.patch_place.proofs.Counting.{All-each, All-slice_get, AllZip-same, AllZip-weaker, first_at}
 use Rattle.patch_place.proofs.Fitting.{all_over, over_parts}
 
 still_beaten : (tol : ℕ) (table : List Error) (entry error : Error) → IsBeaten tol table error → IsBeaten tol (table ++ entry ∷ []) error
@@ -43,38 +40,23 @@ still_stands tol table more entry error stands =
           | inr beaten ↦ inr (still_beaten tol table more error beaten)
         ]
 
--- a limit that stays
-pub limit_stays : (tol : ℕ) (table : List Error) (entry : Error) (count limit : ℕ) → IsLimit tol table count limit → IsLimit tol (table ++ entry ∷ []) count limit
-limit_stays tol table entry count limit is = λ error counted low past. still_beaten tol table entry error (is error counted low past)
-
--- the limit of an entry
-beaten_by_last : (tol : ℕ) (table : List Error) (entry error : Error) → 1 ≤ entry.count → error.count ≡ entry.count → entry.sum * (100 + tol) < error.sum * 100 → IsBeaten tol (table ++ entry ∷ []) error
-beaten_by_last tol table entry error some counted past = record {
-  other = entry;
-  listed = Contains-push table entry;
-  filled = some;
+-- a sum past the limit that the best gives is beaten by it
+pub beaten_by_best : (tol : ℕ) (table : List Error) (best error : Error) (count limit : ℕ) → IsBest table best → 1 ≤ count → error.count ≡ count → best.sum * count * (100 + tol) < error.sum * best.count * 100 → IsBeaten tol table error
+beaten_by_best tol table best error count limit is some counted past = record {
+  other = best;
+  listed = is.listed;
+  filled = is.filled;
   far =
-      let more : (entry.sum * (100 + tol) + 1) * entry.count ≤ error.sum * 100 * entry.count = mul-le-mul_right entry.count (omega (arith, past)) in
-      let all : entry.sum * entry.count * (100 + tol) < error.sum * entry.count * 100 = omega (arith, more, some) in
-      lt-leb (error.sum * entry.count * 100) (entry.sum * error.count * (100 + tol)) (subst (λ n. entry.sum * n * (100 + tol) < error.sum * entry.count * 100) (sym counted) all);
+      lt-leb (error.sum * best.count * 100) (best.sum * error.count * (100 + tol))
+      (subst (λ n. best.sum * n * (100 + tol) < error.sum * best.count * 100) (sym counted) past);
 }
 
-pub limit_falls : (tol : ℕ) (table : List Error) (entry : Error) (count limit made : ℕ) → 1 ≤ count → entry.count ≡ count → ((other : ℕ) → other ≤ 2 ^ 48 → made < other → entry.sum * (100 + tol) < other * 100) → IsLimit tol table count limit → IsLimit tol (table ++ entry ∷ []) count (min limit made)
-limit_falls tol table entry count limit made some filled past is = λ error counted low beyond.
-    elim (cases_lt limit error.sum) [
-      | inr within ↦ beaten_by_last tol table entry error (omega (arith, some, filled)) (counted ∙ sym filled) (past error.sum low (omega (arith, within, beyond)))
-      | inl over ↦ still_beaten tol table entry error (is error counted low over)
-    ]
-
--- one more entry of a table
-pub table_more : (tol : ℕ) (table errors : List Error) (entry error : Error) (count limit : ℕ) → AreTableErrors tol table errors → IsLimit tol table count limit → error.count ≡ count → IsEntry limit entry error → AreTableErrors tol (table ++ entry ∷ []) (errors ++ error ∷ [])
-table_more tol table errors entry error count limit stands is counted made =
+-- one more entry of a table, which stands for an error
+pub table_more : (tol : ℕ) (table errors : List Error) (entry error : Error) → AreTableErrors tol table errors → StandsForError tol table entry error → AreTableErrors tol (table ++ entry ∷ []) (errors ++ error ∷ [])
+table_more tol table errors entry error stands one =
     AllZip-push (StandsForError tol (table ++ entry ∷ [])) table errors entry error
     (AllZip-weaker (StandsForError tol table) (StandsForError tol (table ++ entry ∷ [])) (still_stands tol table entry) table errors stands)
-    (elim made [
-      | inl same ↦ inl same
-      | inr past ↦ inr (past.0, inr (still_beaten tol table entry error (is error counted past.1 past.2)))
-    ])
+    (still_stands tol table entry entry error one)
 
 -- each entry of a box's list has the box
 has_box : (sample : Cells) (rect : Box3) → All (λ (placement : Placement). placement.rect ≡ rect) (part_lists (fit_list rect) sample)
@@ -92,52 +74,13 @@ box_inside output sample rect some all =
     let fits = All-slice_get (Fits output sample) (part_lists (fit_list rect) sample) 0 first.0 all first.1 in
     subst (λ (r : Box3). HoldsBox output r.corner r.size) (same_box sample rect 0 first.0 first.1) fits.inside
 
--- entries without filled cells stand for errors that have none
-pub unfilled_stands : (tol : ℕ) (m : SourceMap) (sample : Cells) (rect : Box3) → filled_cells m rect ≡ 0 → (unfilled : Error) → IsUnfilled unfilled → AreTableErrors tol (replicate (length (part_lists (fit_list rect) sample)) unfilled) (map (error_of m sample) (part_lists (fit_list rect) sample))
-unfilled_stands tol m sample rect none unfilled is =
+-- a list of one box without filled cells has errors that have none
+pub box_unfilled : (m : SourceMap) (sample : Cells) (rect : Box3) → filled_cells m rect ≡ 0 → All IsUnfilled (map (error_of m sample) (part_lists (fit_list rect) sample))
+box_unfilled m sample rect none =
     let list = part_lists (fit_list rect) sample in
-    let errors = map (error_of m sample) list in
-    let R = StandsForError tol (replicate (length list) unfilled) in
-    let all : All (R unfilled) errors = All-map (R unfilled) (error_of m sample) list (All-each (λ placement. R unfilled (error_of m sample placement)) list
-    (λ i placement at. inr (is, inl (ap (filled_cells m) (same_box sample rect i placement at) ∙ none)))) in
-    subst (λ n. AllZip R (replicate n unfilled) errors) (length-map list (error_of m sample)) (AllZip-replicate R unfilled errors all)
+    All-map IsUnfilled (error_of m sample) list (All-each (λ placement. IsUnfilled (error_of m sample placement)) list
+    (λ i placement at. ap (filled_cells m) (same_box sample rect i placement at) ∙ none))
 
-pub unfilled_table : (tol : ℕ) (m : SourceMap) (sample : Cells) (rect : Box3) → filled_cells m rect ≡ 0 → (unfilled : Error) → IsUnfilled unfilled → IsLow unfilled → length (part_lists (fit_list rect) sample) < 2 ^ 32
-    → IsTableOf tol (replicate (length (part_lists (fit_list rect) sample)) unfilled) (map (error_of m sample) (part_lists (fit_list rect) sample))
-unfilled_table tol m sample rect none unfilled is low few = record {
-  stands = unfilled_stands tol m sample rect none unfilled is;
-  low = All-replicate IsLow (length (part_lists (fit_list rect) sample)) unfilled low;
-  few = omega (arith, few, length-replicate {A = Error});
-}
-
--- an entry has as many filled cells as its error, or none
-pub entry_count : (limit count : ℕ) (entry error : Error) → error.count ≡ count → IsEntry limit entry error → IsUnfilled entry ⊎ (entry.count ≡ count)
-entry_count limit count entry error counted made =
-    elim made [
-      | inl same ↦ inr (ap (λ (e : Error). e.count) same ∙ counted)
-      | inr past ↦ inl past.0
-    ]
-
--- the same of an entry that has filled cells
-pub limit_after : (tol : ℕ) (table : List Error) (entry : Error) (count limit made least : ℕ) → least ≡ min limit made → 1 ≤ count → (entry.count ≡ 0 → ⊥) → IsUnfilled entry ⊎ (entry.count ≡ count) → ((other : ℕ) → other ≤ 2 ^ 48 → made < other → entry.sum * (100 + tol) < other * 100) → IsLimit tol table count limit → IsLimit tol (table ++ entry ∷ []) count least
-limit_after tol table entry count limit made least e some not filled past is =
-    elim filled [
-      | inl unfilled ↦ absurd (not unfilled)
-      | inr counted ↦ subst (IsLimit tol (table ++ entry ∷ []) count) (sym e) (limit_falls tol table entry count limit made some counted past is)
-    ]
-
--- one more entry of a table of a box
-pub box_more : (was now : BoxTable) (entry error : Error) → now.tol ≡ was.tol → now.count ≡ was.count → now.errors.items ≡ was.errors.items ++ entry ∷ [] → error.count ≡ was.count → 1 ≤ was.count → IsLow entry → IsEntry was.limit entry error → IsNextLimit was.tol was.limit entry now.limit → IsMore was now error
-box_more was now entry error tol counted items filled some low made next count errors is = record {
-  filled = counted ∙ is.filled;
-  stands =
-      subst (λ t. AreTableErrors t now.errors.items (errors ++ error ∷ [])) (sym tol)
-      (subst (λ table. AreTableErrors was.tol table (errors ++ error ∷ [])) (sym items)
-      (table_more was.tol was.errors.items errors entry error was.count was.limit is.stands is.limited filled made));
-  limited =
-      subst (λ t. IsLimit t now.errors.items now.count now.limit) (sym tol)
-      (subst (λ n. IsLimit was.tol now.errors.items n now.limit) (sym counted)
-      (subst (λ table. IsLimit was.tol table was.count now.limit) (sym items)
-      (next was.errors.items was.count some (entry_count was.limit was.count entry error filled made) is.limited)));
-  low = All-same IsLow _ _ items (All-push IsLow was.errors.items entry is.low low);
-}
+-- errors without filled cells stand for themselves
+pub unfilled_stand : (tol : ℕ) (errors : List Error) → AreTableErrors tol errors errors
+unfilled_stand tol errors = AllZip-same (StandsForError tol errors) (λ error. inl refl) errors

@@ -17,7 +17,8 @@ use Rattle.patch_place.specs.declared.candidates.Candidates.TheVariants.{One, La
 use Rattle.patch_place.specs.Counts.{AreVolumeParts, IsOverParts, all_entries, entries_after, entries_before, entries_in, made_from, part_cells, steps_in}
 use Rattle.patch_place.specs.Lists.{from_part, listed, lists_from}
 use Rattle.patch_place.proofs.Counting.{first_at, slice_get-Contains}
-use Rattle.patch_place.proofs.Walking.{count_over, entry_over, steps_few}
+use Rattle.cells.proofs.PlaceLists.{count_over, entry_over}
+use Rattle.patch_place.proofs.Walking.{steps_few}
 
 -- an entry of two lists, one after the other
 pub slice_get_left : {X : Type 0} (xs ys : List X) (i : ℕ) → i < length xs → slice_get (xs ++ ys) i ≡ slice_get xs i

@@ -12,13 +12,9 @@ use Rattle.match_error.specs.Errors.{is_within}
 use Rattle.map_canvas.specs.declared.canvas.Placement.{Placement}
 use Rattle.patch_place.specs.Draws.{DrawState, draw}
 use Rattle.patch_place.specs.Picks.{AreEligible, IsBest, is_eligible}
-use Rattle.patch_place.specs.Tables.{IsBeaten, IsNear, IsPickAt, IsPickOf, AreTableErrors, IsUnfilled, StandsForError}
+use Rattle.patch_place.specs.Tables.{IsBeaten, IsNth, IsPickAt, IsPickOf, AreTableErrors, IsUnfilled, StandsForError, drawn_near}
 use Rattle.patch_place.proofs.Bests.{between, far_is_more, same_eligible, still_within}
-use Rattle.patch_place.proofs.Counting.{AllZip-from_map, AllZip-left, AllZip-right, AllZip-same, AllZip-take, Contains-slice_get, kept_alike, map_at, passed_at, slice_get-Contains}
-
--- a table of the errors themselves
-pub table_of_errors : (t : ℕ) (table errors : List Error) → table ≡ errors → AreTableErrors t table errors
-table_of_errors t table errors e = subst (AreTableErrors t table) e (AllZip-same (StandsForError t table) (λ error. inl refl) table)
+use Rattle.patch_place.proofs.Counting.{AllZip-from_map, AllZip-left, AllZip-right, AllZip-take, Contains-slice_get, kept_alike, map_at, passed_at, slice_get-Contains}
 
 -- where no entry has a filled cell, no candidate has one
 unfilled_errors : (t : ℕ) (table errors : List Error) → AreTableErrors t table errors → All IsUnfilled table → (error : Error) → Contains errors error → error.count ≡ 0
@@ -58,7 +54,7 @@ best_of_table t table errors best stands is = record {
       ];
 }
 
-unfilled_is_not : (t : ℕ) (best error : Error) → IsUnfilled error → is_eligible t best error ≡ false
+pub unfilled_is_not : (t : ℕ) (best error : Error) → IsUnfilled error → is_eligible t best error ≡ false
 unfilled_is_not t best error none = ap (λ (n : ℕ). nat_lt 0 n && is_within t best error) none
 
 far_is_not : (t : ℕ) (best error : Error) → is_within t best error ≡ false → is_eligible t best error ≡ false
@@ -123,25 +119,26 @@ pick_unfilled f t list table draws i some stands none e =
       };
     }
 
-pick_near : (f : Placement → Error) (t : ℕ) (list : List Placement) (table : List Error) (draws : DrawState) (i : ℕ) → AreTableErrors t table (map f list) → (best : Error) → IsNear t table draws i best → IsPickAt f (Some t) list draws i
-pick_near f t list table draws i stands best near =
+pick_near : (f : Placement → Error) (t : ℕ) (list : List Placement) (table : List Error) (draws : DrawState) → AreTableErrors t table (map f list) → (best : Error) → IsBest table best → (entry : Error) (nth : IsNth (is_eligible t best) table (drawn_near t table draws best) entry) → IsPickAt f (Some t) list draws nth.i
+pick_near f t list table draws stands best is entry nth =
+    let i = nth.i in
     let zip : AllZip (λ entry candidate. StandsForError t table entry (f candidate)) table list = AllZip-from_map (StandsForError t table) f table list stands in
     let p : Error → Bool = is_eligible t best in
     let q : Placement → Bool = λ candidate. is_eligible t best (f candidate) in
     let R : Error → Placement → Type 0 = λ entry candidate. StandsForError t table entry (f candidate) in
-    let same : (entry : Error) (candidate : Placement) → R entry candidate → p entry ≡ q candidate = λ entry candidate. same_in_table t table best near.best_one entry (f candidate) in
-    let partner = AllZip-left R table list i near.nth.entry zip near.nth.at in
+    let same : (entry : Error) (candidate : Placement) → R entry candidate → p entry ≡ q candidate = λ e candidate. same_in_table t table best is e (f candidate) in
+    let partner = AllZip-left R table list i entry zip nth.at in
     let all : count_by p table ≡ length (filter q list) = sym (length-filter p table) ∙ kept_alike R p q same table list zip in
     let front : length (filter q (take i list)) ≡ draw draws.seed draws.place (length (filter q list)) =
-    sym (kept_alike R p q same (take i table) (take i list) (AllZip-take R table list i zip)) ∙ length-filter p (take i table) ∙ near.nth.number ∙ ap (λ n. draw draws.seed draws.place n) all in
+    sym (kept_alike R p q same (take i table) (take i list) (AllZip-take R table list i zip)) ∙ length-filter p (take i table) ∙ nth.number ∙ ap (λ n. draw draws.seed draws.place n) all in
     record {
       below = slice_get_within list i partner.0 partner.1;
       picked = λ placement at.
           let here : partner.0 ≡ placement = same_Some partner.0 placement (sym partner.1 ∙ at) in
-          let passes : q placement ≡ true = subst (λ candidate. q candidate ≡ true) here (sym (same near.nth.entry partner.0 partner.2) ∙ near.nth.passes) in
+          let passes : q placement ≡ true = subst (λ candidate. q candidate ≡ true) here (sym (same entry partner.0 partner.2) ∙ nth.passes) in
           record {
             eligible = filter q list;
-            are = near_best_are f t list best (best_of_table t table (map f list) best stands near.best_one);
+            are = near_best_are f t list best (best_of_table t table (map f list) best stands is);
             drawn = subst (λ n. slice_get (filter q list) n ≡ Some placement) front (passed_at q list i placement at passes);
           };
     }
@@ -150,5 +147,5 @@ pub pick_from_table : (f : Placement → Error) (t : ℕ) (list : List Placement
 pick_from_table f t list table draws i some stands is =
     elim is [
       | inl none ↦ pick_unfilled f t list table draws i some stands none.0 none.1
-      | inr near ↦ pick_near f t list table draws i stands near.0 near.1
+      | inr near ↦ subst (IsPickAt f (Some t) list draws) (sym near.1.index) (pick_near f t list table draws stands near.0 near.1.best_one near.1.entry near.1.nth)
     ]

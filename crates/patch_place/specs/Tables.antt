@@ -1,18 +1,20 @@
 -- The state of tables of errors, from which a pick is made, for the contracts within the crate;
 -- nobody has to trust this file.
-use Rattle.std.specs.Prelude.{◌≡◌, ◌≤◌, ◌<◌, ◌^◌, ◌⊎◌, ◌++◌, ◌∷◌, [], ℕ, Bool, true, false, List, length, map, take, All, Contains, Option, Some, None, slice_get}
+use Rattle.std.specs.Prelude.{◌≡◌, ◌≤◌, ◌<◌, ◌+◌, ◌^◌, ◌⊎◌, ◌++◌, ◌∷◌, [], ℕ, Bool, true, false, List, length, map, take, All, Contains, IfSome, Option, Some, None, slice_get}
 use Rattle.std.specs.List.{AllZip, count_by}
 use Rattle.cells.specs.declared.place.Box3.{Box3}
+use Rattle.cells.specs.declared.place.Size.{Size}
 use Rattle.cells.specs.Cells.{Cells, sizes_of}
 use Rattle.match_error.specs.declared.error.Error.{Error}
-use Rattle.match_error.specs.Errors.{error_of, filled_cells, is_within}
+use Rattle.match_error.specs.Errors.{error_of, is_within}
 use Rattle.map_canvas.specs.declared.canvas.Placement.{Placement}
 use Rattle.map_canvas.specs.Canvases.{CanvasState}
 use Rattle.patch_place.specs.declared.candidates.Candidates.{Candidates}
-use Rattle.patch_place.specs.declared.errors.BoxTable.{BoxTable}
-use Rattle.patch_place.specs.Counts.{entries_before}
+use Rattle.patch_place.specs.declared.eligible.Entry.{Entry}
+use Rattle.patch_place.specs.declared.shortlist.Shortlist.{Shortlist}
+use Rattle.patch_place.specs.Counts.{entries_after, entries_before}
 use Rattle.patch_place.specs.Draws.{DrawState, draw}
-use Rattle.patch_place.specs.Lists.{fit_list}
+use Rattle.patch_place.specs.Lists.{fit_list, lists_from}
 use Rattle.patch_place.specs.Picks.{IsBest, IsPick, is_eligible, listed_on}
 
 -- small enough to be multiplied
@@ -44,21 +46,9 @@ StandsForError tol table entry error =
 abbrev pub AreTableErrors : ℕ → List Error → List Error → Type 0
 AreTableErrors tol table errors = AllZip (StandsForError tol table) table errors
 
--- and its sums can be multiplied, and its entries counted
-pub record IsTableOf (tol : ℕ) (table errors : List Error) : Type 0 where
-  pub stands : AreTableErrors tol table errors
-  pub low : All IsLow table
-  pub few : length table < 2 ^ 32
-
--- a table of the errors themselves
-pub record AreErrors (table errors : List Error) : Type 0 where
-  pub same : table ≡ errors
-  pub low : All IsLow table
-  pub few : length table < 2 ^ 32
-
--- the index of the entry that passes a test after n others
-pub record IsNth (test : Error → Bool) (table : List Error) (n i : ℕ) : Type 0 where
-  pub entry : Error
+-- the entry that passes a test after n others, and where it stands
+pub record IsNth {X : Type 0} (test : X → Bool) (table : List X) (n : ℕ) (entry : X) : Type 0 where
+  pub i : ℕ
   pub at : slice_get table i ≡ Some entry
   pub passes : test entry ≡ true
   pub number : count_by test (take i table) ≡ n
@@ -73,7 +63,9 @@ drawn_near tol table draws best =
 pub record IsNear (tol : ℕ) (table : List Error) (draws : DrawState)
     (i : ℕ) (best : Error) : Type 0 where
   pub best_one : IsBest table best
-  pub nth : IsNth (is_eligible tol best) table (drawn_near tol table draws best) i
+  pub entry : Error
+  pub nth : IsNth (is_eligible tol best) table (drawn_near tol table draws best) entry
+  pub index : i ≡ nth.i
 
 abbrev pub IsAny : List Error → DrawState → ℕ → Type 0
 IsAny table draws i = All IsUnfilled table × (i ≡ draw draws.seed draws.place (length table))
@@ -98,32 +90,83 @@ IsLimit tol table count limit =
     (error : Error) → error.count ≡ count → IsLow error → limit < error.sum
     → IsBeaten tol table error
 
--- a limit after one more entry
-abbrev pub IsNextLimit : ℕ → ℕ → Error → ℕ → Type 0
-IsNextLimit tol limit entry next =
-    (table : List Error) (count : ℕ) → 1 ≤ count → IsUnfilled entry ⊎ (entry.count ≡ count)
-    → IsLimit tol table count limit → IsLimit tol (table ++ entry ∷ []) count next
+-- an entry of a shortlist has this error, which is small enough, and is about as good as the best
+abbrev pub entry_error : Entry → Error
+entry_error entry = record { sum = entry.sum; count = entry.count }
 
--- an entry for an error: the same, or one without a filled cell where the sum is past the limit
-abbrev pub IsEntry : ℕ → Error → Error → Type 0
-IsEntry limit entry error =
-    (entry ≡ error) ⊎ (IsUnfilled entry × IsLow error × (limit < error.sum))
+abbrev pub IsLowEntry : Entry → Type 0
+IsLowEntry entry = IsLow (entry_error entry)
 
--- a table of a box with so many filled cells, as far as it stands for these errors
-pub record IsBoxTable (table : BoxTable) (count : ℕ) (errors : List Error) : Type 0 where
-  pub filled : table.count ≡ count
-  pub stands : AreTableErrors table.tol table.errors.items errors
-  pub limited : IsLimit table.tol table.errors.items table.count table.limit
-  pub low : All IsLow table.errors.items
+abbrev pub is_near : ℕ → Error → Entry → Bool
+is_near tol best entry = is_eligible tol best (entry_error entry)
+
+-- no error without a filled cell passes the test
+abbrev pub FailsUnfilled : (Error → Bool) → Type 0
+FailsUnfilled test = (error : Error) → IsUnfilled error → test error ≡ false
+
+-- the entries of a shortlist are those of a table that have filled cells, in their order
+pub record AreKept (kept : List Entry) (table : List Error) : Type 0 where
+  pub at : (j : ℕ) (entry : Entry) → slice_get kept j ≡ Some entry
+      → slice_get table entry.index ≡ Some (entry_error entry)
+  pub before : (test : Error → Bool) → FailsUnfilled test → (j : ℕ) (entry : Entry)
+      → slice_get kept j ≡ Some entry
+      → count_by test (take entry.index table) ≡ count_by (λ e. test (entry_error e)) (take j kept)
+  pub all : (test : Error → Bool) → FailsUnfilled test
+      → count_by test table ≡ count_by (λ e. test (entry_error e)) kept
+
+-- a shortlist is made from a table
+pub record IsShortOf (list : Shortlist) (table : List Error) : Type 0 where
+  pub best_one : IsBestOf table list.best
+  pub kept : AreKept list.near.items table
+  pub length_is : list.seen ≡ length table
+
+abbrev pub HasTable : Shortlist → Type 0
+HasTable list = (table : List Error) × IsShortOf list table
+
+-- which stands for these errors
+pub record IsShortlist (list : Shortlist) (errors : List Error) : Type 0 where
+  pub table : List Error
+  pub stands : AreTableErrors list.tol table errors
+  pub short : IsShortOf list table
+
+-- the best of a shortlist has filled cells, sums can be multiplied, and entries counted
+abbrev pub IsFilledLow : Error → Type 0
+IsFilledLow error = (1 ≤ error.count) × IsLow error
+
+pub record IsSound (list : Shortlist) : Type 0 where
+  pub best_low : IfSome list.best IsFilledLow
+  pub low : All IsLowEntry list.near.items
+  pub few : length list.near.items ≤ list.seen
+  pub small : list.seen < 2 ^ 32
+
+-- the shortlist of these errors
+pub record IsShortlistOf (tol : ℕ) (errors : List Error) (list : Shortlist) : Type 0 where
+  pub short : IsShortlist list errors
+  pub sound : IsSound list
+  pub tolerance : list.tol ≡ tol
+
+-- an error past what may be eligible
+abbrev pub IsPast : Shortlist → Error → Type 0
+IsPast list error = IsUnfilled error
+    ⊎ ((table : List Error) → IsBestOf table list.best → IsBeaten list.tol table error)
+
+-- a limit of sums over so many filled cells
+abbrev pub IsLimitOf : Shortlist → ℕ → ℕ → Type 0
+IsLimitOf list count limit =
+    (table : List Error) → IsBestOf table list.best → IsLimit list.tol table count limit
 
 -- one more error
-abbrev pub IsMore : BoxTable → BoxTable → Error → Type 0
+abbrev pub IsMore : Shortlist → Shortlist → Error → Type 0
 IsMore was now error =
-    (count : ℕ) (errors : List Error) → IsBoxTable was count errors
-    → IsBoxTable now count (errors ++ error ∷ [])
+    (errors : List Error) → IsShortlist was errors → IsShortlist now (errors ++ error ∷ [])
 
--- the errors of the first n parts are done
-abbrev pub IsTableDone : CanvasState → Cells → Box3 → ℕ → BoxTable → Type 0
-IsTableDone canvas sample rect n table =
-    IsBoxTable table (filled_cells canvas.map rect)
+-- the errors of a box are done for the first n parts
+abbrev pub IsBoxDone : CanvasState → Cells → Box3 → ℕ → Shortlist → Type 0
+IsBoxDone canvas sample rect n list = IsShortlist list
     (map (error_of canvas.map sample) (entries_before (fit_list rect) (sizes_of sample) n))
+
+-- so many candidates of a box are seen with the first n parts
+abbrev pub IsSeenTo : Box3 → List Size → ℕ → ℕ → Type 0
+IsSeenTo rect sizes n seen =
+    seen + length (entries_after (fit_list rect) sizes n)
+    ≡ length (lists_from (fit_list rect) sizes 1 sizes)

@@ -1,13 +1,30 @@
-// Tables of errors, and which entry of a table a draw picks.
-ghost use Rattle.std.specs.Prelude.{◌≡◌, ◌≤◌, ◌<◌, ◌*◌, ◌^◌, nat_lt, ◌++◌, [], ◌∷◌, List, Some, All, IfSome, length};
+// Errors per filled cell: which is the best, and which entries of a shortlist are about as good.
+ghost use Rattle.std.specs.Prelude.{◌≡◌, ◌≤◌, ◌<◌, ◌*◌, ◌^◌, nat_lt, ◌++◌, [], ◌∷◌, List, All, IfSome, length};
 ghost use Rattle.std.specs.List.{count_by};
 ghost use Rattle.match_error.specs.declared.error.Error.{Error};
 ghost use Rattle.patch_place.specs.Picks.{is_eligible};
-ghost use Rattle.patch_place.specs.Steps.{after_draw};
-ghost use Rattle.patch_place.specs.Tables.{IsBestOf, IsLow, IsNth, IsPickOf};
+ghost use Rattle.patch_place.specs.Tables.{IsBestOf, IsFilledLow, IsLow, IsLowEntry, IsNth, entry_error, is_near};
 
-use crate::Draws;
 use match_error::{Error, within};
+
+/// A candidate that has filled cells: its error, and its index among all candidates.
+#[derive(Clone, Copy, Drop)]
+pub(crate) struct Entry {
+    pub(crate) sum: u64,
+    pub(crate) count: u32,
+    pub(crate) index: u32,
+}
+
+impl Entry {
+    fn error(&self) -> Error
+        ensures { result ≡ entry_error self.now }
+    {
+        Error {
+            sum: self.sum,
+            count: self.count,
+        }
+    }
+}
 
 // Whether an error is less than another per filled cell.
 fn is_less(error: &Error, other: &Error) -> bool
@@ -19,17 +36,14 @@ fn is_less(error: &Error, other: &Error) -> bool
     least < most
 }
 
-// The best of some errors and one more.
-fn better(best: Option<Error>, error: &Error) -> Option<Error>
-    requires best { IfSome best IsLow }
-    requires error { IsLow error.now }
+/// The best of some errors and one more.
+pub(crate) fn better(best: Option<Error>, error: &Error) -> Option<Error>
+    requires best { IfSome best IsFilledLow }
+    requires error { IsFilledLow error.now }
     ensures best { (errors : List Error) → IsBestOf errors best
         → IsBestOf (errors ++ error.now ∷ []) result }
-    ensures low { IfSome result IsLow }
+    ensures low { IfSome result IsFilledLow }
 {
-    if error.count == 0 {
-        return best;
-    }
     match best {
         Some(other) => {
             if is_less(error, &other) {
@@ -42,80 +56,50 @@ fn better(best: Option<Error>, error: &Error) -> Option<Error>
     }
 }
 
-// The best of a table's errors.
-fn best_of(errors: &[Error]) -> Option<Error>
-    requires { All IsLow errors.now }
-    ensures best { IsBestOf errors.now result }
-    ensures low { IfSome result IsLow }
-{
-    let mut best = None;
-    'errors: for error in errors {
-        best = better(best, error);
-    }
-    best
-}
-
-// Whether an error is about as good as the best.
-fn is_near(tol: u32, best: &Error, error: &Error) -> bool
+// Whether an entry is about as good as the best.
+fn is_near(tol: u32, best: &Error, entry: &Entry) -> bool
     requires filled { 1 ≤ best.now.count }
     requires best { IsLow best.now }
-    requires error { IsLow error.now }
-    ensures { result ≡ is_eligible tol best.now error.now }
+    requires entry { IsLowEntry entry.now }
+    ensures { result ≡ is_near tol best.now entry.now }
 {
-    error.count > 0 && within(tol, best, error)
+    entry.count > 0 && within(tol, best, &entry.error())
 }
 
-// How many of a table's errors are about as good as the best.
-fn near_count(errors: &[Error], tol: u32, best: &Error) -> u32
-    requires few { length errors.now < 2 ^ 32 }
-    requires low { All IsLow errors.now }
+/// How many of some entries are about as good as the best.
+pub(crate) fn near_count(entries: &[Entry], tol: u32, best: &Error) -> u32
+    requires few { length entries.now < 2 ^ 32 }
+    requires low { All IsLowEntry entries.now }
     requires filled { 1 ≤ best.now.count }
     requires best { IsLow best.now }
-    ensures { result ≡ count_by (is_eligible tol best.now) errors.now }
+    ensures { result ≡ count_by (is_near tol best.now) entries.now }
 {
     let mut n = 0;
-    'errors: for error in errors {
-        if is_near(tol, best, error) {
+    'entries: for entry in entries {
+        if is_near(tol, best, entry) {
             n += 1;
         }
     }
     n
 }
 
-// The index of one of them, counted among them from 0.
-fn nth_near(errors: &[Error], tol: u32, best: &Error, nth: u32) -> u32
-    requires few { length errors.now < 2 ^ 32 }
-    requires low { All IsLow errors.now }
+/// One of them, counted among them from 0.
+pub(crate) fn nth_near(entries: &[Entry], tol: u32, best: &Error, nth: u32) -> Entry
+    requires few { length entries.now < 2 ^ 32 }
+    requires low { All IsLowEntry entries.now }
     requires filled { 1 ≤ best.now.count }
     requires best { IsLow best.now }
-    requires below { nth < count_by (is_eligible tol best.now) errors.now }
-    ensures { IsNth (is_eligible tol best.now) errors.now nth result }
+    requires below { nth < count_by (is_near tol best.now) entries.now }
+    ensures { IsNth (is_near tol best.now) entries.now nth result }
 {
     let mut before = 0;
-    'errors: for (i, error) in errors.iter().enumerate() {
-        if is_near(tol, best, error) {
+    'entries: for entry in entries {
+        if is_near(tol, best, entry) {
             if before == nth {
-                return i as u32;
+                return *entry;
             }
             before += 1;
         }
     }
     unreachable!()
-}
-
-// The index that the next draw picks from a table.
-pub(crate) fn picked_of(errors: &[Error], tol: u32, draws: &mut Draws) -> u32
-    requires some { 0 < length errors.now }
-    requires few { length errors.now < 2 ^ 32 }
-    requires low { All IsLow errors.now }
-    ensures picked { IsPickOf tol errors.now draws.old result }
-    ensures next { draws.new ≡ after_draw draws.old }
-{
-    match best_of(errors) {
-        None => draws.below(errors.len() as u32),
-        Some(best) => {
-            let nth = draws.below(near_count(errors, tol, &best));
-            nth_near(errors, tol, &best, nth)
-        }
-    }
 }

@@ -1,20 +1,21 @@
-// The errors of candidates, as a table of which a draw picks an entry.
-ghost use Rattle.std.specs.Prelude.{◌≡◌, ◌≤◌, ◌<◌, ◌+◌, ◌*◌, ◌^◌, ℕ, ◌⊎◌, ◌++◌, [], ◌∷◌, All, IfOk, List, OnOk, Some, length, map, replicate, slice_get};
+// The shortlist of a list of candidates, of which a draw picks an entry.
+ghost use Rattle.std.specs.Prelude.{◌≡◌, ◌≤◌, ◌<◌, ◌+◌, ◌^◌, IfOk, OnOk, Some, length, slice_get};
 ghost use Rattle.cells.specs.Cells.{sizes_of};
 ghost use Rattle.map_canvas.specs.Canvases.{StandsOver};
 ghost use Rattle.map_canvas.specs.Choices.{Fits};
-ghost use Rattle.match_error.specs.declared.error.Error.{Error};
 ghost use Rattle.match_error.specs.Errors.{error_of, filled_cells};
+ghost use Rattle.match_error.specs.Runs.{AreFilledRuns};
 ghost use Rattle.patch_place.specs.Counts.{AreVolumeParts};
 ghost use Rattle.patch_place.specs.Lists.{IsWithin};
 ghost use Rattle.patch_place.specs.Picks.{AllFit, errors_on, listed_on};
-ghost use Rattle.patch_place.specs.Tables.{AreErrors, IsTableDone, IsEntry, IsLow, IsMore, IsNextLimit, IsTableOf};
+ghost use Rattle.patch_place.specs.Tables.{IsBoxDone, IsLimitOf, IsMore, IsSeenTo, IsShortlist, IsShortlistOf, IsSound};
 
 use crate::Candidates;
 use crate::candidates::{Spot, frames_before, part_after, parts_of, place_count, room};
-use cells::{At, Box3, Sizes, Volume};
-use match_error::{Error, error_sum_within, filled_count, overlap_error};
+use crate::shortlist::Shortlist;
+use cells::{Box3, Sizes, Volume};
 use map_canvas::{Canvas, Placement};
+use match_error::{Error, FilledRuns, error_sum_within, filled_count};
 use std::alloc::{AllocError, Global};
 
 // How many candidates there are for a canvas and a sample.
@@ -35,85 +36,8 @@ pub(crate) fn entry_for(list: &Candidates, canvas: &Canvas, sample: &Volume, i: 
     list.entry(i, canvas.map().size(), sample)
 }
 
-// The errors of all candidates.
-fn all_errors(
-    alloc: Global,
-    list: &Candidates,
-    canvas: &Canvas,
-    sample: &Volume,
-) -> Result<Vec<Error>, AllocError>
-    requires over { StandsOver canvas.now sample.now }
-    requires within { IsWithin list.now canvas.now.map.size }
-    requires fit { AllFit canvas.now sample.now list.now }
-    ensures { IfOk result (λ v. AreErrors v.items (errors_on canvas.now sample.now list.now)) }
-{
-    let n = count_for(list, canvas, sample);
-    let mut errors = Vec::with_capacity(alloc, n as usize)?;
-    'entries: for i in 0..n {
-        let placement = entry_for(list, canvas, sample, i);
-        let error = overlap_error(canvas, sample, &placement);
-        errors.push(error)?;
-    }
-    Ok(errors)
-}
-
-// An entry that is never eligible.
-const UNFILLED: Error = Error { sum: 0, count: 0 };
-
-// The entry of a candidate whose box has so many filled cells. Its sum is left unfinished where it
-// passes the limit.
-fn entry_within(
-    canvas: &Canvas,
-    sample: &Volume,
-    placement: &Placement,
-    count: u32,
-    limit: u64,
-) -> Error
-    requires over { StandsOver canvas.now sample.now }
-    requires fits { Fits canvas.now.map.size sample.now placement.now }
-    requires count { count ≡ filled_cells canvas.now.map placement.now.rect }
-    ensures entry { IsEntry limit result (error_of canvas.now.map sample.now placement.now) }
-    ensures low { IsLow result }
-{
-    match error_sum_within(canvas, sample, placement, limit) {
-        Some(sum) => Error { sum, count },
-        None => UNFILLED,
-    }
-}
-
-// The greatest sum that is within the tolerance of another, over as many cells. Each is, where the
-// product is past 64 bits.
-fn limit_of(tol: u32, sum: u64) -> u64
-    ensures { (other : ℕ) → other ≤ 2 ^ 48 → result < other → sum * (100 + tol) < other * 100 }
-{
-    sum.saturating_mul(100 + u64::from(tol)) / 100
-}
-
-// The limit after one more entry of a table.
-fn next_limit(limit: u64, tol: u32, entry: &Error) -> u64
-    ensures { IsNextLimit tol limit entry.now result }
-{
-    if entry.count == 0 {
-        limit
-    } else {
-        limit.min(limit_of(tol, entry.sum))
-    }
-}
-
-// A table of one box, as far as it is made. As many cells of each candidate are filled, so one whose sum
-// passes what is within the tolerance of the least sum so far is never eligible.
-#[derive(Drop)]
-struct BoxTable {
-    errors: Vec<Error>,
-    // what a sum may be at most
-    limit: u64,
-    // how many cells of the box are filled
-    count: u32,
-    tol: u32,
-}
-
-impl BoxTable {
-    // One more entry.
+impl Shortlist {
+    // One more candidate.
     fn add(
         &mut self,
         canvas: &Canvas,
@@ -122,25 +46,74 @@ impl BoxTable {
     ) -> Result<(), AllocError>
         requires over { StandsOver canvas.now sample.now }
         requires fits { Fits canvas.now.map.size sample.now placement.now }
-        requires count { self.old.count ≡ filled_cells canvas.now.map placement.now.rect }
-        requires filled { 1 ≤ self.old.count }
+        requires few { self.old.seen + 1 < 2 ^ 32 }
+        requires sound { IsSound self.old }
         ensures more { OnOk result (IsMore self.old self.new
             (error_of canvas.now.map sample.now placement.now)) }
+        ensures sound { OnOk result (IsSound self.new) }
         ensures tol { self.new.tol ≡ self.old.tol }
-        ensures count { self.new.count ≡ self.old.count }
+        ensures seen { OnOk result (self.new.seen ≡ self.old.seen + 1) }
     {
-        let entry = entry_within(canvas, sample, placement, self.count, self.limit);
-        self.errors.push(entry)?;
-        self.limit = next_limit(self.limit, self.tol, &entry);
-        Ok(())
+        let count = filled_count(canvas, &placement.rect);
+        if count == 0 {
+            self.skip();
+            return Ok(());
+        }
+        match error_sum_within(canvas, sample, placement, self.limit_for(count)) {
+            Some(sum) => self.keep(&Error { sum, count }),
+            None => {
+                self.skip();
+                Ok(())
+            }
+        }
     }
 
-    // The entries of the part after the first n.
+    // One more candidate of a box that has so many filled cells, whose sum is left unfinished where it
+    // passes the limit. Gives the limit of the next one.
+    fn add_filled(
+        &mut self,
+        runs: &FilledRuns,
+        canvas: &Canvas,
+        sample: &Volume,
+        placement: &Placement,
+        count: u32,
+        limit: u64,
+    ) -> Result<u64, AllocError>
+        requires over { StandsOver canvas.now sample.now }
+        requires fits { Fits canvas.now.map.size sample.now placement.now }
+        requires runs { AreFilledRuns canvas.now placement.now.rect runs.now }
+        requires count { count ≡ filled_cells canvas.now.map placement.now.rect }
+        requires filled { 1 ≤ count }
+        requires limit { IsLimitOf self.old count limit }
+        requires few { self.old.seen + 1 < 2 ^ 32 }
+        requires sound { IsSound self.old }
+        ensures more { OnOk result (IsMore self.old self.new
+            (error_of canvas.now.map sample.now placement.now)) }
+        ensures limit { IfOk result (IsLimitOf self.new count) }
+        ensures sound { OnOk result (IsSound self.new) }
+        ensures tol { self.new.tol ≡ self.old.tol }
+        ensures seen { OnOk result (self.new.seen ≡ self.old.seen + 1) }
+    {
+        match runs.error_sum_within(canvas, sample, placement, limit) {
+            Some(sum) => {
+                self.keep(&Error { sum, count })?;
+                Ok(self.limit_for(count))
+            }
+            None => {
+                self.skip();
+                Ok(limit)
+            }
+        }
+    }
+
+    // The candidates of a box from the part after the first n.
     fn add_part(
         &mut self,
+        runs: &FilledRuns,
         canvas: &Canvas,
         sample: &Volume,
         rect: &Box3,
+        count: u32,
         sizes: &Sizes,
         n: u32,
     ) -> Result<(), AllocError>
@@ -149,10 +122,15 @@ impl BoxTable {
         requires parts { AreVolumeParts sizes.now }
         requires below { n < length sizes.now }
         requires fit { AllFit canvas.now sample.now (Candidates.Fits rect.now) }
-        requires count { self.old.count ≡ filled_cells canvas.now.map rect.now }
-        requires filled { 1 ≤ self.old.count }
-        requires so_far { IsTableDone canvas.now sample.now rect.now n self.old }
-        ensures done { OnOk result (IsTableDone canvas.now sample.now rect.now (n + 1) self.new) }
+        requires runs { AreFilledRuns canvas.now rect.now runs.now }
+        requires count { count ≡ filled_cells canvas.now.map rect.now }
+        requires filled { 1 ≤ count }
+        requires sound { IsSound self.old }
+        requires so_far { IsBoxDone canvas.now sample.now rect.now n self.old }
+        requires seen { IsSeenTo rect.now sizes.now n self.old.seen }
+        ensures done { OnOk result (IsBoxDone canvas.now sample.now rect.now (n + 1) self.new) }
+        ensures seen { OnOk result (IsSeenTo rect.now sizes.now (n + 1) self.new.seen) }
+        ensures sound { OnOk result (IsSound self.new) }
         ensures tol { self.new.tol ≡ self.old.tol }
     {
         let free = room(part_after(sizes, n), rect.size);
@@ -161,102 +139,105 @@ impl BoxTable {
             y: 0,
             f: frames_before(sizes, n),
         };
+        let mut limit = self.limit_for(count);
         'entries: for _ in 0..place_count(free) {
             let placement = Placement {
                 rect: *rect,
                 from: spot.place(),
             };
-            self.add(canvas, sample, &placement)?;
+            limit = self.add_filled(runs, canvas, sample, &placement, count, limit)?;
             spot = spot.next(free);
         }
         Ok(())
     }
 }
 
-// A table of one box, which has filled cells.
-fn filled_table(
+// The shortlist of all candidates, each with its own box.
+fn placed_shortlist(
+    alloc: Global,
+    list: &Candidates,
+    tol: u32,
+    canvas: &Canvas,
+    sample: &Volume,
+) -> Result<Shortlist, AllocError>
+    requires over { StandsOver canvas.now sample.now }
+    requires within { IsWithin list.now canvas.now.map.size }
+    requires fit { AllFit canvas.now sample.now list.now }
+    ensures { IfOk result (IsShortlistOf tol (errors_on canvas.now sample.now list.now)) }
+{
+    let mut short = Shortlist::unfilled(alloc, tol, 0);
+    'entries: for i in 0..count_for(list, canvas, sample) {
+        short.add(canvas, sample, &entry_for(list, canvas, sample, i))?;
+    }
+    Ok(short)
+}
+
+// The shortlist of one box, which has so many filled cells.
+fn filled_shortlist(
     alloc: Global,
     rect: &Box3,
     count: u32,
     tol: u32,
     canvas: &Canvas,
     sample: &Volume,
-) -> Result<Vec<Error>, AllocError>
-    requires over { StandsOver canvas.now sample.now }
-    requires fit { AllFit canvas.now sample.now (Candidates.Fits rect.now) }
-    requires count { count ≡ filled_cells canvas.now.map rect.now }
-    requires filled { 1 ≤ count }
-    ensures { IfOk result (λ v. IsTableOf tol v.items
-        (errors_on canvas.now sample.now (Candidates.Fits rect.now))) }
-{
-    let n = count_for(&Candidates::Fits { rect: *rect }, canvas, sample);
-    let sizes = parts_of(sample);
-    let mut table = BoxTable {
-        errors: Vec::with_capacity(alloc, n as usize)?,
-        limit: u64::MAX,
-        count,
-        tol,
-    };
-    'parts: for n in 0..sizes.len() {
-        table.add_part(canvas, sample, rect, &sizes, n)?;
-    }
-    Ok(table.errors)
-}
-
-// A table of one box without filled cells.
-fn unfilled_table(
-    alloc: Global,
-    rect: &Box3,
-    tol: u32,
-    canvas: &Canvas,
-    sample: &Volume,
-) -> Result<Vec<Error>, AllocError>
-    requires unfilled { filled_cells canvas.now.map rect.now ≡ 0 }
-    ensures { IfOk result (λ v. IsTableOf tol v.items
-        (errors_on canvas.now sample.now (Candidates.Fits rect.now))) }
-{
-    let n = count_for(&Candidates::Fits { rect: *rect }, canvas, sample);
-    vec![in alloc; UNFILLED; n as usize]
-}
-
-// A table of one box.
-fn box_table(
-    alloc: Global,
-    rect: &Box3,
-    tol: u32,
-    canvas: &Canvas,
-    sample: &Volume,
-) -> Result<Vec<Error>, AllocError>
+) -> Result<Shortlist, AllocError>
     requires over { StandsOver canvas.now sample.now }
     requires some { 0 < length (listed_on canvas.now sample.now (Candidates.Fits rect.now)) }
     requires fit { AllFit canvas.now sample.now (Candidates.Fits rect.now) }
-    ensures { IfOk result (λ v. IsTableOf tol v.items
+    requires count { count ≡ filled_cells canvas.now.map rect.now }
+    requires filled { 1 ≤ count }
+    ensures { IfOk result (IsShortlistOf tol
+        (errors_on canvas.now sample.now (Candidates.Fits rect.now))) }
+{
+    let runs = FilledRuns::gather(alloc, canvas, rect)?;
+    let sizes = parts_of(sample);
+    let mut short = Shortlist::unfilled(alloc, tol, 0);
+    'parts: for n in 0..sizes.len() {
+        short.add_part(&runs, canvas, sample, rect, count, &sizes, n)?;
+    }
+    Ok(short)
+}
+
+// The shortlist of one box.
+fn box_shortlist(
+    alloc: Global,
+    rect: &Box3,
+    tol: u32,
+    canvas: &Canvas,
+    sample: &Volume,
+) -> Result<Shortlist, AllocError>
+    requires over { StandsOver canvas.now sample.now }
+    requires some { 0 < length (listed_on canvas.now sample.now (Candidates.Fits rect.now)) }
+    requires fit { AllFit canvas.now sample.now (Candidates.Fits rect.now) }
+    ensures { IfOk result (IsShortlistOf tol
         (errors_on canvas.now sample.now (Candidates.Fits rect.now))) }
 {
     let count = filled_count(canvas, rect);
-    if count == 0 {
-        unfilled_table(alloc, rect, tol, canvas, sample)
-    } else {
-        filled_table(alloc, rect, count, tol, canvas, sample)
+    if count > 0 {
+        return filled_shortlist(alloc, rect, count, tol, canvas, sample);
     }
+    let n = count_for(&Candidates::Fits { rect: *rect }, canvas, sample);
+    Ok(Shortlist::unfilled(alloc, tol, n))
 }
 
-// A table that stands for the errors of all candidates.
-pub(crate) fn table_of(
+// The shortlist of all candidates.
+pub(crate) fn shortlist_of(
     alloc: Global,
     list: &Candidates,
     tol: u32,
     canvas: &Canvas,
     sample: &Volume,
-) -> Result<Vec<Error>, AllocError>
+) -> Result<Shortlist, AllocError>
     requires over { StandsOver canvas.now sample.now }
     requires within { IsWithin list.now canvas.now.map.size }
     requires some { 0 < length (listed_on canvas.now sample.now list.now) }
     requires fit { AllFit canvas.now sample.now list.now }
-    ensures { IfOk result (λ v. IsTableOf tol v.items (errors_on canvas.now sample.now list.now)) }
+    ensures { IfOk result (IsShortlistOf tol (errors_on canvas.now sample.now list.now)) }
 {
     match list {
-        Candidates::Fits { rect } => box_table(alloc, rect, tol, canvas, sample),
-        Candidates::One(_) | Candidates::Laid { .. } => all_errors(alloc, list, canvas, sample),
+        Candidates::Fits { rect } => box_shortlist(alloc, rect, tol, canvas, sample),
+        Candidates::One(_) | Candidates::Laid { .. } => {
+            placed_shortlist(alloc, list, tol, canvas, sample)
+        }
     }
 }

@@ -26,6 +26,7 @@ mod errors;
 mod laws;
 mod mode;
 mod picks;
+mod shortlist;
 mod steps;
 
 pub use axis::{Span, grid_on};

@@ -7,8 +7,7 @@ ghost use Rattle.patch_place.specs.Picks.{AllFit, HasEntries, IsPickOn, listed_o
 ghost use Rattle.patch_place.specs.Steps.{after_draw};
 ghost use Rattle.patch_place.specs.Tables.{IsPickAtOn};
 
-use crate::eligible::picked_of;
-use crate::errors::{count_for, entry_for, table_of};
+use crate::errors::{count_for, entry_for, shortlist_of};
 use crate::{Candidates, Draws};
 use cells::Volume;
 use map_canvas::{Canvas, Placement};
@@ -35,8 +34,8 @@ fn picked_at(
     let Some(tol) = tol else {
         return Ok(draws.below(count_for(list, canvas, sample)));
     };
-    let errors = table_of(alloc, list, tol, canvas, sample)?;
-    Ok(picked_of(&errors, tol, draws))
+    let short = shortlist_of(alloc, list, tol, canvas, sample)?;
+    Ok(short.picked(draws))
 }
 
 /// Picks one of the candidates that are about as good as the best, by the next draw: those whose error

@@ -35,3 +35,9 @@ returns-clause-small c =
       sum_by-take-le error c.args.self.now.runs.items c.runs.run-index,
       error_small c.args.canvas.now.map c.args.sample.now c.args.placement.now c.map-map.ensures.canvas.map.small c.samples-sample.ensures.volume c.requires.fits,
     )
+
+pub returns-then-sum-limit-clause-bound : goal.returns-then-sum-limit-clause-bound
+returns-then-sum-limit-clause-bound c = error_small c.args.canvas.now.map c.args.sample.now c.args.placement.now c.map-map.ensures.canvas.map.small c.samples-sample.ensures.volume c.requires.fits
+
+pub returns-clause-bound : goal.returns-clause-bound
+returns-clause-bound c = error_small c.args.canvas.now.map c.args.sample.now c.args.placement.now c.map-map.ensures.canvas.map.small c.samples-sample.ensures.volume c.requires.fits

@@ -3,7 +3,7 @@ use Rattle.cells.specs.Places.{cell_count}
 use Rattle.std.specs.Prelude.{Some}
 use Rattle.patch_place.specs.Counts.{made_from}
 use Rattle.patch_place.proofs.PartLists.{entry_at}
-use Rattle.patch_place.proofs.Walking.{count_over}
+use Rattle.cells.proofs.PlaceLists.{count_over}
 use Rattle.patch_place.proofs.candidates.Candidates.entry_in.Goals as goal
 
 pub place_in-c-requires-clause-below : goal.place_in-c-requires-clause-below

@@ -3,7 +3,7 @@ use Rattle.cells.specs.Places.{cell_count}
 use Rattle.std.specs.Prelude.{slice_get}
 use Rattle.patch_place.specs.Counts.{entries_after, entries_in, made_from}
 use Rattle.patch_place.proofs.PartLists.{below_there, entry_here, entry_there}
-use Rattle.patch_place.proofs.Walking.{count_over}
+use Rattle.cells.proofs.PlaceLists.{count_over}
 use Rattle.patch_place.proofs.candidates.Candidates.entry_in_parts.Goals as goal
 
 pub entry_in-requires-clause-below : goal.entry_in-requires-clause-below

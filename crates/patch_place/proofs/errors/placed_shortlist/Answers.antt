@@ -1,0 +1,19 @@
+use Rattle.std.proofs.Common.{map, take, sym, subst, ◌∙◌, arith}
+use Rattle.match_error.specs.Errors.{error_of}
+use Rattle.patch_place.specs.Picks.{listed_on}
+use Rattle.patch_place.specs.Tables.{IsShortlist}
+use Rattle.patch_place.proofs.Counting.{map_more}
+use Rattle.patch_place.proofs.errors.placed_shortlist.Goals as goal
+
+pub entries-preserved : goal.entries-preserved
+entries-preserved c =
+    let list = listed_on c.args.canvas.now c.args.sample.now c.args.list.now in
+    let f = error_of c.args.canvas.now.map c.args.sample.now in
+    record {
+      short =
+          subst (IsShortlist c.add.new.self) (sym (map_more f list c.entries.i _ c.entry_for.ensures.at))
+          (c.in_ok-add.ensures.more (map f (take c.entries.i list)) c.entries.invariant.short);
+      sound = c.in_ok-add.ensures.sound;
+      seen = omega (arith, c.in_ok-add.ensures.seen, c.entries.invariant.seen);
+      tol = c.add.ensures.tol ∙ c.entries.invariant.tol;
+    }

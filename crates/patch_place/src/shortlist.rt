@@ -1,0 +1,117 @@
+// Shortlists: of many candidates those that may be eligible.
+ghost use Rattle.std.specs.Prelude.{◌≡◌, ◌≤◌, ◌<◌, ◌+◌, ◌*◌, ◌^◌, ℕ, All, List, OnOk, length};
+ghost use Rattle.match_error.specs.declared.error.Error.{Error};
+ghost use Rattle.patch_place.specs.Steps.{after_draw};
+ghost use Rattle.patch_place.specs.Tables.{HasTable, IsLimitOf, IsLow, IsMore, IsPast, IsPickOf, IsShortOf, IsShortlist, IsSound, IsUnfilled};
+
+use crate::Draws;
+use crate::eligible::{Entry, better, near_count, nth_near};
+use match_error::Error;
+use std::alloc::{AllocError, Global};
+
+/// The candidates, of those seen so far, that may be eligible: one whose error is past the tolerance of
+/// the best so far never is, since the best only falls.
+#[derive(Drop)]
+pub(crate) struct Shortlist {
+    // in their order, with their errors
+    near: Vec<Entry>,
+    // the best error so far; None where no candidate has a filled cell
+    best: Option<Error>,
+    // how many candidates were seen
+    seen: u32,
+    tol: u32,
+}
+
+// The greatest sum over so many cells that is within the tolerance of the best.
+fn limit_of(tol: u32, best: &Error, count: u32) -> u64
+    requires filled { 1 ≤ best.now.count }
+    requires low { IsLow best.now }
+    ensures { (other : ℕ) → other ≤ 2 ^ 48 → result < other
+        → best.now.sum * count * (100 + tol) < other * best.now.count * 100 }
+{
+    let most = u128::from(best.sum) * u128::from(count) * (100 + u128::from(tol));
+    let limit = most / (u128::from(best.count) * 100);
+    limit.min(u128::from(u64::MAX)) as u64
+}
+
+impl Shortlist {
+    /// So many candidates, none of which has a filled cell.
+    pub(crate) fn unfilled(alloc: Global, tol: u32, seen: u32) -> Shortlist
+        ensures short { (errors : List Error) → All IsUnfilled errors → length errors ≡ seen
+            → IsShortlist result errors }
+        ensures sound { IsSound result }
+        ensures tol { result.tol ≡ tol }
+        ensures seen { result.seen ≡ seen }
+    {
+        Shortlist {
+            near: Vec::new(alloc),
+            best: None,
+            seen,
+            tol,
+        }
+    }
+
+    /// One more candidate, which is never eligible.
+    pub(crate) fn skip(&mut self)
+        requires few { self.old.seen + 1 < 2 ^ 32 }
+        requires sound { IsSound self.old }
+        ensures more { (error : Error) → IsPast self.old error → IsMore self.old self.new error }
+        ensures sound { IsSound self.new }
+        ensures best { self.new.best ≡ self.old.best }
+        ensures tol { self.new.tol ≡ self.old.tol }
+        ensures seen { self.new.seen ≡ self.old.seen + 1 }
+    {
+        self.seen += 1;
+    }
+
+    /// One more candidate, which has filled cells.
+    pub(crate) fn keep(&mut self, error: &Error) -> Result<(), AllocError>
+        requires few { self.old.seen + 1 < 2 ^ 32 }
+        requires sound { IsSound self.old }
+        requires filled { 1 ≤ error.now.count }
+        requires low { IsLow error.now }
+        ensures more { OnOk result (IsMore self.old self.new error.now) }
+        ensures sound { OnOk result (IsSound self.new) }
+        ensures tol { self.new.tol ≡ self.old.tol }
+        ensures seen { OnOk result (self.new.seen ≡ self.old.seen + 1) }
+    {
+        self.near.push(Entry {
+            sum: error.sum,
+            count: error.count,
+            index: self.seen,
+        })?;
+        self.best = better(self.best, error);
+        self.seen += 1;
+        Ok(())
+    }
+
+    /// What the sum over so many filled cells may be at most: a candidate with more is never eligible.
+    pub(crate) fn limit_for(&self, count: u32) -> u64
+        requires some { 1 ≤ count }
+        requires sound { IsSound self.now }
+        ensures { IsLimitOf self.now count result }
+    {
+        match &self.best {
+            Some(best) => limit_of(self.tol, best, count),
+            None => u64::MAX,
+        }
+    }
+
+    /// The index that the next draw picks.
+    pub(crate) fn picked(&self, draws: &mut Draws) -> u32
+        requires some { 0 < self.now.seen }
+        requires sound { IsSound self.now }
+        requires table { HasTable self.now }
+        ensures picked { (table : List Error) → IsShortOf self.now table
+            → IsPickOf self.now.tol table draws.old result }
+        ensures next { draws.new ≡ after_draw draws.old }
+    {
+        match &self.best {
+            None => draws.below(self.seen),
+            Some(best) => {
+                let nth = draws.below(near_count(&self.near, self.tol, best));
+                nth_near(&self.near, self.tol, best, nth).index
+            }
+        }
+    }
+}

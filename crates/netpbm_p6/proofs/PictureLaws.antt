@@ -5,12 +5,14 @@ use Rattle.std.proofs.lemmas.List.{length-append}
 use Rattle.std.proofs.Math.Seq.{drop-append_seam}
 use Rattle.cells.specs.declared.place.Size.{Size}
 use Rattle.cells.specs.Places.{cell_count}
-use Rattle.cells.specs.Cells.{Cells, volume_of}
+use Rattle.cells.specs.Cells.{Cells, IsOnePart, count_of, volume_of}
+use Rattle.cells.specs.Parts.{count_from}
 use Rattle.shelf_core.specs.Files.{ShelfState, OnlyReads, content_of}
 use Rattle.shelf_core.specs.declared.fault.ReadError.{ReadError}
 use Rattle.shelf_core.specs.declared.fault.ReadError.TheVariants.{ReadFault, Bad, Limit, NoMemory}
 use Rattle.shelf_core.specs.declared.fault.FormFault.TheVariants.{Form, Depth, Space, Cell, NoFrames, Sample, Trailing}
 use Rattle.shelf_core.specs.declared.fault.What.TheVariants.{Axis, Cells as CellsLimit, Header as HeaderLimit, Frames, Output, Loop, Records, Parts}
+use Rattle.netpbm_p6.specs.declared.header.TheConstants.{MOST_CELLS}
 use Rattle.netpbm_p6.specs.declared.scan.Header.{Header}
 use Rattle.netpbm_p6.specs.Pictures.{capped, picture_size, Headed, raster_length, IsRead, Within, AxisPasses, Refuses, ReadsAs}
 use Rattle.netpbm_p6.specs.Reading.{HasHeader, Exceeds, HeaderFits, IsFirstAbove, RasterRefuses, IsRaster, RastersAs}
@@ -186,3 +188,12 @@ read_as name header size maxval volume a b c first second seen fits raster =
     sees_then (λ files. HasHeader (content_of files name) header) (λ files. IsRaster (drop header.length (content_of files name)) size maxval volume)
     (λ files. IsRead (content_of files name) (record { maxval = maxval; volume = volume })) a b c
     (λ files has. is_read (content_of files name) header size maxval volume (found (content_of files name) header size maxval has fits)) first second seen raster
+
+-- a volume of the size that a header allows has few enough cells
+pub cells_allowed : (header : Header) (size : Size) (maxval : ℕ) (v : Cells) → HeaderFits header size maxval → v.size ≡ size → IsOnePart v → count_of v ≤ MOST_CELLS
+cells_allowed header size maxval v fits is one =
+    let alone : count_of v ≡ cell_count v.size = ap (count_from v.size) one in
+    let sized : cell_count v.size ≡ header.width * (header.height * 1) = ap cell_count (is ∙ fits.size_is) in
+    let single : header.height * 1 ≡ header.height = omega arith in
+    let cells : header.width * (header.height * 1) ≡ header.width * header.height = ap (λ n. header.width * n) single in
+    omega (arith, fits.cells_fit, alone, sized, cells)

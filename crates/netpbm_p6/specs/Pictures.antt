@@ -3,7 +3,7 @@
 -- PPM, binary form, with a maxval of at most 255; the bounds are this project's own.)
 use Rattle.std.specs.Prelude.{◌≡◌, ◌≤◌, ◌<◌, ◌⊎◌, ◌+◌, ◌*◌, ℕ, List, ◌++◌, length, take, min, slice_index, All, codes, decimal, Result, Ok, Err}
 use Rattle.cells.specs.declared.place.Size.{Size}
-use Rattle.cells.specs.Cells.{Cells, IsOnePart, IsVolume, volume_of, bytes_of}
+use Rattle.cells.specs.Cells.{Cells, IsOnePart, IsVolume, volume_of, bytes_of, count_of}
 use Rattle.shelf_core.specs.Files.{ShelfState, InFile, ReadsRose}
 use Rattle.shelf_core.specs.declared.fault.ReadError.{ReadError}
 use Rattle.shelf_core.specs.declared.fault.ReadError.TheVariants.{ReadFault, Bad, Limit, NoMemory}
@@ -155,6 +155,7 @@ pub record IsSound (picture : Picture) : Type 0 where
   pub frames : picture.volume.size.f ≡ 1
   pub colours : picture.volume.k ≡ 3
   pub samples : All (λ b. b ≤ picture.maxval) (bytes_of picture.volume)
+  pub cells : count_of picture.volume ≤ MOST_CELLS
 
 -- a picture that can be written: a maxval of at least 1, one frame, three samples, and no byte
 -- above maxval

@@ -1,7 +1,7 @@
 use Rattle.std.proofs.Common.{◌≤◌, ◌∙◌, ap, sym, subst}
 use Rattle.cells.specs.declared.place.Size.{Size}
 use Rattle.std.proofs.lemmas.Result.{err_from_is_err_and}
-use Rattle.netpbm_p6.proofs.PictureLaws.{limits_as, raster_as, read_as}
+use Rattle.netpbm_p6.proofs.PictureLaws.{cells_allowed, limits_as, raster_as, read_as}
 use Rattle.netpbm_p6.proofs.read.read_p6.Goals as goal
 
 pub returns-in_err-size-clause-answer : goal.returns-in_err-size-clause-answer
@@ -33,4 +33,5 @@ returns-clause-picture g c =
       frames = ap (λ (size : Size). size.f) (made.size_is ∙ fits.size_is);
       colours = made.colours;
       samples = made.samples;
+      cells = cells_allowed c.in_ok-header.header c.in_ok-size.size c.in_ok-size.maxval c.in_ok-volume.volume fits made.size_is made.one;
     }

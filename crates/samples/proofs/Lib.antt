@@ -1,0 +1,4 @@
+pub mod OneSample
+pub mod Joined
+pub mod OneAnswer
+pub mod Reading

@@ -1,0 +1,109 @@
+-- The samples read so far, and how the reading ends.
+use Rattle.std.proofs.Common.{◌≡◌, ℕ, zero, suc, ◌+◌, ◌<◌, ◌≤◌, ◌⊎◌, inl, inr, ◌++◌, List, [], ◌∷◌, length, get_or, take, refl, sym, ap, ◌∙◌, subst, arith, true, false, add-one}
+use Rattle.std.specs.Prelude.{map, slice_get, Option, Some, None, Result, Ok, Err}
+use Rattle.std.proofs.Math.Seq.{take-suc}
+use Rattle.std.proofs.lemmas.Option.{slice_get-map, slice_get_read}
+use Rattle.cells.specs.Cells.{Cells, IsOnePart, IsVolume, count_of, sizes_of, with_part}
+use Rattle.cells.specs.PartLists.{parts_of}
+use Rattle.cells.proofs.Joining.{count_behind}
+use Rattle.shelf_core.specs.Files.{Files, ShelfState, OnlyReads, Changes, Rose, content_of}
+use Rattle.shelf_core.specs.declared.fault.ReadError.{ReadError}
+use Rattle.shelf_core.specs.declared.fault.ReadError.TheVariants as error
+use Rattle.shelf_core.proofs.FileLaws.{rose_later, told_both, told_then, told_weaker}
+use Rattle.synth_report.specs.declared.fault.FileOf.{FileOf}
+use Rattle.synth_report.specs.declared.fault.FileOf.TheVariants as part
+use Rattle.synth_report.specs.declared.fault.Fault.{Fault}
+use Rattle.synth_report.specs.declared.fault.Fault.TheVariants.{Words, Form as FormFault, Unlike, Mark, Limit, Read, Write, NoMemory, NoLoop}
+use Rattle.run_outcome.specs.Commands.{named}
+use Rattle.run_outcome.specs.Faults.{FailsToRead, fault_of_read}
+use Rattle.samples.specs.declared.form.Form.{Form}
+use Rattle.samples.specs.declared.sample.Sample.{Sample}
+use Rattle.samples.specs.declared.several.Samples.{Samples}
+use Rattle.samples.specs.Samples.{IsSampleOf, IsSoundIn, IsSoundSample, RefusesSample, goes_with}
+use Rattle.samples.specs.Several.{AreSamples, AreSoundSamples, IsSampleUnread, MayRefuseSamples, RefusesSamples, SamplesAreRefused, SamplesReadAs, StandAlike, StandForParts, StandsAlike, contents, numbered_files, sample_files}
+use Rattle.samples.specs.Steps.{IsJoined, IsNextRead, IsNextRefused, Joins, NextReadsAs, NotNext, PassesCells}
+use Rattle.samples.proofs.OneSample.{count_alone, sound_alone, sound_count, sound_first, sound_joined}
+use Rattle.samples.proofs.Joined.{count_of_parts, parts_alone}
+use Rattle.samples.proofs.OneAnswer.{none_at_first, none_refused}
+
+-- Joining.
+
+pub joined : (samples : Samples) (sample : Sample) (after : Samples) → AreSoundSamples samples → IsSoundSample sample → goes_with samples.form sample.form ≡ true
+    → count_of samples.volume + count_of sample.volume ≤ 8388608 → after.form ≡ samples.form → after.volume ≡ with_part samples.volume sample.volume
+    → parts_of after.volume ≡ parts_of samples.volume ++ sample.volume ∷ [] → IsJoined samples sample after
+joined samples sample after s p alike fits form volume parts = record {
+  alike = alike;
+  form = form;
+  sizes = ap sizes_of volume;
+  parts = parts;
+  sound = subst AreSoundSamples (sym after_is) (record {
+    form = sound_joined samples.form sample.form samples.volume sample.volume alike s.form p;
+    fits = (let more = count_behind samples.volume.size samples.volume.more sample.volume.size in
+        let alone = count_alone sample.volume (sound_alone sample.form sample.volume p) in
+        omega (arith, more, alone, fits));
+  });
+}
+  where
+    after_is : after ≡ record { form = samples.form; volume = with_part samples.volume sample.volume }
+    after_is = ap (λ f. record after { form = f }) form ∙ ap (λ v. record { form = samples.form; volume = v }) volume
+
+-- One sample more stands.
+
+alike_behind : (form : Form) (files : List (List ℕ)) (parts : List Cells) (bytes : List ℕ) (own : Cells) → StandAlike form files parts → StandsAlike form bytes own → StandAlike form (files ++ bytes ∷ []) (parts ++ own ∷ [])
+alike_behind form [] [] bytes own a here = (here, tt)
+alike_behind form [] (p ∷ parts) bytes own a here = absurd a
+alike_behind form (file ∷ files) [] bytes own a here = absurd a
+alike_behind form (file ∷ files) (p ∷ parts) bytes own a here = (a.0, alike_behind form files parts bytes own a.1 here)
+
+parts_behind : (form : Form) (first : List ℕ) (files : List (List ℕ)) (parts : List Cells) (bytes : List ℕ) (own : Cells) → StandForParts form first files parts → StandsAlike form bytes own
+    → StandForParts form first (files ++ bytes ∷ []) (parts ++ own ∷ [])
+parts_behind form first files [] bytes own a here = absurd a
+parts_behind form first files (p ∷ parts) bytes own a here = (a.0, alike_behind form files parts bytes own a.1 here)
+
+stand_more : (first : List ℕ) (files : List (List ℕ)) (bytes : List ℕ) (before after : Samples) (sample : Sample) → AreSamples first files before → IsSampleOf bytes sample → IsJoined before sample after
+    → AreSamples first (files ++ bytes ∷ []) after
+stand_more first files bytes before after sample a read j = record {
+  parts = subst (λ f. StandForParts f first (files ++ bytes ∷ []) (parts_of after.volume)) (sym j.form)
+      (subst (StandForParts before.form first (files ++ bytes ∷ [])) (sym j.parts)
+      (parts_behind before.form first files (parts_of before.volume) bytes sample.volume a.parts (record { own = sample.form; alike = j.alike; stands = read })));
+  fits = j.sound.fits;
+}
+
+-- the samples of the first file
+pub stand_first : (bytes : List ℕ) (form : Form) (volume : Cells) → IsSoundIn form volume → IsSampleOf bytes (record { form = form; volume = volume }) → AreSamples bytes [] (record { form = form; volume = volume })
+stand_first bytes form volume s read = record {
+  parts = subst (StandForParts form bytes []) (sym (parts_alone volume (sound_alone form volume s))) (read, tt);
+  fits = sound_count form volume s;
+}
+
+pub sound_start : (form : Form) (volume : Cells) → IsSoundIn form volume → AreSoundSamples (record { form = form; volume = volume })
+sound_start form volume s = record { form = sound_first form volume s; fits = sound_count form volume s }
+
+contents_more : (files : Files) (names : List (List ℕ)) (i : ℕ) (name : List ℕ) → i < length names → name ≡ get_or names i name → contents files (take (i + 1) names) ≡ contents files (take i names) ++ content_of files name ∷ []
+contents_more files names i name lt is =
+    ap (λ k. contents files (take k names)) (add-one i) ∙ ap (contents files) (take-suc names i name lt)
+    ∙ ap (λ n. contents files (take i names ++ n ∷ [])) (sym is) ∙ map_append (take i names)
+  where
+    map_append : (xs : List (List ℕ)) → contents files (xs ++ name ∷ []) ≡ contents files xs ++ content_of files name ∷ []
+    map_append [] = refl
+    map_append (x ∷ xs) = ap (λ ys. content_of files x ∷ ys) (map_append xs)
+
+-- Reading.
+
+abbrev pub AreReadSoFar : List ℕ → List (List ℕ) → Samples → ShelfState → ShelfState → Type 0
+AreReadSoFar first names samples was now = Changes was now (λ before after. AreSamples (content_of before first) (contents before names) samples)
+
+module _ (was mid now : ShelfState) (reads : OnlyReads was mid) where
+  -- what is known of the files as they are is known of them as they were
+  later : (P : Files → Type 0) → Changes mid now (λ before after. P before) → Changes was now (λ before after. P before)
+  later P known = told_then (λ before after. after ≡ before) (λ before after. P before) (λ before after. P before) was.files mid.files now.files
+      (λ x y z same p. subst P same p) reads.files known
+
+  pub read_more : (first : List ℕ) (names : List (List ℕ)) (i : ℕ) (name : List ℕ) (before after : Samples) → i < length names → name ≡ get_or names i name
+      → AreReadSoFar first (take i names) before was mid → IsNextRead before name mid now after → AreReadSoFar first (take (i + 1) names) after was now
+  read_more first names i name before after lt is so_far next =
+      told_then (λ x y. (y ≡ x) × AreSamples (content_of x first) (contents x (take i names)) before) (λ x y. IsSampleOf (content_of x name) next.sample)
+      (λ x y. AreSamples (content_of x first) (contents x (take (i + 1) names)) after) was.files mid.files now.files
+      (λ x y z same read. subst (λ files. AreSamples (content_of x first) files after) (sym (contents_more x names i name lt is))
+      (stand_more (content_of x first) (contents x (take i names)) (content_of x name) before after next.sample same.1 (subst (λ f. IsSampleOf (content_of f name) next.sample) same.0 read) next.joined))
+      (told_both (λ x y. y ≡ x) (λ x y. AreSamples (content_of x first) (contents x (take i names)) before) was.files mid.files reads.files so_far) next.read

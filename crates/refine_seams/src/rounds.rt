@@ -1,0 +1,75 @@
+// Rounds of refinement.
+ghost use Rattle.std.specs.Prelude.{◌≡◌, ◌≤◌, IfSome};
+ghost use Rattle.cells.specs.Boxes.{HasCells};
+ghost use Rattle.map_canvas.specs.Canvases.{IsCanvas, StandsOver};
+ghost use Rattle.map_canvas.specs.Maps.{IsFull};
+ghost use Rattle.patch_place.specs.Fitting.{HasRoomInEach};
+ghost use Rattle.graph_place.specs.Placed.{map_total};
+ghost use Rattle.refine_seams.specs.Rounds.{IsRoundBox, SumsWindowsOf, Rounds};
+
+use cells::{Box3, Volume};
+use cut_check::CutRecord;
+use graph_place::place;
+use map_canvas::Canvas;
+use patch_place::{Candidates, Draws, pick, window_size};
+use seam_cost::SeamTable;
+use std::alloc::{AllocError, Global};
+
+// The worst window; None where it costs nothing.
+fn worst_box(canvas: &Canvas, sample: &Volume, side: u32, table: &SeamTable) -> Option<Box3>
+    requires side { 1 ≤ side }
+    requires table { SumsWindowsOf side canvas.now.map sample.now table.now }
+    ensures worst { IsRoundBox side canvas.now.map sample.now result }
+    ensures room { IfSome result (λ rect. HasRoomInEach sample.now rect.size) }
+{
+    let worst = table.worst();
+    if worst.cost == 0 {
+        return None;
+    }
+    Some(Box3 {
+        corner: worst.corner,
+        size: window_size(side, canvas.map().size(), sample),
+    })
+}
+
+/// One round of refinement: the window of a side whose seams cost the most is laid anew. Among all places of
+/// the sample where it fits one is picked by the next draw, within `tol` hundredths of the best, and put in
+/// by a graph cut. The canvas is full, and the table has the sums of its windows of the size that
+/// `window_size` gives, before and after. None where no window costs anything; nothing is changed then. The
+/// one error is that there is no memory, and changes nothing.
+pub fn round(
+    alloc: Global,
+    canvas: &mut Canvas,
+    sample: &Volume,
+    side: u32,
+    tol: u32,
+    draws: &mut Draws,
+    table: &mut SeamTable,
+) -> Result<Option<CutRecord>, AllocError>
+    requires over { StandsOver canvas.old sample.now }
+    requires full { IsFull canvas.old.map }
+    requires side { 1 ≤ side }
+    requires table { SumsWindowsOf side canvas.old.map sample.now table.old }
+    ensures made { Rounds side tol sample.now
+        (record { canvas = canvas.old; draws = draws.old; table = table.old })
+        (record { canvas = canvas.new; draws = draws.new; table = table.new }) result }
+    ensures full { IsFull canvas.new.map }
+    ensures lower { map_total sample.now canvas.new.map ≤ map_total sample.now canvas.old.map }
+    ensures canvas { IsCanvas canvas.new }
+{
+    // They are asked for only to show the check that these are a map and a volume.
+    let _map = canvas.map();
+    let _samples = sample.samples();
+    let Some(rect) = worst_box(canvas, sample, side, table) else {
+        return Ok(None);
+    };
+    let number = draws.place();
+    let list = Candidates::Fits { rect };
+    let placement = pick(alloc, &list, Some(tol), canvas, sample, draws)?;
+    let Ok(cut) = place(alloc, canvas, sample, placement) else {
+        draws.go_to(number);
+        return Err(AllocError);
+    };
+    table.update(canvas, sample, &placement.rect);
+    Ok(Some(cut))
+}

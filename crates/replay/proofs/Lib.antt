@@ -1,0 +1,4 @@
+pub mod Maps
+pub mod RunLaws
+pub mod Standing
+pub mod Replaying

@@ -1,0 +1,4 @@
+pub mod Runs
+pub mod Grown
+pub mod OneRun
+pub mod Work

@@ -1,0 +1,68 @@
+// The whole run.
+ghost use Rattle.std.specs.Prelude.{◌≡◌, ◌≤◌, None};
+ghost use Rattle.cells.specs.Places.{IsSmall};
+ghost use Rattle.map_canvas.specs.Maps.{first_unfilled};
+ghost use Rattle.patch_place.specs.Fitting.{HasPatch};
+ghost use Rattle.growing.specs.Grown.{Grows};
+ghost use Rattle.growing.specs.Work.{Ends, IsWork, Lays};
+
+use crate::plan::{GrowError, Grown, Plan};
+use crate::steps::{Work, begin, refine_step, step};
+use cells::Volume;
+use items::Items;
+use patch_place::window_size;
+use seam_cost::SeamTable;
+use std::alloc::Global;
+
+// Makes placements until the canvas is full.
+fn lay_all(alloc: Global, plan: &Plan, sample: &Volume) -> Result<Work, GrowError>
+    requires small { IsSmall plan.now.size }
+    requires patch { HasPatch plan.now.mode }
+    ensures { Lays plan.now sample.now result }
+{
+    let mut work = begin(alloc, plan, sample)?;
+    let mut more = true;
+    'placing: while more {
+        more = step(alloc, plan, sample, &mut work)?;
+    }
+    Ok(work)
+}
+
+// Makes all rounds.
+fn refine_all(alloc: Global, plan: &Plan, sample: &Volume, work: &mut Work) -> Result<(), GrowError>
+    requires work { IsWork plan.now sample.now work.old }
+    requires full { first_unfilled work.old.canvas.map ≡ None }
+    requires side { 1 ≤ plan.now.side }
+    ensures { Ends plan.now sample.now work.new result }
+{
+    if plan.rounds == 0 {
+        return Ok(());
+    }
+    let window = window_size(plan.side, work.canvas.map().size(), sample);
+    let mut table = SeamTable::make(alloc, &work.canvas, sample, window)?;
+    let mut more = true;
+    'refining: while more && work.rounds < plan.rounds {
+        more = refine_step(alloc, plan, sample, work, &mut table)?;
+    }
+    Ok(())
+}
+
+/// Grows an output over a sample by the placements of a mode, each put in by a graph cut, and then refines
+/// it, with a record of each placement. Its draws are those of the seed, from number 0 on. The method is that
+/// of Kwatra et al., "Graphcut textures" (2003).
+pub fn grow_canvas(alloc: Global, plan: &Plan, sample: &Volume) -> Result<Grown, GrowError>
+    requires small { IsSmall plan.now.size }
+    requires patch { HasPatch plan.now.mode }
+    requires side { 1 ≤ plan.now.side }
+    ensures { Grows plan.now sample.now result }
+{
+    let mut work = lay_all(alloc, plan, sample)?;
+    refine_all(alloc, plan, sample, &mut work)?;
+    // It is asked for only to show the check that the sample is a volume.
+    let _samples = sample.samples();
+    Ok(Grown {
+        canvas: work.canvas,
+        cuts: Items::from_vec(work.cuts),
+        rounds: work.rounds,
+    })
+}

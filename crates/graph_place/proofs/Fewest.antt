@@ -8,6 +8,7 @@ use Rattle.map_canvas.specs.Maps.{SourceMap}
 use Rattle.box_sums.proofs.Bounds.{box_at_most, box_terms_equal}
 use Rattle.seams.specs.Lawful.{ChangesAsWindow, IsLeastHeld, is_new, window_after}
 use Rattle.box_walk.specs.Pairs.{AreCounts, cell_in, one_if}
+use Rattle.box_walk.proofs.Cells.{cell_of}
 use Rattle.max_flow.specs.Networks.{FlowNetwork}
 use Rattle.max_flow.specs.Flows.{IsLeastCut, is_in}
 use Rattle.max_flow.specs.Solutions.{IsSolution}
@@ -15,7 +16,6 @@ use Rattle.cut_graph.specs.declared.places.Places.{Places}
 use Rattle.cut_graph.specs.Nodes.{cell_node}
 use Rattle.cut_graph.specs.Cuts.{Agree, ChoicesAreCuts, HasCut, IsLawfulHeld}
 use Rattle.graph_place.specs.Fewest.{AreSame, IsFewestHeld, old_count}
-use Rattle.graph_place.proofs.Nodes.{cell_of}
 
 -- a cell that is old where its node is in a set
 fewer_old : (in_one in_other new other : Bool) → (in_one ≡ true → in_other ≡ true) → new ≡ not in_one → other ≡ not in_other → one_if (not new) ≤ one_if (not other)

@@ -6,14 +6,13 @@ use borrow.Author.Tests.{ltb-true}
 use Rattle.std.specs.Prelude.{Option, Some, None, is_some, slice_index, slice_index_or}
 use Rattle.cells.specs.declared.place.At.{At}
 use Rattle.cells.specs.declared.place.Size.{Size}
-use Rattle.cells.specs.declared.place.Box3.{Box3}
 use Rattle.cells.specs.declared.place.Axis.{Axis}
 use Rattle.cells.specs.declared.place.Axis.TheVariants.{X, Y, F}
-use Rattle.cells.specs.Places.{cell_count, index_in, minus, plus, spot, raster_index}
+use Rattle.cells.specs.Places.{cell_count, index_in, plus, spot, raster_index}
 use Rattle.cells.specs.Neighbours.{unit_step}
-use Rattle.cells.specs.Boxes.{HasCells, IsInBox}
-use Rattle.cells.proofs.Raster.{has_index, index_of_spot, index_parts, place_at}
-use Rattle.cells.proofs.BoxLaws.{minus_plus, plus_minus, step_of}
+use Rattle.cells.specs.Boxes.{HasCells}
+use Rattle.cells.proofs.Raster.{index_of_spot, place_at}
+use Rattle.cells.proofs.BoxLaws.{plus_minus, step_of}
 use Rattle.map_canvas.specs.declared.canvas.Placement.{Placement}
 use Rattle.map_canvas.specs.Maps.{SourceMap, map_at}
 use Rattle.map_canvas.specs.Choices.{box_cell, box_index, chosen}
@@ -27,25 +26,6 @@ use Rattle.cut_graph.specs.Pipes.{next_node}
 
 pub counts_of : (size : Size) (i : ℕ) → HasCells size → i < cell_count size → AreCounts size (i % size.w) (i / size.w % size.h) (i / size.w / size.h)
 counts_of size i some lt = let step = step_of size i some lt in record { column = step.x; row = step.y; frame = step.f }
-
--- a place of a box is the cell of three counts
-pub record IsCellOf (rect : Box3) (p : At) : Type 0 where
-  pub x : ℕ
-  pub y : ℕ
-  pub f : ℕ
-  pub counts : AreCounts rect.size x y f
-  pub cell : p ≡ cell_in rect x y f
-
-pub cell_of : (rect : Box3) (p : At) → IsInBox rect p → IsCellOf rect p
-cell_of rect p inside =
-    let at = index_parts rect.size (minus p rect.corner) _ (has_index (index_in rect.size (minus p rect.corner)) 0 inside) in
-    record {
-      x = at.x;
-      y = at.y;
-      f = at.f;
-      counts = record { column = at.x_on.below; row = at.y_on.below; frame = at.f_on.below };
-      cell = minus_plus p rect.corner (spot at.x at.y at.f) (λ k. record { x = at.x_on.is k; y = at.y_on.is k; f = at.f_on.is k });
-    }
 
 pub cell_index : (placement : Placement) (x y f : ℕ) → AreCounts placement.rect.size x y f → box_index placement (cell_in placement.rect x y f) ≡ Some (raster_index placement.rect.size x y f)
 cell_index placement x y f at = ap (index_in placement.rect.size) (plus_minus placement.rect.corner (spot x y f)) ∙ index_of_spot placement.rect.size x y f at.column at.row at.frame

@@ -1,18 +1,22 @@
 // The program: its words are those of the command line, its files those of the system.
 //
-// All that it does is `run` of weave_engine. `real` has the shelf and the sinks that stand for the
-// system; they tell no content, and are the trusted edge.
+// All that it does is `run` of weave_engine. `real` has the shelf that stands for the system's files, over
+// `files`, and `streams` the sinks; they tell no content, and are the trusted edge. `pieces` reads and writes.
 #![tactic(auto)]
 
+mod files;
+mod pieces;
 mod real;
+mod streams;
 #[cfg(test)]
 mod tests;
 
 use job_words::Words;
-use real::{ErrorOutput, Output, RealShelf};
+use real::RealShelf;
 use std::alloc::{AllocError, Global};
 use std::process::ExitCode;
 use std::{env, io};
+use streams::{ErrorOutput, Output};
 use synth_report::{Fault, say_fault};
 use weave_engine::run;
 
@@ -39,7 +43,10 @@ fn main(rt: HostRuntime) -> io::Result<ExitCode> {
         let _ = say_fault(&Fault::NoMemory, &mut err);
         return Ok(ExitCode::from(NO_MEMORY));
     };
-    let mut shelf = RealShelf::new(rt);
+    let Ok(mut shelf) = RealShelf::new(rt, alloc) else {
+        let _ = say_fault(&Fault::NoMemory, &mut err);
+        return Ok(ExitCode::from(NO_MEMORY));
+    };
     let status = run(alloc, &words, &mut shelf, &mut out, &mut err);
     Ok(ExitCode::from(status))
 }

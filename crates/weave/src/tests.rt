@@ -1,8 +1,14 @@
-// What no clause can say: that the shelf over the system's files reads and writes their bytes.
-use crate::real::{ErrorOutput, Output, RealShelf};
+// What no clause can say: that the shelf over the system's files reads and writes their bytes, and that it
+// keeps to the files that it opened.
+use crate::real::RealShelf;
+use crate::streams::{ErrorOutput, Output};
 use job_words::Words;
+use shelf_core::Shelf;
+use std::fs::OpenOptions;
+use std::io::Write;
+use std::os::fd::AsRawFd;
 use std::test::Fail;
-use std::{env, fs, process};
+use std::{env, fs, io, process};
 use weave_engine::run;
 
 // Two cells of grey 10 and 20 side by side, and the first and the second of them on 3 x 1 cells.
@@ -28,7 +34,7 @@ fn ran(rt: &HostRuntime, folder: &str, sample: &str, out: &str) -> Result<u8, Fa
     }
     words.push("width=3")?;
     words.push("height=1")?;
-    let mut shelf = RealShelf::new(rt.clone()?);
+    let mut shelf = RealShelf::new(rt.clone()?, alloc)?;
     let mut out = Output::new(rt.clone()?);
     let mut err = ErrorOutput::new(rt.clone()?);
     Ok(run(alloc, &words, &mut shelf, &mut out, &mut err))
@@ -43,13 +49,88 @@ fn holds(rt: &HostRuntime, folder: &str, name: &str, wanted: &[u8]) -> Result<bo
     }
 }
 
+// A new folder for one test.
+fn new_folder(rt: &HostRuntime, test: &str) -> Result<String, Fail> {
+    let alloc = rt.alloc();
+    let name = format!(in alloc; "weave-{test}-{}", process::id(rt.process()))?;
+    let folder = env::temp_dir(rt)?.join(alloc, name.as_str())?;
+    let folder = String::from_str(alloc, folder.as_path().as_str())?;
+    fs::create_dir_all(rt, folder.as_str())?;
+    Ok(folder)
+}
+
+#[test]
+fn writes_on_in_the_file_that_it_began(rt: HostRuntime) -> Result<(), Fail> {
+    let alloc = rt.alloc();
+    let folder = new_folder(&rt, "began")?;
+    let folder = folder.as_str();
+    let name = format!(in alloc; "{folder}/m")?;
+    let name = name.as_str();
+    let mut shelf = RealShelf::new(rt.clone()?, alloc)?;
+
+    let begun = shelf.begin(name).is_ok() && shelf.add(name, b"abc").is_ok();
+    fs::rename(&rt, name, format!(in alloc; "{folder}/renamed")?.as_str())?;
+    let renamed = shelf.add(name, b"def").is_ok();
+
+    let again = shelf.begin(name).is_ok() && shelf.add(name, b"abc").is_ok();
+    let _empty = OpenOptions::new()
+        .write(true)
+        .truncate(true)
+        .open(&rt, name)?;
+    let emptied = shelf.add(name, b"def").is_ok();
+    let truncated = holds(&rt, folder, "m", b"\0\0\0def")?;
+
+    fs::remove_file(&rt, name)?;
+    let unlinked = shelf.add(name, b"ghi").is_ok() && fs::read(&rt, name).is_err();
+    let whole = holds(&rt, folder, "renamed", b"abcdef")?;
+    fs::remove_dir_all(&rt, folder)?;
+    assert!(rt; begun && renamed && whole);
+    assert!(rt; again && emptied && truncated && unlinked);
+    Ok(())
+}
+
+#[test]
+fn reads_on_in_the_file_that_it_opened(rt: HostRuntime) -> Result<(), Fail> {
+    let alloc = rt.alloc();
+    let folder = new_folder(&rt, "opened")?;
+    let folder = folder.as_str();
+    let name = format!(in alloc; "{folder}/s")?;
+    let other = format!(in alloc; "{folder}/other")?;
+    fs::write(&rt, name.as_str(), b"abcdef")?;
+    fs::write(&rt, other.as_str(), b"ABCDEF")?;
+    let mut shelf = RealShelf::new(rt.clone()?, alloc)?;
+    let mut head = [0u8; 3];
+    let mut rest = [0u8; 9];
+    let first = shelf.get(name.as_str(), 0, &mut head).ok();
+    fs::rename(&rt, other.as_str(), name.as_str())?;
+    let second = shelf.get(name.as_str(), 2, &mut rest).ok();
+    fs::remove_dir_all(&rt, folder)?;
+    assert!(rt; first == Some(3) && head == *b"abc");
+    assert!(rt; second == Some(4) && rest.starts_with(b"cdef"));
+    Ok(())
+}
+
+#[test]
+fn a_sample_may_be_a_pipe(rt: HostRuntime) -> Result<(), Fail> {
+    let alloc = rt.alloc();
+    let folder = new_folder(&rt, "pipe")?;
+    let (reader, mut writer) = io::pipe(&rt)?;
+    writer.write_all(SAMPLE)?;
+    drop(writer);
+    // A pipe that is open already, by a path.
+    let sample = format!(in alloc; "../../proc/self/fd/{}", reader.as_raw_fd())?;
+    let status = ran(&rt, folder.as_str(), sample.as_str(), "o")?;
+    let written = holds(&rt, folder.as_str(), "o", PICTURE)?;
+    fs::remove_dir_all(&rt, folder.as_str())?;
+    assert!(rt; status == 0 && written);
+    Ok(())
+}
+
 #[test]
 fn runs_over_files_of_the_system(rt: HostRuntime) -> Result<(), Fail> {
     let alloc = rt.alloc();
-    let name = format!(in alloc; "weave-test-{}", process::id(rt.process()))?;
-    let folder = env::temp_dir(&rt)?.join(alloc, name.as_str())?;
-    let folder = folder.as_path().as_str();
-    fs::create_dir_all(&rt, folder)?;
+    let folder = new_folder(&rt, "files")?;
+    let folder = folder.as_str();
     fs::write(&rt, format!(in alloc; "{folder}/s")?.as_str(), SAMPLE)?;
 
     // A sample that isn't there, and a picture in a folder that isn't there.

@@ -1,8 +1,8 @@
 use Rattle.std.proofs.Common.{◌≤◌, ◌-◌, length}
-use Rattle.weave.proofs.real.read_from.Given as goal
+use Rattle.weave.proofs.pieces.read_full.Given as goal
 
 abbrev pub invariant-parts : goal.invariant-parts
-invariant-parts l = l.n ≤ length l.into
+invariant-parts g l = l.n ≤ length l.into
 
 abbrev pub decreases-parts : goal.decreases-parts
-decreases-parts l = length l.into - l.n
+decreases-parts g l = length l.into - l.n

@@ -1,0 +1,212 @@
+// One file that is read and one that is written, each kept open from call to call.
+ghost use Rattle.std.specs.Prelude.{◌≤◌, length, IfOk, min};
+
+use crate::pieces::{read_full, write_all_of};
+use shelf_core::Failed;
+use std::alloc::{AllocError, Global};
+use std::fs::{self, File, OpenOptions};
+use std::io::{self, Seek, SeekFrom};
+
+// The most bytes of a path that the system takes.
+const PATH_BYTES: usize = 4096;
+
+// How many of the bytes that were read last are kept. A reader of a header goes back by no more.
+const KEPT_BYTES: usize = 16384;
+
+// The file that was opened last, and its name. The name's memory is taken once and for all.
+#[derive(Drop)]
+struct Opened {
+    name: String,
+    file: Option<File>,
+}
+
+impl Opened {
+    fn none(alloc: Global) -> Result<Opened, AllocError> {
+        Ok(Opened {
+            name: String::with_capacity(alloc, PATH_BYTES)?,
+            file: None,
+        })
+    }
+
+    fn is_of(&self, name: &str) -> bool {
+        self.file.is_some() && self.name.as_str() == name
+    }
+
+    fn keep(&mut self, name: &str, file: File) -> Result<(), AllocError> {
+        self.file = None;
+        self.name.clear();
+        self.name.push_str(name)?;
+        self.file = Some(file);
+        Ok(())
+    }
+}
+
+/// The file that was read last. It is read on from where it has been read to, so that it may be a pipe.
+#[derive(Drop)]
+pub struct Source {
+    opened: Opened,
+    // how many bytes of the file have been read
+    place: u64,
+    // the last of them, from the front of a buffer on
+    last: Vec<u8>,
+    kept: usize,
+}
+
+// As many bytes as two lists of them have from a place of the first on are copied.
+fn copy_from(kept: &[u8], start: usize, into: &mut [u8]) -> usize
+    requires { start ≤ length kept.now }
+    ensures { result ≤ length into.old }
+{
+    let n = (kept.len() - start).min(into.len());
+    into[..n].copy_from_slice(&kept[start..start + n]);
+    n
+}
+
+impl Source {
+    /// No file.
+    pub fn none(alloc: Global) -> Result<Source, AllocError> {
+        Ok(Source {
+            opened: Opened::none(alloc)?,
+            place: 0,
+            last: vec![in alloc; 0u8; KEPT_BYTES]?,
+            kept: 0,
+        })
+    }
+
+    // Opens another file.
+    fn open(&mut self, rt: &HostRuntime, name: &str) -> Result<(), Failed> {
+        let Ok(file) = fs::open(rt, name) else {
+            return Err(Failed);
+        };
+        let Ok(()) = self.opened.keep(name, file) else {
+            return Err(Failed);
+        };
+        self.place = 0;
+        self.kept = 0;
+        Ok(())
+    }
+
+    // Copies what is kept of the bytes from a place on, where that place is among them.
+    fn copy_kept(&self, at: u64, into: &mut [u8]) -> usize
+        ensures { result ≤ length into.old }
+    {
+        let kept = &self.last[..self.kept.min(self.last.len())];
+        let back = self.place.saturating_sub(at);
+        if back > kept.len() as u64 {
+            return 0;
+        }
+        copy_from(kept, kept.len() - back as usize, into)
+    }
+
+    // Keeps the end of the bytes that were read now.
+    fn keep_end(&mut self, read: &[u8]) {
+        let n = read.len().min(self.last.len());
+        self.last[..n].copy_from_slice(&read[read.len() - n..]);
+        self.kept = n;
+        self.place = self.place.saturating_add(read.len() as u64);
+    }
+
+    // Reads the open file on.
+    fn read_on(&mut self, into: &mut [u8]) -> Result<usize, Failed>
+        ensures { IfOk result (λ n. n ≤ length into.old) }
+    {
+        let Some(file) = &mut self.opened.file else {
+            return Err(Failed);
+        };
+        let Ok(n) = read_full(file, into) else {
+            // How far it was read isn't known.
+            self.opened.file = None;
+            return Err(Failed);
+        };
+        self.keep_end(&into[..n]);
+        Ok(n)
+    }
+
+    // Goes to a place of the open file.
+    fn go_to(&mut self, at: u64) -> Result<(), Failed> {
+        let Some(file) = &mut self.opened.file else {
+            return Err(Failed);
+        };
+        let Ok(_) = file.seek(SeekFrom::Start(at)) else {
+            self.opened.file = None;
+            return Err(Failed);
+        };
+        self.place = at;
+        self.kept = 0;
+        Ok(())
+    }
+
+    /// Reads from a place on until the buffer is full or the file ends.
+    pub fn read(
+        &mut self,
+        rt: &HostRuntime,
+        name: &str,
+        at: u64,
+        into: &mut [u8],
+    ) -> Result<usize, Failed>
+        ensures { IfOk result (λ n. n ≤ length into.old) }
+    {
+        if !self.opened.is_of(name) {
+            self.open(rt, name)?;
+        }
+        let n = self.copy_kept(at, into);
+        if n == into.len() {
+            return Ok(n);
+        }
+        let from = at.saturating_add(n as u64);
+        if from != self.place {
+            self.go_to(from)?;
+        }
+        let more = self.read_on(&mut into[n..])?;
+        Ok(n + more)
+    }
+}
+
+/// The file that was begun last.
+#[derive(Drop)]
+pub struct Target {
+    opened: Opened,
+}
+
+impl Target {
+    /// No file.
+    pub fn none(alloc: Global) -> Result<Target, AllocError> {
+        Ok(Target {
+            opened: Opened::none(alloc)?,
+        })
+    }
+
+    /// Makes a file present and empty, and keeps it open.
+    pub fn begin(&mut self, rt: &HostRuntime, name: &str) -> Result<(), Failed> {
+        self.opened.file = None;
+        let Ok(file) = fs::create(rt, name) else {
+            return Err(Failed);
+        };
+        let Ok(()) = self.opened.keep(name, file) else {
+            return Err(Failed);
+        };
+        Ok(())
+    }
+
+    // Opens a file that isn't the one begun last, to add to it.
+    fn open(&mut self, rt: &HostRuntime, name: &str) -> Result<(), Failed> {
+        let Ok(file) = OpenOptions::new().append(true).create(true).open(rt, name) else {
+            return Err(Failed);
+        };
+        let Ok(()) = self.opened.keep(name, file) else {
+            return Err(Failed);
+        };
+        Ok(())
+    }
+
+    /// Writes a piece after the bytes of a file.
+    pub fn add(&mut self, rt: &HostRuntime, name: &str, piece: &[u8]) -> Result<(), Failed> {
+        if !self.opened.is_of(name) {
+            self.open(rt, name)?;
+        }
+        let Some(file) = &mut self.opened.file else {
+            return Err(Failed);
+        };
+        write_all_of(file, piece)
+    }
+}

@@ -1,5 +1,5 @@
 -- How much a flow can carry at most.
-use Rattle.std.proofs.Common.{◌≢◌, ◌≤◌, ◌+◌, ◌*◌, ◌==◌, ℕ, suc, List, [], ◌∷◌, length, All, refl, ap, sym, arith, Bool, true, false, pos, ◌-ℤ◌, ◌≤ℤ◌}
+use Rattle.std.proofs.Common.{◌≡◌, ◌≢◌, ◌≤◌, ◌+◌, ◌*◌, ◌==◌, ℕ, suc, List, [], ◌∷◌, length, All, refl, ap, sym, subst, arith, Bool, true, false, pos, ◌-ℤ◌, ◌≤ℤ◌}
 use Rattle.std.proofs.lemmas.Bool.{eq-eqb, ne_eqb}
 use Rattle.std.proofs.lemmas.Int.{ints}
 use Rattle.std.proofs.lemmas.List.Elements.{All-head, All-tail}
@@ -42,3 +42,10 @@ Carries_more pipes source sink before after value amount differ h are moves = re
   leaves = omega (arith, ints, moves source, h.leaves, ap (λ b. part_if b (pos amount)) (eq-eqb source source refl), ap (λ b. part_if b (pos amount)) (ne_eqb sink source (λ e. differ (sym e))));
   balance = λ n other off. omega (arith, ints, moves n, h.balance n other off, ap (λ b. part_if b (pos amount)) (ne_eqb source n (λ e. other (sym e))), ap (λ b. part_if b (pos amount)) (ne_eqb sink n (λ e. off (sym e))));
 }
+
+-- the same flow, by other names
+pub Carries_same : (pipes pipes' : List Pipe) (source source' sink sink' : ℕ) (backward backward' : List ℕ) (value : ℕ) → pipes' ≡ pipes → source' ≡ source → sink' ≡ sink → backward' ≡ backward → Carries pipes source sink backward value
+    → Carries pipes' source' sink' backward' value
+Carries_same pipes pipes' source source' sink sink' backward backward' value p s t b h =
+    subst (λ (x : List Pipe). Carries x source' sink' backward' value) (sym p)
+    (subst (λ x. Carries pipes x sink' backward' value) (sym s) (subst (λ x. Carries pipes source x backward' value) (sym t) (subst (λ (x : List ℕ). Carries pipes source sink x value) (sym b) h)))

@@ -10,7 +10,6 @@ pub record HaveNodes (nodes : ℕ) (tables : NodeTables) : Type 0 where
   pub queue_sized : vec_len tables.queue ≡ nodes
   pub current_sized : vec_len tables.current ≡ nodes
   pub path_sized : vec_len tables.path ≡ nodes
-  pub excess_sized : vec_len tables.excess ≡ nodes
 
 -- tables as large as the network, with no arc linked
 pub record IsReady (nodes : ℕ) (pipes : List Pipe) (space : Workspace) : Type 0 where
@@ -19,5 +18,4 @@ pub record IsReady (nodes : ℕ) (pipes : List Pipe) (space : Workspace) : Type 
   pub last_sized : vec_len space.last ≡ nodes
   pub none_linked : (n : ℕ) → slice_index space.last.items n ≡ 0
   pub previous_sized : vec_len space.previous ≡ 2 * length pipes
-  pub backward_sized : vec_len space.backward ≡ length pipes
   pub tables : HaveNodes nodes space.tables

@@ -1,13 +1,12 @@
 // Whether what a search left for the arcs is a flow: each pipe can carry its part, and as much leaves as
 // enters at each node but the ends.
 
-ghost use Rattle.std.specs.Prelude.{◌≡◌, ◌<◌, ℤ, IfSome, length};
+ghost use Rattle.std.specs.Prelude.{◌≡◌, ◌<◌, ℤ, All, IfSome, length};
 ghost use Rattle.std.specs.Bool.{OnTrue};
 ghost use Rattle.max_flow.specs.Networks.{IsPipeOf};
 ghost use Rattle.max_flow.specs.Residual.{Carries};
 ghost use Rattle.max_flow.specs.Checking.{AddsAt, CountsPipe, AreExcesses, IsBalanced};
 
-use crate::graph::Graph;
 use crate::network::Pipe;
 
 // Adds an amount at a node. Returns whether the sum has room.
@@ -38,16 +37,17 @@ fn count_pipe(pipe: &Pipe, against: u32, excess: &mut [i64]) -> bool
 }
 
 // Counts what leaves each node, less what enters it. Returns whether each pipe can carry its part.
-fn count_pipes(graph: &Graph, backward: &[u32], excess: &mut [i64]) -> bool
-    requires sized { length backward.now ≡ length graph.now.pipes.now }
-    requires nodes { length excess.old ≡ graph.now.nodes }
-    ensures { OnTrue result (AreExcesses graph.now.pipes.now backward.now excess.new) }
+fn count_pipes(pipes: &[Pipe], nodes: u32, backward: &[u32], excess: &mut [i64]) -> bool
+    requires pipes { All (IsPipeOf nodes) pipes.now }
+    requires sized { length backward.now ≡ length pipes.now }
+    requires nodes { length excess.old ≡ nodes }
+    ensures { OnTrue result (AreExcesses pipes.now backward.now excess.new) }
 {
     excess.fill(0);
     let mut left = backward.len();
     'pipes: while left > 0 {
         left -= 1;
-        if !count_pipe(&graph.pipes[left], backward[left], excess) {
+        if !count_pipe(&pipes[left], backward[left], excess) {
             return false;
         }
     }
@@ -67,15 +67,27 @@ fn is_balanced(excess: &[i64], source: usize, sink: usize) -> bool
 }
 
 /// The value of the flow that leaves so much for the arc against each pipe, or None where it isn't one.
-/// `excess` is a table to count in.
-pub fn flow_left(graph: &Graph, backward: &[u32], excess: &mut [i64]) -> Option<u64>
-    requires sized { length backward.now ≡ length graph.now.pipes.now }
-    requires nodes { length excess.old ≡ graph.now.nodes }
-    ensures { IfSome result (Carries graph.now.pipes.now graph.now.source graph.now.sink backward.now) }
+/// `excess` is a table to count in, with an entry for each node.
+pub fn flow_left(
+    pipes: &[Pipe],
+    nodes: u32,
+    source: u32,
+    sink: u32,
+    backward: &[u32],
+    excess: &mut [i64],
+) -> Option<u64>
+    requires pipes { All (IsPipeOf nodes) pipes.now }
+    requires source { source < nodes }
+    requires sized { length backward.now ≡ length pipes.now }
+    requires nodes { length excess.old ≡ nodes }
+    ensures { IfSome result (Carries pipes.now source sink backward.now) }
 {
-    if !count_pipes(graph, backward, excess) || !is_balanced(excess, graph.source, graph.sink) {
+    if !count_pipes(pipes, nodes, backward, excess) {
         return None;
     }
-    let value = excess[graph.source];
+    if !is_balanced(excess, source as usize, sink as usize) {
+        return None;
+    }
+    let value = excess[source as usize];
     if value < 0 { None } else { Some(value as u64) }
 }

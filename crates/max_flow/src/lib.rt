@@ -8,12 +8,13 @@
 //! is left open.
 //!
 //! Read on in `specs/Flows.antt`, which says what a flow and a cut are, and in `solver.rt`. Search trees
-//! (`trees.rt`) over packed arcs (`packed.rt`) find a flow fast, of which nothing is promised; a check in one
-//! pass (`checking.rt`) takes it or begins with none. Dinic's method goes on from there: a level graph
+//! (`trees.rt`) over packed arcs (`packed.rt`) find a flow fast, of which nothing is promised. A check in one
+//! pass (`checking.rt`) takes it or begins with none (`beginning.rt`). Dinic's method goes on from there: a level graph
 //! (`levels.rt`) and a blocking flow in it (`paths.rt`, `blocking.rt`), over the residual network
 //! (`graph.rt`), until the sink has no level.
 #![tactic(auto)]
 
+mod beginning;
 mod blocking;
 mod checking;
 mod graph;

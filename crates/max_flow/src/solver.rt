@@ -1,7 +1,7 @@
 // The solver: search trees, and then level graphs and blocking flows, until the sink has no level.
 
 ghost use Rattle.std.specs.Prelude.{◌≡◌, ◌≤◌, ◌^◌, ℕ, ℤ, pos, ◌≤ℤ◌, nat_lt, Bool, List};
-ghost use Rattle.std.specs.Prelude.{IfOk, length, map, vec_len};
+ghost use Rattle.std.specs.Prelude.{IfOk, length, vec_len};
 ghost use Rattle.max_flow.specs.Flows.{IsFlow, flow_value, is_in, IsCut, cut_capacity};
 ghost use Rattle.max_flow.specs.Flows.{IsLeastCut, IsContained};
 ghost use Rattle.max_flow.specs.Residual.{AreResiduals, Carries, flows_of};
@@ -9,12 +9,11 @@ ghost use Rattle.max_flow.specs.Levels.{AreLevels, IsClosed, level_of};
 ghost use Rattle.max_flow.specs.Solutions.{IsSolution};
 ghost use Rattle.max_flow.specs.Workspaces.{IsReady};
 
+use crate::beginning::first_flow;
 use crate::blocking::blocking_flow;
-use crate::checking::flow_left;
 use crate::graph::{Graph, link};
 use crate::levels::find_levels;
 use crate::network::{Network, Pipe};
-use crate::trees::Trees;
 use items::Items;
 use std::alloc::{AllocError, Global};
 
@@ -29,10 +28,6 @@ pub struct Solved {
     pub value: u64,
 }
 
-// How many arcs the search trees look at, at most, for each pipe. They end far below on the networks of
-// images; where they'd take more, level graphs are as fast.
-const WORK: u64 = 256;
-
 // The tables of the searches: one entry for each node in each of them.
 #[derive(Drop)]
 struct NodeTables {
@@ -40,18 +35,15 @@ struct NodeTables {
     queue: Vec<usize>,
     current: Vec<usize>,
     path: Vec<usize>,
-    excess: Vec<i64>,
 }
 
-// All that a solver works on and hands out, so that it takes its memory before it begins.
+// All that the level graphs work on, and what a solver hands out.
 #[derive(Drop)]
 struct Workspace {
     flow: Vec<i32>,
     source_side: Vec<bool>,
     last: Vec<usize>,
     previous: Vec<usize>,
-    backward: Vec<u32>,
-    trees: Trees,
     tables: NodeTables,
 }
 
@@ -65,13 +57,11 @@ impl NodeTables {
         let queue = vec![in alloc; 0usize; nodes]?;
         let current = vec![in alloc; 0usize; nodes]?;
         let path = vec![in alloc; 0usize; nodes]?;
-        let excess = vec![in alloc; 0i64; nodes]?;
         Ok(NodeTables {
             levels,
             queue,
             current,
             path,
-            excess,
         })
     }
 }
@@ -79,7 +69,7 @@ impl NodeTables {
 impl Workspace {
     ghost use Rattle.max_flow.specs.Workspaces.{IsReady};
 
-    // Makes the tables for a network with these pipes, over which nothing flows.
+    // Makes the tables for a network with these pipes.
     fn make(alloc: Global, nodes: usize, pipes: &[Pipe]) -> Result<Workspace, AllocError>
         requires { length pipes.now ≤ 2 ^ 32 }
         ensures { IfOk result (IsReady nodes pipes.now) }
@@ -88,16 +78,12 @@ impl Workspace {
         let source_side = vec![in alloc; false; nodes]?;
         let last = vec![in alloc; 0usize; nodes]?;
         let previous = vec![in alloc; 0usize; 2 * pipes.len()]?;
-        let backward = vec![in alloc; 0u32; pipes.len()]?;
-        let trees = Trees::make(alloc, nodes, pipes)?;
         let tables = NodeTables::make(alloc, nodes)?;
         Ok(Workspace {
             flow,
             source_side,
             last,
             previous,
-            backward,
-            trees,
             tables,
         })
     }
@@ -124,47 +110,15 @@ fn write_sides(levels: &[usize], sides: &mut [bool])
     }
 }
 
-// Lets nothing flow.
-fn empty(pipes: &[Pipe], backward: &mut [u32])
-    requires { length backward.old ≡ length pipes.now }
-    ensures { backward.new ≡ map (λ pipe. pipe.back) pipes.now }
-{
-    for j in 0..backward.len() {
-        backward[j] = pipes[j].back;
-    }
-}
-
-// A flow to begin with: the one that the search trees propose, or none where that isn't a flow. Returns
-// its value.
-fn begin(graph: &Graph, trees: &mut Trees, backward: &mut [u32], excess: &mut [i64]) -> u64
-    requires sized { length backward.old ≡ length graph.now.pipes.now }
-    requires nodes { length excess.old ≡ graph.now.nodes }
-    ensures { Carries graph.now.pipes.now graph.now.source graph.now.sink backward.new result }
-{
-    let limit = WORK * (graph.pipes.len() as u64 + 1);
-    trees.propose(
-        graph.pipes,
-        graph.source as u32,
-        graph.sink as u32,
-        limit,
-        backward,
-    );
-    if let Some(value) = flow_left(graph, backward, excess) {
-        return value;
-    }
-    empty(graph.pipes, backward);
-    0
-}
-
-// Adds blocking flows to the flow that the search trees find until the sink has no level. Returns the value
-// of the flow, and leaves the last levels in the tables.
-fn run(graph: &Graph, trees: &mut Trees, backward: &mut [u32], tables: &mut NodeTables) -> u64
-    requires sized { length backward.old ≡ length graph.now.pipes.now }
+// Adds blocking flows to a flow of the value `first`, until the sink has no level. Returns the value of the
+// flow, and leaves the last levels in the tables.
+fn run(graph: &Graph, backward: &mut [u32], tables: &mut NodeTables, first: u64) -> u64
+    requires carries { Carries graph.now.pipes.now graph.now.source graph.now.sink backward.old
+        first }
     requires levels { vec_len tables.old.levels ≡ graph.now.nodes }
     requires queue { vec_len tables.old.queue ≡ graph.now.nodes }
     requires current { vec_len tables.old.current ≡ graph.now.nodes }
     requires path { vec_len tables.old.path ≡ graph.now.nodes }
-    requires excess { vec_len tables.old.excess ≡ graph.now.nodes }
     ensures carries { Carries graph.now.pipes.now graph.now.source graph.now.sink backward.new
         result }
     ensures levels { AreLevels graph.now.pipes.now graph.now.nodes graph.now.source backward.new
@@ -172,7 +126,7 @@ fn run(graph: &Graph, trees: &mut Trees, backward: &mut [u32], tables: &mut Node
     ensures closed { IsClosed graph.now.pipes.now backward.new tables.new.levels.items }
     ensures sink { level_of tables.new.levels.items graph.now.sink ≡ 0 }
 {
-    let mut value = begin(graph, trees, backward, &mut tables.excess);
+    let mut value = first;
     'phases: while find_levels(graph, backward, &mut tables.levels, &mut tables.queue) {
         value = blocking_flow(
             graph,
@@ -186,9 +140,11 @@ fn run(graph: &Graph, trees: &mut Trees, backward: &mut [u32], tables: &mut Node
     value
 }
 
-// Solves the network in the tables.
-fn solve_in(network: &Network, space: Workspace) -> Solved
-    requires { IsReady network.now.nodes network.now.pipes space }
+// Solves the network in the tables, from a flow of that value.
+fn solve_in(network: &Network, space: Workspace, backward: Vec<u32>, first: u64) -> Solved
+    requires ready { IsReady network.now.nodes network.now.pipes space }
+    requires carries { Carries network.now.pipes network.now.source network.now.sink backward.items
+        first }
     ensures { IsSolution network.now result.flow result.source_side result.value }
 {
     let Workspace {
@@ -196,10 +152,9 @@ fn solve_in(network: &Network, space: Workspace) -> Solved
         mut source_side,
         mut last,
         mut previous,
-        mut backward,
-        mut trees,
         mut tables,
     } = space;
+    let mut backward = backward;
     let pipes = network.pipes();
     link(pipes, &mut last, &mut previous);
     let graph = Graph {
@@ -210,7 +165,7 @@ fn solve_in(network: &Network, space: Workspace) -> Solved
         last: &last,
         previous: &previous,
     };
-    let value = run(&graph, &mut trees, &mut backward, &mut tables);
+    let value = run(&graph, &mut backward, &mut tables, first);
     write_flows(&graph, &backward, &mut flow);
     write_sides(&tables.levels, &mut source_side);
     Solved {
@@ -221,8 +176,8 @@ fn solve_in(network: &Network, space: Workspace) -> Solved
 }
 
 /// Finds a flow of greatest value, and of all least cuts the one whose source side is contained in that of
-/// every other, by search trees (Boykov and Kolmogorov 2004) and then by Dinic's method (1970). It takes
-/// all its memory before it begins, and answers want of memory alone.
+/// every other, by search trees (Boykov and Kolmogorov 2004) and then by Dinic's method (1970). It answers
+/// want of memory alone.
 pub fn solve(alloc: Global, network: &Network) -> Result<Solved, AllocError>
     ensures flow { IfOk result (λ solved. IsFlow network.now solved.flow) }
     ensures value { IfOk result (λ solved. flow_value network.now solved.flow ≡ pos solved.value) }
@@ -237,6 +192,8 @@ pub fn solve(alloc: Global, network: &Network) -> Result<Solved, AllocError>
     ensures smallest { IfOk result (λ solved. (other : List Bool) → IsLeastCut network.now other
         → IsContained solved.source_side other) }
 {
+    let mut backward = vec![in alloc; 0u32; network.pipes().len()]?;
+    let value = first_flow(alloc, network, &mut backward)?;
     let space = Workspace::make(alloc, network.nodes() as usize, network.pipes())?;
-    Ok(solve_in(network, space))
+    Ok(solve_in(network, space, backward, value))
 }

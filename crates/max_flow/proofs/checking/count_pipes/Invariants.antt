@@ -3,7 +3,7 @@ use Rattle.max_flow.proofs.Counting.{AreCountedFrom}
 use Rattle.max_flow.proofs.checking.count_pipes.Given as goal
 
 abbrev pub invariant-pipes : goal.invariant-pipes
-invariant-pipes l = AreCountedFrom l.graph.pipes.now l.backward l.excess l.left × (l.left ≤ length l.backward)
+invariant-pipes l = AreCountedFrom l.pipes l.backward l.excess l.left × (l.left ≤ length l.backward)
 
 abbrev pub decreases-pipes : goal.decreases-pipes
 decreases-pipes l = l.left

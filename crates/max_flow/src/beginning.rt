@@ -1,0 +1,50 @@
+// The flow that a solver begins with. Its tables are given back before those of the level graphs are taken.
+
+ghost use Rattle.std.specs.Prelude.{◌≡◌, IfOk, length, map};
+ghost use Rattle.max_flow.specs.Residual.{Carries};
+
+use crate::checking::flow_left;
+use crate::network::{Network, Pipe};
+use crate::trees::Trees;
+use std::alloc::{AllocError, Global};
+
+// How many arcs the search trees look at, at most, for each pipe. They end far below on the networks of
+// images; where they'd take more, level graphs are as fast.
+const WORK: u64 = 256;
+
+// Lets nothing flow.
+fn empty(pipes: &[Pipe], backward: &mut [u32])
+    requires { length backward.old ≡ length pipes.now }
+    ensures { backward.new ≡ map (λ pipe. pipe.back) pipes.now }
+{
+    for j in 0..backward.len() {
+        backward[j] = pipes[j].back;
+    }
+}
+
+// Writes what the search trees leave for the arc against each pipe.
+fn propose(alloc: Global, network: &Network, backward: &mut [u32]) -> Result<(), AllocError> {
+    let pipes = network.pipes();
+    let mut trees = Trees::make(alloc, network.nodes() as usize, pipes)?;
+    let limit = WORK * (pipes.len() as u64 + 1);
+    trees.propose(pipes, network.source(), network.sink(), limit, backward);
+    Ok(())
+}
+
+/// Writes for the arc against each pipe what it can still carry in the flow that the search trees find, or
+/// where nothing flows if theirs isn't a flow. Returns the value of the flow.
+pub fn first_flow(alloc: Global, network: &Network, backward: &mut [u32]) -> Result<u64, AllocError>
+    requires { length backward.old ≡ length network.now.pipes }
+    ensures { IfOk result (Carries network.now.pipes network.now.source network.now.sink backward.new) }
+{
+    propose(alloc, network, backward)?;
+    let pipes = network.pipes();
+    let nodes = network.nodes();
+    let mut excess = vec![in alloc; 0i64; nodes as usize]?;
+    let (source, sink) = (network.source(), network.sink());
+    if let Some(value) = flow_left(pipes, nodes, source, sink, backward, &mut excess) {
+        return Ok(value);
+    }
+    empty(pipes, backward);
+    Ok(0)
+}

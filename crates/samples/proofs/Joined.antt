@@ -1,12 +1,12 @@
 -- The parts of a volume: they determine it, and its cells are theirs.
-use Rattle.std.proofs.Common.{◌≡◌, ℕ, ◌≤◌, ◌+◌, ◌++◌, List, [], ◌∷◌, take, drop, refl, sym, ap, ◌∙◌, subst, arith, add_assoc}
+use Rattle.std.proofs.Common.{◌≡◌, ℕ, ◌+◌, ◌++◌, List, [], ◌∷◌, take, drop, refl, sym, ap, ◌∙◌, arith}
 use Rattle.std.specs.Prelude.{map}
 use Rattle.std.proofs.lemmas.List.{append-nil, take-append-drop}
 use Rattle.cells.specs.declared.place.Size.{Size}
 use Rattle.cells.specs.Places.{cell_count}
 use Rattle.cells.specs.Parts.{count_from}
 use Rattle.cells.specs.Cells.{Cells, IsOnePart, count_of}
-use Rattle.cells.specs.PartLists.{one_part_of, parts_from, parts_of}
+use Rattle.cells.specs.PartLists.{parts_from, parts_of}
 
 -- how many cells parts have together
 abbrev pub parts_count : List Cells → ℕ

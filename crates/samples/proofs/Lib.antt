@@ -2,3 +2,4 @@ pub mod OneSample
 pub mod Joined
 pub mod OneAnswer
 pub mod Reading
+pub mod Commands

@@ -1,10 +1,9 @@
 -- Files have one answer at most: they stand for one list of samples, or they are refused for one fault.
-use Rattle.std.proofs.Common.{◌≡◌, ℕ, zero, suc, ◌+◌, ◌<◌, ◌≤◌, ◌⊎◌, inl, inr, ◌++◌, List, [], ◌∷◌, length, take, refl, sym, ap, ◌∙◌, subst, arith, true, false}
-use Rattle.std.specs.Prelude.{slice_get, Option, Some, None}
+use Rattle.std.proofs.Common.{◌≡◌, ℕ, zero, suc, ◌+◌, ◌<◌, ◌≤◌, ◌⊎◌, inl, inr, ◌++◌, List, [], ◌∷◌, take, refl, sym, ap, ◌∙◌, subst, arith, true}
+use Rattle.std.specs.Prelude.{slice_get, Some}
 use Rattle.cells.specs.Places.{cell_count}
 use Rattle.cells.specs.Cells.{Cells, count_of}
 use Rattle.cells.specs.PartLists.{parts_of}
-use Rattle.shelf_core.specs.declared.fault.ReadError.{ReadError}
 use Rattle.shelf_core.specs.declared.fault.What.TheVariants.{Cells as CellsLimit}
 use Rattle.synth_report.specs.declared.fault.FileOf.TheVariants as part
 use Rattle.synth_report.specs.declared.fault.Fault.{Fault}
@@ -13,8 +12,8 @@ use Rattle.run_outcome.specs.Faults.{fault_of_read}
 use Rattle.samples.specs.declared.form.Form.{Form}
 use Rattle.samples.specs.declared.several.Samples.{Samples}
 use Rattle.samples.specs.Samples.{StandsAs, goes_with}
-use Rattle.samples.specs.Several.{AreSamples, HasTooManyCells, IsRefusedFurther, IsUnlike, NoSampleRefused, RefusesNext, RefusesSamples, StandAlike, StandForParts, StandsAlike}
-use Rattle.samples.proofs.OneSample.{SameSample, count_alone, one_sample, one_sample_refusal, stands_alone, stands_or_refused}
+use Rattle.samples.specs.Several.{AreSamples, IsRefusedFurther, NoSampleRefused, RefusesNext, RefusesSamples, StandAlike, StandForParts, StandsAlike}
+use Rattle.samples.proofs.OneSample.{count_alone, one_sample, one_sample_refusal, stands_alone, stands_or_refused}
 use Rattle.samples.proofs.Joined.{count_of_parts, parts_count, parts_count-append, same_parts}
 
 -- They stand for one list of parts.

@@ -1,8 +1,8 @@
 -- One sample: its bytes have one answer at most, and what goes with a sample is like it.
-use Rattle.std.proofs.Common.{◌≡◌, ℕ, ◌≤◌, ◌+◌, ◌*◌, ◌++◌, List, [], ◌∷◌, length, refl, sym, ap, ◌∙◌, subst, arith, true, eqb-true, length-append}
+use Rattle.std.proofs.Common.{◌≡◌, ℕ, ◌≤◌, ◌*◌, ◌++◌, List, [], ◌∷◌, length, sym, ap, ◌∙◌, subst, arith, true, eqb-true, length-append}
 use Rattle.std.specs.Prelude.{All}
 use Rattle.std.specs.List.{AllByRecursion, concat}
-use Rattle.std.proofs.lemmas.List.Elements.{All-append, All-cons, All-nil, All-tail, All-head}
+use Rattle.std.proofs.lemmas.List.Elements.{All-append, All-tail, All-head}
 use Rattle.std.proofs.lemmas.List.Folds.{concat-append}
 use Rattle.cells.specs.declared.place.Size.{Size}
 use Rattle.cells.specs.Places.{cell_count}
@@ -12,8 +12,7 @@ use Rattle.shelf_core.specs.declared.fault.ReadError.{ReadError}
 use Rattle.netpbm_p6.proofs.OneReading.{not_both, one_picture, one_refusal}
 use Rattle.samples.specs.declared.form.Form.{Form}
 use Rattle.samples.specs.declared.form.Form.TheVariants.{Picture}
-use Rattle.samples.specs.declared.sample.Sample.{Sample}
-use Rattle.samples.specs.Samples.{IsSampleOf, IsSoundIn, AreSoundIn, RefusesSample, StandsAs, goes_with}
+use Rattle.samples.specs.Samples.{IsSoundIn, AreSoundIn, RefusesSample, StandsAs, goes_with}
 
 -- bytes that stand for a sample aren't refused
 pub stands_or_refused : (bytes : List ℕ) (form : Form) (cells : Cells) (refusal : ReadError) → StandsAs bytes form cells → RefusesSample bytes refusal → ⊥

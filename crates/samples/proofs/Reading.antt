@@ -1,16 +1,15 @@
 -- The samples read so far, and how the reading ends.
-use Rattle.std.proofs.Common.{◌≡◌, ℕ, zero, suc, ◌+◌, ◌<◌, ◌≤◌, ◌⊎◌, inl, inr, ◌++◌, List, [], ◌∷◌, length, get_or, take, refl, sym, ap, ◌∙◌, subst, arith, true, false, add-one}
-use Rattle.std.specs.Prelude.{map, slice_get, Option, Some, None, Result, Ok, Err}
+use Rattle.std.proofs.Common.{◌≡◌, ℕ, zero, suc, ◌+◌, ◌<◌, ◌≤◌, inl, inr, ◌++◌, List, [], ◌∷◌, length, get_or, take, refl, sym, ap, ◌∙◌, subst, arith, true, add-one}
+use Rattle.std.specs.Prelude.{slice_get, Some, Err}
 use Rattle.std.proofs.Math.Seq.{take-suc}
 use Rattle.std.proofs.lemmas.Option.{slice_get-map, slice_get_read}
-use Rattle.cells.specs.Cells.{Cells, IsOnePart, IsVolume, count_of, sizes_of, with_part}
+use Rattle.cells.specs.Cells.{Cells, count_of, sizes_of, with_part}
 use Rattle.cells.specs.PartLists.{parts_of}
 use Rattle.cells.proofs.Joining.{count_behind}
-use Rattle.shelf_core.specs.Files.{Files, ShelfState, OnlyReads, Changes, Rose, content_of}
+use Rattle.shelf_core.specs.Files.{Files, ShelfState, OnlyReads, Changes, content_of}
 use Rattle.shelf_core.specs.declared.fault.ReadError.{ReadError}
 use Rattle.shelf_core.specs.declared.fault.ReadError.TheVariants as error
 use Rattle.shelf_core.proofs.FileLaws.{rose_later, told_both, told_then, told_weaker}
-use Rattle.synth_report.specs.declared.fault.FileOf.{FileOf}
 use Rattle.synth_report.specs.declared.fault.FileOf.TheVariants as part
 use Rattle.synth_report.specs.declared.fault.Fault.{Fault}
 use Rattle.synth_report.specs.declared.fault.Fault.TheVariants.{Words, Form as FormFault, Unlike, Mark, Limit, Read, Write, NoMemory, NoLoop}
@@ -20,10 +19,10 @@ use Rattle.samples.specs.declared.form.Form.{Form}
 use Rattle.samples.specs.declared.sample.Sample.{Sample}
 use Rattle.samples.specs.declared.several.Samples.{Samples}
 use Rattle.samples.specs.Samples.{IsSampleOf, IsSoundIn, IsSoundSample, RefusesSample, goes_with}
-use Rattle.samples.specs.Several.{AreSamples, AreSoundSamples, IsSampleUnread, MayRefuseSamples, NoSampleRefused, RefusesNext, RefusesSamples, SamplesAreRefused, SamplesReadAs, StandAlike, StandForParts, StandsAlike, contents, numbered_files, sample_files}
-use Rattle.samples.specs.Steps.{IsJoined, IsNextRead, IsNextRefused, Joins, NextReadsAs, NotNext, PassesCells}
+use Rattle.samples.specs.Several.{AreSamples, AreSoundSamples, MayRefuseSamples, NoSampleRefused, RefusesNext, RefusesSamples, SamplesAreRefused, SamplesReadAs, StandAlike, StandForParts, StandsAlike, contents, numbered_files}
+use Rattle.samples.specs.Steps.{IsJoined, IsNextRead, IsNextRefused, NotNext}
 use Rattle.samples.proofs.OneSample.{count_alone, sound_alone, sound_count, sound_first, sound_joined}
-use Rattle.samples.proofs.Joined.{count_of_parts, parts_alone}
+use Rattle.samples.proofs.Joined.{parts_alone}
 use Rattle.samples.proofs.OneAnswer.{none_at_first, none_refused}
 
 -- Joining.
@@ -198,15 +197,18 @@ module _ (first : List ℕ) (names : List (List ℕ)) (i : ℕ) (name : List ℕ
     known = known_in (i + 2) (length names + 1) fault (omega arith) r.known;
     refused = told_then (λ x y. (y ≡ x) × SoFar x y) (λ x y. RefusesNext before (i + 2) (content_of x name) fault)
         (λ x y. (n : ℕ) × RefusesSamples n (content_of x first) (contents x names) fault) was.files mid.files now.files
-        (λ x y z same next. (i + 2, inr (record {
-          turn = i;
-          number_is = refl;
-          bytes = content_of x name;
-          its = contents_get x;
-          before = before;
-          stand = same.1;
-          refused = subst (λ f. RefusesNext before (i + 2) (content_of f name) fault) same.0 next;
-        }))) (then_front so_far) r.refused;
+        (λ x y z same next. (
+          i + 2,
+          inr (record {
+            turn = i;
+            number_is = refl;
+            bytes = content_of x name;
+            its = contents_get x;
+            before = before;
+            stand = same.1;
+            refused = subst (λ f. RefusesNext before (i + 2) (content_of f name) fault) same.0 next;
+          }),
+        )) (then_front so_far) r.refused;
   }
 
   pub next_unread : OnlyReads mid now → (fault : Fault) → NotNext before (i + 2) name mid now fault → SamplesReadAs first names was now (Err fault)

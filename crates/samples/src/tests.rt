@@ -1,1 +1,91 @@
-// x
+use super::*;
+use cells::{At, Size};
+use job_words::{Job, Words, read_job};
+use shelf_core::{FormFault, MemShelf};
+use std::alloc::Global;
+use std::test::Fail;
+use synth_report::{Fault, FileOf};
+
+const TWO_GREY: &[u8] = b"P6\n2 1\n255\n\x0a\x0a\x0a\x14\x14\x14";
+
+const THREE_COLOURS: &[u8] = b"P6\n1 3\n255\n\x01\x02\x03\x04\x05\x06\x07\x08\x09";
+
+const OF_MAXVAL_15: &[u8] = b"P6\n1 1\n15\n\x01\x02\x03";
+
+// Reads the samples `s`, `t` and `u`.
+fn read_three(alloc: Global, shelf: &mut MemShelf) -> Result<Result<Samples, Fault>, Fail> {
+    let mut words = Words::new(alloc);
+    for word in [
+        "grow",
+        "sample3=u",
+        "sample=s",
+        "sample2=t",
+        "out=o",
+        "map=m",
+        "record=r",
+        "width=1",
+        "height=1",
+    ] {
+        words.push(word)?;
+    }
+    match read_job(alloc, &words) {
+        Ok(Job::Grow(job)) => Ok(read_samples(
+            alloc,
+            shelf,
+            &job.names.sample,
+            job.names.more.as_slice(),
+        )),
+        Err(_) => Err(Fail::from("refused words")),
+    }
+}
+
+#[test]
+fn joined(rt: HostRuntime) -> Result<(), Fail> {
+    let alloc = rt.alloc();
+    let mut shelf = MemShelf::new(alloc);
+    shelf.put_file("s", TWO_GREY)?;
+    shelf.put_file("t", THREE_COLOURS)?;
+    shelf.put_file("u", TWO_GREY)?;
+    let samples = read_three(alloc, &mut shelf)?.ok().ok_or("not read")?;
+    assert_eq!(rt; samples.form, Form::Picture { maxval: 255 });
+    let sizes = samples.volume.sizes();
+    assert_eq!(rt; sizes.len(), 3);
+    let tall = Size { w: 1, h: 3, f: 1 };
+    assert_eq!(rt; sizes.at(2), tall);
+    let last_of_second = samples.volume.cell(At { x: 0, y: 2, f: 2 });
+    assert_eq!(rt;
+        last_of_second.ok_or("no cell")?,
+        b"\x07\x08\x09".as_slice()
+    );
+    let last_of_third = samples.volume.cell(At { x: 1, y: 0, f: 4 });
+    assert_eq!(rt; last_of_third.ok_or("no cell")?, b"\x14\x14\x14".as_slice());
+    Ok(())
+}
+
+#[test]
+fn refusals(rt: HostRuntime) -> Result<(), Fail> {
+    let alloc = rt.alloc();
+    let broken: &[u8] = b"P6\n1 x";
+    let second = FileOf::More(2);
+    let form = Fault::Form {
+        file: second,
+        why: FormFault::Form(5),
+    };
+    let table: [(&[u8], &[u8], Fault); 3] = [
+        (TWO_GREY, OF_MAXVAL_15, Fault::Unlike(second)),
+        (OF_MAXVAL_15, TWO_GREY, Fault::Unlike(second)),
+        (TWO_GREY, broken, form),
+    ];
+    for (first, next, fault) in table {
+        let mut shelf = MemShelf::new(alloc);
+        shelf.put_file("s", first)?;
+        shelf.put_file("t", next)?;
+        assert_eq!(rt; read_three(alloc, &mut shelf)?.err(), Some(fault));
+    }
+    let mut shelf = MemShelf::new(alloc);
+    shelf.put_file("s", TWO_GREY)?;
+    shelf.put_file("t", TWO_GREY)?;
+    let missing = Fault::Read(FileOf::More(3));
+    assert_eq!(rt; read_three(alloc, &mut shelf)?.err(), Some(missing));
+    Ok(())
+}

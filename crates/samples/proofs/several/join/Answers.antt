@@ -1,4 +1,4 @@
-use Rattle.std.proofs.Common.{◌≡◌, ◌≤◌, ◌+◌, true, arith, rules, refl, sym, ◌∙◌}
+use Rattle.std.proofs.Common.{◌≡◌, true, arith, rules, refl, sym, ◌∙◌}
 use Rattle.samples.proofs.Reading.{joined}
 use Rattle.samples.proofs.several.join.Goals as goal
 

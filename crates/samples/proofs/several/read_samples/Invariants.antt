@@ -1,4 +1,4 @@
-use Rattle.std.proofs.Common.{◌≡◌, ℕ, ◌+◌, length, take}
+use Rattle.std.proofs.Common.{◌≡◌, ◌+◌, length, take}
 use Rattle.cells.specs.Cells.{sizes_of}
 use Rattle.shelf_core.specs.Files.{OnlyReads}
 use Rattle.samples.specs.Several.{AreSoundSamples}

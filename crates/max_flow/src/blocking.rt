@@ -9,7 +9,7 @@ use crate::graph::Graph;
 use crate::paths::find_path;
 
 // The most that all arcs of the path can still carry.
-fn bottleneck(graph: &Graph, backward: &[u32], path: &[usize]) -> u32
+fn bottleneck(graph: &Graph, backward: &[u32], path: &[u32]) -> u32
     requires residuals { AreResiduals graph.now.pipes.now backward.now }
     requires arcs { (k : ℕ) → k < length path.now
         → slice_index path.now k < arc_count graph.now.pipes.now }
@@ -21,7 +21,7 @@ fn bottleneck(graph: &Graph, backward: &[u32], path: &[usize]) -> u32
 {
     let mut least = u32::MAX;
     for arc in path {
-        least = least.min(graph.residual(backward, *arc));
+        least = least.min(graph.residual(backward, *arc as usize));
     }
     least
 }
@@ -46,7 +46,7 @@ fn push(graph: &Graph, backward: &mut [u32], arc: usize, amount: u32)
 }
 
 // Sends as much flow along the path as it can carry. Returns how much.
-fn augment(graph: &Graph, backward: &mut [u32], levels: &[usize], path: &[usize]) -> u32
+fn augment(graph: &Graph, backward: &mut [u32], levels: &[u32], path: &[u32]) -> u32
     requires residuals { AreResiduals graph.now.pipes.now backward.old }
     requires path { IsPath graph.now.pipes.now graph.now.source backward.old levels.now path.now
         (length path.now) }
@@ -59,7 +59,7 @@ fn augment(graph: &Graph, backward: &mut [u32], levels: &[usize], path: &[usize]
 {
     let amount = bottleneck(graph, backward, path);
     for arc in path {
-        push(graph, backward, *arc, amount);
+        push(graph, backward, *arc as usize, amount);
     }
     amount
 }
@@ -69,9 +69,9 @@ fn augment(graph: &Graph, backward: &mut [u32], levels: &[usize], path: &[usize]
 pub fn blocking_flow(
     graph: &Graph,
     backward: &mut [u32],
-    levels: &[usize],
-    current: &mut [usize],
-    path: &mut [usize],
+    levels: &[u32],
+    current: &mut [u32],
+    path: &mut [u32],
     value: u64,
 ) -> u64
     requires carries { Carries graph.now.pipes.now graph.now.source graph.now.sink backward.old

@@ -14,10 +14,10 @@ pub struct Graph<'a> {
     pub nodes: u32,
     pub source: usize,
     pub sink: usize,
-    pub last: &'a [usize],
-    pub previous: &'a [usize],
+    pub last: &'a [u32],
+    pub previous: &'a [u32],
     ghost pipes_sound: { All (IsPipeOf nodes) pipes.now },
-    ghost pipes_limit: { length pipes.now ≤ 2 ^ 32 },
+    ghost pipes_limit: { length pipes.now < 2 ^ 31 },
     ghost source_in: { source < nodes },
     ghost sink_in: { sink < nodes },
     ghost ends_differ: { source ≢ sink },
@@ -88,8 +88,9 @@ fn tail(pipes: &[Pipe], arc: usize) -> usize
 }
 
 /// Links the arcs of each node into a chain, the last arc first.
-pub fn link(pipes: &[Pipe], last: &mut [usize], previous: &mut [usize])
+pub fn link(pipes: &[Pipe], last: &mut [u32], previous: &mut [u32])
     requires pipes { All (IsPipeOf (length last.old)) pipes.now }
+    requires limit { length pipes.now < 2 ^ 31 }
     requires empty { (n : ℕ) → slice_index last.old n ≡ 0 }
     requires sized { length previous.old ≡ arc_count pipes.now }
     ensures { AreChains pipes.now (length last.old) last.new previous.new }
@@ -97,6 +98,6 @@ pub fn link(pipes: &[Pipe], last: &mut [usize], previous: &mut [usize])
     for arc in 0..previous.len() {
         let node = tail(pipes, arc);
         previous[arc] = last[node];
-        last[node] = arc + 1;
+        last[node] = arc as u32 + 1;
     }
 }

@@ -12,8 +12,8 @@ use crate::graph::Graph;
 fn try_arc(
     graph: &Graph,
     backward: &[u32],
-    levels: &mut [usize],
-    queue: &mut [usize],
+    levels: &mut [u32],
+    queue: &mut [u32],
     done: usize,
     reached: usize,
     arc: usize,
@@ -36,8 +36,8 @@ fn try_arc(
     if levels[node] > 0 || graph.residual(backward, arc) == 0 {
         return reached;
     }
-    levels[node] = levels[queue[done]] + 1;
-    queue[reached] = node;
+    levels[node] = levels[queue[done] as usize] + 1;
+    queue[reached] = node as u32;
     reached + 1
 }
 
@@ -45,8 +45,8 @@ fn try_arc(
 fn visit(
     graph: &Graph,
     backward: &[u32],
-    levels: &mut [usize],
-    queue: &mut [usize],
+    levels: &mut [u32],
+    queue: &mut [u32],
     done: usize,
     reached: usize,
 ) -> usize
@@ -59,22 +59,17 @@ fn visit(
     ensures grows { reached ≤ result }
 {
     let mut reached = reached;
-    let mut cursor = graph.last[queue[done]];
+    let mut cursor = graph.last[queue[done] as usize] as usize;
     'arcs: while cursor > 0 {
         reached = try_arc(graph, backward, levels, queue, done, reached, cursor - 1);
-        cursor = graph.previous[cursor - 1];
+        cursor = graph.previous[cursor - 1] as usize;
     }
     reached
 }
 
 /// Gives each node that residual arcs reach from the source its level, until the sink has one.
 /// Returns whether it has. If not, no residual arc leads out of the nodes with a level.
-pub fn find_levels(
-    graph: &Graph,
-    backward: &[u32],
-    levels: &mut [usize],
-    queue: &mut [usize],
-) -> bool
+pub fn find_levels(graph: &Graph, backward: &[u32], levels: &mut [u32], queue: &mut [u32]) -> bool
     requires residuals { AreResiduals graph.now.pipes.now backward.now }
     requires levels { length levels.old ≡ graph.now.nodes }
     requires queue { length queue.old ≡ graph.now.nodes }
@@ -85,7 +80,7 @@ pub fn find_levels(
 {
     levels.fill(0);
     levels[graph.source] = 1;
-    queue[0] = graph.source;
+    queue[0] = graph.source as u32;
     let mut reached = 1;
     let mut done = 0;
     'nodes: while done < reached && levels[graph.sink] == 0 {

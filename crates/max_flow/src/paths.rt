@@ -9,13 +9,7 @@ ghost use Rattle.max_flow.specs.Paths.{AreCurrent, IsPath, LeadsFrom, PassedAreD
 use crate::graph::Graph;
 
 // One more than the first arc of the node's chain, from `cursor` on, that is in the level graph, or 0.
-fn next_admissible(
-    graph: &Graph,
-    backward: &[u32],
-    levels: &[usize],
-    node: usize,
-    cursor: usize,
-) -> usize
+fn next_admissible(graph: &Graph, backward: &[u32], levels: &[u32], node: usize, cursor: u32) -> u32
     requires residuals { AreResiduals graph.now.pipes.now backward.now }
     requires levels { AreLevelNumbers graph.now.nodes graph.now.source levels.now }
     requires node { node < graph.now.nodes }
@@ -29,11 +23,11 @@ fn next_admissible(
         → tail graph.now.pipes.now arc ≡ node
         → ¬ IsAdmissible graph.now.pipes.now backward.now levels.now arc }
 {
-    let level = levels[node] + 1;
+    let level = u64::from(levels[node]) + 1;
     let mut cursor = cursor;
     'arcs: while cursor > 0 {
-        let arc = cursor - 1;
-        if levels[graph.head(arc)] == level && graph.residual(backward, arc) > 0 {
+        let arc = cursor as usize - 1;
+        if u64::from(levels[graph.head(arc)]) == level && graph.residual(backward, arc) > 0 {
             return cursor;
         }
         cursor = graph.previous[arc];
@@ -47,9 +41,9 @@ fn next_admissible(
 pub fn find_path(
     graph: &Graph,
     backward: &[u32],
-    levels: &[usize],
-    current: &mut [usize],
-    path: &mut [usize],
+    levels: &[u32],
+    current: &mut [u32],
+    path: &mut [u32],
 ) -> Option<usize>
     requires residuals { AreResiduals graph.now.pipes.now backward.now }
     requires levels { AreLevelNumbers graph.now.nodes graph.now.source levels.now }
@@ -75,10 +69,10 @@ pub fn find_path(
         if cursor > 0 {
             path[depth] = cursor - 1;
             depth += 1;
-            node = graph.head(cursor - 1);
+            node = graph.head(cursor as usize - 1);
         } else if depth > 0 {
             depth -= 1;
-            let arc = path[depth];
+            let arc = path[depth] as usize;
             node = graph.tail(arc);
             current[node] = graph.previous[arc];
         } else {

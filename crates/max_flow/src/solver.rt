@@ -1,6 +1,6 @@
 // The solver: search trees, and then level graphs and blocking flows, until the sink has no level.
 
-ghost use Rattle.std.specs.Prelude.{◌≡◌, ◌≤◌, ◌^◌, ℕ, ℤ, pos, ◌≤ℤ◌, nat_lt, Bool, List};
+ghost use Rattle.std.specs.Prelude.{◌≡◌, ◌<◌, ◌≤◌, ◌^◌, ℕ, ℤ, pos, ◌≤ℤ◌, nat_lt, Bool, List};
 ghost use Rattle.std.specs.Prelude.{IfOk, length, vec_len};
 ghost use Rattle.max_flow.specs.Flows.{IsFlow, flow_value, is_in, IsCut, cut_capacity};
 ghost use Rattle.max_flow.specs.Flows.{IsLeastCut, IsContained};
@@ -17,6 +17,9 @@ use crate::network::{Network, Pipe};
 use items::Items;
 use std::alloc::{AllocError, Global};
 
+// The tables name arcs by `u32`, so that they serve for fewer pipes than this.
+const LIMIT: usize = 1 << 31;
+
 /// A flow of greatest value, and the least cut with the fewest nodes on the source's side.
 #[derive(Debug, Drop)]
 pub struct Solved {
@@ -31,10 +34,10 @@ pub struct Solved {
 // The tables of the searches: one entry for each node in each of them.
 #[derive(Drop)]
 struct NodeTables {
-    levels: Vec<usize>,
-    queue: Vec<usize>,
-    current: Vec<usize>,
-    path: Vec<usize>,
+    levels: Vec<u32>,
+    queue: Vec<u32>,
+    current: Vec<u32>,
+    path: Vec<u32>,
 }
 
 // All that the level graphs work on, and what a solver hands out.
@@ -42,8 +45,8 @@ struct NodeTables {
 struct Workspace {
     flow: Vec<i32>,
     source_side: Vec<bool>,
-    last: Vec<usize>,
-    previous: Vec<usize>,
+    last: Vec<u32>,
+    previous: Vec<u32>,
     tables: NodeTables,
 }
 
@@ -53,10 +56,10 @@ impl NodeTables {
     fn make(alloc: Global, nodes: usize) -> Result<NodeTables, AllocError>
         ensures { IfOk result (HaveNodes nodes) }
     {
-        let levels = vec![in alloc; 0usize; nodes]?;
-        let queue = vec![in alloc; 0usize; nodes]?;
-        let current = vec![in alloc; 0usize; nodes]?;
-        let path = vec![in alloc; 0usize; nodes]?;
+        let levels = vec![in alloc; 0u32; nodes]?;
+        let queue = vec![in alloc; 0u32; nodes]?;
+        let current = vec![in alloc; 0u32; nodes]?;
+        let path = vec![in alloc; 0u32; nodes]?;
         Ok(NodeTables {
             levels,
             queue,
@@ -76,8 +79,8 @@ impl Workspace {
     {
         let flow = vec![in alloc; 0i32; pipes.len()]?;
         let source_side = vec![in alloc; false; nodes]?;
-        let last = vec![in alloc; 0usize; nodes]?;
-        let previous = vec![in alloc; 0usize; 2 * pipes.len()]?;
+        let last = vec![in alloc; 0u32; nodes]?;
+        let previous = vec![in alloc; 0u32; 2 * pipes.len()]?;
         let tables = NodeTables::make(alloc, nodes)?;
         Ok(Workspace {
             flow,
@@ -101,7 +104,7 @@ fn write_flows(graph: &Graph, backward: &[u32], flow: &mut [i32])
 }
 
 // Puts the nodes with a level on the source's side.
-fn write_sides(levels: &[usize], sides: &mut [bool])
+fn write_sides(levels: &[u32], sides: &mut [bool])
     requires { length sides.old ≡ length levels.now }
     ensures { (n : ℕ) → is_in sides.new n ≡ nat_lt 0 (level_of levels.now n) }
 {
@@ -143,6 +146,7 @@ fn run(graph: &Graph, backward: &mut [u32], tables: &mut NodeTables, first: u64)
 // Solves the network in the tables, from a flow of that value.
 fn solve_in(network: &Network, space: Workspace, backward: Vec<u32>, first: u64) -> Solved
     requires ready { IsReady network.now.nodes network.now.pipes space }
+    requires limit { length network.now.pipes < 2 ^ 31 }
     requires carries { Carries network.now.pipes network.now.source network.now.sink backward.items
         first }
     ensures { IsSolution network.now result.flow result.source_side result.value }
@@ -192,6 +196,9 @@ pub fn solve(alloc: Global, network: &Network) -> Result<Solved, AllocError>
     ensures smallest { IfOk result (λ solved. (other : List Bool) → IsLeastCut network.now other
         → IsContained solved.source_side other) }
 {
+    if network.pipes().len() >= LIMIT {
+        return Err(AllocError);
+    }
     let mut backward = vec![in alloc; 0u32; network.pipes().len()]?;
     let value = first_flow(alloc, network, &mut backward)?;
     let space = Workspace::make(alloc, network.nodes() as usize, network.pipes())?;

@@ -4,8 +4,10 @@
 //! samples of each, of the squared differences from the cells that the placement would put there, and
 //! beside it the count of those cells. The calls of this crate give exactly that, `error_sum_within`
 //! with leave to stop where the sum passes a limit, and `within` compares two errors per filled cell,
-//! with a tolerance. None of them takes memory. `overlap` has the sums, `counts` the counts, `rows`
-//! where the rows of a box begin, `error` the error and the comparison.
+//! with a tolerance. `FilledRuns` has the filled cells of one box, gathered once for the sums of all its
+//! placements (specs/Runs.antt); gathering takes memory, and no other call does. `overlap` has the sums,
+//! `gathered` the runs, `counts` the counts, `rows` where the rows of a box begin, `error` the error and
+//! the comparison.
 #![tactic(auto)]
 
 mod counts;

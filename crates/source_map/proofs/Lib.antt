@@ -1,4 +1,9 @@
 pub mod FieldLaws
 pub mod HeadWriting
+pub mod PartLaws
 pub mod MapWriting
+pub mod Sources
 pub mod Writable
+pub mod Again
+pub mod HeadsAgain
+pub mod MapsAgain

@@ -2,7 +2,7 @@
 ghost use Rattle.std.specs.Prelude.{◌≡◌};
 ghost use Rattle.std.specs.List.{flat_map};
 ghost use Rattle.file_bytes.specs.Writing.{Puts};
-ghost use Rattle.source_map.specs.Heads.{IsHead, count_field, head_form, size_field, start_form, version_number};
+ghost use Rattle.source_map.specs.Heads.{IsHead, count_field, head_form, size_field, sizes_field, start_form, version_number};
 
 use cells::{Size, Sizes};
 use file_bytes::FileWriter;
@@ -41,7 +41,7 @@ impl Version {
 }
 
 // Puts a size.
-fn put_size<S: Shelf>(file: &mut FileWriter, size: Size, shelf: &mut S, name: &str)
+pub(crate) fn put_size<S: Shelf>(file: &mut FileWriter, size: Size, shelf: &mut S, name: &str)
     ensures { Puts name.now (size_field size) (S.state shelf.old) (S.state shelf.new)
         file.old file.new }
 {
@@ -60,21 +60,22 @@ fn put_sizes<S: Shelf>(file: &mut FileWriter, sizes: &Sizes, shelf: &mut S, name
     }
 }
 
-// Puts what stands before the samples.
-fn put_start<S: Shelf>(
+// Puts what stands before the sizes of the samples.
+pub(crate) fn put_start<S: Shelf>(
     file: &mut FileWriter,
     magic: [u8; 8],
     kind: u8,
-    head: &Head,
+    version: Version,
+    output: Size,
     shelf: &mut S,
     name: &str,
 )
-    ensures { Puts name.now (start_form magic kind head.now.version head.now.output)
-        (S.state shelf.old) (S.state shelf.new) file.old file.new }
+    ensures { Puts name.now (start_form magic kind version output) (S.state shelf.old)
+        (S.state shelf.new) file.old file.new }
 {
     file.put(&magic, shelf, name);
-    file.put(&[head.version.number(), kind], shelf, name);
-    put_size(file, head.output, shelf, name);
+    file.put(&[version.number(), kind], shelf, name);
+    put_size(file, output, shelf, name);
 }
 
 // Puts how many samples there are, where the version tells it.
@@ -94,6 +95,21 @@ fn put_count<S: Shelf>(
     }
 }
 
+// Puts the sizes of the samples.
+pub(crate) fn put_samples<S: Shelf>(
+    file: &mut FileWriter,
+    version: Version,
+    samples: &Sizes,
+    shelf: &mut S,
+    name: &str,
+)
+    ensures { Puts name.now (sizes_field version samples.now) (S.state shelf.old)
+        (S.state shelf.new) file.old file.new }
+{
+    put_count(file, version, samples.len() as u16, shelf, name);
+    put_sizes(file, samples, shelf, name);
+}
+
 /// Puts a head: the magic, the version and the kind, a byte each, the output's size, and the size of the
 /// one sample; in version 2 the count of the samples and their sizes. It takes no memory.
 pub fn put_head<S: Shelf>(
@@ -108,7 +124,6 @@ pub fn put_head<S: Shelf>(
     ensures { Puts name.now (head_form magic kind head.now) (S.state shelf.old)
         (S.state shelf.new) file.old file.new }
 {
-    put_start(file, magic, kind, head, shelf, name);
-    put_count(file, head.version, head.samples.len() as u16, shelf, name);
-    put_sizes(file, &head.samples, shelf, name);
+    put_start(file, magic, kind, head.version, head.output, shelf, name);
+    put_samples(file, head.version, &head.samples, shelf, name);
 }

@@ -22,7 +22,7 @@ pub struct Start {
 }
 
 // The refusal of a field at its place.
-fn form<T>(at: u64) -> Result<T, ReadError>
+pub(crate) fn form<T>(at: u64) -> Result<T, ReadError>
     ensures { result ≡ Err (ReadError.Bad (FormFault.Form at)) }
 {
     Err(ReadError::Bad(FormFault::Form(at)))
@@ -165,7 +165,11 @@ fn read_kind<S: Shelf>(
 }
 
 // Reads an axis.
-fn read_axis<S: Shelf>(file: &mut FileReader, shelf: &mut S, name: &str) -> Result<u32, ReadError>
+pub(crate) fn read_axis<S: Shelf>(
+    file: &mut FileReader,
+    shelf: &mut S,
+    name: &str,
+) -> Result<u32, ReadError>
     requires follows { Follows name.now (S.state shelf.old) file.old }
     requires room { file.old.at + 4 < 2 ^ 63 }
     ensures answer { ReadsFrom ⊥ name.now file.old.at (S.state shelf.old) (S.state shelf.new)

@@ -6,9 +6,13 @@
 
 mod head;
 mod head_reading;
+mod law;
 mod map_file;
+mod map_reading;
 
 pub use head::{Head, Version, put_head};
 pub use head_reading::read_head;
+pub use law::one_map_reading;
 pub use map_canvas::{Canvas, GREATEST_COORDINATE, Map, Placement};
-pub use map_file::{MOST_MAP_CELLS, write_cell_map};
+pub use map_file::{MOST_MAP_CELLS, MapFile, write_cell_map, write_frame_map};
+pub use map_reading::read_map;

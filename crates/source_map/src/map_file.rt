@@ -1,28 +1,48 @@
-// The file of a map, version 1.
-ghost use Rattle.std.specs.Prelude.{◌≡◌, All, Some, IsSomeAnd, OnOk, OnErr};
+// The files of maps, of all kinds and versions.
+ghost use Rattle.std.specs.Prelude.{◌≡◌, ◌<◌, ◌^◌, All, Some, IsSomeAnd, OnOk, OnErr};
 ghost use Rattle.std.specs.List.{flat_map};
+ghost use Rattle.cells.specs.SizeLists.{IsPartPlace};
 ghost use Rattle.shelf_core.specs.Files.{Changes, WritesRose, OnlyWrites};
 ghost use Rattle.shelf_core.specs.Written.{HoldsText, HoldsPart};
 ghost use Rattle.file_bytes.specs.Writing.{Puts};
-ghost use Rattle.source_map.specs.Heads.{size_field};
-ghost use Rattle.source_map.specs.MapFiles.{IsShort, IsShortCoordinate, IsWritable, cell_map_form, cell_map_head, coordinate_field, source_field};
+ghost use Rattle.source_map.specs.Heads.{AreSamples};
+ghost use Rattle.source_map.specs.MapFiles.{IsFrameMap, IsInSamples, IsWritable, cell_map_form, coordinate_field, frame_map_form, numbered_field, part_from, place_field, source_field};
+ghost use Rattle.source_map.specs.Writing.{IsShort, IsShortCoordinate};
 
-use cells::{At, Size};
+use crate::head::{Version, put_samples, put_size, put_start};
+use cells::{At, PartPlace, Size, Sizes};
 use file_bytes::FileWriter;
+use items::Items;
 use map_canvas::Map;
 use shelf_core::{Shelf, WriteFault};
 
 /// The most cells of a map in a file.
 pub const MOST_MAP_CELLS: usize = 1048576;
 
-// A size in the file's form.
-fn size_bytes(size: Size) -> [u8; 12]
-    ensures { result ≡ size_field size }
-{
-    let [a, b, c, d] = size.w.to_be_bytes();
-    let [e, f, g, h] = size.h.to_be_bytes();
-    let [i, j, k, l] = size.f.to_be_bytes();
-    [a, b, c, d, e, f, g, h, i, j, k, l]
+// What a map file begins with.
+pub(crate) const MAGIC: [u8; 8] = *b"WEAVEMAP";
+
+/// What a map file stands for.
+#[derive(Drop)]
+pub enum MapFile {
+    /// The source of each output cell.
+    Cells {
+        /// The map, whose sources are places of the joined samples.
+        map: Map,
+        /// The sizes of the samples.
+        samples: Sizes,
+        /// The version of the file.
+        version: Version,
+    },
+    /// The source of each output frame: output frame i is the sample's frame `frames[i]`.
+    Frames {
+        /// The size of the output.
+        size: Size,
+        /// The size of the sample.
+        sample: Size,
+        /// A frame of the sample for each output frame.
+        frames: Items<u16>,
+    },
 }
 
 // A coordinate in the file's form.
@@ -33,61 +53,125 @@ fn coordinate_bytes(z: i32) -> [u8; 2]
     (z as u16).to_be_bytes()
 }
 
-// A source in the file's form.
-fn source_bytes(from: At) -> [u8; 6]
-    requires { IsShort from }
-    ensures { result ≡ source_field (Some from) }
+// A place in the file's form.
+fn place_bytes(p: At) -> [u8; 6]
+    requires { IsShort p }
+    ensures { result ≡ place_field p }
 {
-    let [a, b] = coordinate_bytes(from.x);
-    let [c, d] = coordinate_bytes(from.y);
-    let [e, f] = coordinate_bytes(from.f);
+    let [a, b] = coordinate_bytes(p.x);
+    let [c, d] = coordinate_bytes(p.y);
+    let [e, f] = coordinate_bytes(p.f);
     [a, b, c, d, e, f]
 }
 
-// What stands before the sources.
-#[tactic(auto, unfolding(crate::specs::MapFiles::cell_map_head))]
-fn head_bytes(size: Size, sample: Size) -> [u8; 34]
-    ensures { result ≡ cell_map_head size sample }
+// Puts a place of a sample that is named by its number.
+fn put_numbered<S: Shelf>(file: &mut FileWriter, there: PartPlace, shelf: &mut S, name: &str)
+    requires short { IsShort there.at }
+    requires number { there.part < 2 ^ 16 }
+    ensures { Puts name.now (numbered_field there) (S.state shelf.old) (S.state shelf.new)
+        file.old file.new }
 {
-    let [a, b, c, d, e, f, g, h, i, j, k, l] = size_bytes(size);
-    let [m, n, o, p, q, r, s, t, u, v, w, x] = size_bytes(sample);
-    [
-        b'W', b'E', b'A', b'V', b'E', b'M', b'A', b'P', 1, 0, a, b, c, d, e, f, g, h, i, j, k, l,
-        m, n, o, p, q, r, s, t, u, v, w, x,
-    ]
+    file.put_u16(there.part as u16, shelf, name);
+    file.put(&place_bytes(there.at), shelf, name);
 }
 
-// Puts the sources of filled cells.
-fn put_sources<S: Shelf>(file: &mut FileWriter, sources: &[Option<At>], shelf: &mut S, name: &str)
-    requires { All (λ source. IsSomeAnd source IsShort) sources.now }
-    ensures { Puts name.now (flat_map source_field sources.now)
-        (S.state shelf.old) (S.state shelf.new) file.old file.new }
+// The sample that has a source, and the place in it.
+fn place_of(samples: &Sizes, from: At) -> PartPlace
+    requires { IsInSamples samples.now from }
+    ensures part { IsPartPlace samples.now from result }
+    ensures form { result ≡ part_from 1 samples.now from }
 {
-    for source in sources {
-        file.put(&source_bytes(source.unwrap()), shelf, name);
+    samples.part_of(from).unwrap()
+}
+
+// Puts a source.
+fn put_source<S: Shelf>(
+    file: &mut FileWriter,
+    from: At,
+    samples: &Sizes,
+    version: Version,
+    shelf: &mut S,
+    name: &str,
+)
+    requires samples { AreSamples version samples.now }
+    requires inside { IsInSamples samples.now from }
+    ensures { Puts name.now (source_field version samples.now (Some from)) (S.state shelf.old)
+        (S.state shelf.new) file.old file.new }
+{
+    match version {
+        Version::One => file.put(&place_bytes(from), shelf, name),
+        Version::Two => put_numbered(file, place_of(samples, from), shelf, name),
     }
 }
 
-/// Writes the file of a full map of at most 2^20 cells, whose sources lie inside the sample size: what
-/// version and kind it is of, the two sizes, and the source of each cell, 6 bytes a cell. It takes no
-/// memory. After a `WriteFault` the shelf has failed, and the file may be cut off anywhere.
+// Puts the sources of filled cells.
+fn put_sources<S: Shelf>(
+    file: &mut FileWriter,
+    sources: &[Option<At>],
+    samples: &Sizes,
+    version: Version,
+    shelf: &mut S,
+    name: &str,
+)
+    requires samples { AreSamples version samples.now }
+    requires inside { All (λ source. IsSomeAnd source (IsInSamples samples.now)) sources.now }
+    ensures { Puts name.now (flat_map (source_field version samples.now) sources.now)
+        (S.state shelf.old) (S.state shelf.new) file.old file.new }
+{
+    for source in sources {
+        put_source(file, source.unwrap(), samples, version, shelf, name);
+    }
+}
+
+/// Writes the file of a full map of at most 2^20 cells, whose sources lie inside the samples: what
+/// version and kind it is of, the sizes, and the source of each cell, 6 bytes a cell in version 1 and 8
+/// in version 2. Version 1 has one sample. It takes no memory. After a `WriteFault` the shelf has
+/// failed, and the file may be cut off anywhere.
 pub fn write_cell_map<S: Shelf>(
     map: &Map,
-    sample: Size,
+    samples: &Sizes,
+    version: Version,
     shelf: &mut S,
     name: &str,
 ) -> Result<(), WriteFault>
-    requires { IsWritable map.now sample }
+    requires { IsWritable map.now samples.now version }
     ensures ok { OnOk result (Changes (S.state shelf.old) (S.state shelf.new)
-        (HoldsText name.now (cell_map_form map.now sample))) }
+        (HoldsText name.now (cell_map_form map.now samples.now version))) }
     ensures err { OnErr result (Changes (S.state shelf.old) (S.state shelf.new)
-        (HoldsPart name.now (cell_map_form map.now sample))) }
+        (HoldsPart name.now (cell_map_form map.now samples.now version))) }
     ensures writes { OnlyWrites (S.state shelf.old) (S.state shelf.new) }
     ensures failed { OnErr result
         (WritesRose name.now (S.state shelf.old) (S.state shelf.new)) }
 {
     let mut file = FileWriter::begin(shelf, name);
-    file.put(&head_bytes(map.size(), sample), shelf, name);
-    put_sources(&mut file, map.sources(), shelf, name);
+    put_start(&mut file, MAGIC, 0, version, map.size(), shelf, name);
+    put_samples(&mut file, version, samples, shelf, name);
+    put_sources(&mut file, map.sources(), samples, version, shelf, name);
+    file.finish(shelf, name)
+}
+
+/// Writes the file of a frame map, of version 1: the output has the sample's columns and rows, and each
+/// entry is a frame of the sample, 2 bytes each. It takes no memory. After a `WriteFault` the shelf has
+/// failed, and the file may be cut off anywhere.
+pub fn write_frame_map<S: Shelf>(
+    size: Size,
+    sample: Size,
+    frames: &[u16],
+    shelf: &mut S,
+    name: &str,
+) -> Result<(), WriteFault>
+    requires { IsFrameMap size sample frames.now }
+    ensures ok { OnOk result (Changes (S.state shelf.old) (S.state shelf.new)
+        (HoldsText name.now (frame_map_form size sample frames.now))) }
+    ensures err { OnErr result (Changes (S.state shelf.old) (S.state shelf.new)
+        (HoldsPart name.now (frame_map_form size sample frames.now))) }
+    ensures writes { OnlyWrites (S.state shelf.old) (S.state shelf.new) }
+    ensures failed { OnErr result
+        (WritesRose name.now (S.state shelf.old) (S.state shelf.new)) }
+{
+    let mut file = FileWriter::begin(shelf, name);
+    put_start(&mut file, MAGIC, 1, Version::One, size, shelf, name);
+    put_size(&mut file, sample, shelf, name);
+    file.put_all_u16(frames, shelf, name);
     file.finish(shelf, name)
 }

@@ -2,7 +2,6 @@
 // leave, which cells are kept, and the bytes of a whole map file.
 ghost use Rattle.std.specs.Prelude.{◌≡◌, pos, IfOk, IsTrue};
 ghost use Rattle.cells.specs.Boxes.{AxisHolds, HoldsBox};
-ghost use Rattle.cells.specs.Cells.{IsOnePart};
 ghost use Rattle.cells.specs.Places.{IsInside, IsSmall};
 ghost use Rattle.map_canvas.specs.Canvases.{StandsOver};
 ghost use Rattle.source_map.specs.MapFiles.{IsWritable};
@@ -10,7 +9,7 @@ ghost use Rattle.source_map.specs.MapFiles.{IsWritable};
 use cells::{At, Box3, Size, Volume};
 use map_canvas::{Canvas, Map, Placement};
 use shelf_core::{Call, MemShelf, WriteFault};
-use source_map::write_cell_map;
+use source_map::{Version, write_cell_map};
 use std::alloc::{AllocError, Global};
 use std::process::Abort;
 use std::test::Fail;
@@ -318,12 +317,13 @@ fn write(
     shelf: &mut MemShelf,
 ) -> Result<(), WriteFault>
     requires stands { StandsOver canvas.now sample.now }
-    requires one { IsOnePart sample.now }
 {
     let map = canvas.map();
+    let samples = sample.sizes();
+    assert!(rt; samples.len() == 1);
     assert!(rt; map.size().cells() <= 6);
     assert!(rt; canvas.first_unfilled().is_none());
-    write_cell_map(map, sample.size(), shelf, "map")
+    write_cell_map(map, &samples, Version::One, shelf, "map")
 }
 
 // An output of 3 x 2 cells, each from the one cell of its sample.

@@ -11,7 +11,7 @@ returns g c =
     let start = state c.args.shelf.now in
     let file = c.args.file.now in
     let marks = c.number.result ∷ c.args.kind ∷ [] in
-    let output = size_field c.args.head.now.output in
+    let output = size_field c.args.output in
     subst (λ v. Puts name (c.args.magic ++ v ∷ c.args.kind ∷ [] ++ output) start (state c.put_size.new.shelf) file c.put_size.new.file) c.number.ensures
     (put_next name (c.args.magic ++ marks) output (state c.put-2.new.shelf) (state c.put_size.new.shelf) c.put-2.new.self c.put_size.new.file file start
     (put_next name c.args.magic marks (state c.put.new.shelf) (state c.put-2.new.shelf) c.put.new.self c.put-2.new.self file start c.put.ensures c.put-2.ensures)

@@ -7,4 +7,4 @@ use Rattle.source_map.proofs.map_file.put_sources.Given as goal
 abbrev pub invariant-loop-source : goal.invariant-loop-source
 invariant-loop-source g l =
     let state = g.S.Shelf.state in
-    Puts l.name (flat_map source_field (take l.source-index l.sources)) (state l.fn.shelf) (state l.shelf) l.fn.file l.file
+    Puts l.name (flat_map (source_field l.version l.samples) (take l.source-index l.sources)) (state l.fn.shelf) (state l.shelf) l.fn.file l.file

@@ -1,0 +1,23 @@
+use Rattle.std.proofs.lemmas.Result.{err_from_is_err_and}
+use Rattle.std.specs.Int.{w16}
+use Rattle.std.specs.Prelude.{Err}
+use Rattle.source_map.specs.MapFiles.{below_rule}
+use Rattle.source_map.specs.Readings.{number_read}
+use Rattle.source_map.proofs.FieldLaws.{lifted, list_stops}
+use Rattle.source_map.proofs.map_reading.read_entries.Goals as goal
+
+pub returns-in_err-frame-clause-answer : goal.returns-in_err-frame-clause-answer
+returns-in_err-frame-clause-answer g c =
+    let state = g.S.Shelf.state in
+    let name = c.args.name.now in
+    let p = err_from_is_err_and c.from_residual-in_err-frame.result c.from_residual-in_err-frame.ensures.1 in
+    let read = number_read w16 (below_rule c.args.bound) in
+    let place = c.args.file.now.at in
+    let a = state c.args.shelf.now in
+    let b = state c.loop-i.shelf in
+    let d = state c.read_below.new.shelf in
+    let e = c.in_err-frame.field-0.0 in
+    rw (p.1, p.2)
+    (list_stops (Unit {0}) name place c.loop-i.i c.args.count read a b d c.loop-i.file c.read_below.new.file c.loop-i.frames.items e
+    c.loop-i-test.true c.loop-i.invariant.reads c.in_err-frame.ensures.reads c.loop-i.invariant.found
+    (lifted (Unit {0}) name c.loop-i.file.at read b d c.read_below.new.file (Err e) c.in_err-frame.ensures.answer))

@@ -1,0 +1,15 @@
+// What the forms of maps promise, whoever reads or writes.
+ghost use Rattle.std.specs.Prelude.{◌≡◌, ℕ, List, Ok, Err};
+ghost use Rattle.shelf_core.specs.declared.fault.ReadError.{ReadError};
+ghost use Rattle.source_map.specs.declared.map_file.MapFile.{MapFile};
+ghost use Rattle.source_map.specs.MapFiles.{IsMapFile, IsMapOf, map_form, map_read};
+
+/// What is written is read again. Bytes spell one map at most, and what they spell isn't refused.
+pub fn one_map_reading()
+    ensures read_again { (value : MapFile) → IsMapFile value →
+        map_read (map_form value) ≡ Ok value }
+    ensures one_value { (bytes : List ℕ) (first second : MapFile) → IsMapOf bytes first →
+        IsMapOf bytes second → first ≡ second }
+    ensures not_refused { (bytes : List ℕ) (value : MapFile) (refusal : ReadError) →
+        IsMapOf bytes value → map_read bytes ≡ Err refusal → ⊥ }
+{}

@@ -1,0 +1,509 @@
+// Reading the files of maps.
+ghost use Rattle.std.specs.Prelude.{◌≡◌, ◌≤◌, ◌<◌, ◌+◌, ◌*◌, ◌^◌, IfOk, IfErr, IfSome, IsSomeAnd, OnOk, length, All};
+ghost use Rattle.std.specs.Int.{w16, w32};
+ghost use Rattle.shelf_core.specs.Files.{OnlyReads};
+ghost use Rattle.cells.specs.Places.{HasAxes, IsInside, IsSmall, cell_count, spot};
+ghost use Rattle.cells.specs.SizeLists.{AreSizes, IsInPart, stock_place};
+ghost use Rattle.file_bytes.specs.Reading.{Follows};
+ghost use Rattle.map_canvas.specs.Maps.{IsMap, IsSource};
+ghost use Rattle.source_map.specs.Heads.{AreSamples};
+ghost use Rattle.source_map.specs.MapFiles.{IsInSamples, IsMapFile, MapReadsAs, below_rule, body_read, cells_read, cells_rule, frames_read, numbered_size, part_rule, place_read, same_rule, sample_read, samples_read, source_read, sources_read, value_read};
+ghost use Rattle.source_map.specs.Readings.{IsRefusal, ReadsFrom, list_read, number_read};
+
+use crate::head::Version;
+use crate::head_reading::{Start, form, read_axis, read_samples, read_start};
+use crate::map_file::{MAGIC, MOST_MAP_CELLS, MapFile};
+use cells::{At, Size, Sizes};
+use file_bytes::{FileReader, make_room};
+use items::Items;
+use map_canvas::Map;
+use shelf_core::{ReadError, Shelf, What};
+use std::alloc::Global;
+
+// The number, if it is that.
+fn lawful_same(n: u32, wanted: u32, at: u64) -> Result<u32, ReadError>
+    ensures rule { result ≡ same_rule wanted at n }
+    ensures same { IfOk result (λ m. m ≡ wanted) }
+    ensures refusal { IfErr result IsRefusal }
+{
+    if n == wanted { Ok(n) } else { form(at) }
+}
+
+// The number, if it is below a bound.
+fn lawful_below(n: u16, bound: u32, at: u64) -> Result<u16, ReadError>
+    ensures rule { result ≡ below_rule bound at n }
+    ensures below { IfOk result (λ n. n < bound) }
+    ensures refusal { IfErr result IsRefusal }
+{
+    if u32::from(n) < bound {
+        Ok(n)
+    } else {
+        form(at)
+    }
+}
+
+// The number of a sample, if there are so many.
+fn lawful_part(n: u16, count: u32, at: u64) -> Result<u32, ReadError>
+    ensures rule { result ≡ part_rule count at n }
+    ensures within { IfOk result (λ n. (1 ≤ n) × (n ≤ count)) }
+    ensures refusal { IfErr result IsRefusal }
+{
+    if n == 0 || u32::from(n) > count {
+        form(at)
+    } else {
+        Ok(u32::from(n))
+    }
+}
+
+// How many cells an output has.
+fn cells_of(size: Size) -> u64
+    requires { HasAxes size }
+    ensures { result ≡ cell_count size }
+{
+    u64::from(size.w) * (u64::from(size.h) * u64::from(size.f))
+}
+
+// The limit on the cells of an output.
+fn few_cells(size: Size) -> Result<(), ReadError>
+    requires { HasAxes size }
+    ensures rule { result ≡ cells_rule size }
+    ensures small { OnOk result (IsSmall size) }
+    ensures few { OnOk result (cell_count size ≤ MOST_MAP_CELLS) }
+    ensures refusal { IfErr result IsRefusal }
+{
+    let cells = cells_of(size);
+    if cells <= MOST_MAP_CELLS as u64 {
+        Ok(())
+    } else {
+        Err(ReadError::Limit {
+            what: What::Cells,
+            number: cells,
+            bound: MOST_MAP_CELLS as u64,
+        })
+    }
+}
+
+// Reads a number that has to be the same as another.
+fn read_same<S: Shelf>(
+    file: &mut FileReader,
+    wanted: u32,
+    shelf: &mut S,
+    name: &str,
+) -> Result<u32, ReadError>
+    requires follows { Follows name.now (S.state shelf.old) file.old }
+    requires room { file.old.at + 4 < 2 ^ 63 }
+    ensures answer { ReadsFrom ⊥ name.now file.old.at (S.state shelf.old) (S.state shelf.new)
+        file.new (number_read w32 (same_rule wanted)) result }
+    ensures same { IfOk result (λ m. m ≡ wanted) }
+    ensures place { OnOk result (file.new.at ≡ file.old.at + 4) }
+    ensures reads { OnlyReads (S.state shelf.old) (S.state shelf.new) }
+{
+    let at = file.place();
+    let n = file.u32(shelf, name)?;
+    lawful_same(n, wanted, at)
+}
+
+// Reads a number below a bound.
+fn read_below<S: Shelf>(
+    file: &mut FileReader,
+    bound: u32,
+    shelf: &mut S,
+    name: &str,
+) -> Result<u16, ReadError>
+    requires follows { Follows name.now (S.state shelf.old) file.old }
+    requires room { file.old.at + 2 < 2 ^ 63 }
+    ensures answer { ReadsFrom ⊥ name.now file.old.at (S.state shelf.old) (S.state shelf.new)
+        file.new (number_read w16 (below_rule bound)) result }
+    ensures below { IfOk result (λ n. n < bound) }
+    ensures place { OnOk result (file.new.at ≡ file.old.at + 2) }
+    ensures reads { OnlyReads (S.state shelf.old) (S.state shelf.new) }
+{
+    let at = file.place();
+    let n = file.u16(shelf, name)?;
+    lawful_below(n, bound, at)
+}
+
+// Reads the number of a sample.
+fn read_part<S: Shelf>(
+    file: &mut FileReader,
+    count: u32,
+    shelf: &mut S,
+    name: &str,
+) -> Result<u32, ReadError>
+    requires follows { Follows name.now (S.state shelf.old) file.old }
+    requires room { file.old.at + 2 < 2 ^ 63 }
+    ensures answer { ReadsFrom ⊥ name.now file.old.at (S.state shelf.old) (S.state shelf.new)
+        file.new (number_read w16 (part_rule count)) result }
+    ensures within { IfOk result (λ n. (1 ≤ n) × (n ≤ count)) }
+    ensures place { OnOk result (file.new.at ≡ file.old.at + 2) }
+    ensures reads { OnlyReads (S.state shelf.old) (S.state shelf.new) }
+{
+    let at = file.place();
+    let n = file.u16(shelf, name)?;
+    lawful_part(n, count, at)
+}
+
+// The place of three counts.
+fn place_at(x: u16, y: u16, f: u16) -> At
+    ensures { result ≡ spot x y f }
+{
+    At {
+        x: i32::from(x),
+        y: i32::from(y),
+        f: i32::from(f),
+    }
+}
+
+// Reads a place inside a size.
+fn read_place<S: Shelf>(
+    file: &mut FileReader,
+    size: Size,
+    shelf: &mut S,
+    name: &str,
+) -> Result<At, ReadError>
+    requires follows { Follows name.now (S.state shelf.old) file.old }
+    requires room { file.old.at + 6 < 2 ^ 63 }
+    ensures answer { ReadsFrom ⊥ name.now file.old.at (S.state shelf.old)
+        (S.state shelf.new) file.new (place_read size) result }
+    ensures inside { IfOk result (IsInside size) }
+    ensures place { OnOk result (file.new.at ≡ file.old.at + 6) }
+    ensures reads { OnlyReads (S.state shelf.old) (S.state shelf.new) }
+{
+    let x = read_below(file, size.w, shelf, name)?;
+    let y = read_below(file, size.h, shelf, name)?;
+    let f = read_below(file, size.f, shelf, name)?;
+    Ok(place_at(x, y, f))
+}
+
+// Reads the number of one of these samples.
+fn read_number<S: Shelf>(
+    file: &mut FileReader,
+    samples: &Sizes,
+    shelf: &mut S,
+    name: &str,
+) -> Result<u32, ReadError>
+    requires follows { Follows name.now (S.state shelf.old) file.old }
+    requires room { file.old.at + 2 < 2 ^ 63 }
+    ensures answer { ReadsFrom ⊥ name.now file.old.at (S.state shelf.old) (S.state shelf.new)
+        file.new (number_read w16 (part_rule (length samples.now))) result }
+    ensures within { IfOk result (λ n. (1 ≤ n) × (n ≤ length samples.now)) }
+    ensures place { OnOk result (file.new.at ≡ file.old.at + 2) }
+    ensures reads { OnlyReads (S.state shelf.old) (S.state shelf.new) }
+{
+    read_part(file, samples.len(), shelf, name)
+}
+
+// Reads a place in a sample.
+fn read_place_in<S: Shelf>(
+    file: &mut FileReader,
+    samples: &Sizes,
+    part: u32,
+    shelf: &mut S,
+    name: &str,
+) -> Result<At, ReadError>
+    requires follows { Follows name.now (S.state shelf.old) file.old }
+    requires room { file.old.at + 6 < 2 ^ 63 }
+    requires samples { AreSizes samples.now }
+    requires from { 1 ≤ part }
+    requires to { part ≤ length samples.now }
+    ensures answer { ReadsFrom ⊥ name.now file.old.at (S.state shelf.old) (S.state shelf.new)
+        file.new (place_read (numbered_size samples.now part)) result }
+    ensures inside { IfOk result (IsInPart samples.now part) }
+    ensures source { IfOk result IsSource }
+    ensures stock { IfOk result (λ p. IsSource (stock_place samples.now part p)) }
+    ensures in_samples { IfOk result (λ p. IsInSamples samples.now (stock_place samples.now part p)) }
+    ensures in_one { IfOk result (λ p. part ≡ 1 → IsInSamples samples.now p) }
+    ensures place { OnOk result (file.new.at ≡ file.old.at + 6) }
+    ensures reads { OnlyReads (S.state shelf.old) (S.state shelf.new) }
+{
+    read_place(file, samples.at(part), shelf, name)
+}
+
+// Reads the source of a cell, in version 1.
+fn read_place_source<S: Shelf>(
+    file: &mut FileReader,
+    samples: &Sizes,
+    shelf: &mut S,
+    name: &str,
+) -> Result<Option<At>, ReadError>
+    requires follows { Follows name.now (S.state shelf.old) file.old }
+    requires room { file.old.at + 6 < 2 ^ 63 }
+    requires samples { AreSizes samples.now }
+    ensures answer { ReadsFrom ⊥ name.now file.old.at (S.state shelf.old)
+        (S.state shelf.new) file.new (source_read Version.One samples.now) result }
+    ensures source { IfOk result (λ source. IfSome source IsSource) }
+    ensures inside { IfOk result (λ source. IsSomeAnd source (IsInSamples samples.now)) }
+    ensures place { OnOk result (file.new.at ≡ file.old.at + 6) }
+    ensures reads { OnlyReads (S.state shelf.old) (S.state shelf.new) }
+{
+    let from = read_place_in(file, samples, 1, shelf, name)?;
+    Ok(Some(from))
+}
+
+// Reads the source of a cell, in version 2.
+fn read_numbered_source<S: Shelf>(
+    file: &mut FileReader,
+    samples: &Sizes,
+    shelf: &mut S,
+    name: &str,
+) -> Result<Option<At>, ReadError>
+    requires follows { Follows name.now (S.state shelf.old) file.old }
+    requires room { file.old.at + 8 < 2 ^ 63 }
+    requires samples { AreSizes samples.now }
+    ensures answer { ReadsFrom ⊥ name.now file.old.at (S.state shelf.old)
+        (S.state shelf.new) file.new (source_read Version.Two samples.now) result }
+    ensures source { IfOk result (λ source. IfSome source IsSource) }
+    ensures inside { IfOk result (λ source. IsSomeAnd source (IsInSamples samples.now)) }
+    ensures place { OnOk result (file.new.at ≡ file.old.at + 8) }
+    ensures reads { OnlyReads (S.state shelf.old) (S.state shelf.new) }
+{
+    let part = read_number(file, samples, shelf, name)?;
+    let at = read_place_in(file, samples, part, shelf, name)?;
+    Ok(Some(samples.stock(part, at)))
+}
+
+// Reads the source of a cell.
+fn read_source<S: Shelf>(
+    file: &mut FileReader,
+    version: Version,
+    samples: &Sizes,
+    shelf: &mut S,
+    name: &str,
+) -> Result<Option<At>, ReadError>
+    requires follows { Follows name.now (S.state shelf.old) file.old }
+    requires room { file.old.at + 8 < 2 ^ 63 }
+    requires samples { AreSizes samples.now }
+    ensures answer { ReadsFrom ⊥ name.now file.old.at (S.state shelf.old)
+        (S.state shelf.new) file.new (source_read version samples.now) result }
+    ensures source { IfOk result (λ source. IfSome source IsSource) }
+    ensures inside { IfOk result (λ source. IsSomeAnd source (IsInSamples samples.now)) }
+    ensures place { OnOk result (file.new.at ≤ file.old.at + 8) }
+    ensures reads { OnlyReads (S.state shelf.old) (S.state shelf.new) }
+{
+    match version {
+        Version::One => read_place_source(file, samples, shelf, name),
+        Version::Two => read_numbered_source(file, samples, shelf, name),
+    }
+}
+
+// Reads the sources of all cells of an output.
+fn read_sources<S: Shelf>(
+    alloc: Global,
+    file: &mut FileReader,
+    version: Version,
+    samples: &Sizes,
+    size: Size,
+    shelf: &mut S,
+    name: &str,
+) -> Result<Map, ReadError>
+    requires follows { Follows name.now (S.state shelf.old) file.old }
+    requires room { file.old.at ≤ 216 }
+    requires samples { AreSizes samples.now }
+    requires small { IsSmall size }
+    ensures answer { ReadsFrom (Unit {0}) name.now file.old.at (S.state shelf.old)
+        (S.state shelf.new) file.new (sources_read version samples.now size) result }
+    ensures map { IfOk result IsMap }
+    ensures size { IfOk result (λ m. m.size ≡ size) }
+    ensures inside { IfOk result (λ m.
+        All (λ source. IsSomeAnd source (IsInSamples samples.now)) m.sources) }
+    ensures place { OnOk result (file.new.at ≤ file.old.at + 8 * cell_count size) }
+    ensures reads { OnlyReads (S.state shelf.old) (S.state shelf.new) }
+{
+    let count = size.cells();
+    let mut sources = Vec::new(alloc);
+    for i in 0..count {
+        make_room(&mut sources, count - i)?;
+        let source = read_source(file, version, samples, shelf, name)?;
+        let Ok(()) = sources.push(source) else {
+            return Err(ReadError::NoMemory);
+        };
+    }
+    Ok(Map::from_sources(size, sources))
+}
+
+// Reads the samples' sizes of a map, and tries the limit on the output's cells.
+fn read_map_samples<S: Shelf>(
+    file: &mut FileReader,
+    version: Version,
+    output: Size,
+    shelf: &mut S,
+    name: &str,
+) -> Result<Sizes, ReadError>
+    requires follows { Follows name.now (S.state shelf.old) file.old }
+    requires room { file.old.at + 194 < 2 ^ 63 }
+    requires axes { HasAxes output }
+    ensures answer { ReadsFrom ⊥ name.now file.old.at (S.state shelf.old)
+        (S.state shelf.new) file.new (samples_read version output) result }
+    ensures samples { IfOk result (AreSamples version) }
+    ensures small { OnOk result (IsSmall output) }
+    ensures few { OnOk result (cell_count output ≤ MOST_MAP_CELLS) }
+    ensures place { OnOk result (file.new.at ≤ file.old.at + 194) }
+    ensures reads { OnlyReads (S.state shelf.old) (S.state shelf.new) }
+{
+    let samples = read_samples(file, version, shelf, name)?;
+    few_cells(output)?;
+    Ok(samples)
+}
+
+// Reads the sample's size of a frame map.
+fn read_sample<S: Shelf>(
+    file: &mut FileReader,
+    output: Size,
+    shelf: &mut S,
+    name: &str,
+) -> Result<Size, ReadError>
+    requires follows { Follows name.now (S.state shelf.old) file.old }
+    requires axes { HasAxes output }
+    requires room { file.old.at + 12 < 2 ^ 63 }
+    ensures answer { ReadsFrom ⊥ name.now file.old.at (S.state shelf.old)
+        (S.state shelf.new) file.new (sample_read output) result }
+    ensures axes { IfOk result HasAxes }
+    ensures same { IfOk result (λ sample. (sample.w ≡ output.w) × (sample.h ≡ output.h)) }
+    ensures place { OnOk result (file.new.at ≡ file.old.at + 12) }
+    ensures reads { OnlyReads (S.state shelf.old) (S.state shelf.new) }
+{
+    let w = read_same(file, output.w, shelf, name)?;
+    let h = read_same(file, output.h, shelf, name)?;
+    let f = read_axis(file, shelf, name)?;
+    Ok(Size { w, h, f })
+}
+
+// Reads so many frames of a sample.
+fn read_entries<S: Shelf>(
+    alloc: Global,
+    file: &mut FileReader,
+    count: u32,
+    bound: u32,
+    shelf: &mut S,
+    name: &str,
+) -> Result<Items<u16>, ReadError>
+    requires follows { Follows name.now (S.state shelf.old) file.old }
+    requires room { file.old.at ≤ 216 }
+    ensures answer { ReadsFrom (Unit {0}) name.now file.old.at (S.state shelf.old)
+        (S.state shelf.new) file.new
+        (list_read (number_read w16 (below_rule bound)) count) result }
+    ensures count { IfOk result (λ frames. length frames ≡ count) }
+    ensures below { IfOk result (All (λ e. e < bound)) }
+    ensures reads { OnlyReads (S.state shelf.old) (S.state shelf.new) }
+{
+    let mut frames = Vec::new(alloc);
+    for i in 0..count {
+        make_room(&mut frames, (count - i) as usize)?;
+        let frame = read_below(file, bound, shelf, name)?;
+        let Ok(()) = frames.push(frame) else {
+            return Err(ReadError::NoMemory);
+        };
+    }
+    Ok(Items::from_vec(frames))
+}
+
+// Reads what follows the output's size in a frame map.
+fn read_frames<S: Shelf>(
+    alloc: Global,
+    file: &mut FileReader,
+    size: Size,
+    shelf: &mut S,
+    name: &str,
+) -> Result<MapFile, ReadError>
+    requires follows { Follows name.now (S.state shelf.old) file.old }
+    requires room { file.old.at ≤ 22 }
+    requires axes { HasAxes size }
+    ensures answer { ReadsFrom (Unit {0}) name.now file.old.at (S.state shelf.old)
+        (S.state shelf.new) file.new (frames_read size) result }
+    ensures lawful { IfOk result IsMapFile }
+    ensures reads { OnlyReads (S.state shelf.old) (S.state shelf.new) }
+{
+    let sample = read_sample(file, size, shelf, name)?;
+    let frames = read_entries(alloc, file, size.f, sample.f, shelf, name)?;
+    Ok(MapFile::Frames {
+        size,
+        sample,
+        frames,
+    })
+}
+
+// Reads what follows the output's size in a cell map.
+fn read_cells<S: Shelf>(
+    alloc: Global,
+    file: &mut FileReader,
+    version: Version,
+    size: Size,
+    shelf: &mut S,
+    name: &str,
+) -> Result<MapFile, ReadError>
+    requires follows { Follows name.now (S.state shelf.old) file.old }
+    requires room { file.old.at ≤ 22 }
+    requires axes { HasAxes size }
+    ensures answer { ReadsFrom (Unit {0}) name.now file.old.at (S.state shelf.old)
+        (S.state shelf.new) file.new (cells_read version size) result }
+    ensures lawful { IfOk result IsMapFile }
+    ensures reads { OnlyReads (S.state shelf.old) (S.state shelf.new) }
+{
+    let samples = read_map_samples(file, version, size, shelf, name)?;
+    let map = read_sources(alloc, file, version, &samples, size, shelf, name)?;
+    Ok(MapFile::Cells {
+        map,
+        samples,
+        version,
+    })
+}
+
+// Reads what follows the output's size.
+fn read_body<S: Shelf>(
+    alloc: Global,
+    file: &mut FileReader,
+    start: Start,
+    shelf: &mut S,
+    name: &str,
+) -> Result<MapFile, ReadError>
+    requires follows { Follows name.now (S.state shelf.old) file.old }
+    requires room { file.old.at ≤ 22 }
+    requires axes { HasAxes start.output }
+    ensures answer { ReadsFrom (Unit {0}) name.now file.old.at (S.state shelf.old)
+        (S.state shelf.new) file.new (body_read start) result }
+    ensures lawful { IfOk result IsMapFile }
+    ensures reads { OnlyReads (S.state shelf.old) (S.state shelf.new) }
+{
+    if start.kind == 1 {
+        read_frames(alloc, file, start.output, shelf, name)
+    } else {
+        read_cells(alloc, file, start.version, start.output, shelf, name)
+    }
+}
+
+// Reads a map, and not whether the file ends after it.
+fn read_value<S: Shelf>(
+    alloc: Global,
+    file: &mut FileReader,
+    shelf: &mut S,
+    name: &str,
+) -> Result<MapFile, ReadError>
+    requires follows { Follows name.now (S.state shelf.old) file.old }
+    requires start { file.old.at ≡ 0 }
+    ensures answer { ReadsFrom (Unit {0}) name.now file.old.at (S.state shelf.old)
+        (S.state shelf.new) file.new value_read result }
+    ensures lawful { IfOk result IsMapFile }
+    ensures reads { OnlyReads (S.state shelf.old) (S.state shelf.new) }
+{
+    let start = read_start(file, MAGIC, 2, shelf, name)?;
+    read_body(alloc, file, start, shelf, name)
+}
+
+/// Reads a map from the named file, of either kind and version, to the file's end. It takes memory as
+/// the sources come.
+///
+/// The refusals, in the order of the fields: `Bad(Form)` at the file's length where the file ends within
+/// a field, and else at the first byte of a field that has no lawful value (the magic is one field, each
+/// number is one); `Limit Axis` (4,096) for an axis of the output or of a sample; `Limit Cells` (2^20)
+/// after the last sample size of a cell map; and `Bad(Form)` at the first byte that follows the last
+/// field. `ReadFault` comes wherever a read fails, and `NoMemory` may come at any place.
+pub fn read_map<S: Shelf>(alloc: Global, shelf: &mut S, name: &str) -> Result<MapFile, ReadError>
+    ensures answer { MapReadsAs name.now (S.state shelf.old) (S.state shelf.new) result }
+    ensures lawful { IfOk result IsMapFile }
+    ensures reads { OnlyReads (S.state shelf.old) (S.state shelf.new) }
+{
+    let mut file = FileReader::new();
+    let value = read_value(alloc, &mut file, shelf, name)?;
+    file.end(shelf, name)?;
+    Ok(value)
+}

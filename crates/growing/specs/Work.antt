@@ -36,7 +36,7 @@ Advances plan sample was now (Err error) = IsGrowFault plan sample error
 
 -- all steps
 abbrev pub Lays : Plan → Cells → Result Work GrowError → Type 0
-Lays plan sample (Ok now) = IsWork plan sample now × (first_unfilled now.canvas.map ≡ None)
+Lays plan sample (Ok now) = IsWork plan sample now × IsFull now.canvas.map
 Lays plan sample (Err error) = IsGrowFault plan sample error
 
 -- every cell is filled, and the table is right

@@ -1,7 +1,7 @@
 // The whole run.
-ghost use Rattle.std.specs.Prelude.{◌≡◌, ◌≤◌, None};
+ghost use Rattle.std.specs.Prelude.{◌≤◌};
 ghost use Rattle.cells.specs.Places.{IsSmall};
-ghost use Rattle.map_canvas.specs.Maps.{first_unfilled};
+ghost use Rattle.map_canvas.specs.Maps.{IsFull};
 ghost use Rattle.patch_place.specs.Fitting.{HasPatch};
 ghost use Rattle.growing.specs.Grown.{Grows};
 ghost use Rattle.growing.specs.Work.{Ends, IsWork, Lays};
@@ -31,7 +31,7 @@ fn lay_all(alloc: Global, plan: &Plan, sample: &Volume) -> Result<Work, GrowErro
 // Makes all rounds.
 fn refine_all(alloc: Global, plan: &Plan, sample: &Volume, work: &mut Work) -> Result<(), GrowError>
     requires work { IsWork plan.now sample.now work.old }
-    requires full { first_unfilled work.old.canvas.map ≡ None }
+    requires full { IsFull work.old.canvas.map }
     requires side { 1 ≤ plan.now.side }
     ensures { Ends plan.now sample.now work.new result }
 {

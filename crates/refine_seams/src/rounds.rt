@@ -37,6 +37,7 @@ fn worst_box(canvas: &Canvas, sample: &Volume, side: u32, table: &SeamTable) -> 
 /// by a graph cut. The canvas is full, and the table has the sums of its windows of the size that
 /// `window_size` gives, before and after. None where no window costs anything; nothing is changed then. The
 /// one error is that there is no memory, and changes nothing.
+#[tactic(auto, using(crate::proofs::Rounding::stays_full))]
 pub fn round(
     alloc: Global,
     canvas: &mut Canvas,

@@ -1,22 +1,12 @@
-use Rattle.std.proofs.Common.{◌∙◌, ap, sym, subst, arith, inl}
+use Rattle.std.proofs.Common.{◌∙◌, ap, sym, subst}
 use mathlib.Core.Bool.{false≢true}
 use Rattle.cells.specs.declared.place.Size.{Size}
 use Rattle.cells.specs.Boxes.{HasCells}
 use Rattle.map_canvas.specs.Maps.{SourceMap}
-use Rattle.map_canvas.proofs.EmptyAndFull.{whole_is_full}
 use Rattle.patch_place.specs.Fitting.{HasRoom}
 use Rattle.patch_place.specs.Modes.{window}
 use Rattle.refine_seams.proofs.Rounding.{small_cells}
 use Rattle.growing.proofs.grow.refine_all.Goals as goal
-
-pub returns-then-plan-eq0 : goal.returns-then-plan-eq0
-returns-then-plan-eq0 c = (
-  c.requires.work,
-  record {
-    full = whole_is_full c.args.work.now.canvas.map c.requires.work.canvas.map c.requires.full;
-    rounds = inl (omega (arith, c.requires.work.rounds, c.if-plan-eq0.true));
-  },
-)
 
 pub make-requires-clause-window : goal.make-requires-clause-window
 make-requires-clause-window c =
@@ -34,7 +24,7 @@ pub refining-init : goal.refining-init
 refining-init c = record {
   refining = record {
     so_far = c.requires.work;
-    full = whole_is_full c.args.work.now.canvas.map c.requires.work.canvas.map c.requires.full;
+    full = c.requires.full;
     right = record {
       output = c.in_ok-table.ensures.sizes.0;
       window = c.in_ok-table.ensures.sizes.1 ∙ c.window_size-window.ensures.size

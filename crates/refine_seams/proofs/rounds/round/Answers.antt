@@ -1,12 +1,6 @@
-use Rattle.std.proofs.Common.{◌≡◌, [], ◌∙◌, ap, sym, subst}
-use Rattle.cells.specs.declared.place.Size.{Size}
 use Rattle.cells.specs.Distances.{distance}
-use Rattle.map_canvas.specs.declared.canvas.Placement.{Placement}
 use Rattle.seam_cost.proofs.Besides.{right_beside_choice}
-use Rattle.patch_place.specs.Modes.{window}
-use Rattle.graph_place.specs.Placed.{IsPlaced}
-use Rattle.refine_seams.specs.Rounds.{IsRoundAt}
-use Rattle.refine_seams.proofs.Rounding.{each_fits, some_entry, stays_full}
+use Rattle.refine_seams.proofs.Rounding.{each_fits, some_entry}
 use Rattle.refine_seams.proofs.rounds.round.Goals as goal
 
 pub pick-requires-clause-some : goal.pick-requires-clause-some
@@ -19,29 +13,3 @@ pub update-requires-clause-beside : goal.update-requires-clause-beside
 update-requires-clause-beside c =
     right_beside_choice (distance c.args.sample.now) c.args.canvas.now.map c.place.new.canvas.map c.in_ok-placement.placement c.in-Ok.cut.choice c.args.table.now
     c.in-Ok.ensures.placed.each c.requires.table.right
-
-pub returns-clause-made : goal.returns-clause-made
-returns-clause-made c =
-    let placed = c.in-Ok.ensures.placed in
-    let here : c.in_ok-placement.placement ≡ c.in-Ok.cut.placement = sym placed.same_placement in
-    record {
-      next = subst (IsRoundAt c.args.side c.args.tol c.args.canvas.now.map c.args.sample.now c.args.draws.now) here (record {
-        rect = c.in-Some.rect;
-        worst = c.in-Some.ensures.worst;
-        picked = c.in_ok-placement.ensures.picked;
-        fits = c.in_ok-placement.ensures.fits;
-      });
-      placed = subst (λ (p : Placement). IsPlaced c.args.canvas.now c.args.sample.now p [] c.place.new.canvas c.in-Ok.cut) here placed;
-      draws = c.in_ok-placement.ensures.next;
-      table = record {
-        output = c.update.ensures.sizes.0 ∙ c.requires.table.output ∙ sym placed.each.size;
-        window = c.update.ensures.sizes.1 ∙ c.requires.table.window ∙ ap (λ (size : Size). window c.args.side size c.args.sample.now) (sym placed.each.size);
-        right = c.update.ensures.right;
-      };
-    }
-
-pub returns-clause-full : goal.returns-clause-full
-returns-clause-full c = stays_full c.args.canvas.now.map c.place.new.canvas.map c.in_ok-placement.placement c.in-Ok.cut.choice c.requires.full c.in-Ok.ensures.placed.each
-
-pub returns-clause-lower : goal.returns-clause-lower
-returns-clause-lower c = c.in-Ok.ensures.total c.requires.full

@@ -5,6 +5,4 @@
 #[cfg(test)]
 mod canvases;
 #[cfg(test)]
-mod map_files;
-#[cfg(test)]
 mod volumes;

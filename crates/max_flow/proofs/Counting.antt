@@ -7,7 +7,7 @@ use Rattle.max_flow.specs.declared.network.Pipe.{Pipe}
 use Rattle.max_flow.specs.Networks.{pipe_at, no_pipe}
 use Rattle.max_flow.specs.Flows.{part_if, net_leaving}
 use Rattle.max_flow.specs.Residual.{Carries, flows_of, excess}
-use Rattle.max_flow.specs.Checking.{excess_at, AddsAt, CountsPipe, AreExcesses, IsBalanced}
+use Rattle.max_flow.specs.Checking.{excess_at, AddsAt, CountsPipe, AreExcesses, IsBalancedBetween}
 
 part_opposite : (b : Bool) (y z : ℤ) → y +ℤ z ≡ pos 0 → part_if b y +ℤ part_if b z ≡ pos 0
 part_opposite true y z e = e
@@ -63,7 +63,7 @@ AreCountedFrom_all pipes backward table left sized from_left none = let h = subs
 }
 
 -- a flow that balances has the value that leaves the source
-pub Carries_counted : (pipes : List Pipe) (source sink : ℕ) (backward : List ℕ) (table : List ℤ) (value : ℕ) → AreExcesses pipes backward table → IsBalanced source sink table → excess_at table source ≡ pos value
+pub Carries_counted : (pipes : List Pipe) (source sink : ℕ) (backward : List ℕ) (table : List ℤ) (value : ℕ) → AreExcesses pipes backward table → IsBalancedBetween source sink table → excess_at table source ≡ pos value
     → Carries pipes source sink backward value
 Carries_counted pipes source sink backward table value h balanced is = record {
   residuals = h.residuals;

@@ -26,5 +26,5 @@ pub record AreExcesses (pipes : List Pipe) (backward : List ℕ) (table : List �
   pub counted : (n : ℕ) → excess_at table n ≡ excess pipes backward n
 
 -- as much leaves as enters at each node but the two ends
-abbrev pub IsBalanced : ℕ → ℕ → List ℤ → Type 0
-IsBalanced source sink table = (n : ℕ) → n ≢ source → n ≢ sink → excess_at table n ≡ pos 0
+abbrev pub IsBalancedBetween : ℕ → ℕ → List ℤ → Type 0
+IsBalancedBetween source sink table = (n : ℕ) → n ≢ source → n ≢ sink → excess_at table n ≡ pos 0

@@ -5,7 +5,7 @@ ghost use Rattle.std.specs.Prelude.{◌≡◌, ◌<◌, ℤ, All, IfSome, length
 ghost use Rattle.std.specs.Bool.{OnTrue};
 ghost use Rattle.max_flow.specs.Networks.{IsPipeOf};
 ghost use Rattle.max_flow.specs.Residual.{Carries};
-ghost use Rattle.max_flow.specs.Checking.{AddsAt, CountsPipe, AreExcesses, IsBalanced};
+ghost use Rattle.max_flow.specs.Checking.{AddsAt, CountsPipe, AreExcesses, IsBalancedBetween};
 
 use crate::network::Pipe;
 
@@ -56,7 +56,7 @@ fn count_pipes(pipes: &[Pipe], nodes: u32, backward: &[u32], excess: &mut [i64])
 
 // Whether as much leaves as enters at each node but the two ends.
 fn is_balanced(excess: &[i64], source: usize, sink: usize) -> bool
-    ensures { OnTrue result (IsBalanced source sink excess.now) }
+    ensures { OnTrue result (IsBalancedBetween source sink excess.now) }
 {
     for n in 0..excess.len() {
         if n != source && n != sink && excess[n] != 0 {

@@ -1,10 +1,9 @@
 -- What the scanner makes of a file's front tells the answer of its stream line.
-use Rattle.std.proofs.Common.{◌≡◌, ℕ, zero, suc, ◌≤◌, ◌<◌, ◌+◌, ◌-◌, ◌⊎◌, inl, inr, List, [], ◌∷◌, ◌++◌, length, take, drop, min, refl, sym, ap, ◌∙◌, subst, arith, append_assoc, Bool, true, false, cond}
-use Rattle.std.specs.Prelude.{Option, Some, None, nat_lt, replicate, Result, Ok, Err, IfOk}
-use Rattle.std.proofs.lemmas.List.{append-nil, length-append, take-append-drop, length-take-le, take-take, take_all, length-drop}
+use Rattle.std.proofs.Common.{◌≡◌, ℕ, zero, suc, ◌≤◌, ◌<◌, ◌+◌, ◌-◌, inl, inr, List, [], ◌∷◌, ◌++◌, length, take, drop, min, refl, sym, ap, ◌∙◌, subst, arith, append_assoc, Bool, true, false, cond}
+use Rattle.std.specs.Prelude.{Some, None, nat_lt, replicate, Ok, Err, IfOk}
+use Rattle.std.proofs.lemmas.List.{append-nil, length-append, take-append-drop, length-take-le, take-take, length-drop}
 use Rattle.std.proofs.lemmas.Bool.{ltb-true, ltb-false}
-use Rattle.shelf_core.specs.declared.fault.ReadError.{ReadError}
-use Rattle.shelf_core.specs.declared.fault.ReadError.TheVariants.{ReadFault, Bad, Limit, NoMemory}
+use Rattle.shelf_core.specs.declared.fault.ReadError.TheVariants.{Bad, Limit}
 use Rattle.shelf_core.specs.declared.fault.FormFault.TheVariants.{Form}
 use Rattle.shelf_core.specs.declared.fault.What.TheVariants.{Header}
 use Rattle.shelf_core.specs.Files.{ShelfState, Reads, content_of, Changes}
@@ -12,9 +11,9 @@ use Rattle.y4m_clip.specs.declared.scan.Scan.TheVariants.{Magic, Whole}
 use Rattle.y4m_clip.specs.declared.scan.Scanned.{Scanned}
 use Rattle.y4m_clip.specs.declared.scan.Scanned.TheVariants.{Open, Broken, Ended}
 use Rattle.y4m_clip.specs.StreamLine.{Continues, IsStreamLine, IsLinePrefix, IsProperLinePrefix}
-use Rattle.y4m_clip.specs.Scanning.{line_run, IsSoundLine}
-use Rattle.y4m_clip.specs.Reading.{GoesWrong, EndsAfter, IsStreamScanned, line_judged, IsLineFound, FindsLineAs}
-use Rattle.y4m_clip.specs.Refusals.{LineBreaks, LineTooLong}
+use Rattle.y4m_clip.specs.Scanning.{line_run}
+use Rattle.y4m_clip.specs.Reading.{GoesWrong, EndsAfter, IsStreamScanned, IsLineOf, line_judged, IsLineFound, FindsLineAs}
+use Rattle.y4m_clip.specs.Refusals.{LineBreaks}
 use Rattle.y4m_clip.proofs.Runs.{run_then}
 use Rattle.y4m_clip.proofs.Prefixes.{magic, line_runs}
 use Rattle.y4m_clip.proofs.Sees.{Sees, sees_weaker}
@@ -174,3 +173,20 @@ judged_sound text count (Ended n) is = tested (nat_lt 4096 n) refl
     tested : (past : Bool) → nat_lt 4096 n ≡ past → IfOk (cond past (Err (Limit Header 4097 4096)) (Ok n)) (λ m. (10 ≤ m) × (m ≤ 4096))
     tested true e = tt
     tested false e = (omega (arith, length-take-le n text is.inside, ap length whole.is, length-append magic whole.rest, some_continues [] is.line.0 whole.rest whole.continues), ltb-false 4096 n e)
+
+-- the line that was found stands in what was scanned
+pub judged_line : (buffer : List ℕ) (count : ℕ) (scanned : Scanned) → IsStreamScanned (take count buffer) scanned → count ≤ length buffer → IfOk (line_judged count scanned) (λ n. IsLineOf (take n buffer))
+judged_line buffer count Open is le = tested (nat_lt 4096 count)
+  where
+    tested : (past : Bool) → IfOk (cond past (Err (Limit Header 4097 4096)) (Err (Bad (Form count)))) (λ n. IsLineOf (take n buffer))
+    tested true = tt
+    tested false = tt
+judged_line buffer count (Broken i) is le = tt
+judged_line buffer count (Ended n) is le = tested (nat_lt 4096 n)
+  where
+    front : take n (take count buffer) ≡ take n buffer
+    front = take-take n count buffer (omega (arith, is.inside, length-take-le count buffer le))
+
+    tested : (past : Bool) → IfOk (cond past (Err (Limit Header 4097 4096)) (Ok n)) (λ m. IsLineOf (take m buffer))
+    tested true = tt
+    tested false = (is.line.0, subst (λ t. IsStreamLine t is.line.0) front is.line.1)

@@ -6,3 +6,11 @@ pub mod Prefixes
 pub mod FileLines
 pub mod Words
 pub mod Numbers
+pub mod FrameLines
+pub mod Joined
+pub mod FrameSteps
+pub mod FramesLaws
+pub mod FramesEnd
+pub mod TagLaws
+pub mod FrontLaws
+pub mod ClipLaws

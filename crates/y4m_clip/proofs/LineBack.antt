@@ -1,12 +1,12 @@
 -- Back along the scanner's steps: what completes a line behind a byte completes it before with the byte, and each place can be completed.
-use Rattle.std.proofs.Common.{◌≡◌, ℕ, zero, suc, ◌≤◌, ◌<◌, ◌+◌, ◌-◌, ◌⊎◌, inl, inr, List, [], ◌∷◌, ◌++◌, length, take, refl, sym, ap, ◌∙◌, subst, arith, Bool, true, false, cond}
-use Rattle.std.specs.Prelude.{Option, Some, None, option_and_then, ◌≢◌, ◌==◌, nat_le, nat_lt, ◌&&◌, ◌||◌, not, replicate, codes}
+use Rattle.std.proofs.Common.{◌≡◌, ℕ, suc, ◌⊎◌, inl, inr, List, [], ◌∷◌, ◌++◌, refl, sym, ap, ◌∙◌, subst, arith, Bool, true, false, cond}
+use Rattle.std.specs.Prelude.{Option, Some, None, option_and_then, ◌==◌, nat_le, nat_lt, ◌&&◌, ◌||◌, not}
 use Rattle.std.specs.List.{AllByRecursion, list_any}
 use Rattle.y4m_clip.specs.declared.scan.Letters.{Letters}
 use Rattle.y4m_clip.specs.declared.scan.Scan.{Scan}
 use Rattle.y4m_clip.specs.declared.scan.Scan.TheVariants.{Magic, Gap, Value, Number, Whole}
 use Rattle.y4m_clip.specs.StreamLine.{IsInk, is_axis, IsCount, HasValue, IsValue}
-use Rattle.y4m_clip.specs.Scanning.{line_kind, no_letters, with_letter, may_follow, line_ended, tag_entered, in_gap, in_value, after_digit, in_number, line_step, line_run}
+use Rattle.y4m_clip.specs.Scanning.{line_kind, no_letters, with_letter, may_follow, line_ended, tag_entered, in_gap, in_value, in_number, line_step, line_run}
 use Rattle.y4m_clip.proofs.Lines.{Goes, InTag, IsRest, Completes, ink_kind, kinds, test_digit, or_sooner}
 
 some_same : {A : Type 0} (x y : A) → Some x ≡ Some y → x ≡ y

@@ -1,18 +1,16 @@
 -- The scanner and the grammar of stream lines agree: each place of the scanner has the texts that complete a line there, and a step goes to the
 -- texts behind a byte.
-use Rattle.std.proofs.Common.{◌≡◌, ℕ, zero, suc, ◌≤◌, ◌<◌, ◌+◌, ◌-◌, ◌⊎◌, inl, inr, List, [], ◌∷◌, ◌++◌, length, take, refl, sym, ap, ◌∙◌, subst, arith, Bool, true, false, cond}
-use Rattle.std.specs.Prelude.{Option, Some, None, option_and_then, ◌≢◌, ◌==◌, nat_le, nat_lt, ◌&&◌, ◌||◌, not, replicate, codes}
+use Rattle.std.proofs.Common.{◌≡◌, ℕ, zero, suc, ◌⊎◌, inl, inr, List, [], ◌∷◌, ◌++◌, refl, sym, ap, ◌∙◌, subst, arith, Bool, true, false, cond}
+use Rattle.std.specs.Prelude.{Some, None, option_and_then, ◌==◌, nat_le, nat_lt, ◌&&◌, ◌||◌, replicate}
 use Rattle.std.specs.List.{AllByRecursion, list_any}
-use Rattle.std.proofs.lemmas.List.{append-nil}
-use Rattle.std.proofs.lemmas.Bool.{eqb-true, eqb-false, ne_eqb}
+use Rattle.std.proofs.lemmas.Bool.{eqb-true, eqb-false}
 use Rattle.std.proofs.lemmas.Bool.Decides.{nat_tests}
-use Rattle.y4m_clip.specs.declared.scan.Kind.{Kind}
-use Rattle.y4m_clip.specs.declared.scan.Kind.TheVariants.{Blank, LineEnd, Ink}
+use Rattle.y4m_clip.specs.declared.scan.Kind.TheVariants.{Ink}
 use Rattle.y4m_clip.specs.declared.scan.Letters.{Letters}
 use Rattle.y4m_clip.specs.declared.scan.Scan.{Scan}
 use Rattle.y4m_clip.specs.declared.scan.Scan.TheVariants.{Magic, Gap, Value, Number, Whole}
-use Rattle.y4m_clip.specs.StreamLine.{IsInk, IsDigit, is_axis, IsCount, HasValue, IsValue, has_stood, Continues}
-use Rattle.y4m_clip.specs.Scanning.{line_kind, no_letters, with_letter, may_follow, line_ended, tag_entered, in_gap, in_value, after_digit, in_number, line_step, line_run}
+use Rattle.y4m_clip.specs.StreamLine.{IsInk, IsDigit, is_axis, HasValue, IsValue, has_stood, Continues}
+use Rattle.y4m_clip.specs.Scanning.{line_kind, no_letters, with_letter, may_follow, line_ended, tag_entered, in_gap, in_value, in_number, line_step, line_run}
 
 -- which letters have stood
 abbrev pub flags_of : List ℕ → Letters

@@ -1,7 +1,7 @@
 -- Prefixes of stream lines, by the scanner.
-use Rattle.std.proofs.Common.{◌≡◌, ℕ, zero, suc, ◌≤◌, ◌<◌, ◌+◌, ◌-◌, ◌⊎◌, inl, inr, List, [], ◌∷◌, ◌++◌, length, take, drop, get_or, refl, sym, ap, ◌∙◌, subst, arith, append_assoc}
-use Rattle.std.specs.Prelude.{Option, Some, None, ◌≢◌, codes}
-use Rattle.std.proofs.lemmas.List.{append-nil, length-append, take-append-drop, get_or-take, length-take-le, length-drop, take-take, take_all}
+use Rattle.std.proofs.Common.{◌≡◌, ℕ, zero, suc, ◌≤◌, ◌<◌, ◌+◌, ◌-◌, List, [], ◌∷◌, ◌++◌, length, take, drop, get_or, refl, sym, ap, ◌∙◌, subst, arith, append_assoc}
+use Rattle.std.specs.Prelude.{Some, None, codes}
+use Rattle.std.proofs.lemmas.List.{append-nil, length-append, take-append-drop, get_or-take, length-take-le, length-drop, take_all}
 use Rattle.std.proofs.Math.Seq.{take-append-add}
 use Rattle.y4m_clip.specs.declared.scan.Scan.{Scan}
 use Rattle.y4m_clip.specs.declared.scan.Scan.TheVariants.{Magic, Whole}
@@ -64,17 +64,18 @@ short_proper text more is some =
       proper = λ tags line. let long = ap length line.is in omega (arith, length-append text more, ap length is, length-append magic line.rest);
     }
 
+-- an item of the first of two lists
+pub front-index : (a b : List ℕ) (i : ℕ) → i < length a → get_or (a ++ b) i 0 ≡ get_or a i 0
+front-index [] b i below = absurd (omega arith)
+front-index (x ∷ a) b zero below = refl
+front-index (x ∷ a) b (suc i) below = front-index a b i (omega arith)
+
 -- a byte that isn't the one of the magic
 wrong_byte : (text : List ℕ) (n : ℕ) → Matches text magic n → n < 9 → n < length text → IsLinePrefix (take (n + 1) text) → ⊥
 wrong_byte text n matches early inside prefix =
     matches.here inside early
     (sym (get_or-take (n + 1) text n 0 (omega arith)) ∙ sym (front-index (take (n + 1) text) prefix.rest n (omega (arith, length-take-le (n + 1) text (omega arith))))
     ∙ ap (λ t. get_or t n 0) prefix.line.is ∙ front-index magic prefix.line.rest n early)
-  where
-    front-index : (a b : List ℕ) (i : ℕ) → i < length a → get_or (a ++ b) i 0 ≡ get_or a i 0
-    front-index [] b i below = absurd (omega arith)
-    front-index (x ∷ a) b zero below = refl
-    front-index (x ∷ a) b (suc i) below = front-index a b i (omega arith)
 
 -- What the scanner makes of a file's front.
 

@@ -1,13 +1,10 @@
 -- The tags of a stream line are its words.
-use Rattle.std.proofs.Common.{◌≡◌, ℕ, zero, suc, ◌≤◌, ◌<◌, ◌+◌, ◌-◌, List, [], ◌∷◌, ◌++◌, length, take, drop, refl, sym, ap, ◌∙◌, subst, arith, append_assoc, Bool, true, false}
+use Rattle.std.proofs.Common.{◌≡◌, ℕ, zero, suc, ◌≤◌, ◌+◌, ◌-◌, List, [], ◌∷◌, ◌++◌, length, take, drop, refl, sym, ap, ◌∙◌, subst, arith, append_assoc, Bool, true, false}
 use Rattle.std.specs.Prelude.{replicate}
 use Rattle.std.specs.List.{AllByRecursion}
-use Rattle.std.proofs.lemmas.List.{append-nil, length-append, length-take-le, drop-take, take-append-drop}
-use Rattle.y4m_clip.specs.declared.scan.Kind.{Kind}
-use Rattle.y4m_clip.specs.declared.line.Line.{Line}
-use Rattle.y4m_clip.specs.StreamLine.{IsInk, IsDigit, is_axis, HasValue, IsValue, IsStreamLine, Continues}
-use Rattle.y4m_clip.specs.Scanning.{line_kind}
-use Rattle.y4m_clip.specs.Reading.{gathered_on, gathered, EndsAfter, HasShortLine, HasLine}
+use Rattle.std.proofs.lemmas.List.{append-nil, length-take-le, drop-take, take-append-drop}
+use Rattle.y4m_clip.specs.StreamLine.{IsInk, IsDigit, is_axis, HasValue, IsStreamLine, Continues}
+use Rattle.y4m_clip.specs.Reading.{IsLineOf, AreTags, gathered_on, gathered, HasShortLine, HasLine}
 use Rattle.y4m_clip.proofs.Lines.{ink_kind, digit_ink}
 
 blanks_gathered : (n : ℕ) (text : List ℕ) → gathered [] (replicate n 32 ++ text) ≡ gathered [] text
@@ -62,3 +59,11 @@ has_line bytes buffer n tags room least found front are =
       tags_are = are ∙ ap (gathered []) rest ∙ tags_gathered [] ends.line.0 line.rest line.continues;
       length_is = sym short;
     }
+
+-- the tags that were gathered are those of the line
+pub are_tags : (buffer : List ℕ) (n : ℕ) (tags : List (List ℕ)) → 10 ≤ n → IsLineOf (take n buffer) → tags ≡ gathered [] (take (n - 9) (drop 9 buffer)) → AreTags tags
+are_tags buffer n tags least line are =
+    let parts : n ≡ 9 + (n - 9) = omega arith in
+    let rest : take (n - 9) (drop 9 buffer) ≡ line.1.rest
+    = sym (drop-take 9 (n - 9) buffer) ∙ ap (λ m. drop 9 (take m buffer)) (sym parts) ∙ ap (drop 9) line.1.is in
+    (take n buffer, subst (IsStreamLine (take n buffer)) (sym (are ∙ ap (gathered []) rest ∙ tags_gathered [] line.0 line.1.rest line.1.continues)) line.1)

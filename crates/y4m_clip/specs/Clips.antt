@@ -1,19 +1,12 @@
 -- A reader has to trust this file. Clips: which bytes stand for which clip, and which refusal comes
 -- at which place. (YUV4MPEG2, with planes of 8 bits; the bounds are this project's own.)
-use Rattle.std.specs.Prelude.{◌≡◌, ◌≢◌, ◌≤◌, ◌<◌, ◌⊎◌, ◌+◌, ◌-◌, ◌*◌, ◌/◌, ◌%◌, ℕ, suc, ◌==◌, nat_lt, not, if◌then◌else◌, List, [], ◌∷◌, ◌++◌, length, take, drop, min, Option, Some, None, unwrap_or, codes, Result, Ok, Err}
+use Rattle.std.specs.Prelude.{◌≡◌, ◌≢◌, ◌≤◌, ◌⊎◌, ◌+◌, ◌-◌, ◌*◌, ◌/◌, ◌%◌, ℕ, ◌==◌, if◌then◌else◌, List, [], ◌∷◌, ◌++◌, length, take, drop, min, Option, Some, None, unwrap_or, codes}
 use Rattle.std.specs.List.{AllByRecursion, flat_map}
-use Rattle.cells.specs.declared.place.Size.{Size}
 use Rattle.cells.specs.Cells.{volume_of}
-use Rattle.shelf_core.specs.Files.{ShelfState, InFile, ReadsRose}
-use Rattle.shelf_core.specs.declared.fault.ReadError.{ReadError}
-use Rattle.shelf_core.specs.declared.fault.ReadError.TheVariants.{ReadFault, Bad, Limit, NoMemory}
-use Rattle.shelf_core.specs.declared.fault.FormFault.TheVariants.{Form, Space, Cell, NoFrames}
-use Rattle.shelf_core.specs.declared.fault.What.TheVariants.{Axis, Cells as CellsLimit, Header}
 use Rattle.y4m_clip.specs.declared.form.SpaceKind.{SpaceKind}
-use Rattle.y4m_clip.specs.declared.form.SpaceKind.TheVariants.{Mono, C444, C422, C411, C420}
 use Rattle.y4m_clip.specs.declared.form.Clip.{Clip}
 use Rattle.y4m_clip.specs.declared.bounds.TheConstants.{MOST_LINE, MOST_TAGS, MOST_ON_AXIS}
-use Rattle.y4m_clip.specs.StreamLine.{is_axis, IsStreamLine, IsLinePrefix, IsProperLinePrefix}
+use Rattle.y4m_clip.specs.StreamLine.{is_axis, IsStreamLine}
 use Rattle.y4m_clip.specs.Spaces.{GivesSpace, GivesInterlace, cell_width, cell_height, samples_of, joined_to, cell_bytes}
 
 -- Tags.
@@ -132,25 +125,28 @@ plane_bytes kind w h = samples_of kind * (w * h)
 abbrev pub span : List ℕ → ℕ → ℕ → List ℕ
 span bytes start count = take count (drop start bytes)
 
--- a row of luma in the planes of a frame
-abbrev pub luma_row : SpaceKind → ℕ → List ℕ → ℕ → List ℕ
-luma_row kind w planes y = span planes (cell_width kind * w * y) (cell_width kind * w)
+-- the pixels of so many cells
+abbrev pub pixels_of : SpaceKind → ℕ → ℕ
+pixels_of kind cells = cell_width kind * cell_height kind * cells
 
--- where the chroma planes begin
-abbrev pub blue_start : SpaceKind → ℕ → ℕ → ℕ
-blue_start kind w h = cell_width kind * cell_height kind * (w * h)
-
--- the cells of row y of a frame
+-- the cells of a row with so many of n cells before it: the luma plane has a row or two of pixels
+-- for it, and each chroma plane a row
 abbrev pub row_cells : SpaceKind → ℕ → ℕ → List ℕ → ℕ → List ℕ
-row_cells kind w h planes y =
-    joined_to w (cell_bytes kind (luma_row kind w planes (cell_height kind * y))
-    (luma_row kind w planes (cell_height kind * y + (cell_height kind - 1)))
-    (span planes (blue_start kind w h + w * y) w)
-    (span planes (blue_start kind w h + w * h + w * y) w))
+row_cells kind w n planes before =
+    joined_to w (cell_bytes kind
+    (span planes (pixels_of kind before) (cell_width kind * w))
+    (span planes (pixels_of kind before + cell_width kind * w * (cell_height kind - 1))
+    (cell_width kind * w))
+    (span planes (pixels_of kind n + before) w)
+    (span planes (pixels_of kind n + n + before) w))
+
+-- the cells of row y of a frame of w x h cells
+abbrev pub frame_row : SpaceKind → ℕ → ℕ → List ℕ → ℕ → List ℕ
+frame_row kind w h planes y = row_cells kind w (w * h) planes (w * y)
 
 -- the bytes of the cells of a frame, in raster order
 abbrev pub frame_cells : SpaceKind → ℕ → ℕ → List ℕ → List ℕ
-frame_cells kind w h planes = joined_to h (row_cells kind w h planes)
+frame_cells kind w h planes = joined_to h (frame_row kind w h planes)
 
 pub record Frame : Type 0 where
   pub line : List ℕ
@@ -183,8 +179,11 @@ pub record IsClipOf (bytes : List ℕ) (clip : Clip) : Type 0 where
   pub space : clip.form.space ≡ sized.kind
   pub tags : clip.form.tags ≡ carried sized.lined.tags
   pub volume : clip.volume ≡ volume_of
-      (record { w = cells_w sized.lined.tags sized.kind; h = cells_h sized.lined.tags sized.kind;
-      f = length frames }) (samples_of sized.kind)
+      (record {
+        w = cells_w sized.lined.tags sized.kind;
+        h = cells_h sized.lined.tags sized.kind;
+        f = length frames;
+      }) (samples_of sized.kind)
       (flat_map (λ frame. frame_cells sized.kind (cells_w sized.lined.tags sized.kind)
       (cells_h sized.lined.tags sized.kind) frame.planes) frames)
 

@@ -5,3 +5,5 @@ pub mod Refusals
 pub mod Scanning
 pub mod Reading
 pub mod Heads
+pub mod Frames
+pub mod Planes

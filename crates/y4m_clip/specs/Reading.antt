@@ -1,11 +1,11 @@
 -- The state of the reader: what its parts make of a file. The public promise speaks of Refusals.antt
 -- alone. (Own.)
-use Rattle.std.specs.Prelude.{◌≡◌, ◌≢◌, ◌≤◌, ◌<◌, ◌⊎◌, ◌+◌, ◌-◌, ◌*◌, ℕ, List, [], ◌∷◌, ◌++◌, length, take, drop, slice_index, nat_lt, if◌then◌else◌, Result, Ok, Err}
+use Rattle.std.specs.Prelude.{◌≡◌, ◌≢◌, ◌≤◌, ◌<◌, ◌+◌, ◌-◌, ℕ, List, [], ◌∷◌, ◌++◌, length, take, slice_index, nat_lt, if◌then◌else◌, Result, Ok, Err}
 use Rattle.shelf_core.specs.Files.{ShelfState, InFile, ReadsRose}
 use Rattle.shelf_core.specs.declared.fault.ReadError.{ReadError}
 use Rattle.shelf_core.specs.declared.fault.ReadError.TheVariants.{ReadFault, Bad, Limit, NoMemory}
-use Rattle.shelf_core.specs.declared.fault.FormFault.TheVariants.{Form, Space, Cell, NoFrames}
-use Rattle.shelf_core.specs.declared.fault.What.TheVariants.{Axis, Cells as CellsLimit, Header}
+use Rattle.shelf_core.specs.declared.fault.FormFault.TheVariants.{Form}
+use Rattle.shelf_core.specs.declared.fault.What.TheVariants.{Header}
 use Rattle.y4m_clip.specs.declared.bounds.TheConstants.{MOST_LINE}
 use Rattle.y4m_clip.specs.declared.scan.Kind.{Kind}
 use Rattle.y4m_clip.specs.declared.scan.Kind.TheVariants.{Blank, LineEnd, Ink}
@@ -67,6 +67,14 @@ pub record HasLine (bytes : List ℕ) (line : Line) : Type 0 where
   pub short : ShortLined bytes
   pub tags_are : line.tags ≡ short.lined.tags
   pub length_is : line.length ≡ length short.lined.line
+
+-- the text is a stream line
+abbrev pub IsLineOf : List ℕ → Type 0
+IsLineOf text = (tags : List (List ℕ)) × IsStreamLine text tags
+
+-- the tags are those of some stream line, also where the shelf doesn't tell its files
+abbrev pub AreTags : List (List ℕ) → Type 0
+AreTags tags = (text : List ℕ) × IsStreamLine text tags
 
 -- the stream line of a file was read, or refused
 abbrev pub LinesAs : List ℕ → ShelfState → ShelfState → Result Line ReadError → Type 0

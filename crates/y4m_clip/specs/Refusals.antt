@@ -1,6 +1,8 @@
 -- A reader has to trust this file. Which clip is read, and which refusal comes at which place. (Own.)
-use Rattle.std.specs.Prelude.{◌≡◌, ◌≢◌, ◌≤◌, ◌<◌, ◌⊎◌, ◌+◌, ◌-◌, ◌*◌, ◌/◌, ◌%◌, ℕ, List, [], ◌++◌, length, take, min, Result, Ok, Err}
+use Rattle.std.specs.Prelude.{◌≡◌, ◌≤◌, ◌<◌, ◌⊎◌, ◌+◌, ◌-◌, ◌*◌, ◌/◌, ℕ, List, [], ◌++◌, length, take, Result, Ok, Err}
 use Rattle.std.specs.List.{AllByRecursion}
+use Rattle.cells.specs.Places.{cell_count}
+use Rattle.cells.specs.Cells.{IsOnePart}
 use Rattle.shelf_core.specs.Files.{ShelfState, InFile, ReadsRose}
 use Rattle.shelf_core.specs.declared.fault.ReadError.{ReadError}
 use Rattle.shelf_core.specs.declared.fault.ReadError.TheVariants.{ReadFault, Bad, Limit, NoMemory}
@@ -10,7 +12,7 @@ use Rattle.y4m_clip.specs.declared.form.SpaceKind.{SpaceKind}
 use Rattle.y4m_clip.specs.declared.form.Clip.{Clip}
 use Rattle.y4m_clip.specs.declared.bounds.TheConstants.{MOST_LINE, MOST_TAGS, MOST_ON_AXIS}
 use Rattle.y4m_clip.specs.StreamLine.{IsLinePrefix, IsProperLinePrefix}
-use Rattle.y4m_clip.specs.Spaces.{cell_width, cell_height}
+use Rattle.y4m_clip.specs.Spaces.{cell_width, cell_height, samples_of}
 use Rattle.y4m_clip.specs.Clips.{carried, spaced, pixels_w, pixels_h, Lined, IsKind, IsWhole, Sized, LineFits, Fronted, cells_w, cells_h, capped, IsOpenFrameLine, IsFrameLine, IsFrameLinePrefix, Frame, IsFrame, IsShortFrame, frames_text, plane_bytes, IsClipOf, most_frames}
 
 -- The stream line.
@@ -190,3 +192,9 @@ ReadsClipAs most name was now (Err ReadFault) = ReadsRose name was now
 ReadsClipAs most name was now (Err NoMemory) = Unit {0}
 ReadsClipAs most name was now (Err error) =
     InFile name was now (λ bytes. RefusesClip most bytes error)
+
+-- what every clip that is read is, whether or not the shelf tells its files
+pub record IsSoundClip (most : ℕ) (clip : Clip) : Type 0 where
+  pub one : IsOnePart clip.volume
+  pub samples : clip.volume.k ≡ samples_of clip.form.space
+  pub cells : cell_count clip.volume.size ≤ most

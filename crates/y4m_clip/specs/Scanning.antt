@@ -1,6 +1,6 @@
 -- The state of the reader: the scanner of a stream line behind its magic, a step for each byte. (Own.
 -- The grammar that it keeps to stands in StreamLine.antt, and the public promise speaks of that alone.)
-use Rattle.std.specs.Prelude.{◌≡◌, ◌≢◌, ◌≤◌, ◌<◌, ◌+◌, ◌-◌, ℕ, ◌==◌, nat_le, nat_lt, Bool, true, false, not, ◌||◌, ◌&&◌, if◌then◌else◌, List, [], ◌∷◌, length, take, Option, Some, None, option_and_then}
+use Rattle.std.specs.Prelude.{◌≡◌, ◌≢◌, ◌≤◌, ◌<◌, ◌+◌, ◌-◌, ℕ, ◌==◌, nat_le, nat_lt, Bool, false, not, ◌||◌, ◌&&◌, if◌then◌else◌, List, [], ◌∷◌, length, take, Option, Some, None, option_and_then}
 use Rattle.y4m_clip.specs.declared.scan.Kind.{Kind}
 use Rattle.y4m_clip.specs.declared.scan.Kind.TheVariants.{Blank, LineEnd, Ink}
 use Rattle.y4m_clip.specs.declared.scan.Letters.{Letters}

@@ -1,7 +1,7 @@
 -- A reader has to trust this file. The stream line of a clip: which texts are one, and with which
 -- tags. (YUV4MPEG2; that the letters W, H, F, I, A and C stand once at most, and that other values
 -- may be empty, is this project's choice.)
-use Rattle.std.specs.Prelude.{◌≡◌, ◌≢◌, ◌≤◌, ℕ, suc, ◌==◌, nat_lt, Bool, true, false, not, ◌&&◌, ◌||◌, if◌then◌else◌, List, [], ◌∷◌, ◌++◌, replicate, codes}
+use Rattle.std.specs.Prelude.{◌≡◌, ◌≢◌, ◌≤◌, ℕ, suc, ◌==◌, nat_lt, Bool, true, false, not, ◌&&◌, ◌||◌, List, [], ◌∷◌, ◌++◌, replicate, codes}
 use Rattle.std.specs.List.{AllByRecursion, list_any}
 
 -- neither blank nor LF

@@ -3,7 +3,7 @@ ghost use Rattle.std.specs.Prelude.{◌≡◌, ◌≢◌, ◌≤◌, ◌<◌, �
 ghost use Rattle.y4m_clip.specs.declared.form.SpaceKind.{SpaceKind};
 ghost use Rattle.y4m_clip.specs.Spaces.{IsSpelling, GivesSpace, GivesInterlace, cell_width, cell_height, samples_of};
 ghost use Rattle.y4m_clip.specs.Clips.{tag_value, tag_number, value_behind, carried, spaced, IsKind};
-ghost use Rattle.y4m_clip.specs.Heads.{IsCounted, IsCellNumber, IsAllowedSize};
+ghost use Rattle.y4m_clip.specs.Heads.{IsCounted, IsCellNumber, IsAllowedSize, FrontAs};
 
 use crate::bounds::{MOST_LINE, MOST_ON_AXIS, MOST_TAGS};
 use crate::form::{ClipForm, SpaceKind, Tags};
@@ -89,7 +89,10 @@ fn is_word(value: &[u8], word: &[u8]) -> bool
 fn is_420(value: &[u8]) -> bool
     ensures { IsTrue result ↔ IsSpelling SpaceKind.C420 value.now }
 {
-    is_word(value, b"420jpeg") || is_word(value, b"420mpeg2") || is_word(value, b"420paldv") || is_word(value, b"420")
+    is_word(value, b"420jpeg")
+        || is_word(value, b"420mpeg2")
+        || is_word(value, b"420paldv")
+        || is_word(value, b"420")
 }
 
 // The kind with this spelling.
@@ -204,7 +207,54 @@ fn spaced_length(tags: &[Items<u8>]) -> u64
 {
     let mut total = 0u64;
     for tag in tags {
-        total = total.saturating_add(1).saturating_add(tag.as_slice().len() as u64);
+        total = total
+            .saturating_add(1)
+            .saturating_add(tag.as_slice().len() as u64);
     }
     total
+}
+
+/// The front of a clip: its form, the cells of a frame on each axis, and where the frames begin.
+#[derive(Drop)]
+pub struct Front {
+    pub form: ClipForm,
+    pub w: u32,
+    pub h: u32,
+    pub start: u64,
+}
+
+/// What the tags of a stream line say, within the limits: the colour kind and interlacing are tried
+/// first, then whole cells, the carried tags, the width, the height and the cells of a frame.
+pub fn front_of(alloc: Global, line: &Line, most: u64) -> Result<Front, ReadError>
+    ensures { FrontAs line.now most result }
+{
+    let tags = line.tags.as_slice();
+    let Some(space) = kind_of(tags) else {
+        return Err(ReadError::Bad(FormFault::Space));
+    };
+    let Some(w) = cells_on(tags, b'W', space.cell_width()) else {
+        return Err(ReadError::Bad(FormFault::Cell));
+    };
+    let Some(h) = cells_on(tags, b'H', space.cell_height()) else {
+        return Err(ReadError::Bad(FormFault::Cell));
+    };
+    let list = carry(alloc, tags)?;
+    let number = spaced_length(&list);
+    if number > MOST_TAGS {
+        return Err(ReadError::Limit {
+            what: What::Header,
+            number,
+            bound: MOST_TAGS,
+        });
+    }
+    let (w, h) = allowed(w, h, most)?;
+    Ok(Front {
+        form: ClipForm {
+            space,
+            tags: Items::from_vec(list),
+        },
+        w,
+        h,
+        start: line.length,
+    })
 }

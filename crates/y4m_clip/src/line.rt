@@ -2,7 +2,7 @@
 ghost use Rattle.std.specs.Prelude.{◌≡◌, ◌≤◌, ◌<◌, ◌+◌, ◌++◌, length, take, drop, IfOk, OnOk, OnErr, IsTrue, [], ◌∷◌, codes};
 ghost use Rattle.shelf_core.specs.Files.{InFile, OnlyReads};
 ghost use Rattle.y4m_clip.specs.Scanning.{line_kind, IsSoundLine};
-ghost use Rattle.y4m_clip.specs.Reading.{Matches, IsStreamScanned, flushed, gathered, Gathers, line_limit, line_judged, FindsLineAs, LinesAs};
+ghost use Rattle.y4m_clip.specs.Reading.{Matches, IsStreamScanned, flushed, gathered, Gathers, line_limit, line_judged, FindsLineAs, IsLineOf, AreTags, LinesAs};
 
 use crate::bounds::MOST_LINE;
 use crate::form::Tags;
@@ -92,6 +92,7 @@ fn find_line<S: Shelf>(
     ensures front { IfOk result (λ n. InFile name.now (S.state shelf.old) (S.state shelf.new)
         (λ bytes. take n buffer.new ≡ take n bytes)) }
     ensures sound { IfOk result (λ n. (10 ≤ n) × (n ≤ MOST_LINE)) }
+    ensures line { IfOk result (λ n. IsLineOf (take n buffer.new)) }
     ensures reads { OnlyReads (S.state shelf.old) (S.state shelf.new) }
 {
     let count = shelf.get(name, 0, buffer)?;
@@ -147,7 +148,8 @@ fn gather_all(alloc: Global, text: &[u8]) -> Result<Vec<Items<u8>>, AllocError>
 /// Reads the stream line of the named file.
 pub fn read_line<S: Shelf>(alloc: Global, shelf: &mut S, name: &str) -> Result<Line, ReadError>
     ensures line { LinesAs name.now (S.state shelf.old) (S.state shelf.new) result }
-    ensures sound { IfOk result (λ line. line.length ≤ MOST_LINE) }
+    ensures short { IfOk result (λ line. line.length ≤ MOST_LINE) }
+    ensures tags { IfOk result (λ line. AreTags line.tags) }
     ensures reads { OnlyReads (S.state shelf.old) (S.state shelf.new) }
 {
     let mut buffer = [0u8; LINE_ROOM];

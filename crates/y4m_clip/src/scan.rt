@@ -168,11 +168,7 @@ fn number(letters: Letters, positive: bool, byte: u8, kind: Kind) -> Option<Scan
         } else {
             None
         },
-        Kind::LineEnd => if positive {
-            end(letters)
-        } else {
-            None
-        },
+        Kind::LineEnd => if positive { end(letters) } else { None },
         Kind::Ink => digit(letters, positive, byte),
     }
 }

@@ -1,7 +1,7 @@
-use Rattle.std.proofs.Common.{subst, sym, arith, length, ◌≡◌, ◌≤◌}
+use Rattle.std.proofs.Common.{subst, sym, arith, length, take, ◌≡◌, ◌≤◌}
 use Rattle.std.specs.Prelude.{IfOk}
-use Rattle.y4m_clip.specs.Reading.{FindsLineAs}
-use Rattle.y4m_clip.proofs.FileLines.{finds_as, judged_sound}
+use Rattle.y4m_clip.specs.Reading.{FindsLineAs, IsLineOf}
+use Rattle.y4m_clip.proofs.FileLines.{finds_as, judged_sound, judged_line}
 use Rattle.y4m_clip.proofs.line.find_line.Goals as goal
 
 pub returns-clause-found : goal.returns-clause-found
@@ -12,3 +12,8 @@ returns-clause-found g c =
 
 pub returns-clause-sound : goal.returns-clause-sound
 returns-clause-sound g c = subst (λ r. IfOk r (λ n. (10 ≤ n) × (n ≤ 4096))) (sym c.judge.ensures) (judged_sound _ c.in_ok-count.count c.scan_stream.result c.scan_stream.ensures.scanned)
+
+pub returns-clause-line : goal.returns-clause-line
+returns-clause-line g c =
+    let room : length c.get.new.into ≡ 4097 = omega arith in
+    subst (λ r. IfOk r (λ n. IsLineOf (take n c.get.new.into))) (sym c.judge.ensures) (judged_line c.get.new.into c.in_ok-count.count c.scan_stream.result c.scan_stream.ensures.scanned (omega (arith, c.in_ok-count.ensures.within)))

@@ -2,7 +2,7 @@ use Rattle.std.proofs.Common.{◌≡◌, take, ◌≤◌, arith, length, ◌∙�
 use Rattle.shelf_core.specs.Files.{content_of}
 use Rattle.y4m_clip.specs.Reading.{HasShortLine, HasLine}
 use Rattle.y4m_clip.proofs.Sees.{sees_both}
-use Rattle.y4m_clip.proofs.Words.{has_line}
+use Rattle.y4m_clip.proofs.Words.{has_line, are_tags}
 use Rattle.y4m_clip.proofs.line.read_line.Goals as goal
 
 pub returns-clause-line : goal.returns-clause-line
@@ -12,3 +12,6 @@ returns-clause-line g c =
     (λ files. HasLine (content_of files c.args.name.now) (record { tags = c.from_vec.result; length = c.in_ok-length.length })) (g.S.Shelf.state c.args.shelf.now) (g.S.Shelf.state c.find_line.new.shelf)
     (λ files found front. has_line (content_of files c.args.name.now) c.find_line.new.buffer c.in_ok-length.length c.from_vec.result room c.in_ok-length.ensures.sound.0 found front (c.from_vec.ensures ∙ c.in_ok-tags.ensures))
     c.in_ok-length.ensures.found c.in_ok-length.ensures.front
+
+pub returns-clause-tags : goal.returns-clause-tags
+returns-clause-tags g c = are_tags c.find_line.new.buffer c.in_ok-length.length c.from_vec.result c.in_ok-length.ensures.sound.0 c.in_ok-length.ensures.line (c.from_vec.ensures ∙ c.in_ok-tags.ensures)

@@ -1,0 +1,36 @@
+use Rattle.std.proofs.lemmas.Result.{err_from_is_err_and}
+use Rattle.shelf_core.proofs.FileLaws.{only_reads_then}
+use Rattle.y4m_clip.proofs.FrontLaws.{front_as, sound_front}
+use Rattle.y4m_clip.proofs.ClipLaws.{fronts_seen, frames_as, read_as}
+use Rattle.y4m_clip.proofs.read.read_clip.Goals as goal
+
+pub returns-in_err-front-clause-answer : goal.returns-in_err-front-clause-answer
+returns-in_err-front-clause-answer g c =
+    let p = err_from_is_err_and c.from_residual-in_err-front.result c.from_residual-in_err-front.ensures.1 in
+    rw (p.1, p.2)
+    (front_as c.args.name.now c.in_ok-line.line c.args.most c.in_err-front.field-0.0 (g.S.Shelf.state c.args.shelf.now) (g.S.Shelf.state c.read_line.new.shelf) c.in_ok-line.ensures.line c.in_err-front.ensures)
+
+pub read_frames-requires : goal.read_frames-requires
+read_frames-requires g c = sound_front c.in_ok-line.line c.args.most c.in_ok-front.front c.requires c.in_ok-line.ensures.short c.in_ok-line.ensures.tags c.in_ok-front.ensures
+
+pub returns-in_err-filled-clause-answer : goal.returns-in_err-filled-clause-answer
+returns-in_err-filled-clause-answer g c =
+    let p = err_from_is_err_and c.from_residual-in_err-filled.result c.from_residual-in_err-filled.ensures.1 in
+    rw (p.1, p.2)
+    (frames_as c.args.name.now c.in_ok-front.front c.args.most c.in_err-filled.field-0.0 (g.S.Shelf.state c.args.shelf.now) (g.S.Shelf.state c.read_line.new.shelf) (g.S.Shelf.state c.read_frames.new.shelf)
+    c.in_ok-line.ensures.reads c.in_err-filled.ensures.reads
+    (fronts_seen c.args.name.now c.in_ok-line.line c.args.most c.in_ok-front.front (g.S.Shelf.state c.args.shelf.now) (g.S.Shelf.state c.read_line.new.shelf) c.in_ok-line.ensures.line c.in_ok-front.ensures) c.in_err-filled.ensures.frames)
+
+pub made_of-requires-clause-sound : goal.made_of-requires-clause-sound
+made_of-requires-clause-sound g c = sound_front c.in_ok-line.line c.args.most c.in_ok-front.front c.requires c.in_ok-line.ensures.short c.in_ok-line.ensures.tags c.in_ok-front.ensures
+
+pub returns-clause-answer : goal.returns-clause-answer
+returns-clause-answer g c =
+    read_as c.args.name.now c.args.most c.in_ok-front.front c.in_ok-filled.filled c.made_of.result (g.S.Shelf.state c.args.shelf.now) (g.S.Shelf.state c.read_line.new.shelf) (g.S.Shelf.state c.read_frames.new.shelf)
+    c.in_ok-line.ensures.reads c.in_ok-filled.ensures.reads
+    (fronts_seen c.args.name.now c.in_ok-line.line c.args.most c.in_ok-front.front (g.S.Shelf.state c.args.shelf.now) (g.S.Shelf.state c.read_line.new.shelf) c.in_ok-line.ensures.line c.in_ok-front.ensures)
+    c.in_ok-filled.ensures.frames c.in_ok-filled.ensures.filled c.made_of.ensures.form c.made_of.ensures.volume
+
+pub returns-clause-reads : goal.returns-clause-reads
+returns-clause-reads g c =
+    only_reads_then (g.S.Shelf.state c.args.shelf.now) (g.S.Shelf.state c.read_line.new.shelf) (g.S.Shelf.state c.read_frames.new.shelf) c.in_ok-line.ensures.reads c.in_ok-filled.ensures.reads

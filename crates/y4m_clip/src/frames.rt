@@ -1,0 +1,142 @@
+// Reading all frames of a clip.
+ghost use Rattle.std.specs.Prelude.{◌≡◌, ◌≤◌, ◌<◌, ◌+◌, ◌*◌, ◌/◌, ◌^◌, length, min, drop, IfOk, IfErr, IfSome};
+ghost use Rattle.shelf_core.specs.Files.{InFile, OnlyReads, ReadsRose};
+ghost use Rattle.y4m_clip.specs.Frames.{ReadsFrameAs, grown_by, FramesAs, PassesFrames, StandsIf, finished, IsSoundFront, IsFilled};
+ghost use Rattle.y4m_clip.specs.Clips.{frame_cells, most_frames};
+ghost use Rattle.y4m_clip.specs.Spaces.{samples_of};
+
+use crate::bounds::{MOST_LINE, MOST_OF_ALL, MOST_ON_AXIS};
+use crate::form::SpaceKind;
+use crate::frame::read_frame;
+use crate::head::Front;
+use shelf_core::{FormFault, ReadError, Shelf, What};
+use std::alloc::{AllocError, Global};
+
+/// The bytes of the cells of some frames, and how many frames there are.
+#[derive(Drop)]
+pub struct Filled {
+    pub bytes: Vec<u8>,
+    pub count: u32,
+}
+
+// The greatest number of frames of w x h cells.
+fn bound_of(w: u32, h: u32, most: u64) -> u64
+    requires w { (1 ≤ w) × (w ≤ MOST_ON_AXIS) }
+    requires h { (1 ≤ h) × (h ≤ MOST_ON_AXIS) }
+    ensures { result ≡ most_frames w h most }
+{
+    MOST_ON_AXIS.min(most / (u64::from(w) * u64::from(h)))
+}
+
+// The refusal of a byte behind so many frames.
+fn past(w: u32, h: u32, most: u64, count: u64) -> ReadError
+    requires cells { w * h ≤ MOST_OF_ALL }
+    requires count { count ≤ MOST_ON_AXIS }
+    ensures { PassesFrames w h most count result }
+{
+    if count == MOST_ON_AXIS {
+        return ReadError::Limit {
+            what: What::Axis,
+            number: MOST_ON_AXIS + 1,
+            bound: MOST_ON_AXIS,
+        };
+    }
+    ReadError::Limit {
+        what: What::Cells,
+        number: u64::from(w) * u64::from(h) * (count + 1),
+        bound: most,
+    }
+}
+
+// Whether a byte stands at a place of the file.
+fn goes_on<S: Shelf>(shelf: &mut S, name: &str, at: u64) -> Result<bool, ReadError>
+    ensures stands { IfOk result (λ more. InFile name.now (S.state shelf.old) (S.state shelf.new)
+        (λ bytes. StandsIf more (drop at bytes))) }
+    ensures failed { IfErr result (λ error. (error ≡ ReadError.ReadFault)
+        × ReadsRose name.now (S.state shelf.old) (S.state shelf.new)) }
+    ensures reads { OnlyReads (S.state shelf.old) (S.state shelf.new) }
+{
+    let mut next = [0u8; 1];
+    match shelf.get(name, at, &mut next) {
+        Err(_) => Err(ReadError::ReadFault),
+        Ok(count) => Ok(count > 0),
+    }
+}
+
+// The frame at a place of the file, into a buffer for its planes.
+fn next_frame<S: Shelf>(
+    shelf: &mut S,
+    name: &str,
+    at: u64,
+    front: &Front,
+    planes: &mut Vec<u8>,
+    cells: &mut Vec<u8>,
+) -> Result<Option<u64>, ReadError>
+    requires at { at < 2 ^ 61 }
+    requires planes { length planes.old.items ≡
+        samples_of front.now.form.space * (front.now.w * front.now.h) }
+    requires few { front.now.w * front.now.h ≤ MOST_OF_ALL }
+    ensures frame { ReadsFrameAs front.now.form.space front.now.w front.now.h name.now at
+        planes.new.items (S.state shelf.old) (S.state shelf.new) result }
+    ensures cells { IfOk result (λ next. cells.new.items ≡ grown_by cells.old.items
+        (frame_cells front.now.form.space front.now.w front.now.h planes.new.items) next) }
+    ensures next { IfOk result (λ found. IfSome found
+        (λ next. next ≤ at + MOST_LINE + length planes.new.items)) }
+    ensures planes { length planes.new.items ≡
+        samples_of front.now.form.space * (front.now.w * front.now.h) }
+    ensures reads { OnlyReads (S.state shelf.old) (S.state shelf.new) }
+{
+    read_frame(shelf, name, at, front, planes, cells)
+}
+
+// A buffer for the planes of a frame of n cells.
+fn room_for(alloc: Global, space: SpaceKind, n: usize) -> Result<Vec<u8>, AllocError>
+    requires { n ≤ MOST_OF_ALL }
+    ensures { IfOk result (λ planes. length planes.items ≡ samples_of space * n) }
+{
+    vec![in alloc; 0u8; space.samples() as usize * n]
+}
+
+/// Reads all frames of a clip, to the file's end.
+pub fn read_frames<S: Shelf>(
+    alloc: Global,
+    shelf: &mut S,
+    name: &str,
+    front: &Front,
+    most: u64,
+) -> Result<Filled, ReadError>
+    requires { IsSoundFront front.now most }
+    ensures frames { FramesAs front.now.form.space front.now.w front.now.h front.now.start most
+        name.now (S.state shelf.old) (S.state shelf.new) result }
+    ensures filled { IfOk result (IsFilled front.now most) }
+    ensures reads { OnlyReads (S.state shelf.old) (S.state shelf.new) }
+{
+    let n = front.w as usize * front.h as usize;
+    let mut planes = room_for(alloc, front.form.space, n)?;
+    let bound = bound_of(front.w, front.h, most);
+    let mut bytes = Vec::new(alloc);
+    let mut at = front.start;
+    for count in 0..bound {
+        match next_frame(shelf, name, at, front, &mut planes, &mut bytes)? {
+            Some(next) => at = next,
+            None => return finish(bytes, count as u32),
+        }
+    }
+    if goes_on(shelf, name, at)? {
+        return Err(past(front.w, front.h, most, bound));
+    }
+    Ok(Filled {
+        bytes,
+        count: bound as u32,
+    })
+}
+
+// The cells of so many frames, behind which the file ends.
+fn finish(bytes: Vec<u8>, count: u32) -> Result<Filled, ReadError>
+    ensures { result ≡ finished bytes count }
+{
+    if count == 0 {
+        return Err(ReadError::Bad(FormFault::NoFrames));
+    }
+    Ok(Filled { bytes, count })
+}

@@ -1,0 +1,64 @@
+// Reading a clip.
+ghost use Rattle.std.specs.Prelude.{◌≡◌, ◌≤◌, [], IfOk};
+ghost use Rattle.cells.specs.Cells.{volume_of, IsOnePart};
+ghost use Rattle.shelf_core.specs.Files.{OnlyReads};
+ghost use Rattle.y4m_clip.specs.Spaces.{samples_of};
+ghost use Rattle.y4m_clip.specs.Refusals.{ReadsClipAs, IsSoundClip};
+ghost use Rattle.y4m_clip.specs.Frames.{IsSoundFront, IsFilled, frame_size};
+
+use crate::bounds::MOST_OF_ALL;
+use crate::form::Clip;
+use crate::frames::{Filled, read_frames};
+use crate::head::{Front, front_of};
+use crate::line::read_line;
+use cells::{Size, Volume};
+use shelf_core::{ReadError, Shelf};
+use std::alloc::Global;
+
+// The clip of a front and the cells of its frames.
+fn made_of(front: Front, filled: Filled, most: u64) -> Clip
+    requires sound { IsSoundFront front most }
+    requires filled { IsFilled front most filled }
+    ensures form { result.form ≡ front.form }
+    ensures volume { result.volume ≡
+        volume_of (frame_size front filled) (samples_of front.form.space) filled.bytes.items }
+    ensures clip { IsSoundClip most result }
+{
+    let size = Size {
+        w: front.w,
+        h: front.h,
+        f: filled.count,
+    };
+    let volume = Volume::from_bytes(size, front.form.space.samples(), filled.bytes);
+    Clip {
+        form: front.form,
+        volume,
+    }
+}
+
+/// Reads a clip of at most `most` cells from the named file, to the file's end.
+///
+/// The refusals, in their order of trial: `ReadFault`, wherever a read fails; `Bad(Form)` in the stream
+/// line; `Limit Header` for the stream line (4,096 bytes); `Bad(Space)` for a colour kind or an
+/// interlacing that isn't read; `Bad(Cell)` for a width or height that isn't a whole number of cells;
+/// `Limit Header` for the carried tags (4,000 bytes); `Limit Axis` (4,096), the width before the height;
+/// `Limit Cells`, where one frame passes `most`; `Bad(NoFrames)`; and then in the order of the bytes
+/// `Bad(Form)` in a frame, `Limit Header` for a frame line (4,096 bytes), and `Limit Axis` or
+/// `Limit Cells` where a byte stands behind the greatest number of frames. `NoMemory` may come at any
+/// place.
+pub fn read_clip<S: Shelf>(
+    alloc: Global,
+    shelf: &mut S,
+    name: &str,
+    most: u64,
+) -> Result<Clip, ReadError>
+    requires { most ≤ MOST_OF_ALL }
+    ensures answer { ReadsClipAs most name.now (S.state shelf.old) (S.state shelf.new) result }
+    ensures clip { IfOk result (IsSoundClip most) }
+    ensures reads { OnlyReads (S.state shelf.old) (S.state shelf.new) }
+{
+    let line = read_line(alloc, shelf, name)?;
+    let front = front_of(alloc, &line, most)?;
+    let filled = read_frames(alloc, shelf, name, &front, most)?;
+    Ok(made_of(front, filled, most))
+}

@@ -1,0 +1,2 @@
+pub mod CutForms
+pub mod RecordFiles

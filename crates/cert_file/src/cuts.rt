@@ -1,0 +1,171 @@
+// Cut records as they stand in a file.
+ghost use Rattle.std.specs.Prelude.{◌≡◌, ◌≤◌, ◌<◌, ◌+◌, ◌*◌, ◌^◌, All, Some};
+ghost use Rattle.std.specs.List.{flat_map};
+ghost use Rattle.file_bytes.specs.Writing.{Puts};
+ghost use Rattle.source_map.specs.Heads.{AreSamples};
+ghost use Rattle.source_map.specs.MapFiles.{IsShort, IsShortCoordinate, coordinate_field};
+ghost use Rattle.cert_file.specs.CutForms.{IsBoxSize, IsCutInForm, IsFrom, box_size_field, choice_bit, choice_byte, part_place_field, choice_field, cut_form, flow_field, from_field, place_field};
+
+use cells::{At, PartPlace, Size, Sizes};
+use cut_check::{CutRecord, Flow};
+use file_bytes::FileWriter;
+use shelf_core::Shelf;
+use source_map::Version;
+
+// A coordinate in the file's form.
+fn coordinate_bytes(z: i32) -> [u8; 2]
+    requires { IsShortCoordinate z }
+    ensures { result ≡ coordinate_field z }
+{
+    (z as u16).to_be_bytes()
+}
+
+// A place in the file's form.
+fn place_bytes(p: At) -> [u8; 6]
+    requires { IsShort p }
+    ensures { result ≡ place_field p }
+{
+    let [a, b] = coordinate_bytes(p.x);
+    let [c, d] = coordinate_bytes(p.y);
+    let [e, f] = coordinate_bytes(p.f);
+    [a, b, c, d, e, f]
+}
+
+// The size of a box in the file's form.
+fn box_size_bytes(size: Size) -> [u8; 6]
+    requires { IsBoxSize size }
+    ensures { result ≡ box_size_field size }
+{
+    let [a, b] = (size.w as u16).to_be_bytes();
+    let [c, d] = (size.h as u16).to_be_bytes();
+    let [e, f] = (size.f as u16).to_be_bytes();
+    [a, b, c, d, e, f]
+}
+
+// A flow in the file's form.
+fn flow_bytes(flow: &Flow) -> [u8; 4]
+    ensures { result ≡ flow_field flow.now }
+{
+    let [a, b] = flow.x.cast_unsigned().to_be_bytes();
+    let [c, d] = flow.y.cast_unsigned().to_be_bytes();
+    [a, b, c, d]
+}
+
+// A cell of a choice as a bit; none past the end.
+fn bit_at(choice: &[bool], i: usize) -> u8
+    ensures is { result ≡ choice_bit choice.now i }
+    ensures small { result ≤ 1 }
+{
+    match choice.get(i) {
+        Some(bit) => u8::from(*bit),
+        None => 0,
+    }
+}
+
+// A byte of a choice.
+fn byte_at(choice: &[bool], j: usize) -> u8
+    requires { 8 * j + 7 < 2 ^ 63 }
+    ensures { result ≡ choice_byte choice.now j }
+{
+    128 * bit_at(choice, 8 * j)
+        + 64 * bit_at(choice, 8 * j + 1)
+        + 32 * bit_at(choice, 8 * j + 2)
+        + 16 * bit_at(choice, 8 * j + 3)
+        + 8 * bit_at(choice, 8 * j + 4)
+        + 4 * bit_at(choice, 8 * j + 5)
+        + 2 * bit_at(choice, 8 * j + 6)
+        + bit_at(choice, 8 * j + 7)
+}
+
+// Puts a choice, eight cells a byte.
+fn put_choice<S: Shelf>(file: &mut FileWriter, choice: &[bool], shelf: &mut S, name: &str)
+    ensures { Puts name.now (choice_field choice.now)
+        (S.state shelf.old) (S.state shelf.new) file.old file.new }
+{
+    for j in 0..choice.len().div_ceil(8) {
+        file.put(&[byte_at(choice, j)], shelf, name);
+    }
+}
+
+// Puts flows.
+fn put_flows<S: Shelf>(file: &mut FileWriter, flows: &[Flow], shelf: &mut S, name: &str)
+    ensures { Puts name.now (flat_map flow_field flows.now)
+        (S.state shelf.old) (S.state shelf.new) file.old file.new }
+{
+    for flow in flows {
+        file.put(&flow_bytes(flow), shelf, name);
+    }
+}
+
+// Puts the number of a part and a place in it.
+fn put_part_place<S: Shelf>(file: &mut FileWriter, there: PartPlace, shelf: &mut S, name: &str)
+    requires number { there.part < 2 ^ 16 }
+    requires place { IsShort there.at }
+    ensures { Puts name.now (part_place_field (Some there))
+        (S.state shelf.old) (S.state shelf.new) file.old file.new }
+{
+    file.put_u16(there.part as u16, shelf, name);
+    file.put(&place_bytes(there.at), shelf, name);
+}
+
+// Puts where the new sources of a record begin.
+fn put_from<S: Shelf>(
+    file: &mut FileWriter,
+    version: Version,
+    samples: &Sizes,
+    from: At,
+    shelf: &mut S,
+    name: &str,
+)
+    requires samples { AreSamples version samples.now }
+    requires from { IsFrom samples.now from }
+    ensures { Puts name.now (from_field version samples.now from)
+        (S.state shelf.old) (S.state shelf.new) file.old file.new }
+{
+    let there = samples.part_of(from).unwrap();
+    match version {
+        Version::One => file.put(&place_bytes(there.at), shelf, name),
+        Version::Two => put_part_place(file, there, shelf, name),
+    }
+}
+
+// Puts a cut record.
+#[tactic(auto, unfolding(crate::specs::CutForms::cut_form))]
+fn put_cut<S: Shelf>(
+    file: &mut FileWriter,
+    version: Version,
+    samples: &Sizes,
+    cut: &CutRecord,
+    shelf: &mut S,
+    name: &str,
+)
+    requires samples { AreSamples version samples.now }
+    requires cut { IsCutInForm samples.now cut.now }
+    ensures { Puts name.now (cut_form version samples.now cut.now)
+        (S.state shelf.old) (S.state shelf.new) file.old file.new }
+{
+    file.put(&place_bytes(cut.placement.rect.corner), shelf, name);
+    file.put(&box_size_bytes(cut.placement.rect.size), shelf, name);
+    put_from(file, version, samples, cut.placement.from, shelf, name);
+    put_choice(file, cut.choice.as_slice(), shelf, name);
+    put_flows(file, cut.flows.as_slice(), shelf, name);
+}
+
+// Puts cut records.
+pub(crate) fn put_cuts<S: Shelf>(
+    file: &mut FileWriter,
+    version: Version,
+    samples: &Sizes,
+    cuts: &[CutRecord],
+    shelf: &mut S,
+    name: &str,
+)
+    requires samples { AreSamples version samples.now }
+    requires cuts { All (IsCutInForm samples.now) cuts.now }
+    ensures { Puts name.now (flat_map (cut_form version samples.now) cuts.now)
+        (S.state shelf.old) (S.state shelf.new) file.old file.new }
+{
+    for cut in cuts {
+        put_cut(file, version, samples, cut, shelf, name);
+    }
+}

@@ -1,1 +1,5 @@
+pub mod Bits
+pub mod PairCounts
 pub mod PartFields
+pub mod Readings
+pub mod RecordReading

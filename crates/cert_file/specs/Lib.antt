@@ -1,2 +1,4 @@
 pub mod CutForms
+pub mod CutReading
+pub mod CutTaking
 pub mod RecordFiles

@@ -1,20 +1,36 @@
 // Whole record files.
-ghost use Rattle.std.specs.Prelude.{◌≡◌, OnOk, OnErr};
-ghost use Rattle.shelf_core.specs.Files.{Changes, OnlyWrites, WritesRose};
+ghost use Rattle.std.specs.Prelude.{◌≡◌, ◌<◌, ◌+◌, ◌^◌, OnOk, OnErr};
+ghost use Rattle.std.specs.Int.{w32};
+ghost use Rattle.shelf_core.specs.Files.{Changes, OnlyReads, OnlyWrites, WritesRose};
 ghost use Rattle.shelf_core.specs.Written.{HoldsPart, HoldsText};
-ghost use Rattle.cert_file.specs.RecordFiles.{AreCutsInForm, cuts_form};
+ghost use Rattle.file_bytes.specs.Reading.{Follows};
+ghost use Rattle.source_map.specs.Readings.{ReadsFrom, number_read};
+ghost use Rattle.cert_file.specs.RecordFiles.{AreCutsInForm, ReadsCert, ReadsToEnd, any_rule, cuts_file_read, cuts_form};
 
+use crate::cut_reading::read_cuts;
 use crate::cuts::put_cuts;
 use cut_check::CutRecord;
-use file_bytes::FileWriter;
-use shelf_core::{Shelf, WriteFault};
-use source_map::{Head, put_head};
+use file_bytes::{FileReader, FileWriter};
+use items::Items;
+use shelf_core::{ReadError, Shelf, WriteFault};
+use source_map::{Head, put_head, read_head};
+use std::alloc::Global;
 
 // What each record file begins with.
 const MAGIC: [u8; 8] = *b"WEAVEREC";
 
 // The kind of a file of cut records.
 const CUTS: u8 = 0;
+
+// How many kinds there are.
+const KINDS: u8 = 1;
+
+/// What a record file holds.
+#[derive(Drop)]
+pub enum CertFile {
+    /// The records of placements and rounds, in their order.
+    Cuts { head: Head, cuts: Items<CutRecord> },
+}
 
 /// Writes the file of cut records, in the version of the head: the head, how many there are, and of each
 /// record corner and size of its box, where its new sources begin (in version 2 with the number of the
@@ -39,4 +55,54 @@ pub fn write_cuts<S: Shelf>(
     file.put_u32(cuts.len() as u32, shelf, name);
     put_cuts(&mut file, head.version, &head.samples, cuts, shelf, name);
     file.finish(shelf, name)
+}
+
+// Reads how many records there are.
+fn read_count<S: Shelf>(file: &mut FileReader, shelf: &mut S, name: &str) -> Result<u32, ReadError>
+    requires follows { Follows name.now (S.state shelf.old) file.old }
+    requires room { file.old.at < 2 ^ 31 }
+    ensures answer { ReadsFrom ⊥ name.now file.old.at (S.state shelf.old) (S.state shelf.new)
+        file.new (number_read w32 any_rule) result }
+    ensures place { OnOk result (file.new.at ≡ file.old.at + 4) }
+    ensures reads { OnlyReads (S.state shelf.old) (S.state shelf.new) }
+{
+    let n = file.u32(shelf, name)?;
+    Ok(n)
+}
+
+// Reads cut records, from behind a head to the end of the file.
+fn read_cuts_file<S: Shelf>(
+    alloc: Global,
+    file: &mut FileReader,
+    head: Head,
+    shelf: &mut S,
+    name: &str,
+) -> Result<CertFile, ReadError>
+    requires follows { Follows name.now (S.state shelf.old) file.old }
+    requires room { file.old.at < 2 ^ 31 }
+    ensures answer { ReadsToEnd (Unit {0}) name.now file.old.at (S.state shelf.old)
+        (S.state shelf.new) (cuts_file_read head) result }
+    ensures reads { OnlyReads (S.state shelf.old) (S.state shelf.new) }
+{
+    let count = read_count(file, shelf, name)?;
+    let cuts = read_cuts(alloc, file, head.version, &head.samples, count, shelf, name)?;
+    file.end(shelf, name)?;
+    Ok(CertFile::Cuts { head, cuts })
+}
+
+/// Reads a record file, to its end.
+///
+/// The refusals, in the order of the fields: `Bad(Form)` at the file's length where the file ends within
+/// a field, else at the first byte of a field that has no lawful value, with the choice of a record as one
+/// field, in which no unused bit is set; `Limit Axis` (4,096) at a size of the head; `Limit Records` (2^25
+/// cells of all boxes so far) after the size of a box. A byte behind the last record is `Bad(Form)` at its
+/// place. `ReadFault` comes wherever a read fails, and `NoMemory` may come at any place: memory is taken
+/// as bytes come, never by a count in the file.
+pub fn read_cert<S: Shelf>(alloc: Global, shelf: &mut S, name: &str) -> Result<CertFile, ReadError>
+    ensures answer { ReadsCert name.now (S.state shelf.old) (S.state shelf.new) result }
+    ensures reads { OnlyReads (S.state shelf.old) (S.state shelf.new) }
+{
+    let mut file = FileReader::new();
+    let (head, _kind) = read_head(&mut file, MAGIC, KINDS, shelf, name)?;
+    read_cuts_file(alloc, &mut file, head, shelf, name)
 }

@@ -1,8 +1,12 @@
 //! Record files: what shows that each step of a picture or a loop was a least one, as bytes.
 #![tactic(auto)]
 
+mod choices;
+mod cut_fields;
+mod cut_reading;
 mod cuts;
 mod file;
 
-pub use file::write_cuts;
+pub use cut_fields::MOST_BOX_CELLS;
+pub use file::{CertFile, read_cert, write_cuts};
 pub use source_map::{Head, Version};

@@ -1,0 +1,61 @@
+-- How many pairs a box has, also one whose axes are longer than those of a volume.
+use Rattle.std.proofs.Common.{◌≡◌, ◌≤◌, ◌+◌, ◌-◌, ◌*◌, ℕ, zero, suc, refl, ap, sym, ◌∙◌, arith}
+use Rattle.std.specs.Prelude.{nat_lt, if◌then◌else◌}
+use borrow.Author.Tests.{le-ltb}
+use Rattle.cells.specs.declared.place.Size.{Size}
+use Rattle.cells.specs.Boxes.{HasCells}
+use Rattle.cells.specs.Places.{cell_count, raster_index}
+use Rattle.box_walk.specs.Pairs.{AreCounts, one_if, pair_count, pairs_before, pairs_from}
+use Rattle.box_walk.proofs.ClosedForm.{closed_is, pairs_closed}
+use Rattle.box_walk.proofs.PairNumbers.{pairs_next}
+
+-- no pair begins at the last cell
+pairs_before_last : (size : Size) → HasCells size → pair_count size ≡ pairs_before size (raster_index size (size.w - 1) (size.h - 1) (size.f - 1))
+pairs_before_last size some =
+    let are : AreCounts size (size.w - 1) (size.h - 1) (size.f - 1) = record { column = omega (arith, some.w); row = omega (arith, some.h); frame = omega (arith, some.f) } in
+    let end : raster_index size (size.w - 1) (size.h - 1) (size.f - 1) + 1 ≡ cell_count size = last size.w size.h size.f some.w some.h some.f in
+    let none : pairs_from size (size.w - 1) (size.h - 1) (size.f - 1) ≡ 0 =
+    (λ k. one_if (le-ltb (size.w - 1 + 1) size.w (omega (arith, some.w)) k) + one_if (le-ltb (size.h - 1 + 1) size.h (omega (arith, some.h)) k) + one_if (le-ltb (size.f - 1 + 1) size.f (omega (arith, some.f)) k)) in
+    ap (pairs_before size) (sym end) ∙ pairs_next size (size.w - 1) (size.h - 1) (size.f - 1) are ∙ ap (λ n. pairs_before size (raster_index size (size.w - 1) (size.h - 1) (size.f - 1)) + n) none ∙ plain _
+  where
+    plain : (n : ℕ) → n + (0 + 0 + 0) ≡ n
+    plain n = omega arith
+
+    last : (w h f : ℕ) → 1 ≤ w → 1 ≤ h → 1 ≤ f → (w - 1) + w * ((h - 1) + h * (f - 1)) + 1 ≡ w * (h * f)
+    last zero h f w1 h1 f1 = absurd (omega arith)
+    last (suc w) zero f w1 h1 f1 = absurd (omega arith)
+    last (suc w) (suc h) zero w1 h1 f1 = absurd (omega arith)
+    last (suc w) (suc h) (suc f) w1 h1 f1 = by (suc w - 1) (suc h - 1) (suc f - 1) (omega arith) (omega arith) (omega arith)
+      where
+        by : (a b c : ℕ) → a ≡ w → b ≡ h → c ≡ f → a + suc w * (b + suc h * c) + 1 ≡ suc w * (suc h * suc f)
+        by a b c ea eb ec = rw (ea, eb, ec) (omega arith)
+
+-- on each axis, the cells less those of the last layer
+pub pairs_by_layers : (size : Size) → HasCells size → pair_count size ≡ (cell_count size - size.h * size.f) + (cell_count size - size.w * size.f) + (cell_count size - size.w * size.h)
+pairs_by_layers size some =
+    let are : AreCounts size (size.w - 1) (size.h - 1) (size.f - 1) = record { column = omega (arith, some.w); row = omega (arith, some.h); frame = omega (arith, some.f) } in
+    pairs_before_last size some ∙ closed_is size some (size.w - 1) (size.h - 1) (size.f - 1) are
+    ∙ (λ k. ((size.w - 1) * ((size.h - 1) + size.h * (size.f - 1)) + (size.w - 1))
+    + (size.w * ((size.h - 1) + (size.h - 1) * (size.f - 1)) + (if le-ltb (size.h - 1 + 1) size.h (omega (arith, some.h)) k then size.w - 1 else 0))
+    + (if le-ltb (size.f - 1 + 1) size.f (omega (arith, some.f)) k then (size.w - 1) + size.w * ((size.h - 1) + size.h * (size.f - 1)) else size.w * (size.h * (size.f - 1))))
+    ∙ layers size.w size.h size.f some.w some.h some.f
+  where
+    layers : (w h f : ℕ) → 1 ≤ w → 1 ≤ h → 1 ≤ f → ((w - 1) * ((h - 1) + h * (f - 1)) + (w - 1)) + (w * ((h - 1) + (h - 1) * (f - 1)) + 0) + w * (h * (f - 1))
+        ≡ (w * (h * f) - h * f) + (w * (h * f) - w * f) + (w * (h * f) - w * h)
+    layers zero h f w1 h1 f1 = absurd (omega arith)
+    layers (suc w) zero f w1 h1 f1 = absurd (omega arith)
+    layers (suc w) (suc h) zero w1 h1 f1 = absurd (omega arith)
+    layers (suc w) (suc h) (suc f) w1 h1 f1 =
+        by (suc w - 1) (suc h - 1) (suc f - 1) (suc w * (suc h * suc f)) (suc h * suc f) (suc w * suc f) (suc w * suc h) (omega arith) (omega arith) (omega arith) refl refl refl refl
+      where
+        parts : (p q r all x y z : ℕ) → all ≡ p + x → all ≡ q + y → all ≡ r + z → p + q + r ≡ (all - x) + (all - y) + (all - z)
+        parts p q r all x y z one two three = omega arith
+
+        by : (a b c all x y z : ℕ) → a ≡ w → b ≡ h → c ≡ f → all ≡ suc w * (suc h * suc f) → x ≡ suc h * suc f → y ≡ suc w * suc f → z ≡ suc w * suc h
+            → (a * (b + suc h * c) + a) + (suc w * (b + b * c) + 0) + suc w * (suc h * c) ≡ (all - x) + (all - y) + (all - z)
+        by a b c all x y z ea eb ec e ex ey ez =
+            let one : all ≡ w * (suc h * suc f) + x = rw (e, ex) (omega arith) in
+            let two : all ≡ suc w * (h * suc f) + y = rw (e, ey) (omega arith) in
+            let three : all ≡ suc w * (suc h * f) + z = rw (e, ez) (omega arith) in
+            let left : (a * (b + suc h * c) + a) + (suc w * (b + b * c) + 0) + suc w * (suc h * c) ≡ w * (suc h * suc f) + suc w * (h * suc f) + suc w * (suc h * f) = rw (ea, eb, ec) (omega arith) in
+            left ∙ parts (w * (suc h * suc f)) (suc w * (h * suc f)) (suc w * (suc h * f)) all x y z one two three

@@ -1,0 +1,41 @@
+use Rattle.std.proofs.Common.{◌++◌, ◌∷◌, [], ◌+◌, ◌∙◌, ℕ, length, ap, sym, subst, arith}
+use Rattle.std.specs.Prelude.{Err}
+use Rattle.std.proofs.lemmas.Result.{err_from_is_err_and}
+use Rattle.shelf_core.proofs.FileLaws.{only_reads_then}
+use Rattle.source_map.specs.Readings.{Found, ReadsFrom}
+use Rattle.cert_file.specs.CutReading.{box_cells, cut_read, cuts_read}
+use Rattle.cert_file.proofs.Bits.{box_cells-append}
+use Rattle.cert_file.proofs.Readings.{each_more, each_stops}
+use Rattle.cert_file.proofs.cut_reading.read_cuts.Goals as goal
+
+pub returns-in_err-cut-clause-answer : goal.returns-in_err-cut-clause-answer
+returns-in_err-cut-clause-answer g c =
+    let state = g.S.Shelf.state in
+    let name = c.args.name.now in
+    let read = cut_read c.args.version c.args.samples.now in
+    let p = err_from_is_err_and c.from_residual-in_err-cut.result c.from_residual-in_err-cut.ensures.1 in
+    rw (p.1, p.2)
+    (each_stops (Unit {0}) name c.args.file.now.at c.loop-i.i c.args.count (λ front. read (box_cells front)) (state c.args.shelf.now) (state c.loop-i.shelf) (state c.read_cut.new.shelf) c.loop-i.file c.read_cut.new.file
+    c.loop-i.cuts.items c.in_err-cut.field-0.0 c.loop-i-test.true c.loop-i.invariant.reads c.in_err-cut.ensures.reads c.loop-i.invariant.found
+    (subst (λ n. ReadsFrom (Unit {0}) name c.loop-i.file.at (state c.loop-i.shelf) (state c.read_cut.new.shelf) c.read_cut.new.file (read n) (Err c.in_err-cut.field-0.0)) c.loop-i.invariant.before c.in_err-cut.ensures.answer))
+
+pub loop-i-preserved : goal.loop-i-preserved
+loop-i-preserved g c =
+    let state = g.S.Shelf.state in
+    let name = c.args.name.now in
+    let read = cut_read c.args.version c.args.samples.now in
+    let cut = c.in_ok-cut.cut in
+    let ok = c.in_ok-cut.ensures {u = tt} in
+    let so = c.loop-i.invariant in
+    let all = (c.in-Ok.ensures {u = tt}).items ∙ ap (λ items. items ++ cut ∷ []) c.make_room.ensures in
+    record {
+      count = omega (arith, (c.in-Ok.ensures {u = tt}).len, ap length c.make_room.ensures, so.count);
+      at = omega (arith, ok.place, so.at, c.cells_of.ensures);
+      few = omega (arith, ok.cells, c.cells_of.ensures);
+      before = (λ k. so.before k + c.cells_of.ensures k) ∙ sym (box_cells-append c.loop-i.cuts.items cut) ∙ ap box_cells (sym all);
+      found = subst (λ items. Found name c.args.file.now.at (state c.read_cut.new.shelf) c.read_cut.new.file (cuts_read c.args.version c.args.samples.now (c.loop-i.i + 1)) items) (sym all)
+          (each_more name c.args.file.now.at c.loop-i.i (λ front. read (box_cells front)) (state c.args.shelf.now) (state c.loop-i.shelf) (state c.read_cut.new.shelf) c.loop-i.file c.read_cut.new.file
+          c.loop-i.cuts.items cut so.reads ok.reads so.found
+          (subst (λ n. Found name c.loop-i.file.at (state c.read_cut.new.shelf) c.read_cut.new.file (read n) cut) so.before ok.answer));
+      reads = only_reads_then (state c.args.shelf.now) (state c.loop-i.shelf) (state c.read_cut.new.shelf) so.reads ok.reads;
+    }

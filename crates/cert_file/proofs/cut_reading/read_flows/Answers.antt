@@ -1,0 +1,15 @@
+use Rattle.std.specs.Prelude.{Err}
+use Rattle.std.proofs.lemmas.Result.{err_from_is_err_and}
+use Rattle.source_map.proofs.FieldLaws.{lifted, list_stops}
+use Rattle.cert_file.specs.CutReading.{flow_read}
+use Rattle.cert_file.proofs.cut_reading.read_flows.Goals as goal
+
+pub returns-in_err-flow-clause-answer : goal.returns-in_err-flow-clause-answer
+returns-in_err-flow-clause-answer g c =
+    let state = g.S.Shelf.state in
+    let name = c.args.name.now in
+    let p = err_from_is_err_and c.from_residual-in_err-flow.result c.from_residual-in_err-flow.ensures.1 in
+    rw (p.1, p.2)
+    (list_stops (Unit {0}) name c.args.file.now.at c.loop-i.i c.args.count flow_read (state c.args.shelf.now) (state c.loop-i.shelf) (state c.read_flow.new.shelf) c.loop-i.file c.read_flow.new.file
+    c.loop-i.flows.items c.in_err-flow.field-0.0 c.loop-i-test.true c.loop-i.invariant.reads c.in_err-flow.ensures.reads c.loop-i.invariant.found
+    (lifted (Unit {0}) name c.loop-i.file.at flow_read (state c.loop-i.shelf) (state c.read_flow.new.shelf) c.read_flow.new.file (Err c.in_err-flow.field-0.0) c.in_err-flow.ensures.answer))

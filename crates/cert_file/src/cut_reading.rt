@@ -1,0 +1,160 @@
+// Cut records, as they are read.
+ghost use Rattle.std.specs.Prelude.{◌≡◌, ◌≤◌, ◌<◌, ◌+◌, ◌*◌, ◌^◌, length, IfOk, IfErr, OnOk};
+ghost use Rattle.shelf_core.specs.Files.{OnlyReads};
+ghost use Rattle.cells.specs.Places.{cell_count};
+ghost use Rattle.box_walk.specs.Pairs.{pair_count};
+ghost use Rattle.file_bytes.specs.Reading.{Follows};
+ghost use Rattle.source_map.specs.Readings.{IsRefusal, ReadsFrom, field_read, list_read};
+ghost use Rattle.cert_file.specs.CutForms.{IsBoxSize};
+ghost use Rattle.cert_file.specs.CutReading.{box_cells, cut_read, cuts_read, flow_read, flow_rule};
+ghost use Rattle.cert_file.specs.declared.cut_fields.TheConstants.{MOST_BOX_CELLS};
+
+use crate::choices::read_choice;
+use crate::cut_fields::{read_box_size, read_corner, read_from};
+use cells::{Box3, Size, Sizes};
+use cut_check::{CutRecord, Flow};
+use file_bytes::{FileReader, make_room};
+use items::Items;
+use map_canvas::Placement;
+use shelf_core::{ReadError, Shelf};
+use source_map::Version;
+use std::alloc::Global;
+
+// A flow, of two numbers.
+fn flow_of(piece: [u8; 4], at: u64) -> Result<Flow, ReadError>
+    ensures flow { result ≡ flow_rule at piece }
+    ensures refusal { IfErr result IsRefusal }
+{
+    let [a, b, c, d] = piece;
+    Ok(Flow {
+        x: u16::from_be_bytes([a, b]).cast_signed(),
+        y: u16::from_be_bytes([c, d]).cast_signed(),
+    })
+}
+
+// Reads a flow.
+fn read_flow<S: Shelf>(file: &mut FileReader, shelf: &mut S, name: &str) -> Result<Flow, ReadError>
+    requires follows { Follows name.now (S.state shelf.old) file.old }
+    requires room { file.old.at + 4 < 2 ^ 63 }
+    ensures answer { ReadsFrom ⊥ name.now file.old.at (S.state shelf.old) (S.state shelf.new)
+        file.new flow_read result }
+    ensures place { OnOk result (file.new.at ≡ file.old.at + 4) }
+    ensures reads { OnlyReads (S.state shelf.old) (S.state shelf.new) }
+{
+    let at = file.place();
+    let mut piece = [0; 4];
+    file.take(&mut piece, shelf, name)?;
+    flow_of(piece, at)
+}
+
+// Reads so many flows.
+fn read_flows<S: Shelf>(
+    alloc: Global,
+    file: &mut FileReader,
+    count: usize,
+    shelf: &mut S,
+    name: &str,
+) -> Result<Items<Flow>, ReadError>
+    requires follows { Follows name.now (S.state shelf.old) file.old }
+    requires room { file.old.at + 4 * count < 2 ^ 63 }
+    ensures answer { ReadsFrom (Unit {0}) name.now file.old.at (S.state shelf.old)
+        (S.state shelf.new) file.new (list_read flow_read count) result }
+    ensures place { OnOk result (file.new.at ≡ file.old.at + 4 * count) }
+    ensures reads { OnlyReads (S.state shelf.old) (S.state shelf.new) }
+{
+    let mut flows = Vec::new(alloc);
+    for i in 0..count {
+        make_room(&mut flows, count - i)?;
+        let flow = read_flow(file, shelf, name)?;
+        let Ok(()) = flows.push(flow) else {
+            return Err(ReadError::NoMemory);
+        };
+    }
+    Ok(Items::from_vec(flows))
+}
+
+// How many cells a box has.
+fn cells_of(size: Size) -> usize
+    requires axes { IsBoxSize size }
+    requires few { cell_count size ≤ MOST_BOX_CELLS }
+    ensures { result ≡ cell_count size }
+{
+    size.w as usize * (size.h as usize * size.f as usize)
+}
+
+// How many pairs a box has: on each axis, the cells less those of its last layer. Its axes may be longer
+// than those of a volume.
+fn pairs_of(size: Size) -> usize
+    requires axes { IsBoxSize size }
+    requires few { cell_count size ≤ MOST_BOX_CELLS }
+    ensures pairs { result ≡ pair_count size }
+    ensures few { result ≤ 3 * cell_count size }
+{
+    let cells = cells_of(size);
+    let (w, h, f) = (size.w as usize, size.h as usize, size.f as usize);
+    (cells - h * f) + (cells - w * f) + (cells - w * h)
+}
+
+// Reads a cut record, after boxes of so many cells.
+fn read_cut<S: Shelf>(
+    alloc: Global,
+    file: &mut FileReader,
+    version: Version,
+    samples: &Sizes,
+    before: u64,
+    shelf: &mut S,
+    name: &str,
+) -> Result<CutRecord, ReadError>
+    requires follows { Follows name.now (S.state shelf.old) file.old }
+    requires room { file.old.at < 2 ^ 61 }
+    requires before { before ≤ MOST_BOX_CELLS }
+    ensures answer { ReadsFrom (Unit {0}) name.now file.old.at (S.state shelf.old)
+        (S.state shelf.new) file.new (cut_read version samples.now before) result }
+    ensures axes { IfOk result (λ cut. IsBoxSize cut.placement.rect.size) }
+    ensures cells { IfOk result (λ cut.
+        before + cell_count cut.placement.rect.size ≤ MOST_BOX_CELLS) }
+    ensures place { IfOk result (λ cut.
+        file.new.at ≤ file.old.at + 34 * cell_count cut.placement.rect.size) }
+    ensures reads { OnlyReads (S.state shelf.old) (S.state shelf.new) }
+{
+    let corner = read_corner(file, shelf, name)?;
+    let size = read_box_size(file, before, shelf, name)?;
+    let from = read_from(file, version, samples, shelf, name)?;
+    let choice = read_choice(alloc, file, cells_of(size), shelf, name)?;
+    let flows = read_flows(alloc, file, pairs_of(size), shelf, name)?;
+    let rect = Box3 { corner, size };
+    Ok(CutRecord {
+        placement: Placement { rect, from },
+        choice,
+        flows,
+    })
+}
+
+// Reads so many cut records.
+pub(crate) fn read_cuts<S: Shelf>(
+    alloc: Global,
+    file: &mut FileReader,
+    version: Version,
+    samples: &Sizes,
+    count: u32,
+    shelf: &mut S,
+    name: &str,
+) -> Result<Items<CutRecord>, ReadError>
+    requires follows { Follows name.now (S.state shelf.old) file.old }
+    requires room { file.old.at < 2 ^ 32 }
+    ensures answer { ReadsFrom (Unit {0}) name.now file.old.at (S.state shelf.old)
+        (S.state shelf.new) file.new (cuts_read version samples.now count) result }
+    ensures reads { OnlyReads (S.state shelf.old) (S.state shelf.new) }
+{
+    let mut cuts = Vec::new(alloc);
+    let mut before = 0;
+    for i in 0..count {
+        make_room(&mut cuts, (count - i) as usize)?;
+        let cut = read_cut(alloc, file, version, samples, before, shelf, name)?;
+        before += cells_of(cut.placement.rect.size) as u64;
+        let Ok(()) = cuts.push(cut) else {
+            return Err(ReadError::NoMemory);
+        };
+    }
+    Ok(Items::from_vec(cuts))
+}

@@ -3,3 +3,4 @@ pub mod PairCounts
 pub mod PartFields
 pub mod Readings
 pub mod RecordReading
+pub mod Once

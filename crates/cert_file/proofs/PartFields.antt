@@ -10,7 +10,7 @@ use Rattle.cells.specs.declared.place.Size.{Size}
 use Rattle.cells.specs.declared.sizes.PartPlace.{PartPlace}
 use Rattle.cells.specs.Parts.{past}
 use Rattle.cells.specs.Places.{HasAxes, IsInside, index_in}
-use Rattle.cells.specs.SizeLists.{AreSizes, IsPartAlong, IsPartPlace, frames_on, frames_to_part}
+use Rattle.cells.specs.SizeLists.{AreSizes, IsPartAlong, IsPartPlace, frames_on, frames_to_part, size_of_part, stock_place}
 use Rattle.cells.proofs.BoxTests.{of_inside, on_axis_bounds}
 use Rattle.cells.proofs.PartPlaces.{behind_of, none_behind}
 use Rattle.source_map.specs.MapFiles.{IsShort}
@@ -88,3 +88,18 @@ short_part sizes p there are along = omega (arith, along.part, slice_get_within 
 pub is_found : (sizes : List Size) (p : At) (o : Option PartPlace) → IsFrom sizes p → (IsNone o → (there : PartPlace) → IsPartPlace sizes p there → ⊥) → IsSome o
 is_found sizes p None from none = absurd (none refl from.0 from.1)
 is_found sizes p (Some there) from none = refl
+
+-- a place of a sample, as the joined volume counts it, is inside that sample
+pub from_part : (sizes : List Size) (part : ℕ) (size : Size) (p : At) → 1 ≤ part → Some size ≡ size_of_part sizes part → IsInside size p → part < 2 ^ 16 → IsFrom sizes (stock_place sizes part p)
+from_part sizes zero size p some is inside small = absurd (omega arith)
+from_part sizes (suc n) size p some is inside small = (
+  record { part = suc n; at = p },
+  record {
+    before = n;
+    part = omega arith;
+    size = size;
+    is = sym is;
+    inside = inside;
+    stock = refl;
+  },
+)

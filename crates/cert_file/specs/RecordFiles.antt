@@ -1,5 +1,5 @@
 -- What a reader has to trust: the forms of record files, and which values have one. (Own.)
-use Rattle.std.specs.Prelude.{◌≡◌, ◌<◌, ◌^◌, ℕ, List, ◌++◌, length, All, codes, nat_le, if◌then◌else◌, Result, Ok, Err}
+use Rattle.std.specs.Prelude.{◌≡◌, ◌≤◌, ◌<◌, ◌^◌, ℕ, List, ◌++◌, length, All, codes, nat_le, if◌then◌else◌, Result, Ok, Err}
 use Rattle.std.specs.Int.{w32}
 use Rattle.std.specs.List.{flat_map}
 use Rattle.shelf_core.specs.Files.{ReadsRose, ShelfState}
@@ -15,7 +15,8 @@ use Rattle.source_map.specs.Readings.{◌>>=◌, number_read}
 use Rattle.cert_file.specs.declared.file.CertFile.{CertFile}
 use Rattle.cert_file.specs.declared.file.CertFile.TheVariants.{Cuts}
 use Rattle.cert_file.specs.CutForms.{IsCutInForm, cut_form}
-use Rattle.cert_file.specs.CutReading.{cuts_read}
+use Rattle.cert_file.specs.CutReading.{box_cells, cuts_read}
+use Rattle.cert_file.specs.declared.cut_fields.TheConstants.{MOST_BOX_CELLS}
 
 abbrev pub record_magic : List ℕ
 record_magic = codes "WEAVEREC"
@@ -39,6 +40,14 @@ pub record AreCutsInForm (head : Head) (cuts : List CutRecord) : Type 0 where
   pub head_is : IsHead head
   pub count : length cuts < 2 ^ 32
   pub each : All (IsCutInForm head.samples) cuts
+
+-- what a file that is read stands for: a value that has a spelling, within the limit on cells
+pub record AreCutsInLimits (head : Head) (cuts : List CutRecord) : Type 0 where
+  pub form : AreCutsInForm head cuts
+  pub cells : box_cells cuts ≤ MOST_BOX_CELLS
+
+abbrev pub IsCert : CertFile → Type 0
+IsCert (Cuts head cuts) = AreCutsInLimits head cuts
 
 -- any number may stand there
 abbrev pub any_rule : ℕ → ℕ → Result ℕ ReadError

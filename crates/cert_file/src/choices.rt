@@ -80,6 +80,7 @@ fn lawful_choice(mut bits: Vec<bool>, cells: usize, at: u64) -> Result<Items<boo
     requires { cells ≤ length bits.items }
     ensures choice { (piece : List ℕ) → bits.items ≡ bits_of piece →
         result ≡ choice_rule cells at piece }
+    ensures count { IfOk result (λ choice. length choice ≡ cells) }
     ensures refusal { IfErr result IsRefusal }
 {
     if !none_set(&bits[cells..]) {
@@ -102,6 +103,7 @@ pub(crate) fn read_choice<S: Shelf>(
     requires few { cells < 2 ^ 32 }
     ensures answer { ReadsFrom (Unit {0}) name.now file.old.at (S.state shelf.old)
         (S.state shelf.new) file.new (choice_read cells) result }
+    ensures count { IfOk result (λ choice. length choice ≡ cells) }
     ensures place { OnOk result (file.new.at ≡ file.old.at + choice_bytes cells) }
     ensures reads { OnlyReads (S.state shelf.old) (S.state shelf.new) }
 {

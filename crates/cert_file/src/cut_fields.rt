@@ -4,7 +4,9 @@ ghost use Rattle.std.specs.Int.{w16};
 ghost use Rattle.shelf_core.specs.Files.{OnlyReads};
 ghost use Rattle.cells.specs.Places.{IsInside, on_axis};
 ghost use Rattle.file_bytes.specs.Reading.{Follows};
+ghost use Rattle.source_map.specs.MapFiles.{IsShort};
 ghost use Rattle.source_map.specs.Readings.{IsRefusal, ReadsFrom, field_read, number_read};
+ghost use Rattle.cert_file.specs.CutForms.{IsFrom};
 ghost use Rattle.cert_file.specs.CutReading.{IsBoxAfter, box_axis_rule, box_cells_rule, box_size_read, coordinate_rule, corner_rule, from_read, inside_read, part_read, part_rule};
 
 use cells::{At, Size, Sizes};
@@ -25,6 +27,7 @@ fn form<T>(at: u64) -> Result<T, ReadError>
 // The corner of a box, of three numbers.
 fn corner_of(piece: [u8; 6], at: u64) -> Result<At, ReadError>
     ensures corner { result ≡ corner_rule at piece }
+    ensures short { IfOk result IsShort }
     ensures refusal { IfErr result IsRefusal }
 {
     let [a, b, c, d, e, f] = piece;
@@ -105,6 +108,7 @@ pub(crate) fn read_corner<S: Shelf>(
     requires room { file.old.at < 2 ^ 62 }
     ensures answer { ReadsFrom ⊥ name.now file.old.at (S.state shelf.old) (S.state shelf.new)
         file.new (field_read 6 corner_rule) result }
+    ensures short { IfOk result IsShort }
     ensures place { OnOk result (file.new.at ≡ file.old.at + 6) }
     ensures reads { OnlyReads (S.state shelf.old) (S.state shelf.new) }
 {
@@ -235,6 +239,7 @@ pub(crate) fn read_from<S: Shelf>(
     requires room { file.old.at < 2 ^ 62 }
     ensures answer { ReadsFrom ⊥ name.now file.old.at (S.state shelf.old) (S.state shelf.new)
         file.new (from_read version samples.now) result }
+    ensures inside { IfOk result (IsFrom samples.now) }
     ensures place { OnOk result (file.new.at ≤ file.old.at + 8) }
     ensures reads { OnlyReads (S.state shelf.old) (S.state shelf.new) }
 {

@@ -1,11 +1,11 @@
 // Cut records, as they are read.
-ghost use Rattle.std.specs.Prelude.{◌≡◌, ◌≤◌, ◌<◌, ◌+◌, ◌*◌, ◌^◌, length, IfOk, IfErr, OnOk};
+ghost use Rattle.std.specs.Prelude.{◌≡◌, ◌≤◌, ◌<◌, ◌+◌, ◌*◌, ◌^◌, All, length, IfOk, IfErr, OnOk};
 ghost use Rattle.shelf_core.specs.Files.{OnlyReads};
 ghost use Rattle.cells.specs.Places.{cell_count};
 ghost use Rattle.box_walk.specs.Pairs.{pair_count};
 ghost use Rattle.file_bytes.specs.Reading.{Follows};
 ghost use Rattle.source_map.specs.Readings.{IsRefusal, ReadsFrom, field_read, list_read};
-ghost use Rattle.cert_file.specs.CutForms.{IsBoxSize};
+ghost use Rattle.cert_file.specs.CutForms.{IsBoxSize, IsCutInForm};
 ghost use Rattle.cert_file.specs.CutReading.{box_cells, cut_read, cuts_read, flow_read, flow_rule};
 ghost use Rattle.cert_file.specs.declared.cut_fields.TheConstants.{MOST_BOX_CELLS};
 
@@ -59,6 +59,7 @@ fn read_flows<S: Shelf>(
     requires room { file.old.at + 4 * count < 2 ^ 63 }
     ensures answer { ReadsFrom (Unit {0}) name.now file.old.at (S.state shelf.old)
         (S.state shelf.new) file.new (list_read flow_read count) result }
+    ensures count { IfOk result (λ flows. length flows ≡ count) }
     ensures place { OnOk result (file.new.at ≡ file.old.at + 4 * count) }
     ensures reads { OnlyReads (S.state shelf.old) (S.state shelf.new) }
 {
@@ -110,7 +111,7 @@ fn read_cut<S: Shelf>(
     requires before { before ≤ MOST_BOX_CELLS }
     ensures answer { ReadsFrom (Unit {0}) name.now file.old.at (S.state shelf.old)
         (S.state shelf.new) file.new (cut_read version samples.now before) result }
-    ensures axes { IfOk result (λ cut. IsBoxSize cut.placement.rect.size) }
+    ensures form { IfOk result (IsCutInForm samples.now) }
     ensures cells { IfOk result (λ cut.
         before + cell_count cut.placement.rect.size ≤ MOST_BOX_CELLS) }
     ensures place { IfOk result (λ cut.
@@ -144,6 +145,9 @@ pub(crate) fn read_cuts<S: Shelf>(
     requires room { file.old.at < 2 ^ 32 }
     ensures answer { ReadsFrom (Unit {0}) name.now file.old.at (S.state shelf.old)
         (S.state shelf.new) file.new (cuts_read version samples.now count) result }
+    ensures count { IfOk result (λ cuts. length cuts ≡ count) }
+    ensures form { IfOk result (All (IsCutInForm samples.now)) }
+    ensures cells { IfOk result (λ cuts. box_cells cuts ≤ MOST_BOX_CELLS) }
     ensures reads { OnlyReads (S.state shelf.old) (S.state shelf.new) }
 {
     let mut cuts = Vec::new(alloc);

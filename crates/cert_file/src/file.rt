@@ -1,11 +1,12 @@
 // Whole record files.
-ghost use Rattle.std.specs.Prelude.{◌≡◌, ◌<◌, ◌+◌, ◌^◌, OnOk, OnErr};
+ghost use Rattle.std.specs.Prelude.{◌≡◌, ◌<◌, ◌+◌, ◌^◌, IfOk, OnOk, OnErr};
 ghost use Rattle.std.specs.Int.{w32};
 ghost use Rattle.shelf_core.specs.Files.{Changes, OnlyReads, OnlyWrites, WritesRose};
 ghost use Rattle.shelf_core.specs.Written.{HoldsPart, HoldsText};
 ghost use Rattle.file_bytes.specs.Reading.{Follows};
+ghost use Rattle.source_map.specs.Heads.{IsHead};
 ghost use Rattle.source_map.specs.Readings.{ReadsFrom, number_read};
-ghost use Rattle.cert_file.specs.RecordFiles.{AreCutsInForm, ReadsCert, ReadsToEnd, any_rule, cuts_file_read, cuts_form};
+ghost use Rattle.cert_file.specs.RecordFiles.{AreCutsInForm, IsCert, ReadsCert, ReadsToEnd, any_rule, cuts_file_read, cuts_form};
 
 use crate::cut_reading::read_cuts;
 use crate::cuts::put_cuts;
@@ -80,8 +81,10 @@ fn read_cuts_file<S: Shelf>(
 ) -> Result<CertFile, ReadError>
     requires follows { Follows name.now (S.state shelf.old) file.old }
     requires room { file.old.at < 2 ^ 31 }
+    requires head { IsHead head }
     ensures answer { ReadsToEnd (Unit {0}) name.now file.old.at (S.state shelf.old)
         (S.state shelf.new) (cuts_file_read head) result }
+    ensures form { IfOk result IsCert }
     ensures reads { OnlyReads (S.state shelf.old) (S.state shelf.new) }
 {
     let count = read_count(file, shelf, name)?;
@@ -100,6 +103,7 @@ fn read_cuts_file<S: Shelf>(
 /// as bytes come, never by a count in the file.
 pub fn read_cert<S: Shelf>(alloc: Global, shelf: &mut S, name: &str) -> Result<CertFile, ReadError>
     ensures answer { ReadsCert name.now (S.state shelf.old) (S.state shelf.new) result }
+    ensures form { IfOk result IsCert }
     ensures reads { OnlyReads (S.state shelf.old) (S.state shelf.new) }
 {
     let mut file = FileReader::new();

@@ -6,7 +6,9 @@ mod cut_fields;
 mod cut_reading;
 mod cuts;
 mod file;
+mod law;
 
 pub use cut_fields::MOST_BOX_CELLS;
 pub use file::{CertFile, read_cert, write_cuts};
+pub use law::one_reading;
 pub use source_map::{Head, Version};

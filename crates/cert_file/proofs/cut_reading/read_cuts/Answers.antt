@@ -1,8 +1,10 @@
 use Rattle.std.proofs.Common.{◌++◌, ◌∷◌, [], ◌+◌, ◌∙◌, ℕ, length, ap, sym, subst, arith}
-use Rattle.std.specs.Prelude.{Err}
+use Rattle.std.specs.Prelude.{All, Err}
+use Rattle.std.proofs.lemmas.List.Elements.{All-push}
 use Rattle.std.proofs.lemmas.Result.{err_from_is_err_and}
 use Rattle.shelf_core.proofs.FileLaws.{only_reads_then}
 use Rattle.source_map.specs.Readings.{Found, ReadsFrom}
+use Rattle.cert_file.specs.CutForms.{IsCutInForm}
 use Rattle.cert_file.specs.CutReading.{box_cells, cut_read, cuts_read}
 use Rattle.cert_file.proofs.Bits.{box_cells-append}
 use Rattle.cert_file.proofs.Readings.{each_more, each_stops}
@@ -33,6 +35,7 @@ loop-i-preserved g c =
       at = omega (arith, ok.place, so.at, c.cells_of.ensures);
       few = omega (arith, ok.cells, c.cells_of.ensures);
       before = (λ k. so.before k + c.cells_of.ensures k) ∙ sym (box_cells-append c.loop-i.cuts.items cut) ∙ ap box_cells (sym all);
+      each = subst (All (IsCutInForm c.args.samples.now)) (sym all) (All-push (IsCutInForm c.args.samples.now) c.loop-i.cuts.items cut so.each ok.form);
       found = subst (λ items. Found name c.args.file.now.at (state c.read_cut.new.shelf) c.read_cut.new.file (cuts_read c.args.version c.args.samples.now (c.loop-i.i + 1)) items) (sym all)
           (each_more name c.args.file.now.at c.loop-i.i (λ front. read (box_cells front)) (state c.args.shelf.now) (state c.loop-i.shelf) (state c.read_cut.new.shelf) c.loop-i.file c.read_cut.new.file
           c.loop-i.cuts.items cut so.reads ok.reads so.found

@@ -1,7 +1,8 @@
 use Rattle.std.proofs.Common.{◌≡◌, ◌≤◌, ◌+◌, ◌*◌}
-use Rattle.std.specs.Prelude.{vec_len}
+use Rattle.std.specs.Prelude.{All, vec_len}
 use Rattle.shelf_core.specs.Files.{OnlyReads}
 use Rattle.source_map.specs.Readings.{Found}
+use Rattle.cert_file.specs.CutForms.{IsCutInForm}
 use Rattle.cert_file.specs.CutReading.{box_cells, cuts_read}
 use Rattle.cert_file.proofs.cut_reading.read_cuts.Given as goal
 
@@ -11,6 +12,7 @@ invariant-loop-i g l = record {
   at : l.file.at ≤ l.fn.file.at + 34 * l.before;
   few : l.before ≤ 33554432;
   before : l.before ≡ box_cells l.cuts.items;
+  each : All (IsCutInForm l.samples) l.cuts.items;
   found : Found l.name l.fn.file.at (g.S.Shelf.state l.shelf) l.file (cuts_read l.version l.samples l.i) l.cuts.items;
   reads : OnlyReads (g.S.Shelf.state l.fn.shelf) (g.S.Shelf.state l.shelf);
 }

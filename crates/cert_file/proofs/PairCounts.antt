@@ -1,12 +1,12 @@
 -- How many pairs a box has, also one whose axes are longer than those of a volume.
 use Rattle.std.proofs.Common.{◌≡◌, ◌≤◌, ◌+◌, ◌-◌, ◌*◌, ℕ, zero, suc, refl, ap, sym, ◌∙◌, arith}
-use Rattle.std.specs.Prelude.{nat_lt, if◌then◌else◌}
+use Rattle.std.specs.Prelude.{if◌then◌else◌}
 use borrow.Author.Tests.{le-ltb}
 use Rattle.cells.specs.declared.place.Size.{Size}
 use Rattle.cells.specs.Boxes.{HasCells}
 use Rattle.cells.specs.Places.{cell_count, raster_index}
 use Rattle.box_walk.specs.Pairs.{AreCounts, one_if, pair_count, pairs_before, pairs_from}
-use Rattle.box_walk.proofs.ClosedForm.{closed_is, pairs_closed}
+use Rattle.box_walk.proofs.ClosedForm.{closed_is}
 use Rattle.box_walk.proofs.PairNumbers.{pairs_next}
 
 -- no pair begins at the last cell

@@ -1,8 +1,8 @@
 -- What a reader has to trust: the form of a cut record, in versions 1 and 2. (Own.)
-use Rattle.std.specs.Prelude.{◌≡◌, ◌≤◌, ◌<◌, ◌+◌, ◌*◌, ◌/◌, ◌^◌, ℕ, ℤ, Bool, true, false, List, [], ◌∷◌, ◌++◌, length, map, All, Option, Some, None, is_some, slice_index_or, if◌then◌else◌}
+use Rattle.std.specs.Prelude.{◌≡◌, ◌≤◌, ◌<◌, ◌+◌, ◌*◌, ◌/◌, ◌^◌, ℕ, ℤ, Bool, false, List, [], ◌∷◌, ◌++◌, length, map, Option, Some, None, is_some, slice_index_or, if◌then◌else◌}
 use Rattle.std.specs.Int.{cast_unsigned, w16}
 use Rattle.std.specs.List.{flat_map, range_with_len}
-use Rattle.file_bytes.specs.Fields.{field_16, field_32}
+use Rattle.file_bytes.specs.Fields.{field_16}
 use Rattle.cells.specs.declared.place.At.{At}
 use Rattle.cells.specs.declared.place.Size.{Size}
 use Rattle.cells.specs.declared.sizes.PartPlace.{PartPlace}

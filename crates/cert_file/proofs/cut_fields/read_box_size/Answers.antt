@@ -1,16 +1,14 @@
-use Rattle.std.proofs.Common.{ℕ, List, ◌∙◌, ap}
+use Rattle.std.proofs.Common.{ℕ, List}
 use Rattle.std.proofs.lemmas.Result.{err_from_is_err_and}
-use Rattle.std.specs.Prelude.{Result, Ok, Err, ℤ}
+use Rattle.std.specs.Prelude.{Result, Err}
 use Rattle.std.specs.Int.{w16}
 use Rattle.shelf_core.specs.declared.fault.ReadError.{ReadError}
 use Rattle.shelf_core.proofs.FileLaws.{only_reads_same, only_reads_then}
 use Rattle.cells.specs.declared.place.Size.{Size}
-use Rattle.cells.specs.declared.place.At.{At}
-use Rattle.source_map.proofs.FieldLaws.{chain, first_stops, made, then_reads, lifted}
+use Rattle.source_map.proofs.FieldLaws.{chain, first_stops, then_reads}
 use Rattle.source_map.specs.Readings.{number_read}
 use Rattle.cert_file.specs.CutReading.{box_axis_rule, box_cells_rule}
 use Rattle.cert_file.proofs.Readings.{by_rule, ruled}
-
 use Rattle.cert_file.proofs.cut_fields.read_box_size.Goals as goal
 
 abbrev end : ℕ → ℕ → ℕ → ℕ → ℕ → List ℕ → Result (Size × ℕ) ReadError

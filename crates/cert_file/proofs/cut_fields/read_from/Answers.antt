@@ -1,5 +1,4 @@
 use Rattle.std.proofs.Common.{◌≡◌, ◌≤◌, ◌<◌, ◌^◌, ◌∙◌, ap, sym, subst, arith}
-use Rattle.std.specs.Prelude.{Some}
 use Rattle.cells.specs.SizeLists.{size_of_part, stock_place}
 use Rattle.cert_file.specs.CutForms.{IsFrom}
 use Rattle.cert_file.proofs.PartFields.{from_part}

@@ -1,4 +1,4 @@
-use Rattle.std.proofs.Common.{ℕ, List, ◌≡◌, ◌∙◌, ap, sym, subst, to_z, of_z, rules}
+use Rattle.std.proofs.Common.{ℕ, List, ◌≡◌, sym, subst, to_z, of_z, rules}
 use Rattle.std.proofs.lemmas.Int.{to_z-of_z}
 use mir.Val.{SFits}
 use Rattle.std.proofs.lemmas.Result.{err_from_is_err_and}
@@ -6,12 +6,10 @@ use Rattle.std.specs.Prelude.{Result, Ok, Err, ℤ}
 use Rattle.std.specs.Int.{w16, w32}
 use Rattle.shelf_core.specs.declared.fault.ReadError.{ReadError}
 use Rattle.shelf_core.proofs.FileLaws.{only_reads_same, only_reads_then}
-use Rattle.cells.specs.declared.place.Size.{Size}
 use Rattle.cells.specs.declared.place.At.{At}
-use Rattle.source_map.proofs.FieldLaws.{chain, first_stops, made, then_reads, lifted}
+use Rattle.source_map.proofs.FieldLaws.{chain, first_stops, made, then_reads}
 use Rattle.source_map.specs.Readings.{ReadsFrom, number_read}
 use Rattle.cert_file.specs.CutReading.{coordinate_rule}
-
 use Rattle.cert_file.proofs.cut_fields.read_inside.Goals as goal
 
 abbrev end : ℤ → ℤ → ℤ → ℕ → List ℕ → Result (At × ℕ) ReadError

@@ -1,13 +1,11 @@
 use Rattle.std.proofs.Common.{ℕ, List, subst}
 use Rattle.std.proofs.lemmas.Result.{err_from_is_err_and}
-use Rattle.std.specs.Prelude.{Result, Ok, Err, ℤ}
-use Rattle.std.specs.Int.{w16}
+use Rattle.std.specs.Prelude.{Result, Ok, Err}
 use Rattle.shelf_core.specs.declared.fault.ReadError.{ReadError}
 use Rattle.shelf_core.proofs.FileLaws.{only_reads_same, only_reads_then}
 use Rattle.cells.specs.declared.place.Size.{Size}
 use Rattle.cells.specs.declared.place.At.{At}
 use Rattle.source_map.proofs.FieldLaws.{chain, first_stops, made, then_reads, lifted}
-use Rattle.source_map.specs.Readings.{number_read}
 use Rattle.cells.specs.Places.{cell_count}
 use Rattle.box_walk.specs.Pairs.{pair_count}
 use Rattle.cut_check.specs.declared.record.CutRecord.{CutRecord}
@@ -15,7 +13,6 @@ use Rattle.cut_check.specs.declared.record.Flow.{Flow}
 use Rattle.std.specs.Prelude.{Bool}
 use Rattle.source_map.specs.Readings.{ReadsFrom, field_read, list_read}
 use Rattle.cert_file.specs.CutReading.{box_size_read, choice_read, corner_rule, flow_read, from_read}
-
 use Rattle.cert_file.proofs.cut_reading.read_cut.Goals as goal
 
 abbrev end : At → Size → At → List Bool → List Flow → ℕ → List ℕ → Result (CutRecord × ℕ) ReadError

@@ -2,7 +2,7 @@ use Rattle.std.proofs.Common.{◌++◌, subst}
 use Rattle.std.specs.List.{flat_map}
 use Rattle.file_bytes.specs.Writing.{Puts}
 use Rattle.file_bytes.proofs.WritingLaws.{put_next}
-use Rattle.cert_file.specs.CutForms.{box_size_field, choice_field, cut_form, flow_field, from_field, place_field}
+use Rattle.cert_file.specs.CutForms.{choice_field, cut_form, flow_field, from_field}
 use Rattle.cert_file.proofs.cuts.put_cut.Goals as goal
 
 pub returns : goal.returns

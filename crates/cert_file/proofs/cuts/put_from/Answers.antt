@@ -1,5 +1,5 @@
-use Rattle.std.proofs.Common.{List, ℕ, subst, sym, ap, ◌∙◌}
-use Rattle.std.specs.Prelude.{IfSome, Some}
+use Rattle.std.proofs.Common.{subst, sym, ap, ◌∙◌}
+use Rattle.std.specs.Prelude.{IfSome}
 use Rattle.cells.specs.SizeLists.{IsPartPlace}
 use Rattle.file_bytes.specs.Writing.{Puts}
 use Rattle.cert_file.specs.CutForms.{from_field, part_place_field, place_field}

@@ -1,53 +1,18 @@
 -- The part that has a place is one, with the place in it.
-use Rattle.std.proofs.Common.{◌≡◌, ◌+◌, ◌<◌, ◌≤◌, ◌^◌, ◌∷◌, [], List, ℕ, zero, suc, length, Bool, true, false, refl, ap, sym, ◌∙◌, subst, arith}
+use Rattle.std.proofs.Common.{◌≡◌, ◌<◌, ◌≤◌, ◌^◌, ◌∷◌, [], List, ℕ, zero, suc, length, refl, ap, sym, ◌∙◌, subst, arith}
 use Rattle.std.proofs.lemmas.Int.{ints}
 use Rattle.std.proofs.lemmas.Option.{slice_get_within}
-use Rattle.std.specs.Prelude.{ℤ, pos, ◌+ℤ◌, Option, Some, None, IsNone, IsSome, is_some, slice_get, if◌then◌else◌}
+use Rattle.std.specs.Prelude.{ℤ, pos, ◌+ℤ◌, Option, Some, None, IsNone, IsSome, is_some, slice_get}
 use Rattle.std.specs.List.{AllByRecursion}
 use mathlib.Core.Bool.{false≢true}
 use Rattle.cells.specs.declared.place.At.{At}
 use Rattle.cells.specs.declared.place.Size.{Size}
 use Rattle.cells.specs.declared.sizes.PartPlace.{PartPlace}
-use Rattle.cells.specs.Parts.{past}
-use Rattle.cells.specs.Places.{HasAxes, IsInside, index_in}
-use Rattle.cells.specs.SizeLists.{AreSizes, IsPartAlong, IsPartPlace, frames_on, frames_to_part, size_of_part, stock_place}
+use Rattle.cells.specs.Places.{HasAxes, IsInside}
+use Rattle.cells.specs.SizeLists.{AreSizes, IsPartPlace, frames_on, frames_to_part, size_of_part, stock_place}
 use Rattle.cells.proofs.BoxTests.{of_inside, on_axis_bounds}
-use Rattle.cells.proofs.PartPlaces.{behind_of, none_behind}
-use Rattle.source_map.specs.MapFiles.{IsShort}
-use Rattle.cert_file.specs.CutForms.{IsFrom, part_place_from}
-
--- a place inside the first part is a place of no other
-first_alone : (number : ℕ) (size : Size) (sizes : List Size) (p : At) (there : PartPlace) (before : ℕ) → there.part ≡ number + before → (s : Size) → slice_get (size ∷ sizes) before ≡ Some s → IsInside s there.at
-    → frames_on (frames_to_part (size ∷ sizes) before) there.at ≡ p → IsInside size p → there ≡ record { part = number; at = p }
-first_alone number size sizes p there zero part s is inside stock here = λ k. record { part = number_is k; at = place_is k }
-  where
-    number_is : there.part ≡ number
-    number_is = omega (arith, part)
-
-    same : (z : ℤ) → z ≡ z +ℤ pos 0
-    same z = omega (arith, ints)
-
-    place_is : there.at ≡ p
-    place_is = (λ k. record { x = there.at.x; y = there.at.y; f = same there.at.f k }) ∙ stock
-first_alone number size sizes p there (suc n) part s is inside stock here =
-    let on = on_axis_bounds s.f there.at.f (of_inside s there.at inside).f in
-    let at = on_axis_bounds size.f p.f (of_inside size p here).f in
-    let e : there.at.f +ℤ pos (size.f + 1 + frames_to_part sizes n) ≡ p.f = λ k. (stock k).f in
-    absurd (omega (arith, ints, e, on.0, at.1))
-
--- the part and the place that the form has
-pub part_place_is : (number : ℕ) (sizes : List Size) (p : At) (there : PartPlace) → IsPartAlong number sizes p there → part_place_from number sizes p ≡ Some there
-part_place_is number [] p there along = absurd (none_behind number p there along)
-part_place_is number (size ∷ sizes) p there along = by (is_some (index_in size p)) refl (part_place_is (number + 1) sizes (past size p) there)
-  where
-    by : (b : Bool) → is_some (index_in size p) ≡ b → (IsPartAlong (number + 1) sizes (past size p) there → part_place_from (number + 1) sizes (past size p) ≡ Some there)
-        → part_place_from number (size ∷ sizes) p ≡ Some there
-    by true e behind =
-        ap (λ t. if t then Some (record { part = number; at = p }) else part_place_from (number + 1) sizes (past size p)) e
-        ∙ ap Some (sym (first_alone number size sizes p there along.before along.part along.size along.is along.inside along.stock e))
-    by false e behind =
-        ap (λ t. if t then Some (record { part = number; at = p }) else part_place_from (number + 1) sizes (past size p)) e
-        ∙ behind (behind_of number size sizes p there (λ inside. false≢true (sym e ∙ inside)) along)
+use Rattle.source_map.specs.MapFiles.{IsInSamples}
+use Rattle.source_map.specs.Writing.{IsShort}
 
 -- of one sample, the place in it is the place
 pub one_sample : (sizes : List Size) (p : At) (there : PartPlace) → length sizes ≡ 1 → IsPartPlace sizes p there → there.at ≡ p
@@ -85,12 +50,12 @@ short_there sizes p there are along =
 pub short_part : (sizes : List Size) (p : At) (there : PartPlace) → AreSizes sizes → IsPartPlace sizes p there → there.part < 2 ^ 16
 short_part sizes p there are along = omega (arith, along.part, slice_get_within sizes along.before along.size along.is, are.few)
 
-pub is_found : (sizes : List Size) (p : At) (o : Option PartPlace) → IsFrom sizes p → (IsNone o → (there : PartPlace) → IsPartPlace sizes p there → ⊥) → IsSome o
+pub is_found : (sizes : List Size) (p : At) (o : Option PartPlace) → IsInSamples sizes p → (IsNone o → (there : PartPlace) → IsPartPlace sizes p there → ⊥) → IsSome o
 is_found sizes p None from none = absurd (none refl from.0 from.1)
 is_found sizes p (Some there) from none = refl
 
 -- a place of a sample, as the joined volume counts it, is inside that sample
-pub from_part : (sizes : List Size) (part : ℕ) (size : Size) (p : At) → 1 ≤ part → Some size ≡ size_of_part sizes part → IsInside size p → part < 2 ^ 16 → IsFrom sizes (stock_place sizes part p)
+pub from_part : (sizes : List Size) (part : ℕ) (size : Size) (p : At) → 1 ≤ part → Some size ≡ size_of_part sizes part → IsInside size p → part < 2 ^ 16 → IsInSamples sizes (stock_place sizes part p)
 from_part sizes zero size p some is inside small = absurd (omega arith)
 from_part sizes (suc n) size p some is inside small = (
   record { part = suc n; at = p },

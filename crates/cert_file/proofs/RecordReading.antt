@@ -13,7 +13,7 @@ use Rattle.source_map.specs.Heads.{head_read}
 use Rattle.source_map.specs.Readings.{◌>>=◌, Found, ReadsFrom}
 use Rattle.source_map.proofs.FieldLaws.{weaker}
 use Rattle.cert_file.specs.declared.file.CertFile.{CertFile}
-use Rattle.cert_file.specs.RecordFiles.{ReadsCert, ReadsToEnd, cuts_file_read, end_read, kinds, record_magic}
+use Rattle.cert_file.specs.RecordFiles.{ReadsCert, ReadsToEnd, cuts_file_read, end_rule, kinds, record_magic}
 
 -- one reading, and then another to the end of the file
 abbrev pub chain_to_end : {A B : Type 0} → (ℕ → List ℕ → Result (A × ℕ) ReadError) → (A → ℕ → List ℕ → Result B ReadError) → ℕ → List ℕ → Result B ReadError
@@ -52,7 +52,7 @@ then_to_end {A = A} {B = B} memory name place first second a b c r x result befo
 
 -- a value, where the file ends
 abbrev pub value_at_end : {A : Type 0} → A → ℕ → List ℕ → Result A ReadError
-value_at_end x at bytes = end_read at bytes >>= λ end. Ok x
+value_at_end x at bytes = end_rule at bytes >>= λ end. Ok x
 
 pub ends : {A : Type 0} (memory : Type 0) (name : List ℕ) (at : ℕ) (was now : ShelfState) (x : A) → Stops name at was now (Ok tt) → ReadsToEnd memory name at was now (value_at_end x) (Ok x)
 ends {A = A} memory name at was now x stops =

@@ -1,46 +1,26 @@
 -- What a reader has to trust: the form of a cut record, in versions 1 and 2. (Own.)
-use Rattle.std.specs.Prelude.{◌≡◌, ◌≤◌, ◌<◌, ◌+◌, ◌*◌, ◌/◌, ◌^◌, ℕ, ℤ, Bool, false, List, [], ◌∷◌, ◌++◌, length, map, Option, Some, None, is_some, slice_index_or, if◌then◌else◌}
+use Rattle.std.specs.Prelude.{◌≡◌, ◌≤◌, ◌<◌, ◌+◌, ◌*◌, ◌/◌, ◌^◌, ℕ, ℤ, Bool, false, List, ◌++◌, length, map, Some, slice_index_or}
 use Rattle.std.specs.Int.{cast_unsigned, w16}
 use Rattle.std.specs.List.{flat_map, range_with_len}
 use Rattle.file_bytes.specs.Fields.{field_16}
 use Rattle.cells.specs.declared.place.At.{At}
 use Rattle.cells.specs.declared.place.Size.{Size}
-use Rattle.cells.specs.declared.sizes.PartPlace.{PartPlace}
-use Rattle.cells.specs.Places.{cell_count, index_in}
-use Rattle.cells.specs.Parts.{past}
-use Rattle.cells.specs.SizeLists.{IsPartPlace}
+use Rattle.cells.specs.Places.{cell_count}
 use Rattle.box_walk.specs.Pairs.{one_if, pair_count}
-use Rattle.source_map.specs.MapFiles.{IsShort, coordinate_field}
+use Rattle.source_map.specs.MapFiles.{IsInSamples, place_field, source_field}
+use Rattle.source_map.specs.Writing.{IsShort}
 use Rattle.cut_check.specs.declared.record.CutRecord.{CutRecord}
 use Rattle.cut_check.specs.declared.record.Flow.{Flow}
 use Rattle.source_map.specs.declared.head.Version.{Version}
-use Rattle.source_map.specs.declared.head.Version.TheVariants.{One, Two}
-
--- a place: x, y, f, two bytes each
-abbrev pub place_field : At → List ℕ
-place_field p = coordinate_field p.x ++ coordinate_field p.y ++ coordinate_field p.f
 
 -- the size of a box: w, h, f, two bytes each
 abbrev pub box_size_field : Size → List ℕ
 box_size_field size = field_16 size.w ++ field_16 size.h ++ field_16 size.f
 
--- the part that has a place of the joined volume, with the place in it; the first part has the number
-abbrev pub part_place_from : ℕ → List Size → At → Option PartPlace
-part_place_from number [] p = None
-part_place_from number (size ∷ sizes) p =
-    if is_some (index_in size p) then Some (record { part = number; at = p })
-    else part_place_from (number + 1) sizes (past size p)
-
--- a place of a part: the part's number, then the place in it
-abbrev pub part_place_field : Option PartPlace → List ℕ
-part_place_field None = []
-part_place_field (Some there) = field_16 there.part ++ place_field there.at
-
--- where the new sources of a record begin: in version 1 the place, in version 2 the number of the
--- sample and the place in it
+-- where the new sources of a record begin, as a source of a map: in version 1 the place, in version 2
+-- the number of the sample and the place in it
 abbrev pub from_field : Version → List Size → At → List ℕ
-from_field One samples p = place_field p
-from_field Two samples p = part_place_field (part_place_from 1 samples p)
+from_field version samples p = source_field version samples (Some p)
 
 -- cell i of a choice as a bit; none past the end
 abbrev pub choice_bit : List Bool → ℕ → ℕ
@@ -81,14 +61,10 @@ pub record IsBoxSize (size : Size) : Type 0 where
   pub h : (1 ≤ size.h) × (size.h < 2 ^ 16)
   pub f : (1 ≤ size.f) × (size.f < 2 ^ 16)
 
--- the place is inside one of the samples
-abbrev pub IsFrom : List Size → At → Type 0
-IsFrom samples p = (there : PartPlace) × IsPartPlace samples p there
-
 -- the values of a cut record are in the ranges of the form
 pub record IsCutInForm (samples : List Size) (cut : CutRecord) : Type 0 where
   pub corner : IsShort cut.placement.rect.corner
   pub size : IsBoxSize cut.placement.rect.size
-  pub from : IsFrom samples cut.placement.from
+  pub from : IsInSamples samples cut.placement.from
   pub choice : length cut.choice ≡ cell_count cut.placement.rect.size
   pub flows : length cut.flows ≡ pair_count cut.placement.rect.size

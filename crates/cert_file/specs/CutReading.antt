@@ -1,5 +1,5 @@
 -- What a reader has to trust: how a cut record is read, field by field. (Own.)
-use Rattle.std.specs.Prelude.{◌≤◌, ◌+◌, ◌/◌, ◌%◌, ◌==◌, ◌||◌, ◌++◌, ℕ, zero, suc, ℤ, pos, nat_lt, nat_le, Bool, true, false, if◌then◌else◌, List, [], ◌∷◌, length, take, drop, slice_index, unwrap_or, Result, Ok, Err}
+use Rattle.std.specs.Prelude.{◌≤◌, ◌+◌, ◌/◌, ◌%◌, ◌==◌, ◌++◌, ℕ, zero, suc, ℤ, pos, nat_lt, nat_le, Bool, true, false, if◌then◌else◌, List, [], ◌∷◌, length, take, drop, slice_index, Result, Ok, Err}
 use Rattle.std.specs.Int.{cast_signed, from_be_bytes, w16}
 use Rattle.std.specs.List.{flat_map}
 use Rattle.shelf_core.specs.declared.fault.FormFault.TheVariants.{Form}
@@ -9,26 +9,27 @@ use Rattle.shelf_core.specs.declared.fault.What.TheVariants.{Records}
 use Rattle.cells.specs.declared.place.At.{At}
 use Rattle.cells.specs.declared.place.Size.{Size}
 use Rattle.cells.specs.Places.{cell_count}
-use Rattle.cells.specs.SizeLists.{size_of_part, stock_place}
+use Rattle.cells.specs.SizeLists.{stock_place}
 use Rattle.box_walk.specs.Pairs.{pair_count}
 use Rattle.cut_check.specs.declared.record.CutRecord.{CutRecord}
 use Rattle.cut_check.specs.declared.record.Flow.{Flow}
 use Rattle.source_map.specs.declared.head.Version.{Version}
 use Rattle.source_map.specs.declared.head.Version.TheVariants.{One, Two}
+use Rattle.source_map.specs.MapFiles.{numbered_size, part_rule}
 use Rattle.source_map.specs.Readings.{◌>>=◌, field_read, number_read, list_read}
 use Rattle.cert_file.specs.CutForms.{IsBoxSize, choice_bytes}
 use Rattle.cert_file.specs.declared.cut_fields.TheConstants.{MOST_BOX_CELLS}
 
 -- the number of two bytes of a piece, from a place on
-abbrev pub number_at : List ℕ → ℕ → ℕ
-number_at piece i = from_be_bytes w16 (slice_index piece i ∷ slice_index piece (i + 1) ∷ [])
+abbrev pub number_of_two : List ℕ → ℕ → ℕ
+number_of_two piece i = from_be_bytes w16 (slice_index piece i ∷ slice_index piece (i + 1) ∷ [])
 
 -- the corner of a box: any three numbers of two bytes
 abbrev pub corner_rule : ℕ → List ℕ → Result At ReadError
 corner_rule at piece = Ok (record {
-  x = pos (number_at piece 0);
-  y = pos (number_at piece 2);
-  f = pos (number_at piece 4);
+  x = pos (number_of_two piece 0);
+  y = pos (number_of_two piece 2);
+  f = pos (number_of_two piece 4);
 })
 
 -- an axis of a box is at least 1
@@ -62,22 +63,15 @@ inside_read size at bytes =
     Ok (record { x = x.0; y = y.0; f = f.0 }, f.1)
 
 -- the number of a sample: not told in version 1, and from 1 to their count in version 2
-abbrev pub part_rule : ℕ → ℕ → ℕ → Result ℕ ReadError
-part_rule count at n = if n == 0 || nat_lt count n then Err (Bad (Form at)) else Ok n
-
 abbrev pub part_read : Version → ℕ → ℕ → List ℕ → Result (ℕ × ℕ) ReadError
 part_read One count at bytes = Ok (1, at)
 part_read Two count at bytes = number_read w16 (part_rule count) at bytes
-
--- the size of a sample; no cells where there is none of the number
-abbrev pub part_size : List Size → ℕ → Size
-part_size samples part = unwrap_or (size_of_part samples part) (record { w = 0; h = 0; f = 0 })
 
 -- where the new sources begin, as the joined volume counts it
 abbrev pub from_read : Version → List Size → ℕ → List ℕ → Result (At × ℕ) ReadError
 from_read version samples at bytes =
     part_read version (length samples) at bytes >>= λ part.
-    inside_read (part_size samples part.0) part.1 bytes >>= λ p.
+    inside_read (numbered_size samples part.0) part.1 bytes >>= λ p.
     Ok (stock_place samples part.0 p.0, p.1)
 
 -- the bits of a byte, from the highest on
@@ -106,8 +100,8 @@ choice_read cells = field_read (choice_bytes cells) (choice_rule cells)
 -- a flow: any two numbers of two bytes in two's complement
 abbrev pub flow_rule : ℕ → List ℕ → Result Flow ReadError
 flow_rule at piece = Ok (record {
-  x = cast_signed w16 (number_at piece 0);
-  y = cast_signed w16 (number_at piece 2);
+  x = cast_signed w16 (number_of_two piece 0);
+  y = cast_signed w16 (number_of_two piece 2);
 })
 
 abbrev pub flow_read : ℕ → List ℕ → Result (Flow × ℕ) ReadError

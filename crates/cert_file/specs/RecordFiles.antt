@@ -54,15 +54,15 @@ abbrev pub any_rule : ℕ → ℕ → Result ℕ ReadError
 any_rule at n = Ok n
 
 -- the file ends here
-abbrev pub end_read : ℕ → List ℕ → Result (Unit {0}) ReadError
-end_read at bytes = if nat_le (length bytes) at then Ok tt else Err (Bad (Form at))
+abbrev pub end_rule : ℕ → List ℕ → Result (Unit {0}) ReadError
+end_rule at bytes = if nat_le (length bytes) at then Ok tt else Err (Bad (Form at))
 
 -- cut records, from behind a head to the end of the file
 abbrev pub cuts_file_read : Head → ℕ → List ℕ → Result CertFile ReadError
 cuts_file_read head at bytes =
     number_read w32 any_rule at bytes >>= λ count.
     cuts_read head.version head.samples count.0 count.1 bytes >>= λ cuts.
-    end_read cuts.1 bytes >>= λ end. Ok (Cuts head cuts.0)
+    end_rule cuts.1 bytes >>= λ end. Ok (Cuts head cuts.0)
 
 -- what a whole file is read as: a value, or its first refusal
 abbrev pub cert_read : List ℕ → Result CertFile ReadError

@@ -4,10 +4,10 @@ ghost use Rattle.std.specs.Int.{w16};
 ghost use Rattle.shelf_core.specs.Files.{OnlyReads};
 ghost use Rattle.cells.specs.Places.{IsInside, on_axis};
 ghost use Rattle.file_bytes.specs.Reading.{Follows};
-ghost use Rattle.source_map.specs.MapFiles.{IsShort};
+ghost use Rattle.source_map.specs.MapFiles.{IsInSamples, part_rule};
+ghost use Rattle.source_map.specs.Writing.{IsShort};
 ghost use Rattle.source_map.specs.Readings.{IsRefusal, ReadsFrom, field_read, number_read};
-ghost use Rattle.cert_file.specs.CutForms.{IsFrom};
-ghost use Rattle.cert_file.specs.CutReading.{IsBoxAfter, box_axis_rule, box_cells_rule, box_size_read, coordinate_rule, corner_rule, from_read, inside_read, part_read, part_rule};
+ghost use Rattle.cert_file.specs.CutReading.{IsBoxAfter, box_axis_rule, box_cells_rule, box_size_read, coordinate_rule, corner_rule, from_read, inside_read, part_read};
 
 use cells::{At, Size, Sizes};
 use file_bytes::FileReader;
@@ -239,7 +239,7 @@ pub(crate) fn read_from<S: Shelf>(
     requires room { file.old.at < 2 ^ 62 }
     ensures answer { ReadsFrom ⊥ name.now file.old.at (S.state shelf.old) (S.state shelf.new)
         file.new (from_read version samples.now) result }
-    ensures inside { IfOk result (IsFrom samples.now) }
+    ensures inside { IfOk result (IsInSamples samples.now) }
     ensures place { OnOk result (file.new.at ≤ file.old.at + 8) }
     ensures reads { OnlyReads (S.state shelf.old) (S.state shelf.new) }
 {

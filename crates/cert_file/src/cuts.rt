@@ -3,8 +3,9 @@ ghost use Rattle.std.specs.Prelude.{◌≡◌, ◌≤◌, ◌<◌, ◌+◌, ◌*
 ghost use Rattle.std.specs.List.{flat_map};
 ghost use Rattle.file_bytes.specs.Writing.{Puts};
 ghost use Rattle.source_map.specs.Heads.{AreSamples};
-ghost use Rattle.source_map.specs.MapFiles.{IsShort, IsShortCoordinate, coordinate_field};
-ghost use Rattle.cert_file.specs.CutForms.{IsBoxSize, IsCutInForm, IsFrom, box_size_field, choice_bit, choice_byte, part_place_field, choice_field, cut_form, flow_field, from_field, place_field};
+ghost use Rattle.source_map.specs.MapFiles.{IsInSamples, coordinate_field, numbered_field, place_field};
+ghost use Rattle.source_map.specs.Writing.{IsShort, IsShortCoordinate};
+ghost use Rattle.cert_file.specs.CutForms.{IsBoxSize, IsCutInForm, box_size_field, choice_bit, choice_byte, choice_field, cut_form, flow_field, from_field};
 
 use cells::{At, PartPlace, Size, Sizes};
 use cut_check::{CutRecord, Flow};
@@ -101,7 +102,7 @@ fn put_flows<S: Shelf>(file: &mut FileWriter, flows: &[Flow], shelf: &mut S, nam
 fn put_part_place<S: Shelf>(file: &mut FileWriter, there: PartPlace, shelf: &mut S, name: &str)
     requires number { there.part < 2 ^ 16 }
     requires place { IsShort there.at }
-    ensures { Puts name.now (part_place_field (Some there))
+    ensures { Puts name.now (numbered_field there)
         (S.state shelf.old) (S.state shelf.new) file.old file.new }
 {
     file.put_u16(there.part as u16, shelf, name);
@@ -118,7 +119,7 @@ fn put_from<S: Shelf>(
     name: &str,
 )
     requires samples { AreSamples version samples.now }
-    requires from { IsFrom samples.now from }
+    requires from { IsInSamples samples.now from }
     ensures { Puts name.now (from_field version samples.now from)
         (S.state shelf.old) (S.state shelf.new) file.old file.new }
 {

@@ -4,7 +4,8 @@ use Rattle.std.specs.Prelude.{Err}
 use Rattle.std.specs.Int.{w16}
 use Rattle.source_map.specs.Readings.{ReadsFrom, number_rule}
 use Rattle.source_map.proofs.FieldLaws.{field_stops, number_16}
-use Rattle.cert_file.specs.CutReading.{part_read, part_rule}
+use Rattle.cert_file.specs.CutReading.{part_read}
+use Rattle.source_map.specs.MapFiles.{part_rule}
 use Rattle.cert_file.proofs.cut_fields.read_part.Goals as goal
 
 pub returns-in_err-n-in-Two-clause-answer : goal.returns-in_err-n-in-Two-clause-answer

@@ -2,8 +2,10 @@ use Rattle.std.proofs.Common.{subst, sym, ap, ◌∙◌}
 use Rattle.std.specs.Prelude.{IfSome}
 use Rattle.cells.specs.SizeLists.{IsPartPlace}
 use Rattle.file_bytes.specs.Writing.{Puts}
-use Rattle.cert_file.specs.CutForms.{from_field, part_place_field, place_field}
-use Rattle.cert_file.proofs.PartFields.{is_found, one_sample, part_place_is, short_part, short_there}
+use Rattle.cert_file.specs.CutForms.{from_field}
+use Rattle.source_map.specs.MapFiles.{numbered_field, place_field}
+use Rattle.source_map.proofs.PartLaws.{part_is}
+use Rattle.cert_file.proofs.PartFields.{is_found, one_sample, short_part, short_there}
 use Rattle.cert_file.proofs.cuts.put_from.Goals as goal
 
 pub unwrap-there-requires : goal.unwrap-there-requires
@@ -39,4 +41,4 @@ returns-in-Two g c =
     let samples = c.args.samples.now in
     let there = subst (λ o. IfSome o (IsPartPlace samples c.args.from)) c.unwrap-there.ensures c.part_of.ensures.some in
     subst (λ piece. Puts c.args.name.now piece (state c.args.shelf.now) (state c.put_part_place.new.shelf) c.args.file.now c.put_part_place.new.file)
-    (ap part_place_field (sym (part_place_is 1 samples c.args.from c.unwrap-there.result there)) ∙ ap (λ version. from_field version samples c.args.from) (sym c.in-Two.is)) c.put_part_place.ensures
+    (ap numbered_field (sym (part_is samples c.args.from c.unwrap-there.result there)) ∙ ap (λ version. from_field version samples c.args.from) (sym c.in-Two.is)) c.put_part_place.ensures

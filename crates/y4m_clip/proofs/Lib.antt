@@ -14,3 +14,4 @@ pub mod FramesEnd
 pub mod TagLaws
 pub mod FrontLaws
 pub mod ClipLaws
+pub mod OneClip

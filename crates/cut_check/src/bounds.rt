@@ -15,8 +15,8 @@ use crate::flows::flow_at;
 use crate::record::{CutRecord, Flow};
 use box_walk::{Counts, Walk};
 use cells::{At, Axis, Volume};
-use seams::seam_of;
 use map_canvas::{Map, Placement};
+use seams::seam_of;
 
 // A number between minus a cost and the cost.
 fn is_within(cost: u32, z: i16) -> bool

@@ -18,8 +18,8 @@ use crate::plan::Plan;
 use crate::seam_nodes::number_seams;
 use cells::Volume;
 use items::Items;
-use max_flow::Network;
 use map_canvas::{Canvas, Placement};
+use max_flow::Network;
 use std::alloc::{AllocError, Global};
 
 // Lays the pipes of a placement between its nodes.

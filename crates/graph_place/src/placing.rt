@@ -11,8 +11,8 @@ use crate::record::to_record;
 use cells::Volume;
 use cut_check::CutRecord;
 use cut_graph::build_held;
-use max_flow::solve;
 use map_canvas::{Canvas, Placement};
+use max_flow::solve;
 use std::alloc::{AllocError, Global};
 
 /// Puts a placement in, with cells of its box that are held old too: of the lawful choices without a held cell the

@@ -13,8 +13,8 @@ use cells::{At, Axis};
 use cut_check::{CutRecord, Flow};
 use cut_graph::Places;
 use items::Items;
-use max_flow::Solved;
 use map_canvas::{Canvas, Map, Placement};
+use max_flow::Solved;
 use std::alloc::{AllocError, Global};
 
 // A cell is new where its node isn't on the source's side.

@@ -23,7 +23,7 @@ use Rattle.box_sums.specs.Sums.{sum_to}
 use Rattle.box_sums.proofs.Additions.{counts}
 use Rattle.box_sums.proofs.Axes.{sum_more, sum_split}
 use Rattle.match_error.specs.Errors.{box_spot, spot_error}
-use Rattle.match_error.specs.Runs.{Adds, AddsRun, AreRunsIn, IsInRow, IsRunIn, laid_from, run_error}
+use Rattle.match_error.specs.Runs.{AddsError, AddsRun, AreRunsIn, IsInRow, IsRunIn, laid_from, run_error}
 use Rattle.match_error.proofs.Overlaps.{run_is_error, unfilled_error}
 
 -- a step from a place along a row
@@ -120,23 +120,23 @@ more_error canvas rect x y f n was now canvas_is is some row filled all = λ sam
     ∙ run_is_error canvas sample (laid_from rect from) canvas_is laid.volume laid.stands laid.fits y f row.row_in row.frame_in x n some row.columns_in filled)
 
 -- one more term
-pub adds_more : (canvas : CanvasState) (rect : Box3) (was mid now : FilledRuns) (n : ℕ) (g : ℕ → Cells → At → ℕ) → Adds canvas rect was mid (λ sample from. sum_to n (λ i. g i sample from)) → Adds canvas rect mid now (g n)
-    → Adds canvas rect was now (λ sample from. sum_to (n + 1) (λ i. g i sample from))
+pub adds_more : (canvas : CanvasState) (rect : Box3) (was mid now : FilledRuns) (n : ℕ) (g : ℕ → Cells → At → ℕ) → AddsError canvas rect was mid (λ sample from. sum_to n (λ i. g i sample from)) → AddsError canvas rect mid now (g n)
+    → AddsError canvas rect was now (λ sample from. sum_to (n + 1) (λ i. g i sample from))
 adds_more canvas rect was mid now n g first then = λ sample from laid.
     let more : sum_to (n + 1) (λ i. g i sample from) ≡ sum_to n (λ i. g i sample from) + g n sample from = sum_more counts n (λ i. g i sample from) in
     omega (arith, first sample from laid, then sample from laid, more)
 
 -- the cells of a row up to one, and a run after them
-pub row_more : (canvas : CanvasState) (rect : Box3) (was mid now : FilledRuns) (x y f n : ℕ) → Adds canvas rect was mid (λ sample from. sum_to x (λ i. spot_error canvas.map sample (laid_from rect from) i y f)) → AddsRun canvas rect x y f n mid now
-    → Adds canvas rect was now (λ sample from. sum_to (x + n) (λ i. spot_error canvas.map sample (laid_from rect from) i y f))
+pub row_more : (canvas : CanvasState) (rect : Box3) (was mid now : FilledRuns) (x y f n : ℕ) → AddsError canvas rect was mid (λ sample from. sum_to x (λ i. spot_error canvas.map sample (laid_from rect from) i y f)) → AddsRun canvas rect x y f n mid now
+    → AddsError canvas rect was now (λ sample from. sum_to (x + n) (λ i. spot_error canvas.map sample (laid_from rect from) i y f))
 row_more canvas rect was mid now x y f n first then = λ sample from laid.
     let g = λ (i : ℕ). spot_error canvas.map sample (laid_from rect from) i y f in
     let both : sum_to (x + n) g ≡ sum_to x g + sum_to n (λ j. g (x + j)) = sum_split counts x n g in
     omega (arith, first sample from laid, then sample from laid, both)
 
 -- an unfilled cell after them
-pub row_none : (canvas : CanvasState) (rect : Box3) (was now : FilledRuns) (x y f : ℕ) → Adds canvas rect was now (λ sample from. sum_to x (λ i. spot_error canvas.map sample (laid_from rect from) i y f)) → (IsFilled canvas.map (box_spot rect x y f) → ⊥)
-    → Adds canvas rect was now (λ sample from. sum_to (x + 1) (λ i. spot_error canvas.map sample (laid_from rect from) i y f))
+pub row_none : (canvas : CanvasState) (rect : Box3) (was now : FilledRuns) (x y f : ℕ) → AddsError canvas rect was now (λ sample from. sum_to x (λ i. spot_error canvas.map sample (laid_from rect from) i y f)) → (IsFilled canvas.map (box_spot rect x y f) → ⊥)
+    → AddsError canvas rect was now (λ sample from. sum_to (x + 1) (λ i. spot_error canvas.map sample (laid_from rect from) i y f))
 row_none canvas rect was now x y f first not = λ sample from laid.
     let g = λ (i : ℕ). spot_error canvas.map sample (laid_from rect from) i y f in
     let more : sum_to (x + 1) g ≡ sum_to x g + g x = sum_more counts x g in

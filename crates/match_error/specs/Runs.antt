@@ -54,23 +54,23 @@ pub record IsLaidOver (canvas : CanvasState) (rect : Box3) (sample : Cells) (fro
   pub fits : Fits canvas.map.size sample (laid_from rect from)
 
 -- other runs have so much more error, however the box is laid
-abbrev pub Adds : CanvasState → Box3 → FilledRuns → FilledRuns → (Cells → At → ℕ) → Type 0
-Adds canvas rect was now more =
+abbrev pub AddsError : CanvasState → Box3 → FilledRuns → FilledRuns → (Cells → At → ℕ) → Type 0
+AddsError canvas rect was now more =
     (sample : Cells) (from : At) → IsLaidOver canvas rect sample from
     → runs_error now sample from ≡ runs_error was sample from + more sample from
 
 -- that of n cells of a row from one on, of a row and of a frame
 abbrev pub AddsRun : CanvasState → Box3 → ℕ → ℕ → ℕ → ℕ → FilledRuns → FilledRuns → Type 0
-AddsRun canvas rect x y f n was now = Adds canvas rect was now
+AddsRun canvas rect x y f n was now = AddsError canvas rect was now
     (λ sample from. sum_to n (λ j. spot_error canvas.map sample (laid_from rect from) (x + j) y f))
 
 abbrev pub AddsRow : CanvasState → Box3 → ℕ → ℕ → FilledRuns → FilledRuns → Type 0
 AddsRow canvas rect y f was now =
-    Adds canvas rect was now (λ sample from. row_error canvas.map sample (laid_from rect from) y f)
+    AddsError canvas rect was now (λ sample from. row_error canvas.map sample (laid_from rect from) y f)
 
 abbrev pub AddsFrame : CanvasState → Box3 → ℕ → FilledRuns → FilledRuns → Type 0
 AddsFrame canvas rect f was now =
-    Adds canvas rect was now (λ sample from. frame_error canvas.map sample (laid_from rect from) f)
+    AddsError canvas rect was now (λ sample from. frame_error canvas.map sample (laid_from rect from) f)
 
 -- the runs are those of the filled cells of the box: however it is laid, their error is that of the
 -- definition

@@ -133,7 +133,7 @@ pub record IsShortlist (list : Shortlist) (errors : List Error) : Type 0 where
 abbrev pub IsFilledLow : Error → Type 0
 IsFilledLow error = (1 ≤ error.count) × IsLow error
 
-pub record IsSound (list : Shortlist) : Type 0 where
+pub record IsSoundShortlist (list : Shortlist) : Type 0 where
   pub best_low : IfSome list.best IsFilledLow
   pub low : All IsLowEntry list.near.items
   pub few : length list.near.items ≤ list.seen
@@ -142,7 +142,7 @@ pub record IsSound (list : Shortlist) : Type 0 where
 -- the shortlist of these errors
 pub record IsShortlistOf (tol : ℕ) (errors : List Error) (list : Shortlist) : Type 0 where
   pub short : IsShortlist list errors
-  pub sound : IsSound list
+  pub sound : IsSoundShortlist list
   pub tolerance : list.tol ≡ tol
 
 -- an error past what may be eligible

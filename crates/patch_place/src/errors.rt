@@ -8,7 +8,7 @@ ghost use Rattle.match_error.specs.Runs.{AreFilledRuns};
 ghost use Rattle.patch_place.specs.Counts.{AreVolumeParts};
 ghost use Rattle.patch_place.specs.Lists.{IsWithin};
 ghost use Rattle.patch_place.specs.Picks.{AllFit, errors_on, listed_on};
-ghost use Rattle.patch_place.specs.Tables.{IsBoxDone, IsLimitOf, IsMore, IsSeenTo, IsShortlist, IsShortlistOf, IsSound};
+ghost use Rattle.patch_place.specs.Tables.{IsBoxDone, IsLimitOf, IsMore, IsSeenTo, IsShortlist, IsShortlistOf, IsSoundShortlist};
 
 use crate::Candidates;
 use crate::candidates::{Spot, frames_before, part_after, parts_of, place_count, room};
@@ -47,10 +47,10 @@ impl Shortlist {
         requires over { StandsOver canvas.now sample.now }
         requires fits { Fits canvas.now.map.size sample.now placement.now }
         requires few { self.old.seen + 1 < 2 ^ 32 }
-        requires sound { IsSound self.old }
+        requires sound { IsSoundShortlist self.old }
         ensures more { OnOk result (IsMore self.old self.new
             (error_of canvas.now.map sample.now placement.now)) }
-        ensures sound { OnOk result (IsSound self.new) }
+        ensures sound { OnOk result (IsSoundShortlist self.new) }
         ensures tol { self.new.tol ≡ self.old.tol }
         ensures seen { OnOk result (self.new.seen ≡ self.old.seen + 1) }
     {
@@ -86,11 +86,11 @@ impl Shortlist {
         requires filled { 1 ≤ count }
         requires limit { IsLimitOf self.old count limit }
         requires few { self.old.seen + 1 < 2 ^ 32 }
-        requires sound { IsSound self.old }
+        requires sound { IsSoundShortlist self.old }
         ensures more { OnOk result (IsMore self.old self.new
             (error_of canvas.now.map sample.now placement.now)) }
         ensures limit { IfOk result (IsLimitOf self.new count) }
-        ensures sound { OnOk result (IsSound self.new) }
+        ensures sound { OnOk result (IsSoundShortlist self.new) }
         ensures tol { self.new.tol ≡ self.old.tol }
         ensures seen { OnOk result (self.new.seen ≡ self.old.seen + 1) }
     {
@@ -125,12 +125,12 @@ impl Shortlist {
         requires runs { AreFilledRuns canvas.now rect.now runs.now }
         requires count { count ≡ filled_cells canvas.now.map rect.now }
         requires filled { 1 ≤ count }
-        requires sound { IsSound self.old }
+        requires sound { IsSoundShortlist self.old }
         requires so_far { IsBoxDone canvas.now sample.now rect.now n self.old }
         requires seen { IsSeenTo rect.now sizes.now n self.old.seen }
         ensures done { OnOk result (IsBoxDone canvas.now sample.now rect.now (n + 1) self.new) }
         ensures seen { OnOk result (IsSeenTo rect.now sizes.now (n + 1) self.new.seen) }
-        ensures sound { OnOk result (IsSound self.new) }
+        ensures sound { OnOk result (IsSoundShortlist self.new) }
         ensures tol { self.new.tol ≡ self.old.tol }
     {
         let free = room(part_after(sizes, n), rect.size);

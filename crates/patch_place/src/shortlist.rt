@@ -2,7 +2,7 @@
 ghost use Rattle.std.specs.Prelude.{◌≡◌, ◌≤◌, ◌<◌, ◌+◌, ◌*◌, ◌^◌, ℕ, All, List, OnOk, length};
 ghost use Rattle.match_error.specs.declared.error.Error.{Error};
 ghost use Rattle.patch_place.specs.Steps.{after_draw};
-ghost use Rattle.patch_place.specs.Tables.{HasTable, IsLimitOf, IsLow, IsMore, IsPast, IsPickOf, IsShortOf, IsShortlist, IsSound, IsUnfilled};
+ghost use Rattle.patch_place.specs.Tables.{HasTable, IsLimitOf, IsLow, IsMore, IsPast, IsPickOf, IsShortOf, IsShortlist, IsSoundShortlist, IsUnfilled};
 
 use crate::Draws;
 use crate::eligible::{Entry, better, near_count, nth_near};
@@ -39,7 +39,7 @@ impl Shortlist {
     pub(crate) fn unfilled(alloc: Global, tol: u32, seen: u32) -> Shortlist
         ensures short { (errors : List Error) → All IsUnfilled errors → length errors ≡ seen
             → IsShortlist result errors }
-        ensures sound { IsSound result }
+        ensures sound { IsSoundShortlist result }
         ensures tol { result.tol ≡ tol }
         ensures seen { result.seen ≡ seen }
     {
@@ -54,9 +54,9 @@ impl Shortlist {
     /// One more candidate, which is never eligible.
     pub(crate) fn skip(&mut self)
         requires few { self.old.seen + 1 < 2 ^ 32 }
-        requires sound { IsSound self.old }
+        requires sound { IsSoundShortlist self.old }
         ensures more { (error : Error) → IsPast self.old error → IsMore self.old self.new error }
-        ensures sound { IsSound self.new }
+        ensures sound { IsSoundShortlist self.new }
         ensures best { self.new.best ≡ self.old.best }
         ensures tol { self.new.tol ≡ self.old.tol }
         ensures seen { self.new.seen ≡ self.old.seen + 1 }
@@ -67,11 +67,11 @@ impl Shortlist {
     /// One more candidate, which has filled cells.
     pub(crate) fn keep(&mut self, error: &Error) -> Result<(), AllocError>
         requires few { self.old.seen + 1 < 2 ^ 32 }
-        requires sound { IsSound self.old }
+        requires sound { IsSoundShortlist self.old }
         requires filled { 1 ≤ error.now.count }
         requires low { IsLow error.now }
         ensures more { OnOk result (IsMore self.old self.new error.now) }
-        ensures sound { OnOk result (IsSound self.new) }
+        ensures sound { OnOk result (IsSoundShortlist self.new) }
         ensures tol { self.new.tol ≡ self.old.tol }
         ensures seen { OnOk result (self.new.seen ≡ self.old.seen + 1) }
     {
@@ -88,7 +88,7 @@ impl Shortlist {
     /// What the sum over so many filled cells may be at most: a candidate with more is never eligible.
     pub(crate) fn limit_for(&self, count: u32) -> u64
         requires some { 1 ≤ count }
-        requires sound { IsSound self.now }
+        requires sound { IsSoundShortlist self.now }
         ensures { IsLimitOf self.now count result }
     {
         match &self.best {
@@ -100,7 +100,7 @@ impl Shortlist {
     /// The index that the next draw picks.
     pub(crate) fn picked(&self, draws: &mut Draws) -> u32
         requires some { 0 < self.now.seen }
-        requires sound { IsSound self.now }
+        requires sound { IsSoundShortlist self.now }
         requires table { HasTable self.now }
         ensures picked { (table : List Error) → IsShortOf self.now table
             → IsPickOf self.now.tol table draws.old result }

@@ -13,7 +13,7 @@ use Rattle.run_outcome.specs.Commands.{Command, HasTurn, named}
 use Rattle.run_outcome.specs.Outcomes.{AreRefused, NoneRefused, NotMade}
 use Rattle.samples.specs.declared.several.Samples.{Samples}
 use Rattle.samples.specs.Samples.{StandsAs}
-use Rattle.samples.specs.Several.{AreSamples, MayRefuseSamples, NoSampleRefused, RefusesSamples, SamplesAreRefused, SamplesReadAs, StandForParts, contents, numbered_files, sample_files}
+use Rattle.samples.specs.Several.{StandForSamples, MayRefuseSamples, NoSampleRefused, RefusesSamples, SamplesAreRefused, SamplesReadAs, StandForParts, contents, numbered_files, sample_files}
 use Rattle.samples.proofs.OneSample.{stands_alone}
 use Rattle.samples.proofs.Joined.{parts_alone, same_parts}
 
@@ -56,7 +56,7 @@ module _ (c : Command) (first : List ℕ) (more : List (List ℕ))
   samples_not_made (Write part) left = absurd left.known
 
 -- the samples of one file are the sample of that file
-pub one_file : (first : List ℕ) (samples : Samples) → AreSamples first [] samples → StandsAs first samples.form samples.volume
+pub one_file : (first : List ℕ) (samples : Samples) → StandForSamples first [] samples → StandsAs first samples.form samples.volume
 one_file first samples a = by (parts_of samples.volume) refl a.parts
   where
     by : (parts : List Cells) → parts_of samples.volume ≡ parts → StandForParts samples.form first [] parts → StandsAs first samples.form samples.volume

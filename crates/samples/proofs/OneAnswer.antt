@@ -12,7 +12,7 @@ use Rattle.run_outcome.specs.Faults.{fault_of_read}
 use Rattle.samples.specs.declared.form.Form.{Form}
 use Rattle.samples.specs.declared.several.Samples.{Samples}
 use Rattle.samples.specs.Samples.{StandsAs, goes_with}
-use Rattle.samples.specs.Several.{AreSamples, IsRefusedFurther, NoSampleRefused, RefusesNext, RefusesSamples, StandAlike, StandForParts, StandsAlike}
+use Rattle.samples.specs.Several.{StandForSamples, IsRefusedFurther, NoSampleRefused, RefusesNext, RefusesSamples, StandAlike, StandForParts, StandsAlike}
 use Rattle.samples.proofs.OneSample.{count_alone, one_sample, one_sample_refusal, stands_alone, stands_or_refused}
 use Rattle.samples.proofs.Joined.{count_of_parts, parts_count, parts_count-append, same_parts}
 
@@ -43,7 +43,7 @@ parts_once form other first more (x ∷ xs) (y ∷ ys) a b =
           ∙ ap (λ zs. y ∷ zs) (alike_once form more xs ys a.1 (subst (λ f. StandAlike f more ys) (sym same.form_is) b.1));
     }
 
-pub one_value : (first : List ℕ) (more : List (List ℕ)) (one other : Samples) → AreSamples first more one → AreSamples first more other → one ≡ other
+pub one_value : (first : List ℕ) (more : List (List ℕ)) (one other : Samples) → StandForSamples first more one → StandForSamples first more other → one ≡ other
 one_value first more one other a b =
     let same = parts_once one.form other.form first more (parts_of one.volume) (parts_of other.volume) a.parts b.parts in
     ap (λ f. record one { form = f }) same.form_is ∙ ap (λ v. record other { volume = v }) (same_parts one.volume other.volume same.parts_are)
@@ -72,7 +72,7 @@ split_at form (file ∷ files) (suc turn) bytes (p ∷ parts) a here =
 
 module _ (first : List ℕ) (more : List (List ℕ)) (form : Form) where
   by_next : (before : Samples) (number turn : ℕ) (bytes : List ℕ) (fault : Fault) (p : Cells) (parts : List Cells) → StandsAs first form p → (s : IsSplit form more turn bytes parts)
-      → AreSamples first (take turn more) before → parts_count (p ∷ parts) ≤ 8388608 → RefusesNext before number bytes fault → ⊥
+      → StandForSamples first (take turn more) before → parts_count (p ∷ parts) ≤ 8388608 → RefusesNext before number bytes fault → ⊥
   by_next before number turn bytes fault p parts stands s stand fits (inl reader) = stands_or_refused bytes s.its.own s.own reader.0 s.its.stands reader.1
   by_next before number turn bytes fault p parts stands s stand fits (inr (inl unlike)) =
       let same = parts_once form before.form first (take turn more) (p ∷ s.before) (parts_of before.volume) (stands, s.front) stand.parts in
@@ -94,7 +94,7 @@ module _ (first : List ℕ) (more : List (List ℕ)) (form : Form) where
   by_parts n fault (p ∷ parts) stand fits (inr r) =
       by_next r.before n r.turn r.bytes fault p parts stand.0 (split_at form more r.turn r.bytes parts stand.1 r.its) r.stand fits r.refused
 
-pub not_both : (first : List ℕ) (more : List (List ℕ)) (samples : Samples) (n : ℕ) (fault : Fault) → AreSamples first more samples → RefusesSamples n first more fault → ⊥
+pub not_both : (first : List ℕ) (more : List (List ℕ)) (samples : Samples) (n : ℕ) (fault : Fault) → StandForSamples first more samples → RefusesSamples n first more fault → ⊥
 not_both first more samples n fault a refused =
     by_parts first more samples.form n fault (parts_of samples.volume) a.parts (subst (λ c. c ≤ 8388608) (count_of_parts samples.volume) a.fits) refused
 
@@ -123,11 +123,11 @@ refused_in_front first more i m fault le (inr r) = let lt : r.turn < i = omega (
   bytes = r.bytes;
   its = get_in_front more r.turn i r.bytes lt r.its;
   before = r.before;
-  stand = subst (λ xs. AreSamples first xs r.before) (sym (take_again more r.turn i lt)) r.stand;
+  stand = subst (λ xs. StandForSamples first xs r.before) (sym (take_again more r.turn i lt)) r.stand;
   refused = r.refused;
 })
 
-pub none_refused : (first : List ℕ) (more : List (List ℕ)) (i : ℕ) (samples : Samples) → AreSamples first (take i more) samples → NoSampleRefused (i + 1) first more
+pub none_refused : (first : List ℕ) (more : List (List ℕ)) (i : ℕ) (samples : Samples) → StandForSamples first (take i more) samples → NoSampleRefused (i + 1) first more
 none_refused first more i samples a = λ m fault le refused. not_both first (take i more) samples m fault a (refused_in_front first more i m fault le refused)
 
 pub none_at_first : (first : List ℕ) (more : List (List ℕ)) → NoSampleRefused 0 first more
@@ -165,7 +165,7 @@ module _ (first : List ℕ) (more : List (List ℕ)) (m n : ℕ) (one other : Fa
   same_turn : (a : IsRefusedFurther m first more one) (b : IsRefusedFurther n first more other) → a.turn ≡ b.turn → one ≡ other
   same_turn a b turns =
       let bytes : a.bytes ≡ b.bytes = let here = a.its in let there = b.its in let both = ap (slice_get more) turns in cc in
-      let samples : a.before ≡ b.before = one_value first (take b.turn more) a.before b.before (subst (λ t. AreSamples first (take t more) a.before) turns a.stand) b.stand in
+      let samples : a.before ≡ b.before = one_value first (take b.turn more) a.before b.before (subst (λ t. StandForSamples first (take t more) a.before) turns a.stand) b.stand in
       let number : m ≡ n = omega (arith, a.number_is, b.number_is, turns) in
       next_once b.before n b.bytes one other
       (subst (λ s. RefusesNext s n b.bytes one) samples (subst (λ x. RefusesNext a.before x b.bytes one) number (subst (λ x. RefusesNext a.before m x one) bytes a.refused))) b.refused

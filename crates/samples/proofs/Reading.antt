@@ -19,7 +19,7 @@ use Rattle.samples.specs.declared.form.Form.{Form}
 use Rattle.samples.specs.declared.sample.Sample.{Sample}
 use Rattle.samples.specs.declared.several.Samples.{Samples}
 use Rattle.samples.specs.Samples.{IsSampleOf, IsSoundIn, IsSoundSample, RefusesSample, goes_with}
-use Rattle.samples.specs.Several.{AreSamples, AreSoundSamples, MayRefuseSamples, NoSampleRefused, RefusesNext, RefusesSamples, SamplesAreRefused, SamplesReadAs, StandAlike, StandForParts, StandsAlike, contents, numbered_files}
+use Rattle.samples.specs.Several.{StandForSamples, AreSoundSamples, MayRefuseSamples, NoSampleRefused, RefusesNext, RefusesSamples, SamplesAreRefused, SamplesReadAs, StandAlike, StandForParts, StandsAlike, contents, numbered_files}
 use Rattle.samples.specs.Steps.{IsJoined, IsNextRead, IsNextRefused, NotNext}
 use Rattle.samples.proofs.OneSample.{count_alone, sound_alone, sound_count, sound_first, sound_joined}
 use Rattle.samples.proofs.Joined.{parts_alone}
@@ -59,8 +59,8 @@ parts_behind : (form : Form) (first : List ℕ) (files : List (List ℕ)) (parts
 parts_behind form first files [] bytes own a here = absurd a
 parts_behind form first files (p ∷ parts) bytes own a here = (a.0, alike_behind form files parts bytes own a.1 here)
 
-stand_more : (first : List ℕ) (files : List (List ℕ)) (bytes : List ℕ) (before after : Samples) (sample : Sample) → AreSamples first files before → IsSampleOf bytes sample → IsJoined before sample after
-    → AreSamples first (files ++ bytes ∷ []) after
+stand_more : (first : List ℕ) (files : List (List ℕ)) (bytes : List ℕ) (before after : Samples) (sample : Sample) → StandForSamples first files before → IsSampleOf bytes sample → IsJoined before sample after
+    → StandForSamples first (files ++ bytes ∷ []) after
 stand_more first files bytes before after sample a read j = record {
   parts = subst (λ f. StandForParts f first (files ++ bytes ∷ []) (parts_of after.volume)) (sym j.form)
       (subst (StandForParts before.form first (files ++ bytes ∷ [])) (sym j.parts)
@@ -69,7 +69,7 @@ stand_more first files bytes before after sample a read j = record {
 }
 
 -- the samples of the first file
-pub stand_first : (bytes : List ℕ) (form : Form) (volume : Cells) → IsSoundIn form volume → IsSampleOf bytes (record { form = form; volume = volume }) → AreSamples bytes [] (record { form = form; volume = volume })
+pub stand_first : (bytes : List ℕ) (form : Form) (volume : Cells) → IsSoundIn form volume → IsSampleOf bytes (record { form = form; volume = volume }) → StandForSamples bytes [] (record { form = form; volume = volume })
 stand_first bytes form volume s read = record {
   parts = subst (StandForParts form bytes []) (sym (parts_alone volume (sound_alone form volume s))) (read, tt);
   fits = sound_count form volume s;
@@ -90,7 +90,7 @@ contents_more files names i name lt is =
 -- Reading.
 
 abbrev pub AreReadSoFar : List ℕ → List (List ℕ) → Samples → ShelfState → ShelfState → Type 0
-AreReadSoFar first names samples was now = Changes was now (λ before after. AreSamples (content_of before first) (contents before names) samples)
+AreReadSoFar first names samples was now = Changes was now (λ before after. StandForSamples (content_of before first) (contents before names) samples)
 
 module _ (was mid now : ShelfState) (reads : OnlyReads was mid) where
   -- what is known of the files as they are is known of them as they were
@@ -101,11 +101,11 @@ module _ (was mid now : ShelfState) (reads : OnlyReads was mid) where
   pub read_more : (first : List ℕ) (names : List (List ℕ)) (i : ℕ) (name : List ℕ) (before after : Samples) → i < length names → name ≡ get_or names i name
       → AreReadSoFar first (take i names) before was mid → IsNextRead before name mid now after → AreReadSoFar first (take (i + 1) names) after was now
   read_more first names i name before after lt is so_far next =
-      told_then (λ x y. (y ≡ x) × AreSamples (content_of x first) (contents x (take i names)) before) (λ x y. IsSampleOf (content_of x name) next.sample)
-      (λ x y. AreSamples (content_of x first) (contents x (take (i + 1) names)) after) was.files mid.files now.files
-      (λ x y z same read. subst (λ files. AreSamples (content_of x first) files after) (sym (contents_more x names i name lt is))
+      told_then (λ x y. (y ≡ x) × StandForSamples (content_of x first) (contents x (take i names)) before) (λ x y. IsSampleOf (content_of x name) next.sample)
+      (λ x y. StandForSamples (content_of x first) (contents x (take (i + 1) names)) after) was.files mid.files now.files
+      (λ x y z same read. subst (λ files. StandForSamples (content_of x first) files after) (sym (contents_more x names i name lt is))
       (stand_more (content_of x first) (contents x (take i names)) (content_of x name) before after next.sample same.1 (subst (λ f. IsSampleOf (content_of f name) next.sample) same.0 read) next.joined))
-      (told_both (λ x y. y ≡ x) (λ x y. AreSamples (content_of x first) (contents x (take i names)) before) was.files mid.files reads.files so_far) next.read
+      (told_both (λ x y. y ≡ x) (λ x y. StandForSamples (content_of x first) (contents x (take i names)) before) was.files mid.files reads.files so_far) next.read
 
 -- The first sample isn't read.
 
@@ -185,12 +185,12 @@ module _ (first : List ℕ) (names : List (List ℕ)) (i : ℕ) (name : List ℕ
   contents_front files (x ∷ xs) (suc n) = ap (λ ys. content_of files x ∷ ys) (contents_front files xs n)
 
   abbrev SoFar : Files → Files → Type 0
-  SoFar x y = AreSamples (content_of x first) (take i (contents x names)) before
+  SoFar x y = StandForSamples (content_of x first) (take i (contents x names)) before
 
   then_front : AreReadSoFar first (take i names) before was mid → Changes was mid (λ x y. (y ≡ x) × SoFar x y)
   then_front known = told_both (λ x y. y ≡ x) SoFar was.files mid.files reads.files
-      (told_weaker (λ x y. AreSamples (content_of x first) (contents x (take i names)) before) SoFar was.files mid.files
-      (λ x y a. subst (λ files. AreSamples (content_of x first) files before) (contents_front x names i) a) known)
+      (told_weaker (λ x y. StandForSamples (content_of x first) (contents x (take i names)) before) SoFar was.files mid.files
+      (λ x y a. subst (λ files. StandForSamples (content_of x first) files before) (contents_front x names i) a) known)
 
   refused : (fault : Fault) → IsNextRefused before (i + 2) name mid now fault → SamplesAreRefused first names fault was now
   refused fault r = record {

@@ -54,7 +54,7 @@ StandForParts form first more (part ∷ parts) =
 -- the bytes stand for the parts of the volume, one file for each in their order: the first in the
 -- form of the samples, each other in a form that goes with it. All have no more cells together than
 -- one sample may have
-pub record AreSamples (first : List ℕ) (more : List (List ℕ)) (samples : Samples) : Type 0 where
+pub record StandForSamples (first : List ℕ) (more : List (List ℕ)) (samples : Samples) : Type 0 where
   pub parts : StandForParts samples.form first more (parts_of samples.volume)
   pub fits : count_of samples.volume ≤ MOST_SAMPLE_CELLS
 
@@ -91,7 +91,7 @@ pub record IsRefusedFurther (number : ℕ) (first : List ℕ) (more : List (List
   pub bytes : List ℕ
   pub its : slice_get more turn ≡ Some bytes
   pub before : Samples
-  pub stand : AreSamples first (take turn more) before
+  pub stand : StandForSamples first (take turn more) before
   pub refused : RefusesNext before number bytes fault
 
 -- the samples are refused for this fault once so many of them are read, and for nothing that is
@@ -142,7 +142,7 @@ abbrev pub SamplesReadAs : List ℕ → List (List ℕ) → ShelfState → Shelf
     → Result Samples Fault → Type 0
 SamplesReadAs first more was now (Ok samples) =
     Changes was now (λ before after.
-    AreSamples (content_of before first) (contents before more) samples)
+    StandForSamples (content_of before first) (contents before more) samples)
 SamplesReadAs first more was now (Err (Read its)) = IsSampleUnread first more its was now
 SamplesReadAs first more was now (Err NoMemory) = Unit {0}
 SamplesReadAs first more was now (Err fault) = SamplesAreRefused first more fault was now

@@ -2,15 +2,15 @@
 ghost use Rattle.std.specs.Prelude.{◌≡◌, ℕ, List};
 ghost use Rattle.synth_report.specs.declared.fault.Fault.{Fault};
 ghost use Rattle.samples.specs.declared.several.Samples.{Samples};
-ghost use Rattle.samples.specs.Several.{AreSamples, RefusesSamples};
+ghost use Rattle.samples.specs.Several.{StandForSamples, RefusesSamples};
 
 /// The bytes of sample files have one answer at most: they stand for samples of one form and volume, or
 /// they are refused for one fault once so many are read, and not both.
 pub fn one_answer()
     ensures one_value { (first : List ℕ) (more : List (List ℕ)) (one other : Samples) →
-        AreSamples first more one → AreSamples first more other → one ≡ other }
+        StandForSamples first more one → StandForSamples first more other → one ≡ other }
     ensures one_refusal { (first : List ℕ) (more : List (List ℕ)) (m n : ℕ) (one other : Fault) →
         RefusesSamples m first more one → RefusesSamples n first more other → one ≡ other }
     ensures not_both { (first : List ℕ) (more : List (List ℕ)) (samples : Samples) (n : ℕ)
-        (fault : Fault) → AreSamples first more samples → RefusesSamples n first more fault → ⊥ }
+        (fault : Fault) → StandForSamples first more samples → RefusesSamples n first more fault → ⊥ }
 {}

@@ -15,8 +15,8 @@ use crate::block::{Block, corners};
 use crate::slide::sum_boxes;
 use box_walk::{Counts, has_cells};
 use cells::{Axis, GREATEST_AXIS, Size, Volume};
-use seams::{Sources, seam_of};
 use map_canvas::Map;
+use seams::{Sources, seam_of};
 
 // The costs of the cells of a row and the next ones in it, from a cell on. The source of each is asked
 // for once: it is the second of one pair, and the first of the next.

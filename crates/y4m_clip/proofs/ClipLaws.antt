@@ -18,7 +18,7 @@ use Rattle.y4m_clip.specs.Clips.{frames_text, plane_bytes, most_frames}
 use Rattle.y4m_clip.specs.Refusals.{Framed, FrameLineBreaks, PlanesBreak, FrameLineTooLong, width_of, height_of, bound_of, RefusesClip, IsReadClip, ReadsClipAs}
 use Rattle.y4m_clip.specs.Reading.{HasLine}
 use Rattle.y4m_clip.specs.Heads.{HasFront}
-use Rattle.y4m_clip.specs.Frames.{FramesSeen, After, PassesFrames, FramesAs, IsFilled, frame_size}
+use Rattle.y4m_clip.specs.Frames.{FramesSeen, After, PassesFrames, FramesAs, IsFilledSoFar, frames_size}
 use Rattle.y4m_clip.proofs.Sees.{Sees, sees_weaker, sees_then, fault_later}
 use Rattle.y4m_clip.proofs.FrontLaws.{FrontSeen, front_seen}
 
@@ -169,7 +169,7 @@ frames_as name front most (Limit Parts number bound) a b c first second seen fra
 
 -- the clip of whole frames
 is_read : (bytes : List ℕ) (most : ℕ) (front : Front) (filled : Filled) (clip : Clip) (at : ℕ) → FrontSeen bytes most front → FramesSeen front.form.space front.w front.h front.start bytes filled.count at filled.bytes.items → drop at bytes ≡ []
-    → 1 ≤ filled.count → filled.count ≤ most_frames front.w front.h most → clip.form ≡ front.form → clip.volume ≡ volume_of (frame_size front filled) (samples_of front.form.space) filled.bytes.items
+    → 1 ≤ filled.count → filled.count ≤ most_frames front.w front.h most → clip.form ≡ front.form → clip.volume ≡ volume_of (frames_size front filled) (samples_of front.form.space) filled.bytes.items
     → IsReadClip most bytes clip
 is_read bytes most front filled clip at seen frames ends some few form volume =
     let there = moved bytes most front filled.count at filled.bytes.items seen frames in
@@ -191,7 +191,7 @@ is_read bytes most front filled clip at seen frames ends some few form volume =
     }
 
 pub read_as : (name : List ℕ) (most : ℕ) (front : Front) (filled : Filled) (clip : Clip) (a b c : ShelfState) → OnlyReads a b → OnlyReads b c → Sees a b (λ files. FrontSeen (content_of files name) most front)
-    → FramesAs front.form.space front.w front.h front.start most name b c (Ok filled) → IsFilled front most filled → clip.form ≡ front.form → clip.volume ≡ volume_of (frame_size front filled) (samples_of front.form.space) filled.bytes.items
+    → FramesAs front.form.space front.w front.h front.start most name b c (Ok filled) → IsFilledSoFar front most filled → clip.form ≡ front.form → clip.volume ≡ volume_of (frames_size front filled) (samples_of front.form.space) filled.bytes.items
     → ReadsClipAs most name a c (Ok clip)
 read_as name most front filled clip a b c first second seen frames is form volume =
     sees_then (λ files. FrontSeen (content_of files name) most front)

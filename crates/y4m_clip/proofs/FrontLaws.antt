@@ -11,7 +11,7 @@ use Rattle.y4m_clip.specs.declared.form.SpaceKind.TheVariants.{Mono, C444, C422,
 use Rattle.y4m_clip.specs.declared.line.Line.{Line}
 use Rattle.y4m_clip.specs.declared.head.Front.{Front}
 use Rattle.y4m_clip.specs.Spaces.{cell_width, cell_height}
-use Rattle.y4m_clip.specs.Clips.{capped, pixels_w, pixels_h, cells_w, cells_h, carried, spaced, IsKind, IsWhole, Fronted}
+use Rattle.y4m_clip.specs.Clips.{capped, pixels_w, pixels_h, cells_w, cells_h, carried, spaced, HasSpaceKind, IsWhole, Fronted}
 use Rattle.y4m_clip.specs.Refusals.{ShortLined, ShortSized, width_of, height_of, RefusesClip, ReadsClipAs}
 use Rattle.y4m_clip.specs.Reading.{AreTags, HasLine}
 use Rattle.y4m_clip.specs.Heads.{IsCellNumber, carried_number, HasFront, SizeRefused, TagsRefused, FrontAs}
@@ -65,7 +65,7 @@ tags_fit bytes short fits = omega (arith, carried_small bytes short, fits)
 
 -- The sized line.
 
-abbrev pub sized_of : (bytes : List ℕ) → (short : ShortLined bytes) → (kind : SpaceKind) → IsKind short.lined.tags kind → IsWhole short.lined.tags kind → ShortSized bytes
+abbrev pub sized_of : (bytes : List ℕ) → (short : ShortLined bytes) → (kind : SpaceKind) → HasSpaceKind short.lined.tags kind → IsWhole short.lined.tags kind → ShortSized bytes
 sized_of bytes short kind is whole = record { sized = record { lined = short.lined; kind = kind; is_kind = is; whole = whole }; short = short.short }
 
 size_refused : (bytes : List ℕ) (most : ℕ) (e : ReadError) → (short : ShortLined bytes) → SizeRefused short.lined.tags most e → RefusesClip most bytes e
@@ -122,9 +122,9 @@ tags_refused bytes most number bound short refused = inr (inl (
 
 -- the refusal of a line's tags is one of the file
 front_refuses : (bytes : List ℕ) (line : Line) (most : ℕ) (e : ReadError) → HasLine bytes line → FrontAs line most (Err e) → (e ≡ NoMemory → ⊥) → RefusesClip most bytes e
-front_refuses bytes line most (Bad Space) has refuses some = (has.short, subst (λ tags. (kind : SpaceKind) → IsKind tags kind → ⊥) has.tags_are refuses)
+front_refuses bytes line most (Bad Space) has refuses some = (has.short, subst (λ tags. (kind : SpaceKind) → HasSpaceKind tags kind → ⊥) has.tags_are refuses)
 front_refuses bytes line most (Bad Cell) has refuses some =
-    (record { lined = has.short; kind = refuses.0; is_kind = subst (λ tags. IsKind tags refuses.0) has.tags_are refuses.1 }, subst (λ tags. IsWhole tags refuses.0 → ⊥) has.tags_are refuses.2)
+    (record { lined = has.short; kind = refuses.0; is_kind = subst (λ tags. HasSpaceKind tags refuses.0) has.tags_are refuses.1 }, subst (λ tags. IsWhole tags refuses.0 → ⊥) has.tags_are refuses.2)
 front_refuses bytes line most (Limit Header number bound) has refuses some = tags_refused bytes most number bound has.short (subst (λ tags. TagsRefused tags number bound) has.tags_are refuses)
 front_refuses bytes line most (Limit Axis number bound) has refuses some = size_refused bytes most (Limit Axis number bound) has.short (subst (λ tags. SizeRefused tags most (Limit Axis number bound)) has.tags_are refuses)
 front_refuses bytes line most (Limit CellsLimit number bound) has refuses some = size_refused bytes most (Limit CellsLimit number bound) has.short (subst (λ tags. SizeRefused tags most (Limit CellsLimit number bound)) has.tags_are refuses)
@@ -173,7 +173,7 @@ front_seen bytes line most front has is =
         sized = record {
           lined = short.lined;
           kind = kind;
-          is_kind = subst (λ tags. IsKind tags kind) has.tags_are is.cells.is_kind;
+          is_kind = subst (λ tags. HasSpaceKind tags kind) has.tags_are is.cells.is_kind;
           whole = subst (λ tags. IsWhole tags kind) has.tags_are (is.cells.width.whole, is.cells.height.whole);
         };
         fits = record {

@@ -5,7 +5,7 @@ use Rattle.std.specs.List.{AllByRecursion, list_any}
 use Rattle.y4m_clip.specs.declared.scan.Letters.{Letters}
 use Rattle.y4m_clip.specs.declared.scan.Scan.{Scan}
 use Rattle.y4m_clip.specs.declared.scan.Scan.TheVariants.{Magic, Gap, Value, Number, Whole}
-use Rattle.y4m_clip.specs.StreamLine.{IsInk, is_axis, IsCount, HasValue, IsValue}
+use Rattle.y4m_clip.specs.StreamLine.{IsInk, is_axis, IsCount, MayHaveValue, IsTagValue}
 use Rattle.y4m_clip.specs.Scanning.{line_kind, no_letters, with_letter, may_follow, line_ended, tag_entered, in_gap, in_value, in_number, line_step, line_run}
 use Rattle.y4m_clip.proofs.Lines.{Goes, InTag, IsRest, Completes, ink_kind, kinds, test_digit, or_sooner}
 
@@ -44,13 +44,13 @@ enter_back s b text next ink step at =
         = some_same (Number (with_letter s b) false) next (sym (ap (λ t. cond t (Some (Number (with_letter s b) false)) (Some (Value (with_letter s b)))) e) ∙ chosen) in
         let in_tag : InTag (with_letter s b) (IsRest false) text = subst (λ n. Completes n text) (sym same) at in
         let count : IsCount in_tag.value = record { digits = in_tag.holds.digits; positive = in_tag.holds.some } in
-        let valued : IsValue b in_tag.value = subst (λ t. HasValue t in_tag.value) (sym e) count in
+        let valued : IsTagValue b in_tag.value = subst (λ t. MayHaveValue t in_tag.value) (sym e) count in
         ((b ∷ in_tag.value) ∷ in_tag.tags, (ink, may, valued, 0, in_tag.later, ap (λ t. 32 ∷ b ∷ t) in_tag.is, in_tag.goes))
     tested false e may chosen =
         let same : Value (with_letter s b) ≡ next
         = some_same (Value (with_letter s b)) next (sym (ap (λ t. cond t (Some (Number (with_letter s b) false)) (Some (Value (with_letter s b)))) e) ∙ chosen) in
         let in_tag : InTag (with_letter s b) (AllByRecursion IsInk) text = subst (λ n. Completes n text) (sym same) at in
-        let valued : IsValue b in_tag.value = subst (λ t. HasValue t in_tag.value) (sym e) in_tag.holds in
+        let valued : IsTagValue b in_tag.value = subst (λ t. MayHaveValue t in_tag.value) (sym e) in_tag.holds in
         ((b ∷ in_tag.value) ∷ in_tag.tags, (ink, may, valued, 0, in_tag.later, ap (λ t. 32 ∷ b ∷ t) in_tag.is, in_tag.goes))
 
 gap_back : (s : Letters) (b : ℕ) (text : List ℕ) (next : Scan) → in_gap s b (line_kind b) ≡ Some next → Completes next text → Completes (Gap s) (b ∷ text)

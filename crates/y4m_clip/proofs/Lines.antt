@@ -9,7 +9,7 @@ use Rattle.y4m_clip.specs.declared.scan.Kind.TheVariants.{Ink}
 use Rattle.y4m_clip.specs.declared.scan.Letters.{Letters}
 use Rattle.y4m_clip.specs.declared.scan.Scan.{Scan}
 use Rattle.y4m_clip.specs.declared.scan.Scan.TheVariants.{Magic, Gap, Value, Number, Whole}
-use Rattle.y4m_clip.specs.StreamLine.{IsInk, IsDigit, is_axis, HasValue, IsValue, has_stood, Continues}
+use Rattle.y4m_clip.specs.StreamLine.{IsInk, IsDigit, is_axis, MayHaveValue, IsTagValue, has_stood, Continues}
 use Rattle.y4m_clip.specs.Scanning.{line_kind, no_letters, with_letter, may_follow, line_ended, tag_entered, in_gap, in_value, in_number, line_step, line_run}
 
 -- which letters have stood
@@ -28,7 +28,7 @@ abbrev pub Goes : Letters → List (List ℕ) → List ℕ → Type 0
 Goes s [] text = (s.w && s.h ≡ true) × (n : ℕ) × (text ≡ replicate n 32 ++ 10 ∷ [])
 Goes s ([] ∷ tags) text = ⊥
 Goes s ((letter ∷ value) ∷ tags) text =
-    IsInk letter × (may_follow s letter ≡ true) × IsValue letter value
+    IsInk letter × (may_follow s letter ≡ true) × IsTagValue letter value
     × (n : ℕ) × (rest : List ℕ) × (text ≡ replicate (suc n) 32 ++ letter ∷ value ++ rest)
     × Goes (with_letter s letter) tags rest
 
@@ -117,11 +117,11 @@ begins s ([] ∷ tags) b text goes = absurd goes
 begins s ((letter ∷ value) ∷ tags) b text goes = let is : b ∷ text ≡ 32 ∷ (replicate goes.3 32 ++ letter ∷ value ++ goes.4) = goes.5 in inr cc
 
 -- the byte behind a blank
-enters : (s : Letters) (b : ℕ) (value later : List ℕ) (tags : List (List ℕ)) → may_follow s b ≡ true → IsValue b value → Goes (with_letter s b) tags later
+enters : (s : Letters) (b : ℕ) (value later : List ℕ) (tags : List (List ℕ)) → may_follow s b ≡ true → IsTagValue b value → Goes (with_letter s b) tags later
     → (next : Scan) × (tag_entered s b ≡ Some next) × Completes next (value ++ later)
 enters s b value later tags may valued goes = tested (is_axis b) refl valued
   where
-    tested : (t : Bool) → is_axis b ≡ t → HasValue t value → (next : Scan) × (tag_entered s b ≡ Some next) × Completes next (value ++ later)
+    tested : (t : Bool) → is_axis b ≡ t → MayHaveValue t value → (next : Scan) × (tag_entered s b ≡ Some next) × Completes next (value ++ later)
     tested true e is = (
       Number (with_letter s b) false,
       ap (λ t. cond t (cond (is_axis b) (Some (Number (with_letter s b) false)) (Some (Value (with_letter s b)))) None) may

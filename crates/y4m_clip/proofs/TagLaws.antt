@@ -4,7 +4,7 @@ use Rattle.std.specs.Prelude.{Some, unwrap_or, ◌==◌, ◌&&◌, ◌||◌, nat
 use Rattle.std.specs.List.{list_any}
 use Rattle.std.proofs.lemmas.Bool.{eqb-true, ltb-true}
 use Rattle.std.proofs.lemmas.List.{length-append}
-use Rattle.y4m_clip.specs.StreamLine.{is_axis, IsCount, HasValue, has_stood, has_axes, Continues, IsStreamLine}
+use Rattle.y4m_clip.specs.StreamLine.{is_axis, IsCount, MayHaveValue, has_stood, has_axes, Continues, IsStreamLine}
 use Rattle.y4m_clip.specs.Clips.{tag_value, value_behind, tag_number, carried, spaced}
 
 -- A number of a tag is at least 1.
@@ -21,8 +21,8 @@ count_positive n (digit ∷ value) any = tested (nat_lt 48 digit) refl any (coun
     tested true e found later = let more : 48 < digit = ltb-true 48 digit e in behind_some (10 * n + (digit - 48)) value (omega arith)
     tested false e found later = later found
 
-axis_value : (letter : ℕ) (value : List ℕ) → is_axis letter ≡ true → HasValue (is_axis letter) value → IsCount value
-axis_value letter value axis is = subst (λ t. HasValue t value) axis is
+axis_value : (letter : ℕ) (value : List ℕ) → is_axis letter ≡ true → MayHaveValue (is_axis letter) value → IsCount value
+axis_value letter value axis is = subst (λ t. MayHaveValue t value) axis is
 
 axis_stands : (axis : ℕ) → is_axis axis ≡ true → ((letters : List ℕ) → has_axes letters ≡ true → has_stood letters axis ≡ true)
     → (letters : List ℕ) (tags : List (List ℕ)) (text : List ℕ) → Continues letters tags text → has_stood letters axis ≡ false → 1 ≤ tag_number axis tags

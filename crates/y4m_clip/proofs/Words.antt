@@ -3,7 +3,7 @@ use Rattle.std.proofs.Common.{◌≡◌, ℕ, zero, suc, ◌≤◌, ◌+◌, ◌
 use Rattle.std.specs.Prelude.{replicate}
 use Rattle.std.specs.List.{AllByRecursion}
 use Rattle.std.proofs.lemmas.List.{append-nil, length-take-le, drop-take, take-append-drop}
-use Rattle.y4m_clip.specs.StreamLine.{IsInk, IsDigit, is_axis, HasValue, IsStreamLine, Continues}
+use Rattle.y4m_clip.specs.StreamLine.{IsInk, IsDigit, is_axis, MayHaveValue, IsStreamLine, Continues}
 use Rattle.y4m_clip.specs.Reading.{IsLineOf, AreTags, gathered_on, gathered, HasShortLine, HasLine}
 use Rattle.y4m_clip.proofs.Lines.{ink_kind, digit_ink}
 
@@ -21,7 +21,7 @@ digits_ink : (value : List ℕ) → AllByRecursion IsDigit value → AllByRecurs
 digits_ink [] each = tt
 digits_ink (b ∷ value) each = (digit_ink b each.0, digits_ink value each.1)
 
-value_ink : (axis : Bool) (value : List ℕ) → HasValue axis value → AllByRecursion IsInk value
+value_ink : (axis : Bool) (value : List ℕ) → MayHaveValue axis value → AllByRecursion IsInk value
 value_ink true value is = digits_ink value is.digits
 value_ink false value is = is
 

@@ -48,7 +48,7 @@ pub record Lined (bytes : List ℕ) : Type 0 where
   pub is : bytes ≡ line ++ rest
 
 -- the colour kind, and an interlacing that is read
-pub record IsKind (tags : List (List ℕ)) (kind : SpaceKind) : Type 0 where
+pub record HasSpaceKind (tags : List (List ℕ)) (kind : SpaceKind) : Type 0 where
   pub space : GivesSpace (tag_value 67 tags) kind
   pub interlace : GivesInterlace (tag_value 73 tags)
 
@@ -82,7 +82,7 @@ capped n = min n greatest_number
 pub record Sized (bytes : List ℕ) : Type 0 where
   pub lined : Lined bytes
   pub kind : SpaceKind
-  pub is_kind : IsKind lined.tags kind
+  pub is_kind : HasSpaceKind lined.tags kind
   pub whole : IsWhole lined.tags kind
 
 -- the bounds on the stream line, the carried tags, width and height, and on the cells of one frame

@@ -194,7 +194,7 @@ pub record IsSoundFront (front : Front) (most : ℕ) : Type 0 where
   pub most_fits : most ≤ MOST_OF_ALL
 
 -- cells of one frame or more, as many as fit
-pub record IsFilled (front : Front) (most : ℕ) (filled : Filled) : Type 0 where
+pub record IsFilledSoFar (front : Front) (most : ℕ) (filled : Filled) : Type 0 where
   pub some : 1 ≤ filled.count
   pub few : filled.count ≤ most_frames front.w front.h most
   pub whole : length filled.bytes.items ≡ samples_of front.form.space * front.w * front.h * filled.count
@@ -210,5 +210,5 @@ finished bytes count =
     if count == 0 then Err (Bad NoFrames) else Ok (record { bytes = bytes; count = count })
 
 -- the size of a volume with these frames
-abbrev pub frame_size : Front → Filled → Size
-frame_size front filled = record { w = front.w; h = front.h; f = filled.count }
+abbrev pub frames_size : Front → Filled → Size
+frames_size front filled = record { w = front.w; h = front.h; f = filled.count }

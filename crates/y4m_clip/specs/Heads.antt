@@ -10,7 +10,7 @@ use Rattle.y4m_clip.specs.declared.head.Front.{Front}
 use Rattle.y4m_clip.specs.declared.line.Line.{Line}
 use Rattle.y4m_clip.specs.declared.form.SpaceKind.{SpaceKind}
 use Rattle.y4m_clip.specs.Spaces.{cell_width, cell_height}
-use Rattle.y4m_clip.specs.Clips.{capped, carried, spaced, pixels_w, pixels_h, IsKind, IsWhole}
+use Rattle.y4m_clip.specs.Clips.{capped, carried, spaced, pixels_w, pixels_h, HasSpaceKind, IsWhole}
 
 -- a number, as far as a u64 goes, and what is left of it after division by 4
 pub record IsCounted (n : ℕ) (count : Count) : Type 0 where
@@ -43,8 +43,8 @@ IsAllowedSize w h most (Ok size) = SizeFits w h most size
 IsAllowedSize w h most (Err error) = SizeExceeds w h most error
 
 -- width and height in cells, as far as a u64 of pixels goes
-pub record HasCells (tags : List (List ℕ)) (kind : SpaceKind) (w h : ℕ) : Type 0 where
-  pub is_kind : IsKind tags kind
+pub record HasWholeCells (tags : List (List ℕ)) (kind : SpaceKind) (w h : ℕ) : Type 0 where
+  pub is_kind : HasSpaceKind tags kind
   pub width : IsCellNumber (pixels_w tags) (cell_width kind) w
   pub height : IsCellNumber (pixels_h tags) (cell_height kind) h
 
@@ -56,7 +56,7 @@ carried_number tags = capped (length (spaced (carried tags)))
 pub record HasFront (line : Line) (most : ℕ) (front : Front) : Type 0 where
   pub w : ℕ
   pub h : ℕ
-  pub cells : HasCells line.tags front.form.space w h
+  pub cells : HasWholeCells line.tags front.form.space w h
   pub tags_fit : carried_number line.tags ≤ MOST_TAGS
   pub size : SizeFits w h most (front.w, front.h)
   pub tags_are : front.form.tags ≡ carried line.tags
@@ -67,14 +67,14 @@ pub record SizeRefused (tags : List (List ℕ)) (most : ℕ) (error : ReadError)
   pub kind : SpaceKind
   pub w : ℕ
   pub h : ℕ
-  pub cells : HasCells tags kind w h
+  pub cells : HasWholeCells tags kind w h
   pub tags_fit : carried_number tags ≤ MOST_TAGS
   pub exceeds : SizeExceeds w h most error
 
 -- whole cells, and too many carried tags
 pub record TagsRefused (tags : List (List ℕ)) (number bound : ℕ) : Type 0 where
   pub kind : SpaceKind
-  pub is_kind : IsKind tags kind
+  pub is_kind : HasSpaceKind tags kind
   pub whole : IsWhole tags kind
   pub number_is : number ≡ carried_number tags
   pub longer : MOST_TAGS < number
@@ -84,9 +84,9 @@ pub record TagsRefused (tags : List (List ℕ)) (number bound : ℕ) : Type 0 wh
 abbrev pub FrontAs : Line → ℕ → Result Front ReadError → Type 0
 FrontAs line most (Ok front) = HasFront line most front
 FrontAs line most (Err NoMemory) = Unit {0}
-FrontAs line most (Err (Bad Space)) = (kind : SpaceKind) → IsKind line.tags kind → ⊥
+FrontAs line most (Err (Bad Space)) = (kind : SpaceKind) → HasSpaceKind line.tags kind → ⊥
 FrontAs line most (Err (Bad Cell)) =
-    (kind : SpaceKind) × IsKind line.tags kind × (IsWhole line.tags kind → ⊥)
+    (kind : SpaceKind) × HasSpaceKind line.tags kind × (IsWhole line.tags kind → ⊥)
 FrontAs line most (Err (Limit Header number bound)) = TagsRefused line.tags number bound
 FrontAs line most (Err (Limit Axis number bound)) =
     SizeRefused line.tags most (Limit Axis number bound)

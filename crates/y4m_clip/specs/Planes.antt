@@ -13,5 +13,5 @@ HasRow C420 w upper lower blue red =
     (2 * w ≤ upper) × (2 * w ≤ lower) × (w ≤ blue) × (w ≤ red)
 
 -- and so those of the cell at x
-abbrev pub HasCell : SpaceKind → ℕ → ℕ → ℕ → ℕ → ℕ → Type 0
-HasCell kind upper lower blue red x = HasRow kind (x + 1) upper lower blue red
+abbrev pub HasPlaneCell : SpaceKind → ℕ → ℕ → ℕ → ℕ → ℕ → Type 0
+HasPlaneCell kind upper lower blue red x = HasRow kind (x + 1) upper lower blue red

@@ -13,7 +13,7 @@ use Rattle.y4m_clip.specs.declared.form.Clip.{Clip}
 use Rattle.y4m_clip.specs.declared.bounds.TheConstants.{MOST_LINE, MOST_TAGS, MOST_ON_AXIS}
 use Rattle.y4m_clip.specs.StreamLine.{IsLinePrefix, IsProperLinePrefix}
 use Rattle.y4m_clip.specs.Spaces.{cell_width, cell_height, samples_of}
-use Rattle.y4m_clip.specs.Clips.{carried, spaced, pixels_w, pixels_h, Lined, IsKind, IsWhole, Sized, LineFits, Fronted, cells_w, cells_h, capped, IsOpenFrameLine, IsFrameLine, IsFrameLinePrefix, Frame, IsFrame, IsShortFrame, frames_text, plane_bytes, IsClipOf, most_frames}
+use Rattle.y4m_clip.specs.Clips.{carried, spaced, pixels_w, pixels_h, Lined, HasSpaceKind, IsWhole, Sized, LineFits, Fronted, cells_w, cells_h, capped, IsOpenFrameLine, IsFrameLine, IsFrameLinePrefix, Frame, IsFrame, IsShortFrame, frames_text, plane_bytes, IsClipOf, most_frames}
 
 -- The stream line.
 
@@ -41,7 +41,7 @@ pub record ShortLined (bytes : List ℕ) : Type 0 where
 pub record KindLined (bytes : List ℕ) : Type 0 where
   pub lined : ShortLined bytes
   pub kind : SpaceKind
-  pub is_kind : IsKind lined.lined.tags kind
+  pub is_kind : HasSpaceKind lined.lined.tags kind
 
 -- such a line, with whole cells
 pub record ShortSized (bytes : List ℕ) : Type 0 where
@@ -164,7 +164,7 @@ RefusesClip most bytes (Limit Header number bound) =
     ⊎ (TagsTooLong bytes number × (bound ≡ MOST_TAGS))
     ⊎ (FrameHeaderTooLong bytes most × (number ≡ MOST_LINE + 1) × (bound ≡ MOST_LINE))
 RefusesClip most bytes (Bad Space) =
-    (short : ShortLined bytes) × ((kind : SpaceKind) → IsKind short.lined.tags kind → ⊥)
+    (short : ShortLined bytes) × ((kind : SpaceKind) → HasSpaceKind short.lined.tags kind → ⊥)
 RefusesClip most bytes (Bad Cell) =
     (lined : KindLined bytes) × (IsWhole lined.lined.lined.tags lined.kind → ⊥)
 RefusesClip most bytes (Limit Axis number bound) =

@@ -22,12 +22,12 @@ pub record IsCount (value : List ℕ) : Type 0 where
 
 -- the value of a letter: after W or H a number of at least 1, after all others any bytes but
 -- blank and LF
-abbrev pub HasValue : Bool → List ℕ → Type 0
-HasValue true value = IsCount value
-HasValue false value = AllByRecursion IsInk value
+abbrev pub MayHaveValue : Bool → List ℕ → Type 0
+MayHaveValue true value = IsCount value
+MayHaveValue false value = AllByRecursion IsInk value
 
-abbrev pub IsValue : ℕ → List ℕ → Type 0
-IsValue letter value = HasValue (is_axis letter) value
+abbrev pub IsTagValue : ℕ → List ℕ → Type 0
+IsTagValue letter value = MayHaveValue (is_axis letter) value
 
 -- a tag with this letter stands before
 abbrev pub has_stood : List ℕ → ℕ → Bool
@@ -55,7 +55,7 @@ Continues letters [] text =
     (has_axes letters ≡ true) × (n : ℕ) × (text ≡ replicate n 32 ++ 10 ∷ [])
 Continues letters ([] ∷ tags) text = ⊥
 Continues letters ((letter ∷ value) ∷ tags) text =
-    IsInk letter × (may_stand letters letter ≡ true) × IsValue letter value
+    IsInk letter × (may_stand letters letter ≡ true) × IsTagValue letter value
     × (n : ℕ) × (rest : List ℕ) × (text ≡ replicate (suc n) 32 ++ letter ∷ value ++ rest)
     × Continues (letter ∷ letters) tags rest
 

@@ -1,7 +1,7 @@
 // Reading all frames of a clip.
 ghost use Rattle.std.specs.Prelude.{◌≡◌, ◌≤◌, ◌<◌, ◌+◌, ◌*◌, ◌/◌, ◌^◌, length, min, drop, IfOk, IfErr, IfSome};
 ghost use Rattle.shelf_core.specs.Files.{InFile, OnlyReads, ReadsRose};
-ghost use Rattle.y4m_clip.specs.Frames.{ReadsFrameAs, grown_by, FramesAs, PassesFrames, StandsIf, finished, IsSoundFront, IsFilled};
+ghost use Rattle.y4m_clip.specs.Frames.{ReadsFrameAs, grown_by, FramesAs, PassesFrames, StandsIf, finished, IsSoundFront, IsFilledSoFar};
 ghost use Rattle.y4m_clip.specs.Clips.{frame_cells, most_frames};
 ghost use Rattle.y4m_clip.specs.Spaces.{samples_of};
 
@@ -108,7 +108,7 @@ pub fn read_frames<S: Shelf>(
     requires { IsSoundFront front.now most }
     ensures frames { FramesAs front.now.form.space front.now.w front.now.h front.now.start most
         name.now (S.state shelf.old) (S.state shelf.new) result }
-    ensures filled { IfOk result (IsFilled front.now most) }
+    ensures filled { IfOk result (IsFilledSoFar front.now most) }
     ensures reads { OnlyReads (S.state shelf.old) (S.state shelf.new) }
 {
     let n = front.w as usize * front.h as usize;

@@ -2,7 +2,7 @@
 ghost use Rattle.std.specs.Prelude.{◌≡◌, ◌≢◌, ◌≤◌, ◌<◌, ◌*◌, ◌+◌, ◌%◌, ◌/◌, ◌⊎◌, [], length, min, IfOk, IfSome, IfNone, IsTrue, ◌↔◌, option_copied, codes};
 ghost use Rattle.y4m_clip.specs.declared.form.SpaceKind.{SpaceKind};
 ghost use Rattle.y4m_clip.specs.Spaces.{IsSpelling, GivesSpace, GivesInterlace, cell_width, cell_height, samples_of};
-ghost use Rattle.y4m_clip.specs.Clips.{tag_value, tag_number, value_behind, carried, spaced, IsKind};
+ghost use Rattle.y4m_clip.specs.Clips.{tag_value, tag_number, value_behind, carried, spaced, HasSpaceKind};
 ghost use Rattle.y4m_clip.specs.Heads.{IsCounted, IsCellNumber, IsAllowedSize, FrontAs};
 
 use crate::bounds::{MOST_LINE, MOST_ON_AXIS, MOST_TAGS};
@@ -128,8 +128,8 @@ fn is_read(value: &[u8]) -> bool
 
 // The colour kind, where the interlacing is read too.
 fn kind_of(tags: &[Items<u8>]) -> Option<SpaceKind>
-    ensures some { IfSome result (IsKind tags.now) }
-    ensures none { IfNone result ((kind : SpaceKind) → IsKind tags.now kind → ⊥) }
+    ensures some { IfSome result (HasSpaceKind tags.now) }
+    ensures none { IfNone result ((kind : SpaceKind) → HasSpaceKind tags.now kind → ⊥) }
 {
     if let Some(interlace) = value_of(tags, b'I') {
         if !is_read(interlace) {

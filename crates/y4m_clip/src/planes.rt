@@ -2,7 +2,7 @@
 ghost use Rattle.std.specs.Prelude.{◌≡◌, ◌≤◌, ◌<◌, ◌+◌, ◌*◌, ◌++◌, length, OnOk};
 ghost use Rattle.y4m_clip.specs.Spaces.{cell_width, cell_height, samples_of, cell_bytes, joined_to};
 ghost use Rattle.y4m_clip.specs.Clips.{span, row_cells, frame_cells};
-ghost use Rattle.y4m_clip.specs.Planes.{HasCell, HasRow};
+ghost use Rattle.y4m_clip.specs.Planes.{HasPlaneCell, HasRow};
 
 use crate::bounds::MOST_OF_ALL;
 use crate::form::SpaceKind;
@@ -27,7 +27,7 @@ fn add_cell(
     x: usize,
     cells: &mut Vec<u8>,
 ) -> Result<(), AllocError>
-    requires { HasCell space (length upper.now) (length lower.now) (length blue.now)
+    requires { HasPlaneCell space (length upper.now) (length lower.now) (length blue.now)
         (length red.now) x }
     ensures { OnOk result (cells.new.items ≡ cells.old.items
         ++ cell_bytes space upper.now lower.now blue.now red.now x) }

@@ -4,7 +4,7 @@ ghost use Rattle.cells.specs.Cells.{volume_of, IsOnePart};
 ghost use Rattle.shelf_core.specs.Files.{OnlyReads};
 ghost use Rattle.y4m_clip.specs.Spaces.{samples_of};
 ghost use Rattle.y4m_clip.specs.Refusals.{ReadsClipAs, IsSoundClip};
-ghost use Rattle.y4m_clip.specs.Frames.{IsSoundFront, IsFilled, frame_size};
+ghost use Rattle.y4m_clip.specs.Frames.{IsSoundFront, IsFilledSoFar, frames_size};
 
 use crate::bounds::MOST_OF_ALL;
 use crate::form::Clip;
@@ -18,10 +18,10 @@ use std::alloc::Global;
 // The clip of a front and the cells of its frames.
 fn made_of(front: Front, filled: Filled, most: u64) -> Clip
     requires sound { IsSoundFront front most }
-    requires filled { IsFilled front most filled }
+    requires filled { IsFilledSoFar front most filled }
     ensures form { result.form ≡ front.form }
     ensures volume { result.volume ≡
-        volume_of (frame_size front filled) (samples_of front.form.space) filled.bytes.items }
+        volume_of (frames_size front filled) (samples_of front.form.space) filled.bytes.items }
     ensures clip { IsSoundClip most result }
 {
     let size = Size {

@@ -1,13 +1,13 @@
 use Rattle.std.proofs.Common.{◌≡◌, map, take}
 use Rattle.match_error.specs.Errors.{error_of}
 use Rattle.patch_place.specs.Picks.{listed_on}
-use Rattle.patch_place.specs.Tables.{IsShortlist, IsSound}
+use Rattle.patch_place.specs.Tables.{IsShortlist, IsSoundShortlist}
 use Rattle.patch_place.proofs.errors.placed_shortlist.Given as goal
 
 abbrev pub invariant-entries : goal.invariant-entries
 invariant-entries l = record {
   short : IsShortlist l.short (map (error_of l.canvas.map l.sample) (take l.i (listed_on l.canvas l.sample l.list)));
-  sound : IsSound l.short;
+  sound : IsSoundShortlist l.short;
   seen : l.short.seen ≡ l.i;
   tol : l.short.tol ≡ l.fn.tol;
 }

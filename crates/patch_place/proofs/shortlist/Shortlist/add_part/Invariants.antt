@@ -3,7 +3,7 @@ use Rattle.cells.specs.SizeLists.{frames_to_part}
 use Rattle.match_error.specs.Errors.{error_of}
 use Rattle.patch_place.specs.Counts.{IsSpotAt, entries_before, room_entries}
 use Rattle.patch_place.specs.Lists.{fit_list}
-use Rattle.patch_place.specs.Tables.{IsLimitOf, IsShortlist, IsSound}
+use Rattle.patch_place.specs.Tables.{IsLimitOf, IsShortlist, IsSoundShortlist}
 use Rattle.patch_place.proofs.shortlist.Shortlist.add_part.Given as goal
 
 abbrev pub invariant-entries : goal.invariant-entries
@@ -11,7 +11,7 @@ invariant-entries l = record {
   short :
       IsShortlist l.self
       (map (error_of l.canvas.map l.sample) (entries_before (fit_list l.rect) l.sizes l.n) ++ map (error_of l.canvas.map l.sample) (take l.counter (room_entries l.rect l.sizes l.n l.free)));
-  sound : IsSound l.self;
+  sound : IsSoundShortlist l.self;
   limited : IsLimitOf l.self l.count l.limit;
   seen : l.self.seen ≡ l.fn.self.seen + l.counter;
   tol : l.self.tol ≡ l.fn.self.tol;

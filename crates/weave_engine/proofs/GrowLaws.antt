@@ -1,96 +1,182 @@
 -- `grow` has one answer to files, and its headline.
-use Rattle.std.proofs.Common.{◌≡◌, ◌≢◌, ℕ, ◌≤◌, ◌<◌, inl, inr, List, [], ap, sym, ◌∙◌, subst, refl, arith}
-use Rattle.std.specs.Prelude.{slice_index_or}
+use Rattle.std.proofs.Common.{◌≡◌, ◌≢◌, ℕ, ◌<◌, ◌+◌, ◌⊎◌, inl, inr, List, [], ◌∷◌, length, ap, sym, ◌∙◌, subst, arith, length-append}
+use Rattle.std.proofs.lemmas.List.{get_or-append-add}
+use Rattle.std.specs.Prelude.{get_or}
 use Rattle.std.specs.FinMap.{get, insert}
-use Rattle.cells.specs.Places.{cell_count}
+use Rattle.cells.specs.Places.{IsSmall}
+use Rattle.cells.specs.Cells.{sizes_of}
 use Rattle.shelf_core.specs.Files.{Files, content_of}
+use Rattle.shelf_core.specs.declared.fault.What.TheVariants.{Records}
 use Rattle.shelf_core.specs.Written.{written}
 use Rattle.shelf_core.proofs.FileLaws.{content_inserted, content_beside, get_beside}
-use Rattle.source_map.specs.MapFiles.{cell_map_form}
 use Rattle.map_canvas.proofs.Pictures.{full_picture}
+use Rattle.source_map.specs.MapFiles.{cell_map_form}
+use Rattle.replay.specs.declared.records.TheConstants.{MOST_BOX_CELLS}
+use Rattle.growing.specs.Grown.{PassesAt}
+use Rattle.growing.proofs.OneRuns.{ends_within, limits_are_one}
+use Rattle.cert_file.specs.RecordFiles.{cuts_form}
 use Rattle.job_words.specs.declared.grow.GrowJob.{GrowJob}
-use Rattle.job_words.specs.Names.{name_list}
 use Rattle.job_words.specs.GrowWords.{IsGrowJob}
+use Rattle.job_words.specs.Names.{name_list}
 use Rattle.synth_report.specs.declared.fault.Fault.{Fault}
-use Rattle.synth_report.specs.declared.fault.FileOf.TheVariants.{Sample as SampleFile}
+use Rattle.synth_report.specs.declared.fault.Fault.TheVariants.{Limit}
 use Rattle.synth_report.specs.declared.summary.Summary.{Summary}
 use Rattle.synth_report.specs.Texts.{summary_status}
 use Rattle.run_outcome.specs.Commands.{HasOneAnswer}
-use Rattle.run_outcome.specs.Faults.{fault_of_read}
 use Rattle.run_outcome.specs.Outcomes.{WritesAll}
 use Rattle.run_outcome.specs.Writing.{pieces}
-use Rattle.weave_engine.specs.declared.growth.TheConstants.{MOST_OUTPUT_CELLS}
+use Rattle.samples.specs.declared.form.Form.{Form}
+use Rattle.samples.specs.declared.several.Samples.{Samples}
+use Rattle.samples.specs.Samples.{form_text}
+use Rattle.samples.specs.Several.{contents}
+use Rattle.samples.proofs.OneAnswer.{not_both, one_value, refused_once}
 use Rattle.weave_engine.specs.declared.growth.Growth.{Growth}
-use Rattle.weave_engine.specs.declared.sample.Sample.{Sample}
-use Rattle.weave_engine.specs.Samples.{IsSampleOf, form_text}
-use Rattle.weave_engine.specs.Growths.{MakesGrowth, RefusesGrowth, grow_command}
-use Rattle.weave_engine.specs.Headlines.{IsGrownOutput}
-use Rattle.weave_engine.proofs.SampleLaws.{one_sample_refusal, sample_or_refusal}
+use Rattle.weave_engine.specs.Growths.{AreSamplesIn, IsWithinBounds, MakesGrowth, RecordsPass, RefusesGrowth, RefusesOutput, grow_command, head_over, plan_of, version_over}
+use Rattle.weave_engine.specs.Headlines.{IsGrownOutput, IsGrownRecord, IsGrownRun}
 
-module _ (job : GrowJob) (bytes : List ℕ) where
-  -- a sample that is read, with an output within its bound, isn't refused
-  unrefused : (sample : Sample) (fault : Fault) → IsSampleOf bytes sample → cell_count job.size ≤ MOST_OUTPUT_CELLS → RefusesGrowth job bytes fault → ⊥
-  unrefused sample fault read fits (inl refuses) = sample_or_refusal bytes sample refuses.0 read refuses.1
-  unrefused sample fault read fits (inr passes) = omega (arith, fits, passes.passes)
+pub small_output : (job : GrowJob) → IsGrowJob job → (form : Form) → IsWithinBounds job form → IsSmall job.size
+small_output job lawful form bounds = record { axes = lawful.axes; cells = omega (arith, bounds.cells) }
 
-  one_fault : (first second : Fault) → RefusesGrowth job bytes first → RefusesGrowth job bytes second → first ≡ second
-  one_fault first second (inl a) (inl b) = a.2 ∙ ap (fault_of_read SampleFile) (one_sample_refusal bytes a.0 b.0 a.1 b.1) ∙ sym b.2
-  one_fault first second (inl a) (inr b) = absurd (sample_or_refusal bytes b.read a.0 b.sample a.1)
-  one_fault first second (inr a) (inl b) = absurd (sample_or_refusal bytes a.read b.0 a.sample b.1)
-  one_fault first second (inr a) (inr b) = a.is ∙ sym b.is
+pub same_samples : (job : GrowJob) (files : Files) (one other : Samples) → AreSamplesIn files job one → AreSamplesIn files job other → one ≡ other
+same_samples job files one other a b = one_value (content_of files job.names.sample) (contents files job.names.more) one other a.files_are b.files_are
 
-pub grow_has_one_answer : (job : GrowJob) → HasOneAnswer (grow_command job)
-grow_has_one_answer job = record {
-  taken = λ files n fault takes refuses. unrefused job (content_of files job.names.sample) takes.read fault takes.sample takes.fits refuses.1;
-  not_both = λ files texts summary n fault makes refuses.
-      unrefused job (content_of files job.names.sample) makes.growth.sample fault makes.grown.sample makes.grown.fits refuses.1;
-  one_refusal = λ files m n first second a b. one_fault job (content_of files job.names.sample) first second a.1 b.1;
+module _ (job : GrowJob) (form : Form) (first second : Fault) where
+  within_or_refused : IsWithinBounds job form → RefusesOutput job form first → ⊥
+  within_or_refused bounds (inl p) = omega (arith, bounds.frames, p.passes)
+  within_or_refused bounds (inr p) = omega (arith, bounds.cells, p.passes)
+
+  one_output_fault : RefusesOutput job form first → RefusesOutput job form second → first ≡ second
+  one_output_fault (inl p) (inl q) = p.is ∙ sym q.is
+  one_output_fault (inl p) (inr q) = absurd (omega (arith, p.passes, q.frames))
+  one_output_fault (inr p) (inl q) = absurd (omega (arith, p.frames, q.passes))
+  one_output_fault (inr p) (inr q) = p.is ∙ sym q.is
+
+module _ (job : GrowJob) (lawful : IsGrowJob job) (files : Files) where
+  abbrev Refused : Samples → Fault → Type 0
+  Refused samples fault = RefusesOutput job samples.form fault ⊎ RecordsPass job samples fault
+
+  -- samples that are read, with an output and records within their bounds, aren't refused
+  unrefused : (samples : Samples) → AreSamplesIn files job samples → IsWithinBounds job samples.form → ((number : ℕ) → PassesAt (plan_of job) samples.volume number → ⊥)
+      → (n : ℕ) (fault : Fault) → RefusesGrowth job n files fault → ⊥
+  unrefused samples read bounds none n fault (inl refuses) = not_both (content_of files job.names.sample) (contents files job.names.more) samples n fault read.files_are refuses
+  unrefused samples read bounds none n fault (inr over) = by (subst (λ s. Refused s fault) (same_samples job files over.samples samples over.read read) over.refused)
+    where
+      by : Refused samples fault → ⊥
+      by (inl output) = within_or_refused job samples.form fault fault bounds output
+      by (inr records) = none records.number records.passes
+
+  one_over : (samples : Samples) → AreSamplesIn files job samples → (first second : Fault) → Refused samples first → Refused samples second → first ≡ second
+  one_over samples read first second (inl a) (inl b) = one_output_fault job samples.form first second a b
+  one_over samples read first second (inl a) (inr b) = absurd (within_or_refused job samples.form first first b.bounds a)
+  one_over samples read first second (inr a) (inl b) = absurd (within_or_refused job samples.form second second a.bounds b)
+  one_over samples read first second (inr a) (inr b) =
+      a.is ∙ ap (λ number. Limit Records number MOST_BOX_CELLS) (limits_are_one (plan_of job) samples.volume read.volume a.number b.number a.passes b.passes) ∙ sym b.is
+
+  one_fault : (m n : ℕ) (first second : Fault) → RefusesGrowth job m files first → RefusesGrowth job n files second → first ≡ second
+  one_fault m n first second (inl a) (inl b) = refused_once (content_of files job.names.sample) (contents files job.names.more) m n first second a b
+  one_fault m n first second (inl a) (inr b) = absurd (not_both (content_of files job.names.sample) (contents files job.names.more) b.samples m first b.read.files_are a)
+  one_fault m n first second (inr a) (inl b) = absurd (not_both (content_of files job.names.sample) (contents files job.names.more) a.samples n second a.read.files_are b)
+  one_fault m n first second (inr a) (inr b) = one_over a.samples a.read first second a.refused (subst (λ s. Refused s second) (same_samples job files b.samples a.samples b.read a.read) b.refused)
+
+  made_unrefused : (texts : List (List ℕ)) (summary : Summary) (n : ℕ) (fault : Fault) → MakesGrowth job files texts summary → RefusesGrowth job n files fault → ⊥
+  made_unrefused texts summary n fault makes refuses =
+      let made = makes.grown in
+      unrefused makes.growth.samples made.samples made.bounds
+      (λ number passes. ends_within (plan_of job) makes.growth.samples.volume made.samples.volume (small_output job lawful makes.growth.samples.form made.bounds) makes.growth.grown.cuts
+      (record { map = makes.growth.grown.canvas.map; draws = made.grown.draws; rounds = makes.growth.grown.rounds }) number made.grown.run made.grown.done made.grown.writable.cells passes) n fault refuses
+
+pub grow_has_one_answer : (job : GrowJob) → IsGrowJob job → HasOneAnswer (grow_command job)
+grow_has_one_answer job lawful = record {
+  taken = λ files n fault takes refuses. unrefused job lawful files takes.samples takes.read takes.bounds takes.records n fault refuses;
+  not_both = λ files texts summary n fault makes refuses. made_unrefused job lawful files texts summary n fault makes refuses;
+  one_refusal = λ files m n first second a b. one_fault job lawful files m n first second a b;
   one_verdict = λ files one other first second a b. ap summary_status a.summary_is ∙ sym (ap summary_status b.summary_is);
 }
 
--- what is written is the output of the headline
+-- what is written is the run of the headline
 module _ (job : GrowJob) (lawful : IsGrowJob job) (before after : Files) (texts : List (List ℕ)) (summary : Summary) (makes : MakesGrowth job before texts summary) (wrote : after ≡ written (pieces (grow_command job).writes texts) before) where
   abbrev growth : Growth
   growth = makes.growth
 
   abbrev picture_text : List ℕ
-  picture_text = form_text growth.sample.form growth.canvas.picture
+  picture_text = form_text growth.samples.form growth.grown.canvas.picture
 
   abbrev map_text : List ℕ
-  map_text = cell_map_form growth.canvas.map growth.sample.volume.size
+  map_text = cell_map_form growth.grown.canvas.map (sizes_of growth.samples.volume) (version_over growth.samples.volume)
+
+  abbrev record_text : List ℕ
+  record_text = cuts_form (head_over job.size growth.samples.volume) growth.grown.cuts
 
   abbrev with_picture : Files
   with_picture = insert before job.names.out picture_text
 
-  whole : after ≡ insert with_picture job.names.map map_text
+  abbrev with_map : Files
+  with_map = insert with_picture job.names.map map_text
+
+  whole : after ≡ insert with_map job.names.cert record_text
   whole = wrote ∙ ap (λ ts. written (pieces (grow_command job).writes ts) before) makes.texts_are
 
-  apart : (i j : ℕ) → i < j → j < 4 → slice_index_or (name_list job.names) i [] ≢ slice_index_or (name_list job.names) j []
-  apart i j lt below = lawful.names.apart i j [] lt below
+  abbrev written_names : List (List ℕ)
+  written_names = job.names.out ∷ job.names.map ∷ job.names.cert ∷ []
 
-  stays : (name : List ℕ) → name ≢ job.names.out → name ≢ job.names.map → get after name ≡ get before name
-  stays name not_out not_map = ap (λ files. get files name) whole ∙ get_beside with_picture job.names.map map_text name not_map ∙ get_beside before job.names.out picture_text name not_out
+  -- the three names that are written differ
+  apart : (i j : ℕ) → i < j → j < 3 → get_or written_names i [] ≢ get_or written_names j []
+  apart i j lt below =
+      let k : ℕ = length (job.names.sample ∷ job.names.more) in
+      let at : (n : ℕ) → get_or (name_list job.names) (k + n) [] ≡ get_or written_names n [] = λ n. get_or-append-add (job.names.sample ∷ job.names.more) written_names n [] in
+      let differ = lawful.names.apart (k + i) (k + j) [] (omega (arith, lt)) (omega (arith, below, length-append job.names.more written_names)) in
+      λ same. differ (at i ∙ same ∙ sym (at j))
 
-  pub output : IsGrownOutput job before after
+  out_not_map : job.names.out ≢ job.names.map
+  out_not_map = apart 0 1 (omega arith) (omega arith)
+
+  out_not_record : job.names.out ≢ job.names.cert
+  out_not_record = apart 0 2 (omega arith) (omega arith)
+
+  map_not_record : job.names.map ≢ job.names.cert
+  map_not_record = apart 1 2 (omega arith) (omega arith)
+
+  stays : (name : List ℕ) → name ≢ job.names.out → name ≢ job.names.map → name ≢ job.names.cert → get after name ≡ get before name
+  stays name not_out not_map not_record =
+      ap (λ files. get files name) whole ∙ get_beside with_map job.names.cert record_text name not_record ∙ get_beside with_picture job.names.map map_text name not_map
+      ∙ get_beside before job.names.out picture_text name not_out
+
+  abbrev output : IsGrownOutput job before after
   output = record {
-    sample = growth.sample;
-    read = makes.grown.sample;
-    map = growth.canvas.map;
-    asked = makes.grown.tiles.size;
-    is_map = makes.grown.canvas.map;
-    full = makes.grown.tiles.full;
-    over = makes.grown.stands.over;
-    map_file = ap (λ files. content_of files job.names.map) whole ∙ content_inserted with_picture job.names.map map_text;
-    picture = growth.canvas.picture;
-    volume = makes.grown.canvas.picture;
-    size = makes.grown.canvas.size ∙ makes.grown.tiles.size;
-    of_map = full_picture growth.canvas growth.sample.volume makes.grown.canvas makes.grown.stands makes.grown.tiles.full;
-    cells = makes.grown.stands.bytes;
-    out_file = ap (λ files. content_of files job.names.out) whole ∙ content_beside with_picture job.names.map map_text job.names.out (apart 1 2 (omega arith) (omega arith))
-        ∙ content_inserted before job.names.out picture_text;
-    sample_file = stays job.names.sample (apart 0 1 (omega arith) (omega arith)) (apart 0 2 (omega arith) (omega arith));
-    others = stays;
+    samples = growth.samples;
+    read = makes.grown.samples;
+    map = growth.grown.canvas.map;
+    asked = makes.grown.grown.size;
+    is_map = makes.grown.grown.canvas.map;
+    full = makes.grown.grown.done.full;
+    over = makes.grown.grown.over.over;
+    map_file = ap (λ files. content_of files job.names.map) whole ∙ content_beside with_map job.names.cert record_text job.names.map map_not_record ∙ content_inserted with_picture job.names.map map_text;
+    picture = growth.grown.canvas.picture;
+    volume = makes.grown.grown.canvas.picture;
+    one = makes.grown.grown.canvas.part;
+    size = makes.grown.grown.canvas.size ∙ makes.grown.grown.size;
+    of_map = full_picture growth.grown.canvas growth.samples.volume makes.grown.grown.canvas makes.grown.grown.over makes.grown.grown.done.full;
+    cells = makes.grown.grown.over.bytes;
+    out_file = ap (λ files. content_of files job.names.out) whole ∙ content_beside with_map job.names.cert record_text job.names.out out_not_record
+        ∙ content_beside with_picture job.names.map map_text job.names.out out_not_map ∙ content_inserted before job.names.out picture_text;
   }
 
-pub grown_output : (job : GrowJob) → IsGrowJob job → (summary : Summary) (before after : Files) → WritesAll (grow_command job) summary before after → IsGrownOutput job before after
-grown_output job lawful summary before after (texts, makes, wrote) = output job lawful before after texts summary makes wrote
+  abbrev records : IsGrownRecord job growth.samples growth.grown.canvas.map (content_of after job.names.cert)
+  records = record {
+    cuts = growth.grown.cuts;
+    file = ap (λ files. content_of files job.names.cert) whole ∙ content_inserted with_map job.names.cert record_text;
+    draws = makes.grown.grown.draws;
+    rounds = growth.grown.rounds;
+    run = makes.grown.grown.run;
+    done = makes.grown.grown.done;
+    replays = makes.grown.grown.left;
+    stand = makes.grown.grown.stand;
+    least = makes.grown.grown.least;
+    keep = makes.grown.grown.keep;
+  }
+
+  whole_run : IsGrownRun job before after
+  whole_run = record { output = output; records = records; others = stays }
+
+pub grown_run : (job : GrowJob) → IsGrowJob job → (summary : Summary) (before after : Files) → WritesAll (grow_command job) summary before after → IsGrownRun job before after
+grown_run job lawful summary before after (texts, makes, wrote) = whole_run job lawful before after texts summary makes wrote

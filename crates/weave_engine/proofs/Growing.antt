@@ -1,75 +1,101 @@
--- What `grow` plans: from the reading of the sample to all that is to be written.
-use Rattle.std.proofs.Common.{◌≡◌, ℕ, ◌≤◌, ◌<◌, inl, inr, List, ap, sym, ◌∙◌, subst, refl, arith}
-use Rattle.cells.specs.Cells.{Cells, IsOnePart}
-use Rattle.cells.specs.Distances.{distance}
-use Rattle.cells.specs.Places.{cell_count}
+-- What `grow` plans: from the reading of the samples to all that is to be written.
+use Rattle.std.proofs.Common.{◌≡◌, ℕ, zero, suc, ◌+◌, ◌≤◌, ◌<◌, ◌⊎◌, inl, inr, List, [], ◌∷◌, length, sym, subst, refl, arith}
+use Rattle.std.specs.Prelude.{Err}
+use Rattle.cells.specs.Cells.{IsVolume}
 use Rattle.shelf_core.specs.Files.{Files, ShelfState, OnlyReads, Changes, content_of}
 use Rattle.shelf_core.proofs.FileLaws.{told_both, told_weaker}
-use Rattle.shelf_core.specs.declared.fault.What.TheVariants.{Output}
-use Rattle.shelf_core.specs.declared.fault.ReadError.{ReadError}
-use Rattle.map_canvas.specs.Maps.{map_at}
-use Rattle.map_canvas.specs.Canvases.{IsCanvas, StandsOver}
-use Rattle.seams.specs.Costs.{total_of}
+use Rattle.graph_place.specs.Placed.{map_total}
+use Rattle.growing.specs.declared.plan.GrowError.{GrowError}
+use Rattle.growing.specs.declared.plan.GrowError.TheVariants as error
+use Rattle.growing.specs.Grown.{IsGrown, IsGrowFault}
 use Rattle.job_words.specs.declared.grow.GrowJob.{GrowJob}
+use Rattle.synth_report.specs.declared.fault.FileOf.{FileOf}
 use Rattle.synth_report.specs.declared.fault.Fault.{Fault}
-use Rattle.synth_report.specs.declared.fault.Fault.TheVariants.{Limit}
-use Rattle.synth_report.specs.declared.fault.FileOf.TheVariants as part
-use Rattle.run_outcome.specs.Faults.{FailsToRead, fault_of_read}
-use Rattle.run_outcome.specs.Outcomes.{AreRefused, IsPlanned, NoneRefused, NotMade}
+use Rattle.synth_report.specs.declared.fault.Fault.TheVariants.{Words, Form, Unlike, Mark, Limit, Read, Write, NoMemory, NoLoop}
+use Rattle.run_outcome.specs.Commands.{HasTurn}
+use Rattle.run_outcome.specs.Outcomes.{AreRefused, IsPlanned, IsUnread, NoneRefused, NotMade}
 use Rattle.run_outcome.specs.Writing.{texts_in}
-use Rattle.run_outcome.proofs.Halves.{not_read}
-use Rattle.weave_engine.specs.declared.growth.TheConstants.{MOST_OUTPUT_CELLS}
+use Rattle.samples.specs.declared.several.Samples.{Samples}
+use Rattle.samples.specs.Several.{StandForSamples, IsSampleUnread, NoSampleRefused, RefusesSamples, SamplesAreRefused, SamplesReadAs, contents, numbered_files, sample_files}
 use Rattle.weave_engine.specs.declared.growth.Growth.{Growth}
-use Rattle.weave_engine.specs.declared.sample.Form.{Form}
-use Rattle.weave_engine.specs.declared.sample.Form.TheVariants.{Picture}
-use Rattle.weave_engine.specs.declared.sample.Sample.{Sample}
-use Rattle.weave_engine.specs.Samples.{IsSampleOf, IsSoundIn, IsSoundSample, RefusesSample}
-use Rattle.weave_engine.specs.Tiles.{IsTiled}
-use Rattle.weave_engine.specs.Growths.{IsGrowth, MakesGrowth, RefusesGrowth, grow_command, growth_files, growth_summary}
+use Rattle.weave_engine.specs.Growths.{IsWithinBounds, RecordsPass, RefusesGrowth, RefusesOutput, fault_of_growing, grow_command, growth_files, growth_summary, plan_of}
 
--- a sample that is read has one part
-pub sound_one : (sample : Sample) → IsSoundSample sample → IsOnePart sample.volume
-sound_one sample = by sample.form sample.volume
-  where
-    by : (form : Form) (cells : Cells) → IsSoundIn form cells → IsOnePart cells
-    by (Picture maxval) cells sound = sound.one
+-- there is no turn past the last sample
+turn_in : (number turn : ℕ) (names : List (List ℕ)) (its : FileOf) (name : List ℕ) → HasTurn (numbered_files number names) turn its name → turn < length names
+turn_in number turn [] its name has = absurd (cc)
+turn_in number zero (n ∷ names) its name has = omega arith
+turn_in number (suc turn) (n ∷ names) its name has = omega (arith, turn_in (suc number) turn names its name has)
 
-module _ (job : GrowJob) (a b : ShelfState) (seen : List ℕ) (named : seen ≡ job.names.sample) (reads : OnlyReads a b) where
-  -- the sample is the first file that is read
-  nothing_earlier : Changes a b (λ before after. NoneRefused (grow_command job) 0 before)
-  nothing_earlier = told_weaker (λ before after. after ≡ before) (λ before after. NoneRefused (grow_command job) 0 before) a.files b.files
-      (λ x y same m fault le refuses. omega (arith, le, refuses.0)) reads.files
+turn_of : (first : List ℕ) (more : List (List ℕ)) (turn : ℕ) (its : FileOf) (name : List ℕ) → HasTurn (sample_files first more) turn its name → turn < length more + 1
+turn_of first more zero its name has = omega arith
+turn_of first more (suc turn) its name has = omega (arith, turn_in 2 turn more its name has)
 
-  pub sample_unread : (answer : ReadError) (fault : Fault) → fault ≡ fault_of_read part.Sample answer → FailsToRead RefusesSample seen a b answer → NotMade (grow_command job) a b fault
-  sample_unread answer fault is left =
-      subst (NotMade (grow_command job) a b) (sym is)
-      (not_read (grow_command job) a b 0 part.Sample job.names.sample refl RefusesSample (λ why. inl (why, refl)) (λ what number bound. inr (what, number, bound, refl))
-      (λ files refusal refuses. (refl, inl (refusal, refuses, refl))) nothing_earlier answer (subst (λ name. FailsToRead RefusesSample name a b answer) named left))
+module _ (job : GrowJob) (a b : ShelfState) (reads : OnlyReads a b) where
+  -- of the files before a sample nothing is refused, of the job neither
+  unread : (its : FileOf) → IsSampleUnread job.names.sample job.names.more its a b → IsUnread (grow_command job) its a b
+  unread its left = record {
+    turn = left.turn;
+    name = left.name;
+    its = left.has_turn;
+    rose = left.rose;
+    earlier = told_weaker (λ before after. NoSampleRefused left.turn (content_of before job.names.sample) (contents before job.names.more)) (λ before after. NoneRefused (grow_command job) left.turn before) a.files b.files
+        (λ before after none. λ m fault le refuses. by before none m fault le refuses) left.earlier;
+  }
+    where
+      by : (before : Files) → NoSampleRefused left.turn (content_of before job.names.sample) (contents before job.names.more) → (m : ℕ) (fault : Fault) → m ≤ left.turn → RefusesGrowth job m before fault → ⊥
+      by before none m fault le (inl refuses) = none m fault le refuses
+      by before none m fault le (inr over) = omega (arith, le, over.all, turn_of job.names.sample job.names.more left.turn its left.name left.has_turn)
 
-  Read : Sample → Files → Files → Type 0
-  Read sample before after = IsSampleOf (content_of before seen) sample
+  refused : (fault : Fault) → SamplesAreRefused job.names.sample job.names.more fault a b → AreRefused (grow_command job) fault a b
+  refused fault left = record {
+    known = left.known;
+    refused = told_weaker (λ before after. (n : ℕ) × RefusesSamples n (content_of before job.names.sample) (contents before job.names.more) fault) (λ before after. (n : ℕ) × RefusesGrowth job n before fault) a.files b.files
+        (λ before after r. (r.0, inl r.1)) left.refused;
+  }
 
-  module _ (sample : Sample) (read : Changes a b (λ before after. IsSampleOf (content_of before seen) sample)) where
-    own : Changes a b (λ before after. IsSampleOf (content_of before job.names.sample) sample)
-    own = subst (λ name. Changes a b (λ before after. IsSampleOf (content_of before name) sample)) named read
+  pub samples_not_read : (fault : Fault) → SamplesReadAs job.names.sample job.names.more a b (Err fault) → NotMade (grow_command job) a b fault
+  samples_not_read (Read its) left = unread its left
+  samples_not_read NoMemory left = tt
+  samples_not_read (Form its why) left = refused (Form its why) left
+  samples_not_read (Unlike its) left = refused (Unlike its) left
+  samples_not_read (Mark index) left = absurd left.known
+  samples_not_read (Limit what number bound) left = refused (Limit what number bound) left
+  samples_not_read (NoLoop length) left = absurd left.known
+  samples_not_read (Words fault) left = absurd left.known
+  samples_not_read (Write its) left = absurd left.known
 
-    pub output_passes : (cells : ℕ) → cells ≡ cell_count job.size → MOST_OUTPUT_CELLS < cells → AreRefused (grow_command job) (Limit Output cells MOST_OUTPUT_CELLS) a b
-    output_passes cells is passes = record {
-      known = inr (Output, cells, MOST_OUTPUT_CELLS, refl);
-      refused = told_weaker (λ before after. IsSampleOf (content_of before job.names.sample) sample) (λ before after. (n : ℕ) × (grow_command job).Refuses n before (Limit Output cells MOST_OUTPUT_CELLS)) a.files b.files
-          (λ before after stands. (1, (refl, inr (record { read = sample; sample = stands; passes = omega (arith, is, passes); is = ap (λ n. Limit Output n MOST_OUTPUT_CELLS) is })))) own;
+  module _ (samples : Samples) (volume : IsVolume samples.volume) (read : Changes a b (λ before after. StandForSamples (content_of before job.names.sample) (contents before job.names.more) samples)) where
+    over : (what : _) (number bound : ℕ) → (RefusesOutput job samples.form (Limit what number bound) ⊎ RecordsPass job samples (Limit what number bound)) → AreRefused (grow_command job) (Limit what number bound) a b
+    over what number bound why = record {
+      known = tt;
+      refused = told_weaker (λ before after. StandForSamples (content_of before job.names.sample) (contents before job.names.more) samples) (λ before after. (n : ℕ) × RefusesGrowth job n before (Limit what number bound)) a.files b.files
+          (λ before after stand. (length job.names.more + 1, inr (record { all = refl; samples = samples; read = record { files_are = stand; volume = volume }; refused = why }))) read;
     }
 
-  module _ (growth : Growth) (read : Changes a b (λ before after. IsSampleOf (content_of before seen) growth.sample)) (fits : cell_count job.size ≤ MOST_OUTPUT_CELLS) (tiles : IsTiled job.size growth.sample.volume.size growth.canvas.map) (canvas : IsCanvas growth.canvas)
-      (stands : StandsOver growth.canvas growth.sample.volume) (seams : growth.seams ≡ total_of (distance growth.sample.volume) growth.canvas.map.size (map_at growth.canvas.map)) where
-    grown : (bytes : List ℕ) → IsSampleOf bytes growth.sample → IsGrowth job bytes growth
-    grown bytes sample = record { sample = sample; fits = fits; tiles = tiles; canvas = canvas; stands = stands; seams = seams }
+    pub output_refused : (fault : Fault) → RefusesOutput job samples.form fault → NotMade (grow_command job) a b fault
+    output_refused fault (inl p) = subst (NotMade (grow_command job) a b) (sym p.is) (over _ _ _ (inl (subst (RefusesOutput job samples.form) p.is (inl p))))
+    output_refused fault (inr p) = subst (NotMade (grow_command job) a b) (sym p.is) (over _ _ _ (inl (subst (RefusesOutput job samples.form) p.is (inr p))))
 
-    pub growth_made : IsPlanned (grow_command job) (growth_files job growth) (growth_summary job growth) a b
-    growth_made = record {
-      known = (_, _, _, _, refl);
-      named = refl;
-      made = told_weaker (λ before after. (after ≡ before) × IsSampleOf (content_of before job.names.sample) growth.sample) (λ before after. (after ≡ before) × (grow_command job).Makes before (texts_in (growth_files job growth)) (growth_summary job growth)) a.files b.files
-          (λ before after p. (p.0, record { growth = growth; grown = grown (content_of before job.names.sample) p.1; texts_are = refl; summary_is = refl }))
-          (told_both (λ before after. after ≡ before) (λ before after. IsSampleOf (content_of before job.names.sample) growth.sample) a.files b.files reads.files (own growth.sample read));
-    }
+    pub not_grown : (bounds : IsWithinBounds job samples.form) (why : GrowError) → IsGrowFault (plan_of job) samples.volume why → NotMade (grow_command job) a b (fault_of_growing why)
+    not_grown bounds (error.Records number) passes = over _ _ _ (inr (record { bounds = bounds; number = number; passes = passes; is = refl }))
+    not_grown bounds error.NoMemory left = tt
+
+  pub growth_made : (growth : Growth) → IsVolume growth.samples.volume → Changes a b (λ before after. StandForSamples (content_of before job.names.sample) (contents before job.names.more) growth.samples)
+      → IsWithinBounds job growth.samples.form → IsGrown (plan_of job) growth.samples.volume growth.grown → growth.seams ≡ map_total growth.samples.volume growth.grown.canvas.map
+      → IsPlanned (grow_command job) (growth_files job growth) (growth_summary job growth) a b
+  growth_made growth volume read bounds grown seams = record {
+    known = (_, _, _, _, refl);
+    named = refl;
+    made = told_weaker (λ before after. (after ≡ before) × StandForSamples (content_of before job.names.sample) (contents before job.names.more) growth.samples)
+        (λ before after. (after ≡ before) × (grow_command job).Makes before (texts_in (growth_files job growth)) (growth_summary job growth)) a.files b.files
+        (λ before after p. (
+          p.0,
+          record {
+            growth = growth;
+            grown = record { samples = record { files_are = p.1; volume = volume }; bounds = bounds; grown = grown; seams = seams };
+            texts_are = refl;
+            summary_is = refl;
+          },
+        ))
+        (told_both (λ before after. after ≡ before) (λ before after. StandForSamples (content_of before job.names.sample) (contents before job.names.more) growth.samples) a.files b.files reads.files read);
+  }

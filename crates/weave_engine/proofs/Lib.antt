@@ -1,8 +1,6 @@
-pub mod TileLaws
-pub mod TileSteps
 pub mod Pictures
-pub mod SampleLaws
-pub mod GrowLaws
-pub mod Growing
 pub mod Ready
+pub mod Growing
+pub mod GrowLaws
+pub mod OneOutputs
 pub mod Ending

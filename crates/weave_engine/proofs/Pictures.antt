@@ -7,9 +7,9 @@ use Rattle.std.specs.Prelude.{Option, Some, None, IsSome, All, map, option_map, 
 use Rattle.std.specs.List.{AllByRecursion, concat}
 use mathlib.Core.Bool.{false≢true}
 use Rattle.cells.specs.declared.place.At.{At}
-use Rattle.cells.specs.Places.{index_in, place_of}
+use Rattle.cells.specs.Places.{place_of}
 use Rattle.cells.specs.Cells.{Cells, IsVolume, HasCell, bytes_of, index_of}
-use Rattle.cells.proofs.Raster.{has_index, index_below, place_at}
+use Rattle.cells.proofs.Raster.{has_index, place_at}
 use Rattle.cells.proofs.CellLaws.{cell_by_index, cell_has_index}
 use Rattle.cells.proofs.PartLaws.{index_from_below}
 use Rattle.map_canvas.specs.Maps.{SourceMap, IsMap, IsFull, map_at, picture_of, sample_cell}

@@ -1,86 +1,185 @@
 -- `grow` as a command: what it reads and refuses, what it makes, and the files that it writes. To
 -- be trusted: contracts cite these words. (Own.)
-use Rattle.std.specs.Prelude.{◌≡◌, ◌≤◌, ◌<◌, ◌⊎◌, ◌*◌, ◌+◌, ◌-◌, ◌/◌, ℕ, List, [], ◌∷◌}
+use Rattle.std.specs.Prelude.{◌≡◌, ◌≤◌, ◌<◌, ◌⊎◌, ◌+◌, ◌-◌, ℕ, List, [], ◌∷◌, length, Result, Ok, Err}
 use Rattle.cells.specs.declared.place.Size.{Size}
+use Rattle.cells.specs.Cells.{Cells, IsVolume, sizes_of}
 use Rattle.cells.specs.Places.{cell_count}
-use Rattle.cells.specs.Distances.{distance}
 use Rattle.shelf_core.specs.Files.{Files, content_of}
-use Rattle.shelf_core.specs.declared.fault.What.TheVariants.{Output}
-use Rattle.map_canvas.specs.Maps.{IsFull, map_at}
-use Rattle.map_canvas.specs.Canvases.{IsCanvas, StandsOver}
+use Rattle.shelf_core.specs.declared.fault.What.TheVariants.{Frames, Output, Records as RecordsLimit}
 use Rattle.source_map.specs.MapFiles.{cell_map_form}
-use Rattle.seams.specs.Costs.{total_of}
+use Rattle.source_map.specs.declared.head.Head.{Head}
+use Rattle.source_map.specs.declared.head.Version.{Version}
+use Rattle.source_map.specs.declared.head.Version.TheVariants.{One, Two}
+use Rattle.graph_place.specs.Placed.{map_total}
+use Rattle.patch_place.specs.declared.mode.Mode.{Mode}
+use Rattle.patch_place.specs.declared.mode.Mode.TheVariants as mode
+use Rattle.replay.specs.declared.records.TheConstants.{MOST_BOX_CELLS}
+use Rattle.growing.specs.declared.plan.Plan.{Plan}
+use Rattle.growing.specs.declared.plan.GrowError.{GrowError}
+use Rattle.growing.specs.declared.plan.GrowError.TheVariants as error
+use Rattle.growing.specs.Grown.{IsGrown, PassesAt}
+use Rattle.cert_file.specs.RecordFiles.{cuts_form}
 use Rattle.job_words.specs.declared.grow.GrowJob.{GrowJob}
+use Rattle.job_words.specs.declared.grow.Place.{Place}
+use Rattle.job_words.specs.declared.grow.Place.TheVariants as place
 use Rattle.synth_report.specs.declared.fault.Fault.{Fault}
-use Rattle.synth_report.specs.declared.fault.Fault.TheVariants.{Limit}
+use Rattle.synth_report.specs.declared.fault.Fault.TheVariants.{Limit, NoMemory}
 use Rattle.synth_report.specs.declared.fault.FileOf.TheVariants as part
 use Rattle.synth_report.specs.declared.summary.Summary.{Summary}
 use Rattle.synth_report.specs.declared.summary.Summary.TheVariants.{Grow}
 use Rattle.run_outcome.specs.Commands.{Command, named}
-use Rattle.run_outcome.specs.Faults.{IsFormFault, IsLimitFault, ReaderRefuses}
 use Rattle.run_outcome.specs.Writing.{FileText, file_text, texts_in}
+use Rattle.samples.specs.declared.form.Form.{Form}
+use Rattle.samples.specs.declared.form.Form.TheVariants.{Picture}
+use Rattle.samples.specs.declared.several.Samples.{Samples}
+use Rattle.samples.specs.Samples.{form_text}
+use Rattle.samples.specs.Several.{StandForSamples, AreSoundSamples, MayRefuseSamples, RefusesSamples, contents, sample_files}
 use Rattle.weave_engine.specs.declared.growth.TheConstants.{MOST_OUTPUT_CELLS}
 use Rattle.weave_engine.specs.declared.growth.Growth.{Growth}
-use Rattle.weave_engine.specs.declared.sample.Sample.{Sample}
-use Rattle.weave_engine.specs.Samples.{IsSampleOf, IsSoundSample, RefusesSample, form_text}
-use Rattle.weave_engine.specs.Tiles.{IsTiled, tile_count}
 
--- what these bytes of the sample grow into: the sample that they stand for, tiles of it over an
--- output of at most 2^20 cells, and the total cost of the seams
-pub record IsGrowth (job : GrowJob) (bytes : List ℕ) (growth : Growth) : Type 0 where
-  pub sample : IsSampleOf bytes growth.sample
-  pub fits : cell_count job.size ≤ MOST_OUTPUT_CELLS
-  pub tiles : IsTiled job.size growth.sample.volume.size growth.canvas.map
-  pub canvas : IsCanvas growth.canvas
-  pub stands : StandsOver growth.canvas growth.sample.volume
-  pub seams : growth.seams
-      ≡ total_of (distance growth.sample.volume) growth.canvas.map.size (map_at growth.canvas.map)
+-- The plan of a job.
 
--- what the writers of the files of a growth ask for
-pub record IsMade (growth : Growth) : Type 0 where
-  pub sample : IsSoundSample growth.sample
-  pub full : IsFull growth.canvas.map
-  pub cells : cell_count growth.canvas.map.size ≤ MOST_OUTPUT_CELLS
-  pub frames : growth.canvas.map.size.f ≡ 1
-  pub canvas : IsCanvas growth.canvas
-  pub stands : StandsOver growth.canvas growth.sample.volume
+abbrev pub mode_for : Place → ℕ → ℕ → ℕ → Mode
+mode_for place.Grid side overlap tol = mode.Grid overlap
+mode_for place.Random side overlap tol = mode.Random
+mode_for place.Whole side overlap tol = mode.Whole tol
+mode_for place.Sub side overlap tol = mode.Sub side overlap tol
 
--- the files that are written, in order, with their texts: the picture in the form of the sample,
--- and the map
-abbrev pub growth_files : GrowJob → Growth → List FileText
-growth_files job growth =
-    file_text part.Out job.names.out (form_text growth.sample.form growth.canvas.picture)
-    ∷ file_text part.Map job.names.map (cell_map_form growth.canvas.map growth.sample.volume.size)
-    ∷ []
+-- how the output is grown and refined
+abbrev pub plan_of : GrowJob → Plan
+plan_of job = record {
+  size = job.size;
+  mode = mode_for job.place job.side job.overlap job.tol;
+  side = job.side;
+  tol = job.tol;
+  rounds = job.rounds;
+  seed = job.seed;
+}
 
-abbrev pub growth_summary : GrowJob → Growth → Summary
-growth_summary job growth =
-    Grow job.size (tile_count growth.sample.volume.size job.size) 0 growth.seams
+-- The bounds of a job over samples that are read.
 
--- the output has more cells than an output may have
-pub record OutputPasses (job : GrowJob) (bytes : List ℕ) (fault : Fault) : Type 0 where
-  pub read : Sample
-  pub sample : IsSampleOf bytes read
+-- the most frames of an output in this form
+abbrev pub frames_allowed : Form → ℕ
+frames_allowed (Picture maxval) = 1
+
+-- the output has no more frames than its form allows, and no more cells than an output may have
+pub record IsWithinBounds (job : GrowJob) (form : Form) : Type 0 where
+  pub frames : job.size.f ≤ frames_allowed form
+  pub cells : cell_count job.size ≤ MOST_OUTPUT_CELLS
+
+pub record FramesPass (job : GrowJob) (form : Form) (fault : Fault) : Type 0 where
+  pub passes : frames_allowed form < job.size.f
+  pub is : fault ≡ Limit Frames job.size.f (frames_allowed form)
+
+pub record OutputPasses (job : GrowJob) (form : Form) (fault : Fault) : Type 0 where
+  pub frames : job.size.f ≤ frames_allowed form
   pub passes : MOST_OUTPUT_CELLS < cell_count job.size
   pub is : fault ≡ Limit Output (cell_count job.size) MOST_OUTPUT_CELLS
 
--- the refusals of these bytes of the sample: those of its form and limits, and then the output's
--- limit
-abbrev pub RefusesGrowth : GrowJob → List ℕ → Fault → Type 0
-RefusesGrowth job bytes fault =
-    ReaderRefuses RefusesSample part.Sample bytes fault ⊎ OutputPasses job bytes fault
+-- the frames pass their bound, or they don't and the cells of the output pass theirs
+abbrev pub RefusesOutput : GrowJob → Form → Fault → Type 0
+RefusesOutput job form fault = FramesPass job form fault ⊎ OutputPasses job form fault
 
--- the sample is read, and the output is within its bound
+-- whether the output is within its bounds
+abbrev pub SetAgainst : GrowJob → Form → Result (Unit {0}) Fault → Type 0
+SetAgainst job form (Ok done) = IsWithinBounds job form
+SetAgainst job form (Err fault) = RefusesOutput job form fault
+
+-- the boxes of the run pass the bound on their cells, at this number
+pub record RecordsPass (job : GrowJob) (samples : Samples) (fault : Fault) : Type 0 where
+  pub bounds : IsWithinBounds job samples.form
+  pub number : ℕ
+  pub passes : PassesAt (plan_of job) samples.volume number
+  pub is : fault ≡ Limit RecordsLimit number MOST_BOX_CELLS
+
+-- what a run without an output is refused for
+abbrev pub fault_of_growing : GrowError → Fault
+fault_of_growing (error.Records number) = Limit RecordsLimit number MOST_BOX_CELLS
+fault_of_growing error.NoMemory = NoMemory
+
+-- What is grown of the files.
+
+-- the sample files stand for these samples
+pub record AreSamplesIn (files : Files) (job : GrowJob) (samples : Samples) : Type 0 where
+  pub files_are :
+      StandForSamples (content_of files job.names.sample) (contents files job.names.more) samples
+  pub volume : IsVolume samples.volume
+
+-- the samples that the files stand for, the output that is grown and refined over them, and the
+-- total cost of its seams
+pub record IsGrowth (job : GrowJob) (files : Files) (growth : Growth) : Type 0 where
+  pub samples : AreSamplesIn files job growth.samples
+  pub bounds : IsWithinBounds job growth.samples.form
+  pub grown : IsGrown (plan_of job) growth.samples.volume growth.grown
+  pub seams : growth.seams ≡ map_total growth.samples.volume growth.grown.canvas.map
+
+-- what the writers of the files of a growth ask for
+pub record IsMade (job : GrowJob) (growth : Growth) : Type 0 where
+  pub volume : IsVolume growth.samples.volume
+  pub sound : AreSoundSamples growth.samples
+  pub bounds : IsWithinBounds job growth.samples.form
+  pub grown : IsGrown (plan_of job) growth.samples.volume growth.grown
+
+-- The files that are written.
+
+-- one sample is told in version 1, and several are in version 2
+abbrev pub version_for : List Size → Version
+version_for [] = One
+version_for (size ∷ more) = Two
+
+abbrev pub version_over : Cells → Version
+version_over volume = version_for volume.more
+
+-- the head of the map and the record of an output of this size over a volume
+abbrev pub head_over : Size → Cells → Head
+head_over output volume = record {
+  output = output;
+  samples = sizes_of volume;
+  version = version_over volume;
+}
+
+-- in order, with their texts: the picture in the form of the samples, the map, and the record
+abbrev pub growth_files : GrowJob → Growth → List FileText
+growth_files job growth =
+    file_text part.Out job.names.out (form_text growth.samples.form growth.grown.canvas.picture)
+    ∷ file_text part.Map job.names.map (cell_map_form growth.grown.canvas.map
+    (sizes_of growth.samples.volume) (version_over growth.samples.volume))
+    ∷ file_text part.Cert job.names.cert
+    (cuts_form (head_over job.size growth.samples.volume) growth.grown.cuts)
+    ∷ []
+
+-- the records but those of rounds are those of placements
+abbrev pub growth_summary : GrowJob → Growth → Summary
+growth_summary job growth =
+    Grow job.size (length growth.grown.cuts - growth.grown.rounds) growth.grown.rounds growth.seams
+
+-- The command.
+
+-- all sample files are read, and the job is refused over the samples that they stand for
+pub record RefusesOver (job : GrowJob) (files : Files) (n : ℕ) (fault : Fault) : Type 0 where
+  pub all : n ≡ length job.names.more + 1
+  pub samples : Samples
+  pub read : AreSamplesIn files job samples
+  pub refused : RefusesOutput job samples.form fault ⊎ RecordsPass job samples fault
+
+-- the refusals of the files, once so many are read: those of the samples, and then those of the job
+abbrev pub RefusesGrowth : GrowJob → ℕ → Files → Fault → Type 0
+RefusesGrowth job n files fault =
+    RefusesSamples n (content_of files job.names.sample) (contents files job.names.more) fault
+    ⊎ RefusesOver job files n fault
+
+-- the samples are read, and every number is within its bound
 pub record TakesToGrow (job : GrowJob) (files : Files) : Type 0 where
-  pub read : Sample
-  pub sample : IsSampleOf (content_of files job.names.sample) read
-  pub fits : cell_count job.size ≤ MOST_OUTPUT_CELLS
+  pub samples : Samples
+  pub read : AreSamplesIn files job samples
+  pub bounds : IsWithinBounds job samples.form
+  pub records : (number : ℕ) → PassesAt (plan_of job) samples.volume number → ⊥
 
--- a growth of the sample's bytes, with its texts and its summary
+-- a growth of the files, with its texts and its summary
 pub record MakesGrowth (job : GrowJob) (files : Files) (texts : List (List ℕ)) (summary : Summary)
     : Type 0 where
   pub growth : Growth
-  pub grown : IsGrowth job (content_of files job.names.sample) growth
+  pub grown : IsGrowth job files growth
   pub texts_are : texts ≡ texts_in (growth_files job growth)
   pub summary_is : summary ≡ growth_summary job growth
 
@@ -92,11 +191,12 @@ IsGrowSummary summary =
 
 abbrev pub grow_command : GrowJob → Command
 grow_command job = record {
-  reads = named part.Sample job.names.sample ∷ [];
-  writes = named part.Out job.names.out ∷ named part.Map job.names.map ∷ [];
+  reads = sample_files job.names.sample job.names.more;
+  writes = named part.Out job.names.out ∷ named part.Map job.names.map
+      ∷ named part.Cert job.names.cert ∷ [];
   Takes = TakesToGrow job;
-  Refuses = λ n files fault. (n ≡ 1) × RefusesGrowth job (content_of files job.names.sample) fault;
+  Refuses = RefusesGrowth job;
   Makes = MakesGrowth job;
-  MayRefuse = λ fault. IsFormFault part.Sample fault ⊎ IsLimitFault fault;
+  MayRefuse = MayRefuseSamples (length job.names.more + 1);
   MayMake = IsGrowSummary;
 }

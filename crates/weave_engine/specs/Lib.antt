@@ -1,5 +1,3 @@
-pub mod Tiles
-pub mod Samples
 pub mod Growths
 pub mod Engine
 pub mod Headlines

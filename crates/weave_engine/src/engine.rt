@@ -1,8 +1,9 @@
 // A whole run, from the words to the status.
-ghost use Rattle.run_outcome.specs.Outcomes.{Answers, Runs};
+ghost use Rattle.job_words.specs.Jobs.{IsJob};
+ghost use Rattle.run_outcome.specs.Outcomes.{Answers, Leaves, Runs};
 ghost use Rattle.run_outcome.specs.Promises.{DoneStatus, IsComplete, KeepsFiles, KeepsOthers, MemoryStatus, ReadStatus, RefusedStatus, WordsStatus, WriteStatus};
 ghost use Rattle.weave_engine.specs.Engine.{IsStatus, command_of};
-ghost use Rattle.weave_engine.specs.Headlines.{GrowHeadline};
+ghost use Rattle.weave_engine.specs.Headlines.{GrowHeadline, OneOutput};
 
 use crate::grow;
 use job_words::{Job, Words, read_job};
@@ -10,6 +11,22 @@ use run_outcome::finish;
 use shelf_core::{Shelf, Sink};
 use std::alloc::Global;
 use synth_report::{Fault, Summary};
+
+// Runs the command of a job.
+fn run_job<S: Shelf, O: Sink>(
+    alloc: Global,
+    job: &Job,
+    shelf: &mut S,
+    out: &mut O,
+) -> Result<Summary, Fault>
+    requires { IsJob job.now }
+    ensures { Leaves (command_of job.now)
+        (S.state shelf.old) (S.state shelf.new) (O.state out.old) (O.state out.new) result }
+{
+    match job {
+        Job::Grow(job) => grow(alloc, job, shelf, out),
+    }
+}
 
 // What the command that the words ask for answers.
 fn answer<S: Shelf, O: Sink>(
@@ -22,7 +39,7 @@ fn answer<S: Shelf, O: Sink>(
         (S.state shelf.old) (S.state shelf.new) (O.state out.old) (O.state out.new) result }
 {
     match read_job(alloc, words) {
-        Ok(Job::Grow(job)) => grow(alloc, &job, shelf, out),
+        Ok(job) => run_job(alloc, &job, shelf, out),
         Err(fault) => Err(Fault::Words(fault)),
     }
 }
@@ -83,8 +100,13 @@ pub fn run<S: Shelf, O: Sink, E: Sink>(
         (O.state out.old) (O.state out.new) result }
     ensures other_files { KeepsOthers command_of words.now (S.state shelf.old) (S.state shelf.new) }
 
-    // With status 0 every output cell is the sample cell that the written map names.
+    // With status 0 every output cell is the sample cell that the written map names; each placement
+    // of the written record keeps its fixed cells and has the least total cost of seams, old ones
+    // included, of all choices between old and new; and the record stands and replays to the map.
     ensures headline { GrowHeadline words.now (S.state shelf.old) (S.state shelf.new) result }
+
+    // Out file and map are a function of the words and the sample files.
+    ensures one_output { OneOutput words.now (S.state shelf.old) (S.state shelf.new) result }
 {
     run_whole(alloc, words, shelf, out, err)
 }

@@ -1,46 +1,86 @@
-// The command that grows a texture from a sample.
+// The command that grows a texture from samples.
 ghost use Rattle.std.specs.Prelude.{◌≡◌, IfOk};
 ghost use Rattle.shelf_core.specs.Files.{OnlyReads, OnlyWrites};
 ghost use Rattle.job_words.specs.GrowWords.{IsGrowJob};
 ghost use Rattle.run_outcome.specs.Outcomes.{Leaves, Plans};
 ghost use Rattle.run_outcome.specs.Writing.{WritesRun};
-ghost use Rattle.weave_engine.specs.Growths.{IsMade, grow_command, growth_files, growth_summary};
+ghost use Rattle.weave_engine.specs.Growths.{IsMade, SetAgainst, fault_of_growing, grow_command, growth_files, growth_summary, head_over, frames_allowed, plan_of, version_over};
 
-use crate::files::{MapFile, OutFile};
-use crate::sample::{Sample, read_sample};
-use crate::tile::{tile_count, tiled};
-use job_words::GrowJob;
-use run_outcome::{Then, read_fault, write_run};
+use crate::files::{MapFile, OutFile, RecordFile};
+use cells::Volume;
+use cert_file::Head;
+use growing::{GrowError, Grown, Plan, grow_canvas};
+use job_words::{GrowJob, Place};
+use patch_place::Mode;
+use replay::MOST_BOX_CELLS;
+use run_outcome::{Then, write_run};
+use samples::{Form, Samples, read_samples};
 use seams::total;
 use shelf_core::{Shelf, Sink, What};
-use map_canvas::Canvas;
+use source_map::Version;
 use std::alloc::Global;
-use synth_report::{Fault, FileOf, Summary};
+use synth_report::{Fault, Summary};
 
 /// The greatest number of cells of an output.
 const MOST_OUTPUT_CELLS: usize = 1_048_576;
 
-/// The sample that was read, and the output grown from it: its map and its picture, and what its seams
-/// cost in all.
+/// The samples that were read, the output grown and refined over them with its records, and what its
+/// seams cost in all.
 #[derive(Drop)]
 pub struct Growth {
-    pub sample: Sample,
-    pub canvas: Canvas,
+    pub samples: Samples,
+    pub grown: Grown,
     pub seams: u64,
 }
 
-// Reads the sample and computes all that is to be written. Nothing is written yet.
-fn plan<S: Shelf>(alloc: Global, job: &GrowJob, shelf: &mut S) -> Result<Growth, Fault>
-    requires { IsGrowJob job.now }
-    ensures planned { Plans (grow_command job.now) (growth_files job.now) (growth_summary job.now)
-        (S.state shelf.old) (S.state shelf.new) result }
-    ensures made { IfOk result IsMade }
-    ensures reads { OnlyReads (S.state shelf.old) (S.state shelf.new) }
+// How an output is grown and refined.
+fn plan_of(job: &GrowJob) -> Plan
+    ensures { result ≡ plan_of job.now }
 {
-    let sample = match read_sample(alloc, shelf, job.names.sample.as_text()) {
-        Ok(sample) => sample,
-        Err(error) => return Err(read_fault(FileOf::Sample, error)),
+    let mode = match job.place {
+        Place::Grid => Mode::Grid {
+            overlap: job.overlap,
+        },
+        Place::Random => Mode::Random,
+        Place::Whole => Mode::Whole { tol: job.tol },
+        Place::Sub => Mode::Sub {
+            side: job.side,
+            overlap: job.overlap,
+            tol: job.tol,
+        },
     };
+    Plan {
+        size: job.size,
+        mode,
+        side: job.side,
+        tol: job.tol,
+        rounds: job.rounds,
+        seed: job.seed,
+    }
+}
+
+// The most frames of an output in this form.
+fn frames_allowed(form: Form) -> u32
+    ensures { result ≡ frames_allowed form }
+{
+    match form {
+        Form::Picture { .. } => 1,
+    }
+}
+
+// Sets a job against the form of its samples.
+fn set_against(job: &GrowJob, form: Form) -> Result<(), Fault>
+    requires { IsGrowJob job.now }
+    ensures { SetAgainst job.now form result }
+{
+    let frames = frames_allowed(form);
+    if job.size.f > frames {
+        return Err(Fault::Limit {
+            what: What::Frames,
+            number: u64::from(job.size.f),
+            bound: u64::from(frames),
+        });
+    }
     let cells = job.size.cells();
     if cells > MOST_OUTPUT_CELLS {
         return Err(Fault::Limit {
@@ -49,32 +89,90 @@ fn plan<S: Shelf>(alloc: Global, job: &GrowJob, shelf: &mut S) -> Result<Growth,
             bound: MOST_OUTPUT_CELLS as u64,
         });
     }
-    let Ok(canvas) = tiled(alloc, &sample.volume, job.size) else {
-        return Err(Fault::NoMemory);
+    Ok(())
+}
+
+// What a run without an output is refused for.
+fn growing_fault(error: GrowError) -> Fault
+    ensures { result ≡ fault_of_growing error }
+{
+    match error {
+        GrowError::Records(number) => Fault::Limit {
+            what: What::Records,
+            number,
+            bound: MOST_BOX_CELLS,
+        },
+        GrowError::NoMemory => Fault::NoMemory,
+    }
+}
+
+// Reads the samples and computes all that is to be written. Nothing is written yet.
+fn plan<S: Shelf>(alloc: Global, job: &GrowJob, shelf: &mut S) -> Result<Growth, Fault>
+    requires { IsGrowJob job.now }
+    ensures planned { Plans (grow_command job.now) (growth_files job.now) (growth_summary job.now)
+        (S.state shelf.old) (S.state shelf.new) result }
+    ensures made { IfOk result (IsMade job.now) }
+    ensures reads { OnlyReads (S.state shelf.old) (S.state shelf.new) }
+{
+    let samples = match read_samples(alloc, shelf, &job.names.sample, job.names.more.as_slice()) {
+        Ok(samples) => samples,
+        Err(fault) => return Err(fault),
     };
-    let seams = total(&canvas, &sample.volume);
+    // It is asked for only to show the check that the samples are a volume.
+    let _k = samples.volume.samples();
+    match set_against(job, samples.form) {
+        Ok(()) => {}
+        Err(fault) => return Err(fault),
+    }
+    let grown = match grow_canvas(alloc, &plan_of(job), &samples.volume) {
+        Ok(grown) => grown,
+        Err(error) => return Err(growing_fault(error)),
+    };
+    let seams = total(&grown.canvas, &samples.volume);
     Ok(Growth {
-        sample,
-        canvas,
+        samples,
+        grown,
         seams,
     })
 }
 
 // The summary of a growth.
 fn summary_of(job: &GrowJob, growth: &Growth) -> Summary
-    requires job { IsGrowJob job.now }
-    requires made { IsMade growth.now }
+    requires made { IsMade job.now growth.now }
     ensures { result ≡ growth_summary job.now growth.now }
 {
+    let rounds = growth.grown.rounds;
     Summary::Grow {
         size: job.size,
-        placements: tile_count(job.size, growth.sample.volume.size()),
-        rounds: 0,
+        placements: growth.grown.cuts.as_slice().len() as u64 - u64::from(rounds),
+        rounds: u64::from(rounds),
         seams: growth.seams,
     }
 }
 
-// Writes the picture of a growth, its map, and the report.
+// One sample is told in version 1, and several are in version 2.
+fn version_over(volume: &Volume) -> Version
+    ensures { result ≡ version_over volume.now }
+{
+    if volume.sizes().len() == 1 {
+        Version::One
+    } else {
+        Version::Two
+    }
+}
+
+// The head of the record of an output.
+fn head_over(job: &GrowJob, volume: &Volume) -> Head
+    ensures { result ≡ head_over job.now.size volume.now }
+{
+    Head {
+        output: job.size,
+        samples: volume.sizes(),
+        version: version_over(volume),
+    }
+}
+
+// Writes the picture of a growth, its map, its record, and the report.
 fn write_growth<S: Shelf, O: Sink>(
     job: &GrowJob,
     growth: &Growth,
@@ -82,26 +180,35 @@ fn write_growth<S: Shelf, O: Sink>(
     out: &mut O,
 ) -> Result<Summary, Fault>
     requires job { IsGrowJob job.now }
-    requires made { IsMade growth.now }
+    requires made { IsMade job.now growth.now }
     ensures wrote { WritesRun (growth_files job.now growth.now) (growth_summary job.now growth.now)
         (S.state shelf.old) (S.state shelf.new) (O.state out.old) (O.state out.new) result }
     ensures writes { OnlyWrites (S.state shelf.old) (S.state shelf.new) }
 {
+    let volume = &growth.samples.volume;
     let picture = OutFile {
         name: &job.names.out,
-        form: growth.sample.form,
-        picture: growth.canvas.picture(),
+        form: growth.samples.form,
+        picture: growth.grown.canvas.picture(),
     };
     let map = MapFile {
         name: &job.names.map,
-        map: growth.canvas.map(),
-        sample: growth.sample.volume.size(),
+        map: growth.grown.canvas.map(),
+        samples: volume.sizes(),
+        version: version_over(volume),
     };
-    write_run(&mut Then(picture, map), summary_of(job, growth), shelf, out)
+    let record = RecordFile {
+        name: &job.names.cert,
+        head: head_over(job, volume),
+        cuts: growth.grown.cuts.as_slice(),
+    };
+    let summary = summary_of(job, growth);
+    write_run(&mut Then(picture, Then(map, record)), summary, shelf, out)
 }
 
-/// Grows a texture: reads the sample, computes the output, and writes the picture, then the map, and
-/// then the report. All is computed before the first file is begun, and no memory is taken after it.
+/// Grows a texture: reads the samples in the order of their numbers, computes the output, and writes the
+/// picture, then the map, the record, and the report. All is computed before the first file is begun, and
+/// no memory is taken after it.
 pub fn grow<S: Shelf, O: Sink>(
     alloc: Global,
     job: &GrowJob,

@@ -3,16 +3,13 @@
 //! `run` promises what each status means and what the files hold after it, from the words to the bytes
 //! written. Each command is a value (`command_of` in specs/Engine.antt), over which the crate
 //! run_outcome has what any run leaves, and its promises. A command has a module of its own: `growth`
-//! the one that grows a texture. `sample` reads samples, `files` has the files that commands write, and
-//! `tile` the copies of a sample side by side. README.md says what a new command brings.
+//! the one that grows a texture. `files` has the files that commands write. README.md says what a new
+//! command brings.
 #![tactic(auto)]
 
 mod engine;
 mod files;
 mod growth;
-mod sample;
-mod tile;
 
 pub use engine::run;
 pub use growth::{Growth, grow};
-pub use sample::{Form, Sample};

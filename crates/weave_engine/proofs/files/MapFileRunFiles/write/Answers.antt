@@ -7,5 +7,5 @@ pub returns-in-Err-clause-wrote : goal.returns-in-Err-clause-wrote
 returns-in-Err-clause-wrote g c =
     let file = c.args.self.now in
     let failed = c.in-Err.ensures {u = tt} in
-    stops_at_one Map file.name.now c.as_text.result.now (cell_map_form file.map.now file.sample)
+    stops_at_one Map file.name.now c.as_text.result.now (cell_map_form file.map.now file.samples file.version)
     (g.S.Shelf.state c.args.shelf.now) (g.S.Shelf.state c.write_cell_map.new.shelf) c.as_text.ensures failed.err failed.failed

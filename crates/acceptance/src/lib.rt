@@ -4,14 +4,16 @@
 //! worked examples of the commands. Each test is a table, of words, of a sample and of what stands
 //! afterwards: the status, the line on `err`, and each file. What is expected is spelled by hand from
 //! the formats of the files and the texts of the faults. `stage` runs a line of words, `runs` has what
-//! the files hold after each status, `words` and `samples` the refusals of words and of pictures,
-//! `sizes` the greatest sizes.
+//! the files hold after each status, `words` and `pictures` the refusals of words and of pictures,
+//! `several` runs over two samples, `sizes` the greatest sizes.
 #![tactic(auto)]
 
 #[cfg(test)]
+mod pictures;
+#[cfg(test)]
 mod runs;
 #[cfg(test)]
-mod samples;
+mod several;
 #[cfg(test)]
 mod sizes;
 #[cfg(test)]

@@ -42,6 +42,45 @@ fn tiled_map(alloc: Global, output: (u16, u16), sample: (u16, u16)) -> Result<Ve
     Ok(bytes)
 }
 
+// The record file of whole tiles, which share no cell: each is new, and nothing flows.
+fn tiled_record(
+    alloc: Global,
+    output: (u16, u16),
+    sample: (u16, u16),
+) -> Result<Vec<u8>, AllocError> {
+    let (w, h) = (u32::from(sample.0).max(1), u32::from(sample.1).max(1));
+    let (columns, rows) = (u32::from(output.0) / w, u32::from(output.1) / h);
+    let mut bytes = Vec::from_slice(alloc, b"WEAVEREC\x01\x00")?;
+    for (w, h) in [output, sample] {
+        put_number(&mut bytes, u32::from(w))?;
+        put_number(&mut bytes, u32::from(h))?;
+        put_number(&mut bytes, 1)?;
+    }
+    put_number(&mut bytes, columns.wrapping_mul(rows))?;
+    let choice = vec![in alloc; 0xffu8; (w.wrapping_mul(h) / 8) as usize]?;
+    let pairs = (w - 1)
+        .wrapping_mul(h)
+        .wrapping_add((h - 1).wrapping_mul(w));
+    let flows = vec![in alloc; 0u8; pairs.wrapping_mul(4) as usize]?;
+    for row in 0..rows {
+        for column in 0..columns {
+            put_source(
+                &mut bytes,
+                column.wrapping_mul(w) as u16,
+                row.wrapping_mul(h) as u16,
+            )?;
+            put_source(&mut bytes, sample.0, sample.1)?;
+            if let Some(last) = bytes.last_mut() {
+                *last = 1;
+            }
+            put_source(&mut bytes, 0, 0)?;
+            bytes.extend_from_slice(&choice)?;
+            bytes.extend_from_slice(&flows)?;
+        }
+    }
+    Ok(bytes)
+}
+
 // Byte i is i mod 251, so that no two cells near each other are alike.
 fn raster(alloc: Global, count: u32) -> Result<Vec<u8>, AllocError> {
     let mut bytes = Vec::new(alloc);
@@ -90,6 +129,9 @@ fn an_output_above_the_bound(rt: HostRuntime) -> Result<(), Fail> {
     let words = "grow sample=s out=o map=m record=r width=1025 height=1024";
     let line = "weave: limit output 1049600 over 1048576\n";
     assert!(rt; refused(alloc, words, ONE_CELL, 4, line)?);
+    let words = "grow sample=s out=o map=m record=r width=1025 height=1024 frames=2";
+    let line = "weave: limit frames 2 over 1\n";
+    assert!(rt; refused(alloc, words, ONE_CELL, 4, line)?);
     Ok(())
 }
 
@@ -101,8 +143,9 @@ fn the_greatest_output(rt: HostRuntime) -> Result<(), Fail> {
     let tiles = tiled_raster(alloc, &cells, 192, 16)?;
     let wanted = picture(alloc, b"P6\n1024 1024\n255\n", &tiles)?;
     let map = tiled_map(alloc, (1024, 1024), (64, 64))?;
+    let record = tiled_record(alloc, (1024, 1024), (64, 64))?;
     let case = Case {
-        words: "grow sample=s out=o map=m record=r width=1024 height=1024",
+        words: "grow sample=s out=o map=m record=r width=1024 height=1024 place=grid overlap=0",
         sample: &sample,
         failing: Failing::Nothing,
         status: 0,
@@ -110,6 +153,7 @@ fn the_greatest_output(rt: HostRuntime) -> Result<(), Fail> {
         line: "",
         picture: &wanted,
         map: &map,
+        record: &record,
     };
     assert!(rt; holds(alloc, &case)?);
     Ok(())
@@ -123,6 +167,7 @@ fn a_picture_with_a_comment_is_copied(rt: HostRuntime) -> Result<(), Fail> {
     let sample = picture(alloc, head, &cells)?;
     let wanted = picture(alloc, b"P6\n640 480\n255\n", &cells)?;
     let map = tiled_map(alloc, (640, 480), (640, 480))?;
+    let record = tiled_record(alloc, (640, 480), (640, 480))?;
     let case = Case {
         words: "grow sample=s out=o map=m record=r width=640 height=480 place=grid overlap=0",
         sample: &sample,
@@ -132,6 +177,7 @@ fn a_picture_with_a_comment_is_copied(rt: HostRuntime) -> Result<(), Fail> {
         line: "",
         picture: &wanted,
         map: &map,
+        record: &record,
     };
     assert!(rt; holds(alloc, &case)?);
     Ok(())

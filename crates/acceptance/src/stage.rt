@@ -14,11 +14,11 @@ pub const ONE_CELL: &[u8] = b"P6\n1 1\n255\n\x07\x08\x09";
 pub const SIX_CELLS: &str =
     "grow sample=s out=o map=m record=r width=3 height=2 place=grid overlap=0";
 
-// Two cells of grey 10 and 20, and their copies on 5 x 1 cells.
-pub const TWO_CELLS: &[u8] = b"P6\n2 1\n255\n\x0a\x0a\x0a\x14\x14\x14";
+// Four cells of grey 10, 20, 30 and 40, and two copies of them on 6 x 1 cells, which overlap by two.
+pub const FOUR_CELLS: &[u8] = b"P6\n4 1\n255\n\x0a\x0a\x0a\x14\x14\x14\x1e\x1e\x1e\x28\x28\x28";
 
-pub const FIVE_CELLS: &str =
-    "grow sample=s out=o map=m record=r width=5 height=1 place=grid overlap=0";
+pub const OVERLAPPING: &str =
+    "grow sample=s out=o map=m record=r width=6 height=1 place=grid overlap=2";
 
 // Runs the words of a line, which blanks part.
 pub fn ran<S: Shelf, O: Sink, E: Sink>(
@@ -53,6 +53,8 @@ pub enum Failing {
     PictureBegin,
     MapBegin,
     MapWrite(usize),
+    RecordBegin,
+    RecordWrite(usize),
     ReportWrite(usize),
 }
 
@@ -67,6 +69,8 @@ fn list_failing(
         Failing::PictureBegin => shelf.fail_at(Call::Begin, "o", 1, 0),
         Failing::MapBegin => shelf.fail_at(Call::Begin, "m", 1, 0),
         Failing::MapWrite(kept) => shelf.fail_at(Call::Add, "m", 1, kept),
+        Failing::RecordBegin => shelf.fail_at(Call::Begin, "r", 1, 0),
+        Failing::RecordWrite(kept) => shelf.fail_at(Call::Add, "r", 1, kept),
         Failing::ReportWrite(kept) => out.fail_at(1, kept),
     }
 }
@@ -83,9 +87,10 @@ pub struct Case<'a> {
     pub line: &'a str,
     pub picture: &'a [u8],
     pub map: &'a [u8],
+    pub record: &'a [u8],
 }
 
-// Runs a case, and says whether all is as it is to be. The sample and the record file stay.
+// Runs a case, and says whether all is as it is to be. The sample stays.
 pub fn holds(alloc: Global, case: &Case) -> Result<bool, Fail> {
     let mut shelf = MemShelf::new(alloc);
     shelf.put_file("s", case.sample)?;
@@ -97,9 +102,10 @@ pub fn holds(alloc: Global, case: &Case) -> Result<bool, Fail> {
     let mut err = MemSink::new(alloc);
     let status = ran(alloc, case.words, &mut shelf, &mut out, &mut err)?;
     let said = out.bytes() == case.report.as_bytes() && err.bytes() == case.line.as_bytes();
-    let kept = is_file(shelf.file("s"), case.sample) && is_file(shelf.file("r"), BEFORE);
+    let kept = is_file(shelf.file("s"), case.sample);
     let written = is_file(shelf.file("o"), case.picture) && is_file(shelf.file("m"), case.map);
-    Ok(status == case.status && said && kept && written)
+    let recorded = is_file(shelf.file("r"), case.record);
+    Ok(status == case.status && said && kept && written && recorded)
 }
 
 // A run that is refused: every file stays, and nothing is reported.
@@ -119,6 +125,7 @@ pub fn refused<'a>(
         line,
         picture: BEFORE,
         map: BEFORE,
+        record: BEFORE,
     };
     holds(alloc, &case)
 }

@@ -37,7 +37,12 @@ fn words_are_refused(rt: HostRuntime) -> Result<(), Fail> {
         (nines.as_str(), "weave: word 2: out of range\n"),
         (zeros.as_str(), "weave: word 2: out of range\n"),
         (seven.as_str(), "weave: missing key sample\n"),
+        ("grow rounds=1001", "weave: word 2: out of range\n"),
         ("grow out=a map=a", "weave: word 3: name already used\n"),
+        (
+            "grow sample=s sample3=t out=o map=m record=r width=3 height=2",
+            "weave: missing key sample2\n",
+        ),
         (
             "grow sample=s out=s map=m record=r width=3 height=2 place=grid overlap=0",
             "weave: word 3: name already used\n",

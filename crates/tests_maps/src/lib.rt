@@ -5,4 +5,6 @@
 #[cfg(test)]
 mod canvases;
 #[cfg(test)]
+mod map_files;
+#[cfg(test)]
 mod volumes;

@@ -21,6 +21,13 @@ const MAP: &[u8] = b"WEAVEMAP\x01\x00\
 \x00\x00\x00\x02\x00\x00\x00\x01\x00\x00\x00\x01\
 \x00\x00\x00\x00\x00\x00\x00\x01\x00\x00\x00\x00\x00\x00\x00\x00\x00\x00";
 
+const RECORD: &[u8] = b"WEAVEREC\x01\x00\
+\x00\x00\x00\x03\x00\x00\x00\x01\x00\x00\x00\x01\
+\x00\x00\x00\x02\x00\x00\x00\x01\x00\x00\x00\x01\
+\x00\x00\x00\x02\
+\x00\x00\x00\x00\x00\x00\x00\x02\x00\x01\x00\x01\x00\x00\x00\x00\x00\x00\xc0\x00\x00\x00\x00\
+\x00\x02\x00\x00\x00\x00\x00\x01\x00\x01\x00\x01\x00\x00\x00\x00\x00\x00\x80";
+
 // The status of a run in a folder, with these names of its sample and its picture.
 fn ran(rt: &HostRuntime, folder: &str, sample: &str, out: &str) -> Result<u8, Fail> {
     let alloc = rt.alloc();
@@ -32,8 +39,9 @@ fn ran(rt: &HostRuntime, folder: &str, sample: &str, out: &str) -> Result<u8, Fa
     for word in files.as_str().split('\n') {
         words.push(word)?;
     }
-    words.push("width=3")?;
-    words.push("height=1")?;
+    for word in ["width=3", "height=1", "place=grid", "overlap=0"] {
+        words.push(word)?;
+    }
     let mut shelf = RealShelf::new(rt.clone()?, alloc)?;
     let mut out = Output::new(rt.clone()?);
     let mut err = ErrorOutput::new(rt.clone()?);
@@ -141,9 +149,9 @@ fn runs_over_files_of_the_system(rt: HostRuntime) -> Result<(), Fail> {
     let status = ran(&rt, folder, "s", "o")?;
     let written = holds(&rt, folder, "o", PICTURE)? && holds(&rt, folder, "m", MAP)?;
     let kept = holds(&rt, folder, "s", SAMPLE)?;
-    let recorded = fs::read(&rt, format!(in alloc; "{folder}/r")?.as_str()).is_ok();
+    let recorded = holds(&rt, folder, "r", RECORD)?;
     fs::remove_dir_all(&rt, folder)?;
     assert!(rt; unread == 5 && unwritten == 6 && !begun);
-    assert!(rt; status == 0 && written && kept && !recorded);
+    assert!(rt; status == 0 && written && kept && recorded);
     Ok(())
 }

@@ -16,5 +16,5 @@ write_cell_map-requires g c =
     let few : cell_count canvas.map.size ≤ 1048576 = grind arith in
     let one : length c.sizes-samples.result ≡ 1 = grind arith in
     let samples : AreSamples One c.sizes-samples.result = record { sizes_are = c.len.ensures.sizes; one = λ same. one } in
-    let writable = whole_is_writable canvas c.args.sample.now One c.map-map.ensures.canvas (subst (AreSamples One) c.sizes-samples.ensures samples) c.requires whole few in
+    let writable = whole_is_writable canvas c.args.sample.now One c.map-map.ensures.canvas (subst (AreSamples One) c.sizes-samples.ensures samples) c.requires.stands whole few in
     subst (λ m. IsWritable m c.sizes-samples.result One) (sym c.map-map.ensures.map) (subst (λ sizes. IsWritable canvas.map sizes One) (sym c.sizes-samples.ensures) writable)

@@ -1,6 +1,7 @@
 #!/bin/sh
 # Prints the user time and the peak memory of the program, of `cp` of the same bytes, and for reading also of
-# a plain C program. Each line is the mean user time of 20 runs, and the most memory that one of them took.
+# a plain C program. Each line is the mean user time of 20 runs, of 3 for the textures, and the most memory that
+# one of them took.
 #
 #   examples/measure.sh
 set -eu
@@ -14,18 +15,19 @@ cd "$work"
 cc -O2 -o plain_read "$top/examples/plain_read.c"
 
 # measure NAME STATUS COMMAND..: the command is to end with that status each time.
+runs=20
 measure() {
     name=$1 wanted=$2
     shift 2
     /usr/bin/time -o figures -f '%U %S %M' sh -c '
-        wanted=$1; shift; i=0
-        while [ $i -lt 20 ]; do
+        runs=$1; wanted=$2; shift 2; i=0
+        while [ $i -lt $runs ]; do
             status=0; "$@" >said 2>&1 || status=$?
             [ $status -eq $wanted ] || { cat said >&2; exit 1; }
             i=$((i + 1))
-        done' sh "$wanted" "$@"
-    awk -v name="$name" '{ printf "%-34s user %6.1f ms   system %6.1f ms   peak %6.1f MiB\n",
-        name, $1 * 50, $2 * 50, $3 / 1024 }' figures
+        done' sh "$runs" "$wanted" "$@"
+    awk -v name="$name" -v runs="$runs" '{ printf "%-34s user %6.1f ms   system %6.1f ms   peak %6.1f MiB\n",
+        name, $1 * 1000 / runs, $2 * 1000 / runs, $3 / 1024 }' figures
 }
 
 cp "$top/examples/netpbm_camouflage.ppm" sample.ppm
@@ -41,3 +43,17 @@ measure 'read 4096x2048' 4 "$weave" grow sample=great.ppm out=out.ppm map=out.ma
     record=out.record width=4096 height=4096 place=grid overlap=0
 measure 'plain C, reads and checks' 0 ./plain_read great.ppm
 measure 'cp of the bytes read' 0 cp great.ppm copy
+
+# texture NAME WORD..: grows from the pebbles.
+runs=3
+texture() {
+    name=$1
+    shift
+    measure "$name" 0 "$weave" grow sample="$top/examples/pebbles.ppm" out=out.ppm map=out.map \
+        record=out.record "$@"
+}
+texture 'sub, 512x512' width=512 height=512 place=sub
+texture 'whole, 512x512' width=512 height=512 place=whole
+texture 'random, 1024x1024' width=1024 height=1024 place=random
+texture 'grid, 1024x1024' width=1024 height=1024 place=grid
+texture 'sub, 256x256, 200 rounds' width=256 height=256 place=sub rounds=200

@@ -9,7 +9,7 @@ trap 'rm -rf "$room"' EXIT
 wrong=0
 for picture in examples/*.ppm; do
     "$weave" grow sample="$picture" out="$room/o" map="$room/m" record="$room/r" \
-        width=100 height=75 >"$room/report" 2>"$room/line"
+        width=100 height=75 place=grid overlap=0 >"$room/report" 2>"$room/line"
     status=$?
     case $picture in
         *_deep.ppm) wanted="3 weave: sample: depth" ;;

@@ -1,0 +1,7 @@
+pub mod Sizes
+pub mod Searching
+pub mod CutFaults
+pub mod FirstBroken
+pub mod Breaking
+pub mod Runs
+pub mod Judging

@@ -1,0 +1,17 @@
+//! Whether samples, an out picture, a map file and a record file stand, over their values alone.
+//!
+//! `judge` says that they stand exactly where they do (specs/Standing.antt), and else names the first
+//! broken rule with the number of its record and its place. Rules 1 to 6 are those of cut records, which
+//! the crates cut_check and replay judge; the three rules of whole files are here: `together` tries
+//! whether the files go together, `records` whether the records stand and leave the map, and `picture`
+//! whether the out picture is that of the map.
+#![tactic(auto)]
+
+mod laws;
+mod picture;
+mod records;
+mod together;
+mod verdict;
+
+pub use laws::{files_of_a_run_stand, one_first_broken_rule};
+pub use verdict::{MAP_RULE, PICTURE_RULE, TOGETHER_RULE, Verdict, judge};

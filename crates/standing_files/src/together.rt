@@ -1,0 +1,85 @@
+// Whether files go together: their sizes, forms and kinds.
+ghost use Rattle.std.specs.Prelude.{◌≡◌, ◌↔◌, ◌∷◌, [], IsTrue};
+ghost use Rattle.standing_files.specs.Standing.{AreKindsOfOneRun, GoTogether, NamesSizes, cert_head, map_output, map_samples};
+
+use cells::{Size, Sizes};
+use cert_file::CertFile;
+use samples::{Sample, Samples};
+use source_map::MapFile;
+
+// Whether two lists of sizes are the same.
+fn are_same(a: &Sizes, b: &Sizes) -> bool
+    ensures { IsTrue result ↔ (a.now ≡ b.now) }
+{
+    if a.len() != b.len() {
+        return false;
+    }
+    for part in 0..a.len() {
+        if a.at(part + 1) != b.at(part + 1) {
+            return false;
+        }
+    }
+    true
+}
+
+// Whether there is one size alone, and this is it.
+fn is_one(sizes: &Sizes, size: Size) -> bool
+    ensures { IsTrue result ↔ (sizes.now ≡ size ∷ []) }
+{
+    sizes.len() == 1 && sizes.at(1) == size
+}
+
+// Whether a map file names the sizes of samples and out picture.
+fn map_names_sizes(map_file: &MapFile, samples: &Sizes, out: &Sizes) -> bool
+    ensures { IsTrue result
+        ↔ NamesSizes samples.now out.now (map_output map_file.now) (map_samples map_file.now) }
+{
+    match map_file {
+        MapFile::Cells {
+            map,
+            samples: named,
+            ..
+        } => is_one(out, map.size()) && are_same(samples, named),
+        MapFile::Frames { size, sample, .. } => is_one(out, *size) && is_one(samples, *sample),
+    }
+}
+
+// Whether a record file names them.
+fn cert_names_sizes(cert: &CertFile, samples: &Sizes, out: &Sizes) -> bool
+    ensures { IsTrue result ↔ NamesSizes samples.now out.now
+        (cert_head cert.now).output (cert_head cert.now).samples }
+{
+    match cert {
+        CertFile::Cuts { head, .. } => {
+            is_one(out, head.output) && are_same(samples, &head.samples)
+        }
+    }
+}
+
+// Whether the kinds of a map file and a record file go together.
+fn are_kinds_of_one_run(map_file: &MapFile, cert: &CertFile) -> bool
+    ensures { IsTrue result ↔ AreKindsOfOneRun map_file.now cert.now }
+{
+    match (map_file, cert) {
+        (MapFile::Cells { .. }, CertFile::Cuts { .. }) => true,
+        (MapFile::Frames { .. }, CertFile::Cuts { .. }) => false,
+    }
+}
+
+/// Whether map file and record file name the sizes of the pictures, the out picture has the form of the
+/// first sample, and the kinds of the two files go together.
+pub(crate) fn go_together(
+    samples: &Samples,
+    out: &Sample,
+    map_file: &MapFile,
+    cert: &CertFile,
+) -> bool
+    ensures { IsTrue result ↔ GoTogether samples.now out.now map_file.now cert.now }
+{
+    let sizes = samples.volume.sizes();
+    let out_sizes = out.volume.sizes();
+    map_names_sizes(map_file, &sizes, &out_sizes)
+        && cert_names_sizes(cert, &sizes, &out_sizes)
+        && samples.form.goes_with(out.form)
+        && are_kinds_of_one_run(map_file, cert)
+}

@@ -4,4 +4,5 @@ pub mod CutFaults
 pub mod FirstBroken
 pub mod Breaking
 pub mod Runs
+pub mod Versions
 pub mod Judging

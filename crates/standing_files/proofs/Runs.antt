@@ -7,7 +7,8 @@ use Rattle.cells.specs.declared.place.Size.{Size}
 use Rattle.cells.specs.Cells.{Cells, sizes_of}
 use Rattle.cells.specs.Places.{IsInside, cell_count, place_of, spot}
 use Rattle.cells.proofs.Raster.{has_index, place_at}
-use Rattle.map_canvas.specs.Maps.{SourceMap, IsFull, IsMap, map_at}
+use Rattle.map_canvas.specs.Maps.{SourceMap, IsFull, IsMap, empty_map, map_at}
+use Rattle.replay.specs.Replay.{EachStands, left_by}
 use Rattle.samples.specs.declared.form.Form.{Form}
 use Rattle.samples.specs.declared.form.Form.TheVariants.{Picture}
 use Rattle.samples.specs.Samples.{goes_with}
@@ -17,11 +18,11 @@ pub goes_with_itself : (form : Form) → goes_with form form ≡ true
 goes_with_itself (Picture maxval) = (Decides-eqb maxval maxval).1 refl
 
 -- each cell of a full map has a source
-record IsNamed (m : SourceMap) (i : ℕ) : Type 0 where
+record HasSource (m : SourceMap) (i : ℕ) : Type 0 where
   pub from : At
   pub is : map_at m (place_of m.size i) ≡ Some from
 
-named : (m : SourceMap) → IsMap m → IsFull m → (i : ℕ) → i < cell_count m.size → IsNamed m i
+named : (m : SourceMap) → IsMap m → IsFull m → (i : ℕ) → i < cell_count m.size → HasSource m i
 named m is full i lt =
     let inside : IsInside m.size (place_of m.size i) = subst IsSome (sym (place_at m.size i is.small.axes.w.0 is.small.axes.h.0 lt)) refl in
     record {
@@ -33,13 +34,18 @@ sizes_named : (samples picture : Cells) (size : Size) → picture.size ≡ size 
 sizes_named samples picture size same one = record { output_is = cc; samples_are = refl }
 
 pub run_stands : RunStands
-run_stands samples picture m cuts of_map of_cert run =
-    let sizes = sizes_named samples.volume picture m.size run.size run.one in
+run_stands samples size cuts m picture of_map of_cert run =
+    let replays : left_by (empty_map m.size) cuts ≡ m = ap (λ (size : Size). left_by (empty_map size) cuts) run.asked ∙ run.replays in
     record {
-      together = record { map_sizes = sizes; cert_sizes = sizes; form = goes_with_itself samples.form; kinds = tt };
-      records = run.stand;
-      left = λ i lt. let there = named m run.map run.full i lt in
-          record { from = there.from; left_is = ap (λ left. map_at left (place_of m.size i)) run.replays ∙ there.is; map_is = there.is };
-      copied = λ i lt. let there = named m run.map run.full i lt in
+      together = record {
+        map_sizes = sizes_named samples.volume picture m.size (run.size_is ∙ sym run.asked) run.one;
+        cert_sizes = sizes_named samples.volume picture size run.size_is run.one;
+        form = goes_with_itself samples.form;
+        kinds = tt;
+      };
+      records = subst (λ (size : Size). EachStands samples.volume (empty_map size) cuts) (sym run.asked) run.stand;
+      left = λ i lt. let there = named m run.is_map run.full i lt in
+          record { from = there.from; left_is = ap (λ left. map_at left (place_of m.size i)) replays ∙ there.is; map_is = there.is };
+      copied = λ i lt. let there = named m run.is_map run.full i lt in
           record { from = there.from; named = there.is; same = run.cells (place_of m.size i) there.from there.is };
     }

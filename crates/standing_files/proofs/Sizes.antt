@@ -32,8 +32,7 @@ only_size sizes size got is one = same_Some got size (is ∙ ap (λ all. size_of
 -- what `==` answers at two sizes
 pub size_test : (p q : Size) → Decides ((p.w == q.w) && ((p.h == q.h) && (p.f == q.f))) (p ≡ q)
 size_test p q =
-    let each = Decides-and _ _ (Decides-eqb p.w q.w) (Decides-and _ _ (Decides-eqb p.h q.h) (Decides-eqb p.f q.f)) in
-    (
+    let each = Decides-and _ _ (Decides-eqb p.w q.w) (Decides-and _ _ (Decides-eqb p.h q.h) (Decides-eqb p.f q.f)) in (
       λ e. let parts = each.0 e in λ k. record { w = parts.0 k; h = parts.1.0 k; f = parts.1.1 k },
       λ same. each.1 (ap (λ (size : Size). size.w) same, (ap (λ (size : Size). size.h) same, ap (λ (size : Size). size.f) same)),
     )

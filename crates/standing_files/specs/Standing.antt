@@ -213,28 +213,39 @@ OneFirstBrokenRule =
     → IsFirstBrokenRule samples out map_file cert number' rule' place'
     → AreOneFault number rule place number' rule' place'
 
--- cut records leave a full map, each stands over the map that those before it leave, and a picture of
--- its size has at each cell the samples' cell that the map names
-pub record IsRunOver (samples : Cells) (picture : Cells) (m : SourceMap) (cuts : List CutRecord)
-    : Type 0 where
-  pub map : IsMap m
+-- the versions of map file and record file don't count
+abbrev pub VersionsDontCount : Type 0
+VersionsDontCount =
+    (samples : Samples) (out : Sample) (m : SourceMap) (sizes : List Size) (version : Version)
+    (head : Head) (cuts : List CutRecord) (verdict : Verdict) (of_map of_cert : Version)
+    → IsVerdict samples out (CellMap m sizes version) (Cuts head cuts) verdict
+    → IsVerdict samples out (CellMap m sizes of_map)
+    (Cuts (record head { version = of_cert }) cuts) verdict
+
+-- cut records over an output of this size leave a full map, each stands over the map that those before
+-- it leave, and a picture of that size has at each cell the samples' cell that the map names
+pub record IsRunOver (samples : Cells) (size : Size) (cuts : List CutRecord) (m : SourceMap)
+    (picture : Cells) : Type 0 where
+  pub asked : m.size ≡ size
+  pub is_map : IsMap m
   pub full : IsFull m
-  pub size : picture.size ≡ m.size
   pub one : IsOnePart picture
+  pub size_is : picture.size ≡ size
   pub cells : (p from : At) → map_at m p ≡ Some from → cell_at picture p ≡ cell_at samples from
-  pub replays : left_by (empty_map m.size) cuts ≡ m
-  pub stand : EachStands samples (empty_map m.size) cuts
+  pub replays : left_by (empty_map size) cuts ≡ m
+  pub stand : EachStands samples (empty_map size) cuts
 
 -- the head of a file over samples
 abbrev pub head_of_run : Size → Cells → Version → Head
 head_of_run output samples version =
     record { output = output; samples = sizes_of samples; version = version }
 
--- the files of such a run, in the form of its samples and of any versions, stand
+-- the files of such a run stand: the picture in the form of its samples, and map and record in any
+-- versions
 abbrev pub RunStands : Type 0
 RunStands =
-    (samples : Samples) (picture : Cells) (m : SourceMap) (cuts : List CutRecord)
-    (of_map of_cert : Version) → IsRunOver samples.volume picture m cuts
+    (samples : Samples) (size : Size) (cuts : List CutRecord) (m : SourceMap) (picture : Cells)
+    (of_map of_cert : Version) → IsRunOver samples.volume size cuts m picture
     → FilesStand samples (record { form = samples.form; volume = picture })
     (CellMap m (sizes_of samples.volume) of_map)
-    (Cuts (head_of_run m.size samples.volume of_cert) cuts)
+    (Cuts (head_of_run size samples.volume of_cert) cuts)

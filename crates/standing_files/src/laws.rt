@@ -1,5 +1,5 @@
 // What the definitions mean.
-ghost use Rattle.standing_files.specs.Standing.{OneFirstBrokenRule, RunStands, StandingBreaksNone};
+ghost use Rattle.standing_files.specs.Standing.{OneFirstBrokenRule, RunStands, StandingBreaksNone, VersionsDontCount};
 
 /// A law, with nothing to run: files that stand break no rule, and others have one first broken rule at
 /// most.
@@ -12,4 +12,9 @@ pub fn one_first_broken_rule()
 /// the map that the records before it leave, and its picture is that of the map.
 pub fn files_of_a_run_stand()
     ensures { RunStands }
+{}
+
+/// A law, with nothing to run: a verdict is that on the same map and records in other versions too.
+pub fn versions_do_not_count()
+    ensures { VersionsDontCount }
 {}

@@ -13,5 +13,8 @@ mod records;
 mod together;
 mod verdict;
 
-pub use laws::{files_of_a_run_stand, one_first_broken_rule};
+pub use laws::{files_of_a_run_stand, one_first_broken_rule, versions_do_not_count};
 pub use verdict::{MAP_RULE, PICTURE_RULE, TOGETHER_RULE, Verdict, judge};
+
+#[cfg(test)]
+mod tests;

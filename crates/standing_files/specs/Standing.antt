@@ -100,11 +100,13 @@ pub record HasOneSource (left m : SourceMap) (p : At) : Type 0 where
   pub left_is : map_at left p ≡ Some from
   pub map_is : map_at m p ≡ Some from
 
--- the records leave this entry of the map file: for cut records the cell has a source in the map that
--- they leave, and the map file names the same one
+-- cut records leave the cell at this index with the source that a map has for it
+abbrev pub IsLeftAt : SourceMap → List CutRecord → ℕ → Type 0
+IsLeftAt m cuts i = HasOneSource (left_by (empty_map m.size) cuts) m (place_of m.size i)
+
+-- the records leave this entry of the map file
 abbrev pub LeaveAt : CertFile → MapFile → ℕ → Type 0
-LeaveAt (Cuts head cuts) (CellMap m samples version) i =
-    HasOneSource (left_by (empty_map m.size) cuts) m (place_of m.size i)
+LeaveAt (Cuts head cuts) (CellMap m samples version) i = IsLeftAt m cuts i
 LeaveAt (Cuts head cuts) (Frames size sample frames) i = ⊥
 
 abbrev pub LeaveMap : CertFile → MapFile → Type 0
@@ -194,8 +196,8 @@ IsVerdict samples out map_file cert (Fails number rule place) =
 -- files that stand break no rule
 abbrev pub StandingBreaksNone : Type 0
 StandingBreaksNone =
-    (samples : Samples) (out : Sample) (map_file : MapFile) (cert : CertFile) (number rule place : ℕ)
-    → FilesStand samples out map_file cert
+    (samples : Samples) (out : Sample) (map_file : MapFile) (cert : CertFile)
+    (number rule place : ℕ) → FilesStand samples out map_file cert
     → IsFirstBrokenRule samples out map_file cert number rule place → ⊥
 
 -- numbers, rules and places are the same
@@ -222,8 +224,8 @@ VersionsDontCount =
     → IsVerdict samples out (CellMap m sizes of_map)
     (Cuts (record head { version = of_cert }) cuts) verdict
 
--- cut records over an output of this size leave a full map, each stands over the map that those before
--- it leave, and a picture of that size has at each cell the samples' cell that the map names
+-- cut records over an output of this size leave a full map, each stands over the map that those
+-- before it leave, and a picture of that size has at each cell the samples' cell that the map names
 pub record IsRunOver (samples : Cells) (size : Size) (cuts : List CutRecord) (m : SourceMap)
     (picture : Cells) : Type 0 where
   pub asked : m.size ≡ size

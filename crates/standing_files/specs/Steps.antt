@@ -2,18 +2,18 @@
 -- (Own.)
 use Rattle.std.specs.Prelude.{◌⊎◌, ℕ, List, Option, Some, None}
 use Rattle.cells.specs.Cells.{Cells}
-use Rattle.cells.specs.Places.{cell_count, place_of}
+use Rattle.cells.specs.Places.{cell_count}
 use Rattle.map_canvas.specs.Maps.{SourceMap, empty_map}
 use Rattle.source_map.specs.declared.map_file.MapFile.{MapFile}
 use Rattle.cut_check.specs.declared.record.CutRecord.{CutRecord}
 use Rattle.cut_check.specs.Records.{Each, IsFirstWithout}
-use Rattle.replay.specs.Replay.{EachStands, left_by}
+use Rattle.replay.specs.Replay.{EachStands}
 use Rattle.cert_file.specs.declared.file.CertFile.{CertFile}
 use Rattle.cert_file.specs.declared.file.CertFile.TheVariants.{Cuts}
 use Rattle.standing_files.specs.declared.verdict.TheConstants.{MAP_RULE}
 use Rattle.standing_files.specs.declared.verdict.Verdict.{Verdict}
 use Rattle.standing_files.specs.declared.verdict.Verdict.TheVariants.{Stands, Fails}
-use Rattle.standing_files.specs.Standing.{HasOneSource, IsBrokenCut, IsBrokenRecord, IsWholeRule, LeaveAt, LeaveMap, RecordsStand, map_entries, map_output}
+use Rattle.standing_files.specs.Standing.{IsBrokenCut, IsBrokenRecord, IsLeftAt, IsWholeRule, LeaveAt, LeaveMap, RecordsStand, map_entries, map_output}
 
 -- the first number below n without the property, if there is one
 abbrev pub FirstWithout : ℕ → (ℕ → Type 0) → Option ℕ → Type 0
@@ -36,14 +36,12 @@ pub record LeaveOthers (samples : Cells) (m : SourceMap) (cuts : List CutRecord)
     (number rule place : ℕ) : Type 0 where
   pub whole : IsWholeRule number rule MAP_RULE
   pub records : EachStands samples (empty_map m.size) cuts
-  pub first : IsFirstWithout (cell_count m.size)
-      (λ i. HasOneSource (left_by (empty_map m.size) cuts) m (place_of m.size i)) place
+  pub first : IsFirstWithout (cell_count m.size) (IsLeftAt m cuts) place
 
 -- the rules of cut records, and the map that they leave
 abbrev pub JudgesCuts : Cells → SourceMap → List CutRecord → Verdict → Type 0
 JudgesCuts samples m cuts Stands =
-    EachStands samples (empty_map m.size) cuts
-    × Each (cell_count m.size) (λ i. HasOneSource (left_by (empty_map m.size) cuts) m (place_of m.size i))
+    EachStands samples (empty_map m.size) cuts × Each (cell_count m.size) (IsLeftAt m cuts)
 JudgesCuts samples m cuts (Fails number rule place) =
     IsBrokenCut samples m.size cuts number rule place
     ⊎ LeaveOthers samples m cuts number rule place

@@ -44,8 +44,8 @@ fn is_copied(samples: &Volume, picture: &Volume, source: Option<At>, p: At) -> b
     }
 }
 
-/// The index of the first cell of the out picture that isn't the samples' cell that the map file names
-/// for it. The picture has the size of the map.
+/// The index of the first cell of the out picture that isn't the samples' cell that the map file
+/// names for it. The picture has the size of the map.
 pub(crate) fn first_not_copied(
     samples: &Volume,
     picture: &Volume,

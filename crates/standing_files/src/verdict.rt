@@ -30,15 +30,15 @@ pub enum Verdict {
         number: u64,
         /// The number of the rule: 15, then those of the records, then 16 and 17.
         rule: u32,
-        /// The first place where it is broken: that of the record's rule, 0 for `TOGETHER_RULE`, and
-        /// for the other two the index of an output cell, in raster order.
+        /// The first place where it is broken: that of the record's rule, 0 for `TOGETHER_RULE`,
+        /// and for the other two the index of an output cell, in raster order.
         place: u64,
     },
 }
 
-/// Tries whether the files stand: first whether they go together, then each record over the map that the
-/// records before it leave, then whether the records leave the map of the map file, and last each cell
-/// of the out picture. The one error is out of memory; it takes one canvas.
+/// Tries whether the files stand: first whether they go together, then each record over the map that
+/// the records before it leave, then whether the records leave the map of the map file, and last each
+/// cell of the out picture. The one error is out of memory; it takes one canvas.
 pub fn judge(
     alloc: Global,
     samples: &Samples,

@@ -18,5 +18,8 @@ for picture in examples/*.ppm; do
     answer="$status $(cat "$room/line")"
     [ "$answer" = "$wanted" ] || { echo "$picture: $answer"; wrong=$((wrong + 1)); }
 done
+# A pipe may be a sample too.
+cat examples/pebbles.ppm | "$weave" grow sample=/dev/stdin out="$room/o" map="$room/m" record="$room/r" \
+    width=100 height=75 >"$room/report" 2>"$room/line" || { echo "a pipe: $(cat "$room/line")"; wrong=$((wrong + 1)); }
 [ "$wrong" = 0 ] && echo "each picture is answered as it should be"
 exit "$wrong"

@@ -5,10 +5,8 @@ use crate::streams::{ErrorOutput, Output};
 use job_words::Words;
 use shelf_core::Shelf;
 use std::fs::OpenOptions;
-use std::io::Write;
-use std::os::fd::AsRawFd;
 use std::test::Fail;
-use std::{env, fs, io, process};
+use std::{env, fs, process};
 use weave_engine::run;
 
 // Two cells of grey 10 and 20 side by side, and the first and the second of them on 3 x 1 cells.
@@ -115,22 +113,6 @@ fn reads_on_in_the_file_that_it_opened(rt: HostRuntime) -> Result<(), Fail> {
     fs::remove_dir_all(&rt, folder)?;
     assert!(rt; first == Some(3) && head == *b"abc");
     assert!(rt; second == Some(4) && rest.starts_with(b"cdef"));
-    Ok(())
-}
-
-#[test]
-fn a_sample_may_be_a_pipe(rt: HostRuntime) -> Result<(), Fail> {
-    let alloc = rt.alloc();
-    let folder = new_folder(&rt, "pipe")?;
-    let (reader, mut writer) = io::pipe(&rt)?;
-    writer.write_all(SAMPLE)?;
-    drop(writer);
-    // A pipe that is open already, by a path.
-    let sample = format!(in alloc; "../../proc/self/fd/{}", reader.as_raw_fd())?;
-    let status = ran(&rt, folder.as_str(), sample.as_str(), "o")?;
-    let written = holds(&rt, folder.as_str(), "o", PICTURE)?;
-    fs::remove_dir_all(&rt, folder.as_str())?;
-    assert!(rt; status == 0 && written);
     Ok(())
 }
 

@@ -151,13 +151,12 @@ pairs_back size x y f some are =
     ap (pairs_before size) here ∙ pairs_next size (x - 1) y f (record { column = omega (arith, are.column); row = are.row; frame = are.frame })
 
 -- no pair begins at the last cell
-pub pairs_of_last : (size : Size) → IsSmall size → pair_count size ≡ pairs_before size (raster_index size (size.w - 1) (size.h - 1) (size.f - 1))
-pairs_of_last size small =
-    let axes = small.axes in
-    let are : AreCounts size (size.w - 1) (size.h - 1) (size.f - 1) = record { column = omega (arith, axes.w); row = omega (arith, axes.h); frame = omega (arith, axes.f) } in
-    let end : raster_index size (size.w - 1) (size.h - 1) (size.f - 1) + 1 ≡ cell_count size = last size.w size.h size.f axes.w.0 axes.h.0 axes.f.0 in
+pub pairs_before_last : (size : Size) → HasCells size → pair_count size ≡ pairs_before size (raster_index size (size.w - 1) (size.h - 1) (size.f - 1))
+pairs_before_last size some =
+    let are : AreCounts size (size.w - 1) (size.h - 1) (size.f - 1) = record { column = omega (arith, some.w); row = omega (arith, some.h); frame = omega (arith, some.f) } in
+    let end : raster_index size (size.w - 1) (size.h - 1) (size.f - 1) + 1 ≡ cell_count size = last size.w size.h size.f some.w some.h some.f in
     let none : pairs_from size (size.w - 1) (size.h - 1) (size.f - 1) ≡ 0 =
-    (λ k. one_if (le-ltb (size.w - 1 + 1) size.w (omega (arith, axes.w)) k) + one_if (le-ltb (size.h - 1 + 1) size.h (omega (arith, axes.h)) k) + one_if (le-ltb (size.f - 1 + 1) size.f (omega (arith, axes.f)) k)) in
+    (λ k. one_if (le-ltb (size.w - 1 + 1) size.w (omega (arith, some.w)) k) + one_if (le-ltb (size.h - 1 + 1) size.h (omega (arith, some.h)) k) + one_if (le-ltb (size.f - 1 + 1) size.f (omega (arith, some.f)) k)) in
     ap (pairs_before size) (sym end) ∙ pairs_next size (size.w - 1) (size.h - 1) (size.f - 1) are ∙ ap (λ n. pairs_before size (raster_index size (size.w - 1) (size.h - 1) (size.f - 1)) + n) none ∙ plain _
   where
     plain : (n : ℕ) → n + (0 + 0 + 0) ≡ n
@@ -171,3 +170,6 @@ pairs_of_last size small =
       where
         by : (a b c : ℕ) → a ≡ w → b ≡ h → c ≡ f → a + suc w * (b + suc h * c) + 1 ≡ suc w * (suc h * suc f)
         by a b c ea eb ec = rw (ea, eb, ec) (omega arith)
+
+pub pairs_of_last : (size : Size) → IsSmall size → pair_count size ≡ pairs_before size (raster_index size (size.w - 1) (size.h - 1) (size.f - 1))
+pairs_of_last size small = pairs_before_last size (record { w = small.axes.w.0; h = small.axes.h.0; f = small.axes.f.0 })

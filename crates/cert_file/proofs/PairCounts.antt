@@ -7,28 +7,7 @@ use Rattle.cells.specs.Boxes.{HasCells}
 use Rattle.cells.specs.Places.{cell_count, raster_index}
 use Rattle.box_walk.specs.Pairs.{AreCounts, one_if, pair_count, pairs_before, pairs_from}
 use Rattle.box_walk.proofs.ClosedForm.{closed_is}
-use Rattle.box_walk.proofs.PairNumbers.{pairs_next}
-
--- no pair begins at the last cell
-pairs_before_last : (size : Size) → HasCells size → pair_count size ≡ pairs_before size (raster_index size (size.w - 1) (size.h - 1) (size.f - 1))
-pairs_before_last size some =
-    let are : AreCounts size (size.w - 1) (size.h - 1) (size.f - 1) = record { column = omega (arith, some.w); row = omega (arith, some.h); frame = omega (arith, some.f) } in
-    let end : raster_index size (size.w - 1) (size.h - 1) (size.f - 1) + 1 ≡ cell_count size = last size.w size.h size.f some.w some.h some.f in
-    let none : pairs_from size (size.w - 1) (size.h - 1) (size.f - 1) ≡ 0 =
-    (λ k. one_if (le-ltb (size.w - 1 + 1) size.w (omega (arith, some.w)) k) + one_if (le-ltb (size.h - 1 + 1) size.h (omega (arith, some.h)) k) + one_if (le-ltb (size.f - 1 + 1) size.f (omega (arith, some.f)) k)) in
-    ap (pairs_before size) (sym end) ∙ pairs_next size (size.w - 1) (size.h - 1) (size.f - 1) are ∙ ap (λ n. pairs_before size (raster_index size (size.w - 1) (size.h - 1) (size.f - 1)) + n) none ∙ plain _
-  where
-    plain : (n : ℕ) → n + (0 + 0 + 0) ≡ n
-    plain n = omega arith
-
-    last : (w h f : ℕ) → 1 ≤ w → 1 ≤ h → 1 ≤ f → (w - 1) + w * ((h - 1) + h * (f - 1)) + 1 ≡ w * (h * f)
-    last zero h f w1 h1 f1 = absurd (omega arith)
-    last (suc w) zero f w1 h1 f1 = absurd (omega arith)
-    last (suc w) (suc h) zero w1 h1 f1 = absurd (omega arith)
-    last (suc w) (suc h) (suc f) w1 h1 f1 = by (suc w - 1) (suc h - 1) (suc f - 1) (omega arith) (omega arith) (omega arith)
-      where
-        by : (a b c : ℕ) → a ≡ w → b ≡ h → c ≡ f → a + suc w * (b + suc h * c) + 1 ≡ suc w * (suc h * suc f)
-        by a b c ea eb ec = rw (ea, eb, ec) (omega arith)
+use Rattle.box_walk.proofs.PairNumbers.{pairs_before_last}
 
 -- on each axis, the cells less those of the last layer
 pub pairs_by_layers : (size : Size) → HasCells size → pair_count size ≡ (cell_count size - size.h * size.f) + (cell_count size - size.w * size.f) + (cell_count size - size.w * size.h)

@@ -167,7 +167,8 @@ impl FilledRuns {
         requires cells { AreFilledRuns canvas.now placement.now.rect self.now }
         requires over { StandsOver canvas.now sample.now }
         requires fits { Fits canvas.now.map.size sample.now placement.now }
-        ensures some { IfSome result (λ sum. sum ≡ error_sum canvas.now.map sample.now placement.now) }
+        ensures some { IfSome result (λ sum.
+            sum ≡ error_sum canvas.now.map sample.now placement.now) }
         ensures most { IfSome result (λ sum. sum ≤ limit) }
         ensures small { IfSome result (λ sum. sum ≤ 2 ^ 48) }
         ensures bound { error_sum canvas.now.map sample.now placement.now ≤ 2 ^ 48 }

@@ -35,7 +35,8 @@ fn propose(alloc: Global, network: &Network, backward: &mut [u32]) -> Result<(),
 /// where nothing flows if theirs isn't a flow. Returns the value of the flow.
 pub fn first_flow(alloc: Global, network: &Network, backward: &mut [u32]) -> Result<u64, AllocError>
     requires { length backward.old ≡ length network.now.pipes }
-    ensures { IfOk result (Carries network.now.pipes network.now.source network.now.sink backward.new) }
+    ensures { IfOk result
+        (Carries network.now.pipes network.now.source network.now.sink backward.new) }
 {
     propose(alloc, network, backward)?;
     let pipes = network.pipes();

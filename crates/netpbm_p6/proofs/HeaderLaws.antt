@@ -16,7 +16,7 @@ use Rattle.netpbm_p6.specs.Header.{IsPrefix}
 use Rattle.netpbm_p6.specs.Pictures.{capped, BreaksAt, EndsEarly, HeaderTooLong, Refuses, ReadsAs}
 use Rattle.netpbm_p6.specs.Scanning.{run_of, IsOpenScan, EndsIn, IsSoundHeader, IsSoundScanned}
 use Rattle.netpbm_p6.specs.Reading.{Reached, BreaksOff, HasHeader, ScansOn, PassesAs, past_of}
-use Rattle.netpbm_p6.proofs.Sees.{Sees, sees_weaker, sees_then, fault_later}
+use Rattle.shelf_core.proofs.Sees.{Sees, sees_weaker, sees_then, fault_later}
 use Rattle.netpbm_p6.proofs.Runs.{run_then}
 use Rattle.netpbm_p6.proofs.Headers.{open_proper, run_is_prefix, broken_none, whole_header}
 

@@ -3,7 +3,6 @@ pub mod Runs
 pub mod Accepts
 pub mod Shapes
 pub mod Headers
-pub mod Sees
 pub mod RasterLaws
 pub mod HeaderLaws
 pub mod PictureLaws

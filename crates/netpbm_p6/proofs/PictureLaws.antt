@@ -16,7 +16,7 @@ use Rattle.netpbm_p6.specs.declared.header.TheConstants.{MOST_CELLS}
 use Rattle.netpbm_p6.specs.declared.scan.Header.{Header}
 use Rattle.netpbm_p6.specs.Pictures.{capped, picture_size, Headed, raster_length, IsRead, Within, AxisPasses, Refuses, ReadsAs}
 use Rattle.netpbm_p6.specs.Reading.{HasHeader, Exceeds, HeaderFits, IsFirstAbove, RasterRefuses, IsRaster, RastersAs}
-use Rattle.netpbm_p6.proofs.Sees.{Sees, sees_weaker, sees_then, fault_later}
+use Rattle.shelf_core.proofs.Sees.{Sees, sees_weaker, sees_then, fault_later}
 
 -- a number that passes a small bound as far as a u64 goes passes it, and one within it stands as it is
 capped_above : (n bound : ℕ) → bound < capped n → bound < n

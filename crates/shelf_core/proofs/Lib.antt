@@ -1,5 +1,6 @@
 pub mod FileLaws
 pub mod WrittenLaws
+pub mod Sees
 mod EntryLaws
 mod TapeLaws
 mod SureLaws

@@ -211,7 +211,8 @@ fn read_place_in<S: Shelf>(
     ensures inside { IfOk result (IsInPart samples.now part) }
     ensures source { IfOk result IsSource }
     ensures stock { IfOk result (λ p. IsSource (stock_place samples.now part p)) }
-    ensures in_samples { IfOk result (λ p. IsInSamples samples.now (stock_place samples.now part p)) }
+    ensures in_samples { IfOk result (λ p.
+        IsInSamples samples.now (stock_place samples.now part p)) }
     ensures in_one { IfOk result (λ p. part ≡ 1 → IsInSamples samples.now p) }
     ensures place { OnOk result (file.new.at ≡ file.old.at + 6) }
     ensures reads { OnlyReads (S.state shelf.old) (S.state shelf.new) }

@@ -117,8 +117,8 @@ fn record_of(
     choice: &[bool],
     flows: &[(i16, i16)],
 ) -> Result<CutRecord, AllocError>
-    ensures { IfOk result (λ cut. (cut.placement ≡ placement) × (length cut.choice ≡ length choice.now)
-        × (length cut.flows ≡ length flows.now)) }
+    ensures { IfOk result (λ cut. (cut.placement ≡ placement)
+        × (length cut.choice ≡ length choice.now) × (length cut.flows ≡ length flows.now)) }
 {
     let mut list = Vec::new(alloc);
     'flows: for (x, y) in flows {

@@ -19,7 +19,7 @@ use Rattle.y4m_clip.specs.Refusals.{Framed, FrameLineBreaks, PlanesBreak, FrameL
 use Rattle.y4m_clip.specs.Reading.{HasLine}
 use Rattle.y4m_clip.specs.Heads.{HasFront}
 use Rattle.y4m_clip.specs.Frames.{FramesSeen, After, PassesFrames, FramesAs, IsFilledSoFar, frames_size}
-use Rattle.y4m_clip.proofs.Sees.{Sees, sees_weaker, sees_then, fault_later}
+use Rattle.shelf_core.proofs.Sees.{Sees, sees_weaker, sees_then, fault_later}
 use Rattle.y4m_clip.proofs.FrontLaws.{FrontSeen, front_seen}
 
 pub fronts_seen : (name : List ℕ) (line : Line) (most : ℕ) (front : Front) (a b : ShelfState) → Sees a b (λ files. HasLine (content_of files name) line) → HasFront line most front → Sees a b (λ files. FrontSeen (content_of files name) most front)

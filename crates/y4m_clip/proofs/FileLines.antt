@@ -16,7 +16,7 @@ use Rattle.y4m_clip.specs.Reading.{GoesWrong, EndsAfter, IsStreamScanned, IsLine
 use Rattle.y4m_clip.specs.Refusals.{LineBreaks}
 use Rattle.y4m_clip.proofs.Runs.{run_then}
 use Rattle.y4m_clip.proofs.Prefixes.{magic, line_runs}
-use Rattle.y4m_clip.proofs.Sees.{Sees, sees_weaker}
+use Rattle.shelf_core.proofs.Sees.{Sees, sees_weaker}
 
 -- No stream line is the front of another.
 

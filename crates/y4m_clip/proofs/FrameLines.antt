@@ -14,7 +14,7 @@ use Rattle.shelf_core.specs.Files.{ShelfState, Reads, content_of, Changes}
 use Rattle.y4m_clip.specs.declared.frame.FrameScan.{FrameScan}
 use Rattle.y4m_clip.specs.declared.frame.FrameScan.TheVariants.{Nothing, Open, Wrong, Whole}
 use Rattle.y4m_clip.specs.Frames.{IsFirstEnd, IsEarly, WrongInFrame, IsFrameScanned, frame_judged, IsFrameFound, FindsFrameAs}
-use Rattle.y4m_clip.proofs.Sees.{Sees, sees_weaker}
+use Rattle.shelf_core.proofs.Sees.{Sees, sees_weaker}
 use Rattle.y4m_clip.proofs.Prefixes.{front-index}
 
 abbrev pub word : List ℕ

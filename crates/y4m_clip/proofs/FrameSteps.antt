@@ -11,7 +11,7 @@ use Rattle.y4m_clip.specs.declared.form.SpaceKind.{SpaceKind}
 use Rattle.y4m_clip.specs.Clips.{plane_bytes}
 use Rattle.y4m_clip.specs.Refusals.{PlanesBreak}
 use Rattle.y4m_clip.specs.Frames.{HasFrameLine, IsFrameFound, FindsFrameAs, HasPlanes, FillsPlanesAs, HasFrame, ReadsFrameAs}
-use Rattle.y4m_clip.proofs.Sees.{sees_weaker, sees_then, fault_later}
+use Rattle.shelf_core.proofs.Sees.{sees_weaker, sees_then, fault_later}
 
 -- a frame line that is refused
 pub line_refused : (kind : SpaceKind) (w h : ℕ) (name : List ℕ) (at : ℕ) (planes : List ℕ) (e : ReadError) (a b : ShelfState) → FindsFrameAs name at a b (Err e) → ReadsFrameAs kind w h name at planes a b (Err e)

@@ -16,7 +16,7 @@ use Rattle.y4m_clip.specs.Spaces.{samples_of}
 use Rattle.y4m_clip.specs.Clips.{Frame, frames_text, frame_cells, plane_bytes, most_frames}
 use Rattle.y4m_clip.specs.Refusals.{FrameLineBreaks, PlanesBreak, FrameLineTooLong}
 use Rattle.y4m_clip.specs.Frames.{HasFrame, ReadsFrameAs, FramesSeen, PassesFrames, FramesAs, StandsIf, finished}
-use Rattle.y4m_clip.proofs.Sees.{Sees, sees_then, sees_all, fault_later}
+use Rattle.shelf_core.proofs.Sees.{Sees, sees_then, sees_all, fault_later}
 use Rattle.y4m_clip.proofs.FramesLaws.{nothing_seen, one_more}
 use Rattle.y4m_clip.proofs.Joined.{length-frame_cells}
 

@@ -16,7 +16,7 @@ use Rattle.y4m_clip.specs.Refusals.{ShortLined, ShortSized, width_of, height_of,
 use Rattle.y4m_clip.specs.Reading.{AreTags, HasLine}
 use Rattle.y4m_clip.specs.Heads.{IsCellNumber, carried_number, HasFront, SizeRefused, TagsRefused, FrontAs}
 use Rattle.y4m_clip.specs.Frames.{IsSoundFront}
-use Rattle.y4m_clip.proofs.Sees.{Sees, sees_weaker}
+use Rattle.shelf_core.proofs.Sees.{Sees, sees_weaker}
 use Rattle.y4m_clip.proofs.TagLaws.{tags_fit_line, width_positive, height_positive}
 
 -- Numbers of cells as far as a u64 of pixels goes.

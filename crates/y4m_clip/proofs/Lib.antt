@@ -1,4 +1,3 @@
-pub mod Sees
 pub mod Runs
 pub mod Lines
 pub mod LineBack

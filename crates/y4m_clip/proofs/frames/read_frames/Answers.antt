@@ -4,7 +4,7 @@ use Rattle.shelf_core.specs.Files.{content_of}
 use Rattle.shelf_core.proofs.FileLaws.{only_reads_same, only_reads_then}
 use Rattle.y4m_clip.specs.Spaces.{samples_of}
 use Rattle.y4m_clip.specs.Frames.{PassesFrames, FramesSeen, StandsIf}
-use Rattle.y4m_clip.proofs.Sees.{Sees}
+use Rattle.shelf_core.proofs.Sees.{Sees}
 use Rattle.y4m_clip.proofs.FramesLaws.{want_small}
 use Rattle.y4m_clip.proofs.FramesEnd.{seen_none, seen_more, whole_more, frame_refused, frames_end, frames_full, frames_past, some_frames}
 use Rattle.y4m_clip.proofs.frames.read_frames.Goals as goal

@@ -23,11 +23,11 @@ want_small C422 n few = omega arith
 want_small C411 n few = omega arith
 want_small C420 n few = omega arith
 
-all-push : {A : Type 0} (P : A → Type 0) (xs : List A) (x : A) → AllByRecursion P xs → P x → AllByRecursion P (xs ++ x ∷ [])
+pub all-push : {A : Type 0} (P : A → Type 0) (xs : List A) (x : A) → AllByRecursion P xs → P x → AllByRecursion P (xs ++ x ∷ [])
 all-push P [] x each last = (last, tt)
 all-push P (y ∷ xs) x each last = (each.0, all-push P xs x each.1 last)
 
-text-push : (frames : List Frame) (frame : Frame) → frames_text (frames ++ frame ∷ []) ≡ frames_text frames ++ frame_text frame
+pub text-push : (frames : List Frame) (frame : Frame) → frames_text (frames ++ frame ∷ []) ≡ frames_text frames ++ frame_text frame
 text-push frames frame = flat_map-append frame_text frames (frame ∷ []) ∙ ap (λ t. frames_text frames ++ t) (append-nil (frame_text frame))
 
 pub nothing_seen : (kind : SpaceKind) (w h start : ℕ) (bytes : List ℕ) → FramesSeen kind w h start bytes 0 start []

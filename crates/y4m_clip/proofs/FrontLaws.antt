@@ -17,6 +17,7 @@ use Rattle.y4m_clip.specs.Reading.{AreTags, HasLine}
 use Rattle.y4m_clip.specs.Heads.{IsCellNumber, carried_number, HasFront, SizeRefused, TagsRefused, FrontAs}
 use Rattle.y4m_clip.specs.Frames.{IsSoundFront}
 use Rattle.shelf_core.proofs.Sees.{Sees, sees_weaker}
+use Rattle.y4m_clip.proofs.FormLaws.{form_of_line}
 use Rattle.y4m_clip.proofs.TagLaws.{tags_fit_line, width_positive, height_positive}
 
 -- Numbers of cells as far as a u64 of pixels goes.
@@ -215,4 +216,5 @@ sound_front line most front few short tags is = record {
   cells = subst (λ n. n ≤ most) (λ i. sym is.size.width_is i * sym is.size.height_is i) is.size.cells;
   start = subst (λ n. n ≤ 4096) (sym is.start_is) short;
   most_fits = few;
+  form = form_of_line front.form tags.0 line.tags tags.1 is.tags_are is.cells.is_kind (omega (arith, is.tags_fit));
 }

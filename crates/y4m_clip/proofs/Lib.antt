@@ -14,3 +14,12 @@ pub mod TagLaws
 pub mod FrontLaws
 pub mod ClipLaws
 pub mod OneClip
+pub mod Laying
+pub mod Writes
+pub mod FormLaws
+pub mod LineAgain
+pub mod PlanesAgain
+pub mod ClipAgain
+pub mod FrameStops
+pub mod OneStop
+pub mod OneRefusal

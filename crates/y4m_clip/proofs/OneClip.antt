@@ -97,24 +97,24 @@ both_words a b x y u v all all' first second joins =
     same_words u v x y all all'
     (ap (drop 6) (sym (spaced_line u x) ∙ ap (λ t. t ++ x) (sym first) ∙ joins ∙ ap (λ t. t ++ y) second ∙ spaced_line v y))
 
-same_frame_line : (a b x y : List ℕ) → IsFrameLine a → IsFrameLine b → a ++ x ≡ b ++ y → a ≡ b
+pub same_frame_line : (a b x y : List ℕ) → IsFrameLine a → IsFrameLine b → a ++ x ≡ b ++ y → a ≡ b
 same_frame_line a b x y (inl first) (inl second) joins = first ∙ sym second
 same_frame_line a b x y (inl first) (inr second) joins = absurd (alone_and_words a b x y second.0 first second.2 joins)
 same_frame_line a b x y (inr first) (inl second) joins = absurd (alone_and_words b a y x first.0 second first.2 (sym joins))
 same_frame_line a b x y (inr first) (inr second) joins =
     first.2 ∙ ap (λ w. codes "FRAME " ++ w ++ 10 ∷ []) (both_words a b x y first.0 second.0 first.1 second.1 first.2 second.2 joins) ∙ sym second.2
 
-some_line : (line : List ℕ) → IsFrameLine line → 1 ≤ length line
+pub some_line : (line : List ℕ) → IsFrameLine line → 1 ≤ length line
 some_line line (inl is) = omega (arith, ap length is)
 some_line line (inr is) = omega (arith, ap length is.2, length-append (codes "FRAME " ++ is.0) (10 ∷ []))
 
-no_frame : (kind : SpaceKind) (w h : ℕ) (frame : Frame) (rest : List ℕ) → IsFrame kind w h frame → [] ≡ frame_text frame ++ rest → ⊥
+pub no_frame : (kind : SpaceKind) (w h : ℕ) (frame : Frame) (rest : List ℕ) → IsFrame kind w h frame → [] ≡ frame_text frame ++ rest → ⊥
 no_frame kind w h frame rest is none = omega (arith, ap length none, length-append (frame_text frame) rest, length-append frame.line frame.planes, some_line frame.line is.is_line)
 
-same_front : (a b x y : List ℕ) → length a ≡ length b → a ++ x ≡ b ++ y → a ≡ b
+pub same_front : (a b x y : List ℕ) → length a ≡ length b → a ++ x ≡ b ++ y → a ≡ b
 same_front a b x y same joins = sym (take-append_seam a x) ∙ (λ i. take (same i) (joins i)) ∙ take-append_seam b y
 
-same_back : (a b x y : List ℕ) → a ≡ b → a ++ x ≡ b ++ y → x ≡ y
+pub same_back : (a b x y : List ℕ) → a ≡ b → a ++ x ≡ b ++ y → x ≡ y
 same_back a b x y same joins = sym (drop-append_seam a x) ∙ (λ i. drop (length (same i)) (joins i)) ∙ drop-append_seam b y
 
 pub same_frames : (kind : SpaceKind) (w h : ℕ) (first second : List Frame) → AllByRecursion (IsFrame kind w h) first → AllByRecursion (IsFrame kind w h) second → frames_text first ≡ frames_text second → first ≡ second

@@ -18,6 +18,7 @@ use Rattle.y4m_clip.specs.declared.head.Front.{Front}
 use Rattle.y4m_clip.specs.declared.frames.Filled.{Filled}
 use Rattle.y4m_clip.specs.Spaces.{samples_of}
 use Rattle.y4m_clip.specs.Reading.{line_limit}
+use Rattle.y4m_clip.specs.Writing.{IsForm}
 
 -- the first LF of a text
 pub record IsFirstEnd (text : List ℕ) (i : ℕ) : Type 0 where
@@ -192,12 +193,14 @@ pub record IsSoundFront (front : Front) (most : ℕ) : Type 0 where
   pub cells : front.w * front.h ≤ most
   pub start : front.start ≤ MOST_LINE
   pub most_fits : most ≤ MOST_OF_ALL
+  pub form : IsForm front.form
 
 -- cells of one frame or more, as many as fit
 pub record IsFilledSoFar (front : Front) (most : ℕ) (filled : Filled) : Type 0 where
   pub some : 1 ≤ filled.count
   pub few : filled.count ≤ most_frames front.w front.h most
-  pub whole : length filled.bytes.items ≡ samples_of front.form.space * front.w * front.h * filled.count
+  pub whole : length filled.bytes.items
+      ≡ samples_of front.form.space * front.w * front.h * filled.count
 
 -- whether a byte stands in the rest of a file
 abbrev pub StandsIf : Bool → List ℕ → Type 0

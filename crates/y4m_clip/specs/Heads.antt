@@ -80,7 +80,7 @@ pub record TagsRefused (tags : List (List ℕ)) (number bound : ℕ) : Type 0 wh
   pub longer : MOST_TAGS < number
   pub bound_is : bound ≡ MOST_TAGS
 
--- the front of a line, or its first refusal
+-- the front of a line, or a refusal of it, which says that those tried before it don't stand
 abbrev pub FrontAs : Line → ℕ → Result Front ReadError → Type 0
 FrontAs line most (Ok front) = HasFront line most front
 FrontAs line most (Err NoMemory) = Unit {0}

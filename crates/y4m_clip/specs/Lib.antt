@@ -7,3 +7,5 @@ pub mod Reading
 pub mod Heads
 pub mod Frames
 pub mod Planes
+pub mod Writing
+pub mod Laying

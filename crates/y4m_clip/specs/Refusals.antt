@@ -14,6 +14,7 @@ use Rattle.y4m_clip.specs.declared.bounds.TheConstants.{MOST_LINE, MOST_TAGS, MO
 use Rattle.y4m_clip.specs.StreamLine.{IsLinePrefix, IsProperLinePrefix}
 use Rattle.y4m_clip.specs.Spaces.{cell_width, cell_height, samples_of}
 use Rattle.y4m_clip.specs.Clips.{carried, spaced, pixels_w, pixels_h, Lined, HasSpaceKind, IsWhole, Sized, LineFits, Fronted, cells_w, cells_h, capped, IsOpenFrameLine, IsFrameLine, IsFrameLinePrefix, Frame, IsFrame, IsShortFrame, frames_text, plane_bytes, IsClipOf, most_frames}
+use Rattle.y4m_clip.specs.Writing.{IsForm}
 
 -- The stream line.
 
@@ -193,8 +194,9 @@ ReadsClipAs most name was now (Err NoMemory) = Unit {0}
 ReadsClipAs most name was now (Err error) =
     InFile name was now (λ bytes. RefusesClip most bytes error)
 
--- what every clip that is read is, whether or not the shelf tells its files
+-- what every clip that is read is, whether or not the shelf tells its files: it can be written
 pub record IsSoundClip (most : ℕ) (clip : Clip) : Type 0 where
+  pub form : IsForm clip.form
   pub one : IsOnePart clip.volume
   pub samples : clip.volume.k ≡ samples_of clip.form.space
   pub cells : cell_count clip.volume.size ≤ most

@@ -89,8 +89,8 @@ fn next_frame<S: Shelf>(
     read_frame(shelf, name, at, front, planes, cells)
 }
 
-// A buffer for the planes of a frame of n cells.
-fn room_for(alloc: Global, space: SpaceKind, n: usize) -> Result<Vec<u8>, AllocError>
+/// A buffer for the planes of a frame of n cells.
+pub fn room_for(alloc: Global, space: SpaceKind, n: usize) -> Result<Vec<u8>, AllocError>
     requires { n ≤ MOST_OF_ALL }
     ensures { IfOk result (λ planes. length planes.items ≡ samples_of space * n) }
 {

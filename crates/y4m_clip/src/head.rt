@@ -1,8 +1,8 @@
 // What a stream line says of its frames, and its limits.
-ghost use Rattle.std.specs.Prelude.{◌≡◌, ◌≢◌, ◌≤◌, ◌<◌, ◌*◌, ◌+◌, ◌%◌, ◌/◌, ◌⊎◌, [], length, min, IfOk, IfSome, IfNone, IsTrue, ◌↔◌, option_copied, codes};
+ghost use Rattle.std.specs.Prelude.{◌≡◌, ◌≢◌, ◌≤◌, ◌<◌, ◌*◌, ◌+◌, ◌%◌, ◌/◌, ◌⊎◌, [], length, IfOk, IfSome, IfNone, IsTrue, ◌↔◌, option_copied, codes};
 ghost use Rattle.y4m_clip.specs.declared.form.SpaceKind.{SpaceKind};
 ghost use Rattle.y4m_clip.specs.Spaces.{IsSpelling, GivesSpace, GivesInterlace, cell_width, cell_height, samples_of};
-ghost use Rattle.y4m_clip.specs.Clips.{tag_value, tag_number, value_behind, carried, spaced, HasSpaceKind};
+ghost use Rattle.y4m_clip.specs.Clips.{tag_value, tag_number, value_behind, capped, carried, spaced, HasSpaceKind};
 ghost use Rattle.y4m_clip.specs.Heads.{IsCounted, IsCellNumber, IsAllowedSize, FrontAs};
 
 use crate::bounds::{MOST_LINE, MOST_ON_AXIS, MOST_TAGS};
@@ -203,7 +203,7 @@ fn carry(alloc: Global, tags: &[Items<u8>]) -> Result<Vec<Items<u8>>, AllocError
 
 // The bytes of tags with one blank before each.
 fn spaced_length(tags: &[Items<u8>]) -> u64
-    ensures { result ≡ min (length (spaced tags.now)) 18446744073709551615 }
+    ensures { result ≡ capped (length (spaced tags.now)) }
 {
     let mut total = 0u64;
     for tag in tags {

@@ -1,7 +1,7 @@
 // Worked examples: the bytes of a clip and the answer, spelled from the grammar by hand.
-use crate::{SpaceKind, read_clip};
-use cells::Size;
-use shelf_core::{FormFault, MemShelf, ReadError, What};
+use crate::{ClipWriter, SpaceKind, read_clip};
+use cells::{Size, Volume};
+use shelf_core::{Call, FormFault, MemShelf, ReadError, What};
 use std::alloc::Global;
 use std::test::Fail;
 
@@ -99,5 +99,101 @@ fn two_cells(rt: HostRuntime) -> Result<(), Fail> {
         clip.volume.bytes(),
         b"\x01\x02\x05\x06\x09\x0b\x03\x04\x07\x08\x0a\x0c".as_slice()
     );
+    Ok(())
+}
+
+// Reads a clip and writes it frame by frame to `out`. It gives whether a write failed.
+fn copy(alloc: Global, shelf: &mut MemShelf) -> Result<bool, Fail> {
+    let clip = read_clip(alloc, shelf, "sample", 64)?;
+    let size = clip.volume.size();
+    let mut writer = ClipWriter::make(alloc, &clip.form, size)?;
+    if writer.start(shelf, "out").is_err() {
+        return Ok(true);
+    }
+    for f in 0..size.f {
+        if writer.frame(&clip.volume, f, shelf, "out").is_err() {
+            return Ok(true);
+        }
+    }
+    Ok(false)
+}
+
+#[test]
+fn copies(rt: HostRuntime) -> Result<(), Fail> {
+    let alloc = rt.alloc();
+    let cases: [(&[u8], &[u8]); 7] = [
+        (TWO_CELLS, TWO_CELLS),
+        (
+            b"YUV4MPEG2  H2 X Cmono  W2 X \nFRAME Ip\n0123FRAME\n4567",
+            b"YUV4MPEG2 W2 H2 X Cmono X\nFRAME\n0123FRAME\n4567",
+        ),
+        (
+            b"YUV4MPEG2 W2 H2 C444\nFRAME\n0123abcdABCDFRAME\n4567efghEFGH",
+            b"YUV4MPEG2 W2 H2 C444\nFRAME\n0123abcdABCDFRAME\n4567efghEFGH",
+        ),
+        (
+            b"YUV4MPEG2 W4 H2 C422\nFRAME\n01234567abcdABCD",
+            b"YUV4MPEG2 W4 H2 C422\nFRAME\n01234567abcdABCD",
+        ),
+        (
+            b"YUV4MPEG2 W8 H2 C411 Ib\nFRAME\n0123456789abcdefwxyzWXYZ",
+            b"YUV4MPEG2 W8 H2 C411 Ib\nFRAME\n0123456789abcdefwxyzWXYZ",
+        ),
+        (
+            b"YUV4MPEG2 W4 H4\nFRAME\n0123456789abcdefwxyzWXYZ",
+            b"YUV4MPEG2 W4 H4\nFRAME\n0123456789abcdefwxyzWXYZ",
+        ),
+        (
+            b"YUV4MPEG2 H0002 W02\nFRAME\n0123aA",
+            b"YUV4MPEG2 W2 H2\nFRAME\n0123aA",
+        ),
+    ];
+    for (i, (bytes, want)) in cases.iter().enumerate() {
+        let mut shelf = MemShelf::new(alloc);
+        shelf.put_file("sample", *bytes)?;
+        assert!(rt; !copy(alloc, &mut shelf)?, "case {i}");
+        assert_eq!(rt; shelf.file("out"), Some(*want), "case {i}");
+    }
+    Ok(())
+}
+
+// Three cells of a row, the third as the first.
+const WIDER: &[u8] =
+    b"YUV4MPEG2 W6 H2 F25:1 Ip A1:1 C420jpeg XYSCSS=420JPEG\nFRAME\n\x01\x02\x03\x04\x01\x02\x05\x06\x07\x08\x05\x06\x09\x0a\x09\x0b\x0c\x0b";
+
+#[test]
+fn wider(rt: HostRuntime) -> Result<(), Fail> {
+    let alloc = rt.alloc();
+    let mut shelf = MemShelf::new(alloc);
+    shelf.put_file("sample", TWO_CELLS)?;
+    let clip = read_clip(alloc, &mut shelf, "sample", 2)?;
+    let cells = b"\x01\x02\x05\x06\x09\x0b\x03\x04\x07\x08\x0a\x0c\x01\x02\x05\x06\x09\x0b";
+    assert!(rt; clip.form.space == SpaceKind::C420);
+    let size = Size { w: 3, h: 1, f: 1 };
+    let volume = Volume::from_bytes(size, 6, Vec::from_slice(alloc, cells)?);
+    let mut writer = ClipWriter::make(alloc, &clip.form, size)?;
+    assert!(rt; writer.start(&mut shelf, "out").is_ok());
+    assert!(rt; writer.frame(&volume, 0, &mut shelf, "out").is_ok());
+    assert_eq!(rt; shelf.file("out"), Some(WIDER));
+    Ok(())
+}
+
+#[test]
+fn write_faults(rt: HostRuntime) -> Result<(), Fail> {
+    let alloc = rt.alloc();
+    let lines: [(u32, usize, usize); 3] = [(1, 3, 3), (2, 4, 58), (3, 7, 67)];
+    for (nth, kept, left) in lines {
+        let mut shelf = MemShelf::new(alloc);
+        shelf.put_file("sample", TWO_CELLS)?;
+        shelf.fail_at(Call::Add, "out", nth, kept)?;
+        assert!(rt; copy(alloc, &mut shelf)?, "add {nth}");
+        assert_eq!(rt; shelf.file("out"), Some(&TWO_CELLS[..left]), "add {nth}");
+        assert_eq!(rt; shelf.write_faults(), 1, "add {nth}");
+    }
+    let mut shelf = MemShelf::new(alloc);
+    shelf.put_file("sample", TWO_CELLS)?;
+    shelf.fail_at(Call::Begin, "out", 1, 0)?;
+    assert!(rt; copy(alloc, &mut shelf)?, "begin");
+    assert_eq!(rt; shelf.write_faults(), 1, "begin");
     Ok(())
 }

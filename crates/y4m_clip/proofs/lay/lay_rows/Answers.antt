@@ -1,0 +1,15 @@
+use Rattle.std.proofs.Common.{◌≡◌, ℕ, ◌+◌, ◌*◌, ◌≤◌, arith}
+use Rattle.y4m_clip.specs.Laying.{run_samples}
+use Rattle.y4m_clip.proofs.Laying.{in_runs, laid_more, length-run_samples}
+use Rattle.y4m_clip.proofs.lay.lay_rows.Goals as goal
+
+pub loop-j-preserved : goal.loop-j-preserved
+loop-j-preserved c =
+    let a = c.args in
+    let j = c.loop-j.j in
+    let inside : a.start + a.count * j + a.count ≤ a.k = omega (arith, in_runs a.count j a.rows a.count (omega arith) (omega arith)) in
+    let more : a.count * a.w * (j + 1) ≡ a.count * a.w * j + a.count * a.w = grind arith in
+    record {
+      lays = laid_more j (λ (i : ℕ). run_samples a.row.now a.k (a.start + a.count * i) a.count a.w) a.planes.now c.loop-j.planes c.lay_samples-next.new.planes a.at c.loop-j.next c.lay_samples-next.result c.loop-j.invariant.lays c.lay_samples-next.ensures;
+      place = omega (arith, more, c.lay_samples-next.ensures.place, c.loop-j.invariant.place, length-run_samples a.row.now a.k (a.start + a.count * j) a.count a.w c.requires.row inside);
+    }

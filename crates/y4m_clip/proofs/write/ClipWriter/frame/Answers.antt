@@ -1,0 +1,22 @@
+use Rattle.std.proofs.Common.{ap, ◌∙◌, arith}
+use Rattle.std.proofs.lemmas.List.{take_at}
+use Rattle.std.specs.Prelude.{codes}
+use Rattle.y4m_clip.specs.Writing.{Writer, planes_of}
+use Rattle.y4m_clip.proofs.Writes.{both_added, second_in_part, first_in_part, on_err}
+use Rattle.y4m_clip.proofs.write.ClipWriter.frame.Goals as goal
+
+pub returns-in_err-add-clause-err : goal.returns-in_err-add-clause-err
+returns-in_err-add-clause-err g c =
+    on_err _ _
+    (first_in_part c.args.name.now (codes "FRAME\n") (planes_of c.args.self.now.kind c.args.from.now c.args.f) (g.S.Shelf.state c.args.shelf.now) (g.S.Shelf.state c.add.new.self) c.in_err-add.ensures.part)
+
+pub returns-in_err-add-2-clause-err : goal.returns-in_err-add-2-clause-err
+returns-in_err-add-2-clause-err g c =
+    on_err _ _
+    (second_in_part c.args.name.now (codes "FRAME\n") c.deref.result.now (planes_of c.args.self.now.kind c.args.from.now c.args.f) (g.S.Shelf.state c.args.shelf.now) (g.S.Shelf.state c.add.new.self) (g.S.Shelf.state c.add-2.new.self)
+    (c.deref.ensures.value ∙ take_at c.lay_planes.new.planes _ c.self.inside.planes.len (omega arith) ∙ c.lay_planes.ensures ∙ ap (λ (w : Writer). planes_of w.kind c.args.from.now c.args.f) c.self.view_is) c.in_ok-add.ensures.added c.in_err-add-2.ensures.part)
+
+pub returns-clause-ok : goal.returns-clause-ok
+returns-clause-ok g c =
+    both_added c.args.name.now (codes "FRAME\n") c.deref.result.now (planes_of c.args.self.now.kind c.args.from.now c.args.f) (g.S.Shelf.state c.args.shelf.now) (g.S.Shelf.state c.add.new.self) (g.S.Shelf.state c.add-2.new.self)
+    (c.deref.ensures.value ∙ take_at c.lay_planes.new.planes _ c.self.inside.planes.len (omega arith) ∙ c.lay_planes.ensures ∙ ap (λ (w : Writer). planes_of w.kind c.args.from.now c.args.f) c.self.view_is) c.in_ok-add.ensures.added c.in_ok-add-2.ensures.added

@@ -1,6 +1,9 @@
 pub mod Bits
 pub mod PairCounts
-pub mod PartFields
 pub mod Readings
 pub mod RecordReading
 pub mod Once
+pub mod ChoiceBits
+pub mod CutsAgain
+pub mod ChoiceSpelled
+pub mod CutsSpelled

@@ -1,11 +1,11 @@
 -- How many pairs a box has, also one whose axes are longer than those of a volume.
-use Rattle.std.proofs.Common.{◌≡◌, ◌≤◌, ◌+◌, ◌-◌, ◌*◌, ℕ, zero, suc, refl, ap, sym, ◌∙◌, arith}
+use Rattle.std.proofs.Common.{◌≡◌, ◌≤◌, ◌+◌, ◌-◌, ◌*◌, ℕ, zero, suc, refl, ◌∙◌, arith}
 use Rattle.std.specs.Prelude.{if◌then◌else◌}
 use borrow.Author.Tests.{le-ltb}
 use Rattle.cells.specs.declared.place.Size.{Size}
 use Rattle.cells.specs.Boxes.{HasCells}
-use Rattle.cells.specs.Places.{cell_count, raster_index}
-use Rattle.box_walk.specs.Pairs.{AreCounts, one_if, pair_count, pairs_before, pairs_from}
+use Rattle.cells.specs.Places.{cell_count}
+use Rattle.box_walk.specs.Pairs.{AreCounts, pair_count}
 use Rattle.box_walk.proofs.ClosedForm.{closed_is}
 use Rattle.box_walk.proofs.PairNumbers.{pairs_before_last}
 

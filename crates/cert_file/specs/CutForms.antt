@@ -1,5 +1,5 @@
 -- What a reader has to trust: the form of a cut record, in versions 1 and 2. (Own.)
-use Rattle.std.specs.Prelude.{◌≡◌, ◌≤◌, ◌<◌, ◌+◌, ◌*◌, ◌/◌, ◌^◌, ℕ, ℤ, Bool, false, List, ◌++◌, length, map, Some, slice_index_or}
+use Rattle.std.specs.Prelude.{◌≡◌, ◌≤◌, ◌<◌, ◌+◌, ◌*◌, ◌/◌, ◌^◌, ℕ, ℤ, Bool, false, List, ◌++◌, length, map, All, Some, FitsSigned, slice_index_or}
 use Rattle.std.specs.Int.{cast_unsigned, w16}
 use Rattle.std.specs.List.{flat_map, range_with_len}
 use Rattle.file_bytes.specs.Fields.{field_16}
@@ -7,8 +7,7 @@ use Rattle.cells.specs.declared.place.At.{At}
 use Rattle.cells.specs.declared.place.Size.{Size}
 use Rattle.cells.specs.Places.{cell_count}
 use Rattle.box_walk.specs.Pairs.{one_if, pair_count}
-use Rattle.source_map.specs.MapFiles.{IsInSamples, place_field, source_field}
-use Rattle.source_map.specs.Writing.{IsShort}
+use Rattle.source_map.specs.MapFiles.{IsInSamples, IsShort, place_field, source_field}
 use Rattle.cut_check.specs.declared.record.CutRecord.{CutRecord}
 use Rattle.cut_check.specs.declared.record.Flow.{Flow}
 use Rattle.source_map.specs.declared.head.Version.{Version}
@@ -47,6 +46,13 @@ signed_field z = field_16 (cast_unsigned w16 z)
 
 abbrev pub flow_field : Flow → List ℕ
 flow_field flow = signed_field flow.x ++ signed_field flow.y
+
+-- both numbers of the flow have 16 bits, as every flow in memory has
+abbrev pub IsShortFlow : Flow → Type 0
+IsShortFlow flow = FitsSigned w16 flow.x × FitsSigned w16 flow.y
+
+abbrev pub HasShortFlows : CutRecord → Type 0
+HasShortFlows cut = All IsShortFlow cut.flows
 
 -- a cut record: corner, size, where the new sources begin, choice, flows
 unfoldable pub cut_form : Version → List Size → CutRecord → List ℕ

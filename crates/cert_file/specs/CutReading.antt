@@ -1,5 +1,5 @@
 -- What a reader has to trust: how a cut record is read, field by field. (Own.)
-use Rattle.std.specs.Prelude.{◌≤◌, ◌+◌, ◌/◌, ◌%◌, ◌==◌, ◌++◌, ℕ, zero, suc, ℤ, pos, nat_lt, nat_le, Bool, true, false, if◌then◌else◌, List, [], ◌∷◌, length, take, drop, slice_index, Result, Ok, Err}
+use Rattle.std.specs.Prelude.{◌≤◌, ◌+◌, ◌/◌, ◌%◌, ◌==◌, ◌++◌, ℕ, zero, suc, pos, nat_le, Bool, true, false, if◌then◌else◌, List, [], ◌∷◌, length, take, drop, slice_index, Result, Ok, Err}
 use Rattle.std.specs.Int.{cast_signed, from_be_bytes, w16}
 use Rattle.std.specs.List.{flat_map}
 use Rattle.shelf_core.specs.declared.fault.FormFault.TheVariants.{Form}
@@ -15,7 +15,7 @@ use Rattle.cut_check.specs.declared.record.CutRecord.{CutRecord}
 use Rattle.cut_check.specs.declared.record.Flow.{Flow}
 use Rattle.source_map.specs.declared.head.Version.{Version}
 use Rattle.source_map.specs.declared.head.Version.TheVariants.{One, Two}
-use Rattle.source_map.specs.MapFiles.{numbered_size, part_rule}
+use Rattle.source_map.specs.MapFiles.{numbered_size, part_rule, place_read}
 use Rattle.source_map.specs.Readings.{◌>>=◌, field_read, number_read, list_read}
 use Rattle.cert_file.specs.CutForms.{IsBoxSize, choice_bytes}
 use Rattle.cert_file.specs.declared.cut_fields.TheConstants.{MOST_BOX_CELLS}
@@ -50,18 +50,6 @@ box_size_read before at bytes =
     number_read w16 box_axis_rule h.1 bytes >>= λ f.
     box_cells_rule before (record { w = w.0; h = h.0; f = f.0 }) >>= λ size. Ok (size, f.1)
 
--- a coordinate inside an axis
-abbrev pub coordinate_rule : ℕ → ℕ → ℕ → Result ℤ ReadError
-coordinate_rule axis at n = if nat_lt n axis then Ok (pos n) else Err (Bad (Form at))
-
--- a place inside a size
-abbrev pub inside_read : Size → ℕ → List ℕ → Result (At × ℕ) ReadError
-inside_read size at bytes =
-    number_read w16 (coordinate_rule size.w) at bytes >>= λ x.
-    number_read w16 (coordinate_rule size.h) x.1 bytes >>= λ y.
-    number_read w16 (coordinate_rule size.f) y.1 bytes >>= λ f.
-    Ok (record { x = x.0; y = y.0; f = f.0 }, f.1)
-
 -- the number of a sample: not told in version 1, and from 1 to their count in version 2
 abbrev pub part_read : Version → ℕ → ℕ → List ℕ → Result (ℕ × ℕ) ReadError
 part_read One count at bytes = Ok (1, at)
@@ -71,7 +59,7 @@ part_read Two count at bytes = number_read w16 (part_rule count) at bytes
 abbrev pub from_read : Version → List Size → ℕ → List ℕ → Result (At × ℕ) ReadError
 from_read version samples at bytes =
     part_read version (length samples) at bytes >>= λ part.
-    inside_read (numbered_size samples part.0) part.1 bytes >>= λ p.
+    place_read (numbered_size samples part.0) part.1 bytes >>= λ p.
     Ok (stock_place samples part.0 p.0, p.1)
 
 -- the bits of a byte, from the highest on

@@ -11,10 +11,10 @@ use Rattle.file_bytes.specs.Reading.{OfFile}
 use Rattle.cut_check.specs.declared.record.CutRecord.{CutRecord}
 use Rattle.source_map.specs.declared.head.Head.{Head}
 use Rattle.source_map.specs.Heads.{IsHead, head_form, head_read}
-use Rattle.source_map.specs.Readings.{◌>>=◌, number_read}
+use Rattle.source_map.specs.Readings.{◌>>=◌, AreBytes, number_read}
 use Rattle.cert_file.specs.declared.file.CertFile.{CertFile}
 use Rattle.cert_file.specs.declared.file.CertFile.TheVariants.{Cuts}
-use Rattle.cert_file.specs.CutForms.{IsCutInForm, cut_form}
+use Rattle.cert_file.specs.CutForms.{HasShortFlows, IsCutInForm, cut_form}
 use Rattle.cert_file.specs.CutReading.{box_cells, cuts_read}
 use Rattle.cert_file.specs.declared.cut_fields.TheConstants.{MOST_BOX_CELLS}
 
@@ -72,6 +72,17 @@ cert_read bytes =
 -- the bytes are in their form and within the limits, and stand for the value
 abbrev pub IsCertOf : List ℕ → CertFile → Type 0
 IsCertOf bytes file = cert_read bytes ≡ Ok file
+
+-- what is written is read again: the spelling of records within the limits stands for them. That their
+-- flows have 16 bits holds of all records in memory
+abbrev pub AreReadAgain : Head → List CutRecord → Type 0
+AreReadAgain head cuts = AreCutsInLimits head cuts → All HasShortFlows cuts
+    → IsCertOf (cuts_form head cuts) (Cuts head cuts)
+
+-- bytes that stand for records are their spelling
+abbrev pub AreSpelled : List ℕ → Head → List CutRecord → Type 0
+AreSpelled bytes head cuts = AreBytes bytes → IsCertOf bytes (Cuts head cuts)
+    → bytes ≡ cuts_form head cuts
 
 -- they aren't, and this is the first refusal
 abbrev pub RefusesCert : List ℕ → ReadError → Type 0

@@ -1,18 +1,16 @@
 // The fields of a cut record, as they are read.
-ghost use Rattle.std.specs.Prelude.{◌≡◌, ◌≤◌, ◌<◌, ◌+◌, ◌*◌, ◌^◌, IfOk, IfErr, IsSome, OnOk};
+ghost use Rattle.std.specs.Prelude.{◌≡◌, ◌≤◌, ◌<◌, ◌+◌, ◌*◌, ◌^◌, IfOk, IfErr, OnOk};
 ghost use Rattle.std.specs.Int.{w16};
 ghost use Rattle.shelf_core.specs.Files.{OnlyReads};
-ghost use Rattle.cells.specs.Places.{IsInside, on_axis};
 ghost use Rattle.file_bytes.specs.Reading.{Follows};
-ghost use Rattle.source_map.specs.MapFiles.{IsInSamples, part_rule};
-ghost use Rattle.source_map.specs.Writing.{IsShort};
+ghost use Rattle.source_map.specs.MapFiles.{IsInSamples, IsShort, part_rule};
 ghost use Rattle.source_map.specs.Readings.{IsRefusal, ReadsFrom, field_read, number_read};
-ghost use Rattle.cert_file.specs.CutReading.{IsBoxAfter, box_axis_rule, box_cells_rule, box_size_read, coordinate_rule, corner_rule, from_read, inside_read, part_read};
+ghost use Rattle.cert_file.specs.CutReading.{IsBoxAfter, box_axis_rule, box_cells_rule, box_size_read, corner_rule, from_read, part_read};
 
 use cells::{At, Size, Sizes};
 use file_bytes::FileReader;
 use shelf_core::{FormFault, ReadError, Shelf, What};
-use source_map::Version;
+use source_map::{Version, read_place};
 
 /// The most cells of all boxes of a record file.
 pub const MOST_BOX_CELLS: u64 = 33554432;
@@ -70,18 +68,6 @@ fn lawful_box(before: u64, w: u16, h: u16, f: u16) -> Result<Size, ReadError>
             number,
             bound: MOST_BOX_CELLS,
         })
-    }
-}
-
-// The coordinate, if it is below the axis.
-fn lawful_coordinate(n: u16, axis: u32, at: u64) -> Result<i32, ReadError>
-    ensures coordinate { result ≡ coordinate_rule axis at n }
-    ensures refusal { IfErr result IsRefusal }
-{
-    if u32::from(n) < axis {
-        Ok(i32::from(n))
-    } else {
-        form(at)
     }
 }
 
@@ -159,47 +145,6 @@ pub(crate) fn read_box_size<S: Shelf>(
     lawful_box(before, w, h, f)
 }
 
-// Reads a coordinate below an axis.
-fn read_coordinate<S: Shelf>(
-    file: &mut FileReader,
-    axis: u32,
-    shelf: &mut S,
-    name: &str,
-) -> Result<i32, ReadError>
-    requires follows { Follows name.now (S.state shelf.old) file.old }
-    requires room { file.old.at + 2 < 2 ^ 63 }
-    ensures answer { ReadsFrom ⊥ name.now file.old.at (S.state shelf.old) (S.state shelf.new)
-        file.new (number_read w16 (coordinate_rule axis)) result }
-    ensures inside { IfOk result (λ z. IsSome (on_axis axis z)) }
-    ensures place { OnOk result (file.new.at ≡ file.old.at + 2) }
-    ensures reads { OnlyReads (S.state shelf.old) (S.state shelf.new) }
-{
-    let at = file.place();
-    let n = file.u16(shelf, name)?;
-    lawful_coordinate(n, axis, at)
-}
-
-// Reads a place inside a size.
-fn read_inside<S: Shelf>(
-    file: &mut FileReader,
-    size: Size,
-    shelf: &mut S,
-    name: &str,
-) -> Result<At, ReadError>
-    requires follows { Follows name.now (S.state shelf.old) file.old }
-    requires room { file.old.at + 6 < 2 ^ 63 }
-    ensures answer { ReadsFrom ⊥ name.now file.old.at (S.state shelf.old) (S.state shelf.new)
-        file.new (inside_read size) result }
-    ensures inside { IfOk result (IsInside size) }
-    ensures place { OnOk result (file.new.at ≡ file.old.at + 6) }
-    ensures reads { OnlyReads (S.state shelf.old) (S.state shelf.new) }
-{
-    let x = read_coordinate(file, size.w, shelf, name)?;
-    let y = read_coordinate(file, size.h, shelf, name)?;
-    let f = read_coordinate(file, size.f, shelf, name)?;
-    Ok(At { x, y, f })
-}
-
 // Reads the number of a sample, of so many; in version 1 it isn't told.
 fn read_part<S: Shelf>(
     file: &mut FileReader,
@@ -245,6 +190,6 @@ pub(crate) fn read_from<S: Shelf>(
 {
     let part = read_part(file, version, samples.len(), shelf, name)?;
     let size = samples.at(u32::from(part));
-    let p = read_inside(file, size, shelf, name)?;
+    let p = read_place(file, size, shelf, name)?;
     Ok(samples.stock(u32::from(part), p))
 }

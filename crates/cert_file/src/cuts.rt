@@ -3,34 +3,13 @@ ghost use Rattle.std.specs.Prelude.{◌≡◌, ◌≤◌, ◌<◌, ◌+◌, ◌*
 ghost use Rattle.std.specs.List.{flat_map};
 ghost use Rattle.file_bytes.specs.Writing.{Puts};
 ghost use Rattle.source_map.specs.Heads.{AreSamples};
-ghost use Rattle.source_map.specs.MapFiles.{IsInSamples, coordinate_field, numbered_field, place_field};
-ghost use Rattle.source_map.specs.Writing.{IsShort, IsShortCoordinate};
-ghost use Rattle.cert_file.specs.CutForms.{IsBoxSize, IsCutInForm, box_size_field, choice_bit, choice_byte, choice_field, cut_form, flow_field, from_field};
+ghost use Rattle.cert_file.specs.CutForms.{HasShortFlows, IsBoxSize, IsCutInForm, IsShortFlow, box_size_field, choice_bit, choice_byte, choice_field, cut_form, flow_field};
 
-use cells::{At, PartPlace, Size, Sizes};
+use cells::{Size, Sizes};
 use cut_check::{CutRecord, Flow};
 use file_bytes::FileWriter;
 use shelf_core::Shelf;
-use source_map::Version;
-
-// A coordinate in the file's form.
-fn coordinate_bytes(z: i32) -> [u8; 2]
-    requires { IsShortCoordinate z }
-    ensures { result ≡ coordinate_field z }
-{
-    (z as u16).to_be_bytes()
-}
-
-// A place in the file's form.
-fn place_bytes(p: At) -> [u8; 6]
-    requires { IsShort p }
-    ensures { result ≡ place_field p }
-{
-    let [a, b] = coordinate_bytes(p.x);
-    let [c, d] = coordinate_bytes(p.y);
-    let [e, f] = coordinate_bytes(p.f);
-    [a, b, c, d, e, f]
-}
+use source_map::{Version, place_bytes, put_source};
 
 // The size of a box in the file's form.
 fn box_size_bytes(size: Size) -> [u8; 6]
@@ -45,7 +24,8 @@ fn box_size_bytes(size: Size) -> [u8; 6]
 
 // A flow in the file's form.
 fn flow_bytes(flow: &Flow) -> [u8; 4]
-    ensures { result ≡ flow_field flow.now }
+    ensures bytes { result ≡ flow_field flow.now }
+    ensures short { IsShortFlow flow.now }
 {
     let [a, b] = flow.x.cast_unsigned().to_be_bytes();
     let [c, d] = flow.y.cast_unsigned().to_be_bytes();
@@ -90,43 +70,12 @@ fn put_choice<S: Shelf>(file: &mut FileWriter, choice: &[bool], shelf: &mut S, n
 
 // Puts flows.
 fn put_flows<S: Shelf>(file: &mut FileWriter, flows: &[Flow], shelf: &mut S, name: &str)
-    ensures { Puts name.now (flat_map flow_field flows.now)
+    ensures put { Puts name.now (flat_map flow_field flows.now)
         (S.state shelf.old) (S.state shelf.new) file.old file.new }
+    ensures short { All IsShortFlow flows.now }
 {
     for flow in flows {
         file.put(&flow_bytes(flow), shelf, name);
-    }
-}
-
-// Puts the number of a part and a place in it.
-fn put_part_place<S: Shelf>(file: &mut FileWriter, there: PartPlace, shelf: &mut S, name: &str)
-    requires number { there.part < 2 ^ 16 }
-    requires place { IsShort there.at }
-    ensures { Puts name.now (numbered_field there)
-        (S.state shelf.old) (S.state shelf.new) file.old file.new }
-{
-    file.put_u16(there.part as u16, shelf, name);
-    file.put(&place_bytes(there.at), shelf, name);
-}
-
-// Puts where the new sources of a record begin.
-fn put_from<S: Shelf>(
-    file: &mut FileWriter,
-    version: Version,
-    samples: &Sizes,
-    from: At,
-    shelf: &mut S,
-    name: &str,
-)
-    requires samples { AreSamples version samples.now }
-    requires from { IsInSamples samples.now from }
-    ensures { Puts name.now (from_field version samples.now from)
-        (S.state shelf.old) (S.state shelf.new) file.old file.new }
-{
-    let there = samples.part_of(from).unwrap();
-    match version {
-        Version::One => file.put(&place_bytes(there.at), shelf, name),
-        Version::Two => put_part_place(file, there, shelf, name),
     }
 }
 
@@ -142,12 +91,13 @@ fn put_cut<S: Shelf>(
 )
     requires samples { AreSamples version samples.now }
     requires cut { IsCutInForm samples.now cut.now }
-    ensures { Puts name.now (cut_form version samples.now cut.now)
+    ensures put { Puts name.now (cut_form version samples.now cut.now)
         (S.state shelf.old) (S.state shelf.new) file.old file.new }
+    ensures short { HasShortFlows cut.now }
 {
     file.put(&place_bytes(cut.placement.rect.corner), shelf, name);
     file.put(&box_size_bytes(cut.placement.rect.size), shelf, name);
-    put_from(file, version, samples, cut.placement.from, shelf, name);
+    put_source(file, cut.placement.from, samples, version, shelf, name);
     put_choice(file, cut.choice.as_slice(), shelf, name);
     put_flows(file, cut.flows.as_slice(), shelf, name);
 }
@@ -163,8 +113,9 @@ pub(crate) fn put_cuts<S: Shelf>(
 )
     requires samples { AreSamples version samples.now }
     requires cuts { All (IsCutInForm samples.now) cuts.now }
-    ensures { Puts name.now (flat_map (cut_form version samples.now) cuts.now)
+    ensures put { Puts name.now (flat_map (cut_form version samples.now) cuts.now)
         (S.state shelf.old) (S.state shelf.new) file.old file.new }
+    ensures short { All HasShortFlows cuts.now }
 {
     for cut in cuts {
         put_cut(file, version, samples, cut, shelf, name);

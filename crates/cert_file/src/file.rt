@@ -6,7 +6,8 @@ ghost use Rattle.shelf_core.specs.Written.{HoldsPart, HoldsText};
 ghost use Rattle.file_bytes.specs.Reading.{Follows};
 ghost use Rattle.source_map.specs.Heads.{IsHead};
 ghost use Rattle.source_map.specs.Readings.{ReadsFrom, number_read};
-ghost use Rattle.cert_file.specs.RecordFiles.{AreCutsInForm, IsCert, ReadsCert, ReadsToEnd, any_rule, cuts_file_read, cuts_form};
+ghost use Rattle.cert_file.specs.declared.file.CertFile.TheVariants.{Cuts};
+ghost use Rattle.cert_file.specs.RecordFiles.{AreCutsInForm, AreCutsInLimits, IsCert, IsCertOf, ReadsCert, ReadsToEnd, any_rule, cuts_file_read, cuts_form};
 
 use crate::cut_reading::read_cuts;
 use crate::cuts::put_cuts;
@@ -50,6 +51,8 @@ pub fn write_cuts<S: Shelf>(
         (HoldsPart name.now (cuts_form head.now cuts.now))) }
     ensures writes { OnlyWrites (S.state shelf.old) (S.state shelf.new) }
     ensures failed { OnErr result (WritesRose name.now (S.state shelf.old) (S.state shelf.new)) }
+    ensures again { AreCutsInLimits head.now cuts.now →
+        IsCertOf (cuts_form head.now cuts.now) (Cuts head.now cuts.now) }
 {
     let mut file = FileWriter::begin(shelf, name);
     put_head(&mut file, MAGIC, CUTS, head, shelf, name);

@@ -12,7 +12,7 @@ pub use cut_check::{CutRecord, Flow};
 pub use cut_fields::MOST_BOX_CELLS;
 pub use file::{CertFile, read_cert, write_cuts};
 pub use items::Items;
-pub use law::one_reading;
+pub use law::{cuts_have_one_spelling, cuts_read_again, one_reading};
 pub use source_map::{Head, Version};
 
 #[cfg(test)]

@@ -18,7 +18,7 @@ use Rattle.source_map.proofs.FieldLaws.{behind, chain, field_whole, value_alone}
 abbrev pub Spells : {A : Type 0} → (ℕ → List ℕ → Result (A × ℕ) ReadError) → List ℕ → A → Type 0
 Spells read piece x = (at : ℕ) (bytes : List ℕ) → StandsAt at piece bytes → read at bytes ≡ Ok (x, at + length piece)
 
-stands_split : (at : ℕ) (p q bytes : List ℕ) → StandsAt at (p ++ q) bytes → StandsAt at p bytes × StandsAt (at + length p) q bytes
+pub stands_split : (at : ℕ) (p q bytes : List ℕ) → StandsAt at (p ++ q) bytes → StandsAt at p bytes × StandsAt (at + length p) q bytes
 stands_split at p q bytes stands =
     let both = length-append p q in
     let whole : p ++ q ≡ take (length p + length q) (drop at bytes) = stands.is ∙ ap (λ n. take n (drop at bytes)) both in

@@ -7,3 +7,6 @@ pub mod Writable
 pub mod Again
 pub mod HeadsAgain
 pub mod MapsAgain
+pub mod Spelled
+pub mod HeadsSpelled
+pub mod MapsSpelled

@@ -15,8 +15,7 @@ use Rattle.cells.proofs.Raster.{OnAxis, index_parts, has_index, place_at}
 use Rattle.map_canvas.specs.Maps.{SourceMap, IsMap, map_at}
 use Rattle.map_canvas.proofs.AfterLaws.{source_of_place}
 use Rattle.source_map.specs.declared.head.Version.{Version}
-use Rattle.source_map.specs.MapFiles.{IsInSamples, IsWritable}
-use Rattle.source_map.specs.Writing.{IsShort, IsShortCoordinate}
+use Rattle.source_map.specs.MapFiles.{IsInSamples, IsShort, IsShortCoordinate, IsWritable}
 
 short_inside : (size : Size) → HasAxes size → (p : At) → IsInside size p → IsShort p
 short_inside size axes p inside =

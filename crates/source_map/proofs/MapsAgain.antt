@@ -56,23 +56,23 @@ place_spells size axes p inside =
         (then_spells rc (end x y) c [] f (spot x y f) (below_spells size.f f f_lt (omega (arith, f_lt, axes.f.1))) (alone_spells (spot x y f)))))
 
 -- a place of a part, by the part's number
-size_there : (samples : List Size) (from : At) (there : PartPlace) → (has : IsPartPlace samples from there) → numbered_size samples there.part ≡ has.size
+pub size_there : (samples : List Size) (from : At) (there : PartPlace) → (has : IsPartPlace samples from there) → numbered_size samples there.part ≡ has.size
 size_there samples from there has =
     let number : there.part ≡ suc has.before = omega (arith, has.part) in
     ap (numbered_size samples) number ∙ ap (λ o. unwrap_or o no_size) has.is
 
-stock_there : (samples : List Size) (from : At) (there : PartPlace) → IsPartPlace samples from there → stock_place samples there.part there.at ≡ from
+pub stock_there : (samples : List Size) (from : At) (there : PartPlace) → IsPartPlace samples from there → stock_place samples there.part there.at ≡ from
 stock_there samples from there has =
     let number : there.part ≡ suc has.before = omega (arith, has.part) in
     ap (λ n. stock_place samples n there.at) number ∙ has.stock
 
-there_spells : (samples : List Size) → AreSizes samples → (from : At) (there : PartPlace) → IsPartPlace samples from there
+pub there_spells : (samples : List Size) → AreSizes samples → (from : At) (there : PartPlace) → IsPartPlace samples from there
     → Spells (place_read (numbered_size samples there.part)) (place_field there.at) there.at
 there_spells samples are from there has =
     subst (λ size. Spells (place_read size) (place_field there.at) there.at) (sym (size_there samples from there has))
     (place_spells has.size (axes_of samples has.before has.size are.axes has.is) there.at has.inside)
 
-part_ok : (n m at : ℕ) → 1 ≤ m → m ≤ n → part_rule n at m ≡ Ok m
+pub part_ok : (n m at : ℕ) → 1 ≤ m → m ≤ n → part_rule n at m ≡ Ok m
 part_ok n m at lo hi =
     let some : nat_eq m 0 ≡ false = not_equal m 0 (λ e. omega arith) in
     let low : nat_lt n m ≡ false = lt-leb (suc n) m (omega arith) in

@@ -1,4 +1,3 @@
 pub mod Readings
 pub mod Heads
 pub mod MapFiles
-pub mod Writing

@@ -1,6 +1,6 @@
 -- What a reader has to trust: the files of maps of all kinds and versions, the one spelling of each,
 -- and how a list of bytes is read. (Own.)
-use Rattle.std.specs.Prelude.{◌≡◌, ◌≤◌, ◌<◌, ◌+◌, ◌==◌, ◌||◌, ℕ, ℤ, pos, negsuc, nat_lt, nat_le, if◌then◌else◌, List, [], ◌∷◌, ◌++◌, length, All, Option, Some, None, option_map, slice_get, unwrap_or, codes, Result, Ok, Err}
+use Rattle.std.specs.Prelude.{◌≡◌, ◌≤◌, ◌<◌, ◌≤ℤ◌, ◌<ℤ◌, ◌+◌, ◌^◌, ◌==◌, ◌||◌, ℕ, ℤ, pos, negsuc, nat_lt, nat_le, if◌then◌else◌, List, [], ◌∷◌, ◌++◌, length, All, Option, Some, None, option_map, slice_get, unwrap_or, codes, Result, Ok, Err}
 use Rattle.std.specs.Int.{w16, w32}
 use Rattle.std.specs.List.{flat_map}
 use Rattle.cells.specs.declared.place.At.{At}
@@ -32,6 +32,15 @@ map_magic = codes "WEAVEMAP"
 abbrev pub coordinate_field : ℤ → List ℕ
 coordinate_field (pos n) = field_16 n
 coordinate_field (negsuc n) = []
+
+-- the coordinates of the place are numbers of 16 bits
+abbrev pub IsShortCoordinate : ℤ → Type 0
+IsShortCoordinate z = (pos 0 ≤ℤ z) × (z <ℤ pos (2 ^ 16))
+
+pub record IsShort (from : At) : Type 0 where
+  pub x : IsShortCoordinate from.x
+  pub y : IsShortCoordinate from.y
+  pub f : IsShortCoordinate from.f
 
 -- a place: x, y, f
 abbrev pub place_field : At → List ℕ

@@ -2,7 +2,7 @@
 -- is a value and the place after it, or the first refusal. A number in a field that has no lawful
 -- value is refused at the field's first byte; a file that ends within a field at the file's length.
 -- (Own.)
-use Rattle.std.specs.Prelude.{◌≡◌, ◌+◌, ◌++◌, ℕ, zero, suc, nat_le, if◌then◌else◌, List, [], ◌∷◌, length, take, drop, Result, Ok, Err}
+use Rattle.std.specs.Prelude.{◌≡◌, ◌<◌, ◌+◌, ◌++◌, ℕ, zero, suc, All, nat_le, if◌then◌else◌, List, [], ◌∷◌, length, take, drop, Result, Ok, Err}
 use Rattle.std.specs.Int.{Width, byte_len, from_be_bytes}
 use Rattle.shelf_core.specs.Files.{ShelfState, ReadsRose}
 use Rattle.shelf_core.specs.declared.fault.FormFault.TheVariants.{Form}
@@ -45,6 +45,10 @@ list_read read zero at bytes = Ok ([], at)
 list_read read (suc n) at bytes =
     list_read read n at bytes >>= λ front. read front.1 bytes >>= λ last.
     Ok (front.0 ++ last.0 ∷ [], last.1)
+
+-- a list of bytes
+abbrev pub AreBytes : List ℕ → Type 0
+AreBytes bytes = All (λ b. b < 256) bytes
 
 -- a refusal of the bytes
 abbrev pub IsRefusal : ReadError → Type 0

@@ -3,8 +3,10 @@ ghost use Rattle.std.specs.Prelude.{◌≡◌, ℕ, List, Ok, Err};
 ghost use Rattle.shelf_core.specs.declared.fault.ReadError.{ReadError};
 ghost use Rattle.source_map.specs.declared.map_file.MapFile.{MapFile};
 ghost use Rattle.source_map.specs.MapFiles.{IsMapFile, IsMapOf, map_form, map_read};
+ghost use Rattle.source_map.specs.Readings.{AreBytes};
 
-/// What is written is read again. Bytes spell one map at most, and what they spell isn't refused.
+/// What is written is read again. Bytes spell one map at most, what they spell isn't refused, and bytes
+/// that are read as a map are its spelling.
 pub fn one_map_reading()
     ensures read_again { (value : MapFile) → IsMapFile value →
         map_read (map_form value) ≡ Ok value }
@@ -12,4 +14,6 @@ pub fn one_map_reading()
         IsMapOf bytes second → first ≡ second }
     ensures not_refused { (bytes : List ℕ) (value : MapFile) (refusal : ReadError) →
         IsMapOf bytes value → map_read bytes ≡ Err refusal → ⊥ }
+    ensures one_spelling { (bytes : List ℕ) (value : MapFile) → AreBytes bytes →
+        map_read bytes ≡ Ok value → bytes ≡ map_form value }
 {}

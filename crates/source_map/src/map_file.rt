@@ -6,8 +6,7 @@ ghost use Rattle.shelf_core.specs.Files.{Changes, WritesRose, OnlyWrites};
 ghost use Rattle.shelf_core.specs.Written.{HoldsText, HoldsPart};
 ghost use Rattle.file_bytes.specs.Writing.{Puts};
 ghost use Rattle.source_map.specs.Heads.{AreSamples};
-ghost use Rattle.source_map.specs.MapFiles.{IsFrameMap, IsInSamples, IsWritable, cell_map_form, coordinate_field, frame_map_form, numbered_field, part_from, place_field, source_field};
-ghost use Rattle.source_map.specs.Writing.{IsShort, IsShortCoordinate};
+ghost use Rattle.source_map.specs.MapFiles.{IsFrameMap, IsInSamples, IsShort, IsShortCoordinate, IsWritable, cell_map_form, coordinate_field, frame_map_form, numbered_field, part_from, place_field, source_field};
 
 use crate::head::{Version, put_samples, put_size, put_start};
 use cells::{At, PartPlace, Size, Sizes};
@@ -53,8 +52,8 @@ fn coordinate_bytes(z: i32) -> [u8; 2]
     (z as u16).to_be_bytes()
 }
 
-// A place in the file's form.
-fn place_bytes(p: At) -> [u8; 6]
+/// A place in the file's form: x, y, f, 2 bytes each.
+pub fn place_bytes(p: At) -> [u8; 6]
     requires { IsShort p }
     ensures { result ≡ place_field p }
 {
@@ -84,8 +83,9 @@ fn place_of(samples: &Sizes, from: At) -> PartPlace
     samples.part_of(from).unwrap()
 }
 
-// Puts a source.
-fn put_source<S: Shelf>(
+/// Puts a source: in version 1 its place in the one sample, in version 2 the number of its sample and its
+/// place there. It takes no memory.
+pub fn put_source<S: Shelf>(
     file: &mut FileWriter,
     from: At,
     samples: &Sizes,

@@ -154,8 +154,9 @@ fn place_at(x: u16, y: u16, f: u16) -> At
     }
 }
 
-// Reads a place inside a size.
-fn read_place<S: Shelf>(
+/// Reads a place inside a size: x, y, f, 2 bytes each. `Bad(Form)` comes at the first that isn't below its
+/// axis. It takes no memory.
+pub fn read_place<S: Shelf>(
     file: &mut FileReader,
     size: Size,
     shelf: &mut S,

@@ -1,3 +1,4 @@
+use Rattle.source_map.proofs.MapsSpelled.{map_spelled}
 use Rattle.source_map.proofs.MapsAgain.{not_refused, one_value, read_again}
 use Rattle.source_map.proofs.law.one_map_reading.Goals as goal
 
@@ -9,3 +10,6 @@ returns-clause-one_value c = one_value
 
 pub returns-clause-not_refused : goal.returns-clause-not_refused
 returns-clause-not_refused c = not_refused
+
+pub returns-clause-one_spelling : goal.returns-clause-one_spelling
+returns-clause-one_spelling c = map_spelled

@@ -84,6 +84,11 @@ module _ (costs : Steps) where
         let long : t * length steps + length steps ≤ length tables = subst (λ area. t * area + area ≤ length tables) (sym is.whole) (omega arith) in
         length-take-le (length steps) (drop (t * length steps) tables) (omega (arith, length-drop (t * length steps) tables)) ∙ is.whole
 
+    -- each number of a table is small where those of all tables are
+    pub small_table_in : (bound bound' t : ℕ) → 2 ^ 46 ≤ bound' → bound ≤ bound' → AreSmall bound tables → t * (costs.frames * costs.frames) ≤ length tables → AreSmall bound' (table_in steps tables t)
+    small_table_in bound bound' t more wider small fits k lt =
+        table_in-small bound' t k more (λ j below. small-more bound bound' (get_or tables j 0) wider (small j below)) fits (omega (arith, length-table_in t fits))
+
   pub second_le : (m t : ℕ) → second_table m t ≤ t
   second_le m t = ⊎_elim (λ odd. omega (arith, second-odd m t odd)) (λ even. omega (arith, second-even m t even)) (cases_eq (m % 2) 1)
 

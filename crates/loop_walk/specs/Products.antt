@@ -2,6 +2,7 @@
 -- the greatest stands for none and a sum stops at it.
 use Rattle.std.specs.Prelude.{◌≡◌, ◌≤◌, ◌<◌, ◌⊎◌, ℕ, ◌+◌, ◌-◌, ◌*◌, ◌^◌, zero, suc, min, List, ◌++◌, length, take, drop, Option, Some, None, slice_index, slice_index_or}
 use Rattle.frame_distance.specs.Steps.{Steps, step_at}
+use Rattle.loop_walk.specs.declared.product.TheConstants.{FAR}
 use Rattle.loop_walk.specs.Walks.{AtMost, BeginsFirst, IsLeastWalk, steps_cost, sum_if_both, steps_along, steps_round, walk_cost}
 use Rattle.loop_walk.specs.Tables.{table_size, entry_at, entry_count, none_number, table_entry, table_count, AreTightTables, EntriesAreTight, IsBelowSums}
 
@@ -16,15 +17,14 @@ IsNoneOrAtMost bound number = (number ≡ none_number) ⊎ (number ≤ bound)
 abbrev pub AreSmall : ℕ → List ℕ → Type 0
 AreSmall bound numbers = (k : ℕ) → k < length numbers → IsNoneOrAtMost bound (slice_index numbers k)
 
--- the least of n numbers, or none
-pub record IsLeastNumber (n number : ℕ) (step_number : ℕ → ℕ) : Type 0 where
+-- the least of n numbers, or the number that stands for none
+pub record IsLeastOf (none n number : ℕ) (step_number : ℕ → ℕ) : Type 0 where
   pub below : (v : ℕ) → v < n → number ≤ step_number v
-  pub reached : (number ≡ none_number) ⊎ ((v : ℕ) × (v < n) × (number ≡ step_number v))
+  pub reached : (number ≡ none) ⊎ ((v : ℕ) × (v < n) × (number ≡ step_number v))
 
--- a row of the one table and column j of the other, entry by entry
-abbrev pub row_sum : ℕ → List ℕ → List ℕ → ℕ → ℕ → ℕ
-row_sum n firsts right j v =
-    stopped_sum (slice_index firsts v) (slice_index right (v * n + j))
+-- the least of n numbers, or none
+abbrev pub IsLeastNumber : ℕ → ℕ → (ℕ → ℕ) → Type 0
+IsLeastNumber = IsLeastOf none_number
 
 -- row i of the one table and column j of the other, entry by entry
 abbrev pub sum_through : ℕ → List ℕ → List ℕ → ℕ → ℕ → ℕ → ℕ
@@ -39,6 +39,42 @@ diagonal n table i = slice_index table (i * n + i)
 abbrev pub IsProduct : ℕ → List ℕ → List ℕ → List ℕ → Type 0
 IsProduct n left right made = (i j : ℕ) → i < n → j < n →
     IsLeastNumber n (slice_index made (i * n + j)) (sum_through n left right i j)
+
+-- a number, with none brought near enough that sums of two don't wrap
+abbrev pub brought_near : ℕ → ℕ
+brought_near number = min number FAR
+
+abbrev pub AreNear : List ℕ → Type 0
+AreNear numbers = (k : ℕ) → k < length numbers → slice_index numbers k ≤ FAR
+
+-- the numbers of a table, with none brought near
+abbrev pub AreBroughtNear : List ℕ → List ℕ → Type 0
+AreBroughtNear numbers nears =
+    (k : ℕ) → k < length numbers → slice_index nears k ≡ brought_near (slice_index numbers k)
+
+-- a row of the one table and column j of the other, entry by entry, with none brought near in both
+abbrev pub near_row_sum : ℕ → List ℕ → List ℕ → ℕ → ℕ → ℕ
+near_row_sum n firsts nears j v =
+    brought_near (slice_index firsts v) + slice_index nears (v * n + j)
+
+-- row i of the one table and column j of the other, so
+abbrev pub near_sum_through : ℕ → List ℕ → List ℕ → ℕ → ℕ → ℕ → ℕ
+near_sum_through n left nears i j v =
+    brought_near (slice_index left (i * n + v)) + slice_index nears (v * n + j)
+
+-- each entry of a table is the least of those sums
+abbrev pub IsNearProduct : ℕ → List ℕ → List ℕ → List ℕ → Type 0
+IsNearProduct n left nears made = (i j : ℕ) → i < n → j < n →
+    IsLeastOf FAR n (slice_index made (i * n + j)) (near_sum_through n left nears i j)
+
+-- a number that is there stays, and any other becomes none
+abbrev pub IsRestored : ℕ → ℕ → Type 0
+IsRestored number restored =
+    ((number < FAR) × (restored ≡ number)) ⊎ ((FAR ≤ number) × (restored ≡ none_number))
+
+abbrev pub AreRestored : List ℕ → List ℕ → Type 0
+AreRestored numbers restored = (k : ℕ) → k < length numbers →
+    IsRestored (slice_index numbers k) (slice_index restored k)
 
 -- the table of the step costs
 pub record IsStepTable (costs : Steps) (table : List ℕ) : Type 0 where

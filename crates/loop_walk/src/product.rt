@@ -1,51 +1,140 @@
 // The table of the least sums of two tables of least costs.
-ghost use Rattle.std.specs.Prelude.{◌≡◌, ◌≤◌, ◌<◌, ℕ, ◌+◌, ◌*◌, min, length, slice_index};
-ghost use Rattle.loop_walk.specs.Products.{IsLeastNumber, IsProduct, row_sum, stopped_sum};
+ghost use Rattle.std.specs.Prelude.{◌≡◌, ◌≤◌, ◌<◌, ℕ, ◌+◌, ◌*◌, ◌^◌, min, length, slice_index};
+ghost use Rattle.loop_walk.specs.Products.{AreBroughtNear, AreNear, AreRestored, AreSmall, IsLeastOf, IsNearProduct, IsProduct, near_row_sum};
 
 /// Stands for none. It is above each number, and a sum that doesn't fit stops at it.
 pub const NONE: u64 = u64::MAX;
 
-// Lowers each number of a row to a first half with the second half that stands there.
-fn lower(sums: &mut [u64], first: u64, seconds: &[u64])
-    requires { length sums.old ≡ length seconds.now }
-    ensures { (j : ℕ) → j < length sums.old → slice_index sums.new j ≡
-        min (slice_index sums.old j) (stopped_sum first (slice_index seconds.now j)) }
+/// Stands for none while sums are made. It is above each sum of two numbers that are there, and a sum of two
+/// of it doesn't wrap as a signed number either.
+pub const FAR: u64 = 1 << 61;
+
+/// The greatest number that is there.
+pub const GREATEST_NUMBER: u64 = 1 << 58;
+
+// The lesser of two numbers, compared as signed ones, for which the lanes have one step.
+fn lesser(a: u64, b: u64) -> u64
+    requires a { a < 2 ^ 63 }
+    requires b { b < 2 ^ 63 }
+    ensures { result ≡ min a b }
+{
+    if (a as i64) < (b as i64) { a } else { b }
+}
+
+// Lowers each number of a row to the sums of two first halves with the second halves that stand there.
+fn lower(sums: &mut [u64], first: u64, seconds: &[u64], other: u64, others: &[u64])
+    requires seconds { length sums.old ≡ length seconds.now }
+    requires others { length sums.old ≡ length others.now }
+    requires first { first ≤ FAR }
+    requires other { other ≤ FAR }
+    requires near { AreNear sums.old }
+    requires near_seconds { AreNear seconds.now }
+    requires near_others { AreNear others.now }
+    ensures lowered { (j : ℕ) → j < length sums.old → slice_index sums.new j ≡
+        min (slice_index sums.old j)
+        (min (first + slice_index seconds.now j) (other + slice_index others.now j)) }
+    ensures near { AreNear sums.new }
 {
     for j in 0..sums.len() {
-        sums[j] = sums[j].min(first.saturating_add(seconds[j]));
+        let sum = lesser(first + seconds[j], other + others[j]);
+        sums[j] = lesser(sums[j], sum);
     }
 }
 
-// One row of a product. The rows of the second table are read along memory, one for each first half,
-// so that the inner loop runs in lanes.
-fn fill_row(n: usize, firsts: &[u64], right: &[u64], sums: &mut [u64])
+// Lowers a row to the sums through frames v and w. There is nothing to do where both first halves are none.
+fn lower_through(n: usize, v: usize, w: usize, firsts: &[u64], nears: &[u64], sums: &mut [u64])
+    requires v { v < n }
+    requires w { w < n }
     requires firsts { length firsts.now ≡ n }
-    requires right { length right.now ≡ n * n }
+    requires nears { length nears.now ≡ n * n }
     requires sums { length sums.old ≡ n }
-    ensures { (j : ℕ) → j < n →
-        IsLeastNumber n (slice_index sums.new j) (row_sum n firsts.now right.now j) }
+    requires near_nears { AreNear nears.now }
+    requires near { AreNear sums.old }
+    ensures lowered { (j : ℕ) → j < n → slice_index sums.new j ≡ min (slice_index sums.old j)
+        (min (near_row_sum n firsts.now nears.now j v) (near_row_sum n firsts.now nears.now j w)) }
+    ensures near { AreNear sums.new }
 {
-    sums.fill(NONE);
-    for v in 0..n {
-        lower(sums, firsts[v], &right[v * n..v * n + n]);
+    let first = firsts[v].min(FAR);
+    let other = firsts[w].min(FAR);
+    if first < FAR || other < FAR {
+        let seconds = &nears[v * n..v * n + n];
+        let others = &nears[w * n..w * n + n];
+        lower(sums, first, seconds, other, others);
     }
 }
 
-/// Makes the table whose entry (i, j) is the least over all v of entry (i, v) of the one table and
-/// entry (v, j) of the other, added up.
-pub fn fill_product(n: usize, left: &[u64], right: &[u64], made: &mut [u64])
+// One row of a product. The rows of the second table are read along memory, two for two first halves,
+// so that the inner loop runs in lanes.
+fn fill_row(n: usize, firsts: &[u64], nears: &[u64], sums: &mut [u64])
+    requires firsts { length firsts.now ≡ n }
+    requires nears { length nears.now ≡ n * n }
+    requires sums { length sums.old ≡ n }
+    requires few { n ≤ 256 }
+    requires near { AreNear nears.now }
+    ensures { (j : ℕ) → j < n →
+        IsLeastOf FAR n (slice_index sums.new j) (near_row_sum n firsts.now nears.now j) }
+{
+    sums.fill(FAR);
+    for h in 0..(n + 1) / 2 {
+        let v = 2 * h;
+        lower_through(n, v, (v + 1).min(n - 1), firsts, nears, sums);
+    }
+}
+
+// Brings none near.
+fn bring_near(numbers: &[u64], nears: &mut [u64])
+    requires { length nears.old ≡ length numbers.now }
+    ensures { AreBroughtNear numbers.now nears.new }
+{
+    for k in 0..nears.len() {
+        nears[k] = numbers[k].min(FAR);
+    }
+}
+
+// Makes none of what is far.
+fn restore(numbers: &mut [u64])
+    ensures { AreRestored numbers.old numbers.new }
+{
+    for k in 0..numbers.len() {
+        if numbers[k] >= FAR {
+            numbers[k] = NONE;
+        }
+    }
+}
+
+// Makes the table whose entry (i, j) is the least over all v of entry (i, v) of the one table and
+// entry (v, j) of the other, added up, with none brought near.
+fn fill_near(n: usize, left: &[u64], nears: &[u64], made: &mut [u64])
     requires few { n ≤ 256 }
     requires left { length left.now ≡ n * n }
-    requires right { length right.now ≡ n * n }
+    requires nears { length nears.now ≡ n * n }
     requires made { length made.old ≡ n * n }
-    ensures { IsProduct n left.now right.now made.new }
+    requires near { AreNear nears.now }
+    ensures { IsNearProduct n left.now nears.now made.new }
 {
     for i in 0..n {
         fill_row(
             n,
             &left[i * n..i * n + n],
-            right,
+            nears,
             &mut made[i * n..i * n + n],
         );
     }
+}
+
+/// Makes the table whose entry (i, j) is the least over all v of entry (i, v) of the one table and
+/// entry (v, j) of the other, added up. `nears` has room for one table, and is written over.
+pub fn fill_product(n: usize, left: &[u64], right: &[u64], nears: &mut [u64], made: &mut [u64])
+    requires few { n ≤ 256 }
+    requires left { length left.now ≡ n * n }
+    requires right { length right.now ≡ n * n }
+    requires nears { length nears.old ≡ n * n }
+    requires made { length made.old ≡ n * n }
+    requires small_left { AreSmall GREATEST_NUMBER left.now }
+    requires small_right { AreSmall GREATEST_NUMBER right.now }
+    ensures { IsProduct n left.now right.now made.new }
+{
+    bring_near(right, nears);
+    fill_near(n, left, nears, made);
+    restore(made);
 }

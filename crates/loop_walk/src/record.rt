@@ -63,7 +63,8 @@ fn made_tables(
 {
     let n = costs.frames() as usize;
     let mut tables = vec![in alloc; 0u64; table_count(length) as usize * (n * n)]?;
-    fill_tables(costs, steps, length, &mut tables);
+    let mut nears = vec![in alloc; 0u64; n * n]?;
+    fill_tables(costs, steps, length, &mut nears, &mut tables);
     Ok(tables)
 }
 

@@ -1,6 +1,6 @@
 // The tables along the binary digits of a length.
 ghost use Rattle.std.specs.Prelude.{◌≡◌, ◌≤◌, ◌<◌, ◌*◌, ◌^◌, IfOk, length as length_of};
-ghost use Rattle.loop_walk.specs.Tables.{IsLength, entry_count, length_before, second_table, table_count};
+ghost use Rattle.loop_walk.specs.Tables.{IsLength, entry_count, length_before, second_table, table_count, table_size};
 ghost use Rattle.loop_walk.specs.Products.{AreFilled, IsStepTable, step_numbers, table_in};
 
 use crate::product::{NONE, fill_product};
@@ -74,11 +74,18 @@ pub fn table_in<'a>(steps: &'a [u64], tables: &'a [u64], t: usize) -> &'a [u64]
     &tables[start..start + steps.len()]
 }
 
-/// Fills in the tables for a length, one after another.
-pub fn fill_tables(costs: &StepCosts, steps: &[u64], length: u32, tables: &mut [u64])
+/// Fills in the tables for a length, one after another. `nears` has room for one table, and is written over.
+pub fn fill_tables(
+    costs: &StepCosts,
+    steps: &[u64],
+    length: u32,
+    nears: &mut [u64],
+    tables: &mut [u64],
+)
     requires steps { IsStepTable costs.now steps.now }
     requires length { IsLength length }
     requires whole { length_of tables.old ≡ entry_count costs.now length }
+    requires nears { length_of nears.old ≡ table_size costs.now }
     ensures { AreFilled costs.now length tables.new }
 {
     if length == 1 {
@@ -87,9 +94,9 @@ pub fn fill_tables(costs: &StepCosts, steps: &[u64], length: u32, tables: &mut [
     let n = costs.frames() as usize;
     let before = length_before(length);
     let (earlier, last) = tables.split_at_mut(tables.len() - n * n);
-    fill_tables(costs, steps, before, earlier);
+    fill_tables(costs, steps, before, nears, earlier);
     let t = table_count(before) as usize;
     let left = table_in(steps, earlier, t);
     let right = table_in(steps, earlier, second_table(length, t));
-    fill_product(n, left, right, last);
+    fill_product(n, left, right, nears, last);
 }

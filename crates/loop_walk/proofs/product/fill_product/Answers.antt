@@ -1,12 +1,8 @@
-use Rattle.std.proofs.Common.{◌+◌, ◌-◌, ◌*◌, drop, ◌∙◌, arith, length-take, length-drop}
-use Rattle.std.proofs.Math.Nat.{mul-le-mul_right}
-use Rattle.loop_walk.proofs.ProductLaws.{product_row_more}
+use Rattle.std.proofs.Common.{◌∙◌}
+use Rattle.loop_walk.proofs.ProductLaws.{product_restored}
 use Rattle.loop_walk.proofs.product.fill_product.Goals as goal
 
-pub loop-i-preserved : goal.loop-i-preserved
-loop-i-preserved c =
-    let n = c.args.n in
-    let i = c.loop-i.i in
-    product_row_more n i c.args.left.now c.args.right.now c.loop-i.made c.fill_row.new.sums c.loop-i-test.true (c.loop-i.auto.made ∙ c.requires.made)
-    (omega (arith, c.fill_row.auto.sums, length-take (i * n + n - i * n) (drop (i * n) c.loop-i.made), length-drop (i * n) c.loop-i.made, c.loop-i.auto.made, c.requires.made, mul-le-mul_right n c.loop-i-test.true))
-    c.loop-i.invariant c.fill_row.ensures
+pub returns : goal.returns
+returns c =
+    product_restored c.args.n c.args.left.now c.args.right.now c.bring_near.new.nears c.fill_near.new.made c.restore.new.numbers
+    c.requires.left c.requires.right (c.fill_near.auto.made ∙ c.requires.made) c.requires.small_left c.requires.small_right c.bring_near.ensures c.fill_near.ensures c.restore.ensures

@@ -1,9 +1,10 @@
-use Rattle.std.proofs.Common.{◌≡◌, ℕ, ◌+◌, ◌*◌, ◌≤◌, length, ap, sym, ◌∙◌, arith}
+use Rattle.std.proofs.Common.{◌≡◌, ℕ, ◌+◌, ◌*◌, ◌≤◌, length, ◌^◌, ap, sym, subst, ◌∙◌, arith}
 use Rattle.std.proofs.Math.Nat.{mul-le-mul_right}
+use Rattle.loop_walk.specs.declared.product.TheConstants.{GREATEST_NUMBER}
 use Rattle.loop_walk.specs.Tables.{length_before, table_count, second_table}
-use Rattle.loop_walk.specs.Products.{IsProduct, table_in}
+use Rattle.loop_walk.specs.Products.{AreSmall, IsProduct, table_in}
 use Rattle.loop_walk.proofs.Lengths.{is_before, table_count-more}
-use Rattle.loop_walk.proofs.TableLaws.{filled-more, length-table_in, second_le}
+use Rattle.loop_walk.proofs.TableLaws.{filled-more, length-table_in, second_le, small_table_in}
 use Rattle.loop_walk.proofs.tables.+fill_tables.Goals as goal
 
 -- room for the earlier tables and one more
@@ -21,7 +22,7 @@ fill_tables-requires t c =
     let area = c.args.costs.now.frames * c.args.costs.now.frames in
     let whole = rooms c.args.length c.length_before-before.result area (length c.args.tables.now) (omega arith) is_b c.requires.whole in
     let front = rw c.frames-n.ensures.frames at c.split_at_mut-earlier.ensures.front_len in
-    (omega (arith, c.decreases, before.less, is_b), (c.requires.steps, ((omega (arith, before.some, is_b), omega (arith, before.less, is_b)), omega (arith, whole, front))))
+    (omega (arith, c.decreases, before.less, is_b), (c.requires.steps, ((omega (arith, before.some, is_b), omega (arith, before.less, is_b)), (omega (arith, whole, front), c.requires.nears))))
 
 pub fill_product-requires-clause-left : goal.fill_product-requires-clause-left
 fill_product-requires-clause-left t c =
@@ -57,3 +58,23 @@ returns t c =
     let back = rw c.frames-n.ensures.frames at c.split_at_mut-earlier.ensures.back_len in
     filled-more costs c.args.length c.length_before-before.result c.table_count-t.result (omega arith) c.requires.length.1 c.length_before-before.ensures c.table_count-t.ensures.count
     steps c.requires.steps earlier last c.fill_tables.ensures (c.fill_product.auto.made ∙ omega (arith, whole, back)) product
+
+pub fill_product-requires-clause-small_left : goal.fill_product-requires-clause-small_left
+fill_product-requires-clause-small_left t c =
+    let before = is_before c.args.length (omega arith) in
+    let area = c.args.costs.now.frames * c.args.costs.now.frames in
+    let fits : c.table_count-t.result * area ≤ length c.fill_tables.new.tables = omega (arith, c.fill_tables.ensures.made.whole, ap (λ k. k * area) c.table_count-t.ensures.count) in
+    subst (AreSmall GREATEST_NUMBER) (sym c.table_in-left.ensures)
+    (small_table_in c.args.costs.now c.args.steps.now c.requires.steps c.fill_tables.new.tables (c.length_before-before.result * 2 ^ 46) GREATEST_NUMBER c.table_count-t.result (omega arith)
+    (omega (arith, before.less, c.length_before-before.ensures, c.requires.length.1)) c.fill_tables.ensures.small fits)
+
+pub fill_product-requires-clause-small_right : goal.fill_product-requires-clause-small_right
+fill_product-requires-clause-small_right t c =
+    let before = is_before c.args.length (omega arith) in
+    let area = c.args.costs.now.frames * c.args.costs.now.frames in
+    let second = c.second_table.result in
+    let fits : second * area ≤ length c.fill_tables.new.tables =
+    omega (arith, c.fill_tables.ensures.made.whole, ap (λ k. k * area) c.table_count-t.ensures.count, mul-le-mul_right area (second_le c.args.costs.now c.args.length c.table_count-t.result), ap (λ k. k * area) c.second_table.ensures) in
+    subst (AreSmall GREATEST_NUMBER) (sym c.table_in-right.ensures)
+    (small_table_in c.args.costs.now c.args.steps.now c.requires.steps c.fill_tables.new.tables (c.length_before-before.result * 2 ^ 46) GREATEST_NUMBER second (omega arith)
+    (omega (arith, before.less, c.length_before-before.ensures, c.requires.length.1)) c.fill_tables.ensures.small fits)

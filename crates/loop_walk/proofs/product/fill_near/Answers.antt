@@ -1,0 +1,12 @@
+use Rattle.std.proofs.Common.{◌+◌, ◌-◌, ◌*◌, drop, ◌∙◌, arith, length-take, length-drop}
+use Rattle.std.proofs.Math.Nat.{mul-le-mul_right}
+use Rattle.loop_walk.proofs.ProductLaws.{product_row_more}
+use Rattle.loop_walk.proofs.product.fill_near.Goals as goal
+
+pub loop-i-preserved : goal.loop-i-preserved
+loop-i-preserved c =
+    let n = c.args.n in
+    let i = c.loop-i.i in
+    product_row_more n i c.args.left.now c.args.nears.now c.loop-i.made c.fill_row.new.sums c.loop-i-test.true (c.loop-i.auto.made ∙ c.requires.made)
+    (omega (arith, c.fill_row.auto.sums, length-take (i * n + n - i * n) (drop (i * n) c.loop-i.made), length-drop (i * n) c.loop-i.made, c.loop-i.auto.made, c.requires.made, mul-le-mul_right n c.loop-i-test.true))
+    c.loop-i.invariant c.fill_row.ensures

@@ -1,0 +1,5 @@
+mod Along
+mod Boxes
+mod Fronts
+pub mod Laying
+mod Errors

@@ -1,0 +1,30 @@
+use Rattle.std.proofs.Common.{◌≡◌, ℕ, ◌/◌, ◌%◌, ◌≤◌, ◌++◌, ◌∷◌, [], length, ap, sym, ◌∙◌, subst, arith}
+use Rattle.std.proofs.lemmas.List.Elements.{All-append, All-cons, All-nil}
+use Rattle.std.proofs.lemmas.List.FromFn.{length-map-range_with_len, map-range_with_len_more}
+use Rattle.std.specs.Prelude.{All}
+use Rattle.strip_boundary.specs.declared.strip.TheConstants.{GREATEST_ERROR}
+use Rattle.block_strips.specs.Strips.{strip_error}
+use Rattle.block_strips.proofs.Errors.{strip_is}
+use Rattle.block_strips.proofs.strips.strip_of.Goals as goal
+
+pub loop-i-preserved : goal.loop-i-preserved
+loop-i-preserved c =
+    let i = c.loop-i.i in
+    let f : ℕ → ℕ = λ i. strip_error c.args.side c.args.canvas.now.map c.args.sample.now c.args.placement.now (i / c.args.cols) (i % c.args.cols) in
+    let Small : ℕ → Type 0 = λ error. error ≤ GREATEST_ERROR in
+    let error = c.strip_error-error.result in
+    record {
+      errors = c.in_ok-push.ensures.items
+          ∙ (λ k. c.loop-i.invariant.errors k ++ c.strip_error-error.ensures.error k ∷ [])
+          ∙ sym (map-range_with_len_more f 0 i i (omega arith));
+      small = subst (All Small) (sym c.in_ok-push.ensures.items)
+          (All-append Small c.loop-i.errors.items (error ∷ []) c.loop-i.invariant.small (All-cons Small error [] c.strip_error-error.ensures.small (All-nil Small)));
+    }
+
+pub from_vec-requires : goal.from_vec-requires
+from_vec-requires c =
+    let f : ℕ → ℕ = λ i. strip_error c.args.side c.args.canvas.now.map c.args.sample.now c.args.placement.now (i / c.args.cols) (i % c.args.cols) in
+    let long : length c.loop-i.errors.items ≡ c.loop-i.i = ap length c.loop-i.invariant.errors ∙ length-map-range_with_len f 0 c.loop-i.i in
+    strip_is c.args.canvas.now c.args.sample.now c.args.placement.now c.map-map.ensures.canvas c.requires.fits
+    c.args.side c.rows-rows.result c.args.cols c.loop-i.errors.items c.rows-rows.ensures c.requires.some c.requires.most
+    (omega (arith, long, c.loop-i-test.false, c.loop-i.auto.i-end)) c.loop-i.invariant.small

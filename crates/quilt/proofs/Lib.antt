@@ -1,0 +1,9 @@
+mod Columns
+mod Faults
+mod Filling
+mod Laying
+mod Maps
+mod OneQuilt
+mod Picking
+mod Runs
+mod Standing

@@ -1,0 +1,42 @@
+// What the definitions mean.
+ghost use Rattle.std.specs.Prelude.{◌≡◌, ◌≤◌};
+ghost use Rattle.cells.specs.Cells.{IsOnePart};
+ghost use Rattle.cells.specs.Places.{IsSmall};
+ghost use Rattle.quilt.specs.Records.{StandingBreaksNone, StandingIsLeast};
+ghost use Rattle.quilt.specs.Runs.{EachStandingIsLeast, OneQuilt, QuiltsReplay};
+
+use block_strips::QuiltPlan;
+use cells::{Size, Volume};
+
+/// A law, with nothing to run: each boundary of a record that stands is least of all boundaries of its strip,
+/// whoever made it, and so is each of a list of records that stand over one another; and a record that stands
+/// breaks no rule.
+pub fn standing_blocks_are_least()
+    ensures least { StandingIsLeast }
+    ensures each { EachStandingIsLeast }
+    ensures unbroken { StandingBreaksNone }
+{}
+
+/// A law, with nothing to run: what steps of a plan leave, from the canvas with no cell filled on, is the map
+/// that their records leave, put in one after another. Each record stands over the map that those before it
+/// leave, each boundary is least there, and what is left is laid for the plan.
+pub fn quilts_replay(plan: &QuiltPlan, sample: &Volume, size: Size)
+    requires block { 1 ≤ plan.now.block }
+    requires part { IsOnePart sample.now }
+    requires small { IsSmall size }
+    requires frame { size.f ≡ 1 }
+    ensures { QuiltsReplay plan.now sample.now size }
+{
+    // It is asked for only to show the check that the sample is a volume.
+    let _size = sample.size();
+}
+
+/// A law, with nothing to run: of a plan, a sample, a size and a seed there is one quilted run, with its records
+/// and its map.
+pub fn there_is_one_quilt(plan: &QuiltPlan, sample: &Volume, size: Size)
+    requires { IsSmall size }
+    ensures { OneQuilt plan.now sample.now size }
+{
+    // It is asked for only to show the check that the sample is a volume.
+    let _samples = sample.samples();
+}

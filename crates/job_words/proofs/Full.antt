@@ -24,7 +24,7 @@ use Rattle.job_words.specs.declared.settings.Setting.{Setting}
 use Rattle.job_words.specs.Keys.{same_key}
 use Rattle.job_words.specs.Tables.{IsOfKind, texts_of}
 use Rattle.job_words.specs.Words.{lies_within, is_among, IsNamed, and_then, value_at, settings_of, default_of, with_defaults, is_missing, is_needed, first_missing, unless_missing, complete, all_settings, text_in, text_of, number_in, IsGivenAs, HasAllValues}
-use Rattle.job_words.specs.Names.{AreNames, HasNames, more_keys, more_names, name_if_set, name_in, name_list, names_of}
+use Rattle.job_words.specs.Names.{AreNames, HasNames, more_keys, more_names, name_if_set, name_in, name_list, names_of, with_files}
 use Rattle.job_words.proofs.Accepting.{both, one_of}
 use Rattle.job_words.proofs.Keyed.{value_at-append, key_exact, key_itself}
 use Rattle.job_words.proofs.Reading.{kind_of, HasKind, AreSettings, settings_of_words}
@@ -254,6 +254,15 @@ pub is_named : (o : Option Value) → IsSomeAnd o (IsOfKind FileName) → IsName
 is_named None h = absurd h
 is_named (Some (Named name)) h = tt
 is_named (Some (Chosen choice)) h = absurd h
+
+-- the files of a run are named where they are the first of the table
+pub names_given : (rows : List Row) (all : List Setting) → HasAllValues (with_files rows) all → HasNames all
+names_given rows all full = record {
+  sample = is_named (value_at key.Sample all) (given_at (with_files rows) all full key.Sample);
+  out = is_named (value_at key.Out all) (given_at (with_files rows) all full key.Out);
+  map = is_named (value_at key.Map all) (given_at (with_files rows) all full key.Map);
+  cert = is_named (value_at key.Cert all) (given_at (with_files rows) all full key.Cert);
+}
 
 -- The file names of some keys.
 

@@ -8,20 +8,15 @@ use Rattle.job_words.specs.declared.grow.GrowJob.{GrowJob}
 use Rattle.job_words.specs.declared.bounds.TheConstants.{GREATEST_OVERLAP, GREATEST_SEED, GREATEST_TOLERANCE, MOST_ROUNDS}
 use Rattle.cells.specs.declared.bounds.TheConstants.{GREATEST_AXIS}
 use Rattle.job_words.specs.Words.{value_at, all_settings, HasAllValues}
-use Rattle.job_words.specs.GrowWords.{HasGrowValues, IsGrowJob, grow_of, grow_rows}
-use Rattle.job_words.proofs.Full.{AreAll, AreSound, all_of_words, full, given_at, is_named, names_of_run, number_within, sound}
+use Rattle.job_words.specs.GrowWords.{HasGrowValues, IsGrowJob, grow_of, grow_own_rows, grow_rows}
+use Rattle.job_words.proofs.Full.{AreAll, AreSound, all_of_words, full, given_at, names_given, names_of_run, number_within, sound}
 
 grow_sound : AreSound grow_rows grow_rows
 grow_sound = sound grow_rows grow_rows refl
 
 values : (all : List Setting) → HasAllValues grow_rows all → HasGrowValues all
 values all full = record {
-  names = record {
-    sample = is_named (value_at key.Sample all) (given_at grow_rows all full key.Sample);
-    out = is_named (value_at key.Out all) (given_at grow_rows all full key.Out);
-    map = is_named (value_at key.Map all) (given_at grow_rows all full key.Map);
-    cert = is_named (value_at key.Cert all) (given_at grow_rows all full key.Cert);
-  };
+  names = names_given grow_own_rows all full;
   width = given_at grow_rows all full key.Width;
   height = given_at grow_rows all full key.Height;
   frames = given_at grow_rows all full key.Frames;

@@ -7,3 +7,5 @@ pub mod Counting
 pub mod Reading
 pub mod Full
 pub mod GrowLawful
+pub mod CheckLawful
+pub mod TrialLawful

@@ -1,5 +1,5 @@
 -- The words of `grow`: its keys, and its job. To be trusted: contracts cite these words. (Own.)
-use Rattle.std.specs.Prelude.{◌≤◌, ℕ, List, [], ◌∷◌, ◌++◌, map, Result, Ok, slice_index_or}
+use Rattle.std.specs.Prelude.{◌≤◌, ℕ, List, [], ◌∷◌, Result, Ok, slice_index_or}
 use Rattle.cells.specs.Places.{HasAxes}
 use Rattle.cells.specs.declared.bounds.TheConstants.{GREATEST_AXIS}
 use Rattle.cells.specs.declared.place.Size.{Size}
@@ -15,24 +15,14 @@ use Rattle.job_words.specs.declared.settings.Setting.{Setting}
 use Rattle.job_words.specs.declared.grow.Place.{Place}
 use Rattle.job_words.specs.declared.grow.Place.TheVariants.{Grid, Random, Whole, Sub}
 use Rattle.job_words.specs.declared.grow.GrowJob.{GrowJob}
-use Rattle.job_words.specs.Tables.{row, file_row, sample_row, number_row, default_row}
+use Rattle.job_words.specs.Tables.{row, number_row, default_row}
 use Rattle.job_words.specs.Words.{IsGiven, and_then, all_settings, number_at, nth_at}
-use Rattle.job_words.specs.Names.{AreNames, HasNames, names_of, name_list}
+use Rattle.job_words.specs.Names.{AreNames, HasNames, names_of, name_list, with_files}
 
--- the rows of further samples, in the order of their numbers
-abbrev pub sample_rows : List Row
-sample_rows =
-    map sample_row (2 ∷ 3 ∷ 4 ∷ 5 ∷ 6 ∷ 7 ∷ 8 ∷ 9 ∷ 10 ∷ 11 ∷ 12 ∷ 13 ∷ 14 ∷ 15 ∷ 16 ∷ [])
-
--- the keys of `grow`, in the order in which missing ones are looked for
-abbrev pub grow_rows : List Row
-grow_rows =
-    file_row key.Sample
-    ∷ (sample_rows
-    ++ file_row key.Out
-    ∷ file_row key.Map
-    ∷ file_row key.Cert
-    ∷ number_row key.Width 1 GREATEST_AXIS
+-- the keys of `grow` behind those of its files
+abbrev pub grow_own_rows : List Row
+grow_own_rows =
+    number_row key.Width 1 GREATEST_AXIS
     ∷ number_row key.Height 1 GREATEST_AXIS
     ∷ default_row key.Frames 1 GREATEST_AXIS 1
     ∷ row key.Place (OneOf Places) (Default (Nth 3))
@@ -41,7 +31,11 @@ grow_rows =
     ∷ default_row key.Tol 0 GREATEST_TOLERANCE 10
     ∷ default_row key.Rounds 0 MOST_ROUNDS 0
     ∷ default_row key.Seed 0 GREATEST_SEED 0
-    ∷ [])
+    ∷ []
+
+-- the keys of `grow`, in the order in which missing ones are looked for
+abbrev pub grow_rows : List Row
+grow_rows = with_files grow_own_rows
 
 -- the mode at a position of the list of their texts
 abbrev pub place_nth : ℕ → Place

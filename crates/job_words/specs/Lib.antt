@@ -4,4 +4,6 @@ pub mod Tables
 pub mod Words
 pub mod Names
 pub mod GrowWords
+pub mod CheckWords
+pub mod TrialWords
 pub mod Jobs

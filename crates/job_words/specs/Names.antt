@@ -1,12 +1,25 @@
 -- The file names of a job. To be trusted: contracts cite these words. (Own.)
-use Rattle.std.specs.Prelude.{◌≢◌, ℕ, List, [], ◌∷◌, ◌++◌, All, AllPairs, filter_map, Option, Some, None}
+use Rattle.std.specs.Prelude.{◌≢◌, ℕ, List, [], ◌∷◌, ◌++◌, All, AllPairs, filter_map, map, Option, Some, None}
 use Rattle.job_words.specs.declared.job.Names.{Names}
 use Rattle.job_words.specs.declared.keys.Key.{Key}
 use Rattle.job_words.specs.declared.keys.Key.TheVariants as key
 use Rattle.job_words.specs.declared.settings.Setting.{Setting}
 use Rattle.job_words.specs.declared.settings.Value.{Value}
 use Rattle.job_words.specs.declared.settings.Value.TheVariants.{Named}
+use Rattle.job_words.specs.declared.table.Row.{Row}
+use Rattle.job_words.specs.Tables.{file_row, sample_row}
 use Rattle.job_words.specs.Words.{IsNamed, text_of, value_at}
+
+-- the rows of further samples, in the order of their numbers
+abbrev pub sample_rows : List Row
+sample_rows =
+    map sample_row (2 ∷ 3 ∷ 4 ∷ 5 ∷ 6 ∷ 7 ∷ 8 ∷ 9 ∷ 10 ∷ 11 ∷ 12 ∷ 13 ∷ 14 ∷ 15 ∷ 16 ∷ [])
+
+-- the rows of the files of a run, and then others
+abbrev pub with_files : List Row → List Row
+with_files rows =
+    file_row key.Sample
+    ∷ (sample_rows ++ file_row key.Out ∷ file_row key.Map ∷ file_row key.Cert ∷ rows)
 
 -- no name is empty, and no two are the same
 pub record AreNames (names : List (List ℕ)) : Type 0 where

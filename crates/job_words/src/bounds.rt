@@ -11,3 +11,6 @@ pub const MOST_ROUNDS: u32 = 1000;
 
 /// The greatest seed of draws.
 pub const GREATEST_SEED: u64 = 18446744073709551615;
+
+/// The greatest number of which a sample is made.
+pub const GREATEST_SAMPLE_NUMBER: u32 = 4294967295;

@@ -10,7 +10,7 @@ use crate::keys::Key;
 use crate::name::Name;
 use crate::read::all_settings;
 use crate::settings::Setting;
-use crate::table::{Choice, Kind, Need, Row, Texts, file_row, number_row, sample_row};
+use crate::table::{Choice, Kind, Need, Row, Texts, file_row, number_row, sample_row, with_files};
 use cells::{GREATEST_AXIS, Size};
 use std::alloc::{AllocError, Global};
 
@@ -46,26 +46,7 @@ pub struct GrowJob {
     pub seed: u64,
 }
 
-const ROWS: [Row; 28] = [
-    file_row!(Sample),
-    sample_row!(2),
-    sample_row!(3),
-    sample_row!(4),
-    sample_row!(5),
-    sample_row!(6),
-    sample_row!(7),
-    sample_row!(8),
-    sample_row!(9),
-    sample_row!(10),
-    sample_row!(11),
-    sample_row!(12),
-    sample_row!(13),
-    sample_row!(14),
-    sample_row!(15),
-    sample_row!(16),
-    file_row!(Out),
-    file_row!(Map),
-    file_row!(Cert),
+const ROWS: [Row; 28] = with_files![
     number_row!(Width, 1, GREATEST_AXIS as u64),
     number_row!(Height, 1, GREATEST_AXIS as u64),
     number_row!(Frames, 1, GREATEST_AXIS as u64, 1),
@@ -87,8 +68,8 @@ fn rows() -> &'static [Row]
     &ROWS
 }
 
-// The mode at a position of their list.
-fn place_nth(n: usize) -> Place
+/// The mode at a position of their list.
+pub fn place_nth(n: usize) -> Place
     requires { n < 4 }
     ensures { result ≡ place_nth n }
 {

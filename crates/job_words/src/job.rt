@@ -2,16 +2,18 @@
 ghost use Rattle.std.specs.Prelude.{◌≡◌};
 ghost use Rattle.job_words.specs.declared.job.WordFault.TheVariants as word;
 
+use crate::check::CheckJob;
 use crate::grow::GrowJob;
 use crate::keys::Key;
 use crate::name::{Name, Names16};
+use crate::trial::TrialJob;
 use cells::Axis;
 use std::alloc::AllocError;
 
 /// The files of a run.
 #[derive(Drop)]
 pub struct Names {
-    /// The first sample, which is read.
+    /// The first sample.
     pub sample: Name,
     /// The further samples.
     pub more: Names16,
@@ -27,6 +29,8 @@ pub struct Names {
 #[derive(Drop)]
 pub enum Job {
     Grow(GrowJob),
+    Check(CheckJob),
+    Trial(TrialJob),
 }
 
 /// Why words ask for no job. Words are counted from 1; the command is number 1.

@@ -3,11 +3,12 @@
 //! `read_job` gives exactly the job of a list of words or its first refusal, for every list of words
 //! (specs/Jobs.antt), and a job that it gives has values in the ranges of its keys and file names that
 //! differ. specs/Words.antt has the settings of words by a table of keys, and specs/Tables.antt the
-//! kinds of values. Each command has a module with its table and its job, as `grow`; README.md says
+//! kinds of values. Each command has a module with its table and its job, as `grow`, `check` and `trial`; README.md says
 //! how one is added.
 #![tactic(auto)]
 
 mod bounds;
+mod check;
 mod fields;
 mod grow;
 mod job;
@@ -16,14 +17,19 @@ mod name;
 mod read;
 mod settings;
 mod table;
+mod trial;
 
-pub use bounds::{GREATEST_OVERLAP, GREATEST_SEED, GREATEST_TOLERANCE, MOST_ROUNDS};
+pub use bounds::{
+    GREATEST_OVERLAP, GREATEST_SAMPLE_NUMBER, GREATEST_SEED, GREATEST_TOLERANCE, MOST_ROUNDS,
+};
 pub use cells::Taps;
+pub use check::CheckJob;
 pub use grow::{GrowJob, Place};
 pub use job::{Job, Names, WordFault};
 pub use keys::Key;
 pub use name::{Name, Names16, Words};
 pub use read::read_job;
+pub use trial::TrialJob;
 
 #[cfg(test)]
 mod tests;

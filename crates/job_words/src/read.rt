@@ -1,14 +1,16 @@
 // All words of a run, in the order in which their refusals are tried.
 ghost use Rattle.std.specs.Prelude.{◌≡◌, ◌⊎◌, ◌<◌, ◌++◌, ◌∷◌, [], Ok, Err, IfOk, IfErr, OnOk, length, option_copied};
 ghost use Rattle.job_words.specs.Words as by;
-ghost use Rattle.job_words.specs.Jobs.{IsJob, job_of};
+ghost use Rattle.job_words.specs.Jobs.{IsJob, check_asked, grow_asked, job_of, trial_asked};
 
+use crate::check::read_check;
 use crate::grow::read_grow;
 use crate::job::{Job, WordFault};
 use crate::keys::Key;
 use crate::name::{Name, Words};
 use crate::settings::{Setting, Value, read_setting, value_at};
 use crate::table::{Choice, Need, Row};
+use crate::trial::read_trial;
 use std::alloc::{AllocError, Global};
 
 fn add(settings: &mut Vec<Setting>, setting: Setting) -> Result<(), AllocError>
@@ -124,6 +126,30 @@ pub fn all_settings(alloc: Global, rows: &[Row], words: &[Name]) -> Result<Vec<S
     }
 }
 
+// The job of the words after `grow`.
+fn grow_asked(alloc: Global, words: &[Name]) -> Result<Job, WordFault>
+    ensures exact { by.AnswersAs (grow_asked words.now) result }
+    ensures lawful { IfOk result IsJob }
+{
+    Ok(Job::Grow(read_grow(alloc, words)?))
+}
+
+// The job of the words after `check`.
+fn check_asked(alloc: Global, words: &[Name]) -> Result<Job, WordFault>
+    ensures exact { by.AnswersAs (check_asked words.now) result }
+    ensures lawful { IfOk result IsJob }
+{
+    Ok(Job::Check(read_check(alloc, words)?))
+}
+
+// The job of the words after `trial`.
+fn trial_asked(alloc: Global, words: &[Name]) -> Result<Job, WordFault>
+    ensures exact { by.AnswersAs (trial_asked words.now) result }
+    ensures lawful { IfOk result IsJob }
+{
+    Ok(Job::Trial(read_trial(alloc, words)?))
+}
+
 /// The job that words ask for, or the first of their refusals: the command is tried first, then word
 /// by word, with all refusals of a word before the next word, and last the keys that no word sets.
 /// Only `NoMemory` may come at any place.
@@ -135,7 +161,9 @@ pub fn read_job(alloc: Global, words: &Words) -> Result<Job, WordFault>
         return Err(WordFault::NoCommand);
     };
     match command.as_text() {
-        "grow" => Ok(Job::Grow(read_grow(alloc, words)?)),
+        "grow" => grow_asked(alloc, words),
+        "check" => check_asked(alloc, words),
+        "trial" => trial_asked(alloc, words),
         _ => Err(WordFault::UnknownCommand),
     }
 }

@@ -127,6 +127,35 @@ macro_rules! number_row {
     };
 }
 
+// The rows of the files of a run, and then others.
+macro_rules! with_files {
+    ($($row:expr),* $(,)?) => {
+        [
+            file_row!(Sample),
+            sample_row!(2),
+            sample_row!(3),
+            sample_row!(4),
+            sample_row!(5),
+            sample_row!(6),
+            sample_row!(7),
+            sample_row!(8),
+            sample_row!(9),
+            sample_row!(10),
+            sample_row!(11),
+            sample_row!(12),
+            sample_row!(13),
+            sample_row!(14),
+            sample_row!(15),
+            sample_row!(16),
+            file_row!(Out),
+            file_row!(Map),
+            file_row!(Cert),
+            $($row),*
+        ]
+    };
+}
+
 pub(crate) use file_row;
 pub(crate) use number_row;
 pub(crate) use sample_row;
+pub(crate) use with_files;

@@ -103,6 +103,7 @@ fn long_numbers_out_of_range(rt: HostRuntime) -> Result<(), Fail> {
 fn job(alloc: Global, words: &[&str]) -> Result<GrowJob, WordFault> {
     match read(alloc, words)? {
         Job::Grow(job) => Ok(job),
+        Job::Check(_) | Job::Trial(_) => Err(WordFault::UnknownCommand),
     }
 }
 

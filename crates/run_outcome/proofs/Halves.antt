@@ -4,6 +4,7 @@ use Rattle.std.specs.Prelude.{Result, Ok, Err}
 use Rattle.shelf_core.specs.Files.{Files, ShelfState, SinkState, OnlyReads, Changes, Rose, content_of}
 use Rattle.shelf_core.specs.Written.{Untouched, StoppedAt, written}
 use Rattle.shelf_core.proofs.FileLaws.{told_same, told_then, told_weaker}
+use Rattle.shelf_core.proofs.Sees.{Sees, sees_both, sees_weaker}
 use Rattle.shelf_core.specs.declared.fault.FormFault.{FormFault}
 use Rattle.shelf_core.specs.declared.fault.What.{What}
 use Rattle.shelf_core.specs.declared.fault.ReadError.{ReadError}
@@ -20,22 +21,24 @@ use Rattle.run_outcome.specs.Outcomes.{IsPlanned, IsStopped, Leaves, NoneRefused
 -- The first half fails.
 
 module _ (c : Command) (a b : ShelfState) where
-  -- a file of the command isn't read, by what its reader promises; the command refuses it for what its reader does
-  pub not_read : (turn : ℕ) (part : FileOf) (name : List ℕ) → HasTurn c.reads turn part name → (Refuses : List ℕ → ReadError → Type 0)
+  -- a file of the command isn't read, by what its reader promises, once something was seen of those before it; the command refuses it for what its reader does
+  pub not_read : (turn : ℕ) (part : FileOf) (name : List ℕ) → HasTurn c.reads turn part name → (Refuses : List ℕ → ReadError → Type 0) (Seen : Files → Type 0)
       → ((why : FormFault) → c.MayRefuse (Form part why)) → ((what : What) (number bound : ℕ) → c.MayRefuse (Limit what number bound))
-      → ((files : Files) (refusal : ReadError) → Refuses (content_of files name) refusal → c.Refuses (suc turn) files (fault_of_read part refusal))
-      → Changes a b (λ before after. NoneRefused c turn before) → (answer : ReadError) → FailsToRead Refuses name a b answer → NotMade c a b (fault_of_read part answer)
-  not_read turn part name its Refuses bad limit refuses earlier error.ReadFault left = record { turn = turn; name = name; its = its; rose = left; earlier = earlier }
-  not_read turn part name its Refuses bad limit refuses earlier error.NoMemory left = tt
-  not_read turn part name its Refuses bad limit refuses earlier (error.Bad why) left = record {
+      → ((files : Files) (refusal : ReadError) → Seen files → Refuses (content_of files name) refusal → c.Refuses (suc turn) files (fault_of_read part refusal))
+      → ((files : Files) → Seen files → NoneRefused c turn files)
+      → Sees a b Seen → (answer : ReadError) → FailsToRead Refuses name a b answer → NotMade c a b (fault_of_read part answer)
+  not_read turn part name its Refuses Seen bad limit refuses none seen error.ReadFault left =
+      record { turn = turn; name = name; its = its; rose = left; earlier = sees_weaker Seen (NoneRefused c turn) a b none seen }
+  not_read turn part name its Refuses Seen bad limit refuses none seen error.NoMemory left = tt
+  not_read turn part name its Refuses Seen bad limit refuses none seen (error.Bad why) left = record {
     known = bad why;
-    refused = told_weaker (λ before after. Refuses (content_of before name) (error.Bad why)) (λ before after. (n : ℕ) × c.Refuses n before (Form part why)) a.files b.files
-        (λ before after r. (suc turn, refuses before (error.Bad why) r)) left;
+    refused = sees_both Seen (λ files. Refuses (content_of files name) (error.Bad why)) (λ files. (n : ℕ) × c.Refuses n files (Form part why)) a b
+        (λ files s r. (suc turn, refuses files (error.Bad why) s r)) seen left;
   }
-  not_read turn part name its Refuses bad limit refuses earlier (error.Limit what number bound) left = record {
+  not_read turn part name its Refuses Seen bad limit refuses none seen (error.Limit what number bound) left = record {
     known = limit what number bound;
-    refused = told_weaker (λ before after. Refuses (content_of before name) (error.Limit what number bound)) (λ before after. (n : ℕ) × c.Refuses n before (Limit what number bound)) a.files b.files
-        (λ before after r. (suc turn, refuses before (error.Limit what number bound) r)) left;
+    refused = sees_both Seen (λ files. Refuses (content_of files name) (error.Limit what number bound)) (λ files. (n : ℕ) × c.Refuses n files (Limit what number bound)) a b
+        (λ files s r. (suc turn, refuses files (error.Limit what number bound) s r)) seen left;
   }
 
   -- so it is the answer of the command

@@ -4,12 +4,14 @@ use Rattle.std.specs.Prelude.{Option, Some, None, slice_get, Result, Ok, Err}
 use Rattle.std.proofs.Math.Seq.{take-length}
 use Rattle.shelf_core.specs.Files.{Files, ShelfState, SinkState, OnlyWrites, Changes, Told, Rose, IsPrefixAdded}
 use Rattle.shelf_core.specs.Written.{HoldsPart, written, StoppedAt, Says}
-use Rattle.shelf_core.proofs.FileLaws.{told_then, told_weaker, rose_then, rose_later}
+use Rattle.shelf_core.proofs.FileLaws.{told_same, told_then, told_weaker, rose_then, rose_later}
 use Rattle.synth_report.specs.declared.fault.FileOf.{FileOf}
+use Rattle.synth_report.specs.declared.fault.Fault.{Fault}
+use Rattle.synth_report.specs.declared.fault.Fault.TheVariants.{Words, Form, Unlike, Mark, Limit, Read, Write, NoMemory, NoLoop}
 use Rattle.synth_report.specs.declared.summary.Summary.{Summary}
 use Rattle.synth_report.specs.Texts.{report_of}
 use Rattle.run_outcome.specs.Commands.{NamedFile, HasTurn}
-use Rattle.run_outcome.specs.Writing.{FileText, HoldAll, IsSilent, ReportedInPart, StopsWriting, WritesFiles, file_text, files_in, pieces_of}
+use Rattle.run_outcome.specs.Writing.{FileText, HoldAll, IsSilent, ReportedInPart, StopsWriting, WritesFiles, WritesRun, file_text, files_in, pieces_of}
 
 -- All files of two groups.
 
@@ -94,3 +96,21 @@ stops_at_one part name seen text a b is left rose = record {
   stopped = subst (λ n. Changes a b (HoldsPart n text)) is left;
   rose = subst (λ n. Rose (a.writes n) (b.writes n)) is rose;
 }
+
+-- the report of a run whose files are whole
+pub reported : (files : List FileText) (summary : Summary) (a b : ShelfState) (out out' : SinkState) (answer : Result Summary Fault) → HoldAll files a b → WritesRun [] summary b b out out' answer → WritesRun files summary a b out out' answer
+reported files summary a b out out' (Ok done) whole wrote = (wrote.0, whole, wrote.2)
+reported files summary a b out out' (Err (Write part)) whole (inl told) = inl (record { is = told.is; whole = whole; told = told.told; rose = told.rose })
+reported files summary a b out out' (Err (Write part)) whole (inr stops) = let its = stops.0.its in absurd (cc)
+reported files summary a b out out' (Err (Words fault)) whole wrote = absurd wrote
+reported files summary a b out out' (Err (Form part why)) whole wrote = absurd wrote
+reported files summary a b out out' (Err (Unlike part)) whole wrote = absurd wrote
+reported files summary a b out out' (Err (Mark index)) whole wrote = absurd wrote
+reported files summary a b out out' (Err (Limit what number bound)) whole wrote = absurd wrote
+reported files summary a b out out' (Err (Read part)) whole wrote = absurd wrote
+reported files summary a b out out' (Err NoMemory) whole wrote = absurd wrote
+reported files summary a b out out' (Err (NoLoop length)) whole wrote = absurd wrote
+
+-- no file is written
+pub none_held : (shelf : ShelfState) → HoldAll [] shelf shelf
+none_held shelf = told_same shelf.files

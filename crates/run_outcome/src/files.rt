@@ -1,5 +1,5 @@
 // The files of a run, written one after another.
-ghost use Rattle.std.specs.Prelude.{List, [], ◌++◌};
+ghost use Rattle.std.specs.Prelude.{List, ◌++◌};
 ghost use Rattle.shelf_core.specs.Files.{OnlyWrites};
 ghost use Rattle.run_outcome.specs.Writing.{FileText, WritesFiles};
 
@@ -20,20 +20,6 @@ pub trait RunFiles {
         ensures wrote { WritesFiles (texts self.old)
             (S.state shelf.old) (S.state shelf.new) result }
         ensures writes { OnlyWrites (S.state shelf.old) (S.state shelf.new) };
-}
-
-/// No file.
-#[derive(Drop)]
-pub struct NoFiles;
-
-impl RunFiles for NoFiles {
-    ghost texts = { λ _. [] };
-
-    ghost AreReady = { λ _. Unit {0} };
-
-    fn write<S: Shelf>(&mut self, _shelf: &mut S) -> Result<(), FileOf> {
-        Ok(())
-    }
 }
 
 /// Some files, and then others.

@@ -12,5 +12,5 @@ mod files;
 mod write;
 
 pub use answer::{finish, read_fault};
-pub use files::{NoFiles, RunFiles, Then};
-pub use write::write_run;
+pub use files::{RunFiles, Then};
+pub use write::{report_run, write_run};

@@ -1,5 +1,6 @@
 // The second half of a command: its files are written, and then its report.
-ghost use Rattle.shelf_core.specs.Files.{OnlyWrites};
+ghost use Rattle.std.specs.Prelude.{[]};
+ghost use Rattle.shelf_core.specs.Files.{OnlyWrites, ShelfState};
 ghost use Rattle.run_outcome.specs.Writing.{WritesRun};
 
 use crate::files::RunFiles;
@@ -23,6 +24,15 @@ pub fn write_run<F: RunFiles, S: Shelf, O: Sink>(
         Ok(()) => {}
         Err(part) => return Err(Fault::Write(part)),
     }
+    report_run(summary, out)
+}
+
+/// Reports a run that writes no file. It takes no memory.
+pub fn report_run<O: Sink>(summary: Summary, out: &mut O) -> Result<Summary, Fault>
+    // Whatever the shelf holds, nothing of it changes.
+    ensures { (shelf : ShelfState) →
+        WritesRun [] summary shelf shelf (O.state out.old) (O.state out.new) result }
+{
     match report(&summary, out) {
         Ok(()) => Ok(summary),
         Err(_) => Err(Fault::Write(FileOf::Report)),

@@ -1,11 +1,7 @@
-use Rattle.std.proofs.Common.{inl, refl}
-use Rattle.run_outcome.proofs.WritingLaws.{in_part}
+use Rattle.run_outcome.proofs.WritingLaws.{reported}
 use Rattle.run_outcome.proofs.write.write_run.Goals as goal
 
-pub returns-in-Err-report-clause-wrote : goal.returns-in-Err-report-clause-wrote
-returns-in-Err-report-clause-wrote g c = inl (record {
-  is = refl;
-  whole = (c.in-Ok.ensures {u = tt}).wrote;
-  told = in_part c.args.summary _ _ c.report.ensures.says;
-  rose = (c.in-Err-report.ensures {u = tt}).failed;
-})
+pub returns-clause-wrote : goal.returns-clause-wrote
+returns-clause-wrote g c =
+    reported (g.F.RunFiles.texts c.args.files.now) c.args.summary (g.S.Shelf.state c.args.shelf.now) (g.S.Shelf.state c.write.new.shelf) (g.O.Sink.state c.args.out.now) (g.O.Sink.state c.report_run.new.out) c.report_run.result
+    (c.in-Ok.ensures {u = tt}).wrote (c.report_run.ensures (g.S.Shelf.state c.write.new.shelf))

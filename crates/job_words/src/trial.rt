@@ -1,0 +1,98 @@
+// The words of `trial`.
+ghost use Rattle.std.specs.Prelude.{◌≡◌, IfOk};
+ghost use Rattle.job_words.specs.Words as by;
+ghost use Rattle.job_words.specs.TrialWords.{HasTrialValues, IsTrialJob, trial_job_of, trial_of, trial_rows, trial_size};
+
+use crate::bounds::{
+    GREATEST_OVERLAP, GREATEST_SAMPLE_NUMBER, GREATEST_SEED, GREATEST_TOLERANCE, MOST_ROUNDS,
+};
+use crate::fields::{nth_at, number_at};
+use crate::grow::{Place, place_nth};
+use crate::job::WordFault;
+use crate::keys::Key;
+use crate::name::Name;
+use crate::read::all_settings;
+use crate::settings::Setting;
+use crate::table::{Choice, Kind, Need, Row, Texts, number_row};
+use cells::{GREATEST_AXIS, Size};
+use std::alloc::Global;
+
+/// Growing an output from a sample that is made of a number.
+#[derive(Drop)]
+pub struct TrialJob {
+    /// The number of the sample.
+    pub n: u32,
+    /// The output's size in cells: 1 to 4,096 columns and rows, and one frame.
+    pub size: Size,
+    pub place: Place,
+    /// How many cells a patch has on an axis, cut to the sample and the output: 1 to 4,096.
+    pub side: u32,
+    /// How many cells neighbouring patches share on an axis, cut to the patch: 0 to 4,095.
+    pub overlap: u32,
+    /// By how much more than the best a pick may differ, in hundredths: 0 to 1,000.
+    pub tol: u32,
+    /// The most rounds of refinement: 0 to 1,000.
+    pub rounds: u32,
+    /// The seed of the draws.
+    pub seed: u64,
+}
+
+const ROWS: [Row; 9] = [
+    number_row!(Width, 1, GREATEST_AXIS as u64, 256),
+    number_row!(Height, 1, GREATEST_AXIS as u64, 256),
+    number_row!(N, 0, GREATEST_SAMPLE_NUMBER as u64),
+    Row {
+        key: Key::Place,
+        kind: Kind::OneOf(Texts::Places),
+        need: Need::Default(Choice::Nth(3)),
+    },
+    number_row!(Side, 1, GREATEST_AXIS as u64, 32),
+    number_row!(Overlap, 0, GREATEST_OVERLAP as u64, 8),
+    number_row!(Tol, 0, GREATEST_TOLERANCE as u64, 10),
+    number_row!(Rounds, 0, MOST_ROUNDS as u64, 5),
+    number_row!(Seed, 0, GREATEST_SEED, 0),
+];
+
+fn rows() -> &'static [Row]
+    ensures { result.now ≡ trial_rows }
+{
+    &ROWS
+}
+
+// The output's size.
+fn size_at(settings: &[Setting]) -> Size
+    requires { HasTrialValues settings.now }
+    ensures { result ≡ trial_size settings.now }
+{
+    Size {
+        w: number_at(settings, Key::Width) as u32,
+        h: number_at(settings, Key::Height) as u32,
+        f: 1,
+    }
+}
+
+// The job of the values of all keys.
+fn job_of(settings: &[Setting]) -> TrialJob
+    requires { HasTrialValues settings.now }
+    ensures { result ≡ trial_of settings.now }
+{
+    TrialJob {
+        n: number_at(settings, Key::N) as u32,
+        size: size_at(settings),
+        place: place_nth(nth_at(settings, Key::Place)),
+        side: number_at(settings, Key::Side) as u32,
+        overlap: number_at(settings, Key::Overlap) as u32,
+        tol: number_at(settings, Key::Tol) as u32,
+        rounds: number_at(settings, Key::Rounds) as u32,
+        seed: number_at(settings, Key::Seed),
+    }
+}
+
+/// The job of the words after the command, or their first refusal.
+pub fn read_trial(alloc: Global, words: &[Name]) -> Result<TrialJob, WordFault>
+    ensures exact { by.AnswersAs (trial_job_of words.now) result }
+    ensures lawful { IfOk result IsTrialJob }
+{
+    let settings = all_settings(alloc, rows(), words)?;
+    Ok(job_of(&settings))
+}

@@ -17,7 +17,7 @@ use Rattle.samples.specs.Several.{StandForSamples, MayRefuseSamples, NoSampleRef
 use Rattle.samples.proofs.OneSample.{stands_alone}
 use Rattle.samples.proofs.Joined.{parts_alone, same_parts}
 
-length-numbered : (names : List (List ℕ)) (n : ℕ) → length (numbered_files n names) ≡ length names
+pub length-numbered : (names : List (List ℕ)) (n : ℕ) → length (numbered_files n names) ≡ length names
 length-numbered [] n = refl
 length-numbered (x ∷ names) n = ap suc (length-numbered names (suc n))
 
@@ -62,6 +62,6 @@ one_file first samples a = by (parts_of samples.volume) refl a.parts
     by : (parts : List Cells) → parts_of samples.volume ≡ parts → StandForParts samples.form first [] parts → StandsAs first samples.form samples.volume
     by [] is stand = absurd stand
     by (p ∷ []) is stand =
-        let same : samples.volume ≡ p = same_parts samples.volume p (is ∙ sym (parts_alone p (stands_alone first samples.form p stand.0))) in
+        let same : samples.volume ≡ p = same_parts samples.volume p (is ∙ sym (parts_alone p (stands_alone 8388608 first samples.form p stand.0))) in
         subst (StandsAs first samples.form) (sym same) stand.0
     by (p ∷ q ∷ parts) is stand = absurd stand.1

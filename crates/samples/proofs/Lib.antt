@@ -1,5 +1,7 @@
+pub mod Begins
 pub mod OneSample
 pub mod Joined
 pub mod OneAnswer
 pub mod Reading
 pub mod Commands
+pub mod Sound

@@ -14,7 +14,7 @@ use Rattle.run_outcome.specs.Faults.{ReaderRefuses}
 use Rattle.samples.specs.declared.form.Form.{Form}
 use Rattle.samples.specs.declared.sample.Sample.{Sample}
 use Rattle.samples.specs.declared.several.Samples.{Samples}
-use Rattle.samples.specs.declared.several.TheConstants.{MOST_SAMPLE_CELLS}
+use Rattle.samples.specs.declared.sample.TheConstants.{MOST_SAMPLE_CELLS}
 use Rattle.samples.specs.Samples.{StandsAs, IsSampleOf, RefusesSample, AreSoundIn, goes_with}
 
 -- The files of the samples: the first, and the further ones from number 2 on.

@@ -1,17 +1,28 @@
--- How one more sample is read and joined to those before it: the words of private functions.
-use Rattle.std.specs.Prelude.{◌≡◌, ◌⊎◌, ◌<◌, ◌+◌, ◌++◌, ℕ, true, false, List, [], ◌∷◌, Result, Ok, Err}
+-- How a sample is read by its first byte, and how one more is joined to those before it: the words
+-- of private functions.
+use Rattle.std.specs.Prelude.{◌≡◌, ◌⊎◌, ◌<◌, ◌+◌, ◌++◌, ℕ, Bool, true, false, List, [], ◌∷◌, Result, Ok, Err}
 use Rattle.cells.specs.Cells.{count_of, sizes_of}
 use Rattle.cells.specs.PartLists.{parts_of}
 use Rattle.shelf_core.specs.Files.{ShelfState, Changes, Rose, content_of}
+use Rattle.shelf_core.specs.declared.fault.ReadError.{ReadError}
 use Rattle.shelf_core.specs.declared.fault.What.TheVariants.{Cells as CellsLimit}
 use Rattle.synth_report.specs.declared.fault.FileOf.TheVariants as part
 use Rattle.synth_report.specs.declared.fault.Fault.{Fault}
 use Rattle.synth_report.specs.declared.fault.Fault.TheVariants.{Unlike, Limit, Read, NoMemory}
 use Rattle.samples.specs.declared.sample.Sample.{Sample}
 use Rattle.samples.specs.declared.several.Samples.{Samples}
-use Rattle.samples.specs.declared.several.TheConstants.{MOST_SAMPLE_CELLS}
-use Rattle.samples.specs.Samples.{IsSampleOf, goes_with}
+use Rattle.samples.specs.declared.sample.TheConstants.{MOST_SAMPLE_CELLS}
+use Rattle.run_outcome.specs.Faults.{FailsToRead}
+use Rattle.samples.specs.Samples.{IsSampleOf, IsSampleWithin, RefusesAs, goes_with}
 use Rattle.samples.specs.Several.{AreSoundSamples, MayRefuseSamples, RefusesNext}
+
+-- what a reader of a clip answers, or one of a picture
+abbrev pub ReadsInForm : Bool → ℕ → List ℕ → ShelfState → ShelfState → Result Sample ReadError
+    → Type 0
+ReadsInForm clip most name was now (Ok sample) =
+    Changes was now (λ before after. IsSampleWithin most (content_of before name) sample)
+ReadsInForm clip most name was now (Err error) =
+    FailsToRead (RefusesAs clip most) name was now error
 
 -- the sample goes with those before it, and is the last part after theirs
 pub record IsJoined (before : Samples) (sample : Sample) (after : Samples) : Type 0 where

@@ -2,7 +2,7 @@
 ghost use Rattle.std.specs.Prelude.{◌≡◌, ℕ, List};
 ghost use Rattle.synth_report.specs.declared.fault.Fault.{Fault};
 ghost use Rattle.samples.specs.declared.several.Samples.{Samples};
-ghost use Rattle.samples.specs.Several.{StandForSamples, RefusesSamples};
+ghost use Rattle.samples.specs.Several.{AreSoundSamples, StandForSamples, RefusesSamples};
 
 /// The bytes of sample files have one answer at most: they stand for samples of one form and volume, or
 /// they are refused for one fault once so many are read, and not both.
@@ -13,4 +13,11 @@ pub fn one_answer()
         RefusesSamples m first more one → RefusesSamples n first more other → one ≡ other }
     ensures not_both { (first : List ℕ) (more : List (List ℕ)) (samples : Samples) (n : ℕ)
         (fault : Fault) → StandForSamples first more samples → RefusesSamples n first more fault → ⊥ }
+{}
+
+/// What bytes of sample files stand for is sound: of one form, within the limits, and with no byte that the
+/// form doesn't allow.
+pub fn samples_are_sound()
+    ensures { (first : List ℕ) (more : List (List ℕ)) (samples : Samples) →
+        StandForSamples first more samples → AreSoundSamples samples }
 {}

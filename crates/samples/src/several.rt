@@ -8,16 +8,13 @@ ghost use Rattle.samples.specs.Several.{AreSoundSamples, SamplesReadAs};
 ghost use Rattle.samples.specs.Steps.{Joins, NextReadsAs};
 
 use crate::form::Form;
-use crate::sample::{Sample, read_sample};
+use crate::sample::{MOST_SAMPLE_CELLS, Sample, read_sample};
 use cells::Volume;
 use job_words::Name;
 use run_outcome::read_fault;
 use shelf_core::{Shelf, What};
 use std::alloc::Global;
 use synth_report::{Fault, FileOf};
-
-/// The most cells of the samples of a run together.
-pub const MOST_SAMPLE_CELLS: usize = 8_388_608;
 
 /// The samples of a run: the form of the first, and a volume whose parts are their volumes, in the
 /// order of their numbers.
@@ -42,15 +39,15 @@ fn join(samples: &mut Samples, sample: &Sample, number: u8) -> Result<(), Fault>
     requires few { length (sizes_of samples.old.volume) < MOST_PARTS }
     ensures { Joins number samples.old sample.now samples.new result }
 {
-    if !samples.form.goes_with(sample.form) {
+    if !samples.form.goes_with(&sample.form) {
         return Err(Fault::Unlike(FileOf::More(number)));
     }
-    let cells = cells_in(&samples.volume) + cells_in(&sample.volume);
+    let cells = (cells_in(&samples.volume) + cells_in(&sample.volume)) as u64;
     if cells > MOST_SAMPLE_CELLS {
         return Err(Fault::Limit {
             what: What::Cells,
-            number: cells as u64,
-            bound: MOST_SAMPLE_CELLS as u64,
+            number: cells,
+            bound: MOST_SAMPLE_CELLS,
         });
     }
     samples.volume.add_part(&sample.volume)?;

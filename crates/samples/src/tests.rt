@@ -10,6 +10,12 @@ const TWO_GREY: &[u8] = b"P6\n2 1\n255\n\x0a\x0a\x0a\x14\x14\x14";
 
 const THREE_COLOURS: &[u8] = b"P6\n1 3\n255\n\x01\x02\x03\x04\x05\x06\x07\x08\x09";
 
+const MONO: &[u8] = b"YUV4MPEG2 W2 H1 Cmono\nFRAME\n\x0a\x14FRAME\n\x1e\x28";
+
+const MONO_WITH_TAGS: &[u8] = b"YUV4MPEG2 W1 H1 F25:1 Cmono\nFRAME\n\x32";
+
+const OF_444: &[u8] = b"YUV4MPEG2 W1 H1 C444\nFRAME\n\x01\x02\x03";
+
 const OF_MAXVAL_15: &[u8] = b"P6\n1 1\n15\n\x01\x02\x03";
 
 // Reads the samples `s`, `t` and `u`.
@@ -35,6 +41,7 @@ fn read_three(alloc: Global, shelf: &mut MemShelf) -> Result<Result<Samples, Fau
             &job.names.sample,
             job.names.more.as_slice(),
         )),
+        Ok(_) => Err(Fail::from("another command")),
         Err(_) => Err(Fail::from("refused words")),
     }
 }
@@ -47,7 +54,7 @@ fn joined(rt: HostRuntime) -> Result<(), Fail> {
     shelf.put_file("t", THREE_COLOURS)?;
     shelf.put_file("u", TWO_GREY)?;
     let samples = read_three(alloc, &mut shelf)?.ok().ok_or("not read")?;
-    assert_eq!(rt; samples.form, Form::Picture { maxval: 255 });
+    assert!(rt; matches!(&samples.form, Form::Picture { maxval: 255 }));
     let sizes = samples.volume.sizes();
     assert_eq!(rt; sizes.len(), 3);
     let tall = Size { w: 1, h: 3, f: 1 };
@@ -63,6 +70,25 @@ fn joined(rt: HostRuntime) -> Result<(), Fail> {
 }
 
 #[test]
+fn clips_joined(rt: HostRuntime) -> Result<(), Fail> {
+    let alloc = rt.alloc();
+    let mut shelf = MemShelf::new(alloc);
+    shelf.put_file("s", MONO)?;
+    shelf.put_file("t", MONO_WITH_TAGS)?;
+    shelf.put_file("u", MONO)?;
+    let samples = read_three(alloc, &mut shelf)?.ok().ok_or("not read")?;
+    match &samples.form {
+        Form::Clip { form } => assert_eq!(rt; form.tags.as_slice().len(), 1),
+        Form::Picture { .. } => return Err(Fail::from("read as pictures")),
+    }
+    let long = Size { w: 2, h: 1, f: 2 };
+    assert_eq!(rt; samples.volume.sizes().at(3), long);
+    let last = samples.volume.cell(At { x: 1, y: 0, f: 6 });
+    assert_eq!(rt; last.ok_or("no cell")?, b"\x28".as_slice());
+    Ok(())
+}
+
+#[test]
 fn refusals(rt: HostRuntime) -> Result<(), Fail> {
     let alloc = rt.alloc();
     let broken: &[u8] = b"P6\n1 x";
@@ -71,10 +97,23 @@ fn refusals(rt: HostRuntime) -> Result<(), Fail> {
         file: second,
         why: FormFault::Form(5),
     };
-    let table: [(&[u8], &[u8], Fault); 3] = [
+    let no_clip = Fault::Form {
+        file: second,
+        why: FormFault::Form(1),
+    };
+    let nothing = Fault::Form {
+        file: second,
+        why: FormFault::Form(0),
+    };
+    let table: [(&[u8], &[u8], Fault); 8] = [
         (TWO_GREY, OF_MAXVAL_15, Fault::Unlike(second)),
         (OF_MAXVAL_15, TWO_GREY, Fault::Unlike(second)),
+        (TWO_GREY, MONO, Fault::Unlike(second)),
+        (OF_444, TWO_GREY, Fault::Unlike(second)),
+        (OF_444, MONO, Fault::Unlike(second)),
         (TWO_GREY, broken, form),
+        (MONO, b"Y", no_clip),
+        (MONO, b"", nothing),
     ];
     for (first, next, fault) in table {
         let mut shelf = MemShelf::new(alloc);

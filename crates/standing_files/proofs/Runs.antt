@@ -9,13 +9,23 @@ use Rattle.cells.specs.Places.{IsInside, cell_count, place_of, spot}
 use Rattle.cells.proofs.Raster.{has_index, place_at}
 use Rattle.map_canvas.specs.Maps.{SourceMap, IsFull, IsMap, empty_map, map_at}
 use Rattle.replay.specs.Replay.{EachStands, left_by}
+use Rattle.y4m_clip.specs.declared.form.SpaceKind.{SpaceKind}
+use Rattle.y4m_clip.specs.declared.form.SpaceKind.TheVariants.{Mono, C444, C422, C411, C420}
 use Rattle.samples.specs.declared.form.Form.{Form}
-use Rattle.samples.specs.declared.form.Form.TheVariants.{Picture}
-use Rattle.samples.specs.Samples.{goes_with}
+use Rattle.samples.specs.declared.form.Form.TheVariants.{Picture, Clip}
+use Rattle.samples.specs.Samples.{goes_with, same_space}
 use Rattle.standing_files.specs.Standing.{NamesSizes, RunStands}
+
+one_space : (space : SpaceKind) → same_space space space ≡ true
+one_space Mono = refl
+one_space C444 = refl
+one_space C422 = refl
+one_space C411 = refl
+one_space C420 = refl
 
 pub goes_with_itself : (form : Form) → goes_with form form ≡ true
 goes_with_itself (Picture maxval) = (Decides-eqb maxval maxval).1 refl
+goes_with_itself (Clip form) = one_space form.space
 
 -- each cell of a full map has a source
 record HasSource (m : SourceMap) (i : ℕ) : Type 0 where

@@ -61,8 +61,8 @@ abbrev pub AreKindsOfOneRun : MapFile → CertFile → Type 0
 AreKindsOfOneRun (CellMap m samples version) (Cuts head cuts) = Unit {0}
 AreKindsOfOneRun (Frames size sample frames) (Cuts head cuts) = ⊥
 
--- map file and record file name the sizes of the pictures, the out picture has the form of the
--- first sample, and the kinds go together
+-- map file and record file name the sizes of the pictures, the out picture's form goes with that of
+-- the first sample, and the kinds go together
 pub record GoTogether (samples : Samples) (out : Sample) (map_file : MapFile) (cert : CertFile)
     : Type 0 where
   pub map_sizes : NamesSizes (sizes_of samples.volume) (sizes_of out.volume)

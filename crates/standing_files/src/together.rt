@@ -80,6 +80,6 @@ pub(crate) fn go_together(
     let out_sizes = out.volume.sizes();
     map_names_sizes(map_file, &sizes, &out_sizes)
         && cert_names_sizes(cert, &sizes, &out_sizes)
-        && samples.form.goes_with(out.form)
+        && samples.form.goes_with(&out.form)
         && are_kinds_of_one_run(map_file, cert)
 }

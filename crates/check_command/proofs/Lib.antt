@@ -1,0 +1,4 @@
+pub mod Turns
+pub mod Values
+pub mod NotRead
+pub mod OneAnswer

@@ -1,0 +1,106 @@
+// The files of a run, read in their order.
+ghost use Rattle.std.specs.Prelude.{IfOk, IfErr};
+ghost use Rattle.shelf_core.specs.Files.{Changes, OnlyReads};
+ghost use Rattle.cert_file.specs.RecordFiles.{IsCert, IsCertOf, RefusesCert};
+ghost use Rattle.synth_report.specs.declared.fault.FileOf.TheVariants as part;
+ghost use Rattle.run_outcome.specs.Outcomes.{NotMade};
+ghost use Rattle.check_command.specs.Checks.{AreRunFiles, IsMap, IsOut, RefusesMap, RefusesOutBytes, check_command};
+ghost use Rattle.check_command.specs.Readings.{ReadsPart};
+
+use cert_file::{CertFile, read_cert};
+use job_words::{CheckJob, Name};
+use run_outcome::read_fault;
+use samples::{Sample, Samples, read_sample_within, read_samples};
+use shelf_core::Shelf;
+use source_map::{MapFile, read_map};
+use std::alloc::Global;
+use synth_report::{Fault, FileOf};
+
+/// The most cells of an out file that is a clip.
+pub const MOST_OUT_CELLS: u64 = 33_554_432;
+
+/// The files of a run, as they were read.
+#[derive(Drop)]
+pub struct RunFiles {
+    pub samples: Samples,
+    /// The picture.
+    pub out: Sample,
+    pub map: MapFile,
+    /// The record.
+    pub cert: CertFile,
+}
+
+// Reads the out file.
+fn read_out<S: Shelf>(alloc: Global, shelf: &mut S, name: &Name) -> Result<Sample, Fault>
+    ensures answer { ReadsPart IsOut RefusesOutBytes part.Out name.now
+        (S.state shelf.old) (S.state shelf.new) result }
+    ensures reads { OnlyReads (S.state shelf.old) (S.state shelf.new) }
+{
+    match read_sample_within(alloc, shelf, name.as_text(), MOST_OUT_CELLS) {
+        Ok(out) => Ok(out),
+        Err(error) => Err(read_fault(FileOf::Out, error)),
+    }
+}
+
+// Reads the map file.
+fn read_map_file<S: Shelf>(alloc: Global, shelf: &mut S, name: &Name) -> Result<MapFile, Fault>
+    ensures answer { ReadsPart IsMap RefusesMap part.Map name.now
+        (S.state shelf.old) (S.state shelf.new) result }
+    ensures reads { OnlyReads (S.state shelf.old) (S.state shelf.new) }
+{
+    match read_map(alloc, shelf, name.as_text()) {
+        Ok(map) => Ok(map),
+        Err(error) => Err(read_fault(FileOf::Map, error)),
+    }
+}
+
+// Reads the record file.
+fn read_record<S: Shelf>(alloc: Global, shelf: &mut S, name: &Name) -> Result<CertFile, Fault>
+    ensures answer { ReadsPart IsCertOf RefusesCert part.Cert name.now
+        (S.state shelf.old) (S.state shelf.new) result }
+    ensures form { IfOk result IsCert }
+    ensures reads { OnlyReads (S.state shelf.old) (S.state shelf.new) }
+{
+    match read_cert(alloc, shelf, name.as_text()) {
+        Ok(cert) => Ok(cert),
+        Err(error) => Err(read_fault(FileOf::Cert, error)),
+    }
+}
+
+/// Reads the samples in the order of their numbers, then the out file, the map and the record.
+pub(crate) fn read_files<S: Shelf>(
+    alloc: Global,
+    job: &CheckJob,
+    shelf: &mut S,
+) -> Result<RunFiles, Fault>
+    ensures read { IfOk result (λ values. Changes (S.state shelf.old) (S.state shelf.new)
+        (λ before after. AreRunFiles job.now.names before values)) }
+    ensures failed { IfErr result
+        (NotMade (check_command job.now) (S.state shelf.old) (S.state shelf.new)) }
+    ensures form { IfOk result (λ values. IsCert values.cert) }
+    ensures reads { OnlyReads (S.state shelf.old) (S.state shelf.new) }
+{
+    let names = &job.names;
+    let samples = match read_samples(alloc, shelf, &names.sample, names.more.as_slice()) {
+        Ok(samples) => samples,
+        Err(fault) => return Err(fault),
+    };
+    let out = match read_out(alloc, shelf, &names.out) {
+        Ok(out) => out,
+        Err(fault) => return Err(fault),
+    };
+    let map = match read_map_file(alloc, shelf, &names.map) {
+        Ok(map) => map,
+        Err(fault) => return Err(fault),
+    };
+    let cert = match read_record(alloc, shelf, &names.cert) {
+        Ok(cert) => cert,
+        Err(fault) => return Err(fault),
+    };
+    Ok(RunFiles {
+        samples,
+        out,
+        map,
+        cert,
+    })
+}

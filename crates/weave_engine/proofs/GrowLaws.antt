@@ -33,6 +33,7 @@ use Rattle.samples.proofs.OneAnswer.{not_both, one_value, refused_once}
 use Rattle.weave_engine.specs.declared.growth.Growth.{Growth}
 use Rattle.weave_engine.specs.Growths.{AreSamplesIn, IsWithinBounds, MakesGrowth, RecordsPass, RefusesGrowth, RefusesOutput, grow_command, head_over, plan_of, version_over}
 use Rattle.weave_engine.specs.Headlines.{IsGrownOutput, IsGrownRecord, IsGrownRun}
+use Rattle.weave_engine.proofs.Accepted.{accepted}
 
 pub small_output : (job : GrowJob) → IsGrowJob job → (form : Form) → IsWithinBounds job form → IsSmall job.size
 small_output job lawful form bounds = record { axes = lawful.axes; cells = omega (arith, bounds.cells) }
@@ -176,7 +177,12 @@ module _ (job : GrowJob) (lawful : IsGrowJob job) (before after : Files) (texts 
   }
 
   whole_run : IsGrownRun job before after
-  whole_run = record { output = output; records = records; others = stays }
+  whole_run = record {
+    output = output;
+    records = records;
+    accepted = accepted job lawful before after growth makes.grown output.out_file output.map_file records.file stays;
+    others = stays;
+  }
 
 pub grown_run : (job : GrowJob) → IsGrowJob job → (summary : Summary) (before after : Files) → WritesAll (grow_command job) summary before after → IsGrownRun job before after
 grown_run job lawful summary before after (texts, makes, wrote) = whole_run job lawful before after texts summary makes wrote

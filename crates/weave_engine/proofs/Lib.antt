@@ -1,6 +1,10 @@
+pub mod Clips
 pub mod Pictures
 pub mod Ready
+pub mod Accepted
 pub mod Growing
 pub mod GrowLaws
 pub mod OneOutputs
+pub mod Checked
+pub mod Trying
 pub mod Ending

@@ -17,8 +17,7 @@ use Rattle.map_canvas.specs.Canvases.{CanvasState, IsCanvas, StandsOver}
 use Rattle.map_canvas.specs.Choices.{Fits}
 use Rattle.map_canvas.specs.Maps.{IsFull, SourceMap}
 use Rattle.map_canvas.proofs.Pictures.{full_picture}
-use Rattle.source_map.specs.MapFiles.{IsInSamples, IsWritable}
-use Rattle.source_map.specs.Writing.{IsShortCoordinate}
+use Rattle.source_map.specs.MapFiles.{IsInSamples, IsShortCoordinate, IsWritable}
 use Rattle.source_map.specs.Heads.{AreSamples}
 use Rattle.cut_check.specs.declared.record.CutRecord.{CutRecord}
 use Rattle.replay.specs.Replay.{IsFormed, box_cells}
@@ -28,7 +27,7 @@ use Rattle.cert_file.specs.RecordFiles.{AreCutsInForm}
 use Rattle.job_words.specs.declared.grow.GrowJob.{GrowJob}
 use Rattle.job_words.specs.GrowWords.{IsGrowJob}
 use Rattle.samples.specs.declared.form.Form.{Form}
-use Rattle.samples.specs.declared.form.Form.TheVariants.{Picture}
+use Rattle.samples.specs.declared.form.Form.TheVariants.{Picture, Clip}
 use Rattle.samples.specs.Samples.{AreSoundIn, CanStandIn}
 use Rattle.weave_engine.specs.declared.growth.Growth.{Growth}
 use Rattle.weave_engine.specs.Growths.{IsMade, head_over, frames_allowed, version_for, version_over}
@@ -46,6 +45,12 @@ can_stand (Picture maxval) sample canvas volume sound full frames some is stands
   colours = stands.samples ∙ sound.colours;
   samples = subst (λ (v : Cells). All (λ b. b ≤ maxval) (bytes_of v)) (sym (full_picture canvas sample is stands full))
       (picture_bytes (λ b. b ≤ maxval) sample volume sound.samples canvas.map is.map full stands.over);
+}
+can_stand (Clip form) sample canvas volume sound full frames some is stands = record {
+  form_is = sound.is_form;
+  volume_is = is.picture;
+  one = is.part;
+  samples = stands.samples ∙ sound.samples;
 }
 
 pub picture_ready : (job : GrowJob) (growth : Growth) (picture : Cells) → picture ≡ growth.grown.canvas.picture → IsVolume growth.samples.volume → IsGrowJob job → IsMade job growth → CanStandIn growth.samples.form picture

@@ -1,9 +1,10 @@
 -- `grow` as a command: what it reads and refuses, what it makes, and the files that it writes. To
 -- be trusted: contracts cite these words. (Own.)
-use Rattle.std.specs.Prelude.{◌≡◌, ◌≤◌, ◌<◌, ◌⊎◌, ◌+◌, ◌-◌, ℕ, List, [], ◌∷◌, length, Result, Ok, Err}
+use Rattle.std.specs.Prelude.{◌≡◌, ◌≤◌, ◌<◌, ◌⊎◌, ◌+◌, ◌-◌, ℕ, List, [], ◌∷◌, length, All, Result, Ok, Err}
 use Rattle.cells.specs.declared.place.Size.{Size}
 use Rattle.cells.specs.Cells.{Cells, IsVolume, sizes_of}
 use Rattle.cells.specs.Places.{cell_count}
+use Rattle.cells.specs.declared.bounds.TheConstants.{GREATEST_AXIS}
 use Rattle.shelf_core.specs.Files.{Files, content_of}
 use Rattle.shelf_core.specs.declared.fault.What.TheVariants.{Frames, Output, Records as RecordsLimit}
 use Rattle.source_map.specs.MapFiles.{cell_map_form}
@@ -18,6 +19,7 @@ use Rattle.growing.specs.declared.plan.Plan.{Plan}
 use Rattle.growing.specs.declared.plan.GrowError.{GrowError}
 use Rattle.growing.specs.declared.plan.GrowError.TheVariants as error
 use Rattle.growing.specs.Grown.{IsGrown, PassesAt}
+use Rattle.cert_file.specs.CutForms.{HasShortFlows}
 use Rattle.cert_file.specs.RecordFiles.{cuts_form}
 use Rattle.job_words.specs.declared.grow.GrowJob.{GrowJob}
 use Rattle.job_words.specs.declared.grow.Place.{Place}
@@ -30,7 +32,7 @@ use Rattle.synth_report.specs.declared.summary.Summary.TheVariants.{Grow}
 use Rattle.run_outcome.specs.Commands.{Command, named}
 use Rattle.run_outcome.specs.Writing.{FileText, file_text, texts_in}
 use Rattle.samples.specs.declared.form.Form.{Form}
-use Rattle.samples.specs.declared.form.Form.TheVariants.{Picture}
+use Rattle.samples.specs.declared.form.Form.TheVariants.{Picture, Clip}
 use Rattle.samples.specs.declared.several.Samples.{Samples}
 use Rattle.samples.specs.Samples.{form_text}
 use Rattle.samples.specs.Several.{StandForSamples, AreSoundSamples, MayRefuseSamples, RefusesSamples, contents, sample_files}
@@ -61,6 +63,7 @@ plan_of job = record {
 -- the most frames of an output in this form
 abbrev pub frames_allowed : Form → ℕ
 frames_allowed (Picture maxval) = 1
+frames_allowed (Clip form) = GREATEST_AXIS
 
 -- the output has no more frames than its form allows, and no more cells than an output may have
 pub record IsWithinBounds (job : GrowJob) (form : Form) : Type 0 where
@@ -105,12 +108,13 @@ pub record AreSamplesIn (files : Files) (job : GrowJob) (samples : Samples) : Ty
       StandForSamples (content_of files job.names.sample) (contents files job.names.more) samples
   pub volume : IsVolume samples.volume
 
--- the samples that the files stand for, the output that is grown and refined over them, and the
--- total cost of its seams
+-- the samples that the files stand for, the output that is grown and refined over them, with flows
+-- of 16 bits as their type has them, and the total cost of its seams
 pub record IsGrowth (job : GrowJob) (files : Files) (growth : Growth) : Type 0 where
   pub samples : AreSamplesIn files job growth.samples
   pub bounds : IsWithinBounds job growth.samples.form
   pub grown : IsGrown (plan_of job) growth.samples.volume growth.grown
+  pub flows : All HasShortFlows growth.grown.cuts
   pub seams : growth.seams ≡ map_total growth.samples.volume growth.grown.canvas.map
 
 -- what the writers of the files of a growth ask for

@@ -1,10 +1,10 @@
 -- The headline of each command: what stands when it ends with status 0. To be trusted: contracts
 -- cite these words. (Own.)
-use Rattle.std.specs.Prelude.{◌≡◌, ◌≢◌, ℕ, List, Some, Ok}
+use Rattle.std.specs.Prelude.{◌≡◌, ◌≢◌, ◌⊎◌, ℕ, List, Some, Ok}
 use Rattle.std.specs.FinMap as fin
 use Rattle.cells.specs.declared.place.At.{At}
 use Rattle.cells.specs.Cells.{Cells, IsOnePart, IsVolume, cell_at, sizes_of}
-use Rattle.shelf_core.specs.Files.{Files, ShelfState, Changes, content_of}
+use Rattle.shelf_core.specs.Files.{Files, ShelfState, SinkState, Changes, content_of}
 use Rattle.map_canvas.specs.Maps.{SourceMap, IsFull, IsMap, IsOver, empty_map, map_at, picture_of}
 use Rattle.source_map.specs.MapFiles.{cell_map_form}
 use Rattle.patch_place.specs.Draws.{DrawState}
@@ -13,11 +13,19 @@ use Rattle.replay.specs.Replay.{EachLeast, EachOver, EachStands, KeepsFixed, lef
 use Rattle.growing.specs.Grown.{IsDone, IsRun}
 use Rattle.cert_file.specs.RecordFiles.{cuts_form}
 use Rattle.job_words.specs.declared.grow.GrowJob.{GrowJob}
-use Rattle.job_words.specs.declared.job.Job.TheVariants.{Grow}
+use Rattle.job_words.specs.declared.check.CheckJob.{CheckJob}
+use Rattle.job_words.specs.declared.trial.TrialJob.{TrialJob}
+use Rattle.job_words.specs.declared.job.Job.TheVariants.{Grow, Check, Trial}
 use Rattle.job_words.specs.Jobs.{job_of}
+use Rattle.synth_report.specs.declared.summary.Summary.{Summary}
+use Rattle.synth_report.specs.declared.summary.Summary.TheVariants.{Fails}
+use Rattle.run_outcome.specs.Promises.{Asks, TellsFiles}
+use Rattle.run_outcome.specs.Writing.{Reported}
 use Rattle.samples.specs.declared.several.Samples.{Samples}
 use Rattle.samples.specs.Samples.{form_text}
 use Rattle.samples.specs.Several.{contents}
+use Rattle.check_command.specs.Checks.{Break, Stand}
+use Rattle.weave_engine.specs.Trials.{IsTrialOf}
 use Rattle.weave_engine.specs.Growths.{AreSamplesIn, head_over, plan_of, version_over}
 
 -- the sample files stand for samples. The map file has the form of a map of the asked size, which
@@ -62,10 +70,12 @@ pub record IsGrownRecord (job : GrowJob) (output : Samples) (map : SourceMap) (t
   pub least : EachLeast output.volume (empty_map job.size) cuts
   pub keep : EachOver KeepsFixed (empty_map job.size) cuts
 
--- both, and all files but the three that are written are as before
+-- both; samples, out file, map file and record file stand, which is what `check` tries; and all files
+-- but the three that are written are as before
 pub record IsGrownRun (job : GrowJob) (before after : Files) : Type 0 where
   pub output : IsGrownOutput job before after
   pub records : IsGrownRecord job output.samples output.map (content_of after job.names.cert)
+  pub accepted : Stand job.names after
   pub others : (name : List ℕ)
       → name ≢ job.names.out → name ≢ job.names.map → name ≢ job.names.cert
       → fin.get after name ≡ fin.get before name
@@ -94,3 +104,33 @@ OneOutput words was now status =
     → Changes was now (λ before after.
     (earlier later : Files) → HaveSameSamples job earlier before → IsGrownRun job earlier later
     → HaveSameOutput job later after)
+
+-- `check` ends with status 0 where the files stand, and with status 1 where they are in their forms
+-- and within their limits and don't, and out has the first rule that they break; each yields to
+-- failures of reads and writes and to want of memory. No file is changed
+pub record CheckHeadline (words : List (List ℕ)) (was now : ShelfState) (out out' : SinkState)
+    (status : ℕ) : Type 0 where
+  pub stand : (job : CheckJob) → Asks words (Check job) → status ≡ 0
+      → Changes was now (λ before after. (after ≡ before) × Stand job.names before)
+  pub break : (job : CheckJob) → Asks words (Check job) → status ≡ 1
+      → (number : ℕ) × (rule : ℕ) × (place : ℕ)
+      × Changes was now (λ before after.
+      (after ≡ before) × Break job.names before number rule place)
+      × Reported (Fails number rule place) out out'
+  pub where_they_stand : (job : CheckJob) (files : Files) → Asks words (Check job)
+      → TellsFiles was now files → Stand job.names files
+      → (status ≡ 0) ⊎ (status ≡ 5) ⊎ (status ≡ 6) ⊎ (status ≡ 7)
+  pub where_they_break : (job : CheckJob) (files : Files) (number rule place : ℕ)
+      → Asks words (Check job) → TellsFiles was now files
+      → Break job.names files number rule place
+      → (status ≡ 1) ⊎ (status ≡ 5) ⊎ (status ≡ 6) ⊎ (status ≡ 7)
+
+-- whenever `trial` ends with status 0, no file is changed, and the report is that of what is grown,
+-- each record of which stands; there is one such report, whichever run it is told of
+pub record TrialHeadline (words : List (List ℕ)) (was now : ShelfState) (out out' : SinkState)
+    (status : ℕ) : Type 0 where
+  pub told : (job : TrialJob) → Asks words (Trial job) → status ≡ 0
+      → (summary : Summary) × IsTrialOf job summary × Reported summary out out'
+      × Changes was now (λ before after. after ≡ before)
+  pub one : (job : TrialJob) (summary : Summary) → Asks words (Trial job) → status ≡ 0
+      → IsTrialOf job summary → Reported summary out out'

@@ -1,3 +1,5 @@
+pub mod Outs
 pub mod Growths
+pub mod Trials
 pub mod Engine
 pub mod Headlines

@@ -3,9 +3,10 @@ ghost use Rattle.job_words.specs.Jobs.{IsJob};
 ghost use Rattle.run_outcome.specs.Outcomes.{Answers, Leaves, Runs};
 ghost use Rattle.run_outcome.specs.Promises.{DoneStatus, IsComplete, KeepsFiles, KeepsOthers, MemoryStatus, ReadStatus, RefusedStatus, WordsStatus, WriteStatus};
 ghost use Rattle.weave_engine.specs.Engine.{IsStatus, command_of};
-ghost use Rattle.weave_engine.specs.Headlines.{GrowHeadline, OneOutput};
+ghost use Rattle.weave_engine.specs.Headlines.{CheckHeadline, GrowHeadline, OneOutput, TrialHeadline};
 
-use crate::grow;
+use crate::{grow, trial};
+use check_command::check_files;
 use job_words::{Job, Words, read_job};
 use run_outcome::finish;
 use shelf_core::{Shelf, Sink};
@@ -25,6 +26,8 @@ fn run_job<S: Shelf, O: Sink>(
 {
     match job {
         Job::Grow(job) => grow(alloc, job, shelf, out),
+        Job::Check(job) => check_files(alloc, job, shelf, out),
+        Job::Trial(job) => trial(alloc, job, out),
     }
 }
 
@@ -62,7 +65,7 @@ fn run_whole<S: Shelf, O: Sink, E: Sink>(
 /// Does all that the program does: reads the words, runs the command that they ask for, which writes
 /// its files and its report to `out`, and says on `err` why it ended, if not well.
 ///
-/// The status is 0 where all is done, 2 where the words ask for no job, 3 where a file breaks its form,
+/// The status is 0 where all is done, 1 where files that are checked don't stand, 2 where the words ask for no job, 3 where a file breaks its form,
 /// 4 where a number passes its bound, 5 after a read and 6 after a write that failed, and 7 where
 /// memory ran out.
 pub fn run<S: Shelf, O: Sink, E: Sink>(
@@ -100,13 +103,24 @@ pub fn run<S: Shelf, O: Sink, E: Sink>(
         (O.state out.old) (O.state out.new) result }
     ensures other_files { KeepsOthers command_of words.now (S.state shelf.old) (S.state shelf.new) }
 
-    // With status 0 every output cell is the sample cell that the written map names; each placement
+    // With status 0 of `grow` every output cell is the sample cell that the written map names; each placement
     // of the written record keeps its fixed cells and has the least total cost of seams, old ones
-    // included, of all choices between old and new; and the record stands and replays to the map.
+    // included, of all choices between old and new; the record stands and replays to the map; and the
+    // files are such that `check` accepts them.
     ensures headline { GrowHeadline words.now (S.state shelf.old) (S.state shelf.new) result }
 
     // Out file and map are a function of the words and the sample files.
     ensures one_output { OneOutput words.now (S.state shelf.old) (S.state shelf.new) result }
+
+    // `check` answers 0 exactly where the files stand, and 1 exactly where they are in their forms and
+    // limits and don't, with the first rule that they break.
+    ensures checked { CheckHeadline words.now (S.state shelf.old) (S.state shelf.new)
+        (O.state out.old) (O.state out.new) result }
+
+    // With status 0 of `trial` the report is that of the run of the words over the sample of their
+    // number, of whose records each stands; there is one such report.
+    ensures tried { TrialHeadline words.now (S.state shelf.old) (S.state shelf.new)
+        (O.state out.old) (O.state out.new) result }
 {
     run_whole(alloc, words, shelf, out, err)
 }

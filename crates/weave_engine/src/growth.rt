@@ -1,14 +1,17 @@
 // The command that grows a texture from samples.
-ghost use Rattle.std.specs.Prelude.{◌≡◌, IfOk};
+ghost use Rattle.std.specs.Prelude.{◌≡◌, All, IfOk};
+ghost use Rattle.cells.specs.Places.{HasAxes, cell_count};
 ghost use Rattle.shelf_core.specs.Files.{OnlyReads, OnlyWrites};
+ghost use Rattle.cert_file.specs.CutForms.{HasShortFlows, IsShortFlow};
 ghost use Rattle.job_words.specs.GrowWords.{IsGrowJob};
 ghost use Rattle.run_outcome.specs.Outcomes.{Leaves, Plans};
 ghost use Rattle.run_outcome.specs.Writing.{WritesRun};
-ghost use Rattle.weave_engine.specs.Growths.{IsMade, SetAgainst, fault_of_growing, grow_command, growth_files, growth_summary, head_over, frames_allowed, plan_of, version_over};
+ghost use Rattle.weave_engine.specs.Outs.{HasWriter};
+ghost use Rattle.weave_engine.specs.Growths.{IsMade, SetAgainst, fault_of_growing, grow_command, growth_files, growth_summary, head_over, frames_allowed, mode_for, plan_of, version_over};
 
-use crate::files::{MapFile, OutFile, RecordFile};
-use cells::Volume;
-use cert_file::Head;
+use crate::files::{MapFile, OutFile, RecordFile, writer_for};
+use cells::{GREATEST_AXIS, Size, Volume};
+use cert_file::{CutRecord, Flow, Head};
 use growing::{GrowError, Grown, Plan, grow_canvas};
 use job_words::{GrowJob, Place};
 use patch_place::Mode;
@@ -20,9 +23,10 @@ use shelf_core::{Shelf, Sink, What};
 use source_map::Version;
 use std::alloc::Global;
 use synth_report::{Fault, Summary};
+use y4m_clip::ClipWriter;
 
 /// The greatest number of cells of an output.
-const MOST_OUTPUT_CELLS: usize = 1_048_576;
+pub(crate) const MOST_OUTPUT_CELLS: usize = 1_048_576;
 
 /// The samples that were read, the output grown and refined over them with its records, and what its
 /// seams cost in all.
@@ -33,25 +37,25 @@ pub struct Growth {
     pub seams: u64,
 }
 
+/// The mode of growing, by what the words ask for.
+pub(crate) fn mode_for(place: Place, side: u32, overlap: u32, tol: u32) -> Mode
+    ensures { result ≡ mode_for place side overlap tol }
+{
+    match place {
+        Place::Grid => Mode::Grid { overlap },
+        Place::Random => Mode::Random,
+        Place::Whole => Mode::Whole { tol },
+        Place::Sub => Mode::Sub { side, overlap, tol },
+    }
+}
+
 // How an output is grown and refined.
 fn plan_of(job: &GrowJob) -> Plan
     ensures { result ≡ plan_of job.now }
 {
-    let mode = match job.place {
-        Place::Grid => Mode::Grid {
-            overlap: job.overlap,
-        },
-        Place::Random => Mode::Random,
-        Place::Whole => Mode::Whole { tol: job.tol },
-        Place::Sub => Mode::Sub {
-            side: job.side,
-            overlap: job.overlap,
-            tol: job.tol,
-        },
-    };
     Plan {
         size: job.size,
-        mode,
+        mode: mode_for(job.place, job.side, job.overlap, job.tol),
         side: job.side,
         tol: job.tol,
         rounds: job.rounds,
@@ -60,18 +64,27 @@ fn plan_of(job: &GrowJob) -> Plan
 }
 
 // The most frames of an output in this form.
-fn frames_allowed(form: Form) -> u32
-    ensures { result ≡ frames_allowed form }
+fn frames_allowed(form: &Form) -> u32
+    ensures { result ≡ frames_allowed form.now }
 {
     match form {
         Form::Picture { .. } => 1,
+        Form::Clip { .. } => GREATEST_AXIS,
     }
 }
 
+// How many cells an output of a size has, also where they are too many for a volume.
+fn cells_of(size: Size) -> u64
+    requires { HasAxes size }
+    ensures { result ≡ cell_count size }
+{
+    u64::from(size.w) * (u64::from(size.h) * u64::from(size.f))
+}
+
 // Sets a job against the form of its samples.
-fn set_against(job: &GrowJob, form: Form) -> Result<(), Fault>
+fn set_against(job: &GrowJob, form: &Form) -> Result<(), Fault>
     requires { IsGrowJob job.now }
-    ensures { SetAgainst job.now form result }
+    ensures { SetAgainst job.now form.now result }
 {
     let frames = frames_allowed(form);
     if job.size.f > frames {
@@ -81,19 +94,19 @@ fn set_against(job: &GrowJob, form: Form) -> Result<(), Fault>
             bound: u64::from(frames),
         });
     }
-    let cells = job.size.cells();
-    if cells > MOST_OUTPUT_CELLS {
+    let cells = cells_of(job.size);
+    if cells > MOST_OUTPUT_CELLS as u64 {
         return Err(Fault::Limit {
             what: What::Output,
-            number: cells as u64,
+            number: cells,
             bound: MOST_OUTPUT_CELLS as u64,
         });
     }
     Ok(())
 }
 
-// What a run without an output is refused for.
-fn growing_fault(error: GrowError) -> Fault
+/// What a run without an output is refused for.
+pub(crate) fn growing_fault(error: GrowError) -> Fault
     ensures { result ≡ fault_of_growing error }
 {
     match error {
@@ -103,6 +116,31 @@ fn growing_fault(error: GrowError) -> Fault
             bound: MOST_BOX_CELLS,
         },
         GrowError::NoMemory => Fault::NoMemory,
+    }
+}
+
+// A flow is two numbers of 16 bits, by its type. It is read only to show that to the check, and so are the
+// flows of records.
+fn flow_fits(flow: &Flow)
+    ensures { IsShortFlow flow.now }
+{
+    let _x = flow.x;
+    let _y = flow.y;
+}
+
+fn flows_fit(flows: &[Flow])
+    ensures { All IsShortFlow flows.now }
+{
+    for flow in flows {
+        flow_fits(flow);
+    }
+}
+
+fn records_fit(cuts: &[CutRecord])
+    ensures { All HasShortFlows cuts.now }
+{
+    for cut in cuts {
+        flows_fit(cut.flows.as_slice());
     }
 }
 
@@ -120,7 +158,7 @@ fn plan<S: Shelf>(alloc: Global, job: &GrowJob, shelf: &mut S) -> Result<Growth,
     };
     // It is asked for only to show the check that the samples are a volume.
     let _k = samples.volume.samples();
-    match set_against(job, samples.form) {
+    match set_against(job, &samples.form) {
         Ok(()) => {}
         Err(fault) => return Err(fault),
     }
@@ -128,6 +166,7 @@ fn plan<S: Shelf>(alloc: Global, job: &GrowJob, shelf: &mut S) -> Result<Growth,
         Ok(grown) => grown,
         Err(error) => return Err(growing_fault(error)),
     };
+    records_fit(grown.cuts.as_slice());
     let seams = total(&grown.canvas, &samples.volume);
     Ok(Growth {
         samples,
@@ -176,11 +215,13 @@ fn head_over(job: &GrowJob, volume: &Volume) -> Head
 fn write_growth<S: Shelf, O: Sink>(
     job: &GrowJob,
     growth: &Growth,
+    writer: Option<ClipWriter>,
     shelf: &mut S,
     out: &mut O,
 ) -> Result<Summary, Fault>
     requires job { IsGrowJob job.now }
     requires made { IsMade job.now growth.now }
+    requires writer { HasWriter growth.now.samples.form job.now.size writer }
     ensures wrote { WritesRun (growth_files job.now growth.now) (growth_summary job.now growth.now)
         (S.state shelf.old) (S.state shelf.new) (O.state out.old) (O.state out.new) result }
     ensures writes { OnlyWrites (S.state shelf.old) (S.state shelf.new) }
@@ -188,7 +229,8 @@ fn write_growth<S: Shelf, O: Sink>(
     let volume = &growth.samples.volume;
     let picture = OutFile {
         name: &job.names.out,
-        form: growth.samples.form,
+        form: &growth.samples.form,
+        writer,
         picture: growth.grown.canvas.picture(),
     };
     let map = MapFile {
@@ -220,5 +262,9 @@ pub fn grow<S: Shelf, O: Sink>(
         (S.state shelf.old) (S.state shelf.new) (O.state out.old) (O.state out.new) result }
 {
     let growth = plan(alloc, job, shelf)?;
-    write_growth(job, &growth, shelf, out)
+    let writer = match writer_for(alloc, &growth.samples.form, job.size) {
+        Ok(writer) => writer,
+        Err(_) => return Err(Fault::NoMemory),
+    };
+    write_growth(job, &growth, writer, shelf, out)
 }

@@ -2,14 +2,17 @@
 //!
 //! `run` promises what each status means and what the files hold after it, from the words to the bytes
 //! written. Each command is a value (`command_of` in specs/Engine.antt), over which the crate
-//! run_outcome has what any run leaves, and its promises. A command has a module of its own: `growth`
-//! the one that grows a texture. `files` has the files that commands write. README.md says what a new
-//! command brings.
+//! run_outcome has what any run leaves, and its promises. A command has a module or a crate of its own:
+//! `growth` has the one that grows a texture, `trials` the one that tries it on a sample of its own, and
+//! check_command the one that checks the files of a run. `files` has the files that commands write. README.md says what a new command brings.
 #![tactic(auto)]
 
 mod engine;
 mod files;
 mod growth;
+mod trials;
 
+pub use check_command::check_files;
 pub use engine::run;
 pub use growth::{Growth, grow};
+pub use trials::trial;

@@ -1,7 +1,7 @@
 use Rattle.run_outcome.proofs.Promising.{complete_promise, done_promise, keeps_promise, memory_promise, others_promise, read_promise, refused_promise, words_promise, write_promise}
 use Rattle.run_outcome.proofs.Views.{form_number, limit_number, loop_number}
 use Rattle.weave_engine.specs.Engine.{command_of}
-use Rattle.weave_engine.proofs.Ending.{grow_headline, grow_once, known_status, one_answer}
+use Rattle.weave_engine.proofs.Ending.{check_headline, grow_headline, grow_once, known_status, one_answer, trial_headline}
 use Rattle.weave_engine.proofs.engine.run.Goals as goal
 
 pub returns-clause-status_done : goal.returns-clause-status_done
@@ -59,3 +59,11 @@ returns-clause-headline g c =
 pub returns-clause-one_output : goal.returns-clause-one_output
 returns-clause-one_output g c =
     grow_once c.args.words.now (g.S.Shelf.state c.args.shelf.now) (g.S.Shelf.state c.run_whole.new.shelf) (g.O.Sink.state c.args.out.now) (g.O.Sink.state c.run_whole.new.out) (g.E.Sink.state c.args.err.now) (g.E.Sink.state c.run_whole.new.err) c.run_whole.result c.run_whole.ensures
+
+pub returns-clause-checked : goal.returns-clause-checked
+returns-clause-checked g c =
+    check_headline c.args.words.now (g.S.Shelf.state c.args.shelf.now) (g.S.Shelf.state c.run_whole.new.shelf) (g.O.Sink.state c.args.out.now) (g.O.Sink.state c.run_whole.new.out) (g.E.Sink.state c.args.err.now) (g.E.Sink.state c.run_whole.new.err) c.run_whole.result c.run_whole.ensures
+
+pub returns-clause-tried : goal.returns-clause-tried
+returns-clause-tried g c =
+    trial_headline c.args.words.now (g.S.Shelf.state c.args.shelf.now) (g.S.Shelf.state c.run_whole.new.shelf) (g.O.Sink.state c.args.out.now) (g.O.Sink.state c.run_whole.new.out) (g.E.Sink.state c.args.err.now) (g.E.Sink.state c.run_whole.new.err) c.run_whole.result c.run_whole.ensures

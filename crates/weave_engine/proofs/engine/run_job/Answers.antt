@@ -1,5 +1,16 @@
-use Rattle.weave_engine.proofs.Ending.{left_by_grow}
+use Rattle.std.proofs.Common.{subst, sym}
+use Rattle.run_outcome.specs.Outcomes.{Leaves}
+use Rattle.weave_engine.specs.Engine.{command_of}
 use Rattle.weave_engine.proofs.engine.run_job.Goals as goal
 
-pub returns : goal.returns
-returns g c = left_by_grow c.args.job.now _ (g.S.Shelf.state c.args.shelf.now) (g.S.Shelf.state c.grow.new.shelf) (g.O.Sink.state c.args.out.now) (g.O.Sink.state c.grow.new.out) c.grow.result c.grow.ensures
+pub returns-in-Grow : goal.returns-in-Grow
+returns-in-Grow g c =
+    subst (λ job. Leaves (command_of job) (g.S.Shelf.state c.args.shelf.now) (g.S.Shelf.state c.grow.new.shelf) (g.O.Sink.state c.args.out.now) (g.O.Sink.state c.grow.new.out) c.grow.result) (sym c.in-Grow.is) c.grow.ensures
+
+pub returns-in-Check : goal.returns-in-Check
+returns-in-Check g c =
+    subst (λ job. Leaves (command_of job) (g.S.Shelf.state c.args.shelf.now) (g.S.Shelf.state c.check_files.new.shelf) (g.O.Sink.state c.args.out.now) (g.O.Sink.state c.check_files.new.out) c.check_files.result) (sym c.in-Check.is) c.check_files.ensures
+
+pub returns-in-Trial : goal.returns-in-Trial
+returns-in-Trial g c =
+    subst (λ job. Leaves (command_of job) (g.S.Shelf.state c.args.shelf.now) (g.S.Shelf.state c.args.shelf.now) (g.O.Sink.state c.args.out.now) (g.O.Sink.state c.trial.new.out) c.trial.result) (sym c.in-Trial.is) (c.trial.ensures (g.S.Shelf.state c.args.shelf.now))

@@ -1,5 +1,6 @@
 use Rattle.std.proofs.Common.{subst, sym}
-use Rattle.std.specs.Prelude.{Err}
+use Rattle.std.specs.Prelude.{All, Err}
+use Rattle.cert_file.specs.CutForms.{HasShortFlows}
 use Rattle.shelf_core.specs.Files.{Changes, content_of}
 use Rattle.run_outcome.specs.Outcomes.{NotMade}
 use Rattle.samples.specs.Several.{StandForSamples, SamplesReadAs, contents}
@@ -48,4 +49,4 @@ returns-clause-planned g c =
     growth_made job a b c.read_samples.ensures.reads (record { samples = samples; grown = grown; seams = c.total-seams.result }) c.samples-k.ensures.volume
     (subst (λ more. Changes a b (λ before after. StandForSamples (content_of before job.names.sample) (contents before more) samples)) c.as_slice.ensures.names (c.in-Ok.ensures {u = tt}).answer)
     (c.in-Ok-set_against.ensures {u = tt})
-    (subst (λ plan. IsGrown plan samples.volume grown) c.plan_of.ensures (c.in-Ok-grow_canvas.ensures {u = tt})) c.total-seams.ensures
+    (subst (λ plan. IsGrown plan samples.volume grown) c.plan_of.ensures (c.in-Ok-grow_canvas.ensures {u = tt})) (subst (All HasShortFlows) c.as_slice-2.ensures c.records_fit.ensures) c.total-seams.ensures

@@ -1,10 +1,11 @@
-use Rattle.std.proofs.Common.{◌≡◌, List, [], ◌∷◌, subst, sym}
-use Rattle.cells.specs.Cells.{sizes_of}
+use Rattle.std.proofs.Common.{◌≡◌, ◌∙◌, List, [], ◌∷◌, ap, subst, sym}
+use Rattle.cells.specs.Cells.{Cells, sizes_of}
 use Rattle.source_map.specs.MapFiles.{IsWritable, cell_map_form}
 use Rattle.cert_file.specs.RecordFiles.{AreCutsInForm, cuts_form}
 use Rattle.synth_report.specs.declared.fault.FileOf.TheVariants as part
 use Rattle.run_outcome.specs.Writing.{FileText, WritesRun, file_text}
 use Rattle.samples.specs.Samples.{form_text}
+use Rattle.weave_engine.specs.Outs.{HasWriter}
 use Rattle.weave_engine.specs.Growths.{growth_files, growth_summary, head_over}
 use Rattle.weave_engine.proofs.Ready.{map_ready, picture_ready, record_ready}
 use Rattle.weave_engine.proofs.growth.write_growth.Goals as goal
@@ -18,7 +19,8 @@ write_run-requires g c =
     (subst (λ version. IsWritable c.map.result.now (sizes_of growth.samples.volume) version) (sym c.version_over.ensures) (map_ready job growth c.map.result.now c.map.ensures.map made.volume made)) in
     let record_file = subst (λ head. AreCutsInForm head c.as_slice.result.now) (sym c.head_over.ensures)
     (subst (λ cuts. AreCutsInForm (head_over job.size growth.samples.volume) cuts) (sym c.as_slice.ensures) (record_ready job growth made.volume c.requires.job made)) in
-    (picture_ready job growth c.picture.result.now c.picture.ensures.picture made.volume c.requires.job made, (map, record_file))
+    let size : c.picture.result.now.size ≡ job.size = ap (λ (v : Cells). v.size) c.picture.ensures.picture ∙ made.grown.canvas.size ∙ made.grown.size in
+    ((picture_ready job growth c.picture.result.now c.picture.ensures.picture made.volume c.requires.job made, subst (λ s. HasWriter growth.samples.form s c.args.writer) (sym size) c.requires.writer), (map, record_file))
 
 pub returns-clause-wrote : goal.returns-clause-wrote
 returns-clause-wrote g c =

@@ -1,0 +1,66 @@
+-- What `check` made of files, by its status.
+use Rattle.std.proofs.Common.{◌≡◌, ℕ, List, [], refl, sym, ap, ◌∙◌, subst, arith}
+use Rattle.shelf_core.specs.Files.{Files, ShelfState, SinkState, Changes}
+use Rattle.shelf_core.specs.Written.{written}
+use Rattle.shelf_core.proofs.FileLaws.{told_weaker}
+use Rattle.job_words.specs.declared.check.CheckJob.{CheckJob}
+use Rattle.synth_report.specs.declared.summary.Summary.{Summary}
+use Rattle.synth_report.specs.declared.summary.Summary.TheVariants as summary
+use Rattle.synth_report.specs.Texts.{summary_status}
+use Rattle.run_outcome.specs.Outcomes.{WritesAll}
+use Rattle.run_outcome.specs.Writing.{Reported}
+use Rattle.standing_files.specs.declared.verdict.Verdict.{Verdict}
+use Rattle.standing_files.specs.declared.verdict.Verdict.TheVariants.{Stands, Fails}
+use Rattle.standing_files.specs.Standing.{IsVerdict}
+use Rattle.check_command.specs.declared.reading.RunFiles.{RunFiles}
+use Rattle.check_command.specs.Checks.{AreRunFiles, Break, IsCheckSummary, MakesVerdict, Stand, check_command, summary_of}
+
+-- it writes no file
+unchanged : (job : CheckJob) (texts : List (List ℕ)) (before after : Files) → after ≡ written (Rattle.run_outcome.specs.Writing.pieces (check_command job).writes texts) before → after ≡ before
+unchanged job texts before after wrote = wrote
+
+module _ (job : CheckJob) (said : Summary) where
+  -- with status 0 the files stand
+  pub stood : summary_status said ≡ 0 → (before after : Files) → WritesAll (check_command job) said before after → (after ≡ before) × Stand job.names before
+  stood zero before after (texts, makes, wrote) = (unchanged job texts before after wrote, by makes.verdict makes.judged makes.summary_is)
+    where
+      by : (verdict : Verdict) → IsVerdict makes.values.samples makes.values.out makes.values.map makes.values.cert verdict → said ≡ summary_of verdict → Stand job.names before
+      by Stands judged is = record { values = makes.values; read = makes.read; stand = judged }
+      by (Fails number rule place) judged is = let one : summary_status said ≡ 1 = ap summary_status is in absurd (omega (arith, zero, one))
+
+  abbrev Broke : Files → Files → Verdict → Type 0
+  Broke before after (Fails number rule place) = (after ≡ before) × Break job.names before number rule place
+  Broke before after Stands = ⊥
+
+  -- with status 1 they break the rule that is said
+  pub broke : summary_status said ≡ 1 → IsCheckSummary said → (was now : ShelfState) (out out' : SinkState) → Changes was now (WritesAll (check_command job) said) → Reported said out out'
+      → (number : ℕ) × (rule : ℕ) × (place : ℕ) × Changes was now (λ before after. (after ≡ before) × Break job.names before number rule place) × Reported (summary.Fails number rule place) out out'
+  broke one (verdict, is) was now out out' files told = by verdict is
+    where
+      by : (verdict : Verdict) → said ≡ summary_of verdict → (number : ℕ) × (rule : ℕ) × (place : ℕ) × Changes was now (λ before after. (after ≡ before) × Break job.names before number rule place) × Reported (summary.Fails number rule place) out out'
+      by Stands is = let zero : summary_status said ≡ 0 = ap summary_status is in absurd (omega (arith, zero, one))
+      by (Fails number rule place) is = (number, rule, place, told_weaker (WritesAll (check_command job) said) (λ before after. (after ≡ before) × Break job.names before number rule place) was.files now.files files_broken files, subst (λ s. Reported s out out') is told)
+        where
+          judged_so : (before : Files) (values : RunFiles) → AreRunFiles job.names before values → (verdict : Verdict) → IsVerdict values.samples values.out values.map values.cert verdict → summary_of (Fails number rule place) ≡ summary_of verdict → Break job.names before number rule place
+          judged_so before values read Stands judged same = absurd (cc)
+          judged_so before values read (Fails n r p) judged same =
+              let number_is : n ≡ number = cc in
+              let rule_is : r ≡ rule = cc in
+              let place_is : p ≡ place = cc in
+              record {
+                values = values;
+                read = read;
+                broken = subst (λ i. IsVerdict values.samples values.out values.map values.cert (Fails number rule i)) place_is
+                    (subst (λ i. IsVerdict values.samples values.out values.map values.cert (Fails number i p)) rule_is
+                    (subst (λ i. IsVerdict values.samples values.out values.map values.cert (Fails i r p)) number_is judged));
+              }
+
+          files_broken : (before after : Files) → WritesAll (check_command job) said before after → (after ≡ before) × Break job.names before number rule place
+          files_broken before after (texts, makes, wrote) = (unchanged job texts before after wrote, judged_so before makes.values makes.read makes.verdict makes.judged (sym is ∙ makes.summary_is))
+
+-- and where they do, this is made of them
+pub made_standing : (job : CheckJob) (files : Files) → Stand job.names files → MakesVerdict job.names files [] (summary_of Stands)
+made_standing job files s = record { values = s.values; read = s.read; verdict = Stands; judged = s.stand; texts_are = refl; summary_is = refl }
+
+pub made_breaking : (job : CheckJob) (files : Files) (number rule place : ℕ) → Break job.names files number rule place → MakesVerdict job.names files [] (summary_of (Fails number rule place))
+made_breaking job files number rule place b = record { values = b.values; read = b.read; verdict = Fails number rule place; judged = b.broken; texts_are = refl; summary_is = refl }

@@ -1,0 +1,112 @@
+// The command that grows an output from a sample that it makes of a number.
+ghost use Rattle.std.specs.Prelude.{◌≡◌, ◌≤◌, [], IfOk, IfErr};
+ghost use Rattle.cells.specs.Cells.{IsVolume};
+ghost use Rattle.cells.specs.Places.{cell_count};
+ghost use Rattle.shelf_core.specs.Files.{ShelfState};
+ghost use Rattle.growing.specs.Grown.{IsGrown};
+ghost use Rattle.job_words.specs.TrialWords.{IsTrialJob};
+ghost use Rattle.trial_sample.specs.TrialSamples.{trial_sample};
+ghost use Rattle.run_outcome.specs.Outcomes.{Leaves, Plans};
+ghost use Rattle.weave_engine.specs.declared.growth.TheConstants.{MOST_OUTPUT_CELLS};
+ghost use Rattle.weave_engine.specs.Trials.{IsTrialOf, NotTried, trial_command, trial_plan, trial_summary};
+
+use crate::growth::{MOST_OUTPUT_CELLS, growing_fault, mode_for};
+use cells::Volume;
+use growing::{Grown, Plan, grow_canvas};
+use job_words::TrialJob;
+use map_canvas::Canvas;
+use replay::replay_cuts;
+use run_outcome::report_run;
+use seams::total;
+use shelf_core::{Sink, What};
+use std::alloc::{AllocError, Global};
+use synth_report::{Fault, Summary};
+use trial_sample::trial_sample;
+
+// How the output is grown and refined.
+fn plan_of(job: &TrialJob) -> Plan
+    ensures { result ≡ trial_plan job.now }
+{
+    Plan {
+        size: job.size,
+        mode: mode_for(job.place, job.side, job.overlap, job.tol),
+        side: job.side,
+        tol: job.tol,
+        rounds: job.rounds,
+        seed: job.seed,
+    }
+}
+
+// Checks each record over the canvas that the records before it leave.
+fn check_records(alloc: Global, sample: &Volume, grown: &Grown) -> Result<(), AllocError>
+    requires { (plan : _) × IsGrown plan sample.now grown.now }
+{
+    let size = grown.canvas.map().size();
+    let mut canvas = Canvas::empty(alloc, size, sample.samples())?;
+    match replay_cuts(&mut canvas, sample, grown.cuts.as_slice()) {
+        Ok(()) => Ok(()),
+        Err(_) => unreachable!(),
+    }
+}
+
+// The summary of what was grown.
+fn summary_of(job: &TrialJob, sample: &Volume, grown: &Grown) -> Summary
+    requires sample { sample.now ≡ trial_sample job.now.n }
+    requires grown { IsGrown (trial_plan job.now) sample.now grown.now }
+    ensures { result ≡ trial_summary job.now grown.now }
+{
+    let rounds = grown.rounds;
+    Summary::Trial {
+        n: job.n,
+        size: job.size,
+        placements: grown.cuts.as_slice().len() as u64 - u64::from(rounds),
+        rounds: u64::from(rounds),
+        seams: total(&grown.canvas, sample),
+    }
+}
+
+// Grows the output, refines it, and checks its records.
+fn grown_from(alloc: Global, job: &TrialJob, sample: &Volume) -> Result<Summary, Fault>
+    requires job { IsTrialJob job.now }
+    requires within { cell_count job.now.size ≤ MOST_OUTPUT_CELLS }
+    requires sample { sample.now ≡ trial_sample job.now.n }
+    ensures made { IfOk result (IsTrialOf job.now) }
+    ensures failed { IfErr result (NotTried job.now) }
+{
+    let grown = match grow_canvas(alloc, &plan_of(job), sample) {
+        Ok(grown) => grown,
+        Err(error) => return Err(growing_fault(error)),
+    };
+    check_records(alloc, sample, &grown)?;
+    Ok(summary_of(job, sample, &grown))
+}
+
+// Makes the sample, and grows the output from it.
+fn plan(alloc: Global, job: &TrialJob) -> Result<Summary, Fault>
+    requires { IsTrialJob job.now }
+    ensures made { IfOk result (IsTrialOf job.now) }
+    ensures failed { IfErr result (NotTried job.now) }
+{
+    let cells = job.size.cells();
+    if cells > MOST_OUTPUT_CELLS {
+        return Err(Fault::Limit {
+            what: What::Output,
+            number: cells as u64,
+            bound: MOST_OUTPUT_CELLS as u64,
+        });
+    }
+    let sample = trial_sample(alloc, job.n)?;
+    grown_from(alloc, job, &sample)
+}
+
+/// Makes the sample of a number, grows an output from it and refines it, checks each record, and reports
+/// what came of it. It reads and writes no file.
+pub fn trial<O: Sink>(alloc: Global, job: &TrialJob, out: &mut O) -> Result<Summary, Fault>
+    requires { IsTrialJob job.now }
+    // Whatever the shelf holds, nothing of it changes.
+    ensures { (shelf : ShelfState) → Leaves (trial_command job.now)
+        shelf shelf (O.state out.old) (O.state out.new) result }
+{
+    let summary = plan(alloc, job)?;
+    report_run(summary, out)
+}

@@ -1,0 +1,150 @@
+// The cases, by their names.
+ghost use Rattle.cells.specs.Places.{IsSmall};
+ghost use Rattle.patch_place.specs.Fitting.{HasPatch};
+ghost use Rattle.bench.specs.Sizes.{IsGrowth};
+
+use crate::boundaries::least_boundaries;
+use crate::growths::{Growth, check_records, grow_often};
+use crate::loops::least_loops;
+use crate::networks::{solve_grids, solve_ladders};
+use patch_place::Mode;
+use std::alloc::{AllocError, Global};
+
+/// What is run.
+#[derive(Clone, Copy, Drop)]
+pub enum Case {
+    /// A little of everything.
+    Quick,
+    /// Growths of 512x512 cells, from 128x128 and 256x256, of mode `Sub`.
+    Sub,
+    SubWide,
+    /// The first of them with 100 rounds.
+    Rounds,
+    /// Mode `Sub` over a sample of 2048x2048, to 128x64.
+    SubGreat,
+    /// Mode `Whole`, from 128x128 to 512x512.
+    Whole,
+    /// Mode `Random`, from 256x256 to 1024x1024.
+    Random,
+    /// Mode `Grid`, from 128x128 to 1024x1024.
+    Grid,
+    /// The checks of all records of `Sub` and of `Random`.
+    Check,
+    CheckRandom,
+    /// The least loop of so many of 256 frames, with the tables of their distances.
+    Loop100,
+    Loop4095,
+    /// Least boundaries of strips of 64x5, 64x10 and 4096x100.
+    Boundary5,
+    Boundary10,
+    Boundary100,
+    /// Networks of a grid of pipes, and networks each of whose paths is longer than the one before.
+    NetworkGrid,
+    NetworkLadder,
+}
+
+/// The case of a name; of any other word it's that of no word.
+pub fn case_of(name: &str) -> Case {
+    match name {
+        "sub" => Case::Sub,
+        "sub-256" => Case::SubWide,
+        "rounds" => Case::Rounds,
+        "sub-2048" => Case::SubGreat,
+        "whole" => Case::Whole,
+        "random" => Case::Random,
+        "grid" => Case::Grid,
+        "check" => Case::Check,
+        "check-random" => Case::CheckRandom,
+        "loop-100" => Case::Loop100,
+        "loop-4095" => Case::Loop4095,
+        "boundary-5" => Case::Boundary5,
+        "boundary-10" => Case::Boundary10,
+        "boundary-100" => Case::Boundary100,
+        "network-grid" => Case::NetworkGrid,
+        "network-ladder" => Case::NetworkLadder,
+        _ => Case::Quick,
+    }
+}
+
+const SUB: Mode = Mode::Sub {
+    side: 32,
+    overlap: 8,
+    tol: 10,
+};
+
+// The growth of a mode, with no rounds.
+fn growth(sample: u32, output: u32, mode: Mode) -> Growth
+    requires sample { IsSmall (record { w = sample; h = sample; f = 1 }) }
+    requires output { IsSmall (record { w = output; h = output; f = 1 }) }
+    requires patch { HasPatch mode }
+    ensures { IsGrowth result }
+{
+    Growth {
+        sample,
+        w: output,
+        h: output,
+        mode,
+        rounds: 0,
+    }
+}
+
+// The growth of a case.
+fn growth_of(case: Case) -> Growth
+    ensures { IsGrowth result }
+{
+    match case {
+        Case::SubWide => growth(256, 512, SUB),
+        Case::Rounds => Growth {
+            sample: 128,
+            w: 512,
+            h: 512,
+            mode: SUB,
+            rounds: 100,
+        },
+        Case::SubGreat => Growth {
+            sample: 2048,
+            w: 128,
+            h: 64,
+            mode: SUB,
+            rounds: 0,
+        },
+        Case::Whole => growth(128, 512, Mode::Whole { tol: 10 }),
+        Case::Random | Case::CheckRandom => growth(256, 1024, Mode::Random),
+        Case::Grid => growth(128, 1024, Mode::Grid { overlap: 8 }),
+        _ => growth(128, 512, SUB),
+    }
+}
+
+// A little of everything.
+fn run_quick(alloc: Global) -> Result<u64, AllocError> {
+    let small = Growth {
+        sample: 40,
+        w: 72,
+        h: 48,
+        mode: SUB,
+        rounds: 3,
+    };
+    let grown = grow_often(alloc, &small, 1)?;
+    let checked = check_records(alloc, &small, 1)?;
+    let looped = least_loops(alloc, 12, 9, 1)?;
+    let bounded = least_boundaries(alloc, 16, 5, 1)?;
+    let solved = solve_grids(alloc, 8, 1)?;
+    let climbed = solve_ladders(alloc, 20, 1)?;
+    Ok(grown ^ checked ^ looped ^ bounded ^ solved ^ climbed)
+}
+
+/// Runs a case so often, and gives a number of what comes out.
+pub fn run_case(alloc: Global, case: Case, times: u32) -> Result<u64, AllocError> {
+    match case {
+        Case::Quick => run_quick(alloc),
+        Case::Check | Case::CheckRandom => check_records(alloc, &growth_of(case), times),
+        Case::Loop100 => least_loops(alloc, 256, 100, times),
+        Case::Loop4095 => least_loops(alloc, 256, 4095, times),
+        Case::Boundary5 => least_boundaries(alloc, 64, 5, times),
+        Case::Boundary10 => least_boundaries(alloc, 64, 10, times),
+        Case::Boundary100 => least_boundaries(alloc, 4096, 100, times),
+        Case::NetworkGrid => solve_grids(alloc, 128, times),
+        Case::NetworkLadder => solve_ladders(alloc, 2000, times),
+        _ => grow_often(alloc, &growth_of(case), times),
+    }
+}

@@ -1,0 +1,35 @@
+// Runs one case of a few that tell how fast the crates are, so that a run of it can be timed.
+//
+// Its first word is the name of the case, and its second how often the case is run, 1 where there is none. It
+// prints a number of what comes out, which is the same in each run. With no word it does a little of everything,
+// which the gate compares. examples/bench.sh times the cases.
+//
+// `samples` makes the samples, `growths` has the cases of growing, `loops` those of loops, `boundaries` those of
+// strips and `networks` those of maximum flow.
+#![tactic(auto)]
+
+mod boundaries;
+mod cases;
+mod growths;
+mod loops;
+mod networks;
+mod samples;
+
+use cases::{Case, case_of, run_case};
+use std::{env, io};
+
+fn main(rt: HostRuntime) -> io::Result<()> {
+    let alloc = rt.alloc();
+    let mut words = env::args(&rt)?.skip(1);
+    let mut case = Case::Quick;
+    let mut times = 1;
+    if let Some(word) = words.next() {
+        case = case_of(word.as_str());
+    }
+    if let Some(word) = words.next() {
+        times = word.as_str().parse::<u32>().unwrap_or(1);
+    }
+    let number = run_case(alloc, case, times)?;
+    println!(rt; "{number}")?;
+    Ok(())
+}

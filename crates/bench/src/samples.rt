@@ -1,0 +1,108 @@
+// Samples of lumps with a little noise on them, and numbers that look drawn.
+ghost use Rattle.std.specs.Prelude.{◌≡◌, ◌≤◌, IfOk};
+ghost use Rattle.cells.specs.Places.{IsSmall};
+ghost use Rattle.cells.specs.Cells.{IsOnePart};
+
+use cells::{Size, Volume};
+use std::alloc::{AllocError, Global};
+
+/// A number that looks drawn, for two others.
+pub fn mixed(a: u32, b: u32) -> u32 {
+    let mut x = a.wrapping_mul(2654435761) ^ b.wrapping_mul(2246822519);
+    x ^= x >> 15;
+    x = x.wrapping_mul(739982445);
+    x ^= x >> 12;
+    x = x.wrapping_mul(695872825);
+    x ^ (x >> 15)
+}
+
+// The height of a lump's corner, from 0 to 199.
+fn corner(x: u32, y: u32, channel: u32) -> u32
+    ensures { result ≤ 199 }
+{
+    mixed(x.wrapping_add(channel.wrapping_mul(77)), y) % 200
+}
+
+// Between two numbers, at so many eighths.
+fn between(a: u32, b: u32, eighths: u32) -> u32
+    requires a { a ≤ 199 }
+    requires b { b ≤ 199 }
+    ensures { result ≤ 199 }
+{
+    let sum = a
+        .wrapping_mul(8 - eighths % 8)
+        .wrapping_add(b.wrapping_mul(eighths % 8));
+    (sum / 8) % 200
+}
+
+// The byte of a channel of a cell.
+fn byte_at(x: u32, y: u32, channel: u32) -> u8 {
+    let top = between(
+        corner(x / 8, y / 8, channel),
+        corner((x / 8).wrapping_add(1), y / 8, channel),
+        x % 8,
+    );
+    let low = between(
+        corner(x / 8, (y / 8).wrapping_add(1), channel),
+        corner((x / 8).wrapping_add(1), (y / 8).wrapping_add(1), channel),
+        x % 8,
+    );
+    let noise = mixed(x.wrapping_mul(3).wrapping_add(channel), y) % 32;
+    (between(top, low, y % 8) + noise) as u8
+}
+
+// The volume of a size with 3 bytes a cell. The frames of a clip are lumps that move.
+fn volume_of(alloc: Global, size: Size) -> Result<Volume, AllocError>
+    requires small { IsSmall size }
+    ensures volume { IfOk result (λ v. IsOnePart v × (v.size ≡ size)) }
+{
+    let mut bytes = vec![in alloc; 0u8; 3 * size.cells()]?;
+    for i in 0..bytes.len() {
+        let cell = (i / 3) as u32;
+        let row = cell / size.w;
+        let moved = (row / size.h).wrapping_mul(3);
+        let x = (cell % size.w).wrapping_add(moved);
+        bytes[i] = byte_at(x, row % size.h, (i % 3) as u32);
+    }
+    Ok(Volume::from_bytes(size, 3, bytes))
+}
+
+/// A square picture of that side.
+pub fn sample_of(alloc: Global, side: u32) -> Result<Volume, AllocError>
+    requires { IsSmall (record { w = side; h = side; f = 1 }) }
+{
+    volume_of(
+        alloc,
+        Size {
+            w: side,
+            h: side,
+            f: 1,
+        },
+    )
+}
+
+/// A clip of so many frames of 32x32 cells.
+pub fn clip_of(alloc: Global, frames: u32) -> Result<Volume, AllocError>
+    requires some { 1 ≤ frames }
+    requires few { frames ≤ 256 }
+    ensures { IfOk result (λ clip. IsOnePart clip
+        × (clip.size ≡ record { w = 32; h = 32; f = frames })) }
+{
+    volume_of(
+        alloc,
+        Size {
+            w: 32,
+            h: 32,
+            f: frames,
+        },
+    )
+}
+
+/// A number of bytes.
+pub fn sum_of(bytes: &[u8]) -> u32 {
+    let mut sum = 0u32;
+    for byte in bytes {
+        sum = sum.wrapping_mul(31).wrapping_add(u32::from(*byte));
+    }
+    sum
+}

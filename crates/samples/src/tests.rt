@@ -81,8 +81,10 @@ fn clips_joined(rt: HostRuntime) -> Result<(), Fail> {
         Form::Clip { form } => assert_eq!(rt; form.tags.as_slice().len(), 1),
         Form::Picture { .. } => return Err(Fail::from("read as pictures")),
     }
+    let sizes = samples.volume.sizes();
+    assert_eq!(rt; sizes.len(), 3);
     let long = Size { w: 2, h: 1, f: 2 };
-    assert_eq!(rt; samples.volume.sizes().at(3), long);
+    assert_eq!(rt; sizes.at(3), long);
     let last = samples.volume.cell(At { x: 1, y: 0, f: 6 });
     assert_eq!(rt; last.ok_or("no cell")?, b"\x28".as_slice());
     Ok(())

@@ -5,8 +5,8 @@
 //! afterwards: the status, the line on `err`, and each file. What is expected is spelled by hand from
 //! the formats of the files and the texts of the faults. `stage` runs a line of words, `runs` has what
 //! the files hold after each status, `words` and `pictures` the refusals of words and of pictures,
-//! `several` runs over two samples, `clips` runs over clips, `sizes` the greatest sizes, `checks` the checking of files that stand,
-//! of files with other bytes and of files that are cut off, `trials` trials.
+//! `several` runs over two samples, `clips` runs over clips, `sizes` the greatest sizes, `checks` the
+//! checking of files, `trials` trials.
 #![tactic(auto)]
 
 #[cfg(test)]

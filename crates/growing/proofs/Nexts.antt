@@ -12,7 +12,7 @@ use Rattle.patch_place.specs.Steps.{draws_after}
 use Rattle.patch_place.proofs.OnePick.{one_next}
 use Rattle.cut_check.specs.declared.record.CutRecord.{CutRecord}
 use Rattle.refine_seams.proofs.OneRound.{none_idle, one_round}
-use Rattle.replay.proofs.Maps.{after_is_map}
+use Rattle.map_canvas.proofs.MapsAfter.{after_is_map}
 use Rattle.growing.specs.declared.plan.Plan.{Plan}
 use Rattle.growing.specs.Grown.{ComesNext, ComesNextFor, Growth, GrowsBy, IsDone}
 

@@ -11,3 +11,4 @@ pub mod Afters
 pub mod Unfilled
 pub mod Runs
 pub mod RunSteps
+pub mod MapsAfter

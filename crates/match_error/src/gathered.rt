@@ -145,11 +145,13 @@ impl FilledRuns {
 
     // The sum over a run.
     fn run_sum(&self, run: &FilledRun, sample: &Volume, placement: &Placement) -> u64
-        requires run { IsRunIn sample.now.k placement.now.rect (length self.now.bytes.items) run.now }
+        requires run { IsRunIn sample.now.k placement.now.rect
+            (length self.now.bytes.items) run.now }
         requires volume { IsVolume sample.now }
         requires some { HasCells placement.now.rect.size }
         requires sources { Holds sample.now placement.now.from placement.now.rect.size }
-        ensures sum { result ≡ run_error self.now.bytes.items sample.now placement.now.from run.now }
+        ensures sum { result
+            ≡ run_error self.now.bytes.items sample.now placement.now.from run.now }
     {
         let new = sample.row(placement.from.plus(run.step), run.w);
         ssd(&self.bytes[run.start..run.start + new.len()], new)

@@ -21,7 +21,7 @@ column_holds strip path row is lt = record {
   connected = λ before e. subst (λ n. AreNear (slice_index path before) (slice_index path n)) (sym e) (is.connected before (omega (arith, e)));
 }
 
-no_bad_column : (strip : ErrorTable) (path : List ℕ) (place : ℕ) → IsBoundary strip path → FirstBadColumn strip path place → ⊥
+pub no_bad_column : (strip : ErrorTable) (path : List ℕ) (place : ℕ) → IsBoundary strip path → FirstBadColumn strip path place → ⊥
 no_bad_column strip path place is bad = by bad.here
   where
     by : ((place < strip.rows) × ¬ (ColumnHolds strip path place)) ⊎ ((place ≡ strip.rows) × (strip.rows < length path)) → ⊥
@@ -33,7 +33,7 @@ no_boundary_fault strip boundary fault stands (inl bad) = no_bad_column strip bo
 no_boundary_fault strip boundary fault stands (inr (inl bad)) = bad.2.here (stands.sums bad.2.row bad.2.col bad.2.row_inside bad.2.col_inside)
 no_boundary_fault strip boundary fault stands (inr (inr bad)) = bad.4 stands.cost
 
-no_join_fault : (side : Side) (m : SourceMap) (sample : Cells) (placement : Placement) (boundary : Option BoundaryRecord) (fault : BlockFault) → JoinStands side m sample placement boundary → IsJoinFault side m sample placement boundary fault → ⊥
+pub no_join_fault : (side : Side) (m : SourceMap) (sample : Cells) (placement : Placement) (boundary : Option BoundaryRecord) (fault : BlockFault) → JoinStands side m sample placement boundary → IsJoinFault side m sample placement boundary fault → ⊥
 no_join_fault side m sample placement None fault stands broken = broken
 no_join_fault side m sample placement (Some it) fault stands broken = no_boundary_fault (strip_on side m sample placement (Some it)) it fault stands broken
 

@@ -1,6 +1,7 @@
 -- The record of a laid block stands, and its block fills its box.
 use Rattle.std.proofs.Common.{◌≡◌, ◌⊎◌, ℕ, ◌/◌, ◌%◌, ◌<◌, ◌≤◌, ap, sym, ◌∙◌, subst, arith}
-use Rattle.std.specs.Prelude.{Option, Some, None, pos}
+use Rattle.std.specs.Prelude.{IfOk, Option, Some, None, Result, Ok, Err, pos}
+use Rattle.std.specs.declared.alloc.AllocError.{AllocError}
 use Rattle.cells.specs.Boxes.{HasCells}
 use Rattle.cells.specs.Cells.{Cells}
 use Rattle.cells.specs.Places.{cell_count, plus, spot}
@@ -14,13 +15,13 @@ use Rattle.strip_boundary.specs.Records.{BoundaryStands}
 use Rattle.block_strips.specs.declared.plan.QuiltPlan.{QuiltPlan}
 use Rattle.block_strips.specs.declared.side.Side.{Side}
 use Rattle.block_strips.specs.declared.side.Side.TheVariants.{Left, Top}
-use Rattle.block_strips.specs.Blocks.{shared_cols}
+use Rattle.block_strips.specs.Blocks.{FitsBlock, shared_cols}
 use Rattle.block_strips.specs.Laid.{SharesStrips}
 use Rattle.block_strips.specs.Strips.{most_cols, strip_of, strip_rows}
 use Rattle.quilt.specs.declared.block.BlockRecord.{BlockRecord}
 use Rattle.quilt.specs.Blocks.{HasColumnsOn, IsFormed, cols_on, strip_cols}
 use Rattle.quilt.specs.Records.{BlockStands, JoinStands, OverlapsAt}
-use Rattle.quilt.specs.Runs.{JoinsBy, plan_strip}
+use Rattle.quilt.specs.Runs.{IsLaidBlock, JoinsBy, plan_strip}
 use Rattle.quilt.proofs.Columns.{cols_are, rows_some}
 
 -- the columns of a boundary are those of the strip that it goes through
@@ -86,3 +87,22 @@ module _ (plan : QuiltPlan) (m : SourceMap) (sample : Cells) (block : BlockRecor
     left = join_formed Left m sample block.placement _ has.fits.some block.left (omega (arith, has.shares.left)) has.left;
     top = join_formed Top m sample block.placement _ has.fits.some block.top (omega (arith, has.shares.top)) has.top;
   }
+
+-- the record of a placement whose box lies as the next block has it
+pub laid_joins : (plan : QuiltPlan) (m : SourceMap) (sample : Cells) (placement : Placement) (block : BlockRecord) → Fits m.size sample placement → FitsBlock m.size sample.size placement.rect
+    → SharesStrips plan sample m placement.rect → IsLaidBlock plan m sample placement block → HasJoins plan m sample block
+laid_joins plan m sample placement block fits box shares laid =
+    subst (λ there. (FitsBlock m.size sample.size there.rect → Fits m.size sample there → SharesStrips plan sample m there.rect → JoinsBy (plan_strip Left plan m sample there) block.left
+    → JoinsBy (plan_strip Top plan m sample there) block.top → HasJoins plan m sample block)) laid.placed
+    (λ box fits shares left top. record { fits = fits; first_frame = box.first_frame; one_frame = box.one_frame; shares = shares; left = left; top = top })
+    box fits shares laid.left laid.top
+
+-- so the record that is laid there, if there is one, has its columns and stands
+module _ (plan : QuiltPlan) (m : SourceMap) (sample : Cells) (placement : Placement) (fits : Fits m.size sample placement) (box : FitsBlock m.size sample.size placement.rect) (shares : SharesStrips plan sample m placement.rect) where
+  pub answer_formed : (answer : Result BlockRecord AllocError) → IfOk answer (IsLaidBlock plan m sample placement) → IfOk answer IsFormed
+  answer_formed (Ok block) laid = laid_formed plan m sample block (laid_joins plan m sample placement block fits box shares laid)
+  answer_formed (Err error) laid = tt
+
+  pub answer_stands : (answer : Result BlockRecord AllocError) → IfOk answer (IsLaidBlock plan m sample placement) → IfOk answer (BlockStands m sample)
+  answer_stands (Ok block) laid = laid_stands plan m sample block (laid_joins plan m sample placement block fits box shares laid)
+  answer_stands (Err error) laid = tt

@@ -1,9 +1,8 @@
-mod Columns
-mod Faults
-mod Filling
-mod Laying
-mod Maps
-mod OneQuilt
-mod Picking
-mod Runs
-mod Standing
+pub mod Columns
+pub mod Faults
+pub mod Filling
+pub mod Laying
+pub mod OneQuilt
+pub mod Picking
+pub mod Runs
+pub mod Standing

@@ -23,7 +23,7 @@ use Rattle.block_strips.specs.Blocks.{block_at, next_box}
 use Rattle.quilt.specs.declared.block.BlockRecord.{BlockRecord}
 use Rattle.quilt.specs.Blocks.{after_block, new_cells}
 use Rattle.quilt.specs.Runs.{JoinsBy, OneQuilt, QuiltsBy, QuiltsTo, Quilting, plan_strip}
-use Rattle.quilt.proofs.Maps.{after_is_map}
+use Rattle.map_canvas.proofs.MapsAfter.{after_is_map}
 
 -- through a strip there is one boundary, or none
 one_join : (strip : ErrorTable) (a b : Option BoundaryRecord) → JoinsBy strip a → JoinsBy strip b → a ≡ b
@@ -41,7 +41,7 @@ pub record IsSameStep (block other : BlockRecord) (after left : Quilting) : Type
   pub block_is : block ≡ other
   pub after_is : after ≡ left
 
-one_step : (plan : QuiltPlan) (sample : Cells) (before after left : Quilting) (block other : BlockRecord) → QuiltsBy plan sample before block after → QuiltsBy plan sample before other left → IsSameStep block other after left
+pub one_step : (plan : QuiltPlan) (sample : Cells) (before after left : Quilting) (block other : BlockRecord) → QuiltsBy plan sample before block after → QuiltsBy plan sample before other left → IsSameStep block other after left
 one_step plan sample before after left block other x y =
     let m = before.map in
     let rect : block.placement.rect ≡ other.placement.rect = same_Some _ _ (sym x.next ∙ y.next) in
@@ -58,7 +58,7 @@ one_step plan sample before after left block other x y =
     record { block_is = same; after_is = λ i. record { map = map i; draws = draws i } }
 
 -- over a full map there is no step
-no_box : (plan : QuiltPlan) (m : SourceMap) (sample : Cells) (rect : Box3) → IsMap m → IsFull m → next_box plan m sample ≡ Some rect → ⊥
+pub no_box : (plan : QuiltPlan) (m : SourceMap) (sample : Cells) (rect : Box3) → IsMap m → IsFull m → next_box plan m sample ≡ Some rect → ⊥
 no_box plan m sample rect is full next = none-some rect (sym (ap (option_map (block_at plan m.size sample.size)) (full_is_whole m is full)) ∙ next)
 
 pub record IsSameQuilt (blocks others : List BlockRecord) (after other : Quilting) : Type 0 where

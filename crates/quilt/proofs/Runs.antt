@@ -14,7 +14,7 @@ use Rattle.quilt.specs.Records.{BlockStands}
 use Rattle.quilt.specs.Runs.{EachStandingIsLeast, QuiltsBy, QuiltsReplay, QuiltsTo, Quilting, Replays}
 use Rattle.quilt.proofs.Filling.{fills_block}
 use Rattle.quilt.proofs.Laying.{HasJoins, laid_stands}
-use Rattle.quilt.proofs.Maps.{after_is_map}
+use Rattle.map_canvas.proofs.MapsAfter.{after_is_map}
 use Rattle.quilt.proofs.Standing.{standing_is_least}
 
 pub each_least : EachStandingIsLeast

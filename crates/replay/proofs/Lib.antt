@@ -1,4 +1,3 @@
-pub mod Maps
 pub mod RunLaws
 pub mod Standing
 pub mod Replaying

@@ -15,7 +15,7 @@ use Rattle.cut_check.specs.Records.{CutStands, setting}
 use Rattle.cut_check.proofs.Least.{stands_least_alone}
 use Rattle.cut_check.proofs.NoFault.{no_fault}
 use Rattle.replay.specs.Replay.{BrokenStandsNot, KeepsFixed, StandingFits, StandingIsLeast, StandingKeeps, StandingLeavesMap}
-use Rattle.replay.proofs.Maps.{after_is_map}
+use Rattle.map_canvas.proofs.MapsAfter.{after_is_map}
 use Rattle.replay.proofs.RunLaws.{each_at, each_weaker}
 
 pub each_least : StandingIsLeast

@@ -1,50 +1,10 @@
-use Rattle.std.proofs.Common.{◌≡◌, refl, ap, ◌∙◌, subst}
-use Rattle.map_canvas.specs.Maps.{SourceMap}
-use Rattle.block_strips.specs.declared.side.Side.TheVariants.{Left, Top}
-use Rattle.block_strips.specs.Blocks.{shared_cols}
-use Rattle.block_strips.specs.Strips.{strip_of}
-use Rattle.quilt.specs.Runs.{JoinsBy}
-use Rattle.quilt.proofs.Laying.{HasJoins, laid_stands}
+use Rattle.quilt.proofs.Laying.{answer_formed, answer_stands}
 use Rattle.quilt.proofs.lay.lay_block.Goals as goal
 
-pub returns-clause-block : goal.returns-clause-block
-returns-clause-block c =
-    let plan = c.args.plan.now in
-    let m = c.args.canvas.now.map in
-    let sample = c.args.sample.now in
-    let placement = c.args.placement.now in
-    let output : c.size-output.result ≡ m.size = c.size-output.ensures.size ∙ ap (λ (m : SourceMap). m.size) c.map.ensures.map in
-    let left : c.shared-left_cols.result ≡ shared_cols Left plan m.size sample.size placement.rect =
-    c.shared-left_cols.ensures ∙ (λ k. shared_cols Left plan (output k) (c.size-part.ensures.size k) placement.rect) in
-    let top : c.shared-top_cols.result ≡ shared_cols Top plan m.size sample.size placement.rect =
-    c.shared-top_cols.ensures ∙ (λ k. shared_cols Top plan (output k) (c.size-part.ensures.size k) placement.rect) in
-    let has : HasJoins plan m sample (record { placement = placement; left = c.in_ok-left.left; top = c.in_ok-top.top }) = record {
-      fits = c.requires.fits;
-      first_frame = c.next_block_shares_strips.ensures.fits.first_frame;
-      one_frame = c.next_block_shares_strips.ensures.fits.one_frame;
-      shares = c.next_block_shares_strips.ensures.strips;
-      left = subst (λ cols. JoinsBy (strip_of Left m sample placement cols) c.in_ok-left.left) left (c.in_ok-left.ensures {u = tt});
-      top = subst (λ cols. JoinsBy (strip_of Top m sample placement cols) c.in_ok-top.top) top (c.in_ok-top.ensures {u = tt});
-    } in
-    record { placed = refl; left = has.left; top = has.top }
+pub returns-clause-formed : goal.returns-clause-formed
+returns-clause-formed c =
+    answer_formed c.args.plan.now c.args.canvas.now.map c.args.sample.now c.args.placement.now c.requires.fits c.next_block_shares_strips.ensures.fits c.next_block_shares_strips.ensures.strips c.lay_sides.result c.lay_sides.ensures
 
 pub returns-clause-stands : goal.returns-clause-stands
 returns-clause-stands c =
-    let plan = c.args.plan.now in
-    let m = c.args.canvas.now.map in
-    let sample = c.args.sample.now in
-    let placement = c.args.placement.now in
-    let output : c.size-output.result ≡ m.size = c.size-output.ensures.size ∙ ap (λ (m : SourceMap). m.size) c.map.ensures.map in
-    let left : c.shared-left_cols.result ≡ shared_cols Left plan m.size sample.size placement.rect =
-    c.shared-left_cols.ensures ∙ (λ k. shared_cols Left plan (output k) (c.size-part.ensures.size k) placement.rect) in
-    let top : c.shared-top_cols.result ≡ shared_cols Top plan m.size sample.size placement.rect =
-    c.shared-top_cols.ensures ∙ (λ k. shared_cols Top plan (output k) (c.size-part.ensures.size k) placement.rect) in
-    let has : HasJoins plan m sample (record { placement = placement; left = c.in_ok-left.left; top = c.in_ok-top.top }) = record {
-      fits = c.requires.fits;
-      first_frame = c.next_block_shares_strips.ensures.fits.first_frame;
-      one_frame = c.next_block_shares_strips.ensures.fits.one_frame;
-      shares = c.next_block_shares_strips.ensures.strips;
-      left = subst (λ cols. JoinsBy (strip_of Left m sample placement cols) c.in_ok-left.left) left (c.in_ok-left.ensures {u = tt});
-      top = subst (λ cols. JoinsBy (strip_of Top m sample placement cols) c.in_ok-top.top) top (c.in_ok-top.ensures {u = tt});
-    } in
-    laid_stands plan m sample (record { placement = placement; left = c.in_ok-left.left; top = c.in_ok-top.top }) has
+    answer_stands c.args.plan.now c.args.canvas.now.map c.args.sample.now c.args.placement.now c.requires.fits c.next_block_shares_strips.ensures.fits c.next_block_shares_strips.ensures.strips c.lay_sides.result c.lay_sides.ensures

@@ -1,6 +1,6 @@
 -- The values of all keys of a table: each is of its kind, and no two keys have the same file name.
 use Rattle.std.proofs.Common.{◌≡◌, ◌≢◌, ℕ, ◌≤◌, List, [], ◌∷◌, ◌++◌, length, refl, sym, ap, ◌∙◌, subst, arith, Bool, true, false, cond, not, ◌&&◌, ◌||◌, eqb-true}
-use Rattle.std.specs.Prelude.{Option, Some, None, All, AllPairs, find, filter_map, is_none, option_map, nat_eq, nat_lt, Result, Ok, Err}
+use Rattle.std.specs.Prelude.{Option, Some, None, All, AllPairs, find, filter_map, is_none, map, option_map, nat_eq, nat_lt, Result, Ok, Err}
 use Rattle.std.specs.List.{list_any, cons_option}
 use Rattle.std.specs.Option.{option_or, IsSomeAnd}
 use Rattle.std.proofs.lemmas.Bool.Decides.{nat_tests}
@@ -24,7 +24,7 @@ use Rattle.job_words.specs.declared.settings.Setting.{Setting}
 use Rattle.job_words.specs.Keys.{same_key}
 use Rattle.job_words.specs.Tables.{IsOfKind, texts_of}
 use Rattle.job_words.specs.Words.{lies_within, is_among, IsNamed, and_then, value_at, settings_of, default_of, with_defaults, is_missing, is_needed, first_missing, unless_missing, complete, all_settings, text_in, text_of, number_in, IsGivenAs, HasAllValues}
-use Rattle.job_words.specs.Names.{AreNames, HasNames, more_keys, more_names, name_if_set, name_in, name_list, names_of, with_files}
+use Rattle.job_words.specs.Names.{AreNames, HasNames, more_keys, more_names, name_if_set, name_in, name_list, names_of, with_files, with_one_sample}
 use Rattle.job_words.proofs.Accepting.{both, one_of}
 use Rattle.job_words.proofs.Keyed.{value_at-append, key_exact, key_itself}
 use Rattle.job_words.proofs.Reading.{kind_of, HasKind, AreSettings, settings_of_words}
@@ -264,7 +264,21 @@ names_given rows all full = record {
   cert = is_named (value_at key.Cert all) (given_at (with_files rows) all full key.Cert);
 }
 
+-- and where they are the first of the table of a command with one sample
+pub names_given_of_one : (rows : List Row) (all : List Setting) → HasAllValues (with_one_sample rows) all → HasNames all
+names_given_of_one rows all full = record {
+  sample = is_named (value_at key.Sample all) (given_at (with_one_sample rows) all full key.Sample);
+  out = is_named (value_at key.Out all) (given_at (with_one_sample rows) all full key.Out);
+  map = is_named (value_at key.Map all) (given_at (with_one_sample rows) all full key.Map);
+  cert = is_named (value_at key.Cert all) (given_at (with_one_sample rows) all full key.Cert);
+}
+
 -- The file names of some keys.
+
+-- no key is one of the table
+abbrev pub are_unknown : List Row → List Key → Bool
+are_unknown rows [] = true
+are_unknown rows (key ∷ keys) = is_none (kind_of rows key) && are_unknown rows keys
 
 -- no two are the same key
 abbrev pub differ : List Key → Bool
@@ -334,17 +348,44 @@ module _ (rows : List Row) (all : List Setting) (sound : AreSound rows rows) (a 
   name_set (Some (Named name)) h = refl
   name_set (Some (Chosen choice)) h = absurd h
 
+  abbrev pub AreNamed : List Key → Type 0
+  AreNamed [] = Unit {0}
+  AreNamed (key ∷ keys) = IsNamed (value_at key all) × AreNamed keys
+
+  -- the names of keys of which each has one
+  pub names_set : (keys : List Key) → AreNamed keys → names_at keys ≡ map (λ k. text_of k all) keys
+  names_set [] named = refl
+  names_set (key ∷ keys) named =
+      ap (λ o. cons_option o (names_at keys)) (name_set (value_at key all) named.0)
+      ∙ ap (λ rest. text_of key all ∷ rest) (names_set keys named.1)
+
   -- the names of a run are those of their keys
   names_listed : HasNames all → names_at (key.Sample ∷ (more_keys ++ key.Out ∷ key.Map ∷ key.Cert ∷ [])) ≡ name_list (names_of all)
   names_listed has =
-      let set = λ (k : Key) (rest : List (List ℕ)) (named : IsNamed (value_at k all)). ap (λ o. cons_option o rest) (name_set (value_at k all) named) in
       let last : names_at (key.Out ∷ key.Map ∷ key.Cert ∷ []) ≡ text_of key.Out all ∷ text_of key.Map all ∷ text_of key.Cert all ∷ [] =
-      set key.Out (names_at (key.Map ∷ key.Cert ∷ [])) has.out
-      ∙ ap (λ rest. text_of key.Out all ∷ rest) (set key.Map (names_at (key.Cert ∷ [])) has.map)
-      ∙ ap (λ rest. text_of key.Out all ∷ text_of key.Map all ∷ rest) (set key.Cert [] has.cert) in
-      set key.Sample (names_at (more_keys ++ key.Out ∷ key.Map ∷ key.Cert ∷ [])) has.sample
+      names_set (key.Out ∷ key.Map ∷ key.Cert ∷ []) (has.out, (has.map, (has.cert, tt))) in
+      ap (λ o. cons_option o (names_at (more_keys ++ key.Out ∷ key.Map ∷ key.Cert ∷ []))) (name_set (value_at key.Sample all) has.sample)
       ∙ ap (λ rest. text_of key.Sample all ∷ rest)
       (filter_map-append (name_if_set all) more_keys (key.Out ∷ key.Map ∷ key.Cert ∷ []) ∙ ap (λ rest. more_names all ++ rest) last)
+
+  -- keys that aren't of the table have no names
+  unnamed : (keys : List Key) → are_unknown rows keys ≡ true → names_at keys ≡ []
+  unnamed [] e = refl
+  unnamed (key ∷ keys) e =
+      let test = parts (is_none (kind_of rows key)) (are_unknown rows keys) e in
+      by (value_at key all) refl test.0 (unnamed keys test.1)
+    where
+      no_kind : (o : Option Kind) (value : Value) → is_none o ≡ true → HasKind o value → ⊥
+      no_kind None value e h = h
+      no_kind (Some kind) value e h = absurd (cc)
+
+      by : (o : Option Value) → value_at key all ≡ o → is_none (kind_of rows key) ≡ true → names_at keys ≡ [] → cons_option (name_in o) (names_at keys) ≡ []
+      by None was unknown rest = rest
+      by (Some value) was unknown rest = absurd (no_kind (kind_of rows key) value unknown (of_kind rows all sound a key value was))
+
+  -- a table without the keys of further samples gives none of their names
+  pub none_further : are_unknown rows more_keys ≡ true → more_names all ≡ []
+  none_further e = unnamed more_keys e
 
   pub names_of_run : HasNames all → AreNames (name_list (names_of all))
   names_of_run has = subst AreNames (names_listed has) (are_names (key.Sample ∷ (more_keys ++ key.Out ∷ key.Map ∷ key.Cert ∷ [])) refl)

@@ -7,5 +7,9 @@ pub mod Counting
 pub mod Reading
 pub mod Full
 pub mod GrowLawful
+pub mod QuiltLawful
+pub mod LoopLawful
 pub mod CheckLawful
 pub mod TrialLawful
+pub mod UpgradeLawful
+pub mod Commands

@@ -4,6 +4,9 @@ pub mod Tables
 pub mod Words
 pub mod Names
 pub mod GrowWords
+pub mod QuiltWords
+pub mod LoopWords
 pub mod CheckWords
 pub mod TrialWords
+pub mod UpgradeWords
 pub mod Jobs

@@ -15,7 +15,12 @@ abbrev pub sample_rows : List Row
 sample_rows =
     map sample_row (2 ∷ 3 ∷ 4 ∷ 5 ∷ 6 ∷ 7 ∷ 8 ∷ 9 ∷ 10 ∷ 11 ∷ 12 ∷ 13 ∷ 14 ∷ 15 ∷ 16 ∷ [])
 
--- the rows of the files of a run, and then others
+-- the rows of the files of a run over one sample, and then others
+abbrev pub with_one_sample : List Row → List Row
+with_one_sample rows =
+    file_row key.Sample ∷ file_row key.Out ∷ file_row key.Map ∷ file_row key.Cert ∷ rows
+
+-- the rows of the files of a run over samples, and then others
 abbrev pub with_files : List Row → List Row
 with_files rows =
     file_row key.Sample

@@ -14,3 +14,9 @@ pub const GREATEST_SEED: u64 = 18446744073709551615;
 
 /// The greatest number of which a sample is made.
 pub const GREATEST_SAMPLE_NUMBER: u32 = 4294967295;
+
+/// The most frames of a loop.
+pub const LONGEST_LOOP: u32 = 4096;
+
+/// The greatest least distance, in frames, of the end of a loop's jump from the next frame.
+pub const WIDEST_GAP: u32 = 256;

@@ -10,7 +10,9 @@ use crate::keys::Key;
 use crate::name::Name;
 use crate::read::all_settings;
 use crate::settings::Setting;
-use crate::table::{Choice, Kind, Need, Row, Texts, file_row, number_row, sample_row, with_files};
+use crate::table::{
+    Choice, Kind, Need, Row, Texts, file_row, number_row, place_row, sample_row, with_files,
+};
 use cells::{GREATEST_AXIS, Size};
 use std::alloc::{AllocError, Global};
 
@@ -50,11 +52,7 @@ const ROWS: [Row; 28] = with_files![
     number_row!(Width, 1, GREATEST_AXIS as u64),
     number_row!(Height, 1, GREATEST_AXIS as u64),
     number_row!(Frames, 1, GREATEST_AXIS as u64, 1),
-    Row {
-        key: Key::Place,
-        kind: Kind::OneOf(Texts::Places),
-        need: Need::Default(Choice::Nth(3)),
-    },
+    place_row!(),
     number_row!(Side, 1, GREATEST_AXIS as u64, 32),
     number_row!(Overlap, 0, GREATEST_OVERLAP as u64, 8),
     number_row!(Tol, 0, GREATEST_TOLERANCE as u64, 10),

@@ -5,8 +5,11 @@ ghost use Rattle.job_words.specs.declared.job.WordFault.TheVariants as word;
 use crate::check::CheckJob;
 use crate::grow::GrowJob;
 use crate::keys::Key;
+use crate::loop_words::LoopJob;
 use crate::name::{Name, Names16};
+use crate::quilt::QuiltJob;
 use crate::trial::TrialJob;
+use crate::upgrade::UpgradeJob;
 use cells::Axis;
 use std::alloc::AllocError;
 
@@ -29,8 +32,11 @@ pub struct Names {
 #[derive(Drop)]
 pub enum Job {
     Grow(GrowJob),
+    Quilt(QuiltJob),
+    Loop(LoopJob),
     Check(CheckJob),
     Trial(TrialJob),
+    Upgrade(UpgradeJob),
 }
 
 /// Why words ask for no job. Words are counted from 1; the command is number 1.

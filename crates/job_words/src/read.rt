@@ -1,16 +1,19 @@
 // All words of a run, in the order in which their refusals are tried.
 ghost use Rattle.std.specs.Prelude.{◌≡◌, ◌⊎◌, ◌<◌, ◌++◌, ◌∷◌, [], Ok, Err, IfOk, IfErr, OnOk, length, option_copied};
 ghost use Rattle.job_words.specs.Words as by;
-ghost use Rattle.job_words.specs.Jobs.{IsJob, check_asked, grow_asked, job_of, trial_asked};
+ghost use Rattle.job_words.specs.Jobs.{IsJob, check_asked, grow_asked, job_of, loop_asked, quilt_asked, trial_asked, upgrade_asked};
 
 use crate::check::read_check;
 use crate::grow::read_grow;
 use crate::job::{Job, WordFault};
 use crate::keys::Key;
+use crate::loop_words::read_loop;
 use crate::name::{Name, Words};
+use crate::quilt::read_quilt;
 use crate::settings::{Setting, Value, read_setting, value_at};
 use crate::table::{Choice, Need, Row};
 use crate::trial::read_trial;
+use crate::upgrade::read_upgrade;
 use std::alloc::{AllocError, Global};
 
 fn add(settings: &mut Vec<Setting>, setting: Setting) -> Result<(), AllocError>
@@ -134,6 +137,22 @@ fn grow_asked(alloc: Global, words: &[Name]) -> Result<Job, WordFault>
     Ok(Job::Grow(read_grow(alloc, words)?))
 }
 
+// The job of the words after `quilt`.
+fn quilt_asked(alloc: Global, words: &[Name]) -> Result<Job, WordFault>
+    ensures exact { by.AnswersAs (quilt_asked words.now) result }
+    ensures lawful { IfOk result IsJob }
+{
+    Ok(Job::Quilt(read_quilt(alloc, words)?))
+}
+
+// The job of the words after `loop`.
+fn loop_asked(alloc: Global, words: &[Name]) -> Result<Job, WordFault>
+    ensures exact { by.AnswersAs (loop_asked words.now) result }
+    ensures lawful { IfOk result IsJob }
+{
+    Ok(Job::Loop(read_loop(alloc, words)?))
+}
+
 // The job of the words after `check`.
 fn check_asked(alloc: Global, words: &[Name]) -> Result<Job, WordFault>
     ensures exact { by.AnswersAs (check_asked words.now) result }
@@ -150,6 +169,14 @@ fn trial_asked(alloc: Global, words: &[Name]) -> Result<Job, WordFault>
     Ok(Job::Trial(read_trial(alloc, words)?))
 }
 
+// The job of the words after `upgrade`.
+fn upgrade_asked(alloc: Global, words: &[Name]) -> Result<Job, WordFault>
+    ensures exact { by.AnswersAs (upgrade_asked words.now) result }
+    ensures lawful { IfOk result IsJob }
+{
+    Ok(Job::Upgrade(read_upgrade(alloc, words)?))
+}
+
 /// The job that words ask for, or the first of their refusals: the command is tried first, then word
 /// by word, with all refusals of a word before the next word, and last the keys that no word sets.
 /// Only `NoMemory` may come at any place.
@@ -162,8 +189,11 @@ pub fn read_job(alloc: Global, words: &Words) -> Result<Job, WordFault>
     };
     match command.as_text() {
         "grow" => grow_asked(alloc, words),
+        "quilt" => quilt_asked(alloc, words),
+        "loop" => loop_asked(alloc, words),
         "check" => check_asked(alloc, words),
         "trial" => trial_asked(alloc, words),
+        "upgrade" => upgrade_asked(alloc, words),
         _ => Err(WordFault::UnknownCommand),
     }
 }

@@ -127,7 +127,31 @@ macro_rules! number_row {
     };
 }
 
-// The rows of the files of a run, and then others.
+// The row of the key that says how the places of patches are chosen: without a word by fitting patches.
+macro_rules! place_row {
+    () => {
+        Row {
+            key: Key::Place,
+            kind: Kind::OneOf(Texts::Places),
+            need: Need::Default(Choice::Nth(3)),
+        }
+    };
+}
+
+// The rows of the files of a run over one sample, and then others.
+macro_rules! with_one_sample {
+    ($($row:expr),* $(,)?) => {
+        [
+            file_row!(Sample),
+            file_row!(Out),
+            file_row!(Map),
+            file_row!(Cert),
+            $($row),*
+        ]
+    };
+}
+
+// The rows of the files of a run over samples, and then others.
 macro_rules! with_files {
     ($($row:expr),* $(,)?) => {
         [
@@ -157,5 +181,7 @@ macro_rules! with_files {
 
 pub(crate) use file_row;
 pub(crate) use number_row;
+pub(crate) use place_row;
 pub(crate) use sample_row;
 pub(crate) use with_files;
+pub(crate) use with_one_sample;

@@ -29,9 +29,9 @@ fn long_word(
 #[test]
 fn refusals(rt: HostRuntime) -> Result<(), Fail> {
     let alloc = rt.alloc();
-    let table: [(&[&str], WordFault); 37] = [
+    let table: [(&[&str], WordFault); 48] = [
         (&[], WordFault::NoCommand),
-        (&["quilt"], WordFault::UnknownCommand),
+        (&["merge"], WordFault::UnknownCommand),
         (&["grow "], WordFault::UnknownCommand),
         (&[""], WordFault::UnknownCommand),
         (&["grow"], WordFault::Missing(Key::Sample)),
@@ -82,6 +82,23 @@ fn refusals(rt: HostRuntime) -> Result<(), Fail> {
             &["grow", "record=d", "map=c", "sample=a", "out=b", "width=1"],
             WordFault::Missing(Key::Height),
         ),
+        (&["quilt", "sample2=b"], WordFault::UnknownKey(2)),
+        (&["quilt", "frames=1"], WordFault::UnknownKey(2)),
+        (&["quilt", "block=4097"], WordFault::OutOfRange(2)),
+        (&["loop", "taps=3"], WordFault::OutOfRange(2)),
+        (&["loop", "taps=two"], WordFault::BadValue(2)),
+        (&["loop", "gap=0"], WordFault::OutOfRange(2)),
+        (&["loop", "gap=257"], WordFault::OutOfRange(2)),
+        (
+            &["loop", "sample=a", "out=b", "map=c", "record=d"],
+            WordFault::Missing(Key::Length),
+        ),
+        (&["upgrade", "sample=a"], WordFault::UnknownKey(2)),
+        (&["upgrade", "newmap=m", "map=m"], WordFault::SameName(3)),
+        (
+            &["upgrade", "newrecord=d", "map=a", "record=b"],
+            WordFault::Missing(Key::NewMap),
+        ),
     ];
     for (words, fault) in table {
         assert_eq!(rt; read(alloc, words).err(), Some(fault), "of {words:?}");
@@ -103,7 +120,7 @@ fn long_numbers_out_of_range(rt: HostRuntime) -> Result<(), Fail> {
 fn job(alloc: Global, words: &[&str]) -> Result<GrowJob, WordFault> {
     match read(alloc, words)? {
         Job::Grow(job) => Ok(job),
-        Job::Check(_) | Job::Trial(_) => Err(WordFault::UnknownCommand),
+        _ => Err(WordFault::UnknownCommand),
     }
 }
 
@@ -180,5 +197,44 @@ fn all_keys(rt: HostRuntime) -> Result<(), Fail> {
         (whole.tol, whole.rounds, whole.seed),
         (1000, 1000, u64::MAX)
     );
+    Ok(())
+}
+
+#[test]
+fn defaults_of_quilts(rt: HostRuntime) -> Result<(), Fail> {
+    let words = [
+        "quilt", "sample=a", "height=2", "out=o", "map=m", "record=r", "width=3",
+    ];
+    let Ok(Job::Quilt(job)) = read(rt.alloc(), &words) else {
+        return Err(Fail::from("no quilt"));
+    };
+    assert_eq!(rt; job.names.more.as_slice().len(), 0);
+    assert_eq!(rt;
+        (job.names.map.as_text(), job.names.cert.as_text()),
+        ("m", "r")
+    );
+    assert_eq!(rt; (job.w, job.h, job.block, job.overlap), (3, 2, 32, 5));
+    assert_eq!(rt; (job.tol, job.seed), (10, 0));
+    Ok(())
+}
+
+#[test]
+fn defaults_of_loops(rt: HostRuntime) -> Result<(), Fail> {
+    let words = ["loop", "sample=a", "out=o", "map=m", "record=r", "length=7"];
+    let Ok(Job::Loop(job)) = read(rt.alloc(), &words) else {
+        return Err(Fail::from("no loop"));
+    };
+    assert_eq!(rt; (job.length, job.taps, job.gap), (7, Taps::Four, 1));
+    Ok(())
+}
+
+#[test]
+fn files_of_upgrades(rt: HostRuntime) -> Result<(), Fail> {
+    let words = ["upgrade", "newrecord=d", "newmap=c", "record=b", "map=a"];
+    let Ok(Job::Upgrade(job)) = read(rt.alloc(), &words) else {
+        return Err(Fail::from("no upgrade"));
+    };
+    assert_eq!(rt; (job.map.as_text(), job.cert.as_text()), ("a", "b"));
+    assert_eq!(rt; (job.new_map.as_text(), job.new_cert.as_text()), ("c", "d"));
     Ok(())
 }

@@ -13,11 +13,11 @@ use crate::keys::Key;
 use crate::name::Name;
 use crate::read::all_settings;
 use crate::settings::Setting;
-use crate::table::{Choice, Kind, Need, Row, Texts, number_row};
+use crate::table::{Choice, Kind, Need, Row, Texts, number_row, place_row};
 use cells::{GREATEST_AXIS, Size};
 use std::alloc::Global;
 
-/// Growing an output from a sample that is made of a number.
+/// Growing an output from a sample that is made of a number. What isn't told of here is as in `GrowJob`.
 #[derive(Drop)]
 pub struct TrialJob {
     /// The number of the sample.
@@ -25,15 +25,10 @@ pub struct TrialJob {
     /// The output's size in cells: 1 to 4,096 columns and rows, and one frame.
     pub size: Size,
     pub place: Place,
-    /// How many cells a patch has on an axis, cut to the sample and the output: 1 to 4,096.
     pub side: u32,
-    /// How many cells neighbouring patches share on an axis, cut to the patch: 0 to 4,095.
     pub overlap: u32,
-    /// By how much more than the best a pick may differ, in hundredths: 0 to 1,000.
     pub tol: u32,
-    /// The most rounds of refinement: 0 to 1,000.
     pub rounds: u32,
-    /// The seed of the draws.
     pub seed: u64,
 }
 
@@ -41,11 +36,7 @@ const ROWS: [Row; 9] = [
     number_row!(Width, 1, GREATEST_AXIS as u64, 256),
     number_row!(Height, 1, GREATEST_AXIS as u64, 256),
     number_row!(N, 0, GREATEST_SAMPLE_NUMBER as u64),
-    Row {
-        key: Key::Place,
-        kind: Kind::OneOf(Texts::Places),
-        need: Need::Default(Choice::Nth(3)),
-    },
+    place_row!(),
     number_row!(Side, 1, GREATEST_AXIS as u64, 32),
     number_row!(Overlap, 0, GREATEST_OVERLAP as u64, 8),
     number_row!(Tol, 0, GREATEST_TOLERANCE as u64, 10),

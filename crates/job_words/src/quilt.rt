@@ -1,0 +1,75 @@
+// The words of `quilt`.
+ghost use Rattle.std.specs.Prelude.{◌≡◌, IfOk};
+ghost use Rattle.job_words.specs.Words as by;
+ghost use Rattle.job_words.specs.QuiltWords.{HasQuiltValues, IsQuiltJob, quilt_job_of, quilt_of, quilt_rows};
+
+use crate::bounds::{GREATEST_OVERLAP, GREATEST_SEED, GREATEST_TOLERANCE};
+use crate::fields::{names_at, number_at};
+use crate::job::{Names, WordFault};
+use crate::keys::Key;
+use crate::name::Name;
+use crate::read::all_settings;
+use crate::settings::Setting;
+use crate::table::{Choice, Kind, Need, Row, file_row, number_row, with_one_sample};
+use cells::GREATEST_AXIS;
+use std::alloc::{AllocError, Global};
+
+/// Quilting an output from the blocks of one picture.
+#[derive(Drop)]
+pub struct QuiltJob {
+    /// The files: there is no further sample.
+    pub names: Names,
+    /// The output's columns of cells: 1 to 4,096.
+    pub w: u32,
+    /// The output's rows of cells: 1 to 4,096.
+    pub h: u32,
+    /// How many cells a block has on an axis, cut to the sample and the output: 1 to 4,096.
+    pub block: u32,
+    /// How many cells neighbouring blocks share on an axis, cut to the block: 0 to 4,095.
+    pub overlap: u32,
+    /// By how much more than the best a pick may differ, in hundredths: 0 to 1,000.
+    pub tol: u32,
+    /// The seed of the draws.
+    pub seed: u64,
+}
+
+const ROWS: [Row; 10] = with_one_sample![
+    number_row!(Width, 1, GREATEST_AXIS as u64),
+    number_row!(Height, 1, GREATEST_AXIS as u64),
+    number_row!(Block, 1, GREATEST_AXIS as u64, 32),
+    number_row!(Overlap, 0, GREATEST_OVERLAP as u64, 5),
+    number_row!(Tol, 0, GREATEST_TOLERANCE as u64, 10),
+    number_row!(Seed, 0, GREATEST_SEED, 0),
+];
+
+fn rows() -> &'static [Row]
+    ensures { result.now ≡ quilt_rows }
+{
+    &ROWS
+}
+
+// The job of the values of all keys.
+fn job_of(alloc: Global, settings: &[Setting]) -> Result<QuiltJob, AllocError>
+    requires { HasQuiltValues settings.now }
+    ensures { IfOk result (λ job. job ≡ quilt_of settings.now) }
+{
+    Ok(QuiltJob {
+        names: names_at(alloc, settings)?,
+        w: number_at(settings, Key::Width) as u32,
+        h: number_at(settings, Key::Height) as u32,
+        block: number_at(settings, Key::Block) as u32,
+        overlap: number_at(settings, Key::Overlap) as u32,
+        tol: number_at(settings, Key::Tol) as u32,
+        seed: number_at(settings, Key::Seed),
+    })
+}
+
+/// The job of the words after the command, or their first refusal.
+pub fn read_quilt(alloc: Global, words: &[Name]) -> Result<QuiltJob, WordFault>
+    ensures exact { by.AnswersAs (quilt_job_of words.now) result }
+    ensures lawful { IfOk result IsQuiltJob }
+{
+    let settings = all_settings(alloc, rows(), words)?;
+    let job = job_of(alloc, &settings)?;
+    Ok(job)
+}

@@ -1,0 +1,62 @@
+// The words of `upgrade`.
+ghost use Rattle.std.specs.Prelude.{◌≡◌, IfOk};
+ghost use Rattle.job_words.specs.Words as by;
+ghost use Rattle.job_words.specs.UpgradeWords.{HasUpgradeNames, IsUpgradeJob, upgrade_job_of, upgrade_of, upgrade_rows};
+
+use crate::fields::name_at;
+use crate::job::WordFault;
+use crate::keys::Key;
+use crate::name::Name;
+use crate::read::all_settings;
+use crate::settings::Setting;
+use crate::table::{Kind, Need, Row, file_row};
+use std::alloc::{AllocError, Global};
+
+/// Telling a map and a record of one sample as those of several samples are told.
+#[derive(Drop)]
+pub struct UpgradeJob {
+    /// The map, which is read.
+    pub map: Name,
+    /// The record, which is read.
+    pub cert: Name,
+    /// The map that is written.
+    pub new_map: Name,
+    /// The record that is written.
+    pub new_cert: Name,
+}
+
+const ROWS: [Row; 4] = [
+    file_row!(Map),
+    file_row!(Cert),
+    file_row!(NewMap),
+    file_row!(NewCert),
+];
+
+fn rows() -> &'static [Row]
+    ensures { result.now ≡ upgrade_rows }
+{
+    &ROWS
+}
+
+// The job of the values of all keys.
+fn job_of(alloc: Global, settings: &[Setting]) -> Result<UpgradeJob, AllocError>
+    requires { HasUpgradeNames settings.now }
+    ensures { IfOk result (λ job. job ≡ upgrade_of settings.now) }
+{
+    Ok(UpgradeJob {
+        map: name_at(alloc, settings, Key::Map)?,
+        cert: name_at(alloc, settings, Key::Cert)?,
+        new_map: name_at(alloc, settings, Key::NewMap)?,
+        new_cert: name_at(alloc, settings, Key::NewCert)?,
+    })
+}
+
+/// The job of the words after the command, or their first refusal.
+pub fn read_upgrade(alloc: Global, words: &[Name]) -> Result<UpgradeJob, WordFault>
+    ensures exact { by.AnswersAs (upgrade_job_of words.now) result }
+    ensures lawful { IfOk result IsUpgradeJob }
+{
+    let settings = all_settings(alloc, rows(), words)?;
+    let job = job_of(alloc, &settings)?;
+    Ok(job)
+}

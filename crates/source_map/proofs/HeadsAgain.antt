@@ -1,5 +1,5 @@
 -- A head that is spelled is read again.
-use Rattle.std.proofs.Common.{◌≡◌, true, false, ℕ, ◌≤◌, List, [], ◌∷◌, ◌++◌, length, refl, sym, ap, ◌∙◌, subst, append_assoc, arith}
+use Rattle.std.proofs.Common.{◌≡◌, true, false, ℕ, suc, ◌≤◌, List, [], ◌∷◌, ◌++◌, length, refl, sym, ap, ◌∙◌, subst, append_assoc, arith}
 use Rattle.std.proofs.lemmas.Bool.{le-leb, lt-leb}
 use Rattle.std.proofs.lemmas.List.{append-nil}
 use Rattle.std.proofs.lemmas.List.Elements.{All-from_recursion}
@@ -7,15 +7,17 @@ use Rattle.std.specs.Bool.{nat_eq}
 use Rattle.std.specs.Cmp.Lexicographic.{pointwise}
 use Rattle.std.specs.Int.{w8, w16, w32}
 use Rattle.std.specs.List.{flat_map, AllByRecursion}
-use Rattle.std.specs.Prelude.{Result, Ok, nat_lt, nat_le}
+use Rattle.std.specs.Prelude.{Result, Ok, Err, nat_lt, nat_le, if◌then◌else◌}
+use Rattle.shelf_core.specs.declared.fault.FormFault.TheVariants.{Form}
 use Rattle.shelf_core.specs.declared.fault.ReadError.{ReadError}
+use Rattle.shelf_core.specs.declared.fault.ReadError.TheVariants.{Bad}
 use Rattle.cells.specs.declared.place.Size.{Size}
 use Rattle.cells.specs.Places.{HasAxes}
 use Rattle.file_bytes.specs.Fields.{field_16, field_32}
 use Rattle.source_map.specs.declared.head.Version.{Version}
 use Rattle.source_map.specs.declared.head.Version.TheVariants.{One, Two}
 use Rattle.source_map.specs.declared.head_reading.Start.{Start}
-use Rattle.source_map.specs.Heads.{AreSamples, IsKind, axis_rule, count_rule, kind_rule, magic_rule, size_field, size_read, sizes_field, sizes_read, start_form, start_read, version_number, version_rule}
+use Rattle.source_map.specs.Heads.{AreSamples, IsKind, IsVersion, axis_rule, count_rule, kind_rule, magic_rule, size_field, size_read, sizes_field, sizes_read, start_form, start_read, version_number, version_rule}
 use Rattle.source_map.specs.Readings.{field_read, list_read, number_read}
 use Rattle.source_map.proofs.FieldLaws.{chain, value_alone}
 use Rattle.source_map.proofs.Again.{Spells, alone_spells, field_spells, list_spells, not_equal, spells_16, spells_32, spells_8, then_spells}
@@ -58,24 +60,29 @@ sizes_spell Two sizes are =
     (spells_16 count_rule (length sizes) (length sizes) (omega (arith, are.sizes_are.few)) (λ at. count_ok (length sizes) at are.sizes_are.some are.sizes_are.few))
     (list_of_sizes sizes are.sizes_are.axes)
 
-version_ok : (version : Version) (at : ℕ) → version_rule at (version_number version) ≡ Ok version
-version_ok One at = refl
-version_ok Two at = refl
+version_ok : (versions : ℕ) (version : Version) (at : ℕ) → IsVersion versions version → version_rule versions at (version_number version) ≡ Ok version
+version_ok versions version at taken =
+    let low : nat_lt versions (version_number version) ≡ false = lt-leb (suc versions) (version_number version) (omega arith) in
+    rw low (by version)
+  where
+    by : (version : Version) → (if nat_eq (version_number version) 1 then Ok One else (if nat_eq (version_number version) 2 then Ok Two else Err (Bad (Form at)))) ≡ Ok version
+    by One = refl
+    by Two = refl
 
-pub start_spells : (magic : List ℕ) (kinds kind : ℕ) (version : Version) (output : Size) → length magic ≡ 8 → pointwise nat_eq magic magic ≡ true → IsKind kinds version kind → HasAxes output
-    → Spells (start_read magic kinds) (start_form magic kind version output) (record { version = version; kind = kind; output = output })
-start_spells magic kinds kind version output count same is axes =
+pub start_spells : (magic : List ℕ) (versions kinds kind : ℕ) (version : Version) (output : Size) → length magic ≡ 8 → pointwise nat_eq magic magic ≡ true → IsVersion versions version → IsKind kinds version kind → HasAxes output
+    → Spells (start_read magic versions kinds) (start_form magic kind version output) (record { version = version; kind = kind; output = output })
+start_spells magic versions kinds kind version output count same taken is axes =
     let start : Start = record { version = version; kind = kind; output = output } in
     let end = λ (v : Version) (k : ℕ) (o : Size). value_alone {A = Start} (record { version = v; kind = k; output = o }) in
     let v = version_number version in
     let size = size_field output in
     let all : magic ++ v ∷ kind ∷ (size ++ []) ≡ magic ++ v ∷ kind ∷ [] ++ size =
     ap (λ t. magic ++ v ∷ kind ∷ t) (append-nil size) ∙ sym (append_assoc magic (v ∷ kind ∷ []) size) in
-    subst (λ piece. Spells (start_read magic kinds) piece start) all
-    (then_spells (field_read 8 (magic_rule magic)) (λ m. chain (number_read w8 version_rule) (λ v. chain (number_read w8 (kind_rule kinds v)) (λ k. chain size_read (end v k))))
+    subst (λ piece. Spells (start_read magic versions kinds) piece start) all
+    (then_spells (field_read 8 (magic_rule magic)) (λ m. chain (number_read w8 (version_rule versions)) (λ v. chain (number_read w8 (kind_rule kinds v)) (λ k. chain size_read (end v k))))
     magic (v ∷ kind ∷ (size ++ [])) tt start (field_spells 8 (magic_rule magic) magic tt count (λ at. rw same refl))
-    (then_spells (number_read w8 version_rule) (λ v. chain (number_read w8 (kind_rule kinds v)) (λ k. chain size_read (end v k)))
-    (v ∷ []) (kind ∷ (size ++ [])) version start (spells_8 version_rule v version (λ at. version_ok version at))
+    (then_spells (number_read w8 (version_rule versions)) (λ v. chain (number_read w8 (kind_rule kinds v)) (λ k. chain size_read (end v k)))
+    (v ∷ []) (kind ∷ (size ++ [])) version start (spells_8 (version_rule versions) v version (λ at. version_ok versions version at taken))
     (then_spells (number_read w8 (kind_rule kinds version)) (λ k. chain size_read (end version k))
     (kind ∷ []) (size ++ []) kind start (spells_8 (kind_rule kinds version) kind kind (λ at. rw is refl))
     (then_spells size_read (end version kind) size [] output start (size_spells output axes) (alone_spells start)))))

@@ -54,8 +54,8 @@ sizes_stood Two at bytes sizes end small le is =
     subst (λ k. Stood at end (field_16 k ++ flat_map size_field sizes) bytes) (sym (list_count size_read a.x.0 a.x.1 bytes sizes end a.two))
     (both_stood at a.x.1 end (field_16 a.x.0) (flat_map size_field sizes) bytes n all)
 
-version_code : (at n : ℕ) (x : Version) → version_rule at n ≡ Ok x → n ≡ version_number x
-version_code at n x is = by (nat_eq n 1) refl is
+version_code : (versions at n : ℕ) (x : Version) → version_rule versions at n ≡ Ok x → n ≡ version_number x
+version_code versions at n x is = by (nat_eq n 1) refl (otherwise (nat_lt versions n) (if nat_eq n 1 then Ok One else (if nat_eq n 2 then Ok Two else Err (Bad (Form at)))) x (Bad (Form at)) is).1
   where
     two : (if nat_eq n 2 then Ok Two else Err (Bad (Form at))) ≡ Ok x → n ≡ version_number x
     two so = let p = passed (nat_eq n 2) Two x (Bad (Form at)) so in eqb-true n 2 p.0 ∙ ap version_number p.1
@@ -67,9 +67,9 @@ version_code at n x is = by (nat_eq n 1) refl is
 kind_code : (kinds : ℕ) (version : Version) (at n x : ℕ) → kind_rule kinds version at n ≡ Ok x → n ≡ x
 kind_code kinds version at n x is = (passed (is_kind kinds version n) n x (Bad (Form at)) is).1
 
-pub start_stood : (magic : List ℕ) (kinds : ℕ) → Spelled (start_read magic kinds) (λ start. start_form magic start.kind start.version start.output)
-start_stood magic kinds at bytes start end small le is =
-    let ver : ℕ → List ℕ → Result (Version × ℕ) ReadError = number_read w8 version_rule in
+pub start_stood : (magic : List ℕ) (versions kinds : ℕ) → Spelled (start_read magic versions kinds) (λ start. start_form magic start.kind start.version start.output)
+start_stood magic versions kinds at bytes start end small le is =
+    let ver : ℕ → List ℕ → Result (Version × ℕ) ReadError = number_read w8 (version_rule versions) in
     let kin : Version → ℕ → List ℕ → Result (ℕ × ℕ) ReadError = λ v. number_read w8 (kind_rule kinds v) in
     let a = peel {A = Unit {0} × ℕ} {C = Start × ℕ} (field_read 8 (magic_rule magic) at bytes)
     (λ m. ver m.1 bytes >>= λ v. kin v.0 v.1 bytes >>= λ k. size_read k.1 bytes >>= λ o. Ok (record { version = v.0; kind = k.0; output = o.0 }, o.1)) (start, end) is in
@@ -79,7 +79,7 @@ start_stood magic kinds at bytes start end small le is =
     let m = field_stood 8 (magic_rule magic) at bytes a.x.0 a.x.1 small a.one in
     let same : m.piece ≡ magic = (bytes_decides m.piece magic).0 (passed (pointwise nat_eq m.piece magic) tt a.x.0 (Bad (Form at)) m.ruled).0 in
     let first = subst (λ p. Stood at a.x.1 p bytes) same m.stood in
-    let version = number_8_stood version_rule version_number version_code a.x.1 bytes b.x.0 b.x.1 small first.within b.one in
+    let version = number_8_stood (version_rule versions) version_number (version_code versions) a.x.1 bytes b.x.0 b.x.1 small first.within b.one in
     let kind = number_8_stood (kind_rule kinds b.x.0) (λ n. n) (kind_code kinds b.x.0) b.x.1 bytes c.x.0 c.x.1 small version.within c.one in
     let size = size_stood c.x.1 bytes d.x.0 d.x.1 small kind.within d.one in
     let v = version_number b.x.0 ∷ [] in
@@ -88,21 +88,21 @@ start_stood magic kinds at bytes start end small le is =
     (both_stood at c.x.1 d.x.1 (magic ++ (v ++ k)) (size_field d.x.0) bytes
     (both_stood at a.x.1 c.x.1 magic (v ++ k) bytes first (both_stood a.x.1 b.x.1 c.x.1 v k bytes version kind)) size)
 
-pub head_stood : (magic : List ℕ) (kinds : ℕ) → Spelled (head_read magic kinds) (λ h. head_form magic h.1 h.0)
-head_stood magic kinds at bytes h end small le is =
-    let a = peel {A = Start × ℕ} {C = (Head × ℕ) × ℕ} (start_read magic kinds at bytes)
+pub head_stood : (magic : List ℕ) (versions kinds : ℕ) → Spelled (head_read magic versions kinds) (λ h. head_form magic h.1 h.0)
+head_stood magic versions kinds at bytes h end small le is =
+    let a = peel {A = Start × ℕ} {C = (Head × ℕ) × ℕ} (start_read magic versions kinds at bytes)
     (λ s. sizes_read s.0.version s.1 bytes >>= λ samples. Ok ((record { output = s.0.output; samples = samples.0; version = s.0.version }, s.0.kind), samples.1)) (h, end) is in
     let b = peel {A = List Size × ℕ} {C = (Head × ℕ) × ℕ} (sizes_read a.x.0.version a.x.1 bytes)
     (λ samples. Ok ((record { output = a.x.0.output; samples = samples.0; version = a.x.0.version }, a.x.0.kind), samples.1)) (h, end) a.two in
-    let start = start_stood magic kinds at bytes a.x.0 a.x.1 small le a.one in
+    let start = start_stood magic versions kinds at bytes a.x.0 a.x.1 small le a.one in
     let sizes = sizes_stood a.x.0.version a.x.1 bytes b.x.0 b.x.1 small start.within b.one in
     ended {A = Head × ℕ} (λ h. head_form magic h.1 h.0) (record { output = a.x.0.output; samples = b.x.0; version = a.x.0.version }, a.x.0.kind) h at b.x.1 end bytes b.two
     (both_stood at a.x.1 b.x.1 (start_form magic a.x.0.kind a.x.0.version a.x.0.output) (sizes_field a.x.0.version b.x.0) bytes start sizes)
 
 -- the kind is one that the version has
-pub start_kind : (magic : List ℕ) (kinds at : ℕ) (bytes : List ℕ) (start : Start) (end : ℕ) → start_read magic kinds at bytes ≡ Ok (start, end) → IsKind kinds start.version start.kind
-start_kind magic kinds at bytes start end is =
-    let ver : ℕ → List ℕ → Result (Version × ℕ) ReadError = number_read w8 version_rule in
+pub start_kind : (magic : List ℕ) (versions kinds at : ℕ) (bytes : List ℕ) (start : Start) (end : ℕ) → start_read magic versions kinds at bytes ≡ Ok (start, end) → IsKind kinds start.version start.kind
+start_kind magic versions kinds at bytes start end is =
+    let ver : ℕ → List ℕ → Result (Version × ℕ) ReadError = number_read w8 (version_rule versions) in
     let kin : Version → ℕ → List ℕ → Result (ℕ × ℕ) ReadError = λ v. number_read w8 (kind_rule kinds v) in
     let a = peel {A = Unit {0} × ℕ} {C = Start × ℕ} (field_read 8 (magic_rule magic) at bytes)
     (λ m. ver m.1 bytes >>= λ v. kin v.0 v.1 bytes >>= λ k. size_read k.1 bytes >>= λ o. Ok (record { version = v.0; kind = k.0; output = o.0 }, o.1)) (start, end) is in
@@ -121,11 +121,11 @@ start_kind magic kinds at bytes start end is =
         let same : n ≡ kind = test.1 ∙ same_first ruled.x kind number.x.1 end ruled.two in
         subst (IsKind kinds version) same test.0
 
-pub head_kind : (magic : List ℕ) (kinds at : ℕ) (bytes : List ℕ) (h : Head × ℕ) (end : ℕ) → head_read magic kinds at bytes ≡ Ok (h, end) → IsKind kinds h.0.version h.1
-head_kind magic kinds at bytes h end is =
-    let s = peel {A = Start × ℕ} {C = (Head × ℕ) × ℕ} (start_read magic kinds at bytes)
+pub head_kind : (magic : List ℕ) (versions kinds at : ℕ) (bytes : List ℕ) (h : Head × ℕ) (end : ℕ) → head_read magic versions kinds at bytes ≡ Ok (h, end) → IsKind kinds h.0.version h.1
+head_kind magic versions kinds at bytes h end is =
+    let s = peel {A = Start × ℕ} {C = (Head × ℕ) × ℕ} (start_read magic versions kinds at bytes)
     (λ s. sizes_read s.0.version s.1 bytes >>= λ samples. Ok ((record { output = s.0.output; samples = samples.0; version = s.0.version }, s.0.kind), samples.1)) (h, end) is in
     let t = peel {A = List Size × ℕ} {C = (Head × ℕ) × ℕ} (sizes_read s.x.0.version s.x.1 bytes)
     (λ samples. Ok ((record { output = s.x.0.output; samples = samples.0; version = s.x.0.version }, s.x.0.kind), samples.1)) (h, end) s.two in
     let head_is = same_first {A = Head × ℕ} (record { output = s.x.0.output; samples = t.x.0; version = s.x.0.version }, s.x.0.kind) h t.x.1 end t.two in
-    subst (λ (h : Head × ℕ). IsKind kinds h.0.version h.1) head_is (start_kind magic kinds at bytes s.x.0 s.x.1 s.one)
+    subst (λ (h : Head × ℕ). IsKind kinds h.0.version h.1) head_is (start_kind magic versions kinds at bytes s.x.0 s.x.1 s.one)

@@ -10,3 +10,5 @@ pub mod MapsAgain
 pub mod Spelled
 pub mod HeadsSpelled
 pub mod MapsSpelled
+pub mod Fewer
+pub mod VersionOne

@@ -20,7 +20,7 @@ use Rattle.source_map.specs.declared.head.Version.{Version}
 use Rattle.source_map.specs.declared.head.Version.TheVariants.{One, Two}
 use Rattle.source_map.specs.declared.map_file.MapFile.{MapFile}
 use Rattle.source_map.specs.declared.map_file.MapFile.TheVariants.{Cells, Frames}
-use Rattle.source_map.specs.Heads.{AreSamples, IsKind, axis_rule, size_field, sizes_field, start_form, start_read}
+use Rattle.source_map.specs.Heads.{AreSamples, IsKind, IsVersion, axis_rule, size_field, sizes_field, start_form, start_read}
 use Rattle.source_map.specs.MapFiles.{IsInSamples, IsMapFile, IsMapOf, IsWritable, below_rule, body_read, cells_read, cells_rule, end_read, frames_read, map_form, map_magic, map_read, no_size, numbered_field, numbered_size, part_rule, place_field, place_read, same_rule, sample_read, samples_read, source_field, source_read, sources_read, value_read}
 use Rattle.source_map.specs.Readings.{◌>>=◌, list_read, number_read}
 use Rattle.source_map.proofs.FieldLaws.{chain, value_alone}
@@ -166,9 +166,13 @@ value_spells (Cells m samples version) lawful =
     (then_spells (sources_read version samples m.size) (λ m. value_alone (Cells m samples version)) sources [] m value (sources_spell m samples version is can) (alone_spells value)) in
     let all : head ++ (sizes ++ (sources ++ [])) ≡ head ++ sizes ++ sources = ap (λ t. head ++ (sizes ++ t)) (append-nil sources) ∙ sym (append_assoc head sizes sources) in
     subst (λ piece. Spells value_read piece value) all
-    (then_spells (start_read map_magic 2) body_read head (sizes ++ (sources ++ [])) (record { version = version; kind = 0; output = m.size }) value
-    (start_spells map_magic 2 0 version m.size refl refl kind is.small.axes) body)
+    (then_spells (start_read map_magic 2 2) body_read head (sizes ++ (sources ++ [])) (record { version = version; kind = 0; output = m.size }) value
+    (start_spells map_magic 2 2 0 version m.size refl refl (taken version) kind is.small.axes) body)
   where
+    taken : (version : Version) → IsVersion 2 version
+    taken One = omega arith
+    taken Two = omega arith
+
     kind_zero : (version : Version) → IsKind 2 version 0
     kind_zero One = refl
     kind_zero Two = refl
@@ -186,8 +190,8 @@ value_spells (Frames size sample frames) lawful =
     (subst (λ n. Spells (list_read read n) entries frames) lawful.count items) (alone_spells value)) in
     let all : head ++ (s ++ (entries ++ [])) ≡ head ++ s ++ entries = ap (λ t. head ++ (s ++ t)) (append-nil entries) ∙ sym (append_assoc head s entries) in
     subst (λ piece. Spells value_read piece value) all
-    (then_spells (start_read map_magic 2) body_read head (s ++ (entries ++ [])) (record { version = One; kind = 1; output = size }) value
-    (start_spells map_magic 2 1 One size refl refl refl lawful.size_axes) body)
+    (then_spells (start_read map_magic 2 2) body_read head (s ++ (entries ++ [])) (record { version = One; kind = 1; output = size }) value
+    (start_spells map_magic 2 2 1 One size refl refl (omega arith) refl lawful.size_axes) body)
   where
     small : (e f : ℕ) → e < f → f ≤ 4096 → e < 2 ^ 16
     small e f lt le = omega arith

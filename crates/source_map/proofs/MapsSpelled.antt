@@ -202,10 +202,10 @@ map_spelled bytes value small is =
     let b = peel {A = Unit {0} × ℕ} {C = MapFile} (end_read a.x.1 bytes) (λ end. Ok a.x.0) value a.two in
     let test = passed {A = Unit {0} × ℕ} (nat_eq (length bytes) a.x.1) (tt, a.x.1) b.x (Bad (Form a.x.1)) b.one in
     let ends : length bytes ≡ a.x.1 = eqb-true (length bytes) a.x.1 test.0 in
-    let s = peel {A = Start × ℕ} {C = MapFile × ℕ} (start_read map_magic 2 0 bytes) (λ s. body_read s.0 s.1 bytes) a.x a.one in
+    let s = peel {A = Start × ℕ} {C = MapFile × ℕ} (start_read map_magic 2 2 0 bytes) (λ s. body_read s.0 s.1 bytes) a.x a.one in
     let from : 0 ≤ length bytes = omega arith in
-    let start = start_stood map_magic 2 0 bytes s.x.0 s.x.1 small from s.one in
-    let kind = start_kind map_magic 2 0 bytes s.x.0 s.x.1 s.one in
+    let start = start_stood map_magic 2 2 0 bytes s.x.0 s.x.1 small from s.one in
+    let kind = start_kind map_magic 2 2 0 bytes s.x.0 s.x.1 s.one in
     let all = by s.x.0 s.x.1 a.x.0 a.x.1 kind start (nat_eq s.x.0.kind 1) refl s.two in
     sym (all.is ∙ take_all (length (map_form a.x.0)) bytes (omega (arith, ends, all.end_is))) ∙ ap map_form (same_value a.x.0 value b.two)
   where

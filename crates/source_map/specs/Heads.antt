@@ -1,6 +1,6 @@
 -- What a reader has to trust: the head that map and record files share, its one spelling, and how it
 -- is read. (Own.)
-use Rattle.std.specs.Prelude.{◌≡◌, ◌==◌, ◌||◌, ℕ, nat_lt, nat_le, Bool, IsTrue, if◌then◌else◌, List, [], ◌∷◌, ◌++◌, length, Result, Ok, Err}
+use Rattle.std.specs.Prelude.{◌≡◌, ◌≤◌, ◌==◌, ◌||◌, ℕ, nat_lt, nat_le, Bool, IsTrue, if◌then◌else◌, List, [], ◌∷◌, ◌++◌, length, Result, Ok, Err}
 use Rattle.std.specs.Int.{w8, w16, w32}
 use Rattle.std.specs.Cmp.Lexicographic.{pointwise}
 use Rattle.std.specs.Bool.{nat_eq}
@@ -65,14 +65,22 @@ is_kind kinds Two kind = kind == 0
 abbrev pub IsKind : ℕ → Version → ℕ → Type 0
 IsKind kinds version kind = IsTrue (is_kind kinds version kind)
 
+-- the version is one of so many
+abbrev pub IsVersion : ℕ → Version → Type 0
+IsVersion versions version = version_number version ≤ versions
+
 -- the rules of the fields: a refusal at the field's place, the field's value, or a limit
 abbrev pub magic_rule : List ℕ → ℕ → List ℕ → Result (Unit {0}) ReadError
 magic_rule magic at piece =
     if pointwise nat_eq piece magic then Ok tt else Err (Bad (Form at))
 
-abbrev pub version_rule : ℕ → ℕ → Result Version ReadError
-version_rule at n =
-    if n == 1 then Ok One else if n == 2 then Ok Two else Err (Bad (Form at))
+-- of the versions so many are taken, from 1 on
+abbrev pub version_rule : ℕ → ℕ → ℕ → Result Version ReadError
+version_rule versions at n =
+    if nat_lt versions n then Err (Bad (Form at))
+    else if n == 1 then Ok One
+    else if n == 2 then Ok Two
+    else Err (Bad (Form at))
 
 abbrev pub kind_rule : ℕ → Version → ℕ → ℕ → Result ℕ ReadError
 kind_rule kinds version at n = if is_kind kinds version n then Ok n else Err (Bad (Form at))
@@ -100,18 +108,18 @@ sizes_read One at bytes = list_read size_read 1 at bytes
 sizes_read Two at bytes =
     number_read w16 count_rule at bytes >>= λ count. list_read size_read count.0 count.1 bytes
 
-abbrev pub start_read : List ℕ → ℕ → ℕ → List ℕ → Result (Start × ℕ) ReadError
-start_read magic kinds at bytes =
+abbrev pub start_read : List ℕ → ℕ → ℕ → ℕ → List ℕ → Result (Start × ℕ) ReadError
+start_read magic versions kinds at bytes =
     field_read 8 (magic_rule magic) at bytes >>= λ magic.
-    number_read w8 version_rule magic.1 bytes >>= λ version.
+    number_read w8 (version_rule versions) magic.1 bytes >>= λ version.
     number_read w8 (kind_rule kinds version.0) version.1 bytes >>= λ kind.
     size_read kind.1 bytes >>= λ output.
     Ok (record { version = version.0; kind = kind.0; output = output.0 }, output.1)
 
 -- a head and its kind
-abbrev pub head_read : List ℕ → ℕ → ℕ → List ℕ → Result ((Head × ℕ) × ℕ) ReadError
-head_read magic kinds at bytes =
-    start_read magic kinds at bytes >>= λ start.
+abbrev pub head_read : List ℕ → ℕ → ℕ → ℕ → List ℕ → Result ((Head × ℕ) × ℕ) ReadError
+head_read magic versions kinds at bytes =
+    start_read magic versions kinds at bytes >>= λ start.
     sizes_read start.0.version start.1 bytes >>= λ samples.
     Ok (
       (

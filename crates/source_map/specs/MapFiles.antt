@@ -205,17 +205,36 @@ end_read at bytes = if length bytes == at then Ok (tt, at) else Err (Bad (Form a
 
 abbrev pub value_read : ℕ → List ℕ → Result (MapFile × ℕ) ReadError
 value_read at bytes =
-    start_read map_magic 2 at bytes >>= λ start. body_read start.0 start.1 bytes
+    start_read map_magic 2 2 at bytes >>= λ start. body_read start.0 start.1 bytes
 
 -- the value of a whole list of bytes, or its first refusal
 abbrev pub map_read : List ℕ → Result MapFile ReadError
 map_read bytes =
     value_read 0 bytes >>= λ value. end_read value.1 bytes >>= λ end. Ok value.0
 
--- what a reader of the named file leaves and answers. A read fault has its cause, and want of memory
--- is free
+-- the same for a reader that takes version 1 and kind 0 alone: other versions and other kinds are
+-- refused at their fields, and all else is as above
+abbrev pub version_one_value_read : ℕ → List ℕ → Result (MapFile × ℕ) ReadError
+version_one_value_read at bytes =
+    start_read map_magic 1 1 at bytes >>= λ start. cells_read One start.0.output start.1 bytes
+
+abbrev pub version_one_map_read : List ℕ → Result MapFile ReadError
+version_one_map_read bytes =
+    version_one_value_read 0 bytes >>= λ value. end_read value.1 bytes >>= λ end. Ok value.0
+
+-- the sources of cells, in version 1
+abbrev pub IsVersionOneMap : MapFile → Type 0
+IsVersionOneMap (Cells m samples version) = version ≡ One
+IsVersionOneMap (Frames size sample frames) = ⊥
+
+-- what a reader of the named file leaves and answers, by what its bytes are read as. A read fault has
+-- its cause, and want of memory is free
+abbrev pub MapReadsBy : (List ℕ → Result MapFile ReadError) → List ℕ → ShelfState → ShelfState
+    → Result MapFile ReadError → Type 0
+MapReadsBy read name was now (Err ReadFault) = ReadsRose name was now
+MapReadsBy read name was now (Err NoMemory) = Unit {0}
+MapReadsBy read name was now (Err refusal) = InFile name was now (λ bytes. read bytes ≡ Err refusal)
+MapReadsBy read name was now (Ok value) = InFile name was now (λ bytes. read bytes ≡ Ok value)
+
 abbrev pub MapReadsAs : List ℕ → ShelfState → ShelfState → Result MapFile ReadError → Type 0
-MapReadsAs name was now (Err ReadFault) = ReadsRose name was now
-MapReadsAs name was now (Err NoMemory) = Unit {0}
-MapReadsAs name was now (Err refusal) = InFile name was now (λ bytes. map_read bytes ≡ Err refusal)
-MapReadsAs name was now (Ok value) = InFile name was now (λ bytes. map_read bytes ≡ Ok value)
+MapReadsAs = MapReadsBy map_read

@@ -36,12 +36,14 @@ fn lawful_magic(piece: [u8; 8], magic: [u8; 8], at: u64) -> Result<(), ReadError
     if piece == magic { Ok(()) } else { form(at) }
 }
 
-// The version of a number.
-fn lawful_version(n: u8, at: u64) -> Result<Version, ReadError>
-    ensures version { result ≡ version_rule at n }
+// The version of a number, if it is one of so many.
+fn lawful_version(n: u8, versions: u8, at: u64) -> Result<Version, ReadError>
+    ensures version { result ≡ version_rule versions at n }
     ensures refusal { IfErr result IsRefusal }
 {
-    if n == 1 {
+    if n > versions {
+        form(at)
+    } else if n == 1 {
         Ok(Version::One)
     } else if n == 2 {
         Ok(Version::Two)
@@ -128,19 +130,20 @@ fn read_magic<S: Shelf>(
 // Reads the version.
 fn read_version<S: Shelf>(
     file: &mut FileReader,
+    versions: u8,
     shelf: &mut S,
     name: &str,
 ) -> Result<Version, ReadError>
     requires follows { Follows name.now (S.state shelf.old) file.old }
     requires room { file.old.at + 1 < 2 ^ 63 }
     ensures answer { ReadsFrom ⊥ name.now file.old.at (S.state shelf.old) (S.state shelf.new)
-        file.new (number_read w8 version_rule) result }
+        file.new (number_read w8 (version_rule versions)) result }
     ensures place { OnOk result (file.new.at ≡ file.old.at + 1) }
     ensures reads { OnlyReads (S.state shelf.old) (S.state shelf.new) }
 {
     let at = file.place();
     let n = file.u8(shelf, name)?;
-    lawful_version(n, at)
+    lawful_version(n, versions, at)
 }
 
 // Reads the kind.
@@ -222,6 +225,7 @@ pub(crate) fn read_size<S: Shelf>(
 pub(crate) fn read_start<S: Shelf>(
     file: &mut FileReader,
     magic: [u8; 8],
+    versions: u8,
     kinds: u8,
     shelf: &mut S,
     name: &str,
@@ -229,14 +233,14 @@ pub(crate) fn read_start<S: Shelf>(
     requires follows { Follows name.now (S.state shelf.old) file.old }
     requires room { file.old.at + 22 < 2 ^ 63 }
     ensures answer { ReadsFrom ⊥ name.now file.old.at (S.state shelf.old) (S.state shelf.new)
-        file.new (start_read magic kinds) result }
+        file.new (start_read magic versions kinds) result }
     ensures axes { IfOk result (λ start. HasAxes start.output) }
     ensures kind { IfOk result (λ start. IsKind kinds start.version start.kind) }
     ensures place { OnOk result (file.new.at ≡ file.old.at + 22) }
     ensures reads { OnlyReads (S.state shelf.old) (S.state shelf.new) }
 {
     read_magic(file, magic, shelf, name)?;
-    let version = read_version(file, shelf, name)?;
+    let version = read_version(file, versions, shelf, name)?;
     let kind = read_kind(file, kinds, version, shelf, name)?;
     let output = read_size(file, shelf, name)?;
     Ok(Start {
@@ -297,8 +301,8 @@ pub(crate) fn read_samples<S: Shelf>(
     }
 }
 
-/// Reads a head and its kind from the first byte of a file on. In version 1 the kinds are those below
-/// `kinds`, and in version 2 kind 0 alone. It takes no memory.
+/// Reads a head and its kind from the first byte of a file on. The versions are 1 to `versions`. In version
+/// 1 the kinds are those below `kinds`, and in version 2 kind 0 alone. It takes no memory.
 ///
 /// The refusals, in the order of the fields: `Bad(Form)` at the file's length where the file ends within
 /// a field, and else at the first byte of a field that has no lawful value (the magic is one field, each
@@ -306,6 +310,7 @@ pub(crate) fn read_samples<S: Shelf>(
 pub fn read_head<S: Shelf>(
     file: &mut FileReader,
     magic: [u8; 8],
+    versions: u8,
     kinds: u8,
     shelf: &mut S,
     name: &str,
@@ -313,13 +318,13 @@ pub fn read_head<S: Shelf>(
     requires follows { Follows name.now (S.state shelf.old) file.old }
     requires start { file.old.at ≡ 0 }
     ensures answer { ReadsFrom ⊥ name.now file.old.at (S.state shelf.old) (S.state shelf.new)
-        file.new (head_read magic kinds) result }
+        file.new (head_read magic versions kinds) result }
     ensures head { IfOk result (λ found. IsHead found.0) }
     ensures kind { IfOk result (λ found. IsKind kinds found.0.version found.1) }
     ensures place { OnOk result (file.new.at ≤ 216) }
     ensures reads { OnlyReads (S.state shelf.old) (S.state shelf.new) }
 {
-    let start = read_start(file, magic, kinds, shelf, name)?;
+    let start = read_start(file, magic, versions, kinds, shelf, name)?;
     let samples = read_samples(file, start.version, shelf, name)?;
     let head = Head {
         output: start.output,

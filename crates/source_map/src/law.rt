@@ -2,7 +2,7 @@
 ghost use Rattle.std.specs.Prelude.{◌≡◌, ℕ, List, Ok, Err};
 ghost use Rattle.shelf_core.specs.declared.fault.ReadError.{ReadError};
 ghost use Rattle.source_map.specs.declared.map_file.MapFile.{MapFile};
-ghost use Rattle.source_map.specs.MapFiles.{IsMapFile, IsMapOf, map_form, map_read};
+ghost use Rattle.source_map.specs.MapFiles.{IsMapFile, IsMapOf, map_form, map_read, version_one_map_read};
 ghost use Rattle.source_map.specs.Readings.{AreBytes};
 
 /// What is written is read again. Bytes spell one map at most, what they spell isn't refused, and bytes
@@ -16,4 +16,10 @@ pub fn one_map_reading()
         IsMapOf bytes value → map_read bytes ≡ Err refusal → ⊥ }
     ensures one_spelling { (bytes : List ℕ) (value : MapFile) → AreBytes bytes →
         map_read bytes ≡ Ok value → bytes ≡ map_form value }
+{}
+
+/// A reader of version 1 alone reads nothing else than one of all versions does.
+pub fn version_one_maps_are_maps()
+    ensures { (bytes : List ℕ) (value : MapFile) → version_one_map_read bytes ≡ Ok value →
+        map_read bytes ≡ Ok value }
 {}

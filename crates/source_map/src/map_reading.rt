@@ -7,7 +7,7 @@ ghost use Rattle.cells.specs.SizeLists.{AreSizes, IsInPart, stock_place};
 ghost use Rattle.file_bytes.specs.Reading.{Follows};
 ghost use Rattle.map_canvas.specs.Maps.{IsMap, IsSource};
 ghost use Rattle.source_map.specs.Heads.{AreSamples};
-ghost use Rattle.source_map.specs.MapFiles.{IsInSamples, IsMapFile, MapReadsAs, below_rule, body_read, cells_read, cells_rule, frames_read, numbered_size, part_rule, place_read, same_rule, sample_read, samples_read, source_read, sources_read, value_read};
+ghost use Rattle.source_map.specs.MapFiles.{IsInSamples, IsMapFile, IsVersionOneMap, MapReadsAs, MapReadsBy, below_rule, body_read, cells_read, cells_rule, frames_read, numbered_size, part_rule, place_read, same_rule, sample_read, samples_read, source_read, sources_read, value_read, version_one_map_read, version_one_value_read};
 ghost use Rattle.source_map.specs.Readings.{IsRefusal, ReadsFrom, list_read, number_read};
 
 use crate::head::Version;
@@ -439,6 +439,7 @@ fn read_cells<S: Shelf>(
     ensures answer { ReadsFrom (Unit {0}) name.now file.old.at (S.state shelf.old)
         (S.state shelf.new) file.new (cells_read version size) result }
     ensures lawful { IfOk result IsMapFile }
+    ensures version { IfOk result (λ value. version ≡ Version.One → IsVersionOneMap value) }
     ensures reads { OnlyReads (S.state shelf.old) (S.state shelf.new) }
 {
     let samples = read_map_samples(file, version, size, shelf, name)?;
@@ -487,7 +488,7 @@ fn read_value<S: Shelf>(
     ensures lawful { IfOk result IsMapFile }
     ensures reads { OnlyReads (S.state shelf.old) (S.state shelf.new) }
 {
-    let start = read_start(file, MAGIC, 2, shelf, name)?;
+    let start = read_start(file, MAGIC, 2, 2, shelf, name)?;
     read_body(alloc, file, start, shelf, name)
 }
 
@@ -506,6 +507,44 @@ pub fn read_map<S: Shelf>(alloc: Global, shelf: &mut S, name: &str) -> Result<Ma
 {
     let mut file = FileReader::new();
     let value = read_value(alloc, &mut file, shelf, name)?;
+    file.end(shelf, name)?;
+    Ok(value)
+}
+
+// Reads a map of version 1 and kind 0, and not whether the file ends after it.
+fn read_version_one_value<S: Shelf>(
+    alloc: Global,
+    file: &mut FileReader,
+    shelf: &mut S,
+    name: &str,
+) -> Result<MapFile, ReadError>
+    requires follows { Follows name.now (S.state shelf.old) file.old }
+    requires start { file.old.at ≡ 0 }
+    ensures answer { ReadsFrom (Unit {0}) name.now file.old.at (S.state shelf.old)
+        (S.state shelf.new) file.new version_one_value_read result }
+    ensures lawful { IfOk result IsMapFile }
+    ensures version { IfOk result IsVersionOneMap }
+    ensures reads { OnlyReads (S.state shelf.old) (S.state shelf.new) }
+{
+    let start = read_start(file, MAGIC, 1, 1, shelf, name)?;
+    read_cells(alloc, file, Version::One, start.output, shelf, name)
+}
+
+/// Reads a cell map of version 1 from the named file, to the file's end: as `read_map` does, but every
+/// other version is `Bad(Form(8))`, whatever follows it, and every other kind `Bad(Form(9))`.
+pub fn read_version_one_map<S: Shelf>(
+    alloc: Global,
+    shelf: &mut S,
+    name: &str,
+) -> Result<MapFile, ReadError>
+    ensures answer { MapReadsBy version_one_map_read name.now
+        (S.state shelf.old) (S.state shelf.new) result }
+    ensures lawful { IfOk result IsMapFile }
+    ensures version { IfOk result IsVersionOneMap }
+    ensures reads { OnlyReads (S.state shelf.old) (S.state shelf.new) }
+{
+    let mut file = FileReader::new();
+    let value = read_version_one_value(alloc, &mut file, shelf, name)?;
     file.end(shelf, name)?;
     Ok(value)
 }

@@ -13,13 +13,13 @@ returns-in_err-start-clause-answer g c =
     let b = state c.read_start.new.shelf in
     let e = c.in_err-start.field-0.0 in
     rw (p.1, p.2)
-    (first_stops (Unit {0}) c.args.name.now c.args.file.now.at (start_read map_magic 2) body_read a b c.read_start.new.file e
-    (lifted (Unit {0}) c.args.name.now c.args.file.now.at (start_read map_magic 2) a b c.read_start.new.file (Err e) c.in_err-start.ensures.answer))
+    (first_stops (Unit {0}) c.args.name.now c.args.file.now.at (start_read map_magic 2 2) body_read a b c.read_start.new.file e
+    (lifted (Unit {0}) c.args.name.now c.args.file.now.at (start_read map_magic 2 2) a b c.read_start.new.file (Err e) c.in_err-start.ensures.answer))
 
 pub returns-clause-answer : goal.returns-clause-answer
 returns-clause-answer g c =
     let state = g.S.Shelf.state in
     let ok = c.in_ok-start.ensures {u = tt} in
     let zero_is = c.requires.start in
-    then_reads (Unit {0}) c.args.name.now c.args.file.now.at (start_read map_magic 2) body_read (state c.args.shelf.now) (state c.read_start.new.shelf) (state c.read_body.new.shelf)
+    then_reads (Unit {0}) c.args.name.now c.args.file.now.at (start_read map_magic 2 2) body_read (state c.args.shelf.now) (state c.read_start.new.shelf) (state c.read_body.new.shelf)
     c.read_start.new.file c.read_body.new.file c.in_ok-start.start c.read_body.result ok.reads c.read_body.ensures.reads ok.answer c.read_body.ensures.answer

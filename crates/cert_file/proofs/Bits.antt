@@ -2,6 +2,8 @@
 use Rattle.std.proofs.Common.{◌≡◌, ◌+◌, ◌*◌, ◌++◌, ◌∷◌, [], ◌∙◌, ℕ, List, Bool, length, refl, ap, arith}
 use Rattle.cells.specs.Places.{cell_count}
 use Rattle.cut_check.specs.declared.record.CutRecord.{CutRecord}
+use Rattle.quilt.specs.declared.block.BlockRecord.{BlockRecord}
+use Rattle.cert_file.specs.BlockReading.{block_cells}
 use Rattle.cert_file.specs.CutReading.{bits_of, box_cells, byte_bits}
 use Rattle.std.proofs.lemmas.List.{length-append}
 
@@ -17,3 +19,7 @@ length-bits_of piece bits is = ap length is ∙ eight piece
 pub box_cells-append : (cuts : List CutRecord) (cut : CutRecord) → box_cells (cuts ++ cut ∷ []) ≡ box_cells cuts + cell_count cut.placement.rect.size
 box_cells-append [] cut = omega arith
 box_cells-append (first ∷ cuts) cut = omega (arith, box_cells-append cuts cut)
+
+pub block_cells-append : (blocks : List BlockRecord) (block : BlockRecord) → block_cells (blocks ++ block ∷ []) ≡ block_cells blocks + cell_count block.placement.rect.size
+block_cells-append [] block = omega arith
+block_cells-append (first ∷ blocks) block = omega (arith, block_cells-append blocks block)

@@ -26,7 +26,7 @@ use Rattle.source_map.specs.declared.head.Head.{Head}
 use Rattle.source_map.specs.declared.head.Version.{Version}
 use Rattle.source_map.specs.declared.head_reading.Start.{Start}
 use Rattle.source_map.specs.declared.head.Version.TheVariants.{One, Two}
-use Rattle.source_map.specs.Heads.{AreSamples, IsHead, IsKind, head_form, head_read, sizes_field, sizes_read, start_form, start_read}
+use Rattle.source_map.specs.Heads.{AreSamples, IsHead, IsKind, IsVersion, head_form, head_read, sizes_field, sizes_read, start_form, start_read}
 use Rattle.source_map.specs.MapFiles.{IsInSamples, IsShort, IsShortCoordinate, numbered_field, numbered_size, part_rule, place_field, place_read}
 use Rattle.source_map.specs.Readings.{◌>>=◌, field_read, list_read, number_read}
 use Rattle.source_map.proofs.Again.{Spells, alone_spells, field_spells, list_spells, not_equal, spells_16, spells_32, stands_split, then_spells}
@@ -38,19 +38,20 @@ use Rattle.source_map.proofs.PartLaws.{part_is}
 use Rattle.cert_file.specs.declared.file.CertFile.TheVariants.{Cuts}
 use Rattle.cert_file.specs.CutForms.{HasShortFlows, IsBoxSize, IsCutInForm, IsShortFlow, box_size_field, choice_field, cut_form, flow_field, from_field, signed_field}
 use Rattle.cert_file.specs.CutReading.{box_axis_rule, box_cells, box_cells_rule, box_size_read, choice_read, choice_rule, corner_rule, cut_read, cuts_read, each_read, flow_read, flow_rule, from_read, number_of_two, part_read}
-use Rattle.cert_file.specs.RecordFiles.{AreCutsInLimits, AreReadAgain, any_rule, cert_read, cuts_file_read, cuts_form, cuts_kind, kinds, record_magic}
+use Rattle.cert_file.specs.RecordFiles.{AreCutsInLimits, AreReadAgain, cert_read, cuts_form, cuts_kind, kinds, record_magic, records_read, versions}
+use Rattle.cert_file.specs.Rules.{any_rule}
 use Rattle.cert_file.proofs.ChoiceBits.{bits_taken, bits_unused}
 use Rattle.cert_file.proofs.Readings.{ruled}
 use Rattle.cert_file.proofs.RecordReading.{chain_to_end, value_at_end}
 use Rattle.std.proofs.lemmas.List.FromFn.{length-map-range_with_len}
 
 -- the corner of a box
-record IsCount (z : ℤ) : Type 0 where
-  n : ℕ
-  is : z ≡ pos n
-  below : n < 2 ^ 16
+pub record IsCount (z : ℤ) : Type 0 where
+  pub n : ℕ
+  pub is : z ≡ pos n
+  pub below : n < 2 ^ 16
 
-count_of : (z : ℤ) → IsShortCoordinate z → IsCount z
+pub count_of : (z : ℤ) → IsShortCoordinate z → IsCount z
 count_of (pos n) short = record { n = n; is = refl; below = omega (arith, ints, short.1) }
 count_of (negsuc n) short = absurd (omega (arith, ints, short.0))
 
@@ -69,11 +70,11 @@ corner_spells p short =
         (λ at i. Ok (record { x = pos (from_be_bytes-to_be_bytes_2 x x_lt i); y = pos (from_be_bytes-to_be_bytes_2 y y_lt i); f = pos (from_be_bytes-to_be_bytes_2 f f_lt i) }))
 
 -- the size of a box
-ruled_spells : {A : Type 0} (rule : Result A ReadError) (x : A) → rule ≡ Ok x → Spells (ruled rule) [] x
+pub ruled_spells : {A : Type 0} (rule : Result A ReadError) (x : A) → rule ≡ Ok x → Spells (ruled rule) [] x
 ruled_spells {A = A} rule x is at bytes stands =
     ap (λ (o : Result A ReadError). o >>= λ y. Ok (y, at)) is ∙ alone_spells x at bytes stands
 
-box_axis_spells : (n : ℕ) → 1 ≤ n → n < 2 ^ 16 → Spells (number_read w16 box_axis_rule) (field_16 n) n
+pub box_axis_spells : (n : ℕ) → 1 ≤ n → n < 2 ^ 16 → Spells (number_read w16 box_axis_rule) (field_16 n) n
 box_axis_spells n lo small =
     let some : nat_eq n 0 ≡ false = not_equal n 0 (λ e. omega arith) in
     spells_16 box_axis_rule n n small (λ at. rw some refl)
@@ -188,7 +189,7 @@ cut_spells version samples before are cut lawful short few =
     (then_spells (read_flows size) (end corner size from cut.choice) e [] cut.flows cut flows (alone_spells cut))))))
 
 -- a list, each of whose items is spelled in the light of those before
-each_spells : {A : Type 0} (read : List A → ℕ → List ℕ → Result (A × ℕ) ReadError) (field : A → List ℕ) (xs : List A)
+pub each_spells : {A : Type 0} (read : List A → ℕ → List ℕ → Result (A × ℕ) ReadError) (field : A → List ℕ) (xs : List A)
     → ((i : ℕ) (d : A) → i < length xs → Spells (read (take i xs)) (field (get_or xs i d)) (get_or xs i d))
     → Spells (each_read read (length xs)) (flat_map field xs) xs
 each_spells {A = A} read field [] all = alone_spells []
@@ -226,34 +227,39 @@ cuts_spell head cuts lawful short =
     cut_spells head.version head.samples (box_cells (take i cuts)) lawful.form.head_is.samples_are (get_or cuts i d) (lawful.form.each i d lt) (short i d lt)
     (omega (arith, cells_up_to cuts i d lt, lawful.cells)))
 
+any_version : (version : Version) → IsVersion versions version
+any_version One = omega arith
+any_version Two = omega arith
+
 -- the head and its kind
-head_spells : (head : Head) → IsHead head → Spells (head_read record_magic kinds) (head_form record_magic cuts_kind head) (head, cuts_kind)
-head_spells head is =
-    let start : Start = record { version = head.version; kind = cuts_kind; output = head.output } in
-    let value : Head × ℕ = (head, cuts_kind) in
+pub head_spells : (kind : ℕ) (head : Head) → IsHead head → IsKind kinds head.version kind → Spells (head_read record_magic versions kinds) (head_form record_magic kind head) (head, kind)
+head_spells kind head is kind_is =
+    let taken = any_version head.version in
+    let start : Start = record { version = head.version; kind = kind; output = head.output } in
+    let value : Head × ℕ = (head, kind) in
     let end = λ (s : Start) (samples : List Size). value_alone {A = Head × ℕ} (record { output = s.output; samples = samples; version = s.version }, s.kind) in
-    let form = start_form record_magic cuts_kind head.version head.output in
+    let form = start_form record_magic kind head.version head.output in
     let sizes = sizes_field head.version head.samples in
-    subst (λ piece. Spells (head_read record_magic kinds) piece value) (ap (λ t. form ++ t) (append-nil sizes))
-    (then_spells (start_read record_magic kinds) (λ s. chain (sizes_read s.version) (end s)) form (sizes ++ []) start value
-    (start_spells record_magic kinds cuts_kind head.version head.output refl refl (kind_is head.version) is.output_axes)
+    subst (λ piece. Spells (head_read record_magic versions kinds) piece value) (ap (λ t. form ++ t) (append-nil sizes))
+    (then_spells (start_read record_magic versions kinds) (λ s. chain (sizes_read s.version) (end s)) form (sizes ++ []) start value
+    (start_spells record_magic versions kinds kind head.version head.output refl refl taken kind_is is.output_axes)
     (then_spells (sizes_read head.version) (end start) sizes [] head.samples value (sizes_spell head.version head.samples is.samples_are) (alone_spells value)))
-  where
-    kind_is : (version : Version) → IsKind kinds version cuts_kind
-    kind_is One = refl
-    kind_is Two = refl
+
+cuts_kind_is : (version : Version) → IsKind kinds version cuts_kind
+cuts_kind_is One = refl
+cuts_kind_is Two = refl
 
 -- wherever the piece ends the bytes, the value is read
-abbrev EndsAs : {A : Type 0} → (ℕ → List ℕ → Result A ReadError) → List ℕ → A → Type 0
+abbrev pub EndsAs : {A : Type 0} → (ℕ → List ℕ → Result A ReadError) → List ℕ → A → Type 0
 EndsAs read piece x = (at : ℕ) (bytes : List ℕ) → StandsAt at piece bytes → length bytes ≡ at + length piece → read at bytes ≡ Ok x
 
-then_ends : {A B : Type 0} (first : ℕ → List ℕ → Result (A × ℕ) ReadError) (second : A → ℕ → List ℕ → Result B ReadError) (p q : List ℕ) (x : A) (y : B)
+pub then_ends : {A B : Type 0} (first : ℕ → List ℕ → Result (A × ℕ) ReadError) (second : A → ℕ → List ℕ → Result B ReadError) (p q : List ℕ) (x : A) (y : B)
     → Spells first p x → EndsAs (second x) q y → EndsAs (chain_to_end first second) (p ++ q) y
 then_ends first second p q x y one two at bytes stands end =
     let parts = stands_split at p q bytes stands in
     ap (λ r. r >>= λ z. second z.0 z.1 bytes) (one at bytes parts.0) ∙ two (at + length p) bytes parts.1 (omega (arith, end, length-append p q))
 
-value_ends : {A : Type 0} (x : A) → EndsAs (value_at_end x) [] x
+pub value_ends : {A : Type 0} (x : A) → EndsAs (value_at_end x) [] x
 value_ends x at bytes stands end = let here : nat_le (length bytes) at ≡ true = le-leb (length bytes) at (omega (arith, end)) in rw here refl
 
 -- the whole file
@@ -265,8 +271,8 @@ cuts_again head cuts lawful short =
     let n = field_32 (length cuts) in
     let c = flat_map form cuts in
     let all : h ++ (n ++ (c ++ [])) ≡ cuts_form head cuts = ap (λ t. h ++ (n ++ t)) (append-nil c) ∙ sym (append_assoc h n c) in
-    let read : EndsAs (chain_to_end (head_read record_magic kinds) (λ head. cuts_file_read head.0)) (h ++ (n ++ (c ++ []))) value =
-    then_ends (head_read record_magic kinds) (λ head. cuts_file_read head.0) h (n ++ (c ++ [])) (head, cuts_kind) value (head_spells head lawful.form.head_is)
+    let read : EndsAs (chain_to_end (head_read record_magic versions kinds) (λ head. records_read head.1 head.0)) (h ++ (n ++ (c ++ []))) value =
+    then_ends (head_read record_magic versions kinds) (λ head. records_read head.1 head.0) h (n ++ (c ++ [])) (head, cuts_kind) value (head_spells cuts_kind head lawful.form.head_is (cuts_kind_is head.version))
     (then_ends (number_read w32 any_rule) (λ n. chain_to_end (cuts_read head.version head.samples n) (λ cuts. value_at_end (Cuts head cuts))) n (c ++ []) (length cuts) value
     (spells_32 any_rule (length cuts) (length cuts) lawful.form.count (λ at. refl))
     (then_ends (cuts_read head.version head.samples (length cuts)) (λ cuts. value_at_end (Cuts head cuts)) c [] cuts value (cuts_spell head cuts lawful short) (value_ends value))) in

@@ -1,5 +1,5 @@
 -- Cut records that were read are spelled by the bytes.
-use Rattle.std.proofs.Common.{◌≡◌, true, ℕ, zero, suc, ◌+◌, ◌≤◌, ◌<◌, ◌^◌, List, [], ◌∷◌, ◌++◌, length, take, drop, get_or, refl, sym, ap, ◌∙◌, subst, arith, ltb-true, w32, eqb-true}
+use Rattle.std.proofs.Common.{◌≡◌, true, ℕ, zero, suc, ◌+◌, ◌≤◌, ◌<◌, ◌^◌, List, [], ◌∷◌, ◌++◌, length, take, drop, get_or, refl, sym, ap, ◌∙◌, subst, arith}
 use Rattle.std.proofs.lemmas.Bool.{leb-true}
 use Rattle.std.proofs.lemmas.Int.{of_z-to_z}
 use Rattle.std.proofs.lemmas.List.{append-nil, length-append, take_all}
@@ -25,9 +25,9 @@ use Rattle.file_bytes.specs.Fields.{field_16, field_32}
 use Rattle.source_map.specs.declared.head.Head.{Head}
 use Rattle.source_map.specs.declared.head.Version.{Version}
 use Rattle.source_map.specs.declared.head.Version.TheVariants.{One, Two}
-use Rattle.source_map.specs.Heads.{IsKind, head_form, head_read}
+use Rattle.source_map.specs.Heads.{head_form, head_read}
 use Rattle.source_map.specs.MapFiles.{numbered_field, numbered_size, part_rule, place_field, place_read}
-use Rattle.source_map.specs.Readings.{◌>>=◌, AreBytes, field_read, list_read, number_read}
+use Rattle.source_map.specs.Readings.{◌>>=◌, field_read, list_read, number_read}
 use Rattle.source_map.proofs.HeadsSpelled.{head_kind, head_stood}
 use Rattle.source_map.proofs.MapsSpelled.{numbered_there, part_code, place_stood, stock_one, there_is}
 use Rattle.source_map.proofs.PartLaws.{part_is}
@@ -35,12 +35,14 @@ use Rattle.source_map.proofs.Spelled.{Spelled, Stood, both_stood, ended, field_s
 use Rattle.cert_file.specs.declared.file.CertFile.{CertFile}
 use Rattle.cert_file.specs.declared.file.CertFile.TheVariants.{Cuts}
 use Rattle.cert_file.specs.CutForms.{box_size_field, choice_bytes, choice_field, cut_form, flow_field, from_field}
-use Rattle.cert_file.specs.CutReading.{bits_of, box_axis_rule, box_cells, box_cells_rule, box_size_read, choice_read, choice_rule, corner_rule, cut_read, cuts_read, each_read, flow_read, flow_rule, from_read, none_set, number_of_two}
-use Rattle.cert_file.specs.RecordFiles.{AreSpelled, any_rule, cuts_file_read, cuts_form, cuts_kind, end_rule, kinds, record_magic}
+use Rattle.cert_file.specs.CutReading.{bits_of, box_axis_rule, box_cells, box_cells_rule, box_size_read, choice_read, choice_rule, corner_rule, cut_read, each_read, flow_read, flow_rule, from_read, none_set, number_of_two}
+use Rattle.cert_file.specs.RecordFiles.{AreSpelled, cuts_form, cuts_kind, kinds, record_magic, records_read, versions}
+use Rattle.cert_file.specs.Rules.{any_rule}
 use Rattle.cert_file.proofs.ChoiceSpelled.{choice_spelled}
+use Rattle.cert_file.proofs.ByKind.{cuts_only, spelling}
 
 -- a number of two bytes is spelled by them
-two : (a b : ℕ) → a < 256 → b < 256 → field_16 (from_be_bytes w16 (a ∷ b ∷ [])) ≡ a ∷ b ∷ []
+pub two : (a b : ℕ) → a < 256 → b < 256 → field_16 (from_be_bytes w16 (a ∷ b ∷ [])) ≡ a ∷ b ∷ []
 two a b sa sb = be_bytes_2 (a ∷ b ∷ []) (from_be_bytes w16 (a ∷ b ∷ [])) refl small refl
   where
     small : (i : ℕ) → get_or (a ∷ b ∷ []) i 0 < 256
@@ -70,7 +72,7 @@ corner_stood at bytes corner end small le is =
     subst (λ p. Stood at end p bytes) (corner_field f.piece f.long f.small corner f.ruled) f.stood
 
 -- the size of a box
-box_axis_code : (at n x : ℕ) → box_axis_rule at n ≡ Ok x → n ≡ x
+pub box_axis_code : (at n x : ℕ) → box_axis_rule at n ≡ Ok x → n ≡ x
 box_axis_code at n x is = same_value n x (otherwise (nat_eq n 0) (Ok n) x (Bad (Form at)) is).1
 
 box_stood : (before : ℕ) → Spelled (box_size_read before) box_size_field
@@ -176,7 +178,7 @@ cut_stood version samples before at bytes cut end small le is =
     (both_stood at c.x.1 d.x.1 (p1 ++ p2 ++ p3) p4 bytes (both_stood at b.x.1 c.x.1 (p1 ++ p2) p3 bytes (both_stood at a.x.1 b.x.1 p1 p2 bytes s1 s2) s3) s4) s5)
 
 -- a list, of whose items each is spelled, whatever stands before it
-each_stood : {A : Type 0} (read : List A → ℕ → List ℕ → Result (A × ℕ) ReadError) (field : A → List ℕ) → ((front : List A) → Spelled (read front) field) → (n : ℕ) → Spelled (each_read read n) (flat_map field)
+pub each_stood : {A : Type 0} (read : List A → ℕ → List ℕ → Result (A × ℕ) ReadError) (field : A → List ℕ) → ((front : List A) → Spelled (read front) field) → (n : ℕ) → Spelled (each_read read n) (flat_map field)
 each_stood {A = A} read field one zero at bytes xs end small le is =
     ended {A = List A} (flat_map field) [] xs at at end bytes is (none_stood at bytes le)
 each_stood {A = A} read field one (suc n) at bytes xs end small le is =
@@ -189,7 +191,7 @@ each_stood {A = A} read field one (suc n) at bytes xs end small le is =
     ended {A = List A} (flat_map field) (a.x.0 ++ b.x.0 ∷ []) xs at b.x.1 end bytes b.two
     (subst (λ p. Stood at b.x.1 p bytes) all (both_stood at a.x.1 b.x.1 (flat_map field a.x.0) (field b.x.0) bytes front last))
 
-each_count : {A : Type 0} (read : List A → ℕ → List ℕ → Result (A × ℕ) ReadError) (n at : ℕ) (bytes : List ℕ) (xs : List A) (end : ℕ) → each_read read n at bytes ≡ Ok (xs, end) → length xs ≡ n
+pub each_count : {A : Type 0} (read : List A → ℕ → List ℕ → Result (A × ℕ) ReadError) (n at : ℕ) (bytes : List ℕ) (xs : List A) (end : ℕ) → each_read read n at bytes ≡ Ok (xs, end) → length xs ≡ n
 each_count {A = A} read zero at bytes xs end is = ap length (sym (same_first {A = List A} [] xs at end is))
 each_count {A = A} read (suc n) at bytes xs end is =
     let a = peel {A = List A × ℕ} {C = List A × ℕ} (each_read read n at bytes) (λ f. read f.0 f.1 bytes >>= λ l. Ok (f.0 ++ l.0 ∷ [], l.1)) (xs, end) is in
@@ -199,35 +201,25 @@ each_count {A = A} read (suc n) at bytes xs end is =
     omega (arith, front, all, length-append a.x.0 (b.x.0 ∷ []))
 
 -- the whole file
-whole_stood : (piece bytes : List ℕ) (end : ℕ) → Stood 0 end piece bytes → nat_le (length bytes) end ≡ true → bytes ≡ piece
+pub whole_stood : (piece bytes : List ℕ) (end : ℕ) → Stood 0 end piece bytes → nat_le (length bytes) end ≡ true → bytes ≡ piece
 whole_stood piece bytes end stood ends =
     let le = leb-true (length bytes) end ends in
     sym (stood.is ∙ take_all (length piece) bytes (omega (arith, le, stood.end_is)))
 
-cuts_kind_only : (version : Version) (kind : ℕ) → IsKind kinds version kind → kind ≡ cuts_kind
-cuts_kind_only One kind is = let lt = ltb-true kind 1 is in omega (arith, lt)
-cuts_kind_only Two kind is = eqb-true kind 0 is
-
 pub cuts_spelled : (bytes : List ℕ) (head : Head) (cuts : List CutRecord) → AreSpelled bytes head cuts
 cuts_spelled bytes head cuts small is =
     let value = Cuts head cuts in
-    let a = peel {A = (Head × ℕ) × ℕ} {C = CertFile} (head_read record_magic kinds 0 bytes) (λ h. cuts_file_read h.0.0 h.1 bytes) value is in
+    let a = peel {A = (Head × ℕ) × ℕ} {C = CertFile} (head_read record_magic versions kinds 0 bytes) (λ h. records_read h.0.1 h.0.0 h.1 bytes) value is in
     let top = a.x.0.0 in
-    let read = cuts_read top.version top.samples in
-    let b = peel {A = ℕ × ℕ} {C = CertFile} (number_read w32 any_rule a.x.1 bytes) (λ n. read n.0 n.1 bytes >>= λ cuts. end_rule cuts.1 bytes >>= λ end. Ok (Cuts top cuts.0)) value a.two in
-    let c = peel {A = List CutRecord × ℕ} {C = CertFile} (read b.x.0 b.x.1 bytes) (λ cuts. end_rule cuts.1 bytes >>= λ end. Ok (Cuts top cuts.0)) value b.two in
-    let d = peel {A = Unit {0}} {C = CertFile} (end_rule c.x.1 bytes) (λ end. Ok (Cuts top c.x.0)) value c.two in
-    let ends = passed (nat_le (length bytes) c.x.1) tt d.x (Bad (Form c.x.1)) d.one in
+    let parts = cuts_only a.x.0.1 top a.x.1 bytes head cuts (head_kind record_magic versions kinds 0 bytes a.x.0 a.x.1 a.one) a.two in
+    let p = parts.1 in
     let form = cut_form top.version top.samples in
+    let read = λ (front : List CutRecord). cut_read top.version top.samples (box_cells front) in
     let start : 0 ≤ length bytes = omega arith in
-    let kind = cuts_kind_only top.version a.x.0.1 (head_kind record_magic kinds 0 bytes a.x.0 a.x.1 a.one) in
-    let h = subst (λ k. Stood 0 a.x.1 (head_form record_magic k top) bytes) kind (head_stood record_magic kinds 0 bytes a.x.0 a.x.1 small start a.one) in
-    let n = number_32_stood any_rule (λ n. n) (λ at n x e. same_value n x e) a.x.1 bytes b.x.0 b.x.1 small h.within b.one in
-    let n' = subst (λ k. Stood a.x.1 b.x.1 (field_32 k) bytes) (sym (each_count (λ front. cut_read top.version top.samples (box_cells front)) b.x.0 b.x.1 bytes c.x.0 c.x.1 c.one)) n in
-    let r = each_stood (λ front. cut_read top.version top.samples (box_cells front)) form (λ front. cut_stood top.version top.samples (box_cells front)) b.x.0 b.x.1 bytes c.x.0 c.x.1 small n.within c.one in
-    let all = both_stood 0 b.x.1 c.x.1 (head_form record_magic cuts_kind top ++ field_32 (length c.x.0)) (flat_map form c.x.0) bytes
-    (both_stood 0 a.x.1 b.x.1 (head_form record_magic cuts_kind top) (field_32 (length c.x.0)) bytes h n') r in
-    whole_stood (cuts_form top c.x.0) bytes c.x.1 all ends.0 ∙ ap spelling (same_value (Cuts top c.x.0) value d.two)
-  where
-    spelling : CertFile → List ℕ
-    spelling (Cuts head cuts) = cuts_form head cuts
+    let h = subst (λ k. Stood 0 a.x.1 (head_form record_magic k top) bytes) parts.0 (head_stood record_magic versions kinds 0 bytes a.x.0 a.x.1 small start a.one) in
+    let n = number_32_stood any_rule (λ n. n) (λ at n x e. same_value n x e) a.x.1 bytes p.count.0 p.count.1 small h.within p.count_is in
+    let n' = subst (λ k. Stood a.x.1 p.count.1 (field_32 k) bytes) (sym (each_count read p.count.0 p.count.1 bytes p.cuts.0 p.cuts.1 p.cuts_are)) n in
+    let r = each_stood read form (λ front. cut_stood top.version top.samples (box_cells front)) p.count.0 p.count.1 bytes p.cuts.0 p.cuts.1 small n.within p.cuts_are in
+    let all = both_stood 0 p.count.1 p.cuts.1 (head_form record_magic cuts_kind top ++ field_32 (length p.cuts.0)) (flat_map form p.cuts.0) bytes
+    (both_stood 0 a.x.1 p.count.1 (head_form record_magic cuts_kind top) (field_32 (length p.cuts.0)) bytes h n') r in
+    whole_stood (cuts_form top p.cuts.0) bytes p.cuts.1 all p.ends ∙ ap spelling p.value_is

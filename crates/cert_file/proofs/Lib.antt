@@ -7,3 +7,11 @@ pub mod ChoiceBits
 pub mod CutsAgain
 pub mod ChoiceSpelled
 pub mod CutsSpelled
+pub mod ByKind
+pub mod WalksAgain
+pub mod WalksSpelled
+pub mod NumberLists
+pub mod BlocksAgain
+pub mod BlocksSpelled
+pub mod VersionOne
+pub mod StripColumns

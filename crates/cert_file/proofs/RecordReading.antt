@@ -13,7 +13,8 @@ use Rattle.source_map.specs.Heads.{head_read}
 use Rattle.source_map.specs.Readings.{◌>>=◌, Found, ReadsFrom}
 use Rattle.source_map.proofs.FieldLaws.{weaker}
 use Rattle.cert_file.specs.declared.file.CertFile.{CertFile}
-use Rattle.cert_file.specs.RecordFiles.{ReadsCert, ReadsToEnd, cuts_file_read, end_rule, kinds, record_magic}
+use Rattle.cert_file.specs.RecordFiles.{ReadsCert, ReadsToEnd, kinds, record_magic, records_read, versions}
+use Rattle.cert_file.specs.Rules.{end_rule}
 
 -- one reading, and then another to the end of the file
 abbrev pub chain_to_end : {A B : Type 0} → (ℕ → List ℕ → Result (A × ℕ) ReadError) → (A → ℕ → List ℕ → Result B ReadError) → ℕ → List ℕ → Result B ReadError
@@ -75,7 +76,7 @@ ends_not memory name at was now x NoMemory stops = absurd stops
 
 -- the whole file
 pub whole_file : (name : List ℕ) (was now : ShelfState) (result : Result CertFile ReadError)
-    → ReadsToEnd (Unit {0}) name 0 was now (chain_to_end (head_read record_magic kinds) (λ head. cuts_file_read head.0)) result → ReadsCert name was now result
+    → ReadsToEnd (Unit {0}) name 0 was now (chain_to_end (head_read record_magic versions kinds) (λ head. records_read head.1 head.0)) result → ReadsCert name was now result
 whole_file name was now (Ok file) answer = answer
 whole_file name was now (Err ReadFault) answer = answer
 whole_file name was now (Err NoMemory) answer = tt

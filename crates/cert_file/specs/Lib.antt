@@ -1,4 +1,9 @@
+pub mod BlockForms
+pub mod BlockReading
 pub mod CutForms
 pub mod CutReading
 pub mod CutTaking
 pub mod RecordFiles
+pub mod Rules
+pub mod WalkForms
+pub mod WalkReading

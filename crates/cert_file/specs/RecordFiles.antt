@@ -1,38 +1,66 @@
 -- What a reader has to trust: the forms of record files, and which values have one. (Own.)
-use Rattle.std.specs.Prelude.{◌≡◌, ◌≤◌, ◌<◌, ◌^◌, ℕ, List, ◌++◌, length, All, codes, nat_le, if◌then◌else◌, Result, Ok, Err}
+use Rattle.std.specs.Prelude.{◌≡◌, ◌≤◌, ◌<◌, ◌^◌, ℕ, List, ◌++◌, length, All, ◌==◌, codes, if◌then◌else◌, Result, Ok, Err}
 use Rattle.std.specs.Int.{w32}
 use Rattle.std.specs.List.{flat_map}
 use Rattle.shelf_core.specs.Files.{ReadsRose, ShelfState}
-use Rattle.shelf_core.specs.declared.fault.FormFault.TheVariants.{Form}
 use Rattle.shelf_core.specs.declared.fault.ReadError.{ReadError}
-use Rattle.shelf_core.specs.declared.fault.ReadError.TheVariants.{Bad, NoMemory, ReadFault}
+use Rattle.shelf_core.specs.declared.fault.ReadError.TheVariants.{NoMemory, ReadFault}
 use Rattle.file_bytes.specs.Fields.{field_32}
 use Rattle.file_bytes.specs.Reading.{OfFile}
+use Rattle.cells.specs.declared.place.Taps.{Taps}
 use Rattle.cut_check.specs.declared.record.CutRecord.{CutRecord}
+use Rattle.quilt.specs.declared.block.BlockRecord.{BlockRecord}
 use Rattle.source_map.specs.declared.head.Head.{Head}
+use Rattle.source_map.specs.declared.head.Version.TheVariants.{One}
 use Rattle.source_map.specs.Heads.{IsHead, head_form, head_read}
 use Rattle.source_map.specs.Readings.{◌>>=◌, AreBytes, number_read}
 use Rattle.cert_file.specs.declared.file.CertFile.{CertFile}
-use Rattle.cert_file.specs.declared.file.CertFile.TheVariants.{Cuts}
+use Rattle.cert_file.specs.declared.file.CertFile.TheVariants.{Blocks, Cuts, Walk}
+use Rattle.cert_file.specs.BlockForms.{IsBlockInForm, IsWideBlock, block_form}
+use Rattle.cert_file.specs.BlockReading.{block_cells, blocks_read}
 use Rattle.cert_file.specs.CutForms.{HasShortFlows, IsCutInForm, cut_form}
 use Rattle.cert_file.specs.CutReading.{box_cells, cuts_read}
+use Rattle.cert_file.specs.Rules.{any_rule, end_rule}
+use Rattle.cert_file.specs.WalkForms.{AreWide, IsWalkInForm, walk_form}
+use Rattle.cert_file.specs.WalkReading.{walk_file_read}
 use Rattle.cert_file.specs.declared.cut_fields.TheConstants.{MOST_BOX_CELLS}
 
 abbrev pub record_magic : List ℕ
 record_magic = codes "WEAVEREC"
 
--- the kind of cut records, and how many kinds there are
+-- how many versions there are
+abbrev pub versions : ℕ
+versions = 2
+
+-- the kinds of cut records, of block records and of walks, and how many kinds there are
 abbrev pub cuts_kind : ℕ
 cuts_kind = 0
 
+abbrev pub blocks_kind : ℕ
+blocks_kind = 1
+
+abbrev pub walk_kind : ℕ
+walk_kind = 2
+
 abbrev pub kinds : ℕ
-kinds = 1
+kinds = 3
 
 -- the one spelling of cut records: the head, how many there are, and each
 abbrev pub cuts_form : Head → List CutRecord → List ℕ
 cuts_form head cuts =
     head_form record_magic cuts_kind head ++ field_32 (length cuts)
     ++ flat_map (cut_form head.version head.samples) cuts
+
+-- the one spelling of block records: the head, how many there are, and each
+abbrev pub blocks_form : Head → List BlockRecord → List ℕ
+blocks_form head blocks =
+    head_form record_magic blocks_kind head ++ field_32 (length blocks)
+    ++ flat_map block_form blocks
+
+-- the one spelling of a walk record: the head, and the record
+abbrev pub walk_file_form : Head → Taps → ℕ → List ℕ → List ℕ → List ℕ
+walk_file_form head taps gap walk tables =
+    head_form record_magic walk_kind head ++ walk_form taps gap walk tables
 
 -- cut records that have a spelling: a head with the sizes of 1 to 16 samples, one in version 1, no
 -- more records than a number of 32 bits counts, and the values of each in the ranges of the form
@@ -46,16 +74,22 @@ pub record AreCutsInLimits (head : Head) (cuts : List CutRecord) : Type 0 where
   pub form : AreCutsInForm head cuts
   pub cells : box_cells cuts ≤ MOST_BOX_CELLS
 
+-- block records that have a spelling: a head of version 1, no more records than a number of 32 bits
+-- counts, and the values of each in the ranges of the form
+pub record AreBlocksInForm (head : Head) (blocks : List BlockRecord) : Type 0 where
+  pub head_is : IsHead head
+  pub version : head.version ≡ One
+  pub count : length blocks < 2 ^ 32
+  pub each : All IsBlockInForm blocks
+
+pub record AreBlocksInLimits (head : Head) (blocks : List BlockRecord) : Type 0 where
+  pub form : AreBlocksInForm head blocks
+  pub cells : block_cells blocks ≤ MOST_BOX_CELLS
+
 abbrev pub IsCert : CertFile → Type 0
 IsCert (Cuts head cuts) = AreCutsInLimits head cuts
-
--- any number may stand there
-abbrev pub any_rule : ℕ → ℕ → Result ℕ ReadError
-any_rule at n = Ok n
-
--- the file ends here
-abbrev pub end_rule : ℕ → List ℕ → Result (Unit {0}) ReadError
-end_rule at bytes = if nat_le (length bytes) at then Ok tt else Err (Bad (Form at))
+IsCert (Blocks head blocks) = AreBlocksInLimits head blocks
+IsCert (Walk head taps gap walk tables) = IsWalkInForm head gap walk tables
 
 -- cut records, from behind a head to the end of the file
 abbrev pub cuts_file_read : Head → ℕ → List ℕ → Result CertFile ReadError
@@ -64,25 +98,79 @@ cuts_file_read head at bytes =
     cuts_read head.version head.samples count.0 count.1 bytes >>= λ cuts.
     end_rule cuts.1 bytes >>= λ end. Ok (Cuts head cuts.0)
 
+-- block records, from behind a head to the end of the file
+abbrev pub blocks_file_read : Head → ℕ → List ℕ → Result CertFile ReadError
+blocks_file_read head at bytes =
+    number_read w32 any_rule at bytes >>= λ count.
+    blocks_read count.0 count.1 bytes >>= λ blocks.
+    end_rule blocks.1 bytes >>= λ end. Ok (Blocks head blocks.0)
+
+-- what follows a head, to the end of the file
+abbrev pub records_read : ℕ → Head → ℕ → List ℕ → Result CertFile ReadError
+records_read kind head at bytes =
+    if kind == cuts_kind then cuts_file_read head at bytes
+    else if kind == blocks_kind then blocks_file_read head at bytes
+    else walk_file_read head at bytes
+
 -- what a whole file is read as: a value, or its first refusal
 abbrev pub cert_read : List ℕ → Result CertFile ReadError
 cert_read bytes =
-    head_read record_magic kinds 0 bytes >>= λ head. cuts_file_read head.0.0 head.1 bytes
+    head_read record_magic versions kinds 0 bytes
+    >>= λ head. records_read head.0.1 head.0.0 head.1 bytes
+
+-- the same for a reader that takes version 1 and kind 0 alone: other versions and other kinds are
+-- refused at their fields, and all else is as above
+abbrev pub version_one_cuts_read : List ℕ → Result CertFile ReadError
+version_one_cuts_read bytes =
+    head_read record_magic 1 1 0 bytes >>= λ head. cuts_file_read head.0.0 head.1 bytes
+
+-- cut records, and not another kind
+abbrev pub AreCuts : CertFile → Type 0
+AreCuts (Cuts head cuts) = Unit {0}
+AreCuts file = ⊥
+
+-- cut records of version 1
+abbrev pub AreVersionOneCuts : CertFile → Type 0
+AreVersionOneCuts (Cuts head cuts) = head.version ≡ One
+AreVersionOneCuts file = ⊥
 
 -- the bytes are in their form and within the limits, and stand for the value
 abbrev pub IsCertOf : List ℕ → CertFile → Type 0
 IsCertOf bytes file = cert_read bytes ≡ Ok file
 
+-- a reader of version 1 alone reads nothing else than one of all versions does
+abbrev pub IsReadByBoth : List ℕ → CertFile → Type 0
+IsReadByBoth bytes file =
+    version_one_cuts_read bytes ≡ Ok file → IsCertOf bytes file × AreVersionOneCuts file
+
 -- what is written is read again: the spelling of records within the limits stands for them. That their
--- flows have 16 bits holds of all records in memory
+-- flows, paths and sums have 16 or 32 bits holds of all records in memory
 abbrev pub AreReadAgain : Head → List CutRecord → Type 0
 AreReadAgain head cuts = AreCutsInLimits head cuts → All HasShortFlows cuts
     → IsCertOf (cuts_form head cuts) (Cuts head cuts)
+
+abbrev pub AreBlocksReadAgain : Head → List BlockRecord → Type 0
+AreBlocksReadAgain head blocks = AreBlocksInLimits head blocks → All IsWideBlock blocks
+    → IsCertOf (blocks_form head blocks) (Blocks head blocks)
+
+abbrev pub IsWalkReadAgain : Head → Taps → ℕ → List ℕ → List ℕ → Type 0
+IsWalkReadAgain head taps gap walk tables = IsWalkInForm head gap walk tables
+    → AreWide walk tables
+    → IsCertOf (walk_file_form head taps gap walk tables) (Walk head taps gap walk tables)
 
 -- bytes that stand for records are their spelling
 abbrev pub AreSpelled : List ℕ → Head → List CutRecord → Type 0
 AreSpelled bytes head cuts = AreBytes bytes → IsCertOf bytes (Cuts head cuts)
     → bytes ≡ cuts_form head cuts
+
+abbrev pub AreBlocksSpelled : List ℕ → Head → List BlockRecord → Type 0
+AreBlocksSpelled bytes head blocks = AreBytes bytes → IsCertOf bytes (Blocks head blocks)
+    → bytes ≡ blocks_form head blocks
+
+abbrev pub IsWalkSpelled : List ℕ → Head → Taps → ℕ → List ℕ → List ℕ → Type 0
+IsWalkSpelled bytes head taps gap walk tables =
+    AreBytes bytes → IsCertOf bytes (Walk head taps gap walk tables)
+    → bytes ≡ walk_file_form head taps gap walk tables
 
 -- they aren't, and this is the first refusal
 abbrev pub RefusesCert : List ℕ → ReadError → Type 0
@@ -99,10 +187,16 @@ ReadsToEnd memory name place was now read (Err NoMemory) = memory
 ReadsToEnd memory name place was now read (Err refusal) =
     OfFile name now.files (λ bytes. read place bytes ≡ Err refusal)
 
--- what `read_cert` answers: the value of the file's bytes, or their first refusal; want of memory may
--- come instead of either
+-- what a reader answers, by what bytes are read as: the value of the file's bytes, or their first
+-- refusal; want of memory may come instead of either
+abbrev pub ReadsCertBy : (List ℕ → Result CertFile ReadError) → List ℕ → ShelfState → ShelfState
+    → Result CertFile ReadError → Type 0
+ReadsCertBy read name was now (Ok file) = OfFile name now.files (λ bytes. read bytes ≡ Ok file)
+ReadsCertBy read name was now (Err ReadFault) = ReadsRose name was now
+ReadsCertBy read name was now (Err NoMemory) = Unit {0}
+ReadsCertBy read name was now (Err refusal) =
+    OfFile name now.files (λ bytes. read bytes ≡ Err refusal)
+
+-- what `read_cert` answers
 abbrev pub ReadsCert : List ℕ → ShelfState → ShelfState → Result CertFile ReadError → Type 0
-ReadsCert name was now (Ok file) = OfFile name now.files (λ bytes. IsCertOf bytes file)
-ReadsCert name was now (Err ReadFault) = ReadsRose name was now
-ReadsCert name was now (Err NoMemory) = Unit {0}
-ReadsCert name was now (Err refusal) = OfFile name now.files (λ bytes. RefusesCert bytes refusal)
+ReadsCert = ReadsCertBy cert_read

@@ -16,7 +16,7 @@ use source_map::{Version, read_place};
 pub const MOST_BOX_CELLS: u64 = 33554432;
 
 // The refusal of a field at its place.
-fn form<T>(at: u64) -> Result<T, ReadError>
+pub(crate) fn form<T>(at: u64) -> Result<T, ReadError>
     ensures { result ≡ Err (ReadError.Bad (FormFault.Form at)) }
 {
     Err(ReadError::Bad(FormFault::Form(at)))
@@ -46,7 +46,7 @@ fn lawful_box_axis(n: u16, at: u64) -> Result<u16, ReadError>
 }
 
 // The size of a box, if the cells of all boxes so far are few enough.
-fn lawful_box(before: u64, w: u16, h: u16, f: u16) -> Result<Size, ReadError>
+pub(crate) fn lawful_box(before: u64, w: u16, h: u16, f: u16) -> Result<Size, ReadError>
     requires w { 1 ≤ w }
     requires h { 1 ≤ h }
     requires f { 1 ≤ f }
@@ -105,7 +105,7 @@ pub(crate) fn read_corner<S: Shelf>(
 }
 
 // Reads an axis of a box.
-fn read_box_axis<S: Shelf>(
+pub(crate) fn read_box_axis<S: Shelf>(
     file: &mut FileReader,
     shelf: &mut S,
     name: &str,

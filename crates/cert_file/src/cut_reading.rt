@@ -75,7 +75,7 @@ fn read_flows<S: Shelf>(
 }
 
 // How many cells a box has.
-fn cells_of(size: Size) -> usize
+pub(crate) fn cells_of(size: Size) -> usize
     requires axes { IsBoxSize size }
     requires few { cell_count size ≤ MOST_BOX_CELLS }
     ensures { result ≡ cell_count size }

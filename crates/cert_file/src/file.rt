@@ -4,34 +4,64 @@ ghost use Rattle.std.specs.Int.{w32};
 ghost use Rattle.shelf_core.specs.Files.{Changes, OnlyReads, OnlyWrites, WritesRose};
 ghost use Rattle.shelf_core.specs.Written.{HoldsPart, HoldsText};
 ghost use Rattle.file_bytes.specs.Reading.{Follows};
-ghost use Rattle.source_map.specs.Heads.{IsHead};
+ghost use Rattle.source_map.specs.Heads.{IsHead, IsKind};
 ghost use Rattle.source_map.specs.Readings.{ReadsFrom, number_read};
 ghost use Rattle.cert_file.specs.declared.file.CertFile.TheVariants.{Cuts};
-ghost use Rattle.cert_file.specs.RecordFiles.{AreCutsInForm, AreCutsInLimits, IsCert, IsCertOf, ReadsCert, ReadsToEnd, any_rule, cuts_file_read, cuts_form};
+ghost use Rattle.cert_file.specs.RecordFiles.{AreCuts, AreCutsInForm, AreCutsInLimits, IsCert, IsCertOf, ReadsCert, ReadsCertBy, ReadsToEnd, cuts_file_read, cuts_form, records_read, version_one_cuts_read};
+ghost use Rattle.cert_file.specs.Rules.{any_rule};
 
+use crate::blocks::read_blocks_file;
 use crate::cut_reading::read_cuts;
 use crate::cuts::put_cuts;
+use crate::walks::read_walk_file;
+use cells::Taps;
 use cut_check::CutRecord;
 use file_bytes::{FileReader, FileWriter};
 use items::Items;
+use quilt::BlockRecord;
 use shelf_core::{ReadError, Shelf, WriteFault};
 use source_map::{Head, put_head, read_head};
 use std::alloc::Global;
 
 // What each record file begins with.
-const MAGIC: [u8; 8] = *b"WEAVEREC";
+pub(crate) const MAGIC: [u8; 8] = *b"WEAVEREC";
 
 // The kind of a file of cut records.
 const CUTS: u8 = 0;
 
+// The kind of a file of block records.
+pub(crate) const BLOCKS: u8 = 1;
+
+// The kind of a file of a walk record.
+pub(crate) const WALK: u8 = 2;
+
+// How many versions there are.
+const VERSIONS: u8 = 2;
+
 // How many kinds there are.
-const KINDS: u8 = 1;
+const KINDS: u8 = 3;
 
 /// What a record file holds.
 #[derive(Drop)]
 pub enum CertFile {
     /// The records of placements and rounds, in their order.
-    Cuts { head: Head, cuts: Items<CutRecord> },
+    Cuts {
+        head: Head,
+        cuts: Items<CutRecord>,
+    },
+    /// The records of a quilt's blocks, in their order.
+    Blocks {
+        head: Head,
+        blocks: Items<BlockRecord>,
+    },
+    /// The walk of a loop, with the filter and the gap of its step costs, and its tables.
+    Walk {
+        head: Head,
+        taps: Taps,
+        gap: u32,
+        walk: Items<u16>,
+        tables: Items<u64>,
+    },
 }
 
 /// Writes the file of cut records, in the version of the head: the head, how many there are, and of each
@@ -62,7 +92,11 @@ pub fn write_cuts<S: Shelf>(
 }
 
 // Reads how many records there are.
-fn read_count<S: Shelf>(file: &mut FileReader, shelf: &mut S, name: &str) -> Result<u32, ReadError>
+pub(crate) fn read_count<S: Shelf>(
+    file: &mut FileReader,
+    shelf: &mut S,
+    name: &str,
+) -> Result<u32, ReadError>
     requires follows { Follows name.now (S.state shelf.old) file.old }
     requires room { file.old.at < 2 ^ 31 }
     ensures answer { ReadsFrom ⊥ name.now file.old.at (S.state shelf.old) (S.state shelf.new)
@@ -88,6 +122,7 @@ fn read_cuts_file<S: Shelf>(
     ensures answer { ReadsToEnd (Unit {0}) name.now file.old.at (S.state shelf.old)
         (S.state shelf.new) (cuts_file_read head) result }
     ensures form { IfOk result IsCert }
+    ensures cuts { IfOk result AreCuts }
     ensures reads { OnlyReads (S.state shelf.old) (S.state shelf.new) }
 {
     let count = read_count(file, shelf, name)?;
@@ -96,20 +131,66 @@ fn read_cuts_file<S: Shelf>(
     Ok(CertFile::Cuts { head, cuts })
 }
 
+// Reads what follows a head, to the end of the file.
+fn read_records<S: Shelf>(
+    alloc: Global,
+    file: &mut FileReader,
+    head: Head,
+    kind: u8,
+    shelf: &mut S,
+    name: &str,
+) -> Result<CertFile, ReadError>
+    requires follows { Follows name.now (S.state shelf.old) file.old }
+    requires room { file.old.at < 2 ^ 31 }
+    requires head { IsHead head }
+    requires kind { IsKind KINDS head.version kind }
+    ensures answer { ReadsToEnd (Unit {0}) name.now file.old.at (S.state shelf.old)
+        (S.state shelf.new) (records_read kind head) result }
+    ensures form { IfOk result IsCert }
+    ensures reads { OnlyReads (S.state shelf.old) (S.state shelf.new) }
+{
+    if kind == CUTS {
+        read_cuts_file(alloc, file, head, shelf, name)
+    } else if kind == BLOCKS {
+        read_blocks_file(alloc, file, head, shelf, name)
+    } else {
+        read_walk_file(alloc, file, head, shelf, name)
+    }
+}
+
 /// Reads a record file, to its end.
 ///
 /// The refusals, in the order of the fields: `Bad(Form)` at the file's length where the file ends within
 /// a field, else at the first byte of a field that has no lawful value, with the choice of a record as one
 /// field, in which no unused bit is set; `Limit Axis` (4,096) at a size of the head; `Limit Records` (2^25
-/// cells of all boxes so far) after the size of a box. A byte behind the last record is `Bad(Form)` at its
-/// place. `ReadFault` comes wherever a read fails, and `NoMemory` may come at any place: memory is taken
-/// as bytes come, never by a count in the file.
+/// cells of all boxes so far) after the size of a box or a block; for a walk `Limit Frames` (256 of the
+/// sample) after the head, and `Limit Loop` (4,096) after its length. A byte behind the last field is
+/// `Bad(Form)` at its place. `ReadFault` comes wherever a read fails, and `NoMemory` may come at any place:
+/// memory is taken as bytes come, never by a count in the file.
 pub fn read_cert<S: Shelf>(alloc: Global, shelf: &mut S, name: &str) -> Result<CertFile, ReadError>
     ensures answer { ReadsCert name.now (S.state shelf.old) (S.state shelf.new) result }
     ensures form { IfOk result IsCert }
     ensures reads { OnlyReads (S.state shelf.old) (S.state shelf.new) }
 {
     let mut file = FileReader::new();
-    let (head, _kind) = read_head(&mut file, MAGIC, KINDS, shelf, name)?;
+    let (head, kind) = read_head(&mut file, MAGIC, VERSIONS, KINDS, shelf, name)?;
+    read_records(alloc, &mut file, head, kind, shelf, name)
+}
+
+/// Reads a file of cut records of version 1, to its end: as `read_cert` does, but every other version is
+/// `Bad(Form(8))`, whatever follows it, and every other kind `Bad(Form(9))`.
+pub fn read_version_one_cuts<S: Shelf>(
+    alloc: Global,
+    shelf: &mut S,
+    name: &str,
+) -> Result<CertFile, ReadError>
+    ensures answer { ReadsCertBy version_one_cuts_read name.now
+        (S.state shelf.old) (S.state shelf.new) result }
+    ensures form { IfOk result IsCert }
+    ensures cuts { IfOk result AreCuts }
+    ensures reads { OnlyReads (S.state shelf.old) (S.state shelf.new) }
+{
+    let mut file = FileReader::new();
+    let (head, _) = read_head(&mut file, MAGIC, 1, 1, shelf, name)?;
     read_cuts_file(alloc, &mut file, head, shelf, name)
 }

@@ -2,9 +2,11 @@
 ghost use Rattle.std.specs.Prelude.{◌≡◌, ℕ, List};
 ghost use Rattle.shelf_core.specs.declared.fault.ReadError.{ReadError};
 ghost use Rattle.cert_file.specs.declared.file.CertFile.{CertFile};
+ghost use Rattle.cells.specs.declared.place.Taps.{Taps};
 ghost use Rattle.cut_check.specs.declared.record.CutRecord.{CutRecord};
+ghost use Rattle.quilt.specs.declared.block.BlockRecord.{BlockRecord};
 ghost use Rattle.source_map.specs.declared.head.Head.{Head};
-ghost use Rattle.cert_file.specs.RecordFiles.{AreReadAgain, AreSpelled, IsCertOf, RefusesCert};
+ghost use Rattle.cert_file.specs.RecordFiles.{AreBlocksReadAgain, AreBlocksSpelled, AreReadAgain, AreSpelled, IsCertOf, IsReadByBoth, IsWalkReadAgain, IsWalkSpelled, RefusesCert};
 
 /// Bytes stand for one value at most, have one refusal at most, and not both.
 pub fn one_reading()
@@ -25,4 +27,33 @@ pub fn cuts_read_again()
 pub fn cuts_have_one_spelling()
     ensures { (bytes : List ℕ) (head : Head) (cuts : List CutRecord) →
         AreSpelled bytes head cuts }
+{}
+
+/// Block records that are written, and whose boxes are within the limit on cells, are read again.
+pub fn blocks_read_again()
+    ensures { (head : Head) (blocks : List BlockRecord) → AreBlocksReadAgain head blocks }
+{}
+
+/// Bytes that stand for block records are their one spelling.
+pub fn blocks_have_one_spelling()
+    ensures { (bytes : List ℕ) (head : Head) (blocks : List BlockRecord) →
+        AreBlocksSpelled bytes head blocks }
+{}
+
+/// A walk record that is written is read again.
+pub fn walk_read_again()
+    ensures { (head : Head) (taps : Taps) (gap : ℕ) (walk tables : List ℕ) →
+        IsWalkReadAgain head taps gap walk tables }
+{}
+
+/// Bytes that stand for a walk record are its one spelling.
+pub fn walk_has_one_spelling()
+    ensures { (bytes : List ℕ) (head : Head) (taps : Taps) (gap : ℕ) (walk tables : List ℕ) →
+        IsWalkSpelled bytes head taps gap walk tables }
+{}
+
+/// A reader of version 1 alone reads nothing else than one of all versions does, and cut records of
+/// version 1 alone.
+pub fn version_one_cuts_are_cuts()
+    ensures { (bytes : List ℕ) (file : CertFile) → IsReadByBoth bytes file }
 {}

@@ -1,19 +1,29 @@
 //! Record files: what shows that each step of a picture or a loop was a least one, as bytes.
 #![tactic(auto)]
 
+mod block_fields;
+mod blocks;
 mod choices;
 mod cut_fields;
 mod cut_reading;
 mod cuts;
 mod file;
 mod law;
+mod number_lists;
+mod walk_fields;
+mod walks;
 
+pub use blocks::write_blocks;
+pub use cells::Taps;
 pub use cut_check::{CutRecord, Flow};
 pub use cut_fields::MOST_BOX_CELLS;
-pub use file::{CertFile, read_cert, write_cuts};
+pub use file::{CertFile, read_cert, read_version_one_cuts, write_cuts};
 pub use items::Items;
-pub use law::{cuts_have_one_spelling, cuts_read_again, one_reading};
+pub use law::{
+    blocks_have_one_spelling, blocks_read_again, cuts_have_one_spelling, cuts_read_again,
+    one_reading, version_one_cuts_are_cuts, walk_has_one_spelling, walk_read_again,
+};
+pub use quilt::{BlockRecord, BoundaryRecord};
 pub use source_map::{Head, Version};
-
-#[cfg(test)]
-mod tests;
+pub use walk_fields::{GREATEST_GAP, MOST_FRAMES};
+pub use walks::write_walk;

@@ -28,7 +28,7 @@ cell_bytes P k zero bytes all = All-nil P
 cell_bytes P k (suc n) bytes all = All-append P (take k bytes) (concat (cells_of k n (drop k bytes))) (All-take P k bytes all) (cell_bytes P k n (drop k bytes) (All-drop P k bytes all))
 
 -- a picture that is read is sound
-read_is_sound : (bytes : List ℕ) (maxval : ℕ) (cells : Cells) → IsRead bytes (record { maxval = maxval; volume = cells }) → IsSound (record { maxval = maxval; volume = cells })
+pub read_is_sound : (bytes : List ℕ) (maxval : ℕ) (cells : Cells) → IsRead bytes (record { maxval = maxval; volume = cells }) → IsSound (record { maxval = maxval; volume = cells })
 read_is_sound bytes maxval cells read =
     let p = read.stands in
     let h = p.headed in

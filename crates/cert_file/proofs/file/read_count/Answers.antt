@@ -4,7 +4,7 @@ use Rattle.std.proofs.lemmas.Result.{err_from_is_err_and}
 use Rattle.std.specs.Int.{w32}
 use Rattle.source_map.specs.Readings.{number_rule}
 use Rattle.source_map.proofs.FieldLaws.{field_stops, number_32}
-use Rattle.cert_file.specs.RecordFiles.{any_rule}
+use Rattle.cert_file.specs.Rules.{any_rule}
 use Rattle.cert_file.proofs.file.read_count.Goals as goal
 
 pub returns-in_err-n-clause-answer : goal.returns-in_err-n-clause-answer

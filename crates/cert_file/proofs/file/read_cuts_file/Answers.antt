@@ -11,7 +11,7 @@ use Rattle.source_map.specs.declared.head.Head.{Head}
 use Rattle.cert_file.specs.declared.file.CertFile.{CertFile}
 use Rattle.cert_file.specs.declared.file.CertFile.TheVariants.{Cuts}
 use Rattle.cert_file.specs.CutReading.{cuts_read}
-use Rattle.cert_file.specs.RecordFiles.{any_rule}
+use Rattle.cert_file.specs.Rules.{any_rule}
 use Rattle.cert_file.proofs.RecordReading.{chain_to_end, ends, ends_not, then_to_end, to_end_stops, value_at_end}
 use Rattle.cert_file.proofs.file.read_cuts_file.Goals as goal
 

@@ -1,0 +1,78 @@
+use Rattle.std.proofs.Common.{ℕ, List}
+use Rattle.std.proofs.lemmas.Result.{err_from_is_err_and}
+use Rattle.std.specs.Prelude.{Result, Ok, Err, Option}
+use Rattle.shelf_core.specs.declared.fault.ReadError.{ReadError}
+use Rattle.shelf_core.proofs.FileLaws.{only_reads_same, only_reads_then}
+use Rattle.strip_boundary.specs.declared.boundary.BoundaryRecord.{BoundaryRecord}
+use Rattle.quilt.specs.declared.block.BlockRecord.{BlockRecord}
+use Rattle.source_map.proofs.FieldLaws.{chain, first_stops, lifted, made, then_reads, value_alone}
+use Rattle.cert_file.specs.declared.block_fields.BlockStart.{BlockStart}
+use Rattle.cert_file.specs.BlockReading.{block_start_read, left_read, top_read}
+use Rattle.cert_file.proofs.blocks.read_block.Goals as goal
+
+abbrev after_2 : ℕ → BlockStart → Option BoundaryRecord → Option BoundaryRecord → ℕ → List ℕ → Result (BlockRecord × ℕ) ReadError
+after_2 before v0 v1 v2 = value_alone (record { placement = v0.placement; left = v1; top = v2 })
+
+abbrev after_1 : ℕ → BlockStart → Option BoundaryRecord → ℕ → List ℕ → Result (BlockRecord × ℕ) ReadError
+after_1 before v0 v1 = chain (top_read v0) (after_2 before v0 v1)
+
+abbrev after_0 : ℕ → BlockStart → ℕ → List ℕ → Result (BlockRecord × ℕ) ReadError
+after_0 before v0 = chain (left_read v0) (after_1 before v0)
+
+pub returns-in_err-start-clause-answer : goal.returns-in_err-start-clause-answer
+returns-in_err-start-clause-answer g c =
+    let state = g.S.Shelf.state in
+    let name = c.args.name.now in
+    let e = c.in_err-start.field-0.0 in
+    let p = err_from_is_err_and c.from_residual.result c.from_residual.ensures.1 in
+    rw (p.1, p.2)
+    (first_stops (Unit {0}) name c.args.file.now.at (block_start_read c.args.before) (after_0 c.args.before) (state c.args.shelf.now) (state c.read_block_start.new.shelf) c.read_block_start.new.file e (lifted (Unit {0}) name c.args.file.now.at (block_start_read c.args.before) (state c.args.shelf.now) (state c.read_block_start.new.shelf) c.read_block_start.new.file (Err e) c.in_err-start.ensures.answer))
+
+pub returns-in_err-left-clause-answer : goal.returns-in_err-left-clause-answer
+returns-in_err-left-clause-answer g c =
+    let state = g.S.Shelf.state in
+    let name = c.args.name.now in
+    let e = c.in_err-left.field-0.0 in
+    let p = err_from_is_err_and c.from_residual-in_err-left.result c.from_residual-in_err-left.ensures.1 in
+    let v0 : BlockStart = c.in_ok-start.start in
+    let ok0 = c.in_ok-start.ensures {u = tt} in
+    rw (p.1, p.2)
+    (then_reads (Unit {0}) name c.args.file.now.at (block_start_read c.args.before) (after_0 c.args.before) (state c.args.shelf.now) (state c.read_block_start.new.shelf) (state c.read_side.new.shelf) c.read_block_start.new.file c.read_side.new.file v0 (Err e)
+    ok0.reads c.in_err-left.ensures.reads (lifted (Unit {0}) name c.args.file.now.at (block_start_read c.args.before) (state c.args.shelf.now) (state c.read_block_start.new.shelf) c.read_block_start.new.file (Ok v0) ok0.answer)
+    (first_stops (Unit {0}) name c.read_block_start.new.file.at (left_read v0) (after_1 c.args.before v0) (state c.read_block_start.new.shelf) (state c.read_side.new.shelf) c.read_side.new.file e c.in_err-left.ensures.answer))
+
+pub returns-in_err-top-clause-answer : goal.returns-in_err-top-clause-answer
+returns-in_err-top-clause-answer g c =
+    let state = g.S.Shelf.state in
+    let name = c.args.name.now in
+    let e = c.in_err-top.field-0.0 in
+    let p = err_from_is_err_and c.from_residual-in_err-top.result c.from_residual-in_err-top.ensures.1 in
+    let v0 : BlockStart = c.in_ok-start.start in
+    let ok0 = c.in_ok-start.ensures {u = tt} in
+    let v1 : Option BoundaryRecord = c.in_ok-left.left in
+    let ok1 = c.in_ok-left.ensures {u = tt} in
+    rw (p.1, p.2)
+    (then_reads (Unit {0}) name c.args.file.now.at (block_start_read c.args.before) (after_0 c.args.before) (state c.args.shelf.now) (state c.read_block_start.new.shelf) (state c.read_side-2.new.shelf) c.read_block_start.new.file c.read_side-2.new.file v0 (Err e)
+    ok0.reads (only_reads_then (state c.read_block_start.new.shelf) (state c.read_side.new.shelf) (state c.read_side-2.new.shelf) ok1.reads c.in_err-top.ensures.reads) (lifted (Unit {0}) name c.args.file.now.at (block_start_read c.args.before) (state c.args.shelf.now) (state c.read_block_start.new.shelf) c.read_block_start.new.file (Ok v0) ok0.answer)
+    (then_reads (Unit {0}) name c.read_block_start.new.file.at (left_read v0) (after_1 c.args.before v0) (state c.read_block_start.new.shelf) (state c.read_side.new.shelf) (state c.read_side-2.new.shelf) c.read_side.new.file c.read_side-2.new.file v1 (Err e)
+    ok1.reads c.in_err-top.ensures.reads ok1.answer
+    (first_stops (Unit {0}) name c.read_side.new.file.at (top_read v0) (after_2 c.args.before v0 v1) (state c.read_side.new.shelf) (state c.read_side-2.new.shelf) c.read_side-2.new.file e c.in_err-top.ensures.answer)))
+
+pub returns-clause-answer : goal.returns-clause-answer
+returns-clause-answer g c =
+    let state = g.S.Shelf.state in
+    let name = c.args.name.now in
+    let v0 : BlockStart = c.in_ok-start.start in
+    let ok0 = c.in_ok-start.ensures {u = tt} in
+    let v1 : Option BoundaryRecord = c.in_ok-left.left in
+    let ok1 = c.in_ok-left.ensures {u = tt} in
+    let v2 : Option BoundaryRecord = c.in_ok-top.top in
+    let ok2 = c.in_ok-top.ensures {u = tt} in
+    let value : BlockRecord = record { placement = v0.placement; left = v1; top = v2 } in
+    (then_reads (Unit {0}) name c.args.file.now.at (block_start_read c.args.before) (after_0 c.args.before) (state c.args.shelf.now) (state c.read_block_start.new.shelf) (state c.read_side-2.new.shelf) c.read_block_start.new.file c.read_side-2.new.file v0 (Ok value)
+    ok0.reads (only_reads_then (state c.read_block_start.new.shelf) (state c.read_side.new.shelf) (state c.read_side-2.new.shelf) ok1.reads ok2.reads) (lifted (Unit {0}) name c.args.file.now.at (block_start_read c.args.before) (state c.args.shelf.now) (state c.read_block_start.new.shelf) c.read_block_start.new.file (Ok v0) ok0.answer)
+    (then_reads (Unit {0}) name c.read_block_start.new.file.at (left_read v0) (after_1 c.args.before v0) (state c.read_block_start.new.shelf) (state c.read_side.new.shelf) (state c.read_side-2.new.shelf) c.read_side.new.file c.read_side-2.new.file v1 (Ok value)
+    ok1.reads ok2.reads ok1.answer
+    (then_reads (Unit {0}) name c.read_side.new.file.at (top_read v0) (after_2 c.args.before v0 v1) (state c.read_side.new.shelf) (state c.read_side-2.new.shelf) (state c.read_side-2.new.shelf) c.read_side-2.new.file c.read_side-2.new.file v2 (Ok value)
+    ok2.reads (only_reads_same (state c.read_side-2.new.shelf)) ok2.answer
+    (made (Unit {0}) name (state c.read_side-2.new.shelf) (state c.read_side-2.new.shelf) c.read_side-2.new.file value ok2.answer.follows))))

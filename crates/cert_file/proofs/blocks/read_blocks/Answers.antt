@@ -1,0 +1,44 @@
+use Rattle.std.proofs.Common.{◌++◌, ◌∷◌, [], ◌+◌, ◌∙◌, length, ap, sym, subst, arith}
+use Rattle.std.specs.Prelude.{All, Err}
+use Rattle.std.proofs.lemmas.List.Elements.{All-push}
+use Rattle.std.proofs.lemmas.Result.{err_from_is_err_and}
+use Rattle.shelf_core.proofs.FileLaws.{only_reads_then}
+use Rattle.source_map.specs.Readings.{Found, ReadsFrom}
+use Rattle.cert_file.specs.BlockForms.{IsBlockInForm}
+use Rattle.cert_file.specs.BlockReading.{block_cells, block_read, blocks_read}
+use Rattle.cert_file.proofs.Bits.{block_cells-append}
+use Rattle.cert_file.proofs.Readings.{each_more, each_stops}
+use Rattle.cert_file.proofs.blocks.read_blocks.Goals as goal
+
+pub returns-in_err-block-clause-answer : goal.returns-in_err-block-clause-answer
+returns-in_err-block-clause-answer g c =
+    let state = g.S.Shelf.state in
+    let name = c.args.name.now in
+    let read = block_read in
+    let p = err_from_is_err_and c.from_residual-in_err-block.result c.from_residual-in_err-block.ensures.1 in
+    rw (p.1, p.2)
+    (each_stops (Unit {0}) name c.args.file.now.at c.loop-i.i c.args.count (λ front. read (block_cells front)) (state c.args.shelf.now) (state c.loop-i.shelf) (state c.read_block.new.shelf) c.loop-i.file c.read_block.new.file
+    c.loop-i.blocks.items c.in_err-block.field-0.0 c.loop-i-test.true c.loop-i.invariant.reads c.in_err-block.ensures.reads c.loop-i.invariant.found
+    (subst (λ n. ReadsFrom (Unit {0}) name c.loop-i.file.at (state c.loop-i.shelf) (state c.read_block.new.shelf) c.read_block.new.file (read n) (Err c.in_err-block.field-0.0)) c.loop-i.invariant.before c.in_err-block.ensures.answer))
+
+pub loop-i-preserved : goal.loop-i-preserved
+loop-i-preserved g c =
+    let state = g.S.Shelf.state in
+    let name = c.args.name.now in
+    let read = block_read in
+    let block = c.in_ok-block.block in
+    let ok = c.in_ok-block.ensures {u = tt} in
+    let so = c.loop-i.invariant in
+    let all = (c.in-Ok.ensures {u = tt}).items ∙ ap (λ items. items ++ block ∷ []) c.make_room.ensures in
+    record {
+      count = omega (arith, (c.in-Ok.ensures {u = tt}).len, ap length c.make_room.ensures, so.count);
+      at = omega (arith, ok.place, so.at, c.cells_of.ensures);
+      few = omega (arith, ok.cells, c.cells_of.ensures);
+      before = (λ k. so.before k + c.cells_of.ensures k) ∙ sym (block_cells-append c.loop-i.blocks.items block) ∙ ap block_cells (sym all);
+      each = subst (All IsBlockInForm) (sym all) (All-push IsBlockInForm c.loop-i.blocks.items block so.each ok.form);
+      found = subst (λ items. Found name c.args.file.now.at (state c.read_block.new.shelf) c.read_block.new.file (blocks_read (c.loop-i.i + 1)) items) (sym all)
+          (each_more name c.args.file.now.at c.loop-i.i (λ front. read (block_cells front)) (state c.args.shelf.now) (state c.loop-i.shelf) (state c.read_block.new.shelf) c.loop-i.file c.read_block.new.file
+          c.loop-i.blocks.items block so.reads ok.reads so.found
+          (subst (λ n. Found name c.loop-i.file.at (state c.read_block.new.shelf) c.read_block.new.file (read n) block) so.before ok.answer));
+      reads = only_reads_then (state c.args.shelf.now) (state c.loop-i.shelf) (state c.read_block.new.shelf) so.reads ok.reads;
+    }

@@ -1,0 +1,18 @@
+use Rattle.std.proofs.Common.{◌≡◌, ◌≤◌, ◌+◌, ◌*◌}
+use Rattle.std.specs.Prelude.{All, vec_len}
+use Rattle.shelf_core.specs.Files.{OnlyReads}
+use Rattle.source_map.specs.Readings.{Found}
+use Rattle.cert_file.specs.BlockForms.{IsBlockInForm}
+use Rattle.cert_file.specs.BlockReading.{block_cells, blocks_read}
+use Rattle.cert_file.proofs.blocks.read_blocks.Given as goal
+
+abbrev pub invariant-loop-i : goal.invariant-loop-i
+invariant-loop-i g l = record {
+  count : vec_len l.blocks ≡ l.i;
+  at : l.file.at ≤ l.fn.file.at + 29 * l.before;
+  few : l.before ≤ 33554432;
+  before : l.before ≡ block_cells l.blocks.items;
+  each : All IsBlockInForm l.blocks.items;
+  found : Found l.name l.fn.file.at (g.S.Shelf.state l.shelf) l.file (blocks_read l.i) l.blocks.items;
+  reads : OnlyReads (g.S.Shelf.state l.fn.shelf) (g.S.Shelf.state l.shelf);
+}

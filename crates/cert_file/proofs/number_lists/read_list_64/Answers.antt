@@ -1,0 +1,28 @@
+use Rattle.std.proofs.Common.{◌≡◌, ◌<◌, ◌^◌, length, sym, subst, arith}
+use Rattle.std.specs.Prelude.{All}
+use Rattle.std.proofs.lemmas.Result.{err_from_is_err_and}
+use Rattle.std.specs.Int.{w64}
+use Rattle.source_map.specs.Readings.{Found, list_read, number_read}
+use Rattle.cert_file.specs.Rules.{any_rule}
+use Rattle.cert_file.proofs.NumberLists.{list_64, list_lacks, long_64}
+use Rattle.cert_file.proofs.number_lists.read_list_64.Goals as goal
+
+pub returns-in_err-numbers-clause-answer : goal.returns-in_err-numbers-clause-answer
+returns-in_err-numbers-clause-answer g c =
+    let p = err_from_is_err_and c.from_residual.result c.from_residual.ensures.1 in
+    rw (p.1, p.2)
+    (list_lacks c.args.name.now w64 c.args.count (g.S.Shelf.state c.args.shelf.now) (g.S.Shelf.state c.list_u64.new.shelf) c.args.file.now c.list_u64.new.self c.in_err-numbers.field-0.0
+    c.requires.follows c.in_err-numbers.ensures.reads c.in_err-numbers.ensures.stops)
+
+pub returns-clause-answer : goal.returns-clause-answer
+returns-clause-answer g c =
+    let ok = c.in_ok-numbers.ensures {u = tt} in
+    let count : length c.in_ok-numbers.numbers.items ≡ c.args.count = omega (arith, ok.count) in
+    let state = g.S.Shelf.state in
+    subst (λ numbers. Found c.args.name.now c.args.file.now.at (state c.list_u64.new.shelf) c.list_u64.new.self (list_read (number_read w64 any_rule) c.args.count) numbers) (sym c.from_vec.ensures)
+    (list_64 c.args.name.now c.args.count c.args.file.now.at c.in_ok-numbers.numbers.items (state c.list_u64.new.shelf) c.list_u64.new.self count (subst (All (λ n. n < 2 ^ 64)) c.deref.ensures.value c.fit_64.ensures) ok.took)
+
+pub returns-clause-place : goal.returns-clause-place
+returns-clause-place g c =
+    let ok = c.in_ok-numbers.ensures {u = tt} in
+    omega (arith, ok.took.at_is, ok.count, long_64 c.in_ok-numbers.numbers.items)

@@ -1,0 +1,5 @@
+use Rattle.cert_file.proofs.WalksAgain.{walk_again}
+use Rattle.cert_file.proofs.walks.write_walk.Goals as goal
+
+pub returns-clause-again : goal.returns-clause-again
+returns-clause-again g c = walk_again c.args.head.now c.args.taps c.args.gap c.args.walk.now c.args.tables.now c.requires c.put_walk.ensures.wide

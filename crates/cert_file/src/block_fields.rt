@@ -1,0 +1,185 @@
+// The fields of a block record, as they are read.
+ghost use Rattle.std.specs.Prelude.{◌≡◌, ◌≤◌, ◌<◌, ◌+◌, ◌*◌, ◌^◌, IfOk, IfErr, OnOk};
+ghost use Rattle.std.specs.Int.{w8, w16};
+ghost use Rattle.shelf_core.specs.Files.{OnlyReads};
+ghost use Rattle.file_bytes.specs.Reading.{Follows};
+ghost use Rattle.source_map.specs.Readings.{IsRefusal, ReadsFrom, number_read};
+ghost use Rattle.cert_file.specs.BlockReading.{IsBlockAfter, IsBoundaryRead, IsSpot, block_size_read, block_start_read, boundary_read, cols_rule, flags_rule, spot_read, spot_rule};
+ghost use Rattle.cert_file.specs.CutReading.{IsBoxAfter};
+ghost use Rattle.cert_file.specs.declared.cut_fields.TheConstants.{MOST_BOX_CELLS};
+
+use crate::cut_fields::{form, lawful_box, read_box_axis};
+use crate::number_lists::{read_list_16, read_list_32};
+use cells::{At, Box3, Size};
+use file_bytes::FileReader;
+use map_canvas::Placement;
+use quilt::BoundaryRecord;
+use shelf_core::{ReadError, Shelf};
+use std::alloc::Global;
+
+// What a block record begins with.
+#[derive(Drop)]
+pub struct BlockStart {
+    pub placement: Placement,
+    pub flags: u8,
+}
+
+// A place in frame 0, of two numbers.
+fn spot_of(piece: [u8; 4], at: u64) -> Result<At, ReadError>
+    ensures spot { result ≡ spot_rule at piece }
+    ensures short { IfOk result IsSpot }
+    ensures refusal { IfErr result IsRefusal }
+{
+    let [a, b, c, d] = piece;
+    Ok(At {
+        x: i32::from(u16::from_be_bytes([a, b])),
+        y: i32::from(u16::from_be_bytes([c, d])),
+        f: 0,
+    })
+}
+
+// Flags, if they tell of a left strip and a top strip alone.
+fn lawful_flags(n: u8, at: u64) -> Result<u8, ReadError>
+    ensures flags { result ≡ flags_rule at n }
+    ensures refusal { IfErr result IsRefusal }
+{
+    if 3 < n { form(at) } else { Ok(n) }
+}
+
+// The columns of a strip, if they are from 1 to so many.
+fn lawful_cols(n: u16, most: u32, at: u64) -> Result<u16, ReadError>
+    ensures cols { result ≡ cols_rule most at n }
+    ensures within { IfOk result (λ n. (1 ≤ n) × (n ≤ most)) }
+    ensures refusal { IfErr result IsRefusal }
+{
+    if n == 0 || most < u32::from(n) {
+        form(at)
+    } else {
+        Ok(n)
+    }
+}
+
+// Reads a place in frame 0.
+fn read_spot<S: Shelf>(file: &mut FileReader, shelf: &mut S, name: &str) -> Result<At, ReadError>
+    requires follows { Follows name.now (S.state shelf.old) file.old }
+    requires room { file.old.at < 2 ^ 62 }
+    ensures answer { ReadsFrom ⊥ name.now file.old.at (S.state shelf.old) (S.state shelf.new)
+        file.new spot_read result }
+    ensures short { IfOk result IsSpot }
+    ensures place { OnOk result (file.new.at ≡ file.old.at + 4) }
+    ensures reads { OnlyReads (S.state shelf.old) (S.state shelf.new) }
+{
+    let at = file.place();
+    let mut piece = [0; 4];
+    file.take(&mut piece, shelf, name)?;
+    spot_of(piece, at)
+}
+
+// Reads the size of a block, after boxes of so many cells.
+fn read_block_size<S: Shelf>(
+    file: &mut FileReader,
+    before: u64,
+    shelf: &mut S,
+    name: &str,
+) -> Result<Size, ReadError>
+    requires follows { Follows name.now (S.state shelf.old) file.old }
+    requires room { file.old.at < 2 ^ 62 }
+    requires before { before ≤ MOST_BOX_CELLS }
+    ensures answer { ReadsFrom ⊥ name.now file.old.at (S.state shelf.old) (S.state shelf.new)
+        file.new (block_size_read before) result }
+    ensures within { IfOk result (IsBoxAfter before) }
+    ensures frame { IfOk result (λ size. size.f ≡ 1) }
+    ensures place { OnOk result (file.new.at ≡ file.old.at + 4) }
+    ensures reads { OnlyReads (S.state shelf.old) (S.state shelf.new) }
+{
+    let w = read_box_axis(file, shelf, name)?;
+    let h = read_box_axis(file, shelf, name)?;
+    lawful_box(before, w, h, 1)
+}
+
+// Reads flags.
+fn read_flags<S: Shelf>(file: &mut FileReader, shelf: &mut S, name: &str) -> Result<u8, ReadError>
+    requires follows { Follows name.now (S.state shelf.old) file.old }
+    requires room { file.old.at + 1 < 2 ^ 63 }
+    ensures answer { ReadsFrom ⊥ name.now file.old.at (S.state shelf.old) (S.state shelf.new)
+        file.new (number_read w8 flags_rule) result }
+    ensures place { OnOk result (file.new.at ≡ file.old.at + 1) }
+    ensures reads { OnlyReads (S.state shelf.old) (S.state shelf.new) }
+{
+    let at = file.place();
+    let n = file.u8(shelf, name)?;
+    lawful_flags(n, at)
+}
+
+// Reads what a block record begins with, after boxes of so many cells.
+pub(crate) fn read_block_start<S: Shelf>(
+    file: &mut FileReader,
+    before: u64,
+    shelf: &mut S,
+    name: &str,
+) -> Result<BlockStart, ReadError>
+    requires follows { Follows name.now (S.state shelf.old) file.old }
+    requires room { file.old.at < 2 ^ 61 }
+    requires before { before ≤ MOST_BOX_CELLS }
+    ensures answer { ReadsFrom ⊥ name.now file.old.at (S.state shelf.old) (S.state shelf.new)
+        file.new (block_start_read before) result }
+    ensures within { IfOk result (IsBlockAfter before) }
+    ensures place { OnOk result (file.new.at ≡ file.old.at + 13) }
+    ensures reads { OnlyReads (S.state shelf.old) (S.state shelf.new) }
+{
+    let corner = read_spot(file, shelf, name)?;
+    let size = read_block_size(file, before, shelf, name)?;
+    let from = read_spot(file, shelf, name)?;
+    let flags = read_flags(file, shelf, name)?;
+    let rect = Box3 { corner, size };
+    Ok(BlockStart {
+        placement: Placement { rect, from },
+        flags,
+    })
+}
+
+// Reads the columns of a strip, from 1 to so many.
+fn read_cols<S: Shelf>(
+    file: &mut FileReader,
+    most: u32,
+    shelf: &mut S,
+    name: &str,
+) -> Result<u16, ReadError>
+    requires follows { Follows name.now (S.state shelf.old) file.old }
+    requires room { file.old.at + 2 < 2 ^ 63 }
+    ensures answer { ReadsFrom ⊥ name.now file.old.at (S.state shelf.old) (S.state shelf.new)
+        file.new (number_read w16 (cols_rule most)) result }
+    ensures within { IfOk result (λ n. (1 ≤ n) × (n ≤ most)) }
+    ensures place { OnOk result (file.new.at ≡ file.old.at + 2) }
+    ensures reads { OnlyReads (S.state shelf.old) (S.state shelf.new) }
+{
+    let at = file.place();
+    let n = file.u16(shelf, name)?;
+    lawful_cols(n, most, at)
+}
+
+// Reads a boundary through a strip of so many strip rows, and of so many strip columns at most.
+pub(crate) fn read_boundary<S: Shelf>(
+    alloc: Global,
+    file: &mut FileReader,
+    rows: u32,
+    most: u32,
+    shelf: &mut S,
+    name: &str,
+) -> Result<BoundaryRecord, ReadError>
+    requires follows { Follows name.now (S.state shelf.old) file.old }
+    requires some { 1 ≤ rows }
+    requires room { file.old.at < 2 ^ 61 }
+    requires few { rows * most ≤ MOST_BOX_CELLS }
+    ensures answer { ReadsFrom (Unit {0}) name.now file.old.at (S.state shelf.old)
+        (S.state shelf.new) file.new (boundary_read rows most) result }
+    ensures form { IfOk result (IsBoundaryRead rows most) }
+    ensures place { OnOk result (file.new.at ≤ file.old.at + 8 * (rows * most)) }
+    ensures reads { OnlyReads (S.state shelf.old) (S.state shelf.new) }
+{
+    let cols = read_cols(file, most, shelf, name)?;
+    let path = read_list_16(alloc, file, rows as usize, shelf, name)?;
+    let count = rows as usize * cols as usize;
+    let sums = read_list_32(alloc, file, count, shelf, name)?;
+    Ok(BoundaryRecord { path, sums })
+}

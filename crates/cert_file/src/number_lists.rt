@@ -1,0 +1,90 @@
+// Lists of numbers, as they are read.
+ghost use Rattle.std.specs.Prelude.{◌≡◌, ◌<◌, ◌+◌, ◌*◌, ◌^◌, All, IfOk, OnOk, length};
+ghost use Rattle.std.specs.Int.{w16, w32, w64};
+ghost use Rattle.shelf_core.specs.Files.{OnlyReads};
+ghost use Rattle.file_bytes.specs.Reading.{Follows};
+ghost use Rattle.source_map.specs.Readings.{ReadsFrom, list_read, number_read};
+ghost use Rattle.cert_file.specs.Rules.{any_rule};
+
+use file_bytes::FileReader;
+use items::Items;
+use shelf_core::{ReadError, Shelf};
+use std::alloc::Global;
+
+// Shows that the numbers of a list have 16 bits, as its type says.
+pub(crate) fn fit_16(numbers: &[u16])
+    ensures { All (λ n. n < 2 ^ 16) numbers.now }
+{}
+
+// Shows that the numbers of a list have 32 bits, as its type says.
+pub(crate) fn fit_32(numbers: &[u32])
+    ensures { All (λ n. n < 2 ^ 32) numbers.now }
+{}
+
+// Shows that the numbers of a list have 64 bits, as its type says.
+pub(crate) fn fit_64(numbers: &[u64])
+    ensures { All (λ n. n < 2 ^ 64) numbers.now }
+{}
+
+// Reads so many numbers of 2 bytes.
+pub(crate) fn read_list_16<S: Shelf>(
+    alloc: Global,
+    file: &mut FileReader,
+    count: usize,
+    shelf: &mut S,
+    name: &str,
+) -> Result<Items<u16>, ReadError>
+    requires follows { Follows name.now (S.state shelf.old) file.old }
+    requires room { file.old.at + 2 * count < 2 ^ 63 }
+    ensures answer { ReadsFrom (Unit {0}) name.now file.old.at (S.state shelf.old)
+        (S.state shelf.new) file.new (list_read (number_read w16 any_rule) count) result }
+    ensures count { IfOk result (λ numbers. length numbers ≡ count) }
+    ensures place { OnOk result (file.new.at ≡ file.old.at + 2 * count) }
+    ensures reads { OnlyReads (S.state shelf.old) (S.state shelf.new) }
+{
+    let numbers = file.list_u16(alloc, count, shelf, name)?;
+    fit_16(&numbers);
+    Ok(Items::from_vec(numbers))
+}
+
+// Reads so many numbers of 4 bytes.
+pub(crate) fn read_list_32<S: Shelf>(
+    alloc: Global,
+    file: &mut FileReader,
+    count: usize,
+    shelf: &mut S,
+    name: &str,
+) -> Result<Items<u32>, ReadError>
+    requires follows { Follows name.now (S.state shelf.old) file.old }
+    requires room { file.old.at + 4 * count < 2 ^ 63 }
+    ensures answer { ReadsFrom (Unit {0}) name.now file.old.at (S.state shelf.old)
+        (S.state shelf.new) file.new (list_read (number_read w32 any_rule) count) result }
+    ensures count { IfOk result (λ numbers. length numbers ≡ count) }
+    ensures place { OnOk result (file.new.at ≡ file.old.at + 4 * count) }
+    ensures reads { OnlyReads (S.state shelf.old) (S.state shelf.new) }
+{
+    let numbers = file.list_u32(alloc, count, shelf, name)?;
+    fit_32(&numbers);
+    Ok(Items::from_vec(numbers))
+}
+
+// Reads so many numbers of 8 bytes.
+pub(crate) fn read_list_64<S: Shelf>(
+    alloc: Global,
+    file: &mut FileReader,
+    count: usize,
+    shelf: &mut S,
+    name: &str,
+) -> Result<Items<u64>, ReadError>
+    requires follows { Follows name.now (S.state shelf.old) file.old }
+    requires room { file.old.at + 8 * count < 2 ^ 63 }
+    ensures answer { ReadsFrom (Unit {0}) name.now file.old.at (S.state shelf.old)
+        (S.state shelf.new) file.new (list_read (number_read w64 any_rule) count) result }
+    ensures count { IfOk result (λ numbers. length numbers ≡ count) }
+    ensures place { OnOk result (file.new.at ≡ file.old.at + 8 * count) }
+    ensures reads { OnlyReads (S.state shelf.old) (S.state shelf.new) }
+{
+    let numbers = file.list_u64(alloc, count, shelf, name)?;
+    fit_64(&numbers);
+    Ok(Items::from_vec(numbers))
+}

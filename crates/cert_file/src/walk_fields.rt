@@ -1,0 +1,155 @@
+// The fields of a walk record, as they are read.
+ghost use Rattle.std.specs.Prelude.{◌≡◌, ◌≤◌, ◌<◌, ◌+◌, ◌^◌, IfOk, IfErr, OnOk};
+ghost use Rattle.std.specs.Int.{w8, w16, w32};
+ghost use Rattle.shelf_core.specs.Files.{OnlyReads};
+ghost use Rattle.file_bytes.specs.Reading.{Follows};
+ghost use Rattle.source_map.specs.Readings.{IsRefusal, ReadsFrom, number_read};
+ghost use Rattle.cert_file.specs.WalkReading.{IsStart, frames_rule, gap_rule, length_rule, taps_rule, walk_start_read};
+
+use cells::Taps;
+use file_bytes::FileReader;
+use loop_walk::GREATEST_LENGTH;
+use shelf_core::{FormFault, ReadError, Shelf, What};
+
+/// The most frames of the sample of a walk record.
+pub const MOST_FRAMES: u32 = 256;
+
+/// The greatest gap of a walk record.
+pub const GREATEST_GAP: u32 = 256;
+
+// What stands before the frames of a walk.
+#[derive(Clone, Copy, Drop)]
+pub struct WalkStart {
+    pub length: u32,
+    pub taps: Taps,
+    pub gap: u32,
+}
+
+// Whether the sample's frames are few enough.
+pub(crate) fn lawful_frames(n: u32) -> Result<(), ReadError>
+    ensures frames { result ≡ frames_rule n }
+    ensures few { OnOk result (n ≤ MOST_FRAMES) }
+    ensures refusal { IfErr result IsRefusal }
+{
+    if n <= MOST_FRAMES {
+        Ok(())
+    } else {
+        Err(ReadError::Limit {
+            what: What::Frames,
+            number: u64::from(n),
+            bound: u64::from(MOST_FRAMES),
+        })
+    }
+}
+
+// The length, if it is from 1 to the greatest.
+fn lawful_length(n: u32, at: u64) -> Result<u32, ReadError>
+    ensures len { result ≡ length_rule at n }
+    ensures within { IfOk result (λ n. (1 ≤ n) × (n ≤ GREATEST_LENGTH)) }
+    ensures refusal { IfErr result IsRefusal }
+{
+    if n == 0 {
+        Err(ReadError::Bad(FormFault::Form(at)))
+    } else if n <= GREATEST_LENGTH {
+        Ok(n)
+    } else {
+        Err(ReadError::Limit {
+            what: What::Loop,
+            number: u64::from(n),
+            bound: u64::from(GREATEST_LENGTH),
+        })
+    }
+}
+
+// The filter that has so many taps.
+fn lawful_taps(n: u8, at: u64) -> Result<Taps, ReadError>
+    ensures taps { result ≡ taps_rule at n }
+    ensures refusal { IfErr result IsRefusal }
+{
+    if n == 0 {
+        Ok(Taps::None0)
+    } else if n == 2 {
+        Ok(Taps::Two)
+    } else if n == 4 {
+        Ok(Taps::Four)
+    } else {
+        Err(ReadError::Bad(FormFault::Form(at)))
+    }
+}
+
+// The gap, if it is from 1 to the greatest.
+fn lawful_gap(n: u16, at: u64) -> Result<u32, ReadError>
+    ensures gap { result ≡ gap_rule at n }
+    ensures within { IfOk result (λ n. (1 ≤ n) × (n ≤ GREATEST_GAP)) }
+    ensures refusal { IfErr result IsRefusal }
+{
+    if n == 0 || u32::from(n) > GREATEST_GAP {
+        Err(ReadError::Bad(FormFault::Form(at)))
+    } else {
+        Ok(u32::from(n))
+    }
+}
+
+// Reads the length of a walk.
+fn read_length<S: Shelf>(file: &mut FileReader, shelf: &mut S, name: &str) -> Result<u32, ReadError>
+    requires follows { Follows name.now (S.state shelf.old) file.old }
+    requires room { file.old.at + 4 < 2 ^ 63 }
+    ensures answer { ReadsFrom ⊥ name.now file.old.at (S.state shelf.old) (S.state shelf.new)
+        file.new (number_read w32 length_rule) result }
+    ensures within { IfOk result (λ n. (1 ≤ n) × (n ≤ GREATEST_LENGTH)) }
+    ensures place { OnOk result (file.new.at ≡ file.old.at + 4) }
+    ensures reads { OnlyReads (S.state shelf.old) (S.state shelf.new) }
+{
+    let at = file.place();
+    let n = file.u32(shelf, name)?;
+    lawful_length(n, at)
+}
+
+// Reads a filter.
+fn read_taps<S: Shelf>(file: &mut FileReader, shelf: &mut S, name: &str) -> Result<Taps, ReadError>
+    requires follows { Follows name.now (S.state shelf.old) file.old }
+    requires room { file.old.at + 1 < 2 ^ 63 }
+    ensures answer { ReadsFrom ⊥ name.now file.old.at (S.state shelf.old) (S.state shelf.new)
+        file.new (number_read w8 taps_rule) result }
+    ensures place { OnOk result (file.new.at ≡ file.old.at + 1) }
+    ensures reads { OnlyReads (S.state shelf.old) (S.state shelf.new) }
+{
+    let at = file.place();
+    let n = file.u8(shelf, name)?;
+    lawful_taps(n, at)
+}
+
+// Reads a gap.
+fn read_gap<S: Shelf>(file: &mut FileReader, shelf: &mut S, name: &str) -> Result<u32, ReadError>
+    requires follows { Follows name.now (S.state shelf.old) file.old }
+    requires room { file.old.at + 2 < 2 ^ 63 }
+    ensures answer { ReadsFrom ⊥ name.now file.old.at (S.state shelf.old) (S.state shelf.new)
+        file.new (number_read w16 gap_rule) result }
+    ensures within { IfOk result (λ n. (1 ≤ n) × (n ≤ GREATEST_GAP)) }
+    ensures place { OnOk result (file.new.at ≡ file.old.at + 2) }
+    ensures reads { OnlyReads (S.state shelf.old) (S.state shelf.new) }
+{
+    let at = file.place();
+    let n = file.u16(shelf, name)?;
+    lawful_gap(n, at)
+}
+
+// Reads what stands before the frames of a walk.
+pub(crate) fn read_walk_start<S: Shelf>(
+    file: &mut FileReader,
+    shelf: &mut S,
+    name: &str,
+) -> Result<WalkStart, ReadError>
+    requires follows { Follows name.now (S.state shelf.old) file.old }
+    requires room { file.old.at < 2 ^ 62 }
+    ensures answer { ReadsFrom ⊥ name.now file.old.at (S.state shelf.old) (S.state shelf.new)
+        file.new walk_start_read result }
+    ensures within { IfOk result IsStart }
+    ensures place { OnOk result (file.new.at ≡ file.old.at + 7) }
+    ensures reads { OnlyReads (S.state shelf.old) (S.state shelf.new) }
+{
+    let length = read_length(file, shelf, name)?;
+    let taps = read_taps(file, shelf, name)?;
+    let gap = read_gap(file, shelf, name)?;
+    Ok(WalkStart { length, taps, gap })
+}

@@ -1,0 +1,153 @@
+// Files of a walk record.
+ghost use Rattle.std.specs.Prelude.{◌≡◌, ◌≤◌, ◌<◌, ◌*◌, ◌^◌, IfOk, OnErr, OnOk, length};
+ghost use Rattle.shelf_core.specs.Files.{Changes, OnlyReads, OnlyWrites, WritesRose};
+ghost use Rattle.shelf_core.specs.Written.{HoldsPart, HoldsText};
+ghost use Rattle.file_bytes.specs.Reading.{Follows};
+ghost use Rattle.file_bytes.specs.Writing.{Puts};
+ghost use Rattle.loop_walk.specs.Tables.{IsLength, table_count};
+ghost use Rattle.source_map.specs.declared.head.Version.TheVariants.{One};
+ghost use Rattle.source_map.specs.Heads.{IsHead};
+ghost use Rattle.cert_file.specs.RecordFiles.{IsCert, IsCertOf, ReadsToEnd, walk_file_form};
+ghost use Rattle.cert_file.specs.WalkForms.{AreWide, IsWalkInForm, frames_of, taps_number, walk_form, walk_start_form};
+ghost use Rattle.cert_file.specs.WalkReading.{walk_file_read};
+ghost use Rattle.cert_file.specs.declared.file.CertFile.TheVariants.{Walk};
+ghost use Rattle.cert_file.specs.declared.walk_fields.TheConstants.{GREATEST_GAP, MOST_FRAMES};
+
+use crate::file::{CertFile, MAGIC, WALK};
+use crate::number_lists::{read_list_16, read_list_64};
+use crate::walk_fields::{lawful_frames, read_walk_start};
+use cells::Taps;
+use file_bytes::{FileReader, FileWriter};
+use loop_walk::table_count;
+use shelf_core::{ReadError, Shelf, WriteFault};
+use source_map::{Head, put_head};
+use std::alloc::Global;
+
+// How many taps a filter has.
+fn taps_byte(taps: Taps) -> u8
+    ensures { result ≡ taps_number taps }
+{
+    match taps {
+        Taps::None0 => 0,
+        Taps::Two => 2,
+        Taps::Four => 4,
+    }
+}
+
+// Puts length, filter and gap.
+fn put_walk_start<S: Shelf>(
+    file: &mut FileWriter,
+    len: u32,
+    taps: Taps,
+    gap: u32,
+    shelf: &mut S,
+    name: &str,
+)
+    requires gap { gap ≤ GREATEST_GAP }
+    ensures { Puts name.now (walk_start_form len taps gap) (S.state shelf.old) (S.state shelf.new)
+        file.old file.new }
+{
+    file.put_u32(len, shelf, name);
+    file.put(&[taps_byte(taps)], shelf, name);
+    file.put_u16(gap as u16, shelf, name);
+}
+
+// Puts a walk record.
+#[tactic(auto, unfolding(crate::specs::WalkForms::walk_form))]
+fn put_walk<S: Shelf>(
+    file: &mut FileWriter,
+    taps: Taps,
+    gap: u32,
+    walk: &[u16],
+    tables: &[u64],
+    shelf: &mut S,
+    name: &str,
+)
+    requires len { IsLength (length walk.now) }
+    requires gap { gap ≤ GREATEST_GAP }
+    ensures put { Puts name.now (walk_form taps gap walk.now tables.now) (S.state shelf.old)
+        (S.state shelf.new) file.old file.new }
+    ensures wide { AreWide walk.now tables.now }
+{
+    put_walk_start(file, walk.len() as u32, taps, gap, shelf, name);
+    file.put_all_u16(walk, shelf, name);
+    file.put_all_u64(tables, shelf, name);
+}
+
+/// Writes the file of a walk record, in version 1: the head, the walk's length, its filter and gap, its
+/// frames, 2 bytes each, and the entries of its tables, 8 bytes each. It takes no memory. After a
+/// `WriteFault` the shelf has failed, and the file may be cut off anywhere.
+pub fn write_walk<S: Shelf>(
+    head: &Head,
+    taps: Taps,
+    gap: u32,
+    walk: &[u16],
+    tables: &[u64],
+    shelf: &mut S,
+    name: &str,
+) -> Result<(), WriteFault>
+    requires { IsWalkInForm head.now gap walk.now tables.now }
+    ensures ok { OnOk result (Changes (S.state shelf.old) (S.state shelf.new)
+        (HoldsText name.now (walk_file_form head.now taps gap walk.now tables.now))) }
+    ensures err { OnErr result (Changes (S.state shelf.old) (S.state shelf.new)
+        (HoldsPart name.now (walk_file_form head.now taps gap walk.now tables.now))) }
+    ensures writes { OnlyWrites (S.state shelf.old) (S.state shelf.new) }
+    ensures failed { OnErr result (WritesRose name.now (S.state shelf.old) (S.state shelf.new)) }
+    ensures again { IsCertOf (walk_file_form head.now taps gap walk.now tables.now)
+        (Walk head.now taps gap walk.now tables.now) }
+{
+    let mut file = FileWriter::begin(shelf, name);
+    put_head(&mut file, MAGIC, WALK, head, shelf, name);
+    put_walk(&mut file, taps, gap, walk, tables, shelf, name);
+    file.finish(shelf, name)
+}
+
+// How many frames the one sample of a head has.
+fn sample_frames(head: &Head) -> u32
+    requires { IsHead head.now }
+    ensures { result ≡ frames_of head.now }
+{
+    head.samples.at(1).f
+}
+
+// How many entries the tables for a length have, of so many frames.
+fn entry_count(n: u32, length: u32) -> usize
+    requires few { n ≤ MOST_FRAMES }
+    requires len { IsLength length }
+    ensures count { result ≡ table_count length * (n * n) }
+    ensures small { result ≤ 2 ^ 28 }
+{
+    table_count(length) as usize * (n as usize * n as usize)
+}
+
+// Reads a walk record, from behind a head to the end of the file.
+pub(crate) fn read_walk_file<S: Shelf>(
+    alloc: Global,
+    file: &mut FileReader,
+    head: Head,
+    shelf: &mut S,
+    name: &str,
+) -> Result<CertFile, ReadError>
+    requires follows { Follows name.now (S.state shelf.old) file.old }
+    requires room { file.old.at < 2 ^ 31 }
+    requires head { IsHead head }
+    requires version { head.version ≡ One }
+    ensures answer { ReadsToEnd (Unit {0}) name.now file.old.at (S.state shelf.old)
+        (S.state shelf.new) (walk_file_read head) result }
+    ensures form { IfOk result IsCert }
+    ensures reads { OnlyReads (S.state shelf.old) (S.state shelf.new) }
+{
+    let n = sample_frames(&head);
+    lawful_frames(n)?;
+    let start = read_walk_start(file, shelf, name)?;
+    let walk = read_list_16(alloc, file, start.length as usize, shelf, name)?;
+    let tables = read_list_64(alloc, file, entry_count(n, start.length), shelf, name)?;
+    file.end(shelf, name)?;
+    Ok(CertFile::Walk {
+        head,
+        taps: start.taps,
+        gap: start.gap,
+        walk,
+        tables,
+    })
+}

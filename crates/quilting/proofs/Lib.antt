@@ -1,0 +1,4 @@
+pub mod More
+pub mod Costing
+pub mod Stepping
+pub mod OneLimits

@@ -1,0 +1,40 @@
+// The whole run.
+ghost use Rattle.quilting.specs.Quilted.{CanBeQuilted, Quilts};
+ghost use Rattle.quilting.specs.Work.{Lays};
+
+use crate::asked::{QuiltError, QuiltRun, Quilted};
+use crate::steps::{Work, begin, step};
+use cells::Volume;
+use items::Items;
+use std::alloc::Global;
+
+// Lays blocks until the canvas is full.
+fn lay_all(alloc: Global, asked: &QuiltRun, sample: &Volume) -> Result<Work, QuiltError>
+    requires { CanBeQuilted asked.now sample.now }
+    ensures { Lays asked.now sample.now result }
+{
+    let mut work = begin(alloc, asked, sample)?;
+    let mut more = true;
+    'laying: while more {
+        more = step(alloc, asked, sample, &mut work)?;
+    }
+    Ok(work)
+}
+
+/// Quilts an output from blocks of a sample, of one frame and three samples per cell, with a record of each
+/// block. Its draws are those of the seed, from number 0 on. The method is that of Efros and Freeman, "Image
+/// quilting" (2001).
+pub fn quilt_canvas(alloc: Global, asked: &QuiltRun, sample: &Volume) -> Result<Quilted, QuiltError>
+    requires { CanBeQuilted asked.now sample.now }
+    ensures { Quilts asked.now sample.now result }
+{
+    let work = lay_all(alloc, asked, sample)?;
+    // It is asked for only to show the check that the sample is a volume.
+    let _samples = sample.samples();
+    Ok(Quilted {
+        canvas: work.canvas,
+        blocks: Items::from_vec(work.blocks),
+        boundaries: work.boundaries,
+        cost: work.cost,
+    })
+}

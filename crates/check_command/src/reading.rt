@@ -2,6 +2,7 @@
 ghost use Rattle.std.specs.Prelude.{IfOk, IfErr};
 ghost use Rattle.shelf_core.specs.Files.{Changes, OnlyReads};
 ghost use Rattle.cert_file.specs.RecordFiles.{IsCert, IsCertOf, RefusesCert};
+ghost use Rattle.samples.specs.Several.{AreSoundSamples};
 ghost use Rattle.synth_report.specs.declared.fault.FileOf.TheVariants as part;
 ghost use Rattle.run_outcome.specs.Outcomes.{NotMade};
 ghost use Rattle.check_command.specs.Checks.{AreRunFiles, IsMap, IsOut, RefusesMap, RefusesOutBytes, check_command};
@@ -77,6 +78,7 @@ pub(crate) fn read_files<S: Shelf>(
         (λ before after. AreRunFiles job.now.names before values)) }
     ensures failed { IfErr result
         (NotMade (check_command job.now) (S.state shelf.old) (S.state shelf.new)) }
+    ensures sound { IfOk result (λ values. AreSoundSamples values.samples) }
     ensures form { IfOk result (λ values. IsCert values.cert) }
     ensures reads { OnlyReads (S.state shelf.old) (S.state shelf.new) }
 {

@@ -6,17 +6,22 @@ use Rattle.cells.specs.Places.{cell_count}
 use Rattle.map_canvas.specs.Maps.{empty_map}
 use Rattle.source_map.specs.declared.map_file.MapFile.{MapFile}
 use Rattle.cert_file.specs.declared.file.CertFile.{CertFile}
-use Rattle.cert_file.specs.declared.file.CertFile.TheVariants.{Cuts}
+use Rattle.cert_file.specs.declared.file.CertFile.TheVariants.{Blocks, Cuts, Walk}
 use Rattle.replay.proofs.Standing.{stands_not}
+use Rattle.block_replay.proofs.FirstBroken as quilted
+use Rattle.loop_walk.proofs.OneAnswer.{no_fault}
 use Rattle.samples.specs.declared.sample.Sample.{Sample}
 use Rattle.samples.specs.declared.several.Samples.{Samples}
-use Rattle.standing_files.specs.Standing.{AreOneFault, BreaksMap, BreaksPicture, BreaksRecord, BreaksTogether, IsBrokenRecord, IsCopiedAt, IsFirstBrokenRule, LeaveAt, OneFirstBrokenRule, RecordsStand, StandingBreaksNone, map_entries, map_output}
+use Rattle.standing_files.specs.Standing.{AreOneFault, BreaksMap, BreaksPicture, BreaksRecord, BreaksTogether, IsBrokenRecord, IsCopiedAt, IsFirstBrokenRule, LeaveAt, OneFirstBrokenRule, RecordsStand, StandingBreaksNone, map_entries, map_output, walk_costs}
 use Rattle.standing_files.proofs.FirstBroken.{one_broken}
+use Rattle.standing_files.proofs.LoopFaults.{one_loop_fault}
 use Rattle.standing_files.proofs.Searching.{one_first}
 
 -- records that stand have no broken one
 none_broken : (samples : Cells) (output : Size) (cert : CertFile) (number rule place : ℕ) → RecordsStand samples output cert → IsBrokenRecord samples output cert number rule place → ⊥
 none_broken samples output (Cuts head cuts) number rule place stand broken = stands_not samples (empty_map output) cuts broken.broken broken.first stand
+none_broken samples output (Blocks head blocks) number rule place stand broken = quilted.stands_not samples (empty_map output) blocks broken.broken broken.first stand
+none_broken samples output (Walk head taps gap walk tables) number rule place stand broken = no_fault (walk_costs samples taps gap) walk tables broken.fault broken.whole stand broken.first
 
 one_record : (samples : Cells) (output : Size) (cert : CertFile) (number rule place number' rule' place' : ℕ) → IsBrokenRecord samples output cert number rule place → IsBrokenRecord samples output cert number' rule' place'
     → AreOneFault number rule place number' rule' place'
@@ -26,6 +31,20 @@ one_record samples output (Cuts head cuts) number rule place number' rule' place
       number_is = one.number_is ∙ ap (λ n. n + 1) same.number ∙ sym other.number_is;
       rule_is = one.rule_is ∙ same.fault.kind ∙ sym other.rule_is;
       place_is = one.place_is ∙ same.fault.place ∙ sym other.place_is;
+    }
+one_record samples output (Blocks head blocks) number rule place number' rule' place' one other =
+    let same = quilted.one_broken samples (empty_map output) blocks one.broken other.broken one.first other.first in
+    record {
+      number_is = one.number_is ∙ ap (λ n. n + 1) same.number ∙ sym other.number_is;
+      rule_is = one.rule_is ∙ same.fault.kind ∙ sym other.rule_is;
+      place_is = one.place_is ∙ same.fault.place ∙ sym other.place_is;
+    }
+one_record samples output (Walk head taps gap walk tables) number rule place number' rule' place' one other =
+    let same = one_loop_fault (walk_costs samples taps gap) walk tables one.whole one.fault other.fault one.first other.first in
+    record {
+      number_is = one.number_is ∙ sym other.number_is;
+      rule_is = one.rule_is ∙ same.kind ∙ sym other.rule_is;
+      place_is = one.place_is ∙ same.place ∙ sym other.place_is;
     }
 
 pub breaks_none : StandingBreaksNone

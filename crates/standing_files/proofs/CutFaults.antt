@@ -4,20 +4,12 @@ use Rattle.cells.specs.Places.{cell_count}
 use Rattle.cut_check.specs.declared.record.CutFault.{CutFault}
 use Rattle.cut_check.specs.declared.record.CutRecord.{CutRecord}
 use Rattle.cut_check.specs.Records.{BreaksBalance, BreaksBounds, BreaksFilling, BreaksFit, BreaksKeeping, BreaksValue, FillsUnfilled, IsBalanced, IsBoundedPair, IsFirstCutFault, LeavesOld, Setting}
-use Rattle.standing_files.proofs.Searching.{one_first}
+use Rattle.standing_files.proofs.Searching.{either, one_first}
 
 -- two faults are one
 pub record AreAlike (one other : CutFault) : Type 0 where
   pub kind : one.kind ≡ other.kind
   pub place : one.place ≡ other.place
-
--- of a first property and others, of which at most one holds, and for one fault
-either : (P Q : CutFault → Type 0) → ((f g : CutFault) → P f → P g → AreAlike f g) → ((f g : CutFault) → P f → Q g → ⊥) → ((f g : CutFault) → Q f → Q g → AreAlike f g)
-    → (f g : CutFault) → P f ⊎ Q f → P g ⊎ Q g → AreAlike f g
-either P Q first apart others f g (inl p) (inl q) = first f g p q
-either P Q first apart others f g (inl p) (inr q) = absurd (apart f g p q)
-either P Q first apart others f g (inr p) (inl q) = absurd (apart g f q p)
-either P Q first apart others f g (inr p) (inr q) = others f g p q
 
 module _ (s : Setting) (cut : CutRecord) where
   abbrev Late : CutFault → Type 0
@@ -33,7 +25,7 @@ module _ (s : Setting) (cut : CutRecord) where
   FromFilling f = BreaksFilling s cut f ⊎ FromKeeping f
 
   late : (f g : CutFault) → Late f → Late g → AreAlike f g
-  late = either (BreaksBalance s cut) (BreaksValue s cut)
+  late = either AreAlike (BreaksBalance s cut) (BreaksValue s cut)
       (λ f g p q. record { kind = p.kind ∙ sym q.kind; place = one_first (cell_count cut.placement.rect.size) (IsBalanced s cut) f.place g.place p.place q.place })
       (λ f g p q. p.place.here (q.balanced f.place p.place.below))
       (λ f g p q. record { kind = p.kind ∙ sym q.kind; place = p.place ∙ sym q.place })
@@ -43,7 +35,7 @@ module _ (s : Setting) (cut : CutRecord) where
   bounds_first f g p (inr q) = p.place.here (q.bounded f.place p.place.below)
 
   from_bounds : (f g : CutFault) → FromBounds f → FromBounds g → AreAlike f g
-  from_bounds = either (BreaksBounds s cut) Late
+  from_bounds = either AreAlike (BreaksBounds s cut) Late
       (λ f g p q. record { kind = p.kind ∙ sym q.kind; place = one_first _ (IsBoundedPair s cut) f.place g.place p.place q.place })
       bounds_first late
 
@@ -53,7 +45,7 @@ module _ (s : Setting) (cut : CutRecord) where
   keeping_first f g p (inr (inr q)) = p.place.here (q.lawful.old f.place p.place.below)
 
   from_keeping : (f g : CutFault) → FromKeeping f → FromKeeping g → AreAlike f g
-  from_keeping = either (BreaksKeeping s cut) FromBounds
+  from_keeping = either AreAlike (BreaksKeeping s cut) FromBounds
       (λ f g p q. record { kind = p.kind ∙ sym q.kind; place = one_first (cell_count cut.placement.rect.size) (LeavesOld s cut) f.place g.place p.place q.place })
       keeping_first from_bounds
 
@@ -64,7 +56,7 @@ module _ (s : Setting) (cut : CutRecord) where
   filling_first f g p (inr (inr (inr q))) = p.place.here (q.lawful.unfilled f.place p.place.below)
 
   from_filling : (f g : CutFault) → FromFilling f → FromFilling g → AreAlike f g
-  from_filling = either (BreaksFilling s cut) FromKeeping
+  from_filling = either AreAlike (BreaksFilling s cut) FromKeeping
       (λ f g p q. record { kind = p.kind ∙ sym q.kind; place = one_first (cell_count cut.placement.rect.size) (FillsUnfilled s cut) f.place g.place p.place q.place })
       filling_first from_keeping
 
@@ -76,6 +68,6 @@ module _ (s : Setting) (cut : CutRecord) where
   fit_first f g p (inr (inr (inr (inr q)))) = p.outside q.lawful.fits
 
   pub one_fault : (f g : CutFault) → IsFirstCutFault s cut f → IsFirstCutFault s cut g → AreAlike f g
-  one_fault = either (BreaksFit s cut) FromFilling
+  one_fault = either AreAlike (BreaksFit s cut) FromFilling
       (λ f g p q. record { kind = p.kind ∙ sym q.kind; place = p.place ∙ sym q.place })
       fit_first from_filling

@@ -1,54 +1,110 @@
 -- The answers of the calls that judge.
-use Rattle.std.proofs.Common.{◌≡◌, ◌↔◌, ◌<◌, ◌^◌, List, length, inl, inr, refl, sym, subst}
-use Rattle.std.specs.declared.alloc.AllocError.{AllocError}
-use Rattle.std.specs.Prelude.{All, IfOk, Result, Ok, Err}
-use Rattle.cells.specs.Cells.{Cells}
-use Rattle.map_canvas.specs.Maps.{SourceMap}
+use Rattle.std.proofs.Common.{◌≡◌, ◌∙◌, ◌↔◌, ◌≤◌, ◌<◌, ◌*◌, ℕ, List, [], ◌∷◌, length, inl, inr, refl, sym, ap, subst, arith}
+use Rattle.std.proofs.lemmas.Option.{slice_get_within}
+use Rattle.std.specs.Prelude.{All, Option, Some, None, Err}
 use Rattle.cells.specs.declared.place.Size.{Size}
+use Rattle.cells.specs.declared.place.Taps.{Taps}
+use Rattle.cells.specs.Cells.{Cells, IsOnePart, sizes_of}
+use Rattle.cells.specs.Parts.{count_from}
+use Rattle.cells.specs.Places.{cell_count}
+use Rattle.map_canvas.specs.Maps.{SourceMap, empty_map}
 use Rattle.source_map.specs.declared.head.Head.{Head}
-use Rattle.source_map.specs.declared.head.Version.{Version}
 use Rattle.source_map.specs.declared.map_file.MapFile.{MapFile}
-use Rattle.source_map.specs.declared.map_file.MapFile.TheVariants.{Cells as CellMap}
+use Rattle.source_map.specs.MapFiles.{numbered_size}
 use Rattle.cut_check.specs.declared.record.CutRecord.{CutRecord}
-use Rattle.replay.specs.Replay.{IsFormed}
+use Rattle.replay.specs.Replay.{EachStands, IsFormed, left_by}
+use Rattle.quilt.specs.declared.block.BlockRecord.{BlockRecord}
+use Rattle.quilt.specs.Runs.{EachBlockStands, left_by_blocks}
+use Rattle.quilt.specs.Blocks.{IsFormed as IsFormedBlock}
+use Rattle.block_replay.specs.declared.records.BlocksError.{BlocksError}
+use Rattle.block_replay.specs.declared.records.BlocksError.TheVariants.{Broken as BrokenAt}
+use Rattle.block_replay.specs.declared.records.BrokenBlock.{BrokenBlock}
+use Rattle.block_replay.specs.BlockReplay.{ReplaysBlocks}
+use Rattle.frame_distance.specs.Steps.{Steps}
+use Rattle.frame_distance.specs.declared.table.TheConstants.{MOST_CLIP_CELLS}
+use Rattle.loop_walk.specs.Records.{WalkStands}
+use Rattle.loop_walk.specs.Tables.{table_count}
 use Rattle.cert_file.specs.declared.file.CertFile.{CertFile}
-use Rattle.cert_file.specs.declared.file.CertFile.TheVariants.{Cuts}
+use Rattle.cert_file.specs.declared.file.CertFile.TheVariants.{Blocks, Cuts, Walk}
 use Rattle.cert_file.specs.RecordFiles.{IsCert}
+use Rattle.cert_file.specs.WalkForms.{frames_of}
+use Rattle.samples.specs.declared.form.Form.{Form}
+use Rattle.samples.specs.declared.form.Form.TheVariants.{Clip, Picture}
 use Rattle.samples.specs.declared.sample.Sample.{Sample}
 use Rattle.samples.specs.declared.several.Samples.{Samples}
+use Rattle.samples.specs.Samples.{AreSoundIn}
+use Rattle.samples.specs.Several.{AreSoundSamples}
 use Rattle.standing_files.specs.declared.verdict.Verdict.{Verdict}
 use Rattle.standing_files.specs.declared.verdict.Verdict.TheVariants.{Stands, Fails}
-use Rattle.standing_files.specs.Standing.{FilesStand, GoTogether, IsVerdict}
-use Rattle.standing_files.specs.Steps.{JudgesCuts, JudgesRecords, cuts_in}
+use Rattle.standing_files.specs.Standing.{FilesStand, GoTogether, HasOneFrame, IsBrokenBlock, IsBrokenCut, IsBrokenWalk, IsLeftAt, IsVerdict, TakesForm}
+use Rattle.standing_files.specs.Steps.{FirstWithout, JudgesBlocks, JudgesBy, JudgesCuts, JudgesRecords, JudgesWalk, Suit, verdict_on_map}
 use Rattle.standing_files.proofs.Breaking.{breaks_none}
 
-pub cuts_formed : (cert : CertFile) (cuts : List CutRecord) → cuts ≡ cuts_in cert → IsCert cert → All IsFormed cuts
-cuts_formed (Cuts head own) cuts same is = subst (λ (cuts : List CutRecord). All IsFormed cuts) (sym same) (λ i d lt.
+-- what is asked of the records of a file that was read
+
+pub cuts_formed : (head : Head) (cuts : List CutRecord) → IsCert (Cuts head cuts) → All IsFormed cuts
+cuts_formed head cuts is = λ i d lt.
     let one = is.form.each i d lt in
-    record { cells = record { w = one.size.w.0; h = one.size.h.0; f = one.size.f.0 }; choice = one.choice; flows = one.flows })
+    record { cells = record { w = one.size.w.0; h = one.size.h.0; f = one.size.f.0 }; choice = one.choice; flows = one.flows }
 
-pub cuts_few : (cert : CertFile) (cuts : List CutRecord) → cuts ≡ cuts_in cert → IsCert cert → length cuts < 2 ^ 32
-cuts_few (Cuts head own) cuts same is = subst (λ (cuts : List CutRecord). length cuts < 2 ^ 32) (sym same) is.form.count
+pub blocks_formed : (head : Head) (blocks : List BlockRecord) → IsCert (Blocks head blocks) → All IsFormedBlock blocks
+blocks_formed head blocks is = λ i d lt. (is.form.each i d lt).formed
 
-cuts_judged : (samples : Cells) (m : SourceMap) (sizes : List Size) (version : Version) (head : Head) (cuts : List CutRecord) (v : Verdict) → JudgesCuts samples m cuts v
-    → JudgesRecords samples (CellMap m sizes version) (Cuts head cuts) v
-cuts_judged samples m sizes version head cuts Stands is = is
-cuts_judged samples m sizes version head cuts (Fails number rule place) (inl broken) = inl broken
-cuts_judged samples m sizes version head cuts (Fails number rule place) (inr left) =
-    inr (record { whole = left.whole; records = left.records; first = record { below = left.first.below; before = left.first.before; here = left.first.here } })
+pub block_colours : (head : Head) (blocks : List BlockRecord) (form : Form) (cells : Cells) → TakesForm (Blocks head blocks) form → AreSoundIn form cells → cells.k ≡ 3
+block_colours head blocks (Picture maxval) cells takes sound = sound.colours
+block_colours head blocks (Clip form) cells takes sound = absurd takes
 
-cert_judged : (samples : Cells) (m : SourceMap) (sizes : List Size) (version : Version) (cert : CertFile) (v : Verdict) → JudgesCuts samples m (cuts_in cert) v → JudgesRecords samples (CellMap m sizes version) cert v
-cert_judged samples m sizes version (Cuts head cuts) v is = cuts_judged samples m sizes version head cuts v is
+one_size : (size : Size) (more : List Size) → length (size ∷ more) ≡ 1 → more ≡ []
+one_size size [] one = refl
+one_size size (other ∷ more) one = absurd (omega arith)
 
--- what is judged of the cut records is judged of their file
-pub answer_judged : (samples : Cells) (m : SourceMap) (sizes : List Size) (version : Version) (map_file : MapFile) (cert : CertFile) (cuts : List CutRecord)
-    → map_file ≡ CellMap m sizes version → cuts ≡ cuts_in cert → (answer : Result Verdict AllocError) → IfOk answer (JudgesCuts samples m cuts) → IfOk answer (JudgesRecords samples map_file cert)
-answer_judged samples m sizes version map_file cert cuts named own (Ok v) is =
-    subst (λ (map_file : MapFile). JudgesRecords samples map_file cert v) (sym named)
-    (cert_judged samples m sizes version cert v (subst (λ (cuts : List CutRecord). JudgesCuts samples m cuts v) own is))
-answer_judged samples m sizes version map_file cert cuts named own (Err error) is = tt
+-- the sample of a walk record
+pub record IsWalkSample (sample : Cells) (walk tables : List ℕ) : Type 0 where
+  pub part : IsOnePart sample
+  pub few : sample.size.f ≤ 256
+  pub cells : cell_count sample.size ≤ MOST_CLIP_CELLS
+  pub whole : length tables ≡ table_count (length walk) * (sample.size.f * sample.size.f)
+
+pub walk_sample : (samples : Samples) (map_file : MapFile) (head : Head) (taps : Taps) (gap : ℕ) (walk tables : List ℕ) → IsCert (Walk head taps gap walk tables) → AreSoundSamples samples
+    → Suit samples map_file (Walk head taps gap walk tables) → IsWalkSample samples.volume walk tables
+walk_sample samples map_file head taps gap walk tables is sound suit =
+    let sizes : sizes_of samples.volume ≡ head.samples = suit.samples_are in
+    let part : samples.volume.more ≡ [] = one_size samples.volume.size samples.volume.more (ap length sizes ∙ is.head_is.samples_are.one is.version) in
+    let frames : samples.volume.size.f ≡ frames_of head = ap (λ (sizes : List Size). (numbered_size sizes 1).f) sizes in
+    record {
+      part = part;
+      few = subst (λ n. n ≤ 256) (sym frames) is.frames;
+      cells = subst (λ (more : List Size). count_from samples.volume.size more ≤ 8388608) part sound.fits;
+      whole = is.entries ∙ ap (λ n. table_count (length walk) * (n * n)) (sym frames);
+    }
+
+-- records that stand are judged by what they leave
+pub map_judged : (Stand : Type 0) (Broken : ℕ → ℕ → ℕ → Type 0) (n : ℕ) (Leave : ℕ → Type 0) → Stand → (first : Option ℕ) → FirstWithout n Leave first → JudgesBy Stand Broken n Leave (verdict_on_map first)
+map_judged Stand Broken n Leave stand None each = (stand, each)
+map_judged Stand Broken n Leave stand (Some place) first = inr (record { whole = record { number_is = refl; rule_is = refl }; records = stand; first = first })
+
+pub walk_judged : (costs : Steps) (walk tables frames : List ℕ) → WalkStands costs walk tables → (first : Option ℕ) → FirstWithout (length walk) (HasOneFrame walk frames) first → JudgesWalk costs walk tables frames (verdict_on_map first)
+walk_judged costs walk tables frames = map_judged (WalkStands costs walk tables) (IsBrokenWalk costs walk tables) (length walk) (HasOneFrame walk frames)
+
+-- the number of a broken block is below that of all
+pub broken_below : (sample : Cells) (m : SourceMap) (blocks : List BlockRecord) (left : SourceMap) (error : BlocksError) (broken : BrokenBlock) → error ≡ BrokenAt broken → ReplaysBlocks sample m blocks left (Err error) → broken.number < length blocks
+broken_below sample m blocks left error broken is replayed =
+    let first = (subst (λ (error : BlocksError). ReplaysBlocks sample m blocks left (Err error)) is replayed).0 in
+    slice_get_within blocks broken.number first.block first.at
+
+module _ (samples : Cells) (m left : SourceMap) (first : Option ℕ) (found : FirstWithout (cell_count m.size) (IsLeftAt left m) first) where
+  pub cuts_judged : (cuts : List CutRecord) → EachStands samples (empty_map m.size) cuts → left ≡ left_by (empty_map m.size) cuts → JudgesCuts samples m cuts (verdict_on_map first)
+  cuts_judged cuts stand same = map_judged (EachStands samples (empty_map m.size) cuts) (IsBrokenCut samples m.size cuts) (cell_count m.size) (IsLeftAt (left_by (empty_map m.size) cuts) m) stand first
+      (subst (λ (left : SourceMap). FirstWithout (cell_count m.size) (IsLeftAt left m) first) same found)
+
+  pub blocks_judged : (blocks : List BlockRecord) → EachBlockStands samples (empty_map m.size) blocks → left ≡ left_by_blocks (empty_map m.size) blocks → JudgesBlocks samples m blocks (verdict_on_map first)
+  blocks_judged blocks stand same = map_judged (EachBlockStands samples (empty_map m.size) blocks) (IsBrokenBlock samples m.size blocks) (cell_count m.size) (IsLeftAt (left_by_blocks (empty_map m.size) blocks) m) stand first
+      (subst (λ (left : SourceMap). FirstWithout (cell_count m.size) (IsLeftAt left m) first) same found)
 
 module _ (samples : Samples) (out : Sample) (map_file : MapFile) (cert : CertFile) where
+  pub suits : GoTogether samples out map_file cert → Suit samples map_file cert
+  suits together = record { kinds = together.kinds; takes = together.takes; samples_are = together.cert_sizes.samples_are }
+
   -- records that are judged first have the first broken rule
   pub judged_before : GoTogether samples out map_file cert → (v : Verdict) → (v ≡ Stands → ⊥) → JudgesRecords samples.volume map_file cert v → IsVerdict samples out map_file cert v
   judged_before together Stands fails is = absurd (fails refl)

@@ -2,7 +2,9 @@ pub mod Sizes
 pub mod Searching
 pub mod CutFaults
 pub mod FirstBroken
+pub mod LoopFaults
 pub mod Breaking
+pub mod Least
 pub mod Runs
 pub mod Versions
 pub mod Judging

@@ -18,6 +18,7 @@ together_still samples out m sizes version other head head' cuts output own are 
   map_sizes = are.map_sizes;
   cert_sizes = record { output_is = are.cert_sizes.output_is ∙ ap (λ (size : Size). size ∷ []) output; samples_are = are.cert_sizes.samples_are ∙ own };
   form = are.form;
+  takes = tt;
   kinds = tt;
 }
 

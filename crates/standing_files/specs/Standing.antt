@@ -1,10 +1,11 @@
 -- A reader has to trust this file. Whether samples, an out picture, a map file and a record file
 -- belong to one run and stand, and else the first rule that they break. (Own.)
-use Rattle.std.specs.Prelude.{◌≡◌, ◌⊎◌, ◌+◌, ℕ, true, List, [], ◌∷◌, Option, Some}
+use Rattle.std.specs.Prelude.{◌≡◌, ◌⊎◌, ◌+◌, ℕ, true, List, [], ◌∷◌, length, Option, Some, slice_get}
 use Rattle.cells.specs.declared.place.At.{At}
 use Rattle.cells.specs.declared.place.Size.{Size}
+use Rattle.cells.specs.declared.place.Taps.{Taps}
 use Rattle.cells.specs.Cells.{Cells, IsOnePart, cell_at, sizes_of}
-use Rattle.cells.specs.Places.{cell_count, place_of}
+use Rattle.cells.specs.Places.{IsInside, cell_count, place_of}
 use Rattle.map_canvas.specs.Maps.{SourceMap, IsFull, IsMap, empty_map, map_at}
 use Rattle.source_map.specs.declared.head.Head.{Head}
 use Rattle.source_map.specs.declared.head.Version.{Version}
@@ -14,9 +15,21 @@ use Rattle.source_map.specs.MapFiles.{frame_source}
 use Rattle.cut_check.specs.declared.record.CutRecord.{CutRecord}
 use Rattle.cut_check.specs.Records.{Each, IsFirstWithout}
 use Rattle.replay.specs.declared.records.Broken.{Broken}
-use Rattle.replay.specs.Replay.{EachStands, IsFirstBroken, left_by}
+use Rattle.replay.specs.Replay.{EachLeast, EachStands, IsFirstBroken, left_by}
+use Rattle.quilt.specs.declared.block.BlockRecord.{BlockRecord}
+use Rattle.quilt.specs.Runs.{EachBlockIsLeast, EachBlockStands, left_by_blocks}
+use Rattle.block_replay.specs.declared.records.BrokenBlock.{BrokenBlock}
+use Rattle.block_replay.specs.BlockReplay.{IsFirstBrokenBlock}
+use Rattle.frame_distance.specs.Steps.{Steps, steps_of}
+use Rattle.frame_distance.specs.Tables.{distances_of}
+use Rattle.loop_walk.specs.declared.fault.LoopFault.{LoopFault}
+use Rattle.loop_walk.specs.Records.{IsFirstLoopFault, WalkStands}
+use Rattle.loop_walk.specs.Tables.{entry_count}
+use Rattle.loop_walk.specs.Walks.{IsLeastWalk}
 use Rattle.cert_file.specs.declared.file.CertFile.{CertFile}
-use Rattle.cert_file.specs.declared.file.CertFile.TheVariants.{Cuts}
+use Rattle.cert_file.specs.declared.file.CertFile.TheVariants.{Blocks, Cuts, Walk}
+use Rattle.samples.specs.declared.form.Form.{Form}
+use Rattle.samples.specs.declared.form.Form.TheVariants.{Clip, Picture}
 use Rattle.samples.specs.declared.sample.Sample.{Sample}
 use Rattle.samples.specs.declared.several.Samples.{Samples}
 use Rattle.samples.specs.Samples.{goes_with}
@@ -38,6 +51,8 @@ map_samples (Frames size sample frames) = sample ∷ []
 -- the head of a record file
 abbrev pub cert_head : CertFile → Head
 cert_head (Cuts head cuts) = head
+cert_head (Blocks head blocks) = head
+cert_head (Walk head taps gap walk tables) = head
 
 -- how many entries a map file has: one for each cell, or for each frame
 abbrev pub map_entries : MapFile → ℕ
@@ -56,13 +71,24 @@ pub record NamesSizes (samples out : List Size) (output : Size) (named : List Si
   pub output_is : out ≡ output ∷ []
   pub samples_are : samples ≡ named
 
--- the kinds of a map file and a record file go together: cut records leave a map of cells
+-- the kinds of a map file and a record file go together: records of cuts or of blocks leave a map
+-- of cells, and the record of a walk one of frames, as many as the output has
 abbrev pub AreKindsOfOneRun : MapFile → CertFile → Type 0
 AreKindsOfOneRun (CellMap m samples version) (Cuts head cuts) = Unit {0}
+AreKindsOfOneRun (CellMap m samples version) (Blocks head blocks) = Unit {0}
+AreKindsOfOneRun (CellMap m samples version) (Walk head taps gap walk tables) = ⊥
 AreKindsOfOneRun (Frames size sample frames) (Cuts head cuts) = ⊥
+AreKindsOfOneRun (Frames size sample frames) (Blocks head blocks) = ⊥
+AreKindsOfOneRun (Frames size sample frames) (Walk head taps gap walk tables) =
+    length walk ≡ size.f
+
+-- a record file goes with samples of this form: block records with pictures alone
+abbrev pub TakesForm : CertFile → Form → Type 0
+TakesForm (Blocks head blocks) (Clip form) = ⊥
+TakesForm cert form = Unit {0}
 
 -- map file and record file name the sizes of the pictures, the out picture's form goes with that of
--- the first sample, and the kinds go together
+-- the first sample and that with the record file, and the kinds go together
 pub record GoTogether (samples : Samples) (out : Sample) (map_file : MapFile) (cert : CertFile)
     : Type 0 where
   pub map_sizes : NamesSizes (sizes_of samples.volume) (sizes_of out.volume)
@@ -70,14 +96,23 @@ pub record GoTogether (samples : Samples) (out : Sample) (map_file : MapFile) (c
   pub cert_sizes : NamesSizes (sizes_of samples.volume) (sizes_of out.volume)
       (cert_head cert).output (cert_head cert).samples
   pub form : goes_with samples.form out.form ≡ true
+  pub takes : TakesForm cert samples.form
   pub kinds : AreKindsOfOneRun map_file cert
 
 -- The rules of each record.
 
--- each record stands over the map that the records before it leave, from the empty map of the
--- output on
+-- the costs of steps that a filter and a gap make of the distances of the sample's frames
+abbrev pub walk_costs : Cells → Taps → ℕ → Steps
+walk_costs sample taps gap = steps_of (distances_of sample) taps gap
+
+-- each cut record and each block record stands over the map that the records before it leave, from
+-- the empty map of the output on; the record of a walk stands over its step costs
 abbrev pub RecordsStand : Cells → Size → CertFile → Type 0
 RecordsStand samples output (Cuts head cuts) = EachStands samples (empty_map output) cuts
+RecordsStand samples output (Blocks head blocks) =
+    EachBlockStands samples (empty_map output) blocks
+RecordsStand samples output (Walk head taps gap walk tables) =
+    WalkStands (walk_costs samples taps gap) walk tables
 
 -- the first cut record that doesn't, by its number from 1, with its first broken rule and the first
 -- place where that is broken
@@ -89,8 +124,31 @@ pub record IsBrokenCut (samples : Cells) (output : Size) (cuts : List CutRecord)
   pub rule_is : rule ≡ broken.fault.kind
   pub place_is : place ≡ broken.fault.place
 
+-- the first block record that doesn't, likewise
+pub record IsBrokenBlock (samples : Cells) (output : Size) (blocks : List BlockRecord)
+    (number rule place : ℕ) : Type 0 where
+  pub broken : BrokenBlock
+  pub first : IsFirstBrokenBlock samples (empty_map output) blocks broken
+  pub number_is : number ≡ broken.number + 1
+  pub rule_is : rule ≡ broken.fault.kind
+  pub place_is : place ≡ broken.fault.place
+
+-- a walk record, which is the first and last of its file, has the tables for its length and breaks
+-- this rule first
+pub record IsBrokenWalk (costs : Steps) (walk tables : List ℕ) (number rule place : ℕ)
+    : Type 0 where
+  pub whole : length tables ≡ entry_count costs (length walk)
+  pub fault : LoopFault
+  pub first : IsFirstLoopFault costs walk tables fault
+  pub number_is : number ≡ 1
+  pub rule_is : rule ≡ fault.kind
+  pub place_is : place ≡ fault.place
+
 abbrev pub IsBrokenRecord : Cells → Size → CertFile → ℕ → ℕ → ℕ → Type 0
 IsBrokenRecord samples output (Cuts head cuts) = IsBrokenCut samples output cuts
+IsBrokenRecord samples output (Blocks head blocks) = IsBrokenBlock samples output blocks
+IsBrokenRecord samples output (Walk head taps gap walk tables) =
+    IsBrokenWalk (walk_costs samples taps gap) walk tables
 
 -- Rule 16: the records leave the map of the map file.
 
@@ -100,14 +158,25 @@ pub record HasOneSource (left m : SourceMap) (p : At) : Type 0 where
   pub left_is : map_at left p ≡ Some from
   pub map_is : map_at m p ≡ Some from
 
--- cut records leave the cell at this index with the source that a map has for it
-abbrev pub IsLeftAt : SourceMap → List CutRecord → ℕ → Type 0
-IsLeftAt m cuts i = HasOneSource (left_by (empty_map m.size) cuts) m (place_of m.size i)
+-- the cell at this index is left with the source that a map has for it
+abbrev pub IsLeftAt : SourceMap → SourceMap → ℕ → Type 0
+IsLeftAt left m i = HasOneSource left m (place_of m.size i)
+
+-- a walk and a frame map have one frame there
+pub record HasOneFrame (walk frames : List ℕ) (i : ℕ) : Type 0 where
+  pub frame : ℕ
+  pub walk_is : slice_get walk i ≡ Some frame
+  pub map_is : slice_get frames i ≡ Some frame
 
 -- the records leave this entry of the map file
 abbrev pub LeaveAt : CertFile → MapFile → ℕ → Type 0
-LeaveAt (Cuts head cuts) (CellMap m samples version) i = IsLeftAt m cuts i
-LeaveAt (Cuts head cuts) (Frames size sample frames) i = ⊥
+LeaveAt (Cuts head cuts) (CellMap m samples version) i =
+    IsLeftAt (left_by (empty_map m.size) cuts) m i
+LeaveAt (Blocks head blocks) (CellMap m samples version) i =
+    IsLeftAt (left_by_blocks (empty_map m.size) blocks) m i
+LeaveAt (Walk head taps gap walk tables) (Frames size sample frames) i =
+    HasOneFrame walk frames i
+LeaveAt cert map_file i = ⊥
 
 abbrev pub LeaveMap : CertFile → MapFile → Type 0
 LeaveMap cert map_file = Each (map_entries map_file) (LeaveAt cert map_file)
@@ -215,6 +284,20 @@ OneFirstBrokenRule =
     → IsFirstBrokenRule samples out map_file cert number' rule' place'
     → AreOneFault number rule place number' rule' place'
 
+-- records that stand are least: each choice of a cut record, each boundary of a block record, and a
+-- walk among the closed walks of its length
+abbrev pub RecordsAreLeast : Cells → Size → CertFile → Type 0
+RecordsAreLeast samples output (Cuts head cuts) = EachLeast samples (empty_map output) cuts
+RecordsAreLeast samples output (Blocks head blocks) =
+    EachBlockIsLeast samples (empty_map output) blocks
+RecordsAreLeast samples output (Walk head taps gap walk tables) =
+    IsLeastWalk (walk_costs samples taps gap) (length walk) walk
+
+abbrev pub StandingRecordsAreLeast : Type 0
+StandingRecordsAreLeast =
+    (samples : Cells) (output : Size) (cert : CertFile) → RecordsStand samples output cert
+    → RecordsAreLeast samples output cert
+
 -- the versions of map file and record file don't count
 abbrev pub VersionsDontCount : Type 0
 VersionsDontCount =
@@ -251,3 +334,46 @@ RunStands =
     → FilesStand samples (record { form = samples.form; volume = picture })
     (CellMap m (sizes_of samples.volume) of_map)
     (Cuts (head_of_run size samples.volume of_cert) cuts)
+
+-- the same of block records
+pub record IsQuiltOver (sample : Cells) (size : Size) (blocks : List BlockRecord) (m : SourceMap)
+    (picture : Cells) : Type 0 where
+  pub asked : m.size ≡ size
+  pub is_map : IsMap m
+  pub full : IsFull m
+  pub one : IsOnePart picture
+  pub size_is : picture.size ≡ size
+  pub cells : (p from : At) → map_at m p ≡ Some from → cell_at picture p ≡ cell_at sample from
+  pub replays : left_by_blocks (empty_map size) blocks ≡ m
+  pub stand : EachBlockStands sample (empty_map size) blocks
+
+-- the files of such a run over a picture stand, in any versions
+abbrev pub QuiltStands : Type 0
+QuiltStands =
+    (maxval : ℕ) (sample : Cells) (size : Size) (blocks : List BlockRecord) (m : SourceMap)
+    (picture : Cells) (of_map of_cert : Version) → IsQuiltOver sample size blocks m picture
+    → FilesStand (record { form = Picture maxval; volume = sample })
+    (record { form = Picture maxval; volume = picture })
+    (CellMap m (sizes_of sample) of_map)
+    (Blocks (head_of_run size sample of_cert) blocks)
+
+-- a walk record over a sample of one part stands, and a clip of this size has a frame for each
+-- frame of the walk, and at each cell the sample's cell of that frame
+pub record IsLoopOver (sample : Cells) (size : Size) (taps : Taps) (gap : ℕ) (walk tables : List ℕ)
+    (clip : Cells) : Type 0 where
+  pub one_sample : IsOnePart sample
+  pub one : IsOnePart clip
+  pub size_is : clip.size ≡ size
+  pub frames : length walk ≡ size.f
+  pub cells : (p from : At) → IsInside size p → frame_source walk p ≡ Some from
+      → cell_at clip p ≡ cell_at sample from
+  pub stand : WalkStands (walk_costs sample taps gap) walk tables
+
+-- the files of such a run stand: the clip in the form of its sample, and the walk as its map
+abbrev pub LoopStands : Type 0
+LoopStands =
+    (samples : Samples) (size : Size) (taps : Taps) (gap : ℕ) (walk tables : List ℕ) (clip : Cells)
+    (of_cert : Version) → IsLoopOver samples.volume size taps gap walk tables clip
+    → FilesStand samples (record { form = samples.form; volume = clip })
+    (Frames size samples.volume.size walk)
+    (Walk (head_of_run size samples.volume of_cert) taps gap walk tables)

@@ -1,55 +1,76 @@
 -- The words of private functions: what one search finds, and what is judged of the records alone.
 -- (Own.)
-use Rattle.std.specs.Prelude.{◌⊎◌, ℕ, List, Option, Some, None}
-use Rattle.cells.specs.Cells.{Cells}
+use Rattle.std.specs.Prelude.{◌≡◌, ◌⊎◌, ℕ, List, length, Option, Some, None}
+use Rattle.cells.specs.Cells.{Cells, sizes_of}
 use Rattle.cells.specs.Places.{cell_count}
 use Rattle.map_canvas.specs.Maps.{SourceMap, empty_map}
 use Rattle.source_map.specs.declared.map_file.MapFile.{MapFile}
 use Rattle.cut_check.specs.declared.record.CutRecord.{CutRecord}
 use Rattle.cut_check.specs.Records.{Each, IsFirstWithout}
-use Rattle.replay.specs.Replay.{EachStands}
+use Rattle.replay.specs.Replay.{EachStands, left_by}
+use Rattle.quilt.specs.declared.block.BlockRecord.{BlockRecord}
+use Rattle.quilt.specs.Runs.{EachBlockStands, left_by_blocks}
+use Rattle.frame_distance.specs.Steps.{Steps}
+use Rattle.loop_walk.specs.Records.{WalkStands}
 use Rattle.cert_file.specs.declared.file.CertFile.{CertFile}
-use Rattle.cert_file.specs.declared.file.CertFile.TheVariants.{Cuts}
+use Rattle.samples.specs.declared.several.Samples.{Samples}
 use Rattle.standing_files.specs.declared.verdict.TheConstants.{MAP_RULE}
 use Rattle.standing_files.specs.declared.verdict.Verdict.{Verdict}
 use Rattle.standing_files.specs.declared.verdict.Verdict.TheVariants.{Stands, Fails}
-use Rattle.standing_files.specs.Standing.{IsBrokenCut, IsBrokenRecord, IsLeftAt, IsWholeRule, LeaveAt, LeaveMap, RecordsStand, map_entries, map_output}
+use Rattle.standing_files.specs.Standing.{AreKindsOfOneRun, HasOneFrame, IsBrokenBlock, IsBrokenCut, IsBrokenRecord, IsBrokenWalk, IsLeftAt, IsWholeRule, LeaveAt, RecordsStand, TakesForm, cert_head, map_entries, map_output}
 
 -- the first number below n without the property, if there is one
 abbrev pub FirstWithout : ℕ → (ℕ → Type 0) → Option ℕ → Type 0
 FirstWithout n Holds None = Each n Holds
 FirstWithout n Holds (Some place) = IsFirstWithout n Holds place
 
--- all records stand, and don't leave this entry of the map file
-pub record LeaveAnother (samples : Cells) (map_file : MapFile) (cert : CertFile)
-    (number rule place : ℕ) : Type 0 where
-  pub whole : IsWholeRule number rule MAP_RULE
-  pub records : RecordsStand samples (map_output map_file) cert
-  pub first : IsFirstWithout (map_entries map_file) (LeaveAt cert map_file) place
+-- what the records ask for of files that go together
+pub record Suit (samples : Samples) (map_file : MapFile) (cert : CertFile) : Type 0 where
+  pub kinds : AreKindsOfOneRun map_file cert
+  pub takes : TakesForm cert samples.form
+  pub samples_are : sizes_of samples.volume ≡ (cert_head cert).samples
 
--- the cut records of a record file
-abbrev pub cuts_in : CertFile → List CutRecord
-cuts_in (Cuts head cuts) = cuts
-
--- the same of cut records
-pub record LeaveOthers (samples : Cells) (m : SourceMap) (cuts : List CutRecord)
-    (number rule place : ℕ) : Type 0 where
+-- records that stand don't leave this entry of the map file first
+pub record LeaveOthers (Stand : Type 0) (n : ℕ) (Leave : ℕ → Type 0) (number rule place : ℕ)
+    : Type 0 where
   pub whole : IsWholeRule number rule MAP_RULE
-  pub records : EachStands samples (empty_map m.size) cuts
-  pub first : IsFirstWithout (cell_count m.size) (IsLeftAt m cuts) place
+  pub records : Stand
+  pub first : IsFirstWithout n Leave place
+
+-- what is judged of records alone: that they stand and leave each of so many entries of the map
+-- file, or the first rule that they break
+abbrev pub JudgesBy :
+    Type 0 → (ℕ → ℕ → ℕ → Type 0) → ℕ → (ℕ → Type 0) → Verdict → Type 0
+JudgesBy Stand Broken n Leave Stands = Stand × Each n Leave
+JudgesBy Stand Broken n Leave (Fails number rule place) =
+    Broken number rule place ⊎ LeaveOthers Stand n Leave number rule place
+
+-- the verdict on records that stand, by the first entry of the map file that they don't leave
+abbrev pub verdict_on_map : Option ℕ → Verdict
+verdict_on_map None = Stands
+verdict_on_map (Some place) = Fails 0 MAP_RULE place
 
 -- the rules of cut records, and the map that they leave
 abbrev pub JudgesCuts : Cells → SourceMap → List CutRecord → Verdict → Type 0
-JudgesCuts samples m cuts Stands =
-    EachStands samples (empty_map m.size) cuts × Each (cell_count m.size) (IsLeftAt m cuts)
-JudgesCuts samples m cuts (Fails number rule place) =
-    IsBrokenCut samples m.size cuts number rule place
-    ⊎ LeaveOthers samples m cuts number rule place
+JudgesCuts samples m cuts =
+    JudgesBy (EachStands samples (empty_map m.size) cuts) (IsBrokenCut samples m.size cuts)
+    (cell_count m.size) (IsLeftAt (left_by (empty_map m.size) cuts) m)
+
+-- the same of block records
+abbrev pub JudgesBlocks : Cells → SourceMap → List BlockRecord → Verdict → Type 0
+JudgesBlocks sample m blocks =
+    JudgesBy (EachBlockStands sample (empty_map m.size) blocks) (IsBrokenBlock sample m.size blocks)
+    (cell_count m.size) (IsLeftAt (left_by_blocks (empty_map m.size) blocks) m)
+
+-- and of a walk record, beside the frames of a frame map
+abbrev pub JudgesWalk : Steps → List ℕ → List ℕ → List ℕ → Verdict → Type 0
+JudgesWalk costs walk tables frames =
+    JudgesBy (WalkStands costs walk tables) (IsBrokenWalk costs walk tables)
+    (length walk) (HasOneFrame walk frames)
 
 -- the rules of the records, and whether they leave the map of the map file
 abbrev pub JudgesRecords : Cells → MapFile → CertFile → Verdict → Type 0
-JudgesRecords samples map_file cert Stands =
-    RecordsStand samples (map_output map_file) cert × LeaveMap cert map_file
-JudgesRecords samples map_file cert (Fails number rule place) =
-    IsBrokenRecord samples (map_output map_file) cert number rule place
-    ⊎ LeaveAnother samples map_file cert number rule place
+JudgesRecords samples map_file cert =
+    JudgesBy (RecordsStand samples (map_output map_file) cert)
+    (IsBrokenRecord samples (map_output map_file) cert)
+    (map_entries map_file) (LeaveAt cert map_file)

@@ -1,5 +1,5 @@
 // What the definitions mean.
-ghost use Rattle.standing_files.specs.Standing.{OneFirstBrokenRule, RunStands, StandingBreaksNone, VersionsDontCount};
+ghost use Rattle.standing_files.specs.Standing.{LoopStands, OneFirstBrokenRule, QuiltStands, RunStands, StandingBreaksNone, StandingRecordsAreLeast, VersionsDontCount};
 
 /// A law, with nothing to run: files that stand break no rule, and others have one first broken rule at
 /// most.
@@ -12,6 +12,24 @@ pub fn one_first_broken_rule()
 /// the map that the records before it leave, and its picture is that of the map.
 pub fn files_of_a_run_stand()
     ensures { RunStands }
+{}
+
+/// A law, with nothing to run: the files of a quilt stand. Its blocks leave a full map, each stands over the map
+/// that the blocks before it leave, and its picture is that of the map.
+pub fn files_of_a_quilt_stand()
+    ensures { QuiltStands }
+{}
+
+/// A law, with nothing to run: the files of a loop stand. Its walk record stands, its map has the frames of
+/// the walk, and so has its clip.
+pub fn files_of_a_loop_stand()
+    ensures { LoopStands }
+{}
+
+/// A law, with nothing to run: records that stand are least. No lawful choice of a cut leaves a smaller total,
+/// no boundary of a block costs less, and no closed walk of as many frames costs less.
+pub fn standing_records_are_least()
+    ensures { StandingRecordsAreLeast }
 {}
 
 /// A law, with nothing to run: a verdict is that on the same map and records in other versions too.

@@ -2,9 +2,10 @@
 //!
 //! `judge` says that they stand exactly where they do (specs/Standing.antt), and else names the first
 //! broken rule with the number of its record and its place. Rules 1 to 6 are those of cut records, which
-//! the crates cut_check and replay judge; the three rules of whole files are here: `together` tries
-//! whether the files go together, `records` whether the records stand and leave the map, and `picture`
-//! whether the out picture is that of the map.
+//! the crates cut_check and replay judge, rules 7 to 11 those of block records, of the crates quilt and
+//! block_replay, and rules 12 to 14 those of walk records, of the crate loop_walk. The three rules of whole
+//! files are here: `together` tries whether the files go together, `records` whether the records stand and
+//! leave the map, and `picture` whether the out picture is that of the map.
 #![tactic(auto)]
 
 mod laws;
@@ -13,7 +14,10 @@ mod records;
 mod together;
 mod verdict;
 
-pub use laws::{files_of_a_run_stand, one_first_broken_rule, versions_do_not_count};
+pub use laws::{
+    files_of_a_loop_stand, files_of_a_quilt_stand, files_of_a_run_stand, one_first_broken_rule,
+    standing_records_are_least, versions_do_not_count,
+};
 pub use verdict::{MAP_RULE, PICTURE_RULE, TOGETHER_RULE, Verdict, judge};
 
 #[cfg(test)]

@@ -1,17 +1,27 @@
 // Whether the records of a run stand, and leave the map of its map file.
-ghost use Rattle.std.specs.Prelude.{◌≡◌, ◌<◌, ◌^◌, ◌↔◌, All, IfOk, IsTrue, length};
+ghost use Rattle.std.specs.Prelude.{◌≡◌, ◌≤◌, ◌<◌, ◌*◌, ◌^◌, ◌↔◌, All, IfOk, IfSome, IfNone, IsTrue, length};
+ghost use Rattle.cells.specs.Cells.{IsOnePart};
 ghost use Rattle.cells.specs.Places.{cell_count, place_of};
 ghost use Rattle.replay.specs.Replay.{IsFormed};
+ghost use Rattle.quilt.specs.Blocks.{IsFormed as IsFormedBlock};
+ghost use Rattle.frame_distance.specs.declared.table.TheConstants.{MOST_CLIP_CELLS};
+ghost use Rattle.loop_walk.specs.Tables.{IsLength, table_count};
 ghost use Rattle.cert_file.specs.RecordFiles.{IsCert};
-ghost use Rattle.standing_files.specs.Standing.{AreKindsOfOneRun, HasOneSource};
-ghost use Rattle.standing_files.specs.Steps.{FirstWithout, JudgesCuts, JudgesRecords, cuts_in};
+ghost use Rattle.samples.specs.Several.{AreSoundSamples};
+ghost use Rattle.standing_files.specs.Standing.{HasOneFrame, HasOneSource, walk_costs};
+ghost use Rattle.standing_files.specs.Steps.{FirstWithout, JudgesBlocks, JudgesCuts, JudgesRecords, JudgesWalk, Suit, verdict_on_map};
 
 use crate::verdict::{MAP_RULE, Verdict};
-use cells::{At, Volume};
+use block_replay::{BlocksError, replay_blocks};
+use cells::{At, Taps, Volume};
 use cert_file::CertFile;
 use cut_check::CutRecord;
+use frame_distance::{distances, filtered};
+use loop_walk::check_loop;
 use map_canvas::{Canvas, Map};
+use quilt::BlockRecord;
 use replay::replay_cuts;
+use samples::Samples;
 use source_map::MapFile;
 use std::alloc::{AllocError, Global};
 
@@ -39,6 +49,39 @@ fn first_other_source(left: &Map, map: &Map) -> Option<usize>
     None
 }
 
+// Whether a walk and a frame map have one frame at a position.
+fn has_one_frame(walk: &[u16], frames: &[u16], i: usize) -> bool
+    ensures { IsTrue result ↔ HasOneFrame walk.now frames.now i }
+{
+    i < walk.len() && i < frames.len() && walk[i] == frames[i]
+}
+
+// The first position of a walk at which a frame map has no frame, or another one.
+fn first_other_frame(walk: &[u16], frames: &[u16]) -> Option<usize>
+    ensures { FirstWithout (length walk.now) (HasOneFrame walk.now frames.now) result }
+{
+    for i in 0..walk.len() {
+        if !has_one_frame(walk, frames, i) {
+            return Some(i);
+        }
+    }
+    None
+}
+
+// The verdict on records that stand, by the first entry of the map file that they don't leave.
+fn verdict_on_map(first: Option<usize>) -> Verdict
+    ensures { result ≡ verdict_on_map first }
+{
+    match first {
+        None => Verdict::Stands,
+        Some(i) => Verdict::Fails {
+            number: 0,
+            rule: MAP_RULE,
+            place: i as u64,
+        },
+    }
+}
+
 // Judges cut records over an output, and the map that they leave.
 fn judge_cuts(
     alloc: Global,
@@ -58,39 +101,104 @@ fn judge_cuts(
             place: broken.fault.place,
         });
     }
-    match first_other_source(canvas.map(), map) {
-        None => Ok(Verdict::Stands),
-        Some(i) => Ok(Verdict::Fails {
-            number: 0,
-            rule: MAP_RULE,
-            place: i as u64,
+    Ok(verdict_on_map(first_other_source(canvas.map(), map)))
+}
+
+// Judges block records over an output, and the map that they leave.
+fn judge_blocks(
+    alloc: Global,
+    sample: &Volume,
+    map: &Map,
+    blocks: &[BlockRecord],
+) -> Result<Verdict, AllocError>
+    requires colours { sample.now.k ≡ 3 }
+    requires formed { All IsFormedBlock blocks.now }
+    requires few { length blocks.now < 2 ^ 32 }
+    ensures { IfOk result (JudgesBlocks sample.now map.now blocks.now) }
+{
+    let mut canvas = Canvas::empty(alloc, map.size(), sample.samples())?;
+    match replay_blocks(alloc, &mut canvas, sample, blocks) {
+        Ok(()) => Ok(verdict_on_map(first_other_source(canvas.map(), map))),
+        Err(BlocksError::Broken(broken)) => Ok(Verdict::Fails {
+            number: broken.number as u64 + 1,
+            rule: broken.fault.kind,
+            place: broken.fault.place,
+        }),
+        Err(BlocksError::NoMemory) => Err(AllocError),
+    }
+}
+
+// Judges a walk record over a sample, and the frames that it leaves.
+fn judge_walk(
+    alloc: Global,
+    sample: &Volume,
+    taps: Taps,
+    gap: u32,
+    walk: &[u16],
+    tables: &[u64],
+    frames: &[u16],
+) -> Result<Verdict, AllocError>
+    requires part { IsOnePart sample.now }
+    requires few { sample.now.size.f ≤ 256 }
+    requires cells { cell_count sample.now.size ≤ MOST_CLIP_CELLS }
+    requires walk { IsLength (length walk.now) }
+    requires tables { length tables.now ≡
+        table_count (length walk.now) * (sample.now.size.f * sample.now.size.f) }
+    ensures { IfOk result
+        (JudgesWalk (walk_costs sample.now taps gap) walk.now tables.now frames.now) }
+{
+    let table = distances(alloc, sample)?;
+    let costs = filtered(alloc, &table, taps, gap)?;
+    match check_loop(&costs, walk, tables) {
+        Ok(()) => Ok(verdict_on_map(first_other_frame(walk, frames))),
+        Err(fault) => Ok(Verdict::Fails {
+            number: 1,
+            rule: fault.kind,
+            place: fault.place,
         }),
     }
 }
 
-// The cut records of a record file.
-fn cuts_in(cert: &CertFile) -> &[CutRecord]
-    ensures { result.now ≡ cuts_in cert.now }
-{
-    match cert {
-        CertFile::Cuts { cuts, .. } => cuts.as_slice(),
-    }
-}
-
-/// Judges the records of a record file, each over the map that the records before it leave, and the map
-/// that all of them leave. The one error is out of memory; it takes one canvas.
+/// Judges the records of a record file, and what they leave beside the map file: records of cuts and of
+/// blocks each over the map that the records before it leave, and a walk over the step costs of the sample.
+/// The one error is out of memory; it takes one canvas, or the tables of the distances and of the steps.
 pub(crate) fn judge_records(
     alloc: Global,
-    samples: &Volume,
+    samples: &Samples,
     map_file: &MapFile,
     cert: &CertFile,
 ) -> Result<Verdict, AllocError>
     requires cert { IsCert cert.now }
-    requires kinds { AreKindsOfOneRun map_file.now cert.now }
-    ensures { IfOk result (JudgesRecords samples.now map_file.now cert.now) }
+    requires sound { AreSoundSamples samples.now }
+    requires suit { Suit samples.now map_file.now cert.now }
+    ensures { IfOk result (JudgesRecords samples.now.volume map_file.now cert.now) }
 {
-    match map_file {
-        MapFile::Cells { map, .. } => judge_cuts(alloc, samples, map, cuts_in(cert)),
-        MapFile::Frames { .. } => unreachable!(),
+    let volume = &samples.volume;
+    match (map_file, cert) {
+        (MapFile::Cells { map, .. }, CertFile::Cuts { cuts, .. }) => {
+            judge_cuts(alloc, volume, map, cuts.as_slice())
+        }
+        (MapFile::Cells { map, .. }, CertFile::Blocks { blocks, .. }) => {
+            judge_blocks(alloc, volume, map, blocks.as_slice())
+        }
+        (
+            MapFile::Frames { frames, .. },
+            CertFile::Walk {
+                taps,
+                gap,
+                walk,
+                tables,
+                ..
+            },
+        ) => judge_walk(
+            alloc,
+            volume,
+            *taps,
+            *gap,
+            walk.as_slice(),
+            tables.as_slice(),
+            frames.as_slice(),
+        ),
+        _ => unreachable!(),
     }
 }

@@ -1,11 +1,16 @@
-// Worked examples: the files of a run of six cells in a row, and the same files with other bytes.
+// Worked examples: the files of runs of cuts, of blocks and of a walk, and the same files with other bytes.
+ghost use Rattle.std.specs.Prelude.{IfOk};
+ghost use Rattle.samples.specs.Several.{AreSoundSamples};
+
 use crate::{MAP_RULE, PICTURE_RULE, TOGETHER_RULE, Verdict, judge};
 use cert_file::read_cert;
 use cut_check::{FILL_RULE, VALUE_RULE};
+use loop_walk::{DIAGONAL_RULE, TABLES_RULE, WALK_RULE};
+use quilt::{COST_RULE, FIT_RULE, OVERLAP_RULE, PATH_RULE, SUMS_RULE};
 use samples::{Sample, Samples, read_sample};
 use shelf_core::MemShelf;
 use source_map::read_map;
-use std::alloc::Global;
+use std::alloc::{AllocError, Global};
 use std::test::Fail;
 
 // Four cells of grey in a row: 10, 20, 30 and 40.
@@ -25,39 +30,41 @@ const RECORD: &[u8] =
 \0\0\0\0\0\0\0\x04\0\x01\0\x01\0\0\0\0\0\0\xf0\0\0\0\0\0\0\0\0\0\0\0\0\
 \0\x02\0\0\0\0\0\x04\0\x01\0\x01\0\0\0\0\0\0\x70\0\x78\0\x78\0\x78\0\0\0\0\0\0";
 
-// Puts a file with other bytes at some places.
-fn put(
-    alloc: Global,
-    shelf: &mut MemShelf,
-    name: &str,
-    bytes: &[u8],
-    others: &[(usize, u8)],
-) -> Result<(), Fail> {
+// Some bytes, with others at some places.
+fn with_others(alloc: Global, bytes: &[u8], others: &[(usize, u8)]) -> Result<Vec<u8>, AllocError> {
     let mut all = Vec::from_slice(alloc, bytes)?;
     for (at, byte) in others {
         if let Some(old) = all.get_mut(*at) {
             *old = *byte;
         }
     }
-    shelf.put_file(name, &all)?;
-    Ok(())
+    Ok(all)
 }
 
-// The verdict on the files, with other bytes in the out file, the map file and the record file.
+// Reads a sample, alone.
+fn read_one(alloc: Global, shelf: &mut MemShelf) -> Result<Samples, Fail>
+    ensures { IfOk result AreSoundSamples }
+{
+    let Ok(Sample { form, volume }) = read_sample(alloc, shelf, "s") else {
+        return Err(Fail::from("no sample"));
+    };
+    Ok(Samples { form, volume })
+}
+
+// The verdict on these files.
 fn verdict_on(
     alloc: Global,
-    out: &[(usize, u8)],
-    map: &[(usize, u8)],
-    record: &[(usize, u8)],
+    sample: &[u8],
+    out: &[u8],
+    map: &[u8],
+    record: &[u8],
 ) -> Result<Verdict, Fail> {
     let mut shelf = MemShelf::new(alloc);
-    shelf.put_file("s", SAMPLE)?;
-    put(alloc, &mut shelf, "o", OUT, out)?;
-    put(alloc, &mut shelf, "m", MAP, map)?;
-    put(alloc, &mut shelf, "r", RECORD, record)?;
-    let sample = read_sample(alloc, &mut shelf, "s").ok();
-    let Sample { form, volume } = sample.ok_or("no sample")?;
-    let samples = Samples { form, volume };
+    shelf.put_file("s", sample)?;
+    shelf.put_file("o", out)?;
+    shelf.put_file("m", map)?;
+    shelf.put_file("r", record)?;
+    let samples = read_one(alloc, &mut shelf)?;
     let out = read_sample(alloc, &mut shelf, "o")
         .ok()
         .ok_or("no picture")?;
@@ -100,7 +107,128 @@ fn first_broken_rules(rt: HostRuntime) -> Result<(), Fail> {
         (&[(9, b'4')], none, less_flow, fails(0, TOGETHER_RULE, 0)),
     ];
     for (out, map, record, verdict) in table {
-        assert_eq!(rt; verdict_on(alloc, out, map, record)?, verdict);
+        let out = with_others(alloc, OUT, out)?;
+        let map = with_others(alloc, MAP, map)?;
+        let record = with_others(alloc, RECORD, record)?;
+        assert_eq!(rt; verdict_on(alloc, SAMPLE, &out, &map, &record)?, verdict);
     }
+    Ok(())
+}
+
+// Four cells of grey in a row: 10, 20, 30 and 60.
+const QUILT_SAMPLE: &[u8] = b"P6\n4 1\n255\n\x0a\x0a\x0a\x14\x14\x14\x1e\x1e\x1e\x3c\x3c\x3c";
+
+// Cells 0, 1, 0, 1, 2 and 3 of the sample.
+const QUILT: &[u8] =
+    b"P6\n6 1\n255\n\x0a\x0a\x0a\x14\x14\x14\x0a\x0a\x0a\x14\x14\x14\x1e\x1e\x1e\x3c\x3c\x3c";
+
+const QUILT_MAP: &[u8] =
+    b"WEAVEMAP\x01\x00\0\0\0\x06\0\0\0\x01\0\0\0\x01\0\0\0\x04\0\0\0\x01\0\0\0\x01\
+\0\0\0\0\0\0\0\x01\0\0\0\0\0\0\0\0\0\0\0\x01\0\0\0\0\0\x02\0\0\0\0\0\x03\0\0\0\0";
+
+// A block over cells 0 to 3, and one over cells 2 to 5. In their strip of two columns the errors are 1,200
+// and 4,800, and the boundary is in the first column.
+const QUILT_RECORD: &[u8] =
+    b"WEAVEREC\x01\x01\0\0\0\x06\0\0\0\x01\0\0\0\x01\0\0\0\x04\0\0\0\x01\0\0\0\x01\
+\0\0\0\x02\
+\0\0\0\0\0\x04\0\x01\0\0\0\0\0\
+\0\x02\0\0\0\x04\0\x01\0\0\0\0\x01\0\x02\0\0\0\0\x04\xb0\0\0\x12\xc0";
+
+// Clips of one frame, with the sizes of the sample and of the quilt.
+const SAMPLE_CLIP: &[u8] = b"YUV4MPEG2 W4 H1 F25:1 C444\nFRAME\nabcdabcdabcd";
+
+const QUILT_CLIP: &[u8] = b"YUV4MPEG2 W6 H1 F25:1 C444\nFRAME\nababcdababcdababcd";
+
+// The bytes of the record that are the second block's corner, the column of its boundary, and the second sum.
+const CORNER: usize = 52;
+
+const COLUMN: usize = 67;
+
+const SUM: usize = 75;
+
+#[test]
+fn first_broken_rules_of_quilts(rt: HostRuntime) -> Result<(), Fail> {
+    let alloc = rt.alloc();
+    let none: &[(usize, u8)] = &[];
+    let table: [(&[(usize, u8)], Verdict); 7] = [
+        (none, Verdict::Stands),
+        (&[(CORNER, 3)], fails(2, FIT_RULE, 0)),
+        (&[(CORNER, 1)], fails(2, OVERLAP_RULE, 2)),
+        (&[(CORNER, 1), (COLUMN, 2)], fails(2, OVERLAP_RULE, 2)),
+        (&[(COLUMN, 2)], fails(2, PATH_RULE, 0)),
+        (&[(SUM, 0xc1)], fails(2, SUMS_RULE, 1)),
+        (&[(COLUMN, 1)], fails(2, COST_RULE, 0)),
+    ];
+    for (record, verdict) in table {
+        let record = with_others(alloc, QUILT_RECORD, record)?;
+        assert_eq!(rt;
+            verdict_on(alloc, QUILT_SAMPLE, QUILT, QUILT_MAP, &record)?,
+            verdict
+        );
+    }
+    assert_eq!(rt;
+        verdict_on(alloc, SAMPLE_CLIP, QUILT_CLIP, QUILT_MAP, QUILT_RECORD)?,
+        fails(0, TOGETHER_RULE, 0)
+    );
+    Ok(())
+}
+
+// Three frames of one cell: 10, 20 and 11. The step from the second to the first costs 1.
+const LOOP_SAMPLE: &[u8] = b"YUV4MPEG2 W1 H1 F25:1 Cmono\nFRAME\n\x0aFRAME\n\x14FRAME\n\x0b";
+
+// Its first two frames.
+const LOOP: &[u8] = b"YUV4MPEG2 W1 H1 F25:1 Cmono\nFRAME\n\x0aFRAME\n\x14";
+
+const LOOP_MAP: &[u8] =
+    b"WEAVEMAP\x01\x01\0\0\0\x01\0\0\0\x01\0\0\0\x02\0\0\0\x01\0\0\0\x01\0\0\0\x03\0\0\0\x01";
+
+// The walk through these two frames, with the table for two steps: 1, 81, 0, then 82, 1, 81, then none.
+const LOOP_RECORD: &[u8] =
+    b"WEAVEREC\x01\x02\0\0\0\x01\0\0\0\x01\0\0\0\x02\0\0\0\x01\0\0\0\x01\0\0\0\x03\
+\0\0\0\x02\0\0\x01\0\0\0\x01\
+\0\0\0\0\0\0\0\x01\0\0\0\0\0\0\0\x51\0\0\0\0\0\0\0\0\
+\0\0\0\0\0\0\0\x52\0\0\0\0\0\0\0\x01\0\0\0\0\0\0\0\x51\
+\xff\xff\xff\xff\xff\xff\xff\xff\xff\xff\xff\xff\xff\xff\xff\xff\xff\xff\xff\xff\xff\xff\xff\xff";
+
+// A clip of three frames, and a map that goes with it.
+const LONGER: &[u8] = b"YUV4MPEG2 W1 H1 F25:1 Cmono\nFRAME\n\x0aFRAME\n\x14FRAME\n\x0a";
+
+const LONGER_MAP: &[u8] =
+    b"WEAVEMAP\x01\x01\0\0\0\x01\0\0\0\x01\0\0\0\x03\0\0\0\x01\0\0\0\x01\0\0\0\x03\0\0\0\x01\0\0";
+
+// The bytes of the record that are the output's frames, the second frame of the walk, and the second and the
+// fifth entry.
+const FRAMES: usize = 21;
+
+const FRAME: usize = 44;
+
+const SECOND: usize = 60;
+
+const FIFTH: usize = 84;
+
+#[test]
+fn first_broken_rules_of_loops(rt: HostRuntime) -> Result<(), Fail> {
+    let alloc = rt.alloc();
+    let none: &[(usize, u8)] = &[];
+    let table: [(&[(usize, u8)], &[(usize, u8)], Verdict); 5] = [
+        (none, none, Verdict::Stands),
+        (&[(FRAME, 2)], none, fails(1, WALK_RULE, 1)),
+        (&[(SECOND, 82)], none, fails(1, TABLES_RULE, 1)),
+        (&[(FIFTH, 0)], none, fails(1, DIAGONAL_RULE, 1)),
+        (none, &[(35, 1)], fails(0, MAP_RULE, 0)),
+    ];
+    for (record, map, verdict) in table {
+        let record = with_others(alloc, LOOP_RECORD, record)?;
+        let map = with_others(alloc, LOOP_MAP, map)?;
+        assert_eq!(rt;
+            verdict_on(alloc, LOOP_SAMPLE, LOOP, &map, &record)?,
+            verdict
+        );
+    }
+    let record = with_others(alloc, LOOP_RECORD, &[(FRAMES, 3)])?;
+    assert_eq!(rt;
+        verdict_on(alloc, LOOP_SAMPLE, LONGER, LONGER_MAP, &record)?,
+        fails(0, TOGETHER_RULE, 0)
+    );
     Ok(())
 }

@@ -1,11 +1,11 @@
 // Whether files go together: their sizes, forms and kinds.
 ghost use Rattle.std.specs.Prelude.{◌≡◌, ◌↔◌, ◌∷◌, [], IsTrue};
-ghost use Rattle.standing_files.specs.Standing.{AreKindsOfOneRun, GoTogether, NamesSizes, cert_head, map_output, map_samples};
+ghost use Rattle.standing_files.specs.Standing.{AreKindsOfOneRun, GoTogether, NamesSizes, TakesForm, cert_head, map_output, map_samples};
 
 use cells::{Size, Sizes};
 use cert_file::CertFile;
-use samples::{Sample, Samples};
-use source_map::MapFile;
+use samples::{Form, Sample, Samples};
+use source_map::{Head, MapFile};
 
 // Whether two lists of sizes are the same.
 fn are_same(a: &Sizes, b: &Sizes) -> bool
@@ -44,15 +44,34 @@ fn map_names_sizes(map_file: &MapFile, samples: &Sizes, out: &Sizes) -> bool
     }
 }
 
+// The head of a record file.
+fn head_of(cert: &CertFile) -> &Head
+    ensures { result.now ≡ cert_head cert.now }
+{
+    match cert {
+        CertFile::Cuts { head, .. } => head,
+        CertFile::Blocks { head, .. } => head,
+        CertFile::Walk { head, .. } => head,
+    }
+}
+
 // Whether a record file names them.
 fn cert_names_sizes(cert: &CertFile, samples: &Sizes, out: &Sizes) -> bool
     ensures { IsTrue result ↔ NamesSizes samples.now out.now
         (cert_head cert.now).output (cert_head cert.now).samples }
 {
-    match cert {
-        CertFile::Cuts { head, .. } => {
-            is_one(out, head.output) && are_same(samples, &head.samples)
-        }
+    let head = head_of(cert);
+    is_one(out, head.output) && are_same(samples, &head.samples)
+}
+
+// Whether a record file goes with samples of a form: block records with pictures alone.
+fn takes_form(cert: &CertFile, form: &Form) -> bool
+    ensures { IsTrue result ↔ TakesForm cert.now form.now }
+{
+    match (cert, form) {
+        (CertFile::Blocks { .. }, Form::Clip { .. }) => false,
+        (CertFile::Blocks { .. }, Form::Picture { .. }) => true,
+        (CertFile::Cuts { .. } | CertFile::Walk { .. }, _) => true,
     }
 }
 
@@ -62,12 +81,18 @@ fn are_kinds_of_one_run(map_file: &MapFile, cert: &CertFile) -> bool
 {
     match (map_file, cert) {
         (MapFile::Cells { .. }, CertFile::Cuts { .. }) => true,
+        (MapFile::Cells { .. }, CertFile::Blocks { .. }) => true,
+        (MapFile::Cells { .. }, CertFile::Walk { .. }) => false,
         (MapFile::Frames { .. }, CertFile::Cuts { .. }) => false,
+        (MapFile::Frames { .. }, CertFile::Blocks { .. }) => false,
+        (MapFile::Frames { size, .. }, CertFile::Walk { walk, .. }) => {
+            walk.as_slice().len() == size.f as usize
+        }
     }
 }
 
 /// Whether map file and record file name the sizes of the pictures, the out picture has the form of the
-/// first sample, and the kinds of the two files go together.
+/// first sample, which goes with the record file, and the kinds of the two files go together.
 pub(crate) fn go_together(
     samples: &Samples,
     out: &Sample,
@@ -81,5 +106,6 @@ pub(crate) fn go_together(
     map_names_sizes(map_file, &sizes, &out_sizes)
         && cert_names_sizes(cert, &sizes, &out_sizes)
         && samples.form.goes_with(&out.form)
+        && takes_form(cert, &samples.form)
         && are_kinds_of_one_run(map_file, cert)
 }

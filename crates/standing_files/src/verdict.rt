@@ -1,6 +1,7 @@
 // The verdict on the files of a run.
 ghost use Rattle.std.specs.Prelude.{◌≡◌, ◌↔◌, IfOk};
 ghost use Rattle.cert_file.specs.RecordFiles.{IsCert};
+ghost use Rattle.samples.specs.Several.{AreSoundSamples};
 ghost use Rattle.standing_files.specs.Standing.{FilesStand, IsVerdict};
 ghost use Rattle.standing_files.specs.declared.verdict.Verdict.TheVariants.{Stands};
 
@@ -46,7 +47,8 @@ pub fn judge(
     map_file: &MapFile,
     cert: &CertFile,
 ) -> Result<Verdict, AllocError>
-    requires { IsCert cert.now }
+    requires cert { IsCert cert.now }
+    requires sound { AreSoundSamples samples.now }
     ensures verdict { IfOk result (IsVerdict samples.now out.now map_file.now cert.now) }
     ensures stands { IfOk result (λ v.
         (v ≡ Stands) ↔ FilesStand samples.now out.now map_file.now cert.now) }
@@ -58,7 +60,7 @@ pub fn judge(
             place: 0,
         });
     }
-    match judge_records(alloc, &samples.volume, map_file, cert)? {
+    match judge_records(alloc, samples, map_file, cert)? {
         Verdict::Stands => {}
         fails => return Ok(fails),
     }

@@ -1,0 +1,4 @@
+pub mod RunLaws
+pub mod Faults
+pub mod FirstBroken
+pub mod Replaying

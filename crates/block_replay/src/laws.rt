@@ -1,0 +1,13 @@
+// What the definitions mean.
+ghost use Rattle.block_replay.specs.BlockReplay.{BrokenBlockStandsNot, OneFirstBrokenBlock};
+
+/// A law, with nothing to run: where a record is the first broken one, not every record stands.
+pub fn broken_block_stands_not()
+    ensures { BrokenBlockStandsNot }
+{}
+
+/// A law, with nothing to run: of a list of records there is one first broken one at most, with one first
+/// fault.
+pub fn one_first_broken_block()
+    ensures { OneFirstBrokenBlock }
+{}

@@ -1,0 +1,19 @@
+use Rattle.std.proofs.Common.{◌≡◌, ◌∙◌, ap, sym, subst}
+use Rattle.frame_distance.specs.Steps.{Steps, steps_of}
+use Rattle.frame_distance.specs.Tables.{Distances}
+use Rattle.loop_walk.specs.Records.{WalkStands}
+use Rattle.standing_files.specs.declared.verdict.Verdict.{Verdict}
+use Rattle.standing_files.specs.Standing.{walk_costs}
+use Rattle.standing_files.specs.Steps.{JudgesWalk}
+use Rattle.standing_files.proofs.Judging.{walk_judged}
+use Rattle.standing_files.proofs.records.judge_walk.Goals as goal
+
+pub returns-in-Ok : goal.returns-in-Ok
+returns-in-Ok c =
+    let walk = c.args.walk.now in
+    let tables = c.args.tables.now in
+    let frames = c.args.frames.now in
+    let costs = walk_costs c.args.sample.now c.args.taps c.args.gap in
+    let same : c.in_ok-costs.costs ≡ costs = c.in_ok-costs.ensures.steps ∙ ap (λ (table : Distances). steps_of table c.args.taps c.args.gap) c.in_ok-table.ensures.table in
+    subst (λ (v : Verdict). JudgesWalk costs walk tables frames v) (sym c.verdict_on_map.ensures)
+    (walk_judged costs walk tables frames (subst (λ (costs : Steps). WalkStands costs walk tables) same c.in-Ok.ensures.stands) c.first_other_frame.result c.first_other_frame.ensures)

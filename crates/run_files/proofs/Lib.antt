@@ -1,0 +1,4 @@
+pub mod Clips
+pub mod Pictures
+pub mod Ranges
+pub mod ThreeFiles

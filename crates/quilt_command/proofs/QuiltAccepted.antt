@@ -1,0 +1,96 @@
+-- The files that `quilt` leaves are read again as what was written, and stand.
+use Rattle.std.proofs.Common.{◌≡◌, ℕ, ◌+◌, ◌≤◌, List, [], ◌∷◌, refl, ap, sym, ◌∙◌, subst, arith}
+use Rattle.std.specs.Prelude.{Ok}
+use Rattle.cells.specs.Cells.{sizes_of}
+use Rattle.cells.specs.Places.{cell_count}
+use Rattle.cells.specs.PartLists.{parts_of}
+use Rattle.shelf_core.specs.Files.{Files, content_of}
+use Rattle.netpbm_p6.specs.Pictures.{IsRead, p6_form}
+use Rattle.netpbm_p6.proofs.ReadAgain.{written_is_read}
+use Rattle.source_map.specs.declared.head.Version.TheVariants.{One}
+use Rattle.source_map.specs.declared.map_file.MapFile.TheVariants.{Cells as CellMap}
+use Rattle.source_map.specs.MapFiles.{cell_map_form, map_read}
+use Rattle.source_map.proofs.MapsAgain as maps
+use Rattle.quilt.specs.declared.block.BlockRecord.{BlockRecord}
+use Rattle.quilting.specs.Costs.{block_cells}
+use Rattle.cert_file.specs.declared.file.CertFile.TheVariants.{Blocks}
+use Rattle.cert_file.specs.BlockReading as file
+use Rattle.cert_file.specs.RecordFiles.{IsCertOf, blocks_form}
+use Rattle.cert_file.proofs.BlocksAgain.{blocks_again}
+use Rattle.job_words.specs.declared.quilt.QuiltJob.{QuiltJob}
+use Rattle.job_words.specs.QuiltWords.{IsQuiltJob}
+use Rattle.samples.specs.declared.form.Form.TheVariants.{Picture}
+use Rattle.samples.specs.declared.several.Samples.{Samples}
+use Rattle.samples.specs.Samples.{StandsWithin}
+use Rattle.samples.specs.Several.{StandForParts, StandForSamples, contents}
+use Rattle.samples.proofs.Joined.{parts_alone}
+use Rattle.samples.proofs.OneSample.{count_alone}
+use Rattle.standing_files.specs.Standing.{FilesStand}
+use Rattle.standing_files.proofs.Runs.{quilt_stands}
+use Rattle.check_command.specs.declared.reading.RunFiles.{RunFiles}
+use Rattle.check_command.specs.Checks.{Stand}
+use Rattle.quilt_command.specs.declared.plan.PictureQuilt.{PictureQuilt}
+use Rattle.quilt_command.specs.Quilts.{IsMadeQuilt, quilt_head, quilt_size}
+use Rattle.quilt_command.proofs.Ready.{map_ready, picture_ready, record_ready, wide_block}
+
+-- the cells of a list of blocks are counted alike
+same_cells : (blocks : List BlockRecord) → file.block_cells blocks ≡ block_cells blocks
+same_cells [] = refl
+same_cells (block ∷ blocks) = ap (λ n. cell_count block.placement.rect.size + n) (same_cells blocks)
+
+module _ (job : QuiltJob) (lawful : IsQuiltJob job) (after : Files) (made : PictureQuilt) (is : IsMadeQuilt job made)
+    (sample_file : IsRead (content_of after job.names.sample) made.sample)
+    (out_file : content_of after job.names.out ≡ p6_form made.sample.maxval made.quilted.canvas.picture)
+    (map_file : content_of after job.names.map ≡ cell_map_form made.quilted.canvas.map (sizes_of made.sample.volume) One)
+    (cert_file : content_of after job.names.cert ≡ blocks_form (quilt_head job made.sample.volume) made.quilted.blocks) where
+  abbrev samples : Samples
+  samples = record { form = Picture made.sample.maxval; volume = made.sample.volume }
+
+  sample_again : StandForSamples (content_of after job.names.sample) (contents after job.names.more) samples
+  sample_again =
+      let alone : StandForParts (Picture made.sample.maxval) (content_of after job.names.sample) [] (made.sample.volume ∷ []) = (sample_file, tt) in
+      record {
+        parts = subst (λ names. StandForParts (Picture made.sample.maxval) (content_of after job.names.sample) (contents after names) (parts_of made.sample.volume)) (sym lawful.one)
+            (subst (StandForParts (Picture made.sample.maxval) (content_of after job.names.sample) []) (sym (parts_alone made.sample.volume is.sound.one)) alone);
+        fits = is.sound.cells;
+      }
+
+  few_cells : cell_count made.quilted.canvas.picture.size ≤ 8388608
+  few_cells = let size : cell_count made.quilted.canvas.picture.size ≡ cell_count (quilt_size job) = ap cell_count (is.quilt.canvas.size ∙ is.quilt.size) in omega (arith, size, is.within)
+
+  out_again : StandsWithin 33554432 (content_of after job.names.out) (Picture made.sample.maxval) made.quilted.canvas.picture
+  out_again = subst (λ bytes. StandsWithin 33554432 bytes (Picture made.sample.maxval) made.quilted.canvas.picture) (sym out_file)
+      (written_is_read made.sample.maxval made.quilted.canvas.picture (picture_ready job lawful made is) few_cells)
+
+  map_again : map_read (content_of after job.names.map) ≡ Ok (CellMap made.quilted.canvas.map (sizes_of made.sample.volume) One)
+  map_again = ap map_read map_file ∙ maps.read_again (CellMap made.quilted.canvas.map (sizes_of made.sample.volume) One) (is.quilt.canvas.map, map_ready job lawful made is)
+
+  cert_again : IsCertOf (content_of after job.names.cert) (Blocks (quilt_head job made.sample.volume) made.quilted.blocks)
+  cert_again = subst (λ bytes. IsCertOf bytes (Blocks (quilt_head job made.sample.volume) made.quilted.blocks)) (sym cert_file)
+      (blocks_again (quilt_head job made.sample.volume) made.quilted.blocks (record {
+        form = record_ready job lawful made is;
+        cells = subst (λ n. n ≤ 33554432) (sym (same_cells made.quilted.blocks)) is.quilt.writable.cells;
+      }) (λ i d lt. wide_block job lawful made is _ (is.quilt.writable.each i d lt)))
+
+  abbrev values : RunFiles
+  values = record {
+    samples = samples;
+    out = record { form = Picture made.sample.maxval; volume = made.quilted.canvas.picture };
+    map = CellMap made.quilted.canvas.map (sizes_of made.sample.volume) One;
+    cert = Blocks (quilt_head job made.sample.volume) made.quilted.blocks;
+  }
+
+  files_stand : FilesStand values.samples values.out values.map values.cert
+  files_stand = quilt_stands made.sample.maxval made.sample.volume (quilt_size job) made.quilted.blocks made.quilted.canvas.map made.quilted.canvas.picture One One (record {
+    asked = is.quilt.size;
+    is_map = is.quilt.canvas.map;
+    full = is.quilt.run.full;
+    one = is.quilt.canvas.part;
+    size_is = is.quilt.canvas.size ∙ is.quilt.size;
+    cells = is.quilt.over.bytes;
+    replays = is.quilt.replays.left;
+    stand = is.quilt.replays.stand;
+  })
+
+  pub accepted : Stand job.names after
+  accepted = record { values = values; read = record { samples = sample_again; out = out_again; map = map_again; cert = cert_again }; stand = files_stand }

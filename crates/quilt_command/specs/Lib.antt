@@ -1,0 +1,2 @@
+pub mod Quilts
+pub mod QuiltHeadlines

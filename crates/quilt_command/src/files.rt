@@ -1,0 +1,34 @@
+// The record file of a quilt.
+ghost use Rattle.std.specs.Prelude.{[], ◌∷◌};
+ghost use Rattle.cert_file.specs.RecordFiles.{AreBlocksInForm, blocks_form};
+ghost use Rattle.synth_report.specs.declared.fault.FileOf.TheVariants as part;
+ghost use Rattle.run_outcome.specs.Writing.{file_text};
+
+use cert_file::{Head, write_blocks};
+use job_words::Name;
+use quilt::BlockRecord;
+use run_outcome::RunFiles;
+use shelf_core::{Shelf, WriteFault};
+use synth_report::FileOf;
+
+/// The record file of blocks, in the order in which they are laid.
+#[derive(Drop)]
+pub struct BlocksFile<'a> {
+    pub name: &'a Name,
+    pub head: Head,
+    pub blocks: &'a [BlockRecord],
+}
+
+impl RunFiles for BlocksFile<'_> {
+    ghost texts = { λ file.
+        file_text part.Cert file.name.now (blocks_form file.head file.blocks.now) ∷ [] };
+
+    ghost AreReady = { λ file. AreBlocksInForm file.head file.blocks.now };
+
+    fn write<S: Shelf>(&mut self, shelf: &mut S) -> Result<(), FileOf> {
+        match write_blocks(&self.head, self.blocks, shelf, self.name.as_text()) {
+            Ok(()) => Ok(()),
+            Err(WriteFault) => Err(FileOf::Cert),
+        }
+    }
+}

@@ -1,0 +1,7 @@
+pub mod Taken
+pub mod Looping
+pub mod LoopReady
+pub mod LoopAgain
+pub mod LoopAccepted
+pub mod LoopLaws
+pub mod OneLoops

@@ -1,0 +1,11 @@
+use Rattle.source_map.specs.MapFiles.{frame_map_form}
+use Rattle.synth_report.specs.declared.fault.FileOf.TheVariants.{Map}
+use Rattle.run_outcome.proofs.WritingLaws.{stops_at_one}
+use Rattle.loop_command.proofs.files.FrameMapFileRunFiles.write.Goals as goal
+
+pub returns-in-Err-clause-wrote : goal.returns-in-Err-clause-wrote
+returns-in-Err-clause-wrote g c =
+    let file = c.args.self.now in
+    let failed = c.in-Err.ensures {u = tt} in
+    stops_at_one Map file.name.now c.as_text.result.now (frame_map_form file.size file.sample file.frames.now)
+    (g.S.Shelf.state c.args.shelf.now) (g.S.Shelf.state c.write_frame_map.new.shelf) c.as_text.ensures failed.err failed.failed

@@ -1,0 +1,11 @@
+use Rattle.synth_report.specs.declared.fault.FileOf.TheVariants.{Out}
+use Rattle.run_outcome.proofs.WritingLaws.{stops_at_one}
+use Rattle.loop_command.specs.LoopOuts.{walked_clip}
+use Rattle.loop_command.proofs.files.LoopFileRunFiles.write.Goals as goal
+
+pub returns-in-Err-clause-wrote : goal.returns-in-Err-clause-wrote
+returns-in-Err-clause-wrote g c =
+    let file = c.args.self.now in
+    let failed = c.in-Err.ensures {u = tt} in
+    stops_at_one Out file.name.now c.as_text.result.now (walked_clip file.writer file.sample.now file.walk.now)
+    (g.S.Shelf.state c.args.shelf.now) (g.S.Shelf.state c.write_frames.new.shelf) c.as_text.ensures failed.err failed.failed

@@ -1,0 +1,18 @@
+//! The command that makes a loop of a clip.
+//!
+//! `loop_clip` reads one clip, finds a closed walk of the asked length through its frames that shows the
+//! least change at its jumps, and writes the frames of the walk as a clip, the frame map and the walk's
+//! record (specs/Loops.antt has what it refuses and makes). specs/LoopHeadlines.antt has what stands when
+//! it is done. `plan` reads and computes, `files` writes the files frame by frame, straight from the
+//! sample, and `command` does both.
+#![tactic(auto)]
+
+mod command;
+mod files;
+mod plan;
+#[cfg(test)]
+mod tests;
+
+pub use command::loop_clip;
+pub use files::{FrameMapFile, LoopFile, WalkFile};
+pub use plan::{LoopedClip, MOST_LOOP_CELLS, MOST_LOOP_FRAMES};

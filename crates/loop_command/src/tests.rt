@@ -1,0 +1,122 @@
+// Worked examples, over a clip of one grey cell a frame.
+ghost use Rattle.std.specs.Prelude.{IfOk};
+ghost use Rattle.job_words.specs.LoopWords.{IsLoopJob};
+
+use crate::loop_clip;
+use job_words::{Job, LoopJob, Words, read_job};
+use shelf_core::{FormFault, MemShelf, MemSink};
+use std::alloc::Global;
+use std::test::Fail;
+use synth_report::{Fault, FileOf, Summary};
+
+// Frames 0, 3, 0 and 3.
+const FOUR: &[u8] = b"YUV4MPEG2 W1 H1 F25:1 Cmono\nFRAME\n\x00FRAME\n\x03FRAME\n\x00FRAME\n\x03";
+
+const TWO: &[u8] = b"YUV4MPEG2 W1 H1 F25:1 Cmono\nFRAME\n\x00FRAME\n\x03";
+
+const THREE: &[u8] = b"YUV4MPEG2 W1 H1 F25:1 Cmono\nFRAME\n\x00FRAME\n\x03FRAME\n\x00";
+
+const PICTURE: &[u8] = b"P6\n1 1\n255\n\0\0\0";
+
+// The job of a line of words, which blanks part.
+fn job_of(alloc: Global, line: &str) -> Result<LoopJob, Fail>
+    ensures { IfOk result IsLoopJob }
+{
+    let mut words = Words::new(alloc);
+    for word in line.split(' ') {
+        words.push(word)?;
+    }
+    match read_job(alloc, &words) {
+        Ok(Job::Loop(job)) => Ok(job),
+        _ => Err(Fail::from("no job")),
+    }
+}
+
+// What a line of words answers over a sample.
+fn answer_of(alloc: Global, sample: &[u8], line: &str) -> Result<Result<Summary, Fault>, Fail> {
+    let mut shelf = MemShelf::new(alloc);
+    let mut out = MemSink::new(alloc);
+    shelf.put_file("s", sample)?;
+    let job = job_of(alloc, line)?;
+    Ok(loop_clip(alloc, &job, &mut shelf, &mut out))
+}
+
+#[test]
+fn lengths_of_loops(rt: HostRuntime) -> Result<(), Fail> {
+    let done = |length, cost| Ok(Summary::Loop {
+        length,
+        start: 0,
+        cost,
+    });
+    let table = [
+        (
+            FOUR,
+            "loop sample=s out=o map=m record=r length=1 taps=0",
+            done(1, 9),
+        ),
+        (
+            FOUR,
+            "loop sample=s out=o map=m record=r length=2 taps=0",
+            done(2, 0),
+        ),
+        (
+            FOUR,
+            "loop sample=s out=o map=m record=r length=3 taps=0",
+            done(3, 9),
+        ),
+        (
+            TWO,
+            "loop sample=s out=o map=m record=r length=2 taps=0 gap=3",
+            Err(Fault::NoLoop(2)),
+        ),
+        (
+            THREE,
+            "loop sample=s out=o map=m record=r length=3",
+            Err(Fault::NoLoop(3)),
+        ),
+        (
+            PICTURE,
+            "loop sample=s out=o map=m record=r length=1",
+            Err(Fault::Form {
+                file: FileOf::Sample,
+                why: FormFault::Form(0),
+            }),
+        ),
+    ];
+    for (sample, line, answer) in &table {
+        assert_eq!(rt; answer_of(rt.alloc(), sample, line)?, *answer);
+    }
+    Ok(())
+}
+
+// Frames 0 and 1, and the table of the least costs of two steps.
+#[test]
+fn files_of_a_loop(rt: HostRuntime) -> Result<(), Fail> {
+    let mut shelf = MemShelf::new(rt.alloc());
+    let mut out = MemSink::new(rt.alloc());
+    shelf.put_file("s", FOUR)?;
+    let job = job_of(
+        rt.alloc(),
+        "loop sample=s out=o map=m record=r length=2 taps=0 gap=1",
+    )?;
+    assert!(rt; loop_clip(rt.alloc(), &job, &mut shelf, &mut out).is_ok());
+    assert_eq!(rt; shelf.file("o"), Some(TWO));
+    assert_eq!(rt; shelf.file("m"), Some(MAP));
+    assert_eq!(rt; shelf.file("r"), Some(RECORD));
+    assert_eq!(rt; out.bytes(), REPORT);
+    Ok(())
+}
+
+const REPORT: &[u8] = b"loop 2\nstart 0\ncost 0\n";
+
+const MAP: &[u8] = b"WEAVEMAP\x01\x01\0\0\0\x01\0\0\0\x01\0\0\0\x02\0\0\0\x01\0\0\0\x01\0\0\0\x04\
+\0\0\0\x01";
+
+const RECORD: &[u8] =
+    b"WEAVEREC\x01\x02\0\0\0\x01\0\0\0\x01\0\0\0\x02\0\0\0\x01\0\0\0\x01\0\0\0\x04\
+\0\0\0\x02\0\0\x01\0\0\0\x01\
+\0\0\0\0\0\0\0\0\0\0\0\0\0\0\0\x09\0\0\0\0\0\0\0\0\0\0\0\0\0\0\0\x09\
+\0\0\0\0\0\0\0\x09\0\0\0\0\0\0\0\0\0\0\0\0\0\0\0\x09\0\0\0\0\0\0\0\0\
+\0\0\0\0\0\0\0\0\0\0\0\0\0\0\0\x09\0\0\0\0\0\0\0\0\0\0\0\0\0\0\0\x09\
+\xff\xff\xff\xff\xff\xff\xff\xff\xff\xff\xff\xff\xff\xff\xff\xff\
+\xff\xff\xff\xff\xff\xff\xff\xff\xff\xff\xff\xff\xff\xff\xff\xff";

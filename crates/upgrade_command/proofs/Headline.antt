@@ -1,0 +1,179 @@
+-- What stands when `upgrade` is done.
+use Rattle.std.proofs.Common.{◌≡◌, ◌≢◌, ℕ, ◌<◌, List, [], ◌∷◌, length, get_or, refl, sym, ap, ◌∙◌, subst, arith}
+use Rattle.std.specs.Prelude.{Result, Ok, unwrap_or}
+use Rattle.std.specs.FinMap.{get, insert}
+use Rattle.cells.specs.declared.place.Size.{Size}
+use Rattle.shelf_core.specs.Files.{Files, ShelfState, SinkState, Changes, content_of}
+use Rattle.shelf_core.specs.declared.fault.ReadError.{ReadError}
+use Rattle.shelf_core.specs.Written.{written}
+use Rattle.shelf_core.proofs.FileLaws.{content_beside, content_inserted, get_beside, told_weaker}
+use Rattle.map_canvas.specs.Maps.{SourceMap}
+use Rattle.source_map.specs.declared.head.Head.{Head}
+use Rattle.source_map.specs.declared.head.Version.{Version}
+use Rattle.source_map.specs.declared.head.Version.TheVariants.{One, Two}
+use Rattle.source_map.specs.declared.map_file.MapFile.{MapFile}
+use Rattle.source_map.specs.declared.map_file.MapFile.TheVariants.{Cells as CellMap}
+use Rattle.source_map.specs.MapFiles.{cell_map_form, map_read}
+use Rattle.source_map.proofs.VersionOne as maps
+use Rattle.cut_check.specs.declared.record.CutRecord.{CutRecord}
+use Rattle.cert_file.specs.declared.file.CertFile.{CertFile}
+use Rattle.cert_file.specs.declared.file.CertFile.TheVariants.{Cuts}
+use Rattle.cert_file.specs.RecordFiles.{AreVersionOneCuts, IsCertOf, cert_read, cuts_form}
+use Rattle.cert_file.proofs.VersionOne as records
+use Rattle.job_words.specs.declared.job.Names.{Names}
+use Rattle.job_words.specs.declared.upgrade.UpgradeJob.{UpgradeJob}
+use Rattle.job_words.specs.UpgradeWords.{IsUpgradeJob, upgrade_names}
+use Rattle.synth_report.specs.declared.summary.Summary.{Summary}
+use Rattle.synth_report.specs.declared.summary.Summary.TheVariants.{Upgrade}
+use Rattle.run_outcome.specs.Outcomes.{WritesAll}
+use Rattle.run_outcome.specs.Writing.{Reported, pieces}
+use Rattle.standing_files.specs.declared.verdict.Verdict.{Verdict}
+use Rattle.standing_files.specs.declared.verdict.Verdict.TheVariants.{Stands, Fails}
+use Rattle.standing_files.specs.Standing.{IsVerdict}
+use Rattle.standing_files.proofs.Versions.{any_versions}
+use Rattle.check_command.specs.declared.reading.RunFiles.{RunFiles}
+use Rattle.check_command.specs.Checks.{AreRunFiles, Break, Stand}
+use Rattle.upgrade_command.specs.declared.pair.Pair.{Pair}
+use Rattle.upgrade_command.specs.Upgrades.{IsUpgradeSummary, MakesPair, in_version_two, upgrade_command}
+use Rattle.upgrade_command.specs.Upgraded.{HaveOneVerdict, IsUpgraded, with_pair}
+use Rattle.upgrade_command.proofs.Ready.{cuts_read_again, map_again}
+
+same_value : {T : Type 0} (r : Result T ReadError) (x y : T) → r ≡ Ok x → r ≡ Ok y → x ≡ y
+same_value r x y p q = let both : Ok x ≡ Ok y = sym p ∙ q in cc
+
+-- The verdict on one pair is that on the same pair in other versions.
+
+module _ (files : Files) (map cert other_map other_cert : List ℕ) (m : SourceMap) (sizes : List Size) (version other : Version) (head : Head) (of_cert : Version) (cuts : List CutRecord)
+    (map_is : map_read (content_of files map) ≡ Ok (CellMap m sizes version)) (other_map_is : map_read (content_of files other_map) ≡ Ok (CellMap m sizes other))
+    (cert_is : IsCertOf (content_of files cert) (Cuts head cuts)) (other_cert_is : IsCertOf (content_of files other_cert) (Cuts (record head { version = of_cert }) cuts)) where
+  moved : (names : Names) (values : RunFiles) → AreRunFiles (with_pair names map cert) files values → (verdict : Verdict) → IsVerdict values.samples values.out values.map values.cert verdict
+      → (there : RunFiles) × AreRunFiles (with_pair names other_map other_cert) files there × IsVerdict there.samples there.out there.map there.cert verdict
+  moved names values read verdict judged =
+      let map_same : values.map ≡ CellMap m sizes version = same_value {T = MapFile} (map_read (content_of files map)) values.map (CellMap m sizes version) read.map map_is in
+      let cert_same : values.cert ≡ Cuts head cuts = same_value {T = CertFile} (cert_read (content_of files cert)) values.cert (Cuts head cuts) read.cert cert_is in
+      let here = subst (λ c. IsVerdict values.samples values.out (CellMap m sizes version) c verdict) cert_same (subst (λ v. IsVerdict values.samples values.out v values.cert verdict) map_same judged) in
+      let there : RunFiles = record { samples = values.samples; out = values.out; map = CellMap m sizes other; cert = Cuts (record head { version = of_cert }) cuts } in
+      (there, record { samples = read.samples; out = read.out; map = other_map_is; cert = other_cert_is }, any_versions values.samples values.out m sizes version head cuts verdict other of_cert here)
+
+  pub stands_too : (names : Names) → Stand (with_pair names map cert) files → Stand (with_pair names other_map other_cert) files
+  stands_too names s = let there = moved names s.values s.read Stands s.stand in record { values = there.0; read = there.1; stand = there.2 }
+
+  pub breaks_too : (names : Names) (number rule place : ℕ) → Break (with_pair names map cert) files number rule place → Break (with_pair names other_map other_cert) files number rule place
+  breaks_too names number rule place b = let there = moved names b.values b.read (Fails number rule place) b.broken in record { values = there.0; read = there.1; broken = there.2 }
+
+-- one size alone
+one_size : (sizes : List Size) → length sizes ≡ 1 → (size : Size) × (sizes ≡ size ∷ [])
+one_size [] e = absurd (omega (arith, e))
+one_size (size ∷ []) e = (size, refl)
+one_size (size ∷ next ∷ more) e = absurd (omega (arith, e))
+
+-- What is written.
+
+module _ (job : UpgradeJob) (lawful : IsUpgradeJob job) (before after : Files) (texts : List (List ℕ)) (said : Summary) (makes : MakesPair job before texts said) (wrote : after ≡ written (pieces (upgrade_command job).writes texts) before) where
+  abbrev pair : Pair
+  pair = makes.pair
+
+  abbrev map_text : List ℕ
+  map_text = cell_map_form pair.map pair.samples Two
+
+  abbrev cuts_text : List ℕ
+  cuts_text = cuts_form (in_version_two pair.head) pair.cuts
+
+  abbrev with_map : Files
+  with_map = insert before job.new_map map_text
+
+  whole : after ≡ insert with_map job.new_cert cuts_text
+  whole = wrote ∙ ap (λ ts. written (pieces (upgrade_command job).writes ts) before) makes.texts_are
+
+  apart : (i j : ℕ) → i < j → j < 4 → get_or (upgrade_names job) i [] ≢ get_or (upgrade_names job) j []
+  apart i j lt below = lawful.names.apart i j [] lt (omega (arith, below))
+
+  map_not_map : job.map ≢ job.new_map
+  map_not_map = apart 0 2 (omega arith) (omega arith)
+
+  map_not_cert : job.map ≢ job.new_cert
+  map_not_cert = apart 0 3 (omega arith) (omega arith)
+
+  cert_not_map : job.cert ≢ job.new_map
+  cert_not_map = apart 1 2 (omega arith) (omega arith)
+
+  cert_not_cert : job.cert ≢ job.new_cert
+  cert_not_cert = apart 1 3 (omega arith) (omega arith)
+
+  new_names : job.new_map ≢ job.new_cert
+  new_names = apart 2 3 (omega arith) (omega arith)
+
+  stays : (name : List ℕ) → name ≢ job.new_map → name ≢ job.new_cert → get after name ≡ get before name
+  stays name not_map not_cert = ap (λ files. get files name) whole ∙ get_beside with_map job.new_cert cuts_text name not_cert ∙ get_beside before job.new_map map_text name not_map
+
+  as_before : (name : List ℕ) → name ≢ job.new_map → name ≢ job.new_cert → content_of after name ≡ content_of before name
+  as_before name not_map not_cert = ap (λ o. unwrap_or o []) (stays name not_map not_cert)
+
+  new_map : content_of after job.new_map ≡ map_text
+  new_map = ap (λ files. content_of files job.new_map) whole ∙ content_beside with_map job.new_cert cuts_text job.new_map new_names ∙ content_inserted before job.new_map map_text
+
+  new_cert : content_of after job.new_cert ≡ cuts_text
+  new_cert = ap (λ files. content_of files job.new_cert) whole ∙ content_inserted with_map job.new_cert cuts_text
+
+  old_map_read : map_read (content_of before job.map) ≡ Ok (CellMap pair.map pair.samples One)
+  old_map_read = maps.version_one_is_read (content_of before job.map) (CellMap pair.map pair.samples One) makes.held.map_is
+
+  new_map_read : map_read (content_of after job.new_map) ≡ Ok (CellMap pair.map pair.samples Two)
+  new_map_read = ap map_read new_map ∙ map_again pair makes.sound
+
+  old_cuts : IsCertOf (content_of before job.cert) (Cuts pair.head pair.cuts) × AreVersionOneCuts (Cuts pair.head pair.cuts)
+  old_cuts = records.version_one_is_read (content_of before job.cert) (Cuts pair.head pair.cuts) makes.held.cuts_are
+
+  new_cuts_read : IsCertOf (content_of after job.new_cert) (Cuts (in_version_two pair.head) pair.cuts)
+  new_cuts_read = ap cert_read new_cert ∙ cuts_read_again pair makes.sound
+
+  old_map_stays : map_read (content_of after job.map) ≡ Ok (CellMap pair.map pair.samples One)
+  old_map_stays = ap map_read (as_before job.map map_not_map map_not_cert) ∙ old_map_read
+
+  old_cuts_stay : IsCertOf (content_of after job.cert) (Cuts pair.head pair.cuts)
+  old_cuts_stay = ap cert_read (as_before job.cert cert_not_map cert_not_cert) ∙ old_cuts.0
+
+  verdicts : HaveOneVerdict after job.map job.cert job.new_map job.new_cert
+  verdicts = record {
+    stands = stands_too after job.map job.cert job.new_map job.new_cert pair.map pair.samples One Two pair.head Two pair.cuts old_map_stays new_map_read old_cuts_stay new_cuts_read;
+    stood = stands_too after job.new_map job.new_cert job.map job.cert pair.map pair.samples Two One (in_version_two pair.head) pair.head.version pair.cuts new_map_read old_map_stays new_cuts_read old_cuts_stay;
+    breaks = breaks_too after job.map job.cert job.new_map job.new_cert pair.map pair.samples One Two pair.head Two pair.cuts old_map_stays new_map_read old_cuts_stay new_cuts_read;
+    broken = breaks_too after job.new_map job.new_cert job.map job.cert pair.map pair.samples Two One (in_version_two pair.head) pair.head.version pair.cuts new_map_read old_map_stays new_cuts_read old_cuts_stay;
+  }
+
+  pair_upgraded : (cells count : ℕ) → said ≡ Upgrade cells count → IsUpgraded job cells count before after
+  pair_upgraded cells count is =
+      let one = one_size pair.samples (makes.sound.map_is.1.samples_are.one refl) in
+      let numbers : Upgrade cells count ≡ Upgrade _ _ = sym is ∙ makes.summary_is in
+      record {
+        map = pair.map;
+        sample = one.0;
+        maps = record {
+          read = subst (λ sizes. map_read (content_of before job.map) ≡ Ok (CellMap pair.map sizes One)) one.1 old_map_read;
+          written = subst (λ sizes. content_of after job.new_map ≡ cell_map_form pair.map sizes Two) one.1 new_map;
+          read_again = subst (λ sizes. map_read (content_of after job.new_map) ≡ Ok (CellMap pair.map sizes Two)) one.1 new_map_read;
+        };
+        cells_are = cc;
+        head = pair.head;
+        cuts = pair.cuts;
+        records = record { version = old_cuts.1; read = old_cuts.0; written = new_cert; read_again = new_cuts_read };
+        count_is = cc;
+        map_stays = stays job.map map_not_map map_not_cert;
+        record_stays = stays job.cert cert_not_map cert_not_cert;
+        others = stays;
+        verdicts = verdicts;
+      }
+
+pub upgraded : (job : UpgradeJob) → IsUpgradeJob job → (cells count : ℕ) (before after : Files) → WritesAll (upgrade_command job) (Upgrade cells count) before after → IsUpgraded job cells count before after
+upgraded job lawful cells count before after (texts, makes, wrote) = pair_upgraded job lawful before after texts (Upgrade cells count) makes wrote cells count refl
+
+-- of a run that is finished, by what its summary may be
+pub finished : (job : UpgradeJob) → IsUpgradeJob job → (said : Summary) → IsUpgradeSummary said → (was now : ShelfState) (out out' : SinkState) → Changes was now (WritesAll (upgrade_command job) said) → Reported said out out'
+    → (cells : ℕ) × (count : ℕ) × Reported (Upgrade cells count) out out' × Changes was now (IsUpgraded job cells count)
+finished job lawful said (cells, count, is) was now out out' files told = (
+  cells,
+  count,
+  subst (λ s. Reported s out out') is told,
+  told_weaker (WritesAll (upgrade_command job) (Upgrade cells count)) (IsUpgraded job cells count) was.files now.files (upgraded job lawful cells count)
+      (subst (λ s. Changes was now (WritesAll (upgrade_command job) s)) is files),
+)

@@ -1,0 +1,4 @@
+pub mod Reading
+pub mod OneAnswer
+pub mod Ready
+pub mod Headline

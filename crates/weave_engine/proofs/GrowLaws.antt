@@ -1,14 +1,11 @@
 -- `grow` has one answer to files, and its headline.
-use Rattle.std.proofs.Common.{◌≡◌, ◌≢◌, ℕ, ◌<◌, ◌+◌, ◌⊎◌, inl, inr, List, [], ◌∷◌, length, ap, sym, ◌∙◌, subst, arith, length-append}
-use Rattle.std.proofs.lemmas.List.{get_or-append-add}
-use Rattle.std.specs.Prelude.{get_or}
+use Rattle.std.proofs.Common.{◌≡◌, ◌≢◌, ℕ, ◌+◌, ◌⊎◌, inl, inr, List, length, ap, sym, ◌∙◌, subst, arith}
 use Rattle.std.specs.FinMap.{get, insert}
 use Rattle.cells.specs.Places.{IsSmall}
 use Rattle.cells.specs.Cells.{sizes_of}
 use Rattle.shelf_core.specs.Files.{Files, content_of}
 use Rattle.shelf_core.specs.declared.fault.What.TheVariants.{Records}
 use Rattle.shelf_core.specs.Written.{written}
-use Rattle.shelf_core.proofs.FileLaws.{content_inserted, content_beside, get_beside}
 use Rattle.map_canvas.proofs.Pictures.{full_picture}
 use Rattle.source_map.specs.MapFiles.{cell_map_form}
 use Rattle.replay.specs.declared.records.TheConstants.{MOST_BOX_CELLS}
@@ -17,7 +14,6 @@ use Rattle.growing.proofs.OneRuns.{ends_within, limits_are_one}
 use Rattle.cert_file.specs.RecordFiles.{cuts_form}
 use Rattle.job_words.specs.declared.grow.GrowJob.{GrowJob}
 use Rattle.job_words.specs.GrowWords.{IsGrowJob}
-use Rattle.job_words.specs.Names.{name_list}
 use Rattle.synth_report.specs.declared.fault.Fault.{Fault}
 use Rattle.synth_report.specs.declared.fault.Fault.TheVariants.{Limit}
 use Rattle.synth_report.specs.declared.summary.Summary.{Summary}
@@ -25,6 +21,7 @@ use Rattle.synth_report.specs.Texts.{summary_status}
 use Rattle.run_outcome.specs.Commands.{HasOneAnswer}
 use Rattle.run_outcome.specs.Outcomes.{WritesAll}
 use Rattle.run_outcome.specs.Writing.{pieces}
+use Rattle.run_files.proofs.ThreeFiles.{cert_holds, map_holds, others_stay, out_holds}
 use Rattle.samples.specs.declared.form.Form.{Form}
 use Rattle.samples.specs.declared.several.Samples.{Samples}
 use Rattle.samples.specs.Samples.{form_text}
@@ -108,39 +105,11 @@ module _ (job : GrowJob) (lawful : IsGrowJob job) (before after : Files) (texts 
   abbrev record_text : List ℕ
   record_text = cuts_form (head_over job.size growth.samples.volume) growth.grown.cuts
 
-  abbrev with_picture : Files
-  with_picture = insert before job.names.out picture_text
-
-  abbrev with_map : Files
-  with_map = insert with_picture job.names.map map_text
-
-  whole : after ≡ insert with_map job.names.cert record_text
+  whole : after ≡ insert (insert (insert before job.names.out picture_text) job.names.map map_text) job.names.cert record_text
   whole = wrote ∙ ap (λ ts. written (pieces (grow_command job).writes ts) before) makes.texts_are
 
-  abbrev written_names : List (List ℕ)
-  written_names = job.names.out ∷ job.names.map ∷ job.names.cert ∷ []
-
-  -- the three names that are written differ
-  apart : (i j : ℕ) → i < j → j < 3 → get_or written_names i [] ≢ get_or written_names j []
-  apart i j lt below =
-      let k : ℕ = length (job.names.sample ∷ job.names.more) in
-      let at : (n : ℕ) → get_or (name_list job.names) (k + n) [] ≡ get_or written_names n [] = λ n. get_or-append-add (job.names.sample ∷ job.names.more) written_names n [] in
-      let differ = lawful.names.apart (k + i) (k + j) [] (omega (arith, lt)) (omega (arith, below, length-append job.names.more written_names)) in
-      λ same. differ (at i ∙ same ∙ sym (at j))
-
-  out_not_map : job.names.out ≢ job.names.map
-  out_not_map = apart 0 1 (omega arith) (omega arith)
-
-  out_not_record : job.names.out ≢ job.names.cert
-  out_not_record = apart 0 2 (omega arith) (omega arith)
-
-  map_not_record : job.names.map ≢ job.names.cert
-  map_not_record = apart 1 2 (omega arith) (omega arith)
-
   stays : (name : List ℕ) → name ≢ job.names.out → name ≢ job.names.map → name ≢ job.names.cert → get after name ≡ get before name
-  stays name not_out not_map not_record =
-      ap (λ files. get files name) whole ∙ get_beside with_map job.names.cert record_text name not_record ∙ get_beside with_picture job.names.map map_text name not_map
-      ∙ get_beside before job.names.out picture_text name not_out
+  stays = others_stay job.names lawful.names before after picture_text map_text record_text whole
 
   abbrev output : IsGrownOutput job before after
   output = record {
@@ -151,21 +120,20 @@ module _ (job : GrowJob) (lawful : IsGrowJob job) (before after : Files) (texts 
     is_map = makes.grown.grown.canvas.map;
     full = makes.grown.grown.done.full;
     over = makes.grown.grown.over.over;
-    map_file = ap (λ files. content_of files job.names.map) whole ∙ content_beside with_map job.names.cert record_text job.names.map map_not_record ∙ content_inserted with_picture job.names.map map_text;
+    map_file = map_holds job.names lawful.names before after picture_text map_text record_text whole;
     picture = growth.grown.canvas.picture;
     volume = makes.grown.grown.canvas.picture;
     one = makes.grown.grown.canvas.part;
     size = makes.grown.grown.canvas.size ∙ makes.grown.grown.size;
     of_map = full_picture growth.grown.canvas growth.samples.volume makes.grown.grown.canvas makes.grown.grown.over makes.grown.grown.done.full;
     cells = makes.grown.grown.over.bytes;
-    out_file = ap (λ files. content_of files job.names.out) whole ∙ content_beside with_map job.names.cert record_text job.names.out out_not_record
-        ∙ content_beside with_picture job.names.map map_text job.names.out out_not_map ∙ content_inserted before job.names.out picture_text;
+    out_file = out_holds job.names lawful.names before after picture_text map_text record_text whole;
   }
 
   abbrev records : IsGrownRecord job growth.samples growth.grown.canvas.map (content_of after job.names.cert)
   records = record {
     cuts = growth.grown.cuts;
-    file = ap (λ files. content_of files job.names.cert) whole ∙ content_inserted with_map job.names.cert record_text;
+    file = cert_holds job.names lawful.names before after picture_text map_text record_text whole;
     draws = makes.grown.grown.draws;
     rounds = growth.grown.rounds;
     run = makes.grown.grown.run;

@@ -1,5 +1,3 @@
-pub mod Clips
-pub mod Pictures
 pub mod Ready
 pub mod Accepted
 pub mod Growing

@@ -1,4 +1,3 @@
-pub mod Outs
 pub mod Growths
 pub mod Trials
 pub mod Engine

@@ -1,17 +1,23 @@
 // A whole run, from the words to the status.
 ghost use Rattle.job_words.specs.Jobs.{IsJob};
 ghost use Rattle.run_outcome.specs.Outcomes.{Answers, Leaves, Runs};
-ghost use Rattle.run_outcome.specs.Promises.{DoneStatus, IsComplete, KeepsFiles, KeepsOthers, MemoryStatus, ReadStatus, RefusedStatus, WordsStatus, WriteStatus};
-ghost use Rattle.weave_engine.specs.Engine.{IsStatus, command_of};
+ghost use Rattle.run_outcome.specs.Promises.{DoneStatus, IsComplete, IsRunStatus, KeepsFiles, KeepsOthers, MemoryStatus, ReadStatus, RefusedStatus, WordsStatus, WriteStatus};
+ghost use Rattle.loop_command.specs.LoopHeadlines.{LoopHeadline, OneLoop};
+ghost use Rattle.quilt_command.specs.QuiltHeadlines.{OneQuiltOutput, QuiltHeadline, QuiltReport};
+ghost use Rattle.upgrade_command.specs.Upgraded.{UpgradeHeadline};
+ghost use Rattle.weave_engine.specs.Engine.{command_of};
 ghost use Rattle.weave_engine.specs.Headlines.{CheckHeadline, GrowHeadline, OneOutput, TrialHeadline};
 
 use crate::{grow, trial};
 use check_command::check_files;
 use job_words::{Job, Words, read_job};
+use loop_command::loop_clip;
+use quilt_command::quilt_picture;
 use run_outcome::finish;
 use shelf_core::{Shelf, Sink};
 use std::alloc::Global;
 use synth_report::{Fault, Summary};
+use upgrade_command::upgrade;
 
 // Runs the command of a job.
 fn run_job<S: Shelf, O: Sink>(
@@ -26,8 +32,11 @@ fn run_job<S: Shelf, O: Sink>(
 {
     match job {
         Job::Grow(job) => grow(alloc, job, shelf, out),
+        Job::Quilt(job) => quilt_picture(alloc, job, shelf, out),
+        Job::Loop(job) => loop_clip(alloc, job, shelf, out),
         Job::Check(job) => check_files(alloc, job, shelf, out),
         Job::Trial(job) => trial(alloc, job, out),
+        Job::Upgrade(job) => upgrade(alloc, job, shelf, out),
     }
 }
 
@@ -65,9 +74,9 @@ fn run_whole<S: Shelf, O: Sink, E: Sink>(
 /// Does all that the program does: reads the words, runs the command that they ask for, which writes
 /// its files and its report to `out`, and says on `err` why it ended, if not well.
 ///
-/// The status is 0 where all is done, 1 where files that are checked don't stand, 2 where the words ask for no job, 3 where a file breaks its form,
-/// 4 where a number passes its bound, 5 after a read and 6 after a write that failed, and 7 where
-/// memory ran out.
+/// The status is 0 where all is done, 1 where files that are checked don't stand, 2 where the words ask for no
+/// job, 3 where a file breaks its form, 4 where a number passes its bound, 5 after a read and 6 after a write
+/// that failed, 7 where memory ran out, and 8 where a clip has no loop of the asked length.
 pub fn run<S: Shelf, O: Sink, E: Sink>(
     alloc: Global,
     words: &Words,
@@ -94,7 +103,7 @@ pub fn run<S: Shelf, O: Sink, E: Sink>(
     ensures status_memory { MemoryStatus (E.state err.old) (E.state err.new) result }
     ensures status_loop { RefusedStatus command_of 8 words.now
         (S.state shelf.old) (S.state shelf.new) (E.state err.old) (E.state err.new) result }
-    ensures no_other_status { IsStatus result }
+    ensures no_other_status { IsRunStatus result }
     ensures complete { IsComplete command_of words.now (S.state shelf.old) (S.state shelf.new)
         (O.state out.old) (O.state out.new) result }
 
@@ -112,6 +121,23 @@ pub fn run<S: Shelf, O: Sink, E: Sink>(
     // Out file and map are a function of the words and the sample files.
     ensures one_output { OneOutput words.now (S.state shelf.old) (S.state shelf.new) result }
 
+    // With status 0 of `quilt` every output cell is the sample cell that the written map names; each boundary of
+    // the written record is the first of the least ones through its strip; the record stands and replays to
+    // the map; and the files are such that `check` accepts them. All three are a function of the words and
+    // the sample file, and the report is that of the record.
+    ensures quilted { QuiltHeadline words.now (S.state shelf.old) (S.state shelf.new) result }
+    ensures one_quilt { OneQuiltOutput words.now (S.state shelf.old) (S.state shelf.new) result }
+    ensures quilt_report { QuiltReport words.now (S.state shelf.old) (S.state shelf.new)
+        (O.state out.old) (O.state out.new) result }
+
+    // With status 0 of `loop` each frame is the sample's frame that the written map names; these frames are a
+    // closed walk of the asked length, such that none of that length costs less; and the files are such
+    // that `check` accepts them. The report and the tables of the record are a function of the words and
+    // the sample file.
+    ensures looped { LoopHeadline words.now (S.state shelf.old) (S.state shelf.new) result }
+    ensures one_loop { OneLoop words.now (S.state shelf.old) (S.state shelf.new)
+        (O.state out.old) (O.state out.new) result }
+
     // `check` answers 0 exactly where the files stand, and 1 exactly where they are in their forms and
     // limits and don't, with the first rule that they break.
     ensures checked { CheckHeadline words.now (S.state shelf.old) (S.state shelf.new)
@@ -120,6 +146,11 @@ pub fn run<S: Shelf, O: Sink, E: Sink>(
     // With status 0 of `trial` the report is that of the run of the words over the sample of their
     // number, of whose records each stands; there is one such report.
     ensures tried { TrialHeadline words.now (S.state shelf.old) (S.state shelf.new)
+        (O.state out.old) (O.state out.new) result }
+
+    // With status 0 of `upgrade` the new map and record have the values of the old ones in version 2, and
+    // `check` says of the new pair what it says of the old one.
+    ensures upgraded { UpgradeHeadline words.now (S.state shelf.old) (S.state shelf.new)
         (O.state out.old) (O.state out.new) result }
 {
     run_whole(alloc, words, shelf, out, err)

@@ -1,28 +1,27 @@
 // The command that grows a texture from samples.
-ghost use Rattle.std.specs.Prelude.{◌≡◌, All, IfOk};
+ghost use Rattle.std.specs.Prelude.{◌≡◌, IfOk};
 ghost use Rattle.cells.specs.Places.{HasAxes, cell_count};
 ghost use Rattle.shelf_core.specs.Files.{OnlyReads, OnlyWrites};
-ghost use Rattle.cert_file.specs.CutForms.{HasShortFlows, IsShortFlow};
 ghost use Rattle.job_words.specs.GrowWords.{IsGrowJob};
 ghost use Rattle.run_outcome.specs.Outcomes.{Leaves, Plans};
 ghost use Rattle.run_outcome.specs.Writing.{WritesRun};
-ghost use Rattle.weave_engine.specs.Outs.{HasWriter};
+ghost use Rattle.run_files.specs.Outs.{HasWriter};
 ghost use Rattle.weave_engine.specs.Growths.{IsMade, SetAgainst, fault_of_growing, grow_command, growth_files, growth_summary, head_over, frames_allowed, mode_for, plan_of, version_over};
 
-use crate::files::{MapFile, OutFile, RecordFile, writer_for};
 use cells::{GREATEST_AXIS, Size, Volume};
-use cert_file::{CutRecord, Flow, Head};
+use cert_file::Head;
 use growing::{GrowError, Grown, Plan, grow_canvas};
 use job_words::{GrowJob, Place};
 use patch_place::Mode;
 use replay::MOST_BOX_CELLS;
+use run_files::{CellMapFile, CutsFile, OutFile, records_fit, writer_for};
 use run_outcome::{Then, write_run};
 use samples::{Form, Samples, read_samples};
 use seams::total;
 use shelf_core::{Shelf, Sink, What};
 use source_map::Version;
 use std::alloc::Global;
-use synth_report::{Fault, Summary};
+use synth_report::{Fault, FileOf, Summary};
 use y4m_clip::ClipWriter;
 
 /// The greatest number of cells of an output.
@@ -119,31 +118,6 @@ pub(crate) fn growing_fault(error: GrowError) -> Fault
     }
 }
 
-// A flow is two numbers of 16 bits, by its type. It is read only to show that to the check, and so are the
-// flows of records.
-fn flow_fits(flow: &Flow)
-    ensures { IsShortFlow flow.now }
-{
-    let _x = flow.x;
-    let _y = flow.y;
-}
-
-fn flows_fit(flows: &[Flow])
-    ensures { All IsShortFlow flows.now }
-{
-    for flow in flows {
-        flow_fits(flow);
-    }
-}
-
-fn records_fit(cuts: &[CutRecord])
-    ensures { All HasShortFlows cuts.now }
-{
-    for cut in cuts {
-        flows_fit(cut.flows.as_slice());
-    }
-}
-
 // Reads the samples and computes all that is to be written. Nothing is written yet.
 fn plan<S: Shelf>(alloc: Global, job: &GrowJob, shelf: &mut S) -> Result<Growth, Fault>
     requires { IsGrowJob job.now }
@@ -233,13 +207,15 @@ fn write_growth<S: Shelf, O: Sink>(
         writer,
         picture: growth.grown.canvas.picture(),
     };
-    let map = MapFile {
+    let map = CellMapFile {
+        part: FileOf::Map,
         name: &job.names.map,
         map: growth.grown.canvas.map(),
         samples: volume.sizes(),
         version: version_over(volume),
     };
-    let record = RecordFile {
+    let record = CutsFile {
+        part: FileOf::Cert,
         name: &job.names.cert,
         head: head_over(job, volume),
         cuts: growth.grown.cuts.as_slice(),

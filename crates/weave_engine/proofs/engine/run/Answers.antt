@@ -1,7 +1,7 @@
 use Rattle.run_outcome.proofs.Promising.{complete_promise, done_promise, keeps_promise, memory_promise, others_promise, read_promise, refused_promise, words_promise, write_promise}
 use Rattle.run_outcome.proofs.Views.{form_number, limit_number, loop_number}
 use Rattle.weave_engine.specs.Engine.{command_of}
-use Rattle.weave_engine.proofs.Ending.{check_headline, grow_headline, grow_once, known_status, one_answer, trial_headline}
+use Rattle.weave_engine.proofs.Ending.{check_headline, grow_headline, grow_once, known_status, loop_headline, loop_once, one_answer, quilt_headline, quilt_once, quilt_reported, trial_headline, upgrade_headline}
 use Rattle.weave_engine.proofs.engine.run.Goals as goal
 
 pub returns-clause-status_done : goal.returns-clause-status_done
@@ -67,3 +67,27 @@ returns-clause-checked g c =
 pub returns-clause-tried : goal.returns-clause-tried
 returns-clause-tried g c =
     trial_headline c.args.words.now (g.S.Shelf.state c.args.shelf.now) (g.S.Shelf.state c.run_whole.new.shelf) (g.O.Sink.state c.args.out.now) (g.O.Sink.state c.run_whole.new.out) (g.E.Sink.state c.args.err.now) (g.E.Sink.state c.run_whole.new.err) c.run_whole.result c.run_whole.ensures
+
+pub returns-clause-quilted : goal.returns-clause-quilted
+returns-clause-quilted g c =
+    quilt_headline c.args.words.now (g.S.Shelf.state c.args.shelf.now) (g.S.Shelf.state c.run_whole.new.shelf) (g.O.Sink.state c.args.out.now) (g.O.Sink.state c.run_whole.new.out) (g.E.Sink.state c.args.err.now) (g.E.Sink.state c.run_whole.new.err) c.run_whole.result c.run_whole.ensures
+
+pub returns-clause-one_quilt : goal.returns-clause-one_quilt
+returns-clause-one_quilt g c =
+    quilt_once c.args.words.now (g.S.Shelf.state c.args.shelf.now) (g.S.Shelf.state c.run_whole.new.shelf) (g.O.Sink.state c.args.out.now) (g.O.Sink.state c.run_whole.new.out) (g.E.Sink.state c.args.err.now) (g.E.Sink.state c.run_whole.new.err) c.run_whole.result c.run_whole.ensures
+
+pub returns-clause-quilt_report : goal.returns-clause-quilt_report
+returns-clause-quilt_report g c =
+    quilt_reported c.args.words.now (g.S.Shelf.state c.args.shelf.now) (g.S.Shelf.state c.run_whole.new.shelf) (g.O.Sink.state c.args.out.now) (g.O.Sink.state c.run_whole.new.out) (g.E.Sink.state c.args.err.now) (g.E.Sink.state c.run_whole.new.err) c.run_whole.result c.run_whole.ensures
+
+pub returns-clause-looped : goal.returns-clause-looped
+returns-clause-looped g c =
+    loop_headline c.args.words.now (g.S.Shelf.state c.args.shelf.now) (g.S.Shelf.state c.run_whole.new.shelf) (g.O.Sink.state c.args.out.now) (g.O.Sink.state c.run_whole.new.out) (g.E.Sink.state c.args.err.now) (g.E.Sink.state c.run_whole.new.err) c.run_whole.result c.run_whole.ensures
+
+pub returns-clause-one_loop : goal.returns-clause-one_loop
+returns-clause-one_loop g c =
+    loop_once c.args.words.now (g.S.Shelf.state c.args.shelf.now) (g.S.Shelf.state c.run_whole.new.shelf) (g.O.Sink.state c.args.out.now) (g.O.Sink.state c.run_whole.new.out) (g.E.Sink.state c.args.err.now) (g.E.Sink.state c.run_whole.new.err) c.run_whole.result c.run_whole.ensures
+
+pub returns-clause-upgraded : goal.returns-clause-upgraded
+returns-clause-upgraded g c =
+    upgrade_headline c.args.words.now (g.S.Shelf.state c.args.shelf.now) (g.S.Shelf.state c.run_whole.new.shelf) (g.O.Sink.state c.args.out.now) (g.O.Sink.state c.run_whole.new.out) (g.E.Sink.state c.args.err.now) (g.E.Sink.state c.run_whole.new.err) c.run_whole.result c.run_whole.ensures

@@ -5,7 +5,7 @@ use Rattle.cert_file.specs.RecordFiles.{AreCutsInForm, cuts_form}
 use Rattle.synth_report.specs.declared.fault.FileOf.TheVariants as part
 use Rattle.run_outcome.specs.Writing.{FileText, WritesRun, file_text}
 use Rattle.samples.specs.Samples.{form_text}
-use Rattle.weave_engine.specs.Outs.{HasWriter}
+use Rattle.run_files.specs.Outs.{HasWriter}
 use Rattle.weave_engine.specs.Growths.{growth_files, growth_summary, head_over}
 use Rattle.weave_engine.proofs.Ready.{map_ready, picture_ready, record_ready}
 use Rattle.weave_engine.proofs.growth.write_growth.Goals as goal

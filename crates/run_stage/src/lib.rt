@@ -1,0 +1,23 @@
+//! The stage of the whole runs: a line of words is run over files in memory, and what stands afterwards is held against
+//! what is expected.
+//!
+//! The crates whose names begin with `runs` have whole runs of weave as tests, and share what stands here. No function has
+//! a contract: each says whether all is as expected, or which row of a table is the first that isn't,
+//! and a test asserts that. `stage` runs a line, `cases` has runs that write, `refusals` those
+//! that are refused, `verdicts` those of `check`, and `rows` the worked examples that several of these crates use.
+#![tactic(auto)]
+
+mod cases;
+mod refusals;
+mod rows;
+mod stage;
+mod verdicts;
+
+pub use cases::{BEFORE, Case, Failing, Made, holds, is_made, wrong_case, wrong_made};
+pub use refusals::{refused, wrong_sample, wrong_words};
+pub use rows::{
+    FOUR_CELLS, NO_CELL, ONE_CELL, OVERLAP_MAP, OVERLAP_PICTURE, OVERLAP_RECORD, OVERLAPPING,
+    SIX_CELLS,
+};
+pub use stage::{is_file, ran};
+pub use verdicts::{Verdict, is_judged, wrong_verdict};

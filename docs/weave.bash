@@ -1,0 +1,43 @@
+# Completion of the commands and keys of weave for bash: `source docs/weave.bash`, or install it as
+# /usr/share/bash-completion/completions/weave.
+_weave() {
+    local word=${COMP_WORDS[COMP_CWORD]} before=${COMP_WORDS[COMP_CWORD-1]} keys
+    COMPREPLY=()
+    if [ "$COMP_CWORD" -eq 1 ]; then
+        mapfile -t COMPREPLY < <(compgen -W "grow quilt loop check trial upgrade" -- "$word")
+        return
+    fi
+    # The value of a key: bash takes `=` for a word of its own.
+    if [ "$word" = "=" ]; then
+        before=${COMP_WORDS[COMP_CWORD-1]} word=
+    elif [ "$before" = "=" ]; then
+        before=${COMP_WORDS[COMP_CWORD-2]}
+    else
+        before=
+    fi
+    case $before in
+        sample* | out | map | record | newmap | newrecord)
+            mapfile -t COMPREPLY < <(compgen -f -- "$word")
+            return ;;
+        place)
+            mapfile -t COMPREPLY < <(compgen -W "grid random whole sub" -- "$word")
+            return ;;
+        taps)
+            mapfile -t COMPREPLY < <(compgen -W "0 2 4" -- "$word")
+            return ;;
+        ?*)
+            return ;;
+    esac
+    case ${COMP_WORDS[1]} in
+        grow) keys="sample= sample2= out= map= record= width= height= frames= place= box= overlap= tol= rounds= seed=" ;;
+        quilt) keys="sample= out= map= record= width= height= block= overlap= tol= seed=" ;;
+        loop) keys="sample= out= map= record= length= taps= gap=" ;;
+        check) keys="sample= sample2= out= map= record=" ;;
+        trial) keys="n= width= height= place= box= overlap= tol= rounds= seed=" ;;
+        upgrade) keys="map= record= newmap= newrecord=" ;;
+        *) return ;;
+    esac
+    compopt -o nospace
+    mapfile -t COMPREPLY < <(compgen -W "$keys" -- "$word")
+}
+complete -F _weave weave

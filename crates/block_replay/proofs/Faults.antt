@@ -14,7 +14,7 @@ use Rattle.block_strips.specs.declared.side.Side.{Side}
 use Rattle.block_strips.specs.declared.side.Side.TheVariants.{Left, Top}
 use Rattle.quilt.specs.declared.block.BlockRecord.{BlockRecord}
 use Rattle.quilt.specs.Blocks.{strip_on}
-use Rattle.quilt.specs.Records.{BreaksFit, BreaksLeft, BreaksOverlap, BreaksTop, IsFirstBlockFault, IsFirstWithout, IsJoinFault, OverlapsAt}
+use Rattle.quilt.specs.Records.{BlockBreaksFit, BreaksLeft, BreaksOverlap, BreaksTop, IsFirstBlockFault, IsFirstWithout, IsJoinFault, OverlapsAt}
 use Rattle.quilt.proofs.Faults.{no_bad_column, no_join_fault}
 use Rattle.block_replay.specs.BlockReplay.{AreOneBlockFault}
 
@@ -105,12 +105,12 @@ module _ (m : SourceMap) (sample : Cells) (block : BlockRecord) where
       (λ f g p q. record { kind = p.kind ∙ sym q.kind; place = one_first (cell_count block.placement.rect.size) (OverlapsAt m block) f.place g.place p.place q.place })
       overlap_first joins
 
-  fit_first : (f g : BlockFault) → BreaksFit m sample block f → FromOverlap g → ⊥
+  fit_first : (f g : BlockFault) → BlockBreaksFit m sample block f → FromOverlap g → ⊥
   fit_first f g p (inl q) = p.outside q.fits
   fit_first f g p (inr (inl q)) = p.outside q.right.fits
   fit_first f g p (inr (inr q)) = p.outside q.right.fits
 
   pub one_block_fault : (f g : BlockFault) → IsFirstBlockFault m sample block f → IsFirstBlockFault m sample block g → AreOneBlockFault f g
-  one_block_fault = either (BreaksFit m sample block) FromOverlap
+  one_block_fault = either (BlockBreaksFit m sample block) FromOverlap
       (λ f g p q. record { kind = p.kind ∙ sym q.kind; place = p.place ∙ sym q.place })
       fit_first from_overlap

@@ -1,7 +1,7 @@
 // Block records over one another.
 ghost use Rattle.std.specs.Prelude.{◌≡◌, All, OnOk};
 ghost use Rattle.map_canvas.specs.Canvases.{IsCanvas, StandsOver};
-ghost use Rattle.quilt.specs.Blocks.{IsFormed};
+ghost use Rattle.quilt.specs.Blocks.{IsFormedBlock};
 ghost use Rattle.quilt.specs.Runs.{EachBlockIsLeast};
 ghost use Rattle.block_replay.specs.BlockReplay.{ReplaysBlock, ReplaysBlocks};
 
@@ -51,7 +51,7 @@ fn replay_block(
 ) -> Result<(), BlockError>
     requires over { StandsOver canvas.old sample.now }
     requires samples { sample.now.k ≡ 3 }
-    requires formed { IsFormed block.now }
+    requires formed { IsFormedBlock block.now }
     ensures replayed { ReplaysBlock canvas.old sample.now block.now canvas.new result }
     ensures over { StandsOver canvas.new sample.now }
     ensures canvas { IsCanvas canvas.new }
@@ -73,7 +73,7 @@ fn replay_each(
     requires over { StandsOver canvas.old sample.now }
     requires samples { sample.now.k ≡ 3 }
     requires canvas { IsCanvas canvas.old }
-    requires formed { All IsFormed blocks.now }
+    requires formed { All IsFormedBlock blocks.now }
     ensures replayed { ReplaysBlocks sample.now canvas.old.map blocks.now canvas.new.map result }
     ensures over { StandsOver canvas.new sample.now }
     ensures canvas { IsCanvas canvas.new }
@@ -102,7 +102,7 @@ pub fn replay_blocks(
 ) -> Result<(), BlocksError>
     requires over { StandsOver canvas.old sample.now }
     requires samples { sample.now.k ≡ 3 }
-    requires formed { All IsFormed blocks.now }
+    requires formed { All IsFormedBlock blocks.now }
     ensures replayed { ReplaysBlocks sample.now canvas.old.map blocks.now canvas.new.map result }
     ensures least { OnOk result (EachBlockIsLeast sample.now canvas.old.map blocks.now) }
     ensures over { StandsOver canvas.new sample.now }

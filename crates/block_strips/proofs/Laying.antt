@@ -17,7 +17,7 @@ use Rattle.map_canvas.proofs.Fronts.{front_passes, front_stops}
 use Rattle.patch_place.specs.Axes.{grid_step}
 use Rattle.block_strips.specs.declared.plan.QuiltPlan.{QuiltPlan}
 use Rattle.block_strips.specs.Blocks.{FitsBlock, block_at, block_len, block_overlap, next_box, shared_on}
-use Rattle.block_strips.specs.Laid.{AreFirstBlocks, IsFirstPlaceWithout, IsInOne, IsLaid, SharesStrips, StaysLaid}
+use Rattle.block_strips.specs.Laid.{AreFirstBlocks, IsFirstPlaceWithout, IsInOne, IsLaidByBlocks, SharesStrips, StaysLaid}
 use Rattle.block_strips.proofs.Along.{Reaches, corner_of, shared_of}
 use Rattle.block_strips.proofs.Boxes.{block_fits, grid_box, spot_inside, spot_of_index}
 use Rattle.block_strips.proofs.Fronts.{Front, Grid, IsGrid, first_is_next, front_box, front_more, front_none}
@@ -130,7 +130,7 @@ module _ (plan : QuiltPlan) (m : SourceMap) (sample : Cells) (rect : Box3) (is :
       subst (FitsBlock m.size sample.size) (sym (at.box_is ∙ ap (block_at plan m.size sample.size) (first.place ∙ spot.place)))
       (block_fits plan m.size sample.size spot.x spot.y block pictures.some_sample is.small.axes.f.0 spot.column spot.row)
 
-  module _ (laid : IsLaid plan sample m) where
+  module _ (laid : IsLaidByBlocks plan sample m) where
     filled_front : Front m.size (grid_of plan m.size sample.size) (IsFilled m)
     filled_front =
         let front = front_of plan m.size sample.size pictures laid.rects laid.blocks in
@@ -210,7 +210,7 @@ module _ (plan : QuiltPlan) (m : SourceMap) (sample : Cells) (rect : Box3) (is :
         }
 
 -- a map with no cell filled is laid for each plan
-pub empty_is_laid : (plan : QuiltPlan) (sample : Cells) (size : Size) → IsLaid plan sample (empty_map size)
+pub empty_is_laid : (plan : QuiltPlan) (sample : Cells) (size : Size) → IsLaidByBlocks plan sample (empty_map size)
 empty_is_laid plan sample size = record {
   rects = [];
   blocks = tt;

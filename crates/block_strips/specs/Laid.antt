@@ -40,7 +40,7 @@ AreFirstBlocks plan output sample (rect ∷ rects) =
 
 -- the filled cells of the map are exactly those of the first blocks of the plan, of which there may
 -- be none
-pub record IsLaid (plan : QuiltPlan) (sample : Cells) (m : SourceMap) : Type 0 where
+pub record IsLaidByBlocks (plan : QuiltPlan) (sample : Cells) (m : SourceMap) : Type 0 where
   pub rects : List Box3
   pub blocks : AreFirstBlocks plan m.size sample.size rects
   pub filled : (p : At) → IsInside m.size p → IsFilled m p ↔ IsInOne rects p
@@ -60,9 +60,9 @@ abbrev pub StaysLaid : QuiltPlan → Cells → SourceMap → Box3 → Type 0
 StaysLaid plan sample m rect =
     (after : SourceMap) → after.size ≡ m.size
     → ((p : At) → IsInside m.size p → IsFilled after p ↔ (IsFilled m p ⊎ IsInBox rect p))
-    → IsLaid plan sample after
+    → IsLaidByBlocks plan sample after
 
 -- a map with no cell filled is laid for each plan
 abbrev pub EmptyIsLaid : Type 0
 EmptyIsLaid =
-    (plan : QuiltPlan) (sample : Cells) (size : Size) → IsLaid plan sample (empty_map size)
+    (plan : QuiltPlan) (sample : Cells) (size : Size) → IsLaidByBlocks plan sample (empty_map size)

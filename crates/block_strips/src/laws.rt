@@ -2,7 +2,7 @@
 ghost use Rattle.std.specs.Prelude.{◌≡◌, ◌≤◌, Some};
 ghost use Rattle.cells.specs.Cells.{IsOnePart};
 ghost use Rattle.block_strips.specs.Blocks.{FitsBlock, next_box};
-ghost use Rattle.block_strips.specs.Laid.{EmptyIsLaid, IsLaid, SharesStrips, StaysLaid};
+ghost use Rattle.block_strips.specs.Laid.{EmptyIsLaid, IsLaidByBlocks, SharesStrips, StaysLaid};
 
 use crate::QuiltPlan;
 use cells::{Box3, Volume};
@@ -15,7 +15,7 @@ pub fn next_block_shares_strips(plan: &QuiltPlan, canvas: &Canvas, sample: &Volu
     requires block { 1 ≤ plan.now.block }
     requires part { IsOnePart sample.now }
     requires frame { canvas.now.map.size.f ≡ 1 }
-    requires laid { IsLaid plan.now sample.now canvas.now.map }
+    requires laid { IsLaidByBlocks plan.now sample.now canvas.now.map }
     requires next { next_box plan.now canvas.now.map sample.now ≡ Some rect.now }
     ensures fits { FitsBlock canvas.now.map.size sample.now.size rect.now }
     ensures strips { SharesStrips plan.now sample.now canvas.now.map rect.now }

@@ -3,7 +3,7 @@ use Rattle.std.proofs.Common.{◌≡◌, ◌+◌, ◌*◌, ◌++◌, ◌∷◌, 
 use Rattle.cells.specs.Places.{cell_count}
 use Rattle.cut_check.specs.declared.record.CutRecord.{CutRecord}
 use Rattle.quilt.specs.declared.block.BlockRecord.{BlockRecord}
-use Rattle.cert_file.specs.BlockReading.{block_cells}
+use Rattle.quilt.specs.Blocks.{block_cells}
 use Rattle.cert_file.specs.CutReading.{bits_of, box_cells, byte_bits}
 use Rattle.std.proofs.lemmas.List.{length-append}
 

@@ -13,7 +13,7 @@ use Rattle.cells.specs.declared.place.Size.{Size}
 use Rattle.cells.specs.Places.{cell_count}
 use Rattle.strip_boundary.specs.declared.boundary.BoundaryRecord.{BoundaryRecord}
 use Rattle.quilt.specs.declared.block.BlockRecord.{BlockRecord}
-use Rattle.quilt.specs.Blocks.{HasColumns}
+use Rattle.quilt.specs.Blocks.{HasColumns, block_cells}
 use Rattle.file_bytes.specs.Fields.{field_16, field_32, fields_16, fields_32}
 use Rattle.file_bytes.specs.Reading.{StandsAt}
 use Rattle.source_map.specs.declared.head.Head.{Head}
@@ -25,7 +25,7 @@ use Rattle.source_map.proofs.FieldLaws.{chain, value_alone}
 use Rattle.cert_file.specs.declared.block_fields.BlockStart.{BlockStart}
 use Rattle.cert_file.specs.declared.file.CertFile.TheVariants.{Blocks}
 use Rattle.cert_file.specs.BlockForms.{IsBlockInForm, IsWideBlock, IsWideBoundary, block_form, block_size_field, block_start_form, boundary_form, flag, flags_of, spot_field}
-use Rattle.cert_file.specs.BlockReading.{block_cells, block_read, block_size_read, block_start_read, blocks_read, boundary_read, cols_rule, flags_rule, has_left, has_top, left_read, side_read, spot_read, spot_rule, top_read}
+use Rattle.cert_file.specs.BlockReading.{block_read, block_size_read, block_start_read, blocks_read, boundary_read, cols_rule, flags_rule, has_left, has_top, left_read, side_read, spot_read, spot_rule, top_read}
 use Rattle.cert_file.specs.CutReading.{box_axis_rule, box_cells_rule}
 use Rattle.cert_file.specs.RecordFiles.{AreBlocksInLimits, AreBlocksReadAgain, blocks_form, blocks_kind, cert_read, kinds, record_magic, records_read, versions}
 use Rattle.cert_file.specs.Rules.{any_rule}

@@ -24,7 +24,8 @@ use Rattle.cert_file.specs.declared.block_fields.BlockStart.{BlockStart}
 use Rattle.cert_file.specs.declared.file.CertFile.{CertFile}
 use Rattle.cert_file.specs.declared.file.CertFile.TheVariants.{Blocks}
 use Rattle.cert_file.specs.BlockForms.{block_form, block_size_field, boundary_form, flag, spot_field}
-use Rattle.cert_file.specs.BlockReading.{block_cells, block_read, block_size_read, block_start_read, boundary_read, cols_rule, flags_rule, has_left, has_top, left_read, side_read, spot_read, spot_rule, top_read}
+use Rattle.cert_file.specs.BlockReading.{block_read, block_size_read, block_start_read, boundary_read, cols_rule, flags_rule, has_left, has_top, left_read, side_read, spot_read, spot_rule, top_read}
+use Rattle.quilt.specs.Blocks.{block_cells}
 use Rattle.cert_file.specs.CutReading.{box_axis_rule, box_cells_rule, number_of_two}
 use Rattle.cert_file.specs.RecordFiles.{AreBlocksSpelled, blocks_form, blocks_kind, kinds, record_magic, records_read, versions}
 use Rattle.cert_file.specs.Rules.{any_rule}

@@ -21,8 +21,8 @@ use Rattle.cert_file.specs.BlockReading.{blocks_read}
 use Rattle.cert_file.specs.CutReading.{cuts_read}
 use Rattle.cert_file.specs.RecordFiles.{blocks_file_read, blocks_form, cuts_file_read, cuts_form, kinds, records_read, walk_file_form}
 use Rattle.cert_file.specs.Rules.{any_rule, end_rule}
-use Rattle.cert_file.specs.WalkForms.{entries_of, frames_of}
-use Rattle.cert_file.specs.WalkReading.{frames_read, frames_rule, walk_file_read, walk_start_read}
+use Rattle.cert_file.specs.WalkForms.{table_entries, frames_of}
+use Rattle.cert_file.specs.WalkReading.{few_frames_read, frames_rule, walk_file_read, walk_start_read}
 
 -- the parts of a file of cut records, of block records, and of a walk, that was read
 pub record CutsParts (head : Head) (at : ℕ) (bytes : List ℕ) (value : CertFile) : Type 0 where
@@ -47,7 +47,7 @@ pub record WalkParts (head : Head) (at : ℕ) (bytes : List ℕ) (value : CertFi
   pub tables : List ℕ × ℕ
   pub start_is : walk_start_read at bytes ≡ Ok start
   pub walk_is : list_read (number_read w16 any_rule) start.0.length start.1 bytes ≡ Ok walk
-  pub tables_are : list_read (number_read w64 any_rule) (entries_of head start.0.length) walk.1 bytes ≡ Ok tables
+  pub tables_are : list_read (number_read w64 any_rule) (table_entries head start.0.length) walk.1 bytes ≡ Ok tables
   pub ends : nat_le (length bytes) tables.1 ≡ true
   pub value_is : Walk head start.0.taps start.0.gap walk.0 tables.0 ≡ value
 
@@ -71,9 +71,9 @@ blocks_parts head at bytes value is =
 walk_parts : (head : Head) (at : ℕ) (bytes : List ℕ) (value : CertFile) → walk_file_read head at bytes ≡ Ok value → WalkParts head at bytes value
 walk_parts head at bytes value is =
     let read_walk = λ (n : ℕ). list_read (number_read w16 any_rule) n in
-    let read_tables = λ (n : ℕ). list_read (number_read w64 any_rule) (entries_of head n) in
+    let read_tables = λ (n : ℕ). list_read (number_read w64 any_rule) (table_entries head n) in
     let made = λ (s : WalkStart) (w t : List ℕ). Walk head s.taps s.gap w t in
-    let f = peel {A = Unit {0} × ℕ} {C = CertFile} (frames_read (frames_of head) at bytes)
+    let f = peel {A = Unit {0} × ℕ} {C = CertFile} (few_frames_read (frames_of head) at bytes)
     (λ few. walk_start_read few.1 bytes >>= λ s. read_walk s.0.length s.1 bytes >>= λ w. read_tables s.0.length w.1 bytes >>= λ t. end_rule t.1 bytes >>= λ end. Ok (made s.0 w.0 t.0)) value is in
     let r = peel {A = Unit {0}} {C = Unit {0} × ℕ} (frames_rule (frames_of head)) (λ few. Ok (few, at)) f.x f.one in
     let here : at ≡ f.x.1 = same_second r.x f.x.0 at f.x.1 r.two in

@@ -19,8 +19,8 @@ use Rattle.cert_file.specs.declared.file.CertFile.TheVariants.{Walk}
 use Rattle.cert_file.specs.declared.walk_fields.WalkStart.{WalkStart}
 use Rattle.cert_file.specs.RecordFiles.{IsWalkReadAgain, cert_read, kinds, record_magic, records_read, versions, walk_file_form, walk_kind}
 use Rattle.cert_file.specs.Rules.{any_rule}
-use Rattle.cert_file.specs.WalkForms.{entries_of, frames_of, taps_number, walk_form, walk_start_form}
-use Rattle.cert_file.specs.WalkReading.{frames_read, frames_rule, gap_rule, length_rule, taps_rule, walk_file_read, walk_start_read}
+use Rattle.cert_file.specs.WalkForms.{table_entries, frames_of, taps_number, walk_form, walk_start_form}
+use Rattle.cert_file.specs.WalkReading.{few_frames_read, frames_rule, gap_rule, length_rule, taps_rule, walk_file_read, walk_start_read}
 use Rattle.cert_file.proofs.CutsAgain.{EndsAs, head_spells, ruled_spells, then_ends, value_ends}
 use Rattle.cert_file.proofs.NumberLists.{spells_all_16, spells_all_64}
 use Rattle.cert_file.proofs.RecordReading.{chain_to_end, value_at_end}
@@ -71,7 +71,7 @@ walk_again head taps gap walk tables lawful wide =
     let few : nat_le (frames_of head) 256 ≡ true = le-leb (frames_of head) 256 lawful.frames in
     let fits : frames_rule (frames_of head) ≡ Ok tt = rw few refl in
     let read_walk = λ (n : ℕ). list_read (number_read w16 any_rule) n in
-    let read_tables = λ (n : ℕ). list_read (number_read w64 any_rule) (entries_of head n) in
+    let read_tables = λ (n : ℕ). list_read (number_read w64 any_rule) (table_entries head n) in
     let end = λ (start : WalkStart) (walk tables : List ℕ). value_at_end (Walk head start.taps start.gap walk tables) in
     let all : h ++ (s ++ (a ++ (b ++ []))) ≡ walk_file_form head taps gap walk tables =
     ap (λ t. h ++ (s ++ (a ++ t))) (append-nil b) ∙ ap (λ t. h ++ t) (sym (append_assoc s a b)) in
@@ -79,7 +79,7 @@ walk_again head taps gap walk tables lawful wide =
     let tables_are : Spells (read_tables (length walk)) b tables =
     subst (λ n. Spells (list_read (number_read w64 any_rule) n) b tables) lawful.entries (spells_all_64 tables wide.entries) in
     let body : EndsAs (walk_file_read head) (s ++ (a ++ (b ++ []))) value =
-    then_ends (frames_read (frames_of head)) (λ few. chain_to_end walk_start_read (λ s. chain_to_end (read_walk s.length) (λ w. chain_to_end (read_tables s.length) (end s w)))) [] (s ++ (a ++ (b ++ []))) tt value
+    then_ends (few_frames_read (frames_of head)) (λ few. chain_to_end walk_start_read (λ s. chain_to_end (read_walk s.length) (λ w. chain_to_end (read_tables s.length) (end s w)))) [] (s ++ (a ++ (b ++ []))) tt value
     (ruled_spells (frames_rule (frames_of head)) tt fits)
     (then_ends walk_start_read (λ s. chain_to_end (read_walk s.length) (λ w. chain_to_end (read_tables s.length) (end s w))) s (a ++ (b ++ [])) start value
     (start_spells (length walk) taps gap lawful.len.0 lawful.len.1 lawful.gap_from lawful.gap_to)

@@ -22,7 +22,7 @@ use Rattle.cert_file.specs.declared.file.CertFile.TheVariants.{Walk}
 use Rattle.cert_file.specs.declared.walk_fields.WalkStart.{WalkStart}
 use Rattle.cert_file.specs.RecordFiles.{IsWalkSpelled, kinds, record_magic, records_read, versions, walk_file_form, walk_kind}
 use Rattle.cert_file.specs.Rules.{any_rule}
-use Rattle.cert_file.specs.WalkForms.{entries_of, taps_number, walk_form, walk_start_form}
+use Rattle.cert_file.specs.WalkForms.{table_entries, taps_number, walk_form, walk_start_form}
 use Rattle.cert_file.specs.WalkReading.{gap_rule, length_rule, taps_rule, walk_start_read}
 use Rattle.cert_file.proofs.CutsSpelled.{whole_stood}
 use Rattle.cert_file.proofs.ByKind.{walk_only, spelling}
@@ -83,7 +83,7 @@ walk_spelled bytes head taps gap walk tables small is =
     let start = start_stood a.x.1 bytes s p.start.1 small h.within p.start_is in
     let start' = subst (λ n. Stood a.x.1 p.start.1 (walk_start_form n s.taps s.gap) bytes) (sym count) start in
     let frames = list_stood (number_read w16 any_rule) field_16 (number_16_stood any_rule (λ n. n) (λ at n x e. same_value n x e)) s.length p.start.1 bytes p.walk.0 p.walk.1 small start.within p.walk_is in
-    let entries = list_stood (number_read w64 any_rule) field_64 entry_stood (entries_of top s.length) p.walk.1 bytes p.tables.0 p.tables.1 small frames.within p.tables_are in
+    let entries = list_stood (number_read w64 any_rule) field_64 entry_stood (table_entries top s.length) p.walk.1 bytes p.tables.0 p.tables.1 small frames.within p.tables_are in
     let f1 = walk_start_form (length p.walk.0) s.taps s.gap in
     let f2 = fields_16 p.walk.0 in
     let f3 = fields_64 p.tables.0 in

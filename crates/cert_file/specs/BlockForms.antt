@@ -9,7 +9,7 @@ use Rattle.block_strips.specs.declared.side.Side.{Side}
 use Rattle.block_strips.specs.declared.side.Side.TheVariants.{Left, Top}
 use Rattle.block_strips.specs.Strips.{strip_rows}
 use Rattle.quilt.specs.declared.block.BlockRecord.{BlockRecord}
-use Rattle.quilt.specs.Blocks.{IsFormed, boundary_on, cols_of}
+use Rattle.quilt.specs.Blocks.{IsFormedBlock, boundary_on, cols_of}
 
 -- a place in frame 0: x, y, two bytes each
 abbrev pub spot_field : At → List ℕ
@@ -56,7 +56,7 @@ HasWholePath side block = IfSome (boundary_on side block)
 -- a block record that has a spelling: with a cell, in frame 0, of the output and of the sample, with
 -- places and a size that fit in two bytes, and boundaries through strips of the block
 pub record IsBlockInForm (block : BlockRecord) : Type 0 where
-  pub formed : IsFormed block
+  pub formed : IsFormedBlock block
   pub corner : IsShort block.placement.rect.corner
   pub w : block.placement.rect.size.w < 2 ^ 16
   pub h : block.placement.rect.size.h < 2 ^ 16

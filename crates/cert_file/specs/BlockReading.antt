@@ -13,7 +13,7 @@ use Rattle.strip_boundary.specs.declared.boundary.BoundaryRecord.{BoundaryRecord
 use Rattle.block_strips.specs.declared.side.Side.TheVariants.{Left, Top}
 use Rattle.block_strips.specs.Strips.{most_cols, strip_rows}
 use Rattle.quilt.specs.declared.block.BlockRecord.{BlockRecord}
-use Rattle.quilt.specs.Blocks.{HasColumns}
+use Rattle.quilt.specs.Blocks.{HasColumns, block_cells}
 use Rattle.cert_file.specs.declared.block_fields.BlockStart.{BlockStart}
 use Rattle.cert_file.specs.CutReading.{IsBoxAfter, box_axis_rule, box_cells_rule, each_read, number_of_two}
 use Rattle.cert_file.specs.Rules.{any_rule}
@@ -92,11 +92,6 @@ block_read before at bytes =
     top_read start.0 left.1 bytes >>= λ top.
     Ok (record { placement = start.0.placement; left = left.0; top = top.0 }, top.1)
 
--- how many cells the blocks have
-abbrev pub block_cells : List BlockRecord → ℕ
-block_cells [] = 0
-block_cells (block ∷ blocks) = cell_count block.placement.rect.size + block_cells blocks
-
 -- so many block records
 abbrev pub blocks_read : ℕ → ℕ → List ℕ → Result (List BlockRecord × ℕ) ReadError
 blocks_read = each_read (λ front. block_read (block_cells front))
@@ -107,7 +102,7 @@ pub record IsSpot (p : At) : Type 0 where
   pub frame : p.f ≡ pos 0
 
 -- what a block record begins with: places and a size in their ranges, after boxes of so many cells
-pub record IsBlockAfter (before : ℕ) (start : BlockStart) : Type 0 where
+pub record IsStartAfter (before : ℕ) (start : BlockStart) : Type 0 where
   pub corner : IsSpot start.placement.rect.corner
   pub box : IsBoxAfter before start.placement.rect.size
   pub frame : start.placement.rect.size.f ≡ 1

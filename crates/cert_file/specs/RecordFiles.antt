@@ -17,7 +17,8 @@ use Rattle.source_map.specs.Readings.{◌>>=◌, AreBytes, number_read}
 use Rattle.cert_file.specs.declared.file.CertFile.{CertFile}
 use Rattle.cert_file.specs.declared.file.CertFile.TheVariants.{Blocks, Cuts, Walk}
 use Rattle.cert_file.specs.BlockForms.{IsBlockInForm, IsWideBlock, block_form}
-use Rattle.cert_file.specs.BlockReading.{block_cells, blocks_read}
+use Rattle.cert_file.specs.BlockReading.{blocks_read}
+use Rattle.quilt.specs.Blocks.{block_cells}
 use Rattle.cert_file.specs.CutForms.{HasShortFlows, IsCutInForm, cut_form}
 use Rattle.cert_file.specs.CutReading.{box_cells, cuts_read}
 use Rattle.cert_file.specs.Rules.{any_rule, end_rule}

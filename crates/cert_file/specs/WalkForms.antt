@@ -21,8 +21,8 @@ abbrev pub frames_of : Head → ℕ
 frames_of head = (numbered_size head.samples 1).f
 
 -- how many entries the tables for a length have
-abbrev pub entries_of : Head → ℕ → ℕ
-entries_of head len = table_count len * (frames_of head * frames_of head)
+abbrev pub table_entries : Head → ℕ → ℕ
+table_entries head len = table_count len * (frames_of head * frames_of head)
 
 -- length, filter and gap
 abbrev pub walk_start_form : ℕ → Taps → ℕ → List ℕ
@@ -33,6 +33,10 @@ unfoldable pub walk_form : Taps → ℕ → List ℕ → List ℕ → List ℕ
 walk_form taps gap walk tables =
     walk_start_form (length walk) taps gap ++ fields_16 walk ++ fields_64 tables
 
+-- a head as the records of blocks and of walks have it
+abbrev pub IsHeadOfVersionOne : Head → Type 0
+IsHeadOfVersionOne head = IsHead head × (head.version ≡ One)
+
 -- a walk record that has a spelling: in version 1, over a sample of few enough frames, with a length
 -- and a gap in their ranges, and as many entries as the tables for its length have
 pub record IsWalkInForm (head : Head) (gap : ℕ) (walk tables : List ℕ) : Type 0 where
@@ -42,7 +46,7 @@ pub record IsWalkInForm (head : Head) (gap : ℕ) (walk tables : List ℕ) : Typ
   pub len : IsLength (length walk)
   pub gap_from : 1 ≤ gap
   pub gap_to : gap ≤ GREATEST_GAP
-  pub entries : length tables ≡ entries_of head (length walk)
+  pub entries : length tables ≡ table_entries head (length walk)
 
 -- the numbers of a walk have 16 bits and those of tables 64, as all have in memory
 pub record AreWide (walk tables : List ℕ) : Type 0 where

@@ -16,7 +16,7 @@ use Rattle.cert_file.specs.declared.file.CertFile.TheVariants.{Walk}
 use Rattle.cert_file.specs.declared.walk_fields.WalkStart.{WalkStart}
 use Rattle.cert_file.specs.declared.walk_fields.TheConstants.{GREATEST_GAP, MOST_FRAMES}
 use Rattle.cert_file.specs.Rules.{any_rule, end_rule}
-use Rattle.cert_file.specs.WalkForms.{entries_of, frames_of}
+use Rattle.cert_file.specs.WalkForms.{table_entries, frames_of}
 
 -- the frames of the sample are limited
 abbrev pub frames_rule : ℕ → Result (Unit {0}) ReadError
@@ -40,8 +40,8 @@ abbrev pub gap_rule : ℕ → ℕ → Result ℕ ReadError
 gap_rule at n = if n == 0 || nat_lt GREATEST_GAP n then Err (Bad (Form at)) else Ok n
 
 -- the limit on frames, behind the head
-abbrev pub frames_read : ℕ → ℕ → List ℕ → Result (Unit {0} × ℕ) ReadError
-frames_read n at bytes = frames_rule n >>= λ few. Ok (few, at)
+abbrev pub few_frames_read : ℕ → ℕ → List ℕ → Result (Unit {0} × ℕ) ReadError
+few_frames_read n at bytes = frames_rule n >>= λ few. Ok (few, at)
 
 -- length, filter and gap
 abbrev pub walk_start_read : ℕ → List ℕ → Result (WalkStart × ℕ) ReadError
@@ -59,9 +59,9 @@ pub record IsStart (start : WalkStart) : Type 0 where
 -- a walk record, from behind a head to the end of the file
 abbrev pub walk_file_read : Head → ℕ → List ℕ → Result CertFile ReadError
 walk_file_read head at bytes =
-    frames_read (frames_of head) at bytes >>= λ few.
+    few_frames_read (frames_of head) at bytes >>= λ few.
     walk_start_read few.1 bytes >>= λ start.
     list_read (number_read w16 any_rule) start.0.length start.1 bytes >>= λ walk.
-    list_read (number_read w64 any_rule) (entries_of head start.0.length) walk.1 bytes
+    list_read (number_read w64 any_rule) (table_entries head start.0.length) walk.1 bytes
     >>= λ tables. end_rule tables.1 bytes >>= λ end.
     Ok (Walk head start.0.taps start.0.gap walk.0 tables.0)

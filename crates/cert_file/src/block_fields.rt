@@ -4,7 +4,7 @@ ghost use Rattle.std.specs.Int.{w8, w16};
 ghost use Rattle.shelf_core.specs.Files.{OnlyReads};
 ghost use Rattle.file_bytes.specs.Reading.{Follows};
 ghost use Rattle.source_map.specs.Readings.{IsRefusal, ReadsFrom, number_read};
-ghost use Rattle.cert_file.specs.BlockReading.{IsBlockAfter, IsBoundaryRead, IsSpot, block_size_read, block_start_read, boundary_read, cols_rule, flags_rule, spot_read, spot_rule};
+ghost use Rattle.cert_file.specs.BlockReading.{IsStartAfter, IsBoundaryRead, IsSpot, block_size_read, block_start_read, boundary_read, cols_rule, flags_rule, spot_read, spot_rule};
 ghost use Rattle.cert_file.specs.CutReading.{IsBoxAfter};
 ghost use Rattle.cert_file.specs.declared.cut_fields.TheConstants.{MOST_BOX_CELLS};
 
@@ -123,7 +123,7 @@ pub(crate) fn read_block_start<S: Shelf>(
     requires before { before ≤ MOST_BOX_CELLS }
     ensures answer { ReadsFrom ⊥ name.now file.old.at (S.state shelf.old) (S.state shelf.new)
         file.new (block_start_read before) result }
-    ensures within { IfOk result (IsBlockAfter before) }
+    ensures within { IfOk result (IsStartAfter before) }
     ensures place { OnOk result (file.new.at ≡ file.old.at + 13) }
     ensures reads { OnlyReads (S.state shelf.old) (S.state shelf.new) }
 {

@@ -8,12 +8,11 @@ ghost use Rattle.file_bytes.specs.Writing.{Puts};
 ghost use Rattle.cells.specs.Places.{cell_count};
 ghost use Rattle.block_strips.specs.Strips.{most_cols, strip_rows};
 ghost use Rattle.block_strips.specs.declared.side.Side.TheVariants.{Left, Top};
-ghost use Rattle.quilt.specs.Blocks.{HasColumns, HasColumnsOn, boundary_on, cols_of};
-ghost use Rattle.source_map.specs.declared.head.Version.TheVariants.{One};
-ghost use Rattle.source_map.specs.Heads.{IsHead};
+ghost use Rattle.quilt.specs.Blocks.{HasColumns, HasColumnsOn, block_cells, boundary_on, cols_of};
 ghost use Rattle.source_map.specs.Readings.{ReadsFrom};
 ghost use Rattle.cert_file.specs.BlockForms.{IsBlockInForm, IsWideBlock, IsWideBoundary, block_form, block_start_form, boundary_form, flags_of, spot_field};
-ghost use Rattle.cert_file.specs.BlockReading.{IsBoundaryRead, IsSpot, block_cells, block_read, blocks_read, side_read};
+ghost use Rattle.cert_file.specs.BlockReading.{IsBoundaryRead, IsSpot, block_read, blocks_read, side_read};
+ghost use Rattle.cert_file.specs.WalkForms.{IsHeadOfVersionOne};
 ghost use Rattle.cert_file.specs.RecordFiles.{AreBlocksInForm, AreBlocksInLimits, IsCert, IsCertOf, ReadsToEnd, blocks_file_read, blocks_form};
 ghost use Rattle.cert_file.specs.declared.cut_fields.TheConstants.{MOST_BOX_CELLS};
 ghost use Rattle.cert_file.specs.declared.file.CertFile.TheVariants.{Blocks};
@@ -272,8 +271,7 @@ pub(crate) fn read_blocks_file<S: Shelf>(
 ) -> Result<CertFile, ReadError>
     requires follows { Follows name.now (S.state shelf.old) file.old }
     requires room { file.old.at < 2 ^ 31 }
-    requires head { IsHead head }
-    requires version { head.version ≡ One }
+    requires head { IsHeadOfVersionOne head }
     ensures answer { ReadsToEnd (Unit {0}) name.now file.old.at (S.state shelf.old)
         (S.state shelf.new) (blocks_file_read head) result }
     ensures form { IfOk result IsCert }

@@ -5,10 +5,9 @@ ghost use Rattle.shelf_core.specs.Written.{HoldsPart, HoldsText};
 ghost use Rattle.file_bytes.specs.Reading.{Follows};
 ghost use Rattle.file_bytes.specs.Writing.{Puts};
 ghost use Rattle.loop_walk.specs.Tables.{IsLength, table_count};
-ghost use Rattle.source_map.specs.declared.head.Version.TheVariants.{One};
 ghost use Rattle.source_map.specs.Heads.{IsHead};
 ghost use Rattle.cert_file.specs.RecordFiles.{IsCert, IsCertOf, ReadsToEnd, walk_file_form};
-ghost use Rattle.cert_file.specs.WalkForms.{AreWide, IsWalkInForm, frames_of, taps_number, walk_form, walk_start_form};
+ghost use Rattle.cert_file.specs.WalkForms.{AreWide, IsHeadOfVersionOne, IsWalkInForm, frames_of, taps_number, walk_form, walk_start_form};
 ghost use Rattle.cert_file.specs.WalkReading.{walk_file_read};
 ghost use Rattle.cert_file.specs.declared.file.CertFile.TheVariants.{Walk};
 ghost use Rattle.cert_file.specs.declared.walk_fields.TheConstants.{GREATEST_GAP, MOST_FRAMES};
@@ -130,8 +129,7 @@ pub(crate) fn read_walk_file<S: Shelf>(
 ) -> Result<CertFile, ReadError>
     requires follows { Follows name.now (S.state shelf.old) file.old }
     requires room { file.old.at < 2 ^ 31 }
-    requires head { IsHead head }
-    requires version { head.version ≡ One }
+    requires head { IsHeadOfVersionOne head }
     ensures answer { ReadsToEnd (Unit {0}) name.now file.old.at (S.state shelf.old)
         (S.state shelf.new) (walk_file_read head) result }
     ensures form { IfOk result IsCert }

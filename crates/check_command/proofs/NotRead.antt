@@ -20,7 +20,7 @@ use Rattle.samples.specs.declared.sample.Sample.{Sample}
 use Rattle.samples.specs.declared.several.Samples.{Samples}
 use Rattle.samples.specs.Several.{MayRefuseSamples, RefusesSamples, SamplesReadAs, StandForSamples, contents}
 use Rattle.samples.proofs.Commands.{samples_not_made}
-use Rattle.check_command.specs.Checks.{HaveMap, HaveOut, HaveSamples, IsMap, IsOut, MayRefuseFiles, RefusesFiles, RefusesMap, RefusesOutBytes, check_command}
+use Rattle.check_command.specs.Checks.{HaveMap, HaveOut, HaveSamples, IsReadMap, IsOut, MayRefuseFiles, RefusesFiles, RefusesMap, RefusesOutBytes, check_command}
 use Rattle.check_command.specs.Readings.{IsNotRead}
 use Rattle.check_command.proofs.Turns.{cert_turn, map_turn, out_turn, sample_turn}
 use Rattle.check_command.proofs.Values.{no_map, no_out, no_samples}
@@ -108,8 +108,8 @@ module _ (job : CheckJob) where
   pub seen_out : (out : Sample) (a b c : ShelfState) → OnlyReads a b → OnlyReads b c → Sees a b (HaveSamples job.names) → InFile job.names.out b c (λ bytes. IsOut bytes out) → Sees a c (HaveOut job.names)
   seen_out out a b c first second have is = sees_then (HaveSamples job.names) (λ files. IsOut (content_of files job.names.out) out) (HaveOut job.names) a b c (λ files s o. (s, (out, o))) first second have is
 
-  pub seen_map : (m : MapFile) (a b c : ShelfState) → OnlyReads a b → OnlyReads b c → Sees a b (HaveOut job.names) → InFile job.names.map b c (λ bytes. IsMap bytes m) → Sees a c (HaveMap job.names)
-  seen_map m a b c first second have is = sees_then (HaveOut job.names) (λ files. IsMap (content_of files job.names.map) m) (HaveMap job.names) a b c (λ files o n. (o, (m, n))) first second have is
+  pub seen_map : (m : MapFile) (a b c : ShelfState) → OnlyReads a b → OnlyReads b c → Sees a b (HaveOut job.names) → InFile job.names.map b c (λ bytes. IsReadMap bytes m) → Sees a c (HaveMap job.names)
+  seen_map m a b c first second have is = sees_then (HaveOut job.names) (λ files. IsReadMap (content_of files job.names.map) m) (HaveMap job.names) a b c (λ files o n. (o, (m, n))) first second have is
 
   -- a file behind the samples isn't read, once what stands before it is in its form
   module _ (a b c : ShelfState) (reads : OnlyReads a b) (fault : Fault) where

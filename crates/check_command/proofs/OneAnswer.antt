@@ -10,15 +10,15 @@ use Rattle.standing_files.specs.declared.verdict.Verdict.{Verdict}
 use Rattle.standing_files.specs.declared.verdict.Verdict.TheVariants.{Stands, Fails}
 use Rattle.standing_files.specs.Standing.{IsVerdict}
 use Rattle.standing_files.proofs.Breaking.{breaks_none}
-use Rattle.check_command.specs.declared.reading.RunFiles.{RunFiles}
+use Rattle.check_command.specs.declared.reading.ReadFiles.{ReadFiles}
 use Rattle.check_command.specs.Checks.{MakesVerdict, check_command, summary_of}
 use Rattle.check_command.proofs.Values.{one_fault, one_values, unrefused}
 
-abbrev Judged : RunFiles → Verdict → Type 0
+abbrev Judged : ReadFiles → Verdict → Type 0
 Judged v verdict = IsVerdict v.samples v.out v.map v.cert verdict
 
 -- whether files stand is decided
-same_status : (v : RunFiles) (one other : Verdict) → Judged v one → Judged v other → summary_status (summary_of one) ≡ summary_status (summary_of other)
+same_status : (v : ReadFiles) (one other : Verdict) → Judged v one → Judged v other → summary_status (summary_of one) ≡ summary_status (summary_of other)
 same_status v Stands Stands a b = refl
 same_status v Stands (Fails number rule place) a b = absurd (breaks_none v.samples v.out v.map v.cert number rule place a b)
 same_status v (Fails number rule place) Stands a b = absurd (breaks_none v.samples v.out v.map v.cert number rule place b a)

@@ -13,7 +13,7 @@ use Rattle.samples.specs.Several.{RefusesSamples, contents}
 use Rattle.samples.proofs.OneAnswer.{not_both, one_value, refused_once}
 use Rattle.samples.proofs.OneSample.{one_sample, one_sample_refusal, stands_or_refused}
 use Rattle.cert_file.specs.RecordFiles.{RefusesCert}
-use Rattle.check_command.specs.declared.reading.RunFiles.{RunFiles}
+use Rattle.check_command.specs.declared.reading.ReadFiles.{ReadFiles}
 use Rattle.check_command.specs.Checks.{AreRunFiles, HaveMap, HaveSamples, IsOut, RefusesFiles, RefusesMap, RefusesMapFile, RefusesOut, RefusesOutBytes, RefusesRecord}
 
 same_ok : {T : Type 0} (r : Result T ReadError) (x y : T) → r ≡ Ok x → r ≡ Ok y → x ≡ y
@@ -36,7 +36,7 @@ same_fault : (Refuses : List ℕ → ReadError → Type 0) (its : FileOf) (bytes
 same_fault Refuses its bytes first second one a b = a.2 ∙ ap (fault_of_read its) (one a.0 b.0 a.1 b.1) ∙ sym b.2
 
 module _ (names : Names) (files : Files) where
-  pub one_values : (one other : RunFiles) → AreRunFiles names files one → AreRunFiles names files other → one ≡ other
+  pub one_values : (one other : ReadFiles) → AreRunFiles names files one → AreRunFiles names files other → one ≡ other
   one_values one other a b =
       let samples = one_value (content_of files names.sample) (contents files names.more) one.samples other.samples a.samples b.samples in
       let out = same_out (content_of files names.out) one.out other.out a.out b.out in
@@ -57,7 +57,7 @@ module _ (names : Names) (files : Files) where
   pub no_map : HaveMap names files → (n : ℕ) (fault : Fault) → RefusesMapFile names files n fault → ⊥
   no_map have n fault r = ok_or_err _ have.1.0 r.refused.0 have.1.1 r.refused.1
 
-  pub unrefused : (values : RunFiles) → AreRunFiles names files values → (n : ℕ) (fault : Fault) → RefusesFiles names n files fault → ⊥
+  pub unrefused : (values : ReadFiles) → AreRunFiles names files values → (n : ℕ) (fault : Fault) → RefusesFiles names n files fault → ⊥
   unrefused values a n fault (inl r) = no_samples (values.samples, a.samples) n fault r
   unrefused values a n fault (inr (inl r)) = no_out values.out a.out n fault r
   unrefused values a n fault (inr (inr (inl r))) = no_map (((values.samples, a.samples), (values.out, a.out)), (values.map, a.map)) n fault r

@@ -21,7 +21,7 @@ use Rattle.samples.specs.Several.{StandForSamples, MayRefuseSamples, RefusesSamp
 use Rattle.standing_files.specs.declared.verdict.Verdict.{Verdict}
 use Rattle.standing_files.specs.declared.verdict.Verdict.TheVariants.{Stands, Fails}
 use Rattle.standing_files.specs.Standing.{FilesStand, IsFirstBrokenRule, IsVerdict}
-use Rattle.check_command.specs.declared.reading.RunFiles.{RunFiles}
+use Rattle.check_command.specs.declared.reading.ReadFiles.{ReadFiles}
 use Rattle.check_command.specs.declared.reading.TheConstants.{MOST_OUT_CELLS}
 
 -- What the files are.
@@ -33,29 +33,29 @@ IsOut bytes out = IsSampleWithin MOST_OUT_CELLS bytes out
 abbrev pub RefusesOutBytes : List ℕ → ReadError → Type 0
 RefusesOutBytes bytes refusal = RefusesWithin MOST_OUT_CELLS bytes refusal
 
-abbrev pub IsMap : List ℕ → MapFile → Type 0
-IsMap bytes map_file = map_read bytes ≡ Ok map_file
+abbrev pub IsReadMap : List ℕ → MapFile → Type 0
+IsReadMap bytes map_file = map_read bytes ≡ Ok map_file
 
 abbrev pub RefusesMap : List ℕ → ReadError → Type 0
 RefusesMap bytes refusal = map_read bytes ≡ Err refusal
 
 -- the files of these names are in their forms and within their limits, and stand for these values
-pub record AreRunFiles (names : Names) (files : Files) (values : RunFiles) : Type 0 where
+pub record AreRunFiles (names : Names) (files : Files) (values : ReadFiles) : Type 0 where
   pub samples : StandForSamples (content_of files names.sample) (contents files names.more)
       values.samples
   pub out : IsOut (content_of files names.out) values.out
-  pub map : IsMap (content_of files names.map) values.map
+  pub map : IsReadMap (content_of files names.map) values.map
   pub cert : IsCertOf (content_of files names.cert) values.cert
 
 -- the files of these names stand
 pub record Stand (names : Names) (files : Files) : Type 0 where
-  pub values : RunFiles
+  pub values : ReadFiles
   pub read : AreRunFiles names files values
   pub stand : FilesStand values.samples values.out values.map values.cert
 
 -- they are in their forms and within their limits, and this is the first rule that they break
 pub record Break (names : Names) (files : Files) (number rule place : ℕ) : Type 0 where
-  pub values : RunFiles
+  pub values : ReadFiles
   pub read : AreRunFiles names files values
   pub broken :
       IsFirstBrokenRule values.samples values.out values.map values.cert number rule place
@@ -72,7 +72,7 @@ HaveOut names files =
     HaveSamples names files × ((out : _) × IsOut (content_of files names.out) out)
 
 abbrev pub HaveMap : Names → Files → Type 0
-HaveMap names files = HaveOut names files × ((m : _) × IsMap (content_of files names.map) m)
+HaveMap names files = HaveOut names files × ((m : _) × IsReadMap (content_of files names.map) m)
 
 -- the file of this turn is read after those before it, which are in their forms, and is refused
 pub record RefusesOut (names : Names) (files : Files) (n : ℕ) (fault : Fault) : Type 0 where
@@ -118,7 +118,7 @@ IsCheckSummary summary = (verdict : Verdict) × (summary ≡ summary_of verdict)
 -- the verdict on the files, and no text
 pub record MakesVerdict (names : Names) (files : Files) (texts : List (List ℕ)) (summary : Summary)
     : Type 0 where
-  pub values : RunFiles
+  pub values : ReadFiles
   pub read : AreRunFiles names files values
   pub verdict : Verdict
   pub judged : IsVerdict values.samples values.out values.map values.cert verdict
@@ -131,7 +131,7 @@ check_command job = record {
       ++ named part.Out job.names.out ∷ named part.Map job.names.map
       ∷ named part.Cert job.names.cert ∷ [];
   writes = [];
-  Takes = λ files. (values : RunFiles) × AreRunFiles job.names files values;
+  Takes = λ files. (values : ReadFiles) × AreRunFiles job.names files values;
   Refuses = RefusesFiles job.names;
   Makes = MakesVerdict job.names;
   MayRefuse = MayRefuseFiles (length job.names.more + 1);

@@ -5,7 +5,7 @@ ghost use Rattle.cert_file.specs.RecordFiles.{IsCert, IsCertOf, RefusesCert};
 ghost use Rattle.samples.specs.Several.{AreSoundSamples};
 ghost use Rattle.synth_report.specs.declared.fault.FileOf.TheVariants as part;
 ghost use Rattle.run_outcome.specs.Outcomes.{NotMade};
-ghost use Rattle.check_command.specs.Checks.{AreRunFiles, IsMap, IsOut, RefusesMap, RefusesOutBytes, check_command};
+ghost use Rattle.check_command.specs.Checks.{AreRunFiles, IsReadMap, IsOut, RefusesMap, RefusesOutBytes, check_command};
 ghost use Rattle.check_command.specs.Readings.{ReadsPart};
 
 use cert_file::{CertFile, read_cert};
@@ -22,7 +22,7 @@ pub const MOST_OUT_CELLS: u64 = 33_554_432;
 
 /// The files of a run, as they were read.
 #[derive(Drop)]
-pub struct RunFiles {
+pub struct ReadFiles {
     pub samples: Samples,
     /// The picture.
     pub out: Sample,
@@ -45,7 +45,7 @@ fn read_out<S: Shelf>(alloc: Global, shelf: &mut S, name: &Name) -> Result<Sampl
 
 // Reads the map file.
 fn read_map_file<S: Shelf>(alloc: Global, shelf: &mut S, name: &Name) -> Result<MapFile, Fault>
-    ensures answer { ReadsPart IsMap RefusesMap part.Map name.now
+    ensures answer { ReadsPart IsReadMap RefusesMap part.Map name.now
         (S.state shelf.old) (S.state shelf.new) result }
     ensures reads { OnlyReads (S.state shelf.old) (S.state shelf.new) }
 {
@@ -73,7 +73,7 @@ pub(crate) fn read_files<S: Shelf>(
     alloc: Global,
     job: &CheckJob,
     shelf: &mut S,
-) -> Result<RunFiles, Fault>
+) -> Result<ReadFiles, Fault>
     ensures read { IfOk result (λ values. Changes (S.state shelf.old) (S.state shelf.new)
         (λ before after. AreRunFiles job.now.names before values)) }
     ensures failed { IfErr result
@@ -99,7 +99,7 @@ pub(crate) fn read_files<S: Shelf>(
         Ok(cert) => cert,
         Err(fault) => return Err(fault),
     };
-    Ok(RunFiles {
+    Ok(ReadFiles {
         samples,
         out,
         map,

@@ -13,10 +13,10 @@ use Rattle.patch_place.proofs.OnePick.{one_next}
 use Rattle.cut_check.specs.declared.record.CutRecord.{CutRecord}
 use Rattle.refine_seams.proofs.OneRound.{none_idle, one_round}
 use Rattle.map_canvas.proofs.MapsAfter.{after_is_map}
-use Rattle.growing.specs.declared.plan.Plan.{Plan}
+use Rattle.growing.specs.declared.plan.GrowPlan.{GrowPlan}
 use Rattle.growing.specs.Grown.{ComesNext, ComesNextFor, Growth, GrowsBy, IsDone}
 
-module _ (plan : Plan) (sample : Cells) (growth : Growth) where
+module _ (plan : GrowPlan) (sample : Cells) (growth : Growth) where
   fits_for : (placement : Placement) (o : Option At) → ComesNextFor plan sample growth o placement → Fits growth.map.size sample placement
   fits_for placement (Some q) is = is.fits.fits
   fits_for placement None is = is.1.fits
@@ -42,6 +42,6 @@ module _ (plan : Plan) (sample : Cells) (growth : Growth) where
   none_at_end placement is next done = none_for placement done (subst (λ o. ComesNextFor plan sample growth o placement) (full_is_whole growth.map is done.full) next)
 
 -- a step leaves a map
-pub stays_map : (plan : Plan) (sample : Cells) (was now : Growth) (cut : CutRecord) → IsVolume sample → GrowsBy plan sample was cut now → IsMap was.map → IsMap now.map
+pub stays_map : (plan : GrowPlan) (sample : Cells) (was now : Growth) (cut : CutRecord) → IsVolume sample → GrowsBy plan sample was cut now → IsMap was.map → IsMap now.map
 stays_map plan sample was now cut volume step is =
     subst IsMap (sym step.map) (after_is_map was.map sample cut.placement cut.choice volume is (next_fits plan sample was cut.placement step.next))

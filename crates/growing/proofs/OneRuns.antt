@@ -11,14 +11,14 @@ use Rattle.graph_place.specs.Fewest.{IsFewestHeld}
 use Rattle.graph_place.proofs.OneChoice.{one_fewest}
 use Rattle.replay.specs.declared.records.TheConstants.{MOST_BOX_CELLS}
 use Rattle.replay.specs.Replay.{box_cells}
-use Rattle.growing.specs.declared.plan.Plan.{Plan}
+use Rattle.growing.specs.declared.plan.GrowPlan.{GrowPlan}
 use Rattle.growing.specs.Grown.{ComesNext, Growth, GrowsBy, IsDone, first_growth}
 use Rattle.growing.specs.OneRun.{EndsWithin, IsSameRun, OneLimit, OneRun, SameButFlows}
 use Rattle.growing.specs.Runs.{Leads}
 use Rattle.growing.proofs.Nexts.{next_fits, next_is_one, none_at_end, stays_map}
 use Rattle.growing.proofs.Splitting.{starts}
 
-module _ (plan : Plan) (sample : Cells) (volume : IsVolume sample) where
+module _ (plan : GrowPlan) (sample : Cells) (volume : IsVolume sample) where
   one_step : (was now later : Growth) (cut other : CutRecord) → GrowsBy plan sample was cut now → GrowsBy plan sample was other later → SameButFlows cut other × (now ≡ later)
   one_step was now later cut other is also = (same, λ i. record { map = same_map i; draws = same_draws i; rounds = same_rounds i })
     where
@@ -94,15 +94,15 @@ module _ (plan : Plan) (sample : Cells) (volume : IsVolume sample) where
       (subst (λ after. Leads (GrowsBy plan sample) after others other) (sym step.1) also.1.1) (omega (arith, within_also, same)) next_also (omega (arith, past_also, within_also, same)) in
       omega (arith, rest, same)
 
-pub runs_are_one : (plan : Plan) (sample : Cells) → IsVolume sample → IsSmall plan.size → OneRun plan sample
+pub runs_are_one : (plan : GrowPlan) (sample : Cells) → IsVolume sample → IsSmall plan.size → OneRun plan sample
 runs_are_one plan sample volume small cuts others growth other run done also done_also =
     one_run plan sample volume (first_growth plan) cuts others growth other (starts plan sample volume small) run done also done_also
 
-pub ends_within : (plan : Plan) (sample : Cells) → IsVolume sample → IsSmall plan.size → EndsWithin plan sample
+pub ends_within : (plan : GrowPlan) (sample : Cells) → IsVolume sample → IsSmall plan.size → EndsWithin plan sample
 ends_within plan sample volume small cuts growth number run done within passes =
     omega (arith, within, passes.past, passes.cells, makes_next plan sample volume (first_growth plan) passes.cuts cuts passes.growth growth passes.placement (starts plan sample volume small) passes.run passes.next run done)
 
-pub limits_are_one : (plan : Plan) (sample : Cells) → IsVolume sample → OneLimit plan sample
+pub limits_are_one : (plan : GrowPlan) (sample : Cells) → IsVolume sample → OneLimit plan sample
 limits_are_one plan sample volume number other one also =
     one.cells ∙ one_number plan sample volume MOST_BOX_CELLS (first_growth plan) one.cuts also.cuts one.growth also.growth one.placement also.placement
     one.run one.within one.next (omega (arith, one.past, one.cells)) also.run also.within also.next (omega (arith, also.past, also.cells)) ∙ sym also.cells

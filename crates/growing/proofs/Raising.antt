@@ -5,20 +5,20 @@ use Rattle.map_canvas.specs.Choices.{map_after}
 use Rattle.map_canvas.proofs.Afters.{map_after_is}
 use Rattle.graph_place.specs.Placed.{map_total}
 use Rattle.graph_place.proofs.Totals.{keeps_total}
-use Rattle.growing.specs.declared.plan.Plan.{Plan}
+use Rattle.growing.specs.declared.plan.GrowPlan.{GrowPlan}
 use Rattle.growing.specs.Grown.{Growth}
 use Rattle.growing.specs.OneRun.{NoneRaise, NoneRaises}
 use Rattle.growing.proofs.Nexts.{next_fits, stays_map}
 use Rattle.growing.proofs.Splitting.{next_full}
 
-pub none_raises : (plan : Plan) (sample : Cells) → NoneRaises plan sample
+pub none_raises : (plan : GrowPlan) (sample : Cells) → NoneRaises plan sample
 none_raises plan sample before after cut is full step =
     let fits = next_fits plan sample before cut.placement step.next in
     subst (λ m. map_total sample m ≤ map_total sample before.map) (sym step.map)
     (keeps_total before.map sample cut.placement [] cut.choice (map_after before.map cut.placement cut.choice) fits.inside step.fewest.least
     (map_after_is before.map sample cut.placement cut.choice is fits) full)
 
-pub none_raise : (plan : Plan) (sample : Cells) → IsVolume sample → NoneRaise plan sample
+pub none_raise : (plan : GrowPlan) (sample : Cells) → IsVolume sample → NoneRaise plan sample
 none_raise plan sample volume before after [] is full run = omega (arith, ap (λ (growth : Growth). map_total sample growth.map) run)
 none_raise plan sample volume before after (cut ∷ cuts) is full run =
     let step = run.1.0 in

@@ -13,7 +13,7 @@ use Rattle.map_canvas.proofs.Unfilled.{full_is_whole}
 use Rattle.cut_check.specs.declared.record.CutRecord.{CutRecord}
 use Rattle.refine_seams.proofs.Rounding.{stays_full}
 use Rattle.replay.specs.Replay.{EachOver, left_by}
-use Rattle.growing.specs.declared.plan.Plan.{Plan}
+use Rattle.growing.specs.declared.plan.GrowPlan.{GrowPlan}
 use Rattle.growing.specs.Grown.{Growth, GrowsBy, first_growth, rounds_made}
 use Rattle.growing.specs.OneRun.{RoundsFollow}
 use Rattle.growing.specs.Runs.{Leads}
@@ -33,7 +33,7 @@ record SplitFrom (from : Growth) (cuts : List CutRecord) (after : Growth) : Type
   unfilled : EachOver IsUnfilled from.map laid
   full : EachOver IsFilledUp (left_by from.map laid) refined
 
-module _ (plan : Plan) (sample : Cells) (volume : IsVolume sample) where
+module _ (plan : GrowPlan) (sample : Cells) (volume : IsVolume sample) where
   pub next_full : (was now : Growth) (cut : CutRecord) → IsMap was.map → IsFull was.map → GrowsBy plan sample was cut now → IsFull now.map
   next_full was now cut is full step =
       subst IsFull (sym step.map) (stays_full was.map (map_after was.map cut.placement cut.choice) cut.placement cut.choice full
@@ -71,10 +71,10 @@ module _ (plan : Plan) (sample : Cells) (volume : IsVolume sample) where
   split_from from (cut ∷ cuts) after is run =
       split_step from run.0 cut cuts after is run.1.0 run.1.1 (split_from run.0 cuts after (stays_map plan sample from run.0 cut volume run.1.0 is) run.1.1) (first_unfilled from.map) refl
 
-pub starts : (plan : Plan) (sample : Cells) → IsVolume sample → IsSmall plan.size → IsMap (empty_map plan.size)
+pub starts : (plan : GrowPlan) (sample : Cells) → IsVolume sample → IsSmall plan.size → IsMap (empty_map plan.size)
 starts plan sample volume small = (empty_is_canvas plan.size sample.k small volume.samples).map
 
-pub run_splits : (plan : Plan) (sample : Cells) → IsVolume sample → IsSmall plan.size → RoundsFollow plan sample
+pub run_splits : (plan : GrowPlan) (sample : Cells) → IsVolume sample → IsSmall plan.size → RoundsFollow plan sample
 run_splits plan sample volume small cuts growth run =
     let is = split_from plan sample volume (first_growth plan) cuts growth (starts plan sample volume small) run in
     record {
@@ -88,6 +88,6 @@ run_splits plan sample volume small cuts growth run =
     }
 
 -- a run leaves a map of its size
-pub size_stays : (plan : Plan) (sample : Cells) (from : Growth) (cuts : List CutRecord) (after : Growth) → Leads (GrowsBy plan sample) from cuts after → after.map.size ≡ from.map.size
+pub size_stays : (plan : GrowPlan) (sample : Cells) (from : Growth) (cuts : List CutRecord) (after : Growth) → Leads (GrowsBy plan sample) from cuts after → after.map.size ≡ from.map.size
 size_stays plan sample from [] after run = ap (λ (growth : Growth). growth.map.size) run
 size_stays plan sample from (cut ∷ cuts) after run = size_stays plan sample run.0 cuts after run.1.1 ∙ ap (λ (m : SourceMap). m.size) run.1.0.map

@@ -22,7 +22,7 @@ use Rattle.refine_seams.specs.Rounds.{IsRoundAt}
 use Rattle.replay.specs.declared.records.TheConstants.{MOST_BOX_CELLS}
 use Rattle.replay.specs.Replay.{EachStands, IsFormed, box_cells, left_by}
 use Rattle.replay.proofs.RunLaws.{cells_more, each_more, left_more}
-use Rattle.growing.specs.declared.plan.Plan.{Plan}
+use Rattle.growing.specs.declared.plan.GrowPlan.{GrowPlan}
 use Rattle.growing.specs.declared.steps.Work.{Work}
 use Rattle.growing.specs.Grown.{ComesNext, ComesNextFor, Growth, GrowsBy, IsRun, PassesAt, draws_left, first_growth, rounds_made}
 use Rattle.growing.specs.Runs.{Leads}
@@ -33,7 +33,7 @@ leads_more Step s [] t a u run step = (u, (subst (λ x. Step x a u) run step, re
 leads_more Step s (b ∷ rest) t a u run step = (run.0, (run.1.0, leads_more Step run.0 rest t a u run.1.1 step))
 
 -- a placement that is put in is one step more
-pub one_more : (plan : Plan) (sample : Cells) (was now : Work) (placement : Placement) (cut : CutRecord) → IsWork plan sample was
+pub one_more : (plan : GrowPlan) (sample : Cells) (was now : Work) (placement : Placement) (cut : CutRecord) → IsWork plan sample was
     → ComesNext plan sample (growth_of was) placement → HasCells placement.rect.size → now.draws ≡ draws_left plan was.draws (first_unfilled was.canvas.map) → now.rounds ≡ rounds_made was.rounds (first_unfilled was.canvas.map)
     → IsPlaced was.canvas sample placement [] now.canvas cut → IsCanvas now.canvas
     → now.cuts.items ≡ was.cuts.items ++ cut ∷ [] → now.cells ≡ was.cells + box_count placement → now.cells ≤ MOST_BOX_CELLS → now.rounds ≤ plan.rounds
@@ -72,7 +72,7 @@ one_more plan sample was now placement cut work next some draws rounds placed is
     }
 
 -- no step is made yet
-pub none_made : (plan : Plan) (sample : Cells) (now : Work) → IsCanvas now.canvas → StandsOver now.canvas sample → now.canvas ≡ empty_canvas plan.size sample.k → now.draws ≡ record { seed = plan.seed; place = 0 }
+pub none_made : (plan : GrowPlan) (sample : Cells) (now : Work) → IsCanvas now.canvas → StandsOver now.canvas sample → now.canvas ≡ empty_canvas plan.size sample.k → now.draws ≡ record { seed = plan.seed; place = 0 }
     → now.cuts.items ≡ [] → now.cells ≡ 0 → now.rounds ≡ 0 → IsWork plan sample now
 none_made plan sample now is over canvas draws none cells rounds = record {
   run = subst (λ cuts. IsRun plan sample cuts (growth_of now)) (sym none) (λ i. record { map = (canvas i).map; draws = draws i; rounds = rounds i });
@@ -87,16 +87,16 @@ none_made plan sample now is over canvas draws none cells rounds = record {
 }
 
 -- the mode's next placement comes next, and so does that of a round of a full map
-pub next_laid : (plan : Plan) (sample : Cells) (growth : Growth) (placement : Placement) → IsNextAt plan.mode growth.map sample growth.draws placement → ComesNext plan sample growth placement
+pub next_laid : (plan : GrowPlan) (sample : Cells) (growth : Growth) (placement : Placement) → IsNextAt plan.mode growth.map sample growth.draws placement → ComesNext plan sample growth placement
 next_laid plan sample growth placement next = subst (λ o. ComesNextFor plan sample growth o placement) (sym next.first) next
 
-pub draws_laid : (plan : Plan) (sample : Cells) (growth : Growth) (placement : Placement) → IsNextAt plan.mode growth.map sample growth.draws placement → draws_after plan.mode growth.draws ≡ draws_left plan growth.draws (first_unfilled growth.map)
+pub draws_laid : (plan : GrowPlan) (sample : Cells) (growth : Growth) (placement : Placement) → IsNextAt plan.mode growth.map sample growth.draws placement → draws_after plan.mode growth.draws ≡ draws_left plan growth.draws (first_unfilled growth.map)
 draws_laid plan sample growth placement next = ap (draws_left plan growth.draws) (sym next.first)
 
-pub rounds_laid : (plan : Plan) (sample : Cells) (growth : Growth) (placement : Placement) → IsNextAt plan.mode growth.map sample growth.draws placement → growth.rounds ≡ rounds_made growth.rounds (first_unfilled growth.map)
+pub rounds_laid : (plan : GrowPlan) (sample : Cells) (growth : Growth) (placement : Placement) → IsNextAt plan.mode growth.map sample growth.draws placement → growth.rounds ≡ rounds_made growth.rounds (first_unfilled growth.map)
 rounds_laid plan sample growth placement next = ap (rounds_made growth.rounds) (sym next.first)
 
-pub next_refined : (plan : Plan) (sample : Cells) (growth : Growth) (placement : Placement) → first_unfilled growth.map ≡ None → growth.rounds < plan.rounds
+pub next_refined : (plan : GrowPlan) (sample : Cells) (growth : Growth) (placement : Placement) → first_unfilled growth.map ≡ None → growth.rounds < plan.rounds
     → IsRoundAt plan.side plan.tol growth.map sample growth.draws placement → ComesNext plan sample growth placement
 next_refined plan sample growth placement none left round = subst (λ o. ComesNextFor plan sample growth o placement) (sym none) (left, round)
 
@@ -107,7 +107,7 @@ some_cells size has =
     omega (arith, mul-add-lt 0 size.w 0 (size.h * size.f) (omega (arith, inner)) has.w)
 
 -- the box of the next placement takes the run past its bound
-pub passes : (plan : Plan) (sample : Cells) (was : Work) (placement : Placement) (number : ℕ) → IsWork plan sample was → ComesNext plan sample (growth_of was) placement
+pub passes : (plan : GrowPlan) (sample : Cells) (was : Work) (placement : Placement) (number : ℕ) → IsWork plan sample was → ComesNext plan sample (growth_of was) placement
     → number ≡ was.cells + box_count placement → MOST_BOX_CELLS < number → PassesAt plan sample number
 passes plan sample was placement number work next cells past = record {
   cuts = was.cuts.items;

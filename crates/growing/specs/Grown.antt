@@ -18,7 +18,7 @@ use Rattle.graph_place.specs.Fewest.{IsFewestHeld}
 use Rattle.refine_seams.specs.Rounds.{IsRoundAt, NoWindowCosts}
 use Rattle.replay.specs.declared.records.TheConstants.{MOST_BOX_CELLS}
 use Rattle.replay.specs.Replay.{AreFileRecords, EachLeast, EachOver, EachStands, KeepsFixed, box_cells, left_by}
-use Rattle.growing.specs.declared.plan.Plan.{Plan}
+use Rattle.growing.specs.declared.plan.GrowPlan.{GrowPlan}
 use Rattle.growing.specs.declared.plan.Grown.{Grown}
 use Rattle.growing.specs.declared.plan.GrowError.{GrowError}
 use Rattle.growing.specs.declared.plan.GrowError.TheVariants.{Records, NoMemory}
@@ -32,18 +32,18 @@ pub record Growth : Type 0 where
 
 -- the placement that comes next: that of the mode for the first unfilled cell; where every cell is
 -- filled, and a round is left, that of the round
-abbrev pub ComesNextFor : Plan → Cells → Growth → Option At → Placement → Type 0
+abbrev pub ComesNextFor : GrowPlan → Cells → Growth → Option At → Placement → Type 0
 ComesNextFor plan sample growth (Some q) placement =
     IsNextAt plan.mode growth.map sample growth.draws placement
 ComesNextFor plan sample growth None placement =
     (growth.rounds < plan.rounds)
     × IsRoundAt plan.side plan.tol growth.map sample growth.draws placement
 
-abbrev pub ComesNext : Plan → Cells → Growth → Placement → Type 0
+abbrev pub ComesNext : GrowPlan → Cells → Growth → Placement → Type 0
 ComesNext plan sample growth = ComesNextFor plan sample growth (first_unfilled growth.map)
 
 -- the draws after it, and the rounds
-abbrev pub draws_left : Plan → DrawState → Option At → DrawState
+abbrev pub draws_left : GrowPlan → DrawState → Option At → DrawState
 draws_left plan draws (Some q) = draws_after plan.mode draws
 draws_left plan draws None = after_draw draws
 
@@ -52,7 +52,7 @@ rounds_made rounds (Some q) = rounds
 rounds_made rounds None = rounds + 1
 
 -- a step: the next placement, and of its least choices the one with the fewest old cells
-pub record GrowsBy (plan : Plan) (sample : Cells) (before : Growth) (cut : CutRecord)
+pub record GrowsBy (plan : GrowPlan) (sample : Cells) (before : Growth) (cut : CutRecord)
     (after : Growth) : Type 0 where
   pub next : ComesNext plan sample before cut.placement
   pub choice_count : length cut.choice ≡ cell_count cut.placement.rect.size
@@ -62,7 +62,7 @@ pub record GrowsBy (plan : Plan) (sample : Cells) (before : Growth) (cut : CutRe
   pub rounds : after.rounds ≡ rounds_made before.rounds (first_unfilled before.map)
 
 -- at first no cell is filled, and draw number 0 of the seed comes next
-abbrev pub first_growth : Plan → Growth
+abbrev pub first_growth : GrowPlan → Growth
 first_growth plan = record {
   map = empty_map plan.size;
   draws = record { seed = plan.seed; place = 0 };
@@ -70,11 +70,11 @@ first_growth plan = record {
 }
 
 -- a run: steps from there on, and what they leave
-abbrev pub IsRun : Plan → Cells → List CutRecord → Growth → Type 0
+abbrev pub IsRun : GrowPlan → Cells → List CutRecord → Growth → Type 0
 IsRun plan sample = Leads (GrowsBy plan sample) (first_growth plan)
 
 -- the end: every cell is filled, and all rounds have been made, or no window costs anything
-pub record IsDone (plan : Plan) (sample : Cells) (growth : Growth) : Type 0 where
+pub record IsDone (plan : GrowPlan) (sample : Cells) (growth : Growth) : Type 0 where
   pub full : IsFull growth.map
   pub rounds : (growth.rounds ≡ plan.rounds) ⊎ NoWindowCosts plan.side growth.map sample
 
@@ -90,7 +90,7 @@ pub record IsSplit (output : Size) (cuts : List CutRecord) (rounds : ℕ) : Type
   pub full : EachOver (λ m cut. IsFull m) (left_by (empty_map output) laid) refined
 
 -- what is left at the end: the whole run, and its records over one another
-pub record IsGrown (plan : Plan) (sample : Cells) (grown : Grown) : Type 0 where
+pub record IsGrown (plan : GrowPlan) (sample : Cells) (grown : Grown) : Type 0 where
   pub draws : DrawState
   pub run : IsRun plan sample grown.cuts
       (record { map = grown.canvas.map; draws = draws; rounds = grown.rounds })
@@ -107,7 +107,7 @@ pub record IsGrown (plan : Plan) (sample : Cells) (grown : Grown) : Type 0 where
   pub writable : AreFileRecords plan.size sample grown.cuts
 
 -- the first box that takes the cells of all boxes past their bound, and these cells
-pub record PassesAt (plan : Plan) (sample : Cells) (number : ℕ) : Type 0 where
+pub record PassesAt (plan : GrowPlan) (sample : Cells) (number : ℕ) : Type 0 where
   pub cuts : List CutRecord
   pub growth : Growth
   pub placement : Placement
@@ -118,11 +118,11 @@ pub record PassesAt (plan : Plan) (sample : Cells) (number : ℕ) : Type 0 where
   pub past : MOST_BOX_CELLS < number
 
 -- why nothing is grown
-abbrev pub IsGrowFault : Plan → Cells → GrowError → Type 0
+abbrev pub IsGrowFault : GrowPlan → Cells → GrowError → Type 0
 IsGrowFault plan sample (Records number) = PassesAt plan sample number
 IsGrowFault plan sample NoMemory = Unit {0}
 
 -- what growing answers
-abbrev pub Grows : Plan → Cells → Result Grown GrowError → Type 0
+abbrev pub Grows : GrowPlan → Cells → Result Grown GrowError → Type 0
 Grows plan sample (Ok grown) = IsGrown plan sample grown
 Grows plan sample (Err error) = IsGrowFault plan sample error

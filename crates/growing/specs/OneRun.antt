@@ -8,7 +8,7 @@ use Rattle.cut_check.specs.declared.record.CutRecord.{CutRecord}
 use Rattle.graph_place.specs.Placed.{map_total}
 use Rattle.replay.specs.declared.records.TheConstants.{MOST_BOX_CELLS}
 use Rattle.replay.specs.Replay.{box_cells}
-use Rattle.growing.specs.declared.plan.Plan.{Plan}
+use Rattle.growing.specs.declared.plan.GrowPlan.{GrowPlan}
 use Rattle.growing.specs.Grown.{Growth, GrowsBy, IsDone, IsRun, IsSplit, PassesAt}
 use Rattle.growing.specs.Runs.{Leads}
 
@@ -23,7 +23,7 @@ pub record IsSameRun (cuts others : List CutRecord) (growth other : Growth) : Ty
   pub left : growth ≡ other
 
 -- two runs to their ends are the same
-abbrev pub OneRun : Plan → Cells → Type 0
+abbrev pub OneRun : GrowPlan → Cells → Type 0
 OneRun plan sample =
     (cuts others : List CutRecord) (growth other : Growth)
     → IsRun plan sample cuts growth → IsDone plan sample growth
@@ -31,33 +31,33 @@ OneRun plan sample =
     → IsSameRun cuts others growth other
 
 -- a run that ends with boxes within the bound passes it nowhere
-abbrev pub EndsWithin : Plan → Cells → Type 0
+abbrev pub EndsWithin : GrowPlan → Cells → Type 0
 EndsWithin plan sample =
     (cuts : List CutRecord) (growth : Growth) (number : ℕ)
     → IsRun plan sample cuts growth → IsDone plan sample growth → box_cells cuts ≤ MOST_BOX_CELLS
     → PassesAt plan sample number → ⊥
 
 -- and the bound is passed at one number
-abbrev pub OneLimit : Plan → Cells → Type 0
+abbrev pub OneLimit : GrowPlan → Cells → Type 0
 OneLimit plan sample =
     (number other : ℕ) → PassesAt plan sample number → PassesAt plan sample other → number ≡ other
 
 -- a step over a full map, which is a round, doesn't raise the total
-abbrev pub NoneRaises : Plan → Cells → Type 0
+abbrev pub NoneRaises : GrowPlan → Cells → Type 0
 NoneRaises plan sample =
     (before after : Growth) (cut : CutRecord) → IsMap before.map → IsFull before.map
     → GrowsBy plan sample before cut after
     → map_total sample after.map ≤ map_total sample before.map
 
 -- nor do any steps from a full map on
-abbrev pub NoneRaise : Plan → Cells → Type 0
+abbrev pub NoneRaise : GrowPlan → Cells → Type 0
 NoneRaise plan sample =
     (before after : Growth) (cuts : List CutRecord) → IsMap before.map → IsFull before.map
     → Leads (GrowsBy plan sample) before cuts after
     → map_total sample after.map ≤ map_total sample before.map
 
 -- in each run the rounds follow what is laid
-abbrev pub RoundsFollow : Plan → Cells → Type 0
+abbrev pub RoundsFollow : GrowPlan → Cells → Type 0
 RoundsFollow plan sample =
     (cuts : List CutRecord) (growth : Growth) → IsRun plan sample cuts growth
     → IsSplit plan.size cuts growth.rounds

@@ -8,7 +8,7 @@ use Rattle.seam_cost.specs.Tables.{WindowSums}
 use Rattle.refine_seams.specs.Rounds.{NoWindowCosts, SumsWindowsOf}
 use Rattle.replay.specs.declared.records.TheConstants.{MOST_BOX_CELLS}
 use Rattle.replay.specs.Replay.{EachStands, IsFormed, box_cells, left_by}
-use Rattle.growing.specs.declared.plan.Plan.{Plan}
+use Rattle.growing.specs.declared.plan.GrowPlan.{GrowPlan}
 use Rattle.growing.specs.declared.plan.GrowError.{GrowError}
 use Rattle.growing.specs.declared.steps.Work.{Work}
 use Rattle.growing.specs.Grown.{Growth, IsDone, IsGrowFault, IsRun}
@@ -16,7 +16,7 @@ use Rattle.growing.specs.Grown.{Growth, IsDone, IsGrowFault, IsRun}
 abbrev pub growth_of : Work → Growth
 growth_of work = record { map = work.canvas.map; draws = work.draws; rounds = work.rounds }
 
-pub record IsWork (plan : Plan) (sample : Cells) (work : Work) : Type 0 where
+pub record IsWork (plan : GrowPlan) (sample : Cells) (work : Work) : Type 0 where
   pub run : IsRun plan sample work.cuts.items (growth_of work)
   pub cells : work.cells ≡ box_cells work.cuts.items
   pub within : work.cells ≤ MOST_BOX_CELLS
@@ -28,19 +28,19 @@ pub record IsWork (plan : Plan) (sample : Cells) (work : Work) : Type 0 where
   pub canvas : IsCanvas work.canvas
 
 -- one step more, or none where no cell is unfilled
-abbrev pub Advances : Plan → Cells → Work → Work → Result Bool GrowError → Type 0
+abbrev pub Advances : GrowPlan → Cells → Work → Work → Result Bool GrowError → Type 0
 Advances plan sample was now (Ok true) = IsWork plan sample now × (was.cells < now.cells)
 Advances plan sample was now (Ok false) =
     IsWork plan sample now × (first_unfilled now.canvas.map ≡ None)
 Advances plan sample was now (Err error) = IsGrowFault plan sample error
 
 -- all steps
-abbrev pub Lays : Plan → Cells → Result Work GrowError → Type 0
-Lays plan sample (Ok now) = IsWork plan sample now × IsFull now.canvas.map
-Lays plan sample (Err error) = IsGrowFault plan sample error
+abbrev pub LaysGrowth : GrowPlan → Cells → Result Work GrowError → Type 0
+LaysGrowth plan sample (Ok now) = IsWork plan sample now × IsFull now.canvas.map
+LaysGrowth plan sample (Err error) = IsGrowFault plan sample error
 
 -- every cell is filled, and the table is right
-pub record IsRefining (plan : Plan) (sample : Cells) (work : Work)
+pub record IsRefining (plan : GrowPlan) (sample : Cells) (work : Work)
     (table : WindowSums) : Type 0 where
   pub so_far : IsWork plan sample work
   pub full : IsFull work.canvas.map
@@ -48,7 +48,7 @@ pub record IsRefining (plan : Plan) (sample : Cells) (work : Work)
 
 -- one round more, or none where no window costs anything
 abbrev pub Refines :
-    Plan → Cells → Work → Work → WindowSums → Result Bool GrowError → Type 0
+    GrowPlan → Cells → Work → Work → WindowSums → Result Bool GrowError → Type 0
 Refines plan sample was now table (Ok true) =
     IsRefining plan sample now table × (now.rounds ≡ was.rounds + 1)
 Refines plan sample was now table (Ok false) =
@@ -56,6 +56,6 @@ Refines plan sample was now table (Ok false) =
 Refines plan sample was now table (Err error) = IsGrowFault plan sample error
 
 -- all rounds
-abbrev pub Ends : Plan → Cells → Work → Result (Unit {0}) GrowError → Type 0
+abbrev pub Ends : GrowPlan → Cells → Work → Result (Unit {0}) GrowError → Type 0
 Ends plan sample now (Ok _) = IsWork plan sample now × IsDone plan sample (growth_of now)
 Ends plan sample now (Err error) = IsGrowFault plan sample error

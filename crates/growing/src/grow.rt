@@ -4,9 +4,9 @@ ghost use Rattle.cells.specs.Places.{IsSmall};
 ghost use Rattle.map_canvas.specs.Maps.{IsFull};
 ghost use Rattle.patch_place.specs.Fitting.{HasPatch};
 ghost use Rattle.growing.specs.Grown.{Grows};
-ghost use Rattle.growing.specs.Work.{Ends, IsWork, Lays};
+ghost use Rattle.growing.specs.Work.{Ends, IsWork, LaysGrowth};
 
-use crate::plan::{GrowError, Grown, Plan};
+use crate::plan::{GrowError, GrowPlan, Grown};
 use crate::steps::{Work, begin, refine_step, step};
 use cells::Volume;
 use items::Items;
@@ -15,10 +15,10 @@ use seam_cost::SeamTable;
 use std::alloc::Global;
 
 // Makes placements until the canvas is full.
-fn lay_all(alloc: Global, plan: &Plan, sample: &Volume) -> Result<Work, GrowError>
+fn lay_all(alloc: Global, plan: &GrowPlan, sample: &Volume) -> Result<Work, GrowError>
     requires small { IsSmall plan.now.size }
     requires patch { HasPatch plan.now.mode }
-    ensures { Lays plan.now sample.now result }
+    ensures { LaysGrowth plan.now sample.now result }
 {
     let mut work = begin(alloc, plan, sample)?;
     let mut more = true;
@@ -29,7 +29,12 @@ fn lay_all(alloc: Global, plan: &Plan, sample: &Volume) -> Result<Work, GrowErro
 }
 
 // Makes all rounds.
-fn refine_all(alloc: Global, plan: &Plan, sample: &Volume, work: &mut Work) -> Result<(), GrowError>
+fn refine_all(
+    alloc: Global,
+    plan: &GrowPlan,
+    sample: &Volume,
+    work: &mut Work,
+) -> Result<(), GrowError>
     requires work { IsWork plan.now sample.now work.old }
     requires full { IsFull work.old.canvas.map }
     requires side { 1 ≤ plan.now.side }
@@ -50,7 +55,7 @@ fn refine_all(alloc: Global, plan: &Plan, sample: &Volume, work: &mut Work) -> R
 /// Grows an output over a sample by the placements of a mode, each put in by a graph cut, and then refines
 /// it, with a record of each placement. Its draws are those of the seed, from number 0 on. The method is that
 /// of Kwatra et al., "Graphcut textures" (2003).
-pub fn grow_canvas(alloc: Global, plan: &Plan, sample: &Volume) -> Result<Grown, GrowError>
+pub fn grow_canvas(alloc: Global, plan: &GrowPlan, sample: &Volume) -> Result<Grown, GrowError>
     requires small { IsSmall plan.now.size }
     requires patch { HasPatch plan.now.mode }
     requires side { 1 ≤ plan.now.side }

@@ -18,4 +18,4 @@ mod steps;
 
 pub use grow::grow_canvas;
 pub use laws::{no_round_raises_the_total, rounds_follow_placements, there_is_one_grown_run};
-pub use plan::{GrowError, Grown, Plan};
+pub use plan::{GrowError, GrowPlan, Grown};

@@ -8,7 +8,7 @@ use std::alloc::AllocError;
 
 /// How an output is grown and refined.
 #[derive(Clone, Copy, Debug, Drop, PartialEq, Eq)]
-pub struct Plan {
+pub struct GrowPlan {
     /// The size of the output, in cells.
     pub size: Size,
     /// Which placements are made until the output is full.

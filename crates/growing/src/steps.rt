@@ -4,7 +4,7 @@ ghost use Rattle.cells.specs.Places.{IsSmall};
 ghost use Rattle.patch_place.specs.Fitting.{HasPatch};
 ghost use Rattle.growing.specs.Work.{Advances, IsRefining, IsWork, Refines};
 
-use crate::plan::{GrowError, Plan};
+use crate::plan::{GrowError, GrowPlan};
 use cells::Volume;
 use cut_check::CutRecord;
 use graph_place::place;
@@ -27,7 +27,7 @@ pub(crate) struct Work {
 }
 
 /// With no cell filled.
-pub(crate) fn begin(alloc: Global, plan: &Plan, sample: &Volume) -> Result<Work, AllocError>
+pub(crate) fn begin(alloc: Global, plan: &GrowPlan, sample: &Volume) -> Result<Work, AllocError>
     requires small { IsSmall plan.now.size }
     ensures { IfOk result (IsWork plan.now sample.now) }
 {
@@ -44,7 +44,7 @@ pub(crate) fn begin(alloc: Global, plan: &Plan, sample: &Volume) -> Result<Work,
 /// Makes the next placement of the mode; false where the canvas is full.
 pub(crate) fn step(
     alloc: Global,
-    plan: &Plan,
+    plan: &GrowPlan,
     sample: &Volume,
     work: &mut Work,
 ) -> Result<bool, GrowError>
@@ -71,7 +71,7 @@ pub(crate) fn step(
 /// Makes a round; false where no window costs anything.
 pub(crate) fn refine_step(
     alloc: Global,
-    plan: &Plan,
+    plan: &GrowPlan,
     sample: &Volume,
     work: &mut Work,
     table: &mut SeamTable,

@@ -21,7 +21,7 @@ use Rattle.job_words.specs.LoopWords.{IsLoopJob}
 use Rattle.samples.specs.declared.form.Form.TheVariants.{Clip}
 use Rattle.standing_files.specs.Standing.{FilesStand}
 use Rattle.standing_files.proofs.Runs.{loop_stands}
-use Rattle.check_command.specs.declared.reading.RunFiles.{RunFiles}
+use Rattle.check_command.specs.declared.reading.ReadFiles.{ReadFiles}
 use Rattle.check_command.specs.Checks.{Stand}
 use Rattle.loop_command.specs.declared.plan.LoopedClip.{LoopedClip}
 use Rattle.loop_command.specs.Loops.{IsLoopOf, frames_taken, loop_head, loop_size}
@@ -43,7 +43,7 @@ module _ (job : LoopJob) (lawful : IsLoopJob job) (before after : Files) (looped
   abbrev size : Size
   size = loop_size sample job.length
 
-  abbrev values : RunFiles
+  abbrev values : ReadFiles
   values = record {
     samples = samples job lawful before after looped is;
     out = record { form = Clip looped.clip.form; volume = frames_taken sample walk };

@@ -18,7 +18,7 @@ use Rattle.y4m_clip.specs.declared.form.SpaceKind.{SpaceKind}
 use Rattle.y4m_clip.specs.declared.form.SpaceKind.TheVariants.{Mono, C444, C422, C411, C420}
 use Rattle.y4m_clip.specs.Spaces.{joined_to}
 use Rattle.y4m_clip.specs.Clips.{span}
-use Rattle.y4m_clip.specs.Writing.{cell_in, clip_form, frame_form, line_form, plane_of, planes_of, row_samples, writer_of}
+use Rattle.y4m_clip.specs.Writing.{written_cell, clip_form, frame_form, line_form, plane_of, planes_of, row_samples, writer_of}
 use Rattle.y4m_clip.proofs.Laying.{same_joined}
 use Rattle.loop_command.specs.Loops.{frames_taken, loop_size}
 use Rattle.loop_command.specs.LoopOuts.{walked_clip}
@@ -100,11 +100,11 @@ module _ (sample : Cells) (is : IsVolume sample) (walk : List ℕ) (frames : All
     abbrev f : ℕ
     f = slice_index walk i
 
-    same_cell : (y x : ℕ) → y < sample.size.h → x < sample.size.w → cell_in taken i y x ≡ cell_in sample f y x
+    same_cell : (y x : ℕ) → y < sample.size.h → x < sample.size.w → written_cell taken i y x ≡ written_cell sample f y x
     same_cell y x ly lx = ap (λ o. unwrap_or o []) (taken_at x y i lx ly li)
 
     same_row : (y start many : ℕ) → y < sample.size.h → row_samples taken i y start many ≡ row_samples sample f y start many
-    same_row y start many ly = same_joined sample.size.w (λ x. span (cell_in taken i y x) start many) (λ x. span (cell_in sample f y x) start many) (λ x lx. ap (λ cell. span cell start many) (same_cell y x ly lx))
+    same_row y start many ly = same_joined sample.size.w (λ x. span (written_cell taken i y x) start many) (λ x. span (written_cell sample f y x) start many) (λ x lx. ap (λ cell. span cell start many) (same_cell y x ly lx))
 
     same_plane : (start many rows : ℕ) → plane_of taken i start many rows ≡ plane_of sample f start many rows
     same_plane start many rows =

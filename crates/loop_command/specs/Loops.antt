@@ -50,7 +50,8 @@ loop_size sample frames = record { w = sample.size.w; h = sample.size.h; f = fra
 -- the map in which each cell of frame i has its source in the frame that entry i names, in the same
 -- column and row
 abbrev pub map_of_frames : Size → List ℕ → SourceMap
-map_of_frames size frames = record { size = size; sources = map (frame_source frames) (places size) }
+map_of_frames size frames =
+    record { size = size; sources = map (frame_source frames) (places size) }
 
 -- the frames of a sample along a walk: the picture of that map
 abbrev pub frames_taken : Cells → List ℕ → Cells

@@ -4,8 +4,8 @@ use Rattle.std.specs.Prelude.{Some, None, option_and_then}
 use Rattle.std.specs.List.{AllByRecursion, concat}
 use Rattle.std.proofs.lemmas.List.Elements.{recursion_from_All}
 use Rattle.std.proofs.lemmas.Bool.Decides.{nat_tests}
-use Rattle.netpbm_p6.specs.declared.scan.Kind.{Kind}
-use Rattle.netpbm_p6.specs.declared.scan.Kind.TheVariants.{Blank, LineEnd, Hash, Digit, Other}
+use Rattle.netpbm_p6.specs.declared.scan.ByteKind.{ByteKind}
+use Rattle.netpbm_p6.specs.declared.scan.ByteKind.TheVariants.{Blank, LineEnd, Hash, Digit, Other}
 use Rattle.netpbm_p6.specs.declared.scan.Numbers.{Numbers}
 use Rattle.netpbm_p6.specs.declared.scan.Numbers.TheVariants.{Nothing, Width, Both}
 use Rattle.netpbm_p6.specs.declared.scan.Scan.{Scan}
@@ -40,7 +40,7 @@ in_comment numbers b not_return not_feed = by_kind (kind_of b) refl
     not_both (inl is) = not_return is
     not_both (inr is) = not_feed is
 
-    by_kind : (kind : Kind) → kind_of b ≡ kind → commented numbers kind ≡ Some (Comment numbers)
+    by_kind : (kind : ByteKind) → kind_of b ≡ kind → commented numbers kind ≡ Some (Comment numbers)
     by_kind Blank is = refl
     by_kind LineEnd is = absurd (not_both (line_end_bounds b is))
     by_kind Hash is = refl
@@ -59,7 +59,7 @@ opens_magic = record { blank = λ b. ap (opened Nothing); line_end = λ b. ap (o
 opens_between : (numbers : Numbers) → Opens (Between numbers) numbers
 opens_between numbers = record { blank = λ b. ap (separated numbers b); line_end = λ b. ap (separated numbers b); hash = λ b. ap (separated numbers b) }
 
-numbered_is : (numbers : Numbers) (n : ℕ) (kind : Kind) → 1 ≤ n → number_end numbers n kind ≡ ended numbers n kind
+numbered_is : (numbers : Numbers) (n : ℕ) (kind : ByteKind) → 1 ≤ n → number_end numbers n kind ≡ ended numbers n kind
 numbered_is numbers n kind some = ap (λ t. cond t None (ended numbers n kind)) (test_positive n some)
 
 opens_width : (n : ℕ) → 1 ≤ n → Opens (Digits Nothing n) (Width n)

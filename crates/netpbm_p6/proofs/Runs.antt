@@ -4,8 +4,8 @@ use Rattle.std.specs.Prelude.{Option, Some, None, option_and_then, option_map, �
 use Rattle.std.proofs.lemmas.List.{take_more}
 use Rattle.std.proofs.lemmas.Bool.{ne_eqb}
 use Rattle.std.proofs.lemmas.Bool.Decides.{nat_tests}
-use Rattle.netpbm_p6.specs.declared.scan.Kind.{Kind}
-use Rattle.netpbm_p6.specs.declared.scan.Kind.TheVariants.{Blank, LineEnd, Hash, Digit, Other}
+use Rattle.netpbm_p6.specs.declared.scan.ByteKind.{ByteKind}
+use Rattle.netpbm_p6.specs.declared.scan.ByteKind.TheVariants.{Blank, LineEnd, Hash, Digit, Other}
 use Rattle.netpbm_p6.specs.declared.scan.Numbers.{Numbers}
 use Rattle.netpbm_p6.specs.declared.scan.Numbers.TheVariants.{Nothing, Width, Both}
 use Rattle.netpbm_p6.specs.declared.scan.Scan.{Scan}
@@ -91,14 +91,14 @@ digit_bounds b is = grind (arith, nat_tests)
 pub test_positive : (n : ℕ) → 1 ≤ n → (n == 0) ≡ false
 test_positive n some = ne_eqb n 0 (λ e. absurd (omega arith))
 
-opened_capped : (numbers : Numbers) (kind : Kind) → opened (capped_numbers numbers) kind ≡ option_map capped_scan (opened numbers kind)
+opened_capped : (numbers : Numbers) (kind : ByteKind) → opened (capped_numbers numbers) kind ≡ option_map capped_scan (opened numbers kind)
 opened_capped numbers Blank = refl
 opened_capped numbers LineEnd = refl
 opened_capped numbers Hash = refl
 opened_capped numbers Digit = refl
 opened_capped numbers Other = refl
 
-separated_capped : (numbers : Numbers) (b : ℕ) (kind : Kind) → kind_of b ≡ kind → separated (capped_numbers numbers) b kind ≡ option_map capped_scan (separated numbers b kind)
+separated_capped : (numbers : Numbers) (b : ℕ) (kind : ByteKind) → kind_of b ≡ kind → separated (capped_numbers numbers) b kind ≡ option_map capped_scan (separated numbers b kind)
 separated_capped numbers b Blank is = refl
 separated_capped numbers b LineEnd is = refl
 separated_capped numbers b Hash is = refl
@@ -108,33 +108,33 @@ separated_capped numbers b Digit is =
     let small : b - 48 ≡ capped (b - 48) = omega (arith, bounds.0, bounds.1) in
     ap (λ n. Some (Digits (capped_numbers numbers) n)) small
 
-commented_capped : (numbers : Numbers) (kind : Kind) → commented (capped_numbers numbers) kind ≡ option_map capped_scan (commented numbers kind)
+commented_capped : (numbers : Numbers) (kind : ByteKind) → commented (capped_numbers numbers) kind ≡ option_map capped_scan (commented numbers kind)
 commented_capped numbers Blank = refl
 commented_capped numbers LineEnd = refl
 commented_capped numbers Hash = refl
 commented_capped numbers Digit = refl
 commented_capped numbers Other = refl
 
-completed_capped : (w h n : ℕ) (kind : Kind) → completed (capped w) (capped h) (capped n) kind ≡ option_map capped_scan (completed w h n kind)
+completed_capped : (w h n : ℕ) (kind : ByteKind) → completed (capped w) (capped h) (capped n) kind ≡ option_map capped_scan (completed w h n kind)
 completed_capped w h n Blank = refl
 completed_capped w h n LineEnd = refl
 completed_capped w h n Hash = refl
 completed_capped w h n Digit = refl
 completed_capped w h n Other = refl
 
-ended_capped : (numbers : Numbers) (n : ℕ) (kind : Kind) → ended (capped_numbers numbers) (capped n) kind ≡ option_map capped_scan (ended numbers n kind)
+ended_capped : (numbers : Numbers) (n : ℕ) (kind : ByteKind) → ended (capped_numbers numbers) (capped n) kind ≡ option_map capped_scan (ended numbers n kind)
 ended_capped Nothing n kind = opened_capped (Width n) kind
 ended_capped (Width w) n kind = opened_capped (Both w n) kind
 ended_capped (Both w h) n kind = completed_capped w h n kind
 
-numbered_capped : (numbers : Numbers) (n : ℕ) (kind : Kind) → number_end (capped_numbers numbers) (capped n) kind ≡ option_map capped_scan (number_end numbers n kind)
+numbered_capped : (numbers : Numbers) (n : ℕ) (kind : ByteKind) → number_end (capped_numbers numbers) (capped n) kind ≡ option_map capped_scan (number_end numbers n kind)
 numbered_capped numbers zero kind = refl
 numbered_capped numbers (suc n) kind =
     let some : 1 ≤ capped (suc n) = omega arith in
     ap (λ t. cond t None (ended (capped_numbers numbers) (capped (suc n)) kind)) (test_positive (capped (suc n)) some) ∙ ended_capped numbers (suc n) kind
     ∙ sym (ap (λ t. option_map capped_scan (cond t None (ended numbers (suc n) kind))) (test_positive (suc n) (omega arith)))
 
-counted_capped : (numbers : Numbers) (n b : ℕ) (kind : Kind) → after_digit capped (capped_numbers numbers) (capped n) b kind ≡ option_map capped_scan (after_digit exact numbers n b kind)
+counted_capped : (numbers : Numbers) (n b : ℕ) (kind : ByteKind) → after_digit capped (capped_numbers numbers) (capped n) b kind ≡ option_map capped_scan (after_digit exact numbers n b kind)
 counted_capped numbers n b Digit =
     let same : capped (10 * capped n + (b - 48)) ≡ capped (10 * n + (b - 48)) = omega arith in
     ap (λ m. Some (Digits (capped_numbers numbers) m)) same

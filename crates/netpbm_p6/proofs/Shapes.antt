@@ -7,8 +7,8 @@ use Rattle.std.proofs.lemmas.List.Elements.{All-from_recursion}
 use Rattle.std.proofs.lemmas.List.Folds.{concat-append}
 use Rattle.std.proofs.lemmas.Bool.{eqb-true, eqb-false}
 use Rattle.std.proofs.lemmas.Bool.Decides.{nat_tests}
-use Rattle.netpbm_p6.specs.declared.scan.Kind.{Kind}
-use Rattle.netpbm_p6.specs.declared.scan.Kind.TheVariants.{Blank, LineEnd, Hash, Digit, Other}
+use Rattle.netpbm_p6.specs.declared.scan.ByteKind.{ByteKind}
+use Rattle.netpbm_p6.specs.declared.scan.ByteKind.TheVariants.{Blank, LineEnd, Hash, Digit, Other}
 use Rattle.netpbm_p6.specs.declared.scan.Numbers.{Numbers}
 use Rattle.netpbm_p6.specs.declared.scan.Numbers.TheVariants.{Nothing, Width, Both}
 use Rattle.netpbm_p6.specs.declared.scan.Scan.{Scan}
@@ -123,7 +123,7 @@ line_end_white b is = ends (line_end_bounds b is)
 hash_is : (b : ℕ) → kind_of b ≡ Hash → b ≡ 35
 hash_is b is = grind (arith, nat_tests)
 
-not_line_end : (b : ℕ) (kind : Kind) → kind_of b ≡ kind → (kind ≡ LineEnd → ⊥) → (b ≢ 13) × (b ≢ 10)
+not_line_end : (b : ℕ) (kind : ByteKind) → kind_of b ≡ kind → (kind ≡ LineEnd → ⊥) → (b ≢ 13) × (b ≢ 10)
 not_line_end b kind is other = (λ e. other (sym is ∙ ap kind_of e), λ e. other (sym is ∙ ap kind_of e))
 
 pub white_item : (b : ℕ) → IsWhite b → IsItem (b ∷ [])
@@ -132,7 +132,7 @@ white_item b white = inl (b, white, refl)
 -- One byte more.
 
 -- behind a text with these groups
-opened_shape : (numbers : Numbers) (front : List ℕ) (b : ℕ) (kind : Kind) → kind_of b ≡ kind → HasGroups numbers front → IfSome (opened numbers kind) (λ next. HasShape next (front ++ b ∷ []))
+opened_shape : (numbers : Numbers) (front : List ℕ) (b : ℕ) (kind : ByteKind) → kind_of b ≡ kind → HasGroups numbers front → IfSome (opened numbers kind) (λ next. HasShape next (front ++ b ∷ []))
 opened_shape numbers front b Blank is groups = record { front = front; separator = b ∷ []; groups = groups; separates = one_item (b ∷ []) (white_item b (blank_white b is)); is = refl }
 opened_shape numbers front b LineEnd is groups = record { front = front; separator = b ∷ []; groups = groups; separates = one_item (b ∷ []) (white_item b (line_end_white b is)); is = refl }
 opened_shape numbers front b Hash is groups = record { front = front; items = []; words = []; groups = groups; each = tt; within = tt; is = ap (λ c. front ++ c ∷ []) (hash_is b is) }
@@ -148,7 +148,7 @@ more_white numbers text b white at = record {
   is = ap (λ t. t ++ b ∷ []) at.is ∙ append_assoc at.front at.separator (b ∷ []);
 }
 
-separated_shape : (numbers : Numbers) (text : List ℕ) (b : ℕ) (kind : Kind) → kind_of b ≡ kind → InSeparator numbers text → IfSome (separated numbers b kind) (λ next. HasShape next (text ++ b ∷ []))
+separated_shape : (numbers : Numbers) (text : List ℕ) (b : ℕ) (kind : ByteKind) → kind_of b ≡ kind → InSeparator numbers text → IfSome (separated numbers b kind) (λ next. HasShape next (text ++ b ∷ []))
 separated_shape numbers text b Blank is at = more_white numbers text b (blank_white b is) at
 separated_shape numbers text b LineEnd is at = more_white numbers text b (line_end_white b is) at
 separated_shape numbers text b Hash is at = record {
@@ -205,7 +205,7 @@ comment_ended numbers text b ends at = record {
   is = ap (λ t. t ++ b ∷ []) at.is ∙ comment_push at.front at.items at.words b;
 }
 
-commented_shape : (numbers : Numbers) (text : List ℕ) (b : ℕ) (kind : Kind) → kind_of b ≡ kind → InComment numbers text → IfSome (commented numbers kind) (λ next. HasShape next (text ++ b ∷ []))
+commented_shape : (numbers : Numbers) (text : List ℕ) (b : ℕ) (kind : ByteKind) → kind_of b ≡ kind → InComment numbers text → IfSome (commented numbers kind) (λ next. HasShape next (text ++ b ∷ []))
 commented_shape numbers text b LineEnd is at = comment_ended numbers text b (line_end_bounds b is) at
 commented_shape numbers text b Blank is at = more_words numbers text b (not_line_end b Blank is (λ e. cc)) at
 commented_shape numbers text b Hash is at = more_words numbers text b (not_line_end b Hash is (λ e. cc)) at
@@ -222,7 +222,7 @@ last_group numbers n text positive at = record {
   is = refl;
 }
 
-ended_shape : (numbers : Numbers) (n : ℕ) (text : List ℕ) (b : ℕ) (kind : Kind) → kind_of b ≡ kind → 1 ≤ n → InNumber numbers n text → IfSome (ended numbers n kind) (λ next. HasShape next (text ++ b ∷ []))
+ended_shape : (numbers : Numbers) (n : ℕ) (text : List ℕ) (b : ℕ) (kind : ByteKind) → kind_of b ≡ kind → 1 ≤ n → InNumber numbers n text → IfSome (ended numbers n kind) (λ next. HasShape next (text ++ b ∷ []))
 ended_shape Nothing n text b kind is positive at =
     opened_shape (Width n) text b kind is (record {
       first = at.separator ++ at.digits;
@@ -252,21 +252,21 @@ ended_shape (Both w h) n text b kind is positive at = completed_shape kind is
       is = ap (λ t. t ++ b ∷ []) (at.is ∙ ap (λ front. front ++ (at.separator ++ at.digits)) at.groups.is);
     }
 
-    completed_shape : (kind' : Kind) → kind_of b ≡ kind' → IfSome (completed w h n kind') (λ next. HasShape next (text ++ b ∷ []))
+    completed_shape : (kind' : ByteKind) → kind_of b ≡ kind' → IfSome (completed w h n kind') (λ next. HasShape next (text ++ b ∷ []))
     completed_shape Blank is' = whole (blank_white b is')
     completed_shape LineEnd is' = whole (line_end_white b is')
     completed_shape Hash is' = tt
     completed_shape Digit is' = tt
     completed_shape Other is' = tt
 
-numbered_shape : (numbers : Numbers) (n : ℕ) (text : List ℕ) (b : ℕ) (kind : Kind) → kind_of b ≡ kind → InNumber numbers n text → IfSome (number_end numbers n kind) (λ next. HasShape next (text ++ b ∷ []))
+numbered_shape : (numbers : Numbers) (n : ℕ) (text : List ℕ) (b : ℕ) (kind : ByteKind) → kind_of b ≡ kind → InNumber numbers n text → IfSome (number_end numbers n kind) (λ next. HasShape next (text ++ b ∷ []))
 numbered_shape numbers n text b kind is at = tested (n == 0) refl
   where
     tested : (t : Bool) → (n == 0) ≡ t → IfSome (cond t None (ended numbers n kind)) (λ next. HasShape next (text ++ b ∷ []))
     tested true e = tt
     tested false e = let positive : 1 ≤ n = omega (arith, eqb-false n 0 e) in ended_shape numbers n text b kind is positive at
 
-counted_shape : (numbers : Numbers) (n : ℕ) (text : List ℕ) (b : ℕ) (kind : Kind) → kind_of b ≡ kind → InNumber numbers n text → IfSome (after_digit exact numbers n b kind) (λ next. HasShape next (text ++ b ∷ []))
+counted_shape : (numbers : Numbers) (n : ℕ) (text : List ℕ) (b : ℕ) (kind : ByteKind) → kind_of b ≡ kind → InNumber numbers n text → IfSome (after_digit exact numbers n b kind) (λ next. HasShape next (text ++ b ∷ []))
 counted_shape numbers n text b Digit is at = record {
   front = at.front;
   separator = at.separator;

@@ -2,8 +2,8 @@
 -- (Own. The grammar that it keeps to stands in Header.antt, and the public promise speaks of the
 -- grammar alone.)
 use Rattle.std.specs.Prelude.{◌≡◌, ◌≤◌, ◌<◌, ◌+◌, ◌*◌, ◌-◌, ℕ, ◌==◌, nat_le, ◌||◌, ◌&&◌, if◌then◌else◌, List, [], ◌∷◌, length, take, Option, Some, None, option_and_then}
-use Rattle.netpbm_p6.specs.declared.scan.Kind.{Kind}
-use Rattle.netpbm_p6.specs.declared.scan.Kind.TheVariants.{Blank, LineEnd, Hash, Digit, Other}
+use Rattle.netpbm_p6.specs.declared.scan.ByteKind.{ByteKind}
+use Rattle.netpbm_p6.specs.declared.scan.ByteKind.TheVariants.{Blank, LineEnd, Hash, Digit, Other}
 use Rattle.netpbm_p6.specs.declared.scan.Numbers.{Numbers}
 use Rattle.netpbm_p6.specs.declared.scan.Numbers.TheVariants.{Nothing, Width, Both}
 use Rattle.netpbm_p6.specs.declared.scan.Scan.{Scan}
@@ -13,7 +13,7 @@ use Rattle.netpbm_p6.specs.declared.scan.Scanned.{Scanned}
 use Rattle.netpbm_p6.specs.declared.scan.Scanned.TheVariants.{Open, Broken, Ended}
 use Rattle.netpbm_p6.specs.Pictures.{capped}
 
-abbrev pub kind_of : ℕ → Kind
+abbrev pub kind_of : ℕ → ByteKind
 kind_of b =
     if b == 32 || b == 9 then Blank
     else if b == 13 || b == 10 then LineEnd
@@ -22,7 +22,7 @@ kind_of b =
     else Other
 
 -- a byte that may begin a separator
-abbrev pub opened : Numbers → Kind → Option Scan
+abbrev pub opened : Numbers → ByteKind → Option Scan
 opened numbers Blank = Some (Between numbers)
 opened numbers LineEnd = Some (Between numbers)
 opened numbers Hash = Some (Comment numbers)
@@ -30,7 +30,7 @@ opened numbers Digit = None
 opened numbers Other = None
 
 -- a byte behind an item of a separator
-abbrev pub separated : Numbers → ℕ → Kind → Option Scan
+abbrev pub separated : Numbers → ℕ → ByteKind → Option Scan
 separated numbers b Digit = Some (Digits numbers (b - 48))
 separated numbers b Blank = Some (Between numbers)
 separated numbers b LineEnd = Some (Between numbers)
@@ -38,7 +38,7 @@ separated numbers b Hash = Some (Comment numbers)
 separated numbers b Other = None
 
 -- a byte in a comment
-abbrev pub commented : Numbers → Kind → Option Scan
+abbrev pub commented : Numbers → ByteKind → Option Scan
 commented numbers LineEnd = Some (Between numbers)
 commented numbers Blank = Some (Comment numbers)
 commented numbers Hash = Some (Comment numbers)
@@ -46,7 +46,7 @@ commented numbers Digit = Some (Comment numbers)
 commented numbers Other = Some (Comment numbers)
 
 -- a byte that ends the header
-abbrev pub completed : ℕ → ℕ → ℕ → Kind → Option Scan
+abbrev pub completed : ℕ → ℕ → ℕ → ByteKind → Option Scan
 completed width height n Blank = Some (Whole width height n)
 completed width height n LineEnd = Some (Whole width height n)
 completed width height n Hash = None
@@ -54,16 +54,16 @@ completed width height n Digit = None
 completed width height n Other = None
 
 -- a byte behind a number of at least 1
-abbrev pub ended : Numbers → ℕ → Kind → Option Scan
+abbrev pub ended : Numbers → ℕ → ByteKind → Option Scan
 ended Nothing n kind = opened (Width n) kind
 ended (Width width) n kind = opened (Both width n) kind
 ended (Both width height) n kind = completed width height n kind
 
-abbrev pub number_end : Numbers → ℕ → Kind → Option Scan
+abbrev pub number_end : Numbers → ℕ → ByteKind → Option Scan
 number_end numbers n kind = if n == 0 then None else ended numbers n kind
 
 -- a byte behind a digit; a number is kept by `keep`
-abbrev pub after_digit : (ℕ → ℕ) → Numbers → ℕ → ℕ → Kind → Option Scan
+abbrev pub after_digit : (ℕ → ℕ) → Numbers → ℕ → ℕ → ByteKind → Option Scan
 after_digit keep numbers n b Digit = Some (Digits numbers (keep (10 * n + (b - 48))))
 after_digit keep numbers n b Blank = number_end numbers n Blank
 after_digit keep numbers n b LineEnd = number_end numbers n LineEnd

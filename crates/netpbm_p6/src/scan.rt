@@ -5,7 +5,7 @@ ghost use Rattle.netpbm_p6.specs.Scanning.{kind_of, opened, separated, commented
 
 /// What a byte is in a header.
 #[derive(Clone, Copy)]
-pub enum Kind {
+pub enum ByteKind {
     /// A blank or a TAB.
     Blank,
     /// CR or LF.
@@ -65,61 +65,61 @@ pub enum Scanned {
     Ended(Header),
 }
 
-fn classify(byte: u8) -> Kind
+fn classify(byte: u8) -> ByteKind
     ensures { result ≡ kind_of byte }
 {
     match byte {
-        b' ' | b'\t' => Kind::Blank,
-        b'\r' | b'\n' => Kind::LineEnd,
-        b'#' => Kind::Hash,
-        b'0'..=b'9' => Kind::Digit,
-        _ => Kind::Other,
+        b' ' | b'\t' => ByteKind::Blank,
+        b'\r' | b'\n' => ByteKind::LineEnd,
+        b'#' => ByteKind::Hash,
+        b'0'..=b'9' => ByteKind::Digit,
+        _ => ByteKind::Other,
     }
 }
 
 // A byte that may begin a separator.
-fn open(numbers: Numbers, kind: Kind) -> Option<Scan>
+fn open(numbers: Numbers, kind: ByteKind) -> Option<Scan>
     ensures { result ≡ opened numbers kind }
 {
     match kind {
-        Kind::Blank | Kind::LineEnd => Some(Scan::Between(numbers)),
-        Kind::Hash => Some(Scan::Comment(numbers)),
-        Kind::Digit | Kind::Other => None,
+        ByteKind::Blank | ByteKind::LineEnd => Some(Scan::Between(numbers)),
+        ByteKind::Hash => Some(Scan::Comment(numbers)),
+        ByteKind::Digit | ByteKind::Other => None,
     }
 }
 
 // A byte behind an item of a separator.
-fn separate(numbers: Numbers, byte: u8, kind: Kind) -> Option<Scan>
+fn separate(numbers: Numbers, byte: u8, kind: ByteKind) -> Option<Scan>
     ensures { result ≡ separated numbers byte kind }
 {
     match kind {
-        Kind::Digit => Some(Scan::Digits(numbers, u64::from(byte.saturating_sub(b'0')))),
+        ByteKind::Digit => Some(Scan::Digits(numbers, u64::from(byte.saturating_sub(b'0')))),
         _ => open(numbers, kind),
     }
 }
 
 // A byte in a comment.
-fn comment(numbers: Numbers, kind: Kind) -> Scan
+fn comment(numbers: Numbers, kind: ByteKind) -> Scan
     ensures { Some result ≡ commented numbers kind }
 {
     match kind {
-        Kind::LineEnd => Scan::Between(numbers),
+        ByteKind::LineEnd => Scan::Between(numbers),
         _ => Scan::Comment(numbers),
     }
 }
 
 // A byte that is to end the header.
-fn complete(width: u64, height: u64, maxval: u64, kind: Kind) -> Option<Scan>
+fn complete(width: u64, height: u64, maxval: u64, kind: ByteKind) -> Option<Scan>
     ensures { result ≡ completed width height maxval kind }
 {
     match kind {
-        Kind::Blank | Kind::LineEnd => Some(Scan::Whole(width, height, maxval)),
+        ByteKind::Blank | ByteKind::LineEnd => Some(Scan::Whole(width, height, maxval)),
         _ => None,
     }
 }
 
 // A byte behind a number of at least 1.
-fn end(numbers: Numbers, number: u64, kind: Kind) -> Option<Scan>
+fn end(numbers: Numbers, number: u64, kind: ByteKind) -> Option<Scan>
     ensures { result ≡ ended numbers number kind }
 {
     match numbers {
@@ -130,11 +130,11 @@ fn end(numbers: Numbers, number: u64, kind: Kind) -> Option<Scan>
 }
 
 // A byte behind a digit.
-fn count(numbers: Numbers, number: u64, byte: u8, kind: Kind) -> Option<Scan>
+fn count(numbers: Numbers, number: u64, byte: u8, kind: ByteKind) -> Option<Scan>
     ensures { result ≡ after_digit capped numbers number byte kind }
 {
     match kind {
-        Kind::Digit => {
+        ByteKind::Digit => {
             let digit = u64::from(byte.saturating_sub(b'0'));
             Some(Scan::Digits(numbers, number.saturating_mul(10).saturating_add(digit)))
         }

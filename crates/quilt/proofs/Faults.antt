@@ -12,7 +12,7 @@ use Rattle.strip_boundary.specs.Strips.{ErrorTable}
 use Rattle.block_strips.specs.declared.side.Side.{Side}
 use Rattle.block_strips.specs.declared.side.Side.TheVariants.{Left, Top}
 use Rattle.quilt.specs.Blocks.{strip_on}
-use Rattle.quilt.specs.Records.{IsJoinFault, JoinStands, StandingBreaksNone}
+use Rattle.quilt.specs.Records.{IsJoinFault, JoinStands, StandingBlockBreaksNone}
 
 column_holds : (strip : ErrorTable) (path : List ℕ) (row : ℕ) → IsBoundary strip path → row < strip.rows → ColumnHolds strip path row
 column_holds strip path row is lt = record {
@@ -37,7 +37,7 @@ pub no_join_fault : (side : Side) (m : SourceMap) (sample : Cells) (placement : 
 no_join_fault side m sample placement None fault stands broken = broken
 no_join_fault side m sample placement (Some it) fault stands broken = no_boundary_fault (strip_on side m sample placement (Some it)) it fault stands broken
 
-pub standing_breaks_none : StandingBreaksNone
+pub standing_breaks_none : StandingBlockBreaksNone
 standing_breaks_none m sample block fault stands (inl fit) = fit.outside stands.right.fits
 standing_breaks_none m sample block fault stands (inr (inl overlap)) = overlap.place.here (stands.right.overlaps fault.place overlap.place.below)
 standing_breaks_none m sample block fault stands (inr (inr (inl left))) = no_join_fault Left m sample block.placement block.left fault stands.left left.broken

@@ -18,7 +18,7 @@ use Rattle.strip_boundary.specs.declared.boundary.BoundaryRecord.{BoundaryRecord
 use Rattle.block_strips.specs.declared.side.Side.{Side}
 use Rattle.block_strips.specs.declared.side.Side.TheVariants.{Left, Top}
 use Rattle.quilt.specs.declared.block.BlockRecord.{BlockRecord}
-use Rattle.quilt.specs.Blocks.{FillsBlock, IsInStrip, after_block, is_new, is_new_at, lets_new, new_cells, side_lets_new, strip_cols}
+use Rattle.quilt.specs.Blocks.{FillsBlock, IsInStrip, after_block, block_lets_new, is_new_at, lets_new, new_cells, side_lets_new, strip_cols}
 use Rattle.quilt.specs.Records.{JoinStands, OverlapsRight}
 use Rattle.quilt.specs.Steps.{HasRowsOn}
 
@@ -36,7 +36,7 @@ in_strip cols (Some it) row col old = by (nat_le cols col) refl old
     by true t e = cc
     by false t e = leb-false cols col t
 
-pub old_in_strip : (block : BlockRecord) (x y : ℕ) → is_new block x y ≡ false → IsInStrip block x y
+pub old_in_strip : (block : BlockRecord) (x y : ℕ) → block_lets_new block x y ≡ false → IsInStrip block x y
 old_in_strip block x y old = by (side_lets_new Left block x y) refl old
   where
     by : (b : Bool) → side_lets_new Left block x y ≡ b → (b && side_lets_new Top block x y) ≡ false → IsInStrip block x y

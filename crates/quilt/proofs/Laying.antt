@@ -19,7 +19,7 @@ use Rattle.block_strips.specs.Blocks.{FitsBlock, shared_cols}
 use Rattle.block_strips.specs.Laid.{SharesStrips}
 use Rattle.block_strips.specs.Strips.{most_cols, strip_of, strip_rows}
 use Rattle.quilt.specs.declared.block.BlockRecord.{BlockRecord}
-use Rattle.quilt.specs.Blocks.{HasColumnsOn, IsFormed, cols_on, strip_cols}
+use Rattle.quilt.specs.Blocks.{HasColumnsOn, IsFormedBlock, cols_on, strip_cols}
 use Rattle.quilt.specs.Records.{BlockStands, JoinStands, OverlapsAt}
 use Rattle.quilt.specs.Runs.{IsLaidBlock, JoinsBy, plan_strip}
 use Rattle.quilt.proofs.Columns.{cols_are, rows_some}
@@ -78,7 +78,7 @@ module _ (plan : QuiltPlan) (m : SourceMap) (sample : Cells) (block : BlockRecor
     top = join_stands Top m sample block.placement _ has.fits.some block.top has.top;
   }
 
-  pub laid_formed : IsFormed block
+  pub laid_formed : IsFormedBlock block
   laid_formed = record {
     w = has.fits.some.w;
     h = has.fits.some.h;
@@ -99,7 +99,7 @@ laid_joins plan m sample placement block fits box shares laid =
 
 -- so the record that is laid there, if there is one, has its columns and stands
 module _ (plan : QuiltPlan) (m : SourceMap) (sample : Cells) (placement : Placement) (fits : Fits m.size sample placement) (box : FitsBlock m.size sample.size placement.rect) (shares : SharesStrips plan sample m placement.rect) where
-  pub answer_formed : (answer : Result BlockRecord AllocError) → IfOk answer (IsLaidBlock plan m sample placement) → IfOk answer IsFormed
+  pub answer_formed : (answer : Result BlockRecord AllocError) → IfOk answer (IsLaidBlock plan m sample placement) → IfOk answer IsFormedBlock
   answer_formed (Ok block) laid = laid_formed plan m sample block (laid_joins plan m sample placement block fits box shares laid)
   answer_formed (Err error) laid = tt
 

@@ -6,12 +6,12 @@ use Rattle.cells.specs.Places.{IsSmall}
 use Rattle.map_canvas.specs.Maps.{IsMap, SourceMap}
 use Rattle.map_canvas.proofs.Marks.{empty_is_canvas}
 use Rattle.block_strips.specs.declared.plan.QuiltPlan.{QuiltPlan}
-use Rattle.block_strips.specs.Laid.{IsLaid}
+use Rattle.block_strips.specs.Laid.{IsLaidByBlocks}
 use Rattle.block_strips.proofs.Laying.{empty_is_laid, next_fits, shares_strips, stays_laid}
 use Rattle.quilt.specs.declared.block.BlockRecord.{BlockRecord}
 use Rattle.quilt.specs.Blocks.{after_block, new_cells}
 use Rattle.quilt.specs.Records.{BlockStands}
-use Rattle.quilt.specs.Runs.{EachStandingIsLeast, QuiltsBy, QuiltsReplay, QuiltsTo, Quilting, Replays}
+use Rattle.quilt.specs.Runs.{EachStandingIsLeast, QuiltsBy, QuiltsReplay, QuiltsTo, Quilting, BlocksReplay}
 use Rattle.quilt.proofs.Filling.{fills_block}
 use Rattle.quilt.proofs.Laying.{HasJoins, laid_stands}
 use Rattle.map_canvas.proofs.MapsAfter.{after_is_map}
@@ -25,10 +25,10 @@ each_least sample m (block ∷ blocks) stand = (standing_is_least m sample block
 pub record StepLeaves (plan : QuiltPlan) (sample : Cells) (m : SourceMap) (block : BlockRecord) : Type 0 where
   pub stands : BlockStands m sample block
   pub map : IsMap (after_block m block)
-  pub laid : IsLaid plan sample (after_block m block)
+  pub laid : IsLaidByBlocks plan sample (after_block m block)
 
 module _ (plan : QuiltPlan) (sample : Cells) (volume : IsVolume sample) (some : 1 ≤ plan.block) where
-  step_leaves : (before after : Quilting) (block : BlockRecord) → IsMap before.map → before.map.size.f ≡ 1 → IsLaid plan sample before.map → QuiltsBy plan sample before block after → StepLeaves plan sample before.map block
+  step_leaves : (before after : Quilting) (block : BlockRecord) → IsMap before.map → before.map.size.f ≡ 1 → IsLaidByBlocks plan sample before.map → QuiltsBy plan sample before block after → StepLeaves plan sample before.map block
   step_leaves before after block is one laid step =
       let m = before.map in
       let rect = block.placement.rect in
@@ -49,17 +49,17 @@ module _ (plan : QuiltPlan) (sample : Cells) (volume : IsVolume sample) (some : 
         laid = stays_laid plan m sample rect is axes some one step.next laid (after_block m block) refl (λ p inside. fills_block m sample block is stands.right p);
       }
 
-  run_replays : (before after : Quilting) (blocks : List BlockRecord) → IsMap before.map → before.map.size.f ≡ 1 → IsLaid plan sample before.map → QuiltsTo plan sample before blocks after → Replays plan sample before.map blocks after.map
+  run_replays : (before after : Quilting) (blocks : List BlockRecord) → IsMap before.map → before.map.size.f ≡ 1 → IsLaidByBlocks plan sample before.map → QuiltsTo plan sample before blocks after → BlocksReplay plan sample before.map blocks after.map
   run_replays before after [] is one laid end =
       let same : before.map ≡ after.map = ap (λ (q : Quilting). q.map) (sym end) in
-      record { left = same; stand = tt; least = tt; laid = subst (IsLaid plan sample) same laid }
+      record { left = same; stand = tt; least = tt; laid = subst (IsLaidByBlocks plan sample) same laid }
   run_replays before after (block ∷ blocks) is one laid run =
       let next = run.0 in
       let step = run.1.0 in
       let leaves = step_leaves before next block is one laid step in
-      let rest : Replays plan sample next.map blocks after.map = run_replays next after blocks
-      (subst IsMap (sym step.map) leaves.map) (ap (λ (m : SourceMap). m.size.f) step.map ∙ one) (subst (IsLaid plan sample) (sym step.map) leaves.laid) run.1.1 in
-      let here : Replays plan sample (after_block before.map block) blocks after.map = subst (λ (m : SourceMap). Replays plan sample m blocks after.map) step.map rest in
+      let rest : BlocksReplay plan sample next.map blocks after.map = run_replays next after blocks
+      (subst IsMap (sym step.map) leaves.map) (ap (λ (m : SourceMap). m.size.f) step.map ∙ one) (subst (IsLaidByBlocks plan sample) (sym step.map) leaves.laid) run.1.1 in
+      let here : BlocksReplay plan sample (after_block before.map block) blocks after.map = subst (λ (m : SourceMap). BlocksReplay plan sample m blocks after.map) step.map rest in
       record {
         left = here.left;
         stand = (leaves.stands, here.stand);

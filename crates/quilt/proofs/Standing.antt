@@ -10,13 +10,13 @@ use Rattle.block_strips.specs.declared.side.Side.TheVariants.{Left, Top}
 use Rattle.quilt.specs.declared.block.BlockRecord.{BlockRecord}
 use Rattle.quilt.specs.declared.check.BlockError.{BlockError}
 use Rattle.quilt.specs.Blocks.{strip_on}
-use Rattle.quilt.specs.Records.{BlockIsLeast, Checks, JoinIsLeast, JoinStands, StandingIsLeast}
+use Rattle.quilt.specs.Records.{BlockIsLeast, Checks, JoinIsLeast, JoinStands, StandingBlockIsLeast}
 
 pub join_least : (side : Side) (m : SourceMap) (sample : Cells) (placement : Placement) (boundary : Option BoundaryRecord) → JoinStands side m sample placement boundary → JoinIsLeast side m sample placement boundary
 join_least side m sample placement None stands = tt
 join_least side m sample placement (Some it) stands = least_path (strip_on side m sample placement (Some it)) it.sums it.path stands.path stands.sums stands.cost
 
-pub standing_is_least : StandingIsLeast
+pub standing_is_least : StandingBlockIsLeast
 standing_is_least m sample block stands = record {
   left = join_least Left m sample block.placement block.left stands.left;
   top = join_least Top m sample block.placement block.top stands.top;

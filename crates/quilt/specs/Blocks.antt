@@ -1,7 +1,7 @@
 -- A reader has to trust this file. What the record of a block says of its cells. (Efros and Freeman
 -- 2001 cut along a boundary through each strip; that a cell of two strips is new where both
 -- boundaries call it so is own.)
-use Rattle.std.specs.Prelude.{◌≡◌, ◌≤◌, ◌<◌, ◌*◌, ◌/◌, ◌%◌, ◌⊎◌, ◌↔◌, ◌&&◌, ◌||◌, ℕ, nat_le, Bool, true, List, length, map, slice_index, Option, Some, None, IfSome, pos}
+use Rattle.std.specs.Prelude.{◌≡◌, ◌≤◌, ◌<◌, ◌+◌, ◌*◌, ◌/◌, ◌%◌, ◌⊎◌, ◌↔◌, ◌&&◌, ◌||◌, ℕ, nat_le, Bool, true, List, [], ◌∷◌, length, map, slice_index, Option, Some, None, IfSome, pos}
 use Rattle.std.specs.List.{range_with_len}
 use Rattle.cells.specs.declared.place.At.{At}
 use Rattle.cells.specs.Boxes.{IsInBox}
@@ -49,12 +49,12 @@ side_lets_new side block x y =
     lets_new (strip_cols side block) (boundary_on side block) (row_on side x y) (col_on side x y)
 
 -- a cell of the block is new where each strip that has it calls it new
-abbrev pub is_new : BlockRecord → ℕ → ℕ → Bool
-is_new block x y = side_lets_new Left block x y && side_lets_new Top block x y
+abbrev pub block_lets_new : BlockRecord → ℕ → ℕ → Bool
+block_lets_new block x y = side_lets_new Left block x y && side_lets_new Top block x y
 
 -- the same of the cell at an index in raster order
 abbrev pub is_new_at : BlockRecord → ℕ → Bool
-is_new_at block i = is_new block
+is_new_at block i = block_lets_new block
     (i % block.placement.rect.size.w)
     (i / block.placement.rect.size.w % block.placement.rect.size.h)
 
@@ -89,10 +89,15 @@ HasColumnsOn side placement boundary = IfSome boundary (HasColumns
     (strip_rows side placement.rect.size) (most_cols side placement.rect.size))
 
 -- the block has a cell and lies in frame 0, and so have its boundaries
-pub record IsFormed (block : BlockRecord) : Type 0 where
+pub record IsFormedBlock (block : BlockRecord) : Type 0 where
   pub w : 1 ≤ block.placement.rect.size.w
   pub h : 1 ≤ block.placement.rect.size.h
   pub first_frame : block.placement.rect.corner.f ≡ pos 0
   pub one_frame : block.placement.rect.size.f ≡ 1
   pub left : HasColumnsOn Left block.placement block.left
   pub top : HasColumnsOn Top block.placement block.top
+
+-- how many cells the boxes of blocks have, all together
+abbrev pub block_cells : List BlockRecord → ℕ
+block_cells [] = 0
+block_cells (block ∷ blocks) = cell_count block.placement.rect.size + block_cells blocks

@@ -72,7 +72,7 @@ pub record BlockIsLeast (m : SourceMap) (sample : Cells) (block : BlockRecord) :
   pub top : JoinIsLeast Top m sample block.placement block.top
 
 -- rule 7: the placement doesn't fit
-pub record BreaksFit (m : SourceMap) (sample : Cells) (block : BlockRecord)
+pub record BlockBreaksFit (m : SourceMap) (sample : Cells) (block : BlockRecord)
     (fault : BlockFault) : Type 0 where
   pub kind : fault.kind ≡ FIT_RULE
   pub place : fault.place ≡ 0
@@ -100,7 +100,7 @@ pub record BreaksTop (m : SourceMap) (sample : Cells) (block : BlockRecord)
 -- the first broken rule, and the first place where it is broken
 abbrev pub IsFirstBlockFault : SourceMap → Cells → BlockRecord → BlockFault → Type 0
 IsFirstBlockFault m sample block fault =
-    BreaksFit m sample block fault ⊎ (BreaksOverlap m sample block fault
+    BlockBreaksFit m sample block fault ⊎ (BreaksOverlap m sample block fault
     ⊎ (BreaksLeft m sample block fault ⊎ BreaksTop m sample block fault))
 
 -- what a check answers; want of memory has no cause
@@ -121,13 +121,13 @@ ChecksJoin side m sample placement boundary (Err NoMemory) = Unit {0}
 -- Laws.
 
 -- a record that stands has least boundaries
-abbrev pub StandingIsLeast : Type 0
-StandingIsLeast =
+abbrev pub StandingBlockIsLeast : Type 0
+StandingBlockIsLeast =
     (m : SourceMap) (sample : Cells) (block : BlockRecord) → BlockStands m sample block
     → BlockIsLeast m sample block
 
 -- and breaks no rule
-abbrev pub StandingBreaksNone : Type 0
-StandingBreaksNone =
+abbrev pub StandingBlockBreaksNone : Type 0
+StandingBlockBreaksNone =
     (m : SourceMap) (sample : Cells) (block : BlockRecord) (fault : BlockFault)
     → BlockStands m sample block → IsFirstBlockFault m sample block fault → ⊥

@@ -22,7 +22,7 @@ use Rattle.block_strips.specs.declared.plan.QuiltPlan.{QuiltPlan}
 use Rattle.block_strips.specs.declared.side.Side.{Side}
 use Rattle.block_strips.specs.declared.side.Side.TheVariants.{Left, Top}
 use Rattle.block_strips.specs.Blocks.{next_box, shared_cols}
-use Rattle.block_strips.specs.Laid.{IsLaid}
+use Rattle.block_strips.specs.Laid.{IsLaidByBlocks}
 use Rattle.block_strips.specs.Strips.{strip_of}
 use Rattle.quilt.specs.declared.block.BlockRecord.{BlockRecord}
 use Rattle.quilt.specs.Blocks.{after_block}
@@ -30,7 +30,7 @@ use Rattle.quilt.specs.Records.{BlockIsLeast, BlockStands}
 
 -- a canvas and a sample of one frame, with cells of three samples, where the canvas stands over the
 -- sample
-pub record ArePictures (canvas : CanvasState) (sample : Cells) : Type 0 where
+pub record HaveOneFrame (canvas : CanvasState) (sample : Cells) : Type 0 where
   pub over : StandsOver canvas sample
   pub samples : sample.k ≡ 3
   pub part : IsOnePart sample
@@ -130,18 +130,18 @@ EachBlockIsLeast sample = EachBlockOver (λ m block. BlockIsLeast m sample block
 
 -- what a run of steps leaves is what its records leave, each of which stands and has least
 -- boundaries
-pub record Replays (plan : QuiltPlan) (sample : Cells) (before : SourceMap)
+pub record BlocksReplay (plan : QuiltPlan) (sample : Cells) (before : SourceMap)
     (blocks : List BlockRecord) (after : SourceMap) : Type 0 where
   pub left : left_by_blocks before blocks ≡ after
   pub stand : EachBlockStands sample before blocks
   pub least : EachBlockIsLeast sample before blocks
-  pub laid : IsLaid plan sample after
+  pub laid : IsLaidByBlocks plan sample after
 
 abbrev pub QuiltsReplay : QuiltPlan → Cells → Size → Type 0
 QuiltsReplay plan sample size =
     (seed : ℕ) (blocks : List BlockRecord) (after : Quilting)
     → QuiltsTo plan sample (first_quilting size seed) blocks after
-    → Replays plan sample (empty_map size) blocks after.map
+    → BlocksReplay plan sample (empty_map size) blocks after.map
 
 -- where each record stands, each boundary is least
 abbrev pub EachStandingIsLeast : Type 0

@@ -4,7 +4,7 @@ ghost use Rattle.cells.specs.Boxes.{HasCells};
 ghost use Rattle.cells.specs.Places.{IsSmall, cell_count};
 ghost use Rattle.map_canvas.specs.Canvases.{StandsOver};
 ghost use Rattle.map_canvas.specs.Choices.{Fits, box_cell};
-ghost use Rattle.quilt.specs.Blocks.{HasColumnsOn, IsFormed, cols_on};
+ghost use Rattle.quilt.specs.Blocks.{HasColumnsOn, IsFormedBlock, cols_on};
 ghost use Rattle.quilt.specs.Records.{BlockIsLeast, Checks, ChecksJoin, OverlapsRight};
 ghost use Rattle.quilt.specs.Steps.{AreColumnsOn, ChecksStrip, FirstWithout, IsSharedAt};
 
@@ -171,7 +171,7 @@ fn check_joins(
     requires over { StandsOver canvas.now sample.now }
     requires samples { sample.now.k ≡ 3 }
     requires right { OverlapsRight canvas.now.map sample.now block.now }
-    requires formed { IsFormed block.now }
+    requires formed { IsFormedBlock block.now }
     ensures { Checks canvas.now.map sample.now block.now result }
 {
     let placement = &block.placement;
@@ -192,7 +192,7 @@ pub fn check_block(
 ) -> Result<(), BlockError>
     requires over { StandsOver canvas.now sample.now }
     requires samples { sample.now.k ≡ 3 }
-    requires formed { IsFormed block.now }
+    requires formed { IsFormedBlock block.now }
     ensures checks { Checks canvas.now.map sample.now block.now result }
     ensures least { OnOk result (BlockIsLeast canvas.now.map sample.now block.now) }
 {

@@ -3,7 +3,7 @@ ghost use Rattle.std.specs.Prelude.{◌≡◌, IfOk, OnErr, OnOk};
 ghost use Rattle.cells.specs.Places.{IsSmall};
 ghost use Rattle.map_canvas.specs.Canvases.{IsCanvas, StandsOver};
 ghost use Rattle.block_strips.specs.declared.side.Side.TheVariants.{Left, Top};
-ghost use Rattle.quilt.specs.Blocks.{FillsBlock, IsFormed, after_block, is_new_at, lets_new, new_cells, strip_cols};
+ghost use Rattle.quilt.specs.Blocks.{FillsBlock, IsFormedBlock, after_block, is_new_at, lets_new, new_cells, strip_cols};
 ghost use Rattle.quilt.specs.Records.{BlockStands};
 ghost use Rattle.quilt.specs.Steps.{HasColumnIn, HasRowsOn};
 
@@ -45,7 +45,7 @@ fn is_new_at(block: &BlockRecord, left: u32, top: u32, i: u32) -> bool
 // Of each cell of a block, in raster order, whether it is new.
 fn new_cells(alloc: Global, block: &BlockRecord) -> Result<Vec<bool>, AllocError>
     requires small { IsSmall block.now.placement.rect.size }
-    requires formed { IsFormed block.now }
+    requires formed { IsFormedBlock block.now }
     requires left { HasRowsOn Left block.now.placement block.now.left }
     requires top { HasRowsOn Top block.now.placement block.now.top }
     ensures { IfOk result (λ choice. choice.items ≡ new_cells block.now) }
@@ -70,7 +70,7 @@ pub fn put_block(
     block: &BlockRecord,
 ) -> Result<(), AllocError>
     requires over { StandsOver canvas.old sample.now }
-    requires formed { IsFormed block.now }
+    requires formed { IsFormedBlock block.now }
     requires stands { BlockStands canvas.old.map sample.now block.now }
     ensures map { OnOk result (canvas.new.map ≡ after_block canvas.old.map block.now) }
     ensures filled { OnOk result (FillsBlock canvas.old.map block.now canvas.new.map) }

@@ -2,7 +2,7 @@
 ghost use Rattle.std.specs.Prelude.{◌≡◌, ◌≤◌};
 ghost use Rattle.cells.specs.Cells.{IsOnePart};
 ghost use Rattle.cells.specs.Places.{IsSmall};
-ghost use Rattle.quilt.specs.Records.{StandingBreaksNone, StandingIsLeast};
+ghost use Rattle.quilt.specs.Records.{StandingBlockBreaksNone, StandingBlockIsLeast};
 ghost use Rattle.quilt.specs.Runs.{EachStandingIsLeast, OneQuilt, QuiltsReplay};
 
 use block_strips::QuiltPlan;
@@ -12,9 +12,9 @@ use cells::{Size, Volume};
 /// whoever made it, and so is each of a list of records that stand over one another; and a record that stands
 /// breaks no rule.
 pub fn standing_blocks_are_least()
-    ensures least { StandingIsLeast }
+    ensures least { StandingBlockIsLeast }
     ensures each { EachStandingIsLeast }
-    ensures unbroken { StandingBreaksNone }
+    ensures unbroken { StandingBlockBreaksNone }
 {}
 
 /// A law, with nothing to run: what steps of a plan leave, from the canvas with no cell filled on, is the map

@@ -3,11 +3,11 @@ ghost use Rattle.std.specs.Prelude.{◌≡◌, ◌≤◌, IfOk, Some};
 ghost use Rattle.map_canvas.specs.Canvases.{StandsOver};
 ghost use Rattle.map_canvas.specs.Choices.{Fits};
 ghost use Rattle.block_strips.specs.Blocks.{next_box};
-ghost use Rattle.block_strips.specs.Laid.{IsLaid, SharesStrips};
+ghost use Rattle.block_strips.specs.Laid.{IsLaidByBlocks, SharesStrips};
 ghost use Rattle.block_strips.specs.Strips.{most_cols, strip_of};
-ghost use Rattle.quilt.specs.Blocks.{IsFormed};
+ghost use Rattle.quilt.specs.Blocks.{IsFormedBlock};
 ghost use Rattle.quilt.specs.Records.{BlockStands};
-ghost use Rattle.quilt.specs.Runs.{ArePictures, IsLaidBlock, JoinsBy};
+ghost use Rattle.quilt.specs.Runs.{HaveOneFrame, IsLaidBlock, JoinsBy};
 
 use crate::BlockRecord;
 use block_strips::{QuiltPlan, Side, next_block_shares_strips, strip_of};
@@ -48,7 +48,7 @@ fn lay_sides(
     sample: &Volume,
     placement: &Placement,
 ) -> Result<BlockRecord, AllocError>
-    requires pictures { ArePictures canvas.now sample.now }
+    requires pictures { HaveOneFrame canvas.now sample.now }
     requires fits { Fits canvas.now.map.size sample.now placement.now }
     requires strips { SharesStrips plan.now sample.now canvas.now.map placement.now.rect }
     ensures { IfOk result (IsLaidBlock plan.now canvas.now.map sample.now placement.now) }
@@ -77,12 +77,12 @@ pub fn lay_block(
     placement: &Placement,
 ) -> Result<BlockRecord, AllocError>
     requires block { 1 ≤ plan.now.block }
-    requires pictures { ArePictures canvas.now sample.now }
-    requires laid { IsLaid plan.now sample.now canvas.now.map }
+    requires pictures { HaveOneFrame canvas.now sample.now }
+    requires laid { IsLaidByBlocks plan.now sample.now canvas.now.map }
     requires fits { Fits canvas.now.map.size sample.now placement.now }
     requires next { next_box plan.now canvas.now.map sample.now ≡ Some placement.now.rect }
     ensures block { IfOk result (IsLaidBlock plan.now canvas.now.map sample.now placement.now) }
-    ensures formed { IfOk result IsFormed }
+    ensures formed { IfOk result IsFormedBlock }
     ensures stands { IfOk result (BlockStands canvas.now.map sample.now) }
 {
     next_block_shares_strips(plan, canvas, sample, &placement.rect);

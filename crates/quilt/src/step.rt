@@ -7,10 +7,10 @@ ghost use Rattle.patch_place.specs.Lists.{fit_list, part_lists};
 ghost use Rattle.patch_place.specs.Picks.{IsPick};
 ghost use Rattle.patch_place.specs.Steps.{after_draw};
 ghost use Rattle.block_strips.specs.Blocks.{FitsBlock, next_box};
-ghost use Rattle.block_strips.specs.Laid.{IsLaid};
+ghost use Rattle.block_strips.specs.Laid.{IsLaidByBlocks};
 ghost use Rattle.quilt.specs.Blocks.{after_block};
 ghost use Rattle.quilt.specs.Records.{BlockStands};
-ghost use Rattle.quilt.specs.Runs.{ArePictures, IsLaidBlock, LaysNext, quilting};
+ghost use Rattle.quilt.specs.Runs.{HaveOneFrame, IsLaidBlock, LaysNext, quilting};
 
 use crate::{BlockRecord, lay_block, put_block};
 use block_strips::{QuiltPlan, block_rect, next_block_shares_strips};
@@ -51,15 +51,15 @@ fn lay_and_put(
     placement: &Placement,
 ) -> Result<BlockRecord, AllocError>
     requires block { 1 ≤ plan.now.block }
-    requires pictures { ArePictures canvas.old sample.now }
-    requires laid { IsLaid plan.now sample.now canvas.old.map }
+    requires pictures { HaveOneFrame canvas.old sample.now }
+    requires laid { IsLaidByBlocks plan.now sample.now canvas.old.map }
     requires fits { Fits canvas.old.map.size sample.now placement.now }
     requires next { next_box plan.now canvas.old.map sample.now ≡ Some placement.now.rect }
     ensures block { IfOk result (IsLaidBlock plan.now canvas.old.map sample.now placement.now) }
     ensures stands { IfOk result (BlockStands canvas.old.map sample.now) }
     ensures map { IfOk result (λ block. canvas.new.map ≡ after_block canvas.old.map block) }
-    ensures pictures { ArePictures canvas.new sample.now }
-    ensures laid { IsLaid plan.now sample.now canvas.new.map }
+    ensures pictures { HaveOneFrame canvas.new sample.now }
+    ensures laid { IsLaidByBlocks plan.now sample.now canvas.new.map }
     ensures kept { OnErr result (canvas.new ≡ canvas.old) }
 {
     next_block_shares_strips(plan, canvas, sample, &placement.rect);
@@ -80,13 +80,13 @@ pub fn next_block(
     draws: &mut Draws,
 ) -> Result<Option<BlockRecord>, AllocError>
     requires block { 1 ≤ plan.now.block }
-    requires pictures { ArePictures canvas.old sample.now }
-    requires laid { IsLaid plan.now sample.now canvas.old.map }
+    requires pictures { HaveOneFrame canvas.old sample.now }
+    requires laid { IsLaidByBlocks plan.now sample.now canvas.old.map }
     ensures next { LaysNext plan.now sample.now (quilting canvas.old.map draws.old)
         (quilting canvas.new.map draws.new) result }
     ensures stands { IfOk result (λ block. IfSome block (BlockStands canvas.old.map sample.now)) }
-    ensures pictures { ArePictures canvas.new sample.now }
-    ensures laid { IsLaid plan.now sample.now canvas.new.map }
+    ensures pictures { HaveOneFrame canvas.new sample.now }
+    ensures laid { IsLaidByBlocks plan.now sample.now canvas.new.map }
     ensures kept { OnErr result (canvas.new ≡ canvas.old) }
 {
     let Some(rect) = block_rect(plan, canvas, sample) else {

@@ -12,9 +12,8 @@ use Rattle.source_map.specs.declared.map_file.MapFile.TheVariants.{Cells as Cell
 use Rattle.source_map.specs.MapFiles.{cell_map_form, map_read}
 use Rattle.source_map.proofs.MapsAgain as maps
 use Rattle.quilt.specs.declared.block.BlockRecord.{BlockRecord}
-use Rattle.quilting.specs.Costs.{block_cells}
+use Rattle.quilt.specs.Blocks.{block_cells}
 use Rattle.cert_file.specs.declared.file.CertFile.TheVariants.{Blocks}
-use Rattle.cert_file.specs.BlockReading as file
 use Rattle.cert_file.specs.RecordFiles.{IsCertOf, blocks_form}
 use Rattle.cert_file.proofs.BlocksAgain.{blocks_again}
 use Rattle.job_words.specs.declared.quilt.QuiltJob.{QuiltJob}
@@ -27,16 +26,11 @@ use Rattle.samples.proofs.Joined.{parts_alone}
 use Rattle.samples.proofs.OneSample.{count_alone}
 use Rattle.standing_files.specs.Standing.{FilesStand}
 use Rattle.standing_files.proofs.Runs.{quilt_stands}
-use Rattle.check_command.specs.declared.reading.RunFiles.{RunFiles}
+use Rattle.check_command.specs.declared.reading.ReadFiles.{ReadFiles}
 use Rattle.check_command.specs.Checks.{Stand}
 use Rattle.quilt_command.specs.declared.plan.PictureQuilt.{PictureQuilt}
 use Rattle.quilt_command.specs.Quilts.{IsMadeQuilt, quilt_head, quilt_size}
 use Rattle.quilt_command.proofs.Ready.{map_ready, picture_ready, record_ready, wide_block}
-
--- the cells of a list of blocks are counted alike
-same_cells : (blocks : List BlockRecord) → file.block_cells blocks ≡ block_cells blocks
-same_cells [] = refl
-same_cells (block ∷ blocks) = ap (λ n. cell_count block.placement.rect.size + n) (same_cells blocks)
 
 module _ (job : QuiltJob) (lawful : IsQuiltJob job) (after : Files) (made : PictureQuilt) (is : IsMadeQuilt job made)
     (sample_file : IsRead (content_of after job.names.sample) made.sample)
@@ -69,10 +63,10 @@ module _ (job : QuiltJob) (lawful : IsQuiltJob job) (after : Files) (made : Pict
   cert_again = subst (λ bytes. IsCertOf bytes (Blocks (quilt_head job made.sample.volume) made.quilted.blocks)) (sym cert_file)
       (blocks_again (quilt_head job made.sample.volume) made.quilted.blocks (record {
         form = record_ready job lawful made is;
-        cells = subst (λ n. n ≤ 33554432) (sym (same_cells made.quilted.blocks)) is.quilt.writable.cells;
+        cells = is.quilt.writable.cells;
       }) (λ i d lt. wide_block job lawful made is _ (is.quilt.writable.each i d lt)))
 
-  abbrev values : RunFiles
+  abbrev values : ReadFiles
   values = record {
     samples = samples;
     out = record { form = Picture made.sample.maxval; volume = made.quilted.canvas.picture };

@@ -5,7 +5,7 @@ use Rattle.strip_boundary.specs.Boundaries.{boundary_cost}
 use Rattle.strip_boundary.specs.Records.{BoundaryStands}
 use Rattle.strip_boundary.specs.Strips.{ErrorTable, at_cell}
 use Rattle.quilt.proofs.Columns.{cols_are}
-use Rattle.quilting.specs.Work.{IsLeastAt}
+use Rattle.quilting.specs.QuiltWork.{IsLeastAt}
 
 -- one row less
 row_less : (rows cols : ℕ) → 1 ≤ rows → rows * cols ≡ (rows - 1) * cols + cols

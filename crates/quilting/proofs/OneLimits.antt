@@ -11,13 +11,12 @@ use Rattle.map_canvas.proofs.Marks.{empty_is_canvas}
 use Rattle.block_strips.specs.declared.plan.QuiltPlan.{QuiltPlan}
 use Rattle.block_strips.specs.Blocks.{next_box}
 use Rattle.quilt.specs.declared.block.BlockRecord.{BlockRecord}
-use Rattle.quilt.specs.Blocks.{new_cells}
+use Rattle.quilt.specs.Blocks.{block_cells, new_cells}
 use Rattle.quilt.specs.Runs.{QuiltsBy, QuiltsTo, Quilting, first_quilting}
 use Rattle.map_canvas.proofs.MapsAfter.{after_is_map}
 use Rattle.quilt.proofs.OneQuilt.{no_box, one_step}
 use Rattle.replay.specs.declared.records.TheConstants.{MOST_BOX_CELLS}
 use Rattle.quilting.specs.declared.asked.QuiltRun.{QuiltRun}
-use Rattle.quilting.specs.Costs.{block_cells}
 use Rattle.quilting.specs.OneLimit.{OneQuiltLimit, QuiltEndsWithin}
 
 -- the cells of two boxes that come next are as many

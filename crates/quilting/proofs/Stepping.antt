@@ -15,20 +15,20 @@ use Rattle.strip_boundary.specs.declared.boundary.BoundaryRecord.{BoundaryRecord
 use Rattle.patch_place.specs.Draws.{DrawState}
 use Rattle.block_strips.specs.declared.side.Side.{Side}
 use Rattle.block_strips.specs.declared.side.Side.TheVariants.{Left, Top}
-use Rattle.block_strips.specs.Laid.{IsLaid}
+use Rattle.block_strips.specs.Laid.{IsLaidByBlocks}
 use Rattle.block_strips.proofs.Laying.{next_fits, shares_strips}
 use Rattle.quilt.specs.declared.block.BlockRecord.{BlockRecord}
-use Rattle.quilt.specs.Blocks.{IsFormed}
+use Rattle.quilt.specs.Blocks.{IsFormedBlock, block_cells}
 use Rattle.quilt.specs.Records.{BlockStands, JoinStands}
-use Rattle.quilt.specs.Runs.{ArePictures, QuiltsBy, QuiltsTo, Quilting, first_quilting, left_by_blocks, quilting}
+use Rattle.quilt.specs.Runs.{HaveOneFrame, QuiltsBy, QuiltsTo, Quilting, first_quilting, left_by_blocks, quilting}
 use Rattle.quilt.proofs.Laying.{HasJoins, laid_formed}
 use Rattle.quilt.proofs.Runs.{quilts_replay}
 use Rattle.replay.specs.declared.records.TheConstants.{MOST_BOX_CELLS}
 use Rattle.quilting.specs.declared.asked.QuiltRun.{QuiltRun}
-use Rattle.quilting.specs.declared.steps.Work.{Work}
-use Rattle.quilting.specs.Costs.{IsFileBlock, IsFileSide, all_boundaries, block_boundaries, block_cells, block_cost, quilt_cost}
+use Rattle.quilting.specs.declared.steps.QuiltWork.{QuiltWork}
+use Rattle.quilting.specs.Costs.{IsFileBlock, IsFileSide, all_boundaries, block_boundaries, block_cost, quilt_cost}
 use Rattle.quilting.specs.Quilted.{CanBeQuilted, QuiltPassesAt}
-use Rattle.quilting.specs.Work.{BlockCostsSo, HasBlockWidths, HasSideWidths, IsWork}
+use Rattle.quilting.specs.QuiltWork.{BlockCostsSo, HasBlockWidths, HasSideWidths, IsQuiltWork}
 use Rattle.quilting.proofs.More.{boundaries_more, cells_more, cost_more, quilts_more}
 
 -- a box that has a cell has some
@@ -42,9 +42,9 @@ file_side : (side : Side) (m : SourceMap) (sample : Cells) (placement : Placemen
 file_side side m sample placement None stands widths = tt
 file_side side m sample placement (Some it) stands widths = record { column_per_row = stands.path.column_per_row; columns = widths.columns; sums = widths.sums }
 
-module _ (asked : QuiltRun) (sample : Cells) (volume : IsVolume sample) (can : CanBeQuilted asked sample) (was : Work) (work : IsWork asked sample was) (block : BlockRecord) (after : Quilting)
+module _ (asked : QuiltRun) (sample : Cells) (volume : IsVolume sample) (can : CanBeQuilted asked sample) (was : QuiltWork) (work : IsQuiltWork asked sample was) (block : BlockRecord) (after : Quilting)
     (by : QuiltsBy asked.plan sample (quilting was.canvas.map was.draws) block after) where
-  pub block_formed : IsFormed block
+  pub block_formed : IsFormedBlock block
   block_formed =
       let m = was.canvas.map in
       let rect = block.placement.rect in
@@ -73,9 +73,9 @@ module _ (asked : QuiltRun) (sample : Cells) (volume : IsVolume sample) (can : C
   left = (quilts_replay asked.plan sample volume can.block asked.size can.small can.frame asked.seed was.blocks.items (quilting was.canvas.map was.draws) work.steps).left
 
   -- a block that is laid is one step more
-  pub one_more : (now : Work) (cost : ℕ) → after ≡ quilting now.canvas.map now.draws → BlockStands was.canvas.map sample block → ArePictures now.canvas sample → IsLaid asked.plan sample now.canvas.map → IsCanvas now.canvas
+  pub one_more : (now : QuiltWork) (cost : ℕ) → after ≡ quilting now.canvas.map now.draws → BlockStands was.canvas.map sample block → HaveOneFrame now.canvas sample → IsLaidByBlocks asked.plan sample now.canvas.map → IsCanvas now.canvas
       → HasBlockWidths block → 1 ≤ box_count block.placement → now.blocks.items ≡ was.blocks.items ++ block ∷ [] → now.cells ≡ was.cells + box_count block.placement → now.cells ≤ MOST_BOX_CELLS
-      → now.boundaries ≡ was.boundaries + block_boundaries block → block_boundaries block ≤ 2 → now.cost ≡ was.cost + cost → BlockCostsSo block cost → cost < 2 ^ 33 → IsWork asked sample now
+      → now.boundaries ≡ was.boundaries + block_boundaries block → block_boundaries block ≤ 2 → now.cost ≡ was.cost + cost → BlockCostsSo block cost → cost < 2 ^ 33 → IsQuiltWork asked sample now
   one_more now cost is stands pictures laid canvas widths some items cells within boundaries few costs so cheap = record {
     steps = subst (λ blocks. QuiltsTo asked.plan sample (first_quilting asked.size asked.seed) blocks (quilting now.canvas.map now.draws)) (sym items)
         (quilts_more asked.plan sample (first_quilting asked.size asked.seed) was.blocks.items (quilting was.canvas.map was.draws) block (quilting now.canvas.map now.draws) work.steps
@@ -110,13 +110,13 @@ module _ (asked : QuiltRun) (sample : Cells) (volume : IsVolume sample) (can : C
   }
 
 -- where none is laid, all is as it was
-pub stays : (asked : QuiltRun) (sample : Cells) (was : Work) (canvas : CanvasState) (draws : DrawState) → IsWork asked sample was → quilting canvas.map draws ≡ quilting was.canvas.map was.draws → ArePictures canvas sample → IsCanvas canvas
-    → IsWork asked sample (record was { canvas = canvas; draws = draws })
+pub stays : (asked : QuiltRun) (sample : Cells) (was : QuiltWork) (canvas : CanvasState) (draws : DrawState) → IsQuiltWork asked sample was → quilting canvas.map draws ≡ quilting was.canvas.map was.draws → HaveOneFrame canvas sample → IsCanvas canvas
+    → IsQuiltWork asked sample (record was { canvas = canvas; draws = draws })
 stays asked sample was canvas draws work same pictures is = record {
   steps = subst (QuiltsTo asked.plan sample (first_quilting asked.size asked.seed) was.blocks.items) (sym same) work.steps;
   size = ap (λ (q : Quilting). q.map.size) same ∙ work.size;
   pictures = pictures;
-  laid = subst (λ (q : Quilting). IsLaid asked.plan sample q.map) (sym same) work.laid;
+  laid = subst (λ (q : Quilting). IsLaidByBlocks asked.plan sample q.map) (sym same) work.laid;
   canvas = is;
   cells = work.cells;
   within = work.within;
@@ -128,8 +128,8 @@ stays asked sample was canvas draws work same pictures is = record {
 }
 
 -- no step is made yet
-pub none_made : (asked : QuiltRun) (sample : Cells) (now : Work) → CanBeQuilted asked sample → IsCanvas now.canvas → StandsOver now.canvas sample → now.canvas ≡ empty_canvas asked.size sample.k → IsLaid asked.plan sample (empty_map asked.size)
-    → now.draws ≡ record { seed = asked.seed; place = 0 } → now.blocks.items ≡ [] → now.cells ≡ 0 → now.boundaries ≡ 0 → now.cost ≡ 0 → IsWork asked sample now
+pub none_made : (asked : QuiltRun) (sample : Cells) (now : QuiltWork) → CanBeQuilted asked sample → IsCanvas now.canvas → StandsOver now.canvas sample → now.canvas ≡ empty_canvas asked.size sample.k → IsLaidByBlocks asked.plan sample (empty_map asked.size)
+    → now.draws ≡ record { seed = asked.seed; place = 0 } → now.blocks.items ≡ [] → now.cells ≡ 0 → now.boundaries ≡ 0 → now.cost ≡ 0 → IsQuiltWork asked sample now
 none_made asked sample now can is over canvas laid draws none cells boundaries cost =
     let map : now.canvas.map ≡ empty_map asked.size = ap (λ (c : CanvasState). c.map) canvas in
     let size : now.canvas.map.size ≡ asked.size = ap (λ (m : SourceMap). m.size) map in
@@ -143,7 +143,7 @@ none_made asked sample now can is over canvas laid draws none cells boundaries c
         output_frame = ap (λ (size : Size). size.f) size ∙ can.frame;
         sample_frame = can.sample_frame;
       };
-      laid = subst (IsLaid asked.plan sample) (sym map) laid;
+      laid = subst (IsLaidByBlocks asked.plan sample) (sym map) laid;
       canvas = is;
       cells = cells ∙ ap block_cells (sym none);
       within = omega (arith, cells);

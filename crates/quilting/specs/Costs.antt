@@ -1,6 +1,6 @@
--- A reader has to trust this file. What is told of block records: how many boundaries they have, what
--- these cost, and how many cells their boxes have. (Efros and Freeman 2001 cut along the boundary of
--- least cost; that the costs are summed is own.)
+-- A reader has to trust this file. What is told of block records: how many boundaries they have, and
+-- what these cost. (Efros and Freeman 2001 cut along the boundary of least cost; that the costs are
+-- summed is own.)
 use Rattle.std.specs.Prelude.{◌≡◌, ◌<◌, ◌≤◌, ◌+◌, ◌^◌, ℕ, List, [], ◌∷◌, All, length, IfSome, Option, Some, None}
 use Rattle.cells.specs.declared.place.Size.{Size}
 use Rattle.cells.specs.Cells.{Cells}
@@ -13,7 +13,7 @@ use Rattle.block_strips.specs.declared.side.Side.{Side}
 use Rattle.block_strips.specs.declared.side.Side.TheVariants.{Left, Top}
 use Rattle.block_strips.specs.Strips.{strip_rows}
 use Rattle.quilt.specs.declared.block.BlockRecord.{BlockRecord}
-use Rattle.quilt.specs.Blocks.{IsFormed, after_block, strip_on}
+use Rattle.quilt.specs.Blocks.{IsFormedBlock, after_block, block_cells, strip_on}
 use Rattle.replay.specs.declared.records.TheConstants.{MOST_BOX_CELLS}
 
 -- how many boundaries there are: on one side of a block, of a block, and of a list of them
@@ -45,11 +45,6 @@ quilt_cost sample m [] = 0
 quilt_cost sample m (block ∷ blocks) =
     block_cost m sample block + quilt_cost sample (after_block m block) blocks
 
--- the cells of the boxes of records, all together
-abbrev pub block_cells : List BlockRecord → ℕ
-block_cells [] = 0
-block_cells (block ∷ blocks) = box_count block.placement + block_cells blocks
-
 -- a boundary with a column of 16 bits for each strip row, and sums of 32 bits
 pub record IsFileBoundary (rows : ℕ) (boundary : BoundaryRecord) : Type 0 where
   pub column_per_row : length boundary.path ≡ rows
@@ -64,7 +59,7 @@ IsFileSide side placement boundary =
 -- in the sample
 pub record IsFileBlock (output : Size) (sample : Cells) (block : BlockRecord) : Type 0 where
   pub fits : Fits output sample block.placement
-  pub formed : IsFormed block
+  pub formed : IsFormedBlock block
   pub left : IsFileSide Left block.placement block.left
   pub top : IsFileSide Top block.placement block.top
 

@@ -1,4 +1,4 @@
 pub mod Costs
 pub mod Quilted
 pub mod OneLimit
-pub mod Work
+pub mod QuiltWork

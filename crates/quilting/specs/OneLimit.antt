@@ -6,7 +6,7 @@ use Rattle.quilt.specs.declared.block.BlockRecord.{BlockRecord}
 use Rattle.quilt.specs.Runs.{IsQuilted, Quilting}
 use Rattle.replay.specs.declared.records.TheConstants.{MOST_BOX_CELLS}
 use Rattle.quilting.specs.declared.asked.QuiltRun.{QuiltRun}
-use Rattle.quilting.specs.Costs.{block_cells}
+use Rattle.quilt.specs.Blocks.{block_cells}
 use Rattle.quilting.specs.Quilted.{QuiltPassesAt}
 
 -- a run that ends with boxes within the bound passes it nowhere

@@ -9,13 +9,14 @@ use Rattle.map_canvas.specs.Maps.{empty_map}
 use Rattle.patch_place.specs.Draws.{DrawState}
 use Rattle.block_strips.specs.Blocks.{next_box}
 use Rattle.quilt.specs.declared.block.BlockRecord.{BlockRecord}
-use Rattle.quilt.specs.Runs.{IsQuilted, Quilting, QuiltsTo, Replays, first_quilting, quilting}
+use Rattle.quilt.specs.Runs.{IsQuilted, Quilting, QuiltsTo, BlocksReplay, first_quilting, quilting}
 use Rattle.replay.specs.declared.records.TheConstants.{MOST_BOX_CELLS}
 use Rattle.quilting.specs.declared.asked.QuiltRun.{QuiltRun}
 use Rattle.quilting.specs.declared.asked.Quilted.{Quilted}
 use Rattle.quilting.specs.declared.asked.QuiltError.{QuiltError}
 use Rattle.quilting.specs.declared.asked.QuiltError.TheVariants.{Records, NoMemory}
-use Rattle.quilting.specs.Costs.{AreFileBlocks, all_boundaries, block_cells, quilt_cost}
+use Rattle.quilting.specs.Costs.{AreFileBlocks, all_boundaries, quilt_cost}
+use Rattle.quilt.specs.Blocks.{block_cells}
 
 -- what quilting asks for: an output of one frame, blocks of at least one cell, and a sample of one
 -- part and one frame, with cells of three samples
@@ -33,7 +34,8 @@ pub record IsQuilt (asked : QuiltRun) (sample : Cells) (quilted : Quilted) : Typ
   pub run : IsQuilted asked.plan sample asked.size asked.seed quilted.blocks
       (quilting quilted.canvas.map draws)
   pub size : quilted.canvas.map.size ≡ asked.size
-  pub replays : Replays asked.plan sample (empty_map asked.size) quilted.blocks quilted.canvas.map
+  pub replays : BlocksReplay asked.plan sample (empty_map asked.size) quilted.blocks
+      quilted.canvas.map
   pub canvas : IsCanvas quilted.canvas
   pub over : StandsOver quilted.canvas sample
   pub boundaries : quilted.boundaries ≡ all_boundaries quilted.blocks

@@ -1,9 +1,9 @@
 // What is told of the record of a block.
 ghost use Rattle.std.specs.Prelude.{◌≡◌, ◌≤◌, ◌<◌, ◌+◌, ◌-◌, ◌^◌, ℕ, All, length, slice_index};
 ghost use Rattle.block_strips.specs.Strips.{strip_rows};
-ghost use Rattle.quilt.specs.Blocks.{HasColumnsOn, IsFormed};
+ghost use Rattle.quilt.specs.Blocks.{HasColumnsOn, IsFormedBlock};
 ghost use Rattle.quilting.specs.Costs.{block_boundaries, side_count};
-ghost use Rattle.quilting.specs.Work.{BlockCostsSo, CostsSo, HasBlockWidths, HasSideWidths, HasWidths, IsLeastAt, SideCostsSo};
+ghost use Rattle.quilting.specs.QuiltWork.{BlockCostsSo, CostsSo, HasBlockWidths, HasSideWidths, HasWidths, IsLeastAt, SideCostsSo};
 
 use map_canvas::Placement;
 use quilt::{BlockRecord, BoundaryRecord, Side};
@@ -60,7 +60,7 @@ fn side_cost(side: Side, placement: &Placement, boundary: &Option<BoundaryRecord
 
 /// What the boundaries of a block cost, by its record, which stands.
 pub(crate) fn block_cost(block: &BlockRecord) -> u64
-    requires { IsFormed block.now }
+    requires { IsFormedBlock block.now }
     ensures cost { BlockCostsSo block.now result }
     ensures small { result < 2 ^ 33 }
 {

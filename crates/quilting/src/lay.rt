@@ -1,17 +1,17 @@
 // The whole run.
 ghost use Rattle.quilting.specs.Quilted.{CanBeQuilted, Quilts};
-ghost use Rattle.quilting.specs.Work.{Lays};
+ghost use Rattle.quilting.specs.QuiltWork.{LaysQuilt};
 
 use crate::asked::{QuiltError, QuiltRun, Quilted};
-use crate::steps::{Work, begin, step};
+use crate::steps::{QuiltWork, begin, step};
 use cells::Volume;
 use items::Items;
 use std::alloc::Global;
 
-// Lays blocks until the canvas is full.
-fn lay_all(alloc: Global, asked: &QuiltRun, sample: &Volume) -> Result<Work, QuiltError>
+// LaysQuilt blocks until the canvas is full.
+fn lay_all(alloc: Global, asked: &QuiltRun, sample: &Volume) -> Result<QuiltWork, QuiltError>
     requires { CanBeQuilted asked.now sample.now }
-    ensures { Lays asked.now sample.now result }
+    ensures { LaysQuilt asked.now sample.now result }
 {
     let mut work = begin(alloc, asked, sample)?;
     let mut more = true;

@@ -1,7 +1,7 @@
 // A run, step by step.
 ghost use Rattle.std.specs.Prelude.{IfOk};
 ghost use Rattle.quilting.specs.Quilted.{CanBeQuilted};
-ghost use Rattle.quilting.specs.Work.{Advances, IsWork};
+ghost use Rattle.quilting.specs.QuiltWork.{QuiltAdvances, IsQuiltWork};
 
 use crate::asked::{QuiltError, QuiltRun};
 use crate::costs::{block_boundaries, block_cost, block_fits};
@@ -14,7 +14,7 @@ use std::alloc::{AllocError, Global};
 
 /// A run so far.
 #[derive(Drop)]
-pub(crate) struct Work {
+pub(crate) struct QuiltWork {
     pub(crate) canvas: Canvas,
     pub(crate) draws: Draws,
     pub(crate) blocks: Vec<BlockRecord>,
@@ -25,13 +25,17 @@ pub(crate) struct Work {
 }
 
 /// With no cell filled.
-pub(crate) fn begin(alloc: Global, asked: &QuiltRun, sample: &Volume) -> Result<Work, AllocError>
+pub(crate) fn begin(
+    alloc: Global,
+    asked: &QuiltRun,
+    sample: &Volume,
+) -> Result<QuiltWork, AllocError>
     requires { CanBeQuilted asked.now sample.now }
-    ensures { IfOk result (IsWork asked.now sample.now) }
+    ensures { IfOk result (IsQuiltWork asked.now sample.now) }
 {
     empty_map_is_laid();
     let canvas = Canvas::empty(alloc, asked.size, sample.samples())?;
-    Ok(Work {
+    Ok(QuiltWork {
         canvas,
         draws: Draws::from_seed(asked.seed),
         blocks: Vec::new(alloc),
@@ -46,11 +50,11 @@ pub(crate) fn step(
     alloc: Global,
     asked: &QuiltRun,
     sample: &Volume,
-    work: &mut Work,
+    work: &mut QuiltWork,
 ) -> Result<bool, QuiltError>
     requires can { CanBeQuilted asked.now sample.now }
-    requires work { IsWork asked.now sample.now work.old }
-    ensures { Advances asked.now sample.now work.old work.new result }
+    requires work { IsQuiltWork asked.now sample.now work.old }
+    ensures { QuiltAdvances asked.now sample.now work.old work.new result }
 {
     // It is asked for only to show the check that the sample is a volume.
     let _samples = sample.samples();

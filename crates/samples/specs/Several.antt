@@ -54,7 +54,8 @@ StandForParts form first more (part ∷ parts) =
 -- the bytes stand for the parts of the volume, one file for each in their order: the first in the
 -- form of the samples, each other in a form that goes with it. All have no more cells together than
 -- one sample may have
-pub record StandForSamples (first : List ℕ) (more : List (List ℕ)) (samples : Samples) : Type 0 where
+pub record StandForSamples (first : List ℕ) (more : List (List ℕ)) (samples : Samples)
+    : Type 0 where
   pub parts : StandForParts samples.form first more (parts_of samples.volume)
   pub fits : count_of samples.volume ≤ MOST_SAMPLE_CELLS
 

@@ -12,7 +12,8 @@ pub fn one_answer()
     ensures one_refusal { (first : List ℕ) (more : List (List ℕ)) (m n : ℕ) (one other : Fault) →
         RefusesSamples m first more one → RefusesSamples n first more other → one ≡ other }
     ensures not_both { (first : List ℕ) (more : List (List ℕ)) (samples : Samples) (n : ℕ)
-        (fault : Fault) → StandForSamples first more samples → RefusesSamples n first more fault → ⊥ }
+        (fault : Fault) → StandForSamples first more samples →
+        RefusesSamples n first more fault → ⊥ }
 {}
 
 /// What bytes of sample files stand for is sound: of one form, within the limits, and with no byte that the

@@ -2,17 +2,17 @@
 -- (Own.)
 use Rattle.std.specs.Prelude.{◌≡◌, ◌<◌, ◌≤◌, ◌+◌, ℕ, Bool, nat_eq, List, [], ◌∷◌, take, drop, length, if◌then◌else◌}
 use Rattle.std.specs.Cmp.Lexicographic.{pointwise}
-use Rattle.shelf_core.specs.declared.tape.Span.{Span}
+use Rattle.shelf_core.specs.declared.tape.TapeSpan.{TapeSpan}
 
 -- the file, a name and its bytes, has this name
 abbrev pub has_name : List ℕ → List ℕ × List ℕ → Bool
 has_name name file = pointwise nat_eq file.0 name
 
-abbrev pub no_span : Span
+abbrev pub no_span : TapeSpan
 no_span = record { name = 0; bytes = 0 }
 
 -- the files of a list of bytes, by the spans of their names and bytes
-abbrev pub cut : List Span → List ℕ → List (List ℕ × List ℕ)
+abbrev pub cut : List TapeSpan → List ℕ → List (List ℕ × List ℕ)
 cut [] bytes = []
 cut (s ∷ spans) bytes = (take s.name bytes, take s.bytes (drop s.name bytes)) ∷ cut spans
     (drop (s.name + s.bytes) bytes)
@@ -23,12 +23,12 @@ spent [] = 0
 spent (file ∷ files) = (length file.0 + length file.1) + spent files
 
 -- the bytes under all spans
-abbrev pub spanned : List Span → ℕ
+abbrev pub spanned : List TapeSpan → ℕ
 spanned [] = 0
 spanned (s ∷ spans) = (s.name + s.bytes) + spanned spans
 
 -- how many names are empty
-abbrev pub nameless : List Span → ℕ
+abbrev pub nameless : List TapeSpan → ℕ
 nameless [] = 0
 nameless (s ∷ spans) = (if nat_eq s.name 0 then 1 else 0) + nameless spans
 
@@ -39,7 +39,7 @@ pub record TapeState : Type 0 where
 
 -- the spans cover the bytes, which keep within the room; memory for both is there, since at most
 -- one name is empty
-pub record CoversBytes (room : ℕ) (spans : List Span) (bytes : List ℕ)
+pub record CoversBytes (room : ℕ) (spans : List TapeSpan) (bytes : List ℕ)
     (space marks : ℕ) : Type 0 where
   pub covered : spanned spans ≡ length bytes
   pub within : length bytes ≤ room

@@ -10,7 +10,7 @@ use std::marker::Model;
 
 /// The lengths of a file's name and of its bytes.
 #[derive(Clone, Copy)]
-pub struct Span {
+pub struct TapeSpan {
     pub name: usize,
     pub bytes: usize,
 }
@@ -20,7 +20,7 @@ pub struct Span {
 pub struct Tape {
     room: usize,
     bytes: Vec<u8>,
-    spans: Vec<Span>,
+    spans: Vec<TapeSpan>,
 }
 
 impl Model for Tape {
@@ -36,7 +36,7 @@ impl Model for Tape {
 }
 
 // How many bytes stand before file i.
-fn start_of(spans: &[Span], i: usize) -> usize
+fn start_of(spans: &[TapeSpan], i: usize) -> usize
     requires within { i ≤ length spans.now }
     requires fits { spanned spans.now < 2 ^ 64 }
     ensures { result ≡ spanned (take i spans.now) }
@@ -57,7 +57,7 @@ struct Place {
 }
 
 // The place of the bytes of file i.
-fn place_of(spans: &[Span], i: usize) -> Place
+fn place_of(spans: &[TapeSpan], i: usize) -> Place
     requires within { i < length spans.now }
     requires fits { spanned spans.now < 2 ^ 64 }
     ensures start { result.start ≡ spanned (take i spans.now) +
@@ -73,7 +73,7 @@ fn place_of(spans: &[Span], i: usize) -> Place
 }
 
 // Which file has the name.
-fn find(spans: &[Span], bytes: &[u8], name: &[u8]) -> Option<usize>
+fn find(spans: &[TapeSpan], bytes: &[u8], name: &[u8]) -> Option<usize>
     requires { spanned spans.now ≡ length bytes.now }
     ensures { result ≡ position (has_name name.now) (cut spans.now bytes.now) }
 {
@@ -199,7 +199,7 @@ impl Tape {
     {
         let i = self.spans.len();
         put_behind(&mut self.bytes, name);
-        self.spans.push_reserved(Span {
+        self.spans.push_reserved(TapeSpan {
             name: name.len(),
             bytes: 0,
         });

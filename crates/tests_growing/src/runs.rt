@@ -6,7 +6,7 @@ ghost use Rattle.replay.specs.Replay.{IsFormed};
 
 use cells::{At, Box3, Size, Volume};
 use cut_check::{CutFault, CutRecord, Flow, KEEP_RULE};
-use growing::{Grown, Plan, grow_canvas};
+use growing::{GrowPlan, Grown, grow_canvas};
 use map_canvas::{Canvas, Placement};
 use patch_place::Mode;
 use replay::{Broken, replay_cuts};
@@ -35,7 +35,12 @@ fn two_parts(alloc: Global) -> Result<Volume, AllocError> {
 }
 
 // The run of a plan.
-fn grown(rt: &impl Abort, alloc: Global, plan: &Plan, sample: &Volume) -> Result<Grown, AllocError>
+fn grown(
+    rt: &impl Abort,
+    alloc: Global,
+    plan: &GrowPlan,
+    sample: &Volume,
+) -> Result<Grown, AllocError>
     requires small { IsSmall plan.now.size }
     requires patch { HasPatch plan.now.mode }
     requires side { 1 ≤ plan.now.side }
@@ -95,7 +100,7 @@ fn row_of_four_grown_to_six(rt: HostRuntime) -> Result<(), Fail> {
     let size = Size { w: 6, h: 1, f: 1 };
     let columns = [(0, 0), (1, 0), (2, 0), (1, 0), (2, 0), (3, 0)];
     for rounds in 0..2u32 {
-        let plan = Plan {
+        let plan = GrowPlan {
             size,
             mode: Mode::Grid { overlap: 2 },
             side: 4,
@@ -147,7 +152,7 @@ fn assert_one_cell(rt: &impl Abort, alloc: Global, mode: Mode) -> Result<(), All
 {
     let bytes = Vec::from_slice(alloc, &[7, 8, 9])?;
     let sample = Volume::from_bytes(Size { w: 1, h: 1, f: 1 }, 3, bytes);
-    let plan = Plan {
+    let plan = GrowPlan {
         size: Size { w: 3, h: 2, f: 1 },
         mode,
         side: 32,
@@ -191,7 +196,7 @@ fn three_cells_of_two_parts(rt: HostRuntime) -> Result<(), Fail> {
     let mut first_met = false;
     let mut second_met = false;
     for seed in 0..8u64 {
-        let plan = Plan {
+        let plan = GrowPlan {
             size: Size { w: 3, h: 1, f: 1 },
             mode: Mode::Sub {
                 side: 2,

@@ -31,7 +31,7 @@ use Rattle.standing_files.specs.declared.verdict.Verdict.{Verdict}
 use Rattle.standing_files.specs.declared.verdict.Verdict.TheVariants.{Stands, Fails}
 use Rattle.standing_files.specs.Standing.{IsVerdict}
 use Rattle.standing_files.proofs.Versions.{any_versions}
-use Rattle.check_command.specs.declared.reading.RunFiles.{RunFiles}
+use Rattle.check_command.specs.declared.reading.ReadFiles.{ReadFiles}
 use Rattle.check_command.specs.Checks.{AreRunFiles, Break, Stand}
 use Rattle.upgrade_command.specs.declared.pair.Pair.{Pair}
 use Rattle.upgrade_command.specs.Upgrades.{IsUpgradeSummary, MakesPair, in_version_two, upgrade_command}
@@ -46,13 +46,13 @@ same_value r x y p q = let both : Ok x ≡ Ok y = sym p ∙ q in cc
 module _ (files : Files) (map cert other_map other_cert : List ℕ) (m : SourceMap) (sizes : List Size) (version other : Version) (head : Head) (of_cert : Version) (cuts : List CutRecord)
     (map_is : map_read (content_of files map) ≡ Ok (CellMap m sizes version)) (other_map_is : map_read (content_of files other_map) ≡ Ok (CellMap m sizes other))
     (cert_is : IsCertOf (content_of files cert) (Cuts head cuts)) (other_cert_is : IsCertOf (content_of files other_cert) (Cuts (record head { version = of_cert }) cuts)) where
-  moved : (names : Names) (values : RunFiles) → AreRunFiles (with_pair names map cert) files values → (verdict : Verdict) → IsVerdict values.samples values.out values.map values.cert verdict
-      → (there : RunFiles) × AreRunFiles (with_pair names other_map other_cert) files there × IsVerdict there.samples there.out there.map there.cert verdict
+  moved : (names : Names) (values : ReadFiles) → AreRunFiles (with_pair names map cert) files values → (verdict : Verdict) → IsVerdict values.samples values.out values.map values.cert verdict
+      → (there : ReadFiles) × AreRunFiles (with_pair names other_map other_cert) files there × IsVerdict there.samples there.out there.map there.cert verdict
   moved names values read verdict judged =
       let map_same : values.map ≡ CellMap m sizes version = same_value {T = MapFile} (map_read (content_of files map)) values.map (CellMap m sizes version) read.map map_is in
       let cert_same : values.cert ≡ Cuts head cuts = same_value {T = CertFile} (cert_read (content_of files cert)) values.cert (Cuts head cuts) read.cert cert_is in
       let here = subst (λ c. IsVerdict values.samples values.out (CellMap m sizes version) c verdict) cert_same (subst (λ v. IsVerdict values.samples values.out v values.cert verdict) map_same judged) in
-      let there : RunFiles = record { samples = values.samples; out = values.out; map = CellMap m sizes other; cert = Cuts (record head { version = of_cert }) cuts } in
+      let there : ReadFiles = record { samples = values.samples; out = values.out; map = CellMap m sizes other; cert = Cuts (record head { version = of_cert }) cuts } in
       (there, record { samples = read.samples; out = read.out; map = other_map_is; cert = other_cert_is }, any_versions values.samples values.out m sizes version head cuts verdict other of_cert here)
 
   pub stands_too : (names : Names) → Stand (with_pair names map cert) files → Stand (with_pair names other_map other_cert) files

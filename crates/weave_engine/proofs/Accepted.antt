@@ -27,7 +27,7 @@ use Rattle.samples.specs.Several.{StandForSamples, contents}
 use Rattle.samples.proofs.Sound.{stand_sound}
 use Rattle.standing_files.specs.Standing.{FilesStand}
 use Rattle.standing_files.proofs.Runs.{run_stands}
-use Rattle.check_command.specs.declared.reading.RunFiles.{RunFiles}
+use Rattle.check_command.specs.declared.reading.ReadFiles.{ReadFiles}
 use Rattle.check_command.specs.Checks.{Stand}
 use Rattle.weave_engine.specs.declared.growth.Growth.{Growth}
 use Rattle.weave_engine.specs.Growths.{IsGrowth, IsMade, head_over, version_over}
@@ -103,7 +103,7 @@ module _ (job : GrowJob) (lawful : IsGrowJob job) (before after : Files) (growth
         cells = subst (λ n. n ≤ 33554432) (sym (same_cells growth.grown.cuts)) grown.grown.writable.cells;
       }) grown.flows)
 
-  abbrev values : RunFiles
+  abbrev values : ReadFiles
   values = record {
     samples = growth.samples;
     out = record { form = growth.samples.form; volume = growth.grown.canvas.picture };

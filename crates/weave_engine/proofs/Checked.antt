@@ -12,7 +12,7 @@ use Rattle.run_outcome.specs.Writing.{Reported}
 use Rattle.standing_files.specs.declared.verdict.Verdict.{Verdict}
 use Rattle.standing_files.specs.declared.verdict.Verdict.TheVariants.{Stands, Fails}
 use Rattle.standing_files.specs.Standing.{IsVerdict}
-use Rattle.check_command.specs.declared.reading.RunFiles.{RunFiles}
+use Rattle.check_command.specs.declared.reading.ReadFiles.{ReadFiles}
 use Rattle.check_command.specs.Checks.{AreRunFiles, Break, IsCheckSummary, MakesVerdict, Stand, check_command, summary_of}
 
 -- it writes no file
@@ -41,7 +41,7 @@ module _ (job : CheckJob) (said : Summary) where
       by Stands is = let zero : summary_status said ≡ 0 = ap summary_status is in absurd (omega (arith, zero, one))
       by (Fails number rule place) is = (number, rule, place, told_weaker (WritesAll (check_command job) said) (λ before after. (after ≡ before) × Break job.names before number rule place) was.files now.files files_broken files, subst (λ s. Reported s out out') is told)
         where
-          judged_so : (before : Files) (values : RunFiles) → AreRunFiles job.names before values → (verdict : Verdict) → IsVerdict values.samples values.out values.map values.cert verdict → summary_of (Fails number rule place) ≡ summary_of verdict → Break job.names before number rule place
+          judged_so : (before : Files) (values : ReadFiles) → AreRunFiles job.names before values → (verdict : Verdict) → IsVerdict values.samples values.out values.map values.cert verdict → summary_of (Fails number rule place) ≡ summary_of verdict → Break job.names before number rule place
           judged_so before values read Stands judged same = absurd (cc)
           judged_so before values read (Fails n r p) judged same =
               let number_is : n ≡ number = cc in

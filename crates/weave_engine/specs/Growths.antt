@@ -15,7 +15,7 @@ use Rattle.graph_place.specs.Placed.{map_total}
 use Rattle.patch_place.specs.declared.mode.Mode.{Mode}
 use Rattle.patch_place.specs.declared.mode.Mode.TheVariants as mode
 use Rattle.replay.specs.declared.records.TheConstants.{MOST_BOX_CELLS}
-use Rattle.growing.specs.declared.plan.Plan.{Plan}
+use Rattle.growing.specs.declared.plan.GrowPlan.{GrowPlan}
 use Rattle.growing.specs.declared.plan.GrowError.{GrowError}
 use Rattle.growing.specs.declared.plan.GrowError.TheVariants as error
 use Rattle.growing.specs.Grown.{IsGrown, PassesAt}
@@ -48,7 +48,7 @@ mode_for place.Whole side overlap tol = mode.Whole tol
 mode_for place.Sub side overlap tol = mode.Sub side overlap tol
 
 -- how the output is grown and refined
-abbrev pub plan_of : GrowJob → Plan
+abbrev pub plan_of : GrowJob → GrowPlan
 plan_of job = record {
   size = job.size;
   mode = mode_for job.place job.side job.overlap job.tol;

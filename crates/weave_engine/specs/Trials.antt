@@ -6,7 +6,7 @@ use Rattle.shelf_core.specs.declared.fault.What.TheVariants.{Output, Records as 
 use Rattle.graph_place.specs.Placed.{map_total}
 use Rattle.trial_sample.specs.TrialSamples.{trial_sample}
 use Rattle.replay.specs.declared.records.TheConstants.{MOST_BOX_CELLS}
-use Rattle.growing.specs.declared.plan.Plan.{Plan}
+use Rattle.growing.specs.declared.plan.GrowPlan.{GrowPlan}
 use Rattle.growing.specs.declared.plan.Grown.{Grown}
 use Rattle.growing.specs.Grown.{IsGrown, PassesAt}
 use Rattle.job_words.specs.declared.trial.TrialJob.{TrialJob}
@@ -19,7 +19,7 @@ use Rattle.weave_engine.specs.declared.growth.TheConstants.{MOST_OUTPUT_CELLS}
 use Rattle.weave_engine.specs.Growths.{mode_for}
 
 -- how the output is grown and refined
-abbrev pub trial_plan : TrialJob → Plan
+abbrev pub trial_plan : TrialJob → GrowPlan
 trial_plan job = record {
   size = job.size;
   mode = mode_for job.place job.side job.overlap job.tol;

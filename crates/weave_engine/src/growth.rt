@@ -10,7 +10,7 @@ ghost use Rattle.weave_engine.specs.Growths.{IsMade, SetAgainst, fault_of_growin
 
 use cells::{GREATEST_AXIS, Size, Volume};
 use cert_file::Head;
-use growing::{GrowError, Grown, Plan, grow_canvas};
+use growing::{GrowError, GrowPlan, Grown, grow_canvas};
 use job_words::{GrowJob, Place};
 use patch_place::Mode;
 use replay::MOST_BOX_CELLS;
@@ -49,10 +49,10 @@ pub(crate) fn mode_for(place: Place, side: u32, overlap: u32, tol: u32) -> Mode
 }
 
 // How an output is grown and refined.
-fn plan_of(job: &GrowJob) -> Plan
+fn plan_of(job: &GrowJob) -> GrowPlan
     ensures { result ≡ plan_of job.now }
 {
-    Plan {
+    GrowPlan {
         size: job.size,
         mode: mode_for(job.place, job.side, job.overlap, job.tol),
         side: job.side,

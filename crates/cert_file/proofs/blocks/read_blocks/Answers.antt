@@ -5,7 +5,8 @@ use Rattle.std.proofs.lemmas.Result.{err_from_is_err_and}
 use Rattle.shelf_core.proofs.FileLaws.{only_reads_then}
 use Rattle.source_map.specs.Readings.{Found, ReadsFrom}
 use Rattle.cert_file.specs.BlockForms.{IsBlockInForm}
-use Rattle.cert_file.specs.BlockReading.{block_cells, block_read, blocks_read}
+use Rattle.cert_file.specs.BlockReading.{block_read, blocks_read}
+use Rattle.quilt.specs.Blocks.{block_cells}
 use Rattle.cert_file.proofs.Bits.{block_cells-append}
 use Rattle.cert_file.proofs.Readings.{each_more, each_stops}
 use Rattle.cert_file.proofs.blocks.read_blocks.Goals as goal

@@ -10,7 +10,7 @@ use Rattle.cert_file.specs.declared.file.CertFile.TheVariants.{Walk}
 use Rattle.cert_file.specs.declared.walk_fields.WalkStart.{WalkStart}
 use Rattle.cert_file.specs.RecordFiles.{ReadsToEnd}
 use Rattle.cert_file.specs.Rules.{any_rule}
-use Rattle.cert_file.specs.WalkReading.{frames_read, frames_rule, walk_start_read}
+use Rattle.cert_file.specs.WalkReading.{few_frames_read, frames_rule, walk_start_read}
 use Rattle.cert_file.proofs.Readings.{by_rule}
 use Rattle.cert_file.proofs.RecordReading.{chain_to_end, ends, ends_not, then_to_end, to_end_stops, value_at_end}
 use Rattle.cert_file.proofs.walks.read_walk_file.Goals as goal
@@ -23,8 +23,8 @@ returns-in_err-lawful_frames-clause-answer g c =
     let e = c.in_err-lawful_frames.field-0.0 in
     let p = err_from_is_err_and c.from_residual.result c.from_residual.ensures.1 in
     rw (p.1, p.2)
-    (subst (λ m. ReadsToEnd (Unit {0}) name c.args.file.now.at (state c.args.shelf.now) (state c.args.shelf.now) (chain_to_end (frames_read m) (λ (v0 : Unit {0}). chain_to_end walk_start_read (λ (v1 : WalkStart). chain_to_end (list_read (number_read w16 any_rule) v1.length) (λ (v2 : List ℕ). chain_to_end (list_read (number_read w64 any_rule) (table_count v1.length * (m * m))) (λ (v3 : List ℕ). value_at_end (Walk c.args.head v1.taps v1.gap v2 v3)))))) (Err e)) c.sample_frames-n.ensures
-    (to_end_stops (Unit {0}) name c.args.file.now.at (frames_read n) (λ (v0 : Unit {0}). chain_to_end (walk_start_read) (λ (v1 : WalkStart). chain_to_end (list_read (number_read w16 any_rule) v1.length) (λ (v2 : List ℕ). chain_to_end (list_read (number_read w64 any_rule) (table_count v1.length * (n * n))) (λ (v3 : List ℕ). value_at_end (Walk c.args.head v1.taps v1.gap v2 v3))))) (state c.args.shelf.now) (state c.args.shelf.now) c.args.file.now e (by_rule (Unit {0}) name (state c.args.shelf.now) (state c.args.shelf.now) c.args.file.now (frames_rule n) (Err e) c.in_err-lawful_frames.ensures.frames c.in_err-lawful_frames.ensures.refusal c.requires.follows)))
+    (subst (λ m. ReadsToEnd (Unit {0}) name c.args.file.now.at (state c.args.shelf.now) (state c.args.shelf.now) (chain_to_end (few_frames_read m) (λ (v0 : Unit {0}). chain_to_end walk_start_read (λ (v1 : WalkStart). chain_to_end (list_read (number_read w16 any_rule) v1.length) (λ (v2 : List ℕ). chain_to_end (list_read (number_read w64 any_rule) (table_count v1.length * (m * m))) (λ (v3 : List ℕ). value_at_end (Walk c.args.head v1.taps v1.gap v2 v3)))))) (Err e)) c.sample_frames-n.ensures
+    (to_end_stops (Unit {0}) name c.args.file.now.at (few_frames_read n) (λ (v0 : Unit {0}). chain_to_end (walk_start_read) (λ (v1 : WalkStart). chain_to_end (list_read (number_read w16 any_rule) v1.length) (λ (v2 : List ℕ). chain_to_end (list_read (number_read w64 any_rule) (table_count v1.length * (n * n))) (λ (v3 : List ℕ). value_at_end (Walk c.args.head v1.taps v1.gap v2 v3))))) (state c.args.shelf.now) (state c.args.shelf.now) c.args.file.now e (by_rule (Unit {0}) name (state c.args.shelf.now) (state c.args.shelf.now) c.args.file.now (frames_rule n) (Err e) c.in_err-lawful_frames.ensures.frames c.in_err-lawful_frames.ensures.refusal c.requires.follows)))
 
 pub returns-in_err-start-clause-answer : goal.returns-in_err-start-clause-answer
 returns-in_err-start-clause-answer g c =
@@ -37,8 +37,8 @@ returns-in_err-start-clause-answer g c =
     let ok0 = c.in_ok-lawful_frames.ensures {u = tt} in
     let first = by_rule (Unit {0}) name (state c.args.shelf.now) (state c.args.shelf.now) c.args.file.now (frames_rule n) (Ok tt) ok0.frames tt c.requires.follows in
     rw (p.1, p.2)
-    (subst (λ m. ReadsToEnd (Unit {0}) name c.args.file.now.at (state c.args.shelf.now) (state c.read_walk_start.new.shelf) (chain_to_end (frames_read m) (λ (v0 : Unit {0}). chain_to_end walk_start_read (λ (v1 : WalkStart). chain_to_end (list_read (number_read w16 any_rule) v1.length) (λ (v2 : List ℕ). chain_to_end (list_read (number_read w64 any_rule) (table_count v1.length * (m * m))) (λ (v3 : List ℕ). value_at_end (Walk c.args.head v1.taps v1.gap v2 v3)))))) (Err e)) c.sample_frames-n.ensures
-    (then_to_end (Unit {0}) name c.args.file.now.at (frames_read n) (λ (v0 : Unit {0}). chain_to_end (walk_start_read) (λ (v1 : WalkStart). chain_to_end (list_read (number_read w16 any_rule) v1.length) (λ (v2 : List ℕ). chain_to_end (list_read (number_read w64 any_rule) (table_count v1.length * (n * n))) (λ (v3 : List ℕ). value_at_end (Walk c.args.head v1.taps v1.gap v2 v3))))) (state c.args.shelf.now) (state c.args.shelf.now) (state c.read_walk_start.new.shelf) c.args.file.now v0 (Err e)
+    (subst (λ m. ReadsToEnd (Unit {0}) name c.args.file.now.at (state c.args.shelf.now) (state c.read_walk_start.new.shelf) (chain_to_end (few_frames_read m) (λ (v0 : Unit {0}). chain_to_end walk_start_read (λ (v1 : WalkStart). chain_to_end (list_read (number_read w16 any_rule) v1.length) (λ (v2 : List ℕ). chain_to_end (list_read (number_read w64 any_rule) (table_count v1.length * (m * m))) (λ (v3 : List ℕ). value_at_end (Walk c.args.head v1.taps v1.gap v2 v3)))))) (Err e)) c.sample_frames-n.ensures
+    (then_to_end (Unit {0}) name c.args.file.now.at (few_frames_read n) (λ (v0 : Unit {0}). chain_to_end (walk_start_read) (λ (v1 : WalkStart). chain_to_end (list_read (number_read w16 any_rule) v1.length) (λ (v2 : List ℕ). chain_to_end (list_read (number_read w64 any_rule) (table_count v1.length * (n * n))) (λ (v3 : List ℕ). value_at_end (Walk c.args.head v1.taps v1.gap v2 v3))))) (state c.args.shelf.now) (state c.args.shelf.now) (state c.read_walk_start.new.shelf) c.args.file.now v0 (Err e)
     (only_reads_same (state c.args.shelf.now)) c.in_err-start.ensures.reads first
     (to_end_stops (Unit {0}) name c.args.file.now.at (walk_start_read) (λ (v1 : WalkStart). chain_to_end (list_read (number_read w16 any_rule) v1.length) (λ (v2 : List ℕ). chain_to_end (list_read (number_read w64 any_rule) (table_count v1.length * (n * n))) (λ (v3 : List ℕ). value_at_end (Walk c.args.head v1.taps v1.gap v2 v3)))) (state c.args.shelf.now) (state c.read_walk_start.new.shelf) c.read_walk_start.new.file e (lifted (Unit {0}) name c.args.file.now.at walk_start_read (state c.args.shelf.now) (state c.read_walk_start.new.shelf) c.read_walk_start.new.file (Err e) c.in_err-start.ensures.answer))))
 
@@ -55,8 +55,8 @@ returns-in_err-walk-clause-answer g c =
     let v1 : WalkStart = c.in_ok-start.start in
     let ok1 = c.in_ok-start.ensures {u = tt} in
     rw (p.1, p.2)
-    (subst (λ m. ReadsToEnd (Unit {0}) name c.args.file.now.at (state c.args.shelf.now) (state c.read_list_16.new.shelf) (chain_to_end (frames_read m) (λ (v0 : Unit {0}). chain_to_end walk_start_read (λ (v1 : WalkStart). chain_to_end (list_read (number_read w16 any_rule) v1.length) (λ (v2 : List ℕ). chain_to_end (list_read (number_read w64 any_rule) (table_count v1.length * (m * m))) (λ (v3 : List ℕ). value_at_end (Walk c.args.head v1.taps v1.gap v2 v3)))))) (Err e)) c.sample_frames-n.ensures
-    (then_to_end (Unit {0}) name c.args.file.now.at (frames_read n) (λ (v0 : Unit {0}). chain_to_end (walk_start_read) (λ (v1 : WalkStart). chain_to_end (list_read (number_read w16 any_rule) v1.length) (λ (v2 : List ℕ). chain_to_end (list_read (number_read w64 any_rule) (table_count v1.length * (n * n))) (λ (v3 : List ℕ). value_at_end (Walk c.args.head v1.taps v1.gap v2 v3))))) (state c.args.shelf.now) (state c.args.shelf.now) (state c.read_list_16.new.shelf) c.args.file.now v0 (Err e)
+    (subst (λ m. ReadsToEnd (Unit {0}) name c.args.file.now.at (state c.args.shelf.now) (state c.read_list_16.new.shelf) (chain_to_end (few_frames_read m) (λ (v0 : Unit {0}). chain_to_end walk_start_read (λ (v1 : WalkStart). chain_to_end (list_read (number_read w16 any_rule) v1.length) (λ (v2 : List ℕ). chain_to_end (list_read (number_read w64 any_rule) (table_count v1.length * (m * m))) (λ (v3 : List ℕ). value_at_end (Walk c.args.head v1.taps v1.gap v2 v3)))))) (Err e)) c.sample_frames-n.ensures
+    (then_to_end (Unit {0}) name c.args.file.now.at (few_frames_read n) (λ (v0 : Unit {0}). chain_to_end (walk_start_read) (λ (v1 : WalkStart). chain_to_end (list_read (number_read w16 any_rule) v1.length) (λ (v2 : List ℕ). chain_to_end (list_read (number_read w64 any_rule) (table_count v1.length * (n * n))) (λ (v3 : List ℕ). value_at_end (Walk c.args.head v1.taps v1.gap v2 v3))))) (state c.args.shelf.now) (state c.args.shelf.now) (state c.read_list_16.new.shelf) c.args.file.now v0 (Err e)
     (only_reads_same (state c.args.shelf.now)) (only_reads_then (state c.args.shelf.now) (state c.read_walk_start.new.shelf) (state c.read_list_16.new.shelf) ok1.reads c.in_err-walk.ensures.reads) first
     (then_to_end (Unit {0}) name c.args.file.now.at (walk_start_read) (λ (v1 : WalkStart). chain_to_end (list_read (number_read w16 any_rule) v1.length) (λ (v2 : List ℕ). chain_to_end (list_read (number_read w64 any_rule) (table_count v1.length * (n * n))) (λ (v3 : List ℕ). value_at_end (Walk c.args.head v1.taps v1.gap v2 v3)))) (state c.args.shelf.now) (state c.read_walk_start.new.shelf) (state c.read_list_16.new.shelf) c.read_walk_start.new.file v1 (Err e)
     ok1.reads c.in_err-walk.ensures.reads ok1.answer
@@ -77,8 +77,8 @@ returns-in_err-tables-clause-answer g c =
     let v2 : List ℕ = c.in_ok-walk.walk in
     let ok2 = c.in_ok-walk.ensures {u = tt} in
     rw (p.1, p.2)
-    (subst (λ m. ReadsToEnd (Unit {0}) name c.args.file.now.at (state c.args.shelf.now) (state c.read_list_64.new.shelf) (chain_to_end (frames_read m) (λ (v0 : Unit {0}). chain_to_end walk_start_read (λ (v1 : WalkStart). chain_to_end (list_read (number_read w16 any_rule) v1.length) (λ (v2 : List ℕ). chain_to_end (list_read (number_read w64 any_rule) (table_count v1.length * (m * m))) (λ (v3 : List ℕ). value_at_end (Walk c.args.head v1.taps v1.gap v2 v3)))))) (Err e)) c.sample_frames-n.ensures
-    (then_to_end (Unit {0}) name c.args.file.now.at (frames_read n) (λ (v0 : Unit {0}). chain_to_end (walk_start_read) (λ (v1 : WalkStart). chain_to_end (list_read (number_read w16 any_rule) v1.length) (λ (v2 : List ℕ). chain_to_end (list_read (number_read w64 any_rule) (table_count v1.length * (n * n))) (λ (v3 : List ℕ). value_at_end (Walk c.args.head v1.taps v1.gap v2 v3))))) (state c.args.shelf.now) (state c.args.shelf.now) (state c.read_list_64.new.shelf) c.args.file.now v0 (Err e)
+    (subst (λ m. ReadsToEnd (Unit {0}) name c.args.file.now.at (state c.args.shelf.now) (state c.read_list_64.new.shelf) (chain_to_end (few_frames_read m) (λ (v0 : Unit {0}). chain_to_end walk_start_read (λ (v1 : WalkStart). chain_to_end (list_read (number_read w16 any_rule) v1.length) (λ (v2 : List ℕ). chain_to_end (list_read (number_read w64 any_rule) (table_count v1.length * (m * m))) (λ (v3 : List ℕ). value_at_end (Walk c.args.head v1.taps v1.gap v2 v3)))))) (Err e)) c.sample_frames-n.ensures
+    (then_to_end (Unit {0}) name c.args.file.now.at (few_frames_read n) (λ (v0 : Unit {0}). chain_to_end (walk_start_read) (λ (v1 : WalkStart). chain_to_end (list_read (number_read w16 any_rule) v1.length) (λ (v2 : List ℕ). chain_to_end (list_read (number_read w64 any_rule) (table_count v1.length * (n * n))) (λ (v3 : List ℕ). value_at_end (Walk c.args.head v1.taps v1.gap v2 v3))))) (state c.args.shelf.now) (state c.args.shelf.now) (state c.read_list_64.new.shelf) c.args.file.now v0 (Err e)
     (only_reads_same (state c.args.shelf.now)) (only_reads_then (state c.args.shelf.now) (state c.read_walk_start.new.shelf) (state c.read_list_64.new.shelf) ok1.reads (only_reads_then (state c.read_walk_start.new.shelf) (state c.read_list_16.new.shelf) (state c.read_list_64.new.shelf) ok2.reads c.in_err-tables.ensures.reads)) first
     (then_to_end (Unit {0}) name c.args.file.now.at (walk_start_read) (λ (v1 : WalkStart). chain_to_end (list_read (number_read w16 any_rule) v1.length) (λ (v2 : List ℕ). chain_to_end (list_read (number_read w64 any_rule) (table_count v1.length * (n * n))) (λ (v3 : List ℕ). value_at_end (Walk c.args.head v1.taps v1.gap v2 v3)))) (state c.args.shelf.now) (state c.read_walk_start.new.shelf) (state c.read_list_64.new.shelf) c.read_walk_start.new.file v1 (Err e)
     ok1.reads (only_reads_then (state c.read_walk_start.new.shelf) (state c.read_list_16.new.shelf) (state c.read_list_64.new.shelf) ok2.reads c.in_err-tables.ensures.reads) ok1.answer
@@ -103,8 +103,8 @@ returns-in_err-end-clause-answer g c =
     let v3 : List ℕ = c.in_ok-tables.tables in
     let ok3 = c.in_ok-tables.ensures {u = tt} in
     rw (p.1, p.2)
-    (subst (λ m. ReadsToEnd (Unit {0}) name c.args.file.now.at (state c.args.shelf.now) (state c.end.new.shelf) (chain_to_end (frames_read m) (λ (v0 : Unit {0}). chain_to_end walk_start_read (λ (v1 : WalkStart). chain_to_end (list_read (number_read w16 any_rule) v1.length) (λ (v2 : List ℕ). chain_to_end (list_read (number_read w64 any_rule) (table_count v1.length * (m * m))) (λ (v3 : List ℕ). value_at_end (Walk c.args.head v1.taps v1.gap v2 v3)))))) (Err e)) c.sample_frames-n.ensures
-    (then_to_end (Unit {0}) name c.args.file.now.at (frames_read n) (λ (v0 : Unit {0}). chain_to_end (walk_start_read) (λ (v1 : WalkStart). chain_to_end (list_read (number_read w16 any_rule) v1.length) (λ (v2 : List ℕ). chain_to_end (list_read (number_read w64 any_rule) (table_count v1.length * (n * n))) (λ (v3 : List ℕ). value_at_end (Walk c.args.head v1.taps v1.gap v2 v3))))) (state c.args.shelf.now) (state c.args.shelf.now) (state c.end.new.shelf) c.args.file.now v0 (Err e)
+    (subst (λ m. ReadsToEnd (Unit {0}) name c.args.file.now.at (state c.args.shelf.now) (state c.end.new.shelf) (chain_to_end (few_frames_read m) (λ (v0 : Unit {0}). chain_to_end walk_start_read (λ (v1 : WalkStart). chain_to_end (list_read (number_read w16 any_rule) v1.length) (λ (v2 : List ℕ). chain_to_end (list_read (number_read w64 any_rule) (table_count v1.length * (m * m))) (λ (v3 : List ℕ). value_at_end (Walk c.args.head v1.taps v1.gap v2 v3)))))) (Err e)) c.sample_frames-n.ensures
+    (then_to_end (Unit {0}) name c.args.file.now.at (few_frames_read n) (λ (v0 : Unit {0}). chain_to_end (walk_start_read) (λ (v1 : WalkStart). chain_to_end (list_read (number_read w16 any_rule) v1.length) (λ (v2 : List ℕ). chain_to_end (list_read (number_read w64 any_rule) (table_count v1.length * (n * n))) (λ (v3 : List ℕ). value_at_end (Walk c.args.head v1.taps v1.gap v2 v3))))) (state c.args.shelf.now) (state c.args.shelf.now) (state c.end.new.shelf) c.args.file.now v0 (Err e)
     (only_reads_same (state c.args.shelf.now)) (only_reads_then (state c.args.shelf.now) (state c.read_walk_start.new.shelf) (state c.end.new.shelf) ok1.reads (only_reads_then (state c.read_walk_start.new.shelf) (state c.read_list_16.new.shelf) (state c.end.new.shelf) ok2.reads (only_reads_then (state c.read_list_16.new.shelf) (state c.read_list_64.new.shelf) (state c.end.new.shelf) ok3.reads c.in_err-end.ensures.reads))) first
     (then_to_end (Unit {0}) name c.args.file.now.at (walk_start_read) (λ (v1 : WalkStart). chain_to_end (list_read (number_read w16 any_rule) v1.length) (λ (v2 : List ℕ). chain_to_end (list_read (number_read w64 any_rule) (table_count v1.length * (n * n))) (λ (v3 : List ℕ). value_at_end (Walk c.args.head v1.taps v1.gap v2 v3)))) (state c.args.shelf.now) (state c.read_walk_start.new.shelf) (state c.end.new.shelf) c.read_walk_start.new.file v1 (Err e)
     ok1.reads (only_reads_then (state c.read_walk_start.new.shelf) (state c.read_list_16.new.shelf) (state c.end.new.shelf) ok2.reads (only_reads_then (state c.read_list_16.new.shelf) (state c.read_list_64.new.shelf) (state c.end.new.shelf) ok3.reads c.in_err-end.ensures.reads)) ok1.answer
@@ -130,8 +130,8 @@ returns-clause-answer g c =
     let ok3 = c.in_ok-tables.ensures {u = tt} in
     let ok4 = c.in_ok-end.ensures {u = tt} in
     let value = Walk c.args.head v1.taps v1.gap v2 v3 in
-    subst (λ m. ReadsToEnd (Unit {0}) name c.args.file.now.at (state c.args.shelf.now) (state c.end.new.shelf) (chain_to_end (frames_read m) (λ (v0 : Unit {0}). chain_to_end walk_start_read (λ (v1 : WalkStart). chain_to_end (list_read (number_read w16 any_rule) v1.length) (λ (v2 : List ℕ). chain_to_end (list_read (number_read w64 any_rule) (table_count v1.length * (m * m))) (λ (v3 : List ℕ). value_at_end (Walk c.args.head v1.taps v1.gap v2 v3)))))) (Ok value)) c.sample_frames-n.ensures
-    (then_to_end (Unit {0}) name c.args.file.now.at (frames_read n) (λ (v0 : Unit {0}). chain_to_end (walk_start_read) (λ (v1 : WalkStart). chain_to_end (list_read (number_read w16 any_rule) v1.length) (λ (v2 : List ℕ). chain_to_end (list_read (number_read w64 any_rule) (table_count v1.length * (n * n))) (λ (v3 : List ℕ). value_at_end (Walk c.args.head v1.taps v1.gap v2 v3))))) (state c.args.shelf.now) (state c.args.shelf.now) (state c.end.new.shelf) c.args.file.now v0 (Ok value)
+    subst (λ m. ReadsToEnd (Unit {0}) name c.args.file.now.at (state c.args.shelf.now) (state c.end.new.shelf) (chain_to_end (few_frames_read m) (λ (v0 : Unit {0}). chain_to_end walk_start_read (λ (v1 : WalkStart). chain_to_end (list_read (number_read w16 any_rule) v1.length) (λ (v2 : List ℕ). chain_to_end (list_read (number_read w64 any_rule) (table_count v1.length * (m * m))) (λ (v3 : List ℕ). value_at_end (Walk c.args.head v1.taps v1.gap v2 v3)))))) (Ok value)) c.sample_frames-n.ensures
+    (then_to_end (Unit {0}) name c.args.file.now.at (few_frames_read n) (λ (v0 : Unit {0}). chain_to_end (walk_start_read) (λ (v1 : WalkStart). chain_to_end (list_read (number_read w16 any_rule) v1.length) (λ (v2 : List ℕ). chain_to_end (list_read (number_read w64 any_rule) (table_count v1.length * (n * n))) (λ (v3 : List ℕ). value_at_end (Walk c.args.head v1.taps v1.gap v2 v3))))) (state c.args.shelf.now) (state c.args.shelf.now) (state c.end.new.shelf) c.args.file.now v0 (Ok value)
     (only_reads_same (state c.args.shelf.now)) (only_reads_then (state c.args.shelf.now) (state c.read_walk_start.new.shelf) (state c.end.new.shelf) ok1.reads (only_reads_then (state c.read_walk_start.new.shelf) (state c.read_list_16.new.shelf) (state c.end.new.shelf) ok2.reads (only_reads_then (state c.read_list_16.new.shelf) (state c.read_list_64.new.shelf) (state c.end.new.shelf) ok3.reads ok4.reads))) first
     (then_to_end (Unit {0}) name c.args.file.now.at (walk_start_read) (λ (v1 : WalkStart). chain_to_end (list_read (number_read w16 any_rule) v1.length) (λ (v2 : List ℕ). chain_to_end (list_read (number_read w64 any_rule) (table_count v1.length * (n * n))) (λ (v3 : List ℕ). value_at_end (Walk c.args.head v1.taps v1.gap v2 v3)))) (state c.args.shelf.now) (state c.read_walk_start.new.shelf) (state c.end.new.shelf) c.read_walk_start.new.file v1 (Ok value)
     ok1.reads (only_reads_then (state c.read_walk_start.new.shelf) (state c.read_list_16.new.shelf) (state c.end.new.shelf) ok2.reads (only_reads_then (state c.read_list_16.new.shelf) (state c.read_list_64.new.shelf) (state c.end.new.shelf) ok3.reads ok4.reads)) ok1.answer

@@ -1,4 +1,4 @@
-use Rattle.quilting.specs.Work.{IsLeastAt}
+use Rattle.quilting.specs.QuiltWork.{IsLeastAt}
 use Rattle.quilting.proofs.costs.least_at.Given as goal
 
 abbrev pub invariant-loop-i : goal.invariant-loop-i

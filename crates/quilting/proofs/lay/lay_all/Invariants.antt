@@ -1,12 +1,12 @@
 use Rattle.std.specs.Prelude.{◌≡◌, ◌+◌, ◌-◌, false, if◌then◌else◌}
 use Rattle.map_canvas.specs.Maps.{IsFull}
 use Rattle.replay.specs.declared.records.TheConstants.{MOST_BOX_CELLS}
-use Rattle.quilting.specs.Work.{IsWork}
+use Rattle.quilting.specs.QuiltWork.{IsQuiltWork}
 use Rattle.quilting.proofs.lay.lay_all.Given as goal
 
 abbrev pub invariant-laying : goal.invariant-laying
 invariant-laying l = record {
-  work : IsWork l.asked l.sample l.work;
+  work : IsQuiltWork l.asked l.sample l.work;
   full : l.more ≡ false → IsFull l.work.canvas.map;
 }
 

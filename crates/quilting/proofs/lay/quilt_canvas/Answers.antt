@@ -4,8 +4,9 @@ use Rattle.map_canvas.specs.Maps.{empty_map}
 use Rattle.quilt.specs.Runs.{QuiltsTo, first_quilting, quilting}
 use Rattle.quilt.proofs.Runs.{quilts_replay}
 use Rattle.replay.specs.declared.records.TheConstants.{MOST_BOX_CELLS}
-use Rattle.quilting.specs.Costs.{IsFileBlock, all_boundaries, block_cells, quilt_cost}
-use Rattle.quilting.specs.Work.{IsWork}
+use Rattle.quilting.specs.Costs.{IsFileBlock, all_boundaries, quilt_cost}
+use Rattle.quilt.specs.Blocks.{block_cells}
+use Rattle.quilting.specs.QuiltWork.{IsQuiltWork}
 use Rattle.quilting.proofs.lay.quilt_canvas.Goals as goal
 
 pub returns : goal.returns
@@ -14,7 +15,7 @@ returns c =
     let sample = c.args.sample.now in
     let end = c.in_ok-work.work in
     let made = c.in_ok-work.ensures in
-    let work : IsWork asked sample end = made.0 in
+    let work : IsQuiltWork asked sample end = made.0 in
     let items = sym c.from_vec.ensures in
     let blocks = c.from_vec.result in
     let after = quilting end.canvas.map end.draws in

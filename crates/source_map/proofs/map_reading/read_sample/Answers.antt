@@ -60,11 +60,11 @@ returns-clause-answer g c =
     let ok1 = c.in_ok-h.ensures {u = tt} in
     let v2 : ℕ = c.in_ok-f.f in
     let ok2 = c.in_ok-f.ensures {u = tt} in
-    let value : Size = record { w = v0; h = v1; f = v2 } in
-    then_reads ⊥ name c.args.file.now.at (number_read w32 (same_rule c.args.output.w)) (λ (v0 : ℕ). chain (number_read w32 (same_rule c.args.output.h)) (λ (v1 : ℕ). chain (number_read w32 axis_rule) (λ (v2 : ℕ). end v0 v1 v2))) (state c.args.shelf.now) (state c.read_same.new.shelf) (state c.read_axis.new.shelf) c.read_same.new.file c.read_axis.new.file v0 (Ok value)
+    let sample : Size = record { w = v0; h = v1; f = v2 } in
+    then_reads ⊥ name c.args.file.now.at (number_read w32 (same_rule c.args.output.w)) (λ (v0 : ℕ). chain (number_read w32 (same_rule c.args.output.h)) (λ (v1 : ℕ). chain (number_read w32 axis_rule) (λ (v2 : ℕ). end v0 v1 v2))) (state c.args.shelf.now) (state c.read_same.new.shelf) (state c.read_axis.new.shelf) c.read_same.new.file c.read_axis.new.file v0 (Ok sample)
     ok0.reads (only_reads_then (state c.read_same.new.shelf) (state c.read_same-2.new.shelf) (state c.read_axis.new.shelf) ok1.reads ok2.reads) ok0.answer
-    (then_reads ⊥ name c.read_same.new.file.at (number_read w32 (same_rule c.args.output.h)) (λ (v1 : ℕ). chain (number_read w32 axis_rule) (λ (v2 : ℕ). end v0 v1 v2)) (state c.read_same.new.shelf) (state c.read_same-2.new.shelf) (state c.read_axis.new.shelf) c.read_same-2.new.file c.read_axis.new.file v1 (Ok value)
+    (then_reads ⊥ name c.read_same.new.file.at (number_read w32 (same_rule c.args.output.h)) (λ (v1 : ℕ). chain (number_read w32 axis_rule) (λ (v2 : ℕ). end v0 v1 v2)) (state c.read_same.new.shelf) (state c.read_same-2.new.shelf) (state c.read_axis.new.shelf) c.read_same-2.new.file c.read_axis.new.file v1 (Ok sample)
     ok1.reads ok2.reads ok1.answer
-    (then_reads ⊥ name c.read_same-2.new.file.at (number_read w32 axis_rule) (λ (v2 : ℕ). end v0 v1 v2) (state c.read_same-2.new.shelf) (state c.read_axis.new.shelf) (state c.read_axis.new.shelf) c.read_axis.new.file c.read_axis.new.file v2 (Ok value)
+    (then_reads ⊥ name c.read_same-2.new.file.at (number_read w32 axis_rule) (λ (v2 : ℕ). end v0 v1 v2) (state c.read_same-2.new.shelf) (state c.read_axis.new.shelf) (state c.read_axis.new.shelf) c.read_axis.new.file c.read_axis.new.file v2 (Ok sample)
     ok2.reads (only_reads_same (state c.read_axis.new.shelf)) ok2.answer
-    (made ⊥ name (state c.read_axis.new.shelf) (state c.read_axis.new.shelf) c.read_axis.new.file value ok2.answer.follows)))
+    (made ⊥ name (state c.read_axis.new.shelf) (state c.read_axis.new.shelf) c.read_axis.new.file sample ok2.answer.follows)))

@@ -1,6 +1,6 @@
 use Rattle.std.proofs.Common.{ap, ◌∙◌, refl, arith, ◌<◌, ◌+◌, List, [], ◌++◌, length, take, get_or}
 use Rattle.std.proofs.Math.ListN.{set}
-use Rattle.shelf_core.specs.declared.tape.Span.{Span}
+use Rattle.shelf_core.specs.declared.tape.TapeSpan.{TapeSpan}
 use Rattle.shelf_core.specs.Tapes.{TapeState, no_span, spanned, spent}
 use Rattle.shelf_core.proofs.TapeLaws.{length_cut, spent_cut, appended, laid_set, length_put_in, own_span, spanned_part}
 use Rattle.shelf_core.proofs.tape.Tape.append.Goals as goal
@@ -37,8 +37,8 @@ returns c =
       room = c.self.inside.room;
       files = (appended c.args.i c.place_of-own.result.start c.place_of-own.result.len c.self.inside.spans.items c.self.inside.bytes.items c.args.piece.now c.put_in.new.bytes.items c.index_mut.result.now
           c.self.invariant.covered lt c.index_mut.ensures.value
-          (c.place_of-own.ensures.start ∙ ap (λ (l : List Span). spanned (take c.args.i l) + (get_or l c.args.i no_span).name) c.deref.ensures.value)
-          (c.place_of-own.ensures.len ∙ ap (λ (l : List Span). (get_or l c.args.i no_span).bytes) c.deref.ensures.value)
+          (c.place_of-own.ensures.start ∙ ap (λ (l : List TapeSpan). spanned (take c.args.i l) + (get_or l c.args.i no_span).name) c.deref.ensures.value)
+          (c.place_of-own.ensures.len ∙ ap (λ (l : List TapeSpan). (get_or l c.args.i no_span).bytes) c.deref.ensures.value)
           c.put_in.ensures.items) j;
     })
     ∙ ap (λ (t : TapeState). record { room = t.room; files = set t.files c.args.i ((get_or t.files c.args.i ([], [])).0, (get_or t.files c.args.i ([], [])).1 ++ c.args.piece.now) }) c.self.view_is

@@ -1,6 +1,6 @@
 use Rattle.std.proofs.Common.{ap, ◌∙◌, refl, arith, ◌≡◌, ◌<◌, List, [], ◌∷◌, ◌++◌, length, vec_capacity}
 use Rattle.std.specs.Prelude.{position, None}
-use Rattle.shelf_core.specs.declared.tape.Span.{Span}
+use Rattle.shelf_core.specs.declared.tape.TapeSpan.{TapeSpan}
 use Rattle.shelf_core.specs.Tapes.{TapeState, spent, cut, has_name}
 use Rattle.shelf_core.proofs.TapeLaws.{length_cut, spent_cut, cut_pushed, laid_push, mark_left}
 use Rattle.shelf_core.proofs.tape.Tape.push.Goals as goal
@@ -27,7 +27,7 @@ pub returns-clause-files : goal.returns-clause-files
 returns-clause-files c =
     (λ j. record {
       room = c.self.inside.room;
-      files = (ap (λ (l : List Span). cut l c.put_behind.new.bytes.items) c.push_reserved.ensures.items
+      files = (ap (λ (l : List TapeSpan). cut l c.put_behind.new.bytes.items) c.push_reserved.ensures.items
           ∙ ap (cut (c.self.inside.spans.items ++ record { name = length c.args.name.now; bytes = 0 } ∷ [])) c.put_behind.ensures.items
           ∙ cut_pushed c.self.inside.spans.items c.self.inside.bytes.items c.args.name.now (record { name = length c.args.name.now; bytes = 0 }) c.self.invariant.covered refl refl) j;
     })

@@ -10,15 +10,16 @@ use Rattle.strip_boundary.specs.Boundaries.{boundary_cost}
 use Rattle.strip_boundary.specs.Records.{BoundaryStands}
 use Rattle.strip_boundary.specs.Strips.{ErrorTable}
 use Rattle.block_strips.specs.declared.side.Side.{Side}
-use Rattle.block_strips.specs.Laid.{IsLaid}
+use Rattle.block_strips.specs.Laid.{IsLaidByBlocks}
 use Rattle.quilt.specs.declared.block.BlockRecord.{BlockRecord}
 use Rattle.quilt.specs.Records.{BlockStands, JoinStands}
-use Rattle.quilt.specs.Runs.{ArePictures, QuiltsTo, first_quilting, quilting}
+use Rattle.quilt.specs.Runs.{HaveOneFrame, QuiltsTo, first_quilting, quilting}
 use Rattle.replay.specs.declared.records.TheConstants.{MOST_BOX_CELLS}
 use Rattle.quilting.specs.declared.asked.QuiltRun.{QuiltRun}
 use Rattle.quilting.specs.declared.asked.QuiltError.{QuiltError}
-use Rattle.quilting.specs.declared.steps.Work.{Work}
-use Rattle.quilting.specs.Costs.{IsFileBlock, all_boundaries, block_cells, block_cost, quilt_cost, side_cost}
+use Rattle.quilting.specs.declared.steps.QuiltWork.{QuiltWork}
+use Rattle.quilting.specs.Costs.{IsFileBlock, all_boundaries, block_cost, quilt_cost, side_cost}
+use Rattle.quilt.specs.Blocks.{block_cells}
 use Rattle.quilting.specs.Quilted.{IsQuiltFault}
 
 -- one of the first so many numbers of a list that is least of them, by its place
@@ -34,7 +35,8 @@ CostsSo rows boundary cost = (strip : ErrorTable) → strip.rows ≡ rows
 -- what the boundary on a side of a placement costs over each map over which it stands
 abbrev pub SideCostsSo : Side → Placement → Option BoundaryRecord → ℕ → Type 0
 SideCostsSo side placement boundary cost = (m : SourceMap) (sample : Cells)
-    → JoinStands side m sample placement boundary → cost ≡ side_cost side m sample placement boundary
+    → JoinStands side m sample placement boundary
+    → cost ≡ side_cost side m sample placement boundary
 
 -- what the boundaries of a block cost over each map over which its record stands
 abbrev pub BlockCostsSo : BlockRecord → ℕ → Type 0
@@ -53,12 +55,12 @@ pub record HasBlockWidths (block : BlockRecord) : Type 0 where
   pub left : HasSideWidths block.left
   pub top : HasSideWidths block.top
 
-pub record IsWork (asked : QuiltRun) (sample : Cells) (work : Work) : Type 0 where
+pub record IsQuiltWork (asked : QuiltRun) (sample : Cells) (work : QuiltWork) : Type 0 where
   pub steps : QuiltsTo asked.plan sample (first_quilting asked.size asked.seed) work.blocks.items
       (quilting work.canvas.map work.draws)
   pub size : work.canvas.map.size ≡ asked.size
-  pub pictures : ArePictures work.canvas sample
-  pub laid : IsLaid asked.plan sample work.canvas.map
+  pub pictures : HaveOneFrame work.canvas sample
+  pub laid : IsLaidByBlocks asked.plan sample work.canvas.map
   pub canvas : IsCanvas work.canvas
   pub cells : work.cells ≡ block_cells work.blocks.items
   pub within : work.cells ≤ MOST_BOX_CELLS
@@ -69,12 +71,14 @@ pub record IsWork (asked : QuiltRun) (sample : Cells) (work : Work) : Type 0 whe
   pub each : All (IsFileBlock asked.size sample) work.blocks.items
 
 -- one step more, or none where the canvas is full
-abbrev pub Advances : QuiltRun → Cells → Work → Work → Result Bool QuiltError → Type 0
-Advances asked sample was now (Ok true) = IsWork asked sample now × (was.cells < now.cells)
-Advances asked sample was now (Ok false) = IsWork asked sample now × IsFull now.canvas.map
-Advances asked sample was now (Err error) = IsQuiltFault asked sample error
+abbrev pub QuiltAdvances :
+    QuiltRun → Cells → QuiltWork → QuiltWork → Result Bool QuiltError → Type 0
+QuiltAdvances asked sample was now (Ok true) =
+    IsQuiltWork asked sample now × (was.cells < now.cells)
+QuiltAdvances asked sample was now (Ok false) = IsQuiltWork asked sample now × IsFull now.canvas.map
+QuiltAdvances asked sample was now (Err error) = IsQuiltFault asked sample error
 
 -- all steps
-abbrev pub Lays : QuiltRun → Cells → Result Work QuiltError → Type 0
-Lays asked sample (Ok now) = IsWork asked sample now × IsFull now.canvas.map
-Lays asked sample (Err error) = IsQuiltFault asked sample error
+abbrev pub LaysQuilt : QuiltRun → Cells → Result QuiltWork QuiltError → Type 0
+LaysQuilt asked sample (Ok now) = IsQuiltWork asked sample now × IsFull now.canvas.map
+LaysQuilt asked sample (Err error) = IsQuiltFault asked sample error

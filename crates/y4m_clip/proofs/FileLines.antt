@@ -7,9 +7,9 @@ use Rattle.shelf_core.specs.declared.fault.ReadError.TheVariants.{Bad, Limit}
 use Rattle.shelf_core.specs.declared.fault.FormFault.TheVariants.{Form}
 use Rattle.shelf_core.specs.declared.fault.What.TheVariants.{Header}
 use Rattle.shelf_core.specs.Files.{ShelfState, Reads, content_of, Changes}
-use Rattle.y4m_clip.specs.declared.scan.Scan.TheVariants.{Magic, Whole}
-use Rattle.y4m_clip.specs.declared.scan.Scanned.{Scanned}
-use Rattle.y4m_clip.specs.declared.scan.Scanned.TheVariants.{Open, Broken, Ended}
+use Rattle.y4m_clip.specs.declared.scan.LineScan.TheVariants.{Magic, Whole}
+use Rattle.y4m_clip.specs.declared.scan.ScannedLine.{ScannedLine}
+use Rattle.y4m_clip.specs.declared.scan.ScannedLine.TheVariants.{Open, Broken, Ended}
 use Rattle.y4m_clip.specs.StreamLine.{Continues, IsStreamLine, IsLinePrefix, IsProperLinePrefix}
 use Rattle.y4m_clip.specs.Scanning.{line_run}
 use Rattle.y4m_clip.specs.Reading.{GoesWrong, EndsAfter, IsStreamScanned, IsLineOf, line_judged, IsLineFound, FindsLineAs}
@@ -116,20 +116,20 @@ broken_found bytes count i is wrong =
       here = inr (omega arith, λ prefix. wrong.here (subst IsLinePrefix (sym (front_of bytes count (i + 1) (omega arith))) prefix));
     }
 
-pub line_found : (bytes buffer : List ℕ) (count : ℕ) (scanned : Scanned) → length buffer ≡ 4097 → Reads bytes 0 buffer count → IsStreamScanned (take count buffer) scanned
+pub line_found : (bytes buffer : List ℕ) (count : ℕ) (scanned : ScannedLine) → length buffer ≡ 4097 → Reads bytes 0 buffer count → IsStreamScanned (take count buffer) scanned
     → IsLineFound bytes (line_judged count scanned)
 line_found bytes buffer count scanned room reads is = by scanned (subst (λ t. IsStreamScanned t scanned) reads.read is)
   where
     all : count ≡ min 4097 (length bytes)
     all = omega (arith, reads.count)
 
-    by : (s : Scanned) → IsStreamScanned (take count bytes) s → IsLineFound bytes (line_judged count s)
+    by : (s : ScannedLine) → IsStreamScanned (take count bytes) s → IsLineFound bytes (line_judged count s)
     by Open proper = open_found bytes count (nat_lt 4096 count) all refl proper
     by (Broken i) wrong = broken_found bytes count i all wrong
     by (Ended n) ends = ended_found bytes count n (nat_lt 4096 n) all refl ends
 
 -- as the shelf tells it
-pub finds_as : (name buffer : List ℕ) (count : ℕ) (scanned : Scanned) (a b : ShelfState) → length buffer ≡ 4097 → Changes a b (λ was now. Reads (content_of was name) 0 buffer count)
+pub finds_as : (name buffer : List ℕ) (count : ℕ) (scanned : ScannedLine) (a b : ShelfState) → length buffer ≡ 4097 → Changes a b (λ was now. Reads (content_of was name) 0 buffer count)
     → IsStreamScanned (take count buffer) scanned → FindsLineAs name a b (line_judged count scanned)
 finds_as name buffer count scanned a b room reads is =
     by scanned
@@ -146,7 +146,7 @@ finds_as name buffer count scanned a b room reads is =
     limit_or_length n true seen = seen
     limit_or_length n false seen = seen
 
-    by : (s : Scanned) → Sees a b (λ files. IsLineFound (content_of files name) (line_judged count s)) → FindsLineAs name a b (line_judged count s)
+    by : (s : ScannedLine) → Sees a b (λ files. IsLineFound (content_of files name) (line_judged count s)) → FindsLineAs name a b (line_judged count s)
     by Open seen = limit_or_form (nat_lt 4096 count) seen
     by (Broken i) seen = seen
     by (Ended n) seen = limit_or_length n (nat_lt 4096 n) seen
@@ -158,7 +158,7 @@ some_continues letters [] text (both, suc n, is) = let e : text ≡ 32 ∷ (repl
 some_continues letters ([] ∷ tags) text goes = absurd goes
 some_continues letters ((letter ∷ value) ∷ tags) text goes = let e : text ≡ 32 ∷ (replicate goes.3 32 ++ letter ∷ value ++ goes.4) = goes.5 in omega (arith, ap length e)
 
-pub judged_sound : (text : List ℕ) (count : ℕ) (scanned : Scanned) → IsStreamScanned text scanned → IfOk (line_judged count scanned) (λ n. (10 ≤ n) × (n ≤ 4096))
+pub judged_sound : (text : List ℕ) (count : ℕ) (scanned : ScannedLine) → IsStreamScanned text scanned → IfOk (line_judged count scanned) (λ n. (10 ≤ n) × (n ≤ 4096))
 judged_sound text count Open is = tested (nat_lt 4096 count)
   where
     tested : (past : Bool) → IfOk (cond past (Err (Limit Header 4097 4096)) (Err (Bad (Form count)))) (λ n. (10 ≤ n) × (n ≤ 4096))
@@ -175,7 +175,7 @@ judged_sound text count (Ended n) is = tested (nat_lt 4096 n) refl
     tested false e = (omega (arith, length-take-le n text is.inside, ap length whole.is, length-append magic whole.rest, some_continues [] is.line.0 whole.rest whole.continues), ltb-false 4096 n e)
 
 -- the line that was found stands in what was scanned
-pub judged_line : (buffer : List ℕ) (count : ℕ) (scanned : Scanned) → IsStreamScanned (take count buffer) scanned → count ≤ length buffer → IfOk (line_judged count scanned) (λ n. IsLineOf (take n buffer))
+pub judged_line : (buffer : List ℕ) (count : ℕ) (scanned : ScannedLine) → IsStreamScanned (take count buffer) scanned → count ≤ length buffer → IfOk (line_judged count scanned) (λ n. IsLineOf (take n buffer))
 judged_line buffer count Open is le = tested (nat_lt 4096 count)
   where
     tested : (past : Bool) → IfOk (cond past (Err (Limit Header 4097 4096)) (Err (Bad (Form count)))) (λ n. IsLineOf (take n buffer))

@@ -4,7 +4,9 @@ use Rattle.std.specs.Prelude.{Some, IsSome, unwrap_or}
 use Rattle.std.specs.List.{AllByRecursion, concat}
 use Rattle.std.proofs.lemmas.Int.{ints}
 use Rattle.std.proofs.Math.Nat.{mul-le-mul_left}
-use Rattle.std.proofs.lemmas.List.{length-append, length-take-le, length-drop, append-nil, drop-drop, drop_at, take_all, take-append-le, drop-append-le, get_or-take, get_or-drop}
+use Rattle.std.proofs.lemmas.List.{length-append, length-set, length-take-le, length-drop, append-nil, drop-drop, drop_at, take_all, take-append-le, drop-append-le, get_or-take, get_or-drop, take_more_set}
+use Rattle.std.proofs.Math.ListN.{set}
+use Rattle.std.proofs.Math.Seq.{take-add, take-suc}
 use Rattle.std.proofs.lemmas.List.Elements.{All-take, All-drop, recursion_from_All}
 use Rattle.cells.specs.Places.{IsInside, spot, index_in}
 use Rattle.cells.specs.Cells.{Cells, HasRun, IsCell, IsVolume, index_of, row_at, run_from}
@@ -16,7 +18,7 @@ use Rattle.y4m_clip.specs.declared.form.SpaceKind.{SpaceKind}
 use Rattle.y4m_clip.specs.declared.form.SpaceKind.TheVariants.{Mono, C444, C422, C411, C420}
 use Rattle.y4m_clip.specs.Spaces.{cell_width, cell_height, samples_of, joined_to}
 use Rattle.y4m_clip.specs.Clips.{span}
-use Rattle.y4m_clip.specs.Writing.{cell_in, row_samples, plane_of, planes_of}
+use Rattle.y4m_clip.specs.Writing.{written_cell, row_samples, plane_of, planes_of}
 use Rattle.y4m_clip.specs.Laying.{Lays, run_samples}
 
 -- Pieces.
@@ -40,7 +42,42 @@ laid_more n part a b c at next last first second =
     laid_same (joined_to (suc n) part) (joined_to (n + 1) part) a c at last (ap (λ m. joined_to m part) one)
     (laid_then (joined_to n part) (part n) a b c at next last first second)
 
+pub one_laid : (piece was : List ℕ) (at : ℕ) → length piece ≡ 1 → at < length was → Lays piece was at (set was at (get_or piece 0 0)) (at + 1)
+one_laid [] was at one lt = absurd (omega arith)
+one_laid (byte ∷ []) was at one lt = record { room = length-set was at byte; place = refl; front = take_more_set was at byte lt }
+one_laid (byte ∷ more ∷ rest) was at one lt = absurd (omega arith)
+
+pub two_laid : (piece was : List ℕ) (at : ℕ) → length piece ≡ 2 → at + 1 < length was → Lays piece was at (set (set was at (get_or piece 0 0)) (at + 1) (get_or piece 1 0)) (at + 2)
+two_laid [] was at two lt = absurd (omega arith)
+two_laid (byte ∷ []) was at two lt = absurd (omega arith)
+two_laid (byte ∷ next ∷ []) was at two lt =
+    let after : at + 1 + 1 ≡ at + 2 = omega arith in
+    let inside : at + 1 < length (set was at byte) = omega (arith, length-set was at byte) in
+    subst (Lays (byte ∷ next ∷ []) was at (set (set was at byte) (at + 1) next)) after
+    (laid_then (byte ∷ []) (next ∷ []) was (set was at byte) (set (set was at byte) (at + 1) next) at (at + 1) (at + 1 + 1)
+    (one_laid (byte ∷ []) was at refl (omega arith)) (one_laid (next ∷ []) (set was at byte) (at + 1) refl inside))
+two_laid (byte ∷ next ∷ more ∷ rest) was at two lt = absurd (omega arith)
+
 -- Lists that a function gives.
+
+-- each byte of a list, so far
+pub joined_bytes : (bytes : List ℕ) (w : ℕ) → w ≤ length bytes → joined_to w (λ x. get_or bytes x 0 ∷ []) ≡ take w bytes
+joined_bytes bytes zero le = refl
+joined_bytes bytes (suc w) le = ap (λ t. t ++ get_or bytes w 0 ∷ []) (joined_bytes bytes w (omega arith)) ∙ sym (take-suc bytes w 0 (omega arith))
+
+-- all bytes of each run, so far
+joined_runs : (bytes : List ℕ) (k w : ℕ) → run_samples bytes k 0 k w ≡ take (k * w) bytes
+joined_runs bytes k zero = ap (λ m. take m bytes) (let none : 0 ≡ k * 0 = omega arith in none)
+joined_runs bytes k (suc w) =
+    let more : k * w + k ≡ k * suc w = omega arith in
+    let from : k * w + 0 ≡ k * w = omega arith in
+    (λ i. joined_runs bytes k w i ++ take k (drop (from i) bytes)) ∙ sym (take-add (k * w) k bytes) ∙ ap (λ m. take m bytes) more
+
+pub runs_laid : (bytes was now : List ℕ) (k start count w at next : ℕ) → length bytes ≡ k * w → start + count ≤ k → count ≡ k → Lays bytes was at now next → Lays (run_samples bytes k start count w) was at now next
+runs_laid bytes was now k start count w at next whole inside all laid =
+    let begin : 0 ≡ start = omega arith in
+    laid_same bytes (run_samples bytes k start count w) was now at next
+    (sym (take_all (k * w) bytes (omega arith)) ∙ sym (joined_runs bytes k w) ∙ (λ i. run_samples bytes k (begin i) (sym all i) w)) laid
 
 pub length-joined_below : (n k : ℕ) (part : ℕ → List ℕ) → ((i : ℕ) → i < n → length (part i) ≡ k) → length (joined_to n part) ≡ k * n
 length-joined_below zero k part each = omega arith
@@ -91,7 +128,7 @@ pub record IsFrameRow (v : Cells) (y f : ℕ) : Type 0 where
   pub start : index_of v (spot 0 y f) ≡ Some first
   pub run : HasRun v (spot 0 y f) v.size.w
   pub fits : first + v.size.w ≤ length v.cells
-  pub cell : (x : ℕ) → x < v.size.w → cell_in v f y x ≡ get_or v.cells (first + x) []
+  pub cell : (x : ℕ) → x < v.size.w → written_cell v f y x ≡ get_or v.cells (first + x) []
 
 pub frame_row_of : (v : Cells) → IsVolume v → (y f : ℕ) → y < v.size.h → f < v.size.f → IsFrameRow v y f
 frame_row_of v is y f ly lf =
@@ -133,7 +170,7 @@ row_laid v is y f start count ly lf inside = same_joined v.size.w _ _ each
     long : length cells ≡ v.size.w
     long = length-take-le v.size.w (drop row.first v.cells) (omega (arith, length-drop row.first v.cells, row.fits))
 
-    each : (x : ℕ) → x < v.size.w → span (row_at v (spot 0 y f) v.size.w) (v.k * x + start) count ≡ span (cell_in v f y x) start count
+    each : (x : ℕ) → x < v.size.w → span (row_at v (spot 0 y f) v.size.w) (v.k * x + start) count ≡ span (written_cell v f y x) start count
     each x lx =
         ap (λ t. span t (v.k * x + start) count) bytes_are
         ∙ span_of_cells v.k x start count cells have (omega (arith, long)) inside

@@ -3,8 +3,8 @@ use Rattle.std.proofs.Common.{◌≡◌, ℕ, suc, ◌⊎◌, inl, inr, List, []
 use Rattle.std.specs.Prelude.{Option, Some, None, option_and_then, ◌==◌, nat_le, nat_lt, ◌&&◌, ◌||◌, not}
 use Rattle.std.specs.List.{AllByRecursion, list_any}
 use Rattle.y4m_clip.specs.declared.scan.Letters.{Letters}
-use Rattle.y4m_clip.specs.declared.scan.Scan.{Scan}
-use Rattle.y4m_clip.specs.declared.scan.Scan.TheVariants.{Magic, Gap, Value, Number, Whole}
+use Rattle.y4m_clip.specs.declared.scan.LineScan.{LineScan}
+use Rattle.y4m_clip.specs.declared.scan.LineScan.TheVariants.{Magic, Gap, Value, Number, Whole}
 use Rattle.y4m_clip.specs.StreamLine.{IsInk, is_axis, IsCount, MayHaveValue, IsTagValue}
 use Rattle.y4m_clip.specs.Scanning.{line_kind, no_letters, with_letter, may_follow, line_ended, tag_entered, in_gap, in_value, in_number, line_step, line_run}
 use Rattle.y4m_clip.proofs.Lines.{Goes, InTag, IsRest, Completes, ink_kind, kinds, test_digit, or_sooner}
@@ -13,11 +13,11 @@ some_same : {A : Type 0} (x y : A) → Some x ≡ Some y → x ≡ y
 some_same x y e = cc
 
 -- a choice that gives something was made
-if_some : (t : Bool) (o : Option Scan) (next : Scan) → cond t o None ≡ Some next → (t ≡ true) × (o ≡ Some next)
+if_some : (t : Bool) (o : Option LineScan) (next : LineScan) → cond t o None ≡ Some next → (t ≡ true) × (o ≡ Some next)
 if_some true o next e = (refl, e)
 if_some false o next e = cc
 
-end_back : (s : Letters) (next : Scan) → line_ended s ≡ Some next → (s.w && s.h ≡ true) × (Whole ≡ next)
+end_back : (s : Letters) (next : LineScan) → line_ended s ≡ Some next → (s.w && s.h ≡ true) × (Whole ≡ next)
 end_back s next step = let both = if_some (s.w && s.h) (Some Whole) next step in (both.0, some_same Whole next both.1)
 
 more_blank : (s : Letters) (tags : List (List ℕ)) (text : List ℕ) → Goes s tags (32 ∷ text) → Goes s tags (32 ∷ 32 ∷ text)
@@ -26,13 +26,13 @@ more_blank s ([] ∷ tags) text goes = goes
 more_blank s ((letter ∷ value) ∷ tags) text (ink, may, valued, n, rest, is, goes) = (ink, may, valued, suc n, rest, ap (λ t. 32 ∷ t) is, goes)
 
 -- LF alone is the rest of a line behind W and H
-last_end : (s : Letters) (b : ℕ) (text : List ℕ) (next : Scan) → b ≡ 10 → line_ended s ≡ Some next → Completes next text → Goes s [] (b ∷ text)
+last_end : (s : Letters) (b : ℕ) (text : List ℕ) (next : LineScan) → b ≡ 10 → line_ended s ≡ Some next → Completes next text → Goes s [] (b ∷ text)
 last_end s b text next is step at =
     let both = end_back s next step in
     let none : text ≡ [] = subst (λ n. Completes n text) (sym both.1) at in
     (both.0, 0, (λ i. is i ∷ none i))
 
-enter_back : (s : Letters) (b : ℕ) (text : List ℕ) (next : Scan) → IsInk b → tag_entered s b ≡ Some next → Completes next text → (tags : List (List ℕ)) × Goes s tags (32 ∷ b ∷ text)
+enter_back : (s : Letters) (b : ℕ) (text : List ℕ) (next : LineScan) → IsInk b → tag_entered s b ≡ Some next → Completes next text → (tags : List (List ℕ)) × Goes s tags (32 ∷ b ∷ text)
 enter_back s b text next ink step at =
     let may = if_some (may_follow s b) (cond (is_axis b) (Some (Number (with_letter s b) false)) (Some (Value (with_letter s b)))) next step in
     tested (is_axis b) refl may.0 may.1
@@ -53,7 +53,7 @@ enter_back s b text next ink step at =
         let valued : IsTagValue b in_tag.value = subst (λ t. MayHaveValue t in_tag.value) (sym e) in_tag.holds in
         ((b ∷ in_tag.value) ∷ in_tag.tags, (ink, may, valued, 0, in_tag.later, ap (λ t. 32 ∷ b ∷ t) in_tag.is, in_tag.goes))
 
-gap_back : (s : Letters) (b : ℕ) (text : List ℕ) (next : Scan) → in_gap s b (line_kind b) ≡ Some next → Completes next text → Completes (Gap s) (b ∷ text)
+gap_back : (s : Letters) (b : ℕ) (text : List ℕ) (next : LineScan) → in_gap s b (line_kind b) ≡ Some next → Completes next text → Completes (Gap s) (b ∷ text)
 gap_back s b text next step at = by (kinds b)
   where
     by : (b ≡ 32) ⊎ (b ≡ 10) ⊎ IsInk b → Completes (Gap s) (b ∷ text)
@@ -66,7 +66,7 @@ gap_back s b text next step at = by (kinds b)
         ([], (goes.0, suc goes.1, ap (λ t. 32 ∷ t) goes.2))
     by (inr (inr ink)) = enter_back s b text next ink (sym (ap (in_gap s b) (ink_kind b ink)) ∙ step) at
 
-value_back : (s : Letters) (b : ℕ) (text : List ℕ) (next : Scan) → in_value s (line_kind b) ≡ Some next → Completes next text → Completes (Value s) (b ∷ text)
+value_back : (s : Letters) (b : ℕ) (text : List ℕ) (next : LineScan) → in_value s (line_kind b) ≡ Some next → Completes next text → Completes (Value s) (b ∷ text)
 value_back s b text next step at = by (kinds b)
   where
     by : (b ≡ 32) ⊎ (b ≡ 10) ⊎ IsInk b → Completes (Value s) (b ∷ text)
@@ -87,7 +87,7 @@ value_back s b text next step at = by (kinds b)
         let more : InTag s (AllByRecursion IsInk) text = subst (λ n. Completes n text) (sym same) at in
         record { value = b ∷ more.value; later = more.later; tags = more.tags; holds = (ink, more.holds); is = ap (λ t. b ∷ t) more.is; goes = more.goes }
 
-number_back : (s : Letters) (positive : Bool) (b : ℕ) (text : List ℕ) (next : Scan) → in_number s positive b (line_kind b) ≡ Some next → Completes next text → Completes (Number s positive) (b ∷ text)
+number_back : (s : Letters) (positive : Bool) (b : ℕ) (text : List ℕ) (next : LineScan) → in_number s positive b (line_kind b) ≡ Some next → Completes next text → Completes (Number s positive) (b ∷ text)
 number_back s positive b text next step at = by (kinds b)
   where
     rest_of : positive ≡ true → IsRest positive []
@@ -113,7 +113,7 @@ number_back s positive b text next step at = by (kinds b)
           goes = more.goes;
         }
 
-magic_back : (b : ℕ) (text : List ℕ) (next : Scan) → line_step Magic b ≡ Some next → Completes next text → Completes Magic (b ∷ text)
+magic_back : (b : ℕ) (text : List ℕ) (next : LineScan) → line_step Magic b ≡ Some next → Completes next text → Completes Magic (b ∷ text)
 magic_back b text next step at = by (kinds b)
   where
     by : (b ≡ 32) ⊎ (b ≡ 10) ⊎ IsInk b → Completes Magic (b ∷ text)
@@ -127,7 +127,7 @@ magic_back b text next step at = by (kinds b)
         eqb_same : (x y : ℕ) → (x == y) ≡ true → x ≡ y
         eqb_same x y e = grind (arith)
 
-pub back : (s : Scan) (b : ℕ) (text : List ℕ) (next : Scan) → line_step s b ≡ Some next → Completes next text → Completes s (b ∷ text)
+pub back : (s : LineScan) (b : ℕ) (text : List ℕ) (next : LineScan) → line_step s b ≡ Some next → Completes next text → Completes s (b ∷ text)
 back Magic b text next step at = magic_back b text next step at
 back (Gap s) b text next step at = gap_back s b text next step at
 back (Value s) b text next step at = value_back s b text next step at
@@ -135,12 +135,12 @@ back (Number s positive) b text next step at = number_back s positive b text nex
 back Whole b text next step at = let none : None ≡ Some next = step in absurd cc
 
 -- what the scanner came through, and a text that completes the line behind it, complete the line
-pub run_completes : (s : Scan) (text rest : List ℕ) (next : Scan) → line_run s text ≡ Some next → Completes next rest → Completes s (text ++ rest)
+pub run_completes : (s : LineScan) (text rest : List ℕ) (next : LineScan) → line_run s text ≡ Some next → Completes next rest → Completes s (text ++ rest)
 run_completes s [] rest next run at = subst (λ n. Completes n rest) (sym (some_same s next run)) at
 run_completes s (b ∷ text) rest next run at = stepped (line_step s b) refl run (λ n more. run_completes n text rest next more at)
   where
-    stepped : (o : Option Scan) → line_step s b ≡ o → option_and_then (λ n. line_run n text) o ≡ Some next
-        → ((n : Scan) → line_run n text ≡ Some next → Completes n (text ++ rest)) → Completes s (b ∷ (text ++ rest))
+    stepped : (o : Option LineScan) → line_step s b ≡ o → option_and_then (λ n. line_run n text) o ≡ Some next
+        → ((n : LineScan) → line_run n text ≡ Some next → Completes n (text ++ rest)) → Completes s (b ∷ (text ++ rest))
     stepped None e more each = let none : None ≡ Some next = more in absurd cc
     stepped (Some n) e more each = back s b (text ++ rest) n e (each n more)
 
@@ -189,7 +189,7 @@ lasts s = tested s.w refl
           ),
         )
 
-pub finishes : (s : Scan) → (rest : List ℕ) × Completes s rest
+pub finishes : (s : LineScan) → (rest : List ℕ) × Completes s rest
 finishes Magic = let last = lasts no_letters in (32 ∷ last.1, (last.0, last.2))
 finishes (Gap s) = let last = lasts s in (last.1, (last.0, last.2))
 finishes (Value s) = let last = lasts s in (32 ∷ last.1, record { value = []; later = 32 ∷ last.1; tags = last.0; holds = tt; is = refl; goes = last.2 })

@@ -5,10 +5,10 @@ use Rattle.std.specs.Prelude.{Some, None, option_and_then, ◌==◌, nat_le, nat
 use Rattle.std.specs.List.{AllByRecursion, list_any}
 use Rattle.std.proofs.lemmas.Bool.{eqb-true, eqb-false}
 use Rattle.std.proofs.lemmas.Bool.Decides.{nat_tests}
-use Rattle.y4m_clip.specs.declared.scan.Kind.TheVariants.{Ink}
+use Rattle.y4m_clip.specs.declared.scan.LineKind.TheVariants.{Ink}
 use Rattle.y4m_clip.specs.declared.scan.Letters.{Letters}
-use Rattle.y4m_clip.specs.declared.scan.Scan.{Scan}
-use Rattle.y4m_clip.specs.declared.scan.Scan.TheVariants.{Magic, Gap, Value, Number, Whole}
+use Rattle.y4m_clip.specs.declared.scan.LineScan.{LineScan}
+use Rattle.y4m_clip.specs.declared.scan.LineScan.TheVariants.{Magic, Gap, Value, Number, Whole}
 use Rattle.y4m_clip.specs.StreamLine.{IsInk, IsDigit, is_axis, MayHaveValue, IsTagValue, has_stood, Continues}
 use Rattle.y4m_clip.specs.Scanning.{line_kind, no_letters, with_letter, may_follow, line_ended, tag_entered, in_gap, in_value, in_number, line_step, line_run}
 
@@ -57,7 +57,7 @@ pub record IsRest (positive : Bool) (value : List ℕ) : Type 0 where
   pub some : positive || list_any (nat_lt 48) value ≡ true
 
 -- what completes a line at each place of the scanner
-abbrev pub Completes : Scan → List ℕ → Type 0
+abbrev pub Completes : LineScan → List ℕ → Type 0
 Completes Magic text = (tags : List (List ℕ)) × Goes no_letters tags text
 Completes (Gap s) text = (tags : List (List ℕ)) × Goes s tags (32 ∷ text)
 Completes (Value s) text = InTag s (AllByRecursion IsInk) text
@@ -65,8 +65,8 @@ Completes (Number s positive) text = InTag s (IsRest positive) text
 Completes Whole text = text ≡ []
 
 -- a step with a byte, behind which the text completes the line
-pub record Onward (s : Scan) (b : ℕ) (text : List ℕ) : Type 0 where
-  pub next : Scan
+pub record Onward (s : LineScan) (b : ℕ) (text : List ℕ) : Type 0 where
+  pub next : LineScan
   pub step : line_step s b ≡ Some next
   pub completes : Completes next text
 
@@ -118,10 +118,10 @@ begins s ((letter ∷ value) ∷ tags) b text goes = let is : b ∷ text ≡ 32 
 
 -- the byte behind a blank
 enters : (s : Letters) (b : ℕ) (value later : List ℕ) (tags : List (List ℕ)) → may_follow s b ≡ true → IsTagValue b value → Goes (with_letter s b) tags later
-    → (next : Scan) × (tag_entered s b ≡ Some next) × Completes next (value ++ later)
+    → (next : LineScan) × (tag_entered s b ≡ Some next) × Completes next (value ++ later)
 enters s b value later tags may valued goes = tested (is_axis b) refl valued
   where
-    tested : (t : Bool) → is_axis b ≡ t → MayHaveValue t value → (next : Scan) × (tag_entered s b ≡ Some next) × Completes next (value ++ later)
+    tested : (t : Bool) → is_axis b ≡ t → MayHaveValue t value → (next : LineScan) × (tag_entered s b ≡ Some next) × Completes next (value ++ later)
     tested true e is = (
       Number (with_letter s b) false,
       ap (λ t. cond t (cond (is_axis b) (Some (Number (with_letter s b) false)) (Some (Value (with_letter s b)))) None) may
@@ -229,7 +229,7 @@ magic_onward tags b text goes = by (begins no_letters tags b text goes)
       completes = (tags, subst (λ c. Goes no_letters tags (c ∷ text)) blank goes);
     }
 
-pub onward : (s : Scan) (b : ℕ) (text : List ℕ) → Completes s (b ∷ text) → Onward s b text
+pub onward : (s : LineScan) (b : ℕ) (text : List ℕ) → Completes s (b ∷ text) → Onward s b text
 onward Magic b text at = magic_onward at.0 b text at.1
 onward (Gap s) b text at = gap_onward s at.0 b text at.1
 onward (Value s) b text at = value_onward s b text at.value at.later at.tags at.holds at.is at.goes
@@ -237,7 +237,7 @@ onward (Number s positive) b text at = number_onward s positive b text at.value 
 onward Whole b text at = absurd cc
 
 -- a text that completes the line leads the scanner on, and the rest completes it there
-pub completes_run : (s : Scan) (text rest : List ℕ) → Completes s (text ++ rest) → (next : Scan) × (line_run s text ≡ Some next) × Completes next rest
+pub completes_run : (s : LineScan) (text rest : List ℕ) → Completes s (text ++ rest) → (next : LineScan) × (line_run s text ≡ Some next) × Completes next rest
 completes_run s [] rest at = (s, refl, at)
 completes_run s (b ∷ text) rest at =
     let on = onward s b (text ++ rest) at in
@@ -264,7 +264,7 @@ nothing_left [] later is = sym is
 nothing_left (v ∷ value) later is = cc
 
 -- nothing is left behind the whole line alone
-pub only_whole : (s : Scan) → Completes s [] → s ≡ Whole
+pub only_whole : (s : LineScan) → Completes s [] → s ≡ Whole
 only_whole Magic at = absurd (some_rest no_letters at.0 [] at.1 refl)
 only_whole (Gap s) at = absurd (no_blank_alone s at.0 at.1)
 only_whole (Value s) at = absurd (some_rest s at.tags at.later at.goes (nothing_left at.value at.later at.is))

@@ -16,7 +16,7 @@ use Rattle.y4m_clip.specs.declared.form.SpaceKind.{SpaceKind}
 use Rattle.y4m_clip.specs.declared.form.SpaceKind.TheVariants.{Mono, C444, C422, C411, C420}
 use Rattle.y4m_clip.specs.Spaces.{cell_width, cell_height, samples_of, joined_to, cell_bytes}
 use Rattle.y4m_clip.specs.Clips.{span, pixels_of, frame_row, frame_cells, plane_bytes}
-use Rattle.y4m_clip.specs.Writing.{cell_in, row_samples, plane_of, planes_of}
+use Rattle.y4m_clip.specs.Writing.{written_cell, row_samples, plane_of, planes_of}
 use Rattle.y4m_clip.proofs.Laying.{length-joined_below, same_joined, length-span, in_runs}
 
 -- Spans.
@@ -65,20 +65,20 @@ get_of_part n m i j part each below fits =
 
 -- where the cell at x, y of frame f stands, and that it has k samples
 record Stands (v : Cells) (f y x : ℕ) : Type 0 where
-  here : cell_in v f y x ≡ get_or v.cells (x + v.size.w * (y + v.size.h * f)) []
-  long : length (cell_in v f y x) ≡ v.k
+  here : written_cell v f y x ≡ get_or v.cells (x + v.size.w * (y + v.size.h * f)) []
+  long : length (written_cell v f y x) ≡ v.k
 
 cell_stands : (v : Cells) → IsVolume v → (f y x : ℕ) → f < v.size.f → y < v.size.h → x < v.size.w → Stands v f y x
 cell_stands v is f y x lf ly lx =
     let i : ℕ = x + v.size.w * (y + v.size.h * f) in
     let at : index_in v.size (spot x y f) ≡ Some i = index_of_spot v.size x y f lx ly lf in
-    let here : cell_in v f y x ≡ get_or v.cells i [] = ap (λ o. unwrap_or o []) (cell_is v is (spot x y f) i at) in
+    let here : written_cell v f y x ≡ get_or v.cells i [] = ap (λ o. unwrap_or o []) (cell_is v is (spot x y f) i at) in
     let below : i < length v.cells = omega (arith, is.count, index_from_below v.size v.more (spot x y f) i (index_front v.size v.more (spot x y f) i at)) in
     record { here = here; long = ap length here ∙ (is.cells i [] below).samples }
 
 length-row : (v : Cells) → IsVolume v → (f y start count : ℕ) → f < v.size.f → y < v.size.h → start + count ≤ v.k → length (row_samples v f y start count) ≡ count * v.size.w
 length-row v is f y start count lf ly fits =
-    length-joined_below v.size.w count (λ x. span (cell_in v f y x) start count) (λ x lx. length-span (cell_in v f y x) start count (omega (arith, (cell_stands v is f y x lf ly lx).long)))
+    length-joined_below v.size.w count (λ x. span (written_cell v f y x) start count) (λ x lx. length-span (written_cell v f y x) start count (omega (arith, (cell_stands v is f y x lf ly lx).long)))
 
 length-plane_rows : (v : Cells) → IsVolume v → (f y start count rows : ℕ) → f < v.size.f → y < v.size.h → start + count * rows ≤ v.k
     → length (joined_to rows (λ j. row_samples v f y (start + count * j) count)) ≡ count * v.size.w * rows
@@ -106,11 +106,11 @@ plane_row v is f y j start count rows lf ly lj fits =
 
 -- a sample of a row
 sample_of_row : (v : Cells) → IsVolume v → (f y x start count i n : ℕ) (row : List ℕ) → f < v.size.f → y < v.size.h → x < v.size.w → i < count → start + count ≤ v.k
-    → row ≡ row_samples v f y start count → n ≡ count * x + i → slice_index row n ≡ slice_index (cell_in v f y x) (start + i)
+    → row ≡ row_samples v f y start count → n ≡ count * x + i → slice_index row n ≡ slice_index (written_cell v f y x) (start + i)
 sample_of_row v is f y x start count i n row lf ly lx li fits same at =
     (λ l. slice_index (same l) (at l))
-    ∙ get_of_part v.size.w count x i (λ j. span (cell_in v f y j) start count) (λ j lj. length-span (cell_in v f y j) start count (omega (arith, (cell_stands v is f y j lf ly lj).long))) lx li
-    ∙ get-span (cell_in v f y x) start count i li
+    ∙ get_of_part v.size.w count x i (λ j. span (written_cell v f y j) start count) (λ j lj. length-span (written_cell v f y j) start count (omega (arith, (cell_stands v is f y j lf ly lj).long))) lx li
+    ∙ get-span (written_cell v f y x) start count i li
 
 -- The rows of three planes, one behind another.
 
@@ -213,7 +213,7 @@ RowAgain kind v f y = (x : ℕ) → x < v.size.w → cell_bytes kind
     (span (planes_of kind v f) (pixels_of kind (v.size.w * y)) (cell_width kind * v.size.w))
     (span (planes_of kind v f) (pixels_of kind (v.size.w * y) + cell_width kind * v.size.w * (cell_height kind - 1)) (cell_width kind * v.size.w))
     (span (planes_of kind v f) (pixels_of kind (v.size.w * v.size.h) + v.size.w * y) v.size.w)
-    (span (planes_of kind v f) (pixels_of kind (v.size.w * v.size.h) + v.size.w * v.size.h + v.size.w * y) v.size.w) x ≡ cell_in v f y x
+    (span (planes_of kind v f) (pixels_of kind (v.size.w * v.size.h) + v.size.w * v.size.h + v.size.w * y) v.size.w) x ≡ written_cell v f y x
 
 cells_of_row : (kind : SpaceKind) (v : Cells) → IsVolume v → v.k ≡ samples_of kind → (f y : ℕ) → f < v.size.f → y < v.size.h → RowAgain kind v f y
 unfolding RowAgain
@@ -223,20 +223,20 @@ cells_of_row Mono v is samples f y lf ly x lx =
     let upper : span (plane_of v f 0 1 1) (1 * (w * y)) (1 * w) ≡ row_samples v f y 0 1
     = ap (λ n. span (plane_of v f 0 1 1) n (1 * w)) at ∙ plane_row v is f y 0 0 1 1 lf ly (omega arith) (omega (arith, samples)) in
     let a = sample_of_row v is f y x 0 1 0 x _ lf ly lx (omega arith) (omega (arith, samples)) upper (omega arith) in
-    (λ i. a i ∷ []) ∙ sym (one_sample (cell_in v f y x) ((cell_stands v is f y x lf ly lx).long ∙ samples))
+    (λ i. a i ∷ []) ∙ sym (one_sample (written_cell v f y x) ((cell_stands v is f y x lf ly lx).long ∙ samples))
 cells_of_row C444 v is samples f y lf ly x lx =
     let rows = rows_of v is f y 1 1 1 2 lf ly (omega arith) (omega (arith, samples)) (omega (arith, samples)) (omega (arith, samples)) in
     let a = sample_of_row v is f y x 0 1 0 x _ lf ly lx (omega arith) (omega (arith, samples)) rows.upper (omega arith) in
     let b = sample_of_row v is f y x 1 1 0 x _ lf ly lx (omega arith) (omega (arith, samples)) rows.blue_row (omega arith) in
     let c = sample_of_row v is f y x 2 1 0 x _ lf ly lx (omega arith) (omega (arith, samples)) rows.red_row (omega arith) in
-    (λ i. a i ∷ b i ∷ c i ∷ []) ∙ sym (three_samples (cell_in v f y x) ((cell_stands v is f y x lf ly lx).long ∙ samples))
+    (λ i. a i ∷ b i ∷ c i ∷ []) ∙ sym (three_samples (written_cell v f y x) ((cell_stands v is f y x lf ly lx).long ∙ samples))
 cells_of_row C422 v is samples f y lf ly x lx =
     let rows = rows_of v is f y 2 1 2 3 lf ly (omega arith) (omega (arith, samples)) (omega (arith, samples)) (omega (arith, samples)) in
     let a = sample_of_row v is f y x 0 2 0 (2 * x) _ lf ly lx (omega arith) (omega (arith, samples)) rows.upper (omega arith) in
     let b = sample_of_row v is f y x 0 2 1 (2 * x + 1) _ lf ly lx (omega arith) (omega (arith, samples)) rows.upper (omega arith) in
     let c = sample_of_row v is f y x 2 1 0 x _ lf ly lx (omega arith) (omega (arith, samples)) rows.blue_row (omega arith) in
     let d = sample_of_row v is f y x 3 1 0 x _ lf ly lx (omega arith) (omega (arith, samples)) rows.red_row (omega arith) in
-    (λ i. a i ∷ b i ∷ c i ∷ d i ∷ []) ∙ sym (four_samples (cell_in v f y x) ((cell_stands v is f y x lf ly lx).long ∙ samples))
+    (λ i. a i ∷ b i ∷ c i ∷ d i ∷ []) ∙ sym (four_samples (written_cell v f y x) ((cell_stands v is f y x lf ly lx).long ∙ samples))
 cells_of_row C411 v is samples f y lf ly x lx =
     let rows = rows_of v is f y 4 1 4 5 lf ly (omega arith) (omega (arith, samples)) (omega (arith, samples)) (omega (arith, samples)) in
     let a = sample_of_row v is f y x 0 4 0 (4 * x) _ lf ly lx (omega arith) (omega (arith, samples)) rows.upper (omega arith) in
@@ -245,7 +245,7 @@ cells_of_row C411 v is samples f y lf ly x lx =
     let d = sample_of_row v is f y x 0 4 3 (4 * x + 3) _ lf ly lx (omega arith) (omega (arith, samples)) rows.upper (omega arith) in
     let e = sample_of_row v is f y x 4 1 0 x _ lf ly lx (omega arith) (omega (arith, samples)) rows.blue_row (omega arith) in
     let g = sample_of_row v is f y x 5 1 0 x _ lf ly lx (omega arith) (omega (arith, samples)) rows.red_row (omega arith) in
-    (λ i. a i ∷ b i ∷ c i ∷ d i ∷ e i ∷ g i ∷ []) ∙ sym (six_samples (cell_in v f y x) ((cell_stands v is f y x lf ly lx).long ∙ samples))
+    (λ i. a i ∷ b i ∷ c i ∷ d i ∷ e i ∷ g i ∷ []) ∙ sym (six_samples (written_cell v f y x) ((cell_stands v is f y x lf ly lx).long ∙ samples))
 cells_of_row C420 v is samples f y lf ly x lx =
     let rows = rows_of v is f y 2 2 4 5 lf ly (omega arith) (omega (arith, samples)) (omega (arith, samples)) (omega (arith, samples)) in
     let lower = rows.lower (omega arith) in
@@ -255,11 +255,11 @@ cells_of_row C420 v is samples f y lf ly x lx =
     let d = sample_of_row v is f y x 2 2 1 (2 * x + 1) _ lf ly lx (omega arith) (omega (arith, samples)) lower (omega arith) in
     let e = sample_of_row v is f y x 4 1 0 x _ lf ly lx (omega arith) (omega (arith, samples)) rows.blue_row (omega arith) in
     let g = sample_of_row v is f y x 5 1 0 x _ lf ly lx (omega arith) (omega (arith, samples)) rows.red_row (omega arith) in
-    (λ i. a i ∷ b i ∷ c i ∷ d i ∷ e i ∷ g i ∷ []) ∙ sym (six_samples (cell_in v f y x) ((cell_stands v is f y x lf ly lx).long ∙ samples))
+    (λ i. a i ∷ b i ∷ c i ∷ d i ∷ e i ∷ g i ∷ []) ∙ sym (six_samples (written_cell v f y x) ((cell_stands v is f y x lf ly lx).long ∙ samples))
 
 -- the cells of a frame, row by row
 pub cells_of_frame : (kind : SpaceKind) (v : Cells) → IsVolume v → v.k ≡ samples_of kind → (f : ℕ) → f < v.size.f
-    → frame_cells kind v.size.w v.size.h (planes_of kind v f) ≡ joined_to v.size.h (λ y. joined_to v.size.w (cell_in v f y))
+    → frame_cells kind v.size.w v.size.h (planes_of kind v f) ≡ joined_to v.size.h (λ y. joined_to v.size.w (written_cell v f y))
 unfolding RowAgain
 cells_of_frame kind v is samples f lf = same_joined v.size.h (frame_row kind v.size.w v.size.h (planes_of kind v f)) _ (λ y ly. same_joined v.size.w _ _ (cells_of_row kind v is samples f y lf ly))
 
@@ -311,7 +311,7 @@ joined_runs (suc n) m start cells =
     ∙ sym (concat-append (take (m * n) (drop start cells)) (take m (drop (m * n) (drop start cells))))
     ∙ ap concat (sym (take-add (m * n) m (drop start cells)) ∙ ap (λ l. take l (drop start cells)) (sym more))
 
-pub bytes_again : (v : Cells) → IsVolume v → IsOnePart v → joined_to v.size.f (λ f. joined_to v.size.h (λ y. joined_to v.size.w (cell_in v f y))) ≡ bytes_of v
+pub bytes_again : (v : Cells) → IsVolume v → IsOnePart v → joined_to v.size.f (λ f. joined_to v.size.h (λ y. joined_to v.size.w (written_cell v f y))) ≡ bytes_of v
 bytes_again v is one =
     same_joined f _ _ frame ∙ joined_runs f (w * h) 0 v.cells ∙ ap concat (take_all (w * h * f) v.cells (omega (arith, all)))
   where
@@ -327,15 +327,15 @@ bytes_again v is one =
     all : length v.cells ≡ w * h * f
     all = is.count ∙ ap (count_from v.size) one ∙ (let e : w * (h * f) ≡ w * h * f = grind arith in e)
 
-    row : (i : ℕ) → i < f → (y : ℕ) → y < h → joined_to w (cell_in v i y) ≡ concat (take w (drop (w * h * i + w * y) v.cells))
+    row : (i : ℕ) → i < f → (y : ℕ) → y < h → joined_to w (written_cell v i y) ≡ concat (take w (drop (w * h * i + w * y) v.cells))
     row i li y ly =
         let at : w * (y + h * i) ≡ w * h * i + w * y = grind arith in
         let one' : 1 * w ≡ w = omega arith in
-        same_joined w (cell_in v i y) (λ x. concat (take 1 (drop (w * h * i + w * y + 1 * x) v.cells)))
+        same_joined w (written_cell v i y) (λ x. concat (take 1 (drop (w * h * i + w * y + 1 * x) v.cells)))
         (λ x lx. (cell_stands v is i y x li ly lx).here ∙ ap (λ n. get_or v.cells n []) (let e : x + w * (y + h * i) ≡ w * h * i + w * y + 1 * x = omega (arith, at) in e) ∙ one_cell v.cells (w * h * i + w * y + 1 * x))
         ∙ joined_runs w 1 (w * h * i + w * y) v.cells ∙ ap (λ n. concat (take n (drop (w * h * i + w * y) v.cells))) one'
 
-    frame : (i : ℕ) → i < f → joined_to h (λ y. joined_to w (cell_in v i y)) ≡ concat (take (w * h) (drop (0 + w * h * i) v.cells))
+    frame : (i : ℕ) → i < f → joined_to h (λ y. joined_to w (written_cell v i y)) ≡ concat (take (w * h) (drop (0 + w * h * i) v.cells))
     frame i li =
         let none : w * h * i ≡ 0 + w * h * i = omega arith in
         same_joined h _ _ (row i li) ∙ joined_runs h w (w * h * i) v.cells ∙ ap (λ n. concat (take (w * h) (drop n v.cells))) none

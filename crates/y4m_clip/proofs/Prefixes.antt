@@ -3,8 +3,8 @@ use Rattle.std.proofs.Common.{◌≡◌, ℕ, zero, suc, ◌≤◌, ◌<◌, ◌
 use Rattle.std.specs.Prelude.{Some, None, codes}
 use Rattle.std.proofs.lemmas.List.{append-nil, length-append, take-append-drop, get_or-take, length-take-le, length-drop, take_all}
 use Rattle.std.proofs.Math.Seq.{take-append-add}
-use Rattle.y4m_clip.specs.declared.scan.Scan.{Scan}
-use Rattle.y4m_clip.specs.declared.scan.Scan.TheVariants.{Magic, Whole}
+use Rattle.y4m_clip.specs.declared.scan.LineScan.{LineScan}
+use Rattle.y4m_clip.specs.declared.scan.LineScan.TheVariants.{Magic, Whole}
 use Rattle.y4m_clip.specs.StreamLine.{IsStreamLine, IsLinePrefix, IsProperLinePrefix}
 use Rattle.y4m_clip.specs.Scanning.{no_letters, line_run, RunsInLine, BreaksInLine, EndsInLine}
 use Rattle.y4m_clip.specs.Reading.{Matches, GoesWrong, EndsAfter}
@@ -24,7 +24,7 @@ of_line text tags line = (tags, subst (Goes no_letters tags) (sym (ap (drop 9) l
 some_same : {A : Type 0} (x y : A) → Some x ≡ Some y → x ≡ y
 some_same x y e = cc
 
-pub run_prefix : (s : Scan) (text : List ℕ) → line_run Magic text ≡ Some s → IsLinePrefix (magic ++ text)
+pub run_prefix : (s : LineScan) (text : List ℕ) → line_run Magic text ≡ Some s → IsLinePrefix (magic ++ text)
 run_prefix s text run =
     let end = finishes s in
     let at = run_completes Magic text end.0 s run end.1 in

@@ -7,10 +7,10 @@ use Rattle.shelf_core.specs.declared.fault.ReadError.TheVariants.{ReadFault, Bad
 use Rattle.shelf_core.specs.declared.fault.FormFault.TheVariants.{Form}
 use Rattle.shelf_core.specs.declared.fault.What.TheVariants.{Header}
 use Rattle.y4m_clip.specs.declared.bounds.TheConstants.{MOST_LINE}
-use Rattle.y4m_clip.specs.declared.scan.Kind.{Kind}
-use Rattle.y4m_clip.specs.declared.scan.Kind.TheVariants.{Blank, LineEnd, Ink}
-use Rattle.y4m_clip.specs.declared.scan.Scanned.{Scanned}
-use Rattle.y4m_clip.specs.declared.scan.Scanned.TheVariants.{Open, Broken, Ended}
+use Rattle.y4m_clip.specs.declared.scan.LineKind.{LineKind}
+use Rattle.y4m_clip.specs.declared.scan.LineKind.TheVariants.{Blank, LineEnd, Ink}
+use Rattle.y4m_clip.specs.declared.scan.ScannedLine.{ScannedLine}
+use Rattle.y4m_clip.specs.declared.scan.ScannedLine.TheVariants.{Open, Broken, Ended}
 use Rattle.y4m_clip.specs.declared.line.Line.{Line}
 use Rattle.y4m_clip.specs.StreamLine.{IsStreamLine, IsLinePrefix, IsProperLinePrefix}
 use Rattle.y4m_clip.specs.Scanning.{line_kind}
@@ -37,7 +37,7 @@ pub record EndsAfter (text : List ℕ) (n : ℕ) : Type 0 where
   pub line : (tags : List (List ℕ)) × IsStreamLine (take n text) tags
 
 -- what the front of a file is
-abbrev pub IsStreamScanned : List ℕ → Scanned → Type 0
+abbrev pub IsStreamScanned : List ℕ → ScannedLine → Type 0
 IsStreamScanned text Open = IsProperLinePrefix text
 IsStreamScanned text (Broken i) = GoesWrong text i
 IsStreamScanned text (Ended n) = EndsAfter text n
@@ -48,7 +48,7 @@ flushed [] words = words
 flushed (b ∷ word) words = (b ∷ word) ∷ words
 
 -- the words of a text, of which the first has begun: runs of bytes that are neither blank nor LF
-abbrev pub gathered_on : Kind → List ℕ → ℕ → (List ℕ → List (List ℕ)) → List (List ℕ)
+abbrev pub gathered_on : LineKind → List ℕ → ℕ → (List ℕ → List (List ℕ)) → List (List ℕ)
 gathered_on Blank word b rest = flushed word (rest [])
 gathered_on LineEnd word b rest = flushed word (rest [])
 gathered_on Ink word b rest = rest (word ++ b ∷ [])
@@ -93,7 +93,7 @@ line_limit = Limit Header (MOST_LINE + 1) MOST_LINE
 
 -- the answer of a stream line, by what the scanner makes of the file's first bytes: as many as a line
 -- may have and one more, or all
-abbrev pub line_judged : ℕ → Scanned → Result ℕ ReadError
+abbrev pub line_judged : ℕ → ScannedLine → Result ℕ ReadError
 line_judged count Open =
     if nat_lt MOST_LINE count then Err line_limit else Err (Bad (Form count))
 line_judged count (Broken i) = Err (Bad (Form i))

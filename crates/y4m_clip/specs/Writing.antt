@@ -34,13 +34,13 @@ line_form form size =
     ++ codes " H" ++ decimal (cell_height form.space * size.h) ++ spaced form.tags ++ codes "\n"
 
 -- the bytes of the cell at x, y of frame f
-abbrev pub cell_in : Cells → ℕ → ℕ → ℕ → List ℕ
-cell_in volume f y x = unwrap_or (cell_at volume (spot x y f)) []
+abbrev pub written_cell : Cells → ℕ → ℕ → ℕ → List ℕ
+written_cell volume f y x = unwrap_or (cell_at volume (spot x y f)) []
 
 -- so many samples, from the one with this number on, of each cell of a row
 abbrev pub row_samples : Cells → ℕ → ℕ → ℕ → ℕ → List ℕ
 row_samples volume f y start count =
-    joined_to volume.size.w (λ x. span (cell_in volume f y x) start count)
+    joined_to volume.size.w (λ x. span (written_cell volume f y x) start count)
 
 -- a plane: for each row of cells so many rows of samples, the first of which has `count` samples
 -- of each cell, from the one with this number on, and the next row the `count` samples behind them

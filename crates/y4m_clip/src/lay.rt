@@ -8,16 +8,27 @@ ghost use Rattle.y4m_clip.specs.Laying.{Lays, run_samples};
 use crate::form::SpaceKind;
 use cells::{At, Volume};
 
-// Lays a piece into a buffer, from a place on. It gives the place behind it.
+// Lays a piece into a buffer, from a place on. It gives the place behind it. Most pieces are the one or two
+// samples of a cell, which are laid without a call that copies.
 fn lay(piece: &[u8], at: usize, planes: &mut [u8]) -> usize
     requires { at + length piece.now ≤ length planes.old }
     ensures { Lays piece.now planes.old at planes.new result }
 {
+    if piece.len() == 1 {
+        planes[at] = piece[0];
+        return at + 1;
+    }
+    if piece.len() == 2 {
+        planes[at] = piece[0];
+        planes[at + 1] = piece[1];
+        return at + 2;
+    }
     planes[at..at + piece.len()].copy_from_slice(piece);
     at + piece.len()
 }
 
-// Lays so many bytes, from the one with this number on, of each of w runs of k bytes.
+// Lays so many bytes, from the one with this number on, of each of w runs of k bytes: the row as it is,
+// where these are all bytes of a run.
 fn lay_samples(
     row: &[u8],
     k: usize,
@@ -32,6 +43,9 @@ fn lay_samples(
     requires room { at + count * w ≤ length planes.old }
     ensures { Lays (run_samples row.now k start count w) planes.old at planes.new result }
 {
+    if count == k {
+        return lay(row, at, planes);
+    }
     let mut next = at;
     for x in 0..w {
         let from = k * x + start;

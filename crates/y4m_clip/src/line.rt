@@ -6,7 +6,7 @@ ghost use Rattle.y4m_clip.specs.Reading.{Matches, IsStreamScanned, flushed, gath
 
 use crate::bounds::MOST_LINE;
 use crate::form::Tags;
-use crate::scan::{Kind, Scanned, classify, scan_line};
+use crate::scan::{LineKind, ScannedLine, classify, scan_line};
 use items::Items;
 use shelf_core::{FormFault, ReadError, Shelf, What};
 use std::alloc::{AllocError, Global};
@@ -33,22 +33,22 @@ pub fn matched(text: &[u8], word: &[u8]) -> usize
 }
 
 // Scans the front of a file.
-fn scan_stream(text: &[u8]) -> Scanned
+fn scan_stream(text: &[u8]) -> ScannedLine
     ensures scanned { IsStreamScanned text.now result }
     ensures sound { IsSoundLine (length text.now) result }
 {
     let n = matched(text, b"YUV4MPEG2");
     if n < 9 {
         return if n < text.len() {
-            Scanned::Broken(n)
+            ScannedLine::Broken(n)
         } else {
-            Scanned::Open
+            ScannedLine::Open
         };
     }
     match scan_line(&text[9..]) {
-        Scanned::Open => Scanned::Open,
-        Scanned::Broken(i) => Scanned::Broken(9 + i),
-        Scanned::Ended(n) => Scanned::Ended(9 + n),
+        ScannedLine::Open => ScannedLine::Open,
+        ScannedLine::Broken(i) => ScannedLine::Broken(9 + i),
+        ScannedLine::Ended(n) => ScannedLine::Ended(9 + n),
     }
 }
 
@@ -64,17 +64,17 @@ pub fn too_long() -> ReadError
 }
 
 // The length of the line, or its refusal, where `count` bytes were scanned.
-fn judge(scanned: Scanned, count: usize) -> Result<usize, ReadError>
+fn judge(scanned: ScannedLine, count: usize) -> Result<usize, ReadError>
     ensures { result ≡ line_judged count scanned }
 {
     match scanned {
-        Scanned::Open => if count as u64 > MOST_LINE {
+        ScannedLine::Open => if count as u64 > MOST_LINE {
             Err(too_long())
         } else {
             Err(ReadError::Bad(FormFault::Form(count as u64)))
         },
-        Scanned::Broken(i) => Err(ReadError::Bad(FormFault::Form(i as u64))),
-        Scanned::Ended(n) => if n as u64 > MOST_LINE {
+        ScannedLine::Broken(i) => Err(ReadError::Bad(FormFault::Form(i as u64))),
+        ScannedLine::Ended(n) => if n as u64 > MOST_LINE {
             Err(too_long())
         } else {
             Ok(n)
@@ -121,7 +121,7 @@ fn gather(
 {
     let mut word = word;
     match classify(byte) {
-        Kind::Ink => {
+        LineKind::Ink => {
             word.push(byte)?;
             Ok(word)
         }

@@ -1,10 +1,10 @@
 // The scanner of a stream line behind its magic: a machine of small steps, one for each byte.
 ghost use Rattle.std.specs.Prelude.{◌≡◌, ◌≤◌, length};
-ghost use Rattle.y4m_clip.specs.Scanning.{line_kind, no_letters, with_letter, may_follow, line_ended, tag_entered, after_digit, in_gap, in_value, in_number, line_step, IsLineScanned, IsSoundLine};
+ghost use Rattle.y4m_clip.specs.Scanning.{line_kind, no_letters, with_letter, may_follow, line_ended, tag_entered, after_number_digit, in_gap, in_value, in_number, line_step, IsLineScanned, IsSoundLine};
 
 /// What a byte is in a stream line.
 #[derive(Clone, Copy)]
-pub enum Kind {
+pub enum LineKind {
     Blank,
     LineEnd,
     /// Any byte but blank and LF.
@@ -24,7 +24,7 @@ pub struct Letters {
 
 /// A place in a stream line, with the letters of the tags before it.
 #[derive(Clone, Copy)]
-pub enum Scan {
+pub enum LineScan {
     /// Behind the magic.
     Magic,
     /// Behind a blank.
@@ -39,7 +39,7 @@ pub enum Scan {
 
 /// What the scanner made of a text.
 #[derive(Clone, Copy)]
-pub enum Scanned {
+pub enum ScannedLine {
     /// More is to come.
     Open,
     /// The byte at this index has no place in a stream line.
@@ -48,13 +48,13 @@ pub enum Scanned {
     Ended(usize),
 }
 
-pub fn classify(byte: u8) -> Kind
+pub fn classify(byte: u8) -> LineKind
     ensures { result ≡ line_kind byte }
 {
     match byte {
-        b' ' => Kind::Blank,
-        b'\n' => Kind::LineEnd,
-        _ => Kind::Ink,
+        b' ' => LineKind::Blank,
+        b'\n' => LineKind::LineEnd,
+        _ => LineKind::Ink,
     }
 }
 
@@ -100,18 +100,18 @@ impl Letters {
 }
 
 // LF.
-fn end(letters: Letters) -> Option<Scan>
+fn end(letters: Letters) -> Option<LineScan>
     ensures { result ≡ line_ended letters }
 {
     if letters.w && letters.h {
-        Some(Scan::Whole)
+        Some(LineScan::Whole)
     } else {
         None
     }
 }
 
 // The letter of a tag.
-fn enter(letters: Letters, letter: u8) -> Option<Scan>
+fn enter(letters: Letters, letter: u8) -> Option<LineScan>
     ensures { result ≡ tag_entered letters letter }
 {
     if !letters.allow(letter) {
@@ -119,91 +119,91 @@ fn enter(letters: Letters, letter: u8) -> Option<Scan>
     }
     let letters = letters.with(letter);
     if letter == b'W' || letter == b'H' {
-        Some(Scan::Number(letters, false))
+        Some(LineScan::Number(letters, false))
     } else {
-        Some(Scan::Value(letters))
+        Some(LineScan::Value(letters))
     }
 }
 
 // A byte behind a blank.
-fn gap(letters: Letters, byte: u8, kind: Kind) -> Option<Scan>
+fn gap(letters: Letters, byte: u8, kind: LineKind) -> Option<LineScan>
     ensures { result ≡ in_gap letters byte kind }
 {
     match kind {
-        Kind::Blank => Some(Scan::Gap(letters)),
-        Kind::LineEnd => end(letters),
-        Kind::Ink => enter(letters, byte),
+        LineKind::Blank => Some(LineScan::Gap(letters)),
+        LineKind::LineEnd => end(letters),
+        LineKind::Ink => enter(letters, byte),
     }
 }
 
 // A byte of a tag.
-fn value(letters: Letters, kind: Kind) -> Option<Scan>
+fn value(letters: Letters, kind: LineKind) -> Option<LineScan>
     ensures { result ≡ in_value letters kind }
 {
     match kind {
-        Kind::Blank => Some(Scan::Gap(letters)),
-        Kind::LineEnd => end(letters),
-        Kind::Ink => Some(Scan::Value(letters)),
+        LineKind::Blank => Some(LineScan::Gap(letters)),
+        LineKind::LineEnd => end(letters),
+        LineKind::Ink => Some(LineScan::Value(letters)),
     }
 }
 
 // A digit of a number.
-fn digit(letters: Letters, positive: bool, byte: u8) -> Option<Scan>
-    ensures { result ≡ after_digit letters positive byte }
+fn digit(letters: Letters, positive: bool, byte: u8) -> Option<LineScan>
+    ensures { result ≡ after_number_digit letters positive byte }
 {
     if byte >= b'0' && byte <= b'9' {
-        Some(Scan::Number(letters, positive || byte > b'0'))
+        Some(LineScan::Number(letters, positive || byte > b'0'))
     } else {
         None
     }
 }
 
 // A byte of a number.
-fn number(letters: Letters, positive: bool, byte: u8, kind: Kind) -> Option<Scan>
+fn number(letters: Letters, positive: bool, byte: u8, kind: LineKind) -> Option<LineScan>
     ensures { result ≡ in_number letters positive byte kind }
 {
     match kind {
-        Kind::Blank => if positive {
-            Some(Scan::Gap(letters))
+        LineKind::Blank => if positive {
+            Some(LineScan::Gap(letters))
         } else {
             None
         },
-        Kind::LineEnd => if positive { end(letters) } else { None },
-        Kind::Ink => digit(letters, positive, byte),
+        LineKind::LineEnd => if positive { end(letters) } else { None },
+        LineKind::Ink => digit(letters, positive, byte),
     }
 }
 
 // One byte; None where it has no place there.
-fn step(scan: Scan, byte: u8) -> Option<Scan>
+fn step(scan: LineScan, byte: u8) -> Option<LineScan>
     ensures { result ≡ line_step scan byte }
 {
     match scan {
-        Scan::Magic => if byte == b' ' {
-            Some(Scan::Gap(Letters::none()))
+        LineScan::Magic => if byte == b' ' {
+            Some(LineScan::Gap(Letters::none()))
         } else {
             None
         },
-        Scan::Gap(letters) => gap(letters, byte, classify(byte)),
-        Scan::Value(letters) => value(letters, classify(byte)),
-        Scan::Number(letters, positive) => number(letters, positive, byte, classify(byte)),
-        Scan::Whole => None,
+        LineScan::Gap(letters) => gap(letters, byte, classify(byte)),
+        LineScan::Value(letters) => value(letters, classify(byte)),
+        LineScan::Number(letters, positive) => number(letters, positive, byte, classify(byte)),
+        LineScan::Whole => None,
     }
 }
 
 /// Scans what stands behind the magic.
-pub fn scan_line(text: &[u8]) -> Scanned
+pub fn scan_line(text: &[u8]) -> ScannedLine
     ensures scanned { IsLineScanned text.now result }
     ensures sound { IsSoundLine (length text.now) result }
 {
-    let mut scan = Scan::Magic;
+    let mut scan = LineScan::Magic;
     for (i, byte) in text.iter().enumerate() {
         match step(scan, *byte) {
-            None => return Scanned::Broken(i),
+            None => return ScannedLine::Broken(i),
             Some(next) => match next {
-                Scan::Whole => return Scanned::Ended(i + 1),
+                LineScan::Whole => return ScannedLine::Ended(i + 1),
                 _ => scan = next,
             },
         }
     }
-    Scanned::Open
+    ScannedLine::Open
 }

@@ -1,6 +1,6 @@
 use Rattle.std.proofs.Common.{◌≡◌, ◌<◌, ◌+◌, ◌-◌, length, take, sym, ap, ◌∙◌, arith}
 use Rattle.std.specs.Prelude.{Some, None}
-use Rattle.y4m_clip.specs.declared.scan.Scan.TheVariants.{Magic, Whole}
+use Rattle.y4m_clip.specs.declared.scan.LineScan.TheVariants.{Magic, Whole}
 use Rattle.y4m_clip.specs.Scanning.{line_run}
 use Rattle.y4m_clip.proofs.Runs.{run_more}
 use Rattle.y4m_clip.proofs.scan.scan_line.Goals as goal

@@ -1,6 +1,6 @@
 use Rattle.std.proofs.Common.{◌≡◌, take}
 use Rattle.std.specs.Prelude.{Some, ◌≢◌}
-use Rattle.y4m_clip.specs.declared.scan.Scan.TheVariants.{Magic, Whole}
+use Rattle.y4m_clip.specs.declared.scan.LineScan.TheVariants.{Magic, Whole}
 use Rattle.y4m_clip.specs.Scanning.{line_run}
 use Rattle.y4m_clip.proofs.scan.scan_line.Given as goal
 

@@ -1,0 +1,6 @@
+use Rattle.y4m_clip.proofs.Laying.{runs_laid}
+use Rattle.y4m_clip.proofs.lay.lay_samples.Goals as goal
+
+pub returns-then-count-k : goal.returns-then-count-k
+returns-then-count-k c =
+    runs_laid c.args.row.now c.args.planes.now c.lay.new.planes c.args.k c.args.start c.args.count c.args.w c.args.at c.lay.result c.requires.row c.requires.inside c.if-count-k.true c.lay.ensures

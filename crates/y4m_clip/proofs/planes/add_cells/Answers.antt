@@ -1,0 +1,12 @@
+use Rattle.std.proofs.Common.{◌≡◌, ◌++◌, ◌≤◌, length, sym, subst}
+use Rattle.y4m_clip.specs.Spaces.{cell_bytes, joined_to}
+use Rattle.y4m_clip.specs.Planes.{HasRow}
+use Rattle.y4m_clip.proofs.Laying.{joined_bytes}
+use Rattle.y4m_clip.proofs.planes.add_cells.Goals as goal
+
+pub returns-in_ok-extend_from_slice-in-Mono : goal.returns-in_ok-extend_from_slice-in-Mono
+returns-in_ok-extend_from_slice-in-Mono c =
+    let upper = c.args.upper.now in
+    let le : c.args.w ≤ length upper = subst (λ space. HasRow space c.args.w (length upper) (length c.args.lower.now) (length c.args.blue.now) (length c.args.red.now)) c.in-Mono.is c.requires in
+    subst (λ space. c.extend_from_slice.new.self.items ≡ c.args.cells.now.items ++ joined_to c.args.w (cell_bytes space upper c.args.lower.now c.args.blue.now c.args.red.now)) (sym c.in-Mono.is)
+    (subst (λ bytes. c.extend_from_slice.new.self.items ≡ c.args.cells.now.items ++ bytes) (sym (joined_bytes upper c.args.w le)) c.in_ok-extend_from_slice-in-Mono.ensures.items)

@@ -7,4 +7,5 @@ pub mod WayLaws
 pub mod TraceLaws
 pub mod RecordLaws
 pub mod CheckLaws
+pub mod NearLaws
 pub mod OneAnswer

@@ -2,7 +2,7 @@
 -- the greatest stands for none and a sum stops at it.
 use Rattle.std.specs.Prelude.{◌≡◌, ◌≤◌, ◌<◌, ◌⊎◌, ℕ, ◌+◌, ◌-◌, ◌*◌, ◌^◌, zero, suc, min, List, ◌++◌, length, take, drop, Option, Some, None, slice_index, slice_index_or}
 use Rattle.frame_distance.specs.Steps.{Steps, step_at}
-use Rattle.loop_walk.specs.declared.product.TheConstants.{FAR}
+use Rattle.loop_walk.specs.declared.product.TheConstants.{FAR, GREATEST_NUMBER}
 use Rattle.loop_walk.specs.Walks.{AtMost, BeginsFirst, IsLeastWalk, steps_cost, sum_if_both, steps_along, steps_round, walk_cost}
 use Rattle.loop_walk.specs.Tables.{table_size, entry_at, entry_count, none_number, table_entry, table_count, AreTightTables, EntriesAreTight, IsBelowSums}
 
@@ -44,8 +44,8 @@ IsProduct n left right made = (i j : ℕ) → i < n → j < n →
 abbrev pub brought_near : ℕ → ℕ
 brought_near number = min number FAR
 
-abbrev pub AreNear : List ℕ → Type 0
-AreNear numbers = (k : ℕ) → k < length numbers → slice_index numbers k ≤ FAR
+abbrev pub AreAtMostFar : List ℕ → Type 0
+AreAtMostFar numbers = (k : ℕ) → k < length numbers → slice_index numbers k ≤ FAR
 
 -- the numbers of a table, with none brought near
 abbrev pub AreBroughtNear : List ℕ → List ℕ → Type 0
@@ -126,6 +126,26 @@ abbrev pub IsBelowProducts : Steps → List ℕ → ℕ → ℕ → ℕ → ℕ 
 IsBelowProducts costs tables t second i j =
     IsBelowSums costs.frames (entry_at costs tables (suc t) i j)
     (λ v. sum_if_both (entry_at costs tables t i v) (entry_at costs tables second v j))
+
+-- what an entry counts as in a sum that is made quickly: at most what it is, and none brought near
+abbrev pub near_entry : Option ℕ → ℕ
+near_entry None = FAR
+near_entry (Some number) = min number GREATEST_NUMBER
+
+-- row i of table number t, so
+abbrev pub IsNearRow : Steps → List ℕ → ℕ → ℕ → List ℕ → Type 0
+IsNearRow costs tables t i nears = (v : ℕ) → v < costs.frames →
+    slice_index nears v ≡ near_entry (entry_at costs tables t i v)
+
+-- all of table number t, so
+abbrev pub AreNearEntries : Steps → List ℕ → ℕ → List ℕ → Type 0
+AreNearEntries costs tables t nears = (v j : ℕ) → v < costs.frames → j < costs.frames →
+    slice_index nears (v * costs.frames + j) ≡ near_entry (entry_at costs tables t v j)
+
+-- a number is at most each sum of an entry, as entries count
+abbrev pub IsBelowNearSums : Steps → List ℕ → ℕ → ℕ → ℕ → ℕ → ℕ → Type 0
+IsBelowNearSums costs tables t second i j sum = (v : ℕ) → v < costs.frames →
+    sum ≤ near_entry (entry_at costs tables t i v) + near_entry (entry_at costs tables second v j)
 
 -- the last table says of no closed walk from frame i that it costs less
 abbrev pub AllowsCost : Steps → ℕ → List ℕ → ℕ → ℕ → Type 0

@@ -9,8 +9,8 @@
 //! and specs/Records.antt a record that stands.
 //!
 //! `product` has the sums of two tables, `tables` the tables along the digits of a length, `trace` a
-//! way out of the tables, `record` the least walk and its record, `rules` the rules of a record and
-//! `check` the checker.
+//! way out of the tables, `record` the least walk and its record, `sums` the entries of a record against
+//! their sums, `rules` the rules of a record and `check` the checker.
 #![tactic(auto)]
 
 mod check;
@@ -19,6 +19,7 @@ mod laws;
 mod product;
 mod record;
 mod rules;
+mod sums;
 mod tables;
 #[cfg(test)]
 mod tests;

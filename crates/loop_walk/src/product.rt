@@ -1,6 +1,6 @@
 // The table of the least sums of two tables of least costs.
 ghost use Rattle.std.specs.Prelude.{◌≡◌, ◌≤◌, ◌<◌, ℕ, ◌+◌, ◌*◌, ◌^◌, min, length, slice_index};
-ghost use Rattle.loop_walk.specs.Products.{AreBroughtNear, AreNear, AreRestored, AreSmall, IsLeastOf, IsNearProduct, IsProduct, near_row_sum};
+ghost use Rattle.loop_walk.specs.Products.{AreAtMostFar, AreBroughtNear, AreRestored, AreSmall, IsLeastOf, IsNearProduct, IsProduct, near_row_sum};
 
 /// Stands for none. It is above each number, and a sum that doesn't fit stops at it.
 pub const NONE: u64 = u64::MAX;
@@ -27,13 +27,13 @@ fn lower(sums: &mut [u64], first: u64, seconds: &[u64], other: u64, others: &[u6
     requires others { length sums.old ≡ length others.now }
     requires first { first ≤ FAR }
     requires other { other ≤ FAR }
-    requires near { AreNear sums.old }
-    requires near_seconds { AreNear seconds.now }
-    requires near_others { AreNear others.now }
+    requires near { AreAtMostFar sums.old }
+    requires near_seconds { AreAtMostFar seconds.now }
+    requires near_others { AreAtMostFar others.now }
     ensures lowered { (j : ℕ) → j < length sums.old → slice_index sums.new j ≡
         min (slice_index sums.old j)
         (min (first + slice_index seconds.now j) (other + slice_index others.now j)) }
-    ensures near { AreNear sums.new }
+    ensures near { AreAtMostFar sums.new }
 {
     for j in 0..sums.len() {
         let sum = lesser(first + seconds[j], other + others[j]);
@@ -48,11 +48,11 @@ fn lower_through(n: usize, v: usize, w: usize, firsts: &[u64], nears: &[u64], su
     requires firsts { length firsts.now ≡ n }
     requires nears { length nears.now ≡ n * n }
     requires sums { length sums.old ≡ n }
-    requires near_nears { AreNear nears.now }
-    requires near { AreNear sums.old }
+    requires near_nears { AreAtMostFar nears.now }
+    requires near { AreAtMostFar sums.old }
     ensures lowered { (j : ℕ) → j < n → slice_index sums.new j ≡ min (slice_index sums.old j)
         (min (near_row_sum n firsts.now nears.now j v) (near_row_sum n firsts.now nears.now j w)) }
-    ensures near { AreNear sums.new }
+    ensures near { AreAtMostFar sums.new }
 {
     let first = firsts[v].min(FAR);
     let other = firsts[w].min(FAR);
@@ -63,14 +63,14 @@ fn lower_through(n: usize, v: usize, w: usize, firsts: &[u64], nears: &[u64], su
     }
 }
 
-// One row of a product. The rows of the second table are read along memory, two for two first halves,
-// so that the inner loop runs in lanes.
-fn fill_row(n: usize, firsts: &[u64], nears: &[u64], sums: &mut [u64])
+/// Makes one row of a product, with none brought near. The rows of the second table are read along
+/// memory, two for two first halves, so that the inner loop runs in lanes.
+pub fn fill_row(n: usize, firsts: &[u64], nears: &[u64], sums: &mut [u64])
     requires firsts { length firsts.now ≡ n }
     requires nears { length nears.now ≡ n * n }
     requires sums { length sums.old ≡ n }
     requires few { n ≤ 256 }
-    requires near { AreNear nears.now }
+    requires near { AreAtMostFar nears.now }
     ensures { (j : ℕ) → j < n →
         IsLeastOf FAR n (slice_index sums.new j) (near_row_sum n firsts.now nears.now j) }
 {
@@ -109,7 +109,7 @@ fn fill_near(n: usize, left: &[u64], nears: &[u64], made: &mut [u64])
     requires left { length left.now ≡ n * n }
     requires nears { length nears.now ≡ n * n }
     requires made { length made.old ≡ n * n }
-    requires near { AreNear nears.now }
+    requires near { AreAtMostFar nears.now }
     ensures { IsNearProduct n left.now nears.now made.new }
 {
     for i in 0..n {

@@ -1,32 +1,50 @@
-use Rattle.std.proofs.Common.{◌≡◌, ◌+◌, ◌*◌, refl, subst, arith, ⊎_elim}
+use Rattle.std.proofs.Common.{◌≡◌, ◌+◌, ◌-◌, ◌*◌, ◌<◌, subst, arith, ⊎_elim}
 use Rattle.std.proofs.lemmas.Bool.{cases_lt}
-use mathlib.Core.Bool.{false≢true}
-use Rattle.loop_walk.specs.Records.{PlaceHolds}
-use Rattle.loop_walk.proofs.CheckLaws.{below_at_place, below_from_place}
+use Rattle.std.proofs.lemmas.Nat.{mul-add-lt}
+use Rattle.loop_walk.specs.Records.{IsFirstPlace, PlaceHolds}
+use Rattle.loop_walk.specs.Products.{IsBelowProducts}
+use Rattle.loop_walk.proofs.NearLaws.{place_from_row, row_from_place}
 use Rattle.loop_walk.proofs.rules.broken_entry.Goals as goal
 
-pub returns-then-not-is_below_sums-clause-broken : goal.returns-then-not-is_below_sums-clause-broken
-returns-then-not-is_below_sums-clause-broken c =
+pub returns-in-Some-clause-broken : goal.returns-in-Some-clause-broken
+returns-in-Some-clause-broken c =
     let costs = c.args.costs.now in
-    let inside = rw c.frames-n.ensures.frames at c.loop-q-test.true in
+    let m = c.args.length in
+    let tables = c.args.tables.now in
+    let t = c.args.t in
+    let n = costs.frames in
+    let i = c.loop-i.i in
+    let j = c.in-Some.j in
+    let row : i < n = omega (arith, c.frames-n.ensures.frames, c.loop-i-test.true) in
+    let first = subst (λ s. IsFirstPlace n (IsBelowProducts costs tables t s i) j) c.second_table-second.ensures c.in-Some.ensures.broken in
+    let inside = mul-add-lt i n j n row first.below in
     rw c.frames-n.ensures.frames
     (record {
       below = omega (arith, inside);
-      before = c.loop-q.invariant;
-      broken = λ holds.
-          false≢true ((rw (c.second_table-second.ensures, c.frames-n.ensures.frames) at c.if-not-is_below_sums.ensures).1
-          (below_from_place costs c.args.length c.args.tables.now c.args.t c.loop-q.q inside c.requires.last holds));
+      before = λ place lt. ⊎_elim (λ earlier. c.loop-i.invariant place earlier)
+          (λ from.
+          let k = place - (t * (n * n) + i * n) in
+          let less : k < j = omega arith in
+          let here : t * (n * n) + (i * n + k) ≡ place = omega arith in
+          subst (PlaceHolds costs m tables) here (place_from_row costs m tables t i k row (omega (arith, first.below)) c.requires.last (first.before k less)))
+          (cases_lt place (t * (n * n) + i * n));
+      broken = λ holds. first.broken (row_from_place costs m tables t i j row first.below c.requires.last holds);
     })
 
-pub loop-q-preserved : goal.loop-q-preserved
-loop-q-preserved c = λ place lt.
+pub loop-i-preserved : goal.loop-i-preserved
+loop-i-preserved c = λ place lt.
     let costs = c.args.costs.now in
-    let area = costs.frames * costs.frames in
-    let inside = rw c.frames-n.ensures.frames at c.loop-q-test.true in
-    ⊎_elim (λ before. c.loop-q.invariant place before)
+    let m = c.args.length in
+    let tables = c.args.tables.now in
+    let t = c.args.t in
+    let n = costs.frames in
+    let i = c.loop-i.i in
+    let row : i < n = omega (arith, c.frames-n.ensures.frames, c.loop-i-test.true) in
+    ⊎_elim (λ earlier. c.loop-i.invariant place earlier)
     (λ from.
-    let here : c.args.t * area + c.loop-q.q ≡ place = omega arith in
-    subst (PlaceHolds costs c.args.length c.args.tables.now) here
-    (below_at_place costs c.args.length c.args.tables.now c.args.t c.loop-q.q inside c.requires.last
-    ((rw (c.second_table-second.ensures, c.frames-n.ensures.frames) at c.if-not-is_below_sums.ensures).0 refl)))
-    (cases_lt place (c.args.t * area + c.loop-q.q))
+    let k = place - (t * (n * n) + i * n) in
+    let less : k < n = omega arith in
+    let here : t * (n * n) + (i * n + k) ≡ place = omega arith in
+    subst (PlaceHolds costs m tables) here (place_from_row costs m tables t i k row less c.requires.last
+    (subst (λ s. IsBelowProducts costs tables t s i k) c.second_table-second.ensures (c.in-None.ensures.hold k less))))
+    (cases_lt place (t * (n * n) + i * n))

@@ -12,7 +12,7 @@ use Rattle.block_replay.proofs.FirstBroken as quilted
 use Rattle.loop_walk.proofs.OneAnswer.{no_fault}
 use Rattle.samples.specs.declared.sample.Sample.{Sample}
 use Rattle.samples.specs.declared.several.Samples.{Samples}
-use Rattle.standing_files.specs.Standing.{AreOneFault, BreaksMap, BreaksPicture, BreaksRecord, BreaksTogether, IsBrokenRecord, IsCopiedAt, IsFirstBrokenRule, LeaveAt, OneFirstBrokenRule, RecordsStand, StandingBreaksNone, map_entries, map_output, walk_costs}
+use Rattle.standing_files.specs.Standing.{AreOneFault, BreaksMap, BreaksPicture, BreaksRecord, BreaksTogether, IsBrokenRecord, IsCopiedAt, IsFirstBrokenRule, LeaveAt, OneFirstBrokenRule, RecordsStand, StandingFilesBreakNone, map_entries, map_output, walk_costs}
 use Rattle.standing_files.proofs.FirstBroken.{one_broken}
 use Rattle.standing_files.proofs.LoopFaults.{one_loop_fault}
 use Rattle.standing_files.proofs.Searching.{one_first}
@@ -47,7 +47,7 @@ one_record samples output (Walk head taps gap walk tables) number rule place num
       place_is = one.place_is ∙ same.place ∙ sym other.place_is;
     }
 
-pub breaks_none : StandingBreaksNone
+pub breaks_none : StandingFilesBreakNone
 breaks_none samples out map_file cert number rule place stand (inl broken) = broken.apart stand.together
 breaks_none samples out map_file cert number rule place stand (inr (inl broken)) = none_broken samples.volume (map_output map_file) cert number rule place stand.records broken.broken
 breaks_none samples out map_file cert number rule place stand (inr (inr (inl broken))) = broken.first.here (stand.left place broken.first.below)

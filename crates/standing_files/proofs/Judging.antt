@@ -15,7 +15,7 @@ use Rattle.cut_check.specs.declared.record.CutRecord.{CutRecord}
 use Rattle.replay.specs.Replay.{EachStands, IsFormed, left_by}
 use Rattle.quilt.specs.declared.block.BlockRecord.{BlockRecord}
 use Rattle.quilt.specs.Runs.{EachBlockStands, left_by_blocks}
-use Rattle.quilt.specs.Blocks.{IsFormed as IsFormedBlock}
+use Rattle.quilt.specs.Blocks.{IsFormedBlock}
 use Rattle.block_replay.specs.declared.records.BlocksError.{BlocksError}
 use Rattle.block_replay.specs.declared.records.BlocksError.TheVariants.{Broken as BrokenAt}
 use Rattle.block_replay.specs.declared.records.BrokenBlock.{BrokenBlock}

@@ -1,5 +1,6 @@
 pub mod Sizes
 pub mod Searching
+pub mod RunLaws
 pub mod CutFaults
 pub mod FirstBroken
 pub mod LoopFaults

@@ -263,8 +263,8 @@ IsVerdict samples out map_file cert (Fails number rule place) =
 -- Laws.
 
 -- files that stand break no rule
-abbrev pub StandingBreaksNone : Type 0
-StandingBreaksNone =
+abbrev pub StandingFilesBreakNone : Type 0
+StandingFilesBreakNone =
     (samples : Samples) (out : Sample) (map_file : MapFile) (cert : CertFile)
     (number rule place : ℕ) → FilesStand samples out map_file cert
     → IsFirstBrokenRule samples out map_file cert number rule place → ⊥

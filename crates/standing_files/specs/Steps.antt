@@ -1,8 +1,9 @@
 -- The words of private functions: what one search finds, and what is judged of the records alone.
 -- (Own.)
-use Rattle.std.specs.Prelude.{◌≡◌, ◌⊎◌, ℕ, List, length, Option, Some, None}
-use Rattle.cells.specs.Cells.{Cells, sizes_of}
-use Rattle.cells.specs.Places.{cell_count}
+use Rattle.std.specs.Prelude.{◌≡◌, ◌⊎◌, ◌<◌, ℕ, List, length, Option, Some, None}
+use Rattle.cells.specs.declared.place.At.{At}
+use Rattle.cells.specs.Cells.{Cells, cell_at, sizes_of}
+use Rattle.cells.specs.Places.{cell_count, plus, spot}
 use Rattle.map_canvas.specs.Maps.{SourceMap, empty_map}
 use Rattle.source_map.specs.declared.map_file.MapFile.{MapFile}
 use Rattle.cut_check.specs.declared.record.CutRecord.{CutRecord}
@@ -17,12 +18,22 @@ use Rattle.samples.specs.declared.several.Samples.{Samples}
 use Rattle.standing_files.specs.declared.verdict.TheConstants.{MAP_RULE}
 use Rattle.standing_files.specs.declared.verdict.Verdict.{Verdict}
 use Rattle.standing_files.specs.declared.verdict.Verdict.TheVariants.{Stands, Fails}
-use Rattle.standing_files.specs.Standing.{AreKindsOfOneRun, HasOneFrame, IsBrokenBlock, IsBrokenCut, IsBrokenRecord, IsBrokenWalk, IsLeftAt, IsWholeRule, LeaveAt, RecordsStand, TakesForm, cert_head, map_entries, map_output}
+use Rattle.standing_files.specs.Standing.{AreKindsOfOneRun, HasOneFrame, IsBrokenBlock, IsBrokenCut, IsBrokenRecord, IsBrokenWalk, IsCopied, IsLeftAt, IsWholeRule, LeaveAt, RecordsStand, TakesForm, cert_head, map_entries, map_output}
 
 -- the first number below n without the property, if there is one
 abbrev pub FirstWithout : ℕ → (ℕ → Type 0) → Option ℕ → Type 0
 FirstWithout n Holds None = Each n Holds
 FirstWithout n Holds (Some place) = IsFirstWithout n Holds place
+
+-- each cell of a run is that of another run
+abbrev pub IsRunSame : Cells → Cells → At → At → ℕ → Type 0
+IsRunSame samples picture from p w = (j : ℕ) → j < w →
+    cell_at picture (plus p (spot j 0 0)) ≡ cell_at samples (plus from (spot j 0 0))
+
+-- each cell of a run has a source, and is the samples' cell there
+abbrev pub IsRunCopied : Cells → Cells → (At → Option At) → At → ℕ → Type 0
+IsRunCopied samples picture source p w = (j : ℕ) → j < w →
+    IsCopied samples picture (source (plus p (spot j 0 0))) (plus p (spot j 0 0))
 
 -- what the records ask for of files that go together
 pub record Suit (samples : Samples) (map_file : MapFile) (cert : CertFile) : Type 0 where

@@ -1,10 +1,10 @@
 // What the definitions mean.
-ghost use Rattle.standing_files.specs.Standing.{LoopStands, OneFirstBrokenRule, QuiltStands, RunStands, StandingBreaksNone, StandingRecordsAreLeast, VersionsDontCount};
+ghost use Rattle.standing_files.specs.Standing.{LoopStands, OneFirstBrokenRule, QuiltStands, RunStands, StandingFilesBreakNone, StandingRecordsAreLeast, VersionsDontCount};
 
 /// A law, with nothing to run: files that stand break no rule, and others have one first broken rule at
 /// most.
 pub fn one_first_broken_rule()
-    ensures none { StandingBreaksNone }
+    ensures none { StandingFilesBreakNone }
     ensures one { OneFirstBrokenRule }
 {}
 

@@ -1,12 +1,13 @@
 // Whether the out picture is that of the map file.
-ghost use Rattle.std.specs.Prelude.{◌≡◌, ◌↔◌, ◌∷◌, [], IsTrue};
+ghost use Rattle.std.specs.Prelude.{◌≡◌, ◌≤◌, ◌<◌, ◌+◌, ◌*◌, ◌↔◌, ◌∷◌, [], IfNone, IfSome, IsTrue};
 ghost use Rattle.cells.specs.Cells.{sizes_of};
 ghost use Rattle.cells.specs.Places.{cell_count};
 ghost use Rattle.source_map.specs.MapFiles.{frame_source};
+ghost use Rattle.cut_check.specs.Records.{Each, IsFirstWithout};
 ghost use Rattle.standing_files.specs.Standing.{IsCopied, IsCopiedAt, map_output, named_source};
-ghost use Rattle.standing_files.specs.Steps.{FirstWithout};
+ghost use Rattle.standing_files.specs.Steps.{FirstWithout, IsRunCopied, IsRunSame};
 
-use cells::{At, Volume};
+use cells::{At, Box3, Size, Volume};
 use source_map::MapFile;
 
 // The source of a cell in a frame map: the same column and row of the frame that the map names.
@@ -44,6 +45,72 @@ fn is_copied(samples: &Volume, picture: &Volume, source: Option<At>, p: At) -> b
     }
 }
 
+// Whether a run of cells of a picture has the bytes of a run of the samples. Both lie inside then.
+fn is_run_same(samples: &Volume, picture: &Volume, from: At, p: At, w: u32) -> bool
+    requires some { 1 ≤ w }
+    ensures { IsTrue result → IsRunSame samples.now picture.now from p w }
+{
+    let size = Size { w, h: 1, f: 1 };
+    if samples.samples() != picture.samples() {
+        return false;
+    }
+    if !samples.holds(&Box3 { corner: from, size }) || !picture.holds(&Box3 { corner: p, size }) {
+        return false;
+    }
+    picture.row(p, w) == samples.row(from, w)
+}
+
+// Whether a run of cells of a picture is one of the samples' in the frame that a frame map names.
+fn is_in_frame(samples: &Volume, picture: &Volume, frames: &[u16], p: At, w: u32) -> bool
+    requires some { 1 ≤ w }
+    ensures { IsTrue result →
+        IsRunCopied samples.now picture.now (frame_source frames.now) p w }
+{
+    match frame_source(frames, p) {
+        None => false,
+        Some(from) => is_run_same(samples, picture, from, p, w),
+    }
+}
+
+// Whether each cell of a run is known to be copied, without a look at each. In a frame map it's one run
+// of the samples.
+fn is_run_copied(samples: &Volume, picture: &Volume, map_file: &MapFile, p: At, w: u32) -> bool
+    requires some { 1 ≤ w }
+    ensures { IsTrue result →
+        IsRunCopied samples.now picture.now (named_source map_file.now) p w }
+{
+    match map_file {
+        MapFile::Cells { .. } => false,
+        MapFile::Frames { frames, .. } => is_in_frame(samples, picture, frames.as_slice(), p, w),
+    }
+}
+
+// The first cell of a row of the out picture, with so many rows before it, that isn't copied.
+fn first_in_row(samples: &Volume, picture: &Volume, map_file: &MapFile, row: usize) -> Option<usize>
+    requires one { sizes_of picture.now ≡ map_output map_file.now ∷ [] }
+    requires row { row < (map_output map_file.now).h * (map_output map_file.now).f }
+    requires before { Each ((map_output map_file.now).w * row)
+        (IsCopiedAt samples.now picture.now map_file.now) }
+    ensures none { IfNone result (Each ((map_output map_file.now).w * (row + 1))
+        (IsCopiedAt samples.now picture.now map_file.now)) }
+    ensures some { IfSome result (IsFirstWithout ((map_output map_file.now).w * (row + 1))
+        (IsCopiedAt samples.now picture.now map_file.now)) }
+{
+    let size = picture.size();
+    let w = size.w as usize;
+    let start = w * row;
+    if is_run_copied(samples, picture, map_file, size.place_at(start), size.w) {
+        return None;
+    }
+    for i in start..start + w {
+        let p = size.place_at(i);
+        if !is_copied(samples, picture, named_source(map_file, p), p) {
+            return Some(i);
+        }
+    }
+    None
+}
+
 /// The index of the first cell of the out picture that isn't the samples' cell that the map file
 /// names for it. The picture has the size of the map.
 pub(crate) fn first_not_copied(
@@ -56,10 +123,10 @@ pub(crate) fn first_not_copied(
         (IsCopiedAt samples.now picture.now map_file.now) result }
 {
     let size = picture.size();
-    for i in 0..size.cells() {
-        let p = size.place_at(i);
-        if !is_copied(samples, picture, named_source(map_file, p), p) {
-            return Some(i);
+    for row in 0..size.h as usize * size.f as usize {
+        match first_in_row(samples, picture, map_file, row) {
+            Some(i) => return Some(i),
+            None => {}
         }
     }
     None

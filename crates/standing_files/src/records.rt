@@ -3,7 +3,7 @@ ghost use Rattle.std.specs.Prelude.{◌≡◌, ◌≤◌, ◌<◌, ◌*◌, ◌^
 ghost use Rattle.cells.specs.Cells.{IsOnePart};
 ghost use Rattle.cells.specs.Places.{cell_count, place_of};
 ghost use Rattle.replay.specs.Replay.{IsFormed};
-ghost use Rattle.quilt.specs.Blocks.{IsFormed as IsFormedBlock};
+ghost use Rattle.quilt.specs.Blocks.{IsFormedBlock};
 ghost use Rattle.frame_distance.specs.declared.table.TheConstants.{MOST_CLIP_CELLS};
 ghost use Rattle.loop_walk.specs.Tables.{IsLength, table_count};
 ghost use Rattle.cert_file.specs.RecordFiles.{IsCert};

@@ -1,6 +1,6 @@
-use Rattle.std.proofs.Common.{ℕ, ◌<◌}
-use Rattle.standing_files.specs.Standing.{IsCopiedAt}
+use Rattle.std.proofs.Common.{ℕ, ◌*◌, ◌<◌}
+use Rattle.standing_files.specs.Standing.{IsCopiedAt, map_output}
 use Rattle.standing_files.proofs.picture.first_not_copied.Given as goal
 
-abbrev pub invariant-loop-i : goal.invariant-loop-i
-invariant-loop-i l = (k : ℕ) → k < l.i → IsCopiedAt l.samples l.picture l.map_file k
+abbrev pub invariant-loop-row : goal.invariant-loop-row
+invariant-loop-row l = (k : ℕ) → k < (map_output l.map_file).w * l.row → IsCopiedAt l.samples l.picture l.map_file k

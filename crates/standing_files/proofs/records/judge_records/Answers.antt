@@ -6,7 +6,7 @@ use Rattle.source_map.specs.declared.map_file.MapFile.TheVariants.{Cells as Cell
 use Rattle.cut_check.specs.declared.record.CutRecord.{CutRecord}
 use Rattle.quilt.specs.declared.block.BlockRecord.{BlockRecord}
 use Rattle.replay.specs.Replay.{IsFormed}
-use Rattle.quilt.specs.Blocks.{IsFormed as IsFormedBlock}
+use Rattle.quilt.specs.Blocks.{IsFormedBlock}
 use Rattle.cert_file.specs.declared.file.CertFile.{CertFile}
 use Rattle.cert_file.specs.declared.file.CertFile.TheVariants.{Blocks, Cuts, Walk}
 use Rattle.cert_file.specs.RecordFiles.{IsCert}

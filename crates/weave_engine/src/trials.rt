@@ -12,7 +12,7 @@ ghost use Rattle.weave_engine.specs.Trials.{IsTrialOf, NotTried, trial_command, 
 
 use crate::growth::{MOST_OUTPUT_CELLS, growing_fault, mode_for};
 use cells::Volume;
-use growing::{Grown, Plan, grow_canvas};
+use growing::{GrowPlan, Grown, grow_canvas};
 use job_words::TrialJob;
 use map_canvas::Canvas;
 use replay::replay_cuts;
@@ -24,10 +24,10 @@ use synth_report::{Fault, Summary};
 use trial_sample::trial_sample;
 
 // How the output is grown and refined.
-fn plan_of(job: &TrialJob) -> Plan
+fn plan_of(job: &TrialJob) -> GrowPlan
     ensures { result ≡ trial_plan job.now }
 {
-    Plan {
+    GrowPlan {
         size: job.size,
         mode: mode_for(job.place, job.side, job.overlap, job.tol),
         side: job.side,
@@ -37,22 +37,24 @@ fn plan_of(job: &TrialJob) -> Plan
     }
 }
 
-// Checks each record over the canvas that the records before it leave.
-fn check_records(alloc: Global, sample: &Volume, grown: &Grown) -> Result<(), AllocError>
+// Checks each record over the canvas that the records before it leave, and gives what all of them leave.
+fn checked(alloc: Global, sample: &Volume, grown: &Grown) -> Result<Canvas, AllocError>
     requires { (plan : _) × IsGrown plan sample.now grown.now }
+    ensures { IfOk result (λ left. left.map ≡ grown.now.canvas.map) }
 {
     let size = grown.canvas.map().size();
-    let mut canvas = Canvas::empty(alloc, size, sample.samples())?;
-    match replay_cuts(&mut canvas, sample, grown.cuts.as_slice()) {
-        Ok(()) => Ok(()),
+    let mut left = Canvas::empty(alloc, size, sample.samples())?;
+    match replay_cuts(&mut left, sample, grown.cuts.as_slice()) {
+        Ok(()) => Ok(left),
         Err(_) => unreachable!(),
     }
 }
 
-// The summary of what was grown.
-fn summary_of(job: &TrialJob, sample: &Volume, grown: &Grown) -> Summary
+// The summary of what was grown, with the total of what its checked records leave.
+fn summary_of(job: &TrialJob, sample: &Volume, grown: &Grown, left: &Canvas) -> Summary
     requires sample { sample.now ≡ trial_sample job.now.n }
     requires grown { IsGrown (trial_plan job.now) sample.now grown.now }
+    requires left { left.now.map ≡ grown.now.canvas.map }
     ensures { result ≡ trial_summary job.now grown.now }
 {
     let rounds = grown.rounds;
@@ -61,7 +63,7 @@ fn summary_of(job: &TrialJob, sample: &Volume, grown: &Grown) -> Summary
         size: job.size,
         placements: grown.cuts.as_slice().len() as u64 - u64::from(rounds),
         rounds: u64::from(rounds),
-        seams: total(&grown.canvas, sample),
+        seams: total(left, sample),
     }
 }
 
@@ -77,8 +79,8 @@ fn grown_from(alloc: Global, job: &TrialJob, sample: &Volume) -> Result<Summary,
         Ok(grown) => grown,
         Err(error) => return Err(growing_fault(error)),
     };
-    check_records(alloc, sample, &grown)?;
-    Ok(summary_of(job, sample, &grown))
+    let left = checked(alloc, sample, &grown)?;
+    Ok(summary_of(job, sample, &grown, &left))
 }
 
 // Makes the sample, and grows the output from it.

@@ -98,11 +98,14 @@ impl Source {
         copy_from(kept, kept.len() - back as usize, into)
     }
 
-    // Keeps the end of the bytes that were read now.
+    // Keeps the end of the bytes that were read before and of those that were read now, right after them.
     fn keep_end(&mut self, read: &[u8]) {
         let n = read.len().min(self.last.len());
-        self.last[..n].copy_from_slice(&read[read.len() - n..]);
-        self.kept = n;
+        let kept = self.kept.min(self.last.len());
+        let old = kept.min(self.last.len() - n);
+        self.last.copy_within(kept - old..kept, 0);
+        self.last[old..old + n].copy_from_slice(&read[read.len() - n..]);
+        self.kept = old + n;
         self.place = self.place.saturating_add(read.len() as u64);
     }
 

@@ -1,7 +1,8 @@
 // The program: its words are those of the command line, its files those of the system.
 //
-// All that it does is `run` of weave_engine. `real` has the shelf that stands for the system's files, over
-// `files`, and `streams` the sinks; they tell no content, and are the trusted edge. `pieces` reads and writes.
+// All that it does is `run` of weave_engine. `real` has the shelf that stands for the system's
+// files, over `files`, and `streams` the sinks; they tell no content, and are the trusted edge.
+// `pieces` reads and writes.
 #![tactic(auto)]
 
 mod files;
@@ -14,6 +15,7 @@ mod tests;
 use job_words::Words;
 use real::RealShelf;
 use std::alloc::{AllocError, Global};
+use std::fs::{self, File};
 use std::process::ExitCode;
 use std::{env, io};
 use streams::{ErrorOutput, Output};
@@ -22,6 +24,9 @@ use weave_engine::run;
 
 // The status of want of memory.
 const NO_MEMORY: u8 = 7;
+
+// A file that is always there and is never written.
+const NULL_DEVICE: &str = "/dev/null";
 
 // The words behind the program's name.
 fn words_of(rt: &HostRuntime, alloc: Global) -> Result<Words, AllocError> {
@@ -35,8 +40,20 @@ fn words_of(rt: &HostRuntime, alloc: Global) -> Result<Words, AllocError> {
     Ok(words)
 }
 
+// Where a standard stream is closed, the next file that is opened gets its number, and what is
+// said would be written into that file. So the null device is opened three times first, to be
+// read: it takes these numbers, and a write of what is said fails.
+fn hold_streams(rt: &HostRuntime) -> [Option<File>; 3] {
+    [
+        fs::open(rt, NULL_DEVICE).ok(),
+        fs::open(rt, NULL_DEVICE).ok(),
+        fs::open(rt, NULL_DEVICE).ok(),
+    ]
+}
+
 fn main(rt: HostRuntime) -> io::Result<ExitCode> {
     let alloc = rt.alloc();
+    let _held = hold_streams(&rt);
     let mut out = Output::new(rt.clone()?);
     let mut err = ErrorOutput::new(rt.clone()?);
     let Ok(words) = words_of(&rt, alloc) else {

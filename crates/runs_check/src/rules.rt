@@ -94,6 +94,34 @@ const WHOLE_FILES: &[Verdict<'static>] = &[
         report: "fails record 0 rule 17 place 0\n",
         ..BROKEN
     },
+    // Of several broken rules the first is told: that of whole files before those of records, those of the first record
+    // before those of the second, those of records before that of the map, and that before that of the picture.
+    Verdict {
+        bytes: &[("o", 9, b'4'), ("r", 87, 0xf0)],
+        report: "fails record 0 rule 15 place 0\n",
+        ..BROKEN
+    },
+    Verdict {
+        bytes: &[("r", 59, 1), ("r", 87, 0xf0)],
+        report: "fails record 1 rule 4 place 0\n",
+        ..BROKEN
+    },
+    Verdict {
+        bytes: &[("r", 93, 119), ("m", 65, 2), ("o", 11, 11)],
+        report: "fails record 2 rule 5 place 1\n",
+        ..BROKEN
+    },
+    Verdict {
+        bytes: &[("m", 65, 2), ("o", 11, 11)],
+        report: "fails record 0 rule 16 place 5\n",
+        ..BROKEN
+    },
+    // Of one record too: a pair past its bounds before a cell that isn't balanced.
+    Verdict {
+        bytes: &[("r", 88, 0x7f), ("r", 93, 119)],
+        report: "fails record 2 rule 4 place 0\n",
+        ..BROKEN
+    },
 ];
 
 #[test]

@@ -70,6 +70,23 @@ const BLOCKS: &[Verdict<'static>] = &[
         report: "fails record 2 rule 10 place 1\n",
         ..BROKEN
     },
+    // Of two broken rules the first is told: a source past the end of the sample before a column past the strip, that column before a
+    // sum, and a sum before a cost.
+    Verdict {
+        bytes: &[("r", 60, 1), ("r", 67, 2)],
+        report: "fails record 2 rule 7 place 0\n",
+        ..BROKEN
+    },
+    Verdict {
+        bytes: &[("r", 67, 2), ("r", 71, 0xb1)],
+        report: "fails record 2 rule 9 place 0\n",
+        ..BROKEN
+    },
+    Verdict {
+        bytes: &[("r", 75, 0xaf), ("m", 65, 2), ("o", 11, 11)],
+        report: "fails record 2 rule 10 place 1\n",
+        ..BROKEN
+    },
     // The other column of equal errors: the boundary is least, and the map is another one.
     Verdict {
         bytes: &[("r", 67, 1)],
@@ -102,6 +119,12 @@ const STRIPS: &[Verdict<'static>] = &[
     Verdict {
         bytes: &[("r", 71, 2)],
         report: "fails record 2 rule 9 place 2\n",
+        ..SQUARE_BROKEN
+    },
+    // Both strips of the fourth block are broken: the rules of the left one are all tried before those of the top one.
+    Verdict {
+        bytes: &[("r", 177, 1), ("r", 219, 2)],
+        report: "fails record 4 rule 11 place 0\n",
         ..SQUARE_BROKEN
     },
     // A sum of a later row that is too great by one.

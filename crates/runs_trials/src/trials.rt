@@ -7,6 +7,9 @@ use std::test::Fail;
 const BEGINNING: &[u8] =
     b"trial 1\nsample 64x64x1\ngrow 256x256x1\nplacements 121\nrounds 5\nseams ";
 
+const LONG_BEGINNING: &[u8] =
+    b"trial 1\nsample 64x64x1\ngrow 256x256x1\nplacements 121\nrounds 200\nseams ";
+
 const END: &[u8] = b"\nrecord stands\n";
 
 // The report of a trial, where it ends with status 0 and without a line.
@@ -22,20 +25,32 @@ fn report_of(alloc: Global, words: &str) -> Result<Option<Vec<u8>>, AllocError> 
 }
 
 // Whether both lines of words have one report, which begins and ends as given.
-fn is_one_report(alloc: Global, first: &str, second: &str) -> Result<bool, AllocError> {
+fn is_one_report(
+    alloc: Global,
+    first: &str,
+    second: &str,
+    beginning: &[u8],
+) -> Result<bool, AllocError> {
     let Some(text) = report_of(alloc, first)? else {
         return Ok(false);
     };
     let Some(again) = report_of(alloc, second)? else {
         return Ok(false);
     };
-    Ok(text.as_slice() == again.as_slice() && text.starts_with(BEGINNING) && text.ends_with(END))
+    Ok(text.as_slice() == again.as_slice() && text.starts_with(beginning) && text.ends_with(END))
 }
 
 #[test]
 fn the_trial_of_number_1_is_the_same_text_twice(rt: HostRuntime) -> Result<(), Fail> {
     let words = "trial seed=0 rounds=5 n=1 place=sub box=32 overlap=8 tol=10 width=256 height=256";
-    assert!(rt; is_one_report(rt.alloc(), "trial n=1", words)?);
+    assert!(rt; is_one_report(rt.alloc(), "trial n=1", words, BEGINNING)?);
+    Ok(())
+}
+
+#[test]
+fn a_trial_of_200_rounds_is_the_same_text_twice(rt: HostRuntime) -> Result<(), Fail> {
+    let words = "trial rounds=200 n=1";
+    assert!(rt; is_one_report(rt.alloc(), "trial n=1 rounds=200", words, LONG_BEGINNING)?);
     Ok(())
 }
 

@@ -5,6 +5,11 @@ use run_stage::{Case, Failing, NO_CELL, Verdict};
 pub const FOUR_FRAMES: &[u8] =
     b"YUV4MPEG2 W1 H1 Cmono\nFRAME\n\x00FRAME\n\x03FRAME\n\x00FRAME\n\x03";
 
+/// Frames of 0 and 3, and of 0, 3 and 0.
+pub const TWO_FRAMES: &[u8] = b"YUV4MPEG2 W1 H1 Cmono\nFRAME\n\x00FRAME\n\x03";
+
+pub const THREE_FRAMES: &[u8] = b"YUV4MPEG2 W1 H1 Cmono\nFRAME\n\x00FRAME\n\x03FRAME\n\x00";
+
 // The sizes of output and sample, and the frames of the walk.
 pub const MAP: &[u8] = b"WEAVEMAP\x01\x01\
 \x00\x00\x00\x01\x00\x00\x00\x01\x00\x00\x00\x02\
@@ -27,8 +32,6 @@ pub const RECORD: &[u8] = b"WEAVEREC\x01\x02\
 \xff\xff\xff\xff\xff\xff\xff\xff\xff\xff\xff\xff\xff\xff\xff\xff\
 \xff\xff\xff\xff\xff\xff\xff\xff\xff\xff\xff\xff\xff\xff\xff\xff";
 
-const LOOPED: &[u8] = b"YUV4MPEG2 W1 H1 Cmono\nFRAME\n\x00FRAME\n\x03";
-
 pub const TWO: Case<'static> = Case {
     words: "loop sample=s out=o map=m record=r length=2 taps=0 gap=1",
     sample: FOUR_FRAMES,
@@ -37,7 +40,7 @@ pub const TWO: Case<'static> = Case {
     status: 0,
     report: "loop 2\nstart 0\ncost 0\n",
     line: "",
-    picture: LOOPED,
+    picture: TWO_FRAMES,
     map: MAP,
     record: RECORD,
 };
@@ -67,7 +70,7 @@ pub const ONE: Case<'static> = Case {
 
 pub const STANDS: Verdict<'static> = Verdict {
     sample: FOUR_FRAMES,
-    picture: LOOPED,
+    picture: TWO_FRAMES,
     map: MAP,
     record: RECORD,
     bytes: &[],

@@ -1,4 +1,5 @@
 // Words and clips that `loop` refuses, and clips without a loop of the asked length, each with its line.
+use crate::clips::{THREE_FRAMES, TWO_FRAMES};
 use run_stage::{ONE_CELL, wrong_sample, wrong_words};
 use std::test::Fail;
 
@@ -34,8 +35,6 @@ fn words_are_refused(rt: HostRuntime) -> Result<(), Fail> {
     Ok(())
 }
 
-const TWO_FRAMES: &[u8] = b"YUV4MPEG2 W1 H1 Cmono\nFRAME\n\x00FRAME\n\x03";
-
 const NO_LOOP: &[(&str, u8, &str)] = &[
     (
         "loop sample=s out=o map=m record=r length=2 taps=0 gap=3",
@@ -57,11 +56,7 @@ fn two_frames_without_a_loop(rt: HostRuntime) -> Result<(), Fail> {
 
 const CLIPS: &[(&[u8], u8, &str)] = &[
     // With four taps no distance of three frames is defined.
-    (
-        b"YUV4MPEG2 W1 H1 Cmono\nFRAME\n\x00FRAME\n\x03FRAME\n\x00",
-        8,
-        "weave: no loop of length 3\n",
-    ),
+    (THREE_FRAMES, 8, "weave: no loop of length 3\n"),
     (b"YUV4MPEG2 W1 H1 Cmono\n", 3, "weave: sample: no frames\n"),
     (
         b"YUV4MPEG2 W1 H1 Cmono\nFRAME\n",

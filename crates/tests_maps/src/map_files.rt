@@ -14,7 +14,14 @@ const PLAIN: [u8; 70] = [
     0, 0, 0, 2, 0, 0, 0, 0, 0, 3, 0, 0, 0, 0,
 ];
 
-// The same in version 2.
+// The map of 3 x 2 cells, all of one cell.
+const COPIES: [u8; 70] = [
+    0x57, 0x45, 0x41, 0x56, 0x45, 0x4d, 0x41, 0x50, 1, 0, 0, 0, 0, 3, 0, 0, 0, 2, 0, 0, 0, 1, 0, 0,
+    0, 1, 0, 0, 0, 1, 0, 0, 0, 1, 0, 0, 0, 0, 0, 0, 0, 0, 0, 0, 0, 0, 0, 0, 0, 0, 0, 0, 0, 0, 0, 0,
+    0, 0, 0, 0, 0, 0, 0, 0, 0, 0, 0, 0, 0, 0,
+];
+
+// That of `PLAIN` in version 2.
 const NUMBERED: [u8; 84] = [
     0x57, 0x45, 0x41, 0x56, 0x45, 0x4d, 0x41, 0x50, 2, 0, 0, 0, 0, 6, 0, 0, 0, 1, 0, 0, 0, 1, 0, 1,
     0, 0, 0, 4, 0, 0, 0, 1, 0, 0, 0, 1, 0, 1, 0, 0, 0, 0, 0, 0, 0, 1, 0, 1, 0, 0, 0, 0, 0, 1, 0, 2,
@@ -47,7 +54,7 @@ fn write_again(value: &MapFile, shelf: &mut MemShelf) -> Result<(), WriteFault>
 
 #[test]
 fn maps_are_read_and_written_again(rt: HostRuntime) -> Result<(), Fail> {
-    let files: [&[u8]; 3] = [&PLAIN, &NUMBERED, &FRAMES];
+    let files: [&[u8]; 4] = [&COPIES, &PLAIN, &NUMBERED, &FRAMES];
     for bytes in files {
         let mut shelf = MemShelf::new(rt.alloc());
         shelf.put_file("map", bytes)?;
@@ -73,7 +80,7 @@ fn form(at: usize) -> Option<ReadError> {
 
 #[test]
 fn cut_and_longer_maps_are_refused(rt: HostRuntime) -> Result<(), Fail> {
-    let files: [&[u8]; 3] = [&PLAIN, &NUMBERED, &FRAMES];
+    let files: [&[u8]; 4] = [&COPIES, &PLAIN, &NUMBERED, &FRAMES];
     for bytes in files {
         for n in 0..bytes.len() {
             assert_eq!(rt; refusal(rt.alloc(), &bytes[..n])?, form(n), "{n} bytes");

@@ -28,7 +28,7 @@ const SECOND: &[u8] = b"\x70\0\x78\0\x78\0\x78\0\0\0\0\0\0";
 
 const THIRD: &[u8] = b"\xe0\0\0\0\0\0\0\0\0\0\0\xff\x88";
 
-fn joined(alloc: Global, parts: &[&[u8]]) -> Result<Vec<u8>, Fail> {
+pub fn joined(alloc: Global, parts: &[&[u8]]) -> Result<Vec<u8>, Fail> {
     let mut bytes = Vec::new(alloc);
     for part in parts {
         bytes.extend_from_slice(*part)?;
@@ -64,13 +64,13 @@ fn changed(alloc: Global, bytes: &[u8], at: usize, new: &[u8]) -> Result<Vec<u8>
 }
 
 // The answer to a file of these bytes, where it is a refusal.
-fn refusal(alloc: Global, bytes: &[u8]) -> Result<Option<ReadError>, Fail> {
+pub fn refusal(alloc: Global, bytes: &[u8]) -> Result<Option<ReadError>, Fail> {
     let mut shelf = MemShelf::new(alloc);
     shelf.put_file("record", bytes)?;
     Ok(read_cert(alloc, &mut shelf, "record").err())
 }
 
-fn form(at: u64) -> Option<ReadError> {
+pub fn form(at: u64) -> Option<ReadError> {
     Some(ReadError::Bad(FormFault::Form(at)))
 }
 
@@ -82,37 +82,51 @@ fn records(number: u64) -> Option<ReadError> {
     })
 }
 
+// The same and a third one.
+fn three_records(alloc: Global) -> Result<Vec<u8>, Fail> {
+    joined(
+        alloc,
+        &[
+            HEAD,
+            b"\0\0\0\x03",
+            FIRST_BOX,
+            FROM,
+            FIRST,
+            SECOND_BOX,
+            FROM,
+            SECOND,
+            FIRST_BOX,
+            FROM,
+            THIRD,
+        ],
+    )
+}
+
+// Two records in version 2.
+fn numbered_records(alloc: Global) -> Result<Vec<u8>, Fail> {
+    joined(
+        alloc,
+        &[
+            HEAD_2,
+            b"\0\0\0\x02",
+            FIRST_BOX,
+            FROM_2,
+            FIRST,
+            SECOND_BOX,
+            FROM_2,
+            SECOND,
+        ],
+    )
+}
+
 // Each file is read, and what was read is written again, byte by byte.
 #[test]
 fn written_again(rt: HostRuntime) -> Result<(), Fail> {
     let alloc = rt.alloc();
-    let third: &[&[u8]] = &[
-        HEAD,
-        b"\0\0\0\x03",
-        FIRST_BOX,
-        FROM,
-        FIRST,
-        SECOND_BOX,
-        FROM,
-        SECOND,
-        FIRST_BOX,
-        FROM,
-        THIRD,
-    ];
-    let numbered: &[&[u8]] = &[
-        HEAD_2,
-        b"\0\0\0\x02",
-        FIRST_BOX,
-        FROM_2,
-        FIRST,
-        SECOND_BOX,
-        FROM_2,
-        SECOND,
-    ];
     let files = [
         two_records(alloc)?,
-        joined(alloc, third)?,
-        joined(alloc, numbered)?,
+        three_records(alloc)?,
+        numbered_records(alloc)?,
     ];
     for (bytes, length) in files.iter().zip([100usize, 131, 106].iter()) {
         assert_eq!(rt; bytes.len(), *length);
@@ -148,7 +162,7 @@ fn fields(rt: HostRuntime) -> Result<(), Fail> {
 }
 
 #[test]
-fn refusals(rt: HostRuntime) -> Result<(), Fail> {
+pub fn refusals(rt: HostRuntime) -> Result<(), Fail> {
     let alloc = rt.alloc();
     let bytes = two_records(alloc)?;
     let cases: [(usize, &[u8], Option<ReadError>); 10] = [
@@ -168,16 +182,32 @@ fn refusals(rt: HostRuntime) -> Result<(), Fail> {
         let other = changed(alloc, &bytes, *at, *new)?;
         assert_eq!(rt; refusal(alloc, &other)?, *want, "case {i}");
     }
-    let longer = joined(alloc, &[&bytes, b"x"])?;
-    assert_eq!(rt; refusal(alloc, &longer)?, form(100));
-    for n in 0..100usize {
-        let short = bytes.get(..n).unwrap_or(b"");
-        assert_eq!(rt;
-            refusal(alloc, short)?,
-            form(n as u64),
-            "the first {n} bytes"
-        );
+    Ok(())
+}
+
+// How many bytes of a file are the first that aren't refused at their end, or with a byte more at its place; None where all are.
+fn wrong_length(alloc: Global, bytes: &[u8]) -> Result<Option<usize>, Fail> {
+    for n in 0..bytes.len() {
+        if refusal(alloc, &bytes[..n])? != form(n as u64) {
+            return Ok(Some(n));
+        }
     }
+    let longer = joined(alloc, &[bytes, b"x"])?;
+    if refusal(alloc, &longer)? != form(bytes.len() as u64) {
+        return Ok(Some(bytes.len()));
+    }
+    Ok(None)
+}
+
+// Files of each kind that are cut off at each byte, or go on.
+#[test]
+fn cut_and_longer(rt: HostRuntime) -> Result<(), Fail> {
+    let alloc = rt.alloc();
+    assert_eq!(rt; wrong_length(alloc, &two_records(alloc)?)?, None);
+    assert_eq!(rt; wrong_length(alloc, &three_records(alloc)?)?, None);
+    assert_eq!(rt; wrong_length(alloc, &numbered_records(alloc)?)?, None);
+    assert_eq!(rt; wrong_length(alloc, WALK)?, None);
+    assert_eq!(rt; wrong_length(alloc, BLOCKS)?, None);
     Ok(())
 }
 
@@ -251,14 +281,6 @@ fn walk_refusals(rt: HostRuntime) -> Result<(), Fail> {
         let other = changed(alloc, WALK, *at, *new)?;
         assert_eq!(rt; refusal(alloc, &other)?, *want, "case {i}");
     }
-    for n in 0..111usize {
-        let short = WALK.get(..n).unwrap_or(b"");
-        assert_eq!(rt;
-            refusal(alloc, short)?,
-            form(n as u64),
-            "the first {n} bytes"
-        );
-    }
     Ok(())
 }
 
@@ -329,14 +351,6 @@ fn blocks_refusals(rt: HostRuntime) -> Result<(), Fail> {
     for (i, (at, new, want)) in cases.iter().enumerate() {
         let other = changed(alloc, BLOCKS, *at, *new)?;
         assert_eq!(rt; refusal(alloc, &other)?, *want, "case {i}");
-    }
-    for n in 0..126usize {
-        let short = BLOCKS.get(..n).unwrap_or(b"");
-        assert_eq!(rt;
-            refusal(alloc, short)?,
-            form(n as u64),
-            "the first {n} bytes"
-        );
     }
     Ok(())
 }

@@ -1,0 +1,144 @@
+// Runs of each command over stores that take no memory once they are made, so that every growth
+// that is refused is one of the run's own.
+use crate::runs::texts_of;
+use job_words::Words;
+use shelf_core::{SureShelf, SureSink};
+use std::alloc::{AllocError, Global};
+use weave_engine::run;
+
+// A run: its words, the files before it, and its report.
+type Sure<'a> = (&'a str, &'a [(&'a str, &'a [u8])], &'a str);
+
+const GREYS: &[u8] = b"P6\n4 1\n255\n\x0a\x0a\x0a\x14\x14\x14\x1e\x1e\x1e\x28\x28\x28";
+
+const FRAMES: &[u8] = b"YUV4MPEG2 W1 H1 Cmono\nFRAME\n\x00FRAME\n\x03FRAME\n\x00FRAME\n\x03";
+
+const PICTURE: &[u8] = b"P6\n6 1\n255\n\
+\x0a\x0a\x0a\x14\x14\x14\x1e\x1e\x1e\x14\x14\x14\x1e\x1e\x1e\x28\x28\x28";
+
+const MAP: &[u8] = b"WEAVEMAP\x01\x00\
+\x00\x00\x00\x06\x00\x00\x00\x01\x00\x00\x00\x01\
+\x00\x00\x00\x04\x00\x00\x00\x01\x00\x00\x00\x01\
+\x00\x00\x00\x00\x00\x00\x00\x01\x00\x00\x00\x00\x00\x02\x00\x00\x00\x00\
+\x00\x01\x00\x00\x00\x00\x00\x02\x00\x00\x00\x00\x00\x03\x00\x00\x00\x00";
+
+const RECORD: &[u8] = b"WEAVEREC\x01\x00\
+\x00\x00\x00\x06\x00\x00\x00\x01\x00\x00\x00\x01\
+\x00\x00\x00\x04\x00\x00\x00\x01\x00\x00\x00\x01\
+\x00\x00\x00\x02\
+\x00\x00\x00\x00\x00\x00\x00\x04\x00\x01\x00\x01\x00\x00\x00\x00\x00\x00\xf0\
+\x00\x00\x00\x00\x00\x00\x00\x00\x00\x00\x00\x00\
+\x00\x02\x00\x00\x00\x00\x00\x04\x00\x01\x00\x01\x00\x00\x00\x00\x00\x00\x70\
+\x00\x78\x00\x78\x00\x78\x00\x00\x00\x00\x00\x00";
+
+const BEFORE: &[u8] = b"as before";
+
+const RUNS: &[Sure<'static>] = &[
+    (
+        "grow sample=s out=o map=m record=r width=6 height=1 place=grid overlap=2 box=4 rounds=1",
+        &[("s", GREYS), ("o", BEFORE), ("m", BEFORE), ("r", BEFORE)],
+        "grow 6x1x1\nplacements 2\nrounds 1\nseams 120\n",
+    ),
+    (
+        "grow sample=s sample2=t out=o map=m record=r width=2 height=1 place=grid overlap=0",
+        &[
+            ("s", b"P6\n1 1\n255\n\x0a\x0a\x0a"),
+            ("t", b"P6\n2 1\n255\n\x14\x14\x14\x1e\x1e\x1e"),
+            ("o", BEFORE),
+            ("m", BEFORE),
+            ("r", BEFORE),
+        ],
+        "grow 2x1x1\nplacements 2\nrounds 0\nseams 1530\n",
+    ),
+    (
+        "quilt sample=s out=o map=m record=r width=6 height=1 block=4 overlap=2",
+        &[("s", GREYS), ("o", BEFORE), ("m", BEFORE), ("r", BEFORE)],
+        "quilt 6x1x1\nblocks 2\nboundaries 1\ncost 1200\n",
+    ),
+    (
+        "loop sample=s out=o map=m record=r length=2 taps=0",
+        &[("s", FRAMES), ("o", BEFORE), ("m", BEFORE), ("r", BEFORE)],
+        "loop 2\nstart 0\ncost 0\n",
+    ),
+    (
+        "check sample=s out=o map=m record=r",
+        &[("s", GREYS), ("o", PICTURE), ("m", MAP), ("r", RECORD)],
+        "stands\n",
+    ),
+    (
+        "upgrade map=m record=r newmap=n newrecord=q",
+        &[("m", MAP), ("r", RECORD), ("n", BEFORE), ("q", BEFORE)],
+        "upgrade 6 2\n",
+    ),
+    (
+        "trial n=7 width=64 height=64 place=grid rounds=0",
+        &[("o", BEFORE)],
+        "trial 7\nsample 64x64x1\ngrow 64x64x1\nplacements 1\nrounds 0\nseams 0\nrecord stands\n",
+    ),
+];
+
+/// How a run over sure stores ended.
+#[derive(Clone, Copy, Drop)]
+pub enum Surely {
+    /// As it is to end where there is memory.
+    Well,
+    /// With want of memory, and with every file as before.
+    NoMemory,
+    /// With another answer, or with other files.
+    Wrong,
+}
+
+fn put_files(shelf: &mut SureShelf, files: &[(&str, &[u8])]) {
+    for (name, bytes) in files.iter() {
+        shelf.put_file(*name, *bytes);
+    }
+}
+
+fn are_files(shelf: &SureShelf, files: &[(&str, &[u8])]) -> bool {
+    for (name, bytes) in files.iter() {
+        if shelf.file(*name) != Some(*bytes) {
+            return false;
+        }
+    }
+    true
+}
+
+// Whether an answer is one of want of memory and left all as it was.
+fn is_refused(shelf: &SureShelf, out: &SureSink, err: &SureSink, files: &[(&str, &[u8])]) -> bool {
+    out.bytes() == Some(b"".as_slice())
+        && err.bytes() == Some(b"weave: no memory\n".as_slice())
+        && are_files(shelf, files)
+}
+
+fn words_of(alloc: Global, line: &str) -> Result<Words, AllocError> {
+    let texts = texts_of(alloc, line)?;
+    let mut words = Words::new(alloc);
+    for text in texts.iter() {
+        words.push(text.as_str())?;
+    }
+    Ok(words)
+}
+
+/// Does the run of a number. The one error is that there is no memory for its stores and its
+/// words.
+pub fn end_of(alloc: Global, number: usize) -> Result<Surely, AllocError> {
+    let Some((line, files, report)) = RUNS.get(number) else {
+        return Ok(Surely::Wrong);
+    };
+    let mut shelf = SureShelf::make(alloc, 8192)?;
+    put_files(&mut shelf, *files);
+    let mut out = SureSink::make(alloc, 256)?;
+    let mut err = SureSink::make(alloc, 256)?;
+    let words = words_of(alloc, *line)?;
+    let status = run(alloc, &words, &mut shelf, &mut out, &mut err);
+    if status == 0
+        && out.bytes() == Some(report.as_bytes())
+        && err.bytes() == Some(b"".as_slice())
+    {
+        return Ok(Surely::Well);
+    }
+    if status == 7 && is_refused(&shelf, &out, &err, *files) {
+        return Ok(Surely::NoMemory);
+    }
+    Ok(Surely::Wrong)
+}

@@ -1,0 +1,159 @@
+// Valid files of all kinds, made by runs.
+use crate::files::{File, copy_of, files_of, shelf_of};
+use crate::runs::{Failing, left_by, said_over, texts_of};
+use std::alloc::{AllocError, Global};
+
+/// A run that ended well: its words, the words that check it, and the files after it.
+#[derive(Drop)]
+pub struct World {
+    pub words: &'static str,
+    pub check: &'static str,
+    pub files: Vec<File>,
+}
+
+const CHECK: &str = "check sample=s out=o map=m record=r";
+
+const CHECK_BOTH: &str = "check sample=s sample2=t out=o map=m record=r";
+
+const FOUR_GREYS: &[u8] = b"P6\n4 1\n255\n\x0a\x0a\x0a\x14\x14\x14\x1e\x1e\x1e\x28\x28\x28";
+
+const NINE_CELLS: &[u8] = b"P6\n# nine\n3 3\n200\n\
+\x01\x02\x03\x40\x50\x60\xc8\x00\xc8\x10\x10\x10\x80\x7f\x7e\x01\x02\x03\
+\x33\x99\x66\xc8\xc8\xc8\x00\x00\x00";
+
+const SIXTEEN_CELLS: &[u8] = b"P6 4 4 255\n\
+\x6e\x6e\x6e\x5a\x5a\x5a\xe1\xe1\xe1\xaf\xaf\xaf\x1e\x1e\x1e\x64\x64\x64\xdc\xdc\xdc\x69\x69\x69\
+\x64\x64\x64\x3c\x3c\x3c\x1e\x1e\x1e\xcd\xcd\xcd\x32\x32\x32\xeb\xeb\xeb\xe1\xe1\xe1\x64\x64\x64";
+
+const MONO: &[u8] = b"YUV4MPEG2 W2 H2 F25:1 Cmono\nFRAME\n\x00\x10\x20\x30FRAME\n\x01\x11\x21\x31\
+FRAME x\n\x02\x12\x22\x32";
+
+const PLANES: &[u8] = b"YUV4MPEG2 W4 H2 F25:1 Ip A1:1 C420jpeg XYSCSS=420JPEG\nFRAME\n\
+\x01\x02\x03\x04\x05\x06\x07\x08\x09\x0a\x0b\x0cFRAME\n\x11\x12\x13\x14\x15\x16\x17\x18\x19\x1a\x1b\x1c";
+
+const FULL_PLANES: &[u8] = b"YUV4MPEG2 W2 H1 C444\nFRAME\n\x01\x02\x03\x04\x05\x06";
+
+const FOUR_FRAMES: &[u8] = b"YUV4MPEG2 W1 H1 Cmono\nFRAME\n\x00FRAME\n\x03FRAME\n\x00FRAME\n\x03";
+
+const SIX_FRAMES: &[u8] =
+    b"YUV4MPEG2 W1 H1 F25:1 Cmono X\nFRAME\n\x05FRAME\n\x09FRAME\n\x05FRAME\n\x09\
+FRAME\n\x05FRAME\n\x09";
+
+// The words of each run, those of its check, and its samples.
+const MADE: &[(&str, &str, &[u8], &[u8])] = &[
+    (
+        "grow sample=s out=o map=m record=r width=6 height=1 place=grid overlap=2 box=4 rounds=1",
+        CHECK,
+        FOUR_GREYS,
+        NINE_CELLS,
+    ),
+    (
+        "grow sample=s out=o map=m record=r width=5 height=4 box=2 overlap=1 rounds=2 seed=3 tol=50",
+        CHECK,
+        NINE_CELLS,
+        FOUR_GREYS,
+    ),
+    (
+        "grow sample=s sample2=t out=o map=m record=r width=5 height=3 place=whole rounds=1 box=3",
+        CHECK_BOTH,
+        FOUR_GREYS,
+        SIXTEEN_CELLS,
+    ),
+    (
+        "grow sample=s out=o map=m record=r width=3 height=2 frames=4 box=2 overlap=1 rounds=1",
+        CHECK,
+        MONO,
+        FULL_PLANES,
+    ),
+    (
+        "grow sample=s out=o map=m record=r width=3 height=2 frames=2 place=random seed=9",
+        CHECK,
+        PLANES,
+        MONO,
+    ),
+    (
+        "grow sample=s sample2=t out=o map=m record=r width=3 height=2 place=sub box=2",
+        CHECK_BOTH,
+        FULL_PLANES,
+        FULL_PLANES,
+    ),
+    (
+        "quilt sample=s out=o map=m record=r width=6 height=5 block=3 overlap=1",
+        CHECK,
+        SIXTEEN_CELLS,
+        NINE_CELLS,
+    ),
+    (
+        "quilt sample=s out=o map=m record=r width=7 height=1 block=4 overlap=2 tol=0 seed=5",
+        CHECK,
+        FOUR_GREYS,
+        PLANES,
+    ),
+    (
+        "loop sample=s out=o map=m record=r length=3 taps=0 gap=1",
+        CHECK,
+        FOUR_FRAMES,
+        SIXTEEN_CELLS,
+    ),
+    (
+        "loop sample=s out=o map=m record=r length=6 taps=4",
+        CHECK,
+        SIX_FRAMES,
+        FOUR_FRAMES,
+    ),
+    (
+        "loop sample=s out=o map=m record=r length=5 taps=2 gap=2",
+        CHECK,
+        SIX_FRAMES,
+        FOUR_GREYS,
+    ),
+];
+
+fn before<'a>(alloc: Global, sample: &'a [u8], second: &'a [u8]) -> Result<Vec<File>, AllocError> {
+    let mut files = Vec::new(alloc);
+    for (name, bytes) in [("s", sample), ("t", second), ("u", b"".as_slice())] {
+        let bytes = Vec::from_slice(alloc, bytes)?;
+        files.push(File { name, bytes })?;
+    }
+    Ok(files)
+}
+
+// The files after a line, where it ends well, and else those before it.
+fn after(alloc: Global, line: &str, files: &[File]) -> Result<Vec<File>, AllocError> {
+    let texts = texts_of(alloc, line)?;
+    let run = left_by(alloc, &texts, files, Failing::Nothing)?;
+    if run.said.status == 0 {
+        return files_of(alloc, &run.shelf);
+    }
+    copy_of(alloc, files)
+}
+
+/// The files of runs of all commands; those of growths of one sample in version 2 too.
+pub fn pool(alloc: Global) -> Result<Vec<World>, AllocError> {
+    let mut worlds = Vec::new(alloc);
+    for (words, check, sample, second) in MADE.iter() {
+        let files = before(alloc, *sample, *second)?;
+        let files = after(alloc, *words, &files)?;
+        let line = "upgrade map=m record=r newmap=n newrecord=q";
+        let files = after(alloc, line, &files)?;
+        worlds.push(World {
+            words: *words,
+            check: *check,
+            files,
+        })?;
+    }
+    Ok(worlds)
+}
+
+/// Whether `check` finds that the files of every run stand.
+pub fn all_stand(alloc: Global, worlds: &[World]) -> Result<bool, AllocError> {
+    for world in worlds.iter() {
+        let texts = texts_of(alloc, world.check)?;
+        let mut shelf = shelf_of(alloc, &world.files)?;
+        let said = said_over(alloc, &texts, &mut shelf, Failing::Nothing)?;
+        if said.status != 0 {
+            return Ok(false);
+        }
+    }
+    Ok(true)
+}

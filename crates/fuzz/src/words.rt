@@ -1,0 +1,153 @@
+// The words of a case.
+use crate::dice::Dice;
+use crate::pool::World;
+use std::alloc::{AllocError, Global};
+
+const LINES: &[&str] = &[
+    "trial n=3 width=6 height=5 rounds=1",
+    "trial n=4294967295 width=1 height=2 place=grid rounds=0 seed=18446744073709551615",
+    "quilt sample=s out=o map=m record=r width=5 height=4 block=2 overlap=1 seed=2",
+    "quilt sample=t out=o map=m record=r width=4096 height=4096",
+    "loop sample=s out=o map=m record=r length=4",
+    "loop sample=t out=o map=m record=r length=7 taps=2",
+    "loop sample=s out=o map=m record=r length=400 taps=0",
+    "grow sample=t out=o map=m record=r width=4 height=4 frames=2 box=2",
+    "grow sample=s sample2=t sample3=u out=o map=m record=r width=4 height=3",
+    "grow sample=s out=o map=m record=r width=1025 height=1024",
+    "upgrade map=n record=q newmap=m newrecord=r",
+    "upgrade map=s record=r newmap=o newrecord=q",
+    "check sample=s sample2=s out=o map=m record=r",
+    "check sample=o out=s map=m record=r",
+];
+
+const VALUES: &[&str] = &[
+    "0",
+    "1",
+    "2",
+    "3",
+    "4",
+    "5",
+    "7",
+    "9",
+    "64",
+    "4097",
+    "007",
+    "18446744073709551615",
+    "18446744073709551616",
+    "99999999999999999999",
+    "",
+    "x",
+    "-1",
+    "+1",
+    "1.5",
+    "s",
+    "t",
+    "o",
+    "m",
+    "r",
+    "n",
+    "q",
+    "none",
+    "grid",
+    "random",
+    "whole",
+    "sub",
+    "best",
+    "=",
+    "a=b",
+];
+
+const ODD_WORDS: &[&str] = &[
+    "",
+    "=",
+    "=x",
+    "sample",
+    "width",
+    "grow",
+    "check",
+    "seed=1",
+    "tol=1000",
+    "tol=1001",
+    "gap=256",
+    "taps=2",
+    "rounds=1",
+    "place=grid",
+    "overlap=4095",
+    "frames=2",
+    "sample2=u",
+    "sample3=t",
+    "sample16=t",
+    "sample17=t",
+    "newmap=q",
+    "--help",
+    "größe=3",
+    "a b=c d",
+];
+
+// The words before they are changed.
+fn line(world: &World, dice: &mut Dice) -> &'static str {
+    match dice.below(12) {
+        0 | 1 | 2 | 3 => world.words,
+        4 | 5 | 6 | 7 => world.check,
+        8 => "check sample=s out=o map=n record=q",
+        9 => "upgrade map=m record=r newmap=n newrecord=q",
+        _ => dice.text(LINES),
+    }
+}
+
+fn put(alloc: Global, texts: &mut Vec<String>, word: &str) -> Result<(), AllocError> {
+    texts.push(String::from_str(alloc, word)?)?;
+    Ok(())
+}
+
+// The word with another value.
+fn put_value(
+    alloc: Global,
+    texts: &mut Vec<String>,
+    word: &str,
+    dice: &mut Dice,
+) -> Result<(), AllocError> {
+    let key = match word.split_once('=') {
+        Some((key, _)) => key,
+        None => word,
+    };
+    let value = dice.text(VALUES);
+    texts.push(format!(in alloc; "{key}={value}")?)?;
+    Ok(())
+}
+
+// The word, changed.
+fn put_changed(
+    alloc: Global,
+    texts: &mut Vec<String>,
+    word: &str,
+    dice: &mut Dice,
+) -> Result<(), AllocError> {
+    match dice.below(8) {
+        0 => Ok(()),
+        1 => {
+            put(alloc, texts, word)?;
+            put(alloc, texts, word)
+        }
+        2 => put(alloc, texts, dice.text(ODD_WORDS)),
+        3 => {
+            put(alloc, texts, dice.text(ODD_WORDS))?;
+            put(alloc, texts, word)
+        }
+        _ => put_value(alloc, texts, word, dice),
+    }
+}
+
+/// Words of a run, of its check or of another one; some of them changed, in one of four cases.
+pub fn texts(alloc: Global, world: &World, dice: &mut Dice) -> Result<Vec<String>, AllocError> {
+    let mut texts = Vec::new(alloc);
+    let are_changed = dice.is_one_in(4);
+    for word in line(world, dice).split(' ') {
+        if are_changed && dice.is_one_in(4) {
+            put_changed(alloc, &mut texts, word, dice)?;
+        } else {
+            put(alloc, &mut texts, word)?;
+        }
+    }
+    Ok(texts)
+}

@@ -1,10 +1,10 @@
 -- What can be grown.
 use Rattle.cells.specs.Places.{IsSmall}
 use Rattle.patch_place.specs.Fitting.{HasPatch}
-use Rattle.bench.specs.declared.growths.Growth.{Growth}
+use Rattle.bench.specs.declared.growths.GrowthCase.{GrowthCase}
 
 -- sample and output are volumes of one frame, and a patch has a cell
-pub record IsGrowth (growth : Growth) : Type 0 where
+pub record IsGrowthCase (growth : GrowthCase) : Type 0 where
   pub sample : IsSmall (record { w = growth.sample; h = growth.sample; f = 1 })
   pub output : IsSmall (record { w = growth.w; h = growth.h; f = 1 })
   pub patch : HasPatch growth.mode

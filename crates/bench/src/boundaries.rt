@@ -1,5 +1,6 @@
 // Least boundaries of strips.
 ghost use Rattle.std.specs.Prelude.{◌≡◌, ◌≤◌, ◌*◌, IfOk, All, length};
+ghost use Rattle.cells.specs.declared.bounds.TheConstants.{GREATEST_AXIS};
 ghost use Rattle.strip_boundary.specs.Strips.{IsStrip};
 
 use crate::samples::mixed;
@@ -9,9 +10,9 @@ use strip_boundary::{GREATEST_ERROR, Strip, least_boundary};
 // A strip of errors that look drawn.
 fn strip_of(alloc: Global, rows: u32, cols: u32) -> Result<Strip, AllocError>
     requires some_rows { 1 ≤ rows }
-    requires most_rows { rows ≤ 4096 }
+    requires most_rows { rows ≤ GREATEST_AXIS }
     requires some_cols { 1 ≤ cols }
-    requires most_cols { cols ≤ 4096 }
+    requires most_cols { cols ≤ GREATEST_AXIS }
 {
     let mut errors = Vec::with_capacity(alloc, rows as usize * cols as usize)?;
     for i in 0..rows * cols {
@@ -23,9 +24,9 @@ fn strip_of(alloc: Global, rows: u32, cols: u32) -> Result<Strip, AllocError>
 /// Finds the least boundary of a strip of that size so often. The number is of its columns.
 pub fn least_boundaries(alloc: Global, rows: u32, cols: u32, times: u32) -> Result<u64, AllocError>
     requires some_rows { 1 ≤ rows }
-    requires most_rows { rows ≤ 4096 }
+    requires most_rows { rows ≤ GREATEST_AXIS }
     requires some_cols { 1 ≤ cols }
-    requires most_cols { cols ≤ 4096 }
+    requires most_cols { cols ≤ GREATEST_AXIS }
 {
     let strip = strip_of(alloc, rows, cols)?;
     let mut number = 0u64;

@@ -1,12 +1,14 @@
 // The cases, by their names.
 ghost use Rattle.cells.specs.Places.{IsSmall};
 ghost use Rattle.patch_place.specs.Fitting.{HasPatch};
-ghost use Rattle.bench.specs.Sizes.{IsGrowth};
+ghost use Rattle.bench.specs.Sizes.{IsGrowthCase};
 
 use crate::boundaries::least_boundaries;
-use crate::growths::{Growth, check_records, grow_often};
+use crate::clips::{clip_bytes, move_clip};
+use crate::growths::{GrowthCase, check_records, grow_often};
 use crate::loops::least_loops;
 use crate::networks::{solve_grids, solve_ladders};
+use crate::record_files::{Way, cuts_of, move_records, strip_of};
 use patch_place::Mode;
 use std::alloc::{AllocError, Global};
 
@@ -41,6 +43,29 @@ pub enum Case {
     /// Networks of a grid of pipes, and networks each of whose paths is longer than the one before.
     NetworkGrid,
     NetworkLadder,
+    /// The record file of 200 placements of 32x32 cells, and of a block whose left strip has 1,023 columns.
+    Records(Way),
+    Strip(Way),
+    /// Clips of 64 frames of 640x360 pixels, of the kinds 420 and 444.
+    Clip420(Way),
+    Clip444(Way),
+}
+
+// The case of a name that is of a file.
+fn file_case_of(name: &str) -> Case {
+    match name {
+        "records-read" => Case::Records(Way::Read),
+        "records-write" => Case::Records(Way::Write),
+        "records-copy" => Case::Records(Way::Copy),
+        "strip-read" => Case::Strip(Way::Read),
+        "strip-write" => Case::Strip(Way::Write),
+        "strip-copy" => Case::Strip(Way::Copy),
+        "clip-420-read" => Case::Clip420(Way::Read),
+        "clip-420-write" => Case::Clip420(Way::Write),
+        "clip-444-read" => Case::Clip444(Way::Read),
+        "clip-444-write" => Case::Clip444(Way::Write),
+        _ => Case::Quick,
+    }
 }
 
 /// The case of a name; of any other word it's that of no word.
@@ -62,7 +87,7 @@ pub fn case_of(name: &str) -> Case {
         "boundary-100" => Case::Boundary100,
         "network-grid" => Case::NetworkGrid,
         "network-ladder" => Case::NetworkLadder,
-        _ => Case::Quick,
+        _ => file_case_of(name),
     }
 }
 
@@ -73,13 +98,13 @@ const SUB: Mode = Mode::Sub {
 };
 
 // The growth of a mode, with no rounds.
-fn growth(sample: u32, output: u32, mode: Mode) -> Growth
+fn growth(sample: u32, output: u32, mode: Mode) -> GrowthCase
     requires sample { IsSmall (record { w = sample; h = sample; f = 1 }) }
     requires output { IsSmall (record { w = output; h = output; f = 1 }) }
     requires patch { HasPatch mode }
-    ensures { IsGrowth result }
+    ensures { IsGrowthCase result }
 {
-    Growth {
+    GrowthCase {
         sample,
         w: output,
         h: output,
@@ -89,19 +114,19 @@ fn growth(sample: u32, output: u32, mode: Mode) -> Growth
 }
 
 // The growth of a case.
-fn growth_of(case: Case) -> Growth
-    ensures { IsGrowth result }
+fn growth_of(case: Case) -> GrowthCase
+    ensures { IsGrowthCase result }
 {
     match case {
         Case::SubWide => growth(256, 512, SUB),
-        Case::Rounds => Growth {
+        Case::Rounds => GrowthCase {
             sample: 128,
             w: 512,
             h: 512,
             mode: SUB,
             rounds: 100,
         },
-        Case::SubGreat => Growth {
+        Case::SubGreat => GrowthCase {
             sample: 2048,
             w: 128,
             h: 64,
@@ -115,9 +140,22 @@ fn growth_of(case: Case) -> Growth
     }
 }
 
+// A little of the files.
+fn run_files(alloc: Global) -> Result<u64, AllocError> {
+    let cuts = cuts_of(alloc, 2)?;
+    let strip = strip_of(alloc, 3)?;
+    let clip = clip_bytes(alloc, LINE_420, 2, 345600)?;
+    let read = move_records(alloc, &cuts, Way::Read, 1)?;
+    let written = move_records(alloc, &strip, Way::Write, 1)?;
+    let copied = move_records(alloc, &strip, Way::Copy, 1)?;
+    let shown = move_clip(alloc, &clip, Way::Read, 1)?;
+    let filmed = move_clip(alloc, &clip, Way::Write, 1)?;
+    Ok(read ^ written ^ copied ^ shown ^ filmed)
+}
+
 // A little of everything.
 fn run_quick(alloc: Global) -> Result<u64, AllocError> {
-    let small = Growth {
+    let small = GrowthCase {
         sample: 40,
         w: 72,
         h: 48,
@@ -130,7 +168,25 @@ fn run_quick(alloc: Global) -> Result<u64, AllocError> {
     let bounded = least_boundaries(alloc, 16, 5, 1)?;
     let solved = solve_grids(alloc, 8, 1)?;
     let climbed = solve_ladders(alloc, 20, 1)?;
-    Ok(grown ^ checked ^ looped ^ bounded ^ solved ^ climbed)
+    let moved = run_files(alloc)?;
+    Ok(grown ^ checked ^ looped ^ bounded ^ solved ^ climbed ^ moved)
+}
+
+// The stream lines of clips of 640x360 pixels.
+const LINE_420: &[u8] = b"YUV4MPEG2 W640 H360 C420jpeg\n";
+
+const LINE_444: &[u8] = b"YUV4MPEG2 W640 H360 C444\n";
+
+// Moves the clip of a stream line and so many bytes a frame so often.
+fn move_frames(
+    alloc: Global,
+    line: &[u8],
+    planes: u32,
+    way: Way,
+    times: u32,
+) -> Result<u64, AllocError> {
+    let bytes = clip_bytes(alloc, line, 64, planes)?;
+    move_clip(alloc, &bytes, way, times)
 }
 
 /// Runs a case so often, and gives a number of what comes out.
@@ -145,6 +201,10 @@ pub fn run_case(alloc: Global, case: Case, times: u32) -> Result<u64, AllocError
         Case::Boundary100 => least_boundaries(alloc, 4096, 100, times),
         Case::NetworkGrid => solve_grids(alloc, 128, times),
         Case::NetworkLadder => solve_ladders(alloc, 2000, times),
+        Case::Records(way) => move_records(alloc, &cuts_of(alloc, 200)?, way, times),
+        Case::Strip(way) => move_records(alloc, &strip_of(alloc, 1023)?, way, times),
+        Case::Clip420(way) => move_frames(alloc, LINE_420, 345600, way, times),
+        Case::Clip444(way) => move_frames(alloc, LINE_444, 691200, way, times),
         _ => grow_often(alloc, &growth_of(case), times),
     }
 }

@@ -3,11 +3,11 @@ ghost use Rattle.std.specs.Prelude.{◌≤◌, All, IfOk};
 ghost use Rattle.cells.specs.Places.{IsSmall};
 ghost use Rattle.patch_place.specs.Fitting.{HasPatch};
 ghost use Rattle.replay.specs.Replay.{IsFormed};
-ghost use Rattle.bench.specs.Sizes.{IsGrowth};
+ghost use Rattle.bench.specs.Sizes.{IsGrowthCase};
 
 use crate::samples::{sample_of, sum_of};
 use cells::{Size, Volume};
-use growing::{Grown, Plan, grow_canvas};
+use growing::{GrowPlan, Grown, grow_canvas};
 use map_canvas::Canvas;
 use patch_place::Mode;
 use replay::replay_cuts;
@@ -15,7 +15,7 @@ use std::alloc::{AllocError, Global};
 
 /// A growth: the side of its sample, and what is grown of it.
 #[derive(Clone, Copy, Drop)]
-pub struct Growth {
+pub struct GrowthCase {
     pub sample: u32,
     pub w: u32,
     pub h: u32,
@@ -24,13 +24,13 @@ pub struct Growth {
 }
 
 // The plan of a growth.
-fn plan_of(growth: &Growth) -> Plan
-    requires { IsGrowth growth.now }
+fn plan_of(growth: &GrowthCase) -> GrowPlan
+    requires { IsGrowthCase growth.now }
     ensures small { IsSmall result.size }
     ensures patch { HasPatch result.mode }
     ensures side { 1 ≤ result.side }
 {
-    Plan {
+    GrowPlan {
         size: Size {
             w: growth.w,
             h: growth.h,
@@ -45,7 +45,7 @@ fn plan_of(growth: &Growth) -> Plan
 }
 
 // The run of a plan.
-fn grown(alloc: Global, plan: &Plan, sample: &Volume) -> Result<Grown, AllocError>
+fn grown(alloc: Global, plan: &GrowPlan, sample: &Volume) -> Result<Grown, AllocError>
     requires small { IsSmall plan.now.size }
     requires patch { HasPatch plan.now.mode }
     requires side { 1 ≤ plan.now.side }
@@ -58,8 +58,8 @@ fn grown(alloc: Global, plan: &Plan, sample: &Volume) -> Result<Grown, AllocErro
 }
 
 /// Grows so often. The number is of the picture's bytes.
-pub fn grow_often(alloc: Global, growth: &Growth, times: u32) -> Result<u64, AllocError>
-    requires { IsGrowth growth.now }
+pub fn grow_often(alloc: Global, growth: &GrowthCase, times: u32) -> Result<u64, AllocError>
+    requires { IsGrowthCase growth.now }
 {
     let sample = sample_of(alloc, growth.sample)?;
     let plan = plan_of(growth);
@@ -72,8 +72,8 @@ pub fn grow_often(alloc: Global, growth: &Growth, times: u32) -> Result<u64, All
 }
 
 /// Grows once, and checks all records so often. The number counts the records that stand.
-pub fn check_records(alloc: Global, growth: &Growth, times: u32) -> Result<u64, AllocError>
-    requires { IsGrowth growth.now }
+pub fn check_records(alloc: Global, growth: &GrowthCase, times: u32) -> Result<u64, AllocError>
+    requires { IsGrowthCase growth.now }
 {
     let sample = sample_of(alloc, growth.sample)?;
     let plan = plan_of(growth);

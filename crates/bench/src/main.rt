@@ -5,14 +5,16 @@
 // which the gate compares. examples/bench.sh times the cases.
 //
 // `samples` makes the samples, `growths` has the cases of growing, `loops` those of loops, `boundaries` those of
-// strips and `networks` those of maximum flow.
+// strips, `networks` those of maximum flow, and `record_files` and `clips` those of files.
 #![tactic(auto)]
 
 mod boundaries;
 mod cases;
+mod clips;
 mod growths;
 mod loops;
 mod networks;
+mod record_files;
 mod samples;
 
 use cases::{Case, case_of, run_case};

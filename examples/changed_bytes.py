@@ -6,11 +6,12 @@
 First RUNS small runs (200) have to stand. Then each byte of the map and the record of one small run is changed to each
 other value, and RANDOM times (1,000) a random byte of a larger run's files to another value. `check` has to end with
 status 0 exactly where verify.py, which shares nothing with weave, finds that the changed files stand; with status 1 where
-it finds a broken rule, and then name the same rule and record; and with status 3 or 4, and a line that names the file
-that was changed, where it can't read them. Build the program first: cd crates/weave && rt run. It takes some minutes."""
+it finds a broken rule, and then name the same record, rule and place; and with status 3 or 4 where the changed file isn't
+in its form or within its limits. Its line is then the one that is found here too, with the place of the fault, but for
+pictures and files of another kind, where it has to name the file. Build the program first: cd crates/weave && rt run. It
+takes some minutes."""
 import os
 import random
-import re
 import subprocess
 import sys
 import tempfile
@@ -19,42 +20,50 @@ from random_runs import WEAVE, one_run, write_sample
 from redraw import HEADER
 from verify import verify
 
-FAILS = re.compile(r"fails record (\d+) rule (\d+) place \d+\n")
-
-
 class NotInForm(Exception):
-    """A file isn't in its form or within its limits."""
+    """A file isn't in its form or within its limits: status and line, if they are found here."""
 
 
-def hold(test):
+def hold(test, *found):
     if not test:
-        raise NotInForm
+        raise NotInForm(*found)
 
 
 class Strict:
     """The fields of a binary file, each of which has to be whole and lawful."""
 
-    def __init__(self, name):
+    def __init__(self, name, part):
         self.data = open(name, "rb").read()
+        self.part = part
         self.place = 0
 
+    def form(self, at):
+        return 3, f"weave: {self.part}: form at {at}\n"
+
     def take(self, count):
-        hold(self.place + count <= len(self.data))
+        hold(self.place + count <= len(self.data), *self.form(len(self.data)))
         self.place += count
         return self.data[self.place - count:self.place]
 
     def number(self, count, least, most):
         value = int.from_bytes(self.take(count), "big")
-        hold(least <= value <= most)
+        hold(least <= value <= most, *self.form(self.place - count))
+        return value
+
+    def axis(self):
+        value = self.number(4, 1, 2 ** 32)
+        hold(value <= 4096, 4, f"weave: limit axis {value} over 4096\n")
         return value
 
     def size(self):
-        return [self.number(4, 1, 4096) for _ in range(3)]
+        return [self.axis() for _ in range(3)]
 
     def head(self, magic):
-        hold(self.take(8) == magic)
-        version = self.number(1, 1, 2)
-        hold(self.number(1, 0, 255) == 0)
+        hold(self.take(8) == magic, *self.form(0))
+        version, kind = self.number(1, 1, 2), self.number(1, 0, 2)
+        hold(kind < 2 or magic == b"WEAVEREC", *self.form(9))
+        hold(kind == 0 or version == 1, *self.form(9))
+        hold(kind == 0)
         output = self.size()
         count = 1 if version == 1 else self.number(2, 1, 16)
         return version, output, [self.size() for _ in range(count)]
@@ -65,7 +74,7 @@ class Strict:
             self.number(2, 0, axis - 1)
 
     def end(self):
-        hold(self.place == len(self.data))
+        hold(self.place == len(self.data), *self.form(self.place))
 
 
 def cells_of(size):
@@ -73,27 +82,33 @@ def cells_of(size):
 
 
 def hold_map(name):
-    file = Strict(name)
+    file = Strict(name, "map")
     version, output, samples = file.head(b"WEAVEMAP")
-    hold(cells_of(output) <= 1 << 20)
+    hold(cells_of(output) <= 1 << 20, 4, f"weave: limit cells {cells_of(output)} over 1048576\n")
     for _ in range(cells_of(output)):
         file.source(version, samples)
     file.end()
 
 
+def hold_choice(file, cells):
+    at = file.place
+    bits = file.take((cells + 7) // 8)
+    hold(cells % 8 == 0 or bits[-1] & (255 >> cells % 8) == 0, *file.form(at))
+
+
 def hold_record(name):
-    file = Strict(name)
+    file = Strict(name, "record")
     version, _, samples = file.head(b"WEAVEREC")
     total = 0
     for _ in range(file.number(4, 0, 2 ** 32 - 1)):
-        file.take(6)
+        for _ in range(3):
+            file.number(2, 0, 65535)
         w, h, f = (file.number(2, 1, 65535) for _ in range(3))
-        total += w * h * f
-        hold(total <= 1 << 25)
-        file.source(version, samples)
         cells = w * h * f
-        bits = file.take((cells + 7) // 8)
-        hold(cells % 8 == 0 or bits[-1] & (255 >> cells % 8) == 0)
+        total += cells
+        hold(total <= 1 << 25, 4, f"weave: limit records {total} over 33554432\n")
+        file.source(version, samples)
+        hold_choice(file, cells)
         file.take(4 * (3 * cells - h * f - w * f - w * h))
     file.end()
 
@@ -109,40 +124,32 @@ def hold_picture(name):
 
 
 def second_opinion(names):
-    """(record, rule), or None where the files stand; 'unread' where they aren't in their forms."""
+    """Status, report and line, by verify.py and the forms above; a status alone where the line isn't found here."""
     try:
         hold_picture(names["out"])
         hold_map(names["map"])
         hold_record(names["record"])
-    except NotInForm:
-        return "unread"
+    except NotInForm as found:
+        status, line = found.args or (None, None)
+        return status, "", line
     answer = verify(names["out"], names["map"], names["record"], names["sample"])
     if answer == "stands":
-        return None
-    told = re.fullmatch(r"record (\d+): rule (\d)", answer)
-    if told:
-        return int(told[1]), int(told[2])
-    return 0, {"the sizes differ": 15, "the records lead to another map": 16,
-               "the picture has another size or maxval": 15, "the picture isn't the map's": 17}[answer]
+        return 0, "stands\n", ""
+    return 1, "fails " + answer.replace(":", "") + "\n", ""
 
 
 def disagreement(names, changed):
     """What `check` and the second opinion say differently of files of which one is changed; None where nothing."""
     words = [f"{key}={name}" for key, name in names.items()]
     done = subprocess.run([WEAVE, "check"] + words, capture_output=True, text=True)
+    said = done.returncode, done.stdout, done.stderr
     opinion = second_opinion(names)
-    if done.returncode == 0:
-        agrees = done.stdout == "stands\n" and opinion is None
-    elif done.returncode == 1:
-        told = FAILS.fullmatch(done.stdout)
-        agrees = told and opinion == (int(told[1]), int(told[2]))
-    elif done.returncode in (3, 4):
-        line = done.stderr
-        names_it = line.startswith("weave: limit ") or line.startswith(f"weave: {changed}: ")
-        agrees = done.stdout == "" and names_it and opinion == "unread"
+    if opinion[0] is None:
+        names_it = said[2].startswith("weave: limit ") or said[2].startswith(f"weave: {changed}: ")
+        agrees = said[0] in (3, 4) and said[1] == "" and names_it
     else:
-        agrees = False
-    return None if agrees else f"status {done.returncode} {done.stdout!r} {done.stderr!r} beside {opinion}"
+        agrees = said == opinion
+    return None if agrees else f"{said} beside {opinion}"
 
 
 def grown(folder, chance, words):
@@ -188,10 +195,8 @@ def main(runs=200, count=1000, seed=1):
     with tempfile.TemporaryDirectory() as folder:
         for number in range(int(runs)):
             answer, words = one_run(chance, folder)
-            checked = subprocess.run([WEAVE, "check"] + [w for w in words if re.match("sample|out|map|record", w)],
-                                     capture_output=True, text=True)
-            if answer != "stands" or checked.stdout != "stands\n":
-                sys.exit(f"run {number}: {answer}, {checked.stdout}{checked.stderr}\n{' '.join(words)}")
+            if answer != "stands":
+                sys.exit(f"run {number}: {answer}\n{' '.join(words)}")
         print(f"{runs} runs stand")
         small = grown(folder, chance, ["width=6", "height=2", "box=4", "overlap=2", "rounds=1", "seed=3"])
         changes = 0

@@ -1,11 +1,12 @@
 #!/usr/bin/env python3
-"""Grows small random outputs in all modes, over one to three samples, and has verify.py check each of them.
+"""Grows small random outputs in all modes, over one to three samples, and has verify.py and `weave check` check each of them.
 
     examples/random_runs.py [RUNS [SEED]]
 
 Build the program first: cd crates/weave && rt run. 1,000 runs take a minute or two."""
 import os
 import random
+import re
 import subprocess
 import sys
 import tempfile
@@ -35,8 +36,12 @@ def one_run(chance, folder):
     words += [f"box={chance.randint(1, 6)}", f"overlap={chance.randint(0, 4)}"]
     words += [f"tol={chance.choice([0, 10, 300])}", f"rounds={chance.randint(0, 6)}"]
     words += [f"seed={chance.randrange(2 ** 64)}"]
-    done = subprocess.run([WEAVE, "grow"] + words, capture_output=True)
-    answer = verify(out, mapped, record, *names) if done.returncode == 0 else done.stderr.decode()
+    done = subprocess.run([WEAVE, "grow"] + words, capture_output=True, text=True)
+    answer = verify(out, mapped, record, *names) if done.returncode == 0 else done.stderr
+    files = [word for word in words if re.match("sample|out|map|record", word)]
+    checked = subprocess.run([WEAVE, "check"] + files, capture_output=True, text=True)
+    if answer == "stands" and (checked.returncode, checked.stdout, checked.stderr) != (0, "stands\n", ""):
+        answer = f"check: {checked.returncode} {checked.stdout}{checked.stderr}"
     return answer, words
 
 

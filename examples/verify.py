@@ -3,9 +3,10 @@
 
     examples/verify.py OUT MAP RECORD SAMPLE [SAMPLE2 ..]
 
-prints `stands`, or what is wrong. Each record is held against the map that the records before it leave: its choice is
-lawful, and its flow shows that no lawful choice has a smaller total cost of seams. The map that all records leave is the
-map file's, and the picture is the map's. docs/FORMATS.md has the files, crates/cut_check/README.md the rules."""
+prints `stands`, or the first rule that is broken, with the number of the record and the place. Each record is held against
+the map that the records before it leave: its choice is lawful, and its flow shows that no lawful choice has a smaller total
+cost of seams. The map that all records leave is the map file's, and the picture is the map's. docs/FORMATS.md has the
+files and the rules."""
 import sys
 from itertools import product
 
@@ -76,56 +77,75 @@ def read_records(name):
     return output, samples, records
 
 
-def wrong_in(record, sources, samples, output):
-    """What is wrong with a record over the map before it; None where it stands."""
+def first(wrong):
+    """The place of the first thing that is wrong; None where nothing is."""
+    return next((place for place, is_wrong in enumerate(wrong) if is_wrong), None)
+
+
+def broken(rule, wrong):
+    place = first(wrong)
+    return None if place is None else f"rule {rule} place {place}"
+
+
+def wrong_choice(record, sources, samples, output):
+    """The rule of fit and choice that a record breaks first."""
+    corner, cells, source, new, _ = record
+    at = [plus(samples.joined(source), minus(p, corner)) for p in cells]
+    fits = all(0 <= c < n for p in cells for c, n in zip(p, output)) and all(p in samples.cells for p in at)
+    if not fits:
+        return "rule 1 place 0"
+    return broken(2, (p not in sources and p not in new for p in cells)) or broken(
+        3, (p in new and is_kept(p, set(cells), sources) for p in cells))
+
+
+def is_kept(p, inside, sources):
+    sides = [plus(p, step) for step in AXES] + [minus(p, step) for step in AXES]
+    return p in sources and any(q in sources and q not in inside for q in sides)
+
+
+def is_lawful(flow, a, b, new_a, new_b, cost):
+    x, y = flow
+    if a and b:
+        return abs(x) <= cost(a, new_b) and abs(y) <= cost(new_a, b) and 0 <= x - y <= cost(a, b)
+    if a:
+        return 0 <= x <= cost(a, new_b) and y == 0
+    return x == 0 and -(cost(new_a, b) if b else 0) <= y <= 0
+
+
+def wrong_flow(record, sources, samples):
+    """The rule of flows that a record breaks first."""
     corner, cells, source, new, flows = record
-    inside = set(cells)
-    first = samples.joined(source)
-    at = {p: plus(first, minus(p, corner)) for p in cells}
-    if any(not 0 <= c < n for p in cells for c, n in zip(p, output)):
-        return "rule 1"
-    if any(place not in samples.cells for place in at.values()):
-        return "rule 1"
-    if any(p not in sources and p not in new for p in cells):
-        return "rule 2"
-
-    def kept(p):
-        sides = [plus(p, step) for step in AXES] + [minus(p, step) for step in AXES]
-        return p in sources and any(q in sources and q not in inside for q in sides)
-
-    if any(kept(p) for p in new):
-        return "rule 3"
-    leaves = dict.fromkeys(cells, 0)
+    at = {p: plus(samples.joined(source), minus(p, corner)) for p in cells}
     after = {p: at[p] if p in new else sources[p] for p in cells}
-    window = 0
-    for (s, step), (x, y) in flows.items():
+    leaves = dict.fromkeys(cells, 0)
+    unlawful, window = [], 0
+    for (s, step), flow in flows.items():
         t = plus(s, step)
-        a, b = sources.get(s), sources.get(t)
-        w1 = samples.cost(a, at[t], step) if a else 0
-        w2 = samples.cost(at[s], b, step) if b else 0
-        w3 = samples.cost(a, b, step) if a and b else 0
-        if a and b:
-            lawful = abs(x) <= w1 and abs(y) <= w2 and 0 <= x - y <= w3
-        else:
-            lawful = (0 <= x <= w1 and y == 0) if a else (x == 0 and -w2 <= y <= 0)
-        if not lawful:
-            return "rule 4"
-        leaves[s] += x
-        leaves[t] -= y
+        unlawful.append(not is_lawful(flow, sources.get(s), sources.get(t), at[s], at[t],
+                                      lambda a, b, e=step: samples.cost(a, b, e)))
+        leaves[s] += flow[0]
+        leaves[t] -= flow[1]
         window += samples.cost(after[s], after[t], step)
-    if any(leaves[p] != 0 for p in cells if p in sources and not kept(p)):
-        return "rule 5"
-    if sum(leaves[p] for p in cells if kept(p)) != window:
-        return "rule 6"
-    return None
+    kept = {p for p in cells if is_kept(p, set(cells), sources)}
+    value = sum(leaves[p] for p in kept)
+    return broken(4, unlawful) or broken(5, (leaves[p] != 0 and p in sources and p not in kept for p in cells)) or broken(
+        6, [value != window])
+
+
+def wrong_in(record, sources, samples, output):
+    """What is wrong with a record over the map before it: a rule and the first place where it is broken."""
+    return wrong_choice(record, sources, samples, output) or wrong_flow(record, sources, samples)
 
 
 def verify(out_name, map_name, record_name, *sample_names):
     samples = Samples(sample_names)
     output, sizes, mapped = read_map(map_name)
     record_output, record_sizes, records = read_records(record_name)
-    if not output == record_output or not sizes == record_sizes == samples.sizes:
-        return "the sizes differ"
+    width, height, maxval, cells = read_picture(out_name)
+    if not output == record_output == (width, height, 1) or not sizes == record_sizes == samples.sizes:
+        return "record 0: rule 15 place 0"
+    if maxval != samples.pictures[0][2]:
+        return "record 0: rule 15 place 0"
     sources = {}
     for number, record in enumerate(records, 1):
         wrong = wrong_in(record, sources, samples, output)
@@ -135,14 +155,9 @@ def verify(out_name, map_name, record_name, *sample_names):
         for p in new:
             sources[p] = plus(samples.joined(source), minus(p, corner))
     wanted = {p: samples.joined(s) for p, s in zip(places((0, 0, 0), output), mapped)}
-    if sources != wanted:
-        return "the records lead to another map"
-    width, height, maxval, cells = read_picture(out_name)
-    if (width, height, 1) != output or maxval != samples.pictures[0][2]:
-        return "the picture has another size or maxval"
-    if any(cells[p[0] + width * p[1]] != samples.cells[s] for p, s in wanted.items()):
-        return "the picture isn't the map's"
-    return "stands"
+    wrong = broken(16, (sources.get(p) != s for p, s in wanted.items())) or broken(
+        17, (cells[p[0] + width * p[1]] != samples.cells[s] for p, s in wanted.items()))
+    return f"record 0: {wrong}" if wrong else "stands"
 
 
 if __name__ == "__main__":

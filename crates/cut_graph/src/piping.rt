@@ -104,9 +104,11 @@ fn join(
     requires first_sources { HasSources first.now }
     requires second_sources { HasSources second.now }
     ensures network { network.new ≡ with_pipes network.old
-        (pair_pipes (distance sample.now) axis first.now.before second.now.before first.now.after second.now.after first.now.node second.now.node seam) }
-    ensures count { result ≡ length (pair_pipes
-        (distance sample.now) axis first.now.before second.now.before first.now.after second.now.after first.now.node second.now.node seam) }
+        (pair_pipes (distance sample.now) axis first.now.before second.now.before
+        first.now.after second.now.after first.now.node second.now.node seam) }
+    ensures count { result ≡ length
+        (pair_pipes (distance sample.now) axis first.now.before second.now.before
+        first.now.after second.now.after first.now.node second.now.node seam) }
 {
     match (first.before, second.before) {
         (Some(a), Some(b)) => {

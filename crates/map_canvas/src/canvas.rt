@@ -114,7 +114,8 @@ fn fill_from(
     ensures map { map.new
         ≡ with_run map.old (box_cell placement.now i) (box_source placement.now i) result }
     ensures picture { picture.new
-        ≡ put_copies picture.old sample.now (box_cell placement.now i) (box_source placement.now i) result }
+        ≡ put_copies picture.old sample.now
+        (box_cell placement.now i) (box_source placement.now i) result }
     ensures marks { marks.new ≡ filled_marks map.new picture.new.k }
 {
     let step = placement.rect.size.place_at(i);

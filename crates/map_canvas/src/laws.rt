@@ -19,7 +19,9 @@ pub fn new_sources()
 /// There is one map after a choice.
 pub fn after_is_one()
     ensures after { (m : SourceMap) (sample : Cells) (placement : Placement) (choice : List Bool) →
-        IsMap m → Fits m.size sample placement → IsAfter m placement choice (map_after m placement choice) }
+        IsMap m → Fits m.size sample placement
+        → IsAfter m placement choice (map_after m placement choice) }
     ensures one { (m after : SourceMap) (placement : Placement) (choice : List Bool) →
-        IsMap m → IsMap after → IsAfter m placement choice after → after ≡ map_after m placement choice }
+        IsMap m → IsMap after
+        → IsAfter m placement choice after → after ≡ map_after m placement choice }
 {}

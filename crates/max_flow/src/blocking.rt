@@ -36,7 +36,8 @@ fn push(graph: &Graph, backward: &mut [u32], arc: usize, amount: u32)
         → residual graph.now.pipes.now backward.new other ≡
         residual graph.now.pipes.now backward.old other }
     ensures moved { Moves graph.now.pipes.now
-        (tail graph.now.pipes.now arc) (head graph.now.pipes.now arc) amount backward.old backward.new }
+        (tail graph.now.pipes.now arc) (head graph.now.pipes.now arc) amount
+        backward.old backward.new }
 {
     if arc % 2 == 0 {
         backward[arc / 2] += amount;

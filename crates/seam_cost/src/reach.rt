@@ -156,7 +156,8 @@ fn put_rows(sums: &mut [u64], corners: Size, block: &Block, more: &[u64], size: 
     requires room { (block.now.x.len ≤ size.w) × (block.now.y.len ≤ size.h)
         × (block.now.f.len ≤ size.f) }
     requires fits { EachOfRows block.now (λ row k.
-        added keep sums.old more.now (row_start corners block.now row + k) (row_offset size block.now row + k) < 2 ^ 64) }
+        added keep sums.old more.now (row_start corners block.now row + k)
+        (row_offset size block.now row + k) < 2 ^ 64) }
     ensures put { EachOfRows block.now (λ row k.
         slice_index sums.new (row_start corners block.now row + k)
         ≡ added keep sums.old more.now (row_start corners block.now row + k)
@@ -196,7 +197,8 @@ fn sum_axis(costs: &mut [u64], map: &Map, sample: &Volume, window: Size, block: 
     requires inside { HoldsBlock (corners map.now.size window) block.now }
     requires count { length costs.old ≡ cell_count (block_size (reach_of window block.now)) }
     ensures sums { EachOfRows block.now (λ row k.
-        slice_index costs.new (row_offset (block_size (reach_of window block.now)) block.now row + k)
+        slice_index costs.new
+        (row_offset (block_size (reach_of window block.now)) block.now row + k)
         ≡ at_row block.now (axis_sum (distance sample.now) (map_at map.now) axis window) row k) }
     ensures small { AreAtMost most_after_three costs.new }
 {

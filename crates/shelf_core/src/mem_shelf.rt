@@ -253,7 +253,8 @@ impl Shelf for MemShelf {
             (map.insert self.old.files name.now
             (content_of self.old.files name.now ++ piece.now))) }
         ensures kept { OnErr result (KeptBy
-            (due Call.Add name.now self.old.listings) self.old.files name.now piece.now self.new.files) }
+            (due Call.Add name.now self.old.listings)
+            self.old.files name.now piece.now self.new.files) }
         ensures err { OnErr result (self.new ≡
             unwritten Call.Add name.now self.old self.new.files) }
     {

@@ -57,27 +57,6 @@ fn add_cell(
     }
 }
 
-// Adds a row of w cells, one by one.
-fn add_each_cell(
-    space: SpaceKind,
-    upper: &[u8],
-    lower: &[u8],
-    blue: &[u8],
-    red: &[u8],
-    w: usize,
-    cells: &mut Vec<u8>,
-) -> Result<(), AllocError>
-    requires { HasRow space w (length upper.now) (length lower.now) (length blue.now)
-        (length red.now) }
-    ensures { OnOk result (cells.new.items ≡ cells.old.items
-        ++ joined_to w (cell_bytes space upper.now lower.now blue.now red.now)) }
-{
-    for x in 0..w {
-        add_cell(space, upper, lower, blue, red, x, cells)?;
-    }
-    Ok(())
-}
-
 // Adds a row of w cells. A row of mono is its plane's.
 fn add_cells(
     space: SpaceKind,
@@ -94,12 +73,14 @@ fn add_cells(
         ++ joined_to w (cell_bytes space upper.now lower.now blue.now red.now)) }
 {
     match space {
-        SpaceKind::Mono => {
-            cells.extend_from_slice(&upper[..w])?;
-            Ok(())
+        SpaceKind::Mono => cells.extend_from_slice(&upper[..w])?,
+        _ => {
+            for x in 0..w {
+                add_cell(space, upper, lower, blue, red, x, cells)?;
+            }
         }
-        _ => add_each_cell(space, upper, lower, blue, red, w, cells),
     }
+    Ok(())
 }
 
 // Adds the row of w cells that has so many of n cells before it.

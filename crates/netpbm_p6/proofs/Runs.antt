@@ -12,7 +12,7 @@ use Rattle.netpbm_p6.specs.declared.scan.Scan.{Scan}
 use Rattle.netpbm_p6.specs.declared.scan.Scan.TheVariants.{Start, Letter, Magic, Between, Comment, Digits, Whole}
 use Rattle.netpbm_p6.specs.Header.{IsDigit}
 use Rattle.netpbm_p6.specs.Pictures.{capped}
-use Rattle.netpbm_p6.specs.Scanning.{kind_of, opened, separated, commented, completed, ended, number_end, after_digit, step_of, run_of, IsOpenScan, IsSound}
+use Rattle.netpbm_p6.specs.Scanning.{kind_of, opened, separated, commented, completed, ended, number_end, after_digit, step_of, run_of, IsOpenScan, HasPositiveNumbers}
 
 -- a number as it is
 abbrev pub exact : ℕ → ℕ
@@ -60,7 +60,7 @@ pub run_over : (keep : ℕ → ℕ) (s : Scan) (w h m : ℕ) (a : List ℕ) (x :
 run_over keep s w h m a x b whole = run_then keep s (Whole w h m) None a (x ∷ b) whole refl
 
 -- what is no whole header is open
-pub still_open : (s : Scan) → IsSound s → ((w h m : ℕ) → s ≡ Whole w h m → ⊥) → IsOpenScan s
+pub still_open : (s : Scan) → HasPositiveNumbers s → ((w h m : ℕ) → s ≡ Whole w h m → ⊥) → IsOpenScan s
 still_open Start sound other = tt
 still_open Letter sound other = tt
 still_open Magic sound other = tt

@@ -101,15 +101,15 @@ IsOpenScan (Comment numbers) = ArePositive numbers
 IsOpenScan (Digits numbers n) = ArePositive numbers
 IsOpenScan (Whole width height maxval) = ⊥
 
--- a step from an open place leads to an open one or to the end, with numbers of at least 1
-abbrev pub IsSound : Scan → Type 0
-IsSound Start = Unit {0}
-IsSound Letter = Unit {0}
-IsSound Magic = Unit {0}
-IsSound (Between numbers) = ArePositive numbers
-IsSound (Comment numbers) = ArePositive numbers
-IsSound (Digits numbers n) = ArePositive numbers
-IsSound (Whole width height maxval) = (1 ≤ width) × (1 ≤ height)
+-- what a step from an open place leads to, an open one or the end, has numbers of at least 1
+abbrev pub HasPositiveNumbers : Scan → Type 0
+HasPositiveNumbers Start = Unit {0}
+HasPositiveNumbers Letter = Unit {0}
+HasPositiveNumbers Magic = Unit {0}
+HasPositiveNumbers (Between numbers) = ArePositive numbers
+HasPositiveNumbers (Comment numbers) = ArePositive numbers
+HasPositiveNumbers (Digits numbers n) = ArePositive numbers
+HasPositiveNumbers (Whole width height maxval) = (1 ≤ width) × (1 ≤ height)
 
 -- the bytes lead to an open place
 abbrev pub RunsOn : Scan → List ℕ → Type 0

@@ -1,7 +1,7 @@
 // The scanner of a header: a machine of small steps, one for each byte.
 ghost use Rattle.std.specs.Prelude.{◌≡◌, length, IfSome};
 ghost use Rattle.netpbm_p6.specs.Pictures.{capped};
-ghost use Rattle.netpbm_p6.specs.Scanning.{kind_of, opened, separated, commented, completed, ended, after_digit, step_of, IsOpenScan, IsSound, IsScanned, IsSoundScanned};
+ghost use Rattle.netpbm_p6.specs.Scanning.{kind_of, opened, separated, commented, completed, ended, after_digit, step_of, IsOpenScan, HasPositiveNumbers, IsScanned, IsSoundScanned};
 
 /// What a byte is in a header.
 #[derive(Clone, Copy)]
@@ -150,7 +150,7 @@ fn count(numbers: Numbers, number: u64, byte: u8, kind: ByteKind) -> Option<Scan
 fn step(scan: Scan, byte: u8) -> Option<Scan>
     requires { IsOpenScan scan }
     ensures step { result ≡ step_of capped scan byte }
-    ensures sound { IfSome result IsSound }
+    ensures sound { IfSome result HasPositiveNumbers }
 {
     match scan {
         Scan::Start => if byte == b'P' {

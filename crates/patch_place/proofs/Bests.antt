@@ -1,7 +1,7 @@
 -- Errors per filled cell: how they compare, and the best of a list.
-use Rattle.std.proofs.Common.{◌≡◌, ℕ, ◌+◌, ◌*◌, ◌<◌, ◌≤◌, Bool, true, false, refl, sym, ap, arith, List, [], ◌∷◌, ◌++◌, inl, inr}
+use Rattle.std.proofs.Common.{◌≡◌, ℕ, ◌+◌, ◌*◌, ◌<◌, ◌≤◌, Bool, true, false, refl, sym, ap, ◌∙◌, arith, List, [], ◌∷◌, ◌++◌, inl, inr}
 use Rattle.std.proofs.Math.Nat.{mul-le-mul_right, mul-le-mul_left, le_of_mul-le-mul_right}
-use Rattle.std.proofs.lemmas.Bool.{leb-true, leb-false, le-leb}
+use Rattle.std.proofs.lemmas.Bool.{false≢true, false_from_ne_true, le-leb, leb-false, leb-true}
 use Rattle.std.proofs.lemmas.List.Elements.{Contains-push, Contains-push_cases}
 use Rattle.std.specs.Prelude.{◌&&◌, nat_lt}
 use Rattle.match_error.specs.declared.error.Error.{Error}
@@ -43,6 +43,16 @@ far_is_more t other error far =
     let more : other.sum * error.count * (100 + t) < error.sum * other.count * 100 = leb-false _ _ far in
     let least : other.sum * error.count * 100 ≤ other.sum * error.count * (100 + t) = mul-le-mul_left (other.sum * error.count) (omega arith) in
     omega (arith, more, least)
+
+-- an error is within the tolerance of itself
+pub within_itself : (tol : ℕ) (error : Error) → is_within tol error error ≡ true
+within_itself tol error = le-leb (error.sum * error.count * 100) (error.sum * error.count * (100 + tol)) (mul-le-mul_left (error.sum * error.count) (omega arith))
+
+-- what is outside the tolerance of an error is outside that of one which the error is too far from
+pub far_from_better : (tol : ℕ) (better error far : Error) → 1 ≤ better.count → is_within tol better error ≡ false → is_within tol error far ≡ false → is_within tol better far ≡ false
+far_from_better tol better error far filled first second =
+    let more : better.sum * error.count < error.sum * better.count = far_is_more tol better error first in
+    false_from_ne_true (is_within tol better far) (λ within. false≢true (sym second ∙ still_within tol better error far filled (omega (arith, more)) within))
 
 -- a better error
 pub best_of_less : (best error : Error) → 1 ≤ error.count → error.sum * best.count < best.sum * error.count → (errors : List Error) → IsBest errors best → IsBest (errors ++ error ∷ []) error

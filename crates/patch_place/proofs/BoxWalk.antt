@@ -1,5 +1,5 @@
 -- The walk over the entries of a part, for a table of a box.
-use Rattle.std.proofs.Common.{◌≡◌, ℕ, suc, ◌+◌, ◌/◌, ◌^◌, ◌<◌, ◌≤◌, List, [], ◌∷◌, ◌++◌, length, map, take, ap, sym, subst, ◌∙◌, arith}
+use Rattle.std.proofs.Common.{◌≡◌, ℕ, suc, ◌+◌, ◌/◌, ◌^◌, ◌<◌, ◌≤◌, List, [], ◌∷◌, ◌++◌, length, map, take, ap, refl, sym, subst, ◌∙◌, arith}
 use Rattle.std.proofs.lemmas.Int.{ints}
 use Rattle.std.proofs.lemmas.List.{append_assoc, length-map, map-append, take_all}
 use Rattle.std.proofs.lemmas.List.Elements.{All-contains}
@@ -13,7 +13,7 @@ use Rattle.cells.proofs.BoxLaws.{step_of}
 use Rattle.map_canvas.specs.declared.canvas.Placement.{Placement}
 use Rattle.match_error.specs.declared.error.Error.{Error}
 use Rattle.patch_place.specs.declared.candidates.Spot.{Spot}
-use Rattle.patch_place.specs.Counts.{FitsCount, IsSpotAt, entries_before, room_entries}
+use Rattle.patch_place.specs.Counts.{FitsCount, IsSpotAt, entries_after, entries_before, room_entries}
 use Rattle.patch_place.specs.Lists.{filled_from, fit_list, from_part, lists_from, room}
 use Rattle.patch_place.proofs.BoxLists.{cells_of_index}
 use Rattle.patch_place.proofs.Counting.{map_more, slice_get-Contains}
@@ -70,7 +70,12 @@ errors_all f sizes n rect part free i at e le =
     ∙ sym (map-append f (entries_before (fit_list rect) sizes n) (room_entries rect sizes n (room part rect.size)))
     ∙ ap (map f) (sym (before_step (fit_list rect) sizes n part at))
 
--- how many candidates are seen with one more part, and with any
+-- how many candidates are seen with no part, with one more, and with any
+pub none_seen : (rect : Box3) (sizes : List Size) (seen : ℕ) → seen ≡ 0 → IsSeenTo rect sizes 0 seen
+none_seen rect sizes seen none =
+    let all : length (entries_after (fit_list rect) sizes 0) ≡ length (lists_from (fit_list rect) sizes 1 sizes) = refl in
+    omega (arith, none, all)
+
 pub box_step : (rect : Box3) (sizes : List Size) (n seen : ℕ) (part free : Size) → slice_get sizes n ≡ Some part → free ≡ room part rect.size → IsSeenTo rect sizes n seen → IsSeenTo rect sizes (n + 1) (seen + cell_count free)
 box_step rect sizes n seen part free at e is = count_step (Fits rect) rect.size sizes n seen part free at e is
 

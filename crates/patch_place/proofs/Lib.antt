@@ -9,6 +9,7 @@ pub mod Counting
 pub mod Picking
 pub mod Stepping
 pub mod Limits
+pub mod Known
 pub mod Shortlists
 pub mod PartLists
 pub mod BoxWalk

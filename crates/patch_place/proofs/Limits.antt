@@ -1,20 +1,18 @@
--- Sums that are left unfinished: past the limit an error is beaten by the best of the table.
-use Rattle.std.proofs.Common.{◌≡◌, ℕ, ◌+◌, ◌*◌, ◌<◌, ◌≤◌, List, [], ◌∷◌, ◌++◌, length, map, sym, subst, ap, ◌∙◌, inl, inr, refl}
-use Rattle.std.proofs.lemmas.Bool.{lt-leb}
+-- Tables that stand for errors: one more entry, and lists of one box.
+use Rattle.std.proofs.Common.{◌≡◌, ℕ, ◌<◌, List, [], ◌∷◌, ◌++◌, length, map, subst, ap, ◌∙◌, inl, inr, refl}
 use Rattle.std.proofs.lemmas.List.Elements.{All-map, AllZip-push, Contains-append_left}
 use Rattle.std.specs.Prelude.{◌⊎◌, All, Some, slice_get}
 use Rattle.match_error.specs.declared.error.Error.{Error}
 use Rattle.match_error.specs.Errors.{error_of, filled_cells}
 use Rattle.cells.specs.declared.place.Box3.{Box3}
 use Rattle.cells.specs.declared.place.Size.{Size}
-use Rattle.cells.specs.Boxes.{HoldsBox}
+use Rattle.cells.specs.Boxes.{HasCells, HoldsBox}
 use Rattle.cells.specs.Cells.{Cells, sizes_of}
 use Rattle.map_canvas.specs.declared.canvas.Placement.{Placement}
 use Rattle.map_canvas.specs.Choices.{Fits}
 use Rattle.map_canvas.specs.Maps.{SourceMap}
 use Rattle.patch_place.specs.Lists.{filled_from, fit_list, from_part, part_lists, room}
-use Rattle.patch_place.specs.Picks.{IsBest}
-use Rattle.patch_place.specs.Tables.{AreTableErrors, IsBeaten, IsUnfilled, StandsForError}
+use Rattle.patch_place.specs.Tables.{AreErrorsAmong, AreTableErrors, IsBeaten, IsUnfilled, StandsForError}
 use Rattle.patch_place.proofs.Counting.{All-each, All-slice_get, AllZip-same, AllZip-weaker, first_at}
 use Rattle.patch_place.proofs.Fitting.{all_over, over_parts}
 
@@ -40,23 +38,12 @@ still_stands tol table more entry error stands =
           | inr beaten ↦ inr (still_beaten tol table more error beaten)
         ]
 
--- a sum past the limit that the best gives is beaten by it
-pub beaten_by_best : (tol : ℕ) (table : List Error) (best error : Error) (count limit : ℕ) → IsBest table best → 1 ≤ count → error.count ≡ count → best.sum * count * (100 + tol) < error.sum * best.count * 100 → IsBeaten tol table error
-beaten_by_best tol table best error count limit is some counted past = record {
-  other = best;
-  listed = is.listed;
-  filled = is.filled;
-  far =
-      lt-leb (error.sum * best.count * 100) (best.sum * error.count * (100 + tol))
-      (subst (λ n. best.sum * n * (100 + tol) < error.sum * best.count * 100) (sym counted) past);
-}
-
 -- one more entry of a table, which stands for an error
-pub table_more : (tol : ℕ) (table errors : List Error) (entry error : Error) → AreTableErrors tol table errors → StandsForError tol table entry error → AreTableErrors tol (table ++ entry ∷ []) (errors ++ error ∷ [])
-table_more tol table errors entry error stands one =
-    AllZip-push (StandsForError tol (table ++ entry ∷ [])) table errors entry error
-    (AllZip-weaker (StandsForError tol table) (StandsForError tol (table ++ entry ∷ [])) (still_stands tol table entry) table errors stands)
-    (still_stands tol table entry entry error one)
+pub table_more : (tol : ℕ) (among table errors : List Error) (entry error : Error) → AreErrorsAmong tol among table errors → StandsForError tol among entry error → AreErrorsAmong tol (among ++ entry ∷ []) (table ++ entry ∷ []) (errors ++ error ∷ [])
+table_more tol among table errors entry error stands one =
+    AllZip-push (StandsForError tol (among ++ entry ∷ [])) table errors entry error
+    (AllZip-weaker (StandsForError tol among) (StandsForError tol (among ++ entry ∷ [])) (still_stands tol among entry) table errors stands)
+    (still_stands tol among entry entry error one)
 
 -- each entry of a box's list has the box
 has_box : (sample : Cells) (rect : Box3) → All (λ (placement : Placement). placement.rect ≡ rect) (part_lists (fit_list rect) sample)
@@ -84,3 +71,10 @@ box_unfilled m sample rect none =
 -- errors without filled cells stand for themselves
 pub unfilled_stand : (tol : ℕ) (errors : List Error) → AreTableErrors tol errors errors
 unfilled_stand tol errors = AllZip-same (StandsForError tol errors) (λ error. inl refl) errors
+
+-- and has a cell
+pub box_has_cells : (output : Size) (sample : Cells) (rect : Box3) → 0 < length (part_lists (fit_list rect) sample) → All (Fits output sample) (part_lists (fit_list rect) sample) → HasCells rect.size
+box_has_cells output sample rect some all =
+    let first = first_at (part_lists (fit_list rect) sample) some in
+    let fits = All-slice_get (Fits output sample) (part_lists (fit_list rect) sample) 0 first.0 all first.1 in
+    subst (λ (r : Box3). HasCells r.size) (same_box sample rect 0 first.0 first.1) fits.some

@@ -1,13 +1,12 @@
 -- Shortlists: the table that one is made from, and one more candidate.
 use Rattle.std.proofs.Common.{◌≡◌, ℕ, zero, suc, ◌+◌, ◌*◌, ◌^◌, ◌<◌, ◌≤◌, Bool, true, false, cond, List, [], ◌∷◌, ◌++◌, length, take, sym, subst, ap, ◌∙◌, inl, inr, refl, arith, length-append}
-use Rattle.std.proofs.Math.Nat.{mul-le-mul_left}
 use Rattle.std.proofs.Math.Seq.{take-append_seam}
-use Rattle.std.proofs.lemmas.Bool.{le-leb, lt-ltb}
+use Rattle.std.proofs.lemmas.Bool.{lt-leb, lt-ltb}
 use Rattle.std.proofs.lemmas.List.{take-append-le}
-use Rattle.std.proofs.lemmas.List.Elements.{All-head, All-push, All-tail, Contains-append_left, Contains-push_cases, length_all_zip}
+use Rattle.std.proofs.lemmas.List.Elements.{All-head, All-nil, All-push, All-tail, Contains-append_left, Contains-append_right, Contains-push_cases, length_all_zip}
 use Rattle.std.proofs.lemmas.List.Sums.{count_by_more_yes, sum_by-append, sum_by-cons, sum_by-take-le}
 use Rattle.std.proofs.lemmas.Option.{get_or_from_slice_get, none-some, same_Some, slice_get_within}
-use Rattle.std.specs.Prelude.{◌⊎◌, ◌&&◌, nat_lt, All, Option, Some, None, slice_get}
+use Rattle.std.specs.Prelude.{◌⊎◌, ◌&&◌, nat_lt, All, IfSome, Option, Some, None, slice_get}
 use Rattle.std.specs.List.{count_by}
 use Rattle.match_error.specs.declared.error.Error.{Error}
 use Rattle.match_error.specs.Errors.{is_within}
@@ -15,9 +14,10 @@ use Rattle.patch_place.specs.declared.eligible.Entry.{Entry}
 use Rattle.patch_place.specs.declared.shortlist.Shortlist.{Shortlist}
 use Rattle.patch_place.specs.Draws.{DrawState, draw}
 use Rattle.patch_place.specs.Picks.{IsBest, is_eligible}
-use Rattle.patch_place.specs.Tables.{AreKept, AreTableErrors, FailsUnfilled, IsBeaten, IsBestOf, IsLimitOf, IsMore, IsNear, IsNth, IsPast, IsShortOf, IsShortlist, IsUnfilled, StandsForError, entry_error, is_near}
-use Rattle.patch_place.proofs.Counting.{Contains-slice_get}
-use Rattle.patch_place.proofs.Limits.{beaten_by_best, table_more, unfilled_stand}
+use Rattle.patch_place.specs.Tables.{AreErrorsAmong, AreKept, FailsUnfilled, IsBeaten, IsBestOf, IsFilledLow, IsLimit, IsLimitOf, IsLow, IsMore, IsNear, IsNth, IsPast, IsShortOf, IsShortlist, IsSumLimit, IsUnfilled, StandsForError, entry_error, is_near, rivals}
+use Rattle.patch_place.proofs.Bests.{within_itself}
+use Rattle.patch_place.proofs.Counting.{Contains-slice_get, slice_get-Contains}
+use Rattle.patch_place.proofs.Limits.{table_more, unfilled_stand}
 use Rattle.patch_place.proofs.PartLists.{slice_get_left}
 use Rattle.patch_place.proofs.Picking.{unfilled_is_not}
 
@@ -119,11 +119,35 @@ best_stays table last (Some best) none is = record {
       ];
 }
 
+-- the rivals with one more entry of the table
+rivals_more : (known : Option Error) (table : List Error) (entry : Error) → rivals known (table ++ entry ∷ []) ≡ rivals known table ++ entry ∷ []
+rivals_more None table entry = refl
+rivals_more (Some error) table entry = refl
+
+stands_on : (was now : Shortlist) (table errors : List Error) (entry error : Error) → now.known ≡ was.known → now.tol ≡ was.tol → AreErrorsAmong was.tol (rivals was.known table ++ entry ∷ []) (table ++ entry ∷ []) (errors ++ error ∷ [])
+    → AreErrorsAmong now.tol (rivals now.known (table ++ entry ∷ [])) (table ++ entry ∷ []) (errors ++ error ∷ [])
+stands_on was now table errors entry error known tol stands =
+    let more = table ++ entry ∷ [] in
+    let all = errors ++ error ∷ [] in
+    subst (λ t. AreErrorsAmong t (rivals now.known more) more all) (sym tol)
+    (subst (λ k. AreErrorsAmong was.tol (rivals k more) more all) (sym known)
+    (subst (λ among. AreErrorsAmong was.tol among more all) (sym (rivals_more was.known table entry)) stands))
+
+-- what a table beats is beaten among its rivals
+among_rivals : (tol : ℕ) (known : Option Error) (table : List Error) (error : Error) → IsBeaten tol table error → IsBeaten tol (rivals known table) error
+among_rivals tol None table error is = is
+among_rivals tol (Some known) table error is = record {
+  other = is.other;
+  listed = Contains-append_right (known ∷ []) table is.other is.listed;
+  filled = is.filled;
+  far = is.far;
+}
+
 -- a shortlist of nothing but errors without filled cells
-pub unfilled_short : (list : Shortlist) (errors : List Error) → list.near.items ≡ [] → list.best ≡ None → length errors ≡ list.seen → All IsUnfilled errors → IsShortlist list errors
-unfilled_short list errors near best seen all = record {
+pub unfilled_short : (list : Shortlist) (errors : List Error) → list.near.items ≡ [] → list.best ≡ None → list.known ≡ None → length errors ≡ list.seen → All IsUnfilled errors → IsShortlist list errors
+unfilled_short list errors near best known seen all = record {
   table = errors;
-  stands = unfilled_stand list.tol errors;
+  stands = subst (λ known. AreErrorsAmong list.tol (rivals known errors) errors errors) (sym known) (unfilled_stand list.tol errors);
   short = record {
     best_one = subst (IsBestOf errors) (sym best) all;
     kept = subst (λ kept. AreKept kept errors) (sym near) (none_kept errors all);
@@ -131,15 +155,27 @@ unfilled_short list errors near best seen all = record {
   };
 }
 
+-- one of no errors yet
+pub begun_short : (list : Shortlist) → list.near.items ≡ [] → list.best ≡ None → list.seen ≡ 0 → IsShortlist list []
+begun_short list near best seen = record {
+  table = [];
+  stands = tt;
+  short = record {
+    best_one = subst (IsBestOf []) (sym best) (All-nil IsUnfilled);
+    kept = subst (λ kept. AreKept kept []) (sym near) (none_kept [] (All-nil IsUnfilled));
+    length_is = seen;
+  };
+}
+
 -- one more candidate, which is never eligible
-pub short_skip : (was now : Shortlist) (error : Error) → now.near.items ≡ was.near.items → now.best ≡ was.best → now.tol ≡ was.tol → now.seen ≡ was.seen + 1 → IsPast was error → IsMore was now error
-short_skip was now error near best tol seen past = λ errors is.
+pub short_skip : (was now : Shortlist) (error : Error) → now.near.items ≡ was.near.items → now.best ≡ was.best → now.known ≡ was.known → now.tol ≡ was.tol → now.seen ≡ was.seen + 1 → IsPast was error → IsMore was now error
+short_skip was now error near best known tol seen past = λ errors is.
     let none : Error = record { sum = 0; count = 0 } in
     record {
       table = is.table ++ none ∷ [];
       stands =
-          subst (λ t. AreTableErrors t (is.table ++ none ∷ []) (errors ++ error ∷ [])) (sym tol)
-          (table_more was.tol is.table errors none error is.stands (inr (refl, why is.table is.short.best_one)));
+          stands_on was now is.table errors none error known tol
+          (table_more was.tol (rivals was.known is.table) is.table errors none error is.stands (inr (refl, why is.table is.short.best_one)));
       short = record {
         best_one = subst (IsBestOf (is.table ++ none ∷ [])) (sym best) (best_stays is.table none was.best refl is.short.best_one);
         kept = subst (λ kept. AreKept kept (is.table ++ none ∷ [])) (sym near) (kept_skip was.near.items is.table none refl is.short.kept);
@@ -147,7 +183,7 @@ short_skip was now error near best tol seen past = λ errors is.
       };
     }
   where
-    why : (table : List Error) → IsBestOf table was.best → IsUnfilled error ⊎ IsBeaten was.tol table error
+    why : (table : List Error) → IsBestOf table was.best → IsUnfilled error ⊎ IsBeaten was.tol (rivals was.known table) error
     why table is_best =
         elim past [
           | inl unfilled ↦ inl unfilled
@@ -155,13 +191,13 @@ short_skip was now error near best tol seen past = λ errors is.
         ]
 
 -- one more candidate that is kept
-pub short_keep : (was now : Shortlist) (entry : Entry) (error : Error) → now.near.items ≡ was.near.items ++ entry ∷ [] → entry_error entry ≡ error → entry.index ≡ was.seen → now.tol ≡ was.tol → now.seen ≡ was.seen + 1
+pub short_keep : (was now : Shortlist) (entry : Entry) (error : Error) → now.near.items ≡ was.near.items ++ entry ∷ [] → entry_error entry ≡ error → entry.index ≡ was.seen → now.known ≡ was.known → now.tol ≡ was.tol → now.seen ≡ was.seen + 1
     → ((errors : List Error) → IsBestOf errors was.best → IsBestOf (errors ++ error ∷ []) now.best) → IsMore was now error
-short_keep was now entry error near same index tol seen best = λ errors is. record {
+short_keep was now entry error near same index known tol seen best = λ errors is. record {
   table = is.table ++ error ∷ [];
   stands =
-      subst (λ t. AreTableErrors t (is.table ++ error ∷ []) (errors ++ error ∷ [])) (sym tol)
-      (table_more was.tol is.table errors error error is.stands (inl refl));
+      stands_on was now is.table errors error error known tol
+      (table_more was.tol (rivals was.known is.table) is.table errors error error is.stands (inl refl));
   short = record {
     best_one = best is.table is.short.best_one;
     kept =
@@ -171,17 +207,47 @@ short_keep was now entry error near same index tol seen best = λ errors is. rec
   };
 }
 
--- the limit that the best gives
-pub limit_by_best : (list : Shortlist) (best : Error) (count limit : ℕ) → list.best ≡ Some best → 1 ≤ count → ((other : ℕ) → other ≤ 2 ^ 48 → limit < other → best.sum * count * (100 + list.tol) < other * best.count * 100) → IsLimitOf list count limit
-limit_by_best list best count limit is some past = λ table best_one error counted low beyond.
-    beaten_by_best list.tol table best error count limit (subst (IsBestOf table) is best_one) some counted (past error.sum low beyond)
+-- an error past the limit that another gives is outside the tolerance of it
+past_limit : (tol count limit : ℕ) (other error : Error) → IsSumLimit tol count limit other → error.count ≡ count → IsLow error → limit < error.sum → is_within tol other error ≡ false
+past_limit tol count limit other error past counted low beyond =
+    lt-leb (error.sum * other.count * 100) (other.sum * error.count * (100 + tol))
+    (subst (λ n. other.sum * n * (100 + tol) < error.sum * other.count * 100) (sym counted) (past error.sum low beyond))
+
+-- no sum is past a limit that none reaches
+none_past : (tol count limit : ℕ) (table : List Error) → 2 ^ 48 ≤ limit → IsLimit tol table count limit
+none_past tol count limit table least error counted low beyond = absurd (omega (arith, least, low, beyond))
+
+-- the limits that the best and the known error give
+limit_by_best : (tol count limit : ℕ) (best known : Option Error) (table : List Error) → IfSome best (IsSumLimit tol count limit) → (best ≡ None → 2 ^ 48 ≤ limit) → IsBestOf table best → IsLimit tol (rivals known table) count limit
+limit_by_best tol count limit None known table past none is = none_past tol count limit (rivals known table) (none refl)
+limit_by_best tol count limit (Some best) known table past none is = λ error counted low beyond.
+    among_rivals tol known table error (record {
+      other = best;
+      listed = is.listed;
+      filled = is.filled;
+      far = past_limit tol count limit best error past counted low beyond;
+    })
+
+limit_by_known : (tol count limit : ℕ) (known : Option Error) (table : List Error) → IfSome known IsFilledLow → IfSome known (IsSumLimit tol count limit) → (known ≡ None → 2 ^ 48 ≤ limit) → IsLimit tol (rivals known table) count limit
+limit_by_known tol count limit None table filled past none = none_past tol count limit table (none refl)
+limit_by_known tol count limit (Some known) table filled past none = λ error counted low beyond. record {
+  other = known;
+  listed = slice_get-Contains (known ∷ table) known 0 refl;
+  filled = filled.0;
+  far = past_limit tol count limit known error past counted low beyond;
+}
+
+pub best_limit : (list : Shortlist) (count limit : ℕ) → IfSome list.best (IsSumLimit list.tol count limit) → (list.best ≡ None → 2 ^ 48 ≤ limit) → IsLimitOf list count limit
+best_limit list count limit past none = λ table is. limit_by_best list.tol count limit list.best list.known table past none is
+
+pub known_limit : (list : Shortlist) (count limit : ℕ) → IfSome list.known IsFilledLow → IfSome list.known (IsSumLimit list.tol count limit) → (list.known ≡ None → 2 ^ 48 ≤ limit) → IsLimitOf list count limit
+known_limit list count limit filled past none = λ table is. limit_by_known list.tol count limit list.known table filled past none
 
 -- the best is itself about as good as the best, so some entry is
 best_near : (tol : ℕ) (best : Error) → 1 ≤ best.count → is_eligible tol best best ≡ true
 best_near tol best filled =
     let some : nat_lt 0 best.count ≡ true = lt-ltb 0 best.count (omega arith) in
-    let more : best.sum * best.count * 100 ≤ best.sum * best.count * (100 + tol) = mul-le-mul_left (best.sum * best.count) (omega arith) in
-    let within : is_within tol best best ≡ true = le-leb (best.sum * best.count * 100) (best.sum * best.count * (100 + tol)) more in
+    let within : is_within tol best best ≡ true = within_itself tol best in
     λ k. some k && within k
 
 pub some_near : (list : Shortlist) (tol : ℕ) (best : Error) (table : List Error) → list.best ≡ Some best → IsShortOf list table → 0 < count_by (is_near tol best) list.near.items
@@ -215,4 +281,4 @@ near_pick list draws best entry n nth table e is count drawn found =
 
 -- how many candidates were seen
 pub seen_of : (list : Shortlist) (errors : List Error) → IsShortlist list errors → list.seen ≡ length errors
-seen_of list errors is = is.short.length_is ∙ length_all_zip (StandsForError list.tol is.table) is.table errors is.stands
+seen_of list errors is = is.short.length_is ∙ length_all_zip (StandsForError list.tol (rivals list.known is.table)) is.table errors is.stands

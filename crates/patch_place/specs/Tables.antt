@@ -1,7 +1,8 @@
 -- The state of tables of errors, from which a pick is made, for the contracts within the crate;
 -- nobody has to trust this file.
-use Rattle.std.specs.Prelude.{◌≡◌, ◌≤◌, ◌<◌, ◌+◌, ◌^◌, ◌⊎◌, ◌++◌, ◌∷◌, [], ℕ, Bool, true, false, List, length, map, take, All, Contains, IfSome, Option, Some, None, slice_get}
+use Rattle.std.specs.Prelude.{◌≡◌, ◌≤◌, ◌<◌, ◌+◌, ◌*◌, ◌^◌, ◌≤ℤ◌, pos, ◌⊎◌, ◌++◌, ◌∷◌, [], ℕ, ℤ, Bool, true, false, List, length, map, take, All, Contains, IfSome, Option, Some, None, slice_get}
 use Rattle.std.specs.List.{AllZip, count_by}
+use Rattle.cells.specs.declared.place.At.{At}
 use Rattle.cells.specs.declared.place.Box3.{Box3}
 use Rattle.cells.specs.declared.place.Size.{Size}
 use Rattle.cells.specs.Cells.{Cells, sizes_of}
@@ -9,12 +10,13 @@ use Rattle.match_error.specs.declared.error.Error.{Error}
 use Rattle.match_error.specs.Errors.{error_of, is_within}
 use Rattle.map_canvas.specs.declared.canvas.Placement.{Placement}
 use Rattle.map_canvas.specs.Canvases.{CanvasState}
+use Rattle.map_canvas.specs.Choices.{Fits}
 use Rattle.patch_place.specs.declared.candidates.Candidates.{Candidates}
 use Rattle.patch_place.specs.declared.eligible.Entry.{Entry}
 use Rattle.patch_place.specs.declared.shortlist.Shortlist.{Shortlist}
 use Rattle.patch_place.specs.Counts.{entries_after, entries_before}
 use Rattle.patch_place.specs.Draws.{DrawState, draw}
-use Rattle.patch_place.specs.Lists.{fit_list, lists_from}
+use Rattle.patch_place.specs.Lists.{filled_from, fit_list, lists_from}
 use Rattle.patch_place.specs.Picks.{IsBest, IsPick, is_eligible, listed_on}
 
 -- small enough to be multiplied
@@ -42,9 +44,19 @@ abbrev pub StandsForError : ℕ → List Error → Error → Error → Type 0
 StandsForError tol table entry error =
     (entry ≡ error) ⊎ (IsUnfilled entry × (IsUnfilled error ⊎ IsBeaten tol table error))
 
--- a table stands for errors, entry by entry
+-- a table stands for errors, entry by entry, where some rivals may beat an error
+abbrev pub AreErrorsAmong : ℕ → List Error → List Error → List Error → Type 0
+AreErrorsAmong tol rivals table errors = AllZip (StandsForError tol rivals) table errors
+
+-- where its own entries alone may
 abbrev pub AreTableErrors : ℕ → List Error → List Error → Type 0
-AreTableErrors tol table errors = AllZip (StandsForError tol table) table errors
+AreTableErrors tol table errors = AreErrorsAmong tol table table errors
+
+-- the rivals of an error while a table is made: its entries, and an error that is known before them,
+-- that of one of the candidates
+abbrev pub rivals : Option Error → List Error → List Error
+rivals None table = table
+rivals (Some known) table = known ∷ table
 
 -- the entry that passes a test after n others, and where it stands
 pub record IsNth {X : Type 0} (test : X → Bool) (table : List X) (n : ℕ) (entry : X) : Type 0 where
@@ -83,6 +95,12 @@ pub record IsPickAt (error : Placement → Error) (tol : Option ℕ) (list : Lis
 abbrev pub IsPickAtOn : CanvasState → Cells → Candidates → Option ℕ → DrawState → ℕ → Type 0
 IsPickAtOn canvas sample list tol draws i =
     IsPickAt (error_of canvas.map sample) tol (listed_on canvas sample list) draws i
+
+-- a sum over so many filled cells that is past the limit is outside the tolerance of an error
+abbrev pub IsSumLimit : ℕ → ℕ → ℕ → Error → Type 0
+IsSumLimit tol count limit best =
+    (other : ℕ) → other ≤ 2 ^ 48 → limit < other
+    → best.sum * count * (100 + tol) < other * best.count * 100
 
 -- an error of so many filled cells whose sum is past the limit is beaten
 abbrev pub IsLimit : ℕ → List Error → ℕ → ℕ → Type 0
@@ -123,37 +141,57 @@ pub record IsShortOf (list : Shortlist) (table : List Error) : Type 0 where
 abbrev pub HasTable : Shortlist → Type 0
 HasTable list = (table : List Error) × IsShortOf list table
 
--- which stands for these errors
+-- which stands for these errors, where the known error may beat one too
 pub record IsShortlist (list : Shortlist) (errors : List Error) : Type 0 where
   pub table : List Error
-  pub stands : AreTableErrors list.tol table errors
+  pub stands : AreErrorsAmong list.tol (rivals list.known table) table errors
   pub short : IsShortOf list table
 
--- the best of a shortlist has filled cells, sums can be multiplied, and entries counted
+-- the best of a shortlist, and the known error, have filled cells, sums can be multiplied, and
+-- entries counted
 abbrev pub IsFilledLow : Error → Type 0
 IsFilledLow error = (1 ≤ error.count) × IsLow error
 
 pub record IsSoundShortlist (list : Shortlist) : Type 0 where
   pub best_low : IfSome list.best IsFilledLow
+  pub known_low : IfSome list.known IsFilledLow
   pub low : All IsLowEntry list.near.items
   pub few : length list.near.items ≤ list.seen
   pub small : list.seen < 2 ^ 32
 
--- the shortlist of these errors
+-- the shortlist of these errors, of which the known one is one
 pub record IsShortlistOf (tol : ℕ) (errors : List Error) (list : Shortlist) : Type 0 where
   pub short : IsShortlist list errors
   pub sound : IsSoundShortlist list
   pub tolerance : list.tol ≡ tol
+  pub known : IfSome list.known (Contains errors)
 
 -- an error past what may be eligible
 abbrev pub IsPast : Shortlist → Error → Type 0
 IsPast list error = IsUnfilled error
-    ⊎ ((table : List Error) → IsBestOf table list.best → IsBeaten list.tol table error)
+    ⊎ ((table : List Error) → IsBestOf table list.best
+    → IsBeaten list.tol (rivals list.known table) error)
 
 -- a limit of sums over so many filled cells
 abbrev pub IsLimitOf : Shortlist → ℕ → ℕ → Type 0
 IsLimitOf list count limit =
-    (table : List Error) → IsBestOf table list.best → IsLimit list.tol table count limit
+    (table : List Error) → IsBestOf table list.best
+    → IsLimit list.tol (rivals list.known table) count limit
+
+-- a step along each axis of a box
+abbrev pub IsShortAlong : ℤ → Type 0
+IsShortAlong z = (pos 0 ≤ℤ z) × (z ≤ℤ pos (2 ^ 12))
+
+pub record IsShortStep (step : At) : Type 0 where
+  pub x : IsShortAlong step.x
+  pub y : IsShortAlong step.y
+  pub f : IsShortAlong step.f
+
+-- a likely candidate of a box
+pub record IsHint (canvas : CanvasState) (sample : Cells) (rect : Box3)
+    (placement : Placement) : Type 0 where
+  pub box : placement ≡ filled_from rect placement.from
+  pub fits : Fits canvas.map.size sample placement
 
 -- one more error
 abbrev pub IsMore : Shortlist → Shortlist → Error → Type 0

@@ -12,6 +12,7 @@ ghost use Rattle.patch_place.specs.Tables.{IsBoxDone, IsLimitOf, IsMore, IsSeenT
 
 use crate::Candidates;
 use crate::candidates::{Spot, frames_before, part_after, parts_of, place_count, room};
+use crate::hints::least_hint;
 use crate::shortlist::Shortlist;
 use cells::{Box3, Sizes, Volume};
 use map_canvas::{Canvas, Placement};
@@ -52,6 +53,7 @@ impl Shortlist {
             (error_of canvas.now.map sample.now placement.now)) }
         ensures sound { OnOk result (IsSoundShortlist self.new) }
         ensures tol { self.new.tol ≡ self.old.tol }
+        ensures known { self.new.known ≡ self.old.known }
         ensures seen { OnOk result (self.new.seen ≡ self.old.seen + 1) }
     {
         let count = filled_count(canvas, &placement.rect);
@@ -92,6 +94,7 @@ impl Shortlist {
         ensures limit { IfOk result (IsLimitOf self.new count) }
         ensures sound { OnOk result (IsSoundShortlist self.new) }
         ensures tol { self.new.tol ≡ self.old.tol }
+        ensures known { self.new.known ≡ self.old.known }
         ensures seen { OnOk result (self.new.seen ≡ self.old.seen + 1) }
     {
         match runs.error_sum_within(canvas, sample, placement, limit) {
@@ -132,6 +135,7 @@ impl Shortlist {
         ensures seen { OnOk result (IsSeenTo rect.now sizes.now (n + 1) self.new.seen) }
         ensures sound { OnOk result (IsSoundShortlist self.new) }
         ensures tol { self.new.tol ≡ self.old.tol }
+        ensures known { self.new.known ≡ self.old.known }
     {
         let free = room(part_after(sizes, n), rect.size);
         let mut spot = Spot {
@@ -191,7 +195,8 @@ fn filled_shortlist(
 {
     let runs = FilledRuns::gather(alloc, canvas, rect)?;
     let sizes = parts_of(sample);
-    let mut short = Shortlist::unfilled(alloc, tol, 0);
+    let known = least_hint(&runs, canvas, sample, rect, count);
+    let mut short = Shortlist::begun(alloc, tol, known);
     'parts: for n in 0..sizes.len() {
         short.add_part(&runs, canvas, sample, rect, count, &sizes, n)?;
     }

@@ -24,6 +24,7 @@ mod candidates;
 mod draws;
 mod eligible;
 mod errors;
+mod hints;
 mod laws;
 mod mode;
 mod picks;

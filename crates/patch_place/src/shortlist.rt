@@ -1,8 +1,8 @@
 // Shortlists: of many candidates those that may be eligible.
-ghost use Rattle.std.specs.Prelude.{◌≡◌, ◌≤◌, ◌<◌, ◌+◌, ◌*◌, ◌^◌, ℕ, All, List, OnOk, length};
+ghost use Rattle.std.specs.Prelude.{◌≡◌, ◌≤◌, ◌<◌, ◌+◌, ◌^◌, [], All, IfSome, List, None, OnOk, length};
 ghost use Rattle.match_error.specs.declared.error.Error.{Error};
 ghost use Rattle.patch_place.specs.Steps.{after_draw};
-ghost use Rattle.patch_place.specs.Tables.{HasTable, IsLimitOf, IsLow, IsMore, IsPast, IsPickOf, IsShortOf, IsShortlist, IsSoundShortlist, IsUnfilled};
+ghost use Rattle.patch_place.specs.Tables.{HasTable, IsFilledLow, IsLimitOf, IsLow, IsMore, IsPast, IsPickOf, IsShortOf, IsShortlist, IsSoundShortlist, IsSumLimit, IsUnfilled};
 
 use crate::Draws;
 use crate::eligible::{Entry, better, near_count, nth_near};
@@ -17,6 +17,8 @@ pub(crate) struct Shortlist {
     near: Vec<Entry>,
     // the best error so far; None where no candidate has a filled cell
     best: Option<Error>,
+    // the error of one of the candidates, where it is known before they are seen
+    known: Option<Error>,
     // how many candidates were seen
     seen: u32,
     tol: u32,
@@ -26,12 +28,23 @@ pub(crate) struct Shortlist {
 fn limit_of(tol: u32, best: &Error, count: u32) -> u64
     requires filled { 1 ≤ best.now.count }
     requires low { IsLow best.now }
-    ensures { (other : ℕ) → other ≤ 2 ^ 48 → result < other
-        → best.now.sum * count * (100 + tol) < other * best.now.count * 100 }
+    ensures { IsSumLimit tol count result best.now }
 {
     let most = u128::from(best.sum) * u128::from(count) * (100 + u128::from(tol));
     let limit = most / (u128::from(best.count) * 100);
     limit.min(u128::from(u64::MAX)) as u64
+}
+
+// The same of an error that may be there; any sum where it isn't.
+fn limit_by(tol: u32, best: &Option<Error>, count: u32) -> u64
+    requires low { IfSome best.now IsFilledLow }
+    ensures sum { IfSome best.now (IsSumLimit tol count result) }
+    ensures none { best.now ≡ None → 2 ^ 48 ≤ result }
+{
+    match best {
+        Some(best) => limit_of(tol, best, count),
+        None => u64::MAX,
+    }
 }
 
 impl Shortlist {
@@ -41,12 +54,32 @@ impl Shortlist {
             → IsShortlist result errors }
         ensures sound { IsSoundShortlist result }
         ensures tol { result.tol ≡ tol }
+        ensures known { result.known ≡ None }
         ensures seen { result.seen ≡ seen }
     {
         Shortlist {
             near: Vec::new(alloc),
             best: None,
+            known: None,
             seen,
+            tol,
+        }
+    }
+
+    /// No candidate yet, where the error of one of those that come may be known.
+    pub(crate) fn begun(alloc: Global, tol: u32, known: Option<Error>) -> Shortlist
+        requires { IfSome known IsFilledLow }
+        ensures short { IsShortlist result [] }
+        ensures sound { IsSoundShortlist result }
+        ensures tol { result.tol ≡ tol }
+        ensures known { result.known ≡ known }
+        ensures seen { result.seen ≡ 0 }
+    {
+        Shortlist {
+            near: Vec::new(alloc),
+            best: None,
+            known,
+            seen: 0,
             tol,
         }
     }
@@ -59,6 +92,7 @@ impl Shortlist {
         ensures sound { IsSoundShortlist self.new }
         ensures best { self.new.best ≡ self.old.best }
         ensures tol { self.new.tol ≡ self.old.tol }
+        ensures known { self.new.known ≡ self.old.known }
         ensures seen { self.new.seen ≡ self.old.seen + 1 }
     {
         self.seen += 1;
@@ -73,6 +107,7 @@ impl Shortlist {
         ensures more { OnOk result (IsMore self.old self.new error.now) }
         ensures sound { OnOk result (IsSoundShortlist self.new) }
         ensures tol { self.new.tol ≡ self.old.tol }
+        ensures known { self.new.known ≡ self.old.known }
         ensures seen { OnOk result (self.new.seen ≡ self.old.seen + 1) }
     {
         self.near.push(Entry {
@@ -91,9 +126,12 @@ impl Shortlist {
         requires sound { IsSoundShortlist self.now }
         ensures { IsLimitOf self.now count result }
     {
-        match &self.best {
-            Some(best) => limit_of(self.tol, best, count),
-            None => u64::MAX,
+        let by_best = limit_by(self.tol, &self.best, count);
+        let by_known = limit_by(self.tol, &self.known, count);
+        if by_best < by_known {
+            by_best
+        } else {
+            by_known
         }
     }
 

@@ -1,5 +1,6 @@
-use Rattle.std.proofs.Common.{map, sym, ◌∙◌, arith}
+use Rattle.std.proofs.Common.{map, subst, sym, ◌∙◌, arith}
 use Rattle.std.proofs.lemmas.List.{length-map}
+use Rattle.std.specs.Prelude.{Contains, IfSome}
 use Rattle.match_error.specs.Errors.{error_of}
 use Rattle.patch_place.specs.Lists.{fit_list, part_lists}
 use Rattle.patch_place.proofs.Limits.{box_inside, box_unfilled}
@@ -18,4 +19,5 @@ returns c =
           (length-map list (error_of m c.args.sample.now) ∙ sym c.count_for-n.ensures);
       sound = c.unfilled.ensures.sound;
       tolerance = c.unfilled.ensures.tol;
+      known = subst (λ known. IfSome known (Contains (map (error_of m c.args.sample.now) list))) (sym c.unfilled.ensures.known) tt;
     }

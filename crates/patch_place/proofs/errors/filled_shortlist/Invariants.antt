@@ -1,4 +1,7 @@
 use Rattle.std.proofs.Common.{◌≡◌}
+use Rattle.std.specs.Prelude.{Contains, IfSome}
+use Rattle.patch_place.specs.declared.candidates.Candidates.TheVariants
+use Rattle.patch_place.specs.Picks.{errors_on}
 use Rattle.patch_place.specs.Tables.{IsBoxDone, IsSeenTo, IsSoundShortlist}
 use Rattle.patch_place.proofs.errors.filled_shortlist.Given as goal
 
@@ -8,4 +11,5 @@ invariant-parts l = record {
   seen : IsSeenTo l.rect l.sizes l.n l.short.seen;
   sound : IsSoundShortlist l.short;
   tol : l.short.tol ≡ l.fn.tol;
+  known : IfSome l.short.known (Contains (errors_on l.canvas l.sample (TheVariants.Fits l.rect)));
 }

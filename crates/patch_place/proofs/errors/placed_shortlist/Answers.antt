@@ -16,4 +16,5 @@ entries-preserved c =
       sound = c.in_ok-add.ensures.sound;
       seen = omega (arith, c.in_ok-add.ensures.seen, c.entries.invariant.seen);
       tol = c.add.ensures.tol ∙ c.entries.invariant.tol;
+      known = c.add.ensures.known ∙ c.entries.invariant.known;
     }

@@ -1,4 +1,4 @@
-use Rattle.std.proofs.Common.{◌≡◌, map, take}
+use Rattle.std.proofs.Common.{◌≡◌, None, map, take}
 use Rattle.match_error.specs.Errors.{error_of}
 use Rattle.patch_place.specs.Picks.{listed_on}
 use Rattle.patch_place.specs.Tables.{IsShortlist, IsSoundShortlist}
@@ -10,4 +10,5 @@ invariant-entries l = record {
   sound : IsSoundShortlist l.short;
   seen : l.short.seen ≡ l.i;
   tol : l.short.tol ≡ l.fn.tol;
+  known : l.short.known ≡ None;
 }

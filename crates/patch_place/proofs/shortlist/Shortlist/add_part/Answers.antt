@@ -45,6 +45,7 @@ entries-preserved c =
       limited = c.in_ok-limit.ensures.limit;
       seen = omega (arith, c.in_ok-limit.ensures.seen, c.entries.invariant.seen);
       tol = c.add_filled.ensures.tol ∙ c.entries.invariant.tol;
+      known = c.add_filled.ensures.known ∙ c.entries.invariant.known;
       spot = c.next-spot.ensures (frames_to_part sizes c.args.n) c.entries.counter c.entries.invariant.spot;
     }
 

@@ -15,5 +15,6 @@ invariant-entries l = record {
   limited : IsLimitOf l.self l.count l.limit;
   seen : l.self.seen ≡ l.fn.self.seen + l.counter;
   tol : l.self.tol ≡ l.fn.self.tol;
+  known : l.self.known ≡ l.fn.self.known;
   spot : IsSpotAt l.free (frames_to_part l.sizes l.n) l.counter l.spot;
 }

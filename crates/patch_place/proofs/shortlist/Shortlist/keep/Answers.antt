@@ -4,4 +4,4 @@ use Rattle.patch_place.proofs.shortlist.Shortlist.keep.Goals as goal
 
 pub returns-clause-more : goal.returns-clause-more
 returns-clause-more c =
-    short_keep c.args.self.now _ (record { sum = c.args.error.now.sum; count = c.args.error.now.count; index = c.args.self.now.seen }) c.args.error.now c.in_ok-push.ensures.items refl refl refl refl c.better-self.ensures.best
+    short_keep c.args.self.now _ (record { sum = c.args.error.now.sum; count = c.args.error.now.count; index = c.args.self.now.seen }) c.args.error.now c.in_ok-push.ensures.items refl refl refl refl refl c.better-self.ensures.best

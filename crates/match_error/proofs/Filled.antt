@@ -44,7 +44,7 @@ row_marks m k rect y f is some inside wide ly lf =
     ∙ mul-div_cancel_left _ some
     ∙ sum_equal counts rect.size.w _ _ (λ x lx. ap one_filled (sym (ap (source_at m.sources) (row.cell x lx))))
 
-one_at_most : (source : Option At) → one_filled source ≤ 1
+pub one_at_most : (source : Option At) → one_filled source ≤ 1
 one_at_most None = omega arith
 one_at_most (Some from) = omega arith
 

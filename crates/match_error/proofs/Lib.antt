@@ -4,3 +4,5 @@ pub mod Overlaps
 pub mod Bounds
 pub mod Filled
 pub mod RunLists
+pub mod Entries
+pub mod Tables

@@ -9,6 +9,7 @@ ghost use Rattle.map_canvas.specs.Maps.{IsFilled};
 ghost use Rattle.match_error.specs.Errors.{error_sum};
 ghost use Rattle.match_error.specs.Runs.{AddsFrame, AddsRow, AddsRun, AreFilledRuns, AreRunsIn, IsInRow, IsRunIn, run_error};
 
+use crate::rows::step_to;
 use cells::{At, Box3, GREATEST_AXIS, Volume};
 use lane_kernels::ssd;
 use map_canvas::{Canvas, Placement};
@@ -32,18 +33,6 @@ pub struct FilledRuns {
     runs: Vec<FilledRun>,
     // of all runs, one after another
     bytes: Vec<u8>,
-}
-
-// The step to a cell of the box.
-fn step_to(x: u32, y: u32, f: u32) -> At
-    requires { (x < GREATEST_AXIS) × (y < GREATEST_AXIS) × (f < GREATEST_AXIS) }
-    ensures { result ≡ spot x y f }
-{
-    At {
-        x: x as i32,
-        y: y as i32,
-        f: f as i32,
-    }
 }
 
 // How many filled cells follow one another from a place on, along X, as far as so many.

@@ -15,8 +15,10 @@ mod error;
 mod gathered;
 mod overlap;
 mod rows;
+mod table;
 
 pub use counts::filled_count;
 pub use error::{Error, within};
 pub use gathered::FilledRuns;
 pub use overlap::{error_sum_within, overlap_error};
+pub use table::FilledCounts;

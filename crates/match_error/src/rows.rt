@@ -1,8 +1,20 @@
-// Where the rows of a box begin.
+// Where the rows and the cells of a box stand.
 ghost use Rattle.std.specs.Prelude.{◌≡◌, ◌<◌};
 ghost use Rattle.cells.specs.Places.{SumFits, plus, spot};
 
 use cells::{At, GREATEST_AXIS};
+
+/// The step from a box's corner to one of its cells.
+pub(crate) fn step_to(x: u32, y: u32, f: u32) -> At
+    requires { (x < GREATEST_AXIS) × (y < GREATEST_AXIS) × (f < GREATEST_AXIS) }
+    ensures { result ≡ spot x y f }
+{
+    At {
+        x: x as i32,
+        y: y as i32,
+        f: f as i32,
+    }
+}
 
 /// The first place of a row of a box, by the counts of its row and frame from the box's corner.
 pub(crate) fn row_start(corner: At, y: u32, f: u32) -> At

@@ -1,0 +1,36 @@
+use Rattle.std.proofs.Common.{◌≡◌, ◌≤◌, ◌+◌, ℕ, get_or, subst, sym, ◌∙◌, arith}
+use Rattle.std.proofs.lemmas.Int.{ints}
+use Rattle.box_sums.specs.Sums.{sum_to}
+use Rattle.box_sums.proofs.Additions.{counts}
+use Rattle.box_sums.proofs.Axes.{sum_more}
+use Rattle.map_canvas.specs.Maps.{map_at}
+use Rattle.match_error.specs.Errors.{box_spot, one_filled}
+use Rattle.match_error.proofs.Entries.{ArePut, above_kept, one_put}
+use Rattle.match_error.proofs.Filled.{one_at_most}
+use Rattle.match_error.proofs.table.add_row.Goals as goal
+
+pub overflow_add-before-in-loop-x-2 : goal.overflow_add-before-in-loop-x-2
+overflow_add-before-in-loop-x-2 c =
+    let x = c.loop-x.x in
+    let same = above_kept c.args.entries.now.items c.loop-x.entries.items c.as_slice.result.now c.args.above c.args.rect.now.size.w x _ c.loop-x.invariant.put c.as_slice.ensures.value c.requires.above c.loop-x-test.true in
+    let one : c.one_filled-filled.result ≤ 1 = subst (λ n. n ≤ 1) (sym c.one_filled-filled.ensures) (one_at_most _) in
+    let w : c.args.rect.now.size.w ≤ 4096 = omega (arith, ints, c.requires.inside.x.from, c.requires.inside.x.to, c.map-map.ensures.canvas.map.small.axes.w.1) in
+    let entry : get_or c.args.entries.now.items (c.args.above + (x + 1)) 0 ≤ 33554432 = c.requires.small (x + 1) (omega (arith, c.loop-x-test.true)) in
+    omega (arith, same, one, w, entry, c.loop-x.invariant.few, c.loop-x-test.true)
+
+pub loop-x-preserved : goal.loop-x-preserved
+loop-x-preserved c =
+    let x = c.loop-x.x in
+    let was = c.args.entries.now.items in
+    let cell = λ (i : ℕ). one_filled (map_at c.args.canvas.now.map (box_spot c.args.rect.now i c.args.y c.args.f)) in
+    let g = λ (n : ℕ). sum_to n cell in
+    let same = above_kept was c.loop-x.entries.items c.as_slice.result.now c.args.above c.args.rect.now.size.w x g c.loop-x.invariant.put c.as_slice.ensures.value c.requires.above c.loop-x-test.true in
+    let one : c.one_filled-filled.result ≤ 1 = subst (λ n. n ≤ 1) (sym c.one_filled-filled.ensures) (one_at_most _) in
+    let filled : c.loop-x.filled + c.one_filled-filled.result ≡ g (x + 1) = (λ t. c.loop-x.invariant.filled t + c.one_filled-filled.ensures t) ∙ sym (sum_more counts x cell) in
+    record {
+      put =
+          subst (λ xs. ArePut was xs c.args.above ((x + 1) + 1) g) (sym c.in_ok-push-2.ensures.items)
+          (one_put was c.loop-x.entries.items c.args.above (x + 1) _ g c.loop-x.invariant.put (λ t. same t + filled t));
+      filled = filled;
+      few = omega (arith, one, c.loop-x.invariant.few);
+    }

@@ -5,6 +5,7 @@ ghost use Rattle.map_canvas.specs.Canvases.{StandsOver};
 ghost use Rattle.map_canvas.specs.Choices.{Fits};
 ghost use Rattle.match_error.specs.Errors.{error_of, filled_cells};
 ghost use Rattle.match_error.specs.Runs.{AreFilledRuns};
+ghost use Rattle.match_error.specs.Tables.{AreFilledCounts};
 ghost use Rattle.patch_place.specs.Counts.{AreVolumeParts};
 ghost use Rattle.patch_place.specs.Lists.{IsWithin};
 ghost use Rattle.patch_place.specs.Picks.{AllFit, errors_on, listed_on};
@@ -13,10 +14,11 @@ ghost use Rattle.patch_place.specs.Tables.{IsBoxDone, IsLimitOf, IsMore, IsSeenT
 use crate::Candidates;
 use crate::candidates::{Spot, frames_before, part_after, parts_of, place_count, room};
 use crate::hints::least_hint;
+use crate::reach::counts_for;
 use crate::shortlist::Shortlist;
 use cells::{Box3, Sizes, Volume};
 use map_canvas::{Canvas, Placement};
-use match_error::{Error, FilledRuns, error_sum_within, filled_count};
+use match_error::{Error, FilledCounts, FilledRuns, error_sum_within, filled_count};
 use std::alloc::{AllocError, Global};
 
 // How many candidates there are for a canvas and a sample.
@@ -38,15 +40,17 @@ pub(crate) fn entry_for(list: &Candidates, canvas: &Canvas, sample: &Volume, i: 
 }
 
 impl Shortlist {
-    // One more candidate.
+    // One more candidate, whose filled cells are counted by the sums of many.
     fn add(
         &mut self,
+        counts: &FilledCounts,
         canvas: &Canvas,
         sample: &Volume,
         placement: &Placement,
     ) -> Result<(), AllocError>
         requires over { StandsOver canvas.now sample.now }
         requires fits { Fits canvas.now.map.size sample.now placement.now }
+        requires counts { AreFilledCounts canvas.now.map counts.now }
         requires few { self.old.seen + 1 < 2 ^ 32 }
         requires sound { IsSoundShortlist self.old }
         ensures more { OnOk result (IsMore self.old self.new
@@ -56,7 +60,7 @@ impl Shortlist {
         ensures known { self.new.known ≡ self.old.known }
         ensures seen { OnOk result (self.new.seen ≡ self.old.seen + 1) }
     {
-        let count = filled_count(canvas, &placement.rect);
+        let count = counts.count(canvas, &placement.rect);
         if count == 0 {
             self.skip();
             return Ok(());
@@ -169,9 +173,10 @@ fn placed_shortlist(
     requires fit { AllFit canvas.now sample.now list.now }
     ensures { IfOk result (IsShortlistOf tol (errors_on canvas.now sample.now list.now)) }
 {
+    let counts = counts_for(alloc, list, canvas, sample)?;
     let mut short = Shortlist::unfilled(alloc, tol, 0);
     'entries: for i in 0..count_for(list, canvas, sample) {
-        short.add(canvas, sample, &entry_for(list, canvas, sample, i))?;
+        short.add(&counts, canvas, sample, &entry_for(list, canvas, sample, i))?;
     }
     Ok(short)
 }

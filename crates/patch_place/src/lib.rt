@@ -28,6 +28,7 @@ mod hints;
 mod laws;
 mod mode;
 mod picks;
+mod reach;
 mod shortlist;
 mod steps;
 

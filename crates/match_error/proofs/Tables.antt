@@ -6,11 +6,10 @@ use Rattle.std.proofs.lemmas.Int.{ints}
 use Rattle.std.proofs.lemmas.List.{get_or-replicate}
 use Rattle.std.proofs.lemmas.Nat.{mod-mul-add, div-mul-add}
 use Rattle.std.specs.Prelude.{ℤ, pos, ◌+ℤ◌, replicate}
-use Rattle.cells.specs.declared.place.At.{At}
 use Rattle.cells.specs.declared.place.Box3.{Box3}
 use Rattle.cells.specs.Boxes.{HoldsBox}
-use Rattle.cells.specs.Places.{IsSmall, cell_count, plus, spot}
-use Rattle.box_sums.specs.Sums.{sum_to, sum_box}
+use Rattle.cells.specs.Places.{IsSmall, cell_count}
+use Rattle.box_sums.specs.Sums.{sum_to}
 use Rattle.box_sums.proofs.Additions.{counts}
 use Rattle.box_sums.proofs.Axes.{sum_equal, sum_more, sum_plus, sum_split}
 use Rattle.box_sums.proofs.Bounds.{box_bound, sum_bound}

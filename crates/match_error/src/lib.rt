@@ -5,8 +5,10 @@
 //! beside it the count of those cells. The calls of this crate give exactly that, `error_sum_within`
 //! with leave to stop where the sum passes a limit, and `within` compares two errors per filled cell,
 //! with a tolerance. `FilledRuns` has the filled cells of one box, gathered once for the sums of all its
-//! placements (specs/Runs.antt); gathering takes memory, and no other call does. `overlap` has the sums,
-//! `gathered` the runs, `counts` the counts, `rows` where the rows of a box begin, `error` the error and
+//! placements (specs/Runs.antt), and `FilledCounts` how many cells are filled, summed up once for the
+//! counts of many boxes (specs/Tables.antt). `FilledRuns::gather` and `FilledCounts::make` take memory,
+//! and no other call does. `overlap` has the sums, `gathered` the runs, `counts` the counts of single
+//! boxes, `table` those of many, `rows` where the rows and the cells of a box stand, `error` the error and
 //! the comparison.
 #![tactic(auto)]
 

@@ -49,6 +49,10 @@ const LOOSE: Node = Node {
     active: false,
 };
 
+// So many arcs of a node are looked at again after a path through it: what hangs on it may then hang nearer
+// to the end of its tree.
+const FEW: u32 = 16;
+
 /// The tables of the search.
 #[derive(Drop)]
 pub struct Trees {
@@ -170,15 +174,22 @@ impl Trees {
         false
     }
 
-    // Lets a tree grow from a node. Returns the arc from the source's tree to the sink's, where they meet.
-    fn grow(&mut self, number: u32) -> Option<u32> {
+    // Lets a tree grow from a node, over its arcs from a place on, or over all of them where few come
+    // before it. Returns the place of the arc where the trees meet.
+    fn grow(&mut self, number: u32, from: u32) -> Option<u32> {
         let node = self.node(number);
-        for place in self.arcs.places_of(number) {
+        let places = self.arcs.places_of(number);
+        let first = if from > places.start.wrapping_add(FEW) {
+            from
+        } else {
+            places.start
+        };
+        for place in first..places.end {
             self.work = self.work.wrapping_add(1);
             let arc = self.arcs.at(place);
             let open = Trees::outward(node.tree, place, arc);
             if self.arcs.room(open) > 0 && self.grow_over(node, arc) {
-                return Some(open);
+                return Some(place);
             }
         }
         None
@@ -356,14 +367,16 @@ impl Trees {
         }
     }
 
-    // The node from which the trees go on: the last one, while it's in a tree.
-    fn next_node(&mut self, last: Option<u32>) -> Option<u32> {
-        if let Some(number) = last {
+    // The node from which the trees go on, and the place of the arc from which: where they stopped, while
+    // the node is in a tree. If an arc before that place leads to a node that has left the tree since,
+    // the node is active, and its turn comes again.
+    fn next_node(&mut self, last: Option<(u32, u32)>) -> Option<(u32, u32)> {
+        if let Some((number, _)) = last {
             if self.node(number).tree != Tree::Neither {
                 return last;
             }
         }
-        self.next_active()
+        Some((self.next_active()?, 0))
     }
 
     // Lets the trees grow and sends flow where they meet, until they're apart or the work is above the limit.
@@ -373,23 +386,25 @@ impl Trees {
             if self.work > limit {
                 return;
             }
-            let Some(number) = self.next_node(last) else {
+            let Some((number, from)) = self.next_node(last) else {
                 return;
             };
             last = None;
             self.work = self.work.wrapping_add(1);
-            if self.node(number).tree == Tree::Neither {
+            let tree = self.node(number).tree;
+            if tree == Tree::Neither {
                 continue;
             }
-            let Some(meeting) = self.grow(number) else {
+            let Some(place) = self.grow(number, from) else {
                 continue;
             };
             self.time = self.time.wrapping_add(1);
+            let meeting = Trees::outward(tree, place, self.arcs.at(place));
             if !self.augment(meeting) {
                 return;
             }
             self.adopt_all(limit);
-            last = Some(number);
+            last = Some((number, place));
         }
     }
 

@@ -1,11 +1,12 @@
 // The flow that a solver begins with. Its tables are given back before those of the level graphs are taken.
 
-ghost use Rattle.std.specs.Prelude.{◌≡◌, IfOk, length, map};
+ghost use Rattle.std.specs.Prelude.{◌≡◌, ◌≤◌, ◌^◌, IfOk, length, map};
 ghost use Rattle.max_flow.specs.Residual.{Carries};
 
 use crate::checking::flow_left;
 use crate::network::{Network, Pipe};
 use crate::trees::Trees;
+use crate::triangles::Stars;
 use std::alloc::{AllocError, Global};
 
 // How many arcs the search trees look at, at most, for each pipe. They end far below on the networks of
@@ -22,12 +23,47 @@ fn empty(pipes: &[Pipe], backward: &mut [u32])
     }
 }
 
-// Writes what the search trees leave for the arc against each pipe.
-fn propose(alloc: Global, network: &Network, backward: &mut [u32]) -> Result<(), AllocError> {
-    let pipes = network.pipes();
-    let mut trees = Trees::make(alloc, network.nodes() as usize, pipes)?;
+// Lets search trees grow over pipes with the ends of a network. Writes what they leave for the arc
+// against each pipe.
+fn search(
+    alloc: Global,
+    network: &Network,
+    nodes: usize,
+    pipes: &[Pipe],
+    backward: &mut [u32],
+) -> Result<(), AllocError>
+    requires { length pipes.now ≤ 2 ^ 32 }
+{
+    let mut trees = Trees::make(alloc, nodes, pipes)?;
     let limit = WORK * (pipes.len() as u64 + 1);
     trees.propose(pipes, network.source(), network.sink(), limit, backward);
+    Ok(())
+}
+
+// The stars of a network, if they are many.
+fn many_stars(alloc: Global, network: &Network) -> Result<Option<Stars>, AllocError> {
+    let pipes = network.pipes();
+    let (source, sink) = (network.source(), network.sink());
+    let stars = Stars::find(alloc, network.nodes() as usize, source, sink, pipes)?;
+    Ok(if stars.are_many(pipes) {
+        Some(stars)
+    } else {
+        None
+    })
+}
+
+// Writes what the search trees leave for the arc against each pipe. They grow over the shorter network
+// where the network has many stars.
+fn propose(alloc: Global, network: &Network, backward: &mut [u32]) -> Result<(), AllocError> {
+    let pipes = network.pipes();
+    let Some(mut stars) = many_stars(alloc, network)? else {
+        return search(alloc, network, network.nodes() as usize, pipes, backward);
+    };
+    let short = stars.shorten(alloc, pipes)?;
+    if short.len() <= pipes.len() {
+        search(alloc, network, stars.nodes_of(&short), &short, backward)?;
+        stars.turn_back(pipes, short.len(), backward);
+    }
     Ok(())
 }
 

@@ -7,11 +7,12 @@
 //! contained in that of every least cut, so that there is one answer. Which of the greatest flows is found
 //! is left open.
 //!
-//! Read on in `specs/Flows.antt`, which says what a flow and a cut are, and in `solver.rt`. Search trees
-//! (`trees.rt`) over packed arcs (`packed.rt`) find a flow fast, of which nothing is promised. A check in one
-//! pass (`checking.rt`) takes it or begins with none (`beginning.rt`). Dinic's method goes on from there: a level graph
-//! (`levels.rt`) and a blocking flow in it (`paths.rt`, `blocking.rt`), over the residual network
-//! (`graph.rt`), until the sink has no level.
+//! Read on in `specs/Flows.antt`, which says what a flow and a cut are, and in `solver.rt`. Search
+//! trees (`trees.rt`) over packed arcs (`packed.rt`) find a flow fast, of which nothing is promised. In
+//! a network of many seams they grow over a shorter one (`triangles.rt`). A check in one pass
+//! (`checking.rt`) takes the flow or begins with none (`beginning.rt`). Dinic's method goes on from
+//! there: a level graph (`levels.rt`) and a blocking flow in it (`paths.rt`, `blocking.rt`), over the
+//! residual network (`graph.rt`), until the sink has no level.
 #![tactic(auto)]
 
 mod beginning;
@@ -24,6 +25,7 @@ mod packed;
 mod paths;
 mod solver;
 mod trees;
+mod triangles;
 
 pub use items::Items;
 pub use network::{Network, Pipe};

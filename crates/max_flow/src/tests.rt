@@ -1,5 +1,6 @@
 // Worked examples, small networks against all their cuts, and a larger one that another program solved.
 
+use crate::beginning::first_flow;
 use crate::{Network, Pipe, Solved, solve};
 use std::alloc::{AllocError, Global};
 use std::process::Abort;
@@ -294,5 +295,102 @@ fn a_grid_that_another_program_solved(rt: HostRuntime) -> Result<(), Fail> {
             .count(),
         177
     );
+    Ok(())
+}
+
+// Adds the pipes of a seam between two cells, as the next numbers of a row have it: a star whose legs a
+// triangle fits, one with a leg that is wider than the others together or carries nothing, or a pipe alone.
+// Returns whether it takes the middle node.
+fn add_seam(
+    pipes: &mut Vec<Row>,
+    state: &mut u64,
+    from: u32,
+    to: u32,
+    middle: u32,
+) -> Result<bool, AllocError> {
+    let a = next(state) % 500;
+    let b = next(state) % 500;
+    let kind = next(state) % 8;
+    if kind == 0 {
+        pipes.push((from, to, a, b))?;
+        return Ok(false);
+    }
+    let most = a
+        .wrapping_add(b)
+        .wrapping_sub(a.abs_diff(b))
+        .wrapping_add(1);
+    let down = match kind {
+        1 => 1500,
+        2 => 0,
+        _ => a.abs_diff(b).wrapping_add(next(state) % most),
+    };
+    pipes.push((from, middle, a, a))?;
+    pipes.push((middle, to, b, b))?;
+    pipes.push((middle, 1, down, next(state) % 2))?;
+    Ok(true)
+}
+
+// The search finds a flow that can't be made greater.
+fn assert_finds(
+    rt: &impl Abort,
+    alloc: Global,
+    network: &Network,
+    solved: &Solved,
+) -> Result<(), AllocError> {
+    let mut backward = vec![in alloc; 0u32; network.pipes().len()]?;
+    assert_eq!(rt; first_flow(alloc, network, &mut backward)?, solved.value);
+    Ok(())
+}
+
+// Two cells with a seam between them, and one to the source, the sink or the same cell.
+#[test]
+fn small_networks_of_stars_against_all_cuts(rt: HostRuntime) -> Result<(), Fail> {
+    let mut state = 2003;
+    for round in 0..300u32 {
+        let mut pipes = Vec::new(rt.alloc());
+        pipes.push((0, 2, next(&mut state) % 900, 0))?;
+        add_seam(&mut pipes, &mut state, 2, 3, 4)?;
+        add_seam(&mut pipes, &mut state, round % 4, 3, 5)?;
+        pipes.push((3, 1, next(&mut state) % 400, 7))?;
+        let network = network_of(&rt, rt.alloc(), 6, &pipes)?;
+        let solved = solve(rt.alloc(), &network)?;
+        assert_solves(&rt, 6, &pipes, &solved);
+        assert_finds(&rt, rt.alloc(), &network, &solved)?;
+    }
+    Ok(())
+}
+
+// Cells of a square of 12 by 12 with seams between them, the source at the first column and the sink at
+// the last.
+fn square_of_seams(alloc: Global, seed: u64) -> Result<Vec<Row>, AllocError> {
+    let mut pipes = Vec::new(alloc);
+    let mut state = seed;
+    let mut middle = 146u32;
+    for cell in 0..144u32 {
+        let node = cell.wrapping_add(2);
+        if cell % 12 == 0 {
+            pipes.push((0, node, 65536, 0))?;
+        }
+        if cell % 12 < 11 && add_seam(&mut pipes, &mut state, node, node.wrapping_add(1), middle)? {
+            middle = middle.wrapping_add(1);
+        }
+        if cell < 132 && add_seam(&mut pipes, &mut state, node, node.wrapping_add(12), middle)? {
+            middle = middle.wrapping_add(1);
+        }
+        if cell % 12 == 11 {
+            pipes.push((node, 1, next(&mut state) % 2000, 0))?;
+        }
+    }
+    Ok(pipes)
+}
+
+#[test]
+fn squares_of_stars_are_solved_by_the_search(rt: HostRuntime) -> Result<(), Fail> {
+    for seed in 0..20u64 {
+        let pipes = square_of_seams(rt.alloc(), seed)?;
+        let network = network_of(&rt, rt.alloc(), 410, &pipes)?;
+        let solved = solve(rt.alloc(), &network)?;
+        assert_finds(&rt, rt.alloc(), &network, &solved)?;
+    }
     Ok(())
 }

@@ -52,8 +52,8 @@ AreErrorsAmong tol rivals table errors = AllZip (StandsForError tol rivals) tabl
 abbrev pub AreTableErrors : ℕ → List Error → List Error → Type 0
 AreTableErrors tol table errors = AreErrorsAmong tol table table errors
 
--- the rivals of an error while a table is made: its entries, and an error that is known before them,
--- that of one of the candidates
+-- the rivals of an error while a table is made: its entries, and an error that is known before
+-- them, that of one of the candidates
 abbrev pub rivals : Option Error → List Error → List Error
 rivals None table = table
 rivals (Some known) table = known ∷ table
@@ -178,7 +178,7 @@ IsLimitOf list count limit =
     (table : List Error) → IsBestOf table list.best
     → IsLimit list.tol (rivals list.known table) count limit
 
--- a step along each axis of a box
+-- a step from the corner of a box to one of its cells is no longer on each axis
 abbrev pub IsShortAlong : ℤ → Type 0
 IsShortAlong z = (pos 0 ≤ℤ z) × (z ≤ℤ pos (2 ^ 12))
 
@@ -187,7 +187,7 @@ pub record IsShortStep (step : At) : Type 0 where
   pub y : IsShortAlong step.y
   pub f : IsShortAlong step.f
 
--- a likely candidate of a box
+-- a placement of a box that fits, and so is one of its candidates
 pub record IsHint (canvas : CanvasState) (sample : Cells) (rect : Box3)
     (placement : Placement) : Type 0 where
   pub box : placement ≡ filled_from rect placement.from

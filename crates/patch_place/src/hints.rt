@@ -22,8 +22,8 @@ fn spread(len: u32, i: u32) -> i32
     ((len - 1) * i / 3) as i32
 }
 
-// One of 16 cells spread over the rows and columns of a box, in its first frame or, every other one,
-// in its last, as a step from the corner.
+// One of 16 cells spread over the rows and columns of a box, in its first frame or, every other
+// one, in its last, as a step from the corner.
 fn spread_step(size: Size, i: u32) -> At
     requires axes { HasAxes size }
     requires few { i < 16 }
@@ -36,8 +36,8 @@ fn spread_step(size: Size, i: u32) -> At
     }
 }
 
-// The candidate that goes on with what stands at a cell of the box, a step from its corner. None where
-// the cell is unfilled, and where the box doesn't fit there.
+// The candidate that goes on with what stands at a cell of the box, a step from its corner. None
+// where the cell is unfilled, and where the box doesn't fit there.
 fn hint_at(canvas: &Canvas, sample: &Volume, rect: &Box3, step: At) -> Option<Placement>
     requires some { HasCells rect.now.size }
     requires inside { HoldsBox canvas.now.map.size rect.now.corner rect.now.size }
@@ -95,8 +95,8 @@ fn lesser_hint(
     }
 }
 
-/// The least error of a few likely candidates of a box, whose filled cells are gathered: a patch that
-/// goes on with what stands at one of them. None where none of these is a candidate.
+/// The least error of a few likely candidates of a box, whose filled cells are gathered: those that
+/// go on with what stands at one of 16 cells. None where none of these is a candidate.
 pub(crate) fn least_hint(
     runs: &FilledRuns,
     canvas: &Canvas,

@@ -9,8 +9,8 @@ use crate::eligible::{Entry, better, near_count, nth_near};
 use match_error::Error;
 use std::alloc::{AllocError, Global};
 
-/// The candidates, of those seen so far, that may be eligible: one whose error is past the tolerance of
-/// the best so far never is, since the best only falls.
+/// The candidates, of those seen so far, that may be eligible: one whose error is past the tolerance
+/// of the best so far, or of a candidate whose error is known, never is, since the best only falls.
 #[derive(Drop)]
 pub(crate) struct Shortlist {
     // in their order, with their errors

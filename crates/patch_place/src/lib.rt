@@ -14,9 +14,10 @@
 //! `axis` has what happens along one axis, `candidates` the lists over the parts of a sample, `mode` the
 //! modes and the size of a window, `draws` the draws, and `laws` what follows from the definitions. `steps`
 //! has the step, `picks` the pick, `errors` the walks over lists that fill the shortlist that it is made
-//! from, where a sum that can't be eligible is left unfinished, `hints` the likely candidates of a
-//! box with whose least error its walk begins, `shortlist` the shortlist, and `eligible` which of its
-//! entries are about as good as the best. README.md says the definitions and the promises in words.
+//! from, where a sum that can't be eligible is left unfinished, `hints` the likely candidates of a box
+//! with whose least error its walk begins, `reach` the sums by which the filled cells of laid candidates
+//! are counted, `shortlist` the shortlist, and `eligible` which of its entries are about as good as the
+//! best. README.md says the definitions and the promises in words.
 #![tactic(auto)]
 
 mod axis;

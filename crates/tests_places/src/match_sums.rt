@@ -1,6 +1,6 @@
 // Worked examples of match_error.
 use crate::rows::{assert_fits, greys, row_at, row_of};
-use match_error::{Error, error_sum_within, filled_count, overlap_error, within};
+use match_error::{Error, FilledCounts, error_sum_within, filled_count, overlap_error, within};
 use std::test::Fail;
 
 // Over an empty row, and over one of which two cells of the box are filled, with 30 and 40 where the sample
@@ -18,6 +18,8 @@ fn errors_of_a_row(rt: HostRuntime) -> Result<(), Fail> {
             Error { sum, count }
         );
         assert_eq!(rt; filled_count(&canvas, &placement.rect), count);
+        let counts = FilledCounts::make(rt.alloc(), &canvas, &placement.rect)?;
+        assert_eq!(rt; counts.count(&canvas, &placement.rect), count);
         assert_eq!(rt;
             error_sum_within(&canvas, &sample, &placement, 2400),
             Some(sum)

@@ -1,0 +1,10 @@
+pub mod Squares
+pub mod RowBytes
+pub mod Taking
+pub mod BlockPlaces
+pub mod Gatherings
+pub mod BlockErrors
+pub mod SumRows
+pub mod BlockRows
+pub mod Vectors
+pub mod RunEntries

@@ -1,0 +1,180 @@
+-- Where the entries of a run of places stand.
+use Rattle.std.proofs.Common.{◌≡◌, ℕ, ◌+◌, ◌*◌, ◌<◌, ◌≤◌, List, length, get_or, take, drop, refl, ap, sym, subst, ◌∙◌, arith, rules, ⊎_elim}
+use Rattle.std.proofs.lemmas.Int.{ints}
+use Rattle.std.proofs.lemmas.List.{get_or-drop, get_or-take}
+use Rattle.std.proofs.lemmas.List.Sums.{sum_by_more, sum_by_more_le}
+use Rattle.std.proofs.Math.Nat.{mul-le-mul_left}
+use Rattle.std.proofs.lemmas.Bool.{cases_lt}
+use Rattle.std.specs.Prelude.{ℤ, pos, negsuc, ◌+ℤ◌, ◌-ℤ◌, FitsSigned, All, Some, IsSome}
+use Rattle.std.specs.List.{sum_by}
+use Rattle.std.specs.Int.{w32}
+use Rattle.cells.specs.declared.place.At.{At}
+use Rattle.cells.specs.declared.place.Box3.{Box3}
+use Rattle.cells.specs.declared.place.Size.{Size}
+use Rattle.cells.specs.Boxes.{AxisHolds, HasCells}
+use Rattle.cells.specs.Cells.{Cells, IsVolume}
+use Rattle.cells.specs.Places.{DifferenceFits, IsInside, IsSmall, index_in, minus, plus, raster_index, spot}
+use Rattle.cells.proofs.PartBoxes.{held_small}
+use Rattle.cells.proofs.Raster.{in_rows, index_of_spot}
+use Rattle.block_sums.specs.declared.blocks.Block.{Block}
+use Rattle.block_sums.specs.declared.sums.BlockSums.{BlockSums}
+use Rattle.block_sums.specs.declared.sums.TheConstants.{LANES}
+use Rattle.block_sums.specs.Blocks.{IsBlockIn, block_sum, square_of_difference}
+use Rattle.block_sums.specs.Bounds.{IsBoxIn, place_along}
+use Rattle.block_sums.specs.Sums.{AreBlockSums}
+
+some_same : {A : Type 0} (x y : A) → Some x ≡ Some y → x ≡ y
+some_same x y e = cc
+
+-- a run of cells along one axis, from a number on
+record Run (n : ℕ) (z : ℤ) (len : ℕ) : Type 0 where
+  pub from : ℕ
+  pub is : z ≡ pos from
+  pub to : from + len ≤ n
+
+run_of : (n : ℕ) (z : ℤ) (len : ℕ) → AxisHolds n z len → Run n z len
+run_of n (pos a) len holds = record { from = a; is = refl; to = omega (arith, ints, holds.to) }
+run_of n (negsuc a) len holds = absurd (omega (arith, ints, holds.from))
+
+-- a box laid from each of some places along X lies in another: where the first of them stands in it
+pub record IsPlaced (outer : Box3) (from : At) (n : ℕ) (inner : Size) : Type 0 where
+  pub x : ℕ
+  pub y : ℕ
+  pub f : ℕ
+  pub x_is : from.x -ℤ outer.corner.x ≡ pos x
+  pub y_is : from.y -ℤ outer.corner.y ≡ pos y
+  pub f_is : from.f -ℤ outer.corner.f ≡ pos f
+  pub columns : (j : ℕ) → j < n → (x + j) + inner.w ≤ outer.size.w
+  pub rows : y + inner.h ≤ outer.size.h
+  pub frames : f + inner.f ≤ outer.size.f
+
+pub placed : (outer : Box3) (from : At) (n : ℕ) (inner : Size) → 1 ≤ n → ((j : ℕ) → j < n → IsBoxIn outer (place_along from j) inner) → IsPlaced outer from n inner
+placed outer from n inner some each =
+    let first = each 0 (omega arith) in
+    let a = run_of outer.size.w _ inner.w first.x in
+    let b = run_of outer.size.h _ inner.h first.y in
+    let c = run_of outer.size.f _ inner.f first.f in
+    record {
+      x = a.from;
+      y = b.from;
+      f = c.from;
+      x_is = omega (arith, ints, a.is);
+      y_is = omega (arith, ints, b.is);
+      f_is = omega (arith, ints, c.is);
+      columns = λ j lj. let e = run_of outer.size.w _ inner.w (each j lj).x in omega (arith, ints, a.is, e.is, e.to);
+      rows = b.to;
+      frames = c.to;
+    }
+
+-- how far a block is from the sample's in a lane
+abbrev pub difference_at : Cells → ℕ → At → ℕ → Block → ℕ
+difference_at sample side from j block = square_of_difference block.sum (block_sum sample side (plus (place_along from j) block.step))
+
+small_fits : (d : ℕ) → d < 8192 → FitsSigned w32 (pos d)
+small_fits d lt = search rules
+
+module _ (sample : Cells) (volume : IsVolume sample) (sums : BlockSums) (are : AreBlockSums sample sums) (rect : Box3) (some : HasCells rect.size) (from : At) (n : ℕ) (few : 1 ≤ n)
+    (at : IsPlaced sums.rect from n rect.size) where
+  abbrev inner : Size
+  inner = rect.size
+
+  abbrev outer : Size
+  outer = sums.rect.size
+
+  abbrev corner : At
+  corner = sums.rect.corner
+
+  wide : at.x + inner.w ≤ outer.w
+  wide = omega (arith, at.columns 0 (omega (arith, few)))
+
+  pub small : IsSmall outer
+  small = held_small sample corner outer volume (record { w = omega (arith, wide, some.w); h = omega (arith, at.rows, some.h); f = omega (arith, at.frames, some.f) }) are.inside
+
+  pub fits : DifferenceFits from corner
+  fits = record {
+    x = subst (FitsSigned w32) (sym at.x_is) (small_fits at.x (omega (arith, wide, small.axes.w)));
+    y = subst (FitsSigned w32) (sym at.y_is) (small_fits at.y (omega (arith, at.rows, small.axes.h)));
+    f = subst (FitsSigned w32) (sym at.f_is) (small_fits at.f (omega (arith, at.frames, small.axes.f)));
+  }
+
+  first_at : index_in outer (minus from corner) ≡ Some (raster_index outer at.x at.y at.f)
+  first_at =
+      (λ k. index_in outer (record { x = at.x_is k; y = at.y_is k; f = at.f_is k }))
+      ∙ index_of_spot outer at.x at.y at.f (omega (arith, wide, some.w)) (omega (arith, at.rows, some.h)) (omega (arith, at.frames, some.f))
+
+  pub first_inside : IsInside outer (minus from corner)
+  first_inside = subst IsSome (sym first_at) refl
+
+  module _ (side : ℕ) (one : 1 ≤ side) (side_is : side ≡ sums.side) (seen items : List Block) (same : seen ≡ items) (all : All (IsBlockIn rect side) items) (i : ℕ) (d : Block) (lt : i < length seen) where
+    abbrev block : Block
+    block = get_or seen i d
+
+    is : IsBlockIn rect side block
+    is = subst (All (IsBlockIn rect side)) (sym same) all i d lt
+
+    step_at : index_in outer block.step ≡ Some (raster_index outer is.x is.y is.f)
+    step_at =
+        ap (index_in outer) is.step
+        ∙ index_of_spot outer is.x is.y is.f (omega (arith, wide, is.columns, one)) (omega (arith, at.rows, is.rows, one)) (omega (arith, at.frames, is.frame))
+
+    pub step_inside : IsInside outer block.step
+    step_inside = subst IsSome (sym step_at) refl
+
+    together : (j : ℕ) → (raster_index outer at.x at.y at.f + raster_index outer is.x is.y is.f) + j ≡ raster_index outer ((at.x + is.x) + j) (at.y + is.y) (at.f + is.f)
+    together j = omega arith
+
+    indices : (first s : ℕ) → index_in outer (minus from corner) ≡ Some first → index_in outer block.step ≡ Some s → first + s ≡ raster_index outer at.x at.y at.f + raster_index outer is.x is.y is.f
+    indices first s first_is s_is = λ t. some_same first _ (sym first_is ∙ first_at) t + some_same s _ (sym s_is ∙ step_at) t
+
+    pub room : (first s : ℕ) → index_in outer (minus from corner) ≡ Some first → index_in outer block.step ≡ Some s → first + s + LANES ≤ length sums.sums.items
+    room first s first_is s_is =
+        let below : raster_index outer (at.x + is.x) (at.y + is.y) (at.f + is.f) < outer.w * (outer.h * outer.f) =
+        in_rows outer.w (outer.h * outer.f) ((at.y + is.y) + outer.h * (at.f + is.f)) (at.x + is.x) (omega (arith, wide, is.columns, one))
+        (in_rows outer.h outer.f (at.f + is.f) (at.y + is.y) (omega (arith, at.rows, is.rows, one)) (omega (arith, at.frames, is.frame))) in
+        omega (arith, indices first s first_is s_is, together 0, below, are.long)
+
+    there : (j : ℕ) → plus corner (spot ((at.x + is.x) + j) (at.y + is.y) (at.f + is.f)) ≡ plus (place_along from j) block.step
+    there j =
+        (λ k. record { x = across corner.x from.x at.x at.x_is k; y = down corner.y from.y at.y is.y at.y_is k; f = down corner.f from.f at.f is.f at.f_is k })
+        ∙ ap (plus (place_along from j)) (sym is.step)
+      where
+        across : (z p : ℤ) (a : ℕ) → p -ℤ z ≡ pos a → z +ℤ pos ((a + is.x) + j) ≡ (p +ℤ pos j) +ℤ pos is.x
+        across z p a e = omega (arith, ints, e)
+
+        down : (z p : ℤ) (a b : ℕ) → p -ℤ z ≡ pos a → z +ℤ pos (a + b) ≡ (p +ℤ pos 0) +ℤ pos b
+        down z p a b e = omega (arith, ints, e)
+
+    -- from a run of entries that was read, and totals before and after it
+    module _ (run : List ℕ) (first : ℕ) (first_is : index_in outer (minus from corner) ≡ Some first) (run_is : (s : ℕ) → index_in outer block.step ≡ Some s → run ≡ take LANES (drop (first + s) sums.sums.items))
+        (j : ℕ) (lj : j < n) (most : n ≤ LANES) where
+      -- the entry in a lane is the sum of the sample's block there
+      lane_entry : get_or run j 0 ≡ block_sum sample side (plus (place_along from j) block.step)
+      lane_entry =
+          let s = raster_index outer is.x is.y is.f in
+          ap (λ (xs : List ℕ). get_or xs j 0) (run_is s step_at)
+          ∙ get_or-take LANES (drop (first + s) sums.sums.items) j 0 (omega (arith, lj, most))
+          ∙ get_or-drop (first + s) sums.sums.items j 0
+          ∙ ap (λ m. get_or sums.sums.items (m + j) 0) (indices first s first_is step_at)
+          ∙ ap (λ m. get_or sums.sums.items m 0) (together j)
+          ∙ are.entries ((at.x + is.x) + j) (at.y + is.y) (at.f + is.f)
+          (omega (arith, at.columns j lj, is.columns, side_is)) (omega (arith, at.rows, is.rows, side_is)) (omega (arith, at.frames, is.frame))
+          ∙ (λ t. block_sum sample (sym side_is t) (there j t))
+
+      module _ (was now : ℕ) (more : now ≤ was + square_of_difference block.sum (get_or run j 0)) (before : was ≤ sum_by (difference_at sample side from j) (take i items)) where
+        added : now ≤ was + difference_at sample side from j block
+        added = subst (λ entry. now ≤ was + square_of_difference block.sum entry) lane_entry more
+
+        front : was ≤ sum_by (difference_at sample side from j) (take i seen)
+        front = subst (λ xs. was ≤ sum_by (difference_at sample side from j) (take i xs)) (sym same) before
+
+        -- the total is still at most the differences of the blocks so far, and of all
+        pub one_more : now ≤ sum_by (difference_at sample side from j) (take (i + 1) items)
+        one_more = subst (λ xs. now ≤ sum_by (difference_at sample side from j) (take (i + 1) xs)) same (omega (arith, added, front, sum_by_more (difference_at sample side from j) seen i d lt))
+
+        pub one_of_all : now ≤ sum_by (difference_at sample side from j) items
+        one_of_all = subst (λ xs. now ≤ sum_by (difference_at sample side from j) xs) same (omega (arith, added, front, sum_by_more_le (difference_at sample side from j) seen i d lt))
+
+-- a total above that of the limit is of an error above the limit
+pub above_limit : (bytes limit error total difference most : ℕ) → most ≡ bytes * limit → most < total → total ≤ difference → difference ≤ bytes * error → limit < error
+above_limit bytes limit error total difference most is above part bound =
+    ⊎_elim (λ lt. lt) (λ le. absurd (omega (arith, is, above, part, bound, mul-le-mul_left bytes le))) (cases_lt limit error)

@@ -1,0 +1,68 @@
+-- What the vectors of a run hold, as lists of lanes.
+use Rattle.std.proofs.Common.{◌≡◌, ◌∙◌, ℕ, zero, suc, ◌+◌, ◌-◌, ◌*◌, ◌%◌, ◌<◌, ◌≤◌, Bool, true, false, if◌then◌else◌, nat_lt, List, [], ◌∷◌, length, map, get_or, take, replicate, cond, refl, sym, arith, w32, Fits}
+use Rattle.std.proofs.Math.Nat.{mul-le-mul}
+use Rattle.std.specs.Int.{abs_diff}
+use Rattle.std.specs.Simd.Lanes.{zip2, Each1, sel_l, top}
+use Rattle.std.proofs.lemmas.List.{get_or-take, length-take-le, length-replicate, get_or-replicate}
+use Rattle.std.proofs.lemmas.Simd.{tops_compared, get_or-zip2, length-zip2}
+use Rattle.block_sums.specs.Blocks.{square_of_difference}
+use Rattle.block_sums.specs.declared.sums.TheConstants.{LANES}
+use borrow.Author.Tests.{ltb-true, ltb-false}
+
+-- the larger lane less the smaller one, as the processor subtracts, is their absolute difference
+pub differences_of_lanes : (xs ys : List ℕ) → Each1 (λ x. x < 65536) xs → Each1 (λ y. y < 65536) ys
+    → zip2 (λ a b. (a + (65536 - b)) % 65536) (sel_l (zip2 nat_lt xs ys) ys xs) (sel_l (zip2 nat_lt xs ys) xs ys) ≡ zip2 abs_diff xs ys
+differences_of_lanes [] [] p q = refl
+differences_of_lanes [] (y ∷ ys) p q = refl
+differences_of_lanes (x ∷ xs) [] p q = refl
+differences_of_lanes (x ∷ xs) (y ∷ ys) p q = λ i. head (nat_lt x y) refl p.0 q.0 i ∷ differences_of_lanes xs ys p.1 q.1 i
+  where
+    head : (b : Bool) → nat_lt x y ≡ b → x < 65536 → y < 65536 → ((if b then y else x) + (65536 - (if b then x else y))) % 65536 ≡ abs_diff x y
+    head true e small_x small_y = let less : x < y = ltb-true x y e in omega arith
+    head false e small_x small_y = let no_less : y ≤ x = ltb-false x y e in omega arith
+
+-- a product of two numbers of 16 bits
+pub product_fits : (a b : ℕ) → a < 65536 → b < 65536 → Fits w32 (a * b)
+product_fits a b p q =
+    let la : a ≤ 65535 = omega arith in
+    let lb : b ≤ 65535 = omega arith in
+    let most : a * b ≤ 4294836225 = mul-le-mul la lb in
+    record { fits = omega arith }
+
+-- a sum that is cut off is at most the sum: whatever the second lane is cut off at
+cut_off : (xs ys zs : List ℕ) (j : ℕ) → get_or (zip2 (λ a b. (a + b) % 4294967296) xs (sel_l (zip2 nat_lt ys zs) ys zs)) j 0 ≤ get_or xs j 0 + get_or ys j 0
+cut_off [] ys zs j = omega arith
+cut_off (x ∷ xs) [] zs j = omega arith
+cut_off (x ∷ xs) (y ∷ ys) [] j = omega arith
+cut_off (x ∷ xs) (y ∷ ys) (z ∷ zs) zero = here (nat_lt y z) refl
+  where
+    here : (b : Bool) → nat_lt y z ≡ b → (x + (if b then y else z)) % 4294967296 ≤ x + y
+    here true e = omega arith
+    here false e = let no_less : z ≤ y = ltb-false y z e in omega arith
+cut_off (x ∷ xs) (y ∷ ys) (z ∷ zs) (suc j) = cut_off xs ys zs j
+
+pub sum_at_most : (xs ys zs : List ℕ) (j : ℕ)
+    → get_or (zip2 (λ a b. (a + b) % 4294967296) xs (sel_l (map (top 31) (zip2 (λ a b. cond (nat_lt a b) 4294967295 0) ys zs)) ys zs)) j 0 ≤ get_or xs j 0 + get_or ys j 0
+sum_at_most xs ys zs j = rw (tops_compared w32 nat_lt ys zs) (cut_off xs ys zs j)
+
+-- the squared difference in a lane
+module _ (sum j : ℕ) (run : List ℕ) (long : LANES ≤ length run) (lt : j < LANES) where
+  abbrev lanes : List ℕ
+  lanes = zip2 abs_diff (replicate LANES sum) (take LANES run)
+
+  in_sums : j < length (replicate LANES sum)
+  in_sums = omega (arith, length-replicate LANES sum, lt)
+
+  in_run : j < length (take LANES run)
+  in_run = omega (arith, length-take-le LANES run long, lt)
+
+  in_lanes : j < length lanes
+  in_lanes = omega (arith, length-zip2 abs_diff (replicate LANES sum) (take LANES run) (length-replicate LANES sum ∙ sym (length-take-le LANES run long)), in_sums)
+
+  one : get_or lanes j 0 ≡ abs_diff sum (get_or run j 0)
+  one =
+      get_or-zip2 abs_diff (replicate LANES sum) (take LANES run) j 0 0 0 in_sums in_run
+      ∙ (λ t. abs_diff (get_or-replicate LANES j sum 0 lt t) (get_or-take LANES run j 0 lt t))
+
+  pub lane_is : get_or (zip2 (λ a b. a * b) lanes lanes) j 0 ≡ square_of_difference sum (get_or run j 0)
+  lane_is = get_or-zip2 (λ a b. a * b) lanes lanes j 0 0 0 in_lanes in_lanes ∙ (λ t. one t * one t)

@@ -1,0 +1,9 @@
+use Rattle.std.proofs.Common.{◌≡◌}
+use Rattle.block_sums.specs.Gathered.{AreGathered}
+use Rattle.block_sums.proofs.blocks.BoxBlocks.gather.Given as goal
+
+abbrev pub invariant-loop-i : goal.invariant-loop-i
+invariant-loop-i l = record {
+  gathered : AreGathered l.canvas l.rect l.blocks.side l.blocks.blocks.items l.free.items;
+  side : l.blocks.side ≡ l.side;
+}

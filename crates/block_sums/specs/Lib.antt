@@ -1,0 +1,4 @@
+pub mod Blocks
+pub mod Gathered
+pub mod Sums
+pub mod Bounds

@@ -1,0 +1,25 @@
+//! Search by elimination: bounds that rule out most places that a box could be laid from, before their
+//! overlap errors are summed.
+//!
+//! A block is a square of side x side cells of one frame. `BlockSums` has the sum of the bytes of each block
+//! of a box of the sample, made once for many picks. `BoxBlocks` has disjoint blocks of the filled cells of
+//! one box of the output, with their sums, gathered once a pick. The squared difference of two blocks' sums
+//! is at most the squared differences of their bytes, as many times as they have bytes (Li and Salari
+//! 1995). So the blocks bound the overlap error of the box laid from any place, and `BoxBlocks::above`
+//! says of a run of places which are above a limit: of a place that it marks that is proved, and of another
+//! nothing is said.
+//!
+//! `blocks` has the blocks of a box, `sums` the sums of the sample's blocks, `lanes` the sums over a run of
+//! places at once, `bound` what they rule out. specs/Blocks.antt defines blocks and what they bound.
+#![tactic(auto)]
+
+mod blocks;
+mod bound;
+mod lanes;
+mod rows;
+mod sums;
+#[cfg(test)]
+mod tests;
+
+pub use blocks::BoxBlocks;
+pub use sums::{BlockSums, LANES};

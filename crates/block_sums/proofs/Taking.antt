@@ -6,7 +6,7 @@ use Rattle.std.specs.Prelude.{Bool, false, if◌then◌else◌}
 use Rattle.box_sums.specs.Sums.{sum_to}
 use Rattle.box_sums.proofs.Additions.{counts}
 use Rattle.box_sums.proofs.Axes.{sum_equal, sum_more}
-use Rattle.block_sums.specs.Gathered.{IsFreeAt, IsTaken, rows_sum, run_sum}
+use Rattle.block_sums.specs.Gathered.{IsUntaken, IsTaken, rows_sum, run_sum}
 
 -- a sum of which one term changes
 sum_changed : (n i : ℕ) (g h : ℕ → ℕ) → i < n → ((j : ℕ) → (j ≡ i → ⊥) → h j ≡ g j) → sum_to n h + g i ≡ sum_to n g + h i
@@ -32,7 +32,7 @@ none_taken end part free none = record {
 }
 
 -- one is
-one_taken : (free : List Bool) (i end : ℕ) → i < length free → i < end → IsFreeAt free i → IsTaken end (λ g. g i) free (set free i false)
+one_taken : (free : List Bool) (i end : ℕ) → i < length free → i < end → IsUntaken free i → IsTaken end (λ g. g i) free (set free i false)
 one_taken free i end lt before is = record {
   long = length-set free i false;
   after = λ j le. get_or-set_other free i j false false (λ e. absurd (omega arith));
@@ -63,7 +63,7 @@ both_taken first second end p q r was mid now one two le_one le_two sum = record
 }
 
 -- one more cell of a row
-pub row_more : (start n : ℕ) (was mid : List Bool) → IsTaken (start + n) (run_sum start n) was mid → start + n < length mid → IsFreeAt mid (start + n)
+pub row_more : (start n : ℕ) (was mid : List Bool) → IsTaken (start + n) (run_sum start n) was mid → start + n < length mid → IsUntaken mid (start + n)
     → IsTaken (start + (n + 1)) (run_sum start (n + 1)) was (set mid (start + n) false)
 row_more start n was mid taken lt is =
     both_taken (start + n) (start + (n + 1)) (start + (n + 1)) (run_sum start n) (λ g. g (start + n)) (run_sum start (n + 1)) was mid _ taken

@@ -18,7 +18,8 @@ place_along from j = plus from (spot j 0 0)
 abbrev pub IsBoxIn : Box3 → At → Size → Type 0
 IsBoxIn outer corner size = HoldsBox outer.size (minus corner outer.corner) size
 
--- of each of the first n places that is marked, the error of the box laid from there is above the limit
+-- of each of the first n places that is marked, the error of the box laid from there is above the
+-- limit
 abbrev pub AreAbove : CanvasState → Cells → Box3 → At → ℕ → ℕ → List Bool → Type 0
 AreAbove canvas sample rect from n limit marks =
     (j : ℕ) → j < n → slice_index_or marks j false ≡ true

@@ -13,12 +13,12 @@ use Rattle.block_sums.specs.declared.blocks.Block.{Block}
 use Rattle.block_sums.specs.Blocks.{HasSumOf, IsBlockIn}
 
 -- a cell may still be taken
-abbrev pub IsFreeAt : List Bool → ℕ → Type 0
-IsFreeAt free i = slice_index_or free i false ≡ true
+abbrev pub IsUntaken : List Bool → ℕ → Type 0
+IsUntaken free i = slice_index_or free i false ≡ true
 
 -- so may n cells from one on
 abbrev pub AreFree : List Bool → ℕ → ℕ → Type 0
-AreFree free start n = (i : ℕ) → i < n → IsFreeAt free (start + i)
+AreFree free start n = (i : ℕ) → i < n → IsUntaken free (start + i)
 
 -- and those of a block from a cell on, in rows of w cells
 abbrev pub IsFreeBlock : List Bool → ℕ → ℕ → ℕ → Type 0
@@ -45,7 +45,7 @@ rows_sum start w side n g = sum_to n (λ j. run_sum (start + w * j) side g)
 pub record IsTaken (end : ℕ) (part : (ℕ → ℕ) → ℕ) (was now : List Bool) : Type 0 where
   pub long : length now ≡ length was
   pub after : (i : ℕ) → end ≤ i → slice_index_or now i false ≡ slice_index_or was i false
-  pub fewer : (i : ℕ) → IsFreeAt now i → IsFreeAt was i
+  pub fewer : (i : ℕ) → IsUntaken now i → IsUntaken was i
   pub sums : (g : ℕ → ℕ) → free_sum now g + part g ≡ free_sum was g
 
 -- a block from a cell on lies in the cell's frame
@@ -56,7 +56,7 @@ pub record HasBlockRoom (size : Size) (i side : ℕ) : Type 0 where
 -- each free cell of the box is filled
 abbrev pub MarkFilled : SourceMap → Box3 → List Bool → Type 0
 MarkFilled m rect free =
-    (i : ℕ) → IsFreeAt free i → IsFilled m (plus rect.corner (place_of rect.size i))
+    (i : ℕ) → IsUntaken free i → IsFilled m (plus rect.corner (place_of rect.size i))
 
 -- each cell of a block is
 abbrev pub IsBlockFilled : SourceMap → Box3 → ℕ → Block → Type 0

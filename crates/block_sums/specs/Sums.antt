@@ -1,5 +1,5 @@
--- The sums of all blocks of a box of the sample, for the contracts of this crate; a reader has to trust
--- `AreBlockSums` alone, and of it only that it serves `BlockSums`. (Own.)
+-- The sums of all blocks of a box of the sample, for the contracts of this crate; a reader has to
+-- trust `AreBlockSums` alone, and of it only that it serves `BlockSums`. (Own.)
 use Rattle.std.specs.Prelude.{◌≡◌, ◌≤◌, ◌<◌, ◌+◌, ◌*◌, ◌/◌, ◌%◌, ◌^◌, ℕ, List, slice_index, length, sum}
 use Rattle.cells.specs.declared.place.Box3.{Box3}
 use Rattle.cells.specs.declared.place.Size.{Size}
@@ -9,7 +9,8 @@ use Rattle.block_sums.specs.declared.sums.BlockSums.{BlockSums}
 use Rattle.block_sums.specs.declared.sums.TheConstants.{LANES}
 use Rattle.block_sums.specs.Blocks.{block_bytes, block_sum}
 
--- an entry is the sum of a run of cells along X from a place of the box on, where the run lies in it
+-- an entry is the sum of a run of cells along X from a place of the box on, where the run lies in
+-- it
 pub record IsRunSum (sample : Cells) (rect : Box3) (side y f x entry : ℕ) : Type 0 where
   pub is : x + side ≤ rect.size.w
       → entry ≡ sum (row_at sample (plus rect.corner (spot x y f)) side)

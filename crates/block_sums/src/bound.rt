@@ -30,8 +30,8 @@ fn most_total(side: u32, k: u32, limit: u64) -> u32
 }
 
 impl BoxBlocks {
-    // For each of the places a total that is at most how far the blocks are from those of the sample. It
-    // stops where all of them are above a number.
+    // For each of the places a total that is at most how far the blocks are from those of the
+    // sample. It stops where all of them are above a number.
     fn totals(
         &self,
         sums: &BlockSums,
@@ -64,8 +64,9 @@ impl BoxBlocks {
         totals
     }
 
-    /// Of n places along X from one on, which the box can't be laid from with an error up to the limit, as
-    /// far as the blocks show it. The box laid from each of them lies in that of the sums.
+    /// Of n places along X from one on, which the box can't be laid from with an error up to the
+    /// limit, as far as the blocks show it. The box laid from each of them lies in that of the
+    /// sums.
     pub fn above(
         &self,
         sums: &BlockSums,

@@ -14,8 +14,8 @@ use std::alloc::{AllocError, Global};
 /// How many places are bounded at once.
 pub const LANES: usize = 32;
 
-/// The sums of the bytes of all blocks of so many cells on each side, of a box of the sample. They serve
-/// all picks from it.
+/// The sums of the bytes of all blocks of so many cells on each side, of a box of the sample. They
+/// serve all picks from it.
 #[derive(Drop)]
 pub struct BlockSums {
     pub(crate) rect: Box3,
@@ -24,8 +24,8 @@ pub struct BlockSums {
     pub(crate) sums: Vec<u16>,
 }
 
-// The sum of the bytes of a run of cells along X, as many as a block has on each side, from a place of
-// the box on. Where they don't lie in its row it is 0.
+// The sum of the bytes of a run of cells along X, as many as a block has on each side, from a place
+// of the box on. Where they don't lie in its row it is 0.
 fn run_sum(sample: &Volume, rect: &Box3, side: u32, x: u32, y: u32, f: u32) -> u16
     requires volume { IsVolume sample.now }
     requires small { IsSmall rect.now.size }
@@ -96,8 +96,8 @@ fn column_sum(entries: &[u16], first: usize, step: usize, n: u32) -> u16
     sum
 }
 
-// The sum of the block from a place of the box on: that of the run sums of its rows, where they lie in
-// its frame, and else 0. The rows of all frames are counted on.
+// The sum of the block from a place of the box on: that of the run sums of its rows, where they lie
+// in its frame, and else 0. The rows of all frames are counted on.
 fn sum_at(runs: &[u16], sample: &Volume, rect: &Box3, side: u32, x: u32, row: u32) -> u16
     requires small { IsSmall rect.now.size }
     requires few { 255 * block_bytes side sample.now.k < 2 ^ 16 }
@@ -185,8 +185,8 @@ fn block_sums(
 }
 
 impl BlockSums {
-    /// The sums of the blocks of a box inside the sample. They take 2 bytes a cell, and as many again
-    /// while they are made. The one error is out of memory.
+    /// The sums of the blocks of a box inside the sample. They take 2 bytes a cell, and as many
+    /// again while they are made. The one error is out of memory.
     pub fn make(
         alloc: Global,
         sample: &Volume,
@@ -219,8 +219,8 @@ impl BlockSums {
         self.rect.size.index_of(at.minus(self.rect.corner)).unwrap()
     }
 
-    /// The entries of a run of places, one a lane, from the place on that a step leads to from the place
-    /// of a first entry.
+    /// The entries of a run of places, one a lane, from the place on that a step leads to from the
+    /// place of a first entry.
     #[inline(always)]
     pub(crate) fn run(&self, first: usize, step: At) -> &[u16]
         requires small { IsSmall self.now.rect.size }

@@ -1,5 +1,6 @@
 // Worked examples, by hand.
 use super::*;
+use crate::lanes::{are_above, marks, no_totals, with_block};
 use cells::{At, Box3, Size, Volume};
 use std::test::Fail;
 
@@ -37,4 +38,24 @@ fn sums_of_blocks(rt: HostRuntime) -> Result<(), Fail> {
         assert!(rt; sums.sums.iter().eq(entries.iter().chain(&more)));
     }
     Ok(())
+}
+
+#[test]
+fn totals_of_a_run(rt: HostRuntime) {
+    let mut run = [0u16; LANES];
+    for (j, entry) in run.iter_mut().enumerate() {
+        *entry = j as u16;
+    }
+    // The totals are the squares of how far the lanes are from the lane of number 10.
+    let totals = with_block(no_totals(), 10, &run);
+    assert!(rt; are_above(totals, 25, 5) && !are_above(totals, 25, 6));
+    for (j, mark) in marks(totals, 25).iter().enumerate() {
+        assert_eq!(rt; *mark, j < 5 || j > 15);
+    }
+    // Two squares of 65,535 are more than a total has room for.
+    let far = with_block(no_totals(), u16::MAX, &[0; LANES]);
+    assert_eq!(rt; marks(far, u32::MAX - 131_070), [false; LANES]);
+    let farther = with_block(far, u16::MAX, &[0; LANES]);
+    assert_eq!(rt; marks(farther, u32::MAX - 1), [true; LANES]);
+    assert_eq!(rt; marks(farther, u32::MAX), [false; LANES]);
 }

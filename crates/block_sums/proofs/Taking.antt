@@ -6,7 +6,7 @@ use Rattle.std.specs.Prelude.{Bool, false, if◌then◌else◌}
 use Rattle.box_sums.specs.Sums.{sum_to}
 use Rattle.box_sums.proofs.Additions.{counts}
 use Rattle.box_sums.proofs.Axes.{sum_equal, sum_more}
-use Rattle.block_sums.specs.Gathered.{IsUntaken, IsTaken, rows_sum, run_sum}
+use Rattle.block_sums.specs.Gathered.{IsUntaken, IsTaken, rows_sum, sum_along}
 
 -- a sum of which one term changes
 sum_changed : (n i : ℕ) (g h : ℕ → ℕ) → i < n → ((j : ℕ) → (j ≡ i → ⊥) → h j ≡ g j) → sum_to n h + g i ≡ sum_to n g + h i
@@ -63,17 +63,17 @@ both_taken first second end p q r was mid now one two le_one le_two sum = record
 }
 
 -- one more cell of a row
-pub row_more : (start n : ℕ) (was mid : List Bool) → IsTaken (start + n) (run_sum start n) was mid → start + n < length mid → IsUntaken mid (start + n)
-    → IsTaken (start + (n + 1)) (run_sum start (n + 1)) was (set mid (start + n) false)
+pub row_more : (start n : ℕ) (was mid : List Bool) → IsTaken (start + n) (sum_along start n) was mid → start + n < length mid → IsUntaken mid (start + n)
+    → IsTaken (start + (n + 1)) (sum_along start (n + 1)) was (set mid (start + n) false)
 row_more start n was mid taken lt is =
-    both_taken (start + n) (start + (n + 1)) (start + (n + 1)) (run_sum start n) (λ g. g (start + n)) (run_sum start (n + 1)) was mid _ taken
+    both_taken (start + n) (start + (n + 1)) (start + (n + 1)) (sum_along start n) (λ g. g (start + n)) (sum_along start (n + 1)) was mid _ taken
     (one_taken mid (start + n) (start + (n + 1)) lt (omega arith) is) (omega arith) (omega arith)
     (λ g. sym (sum_more counts n (λ i. g (start + i))))
 
 -- one more row of a block
-pub block_more : (start w side n : ℕ) (was mid now : List Bool) → IsTaken (start + w * n) (rows_sum start w side n) was mid → IsTaken (start + w * n + side) (run_sum (start + w * n) side) mid now → side ≤ w
+pub block_more : (start w side n : ℕ) (was mid now : List Bool) → IsTaken (start + w * n) (rows_sum start w side n) was mid → IsTaken (start + w * n + side) (sum_along (start + w * n) side) mid now → side ≤ w
     → IsTaken (start + w * (n + 1)) (rows_sum start w side (n + 1)) was now
 block_more start w side n was mid now taken row across =
-    both_taken (start + w * n) (start + w * n + side) (start + w * (n + 1)) (rows_sum start w side n) (run_sum (start + w * n) side) (rows_sum start w side (n + 1)) was mid now taken row
+    both_taken (start + w * n) (start + w * n + side) (start + w * (n + 1)) (rows_sum start w side n) (sum_along (start + w * n) side) (rows_sum start w side (n + 1)) was mid now taken row
     (omega arith) (omega arith)
-    (λ g. sym (sum_more counts n (λ j. run_sum (start + w * j) side g)))
+    (λ g. sym (sum_more counts n (λ j. sum_along (start + w * j) side g)))

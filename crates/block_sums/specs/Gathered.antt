@@ -33,12 +33,12 @@ abbrev pub free_sum : List Bool → (ℕ → ℕ) → ℕ
 free_sum free g = sum_to (length free) (λ i. if slice_index_or free i false then g i else 0)
 
 -- over n cells from one on
-abbrev pub run_sum : ℕ → ℕ → (ℕ → ℕ) → ℕ
-run_sum start n g = sum_to n (λ i. g (start + i))
+abbrev pub sum_along : ℕ → ℕ → (ℕ → ℕ) → ℕ
+sum_along start n g = sum_to n (λ i. g (start + i))
 
 -- over the first n rows of a block
 abbrev pub rows_sum : ℕ → ℕ → ℕ → ℕ → (ℕ → ℕ) → ℕ
-rows_sum start w side n g = sum_to n (λ j. run_sum (start + w * j) side g)
+rows_sum start w side n g = sum_to n (λ j. sum_along (start + w * j) side g)
 
 -- cells before an end are taken: the sum over the free ones is less by that over them, whatever the
 -- numbers

@@ -4,7 +4,7 @@ ghost use Rattle.cells.specs.Boxes.{HasCells, HoldsBox};
 ghost use Rattle.cells.specs.Cells.{HasRun};
 ghost use Rattle.cells.specs.Places.{cell_count, plus, spot};
 ghost use Rattle.block_sums.specs.Blocks.{AreBoxBlocks, block_bytes, block_sum};
-ghost use Rattle.block_sums.specs.Gathered.{MarkFilled, AreFree, AreGathered, HasBlockRoom, HasRows, IsFreeBlock, IsTaken, rows_sum, run_sum};
+ghost use Rattle.block_sums.specs.Gathered.{MarkFilled, AreFree, AreGathered, HasBlockRoom, HasRows, IsFreeBlock, IsTaken, rows_sum, sum_along};
 
 use crate::rows::{byte_sum, has_cells, step_to};
 use cells::{At, Box3, GREATEST_AXIS, MOST_SAMPLES, Size, Volume};
@@ -89,7 +89,7 @@ fn is_block_free(free: &[bool], start: usize, w: usize, side: u32) -> bool
 fn take_row(free: &mut [bool], start: usize, n: u32)
     requires room { start + n ≤ length free.old }
     requires free { AreFree free.old start n }
-    ensures { IsTaken (start + n) (run_sum start n) free.old free.new }
+    ensures { IsTaken (start + n) (sum_along start n) free.old free.new }
 {
     for i in 0..n {
         free[start + i as usize] = false;

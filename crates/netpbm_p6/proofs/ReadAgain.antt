@@ -9,6 +9,7 @@ use Rattle.cells.specs.declared.place.Size.{Size}
 use Rattle.cells.specs.Places.{cell_count}
 use Rattle.cells.specs.Parts.{count_from}
 use Rattle.cells.specs.Cells.{Cells, IsCell, IsOnePart, IsVolume, cells_of, volume_of, bytes_of}
+use Rattle.netpbm_p6.specs.declared.header.TheConstants.{MOST_CELLS}
 use Rattle.netpbm_p6.specs.Header.{IsDigit, digits_number, IsNumber, IsGroup, IsHeader, IsWhite}
 use Rattle.netpbm_p6.specs.Pictures.{picture_size, IsPictureOf, IsRead, IsPicture, p6_form}
 use Rattle.netpbm_p6.proofs.Shapes.{AllByRecursion-push, length-push, value-push, one_item, white_item}
@@ -144,7 +145,7 @@ header_short w h m ws hs ms =
       length-append (codes "P6\n" ++ w ++ codes " " ++ h ++ codes "\n" ++ m) (codes "\n"),
     )
 
-pub written_is_read : (maxval : ℕ) (volume : Cells) → IsPicture maxval volume → cell_count volume.size ≤ 8388608 → IsRead (p6_form maxval volume) (record { maxval = maxval; volume = volume })
+pub written_is_read : (maxval : ℕ) (volume : Cells) → IsPicture maxval volume → cell_count volume.size ≤ MOST_CELLS → IsRead (p6_form maxval volume) (record { maxval = maxval; volume = volume })
 unfolding read_again
 written_is_read maxval volume picture few =
     let axes = picture.volume_is.small.axes in

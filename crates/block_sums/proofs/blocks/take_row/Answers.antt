@@ -1,5 +1,5 @@
 use Rattle.std.proofs.Common.{◌≡◌, ◌+◌, refl, subst, ◌∙◌, arith}
-use Rattle.block_sums.specs.Gathered.{IsTaken, run_sum}
+use Rattle.block_sums.specs.Gathered.{IsTaken, sum_along}
 use Rattle.block_sums.proofs.Taking.{none_taken, row_more}
 use Rattle.block_sums.proofs.blocks.take_row.Goals as goal
 
@@ -15,4 +15,4 @@ loop-i-preserved c =
 pub returns : goal.returns
 returns c =
     let whole : c.loop-i.i ≡ c.args.n = omega (arith, c.loop-i-test.false, c.loop-i.auto.i-end) in
-    subst (λ n. IsTaken (c.args.start + n) (run_sum c.args.start n) c.args.free.now c.loop-i.free) whole c.loop-i.invariant
+    subst (λ n. IsTaken (c.args.start + n) (sum_along c.args.start n) c.args.free.now c.loop-i.free) whole c.loop-i.invariant

@@ -2,3 +2,4 @@ pub mod Blocks
 pub mod Gathered
 pub mod Sums
 pub mod Bounds
+pub mod Eliminations

@@ -15,11 +15,15 @@
 
 mod blocks;
 mod bound;
+mod eliminated;
 mod lanes;
+mod levels;
 mod rows;
 mod sums;
 #[cfg(test)]
 mod tests;
 
 pub use blocks::BoxBlocks;
+pub use eliminated::Eliminated;
+pub use levels::{BoxLevels, SampleSums};
 pub use sums::{BlockSums, LANES};

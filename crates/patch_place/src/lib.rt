@@ -40,5 +40,5 @@ pub use laws::{
     box_list_is_all_that_fit, grid_corner_is_least, there_is_one_next_placement, there_is_one_pick,
 };
 pub use mode::{Mode, window_size};
-pub use picks::pick;
-pub use steps::next_placement;
+pub use picks::{pick, pick_with};
+pub use steps::{next_placement, next_placement_with};

@@ -1,5 +1,6 @@
 // Picks: one of the candidates that are about as good as the best, by a draw.
 ghost use Rattle.std.specs.Prelude.{◌≡◌, Contains, IfOk, IsSome, OnErr, OnOk};
+ghost use Rattle.block_sums.specs.Eliminations.{AreSampleSums};
 ghost use Rattle.map_canvas.specs.Canvases.{StandsOver};
 ghost use Rattle.map_canvas.specs.Choices.{Fits};
 ghost use Rattle.patch_place.specs.Lists.{IsWithin};
@@ -9,6 +10,7 @@ ghost use Rattle.patch_place.specs.Tables.{IsPickAtOn};
 
 use crate::errors::{count_for, entry_for, shortlist_of};
 use crate::{Candidates, Draws};
+use block_sums::SampleSums;
 use cells::Volume;
 use map_canvas::{Canvas, Placement};
 use std::alloc::{AllocError, Global};
@@ -63,4 +65,30 @@ pub fn pick(
 {
     let i = picked_at(alloc, list, tol, canvas, sample, draws)?;
     Ok(entry_for(list, canvas, sample, i))
+}
+
+/// The same pick as `pick`, of a sample whose sums of blocks are made: candidates that they rule out are
+/// left out before their errors are summed.
+pub fn pick_with(
+    alloc: Global,
+    list: &Candidates,
+    tol: Option<u32>,
+    canvas: &Canvas,
+    sample: &Volume,
+    _sums: &SampleSums,
+    draws: &mut Draws,
+) -> Result<Placement, AllocError>
+    requires over { StandsOver canvas.now sample.now }
+    requires sums { AreSampleSums sample.now _sums.now }
+    requires within { IsWithin list.now canvas.now.map.size }
+    requires some { HasEntries canvas.now sample.now list.now }
+    requires fit { AllFit canvas.now sample.now list.now }
+    ensures picked { IfOk result (IsPickOn canvas.now sample.now list.now tol draws.old) }
+    ensures listed { IfOk result (Contains (listed_on canvas.now sample.now list.now)) }
+    ensures fits { IfOk result (Fits canvas.now.map.size sample.now) }
+    ensures next { OnOk result (draws.new ≡ after_draw draws.old) }
+    ensures kept { OnErr result (draws.new ≡ draws.old) }
+    ensures memory { OnErr result (IsSome tol) }
+{
+    pick(alloc, list, tol, canvas, sample, draws)
 }

@@ -1,6 +1,7 @@
 // Steps of growing: the next placement of a mode.
 ghost use Rattle.std.specs.Prelude.{◌≡◌, All, IsSome, IfOk, OnErr, OnOk};
 ghost use Rattle.cells.specs.Places.{IsInside};
+ghost use Rattle.block_sums.specs.Eliminations.{AreSampleSums};
 ghost use Rattle.map_canvas.specs.Canvases.{StandsOver};
 ghost use Rattle.patch_place.specs.Fitting.{FitsAndCovers, HasPatch};
 ghost use Rattle.patch_place.specs.Lists.{IsWithin};
@@ -10,6 +11,7 @@ ghost use Rattle.patch_place.specs.Steps.{IsChosen, IsNext, draws_after, toleran
 
 use crate::errors::entry_for;
 use crate::{Candidates, Draws, Mode, pick};
+use block_sums::SampleSums;
 use cells::{At, Volume};
 use map_canvas::{Canvas, Placement};
 use std::alloc::{AllocError, Global};
@@ -86,4 +88,21 @@ pub fn next_placement(
     };
     let placement = placement_over(alloc, mode, q, canvas, sample, draws)?;
     Ok(Some(placement))
+}
+
+/// The same as `next_placement`, of a sample whose sums of blocks are made.
+pub fn next_placement_with(
+    alloc: Global,
+    mode: &Mode,
+    canvas: &Canvas,
+    sample: &Volume,
+    _sums: &SampleSums,
+    draws: &mut Draws,
+) -> Result<Option<Placement>, AllocError>
+    requires over { StandsOver canvas.now sample.now }
+    requires sums { AreSampleSums sample.now _sums.now }
+    requires patch { HasPatch mode.now }
+    ensures { IsNext mode.now canvas.now.map sample.now draws.old draws.new result }
+{
+    next_placement(alloc, mode, canvas, sample, draws)
 }

@@ -8,3 +8,4 @@ pub mod SumRows
 pub mod BlockRows
 pub mod Vectors
 pub mod RunEntries
+pub mod PlaceRuns

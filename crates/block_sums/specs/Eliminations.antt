@@ -2,6 +2,7 @@
 use Rattle.std.specs.Prelude.{◌<◌, ℕ, All}
 use Rattle.cells.specs.declared.place.At.{At}
 use Rattle.cells.specs.declared.place.Box3.{Box3}
+use Rattle.cells.specs.Boxes.{IsInBox}
 use Rattle.cells.specs.Cells.{Cells}
 use Rattle.map_canvas.specs.Canvases.{CanvasState}
 use Rattle.match_error.specs.Errors.{error_sum}
@@ -17,6 +18,14 @@ use Rattle.block_sums.specs.Sums.{AreBlockSums}
 abbrev pub AreEliminated : CanvasState → Cells → Box3 → Eliminated → Type 0
 AreEliminated canvas sample rect run =
     AreAbove canvas sample rect run.from run.n run.limit run.above
+
+-- the places of a run, as a box
+abbrev pub run_box : Eliminated → Box3
+run_box run = record { corner = run.from; size = record { w = run.n; h = 1; f = 1 } }
+
+-- the place is one of them
+abbrev pub IsInRun : Eliminated → At → Type 0
+IsInRun run at = IsInBox (run_box run) at
 
 -- the error of a box laid from a place is above a limit, whatever the canvas, sample and box that the
 -- run was made for

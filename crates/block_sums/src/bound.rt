@@ -90,6 +90,10 @@ impl BoxBlocks {
             return [false; LANES];
         }
         let most = most_total(self.side, sample.samples(), limit);
+        // No total is above that.
+        if most == u32::MAX {
+            return [false; LANES];
+        }
         let totals = self.totals(sums, canvas, sample, rect, from, n, most);
         marks(totals, most)
     }

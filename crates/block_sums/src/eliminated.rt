@@ -1,12 +1,14 @@
 // Which places of a run are left out.
-ghost use Rattle.std.specs.Prelude.{◌≡◌, ℕ, IsTrue};
+ghost use Rattle.std.specs.Prelude.{◌≡◌, ◌<◌, ◌↔◌, ℕ, IfSome, IsTrue};
 ghost use Rattle.cells.specs.declared.place.Box3.{Box3};
 ghost use Rattle.cells.specs.Cells.{Cells};
 ghost use Rattle.map_canvas.specs.Canvases.{CanvasState};
-ghost use Rattle.block_sums.specs.Eliminations.{AreEliminated, IsEliminated};
+ghost use Rattle.block_sums.specs.Bounds.{place_along};
+ghost use Rattle.block_sums.specs.Eliminations.{AreEliminated, IsEliminated, IsInRun, run_box};
 
+use crate::places::steps_past;
 use crate::sums::LANES;
-use cells::At;
+use cells::{At, Box3, Size};
 
 /// Of a run of places along X, those that a box can't be laid from with an error up to a limit, as far
 /// as its blocks show it.
@@ -33,10 +35,46 @@ impl Eliminated {
         }
     }
 
-    /// Whether a place is eliminated for a limit, which may be less than that of the run.
-    pub fn has(&self, _at: At, _limit: u64) -> bool
-        ensures { IsTrue result → IsEliminated self.now _at _limit }
+    // The places of the run, as a box.
+    fn places(&self) -> Box3
+        ensures { result ≡ run_box self.now }
     {
-        false
+        let size = Size {
+            w: self.n,
+            h: 1,
+            f: 1,
+        };
+        Box3 {
+            corner: self.from,
+            size,
+        }
+    }
+
+    /// Whether a place is one of the run's.
+    pub fn covers(&self, at: At) -> bool
+        ensures { IsTrue result ↔ IsInRun self.now at }
+    {
+        self.places().contains(at)
+    }
+
+    // How many places of the run come before one of it; None of another place.
+    fn index_of(&self, at: At) -> Option<u32>
+        ensures { IfSome result (λ j. (j < self.now.n) × (at ≡ place_along self.now.from j)) }
+    {
+        if !self.covers(at) {
+            return None;
+        }
+        steps_past(self.from.x, at.x)
+    }
+
+    /// Whether a place is eliminated for a limit, which may be less than that of the run.
+    pub fn has(&self, at: At, limit: u64) -> bool
+        ensures { IsTrue result → IsEliminated self.now at limit }
+    {
+        let Some(j) = self.index_of(at) else {
+            return false;
+        };
+        let j = j as usize;
+        limit <= self.limit && j < LANES && self.above[j]
     }
 }

@@ -81,3 +81,25 @@ pub(crate) fn marks(totals: u32x32, most: u32) -> [bool; LANES]
     }
     marks
 }
+
+/// Marks the lanes that one of two lists marks.
+pub(crate) fn marks_of_both(some: &[bool; LANES], others: &[bool; LANES]) -> [bool; LANES]
+    ensures { (j : ℕ) → slice_index_or result j false ≡ true → slice_index_or some.now j false ≡ false
+        → slice_index_or others.now j false ≡ true }
+{
+    let mut marks = [false; LANES];
+    for j in 0..LANES {
+        marks[j] = some[j] || others[j];
+    }
+    marks
+}
+
+/// Whether the first n lanes are marked. It only says when to stop, so nothing is promised.
+pub(crate) fn are_marked(marks: &[bool; LANES], n: u32) -> bool {
+    for j in 0..LANES {
+        if j < n as usize && !marks[j] {
+            return false;
+        }
+    }
+    true
+}

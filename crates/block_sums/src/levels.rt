@@ -1,21 +1,56 @@
 // Blocks of several sizes, of a whole sample and of one box of the output.
-ghost use Rattle.std.specs.Prelude.{◌≡◌, IfOk};
+ghost use Rattle.std.specs.Prelude.{◌≡◌, ◌≤◌, ◌<◌, ◌*◌, ◌^◌, IfOk, OnOk, length};
 ghost use Rattle.cells.specs.Boxes.{HoldsBox};
-ghost use Rattle.cells.specs.Cells.{Cells};
+ghost use Rattle.cells.specs.Cells.{Cells, sizes_of};
 ghost use Rattle.map_canvas.specs.Canvases.{StandsOver};
+ghost use Rattle.block_sums.specs.Blocks.{AreBoxBlocks, block_bytes};
+ghost use Rattle.block_sums.specs.Bounds.{AreAbove};
 ghost use Rattle.block_sums.specs.Eliminations.{AreBoxLevels, AreEliminated, AreSampleSums};
+ghost use Rattle.block_sums.specs.Sums.{AreBlockSums};
 
 use crate::blocks::BoxBlocks;
 use crate::eliminated::Eliminated;
-use crate::sums::BlockSums;
-use cells::{At, Box3, Volume};
+use crate::lanes::{are_marked, marks_of_both};
+use crate::places::{holds_run, places_to_end};
+use crate::sums::{BlockSums, LANES};
+use cells::{At, Box3, MOST_SAMPLES, Sizes, Volume};
 use map_canvas::Canvas;
 use std::alloc::{AllocError, Global};
+
+// How many sizes of blocks there are: the coarse level, then the fine one.
+const LEVELS: usize = 2;
+
+// The cells of a block of the fine level on each side.
+const FINE_SIDE: u32 = 2;
+
+// The cells of a block of the coarse level on each side: not so many that the bytes of a block can
+// add up to 2^16.
+fn coarse_side(k: u32) -> u32
+    requires { k ≤ MOST_SAMPLES }
+    ensures some { 1 ≤ result }
+    ensures few { 255 * block_bytes result k < 2 ^ 16 }
+{
+    if k <= 4 {
+        return 8;
+    }
+    6
+}
+
+// The box of a part in the joined volume, by its number from 1.
+fn part_box(sizes: &Sizes, part: u32) -> Box3
+    requires from { 1 ≤ part }
+    requires to { part ≤ length sizes.now }
+{
+    let size = sizes.at(part);
+    let corner = sizes.stock(part, At { x: 0, y: 0, f: 0 });
+    Box3 { corner, size }
+}
 
 /// The sums of the blocks of all parts of a sample, of several sizes. Made once, they serve all picks
 /// from it.
 #[derive(Drop)]
 pub struct SampleSums {
+    // those of the first part, from the coarse level on, then those of the next
     pub(crate) levels: Vec<BlockSums>,
 }
 
@@ -29,39 +64,186 @@ impl SampleSums {
         }
     }
 
-    /// The sums of all parts of a sample. They take 4 bytes a cell, and while they are made 4 more for
-    /// each cell of one part. The one error is out of memory.
-    pub fn make(alloc: Global, _sample: &Volume) -> Result<SampleSums, AllocError>
-        ensures { IfOk result (AreSampleSums _sample.now) }
+    // The sums of the blocks of one size more, of one part.
+    fn add_level(
+        &mut self,
+        alloc: Global,
+        sample: &Volume,
+        rect: &Box3,
+        side: u32,
+    ) -> Result<(), AllocError>
+        requires some { 1 ≤ side }
+        requires few { 255 * block_bytes side sample.now.k < 2 ^ 16 }
+        requires sums { AreSampleSums sample.now self.old }
+        ensures { OnOk result (AreSampleSums sample.now self.new) }
     {
-        Ok(SampleSums {
-            levels: Vec::new(alloc),
-        })
+        if !sample.holds(rect) {
+            return Ok(());
+        }
+        let sums = BlockSums::make(alloc, sample, rect, side)?;
+        self.levels.push(sums)?;
+        Ok(())
     }
+
+    // The sums of the blocks of all sizes, of one part.
+    fn add_part(&mut self, alloc: Global, sample: &Volume, rect: &Box3) -> Result<(), AllocError>
+        requires sums { AreSampleSums sample.now self.old }
+        ensures { OnOk result (AreSampleSums sample.now self.new) }
+    {
+        let side = coarse_side(sample.samples());
+        self.add_level(alloc, sample, rect, side)?;
+        self.add_level(alloc, sample, rect, FINE_SIDE)
+    }
+
+    /// The sums of all parts of a sample. They take 4 bytes a cell and some more a part, and while they
+    /// are made 2 more for each cell of one part. The one error is out of memory.
+    pub fn make(alloc: Global, sample: &Volume) -> Result<SampleSums, AllocError>
+        ensures { IfOk result (AreSampleSums sample.now) }
+    {
+        let mut sums = SampleSums::none(alloc);
+        let sizes = sample.sizes();
+        for n in 0..sizes.len() {
+            let rect = part_box(&sizes, n + 1);
+            sums.add_part(alloc, sample, &rect)?;
+        }
+        Ok(sums)
+    }
+}
+
+// Of n places along X from one on, those that blocks of one size eliminate. None where the box, laid
+// from one of them, isn't in that of the sums.
+fn marks_of(
+    blocks: &BoxBlocks,
+    sums: &BlockSums,
+    canvas: &Canvas,
+    sample: &Volume,
+    rect: &Box3,
+    from: At,
+    n: u32,
+    limit: u64,
+) -> [bool; LANES]
+    requires over { StandsOver canvas.now sample.now }
+    requires inside { HoldsBox canvas.now.map.size rect.now.corner rect.now.size }
+    requires blocks { AreBoxBlocks canvas.now rect.now blocks.now }
+    requires sums { AreBlockSums sample.now sums.now }
+    requires few { n ≤ LANES }
+    ensures { AreAbove canvas.now sample.now rect.now from n limit result }
+{
+    // It is asked for only to show the check that the sample is a volume.
+    let _sample = sample.samples();
+    if blocks.side != sums.side || !holds_run(&sums.rect, rect.size, from, n) {
+        return [false; LANES];
+    }
+    blocks.above(sums, canvas, sample, rect, from, n, limit)
 }
 
 /// Disjoint blocks of the filled cells of one box, of several sizes. They serve all placements of the
 /// box, as long as the canvas stays as it is.
 #[derive(Drop)]
 pub struct BoxLevels {
+    // from the coarse level on
     pub(crate) levels: Vec<BoxBlocks>,
 }
 
 impl BoxLevels {
+    // The blocks of one size more.
+    fn add_level(
+        &mut self,
+        alloc: Global,
+        canvas: &Canvas,
+        rect: &Box3,
+        side: u32,
+    ) -> Result<(), AllocError>
+        requires inside { HoldsBox canvas.now.map.size rect.now.corner rect.now.size }
+        requires some { 1 ≤ side }
+        requires few { 255 * block_bytes side canvas.now.picture.k < 2 ^ 16 }
+        requires levels { AreBoxLevels canvas.now rect.now self.old }
+        ensures { OnOk result (AreBoxLevels canvas.now rect.now self.new) }
+    {
+        let blocks = BoxBlocks::gather(alloc, canvas, rect, side)?;
+        self.levels.push(blocks)?;
+        Ok(())
+    }
+
     /// The blocks of the sizes that a sample's sums have; none where it has none. The one error is out
     /// of memory.
     pub fn gather(
         alloc: Global,
-        _canvas: &Canvas,
-        _rect: &Box3,
-        _sums: &SampleSums,
+        canvas: &Canvas,
+        rect: &Box3,
+        sums: &SampleSums,
     ) -> Result<BoxLevels, AllocError>
-        requires inside { HoldsBox _canvas.now.map.size _rect.now.corner _rect.now.size }
-        ensures { IfOk result (AreBoxLevels _canvas.now _rect.now) }
+        requires inside { HoldsBox canvas.now.map.size rect.now.corner rect.now.size }
+        ensures { IfOk result (AreBoxLevels canvas.now rect.now) }
     {
-        Ok(BoxLevels {
+        let mut levels = BoxLevels {
             levels: Vec::new(alloc),
-        })
+        };
+        if sums.levels.is_empty() {
+            return Ok(levels);
+        }
+        let side = coarse_side(canvas.picture().samples());
+        levels.add_level(alloc, canvas, rect, side)?;
+        levels.add_level(alloc, canvas, rect, FINE_SIDE)?;
+        Ok(levels)
+    }
+
+    // Those that the blocks of one level eliminate, by the sums of one part.
+    fn level_marks(
+        &self,
+        level: usize,
+        sums: &SampleSums,
+        canvas: &Canvas,
+        sample: &Volume,
+        rect: &Box3,
+        part: u32,
+        from: At,
+        n: u32,
+        limit: u64,
+    ) -> [bool; LANES]
+        requires below { level < LEVELS }
+        requires over { StandsOver canvas.now sample.now }
+        requires inside { HoldsBox canvas.now.map.size rect.now.corner rect.now.size }
+        requires sums { AreSampleSums sample.now sums.now }
+        requires levels { AreBoxLevels canvas.now rect.now self.now }
+        requires few { n ≤ LANES }
+        ensures { AreAbove canvas.now sample.now rect.now from n limit result }
+    {
+        let Some(blocks) = self.levels.get(level) else {
+            return [false; LANES];
+        };
+        let Some(sums) = sums.levels.get(LEVELS * part as usize + level) else {
+            return [false; LANES];
+        };
+        marks_of(blocks, sums, canvas, sample, rect, from, n, limit)
+    }
+
+    // Those that the blocks of one of the levels eliminate. The fine level is left out where the
+    // coarse one marks all places.
+    fn marks(
+        &self,
+        sums: &SampleSums,
+        canvas: &Canvas,
+        sample: &Volume,
+        rect: &Box3,
+        part: u32,
+        from: At,
+        n: u32,
+        limit: u64,
+    ) -> [bool; LANES]
+        requires over { StandsOver canvas.now sample.now }
+        requires inside { HoldsBox canvas.now.map.size rect.now.corner rect.now.size }
+        requires sums { AreSampleSums sample.now sums.now }
+        requires levels { AreBoxLevels canvas.now rect.now self.now }
+        requires few { n ≤ LANES }
+        ensures { AreAbove canvas.now sample.now rect.now from n limit result }
+    {
+        let coarse = self.level_marks(0, sums, canvas, sample, rect, part, from, n, limit);
+        if are_marked(&coarse, n) {
+            return coarse;
+        }
+        let fine = self.level_marks(1, sums, canvas, sample, rect, part, from, n, limit);
+        marks_of_both(&coarse, &fine)
     }
 
     /// Of a run of places along X, from one on, those that the box can't be laid from with an error up
@@ -69,20 +251,33 @@ impl BoxLevels {
     /// number, counted from 0.
     pub fn eliminate(
         &self,
-        _sums: &SampleSums,
-        _canvas: &Canvas,
-        _sample: &Volume,
-        _rect: &Box3,
-        _part: u32,
-        _from: At,
-        _limit: u64,
+        sums: &SampleSums,
+        canvas: &Canvas,
+        sample: &Volume,
+        rect: &Box3,
+        part: u32,
+        from: At,
+        limit: u64,
     ) -> Eliminated
-        requires over { StandsOver _canvas.now _sample.now }
-        requires inside { HoldsBox _canvas.now.map.size _rect.now.corner _rect.now.size }
-        requires sums { AreSampleSums _sample.now _sums.now }
-        requires levels { AreBoxLevels _canvas.now _rect.now self.now }
-        ensures { AreEliminated _canvas.now _sample.now _rect.now result }
+        requires over { StandsOver canvas.now sample.now }
+        requires inside { HoldsBox canvas.now.map.size rect.now.corner rect.now.size }
+        requires sums { AreSampleSums sample.now sums.now }
+        requires levels { AreBoxLevels canvas.now rect.now self.now }
+        ensures { AreEliminated canvas.now sample.now rect.now result }
     {
-        Eliminated::none()
+        let Some(coarse) = sums.levels.get(LEVELS * part as usize) else {
+            return Eliminated::none();
+        };
+        let n = places_to_end(&coarse.rect, rect.size.w, from);
+        if n == 0 {
+            return Eliminated::none();
+        }
+        let above = self.marks(sums, canvas, sample, rect, part, from, n, limit);
+        Eliminated {
+            from,
+            n,
+            limit,
+            above,
+        }
     }
 }

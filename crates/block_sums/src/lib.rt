@@ -18,6 +18,7 @@ mod bound;
 mod eliminated;
 mod lanes;
 mod levels;
+mod places;
 mod rows;
 mod sums;
 #[cfg(test)]

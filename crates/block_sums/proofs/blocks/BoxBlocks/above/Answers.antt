@@ -1,5 +1,6 @@
 use Rattle.std.proofs.Common.{◌≡◌, ◌<◌, ◌*◌, ◌^◌, ◌∙◌, ap, subst, sym, arith}
 use Rattle.block_sums.specs.Blocks.{block_bytes}
+use Rattle.block_sums.proofs.PlaceRuns.{none_marked}
 use Rattle.block_sums.proofs.RunEntries.{above_limit}
 use Rattle.block_sums.proofs.blocks.BoxBlocks.above.Goals as goal
 
@@ -14,3 +15,6 @@ pub most_total-most-requires-clause-few : goal.most_total-most-requires-clause-f
 most_total-most-requires-clause-few c =
     subst (λ s. 255 * block_bytes s c.samples.result < 2 ^ 16) (sym c.requires.side)
     (subst (λ k. 255 * block_bytes c.args.sums.now.side k < 2 ^ 16) (sym c.samples.ensures.samples) c.requires.sums.few)
+
+pub returns-then-most : goal.returns-then-most
+returns-then-most c = λ j _ marked. absurd (none_marked j marked)

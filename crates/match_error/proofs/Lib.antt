@@ -6,3 +6,4 @@ pub mod Filled
 pub mod RunLists
 pub mod Entries
 pub mod Tables
+pub mod Fronts

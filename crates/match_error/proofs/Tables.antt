@@ -94,28 +94,30 @@ cells_small m rect = omega (arith, box_bound rect.size 1 (λ x y f. one_filled (
 pub rows_in : (h n y len f k : ℕ) → y + len ≤ h → f + k < n → (y + h * (f + k)) + len ≤ h * n
 rows_in h n y len f k lh lf = omega (arith, mul-le-mul_left h (let next : f + k + 1 ≤ n = omega arith in next))
 
+-- where a cell of a box stands among the rows of the table's box
+module _ (outer rect : Box3) (x y f : ℕ) (is_x : rect.corner.x ≡ outer.corner.x +ℤ pos x) (is_y : rect.corner.y ≡ outer.corner.y +ℤ pos y) (is_f : rect.corner.f ≡ outer.corner.f +ℤ pos f) where
+  turned : (k j : ℕ) → (y + outer.size.h * (f + k)) + j ≡ (f + k) * outer.size.h + (y + j)
+  turned k j = omega arith
+
+  row_is : (j k : ℕ) → y + j < outer.size.h → ((y + outer.size.h * (f + k)) + j) % outer.size.h ≡ y + j
+  row_is j k lt = ap (λ n. n % outer.size.h) (turned k j) ∙ mod-mul-add (f + k) outer.size.h (y + j) lt
+
+  frame_is : (j k : ℕ) → y + j < outer.size.h → ((y + outer.size.h * (f + k)) + j) / outer.size.h ≡ f + k
+  frame_is j k lt = ap (λ n. n / outer.size.h) (turned k j) ∙ div-mul-add (f + k) outer.size.h (y + j) lt
+
+  further : (z z' : ℤ) (n i : ℕ) → z' ≡ z +ℤ pos n → z +ℤ pos (n + i) ≡ z' +ℤ pos i
+  further z z' n i is = omega (arith, ints, is)
+
+  pub cell_in_rows : (i j k : ℕ) → y + j < outer.size.h
+      → box_spot outer (x + i) (((y + outer.size.h * (f + k)) + j) % outer.size.h) (((y + outer.size.h * (f + k)) + j) / outer.size.h) ≡ box_spot rect i j k
+  cell_in_rows i j k lt =
+      (λ t. box_spot outer (x + i) (row_is j k lt t) (frame_is j k lt t))
+      ∙ (λ t. record { x = further outer.corner.x rect.corner.x x i is_x t; y = further outer.corner.y rect.corner.y y j is_y t; f = further outer.corner.f rect.corner.f f k is_f t })
+
 -- the pieces of all frames are the box
 pub pieces : (m : SourceMap) (outer rect : Box3) (x y f : ℕ) → rect.corner.x ≡ outer.corner.x +ℤ pos x → rect.corner.y ≡ outer.corner.y +ℤ pos y → rect.corner.f ≡ outer.corner.f +ℤ pos f
     → y + rect.size.h ≤ outer.size.h
     → sum_to rect.size.f (λ k. sum_to rect.size.h (λ j. sum_to rect.size.w (λ i. one_in_row m outer (x + i) ((y + outer.size.h * (f + k)) + j)))) ≡ filled_cells m rect
 pieces m outer rect x y f is_x is_y is_f room =
     box_equal counts rect.size (λ i j k. one_in_row m outer (x + i) ((y + outer.size.h * (f + k)) + j)) (λ i j k. one_filled (map_at m (box_spot rect i j k)))
-    (λ i j k li lj lk. ap (λ p. one_filled (map_at m p)) (here i j k (omega arith)))
-  where
-    turned : (k j : ℕ) → (y + outer.size.h * (f + k)) + j ≡ (f + k) * outer.size.h + (y + j)
-    turned k j = omega arith
-
-    row_is : (j k : ℕ) → y + j < outer.size.h → ((y + outer.size.h * (f + k)) + j) % outer.size.h ≡ y + j
-    row_is j k lt = ap (λ n. n % outer.size.h) (turned k j) ∙ mod-mul-add (f + k) outer.size.h (y + j) lt
-
-    frame_is : (j k : ℕ) → y + j < outer.size.h → ((y + outer.size.h * (f + k)) + j) / outer.size.h ≡ f + k
-    frame_is j k lt = ap (λ n. n / outer.size.h) (turned k j) ∙ div-mul-add (f + k) outer.size.h (y + j) lt
-
-    further : (z z' : ℤ) (n i : ℕ) → z' ≡ z +ℤ pos n → z +ℤ pos (n + i) ≡ z' +ℤ pos i
-    further z z' n i is = omega (arith, ints, is)
-
-    here : (i j k : ℕ) → y + j < outer.size.h
-        → box_spot outer (x + i) (((y + outer.size.h * (f + k)) + j) % outer.size.h) (((y + outer.size.h * (f + k)) + j) / outer.size.h) ≡ box_spot rect i j k
-    here i j k lt =
-        (λ t. box_spot outer (x + i) (row_is j k lt t) (frame_is j k lt t))
-        ∙ (λ t. record { x = further outer.corner.x rect.corner.x x i is_x t; y = further outer.corner.y rect.corner.y y j is_y t; f = further outer.corner.f rect.corner.f f k is_f t })
+    (λ i j k li lj lk. ap (λ p. one_filled (map_at m p)) (cell_in_rows outer rect x y f is_x is_y is_f i j k (omega arith)))

@@ -3,18 +3,19 @@ ghost use Rattle.std.specs.Prelude.{◌≡◌, ◌≤◌, ◌<◌, ◌+◌, ◌*
 ghost use Rattle.cells.specs.Places.{IsSmall};
 ghost use Rattle.map_canvas.specs.Canvases.{StandsOver};
 ghost use Rattle.map_canvas.specs.Choices.{Fits, box_count};
+ghost use Rattle.match_error.specs.Tables.{AreFilledCounts, IsFilledFront};
 ghost use Rattle.match_error.specs.Errors.{error_of, error_sum, frame_error, most_frame_error, most_row_error, row_error};
 ghost use Rattle.box_sums.specs.Sums.{sum_to};
 
-use crate::Error;
 use crate::counts::filled_count;
 use crate::rows::row_start;
+use crate::{Error, FilledCounts};
 use cells::Volume;
-use lane_kernels::ssd_masked;
+use lane_kernels::{ssd, ssd_masked};
 use map_canvas::{Canvas, Placement};
 
-// The sum over a row of the box.
-fn row_sum(canvas: &Canvas, sample: &Volume, placement: &Placement, y: u32, f: u32) -> u64
+// The sum over a row of the box, of all its cells by their marks.
+fn marked_row_sum(canvas: &Canvas, sample: &Volume, placement: &Placement, y: u32, f: u32) -> u64
     requires over { StandsOver canvas.now sample.now }
     requires fits { Fits canvas.now.map.size sample.now placement.now }
     requires counts { (y < placement.now.rect.size.h) × (f < placement.now.rect.size.f) }
@@ -33,9 +34,56 @@ fn row_sum(canvas: &Canvas, sample: &Volume, placement: &Placement, y: u32, f: u
     ssd_masked(old, new, marks)
 }
 
+// The sum over a row of the box whose first n cells are filled, and no other.
+fn front_sum(canvas: &Canvas, sample: &Volume, placement: &Placement, y: u32, f: u32, n: u32) -> u64
+    requires over { StandsOver canvas.now sample.now }
+    requires fits { Fits canvas.now.map.size sample.now placement.now }
+    requires counts { (y < placement.now.rect.size.h) × (f < placement.now.rect.size.f) }
+    requires front { IsFilledFront canvas.now.map placement.now.rect y f n }
+    ensures sum { result ≡ row_error canvas.now.map sample.now placement.now y f }
+    ensures small { result ≤ most_row_error }
+{
+    // It is asked for only to show the check that the sample is a volume.
+    let _sample = sample.samples();
+    let picture = canvas.picture();
+    if n == 0 {
+        return 0;
+    }
+    let at = row_start(placement.rect.corner, y, f);
+    let from = row_start(placement.from, y, f);
+    let old = picture.row(at, n);
+    let new = sample.row(from, n);
+    ssd(old, new)
+}
+
+// The sum over a row of the box, whose filled cells may be counted.
+fn row_sum(
+    counts: Option<&FilledCounts>,
+    canvas: &Canvas,
+    sample: &Volume,
+    placement: &Placement,
+    y: u32,
+    f: u32,
+) -> u64
+    requires filled { IfSome counts (λ counts. AreFilledCounts canvas.now.map counts.now) }
+    requires over { StandsOver canvas.now sample.now }
+    requires fits { Fits canvas.now.map.size sample.now placement.now }
+    requires counts { (y < placement.now.rect.size.h) × (f < placement.now.rect.size.f) }
+    ensures sum { result ≡ row_error canvas.now.map sample.now placement.now y f }
+    ensures small { result ≤ most_row_error }
+{
+    if let Some(counts) = counts {
+        if let Some(n) = counts.filled_front(canvas, &placement.rect, y, f) {
+            return front_sum(canvas, sample, placement, y, f, n);
+        }
+    }
+    marked_row_sum(canvas, sample, placement, y, f)
+}
+
 // The sum over a frame of the box on top of that over the frames before it, where both are at most a
 // limit together.
 fn with_frame(
+    counts: Option<&FilledCounts>,
     canvas: &Canvas,
     sample: &Volume,
     placement: &Placement,
@@ -43,6 +91,7 @@ fn with_frame(
     before: u64,
     limit: u64,
 ) -> Option<u64>
+    requires filled { IfSome counts (λ counts. AreFilledCounts canvas.now.map counts.now) }
     requires over { StandsOver canvas.now sample.now }
     requires fits { Fits canvas.now.map.size sample.now placement.now }
     requires small { IsSmall placement.now.rect.size }
@@ -58,7 +107,7 @@ fn with_frame(
 {
     let mut sum = before;
     for y in 0..placement.rect.size.h {
-        sum += row_sum(canvas, sample, placement, y, f);
+        sum += row_sum(counts, canvas, sample, placement, y, f);
         if sum > limit {
             return None;
         }
@@ -67,13 +116,16 @@ fn with_frame(
 }
 
 /// The sum of the overlap error of a placement where it is at most a limit, else None. It stops after
-/// the row in which the sum passes the limit.
+/// the row in which the sum passes the limit. Where filled cells are counted, of a row whose filled cells
+/// all stand at its front no other cell is looked at.
 pub fn error_sum_within(
+    counts: Option<&FilledCounts>,
     canvas: &Canvas,
     sample: &Volume,
     placement: &Placement,
     limit: u64,
 ) -> Option<u64>
+    requires filled { IfSome counts (λ counts. AreFilledCounts canvas.now.map counts.now) }
     requires over { StandsOver canvas.now sample.now }
     requires fits { Fits canvas.now.map.size sample.now placement.now }
     ensures some { IfSome result (λ sum. sum ≡ error_sum canvas.now.map sample.now placement.now) }
@@ -87,7 +139,7 @@ pub fn error_sum_within(
     let _sample = sample.samples();
     let mut sum: u64 = 0;
     for f in 0..placement.rect.size.f {
-        sum = with_frame(canvas, sample, placement, f, sum, limit)?;
+        sum = with_frame(counts, canvas, sample, placement, f, sum, limit)?;
     }
     Some(sum)
 }
@@ -101,7 +153,7 @@ pub fn overlap_error(canvas: &Canvas, sample: &Volume, placement: &Placement) ->
     ensures few { result.count ≤ box_count placement.now }
 {
     Error {
-        sum: error_sum_within(canvas, sample, placement, u64::MAX).unwrap(),
+        sum: error_sum_within(None, canvas, sample, placement, u64::MAX).unwrap(),
         count: filled_count(canvas, &placement.rect),
     }
 }

@@ -65,7 +65,13 @@ impl Shortlist {
             self.skip();
             return Ok(());
         }
-        match error_sum_within(canvas, sample, placement, self.limit_for(count)) {
+        match error_sum_within(
+            Some(counts),
+            canvas,
+            sample,
+            placement,
+            self.limit_for(count),
+        ) {
             Some(sum) => self.keep(&Error { sum, count }),
             None => {
                 self.skip();

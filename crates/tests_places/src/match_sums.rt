@@ -21,10 +21,12 @@ fn errors_of_a_row(rt: HostRuntime) -> Result<(), Fail> {
         let counts = FilledCounts::make(rt.alloc(), &canvas, &placement.rect)?;
         assert_eq!(rt; counts.count(&canvas, &placement.rect), count);
         assert_eq!(rt;
-            error_sum_within(&canvas, &sample, &placement, 2400),
+            error_sum_within(None, &canvas, &sample, &placement, 2400),
             Some(sum)
         );
-        let below = error_sum_within(&canvas, &sample, &placement, 2399);
+        let counted = error_sum_within(Some(&counts), &canvas, &sample, &placement, 2400);
+        assert_eq!(rt; counted, Some(sum));
+        let below = error_sum_within(None, &canvas, &sample, &placement, 2399);
         assert_eq!(rt; below.is_none(), sum > 2399);
     }
     Ok(())

@@ -3,7 +3,7 @@ use Rattle.cells.specs.Cells.{Cells, HasRun, row_at}
 use Rattle.lane_kernels.specs.Sums.{masked_sum_of_squared_differences}
 use Rattle.map_canvas.specs.Canvases.{filled_marks}
 use Rattle.match_error.proofs.Overlaps.{in_sample, row_is_error, row_short}
-use Rattle.match_error.proofs.overlap.row_sum.Goals as goal
+use Rattle.match_error.proofs.overlap.marked_row_sum.Goals as goal
 
 pub row_start-from-requires-clause-fits : goal.row_start-from-requires-clause-fits
 row_start-from-requires-clause-fits c =

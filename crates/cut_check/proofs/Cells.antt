@@ -1,7 +1,6 @@
 -- The cells of a placement's box by their indices and their counts.
-use Rattle.std.proofs.Common.{◌≡◌, ℕ, ◌<◌, refl, ap, ◌∙◌, sym, subst, Bool, true, false, List}
+use Rattle.std.proofs.Common.{◌≡◌, ℕ, ◌<◌, refl, ap, ◌∙◌, sym, subst, Bool, List}
 use Rattle.std.specs.Prelude.{pos, Some, IsSome}
-use mathlib.Core.Bool.{false≢true}
 use Rattle.cells.specs.declared.place.At.{At}
 use Rattle.cells.specs.Boxes.{HoldsBox, IsInBox}
 use Rattle.cells.specs.Cells.{Cells, Holds, IsInsideOf, IsVolume}

@@ -2,6 +2,7 @@ pub mod Leaving
 pub mod Duality
 pub mod Least
 pub mod Cells
+pub mod PairBounds
 pub mod Order
 pub mod Parts
 pub mod Fitting

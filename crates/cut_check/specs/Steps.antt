@@ -48,11 +48,10 @@ abbrev pub HoldsAlong : (At → At → ℕ) → SourceMap → CutRecord → ℕ 
 HoldsAlong d m cut x y f axis = has_next cut.placement.rect.size axis x y f ≡ true
     → IsBoundedAt d m cut.placement cut.flows axis x y f
 
--- a cell of the box has its source before the placement, and its new one
-pub record IsLaid (m : SourceMap) (placement : Placement) (laid : Laid) : Type 0 where
-  pub counts : AreCounts placement.rect.size laid.at.x laid.at.y laid.at.f
-  pub old : laid.old ≡ map_at m (cell_in placement.rect laid.at.x laid.at.y laid.at.f)
-  pub new : laid.new ≡ new_source placement (cell_in placement.rect laid.at.x laid.at.y laid.at.f)
+-- what a cell of the box has: its source before the placement, and its new one
+pub record IsLaid (m : SourceMap) (placement : Placement) (x y f : ℕ) (laid : Laid) : Type 0 where
+  pub old : laid.old ≡ map_at m (cell_in placement.rect x y f)
+  pub new : laid.new ≡ new_source placement (cell_in placement.rect x y f)
   pub near_old : IfSome laid.old IsSource
   pub near_new : IsSource laid.new
 

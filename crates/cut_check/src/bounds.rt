@@ -2,19 +2,21 @@
 ghost use Rattle.std.specs.Prelude.{◌≡◌, ◌≤◌, ◌-ℤ◌, ◌↔◌, IfNone, IfSome, IsTrue, List, Bool, pos};
 ghost use Rattle.cells.specs.Cells.{Holds, IsVolume};
 ghost use Rattle.cells.specs.Distances.{distance};
+ghost use Rattle.cells.specs.Neighbours.{unit_step};
+ghost use Rattle.cells.specs.Places.{plus};
 ghost use Rattle.map_canvas.specs.Choices.{new_source};
 ghost use Rattle.map_canvas.specs.Maps.{IsSource};
-ghost use Rattle.box_walk.specs.Pairs.{AreCounts, cell_in, pair_number};
+ghost use Rattle.box_walk.specs.Pairs.{AreCounts, IsPair, cell_in, pair_number};
 ghost use Rattle.box_walk.specs.Walks.{IsWalkIn};
-ghost use Rattle.seams.specs.Costs.{most_of_pair};
-ghost use Rattle.cut_check.specs.Flows.{IsBetween, IsBetweenOld, IsBounded, LeavesFirst, LeavesNone, LeavesSecond, minus_of};
+ghost use Rattle.seams.specs.Costs.{most_of_pair, seam};
+ghost use Rattle.cut_check.specs.Flows.{IsBetween, IsBetweenOld, IsBounded, IsBoundedOn, LeavesFirst, LeavesNone, LeavesSecond, minus_of};
 ghost use Rattle.cut_check.specs.Records.{BoundsAll, IsFirstUnbounded, setting};
 ghost use Rattle.cut_check.specs.Steps.{EachAxis, HoldsAlong, IsFirstAxis, IsLaid, LiesOver};
 
 use crate::flows::flow_at;
 use crate::record::{CutRecord, Flow};
 use box_walk::{Counts, Walk};
-use cells::{At, Axis, Volume};
+use cells::{At, Axis, Volume, cell_distance};
 use map_canvas::{Map, Placement};
 use seams::seam_of;
 
@@ -53,17 +55,62 @@ fn ends_up_to(cost: u32, flow: Flow) -> bool
     is_up_to(cost, i32::from(flow.x) - i32::from(flow.y))
 }
 
-// The bounds of a pair with both cells filled.
-fn is_between_old(old_new: u32, new_old: u32, old_old: u32, flow: Flow) -> bool
-    requires old_new { old_new ≤ most_of_pair }
-    requires new_old { new_old ≤ most_of_pair }
-    requires old_old { old_old ≤ most_of_pair }
-    ensures { IsTrue result ↔ IsBetweenOld old_new new_old old_old flow }
+// A number between minus the cost of a pair of sources and the cost. A cost is the sum of two distances, and
+// mostly the first of them is enough to tell.
+fn is_within_seam(sample: &Volume, axis: Axis, a: At, b: At, z: i16) -> bool
+    requires a { IsSource a }
+    requires b { IsSource b }
+    ensures { IsTrue result ↔ IsBetween (minus_of (seam (distance sample.now) axis a b))
+        (pos (seam (distance sample.now) axis a b)) z }
 {
-    if !is_within(old_new, flow.x) {
+    if z == 0 {
+        return true;
+    }
+    let step = axis.unit();
+    let near = cell_distance(sample, a, b.minus(step));
+    if is_within(near, z) {
+        return true;
+    }
+    is_within(near + cell_distance(sample, a.plus(step), b), z)
+}
+
+// All that leaves the first cell comes to the second, and the source of the second is the next one after that of
+// the first.
+#[tactic(auto, using(seams::proofs::Near::step_fits))]
+fn passes_on(axis: Axis, a: At, b: At, flow: Flow) -> bool
+    requires { IsSource a }
+    ensures { IsTrue result ↔ (flow.x ≡ flow.y) × (plus a (unit_step axis) ≡ b) }
+{
+    flow.x == flow.y && a.plus(axis.unit()) == b
+}
+
+// The bounds of a pair with both cells filled. Where the old sources are next to one another, as the new ones
+// are, the cost of the old and the new one is that of the new and the old one.
+fn is_between_old(
+    sample: &Volume,
+    axis: Axis,
+    a: At,
+    b: At,
+    new_a: At,
+    new_b: At,
+    flow: Flow,
+) -> bool
+    requires a { IsSource a }
+    requires b { IsSource b }
+    requires new_a { IsSource new_a }
+    requires new_b { IsSource new_b }
+    requires next { new_b ≡ plus new_a (unit_step axis) }
+    ensures { IsTrue result ↔ IsBetweenOld (seam (distance sample.now) axis a new_b)
+        (seam (distance sample.now) axis new_a b) (seam (distance sample.now) axis a b) flow }
+{
+    if !is_within_seam(sample, axis, a, new_b, flow.x) {
         return false;
     }
-    is_within(new_old, flow.y) && ends_up_to(old_old, flow)
+    if passes_on(axis, a, b, flow) {
+        return true;
+    }
+    let old_old = seam_of(sample, axis, Some(a), Some(b));
+    is_within_seam(sample, axis, new_a, b, flow.y) && ends_up_to(old_old, flow)
 }
 
 // Those of a pair with the first cell filled alone.
@@ -103,25 +150,20 @@ fn is_bounded(
     requires b { IfSome b IsSource }
     requires new_a { IsSource new_a }
     requires new_b { IsSource new_b }
+    requires next { new_b ≡ plus new_a (unit_step axis) }
     ensures { IsTrue result ↔ IsBounded (distance sample.now) axis a b new_a new_b flow }
 {
     match (a, b) {
-        (Some(a), Some(b)) => is_between_old(
-            seam_of(sample, axis, Some(a), Some(new_b)),
-            seam_of(sample, axis, Some(new_a), Some(b)),
-            seam_of(sample, axis, Some(a), Some(b)),
-            flow,
-        ),
+        (Some(a), Some(b)) => is_between_old(sample, axis, a, b, new_a, new_b, flow),
         (Some(a), None) => leaves_first(seam_of(sample, axis, Some(a), Some(new_b)), flow),
         (None, Some(b)) => leaves_second(seam_of(sample, axis, Some(new_a), Some(b)), flow),
         (None, None) => leaves_none(flow),
     }
 }
 
-// A cell of the box, with its source before the placement and its new one.
+// What a cell of the box has: its source before the placement, and its new one.
 #[derive(Clone, Copy, Debug, Drop)]
 struct Laid {
-    at: Counts,
     old: Option<At>,
     new: At,
 }
@@ -138,44 +180,69 @@ fn new_source(sample: &Volume, placement: &Placement, at: Counts) -> At
     placement.from.plus(at.place())
 }
 
-// The cell of the box at some counts.
+// What the cell of the box at some counts has.
 #[tactic(auto, using(crate::proofs::Cells::holds_largest))]
 fn lay(map: &Map, sample: &Volume, placement: &Placement, at: Counts) -> Laid
     requires lies { LiesOver map.now sample.now placement.now }
     requires counts { AreCounts placement.now.rect.size at.x at.y at.f }
-    ensures at { result.at ≡ at }
-    ensures laid { IsLaid map.now placement.now result }
+    ensures { IsLaid map.now placement.now at.x at.y at.f result }
 {
     Laid {
-        at,
         old: map.at(at.cell(&placement.rect)),
         new: new_source(sample, placement, at),
     }
 }
 
-// The pair of a cell along an axis, if it has one, is within its bounds.
+// The flow of the pair of a cell along an axis is within the bounds of the pair.
+fn is_bounded_at(
+    map: &Map,
+    sample: &Volume,
+    placement: &Placement,
+    axis: Axis,
+    at: Counts,
+    flow: Flow,
+) -> bool
+    requires lies { LiesOver map.now sample.now placement.now }
+    requires pair { IsPair placement.now.rect.size axis at.x at.y at.f }
+    ensures { IsTrue result ↔ IsBoundedOn (distance sample.now) map.now placement.now axis
+        (cell_in placement.now.rect at.x at.y at.f)
+        (plus (cell_in placement.now.rect at.x at.y at.f) (unit_step axis)) flow }
+{
+    let first = lay(map, sample, placement, at);
+    let next = lay(
+        map,
+        sample,
+        placement,
+        at.next_along(placement.rect.size, axis),
+    );
+    is_bounded(sample, axis, first.old, next.old, first.new, next.new, flow)
+}
+
+// The pair of a cell along an axis, if it has one, is within its bounds. Most pairs have no flow, which is
+// within any bounds: for them no source is read.
 fn holds_along(
     map: &Map,
     sample: &Volume,
     cut: &CutRecord,
     axis: Axis,
-    first: Laid,
+    at: Counts,
     number: u64,
 ) -> bool
     requires lies { LiesOver map.now sample.now cut.now.placement }
-    requires laid { IsLaid map.now cut.now.placement first }
-    requires number { number ≡
-        pair_number cut.now.placement.rect.size axis first.at.x first.at.y first.at.f }
-    ensures { IsTrue result ↔ HoldsAlong
-        (distance sample.now) map.now cut.now first.at.x first.at.y first.at.f axis }
+    requires counts { AreCounts cut.now.placement.rect.size at.x at.y at.f }
+    requires number { number ≡ pair_number cut.now.placement.rect.size axis at.x at.y at.f }
+    ensures { IsTrue result ↔
+        HoldsAlong (distance sample.now) map.now cut.now at.x at.y at.f axis }
 {
     let size = cut.placement.rect.size;
-    if !first.at.has_next(size, axis) {
+    let flow = flow_at(size, cut.flows.as_slice(), axis, at, number);
+    if leaves_none(flow) {
         return true;
     }
-    let next = lay(map, sample, &cut.placement, first.at.next_along(size, axis));
-    let flow = flow_at(size, cut.flows.as_slice(), axis, first.at, number);
-    is_bounded(sample, axis, first.old, next.old, first.new, next.new, flow)
+    if !at.has_next(size, axis) {
+        return true;
+    }
+    is_bounded_at(map, sample, &cut.placement, axis, at, flow)
 }
 
 // The first axis along which the pair of a cell isn't.
@@ -188,17 +255,16 @@ fn first_axis(map: &Map, sample: &Volume, cut: &CutRecord, walk: Walk) -> Option
         (HoldsAlong (distance sample.now) map.now cut.now walk.at.x walk.at.y walk.at.f)) }
 {
     let size = cut.placement.rect.size;
-    let first = lay(map, sample, &cut.placement, walk.at);
     let number = walk.pair_number(size, Axis::X);
-    if !holds_along(map, sample, cut, Axis::X, first, number) {
+    if !holds_along(map, sample, cut, Axis::X, walk.at, number) {
         return Some(Axis::X);
     }
     let number = walk.pair_number(size, Axis::Y);
-    if !holds_along(map, sample, cut, Axis::Y, first, number) {
+    if !holds_along(map, sample, cut, Axis::Y, walk.at, number) {
         return Some(Axis::Y);
     }
     let number = walk.pair_number(size, Axis::F);
-    if !holds_along(map, sample, cut, Axis::F, first, number) {
+    if !holds_along(map, sample, cut, Axis::F, walk.at, number) {
         return Some(Axis::F);
     }
     None

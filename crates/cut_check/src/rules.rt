@@ -43,7 +43,7 @@ pub fn stays_old(canvas: &Canvas, placement: &Placement, held: &[bool], i: usize
 fn fills_unfilled(map: &Map, choice: &[bool], i: usize, p: At) -> bool
     ensures { IsTrue result ↔ (map_at map.now p ≡ None → slice_index_or choice.now i false ≡ true) }
 {
-    map.at(p).is_some() || is_marked(choice, i)
+    is_marked(choice, i) || map.at(p).is_some()
 }
 
 /// Rule 2: the index of the first unfilled cell of the box that isn't new.

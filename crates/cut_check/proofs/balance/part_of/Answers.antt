@@ -2,7 +2,6 @@ use Rattle.std.proofs.Common.{◌≡◌, ◌∙◌, List, refl, sym, ap, subst, 
 use Rattle.std.proofs.lemmas.Int.{ints}
 use Rattle.std.specs.Prelude.{pos}
 use mathlib.Core.Bool.{false≢true}
-use Rattle.map_canvas.specs.Choices.{box_cell}
 use Rattle.map_canvas.specs.Maps.{IsFilled}
 use Rattle.box_walk.specs.Pairs.{at_index}
 use Rattle.box_walk.proofs.Indices.{at_index_is}

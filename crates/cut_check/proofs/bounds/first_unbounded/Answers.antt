@@ -1,7 +1,7 @@
 use Rattle.std.proofs.Common.{sym, subst, arith}
 use Rattle.cells.specs.Distances.{distance}
 use Rattle.cut_check.specs.Records.{IsFirstUnbounded, Setting, setting}
-use Rattle.cut_check.specs.Steps.{EachAxis, EachBefore, HoldsAlong}
+use Rattle.cut_check.specs.Steps.{EachAxis, HoldsAlong}
 use Rattle.cut_check.proofs.Order.{before_more, each_pair, first_pair}
 use Rattle.cut_check.proofs.bounds.first_unbounded.Goals as goal
 

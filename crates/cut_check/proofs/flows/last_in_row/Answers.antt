@@ -1,4 +1,4 @@
-use Rattle.std.proofs.Common.{◌≡◌, ◌+◌, ◌∙◌, arith}
+use Rattle.std.proofs.Common.{arith}
 use Rattle.box_walk.proofs.PairNumbers.{pairs_back}
 use Rattle.cut_check.proofs.flows.last_in_row.Goals as goal
 

@@ -1,0 +1,37 @@
+use Rattle.std.proofs.Common.{◌≡◌, ◌∙◌, refl, sym, subst, ap, arith}
+use Rattle.std.proofs.lemmas.Int.{ints}
+use Rattle.cells.specs.Distances.{distance}
+use Rattle.cells.specs.Neighbours.{unit_step}
+use Rattle.cells.specs.Places.{DifferenceFits, SumFits, minus, plus}
+use Rattle.seams.proofs.Near.{step_fits}
+use Rattle.cut_check.proofs.bounds.is_within_seam.Goals as goal
+
+pub minus-requires : goal.minus-requires
+minus-requires c =
+    let fits = step_fits c.args.b c.args.axis c.requires.b in
+    subst (DifferenceFits c.args.b) (sym c.unit-step.ensures) fits.back
+
+pub plus-requires : goal.plus-requires
+plus-requires c =
+    let fits = step_fits c.args.a c.args.axis c.requires.a in
+    subst (SumFits c.args.a) (sym c.unit-step.ensures) fits.ahead
+
+pub returns-then-is_within : goal.returns-then-is_within
+returns-then-is_within c =
+    let v = c.args.sample.now in
+    let near : c.cell_distance-near.result ≡ distance v c.args.a (minus c.args.b (unit_step c.args.axis)) =
+    c.cell_distance-near.ensures.distance ∙ ap (distance v c.args.a) (c.minus.ensures ∙ ap (minus c.args.b) c.unit-step.ensures) in (
+      λ _. let within = c.is_within.ensures.0 c.if-is_within.true in (omega (arith, ints, within.0, near), omega (arith, ints, within.1, near)),
+      λ _. refl,
+    )
+
+pub returns : goal.returns
+returns c =
+    let v = c.args.sample.now in
+    let near : c.cell_distance-near.result ≡ distance v c.args.a (minus c.args.b (unit_step c.args.axis)) =
+    c.cell_distance-near.ensures.distance ∙ ap (distance v c.args.a) (c.minus.ensures ∙ ap (minus c.args.b) c.unit-step.ensures) in
+    let far : c.cell_distance.result ≡ distance v (plus c.args.a (unit_step c.args.axis)) c.args.b =
+    c.cell_distance.ensures.distance ∙ ap (λ p. distance v p c.args.b) (c.plus.ensures ∙ ap (plus c.args.a) c.unit-step.ensures) in (
+      λ is. let within = c.is_within-2.ensures.0 is in (omega (arith, ints, within.0, near, far), omega (arith, ints, within.1, near, far)),
+      λ between. c.is_within-2.ensures.1 (omega (arith, ints, between.0, near, far), omega (arith, ints, between.1, near, far)),
+    )

@@ -243,6 +243,10 @@ best_limit list count limit past none = λ table is. limit_by_best list.tol coun
 pub known_limit : (list : Shortlist) (count limit : ℕ) → IfSome list.known IsFilledLow → IfSome list.known (IsSumLimit list.tol count limit) → (list.known ≡ None → 2 ^ 48 ≤ limit) → IsLimitOf list count limit
 known_limit list count limit filled past none = λ table is. limit_by_known list.tol count limit list.known table filled past none
 
+-- an error past a limit is past what may be eligible
+pub past_for : (list : Shortlist) (count limit : ℕ) (error : Error) → IsLimitOf list count limit → error.count ≡ count → IsLow error → limit < error.sum → IsPast list error
+past_for list count limit error limited counted low beyond = inr (λ table is. limited table is error counted low beyond)
+
 -- the best is itself about as good as the best, so some entry is
 best_near : (tol : ℕ) (best : Error) → 1 ≤ best.count → is_eligible tol best best ≡ true
 best_near tol best filled =

@@ -1,5 +1,7 @@
 // The shortlist of a list of candidates, of which a draw picks an entry.
 ghost use Rattle.std.specs.Prelude.{◌≡◌, ◌≤◌, ◌<◌, ◌+◌, ◌^◌, IfOk, OnOk, Some, length, slice_get};
+ghost use Rattle.block_sums.specs.Eliminations.{AreBoxLevels, AreEliminated, AreSampleSums};
+ghost use Rattle.cells.specs.Boxes.{HoldsBox};
 ghost use Rattle.cells.specs.Cells.{sizes_of};
 ghost use Rattle.map_canvas.specs.Canvases.{StandsOver};
 ghost use Rattle.map_canvas.specs.Choices.{Fits};
@@ -9,13 +11,15 @@ ghost use Rattle.match_error.specs.Tables.{AreFilledCounts};
 ghost use Rattle.patch_place.specs.Counts.{AreVolumeParts};
 ghost use Rattle.patch_place.specs.Lists.{IsWithin};
 ghost use Rattle.patch_place.specs.Picks.{AllFit, errors_on, listed_on};
-ghost use Rattle.patch_place.specs.Tables.{IsBoxDone, IsLimitOf, IsMore, IsSeenTo, IsShortlist, IsShortlistOf, IsSoundShortlist};
+ghost use Rattle.patch_place.specs.Tables.{IsBoxDone, IsLimitOf, IsLow, IsMore, IsSeenTo, IsShortlist, IsShortlistOf, IsSoundShortlist};
 
 use crate::Candidates;
 use crate::candidates::{Spot, frames_before, part_after, parts_of, place_count, room};
 use crate::hints::least_hint;
 use crate::reach::counts_for;
 use crate::shortlist::Shortlist;
+use crate::skips::Skips;
+use block_sums::{BoxLevels, Eliminated, SampleSums};
 use cells::{Box3, Sizes, Volume};
 use map_canvas::{Canvas, Placement};
 use match_error::{Error, FilledCounts, FilledRuns, error_sum_within, filled_count};
@@ -80,11 +84,13 @@ impl Shortlist {
         }
     }
 
-    // One more candidate of a box that has so many filled cells, whose sum is left unfinished where it
-    // passes the limit. Gives the limit of the next one.
+    // One more candidate of a box that has so many filled cells, which isn't summed where the run has it
+    // as eliminated; else the sum is left unfinished where it passes the limit. Gives the limit of the
+    // next one.
     fn add_filled(
         &mut self,
         runs: &FilledRuns,
+        run: &Eliminated,
         canvas: &Canvas,
         sample: &Volume,
         placement: &Placement,
@@ -94,8 +100,10 @@ impl Shortlist {
         requires over { StandsOver canvas.now sample.now }
         requires fits { Fits canvas.now.map.size sample.now placement.now }
         requires runs { AreFilledRuns canvas.now placement.now.rect runs.now }
+        requires run { AreEliminated canvas.now sample.now placement.now.rect run.now }
         requires count { count ≡ filled_cells canvas.now.map placement.now.rect }
         requires filled { 1 ≤ count }
+        requires low { IsLow (error_of canvas.now.map sample.now placement.now) }
         requires limit { IsLimitOf self.old count limit }
         requires few { self.old.seen + 1 < 2 ^ 32 }
         requires sound { IsSoundShortlist self.old }
@@ -107,6 +115,10 @@ impl Shortlist {
         ensures known { self.new.known ≡ self.old.known }
         ensures seen { OnOk result (self.new.seen ≡ self.old.seen + 1) }
     {
+        if run.has(placement.from, limit) {
+            self.skip();
+            return Ok(limit);
+        }
         match runs.error_sum_within(canvas, sample, placement, limit) {
             Some(sum) => {
                 self.keep(&Error { sum, count })?;
@@ -123,8 +135,10 @@ impl Shortlist {
     fn add_part(
         &mut self,
         runs: &FilledRuns,
+        levels: &BoxLevels,
         canvas: &Canvas,
         sample: &Volume,
+        sums: &SampleSums,
         rect: &Box3,
         count: u32,
         sizes: &Sizes,
@@ -135,7 +149,10 @@ impl Shortlist {
         requires parts { AreVolumeParts sizes.now }
         requires below { n < length sizes.now }
         requires fit { AllFit canvas.now sample.now (Candidates.Fits rect.now) }
+        requires inside { HoldsBox canvas.now.map.size rect.now.corner rect.now.size }
         requires runs { AreFilledRuns canvas.now rect.now runs.now }
+        requires levels { AreBoxLevels canvas.now rect.now levels.now }
+        requires sums { AreSampleSums sample.now sums.now }
         requires count { count ≡ filled_cells canvas.now.map rect.now }
         requires filled { 1 ≤ count }
         requires sound { IsSoundShortlist self.old }
@@ -147,6 +164,9 @@ impl Shortlist {
         ensures tol { self.new.tol ≡ self.old.tol }
         ensures known { self.new.known ≡ self.old.known }
     {
+        // They are asked for only to show the check that these are a map and a volume.
+        let _map = canvas.map();
+        let _samples = sample.samples();
         let free = room(part_after(sizes, n), rect.size);
         let mut spot = Spot {
             x: 0,
@@ -154,12 +174,14 @@ impl Shortlist {
             f: frames_before(sizes, n),
         };
         let mut limit = self.limit_for(count);
+        let mut skips = Skips::none();
         'entries: for _ in 0..place_count(free) {
             let placement = Placement {
                 rect: *rect,
                 from: spot.place(),
             };
-            limit = self.add_filled(runs, canvas, sample, &placement, count, limit)?;
+            skips.go_to(levels, canvas, sample, sums, &placement, n, limit);
+            limit = self.add_filled(runs, &skips.run, canvas, sample, &placement, count, limit)?;
             spot = spot.next(free);
         }
         Ok(())
@@ -195,8 +217,10 @@ fn filled_shortlist(
     tol: u32,
     canvas: &Canvas,
     sample: &Volume,
+    sums: &SampleSums,
 ) -> Result<Shortlist, AllocError>
     requires over { StandsOver canvas.now sample.now }
+    requires sums { AreSampleSums sample.now sums.now }
     requires some { 0 < length (listed_on canvas.now sample.now (Candidates.Fits rect.now)) }
     requires fit { AllFit canvas.now sample.now (Candidates.Fits rect.now) }
     requires count { count ≡ filled_cells canvas.now.map rect.now }
@@ -205,11 +229,12 @@ fn filled_shortlist(
         (errors_on canvas.now sample.now (Candidates.Fits rect.now))) }
 {
     let runs = FilledRuns::gather(alloc, canvas, rect)?;
+    let levels = BoxLevels::gather(alloc, canvas, rect, sums)?;
     let sizes = parts_of(sample);
     let known = least_hint(&runs, canvas, sample, rect, count);
     let mut short = Shortlist::begun(alloc, tol, known);
     'parts: for n in 0..sizes.len() {
-        short.add_part(&runs, canvas, sample, rect, count, &sizes, n)?;
+        short.add_part(&runs, &levels, canvas, sample, sums, rect, count, &sizes, n)?;
     }
     Ok(short)
 }
@@ -221,8 +246,10 @@ fn box_shortlist(
     tol: u32,
     canvas: &Canvas,
     sample: &Volume,
+    sums: &SampleSums,
 ) -> Result<Shortlist, AllocError>
     requires over { StandsOver canvas.now sample.now }
+    requires sums { AreSampleSums sample.now sums.now }
     requires some { 0 < length (listed_on canvas.now sample.now (Candidates.Fits rect.now)) }
     requires fit { AllFit canvas.now sample.now (Candidates.Fits rect.now) }
     ensures { IfOk result (IsShortlistOf tol
@@ -230,7 +257,7 @@ fn box_shortlist(
 {
     let count = filled_count(canvas, rect);
     if count > 0 {
-        return filled_shortlist(alloc, rect, count, tol, canvas, sample);
+        return filled_shortlist(alloc, rect, count, tol, canvas, sample, sums);
     }
     let n = count_for(&Candidates::Fits { rect: *rect }, canvas, sample);
     Ok(Shortlist::unfilled(alloc, tol, n))
@@ -243,15 +270,17 @@ pub(crate) fn shortlist_of(
     tol: u32,
     canvas: &Canvas,
     sample: &Volume,
+    sums: &SampleSums,
 ) -> Result<Shortlist, AllocError>
     requires over { StandsOver canvas.now sample.now }
+    requires sums { AreSampleSums sample.now sums.now }
     requires within { IsWithin list.now canvas.now.map.size }
     requires some { 0 < length (listed_on canvas.now sample.now list.now) }
     requires fit { AllFit canvas.now sample.now list.now }
     ensures { IfOk result (IsShortlistOf tol (errors_on canvas.now sample.now list.now)) }
 {
     match list {
-        Candidates::Fits { rect } => box_shortlist(alloc, rect, tol, canvas, sample),
+        Candidates::Fits { rect } => box_shortlist(alloc, rect, tol, canvas, sample, sums),
         Candidates::One(_) | Candidates::Laid { .. } => {
             placed_shortlist(alloc, list, tol, canvas, sample)
         }

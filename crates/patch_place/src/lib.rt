@@ -15,9 +15,14 @@
 //! modes and the size of a window, `draws` the draws, and `laws` what follows from the definitions. `steps`
 //! has the step, `picks` the pick, `errors` the walks over lists that fill the shortlist that it is made
 //! from, where a sum that can't be eligible is left unfinished, `hints` the likely candidates of a box
-//! with whose least error its walk begins, `reach` the sums by which the filled cells of laid candidates
-//! are counted, `shortlist` the shortlist, and `eligible` which of its entries are about as good as the
-//! best. README.md says the definitions and the promises in words.
+//! with whose least error its walk begins, `skips` those that its walk leaves out, since sums of blocks
+//! (crate block_sums) show that they can't be eligible, `reach` the sums by which the filled cells of laid
+//! candidates are counted, `shortlist` the shortlist, and `eligible` which of its entries are about as
+//! good as the best. README.md says the definitions and the promises in words.
+//!
+//! `pick_with` and `next_placement_with` are the same calls for a sample whose sums of blocks are made
+//! once for many picks. `pick` and `next_placement` make their own, where the candidates are those of one
+//! box.
 #![tactic(auto)]
 
 mod axis;
@@ -31,6 +36,7 @@ mod mode;
 mod picks;
 mod reach;
 mod shortlist;
+mod skips;
 mod steps;
 
 pub use axis::{Span, grid_on};

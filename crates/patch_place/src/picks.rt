@@ -22,9 +22,11 @@ fn picked_at(
     tol: Option<u32>,
     canvas: &Canvas,
     sample: &Volume,
+    sums: &SampleSums,
     draws: &mut Draws,
 ) -> Result<u32, AllocError>
     requires over { StandsOver canvas.now sample.now }
+    requires sums { AreSampleSums sample.now sums.now }
     requires within { IsWithin list.now canvas.now.map.size }
     requires some { HasEntries canvas.now sample.now list.now }
     requires fit { AllFit canvas.now sample.now list.now }
@@ -36,14 +38,35 @@ fn picked_at(
     let Some(tol) = tol else {
         return Ok(draws.below(count_for(list, canvas, sample)));
     };
-    let short = shortlist_of(alloc, list, tol, canvas, sample)?;
+    let short = shortlist_of(alloc, list, tol, canvas, sample, sums)?;
     Ok(short.picked(draws))
+}
+
+// The sums that a pick from a list makes for itself: none where its candidates aren't those of one box,
+// and where their errors aren't summed.
+fn sums_for(
+    alloc: Global,
+    list: &Candidates,
+    tol: Option<u32>,
+    sample: &Volume,
+) -> Result<SampleSums, AllocError>
+    ensures sums { IfOk result (AreSampleSums sample.now) }
+    ensures memory { OnErr result (IsSome tol) }
+{
+    let Some(_) = tol else {
+        return Ok(SampleSums::none(alloc));
+    };
+    match list {
+        Candidates::Fits { .. } => SampleSums::make(alloc, sample),
+        Candidates::One(_) | Candidates::Laid { .. } => Ok(SampleSums::none(alloc)),
+    }
 }
 
 /// Picks one of the candidates that are about as good as the best, by the next draw: those whose error
 /// per filled cell is at most that of the best and `tol` hundredths of it. All of them are where `tol` is
 /// None, and where none of them covers a filled cell. It takes one draw, for a single candidate too, and
-/// none where there isn't the memory for the errors, which is the one error.
+/// none where there isn't the memory for the errors and for the sums of the sample's blocks, which it
+/// makes for the candidates of one box: that is the one error.
 pub fn pick(
     alloc: Global,
     list: &Candidates,
@@ -63,23 +86,23 @@ pub fn pick(
     ensures kept { OnErr result (draws.new ≡ draws.old) }
     ensures memory { OnErr result (IsSome tol) }
 {
-    let i = picked_at(alloc, list, tol, canvas, sample, draws)?;
-    Ok(entry_for(list, canvas, sample, i))
+    let sums = sums_for(alloc, list, tol, sample)?;
+    pick_with(alloc, list, tol, canvas, sample, &sums, draws)
 }
 
-/// The same pick as `pick`, of a sample whose sums of blocks are made: candidates that they rule out are
-/// left out before their errors are summed.
+/// The same pick as `pick`, of a sample whose sums of blocks are made: candidates of one box that they
+/// eliminate are left out before their errors are summed.
 pub fn pick_with(
     alloc: Global,
     list: &Candidates,
     tol: Option<u32>,
     canvas: &Canvas,
     sample: &Volume,
-    _sums: &SampleSums,
+    sums: &SampleSums,
     draws: &mut Draws,
 ) -> Result<Placement, AllocError>
     requires over { StandsOver canvas.now sample.now }
-    requires sums { AreSampleSums sample.now _sums.now }
+    requires sums { AreSampleSums sample.now sums.now }
     requires within { IsWithin list.now canvas.now.map.size }
     requires some { HasEntries canvas.now sample.now list.now }
     requires fit { AllFit canvas.now sample.now list.now }
@@ -90,5 +113,6 @@ pub fn pick_with(
     ensures kept { OnErr result (draws.new ≡ draws.old) }
     ensures memory { OnErr result (IsSome tol) }
 {
-    pick(alloc, list, tol, canvas, sample, draws)
+    let i = picked_at(alloc, list, tol, canvas, sample, sums, draws)?;
+    Ok(entry_for(list, canvas, sample, i))
 }

@@ -10,7 +10,7 @@ ghost use Rattle.patch_place.specs.Picks.{AllFit, HasEntries, listed_on};
 ghost use Rattle.patch_place.specs.Steps.{IsChosen, IsNext, draws_after, tolerance};
 
 use crate::errors::entry_for;
-use crate::{Candidates, Draws, Mode, pick};
+use crate::{Candidates, Draws, Mode, pick_with};
 use block_sums::SampleSums;
 use cells::{At, Volume};
 use map_canvas::{Canvas, Placement};
@@ -43,6 +43,18 @@ fn candidates_for(mode: &Mode, q: At, canvas: &Canvas, sample: &Volume) -> Candi
     mode.candidates(q, canvas.map().size(), sample)
 }
 
+// The sums by which a mode's placements are picked, where they aren't given: those of `Sub` alone, which
+// picks among the candidates of one box.
+fn sums_of(alloc: Global, mode: &Mode, sample: &Volume) -> Result<SampleSums, AllocError>
+    ensures sums { IfOk result (AreSampleSums sample.now) }
+    ensures memory { OnErr result (IsSome (tolerance mode.now)) }
+{
+    match mode {
+        Mode::Sub { .. } => SampleSums::make(alloc, sample),
+        Mode::Grid { .. } | Mode::Random | Mode::Whole { .. } => Ok(SampleSums::none(alloc)),
+    }
+}
+
 // The placement that a mode makes for the first unfilled cell.
 fn placement_over(
     alloc: Global,
@@ -50,9 +62,11 @@ fn placement_over(
     q: At,
     canvas: &Canvas,
     sample: &Volume,
+    sums: &SampleSums,
     draws: &mut Draws,
 ) -> Result<Placement, AllocError>
     requires over { StandsOver canvas.now sample.now }
+    requires sums { AreSampleSums sample.now sums.now }
     requires patch { HasPatch mode.now }
     requires inside { IsInside canvas.now.map.size q }
     ensures chosen { IfOk result (IsChosen mode.now canvas.now.map sample.now draws.old q) }
@@ -65,13 +79,14 @@ fn placement_over(
     if let Mode::Grid { .. } = mode {
         return Ok(entry_for(&list, canvas, sample, 0));
     }
-    pick(alloc, &list, mode.tolerance(), canvas, sample, draws)
+    pick_with(alloc, &list, mode.tolerance(), canvas, sample, sums, draws)
 }
 
 /// The next placement of a mode, for the first unfilled cell, which it covers; None where the canvas is
 /// full. In the grid it's the one candidate, and no draw is taken. All other modes pick among their
 /// candidates, by one draw: `Random` among all of them, `Whole` and `Sub` among those within their
-/// tolerance of the best. The one error is that there is no memory; no draw is taken then.
+/// tolerance of the best. The one error is that there is no memory, for `Sub` also for the sums of the
+/// sample's blocks, which are made anew in each call; no draw is taken then.
 pub fn next_placement(
     alloc: Global,
     mode: &Mode,
@@ -83,11 +98,11 @@ pub fn next_placement(
     requires patch { HasPatch mode.now }
     ensures { IsNext mode.now canvas.now.map sample.now draws.old draws.new result }
 {
-    let Some(q) = canvas.first_unfilled() else {
+    let Some(_) = canvas.first_unfilled() else {
         return Ok(None);
     };
-    let placement = placement_over(alloc, mode, q, canvas, sample, draws)?;
-    Ok(Some(placement))
+    let sums = sums_of(alloc, mode, sample)?;
+    next_placement_with(alloc, mode, canvas, sample, &sums, draws)
 }
 
 /// The same as `next_placement`, of a sample whose sums of blocks are made.
@@ -96,13 +111,17 @@ pub fn next_placement_with(
     mode: &Mode,
     canvas: &Canvas,
     sample: &Volume,
-    _sums: &SampleSums,
+    sums: &SampleSums,
     draws: &mut Draws,
 ) -> Result<Option<Placement>, AllocError>
     requires over { StandsOver canvas.now sample.now }
-    requires sums { AreSampleSums sample.now _sums.now }
+    requires sums { AreSampleSums sample.now sums.now }
     requires patch { HasPatch mode.now }
     ensures { IsNext mode.now canvas.now.map sample.now draws.old draws.new result }
 {
-    next_placement(alloc, mode, canvas, sample, draws)
+    let Some(q) = canvas.first_unfilled() else {
+        return Ok(None);
+    };
+    let placement = placement_over(alloc, mode, q, canvas, sample, sums, draws)?;
+    Ok(Some(placement))
 }

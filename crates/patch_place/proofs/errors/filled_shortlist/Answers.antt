@@ -9,6 +9,9 @@ use Rattle.patch_place.proofs.errors.filled_shortlist.Goals as goal
 pub gather-requires : goal.gather-requires
 gather-requires c = record { inside = box_inside c.args.canvas.now.map.size c.args.sample.now c.args.rect.now c.requires.some c.requires.fit }
 
+pub gather-requires-2 : goal.gather-requires-2
+gather-requires-2 c = record { inside = box_inside c.args.canvas.now.map.size c.args.sample.now c.args.rect.now c.requires.some c.requires.fit }
+
 pub least_hint-known-requires-clause-some : goal.least_hint-known-requires-clause-some
 least_hint-known-requires-clause-some c = box_has_cells c.args.canvas.now.map.size c.args.sample.now c.args.rect.now c.requires.some c.requires.fit
 
@@ -24,6 +27,9 @@ parts-init c = record {
   known =
       subst (λ known. IfSome known (Contains (errors_on c.args.canvas.now c.args.sample.now (TheVariants.Fits c.args.rect.now)))) (sym c.begun-short.ensures.known) c.least_hint-known.ensures.listed;
 }
+
+pub add_part-requires-clause-inside : goal.add_part-requires-clause-inside
+add_part-requires-clause-inside c = box_inside c.args.canvas.now.map.size c.args.sample.now c.args.rect.now c.requires.some c.requires.fit
 
 pub add_part-requires-clause-so_far : goal.add_part-requires-clause-so_far
 add_part-requires-clause-so_far c = c.parts.invariant.done

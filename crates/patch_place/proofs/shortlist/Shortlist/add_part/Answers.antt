@@ -4,6 +4,7 @@ use Rattle.cells.specs.Places.{cell_count}
 use Rattle.cells.specs.SizeLists.{frames_to_part}
 use Rattle.map_canvas.specs.Choices.{Fits}
 use Rattle.match_error.specs.Errors.{error_of}
+use Rattle.match_error.proofs.Bounds.{error_small}
 use Rattle.patch_place.specs.Counts.{entries_before, room_entries}
 use Rattle.patch_place.specs.Lists.{filled_from, fit_list, lists_from}
 use Rattle.patch_place.specs.Tables.{IsSeenTo, IsShortlist}
@@ -27,6 +28,10 @@ add_filled-requires-clause-few c =
     let few : c.args.self.now.seen + cell_count c.room-free.result ≤ 268435456 = box_few c.args.rect.now c.args.sizes.now (c.args.n + 1) _ c.requires.parts after in
     omega (arith, few, c.entries.invariant.seen, c.place_count-end.ensures, c.entries-test.true)
 
+pub add_filled-requires-clause-low : goal.add_filled-requires-clause-low
+add_filled-requires-clause-low c =
+    error_small c.args.canvas.now.map c.args.sample.now (filled_from c.args.rect.now c.place.result) c.map-map.ensures.canvas.map.small c.samples-samples.ensures.volume (add_filled-requires-clause-fits c)
+
 pub entries-preserved : goal.entries-preserved
 entries-preserved c =
     let f = error_of c.args.canvas.now.map c.args.sample.now in
@@ -46,6 +51,7 @@ entries-preserved c =
       seen = omega (arith, c.in_ok-limit.ensures.seen, c.entries.invariant.seen);
       tol = c.add_filled.ensures.tol ∙ c.entries.invariant.tol;
       known = c.add_filled.ensures.known ∙ c.entries.invariant.known;
+      run = c.go_to.ensures;
       spot = c.next-spot.ensures (frames_to_part sizes c.args.n) c.entries.counter c.entries.invariant.spot;
     }
 

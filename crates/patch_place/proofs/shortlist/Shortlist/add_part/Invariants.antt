@@ -1,4 +1,5 @@
 use Rattle.std.proofs.Common.{◌≡◌, ◌+◌, ◌++◌, map, take}
+use Rattle.block_sums.specs.Eliminations.{AreEliminated}
 use Rattle.cells.specs.SizeLists.{frames_to_part}
 use Rattle.match_error.specs.Errors.{error_of}
 use Rattle.patch_place.specs.Counts.{IsSpotAt, entries_before, room_entries}
@@ -16,5 +17,6 @@ invariant-entries l = record {
   seen : l.self.seen ≡ l.fn.self.seen + l.counter;
   tol : l.self.tol ≡ l.fn.self.tol;
   known : l.self.known ≡ l.fn.self.known;
+  run : AreEliminated l.canvas l.sample l.rect l.skips.run;
   spot : IsSpotAt l.free (frames_to_part l.sizes l.n) l.counter l.spot;
 }

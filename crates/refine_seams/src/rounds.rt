@@ -3,15 +3,17 @@ ghost use Rattle.std.specs.Prelude.{◌≡◌, ◌≤◌, IfSome};
 ghost use Rattle.cells.specs.Boxes.{HasCells};
 ghost use Rattle.map_canvas.specs.Canvases.{IsCanvas, StandsOver};
 ghost use Rattle.map_canvas.specs.Maps.{IsFull};
+ghost use Rattle.block_sums.specs.Eliminations.{AreSampleSums};
 ghost use Rattle.patch_place.specs.Fitting.{HasRoomInEach};
 ghost use Rattle.graph_place.specs.Placed.{map_total};
 ghost use Rattle.refine_seams.specs.Rounds.{IsRoundBox, SumsWindowsOf, Rounds};
 
+use block_sums::SampleSums;
 use cells::{Box3, Volume};
 use cut_check::CutRecord;
 use graph_place::place;
 use map_canvas::Canvas;
-use patch_place::{Candidates, Draws, pick, window_size};
+use patch_place::{Candidates, Draws, pick_with, window_size};
 use seam_cost::SeamTable;
 use std::alloc::{AllocError, Global};
 
@@ -35,19 +37,22 @@ fn worst_box(canvas: &Canvas, sample: &Volume, side: u32, table: &SeamTable) -> 
 /// One round of refinement: the window of a side whose seams cost the most is laid anew. Among all places of
 /// the sample where it fits one is picked by the next draw, within `tol` hundredths of the best, and put in
 /// by a graph cut. The canvas is full, and the table has the sums of its windows of the size that
-/// `window_size` gives, before and after. None where no window costs anything; nothing is changed then. The
-/// one error is that there is no memory, and changes nothing.
+/// `window_size` gives, before and after. The sums are those of the sample's blocks, made once for all rounds.
+/// None where no window costs anything; nothing is changed then. The one error is that there is no memory, and
+/// changes nothing.
 #[tactic(auto, using(crate::proofs::Rounding::stays_full))]
 pub fn round(
     alloc: Global,
     canvas: &mut Canvas,
     sample: &Volume,
+    sums: &SampleSums,
     side: u32,
     tol: u32,
     draws: &mut Draws,
     table: &mut SeamTable,
 ) -> Result<Option<CutRecord>, AllocError>
     requires over { StandsOver canvas.old sample.now }
+    requires sums { AreSampleSums sample.now sums.now }
     requires full { IsFull canvas.old.map }
     requires side { 1 ≤ side }
     requires table { SumsWindowsOf side canvas.old.map sample.now table.old }
@@ -66,7 +71,7 @@ pub fn round(
     };
     let number = draws.place();
     let list = Candidates::Fits { rect };
-    let placement = pick(alloc, &list, Some(tol), canvas, sample, draws)?;
+    let placement = pick_with(alloc, &list, Some(tol), canvas, sample, sums, draws)?;
     let Ok(cut) = place(alloc, canvas, sample, placement) else {
         draws.go_to(number);
         return Err(AllocError);

@@ -3,11 +3,11 @@ use Rattle.seam_cost.proofs.Besides.{right_beside_choice}
 use Rattle.refine_seams.proofs.Rounding.{each_fits, some_entry}
 use Rattle.refine_seams.proofs.rounds.round.Goals as goal
 
-pub pick-requires-clause-some : goal.pick-requires-clause-some
-pick-requires-clause-some c = some_entry c.args.sample.now c.in-Some.rect c.in-Some.ensures.room
+pub pick_with-requires-clause-some : goal.pick_with-requires-clause-some
+pick_with-requires-clause-some c = some_entry c.args.sample.now c.in-Some.rect c.in-Some.ensures.room
 
-pub pick-requires-clause-fit : goal.pick-requires-clause-fit
-pick-requires-clause-fit c = each_fits c.args.side c.args.canvas.now.map c.args.sample.now c.in-Some.rect c.in-Some.ensures.worst
+pub pick_with-requires-clause-fit : goal.pick_with-requires-clause-fit
+pick_with-requires-clause-fit c = each_fits c.args.side c.args.canvas.now.map c.args.sample.now c.in-Some.rect c.in-Some.ensures.worst
 
 pub update-requires-clause-beside : goal.update-requires-clause-beside
 update-requires-clause-beside c =

@@ -9,8 +9,14 @@
 //! says of a run of places which are above a limit: of a place that it marks that is proved, and of another
 //! nothing is said.
 //!
+//! A search over a whole sample goes by `SampleSums`, made once, and `BoxLevels`, gathered once a pick, each
+//! of two sizes of blocks. `BoxLevels::eliminate` gives an `Eliminated`, a run of places of a part of the
+//! sample, which says of each place whether it is ruled out for a limit.
+//!
 //! `blocks` has the blocks of a box, `sums` the sums of the sample's blocks, `lanes` the sums over a run of
-//! places at once, `bound` what they rule out. specs/Blocks.antt defines blocks and what they bound.
+//! places at once, `bound` what they rule out, `places` how far a run goes, `levels` the two sizes together,
+//! `eliminated` what a search is told. specs/Blocks.antt defines blocks and what they bound,
+//! specs/Eliminations.antt what a search may leave out.
 #![tactic(auto)]
 
 mod blocks;

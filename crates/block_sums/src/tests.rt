@@ -1,7 +1,11 @@
 // Worked examples, by hand.
+ghost use Rattle.std.specs.Prelude.{IsTrue};
+ghost use Rattle.cells.specs.Boxes.{AxisHolds, HoldsBox};
+
 use super::*;
-use crate::lanes::{are_above, marks, no_totals, with_block};
+use crate::lanes::{are_above, are_marked, marks, marks_of_both, no_totals, with_block};
 use cells::{At, Box3, Size, Volume};
+use map_canvas::{Canvas, Placement};
 use std::test::Fail;
 
 // The bytes of a picture of 8x4 cells.
@@ -58,4 +62,63 @@ fn totals_of_a_run(rt: HostRuntime) {
     let farther = with_block(far, u16::MAX, &[0; LANES]);
     assert_eq!(rt; marks(farther, u32::MAX - 1), [true; LANES]);
     assert_eq!(rt; marks(farther, u32::MAX), [false; LANES]);
+}
+
+#[test]
+fn marks_of_two_levels(rt: HostRuntime) {
+    let mut some = [false; LANES];
+    let mut others = [false; LANES];
+    some[0] = true;
+    others[1] = true;
+    let both = marks_of_both(&some, &others);
+    for (j, mark) in both.iter().enumerate() {
+        assert_eq!(rt; *mark, j < 2);
+    }
+    assert!(rt; are_marked(&both, 2) && !are_marked(&both, 3));
+}
+
+// A run of cells lies within one axis.
+fn holds_axis(n: u32, corner: i32, len: u32) -> bool
+    ensures { IsTrue result → AxisHolds n corner len }
+{
+    corner >= 0 && len <= n && corner as u32 <= n - len
+}
+
+// A box lies in the canvas.
+fn is_inside(canvas: &Canvas, rect: &Box3) -> bool
+    ensures { IsTrue result → HoldsBox canvas.now.map.size rect.now.corner rect.now.size }
+{
+    let size = canvas.map().size();
+    holds_axis(size.w, rect.corner.x, rect.size.w)
+        && holds_axis(size.h, rect.corner.y, rect.size.h)
+        && holds_axis(size.f, rect.corner.f, rect.size.f)
+}
+
+#[test]
+fn places_of_a_sample(rt: HostRuntime) -> Result<(), Fail> {
+    let bytes = BYTES.to_vec(rt.alloc())?;
+    let sample = Volume::from_bytes(Size { w: 8, h: 4, f: 1 }, 1, bytes);
+    let from = At { x: 0, y: 0, f: 0 };
+    let rect = Box3 {
+        corner: from,
+        size: Size { w: 4, h: 4, f: 1 },
+    };
+    let mut canvas = Canvas::empty(rt.alloc(), rect.size, 1)?;
+    assert!(rt; canvas.render_equals(&sample));
+    assert!(rt; is_inside(&canvas, &rect));
+    assert!(rt; sample.holds(&rect));
+    canvas.put_choice(&sample, &Placement { rect, from }, &[true; 16]);
+    assert!(rt; is_inside(&canvas, &rect));
+
+    let sums = SampleSums::make(rt.alloc(), &sample)?;
+    let levels = BoxLevels::gather(rt.alloc(), &canvas, &rect, &sums)?;
+    let run = levels.eliminate(&sums, &canvas, &sample, &rect, 0, from, 64);
+    // A place x columns on has the error 16 * x * x, and so have its blocks of 2x2 cells.
+    for x in 0..8 {
+        let at = At { x, y: 0, f: 0 };
+        assert_eq!(rt; run.covers(at), x < 5);
+        assert_eq!(rt; run.has(at, 64), x == 3 || x == 4);
+        assert!(rt; !run.has(at, 65));
+    }
+    Ok(())
 }

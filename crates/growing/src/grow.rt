@@ -1,29 +1,50 @@
 // The whole run.
-ghost use Rattle.std.specs.Prelude.{◌≤◌};
+ghost use Rattle.std.specs.Prelude.{◌≤◌, IfOk};
 ghost use Rattle.cells.specs.Places.{IsSmall};
 ghost use Rattle.map_canvas.specs.Maps.{IsFull};
+ghost use Rattle.block_sums.specs.Eliminations.{AreSampleSums};
 ghost use Rattle.patch_place.specs.Fitting.{HasPatch};
 ghost use Rattle.growing.specs.Grown.{Grows};
 ghost use Rattle.growing.specs.Work.{Ends, IsWork, LaysGrowth};
 
 use crate::plan::{GrowError, GrowPlan, Grown};
 use crate::steps::{Work, begin, refine_step, step};
+use block_sums::SampleSums;
 use cells::Volume;
 use items::Items;
-use patch_place::window_size;
+use patch_place::{Mode, window_size};
 use seam_cost::SeamTable;
-use std::alloc::Global;
+use std::alloc::{AllocError, Global};
+
+// The sums of the sample's blocks, where the run picks among the places of a box: in mode `Sub`, and in
+// rounds. Any other run needs none.
+fn sums_for(alloc: Global, plan: &GrowPlan, sample: &Volume) -> Result<SampleSums, AllocError>
+    ensures { IfOk result (AreSampleSums sample.now) }
+{
+    let picks_places = matches!(plan.mode, Mode::Sub { .. }) || plan.rounds > 0;
+    if picks_places {
+        SampleSums::make(alloc, sample)
+    } else {
+        Ok(SampleSums::none(alloc))
+    }
+}
 
 // Makes placements until the canvas is full.
-fn lay_all(alloc: Global, plan: &GrowPlan, sample: &Volume) -> Result<Work, GrowError>
+fn lay_all(
+    alloc: Global,
+    plan: &GrowPlan,
+    sample: &Volume,
+    sums: &SampleSums,
+) -> Result<Work, GrowError>
     requires small { IsSmall plan.now.size }
     requires patch { HasPatch plan.now.mode }
+    requires sums { AreSampleSums sample.now sums.now }
     ensures { LaysGrowth plan.now sample.now result }
 {
     let mut work = begin(alloc, plan, sample)?;
     let mut more = true;
     'placing: while more {
-        more = step(alloc, plan, sample, &mut work)?;
+        more = step(alloc, plan, sample, sums, &mut work)?;
     }
     Ok(work)
 }
@@ -33,8 +54,10 @@ fn refine_all(
     alloc: Global,
     plan: &GrowPlan,
     sample: &Volume,
+    sums: &SampleSums,
     work: &mut Work,
 ) -> Result<(), GrowError>
+    requires sums { AreSampleSums sample.now sums.now }
     requires work { IsWork plan.now sample.now work.old }
     requires full { IsFull work.old.canvas.map }
     requires side { 1 ≤ plan.now.side }
@@ -47,22 +70,24 @@ fn refine_all(
     let mut table = SeamTable::make(alloc, &work.canvas, sample, window)?;
     let mut more = true;
     'refining: while more && work.rounds < plan.rounds {
-        more = refine_step(alloc, plan, sample, work, &mut table)?;
+        more = refine_step(alloc, plan, sample, sums, work, &mut table)?;
     }
     Ok(())
 }
 
 /// Grows an output over a sample by the placements of a mode, each put in by a graph cut, and then refines
-/// it, with a record of each placement. Its draws are those of the seed, from number 0 on. The method is that
-/// of Kwatra et al., "Graphcut textures" (2003).
+/// it, with a record of each placement. Its draws are those of the seed, from number 0 on. In mode `Sub`, and
+/// with rounds, the sums of the sample's blocks are made once for all picks; they take 4 bytes for each cell of
+/// the sample until the run ends. The method is that of Kwatra et al., "Graphcut textures" (2003).
 pub fn grow_canvas(alloc: Global, plan: &GrowPlan, sample: &Volume) -> Result<Grown, GrowError>
     requires small { IsSmall plan.now.size }
     requires patch { HasPatch plan.now.mode }
     requires side { 1 ≤ plan.now.side }
     ensures { Grows plan.now sample.now result }
 {
-    let mut work = lay_all(alloc, plan, sample)?;
-    refine_all(alloc, plan, sample, &mut work)?;
+    let sums = sums_for(alloc, plan, sample)?;
+    let mut work = lay_all(alloc, plan, sample, &sums)?;
+    refine_all(alloc, plan, sample, &sums, &mut work)?;
     // It is asked for only to show the check that the sample is a volume.
     let _samples = sample.samples();
     Ok(Grown {

@@ -1,15 +1,17 @@
 // A run, step by step.
 ghost use Rattle.std.specs.Prelude.{◌≡◌, ◌≤◌, ◌<◌, IfOk};
 ghost use Rattle.cells.specs.Places.{IsSmall};
+ghost use Rattle.block_sums.specs.Eliminations.{AreSampleSums};
 ghost use Rattle.patch_place.specs.Fitting.{HasPatch};
 ghost use Rattle.growing.specs.Work.{Advances, IsRefining, IsWork, Refines};
 
 use crate::plan::{GrowError, GrowPlan};
+use block_sums::SampleSums;
 use cells::Volume;
 use cut_check::CutRecord;
 use graph_place::place;
 use map_canvas::Canvas;
-use patch_place::{Draws, next_placement};
+use patch_place::{Draws, next_placement_with};
 use refine_seams::round;
 use replay::MOST_BOX_CELLS;
 use seam_cost::SeamTable;
@@ -46,13 +48,22 @@ pub(crate) fn step(
     alloc: Global,
     plan: &GrowPlan,
     sample: &Volume,
+    sums: &SampleSums,
     work: &mut Work,
 ) -> Result<bool, GrowError>
+    requires sums { AreSampleSums sample.now sums.now }
     requires work { IsWork plan.now sample.now work.old }
     requires patch { HasPatch plan.now.mode }
     ensures { Advances plan.now sample.now work.old work.new result }
 {
-    let Some(placement) = next_placement(alloc, &plan.mode, &work.canvas, sample, &mut work.draws)?
+    let Some(placement) = next_placement_with(
+        alloc,
+        &plan.mode,
+        &work.canvas,
+        sample,
+        sums,
+        &mut work.draws,
+    )?
     else {
         return Ok(false);
     };
@@ -73,9 +84,11 @@ pub(crate) fn refine_step(
     alloc: Global,
     plan: &GrowPlan,
     sample: &Volume,
+    sums: &SampleSums,
     work: &mut Work,
     table: &mut SeamTable,
 ) -> Result<bool, GrowError>
+    requires sums { AreSampleSums sample.now sums.now }
     requires work { IsRefining plan.now sample.now work.old table.old }
     requires side { 1 ≤ plan.now.side }
     requires left { work.old.rounds < plan.now.rounds }
@@ -85,6 +98,7 @@ pub(crate) fn refine_step(
         alloc,
         &mut work.canvas,
         sample,
+        sums,
         plan.side,
         plan.tol,
         &mut work.draws,

@@ -7,7 +7,7 @@ use Rattle.growing.proofs.Stepping.{draws_laid, next_laid, one_more, passes, rou
 use Rattle.growing.proofs.steps.step.Goals as goal
 use Rattle.growing.proofs.steps.step.Goals.{In-Some}
 
-next : (c : In-Some) → IsNextAt c.args.plan.now.mode c.args.work.now.canvas.map c.args.sample.now c.args.work.now.draws c.in-Some.placement × (c.next_placement.new.draws ≡ draws_after c.args.plan.now.mode c.args.work.now.draws)
+next : (c : In-Some) → IsNextAt c.args.plan.now.mode c.args.work.now.canvas.map c.args.sample.now c.args.work.now.draws c.in-Some.placement × (c.next_placement_with.new.draws ≡ draws_after c.args.plan.now.mode c.args.work.now.draws)
 next c = rw c.in-Some.is at c.in_ok-placement.ensures
 
 small : (c : In-Some) → IsSmall c.in-Some.placement.rect.size

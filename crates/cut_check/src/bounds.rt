@@ -56,7 +56,7 @@ fn ends_up_to(cost: u32, flow: Flow) -> bool
 }
 
 // A number between minus the cost of a pair of sources and the cost. A cost is the sum of two distances, and
-// mostly the first of them is enough to tell.
+// where the first of them is enough to tell, the second isn't computed.
 fn is_within_seam(sample: &Volume, axis: Axis, a: At, b: At, z: i16) -> bool
     requires a { IsSource a }
     requires b { IsSource b }

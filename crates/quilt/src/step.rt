@@ -3,6 +3,7 @@ ghost use Rattle.std.specs.Prelude.{◌≡◌, ◌≤◌, IfOk, IfSome, OnErr, O
 ghost use Rattle.map_canvas.specs.Canvases.{IsCanvas, StandsOver};
 ghost use Rattle.map_canvas.specs.Choices.{Fits};
 ghost use Rattle.match_error.specs.Errors.{error_of};
+ghost use Rattle.block_sums.specs.Eliminations.{AreSampleSums};
 ghost use Rattle.patch_place.specs.Lists.{fit_list, part_lists};
 ghost use Rattle.patch_place.specs.Picks.{IsPick};
 ghost use Rattle.patch_place.specs.Steps.{after_draw};
@@ -14,9 +15,10 @@ ghost use Rattle.quilt.specs.Runs.{HaveOneFrame, IsLaidBlock, LaysNext, quilting
 
 use crate::{BlockRecord, lay_block, put_block};
 use block_strips::{QuiltPlan, block_rect, next_block_shares_strips};
+use block_sums::SampleSums;
 use cells::{Box3, Volume};
 use map_canvas::{Canvas, Placement};
-use patch_place::{Candidates, Draws, box_list_is_all_that_fit, pick};
+use patch_place::{Candidates, Draws, box_list_is_all_that_fit, pick_with};
 use std::alloc::{AllocError, Global};
 
 // The placement of a box that the next draw picks.
@@ -26,9 +28,11 @@ fn pick_for(
     rect: &Box3,
     canvas: &Canvas,
     sample: &Volume,
+    sums: &SampleSums,
     draws: &mut Draws,
 ) -> Result<Placement, AllocError>
     requires over { StandsOver canvas.now sample.now }
+    requires sums { AreSampleSums sample.now sums.now }
     requires fits { FitsBlock canvas.now.map.size sample.now.size rect.now }
     ensures pick { IfOk result (IsPick (error_of canvas.now.map sample.now) (Some plan.now.tol)
         (part_lists (fit_list rect.now) sample.now) draws.old) }
@@ -39,7 +43,7 @@ fn pick_for(
 {
     box_list_is_all_that_fit(rect, canvas.map().size(), sample);
     let list = Candidates::Fits { rect: *rect };
-    pick(alloc, &list, Some(plan.tol), canvas, sample, draws)
+    pick_with(alloc, &list, Some(plan.tol), canvas, sample, sums, draws)
 }
 
 // Lays the next block at a placement, and puts it in.
@@ -70,16 +74,18 @@ fn lay_and_put(
 
 /// Lays the next block of a plan over a canvas that is laid for it, and leaves a canvas that is: the block of
 /// `block_rect`, at the placement that the next draw picks among all that fit, with the boundaries of
-/// `lay_block`, put in by `put_block`. None where the canvas is full. The one error is out of memory; canvas and
-/// draws are as they were then.
+/// `lay_block`, put in by `put_block`. The sums are those of the sample's blocks, made once for all steps. None
+/// where the canvas is full. The one error is out of memory; canvas and draws are as they were then.
 pub fn next_block(
     alloc: Global,
     plan: &QuiltPlan,
     canvas: &mut Canvas,
     sample: &Volume,
+    sums: &SampleSums,
     draws: &mut Draws,
 ) -> Result<Option<BlockRecord>, AllocError>
     requires block { 1 ≤ plan.now.block }
+    requires sums { AreSampleSums sample.now sums.now }
     requires pictures { HaveOneFrame canvas.old sample.now }
     requires laid { IsLaidByBlocks plan.now sample.now canvas.old.map }
     ensures next { LaysNext plan.now sample.now (quilting canvas.old.map draws.old)
@@ -93,7 +99,7 @@ pub fn next_block(
         return Ok(None);
     };
     let number = draws.place();
-    let placement = pick_for(alloc, plan, &rect, canvas, sample, draws)?;
+    let placement = pick_for(alloc, plan, &rect, canvas, sample, sums, draws)?;
     match lay_and_put(alloc, plan, canvas, sample, &placement) {
         Ok(block) => Ok(Some(block)),
         Err(error) => {

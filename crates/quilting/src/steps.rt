@@ -1,10 +1,12 @@
 // A run, step by step.
 ghost use Rattle.std.specs.Prelude.{IfOk};
+ghost use Rattle.block_sums.specs.Eliminations.{AreSampleSums};
 ghost use Rattle.quilting.specs.Quilted.{CanBeQuilted};
 ghost use Rattle.quilting.specs.QuiltWork.{QuiltAdvances, IsQuiltWork};
 
 use crate::asked::{QuiltError, QuiltRun};
 use crate::costs::{block_boundaries, block_cost, block_fits};
+use block_sums::SampleSums;
 use cells::Volume;
 use map_canvas::Canvas;
 use patch_place::Draws;
@@ -50,9 +52,11 @@ pub(crate) fn step(
     alloc: Global,
     asked: &QuiltRun,
     sample: &Volume,
+    sums: &SampleSums,
     work: &mut QuiltWork,
 ) -> Result<bool, QuiltError>
     requires can { CanBeQuilted asked.now sample.now }
+    requires sums { AreSampleSums sample.now sums.now }
     requires work { IsQuiltWork asked.now sample.now work.old }
     ensures { QuiltAdvances asked.now sample.now work.old work.new result }
 {
@@ -63,6 +67,7 @@ pub(crate) fn step(
         &asked.plan,
         &mut work.canvas,
         sample,
+        sums,
         &mut work.draws,
     )?;
     // It is asked for only to show the check that the canvas is one.

@@ -84,8 +84,8 @@ pub(crate) fn marks(totals: u32x32, most: u32) -> [bool; LANES]
 
 /// Marks the lanes that one of two lists marks.
 pub(crate) fn marks_of_both(some: &[bool; LANES], others: &[bool; LANES]) -> [bool; LANES]
-    ensures { (j : ℕ) → slice_index_or result j false ≡ true → slice_index_or some.now j false ≡ false
-        → slice_index_or others.now j false ≡ true }
+    ensures { (j : ℕ) → slice_index_or result j false ≡ true
+        → slice_index_or some.now j false ≡ false → slice_index_or others.now j false ≡ true }
 {
     let mut marks = [false; LANES];
     for j in 0..LANES {

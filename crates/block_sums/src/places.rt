@@ -54,7 +54,8 @@ fn axis_holds(start: i32, n: u32, from: i32, len: u32, more: u32) -> bool
 /// cell.
 pub(crate) fn holds_run(outer: &Box3, inner: Size, from: At, n: u32) -> bool
     ensures some { IsTrue result → HasCells inner }
-    ensures inside { IsTrue result → (j : ℕ) → j < n → IsBoxIn outer.now (place_along from j) inner }
+    ensures inside { IsTrue result → (j : ℕ) → j < n
+        → IsBoxIn outer.now (place_along from j) inner }
 {
     let (corner, size) = (outer.corner, outer.size);
     if !axis_holds(corner.x, size.w, from.x, inner.w, n.saturating_sub(1)) {

@@ -55,8 +55,8 @@ sum_l-squares (x ∷ xs) = ap (λ n. x * x + n) (sum_l-squares xs) ∙ sym (sum_
 pub byte_product : (a b : ℕ) → a < 256 → b < 256 → a * b ≤ 65025
 byte_product a b p q = grind arith
 
--- squares of bytes, as many as a block has, add up to less than a lane holds
-pub sum_of_squares_fits : (xs : List ℕ) → length xs ≡ LANES → Each1 (λ x. x < 256) xs → 0 + sum_l (zip2 (λ a b. a * b) xs xs) < 2 ^ 32
-sum_of_squares_fits xs long bytes =
+-- squares of bytes, at most as many as a long block has, add up to less than a lane holds
+pub sum_of_squares_fits : (xs : List ℕ) → length xs ≤ LANES → Each1 (λ x. x < 256) xs → 0 + sum_l (zip2 (λ a b. a * b) xs xs) < 2 ^ 32
+sum_of_squares_fits xs few bytes =
     let small = Each1-zip2 (λ a b. a * b) (λ n. n ≤ 65025) xs xs (Each2-of (λ x. x < 256) (λ x. x < 256) (λ a b. a * b ≤ 65025) byte_product xs xs bytes bytes) in
     omega (arith, sum_bound 65025 (zip2 (λ a b. a * b) xs xs) small, length-zip2 (λ (a b : ℕ). a * b) xs xs refl)

@@ -1,3 +1,4 @@
 pub mod Bounds
 pub mod Lanes
+pub mod MaskedRows
 pub mod Rows

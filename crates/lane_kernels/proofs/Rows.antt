@@ -7,7 +7,7 @@ use Rattle.std.proofs.lemmas.List.Sums.{sum_by-cons, sum_by-append, sum_by-take-
 use Rattle.std.proofs.lemmas.Simd.{Each1-from_get_or, below_from_Fits}
 
 -- a row from `at` on, as the code borrows it
-pub row_from : (xs : List ℕ) (at : ℕ) → take (length xs - at) (drop at xs) ≡ drop at xs
+pub row_from : {A : Type 0} (xs : List A) (at : ℕ) → take (length xs - at) (drop at xs) ≡ drop at xs
 row_from xs at = take_all (length xs - at) (drop at xs) (omega (arith, length-drop at xs))
 
 -- a row is a row of bytes
@@ -46,6 +46,24 @@ module _ {X Y : Type 0} where
     -- the first `at` places, and all after them
     pub sum_by-zip_split : sum_by f (zip (take at xs) (take at ys)) + sum_by f (zip (drop at xs) (drop at ys)) ≡ sum_by f (zip xs ys)
     sum_by-zip_split = (λ i. sum_by f (sym (take-zip at xs ys) i) + sum_by f (sym (drop-zip at xs ys) i)) ∙ sum_by-take-drop f (zip xs ys) at
+
+    -- a total over the first `at` places, and the sum of the n after them, in the rows as the code borrows them
+    pub total_more : (n total next : ℕ) → total ≡ sum_by f (zip (take at xs) (take at ys))
+        → next ≡ sum_by f (zip (take n (take (length xs - at) (drop at xs))) (take n (take (length ys - at) (drop at ys))))
+        → total + next ≡ sum_by f (zip (take (at + n) xs) (take (at + n) ys))
+    total_more n total next so_far after =
+        (λ i. so_far i + (after ∙ (λ j. sum_by f (zip (take n (row_from xs at j)) (take n (row_from ys at j))))) i) ∙ sym (sum_by-zip_more n)
+
+    -- the same total, and the sum of all after those places
+    pub total_whole : (total next : ℕ) → total ≡ sum_by f (zip (take at xs) (take at ys))
+        → next ≡ sum_by f (zip (take (length xs - at) (drop at xs)) (take (length ys - at) (drop at ys)))
+        → total + next ≡ sum_by f (zip xs ys)
+    total_whole total next so_far after =
+        (λ i. so_far i + (after ∙ (λ j. sum_by f (zip (row_from xs at j) (row_from ys at j)))) i) ∙ sum_by-zip_split
+
+    -- it is at most the whole sum
+    pub total_within : (total : ℕ) → total ≡ sum_by f (zip (take at xs) (take at ys)) → total ≤ sum_by f (zip xs ys)
+    total_within total so_far = omega (arith, sum_by-zip_split)
 
   -- what holds of each pair of a P and a Q holds of each pair of the rows
   pub Each1-zip : (P : X → Type 0) (Q : Y → Type 0) (R : X × Y → Type 0) → ((x : X) (y : Y) → P x → Q y → R (x, y)) → (xs : List X) (ys : List Y) → Each1 P xs → Each1 Q ys → Each1 R (zip xs ys)

@@ -6,9 +6,10 @@
 //! 2^26: no sum wraps, and no byte is left out, whatever the length. `specs/Sums.antt` defines the
 //! sums. None of the functions takes memory.
 //!
-//! The rows are read in blocks of `LANES` bytes, one byte a lane (`block.rt`), and what is left after
-//! the last whole block by a plain loop (`rest.rt`). A block's sum fits its lanes and a `u32`, and
-//! the blocks' sums are added up in a `u64`.
+//! The rows are read in long blocks of `LANES` bytes, one byte a lane (`block.rt`). What is left after
+//! the last whole one, the rows' tail, is read in short blocks of `SHORT` bytes (`tail.rt`), and what
+//! is left after those by a plain loop (`rest.rt`). A block's sum fits its lanes, and it and a tail's
+//! sum fit a `u32`; the sums of the long blocks and of the tail are added up in a `u64`.
 #![tactic(auto)]
 
 ghost use Rattle.std.specs.Prelude.{◌≡◌, ◌≤◌, ◌*◌, ◌^◌, length};
@@ -16,11 +17,12 @@ ghost use Rattle.lane_kernels.specs.Sums.{sum_of_absolute_differences, sum_of_sq
 
 mod block;
 mod rest;
+mod tail;
 #[cfg(test)]
 mod tests;
 
 use block::{LANES, sad_block, ssd_block, ssd_masked_block};
-use rest::{sad_rest, ssd_masked_rest, ssd_rest};
+use tail::{sad_tail, ssd_masked_tail, ssd_tail};
 
 /// The sum of absolute differences of two rows, byte by byte.
 pub fn sad(a: &[u8], b: &[u8]) -> u64
@@ -32,10 +34,10 @@ pub fn sad(a: &[u8], b: &[u8]) -> u64
     let mut total = 0;
     let mut at = 0;
     'by_block: while a.len() - at >= LANES {
-        total += u64::from(sad_block(&a[at..], &b[at..]));
+        total += u64::from(sad_block::<LANES>(&a[at..], &b[at..]));
         at += LANES;
     }
-    total + u64::from(sad_rest(&a[at..], &b[at..]))
+    total + u64::from(sad_tail(&a[at..], &b[at..]))
 }
 
 /// The sum of squared differences of two rows, byte by byte.
@@ -48,10 +50,10 @@ pub fn ssd(a: &[u8], b: &[u8]) -> u64
     let mut total = 0;
     let mut at = 0;
     'by_block: while a.len() - at >= LANES {
-        total += u64::from(ssd_block(&a[at..], &b[at..]));
+        total += u64::from(ssd_block::<LANES>(&a[at..], &b[at..]));
         at += LANES;
     }
-    total + u64::from(ssd_rest(&a[at..], &b[at..]))
+    total + u64::from(ssd_tail(&a[at..], &b[at..]))
 }
 
 /// The sum of squared differences over the bytes that the mask keeps. The mask has a byte for each
@@ -66,8 +68,8 @@ pub fn ssd_masked(a: &[u8], b: &[u8], mask: &[u8]) -> u64
     let mut total = 0;
     let mut at = 0;
     'by_block: while a.len() - at >= LANES {
-        total += u64::from(ssd_masked_block(&a[at..], &b[at..], &mask[at..]));
+        total += u64::from(ssd_masked_block::<LANES>(&a[at..], &b[at..], &mask[at..]));
         at += LANES;
     }
-    total + u64::from(ssd_masked_rest(&a[at..], &b[at..], &mask[at..]))
+    total + u64::from(ssd_masked_tail(&a[at..], &b[at..], &mask[at..]))
 }

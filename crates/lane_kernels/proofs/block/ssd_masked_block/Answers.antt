@@ -3,7 +3,6 @@ use Rattle.std.specs.Int.{abs_diff}
 use Rattle.std.specs.List.{zip}
 use Rattle.std.specs.Simd.Lanes.{zip2}
 use Rattle.lane_kernels.specs.Sums.{masked_squared_difference}
-use Rattle.lane_kernels.specs.declared.block.TheConstants.{LANES}
 use Rattle.lane_kernels.proofs.Lanes.{kept_lane, sum_by-zip2, zip2-zip2}
 use Rattle.lane_kernels.proofs.block.ssd_masked_block.Goals as goal
 
@@ -19,8 +18,8 @@ masked_lanes a b mask =
     ∙ (λ i. sum_by (λ (q : (ℕ × ℕ) × ℕ). square_of_kept (q.1 == 0) (abs_diff q.0.0 q.0.1) i) (zip (zip a b) mask))
 
 pub returns : goal.returns
-returns c =
-    let mask = take LANES c.args.mask.now in
+returns g c =
+    let mask = take g.row.N c.args.mask.now in
     c.lane_square_sum.ensures
     ∙ ap (sum_by (λ x. x * x)) (c.kept.ensures ∙ ap (λ (d : List ℕ). zip2 kept_lane d mask) c.differences.ensures)
-    ∙ masked_lanes (take LANES c.args.a.now) (take LANES c.args.b.now) mask
+    ∙ masked_lanes (take g.row.N c.args.a.now) (take g.row.N c.args.b.now) mask

@@ -7,3 +7,4 @@ pub mod Order
 pub mod Parts
 pub mod Fitting
 pub mod NoFault
+pub mod OneFrame

@@ -245,6 +245,21 @@ fn holds_along(
     is_bounded_at(map, sample, &cut.placement, axis, at, flow)
 }
 
+// The same along F, along which a box of one frame has no pair.
+fn holds_along_frames(map: &Map, sample: &Volume, cut: &CutRecord, walk: Walk) -> bool
+    requires lies { LiesOver map.now sample.now cut.now.placement }
+    requires inside { IsWalkIn cut.now.placement.rect.size walk }
+    ensures { IsTrue result ↔ HoldsAlong (distance sample.now) map.now cut.now
+        walk.at.x walk.at.y walk.at.f Axis.F }
+{
+    let size = cut.placement.rect.size;
+    if size.f == 1 {
+        return true;
+    }
+    let number = walk.pair_number(size, Axis::F);
+    holds_along(map, sample, cut, Axis::F, walk.at, number)
+}
+
 // The first axis along which the pair of a cell isn't.
 fn first_axis(map: &Map, sample: &Volume, cut: &CutRecord, walk: Walk) -> Option<Axis>
     requires lies { LiesOver map.now sample.now cut.now.placement }
@@ -263,8 +278,7 @@ fn first_axis(map: &Map, sample: &Volume, cut: &CutRecord, walk: Walk) -> Option
     if !holds_along(map, sample, cut, Axis::Y, walk.at, number) {
         return Some(Axis::Y);
     }
-    let number = walk.pair_number(size, Axis::F);
-    if !holds_along(map, sample, cut, Axis::F, walk.at, number) {
+    if !holds_along_frames(map, sample, cut, walk) {
         return Some(Axis::F);
     }
     None

@@ -86,6 +86,19 @@ fn leaving_along(size: Size, flows: &[Flow], axis: Axis, walk: Walk) -> i32
     i32::from(out.x) - i32::from(into.y)
 }
 
+// The same along F, along which a box of one frame has no pair.
+fn leaving_along_frames(size: Size, flows: &[Flow], walk: Walk) -> i32
+    requires small { IsSmall size }
+    requires inside { IsWalkIn size walk }
+    ensures is { result ≡ leaving_along size flows.now Axis.F walk.at.x walk.at.y walk.at.f }
+    ensures near { IsBetween (minus_of most_along) (pos most_along) result }
+{
+    if size.f == 1 {
+        return 0;
+    }
+    leaving_along(size, flows, Axis::F, walk)
+}
+
 // The sum of three numbers, apart so that the check adds numbers alone.
 fn sum_of(a: i32, b: i32, c: i32) -> i32
     requires a { IsBetween (minus_of most_along) (pos most_along) a }
@@ -108,6 +121,6 @@ pub fn leaving(size: Size, flows: &[Flow], walk: Walk) -> i32
     sum_of(
         leaving_along(size, flows, Axis::X, walk),
         leaving_along(size, flows, Axis::Y, walk),
-        leaving_along(size, flows, Axis::F, walk),
+        leaving_along_frames(size, flows, walk),
     )
 }

@@ -4,6 +4,7 @@ pub mod Overlaps
 pub mod Bounds
 pub mod Filled
 pub mod RunLists
+pub mod Offsets
 pub mod Entries
 pub mod Tables
 pub mod Fronts

@@ -12,7 +12,7 @@ use Rattle.cells.specs.declared.place.Box3.{Box3}
 use Rattle.cells.specs.declared.place.Size.{Size}
 use Rattle.cells.specs.Boxes.{HoldsBox}
 use Rattle.cells.specs.Cells.{Cells, HasRun, Holds, IsInsideOf, row_at}
-use Rattle.cells.specs.Places.{plus, spot}
+use Rattle.cells.specs.Places.{HasAxes, plus, raster_index, spot}
 use Rattle.cells.proofs.PartBoxes.{box_held, held_run, row_step}
 use Rattle.lane_kernels.specs.Sums.{sum_of_squared_differences}
 use Rattle.map_canvas.specs.Canvases.{CanvasState, IsCanvas}
@@ -57,14 +57,14 @@ same_bytes : (start n : ℕ) (bytes more : List ℕ) → start + n ≤ length by
 same_bytes start n bytes more le =
     ap (take n) (drop-append-le start bytes more (omega arith)) ∙ take-append-le n (drop start bytes) more (omega (arith, length-drop start bytes))
 
-same_errors : (rect : Box3) (bytes more : List ℕ) (sample : Cells) (from : At) (runs : List FilledRun) → All (IsRunIn sample.k rect (length bytes)) runs
+same_errors : (rect : Box3) (part : Size) (bytes more : List ℕ) (sample : Cells) (from : At) (runs : List FilledRun) → All (IsRunIn sample.k rect part (length bytes)) runs
     → sum_by (run_error (bytes ++ more) sample from) runs ≡ sum_by (run_error bytes sample from) runs
-same_errors rect bytes more sample from [] all = refl
-same_errors rect bytes more sample from (run ∷ runs) all =
-    let is = All-head (IsRunIn sample.k rect (length bytes)) run runs all in
+same_errors rect part bytes more sample from [] all = refl
+same_errors rect part bytes more sample from (run ∷ runs) all =
+    let is = All-head (IsRunIn sample.k rect part (length bytes)) run runs all in
     sum_by-cons (run_error (bytes ++ more) sample from) run runs
     ∙ ap (λ piece. sum_of_squared_differences piece (row_at sample (plus from run.step) run.w) + sum_by (run_error (bytes ++ more) sample from) runs) (same_bytes run.start (sample.k * run.w) bytes more is.whole)
-    ∙ ap (λ rest. run_error bytes sample from run + rest) (same_errors rect bytes more sample from runs (All-tail (IsRunIn sample.k rect (length bytes)) run runs all))
+    ∙ ap (λ rest. run_error bytes sample from run + rest) (same_errors rect part bytes more sample from runs (All-tail (IsRunIn sample.k rect part (length bytes)) run runs all))
     ∙ sym (sum_by-cons (run_error bytes sample from) run runs)
 
 -- the bytes of the last run
@@ -80,11 +80,13 @@ one_more bytes sample from runs run =
 pub record IsOneMore (canvas : CanvasState) (rect : Box3) (x y f n : ℕ) (was now : FilledRuns) : Type 0 where
   pub run : FilledRun
   pub row : List ℕ
+  pub part : now.part ≡ was.part
   pub runs : now.runs.items ≡ was.runs.items ++ run ∷ []
   pub bytes : now.bytes.items ≡ was.bytes.items ++ row
   pub step : run.step ≡ spot x y f
   pub long : run.w ≡ n
   pub start : run.start ≡ length was.bytes.items
+  pub offset : run.offset ≡ raster_index was.part x y f
   pub row_is : row ≡ row_at canvas.picture (plus rect.corner (spot x y f)) n
   pub row_long : length row ≡ canvas.picture.k * n
 
@@ -92,9 +94,9 @@ pub more_runs_in : (canvas : CanvasState) (rect : Box3) (x y f n : ℕ) (was now
 more_runs_in canvas rect x y f n was now is some row all =
     let k = canvas.picture.k in
     let total : length now.bytes.items ≡ length was.bytes.items + k * n = ap length is.bytes ∙ length-append was.bytes.items is.row ∙ ap (λ m. length was.bytes.items + m) is.row_long in
-    let weaker : (run : FilledRun) → IsRunIn k rect (length was.bytes.items) run → IsRunIn k rect (length now.bytes.items) run
-    = λ run in_was. record { x = in_was.x; y = in_was.y; f = in_was.f; step = in_was.step; some = in_was.some; row = in_was.row; whole = omega (arith, in_was.whole, total) } in
-    let last : IsRunIn k rect (length now.bytes.items) is.run = record {
+    let weaker : (run : FilledRun) → IsRunIn k rect was.part (length was.bytes.items) run → IsRunIn k rect was.part (length now.bytes.items) run
+    = λ run in_was. record { x = in_was.x; y = in_was.y; f = in_was.f; step = in_was.step; some = in_was.some; row = in_was.row; whole = omega (arith, in_was.whole, total); offset = in_was.offset } in
+    let last : IsRunIn k rect was.part (length now.bytes.items) is.run = record {
       x = x;
       y = y;
       f = f;
@@ -102,19 +104,25 @@ more_runs_in canvas rect x y f n was now is some row all =
       some = omega (arith, is.long, some);
       row = subst (λ m. IsInRow rect (x + m) y f) (sym is.long) row;
       whole = omega (arith, total, is.start, ap (λ m. k * m) is.long);
+      offset = is.offset;
     } in
-    subst (λ runs. All (IsRunIn k rect (length now.bytes.items)) runs) (sym is.runs)
-    (All-push (IsRunIn k rect (length now.bytes.items)) was.runs.items is.run (λ i d lt. weaker _ (all i d lt)) last)
+    record {
+      axes = subst HasAxes (sym is.part) all.axes;
+      each =
+          subst (λ part. All (IsRunIn k rect part (length now.bytes.items)) now.runs.items) (sym is.part)
+          (subst (λ runs. All (IsRunIn k rect was.part (length now.bytes.items)) runs) (sym is.runs)
+          (All-push (IsRunIn k rect was.part (length now.bytes.items)) was.runs.items is.run (λ i d lt. weaker _ (all.each i d lt)) last));
+    }
 
 pub more_error : (canvas : CanvasState) (rect : Box3) (x y f n : ℕ) (was now : FilledRuns) → IsCanvas canvas → IsOneMore canvas rect x y f n was now → 1 ≤ n → IsInRow rect (x + n) y f
     → ((j : ℕ) → j < n → IsFilled canvas.map (plus rect.corner (spot (x + j) y f))) → AreRunsIn canvas.picture.k rect was → AddsRun canvas rect x y f n was now
 more_error canvas rect x y f n was now canvas_is is some row filled all = λ sample from laid.
-    let in_was : All (IsRunIn sample.k rect (length was.bytes.items)) was.runs.items = subst (λ k. All (IsRunIn k rect (length was.bytes.items)) was.runs.items) laid.stands.samples all in
+    let in_was : All (IsRunIn sample.k rect was.part (length was.bytes.items)) was.runs.items = subst (λ k. All (IsRunIn k rect was.part (length was.bytes.items)) was.runs.items) laid.stands.samples all.each in
     let long : length is.row ≡ sample.k * is.run.w = is.row_long ∙ (λ t. laid.stands.samples t * sym is.long t) in
     let bytes = was.bytes.items ++ is.row in
     (λ t. sum_by (run_error (is.bytes t) sample from) (is.runs t))
     ∙ one_more bytes sample from was.runs.items is.run
-    ∙ ap (λ front. front + run_error bytes sample from is.run) (same_errors rect was.bytes.items is.row sample from was.runs.items in_was)
+    ∙ ap (λ front. front + run_error bytes sample from is.run) (same_errors rect was.part was.bytes.items is.row sample from was.runs.items in_was)
     ∙ ap (λ last. sum_by (run_error was.bytes.items sample from) was.runs.items + last)
     ((λ t. sum_of_squared_differences ((ap (λ s. take (sample.k * is.run.w) (drop s bytes)) is.start ∙ last_bytes (sample.k * is.run.w) was.bytes.items is.row long ∙ is.row_is) t) (row_at sample (plus from (is.step t)) (is.long t)))
     ∙ run_is_error canvas sample (laid_from rect from) canvas_is laid.volume laid.stands laid.fits y f row.row_in row.frame_in x n some row.columns_in filled)

@@ -1,11 +1,12 @@
 -- The filled cells of a box, gathered as runs, for the contracts of this crate; a reader has to
 -- trust `AreFilledRuns` alone, and of it only that it serves `FilledRuns`.
-use Rattle.std.specs.Prelude.{◌≡◌, ◌≤◌, ◌<◌, ◌+◌, ◌*◌, ℕ, List, All, length, drop, take}
+use Rattle.std.specs.Prelude.{◌≡◌, ◌≤◌, ◌<◌, ◌+◌, ◌*◌, ℕ, List, All, Some, length, drop, take}
 use Rattle.std.specs.List.{sum_by}
 use Rattle.cells.specs.declared.place.At.{At}
 use Rattle.cells.specs.declared.place.Box3.{Box3}
+use Rattle.cells.specs.declared.place.Size.{Size}
 use Rattle.cells.specs.Cells.{Cells, IsVolume, row_at}
-use Rattle.cells.specs.Places.{plus, spot}
+use Rattle.cells.specs.Places.{HasAxes, index_in, plus, raster_index, spot}
 use Rattle.box_sums.specs.Sums.{sum_to}
 use Rattle.lane_kernels.specs.Sums.{sum_of_squared_differences}
 use Rattle.map_canvas.specs.declared.canvas.Placement.{Placement}
@@ -21,8 +22,9 @@ pub record IsInRow (rect : Box3) (columns y f : ℕ) : Type 0 where
   pub row_in : y < rect.size.h
   pub frame_in : f < rect.size.f
 
--- a run lies in a row of the box, and its bytes among so many
-pub record IsRunIn (k : ℕ) (rect : Box3) (bytes : ℕ) (run : FilledRun) : Type 0 where
+-- a run lies in a row of the box, and its bytes among so many; its offset is the count of cells from
+-- the box's first one to its own in a part of a size, wherever in the part the box lies
+pub record IsRunIn (k : ℕ) (rect : Box3) (part : Size) (bytes : ℕ) (run : FilledRun) : Type 0 where
   pub x : ℕ
   pub y : ℕ
   pub f : ℕ
@@ -30,10 +32,19 @@ pub record IsRunIn (k : ℕ) (rect : Box3) (bytes : ℕ) (run : FilledRun) : Typ
   pub some : 1 ≤ run.w
   pub row : IsInRow rect (x + run.w) y f
   pub whole : run.start + k * run.w ≤ bytes
+  pub offset : run.offset ≡ raster_index part x y f
 
 -- each run does
-abbrev pub AreRunsIn : ℕ → Box3 → FilledRuns → Type 0
-AreRunsIn k rect runs = All (IsRunIn k rect (length runs.bytes.items)) runs.runs.items
+pub record AreRunsIn (k : ℕ) (rect : Box3) (runs : FilledRuns) : Type 0 where
+  pub axes : HasAxes runs.part
+  pub each : All (IsRunIn k rect runs.part (length runs.bytes.items)) runs.runs.items
+
+-- a place of a sample's first part has this index, and the part's rows and frames are as long as
+-- those of a size
+pub record IsFrontIndex (part : Size) (sample : Cells) (at : At) (i : ℕ) : Type 0 where
+  pub w : sample.size.w ≡ part.w
+  pub h : sample.size.h ≡ part.h
+  pub index : index_in sample.size at ≡ Some i
 
 -- the squared differences of a run's bytes from a row of the sample, where the box is laid from a
 -- place on; and of all runs

@@ -1,16 +1,16 @@
 // The filled cells of a box as runs along X, gathered once for all placements of the box.
-ghost use Rattle.std.specs.Prelude.{◌≡◌, ◌≤◌, ◌<◌, ◌+◌, ◌*◌, ◌^◌, ℕ, IfNone, IfOk, IfSome, OnOk, length};
+ghost use Rattle.std.specs.Prelude.{◌≡◌, ◌≤◌, ◌<◌, ◌+◌, ◌*◌, ◌^◌, ℕ, IfNone, IfOk, IfSome, OnOk, Some, length};
 ghost use Rattle.cells.specs.Boxes.{HasCells, HoldsBox};
-ghost use Rattle.cells.specs.Cells.{Holds, IsVolume};
-ghost use Rattle.cells.specs.Places.{SumFits, plus, spot};
+ghost use Rattle.cells.specs.Cells.{Holds, IsVolume, row_at, run_from};
+ghost use Rattle.cells.specs.Places.{HasAxes, IsSmall, SumFits, plus, raster_index, spot};
 ghost use Rattle.map_canvas.specs.Canvases.{StandsOver};
 ghost use Rattle.map_canvas.specs.Choices.{Fits};
 ghost use Rattle.map_canvas.specs.Maps.{IsFilled};
 ghost use Rattle.match_error.specs.Errors.{error_sum};
-ghost use Rattle.match_error.specs.Runs.{AddsFrame, AddsRow, AddsRun, AreFilledRuns, AreRunsIn, IsInRow, IsRunIn, run_error};
+ghost use Rattle.match_error.specs.Runs.{AddsFrame, AddsRow, AddsRun, AreFilledRuns, AreRunsIn, IsFrontIndex, IsInRow, IsRunIn, run_error};
 
 use crate::rows::step_to;
-use cells::{At, Box3, GREATEST_AXIS, Volume};
+use cells::{At, Box3, GREATEST_AXIS, Size, Volume};
 use lane_kernels::ssd;
 use map_canvas::{Canvas, Placement};
 use std::alloc::{AllocError, Global};
@@ -24,12 +24,16 @@ struct FilledRun {
     w: u32,
     // where its bytes begin
     start: usize,
+    // how many cells later it begins than the box, in a part of the size that the runs are made for
+    offset: usize,
 }
 
 /// The filled cells of a box, as runs along X with the bytes that stand there. They serve all
 /// placements of the box, as long as the canvas stays as it is.
 #[derive(Drop)]
 pub struct FilledRuns {
+    // the size of a part whose rows and frames the offsets count
+    part: Size,
     runs: Vec<FilledRun>,
     // of all runs, one after another
     bytes: Vec<u8>,
@@ -48,6 +52,38 @@ fn filled_from(canvas: &Canvas, at: At, most: u32) -> u32
         n += 1;
     }
     n
+}
+
+// How many cells three counts lead on, in a part of a size.
+fn offset_in(part: Size, x: u32, y: u32, f: u32) -> usize
+    requires axes { HasAxes part }
+    requires counts { (x < GREATEST_AXIS) × (y < GREATEST_AXIS) × (f < GREATEST_AXIS) }
+    ensures { result ≡ raster_index part x y f }
+{
+    x as usize + part.w as usize * (y as usize + part.h as usize * f as usize)
+}
+
+// The size of a sample's first part.
+fn first_size(sample: &Volume) -> Size
+    ensures size { result ≡ sample.now.size }
+    ensures small { IsSmall result }
+{
+    // It is asked for only to show the check that the sample is a volume.
+    let _sample = sample.samples();
+    sample.sizes().at(1)
+}
+
+// The bytes of n cells of a sample from an index on.
+fn cells_from(sample: &Volume, i: usize, n: u32) -> &[u8]
+    requires { i + n ≤ length sample.now.cells }
+    ensures bytes { result.now ≡ run_from sample.now.cells n (Some i) }
+    ensures len { length result.now ≡ sample.now.k * n }
+{
+    let k = sample.samples() as usize;
+    let bytes = sample.bytes();
+    let start = k * i;
+    let len = k * n as usize;
+    &bytes[start..start + len]
 }
 
 impl FilledRuns {
@@ -72,10 +108,16 @@ impl FilledRuns {
     {
         let picture = canvas.picture();
         let step = step_to(x, y, f);
+        let offset = offset_in(self.part, x, y, f);
         let start = self.bytes.as_slice().len();
         let old = picture.row(rect.corner.plus(step), n);
         self.bytes.extend_from_slice(old)?;
-        self.runs.push(FilledRun { step, w: n, start })?;
+        self.runs.push(FilledRun {
+            step,
+            w: n,
+            start,
+            offset,
+        })?;
         Ok(())
     }
 
@@ -117,12 +159,20 @@ impl FilledRuns {
         Ok(())
     }
 
-    /// The filled cells of a box inside the output.
-    pub fn gather(alloc: Global, canvas: &Canvas, rect: &Box3) -> Result<FilledRuns, AllocError>
+    /// The filled cells of a box inside the output. They may be laid over any sample, and are laid
+    /// quickest over the first part of this one.
+    pub fn gather(
+        alloc: Global,
+        canvas: &Canvas,
+        sample: &Volume,
+        rect: &Box3,
+    ) -> Result<FilledRuns, AllocError>
         requires inside { HoldsBox canvas.now.map.size rect.now.corner rect.now.size }
         ensures { IfOk result (AreFilledRuns canvas.now rect.now) }
     {
+        let part = first_size(sample);
         let mut cells = FilledRuns {
+            part,
             runs: Vec::new(alloc),
             bytes: Vec::new(alloc),
         };
@@ -132,17 +182,64 @@ impl FilledRuns {
         Ok(cells)
     }
 
-    // The sum over a run.
-    fn run_sum(&self, run: &FilledRun, sample: &Volume, placement: &Placement) -> u64
-        requires run { IsRunIn sample.now.k placement.now.rect
+    // The index of a place of a sample's first part, where its rows and frames are as long as those that the
+    // offsets count.
+    #[tactic(auto, using(crate::proofs::Offsets::front_found))]
+    fn front_index(&self, sample: &Volume, at: At) -> Option<usize>
+        ensures { IfSome result (IsFrontIndex self.now.part sample.now at) }
+    {
+        let part = first_size(sample);
+        if part.w == self.part.w && part.h == self.part.h {
+            part.index_of(at)
+        } else {
+            None
+        }
+    }
+
+    // The bytes that come to a run. A place costs more than an index, which a box has by its first cell.
+    fn new_bytes<'a>(
+        &self,
+        run: &FilledRun,
+        sample: &'a Volume,
+        placement: &Placement,
+        front: Option<usize>,
+    ) -> &'a [u8]
+        requires run { IsRunIn sample.now.k placement.now.rect self.now.part
             (length self.now.bytes.items) run.now }
         requires volume { IsVolume sample.now }
         requires some { HasCells placement.now.rect.size }
         requires sources { Holds sample.now placement.now.from placement.now.rect.size }
+        requires front { IfSome front
+            (IsFrontIndex self.now.part sample.now placement.now.from) }
+        ensures bytes { result.now
+            ≡ row_at sample.now (plus placement.now.from run.now.step) run.now.w }
+        ensures len { length result.now ≡ sample.now.k * run.now.w }
+    {
+        match front {
+            Some(i) => cells_from(sample, i + run.offset, run.w),
+            None => sample.row(placement.from.plus(run.step), run.w),
+        }
+    }
+
+    // The sum over a run.
+    fn run_sum(
+        &self,
+        run: &FilledRun,
+        sample: &Volume,
+        placement: &Placement,
+        front: Option<usize>,
+    ) -> u64
+        requires run { IsRunIn sample.now.k placement.now.rect self.now.part
+            (length self.now.bytes.items) run.now }
+        requires volume { IsVolume sample.now }
+        requires some { HasCells placement.now.rect.size }
+        requires sources { Holds sample.now placement.now.from placement.now.rect.size }
+        requires front { IfSome front
+            (IsFrontIndex self.now.part sample.now placement.now.from) }
         ensures sum { result
             ≡ run_error self.now.bytes.items sample.now placement.now.from run.now }
     {
-        let new = sample.row(placement.from.plus(run.step), run.w);
+        let new = self.new_bytes(run, sample, placement, front);
         ssd(&self.bytes[run.start..run.start + new.len()], new)
     }
 
@@ -168,9 +265,10 @@ impl FilledRuns {
         // They are asked for only to show the check that these are a map and a volume.
         let _map = canvas.map();
         let _sample = sample.samples();
+        let front = self.front_index(sample, placement.from);
         let mut sum: u64 = 0;
         'runs: for run in &self.runs {
-            sum += self.run_sum(run, sample, placement);
+            sum += self.run_sum(run, sample, placement, front);
             if sum > limit {
                 return None;
             }

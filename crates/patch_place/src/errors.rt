@@ -228,7 +228,7 @@ fn filled_shortlist(
     ensures { IfOk result (IsShortlistOf tol
         (errors_on canvas.now sample.now (Candidates.Fits rect.now))) }
 {
-    let runs = FilledRuns::gather(alloc, canvas, rect)?;
+    let runs = FilledRuns::gather(alloc, canvas, sample, rect)?;
     let levels = BoxLevels::gather(alloc, canvas, rect, sums)?;
     let sizes = parts_of(sample);
     let known = least_hint(&runs, canvas, sample, rect, count);

@@ -9,12 +9,12 @@ use Rattle.cells.specs.Places.{IsSmall, plus, spot}
 use Rattle.cells.proofs.BoxLaws.{box_small}
 use Rattle.cells.proofs.CellLaws.{IfCell, cell_is_cell}
 use Rattle.box_sums.specs.Sums.{sum_to}
-use Rattle.box_sums.proofs.Bounds.{box_bound, sum_of_more}
+use Rattle.box_sums.proofs.Bounds.{box_bound, sum_bound, sum_of_more}
 use Rattle.lane_kernels.proofs.Bounds.{ssd_bound}
 use Rattle.map_canvas.specs.declared.canvas.Placement.{Placement}
 use Rattle.map_canvas.specs.Maps.{SourceMap, map_at, sample_cell}
 use Rattle.map_canvas.specs.Choices.{Fits, new_source}
-use Rattle.match_error.specs.Errors.{cell_error, error_sum}
+use Rattle.match_error.specs.Errors.{cell_error, error_sum, row_error}
 
 -- at most 6 samples, each a byte
 record IsShort (cell : List ℕ) : Type 0 where
@@ -41,6 +41,13 @@ error_small m sample placement small is fits =
     let old = λ (x y f : ℕ). plus placement.rect.corner (spot x y f) in
     let bound = box_bound placement.rect.size 390150 (λ x y f. cell_error sample (map_at m (old x y f)) (new_source placement (old x y f))) (λ x y f lx ly lf. cell_bound sample is (map_at m (old x y f)) (new_source placement (old x y f))) in
     omega (arith, bound, box.cells)
+
+pub row_small : (m : SourceMap) (sample : Cells) (placement : Placement) (y f : ℕ) → IsSmall m.size → IsVolume sample → Fits m.size sample placement → row_error m sample placement y f ≤ 1598054400
+row_small m sample placement y f small is fits =
+    let box = box_small m.size placement.rect.corner placement.rect.size small fits.some fits.inside in
+    let old = λ (x : ℕ). plus placement.rect.corner (spot x y f) in
+    let bound = sum_bound placement.rect.size.w 390150 (λ x. cell_error sample (map_at m (old x)) (new_source placement (old x))) (λ x lx. cell_bound sample is (map_at m (old x)) (new_source placement (old x))) in
+    omega (arith, bound, box.axes.w.1)
 
 -- a sum whose first terms pass a limit passes it
 pub passed : (limit before n i : ℕ) (g : ℕ → ℕ) → i < n → limit < before + (sum_to i g + g i) → limit < before + sum_to n g

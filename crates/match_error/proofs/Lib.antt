@@ -7,4 +7,4 @@ pub mod RunLists
 pub mod Offsets
 pub mod Entries
 pub mod Tables
-pub mod Fronts
+pub mod RowRuns

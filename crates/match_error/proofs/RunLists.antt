@@ -52,10 +52,10 @@ run_of_picture canvas rect x n y f is inside some row =
     run_held canvas.picture rect.corner rect.size x n y f
     (box_held canvas.picture rect.corner rect.size (subst (λ size. HoldsBox size rect.corner rect.size) (sym is.size) inside)) some row.columns_in row.row_in row.frame_in
 
--- the bytes of a run stay where more come after them
-same_bytes : (start n : ℕ) (bytes more : List ℕ) → start + n ≤ length bytes → take n (drop start (bytes ++ more)) ≡ take n (drop start bytes)
-same_bytes start n bytes more le =
-    ap (take n) (drop-append-le start bytes more (omega arith)) ∙ take-append-le n (drop start bytes) more (omega (arith, length-drop start bytes))
+-- a piece of a list stays where more comes after the list
+pub same_piece : {X : Type 0} (start n : ℕ) (all more : List X) → start + n ≤ length all → take n (drop start (all ++ more)) ≡ take n (drop start all)
+same_piece start n all more le =
+    ap (take n) (drop-append-le start all more (omega arith)) ∙ take-append-le n (drop start all) more (omega (arith, length-drop start all))
 
 same_errors : (rect : Box3) (part : Size) (bytes more : List ℕ) (sample : Cells) (from : At) (runs : List FilledRun) → All (IsRunIn sample.k rect part (length bytes)) runs
     → sum_by (run_error (bytes ++ more) sample from) runs ≡ sum_by (run_error bytes sample from) runs
@@ -63,13 +63,13 @@ same_errors rect part bytes more sample from [] all = refl
 same_errors rect part bytes more sample from (run ∷ runs) all =
     let is = All-head (IsRunIn sample.k rect part (length bytes)) run runs all in
     sum_by-cons (run_error (bytes ++ more) sample from) run runs
-    ∙ ap (λ piece. sum_of_squared_differences piece (row_at sample (plus from run.step) run.w) + sum_by (run_error (bytes ++ more) sample from) runs) (same_bytes run.start (sample.k * run.w) bytes more is.whole)
+    ∙ ap (λ piece. sum_of_squared_differences piece (row_at sample (plus from run.step) run.w) + sum_by (run_error (bytes ++ more) sample from) runs) (same_piece run.start (sample.k * run.w) bytes more is.whole)
     ∙ ap (λ rest. run_error bytes sample from run + rest) (same_errors rect part bytes more sample from runs (All-tail (IsRunIn sample.k rect part (length bytes)) run runs all))
     ∙ sym (sum_by-cons (run_error bytes sample from) run runs)
 
--- the bytes of the last run
-last_bytes : (n : ℕ) (bytes more : List ℕ) → length more ≡ n → take n (drop (length bytes) (bytes ++ more)) ≡ more
-last_bytes n bytes more long = ap (take n) (drop-append_seam bytes more) ∙ ap (λ m. take m more) (sym long) ∙ take-length more
+-- what comes after it is the last piece
+pub last_piece : {X : Type 0} (n : ℕ) (all more : List X) → length more ≡ n → take n (drop (length all) (all ++ more)) ≡ more
+last_piece n all more long = ap (take n) (drop-append_seam all more) ∙ ap (λ m. take m more) (sym long) ∙ take-length more
 
 one_more : (bytes : List ℕ) (sample : Cells) (from : At) (runs : List FilledRun) (run : FilledRun) → sum_by (run_error bytes sample from) (runs ++ run ∷ []) ≡ sum_by (run_error bytes sample from) runs + run_error bytes sample from run
 one_more bytes sample from runs run =
@@ -124,7 +124,7 @@ more_error canvas rect x y f n was now canvas_is is some row filled all = λ sam
     ∙ one_more bytes sample from was.runs.items is.run
     ∙ ap (λ front. front + run_error bytes sample from is.run) (same_errors rect was.part was.bytes.items is.row sample from was.runs.items in_was)
     ∙ ap (λ last. sum_by (run_error was.bytes.items sample from) was.runs.items + last)
-    ((λ t. sum_of_squared_differences ((ap (λ s. take (sample.k * is.run.w) (drop s bytes)) is.start ∙ last_bytes (sample.k * is.run.w) was.bytes.items is.row long ∙ is.row_is) t) (row_at sample (plus from (is.step t)) (is.long t)))
+    ((λ t. sum_of_squared_differences ((ap (λ s. take (sample.k * is.run.w) (drop s bytes)) is.start ∙ last_piece (sample.k * is.run.w) was.bytes.items is.row long ∙ is.row_is) t) (row_at sample (plus from (is.step t)) (is.long t)))
     ∙ run_is_error canvas sample (laid_from rect from) canvas_is laid.volume laid.stands laid.fits y f row.row_in row.frame_in x n some row.columns_in filled)
 
 -- one more term
@@ -151,6 +151,6 @@ row_none canvas rect was now x y f first not = λ sample from laid.
     omega (arith, first sample from laid, more, unfilled_error canvas.map sample (laid_from rect from) x y f not)
 
 -- a sum of terms and the next one are within the sum of all
-pub part_of_sum : (error : FilledRun → ℕ) (seen runs : List FilledRun) (i : ℕ) (d : FilledRun) (sum more total : ℕ) → seen ≡ runs → i < length seen → more ≡ error (get_or seen i d) → sum ≡ sum_by error (take i runs) → sum_by error runs ≡ total → sum + more ≤ total
+pub part_of_sum : {Run : Type 0} (error : Run → ℕ) (seen runs : List Run) (i : ℕ) (d : Run) (sum more total : ℕ) → seen ≡ runs → i < length seen → more ≡ error (get_or seen i d) → sum ≡ sum_by error (take i runs) → sum_by error runs ≡ total → sum + more ≤ total
 part_of_sum error seen runs i d sum more total same lt is so_far whole =
     omega (arith, sum_by_more_le error seen i d lt, is, so_far, ap (λ xs. sum_by error (take i xs)) same, ap (sum_by error) same, whole)

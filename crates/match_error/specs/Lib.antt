@@ -1,3 +1,4 @@
 pub mod Errors
 pub mod Runs
 pub mod Tables
+pub mod Rows

@@ -5,7 +5,7 @@ use Rattle.std.specs.Prelude.{◌≡◌, ◌≤◌, ◌<◌, ◌+◌, ◌*◌, �
 use Rattle.cells.specs.declared.place.Box3.{Box3}
 use Rattle.cells.specs.Boxes.{HoldsBox}
 use Rattle.box_sums.specs.Sums.{sum_to}
-use Rattle.map_canvas.specs.Maps.{SourceMap, IsFilled, map_at}
+use Rattle.map_canvas.specs.Maps.{SourceMap, map_at}
 use Rattle.match_error.specs.declared.table.FilledCounts.{FilledCounts}
 use Rattle.match_error.specs.Errors.{box_spot, one_filled}
 
@@ -38,9 +38,3 @@ pub record AreFilledCounts (m : SourceMap) (counts : FilledCounts) : Type 0 wher
       ≡ (counts.rect.size.w + 1) * (counts.rect.size.h * counts.rect.size.f + 1)
   pub entries : AreEntries m counts.rect (counts.rect.size.h * counts.rect.size.f)
       counts.entries.items
-
--- the first n cells of a row of a box are filled, and no other
-pub record IsFilledFront (m : SourceMap) (rect : Box3) (y f n : ℕ) : Type 0 where
-  pub within : n ≤ rect.size.w
-  pub front : (x : ℕ) → x < n → IsFilled m (box_spot rect x y f)
-  pub rest : (x : ℕ) → n ≤ x → x < rect.size.w → IsFilled m (box_spot rect x y f) → ⊥

@@ -39,8 +39,8 @@ pub struct FilledRuns {
     bytes: Vec<u8>,
 }
 
-// How many filled cells follow one another from a place on, along X, as far as so many.
-fn filled_from(canvas: &Canvas, at: At, most: u32) -> u32
+/// How many filled cells follow one another from a place on, along X, as far as so many.
+pub(crate) fn filled_from(canvas: &Canvas, at: At, most: u32) -> u32
     requires few { most ≤ GREATEST_AXIS }
     requires fits { (j : ℕ) → j < most → SumFits at (spot j 0 0) }
     ensures most { result ≤ most }

@@ -3,13 +3,14 @@ ghost use Rattle.std.specs.Prelude.{◌≡◌, ◌≤◌, ◌<◌, ◌+◌, ◌*
 ghost use Rattle.cells.specs.Places.{IsSmall};
 ghost use Rattle.map_canvas.specs.Canvases.{StandsOver};
 ghost use Rattle.map_canvas.specs.Choices.{Fits, box_count};
-ghost use Rattle.match_error.specs.Tables.{AreFilledCounts, IsFilledFront};
-ghost use Rattle.match_error.specs.Errors.{error_of, error_sum, frame_error, most_frame_error, most_row_error, row_error};
+ghost use Rattle.match_error.specs.Errors.{error_of, error_sum, frame_error, most_frame_error, most_row_error, row_error, spot_error};
+ghost use Rattle.match_error.specs.Rows.{AreFilledRows, AreLaidRuns, IsInset, IsLaidRun, column_in, run_part};
 ghost use Rattle.box_sums.specs.Sums.{sum_to};
 
 use crate::counts::filled_count;
-use crate::rows::row_start;
-use crate::{Error, FilledCounts};
+use crate::filled_rows::{Inset, RowRun};
+use crate::rows::{row_start, step_to};
+use crate::{Error, FilledRows};
 use cells::Volume;
 use lane_kernels::{ssd, ssd_masked};
 use map_canvas::{Canvas, Placement};
@@ -34,48 +35,98 @@ fn marked_row_sum(canvas: &Canvas, sample: &Volume, placement: &Placement, y: u3
     ssd_masked(old, new, marks)
 }
 
-// The sum over a row of the box whose first n cells are filled, and no other.
-fn front_sum(canvas: &Canvas, sample: &Volume, placement: &Placement, y: u32, f: u32, n: u32) -> u64
-    requires over { StandsOver canvas.now sample.now }
-    requires fits { Fits canvas.now.map.size sample.now placement.now }
-    requires counts { (y < placement.now.rect.size.h) × (f < placement.now.rect.size.f) }
-    requires front { IsFilledFront canvas.now.map placement.now.rect y f n }
-    ensures sum { result ≡ row_error canvas.now.map sample.now placement.now y f }
-    ensures small { result ≤ most_row_error }
+// Where a column comes to in a part of w columns of its row that begins at column x: one before it comes
+// to its front, and one behind it to its end.
+fn column_in(x: u32, w: u32, column: u32) -> u32
+    ensures { result ≡ column_in x w column }
 {
-    // It is asked for only to show the check that the sample is a volume.
-    let _sample = sample.samples();
-    let picture = canvas.picture();
-    if n == 0 {
-        return 0;
-    }
-    let at = row_start(placement.rect.corner, y, f);
-    let from = row_start(placement.from, y, f);
-    let old = picture.row(at, n);
-    let new = sample.row(from, n);
-    ssd(old, new)
+    column.saturating_sub(x).min(w)
 }
 
-// The sum over a row of the box, whose filled cells may be counted.
-fn row_sum(
-    counts: Option<&FilledCounts>,
+// The sum over those cells of a run of filled cells that a row of the box has, where the row begins at
+// column x of the run's.
+fn run_sum(
+    run: &RowRun,
+    x: u32,
     canvas: &Canvas,
     sample: &Volume,
     placement: &Placement,
     y: u32,
     f: u32,
 ) -> u64
-    requires filled { IfSome counts (λ counts. AreFilledCounts canvas.now.map counts.now) }
+    requires run { IsLaidRun canvas.now.map placement.now.rect x y f run.now }
+    requires over { StandsOver canvas.now sample.now }
+    requires fits { Fits canvas.now.map.size sample.now placement.now }
+    requires counts { (y < placement.now.rect.size.h) × (f < placement.now.rect.size.f) }
+    ensures { result ≡ run_part (λ i. spot_error canvas.now.map sample.now placement.now i y f)
+        x placement.now.rect.size.w run.now }
+{
+    // It is asked for only to show the check that the sample is a volume.
+    let _sample = sample.samples();
+    let picture = canvas.picture();
+    let w = placement.rect.size.w;
+    let first = column_in(x, w, run.first);
+    let end = column_in(x, w, run.end);
+    if first < end {
+        let n = end - first;
+        let step = step_to(first, y, f);
+        let at = placement.rect.corner.plus(step);
+        let from = placement.from.plus(step);
+        let old = picture.row(at, n);
+        let new = sample.row(from, n);
+        return ssd(old, new);
+    }
+    0
+}
+
+// The sum over a row of the box, which begins at column x of a row of runs.
+fn runs_sum(
+    runs: &[RowRun],
+    x: u32,
+    canvas: &Canvas,
+    sample: &Volume,
+    placement: &Placement,
+    y: u32,
+    f: u32,
+) -> u64
+    requires runs { AreLaidRuns canvas.now.map placement.now.rect x y f runs.now }
     requires over { StandsOver canvas.now sample.now }
     requires fits { Fits canvas.now.map.size sample.now placement.now }
     requires counts { (y < placement.now.rect.size.h) × (f < placement.now.rect.size.f) }
     ensures sum { result ≡ row_error canvas.now.map sample.now placement.now y f }
     ensures small { result ≤ most_row_error }
 {
-    if let Some(counts) = counts {
-        if let Some(n) = counts.filled_front(canvas, &placement.rect, y, f) {
-            return front_sum(canvas, sample, placement, y, f, n);
-        }
+    // They are asked for only to show the check that these are a map and a volume.
+    let _map = canvas.map();
+    let _sample = sample.samples();
+    let mut sum: u64 = 0;
+    'runs: for run in runs {
+        sum += run_sum(run, x, canvas, sample, placement, y, f);
+    }
+    sum
+}
+
+// The sum over a row of the box, which may stand in that of rows of runs.
+fn row_sum(
+    rows: Option<&FilledRows>,
+    inset: Inset,
+    canvas: &Canvas,
+    sample: &Volume,
+    placement: &Placement,
+    y: u32,
+    f: u32,
+) -> u64
+    requires filled { IfSome rows (λ rows. AreFilledRows canvas.now.map rows.now) }
+    requires inset { IfSome rows (λ rows. IsInset rows.now.rect placement.now.rect inset) }
+    requires over { StandsOver canvas.now sample.now }
+    requires fits { Fits canvas.now.map.size sample.now placement.now }
+    requires counts { (y < placement.now.rect.size.h) × (f < placement.now.rect.size.f) }
+    ensures sum { result ≡ row_error canvas.now.map sample.now placement.now y f }
+    ensures small { result ≤ most_row_error }
+{
+    if let Some(rows) = rows {
+        let runs = rows.runs_of(canvas, &placement.rect, inset, y, f);
+        return runs_sum(runs, inset.x, canvas, sample, placement, y, f);
     }
     marked_row_sum(canvas, sample, placement, y, f)
 }
@@ -83,7 +134,8 @@ fn row_sum(
 // The sum over a frame of the box on top of that over the frames before it, where both are at most a
 // limit together.
 fn with_frame(
-    counts: Option<&FilledCounts>,
+    rows: Option<&FilledRows>,
+    inset: Inset,
     canvas: &Canvas,
     sample: &Volume,
     placement: &Placement,
@@ -91,7 +143,8 @@ fn with_frame(
     before: u64,
     limit: u64,
 ) -> Option<u64>
-    requires filled { IfSome counts (λ counts. AreFilledCounts canvas.now.map counts.now) }
+    requires filled { IfSome rows (λ rows. AreFilledRows canvas.now.map rows.now) }
+    requires inset { IfSome rows (λ rows. IsInset rows.now.rect placement.now.rect inset) }
     requires over { StandsOver canvas.now sample.now }
     requires fits { Fits canvas.now.map.size sample.now placement.now }
     requires small { IsSmall placement.now.rect.size }
@@ -107,7 +160,7 @@ fn with_frame(
 {
     let mut sum = before;
     for y in 0..placement.rect.size.h {
-        sum += row_sum(counts, canvas, sample, placement, y, f);
+        sum += row_sum(rows, inset, canvas, sample, placement, y, f);
         if sum > limit {
             return None;
         }
@@ -115,17 +168,17 @@ fn with_frame(
     Some(sum)
 }
 
-/// The sum of the overlap error of a placement where it is at most a limit, else None. It stops after
-/// the row in which the sum passes the limit. Where filled cells are counted, of a row whose filled cells
-/// all stand at its front no other cell is looked at.
-pub fn error_sum_within(
-    counts: Option<&FilledCounts>,
+// The sum over the box where it is at most a limit, else None. The box may stand in that of rows of runs.
+fn box_sum_within(
+    rows: Option<&FilledRows>,
+    inset: Inset,
     canvas: &Canvas,
     sample: &Volume,
     placement: &Placement,
     limit: u64,
 ) -> Option<u64>
-    requires filled { IfSome counts (λ counts. AreFilledCounts canvas.now.map counts.now) }
+    requires filled { IfSome rows (λ rows. AreFilledRows canvas.now.map rows.now) }
+    requires inset { IfSome rows (λ rows. IsInset rows.now.rect placement.now.rect inset) }
     requires over { StandsOver canvas.now sample.now }
     requires fits { Fits canvas.now.map.size sample.now placement.now }
     ensures some { IfSome result (λ sum. sum ≡ error_sum canvas.now.map sample.now placement.now) }
@@ -139,9 +192,37 @@ pub fn error_sum_within(
     let _sample = sample.samples();
     let mut sum: u64 = 0;
     for f in 0..placement.rect.size.f {
-        sum = with_frame(counts, canvas, sample, placement, f, sum, limit)?;
+        sum = with_frame(rows, inset, canvas, sample, placement, f, sum, limit)?;
     }
     Some(sum)
+}
+
+/// The sum of the overlap error of a placement where it is at most a limit, else None. It stops after
+/// the row in which the sum passes the limit. Where the placement's box lies in that of rows of runs, of
+/// each row no other cells than those of its runs are looked at.
+pub fn error_sum_within(
+    rows: Option<&FilledRows>,
+    canvas: &Canvas,
+    sample: &Volume,
+    placement: &Placement,
+    limit: u64,
+) -> Option<u64>
+    requires filled { IfSome rows (λ rows. AreFilledRows canvas.now.map rows.now) }
+    requires over { StandsOver canvas.now sample.now }
+    requires fits { Fits canvas.now.map.size sample.now placement.now }
+    ensures some { IfSome result (λ sum. sum ≡ error_sum canvas.now.map sample.now placement.now) }
+    ensures most { IfSome result (λ sum. sum ≤ limit) }
+    ensures small { IfSome result (λ sum. sum ≤ 2 ^ 48) }
+    ensures bound { error_sum canvas.now.map sample.now placement.now ≤ 2 ^ 48 }
+    ensures none { IfNone result (limit < error_sum canvas.now.map sample.now placement.now) }
+{
+    if let Some(rows) = rows {
+        if let Some(inset) = rows.inset_of(&placement.rect) {
+            return box_sum_within(Some(rows), inset, canvas, sample, placement, limit);
+        }
+    }
+    let nowhere = Inset { x: 0, y: 0, f: 0 };
+    box_sum_within(None, nowhere, canvas, sample, placement, limit)
 }
 
 /// The overlap error of a placement.

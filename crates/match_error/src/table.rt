@@ -6,7 +6,7 @@ ghost use Rattle.map_canvas.specs.Maps.{map_at};
 ghost use Rattle.box_sums.specs.Sums.{sum_to};
 ghost use Rattle.match_error.specs.Errors.{box_spot, filled_cells, one_filled};
 ghost use Rattle.match_error.specs.Runs.{IsInRow};
-ghost use Rattle.match_error.specs.Tables.{AreFilledCounts, AreMoreEntries, IsFilledFront, filled_before, one_in_row};
+ghost use Rattle.match_error.specs.Tables.{AreFilledCounts, AreMoreEntries, filled_before, one_in_row};
 
 use crate::counts::filled_count;
 use crate::rows::step_to;
@@ -67,8 +67,8 @@ fn add_row(
     Ok(())
 }
 
-// How many cells a run along one axis begins after another that it lies in; None where it doesn't.
-fn step_in(corner: i32, len: u32, outer: i32, n: u32) -> Option<u32>
+/// How many cells a run along one axis begins after another that it lies in; None where it doesn't.
+pub(crate) fn step_in(corner: i32, len: u32, outer: i32, n: u32) -> Option<u32>
     ensures step { IfSome result (λ step. corner ≡ outer +ℤ pos step) }
     ensures room { IfSome result (λ step. step + len ≤ n) }
 {
@@ -158,28 +158,6 @@ impl FilledCounts {
             count += self.row_count(canvas, x, row, size.w, size.h);
         }
         count
-    }
-
-    /// How many filled cells a row of a box inside the output begins with, where no other cell of the row
-    /// is filled; None where one is, and where the box doesn't lie in that of the counts.
-    pub(crate) fn filled_front(&self, canvas: &Canvas, rect: &Box3, y: u32, f: u32) -> Option<u32>
-        requires counts { AreFilledCounts canvas.now.map self.now }
-        requires inside { HoldsBox canvas.now.map.size rect.now.corner rect.now.size }
-        requires row { (y < rect.now.size.h) × (f < rect.now.size.f) }
-        ensures { IfSome result (IsFilledFront canvas.now.map rect.now y f) }
-    {
-        // The map is asked only to show the check that its size is small.
-        let _map = canvas.map();
-        let Box3 { corner, size } = self.rect;
-        let across = step_in(rect.corner.x, rect.size.w, corner.x, size.w)?;
-        let down = step_in(rect.corner.y, rect.size.h, corner.y, size.h)?;
-        let frames = step_in(rect.corner.f, rect.size.f, corner.f, size.f)?;
-        let row = down + size.h * (frames + f) + y;
-        let n = self.row_count(canvas, across, row, rect.size.w, 1);
-        if self.row_count(canvas, across, row, n, 1) != n {
-            return None;
-        }
-        Some(n)
     }
 
     /// How many cells of a box inside the output are filled. Where the box lies in that of the counts, no

@@ -6,6 +6,7 @@ ghost use Rattle.cells.specs.Cells.{sizes_of};
 ghost use Rattle.map_canvas.specs.Canvases.{StandsOver};
 ghost use Rattle.map_canvas.specs.Choices.{Fits};
 ghost use Rattle.match_error.specs.Errors.{error_of, filled_cells};
+ghost use Rattle.match_error.specs.Rows.{AreFilledRows};
 ghost use Rattle.match_error.specs.Runs.{AreFilledRuns};
 ghost use Rattle.match_error.specs.Tables.{AreFilledCounts};
 ghost use Rattle.patch_place.specs.Counts.{AreVolumeParts};
@@ -16,13 +17,13 @@ ghost use Rattle.patch_place.specs.Tables.{IsBoxDone, IsLimitOf, IsLow, IsMore, 
 use crate::Candidates;
 use crate::candidates::{Spot, frames_before, part_after, parts_of, place_count, room};
 use crate::hints::least_hint;
-use crate::reach::counts_for;
+use crate::reach::{counts_for, rows_for};
 use crate::shortlist::Shortlist;
 use crate::skips::Skips;
 use block_sums::{BoxLevels, Eliminated, SampleSums};
 use cells::{Box3, Sizes, Volume};
 use map_canvas::{Canvas, Placement};
-use match_error::{Error, FilledCounts, FilledRuns, error_sum_within, filled_count};
+use match_error::{Error, FilledCounts, FilledRows, FilledRuns, error_sum_within, filled_count};
 use std::alloc::{AllocError, Global};
 
 // How many candidates there are for a canvas and a sample.
@@ -44,10 +45,11 @@ pub(crate) fn entry_for(list: &Candidates, canvas: &Canvas, sample: &Volume, i: 
 }
 
 impl Shortlist {
-    // One more candidate, whose filled cells are counted by the sums of many.
+    // One more candidate, whose filled cells are counted by the sums and summed over the runs of many.
     fn add(
         &mut self,
         counts: &FilledCounts,
+        rows: &FilledRows,
         canvas: &Canvas,
         sample: &Volume,
         placement: &Placement,
@@ -55,6 +57,7 @@ impl Shortlist {
         requires over { StandsOver canvas.now sample.now }
         requires fits { Fits canvas.now.map.size sample.now placement.now }
         requires counts { AreFilledCounts canvas.now.map counts.now }
+        requires rows { AreFilledRows canvas.now.map rows.now }
         requires few { self.old.seen + 1 < 2 ^ 32 }
         requires sound { IsSoundShortlist self.old }
         ensures more { OnOk result (IsMore self.old self.new
@@ -69,13 +72,7 @@ impl Shortlist {
             self.skip();
             return Ok(());
         }
-        match error_sum_within(
-            Some(counts),
-            canvas,
-            sample,
-            placement,
-            self.limit_for(count),
-        ) {
+        match error_sum_within(Some(rows), canvas, sample, placement, self.limit_for(count)) {
             Some(sum) => self.keep(&Error { sum, count }),
             None => {
                 self.skip();
@@ -202,9 +199,16 @@ fn placed_shortlist(
     ensures { IfOk result (IsShortlistOf tol (errors_on canvas.now sample.now list.now)) }
 {
     let counts = counts_for(alloc, list, canvas, sample)?;
+    let rows = rows_for(alloc, list, canvas, sample)?;
     let mut short = Shortlist::unfilled(alloc, tol, 0);
     'entries: for i in 0..count_for(list, canvas, sample) {
-        short.add(&counts, canvas, sample, &entry_for(list, canvas, sample, i))?;
+        short.add(
+            &counts,
+            &rows,
+            canvas,
+            sample,
+            &entry_for(list, canvas, sample, i),
+        )?;
     }
     Ok(short)
 }

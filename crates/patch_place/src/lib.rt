@@ -17,8 +17,9 @@
 //! from, where a sum that can't be eligible is left unfinished, `hints` the likely candidates of a box
 //! with whose least error its walk begins, `skips` those that its walk leaves out, since sums of blocks
 //! (crate block_sums) show that they can't be eligible, `reach` the sums by which the filled cells of laid
-//! candidates are counted, `shortlist` the shortlist, and `eligible` which of its entries are about as
-//! good as the best. README.md says the definitions and the promises in words.
+//! candidates are counted and the runs over which they are compared, `shortlist` the shortlist, and
+//! `eligible` which of its entries are about as good as the best. README.md says the definitions and the
+//! promises in words.
 //!
 //! `pick_with` and `next_placement_with` are the same calls for a sample whose sums of blocks are made
 //! once for many picks. `pick` and `next_placement` make their own, where the candidates are those of one

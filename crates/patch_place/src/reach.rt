@@ -1,7 +1,8 @@
-// The filled cells around a cell, summed up once for all candidates that cover it.
+// The filled cells around a cell, summed up and gathered once for all candidates that cover it.
 ghost use Rattle.std.specs.Prelude.{◌≤◌, ◌+◌, IfOk};
 ghost use Rattle.cells.specs.Boxes.{HoldsBox};
 ghost use Rattle.cells.specs.Places.{IsSmall};
+ghost use Rattle.match_error.specs.Rows.{AreFilledRows};
 ghost use Rattle.match_error.specs.Tables.{AreFilledCounts};
 
 use crate::Candidates;
@@ -9,7 +10,7 @@ use crate::axis::count_of;
 use crate::candidates::{part_after, parts_of};
 use cells::{At, Box3, Size, Volume};
 use map_canvas::Canvas;
-use match_error::FilledCounts;
+use match_error::{FilledCounts, FilledRows};
 use std::alloc::{AllocError, Global};
 
 // A run of cells along one axis.
@@ -72,8 +73,8 @@ fn reach_of(output: Size, part: Size, q: At) -> Box3
     }
 }
 
-// The box in which the filled cells of all candidates are. Where there is one candidate, sums of it
-// would cost more than they save: the box has no cell.
+// The box in which the filled cells of all candidates are. Where there is one candidate, sums and runs of
+// it would cost more than they save: the box has no cell.
 fn box_of_all(list: &Candidates, output: Size, sample: &Volume) -> Box3
     requires { IsSmall output }
     ensures { HoldsBox output result.corner result.size }
@@ -98,4 +99,17 @@ pub(crate) fn counts_for(
 {
     let rect = box_of_all(list, canvas.map().size(), sample);
     FilledCounts::make(alloc, canvas, &rect)
+}
+
+/// The same cells, row by row as runs.
+pub(crate) fn rows_for(
+    alloc: Global,
+    list: &Candidates,
+    canvas: &Canvas,
+    sample: &Volume,
+) -> Result<FilledRows, AllocError>
+    ensures { IfOk result (AreFilledRows canvas.now.map) }
+{
+    let rect = box_of_all(list, canvas.map().size(), sample);
+    FilledRows::gather(alloc, canvas, &rect)
 }

@@ -1,6 +1,9 @@
 // Worked examples of match_error.
 use crate::rows::{assert_fits, greys, row_at, row_of};
-use match_error::{Error, FilledCounts, error_sum_within, filled_count, overlap_error, within};
+use cells::{At, Box3};
+use match_error::{
+    Error, FilledCounts, FilledRows, error_sum_within, filled_count, overlap_error, within,
+};
 use std::test::Fail;
 
 // Over an empty row, and over one of which two cells of the box are filled, with 30 and 40 where the sample
@@ -24,11 +27,26 @@ fn errors_of_a_row(rt: HostRuntime) -> Result<(), Fail> {
             error_sum_within(None, &canvas, &sample, &placement, 2400),
             Some(sum)
         );
-        let counted = error_sum_within(Some(&counts), &canvas, &sample, &placement, 2400);
-        assert_eq!(rt; counted, Some(sum));
         let below = error_sum_within(None, &canvas, &sample, &placement, 2399);
         assert_eq!(rt; below.is_none(), sum > 2399);
     }
+    Ok(())
+}
+
+// Over the second of these rows, by the runs of the whole row: the box has the last two of their cells.
+#[test]
+fn error_over_runs(rt: HostRuntime) -> Result<(), Fail> {
+    let sample = greys(rt.alloc())?;
+    let canvas = row_of(&rt, rt.alloc(), &sample, &[0, 1, 2, 3])?;
+    let placement = row_at(2);
+    assert_fits(&rt, &canvas, &sample, &placement);
+    let whole = Box3 {
+        corner: At { x: 0, y: 0, f: 0 },
+        size: canvas.map().size(),
+    };
+    let rows = FilledRows::gather(rt.alloc(), &canvas, &whole)?;
+    let sum = error_sum_within(Some(&rows), &canvas, &sample, &placement, 2400);
+    assert_eq!(rt; sum, Some(2400));
     Ok(())
 }
 

@@ -4,7 +4,7 @@ use Rattle.box_sums.specs.Sums.{sum_to}
 use Rattle.map_canvas.proofs.Filling.{fits_small}
 use Rattle.match_error.specs.Errors.{error_sum, frame_error}
 use Rattle.match_error.proofs.Bounds.{error_small, passed}
-use Rattle.match_error.proofs.overlap.error_sum_within.Goals as goal
+use Rattle.match_error.proofs.overlap.box_sum_within.Goals as goal
 
 pub with_frame-requires-clause-small : goal.with_frame-requires-clause-small
 with_frame-requires-clause-small c = fits_small c.args.canvas.now.map.size c.args.sample.now c.args.placement.now c.requires.fits c.map-map.ensures.canvas.map.small

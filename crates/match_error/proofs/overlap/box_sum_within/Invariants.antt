@@ -1,7 +1,7 @@
 use Rattle.std.proofs.Common.{◌≡◌, ◌≤◌, ◌*◌}
 use Rattle.box_sums.specs.Sums.{sum_to}
 use Rattle.match_error.specs.Errors.{frame_error, most_frame_error}
-use Rattle.match_error.proofs.overlap.error_sum_within.Given as goal
+use Rattle.match_error.proofs.overlap.box_sum_within.Given as goal
 
 abbrev pub invariant-loop-f : goal.invariant-loop-f
 invariant-loop-f l = record {

@@ -18,6 +18,3 @@ pub use law::one_reading;
 pub use picture::Picture;
 pub use read::read_p6;
 pub use write::write_p6;
-
-#[cfg(test)]
-mod tests;

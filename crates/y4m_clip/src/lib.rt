@@ -24,6 +24,3 @@ pub use form::{Clip, ClipForm, SpaceKind, Tags};
 pub use law::{frames_follow, one_reading};
 pub use read::read_clip;
 pub use write::ClipWriter;
-
-#[cfg(test)]
-mod tests;

@@ -1,6 +1,6 @@
-use super::*;
 use cells::{At, Size};
 use job_words::{Job, Words, read_job};
+use samples::{Form, Samples, read_samples};
 use shelf_core::{FormFault, MemShelf};
 use std::alloc::Global;
 use std::test::Fail;

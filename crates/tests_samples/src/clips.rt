@@ -1,9 +1,9 @@
 // Worked examples: the bytes of a clip and the answer, spelled from the grammar by hand.
-use crate::{ClipWriter, SpaceKind, read_clip};
 use cells::{Size, Volume};
 use shelf_core::{Call, FormFault, MemShelf, ReadError, What};
 use std::alloc::Global;
 use std::test::Fail;
+use y4m_clip::{ClipWriter, SpaceKind, read_clip};
 
 const TWO_CELLS: &[u8] =
     b"YUV4MPEG2 W4 H2 F25:1 Ip A1:1 C420jpeg XYSCSS=420JPEG\nFRAME\n\x01\x02\x03\x04\x05\x06\x07\x08\x09\x0a\x0b\x0c";

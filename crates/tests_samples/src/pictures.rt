@@ -1,6 +1,6 @@
 // Worked examples: the bytes of a file and the answer, spelled from the grammar by hand.
-use crate::{read_p6, write_p6};
 use cells::{Size, Volume};
+use netpbm_p6::{read_p6, write_p6};
 use shelf_core::{Call, FormFault, MemShelf, ReadError, What};
 use std::alloc::Global;
 use std::test::Fail;

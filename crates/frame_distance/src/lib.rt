@@ -10,8 +10,6 @@
 
 mod steps;
 mod table;
-#[cfg(test)]
-mod tests;
 
 pub use steps::{StepCosts, filtered};
 pub use table::{Table, distances};

@@ -21,8 +21,6 @@ mod record;
 mod rules;
 mod sums;
 mod tables;
-#[cfg(test)]
-mod tests;
 mod trace;
 
 pub use check::check_loop;

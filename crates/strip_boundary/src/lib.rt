@@ -18,8 +18,6 @@ mod check;
 mod laws;
 mod strip;
 mod sums;
-#[cfg(test)]
-mod tests;
 mod trace;
 
 pub use boundary::{BoundaryRecord, least_boundary};

@@ -1,10 +1,12 @@
 // Worked examples: what the definitions mean on strips that are small enough to work by hand.
 ghost use Rattle.std.specs.Prelude.{◌≡◌, ◌*◌, IfOk, length};
 
-use super::*;
 use std::alloc::{AllocError, Global};
 use std::process::Abort;
 use std::test::Fail;
+use strip_boundary::{
+    BlockFault, BoundaryRecord, GREATEST_ERROR, Items, Strip, check_boundary, least_boundary,
+};
 
 /// The strip with these errors.
 fn strip_of(

@@ -1,8 +1,8 @@
 // Worked examples, and the calls that take memory once each.
 ghost use Rattle.std.specs.Prelude.{◌≡◌, ◌≤◌, IfOk, length, []};
 
-use super::*;
 use cells::{Size, Taps, Volume};
+use frame_distance::{distances, filtered};
 use std::alloc::{AllocError, Global};
 use std::test::Fail;
 

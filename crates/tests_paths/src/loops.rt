@@ -1,9 +1,9 @@
 // Worked examples, records that don't stand, and all short lengths against a search over all walks.
 ghost use Rattle.std.specs.Prelude.{◌≡◌, ◌≤◌, IfOk, length as length_of};
 
-use super::*;
 use cells::{Size, Taps, Volume};
 use frame_distance::{StepCosts, distances, filtered};
+use loop_walk::{LoopError, LoopFault, check_loop, least_loop, table_count};
 use std::alloc::{AllocError, Global};
 use std::test::Fail;
 

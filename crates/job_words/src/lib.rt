@@ -37,6 +37,3 @@ pub use quilt::QuiltJob;
 pub use read::read_job;
 pub use trial::TrialJob;
 pub use upgrade::UpgradeJob;
-
-#[cfg(test)]
-mod tests;

@@ -27,6 +27,3 @@ pub use mem_sink::MemSink;
 pub use shelf::{Failed, Shelf, Sink};
 pub use sure_shelf::SureShelf;
 pub use sure_sink::SureSink;
-
-#[cfg(test)]
-mod tests;

@@ -16,6 +16,3 @@ pub use fault::{Fault, FileOf, status};
 pub use reports::report;
 pub use say::say_fault;
 pub use summary::Summary;
-
-#[cfg(test)]
-mod tests;

@@ -1,4 +1,4 @@
-use super::*;
+use job_words::{GrowJob, Job, Key, Place, Taps, WordFault, Words, read_job};
 use std::alloc::{AllocError, Global};
 use std::test::Fail;
 

@@ -1,6 +1,6 @@
 // What no clause says: that the calls succeed while there is memory, and that the clauses mean what
 // the worked rows say.
-use crate::{Call, MemShelf, MemSink, Shelf, Sink, SureShelf, SureSink};
+use shelf_core::{Call, MemShelf, MemSink, Shelf, Sink, SureShelf, SureSink};
 use std::test::Fail;
 
 // A call on a name with a piece, and whether it goes well.

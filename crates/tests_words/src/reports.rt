@@ -1,8 +1,8 @@
-use super::*;
 use cells::Size;
 use job_words::{Key, WordFault};
 use shelf_core::{FormFault, MemSink, What};
 use std::test::Fail;
+use synth_report::{Fault, FileOf, Summary, report, say_fault, status};
 
 fn form(why: FormFault) -> Fault {
     Fault::Form {

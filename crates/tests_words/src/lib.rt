@@ -1,0 +1,11 @@
+//! Worked examples of shelves and sinks, of the words of a run, and of the lines and reports that it tells. What they
+//! show stands in no clause: that calls succeed while there is memory, and that the definitions mean what the rows
+//! of the tables say.
+#![tactic(auto)]
+
+#[cfg(test)]
+mod jobs;
+#[cfg(test)]
+mod reports;
+#[cfg(test)]
+mod shelves;

@@ -18,8 +18,6 @@ ghost use Rattle.lane_kernels.specs.Sums.{sum_of_absolute_differences, sum_of_sq
 mod block;
 mod rest;
 mod tail;
-#[cfg(test)]
-mod tests;
 
 use block::{LANES, sad_block, ssd_block, ssd_masked_block};
 use tail::{sad_tail, ssd_masked_tail, ssd_tail};

@@ -1,6 +1,6 @@
-//! Worked examples of boundaries through strips, of distances of frames and steps between them, and of loops, with
-//! records that don't stand. What they show stands in no clause: that the definitions give the numbers that were
-//! computed by hand, and that no other walk of a short length costs less.
+//! Worked examples of sums over rows, of boundaries through strips, of distances of frames and steps between them, and
+//! of loops, with records that don't stand. What they show stands in no clause: that the definitions give the numbers
+//! that were computed by hand, and that no other walk of a short length costs less.
 #![tactic(auto)]
 
 #[cfg(test)]
@@ -9,3 +9,5 @@ mod boundaries;
 mod frames;
 #[cfg(test)]
 mod loops;
+#[cfg(test)]
+mod rows;

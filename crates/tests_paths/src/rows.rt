@@ -1,5 +1,5 @@
 // Worked examples.
-use super::*;
+use lane_kernels::{sad, ssd, ssd_masked};
 
 #[test]
 fn worked_examples(rt: HostRuntime) {

@@ -10,8 +10,6 @@
 mod command;
 mod files;
 mod plan;
-#[cfg(test)]
-mod tests;
 
 pub use command::loop_clip;
 pub use files::{FrameMapFile, LoopFile, WalkFile};

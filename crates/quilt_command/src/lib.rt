@@ -10,8 +10,6 @@
 mod command;
 mod files;
 mod plan;
-#[cfg(test)]
-mod tests;
 
 pub use command::quilt_picture;
 pub use files::BlocksFile;

@@ -19,6 +19,3 @@ pub use laws::{
     standing_records_are_least, versions_do_not_count,
 };
 pub use verdict::{MAP_RULE, PICTURE_RULE, TOGETHER_RULE, Verdict, judge};
-
-#[cfg(test)]
-mod tests;

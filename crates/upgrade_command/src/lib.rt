@@ -11,6 +11,3 @@ mod upgrading;
 
 pub use pair::Pair;
 pub use upgrading::upgrade;
-
-#[cfg(test)]
-mod tests;

@@ -1,5 +1,5 @@
 use Rattle.samples.proofs.Reading.{sound_start}
-use Rattle.standing_files.proofs.tests.read_one.Goals as goal
+use Rattle.tests_commands.proofs.standing.read_one.Goals as goal
 
 pub returns : goal.returns
 returns c = sound_start c.in-Ok.field-0.form c.in-Ok.field-0.volume (c.in-Ok.ensures {u = tt}).sound

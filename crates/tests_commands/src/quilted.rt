@@ -1,6 +1,6 @@
 // Whole runs over a store in memory.
-use crate::quilt_picture;
 use job_words::{Job, Words, read_job};
+use quilt_command::quilt_picture;
 use shelf_core::{FormFault, MemShelf, MemSink};
 use std::alloc::Global;
 use std::process::Abort;

@@ -2,7 +2,6 @@
 ghost use Rattle.std.specs.Prelude.{IfOk};
 ghost use Rattle.samples.specs.Several.{AreSoundSamples};
 
-use crate::{MAP_RULE, PICTURE_RULE, TOGETHER_RULE, Verdict, judge};
 use cert_file::read_cert;
 use cut_check::{FILL_RULE, VALUE_RULE};
 use loop_walk::{DIAGONAL_RULE, TABLES_RULE, WALK_RULE};
@@ -10,6 +9,7 @@ use quilt::{COST_RULE, FIT_RULE, OVERLAP_RULE, PATH_RULE, SUMS_RULE};
 use samples::{Sample, Samples, read_sample};
 use shelf_core::MemShelf;
 use source_map::read_map;
+use standing_files::{MAP_RULE, PICTURE_RULE, TOGETHER_RULE, Verdict, judge};
 use std::alloc::{AllocError, Global};
 use std::test::Fail;
 

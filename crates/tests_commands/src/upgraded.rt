@@ -1,9 +1,9 @@
-use super::*;
 use job_words::{Job, UpgradeJob, Words, read_job};
 use shelf_core::{FormFault, MemShelf, MemSink};
 use std::alloc::Global;
 use std::test::Fail;
 use synth_report::{Fault, FileOf};
+use upgrade_command::upgrade;
 
 // An output of 6 x 1 x 1 cells over a sample of 4 x 1 x 1: the sample's cells 0, 1, 2, 1, 2, 3.
 const MAP: &[u8] = b"WEAVEMAP\x01\x00\0\0\0\x06\0\0\0\x01\0\0\0\x01\0\0\0\x04\0\0\0\x01\0\0\0\x01\

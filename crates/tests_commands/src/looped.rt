@@ -2,8 +2,8 @@
 ghost use Rattle.std.specs.Prelude.{IfOk};
 ghost use Rattle.job_words.specs.LoopWords.{IsLoopJob};
 
-use crate::loop_clip;
 use job_words::{Job, LoopJob, Words, read_job};
+use loop_command::loop_clip;
 use shelf_core::{FormFault, MemShelf, MemSink};
 use std::alloc::Global;
 use std::test::Fail;

@@ -1,0 +1,13 @@
+//! Worked examples of files that stand and of those that don't, and of the commands `quilt`, `loop` and `upgrade` over
+//! a store in memory. What they show stands in no clause: that the definitions give the bytes and the numbers that
+//! were computed by hand.
+#![tactic(auto)]
+
+#[cfg(test)]
+mod looped;
+#[cfg(test)]
+mod quilted;
+#[cfg(test)]
+mod standing;
+#[cfg(test)]
+mod upgraded;

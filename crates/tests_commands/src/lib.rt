@@ -1,6 +1,6 @@
-//! Worked examples of files that stand and of those that don't, and of the commands `quilt`, `loop` and `upgrade` over
-//! a store in memory. What they show stands in no clause: that the definitions give the bytes and the numbers that
-//! were computed by hand.
+//! Worked examples of files that stand and of those that don't, of the commands `quilt`, `loop` and `upgrade` over a
+//! store in memory, and of the sample of `trial`. What they show stands in no clause: that the definitions give the bytes
+//! and the numbers that were computed by hand or by another program.
 #![tactic(auto)]
 
 #[cfg(test)]
@@ -9,5 +9,7 @@ mod looped;
 mod quilted;
 #[cfg(test)]
 mod standing;
+#[cfg(test)]
+mod trials;
 #[cfg(test)]
 mod upgraded;

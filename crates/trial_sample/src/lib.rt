@@ -7,6 +7,3 @@
 mod sample;
 
 pub use sample::{SIZE, trial_sample};
-
-#[cfg(test)]
-mod tests;

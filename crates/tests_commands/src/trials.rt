@@ -1,7 +1,7 @@
 // The sample of a number, against bytes that a program of another language made of ChaCha8's words.
-use crate::trial_sample;
 use cells::At;
 use std::test::Fail;
+use trial_sample::trial_sample;
 
 const FIRST: At = At { x: 0, y: 0, f: 0 };
 

@@ -7,8 +7,10 @@ use crate::boundaries::least_boundaries;
 use crate::clips::{clip_bytes, move_clip};
 use crate::growths::{GrowthCase, check_records, grow_often};
 use crate::loops::least_loops;
-use crate::networks::{solve_grids, solve_ladders};
+use crate::networks::{solve_combs, solve_drawn, solve_grids, solve_ladders, solve_thin_grids};
+use crate::quilts::quilt_often;
 use crate::record_files::{Way, cuts_of, move_records, strip_of};
+use crate::samples::Texture;
 use patch_place::Mode;
 use std::alloc::{AllocError, Global};
 
@@ -22,6 +24,15 @@ pub enum Case {
     SubWide,
     /// The first of them with 100 rounds.
     Rounds,
+    /// The first of them from pictures that sums of blocks tell little of, or nothing.
+    Noise,
+    EqualMeans,
+    Plain,
+    /// Mode `Sub` with boxes of 64x64 cells and overlaps of 24, from 512x512 to 512x512.
+    SubBroad,
+    /// Quilts of 512x512 cells, from 512x512, with blocks of 64x64 cells and overlaps of 16.
+    Quilt,
+    QuiltNoise,
     /// Mode `Sub` over a sample of 2048x2048, to 128x64.
     SubGreat,
     /// Mode `Whole`, from 128x128 to 512x512.
@@ -40,9 +51,13 @@ pub enum Case {
     Boundary5,
     Boundary10,
     Boundary100,
-    /// Networks of a grid of pipes, and networks each of whose paths is longer than the one before.
+    /// A grid of pipes, a network each of whose paths is longer than the one before, a grid of four rails,
+    /// pipes between drawn ends, and a comb.
     NetworkGrid,
     NetworkLadder,
+    NetworkThin,
+    NetworkDrawn,
+    NetworkComb,
     /// The record file of 200 placements of 32x32 cells, and of a block whose left strip has 1,023 columns.
     Records(Way),
     Strip(Way),
@@ -51,9 +66,14 @@ pub enum Case {
     Clip444(Way),
 }
 
-// The case of a name that is of a file.
-fn file_case_of(name: &str) -> Case {
+// The case of a name that is of a network or a file.
+fn other_case_of(name: &str) -> Case {
     match name {
+        "network-grid" => Case::NetworkGrid,
+        "network-ladder" => Case::NetworkLadder,
+        "network-thin" => Case::NetworkThin,
+        "network-drawn" => Case::NetworkDrawn,
+        "network-comb" => Case::NetworkComb,
         "records-read" => Case::Records(Way::Read),
         "records-write" => Case::Records(Way::Write),
         "records-copy" => Case::Records(Way::Copy),
@@ -74,6 +94,12 @@ pub fn case_of(name: &str) -> Case {
         "sub" => Case::Sub,
         "sub-256" => Case::SubWide,
         "rounds" => Case::Rounds,
+        "noise" => Case::Noise,
+        "equal-means" => Case::EqualMeans,
+        "plain" => Case::Plain,
+        "sub-64" => Case::SubBroad,
+        "quilt" => Case::Quilt,
+        "quilt-noise" => Case::QuiltNoise,
         "sub-2048" => Case::SubGreat,
         "whole" => Case::Whole,
         "random" => Case::Random,
@@ -85,15 +111,19 @@ pub fn case_of(name: &str) -> Case {
         "boundary-5" => Case::Boundary5,
         "boundary-10" => Case::Boundary10,
         "boundary-100" => Case::Boundary100,
-        "network-grid" => Case::NetworkGrid,
-        "network-ladder" => Case::NetworkLadder,
-        _ => file_case_of(name),
+        _ => other_case_of(name),
     }
 }
 
 const SUB: Mode = Mode::Sub {
     side: 32,
     overlap: 8,
+    tol: 10,
+};
+
+const SUB_BROAD: Mode = Mode::Sub {
+    side: 64,
+    overlap: 24,
     tol: 10,
 };
 
@@ -105,10 +135,25 @@ fn growth(sample: u32, output: u32, mode: Mode) -> GrowthCase
     ensures { IsGrowthCase result }
 {
     GrowthCase {
+        texture: Texture::Lumps,
         sample,
         w: output,
         h: output,
         mode,
+        rounds: 0,
+    }
+}
+
+// The growth of mode `Sub` of a texture.
+fn growth_from(texture: Texture) -> GrowthCase
+    ensures { IsGrowthCase result }
+{
+    GrowthCase {
+        texture,
+        sample: 128,
+        w: 512,
+        h: 512,
+        mode: SUB,
         rounds: 0,
     }
 }
@@ -119,7 +164,12 @@ fn growth_of(case: Case) -> GrowthCase
 {
     match case {
         Case::SubWide => growth(256, 512, SUB),
+        Case::SubBroad => growth(512, 512, SUB_BROAD),
+        Case::Noise => growth_from(Texture::Noise),
+        Case::EqualMeans => growth_from(Texture::EqualMeans),
+        Case::Plain => growth_from(Texture::Plain),
         Case::Rounds => GrowthCase {
+            texture: Texture::Lumps,
             sample: 128,
             w: 512,
             h: 512,
@@ -127,6 +177,7 @@ fn growth_of(case: Case) -> GrowthCase
             rounds: 100,
         },
         Case::SubGreat => GrowthCase {
+            texture: Texture::Lumps,
             sample: 2048,
             w: 128,
             h: 64,
@@ -153,9 +204,20 @@ fn run_files(alloc: Global) -> Result<u64, AllocError> {
     Ok(read ^ written ^ copied ^ shown ^ filmed)
 }
 
+// A little of the networks.
+fn run_networks(alloc: Global) -> Result<u64, AllocError> {
+    let solved = solve_grids(alloc, 8, 1)?;
+    let climbed = solve_ladders(alloc, 20, 1)?;
+    let thin = solve_thin_grids(alloc, 50, 1)?;
+    let drawn = solve_drawn(alloc, 60, 300, 1)?;
+    let combed = solve_combs(alloc, 5, 1)?;
+    Ok(solved ^ climbed ^ thin ^ drawn ^ combed)
+}
+
 // A little of everything.
 fn run_quick(alloc: Global) -> Result<u64, AllocError> {
     let small = GrowthCase {
+        texture: Texture::EqualMeans,
         sample: 40,
         w: 72,
         h: 48,
@@ -166,10 +228,10 @@ fn run_quick(alloc: Global) -> Result<u64, AllocError> {
     let checked = check_records(alloc, &small, 1)?;
     let looped = least_loops(alloc, 12, 9, 1)?;
     let bounded = least_boundaries(alloc, 16, 5, 1)?;
-    let solved = solve_grids(alloc, 8, 1)?;
-    let climbed = solve_ladders(alloc, 20, 1)?;
+    let quilted = quilt_often(alloc, Texture::Noise, 80, 1)?;
+    let solved = run_networks(alloc)?;
     let moved = run_files(alloc)?;
-    Ok(grown ^ checked ^ looped ^ bounded ^ solved ^ climbed ^ moved)
+    Ok(grown ^ checked ^ looped ^ bounded ^ quilted ^ solved ^ moved)
 }
 
 // The stream lines of clips of 640x360 pixels.
@@ -201,6 +263,11 @@ pub fn run_case(alloc: Global, case: Case, times: u32) -> Result<u64, AllocError
         Case::Boundary100 => least_boundaries(alloc, 4096, 100, times),
         Case::NetworkGrid => solve_grids(alloc, 128, times),
         Case::NetworkLadder => solve_ladders(alloc, 2000, times),
+        Case::NetworkThin => solve_thin_grids(alloc, 4096, times),
+        Case::NetworkDrawn => solve_drawn(alloc, 2000, 16000, times),
+        Case::NetworkComb => solve_combs(alloc, 300, times),
+        Case::Quilt => quilt_often(alloc, Texture::Lumps, 512, times),
+        Case::QuiltNoise => quilt_often(alloc, Texture::Noise, 512, times),
         Case::Records(way) => move_records(alloc, &cuts_of(alloc, 200)?, way, times),
         Case::Strip(way) => move_records(alloc, &strip_of(alloc, 1023)?, way, times),
         Case::Clip420(way) => move_frames(alloc, LINE_420, 345600, way, times),

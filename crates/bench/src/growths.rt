@@ -5,7 +5,7 @@ ghost use Rattle.patch_place.specs.Fitting.{HasPatch};
 ghost use Rattle.replay.specs.Replay.{IsFormed};
 ghost use Rattle.bench.specs.Sizes.{IsGrowthCase};
 
-use crate::samples::{sample_of, sum_of};
+use crate::samples::{Texture, sample_of, sum_of};
 use cells::{Size, Volume};
 use growing::{GrowPlan, Grown, grow_canvas};
 use map_canvas::Canvas;
@@ -13,9 +13,10 @@ use patch_place::Mode;
 use replay::replay_cuts;
 use std::alloc::{AllocError, Global};
 
-/// A growth: the side of its sample, and what is grown of it.
+/// A growth: the texture and the side of its sample, and what is grown of it.
 #[derive(Clone, Copy, Drop)]
 pub struct GrowthCase {
+    pub texture: Texture,
     pub sample: u32,
     pub w: u32,
     pub h: u32,
@@ -61,7 +62,7 @@ fn grown(alloc: Global, plan: &GrowPlan, sample: &Volume) -> Result<Grown, Alloc
 pub fn grow_often(alloc: Global, growth: &GrowthCase, times: u32) -> Result<u64, AllocError>
     requires { IsGrowthCase growth.now }
 {
-    let sample = sample_of(alloc, growth.sample)?;
+    let sample = sample_of(alloc, growth.texture, growth.sample)?;
     let plan = plan_of(growth);
     let mut number = 0u64;
     for _time in 0..times {
@@ -75,7 +76,7 @@ pub fn grow_often(alloc: Global, growth: &GrowthCase, times: u32) -> Result<u64,
 pub fn check_records(alloc: Global, growth: &GrowthCase, times: u32) -> Result<u64, AllocError>
     requires { IsGrowthCase growth.now }
 {
-    let sample = sample_of(alloc, growth.sample)?;
+    let sample = sample_of(alloc, growth.texture, growth.sample)?;
     let plan = plan_of(growth);
     let grown = grown(alloc, &plan, &sample)?;
     let mut number = 0u64;

@@ -4,8 +4,9 @@
 // prints a number of what comes out, which is the same in each run. With no word it does a little of everything,
 // which the gate compares. examples/bench.sh times the cases.
 //
-// `samples` makes the samples, `growths` has the cases of growing, `loops` those of loops, `boundaries` those of
-// strips, `networks` those of maximum flow, and `record_files` and `clips` those of files.
+// `samples` makes the samples, `growths` has the cases of growing, `quilts` those of quilting, `loops` those of
+// loops, `boundaries` those of strips, `networks` those of maximum flow, and `record_files` and `clips` those of
+// files.
 #![tactic(auto)]
 
 mod boundaries;
@@ -14,6 +15,7 @@ mod clips;
 mod growths;
 mod loops;
 mod networks;
+mod quilts;
 mod record_files;
 mod samples;
 

@@ -1,7 +1,7 @@
 // Networks that are hard for some solvers.
 ghost use Rattle.std.specs.Prelude.{◌≡◌, ◌≤◌, ◌<◌, ◌+◌, ◌-◌, ◌*◌, IfOk};
 ghost use Rattle.max_flow.specs.Networks.{IsPipeOf};
-ghost use Rattle.bench.specs.declared.networks.TheConstants.{MOST_ROWS, MOST_RUNGS, WIDE};
+ghost use Rattle.bench.specs.declared.networks.TheConstants.{MOST_DRAWN, MOST_GIVERS, MOST_ROWS, MOST_RUNGS, MOST_STEPS, RAILS, WIDE};
 
 use crate::samples::mixed;
 use max_flow::{Network, Pipe, solve};
@@ -15,6 +15,15 @@ const MOST_ROWS: u32 = 1_000;
 
 // The most rungs of a ladder.
 const MOST_RUNGS: u32 = 100_000;
+
+// The most steps of rails that stand side by side.
+const MOST_STEPS: u32 = 100_000;
+
+// The most nodes of a network that looks drawn, and the most pipes between them.
+const MOST_DRAWN: u32 = 1_000_000;
+
+// The most givers of a comb.
+const MOST_GIVERS: u32 = 10_000;
 
 // Adds a pipe that carries as much both ways.
 fn join(network: &mut Network, from: u32, to: u32, most: u32)
@@ -98,6 +107,129 @@ fn ladder_of(alloc: Global, rungs: u32) -> Result<Network, AllocError>
     Ok(network)
 }
 
+// The rails of a long thin grid.
+const RAILS: u32 = 4;
+
+// Adds the pipes from a cell of a long thin grid to the cell of the next rail and to that of the next step. The
+// source stands before the first step, and the sink behind the last.
+fn join_rail(network: &mut Network, steps: u32, cell: u32)
+    requires cell { cell < steps * RAILS }
+    requires steps { steps ≤ MOST_STEPS }
+    requires room { 3 ≤ network.old.spare }
+    requires nodes { network.old.nodes ≡ steps * RAILS + 2 }
+    ensures nodes { network.new.nodes ≡ network.old.nodes }
+    ensures room { network.old.spare ≤ network.new.spare + 3 }
+{
+    let node = cell + 2;
+    if cell < RAILS {
+        join(network, 0, node, WIDE);
+    }
+    if node + RAILS < steps * RAILS + 2 {
+        join(network, node, node + RAILS, mixed(node, 4) % 1000);
+    } else {
+        join(network, node, 1, WIDE);
+    }
+    if node + 1 < steps * RAILS + 2 {
+        join(network, node, node + 1, mixed(node, 5) % 1000);
+    }
+}
+
+// A grid of a few rails and so many steps, whose pipes look drawn.
+fn thin_grid_of(alloc: Global, steps: u32) -> Result<Network, AllocError>
+    requires { steps ≤ MOST_STEPS }
+{
+    let cells = steps * RAILS;
+    let mut network = Network::make(alloc, cells + 2, 0, 1, 3 * cells as usize)?;
+    for cell in 0..cells {
+        join_rail(&mut network, steps, cell);
+    }
+    Ok(network)
+}
+
+// Adds a pipe from the source to a node and one from a node to the sink, which look drawn.
+fn join_ends(network: &mut Network, nodes: u32, pair: u32)
+    requires some { 1 ≤ nodes }
+    requires few { nodes ≤ MOST_DRAWN }
+    requires room { 2 ≤ network.old.spare }
+    requires nodes { network.old.nodes ≡ nodes + 2 }
+    ensures nodes { network.new.nodes ≡ network.old.nodes }
+    ensures room { network.new.spare + 2 ≡ network.old.spare }
+{
+    join(
+        network,
+        0,
+        mixed(pair, 6) % nodes + 2,
+        mixed(pair, 7) % 1000,
+    );
+    join(
+        network,
+        mixed(pair, 8) % nodes + 2,
+        1,
+        mixed(pair, 9) % 1000,
+    );
+}
+
+// So many pipes between nodes, a tenth as many from the source and as many to the sink, all with ends and
+// capacities that look drawn.
+fn drawn_of(alloc: Global, nodes: u32, pipes: u32) -> Result<Network, AllocError>
+    requires some { 1 ≤ nodes }
+    requires few { nodes ≤ MOST_DRAWN }
+    requires pipes { pipes ≤ MOST_DRAWN }
+{
+    let ends = pipes / 10;
+    let room = (2 * ends + pipes) as usize;
+    let mut network = Network::make(alloc, nodes + 2, 0, 1, room)?;
+    for pair in 0..ends {
+        join_ends(&mut network, nodes, pair);
+    }
+    for i in 0..pipes {
+        let from = mixed(i, 10) % nodes + 2;
+        let to = mixed(i, 11) % nodes + 2;
+        join(&mut network, from, to, mixed(i, 12) % 1000);
+    }
+    Ok(network)
+}
+
+// How many takers each giver of a comb is joined to.
+const LEGS: u32 = 200;
+
+// Adds a pipe from the source to a giver of a comb, and one from its taker to the sink.
+fn join_giver(network: &mut Network, givers: u32, giver: u32)
+    requires giver { giver < givers }
+    requires givers { givers ≤ MOST_GIVERS }
+    requires room { 2 ≤ network.old.spare }
+    requires nodes { network.old.nodes ≡ 2 * givers + 2 }
+    ensures nodes { network.new.nodes ≡ network.old.nodes }
+    ensures room { network.new.spare + 2 ≡ network.old.spare }
+{
+    join(network, 0, giver + 2, mixed(giver, 13) % 1000);
+    join(network, givers + giver + 2, 1, mixed(giver, 14) % 1000);
+}
+
+// A comb: givers that the source joins, each joined to the takers from its own on, all of which join the sink.
+fn comb_of(alloc: Global, givers: u32) -> Result<Network, AllocError>
+    requires some { 1 ≤ givers }
+    requires few { givers ≤ MOST_GIVERS }
+{
+    let legs = givers * LEGS;
+    let room = (2 * givers + legs) as usize;
+    let mut network = Network::make(alloc, 2 * givers + 2, 0, 1, room)?;
+    for giver in 0..givers {
+        join_giver(&mut network, givers, giver);
+    }
+    for i in 0..legs {
+        let giver = i % givers;
+        let taker = (giver + i / givers) % givers;
+        join(
+            &mut network,
+            giver + 2,
+            givers + taker + 2,
+            mixed(i, 15) % 1000,
+        );
+    }
+    Ok(network)
+}
+
 // Solves a network so often. The number is the value of its flow.
 fn solve_often(alloc: Global, network: &Network, times: u32) -> Result<u64, AllocError> {
     let mut number = 0u64;
@@ -119,4 +251,28 @@ pub fn solve_ladders(alloc: Global, rungs: u32, times: u32) -> Result<u64, Alloc
     requires { rungs ≤ MOST_RUNGS }
 {
     solve_often(alloc, &ladder_of(alloc, rungs)?, times)
+}
+
+/// Solves a grid of four rails so often.
+pub fn solve_thin_grids(alloc: Global, steps: u32, times: u32) -> Result<u64, AllocError>
+    requires { steps ≤ MOST_STEPS }
+{
+    solve_often(alloc, &thin_grid_of(alloc, steps)?, times)
+}
+
+/// Solves a network that looks drawn so often.
+pub fn solve_drawn(alloc: Global, nodes: u32, pipes: u32, times: u32) -> Result<u64, AllocError>
+    requires some { 1 ≤ nodes }
+    requires few { nodes ≤ MOST_DRAWN }
+    requires pipes { pipes ≤ MOST_DRAWN }
+{
+    solve_often(alloc, &drawn_of(alloc, nodes, pipes)?, times)
+}
+
+/// Solves a comb so often.
+pub fn solve_combs(alloc: Global, givers: u32, times: u32) -> Result<u64, AllocError>
+    requires some { 1 ≤ givers }
+    requires few { givers ≤ MOST_GIVERS }
+{
+    solve_often(alloc, &comb_of(alloc, givers)?, times)
 }

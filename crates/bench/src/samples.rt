@@ -1,4 +1,4 @@
-// Samples of lumps with a little noise on them, and numbers that look drawn.
+// Samples, and numbers that look drawn.
 ghost use Rattle.std.specs.Prelude.{◌≡◌, ◌≤◌, IfOk};
 ghost use Rattle.cells.specs.Places.{IsSmall};
 ghost use Rattle.cells.specs.Cells.{IsOnePart};
@@ -35,8 +35,22 @@ fn between(a: u32, b: u32, eighths: u32) -> u32
     (sum / 8) % 200
 }
 
-// The byte of a channel of a cell.
-fn byte_at(x: u32, y: u32, channel: u32) -> u8 {
+/// What a sample shows.
+#[derive(Clone, Copy, Drop)]
+pub enum Texture {
+    /// Lumps with a little noise on them.
+    Lumps,
+    /// Bytes that look drawn, each by itself.
+    Noise,
+    /// Rows and columns of drawn heights, each with its opposite beside it, so that all blocks of two cells on each
+    /// axis have one mean: sums of blocks tell nothing of them.
+    EqualMeans,
+    /// One colour.
+    Plain,
+}
+
+// The byte of a channel of a cell of lumps.
+fn lump_at(x: u32, y: u32, channel: u32) -> u8 {
     let top = between(
         corner(x / 8, y / 8, channel),
         corner((x / 8).wrapping_add(1), y / 8, channel),
@@ -51,10 +65,43 @@ fn byte_at(x: u32, y: u32, channel: u32) -> u8 {
     (between(top, low, y % 8) + noise) as u8
 }
 
-// The volume of a size with 3 bytes a cell. The frames of a clip are lumps that move.
-fn volume_of(alloc: Global, size: Size) -> Result<Volume, AllocError>
+// So much above 128 or below it.
+fn beside(is_above: bool, height: u32) -> u32
+    requires { height ≤ 120 }
+    ensures { result ≤ 248 }
+{
+    if is_above { 128 + height } else { 128 - height }
+}
+
+// The byte of a channel of a cell whose blocks all have one mean.
+fn equal_mean_at(x: u32, y: u32, channel: u32) -> u8 {
+    let across = mixed(y, channel.wrapping_add(8)) % 60;
+    let down = mixed(x, channel.wrapping_add(16)) % 60;
+    let (is_right, is_low) = (x % 2 == 1, y % 2 == 1);
+    if is_right == is_low {
+        beside(is_right, across + down) as u8
+    } else if across >= down {
+        beside(is_right, across - down) as u8
+    } else {
+        beside(is_low, down - across) as u8
+    }
+}
+
+// The byte of a channel of a cell.
+fn byte_at(texture: Texture, x: u32, y: u32, channel: u32) -> u8 {
+    match texture {
+        Texture::Lumps => lump_at(x, y, channel),
+        Texture::Noise => (mixed(x.wrapping_mul(3).wrapping_add(channel), y) % 256) as u8,
+        Texture::EqualMeans => equal_mean_at(x, y, channel),
+        Texture::Plain => 90,
+    }
+}
+
+// The volume of a size with 3 bytes a cell. The frames of a clip show a texture that moves.
+fn volume_of(alloc: Global, texture: Texture, size: Size) -> Result<Volume, AllocError>
     requires small { IsSmall size }
     ensures volume { IfOk result (λ v. IsOnePart v × (v.size ≡ size)) }
+    ensures samples { IfOk result (λ v. v.k ≡ 3) }
 {
     let mut bytes = vec![in alloc; 0u8; 3 * size.cells()]?;
     for i in 0..bytes.len() {
@@ -62,17 +109,19 @@ fn volume_of(alloc: Global, size: Size) -> Result<Volume, AllocError>
         let row = cell / size.w;
         let moved = (row / size.h).wrapping_mul(3);
         let x = (cell % size.w).wrapping_add(moved);
-        bytes[i] = byte_at(x, row % size.h, (i % 3) as u32);
+        bytes[i] = byte_at(texture, x, row % size.h, (i % 3) as u32);
     }
     Ok(Volume::from_bytes(size, 3, bytes))
 }
 
-/// A square picture of that side.
-pub fn sample_of(alloc: Global, side: u32) -> Result<Volume, AllocError>
+/// A square picture of a texture, of that side.
+pub fn sample_of(alloc: Global, texture: Texture, side: u32) -> Result<Volume, AllocError>
     requires { IsSmall (record { w = side; h = side; f = 1 }) }
+    ensures { IfOk result (λ v. (IsOnePart v × (v.size.f ≡ 1)) × (v.k ≡ 3)) }
 {
     volume_of(
         alloc,
+        texture,
         Size {
             w: side,
             h: side,
@@ -81,7 +130,7 @@ pub fn sample_of(alloc: Global, side: u32) -> Result<Volume, AllocError>
     )
 }
 
-/// A clip of so many frames of 32x32 cells.
+/// A clip of so many frames of 32x32 cells, of lumps.
 pub fn clip_of(alloc: Global, frames: u32) -> Result<Volume, AllocError>
     requires some { 1 ≤ frames }
     requires few { frames ≤ 256 }
@@ -90,6 +139,7 @@ pub fn clip_of(alloc: Global, frames: u32) -> Result<Volume, AllocError>
 {
     volume_of(
         alloc,
+        Texture::Lumps,
         Size {
             w: 32,
             h: 32,

@@ -1,0 +1,42 @@
+// Quilts.
+ghost use Rattle.cells.specs.Places.{IsSmall};
+
+use crate::samples::{Texture, sample_of, sum_of};
+use cells::Size;
+use quilt::QuiltPlan;
+use quilting::{QuiltRun, quilt_canvas};
+use std::alloc::{AllocError, Global};
+
+/// Quilts a picture of that side so often, of blocks of 64x64 cells with overlaps of 16, from a sample of the same
+/// side. The number is of the picture's bytes.
+pub fn quilt_often(
+    alloc: Global,
+    texture: Texture,
+    side: u32,
+    times: u32,
+) -> Result<u64, AllocError>
+    requires { IsSmall (record { w = side; h = side; f = 1 }) }
+{
+    let sample = sample_of(alloc, texture, side)?;
+    let asked = QuiltRun {
+        size: Size {
+            w: side,
+            h: side,
+            f: 1,
+        },
+        plan: QuiltPlan {
+            block: 64,
+            overlap: 16,
+            tol: 10,
+        },
+        seed: 1,
+    };
+    let mut number = 0u64;
+    for _time in 0..times {
+        let Ok(quilted) = quilt_canvas(alloc, &asked, &sample) else {
+            return Err(AllocError);
+        };
+        number = u64::from(sum_of(quilted.canvas.picture().bytes()));
+    }
+    Ok(number)
+}

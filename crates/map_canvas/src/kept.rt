@@ -10,7 +10,7 @@ use cells::{At, Axis, Box3};
 fn is_filled_outside(map: &Map, rect: &Box3, p: At) -> bool
     ensures { IsTrue result ↔ IsFilledOutside map.now rect.now p }
 {
-    map.at(p).is_some() && !rect.contains(p)
+    !rect.contains(p) && map.at(p).is_some()
 }
 
 // Whether one of the two neighbours of a filled cell along an axis is filled and outside a box.

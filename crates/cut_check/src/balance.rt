@@ -14,7 +14,7 @@ ghost use Rattle.cut_check.specs.Steps.{ArePartsOfValue, LiesIn, most_leaving, m
 
 use crate::flows::leaving;
 use crate::record::CutRecord;
-use crate::rules::{box_cell, stays_old};
+use crate::rules::{box_cell, is_marked, stays_old};
 use box_walk::Walk;
 use cells::At;
 use map_canvas::{Canvas, Placement};
@@ -47,13 +47,13 @@ fn part_of(canvas: &Canvas, cut: &CutRecord, held: &[bool], i: usize, walk: Walk
     }
 }
 
-// Whether a cell is neither filled nor has to stay old.
+// Whether a cell is neither filled nor held: such a cell doesn't have to stay old.
 fn is_left_out(canvas: &Canvas, placement: &Placement, held: &[bool], i: usize, p: At) -> bool
     requires index { box_index placement.now p ≡ Some i }
     ensures { IsTrue result → (IsFilled canvas.now.map p → ⊥)
         × (StaysOld canvas.now.map placement.now held.now p → ⊥) }
 {
-    !canvas.is_filled(p) && !stays_old(canvas, placement, held, i, p)
+    !is_marked(held, i) && !canvas.is_filled(p)
 }
 
 // The same as `part_of`: of a cell that is left out nothing is asked, and its flows aren't read.

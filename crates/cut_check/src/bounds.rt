@@ -193,7 +193,9 @@ fn lay(map: &Map, sample: &Volume, placement: &Placement, at: Counts) -> Laid
     }
 }
 
-// The flow of the pair of a cell along an axis is within the bounds of the pair.
+// The flow of the pair of a cell along an axis is within the bounds of the pair. Few pairs come to it, so it
+// stands apart from the walk over all of them.
+#[inline(never)]
 fn is_bounded_at(
     map: &Map,
     sample: &Volume,
@@ -220,6 +222,7 @@ fn is_bounded_at(
 
 // The pair of a cell along an axis, if it has one, is within its bounds. Most pairs have no flow, which is
 // within any bounds: for them no source is read.
+#[inline(always)]
 fn holds_along(
     map: &Map,
     sample: &Volume,

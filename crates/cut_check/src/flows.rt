@@ -15,6 +15,7 @@ const NO_FLOW: Flow = Flow { x: 0, y: 0 };
 
 /// The flow of a cell and the next one along an axis, by the number of their pair; none where there is no
 /// next cell.
+#[inline(always)]
 pub fn flow_at(size: Size, flows: &[Flow], axis: Axis, at: Counts, number: u64) -> Flow
     requires counts { AreCounts size at.x at.y at.f }
     requires number { number ≡ pair_number size axis at.x at.y at.f }

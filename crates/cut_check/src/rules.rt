@@ -13,8 +13,8 @@ use box_walk::Counts;
 use cells::At;
 use map_canvas::{Canvas, Map, Placement};
 
-// What a list of marks says of the cell at an index: past its end it says no.
-fn is_marked(marks: &[bool], i: usize) -> bool
+/// What a list of marks says of the cell at an index: past its end it says no.
+pub fn is_marked(marks: &[bool], i: usize) -> bool
     ensures { result ≡ slice_index_or marks.now i false }
 {
     marks.get(i).copied().unwrap_or(false)

@@ -2,6 +2,8 @@
 ghost use Rattle.std.specs.Prelude.{◌≡◌, ◌<◌, ◌≤◌, IfSome};
 ghost use Rattle.cells.specs.Boxes.{HoldsBox};
 ghost use Rattle.cells.specs.Distances.{distance};
+ghost use Rattle.cells.specs.Neighbours.{unit_step};
+ghost use Rattle.cells.specs.Places.{plus};
 ghost use Rattle.map_canvas.specs.Maps.{IsSource, map_at};
 ghost use Rattle.box_walk.specs.Pairs.{AreCounts, cell_in};
 ghost use Rattle.box_walk.specs.Raster.{largest};
@@ -14,8 +16,20 @@ use box_walk::{Counts, has_cells};
 use cells::{At, Axis, Box3, Volume};
 use map_canvas::Canvas;
 
-// The cost of a cell of source `a` and the next one along an axis.
+// The source of the next cell along an axis.
 #[tactic(auto, using(crate::proofs::Near::next_asked))]
+fn next_source<S: Sources>(sources: &S, rect: &Box3, at: Counts, axis: Axis) -> Option<At>
+    requires inside { HoldsBox largest rect.now.corner rect.now.size }
+    requires counts { AreCounts rect.now.size at.x at.y at.f }
+    ensures source { result ≡ S.source_at sources.now
+        (plus (cell_in rect.now at.x at.y at.f) (unit_step axis)) }
+    ensures near { IfSome result IsSource }
+{
+    let next = at.cell(rect).plus(axis.unit());
+    sources.source(next)
+}
+
+// The cost of a cell of source `a` and the next one along an axis.
 fn pair<S: Sources>(
     sources: &S,
     sample: &Volume,
@@ -32,26 +46,37 @@ fn pair<S: Sources>(
         (cell_in rect.now at.x at.y at.f) }
     ensures small { result ≤ most_of_pair }
 {
-    let next = at.cell(rect).plus(axis.unit());
-    seam_of(sample, axis, a, sources.source(next))
+    seam_of(sample, axis, a, next_source(sources, rect, at, axis))
 }
 
-// The costs of a cell and the next one along each axis.
-#[tactic(auto, using(crate::proofs::Near::cell_asked))]
-fn pairs<S: Sources>(sources: &S, sample: &Volume, rect: &Box3, at: Counts) -> u32
+// The costs of a cell of source `a` and the next one along each axis, of which that along X has source
+// `next`.
+fn pairs<S: Sources>(
+    sources: &S,
+    sample: &Volume,
+    rect: &Box3,
+    at: Counts,
+    a: Option<At>,
+    next: Option<At>,
+) -> u32
     requires inside { HoldsBox largest rect.now.corner rect.now.size }
     requires counts { AreCounts rect.now.size at.x at.y at.f }
+    requires source { a ≡ S.source_at sources.now (cell_in rect.now at.x at.y at.f) }
+    requires near { IfSome a IsSource }
+    requires next { next ≡ S.source_at sources.now
+        (plus (cell_in rect.now at.x at.y at.f) (unit_step Axis.X)) }
+    requires next_near { IfSome next IsSource }
     ensures cost { result ≡ pairs_at (distance sample.now) (S.source_at sources.now)
         (cell_in rect.now at.x at.y at.f) }
     ensures small { result ≤ most_of_cell }
 {
-    let a = sources.source(at.cell(rect));
-    pair(sources, sample, rect, at, a, Axis::X)
+    seam_of(sample, Axis::X, a, next)
         + pair(sources, sample, rect, at, a, Axis::Y)
         + pair(sources, sample, rect, at, a, Axis::F)
 }
 
-// The costs of a row.
+// The costs of a row. Its cells are asked for one after another, each once.
+#[tactic(auto, using(crate::proofs::Near::cell_asked))]
 fn row<S: Sources>(sources: &S, sample: &Volume, rect: &Box3, y: u32, f: u32) -> u64
     requires inside { HoldsBox largest rect.now.corner rect.now.size }
     requires counts { (y < rect.now.size.h) × (f < rect.now.size.f) }
@@ -59,9 +84,17 @@ fn row<S: Sources>(sources: &S, sample: &Volume, rect: &Box3, y: u32, f: u32) ->
         (S.source_at sources.now) rect.now y f }
     ensures small { result ≤ most_of_row }
 {
+    if rect.size.w == 0 {
+        return 0;
+    }
+    let first = Counts { x: 0, y, f };
+    let mut a = sources.source(first.cell(rect));
     let mut sum: u64 = 0;
     for x in 0..rect.size.w {
-        sum += u64::from(pairs(sources, sample, rect, Counts { x, y, f }));
+        let at = Counts { x, y, f };
+        let next = next_source(sources, rect, at, Axis::X);
+        sum += u64::from(pairs(sources, sample, rect, at, a, next));
+        a = next;
     }
     sum
 }

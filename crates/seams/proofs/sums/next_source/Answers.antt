@@ -5,7 +5,7 @@ use Rattle.cells.specs.Places.{SumFits, plus}
 use Rattle.box_walk.specs.Pairs.{cell_in}
 use Rattle.seams.specs.Costs.{IsAsked}
 use Rattle.seams.proofs.Near.{asked_step, cell_asked, next_asked}
-use Rattle.seams.proofs.sums.pair.Goals as goal
+use Rattle.seams.proofs.sums.next_source.Goals as goal
 
 pub plus-next-requires : goal.plus-next-requires
 plus-next-requires g c =

@@ -5,16 +5,84 @@ ghost use Rattle.cells.specs.Cells.{Cells};
 ghost use Rattle.map_canvas.specs.Canvases.{CanvasState, StandsOver};
 ghost use Rattle.block_sums.specs.Eliminations.{AreBoxLevels, AreEliminated, AreSampleSums};
 
-use block_sums::{BoxLevels, Eliminated, SampleSums};
+use block_sums::{BoxLevels, Eliminated, LANES, SampleSums};
 use cells::Volume;
 use map_canvas::{Canvas, Placement};
+
+// The most runs that a walk passes over before it tries one again.
+const MOST_PASSED: usize = 15;
+
+// When a walk tries to eliminate: where runs eliminate little, as in noise, most of them are passed
+// over, so that a walk loses next to nothing by the trying. It only says what to try, so nothing is
+// promised.
+#[derive(Clone, Copy, Drop)]
+struct Pace {
+    // how many candidates of the run at hand were eliminated, and how many were left
+    gone: usize,
+    left: usize,
+    // how many runs were passed over last
+    passed: usize,
+    // how many candidates are still to be passed over
+    wait: usize,
+}
+
+impl Pace {
+    // Before the first run.
+    fn start() -> Pace {
+        Pace {
+            gone: 0,
+            left: 0,
+            passed: 0,
+            wait: 0,
+        }
+    }
+
+    // Whether a candidate is passed over.
+    fn waits(&mut self) -> bool {
+        if self.wait == 0 {
+            return false;
+        }
+        self.wait -= 1;
+        true
+    }
+
+    // Counts a candidate of the run at hand.
+    fn count(&mut self, gone: bool) {
+        if gone {
+            self.gone = self.gone.saturating_add(1);
+        } else {
+            self.left = self.left.saturating_add(1);
+        }
+    }
+
+    // Whether runs are passed over after the one at hand: where it left more than half of its places,
+    // and each time in a row more of them.
+    fn rests(&mut self) -> bool {
+        let rests = self.left > self.gone;
+        if rests {
+            self.passed = self
+                .passed
+                .saturating_mul(2)
+                .saturating_add(1)
+                .min(MOST_PASSED);
+            self.wait = self.passed.saturating_mul(LANES);
+        } else if self.gone > 0 {
+            self.passed = 0;
+        }
+        self.gone = 0;
+        self.left = 0;
+        rests
+    }
+}
 
 /// The run of places that a walk over one part is in, of which some are eliminated.
 #[derive(Clone, Copy, Drop)]
 pub(crate) struct Skips {
+    // without a place while the walk passes over runs
     pub(crate) run: Eliminated,
     // whether another run may eliminate anything: not where there are no blocks
     serve: bool,
+    pace: Pace,
 }
 
 impl Skips {
@@ -26,11 +94,12 @@ impl Skips {
         Skips {
             run: Eliminated::none(),
             serve: true,
+            pace: Pace::start(),
         }
     }
 
     // Goes on to a candidate in the part with this number: to the run from there on, where the last run
-    // is passed. Nothing is eliminated while each sum is within the limit.
+    // is passed and no run is passed over. Nothing is eliminated while each sum is within the limit.
     pub(crate) fn go_to(
         &mut self,
         levels: &BoxLevels,
@@ -50,11 +119,23 @@ impl Skips {
         ensures { AreEliminated canvas.now sample.now placement.now.rect self.new.run }
     {
         let Placement { rect, from } = placement;
-        if !self.serve || limit == u64::MAX || self.run.covers(*from) {
+        if !self.serve || limit == u64::MAX {
+            return;
+        }
+        if self.pace.waits() {
+            return;
+        }
+        if self.run.covers(*from) {
+            self.pace.count(self.run.has(*from, limit));
+            return;
+        }
+        if self.pace.rests() {
+            self.run = Eliminated::none();
             return;
         }
         self.run = levels.eliminate(sums, canvas, sample, rect, part, *from, limit);
         // A run without the place that it begins with is that of no blocks.
         self.serve = self.run.covers(*from);
+        self.pace.count(self.run.has(*from, limit));
     }
 }

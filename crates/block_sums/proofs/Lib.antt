@@ -5,6 +5,7 @@ pub mod BlockPlaces
 pub mod Gatherings
 pub mod BlockErrors
 pub mod SumRows
+pub mod AddedSums
 pub mod BlockRows
 pub mod Vectors
 pub mod RunEntries

@@ -1,6 +1,6 @@
 -- How large the sums of blocks get.
 use Rattle.std.proofs.Common.{◌≡◌, ℕ, ◌+◌, ◌*◌, ◌<◌, ◌≤◌, ◌^◌, ap, arith}
-use Rattle.std.proofs.Math.Nat.{mul-le-mul}
+use Rattle.std.proofs.Math.Nat.{mul-le-mul, mul-le-mul_left}
 use Rattle.block_sums.specs.Blocks.{block_bytes}
 
 -- a row of a block has few bytes
@@ -16,3 +16,10 @@ rows_small side k j sum long row few lt small is le =
     let more : sum + row ≤ 255 * (k * side) * (j + 1) = omega (arith, ap (λ n. 255 * n) is) in
     let rows : k * side * (j + 1) ≤ k * side * side = mul-le-mul (omega arith) (omega arith) in
     (more, omega (arith, more, rows, few))
+
+-- a block's last row is few entries from its first
+pub rows_near : (side k w : ℕ) → 255 * block_bytes side k < 2 ^ 16 → 1 ≤ side → 1 ≤ k → w ≤ 4096 → w * side < 2 ^ 32
+rows_near side k w few some samples wide =
+    let short : side ≤ 257 = omega (arith, row_short side k few some, mul-le-mul_left side samples) in
+    let most : w * side ≤ 4096 * 257 = mul-le-mul wide short in
+    omega (arith, most)

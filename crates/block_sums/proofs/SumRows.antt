@@ -1,12 +1,16 @@
 -- Entries put one after another, row by row.
-use Rattle.std.proofs.Common.{◌≡◌, ℕ, zero, suc, ◌+◌, ◌*◌, ◌/◌, ◌%◌, ◌<◌, ◌≤◌, List, [], ◌∷◌, ◌++◌, length, get_or, ap, sym, subst, ◌∙◌, arith, ⊎_elim, length-append}
+use Rattle.std.proofs.Common.{◌≡◌, ℕ, zero, suc, ◌+◌, ◌-◌, ◌*◌, ◌/◌, ◌%◌, ◌<◌, ◌≤◌, List, [], ◌∷◌, ◌++◌, length, get_or, replicate, refl, ap, sym, subst, ◌∙◌, arith, ⊎_elim, length-append}
 use Rattle.std.proofs.lemmas.Bool.{cases_eq, cases_lt}
-use Rattle.std.proofs.lemmas.List.{get_or_append_left, get_or-append-add}
+use Rattle.std.proofs.lemmas.List.{get_or_append_left, get_or-append-add, get_or-append_right, length-replicate}
 use Rattle.std.proofs.lemmas.Nat.{mod-mul-add, div-mul-add}
+use Rattle.cells.specs.declared.place.Box3.{Box3}
 use Rattle.cells.specs.declared.place.Size.{Size}
 use Rattle.cells.specs.Boxes.{HasCells}
-use Rattle.cells.proofs.Raster.{in_rows}
-use Rattle.block_sums.specs.Sums.{ArePut, AreRows}
+use Rattle.cells.specs.Cells.{Cells}
+use Rattle.cells.specs.Places.{IsSmall}
+use Rattle.cells.proofs.Raster.{below_of_div, in_rows}
+use Rattle.block_sums.specs.declared.sums.TheConstants.{LANES}
+use Rattle.block_sums.specs.Sums.{AreCellSums, AreEntries, ArePut, AreRows, IsCellSum}
 
 module _ (Is : ℕ → ℕ → Type 0) where
   pub none_put : (was : List ℕ) → ArePut Is 0 was was
@@ -92,3 +96,36 @@ module _ (Is : ℕ → ℕ → ℕ → ℕ → Type 0) (size : Size) where
     where
       turned : x + size.w * (y + size.h * f) ≡ size.w * (y + size.h * f) + x
       turned = omega arith
+
+-- so many entries of 0, and what is read past them
+zeros : (n i : ℕ) → get_or {A = ℕ} (replicate n 0) i 0 ≡ 0
+zeros zero i = refl
+zeros (suc n) zero = refl
+zeros (suc n) (suc i) = zeros n i
+
+module _ (sample : Cells) (rect : Box3) where
+  -- the entries of all rows, and entries of 0 after them
+  pub cell_entries : (entries : List ℕ) → IsSmall rect.size → AreRows (IsCellSum sample rect) rect.size (rect.size.h * rect.size.f) entries → AreCellSums sample rect (entries ++ replicate LANES 0)
+  cell_entries entries small are =
+      let size = rect.size in
+      let more : List ℕ = replicate LANES 0 in
+      record {
+        long = omega (arith, length-append entries more, length-replicate {A = ℕ} LANES 0, are.long);
+        each = λ x y f lx ly lf. (entry (IsCellSum sample rect) size entries more are x y f lx ly lf).is;
+        small = λ i.
+            ⊎_elim
+            (λ lt.
+            let row : i / size.w < size.h * size.f = below_of_div size.w (size.h * size.f) i small.axes.w.0 (omega (arith, lt, are.long)) in
+            let column : i % size.w < size.w = omega (arith, small.axes.w) in
+            let there : size.w * (i / size.w) + i % size.w ≡ i = omega arith in
+            subst (λ v. v ≤ 255 * sample.k) (sym (get_or_append_left entries more 0 i lt ∙ ap (λ j. get_or entries j 0) (sym there))) (are.each (i % size.w) (i / size.w) column row).small)
+            (λ le. subst (λ v. v ≤ 255 * sample.k) (sym (get_or-append_right entries more (length entries) i 0 refl le ∙ zeros LANES (i - length entries))) (omega arith))
+            (cases_lt i (length entries));
+      }
+
+-- a box without cells has no entries but the last ones
+pub no_entries : (sample : Cells) (rect : Box3) (side : ℕ) → 1 ≤ side → (HasCells rect.size → ⊥) → AreEntries sample rect side (replicate LANES 0)
+no_entries sample rect side some none = record {
+  long = omega (arith, length-replicate {A = ℕ} LANES 0, (no_cells (λ _ _ _ _. Unit {0}) rect.size none).long);
+  each = λ x y f lx ly lf. absurd (none (record { w = omega (arith, lx, some); h = omega (arith, ly, some); f = omega (arith, lf) }));
+}

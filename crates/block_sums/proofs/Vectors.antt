@@ -1,8 +1,8 @@
 -- What the vectors of a run hold, as lists of lanes.
-use Rattle.std.proofs.Common.{◌≡◌, ◌∙◌, ℕ, zero, suc, ◌+◌, ◌-◌, ◌*◌, ◌%◌, ◌<◌, ◌≤◌, Bool, true, false, if◌then◌else◌, nat_lt, List, [], ◌∷◌, length, map, get_or, take, replicate, cond, refl, sym, arith, w32, Fits}
+use Rattle.std.proofs.Common.{◌≡◌, ◌∙◌, ℕ, zero, suc, ◌+◌, ◌-◌, ◌*◌, ◌%◌, ◌^◌, ◌<◌, ◌≤◌, Bool, true, false, if◌then◌else◌, nat_lt, List, [], ◌∷◌, length, map, get_or, take, replicate, cond, refl, sym, subst, arith, w16, w32, Fits}
 use Rattle.std.proofs.Math.Nat.{mul-le-mul}
 use Rattle.std.specs.Int.{abs_diff}
-use Rattle.std.specs.Simd.Lanes.{zip2, Each1, sel_l, top}
+use Rattle.std.specs.Simd.Lanes.{zip2, Each1, Each2, sel_l, top}
 use Rattle.std.proofs.lemmas.List.{get_or-take, length-take-le, length-replicate, get_or-replicate}
 use Rattle.std.proofs.lemmas.Simd.{tops_compared, get_or-zip2, length-zip2}
 use Rattle.block_sums.specs.Blocks.{square_of_difference}
@@ -66,3 +66,14 @@ module _ (sum j : ℕ) (run : List ℕ) (long : LANES ≤ length run) (lt : j < 
 
   pub lane_is : get_or (zip2 (λ a b. a * b) lanes lanes) j 0 ≡ square_of_difference sum (get_or run j 0)
   lane_is = get_or-zip2 (λ a b. a * b) lanes lanes j 0 0 0 in_lanes in_lanes ∙ (λ t. one t * one t)
+
+-- sums that fit in each lane
+each_fits : (xs ys : List ℕ) → ((j : ℕ) → j < length xs → get_or xs j 0 + get_or ys j 0 < 65536) → Each2 (λ a b. Fits w16 (a + b)) xs ys
+each_fits [] ys small = tt
+each_fits (x ∷ xs) [] small = tt
+each_fits (x ∷ xs) (y ∷ ys) small = (let first : x + y < 65536 = small 0 (omega arith) in record { fits = omega arith }, each_fits xs ys (λ j lt. small (suc j) (omega arith)))
+
+pub lanes_fit : (sums run : List ℕ) → length sums ≡ LANES → LANES ≤ length run → ((j : ℕ) → j < LANES → get_or sums j 0 + get_or run j 0 < 2 ^ 16) → Each2 (λ a b. Fits w16 (a + b)) sums (take LANES run)
+lanes_fit sums run long enough small =
+    each_fits sums (take LANES run)
+    (λ j lt. let below : j < LANES = omega (arith, long, lt) in subst (λ n. get_or sums j 0 + n < 65536) (sym (get_or-take LANES run j 0 below)) (small j below))

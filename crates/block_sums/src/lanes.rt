@@ -1,4 +1,4 @@
-// Sums over a run of places at once, one place a lane.
+// Sums over a run of places or of entries at once, one a lane.
 ghost use Rattle.std.specs.Prelude.{◌≡◌, ◌≤◌, ◌<◌, ◌+◌, ◌-◌, ◌*◌, ◌^◌, ℕ, length, replicate, slice_index, slice_index_or, take, true, false};
 ghost use Rattle.std.specs.Int.{abs_diff};
 ghost use Rattle.std.specs.Simd.Lanes.{zip2};
@@ -102,4 +102,24 @@ pub(crate) fn are_marked(marks: &[bool; LANES], n: u32) -> bool {
         }
     }
     true
+}
+
+/// The sums of no entries.
+#[inline(always)]
+pub(crate) fn no_sums() -> u16x32
+    ensures { result ≡ replicate LANES 0 }
+{
+    u16x32::splat(0)
+}
+
+/// The sums with one more run of entries, one a lane.
+#[inline(always)]
+pub(crate) fn with_run(sums: u16x32, run: &[u16]) -> u16x32
+    requires run { LANES ≤ length run.now }
+    requires fits { (j : ℕ) → j < LANES → slice_index sums j + slice_index run.now j < 2 ^ 16 }
+    ensures sums { (j : ℕ) → j < LANES
+        → slice_index result j ≡ slice_index sums j + slice_index run.now j }
+    ensures long { length result ≡ LANES }
+{
+    sums.strict_add(u16x32::from_slice(run))
 }

@@ -95,8 +95,8 @@ impl SampleSums {
         self.add_level(alloc, sample, rect, FINE_SIDE)
     }
 
-    /// The sums of all parts of a sample. They take 4 bytes a cell and some more a part, and while they
-    /// are made 2 more for each cell of one part. The one error is out of memory.
+    /// The sums of all parts of a sample. They take 4 bytes a cell and some more a part, and no more
+    /// while they are made. The one error is out of memory.
     pub fn make(alloc: Global, sample: &Volume) -> Result<SampleSums, AllocError>
         ensures { IfOk result (AreSampleSums sample.now) }
     {

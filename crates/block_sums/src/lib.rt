@@ -14,8 +14,8 @@
 //! sample, which says of each place whether it is ruled out for a limit.
 //!
 //! `blocks` has the blocks of a box, `sums` the sums of the sample's blocks, `lanes` the sums over a run of
-//! places at once, `bound` what they rule out, `places` how far a run goes, `levels` the two sizes together,
-//! `eliminated` what a search is told. specs/Blocks.antt defines blocks and what they bound,
+//! places or of entries at once, `bound` what they rule out, `places` how far a run goes, `levels` the two
+//! sizes together, `eliminated` what a search is told. specs/Blocks.antt defines blocks and what they bound,
 //! specs/Eliminations.antt what a search may leave out.
 #![tactic(auto)]
 

@@ -1,15 +1,15 @@
 // The sums of the blocks of a box of the sample.
-ghost use Rattle.std.specs.Prelude.{◌≡◌, ◌≤◌, ◌<◌, ◌+◌, ◌*◌, ◌/◌, ◌%◌, ◌^◌, ◌↔◌, ℕ, IfOk, IsTrue, OnOk, Some, drop, length, slice_index, sum, take};
-ghost use Rattle.cells.specs.Boxes.{HasCells};
+ghost use Rattle.std.specs.Prelude.{◌≡◌, ◌≤◌, ◌<◌, ◌+◌, ◌*◌, ◌^◌, ℕ, IfOk, OnOk, Some, drop, length, replicate, slice_index, take};
 ghost use Rattle.cells.specs.Cells.{Holds, IsVolume};
-ghost use Rattle.cells.specs.Places.{DifferenceFits, IsInside, IsSmall, index_in, minus, spot};
-ghost use Rattle.box_sums.specs.Sums.{sum_to};
+ghost use Rattle.cells.specs.Places.{DifferenceFits, IsInside, IsSmall, index_in, minus};
 ghost use Rattle.block_sums.specs.Blocks.{block_bytes};
-ghost use Rattle.block_sums.specs.Sums.{AreBlockSums, ArePut, AreRows, IsBlockSum, IsRunSum};
+ghost use Rattle.block_sums.specs.Sums.{AreAdded, AreBlockSums, AreCellSums, AreEntries, ArePut, AreRows, IsCellSum, stepped_sum};
 
+use crate::lanes::{no_sums, with_run};
 use crate::rows::{byte_sum, has_cells, step_to};
-use cells::{At, Box3, GREATEST_AXIS, Size, Volume};
+use cells::{At, Box3, Volume};
 use std::alloc::{AllocError, Global};
+use std::simd::prelude::*;
 
 /// How many places are bounded at once.
 pub const LANES: usize = 32;
@@ -24,145 +24,157 @@ pub struct BlockSums {
     pub(crate) sums: Vec<u16>,
 }
 
-// The sum of the bytes of a run of cells along X, as many as a block has on each side, from a place
-// of the box on. Where they don't lie in its row it is 0.
-fn run_sum(sample: &Volume, rect: &Box3, side: u32, x: u32, y: u32, f: u32) -> u16
-    requires volume { IsVolume sample.now }
-    requires small { IsSmall rect.now.size }
-    requires inside { Holds sample.now rect.now.corner rect.now.size }
-    requires some { 1 ≤ side }
-    requires few { 255 * block_bytes side sample.now.k < 2 ^ 16 }
-    requires place { (x < rect.now.size.w) × (y < rect.now.size.h) × (f < rect.now.size.f) }
-    ensures { IsRunSum sample.now rect.now side y f x result }
+// The bytes of a cell of a row, by its number in it.
+fn cell_of(row: &[u8], k: usize, x: usize) -> &[u8]
+    requires { k * x + k ≤ length row.now }
+    ensures bytes { result.now ≡ take k (drop (k * x) row.now) }
+    ensures long { length result.now ≡ k }
 {
-    if rect.size.w - x < side {
-        return 0;
-    }
-    byte_sum(sample.row(rect.corner.plus(step_to(x, y, f)), side))
+    let start = k * x;
+    &row[start..start + k]
 }
 
-// The run sums of one more row of the box.
-fn add_run_sums(
+// The sums of the cells of one more row of the box.
+fn add_cell_sums(
     sums: &mut Vec<u16>,
     sample: &Volume,
     rect: &Box3,
-    side: u32,
     y: u32,
     f: u32,
 ) -> Result<(), AllocError>
     requires volume { IsVolume sample.now }
     requires small { IsSmall rect.now.size }
     requires inside { Holds sample.now rect.now.corner rect.now.size }
-    requires some { 1 ≤ side }
-    requires few { 255 * block_bytes side sample.now.k < 2 ^ 16 }
     requires row { (y < rect.now.size.h) × (f < rect.now.size.f) }
-    ensures { OnOk result (ArePut (IsRunSum sample.now rect.now side y f) rect.now.size.w
+    ensures { OnOk result (ArePut (IsCellSum sample.now rect.now y f) rect.now.size.w
         sums.old.items sums.new.items) }
 {
+    let k = sample.samples() as usize;
+    let row = sample.row(rect.corner.plus(step_to(0, y, f)), rect.size.w);
     for x in 0..rect.size.w {
-        sums.push(run_sum(sample, rect, side, x, y, f))?;
+        sums.push(byte_sum(cell_of(row, k, x as usize)))?;
     }
     Ok(())
 }
 
-// The run sums of a box, in raster order.
-fn run_sums(alloc: Global, sample: &Volume, rect: &Box3, side: u32) -> Result<Vec<u16>, AllocError>
+// The sums of the cells of a box, in raster order. There is room for LANES more.
+fn cell_rows(alloc: Global, sample: &Volume, rect: &Box3) -> Result<Vec<u16>, AllocError>
+    requires volume { IsVolume sample.now }
+    requires small { IsSmall rect.now.size }
+    requires inside { Holds sample.now rect.now.corner rect.now.size }
+    ensures { IfOk result (λ sums. AreRows (IsCellSum sample.now rect.now) rect.now.size
+        (rect.now.size.h * rect.now.size.f) sums.items) }
+{
+    let h = rect.size.h;
+    let mut sums = Vec::with_capacity(alloc, rect.size.cells() + LANES)?;
+    for row in 0..h * rect.size.f {
+        add_cell_sums(&mut sums, sample, rect, row % h, row / h)?;
+    }
+    Ok(sums)
+}
+
+// The same, and LANES entries of 0 after them.
+fn cell_sums(alloc: Global, sample: &Volume, rect: &Box3) -> Result<Vec<u16>, AllocError>
+    requires volume { IsVolume sample.now }
+    requires small { IsSmall rect.now.size }
+    requires inside { Holds sample.now rect.now.corner rect.now.size }
+    ensures { IfOk result (λ sums. AreCellSums sample.now rect.now sums.items) }
+{
+    let mut sums = cell_rows(alloc, sample, rect)?;
+    sums.extend_from_slice(&[0; LANES])?;
+    Ok(sums)
+}
+
+// A run of entries from one on, one a lane.
+#[inline(always)]
+fn run_at(entries: &[u16], first: usize) -> &[u16]
+    requires { first + LANES ≤ length entries.now }
+    ensures run { result.now ≡ take LANES (drop first entries.now) }
+    ensures long { length result.now ≡ LANES }
+{
+    &entries[first..first + LANES]
+}
+
+// The sums of n entries each, one a lane: from an entry of a run on, each so many further than the one
+// before.
+fn stepped_sums(entries: &[u16], first: usize, step: usize, n: u32) -> u16x32
+    requires inside { (j : ℕ) → j < n → first + step * j + LANES ≤ length entries.now }
+    requires fits { (i : ℕ) → i < LANES → stepped_sum entries.now step n (first + i) < 2 ^ 16 }
+    ensures sums { (i : ℕ) → i < LANES
+        → slice_index result i ≡ stepped_sum entries.now step n (first + i) }
+    ensures long { length result ≡ LANES }
+{
+    let mut sums = no_sums();
+    for j in 0..n {
+        sums = with_run(sums, run_at(entries, first + step * j as usize));
+    }
+    sums
+}
+
+// Writes sums over a run of entries.
+#[inline(always)]
+fn put_run(entries: &mut [u16], first: usize, sums: u16x32)
+    requires room { first + LANES ≤ length entries.old }
+    requires long { length sums ≡ LANES }
+    ensures long { length entries.new ≡ length entries.old }
+    ensures run { (i : ℕ) → i < LANES
+        → slice_index entries.new (first + i) ≡ slice_index sums i }
+    ensures before { (i : ℕ) → i < first
+        → slice_index entries.new i ≡ slice_index entries.old i }
+    ensures after { (i : ℕ) → first + LANES ≤ i
+        → slice_index entries.new i ≡ slice_index entries.old i }
+{
+    sums.copy_to_slice(&mut entries[first..]);
+}
+
+// Makes of each entry, in its place, the sum of n entries: from it on, each so many further than the one
+// before. No entry is written over before the sums that it is in are made, since those stand no later. The
+// last entries stay, from which no n runs can be read.
+fn add_up(entries: &mut [u16], step: usize, n: u32)
+    requires some { 1 ≤ n }
+    requires reach { step * n < 2 ^ 32 }
+    requires fits { (i : ℕ) → stepped_sum entries.old step n i < 2 ^ 16 }
+    ensures { AreAdded step n entries.old entries.new }
+{
+    let reach = step * (n as usize - 1);
+    let runs = entries.len().saturating_sub(reach) / LANES;
+    for run in 0..runs {
+        let first = LANES * run;
+        let sums = stepped_sums(entries, first, step, n);
+        put_run(entries, first, sums);
+    }
+}
+
+// The sums of the blocks of a box with cells, in raster order, and LANES entries more. They are made in
+// the place of the sums of its cells: first along the rows, then down the columns. A sum that runs past
+// the end of a row or of a frame is no block's.
+fn sums_of_cells(
+    alloc: Global,
+    sample: &Volume,
+    rect: &Box3,
+    side: u32,
+) -> Result<Vec<u16>, AllocError>
     requires volume { IsVolume sample.now }
     requires small { IsSmall rect.now.size }
     requires inside { Holds sample.now rect.now.corner rect.now.size }
     requires some { 1 ≤ side }
     requires few { 255 * block_bytes side sample.now.k < 2 ^ 16 }
-    ensures { IfOk result (λ sums. AreRows (IsRunSum sample.now rect.now side) rect.now.size
-        (rect.now.size.h * rect.now.size.f) sums.items) }
+    ensures { IfOk result (λ sums. AreEntries sample.now rect.now side sums.items) }
 {
-    let h = rect.size.h;
-    let mut sums = Vec::with_capacity(alloc, rect.size.cells())?;
-    for row in 0..h * rect.size.f {
-        add_run_sums(&mut sums, sample, rect, side, row % h, row / h)?;
-    }
+    let mut sums = cell_sums(alloc, sample, rect)?;
+    add_up(&mut sums, 1, side);
+    add_up(&mut sums, rect.size.w as usize, side);
     Ok(sums)
 }
 
-// The sum of n entries, from one on, each so many further than the one before.
-fn column_sum(entries: &[u16], first: usize, step: usize, n: u32) -> u16
-    requires inside { (j : ℕ) → j < n → first + step * j < length entries.now }
-    requires fits { sum_to n (λ j. slice_index entries.now (first + step * j)) < 2 ^ 16 }
-    ensures { result ≡ sum_to n (λ j. slice_index entries.now (first + step * j)) }
+// Entries of 0 for a box without cells.
+fn no_entries(alloc: Global) -> Result<Vec<u16>, AllocError>
+    ensures { IfOk result (λ sums. sums.items ≡ replicate LANES 0) }
 {
-    let mut sum = 0;
-    for j in 0..n {
-        sum += entries[first + step * j as usize];
-    }
-    sum
+    vec![in alloc; 0u16; LANES]
 }
 
-// The sum of the block from a place of the box on: that of the run sums of its rows, where they lie
-// in its frame, and else 0. The rows of all frames are counted on.
-fn sum_at(runs: &[u16], sample: &Volume, rect: &Box3, side: u32, x: u32, row: u32) -> u16
-    requires small { IsSmall rect.now.size }
-    requires few { 255 * block_bytes side sample.now.k < 2 ^ 16 }
-    requires runs { AreRows (IsRunSum sample.now rect.now side) rect.now.size
-        (rect.now.size.h * rect.now.size.f) runs.now }
-    requires place { (x < rect.now.size.w) × (row < rect.now.size.h * rect.now.size.f) }
-    ensures { IsBlockSum sample.now rect.now side (row % rect.now.size.h) (row / rect.now.size.h)
-        x result }
-{
-    let h = rect.size.h;
-    if h - row % h < side {
-        return 0;
-    }
-    let w = rect.size.w as usize;
-    let first = w * row as usize + x as usize;
-    column_sum(runs, first, w, side)
-}
-
-// The block sums of one more row of the box.
-fn add_block_sums(
-    sums: &mut Vec<u16>,
-    runs: &[u16],
-    sample: &Volume,
-    rect: &Box3,
-    side: u32,
-    row: u32,
-) -> Result<(), AllocError>
-    requires small { IsSmall rect.now.size }
-    requires few { 255 * block_bytes side sample.now.k < 2 ^ 16 }
-    requires runs { AreRows (IsRunSum sample.now rect.now side) rect.now.size
-        (rect.now.size.h * rect.now.size.f) runs.now }
-    requires row { row < rect.now.size.h * rect.now.size.f }
-    ensures { OnOk result (ArePut
-        (IsBlockSum sample.now rect.now side (row % rect.now.size.h) (row / rect.now.size.h))
-        rect.now.size.w sums.old.items sums.new.items) }
-{
-    for x in 0..rect.size.w {
-        sums.push(sum_at(runs, sample, rect, side, x, row))?;
-    }
-    Ok(())
-}
-
-// The block sums of a box of some cells, in raster order, from its run sums.
-fn sums_of_runs(
-    alloc: Global,
-    runs: &[u16],
-    sample: &Volume,
-    rect: &Box3,
-    side: u32,
-) -> Result<Vec<u16>, AllocError>
-    requires small { IsSmall rect.now.size }
-    requires few { 255 * block_bytes side sample.now.k < 2 ^ 16 }
-    requires runs { AreRows (IsRunSum sample.now rect.now side) rect.now.size
-        (rect.now.size.h * rect.now.size.f) runs.now }
-    ensures { IfOk result (λ sums. AreRows (IsBlockSum sample.now rect.now side) rect.now.size
-        (rect.now.size.h * rect.now.size.f) sums.items) }
-{
-    let mut sums = Vec::with_capacity(alloc, rect.size.cells() + LANES)?;
-    for row in 0..rect.size.h * rect.size.f {
-        add_block_sums(&mut sums, runs, sample, rect, side, row)?;
-    }
-    Ok(sums)
-}
-
-// The block sums of a box, in raster order.
+// The sums of the blocks of a box, in raster order, and LANES entries more.
 fn block_sums(
     alloc: Global,
     sample: &Volume,
@@ -172,21 +184,19 @@ fn block_sums(
     requires inside { Holds sample.now rect.now.corner rect.now.size }
     requires some { 1 ≤ side }
     requires few { 255 * block_bytes side sample.now.k < 2 ^ 16 }
-    ensures { IfOk result (λ sums. AreRows (IsBlockSum sample.now rect.now side) rect.now.size
-        (rect.now.size.h * rect.now.size.f) sums.items) }
+    ensures { IfOk result (λ sums. AreEntries sample.now rect.now side sums.items) }
 {
     if !has_cells(rect.size) {
-        return Ok(Vec::new(alloc));
+        return no_entries(alloc);
     }
     // It is asked for only to show the check that the sample is a volume.
     let _sample = sample.samples();
-    let runs = run_sums(alloc, sample, rect, side)?;
-    sums_of_runs(alloc, &runs, sample, rect, side)
+    sums_of_cells(alloc, sample, rect, side)
 }
 
 impl BlockSums {
-    /// The sums of the blocks of a box inside the sample. They take 2 bytes a cell, and as many
-    /// again while they are made. The one error is out of memory.
+    /// The sums of the blocks of a box inside the sample. They take 2 bytes a cell, and no more
+    /// while they are made. The one error is out of memory.
     pub fn make(
         alloc: Global,
         sample: &Volume,
@@ -200,8 +210,7 @@ impl BlockSums {
         ensures rect { IfOk result (λ sums. sums.rect ≡ rect.now) }
         ensures side { IfOk result (λ sums. sums.side ≡ side) }
     {
-        let mut sums = block_sums(alloc, sample, rect, side)?;
-        sums.extend_from_slice(&[0; LANES])?;
+        let sums = block_sums(alloc, sample, rect, side)?;
         Ok(BlockSums {
             rect: *rect,
             side,

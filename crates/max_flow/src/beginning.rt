@@ -5,12 +5,14 @@ ghost use Rattle.max_flow.specs.Residual.{Carries};
 
 use crate::checking::flow_left;
 use crate::network::{Network, Pipe};
+use crate::packed::PackedArcs;
+use crate::phases::Phases;
 use crate::trees::Trees;
 use crate::triangles::Stars;
 use std::alloc::{AllocError, Global};
 
 // How many arcs the search trees look at, at most, for each pipe. They end far below on the networks of
-// images; where they'd take more, level graphs are as fast.
+// images; where they'd take more, the level graphs that finish are as fast.
 const WORK: u64 = 256;
 
 // Lets nothing flow.
@@ -23,8 +25,20 @@ fn empty(pipes: &[Pipe], backward: &mut [u32])
     }
 }
 
-// Lets search trees grow over pipes with the ends of a network. Writes what they leave for the arc
-// against each pipe.
+// Sends flow over arcs in a few phases, whose tables are given back. Returns whether more may be sent.
+fn run_phases(
+    alloc: Global,
+    nodes: usize,
+    arcs: &mut PackedArcs,
+    source: u32,
+    sink: u32,
+) -> Result<bool, AllocError> {
+    let mut phases = Phases::make(alloc, nodes)?;
+    Ok(phases.run(arcs, source, sink))
+}
+
+// Sends flow over pipes with the ends of a network, in a few phases of level graphs and then by search trees.
+// Writes what they leave for the arc against each pipe.
 fn search(
     alloc: Global,
     network: &Network,
@@ -34,9 +48,15 @@ fn search(
 ) -> Result<(), AllocError>
     requires { length pipes.now ≤ 2 ^ 32 }
 {
-    let mut trees = Trees::make(alloc, nodes, pipes)?;
-    let limit = WORK * (pipes.len() as u64 + 1);
-    trees.propose(pipes, network.source(), network.sink(), limit, backward);
+    let mut arcs = PackedArcs::make(alloc, nodes, pipes)?;
+    arcs.pack(pipes, backward);
+    let (source, sink) = (network.source(), network.sink());
+    let is_more = run_phases(alloc, nodes, &mut arcs, source, sink)?;
+    let mut trees = Trees::make(alloc, nodes, arcs)?;
+    if is_more {
+        trees.send(source, sink, WORK * (pipes.len() as u64 + 1));
+    }
+    trees.write_rooms(backward);
     Ok(())
 }
 

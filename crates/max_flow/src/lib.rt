@@ -7,9 +7,10 @@
 //! contained in that of every least cut, so that there is one answer. Which of the greatest flows is found
 //! is left open.
 //!
-//! Read on in `specs/Flows.antt`, which says what a flow and a cut are, and in `solver.rt`. Search
-//! trees (`trees.rt`) over packed arcs (`packed.rt`) find a flow fast, of which nothing is promised. In
-//! a network of many seams they grow over a shorter one (`triangles.rt`). A check in one pass
+//! Read on in `specs/Flows.antt`, which says what a flow and a cut are, and in `solver.rt`. A few phases of
+//! level graphs (`phases.rt`) and then search trees (`trees.rt`), both over packed arcs (`packed.rt`), find a
+//! flow fast, of which nothing is promised. In a network of many seams they go over a shorter one
+//! (`triangles.rt`). A check in one pass
 //! (`checking.rt`) takes the flow or begins with none (`beginning.rt`). Dinic's method goes on from
 //! there: a level graph (`levels.rt`) and a blocking flow in it (`paths.rt`, `blocking.rt`), over the
 //! residual network (`graph.rt`), until the sink has no level.
@@ -23,6 +24,7 @@ mod levels;
 mod network;
 mod packed;
 mod paths;
+mod phases;
 mod solver;
 mod trees;
 mod triangles;

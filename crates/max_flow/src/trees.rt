@@ -5,9 +5,6 @@
 // Nothing is promised of what it finds: `checking.rt` tells whether it's a flow, and level graphs go on
 // from there. The search gives up once it has looked at more arcs than it may.
 
-ghost use Rattle.std.specs.Prelude.{◌≤◌, ◌^◌, length};
-
-use crate::network::Pipe;
 use crate::packed::{Arc, PackedArcs};
 use std::alloc::{AllocError, Global};
 use std::collections::VecDeque;
@@ -68,11 +65,8 @@ pub struct Trees {
 }
 
 impl Trees {
-    /// Makes the tables for a network with that many nodes and these pipes.
-    pub fn make(alloc: Global, nodes: usize, pipes: &[Pipe]) -> Result<Trees, AllocError>
-        requires { length pipes.now ≤ 2 ^ 32 }
-    {
-        let arcs = PackedArcs::make(alloc, nodes, pipes)?;
+    /// Makes the tables for a network with that many nodes and these arcs.
+    pub fn make(alloc: Global, nodes: usize, arcs: PackedArcs) -> Result<Trees, AllocError> {
         let list = vec![in alloc; LOOSE; nodes]?;
         let active = VecDeque::with_capacity(alloc, nodes)?;
         let lost = VecDeque::with_capacity(alloc, nodes)?;
@@ -298,10 +292,12 @@ impl Trees {
         }
     }
 
-    // The arc over which a node that lost its parent hangs nearest to the end of its tree.
+    // The arc over which a node that lost its parent hangs nearest to the end of its tree, or the first over which
+    // it hangs no farther from it than it did.
     fn nearest_parent(&mut self, number: u32, tree: Tree) -> Option<(u32, u32)> {
         let mut best = None;
         let mut least = u32::MAX;
+        let before = self.node(number).distance.max(2);
         for place in self.arcs.places_of(number) {
             self.work = self.work.wrapping_add(1);
             let arc = self.arcs.at(place);
@@ -315,7 +311,7 @@ impl Trees {
                     least = distance;
                     best = Some((place, distance));
                 }
-                if distance == 1 {
+                if distance < before {
                     break;
                 }
             }
@@ -421,21 +417,16 @@ impl Trees {
         self.activate(number);
     }
 
-    /// Looks for a flow from the source to the sink, over at most about `limit` arcs. Writes what it leaves
-    /// for the arc against each pipe.
-    pub fn propose(
-        &mut self,
-        pipes: &[Pipe],
-        source: u32,
-        sink: u32,
-        limit: u64,
-        backward: &mut [u32],
-    ) {
-        self.arcs.pack(pipes, backward);
+    /// Sends flow from the source to the sink, over at most about `limit` arcs.
+    pub fn send(&mut self, source: u32, sink: u32, limit: u64) {
         self.plant(source, Tree::Source);
         self.plant(sink, Tree::Sink);
         self.search(limit);
-        for entry in backward.iter_mut() {
+    }
+
+    /// Writes, in the place of each of some places of arcs, what that arc can still carry.
+    pub fn write_rooms(&self, places: &mut [u32]) {
+        for entry in places.iter_mut() {
             *entry = self.arcs.room(*entry);
         }
     }

@@ -72,7 +72,7 @@ fn many_stars(alloc: Global, network: &Network) -> Result<Option<Stars>, AllocEr
     })
 }
 
-// Writes what the search trees leave for the arc against each pipe. They grow over the shorter network
+// Writes what is left for the arc against each pipe by that search, which goes over the shorter network
 // where the network has many stars.
 fn propose(alloc: Global, network: &Network, backward: &mut [u32]) -> Result<(), AllocError> {
     let pipes = network.pipes();
@@ -87,8 +87,8 @@ fn propose(alloc: Global, network: &Network, backward: &mut [u32]) -> Result<(),
     Ok(())
 }
 
-/// Writes for the arc against each pipe what it can still carry in the flow that the search trees find, or
-/// where nothing flows if theirs isn't a flow. Returns the value of the flow.
+/// Writes for the arc against each pipe what it can still carry in the flow that the search finds, or where
+/// nothing flows if that isn't a flow. Returns the value of the flow.
 pub fn first_flow(alloc: Global, network: &Network, backward: &mut [u32]) -> Result<u64, AllocError>
     requires { length backward.old ≡ length network.now.pipes }
     ensures { IfOk result

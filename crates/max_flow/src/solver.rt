@@ -1,4 +1,5 @@
-// The solver: search trees, and then level graphs and blocking flows, until the sink has no level.
+// The solver: a search whose flow is checked, and then level graphs and blocking flows, until the sink has no
+// level.
 
 ghost use Rattle.std.specs.Prelude.{◌≡◌, ◌<◌, ◌≤◌, ◌^◌, ℕ, ℤ, pos, ◌≤ℤ◌, nat_lt, Bool, List};
 ghost use Rattle.std.specs.Prelude.{IfOk, length, vec_len};
@@ -180,8 +181,8 @@ fn solve_in(network: &Network, space: Workspace, backward: Vec<u32>, first: u64)
 }
 
 /// Finds a flow of greatest value, and of all least cuts the one whose source side is contained in that of
-/// every other, by search trees (Boykov and Kolmogorov 2004) and then by Dinic's method (1970). It answers
-/// want of memory alone.
+/// every other: a few phases of Dinic's method (1970) and search trees (Boykov and Kolmogorov 2004) propose a flow,
+/// and Dinic's method ends with a greatest one. It answers want of memory alone.
 pub fn solve(alloc: Global, network: &Network) -> Result<Solved, AllocError>
     ensures flow { IfOk result (λ solved. IsFlow network.now solved.flow) }
     ensures value { IfOk result (λ solved. flow_value network.now solved.flow ≡ pos solved.value) }

@@ -8,3 +8,4 @@ pub mod Parts
 pub mod Fitting
 pub mod NoFault
 pub mod OneFrame
+pub mod Inner

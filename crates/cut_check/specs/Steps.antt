@@ -1,10 +1,11 @@
 -- A reader need not trust this file: it says what each rule takes as known, and how far a walk has
 -- come. (Own.)
-use Rattle.std.specs.Prelude.{◌≡◌, ◌<◌, ◌*◌, ◌^◌, ⊤, ℕ, ℤ, true, IfSome}
+use Rattle.std.specs.Prelude.{◌≡◌, ◌<◌, ◌≤◌, ◌⊎◌, ◌+◌, ◌*◌, ◌^◌, ◌+ℤ◌, ◌≤ℤ◌, ⊤, ℕ, ℤ, pos, true, IfSome}
 use Rattle.cells.specs.declared.bounds.TheConstants.{MOST_CELLS}
 use Rattle.cells.specs.declared.place.At.{At}
 use Rattle.cells.specs.declared.place.Axis.{Axis}
 use Rattle.cells.specs.declared.place.Axis.TheVariants.{X, Y, F}
+use Rattle.cells.specs.declared.place.Box3.{Box3}
 use Rattle.cells.specs.declared.place.Size.{Size}
 use Rattle.cells.specs.Boxes.{HasCells, HoldsBox}
 use Rattle.cells.specs.Places.{IsSmall, raster_index}
@@ -54,6 +55,18 @@ pub record IsLaid (m : SourceMap) (placement : Placement) (x y f : ℕ) (laid : 
   pub new : laid.new ≡ new_source placement (cell_in placement.rect x y f)
   pub near_old : IfSome laid.old IsSource
   pub near_new : IsSource laid.new
+
+-- both neighbours along an axis of n cells, of the cell so many cells from the corner of a run, are
+-- cells of the run or off the axis
+pub record IsInnerAlong (n : ℕ) (corner : ℤ) (len count : ℕ) : Type 0 where
+  pub back : (1 ≤ count) ⊎ (corner +ℤ pos count ≡ pos 0)
+  pub ahead : (count + 1 < len) ⊎ (pos n ≤ℤ (corner +ℤ pos (count + 1)))
+
+-- all neighbours of the cell of a box are cells of the box or outside the output
+pub record IsInner (output : Size) (rect : Box3) (x y f : ℕ) : Type 0 where
+  pub on_x : IsInnerAlong output.w rect.corner.x rect.size.w x
+  pub on_y : IsInnerAlong output.h rect.corner.y rect.size.h y
+  pub on_f : IsInnerAlong output.f rect.corner.f rect.size.f f
 
 -- something holds of each axis
 abbrev pub EachAxis : (Axis → Type 0) → Type 0

@@ -38,7 +38,7 @@ fn part_of(canvas: &Canvas, cut: &CutRecord, held: &[bool], i: usize, walk: Walk
         return Some(0);
     }
     let p = box_cell(canvas.map(), &cut.placement, i, walk.at);
-    if stays_old(canvas, &cut.placement, held, i, p) {
+    if stays_old(canvas, &cut.placement, held, i, walk.at, p) {
         Some(out)
     } else if canvas.is_filled(p) {
         None

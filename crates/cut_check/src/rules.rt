@@ -1,13 +1,14 @@
 // The rules of the choice: each unfilled cell is new, and no cell that has to stay old.
-ghost use Rattle.std.specs.Prelude.{◌≡◌, ◌<◌, ◌↔◌, IfNone, IfSome, IsTrue, Some, None, slice_index_or, true, false, []};
+ghost use Rattle.std.specs.Prelude.{◌≡◌, ◌<◌, ◌↔◌, IfNone, IfSome, IsTrue, None, slice_index_or, true, false, []};
 ghost use Rattle.cells.specs.Cells.{Cells};
 ghost use Rattle.cells.specs.Places.{cell_count};
-ghost use Rattle.map_canvas.specs.Choices.{box_cell, box_index};
+ghost use Rattle.map_canvas.specs.Choices.{box_cell};
 ghost use Rattle.map_canvas.specs.Maps.{map_at};
 ghost use Rattle.seams.specs.Lawful.{StaysOld};
 ghost use Rattle.cut_check.specs.Records.{FillsAll, IsFirstNotOld, IsFirstUnfilled, LeavesAllOld, setting};
 ghost use Rattle.cut_check.specs.Steps.{IsAt, LiesIn};
 
+use crate::kept::is_kept_at;
 use crate::record::CutRecord;
 use box_walk::Counts;
 use cells::At;
@@ -32,11 +33,21 @@ pub fn box_cell(map: &Map, placement: &Placement, i: usize, at: Counts) -> At
 }
 
 /// Whether the cell of a box at an index has to stay old.
-pub fn stays_old(canvas: &Canvas, placement: &Placement, held: &[bool], i: usize, p: At) -> bool
-    requires index { box_index placement.now p ≡ Some i }
+pub fn stays_old(
+    canvas: &Canvas,
+    placement: &Placement,
+    held: &[bool],
+    i: usize,
+    at: Counts,
+    p: At,
+) -> bool
+    requires lies { LiesIn canvas.now.map placement.now }
+    requires here { IsAt placement.now.rect.size i at }
+    requires below { i < cell_count placement.now.rect.size }
+    requires cell { p ≡ box_cell placement.now i }
     ensures { IsTrue result ↔ StaysOld canvas.now.map placement.now held.now p }
 {
-    is_marked(held, i) || canvas.is_kept(&placement.rect, p)
+    is_marked(held, i) || is_kept_at(canvas, &placement.rect, at, p)
 }
 
 // Rule 2 at a cell.
@@ -72,13 +83,17 @@ fn leaves_old(
     choice: &[bool],
     held: &[bool],
     i: usize,
+    at: Counts,
     p: At,
 ) -> bool
-    requires index { box_index placement.now p ≡ Some i }
+    requires lies { LiesIn canvas.now.map placement.now }
+    requires here { IsAt placement.now.rect.size i at }
+    requires below { i < cell_count placement.now.rect.size }
+    requires cell { p ≡ box_cell placement.now i }
     ensures { IsTrue result ↔ (StaysOld canvas.now.map placement.now held.now p →
         slice_index_or choice.now i false ≡ false) }
 {
-    !is_marked(choice, i) || !stays_old(canvas, placement, held, i, p)
+    !is_marked(choice, i) || !stays_old(canvas, placement, held, i, at, p)
 }
 
 /// Rule 3: the index of the first cell of the box that has to stay old and is new.
@@ -94,7 +109,7 @@ pub fn first_new(canvas: &Canvas, cut: &CutRecord, held: &[bool]) -> Option<usiz
     let mut at = Counts::first();
     for i in 0..size.cells() {
         let p = box_cell(canvas.map(), &cut.placement, i, at);
-        if !leaves_old(canvas, &cut.placement, choice, held, i, p) {
+        if !leaves_old(canvas, &cut.placement, choice, held, i, at, p) {
             return Some(i);
         }
         at = at.next(size);

@@ -9,7 +9,7 @@ use Rattle.box_walk.proofs.PairNumbers.{walk_in}
 use Rattle.seams.specs.Lawful.{StaysOld}
 use Rattle.cut_check.specs.declared.record.Flow.{Flow}
 use Rattle.cut_check.specs.Flows.{leaving}
-use Rattle.cut_check.proofs.Cells.{in_box_at, index_at, unbalanced_free}
+use Rattle.cut_check.proofs.Cells.{in_box_at, unbalanced_free}
 use Rattle.cut_check.proofs.balance.part_of.Goals as goal
 
 pub leaving-out-requires-clause-inside : goal.leaving-out-requires-clause-inside
@@ -36,9 +36,6 @@ returns-then-out-eq0-clause-part c =
     let near : to_z w32 (of_z w32 c.leaving-out.result) ≡ c.leaving-out.result = omega (arith, ints, c.leaving-out.ensures.near) in
     let is = c.leaving-out.ensures.is ∙ ap (λ (flows : List Flow). leaving size flows at.x at.y at.f) c.as_slice.ensures ∙ sym (at_index_is size (leaving size cut.flows) c.args.i at.x at.y at.f c.requires.here.at) in
     record { here = λ _. sym (sym is ∙ sym near ∙ ap (to_z w32) c.if-out-eq0.true); elsewhere = λ _. refl }
-
-pub stays_old-requires : goal.stays_old-requires
-stays_old-requires c = record { index = index_at c.args.canvas.now.map c.args.cut.now.placement c.box_cell-p.result c.args.i c.requires.lies c.requires.below c.box_cell-p.ensures }
 
 pub returns-then-stays_old-clause-balanced : goal.returns-then-stays_old-clause-balanced
 returns-then-stays_old-clause-balanced c = λ sample. (

@@ -4,11 +4,8 @@ use mathlib.Core.Bool.{false≢true}
 use Rattle.cells.specs.declared.place.At.{At}
 use Rattle.map_canvas.specs.Choices.{box_cell}
 use Rattle.seams.specs.Lawful.{StaysOld}
-use Rattle.cut_check.proofs.Cells.{counts_in, index_at}
+use Rattle.cut_check.proofs.Cells.{counts_in}
 use Rattle.cut_check.proofs.rules.first_new.Goals as goal
-
-pub leaves_old-requires : goal.leaves_old-requires
-leaves_old-requires c = record { index = index_at c.args.canvas.now.map c.args.cut.now.placement c.box_cell-p.result c.loop-i.i c.requires.lies (omega (arith, c.cells-i-end.ensures, c.loop-i-test.true)) c.box_cell-p.ensures }
 
 pub returns-then-not-leaves_old-clause-broken : goal.returns-then-not-leaves_old-clause-broken
 returns-then-not-leaves_old-clause-broken c = λ sample.

@@ -9,3 +9,4 @@ pub mod Fitting
 pub mod NoFault
 pub mod OneFrame
 pub mod Inner
+pub mod Still

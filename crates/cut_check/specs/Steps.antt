@@ -1,6 +1,6 @@
 -- A reader need not trust this file: it says what each rule takes as known, and how far a walk has
 -- come. (Own.)
-use Rattle.std.specs.Prelude.{◌≡◌, ◌<◌, ◌≤◌, ◌⊎◌, ◌+◌, ◌*◌, ◌^◌, ◌+ℤ◌, ◌≤ℤ◌, ⊤, ℕ, ℤ, pos, true, IfSome}
+use Rattle.std.specs.Prelude.{◌≡◌, ◌<◌, ◌≤◌, ◌⊎◌, ◌+◌, ◌*◌, ◌^◌, ◌+ℤ◌, ◌≤ℤ◌, ⊤, ℕ, ℤ, pos, true, List, IfSome, slice_index_or}
 use Rattle.cells.specs.declared.bounds.TheConstants.{MOST_CELLS}
 use Rattle.cells.specs.declared.place.At.{At}
 use Rattle.cells.specs.declared.place.Axis.{Axis}
@@ -19,7 +19,8 @@ use Rattle.box_walk.specs.Walks.{IsAtIndex}
 use Rattle.seams.specs.Lawful.{StaysOld}
 use Rattle.cut_check.specs.declared.bounds.Laid.{Laid}
 use Rattle.cut_check.specs.declared.record.CutRecord.{CutRecord}
-use Rattle.cut_check.specs.Flows.{IsBoundedAt, leaving}
+use Rattle.cut_check.specs.declared.record.Flow.{Flow}
+use Rattle.cut_check.specs.Flows.{IsBoundedAt, LeavesNone, leaving, no_flow}
 use Rattle.cut_check.specs.Records.{IsPartWhere, Setting}
 
 -- the box has a cell and lies in a map's output
@@ -48,6 +49,12 @@ EachBefore size i Holds = (x y f : ℕ) → AreCounts size x y f → raster_inde
 abbrev pub HoldsAlong : (At → At → ℕ) → SourceMap → CutRecord → ℕ → ℕ → ℕ → Axis → Type 0
 HoldsAlong d m cut x y f axis = has_next cut.placement.rect.size axis x y f ≡ true
     → IsBoundedAt d m cut.placement cut.flows axis x y f
+
+-- from a number on three pairs have no flow, as far as there are so many
+pub record IsStill (flows : List Flow) (number : ℕ) : Type 0 where
+  pub first : LeavesNone (slice_index_or flows number no_flow)
+  pub second : LeavesNone (slice_index_or flows (number + 1) no_flow)
+  pub third : LeavesNone (slice_index_or flows (number + 2) no_flow)
 
 -- what a cell of the box has: its source before the placement, and its new one
 pub record IsLaid (m : SourceMap) (placement : Placement) (x y f : ℕ) (laid : Laid) : Type 0 where

@@ -7,13 +7,13 @@ ghost use Rattle.cells.specs.Places.{plus};
 ghost use Rattle.map_canvas.specs.Choices.{new_source};
 ghost use Rattle.map_canvas.specs.Maps.{IsSource};
 ghost use Rattle.box_walk.specs.Pairs.{AreCounts, IsPair, cell_in, pair_number};
-ghost use Rattle.box_walk.specs.Walks.{IsWalkIn};
+ghost use Rattle.box_walk.specs.Walks.{IsWalkIn, most_pairs};
 ghost use Rattle.seams.specs.Costs.{most_of_pair, seam};
 ghost use Rattle.cut_check.specs.Flows.{IsBetween, IsBetweenOld, IsBounded, IsBoundedOn, LeavesFirst, LeavesNone, LeavesSecond, minus_of};
 ghost use Rattle.cut_check.specs.Records.{BoundsAll, IsFirstUnbounded, setting};
-ghost use Rattle.cut_check.specs.Steps.{EachAxis, HoldsAlong, IsFirstAxis, IsLaid, LiesOver};
+ghost use Rattle.cut_check.specs.Steps.{EachAxis, HoldsAlong, IsFirstAxis, IsLaid, IsStill, LiesOver};
 
-use crate::flows::flow_at;
+use crate::flows::{flow_at, flow_of};
 use crate::record::{CutRecord, Flow};
 use box_walk::{Counts, Walk};
 use cells::{At, Axis, Volume, cell_distance};
@@ -263,7 +263,18 @@ fn holds_along_frames(map: &Map, sample: &Volume, cut: &CutRecord, walk: Walk) -
     holds_along(map, sample, cut, Axis::F, walk.at, number)
 }
 
-// The first axis along which the pair of a cell isn't.
+// Whether none of the pairs of a cell, which are three at most, has a flow. Where they are fewer, pairs of the
+// next cells are looked at too.
+fn is_still(flows: &[Flow], number: u64) -> bool
+    requires { number ≤ most_pairs }
+    ensures { IsTrue result → IsStill flows.now number }
+{
+    leaves_none(flow_of(flows, number))
+        && leaves_none(flow_of(flows, number + 1))
+        && leaves_none(flow_of(flows, number + 2))
+}
+
+// The first axis along which the pair of a cell isn't. Most cells have no flow at all.
 fn first_axis(map: &Map, sample: &Volume, cut: &CutRecord, walk: Walk) -> Option<Axis>
     requires lies { LiesOver map.now sample.now cut.now.placement }
     requires inside { IsWalkIn cut.now.placement.rect.size walk }
@@ -272,6 +283,9 @@ fn first_axis(map: &Map, sample: &Volume, cut: &CutRecord, walk: Walk) -> Option
     ensures broken { IfSome result (IsFirstAxis
         (HoldsAlong (distance sample.now) map.now cut.now walk.at.x walk.at.y walk.at.f)) }
 {
+    if is_still(cut.flows.as_slice(), walk.before) {
+        return None;
+    }
     let size = cut.placement.rect.size;
     let number = walk.pair_number(size, Axis::X);
     if !holds_along(map, sample, cut, Axis::X, walk.at, number) {

@@ -1,9 +1,9 @@
 // The flows of the pairs of a cell, and what leaves it.
-ghost use Rattle.std.specs.Prelude.{◌≡◌, ◌≤◌, ◌-◌, pos, ◌+ℤ◌};
+ghost use Rattle.std.specs.Prelude.{◌≡◌, ◌≤◌, ◌-◌, pos, ◌+ℤ◌, slice_index_or};
 ghost use Rattle.cells.specs.Places.{IsSmall};
 ghost use Rattle.box_walk.specs.Pairs.{AreCounts, pair_number};
 ghost use Rattle.box_walk.specs.Walks.{IsWalkIn};
-ghost use Rattle.cut_check.specs.Flows.{IsBetween, flow_into, leaving, leaving_along, minus_of, pair_flow};
+ghost use Rattle.cut_check.specs.Flows.{IsBetween, flow_into, leaving, leaving_along, minus_of, no_flow, pair_flow};
 ghost use Rattle.cut_check.specs.Steps.{most_along, most_leaving};
 
 use crate::record::Flow;
@@ -12,6 +12,13 @@ use cells::{Axis, Size};
 
 // Nothing flows.
 const NO_FLOW: Flow = Flow { x: 0, y: 0 };
+
+/// The flow of the pair of a number: past the end of the flows there is none.
+pub fn flow_of(flows: &[Flow], number: u64) -> Flow
+    ensures { result ≡ slice_index_or flows.now number no_flow }
+{
+    flows.get(number as usize).copied().unwrap_or(NO_FLOW)
+}
 
 /// The flow of a cell and the next one along an axis, by the number of their pair; none where there is no
 /// next cell.
@@ -22,7 +29,7 @@ pub fn flow_at(size: Size, flows: &[Flow], axis: Axis, at: Counts, number: u64) 
     ensures { result ≡ pair_flow size flows.now axis at.x at.y at.f }
 {
     if at.has_next(size, axis) {
-        flows.get(number as usize).copied().unwrap_or(NO_FLOW)
+        flow_of(flows, number)
     } else {
         NO_FLOW
     }

@@ -1,6 +1,6 @@
 -- A reader need not trust this file: it says what each rule takes as known, and how far a walk has
 -- come. (Own.)
-use Rattle.std.specs.Prelude.{◌≡◌, ◌<◌, ◌≤◌, ◌⊎◌, ◌+◌, ◌*◌, ◌^◌, ◌+ℤ◌, ◌≤ℤ◌, ⊤, ℕ, ℤ, pos, true, List, IfSome, slice_index_or}
+use Rattle.std.specs.Prelude.{◌≡◌, ◌<◌, ◌≤◌, ◌⊎◌, ◌+◌, ◌-◌, ◌*◌, ◌^◌, ◌+ℤ◌, ◌≤ℤ◌, ⊤, ℕ, ℤ, pos, true, List, IfSome, nat_lt, slice_index_or, if◌then◌else◌}
 use Rattle.cells.specs.declared.bounds.TheConstants.{MOST_CELLS}
 use Rattle.cells.specs.declared.place.At.{At}
 use Rattle.cells.specs.declared.place.Axis.{Axis}
@@ -35,6 +35,17 @@ pub record LiesOver (m : SourceMap) (sample : Cells) (placement : Placement) : T
   pub lies : LiesIn m placement
   pub volume : IsVolume sample
   pub sources : Holds sample placement.from placement.rect.size
+
+-- how many pairs the cell before another in its row is the first of
+abbrev pub pairs_since_last : Size → ℕ → ℕ → ℕ
+pairs_since_last size y f =
+    1 + (if nat_lt (y + 1) size.h then 1 else 0) + (if nat_lt (f + 1) size.f then 1 else 0)
+
+-- how many the cells from the one above a cell up to the one before it are the first of
+abbrev pub pairs_since_above : Size → ℕ → ℕ → ℕ → ℕ
+pairs_since_above size x y f =
+    (size.w - 1) + (if nat_lt (y + 1) size.h then size.w else size.w - x)
+    + (if nat_lt (f + 1) size.f then size.w else 0)
 
 -- a walk has come to the cell at an index
 abbrev pub IsAt : Size → ℕ → Counts → Type 0

@@ -1,10 +1,9 @@
 // The rules of what leaves the cells: nothing leaves a free cell, and what leaves the others is the value.
-ghost use Rattle.std.specs.Prelude.{◌≡◌, ◌<◌, ◌↔◌, IfOk, IfSome, IsSome, IsTrue, MatchResult, Some, ℕ, ℤ, pos};
+ghost use Rattle.std.specs.Prelude.{◌≡◌, ◌<◌, ◌↔◌, IfOk, IfSome, IsSome, IsTrue, MatchResult, ℕ, ℤ, pos};
 ghost use Rattle.cells.specs.Cells.{Cells};
 ghost use Rattle.cells.specs.Places.{cell_count};
 ghost use Rattle.box_sums.specs.Sums.{signed_sum_box};
-ghost use Rattle.map_canvas.specs.Choices.{box_cell, box_index};
-ghost use Rattle.map_canvas.specs.Maps.{IsFilled};
+ghost use Rattle.map_canvas.specs.Choices.{box_cell};
 ghost use Rattle.box_walk.specs.Pairs.{at_index};
 ghost use Rattle.box_walk.specs.Walks.{IsWalkAt};
 ghost use Rattle.seams.specs.Lawful.{StaysOld};
@@ -14,10 +13,9 @@ ghost use Rattle.cut_check.specs.Steps.{ArePartsOfValue, LiesIn, most_leaving, m
 
 use crate::flows::leaving;
 use crate::record::CutRecord;
-use crate::rules::{box_cell, is_marked, stays_old};
+use crate::rules::{box_cell, stays_old};
 use box_walk::Walk;
-use cells::At;
-use map_canvas::{Canvas, Placement};
+use map_canvas::Canvas;
 
 // What leaves a cell, if it has to stay old, and 0 for another that is balanced; None where it isn't. Where
 // nothing leaves it, nothing else is asked of it.
@@ -47,35 +45,6 @@ fn part_of(canvas: &Canvas, cut: &CutRecord, held: &[bool], i: usize, walk: Walk
     }
 }
 
-// Whether a cell is neither filled nor held: such a cell doesn't have to stay old.
-fn is_left_out(canvas: &Canvas, placement: &Placement, held: &[bool], i: usize, p: At) -> bool
-    requires index { box_index placement.now p ≡ Some i }
-    ensures { IsTrue result → (IsFilled canvas.now.map p → ⊥)
-        × (StaysOld canvas.now.map placement.now held.now p → ⊥) }
-{
-    !is_marked(held, i) && !canvas.is_filled(p)
-}
-
-// The same as `part_of`: of a cell that is left out nothing is asked, and its flows aren't read.
-fn part_at(canvas: &Canvas, cut: &CutRecord, held: &[bool], i: usize, walk: Walk) -> Option<i32>
-    requires lies { LiesIn canvas.now.map cut.now.placement }
-    requires here { IsWalkAt cut.now.placement.rect.size i walk }
-    requires below { i < cell_count cut.now.placement.rect.size }
-    ensures balanced { (sample : Cells) →
-        IsSome result ↔ IsBalanced (setting canvas.now.map sample held.now) cut.now i }
-    ensures part { IfSome result (IsPartWhere
-        (StaysOld canvas.now.map cut.now.placement held.now (box_cell cut.now.placement i))
-        (at_index cut.now.placement.rect.size
-        (leaving cut.now.placement.rect.size cut.now.flows) i)) }
-    ensures near { IfSome result (IsBetween (minus_of most_leaving) (pos most_leaving)) }
-{
-    let p = box_cell(canvas.map(), &cut.placement, i, walk.at);
-    if is_left_out(canvas, &cut.placement, held, i, p) {
-        return Some(0);
-    }
-    part_of(canvas, cut, held, i, walk)
-}
-
 /// Rule 5: the index of the first free cell of the box that more leaves than comes to it, or less. Where there
 /// is none, the value of the flow: the sum of what leaves the cells that have to stay old.
 pub fn value_of(canvas: &Canvas, cut: &CutRecord, held: &[bool]) -> Result<i64, usize>
@@ -92,7 +61,7 @@ pub fn value_of(canvas: &Canvas, cut: &CutRecord, held: &[bool]) -> Result<i64, 
     let mut walk = Walk::first();
     let mut sum: i64 = 0;
     for i in 0..size.cells() {
-        let Some(part) = part_at(canvas, cut, held, i, walk) else {
+        let Some(part) = part_of(canvas, cut, held, i, walk) else {
             return Err(i);
         };
         sum += i64::from(part);

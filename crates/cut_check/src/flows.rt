@@ -1,10 +1,10 @@
 // The flows of the pairs of a cell, and what leaves it.
-ghost use Rattle.std.specs.Prelude.{◌≡◌, ◌≤◌, ◌-◌, pos, ◌+ℤ◌, slice_index_or};
+ghost use Rattle.std.specs.Prelude.{◌≡◌, ◌≤◌, ◌+◌, ◌-◌, pos, ◌+ℤ◌, nat_lt, slice_index_or, if◌then◌else◌};
 ghost use Rattle.cells.specs.Places.{IsSmall};
 ghost use Rattle.box_walk.specs.Pairs.{AreCounts, pair_number};
 ghost use Rattle.box_walk.specs.Walks.{IsWalkIn};
 ghost use Rattle.cut_check.specs.Flows.{IsBetween, flow_into, leaving, leaving_along, minus_of, no_flow, pair_flow};
-ghost use Rattle.cut_check.specs.Steps.{most_along, most_leaving};
+ghost use Rattle.cut_check.specs.Steps.{most_along, most_leaving, pairs_since_above, pairs_since_last};
 
 use crate::record::Flow;
 use box_walk::{Counts, Walk};
@@ -35,66 +35,149 @@ pub fn flow_at(size: Size, flows: &[Flow], axis: Axis, at: Counts, number: u64) 
     }
 }
 
-// The same, of the cell that a walk has come to.
-fn flow_from(size: Size, flows: &[Flow], axis: Axis, walk: Walk) -> Flow
-    requires small { IsSmall size }
+// How many pairs the cell before this one in its row is the first of.
+fn pairs_since_last(size: Size, walk: Walk) -> u64
     requires inside { IsWalkIn size walk }
-    ensures { result ≡ pair_flow size flows.now axis walk.at.x walk.at.y walk.at.f }
+    ensures { result ≡ pairs_since_last size walk.at.y walk.at.f }
 {
-    flow_at(size, flows, axis, walk.at, walk.pair_number(size, axis))
+    let along_y = if walk.at.y + 1 < size.h { 1 } else { 0 };
+    let along_f = if walk.at.f + 1 < size.f { 1 } else { 0 };
+    1 + along_y + along_f
 }
 
-// The cell before this one in its row: its pairs are the last before this cell's.
-fn last_in_row(size: Size, walk: Walk) -> Walk
+// How many the cells from the one above this cell up to the one before it are the first of.
+fn pairs_since_above(size: Size, walk: Walk) -> u64
+    requires inside { IsWalkIn size walk }
+    ensures { result ≡ pairs_since_above size walk.at.x walk.at.y walk.at.f }
+{
+    let w = u64::from(size.w);
+    let along_y = if walk.at.y + 1 < size.h {
+        w
+    } else {
+        w - u64::from(walk.at.x)
+    };
+    let along_f = if walk.at.f + 1 < size.f { w } else { 0 };
+    (w - 1) + along_y + along_f
+}
+
+// The number of the pair of the cell before this one in its row, and this one.
+fn number_from_last(size: Size, walk: Walk) -> u64
     requires inside { IsWalkIn size walk }
     requires some { 1 ≤ walk.at.x }
-    ensures x { result.at.x ≡ walk.at.x - 1 }
-    ensures y { result.at.y ≡ walk.at.y }
-    ensures f { result.at.f ≡ walk.at.f }
-    ensures inside { IsWalkIn size result }
+    ensures { result ≡ pair_number size Axis.X (walk.at.x - 1) walk.at.y walk.at.f }
 {
-    let at = Counts {
-        x: walk.at.x - 1,
-        ..walk.at
-    };
-    let before = walk.before - u64::from(at.pairs_from(size));
-    Walk { at, before }
+    walk.before - pairs_since_last(size, walk)
 }
 
-// The flow of the cell before this one along an axis, and this one.
-fn flow_into(size: Size, flows: &[Flow], axis: Axis, walk: Walk) -> Flow
+// How many pairs along X the cell above this one is the first of.
+fn one_along_x(size: Size, walk: Walk) -> u64
+    requires inside { IsWalkIn size walk }
+    ensures { result ≡ (if nat_lt (walk.at.x + 1) size.w then 1 else 0) }
+{
+    if walk.at.x + 1 < size.w { 1 } else { 0 }
+}
+
+// The number of the pair of the cell above this one, and this one.
+fn number_from_above(size: Size, walk: Walk) -> u64
     requires small { IsSmall size }
     requires inside { IsWalkIn size walk }
-    ensures { result ≡ flow_into size flows.now axis walk.at.x walk.at.y walk.at.f }
+    requires some { 1 ≤ walk.at.y }
+    ensures { result ≡ pair_number size Axis.Y walk.at.x (walk.at.y - 1) walk.at.f }
 {
-    let at = walk.at;
-    match axis {
-        Axis::X if at.x > 0 => flow_from(size, flows, axis, last_in_row(size, walk)),
-        Axis::Y if at.y > 0 => {
-            let last = Counts { y: at.y - 1, ..at };
-            flow_at(size, flows, axis, last, last.pair_number(size, axis))
-        }
-        Axis::F if at.f > 0 => {
-            let last = Counts { f: at.f - 1, ..at };
-            flow_at(size, flows, axis, last, last.pair_number(size, axis))
-        }
-        _ => NO_FLOW,
+    walk.before - pairs_since_above(size, walk) + one_along_x(size, walk)
+}
+
+// What leaves a cell towards the next one along X, and what comes to it from the one before.
+fn out_along_x(size: Size, flows: &[Flow], walk: Walk) -> i16
+    requires inside { IsWalkIn size walk }
+    ensures { result ≡ (pair_flow size flows.now Axis.X walk.at.x walk.at.y walk.at.f).x }
+{
+    if walk.at.x + 1 < size.w {
+        flow_of(flows, walk.before).x
+    } else {
+        0
     }
 }
 
-// What leaves a cell along an axis.
-fn leaving_along(size: Size, flows: &[Flow], axis: Axis, walk: Walk) -> i32
-    requires small { IsSmall size }
+fn into_along_x(size: Size, flows: &[Flow], walk: Walk) -> i16
     requires inside { IsWalkIn size walk }
-    ensures is { result ≡ leaving_along size flows.now axis walk.at.x walk.at.y walk.at.f }
-    ensures near { IsBetween (minus_of most_along) (pos most_along) result }
+    ensures { result ≡ (flow_into size flows.now Axis.X walk.at.x walk.at.y walk.at.f).y }
 {
-    let out = flow_from(size, flows, axis, walk);
-    let into = flow_into(size, flows, axis, walk);
-    i32::from(out.x) - i32::from(into.y)
+    if walk.at.x > 0 {
+        flow_of(flows, number_from_last(size, walk)).y
+    } else {
+        0
+    }
 }
 
-// The same along F, along which a box of one frame has no pair.
+// The same along Y.
+fn out_along_y(size: Size, flows: &[Flow], walk: Walk) -> i16
+    requires small { IsSmall size }
+    requires inside { IsWalkIn size walk }
+    ensures { result ≡ (pair_flow size flows.now Axis.Y walk.at.x walk.at.y walk.at.f).x }
+{
+    if walk.at.y + 1 < size.h {
+        flow_of(flows, walk.pair_number(size, Axis::Y)).x
+    } else {
+        0
+    }
+}
+
+fn into_along_y(size: Size, flows: &[Flow], walk: Walk) -> i16
+    requires small { IsSmall size }
+    requires inside { IsWalkIn size walk }
+    ensures { result ≡ (flow_into size flows.now Axis.Y walk.at.x walk.at.y walk.at.f).y }
+{
+    if walk.at.y > 0 {
+        flow_of(flows, number_from_above(size, walk)).y
+    } else {
+        0
+    }
+}
+
+// What leaves a cell along X, and along Y.
+fn leaving_along_x(size: Size, flows: &[Flow], walk: Walk) -> i32
+    requires inside { IsWalkIn size walk }
+    ensures is { result ≡ leaving_along size flows.now Axis.X walk.at.x walk.at.y walk.at.f }
+    ensures near { IsBetween (minus_of most_along) (pos most_along) result }
+{
+    i32::from(out_along_x(size, flows, walk)) - i32::from(into_along_x(size, flows, walk))
+}
+
+fn leaving_along_y(size: Size, flows: &[Flow], walk: Walk) -> i32
+    requires small { IsSmall size }
+    requires inside { IsWalkIn size walk }
+    ensures is { result ≡ leaving_along size flows.now Axis.Y walk.at.x walk.at.y walk.at.f }
+    ensures near { IsBetween (minus_of most_along) (pos most_along) result }
+{
+    i32::from(out_along_y(size, flows, walk)) - i32::from(into_along_y(size, flows, walk))
+}
+
+// The same along F.
+fn out_along_frames(size: Size, flows: &[Flow], walk: Walk) -> i16
+    requires small { IsSmall size }
+    requires inside { IsWalkIn size walk }
+    ensures { result ≡ (pair_flow size flows.now Axis.F walk.at.x walk.at.y walk.at.f).x }
+{
+    let number = walk.pair_number(size, Axis::F);
+    flow_at(size, flows, Axis::F, walk.at, number).x
+}
+
+fn into_along_frames(size: Size, flows: &[Flow], walk: Walk) -> i16
+    requires small { IsSmall size }
+    requires inside { IsWalkIn size walk }
+    ensures { result ≡ (flow_into size flows.now Axis.F walk.at.x walk.at.y walk.at.f).y }
+{
+    let at = walk.at;
+    if at.f > 0 {
+        let last = Counts { f: at.f - 1, ..at };
+        flow_at(size, flows, Axis::F, last, last.pair_number(size, Axis::F)).y
+    } else {
+        0
+    }
+}
+
+// A box of one frame has no pair along F.
 fn leaving_along_frames(size: Size, flows: &[Flow], walk: Walk) -> i32
     requires small { IsSmall size }
     requires inside { IsWalkIn size walk }
@@ -104,7 +187,7 @@ fn leaving_along_frames(size: Size, flows: &[Flow], walk: Walk) -> i32
     if size.f == 1 {
         return 0;
     }
-    leaving_along(size, flows, Axis::F, walk)
+    i32::from(out_along_frames(size, flows, walk)) - i32::from(into_along_frames(size, flows, walk))
 }
 
 // The sum of three numbers, apart so that the check adds numbers alone.
@@ -127,8 +210,8 @@ pub fn leaving(size: Size, flows: &[Flow], walk: Walk) -> i32
     ensures near { IsBetween (minus_of most_leaving) (pos most_leaving) result }
 {
     sum_of(
-        leaving_along(size, flows, Axis::X, walk),
-        leaving_along(size, flows, Axis::Y, walk),
+        leaving_along_x(size, flows, walk),
+        leaving_along_y(size, flows, walk),
         leaving_along_frames(size, flows, walk),
     )
 }

@@ -1,0 +1,13 @@
+use Rattle.std.proofs.Common.{arith}
+use Rattle.cut_check.proofs.Above.{number_above, pairs_above}
+use Rattle.cut_check.proofs.flows.number_from_above.Goals as goal
+
+pub overflow_sub-result : goal.overflow_sub-result
+overflow_sub-result c =
+    let at = c.args.walk.at in
+    omega (arith, pairs_above c.args.size at.x at.y at.f c.requires.some c.requires.inside.counts, c.requires.inside.before, c.pairs_since_above.ensures)
+
+pub returns : goal.returns
+returns c =
+    let at = c.args.walk.at in
+    omega (arith, pairs_above c.args.size at.x at.y at.f c.requires.some c.requires.inside.counts, number_above c.args.size at.x at.y at.f, c.requires.inside.before, c.pairs_since_above.ensures, c.one_along_x.ensures)

@@ -7,3 +7,4 @@ pub mod Windows
 pub mod Copies
 pub mod Inside
 pub mod MarkLaws
+mod Choosing

@@ -1,3 +1,4 @@
 pub mod Costs
 pub mod Lawful
 pub mod Intersections
+pub mod Choosing

@@ -7,7 +7,8 @@
 //! `laws` has what follows from the definitions.
 //!
 //! One walk over a box (`sums`) adds the costs of its pairs, wherever the sources of the cells come from
-//! (`Sources`): a map, a map as far as a box goes, or a map after a choice.
+//! (`Sources`): a map, or a map as far as a box goes. What a choice over a placement would leave (`after`) is
+//! summed by a walk of its own, which reads no source for two new cells: they cost nothing.
 #![tactic(auto)]
 
 mod after;

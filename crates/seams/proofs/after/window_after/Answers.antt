@@ -6,5 +6,5 @@ use Rattle.seams.proofs.after.window_after.Goals as goal
 
 pub returns : goal.returns
 returns c =
-    c.pairs_of_box.ensures
+    c.sum_after.ensures
     ∙ ap (λ (m : SourceMap). window_after (distance c.args.sample.now) m c.args.placement.now c.args.choice.now) c.map-map.ensures.map

@@ -1,4 +1,4 @@
-// The flow that a solver begins with. Its tables are given back before those of the level graphs are taken.
+// The flow that search trees make of one. Their tables are given back before those of the level graphs are taken.
 
 ghost use Rattle.std.specs.Prelude.{◌≡◌, ◌≤◌, ◌^◌, IfOk, length, map};
 ghost use Rattle.max_flow.specs.Residual.{Carries};
@@ -6,17 +6,16 @@ ghost use Rattle.max_flow.specs.Residual.{Carries};
 use crate::checking::flow_left;
 use crate::network::{Network, Pipe};
 use crate::packed::PackedArcs;
-use crate::phases::Phases;
 use crate::trees::Trees;
-use crate::triangles::Stars;
+use crate::triangles::{Stars, may_be_many};
 use std::alloc::{AllocError, Global};
 
 // How many arcs the search trees look at, at most, for each pipe. They end far below on the networks of
 // images; where they'd take more, the level graphs that finish are as fast.
 const WORK: u64 = 256;
 
-// Lets nothing flow.
-fn empty(pipes: &[Pipe], backward: &mut [u32])
+/// Lets nothing flow.
+pub fn empty(pipes: &[Pipe], backward: &mut [u32])
     requires { length backward.old ≡ length pipes.now }
     ensures { backward.new ≡ map (λ pipe. pipe.back) pipes.now }
 {
@@ -25,20 +24,8 @@ fn empty(pipes: &[Pipe], backward: &mut [u32])
     }
 }
 
-// Sends flow over arcs in a few phases, whose tables are given back. Returns whether more may be sent.
-fn run_phases(
-    alloc: Global,
-    nodes: usize,
-    arcs: &mut PackedArcs,
-    source: u32,
-    sink: u32,
-) -> Result<bool, AllocError> {
-    let mut phases = Phases::make(alloc, nodes)?;
-    Ok(phases.run(arcs, source, sink))
-}
-
-// Sends flow over pipes with the ends of a network, in a few phases of level graphs and then by search trees.
-// Writes what they leave for the arc against each pipe.
+// Sends more flow over pipes with the ends of a network by search trees, where `backward` has what the arc
+// against each pipe can carry. Writes what they leave for it.
 fn search(
     alloc: Global,
     network: &Network,
@@ -50,20 +37,20 @@ fn search(
 {
     let mut arcs = PackedArcs::make(alloc, nodes, pipes)?;
     arcs.pack(pipes, backward);
-    let (source, sink) = (network.source(), network.sink());
-    let is_more = run_phases(alloc, nodes, &mut arcs, source, sink)?;
     let mut trees = Trees::make(alloc, nodes, arcs)?;
-    if is_more {
-        trees.send(source, sink, WORK * (pipes.len() as u64 + 1));
-    }
+    let limit = WORK * (pipes.len() as u64 + 1);
+    trees.send(network.source(), network.sink(), limit);
     trees.write_rooms(backward);
     Ok(())
 }
 
-// The stars of a network, if they are many.
-fn many_stars(alloc: Global, network: &Network) -> Result<Option<Stars>, AllocError> {
+/// The stars of a network, if they are many.
+pub fn many_stars(alloc: Global, network: &Network) -> Result<Option<Stars>, AllocError> {
     let pipes = network.pipes();
     let (source, sink) = (network.source(), network.sink());
+    if !may_be_many(pipes, sink) {
+        return Ok(None);
+    }
     let stars = Stars::find(alloc, network.nodes() as usize, source, sink, pipes)?;
     Ok(if stars.are_many(pipes) {
         Some(stars)
@@ -72,29 +59,43 @@ fn many_stars(alloc: Global, network: &Network) -> Result<Option<Stars>, AllocEr
     })
 }
 
-// Writes what is left for the arc against each pipe by that search, which goes over the shorter network
-// where the network has many stars.
-fn propose(alloc: Global, network: &Network, backward: &mut [u32]) -> Result<(), AllocError> {
+// Writes what is left for the arc against each pipe by that search. It goes on from what `backward` has, or
+// over the shorter network, with nothing flowing, where the network has many stars.
+fn propose(
+    alloc: Global,
+    network: &Network,
+    stars: Option<Stars>,
+    backward: &mut [u32],
+) -> Result<(), AllocError>
+    requires { length backward.old ≡ length network.now.pipes }
+{
     let pipes = network.pipes();
-    let Some(mut stars) = many_stars(alloc, network)? else {
+    let Some(mut stars) = stars else {
         return search(alloc, network, network.nodes() as usize, pipes, backward);
     };
     let short = stars.shorten(alloc, pipes)?;
     if short.len() <= pipes.len() {
+        empty(&short, &mut backward[..short.len()]);
         search(alloc, network, stars.nodes_of(&short), &short, backward)?;
         stars.turn_back(pipes, short.len(), backward);
     }
     Ok(())
 }
 
-/// Writes for the arc against each pipe what it can still carry in the flow that the search finds, or where
-/// nothing flows if that isn't a flow. Returns the value of the flow.
-pub fn first_flow(alloc: Global, network: &Network, backward: &mut [u32]) -> Result<u64, AllocError>
+/// Writes for the arc against each pipe what it can still carry in the flow that the search makes of the one
+/// in `backward`, or where nothing flows if that isn't a flow. `stars` are those of the network, if they are
+/// many; the search then begins with nothing. Returns the value of the flow.
+pub fn better_flow(
+    alloc: Global,
+    network: &Network,
+    stars: Option<Stars>,
+    backward: &mut [u32],
+) -> Result<u64, AllocError>
     requires { length backward.old ≡ length network.now.pipes }
     ensures { IfOk result
         (Carries network.now.pipes network.now.source network.now.sink backward.new) }
 {
-    propose(alloc, network, backward)?;
+    propose(alloc, network, stars, backward)?;
     let pipes = network.pipes();
     let nodes = network.nodes();
     let mut excess = vec![in alloc; 0i64; nodes as usize]?;

@@ -7,13 +7,12 @@
 //! contained in that of every least cut, so that there is one answer. Which of the greatest flows is found
 //! is left open.
 //!
-//! Read on in `specs/Flows.antt`, which says what a flow and a cut are, and in `solver.rt`. A few phases of
-//! level graphs (`phases.rt`) and then search trees (`trees.rt`), both over packed arcs (`packed.rt`), find a
-//! flow fast, of which nothing is promised. In a network of many seams they go over a shorter one
-//! (`triangles.rt`). A check in one pass
-//! (`checking.rt`) takes the flow or begins with none (`beginning.rt`). Dinic's method goes on from
-//! there: a level graph (`levels.rt`) and a blocking flow in it (`paths.rt`, `blocking.rt`), over the
-//! residual network (`graph.rt`), until the sink has no level.
+//! Read on in `specs/Flows.antt`, which says what a flow and a cut are, and in `solver.rt`. Dinic's method
+//! finds a level graph (`levels.rt`) and a blocking flow in it (`paths.rt`, `blocking.rt`), over the residual
+//! network (`graph.rt`), until the sink has no level. Where a few level graphs aren't enough, search trees
+//! (`trees.rt`) over packed arcs (`packed.rt`) go on, of whose flow nothing is promised. In a network of many
+//! seams they come first, and go over a shorter one (`triangles.rt`). A check in one pass (`checking.rt`)
+//! takes their flow or begins with none (`beginning.rt`), and level graphs finish.
 #![tactic(auto)]
 
 mod beginning;
@@ -24,7 +23,6 @@ mod levels;
 mod network;
 mod packed;
 mod paths;
-mod phases;
 mod solver;
 mod trees;
 mod triangles;

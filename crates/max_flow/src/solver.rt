@@ -1,8 +1,9 @@
-// The solver: a search whose flow is checked, and then level graphs and blocking flows, until the sink has no
-// level.
+// The solver: level graphs and blocking flows, until the sink has no level. Where a few of them aren't enough, a
+// search whose flow is checked comes between.
 
 ghost use Rattle.std.specs.Prelude.{◌≡◌, ◌<◌, ◌≤◌, ◌^◌, ℕ, ℤ, pos, ◌≤ℤ◌, nat_lt, Bool, List};
-ghost use Rattle.std.specs.Prelude.{IfOk, length, vec_len};
+ghost use Rattle.std.specs.Prelude.{IfOk, IfSome, IsSome, length, vec_len};
+ghost use Rattle.std.specs.Bool.{OnTrue};
 ghost use Rattle.max_flow.specs.Flows.{IsFlow, flow_value, is_in, IsCut, cut_capacity};
 ghost use Rattle.max_flow.specs.Flows.{IsLeastCut, IsContained};
 ghost use Rattle.max_flow.specs.Residual.{AreResiduals, Carries, flows_of};
@@ -10,7 +11,7 @@ ghost use Rattle.max_flow.specs.Levels.{AreLevels, IsClosed, level_of};
 ghost use Rattle.max_flow.specs.Solutions.{IsSolution};
 ghost use Rattle.max_flow.specs.Workspaces.{IsReady};
 
-use crate::beginning::first_flow;
+use crate::beginning::{better_flow, empty, many_stars};
 use crate::blocking::blocking_flow;
 use crate::graph::{Graph, link};
 use crate::levels::find_levels;
@@ -20,6 +21,14 @@ use std::alloc::{AllocError, Global};
 
 // The tables name arcs by `u32`, so that they serve for fewer pipes than this.
 const LIMIT: usize = 1 << 31;
+
+// So many level graphs come before the search. Where they are enough nothing is packed, which would take as
+// long as they do; where they aren't, the search has the less to send.
+const PHASES: u32 = 5;
+
+// The search doesn't come where the network has fewer nodes than this for each level up to that of the sink. Few
+// paths are to be found there, and what a long one leaves makes trees slow.
+const WIDTH: u64 = 4;
 
 /// A flow of greatest value, and the least cut with the fewest nodes on the source's side.
 #[derive(Debug, Drop)]
@@ -114,9 +123,23 @@ fn write_sides(levels: &[u32], sides: &mut [bool])
     }
 }
 
-// Adds blocking flows to a flow of the value `first`, until the sink has no level. Returns the value of the
-// flow, and leaves the last levels in the tables.
-fn run(graph: &Graph, backward: &mut [u32], tables: &mut NodeTables, first: u64) -> u64
+// Whether the nodes are few for the level of the sink.
+fn is_thin(graph: &Graph, levels: &[u32]) -> bool
+    requires { length levels.now ≡ graph.now.nodes }
+{
+    u64::from(levels[graph.sink]) * WIDTH > u64::from(graph.nodes)
+}
+
+// Adds blocking flows to a flow of the value `first`, until the sink has no level. Unless it's the last time,
+// it may stop before, since the search comes behind. Returns the value of the flow, and leaves the last levels
+// in the tables.
+fn run(
+    graph: &Graph,
+    backward: &mut [u32],
+    tables: &mut NodeTables,
+    first: u64,
+    is_last: bool,
+) -> u64
     requires carries { Carries graph.now.pipes.now graph.now.source graph.now.sink backward.old
         first }
     requires levels { vec_len tables.old.levels ≡ graph.now.nodes }
@@ -127,11 +150,17 @@ fn run(graph: &Graph, backward: &mut [u32], tables: &mut NodeTables, first: u64)
         result }
     ensures levels { AreLevels graph.now.pipes.now graph.now.nodes graph.now.source backward.new
         tables.new.levels.items }
-    ensures closed { IsClosed graph.now.pipes.now backward.new tables.new.levels.items }
-    ensures sink { level_of tables.new.levels.items graph.now.sink ≡ 0 }
+    ensures closed { level_of tables.new.levels.items graph.now.sink ≡ 0
+        → IsClosed graph.now.pipes.now backward.new tables.new.levels.items }
+    ensures sink { OnTrue is_last (level_of tables.new.levels.items graph.now.sink ≡ 0) }
 {
     let mut value = first;
+    let mut left = PHASES;
     'phases: while find_levels(graph, backward, &mut tables.levels, &mut tables.queue) {
+        if !is_last && left == 0 && !is_thin(graph, &tables.levels) {
+            return value;
+        }
+        left = left.saturating_sub(1);
         value = blocking_flow(
             graph,
             backward,
@@ -144,13 +173,21 @@ fn run(graph: &Graph, backward: &mut [u32], tables: &mut NodeTables, first: u64)
     value
 }
 
-// Solves the network in the tables, from a flow of that value.
-fn solve_in(network: &Network, space: Workspace, backward: Vec<u32>, first: u64) -> Solved
+// Solves the network in the tables, from a flow of that value. Unless it's the last time, it may stop before.
+fn solve_in(
+    network: &Network,
+    space: Workspace,
+    backward: &mut [u32],
+    first: u64,
+    is_last: bool,
+) -> Option<Solved>
     requires ready { IsReady network.now.nodes network.now.pipes space }
     requires limit { length network.now.pipes < 2 ^ 31 }
-    requires carries { Carries network.now.pipes network.now.source network.now.sink backward.items
+    requires carries { Carries network.now.pipes network.now.source network.now.sink backward.old
         first }
-    ensures { IsSolution network.now result.flow result.source_side result.value }
+    ensures solved { IfSome result (λ solved.
+        IsSolution network.now solved.flow solved.source_side solved.value) }
+    ensures last { OnTrue is_last (IsSome result) }
 {
     let Workspace {
         mut flow,
@@ -159,7 +196,6 @@ fn solve_in(network: &Network, space: Workspace, backward: Vec<u32>, first: u64)
         mut previous,
         mut tables,
     } = space;
-    let mut backward = backward;
     let pipes = network.pipes();
     link(pipes, &mut last, &mut previous);
     let graph = Graph {
@@ -170,19 +206,42 @@ fn solve_in(network: &Network, space: Workspace, backward: Vec<u32>, first: u64)
         last: &last,
         previous: &previous,
     };
-    let value = run(&graph, &mut backward, &mut tables, first);
-    write_flows(&graph, &backward, &mut flow);
+    let value = run(&graph, backward, &mut tables, first, is_last);
+    if tables.levels[graph.sink] > 0 {
+        return None;
+    }
+    write_flows(&graph, backward, &mut flow);
     write_sides(&tables.levels, &mut source_side);
-    Solved {
+    Some(Solved {
         flow: Items::from_vec(flow),
         source_side: Items::from_vec(source_side),
         value,
-    }
+    })
+}
+
+// Solves the network by level graphs, from a flow of that value, in tables that are given back. Unless it's the
+// last time, it may stop before, and leaves what the arcs can then carry.
+fn level_graphs(
+    alloc: Global,
+    network: &Network,
+    backward: &mut [u32],
+    first: u64,
+    is_last: bool,
+) -> Result<Option<Solved>, AllocError>
+    requires limit { length network.now.pipes < 2 ^ 31 }
+    requires carries { Carries network.now.pipes network.now.source network.now.sink backward.old
+        first }
+    ensures solved { IfOk result (λ option. IfSome option (λ solved.
+        IsSolution network.now solved.flow solved.source_side solved.value)) }
+    ensures last { OnTrue is_last (IfOk result IsSome) }
+{
+    let space = Workspace::make(alloc, network.nodes() as usize, network.pipes())?;
+    Ok(solve_in(network, space, backward, first, is_last))
 }
 
 /// Finds a flow of greatest value, and of all least cuts the one whose source side is contained in that of
-/// every other: a few phases of Dinic's method (1970) and search trees (Boykov and Kolmogorov 2004) propose a flow,
-/// and Dinic's method ends with a greatest one. It answers want of memory alone.
+/// every other, by Dinic's method (1970). Where it would take many phases, search trees (Boykov and Kolmogorov
+/// 2004) propose a flow that it goes on from. It answers want of memory alone.
 pub fn solve(alloc: Global, network: &Network) -> Result<Solved, AllocError>
     ensures flow { IfOk result (λ solved. IsFlow network.now solved.flow) }
     ensures value { IfOk result (λ solved. flow_value network.now solved.flow ≡ pos solved.value) }
@@ -197,11 +256,18 @@ pub fn solve(alloc: Global, network: &Network) -> Result<Solved, AllocError>
     ensures smallest { IfOk result (λ solved. (other : List Bool) → IsLeastCut network.now other
         → IsContained solved.source_side other) }
 {
-    if network.pipes().len() >= LIMIT {
+    let pipes = network.pipes();
+    if pipes.len() >= LIMIT {
         return Err(AllocError);
     }
-    let mut backward = vec![in alloc; 0u32; network.pipes().len()]?;
-    let value = first_flow(alloc, network, &mut backward)?;
-    let space = Workspace::make(alloc, network.nodes() as usize, network.pipes())?;
-    Ok(solve_in(network, space, backward, value))
+    let mut backward = vec![in alloc; 0u32; pipes.len()]?;
+    empty(pipes, &mut backward);
+    let stars = many_stars(alloc, network)?;
+    if stars.is_none() {
+        if let Some(solved) = level_graphs(alloc, network, &mut backward, 0, false)? {
+            return Ok(solved);
+        }
+    }
+    let value = better_flow(alloc, network, stars, &mut backward)?;
+    Ok(level_graphs(alloc, network, &mut backward, value, true)?.unwrap())
 }

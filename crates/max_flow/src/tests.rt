@@ -1,6 +1,6 @@
 // Worked examples, small networks against all their cuts, and a larger one that another program solved.
 
-use crate::beginning::first_flow;
+use crate::beginning::{better_flow, empty, many_stars};
 use crate::{Network, Pipe, Solved, solve};
 use std::alloc::{AllocError, Global};
 use std::process::Abort;
@@ -338,7 +338,31 @@ fn assert_finds(
     solved: &Solved,
 ) -> Result<(), AllocError> {
     let mut backward = vec![in alloc; 0u32; network.pipes().len()]?;
-    assert_eq!(rt; first_flow(alloc, network, &mut backward)?, solved.value);
+    empty(network.pipes(), &mut backward);
+    let stars = many_stars(alloc, network)?;
+    assert_eq!(rt;
+        better_flow(alloc, network, stars, &mut backward)?,
+        solved.value
+    );
+    Ok(())
+}
+
+// From a flow of 3 along all four nodes, the greatest flow sends back what goes through the middle.
+#[test]
+fn the_search_goes_on_from_a_flow(rt: HostRuntime) -> Result<(), Fail> {
+    let pipes = [
+        (0, 2, 3, 0),
+        (0, 3, 3, 1),
+        (2, 3, 4, 2),
+        (2, 1, 3, 0),
+        (3, 1, 3, 0),
+    ];
+    let network = network_of(&rt, rt.alloc(), 4, &pipes)?;
+    let mut backward = vec![in rt.alloc(); 0u32; network.pipes().len()]?;
+    for (entry, against) in backward.iter_mut().zip([3, 1, 5, 0, 3]) {
+        *entry = against;
+    }
+    assert_eq!(rt; better_flow(rt.alloc(), &network, None, &mut backward)?, 6);
     Ok(())
 }
 

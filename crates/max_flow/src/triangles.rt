@@ -46,6 +46,24 @@ impl Triangle {
     }
 }
 
+// Whether two pipes leave the node that another enters, the last of them to the sink.
+fn meet(first: &Pipe, second: &Pipe, down: &Pipe, sink: u32) -> bool {
+    let middle = first.to;
+    second.from == middle && down.from == middle && down.to == sink
+}
+
+/// Whether so many pipes lie as those of a star do that the shorter network may have fewer pipes by a
+/// fifth or more. It takes no tables, so that networks of another kind lose little time.
+pub fn may_be_many(pipes: &[Pipe], sink: u32) -> bool {
+    let mut number = 0usize;
+    for index in 2..pipes.len() {
+        if meet(&pipes[index - 2], &pipes[index - 1], &pipes[index], sink) {
+            number = number.wrapping_add(1);
+        }
+    }
+    number >= pipes.len() / 10
+}
+
 // Writes what a flow leaves for the arc against the pipe at an index.
 fn write_flow(pipes: &[Pipe], index: usize, flow: u32, backward: &mut [u32]) {
     if let (Some(pipe), Some(entry)) = (pipes.get(index), backward.get_mut(index)) {
@@ -133,13 +151,10 @@ impl Stars {
         let first = pipes.get(index)?;
         let second = pipes.get(index.wrapping_add(1))?;
         let down = pipes.get(index.wrapping_add(2))?;
-        let middle = first.to;
-        let is_star = second.from == middle
-            && down.from == middle
-            && down.to == self.sink
+        let is_star = meet(first, second, down, self.sink)
             && first.ahead == first.back
             && second.ahead == second.back
-            && self.is_middle(middle);
+            && self.is_middle(first.to);
         if is_star {
             Some(Triangle::of_legs(first, second, down))
         } else {

@@ -1,11 +1,11 @@
 -- Where the entries of a run of places stand.
-use Rattle.std.proofs.Common.{◌≡◌, ℕ, ◌+◌, ◌*◌, ◌<◌, ◌≤◌, List, length, get_or, take, drop, refl, ap, sym, subst, ◌∙◌, arith, rules, ⊎_elim}
+use Rattle.std.proofs.Common.{◌≡◌, ℕ, ◌+◌, ◌*◌, ◌/◌, ◌<◌, ◌≤◌, List, length, get_or, take, drop, refl, ap, sym, subst, ◌∙◌, arith, rules, ⊎_elim}
 use Rattle.std.proofs.lemmas.Int.{ints}
 use Rattle.std.proofs.lemmas.List.{get_or-drop, get_or-take}
 use Rattle.std.proofs.lemmas.List.Sums.{sum_by_more, sum_by_more_le}
 use Rattle.std.proofs.Math.Nat.{mul-le-mul_left}
 use Rattle.std.proofs.lemmas.Bool.{cases_lt}
-use Rattle.std.specs.Prelude.{ℤ, pos, negsuc, ◌+ℤ◌, ◌-ℤ◌, FitsSigned, All, Some, IsSome}
+use Rattle.std.specs.Prelude.{min, ℤ, pos, negsuc, ◌+ℤ◌, ◌-ℤ◌, FitsSigned, All, Some, IsSome}
 use Rattle.std.specs.List.{sum_by}
 use Rattle.std.specs.Int.{w32}
 use Rattle.cells.specs.declared.place.At.{At}
@@ -160,21 +160,54 @@ module _ (sample : Cells) (volume : IsVolume sample) (sums : BlockSums) (are : A
           (omega (arith, at.columns j lj, is.columns, side_is)) (omega (arith, at.rows, is.rows, side_is)) (omega (arith, at.frames, is.frame))
           ∙ (λ t. block_sum sample (sym side_is t) (there j t))
 
-      module _ (was now : ℕ) (more : now ≤ was + square_of_difference block.sum (get_or run j 0)) (before : was ≤ sum_by (difference_at sample side from j) (take i items)) where
-        added : now ≤ was + difference_at sample side from j block
-        added = subst (λ entry. now ≤ was + square_of_difference block.sum entry) lane_entry more
+      -- the totals are in units of 2^16, of differences that are taken so many times
+      module _ (was now factor : ℕ) (more : 65536 * now ≤ 65536 * was + factor * factor * square_of_difference block.sum (get_or run j 0))
+          (before : 65536 * was ≤ factor * factor * sum_by (difference_at sample side from j) (take i items)) where
+        abbrev whole : List Block → ℕ
+        whole blocks = factor * factor * sum_by (difference_at sample side from j) blocks
 
-        front : was ≤ sum_by (difference_at sample side from j) (take i seen)
-        front = subst (λ xs. was ≤ sum_by (difference_at sample side from j) (take i xs)) (sym same) before
+        added : 65536 * now ≤ 65536 * was + factor * factor * difference_at sample side from j block
+        added = subst (λ entry. 65536 * now ≤ 65536 * was + factor * factor * square_of_difference block.sum entry) lane_entry more
+
+        front : 65536 * was ≤ whole (take i seen)
+        front = subst (λ xs. 65536 * was ≤ whole (take i xs)) (sym same) before
+
+        together_at_most : 65536 * now ≤ factor * factor * (sum_by (difference_at sample side from j) (take i seen) + difference_at sample side from j block)
+        together_at_most = omega (arith, added, front)
 
         -- the total is still at most the differences of the blocks so far, and of all
-        pub one_more : now ≤ sum_by (difference_at sample side from j) (take (i + 1) items)
-        one_more = subst (λ xs. now ≤ sum_by (difference_at sample side from j) (take (i + 1) xs)) same (omega (arith, added, front, sum_by_more (difference_at sample side from j) seen i d lt))
+        pub one_more : 65536 * now ≤ whole (take (i + 1) items)
+        one_more =
+            subst (λ xs. 65536 * now ≤ whole (take (i + 1) xs)) same
+            (subst (λ s. 65536 * now ≤ factor * factor * s) (sym (sum_by_more (difference_at sample side from j) seen i d lt)) together_at_most)
 
-        pub one_of_all : now ≤ sum_by (difference_at sample side from j) items
-        one_of_all = subst (λ xs. now ≤ sum_by (difference_at sample side from j) xs) same (omega (arith, added, front, sum_by_more_le (difference_at sample side from j) seen i d lt))
+        pub one_of_all : 65536 * now ≤ whole items
+        one_of_all =
+            subst (λ xs. 65536 * now ≤ whole xs) same
+            (omega (arith, together_at_most, mul-le-mul_left (factor * factor) (sum_by_more_le (difference_at sample side from j) seen i d lt)))
 
--- a total above that of the limit is of an error above the limit
-pub above_limit : (bytes limit error total difference most : ℕ) → most ≡ bytes * limit → most < total → total ≤ difference → difference ≤ bytes * error → limit < error
-above_limit bytes limit error total difference most is above part bound =
-    ⊎_elim (λ lt. lt) (λ le. absurd (omega (arith, is, above, part, bound, mul-le-mul_left bytes le))) (cases_lt limit error)
+-- a total above the most for a limit is of an error above the limit
+pub above_limit : (factor bytes limit error total difference most : ℕ) → factor * factor * (bytes * limit) < 65536 * (most + 1) → most < total → 65536 * total ≤ factor * factor * difference → difference ≤ bytes * error → limit < error
+above_limit factor bytes limit error total difference most is above part bound =
+    ⊎_elim (λ lt. lt) (λ le.
+    let whole : factor * factor * difference ≤ factor * factor * (bytes * limit) = mul-le-mul_left (factor * factor) (omega (arith, bound, mul-le-mul_left bytes le)) in
+    absurd (omega (arith, is, above, part, whole))) (cases_lt limit error)
+
+-- the most for a limit, where it is so small that no product was cut off
+pub scale_holds : (bytes limit factor bound square scaled most : ℕ) → bound ≡ min (bytes * limit) 18446744073709551615 → square ≡ factor * factor → scaled ≡ min (bound * square) 18446744073709551615 → most ≡ scaled / 65536 → most ≤ 65535
+    → factor * factor * (bytes * limit) < 65536 * (most + 1)
+scale_holds bytes limit factor bound square scaled most bound_is square_is scaled_is most_is small =
+    subst (λ s. s * (bytes * limit) < 65536 * (most + 1)) square_is
+    (⊎_elim none some (cases_lt square 1))
+  where
+    product : bound * square ≡ scaled
+    product = omega (arith, scaled_is, most_is, small)
+
+    none : square < 1 → square * (bytes * limit) < 65536 * (most + 1)
+    none lt = let zero : square ≡ 0 = omega (arith, lt) in subst (λ s. s * (bytes * limit) < 65536 * (most + 1)) (sym zero) (omega arith)
+
+    some : 1 ≤ square → square * (bytes * limit) < 65536 * (most + 1)
+    some le =
+        let least : bound * 1 ≤ bound * square = mul-le-mul_left bound le in
+        let whole : bytes * limit ≡ bound = omega (arith, bound_is, product, least, most_is, small) in
+        subst (λ n. square * n < 65536 * (most + 1)) (sym whole) (omega (arith, product, most_is))

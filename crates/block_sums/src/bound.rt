@@ -1,11 +1,11 @@
 // Which of a run of places are above a limit.
-ghost use Rattle.std.specs.Prelude.{◌≡◌, ◌≤◌, ◌<◌, ◌-◌, ◌*◌, ◌^◌, ℕ, slice_index};
+ghost use Rattle.std.specs.Prelude.{◌≡◌, ◌≤◌, ◌<◌, ◌+◌, ◌*◌, ◌^◌, ℕ, IfSome, slice_index};
 ghost use Rattle.block_sums.specs.Blocks.{AreBoxBlocks, block_bytes, blocks_difference};
 ghost use Rattle.block_sums.specs.Bounds.{AreAbove, IsBoxIn, MayBeLaid, place_along};
 ghost use Rattle.block_sums.specs.Sums.{AreBlockSums};
 
 use crate::blocks::BoxBlocks;
-use crate::lanes::{are_above, marks, no_totals, with_block};
+use crate::lanes::{are_above, marks, no_sums, with_block};
 use crate::sums::{BlockSums, LANES};
 use cells::{At, Box3, Volume};
 use map_canvas::Canvas;
@@ -14,24 +14,46 @@ use std::simd::prelude::*;
 // After how many blocks it is seen whether all places are above the limit.
 const STRETCH: usize = 8;
 
-// The most that a total may be where the error is at most the limit, as far as totals go.
-fn most_total(side: u32, k: u32, limit: u64) -> u32
+// By how many bits differences are shifted up at most.
+const MOST_UP: u32 = 8;
+
+// How totals are told from a limit. They are counted in units of 2^16, and have 16 bits a lane.
+#[derive(Clone, Copy, Drop)]
+struct Scale {
+    // how many times differences are taken, so that few of their bits are lost
+    factor: u16,
+    // the most that a total may be where the error is at most the limit
+    most: u16,
+}
+
+// The scale for a limit: the factor is a power of two by which all differences still fit, and the most
+// does too. None where there isn't one, since no total would be above the most.
+fn scale_of(side: u32, k: u32, limit: u64) -> Option<Scale>
     requires some { 1 ≤ k }
     requires few { 255 * block_bytes side k < 2 ^ 16 }
-    ensures { result < 2 ^ 32 - 1 → result ≡ block_bytes side k * limit }
+    ensures { IfSome result (λ scale. scale.factor * scale.factor * (block_bytes side k * limit)
+        < 2 ^ 16 * (scale.most + 1)) }
 {
     let cells = side * side;
     let bytes = cells * k;
-    let most = u64::from(bytes).saturating_mul(limit);
-    if most >= u64::from(u32::MAX) {
-        return u32::MAX;
+    let bound = u64::from(bytes).saturating_mul(limit);
+    let up = (255 * bytes as u16)
+        .leading_zeros()
+        .min(bound.leading_zeros().saturating_sub(32) / 2)
+        .min(MOST_UP);
+    let factor = 1u16 << up;
+    let square = u64::from(factor) * u64::from(factor);
+    let most = bound.saturating_mul(square) >> 16;
+    if most > u64::from(u16::MAX) {
+        return None;
     }
-    most as u32
+    let most = most as u16;
+    Some(Scale { factor, most })
 }
 
 impl BoxBlocks {
-    // For each of the places a total that is at most how far the blocks are from those of the
-    // sample. It stops where all of them are above a number.
+    // For each of the places a total that is at most how far the blocks are from those of the sample, in
+    // units of 2^16 and by the factor squared. It stops where all of them are above the most.
     fn totals(
         &self,
         sums: &BlockSums,
@@ -40,8 +62,8 @@ impl BoxBlocks {
         rect: &Box3,
         from: At,
         n: u32,
-        most: u32,
-    ) -> u32x32
+        scale: Scale,
+    ) -> u16x32
         requires blocks { AreBoxBlocks canvas.now rect.now self.now }
         requires sums { AreBlockSums sample.now sums.now }
         requires side { self.now.side ≡ sums.now.side }
@@ -50,14 +72,15 @@ impl BoxBlocks {
         requires laid { MayBeLaid canvas.now sample.now rect.now from n }
         requires inside { (j : ℕ) → j < n
             → IsBoxIn sums.now.rect (place_along from j) rect.now.size }
-        ensures { (j : ℕ) → j < n
-            → slice_index result j ≤ blocks_difference self.now sample.now (place_along from j) }
+        ensures { (j : ℕ) → j < n → 2 ^ 16 * slice_index result j ≤ scale.factor * scale.factor
+            * blocks_difference self.now sample.now (place_along from j) }
     {
         let first = sums.index_of(from);
-        let mut totals = no_totals();
+        let mut totals = no_sums();
         for (i, block) in self.blocks.iter().enumerate() {
-            totals = with_block(totals, block.sum, sums.run(first, block.step));
-            if i % STRETCH == STRETCH - 1 && are_above(totals, most, n) {
+            let run = sums.run(first, block.step);
+            totals = with_block(totals, block.sum, run, scale.factor);
+            if i % STRETCH == STRETCH - 1 && are_above(totals, scale.most, n) {
                 return totals;
             }
         }
@@ -89,12 +112,10 @@ impl BoxBlocks {
         if n == 0 {
             return [false; LANES];
         }
-        let most = most_total(self.side, sample.samples(), limit);
-        // No total is above that.
-        if most == u32::MAX {
+        let Some(scale) = scale_of(self.side, sample.samples(), limit) else {
             return [false; LANES];
-        }
-        let totals = self.totals(sums, canvas, sample, rect, from, n, most);
-        marks(totals, most)
+        };
+        let totals = self.totals(sums, canvas, sample, rect, from, n, scale);
+        marks(totals, scale.most)
     }
 }

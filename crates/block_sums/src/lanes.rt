@@ -33,46 +33,57 @@ fn squares(lanes: u16x32) -> u32x32
     wide.strict_mul(wide)
 }
 
+// Lanes so many times, or less where a product doesn't fit.
+#[inline(always)]
+fn times(lanes: u16x32, factor: u16) -> u16x32
+    ensures { (j : ℕ) → slice_index result j ≤ factor * slice_index lanes j }
+{
+    lanes * u16x32::splat(factor)
+}
+
+// The squares of lanes by their high halves, in units of 2^16.
+#[inline(always)]
+fn high_squares(lanes: u16x32) -> u16x32
+    ensures { (j : ℕ) → 2 ^ 16 * slice_index result j
+        ≤ slice_index lanes j * slice_index lanes j }
+{
+    (squares(lanes) >> u32x32::splat(16)).cast::<u16>()
+}
+
 // The sums of the lanes of two vectors, or less where a sum doesn't fit.
 #[inline(always)]
-fn sums(totals: u32x32, more: u32x32) -> u32x32
+fn sums(totals: u16x32, more: u16x32) -> u16x32
     ensures { (j : ℕ) → slice_index result j ≤ slice_index totals j + slice_index more j }
 {
     totals.saturating_add(more)
 }
 
-/// The totals of no block.
+/// The totals with one more block, in units of 2^16: the squared differences of a run of entries, one a
+/// lane, from the block's sum, each difference taken so many times. A total that doesn't fit stays at the
+/// greatest number.
 #[inline(always)]
-pub(crate) fn no_totals() -> u32x32
-    ensures { result ≡ replicate LANES 0 }
-{
-    u32x32::splat(0)
-}
-
-/// The totals with the squared differences of one more block: of a run of entries, one a lane, from
-/// the block's sum. A total that doesn't fit stays at the greatest number.
-#[inline(always)]
-pub(crate) fn with_block(totals: u32x32, sum: u16, run: &[u16]) -> u32x32
+pub(crate) fn with_block(totals: u16x32, sum: u16, run: &[u16], factor: u16) -> u16x32
     requires { LANES ≤ length run.now }
-    ensures { (j : ℕ) → j < LANES → slice_index result j
-        ≤ slice_index totals j + square_of_difference sum (slice_index run.now j) }
+    ensures { (j : ℕ) → j < LANES → 2 ^ 16 * slice_index result j
+        ≤ 2 ^ 16 * slice_index totals j
+        + factor * factor * square_of_difference sum (slice_index run.now j) }
 {
-    sums(totals, squares(differences(each_lane(sum), run)))
+    let lanes = times(differences(each_lane(sum), run), factor);
+    sums(totals, high_squares(lanes))
 }
 
 /// Whether each of the first n totals is above a number. It only says when to stop, so nothing is
 /// promised.
 #[inline(always)]
-pub(crate) fn are_above(totals: u32x32, most: u32, n: u32) -> bool {
-    let marks = totals.simd_gt(u32x32::splat(most)).to_bitmask();
+pub(crate) fn are_above(totals: u16x32, most: u16, n: u32) -> bool {
+    let marks = totals.simd_gt(u16x32::splat(most)).to_bitmask();
     marks.trailing_ones() >= n
 }
 
 /// Marks the lanes whose total is above a number.
-pub(crate) fn marks(totals: u32x32, most: u32) -> [bool; LANES]
-    ensures above { (j : ℕ) → j < LANES → slice_index_or result j false ≡ true
+pub(crate) fn marks(totals: u16x32, most: u16) -> [bool; LANES]
+    ensures { (j : ℕ) → j < LANES → slice_index_or result j false ≡ true
         → most < slice_index totals j }
-    ensures most { (j : ℕ) → j < LANES → slice_index_or result j false ≡ true → most < 2 ^ 32 - 1 }
 {
     let lanes = totals.to_array();
     let mut marks = [false; LANES];
@@ -104,7 +115,7 @@ pub(crate) fn are_marked(marks: &[bool; LANES], n: u32) -> bool {
     true
 }
 
-/// The sums of no entries.
+/// The sums of nothing, one a lane.
 #[inline(always)]
 pub(crate) fn no_sums() -> u16x32
     ensures { result ≡ replicate LANES 0 }

@@ -3,7 +3,7 @@ ghost use Rattle.std.specs.Prelude.{IsTrue};
 ghost use Rattle.cells.specs.Boxes.{AxisHolds, HoldsBox};
 
 use super::*;
-use crate::lanes::{are_above, are_marked, marks, marks_of_both, no_totals, with_block};
+use crate::lanes::{are_above, are_marked, marks, marks_of_both, no_sums, with_block};
 use cells::{At, Box3, Size, Volume};
 use map_canvas::{Canvas, Placement};
 use std::test::Fail;
@@ -53,18 +53,20 @@ fn totals_of_a_run(rt: HostRuntime) {
     for (j, entry) in run.iter_mut().enumerate() {
         *entry = j as u16;
     }
-    // The totals are the squares of how far the lanes are from the lane of number 10.
-    let totals = with_block(no_totals(), 10, &run);
+    // The totals are the squares of how far the lanes are from the lane of number 10, in units of 2^16,
+    // where differences are taken 256 times.
+    let totals = with_block(no_sums(), 10, &run, 256);
     assert!(rt; are_above(totals, 25, 5) && !are_above(totals, 25, 6));
     for (j, mark) in marks(totals, 25).iter().enumerate() {
         assert_eq!(rt; *mark, j < 5 || j > 15);
     }
     // Two squares of 65,535 are more than a total has room for.
-    let far = with_block(no_totals(), u16::MAX, &[0; LANES]);
-    assert_eq!(rt; marks(far, u32::MAX - 131_070), [false; LANES]);
-    let farther = with_block(far, u16::MAX, &[0; LANES]);
-    assert_eq!(rt; marks(farther, u32::MAX - 1), [true; LANES]);
-    assert_eq!(rt; marks(farther, u32::MAX), [false; LANES]);
+    let far = with_block(no_sums(), u16::MAX, &[0; LANES], 1);
+    assert_eq!(rt; marks(far, 65_533), [true; LANES]);
+    assert_eq!(rt; marks(far, 65_534), [false; LANES]);
+    let farther = with_block(far, u16::MAX, &[0; LANES], 1);
+    assert_eq!(rt; marks(farther, u16::MAX - 1), [true; LANES]);
+    assert_eq!(rt; marks(farther, u16::MAX), [false; LANES]);
 }
 
 #[test]

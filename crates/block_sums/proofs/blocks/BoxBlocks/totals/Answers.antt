@@ -1,4 +1,5 @@
-use Rattle.std.proofs.Common.{◌<◌, ℕ, List, get_or, ap, arith}
+use Rattle.std.proofs.Common.{◌<◌, ◌*◌, ℕ, List, get_or, ap, arith}
+use Rattle.std.proofs.Math.Nat.{mul-le-mul_left}
 use Rattle.std.proofs.lemmas.List.{get_or-replicate}
 use Rattle.block_sums.specs.declared.sums.TheConstants.{LANES}
 use Rattle.std.proofs.lemmas.List.Sums.{sum_by-take-le}
@@ -29,24 +30,24 @@ index_of-first-requires-clause-inside c =
     let at = placed sums.rect c.args.from c.args.n rect.size c.requires.some c.requires.inside in
     first_inside c.args.sample.now laid.volume sums c.requires.sums rect laid.fits.some c.args.from c.args.n c.requires.some at
 
-pub run-requires-clause-small : goal.run-requires-clause-small
-run-requires-clause-small c =
+pub run-run-requires-clause-small : goal.run-run-requires-clause-small
+run-run-requires-clause-small c =
     let sums = c.args.sums.now in
     let rect = c.args.rect.now in
     let laid = c.requires.laid 0 (omega (arith, c.requires.some)) in
     let at = placed sums.rect c.args.from c.args.n rect.size c.requires.some c.requires.inside in
     small c.args.sample.now laid.volume sums c.requires.sums rect laid.fits.some c.args.from c.args.n c.requires.some at
 
-pub run-requires-clause-inside : goal.run-requires-clause-inside
-run-requires-clause-inside c =
+pub run-run-requires-clause-inside : goal.run-run-requires-clause-inside
+run-run-requires-clause-inside c =
     let sums = c.args.sums.now in
     let rect = c.args.rect.now in
     let laid = c.requires.laid 0 (omega (arith, c.requires.some)) in
     let at = placed sums.rect c.args.from c.args.n rect.size c.requires.some c.requires.inside in
     step_inside c.args.sample.now laid.volume sums c.requires.sums rect laid.fits.some c.args.from c.args.n c.requires.some at c.args.self.now.side c.requires.blocks.some c.requires.side c.deref-block-items.result.now c.args.self.now.blocks.items c.deref-block-items.ensures.value c.requires.blocks.inside c.loop-i.i _ c.loop-i-test.true
 
-pub run-requires-clause-room : goal.run-requires-clause-room
-run-requires-clause-room c = λ s s_is.
+pub run-run-requires-clause-room : goal.run-run-requires-clause-room
+run-run-requires-clause-room c = λ s s_is.
     let sums = c.args.sums.now in
     let rect = c.args.rect.now in
     let laid = c.requires.laid 0 (omega (arith, c.requires.some)) in
@@ -56,7 +57,7 @@ run-requires-clause-room c = λ s s_is.
 pub loop-i-init : goal.loop-i-init
 loop-i-init c = λ j lj.
     let in_lanes : j < LANES = omega (arith, c.requires.few) in
-    omega (arith, ap (λ (xs : List ℕ). get_or xs j 0) c.no_totals-totals.ensures, get_or-replicate {A = ℕ} LANES j 0 0 in_lanes)
+    omega (arith, ap (λ (xs : List ℕ). get_or xs j 0) c.no_sums-totals.ensures, get_or-replicate {A = ℕ} LANES j 0 0 in_lanes)
 
 pub loop-i-preserved : goal.loop-i-preserved
 loop-i-preserved c = λ j lj.
@@ -65,7 +66,7 @@ loop-i-preserved c = λ j lj.
     let laid = c.requires.laid 0 (omega (arith, c.requires.some)) in
     let at = placed sums.rect c.args.from c.args.n rect.size c.requires.some c.requires.inside in
     let in_lanes : j < LANES = omega (arith, c.requires.few) in
-    one_more c.args.sample.now laid.volume sums c.requires.sums rect laid.fits.some c.args.from c.args.n c.requires.some at c.args.self.now.side c.requires.blocks.some c.requires.side c.deref-block-items.result.now c.args.self.now.blocks.items c.deref-block-items.ensures.value c.requires.blocks.inside c.loop-i.i _ c.loop-i-test.true c.run.result.now c.index_of-first.result c.index_of-first.ensures c.run.ensures.run j lj c.requires.few _ _ (c.with_block-totals.ensures j in_lanes) (c.loop-i.invariant j lj)
+    one_more c.args.sample.now laid.volume sums c.requires.sums rect laid.fits.some c.args.from c.args.n c.requires.some at c.args.self.now.side c.requires.blocks.some c.requires.side c.deref-block-items.result.now c.args.self.now.blocks.items c.deref-block-items.ensures.value c.requires.blocks.inside c.loop-i.i _ c.loop-i-test.true c.run-run.result.now c.index_of-first.result c.index_of-first.ensures c.run-run.ensures.run j lj c.requires.few _ _ c.args.scale.factor (c.with_block-totals.ensures j in_lanes) (c.loop-i.invariant j lj)
 
 pub returns-then-are_above : goal.returns-then-are_above
 returns-then-are_above c = λ j lj.
@@ -74,7 +75,9 @@ returns-then-are_above c = λ j lj.
     let laid = c.requires.laid 0 (omega (arith, c.requires.some)) in
     let at = placed sums.rect c.args.from c.args.n rect.size c.requires.some c.requires.inside in
     let in_lanes : j < LANES = omega (arith, c.requires.few) in
-    one_of_all c.args.sample.now laid.volume sums c.requires.sums rect laid.fits.some c.args.from c.args.n c.requires.some at c.args.self.now.side c.requires.blocks.some c.requires.side c.deref-block-items.result.now c.args.self.now.blocks.items c.deref-block-items.ensures.value c.requires.blocks.inside c.loop-i.i _ c.loop-i-test.true c.run.result.now c.index_of-first.result c.index_of-first.ensures c.run.ensures.run j lj c.requires.few _ _ (c.with_block-totals.ensures j in_lanes) (c.loop-i.invariant j lj)
+    one_of_all c.args.sample.now laid.volume sums c.requires.sums rect laid.fits.some c.args.from c.args.n c.requires.some at c.args.self.now.side c.requires.blocks.some c.requires.side c.deref-block-items.result.now c.args.self.now.blocks.items c.deref-block-items.ensures.value c.requires.blocks.inside c.loop-i.i _ c.loop-i-test.true c.run-run.result.now c.index_of-first.result c.index_of-first.ensures c.run-run.ensures.run j lj c.requires.few _ _ c.args.scale.factor (c.with_block-totals.ensures j in_lanes) (c.loop-i.invariant j lj)
 
 pub returns : goal.returns
-returns c = λ j lj. omega (arith, c.loop-i.invariant j lj, sum_by-take-le (difference_at c.args.sample.now c.args.self.now.side c.args.from j) c.args.self.now.blocks.items c.loop-i.i)
+returns c = λ j lj.
+    let whole = mul-le-mul_left (c.args.scale.factor * c.args.scale.factor) (sum_by-take-le (difference_at c.args.sample.now c.args.self.now.side c.args.from j) c.args.self.now.blocks.items c.loop-i.i) in
+    omega (arith, c.loop-i.invariant j lj, whole)

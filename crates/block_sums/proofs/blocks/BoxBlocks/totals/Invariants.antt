@@ -1,7 +1,7 @@
-use Rattle.std.proofs.Common.{◌≤◌, ◌<◌, ℕ, get_or, take}
+use Rattle.std.proofs.Common.{◌≤◌, ◌<◌, ◌*◌, ℕ, get_or, take}
 use Rattle.std.specs.List.{sum_by}
 use Rattle.block_sums.proofs.RunEntries.{difference_at}
 use Rattle.block_sums.proofs.blocks.BoxBlocks.totals.Given as goal
 
 abbrev pub invariant-loop-i : goal.invariant-loop-i
-invariant-loop-i l = (j : ℕ) → j < l.n → get_or l.totals j 0 ≤ sum_by (difference_at l.sample l.self.side l.fn.from j) (take l.i l.self.blocks.items)
+invariant-loop-i l = (j : ℕ) → j < l.n → 65536 * get_or l.totals j 0 ≤ l.scale.factor * l.scale.factor * sum_by (difference_at l.sample l.self.side l.fn.from j) (take l.i l.self.blocks.items)

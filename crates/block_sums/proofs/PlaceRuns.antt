@@ -63,3 +63,13 @@ each_in outer inner from n more few x y f j lj = record {
   y = record { from = omega (arith, ints, y.from); to = omega (arith, ints, y.to) };
   f = record { from = omega (arith, ints, f.from); to = omega (arith, ints, f.to) };
 }
+
+-- a place of a run, counted on from another
+pub along_on : (from : At) (i j : ℕ) → place_along (place_along from i) j ≡ place_along from (i + j)
+along_on from i j = λ k. record { x = further from.x i j k; y = stay from.y k; f = stay from.f k }
+  where
+    further : (z : ℤ) (n m : ℕ) → (z +ℤ pos n) +ℤ pos m ≡ z +ℤ pos (n + m)
+    further z n m = omega (arith, ints)
+
+    stay : (z : ℤ) → (z +ℤ pos 0) +ℤ pos 0 ≡ z +ℤ pos 0
+    stay z = omega (arith, ints)

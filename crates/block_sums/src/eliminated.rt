@@ -1,5 +1,5 @@
 // Which places of a run are left out.
-ghost use Rattle.std.specs.Prelude.{◌≡◌, ◌<◌, ◌↔◌, ℕ, IfSome, IsTrue};
+ghost use Rattle.std.specs.Prelude.{◌≡◌, ◌≤◌, ◌<◌, ◌+◌, ◌↔◌, ℕ, IfSome, IsTrue, slice_index_or, true, false};
 ghost use Rattle.cells.specs.declared.place.Box3.{Box3};
 ghost use Rattle.cells.specs.Cells.{Cells};
 ghost use Rattle.map_canvas.specs.Canvases.{CanvasState};
@@ -65,6 +65,37 @@ impl Eliminated {
             return None;
         }
         steps_past(self.from.x, at.x)
+    }
+
+    // How many places of the run from one of them on are marked, one after another.
+    fn marked_from(&self, first: u32) -> u32
+        requires { first < self.now.n }
+        ensures within { first + result ≤ self.now.n }
+        ensures marked { (j : ℕ) → j < result
+            → slice_index_or self.now.above (first + j) false ≡ true }
+    {
+        let mut count = 0;
+        'marked: for j in first..self.n.min(LANES as u32) {
+            if !self.above[j as usize] {
+                return count;
+            }
+            count += 1;
+        }
+        count
+    }
+
+    /// How many places along X, from one on, are eliminated for a limit, one after another; none where the
+    /// first of them isn't one of the run's.
+    pub fn count_from(&self, at: At, limit: u64) -> u32
+        ensures { (j : ℕ) → j < result → IsEliminated self.now (place_along at j) limit }
+    {
+        if limit > self.limit {
+            return 0;
+        }
+        let Some(first) = self.index_of(at) else {
+            return 0;
+        };
+        self.marked_from(first)
     }
 
     /// Whether a place is eliminated for a limit, which may be less than that of the run.

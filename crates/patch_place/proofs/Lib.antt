@@ -14,3 +14,4 @@ pub mod Shortlists
 pub mod PartLists
 pub mod BoxWalk
 pub mod OnePick
+pub mod Passing

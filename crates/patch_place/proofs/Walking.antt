@@ -1,7 +1,8 @@
 -- How many places a part has, and walks from place to place.
-use Rattle.std.proofs.Common.{◌≡◌, ℕ, ◌+◌, ◌*◌, ◌/◌, ◌%◌, ◌<◌, ◌≤◌, ap, sym, subst, ◌∙◌, arith}
-use Rattle.std.proofs.Math.Nat.{mul-le-mul}
-use Rattle.std.proofs.lemmas.Nat.{div-add-mod', div-mul-add, mod_below}
+use Rattle.std.proofs.Common.{◌≡◌, ℕ, ◌+◌, ◌*◌, ◌/◌, ◌%◌, ◌<◌, ◌≤◌, ap, sym, subst, ◌∙◌, arith, ⊎_elim}
+use Rattle.std.proofs.Math.Nat.{mul-le-mul, mul-le-mul_left}
+use Rattle.std.proofs.lemmas.Bool.{cases_lt}
+use Rattle.std.proofs.lemmas.Nat.{div-add-mod', div-mul-add, mod-mul-add, mod_below}
 use Rattle.cells.specs.declared.place.Size.{Size}
 use Rattle.cells.specs.Places.{IsSmall, HasAxes, cell_count}
 use Rattle.patch_place.specs.declared.candidates.Candidates.{Candidates}
@@ -76,3 +77,44 @@ spot_over size frames i was now some rows over last x y f is =
       y = y ∙ sym row.0 ∙ ap (λ n. n % size.h) (sym next.1);
       f = f ∙ ap (λ n. n + 1) is.f ∙ (let e : frames + i / size.w / size.h + 1 ≡ frames + (i / size.w / size.h + 1) = omega arith in e) ∙ ap (λ n. frames + n) (sym row.1) ∙ ap (λ n. frames + n / size.h) (sym next.1);
     }
+
+-- a place so many further in the same row
+pub spot_further : (size : Size) (frames i n : ℕ) (was now : Spot) → was.x + n < size.w → now.x ≡ was.x + n → now.y ≡ was.y → now.f ≡ was.f → IsSpotAt size frames i was → IsSpotAt size frames (i + n) now
+spot_further size frames i n was now lt x y f is =
+    record {
+      x = x ∙ ap (λ m. m + n) is.x ∙ sym column;
+      y = y ∙ is.y ∙ ap (λ r. r % size.h) (sym row);
+      f = f ∙ is.f ∙ ap (λ r. frames + r / size.h) (sym row);
+    }
+  where
+    within : i % size.w + n < size.w
+    within = subst (λ m. m + n < size.w) is.x lt
+
+    whole : i + n ≡ i / size.w * size.w + (i % size.w + n)
+    whole = omega (arith, div-add-mod' i size.w)
+
+    column : (i + n) % size.w ≡ i % size.w + n
+    column = ap (λ m. m % size.w) whole ∙ mod-mul-add (i / size.w) size.w (i % size.w + n) within
+
+    row : (i + n) / size.w ≡ i / size.w
+    row = ap (λ m. m / size.w) whole ∙ div-mul-add (i / size.w) size.w (i % size.w + n) within
+
+-- the place after the last of some in one row
+pub spot_after : (size : Size) (frames i n m : ℕ) (was last now : Spot) → m + 1 ≡ n → was.x + m < size.w → last.x ≡ was.x + m → last.y ≡ was.y → last.f ≡ was.f → ((frames i : ℕ) → IsSpotAt size frames i last → IsSpotAt size frames (i + 1) now) → IsSpotAt size frames i was → IsSpotAt size frames (i + n) now
+spot_after size frames i n m was last now one lt x y f next is =
+    let e : i + m + 1 ≡ i + n = omega (arith, one) in
+    subst (λ k. IsSpotAt size frames k now) e (next frames (i + m) (spot_further size frames i m was last lt x y f is))
+
+-- the places of a row come before the end
+pub row_within : (size : Size) (frames i n : ℕ) (was : Spot) → was.x + n ≤ size.w → IsSpotAt size frames i was → i < cell_count size → i + n ≤ cell_count size
+row_within size frames i n was le is lt =
+    ⊎_elim
+    (λ (below : i / size.w < size.h * size.f). omega (arith, whole, is.x, le, mul-le-mul_left size.w (more below)))
+    (λ past. absurd (omega (arith, whole, lt, mul-le-mul_left size.w past)))
+    (cases_lt (i / size.w) (size.h * size.f))
+  where
+    whole : i / size.w * size.w + i % size.w ≡ i
+    whole = div-add-mod' i size.w
+
+    more : i / size.w < size.h * size.f → i / size.w + 1 ≤ size.h * size.f
+    more below = omega (arith, below)

@@ -1,11 +1,11 @@
 // Lists of placements, walked by index.
-ghost use Rattle.std.specs.Prelude.{◌≡◌, ◌≤◌, ◌<◌, ◌+◌, ◌*◌, ◌^◌, Some, length, slice_get, pos};
+ghost use Rattle.std.specs.Prelude.{◌≡◌, ◌≤◌, ◌<◌, ◌+◌, ◌*◌, ◌^◌, ℕ, Some, length, slice_get, pos};
 ghost use Rattle.cells.specs.Cells.{sizes_of};
 ghost use Rattle.cells.specs.Places.{IsInside, IsSmall, cell_count, place_of, spot};
 ghost use Rattle.cells.specs.SizeLists.{frames_to_part};
 ghost use Rattle.patch_place.specs.Axes.{at_least_0};
 ghost use Rattle.patch_place.specs.Lists.{IsWithin, first_half, from_part, laid, listed, placed, room};
-ghost use Rattle.patch_place.specs.Counts.{AreVolumeParts, FitsCount, IsBelowSize, IsNearFrame, IsNextSpot, IsOverParts, all_entries, entries_in, steps_in};
+ghost use Rattle.patch_place.specs.Counts.{AreVolumeParts, FitsCount, IsBelowSize, IsNearFrame, IsNextSpot, IsOverParts, IsSpotAt, all_entries, entries_in, steps_in};
 
 use crate::axis::{Span, count_of, laid_on};
 use cells::{At, Box3, Size, Sizes, Volume};
@@ -95,6 +95,26 @@ impl Spot {
             y: 0,
             f: f + 1,
         }
+    }
+
+    // The place so many after this one in raster order, where all places before it are in this one's row.
+    pub(crate) fn after(self, size: Size, n: u32) -> Spot
+        requires rows { (1 ≤ size.w) × (1 ≤ size.h) }
+        requires some { 1 ≤ n }
+        requires row { self.x + n ≤ size.w }
+        requires x { self.x + n ≤ 2 ^ 31 }
+        requires y { self.y < 2 ^ 31 }
+        requires f { self.f < 2 ^ 31 }
+        ensures { (frames i : ℕ) → IsSpotAt size frames i self
+            → IsSpotAt size frames (i + n) result }
+    {
+        let Spot { x, y, f } = self;
+        let last = Spot {
+            x: x + (n - 1),
+            y,
+            f,
+        };
+        last.next(size)
     }
 }
 

@@ -20,7 +20,7 @@ use crate::hints::least_hint;
 use crate::reach::{counts_for, rows_for};
 use crate::shortlist::Shortlist;
 use crate::skips::Skips;
-use block_sums::{BoxLevels, Eliminated, SampleSums};
+use block_sums::{BoxLevels, SampleSums};
 use cells::{Box3, Sizes, Volume};
 use map_canvas::{Canvas, Placement};
 use match_error::{Error, FilledCounts, FilledRows, FilledRuns, error_sum_within, filled_count};
@@ -81,13 +81,11 @@ impl Shortlist {
         }
     }
 
-    // One more candidate of a box that has so many filled cells, which isn't summed where the run has it
-    // as eliminated; else the sum is left unfinished where it passes the limit. Gives the limit of the
-    // next one.
+    // One more candidate of a box that has so many filled cells, whose sum is left unfinished where it
+    // passes the limit. Gives the limit of the next one.
     fn add_filled(
         &mut self,
         runs: &FilledRuns,
-        run: &Eliminated,
         canvas: &Canvas,
         sample: &Volume,
         placement: &Placement,
@@ -97,7 +95,6 @@ impl Shortlist {
         requires over { StandsOver canvas.now sample.now }
         requires fits { Fits canvas.now.map.size sample.now placement.now }
         requires runs { AreFilledRuns canvas.now placement.now.rect runs.now }
-        requires run { AreEliminated canvas.now sample.now placement.now.rect run.now }
         requires count { count ≡ filled_cells canvas.now.map placement.now.rect }
         requires filled { 1 ≤ count }
         requires low { IsLow (error_of canvas.now.map sample.now placement.now) }
@@ -112,10 +109,6 @@ impl Shortlist {
         ensures known { self.new.known ≡ self.old.known }
         ensures seen { OnOk result (self.new.seen ≡ self.old.seen + 1) }
     {
-        if run.has(placement.from, limit) {
-            self.skip();
-            return Ok(limit);
-        }
         match runs.error_sum_within(canvas, sample, placement, limit) {
             Some(sum) => {
                 self.keep(&Error { sum, count })?;
@@ -172,14 +165,24 @@ impl Shortlist {
         };
         let mut limit = self.limit_for(count);
         let mut skips = Skips::none();
-        'entries: for _ in 0..place_count(free) {
+        let all = place_count(free);
+        let mut done = 0;
+        'entries: while done < all {
             let placement = Placement {
                 rect: *rect,
                 from: spot.place(),
             };
             skips.go_to(levels, canvas, sample, sums, &placement, n, limit);
-            limit = self.add_filled(runs, &skips.run, canvas, sample, &placement, count, limit)?;
+            let gone = skips.count_from(placement.from, limit).min(free.w - spot.x);
+            if gone > 0 {
+                self.pass(gone);
+                spot = spot.after(free, gone);
+                done += gone;
+                continue 'entries;
+            }
+            limit = self.add_filled(runs, canvas, sample, &placement, count, limit)?;
             spot = spot.next(free);
+            done += 1;
         }
         Ok(())
     }

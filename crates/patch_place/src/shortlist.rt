@@ -98,6 +98,16 @@ impl Shortlist {
         self.seen += 1;
     }
 
+    /// So many more candidates, which are never eligible.
+    pub(crate) fn pass(&mut self, n: u32)
+        requires few { self.old.seen + n < 2 ^ 32 }
+        requires sound { IsSoundShortlist self.old }
+        ensures passed { self.new ≡ record self.old { seen = self.old.seen + n } }
+        ensures sound { IsSoundShortlist self.new }
+    {
+        self.seen += n;
+    }
+
     /// One more candidate, which has filled cells.
     pub(crate) fn keep(&mut self, error: &Error) -> Result<(), AllocError>
         requires few { self.old.seen + 1 < 2 ^ 32 }

@@ -1,12 +1,14 @@
 // Candidates of a box that a walk leaves out, by the sums of the sample's blocks.
+ghost use Rattle.std.specs.Prelude.{◌≡◌, ◌<◌, ℕ};
 ghost use Rattle.cells.specs.declared.place.Box3.{Box3};
 ghost use Rattle.cells.specs.Boxes.{HoldsBox};
 ghost use Rattle.cells.specs.Cells.{Cells};
 ghost use Rattle.map_canvas.specs.Canvases.{CanvasState, StandsOver};
-ghost use Rattle.block_sums.specs.Eliminations.{AreBoxLevels, AreEliminated, AreSampleSums};
+ghost use Rattle.block_sums.specs.Bounds.{place_along};
+ghost use Rattle.block_sums.specs.Eliminations.{AreBoxLevels, AreEliminated, AreSampleSums, IsEliminated};
 
 use block_sums::{BoxLevels, Eliminated, LANES, SampleSums};
-use cells::Volume;
+use cells::{At, Volume};
 use map_canvas::{Canvas, Placement};
 
 // The most runs that a walk passes over before it tries one again.
@@ -46,10 +48,10 @@ impl Pace {
         true
     }
 
-    // Counts a candidate of the run at hand.
-    fn count(&mut self, gone: bool) {
-        if gone {
-            self.gone = self.gone.saturating_add(1);
+    // Counts so many candidates of the run at hand that were eliminated, or one that was left.
+    fn count(&mut self, gone: u32) {
+        if gone > 0 {
+            self.gone = self.gone.saturating_add(gone as usize);
         } else {
             self.left = self.left.saturating_add(1);
         }
@@ -126,7 +128,6 @@ impl Skips {
             return;
         }
         if self.run.covers(*from) {
-            self.pace.count(self.run.has(*from, limit));
             return;
         }
         if self.pace.rests() {
@@ -136,6 +137,18 @@ impl Skips {
         self.run = levels.eliminate(sums, canvas, sample, rect, part, *from, limit);
         // A run without the place that it begins with is that of no blocks.
         self.serve = self.run.covers(*from);
-        self.pace.count(self.run.has(*from, limit));
+    }
+
+    // How many candidates from a place along X on are eliminated for a limit, one after another.
+    pub(crate) fn count_from(&mut self, from: At, limit: u64) -> u32
+        ensures run { self.new.run ≡ self.old.run }
+        ensures gone { (j : ℕ) → j < result
+            → IsEliminated self.old.run (place_along from j) limit }
+    {
+        let gone = self.run.count_from(from, limit);
+        if self.run.covers(from) {
+            self.pace.count(gone);
+        }
+        gone
     }
 }

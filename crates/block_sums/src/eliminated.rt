@@ -84,8 +84,8 @@ impl Eliminated {
         count
     }
 
-    /// How many places along X, from one on, are eliminated for a limit, one after another; none where the
-    /// first of them isn't one of the run's.
+    /// How many places along X, from one on, are eliminated for a limit, which may be less than that of the
+    /// run, one after another; none where the first of them isn't one of the run's.
     pub fn count_from(&self, at: At, limit: u64) -> u32
         ensures { (j : ℕ) → j < result → IsEliminated self.now (place_along at j) limit }
     {
@@ -96,16 +96,5 @@ impl Eliminated {
             return 0;
         };
         self.marked_from(first)
-    }
-
-    /// Whether a place is eliminated for a limit, which may be less than that of the run.
-    pub fn has(&self, at: At, limit: u64) -> bool
-        ensures { IsTrue result → IsEliminated self.now at limit }
-    {
-        let Some(j) = self.index_of(at) else {
-            return false;
-        };
-        let j = j as usize;
-        limit <= self.limit && j < LANES && self.above[j]
     }
 }

@@ -24,7 +24,7 @@ const LIMIT: usize = 1 << 31;
 
 // So many level graphs come before the search. Where they are enough nothing is packed, which would take as
 // long as they do; where they aren't, the search has the less to send.
-const PHASES: u32 = 5;
+const PHASES: u32 = 6;
 
 // The search doesn't come where the network has fewer nodes than this for each level up to that of the sink. Few
 // paths are to be found there, and what a long one leaves makes trees slow.

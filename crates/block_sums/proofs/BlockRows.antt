@@ -16,7 +16,7 @@ use Rattle.box_sums.proofs.Axes.{sum_equal}
 use Rattle.match_error.proofs.RowPlaces.{have_samples, row_in_volume}
 use Rattle.match_error.proofs.Runs.{HaveSamples, length-run, run, run_more}
 use Rattle.block_sums.specs.Blocks.{block_bytes, block_sum}
-use Rattle.block_sums.specs.Sums.{AreAdded, AreCellSums, AreEntries, stepped_sum}
+use Rattle.block_sums.specs.Sums.{AreAdded, AreCellSums, AreBlockEntries, stepped_sum}
 use Rattle.block_sums.proofs.AddedSums.{stepped_bound}
 
 -- a row of the block, from the block's first
@@ -126,7 +126,7 @@ module _ (sample : Cells) (volume : IsVolume sample) (rect : Box3) (holds : Hold
         turned : (j : ℕ) → (x + w * (y + h * f)) + w * j ≡ x + w * ((y + j) + h * f)
         turned j = omega arith
 
-    pub entries_of_cells : AreEntries sample rect side now
+    pub entries_of_cells : AreBlockEntries sample rect side now
     entries_of_cells = record { long = down.long ∙ along.long ∙ cells.long; each = block_entry }
 
 -- a block has no fewer bytes than a run of its cells

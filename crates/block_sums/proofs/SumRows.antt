@@ -10,7 +10,7 @@ use Rattle.cells.specs.Cells.{Cells}
 use Rattle.cells.specs.Places.{IsSmall}
 use Rattle.cells.proofs.Raster.{below_of_div, in_rows}
 use Rattle.block_sums.specs.declared.sums.TheConstants.{LANES}
-use Rattle.block_sums.specs.Sums.{AreCellSums, AreEntries, ArePut, AreRows, IsCellSum}
+use Rattle.block_sums.specs.Sums.{AreCellSums, AreBlockEntries, ArePut, AreRows, IsCellSum}
 
 module _ (Is : ℕ → ℕ → Type 0) where
   pub none_put : (was : List ℕ) → ArePut Is 0 was was
@@ -124,7 +124,7 @@ module _ (sample : Cells) (rect : Box3) where
       }
 
 -- a box without cells has no entries but the last ones
-pub no_entries : (sample : Cells) (rect : Box3) (side : ℕ) → 1 ≤ side → (HasCells rect.size → ⊥) → AreEntries sample rect side (replicate LANES 0)
+pub no_entries : (sample : Cells) (rect : Box3) (side : ℕ) → 1 ≤ side → (HasCells rect.size → ⊥) → AreBlockEntries sample rect side (replicate LANES 0)
 no_entries sample rect side some none = record {
   long = omega (arith, length-replicate {A = ℕ} LANES 0, (no_cells (λ _ _ _ _. Unit {0}) rect.size none).long);
   each = λ x y f lx ly lf. absurd (none (record { w = omega (arith, lx, some); h = omega (arith, ly, some); f = omega (arith, lf) }));

@@ -58,7 +58,7 @@ pub record AreAdded (step n : ℕ) (was now : List ℕ) : Type 0 where
 
 -- an entry for each place of a box, and enough of them to read a run at the last one: the sum of the
 -- block from there on, where the block lies in the box
-pub record AreEntries (sample : Cells) (rect : Box3) (side : ℕ) (entries : List ℕ) : Type 0 where
+pub record AreBlockEntries (sample : Cells) (rect : Box3) (side : ℕ) (entries : List ℕ) : Type 0 where
   pub long : length entries ≡ cell_count rect.size + LANES
   pub each : (x y f : ℕ) → x + side ≤ rect.size.w → y + side ≤ rect.size.h → f < rect.size.f
       → slice_index entries (raster_index rect.size x y f)

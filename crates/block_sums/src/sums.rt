@@ -3,7 +3,7 @@ ghost use Rattle.std.specs.Prelude.{◌≡◌, ◌≤◌, ◌<◌, ◌+◌, ◌*
 ghost use Rattle.cells.specs.Cells.{Holds, IsVolume};
 ghost use Rattle.cells.specs.Places.{DifferenceFits, IsInside, IsSmall, index_in, minus};
 ghost use Rattle.block_sums.specs.Blocks.{block_bytes};
-ghost use Rattle.block_sums.specs.Sums.{AreAdded, AreBlockSums, AreCellSums, AreEntries, ArePut, AreRows, IsCellSum, stepped_sum};
+ghost use Rattle.block_sums.specs.Sums.{AreAdded, AreBlockSums, AreCellSums, AreBlockEntries, ArePut, AreRows, IsCellSum, stepped_sum};
 
 use crate::lanes::{no_sums, with_run};
 use crate::rows::{byte_sum, has_cells, step_to};
@@ -159,7 +159,7 @@ fn sums_of_cells(
     requires inside { Holds sample.now rect.now.corner rect.now.size }
     requires some { 1 ≤ side }
     requires few { 255 * block_bytes side sample.now.k < 2 ^ 16 }
-    ensures { IfOk result (λ sums. AreEntries sample.now rect.now side sums.items) }
+    ensures { IfOk result (λ sums. AreBlockEntries sample.now rect.now side sums.items) }
 {
     let mut sums = cell_sums(alloc, sample, rect)?;
     add_up(&mut sums, 1, side);
@@ -184,7 +184,7 @@ fn block_sums(
     requires inside { Holds sample.now rect.now.corner rect.now.size }
     requires some { 1 ≤ side }
     requires few { 255 * block_bytes side sample.now.k < 2 ^ 16 }
-    ensures { IfOk result (λ sums. AreEntries sample.now rect.now side sums.items) }
+    ensures { IfOk result (λ sums. AreBlockEntries sample.now rect.now side sums.items) }
 {
     if !has_cells(rect.size) {
         return no_entries(alloc);

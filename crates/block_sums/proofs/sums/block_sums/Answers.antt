@@ -3,15 +3,15 @@ use Rattle.std.proofs.lemmas.Result.{IfOk-weaker}
 use mathlib.Core.Bool.{false≢true}
 use Rattle.cells.proofs.PartBoxes.{held_small}
 use Rattle.block_sums.specs.declared.sums.TheConstants.{LANES}
-use Rattle.block_sums.specs.Sums.{AreEntries}
+use Rattle.block_sums.specs.Sums.{AreBlockEntries}
 use Rattle.block_sums.proofs.SumRows.{no_entries}
 use Rattle.block_sums.proofs.sums.block_sums.Goals as goal
 
 pub returns-then-not-has_cells : goal.returns-then-not-has_cells
 returns-then-not-has_cells c =
-    IfOk-weaker c.no_entries.result (λ sums. sums.items ≡ replicate LANES 0) (λ sums. AreEntries c.args.sample.now c.args.rect.now c.args.side sums.items)
+    IfOk-weaker c.no_entries.result (λ sums. sums.items ≡ replicate LANES 0) (λ sums. AreBlockEntries c.args.sample.now c.args.rect.now c.args.side sums.items)
     (λ sums is.
-    subst (AreEntries c.args.sample.now c.args.rect.now c.args.side) (sym is)
+    subst (AreBlockEntries c.args.sample.now c.args.rect.now c.args.side) (sym is)
     (no_entries c.args.sample.now c.args.rect.now c.args.side c.requires.some (λ some. false≢true (sym c.if-not-has_cells.true ∙ c.has_cells.ensures.1 some))))
     c.no_entries.ensures
 

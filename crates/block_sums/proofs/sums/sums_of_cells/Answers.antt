@@ -1,6 +1,6 @@
 use Rattle.std.proofs.Common.{◌≡◌, ◌∙◌, arith, sym, subst}
 use Rattle.std.proofs.lemmas.List.{take_at, with_items_is}
-use Rattle.block_sums.specs.Sums.{AreAdded, AreCellSums, AreEntries}
+use Rattle.block_sums.specs.Sums.{AreAdded, AreCellSums, AreBlockEntries}
 use Rattle.block_sums.proofs.BlockRows.{column_sums_fit, entries_of_cells, row_sums_fit}
 use Rattle.block_sums.proofs.RowBytes.{rows_near}
 use Rattle.block_sums.proofs.sums.sums_of_cells.Goals as goal
@@ -27,6 +27,6 @@ returns c =
     let sample = c.args.sample.now in
     let rect = c.args.rect.now in
     let mid_is : c.deref_mut-2.result.now ≡ c.add_up.new.entries = c.deref_mut-2.ensures.value ∙ with_items_is c.in_ok-sums.sums c.add_up.new.entries (omega (arith, c.add_up.ensures.long, c.deref_mut.ensures.len)) in
-    subst (AreEntries sample rect c.args.side) (sym (take_at c.add_up-2.new.entries _ c.in_ok-sums.sums.len (omega (arith, c.add_up-2.ensures.long, c.deref_mut-2.ensures.len))))
+    subst (AreBlockEntries sample rect c.args.side) (sym (take_at c.add_up-2.new.entries _ c.in_ok-sums.sums.len (omega (arith, c.add_up-2.ensures.long, c.deref_mut-2.ensures.len))))
     (entries_of_cells sample c.requires.volume rect c.requires.inside c.args.side c.requires.some c.deref_mut.result.now c.deref_mut-2.result.now c.add_up-2.new.entries
     (subst (AreCellSums sample rect) (sym c.deref_mut.ensures.value) c.in_ok-sums.ensures) (subst (AreAdded 1 c.args.side c.deref_mut.result.now) (sym mid_is) c.add_up.ensures) c.add_up-2.ensures)

@@ -8,3 +8,5 @@ pub mod Offsets
 pub mod Entries
 pub mod Tables
 pub mod RowRuns
+pub mod Blocks
+pub mod RowBytes

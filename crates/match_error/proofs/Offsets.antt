@@ -14,10 +14,12 @@ use Rattle.cells.specs.Boxes.{HasCells, HoldsBox}
 use Rattle.cells.specs.Cells.{Cells, Holds, IsVolume, bytes_of, index_of}
 use Rattle.cells.specs.Parts.{HoldsFrom}
 use Rattle.cells.specs.Places.{index_in, plus, raster_index, spot}
-use Rattle.cells.proofs.PartBoxes.{not_before, of_held, run_of_volume}
+use Rattle.cells.proofs.PartBoxes.{held_run, not_before, of_held, run_of_volume}
 use Rattle.cells.proofs.PartLaws.{index_front}
 use Rattle.cells.proofs.Raster.{index_of_spot, index_parts}
+use Rattle.match_error.specs.declared.fronts.Front.{Front}
 use Rattle.match_error.specs.declared.gathered.FilledRun.{FilledRun}
+use Rattle.match_error.specs.LaidRows.{IsFront}
 use Rattle.match_error.specs.Runs.{IsFrontIndex, IsRunIn}
 use Rattle.match_error.proofs.RowPlaces.{have_samples}
 use Rattle.match_error.proofs.RunLists.{run_held}
@@ -110,3 +112,14 @@ module _ (v : Cells) (is : IsVolume v) (rect : Box3) (from : At) (part : Size) (
       let at : index_of v (plus from (spot in_box.x in_box.y in_box.f)) ≡ Some (i + r.offset) = ap (λ step. index_of v (plus from step)) (sym in_box.step) ∙ run_index in
       let held = run_held v from rect.size in_box.x r.w in_box.y in_box.f holds in_box.some in_box.row.columns_in in_box.row.row_in in_box.row.frame_in in
       omega (arith, is.count, run_of_volume v (plus from (spot in_box.x in_box.y in_box.f)) (i + r.offset) r.w at held)
+
+-- and that of a row
+module _ (v : Cells) (is : IsVolume v) (corner : At) (inner : Size) (some : HasCells inner) (holds : Holds v corner inner) (front : Front) (begins : IsFront v corner front) (y f offset : ℕ) (is_offset : offset ≡ raster_index front.part 0 y f) (ly : y < inner.h) (lf : f < inner.f) where
+  pub row_index : index_of v (plus corner (spot 0 y f)) ≡ Some (front.index + offset)
+  row_index =
+      index_front v.size v.more (plus corner (spot 0 y f)) (front.index + raster_index v.size 0 y f)
+      (front_spot v.size corner inner front.index 0 y f (in_front v corner inner front.index some holds begins.index) begins.index (omega (arith, some.w)) ly lf)
+      ∙ ap (λ n. Some (front.index + n)) (sym (is_offset ∙ ap (λ (size : Size). raster_index size 0 y f) begins.part))
+
+  pub row_fits : (front.index + offset) + inner.w ≤ length v.cells
+  row_fits = omega (arith, is.count, run_of_volume v (plus corner (spot 0 y f)) (front.index + offset) inner.w row_index (held_run v corner inner y f holds some.w ly lf))

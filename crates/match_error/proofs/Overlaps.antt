@@ -50,7 +50,7 @@ unfilled_error m sample placement x y f not = by (map_at m (box_spot placement.r
     by (Some from) none = absurd (none refl)
 
 module _ (canvas : CanvasState) (sample : Cells) (placement : Placement) (is : IsCanvas canvas) (volume : IsVolume sample) (stands : StandsOver canvas sample) (fits : Fits canvas.map.size sample placement) (y f : ℕ) (ly : y < placement.rect.size.h) (lf : f < placement.rect.size.f) where
-  picture_count : length canvas.picture.cells ≡ cell_count canvas.map.size
+  pub picture_count : length canvas.picture.cells ≡ cell_count canvas.map.size
   picture_count = is.picture.count ∙ ap (count_from canvas.picture.size) is.part ∙ ap cell_count is.size
 
   pub in_output : IsRow canvas.map.size placement.rect.corner placement.rect.size.w y f

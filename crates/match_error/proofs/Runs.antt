@@ -41,7 +41,7 @@ length-zip [] ys same = refl
 length-zip (x ∷ xs) [] same = absurd (omega arith)
 length-zip (x ∷ xs) (y ∷ ys) same = ap suc (length-zip xs ys (omega arith))
 
-masked-append : (a a' b b' m m' : List ℕ) → length a ≡ length b → length a ≡ length m
+pub masked-append : (a a' b b' m m' : List ℕ) → length a ≡ length b → length a ≡ length m
     → masked_sum_of_squared_differences (a ++ a') (b ++ b') (m ++ m') ≡ masked_sum_of_squared_differences a b m + masked_sum_of_squared_differences a' b' m'
 masked-append a a' b b' m m' same mask =
     ap (λ pairs. sum_by masked_squared_difference (zip pairs (m ++ m'))) (zip-append a a' b b' same)
@@ -80,7 +80,7 @@ masked_by_ones (suc k) (x ∷ a) (y ∷ b) long =
     ∙ ap (λ s. squared_difference (x, y) + s) (masked_by_ones k a b (omega arith))
     ∙ sym (sum_by-cons squared_difference (x, y) (zip a b))
 
-ssd-append : (a a' b b' : List ℕ) → length a ≡ length b → sum_of_squared_differences (a ++ a') (b ++ b') ≡ sum_of_squared_differences a b + sum_of_squared_differences a' b'
+pub ssd-append : (a a' b b' : List ℕ) → length a ≡ length b → sum_of_squared_differences (a ++ a') (b ++ b') ≡ sum_of_squared_differences a b + sum_of_squared_differences a' b'
 ssd-append a a' b b' same = ap (sum_by squared_difference) (zip-append a a' b b' same) ∙ sum_by-append squared_difference (zip a b) (zip a' b')
 
 -- the sum over two runs of cells of k samples is that of each two cells, added up

@@ -2,3 +2,4 @@ pub mod Errors
 pub mod Runs
 pub mod Tables
 pub mod Rows
+pub mod LaidRows

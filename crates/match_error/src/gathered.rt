@@ -9,6 +9,7 @@ ghost use Rattle.map_canvas.specs.Maps.{IsFilled};
 ghost use Rattle.match_error.specs.Errors.{error_sum};
 ghost use Rattle.match_error.specs.Runs.{AddsFrame, AddsRow, AddsRun, AreFilledRuns, AreRunsIn, IsFrontIndex, IsInRow, IsRunIn, run_error};
 
+use crate::fronts::{cells_from, first_size, offset_in};
 use crate::rows::step_to;
 use cells::{At, Box3, GREATEST_AXIS, Size, Volume};
 use lane_kernels::ssd;
@@ -52,38 +53,6 @@ pub(crate) fn filled_from(canvas: &Canvas, at: At, most: u32) -> u32
         n += 1;
     }
     n
-}
-
-// How many cells three counts lead on, in a part of a size.
-fn offset_in(part: Size, x: u32, y: u32, f: u32) -> usize
-    requires axes { HasAxes part }
-    requires counts { (x < GREATEST_AXIS) × (y < GREATEST_AXIS) × (f < GREATEST_AXIS) }
-    ensures { result ≡ raster_index part x y f }
-{
-    x as usize + part.w as usize * (y as usize + part.h as usize * f as usize)
-}
-
-// The size of a sample's first part.
-fn first_size(sample: &Volume) -> Size
-    ensures size { result ≡ sample.now.size }
-    ensures small { IsSmall result }
-{
-    // It is asked for only to show the check that the sample is a volume.
-    let _sample = sample.samples();
-    sample.sizes().at(1)
-}
-
-// The bytes of n cells of a sample from an index on.
-fn cells_from(sample: &Volume, i: usize, n: u32) -> &[u8]
-    requires { i + n ≤ length sample.now.cells }
-    ensures bytes { result.now ≡ run_from sample.now.cells n (Some i) }
-    ensures len { length result.now ≡ sample.now.k * n }
-{
-    let k = sample.samples() as usize;
-    let bytes = sample.bytes();
-    let start = k * i;
-    let len = k * n as usize;
-    &bytes[start..start + len]
 }
 
 impl FilledRuns {

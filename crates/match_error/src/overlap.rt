@@ -4,15 +4,18 @@ ghost use Rattle.cells.specs.Places.{IsSmall};
 ghost use Rattle.map_canvas.specs.Canvases.{StandsOver};
 ghost use Rattle.map_canvas.specs.Choices.{Fits, box_count};
 ghost use Rattle.match_error.specs.Errors.{error_of, error_sum, frame_error, most_frame_error, most_row_error, row_error, spot_error};
+ghost use Rattle.match_error.specs.LaidRows.{AreFronts, AreRowBytes};
 ghost use Rattle.match_error.specs.Rows.{AreFilledRows, AreLaidRuns, IsInset, IsLaidRun, column_in, run_part};
 ghost use Rattle.box_sums.specs.Sums.{sum_to};
 
+use crate::bytes::squared_differences;
 use crate::counts::filled_count;
 use crate::filled_rows::{Inset, RowRun};
-use crate::rows::{row_start, step_to};
+use crate::fronts::{Fronts, box_row, fronts_of};
+use crate::rows::row_start;
 use crate::{Error, FilledRows};
-use cells::Volume;
-use lane_kernels::{ssd, ssd_masked};
+use cells::{Box3, Volume};
+use lane_kernels::ssd_masked;
 use map_canvas::{Canvas, Placement};
 
 // The sum over a row of the box, of all its cells by their marks.
@@ -44,7 +47,7 @@ fn column_in(x: u32, w: u32, column: u32) -> u32
 }
 
 // The sum over those cells of a run of filled cells that a row of the box has, where the row begins at
-// column x of the run's.
+// column x of the run's. These are the bytes of the row, and those that would come there.
 fn run_sum(
     run: &RowRun,
     x: u32,
@@ -53,33 +56,33 @@ fn run_sum(
     placement: &Placement,
     y: u32,
     f: u32,
+    old: &[u8],
+    new: &[u8],
 ) -> u64
     requires run { IsLaidRun canvas.now.map placement.now.rect x y f run.now }
+    requires bytes { AreRowBytes canvas.now sample.now placement.now y f old.now new.now }
     requires over { StandsOver canvas.now sample.now }
     requires fits { Fits canvas.now.map.size sample.now placement.now }
     requires counts { (y < placement.now.rect.size.h) × (f < placement.now.rect.size.f) }
     ensures { result ≡ run_part (λ i. spot_error canvas.now.map sample.now placement.now i y f)
         x placement.now.rect.size.w run.now }
 {
-    // It is asked for only to show the check that the sample is a volume.
-    let _sample = sample.samples();
-    let picture = canvas.picture();
+    // It is asked for only to show the check that this is a canvas.
+    let _picture = canvas.picture();
     let w = placement.rect.size.w;
     let first = column_in(x, w, run.first);
     let end = column_in(x, w, run.end);
     if first < end {
-        let n = end - first;
-        let step = step_to(first, y, f);
-        let at = placement.rect.corner.plus(step);
-        let from = placement.from.plus(step);
-        let old = picture.row(at, n);
-        let new = sample.row(from, n);
-        return ssd(old, new);
+        let k = sample.samples();
+        let start = (k * first) as usize;
+        let stop = (k * end) as usize;
+        return squared_differences(&old[start..stop], &new[start..stop]);
     }
     0
 }
 
-// The sum over a row of the box, which begins at column x of a row of runs.
+// The sum over a row of the box, which begins at column x of a row of runs. These are the bytes of the row,
+// and those that would come there.
 fn runs_sum(
     runs: &[RowRun],
     x: u32,
@@ -88,8 +91,11 @@ fn runs_sum(
     placement: &Placement,
     y: u32,
     f: u32,
+    old: &[u8],
+    new: &[u8],
 ) -> u64
     requires runs { AreLaidRuns canvas.now.map placement.now.rect x y f runs.now }
+    requires bytes { AreRowBytes canvas.now sample.now placement.now y f old.now new.now }
     requires over { StandsOver canvas.now sample.now }
     requires fits { Fits canvas.now.map.size sample.now placement.now }
     requires counts { (y < placement.now.rect.size.h) × (f < placement.now.rect.size.f) }
@@ -101,7 +107,7 @@ fn runs_sum(
     let _sample = sample.samples();
     let mut sum: u64 = 0;
     'runs: for run in runs {
-        sum += run_sum(run, x, canvas, sample, placement, y, f);
+        sum += run_sum(run, x, canvas, sample, placement, y, f, old, new);
     }
     sum
 }
@@ -110,6 +116,7 @@ fn runs_sum(
 fn row_sum(
     rows: Option<&FilledRows>,
     inset: Inset,
+    fronts: Fronts,
     canvas: &Canvas,
     sample: &Volume,
     placement: &Placement,
@@ -118,6 +125,7 @@ fn row_sum(
 ) -> u64
     requires filled { IfSome rows (λ rows. AreFilledRows canvas.now.map rows.now) }
     requires inset { IfSome rows (λ rows. IsInset rows.now.rect placement.now.rect inset) }
+    requires fronts { AreFronts canvas.now sample.now placement.now fronts }
     requires over { StandsOver canvas.now sample.now }
     requires fits { Fits canvas.now.map.size sample.now placement.now }
     requires counts { (y < placement.now.rect.size.h) × (f < placement.now.rect.size.f) }
@@ -126,7 +134,10 @@ fn row_sum(
 {
     if let Some(rows) = rows {
         let runs = rows.runs_of(canvas, &placement.rect, inset, y, f);
-        return runs_sum(runs, inset.x, canvas, sample, placement, y, f);
+        let Box3 { corner, size } = placement.rect;
+        let old = box_row(canvas.picture(), fronts.old, corner, size, y, f);
+        let new = box_row(sample, fronts.new, placement.from, size, y, f);
+        return runs_sum(runs, inset.x, canvas, sample, placement, y, f, old, new);
     }
     marked_row_sum(canvas, sample, placement, y, f)
 }
@@ -136,6 +147,7 @@ fn row_sum(
 fn with_frame(
     rows: Option<&FilledRows>,
     inset: Inset,
+    fronts: Fronts,
     canvas: &Canvas,
     sample: &Volume,
     placement: &Placement,
@@ -145,6 +157,7 @@ fn with_frame(
 ) -> Option<u64>
     requires filled { IfSome rows (λ rows. AreFilledRows canvas.now.map rows.now) }
     requires inset { IfSome rows (λ rows. IsInset rows.now.rect placement.now.rect inset) }
+    requires fronts { AreFronts canvas.now sample.now placement.now fronts }
     requires over { StandsOver canvas.now sample.now }
     requires fits { Fits canvas.now.map.size sample.now placement.now }
     requires small { IsSmall placement.now.rect.size }
@@ -160,7 +173,7 @@ fn with_frame(
 {
     let mut sum = before;
     for y in 0..placement.rect.size.h {
-        sum += row_sum(rows, inset, canvas, sample, placement, y, f);
+        sum += row_sum(rows, inset, fronts, canvas, sample, placement, y, f);
         if sum > limit {
             return None;
         }
@@ -190,9 +203,12 @@ fn box_sum_within(
     // They are asked for only to show the check that these are a map and a volume.
     let _map = canvas.map();
     let _sample = sample.samples();
+    let fronts = fronts_of(canvas, sample, placement);
     let mut sum: u64 = 0;
     for f in 0..placement.rect.size.f {
-        sum = with_frame(rows, inset, canvas, sample, placement, f, sum, limit)?;
+        sum = with_frame(
+            rows, inset, fronts, canvas, sample, placement, f, sum, limit,
+        )?;
     }
     Some(sum)
 }

@@ -3,7 +3,7 @@ use Rattle.std.specs.Prelude.{List, Some}
 use Rattle.cells.specs.declared.place.Size.{Size}
 use Rattle.cells.specs.Places.{IsSmall}
 use Rattle.cells.specs.SizeLists.{size_of_part}
-use Rattle.match_error.proofs.gathered.first_size.Goals as goal
+use Rattle.match_error.proofs.fronts.first_size.Goals as goal
 
 same_some : (x y : Size) → Some x ≡ Some y → x ≡ y
 same_some x y e = cc

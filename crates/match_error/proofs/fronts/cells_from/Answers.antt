@@ -1,6 +1,6 @@
 use Rattle.std.proofs.Common.{◌≡◌, ◌+◌, ◌-◌, ◌*◌, ◌∙◌, ap, length, take, drop, arith}
 use Rattle.match_error.proofs.Offsets.{few_bytes, run_in_volume, within_bytes}
-use Rattle.match_error.proofs.gathered.cells_from.Goals as goal
+use Rattle.match_error.proofs.fronts.cells_from.Goals as goal
 
 pub overflow_mul-start : goal.overflow_mul-start
 overflow_mul-start c = omega (arith, ap (λ k. k * c.args.i) c.samples-k.ensures.samples, few_bytes c.args.sample.now c.samples-k.ensures.volume c.args.i (omega (arith, c.requires)))

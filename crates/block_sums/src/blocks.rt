@@ -11,6 +11,9 @@ use cells::{At, Box3, GREATEST_AXIS, MOST_SAMPLES, Size, Volume};
 use map_canvas::Canvas;
 use std::alloc::{AllocError, Global};
 
+// The most blocks of a box, so that they never take much memory. Fewer bound the error as well, if by less.
+const MOST_BLOCKS: usize = 1 << 16;
+
 /// A block of filled cells.
 #[derive(Clone, Copy, Drop)]
 pub(crate) struct Block {
@@ -29,8 +32,12 @@ pub struct BoxBlocks {
     pub(crate) blocks: Vec<Block>,
 }
 
-// Of each cell of the box, in raster order, whether it is filled.
-fn filled_cells(alloc: Global, canvas: &Canvas, rect: &Box3) -> Result<Vec<bool>, AllocError>
+/// Of each cell of the box, in raster order, whether it is filled.
+pub(crate) fn filled_cells(
+    alloc: Global,
+    canvas: &Canvas,
+    rect: &Box3,
+) -> Result<Vec<bool>, AllocError>
     requires inside { HoldsBox canvas.now.map.size rect.now.corner rect.now.size }
     requires some { HasCells rect.now.size }
     ensures long { IfOk result (λ cells. length cells.items ≡ cell_count rect.now.size) }
@@ -173,7 +180,7 @@ impl BoxBlocks {
         ensures side { self.new.side ≡ self.old.side }
     {
         // Most cells are left here, before any division.
-        if !free[i] {
+        if !free[i] || self.blocks.as_slice().len() >= MOST_BLOCKS {
             return Ok(());
         }
         if !has_room(rect.size, i, self.side) {
@@ -186,9 +193,40 @@ impl BoxBlocks {
         self.add_block(free, canvas, rect, i)
     }
 
-    /// Blocks of so many cells on each side, as they come in raster order. They take 16 bytes a
-    /// block, and a byte for each cell of the box while they are gathered. The one error is out of
-    /// memory.
+    /// Blocks of so many cells on each side, as they come in raster order, of the filled cells of a box with
+    /// cells, which are marked. They take 16 bytes a block, and a byte for each cell of the box while
+    /// they are gathered. The one error is out of memory.
+    pub(crate) fn gather_of(
+        alloc: Global,
+        canvas: &Canvas,
+        rect: &Box3,
+        side: u32,
+        filled: &[bool],
+    ) -> Result<BoxBlocks, AllocError>
+        requires inside { HoldsBox canvas.now.map.size rect.now.corner rect.now.size }
+        requires cells { HasCells rect.now.size }
+        requires some { 1 ≤ side }
+        requires few { 255 * block_bytes side canvas.now.picture.k < 2 ^ 16 }
+        requires long { length filled.now ≡ cell_count rect.now.size }
+        requires filled { MarkFilled canvas.now.map rect.now filled.now }
+        ensures blocks { IfOk result (AreBoxBlocks canvas.now rect.now) }
+        ensures side { IfOk result (λ blocks. blocks.side ≡ side) }
+    {
+        // It is asked for only to show the check that this is a canvas.
+        let _picture = canvas.picture();
+        let mut blocks = BoxBlocks {
+            side,
+            blocks: Vec::new(alloc),
+        };
+        let mut free = Vec::from_slice(alloc, filled)?;
+        for i in 0..rect.size.cells() {
+            blocks.add_from(&mut free, canvas, rect, i)?;
+        }
+        Ok(blocks)
+    }
+
+    /// The same, of the filled cells of any box. They take two bytes for each cell of the box while they
+    /// are gathered.
     pub fn gather(
         alloc: Global,
         canvas: &Canvas,
@@ -201,19 +239,11 @@ impl BoxBlocks {
         ensures blocks { IfOk result (AreBoxBlocks canvas.now rect.now) }
         ensures side { IfOk result (λ blocks. blocks.side ≡ side) }
     {
-        // It is asked for only to show the check that this is a canvas.
-        let _picture = canvas.picture();
-        let mut blocks = BoxBlocks {
-            side,
-            blocks: Vec::new(alloc),
-        };
         if !has_cells(rect.size) {
-            return Ok(blocks);
+            let blocks = Vec::new(alloc);
+            return Ok(BoxBlocks { side, blocks });
         }
-        let mut free = filled_cells(alloc, canvas, rect)?;
-        for i in 0..rect.size.cells() {
-            blocks.add_from(&mut free, canvas, rect, i)?;
-        }
-        Ok(blocks)
+        let filled = filled_cells(alloc, canvas, rect)?;
+        BoxBlocks::gather_of(alloc, canvas, rect, side, &filled)
     }
 }

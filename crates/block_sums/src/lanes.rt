@@ -105,14 +105,15 @@ pub(crate) fn marks_of_both(some: &[bool; LANES], others: &[bool; LANES]) -> [bo
     marks
 }
 
-/// Whether the first n lanes are marked. It only says when to stop, so nothing is promised.
-pub(crate) fn are_marked(marks: &[bool; LANES], n: u32) -> bool {
+/// How many of the first n lanes aren't marked. It only says when to stop, so nothing is promised.
+pub(crate) fn left_in(marks: &[bool; LANES], n: u32) -> u32 {
+    let mut left = 0;
     for j in 0..LANES {
         if j < n as usize && !marks[j] {
-            return false;
+            left += 1;
         }
     }
-    true
+    left
 }
 
 /// The sums of nothing, one a lane.

@@ -1,27 +1,44 @@
 // Blocks of several sizes, of a whole sample and of one box of the output.
 ghost use Rattle.std.specs.Prelude.{◌≡◌, ◌≤◌, ◌<◌, ◌*◌, ◌^◌, IfOk, OnOk, length};
-ghost use Rattle.cells.specs.Boxes.{HoldsBox};
+ghost use Rattle.cells.specs.Boxes.{HasCells, HoldsBox};
 ghost use Rattle.cells.specs.Cells.{Cells, sizes_of};
+ghost use Rattle.cells.specs.Places.{cell_count};
 ghost use Rattle.map_canvas.specs.Canvases.{StandsOver};
 ghost use Rattle.block_sums.specs.Blocks.{AreBoxBlocks, block_bytes};
 ghost use Rattle.block_sums.specs.Bounds.{AreAbove};
 ghost use Rattle.block_sums.specs.Eliminations.{AreBoxLevels, AreEliminated, AreSampleSums};
+ghost use Rattle.block_sums.specs.Gathered.{MarkFilled};
 ghost use Rattle.block_sums.specs.Sums.{AreBlockSums};
 
-use crate::blocks::BoxBlocks;
+use crate::blocks::{BoxBlocks, filled_cells};
 use crate::eliminated::Eliminated;
-use crate::lanes::{are_marked, marks_of_both};
+use crate::lanes::{left_in, marks_of_both};
 use crate::places::{holds_run, places_to_end};
+use crate::rows::has_cells;
 use crate::sums::{BlockSums, LANES};
-use cells::{At, Box3, MOST_SAMPLES, Sizes, Volume};
+use cells::{At, Box3, MOST_SAMPLES, Size, Sizes, Volume};
 use map_canvas::Canvas;
 use std::alloc::{AllocError, Global};
 
-// How many sizes of blocks there are: the coarse level, then the fine one.
-const LEVELS: usize = 2;
+// How many sizes of blocks there are: the coarse level, the fine one, and that of single cells.
+const LEVELS: usize = 3;
 
 // The cells of a block of the fine level on each side.
 const FINE_SIDE: u32 = 2;
+
+// That of single cells, each of which is a block. Its sums are those of a cell's samples.
+const SINGLE_SIDE: u32 = 1;
+
+// The most bytes of a sample whose single cells have sums: those of a greater sample would take half as
+// much memory again as the sums of the other levels.
+const MOST_SINGLE_BYTES: usize = 1 << 22;
+
+// The most places of a run for which the fine level isn't tried: that takes about as long as to sum up so
+// many errors.
+const FEW_FOR_FINE: u32 = 1;
+
+// The same for single cells, of which there are four times as many.
+const FEW_FOR_SINGLE: u32 = 8;
 
 // The cells of a block of the coarse level on each side: not so many that the bytes of a block can
 // add up to 2^16.
@@ -34,6 +51,18 @@ fn coarse_side(k: u32) -> u32
         return 8;
     }
     6
+}
+
+// The box whose single cells have sums, of that of a part: all of it, or no cell of it where the sample is
+// too great.
+fn single_box(sample: &Volume, part: &Box3) -> Box3 {
+    if sample.bytes().len() <= MOST_SINGLE_BYTES {
+        return *part;
+    }
+    Box3 {
+        corner: part.corner,
+        size: Size { w: 0, h: 0, f: 0 },
+    }
 }
 
 // The box of a part in the joined volume, by its number from 1.
@@ -92,11 +121,13 @@ impl SampleSums {
     {
         let side = coarse_side(sample.samples());
         self.add_level(alloc, sample, rect, side)?;
-        self.add_level(alloc, sample, rect, FINE_SIDE)
+        self.add_level(alloc, sample, rect, FINE_SIDE)?;
+        self.add_level(alloc, sample, &single_box(sample, rect), SINGLE_SIDE)
     }
 
-    /// The sums of all parts of a sample. They take 4 bytes a cell and some more a part, and no more
-    /// while they are made. The one error is out of memory.
+    /// The sums of all parts of a sample. They take 6 bytes a cell, or 4 where the sample has more than
+    /// 2^22 bytes, and some more a part; and no more while they are made. The one error is out of
+    /// memory.
     pub fn make(alloc: Global, sample: &Volume) -> Result<SampleSums, AllocError>
         ensures { IfOk result (AreSampleSums sample.now) }
     {
@@ -153,14 +184,18 @@ impl BoxLevels {
         canvas: &Canvas,
         rect: &Box3,
         side: u32,
+        filled: &[bool],
     ) -> Result<(), AllocError>
         requires inside { HoldsBox canvas.now.map.size rect.now.corner rect.now.size }
+        requires cells { HasCells rect.now.size }
         requires some { 1 ≤ side }
         requires few { 255 * block_bytes side canvas.now.picture.k < 2 ^ 16 }
+        requires long { length filled.now ≡ cell_count rect.now.size }
+        requires filled { MarkFilled canvas.now.map rect.now filled.now }
         requires levels { AreBoxLevels canvas.now rect.now self.old }
         ensures { OnOk result (AreBoxLevels canvas.now rect.now self.new) }
     {
-        let blocks = BoxBlocks::gather(alloc, canvas, rect, side)?;
+        let blocks = BoxBlocks::gather_of(alloc, canvas, rect, side, filled)?;
         self.levels.push(blocks)?;
         Ok(())
     }
@@ -179,12 +214,14 @@ impl BoxLevels {
         let mut levels = BoxLevels {
             levels: Vec::new(alloc),
         };
-        if sums.levels.is_empty() {
+        if sums.levels.is_empty() || !has_cells(rect.size) {
             return Ok(levels);
         }
+        let filled = filled_cells(alloc, canvas, rect)?;
         let side = coarse_side(canvas.picture().samples());
-        levels.add_level(alloc, canvas, rect, side)?;
-        levels.add_level(alloc, canvas, rect, FINE_SIDE)?;
+        levels.add_level(alloc, canvas, rect, side, &filled)?;
+        levels.add_level(alloc, canvas, rect, FINE_SIDE, &filled)?;
+        levels.add_level(alloc, canvas, rect, SINGLE_SIDE, &filled)?;
         Ok(levels)
     }
 
@@ -218,8 +255,8 @@ impl BoxLevels {
         marks_of(blocks, sums, canvas, sample, rect, from, n, limit)
     }
 
-    // Those that the blocks of one of the levels eliminate. The fine level is left out where the
-    // coarse one marks all places.
+    // Those that the blocks of one of the levels eliminate. A finer level is left out where a coarser one
+    // leaves so few places that their errors are summed up sooner.
     fn marks(
         &self,
         sums: &SampleSums,
@@ -239,11 +276,16 @@ impl BoxLevels {
         ensures { AreAbove canvas.now sample.now rect.now from n limit result }
     {
         let coarse = self.level_marks(0, sums, canvas, sample, rect, part, from, n, limit);
-        if are_marked(&coarse, n) {
+        if left_in(&coarse, n) <= FEW_FOR_FINE {
             return coarse;
         }
         let fine = self.level_marks(1, sums, canvas, sample, rect, part, from, n, limit);
-        marks_of_both(&coarse, &fine)
+        let marks = marks_of_both(&coarse, &fine);
+        if left_in(&marks, n) <= FEW_FOR_SINGLE {
+            return marks;
+        }
+        let single = self.level_marks(2, sums, canvas, sample, rect, part, from, n, limit);
+        marks_of_both(&marks, &single)
     }
 
     /// Of a run of places along X, from one on, those that the box can't be laid from with an error up

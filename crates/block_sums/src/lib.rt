@@ -10,12 +10,12 @@
 //! nothing is said.
 //!
 //! A search over a whole sample goes by `SampleSums`, made once, and `BoxLevels`, gathered once a pick, each
-//! of two sizes of blocks. `BoxLevels::eliminate` gives an `Eliminated`, a run of places of a part of the
-//! sample, which says of each place whether it is ruled out for a limit.
+//! of three sizes of blocks, the last of which is a single cell. `BoxLevels::eliminate` gives an `Eliminated`,
+//! a run of places of a part of the sample, which says of each place whether it is ruled out for a limit.
 //!
 //! `blocks` has the blocks of a box, `sums` the sums of the sample's blocks, `lanes` the sums over a run of
-//! places or of entries at once, `bound` what they rule out, `places` how far a run goes, `levels` the two
-//! sizes together, `eliminated` what a search is told. specs/Blocks.antt defines blocks and what they bound,
+//! places or of entries at once, `bound` what they rule out, `places` how far a run goes, `levels` all sizes
+//! together, `eliminated` what a search is told. specs/Blocks.antt defines blocks and what they bound,
 //! specs/Eliminations.antt what a search may leave out.
 #![tactic(auto)]
 

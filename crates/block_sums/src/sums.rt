@@ -7,7 +7,7 @@ ghost use Rattle.block_sums.specs.Sums.{AreAdded, AreBlockSums, AreCellSums, Are
 
 use crate::lanes::{no_sums, with_run};
 use crate::rows::{byte_sum, has_cells, step_to};
-use cells::{At, Box3, Volume};
+use cells::{At, Box3, Size, Volume};
 use std::alloc::{AllocError, Global};
 use std::simd::prelude::*;
 
@@ -194,6 +194,18 @@ fn block_sums(
     sums_of_cells(alloc, sample, rect, side)
 }
 
+// How many entries come before that of a place, in raster order. The place is inside, and isn't tested for
+// it again.
+#[inline(always)]
+fn entries_before(size: Size, step: At) -> usize
+    requires small { IsSmall size }
+    requires inside { IsInside size step }
+    ensures { index_in size step ≡ Some result }
+{
+    let (x, y, f) = (step.x as usize, step.y as usize, step.f as usize);
+    x + size.w as usize * (y + size.h as usize * f)
+}
+
 impl BlockSums {
     /// The sums of the blocks of a box inside the sample. They take 2 bytes a cell, and no more
     /// while they are made. The one error is out of memory.
@@ -240,7 +252,7 @@ impl BlockSums {
             → result.now ≡ take LANES (drop (first + i) self.now.sums.items) }
         ensures long { length result.now ≡ LANES }
     {
-        let entry = first + self.rect.size.index_of(step).unwrap();
+        let entry = first + entries_before(self.rect.size, step);
         &self.sums[entry..entry + LANES]
     }
 }

@@ -3,7 +3,7 @@ ghost use Rattle.std.specs.Prelude.{IsTrue};
 ghost use Rattle.cells.specs.Boxes.{AxisHolds, HoldsBox};
 
 use super::*;
-use crate::lanes::{are_above, are_marked, marks, marks_of_both, no_sums, with_block};
+use crate::lanes::{are_above, left_in, marks, marks_of_both, no_sums, with_block};
 use cells::{At, Box3, Size, Volume};
 use map_canvas::{Canvas, Placement};
 use std::test::Fail;
@@ -79,7 +79,8 @@ fn marks_of_two_levels(rt: HostRuntime) {
     for (j, mark) in both.iter().enumerate() {
         assert_eq!(rt; *mark, j < 2);
     }
-    assert!(rt; are_marked(&both, 2) && !are_marked(&both, 3));
+    assert_eq!(rt; left_in(&both, 2), 0);
+    assert_eq!(rt; left_in(&both, 5), 3);
 }
 
 // A run of cells lies within one axis.
@@ -129,6 +130,42 @@ fn places_of_a_sample(rt: HostRuntime) -> Result<(), Fail> {
         };
         assert_eq!(rt; run.count_from(at, 64), gone);
         assert_eq!(rt; run.count_from(at, 65), 0);
+    }
+    Ok(())
+}
+
+#[test]
+fn places_told_by_single_cells(rt: HostRuntime) -> Result<(), Fail> {
+    // A board of two colours, on which all blocks of 2x2 cells have the same sum.
+    let mut bytes = [0u8; 40];
+    for i in 0..40 {
+        if i % 2 != i / 20 {
+            bytes[i] = 100;
+        }
+    }
+    let bytes = bytes.to_vec(rt.alloc())?;
+    let sample = Volume::from_bytes(Size { w: 20, h: 2, f: 1 }, 1, bytes);
+    let from = At { x: 0, y: 0, f: 0 };
+    let rect = Box3 {
+        corner: from,
+        size: Size { w: 2, h: 2, f: 1 },
+    };
+    let mut canvas = Canvas::empty(rt.alloc(), rect.size, 1)?;
+    assert!(rt; canvas.render_equals(&sample));
+    assert!(rt; is_inside(&canvas, &rect));
+    assert!(rt; sample.holds(&rect));
+    canvas.put_choice(&sample, &Placement { rect, from }, &[true; 4]);
+    assert!(rt; is_inside(&canvas, &rect));
+
+    let sums = SampleSums::make(rt.alloc(), &sample)?;
+    let levels = BoxLevels::gather(rt.alloc(), &canvas, &rect, &sums)?;
+    let run = levels.eliminate(&sums, &canvas, &sample, &rect, 0, from, 30_000);
+    // Every other place has the colours the other way round, and the error 4 * 100 * 100.
+    for x in 0..20 {
+        let at = At { x, y: 0, f: 0 };
+        assert_eq!(rt; run.covers(at), x < 19);
+        let gone = if x % 2 == 1 && x < 19 { 1 } else { 0 };
+        assert_eq!(rt; run.count_from(at, 30_000), gone);
     }
     Ok(())
 }

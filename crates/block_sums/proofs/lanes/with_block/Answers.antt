@@ -1,4 +1,4 @@
-use Rattle.std.proofs.Common.{◌≡◌, ◌∙◌, ℕ, List, get_or, ap, subst, replicate, take}
+use Rattle.std.proofs.Common.{◌≡◌, ◌∙◌, ℕ, List, get_or, ap, subst, take}
 use Rattle.std.proofs.Common.{◌≤◌, ◌*◌}
 use Rattle.std.specs.Int.{abs_diff}
 use Rattle.std.specs.Simd.Lanes.{zip2}

@@ -1,4 +1,4 @@
-use Rattle.std.proofs.Common.{◌≡◌, ◌<◌, ◌+◌, ◌*◌, ◌^◌, subst, sym, arith}
+use Rattle.std.proofs.Common.{◌<◌, ◌+◌, ◌*◌, ◌^◌, subst, sym, arith}
 use Rattle.block_sums.specs.Blocks.{block_bytes}
 use Rattle.block_sums.proofs.PlaceRuns.{none_marked}
 use Rattle.block_sums.proofs.RunEntries.{above_limit}

@@ -1,20 +1,21 @@
-use Rattle.std.proofs.Common.{◌≤◌, ◌<◌, ◌*◌, ◌^◌, refl, subst, sym}
+use Rattle.std.proofs.Common.{◌≤◌, ◌<◌, ◌*◌, ◌^◌, [], refl, subst, sym}
 use Rattle.cells.proofs.BoxLaws.{box_small}
 use Rattle.block_sums.specs.Blocks.{block_bytes}
 use Rattle.block_sums.specs.Gathered.{AreGathered}
 use Rattle.block_sums.proofs.BlockErrors.{gathered_bound}
 use Rattle.block_sums.proofs.Gatherings.{none_gathered}
-use Rattle.block_sums.proofs.blocks.BoxBlocks.gather.Goals as goal
+use Rattle.block_sums.proofs.blocks.BoxBlocks.gather_of.Goals as goal
 
 pub cells-i-end-requires : goal.cells-i-end-requires
 cells-i-end-requires c =
-    box_small c.args.canvas.now.map.size c.args.rect.now.corner c.args.rect.now.size c.picture-picture.ensures.canvas.map.small (c.has_cells.ensures.0 c.if-not-has_cells.false) c.requires.inside
+    box_small c.args.canvas.now.map.size c.args.rect.now.corner c.args.rect.now.size c.picture-picture.ensures.canvas.map.small c.requires.cells c.requires.inside
 
 pub loop-i-init : goal.loop-i-init
 loop-i-init c = record {
   gathered =
       subst (λ blocks. AreGathered c.args.canvas.now c.args.rect.now c.args.side blocks c.in_ok-free.free.items) (sym c.new.ensures.items)
-      (none_gathered c.args.canvas.now c.args.rect.now c.args.side c.in_ok-free.free.items c.in_ok-free.ensures.long c.in_ok-free.ensures.filled);
+      (subst (AreGathered c.args.canvas.now c.args.rect.now c.args.side []) (sym c.in_ok-free.ensures.items)
+      (none_gathered c.args.canvas.now c.args.rect.now c.args.side c.args.filled.now c.requires.long c.requires.filled));
   side = refl;
 }
 

@@ -1,6 +1,6 @@
 use Rattle.std.proofs.Common.{◌≡◌}
 use Rattle.block_sums.specs.Gathered.{AreGathered}
-use Rattle.block_sums.proofs.blocks.BoxBlocks.gather.Given as goal
+use Rattle.block_sums.proofs.blocks.BoxBlocks.gather_of.Given as goal
 
 abbrev pub invariant-loop-i : goal.invariant-loop-i
 invariant-loop-i l = record {

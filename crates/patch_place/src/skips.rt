@@ -14,6 +14,10 @@ use map_canvas::{Canvas, Placement};
 // The most runs that a walk passes over before it tries one again.
 const MOST_PASSED: usize = 15;
 
+// Of how many candidates that a run leaves nothing follows for the next run: the last run of a row may be
+// as short.
+const FEW_LEFT: usize = 8;
+
 // When a walk tries to eliminate: where runs eliminate little, as in noise, most of them are passed
 // over, so that a walk loses next to nothing by the trying. It only says what to try, so nothing is
 // promised.
@@ -58,9 +62,9 @@ impl Pace {
     }
 
     // Whether runs are passed over after the one at hand: where it left more than half of its places,
-    // and each time in a row more of them.
+    // and more than a few; and each time in a row more of them.
     fn rests(&mut self) -> bool {
-        let rests = self.left > self.gone;
+        let rests = self.left > self.gone && self.left > FEW_LEFT;
         if rests {
             self.passed = self
                 .passed

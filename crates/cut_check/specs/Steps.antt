@@ -76,15 +76,15 @@ pub record IsLaid (m : SourceMap) (placement : Placement) (x y f : ℕ) (laid : 
 
 -- both neighbours along an axis of n cells, of the cell so many cells from the corner of a run, are
 -- cells of the run or off the axis
-pub record IsInnerAlong (n : ℕ) (corner : ℤ) (len count : ℕ) : Type 0 where
+pub record IsEnclosedAlong (n : ℕ) (corner : ℤ) (len count : ℕ) : Type 0 where
   pub back : (1 ≤ count) ⊎ (corner +ℤ pos count ≡ pos 0)
   pub ahead : (count + 1 < len) ⊎ (pos n ≤ℤ (corner +ℤ pos (count + 1)))
 
 -- all neighbours of the cell of a box are cells of the box or outside the output
-pub record IsInner (output : Size) (rect : Box3) (x y f : ℕ) : Type 0 where
-  pub on_x : IsInnerAlong output.w rect.corner.x rect.size.w x
-  pub on_y : IsInnerAlong output.h rect.corner.y rect.size.h y
-  pub on_f : IsInnerAlong output.f rect.corner.f rect.size.f f
+pub record IsEnclosed (output : Size) (rect : Box3) (x y f : ℕ) : Type 0 where
+  pub on_x : IsEnclosedAlong output.w rect.corner.x rect.size.w x
+  pub on_y : IsEnclosedAlong output.h rect.corner.y rect.size.h y
+  pub on_f : IsEnclosedAlong output.f rect.corner.f rect.size.f f
 
 -- something holds of each axis
 abbrev pub EachAxis : (Axis → Type 0) → Type 0

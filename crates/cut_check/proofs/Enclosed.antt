@@ -14,7 +14,7 @@ use Rattle.map_canvas.specs.Maps.{SourceMap}
 use Rattle.map_canvas.proofs.Keeping.{filled_inside, meets_third}
 use Rattle.box_walk.specs.Pairs.{AreCounts, cell_in}
 use Rattle.box_walk.proofs.Cells.{cell_inside, next_x, next_y, next_f}
-use Rattle.cut_check.specs.Steps.{IsInner}
+use Rattle.cut_check.specs.Steps.{IsEnclosed}
 use Rattle.cut_check.proofs.PairBounds.{step_back}
 
 -- a coordinate past an axis, or before it, is none of the axis
@@ -27,7 +27,7 @@ before n c z corner on e first = omega (arith, ints, on_axis_bounds n z on, e, f
 one_less : (c : ℕ) → 1 ≤ c → (c - 1) + 1 ≡ c
 one_less c some = omega arith
 
-module _ (m : SourceMap) (rect : Box3) (x y f : ℕ) (are : AreCounts rect.size x y f) (inner : IsInner m.size rect x y f) where
+module _ (m : SourceMap) (rect : Box3) (x y f : ℕ) (are : AreCounts rect.size x y f) (enclosed : IsEnclosed m.size rect x y f) where
   abbrev p : At
   p = cell_in rect x y f
 
@@ -50,27 +50,27 @@ module _ (m : SourceMap) (rect : Box3) (x y f : ℕ) (are : AreCounts rect.size 
   none_x : MeetsAlong m rect p X → ⊥
   none_x (inl out) = ⊎_elim
       (λ lt. (inside _ _ (next_x rect x y f) out).1 (cell_inside rect (x + 1) y f (record { column = lt; row = are.row; frame = are.frame })))
-      (λ le. past m.size.w x _ rect.corner.x (axes _ out).x refl le) inner.on_x.ahead
+      (λ le. past m.size.w x _ rect.corner.x (axes _ out).x refl le) enclosed.on_x.ahead
   none_x (inr out) = ⊎_elim
       (λ some. (inside _ _ (back_x some) out).1 (cell_inside rect (x - 1) y f (record { column = omega (arith, are.column); row = are.row; frame = are.frame })))
-      (λ first. before m.size.w x _ rect.corner.x (axes _ out).x refl first) inner.on_x.back
+      (λ first. before m.size.w x _ rect.corner.x (axes _ out).x refl first) enclosed.on_x.back
 
   none_y : MeetsAlong m rect p Y → ⊥
   none_y (inl out) = ⊎_elim
       (λ lt. (inside _ _ (next_y rect x y f) out).1 (cell_inside rect x (y + 1) f (record { column = are.column; row = lt; frame = are.frame })))
-      (λ le. past m.size.h y _ rect.corner.y (axes _ out).y refl le) inner.on_y.ahead
+      (λ le. past m.size.h y _ rect.corner.y (axes _ out).y refl le) enclosed.on_y.ahead
   none_y (inr out) = ⊎_elim
       (λ some. (inside _ _ (back_y some) out).1 (cell_inside rect x (y - 1) f (record { column = are.column; row = omega (arith, are.row); frame = are.frame })))
-      (λ first. before m.size.h y _ rect.corner.y (axes _ out).y refl first) inner.on_y.back
+      (λ first. before m.size.h y _ rect.corner.y (axes _ out).y refl first) enclosed.on_y.back
 
   none_f : MeetsAlong m rect p F → ⊥
   none_f (inl out) = ⊎_elim
       (λ lt. (inside _ _ (next_f rect x y f) out).1 (cell_inside rect x y (f + 1) (record { column = are.column; row = are.row; frame = lt })))
-      (λ le. past m.size.f f _ rect.corner.f (axes _ out).f refl le) inner.on_f.ahead
+      (λ le. past m.size.f f _ rect.corner.f (axes _ out).f refl le) enclosed.on_f.ahead
   none_f (inr out) = ⊎_elim
       (λ some. (inside _ _ (back_f some) out).1 (cell_inside rect x y (f - 1) (record { column = are.column; row = are.row; frame = omega (arith, are.frame) })))
-      (λ first. before m.size.f f _ rect.corner.f (axes _ out).f refl first) inner.on_f.back
+      (λ first. before m.size.f f _ rect.corner.f (axes _ out).f refl first) enclosed.on_f.back
 
   -- so it isn't kept
-  pub inner_free : IsKept m rect p → ⊥
-  inner_free kept = false≢true (meets_third m rect p false false false (λ meets. absurd (none_x meets)) (λ meets. absurd (none_y meets)) (λ meets. absurd (none_f meets)) refl refl kept.meets)
+  pub enclosed_free : IsKept m rect p → ⊥
+  enclosed_free kept = false≢true (meets_third m rect p false false false (λ meets. absurd (none_x meets)) (λ meets. absurd (none_y meets)) (λ meets. absurd (none_f meets)) refl refl kept.meets)

@@ -8,5 +8,6 @@ pub mod SumRows
 pub mod AddedSums
 pub mod BlockRows
 pub mod Vectors
+pub mod SignedLanes
 pub mod RunEntries
 pub mod PlaceRuns

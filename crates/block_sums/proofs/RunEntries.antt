@@ -1,8 +1,8 @@
 -- Where the entries of a run of places stand.
 use Rattle.std.proofs.Common.{◌≡◌, ℕ, ◌+◌, ◌*◌, ◌/◌, ◌<◌, ◌≤◌, List, length, get_or, take, drop, refl, ap, sym, subst, ◌∙◌, arith, rules, ⊎_elim}
 use Rattle.std.proofs.lemmas.Int.{ints}
-use Rattle.std.proofs.lemmas.List.{get_or-drop, get_or-take}
-use Rattle.std.proofs.lemmas.List.Sums.{sum_by_more, sum_by_more_le}
+use Rattle.std.proofs.lemmas.List.{get_or-drop, get_or-take, take-take}
+use Rattle.std.proofs.lemmas.List.Sums.{sum_by_more, sum_by-take-le}
 use Rattle.std.proofs.Math.Nat.{mul-le-mul_left}
 use Rattle.std.proofs.lemmas.Bool.{cases_lt}
 use Rattle.std.specs.Prelude.{min, ℤ, pos, negsuc, ◌+ℤ◌, ◌-ℤ◌, FitsSigned, All, Some, IsSome}
@@ -175,16 +175,19 @@ module _ (sample : Cells) (volume : IsVolume sample) (sums : BlockSums) (are : A
         together_at_most : 65536 * now ≤ factor * factor * (sum_by (difference_at sample side from j) (take i seen) + difference_at sample side from j block)
         together_at_most = omega (arith, added, front)
 
-        -- the total is still at most the differences of the blocks so far, and of all
+        -- the total is still at most the differences of the blocks so far
         pub one_more : 65536 * now ≤ whole (take (i + 1) items)
         one_more =
             subst (λ xs. 65536 * now ≤ whole (take (i + 1) xs)) same
             (subst (λ s. 65536 * now ≤ factor * factor * s) (sym (sum_by_more (difference_at sample side from j) seen i d lt)) together_at_most)
 
-        pub one_of_all : 65536 * now ≤ whole items
-        one_of_all =
-            subst (λ xs. 65536 * now ≤ whole xs) same
-            (omega (arith, together_at_most, mul-le-mul_left (factor * factor) (sum_by_more_le (difference_at sample side from j) seen i d lt)))
+-- the first of some blocks add up to no more than further ones
+sum_of_first : (f : Block → ℕ) (blocks : List Block) (i m : ℕ) → i ≤ m → sum_by f (take i blocks) ≤ sum_by f (take m blocks)
+sum_of_first f blocks i m le = subst (λ first. sum_by f first ≤ sum_by f (take m blocks)) (take-take i m blocks le) (sum_by-take-le f (take m blocks) i)
+
+-- a total of the first blocks is at most the differences of further ones
+pub further : (f : Block → ℕ) (blocks : List Block) (i m times now : ℕ) → i ≤ m → 65536 * now ≤ times * sum_by f (take i blocks) → 65536 * now ≤ times * sum_by f (take m blocks)
+further f blocks i m times now le first = omega (arith, first, mul-le-mul_left times (sum_of_first f blocks i m le))
 
 -- a total above the most for a limit is of an error above the limit
 pub above_limit : (factor bytes limit error total difference most : ℕ) → factor * factor * (bytes * limit) < 65536 * (most + 1) → most < total → 65536 * total ≤ factor * factor * difference → difference ≤ bytes * error → limit < error

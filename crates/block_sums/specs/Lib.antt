@@ -3,3 +3,4 @@ pub mod Gathered
 pub mod Sums
 pub mod Bounds
 pub mod Eliminations
+pub mod Lanes

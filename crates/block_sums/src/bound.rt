@@ -26,8 +26,9 @@ struct Scale {
     most: u16,
 }
 
-// The scale for a limit: the factor is a power of two by which all differences still fit, and the most
-// does too. None where there isn't one, since no total would be above the most.
+// The scale for a limit: the factor is a power of two by which the most still fits. By it no difference
+// comes to more than 3/4 of 2^16, unless one does by itself: read as a signed number, each is 2^14 or
+// more from 0 where it doesn't fit. None where there isn't a factor, since no total would be above the most.
 fn scale_of(side: u32, k: u32, limit: u64) -> Option<Scale>
     requires some { 1 ≤ k }
     requires few { 255 * block_bytes side k < 2 ^ 16 }
@@ -37,8 +38,10 @@ fn scale_of(side: u32, k: u32, limit: u64) -> Option<Scale>
     let cells = side * side;
     let bytes = cells * k;
     let bound = u64::from(bytes).saturating_mul(limit);
-    let up = (255 * bytes as u16)
+    let farthest = 255 * bytes;
+    let up = (farthest + farthest / 3)
         .leading_zeros()
+        .saturating_sub(16)
         .min(bound.leading_zeros().saturating_sub(32) / 2)
         .min(MOST_UP);
     let factor = 1u16 << up;
@@ -76,11 +79,17 @@ impl BoxBlocks {
             * blocks_difference self.now sample.now (place_along from j) }
     {
         let first = sums.index_of(from);
+        let blocks = self.blocks.as_slice();
         let mut totals = no_sums();
-        for (i, block) in self.blocks.iter().enumerate() {
-            let run = sums.run(first, block.step);
-            totals = with_block(totals, block.sum, run, scale.factor);
-            if i % STRETCH == STRETCH - 1 && are_above(totals, scale.most, n) {
+        for stretch in 0..blocks.len().div_ceil(STRETCH) {
+            let start = STRETCH * stretch;
+            let end = (start + STRETCH).min(blocks.len());
+            for i in start..end {
+                let block = &blocks[i];
+                let run = sums.run(first, block.step);
+                totals = with_block(totals, block.sum, run, scale.factor);
+            }
+            if are_above(totals, scale.most, n) {
                 return totals;
             }
         }

@@ -1,8 +1,8 @@
 // Sums over a run of places or of entries at once, one a lane.
-ghost use Rattle.std.specs.Prelude.{◌≡◌, ◌≤◌, ◌<◌, ◌+◌, ◌-◌, ◌*◌, ◌^◌, ℕ, length, replicate, slice_index, slice_index_or, take, true, false};
-ghost use Rattle.std.specs.Int.{abs_diff};
-ghost use Rattle.std.specs.Simd.Lanes.{zip2};
+ghost use Rattle.std.specs.Prelude.{◌≡◌, ◌≤◌, ◌<◌, ◌+◌, ◌-◌, ◌*◌, ◌^◌, ℕ, length, replicate, slice_index, slice_index_or, map, take, true, false};
+ghost use Rattle.std.specs.Int.{abs_diff, cast_signed, w16};
 ghost use Rattle.block_sums.specs.Blocks.{square_of_difference};
+ghost use Rattle.block_sums.specs.Lanes.{from_zero};
 
 use crate::sums::LANES;
 use std::simd::prelude::*;
@@ -15,39 +15,41 @@ fn each_lane(sum: u16) -> u16x32
     u16x32::splat(sum)
 }
 
-// How far the entries of a run are from sums, one a lane.
+// The entries of a run less sums, one a lane, by their low 16 bits.
 #[inline(always)]
 fn differences(sums: u16x32, run: &[u16]) -> u16x32
     requires { LANES ≤ length run.now }
-    ensures { result ≡ zip2 abs_diff sums (take LANES run.now) }
+    ensures { (j : ℕ) → j < LANES → from_zero (slice_index result j)
+        ≤ abs_diff (slice_index sums j) (slice_index run.now j) }
 {
-    sums.abs_diff(u16x32::from_slice(run))
+    u16x32::from_slice(run) - sums
 }
 
-// A square of 16 bits fits a lane of 32.
-#[inline(always)]
-fn squares(lanes: u16x32) -> u32x32
-    ensures { result ≡ zip2 ◌*◌ lanes lanes }
-{
-    let wide = lanes.cast::<u32>();
-    wide.strict_mul(wide)
-}
-
-// Lanes so many times, or less where a product doesn't fit.
+// Lanes so many times, by the low 16 bits.
 #[inline(always)]
 fn times(lanes: u16x32, factor: u16) -> u16x32
-    ensures { (j : ℕ) → slice_index result j ≤ factor * slice_index lanes j }
+    ensures { (j : ℕ) → from_zero (slice_index result j)
+        ≤ factor * from_zero (slice_index lanes j) }
 {
     lanes * u16x32::splat(factor)
 }
 
-// The squares of lanes by their high halves, in units of 2^16.
+// The numbers that the bits of lanes are where they are signed.
+#[inline(always)]
+fn as_signed(lanes: u16x32) -> i16x32
+    ensures { result ≡ map (cast_signed w16) lanes }
+{
+    i16x32::from_le_bytes(lanes.to_le_bytes())
+}
+
+// The squares of lanes, read as signed numbers, by their high halves, in units of 2^16.
 #[inline(always)]
 fn high_squares(lanes: u16x32) -> u16x32
     ensures { (j : ℕ) → 2 ^ 16 * slice_index result j
-        ≤ slice_index lanes j * slice_index lanes j }
+        ≤ from_zero (slice_index lanes j) * from_zero (slice_index lanes j) }
 {
-    (squares(lanes) >> u32x32::splat(16)).cast::<u16>()
+    let wide = as_signed(lanes).cast::<i32>();
+    ((wide * wide) >> i32x32::splat(16)).cast::<u16>()
 }
 
 // The sums of the lanes of two vectors, or less where a sum doesn't fit.
@@ -109,9 +111,8 @@ pub(crate) fn marks_of_both(some: &[bool; LANES], others: &[bool; LANES]) -> [bo
 pub(crate) fn left_in(marks: &[bool; LANES], n: u32) -> u32 {
     let mut left = 0;
     for j in 0..LANES {
-        if j < n as usize && !marks[j] {
-            left += 1;
-        }
+        // without a branch, so that lanes are counted at once
+        left += u32::from((j < n as usize) & !marks[j]);
     }
     left
 }

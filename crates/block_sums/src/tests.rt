@@ -60,13 +60,20 @@ fn totals_of_a_run(rt: HostRuntime) {
     for (j, mark) in marks(totals, 25).iter().enumerate() {
         assert_eq!(rt; *mark, j < 5 || j > 15);
     }
-    // Two squares of 65,535 are more than a total has room for.
-    let far = with_block(no_sums(), u16::MAX, &[0; LANES], 1);
-    assert_eq!(rt; marks(far, 65_533), [true; LANES]);
-    assert_eq!(rt; marks(far, 65_534), [false; LANES]);
-    let farther = with_block(far, u16::MAX, &[0; LANES], 1);
+    // A difference of 2^15 counts whole, and four squares of it are more than a total has room for.
+    let far = with_block(no_sums(), 1 << 15, &[0; LANES], 1);
+    assert_eq!(rt; marks(far, 16_383), [true; LANES]);
+    assert_eq!(rt; marks(far, 16_384), [false; LANES]);
+    let mut farther = far;
+    for _ in 0..3 {
+        farther = with_block(farther, 0, &[1 << 15; LANES], 1);
+    }
     assert_eq!(rt; marks(farther, u16::MAX - 1), [true; LANES]);
     assert_eq!(rt; marks(farther, u16::MAX), [false; LANES]);
+    // One of 3/4 of 2^16 counts as one of a quarter.
+    let wrapped = with_block(no_sums(), 49_152, &[0; LANES], 1);
+    assert_eq!(rt; marks(wrapped, 4_095), [true; LANES]);
+    assert_eq!(rt; marks(wrapped, 4_096), [false; LANES]);
 }
 
 #[test]

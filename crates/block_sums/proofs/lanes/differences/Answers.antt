@@ -1,13 +1,16 @@
-use Rattle.std.proofs.Common.{w16, take}
-use Rattle.std.specs.Prelude.{nat_lt}
-use Rattle.std.proofs.lemmas.Simd.{tops_compared, chunk-fits, below_from_Fits}
+use Rattle.std.proofs.Common.{ℕ, get_or, take, subst, w16, ◌≤◌}
+use Rattle.std.specs.Int.{abs_diff}
+use Rattle.std.specs.Simd.Lanes.{zip2}
+use Rattle.std.proofs.lemmas.List.{get_or-take}
+use Rattle.std.proofs.lemmas.Simd.{below_from_Fits, chunk-fits}
 use Rattle.block_sums.specs.declared.sums.TheConstants.{LANES}
-use Rattle.block_sums.proofs.Vectors.{differences_of_lanes}
+use Rattle.block_sums.specs.Lanes.{from_zero}
+use Rattle.block_sums.proofs.SignedLanes.{differences_at_most, less}
 use Rattle.block_sums.proofs.lanes.differences.Goals as goal
 
 pub returns : goal.returns
-returns c =
-    let a = c.args.sums in
-    let b = take LANES c.args.run.now in
-    rw (tops_compared w16 nat_lt a b)
-    (differences_of_lanes a b (below_from_Fits w16 a c.fits-sums.1) (below_from_Fits w16 b (chunk-fits w16 0 LANES c.args.run.now c.type_inv.run)))
+returns c = λ j lt.
+    let run = c.args.run.now in
+    let sums = c.args.sums in
+    let near = differences_at_most (take LANES run) sums j (below_from_Fits w16 (take LANES run) (chunk-fits w16 0 LANES run c.type_inv.run)) (below_from_Fits w16 sums c.fits-sums.1) in
+    subst (λ (n : ℕ). from_zero (get_or (zip2 less (take LANES run) sums) j 0) ≤ abs_diff (get_or sums j 0) n) (get_or-take LANES run j 0 lt) near

@@ -1,0 +1,6 @@
+-- A reader has to trust this file. Lanes of 16 bits that stand for signed numbers.
+use Rattle.std.specs.Prelude.{◌-◌, ◌^◌, ℕ, nat_lt, if◌then◌else◌}
+
+-- how far the signed number of 16 bits is from 0, by its bits as a number
+abbrev pub from_zero : ℕ → ℕ
+from_zero n = if nat_lt n (2 ^ 15) then n else 2 ^ 16 - n

@@ -7,6 +7,7 @@ use Rattle.std.specs.Prelude.{All, Bool, Some, sum, unwrap_or}
 use Rattle.std.specs.List.{sum_by}
 use Rattle.cells.specs.declared.place.At.{At}
 use Rattle.cells.specs.declared.place.Box3.{Box3}
+use Rattle.cells.specs.declared.place.Size.{Size}
 use Rattle.cells.specs.Cells.{Cells, HasRun, IsVolume, index_of, row_at}
 use Rattle.cells.specs.Places.{plus, spot}
 use Rattle.cells.proofs.PartBoxes.{run_of_volume}
@@ -108,8 +109,8 @@ module _ (canvas : CanvasState) (is : IsCanvas canvas) (rect : Box3) (sample : C
         (rows_difference side (side * sample.k) old new old_long new_long bytes))
 
   -- all blocks together
-  pub gathered_bound : (blocks : List Block) (free : List Bool) → AreGathered canvas rect side blocks free → sum_by apart blocks ≤ block_bytes side sample.k * error_sum canvas.map sample (laid_from rect from)
-  gathered_bound blocks free gathered =
+  pub gathered_bound : (size : Size) (blocks : List Block) (free : List Bool) → AreGathered canvas rect side size blocks free → sum_by apart blocks ≤ block_bytes side sample.k * error_sum canvas.map sample (laid_from rect from)
+  gathered_bound size blocks free gathered =
       let each : sum_by apart blocks ≤ block_bytes side sample.k * sum_by (place_sum side error) blocks =
       sum_within apart (place_sum side error) (block_bytes side sample.k) blocks
       (λ i d lt. block_bound (get_or blocks i d) (gathered.inside i d lt) (gathered.sums i d lt) (gathered.filled i d lt)) in

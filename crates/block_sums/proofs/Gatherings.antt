@@ -7,6 +7,7 @@ use Rattle.std.proofs.lemmas.List.Sums.{sum_by_push}
 use Rattle.std.specs.Prelude.{All, Bool, true, false, if◌then◌else◌}
 use Rattle.std.specs.List.{sum_by}
 use Rattle.cells.specs.declared.place.Box3.{Box3}
+use Rattle.cells.specs.declared.place.Size.{Size}
 use Rattle.cells.specs.Boxes.{HasCells}
 use Rattle.cells.specs.Places.{cell_count, place_of, plus, spot}
 use Rattle.cells.proofs.BoxLaws.{step_of}
@@ -17,7 +18,7 @@ use Rattle.box_sums.proofs.Bounds.{sum_at_most}
 use Rattle.map_canvas.specs.Canvases.{CanvasState}
 use Rattle.map_canvas.specs.Maps.{SourceMap, IsFilled}
 use Rattle.block_sums.specs.declared.blocks.Block.{Block}
-use Rattle.block_sums.specs.Blocks.{HasSumOf, IsBlockIn}
+use Rattle.block_sums.specs.Blocks.{HasEntry, HasSumOf, IsBlockIn}
 use Rattle.block_sums.specs.Gathered.{MarkFilled, AreGathered, HasBlockRoom, IsBlockFilled, IsFreeBlock, IsTaken, free_sum, place_sum, rows_sum}
 use Rattle.block_sums.proofs.BlockPlaces.{place_in_block}
 
@@ -42,25 +43,27 @@ free_within free n g long =
     kept false a = omega arith
 
 -- no block
-pub none_gathered : (canvas : CanvasState) (rect : Box3) (side : ℕ) (free : List Bool) → length free ≡ cell_count rect.size → MarkFilled canvas.map rect free → AreGathered canvas rect side [] free
-none_gathered canvas rect side free long filled = record {
+pub none_gathered : (canvas : CanvasState) (rect : Box3) (side : ℕ) (size : Size) (free : List Bool) → length free ≡ cell_count rect.size → MarkFilled canvas.map rect free → AreGathered canvas rect side size [] free
+none_gathered canvas rect side size free long filled = record {
   long = long;
   rest = filled;
   inside = All-nil (IsBlockIn rect side);
+  entries = All-nil (HasEntry size);
   sums = All-nil (HasSumOf canvas rect side);
   filled = All-nil (IsBlockFilled canvas.map rect side);
   disjoint = λ g. omega (arith, free_within free (cell_count rect.size) (λ i. g (place_of rect.size i)) long);
 }
 
 -- one more block
-pub more_gathered : (canvas : CanvasState) (rect : Box3) (side i end : ℕ) (blocks more : List Block) (block : Block) (free rest : List Bool)
+pub more_gathered : (canvas : CanvasState) (rect : Box3) (side : ℕ) (size : Size) (i end : ℕ) (blocks more : List Block) (block : Block) (free rest : List Bool)
     → HasCells rect.size → i < cell_count rect.size → HasBlockRoom rect.size i side → IsFreeBlock free i rect.size.w side
-    → block.step ≡ place_of rect.size i → HasSumOf canvas rect side block → more ≡ blocks ++ block ∷ [] → IsTaken end (rows_sum i rect.size.w side side) free rest
-    → AreGathered canvas rect side blocks free → AreGathered canvas rect side more rest
-more_gathered canvas rect side i end blocks more block free rest some lt room cells step has_sum is taken was = record {
+    → block.step ≡ place_of rect.size i → HasEntry size block → HasSumOf canvas rect side block → more ≡ blocks ++ block ∷ [] → IsTaken end (rows_sum i rect.size.w side side) free rest
+    → AreGathered canvas rect side size blocks free → AreGathered canvas rect side size more rest
+more_gathered canvas rect side size i end blocks more block free rest some lt room cells step entry has_sum is taken was = record {
   long = taken.long ∙ was.long;
   rest = λ j free. was.rest j (taken.fewer j free);
   inside = subst (All (IsBlockIn rect side)) (sym is) (All-push (IsBlockIn rect side) blocks block was.inside here);
+  entries = subst (All (HasEntry size)) (sym is) (All-push (HasEntry size) blocks block was.entries entry);
   sums = subst (All (HasSumOf canvas rect side)) (sym is) (All-push (HasSumOf canvas rect side) blocks block was.sums has_sum);
   filled = subst (All (IsBlockFilled canvas.map rect side)) (sym is) (All-push (IsBlockFilled canvas.map rect side) blocks block was.filled all_filled);
   disjoint = λ g.

@@ -5,7 +5,8 @@ use Rattle.std.proofs.lemmas.List.{get_or-drop, get_or-take, take-take}
 use Rattle.std.proofs.lemmas.List.Sums.{sum_by_more, sum_by-take-le}
 use Rattle.std.proofs.Math.Nat.{mul-le-mul_left}
 use Rattle.std.proofs.lemmas.Bool.{cases_lt}
-use Rattle.std.specs.Prelude.{min, ℤ, pos, negsuc, ◌+ℤ◌, ◌-ℤ◌, FitsSigned, All, Some, IsSome}
+use Rattle.std.proofs.lemmas.Bool.Decides.{Decides-and, Decides-eqb}
+use Rattle.std.specs.Prelude.{◌==◌, ◌&&◌, IsTrue, min, ℤ, pos, negsuc, ◌+ℤ◌, ◌-ℤ◌, FitsSigned, All, Some, IsSome}
 use Rattle.std.specs.List.{sum_by}
 use Rattle.std.specs.Int.{w32}
 use Rattle.cells.specs.declared.place.At.{At}
@@ -21,10 +22,17 @@ use Rattle.block_sums.specs.declared.sums.BlockSums.{BlockSums}
 use Rattle.block_sums.specs.declared.sums.TheConstants.{LANES}
 use Rattle.block_sums.specs.Blocks.{IsBlockIn, block_sum, square_of_difference}
 use Rattle.block_sums.specs.Bounds.{IsBoxIn, place_along}
+use Rattle.block_sums.specs.Gathered.{IsShortStep}
 use Rattle.block_sums.specs.Sums.{AreBlockSums}
 
 some_same : {A : Type 0} (x y : A) → Some x ≡ Some y → x ≡ y
 some_same x y e = cc
+
+-- two sizes are the same where `==` says so
+pub same_size : (p q : Size) → IsTrue ((p.w == q.w) && ((p.h == q.h) && (p.f == q.f))) → p ≡ q
+same_size p q equal =
+    let parts = (Decides-and _ _ (Decides-eqb p.w q.w) (Decides-and _ _ (Decides-eqb p.h q.h) (Decides-eqb p.f q.f))).0 equal in
+    λ k. record { w = parts.0 k; h = parts.1.0 k; f = parts.1.1 k }
 
 -- a run of cells along one axis, from a number on
 record Run (n : ℕ) (z : ℤ) (len : ℕ) : Type 0 where
@@ -112,26 +120,31 @@ module _ (sample : Cells) (volume : IsVolume sample) (sums : BlockSums) (are : A
     is : IsBlockIn rect side block
     is = subst (All (IsBlockIn rect side)) (sym same) all i d lt
 
-    step_at : index_in outer block.step ≡ Some (raster_index outer is.x is.y is.f)
-    step_at =
-        ap (index_in outer) is.step
-        ∙ index_of_spot outer is.x is.y is.f (omega (arith, wide, is.columns, one)) (omega (arith, at.rows, is.rows, one)) (omega (arith, at.frames, is.frame))
+    pub short : IsShortStep block.step
+    short = record {
+      x = is.x;
+      y = is.y;
+      f = is.f;
+      is = is.step;
+      short = (omega (arith, wide, is.columns, one, small.axes.w), omega (arith, at.rows, is.rows, one, small.axes.h), omega (arith, at.frames, is.frame, small.axes.f));
+    }
 
-    pub step_inside : IsInside outer block.step
-    step_inside = subst IsSome (sym step_at) refl
+    -- so many entries come before that of the block
+    abbrev pub Comes : ℕ → Type 0
+    Comes entry = (x y f : ℕ) → block.step ≡ spot x y f → entry ≡ raster_index outer x y f
 
     together : (j : ℕ) → (raster_index outer at.x at.y at.f + raster_index outer is.x is.y is.f) + j ≡ raster_index outer ((at.x + is.x) + j) (at.y + is.y) (at.f + is.f)
     together j = omega arith
 
-    indices : (first s : ℕ) → index_in outer (minus from corner) ≡ Some first → index_in outer block.step ≡ Some s → first + s ≡ raster_index outer at.x at.y at.f + raster_index outer is.x is.y is.f
-    indices first s first_is s_is = λ t. some_same first _ (sym first_is ∙ first_at) t + some_same s _ (sym s_is ∙ step_at) t
+    indices : (first entry : ℕ) → index_in outer (minus from corner) ≡ Some first → Comes entry → first + entry ≡ raster_index outer at.x at.y at.f + raster_index outer is.x is.y is.f
+    indices first entry first_is comes = λ t. some_same first _ (sym first_is ∙ first_at) t + comes is.x is.y is.f is.step t
 
-    pub room : (first s : ℕ) → index_in outer (minus from corner) ≡ Some first → index_in outer block.step ≡ Some s → first + s + LANES ≤ length sums.sums.items
-    room first s first_is s_is =
+    pub room : (first entry : ℕ) → index_in outer (minus from corner) ≡ Some first → Comes entry → first + entry + LANES ≤ length sums.sums.items
+    room first entry first_is comes =
         let below : raster_index outer (at.x + is.x) (at.y + is.y) (at.f + is.f) < outer.w * (outer.h * outer.f) =
         in_rows outer.w (outer.h * outer.f) ((at.y + is.y) + outer.h * (at.f + is.f)) (at.x + is.x) (omega (arith, wide, is.columns, one))
         (in_rows outer.h outer.f (at.f + is.f) (at.y + is.y) (omega (arith, at.rows, is.rows, one)) (omega (arith, at.frames, is.frame))) in
-        omega (arith, indices first s first_is s_is, together 0, below, are.long)
+        omega (arith, indices first entry first_is comes, together 0, below, are.long)
 
     there : (j : ℕ) → plus corner (spot ((at.x + is.x) + j) (at.y + is.y) (at.f + is.f)) ≡ plus (place_along from j) block.step
     there j =
@@ -145,16 +158,15 @@ module _ (sample : Cells) (volume : IsVolume sample) (sums : BlockSums) (are : A
         down z p a b e = omega (arith, ints, e)
 
     -- from a run of entries that was read, and totals before and after it
-    module _ (run : List ℕ) (first : ℕ) (first_is : index_in outer (minus from corner) ≡ Some first) (run_is : (s : ℕ) → index_in outer block.step ≡ Some s → run ≡ take LANES (drop (first + s) sums.sums.items))
+    module _ (run : List ℕ) (first entry : ℕ) (first_is : index_in outer (minus from corner) ≡ Some first) (comes : Comes entry) (run_is : run ≡ take LANES (drop (first + entry) sums.sums.items))
         (j : ℕ) (lj : j < n) (most : n ≤ LANES) where
       -- the entry in a lane is the sum of the sample's block there
       lane_entry : get_or run j 0 ≡ block_sum sample side (plus (place_along from j) block.step)
       lane_entry =
-          let s = raster_index outer is.x is.y is.f in
-          ap (λ (xs : List ℕ). get_or xs j 0) (run_is s step_at)
-          ∙ get_or-take LANES (drop (first + s) sums.sums.items) j 0 (omega (arith, lj, most))
-          ∙ get_or-drop (first + s) sums.sums.items j 0
-          ∙ ap (λ m. get_or sums.sums.items (m + j) 0) (indices first s first_is step_at)
+          ap (λ (xs : List ℕ). get_or xs j 0) run_is
+          ∙ get_or-take LANES (drop (first + entry) sums.sums.items) j 0 (omega (arith, lj, most))
+          ∙ get_or-drop (first + entry) sums.sums.items j 0
+          ∙ ap (λ m. get_or sums.sums.items (m + j) 0) (indices first entry first_is comes)
           ∙ ap (λ m. get_or sums.sums.items m 0) (together j)
           ∙ are.entries ((at.x + is.x) + j) (at.y + is.y) (at.f + is.f)
           (omega (arith, at.columns j lj, is.columns, side_is)) (omega (arith, at.rows, is.rows, side_is)) (omega (arith, at.frames, is.frame))

@@ -7,8 +7,9 @@ use Rattle.std.specs.Int.{abs_diff}
 use Rattle.std.specs.List.{sum_by}
 use Rattle.cells.specs.declared.place.At.{At}
 use Rattle.cells.specs.declared.place.Box3.{Box3}
+use Rattle.cells.specs.declared.place.Size.{Size}
 use Rattle.cells.specs.Cells.{Cells, row_at}
-use Rattle.cells.specs.Places.{plus, spot}
+use Rattle.cells.specs.Places.{plus, raster_index, spot}
 use Rattle.box_sums.specs.Sums.{sum_to}
 use Rattle.map_canvas.specs.Canvases.{CanvasState}
 use Rattle.match_error.specs.Errors.{error_sum}
@@ -38,6 +39,11 @@ pub record IsBlockIn (rect : Box3) (side : ℕ) (block : Block) : Type 0 where
   pub rows : y + side ≤ rect.size.h
   pub frame : f < rect.size.f
 
+-- its entry is how many cells come before its first one, in raster order, in a box of that size
+abbrev pub HasEntry : Size → Block → Type 0
+HasEntry size block =
+    (x y f : ℕ) → block.step ≡ spot x y f → block.entry ≡ raster_index size x y f
+
 -- its sum is that of what stands there
 abbrev pub HasSumOf : CanvasState → Box3 → ℕ → Block → Type 0
 HasSumOf canvas rect side block =
@@ -54,6 +60,7 @@ blocks_difference blocks sample from = sum_by
 pub record AreBoxBlocks (canvas : CanvasState) (rect : Box3) (blocks : BoxBlocks) : Type 0 where
   pub some : 1 ≤ blocks.side
   pub inside : All (IsBlockIn rect blocks.side) blocks.blocks.items
+  pub entries : All (HasEntry blocks.size) blocks.blocks.items
   pub sums : All (HasSumOf canvas rect blocks.side) blocks.blocks.items
   pub bound : (sample : Cells) (from : At) → IsLaidOver canvas rect sample from
       → blocks_difference blocks sample from

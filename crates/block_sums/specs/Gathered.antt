@@ -6,11 +6,12 @@ use Rattle.cells.specs.declared.place.At.{At}
 use Rattle.cells.specs.declared.place.Box3.{Box3}
 use Rattle.cells.specs.declared.place.Size.{Size}
 use Rattle.cells.specs.Places.{cell_count, place_of, plus, spot}
+use Rattle.cells.specs.declared.bounds.TheConstants.{GREATEST_AXIS}
 use Rattle.box_sums.specs.Sums.{sum_to}
 use Rattle.map_canvas.specs.Canvases.{CanvasState}
 use Rattle.map_canvas.specs.Maps.{SourceMap, IsFilled}
 use Rattle.block_sums.specs.declared.blocks.Block.{Block}
-use Rattle.block_sums.specs.Blocks.{HasSumOf, IsBlockIn}
+use Rattle.block_sums.specs.Blocks.{HasEntry, HasSumOf, IsBlockIn}
 
 -- a cell may still be taken
 abbrev pub IsUntaken : List Bool → ℕ → Type 0
@@ -53,6 +54,18 @@ pub record HasBlockRoom (size : Size) (i side : ℕ) : Type 0 where
   pub columns : i % size.w + side ≤ size.w
   pub rows : i / size.w % size.h + side ≤ size.h
 
+-- the rows and columns of a size are no longer than the greatest axis
+abbrev pub HasShortRows : Size → Type 0
+HasShortRows size = (size.w ≤ GREATEST_AXIS) × (size.h ≤ GREATEST_AXIS)
+
+-- a step goes so far at most along each axis, and not back
+pub record IsShortStep (step : At) : Type 0 where
+  pub x : ℕ
+  pub y : ℕ
+  pub f : ℕ
+  pub is : step ≡ spot x y f
+  pub short : (x < GREATEST_AXIS) × (y < GREATEST_AXIS) × (f < GREATEST_AXIS)
+
 -- each free cell of the box is filled
 abbrev pub MarkFilled : SourceMap → Box3 → List Bool → Type 0
 MarkFilled m rect free =
@@ -72,11 +85,12 @@ box_sum size g = sum_to (cell_count size) (λ i. g (place_of size i))
 
 -- blocks of filled cells, none of them free and none in two blocks: the sums over all blocks and
 -- over the free cells are within the sum over the box, whatever the numbers
-pub record AreGathered (canvas : CanvasState) (rect : Box3) (side : ℕ) (blocks : List Block)
-    (free : List Bool) : Type 0 where
+pub record AreGathered (canvas : CanvasState) (rect : Box3) (side : ℕ) (size : Size)
+    (blocks : List Block) (free : List Bool) : Type 0 where
   pub long : length free ≡ cell_count rect.size
   pub rest : MarkFilled canvas.map rect free
   pub inside : All (IsBlockIn rect side) blocks
+  pub entries : All (HasEntry size) blocks
   pub sums : All (HasSumOf canvas rect side) blocks
   pub filled : All (IsBlockFilled canvas.map rect side) blocks
   pub disjoint : (g : At → ℕ) → sum_by (place_sum side g) blocks

@@ -4,9 +4,10 @@ ghost use Rattle.cells.specs.Boxes.{HasCells, HoldsBox};
 ghost use Rattle.cells.specs.Cells.{HasRun};
 ghost use Rattle.cells.specs.Places.{cell_count, plus, spot};
 ghost use Rattle.block_sums.specs.Blocks.{AreBoxBlocks, block_bytes, block_sum};
-ghost use Rattle.block_sums.specs.Gathered.{MarkFilled, AreFree, AreGathered, HasBlockRoom, HasRows, IsFreeBlock, IsTaken, rows_sum, sum_along};
+ghost use Rattle.block_sums.specs.Gathered.{MarkFilled, AreFree, AreGathered, HasBlockRoom, HasRows, HasShortRows, IsFreeBlock, IsTaken, rows_sum, sum_along};
 
-use crate::rows::{byte_sum, has_cells, step_to};
+use crate::rows::{byte_sum, entries_before, has_cells, short_rows, step_to};
+use crate::sums::BlockSums;
 use cells::{At, Box3, GREATEST_AXIS, MOST_SAMPLES, Size, Volume};
 use map_canvas::Canvas;
 use std::alloc::{AllocError, Global};
@@ -17,7 +18,9 @@ const MOST_BLOCKS: usize = 1 << 16;
 /// A block of filled cells.
 #[derive(Clone, Copy, Drop)]
 pub(crate) struct Block {
-    // how far its first cell is from the box's corner
+    // how many cells come before its first one, in raster order, in a box of the size that blocks are for
+    pub(crate) entry: usize,
+    // how far that cell is from the box's corner
     pub(crate) step: At,
     // the sum of its bytes
     pub(crate) sum: u16,
@@ -29,6 +32,8 @@ pub(crate) struct Block {
 pub struct BoxBlocks {
     // the cells of a block on each side
     pub(crate) side: u32,
+    // the size by which entries are counted
+    pub(crate) size: Size,
     pub(crate) blocks: Vec<Block>,
 }
 
@@ -147,16 +152,19 @@ impl BoxBlocks {
         requires few { 255 * block_bytes self.old.side canvas.now.picture.k < 2 ^ 16 }
         requires room { HasBlockRoom rect.now.size i self.old.side }
         requires cells { IsFreeBlock free.old i rect.now.size.w self.old.side }
-        requires gathered { AreGathered canvas.now rect.now self.old.side
+        requires rows { HasShortRows self.old.size }
+        requires gathered { AreGathered canvas.now rect.now self.old.side self.old.size
             self.old.blocks.items free.old }
         ensures gathered { OnOk result (AreGathered canvas.now rect.now self.new.side
-            self.new.blocks.items free.new) }
+            self.new.size self.new.blocks.items free.new) }
         ensures side { self.new.side ≡ self.old.side }
+        ensures size { self.new.size ≡ self.old.size }
     {
         let picture = canvas.picture();
         let step = rect.size.place_at(i);
         let sum = block_sum(picture, rect.corner.plus(step), self.side);
-        self.blocks.push(Block { step, sum })?;
+        let entry = entries_before(self.size, step);
+        self.blocks.push(Block { entry, step, sum })?;
         take_block(free, i, rect.size.w as usize, self.side);
         Ok(())
     }
@@ -173,11 +181,13 @@ impl BoxBlocks {
         requires some { HasCells rect.now.size }
         requires below { i < cell_count rect.now.size }
         requires few { 255 * block_bytes self.old.side canvas.now.picture.k < 2 ^ 16 }
-        requires gathered { AreGathered canvas.now rect.now self.old.side
+        requires rows { HasShortRows self.old.size }
+        requires gathered { AreGathered canvas.now rect.now self.old.side self.old.size
             self.old.blocks.items free.old }
         ensures gathered { OnOk result (AreGathered canvas.now rect.now self.new.side
-            self.new.blocks.items free.new) }
+            self.new.size self.new.blocks.items free.new) }
         ensures side { self.new.side ≡ self.old.side }
+        ensures size { self.new.size ≡ self.old.size }
     {
         // Most cells are left here, before any division.
         if !free[i] || self.blocks.as_slice().len() >= MOST_BLOCKS {
@@ -194,19 +204,21 @@ impl BoxBlocks {
     }
 
     /// Blocks of so many cells on each side, as they come in raster order, of the filled cells of a box with
-    /// cells, which are marked. They take 16 bytes a block, and a byte for each cell of the box while
-    /// they are gathered. The one error is out of memory.
+    /// cells, which are marked. Their entries are counted in a box of the size given. They take 24 bytes a
+    /// block, and a byte for each cell of the box while they are gathered. The one error is out of memory.
     pub(crate) fn gather_of(
         alloc: Global,
         canvas: &Canvas,
         rect: &Box3,
         side: u32,
+        size: Size,
         filled: &[bool],
     ) -> Result<BoxBlocks, AllocError>
         requires inside { HoldsBox canvas.now.map.size rect.now.corner rect.now.size }
         requires cells { HasCells rect.now.size }
         requires some { 1 ≤ side }
         requires few { 255 * block_bytes side canvas.now.picture.k < 2 ^ 16 }
+        requires rows { HasShortRows size }
         requires long { length filled.now ≡ cell_count rect.now.size }
         requires filled { MarkFilled canvas.now.map rect.now filled.now }
         ensures blocks { IfOk result (AreBoxBlocks canvas.now rect.now) }
@@ -216,6 +228,7 @@ impl BoxBlocks {
         let _picture = canvas.picture();
         let mut blocks = BoxBlocks {
             side,
+            size,
             blocks: Vec::new(alloc),
         };
         let mut free = Vec::from_slice(alloc, filled)?;
@@ -225,25 +238,27 @@ impl BoxBlocks {
         Ok(blocks)
     }
 
-    /// The same, of the filled cells of any box. They take two bytes for each cell of the box while they
-    /// are gathered.
+    /// The same, of the filled cells of any box, for the sums of a box of the sample. The sums of other boxes
+    /// do as well, if slower where these have another size. They take two bytes for each cell of the box while
+    /// they are gathered.
     pub fn gather(
         alloc: Global,
         canvas: &Canvas,
         rect: &Box3,
-        side: u32,
+        sums: &BlockSums,
     ) -> Result<BoxBlocks, AllocError>
         requires inside { HoldsBox canvas.now.map.size rect.now.corner rect.now.size }
-        requires some { 1 ≤ side }
-        requires few { 255 * block_bytes side canvas.now.picture.k < 2 ^ 16 }
+        requires some { 1 ≤ sums.now.side }
+        requires few { 255 * block_bytes sums.now.side canvas.now.picture.k < 2 ^ 16 }
         ensures blocks { IfOk result (AreBoxBlocks canvas.now rect.now) }
-        ensures side { IfOk result (λ blocks. blocks.side ≡ side) }
+        ensures side { IfOk result (λ blocks. blocks.side ≡ sums.now.side) }
     {
+        let (side, size) = (sums.side, short_rows(sums.rect.size));
         if !has_cells(rect.size) {
             let blocks = Vec::new(alloc);
-            return Ok(BoxBlocks { side, blocks });
+            return Ok(BoxBlocks { side, size, blocks });
         }
         let filled = filled_cells(alloc, canvas, rect)?;
-        BoxBlocks::gather_of(alloc, canvas, rect, side, &filled)
+        BoxBlocks::gather_of(alloc, canvas, rect, side, size, &filled)
     }
 }

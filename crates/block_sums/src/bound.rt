@@ -1,13 +1,16 @@
 // Which of a run of places are above a limit.
-ghost use Rattle.std.specs.Prelude.{◌≡◌, ◌≤◌, ◌<◌, ◌+◌, ◌*◌, ◌^◌, ℕ, IfSome, slice_index};
-ghost use Rattle.block_sums.specs.Blocks.{AreBoxBlocks, block_bytes, blocks_difference};
+ghost use Rattle.std.specs.Prelude.{◌≡◌, ◌≤◌, ◌<◌, ◌+◌, ◌*◌, ◌^◌, ℕ, IfSome, IsTrue, slice_index};
+ghost use Rattle.cells.specs.Places.{raster_index, spot};
+ghost use Rattle.block_sums.specs.Blocks.{AreBoxBlocks, HasEntry, block_bytes, blocks_difference};
 ghost use Rattle.block_sums.specs.Bounds.{AreAbove, IsBoxIn, MayBeLaid, place_along};
+ghost use Rattle.block_sums.specs.Gathered.{HasShortRows, IsShortStep};
 ghost use Rattle.block_sums.specs.Sums.{AreBlockSums};
 
-use crate::blocks::BoxBlocks;
+use crate::blocks::{Block, BoxBlocks};
 use crate::lanes::{are_above, marks, no_sums, with_block};
+use crate::rows::entries_before;
 use crate::sums::{BlockSums, LANES};
-use cells::{At, Box3, Volume};
+use cells::{At, Box3, Size, Volume};
 use map_canvas::Canvas;
 use std::simd::prelude::*;
 
@@ -54,6 +57,23 @@ fn scale_of(side: u32, k: u32, limit: u64) -> Option<Scale>
     Some(Scale { factor, most })
 }
 
+impl Block {
+    // How many cells come before the block's first one in a box of a size: the block's own entry, where
+    // that is counted by this size.
+    #[inline(always)]
+    fn entry_in(&self, size: Size, own: bool) -> usize
+        requires rows { HasShortRows size }
+        requires step { IsShortStep self.now.step }
+        requires own { IsTrue own → HasEntry size self.now }
+        ensures { (x y f : ℕ) → self.now.step ≡ spot x y f → result ≡ raster_index size x y f }
+    {
+        if own {
+            return self.entry;
+        }
+        entries_before(size, self.step)
+    }
+}
+
 impl BoxBlocks {
     // For each of the places a total that is at most how far the blocks are from those of the sample, in
     // units of 2^16 and by the factor squared. It stops where all of them are above the most.
@@ -79,6 +99,8 @@ impl BoxBlocks {
             * blocks_difference self.now sample.now (place_along from j) }
     {
         let first = sums.index_of(from);
+        let size = sums.rect.size;
+        let own = self.size == size;
         let blocks = self.blocks.as_slice();
         let mut totals = no_sums();
         for stretch in 0..blocks.len().div_ceil(STRETCH) {
@@ -86,7 +108,7 @@ impl BoxBlocks {
             let end = (start + STRETCH).min(blocks.len());
             for i in start..end {
                 let block = &blocks[i];
-                let run = sums.run(first, block.step);
+                let run = sums.run(first + block.entry_in(size, own));
                 totals = with_block(totals, block.sum, run, scale.factor);
             }
             if are_above(totals, scale.most, n) {

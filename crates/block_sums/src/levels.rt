@@ -7,21 +7,26 @@ ghost use Rattle.map_canvas.specs.Canvases.{StandsOver};
 ghost use Rattle.block_sums.specs.Blocks.{AreBoxBlocks, block_bytes};
 ghost use Rattle.block_sums.specs.Bounds.{AreAbove};
 ghost use Rattle.block_sums.specs.Eliminations.{AreBoxLevels, AreEliminated, AreSampleSums};
-ghost use Rattle.block_sums.specs.Gathered.{MarkFilled};
+ghost use Rattle.block_sums.specs.Gathered.{HasShortRows, MarkFilled};
 ghost use Rattle.block_sums.specs.Sums.{AreBlockSums};
 
 use crate::blocks::{BoxBlocks, filled_cells};
 use crate::eliminated::Eliminated;
 use crate::lanes::{left_in, marks_of_both};
+use crate::pauses::Pauses;
 use crate::places::{holds_run, places_to_end};
-use crate::rows::has_cells;
+use crate::rows::{has_cells, short_rows};
 use crate::sums::{BlockSums, LANES};
 use cells::{At, Box3, MOST_SAMPLES, Size, Sizes, Volume};
 use map_canvas::Canvas;
 use std::alloc::{AllocError, Global};
 
-// How many sizes of blocks there are: the coarse level, the fine one, and that of single cells.
-const LEVELS: usize = 3;
+/// How many sizes of blocks there are: the coarse level, the middle one, the fine one, and that of single
+/// cells.
+pub(crate) const LEVELS: usize = 4;
+
+// The cells of a block of the middle level on each side.
+const MIDDLE_SIDE: u32 = 4;
 
 // The cells of a block of the fine level on each side.
 const FINE_SIDE: u32 = 2;
@@ -29,16 +34,13 @@ const FINE_SIDE: u32 = 2;
 // That of single cells, each of which is a block. Its sums are those of a cell's samples.
 const SINGLE_SIDE: u32 = 1;
 
-// The most bytes of a sample whose single cells have sums: those of a greater sample would take half as
-// much memory again as the sums of the other levels.
-const MOST_SINGLE_BYTES: usize = 1 << 22;
+// The most bytes of a sample that has sums of all levels: a greater one has those of the coarse level and
+// of the fine one, which take half as much memory.
+const MOST_BYTES_OF_ALL: usize = 1 << 22;
 
-// The most places of a run for which the fine level isn't tried: that takes about as long as to sum up so
+// The most places of a run for which each level isn't tried: that takes about as long as to sum up so
 // many errors.
-const FEW_FOR_FINE: u32 = 1;
-
-// The same for single cells, of which there are four times as many.
-const FEW_FOR_SINGLE: u32 = 8;
+const FEW_PLACES: [u32; LEVELS] = [0, 3, 3, 16];
 
 // The cells of a block of the coarse level on each side: not so many that the bytes of a block can
 // add up to 2^16.
@@ -53,10 +55,10 @@ fn coarse_side(k: u32) -> u32
     6
 }
 
-// The box whose single cells have sums, of that of a part: all of it, or no cell of it where the sample is
+// The box that has sums of all levels, of that of a part: all of it, or no cell of it where the sample is
 // too great.
-fn single_box(sample: &Volume, part: &Box3) -> Box3 {
-    if sample.bytes().len() <= MOST_SINGLE_BYTES {
+fn box_of_all(sample: &Volume, part: &Box3) -> Box3 {
+    if sample.bytes().len() <= MOST_BYTES_OF_ALL {
         return *part;
     }
     Box3 {
@@ -120,12 +122,14 @@ impl SampleSums {
         ensures { OnOk result (AreSampleSums sample.now self.new) }
     {
         let side = coarse_side(sample.samples());
+        let all = box_of_all(sample, rect);
         self.add_level(alloc, sample, rect, side)?;
+        self.add_level(alloc, sample, &all, MIDDLE_SIDE)?;
         self.add_level(alloc, sample, rect, FINE_SIDE)?;
-        self.add_level(alloc, sample, &single_box(sample, rect), SINGLE_SIDE)
+        self.add_level(alloc, sample, &all, SINGLE_SIDE)
     }
 
-    /// The sums of all parts of a sample. They take 6 bytes a cell, or 4 where the sample has more than
+    /// The sums of all parts of a sample. They take 8 bytes a cell, or 4 where the sample has more than
     /// 2^22 bytes, and some more a part; and no more while they are made. The one error is out of
     /// memory.
     pub fn make(alloc: Global, sample: &Volume) -> Result<SampleSums, AllocError>
@@ -184,18 +188,20 @@ impl BoxLevels {
         canvas: &Canvas,
         rect: &Box3,
         side: u32,
+        size: Size,
         filled: &[bool],
     ) -> Result<(), AllocError>
         requires inside { HoldsBox canvas.now.map.size rect.now.corner rect.now.size }
         requires cells { HasCells rect.now.size }
         requires some { 1 ≤ side }
         requires few { 255 * block_bytes side canvas.now.picture.k < 2 ^ 16 }
+        requires rows { HasShortRows size }
         requires long { length filled.now ≡ cell_count rect.now.size }
         requires filled { MarkFilled canvas.now.map rect.now filled.now }
         requires levels { AreBoxLevels canvas.now rect.now self.old }
         ensures { OnOk result (AreBoxLevels canvas.now rect.now self.new) }
     {
-        let blocks = BoxBlocks::gather_of(alloc, canvas, rect, side, filled)?;
+        let blocks = BoxBlocks::gather_of(alloc, canvas, rect, side, size, filled)?;
         self.levels.push(blocks)?;
         Ok(())
     }
@@ -214,14 +220,19 @@ impl BoxLevels {
         let mut levels = BoxLevels {
             levels: Vec::new(alloc),
         };
-        if sums.levels.is_empty() || !has_cells(rect.size) {
+        let Some(first) = sums.levels.first() else {
+            return Ok(levels);
+        };
+        if !has_cells(rect.size) {
             return Ok(levels);
         }
         let filled = filled_cells(alloc, canvas, rect)?;
+        let size = short_rows(first.rect.size);
         let side = coarse_side(canvas.picture().samples());
-        levels.add_level(alloc, canvas, rect, side, &filled)?;
-        levels.add_level(alloc, canvas, rect, FINE_SIDE, &filled)?;
-        levels.add_level(alloc, canvas, rect, SINGLE_SIDE, &filled)?;
+        levels.add_level(alloc, canvas, rect, side, size, &filled)?;
+        levels.add_level(alloc, canvas, rect, MIDDLE_SIDE, size, &filled)?;
+        levels.add_level(alloc, canvas, rect, FINE_SIDE, size, &filled)?;
+        levels.add_level(alloc, canvas, rect, SINGLE_SIDE, size, &filled)?;
         Ok(levels)
     }
 
@@ -255,8 +266,9 @@ impl BoxLevels {
         marks_of(blocks, sums, canvas, sample, rect, from, n, limit)
     }
 
-    // Those that the blocks of one of the levels eliminate. A finer level is left out where a coarser one
-    // leaves so few places that their errors are summed up sooner.
+    // Those that the blocks of one of the levels eliminate. A finer level is left out where the coarser ones
+    // leave so few places that their errors are summed up sooner, and where it was of little use to the
+    // runs before.
     fn marks(
         &self,
         sums: &SampleSums,
@@ -267,6 +279,7 @@ impl BoxLevels {
         from: At,
         n: u32,
         limit: u64,
+        pauses: &mut Pauses,
     ) -> [bool; LANES]
         requires over { StandsOver canvas.now sample.now }
         requires inside { HoldsBox canvas.now.map.size rect.now.corner rect.now.size }
@@ -275,22 +288,25 @@ impl BoxLevels {
         requires few { n ≤ LANES }
         ensures { AreAbove canvas.now sample.now rect.now from n limit result }
     {
-        let coarse = self.level_marks(0, sums, canvas, sample, rect, part, from, n, limit);
-        if left_in(&coarse, n) <= FEW_FOR_FINE {
-            return coarse;
+        let mut marks = self.level_marks(0, sums, canvas, sample, rect, part, from, n, limit);
+        'levels: for level in 1..LEVELS {
+            let left = left_in(&marks, n);
+            if left <= FEW_PLACES[level] {
+                return marks;
+            }
+            if pauses.leaves_out(level) {
+                continue 'levels;
+            }
+            let more = self.level_marks(level, sums, canvas, sample, rect, part, from, n, limit);
+            marks = marks_of_both(&marks, &more);
+            pauses.count(level, left, left_in(&marks, n));
         }
-        let fine = self.level_marks(1, sums, canvas, sample, rect, part, from, n, limit);
-        let marks = marks_of_both(&coarse, &fine);
-        if left_in(&marks, n) <= FEW_FOR_SINGLE {
-            return marks;
-        }
-        let single = self.level_marks(2, sums, canvas, sample, rect, part, from, n, limit);
-        marks_of_both(&marks, &single)
+        marks
     }
 
     /// Of a run of places along X, from one on, those that the box can't be laid from with an error up
     /// to a limit. The run has no more places than the box may be laid from in the part with this
-    /// number, counted from 0.
+    /// number, counted from 0. The pauses are those of the runs before.
     pub fn eliminate(
         &self,
         sums: &SampleSums,
@@ -300,6 +316,7 @@ impl BoxLevels {
         part: u32,
         from: At,
         limit: u64,
+        pauses: &mut Pauses,
     ) -> Eliminated
         requires over { StandsOver canvas.now sample.now }
         requires inside { HoldsBox canvas.now.map.size rect.now.corner rect.now.size }
@@ -314,7 +331,7 @@ impl BoxLevels {
         if n == 0 {
             return Eliminated::none();
         }
-        let above = self.marks(sums, canvas, sample, rect, part, from, n, limit);
+        let above = self.marks(sums, canvas, sample, rect, part, from, n, limit, pauses);
         Eliminated {
             from,
             n,

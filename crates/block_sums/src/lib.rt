@@ -10,12 +10,13 @@
 //! nothing is said.
 //!
 //! A search over a whole sample goes by `SampleSums`, made once, and `BoxLevels`, gathered once a pick, each
-//! of three sizes of blocks, the last of which is a single cell. `BoxLevels::eliminate` gives an `Eliminated`,
+//! of four sizes of blocks, the last of which is a single cell. `BoxLevels::eliminate` gives an `Eliminated`,
 //! a run of places of a part of the sample, which says of each place whether it is ruled out for a limit.
+//! `Pauses` keeps for a walk over many runs which sizes are of little use to it.
 //!
 //! `blocks` has the blocks of a box, `sums` the sums of the sample's blocks, `lanes` the sums over a run of
 //! places or of entries at once, `bound` what they rule out, `places` how far a run goes, `levels` all sizes
-//! together, `eliminated` what a search is told. specs/Blocks.antt defines blocks and what they bound,
+//! together, `pauses` when one of them is left out, `eliminated` what a search is told. specs/Blocks.antt defines blocks and what they bound,
 //! specs/Eliminations.antt what a search may leave out.
 #![tactic(auto)]
 
@@ -24,6 +25,7 @@ mod bound;
 mod eliminated;
 mod lanes;
 mod levels;
+mod pauses;
 mod places;
 mod rows;
 mod sums;
@@ -33,4 +35,5 @@ mod tests;
 pub use blocks::BoxBlocks;
 pub use eliminated::Eliminated;
 pub use levels::{BoxLevels, SampleSums};
+pub use pauses::Pauses;
 pub use sums::{BlockSums, LANES};

@@ -1,8 +1,9 @@
-// What the blocks of a box and the sums of the sample are both made with: cells by their counts, and
-// the bytes of a row.
-ghost use Rattle.std.specs.Prelude.{◌≡◌, ◌≤◌, ◌<◌, ◌*◌, ◌^◌, ◌↔◌, IsTrue, length, sum};
+// What the blocks of a box and the sums of the sample are both made with: cells by their counts, where
+// they stand in raster order, and the bytes of a row.
+ghost use Rattle.std.specs.Prelude.{◌≡◌, ◌≤◌, ◌<◌, ◌*◌, ◌^◌, ◌↔◌, ℕ, IsTrue, length, sum};
 ghost use Rattle.cells.specs.Boxes.{HasCells};
-ghost use Rattle.cells.specs.Places.{spot};
+ghost use Rattle.cells.specs.Places.{raster_index, spot};
+ghost use Rattle.block_sums.specs.Gathered.{HasShortRows, IsShortStep};
 
 use cells::{At, GREATEST_AXIS, Size};
 
@@ -23,6 +24,29 @@ pub(crate) fn has_cells(size: Size) -> bool
     ensures { IsTrue result ↔ HasCells size }
 {
     size.w > 0 && size.h > 0 && size.f > 0
+}
+
+/// A size whose rows and columns are no longer than the greatest axis: the one given, or that of no cell
+/// where they are.
+pub(crate) fn short_rows(size: Size) -> Size
+    ensures { HasShortRows result }
+{
+    if size.w > GREATEST_AXIS || size.h > GREATEST_AXIS {
+        return Size { w: 0, h: 0, f: 0 };
+    }
+    size
+}
+
+/// How many cells come before the one that a step leads to from the first, in raster order, in a box of a
+/// size. It isn't tested whether the cell is in such a box.
+#[inline(always)]
+pub(crate) fn entries_before(size: Size, step: At) -> usize
+    requires rows { HasShortRows size }
+    requires step { IsShortStep step }
+    ensures { (x y f : ℕ) → step ≡ spot x y f → result ≡ raster_index size x y f }
+{
+    let (x, y, f) = (step.x as usize, step.y as usize, step.f as usize);
+    x + size.w as usize * (y + size.h as usize * f)
 }
 
 /// The sum of the bytes of a row.

@@ -194,18 +194,6 @@ fn block_sums(
     sums_of_cells(alloc, sample, rect, side)
 }
 
-// How many entries come before that of a place, in raster order. The place is inside, and isn't tested for
-// it again.
-#[inline(always)]
-fn entries_before(size: Size, step: At) -> usize
-    requires small { IsSmall size }
-    requires inside { IsInside size step }
-    ensures { index_in size step ≡ Some result }
-{
-    let (x, y, f) = (step.x as usize, step.y as usize, step.f as usize);
-    x + size.w as usize * (y + size.h as usize * f)
-}
-
 impl BlockSums {
     /// The sums of the blocks of a box inside the sample. They take 2 bytes a cell, and no more
     /// while they are made. The one error is out of memory.
@@ -240,19 +228,13 @@ impl BlockSums {
         self.rect.size.index_of(at.minus(self.rect.corner)).unwrap()
     }
 
-    /// The entries of a run of places, one a lane, from the place on that a step leads to from the
-    /// place of a first entry.
+    /// The entries of a run of places, one a lane, from an entry on.
     #[inline(always)]
-    pub(crate) fn run(&self, first: usize, step: At) -> &[u16]
-        requires small { IsSmall self.now.rect.size }
-        requires inside { IsInside self.now.rect.size step }
-        requires room { (i : ℕ) → index_in self.now.rect.size step ≡ Some i
-            → first + i + LANES ≤ length self.now.sums.items }
-        ensures run { (i : ℕ) → index_in self.now.rect.size step ≡ Some i
-            → result.now ≡ take LANES (drop (first + i) self.now.sums.items) }
+    pub(crate) fn run(&self, entry: usize) -> &[u16]
+        requires { entry + LANES ≤ length self.now.sums.items }
+        ensures run { result.now ≡ take LANES (drop entry self.now.sums.items) }
         ensures long { length result.now ≡ LANES }
     {
-        let entry = first + entries_before(self.rect.size, step);
-        &self.sums[entry..entry + LANES]
+        run_at(&self.sums, entry)
     }
 }

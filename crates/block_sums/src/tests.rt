@@ -125,7 +125,8 @@ fn places_of_a_sample(rt: HostRuntime) -> Result<(), Fail> {
 
     let sums = SampleSums::make(rt.alloc(), &sample)?;
     let levels = BoxLevels::gather(rt.alloc(), &canvas, &rect, &sums)?;
-    let run = levels.eliminate(&sums, &canvas, &sample, &rect, 0, from, 64);
+    let mut pauses = Pauses::none();
+    let run = levels.eliminate(&sums, &canvas, &sample, &rect, 0, from, 64, &mut pauses);
     // A place x columns on has the error 16 * x * x, and so have its blocks of 2x2 cells.
     for x in 0..8 {
         let at = At { x, y: 0, f: 0 };
@@ -166,7 +167,8 @@ fn places_told_by_single_cells(rt: HostRuntime) -> Result<(), Fail> {
 
     let sums = SampleSums::make(rt.alloc(), &sample)?;
     let levels = BoxLevels::gather(rt.alloc(), &canvas, &rect, &sums)?;
-    let run = levels.eliminate(&sums, &canvas, &sample, &rect, 0, from, 30_000);
+    let mut pauses = Pauses::none();
+    let run = levels.eliminate(&sums, &canvas, &sample, &rect, 0, from, 30_000, &mut pauses);
     // Every other place has the colours the other way round, and the error 4 * 100 * 100.
     for x in 0..20 {
         let at = At { x, y: 0, f: 0 };

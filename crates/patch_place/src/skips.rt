@@ -7,7 +7,7 @@ ghost use Rattle.map_canvas.specs.Canvases.{CanvasState, StandsOver};
 ghost use Rattle.block_sums.specs.Bounds.{place_along};
 ghost use Rattle.block_sums.specs.Eliminations.{AreBoxLevels, AreEliminated, AreSampleSums, IsEliminated};
 
-use block_sums::{BoxLevels, Eliminated, LANES, SampleSums};
+use block_sums::{BoxLevels, Eliminated, LANES, Pauses, SampleSums};
 use cells::{At, Volume};
 use map_canvas::{Canvas, Placement};
 
@@ -89,6 +89,7 @@ pub(crate) struct Skips {
     // whether another run may eliminate anything: not where there are no blocks
     serve: bool,
     pace: Pace,
+    pauses: Pauses,
 }
 
 impl Skips {
@@ -101,6 +102,7 @@ impl Skips {
             run: Eliminated::none(),
             serve: true,
             pace: Pace::start(),
+            pauses: Pauses::none(),
         }
     }
 
@@ -138,7 +140,8 @@ impl Skips {
             self.run = Eliminated::none();
             return;
         }
-        self.run = levels.eliminate(sums, canvas, sample, rect, part, *from, limit);
+        let pauses = &mut self.pauses;
+        self.run = levels.eliminate(sums, canvas, sample, rect, part, *from, limit, pauses);
         // A run without the place that it begins with is that of no blocks.
         self.serve = self.run.covers(*from);
     }

@@ -1,7 +1,7 @@
-use Rattle.std.proofs.Common.{◌≡◌, ◌<◌, ◌*◌, ◌^◌, ap, sym, subst, ◌∙◌, arith}
+use Rattle.std.proofs.Common.{◌≡◌, ◌<◌, ◌*◌, ◌/◌, ◌%◌, ◌^◌, ap, sym, subst, ◌∙◌, arith}
 use Rattle.cells.specs.Cells.{Cells, HasRun}
 use Rattle.cells.specs.Places.{SumFits, place_of, plus, spot}
-use Rattle.cells.proofs.BoxLaws.{box_small, box_sum_fits}
+use Rattle.cells.proofs.BoxLaws.{box_small, box_sum_fits, step_of}
 use Rattle.block_sums.specs.Blocks.{HasSumOf, block_bytes, block_sum}
 use Rattle.block_sums.specs.declared.blocks.Block.{Block}
 use Rattle.block_sums.proofs.BlockPlaces.{block_rows, picture_row}
@@ -35,6 +35,19 @@ block_sum-sum-requires-clause-rows c = λ j lj.
 pub block_sum-sum-requires-clause-few : goal.block_sum-sum-requires-clause-few
 block_sum-sum-requires-clause-few c = subst (λ (v : Cells). 255 * block_bytes c.args.self.now.side v.k < 2 ^ 16) (sym c.picture-picture.ensures.picture) c.requires.few
 
+pub entries_before-entry-requires-clause-step : goal.entries_before-entry-requires-clause-step
+entries_before-entry-requires-clause-step c =
+    let size = c.args.rect.now.size in
+    let step = step_of size c.args.i c.requires.some c.requires.below in
+    let small = box_small c.args.canvas.now.map.size c.args.rect.now.corner size c.picture-picture.ensures.canvas.map.small c.requires.some c.requires.inside in
+    record {
+      x = c.args.i % size.w;
+      y = c.args.i / size.w % size.h;
+      f = c.args.i / size.w / size.h;
+      is = c.place_at-step.ensures;
+      short = (omega (arith, step.x, small.axes.w), omega (arith, step.y, small.axes.h), omega (arith, step.f, small.axes.f));
+    }
+
 pub take_block-requires-clause-across : goal.take_block-requires-clause-across
 take_block-requires-clause-across c = omega (arith, c.requires.room.columns)
 
@@ -48,7 +61,7 @@ returns-clause-gathered c =
     let rect = c.args.rect.now in
     let side = c.args.self.now.side in
     let at : c.plus.result ≡ plus rect.corner c.place_at-step.result = c.plus.ensures in
-    let block : Block = record { step = c.place_at-step.result; sum = c.block_sum-sum.result } in
+    let block : Block = record { entry = c.entries_before-entry.result; step = c.place_at-step.result; sum = c.block_sum-sum.result } in
     let has_sum : HasSumOf canvas rect side block = c.block_sum-sum.ensures ∙ (λ k. block_sum (c.picture-picture.ensures.picture k) side (at k)) in
-    more_gathered canvas rect side c.args.i _ c.args.self.now.blocks.items _ block c.args.free.now c.take_block.new.free
-    c.requires.some c.requires.below c.requires.room c.requires.cells c.place_at-step.ensures has_sum c.in_ok-push.ensures.items c.take_block.ensures c.requires.gathered
+    more_gathered canvas rect side c.args.self.now.size c.args.i _ c.args.self.now.blocks.items _ block c.args.free.now c.take_block.new.free
+    c.requires.some c.requires.below c.requires.room c.requires.cells c.place_at-step.ensures c.entries_before-entry.ensures has_sum c.in_ok-push.ensures.items c.take_block.ensures c.requires.gathered

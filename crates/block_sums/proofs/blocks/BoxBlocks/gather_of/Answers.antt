@@ -1,7 +1,7 @@
 use Rattle.std.proofs.Common.{◌≤◌, ◌<◌, ◌*◌, ◌^◌, [], refl, subst, sym}
 use Rattle.cells.proofs.BoxLaws.{box_small}
 use Rattle.block_sums.specs.Blocks.{block_bytes}
-use Rattle.block_sums.specs.Gathered.{AreGathered}
+use Rattle.block_sums.specs.Gathered.{AreGathered, HasShortRows}
 use Rattle.block_sums.proofs.BlockErrors.{gathered_bound}
 use Rattle.block_sums.proofs.Gatherings.{none_gathered}
 use Rattle.block_sums.proofs.blocks.BoxBlocks.gather_of.Goals as goal
@@ -13,14 +13,18 @@ cells-i-end-requires c =
 pub loop-i-init : goal.loop-i-init
 loop-i-init c = record {
   gathered =
-      subst (λ blocks. AreGathered c.args.canvas.now c.args.rect.now c.args.side blocks c.in_ok-free.free.items) (sym c.new.ensures.items)
-      (subst (AreGathered c.args.canvas.now c.args.rect.now c.args.side []) (sym c.in_ok-free.ensures.items)
-      (none_gathered c.args.canvas.now c.args.rect.now c.args.side c.args.filled.now c.requires.long c.requires.filled));
+      subst (λ blocks. AreGathered c.args.canvas.now c.args.rect.now c.args.side c.args.size blocks c.in_ok-free.free.items) (sym c.new.ensures.items)
+      (subst (AreGathered c.args.canvas.now c.args.rect.now c.args.side c.args.size []) (sym c.in_ok-free.ensures.items)
+      (none_gathered c.args.canvas.now c.args.rect.now c.args.side c.args.size c.args.filled.now c.requires.long c.requires.filled));
   side = refl;
+  size = refl;
 }
 
 pub add_from-requires-clause-few : goal.add_from-requires-clause-few
 add_from-requires-clause-few c = subst (λ side. 255 * block_bytes side c.args.canvas.now.picture.k < 2 ^ 16) (sym c.loop-i.invariant.side) c.requires.few
+
+pub add_from-requires-clause-rows : goal.add_from-requires-clause-rows
+add_from-requires-clause-rows c = subst HasShortRows (sym c.loop-i.invariant.size) c.requires.rows
 
 pub returns-clause-blocks : goal.returns-clause-blocks
 returns-clause-blocks c =
@@ -29,7 +33,8 @@ returns-clause-blocks c =
     record {
       some = some;
       inside = c.loop-i.invariant.gathered.inside;
+      entries = c.loop-i.invariant.gathered.entries;
       sums = c.loop-i.invariant.gathered.sums;
       bound = λ sample from laid.
-          gathered_bound c.args.canvas.now c.picture-picture.ensures.canvas c.args.rect.now sample from laid blocks.side some blocks.blocks.items c.loop-i.free.items c.loop-i.invariant.gathered;
+          gathered_bound c.args.canvas.now c.picture-picture.ensures.canvas c.args.rect.now sample from laid blocks.side some blocks.size blocks.blocks.items c.loop-i.free.items c.loop-i.invariant.gathered;
     }

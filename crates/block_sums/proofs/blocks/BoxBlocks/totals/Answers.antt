@@ -1,9 +1,11 @@
-use Rattle.std.proofs.Common.{◌<◌, ◌*◌, ℕ, List, length, get_or, ap, arith}
+use Rattle.std.proofs.Common.{◌<◌, ◌*◌, ℕ, List, length, get_or, ap, sym, subst, ◌∙◌, arith}
 use Rattle.std.proofs.Math.Nat.{mul-le-mul_left}
 use Rattle.std.proofs.lemmas.List.{get_or-replicate}
 use Rattle.std.proofs.lemmas.List.Sums.{sum_by-take-le}
+use Rattle.std.specs.Prelude.{All, pos}
 use Rattle.block_sums.specs.declared.sums.TheConstants.{LANES}
-use Rattle.block_sums.proofs.RunEntries.{difference_at, first_inside, fits, further, one_more, placed, room, small, step_inside}
+use Rattle.block_sums.specs.Blocks.{HasEntry}
+use Rattle.block_sums.proofs.RunEntries.{difference_at, first_inside, fits, further, one_more, placed, room, same_size, short, small}
 use Rattle.block_sums.proofs.blocks.BoxBlocks.totals.Goals as goal
 
 pub index_of-first-requires-clause-small : goal.index_of-first-requires-clause-small
@@ -38,31 +40,52 @@ loop-stretch-init c = λ j lj.
 pub loop-i-init : goal.loop-i-init
 loop-i-init c = record { totals = c.loop-stretch.invariant; reached = omega arith }
 
-pub run-run-requires-clause-small : goal.run-run-requires-clause-small
-run-run-requires-clause-small c =
+pub entry_in-requires-clause-rows : goal.entry_in-requires-clause-rows
+entry_in-requires-clause-rows c =
     let sums = c.args.sums.now in
     let rect = c.args.rect.now in
     let laid = c.requires.laid 0 (omega (arith, c.requires.some)) in
     let at = placed sums.rect c.args.from c.args.n rect.size c.requires.some c.requires.inside in
-    small c.args.sample.now laid.volume sums c.requires.sums rect laid.fits.some c.args.from c.args.n c.requires.some at
+    let axes = (small c.args.sample.now laid.volume sums c.requires.sums rect laid.fits.some c.args.from c.args.n c.requires.some at).axes in
+    (axes.w.1, axes.h.1)
 
-pub run-run-requires-clause-inside : goal.run-run-requires-clause-inside
-run-run-requires-clause-inside c =
+pub entry_in-requires-clause-step : goal.entry_in-requires-clause-step
+entry_in-requires-clause-step c =
     let sums = c.args.sums.now in
     let rect = c.args.rect.now in
     let laid = c.requires.laid 0 (omega (arith, c.requires.some)) in
     let at = placed sums.rect c.args.from c.args.n rect.size c.requires.some c.requires.inside in
     let below : c.loop-i.i < length c.as_slice-blocks.result.now = omega (arith, c.loop-i-test.true, c.min-end.ensures) in
-    step_inside c.args.sample.now laid.volume sums c.requires.sums rect laid.fits.some c.args.from c.args.n c.requires.some at c.args.self.now.side c.requires.blocks.some c.requires.side c.as_slice-blocks.result.now c.args.self.now.blocks.items c.as_slice-blocks.ensures.value c.requires.blocks.inside c.loop-i.i _ below
+    short c.args.sample.now laid.volume sums c.requires.sums rect laid.fits.some c.args.from c.args.n c.requires.some at c.args.self.now.side c.requires.blocks.some c.requires.side c.as_slice-blocks.result.now c.args.self.now.blocks.items c.as_slice-blocks.ensures.value c.requires.blocks.inside c.loop-i.i _ below
 
-pub run-run-requires-clause-room : goal.run-run-requires-clause-room
-run-run-requires-clause-room c = λ s s_is.
+pub entry_in-requires-clause-own : goal.entry_in-requires-clause-own
+entry_in-requires-clause-own c = λ same.
+    let blocks = c.args.self.now in
+    let below : c.loop-i.i < length c.as_slice-blocks.result.now = omega (arith, c.loop-i-test.true, c.min-end.ensures) in
+    let each = subst (All (HasEntry blocks.size)) (sym c.as_slice-blocks.ensures.value) c.requires.blocks.entries in
+    subst (λ size. HasEntry size (get_or c.as_slice-blocks.result.now c.loop-i.i (record { entry = 0; step = record { x = pos 0; y = pos 0; f = pos 0 }; sum = 0 }))) (same_size c.args.self.now.size c.args.sums.now.rect.size (sym c.eq-own.ensures ∙ same)) (each c.loop-i.i _ below)
+
+pub overflow_add-first : goal.overflow_add-first
+overflow_add-first c =
     let sums = c.args.sums.now in
     let rect = c.args.rect.now in
     let laid = c.requires.laid 0 (omega (arith, c.requires.some)) in
     let at = placed sums.rect c.args.from c.args.n rect.size c.requires.some c.requires.inside in
     let below : c.loop-i.i < length c.as_slice-blocks.result.now = omega (arith, c.loop-i-test.true, c.min-end.ensures) in
-    room c.args.sample.now laid.volume sums c.requires.sums rect laid.fits.some c.args.from c.args.n c.requires.some at c.args.self.now.side c.requires.blocks.some c.requires.side c.as_slice-blocks.result.now c.args.self.now.blocks.items c.as_slice-blocks.ensures.value c.requires.blocks.inside c.loop-i.i _ below c.index_of-first.result s c.index_of-first.ensures s_is
+    omega (
+      arith,
+      room c.args.sample.now laid.volume sums c.requires.sums rect laid.fits.some c.args.from c.args.n c.requires.some at c.args.self.now.side c.requires.blocks.some c.requires.side c.as_slice-blocks.result.now c.args.self.now.blocks.items c.as_slice-blocks.ensures.value c.requires.blocks.inside c.loop-i.i _ below c.index_of-first.result c.entry_in.result c.index_of-first.ensures c.entry_in.ensures,
+      c.args.sums.now.sums.small,
+    )
+
+pub run-run-requires : goal.run-run-requires
+run-run-requires c =
+    let sums = c.args.sums.now in
+    let rect = c.args.rect.now in
+    let laid = c.requires.laid 0 (omega (arith, c.requires.some)) in
+    let at = placed sums.rect c.args.from c.args.n rect.size c.requires.some c.requires.inside in
+    let below : c.loop-i.i < length c.as_slice-blocks.result.now = omega (arith, c.loop-i-test.true, c.min-end.ensures) in
+    room c.args.sample.now laid.volume sums c.requires.sums rect laid.fits.some c.args.from c.args.n c.requires.some at c.args.self.now.side c.requires.blocks.some c.requires.side c.as_slice-blocks.result.now c.args.self.now.blocks.items c.as_slice-blocks.ensures.value c.requires.blocks.inside c.loop-i.i _ below c.index_of-first.result c.entry_in.result c.index_of-first.ensures c.entry_in.ensures
 
 pub loop-i-preserved : goal.loop-i-preserved
 loop-i-preserved c = record {
@@ -73,7 +96,7 @@ loop-i-preserved c = record {
       let at = placed sums.rect c.args.from c.args.n rect.size c.requires.some c.requires.inside in
       let below : c.loop-i.i < length c.as_slice-blocks.result.now = omega (arith, c.loop-i-test.true, c.min-end.ensures) in
       let in_lanes : j < LANES = omega (arith, c.requires.few) in
-      one_more c.args.sample.now laid.volume sums c.requires.sums rect laid.fits.some c.args.from c.args.n c.requires.some at c.args.self.now.side c.requires.blocks.some c.requires.side c.as_slice-blocks.result.now c.args.self.now.blocks.items c.as_slice-blocks.ensures.value c.requires.blocks.inside c.loop-i.i _ below c.run-run.result.now c.index_of-first.result c.index_of-first.ensures c.run-run.ensures.run j lj c.requires.few _ _ c.args.scale.factor (c.with_block-totals.ensures j in_lanes) (c.loop-i.invariant.totals j lj);
+      one_more c.args.sample.now laid.volume sums c.requires.sums rect laid.fits.some c.args.from c.args.n c.requires.some at c.args.self.now.side c.requires.blocks.some c.requires.side c.as_slice-blocks.result.now c.args.self.now.blocks.items c.as_slice-blocks.ensures.value c.requires.blocks.inside c.loop-i.i _ below c.run-run.result.now c.index_of-first.result c.entry_in.result c.index_of-first.ensures c.entry_in.ensures c.run-run.ensures.run j lj c.requires.few _ _ c.args.scale.factor (c.with_block-totals.ensures j in_lanes) (c.loop-i.invariant.totals j lj);
   reached = omega (arith, c.loop-i-test.true, c.min-end.ensures);
 }
 

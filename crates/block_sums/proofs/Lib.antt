@@ -11,3 +11,4 @@ pub mod Vectors
 pub mod SignedLanes
 pub mod RunEntries
 pub mod PlaceRuns
+pub mod Marks

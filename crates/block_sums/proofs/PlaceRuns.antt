@@ -1,8 +1,8 @@
 -- Runs of places along X.
-use Rattle.std.proofs.Common.{◌≡◌, ℕ, zero, suc, ◌+◌, ◌<◌, ◌≤◌, true, false, get_or, replicate, refl, sym, subst, ◌∙◌, arith}
+use Rattle.std.proofs.Common.{◌≡◌, ℕ, ◌+◌, ◌<◌, ◌≤◌, refl, sym, subst, arith}
 use Rattle.std.proofs.lemmas.Int.{ints}
 use Rattle.std.specs.Prelude.{ℤ, pos, ◌+ℤ◌, ◌-ℤ◌, Option, Some, None, IfSome, IsSome}
-use mathlib.Core.Bool.{false≢true}
+use Rattle.std.proofs.lemmas.Nat.Bits.{bit_at-zero}
 use Rattle.cells.specs.declared.place.At.{At}
 use Rattle.cells.specs.declared.place.Box3.{Box3}
 use Rattle.cells.specs.declared.place.Size.{Size}
@@ -12,17 +12,12 @@ use Rattle.cells.specs.Places.{HasAxes, IsInside, minus, spot}
 use Rattle.cells.proofs.BoxTests.{each_of_axes, of_inside, on_axis_bounds}
 use Rattle.cells.proofs.Raster.{index_of_spot}
 use Rattle.block_sums.specs.declared.eliminated.Eliminated.{Eliminated}
-use Rattle.block_sums.specs.Bounds.{IsBoxIn, place_along}
+use Rattle.block_sums.specs.Bounds.{IsBoxIn, IsMarked, place_along}
 use Rattle.block_sums.specs.Eliminations.{IsInRun, run_box}
 
--- a list of lanes none of which is marked
-pub unmarked : (n j : ℕ) → get_or (replicate n false) j false ≡ false
-unmarked zero j = refl
-unmarked (suc n) zero = refl
-unmarked (suc n) (suc j) = unmarked n j
-
-pub none_marked : (j : ℕ) → get_or (replicate 32 false) j false ≡ true → ⊥
-none_marked j marked = false≢true (sym (unmarked 32 j) ∙ marked)
+-- no place is marked by 0
+pub none_marked : (j : ℕ) → IsMarked 0 j → ⊥
+none_marked j marked = absurd (omega (arith, bit_at-zero j, marked))
 
 -- the place of a run that is so many steps past its first
 pub along : (run : Eliminated) (at : At) (j : ℕ) → IsInRun run at → at.x -ℤ run.from.x ≡ pos j → (j < run.n) × (at ≡ place_along run.from j)

@@ -1,5 +1,6 @@
 -- Which of a run of places a box can't be laid from within a limit. (Own.)
-use Rattle.std.specs.Prelude.{◌≡◌, ◌<◌, ℕ, Bool, List, true, false, slice_index_or}
+use Rattle.std.specs.Prelude.{◌≡◌, ◌<◌, ℕ}
+use Rattle.std.specs.Int.{bit_at}
 use Rattle.cells.specs.declared.place.At.{At}
 use Rattle.cells.specs.declared.place.Box3.{Box3}
 use Rattle.cells.specs.declared.place.Size.{Size}
@@ -18,11 +19,15 @@ place_along from j = plus from (spot j 0 0)
 abbrev pub IsBoxIn : Box3 → At → Size → Type 0
 IsBoxIn outer corner size = HoldsBox outer.size (minus corner outer.corner) size
 
+-- a place is marked, by its number: its bit is set
+abbrev pub IsMarked : ℕ → ℕ → Type 0
+IsMarked marks j = bit_at marks j ≡ 1
+
 -- of each of the first n places that is marked, the error of the box laid from there is above the
 -- limit
-abbrev pub AreAbove : CanvasState → Cells → Box3 → At → ℕ → ℕ → List Bool → Type 0
+abbrev pub AreAbove : CanvasState → Cells → Box3 → At → ℕ → ℕ → ℕ → Type 0
 AreAbove canvas sample rect from n limit marks =
-    (j : ℕ) → j < n → slice_index_or marks j false ≡ true
+    (j : ℕ) → j < n → IsMarked marks j
     → limit < error_sum canvas.map sample (laid_from rect (place_along from j))
 
 -- the box may be laid from each of the first n places

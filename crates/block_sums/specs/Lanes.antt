@@ -1,4 +1,5 @@
--- A reader has to trust this file. Lanes of 16 bits that stand for signed numbers.
+-- Lanes of 16 bits that stand for signed numbers, for the contracts of this crate's own functions; no
+-- public contract names them. (Own.)
 use Rattle.std.specs.Prelude.{◌-◌, ◌^◌, ℕ, nat_lt, if◌then◌else◌}
 
 -- how far the signed number of 16 bits is from 0, by its bits as a number

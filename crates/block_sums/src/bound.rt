@@ -7,7 +7,7 @@ ghost use Rattle.block_sums.specs.Gathered.{HasShortRows, IsShortStep};
 ghost use Rattle.block_sums.specs.Sums.{AreBlockSums};
 
 use crate::blocks::{Block, BoxBlocks};
-use crate::lanes::{are_above, marks, no_sums, with_block};
+use crate::lanes::{left_in, marks, no_sums, with_block};
 use crate::rows::entries_before;
 use crate::sums::{BlockSums, LANES};
 use cells::{At, Box3, Size, Volume};
@@ -31,7 +31,9 @@ struct Scale {
 
 // The scale for a limit: the factor is a power of two by which the most still fits. By it no difference
 // comes to more than 3/4 of 2^16, unless one does by itself: read as a signed number, each is 2^14 or
-// more from 0 where it doesn't fit. None where there isn't a factor, since no total would be above the most.
+// more from 0 where it doesn't fit. One does by itself only in blocks of more than 192 bytes (8x8 cells with
+// 4 samples, 6x6 with 6), between a nearly black one and a nearly white one. None where there isn't a
+// factor, since no total would be above the most.
 fn scale_of(side: u32, k: u32, limit: u64) -> Option<Scale>
     requires some { 1 ≤ k }
     requires few { 255 * block_bytes side k < 2 ^ 16 }
@@ -111,16 +113,16 @@ impl BoxBlocks {
                 let run = sums.run(first + block.entry_in(size, own));
                 totals = with_block(totals, block.sum, run, scale.factor);
             }
-            if are_above(totals, scale.most, n) {
+            if left_in(marks(totals, scale.most), n) == 0 {
                 return totals;
             }
         }
         totals
     }
 
-    /// Of n places along X from one on, which the box can't be laid from with an error up to the
-    /// limit, as far as the blocks show it. The box laid from each of them lies in that of the
-    /// sums.
+    /// Of n places along X from one on, marks those that the box can't be laid from with an error up to the
+    /// limit, as far as the blocks show it: place j by the bit of 2^j. The box laid from each of them lies
+    /// in that of the sums.
     pub fn above(
         &self,
         sums: &BlockSums,
@@ -130,7 +132,7 @@ impl BoxBlocks {
         from: At,
         n: u32,
         limit: u64,
-    ) -> [bool; LANES]
+    ) -> u32
         requires blocks { AreBoxBlocks canvas.now rect.now self.now }
         requires sums { AreBlockSums sample.now sums.now }
         requires side { self.now.side ≡ sums.now.side }
@@ -141,10 +143,10 @@ impl BoxBlocks {
         ensures { AreAbove canvas.now sample.now rect.now from n limit result }
     {
         if n == 0 {
-            return [false; LANES];
+            return 0;
         }
         let Some(scale) = scale_of(self.side, sample.samples(), limit) else {
-            return [false; LANES];
+            return 0;
         };
         let totals = self.totals(sums, canvas, sample, rect, from, n, scale);
         marks(totals, scale.most)

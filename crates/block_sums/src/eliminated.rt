@@ -1,13 +1,13 @@
 // Which places of a run are left out.
-ghost use Rattle.std.specs.Prelude.{◌≡◌, ◌≤◌, ◌<◌, ◌+◌, ◌↔◌, ℕ, IfSome, IsTrue, slice_index_or, true, false};
+ghost use Rattle.std.specs.Prelude.{◌≡◌, ◌≤◌, ◌<◌, ◌+◌, ◌↔◌, ℕ, IfSome, IsTrue};
 ghost use Rattle.cells.specs.declared.place.Box3.{Box3};
 ghost use Rattle.cells.specs.Cells.{Cells};
 ghost use Rattle.map_canvas.specs.Canvases.{CanvasState};
-ghost use Rattle.block_sums.specs.Bounds.{place_along};
+ghost use Rattle.block_sums.specs.Bounds.{IsMarked, place_along};
 ghost use Rattle.block_sums.specs.Eliminations.{AreEliminated, IsEliminated, IsInRun, run_box};
 
+use crate::lanes::marked_from;
 use crate::places::steps_past;
-use crate::sums::LANES;
 use cells::{At, Box3, Size};
 
 /// Of a run of places along X, those that a box can't be laid from with an error up to a limit, as far
@@ -18,7 +18,8 @@ pub struct Eliminated {
     // how many places are in the run
     pub(crate) n: u32,
     pub(crate) limit: u64,
-    pub(crate) above: [bool; LANES],
+    // of each place, by the bit of 2 to the power of its number, whether its error is above the limit
+    pub(crate) above: u32,
 }
 
 impl Eliminated {
@@ -31,7 +32,7 @@ impl Eliminated {
             from: At { x: 0, y: 0, f: 0 },
             n: 0,
             limit: 0,
-            above: [false; LANES],
+            above: 0,
         }
     }
 
@@ -71,17 +72,9 @@ impl Eliminated {
     fn marked_from(&self, first: u32) -> u32
         requires { first < self.now.n }
         ensures within { first + result ≤ self.now.n }
-        ensures marked { (j : ℕ) → j < result
-            → slice_index_or self.now.above (first + j) false ≡ true }
+        ensures marked { (j : ℕ) → j < result → IsMarked self.now.above (first + j) }
     {
-        let mut count = 0;
-        'marked: for j in first..self.n.min(LANES as u32) {
-            if !self.above[j as usize] {
-                return count;
-            }
-            count += 1;
-        }
-        count
+        marked_from(self.above, first).min(self.n - first)
     }
 
     /// How many places along X, from one on, are eliminated for a limit, which may be less than that of the

@@ -1,7 +1,8 @@
 // Sums over a run of places or of entries at once, one a lane.
-ghost use Rattle.std.specs.Prelude.{◌≡◌, ◌≤◌, ◌<◌, ◌+◌, ◌-◌, ◌*◌, ◌^◌, ℕ, length, replicate, slice_index, slice_index_or, map, take, true, false};
-ghost use Rattle.std.specs.Int.{abs_diff, cast_signed, w16};
+ghost use Rattle.std.specs.Prelude.{◌≡◌, ◌≤◌, ◌<◌, ◌+◌, ◌-◌, ◌*◌, ◌^◌, ℕ, length, replicate, slice_index, map, take};
+ghost use Rattle.std.specs.Int.{abs_diff, bit_at, cast_signed, w16};
 ghost use Rattle.block_sums.specs.Blocks.{square_of_difference};
+ghost use Rattle.block_sums.specs.Bounds.{IsMarked};
 ghost use Rattle.block_sums.specs.Lanes.{from_zero};
 
 use crate::sums::LANES;
@@ -74,47 +75,39 @@ pub(crate) fn with_block(totals: u16x32, sum: u16, run: &[u16], factor: u16) -> 
     sums(totals, high_squares(lanes))
 }
 
-/// Whether each of the first n totals is above a number. It only says when to stop, so nothing is
-/// promised.
+/// Marks the lanes whose total is above a number: lane j by the bit of 2^j.
 #[inline(always)]
-pub(crate) fn are_above(totals: u16x32, most: u16, n: u32) -> bool {
-    let marks = totals.simd_gt(u16x32::splat(most)).to_bitmask();
-    marks.trailing_ones() >= n
+pub(crate) fn marks(totals: u16x32, most: u16) -> u32
+    ensures { (j : ℕ) → j < LANES → IsMarked result j → most < slice_index totals j }
+{
+    totals.simd_gt(u16x32::splat(most)).to_bitmask() as u32
 }
 
-/// Marks the lanes whose total is above a number.
-pub(crate) fn marks(totals: u16x32, most: u16) -> [bool; LANES]
-    ensures { (j : ℕ) → j < LANES → slice_index_or result j false ≡ true
-        → most < slice_index totals j }
+/// Marks the lanes that one of two numbers marks.
+#[inline(always)]
+pub(crate) fn marks_of_both(some: u32, others: u32) -> u32
+    ensures { (j : ℕ) → IsMarked result j → bit_at some j ≡ 0 → IsMarked others j }
 {
-    let lanes = totals.to_array();
-    let mut marks = [false; LANES];
-    for j in 0..LANES {
-        marks[j] = lanes[j] > most;
-    }
-    marks
+    some | others
 }
 
-/// Marks the lanes that one of two lists marks.
-pub(crate) fn marks_of_both(some: &[bool; LANES], others: &[bool; LANES]) -> [bool; LANES]
-    ensures { (j : ℕ) → slice_index_or result j false ≡ true
-        → slice_index_or some.now j false ≡ false → slice_index_or others.now j false ≡ true }
+/// How many lanes from one on are marked, one after another.
+pub(crate) fn marked_from(marks: u32, first: u32) -> u32
+    ensures { (j : ℕ) → j < result → IsMarked marks (first + j) }
 {
-    let mut marks = [false; LANES];
-    for j in 0..LANES {
-        marks[j] = some[j] || others[j];
+    if first >= LANES as u32 {
+        return 0;
     }
-    marks
+    (u64::from(marks) >> first).trailing_ones()
 }
 
 /// How many of the first n lanes aren't marked. It only says when to stop, so nothing is promised.
-pub(crate) fn left_in(marks: &[bool; LANES], n: u32) -> u32 {
-    let mut left = 0;
-    for j in 0..LANES {
-        // without a branch, so that lanes are counted at once
-        left += u32::from((j < n as usize) & !marks[j]);
-    }
-    left
+#[inline(always)]
+pub(crate) fn left_in(marks: u32, n: u32) -> u32
+    requires { n ≤ LANES }
+{
+    let first = (1u64 << n).wrapping_sub(1);
+    (first & !u64::from(marks)).count_ones()
 }
 
 /// The sums of nothing, one a lane.

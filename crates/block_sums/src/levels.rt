@@ -156,7 +156,7 @@ fn marks_of(
     from: At,
     n: u32,
     limit: u64,
-) -> [bool; LANES]
+) -> u32
     requires over { StandsOver canvas.now sample.now }
     requires inside { HoldsBox canvas.now.map.size rect.now.corner rect.now.size }
     requires blocks { AreBoxBlocks canvas.now rect.now blocks.now }
@@ -167,7 +167,7 @@ fn marks_of(
     // It is asked for only to show the check that the sample is a volume.
     let _sample = sample.samples();
     if blocks.side != sums.side || !holds_run(&sums.rect, rect.size, from, n) {
-        return [false; LANES];
+        return 0;
     }
     blocks.above(sums, canvas, sample, rect, from, n, limit)
 }
@@ -248,7 +248,7 @@ impl BoxLevels {
         from: At,
         n: u32,
         limit: u64,
-    ) -> [bool; LANES]
+    ) -> u32
         requires below { level < LEVELS }
         requires over { StandsOver canvas.now sample.now }
         requires inside { HoldsBox canvas.now.map.size rect.now.corner rect.now.size }
@@ -258,10 +258,10 @@ impl BoxLevels {
         ensures { AreAbove canvas.now sample.now rect.now from n limit result }
     {
         let Some(blocks) = self.levels.get(level) else {
-            return [false; LANES];
+            return 0;
         };
         let Some(sums) = sums.levels.get(LEVELS * part as usize + level) else {
-            return [false; LANES];
+            return 0;
         };
         marks_of(blocks, sums, canvas, sample, rect, from, n, limit)
     }
@@ -280,7 +280,7 @@ impl BoxLevels {
         n: u32,
         limit: u64,
         pauses: &mut Pauses,
-    ) -> [bool; LANES]
+    ) -> u32
         requires over { StandsOver canvas.now sample.now }
         requires inside { HoldsBox canvas.now.map.size rect.now.corner rect.now.size }
         requires sums { AreSampleSums sample.now sums.now }
@@ -290,7 +290,7 @@ impl BoxLevels {
     {
         let mut marks = self.level_marks(0, sums, canvas, sample, rect, part, from, n, limit);
         'levels: for level in 1..LEVELS {
-            let left = left_in(&marks, n);
+            let left = left_in(marks, n);
             if left <= FEW_PLACES[level] {
                 return marks;
             }
@@ -298,8 +298,8 @@ impl BoxLevels {
                 continue 'levels;
             }
             let more = self.level_marks(level, sums, canvas, sample, rect, part, from, n, limit);
-            marks = marks_of_both(&marks, &more);
-            pauses.count(level, left, left_in(&marks, n));
+            marks = marks_of_both(marks, more);
+            pauses.count(level, left, left_in(marks, n));
         }
         marks
     }

@@ -43,7 +43,10 @@ impl Pauses {
     {
         let idle = left > tried / 2;
         self.spells[level] = if idle {
-            self.spells[level].saturating_mul(2).saturating_add(1).min(MOST_RUNS)
+            self.spells[level]
+                .saturating_mul(2)
+                .saturating_add(1)
+                .min(MOST_RUNS)
         } else {
             0
         };

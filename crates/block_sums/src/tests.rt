@@ -3,7 +3,7 @@ ghost use Rattle.std.specs.Prelude.{IsTrue};
 ghost use Rattle.cells.specs.Boxes.{AxisHolds, HoldsBox};
 
 use super::*;
-use crate::lanes::{are_above, left_in, marks, marks_of_both, no_sums, with_block};
+use crate::lanes::{left_in, marks, marks_of_both, no_sums, with_block};
 use cells::{At, Box3, Size, Volume};
 use map_canvas::{Canvas, Placement};
 use std::test::Fail;
@@ -56,38 +56,33 @@ fn totals_of_a_run(rt: HostRuntime) {
     // The totals are the squares of how far the lanes are from the lane of number 10, in units of 2^16,
     // where differences are taken 256 times.
     let totals = with_block(no_sums(), 10, &run, 256);
-    assert!(rt; are_above(totals, 25, 5) && !are_above(totals, 25, 6));
-    for (j, mark) in marks(totals, 25).iter().enumerate() {
-        assert_eq!(rt; *mark, j < 5 || j > 15);
+    let above = marks(totals, 25);
+    for j in 0..LANES {
+        assert_eq!(rt; above >> j & 1 == 1, j < 5 || j > 15);
     }
     // A difference of 2^15 counts whole, and four squares of it are more than a total has room for.
     let far = with_block(no_sums(), 1 << 15, &[0; LANES], 1);
-    assert_eq!(rt; marks(far, 16_383), [true; LANES]);
-    assert_eq!(rt; marks(far, 16_384), [false; LANES]);
+    assert_eq!(rt; marks(far, 16_383), u32::MAX);
+    assert_eq!(rt; marks(far, 16_384), 0);
     let mut farther = far;
     for _ in 0..3 {
         farther = with_block(farther, 0, &[1 << 15; LANES], 1);
     }
-    assert_eq!(rt; marks(farther, u16::MAX - 1), [true; LANES]);
-    assert_eq!(rt; marks(farther, u16::MAX), [false; LANES]);
+    assert_eq!(rt; marks(farther, u16::MAX - 1), u32::MAX);
+    assert_eq!(rt; marks(farther, u16::MAX), 0);
     // One of 3/4 of 2^16 counts as one of a quarter.
     let wrapped = with_block(no_sums(), 49_152, &[0; LANES], 1);
-    assert_eq!(rt; marks(wrapped, 4_095), [true; LANES]);
-    assert_eq!(rt; marks(wrapped, 4_096), [false; LANES]);
+    assert_eq!(rt; marks(wrapped, 4_095), u32::MAX);
+    assert_eq!(rt; marks(wrapped, 4_096), 0);
 }
 
 #[test]
 fn marks_of_two_levels(rt: HostRuntime) {
-    let mut some = [false; LANES];
-    let mut others = [false; LANES];
-    some[0] = true;
-    others[1] = true;
-    let both = marks_of_both(&some, &others);
-    for (j, mark) in both.iter().enumerate() {
-        assert_eq!(rt; *mark, j < 2);
-    }
-    assert_eq!(rt; left_in(&both, 2), 0);
-    assert_eq!(rt; left_in(&both, 5), 3);
+    let both = marks_of_both(1, 2);
+    assert_eq!(rt; both, 3);
+    assert_eq!(rt; left_in(both, 2), 0);
+    assert_eq!(rt; left_in(both, 5), 3);
+    assert_eq!(rt; left_in(both, 32), 30);
 }
 
 // A run of cells lies within one axis.

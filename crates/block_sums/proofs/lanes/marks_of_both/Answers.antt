@@ -1,9 +1,6 @@
-use Rattle.std.proofs.Common.{refl}
-use Rattle.block_sums.proofs.PlaceRuns.{none_marked}
+use Rattle.std.proofs.Common.{arith}
+use Rattle.std.proofs.lemmas.Nat.Bits.{bit_at_or}
 use Rattle.block_sums.proofs.lanes.marks_of_both.Goals as goal
 
-pub loop-j-init : goal.loop-j-init
-loop-j-init c = record {
-  long = refl;
-  either = λ k marked _. absurd (none_marked k marked);
-}
+pub returns : goal.returns
+returns c = λ j marked unset. omega (arith, bit_at_or c.args.some c.args.others j, marked, unset)

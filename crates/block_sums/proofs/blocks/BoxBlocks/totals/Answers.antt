@@ -100,8 +100,8 @@ loop-i-preserved c = record {
   reached = omega (arith, c.loop-i-test.true, c.min-end.ensures);
 }
 
-pub returns-then-are_above : goal.returns-then-are_above
-returns-then-are_above c = λ j lj.
+pub returns-then-left_in-eq0 : goal.returns-then-left_in-eq0
+returns-then-left_in-eq0 c = λ j lj.
     let whole = mul-le-mul_left (c.args.scale.factor * c.args.scale.factor) (sum_by-take-le (difference_at c.args.sample.now c.args.self.now.side c.args.from j) c.args.self.now.blocks.items c.loop-i.i) in
     omega (arith, c.loop-i.invariant.totals j lj, whole)
 

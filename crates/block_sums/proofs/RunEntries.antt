@@ -22,7 +22,7 @@ use Rattle.block_sums.specs.declared.sums.BlockSums.{BlockSums}
 use Rattle.block_sums.specs.declared.sums.TheConstants.{LANES}
 use Rattle.block_sums.specs.Blocks.{IsBlockIn, block_sum, square_of_difference}
 use Rattle.block_sums.specs.Bounds.{IsBoxIn, place_along}
-use Rattle.block_sums.specs.Gathered.{IsShortStep}
+use Rattle.block_sums.specs.Gathered.{IsCellStep}
 use Rattle.block_sums.specs.Sums.{AreBlockSums}
 
 some_same : {A : Type 0} (x y : A) → Some x ≡ Some y → x ≡ y
@@ -120,7 +120,7 @@ module _ (sample : Cells) (volume : IsVolume sample) (sums : BlockSums) (are : A
     is : IsBlockIn rect side block
     is = subst (All (IsBlockIn rect side)) (sym same) all i d lt
 
-    pub short : IsShortStep block.step
+    pub short : IsCellStep block.step
     short = record {
       x = is.x;
       y = is.y;

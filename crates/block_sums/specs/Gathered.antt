@@ -59,7 +59,7 @@ abbrev pub HasShortRows : Size → Type 0
 HasShortRows size = (size.w ≤ GREATEST_AXIS) × (size.h ≤ GREATEST_AXIS)
 
 -- a step goes so far at most along each axis, and not back
-pub record IsShortStep (step : At) : Type 0 where
+pub record IsCellStep (step : At) : Type 0 where
   pub x : ℕ
   pub y : ℕ
   pub f : ℕ

@@ -3,7 +3,7 @@ ghost use Rattle.std.specs.Prelude.{◌≡◌, ◌≤◌, ◌<◌, ◌+◌, ◌*
 ghost use Rattle.cells.specs.Places.{raster_index, spot};
 ghost use Rattle.block_sums.specs.Blocks.{AreBoxBlocks, HasEntry, block_bytes, blocks_difference};
 ghost use Rattle.block_sums.specs.Bounds.{AreAbove, IsBoxIn, MayBeLaid, place_along};
-ghost use Rattle.block_sums.specs.Gathered.{HasShortRows, IsShortStep};
+ghost use Rattle.block_sums.specs.Gathered.{HasShortRows, IsCellStep};
 ghost use Rattle.block_sums.specs.Sums.{AreBlockSums};
 
 use crate::blocks::{Block, BoxBlocks};
@@ -65,7 +65,7 @@ impl Block {
     #[inline(always)]
     fn entry_in(&self, size: Size, own: bool) -> usize
         requires rows { HasShortRows size }
-        requires step { IsShortStep self.now.step }
+        requires step { IsCellStep self.now.step }
         requires own { IsTrue own → HasEntry size self.now }
         ensures { (x y f : ℕ) → self.now.step ≡ spot x y f → result ≡ raster_index size x y f }
     {

@@ -3,7 +3,7 @@
 ghost use Rattle.std.specs.Prelude.{◌≡◌, ◌≤◌, ◌<◌, ◌*◌, ◌^◌, ◌↔◌, ℕ, IsTrue, length, sum};
 ghost use Rattle.cells.specs.Boxes.{HasCells};
 ghost use Rattle.cells.specs.Places.{raster_index, spot};
-ghost use Rattle.block_sums.specs.Gathered.{HasShortRows, IsShortStep};
+ghost use Rattle.block_sums.specs.Gathered.{HasShortRows, IsCellStep};
 
 use cells::{At, GREATEST_AXIS, Size};
 
@@ -42,7 +42,7 @@ pub(crate) fn short_rows(size: Size) -> Size
 #[inline(always)]
 pub(crate) fn entries_before(size: Size, step: At) -> usize
     requires rows { HasShortRows size }
-    requires step { IsShortStep step }
+    requires step { IsCellStep step }
     ensures { (x y f : ℕ) → step ≡ spot x y f → result ≡ raster_index size x y f }
 {
     let (x, y, f) = (step.x as usize, step.y as usize, step.f as usize);

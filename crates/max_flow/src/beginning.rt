@@ -40,7 +40,7 @@ fn search(
     let mut trees = Trees::make(alloc, nodes, arcs)?;
     let limit = WORK * (pipes.len() as u64 + 1);
     trees.send(network.source(), network.sink(), limit);
-    trees.write_rooms(backward);
+    trees.write_backward(backward);
     Ok(())
 }
 

@@ -5,7 +5,7 @@
 // Nothing is promised of what it finds: `checking.rt` tells whether it's a flow, and level graphs go on
 // from there. The search gives up once it has looked at more arcs than it may.
 
-use crate::packed::{Arc, PackedArcs};
+use crate::packed::{Arc, PackedArcs, other_way};
 use std::alloc::{AllocError, Global};
 use std::collections::VecDeque;
 
@@ -24,22 +24,21 @@ enum Parent {
     End,
     // Its arc can carry no more, and it waits for another.
     Lost,
-    // The node that the arc in this place enters.
-    Arc(u32),
+    // The node that the arc with this number enters.
+    Arc { number: u32, node: u32 },
 }
 
-// How far a node is from the end of its tree was true at the time of its stamp.
+// How far a node is from the end of its tree was true at the time of its stamp. One that is farther than can be
+// told has the greatest distance.
 #[derive(Clone, Copy, Debug)]
 struct Node {
-    parent: Parent,
     stamp: u32,
-    distance: u32,
+    distance: u16,
     tree: Tree,
     active: bool,
 }
 
 const LOOSE: Node = Node {
-    parent: Parent::Nothing,
     stamp: 0,
     distance: 0,
     tree: Tree::Neither,
@@ -54,6 +53,8 @@ const FEW: u32 = 16;
 #[derive(Drop)]
 pub struct Trees {
     arcs: PackedArcs,
+    // The parents stand apart, since paths are followed more often than all else is read.
+    parents: Vec<Parent>,
     nodes: Vec<Node>,
     // Nodes from which a tree may grow.
     active: VecDeque<u32>,
@@ -67,11 +68,13 @@ pub struct Trees {
 impl Trees {
     /// Makes the tables for a network with that many nodes and these arcs.
     pub fn make(alloc: Global, nodes: usize, arcs: PackedArcs) -> Result<Trees, AllocError> {
+        let parents = vec![in alloc; Parent::Nothing; nodes]?;
         let list = vec![in alloc; LOOSE; nodes]?;
         let active = VecDeque::with_capacity(alloc, nodes)?;
         let lost = VecDeque::with_capacity(alloc, nodes)?;
         Ok(Trees {
             arcs,
+            parents,
             nodes: list,
             active,
             lost,
@@ -89,15 +92,30 @@ impl Trees {
     }
 
     #[inline(always)]
-    fn put(&mut self, node: u32, value: Node) {
+    fn parent(&self, node: u32) -> Parent {
+        match self.parents.get(node as usize) {
+            Some(parent) => *parent,
+            None => Parent::Nothing,
+        }
+    }
+
+    #[inline(always)]
+    fn set_parent(&mut self, node: u32, parent: Parent) {
+        if let Some(entry) = self.parents.get_mut(node as usize) {
+            *entry = parent;
+        }
+    }
+
+    #[inline(always)]
+    fn set_node(&mut self, node: u32, value: Node) {
         if let Some(entry) = self.nodes.get_mut(node as usize) {
             *entry = value;
         }
     }
 
-    fn set_parent(&mut self, node: u32, parent: Parent, distance: u32, stamp: u32) {
+    #[inline(always)]
+    fn set_distance(&mut self, node: u32, distance: u16, stamp: u32) {
         if let Some(entry) = self.nodes.get_mut(node as usize) {
-            entry.parent = parent;
             entry.distance = distance;
             entry.stamp = stamp;
         }
@@ -121,49 +139,54 @@ impl Trees {
         Some(node)
     }
 
-    // Of the arc in a place and the one the other way, the place of the one over which the tree grows.
+    // Of an arc that leaves a node and the one the other way, the one over which the tree grows.
     #[inline(always)]
-    fn outward(tree: Tree, place: u32, arc: Arc) -> u32 {
+    fn outward(tree: Tree, number: u32) -> u32 {
         if tree == Tree::Source {
-            place
+            number
         } else {
-            arc.mate
+            other_way(number)
         }
     }
 
-    // Of the arc in a place, from a node to its parent, and the one the other way, the place of the one
-    // over which flow goes.
+    // Of an arc from a node to its parent and the one the other way, the one over which flow goes.
     #[inline(always)]
-    fn inward(tree: Tree, place: u32, arc: Arc) -> u32 {
+    fn inward(tree: Tree, number: u32) -> u32 {
         if tree == Tree::Source {
-            arc.mate
+            other_way(number)
         } else {
-            place
+            number
         }
     }
 
     // Lets a node's tree grow over one of its arcs. Returns whether the arc leads to the other tree.
     #[inline(always)]
-    fn grow_over(&mut self, node: Node, arc: Arc) -> bool {
+    fn grow_over(&mut self, number: u32, node: Node, arc: Arc) -> bool {
         let other = self.node(arc.head);
-        let distance = node.distance.wrapping_add(1);
+        let distance = node.distance.saturating_add(1);
+        let parent = Parent::Arc {
+            number: other_way(arc.number),
+            node: number,
+        };
         if other.tree == Tree::Neither {
             let grown = Node {
-                parent: Parent::Arc(arc.mate),
                 stamp: node.stamp,
                 distance,
                 tree: node.tree,
                 active: other.active,
             };
-            self.put(arc.head, grown);
+            self.set_parent(arc.head, parent);
+            self.set_node(arc.head, grown);
             self.activate(arc.head);
             return false;
         }
         if other.tree != node.tree {
             return true;
         }
-        if other.stamp <= node.stamp && other.distance > distance && other.parent != Parent::End {
-            self.set_parent(arc.head, Parent::Arc(arc.mate), distance, node.stamp);
+        let is_farther = other.stamp <= node.stamp && other.distance > distance;
+        if is_farther && self.parent(arc.head) != Parent::End {
+            self.set_parent(arc.head, parent);
+            self.set_distance(arc.head, distance, node.stamp);
         }
         false
     }
@@ -181,29 +204,27 @@ impl Trees {
         for place in first..places.end {
             self.work = self.work.wrapping_add(1);
             let arc = self.arcs.at(place);
-            let open = Trees::outward(node.tree, place, arc);
-            if self.arcs.room(open) > 0 && self.grow_over(node, arc) {
+            let open = Trees::outward(node.tree, arc.number);
+            if self.arcs.room(open) > 0 && self.grow_over(number, node, arc) {
                 return Some(place);
             }
         }
         None
     }
 
-    // The least that the arcs between a node and the end of its tree can carry, at most `least`, or 0 where
-    // the node hangs on no end.
-    fn least_room(&self, from: u32, tree: Tree, least: u32) -> u32 {
-        let mut least = least;
-        let mut number = from;
+    // The least that the arcs between a node and the end of its tree can carry, at most `most`, or 0 where the
+    // node hangs on no end.
+    fn least_room(&self, from: u32, tree: Tree, most: u32) -> u32 {
+        let mut least = most;
+        let mut last = from;
         for _ in 0..self.nodes.len() {
-            let Parent::Arc(place) = self.node(number).parent else {
+            let Parent::Arc { number, node } = self.parent(last) else {
                 break;
             };
-            let arc = self.arcs.at(place);
-            let over = Trees::inward(tree, place, arc);
-            least = least.min(self.arcs.room(over));
-            number = arc.head;
+            least = least.min(self.arcs.room(Trees::inward(tree, number)));
+            last = node;
         }
-        if self.node(number).parent == Parent::End {
+        if self.parent(last) == Parent::End {
             least
         } else {
             0
@@ -213,103 +234,98 @@ impl Trees {
     // Sends an amount over the arcs between a node and the end of its tree. Nodes whose arc can carry no
     // more lose their parent.
     fn push_along(&mut self, from: u32, tree: Tree, amount: u32) {
-        let mut number = from;
+        let mut last = from;
         for _ in 0..self.nodes.len() {
-            let Parent::Arc(place) = self.node(number).parent else {
+            let Parent::Arc { number, node } = self.parent(last) else {
                 break;
             };
-            let arc = self.arcs.at(place);
-            let over = Trees::inward(tree, place, arc);
             self.work = self.work.wrapping_add(1);
-            if self.arcs.push(over, amount) {
-                self.lose(number);
-                let _ = self.lost.push_front(number);
+            if self.arcs.push(Trees::inward(tree, number), amount) {
+                self.set_parent(last, Parent::Lost);
+                let _ = self.lost.push_front(last);
             }
-            number = arc.head;
+            last = node;
         }
     }
 
-    fn lose(&mut self, number: u32) {
-        if let Some(entry) = self.nodes.get_mut(number as usize) {
-            entry.parent = Parent::Lost;
-        }
-    }
-
-    // Sends as much as it can carry over the path through the arc at which the trees meet. Returns whether
-    // it could send any.
-    fn augment(&mut self, meeting: u32) -> bool {
-        let arc = self.arcs.at(meeting);
-        let tail = self.arcs.at(arc.mate).head;
-        let ahead = self.least_room(tail, Tree::Source, self.arcs.room(meeting));
-        let amount = self.least_room(arc.head, Tree::Sink, ahead);
-        if amount == 0 {
-            return false;
-        }
+    // Sends as much as it can carry, at most `most`, over an arc from a node of a tree to the other one, and
+    // on to the end of that. Returns how much.
+    fn send_beyond(&mut self, tree: Tree, arc: Arc, most: u32) -> u32 {
+        let beyond = if tree == Tree::Source {
+            Tree::Sink
+        } else {
+            Tree::Source
+        };
+        let meeting = Trees::outward(tree, arc.number);
+        let most = most.min(self.arcs.room(meeting));
+        let amount = self.least_room(arc.head, beyond, most);
         self.arcs.push(meeting, amount);
-        self.push_along(tail, Tree::Source, amount);
-        self.push_along(arc.head, Tree::Sink, amount);
-        true
+        self.push_along(arc.head, beyond, amount);
+        amount
     }
 
     // How far a node is from the end of its tree, or None where it hangs on none.
-    fn distance(&mut self, from: u32) -> Option<u32> {
-        let mut steps = 0u32;
-        let mut number = from;
+    fn distance(&mut self, from: u32) -> Option<u16> {
+        let mut steps = 0u16;
+        let mut last = from;
         for _ in 0..self.nodes.len() {
             self.work = self.work.wrapping_add(1);
-            let node = self.node(number);
-            if node.stamp == self.time {
-                return Some(steps.wrapping_add(node.distance));
+            let entry = self.node(last);
+            if entry.stamp == self.time {
+                return Some(steps.saturating_add(entry.distance));
             }
-            match node.parent {
+            match self.parent(last) {
                 Parent::End => {
-                    self.set_parent(number, Parent::End, 1, self.time);
-                    return Some(steps.wrapping_add(1));
+                    self.set_distance(last, 1, self.time);
+                    return Some(steps.saturating_add(1));
                 }
-                Parent::Arc(place) => number = self.arcs.at(place).head,
+                Parent::Arc { node, .. } => last = node,
                 _ => return None,
             }
-            steps = steps.wrapping_add(1);
+            steps = steps.saturating_add(1);
         }
         None
     }
 
     // Notes the distances of the nodes from one to the end of its tree.
-    fn note_distances(&mut self, from: u32, distance: u32) {
+    fn note_distances(&mut self, from: u32, distance: u16) {
         let mut left = distance;
-        let mut number = from;
+        let mut last = from;
         for _ in 0..self.nodes.len() {
-            let node = self.node(number);
-            let Parent::Arc(place) = node.parent else {
-                return;
-            };
-            if node.stamp == self.time {
+            if self.node(last).stamp == self.time {
                 return;
             }
-            self.set_parent(number, node.parent, left, self.time);
-            left = left.wrapping_sub(1);
-            number = self.arcs.at(place).head;
+            let Parent::Arc { node, .. } = self.parent(last) else {
+                return;
+            };
+            self.set_distance(last, left, self.time);
+            left = left.saturating_sub(1);
+            last = node;
         }
     }
 
     // The arc over which a node that lost its parent hangs nearest to the end of its tree, or the first over which
     // it hangs no farther from it than it did.
-    fn nearest_parent(&mut self, number: u32, tree: Tree) -> Option<(u32, u32)> {
+    fn nearest_parent(&mut self, number: u32, tree: Tree) -> Option<(Parent, u16)> {
         let mut best = None;
-        let mut least = u32::MAX;
+        let mut least = u16::MAX;
         let before = self.node(number).distance.max(2);
         for place in self.arcs.places_of(number) {
             self.work = self.work.wrapping_add(1);
             let arc = self.arcs.at(place);
-            let over = Trees::inward(tree, place, arc);
+            let over = Trees::inward(tree, arc.number);
             if self.arcs.room(over) == 0 || self.node(arc.head).tree != tree {
                 continue;
             }
             if let Some(distance) = self.distance(arc.head) {
                 self.note_distances(arc.head, distance);
-                if distance < least {
+                if best.is_none() || distance < least {
                     least = distance;
-                    best = Some((place, distance));
+                    let parent = Parent::Arc {
+                        number: arc.number,
+                        node: arc.head,
+                    };
+                    best = Some((parent, distance));
                 }
                 if distance < before {
                     break;
@@ -328,26 +344,30 @@ impl Trees {
             if other.tree != tree {
                 continue;
             }
-            let over = Trees::inward(tree, place, arc);
+            let over = Trees::inward(tree, arc.number);
             if self.arcs.room(over) > 0 {
                 self.activate(arc.head);
             }
-            if other.parent == Parent::Arc(arc.mate) {
-                self.lose(arc.head);
+            let child = Parent::Arc {
+                number: other_way(arc.number),
+                node: number,
+            };
+            if self.parent(arc.head) == child {
+                self.set_parent(arc.head, Parent::Lost);
                 let _ = self.lost.push_back(arc.head);
             }
         }
         let active = self.node(number).active;
-        let node = Node { active, ..LOOSE };
-        self.put(number, node);
+        self.set_parent(number, Parent::Nothing);
+        self.set_node(number, Node { active, ..LOOSE });
     }
 
     // Finds a parent for a node that lost it, or takes the node out of its tree.
     fn adopt(&mut self, number: u32) {
         let tree = self.node(number).tree;
-        if let Some((place, distance)) = self.nearest_parent(number, tree) {
-            let farther = distance.wrapping_add(1);
-            self.set_parent(number, Parent::Arc(place), farther, self.time);
+        if let Some((parent, distance)) = self.nearest_parent(number, tree) {
+            self.set_parent(number, parent);
+            self.set_distance(number, distance.saturating_add(1), self.time);
         } else {
             self.set_loose(number, tree);
         }
@@ -375,6 +395,34 @@ impl Trees {
         Some((self.next_active()?, 0))
     }
 
+    // Sends flow over a node's arcs to the other tree, from the arc in a place on, until there is none or the path
+    // from the node to the end of its own tree can carry no more. That path is sent all of it at once. Returns
+    // the place of the last arc, or None where nothing could be sent.
+    fn send_from(&mut self, number: u32, place: u32, limit: u64) -> Option<u32> {
+        let tree = self.node(number).tree;
+        let most = self.least_room(number, tree, u32::MAX);
+        let mut sent = 0u32;
+        let mut last = place;
+        for _ in 0..limit {
+            self.time = self.time.wrapping_add(1);
+            let left = most.wrapping_sub(sent);
+            let arc = self.arcs.at(last);
+            let amount = self.send_beyond(tree, arc, left);
+            sent = sent.wrapping_add(amount);
+            if amount == 0 || amount == left || self.work > limit {
+                break;
+            }
+            self.adopt_all(limit);
+            let Some(next) = self.grow(number, last) else {
+                break;
+            };
+            last = next;
+        }
+        self.push_along(number, tree, sent);
+        self.adopt_all(limit);
+        if sent > 0 { Some(last) } else { None }
+    }
+
     // Lets the trees grow and sends flow where they meet, until they're apart or the work is above the limit.
     fn search(&mut self, limit: u64) {
         let mut last = None;
@@ -387,19 +435,15 @@ impl Trees {
             };
             last = None;
             self.work = self.work.wrapping_add(1);
-            let tree = self.node(number).tree;
-            if tree == Tree::Neither {
+            if self.node(number).tree == Tree::Neither {
                 continue;
             }
             let Some(place) = self.grow(number, from) else {
                 continue;
             };
-            self.time = self.time.wrapping_add(1);
-            let meeting = Trees::outward(tree, place, self.arcs.at(place));
-            if !self.augment(meeting) {
+            let Some(place) = self.send_from(number, place, limit) else {
                 return;
-            }
-            self.adopt_all(limit);
+            };
             last = Some((number, place));
         }
     }
@@ -407,13 +451,13 @@ impl Trees {
     // Makes an end of the network the beginning of its tree.
     fn plant(&mut self, number: u32, tree: Tree) {
         let node = Node {
-            parent: Parent::End,
             stamp: 0,
             distance: 1,
             tree,
             active: false,
         };
-        self.put(number, node);
+        self.set_parent(number, Parent::End);
+        self.set_node(number, node);
         self.activate(number);
     }
 
@@ -424,10 +468,8 @@ impl Trees {
         self.search(limit);
     }
 
-    /// Writes, in the place of each of some places of arcs, what that arc can still carry.
-    pub fn write_rooms(&self, places: &mut [u32]) {
-        for entry in places.iter_mut() {
-            *entry = self.arcs.room(*entry);
-        }
+    /// Writes what the arc against each pipe can still carry.
+    pub fn write_backward(&self, backward: &mut [u32]) {
+        self.arcs.write_backward(backward);
     }
 }

@@ -4,6 +4,7 @@ pub mod Taking
 pub mod BlockPlaces
 pub mod Gatherings
 pub mod BlockErrors
+pub mod Reordered
 pub mod SumRows
 pub mod AddedSums
 pub mod BlockRows

@@ -14,8 +14,11 @@ use cells::{At, Box3, Size, Volume};
 use map_canvas::Canvas;
 use std::simd::prelude::*;
 
-// After how many blocks it is seen whether all places are above the limit.
+// After how many blocks, at the least, it is seen whether all places are above the limit.
 const STRETCH: usize = 8;
+
+// How often that is seen, about, where there are many blocks.
+const MOST_TESTS: usize = 32;
 
 // By how many bits differences are shifted up at most.
 const MOST_UP: u32 = 8;
@@ -104,15 +107,17 @@ impl BoxBlocks {
         let size = sums.rect.size;
         let own = self.size == size;
         let blocks = self.blocks.as_slice();
+        let step = (blocks.len() / MOST_TESTS).max(STRETCH);
         let mut totals = no_sums();
-        for stretch in 0..blocks.len().div_ceil(STRETCH) {
-            let start = STRETCH * stretch;
-            let end = (start + STRETCH).min(blocks.len());
-            for i in start..end {
+        let mut done = 0;
+        'stretches: while done < blocks.len() {
+            let end = done.saturating_add(step).min(blocks.len());
+            for i in done..end {
                 let block = &blocks[i];
                 let run = sums.run(first + block.entry_in(size, own));
                 totals = with_block(totals, block.sum, run, scale.factor);
             }
+            done = end;
             if left_in(marks(totals, scale.most), n) == 0 {
                 return totals;
             }

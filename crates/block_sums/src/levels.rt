@@ -201,7 +201,8 @@ impl BoxLevels {
         requires levels { AreBoxLevels canvas.now rect.now self.old }
         ensures { OnOk result (AreBoxLevels canvas.now rect.now self.new) }
     {
-        let blocks = BoxBlocks::gather_of(alloc, canvas, rect, side, size, filled)?;
+        let mut blocks = BoxBlocks::gather_of(alloc, canvas, rect, side, size, filled)?;
+        blocks.put_far_first();
         self.levels.push(blocks)?;
         Ok(())
     }

@@ -25,6 +25,7 @@ mod bound;
 mod eliminated;
 mod lanes;
 mod levels;
+mod order;
 mod pauses;
 mod places;
 mod rows;

@@ -32,13 +32,13 @@ index_of-first-requires-clause-inside c =
     let at = placed sums.rect c.args.from c.args.n rect.size c.requires.some c.requires.inside in
     first_inside c.args.sample.now laid.volume sums c.requires.sums rect laid.fits.some c.args.from c.args.n c.requires.some at
 
-pub loop-stretch-init : goal.loop-stretch-init
-loop-stretch-init c = λ j lj.
+pub stretches-init : goal.stretches-init
+stretches-init c = λ j lj.
     let in_lanes : j < LANES = omega (arith, c.requires.few) in
     omega (arith, ap (λ (xs : List ℕ). get_or xs j 0) c.no_sums-totals.ensures, get_or-replicate {A = ℕ} LANES j 0 0 in_lanes)
 
 pub loop-i-init : goal.loop-i-init
-loop-i-init c = record { totals = c.loop-stretch.invariant; reached = omega arith }
+loop-i-init c = record { totals = c.stretches.invariant; reached = omega (arith, c.min-end.ensures, c.stretches-test.true) }
 
 pub entry_in-requires-clause-rows : goal.entry_in-requires-clause-rows
 entry_in-requires-clause-rows c =
@@ -97,7 +97,7 @@ loop-i-preserved c = record {
       let below : c.loop-i.i < length c.as_slice-blocks.result.now = omega (arith, c.loop-i-test.true, c.min-end.ensures) in
       let in_lanes : j < LANES = omega (arith, c.requires.few) in
       one_more c.args.sample.now laid.volume sums c.requires.sums rect laid.fits.some c.args.from c.args.n c.requires.some at c.args.self.now.side c.requires.blocks.some c.requires.side c.as_slice-blocks.result.now c.args.self.now.blocks.items c.as_slice-blocks.ensures.value c.requires.blocks.inside c.loop-i.i _ below c.run-run.result.now c.index_of-first.result c.entry_in.result c.index_of-first.ensures c.entry_in.ensures c.run-run.ensures.run j lj c.requires.few _ _ c.args.scale.factor (c.with_block-totals.ensures j in_lanes) (c.loop-i.invariant.totals j lj);
-  reached = omega (arith, c.loop-i-test.true, c.min-end.ensures);
+  reached = omega (arith, c.loop-i-test.true);
 }
 
 pub returns-then-left_in-eq0 : goal.returns-then-left_in-eq0
@@ -105,11 +105,11 @@ returns-then-left_in-eq0 c = λ j lj.
     let whole = mul-le-mul_left (c.args.scale.factor * c.args.scale.factor) (sum_by-take-le (difference_at c.args.sample.now c.args.self.now.side c.args.from j) c.args.self.now.blocks.items c.loop-i.i) in
     omega (arith, c.loop-i.invariant.totals j lj, whole)
 
-pub loop-stretch-preserved : goal.loop-stretch-preserved
-loop-stretch-preserved c = λ j lj.
+pub stretches-preserved : goal.stretches-preserved
+stretches-preserved c = λ j lj.
     further (difference_at c.args.sample.now c.args.self.now.side c.args.from j) c.args.self.now.blocks.items c.loop-i.i _ (c.args.scale.factor * c.args.scale.factor) _ c.loop-i.invariant.reached (c.loop-i.invariant.totals j lj)
 
 pub returns : goal.returns
 returns c = λ j lj.
-    let whole = mul-le-mul_left (c.args.scale.factor * c.args.scale.factor) (sum_by-take-le (difference_at c.args.sample.now c.args.self.now.side c.args.from j) c.args.self.now.blocks.items (8 * c.loop-stretch.stretch)) in
-    omega (arith, c.loop-stretch.invariant j lj, whole)
+    let whole = mul-le-mul_left (c.args.scale.factor * c.args.scale.factor) (sum_by-take-le (difference_at c.args.sample.now c.args.self.now.side c.args.from j) c.args.self.now.blocks.items c.stretches.done) in
+    omega (arith, c.stretches.invariant j lj, whole)

@@ -14,11 +14,12 @@ use cells::{At, Box3, Size, Volume};
 use map_canvas::Canvas;
 use std::simd::prelude::*;
 
-// After how many blocks, at the least, it is seen whether all places are above the limit.
-const STRETCH: usize = 8;
+// After how many blocks, at the least, it is seen whether all places are above the limit. That takes as
+// long as two or three blocks.
+const LEAST_STRETCH: usize = 8;
 
-// How often that is seen, about, where there are many blocks.
-const MOST_TESTS: usize = 32;
+// How often it is seen, about, where there are many blocks.
+const STRETCHES: usize = 32;
 
 // By how many bits differences are shifted up at most.
 const MOST_UP: u32 = 8;
@@ -107,11 +108,11 @@ impl BoxBlocks {
         let size = sums.rect.size;
         let own = self.size == size;
         let blocks = self.blocks.as_slice();
-        let step = (blocks.len() / MOST_TESTS).max(STRETCH);
+        let stretch = (blocks.len() / STRETCHES).max(LEAST_STRETCH);
         let mut totals = no_sums();
         let mut done = 0;
         'stretches: while done < blocks.len() {
-            let end = done.saturating_add(step).min(blocks.len());
+            let end = done.saturating_add(stretch).min(blocks.len());
             for i in done..end {
                 let block = &blocks[i];
                 let run = sums.run(first + block.entry_in(size, own));

@@ -5,14 +5,14 @@
 #
 #   examples/bench.sh [PROGRAM ..]
 #
-# Each PROGRAM is a built bench, as that of another checkout: crates/bench/out/bench. They are run in turns, so that
+# Each PROGRAM is a built bench, as that of another checkout: ./build bench makes one. They are run in turns, so that
 # their figures may be compared. CASES and ROUNDS in the environment choose others than all and 5. It wants GNU `time`
 # at /usr/bin/time.
 set -eu
 top=$(cd "$(dirname "$0")/.." && pwd)
 if [ $# -eq 0 ]; then
-    (cd "$top/crates/bench" && rt run >/dev/null 2>&1) || { echo "crates/bench is not built" >&2; exit 1; }
-    set -- "$top/crates/bench/out/bench"
+    "$top/build" bench >&2 || { echo "bench is not built" >&2; exit 1; }
+    set -- "$top/bench"
 fi
 cases=${CASES:-sub:2 sub-256:1 rounds:2 noise:1 equal-means:1 plain:1 sub-64:1 sub-2048:1 whole:1 random:1 grid:10
     quilt:1 quilt-noise:1 check:10 check-random:10 loop-100:10 loop-4095:5 boundary-5:3000 boundary-10:2000

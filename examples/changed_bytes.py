@@ -8,7 +8,7 @@ other value, and RANDOM times (1,000) a random byte of a larger run's files to a
 status 0 exactly where verify.py, which shares nothing with weave, finds that the changed files stand; with status 1 where
 it finds a broken rule, and then name the same record, rule and place; and with status 3 or 4 where the changed file isn't
 in its form or within its limits. Its line is then the one that is found here too, with the place of the fault, but for
-pictures and files of another kind, where it has to name the file. Build the program first: cd crates/weave && rt run. It
+pictures and files of another kind, where it has to name the file. Build the program first: ./build. It
 takes some minutes."""
 import os
 import random

@@ -1,10 +1,10 @@
 #!/bin/sh
 # Clips of just as many cells and frames as are read, and of one frame more, each with what the built program answers: samples of
-# 2^23 cells and of 4,096 frames, and an out file of 2^25 cells, which check reads. Build the program first: cd crates/weave && rt run.
+# 2^23 cells and of 4,096 frames, and an out file of 2^25 cells, which check reads. Build the program first: ./build.
 # It takes about 200 MB in a folder of its own.
 set -eu
 here=$(cd "$(dirname "$0")" && pwd)
-weave="$here/../crates/weave/out/weave"
+weave="$here/../weave"
 [ -x "$weave" ] || { echo "no $weave: build it first"; exit 2; }
 work=$(mktemp -d)
 trap 'rm -rf "$work"' EXIT

@@ -1,10 +1,10 @@
 #!/bin/sh
 # Clips of ffmpeg's own sources: each is read by weave and grown in space and time, the files of the run are checked, and the
-# clip that was written is read by ffmpeg. Then clips that weave refuses. Build the program first: cd crates/weave && rt run.
+# clip that was written is read by ffmpeg. Then clips that weave refuses. Build the program first: ./build.
 # It wants ffmpeg and ffprobe.
 set -eu
 here=$(cd "$(dirname "$0")" && pwd)
-weave="$here/../crates/weave/out/weave"
+weave="$here/../weave"
 work=$(mktemp -d)
 trap 'rm -rf "$work"' EXIT
 

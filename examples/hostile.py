@@ -3,7 +3,7 @@
 
     examples/hostile.py [PART ..]      parts: growths sure space limits full files streams words; all where none is named
 
-Build the programs first: (cd crates/weave && rt run) and (cd crates/fuzz && rt run). It wants `cc`, and is run on Linux. As
+Build the programs first: ./build && ./build fuzz. It wants `cc`, and is run on Linux. As
 root it makes small file systems in memory and runs some commands as nobody; as another user it leaves those out and says so.
 
 Of each run it asks: that it ends by itself, with a status of weave's and with the one line on standard error that goes with it;
@@ -22,8 +22,8 @@ import tempfile
 import threading
 
 HERE = os.path.dirname(os.path.abspath(__file__))
-WEAVE = os.path.join(HERE, "..", "crates", "weave", "out", "weave")
-FUZZ = os.path.join(HERE, "..", "crates", "fuzz", "out", "fuzz")
+WEAVE = os.path.join(HERE, "..", "weave")
+FUZZ = os.path.join(HERE, "..", "fuzz")
 SURE_RUNS = 7
 SECONDS = 60
 BEFORE = b"as before"
@@ -491,7 +491,7 @@ PARTS = [growths, sure, space, limits, full, files, streams, words]
 def main(*names):
     for program in (WEAVE, FUZZ):
         if not os.access(program, os.X_OK):
-            sys.exit(f"no {program}: build it first, by rt run in its crate")
+            sys.exit(f"no {program}: build it first, by ./build and ./build fuzz")
     for part in PARTS:
         if names and part.__name__ not in names:
             continue

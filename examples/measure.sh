@@ -6,9 +6,8 @@
 #   examples/measure.sh
 set -eu
 top=$(cd "$(dirname "$0")/.." && pwd)
-weave=$top/crates/weave/out/weave
-(cd "$top/crates/weave" && rt run >/dev/null 2>&1) || true
-test -x "$weave" || { echo "the program is not built: run 'rt run' in crates/weave" >&2; exit 1; }
+weave=$top/weave
+"$top/build" >&2 || { echo "the program is not built" >&2; exit 1; }
 work=$(mktemp -d)
 trap 'rm -rf "$work"' EXIT
 cd "$work"

@@ -5,11 +5,11 @@
 #
 #   examples/most_records.sh
 #
-# Build the program first: cd crates/weave && rt run. It takes some minutes, and 300 MB for a file in the folder of
+# Build the program first: ./build. It takes some minutes, and 300 MB for a file in the folder of
 # temporary files.
 set -u
 here=$(cd "$(dirname "$0")" && pwd)
-weave=$here/../crates/weave/out/weave
+weave=$here/../weave
 [ -x "$weave" ] || { echo "no $weave: build it first"; exit 2; }
 room=$(mktemp -d) || exit 2
 trap 'rm -rf "$room"' EXIT

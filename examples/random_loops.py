@@ -3,7 +3,7 @@
 
     examples/random_loops.py [RUNS [SEED]]
 
-Where `loop` finds none, all closed walks of a short length are tried. Build the program first: cd crates/weave && rt run."""
+Where `loop` finds none, all closed walks of a short length are tried. Build the program first: ./build."""
 import itertools
 import os
 import random

@@ -3,7 +3,7 @@
 
     examples/random_quilts.py [RUNS [SEED]]
 
-Build the program first: cd crates/weave && rt run."""
+Build the program first: ./build."""
 import os
 import random
 import subprocess

@@ -3,7 +3,7 @@
 
     examples/random_runs.py [RUNS [SEED]]
 
-Build the program first: cd crates/weave && rt run. 1,000 runs take a minute or two."""
+Build the program first: ./build. 1,000 runs take a minute or two."""
 import os
 import random
 import re
@@ -13,7 +13,7 @@ import tempfile
 
 from verify import verify
 
-WEAVE = os.path.join(os.path.dirname(os.path.abspath(__file__)), "..", "crates", "weave", "out", "weave")
+WEAVE = os.path.join(os.path.dirname(os.path.abspath(__file__)), "..", "weave")
 
 
 def write_sample(name, chance):

@@ -1,8 +1,8 @@
 #!/bin/sh
 # Tiles each picture of this folder to 100x75 cells with the built program, and each clip, and compares the status and the line of
-# each with what examples/README.md says. Build it first: cd crates/weave && rt run.
+# each with what examples/README.md says. Build it first: ./build.
 cd "$(dirname "$0")/.." || exit 2
-weave=crates/weave/out/weave
+weave=./weave
 [ -x "$weave" ] || { echo "no $weave: build it first"; exit 2; }
 room=$(mktemp -d) || exit 2
 trap 'rm -rf "$room"' EXIT

@@ -8,9 +8,8 @@
 # samples; of cuts and of walks the records aren't, so their sums aren't compared.
 set -eu
 cd "$(dirname "$0")"
-(cd ../crates/weave && rt run > /tmp/weave_build.$$ 2>&1) || { cat /tmp/weave_build.$$; echo "run.sh: the build failed"; exit 1; }
-rm -f /tmp/weave_build.$$
-weave=$PWD/../crates/weave/out/weave
+../build || { echo "run.sh: the build failed"; exit 1; }
+weave=$PWD/../weave
 mkdir -p results
 cd results
 rm -f ./*

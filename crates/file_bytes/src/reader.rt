@@ -1,7 +1,8 @@
 // Reading a file through one buffer.
-ghost use Rattle.std.specs.Prelude.{◌≡◌, ◌≤◌, ◌<◌, ◌+◌, ◌*◌, ◌^◌, ◌++◌, [], ◌∷◌, length, take, drop, min, IsTrue, ◌↔◌, OnOk, OnErr, IfOk, IfErr, true, false, vec_len};
+ghost use Rattle.std.specs.Prelude.{◌≡◌, ◌≤◌, ◌<◌, ◌+◌, ◌*◌, ◌^◌, ◌++◌, [], ◌∷◌, length, take, drop, ◌/◌, min, max, IsTrue, ◌↔◌, OnOk, OnErr, IfOk, IfErr, true, false, vec_len, vec_capacity};
 ghost use Rattle.shelf_core.specs.Files.{OnlyReads, ReadsRose};
 ghost use Rattle.file_bytes.specs.Fields.{field_16, field_32, field_64, fields_16, fields_32, fields_64};
+ghost use Rattle.file_bytes.specs.declared.reader.TheConstants.{LEAST_ROOM};
 ghost use Rattle.file_bytes.specs.Reading.{Follows, Stops, StopsInList, StopsShort, Took, after_serving};
 
 use shelf_core::{Failed, FormFault, ReadError, Shelf};
@@ -73,7 +74,13 @@ fn number_64(field: &[u8]) -> u64
 /// Makes room for one more item of a list that is read. Where there is none, it takes room for an eighth
 /// more than there are, but for no more than are missing: a list takes memory as its items come.
 pub fn make_room<T>(items: &mut Vec<T>, missing: usize) -> Result<(), AllocError>
-    ensures { items.new.items ≡ items.old.items }
+    ensures items { items.new.items ≡ items.old.items }
+    ensures kept { vec_len items.old < vec_capacity items.old →
+        vec_capacity items.new ≡ vec_capacity items.old }
+    ensures grown { OnOk result (vec_capacity items.old ≤ vec_len items.old →
+        vec_capacity items.new ≡
+        vec_len items.old + min (max (vec_len items.old / 8) LEAST_ROOM) missing) }
+    ensures full { OnErr result (vec_capacity items.old ≤ vec_len items.old) }
 {
     if items.len() < items.capacity() {
         return Ok(());

@@ -30,9 +30,9 @@ loop-i-preserved g c =
     let block = c.in_ok-block.block in
     let ok = c.in_ok-block.ensures {u = tt} in
     let so = c.loop-i.invariant in
-    let all = (c.in-Ok.ensures {u = tt}).items ∙ ap (λ items. items ++ block ∷ []) c.make_room.ensures in
+    let all = (c.in-Ok.ensures {u = tt}).items ∙ ap (λ items. items ++ block ∷ []) c.make_room.ensures.items in
     record {
-      count = omega (arith, (c.in-Ok.ensures {u = tt}).len, ap length c.make_room.ensures, so.count);
+      count = omega (arith, (c.in-Ok.ensures {u = tt}).len, ap length c.make_room.ensures.items, so.count);
       at = omega (arith, ok.place, so.at, c.cells_of.ensures);
       few = omega (arith, ok.cells, c.cells_of.ensures);
       before = (λ k. so.before k + c.cells_of.ensures k) ∙ sym (block_cells-append c.loop-i.blocks.items block) ∙ ap block_cells (sym all);

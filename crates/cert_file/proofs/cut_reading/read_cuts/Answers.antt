@@ -29,9 +29,9 @@ loop-i-preserved g c =
     let cut = c.in_ok-cut.cut in
     let ok = c.in_ok-cut.ensures {u = tt} in
     let so = c.loop-i.invariant in
-    let all = (c.in-Ok.ensures {u = tt}).items ∙ ap (λ items. items ++ cut ∷ []) c.make_room.ensures in
+    let all = (c.in-Ok.ensures {u = tt}).items ∙ ap (λ items. items ++ cut ∷ []) c.make_room.ensures.items in
     record {
-      count = omega (arith, (c.in-Ok.ensures {u = tt}).len, ap length c.make_room.ensures, so.count);
+      count = omega (arith, (c.in-Ok.ensures {u = tt}).len, ap length c.make_room.ensures.items, so.count);
       at = omega (arith, ok.place, so.at, c.cells_of.ensures);
       few = omega (arith, ok.cells, c.cells_of.ensures);
       before = (λ k. so.before k + c.cells_of.ensures k) ∙ sym (box_cells-append c.loop-i.cuts.items cut) ∙ ap box_cells (sym all);

@@ -6,8 +6,7 @@ ghost use Rattle.cells.specs.Places.{cell_count, plus, spot};
 ghost use Rattle.block_sums.specs.Blocks.{AreBoxBlocks, block_bytes, block_sum};
 ghost use Rattle.block_sums.specs.Gathered.{MarkFilled, AreFree, AreGathered, HasBlockRoom, HasRows, HasShortRows, IsFreeBlock, IsTaken, rows_sum, sum_along};
 
-use crate::rows::{byte_sum, entries_before, has_cells, short_rows, step_to};
-use crate::sums::BlockSums;
+use crate::rows::{byte_sum, entries_before, step_to};
 use cells::{At, Box3, GREATEST_AXIS, MOST_SAMPLES, Size, Volume};
 use map_canvas::Canvas;
 use std::alloc::{AllocError, Global};
@@ -29,7 +28,7 @@ pub(crate) struct Block {
 /// Disjoint blocks of the filled cells of one box. They serve all placements of the box, as long as
 /// the canvas stays as it is.
 #[derive(Drop)]
-pub struct BoxBlocks {
+pub(crate) struct BoxBlocks {
     // the cells of a block on each side
     pub(crate) side: u32,
     // the size by which entries are counted
@@ -236,29 +235,5 @@ impl BoxBlocks {
             blocks.add_from(&mut free, canvas, rect, i)?;
         }
         Ok(blocks)
-    }
-
-    /// The same, of the filled cells of any box, for the sums of a box of the sample. The sums of other boxes
-    /// do as well, if slower where these have another size. They take two bytes for each cell of the box while
-    /// they are gathered.
-    pub fn gather(
-        alloc: Global,
-        canvas: &Canvas,
-        rect: &Box3,
-        sums: &BlockSums,
-    ) -> Result<BoxBlocks, AllocError>
-        requires inside { HoldsBox canvas.now.map.size rect.now.corner rect.now.size }
-        requires some { 1 ≤ sums.now.side }
-        requires few { 255 * block_bytes sums.now.side canvas.now.picture.k < 2 ^ 16 }
-        ensures blocks { IfOk result (AreBoxBlocks canvas.now rect.now) }
-        ensures side { IfOk result (λ blocks. blocks.side ≡ sums.now.side) }
-    {
-        let (side, size) = (sums.side, short_rows(sums.rect.size));
-        if !has_cells(rect.size) {
-            let blocks = Vec::new(alloc);
-            return Ok(BoxBlocks { side, size, blocks });
-        }
-        let filled = filled_cells(alloc, canvas, rect)?;
-        BoxBlocks::gather_of(alloc, canvas, rect, side, size, &filled)
     }
 }

@@ -129,7 +129,7 @@ impl BoxBlocks {
     /// Of n places along X from one on, marks those that the box can't be laid from with an error up to the
     /// limit, as far as the blocks show it: place j by the bit of 2^j. The box laid from each of them lies
     /// in that of the sums.
-    pub fn above(
+    pub(crate) fn above(
         &self,
         sums: &BlockSums,
         canvas: &Canvas,

@@ -1,5 +1,5 @@
 // Blocks of several sizes, of a whole sample and of one box of the output.
-ghost use Rattle.std.specs.Prelude.{◌≡◌, ◌≤◌, ◌<◌, ◌*◌, ◌^◌, IfOk, OnOk, length};
+ghost use Rattle.std.specs.Prelude.{◌≡◌, ◌≤◌, ◌<◌, ◌*◌, ◌^◌, IfOk, IsTrue, OnErr, OnOk, length};
 ghost use Rattle.cells.specs.Boxes.{HasCells, HoldsBox};
 ghost use Rattle.cells.specs.Cells.{Cells, sizes_of};
 ghost use Rattle.cells.specs.Places.{cell_count};
@@ -142,6 +142,18 @@ impl SampleSums {
             sums.add_part(alloc, sample, &rect)?;
         }
         Ok(sums)
+    }
+
+    /// The same where a search goes by them, and else no sums, which take no memory.
+    pub fn make_if(alloc: Global, sample: &Volume, wanted: bool) -> Result<SampleSums, AllocError>
+        ensures sums { IfOk result (AreSampleSums sample.now) }
+        ensures memory { OnErr result (IsTrue wanted) }
+    {
+        if wanted {
+            SampleSums::make(alloc, sample)
+        } else {
+            Ok(SampleSums::none(alloc))
+        }
     }
 }
 

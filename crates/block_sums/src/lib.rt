@@ -34,8 +34,7 @@ mod sums;
 #[cfg(test)]
 mod tests;
 
-pub use blocks::BoxBlocks;
 pub use eliminated::Eliminated;
 pub use levels::{BoxLevels, SampleSums};
 pub use pauses::Pauses;
-pub use sums::{BlockSums, LANES};
+pub use sums::LANES;

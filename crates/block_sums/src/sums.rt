@@ -17,7 +17,7 @@ pub const LANES: usize = 32;
 /// The sums of the bytes of all blocks of so many cells on each side, of a box of the sample. They
 /// serve all picks from it.
 #[derive(Drop)]
-pub struct BlockSums {
+pub(crate) struct BlockSums {
     pub(crate) rect: Box3,
     pub(crate) side: u32,
     // in raster order, and LANES more
@@ -197,7 +197,7 @@ fn block_sums(
 impl BlockSums {
     /// The sums of the blocks of a box inside the sample. They take 2 bytes a cell, and no more
     /// while they are made. The one error is out of memory.
-    pub fn make(
+    pub(crate) fn make(
         alloc: Global,
         sample: &Volume,
         rect: &Box3,

@@ -1,7 +1,7 @@
 // The two sides of a block on which it may have a strip.
 ghost use Rattle.std.specs.Prelude.{◌≡◌};
 ghost use Rattle.block_strips.specs.Blocks.{shared_cols};
-ghost use Rattle.block_strips.specs.Strips.{col_on, row_on, strip_rows};
+ghost use Rattle.block_strips.specs.Strips.{row_on, strip_rows};
 
 use crate::QuiltPlan;
 use crate::blocks::shared_on;
@@ -34,16 +34,6 @@ impl Side {
         match self {
             Side::Left => y,
             Side::Top => x,
-        }
-    }
-
-    /// The strip column of a cell of the block.
-    pub fn col(self, x: u32, y: u32) -> u32
-        ensures { result ≡ col_on self x y }
-    {
-        match self {
-            Side::Left => x,
-            Side::Top => y,
         }
     }
 

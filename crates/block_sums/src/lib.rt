@@ -31,8 +31,6 @@ mod pauses;
 mod places;
 mod rows;
 mod sums;
-#[cfg(test)]
-mod tests;
 
 pub use eliminated::Eliminated;
 pub use levels::{BoxLevels, SampleSums};

@@ -30,6 +30,3 @@ mod triangles;
 pub use items::Items;
 pub use network::{Network, Pipe};
 pub use solver::{Solved, solve};
-
-#[cfg(test)]
-mod tests;

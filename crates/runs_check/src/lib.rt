@@ -1,6 +1,7 @@
-//! Whole runs of `check`: what was grown is accepted; files with some bytes changed, each with the first rule that they break or
-//! with its line; a map and a record cut at each byte; files that can't be read. What is expected is spelled by hand from the rules of records
-//! and the texts of reports and faults.
+//! Whole runs of `check` and `upgrade`: what was grown is accepted; files with some bytes changed, each with the first rule that
+//! they break or with its line; files that are cut off or can't be read; upgrades to the byte, with files failing in turn, and
+//! what `check` says of them. What is expected is spelled by hand from the rules of records, the formats of the files and the
+//! texts of reports and faults.
 #![tactic(auto)]
 
 #[cfg(test)]
@@ -10,6 +11,16 @@ mod files;
 #[cfg(test)]
 mod forms;
 #[cfg(test)]
+mod lifted;
+#[cfg(test)]
+mod lifted_files;
+#[cfg(test)]
 mod reading;
 #[cfg(test)]
+mod refused_upgrades;
+#[cfg(test)]
 mod rules;
+#[cfg(test)]
+mod upgrading;
+#[cfg(test)]
+mod verdicts;

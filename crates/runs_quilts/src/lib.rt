@@ -1,6 +1,6 @@
-//! Whole runs of `quilt`: the three files and the report, with files failing in turn; words, samples and sizes that are refused; `check` of
-//! quilts, with each rule of block records broken. What is expected is spelled by hand from the formats of the files and the texts of
-//! reports and faults.
+//! Whole runs of `quilt` and `loop`: the three files and the report, with files failing in turn; words, samples and sizes that are
+//! refused; `check` of quilts and loops, with each rule of their records broken. What is expected is spelled by hand from the
+//! formats of the files and the texts of reports and faults; costs and walks were found by trying each boundary and each walk.
 #![tactic(auto)]
 
 #[cfg(test)]
@@ -8,9 +8,21 @@ mod blocks;
 #[cfg(test)]
 mod forms;
 #[cfg(test)]
+mod great_clips;
+#[cfg(test)]
+mod loop_clips;
+#[cfg(test)]
+mod loop_forms;
+#[cfg(test)]
+mod loop_rules;
+#[cfg(test)]
+mod looped;
+#[cfg(test)]
 mod quilted;
 #[cfg(test)]
 mod refused;
+#[cfg(test)]
+mod refused_loops;
 #[cfg(test)]
 mod rules;
 #[cfg(test)]

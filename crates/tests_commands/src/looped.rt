@@ -41,50 +41,66 @@ fn answer_of(alloc: Global, sample: &[u8], line: &str) -> Result<Result<Summary,
     Ok(loop_clip(alloc, &job, &mut shelf, &mut out))
 }
 
+// A sample, a line of words, and what is answered: the length and the cost, or a fault.
+type Row<'a> = (&'a [u8], &'a str, Result<(u32, u64), Fault>);
+
+const LENGTHS: &[Row<'static>] = &[
+    (
+        FOUR,
+        "loop sample=s out=o map=m record=r length=1 taps=0",
+        Ok((1, 9)),
+    ),
+    (
+        FOUR,
+        "loop sample=s out=o map=m record=r length=2 taps=0",
+        Ok((2, 0)),
+    ),
+    (
+        FOUR,
+        "loop sample=s out=o map=m record=r length=3 taps=0",
+        Ok((3, 9)),
+    ),
+    (
+        TWO,
+        "loop sample=s out=o map=m record=r length=2 taps=0 gap=3",
+        Err(Fault::NoLoop(2)),
+    ),
+    (
+        THREE,
+        "loop sample=s out=o map=m record=r length=3",
+        Err(Fault::NoLoop(3)),
+    ),
+    (
+        PICTURE,
+        "loop sample=s out=o map=m record=r length=1",
+        Err(Fault::Form {
+            file: FileOf::Sample,
+            why: FormFault::Form(0),
+        }),
+    ),
+];
+
+// Whether an answer is that of a row. Each loop begins at frame 0.
+fn is_answer(found: Result<Summary, Fault>, wanted: &Result<(u32, u64), Fault>) -> bool {
+    match (found, wanted) {
+        (Ok(summary), Ok((length, cost))) => {
+            summary
+                == Summary::Loop {
+                    length: *length,
+                    start: 0,
+                    cost: *cost,
+                }
+        }
+        (Err(fault), Err(other)) => fault == *other,
+        _ => false,
+    }
+}
+
 #[test]
 fn lengths_of_loops(rt: HostRuntime) -> Result<(), Fail> {
-    let done = |length, cost| Ok(Summary::Loop {
-        length,
-        start: 0,
-        cost,
-    });
-    let table = [
-        (
-            FOUR,
-            "loop sample=s out=o map=m record=r length=1 taps=0",
-            done(1, 9),
-        ),
-        (
-            FOUR,
-            "loop sample=s out=o map=m record=r length=2 taps=0",
-            done(2, 0),
-        ),
-        (
-            FOUR,
-            "loop sample=s out=o map=m record=r length=3 taps=0",
-            done(3, 9),
-        ),
-        (
-            TWO,
-            "loop sample=s out=o map=m record=r length=2 taps=0 gap=3",
-            Err(Fault::NoLoop(2)),
-        ),
-        (
-            THREE,
-            "loop sample=s out=o map=m record=r length=3",
-            Err(Fault::NoLoop(3)),
-        ),
-        (
-            PICTURE,
-            "loop sample=s out=o map=m record=r length=1",
-            Err(Fault::Form {
-                file: FileOf::Sample,
-                why: FormFault::Form(0),
-            }),
-        ),
-    ];
-    for (sample, line, answer) in &table {
-        assert_eq!(rt; answer_of(rt.alloc(), sample, line)?, *answer);
+    for (sample, line, wanted) in LENGTHS.iter() {
+        let found = answer_of(rt.alloc(), *sample, *line)?;
+        assert!(rt; is_answer(found, wanted), "{line}");
     }
     Ok(())
 }
@@ -100,10 +116,10 @@ fn files_of_a_loop(rt: HostRuntime) -> Result<(), Fail> {
         "loop sample=s out=o map=m record=r length=2 taps=0 gap=1",
     )?;
     assert!(rt; loop_clip(rt.alloc(), &job, &mut shelf, &mut out).is_ok());
-    assert_eq!(rt; shelf.file("o"), Some(TWO));
-    assert_eq!(rt; shelf.file("m"), Some(MAP));
-    assert_eq!(rt; shelf.file("r"), Some(RECORD));
-    assert_eq!(rt; out.bytes(), REPORT);
+    assert!(rt; shelf.file("o") == Some(TWO));
+    assert!(rt; shelf.file("m") == Some(MAP));
+    assert!(rt; shelf.file("r") == Some(RECORD));
+    assert!(rt; out.bytes() == REPORT);
     Ok(())
 }
 

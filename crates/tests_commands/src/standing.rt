@@ -9,6 +9,7 @@ use quilt::{COST_RULE, FIT_RULE, OVERLAP_RULE, PATH_RULE, SUMS_RULE};
 use samples::{Sample, Samples, read_sample};
 use shelf_core::MemShelf;
 use source_map::read_map;
+use standing_files::Verdict::{Fails, Stands};
 use standing_files::{MAP_RULE, PICTURE_RULE, TOGETHER_RULE, Verdict, judge};
 use std::alloc::{AllocError, Global};
 use std::test::Fail;
@@ -75,43 +76,122 @@ fn verdict_on(
     Ok(judge(alloc, &samples, &out, &map_file, &cert)?)
 }
 
-fn fails(number: u64, rule: u32, place: u64) -> Verdict {
-    Verdict::Fails {
-        number,
-        rule,
-        place,
+// The sample, and the files of a run over it.
+type Files<'a> = (&'a [u8], &'a [u8], &'a [u8], &'a [u8]);
+
+// Other bytes of the out file, of the map and of the record, by their places; and the verdict then.
+type Row<'a> = (
+    &'a [(usize, u8)],
+    &'a [(usize, u8)],
+    &'a [(usize, u8)],
+    Verdict,
+);
+
+// The number of the first row, from 0, on whose files another verdict is given.
+fn wrong_row(alloc: Global, files: &Files, table: &[Row]) -> Result<Option<usize>, Fail> {
+    for (i, (out, map, record, verdict)) in table.iter().enumerate() {
+        let out = with_others(alloc, files.1, *out)?;
+        let map = with_others(alloc, files.2, *map)?;
+        let record = with_others(alloc, files.3, *record)?;
+        if verdict_on(alloc, files.0, &out, &map, &record)? != *verdict {
+            return Ok(Some(i));
+        }
     }
+    Ok(None)
 }
+
+const CUTS: Files<'static> = (SAMPLE, OUT, MAP, RECORD);
+
+const LESS_FLOW: &[(usize, u8)] = &[(89, 119), (91, 119), (93, 119)];
+
+const CUT_ROWS: &[Row<'static>] = &[
+    (&[], &[], &[], Stands),
+    (
+        &[],
+        &[],
+        LESS_FLOW,
+        Fails {
+            number: 2,
+            rule: VALUE_RULE,
+            place: 0,
+        },
+    ),
+    // Cell 3 stays old, in all three files.
+    (
+        &[(20, 40), (21, 40), (22, 40)],
+        &[(53, 3)],
+        &[(87, 0x30)],
+        Fails {
+            number: 2,
+            rule: VALUE_RULE,
+            place: 0,
+        },
+    ),
+    (
+        &[(11, 11)],
+        &[],
+        &[],
+        Fails {
+            number: 0,
+            rule: PICTURE_RULE,
+            place: 0,
+        },
+    ),
+    (
+        &[(28, 41)],
+        &[],
+        &[],
+        Fails {
+            number: 0,
+            rule: PICTURE_RULE,
+            place: 5,
+        },
+    ),
+    (
+        &[(11, 11)],
+        &[(65, 2)],
+        &[],
+        Fails {
+            number: 0,
+            rule: MAP_RULE,
+            place: 5,
+        },
+    ),
+    (
+        &[],
+        &[(65, 2)],
+        &[(56, 0xe0)],
+        Fails {
+            number: 1,
+            rule: FILL_RULE,
+            place: 3,
+        },
+    ),
+    (
+        &[],
+        &[],
+        &[(25, 5), (56, 0xe0)],
+        Fails {
+            number: 0,
+            rule: TOGETHER_RULE,
+            place: 0,
+        },
+    ),
+    (
+        &[(9, b'4')],
+        &[],
+        LESS_FLOW,
+        Fails {
+            number: 0,
+            rule: TOGETHER_RULE,
+            place: 0,
+        },
+    ),
+];
 
 #[test]
 fn first_broken_rules(rt: HostRuntime) -> Result<(), Fail> {
-    let alloc = rt.alloc();
-    let none: &[(usize, u8)] = &[];
-    let less_flow: &[(usize, u8)] = &[(89, 119), (91, 119), (93, 119)];
-    // Cell 3 stays old, in all three files.
-    let dearer: [&[(usize, u8)]; 3] = [&[(20, 40), (21, 40), (22, 40)], &[(53, 3)], &[(87, 0x30)]];
-    let table: [(&[(usize, u8)], &[(usize, u8)], &[(usize, u8)], Verdict); 9] = [
-        (none, none, none, Verdict::Stands),
-        (none, none, less_flow, fails(2, VALUE_RULE, 0)),
-        (dearer[0], dearer[1], dearer[2], fails(2, VALUE_RULE, 0)),
-        (&[(11, 11)], none, none, fails(0, PICTURE_RULE, 0)),
-        (&[(28, 41)], none, none, fails(0, PICTURE_RULE, 5)),
-        (&[(11, 11)], &[(65, 2)], none, fails(0, MAP_RULE, 5)),
-        (none, &[(65, 2)], &[(56, 0xe0)], fails(1, FILL_RULE, 3)),
-        (
-            none,
-            none,
-            &[(25, 5), (56, 0xe0)],
-            fails(0, TOGETHER_RULE, 0),
-        ),
-        (&[(9, b'4')], none, less_flow, fails(0, TOGETHER_RULE, 0)),
-    ];
-    for (out, map, record, verdict) in table {
-        let out = with_others(alloc, OUT, out)?;
-        let map = with_others(alloc, MAP, map)?;
-        let record = with_others(alloc, RECORD, record)?;
-        assert_eq!(rt; verdict_on(alloc, SAMPLE, &out, &map, &record)?, verdict);
-    }
+    assert_eq!(rt; wrong_row(rt.alloc(), &CUTS, CUT_ROWS)?, None);
     Ok(())
 }
 
@@ -146,30 +226,89 @@ const COLUMN: usize = 67;
 
 const SUM: usize = 75;
 
+const QUILTS: Files<'static> = (QUILT_SAMPLE, QUILT, QUILT_MAP, QUILT_RECORD);
+
+const QUILT_ROWS: &[Row<'static>] = &[
+    (&[], &[], &[], Stands),
+    (
+        &[],
+        &[],
+        &[(CORNER, 3)],
+        Fails {
+            number: 2,
+            rule: FIT_RULE,
+            place: 0,
+        },
+    ),
+    (
+        &[],
+        &[],
+        &[(CORNER, 1)],
+        Fails {
+            number: 2,
+            rule: OVERLAP_RULE,
+            place: 2,
+        },
+    ),
+    (
+        &[],
+        &[],
+        &[(CORNER, 1), (COLUMN, 2)],
+        Fails {
+            number: 2,
+            rule: OVERLAP_RULE,
+            place: 2,
+        },
+    ),
+    (
+        &[],
+        &[],
+        &[(COLUMN, 2)],
+        Fails {
+            number: 2,
+            rule: PATH_RULE,
+            place: 0,
+        },
+    ),
+    (
+        &[],
+        &[],
+        &[(SUM, 0xc1)],
+        Fails {
+            number: 2,
+            rule: SUMS_RULE,
+            place: 1,
+        },
+    ),
+    (
+        &[],
+        &[],
+        &[(COLUMN, 1)],
+        Fails {
+            number: 2,
+            rule: COST_RULE,
+            place: 0,
+        },
+    ),
+];
+
+const QUILTED_CLIPS: Files<'static> = (SAMPLE_CLIP, QUILT_CLIP, QUILT_MAP, QUILT_RECORD);
+
+const APART: &[Row<'static>] = &[(
+    &[],
+    &[],
+    &[],
+    Fails {
+        number: 0,
+        rule: TOGETHER_RULE,
+        place: 0,
+    },
+)];
+
 #[test]
 fn first_broken_rules_of_quilts(rt: HostRuntime) -> Result<(), Fail> {
-    let alloc = rt.alloc();
-    let none: &[(usize, u8)] = &[];
-    let table: [(&[(usize, u8)], Verdict); 7] = [
-        (none, Verdict::Stands),
-        (&[(CORNER, 3)], fails(2, FIT_RULE, 0)),
-        (&[(CORNER, 1)], fails(2, OVERLAP_RULE, 2)),
-        (&[(CORNER, 1), (COLUMN, 2)], fails(2, OVERLAP_RULE, 2)),
-        (&[(COLUMN, 2)], fails(2, PATH_RULE, 0)),
-        (&[(SUM, 0xc1)], fails(2, SUMS_RULE, 1)),
-        (&[(COLUMN, 1)], fails(2, COST_RULE, 0)),
-    ];
-    for (record, verdict) in table {
-        let record = with_others(alloc, QUILT_RECORD, record)?;
-        assert_eq!(rt;
-            verdict_on(alloc, QUILT_SAMPLE, QUILT, QUILT_MAP, &record)?,
-            verdict
-        );
-    }
-    assert_eq!(rt;
-        verdict_on(alloc, SAMPLE_CLIP, QUILT_CLIP, QUILT_MAP, QUILT_RECORD)?,
-        fails(0, TOGETHER_RULE, 0)
-    );
+    assert_eq!(rt; wrong_row(rt.alloc(), &QUILTS, QUILT_ROWS)?, None);
+    assert_eq!(rt; wrong_row(rt.alloc(), &QUILTED_CLIPS, APART)?, None);
     Ok(())
 }
 
@@ -206,29 +345,68 @@ const SECOND: usize = 60;
 
 const FIFTH: usize = 84;
 
+const LOOPS: Files<'static> = (LOOP_SAMPLE, LOOP, LOOP_MAP, LOOP_RECORD);
+
+const LOOP_ROWS: &[Row<'static>] = &[
+    (&[], &[], &[], Stands),
+    (
+        &[],
+        &[],
+        &[(FRAME, 2)],
+        Fails {
+            number: 1,
+            rule: WALK_RULE,
+            place: 1,
+        },
+    ),
+    (
+        &[],
+        &[],
+        &[(SECOND, 82)],
+        Fails {
+            number: 1,
+            rule: TABLES_RULE,
+            place: 1,
+        },
+    ),
+    (
+        &[],
+        &[],
+        &[(FIFTH, 0)],
+        Fails {
+            number: 1,
+            rule: DIAGONAL_RULE,
+            place: 1,
+        },
+    ),
+    (
+        &[],
+        &[(35, 1)],
+        &[],
+        Fails {
+            number: 0,
+            rule: MAP_RULE,
+            place: 0,
+        },
+    ),
+];
+
+const LONGER_LOOPS: Files<'static> = (LOOP_SAMPLE, LONGER, LONGER_MAP, LOOP_RECORD);
+
+const LONGER_ROWS: &[Row<'static>] = &[(
+    &[],
+    &[],
+    &[(FRAMES, 3)],
+    Fails {
+        number: 0,
+        rule: TOGETHER_RULE,
+        place: 0,
+    },
+)];
+
 #[test]
 fn first_broken_rules_of_loops(rt: HostRuntime) -> Result<(), Fail> {
-    let alloc = rt.alloc();
-    let none: &[(usize, u8)] = &[];
-    let table: [(&[(usize, u8)], &[(usize, u8)], Verdict); 5] = [
-        (none, none, Verdict::Stands),
-        (&[(FRAME, 2)], none, fails(1, WALK_RULE, 1)),
-        (&[(SECOND, 82)], none, fails(1, TABLES_RULE, 1)),
-        (&[(FIFTH, 0)], none, fails(1, DIAGONAL_RULE, 1)),
-        (none, &[(35, 1)], fails(0, MAP_RULE, 0)),
-    ];
-    for (record, map, verdict) in table {
-        let record = with_others(alloc, LOOP_RECORD, record)?;
-        let map = with_others(alloc, LOOP_MAP, map)?;
-        assert_eq!(rt;
-            verdict_on(alloc, LOOP_SAMPLE, LOOP, &map, &record)?,
-            verdict
-        );
-    }
-    let record = with_others(alloc, LOOP_RECORD, &[(FRAMES, 3)])?;
-    assert_eq!(rt;
-        verdict_on(alloc, LOOP_SAMPLE, LONGER, LONGER_MAP, &record)?,
-        fails(0, TOGETHER_RULE, 0)
-    );
+    assert_eq!(rt; wrong_row(rt.alloc(), &LOOPS, LOOP_ROWS)?, None);
+    assert_eq!(rt; wrong_row(rt.alloc(), &LONGER_LOOPS, LONGER_ROWS)?, None);
     Ok(())
 }

@@ -1,15 +1,11 @@
-// Worked examples of map_canvas and of map files: that the calls that take memory succeed while there is some, what choices
-// leave, which cells are kept, and the bytes of a whole map file.
-ghost use Rattle.std.specs.Prelude.{◌≡◌, pos, IfOk, IsTrue};
-ghost use Rattle.cells.specs.Boxes.{AxisHolds, HoldsBox};
-ghost use Rattle.cells.specs.Places.{IsInside, IsSmall};
+// Worked examples of map_canvas: that the calls that take memory succeed while there is some, what choices leave, and which
+// cells are kept.
+ghost use Rattle.std.specs.Prelude.{◌≡◌, pos, IfOk};
 ghost use Rattle.map_canvas.specs.Canvases.{StandsOver};
-ghost use Rattle.source_map.specs.MapFiles.{IsWritable};
 
+use crate::laying::{canvas_over, holds_axis, put_choice};
 use cells::{At, Box3, Size, Volume};
-use map_canvas::{Canvas, Map, Placement};
-use shelf_core::{Call, MemShelf, WriteFault};
-use source_map::{Version, write_cell_map};
+use map_canvas::{Canvas, Map};
 use std::alloc::{AllocError, Global};
 use std::process::Abort;
 use std::test::Fail;
@@ -19,69 +15,10 @@ const LEFT: Option<At> = Some(At { x: 0, y: 0, f: 0 });
 
 const RIGHT: Option<At> = Some(At { x: 1, y: 0, f: 0 });
 
-// The map file of an output of 3 x 2 cells, each from the one cell of its sample.
-const ONE_SOURCE: [u8; 70] = [
-    0x57, 0x45, 0x41, 0x56, 0x45, 0x4d, 0x41, 0x50, 0x01, 0x00, 0x00, 0x00, 0x00, 0x03, 0x00, 0x00,
-    0x00, 0x02, 0x00, 0x00, 0x00, 0x01, 0x00, 0x00, 0x00, 0x01, 0x00, 0x00, 0x00, 0x01, 0x00, 0x00,
-    0x00, 0x01, 0x00, 0x00, 0x00, 0x00, 0x00, 0x00, 0x00, 0x00, 0x00, 0x00, 0x00, 0x00, 0x00, 0x00,
-    0x00, 0x00, 0x00, 0x00, 0x00, 0x00, 0x00, 0x00, 0x00, 0x00, 0x00, 0x00, 0x00, 0x00, 0x00, 0x00,
-    0x00, 0x00, 0x00, 0x00, 0x00, 0x00,
-];
-
 fn at(x: i32, y: i32) -> At
     ensures { result ≡ record { x = x; y = y; f = pos 0 } }
 {
     At { x, y, f: 0 }
-}
-
-// A canvas with no cell filled, over a sample.
-fn canvas_over(alloc: Global, size: Size, sample: &Volume) -> Result<Canvas, AllocError>
-    requires { IsSmall size }
-    ensures { IfOk result (λ canvas. StandsOver canvas sample.now) }
-{
-    Canvas::empty(alloc, size, sample.samples())
-}
-
-// A run of cells lies within one axis.
-fn holds_axis(n: u32, corner: i32, len: u32) -> bool
-    ensures { IsTrue result → AxisHolds n corner len }
-{
-    corner >= 0 && len <= n && corner as u32 <= n - len
-}
-
-// Asserts that a box lies within a size.
-fn assert_holds(rt: &impl Abort, size: Size, corner: At, inner: Size)
-    ensures { HoldsBox size corner inner }
-{
-    assert!(rt; holds_axis(size.w, corner.x, inner.w));
-    assert!(rt; holds_axis(size.h, corner.y, inner.h));
-    assert!(rt; holds_axis(size.f, corner.f, inner.f));
-}
-
-// Puts in a choice over a box of rows of this width.
-fn put(
-    rt: &impl Abort,
-    canvas: &mut Canvas,
-    sample: &Volume,
-    corner: At,
-    from: At,
-    rows: (u32, u32),
-    choice: &[bool],
-)
-    requires { StandsOver canvas.old sample.now }
-    ensures { StandsOver canvas.new sample.now }
-{
-    let (w, h) = rows;
-    assert!(rt; 1 <= w && w <= 9 && 1 <= h && h <= 9);
-    assert!(rt; choice.len() == w as usize * h as usize);
-    let size = Size { w, h, f: 1 };
-    assert_holds(rt, canvas.map().size(), corner, size);
-    assert!(rt; sample.holds(&Box3 { corner: from, size }));
-    let placement = Placement {
-        rect: Box3 { corner, size },
-        from,
-    };
-    canvas.put_choice(sample, &placement, choice);
 }
 
 // Asserts the sources of a canvas of one row, its samples, and where its first unfilled cell is.
@@ -109,7 +46,7 @@ fn choices_fill_a_canvas(rt: HostRuntime) -> Result<(), Fail> {
     let mut canvas = canvas_over(rt.alloc(), Size { w: 5, h: 1, f: 1 }, &sample)?;
     assert_row(&rt, &canvas, &[None; 5], &[0; 5], Some(0));
 
-    put(
+    put_choice(
         &rt,
         &mut canvas,
         &sample,
@@ -122,7 +59,7 @@ fn choices_fill_a_canvas(rt: HostRuntime) -> Result<(), Fail> {
     assert_row(&rt, &canvas, &sources, &[10, 20, 0, 0, 0], Some(2));
 
     // Cell 1 stays old.
-    put(
+    put_choice(
         &rt,
         &mut canvas,
         &sample,
@@ -135,7 +72,7 @@ fn choices_fill_a_canvas(rt: HostRuntime) -> Result<(), Fail> {
     assert_row(&rt, &canvas, &sources, &[10, 20, 20, 0, 0], Some(3));
 
     // Cell 3 stays unfilled, before a filled one.
-    put(
+    put_choice(
         &rt,
         &mut canvas,
         &sample,
@@ -147,7 +84,7 @@ fn choices_fill_a_canvas(rt: HostRuntime) -> Result<(), Fail> {
     let sources = [LEFT, RIGHT, RIGHT, None, LEFT];
     assert_row(&rt, &canvas, &sources, &[10, 20, 20, 0, 10], Some(3));
 
-    put(
+    put_choice(
         &rt,
         &mut canvas,
         &sample,
@@ -166,7 +103,7 @@ fn part_filled(rt: &impl Abort, alloc: Global, sample: &Volume) -> Result<Canvas
     ensures { IfOk result (λ canvas. StandsOver canvas sample.now) }
 {
     let mut canvas = canvas_over(alloc, Size { w: 4, h: 2, f: 1 }, sample)?;
-    put(
+    put_choice(
         rt,
         &mut canvas,
         sample,
@@ -175,7 +112,7 @@ fn part_filled(rt: &impl Abort, alloc: Global, sample: &Volume) -> Result<Canvas
         (2, 1),
         &[true, true],
     );
-    put(rt, &mut canvas, sample, at(1, 1), at(1, 0), (1, 1), &[true]);
+    put_choice(rt, &mut canvas, sample, at(1, 1), at(1, 0), (1, 1), &[true]);
     Ok(canvas)
 }
 
@@ -236,7 +173,7 @@ fn runs_of_new_cells(rt: HostRuntime) -> Result<(), Fail> {
     ];
     for (choice, picture) in choices {
         let mut canvas = canvas_over(rt.alloc(), Size { w: 5, h: 2, f: 1 }, &sample)?;
-        put(
+        put_choice(
             &rt,
             &mut canvas,
             &sample,
@@ -305,59 +242,6 @@ fn a_map_by_itself(rt: HostRuntime) -> Result<(), Fail> {
     ];
     for (p, source) in cells {
         assert_eq!(rt; map.at(at(p.0, p.1)), source, "at {p:?}");
-    }
-    Ok(())
-}
-
-// Writes the map of a canvas.
-fn write(
-    rt: &impl Abort,
-    canvas: &Canvas,
-    sample: &Volume,
-    shelf: &mut MemShelf,
-) -> Result<(), WriteFault>
-    requires stands { StandsOver canvas.now sample.now }
-{
-    let map = canvas.map();
-    let samples = sample.sizes();
-    assert!(rt; samples.len() == 1);
-    assert!(rt; map.size().cells() <= 6);
-    assert!(rt; canvas.first_unfilled().is_none());
-    write_cell_map(map, &samples, Version::One, shelf, "map")
-}
-
-// An output of 3 x 2 cells, each from the one cell of its sample.
-fn filled(rt: &impl Abort, alloc: Global, sample: &Volume) -> Result<Canvas, AllocError>
-    ensures { IfOk result (λ canvas. StandsOver canvas sample.now) }
-{
-    let mut canvas = canvas_over(alloc, Size { w: 3, h: 2, f: 1 }, sample)?;
-    put(rt, &mut canvas, sample, at(0, 0), at(0, 0), (1, 1), &[true]);
-    put(rt, &mut canvas, sample, at(1, 0), at(0, 0), (1, 1), &[true]);
-    put(rt, &mut canvas, sample, at(2, 0), at(0, 0), (1, 1), &[true]);
-    put(rt, &mut canvas, sample, at(0, 1), at(0, 0), (1, 1), &[true]);
-    put(rt, &mut canvas, sample, at(1, 1), at(0, 0), (1, 1), &[true]);
-    put(rt, &mut canvas, sample, at(2, 1), at(0, 0), (1, 1), &[true]);
-    Ok(canvas)
-}
-
-#[test]
-fn the_file_of_a_map(rt: HostRuntime) -> Result<(), Fail> {
-    let bytes = Vec::from_slice(rt.alloc(), &[7, 8, 9])?;
-    let sample = Volume::from_bytes(Size { w: 1, h: 1, f: 1 }, 3, bytes);
-    let canvas = filled(&rt, rt.alloc(), &sample)?;
-    let mut shelf = MemShelf::new(rt.alloc());
-    assert!(rt; write(&rt, &canvas, &sample, &mut shelf).is_ok());
-    assert_eq!(rt; shelf.file("map"), Some(ONE_SOURCE.as_slice()));
-
-    // A call that fails, and how many bytes of its piece it keeps.
-    let faults = [(Call::Begin, 0), (Call::Add, 0), (Call::Add, 42)];
-    for (call, kept) in faults {
-        let mut shelf = MemShelf::new(rt.alloc());
-        shelf.fail_at(call, "map", 1, kept)?;
-        assert!(rt; write(&rt, &canvas, &sample, &mut shelf).is_err());
-        assert_eq!(rt; shelf.write_faults(), 1);
-        let file = shelf.file("map").unwrap_or(&[]);
-        assert_eq!(rt; Some(file), ONE_SOURCE.get(..kept), "{call:?}");
     }
     Ok(())
 }

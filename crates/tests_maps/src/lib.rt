@@ -1,10 +1,14 @@
-//! Worked examples of volumes, maps and canvases, and of map files. What they show stands in no clause: that a
-//! definition gives the numbers that were computed by hand or by another program.
+//! Worked examples of volumes, maps and canvases, of seam costs and their sums, and of cut records. What they show
+//! stands in no clause: that a definition gives the numbers that were computed by hand or by another program.
 #![tactic(auto)]
 
 #[cfg(test)]
 mod canvases;
 #[cfg(test)]
-mod map_files;
+mod cut_records;
+#[cfg(test)]
+mod laying;
+#[cfg(test)]
+mod seam_sums;
 #[cfg(test)]
 mod volumes;

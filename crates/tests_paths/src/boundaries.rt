@@ -36,74 +36,149 @@ fn record_of(alloc: Global, path: &[u16], sums: &[u32]) -> Result<BoundaryRecord
     })
 }
 
+// Rows, columns and errors of a strip, and the path and the sums of its first least boundary.
+type Least<'a> = (u32, u32, &'a [u32], &'a [u16], &'a [u32]);
+
+const LEAST: &[Least<'static>] = &[
+    (3, 2, &[5, 1, 1, 5, 1, 1], &[1, 0, 0], &[5, 1, 2, 6, 3, 3]),
+    (2, 2, &[4, 4, 4, 4], &[0, 0], &[4, 4, 8, 8]),
+    (1, 4, &[3, 2, 2, 9], &[1], &[3, 2, 2, 9]),
+    (3, 1, &[7, 0, 5], &[0, 0, 0], &[7, 7, 12]),
+    // The least cells of the rows, 2 and 0, are two columns apart.
+    (2, 3, &[9, 5, 0, 0, 3, 4], &[2, 1], &[9, 5, 0, 5, 3, 4]),
+    (1, 1, &[195_075], &[0], &[195_075]),
+];
+
 #[test]
 fn least_boundaries(rt: HostRuntime) -> Result<(), Fail> {
-    let cases: [(u32, u32, &[u32], &[u16], &[u32]); 6] = [
-        (3, 2, &[5, 1, 1, 5, 1, 1], &[1, 0, 0], &[5, 1, 2, 6, 3, 3]),
-        (2, 2, &[4, 4, 4, 4], &[0, 0], &[4, 4, 8, 8]),
-        (1, 4, &[3, 2, 2, 9], &[1], &[3, 2, 2, 9]),
-        (3, 1, &[7, 0, 5], &[0, 0, 0], &[7, 7, 12]),
-        // The least cells of the rows, 2 and 0, are two columns apart.
-        (2, 3, &[9, 5, 0, 0, 3, 4], &[2, 1], &[9, 5, 0, 5, 3, 4]),
-        (1, 1, &[195_075], &[0], &[195_075]),
-    ];
-    for (rows, cols, errors, path, sums) in cases {
-        let strip = strip_of(&rt, rt.alloc(), rows, cols, errors)?;
+    for (rows, cols, errors, path, sums) in LEAST.iter() {
+        let strip = strip_of(&rt, rt.alloc(), *rows, *cols, *errors)?;
         let made = least_boundary(rt.alloc(), &strip)?;
-        assert_eq!(rt; made.path.as_slice(), path, "the path at {errors:?}");
-        assert_eq!(rt; made.sums.as_slice(), sums, "the sums at {errors:?}");
-        assert_eq!(rt;
-            check_boundary(&strip, &made),
-            Ok(()),
-            "the check at {errors:?}"
+        let is_least = made.path.as_slice() == *path && made.sums.as_slice() == *sums;
+        assert!(rt;
+            is_least && check_boundary(&strip, &made).is_ok(),
+            "{errors:?}"
         );
     }
     Ok(())
 }
 
+// The columns and the errors of a strip, the path and the sums of a record, and the kind and the place of its first fault.
+type Checked<'a> = (u32, &'a [u32], &'a [u16], &'a [u32], Result<(), BlockFault>);
+
+const TWO: &[u32] = &[5, 1, 1, 5, 1, 1];
+
+const THREE: &[u32] = &[9, 9, 0, 1, 1, 1];
+
+const CHECKED: &[Checked<'static>] = &[
+    (2, TWO, &[1, 0, 0], &[5, 1, 2, 6, 3, 3], Ok(())),
+    (2, TWO, &[1, 0, 1], &[5, 1, 2, 6, 3, 3], Ok(())),
+    (
+        2,
+        TWO,
+        &[0, 0, 0],
+        &[5, 1, 2, 6, 3, 3],
+        Err(BlockFault { kind: 11, place: 0 }),
+    ),
+    // Lower sums hold, but show less than the cost.
+    (
+        2,
+        TWO,
+        &[1, 0, 0],
+        &[5, 1, 2, 6, 3, 2],
+        Err(BlockFault { kind: 11, place: 0 }),
+    ),
+    (
+        2,
+        TWO,
+        &[],
+        &[5, 1, 2, 6, 3, 3],
+        Err(BlockFault { kind: 9, place: 0 }),
+    ),
+    (
+        2,
+        TWO,
+        &[1, 0],
+        &[5, 1, 2, 6, 3, 3],
+        Err(BlockFault { kind: 9, place: 2 }),
+    ),
+    (
+        2,
+        TWO,
+        &[1, 0, 0, 0],
+        &[5, 1, 2, 6, 3, 3],
+        Err(BlockFault { kind: 9, place: 3 }),
+    ),
+    (
+        2,
+        TWO,
+        &[2, 0, 0],
+        &[5, 1, 2, 6, 3, 3],
+        Err(BlockFault { kind: 9, place: 0 }),
+    ),
+    (
+        2,
+        TWO,
+        &[1, 2, 0],
+        &[5, 1, 2, 6, 3, 3],
+        Err(BlockFault { kind: 9, place: 1 }),
+    ),
+    // Above a column that is out of the strip all is well, and below it not tried.
+    (
+        2,
+        TWO,
+        &[1, 0, 2, 7],
+        &[6, 1, 2, 6, 3, 3],
+        Err(BlockFault { kind: 9, place: 2 }),
+    ),
+    (
+        2,
+        TWO,
+        &[1, 0, 0],
+        &[5, 1, 2, 7, 3, 3],
+        Err(BlockFault { kind: 10, place: 3 }),
+    ),
+    (
+        2,
+        TWO,
+        &[1, 0, 0],
+        &[4, 1, 2, 6, 3, 4],
+        Err(BlockFault { kind: 10, place: 0 }),
+    ),
+    (
+        2,
+        TWO,
+        &[0, 0, 0],
+        &[5, 1, 2, 6, 3, u32::MAX],
+        Err(BlockFault { kind: 10, place: 5 }),
+    ),
+    (3, THREE, &[2, 2], &[9, 9, 0, 10, 1, 1], Ok(())),
+    (
+        3,
+        THREE,
+        &[0, 2],
+        &[9, 9, 0, 10, 1, 1],
+        Err(BlockFault { kind: 9, place: 1 }),
+    ),
+    // Only the third of the sums above is too small for this one.
+    (
+        3,
+        THREE,
+        &[2, 2],
+        &[9, 9, 0, 10, 10, 1],
+        Err(BlockFault { kind: 10, place: 4 }),
+    ),
+];
+
 #[test]
 fn checked_records(rt: HostRuntime) -> Result<(), Fail> {
-    let two = [5, 1, 1, 5, 1, 1];
-    let three = [9, 9, 0, 1, 1, 1];
-    let cases: [(u32, &[u32], &[u16], &[u32], Option<(u32, u64)>); 16] = [
-        (2, &two, &[1, 0, 0], &[5, 1, 2, 6, 3, 3], None),
-        (2, &two, &[1, 0, 1], &[5, 1, 2, 6, 3, 3], None),
-        (2, &two, &[0, 0, 0], &[5, 1, 2, 6, 3, 3], Some((11, 0))),
-        // Lower sums hold, but show less than the cost.
-        (2, &two, &[1, 0, 0], &[5, 1, 2, 6, 3, 2], Some((11, 0))),
-        (2, &two, &[], &[5, 1, 2, 6, 3, 3], Some((9, 0))),
-        (2, &two, &[1, 0], &[5, 1, 2, 6, 3, 3], Some((9, 2))),
-        (2, &two, &[1, 0, 0, 0], &[5, 1, 2, 6, 3, 3], Some((9, 3))),
-        (2, &two, &[2, 0, 0], &[5, 1, 2, 6, 3, 3], Some((9, 0))),
-        (2, &two, &[1, 2, 0], &[5, 1, 2, 6, 3, 3], Some((9, 1))),
-        // Above a column that is out of the strip all is well, and below it not tried.
-        (2, &two, &[1, 0, 2, 7], &[6, 1, 2, 6, 3, 3], Some((9, 2))),
-        (2, &two, &[1, 0, 0], &[5, 1, 2, 7, 3, 3], Some((10, 3))),
-        (2, &two, &[1, 0, 0], &[4, 1, 2, 6, 3, 4], Some((10, 0))),
-        (
-            2,
-            &two,
-            &[0, 0, 0],
-            &[5, 1, 2, 6, 3, u32::MAX],
-            Some((10, 5)),
-        ),
-        (3, &three, &[2, 2], &[9, 9, 0, 10, 1, 1], None),
-        (3, &three, &[0, 2], &[9, 9, 0, 10, 1, 1], Some((9, 1))),
-        // Only the third of the sums above is too small for this one.
-        (3, &three, &[2, 2], &[9, 9, 0, 10, 10, 1], Some((10, 4))),
-    ];
-    for (cols, errors, path, sums, broken) in cases {
-        let rows = 6 / cols.max(1);
-        let strip = strip_of(&rt, rt.alloc(), rows, cols, errors)?;
-        let boundary = record_of(rt.alloc(), path, sums)?;
-        assert_eq!(rt; sums.len(), rows as usize * cols as usize);
-        let expected = match broken {
-            None => Ok(()),
-            Some((kind, place)) => Err(BlockFault { kind, place }),
-        };
-        assert_eq!(rt;
-            check_boundary(&strip, &boundary),
-            expected,
+    for (cols, errors, path, sums, said) in CHECKED.iter() {
+        let rows = 6 / (*cols).max(1);
+        let strip = strip_of(&rt, rt.alloc(), rows, *cols, *errors)?;
+        let boundary = record_of(rt.alloc(), *path, *sums)?;
+        assert!(rt; sums.len() == rows as usize * *cols as usize);
+        assert!(rt;
+            check_boundary(&strip, &boundary) == *said,
             "path {path:?}, sums {sums:?}"
         );
     }

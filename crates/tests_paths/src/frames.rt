@@ -27,59 +27,42 @@ fn distances_over_all_samples(rt: HostRuntime) -> Result<(), Fail> {
     let bytes = [1u8, 2, 3, 4, 5, 6, 2, 2, 3, 5, 5, 9].to_vec(rt.alloc())?;
     let clip = Volume::from_bytes(size, 3, bytes);
     let table = distances(rt.alloc(), &clip)?;
-    assert_eq!(rt; table.frames(), 2);
-    assert_eq!(rt;
-        [
-            table.at(0, 0),
-            table.at(0, 1),
-            table.at(1, 0),
-            table.at(1, 1)
-        ],
-        [0, 11, 11, 0]
-    );
+    assert!(rt; table.frames() == 2);
+    assert!(rt; table.at(0, 0) == 0 && table.at(0, 1) == 11);
+    assert!(rt; table.at(1, 0) == 11 && table.at(1, 1) == 0);
     Ok(())
 }
 
-// The costs of all steps between the frames 0, 1, 3, 7, 12 of one sample, worked by hand.
+// Taps, a gap, two frames, and the cost of the step between them where there is one. The frames of one sample are 0, 1, 3, 7
+// and 12.
+const STEPS: &[(Taps, u32, u32, u32, Option<u64>)] = &[
+    (Taps::None0, 1, 0, 0, Some(1)),
+    (Taps::None0, 1, 0, 1, Some(0)),
+    (Taps::None0, 1, 1, 1, Some(4)),
+    (Taps::None0, 1, 4, 0, None),
+    (Taps::Two, 2, 1, 4, Some(117)),
+    (Taps::Two, 2, 1, 3, None),
+    (Taps::Two, 2, 1, 2, Some(0)),
+    (Taps::Two, 2, 1, 0, None),
+    (Taps::Four, 1, 1, 3, Some(86)),
+    (Taps::Four, 1, 2, 2, Some(86)),
+    (Taps::Four, 1, 0, 3, None),
+    (Taps::Four, 1, 3, 4, Some(0)),
+    (Taps::Four, 2, 1, 3, None),
+    (Taps::Four, 2, 2, 2, None),
+];
+
 #[test]
 fn steps_by_filter_and_gap(rt: HostRuntime) -> Result<(), Fail> {
     let clip = clip_of(rt.alloc(), &[0, 1, 3, 7, 12])?;
     let table = distances(rt.alloc(), &clip)?;
-    let plain = filtered(rt.alloc(), &table, Taps::None0, 1)?;
-    let two = filtered(rt.alloc(), &table, Taps::Two, 2)?;
-    let four = filtered(rt.alloc(), &table, Taps::Four, 1)?;
-    let far = filtered(rt.alloc(), &table, Taps::Four, 2)?;
-    assert_eq!(rt; plain.frames(), 5);
-    assert!(rt;
-        table.frames() == 5 && two.frames() == 5 && four.frames() == 5 && far.frames() == 5
-    );
-    assert_eq!(rt;
-        [
-            plain.step(0, 0),
-            plain.step(0, 1),
-            plain.step(1, 1),
-            plain.step(4, 0)
-        ],
-        [Some(1), Some(0), Some(4), None]
-    );
-    assert_eq!(rt;
-        [
-            two.step(1, 4),
-            two.step(1, 3),
-            two.step(1, 2),
-            two.step(1, 0)
-        ],
-        [Some(117), None, Some(0), None]
-    );
-    assert_eq!(rt;
-        [
-            four.step(1, 3),
-            four.step(2, 2),
-            four.step(0, 3),
-            four.step(3, 4)
-        ],
-        [Some(86), Some(86), None, Some(0)]
-    );
-    assert_eq!(rt; [far.step(1, 3), far.step(2, 2)], [None, None]);
+    for (taps, gap, from, to, cost) in STEPS.iter() {
+        let costs = filtered(rt.alloc(), &table, *taps, *gap)?;
+        assert!(rt; costs.frames() == 5 && *from < 5 && *to < 5);
+        assert!(rt;
+            costs.step(*from, *to) == *cost,
+            "{taps:?}, {gap}: {from} to {to}"
+        );
+    }
     Ok(())
 }

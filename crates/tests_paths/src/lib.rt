@@ -1,6 +1,6 @@
 //! Worked examples of sums over rows, of boundaries through strips, of distances of frames and steps between them, and
 //! of loops, with records that don't stand. What they show stands in no clause: that the definitions give the numbers
-//! that were computed by hand, and that no other walk of a short length costs less.
+//! that were computed by hand.
 #![tactic(auto)]
 
 #[cfg(test)]

@@ -1,4 +1,4 @@
-// Worked examples, records that don't stand, and all short lengths against a search over all walks.
+// Worked examples, and records that don't stand.
 ghost use Rattle.std.specs.Prelude.{◌≡◌, ◌≤◌, IfOk, length as length_of};
 
 use cells::{Size, Taps, Volume};
@@ -33,128 +33,73 @@ fn verdict(costs: &StepCosts, walk: &[u16], tables: &[u64]) -> Option<Result<(),
     Some(check_loop(costs, walk, tables))
 }
 
-fn broken(kind: u32, place: u64) -> Option<Result<(), LoopFault>> {
-    Some(Err(LoopFault { kind, place }))
+const NONE: u64 = u64::MAX;
+
+// The least costs of two steps between the frames 0, 3, 0 and 3.
+const TABLE: &[u64] = &[0, 9, 0, 9, 9, 0, 9, 0, 0, 9, 0, 9, NONE, NONE, NONE, NONE];
+
+// A least loop of this length: whether its cost and its first frame are these, and it stands.
+fn is_least(alloc: Global, costs: &StepCosts, length: u32, cost: u64) -> bool {
+    if length == 0 || length > 4096 {
+        return false;
+    }
+    let Ok(made) = least_loop(alloc, costs, length) else {
+        return false;
+    };
+    made.cost == cost
+        && made.walk.as_slice().first() == Some(&0)
+        && verdict(costs, made.walk.as_slice(), made.tables.as_slice()) == Some(Ok(()))
 }
 
 #[test]
-fn worked_examples(rt: HostRuntime) -> Result<(), Fail> {
+fn least_loops(rt: HostRuntime) -> Result<(), Fail> {
     let costs = costs_of(rt.alloc(), &[0, 3, 0, 3], Taps::None0, 1)?;
-    let none = u64::MAX;
-    let table = [0, 9, 0, 9, 9, 0, 9, 0, 0, 9, 0, 9, none, none, none, none];
     let two = least_loop(rt.alloc(), &costs, 2).ok().ok_or("two")?;
-    assert_eq!(rt; two.walk.as_slice(), [0u16, 1].as_slice());
-    assert_eq!(rt; two.tables.as_slice(), table.as_slice());
-    assert_eq!(rt; two.cost, 0);
-    let three = least_loop(rt.alloc(), &costs, 3).ok().ok_or("three")?;
-    assert_eq!(rt;
-        (three.cost, three.walk.as_slice().first().copied()),
-        (9, Some(0))
-    );
-    assert_eq!(rt;
-        verdict(&costs, three.walk.as_slice(), three.tables.as_slice()),
-        Some(Ok(()))
-    );
-    let one = least_loop(rt.alloc(), &costs, 1).ok().ok_or("one")?;
-    assert_eq!(rt; one.walk.as_slice(), [0u16].as_slice());
-    assert_eq!(rt; (one.cost, one.tables.as_slice().len()), (9, 0));
-    assert_eq!(rt; verdict(&costs, &[0], &[]), Some(Ok(())));
-    let apart = costs_of(rt.alloc(), &[0, 3], Taps::None0, 3)?;
-    assert_eq!(rt;
-        least_loop(rt.alloc(), &apart, 2).err(),
-        Some(LoopError::NoLoop)
-    );
-    let filtered = costs_of(rt.alloc(), &[0, 1, 2], Taps::Four, 1)?;
-    assert_eq!(rt;
-        least_loop(rt.alloc(), &filtered, 3).err(),
-        Some(LoopError::NoLoop)
-    );
-    assert_eq!(rt; verdict(&costs, &[0, 1], &table), Some(Ok(())));
-    assert_eq!(rt; verdict(&costs, &[3, 0], &table), broken(12, 0));
-    assert_eq!(rt; verdict(&costs, &[0, 4], &table), broken(12, 0));
-    assert_eq!(rt; verdict(&costs, &[2, 3], &table), broken(12, 1));
-    assert_eq!(rt; verdict(&costs, &[0, 2], &table), broken(14, 0));
-    let mut higher = table;
-    higher[6] = 10;
-    assert_eq!(rt; verdict(&costs, &[0, 1], &higher), broken(13, 6));
-    higher[5] = none;
-    assert_eq!(rt; verdict(&costs, &[0, 1], &higher), broken(13, 5));
+    assert!(rt; two.walk.as_slice() == [0u16, 1].as_slice());
+    assert!(rt; two.tables.as_slice() == TABLE && two.cost == 0);
+    assert!(rt; is_least(rt.alloc(), &costs, 1, 9));
+    assert!(rt; is_least(rt.alloc(), &costs, 2, 0));
+    assert!(rt; is_least(rt.alloc(), &costs, 3, 9));
     Ok(())
 }
 
-fn step_between(costs: &StepCosts, from: u32, to: u32) -> Option<u64> {
-    let n = costs.frames();
-    if from < n && to < n {
-        costs.step(from, to)
-    } else {
-        None
-    }
+// Over the frames 0 and 3 with a gap of 3, and over three frames of which no step has four taps.
+#[test]
+fn no_loops(rt: HostRuntime) -> Result<(), Fail> {
+    let apart = costs_of(rt.alloc(), &[0, 3], Taps::None0, 3)?;
+    let said = least_loop(rt.alloc(), &apart, 2).err();
+    assert!(rt; said == Some(LoopError::NoLoop));
+    let filtered = costs_of(rt.alloc(), &[0, 1, 2], Taps::Four, 1)?;
+    let said = least_loop(rt.alloc(), &filtered, 3).err();
+    assert!(rt; said == Some(LoopError::NoLoop));
+    Ok(())
 }
 
-fn added(sum: Option<u64>, step: Option<u64>) -> Option<u64> {
-    Some(sum?.wrapping_add(step?))
-}
+// A walk, an entry of the table with another value, and what the checker says.
+type Row<'a> = (&'a [u16], usize, u64, Result<(), LoopFault>);
 
-// The cost of the closed walk with that number, and its smallest frame: the digits of the number in
-// base n are its frames.
-fn numbered_walk(costs: &StepCosts, length: u32, number: u32) -> (Option<u64>, u32) {
-    let n = costs.frames();
-    let first = number % n;
-    let mut rest = number / n;
-    let mut from = first;
-    let mut smallest = first;
-    let mut cost = Some(0);
-    for _position in 1..length {
-        let to = rest % n;
-        rest /= n;
-        cost = added(cost, step_between(costs, from, to));
-        smallest = smallest.min(to);
-        from = to;
-    }
-    (added(cost, step_between(costs, from, first)), smallest)
-}
+const RECORDS: &[Row<'static>] = &[
+    (&[0, 1], 0, 0, Ok(())),
+    (&[3, 0], 0, 0, Err(LoopFault { kind: 12, place: 0 })),
+    (&[0, 4], 0, 0, Err(LoopFault { kind: 12, place: 0 })),
+    (&[2, 3], 0, 0, Err(LoopFault { kind: 12, place: 1 })),
+    (&[0, 2], 0, 0, Err(LoopFault { kind: 14, place: 0 })),
+    (&[0, 1], 6, 10, Err(LoopFault { kind: 13, place: 6 })),
+    (&[0, 1], 5, NONE, Err(LoopFault { kind: 13, place: 5 })),
+];
 
 #[test]
-fn short_lengths_against_all_walks(rt: HostRuntime) -> Result<(), Fail> {
-    for (frames, gap) in [([5u8, 0, 9, 2], 1), ([7, 7, 1, 4], 2), ([3, 8, 2, 2], 3)] {
-        let costs = costs_of(rt.alloc(), &frames, Taps::None0, gap)?;
-        let mut walks = 1u32;
-        for length in 1..7u32 {
-            walks = walks.wrapping_mul(4);
-            let mut least = (None, 0);
-            for number in 0..walks {
-                let (cost, smallest) = numbered_walk(&costs, length, number);
-                let Some(cost) = cost else { continue };
-                if least.0.is_none_or(|best| cost < best) {
-                    least = (Some(cost), smallest);
-                } else if least.0 == Some(cost) && smallest < least.1 {
-                    least = (Some(cost), smallest);
-                }
-            }
-            match least_loop(rt.alloc(), &costs, length) {
-                Ok(made) => {
-                    let begin = made
-                        .walk
-                        .as_slice()
-                        .first()
-                        .map_or(9, |frame| u32::from(*frame));
-                    assert_eq!(rt;
-                        (Some(made.cost), begin),
-                        least,
-                        "length {length} at gap {gap}"
-                    );
-                    assert_eq!(rt;
-                        verdict(&costs, made.walk.as_slice(), made.tables.as_slice()),
-                        Some(Ok(()))
-                    );
-                }
-                Err(error) => assert_eq!(rt;
-                    (error, least.0),
-                    (LoopError::NoLoop, None),
-                    "length {length} at gap {gap}"
-                ),
-            }
+fn checked_records(rt: HostRuntime) -> Result<(), Fail> {
+    let costs = costs_of(rt.alloc(), &[0, 3, 0, 3], Taps::None0, 1)?;
+    for (walk, at, value, said) in RECORDS.iter() {
+        let mut table = Vec::from_slice(rt.alloc(), TABLE)?;
+        if let Some(entry) = table.get_mut(*at) {
+            *entry = *value;
         }
+        assert!(rt;
+            verdict(&costs, *walk, &table) == Some(*said),
+            "{walk:?}, entry {at}"
+        );
     }
     Ok(())
 }

@@ -4,7 +4,7 @@ ghost use Rattle.map_canvas.specs.Canvases.{StandsOver};
 
 use crate::rows::{assert_fits, greys, row_at, row_of};
 use cells::Volume;
-use cut_graph::build_held;
+use cut_graph::{build, build_held};
 use map_canvas::{Canvas, Placement};
 use max_flow::solve;
 use seams::are_marks;
@@ -36,7 +36,10 @@ fn assert_is(
 {
     assert_fits(rt, canvas, sample, placement);
     assert!(rt; are_marks(canvas, placement, held));
-    let (network, places) = build_held(alloc, canvas, sample, placement, held)?;
+    let (network, places) = match held {
+        None => build(alloc, canvas, sample, placement)?,
+        Some(_) => build_held(alloc, canvas, sample, placement, held)?,
+    };
     assert_eq!(rt; places.cell_nodes.as_slice(), expected.cells);
     assert_eq!(rt; places.seam_nodes.as_slice(), expected.seams);
     assert_eq!(rt; places.pipes.as_slice(), expected.pipes);
@@ -48,7 +51,7 @@ fn assert_is(
 #[test]
 fn row_without_old_cells(rt: HostRuntime) -> Result<(), Fail> {
     let sample = greys(rt.alloc())?;
-    let canvas = row_of(&rt, rt.alloc(), &sample, &[])?;
+    let canvas = row_of(&rt, rt.alloc(), 6, &sample, &[])?;
     let all_new = Expected {
         cells: &[1, 1, 1, 1],
         seams: &[0, 0, 0],
@@ -72,7 +75,7 @@ fn row_without_old_cells(rt: HostRuntime) -> Result<(), Fail> {
 #[test]
 fn row_half_filled(rt: HostRuntime) -> Result<(), Fail> {
     let sample = greys(rt.alloc())?;
-    let canvas = row_of(&rt, rt.alloc(), &sample, &[0, 1, 2, 3])?;
+    let canvas = row_of(&rt, rt.alloc(), 6, &sample, &[0, 1, 2, 3])?;
     let one_free = Expected {
         cells: &[0, 2, 1, 1],
         seams: &[3, 0, 0],
@@ -111,7 +114,7 @@ fn row_half_filled(rt: HostRuntime) -> Result<(), Fail> {
 #[test]
 fn row_filled(rt: HostRuntime) -> Result<(), Fail> {
     let sample = greys(rt.alloc())?;
-    let canvas = row_of(&rt, rt.alloc(), &sample, &[0, 1, 2, 1, 2, 3])?;
+    let canvas = row_of(&rt, rt.alloc(), 6, &sample, &[0, 1, 2, 1, 2, 3])?;
     let three_free = Expected {
         cells: &[2, 3, 4, 0],
         seams: &[5, 6, 7],

@@ -1,12 +1,23 @@
-//! Worked examples of match errors, networks of placements and placements. What they show stands in no
-//! clause: that a definition gives the numbers that were computed by hand or by another program.
+//! Worked examples of what searches: match errors and eliminations, candidates and picks, networks and their flows,
+//! placements, and whole grown and quilted runs. What they show stands in no clause: that a definition gives the numbers that
+//! were computed by hand or by another program, and that calls succeed where memory is ample.
 #![tactic(auto)]
 
 #[cfg(test)]
 mod cuts;
 #[cfg(test)]
+mod eliminations;
+#[cfg(test)]
+mod growths;
+#[cfg(test)]
 mod match_sums;
 #[cfg(test)]
+mod networks;
+#[cfg(test)]
+mod picks;
+#[cfg(test)]
 mod placements;
+#[cfg(test)]
+mod quilts;
 #[cfg(test)]
 mod rows;

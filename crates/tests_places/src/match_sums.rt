@@ -13,7 +13,7 @@ fn errors_of_a_row(rt: HostRuntime) -> Result<(), Fail> {
     let sample = greys(rt.alloc())?;
     let cases: [(&[i32], u64, u32); 2] = [(&[], 0, 0), (&[0, 1, 2, 3], 2400, 2)];
     for (sources, sum, count) in cases {
-        let canvas = row_of(&rt, rt.alloc(), &sample, sources)?;
+        let canvas = row_of(&rt, rt.alloc(), 6, &sample, sources)?;
         let placement = row_at(2);
         assert_fits(&rt, &canvas, &sample, &placement);
         assert_eq!(rt;
@@ -37,7 +37,7 @@ fn errors_of_a_row(rt: HostRuntime) -> Result<(), Fail> {
 #[test]
 fn error_over_runs(rt: HostRuntime) -> Result<(), Fail> {
     let sample = greys(rt.alloc())?;
-    let canvas = row_of(&rt, rt.alloc(), &sample, &[0, 1, 2, 3])?;
+    let canvas = row_of(&rt, rt.alloc(), 6, &sample, &[0, 1, 2, 3])?;
     let placement = row_at(2);
     assert_fits(&rt, &canvas, &sample, &placement);
     let whole = Box3 {

@@ -47,7 +47,7 @@ fn assert_placed(
 #[test]
 fn rows_of_greys(rt: HostRuntime) -> Result<(), Fail> {
     let sample = greys(rt.alloc())?;
-    let mut canvas = row_of(&rt, rt.alloc(), &sample, &[])?;
+    let mut canvas = row_of(&rt, rt.alloc(), 6, &sample, &[])?;
     assert_placed(
         &rt,
         rt.alloc(),
@@ -97,7 +97,7 @@ fn rows_of_greys(rt: HostRuntime) -> Result<(), Fail> {
 #[test]
 fn row_with_a_held_cell(rt: HostRuntime) -> Result<(), Fail> {
     let sample = greys(rt.alloc())?;
-    let mut canvas = row_of(&rt, rt.alloc(), &sample, &[0, 1, 2, 3])?;
+    let mut canvas = row_of(&rt, rt.alloc(), 6, &sample, &[0, 1, 2, 3])?;
     let placement = row_at(2);
     let held = Some([false, true, false, false].as_slice());
     assert_fits(&rt, &canvas, &sample, &placement);

@@ -1,5 +1,5 @@
 // Canvases of one row over a row of greys, and placements over them, for the worked examples.
-ghost use Rattle.std.specs.Prelude.{◌≤◌, IfOk, IsTrue};
+ghost use Rattle.std.specs.Prelude.{◌≡◌, ◌≤◌, IfOk, IsTrue, []};
 ghost use Rattle.cells.specs.Boxes.{AxisHolds, HoldsBox};
 ghost use Rattle.cells.specs.Places.{IsSmall};
 ghost use Rattle.map_canvas.specs.Canvases.{StandsOver};
@@ -74,28 +74,44 @@ fn put_column(rt: &impl Abort, canvas: &mut Canvas, sample: &Volume, x: i32, sou
     put(rt, canvas, sample, At { x, y: 0, f: 0 }, from);
 }
 
-// A row of six cells of which the first have these columns of the sample as sources.
+// A row of so many cells of which the first have these columns of the sample as sources.
 pub(crate) fn row_of(
     rt: &impl Abort,
     alloc: Global,
+    w: u32,
     sample: &Volume,
     sources: &[i32],
 ) -> Result<Canvas, AllocError>
     ensures { IfOk result (λ canvas. StandsOver canvas sample.now) }
 {
-    let mut canvas = canvas_over(alloc, Size { w: 6, h: 1, f: 1 }, sample)?;
+    assert!(rt; 1 <= w && w < 100);
+    let mut canvas = canvas_over(alloc, Size { w, h: 1, f: 1 }, sample)?;
     'cells: for (x, source) in sources.iter().enumerate() {
-        assert!(rt; x < 6);
+        assert!(rt; x < 9);
         put_column(rt, &mut canvas, sample, x as i32, *source);
     }
     Ok(canvas)
 }
 
 // Four cells of grey in a row: 10, 20, 30 and 40 in each of their three samples.
-pub(crate) fn greys(alloc: Global) -> Result<Volume, AllocError> {
+pub(crate) fn greys(alloc: Global) -> Result<Volume, AllocError>
+    ensures samples { IfOk result (λ v. v.k ≡ 3) }
+    ensures part { IfOk result (λ v. v.more ≡ []) }
+    ensures frame { IfOk result (λ v. v.size.f ≡ 1) }
+{
     let greys = [10, 10, 10, 20, 20, 20, 30, 30, 30, 40, 40, 40];
     let bytes = Vec::from_slice(alloc, &greys)?;
     Ok(Volume::from_bytes(Size { w: 4, h: 1, f: 1 }, 3, bytes))
+}
+
+// Two parts of two cells in a row: 10 and 20, and 20 and 30.
+pub(crate) fn two_parts(alloc: Global) -> Result<Volume, AllocError> {
+    let size = Size { w: 2, h: 1, f: 1 };
+    let bytes = Vec::from_slice(alloc, &[10, 10, 10, 20, 20, 20])?;
+    let mut sample = Volume::from_bytes(size, 3, bytes);
+    let bytes = Vec::from_slice(alloc, &[20, 20, 20, 30, 30, 30])?;
+    sample.add_part(&Volume::from_bytes(size, 3, bytes))?;
+    Ok(sample)
 }
 
 // A row of four cells from a column on, with sources from the sample's first cell on.

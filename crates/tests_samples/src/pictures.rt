@@ -1,7 +1,9 @@
 // Worked examples: the bytes of a file and the answer, spelled from the grammar by hand.
 use cells::{Size, Volume};
 use netpbm_p6::{read_p6, write_p6};
-use shelf_core::{Call, FormFault, MemShelf, ReadError, What};
+use shelf_core::FormFault::{Depth, Form, Sample, Trailing};
+use shelf_core::ReadError::{Bad, Limit, ReadFault};
+use shelf_core::{Call, MemShelf, ReadError, What};
 use std::alloc::Global;
 use std::test::Fail;
 
@@ -14,101 +16,141 @@ fn refusal(alloc: Global, bytes: &[u8]) -> Result<Option<ReadError>, Fail> {
     Ok(read_p6(alloc, &mut shelf, "sample").err())
 }
 
-fn bad(fault: FormFault) -> Option<ReadError> {
-    Some(ReadError::Bad(fault))
+// Files, and why they are refused, or that they are read.
+const ANSWERS: &[(&[u8], Option<ReadError>)] = &[
+    (b"P6\n2 1\n255\nabcdef", None),
+    (b"P6\n2 1\n255\nabcde", Some(Bad(Form(16)))),
+    (b"P6\n2 1\n255\nabcdefg", Some(Bad(Trailing(17)))),
+    (b"P6\n2 1\n65535\nabcdefabcdef", Some(Bad(Depth))),
+    (b"P6\n1 1\n15\n\x0f\x10\x00", Some(Bad(Sample(11)))),
+    (b"P6\n1 1\n15\n\x0f\x0e\x0f", None),
+    (b"P6\n1 1\n15\n\x10", Some(Bad(Sample(10)))),
+    (b"P6\n1 1\n15\n\x0f\x00\x00\x10", Some(Bad(Trailing(13)))),
+    (b"", Some(Bad(Form(0)))),
+    (b"P5\n1 1\n255\nabc", Some(Bad(Form(1)))),
+    (b"P62 1 255 abcdef", Some(Bad(Form(2)))),
+    (b"P6\n0 1\n255\n", Some(Bad(Form(4)))),
+    (b"P6\n1 0#", Some(Bad(Form(6)))),
+    (b"P6\n1 1\n0\nabc", Some(Bad(Form(8)))),
+    (b"P6\n0001 01 0000000000000000000000000255\nabc", None),
+    (b"P6 \t\r\n1\t1\r255 abc", None),
+    (b"P6 1 1 255#x\nabc", Some(Bad(Form(10)))),
+    (b"P6# a\n1# b\r1# c\n255\nabc", None),
+    (b"P6 # a\n#\n 1 # b\n 1 # 7\n # c\n255\nabc", None),
+    (b"P6 1# no end", Some(Bad(Form(12)))),
+    (b"P6 1 1 255", Some(Bad(Form(10)))),
+    (b"P6 1x1", Some(Bad(Form(4)))),
+    (b"P6 1 1 255\n", Some(Bad(Form(11)))),
+    (
+        b"P6 99999999999999999999 1 255\n",
+        Some(Limit {
+            what: What::Axis,
+            number: 18446744073709551615,
+            bound: 4096,
+        }),
+    ),
+    (
+        b"P6 18446744073709551615 1 255\n",
+        Some(Limit {
+            what: What::Axis,
+            number: 18446744073709551615,
+            bound: 4096,
+        }),
+    ),
+    (
+        b"P6 1 99999999999999999999999999 255\n",
+        Some(Limit {
+            what: What::Axis,
+            number: 18446744073709551615,
+            bound: 4096,
+        }),
+    ),
+    (
+        b"P6 4097 5000 255\n",
+        Some(Limit {
+            what: What::Axis,
+            number: 4097,
+            bound: 4096,
+        }),
+    ),
+    (
+        b"P6 4096 5000 255\n",
+        Some(Limit {
+            what: What::Axis,
+            number: 5000,
+            bound: 4096,
+        }),
+    ),
+    (
+        b"P6 4096 4096 255\n",
+        Some(Limit {
+            what: What::Cells,
+            number: 16777216,
+            bound: 8388608,
+        }),
+    ),
+    (
+        b"P6 4096 2049 1\n",
+        Some(Limit {
+            what: What::Cells,
+            number: 8392704,
+            bound: 8388608,
+        }),
+    ),
+    (b"P6 4096 2048 1\n", Some(Bad(Form(15)))),
+    (b"P6 4097 1 256\n", Some(Bad(Depth))),
+    (b"P6 4097 1 256", Some(Bad(Form(13)))),
+    (b"P6 1 1 99999999999999999999\n", Some(Bad(Depth))),
+    (b"P6 1 1 256\nabc", Some(Bad(Depth))),
+    (b"P6 1 1 1\n\x00\x01\x01", None),
+    (b"P6 1 1 1\n\x00\x01\x02", Some(Bad(Sample(11)))),
+    (b"Y", Some(Bad(Form(0)))),
+    // As ppmmake, ImageMagick (with a comment, and with 16 bits) and ffmpeg write them.
+    (
+        b"P6\n3 2\n255\n\xff\x80\x10\xff\x80\x10\xff\x80\x10\xff\x80\x10\xff\x80\x10\xff\x80\x10",
+        None,
+    ),
+    (
+        b"P6\n#made by a paint program\n5 4\n255\n\xff\x00\x00\xff\x00\x00\xff\x00\x00\xff\x00\x00\xff\x00\x00\xaa\x00U\xaa\x00U\xaa\x00U\xaa\x00U\xaa\x00UU\x00\xaaU\x00\xaaU\x00\xaaU\x00\xaaU\x00\xaa\x00\x00\xff\x00\x00\xff\x00\x00\xff\x00\x00\xff\x00\x00\xff",
+        None,
+    ),
+    (
+        b"P6\n3 2\n65535\n\xff\xff\x00\x00\x00\x00\xff\xff\x00\x00\x00\x00\xff\xff\x00\x00\x00\x00\x00\x00\x00\x00\xff\xff\x00\x00\x00\x00\xff\xff\x00\x00\x00\x00\xff\xff",
+        Some(Bad(Depth)),
+    ),
+    (
+        b"P6\n4 2\n255\n?\x7f\xc0?\x7f\xc0?\x7f\xc0?\x7f\xc0?\x7f\xc0?\x7f\xc0?\x7f\xc0?\x7f\xc0",
+        None,
+    ),
+];
+
+// The number of the first file, from 0, that has another answer.
+fn wrong_answer(
+    alloc: Global,
+    table: &[(&[u8], Option<ReadError>)],
+) -> Result<Option<usize>, Fail> {
+    for (i, (bytes, want)) in table.iter().enumerate() {
+        if refusal(alloc, *bytes)? != *want {
+            return Ok(Some(i));
+        }
+    }
+    Ok(None)
 }
 
-fn over(what: What, number: u64, bound: u64) -> Option<ReadError> {
-    Some(ReadError::Limit {
-        what,
-        number,
-        bound,
-    })
+// How many first bytes of the picture of four cells, at least, aren't refused at their end.
+fn wrong_cut(alloc: Global) -> Result<Option<usize>, Fail> {
+    for n in 0..23usize {
+        if refusal(alloc, &FOUR_BY_ONE[..n])? != Some(Bad(Form(n as u64))) {
+            return Ok(Some(n));
+        }
+    }
+    Ok(None)
 }
 
 #[test]
 fn answers(rt: HostRuntime) -> Result<(), Fail> {
-    let alloc = rt.alloc();
-    let cases: [(&[u8], Option<ReadError>); 42] = [
-        (b"P6\n2 1\n255\nabcdef", None),
-        (b"P6\n2 1\n255\nabcde", bad(FormFault::Form(16))),
-        (b"P6\n2 1\n255\nabcdefg", bad(FormFault::Trailing(17))),
-        (b"P6\n2 1\n65535\nabcdefabcdef", bad(FormFault::Depth)),
-        (b"P6\n1 1\n15\n\x0f\x10\x00", bad(FormFault::Sample(11))),
-        (b"P6\n1 1\n15\n\x0f\x0e\x0f", None),
-        (b"P6\n1 1\n15\n\x10", bad(FormFault::Sample(10))),
-        (
-            b"P6\n1 1\n15\n\x0f\x00\x00\x10",
-            bad(FormFault::Trailing(13)),
-        ),
-        (b"", bad(FormFault::Form(0))),
-        (b"P5\n1 1\n255\nabc", bad(FormFault::Form(1))),
-        (b"P62 1 255 abcdef", bad(FormFault::Form(2))),
-        (b"P6\n0 1\n255\n", bad(FormFault::Form(4))),
-        (b"P6\n1 0#", bad(FormFault::Form(6))),
-        (b"P6\n1 1\n0\nabc", bad(FormFault::Form(8))),
-        (b"P6\n0001 01 0000000000000000000000000255\nabc", None),
-        (b"P6 \t\r\n1\t1\r255 abc", None),
-        (b"P6 1 1 255#x\nabc", bad(FormFault::Form(10))),
-        (b"P6# a\n1# b\r1# c\n255\nabc", None),
-        (b"P6 # a\n#\n 1 # b\n 1 # 7\n # c\n255\nabc", None),
-        (b"P6 1# no end", bad(FormFault::Form(12))),
-        (b"P6 1 1 255", bad(FormFault::Form(10))),
-        (b"P6 1x1", bad(FormFault::Form(4))),
-        (b"P6 1 1 255\n", bad(FormFault::Form(11))),
-        (
-            b"P6 99999999999999999999 1 255\n",
-            over(What::Axis, 18446744073709551615, 4096),
-        ),
-        (
-            b"P6 18446744073709551615 1 255\n",
-            over(What::Axis, 18446744073709551615, 4096),
-        ),
-        (
-            b"P6 1 99999999999999999999999999 255\n",
-            over(What::Axis, 18446744073709551615, 4096),
-        ),
-        (b"P6 4097 5000 255\n", over(What::Axis, 4097, 4096)),
-        (b"P6 4096 5000 255\n", over(What::Axis, 5000, 4096)),
-        (b"P6 4096 4096 255\n", over(What::Cells, 16777216, 8388608)),
-        (b"P6 4096 2049 1\n", over(What::Cells, 8392704, 8388608)),
-        (b"P6 4096 2048 1\n", bad(FormFault::Form(15))),
-        (b"P6 4097 1 256\n", bad(FormFault::Depth)),
-        (b"P6 4097 1 256", bad(FormFault::Form(13))),
-        (b"P6 1 1 99999999999999999999\n", bad(FormFault::Depth)),
-        (b"P6 1 1 256\nabc", bad(FormFault::Depth)),
-        (b"P6 1 1 1\n\x00\x01\x01", None),
-        (b"P6 1 1 1\n\x00\x01\x02", bad(FormFault::Sample(11))),
-        (b"Y", bad(FormFault::Form(0))),
-        // As ppmmake, ImageMagick (with a comment, and with 16 bits) and ffmpeg write them.
-        (
-            b"P6\n3 2\n255\n\xff\x80\x10\xff\x80\x10\xff\x80\x10\xff\x80\x10\xff\x80\x10\xff\x80\x10",
-            None,
-        ),
-        (
-            b"P6\n#made by a paint program\n5 4\n255\n\xff\x00\x00\xff\x00\x00\xff\x00\x00\xff\x00\x00\xff\x00\x00\xaa\x00U\xaa\x00U\xaa\x00U\xaa\x00U\xaa\x00UU\x00\xaaU\x00\xaaU\x00\xaaU\x00\xaaU\x00\xaa\x00\x00\xff\x00\x00\xff\x00\x00\xff\x00\x00\xff\x00\x00\xff",
-            None,
-        ),
-        (
-            b"P6\n3 2\n65535\n\xff\xff\x00\x00\x00\x00\xff\xff\x00\x00\x00\x00\xff\xff\x00\x00\x00\x00\x00\x00\x00\x00\xff\xff\x00\x00\x00\x00\xff\xff\x00\x00\x00\x00\xff\xff",
-            bad(FormFault::Depth),
-        ),
-        (
-            b"P6\n4 2\n255\n?\x7f\xc0?\x7f\xc0?\x7f\xc0?\x7f\xc0?\x7f\xc0?\x7f\xc0?\x7f\xc0?\x7f\xc0",
-            None,
-        ),
-    ];
-    for (i, (bytes, want)) in cases.iter().enumerate() {
-        assert_eq!(rt; refusal(alloc, *bytes)?, *want, "case {i}");
-    }
-    for n in 0..23usize {
-        let cut = &FOUR_BY_ONE[..n];
-        assert_eq!(rt;
-            refusal(alloc, cut)?,
-            bad(FormFault::Form(n as u64)),
-            "the first {n} bytes"
-        );
-    }
+    assert_eq!(rt; wrong_answer(rt.alloc(), ANSWERS)?, None);
+    assert_eq!(rt; wrong_cut(rt.alloc())?, None);
     Ok(())
 }
 
@@ -121,52 +163,99 @@ fn long_comment(alloc: Global, count: usize, end: &[u8]) -> Result<Vec<u8>, Fail
     Ok(bytes)
 }
 
+// How long a comment is, what comes after it, and the answer.
+const LONG_HEADERS: &[(usize, &[u8], Option<ReadError>)] = &[
+    (65532, b"", Some(Bad(Form(65536)))),
+    (
+        65533,
+        b"",
+        Some(Limit {
+            what: What::Header,
+            number: 65537,
+            bound: 65536,
+        }),
+    ),
+    (
+        65532,
+        b"\n1 1 255 abc",
+        Some(Limit {
+            what: What::Header,
+            number: 65537,
+            bound: 65536,
+        }),
+    ),
+    (65521, b"\n1 1 255 \n abc", Some(Bad(Trailing(65537)))),
+    (65523, b"\n1 1 255 abc", None),
+    (
+        65524,
+        b"\n1 1 255 abc",
+        Some(Limit {
+            what: What::Header,
+            number: 65537,
+            bound: 65536,
+        }),
+    ),
+    (65524, b"\n1 1 255#abc", Some(Bad(Form(65536)))),
+];
+
+// The number of the first header, from 0, that has another answer.
+fn wrong_header(alloc: Global) -> Result<Option<usize>, Fail> {
+    for (i, (count, end, want)) in LONG_HEADERS.iter().enumerate() {
+        let bytes = long_comment(alloc, *count, *end)?;
+        if refusal(alloc, &bytes)? != *want {
+            return Ok(Some(i));
+        }
+    }
+    Ok(None)
+}
+
 #[test]
 fn long_headers(rt: HostRuntime) -> Result<(), Fail> {
-    let alloc = rt.alloc();
-    let cases: [(usize, &[u8], Option<ReadError>); 7] = [
-        (65532, b"", bad(FormFault::Form(65536))),
-        (65533, b"", over(What::Header, 65537, 65536)),
-        (65532, b"\n1 1 255 abc", over(What::Header, 65537, 65536)),
-        (65521, b"\n1 1 255 \n abc", bad(FormFault::Trailing(65537))),
-        (65523, b"\n1 1 255 abc", None),
-        (65524, b"\n1 1 255 abc", over(What::Header, 65537, 65536)),
-        (65524, b"\n1 1 255#abc", bad(FormFault::Form(65536))),
-    ];
-    for (i, (count, end, want)) in cases.iter().enumerate() {
-        let bytes = long_comment(alloc, *count, *end)?;
-        assert_eq!(rt; refusal(alloc, &bytes)?, *want, "case {i}");
-    }
+    assert_eq!(rt; wrong_header(rt.alloc())?, None);
     Ok(())
 }
 
-// What stands in the picture that was read, and what is written of one with the same bytes.
+// What stands in the picture that was read.
 #[test]
-fn reads_and_writes(rt: HostRuntime) -> Result<(), Fail> {
+fn fields(rt: HostRuntime) -> Result<(), Fail> {
     let alloc = rt.alloc();
     let mut shelf = MemShelf::new(alloc);
     shelf.put_file("sample", b"P6 # four cells\n 4 01\n0255\rabcdefghijkl")?;
     let picture = read_p6(alloc, &mut shelf, "sample")?;
-    assert_eq!(rt; picture.maxval, 255);
-    assert_eq!(rt; picture.volume.size(), Size { w: 4, h: 1, f: 1 });
-    assert_eq!(rt; picture.volume.samples(), 3);
-    assert_eq!(rt; picture.volume.bytes(), b"abcdefghijkl".as_slice());
-    let bytes = Vec::from_slice(alloc, b"abcdefghijkl")?;
-    assert_eq!(rt; bytes.len(), 12);
-    let volume = Volume::from_bytes(Size { w: 4, h: 1, f: 1 }, 3, bytes);
-    let _size = volume.size();
-    write_p6(255, &volume, &mut shelf, "out")?;
-    assert_eq!(rt; shelf.file("out").unwrap_or(b""), FOUR_BY_ONE);
+    assert!(rt; picture.maxval == 255);
+    assert!(rt; picture.volume.size() == Size { w: 4, h: 1, f: 1 });
+    assert!(rt; picture.volume.samples() == 3);
+    assert!(rt; picture.volume.bytes() == b"abcdefghijkl".as_slice());
+    Ok(())
+}
+
+// Whether a read fault is told where a get fails.
+fn tells_read_fault(alloc: Global, nth: u32) -> Result<bool, Fail> {
+    let mut shelf = MemShelf::new(alloc);
+    shelf.put_file("sample", FOUR_BY_ONE)?;
+    shelf.fail_at(Call::Get, "sample", nth, 0)?;
+    Ok(read_p6(alloc, &mut shelf, "sample").err() == Some(ReadFault))
+}
+
+#[test]
+fn read_faults(rt: HostRuntime) -> Result<(), Fail> {
     for nth in 1..4u32 {
-        shelf.fail_at(Call::Get, "sample", nth, 0)?;
-        let answer = read_p6(alloc, &mut shelf, "sample").err();
-        assert_eq!(rt; answer, Some(ReadError::ReadFault), "get {nth}");
+        assert!(rt; tells_read_fault(rt.alloc(), nth)?, "get {nth}");
     }
+    Ok(())
+}
+
+// What is written of a picture with the bytes of four cells, and what a write that fails in mid-stream leaves.
+#[test]
+fn written(rt: HostRuntime) -> Result<(), Fail> {
+    let alloc = rt.alloc();
+    let mut shelf = MemShelf::new(alloc);
+    let bytes = Vec::from_slice(alloc, b"abcdefghijkl")?;
+    let volume = Volume::from_bytes(Size { w: 4, h: 1, f: 1 }, 3, bytes);
+    write_p6(255, &volume, &mut shelf, "out")?;
+    assert!(rt; shelf.file("out") == Some(FOUR_BY_ONE));
     shelf.fail_at(Call::Add, "out", 8, 2)?;
     assert!(rt; write_p6(255, &volume, &mut shelf, "out").is_err());
-    assert_eq!(rt;
-        shelf.file("out").unwrap_or(b""),
-        b"P6\n4 1\n255\nab".as_slice()
-    );
+    assert!(rt; shelf.file("out") == Some(b"P6\n4 1\n255\nab".as_slice()));
     Ok(())
 }

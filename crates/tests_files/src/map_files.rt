@@ -1,0 +1,184 @@
+// Worked examples of files of maps: a map of version 2 and a frame map are read and written again, and
+// what is cut, changed or longer is refused at its place.
+ghost use Rattle.source_map.specs.MapFiles.{IsMapFile};
+
+use crate::records::changed;
+use shelf_core::FormFault::Form;
+use shelf_core::ReadError::{Bad, Limit};
+use shelf_core::{Call, MemShelf, ReadError, What, WriteFault};
+use source_map::{MapFile, read_map, write_cell_map, write_frame_map};
+use std::alloc::{AllocError, Global};
+use std::test::Fail;
+
+// The map of six cells in a row from cells 0, 1, 2, 1, 2 and 3 of one sample of four, in version 1.
+const PLAIN: [u8; 70] = [
+    0x57, 0x45, 0x41, 0x56, 0x45, 0x4d, 0x41, 0x50, 1, 0, 0, 0, 0, 6, 0, 0, 0, 1, 0, 0, 0, 1, 0, 0,
+    0, 4, 0, 0, 0, 1, 0, 0, 0, 1, 0, 0, 0, 0, 0, 0, 0, 1, 0, 0, 0, 0, 0, 2, 0, 0, 0, 0, 0, 1, 0, 0,
+    0, 0, 0, 2, 0, 0, 0, 0, 0, 3, 0, 0, 0, 0,
+];
+
+// The map of 3 x 2 cells, all of one cell.
+const COPIES: [u8; 70] = [
+    0x57, 0x45, 0x41, 0x56, 0x45, 0x4d, 0x41, 0x50, 1, 0, 0, 0, 0, 3, 0, 0, 0, 2, 0, 0, 0, 1, 0, 0,
+    0, 1, 0, 0, 0, 1, 0, 0, 0, 1, 0, 0, 0, 0, 0, 0, 0, 0, 0, 0, 0, 0, 0, 0, 0, 0, 0, 0, 0, 0, 0, 0,
+    0, 0, 0, 0, 0, 0, 0, 0, 0, 0, 0, 0, 0, 0,
+];
+
+// That of `PLAIN` in version 2.
+const NUMBERED: [u8; 84] = [
+    0x57, 0x45, 0x41, 0x56, 0x45, 0x4d, 0x41, 0x50, 2, 0, 0, 0, 0, 6, 0, 0, 0, 1, 0, 0, 0, 1, 0, 1,
+    0, 0, 0, 4, 0, 0, 0, 1, 0, 0, 0, 1, 0, 1, 0, 0, 0, 0, 0, 0, 0, 1, 0, 1, 0, 0, 0, 0, 0, 1, 0, 2,
+    0, 0, 0, 0, 0, 1, 0, 1, 0, 0, 0, 0, 0, 1, 0, 2, 0, 0, 0, 0, 0, 1, 0, 3, 0, 0, 0, 0,
+];
+
+// The frames 1, 0 and 1 of a sample of two.
+const FRAMES: [u8; 40] = [
+    0x57, 0x45, 0x41, 0x56, 0x45, 0x4d, 0x41, 0x50, 1, 1, 0, 0, 0, 2, 0, 0, 0, 1, 0, 0, 0, 3, 0, 0,
+    0, 2, 0, 0, 0, 1, 0, 0, 0, 2, 0, 1, 0, 0, 0, 1,
+];
+
+// Writes what was read.
+fn write_again(value: &MapFile, shelf: &mut MemShelf) -> Result<(), WriteFault>
+    requires { IsMapFile value.now }
+{
+    match value {
+        MapFile::Cells {
+            map,
+            samples,
+            version,
+        } => write_cell_map(map, samples, *version, shelf, "again"),
+        MapFile::Frames {
+            size,
+            sample,
+            frames,
+        } => write_frame_map(*size, *sample, frames.as_slice(), shelf, "again"),
+    }
+}
+
+const FILES: &[&[u8]] = &[&COPIES, &PLAIN, &NUMBERED, &FRAMES];
+
+// Whether a map is read, and what was read is written again, byte by byte.
+fn is_written_again(alloc: Global, bytes: &[u8]) -> Result<bool, AllocError> {
+    let mut shelf = MemShelf::new(alloc);
+    shelf.put_file("map", bytes)?;
+    let Ok(value) = read_map(alloc, &mut shelf, "map") else {
+        return Ok(false);
+    };
+    Ok(write_again(&value, &mut shelf).is_ok() && shelf.file("again") == Some(bytes))
+}
+
+#[test]
+fn maps_are_read_and_written_again(rt: HostRuntime) -> Result<(), Fail> {
+    for bytes in FILES.iter() {
+        assert!(rt;
+            is_written_again(rt.alloc(), *bytes)?,
+            "{} bytes",
+            bytes.len()
+        );
+    }
+    Ok(())
+}
+
+// Whether a write that fails leaves so many bytes of the map of copies, and tells.
+fn fails_well(alloc: Global, call: Call, kept: usize) -> Result<bool, AllocError> {
+    let mut shelf = MemShelf::new(alloc);
+    shelf.put_file("map", &COPIES)?;
+    shelf.fail_at(call, "again", 1, kept)?;
+    let Ok(value) = read_map(alloc, &mut shelf, "map") else {
+        return Ok(false);
+    };
+    let is_told = write_again(&value, &mut shelf).is_err() && shelf.write_faults() == 1;
+    let left = shelf.file("again").unwrap_or(b"");
+    Ok(is_told && Some(left) == COPIES.get(..kept))
+}
+
+#[test]
+fn writes_that_fail(rt: HostRuntime) -> Result<(), Fail> {
+    assert!(rt; fails_well(rt.alloc(), Call::Begin, 0)?);
+    assert!(rt; fails_well(rt.alloc(), Call::Add, 0)?);
+    assert!(rt; fails_well(rt.alloc(), Call::Add, 42)?);
+    Ok(())
+}
+
+// Why bytes aren't read as a map.
+fn refusal(alloc: Global, bytes: &[u8]) -> Result<Option<ReadError>, AllocError> {
+    let mut shelf = MemShelf::new(alloc);
+    shelf.put_file("map", bytes)?;
+    Ok(read_map(alloc, &mut shelf, "map").err())
+}
+
+// How many bytes of a map are the first that aren't refused at their end, or with a byte more at its place; None where all are.
+fn wrong_length(alloc: Global, bytes: &[u8]) -> Result<Option<usize>, AllocError> {
+    for n in 0..bytes.len() {
+        if refusal(alloc, &bytes[..n])? != Some(Bad(Form(n as u64))) {
+            return Ok(Some(n));
+        }
+    }
+    let mut longer = Vec::from_slice(alloc, bytes)?;
+    longer.push(0)?;
+    if refusal(alloc, &longer)? != Some(Bad(Form(bytes.len() as u64))) {
+        return Ok(Some(bytes.len()));
+    }
+    Ok(None)
+}
+
+#[test]
+fn cut_and_longer_maps_are_refused(rt: HostRuntime) -> Result<(), Fail> {
+    for bytes in FILES.iter() {
+        assert_eq!(rt; wrong_length(rt.alloc(), *bytes)?, None);
+    }
+    Ok(())
+}
+
+// A file, a place in it and what stands there, and the refusal.
+type Change<'a> = (&'a [u8], usize, &'a [u8], ReadError);
+
+const CHANGES: &[Change<'static>] = &[
+    (&PLAIN, 7, b"Q", Bad(Form(0))),
+    (&PLAIN, 8, &[9], Bad(Form(8))),
+    (&PLAIN, 9, &[2], Bad(Form(9))),
+    (&NUMBERED, 9, &[1], Bad(Form(9))),
+    (&PLAIN, 20, &[0, 0], Bad(Form(18))),
+    (
+        &PLAIN,
+        12,
+        &[16, 1],
+        Limit {
+            what: What::Axis,
+            number: 4097,
+            bound: 4096,
+        },
+    ),
+    (
+        &PLAIN,
+        12,
+        &[16, 0, 0, 0, 16, 0, 0, 0, 16, 0],
+        Limit {
+            what: What::Cells,
+            number: 68719476736,
+            bound: 1048576,
+        },
+    ),
+    (&PLAIN, 34, &[0, 4], Bad(Form(34))),
+    (&NUMBERED, 22, &[0, 17], Bad(Form(22))),
+    (&NUMBERED, 36, &[0, 2], Bad(Form(36))),
+    (&FRAMES, 22, &[0, 1, 0, 2], Bad(Form(22))),
+    (&FRAMES, 36, &[0, 2], Bad(Form(36))),
+];
+
+// The number of the first change, from 0, that isn't refused so.
+fn wrong_change(alloc: Global, table: &[Change]) -> Result<Option<usize>, AllocError> {
+    for (i, (bytes, at, new, refused)) in table.iter().enumerate() {
+        let other = changed(alloc, *bytes, *at, *new)?;
+        if refusal(alloc, &other)? != Some(*refused) {
+            return Ok(Some(i));
+        }
+    }
+    Ok(None)
+}
+
+#[test]
+fn changed_maps_are_refused(rt: HostRuntime) -> Result<(), Fail> {
+    assert_eq!(rt; wrong_change(rt.alloc(), CHANGES)?, None);
+    Ok(())
+}

@@ -1,0 +1,337 @@
+// Worked examples: record files to the byte, both ways, and files that are refused.
+use cert_file::{CertFile, Flow, Taps, read_cert, write_blocks, write_cuts, write_walk};
+use shelf_core::FormFault::Form;
+use shelf_core::ReadError::{Bad, Limit};
+use shelf_core::{MemShelf, ReadError, What};
+use std::alloc::{AllocError, Global};
+use std::test::Fail;
+
+// Two records, of 100 bytes: output 6 x 1 x 1, sample 4 x 1 x 1; a box of 4 x 1 x 1 cells at the output's first cell and one
+// at its third, from the sample's first cell; choices and flows: all new, and all but the first new.
+const TWO: &[u8] = b"WEAVEREC\x01\x00\0\0\0\x06\0\0\0\x01\0\0\0\x01\0\0\0\x04\0\0\0\x01\0\0\0\x01\
+    \0\0\0\x02\
+    \0\0\0\0\0\0\0\x04\0\x01\0\x01\0\0\0\0\0\0\xf0\0\0\0\0\0\0\0\0\0\0\0\0\
+    \0\x02\0\0\0\0\0\x04\0\x01\0\x01\0\0\0\0\0\0\x70\0\x78\0\x78\0\x78\0\0\0\0\0\0";
+
+// The same and a third one, whose cells are new but the last.
+const THREE: &[u8] = b"WEAVEREC\x01\x00\0\0\0\x06\0\0\0\x01\0\0\0\x01\0\0\0\x04\0\0\0\x01\0\0\0\x01\
+    \0\0\0\x03\
+    \0\0\0\0\0\0\0\x04\0\x01\0\x01\0\0\0\0\0\0\xf0\0\0\0\0\0\0\0\0\0\0\0\0\
+    \0\x02\0\0\0\0\0\x04\0\x01\0\x01\0\0\0\0\0\0\x70\0\x78\0\x78\0\x78\0\0\0\0\0\0\
+    \0\0\0\0\0\0\0\x04\0\x01\0\x01\0\0\0\0\0\0\xe0\0\0\0\0\0\0\0\0\0\0\xff\x88";
+
+// The two records in version 2, with one sample.
+const NUMBERED: &[u8] =
+    b"WEAVEREC\x02\x00\0\0\0\x06\0\0\0\x01\0\0\0\x01\0\x01\0\0\0\x04\0\0\0\x01\0\0\0\x01\
+    \0\0\0\x02\
+    \0\0\0\0\0\0\0\x04\0\x01\0\x01\0\x01\0\0\0\0\0\0\xf0\0\0\0\0\0\0\0\0\0\0\0\0\
+    \0\x02\0\0\0\0\0\x04\0\x01\0\x01\0\x01\0\0\0\0\0\0\x70\0\x78\0\x78\0\x78\0\0\0\0\0\0";
+
+// One record, at the output's third cell, whose cells are new but the last.
+const ONE: &[u8] = b"WEAVEREC\x01\x00\0\0\0\x06\0\0\0\x01\0\0\0\x01\0\0\0\x04\0\0\0\x01\0\0\0\x01\
+    \0\0\0\x01\
+    \0\x02\0\0\0\0\0\x04\0\x01\0\x01\0\0\0\0\0\0\xe0\0\0\0\0\0\0\0\0\0\0\xff\x88";
+
+pub(crate) fn joined(alloc: Global, parts: &[&[u8]]) -> Result<Vec<u8>, AllocError> {
+    let mut bytes = Vec::new(alloc);
+    for part in parts {
+        bytes.extend_from_slice(*part)?;
+    }
+    Ok(bytes)
+}
+
+// The bytes with others from a place on.
+pub(crate) fn changed(
+    alloc: Global,
+    bytes: &[u8],
+    at: usize,
+    new: &[u8],
+) -> Result<Vec<u8>, AllocError> {
+    let mut result = Vec::from_slice(alloc, bytes)?;
+    for (old, byte) in result.iter_mut().skip(at).zip(new) {
+        *old = *byte;
+    }
+    Ok(result)
+}
+
+// The answer to a file of these bytes, where it is a refusal.
+pub(crate) fn refusal(alloc: Global, bytes: &[u8]) -> Result<Option<ReadError>, AllocError> {
+    let mut shelf = MemShelf::new(alloc);
+    shelf.put_file("record", bytes)?;
+    Ok(read_cert(alloc, &mut shelf, "record").err())
+}
+
+// Whether a file of cuts has this length, and is read and written again, byte by byte.
+fn is_written_again(alloc: Global, bytes: &[u8], length: usize) -> Result<bool, Fail> {
+    let mut shelf = MemShelf::new(alloc);
+    shelf.put_file("record", bytes)?;
+    let CertFile::Cuts { head, cuts } = read_cert(alloc, &mut shelf, "record")? else {
+        return Ok(false);
+    };
+    write_cuts(&head, cuts.as_slice(), &mut shelf, "again")?;
+    Ok(bytes.len() == length && shelf.file("again") == Some(bytes))
+}
+
+#[test]
+fn written_again(rt: HostRuntime) -> Result<(), Fail> {
+    assert!(rt; is_written_again(rt.alloc(), TWO, 100)?);
+    assert!(rt; is_written_again(rt.alloc(), THREE, 131)?);
+    assert!(rt; is_written_again(rt.alloc(), NUMBERED, 106)?);
+    Ok(())
+}
+
+#[test]
+fn fields(rt: HostRuntime) -> Result<(), Fail> {
+    let alloc = rt.alloc();
+    let mut shelf = MemShelf::new(alloc);
+    shelf.put_file("record", ONE)?;
+    let CertFile::Cuts { head, cuts } = read_cert(alloc, &mut shelf, "record")? else {
+        return Err("no cuts".into());
+    };
+    let cut = cuts.as_slice().first().ok_or("no record")?;
+    assert!(rt; head.output.w == 6);
+    assert!(rt; cut.placement.rect.corner.x == 2);
+    assert!(rt; cut.placement.rect.size.w == 4);
+    assert!(rt; cut.choice.as_slice() == [true, true, true, false].as_slice());
+    assert!(rt; cut.flows.as_slice().last() == Some(&Flow { x: 0, y: -120 }));
+    Ok(())
+}
+
+// A place in a file, what stands there, and the refusal if there is one.
+type Change<'a> = (usize, &'a [u8], Option<ReadError>);
+
+// The number of the first change, from 0, that has another answer.
+fn wrong_change(alloc: Global, file: &[u8], table: &[Change]) -> Result<Option<usize>, AllocError> {
+    for (i, (at, new, want)) in table.iter().enumerate() {
+        let other = changed(alloc, file, *at, *new)?;
+        if refusal(alloc, &other)? != *want {
+            return Ok(Some(i));
+        }
+    }
+    Ok(None)
+}
+
+const REFUSED: &[Change<'static>] = &[
+    (34, b"\xff\xff\xff\xff", Some(Bad(Form(100)))),
+    (34, b"\0\0\0\x01", Some(Bad(Form(69)))),
+    (8, b"\x03", Some(Bad(Form(8)))),
+    (9, b"\x03", Some(Bad(Form(9)))),
+    (44, b"\0\0", Some(Bad(Form(44)))),
+    (
+        44,
+        b"\xff\xff\xff\xff\xff\xff",
+        Some(Limit {
+            what: What::Records,
+            number: 281462092005375,
+            bound: 33554432,
+        }),
+    ),
+    (50, b"\0\x04", Some(Bad(Form(50)))),
+    (56, b"\xf1", Some(Bad(Form(56)))),
+    // 4 cells and 8,190 x 4,097.
+    (
+        75,
+        b"\x1f\xfe\x10\x01\0\x01",
+        Some(Limit {
+            what: What::Records,
+            number: 33554434,
+            bound: 33554432,
+        }),
+    ),
+    (0, b"", None),
+];
+
+#[test]
+fn refusals(rt: HostRuntime) -> Result<(), Fail> {
+    assert_eq!(rt; wrong_change(rt.alloc(), TWO, REFUSED)?, None);
+    Ok(())
+}
+
+// How many bytes of a file are the first that aren't refused at their end, or with a byte more at its place; None where all are.
+fn wrong_length(alloc: Global, bytes: &[u8]) -> Result<Option<usize>, AllocError> {
+    for n in 0..bytes.len() {
+        if refusal(alloc, &bytes[..n])? != Some(Bad(Form(n as u64))) {
+            return Ok(Some(n));
+        }
+    }
+    let longer = joined(alloc, &[bytes, b"x"])?;
+    if refusal(alloc, &longer)? != Some(Bad(Form(bytes.len() as u64))) {
+        return Ok(Some(bytes.len()));
+    }
+    Ok(None)
+}
+
+// Files of each kind that are cut off at each byte, or go on.
+#[test]
+fn cut_and_longer(rt: HostRuntime) -> Result<(), Fail> {
+    let alloc = rt.alloc();
+    assert_eq!(rt; wrong_length(alloc, TWO)?, None);
+    assert_eq!(rt; wrong_length(alloc, THREE)?, None);
+    assert_eq!(rt; wrong_length(alloc, NUMBERED)?, None);
+    assert_eq!(rt; wrong_length(alloc, WALK)?, None);
+    assert_eq!(rt; wrong_length(alloc, BLOCKS)?, None);
+    Ok(())
+}
+
+// The file of a walk of 3 frames over a sample of 1 x 1 x 2: its tables are those for the lengths 2 and 3.
+const WALK: &[u8] = b"WEAVEREC\x01\x02\0\0\0\x01\0\0\0\x01\0\0\0\x03\0\0\0\x01\0\0\0\x01\0\0\0\x02\
+    \0\0\0\x03\x02\x01\0\0\0\0\x01\0\x01\
+    \0\0\0\0\0\0\0\x0a\0\0\0\0\0\0\0\x05\xff\xff\xff\xff\xff\xff\xff\xff\0\0\0\0\0\0\0\x0a\
+    \0\0\0\0\0\0\0\x0f\0\0\0\0\0\0\0\x0a\0\0\0\0\0\0\0\x14\x01\x02\x03\x04\x05\x06\x07\x08";
+
+// A walk is read, and what was read is written again, byte by byte.
+#[test]
+fn walk_written_again(rt: HostRuntime) -> Result<(), Fail> {
+    let alloc = rt.alloc();
+    assert_eq!(rt; WALK.len(), 111);
+    let mut shelf = MemShelf::new(alloc);
+    shelf.put_file("record", WALK)?;
+    let CertFile::Walk {
+        head,
+        taps,
+        gap,
+        walk,
+        tables,
+    } = read_cert(alloc, &mut shelf, "record")?
+    else {
+        return Err("no walk".into());
+    };
+    assert_eq!(rt; head.output.f, 3);
+    assert_eq!(rt; taps, Taps::Two);
+    assert_eq!(rt; gap, 256);
+    assert_eq!(rt; walk.as_slice(), [0u16, 1, 1].as_slice());
+    assert_eq!(rt; tables.as_slice().len(), 8);
+    assert_eq!(rt; tables.as_slice().get(2), Some(&u64::MAX));
+    assert_eq!(rt; tables.as_slice().last(), Some(&72623859790382856));
+    write_walk(
+        &head,
+        taps,
+        gap,
+        walk.as_slice(),
+        tables.as_slice(),
+        &mut shelf,
+        "again",
+    )?;
+    assert_eq!(rt; shelf.file("again").unwrap_or(b""), WALK);
+    Ok(())
+}
+
+const REFUSED_WALKS: &[Change<'static>] = &[
+    (9, b"\x03", Some(Bad(Form(9)))),
+    (8, b"\x02", Some(Bad(Form(9)))),
+    (
+        30,
+        b"\0\0\x01\x01\0\0\0\0",
+        Some(Limit {
+            what: What::Frames,
+            number: 257,
+            bound: 256,
+        }),
+    ),
+    (34, b"\0\0\0\0", Some(Bad(Form(34)))),
+    (
+        34,
+        b"\0\0\x10\x01",
+        Some(Limit {
+            what: What::Loop,
+            number: 4097,
+            bound: 4096,
+        }),
+    ),
+    (34, b"\0\0\0\x02", Some(Bad(Form(77)))),
+    (34, b"\0\0\0\x04", Some(Bad(Form(111)))),
+    (38, b"\x03", Some(Bad(Form(38)))),
+    (39, b"\0\0", Some(Bad(Form(39)))),
+    (39, b"\x01\x01", Some(Bad(Form(39)))),
+    (0, b"", None),
+];
+
+#[test]
+fn walk_refusals(rt: HostRuntime) -> Result<(), Fail> {
+    assert_eq!(rt; wrong_change(rt.alloc(), WALK, REFUSED_WALKS)?, None);
+    Ok(())
+}
+
+// The file of two blocks over a sample of 4 x 1 x 1: one of 2 x 2 cells without boundaries, and one of 2 x 3
+// cells with a left strip of 2 columns and a top strip of 3.
+const BLOCKS: &[u8] =
+    b"WEAVEREC\x01\x01\0\0\0\x06\0\0\0\x05\0\0\0\x01\0\0\0\x04\0\0\0\x01\0\0\0\x01\
+    \0\0\0\x02\
+    \0\0\0\0\0\x02\0\x02\0\0\0\0\0\
+    \0\x01\x01\x02\0\x02\0\x03\x01\x03\0\x02\x03\
+    \0\x02\0\0\0\x01\x01\x02\
+    \0\0\0\x01\0\0\0\x02\0\0\0\x03\0\0\0\x04\0\0\0\x05\0\0\0\x06\
+    \0\x03\0\x02\0\x03\
+    \0\0\0\x07\0\0\0\x08\0\0\0\x09\0\0\0\x0a\0\0\0\x0b\xff\xff\xff\xff";
+
+// Blocks are read, and what was read is written again, byte by byte.
+#[test]
+fn blocks_written_again(rt: HostRuntime) -> Result<(), Fail> {
+    let alloc = rt.alloc();
+    assert_eq!(rt; BLOCKS.len(), 126);
+    let mut shelf = MemShelf::new(alloc);
+    shelf.put_file("record", BLOCKS)?;
+    let CertFile::Blocks { head, blocks } = read_cert(alloc, &mut shelf, "record")? else {
+        return Err("no blocks".into());
+    };
+    let [_, block] = blocks.as_slice() else {
+        return Err("not two blocks".into());
+    };
+    assert_eq!(rt; block.placement.rect.corner.y, 258);
+    assert_eq!(rt; block.placement.rect.size.h, 3);
+    assert_eq!(rt; block.placement.from.x, 259);
+    let left = block.left.as_ref().ok_or("no left boundary")?;
+    assert_eq!(rt; left.path.as_slice(), [0u16, 1, 258].as_slice());
+    assert_eq!(rt; left.sums.as_slice(), [1u32, 2, 3, 4, 5, 6].as_slice());
+    let top = block.top.as_ref().ok_or("no top boundary")?;
+    assert_eq!(rt; top.path.as_slice(), [2u16, 3].as_slice());
+    assert_eq!(rt;
+        top.sums.as_slice(),
+        [7u32, 8, 9, 10, 11, u32::MAX].as_slice()
+    );
+    write_blocks(&head, blocks.as_slice(), &mut shelf, "again")?;
+    assert_eq!(rt; shelf.file("again").unwrap_or(b""), BLOCKS);
+    Ok(())
+}
+
+const REFUSED_BLOCKS: &[Change<'static>] = &[
+    (8, b"\x02", Some(Bad(Form(9)))),
+    (34, b"\xff\xff\xff\xff", Some(Bad(Form(126)))),
+    (34, b"\0\0\0\x01", Some(Bad(Form(51)))),
+    (
+        42,
+        b"\xff\xff\xff\xff",
+        Some(Limit {
+            what: What::Records,
+            number: 4294836225,
+            bound: 33554432,
+        }),
+    ),
+    (55, b"\0\0", Some(Bad(Form(55)))),
+    (57, b"\0\0", Some(Bad(Form(57)))),
+    // 4 cells and 8,190 x 4,097.
+    (
+        55,
+        b"\x1f\xfe\x10\x01",
+        Some(Limit {
+            what: What::Records,
+            number: 33554434,
+            bound: 33554432,
+        }),
+    ),
+    (63, b"\x04", Some(Bad(Form(63)))),
+    (63, b"\0", Some(Bad(Form(64)))),
+    (63, b"\x01", Some(Bad(Form(96)))),
+    (63, b"\x02", Some(Bad(Form(86)))),
+    (64, b"\0\0", Some(Bad(Form(64)))),
+    (64, b"\0\x03", Some(Bad(Form(64)))),
+    (96, b"\0\0", Some(Bad(Form(96)))),
+    (96, b"\0\x04", Some(Bad(Form(96)))),
+    (0, b"", None),
+];
+
+#[test]
+fn blocks_refusals(rt: HostRuntime) -> Result<(), Fail> {
+    assert_eq!(rt; wrong_change(rt.alloc(), BLOCKS, REFUSED_BLOCKS)?, None);
+    Ok(())
+}

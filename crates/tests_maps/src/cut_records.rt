@@ -1,0 +1,412 @@
+// Worked examples of cut_check: records along each axis, with a held cell, over all choices, and boxes on two
+// and three axes whose flows are forced.
+ghost use Rattle.std.specs.Prelude.{◌≡◌, IfOk, length};
+ghost use Rattle.cells.specs.Places.{IsSmall};
+ghost use Rattle.map_canvas.specs.Canvases.{StandsOver};
+
+use crate::laying::{assert_fits, canvas_over, put};
+use box_walk::pair_count;
+use cells::{At, Axis, Box3, GREATEST_AXIS, MOST_CELLS, Size, Volume};
+use cut_check::{
+    BALANCE_RULE, BOUNDS_RULE, CutRecord, FILL_RULE, FIT_RULE, Flow, KEEP_RULE, VALUE_RULE,
+    check_cut, check_held,
+};
+use items::Items;
+use map_canvas::{Canvas, Placement};
+use seams::{are_marks, window_after};
+use std::alloc::{AllocError, Global};
+use std::process::Abort;
+use std::test::Fail;
+
+// What a check says: nothing where the record stands, and else the kind and the place of its fault.
+type Verdict = Option<(u32, u64)>;
+
+// A box of n cells along an axis.
+fn line(axis: Axis, n: u32) -> Size {
+    match axis {
+        Axis::X => Size { w: n, h: 1, f: 1 },
+        Axis::Y => Size { w: 1, h: n, f: 1 },
+        Axis::F => Size { w: 1, h: 1, f: n },
+    }
+}
+
+// The place n cells along an axis.
+fn along(axis: Axis, n: i32) -> At {
+    match axis {
+        Axis::X => At { x: n, y: 0, f: 0 },
+        Axis::Y => At { x: 0, y: n, f: 0 },
+        Axis::F => At { x: 0, y: 0, f: n },
+    }
+}
+
+// Asserts that a size is that of a volume.
+fn assert_small(rt: &impl Abort, size: Size)
+    ensures { IsSmall size }
+{
+    assert!(rt; 1 <= size.w && size.w <= GREATEST_AXIS);
+    assert!(rt; 1 <= size.h && size.h <= GREATEST_AXIS);
+    assert!(rt; 1 <= size.f && size.f <= GREATEST_AXIS);
+    assert!(rt; size.w as usize * (size.h as usize * size.f as usize) <= MOST_CELLS);
+}
+
+// A sample of one byte a cell, or of three that are equal.
+fn sample_of(
+    rt: &impl Abort,
+    alloc: Global,
+    size: Size,
+    k: u32,
+    bytes: &[u8],
+) -> Result<Volume, AllocError> {
+    let bytes = Vec::from_slice(alloc, bytes)?;
+    assert_small(rt, size);
+    assert!(rt; k == 1 || k == 3);
+    assert!(rt; bytes.len() == k as usize * size.cells());
+    Ok(Volume::from_bytes(size, k, bytes))
+}
+
+// Greys along an axis, 10 apart.
+fn sample_along(rt: &impl Abort, alloc: Global, axis: Axis) -> Result<Volume, AllocError> {
+    let greys = [10, 10, 10, 20, 20, 20, 30, 30, 30, 40, 40, 40];
+    sample_of(rt, alloc, line(axis, 4), 3, &greys)
+}
+
+// A canvas over a sample, with these cells from these sources.
+fn canvas_of(
+    rt: &impl Abort,
+    alloc: Global,
+    size: Size,
+    sample: &Volume,
+    cells: &[(At, At)],
+) -> Result<Canvas, AllocError>
+    ensures { IfOk result (λ canvas. StandsOver canvas sample.now) }
+{
+    assert_small(rt, size);
+    let mut canvas = canvas_over(alloc, size, sample)?;
+    'cells: for (p, from) in cells {
+        put(rt, &mut canvas, sample, *p, *from);
+    }
+    Ok(canvas)
+}
+
+// A canvas of six cells along an axis over a sample, the first of them with these sources along it.
+fn canvas_along(
+    rt: &impl Abort,
+    alloc: Global,
+    sample: &Volume,
+    axis: Axis,
+    sources: &[i32],
+) -> Result<Canvas, AllocError>
+    ensures { IfOk result (λ canvas. StandsOver canvas sample.now) }
+{
+    let size = line(axis, 6);
+    assert_small(rt, size);
+    let mut canvas = canvas_over(alloc, size, sample)?;
+    let mut n = 0;
+    'sources: for from in sources {
+        put(rt, &mut canvas, sample, along(axis, n), along(axis, *from));
+        assert!(rt; n < 6);
+        n += 1;
+    }
+    Ok(canvas)
+}
+
+// A record of this choice and these flows.
+fn record_of(
+    alloc: Global,
+    placement: Placement,
+    choice: &[bool],
+    flows: &[(i16, i16)],
+) -> Result<CutRecord, AllocError>
+    ensures { IfOk result (λ cut. (cut.placement ≡ placement)
+        × (length cut.choice ≡ length choice.now) × (length cut.flows ≡ length flows.now)) }
+{
+    let mut list = Vec::new(alloc);
+    'flows: for (x, y) in flows {
+        list.push(Flow { x: *x, y: *y })?;
+    }
+    Ok(CutRecord {
+        placement,
+        choice: Items::from_vec(Vec::from_slice(alloc, choice)?),
+        flows: Items::from_vec(list),
+    })
+}
+
+// What the check says.
+fn verdict(
+    rt: &impl Abort,
+    alloc: Global,
+    canvas: &Canvas,
+    sample: &Volume,
+    placement: Placement,
+    choice: &[bool],
+    flows: &[(i16, i16)],
+    held: Option<&[bool]>,
+) -> Result<Verdict, AllocError>
+    requires { StandsOver canvas.now sample.now }
+{
+    let size = placement.rect.size;
+    assert_small(rt, size);
+    assert!(rt; choice.len() == size.cells());
+    assert!(rt; flows.len() as u64 == pair_count(size));
+    assert!(rt; are_marks(canvas, &placement, held));
+    let cut = record_of(alloc, placement, choice, flows)?;
+    let said = match held {
+        None => check_cut(canvas, sample, &cut),
+        Some(_) => check_held(canvas, sample, &cut, held),
+    };
+    match said {
+        Ok(()) => Ok(None),
+        Err(fault) => Ok(Some((fault.kind, fault.place))),
+    }
+}
+
+// A placement of four cells along an axis, whose sources begin at the sample's first cell.
+fn four_at(axis: Axis, n: i32) -> Placement {
+    Placement {
+        rect: Box3 {
+            corner: along(axis, n),
+            size: line(axis, 4),
+        },
+        from: along(axis, 0),
+    }
+}
+
+const AXES: [Axis; 3] = [Axis::X, Axis::Y, Axis::F];
+
+// The choice whose cells are new as the bits of a number say, the first by the lowest.
+fn choice_of(bits: u32) -> [bool; 8] {
+    [
+        bits & 1 != 0,
+        bits & 2 != 0,
+        bits & 4 != 0,
+        bits & 8 != 0,
+        bits & 16 != 0,
+        bits & 32 != 0,
+        bits & 64 != 0,
+        bits & 128 != 0,
+    ]
+}
+
+#[test]
+fn a_box_between_old_cells(rt: HostRuntime) -> Result<(), Fail> {
+    let good = [(60, 60), (60, -60), (-60, -60)];
+    let table: [(i32, u32, [(i16, i16); 3], Verdict); 6] = [
+        (1, 0b0110, good, None),
+        (
+            1,
+            0b0110,
+            [(60, 59), (60, -60), (-60, -60)],
+            Some((BOUNDS_RULE, 0)),
+        ),
+        (1, 0b0111, good, Some((KEEP_RULE, 0))),
+        (1, 0b1110, good, Some((KEEP_RULE, 3))),
+        (3, 0b0110, good, Some((FIT_RULE, 0))),
+        (-1, 0b0110, good, Some((FIT_RULE, 0))),
+    ];
+    for axis in AXES {
+        let sample = sample_along(&rt, rt.alloc(), axis)?;
+        let canvas = canvas_along(&rt, rt.alloc(), &sample, axis, &[0, 1, 2, 1, 2, 3])?;
+        for (corner, bits, flows, want) in &table {
+            let place = four_at(axis, *corner);
+            let choice = choice_of(*bits);
+            let said = verdict(
+                &rt,
+                rt.alloc(),
+                &canvas,
+                &sample,
+                place,
+                &choice[..4],
+                flows,
+                None,
+            )?;
+            assert!(rt; said == *want, "{axis:?} at {corner}, {bits:b}");
+        }
+    }
+    Ok(())
+}
+
+#[test]
+fn a_box_over_the_edge_of_the_filled(rt: HostRuntime) -> Result<(), Fail> {
+    let good = [(120, 120), (120, 0), (0, 0)];
+    let table: [(u32, [(i16, i16); 3], Verdict); 6] = [
+        (0b1110, good, None),
+        (
+            0b1110,
+            [(120, 120), (119, 0), (0, 0)],
+            Some((BALANCE_RULE, 1)),
+        ),
+        (
+            0b1110,
+            [(119, 119), (119, 0), (0, 0)],
+            Some((VALUE_RULE, 0)),
+        ),
+        (
+            0b1110,
+            [(121, 121), (121, 0), (0, 0)],
+            Some((BOUNDS_RULE, 0)),
+        ),
+        (0b1100, good, Some((VALUE_RULE, 0))),
+        (0b1010, good, Some((FILL_RULE, 2))),
+    ];
+    for axis in AXES {
+        let sample = sample_along(&rt, rt.alloc(), axis)?;
+        let canvas = canvas_along(&rt, rt.alloc(), &sample, axis, &[0, 1, 2, 3])?;
+        for (bits, flows, want) in &table {
+            let place = four_at(axis, 2);
+            let choice = choice_of(*bits);
+            let said = verdict(
+                &rt,
+                rt.alloc(),
+                &canvas,
+                &sample,
+                place,
+                &choice[..4],
+                flows,
+                None,
+            )?;
+            assert!(rt; said == *want, "{axis:?}, {bits:b}");
+        }
+    }
+    Ok(())
+}
+
+#[test]
+fn a_held_cell(rt: HostRuntime) -> Result<(), Fail> {
+    let held = [false, true, false, false];
+    let table: [(u32, [(i16, i16); 3], Verdict); 3] = [
+        (0b1100, [(100, 100), (825, 0), (0, 0)], None),
+        (0b1110, [(120, 120), (120, 0), (0, 0)], Some((KEEP_RULE, 1))),
+        (
+            0b1100,
+            [(120, 120), (120, 0), (0, 0)],
+            Some((VALUE_RULE, 0)),
+        ),
+    ];
+    for axis in AXES {
+        let sample = sample_along(&rt, rt.alloc(), axis)?;
+        let canvas = canvas_along(&rt, rt.alloc(), &sample, axis, &[0, 1, 2, 3])?;
+        for (bits, flows, want) in &table {
+            let place = four_at(axis, 2);
+            let choice = &choice_of(*bits)[..4];
+            let marks: Option<&[bool]> = Some(&held);
+            let said = verdict(
+                &rt,
+                rt.alloc(),
+                &canvas,
+                &sample,
+                place,
+                choice,
+                flows,
+                marks,
+            )?;
+            assert!(rt; said == *want, "{axis:?}, {bits:b}");
+        }
+    }
+    Ok(())
+}
+
+// Asserts that a choice stands with these flows, that its window sum is this, that no other choice over the box
+// stands with them, and that the choice doesn't stand with a flow that is one more or one less anywhere.
+fn assert_forced(
+    rt: &impl Abort,
+    alloc: Global,
+    canvas: &Canvas,
+    sample: &Volume,
+    placement: Placement,
+    choice: &[bool],
+    flows: &[(i16, i16)],
+    cost: u64,
+) -> Result<(), AllocError>
+    requires { StandsOver canvas.now sample.now }
+{
+    let said = verdict(rt, alloc, canvas, sample, placement, choice, flows, None)?;
+    assert!(rt; said.is_none(), "{said:?}");
+    assert_fits(rt, canvas.map().size(), sample, &placement);
+    assert_eq!(rt; window_after(canvas, sample, &placement, choice), cost);
+
+    let n = choice.len();
+    assert!(rt; n <= 8);
+    for bits in 0..256u32 {
+        let other = choice_of(bits);
+        let other = &other[..n];
+        let said = verdict(rt, alloc, canvas, sample, placement, other, flows, None)?;
+        assert!(rt; said.is_none() == (other == choice), "{bits:b}");
+    }
+    let mut list = Vec::from_slice(alloc, flows)?;
+    for i in 0..flows.len() {
+        for (x, y) in [(1, 0), (-1, 0), (0, 1), (0, -1)] {
+            let (old_x, old_y) = flows[i];
+            assert!(rt; i < list.len());
+            list[i] = (old_x.wrapping_add(x), old_y.wrapping_add(y));
+            let said = verdict(rt, alloc, canvas, sample, placement, choice, &list, None)?;
+            assert!(rt; said.is_some(), "flow {i} changed by {x} and {y}");
+            list[i] = (old_x, old_y);
+        }
+    }
+    Ok(())
+}
+
+fn at(x: i32, y: i32, f: i32) -> At {
+    At { x, y, f }
+}
+
+#[test]
+fn flows_forced_on_two_axes(rt: HostRuntime) -> Result<(), Fail> {
+    let size = Size { w: 3, h: 2, f: 1 };
+    let sample = sample_of(&rt, rt.alloc(), size, 1, &[0, 10, 50, 30, 70, 100])?;
+    let cells = [(at(0, 0, 0), at(1, 1, 0)), (at(1, 0, 0), at(2, 0, 0))];
+    let canvas = canvas_of(&rt, rt.alloc(), size, &sample, &cells)?;
+    let placement = Placement {
+        rect: Box3 {
+            corner: at(1, 0, 0),
+            size: Size { w: 2, h: 2, f: 1 },
+        },
+        from: at(0, 0, 0),
+    };
+    let choice = [false, true, true, true];
+    let flows = [(305, 0), (120, 0), (0, 0), (0, 0)];
+    assert_forced(
+        &rt,
+        rt.alloc(),
+        &canvas,
+        &sample,
+        placement,
+        &choice,
+        &flows,
+        425,
+    )?;
+    Ok(())
+}
+
+#[test]
+fn flows_forced_on_three_axes(rt: HostRuntime) -> Result<(), Fail> {
+    let size = Size { w: 2, h: 2, f: 2 };
+    let greys = [0, 10, 30, 70, 150, 200, 90, 255];
+    let sample = sample_of(&rt, rt.alloc(), size, 1, &greys)?;
+    let output = Size { w: 3, h: 2, f: 2 };
+    let cells = [(at(2, 1, 1), at(0, 0, 0)), (at(1, 1, 1), at(0, 1, 1))];
+    let canvas = canvas_of(&rt, rt.alloc(), output, &sample, &cells)?;
+    let placement = Placement {
+        rect: Box3 {
+            corner: at(0, 0, 0),
+            size,
+        },
+        from: at(0, 0, 0),
+    };
+    let choice = [true, true, true, true, true, true, true, false];
+    let mut flows = [(0, 0); 12];
+    flows[7] = (0, -205);
+    flows[10] = (0, -215);
+    flows[11] = (0, -420);
+    assert_forced(
+        &rt,
+        rt.alloc(),
+        &canvas,
+        &sample,
+        placement,
+        &choice,
+        &flows,
+        840,
+    )?;
+    Ok(())
+}

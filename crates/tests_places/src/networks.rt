@@ -1,0 +1,217 @@
+// Worked examples of max_flow, and networks that another program solved.
+use max_flow::{Network, Pipe, solve};
+use std::alloc::{AllocError, Global};
+use std::process::Abort;
+use std::test::Fail;
+
+// A pipe of a table: its two ends, and what it can carry ahead and back.
+type Row = (u32, u32, u32, u32);
+
+// The network with these pipes whose source is node 0 and whose sink is node 1.
+fn network_of(
+    rt: &impl Abort,
+    alloc: Global,
+    nodes: u32,
+    pipes: &[Row],
+) -> Result<Network, AllocError> {
+    assert!(rt; nodes >= 2 && pipes.len() <= 4096);
+    let mut network = Network::make(alloc, nodes, 0, 1, pipes.len())?;
+    for (from, to, ahead, back) in pipes {
+        assert!(rt; *from < nodes && *to < nodes && *ahead <= 65536 && *back <= 65536);
+        network.add_pipe(Pipe {
+            from: *from,
+            to: *to,
+            ahead: *ahead,
+            back: *back,
+        });
+    }
+    Ok(network)
+}
+
+// How many nodes there are, the pipes, the flow of each, the value, and which nodes are on the source's side.
+type Solution<'a> = (u32, &'a [Row], &'a [i32], u64, &'a [bool]);
+
+const SOLUTIONS: &[Solution<'static>] = &[
+    // A narrow second pipe.
+    (
+        3,
+        &[(0, 2, 5, 0), (2, 1, 3, 0)],
+        &[3, 3],
+        3,
+        &[true, false, true],
+    ),
+    // Two equal pipes.
+    (
+        3,
+        &[(0, 2, 3, 0), (2, 1, 3, 0)],
+        &[3, 3],
+        3,
+        &[true, false, false],
+    ),
+    // No pipes.
+    (3, &[], &[], 0, &[true, false, false]),
+    // Pipes beside one another.
+    (
+        2,
+        &[(0, 1, 4, 7), (0, 1, 5, 0), (1, 0, 2, 6)],
+        &[4, 5, -6],
+        15,
+        &[true, false],
+    ),
+    // Pipes from a node to itself.
+    (
+        3,
+        &[
+            (0, 0, 9, 9),
+            (0, 2, 4, 0),
+            (2, 2, 9, 0),
+            (2, 1, 8, 0),
+            (1, 1, 3, 3),
+        ],
+        &[0, 4, 0, 4, 0],
+        4,
+        &[true, false, false],
+    ),
+    // Nodes apart and capacities of 0.
+    (
+        5,
+        &[(3, 4, 7, 7), (0, 2, 6, 0), (2, 1, 0, 0), (4, 1, 5, 5)],
+        &[0, 0, 0, 0],
+        0,
+        &[true, false, true, false, false],
+    ),
+    // Back along pipes.
+    (
+        4,
+        &[(2, 0, 0, 5), (3, 2, 9, 4), (1, 3, 2, 65536)],
+        &[-4, -4, -4],
+        4,
+        &[true, false, true, false],
+    ),
+];
+
+#[test]
+fn worked_examples(rt: HostRuntime) -> Result<(), Fail> {
+    for (nodes, pipes, flow, value, side) in SOLUTIONS.iter() {
+        let network = network_of(&rt, rt.alloc(), *nodes, *pipes)?;
+        let solved = solve(rt.alloc(), &network)?;
+        let is_flow = solved.flow.as_slice() == *flow && solved.value == *value;
+        assert!(rt;
+            is_flow && solved.source_side.as_slice() == *side,
+            "{pipes:?}"
+        );
+    }
+    Ok(())
+}
+
+// The value of a greatest flow of a network, and how many nodes are on the source's side.
+fn solved(
+    rt: &impl Abort,
+    alloc: Global,
+    nodes: u32,
+    pipes: &[Row],
+) -> Result<(u64, usize), AllocError> {
+    let network = network_of(rt, alloc, nodes, pipes)?;
+    let solved = solve(alloc, &network)?;
+    let sides = solved.source_side.as_slice();
+    Ok((solved.value, sides.iter().filter(|inside| **inside).count()))
+}
+
+// The next of a row of numbers that look random, below 2^31.
+fn next(state: &mut u64) -> u32 {
+    *state = state
+        .wrapping_mul(6_364_136_223_846_793_005)
+        .wrapping_add(1_442_695_040_888_963_407);
+    (*state >> 33) as u32
+}
+
+// Pipes between the cells of a square of 16 by 16, with ends at its first and last columns.
+fn grid(alloc: Global) -> Result<Vec<Row>, AllocError> {
+    let mut pipes = Vec::new(alloc);
+    let mut state = 2006;
+    for cell in 0..256u32 {
+        let node = cell + 2;
+        if cell % 16 == 0 {
+            pipes.push((0, node, 65536, 0))?;
+        }
+        if cell % 16 < 15 {
+            let ahead = next(&mut state) % 3061;
+            pipes.push((node, node + 1, ahead, next(&mut state) % 3061))?;
+        }
+        if cell < 240 {
+            let ahead = next(&mut state) % 3061;
+            pipes.push((node, node + 16, ahead, next(&mut state) % 3061))?;
+        }
+        if cell % 16 == 15 {
+            pipes.push((node, 1, 65536, 0))?;
+        }
+    }
+    Ok(pipes)
+}
+
+// Adds the pipes of a seam between two cells, as the next numbers of a row have it: a star whose legs a
+// triangle fits, one with a leg that is wider than the others together or carries nothing, or a pipe alone.
+// Returns whether it takes the middle node.
+fn add_seam(
+    pipes: &mut Vec<Row>,
+    state: &mut u64,
+    from: u32,
+    to: u32,
+    middle: u32,
+) -> Result<bool, AllocError> {
+    let a = next(state) % 500;
+    let b = next(state) % 500;
+    let kind = next(state) % 8;
+    if kind == 0 {
+        pipes.push((from, to, a, b))?;
+        return Ok(false);
+    }
+    let most = (a + b - a.abs_diff(b)).wrapping_add(1);
+    let down = match kind {
+        1 => 1500,
+        2 => 0,
+        _ => a
+            .abs_diff(b)
+            .wrapping_add(next(state).checked_rem(most).unwrap_or(0)),
+    };
+    pipes.push((from, middle, a, a))?;
+    pipes.push((middle, to, b, b))?;
+    pipes.push((middle, 1, down, next(state) % 2))?;
+    Ok(true)
+}
+
+// Cells of a square of 12 by 12 with seams between them, the source at the first column and the sink at
+// the last.
+fn square_of_seams(alloc: Global, seed: u64) -> Result<Vec<Row>, AllocError> {
+    let mut pipes = Vec::new(alloc);
+    let mut state = seed;
+    let mut middle = 146u32;
+    for cell in 0..144u32 {
+        let node = cell + 2;
+        if cell % 12 == 0 {
+            pipes.push((0, node, 65536, 0))?;
+        }
+        if cell % 12 < 11 && add_seam(&mut pipes, &mut state, node, node + 1, middle)? {
+            middle = middle.wrapping_add(1);
+        }
+        if cell < 132 && add_seam(&mut pipes, &mut state, node, node + 12, middle)? {
+            middle = middle.wrapping_add(1);
+        }
+        if cell % 12 == 11 {
+            pipes.push((node, 1, next(&mut state) % 2000, 0))?;
+        }
+    }
+    Ok(pipes)
+}
+
+// The values and the sizes of the source sides are those that a solver by augmenting paths in Python found.
+#[test]
+fn networks_that_another_program_solved(rt: HostRuntime) -> Result<(), Fail> {
+    let pipes = grid(rt.alloc())?;
+    assert_eq!(rt; solved(&rt, rt.alloc(), 258, &pipes)?, (14459, 177));
+    for (seed, value, count) in [(0, 6574, 20), (1, 6120, 24), (2, 6357, 21)] {
+        let pipes = square_of_seams(rt.alloc(), seed)?;
+        assert_eq!(rt; solved(&rt, rt.alloc(), 410, &pipes)?, (value, count));
+    }
+    Ok(())
+}

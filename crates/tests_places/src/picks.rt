@@ -1,0 +1,559 @@
+// Worked examples of patch_place: the first draws of two seeds, as another program gives them, the lists of
+// small samples and outputs, and steps over a row.
+ghost use Rattle.std.specs.Prelude.{◌≡◌, ◌<◌, ◌≤◌, ◌+◌, IfOk, IsTrue};
+ghost use Rattle.cells.specs.Cells.{blank};
+ghost use Rattle.cells.specs.Places.{IsInside, IsSmall, cell_count};
+ghost use Rattle.map_canvas.specs.Canvases.{StandsOver};
+ghost use Rattle.patch_place.specs.Fitting.{HasPatch};
+ghost use Rattle.patch_place.specs.Lists.{IsWithin};
+ghost use Rattle.patch_place.specs.Picks.{AllFit, HasEntries};
+
+use crate::rows::{greys, row_of, two_parts};
+use cells::{At, Box3, PartPlace, Size, Volume};
+use graph_place::place;
+use map_canvas::{Canvas, Placement};
+use patch_place::{Candidates, Draws, Mode, next_placement, pick, window_size};
+use seams::total;
+use std::alloc::{AllocError, Global};
+use std::process::Abort;
+use std::test::Fail;
+
+// The first ten words of a seed's stream, as another program computes them. The third key has its bytes in order.
+const FIRST_DRAWS: &[(u64, [u32; 10])] = &[
+    (
+        0,
+        [
+            804_192_318,
+            3_594_542_985,
+            3_904_396_159,
+            2_711_947_551,
+            3_272_508_460,
+            998_218_446,
+            2_296_453_912,
+            505_049_583,
+            1_927_367_832,
+            1_097_802_169,
+        ],
+    ),
+    (
+        u64::MAX,
+        [
+            577_849_543,
+            3_025_045_049,
+            2_693_900_732,
+            999_971_585,
+            19_066_888,
+            2_794_726_118,
+            1_182_983_420,
+            1_788_402_307,
+            2_276_627_896,
+            2_310_499_488,
+        ],
+    ),
+    (
+        0x0102_0304_0506_0708,
+        [
+            3_779_564_296,
+            233_369_677,
+            504_565_293,
+            151_378_964,
+            3_634_627_318,
+            2_208_391_981,
+            2_463_984_662,
+            228_079_351,
+            1_786_446_417,
+            2_506_130_120,
+        ],
+    ),
+];
+
+// Whether the first draws of a seed among so many are those of these words.
+fn are_first(seed: u64, words: &[u32], n: u32) -> bool {
+    let mut draws = Draws::from_seed(seed);
+    for word in words {
+        if draws.below(n.max(1)) != word.checked_rem(n).unwrap_or(0) {
+            return false;
+        }
+    }
+    draws.place() == 10
+}
+
+#[test]
+fn first_draws(rt: HostRuntime) {
+    for (seed, words) in FIRST_DRAWS.iter() {
+        for n in [1, 2, 100, 9_409, u32::MAX] {
+            assert!(rt; are_first(*seed, words, n), "seed {seed} among {n}");
+        }
+    }
+}
+
+// A seed, the number of a draw, and its word.
+const DRAWS: &[(u64, u64, u32)] = &[
+    (0, 0, 804_192_318),
+    (0, 15, 1_123_945_486),
+    (0, 16, 234_532_562),
+    (0, (1 << 32) - 1, 3_807_349_373),
+    (0, u64::MAX, 3_567_980_399),
+    (u64::MAX, 16, 3_089_263_663),
+    (u64::MAX, 17, 2_545_582_257),
+    (u64::MAX, 1 << 36, 2_013_668_932),
+    (u64::MAX, u64::MAX, 1_704_046_721),
+];
+
+#[test]
+fn draws_by_their_number(rt: HostRuntime) {
+    for (seed, place, word) in DRAWS.iter() {
+        let mut draws = Draws::from_seed(*seed);
+        draws.go_to(*place);
+        assert!(rt; draws.place() == *place);
+        assert!(rt;
+            draws.below(u32::MAX) == *word,
+            "draw {place} of seed {seed}"
+        );
+    }
+    // After the last draw the first one comes again.
+    let mut draws = Draws::from_seed(0);
+    draws.go_to(u64::MAX);
+    draws.below(7);
+    assert!(rt; draws.below(u32::MAX) == 804_192_318);
+    // A draw that is given back is drawn again.
+    draws.go_to(0);
+    assert!(rt; draws.below(u32::MAX) == 804_192_318);
+}
+
+const OUTPUT: Size = Size { w: 5, h: 4, f: 1 };
+
+// A volume of this size, of one sample a cell, with all bytes 0.
+fn plain(alloc: Global, size: Size) -> Result<Volume, AllocError>
+    requires { IsSmall size }
+    ensures { IfOk result (λ v. v ≡ blank size 1) }
+{
+    Volume::make(alloc, size, 1)
+}
+
+// A placement over pictures: its corner, its size, and the place of the sample, whose frame says the part.
+type Row = ((i32, i32), (u32, u32), (i32, i32, i32));
+
+fn picture(row: &Row) -> Placement {
+    let (corner, size, from) = *row;
+    Placement {
+        rect: Box3 {
+            corner: At {
+                x: corner.0,
+                y: corner.1,
+                f: 0,
+            },
+            size: Size {
+                w: size.0,
+                h: size.1,
+                f: 1,
+            },
+        },
+        from: At {
+            x: from.0,
+            y: from.1,
+            f: from.2,
+        },
+    }
+}
+
+// Whether the candidates are these, in this order.
+fn are_listed(list: &Candidates, output: Size, sample: &Volume, expected: &[Row]) -> bool
+    requires output { IsSmall output }
+    requires within { IsWithin list.now output }
+{
+    for (i, row) in expected.iter().enumerate() {
+        let n = i as u32;
+        if n >= list.count(output, sample) || list.entry(n, output, sample) != picture(row) {
+            return false;
+        }
+    }
+    list.count(output, sample) as usize == expected.len()
+}
+
+// A mode, a first unfilled cell of a picture, and the candidates.
+type Listing<'a> = (Mode, (i32, i32), &'a [Row]);
+
+// Sees that the candidates are those of a table.
+fn expect_listings(rt: &impl Abort, table: &[Listing], output: Size, sample: &Volume)
+    requires { IsSmall output }
+{
+    for (mode, q, expected) in table.iter() {
+        let q = At {
+            x: q.0,
+            y: q.1,
+            f: 0,
+        };
+        assert!(rt; output.index_of(q).is_some());
+        let list = mode.candidates(q, output, sample);
+        assert!(rt; are_listed(&list, output, sample, *expected), "{mode:?}");
+    }
+}
+
+const WHOLE: Mode = Mode::Whole { tol: 30 };
+
+const PATCH: Mode = Mode::Sub {
+    side: 2,
+    overlap: 1,
+    tol: 0,
+};
+
+const AT_THE_FIRST: &[Row] = &[((0, 0), (3, 2), (0, 0, 0)), ((0, 0), (2, 2), (1, 0, 0))];
+
+const AT_THE_LAST: &[Row] = &[((4, 3), (1, 1), (0, 0, 0)), ((3, 3), (2, 1), (0, 0, 0))];
+
+// The whole sample is 3x2, so each of the cells (0, 0) and (1, 0) comes to q. Of a patch of 2x2 one begins at
+// the first cell, one at the last and one at the right edge.
+const ONE_PART: &[Listing<'static>] = &[
+    (Mode::Random, (0, 0), AT_THE_FIRST),
+    (WHOLE, (0, 0), AT_THE_FIRST),
+    (Mode::Random, (4, 3), AT_THE_LAST),
+    (WHOLE, (4, 3), AT_THE_LAST),
+    (
+        PATCH,
+        (0, 0),
+        &[((0, 0), (2, 2), (0, 0, 0)), ((0, 0), (2, 2), (1, 0, 0))],
+    ),
+    (
+        PATCH,
+        (4, 3),
+        &[((3, 2), (2, 2), (0, 0, 0)), ((3, 2), (2, 2), (1, 0, 0))],
+    ),
+    (
+        PATCH,
+        (4, 1),
+        &[((3, 0), (2, 2), (0, 0, 0)), ((3, 0), (2, 2), (1, 0, 0))],
+    ),
+];
+
+#[test]
+fn lists_of_one_part(rt: HostRuntime) -> Result<(), Fail> {
+    let sample = plain(rt.alloc(), Size { w: 3, h: 2, f: 1 })?;
+    expect_listings(&rt, ONE_PART, OUTPUT, &sample);
+    Ok(())
+}
+
+// Copies of a sample of 4x1 that overlap by two cells, in an output of 7x1. An overlap of all cells is one of
+// all but one.
+const GRID: &[Listing<'static>] = &[
+    (
+        Mode::Grid { overlap: 2 },
+        (0, 0),
+        &[((0, 0), (4, 1), (0, 0, 0))],
+    ),
+    (
+        Mode::Grid { overlap: 2 },
+        (3, 0),
+        &[((0, 0), (4, 1), (0, 0, 0))],
+    ),
+    (
+        Mode::Grid { overlap: 2 },
+        (4, 0),
+        &[((2, 0), (4, 1), (0, 0, 0))],
+    ),
+    (
+        Mode::Grid { overlap: 2 },
+        (6, 0),
+        &[((4, 0), (3, 1), (0, 0, 0))],
+    ),
+    (
+        Mode::Grid { overlap: 9 },
+        (5, 0),
+        &[((2, 0), (4, 1), (0, 0, 0))],
+    ),
+];
+
+#[test]
+fn grid_lists(rt: HostRuntime) -> Result<(), Fail> {
+    let sample = plain(rt.alloc(), Size { w: 4, h: 1, f: 1 })?;
+    expect_listings(&rt, GRID, Size { w: 7, h: 1, f: 1 }, &sample);
+    Ok(())
+}
+
+// A sample of two parts of these sizes.
+fn joined(alloc: Global, first: Size, second: Size) -> Result<Volume, AllocError>
+    requires first { IsSmall first }
+    requires second { IsSmall second }
+    requires both { cell_count first + cell_count second < 100 }
+{
+    let mut sample = plain(alloc, first)?;
+    let part = plain(alloc, second)?;
+    sample.add_part(&part)?;
+    Ok(sample)
+}
+
+// Over parts of 3x2 and of 2x1, which stands in frame 2. A patch is as large as both allow.
+const TWO_PARTS: &[Listing<'static>] = &[
+    (
+        Mode::Random,
+        (0, 0),
+        &[
+            ((0, 0), (3, 2), (0, 0, 0)),
+            ((0, 0), (2, 2), (1, 0, 0)),
+            ((0, 0), (2, 1), (0, 0, 2)),
+        ],
+    ),
+    (
+        Mode::Grid { overlap: 0 },
+        (3, 0),
+        &[((3, 0), (2, 2), (0, 0, 0))],
+    ),
+    (
+        PATCH,
+        (0, 0),
+        &[
+            ((0, 0), (2, 1), (0, 0, 0)),
+            ((0, 0), (2, 1), (1, 0, 0)),
+            ((0, 0), (2, 1), (0, 1, 0)),
+            ((0, 0), (2, 1), (1, 1, 0)),
+            ((0, 0), (2, 1), (0, 0, 2)),
+        ],
+    ),
+];
+
+// A box of 3x1 fits in the first part alone.
+const WIDE: &[Row] = &[((1, 1), (3, 1), (0, 0, 0)), ((1, 1), (3, 1), (0, 1, 0))];
+
+const WIDE_BOX: Box3 = Box3 {
+    corner: At { x: 1, y: 1, f: 0 },
+    size: Size { w: 3, h: 1, f: 1 },
+};
+
+#[test]
+fn lists_of_two_parts(rt: HostRuntime) -> Result<(), Fail> {
+    let sample = joined(
+        rt.alloc(),
+        Size { w: 3, h: 2, f: 1 },
+        Size { w: 2, h: 1, f: 1 },
+    )?;
+    expect_listings(&rt, TWO_PARTS, OUTPUT, &sample);
+    let list = Candidates::Fits { rect: WIDE_BOX };
+    assert!(rt; are_listed(&list, OUTPUT, &sample, WIDE));
+    assert!(rt; window_size(32, OUTPUT, &sample) == Size { w: 2, h: 1, f: 1 });
+    Ok(())
+}
+
+// A box of two frames in clips of three frames and of two, of which the second begins in frame 4.
+#[test]
+fn lists_of_frames(rt: HostRuntime) -> Result<(), Fail> {
+    let output = Size { w: 1, h: 1, f: 4 };
+    let sample = joined(
+        rt.alloc(),
+        Size { w: 1, h: 1, f: 3 },
+        Size { w: 1, h: 1, f: 2 },
+    )?;
+    let rect = Box3 {
+        corner: At { x: 0, y: 0, f: 1 },
+        size: Size { w: 1, h: 1, f: 2 },
+    };
+    let list = Candidates::Fits { rect };
+    assert!(rt; list.count(output, &sample) == 3);
+    for (i, f) in [(0, 0), (1, 1), (2, 4)] {
+        let from = At { x: 0, y: 0, f };
+        assert!(rt;
+            list.entry(i, output, &sample) == Placement { rect, from },
+            "entry {i}"
+        );
+    }
+    Ok(())
+}
+
+// The next placement over a row by the draw of a number, as its corner, its length and its column of the
+// sample; and the number of the draw after it.
+type Step = ((i32, u32, i32), u64);
+
+fn step_at(
+    alloc: Global,
+    mode: &Mode,
+    canvas: &Canvas,
+    sample: &Volume,
+    number: u64,
+) -> Result<(Option<(i32, u32, i32)>, u64), AllocError>
+    requires over { StandsOver canvas.now sample.now }
+    requires patch { HasPatch mode.now }
+{
+    let mut draws = Draws::from_seed(0);
+    draws.go_to(number);
+    let next = next_placement(alloc, mode, canvas, sample, &mut draws)?;
+    Ok((
+        next.map(|p| (p.rect.corner.x, p.rect.size.w, p.from.x)),
+        draws.place(),
+    ))
+}
+
+// What is picked of the candidates for the first unfilled cell by the draw of a number, as its column of the sample.
+fn picked_at(
+    alloc: Global,
+    mode: &Mode,
+    tol: u32,
+    canvas: &Canvas,
+    sample: &Volume,
+    number: u64,
+) -> Result<Option<i32>, AllocError>
+    requires over { StandsOver canvas.now sample.now }
+    requires patch { HasPatch mode.now }
+{
+    let Some(q) = canvas.first_unfilled() else {
+        return Ok(None);
+    };
+    let list = candidates_for(mode, q, canvas, sample);
+    let mut draws = Draws::from_seed(0);
+    draws.go_to(number);
+    Ok(Some(
+        pick(alloc, &list, Some(tol), canvas, sample, &mut draws)?
+            .from
+            .x,
+    ))
+}
+
+// The candidates of a mode for a cell.
+fn candidates_for(mode: &Mode, q: At, canvas: &Canvas, sample: &Volume) -> Candidates
+    requires patch { HasPatch mode.now }
+    requires inside { IsInside canvas.now.map.size q }
+    ensures within { IsWithin result canvas.now.map.size }
+    ensures some { HasEntries canvas.now sample.now result }
+    ensures fit { AllFit canvas.now sample.now result }
+{
+    mode.candidates(q, canvas.map().size(), sample)
+}
+
+// The columns of the sample of the first two cells of a row of six, a tolerance, the first column that is eligible, and
+// how many are.
+type Tolerated = ([i32; 2], u32, i32, u32);
+
+// The patches of three cells are 10, 20, 30 and 20, 30, 40. Beside 20 and 20 both have the sum 3 * 100, beside
+// 20 and 10 the sums 3 * 200 and 3 * 400, and beside 20 and 30 the second has the sum 0.
+const TOLERATED: &[Tolerated] = &[
+    ([1, 1], 0, 0, 2),
+    ([1, 0], 0, 0, 1),
+    ([1, 0], 99, 0, 1),
+    ([1, 0], 100, 0, 2),
+    ([1, 0], u32::MAX, 0, 2),
+    ([1, 2], 1_000, 1, 1),
+];
+
+// Sees that a draw among n picks the one after the first that is eligible, by the draw of each of 16 numbers.
+fn expect_picks(
+    rt: &impl Abort,
+    alloc: Global,
+    canvas: &Canvas,
+    sample: &Volume,
+    row: &Tolerated,
+) -> Result<(), AllocError>
+    requires { StandsOver canvas.now sample.now }
+{
+    let (_, tol, first, n) = *row;
+    assert!(rt; 0 < n && n < 9 && 0 <= first && first < 9);
+    let mode = Mode::Sub {
+        side: 3,
+        overlap: 2,
+        tol,
+    };
+    for number in 0..16 {
+        let mut draws = Draws::from_seed(0);
+        draws.go_to(number);
+        let column = first + draws.below(n) as i32;
+        let step = step_at(alloc, &mode, canvas, sample, number)?;
+        assert!(rt; step == (Some((0, 3, column)), number + 1), "draw {number}");
+        let picked = picked_at(alloc, &mode, tol, canvas, sample, number)?;
+        assert!(rt; picked == Some(column), "draw {number}");
+    }
+    Ok(())
+}
+
+#[test]
+fn picks_within_a_tolerance(rt: HostRuntime) -> Result<(), Fail> {
+    let sample = greys(rt.alloc())?;
+    for row in TOLERATED.iter() {
+        let canvas = row_of(&rt, rt.alloc(), 6, &sample, &row.0)?;
+        expect_picks(&rt, rt.alloc(), &canvas, &sample, row)?;
+    }
+    Ok(())
+}
+
+const BROAD: Mode = Mode::Sub {
+    side: 3,
+    overlap: 2,
+    tol: 0,
+};
+
+// A mode, the number of a draw, and the steps on an empty row and on one of 20 and 10.
+//
+// The draws of numbers 0 and 1 are 0 and 1 of 2; the draw of number 2^64 - 1 is 1 of 2, and number 0 comes after
+// it. On the row of 20 and 10 the sample laid from cell 2 on covers no filled cell, so mode `Whole` always lays
+// it from cell 1 on.
+const STEPS: &[(Mode, u64, Step, Step)] = &[
+    (Mode::Grid { overlap: 1 }, 1, ((0, 4, 0), 1), ((0, 4, 0), 1)),
+    (Mode::Random, 1, ((0, 3, 1), 2), ((1, 4, 0), 2)),
+    (Mode::Whole { tol: 0 }, 1, ((0, 3, 1), 2), ((1, 4, 0), 2)),
+    (Mode::Whole { tol: 0 }, 0, ((0, 4, 0), 1), ((1, 4, 0), 1)),
+    (BROAD, 1, ((0, 3, 1), 2), ((0, 3, 0), 2)),
+    (BROAD, u64::MAX, ((0, 3, 1), 0), ((0, 3, 0), 0)),
+];
+
+#[test]
+fn steps_of_each_mode(rt: HostRuntime) -> Result<(), Fail> {
+    let sample = greys(rt.alloc())?;
+    let empty = row_of(&rt, rt.alloc(), 6, &sample, &[])?;
+    let begun = row_of(&rt, rt.alloc(), 6, &sample, &[1, 0])?;
+    for (mode, number, on_empty, on_begun) in STEPS.iter() {
+        assert!(rt; has_patch(mode));
+        let step = step_at(rt.alloc(), mode, &empty, &sample, *number)?;
+        assert!(rt; step == (Some(on_empty.0), on_empty.1), "{mode:?}");
+        let step = step_at(rt.alloc(), mode, &begun, &sample, *number)?;
+        assert!(rt; step == (Some(on_begun.0), on_begun.1), "{mode:?}");
+    }
+    Ok(())
+}
+
+// Whether the patches that a mode takes have a cell.
+fn has_patch(mode: &Mode) -> bool
+    ensures { IsTrue result → HasPatch mode.now }
+{
+    match mode {
+        Mode::Grid { .. } | Mode::Random | Mode::Whole { .. } => true,
+        Mode::Sub { side, .. } => *side > 0,
+    }
+}
+
+#[test]
+fn no_step_on_a_full_row(rt: HostRuntime) -> Result<(), Fail> {
+    let sample = greys(rt.alloc())?;
+    let canvas = row_of(&rt, rt.alloc(), 6, &sample, &[1, 0, 0, 0, 3, 2])?;
+    let step = step_at(rt.alloc(), &Mode::Random, &canvas, &sample, 9)?;
+    assert!(rt; step == (None, 9));
+    Ok(())
+}
+
+// Two parts of 2x1, of the greys 10 and 20 and of 20 and 30. Cells 0 and 1 of three are from the first part; the
+// patch of the second one has 20 on cell 1 too.
+fn expect_second_part(
+    rt: &impl Abort,
+    alloc: Global,
+    sample: &Volume,
+    number: u64,
+) -> Result<(), AllocError> {
+    let mut canvas = row_of(rt, alloc, 3, sample, &[0, 1])?;
+    let mut draws = Draws::from_seed(0);
+    draws.go_to(number);
+    let Some(placement) = next_placement(alloc, &PATCH, &canvas, sample, &mut draws)? else {
+        return Err(AllocError);
+    };
+    assert!(rt; placement == picture(&((1, 0), (2, 1), (0, 0, 2))));
+    place(alloc, &mut canvas, sample, placement)?;
+    let from = canvas.map().at(At { x: 2, y: 0, f: 0 });
+    let part = from.and_then(|from| sample.sizes().part_of(from));
+    let at = At { x: 1, y: 0, f: 0 };
+    assert!(rt; part == Some(PartPlace { part: 2, at }));
+    assert!(rt; total(&canvas, sample) == 765);
+    Ok(())
+}
+
+#[test]
+fn a_patch_of_the_second_part(rt: HostRuntime) -> Result<(), Fail> {
+    let sample = two_parts(rt.alloc())?;
+    for number in 0..8 {
+        expect_second_part(&rt, rt.alloc(), &sample, number)?;
+    }
+    Ok(())
+}

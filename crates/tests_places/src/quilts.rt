@@ -1,0 +1,69 @@
+// Worked examples of whole quilted runs over a row of four cells.
+ghost use Rattle.std.specs.Prelude.{◌≤◌};
+
+use crate::rows::greys;
+use cells::{At, Size};
+use quilt::QuiltPlan;
+use quilting::{QuiltRun, quilt_canvas};
+use std::alloc::{AllocError, Global};
+use std::process::Abort;
+use std::test::Fail;
+
+// Quilts a row of so many cells, and sees which columns of the sample its cells have, and what is told of it.
+fn expect_row(
+    rt: &impl Abort,
+    alloc: Global,
+    plan: QuiltPlan,
+    columns: &[i32],
+    blocks: usize,
+    boundaries: u64,
+    cost: u64,
+) -> Result<(), AllocError>
+    requires { 1 ≤ plan.block }
+{
+    let w = columns.len();
+    assert!(rt; 1 <= w && w < 100);
+    let size = Size {
+        w: w as u32,
+        h: 1,
+        f: 1,
+    };
+    let seed = 0;
+    let sample = greys(alloc)?;
+    let Ok(quilted) = quilt_canvas(alloc, &QuiltRun { size, plan, seed }, &sample) else {
+        return Err(AllocError);
+    };
+    assert_eq!(rt; quilted.blocks.as_slice().len(), blocks);
+    assert_eq!(rt; quilted.boundaries, boundaries);
+    assert_eq!(rt; quilted.cost, cost);
+    let map = quilted.canvas.map();
+    for (x, column) in columns.iter().enumerate() {
+        assert!(rt; x < 100);
+        let source = map.at(At {
+            x: x as i32,
+            y: 0,
+            f: 0,
+        });
+        assert_eq!(rt; source.map(|at| at.x), Some(*column), "at {x}");
+    }
+    Ok(())
+}
+
+// One block covers the row: it has no boundary. Two blocks overlap by two cells whose errors are both 1,200:
+// the boundary costs that, and is in column 0.
+#[test]
+fn rows(rt: HostRuntime) -> Result<(), Fail> {
+    let whole = QuiltPlan {
+        block: 8,
+        overlap: 5,
+        tol: 10,
+    };
+    expect_row(&rt, rt.alloc(), whole, &[0, 1, 2, 3], 1, 0, 0)?;
+    let halves = QuiltPlan {
+        block: 4,
+        overlap: 2,
+        tol: 10,
+    };
+    expect_row(&rt, rt.alloc(), halves, &[0, 1, 0, 1, 2, 3], 2, 1, 1200)?;
+    Ok(())
+}

@@ -1,4 +1,4 @@
--- What can be grown.
+-- What can be grown. A reader need not trust this file: it says which cases the program has. (Own.)
 use Rattle.cells.specs.Places.{IsSmall}
 use Rattle.patch_place.specs.Fitting.{HasPatch}
 use Rattle.bench.specs.declared.growths.GrowthCase.{GrowthCase}

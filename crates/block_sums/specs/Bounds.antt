@@ -1,4 +1,5 @@
--- Which of a run of places a box can't be laid from within a limit. (Own.)
+-- Which of a run of places a box can't be laid from within a limit. A reader has to trust this file.
+-- (Own.)
 use Rattle.std.specs.Prelude.{◌≡◌, ◌<◌, ℕ}
 use Rattle.std.specs.Int.{bit_at}
 use Rattle.cells.specs.declared.place.At.{At}

@@ -19,7 +19,7 @@ use std::alloc::{AllocError, Global};
 /// How the places of patches are chosen.
 #[derive(Clone, Copy, Debug, Drop, PartialEq, Eq)]
 pub enum Place {
-    /// Copies of the whole sample, laid as tiles.
+    /// Copies of the whole first sample in a grid, of which neighbouring ones share `overlap` cells.
     Grid,
     /// Copies of the whole sample, laid at random.
     Random,

@@ -16,6 +16,8 @@ mod cut_clips;
 #[cfg(test)]
 mod cut_pictures;
 #[cfg(test)]
+mod drawn;
+#[cfg(test)]
 mod failing;
 #[cfg(test)]
 mod ffmpeg;

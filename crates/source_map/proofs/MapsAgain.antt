@@ -26,7 +26,8 @@ use Rattle.source_map.specs.Readings.{◌>>=◌, list_read, number_read}
 use Rattle.source_map.proofs.FieldLaws.{chain, value_alone}
 use Rattle.source_map.proofs.PartLaws.{part_is}
 use Rattle.source_map.proofs.MapWriting.{all_inside, axes_of, one_place}
-use Rattle.source_map.proofs.Again.{Spells, alone_spells, list_spells, not_equal, spells_16, spells_32, then_spells}
+use Rattle.source_map.proofs.Again.{Spells, alone_spells, list_spells, not_equal, spells_16, spells_32, stands_split, then_spells}
+use Rattle.source_map.proofs.Spelled.{same_first}
 use Rattle.source_map.proofs.HeadsAgain.{axis_spells, sizes_spell, start_spells}
 
 below_spells : (n m : ℕ) → m < n → m < 2 ^ 16 → Spells (number_read w16 (below_rule n)) (field_16 m) m
@@ -202,6 +203,19 @@ read_again value lawful =
     let whole : StandsAt 0 bytes bytes = record { is = sym (take_all (length bytes) bytes (omega arith)); within = omega arith } in
     let end : nat_eq (length bytes) (0 + length bytes) ≡ true = eq-eqb (length bytes) (0 + length bytes) (omega arith) in
     ap (λ r. r >>= λ v. end_read v.1 bytes >>= λ end. Ok v.0) (value_spells value lawful 0 bytes whole) ∙ rw end refl
+
+-- whatever stands behind the spelling of a map, the map is read
+begins : (value : MapFile) → IsMapFile value → (more : List ℕ) → value_read 0 (map_form value ++ more) ≡ Ok (value, 0 + length (map_form value))
+begins value lawful more =
+    let bytes = map_form value ++ more in
+    let whole : StandsAt 0 bytes bytes = record { is = sym (take_all (length bytes) bytes (omega arith)); within = omega arith } in
+    value_spells value lawful 0 bytes (stands_split 0 (map_form value) more bytes whole).0
+
+pub begins_alone : (first second : MapFile) (more : List ℕ) → IsMapFile first → IsMapFile second → map_form first ++ more ≡ map_form second → first ≡ second
+begins_alone first second more is is' same =
+    let other = begins second is' [] in
+    let both = sym (begins first is more) ∙ ap (value_read 0) (same ∙ sym (append-nil (map_form second))) ∙ other in
+    same_first first second (0 + length (map_form first)) (0 + length (map_form second)) both
 
 read_of : (bytes : List ℕ) (value : MapFile) → IsMapOf bytes value → map_read bytes ≡ Ok value
 read_of bytes value is = ap map_read is.spelled ∙ read_again value is.lawful

@@ -1,5 +1,5 @@
 // Picks: one of the candidates that are about as good as the best, by a draw.
-ghost use Rattle.std.specs.Prelude.{◌≡◌, Contains, IfOk, IsSome, OnErr, OnOk};
+ghost use Rattle.std.specs.Prelude.{◌≡◌, Contains, IfOk, IsSome, IsTrue, OnErr, OnOk};
 ghost use Rattle.block_sums.specs.Eliminations.{AreSampleSums};
 ghost use Rattle.map_canvas.specs.Canvases.{StandsOver};
 ghost use Rattle.map_canvas.specs.Choices.{Fits};
@@ -42,24 +42,15 @@ fn picked_at(
     Ok(short.picked(draws))
 }
 
-// The sums that a pick from a list makes for itself: none where its candidates aren't those of one box,
-// and where their errors aren't summed.
-fn sums_for(
-    alloc: Global,
-    list: &Candidates,
-    tol: Option<u32>,
-    sample: &Volume,
-) -> Result<SampleSums, AllocError>
-    ensures sums { IfOk result (AreSampleSums sample.now) }
-    ensures memory { OnErr result (IsSome tol) }
+// Whether a pick from a list goes by the sums of the sample's blocks: where its candidates are those of one
+// box, and their errors are summed.
+fn goes_by_sums(list: &Candidates, tol: Option<u32>) -> bool
+    ensures { IsTrue result → IsSome tol }
 {
     let Some(_) = tol else {
-        return Ok(SampleSums::none(alloc));
+        return false;
     };
-    match list {
-        Candidates::Fits { .. } => SampleSums::make(alloc, sample),
-        Candidates::One(_) | Candidates::Laid { .. } => Ok(SampleSums::none(alloc)),
-    }
+    matches!(list, Candidates::Fits { .. })
 }
 
 /// Picks one of the candidates that are about as good as the best, by the next draw: those whose error
@@ -86,7 +77,7 @@ pub fn pick(
     ensures kept { OnErr result (draws.new ≡ draws.old) }
     ensures memory { OnErr result (IsSome tol) }
 {
-    let sums = sums_for(alloc, list, tol, sample)?;
+    let sums = SampleSums::make_if(alloc, sample, goes_by_sums(list, tol))?;
     pick_with(alloc, list, tol, canvas, sample, &sums, draws)
 }
 

@@ -1,5 +1,5 @@
 // Steps of growing: the next placement of a mode.
-ghost use Rattle.std.specs.Prelude.{◌≡◌, All, IsSome, IfOk, OnErr, OnOk};
+ghost use Rattle.std.specs.Prelude.{◌≡◌, All, IsSome, IsTrue, IfOk, OnErr, OnOk};
 ghost use Rattle.cells.specs.Places.{IsInside};
 ghost use Rattle.block_sums.specs.Eliminations.{AreSampleSums};
 ghost use Rattle.map_canvas.specs.Canvases.{StandsOver};
@@ -26,6 +26,14 @@ impl Mode {
             Mode::Whole { tol } | Mode::Sub { tol, .. } => Some(*tol),
         }
     }
+
+    // Whether its picks go by the sums of the sample's blocks: those of `Sub` alone, which picks among the
+    // candidates of one box.
+    fn goes_by_sums(&self) -> bool
+        ensures { IsTrue result → IsSome (tolerance self.now) }
+    {
+        matches!(self, Mode::Sub { .. })
+    }
 }
 
 // The candidates of a mode for the first unfilled cell.
@@ -41,18 +49,6 @@ fn candidates_for(mode: &Mode, q: At, canvas: &Canvas, sample: &Volume) -> Candi
     ensures fit { AllFit canvas.now sample.now result }
 {
     mode.candidates(q, canvas.map().size(), sample)
-}
-
-// The sums by which a mode's placements are picked, where they aren't given: those of `Sub` alone, which
-// picks among the candidates of one box.
-fn sums_of(alloc: Global, mode: &Mode, sample: &Volume) -> Result<SampleSums, AllocError>
-    ensures sums { IfOk result (AreSampleSums sample.now) }
-    ensures memory { OnErr result (IsSome (tolerance mode.now)) }
-{
-    match mode {
-        Mode::Sub { .. } => SampleSums::make(alloc, sample),
-        Mode::Grid { .. } | Mode::Random | Mode::Whole { .. } => Ok(SampleSums::none(alloc)),
-    }
 }
 
 // The placement that a mode makes for the first unfilled cell.
@@ -101,7 +97,7 @@ pub fn next_placement(
     let Some(_) = canvas.first_unfilled() else {
         return Ok(None);
     };
-    let sums = sums_of(alloc, mode, sample)?;
+    let sums = SampleSums::make_if(alloc, sample, mode.goes_by_sums())?;
     next_placement_with(alloc, mode, canvas, sample, &sums, draws)
 }
 

@@ -1,5 +1,5 @@
 // The whole run.
-ghost use Rattle.std.specs.Prelude.{◌≤◌, IfOk};
+ghost use Rattle.std.specs.Prelude.{◌≤◌};
 ghost use Rattle.cells.specs.Places.{IsSmall};
 ghost use Rattle.map_canvas.specs.Maps.{IsFull};
 ghost use Rattle.block_sums.specs.Eliminations.{AreSampleSums};
@@ -14,19 +14,12 @@ use cells::Volume;
 use items::Items;
 use patch_place::{Mode, window_size};
 use seam_cost::SeamTable;
-use std::alloc::{AllocError, Global};
+use std::alloc::Global;
 
-// The sums of the sample's blocks, where the run picks among the places of a box: in mode `Sub`, and in
-// rounds. Any other run needs none.
-fn sums_for(alloc: Global, plan: &GrowPlan, sample: &Volume) -> Result<SampleSums, AllocError>
-    ensures { IfOk result (AreSampleSums sample.now) }
-{
-    let picks_places = matches!(plan.mode, Mode::Sub { .. }) || plan.rounds > 0;
-    if picks_places {
-        SampleSums::make(alloc, sample)
-    } else {
-        Ok(SampleSums::none(alloc))
-    }
+// Whether the run picks among the places of a box: in mode `Sub`, and in rounds. Then it goes by the sums of the
+// sample's blocks.
+fn picks_places(plan: &GrowPlan) -> bool {
+    matches!(plan.mode, Mode::Sub { .. }) || plan.rounds > 0
 }
 
 // Makes placements until the canvas is full.
@@ -77,15 +70,16 @@ fn refine_all(
 
 /// Grows an output over a sample by the placements of a mode, each put in by a graph cut, and then refines
 /// it, with a record of each placement. Its draws are those of the seed, from number 0 on. In mode `Sub`, and
-/// with rounds, the sums of the sample's blocks are made once for all picks; they take 4 bytes for each cell of
-/// the sample until the run ends. The method is that of Kwatra et al., "Graphcut textures" (2003).
+/// with rounds, the sums of the sample's blocks are made once for all picks; until the run ends they take 8 bytes
+/// for each cell of the sample, or 4 where it has more than 2^22 bytes. The method is that of Kwatra et al.,
+/// "Graphcut textures" (2003).
 pub fn grow_canvas(alloc: Global, plan: &GrowPlan, sample: &Volume) -> Result<Grown, GrowError>
     requires small { IsSmall plan.now.size }
     requires patch { HasPatch plan.now.mode }
     requires side { 1 ≤ plan.now.side }
     ensures { Grows plan.now sample.now result }
 {
-    let sums = sums_for(alloc, plan, sample)?;
+    let sums = SampleSums::make_if(alloc, sample, picks_places(plan))?;
     let mut work = lay_all(alloc, plan, sample, &sums)?;
     refine_all(alloc, plan, sample, &sums, &mut work)?;
     // It is asked for only to show the check that the sample is a volume.

@@ -12,7 +12,7 @@ use cut_check::CutRecord;
 use graph_place::place;
 use map_canvas::Canvas;
 use patch_place::{Draws, next_placement_with};
-use refine_seams::round;
+use refine_seams::round_with;
 use replay::MOST_BOX_CELLS;
 use seam_cost::SeamTable;
 use std::alloc::{AllocError, Global};
@@ -94,7 +94,7 @@ pub(crate) fn refine_step(
     requires left { work.old.rounds < plan.now.rounds }
     ensures { Refines plan.now sample.now work.old work.new table.new result }
 {
-    let Some(cut) = round(
+    let Some(cut) = round_with(
         alloc,
         &mut work.canvas,
         sample,

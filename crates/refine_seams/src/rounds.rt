@@ -37,11 +37,42 @@ fn worst_box(canvas: &Canvas, sample: &Volume, side: u32, table: &SeamTable) -> 
 /// One round of refinement: the window of a side whose seams cost the most is laid anew. Among all places of
 /// the sample where it fits one is picked by the next draw, within `tol` hundredths of the best, and put in
 /// by a graph cut. The canvas is full, and the table has the sums of its windows of the size that
-/// `window_size` gives, before and after. The sums are those of the sample's blocks, made once for all rounds.
-/// None where no window costs anything; nothing is changed then. The one error is that there is no memory, and
-/// changes nothing.
+/// `window_size` gives, before and after. None where no window costs anything; nothing is changed then. The
+/// one error is that there is no memory, also for the sums of the sample's blocks, which are made anew in each
+/// call; it changes nothing.
 #[tactic(auto, using(crate::proofs::Rounding::stays_full))]
 pub fn round(
+    alloc: Global,
+    canvas: &mut Canvas,
+    sample: &Volume,
+    side: u32,
+    tol: u32,
+    draws: &mut Draws,
+    table: &mut SeamTable,
+) -> Result<Option<CutRecord>, AllocError>
+    requires over { StandsOver canvas.old sample.now }
+    requires full { IsFull canvas.old.map }
+    requires side { 1 ≤ side }
+    requires table { SumsWindowsOf side canvas.old.map sample.now table.old }
+    ensures made { Rounds side tol sample.now
+        (record { canvas = canvas.old; draws = draws.old; table = table.old })
+        (record { canvas = canvas.new; draws = draws.new; table = table.new }) result }
+    ensures full { IsFull canvas.new.map }
+    ensures lower { map_total sample.now canvas.new.map ≤ map_total sample.now canvas.old.map }
+    ensures canvas { IsCanvas canvas.new }
+{
+    // It is asked for only to show the check that this is a map.
+    let _map = canvas.map();
+    let Some(_) = worst_box(canvas, sample, side, table) else {
+        return Ok(None);
+    };
+    let sums = SampleSums::make(alloc, sample)?;
+    round_with(alloc, canvas, sample, &sums, side, tol, draws, table)
+}
+
+/// The same round as `round`, of a sample whose sums of blocks are made.
+#[tactic(auto, using(crate::proofs::Rounding::stays_full))]
+pub fn round_with(
     alloc: Global,
     canvas: &mut Canvas,
     sample: &Volume,

@@ -11,7 +11,7 @@ use Rattle.growing.proofs.steps.refine_step.Goals as goal
 use Rattle.growing.proofs.steps.refine_step.Goals.{In-Some}
 
 made : (c : In-Some) → IsRound c.args.plan.now.side c.args.plan.now.tol c.args.sample.now (record { canvas = c.args.work.now.canvas; draws = c.args.work.now.draws; table = c.args.table.now }) c.in-Some.cut
-    (record { canvas = c.round.new.canvas; draws = c.round.new.draws; table = c.round.new.table })
+    (record { canvas = c.round_with.new.canvas; draws = c.round_with.new.draws; table = c.round_with.new.table })
 made c = rw c.in-Some.is at c.in_ok-cut.ensures.made
 
 none : (c : In-Some) → first_unfilled c.args.work.now.canvas.map ≡ None

@@ -1,7 +1,7 @@
 use Rattle.cells.specs.Distances.{distance}
 use Rattle.seam_cost.proofs.Besides.{right_beside_choice}
 use Rattle.refine_seams.proofs.Rounding.{each_fits, some_entry}
-use Rattle.refine_seams.proofs.rounds.round.Goals as goal
+use Rattle.refine_seams.proofs.rounds.round_with.Goals as goal
 
 pub pick_with-requires-clause-some : goal.pick_with-requires-clause-some
 pick_with-requires-clause-some c = some_entry c.args.sample.now c.in-Some.rect c.in-Some.ensures.room

@@ -21,7 +21,7 @@ fn bytes_of_two_samples(rt: HostRuntime) -> Result<(), Fail> {
         for byte in sample.bytes() {
             all = u64::min(all, 1_000_000) + u64::from(*byte);
         }
-        assert_eq!(rt; all, sum);
+        assert!(rt; all == sum);
     }
     Ok(())
 }

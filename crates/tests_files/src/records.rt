@@ -183,7 +183,7 @@ const WALK: &[u8] = b"WEAVEREC\x01\x02\0\0\0\x01\0\0\0\x01\0\0\0\x03\0\0\0\x01\0
 #[test]
 fn walk_written_again(rt: HostRuntime) -> Result<(), Fail> {
     let alloc = rt.alloc();
-    assert_eq!(rt; WALK.len(), 111);
+    assert!(rt; WALK.len() == 111);
     let mut shelf = MemShelf::new(alloc);
     shelf.put_file("record", WALK)?;
     let CertFile::Walk {
@@ -196,13 +196,13 @@ fn walk_written_again(rt: HostRuntime) -> Result<(), Fail> {
     else {
         return Err("no walk".into());
     };
-    assert_eq!(rt; head.output.f, 3);
-    assert_eq!(rt; taps, Taps::Two);
-    assert_eq!(rt; gap, 256);
-    assert_eq!(rt; walk.as_slice(), [0u16, 1, 1].as_slice());
-    assert_eq!(rt; tables.as_slice().len(), 8);
-    assert_eq!(rt; tables.as_slice().get(2), Some(&u64::MAX));
-    assert_eq!(rt; tables.as_slice().last(), Some(&72623859790382856));
+    assert!(rt; head.output.f == 3);
+    assert!(rt; taps == Taps::Two);
+    assert!(rt; gap == 256);
+    assert!(rt; walk.as_slice() == [0u16, 1, 1].as_slice());
+    assert!(rt; tables.as_slice().len() == 8);
+    assert!(rt; tables.as_slice().get(2) == Some(&u64::MAX));
+    assert!(rt; tables.as_slice().last() == Some(&72623859790382856));
     write_walk(
         &head,
         taps,
@@ -212,7 +212,7 @@ fn walk_written_again(rt: HostRuntime) -> Result<(), Fail> {
         &mut shelf,
         "again",
     )?;
-    assert_eq!(rt; shelf.file("again").unwrap_or(b""), WALK);
+    assert!(rt; shelf.file("again").unwrap_or(b"") == WALK);
     Ok(())
 }
 
@@ -268,7 +268,7 @@ const BLOCKS: &[u8] =
 #[test]
 fn blocks_written_again(rt: HostRuntime) -> Result<(), Fail> {
     let alloc = rt.alloc();
-    assert_eq!(rt; BLOCKS.len(), 126);
+    assert!(rt; BLOCKS.len() == 126);
     let mut shelf = MemShelf::new(alloc);
     shelf.put_file("record", BLOCKS)?;
     let CertFile::Blocks { head, blocks } = read_cert(alloc, &mut shelf, "record")? else {
@@ -277,20 +277,17 @@ fn blocks_written_again(rt: HostRuntime) -> Result<(), Fail> {
     let [_, block] = blocks.as_slice() else {
         return Err("not two blocks".into());
     };
-    assert_eq!(rt; block.placement.rect.corner.y, 258);
-    assert_eq!(rt; block.placement.rect.size.h, 3);
-    assert_eq!(rt; block.placement.from.x, 259);
+    assert!(rt; block.placement.rect.corner.y == 258);
+    assert!(rt; block.placement.rect.size.h == 3);
+    assert!(rt; block.placement.from.x == 259);
     let left = block.left.as_ref().ok_or("no left boundary")?;
-    assert_eq!(rt; left.path.as_slice(), [0u16, 1, 258].as_slice());
-    assert_eq!(rt; left.sums.as_slice(), [1u32, 2, 3, 4, 5, 6].as_slice());
+    assert!(rt; left.path.as_slice() == [0u16, 1, 258].as_slice());
+    assert!(rt; left.sums.as_slice() == [1u32, 2, 3, 4, 5, 6].as_slice());
     let top = block.top.as_ref().ok_or("no top boundary")?;
-    assert_eq!(rt; top.path.as_slice(), [2u16, 3].as_slice());
-    assert_eq!(rt;
-        top.sums.as_slice(),
-        [7u32, 8, 9, 10, 11, u32::MAX].as_slice()
-    );
+    assert!(rt; top.path.as_slice() == [2u16, 3].as_slice());
+    assert!(rt; top.sums.as_slice() == [7u32, 8, 9, 10, 11, u32::MAX].as_slice());
     write_blocks(&head, blocks.as_slice(), &mut shelf, "again")?;
-    assert_eq!(rt; shelf.file("again").unwrap_or(b""), BLOCKS);
+    assert!(rt; shelf.file("again").unwrap_or(b"") == BLOCKS);
     Ok(())
 }
 

@@ -187,121 +187,126 @@ fn choice_of(bits: u32) -> [bool; 8] {
     ]
 }
 
-#[test]
-fn a_box_between_old_cells(rt: HostRuntime) -> Result<(), Fail> {
-    let good = [(60, 60), (60, -60), (-60, -60)];
-    let table: [(i32, u32, [(i16, i16); 3], Verdict); 6] = [
-        (1, 0b0110, good, None),
-        (
-            1,
-            0b0110,
-            [(60, 59), (60, -60), (-60, -60)],
-            Some((BOUNDS_RULE, 0)),
-        ),
-        (1, 0b0111, good, Some((KEEP_RULE, 0))),
-        (1, 0b1110, good, Some((KEEP_RULE, 3))),
-        (3, 0b0110, good, Some((FIT_RULE, 0))),
-        (-1, 0b0110, good, Some((FIT_RULE, 0))),
-    ];
+// Where four cells along an axis begin, their choice by its bits, the flows, and what the check says.
+type Row = (i32, u32, [(i16, i16); 3], Verdict);
+
+// Sees what the check says along each axis, over a canvas of six cells of which the first have these sources.
+fn expect_verdicts(
+    rt: &impl Abort,
+    alloc: Global,
+    sources: &[i32],
+    held: Option<&[bool]>,
+    table: &[Row],
+) -> Result<(), AllocError> {
     for axis in AXES {
-        let sample = sample_along(&rt, rt.alloc(), axis)?;
-        let canvas = canvas_along(&rt, rt.alloc(), &sample, axis, &[0, 1, 2, 1, 2, 3])?;
-        for (corner, bits, flows, want) in &table {
-            let place = four_at(axis, *corner);
-            let choice = choice_of(*bits);
-            let said = verdict(
-                &rt,
-                rt.alloc(),
-                &canvas,
-                &sample,
-                place,
-                &choice[..4],
-                flows,
-                None,
-            )?;
-            assert!(rt; said == *want, "{axis:?} at {corner}, {bits:b}");
-        }
+        let sample = sample_along(rt, alloc, axis)?;
+        let canvas = canvas_along(rt, alloc, &sample, axis, sources)?;
+        expect_rows(rt, alloc, &canvas, &sample, axis, held, table)?;
     }
     Ok(())
 }
 
-#[test]
-fn a_box_over_the_edge_of_the_filled(rt: HostRuntime) -> Result<(), Fail> {
-    let good = [(120, 120), (120, 0), (0, 0)];
-    let table: [(u32, [(i16, i16); 3], Verdict); 6] = [
-        (0b1110, good, None),
-        (
-            0b1110,
-            [(120, 120), (119, 0), (0, 0)],
-            Some((BALANCE_RULE, 1)),
-        ),
-        (
-            0b1110,
-            [(119, 119), (119, 0), (0, 0)],
-            Some((VALUE_RULE, 0)),
-        ),
-        (
-            0b1110,
-            [(121, 121), (121, 0), (0, 0)],
-            Some((BOUNDS_RULE, 0)),
-        ),
-        (0b1100, good, Some((VALUE_RULE, 0))),
-        (0b1010, good, Some((FILL_RULE, 2))),
-    ];
-    for axis in AXES {
-        let sample = sample_along(&rt, rt.alloc(), axis)?;
-        let canvas = canvas_along(&rt, rt.alloc(), &sample, axis, &[0, 1, 2, 3])?;
-        for (bits, flows, want) in &table {
-            let place = four_at(axis, 2);
-            let choice = choice_of(*bits);
-            let said = verdict(
-                &rt,
-                rt.alloc(),
-                &canvas,
-                &sample,
-                place,
-                &choice[..4],
-                flows,
-                None,
-            )?;
-            assert!(rt; said == *want, "{axis:?}, {bits:b}");
-        }
+// The same over one canvas.
+fn expect_rows(
+    rt: &impl Abort,
+    alloc: Global,
+    canvas: &Canvas,
+    sample: &Volume,
+    axis: Axis,
+    held: Option<&[bool]>,
+    table: &[Row],
+) -> Result<(), AllocError>
+    requires { StandsOver canvas.now sample.now }
+{
+    for (corner, bits, flows, want) in table.iter() {
+        let place = four_at(axis, *corner);
+        let choice = choice_of(*bits);
+        let said = verdict(rt, alloc, canvas, sample, place, &choice[..4], flows, held)?;
+        assert!(rt; said == *want, "{axis:?} at {corner}, {bits:b}");
     }
     Ok(())
 }
+
+const BOTH_SIDES: [(i16, i16); 3] = [(60, 60), (60, -60), (-60, -60)];
+
+const BETWEEN: &[Row] = &[
+    (1, 0b0110, BOTH_SIDES, None),
+    (
+        1,
+        0b0110,
+        [(60, 59), (60, -60), (-60, -60)],
+        Some((BOUNDS_RULE, 0)),
+    ),
+    (1, 0b0111, BOTH_SIDES, Some((KEEP_RULE, 0))),
+    (1, 0b1110, BOTH_SIDES, Some((KEEP_RULE, 3))),
+    (3, 0b0110, BOTH_SIDES, Some((FIT_RULE, 0))),
+    (-1, 0b0110, BOTH_SIDES, Some((FIT_RULE, 0))),
+];
+
+#[test]
+fn a_box_between_old_cells(rt: HostRuntime) -> Result<(), Fail> {
+    expect_verdicts(&rt, rt.alloc(), &[0, 1, 2, 1, 2, 3], None, BETWEEN)?;
+    Ok(())
+}
+
+const ONE_SIDE: [(i16, i16); 3] = [(120, 120), (120, 0), (0, 0)];
+
+const OVER_THE_EDGE: &[Row] = &[
+    (2, 0b1110, ONE_SIDE, None),
+    (
+        2,
+        0b1110,
+        [(120, 120), (119, 0), (0, 0)],
+        Some((BALANCE_RULE, 1)),
+    ),
+    (
+        2,
+        0b1110,
+        [(119, 119), (119, 0), (0, 0)],
+        Some((VALUE_RULE, 0)),
+    ),
+    (
+        2,
+        0b1110,
+        [(121, 121), (121, 0), (0, 0)],
+        Some((BOUNDS_RULE, 0)),
+    ),
+    (2, 0b1100, ONE_SIDE, Some((VALUE_RULE, 0))),
+    (2, 0b1010, ONE_SIDE, Some((FILL_RULE, 2))),
+];
+
+#[test]
+fn a_box_over_the_edge_of_the_filled(rt: HostRuntime) -> Result<(), Fail> {
+    expect_verdicts(&rt, rt.alloc(), &[0, 1, 2, 3], None, OVER_THE_EDGE)?;
+    Ok(())
+}
+
+const WITH_A_HELD_CELL: &[Row] = &[
+    (2, 0b1100, [(100, 100), (825, 0), (0, 0)], None),
+    (
+        2,
+        0b1110,
+        [(120, 120), (120, 0), (0, 0)],
+        Some((KEEP_RULE, 1)),
+    ),
+    (
+        2,
+        0b1100,
+        [(120, 120), (120, 0), (0, 0)],
+        Some((VALUE_RULE, 0)),
+    ),
+];
 
 #[test]
 fn a_held_cell(rt: HostRuntime) -> Result<(), Fail> {
     let held = [false, true, false, false];
-    let table: [(u32, [(i16, i16); 3], Verdict); 3] = [
-        (0b1100, [(100, 100), (825, 0), (0, 0)], None),
-        (0b1110, [(120, 120), (120, 0), (0, 0)], Some((KEEP_RULE, 1))),
-        (
-            0b1100,
-            [(120, 120), (120, 0), (0, 0)],
-            Some((VALUE_RULE, 0)),
-        ),
-    ];
-    for axis in AXES {
-        let sample = sample_along(&rt, rt.alloc(), axis)?;
-        let canvas = canvas_along(&rt, rt.alloc(), &sample, axis, &[0, 1, 2, 3])?;
-        for (bits, flows, want) in &table {
-            let place = four_at(axis, 2);
-            let choice = &choice_of(*bits)[..4];
-            let marks: Option<&[bool]> = Some(&held);
-            let said = verdict(
-                &rt,
-                rt.alloc(),
-                &canvas,
-                &sample,
-                place,
-                choice,
-                flows,
-                marks,
-            )?;
-            assert!(rt; said == *want, "{axis:?}, {bits:b}");
-        }
-    }
+    expect_verdicts(
+        &rt,
+        rt.alloc(),
+        &[0, 1, 2, 3],
+        Some(&held),
+        WITH_A_HELD_CELL,
+    )?;
     Ok(())
 }
 
@@ -322,7 +327,7 @@ fn assert_forced(
     let said = verdict(rt, alloc, canvas, sample, placement, choice, flows, None)?;
     assert!(rt; said.is_none(), "{said:?}");
     assert_fits(rt, canvas.map().size(), sample, &placement);
-    assert_eq!(rt; window_after(canvas, sample, &placement, choice), cost);
+    assert!(rt; window_after(canvas, sample, &placement, choice) == cost);
 
     let n = choice.len();
     assert!(rt; n <= 8);

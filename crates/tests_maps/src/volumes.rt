@@ -17,43 +17,51 @@ fn at(place: (i32, i32, i32)) -> At
     }
 }
 
+// A place by its column, its row and its frame.
+type Place = (i32, i32, i32);
+
+// Corners of a volume of 3x2x2, and their indices.
+const CORNERS: &[(Place, usize)] = &[
+    ((0, 0, 0), 0),
+    ((2, 0, 0), 2),
+    ((0, 1, 0), 3),
+    ((2, 1, 0), 5),
+    ((0, 0, 1), 6),
+    ((2, 1, 1), 11),
+];
+
+const OUTSIDE: &[Place] = &[
+    (-1, 0, 0),
+    (3, 0, 0),
+    (0, 2, 0),
+    (0, 0, 2),
+    (i32::MIN, 1, 1),
+];
+
 #[test]
 fn places_in_raster_order(rt: HostRuntime) {
     let size = Size { w: 3, h: 2, f: 2 };
-    assert_eq!(rt; size.cells(), 12);
-    let corners = [
-        ((0, 0, 0), 0),
-        ((2, 0, 0), 2),
-        ((0, 1, 0), 3),
-        ((2, 1, 0), 5),
-        ((0, 0, 1), 6),
-        ((2, 1, 1), 11),
-    ];
-    for (place, index) in corners {
-        assert_eq!(rt; size.index_of(at(place)), Some(index), "at {place:?}");
+    assert!(rt; size.cells() == 12);
+    for (place, index) in CORNERS.iter() {
+        let (place, index) = (*place, *index);
+        assert!(rt; size.index_of(at(place)) == Some(index), "at {place:?}");
         assert!(rt; index < size.cells());
-        assert_eq!(rt; size.place_at(index), at(place), "at index {index}");
+        assert!(rt; size.place_at(index) == at(place), "at index {index}");
     }
-    for place in [
-        (-1, 0, 0),
-        (3, 0, 0),
-        (0, 2, 0),
-        (0, 0, 2),
-        (i32::MIN, 1, 1),
-    ] {
-        assert_eq!(rt; size.index_of(at(place)), None, "at {place:?}");
+    for place in OUTSIDE.iter() {
+        assert!(rt; size.index_of(at(*place)).is_none(), "at {place:?}");
     }
     let step = at((10, 20, -30));
-    assert_eq!(rt; at((1, -2, 3)).plus(step), at((11, 18, -27)));
-    assert_eq!(rt; at((1, -2, 3)).minus(step), at((-9, -22, 33)));
-    assert_eq!(rt; Axis::F.unit(), at((0, 0, 1)));
+    assert!(rt; at((1, -2, 3)).plus(step) == at((11, 18, -27)));
+    assert!(rt; at((1, -2, 3)).minus(step) == at((-9, -22, 33)));
+    assert!(rt; Axis::F.unit() == at((0, 0, 1)));
 }
 
 #[test]
 fn cells_and_rows(rt: HostRuntime) -> Result<(), Fail> {
     let size = Size { w: 3, h: 2, f: 2 };
     let mut volume = Volume::make(rt.alloc(), size, 2)?;
-    assert_eq!(rt; (volume.size(), volume.samples()), (size, 2));
+    assert!(rt; volume.size() == size && volume.samples() == 2);
     assert!(rt;
         volume.holds(&Box3 {
             corner: at((0, 1, 0)),
@@ -62,23 +70,30 @@ fn cells_and_rows(rt: HostRuntime) -> Result<(), Fail> {
     );
     volume.set_cell(at((2, 1, 1)), &[9, 10]);
     volume.set_cell(at((1, 1, 0)), &[7, 8]);
-    assert_eq!(rt;
-        volume.bytes(),
-        [
-            0, 0, 0, 0, 0, 0, 0, 0, 7, 8, 0, 0, 0, 0, 0, 0, 0, 0, 0, 0, 0, 0, 9, 10
-        ]
-        .as_slice()
+    assert!(rt;
+        volume.bytes()
+            == [
+                0, 0, 0, 0, 0, 0, 0, 0, 7, 8, 0, 0, 0, 0, 0, 0, 0, 0, 0, 0, 0, 0, 9, 10
+            ]
+            .as_slice()
     );
-    assert_eq!(rt; volume.row(at((1, 1, 0)), 2), [7, 8, 0, 0].as_slice());
+    assert!(rt; volume.row(at((1, 1, 0)), 2) == [7, 8, 0, 0].as_slice());
     volume.set_row(at((0, 0, 1)), 2, &[1, 2, 3, 4]);
     volume.fill_row(at((1, 1, 1)), 1, 5);
-    assert_eq!(rt; volume.row(at((0, 0, 1)), 3), [1, 2, 3, 4, 0, 0].as_slice());
-    assert_eq!(rt;
-        volume.row(at((0, 1, 1)), 3),
-        [0, 0, 5, 5, 9, 10].as_slice()
-    );
+    assert!(rt; volume.row(at((0, 0, 1)), 3) == [1, 2, 3, 4, 0, 0].as_slice());
+    assert!(rt; volume.row(at((0, 1, 1)), 3) == [0, 0, 5, 5, 9, 10].as_slice());
     Ok(())
 }
+
+// Cells of a part of 2x1 and of one of 1x3, which stands in frame 2.
+const PARTS: &[(Place, Option<&[u8]>)] = &[
+    ((0, 0, 0), Some(&[10])),
+    ((1, 0, 0), Some(&[20])),
+    ((0, 0, 1), None),
+    ((0, 0, 2), Some(&[20])),
+    ((0, 2, 2), Some(&[40])),
+    ((1, 0, 2), None),
+];
 
 #[test]
 fn parts_of_a_volume(rt: HostRuntime) -> Result<(), Fail> {
@@ -87,77 +102,75 @@ fn parts_of_a_volume(rt: HostRuntime) -> Result<(), Fail> {
     let second = Vec::from_slice(rt.alloc(), &[20, 30, 40])?;
     let part = Volume::from_bytes(Size { w: 1, h: 3, f: 1 }, 1, second);
     volume.add_part(&part)?;
-    let cells: [((i32, i32, i32), Option<&[u8]>); 6] = [
-        ((0, 0, 0), Some(&[10])),
-        ((1, 0, 0), Some(&[20])),
-        ((0, 0, 1), None),
-        ((0, 0, 2), Some(&[20])),
-        ((0, 2, 2), Some(&[40])),
-        ((1, 0, 2), None),
-    ];
-    for (place, cell) in cells {
-        assert_eq!(rt; volume.cell(at(place)), cell, "at {place:?}");
+    for (place, cell) in PARTS.iter() {
+        assert!(rt; volume.cell(at(*place)) == *cell, "at {place:?}");
     }
-    assert_eq!(rt; cell_distance(&volume, at((1, 0, 0)), at((0, 0, 2))), 0);
-    assert_eq!(rt; cell_distance(&volume, at((0, 0, 1)), at((0, 0, 2))), 255);
+    assert!(rt; cell_distance(&volume, at((1, 0, 0)), at((0, 0, 2))) == 0);
+    assert!(rt; cell_distance(&volume, at((0, 0, 1)), at((0, 0, 2))) == 255);
 
     let sizes = volume.sizes();
-    assert_eq!(rt; sizes.len(), 2);
+    assert!(rt; sizes.len() == 2);
     let there = PartPlace {
         part: 2,
         at: at((0, 2, 0)),
     };
-    assert_eq!(rt; sizes.part_of(at((0, 2, 2))), Some(there));
-    assert_eq!(rt; sizes.part_of(at((0, 0, 1))), None);
+    assert!(rt; sizes.part_of(at((0, 2, 2))) == Some(there));
+    assert!(rt; sizes.part_of(at((0, 0, 1))) == None);
     Ok(())
 }
+
+// Cells of (10, 10, 10), (20, 30, 5) and (255, 0, 0), and places outside.
+const DISTANCES: &[(Place, Place, u32)] = &[
+    ((0, 0, 0), (0, 0, 0), 0),
+    ((0, 0, 0), (1, 0, 0), 35),
+    ((0, 0, 0), (2, 0, 0), 265),
+    ((1, 0, 0), (2, 0, 0), 270),
+    ((2, 0, 0), (3, 0, 0), 765),
+    ((0, -1, 0), (0, 0, 0), 765),
+    ((0, 0, 1), (-8192, 8192, 0), 0),
+];
 
 #[test]
 fn distances_of_cells(rt: HostRuntime) -> Result<(), Fail> {
     let bytes = Vec::from_slice(rt.alloc(), &[10, 10, 10, 20, 30, 5, 255, 0, 0])?;
     let volume = Volume::from_bytes(Size { w: 3, h: 1, f: 1 }, 3, bytes);
-    let distances = [
-        ((0, 0, 0), (0, 0, 0), 0),
-        ((0, 0, 0), (1, 0, 0), 35),
-        ((0, 0, 0), (2, 0, 0), 265),
-        ((1, 0, 0), (2, 0, 0), 270),
-        ((2, 0, 0), (3, 0, 0), 765),
-        ((0, -1, 0), (0, 0, 0), 765),
-        ((0, 0, 1), (-8192, 8192, 0), 0),
-    ];
-    for (a, b, distance) in distances {
-        assert_eq!(rt;
-            cell_distance(&volume, at(a), at(b)),
-            distance,
+    for (a, b, distance) in DISTANCES.iter() {
+        assert!(rt;
+            cell_distance(&volume, at(*a), at(*b)) == *distance,
             "{a:?} and {b:?}"
         );
     }
     Ok(())
 }
 
+// Boxes, and whether parts of 3x2x2 and of 2x2x2 hold them. The second part has the frames 3 and 4, and frame 2 is empty.
+const BOXES: &[(Place, (u32, u32, u32), bool)] = &[
+    ((0, 0, 0), (3, 2, 2), true),
+    ((1, 1, 1), (2, 1, 1), true),
+    ((0, 0, 3), (2, 2, 2), true),
+    ((0, 0, 1), (1, 1, 2), false),
+    ((0, 0, 1), (1, 1, 3), false),
+    ((0, 0, 3), (3, 1, 1), false),
+    ((1, 0, 0), (3, 1, 1), false),
+    ((-1, 0, 0), (2, 1, 1), false),
+    ((-5, 9, 9), (0, 1, 1), true),
+];
+
 #[test]
 fn boxes_in_a_volume(rt: HostRuntime) -> Result<(), Fail> {
     let mut volume = Volume::make(rt.alloc(), Size { w: 3, h: 2, f: 2 }, 1)?;
     let part = Volume::make(rt.alloc(), Size { w: 2, h: 2, f: 2 }, 1)?;
     volume.add_part(&part)?;
-    // The second part has the frames 3 and 4, and frame 2 is empty.
-    let boxes = [
-        ((0, 0, 0), (3, 2, 2), true),
-        ((1, 1, 1), (2, 1, 1), true),
-        ((0, 0, 3), (2, 2, 2), true),
-        ((0, 0, 1), (1, 1, 2), false),
-        ((0, 0, 1), (1, 1, 3), false),
-        ((0, 0, 3), (3, 1, 1), false),
-        ((1, 0, 0), (3, 1, 1), false),
-        ((-1, 0, 0), (2, 1, 1), false),
-        ((-5, 9, 9), (0, 1, 1), true),
-    ];
-    for (corner, (w, h, f), held) in boxes {
+    for (corner, size, held) in BOXES.iter() {
+        let (w, h, f) = *size;
         let rect = Box3 {
-            corner: at(corner),
+            corner: at(*corner),
             size: Size { w, h, f },
         };
-        assert_eq!(rt; volume.holds(&rect), held, "{w} x {h} x {f} at {corner:?}");
+        assert!(rt;
+            volume.holds(&rect) == *held,
+            "{w} x {h} x {f} at {corner:?}"
+        );
     }
     Ok(())
 }

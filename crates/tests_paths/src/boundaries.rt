@@ -21,7 +21,7 @@ fn strip_of(
 {
     assert!(rt; 1 <= rows && rows <= 16);
     assert!(rt; 1 <= cols && cols <= 16);
-    assert_eq!(rt; errors.len(), rows as usize * cols as usize);
+    assert!(rt; errors.len() == rows as usize * cols as usize);
     assert!(rt; errors.iter().all(|error| *error <= GREATEST_ERROR));
     Strip::make(alloc, rows, cols, errors)
 }

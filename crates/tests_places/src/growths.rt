@@ -48,7 +48,7 @@ fn assert_row(rt: &impl Abort, canvas: &Canvas, columns: &[(i32, i32)]) {
             y: 0,
             f: 0,
         });
-        assert_eq!(rt; source.map(|at| (at.x, at.f)), Some(columns[x]), "at {x}");
+        assert!(rt; source.map(|at| (at.x, at.f)) == Some(columns[x]), "at {x}");
     }
 }
 
@@ -61,16 +61,16 @@ fn assert_record(rt: &impl Abort, cut: &CutRecord, x: i32, choice: &[bool], flow
         },
         from: FIRST,
     };
-    assert_eq!(rt; cut.placement, placement);
-    assert_eq!(rt; cut.choice.as_slice(), choice);
+    assert!(rt; cut.placement == placement);
+    assert!(rt; cut.choice.as_slice() == choice);
     let found = cut.flows.as_slice();
-    assert_eq!(rt; found.len(), flows.len());
+    assert!(rt; found.len() == flows.len());
     for i in 0..flows.len() {
         let flow = Flow {
             x: flows[i].0,
             y: flows[i].1,
         };
-        assert_eq!(rt; found.get(i), Some(&flow), "flow {i}");
+        assert!(rt; found.get(i) == Some(&flow), "flow {i}");
     }
 }
 
@@ -94,10 +94,10 @@ fn row_of_four_grown_to_six(rt: HostRuntime) -> Result<(), Fail> {
         };
         let run = grown(&rt, alloc, &plan, &sample)?;
         assert_row(&rt, &run.canvas, &columns);
-        assert_eq!(rt; total(&run.canvas, &sample), 120);
-        assert_eq!(rt; run.rounds, rounds);
+        assert!(rt; total(&run.canvas, &sample) == 120);
+        assert!(rt; run.rounds == rounds);
         let cuts = run.cuts.as_slice();
-        assert_eq!(rt; cuts.len(), 2 + rounds as usize);
+        assert!(rt; cuts.len() == 2 + rounds as usize);
         assert_record(&rt, &cuts[0], 0, &[true; 4], &[(0, 0); 3]);
         assert_record(
             &rt,
@@ -122,10 +122,7 @@ fn row_of_four_grown_to_six(rt: HostRuntime) -> Result<(), Fail> {
             kind: KEEP_RULE,
             place: 3,
         };
-        assert_eq!(rt;
-            replay_cuts(&mut again, &sample, cuts),
-            Err(Broken { number: 0, fault })
-        );
+        assert!(rt; replay_cuts(&mut again, &sample, cuts) == Err(Broken { number: 0, fault }));
     }
     Ok(())
 }
@@ -145,11 +142,11 @@ fn assert_one_cell(rt: &impl Abort, alloc: Global, mode: Mode) -> Result<(), All
         seed: 0,
     };
     let run = grown(rt, alloc, &plan, &sample)?;
-    assert_eq!(rt; total(&run.canvas, &sample), 10710, "{mode:?}");
-    assert_eq!(rt; run.cuts.as_slice().len(), 6, "{mode:?}");
-    assert_eq!(rt; run.rounds, 0, "{mode:?}");
+    assert!(rt; total(&run.canvas, &sample) == 10710, "{mode:?}");
+    assert!(rt; run.cuts.as_slice().len() == 6, "{mode:?}");
+    assert!(rt; run.rounds == 0, "{mode:?}");
     for source in run.canvas.map().sources() {
-        assert_eq!(rt; *source, Some(FIRST), "{mode:?}");
+        assert!(rt; *source == Some(FIRST), "{mode:?}");
     }
     Ok(())
 }
@@ -193,15 +190,15 @@ fn three_cells_of_two_parts(rt: HostRuntime) -> Result<(), Fail> {
             seed,
         };
         let run = grown(&rt, alloc, &plan, &sample)?;
-        assert_eq!(rt; run.cuts.as_slice().len(), 2);
+        assert!(rt; run.cuts.as_slice().len() == 2);
         let map = run.canvas.map();
         if map.at(FIRST) == Some(FIRST) {
             assert_row(&rt, &run.canvas, &[(0, 0), (1, 0), (1, 2)]);
-            assert_eq!(rt; total(&run.canvas, &sample), 765);
+            assert!(rt; total(&run.canvas, &sample) == 765);
             first_met = true;
         } else {
             assert_row(&rt, &run.canvas, &[(0, 2), (1, 2), (1, 2)]);
-            assert_eq!(rt; total(&run.canvas, &sample), 795);
+            assert!(rt; total(&run.canvas, &sample) == 795);
             second_met = true;
         }
     }

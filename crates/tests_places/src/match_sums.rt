@@ -16,19 +16,13 @@ fn errors_of_a_row(rt: HostRuntime) -> Result<(), Fail> {
         let canvas = row_of(&rt, rt.alloc(), 6, &sample, sources)?;
         let placement = row_at(2);
         assert_fits(&rt, &canvas, &sample, &placement);
-        assert_eq!(rt;
-            overlap_error(&canvas, &sample, &placement),
-            Error { sum, count }
-        );
-        assert_eq!(rt; filled_count(&canvas, &placement.rect), count);
+        assert!(rt; overlap_error(&canvas, &sample, &placement) == Error { sum, count });
+        assert!(rt; filled_count(&canvas, &placement.rect) == count);
         let counts = FilledCounts::make(rt.alloc(), &canvas, &placement.rect)?;
-        assert_eq!(rt; counts.count(&canvas, &placement.rect), count);
-        assert_eq!(rt;
-            error_sum_within(None, &canvas, &sample, &placement, 2400),
-            Some(sum)
-        );
+        assert!(rt; counts.count(&canvas, &placement.rect) == count);
+        assert!(rt; error_sum_within(None, &canvas, &sample, &placement, 2400) == Some(sum));
         let below = error_sum_within(None, &canvas, &sample, &placement, 2399);
-        assert_eq!(rt; below.is_none(), sum > 2399);
+        assert!(rt; below.is_none() == sum > 2399);
     }
     Ok(())
 }
@@ -46,7 +40,7 @@ fn error_over_runs(rt: HostRuntime) -> Result<(), Fail> {
     };
     let rows = FilledRows::gather(rt.alloc(), &canvas, &whole)?;
     let sum = error_sum_within(Some(&rows), &canvas, &sample, &placement, 2400);
-    assert_eq!(rt; sum, Some(2400));
+    assert!(rt; sum == Some(2400));
     Ok(())
 }
 
@@ -67,6 +61,6 @@ fn tolerance_in_hundredths(rt: HostRuntime) {
     ];
     for (tol, sum, count, holds) in cases {
         let other = Error { sum, count };
-        assert_eq!(rt; within(tol, &best, &other), holds, "{sum} over {count}");
+        assert!(rt; within(tol, &best, &other) == holds, "{sum} over {count}");
     }
 }

@@ -208,10 +208,10 @@ fn square_of_seams(alloc: Global, seed: u64) -> Result<Vec<Row>, AllocError> {
 #[test]
 fn networks_that_another_program_solved(rt: HostRuntime) -> Result<(), Fail> {
     let pipes = grid(rt.alloc())?;
-    assert_eq!(rt; solved(&rt, rt.alloc(), 258, &pipes)?, (14459, 177));
+    assert!(rt; solved(&rt, rt.alloc(), 258, &pipes)? == (14459, 177));
     for (seed, value, count) in [(0, 6574, 20), (1, 6120, 24), (2, 6357, 21)] {
         let pipes = square_of_seams(rt.alloc(), seed)?;
-        assert_eq!(rt; solved(&rt, rt.alloc(), 410, &pipes)?, (value, count));
+        assert!(rt; solved(&rt, rt.alloc(), 410, &pipes)? == (value, count));
     }
     Ok(())
 }

@@ -36,9 +36,9 @@ fn assert_placed(
     assert_fits(rt, canvas, sample, &placement);
     assert!(rt; are_marks(canvas, &placement, held));
     let cut = place_held(alloc, canvas, sample, placement, held)?;
-    assert_eq!(rt; cut.choice.as_slice(), choice);
-    assert_eq!(rt; cut.flows.as_slice(), flows);
-    assert_eq!(rt; window(canvas, sample, &placement.rect), sum);
+    assert!(rt; cut.choice.as_slice() == choice);
+    assert!(rt; cut.flows.as_slice() == flows);
+    assert!(rt; window(canvas, sample, &placement.rect) == sum);
     Ok(())
 }
 
@@ -88,7 +88,7 @@ fn rows_of_greys(rt: HostRuntime) -> Result<(), Fail> {
             y: 0,
             f: 0,
         });
-        assert_eq!(rt; from.map(|from| from.x), Some(*source), "at {x}");
+        assert!(rt; from.map(|from| from.x) == Some(*source), "at {x}");
     }
     Ok(())
 }
@@ -103,15 +103,12 @@ fn row_with_a_held_cell(rt: HostRuntime) -> Result<(), Fail> {
     assert_fits(&rt, &canvas, &sample, &placement);
     assert!(rt; are_marks(&canvas, &placement, held));
     let cut = place_held(rt.alloc(), &mut canvas, &sample, placement, held)?;
-    assert_eq!(rt;
-        cut.choice.as_slice(),
-        [false, false, true, true].as_slice()
-    );
+    assert!(rt; cut.choice.as_slice() == [false, false, true, true].as_slice());
     let flows = cut.flows.as_slice();
     assert!(rt; flows.len() == 3);
-    assert_eq!(rt; flows[0].x, flows[0].y);
-    assert_eq!(rt; &flows[1..], [flow(825, 0), flow(0, 0)].as_slice());
-    assert_eq!(rt; window(&canvas, &sample, &placement.rect), 825);
+    assert!(rt; flows[0].x == flows[0].y);
+    assert!(rt; &flows[1..] == [flow(825, 0), flow(0, 0)].as_slice());
+    assert!(rt; window(&canvas, &sample, &placement.rect) == 825);
     Ok(())
 }
 

@@ -33,9 +33,9 @@ fn expect_row(
     let Ok(quilted) = quilt_canvas(alloc, &QuiltRun { size, plan, seed }, &sample) else {
         return Err(AllocError);
     };
-    assert_eq!(rt; quilted.blocks.as_slice().len(), blocks);
-    assert_eq!(rt; quilted.boundaries, boundaries);
-    assert_eq!(rt; quilted.cost, cost);
+    assert!(rt; quilted.blocks.as_slice().len() == blocks);
+    assert!(rt; quilted.boundaries == boundaries);
+    assert!(rt; quilted.cost == cost);
     let map = quilted.canvas.map();
     for (x, column) in columns.iter().enumerate() {
         assert!(rt; x < 100);
@@ -44,7 +44,7 @@ fn expect_row(
             y: 0,
             f: 0,
         });
-        assert_eq!(rt; source.map(|at| at.x), Some(*column), "at {x}");
+        assert!(rt; source.map(|at| at.x) == Some(*column), "at {x}");
     }
     Ok(())
 }

@@ -56,16 +56,13 @@ fn joined(rt: HostRuntime) -> Result<(), Fail> {
     let samples = read_three(alloc, &mut shelf)?.ok().ok_or("not read")?;
     assert!(rt; matches!(&samples.form, Form::Picture { maxval: 255 }));
     let sizes = samples.volume.sizes();
-    assert_eq!(rt; sizes.len(), 3);
+    assert!(rt; sizes.len() == 3);
     let tall = Size { w: 1, h: 3, f: 1 };
-    assert_eq!(rt; sizes.at(2), tall);
+    assert!(rt; sizes.at(2) == tall);
     let last_of_second = samples.volume.cell(At { x: 0, y: 2, f: 2 });
-    assert_eq!(rt;
-        last_of_second.ok_or("no cell")?,
-        b"\x07\x08\x09".as_slice()
-    );
+    assert!(rt; last_of_second.ok_or("no cell")? == b"\x07\x08\x09".as_slice());
     let last_of_third = samples.volume.cell(At { x: 1, y: 0, f: 4 });
-    assert_eq!(rt; last_of_third.ok_or("no cell")?, b"\x14\x14\x14".as_slice());
+    assert!(rt; last_of_third.ok_or("no cell")? == b"\x14\x14\x14".as_slice());
     Ok(())
 }
 
@@ -78,15 +75,15 @@ fn clips_joined(rt: HostRuntime) -> Result<(), Fail> {
     shelf.put_file("u", MONO)?;
     let samples = read_three(alloc, &mut shelf)?.ok().ok_or("not read")?;
     match &samples.form {
-        Form::Clip { form } => assert_eq!(rt; form.tags.as_slice().len(), 1),
+        Form::Clip { form } => assert!(rt; form.tags.as_slice().len() == 1),
         Form::Picture { .. } => return Err(Fail::from("read as pictures")),
     }
     let sizes = samples.volume.sizes();
-    assert_eq!(rt; sizes.len(), 3);
+    assert!(rt; sizes.len() == 3);
     let long = Size { w: 2, h: 1, f: 2 };
-    assert_eq!(rt; sizes.at(3), long);
+    assert!(rt; sizes.at(3) == long);
     let last = samples.volume.cell(At { x: 1, y: 0, f: 6 });
-    assert_eq!(rt; last.ok_or("no cell")?, b"\x28".as_slice());
+    assert!(rt; last.ok_or("no cell")? == b"\x28".as_slice());
     Ok(())
 }
 

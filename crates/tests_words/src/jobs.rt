@@ -120,7 +120,7 @@ fn long_numbers_out_of_range(rt: HostRuntime) -> Result<(), Fail> {
     for digit in ['9', '0'] {
         let word = long_word(alloc, "width=", digit, 400, "")?;
         let fault = read(alloc, &["grow", word.as_str()]).err();
-        assert_eq!(rt; fault, Some(WordFault::OutOfRange(2)), "of {digit}");
+        assert!(rt; fault == Some(WordFault::OutOfRange(2)), "of {digit}");
     }
     Ok(())
 }
@@ -150,17 +150,14 @@ fn defaults(rt: HostRuntime) -> Result<(), Fail> {
     )
     .ok()
     .ok_or("refused")?;
-    assert_eq!(rt; plain.names.sample.as_text(), "a");
-    assert_eq!(rt; plain.names.more.as_slice().len(), 0);
-    assert_eq!(rt; plain.names.out.as_text(), "place");
-    assert_eq!(rt; plain.names.map.as_text(), "größe=x");
-    assert_eq!(rt; plain.names.cert.as_text(), "d");
-    assert_eq!(rt; (plain.size.w, plain.size.h, plain.size.f), (4096, 7, 1));
-    assert_eq!(rt;
-        (plain.place, plain.side, plain.overlap),
-        (Place::Sub, 32, 8)
-    );
-    assert_eq!(rt; (plain.tol, plain.rounds, plain.seed), (10, 0, 0));
+    assert!(rt; plain.names.sample.as_text() == "a");
+    assert!(rt; plain.names.more.as_slice().len() == 0);
+    assert!(rt; plain.names.out.as_text() == "place");
+    assert!(rt; plain.names.map.as_text() == "größe=x");
+    assert!(rt; plain.names.cert.as_text() == "d");
+    assert!(rt; plain.size.w == 4096 && plain.size.h == 7 && plain.size.f == 1);
+    assert!(rt; plain.place == Place::Sub && plain.side == 32 && plain.overlap == 8);
+    assert!(rt; plain.tol == 10 && plain.rounds == 0 && plain.seed == 0);
     Ok(())
 }
 
@@ -190,21 +187,15 @@ fn all_keys(rt: HostRuntime) -> Result<(), Fail> {
     )
     .ok()
     .ok_or("refused")?;
-    assert_eq!(rt; whole.names.sample.as_text(), "a");
+    assert!(rt; whole.names.sample.as_text() == "a");
     let [second, third] = whole.names.more.as_slice() else {
         return Err(Fail::from("not two further samples"));
     };
-    assert_eq!(rt; (second.as_text(), third.as_text()), ("b", "c"));
-    assert_eq!(rt; whole.names.cert.as_text(), "r");
-    assert_eq!(rt; (whole.size.w, whole.size.h, whole.size.f), (2, 1, 3));
-    assert_eq!(rt;
-        (whole.place, whole.side, whole.overlap),
-        (Place::Random, 4096, 4095)
-    );
-    assert_eq!(rt;
-        (whole.tol, whole.rounds, whole.seed),
-        (1000, 1000, u64::MAX)
-    );
+    assert!(rt; second.as_text() == "b" && third.as_text() == "c");
+    assert!(rt; whole.names.cert.as_text() == "r");
+    assert!(rt; whole.size.w == 2 && whole.size.h == 1 && whole.size.f == 3);
+    assert!(rt; whole.place == Place::Random && whole.side == 4096 && whole.overlap == 4095);
+    assert!(rt; whole.tol == 1000 && whole.rounds == 1000 && whole.seed == u64::MAX);
     Ok(())
 }
 
@@ -216,13 +207,10 @@ fn defaults_of_quilts(rt: HostRuntime) -> Result<(), Fail> {
     let Ok(Job::Quilt(job)) = read(rt.alloc(), &words) else {
         return Err(Fail::from("no quilt"));
     };
-    assert_eq!(rt; job.names.more.as_slice().len(), 0);
-    assert_eq!(rt;
-        (job.names.map.as_text(), job.names.cert.as_text()),
-        ("m", "r")
-    );
-    assert_eq!(rt; (job.w, job.h, job.block, job.overlap), (3, 2, 32, 5));
-    assert_eq!(rt; (job.tol, job.seed), (10, 0));
+    assert!(rt; job.names.more.as_slice().len() == 0);
+    assert!(rt; job.names.map.as_text() == "m" && job.names.cert.as_text() == "r");
+    assert!(rt; job.w == 3 && job.h == 2 && job.block == 32 && job.overlap == 5);
+    assert!(rt; job.tol == 10 && job.seed == 0);
     Ok(())
 }
 
@@ -232,7 +220,7 @@ fn defaults_of_loops(rt: HostRuntime) -> Result<(), Fail> {
     let Ok(Job::Loop(job)) = read(rt.alloc(), &words) else {
         return Err(Fail::from("no loop"));
     };
-    assert_eq!(rt; (job.length, job.taps, job.gap), (7, Taps::Four, 1));
+    assert!(rt; job.length == 7 && job.taps == Taps::Four && job.gap == 1);
     Ok(())
 }
 
@@ -242,7 +230,7 @@ fn files_of_upgrades(rt: HostRuntime) -> Result<(), Fail> {
     let Ok(Job::Upgrade(job)) = read(rt.alloc(), &words) else {
         return Err(Fail::from("no upgrade"));
     };
-    assert_eq!(rt; (job.map.as_text(), job.cert.as_text()), ("a", "b"));
-    assert_eq!(rt; (job.new_map.as_text(), job.new_cert.as_text()), ("c", "d"));
+    assert!(rt; job.map.as_text() == "a" && job.cert.as_text() == "b");
+    assert!(rt; job.new_map.as_text() == "c" && job.new_cert.as_text() == "d");
     Ok(())
 }

@@ -59,7 +59,7 @@ fn a_shelf_in_memory_holds_files(rt: HostRuntime) -> Result<(), Fail> {
     for (name, text) in [("f", Some("")), ("g", Some("xyz")), ("k", None)] {
         assert!(rt; is_text(shelf.file(name), text), "{name}");
     }
-    assert_eq!(rt; (shelf.read_faults(), shelf.write_faults()), (1, 0));
+    assert!(rt; shelf.read_faults() == 1 && shelf.write_faults() == 0);
     Ok(())
 }
 
@@ -82,7 +82,7 @@ fn listed_calls_of_a_shelf_fail(rt: HostRuntime) -> Result<(), Fail> {
         shelf.fail_at(Call::Begin, "f", 1, 1)?;
         assert!(rt; answers(&mut shelf, &rows), "kept {kept}");
         assert!(rt; is_text(shelf.file("f"), Some(text)), "kept {kept}");
-        assert_eq!(rt; (shelf.read_faults(), shelf.write_faults()), (1, 2));
+        assert!(rt; shelf.read_faults() == 1 && shelf.write_faults() == 2);
     }
     Ok(())
 }
@@ -98,9 +98,9 @@ fn listed_calls_of_a_sink_fail(rt: HostRuntime) -> Result<(), Fail> {
             sink.add(b"cd").is_ok(),
             sink.add(b"ef").is_ok(),
         );
-        assert_eq!(rt; well, (true, false, true));
+        assert!(rt; well == (true, false, true));
         assert!(rt; is_text(Some(sink.bytes()), Some(text)), "kept {kept}");
-        assert_eq!(rt; sink.faults(), 1);
+        assert!(rt; sink.faults() == 1);
     }
     Ok(())
 }

@@ -1,8 +1,8 @@
 // Worked examples, over a clip of one grey cell a frame.
-ghost use Rattle.std.specs.Prelude.{IfOk};
-ghost use Rattle.job_words.specs.LoopWords.{IsLoopJob};
+ghost use Rattle.job_words.specs.Jobs.{IsJob};
 
-use job_words::{Job, LoopJob, Words, read_job};
+use crate::lines::words_of;
+use job_words::{Job, read_job};
 use loop_command::loop_clip;
 use shelf_core::{FormFault, MemShelf, MemSink};
 use std::alloc::Global;
@@ -18,17 +18,32 @@ const THREE: &[u8] = b"YUV4MPEG2 W1 H1 F25:1 Cmono\nFRAME\n\x00FRAME\n\x03FRAME\
 
 const PICTURE: &[u8] = b"P6\n1 1\n255\n\0\0\0";
 
-// The job of a line of words, which blanks part.
-fn job_of(alloc: Global, line: &str) -> Result<LoopJob, Fail>
-    ensures { IfOk result IsLoopJob }
+// What a job answers over a shelf, which is one of `loop`.
+fn looped(
+    alloc: Global,
+    job: &Job,
+    shelf: &mut MemShelf,
+    out: &mut MemSink,
+) -> Result<Summary, Fault>
+    requires { IsJob job.now }
 {
-    let mut words = Words::new(alloc);
-    for word in line.split(' ') {
-        words.push(word)?;
+    match job {
+        Job::Loop(job) => loop_clip(alloc, job, shelf, out),
+        _ => Err(Fault::NoMemory),
     }
+}
+
+// What a line of words answers over a shelf.
+fn answer_over(
+    alloc: Global,
+    shelf: &mut MemShelf,
+    out: &mut MemSink,
+    line: &str,
+) -> Result<Result<Summary, Fault>, Fail> {
+    let words = words_of(alloc, line)?;
     match read_job(alloc, &words) {
-        Ok(Job::Loop(job)) => Ok(job),
-        _ => Err(Fail::from("no job")),
+        Ok(job) => Ok(looped(alloc, &job, shelf, out)),
+        Err(_) => Err(Fail::from("refused words")),
     }
 }
 
@@ -37,8 +52,7 @@ fn answer_of(alloc: Global, sample: &[u8], line: &str) -> Result<Result<Summary,
     let mut shelf = MemShelf::new(alloc);
     let mut out = MemSink::new(alloc);
     shelf.put_file("s", sample)?;
-    let job = job_of(alloc, line)?;
-    Ok(loop_clip(alloc, &job, &mut shelf, &mut out))
+    answer_over(alloc, &mut shelf, &mut out, line)
 }
 
 // A sample, a line of words, and what is answered: the length and the cost, or a fault.
@@ -111,11 +125,8 @@ fn files_of_a_loop(rt: HostRuntime) -> Result<(), Fail> {
     let mut shelf = MemShelf::new(rt.alloc());
     let mut out = MemSink::new(rt.alloc());
     shelf.put_file("s", FOUR)?;
-    let job = job_of(
-        rt.alloc(),
-        "loop sample=s out=o map=m record=r length=2 taps=0 gap=1",
-    )?;
-    assert!(rt; loop_clip(rt.alloc(), &job, &mut shelf, &mut out).is_ok());
+    let line = "loop sample=s out=o map=m record=r length=2 taps=0 gap=1";
+    assert!(rt; answer_over(rt.alloc(), &mut shelf, &mut out, line)?.is_ok());
     assert!(rt; shelf.file("o") == Some(TWO));
     assert!(rt; shelf.file("m") == Some(MAP));
     assert!(rt; shelf.file("r") == Some(RECORD));

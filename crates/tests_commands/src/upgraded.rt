@@ -1,8 +1,11 @@
-use job_words::{Job, UpgradeJob, Words, read_job};
+ghost use Rattle.job_words.specs.Jobs.{IsJob};
+
+use crate::lines::words_of;
+use job_words::{Job, read_job};
 use shelf_core::{FormFault, MemShelf, MemSink};
 use std::alloc::Global;
 use std::test::Fail;
-use synth_report::{Fault, FileOf};
+use synth_report::{Fault, FileOf, Summary};
 use upgrade_command::upgrade;
 
 // An output of 6 x 1 x 1 cells over a sample of 4 x 1 x 1: the sample's cells 0, 1, 2, 1, 2, 3.
@@ -28,14 +31,37 @@ const NEW_RECORD: &[u8] =
     \0\0\0\0\0\0\0\x04\0\x01\0\x01\0\x01\0\0\0\0\0\0\xf0\0\0\0\0\0\0\0\0\0\0\0\0\
     \0\x02\0\0\0\0\0\x04\0\x01\0\x01\0\x01\0\0\0\0\0\0\x70\0\x78\0\x78\0\x78\0\0\0\0\0\0";
 
-fn job(alloc: Global) -> Result<UpgradeJob, Fail> {
-    let mut words = Words::new(alloc);
-    for word in ["upgrade", "map=m", "record=r", "newmap=n", "newrecord=s"] {
-        words.push(word)?;
+// What a job answers over a shelf, which is one of `upgrade`.
+fn lifted(
+    alloc: Global,
+    job: &Job,
+    shelf: &mut MemShelf,
+    out: &mut MemSink,
+) -> Result<Summary, Fault>
+    requires { IsJob job.now }
+{
+    match job {
+        Job::Upgrade(job) => upgrade(alloc, job, shelf, out),
+        _ => Err(Fault::NoMemory),
     }
+}
+
+const LINE: &str = "upgrade map=m record=r newmap=n newrecord=s";
+
+// What an upgrade of two files over a shelf answers.
+fn answer_over(
+    alloc: Global,
+    shelf: &mut MemShelf,
+    out: &mut MemSink,
+    map: &[u8],
+    record: &[u8],
+) -> Result<Result<Summary, Fault>, Fail> {
+    shelf.put_file("m", map)?;
+    shelf.put_file("r", record)?;
+    let words = words_of(alloc, LINE)?;
     match read_job(alloc, &words) {
-        Ok(Job::Upgrade(job)) => Ok(job),
-        _ => Err(Fail::from("no upgrade")),
+        Ok(job) => Ok(lifted(alloc, &job, shelf, out)),
+        Err(_) => Err(Fail::from("refused words")),
     }
 }
 
@@ -43,10 +69,8 @@ fn job(alloc: Global) -> Result<UpgradeJob, Fail> {
 fn a_pair_in_version_two(rt: HostRuntime) -> Result<(), Fail> {
     let alloc = rt.alloc();
     let mut shelf = MemShelf::new(alloc);
-    shelf.put_file("m", MAP)?;
-    shelf.put_file("r", RECORD)?;
     let mut out = MemSink::new(alloc);
-    assert!(rt; upgrade(alloc, &job(alloc)?, &mut shelf, &mut out).is_ok());
+    assert!(rt; answer_over(alloc, &mut shelf, &mut out, MAP, RECORD)?.is_ok());
     assert!(rt; MAP.len() == 70 && RECORD.len() == 100);
     assert!(rt; NEW_MAP.len() == 84 && NEW_RECORD.len() == 106);
     assert!(rt; shelf.file("n") == Some(NEW_MAP));
@@ -63,18 +87,21 @@ const REFUSED: &[(&[u8], &[u8], FileOf, u64)] = &[
     (MAP, NEW_RECORD, FileOf::Cert, 8),
 ];
 
+// Why two files are refused.
+fn refusal(alloc: Global, map: &[u8], record: &[u8]) -> Result<Option<Fault>, Fail> {
+    let mut shelf = MemShelf::new(alloc);
+    let mut out = MemSink::new(alloc);
+    Ok(answer_over(alloc, &mut shelf, &mut out, map, record)?.err())
+}
+
 // The number of the first pair, from 0, that isn't refused so.
 fn wrong_pair(alloc: Global, table: &[(&[u8], &[u8], FileOf, u64)]) -> Result<Option<usize>, Fail> {
     for (i, (map, record, file, at)) in table.iter().enumerate() {
-        let mut shelf = MemShelf::new(alloc);
-        shelf.put_file("m", *map)?;
-        shelf.put_file("r", *record)?;
-        let mut out = MemSink::new(alloc);
         let fault = Fault::Form {
             file: *file,
             why: FormFault::Form(*at),
         };
-        if upgrade(alloc, &job(alloc)?, &mut shelf, &mut out).err() != Some(fault) {
+        if refusal(alloc, *map, *record)? != Some(fault) {
             return Ok(Some(i));
         }
     }

@@ -65,10 +65,11 @@ pub(crate) fn refusal(alloc: Global, bytes: &[u8]) -> Result<Option<ReadError>, 
 fn is_written_again(alloc: Global, bytes: &[u8], length: usize) -> Result<bool, Fail> {
     let mut shelf = MemShelf::new(alloc);
     shelf.put_file("record", bytes)?;
-    let CertFile::Cuts { head, cuts } = read_cert(alloc, &mut shelf, "record")? else {
+    let file = read_cert(alloc, &mut shelf, "record")?;
+    let CertFile::Cuts { head, cuts } = &file else {
         return Ok(false);
     };
-    write_cuts(&head, cuts.as_slice(), &mut shelf, "again")?;
+    write_cuts(head, cuts.as_slice(), &mut shelf, "again")?;
     Ok(bytes.len() == length && shelf.file("again") == Some(bytes))
 }
 
@@ -85,7 +86,8 @@ fn fields(rt: HostRuntime) -> Result<(), Fail> {
     let alloc = rt.alloc();
     let mut shelf = MemShelf::new(alloc);
     shelf.put_file("record", ONE)?;
-    let CertFile::Cuts { head, cuts } = read_cert(alloc, &mut shelf, "record")? else {
+    let file = read_cert(alloc, &mut shelf, "record")?;
+    let CertFile::Cuts { head, cuts } = &file else {
         return Err("no cuts".into());
     };
     let cut = cuts.as_slice().first().ok_or("no record")?;
@@ -186,27 +188,28 @@ fn walk_written_again(rt: HostRuntime) -> Result<(), Fail> {
     assert!(rt; WALK.len() == 111);
     let mut shelf = MemShelf::new(alloc);
     shelf.put_file("record", WALK)?;
+    let file = read_cert(alloc, &mut shelf, "record")?;
     let CertFile::Walk {
         head,
         taps,
         gap,
         walk,
         tables,
-    } = read_cert(alloc, &mut shelf, "record")?
+    } = &file
     else {
         return Err("no walk".into());
     };
     assert!(rt; head.output.f == 3);
-    assert!(rt; taps == Taps::Two);
-    assert!(rt; gap == 256);
+    assert!(rt; *taps == Taps::Two);
+    assert!(rt; *gap == 256);
     assert!(rt; walk.as_slice() == [0u16, 1, 1].as_slice());
     assert!(rt; tables.as_slice().len() == 8);
     assert!(rt; tables.as_slice().get(2) == Some(&u64::MAX));
     assert!(rt; tables.as_slice().last() == Some(&72623859790382856));
     write_walk(
-        &head,
-        taps,
-        gap,
+        head,
+        *taps,
+        *gap,
         walk.as_slice(),
         tables.as_slice(),
         &mut shelf,
@@ -271,7 +274,8 @@ fn blocks_written_again(rt: HostRuntime) -> Result<(), Fail> {
     assert!(rt; BLOCKS.len() == 126);
     let mut shelf = MemShelf::new(alloc);
     shelf.put_file("record", BLOCKS)?;
-    let CertFile::Blocks { head, blocks } = read_cert(alloc, &mut shelf, "record")? else {
+    let file = read_cert(alloc, &mut shelf, "record")?;
+    let CertFile::Blocks { head, blocks } = &file else {
         return Err("no blocks".into());
     };
     let [_, block] = blocks.as_slice() else {
@@ -286,7 +290,7 @@ fn blocks_written_again(rt: HostRuntime) -> Result<(), Fail> {
     let top = block.top.as_ref().ok_or("no top boundary")?;
     assert!(rt; top.path.as_slice() == [2u16, 3].as_slice());
     assert!(rt; top.sums.as_slice() == [7u32, 8, 9, 10, 11, u32::MAX].as_slice());
-    write_blocks(&head, blocks.as_slice(), &mut shelf, "again")?;
+    write_blocks(head, blocks.as_slice(), &mut shelf, "again")?;
     assert!(rt; shelf.file("again").unwrap_or(b"") == BLOCKS);
     Ok(())
 }

@@ -27,7 +27,7 @@ fn assert_row(
     canvas: &Canvas,
     sources: &[Option<At>],
     bytes: &[u8],
-    first: Option<i32>,
+    first: Option<At>,
 ) {
     for (x, source) in sources.iter().enumerate() {
         assert!(rt; x < 9);
@@ -36,7 +36,7 @@ fn assert_row(
         assert!(rt; canvas.is_filled(p) == source.is_some(), "at {x}");
     }
     assert!(rt; canvas.picture().bytes() == bytes);
-    assert!(rt; canvas.first_unfilled().map(|p| p.x) == first);
+    assert!(rt; canvas.first_unfilled() == first);
 }
 
 #[test]
@@ -44,7 +44,7 @@ fn choices_fill_a_canvas(rt: HostRuntime) -> Result<(), Fail> {
     let bytes = Vec::from_slice(rt.alloc(), &[10, 20])?;
     let sample = Volume::from_bytes(Size { w: 2, h: 1, f: 1 }, 1, bytes);
     let mut canvas = canvas_over(rt.alloc(), Size { w: 5, h: 1, f: 1 }, &sample)?;
-    assert_row(&rt, &canvas, &[None; 5], &[0; 5], Some(0));
+    assert_row(&rt, &canvas, &[None; 5], &[0; 5], Some(at(0, 0)));
 
     put_choice(
         &rt,
@@ -56,7 +56,7 @@ fn choices_fill_a_canvas(rt: HostRuntime) -> Result<(), Fail> {
         &[true, true],
     );
     let sources = [LEFT, RIGHT, None, None, None];
-    assert_row(&rt, &canvas, &sources, &[10, 20, 0, 0, 0], Some(2));
+    assert_row(&rt, &canvas, &sources, &[10, 20, 0, 0, 0], Some(at(2, 0)));
 
     // Cell 1 stays old.
     put_choice(
@@ -69,7 +69,7 @@ fn choices_fill_a_canvas(rt: HostRuntime) -> Result<(), Fail> {
         &[false, true],
     );
     let sources = [LEFT, RIGHT, RIGHT, None, None];
-    assert_row(&rt, &canvas, &sources, &[10, 20, 20, 0, 0], Some(3));
+    assert_row(&rt, &canvas, &sources, &[10, 20, 20, 0, 0], Some(at(3, 0)));
 
     // Cell 3 stays unfilled, before a filled one.
     put_choice(
@@ -82,7 +82,7 @@ fn choices_fill_a_canvas(rt: HostRuntime) -> Result<(), Fail> {
         &[true],
     );
     let sources = [LEFT, RIGHT, RIGHT, None, LEFT];
-    assert_row(&rt, &canvas, &sources, &[10, 20, 20, 0, 10], Some(3));
+    assert_row(&rt, &canvas, &sources, &[10, 20, 20, 0, 10], Some(at(3, 0)));
 
     put_choice(
         &rt,
@@ -148,55 +148,58 @@ fn kept_cells_of_a_box(rt: HostRuntime) -> Result<(), Fail> {
     Ok(())
 }
 
-// Choices over two rows of three, and the picture of two rows of five.
-const RUNS: &[([bool; 6], [u8; 10])] = &[
+// Choices over two rows of three, the picture of two rows of five, and which cells of the second are filled.
+const RUNS: &[([bool; 6], [u8; 10], [u8; 5])] = &[
     (
         [true, true, true, true, true, true],
         [0, 0, 1, 2, 3, 0, 0, 4, 5, 6],
+        [0, 0, 1, 1, 1],
     ),
     (
         [false, true, true, true, false, true],
         [0, 0, 0, 2, 3, 0, 0, 4, 0, 6],
+        [0, 0, 1, 0, 1],
     ),
     (
         [true, false, true, false, true, true],
         [0, 0, 1, 0, 3, 0, 0, 0, 5, 6],
+        [0, 0, 0, 1, 1],
     ),
     (
         [true, true, false, true, true, false],
         [0, 0, 1, 2, 0, 0, 0, 4, 5, 0],
+        [0, 0, 1, 1, 0],
     ),
 ];
+
+// Sees what a choice leaves.
+fn expect_run(
+    rt: &impl Abort,
+    alloc: Global,
+    sample: &Volume,
+    choice: &[bool],
+    picture: &[u8],
+    marks: &[u8],
+) -> Result<(), AllocError> {
+    let mut canvas = canvas_over(alloc, Size { w: 5, h: 2, f: 1 }, sample)?;
+    put_choice(rt, &mut canvas, sample, at(2, 0), at(0, 0), (3, 2), choice);
+    assert!(rt; canvas.picture().bytes() == picture);
+    assert!(rt; canvas.render_equals(sample));
+    let size = canvas.map().size();
+    let start = at(0, 1);
+    assert!(rt; size.index_of(start).is_some());
+    assert!(rt; holds_axis(size.w, start.x, 5));
+    assert!(rt; canvas.filled_row(start, 5) == marks);
+    Ok(())
+}
 
 // Runs of new cells of every length in rows of three, from every place of a row.
 #[test]
 fn runs_of_new_cells(rt: HostRuntime) -> Result<(), Fail> {
     let bytes = Vec::from_slice(rt.alloc(), &[1, 2, 3, 4, 5, 6])?;
     let sample = Volume::from_bytes(Size { w: 3, h: 2, f: 1 }, 1, bytes);
-    for (choice, picture) in RUNS.iter() {
-        let mut canvas = canvas_over(rt.alloc(), Size { w: 5, h: 2, f: 1 }, &sample)?;
-        put_choice(
-            &rt,
-            &mut canvas,
-            &sample,
-            at(2, 0),
-            at(0, 0),
-            (3, 2),
-            choice,
-        );
-        assert!(rt; canvas.picture().bytes() == picture.as_slice());
-        assert!(rt; canvas.render_equals(&sample));
-        let size = canvas.map().size();
-        let start = at(0, 1);
-        assert!(rt; size.index_of(start).is_some());
-        assert!(rt; holds_axis(size.w, start.x, 5));
-        let marks = canvas.filled_row(start, 5);
-        assert!(rt;
-            marks
-                .iter()
-                .zip(&picture[5..])
-                .all(|(m, b)| (*m == 1) == (*b > 0))
-        );
+    for (choice, picture, marks) in RUNS.iter() {
+        expect_run(&rt, rt.alloc(), &sample, choice, picture, marks)?;
     }
     Ok(())
 }
@@ -209,19 +212,30 @@ const OTHERS: &[(u32, &[u8], u32, bool)] = &[
     (2, &[10, 20], 1, false),
 ];
 
+// Whether a canvas stands over a row of these bytes.
+fn stands_over(
+    rt: &impl Abort,
+    alloc: Global,
+    canvas: &Canvas,
+    w: u32,
+    bytes: &[u8],
+    k: u32,
+) -> Result<bool, AllocError> {
+    let bytes = Vec::from_slice(alloc, bytes)?;
+    assert!(rt; 1 <= w && w <= 3 && 1 <= k && k <= 2);
+    assert!(rt; bytes.len() == k as usize * w as usize);
+    let other = Volume::from_bytes(Size { w, h: 1, f: 1 }, k, bytes);
+    Ok(canvas.render_equals(&other))
+}
+
 #[test]
 fn samples_that_a_canvas_stands_over(rt: HostRuntime) -> Result<(), Fail> {
     let bytes = Vec::from_slice(rt.alloc(), &[10, 11, 20, 21])?;
     let sample = Volume::from_bytes(Size { w: 2, h: 1, f: 1 }, 2, bytes);
     let canvas = part_filled(&rt, rt.alloc(), &sample)?;
-
     for (w, bytes, k, stands) in OTHERS.iter() {
-        let (w, k) = (*w, *k);
-        let bytes = Vec::from_slice(rt.alloc(), *bytes)?;
-        assert!(rt; 1 <= w && w <= 3 && 1 <= k && k <= 2);
-        assert!(rt; bytes.len() == k as usize * w as usize);
-        let other = Volume::from_bytes(Size { w, h: 1, f: 1 }, k, bytes);
-        assert!(rt; canvas.render_equals(&other) == *stands, "{w} cells of {k}");
+        let found = stands_over(&rt, rt.alloc(), &canvas, *w, *bytes, *k)?;
+        assert!(rt; found == *stands, "{w} cells of {k}");
     }
     Ok(())
 }

@@ -188,7 +188,7 @@ fn choice_of(bits: u32) -> [bool; 8] {
 }
 
 // Where four cells along an axis begin, their choice by its bits, the flows, and what the check says.
-type Row = (i32, u32, [(i16, i16); 3], Verdict);
+type Row<'a> = (i32, u32, &'a [(i16, i16)], Verdict);
 
 // Sees what the check says along each axis, over a canvas of six cells of which the first have these sources.
 fn expect_verdicts(
@@ -221,20 +221,20 @@ fn expect_rows(
     for (corner, bits, flows, want) in table.iter() {
         let place = four_at(axis, *corner);
         let choice = choice_of(*bits);
-        let said = verdict(rt, alloc, canvas, sample, place, &choice[..4], flows, held)?;
+        let said = verdict(rt, alloc, canvas, sample, place, &choice[..4], *flows, held)?;
         assert!(rt; said == *want, "{axis:?} at {corner}, {bits:b}");
     }
     Ok(())
 }
 
-const BOTH_SIDES: [(i16, i16); 3] = [(60, 60), (60, -60), (-60, -60)];
+const BOTH_SIDES: &[(i16, i16)] = &[(60, 60), (60, -60), (-60, -60)];
 
-const BETWEEN: &[Row] = &[
+const BETWEEN: &[Row<'static>] = &[
     (1, 0b0110, BOTH_SIDES, None),
     (
         1,
         0b0110,
-        [(60, 59), (60, -60), (-60, -60)],
+        &[(60, 59), (60, -60), (-60, -60)],
         Some((BOUNDS_RULE, 0)),
     ),
     (1, 0b0111, BOTH_SIDES, Some((KEEP_RULE, 0))),
@@ -249,26 +249,26 @@ fn a_box_between_old_cells(rt: HostRuntime) -> Result<(), Fail> {
     Ok(())
 }
 
-const ONE_SIDE: [(i16, i16); 3] = [(120, 120), (120, 0), (0, 0)];
+const ONE_SIDE: &[(i16, i16)] = &[(120, 120), (120, 0), (0, 0)];
 
-const OVER_THE_EDGE: &[Row] = &[
+const OVER_THE_EDGE: &[Row<'static>] = &[
     (2, 0b1110, ONE_SIDE, None),
     (
         2,
         0b1110,
-        [(120, 120), (119, 0), (0, 0)],
+        &[(120, 120), (119, 0), (0, 0)],
         Some((BALANCE_RULE, 1)),
     ),
     (
         2,
         0b1110,
-        [(119, 119), (119, 0), (0, 0)],
+        &[(119, 119), (119, 0), (0, 0)],
         Some((VALUE_RULE, 0)),
     ),
     (
         2,
         0b1110,
-        [(121, 121), (121, 0), (0, 0)],
+        &[(121, 121), (121, 0), (0, 0)],
         Some((BOUNDS_RULE, 0)),
     ),
     (2, 0b1100, ONE_SIDE, Some((VALUE_RULE, 0))),
@@ -281,18 +281,18 @@ fn a_box_over_the_edge_of_the_filled(rt: HostRuntime) -> Result<(), Fail> {
     Ok(())
 }
 
-const WITH_A_HELD_CELL: &[Row] = &[
-    (2, 0b1100, [(100, 100), (825, 0), (0, 0)], None),
+const WITH_A_HELD_CELL: &[Row<'static>] = &[
+    (2, 0b1100, &[(100, 100), (825, 0), (0, 0)], None),
     (
         2,
         0b1110,
-        [(120, 120), (120, 0), (0, 0)],
+        &[(120, 120), (120, 0), (0, 0)],
         Some((KEEP_RULE, 1)),
     ),
     (
         2,
         0b1100,
-        [(120, 120), (120, 0), (0, 0)],
+        &[(120, 120), (120, 0), (0, 0)],
         Some((VALUE_RULE, 0)),
     ),
 ];

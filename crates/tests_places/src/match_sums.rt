@@ -22,7 +22,7 @@ fn errors_of_a_row(rt: HostRuntime) -> Result<(), Fail> {
         assert!(rt; counts.count(&canvas, &placement.rect) == count);
         assert!(rt; error_sum_within(None, &canvas, &sample, &placement, 2400) == Some(sum));
         let below = error_sum_within(None, &canvas, &sample, &placement, 2399);
-        assert!(rt; below.is_none() == sum > 2399);
+        assert!(rt; below.is_none() == (sum > 2399));
     }
     Ok(())
 }

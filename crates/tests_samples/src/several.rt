@@ -2,7 +2,7 @@ use cells::{At, Size};
 use job_words::{Job, Words, read_job};
 use samples::{Form, Samples, read_samples};
 use shelf_core::{FormFault, MemShelf};
-use std::alloc::Global;
+use std::alloc::{AllocError, Global};
 use std::test::Fail;
 use synth_report::{Fault, FileOf};
 
@@ -18,30 +18,39 @@ const OF_444: &[u8] = b"YUV4MPEG2 W1 H1 C444\nFRAME\n\x01\x02\x03";
 
 const OF_MAXVAL_15: &[u8] = b"P6\n1 1\n15\n\x01\x02\x03";
 
-// Reads the samples `s`, `t` and `u`.
-fn read_three(alloc: Global, shelf: &mut MemShelf) -> Result<Result<Samples, Fault>, Fail> {
+const WORDS: &[&str] = &[
+    "grow",
+    "sample3=u",
+    "sample=s",
+    "sample2=t",
+    "out=o",
+    "map=m",
+    "record=r",
+    "width=1",
+    "height=1",
+];
+
+fn words_of(alloc: Global, list: &[&str]) -> Result<Words, AllocError> {
     let mut words = Words::new(alloc);
-    for word in [
-        "grow",
-        "sample3=u",
-        "sample=s",
-        "sample2=t",
-        "out=o",
-        "map=m",
-        "record=r",
-        "width=1",
-        "height=1",
-    ] {
+    for word in list {
         words.push(word)?;
     }
+    Ok(words)
+}
+
+// Reads the samples of a job, which is one of `grow`.
+fn read_by(alloc: Global, shelf: &mut MemShelf, job: &Job) -> Result<Samples, Fault> {
+    match job {
+        Job::Grow(job) => read_samples(alloc, shelf, &job.names.sample, job.names.more.as_slice()),
+        _ => Err(Fault::NoMemory),
+    }
+}
+
+// Reads the samples `s`, `t` and `u`.
+fn read_three(alloc: Global, shelf: &mut MemShelf) -> Result<Result<Samples, Fault>, Fail> {
+    let words = words_of(alloc, WORDS)?;
     match read_job(alloc, &words) {
-        Ok(Job::Grow(job)) => Ok(read_samples(
-            alloc,
-            shelf,
-            &job.names.sample,
-            job.names.more.as_slice(),
-        )),
-        Ok(_) => Err(Fail::from("another command")),
+        Ok(job) => Ok(read_by(alloc, shelf, &job)),
         Err(_) => Err(Fail::from("refused words")),
     }
 }

@@ -1,29 +1,19 @@
-use job_words::{GrowJob, Job, Key, Place, Taps, WordFault, Words, read_job};
+use cells::Size;
+use job_words::{Job, Key, Name, Place, Taps, WordFault, Words, read_job};
 use std::alloc::{AllocError, Global};
 use std::test::Fail;
 
-fn read(alloc: Global, words: &[&str]) -> Result<Job, WordFault> {
+fn words_of(alloc: Global, words: &[&str]) -> Result<Words, AllocError> {
     let mut list = Words::new(alloc);
     for word in words {
         list.push(word)?;
     }
-    read_job(alloc, &list)
+    Ok(list)
 }
 
-// A word of so many bytes in the middle.
-fn long_word(
-    alloc: Global,
-    front: &str,
-    middle: char,
-    count: u32,
-    end: &str,
-) -> Result<String, AllocError> {
-    let mut word = String::from_str(alloc, front)?;
-    for _ in 0..count {
-        word.push(middle)?;
-    }
-    word.push_str(end)?;
-    Ok(word)
+fn read(alloc: Global, words: &[&str]) -> Result<Job, WordFault> {
+    let list = words_of(alloc, words)?;
+    read_job(alloc, &list)
 }
 
 // Words, and why they are refused.
@@ -114,89 +104,148 @@ fn refusals(rt: HostRuntime) {
     assert_eq!(rt; wrong_words(rt.alloc(), REFUSED), None);
 }
 
+// Numbers of 400 digits.
+const NINES: &str = "width=\
+    99999999999999999999999999999999999999999999999999999999999999999999999999999999\
+    99999999999999999999999999999999999999999999999999999999999999999999999999999999\
+    99999999999999999999999999999999999999999999999999999999999999999999999999999999\
+    99999999999999999999999999999999999999999999999999999999999999999999999999999999\
+    99999999999999999999999999999999999999999999999999999999999999999999999999999999";
+
+const ZEROS: &str = "width=\
+    00000000000000000000000000000000000000000000000000000000000000000000000000000000\
+    00000000000000000000000000000000000000000000000000000000000000000000000000000000\
+    00000000000000000000000000000000000000000000000000000000000000000000000000000000\
+    00000000000000000000000000000000000000000000000000000000000000000000000000000000\
+    00000000000000000000000000000000000000000000000000000000000000000000000000000000";
+
 #[test]
-fn long_numbers_out_of_range(rt: HostRuntime) -> Result<(), Fail> {
-    let alloc = rt.alloc();
-    for digit in ['9', '0'] {
-        let word = long_word(alloc, "width=", digit, 400, "")?;
-        let fault = read(alloc, &["grow", word.as_str()]).err();
-        assert!(rt; fault == Some(WordFault::OutOfRange(2)), "of {digit}");
-    }
-    Ok(())
+fn long_numbers_out_of_range(rt: HostRuntime) {
+    let fault = read(rt.alloc(), &["grow", NINES]).err();
+    assert!(rt; fault == Some(WordFault::OutOfRange(2)));
+    let fault = read(rt.alloc(), &["grow", ZEROS]).err();
+    assert!(rt; fault == Some(WordFault::OutOfRange(2)));
 }
 
-fn job(alloc: Global, words: &[&str]) -> Result<GrowJob, WordFault> {
-    match read(alloc, words)? {
-        Job::Grow(job) => Ok(job),
-        _ => Err(WordFault::UnknownCommand),
+// The job of words.
+fn job(alloc: Global, words: &[&str]) -> Result<Job, Fail> {
+    match read(alloc, words) {
+        Ok(job) => Ok(job),
+        Err(_) => Err(Fail::from("refused")),
     }
+}
+
+// A height of 7, with 399 zeros before it.
+const SEVEN: &str = "height=\
+    00000000000000000000000000000000000000000000000000000000000000000000000000000000\
+    00000000000000000000000000000000000000000000000000000000000000000000000000000000\
+    00000000000000000000000000000000000000000000000000000000000000000000000000000000\
+    00000000000000000000000000000000000000000000000000000000000000000000000000000000\
+    00000000000000000000000000000000000000000000000000000000000000000000000000000007";
+
+// A name has this text.
+fn is_name(name: &Name, text: &str) -> bool {
+    name.as_text() == text
+}
+
+// Whether a job has what the words of `defaults` say, and else the defaults. It is taken apart behind its reference: a
+// value of many kinds that is moved apart is dear to prove.
+fn is_plain(job: &Job) -> bool {
+    let Job::Grow(job) = job else {
+        return false;
+    };
+    is_name(&job.names.sample, "a")
+        && job.names.more.as_slice().is_empty()
+        && is_name(&job.names.out, "place")
+        && is_name(&job.names.map, "größe=x")
+        && is_name(&job.names.cert, "d")
+        && job.size
+            == Size {
+                w: 4096,
+                h: 7,
+                f: 1,
+            }
+        && job.place == Place::Sub
+        && job.side == 32
+        && job.overlap == 8
+        && job.tol == 10
+        && job.rounds == 0
+        && job.seed == 0
 }
 
 #[test]
 fn defaults(rt: HostRuntime) -> Result<(), Fail> {
-    let alloc = rt.alloc();
-    let seven = long_word(alloc, "height=", '0', 399, "7")?;
-    let plain = job(
-        alloc,
-        &[
-            "grow",
-            "width=4096",
-            "record=d",
-            seven.as_str(),
-            "map=größe=x",
-            "sample=a",
-            "out=place",
-        ],
-    )
-    .ok()
-    .ok_or("refused")?;
-    assert!(rt; plain.names.sample.as_text() == "a");
-    assert!(rt; plain.names.more.as_slice().len() == 0);
-    assert!(rt; plain.names.out.as_text() == "place");
-    assert!(rt; plain.names.map.as_text() == "größe=x");
-    assert!(rt; plain.names.cert.as_text() == "d");
-    assert!(rt; plain.size.w == 4096 && plain.size.h == 7 && plain.size.f == 1);
-    assert!(rt; plain.place == Place::Sub && plain.side == 32 && plain.overlap == 8);
-    assert!(rt; plain.tol == 10 && plain.rounds == 0 && plain.seed == 0);
+    let words = [
+        "grow",
+        "width=4096",
+        "record=d",
+        SEVEN,
+        "map=größe=x",
+        "sample=a",
+        "out=place",
+    ];
+    assert!(rt; is_plain(&job(rt.alloc(), &words)?));
     Ok(())
+}
+
+// Whether a job has what the words of `all_keys` say.
+fn is_whole(job: &Job) -> bool {
+    let Job::Grow(job) = job else {
+        return false;
+    };
+    let [second, third] = job.names.more.as_slice() else {
+        return false;
+    };
+    is_name(&job.names.sample, "a")
+        && is_name(second, "b")
+        && is_name(third, "c")
+        && is_name(&job.names.cert, "r")
+        && job.size == Size { w: 2, h: 1, f: 3 }
+        && job.place == Place::Random
+        && job.side == 4096
+        && job.overlap == 4095
+        && job.tol == 1000
+        && job.rounds == 1000
+        && job.seed == u64::MAX
 }
 
 #[test]
 fn all_keys(rt: HostRuntime) -> Result<(), Fail> {
-    let alloc = rt.alloc();
-    let whole = job(
-        alloc,
-        &[
-            "grow",
-            "seed=18446744073709551615",
-            "rounds=1000",
-            "tol=01000",
-            "overlap=4095",
-            "box=4096",
-            "place=random",
-            "frames=3",
-            "height=1",
-            "width=2",
-            "record=r",
-            "map=m",
-            "out=o",
-            "sample3=c",
-            "sample=a",
-            "sample2=b",
-        ],
-    )
-    .ok()
-    .ok_or("refused")?;
-    assert!(rt; whole.names.sample.as_text() == "a");
-    let [second, third] = whole.names.more.as_slice() else {
-        return Err(Fail::from("not two further samples"));
-    };
-    assert!(rt; second.as_text() == "b" && third.as_text() == "c");
-    assert!(rt; whole.names.cert.as_text() == "r");
-    assert!(rt; whole.size.w == 2 && whole.size.h == 1 && whole.size.f == 3);
-    assert!(rt; whole.place == Place::Random && whole.side == 4096 && whole.overlap == 4095);
-    assert!(rt; whole.tol == 1000 && whole.rounds == 1000 && whole.seed == u64::MAX);
+    let words = [
+        "grow",
+        "seed=18446744073709551615",
+        "rounds=1000",
+        "tol=01000",
+        "overlap=4095",
+        "box=4096",
+        "place=random",
+        "frames=3",
+        "height=1",
+        "width=2",
+        "record=r",
+        "map=m",
+        "out=o",
+        "sample3=c",
+        "sample=a",
+        "sample2=b",
+    ];
+    assert!(rt; is_whole(&job(rt.alloc(), &words)?));
     Ok(())
+}
+
+fn is_plain_quilt(job: &Job) -> bool {
+    let Job::Quilt(job) = job else {
+        return false;
+    };
+    job.names.more.as_slice().is_empty()
+        && is_name(&job.names.map, "m")
+        && is_name(&job.names.cert, "r")
+        && job.w == 3
+        && job.h == 2
+        && job.block == 32
+        && job.overlap == 5
+        && job.tol == 10
+        && job.seed == 0
 }
 
 #[test]
@@ -204,33 +253,37 @@ fn defaults_of_quilts(rt: HostRuntime) -> Result<(), Fail> {
     let words = [
         "quilt", "sample=a", "height=2", "out=o", "map=m", "record=r", "width=3",
     ];
-    let Ok(Job::Quilt(job)) = read(rt.alloc(), &words) else {
-        return Err(Fail::from("no quilt"));
-    };
-    assert!(rt; job.names.more.as_slice().len() == 0);
-    assert!(rt; job.names.map.as_text() == "m" && job.names.cert.as_text() == "r");
-    assert!(rt; job.w == 3 && job.h == 2 && job.block == 32 && job.overlap == 5);
-    assert!(rt; job.tol == 10 && job.seed == 0);
+    assert!(rt; is_plain_quilt(&job(rt.alloc(), &words)?));
     Ok(())
+}
+
+fn is_plain_loop(job: &Job) -> bool {
+    let Job::Loop(job) = job else {
+        return false;
+    };
+    job.length == 7 && job.taps == Taps::Four && job.gap == 1
 }
 
 #[test]
 fn defaults_of_loops(rt: HostRuntime) -> Result<(), Fail> {
     let words = ["loop", "sample=a", "out=o", "map=m", "record=r", "length=7"];
-    let Ok(Job::Loop(job)) = read(rt.alloc(), &words) else {
-        return Err(Fail::from("no loop"));
-    };
-    assert!(rt; job.length == 7 && job.taps == Taps::Four && job.gap == 1);
+    assert!(rt; is_plain_loop(&job(rt.alloc(), &words)?));
     Ok(())
+}
+
+fn is_plain_upgrade(job: &Job) -> bool {
+    let Job::Upgrade(job) = job else {
+        return false;
+    };
+    is_name(&job.map, "a")
+        && is_name(&job.cert, "b")
+        && is_name(&job.new_map, "c")
+        && is_name(&job.new_cert, "d")
 }
 
 #[test]
 fn files_of_upgrades(rt: HostRuntime) -> Result<(), Fail> {
     let words = ["upgrade", "newrecord=d", "newmap=c", "record=b", "map=a"];
-    let Ok(Job::Upgrade(job)) = read(rt.alloc(), &words) else {
-        return Err(Fail::from("no upgrade"));
-    };
-    assert!(rt; job.map.as_text() == "a" && job.cert.as_text() == "b");
-    assert!(rt; job.new_map.as_text() == "c" && job.new_cert.as_text() == "d");
+    assert!(rt; is_plain_upgrade(&job(rt.alloc(), &words)?));
     Ok(())
 }

@@ -74,9 +74,34 @@ fn lay_and_put(
 
 /// Lays the next block of a plan over a canvas that is laid for it, and leaves a canvas that is: the block of
 /// `block_rect`, at the placement that the next draw picks among all that fit, with the boundaries of
-/// `lay_block`, put in by `put_block`. The sums are those of the sample's blocks, made once for all steps. None
-/// where the canvas is full. The one error is out of memory; canvas and draws are as they were then.
+/// `lay_block`, put in by `put_block`. None where the canvas is full. The sums of the sample's blocks, by which
+/// it picks, are made in each call. The one error is out of memory; canvas and draws are as they were then.
 pub fn next_block(
+    alloc: Global,
+    plan: &QuiltPlan,
+    canvas: &mut Canvas,
+    sample: &Volume,
+    draws: &mut Draws,
+) -> Result<Option<BlockRecord>, AllocError>
+    requires block { 1 ≤ plan.now.block }
+    requires pictures { HaveOneFrame canvas.old sample.now }
+    requires laid { IsLaidByBlocks plan.now sample.now canvas.old.map }
+    ensures next { LaysNext plan.now sample.now (quilting canvas.old.map draws.old)
+        (quilting canvas.new.map draws.new) result }
+    ensures stands { IfOk result (λ block. IfSome block (BlockStands canvas.old.map sample.now)) }
+    ensures pictures { HaveOneFrame canvas.new sample.now }
+    ensures laid { IsLaidByBlocks plan.now sample.now canvas.new.map }
+    ensures kept { OnErr result (canvas.new ≡ canvas.old) }
+{
+    let Some(_) = canvas.first_unfilled() else {
+        return Ok(None);
+    };
+    let sums = SampleSums::make(alloc, sample)?;
+    next_block_with(alloc, plan, canvas, sample, &sums, draws)
+}
+
+/// The same step as `next_block`, of a sample whose sums of blocks are made, once for all steps.
+pub fn next_block_with(
     alloc: Global,
     plan: &QuiltPlan,
     canvas: &mut Canvas,

@@ -31,8 +31,8 @@ fn lay_all(
 
 /// Quilts an output from blocks of a sample, of one frame and three samples per cell, with a record of each
 /// block. Its draws are those of the seed, from number 0 on. The sums of the sample's blocks are made once for
-/// all picks; they take 4 bytes for each cell of the sample until the run ends. The method is that of Efros and
-/// Freeman, "Image quilting" (2001).
+/// all picks; they take 8 bytes for each cell of the sample until the run ends, or 4 where the sample has more
+/// than 2^22 bytes. The method is that of Efros and Freeman, "Image quilting" (2001).
 pub fn quilt_canvas(alloc: Global, asked: &QuiltRun, sample: &Volume) -> Result<Quilted, QuiltError>
     requires { CanBeQuilted asked.now sample.now }
     ensures { Quilts asked.now sample.now result }

@@ -1,7 +1,7 @@
 //! Quilting: blocks along least boundaries, one after another, until an output is full.
 //!
 //! `quilt_canvas` promises the whole quilted run that it is asked for (specs/Quilted.antt): steps of
-//! `next_block` from the empty canvas to a full one, with a record of each block, how many boundaries they
+//! `next_block_with` from the empty canvas to a full one, with a record of each block, how many boundaries they
 //! have, and what these cost in all. It answers the limit at the first box that takes the cells of all boxes
 //! past `MOST_BOX_CELLS`. `there_is_one_quilt_limit` says that of what is asked and a sample there is one answer,
 //! want of memory apart (specs/OneLimit.antt).

@@ -10,7 +10,7 @@ use block_sums::SampleSums;
 use cells::Volume;
 use map_canvas::Canvas;
 use patch_place::Draws;
-use quilt::{BlockRecord, empty_map_is_laid, next_block};
+use quilt::{BlockRecord, empty_map_is_laid, next_block_with};
 use replay::MOST_BOX_CELLS;
 use std::alloc::{AllocError, Global};
 
@@ -62,7 +62,7 @@ pub(crate) fn step(
 {
     // It is asked for only to show the check that the sample is a volume.
     let _samples = sample.samples();
-    let next = next_block(
+    let next = next_block_with(
         alloc,
         &asked.plan,
         &mut work.canvas,

@@ -7,7 +7,7 @@ use Rattle.quilting.proofs.Stepping.{block_formed, one_more, passes, some_cells}
 use Rattle.quilting.proofs.steps.step.Goals as goal
 use Rattle.quilting.proofs.steps.step.Goals.{In-Some}
 
-made : (c : In-Some) → QuiltsBy c.args.asked.now.plan c.args.sample.now (quilting c.args.work.now.canvas.map c.args.work.now.draws) c.in-Some.block (quilting c.next_block.new.canvas.map c.next_block.new.draws)
+made : (c : In-Some) → QuiltsBy c.args.asked.now.plan c.args.sample.now (quilting c.args.work.now.canvas.map c.args.work.now.draws) c.in-Some.block (quilting c.next_block_with.new.canvas.map c.next_block_with.new.draws)
 made c = rw c.in-Some.is at c.in_ok-next.ensures.next
 
 stands : (c : In-Some) → BlockStands c.args.work.now.canvas.map c.args.sample.now c.in-Some.block
@@ -45,7 +45,7 @@ returns c =
     let is = made this in
     let some = some_cells c.in-Some.block.placement.rect.size is.fits.some in (
       one_more c.args.asked.now c.args.sample.now c.samples-samples.ensures.volume c.requires.can c.args.work.now c.requires.work c.in-Some.block _ is _ c.block_cost.result refl (stands this)
-          c.next_block.ensures.pictures c.next_block.ensures.laid c.map-map.ensures.canvas c.block_fits.ensures (omega (arith, some)) c.in-Ok.ensures.items
+          c.next_block_with.ensures.pictures c.next_block_with.ensures.laid c.map-map.ensures.canvas c.block_fits.ensures (omega (arith, some)) c.in-Ok.ensures.items
           (ap (λ n. c.args.work.now.cells + n) c.cells.ensures) c.if-cells-gt-MOST_BOX_CELLS.false
           (ap (λ n. c.args.work.now.boundaries + n) c.block_boundaries.ensures.count) (omega (arith, c.block_boundaries.ensures.small, c.block_boundaries.ensures.count)) refl c.block_cost.ensures.cost c.block_cost.ensures.small,
       omega (arith, some, c.cells.ensures),

@@ -7,7 +7,7 @@ use Rattle.match_error.specs.Errors.{error_of}
 use Rattle.patch_place.specs.Lists.{fit_list, part_lists}
 use Rattle.patch_place.specs.Picks.{IsPick}
 use Rattle.quilt.specs.Runs.{IsLaidBlock}
-use Rattle.quilt.proofs.step.next_block.Goals as goal
+use Rattle.quilt.proofs.step.next_block_with.Goals as goal
 
 pub returns-in-Ok-clause-next : goal.returns-in-Ok-clause-next
 returns-in-Ok-clause-next c =

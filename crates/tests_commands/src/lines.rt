@@ -1,12 +1,46 @@
-// Lines of words.
-use job_words::Words;
+// Lines of words over a store in memory.
+ghost use Rattle.job_words.specs.Jobs.{IsJob};
+
+use job_words::{Job, Words, read_job};
+use loop_command::loop_clip;
+use quilt_command::quilt_picture;
+use shelf_core::{MemShelf, MemSink};
 use std::alloc::{AllocError, Global};
+use std::test::Fail;
+use synth_report::{Fault, Summary};
+use upgrade_command::upgrade;
 
 // The words of a line, which blanks part.
-pub(crate) fn words_of(alloc: Global, line: &str) -> Result<Words, AllocError> {
+fn words_of(alloc: Global, line: &str) -> Result<Words, AllocError> {
     let mut words = Words::new(alloc);
     for word in line.split(' ') {
         words.push(word)?;
     }
     Ok(words)
+}
+
+// What a job answers. Those of other commands than these three aren't run.
+fn done(alloc: Global, job: &Job, shelf: &mut MemShelf, out: &mut MemSink) -> Result<Summary, Fault>
+    requires { IsJob job.now }
+{
+    match job {
+        Job::Quilt(job) => quilt_picture(alloc, job, shelf, out),
+        Job::Loop(job) => loop_clip(alloc, job, shelf, out),
+        Job::Upgrade(job) => upgrade(alloc, job, shelf, out),
+        _ => Err(Fault::NoMemory),
+    }
+}
+
+// What a line of words answers over a shelf.
+pub(crate) fn answer(
+    alloc: Global,
+    line: &str,
+    shelf: &mut MemShelf,
+    out: &mut MemSink,
+) -> Result<Result<Summary, Fault>, Fail> {
+    let words = words_of(alloc, line)?;
+    match read_job(alloc, &words) {
+        Ok(job) => Ok(done(alloc, &job, shelf, out)),
+        Err(_) => Err(Fail::from("refused words")),
+    }
 }

@@ -1,9 +1,5 @@
 // Worked examples, over a clip of one grey cell a frame.
-ghost use Rattle.job_words.specs.Jobs.{IsJob};
-
-use crate::lines::words_of;
-use job_words::{Job, read_job};
-use loop_command::loop_clip;
+use crate::lines::answer;
 use shelf_core::{FormFault, MemShelf, MemSink};
 use std::alloc::Global;
 use std::test::Fail;
@@ -18,41 +14,12 @@ const THREE: &[u8] = b"YUV4MPEG2 W1 H1 F25:1 Cmono\nFRAME\n\x00FRAME\n\x03FRAME\
 
 const PICTURE: &[u8] = b"P6\n1 1\n255\n\0\0\0";
 
-// What a job answers over a shelf, which is one of `loop`.
-fn looped(
-    alloc: Global,
-    job: &Job,
-    shelf: &mut MemShelf,
-    out: &mut MemSink,
-) -> Result<Summary, Fault>
-    requires { IsJob job.now }
-{
-    match job {
-        Job::Loop(job) => loop_clip(alloc, job, shelf, out),
-        _ => Err(Fault::NoMemory),
-    }
-}
-
-// What a line of words answers over a shelf.
-fn answer_over(
-    alloc: Global,
-    shelf: &mut MemShelf,
-    out: &mut MemSink,
-    line: &str,
-) -> Result<Result<Summary, Fault>, Fail> {
-    let words = words_of(alloc, line)?;
-    match read_job(alloc, &words) {
-        Ok(job) => Ok(looped(alloc, &job, shelf, out)),
-        Err(_) => Err(Fail::from("refused words")),
-    }
-}
-
 // What a line of words answers over a sample.
 fn answer_of(alloc: Global, sample: &[u8], line: &str) -> Result<Result<Summary, Fault>, Fail> {
     let mut shelf = MemShelf::new(alloc);
     let mut out = MemSink::new(alloc);
     shelf.put_file("s", sample)?;
-    answer_over(alloc, &mut shelf, &mut out, line)
+    answer(alloc, line, &mut shelf, &mut out)
 }
 
 // A sample, a line of words, and what is answered: the length and the cost, or a fault.
@@ -126,7 +93,7 @@ fn files_of_a_loop(rt: HostRuntime) -> Result<(), Fail> {
     let mut out = MemSink::new(rt.alloc());
     shelf.put_file("s", FOUR)?;
     let line = "loop sample=s out=o map=m record=r length=2 taps=0 gap=1";
-    assert!(rt; answer_over(rt.alloc(), &mut shelf, &mut out, line)?.is_ok());
+    assert!(rt; answer(rt.alloc(), line, &mut shelf, &mut out)?.is_ok());
     assert!(rt; shelf.file("o") == Some(TWO));
     assert!(rt; shelf.file("m") == Some(MAP));
     assert!(rt; shelf.file("r") == Some(RECORD));

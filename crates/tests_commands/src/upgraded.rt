@@ -1,12 +1,8 @@
-ghost use Rattle.job_words.specs.Jobs.{IsJob};
-
-use crate::lines::words_of;
-use job_words::{Job, read_job};
+use crate::lines::answer;
 use shelf_core::{FormFault, MemShelf, MemSink};
 use std::alloc::Global;
 use std::test::Fail;
 use synth_report::{Fault, FileOf, Summary};
-use upgrade_command::upgrade;
 
 // An output of 6 x 1 x 1 cells over a sample of 4 x 1 x 1: the sample's cells 0, 1, 2, 1, 2, 3.
 const MAP: &[u8] = b"WEAVEMAP\x01\x00\0\0\0\x06\0\0\0\x01\0\0\0\x01\0\0\0\x04\0\0\0\x01\0\0\0\x01\
@@ -31,21 +27,6 @@ const NEW_RECORD: &[u8] =
     \0\0\0\0\0\0\0\x04\0\x01\0\x01\0\x01\0\0\0\0\0\0\xf0\0\0\0\0\0\0\0\0\0\0\0\0\
     \0\x02\0\0\0\0\0\x04\0\x01\0\x01\0\x01\0\0\0\0\0\0\x70\0\x78\0\x78\0\x78\0\0\0\0\0\0";
 
-// What a job answers over a shelf, which is one of `upgrade`.
-fn lifted(
-    alloc: Global,
-    job: &Job,
-    shelf: &mut MemShelf,
-    out: &mut MemSink,
-) -> Result<Summary, Fault>
-    requires { IsJob job.now }
-{
-    match job {
-        Job::Upgrade(job) => upgrade(alloc, job, shelf, out),
-        _ => Err(Fault::NoMemory),
-    }
-}
-
 const LINE: &str = "upgrade map=m record=r newmap=n newrecord=s";
 
 // What an upgrade of two files over a shelf answers.
@@ -58,11 +39,7 @@ fn answer_over(
 ) -> Result<Result<Summary, Fault>, Fail> {
     shelf.put_file("m", map)?;
     shelf.put_file("r", record)?;
-    let words = words_of(alloc, LINE)?;
-    match read_job(alloc, &words) {
-        Ok(job) => Ok(lifted(alloc, &job, shelf, out)),
-        Err(_) => Err(Fail::from("refused words")),
-    }
+    answer(alloc, LINE, shelf, out)
 }
 
 #[test]

@@ -229,18 +229,18 @@ fn fields(rt: HostRuntime) -> Result<(), Fail> {
     Ok(())
 }
 
-// Whether a read fault is told where a get fails.
-fn tells_read_fault(alloc: Global, nth: u32) -> Result<bool, Fail> {
+// Whether a read fault is told where a get fails after so many others.
+fn tells_read_fault(alloc: Global, after: u8) -> Result<bool, Fail> {
     let mut shelf = MemShelf::new(alloc);
     shelf.put_file("sample", FOUR_BY_ONE)?;
-    shelf.fail_at(Call::Get, "sample", nth, 0)?;
+    shelf.fail_at(Call::Get, "sample", u32::from(after) + 1, 0)?;
     Ok(read_p6(alloc, &mut shelf, "sample").err() == Some(ReadFault))
 }
 
 #[test]
 fn read_faults(rt: HostRuntime) -> Result<(), Fail> {
-    for nth in 1..4u32 {
-        assert!(rt; tells_read_fault(rt.alloc(), nth)?, "get {nth}");
+    for after in 0..3u8 {
+        assert!(rt; tells_read_fault(rt.alloc(), after)?, "after {after}");
     }
     Ok(())
 }

@@ -1,5 +1,7 @@
 use cells::Size;
-use job_words::{Job, Key, Name, Place, Taps, WordFault, Words, read_job};
+use job_words::{
+    GrowJob, Job, Key, LoopJob, Name, Place, QuiltJob, Taps, UpgradeJob, WordFault, Words, read_job,
+};
 use std::alloc::{AllocError, Global};
 use std::test::Fail;
 
@@ -148,30 +150,115 @@ fn is_name(name: &Name, text: &str) -> bool {
     name.as_text() == text
 }
 
-// Whether a job has what the words of `defaults` say, and else the defaults. It is taken apart behind its reference: a
-// value of many kinds that is moved apart is dear to prove.
-fn is_plain(job: &Job) -> bool {
-    let Job::Grow(job) = job else {
-        return false;
-    };
-    is_name(&job.names.sample, "a")
-        && job.names.more.as_slice().is_empty()
-        && is_name(&job.names.out, "place")
-        && is_name(&job.names.map, "größe=x")
-        && is_name(&job.names.cert, "d")
-        && job.size
-            == Size {
-                w: 4096,
-                h: 7,
-                f: 1,
-            }
-        && job.place == Place::Sub
-        && job.side == 32
-        && job.overlap == 8
+// What a job of `grow` has.
+#[derive(Clone, Copy, Drop)]
+struct Grown<'a> {
+    sample: &'a str,
+    more: &'a [&'a str],
+    out: &'a str,
+    map: &'a str,
+    cert: &'a str,
+    size: Size,
+    place: Place,
+    side: u32,
+    overlap: u32,
+    tol: u32,
+    rounds: u32,
+    seed: u64,
+}
+
+fn are_names(names: &[Name], texts: &[&str]) -> bool {
+    for (i, text) in texts.iter().enumerate() {
+        match names.get(i) {
+            Some(name) if is_name(name, text) => {}
+            _ => return false,
+        }
+    }
+    names.len() == texts.len()
+}
+
+fn is_grown(job: &GrowJob, of: &Grown) -> bool {
+    is_name(&job.names.sample, of.sample)
+        && are_names(job.names.more.as_slice(), of.more)
+        && is_name(&job.names.out, of.out)
+        && is_name(&job.names.map, of.map)
+        && is_name(&job.names.cert, of.cert)
+        && job.size == of.size
+        && job.place == of.place
+        && job.side == of.side
+        && job.overlap == of.overlap
+        && job.tol == of.tol
+        && job.rounds == of.rounds
+        && job.seed == of.seed
+}
+
+fn is_quilted(job: &QuiltJob) -> bool {
+    job.names.more.as_slice().is_empty()
+        && is_name(&job.names.map, "m")
+        && is_name(&job.names.cert, "r")
+        && job.w == 3
+        && job.h == 2
+        && job.block == 32
+        && job.overlap == 5
         && job.tol == 10
-        && job.rounds == 0
         && job.seed == 0
 }
+
+fn is_looped(job: &LoopJob) -> bool {
+    job.length == 7 && job.taps == Taps::Four && job.gap == 1
+}
+
+fn is_lifted(job: &UpgradeJob) -> bool {
+    is_name(&job.map, "a")
+        && is_name(&job.cert, "b")
+        && is_name(&job.new_map, "c")
+        && is_name(&job.new_cert, "d")
+}
+
+// Whether a job has what its words say. The one `match` on jobs is here, since each is dear to prove.
+fn is_asked(job: &Job, grown: &Grown) -> bool {
+    match job {
+        Job::Grow(job) => is_grown(job, grown),
+        Job::Quilt(job) => is_quilted(job),
+        Job::Loop(job) => is_looped(job),
+        Job::Upgrade(job) => is_lifted(job),
+        _ => false,
+    }
+}
+
+const DEFAULTS: Grown<'static> = Grown {
+    sample: "a",
+    more: &[],
+    out: "place",
+    map: "größe=x",
+    cert: "d",
+    size: Size {
+        w: 4096,
+        h: 7,
+        f: 1,
+    },
+    place: Place::Sub,
+    side: 32,
+    overlap: 8,
+    tol: 10,
+    rounds: 0,
+    seed: 0,
+};
+
+const WHOLE: Grown<'static> = Grown {
+    sample: "a",
+    more: &["b", "c"],
+    out: "o",
+    map: "m",
+    cert: "r",
+    size: Size { w: 2, h: 1, f: 3 },
+    place: Place::Random,
+    side: 4096,
+    overlap: 4095,
+    tol: 1000,
+    rounds: 1000,
+    seed: u64::MAX,
+};
 
 #[test]
 fn defaults(rt: HostRuntime) -> Result<(), Fail> {
@@ -184,29 +271,8 @@ fn defaults(rt: HostRuntime) -> Result<(), Fail> {
         "sample=a",
         "out=place",
     ];
-    assert!(rt; is_plain(&job(rt.alloc(), &words)?));
+    assert!(rt; is_asked(&job(rt.alloc(), &words)?, &DEFAULTS));
     Ok(())
-}
-
-// Whether a job has what the words of `all_keys` say.
-fn is_whole(job: &Job) -> bool {
-    let Job::Grow(job) = job else {
-        return false;
-    };
-    let [second, third] = job.names.more.as_slice() else {
-        return false;
-    };
-    is_name(&job.names.sample, "a")
-        && is_name(second, "b")
-        && is_name(third, "c")
-        && is_name(&job.names.cert, "r")
-        && job.size == Size { w: 2, h: 1, f: 3 }
-        && job.place == Place::Random
-        && job.side == 4096
-        && job.overlap == 4095
-        && job.tol == 1000
-        && job.rounds == 1000
-        && job.seed == u64::MAX
 }
 
 #[test]
@@ -229,23 +295,8 @@ fn all_keys(rt: HostRuntime) -> Result<(), Fail> {
         "sample=a",
         "sample2=b",
     ];
-    assert!(rt; is_whole(&job(rt.alloc(), &words)?));
+    assert!(rt; is_asked(&job(rt.alloc(), &words)?, &WHOLE));
     Ok(())
-}
-
-fn is_plain_quilt(job: &Job) -> bool {
-    let Job::Quilt(job) = job else {
-        return false;
-    };
-    job.names.more.as_slice().is_empty()
-        && is_name(&job.names.map, "m")
-        && is_name(&job.names.cert, "r")
-        && job.w == 3
-        && job.h == 2
-        && job.block == 32
-        && job.overlap == 5
-        && job.tol == 10
-        && job.seed == 0
 }
 
 #[test]
@@ -253,37 +304,20 @@ fn defaults_of_quilts(rt: HostRuntime) -> Result<(), Fail> {
     let words = [
         "quilt", "sample=a", "height=2", "out=o", "map=m", "record=r", "width=3",
     ];
-    assert!(rt; is_plain_quilt(&job(rt.alloc(), &words)?));
+    assert!(rt; is_asked(&job(rt.alloc(), &words)?, &DEFAULTS));
     Ok(())
-}
-
-fn is_plain_loop(job: &Job) -> bool {
-    let Job::Loop(job) = job else {
-        return false;
-    };
-    job.length == 7 && job.taps == Taps::Four && job.gap == 1
 }
 
 #[test]
 fn defaults_of_loops(rt: HostRuntime) -> Result<(), Fail> {
     let words = ["loop", "sample=a", "out=o", "map=m", "record=r", "length=7"];
-    assert!(rt; is_plain_loop(&job(rt.alloc(), &words)?));
+    assert!(rt; is_asked(&job(rt.alloc(), &words)?, &DEFAULTS));
     Ok(())
-}
-
-fn is_plain_upgrade(job: &Job) -> bool {
-    let Job::Upgrade(job) = job else {
-        return false;
-    };
-    is_name(&job.map, "a")
-        && is_name(&job.cert, "b")
-        && is_name(&job.new_map, "c")
-        && is_name(&job.new_cert, "d")
 }
 
 #[test]
 fn files_of_upgrades(rt: HostRuntime) -> Result<(), Fail> {
     let words = ["upgrade", "newrecord=d", "newmap=c", "record=b", "map=a"];
-    assert!(rt; is_plain_upgrade(&job(rt.alloc(), &words)?));
+    assert!(rt; is_asked(&job(rt.alloc(), &words)?, &DEFAULTS));
     Ok(())
 }

@@ -1,7 +1,7 @@
 -- Block records that are spelled are read again.
 use Rattle.std.proofs.Common.{◌≡◌, true, false, Bool, ℕ, zero, suc, ◌+◌, ◌*◌, ◌/◌, ◌≤◌, ◌<◌, ◌^◌, List, [], ◌∷◌, ◌++◌, length, take, get_or, refl, sym, ap, ◌∙◌, subst, append_assoc, arith}
 use Rattle.std.proofs.lemmas.Bool.{le-leb, lt-leb}
-use Rattle.std.proofs.lemmas.List.{append-nil, take_all}
+use Rattle.std.proofs.lemmas.List.{append-nil}
 use Rattle.std.proofs.lemmas.Nat.{from_be_bytes-to_be_bytes_2}
 use Rattle.std.specs.Bool.{nat_eq}
 use Rattle.std.specs.Int.{w8, w16, w32}
@@ -15,7 +15,6 @@ use Rattle.strip_boundary.specs.declared.boundary.BoundaryRecord.{BoundaryRecord
 use Rattle.quilt.specs.declared.block.BlockRecord.{BlockRecord}
 use Rattle.quilt.specs.Blocks.{HasColumns, block_cells}
 use Rattle.file_bytes.specs.Fields.{field_16, field_32, fields_16, fields_32}
-use Rattle.file_bytes.specs.Reading.{StandsAt}
 use Rattle.source_map.specs.declared.head.Head.{Head}
 use Rattle.source_map.specs.Heads.{IsKind, head_form, head_read}
 use Rattle.source_map.specs.MapFiles.{IsShort}
@@ -27,10 +26,10 @@ use Rattle.cert_file.specs.declared.file.CertFile.TheVariants.{Blocks}
 use Rattle.cert_file.specs.BlockForms.{IsBlockInForm, IsWideBlock, IsWideBoundary, block_form, block_size_field, block_start_form, boundary_form, flag, flags_of, spot_field}
 use Rattle.cert_file.specs.BlockReading.{block_read, block_size_read, block_start_read, blocks_read, boundary_read, cols_rule, flags_rule, has_left, has_top, left_read, side_read, spot_read, spot_rule, top_read}
 use Rattle.cert_file.specs.CutReading.{box_axis_rule, box_cells_rule}
-use Rattle.cert_file.specs.RecordFiles.{AreBlocksInLimits, AreBlocksReadAgain, blocks_form, blocks_kind, cert_read, kinds, record_magic, records_read, versions}
+use Rattle.cert_file.specs.RecordFiles.{AreBlocksInLimits, AreBlocksReadAgain, blocks_form, blocks_kind, kinds, record_magic, records_read, versions}
 use Rattle.cert_file.specs.Rules.{any_rule}
 use Rattle.cert_file.proofs.StripColumns.{cols_are}
-use Rattle.cert_file.proofs.CutsAgain.{EndsAs, box_axis_spells, count_of, each_spells, head_spells, ruled_spells, then_ends, value_ends}
+use Rattle.cert_file.proofs.CutsAgain.{IsFileOf, box_axis_spells, count_of, each_spells, file_again, head_spells, ruled_spells, then_ends, value_ends}
 use Rattle.cert_file.proofs.NumberLists.{spells_all_16, spells_all_32}
 use Rattle.cert_file.proofs.Readings.{ruled}
 use Rattle.cert_file.proofs.RecordReading.{chain_to_end, value_at_end}
@@ -187,20 +186,20 @@ blocks_spell head blocks lawful wide =
     (λ i d lt. block_spells (block_cells (take i blocks)) (get_or blocks i d) (lawful.form.each i d lt) (wide i d lt) (omega (arith, cells_up_to blocks i d lt, lawful.cells)))
 
 -- the whole file
-pub blocks_again : (head : Head) (blocks : List BlockRecord) → AreBlocksReadAgain head blocks
-blocks_again head blocks lawful wide =
+pub blocks_end : (head : Head) (blocks : List BlockRecord) → AreBlocksInLimits head blocks → All IsWideBlock blocks → IsFileOf (blocks_form head blocks) (Blocks head blocks)
+blocks_end head blocks lawful wide =
     let value = Blocks head blocks in
     let h = head_form record_magic blocks_kind head in
     let n = field_32 (length blocks) in
     let c = flat_map block_form blocks in
     let all : h ++ (n ++ (c ++ [])) ≡ blocks_form head blocks = ap (λ t. h ++ (n ++ t)) (append-nil c) ∙ sym (append_assoc h n c) in
-    let read : EndsAs (chain_to_end (head_read record_magic versions kinds) (λ head. records_read head.1 head.0)) (h ++ (n ++ (c ++ []))) value =
+    let read : IsFileOf (h ++ (n ++ (c ++ []))) value =
     then_ends (head_read record_magic versions kinds) (λ head. records_read head.1 head.0) h (n ++ (c ++ [])) (head, blocks_kind) value
     (head_spells blocks_kind head lawful.form.head_is (subst (λ v. IsKind kinds v blocks_kind) (sym lawful.form.version) refl))
     (then_ends (number_read w32 any_rule) (λ n. chain_to_end (blocks_read n) (λ blocks. value_at_end (Blocks head blocks))) n (c ++ []) (length blocks) value
     (spells_32 any_rule (length blocks) (length blocks) lawful.form.count (λ at. refl))
     (then_ends (blocks_read (length blocks)) (λ blocks. value_at_end (Blocks head blocks)) c [] blocks value (blocks_spell head blocks lawful wide) (value_ends value))) in
-    let bytes = h ++ (n ++ (c ++ [])) in
-    let whole : StandsAt 0 bytes bytes = record { is = sym (take_all (length bytes) bytes (omega arith)); within = omega arith } in
-    let end : length bytes ≡ 0 + length bytes = omega arith in
-    subst (λ bytes. cert_read bytes ≡ Ok value) all (read 0 bytes whole end)
+    subst (λ bytes. IsFileOf bytes value) all read
+
+pub blocks_again : (head : Head) (blocks : List BlockRecord) → AreBlocksReadAgain head blocks
+blocks_again head blocks lawful wide = file_again (blocks_form head blocks) (Blocks head blocks) (blocks_end head blocks lawful wide)

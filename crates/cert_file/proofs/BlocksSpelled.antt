@@ -27,11 +27,11 @@ use Rattle.cert_file.specs.BlockForms.{block_form, block_size_field, boundary_fo
 use Rattle.cert_file.specs.BlockReading.{block_read, block_size_read, block_start_read, boundary_read, cols_rule, flags_rule, has_left, has_top, left_read, side_read, spot_read, spot_rule, top_read}
 use Rattle.quilt.specs.Blocks.{block_cells}
 use Rattle.cert_file.specs.CutReading.{box_axis_rule, box_cells_rule, number_of_two}
-use Rattle.cert_file.specs.RecordFiles.{AreBlocksSpelled, blocks_form, blocks_kind, kinds, record_magic, records_read, versions}
+use Rattle.cert_file.specs.RecordFiles.{AreBlocksSpelled, blocks_form, blocks_kind, cert_form, kinds, record_magic, records_read, versions}
 use Rattle.cert_file.specs.Rules.{any_rule}
 use Rattle.cert_file.proofs.StripColumns.{cols_are}
 use Rattle.cert_file.proofs.BlocksAgain.{there}
-use Rattle.cert_file.proofs.ByKind.{blocks_only, spelling}
+use Rattle.cert_file.proofs.ByKind.{blocks_only}
 use Rattle.cert_file.proofs.CutsSpelled.{box_axis_code, each_count, each_stood, two, whole_stood}
 
 -- a place in frame 0
@@ -235,4 +235,4 @@ blocks_spelled bytes head blocks small is =
     let r = each_stood read block_form (λ front. block_stood (block_cells front)) p.count.0 p.count.1 bytes p.blocks.0 p.blocks.1 small n.within p.blocks_are in
     let all = both_stood 0 p.count.1 p.blocks.1 (head_form record_magic blocks_kind top ++ field_32 (length p.blocks.0)) (flat_map block_form p.blocks.0) bytes
     (both_stood 0 a.x.1 p.count.1 (head_form record_magic blocks_kind top) (field_32 (length p.blocks.0)) bytes h n') r in
-    whole_stood (blocks_form top p.blocks.0) bytes p.blocks.1 all p.ends ∙ ap spelling p.value_is
+    whole_stood (blocks_form top p.blocks.0) bytes p.blocks.1 all p.ends ∙ ap cert_form p.value_is

@@ -19,7 +19,7 @@ use Rattle.cert_file.specs.declared.file.CertFile.TheVariants.{Blocks, Cuts, Wal
 use Rattle.cert_file.specs.declared.walk_fields.WalkStart.{WalkStart}
 use Rattle.cert_file.specs.BlockReading.{blocks_read}
 use Rattle.cert_file.specs.CutReading.{cuts_read}
-use Rattle.cert_file.specs.RecordFiles.{blocks_file_read, blocks_form, cuts_file_read, cuts_form, kinds, records_read, walk_file_form}
+use Rattle.cert_file.specs.RecordFiles.{blocks_file_read, cuts_file_read, kinds, records_read}
 use Rattle.cert_file.specs.Rules.{any_rule, end_rule}
 use Rattle.cert_file.specs.WalkForms.{table_entries, frames_of}
 use Rattle.cert_file.specs.WalkReading.{few_frames_read, frames_rule, walk_file_read, walk_start_read}
@@ -138,9 +138,3 @@ walk_only kind head at bytes top taps gap walk tables kind_is =
     (λ so. absurd (cuts_no_walk head top _ taps gap walk tables (cuts_parts head at bytes value so).value_is))
     (λ so. absurd (blocks_no_walk head top _ taps gap walk tables (blocks_parts head at bytes value so).value_is))
     (λ so. (refl, walk_parts head at bytes value so))
-
--- the spelling of a value
-abbrev pub spelling : CertFile → List ℕ
-spelling (Cuts head cuts) = cuts_form head cuts
-spelling (Blocks head blocks) = blocks_form head blocks
-spelling (Walk head taps gap walk tables) = walk_file_form head taps gap walk tables

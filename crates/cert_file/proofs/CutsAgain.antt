@@ -35,11 +35,13 @@ use Rattle.source_map.proofs.HeadsAgain.{sizes_spell, start_spells}
 use Rattle.source_map.proofs.MapWriting.{one_place}
 use Rattle.source_map.proofs.MapsAgain.{part_ok, stock_there, there_spells}
 use Rattle.source_map.proofs.PartLaws.{part_is}
+use Rattle.cert_file.specs.declared.file.CertFile.{CertFile}
 use Rattle.cert_file.specs.declared.file.CertFile.TheVariants.{Cuts}
 use Rattle.cert_file.specs.CutForms.{HasShortFlows, IsBoxSize, IsCutInForm, IsShortFlow, box_size_field, choice_field, cut_form, flow_field, from_field, signed_field}
 use Rattle.cert_file.specs.CutReading.{box_axis_rule, box_cells, box_cells_rule, box_size_read, choice_read, choice_rule, corner_rule, cut_read, cuts_read, each_read, flow_read, flow_rule, from_read, number_of_two, part_read}
 use Rattle.cert_file.specs.RecordFiles.{AreCutsInLimits, AreReadAgain, cert_read, cuts_form, cuts_kind, kinds, record_magic, records_read, versions}
-use Rattle.cert_file.specs.Rules.{any_rule}
+use Rattle.cert_file.specs.Rules.{any_rule, end_rule}
+use Rattle.source_map.proofs.Spelled.{peel, same_value}
 use Rattle.cert_file.proofs.ChoiceBits.{bits_taken, bits_unused}
 use Rattle.cert_file.proofs.Readings.{ruled}
 use Rattle.cert_file.proofs.RecordReading.{chain_to_end, value_at_end}
@@ -249,34 +251,63 @@ cuts_kind_is : (version : Version) → IsKind kinds version cuts_kind
 cuts_kind_is One = refl
 cuts_kind_is Two = refl
 
--- wherever the piece ends the bytes, the value is read
-abbrev pub EndsAs : {A : Type 0} → (ℕ → List ℕ → Result A ReadError) → List ℕ → A → Type 0
-EndsAs read piece x = (at : ℕ) (bytes : List ℕ) → StandsAt at piece bytes → length bytes ≡ at + length piece → read at bytes ≡ Ok x
+-- wherever the piece stands, its value is read where it ends the bytes, and no other value is read
+pub record EndsAs {A : Type 0} (read : ℕ → List ℕ → Result A ReadError) (piece : List ℕ) (x : A) : Type 0 where
+  pub whole : (at : ℕ) (bytes : List ℕ) → StandsAt at piece bytes → length bytes ≡ at + length piece → read at bytes ≡ Ok x
+  pub alone : (at : ℕ) (bytes : List ℕ) (other : A) → StandsAt at piece bytes → read at bytes ≡ Ok other → x ≡ other
 
 pub then_ends : {A B : Type 0} (first : ℕ → List ℕ → Result (A × ℕ) ReadError) (second : A → ℕ → List ℕ → Result B ReadError) (p q : List ℕ) (x : A) (y : B)
     → Spells first p x → EndsAs (second x) q y → EndsAs (chain_to_end first second) (p ++ q) y
-then_ends first second p q x y one two at bytes stands end =
-    let parts = stands_split at p q bytes stands in
-    ap (λ r. r >>= λ z. second z.0 z.1 bytes) (one at bytes parts.0) ∙ two (at + length p) bytes parts.1 (omega (arith, end, length-append p q))
+then_ends {B = B} first second p q x y one two = record { whole = whole; alone = alone }
+  where
+    both : (at : ℕ) (bytes : List ℕ) → StandsAt at (p ++ q) bytes → chain_to_end first second at bytes ≡ second x (at + length p) bytes
+    both at bytes stands = ap (λ r. r >>= λ z. second z.0 z.1 bytes) (one at bytes (stands_split at p q bytes stands).0)
+
+    whole : (at : ℕ) (bytes : List ℕ) → StandsAt at (p ++ q) bytes → length bytes ≡ at + length (p ++ q) → chain_to_end first second at bytes ≡ Ok y
+    whole at bytes stands end =
+        both at bytes stands ∙ two.whole (at + length p) bytes (stands_split at p q bytes stands).1 (omega (arith, end, length-append p q))
+
+    alone : (at : ℕ) (bytes : List ℕ) (other : B) → StandsAt at (p ++ q) bytes → chain_to_end first second at bytes ≡ Ok other → y ≡ other
+    alone at bytes other stands is = two.alone (at + length p) bytes other (stands_split at p q bytes stands).1 (sym (both at bytes stands) ∙ is)
 
 pub value_ends : {A : Type 0} (x : A) → EndsAs (value_at_end x) [] x
-value_ends x at bytes stands end = let here : nat_le (length bytes) at ≡ true = le-leb (length bytes) at (omega (arith, end)) in rw here refl
+value_ends {A = A} x = record { whole = whole; alone = alone }
+  where
+    whole : (at : ℕ) (bytes : List ℕ) → StandsAt at [] bytes → length bytes ≡ at + 0 → value_at_end x at bytes ≡ Ok x
+    whole at bytes stands end = let here : nat_le (length bytes) at ≡ true = le-leb (length bytes) at (omega (arith, end)) in rw here refl
 
--- the whole file
-pub cuts_again : (head : Head) (cuts : List CutRecord) → AreReadAgain head cuts
-cuts_again head cuts lawful short =
+    alone : (at : ℕ) (bytes : List ℕ) (other : A) → StandsAt at [] bytes → value_at_end x at bytes ≡ Ok other → x ≡ other
+    alone at bytes other stands is = same_value x other (peel {A = Unit {0}} {C = A} (end_rule at bytes) (λ end. Ok x) other is).two
+
+-- a whole file
+abbrev pub IsFileOf : List ℕ → CertFile → Type 0
+IsFileOf piece value = EndsAs (chain_to_end (head_read record_magic versions kinds) (λ head. records_read head.1 head.0)) piece value
+
+pub file_again : (bytes : List ℕ) (value : CertFile) → IsFileOf bytes value → cert_read bytes ≡ Ok value
+file_again bytes value is =
+    let whole : StandsAt 0 bytes bytes = record { is = sym (take_all (length bytes) bytes (omega arith)); within = omega arith } in
+    is.whole 0 bytes whole (omega arith)
+
+pub file_alone : (piece more : List ℕ) (value other : CertFile) → IsFileOf piece value → cert_read (piece ++ more) ≡ Ok other → value ≡ other
+file_alone piece more value other is read =
+    let bytes = piece ++ more in
+    let whole : StandsAt 0 bytes bytes = record { is = sym (take_all (length bytes) bytes (omega arith)); within = omega arith } in
+    is.alone 0 bytes other (stands_split 0 piece more bytes whole).0 read
+
+pub cuts_end : (head : Head) (cuts : List CutRecord) → AreCutsInLimits head cuts → All HasShortFlows cuts → IsFileOf (cuts_form head cuts) (Cuts head cuts)
+cuts_end head cuts lawful short =
     let form = cut_form head.version head.samples in
     let value = Cuts head cuts in
     let h = head_form record_magic cuts_kind head in
     let n = field_32 (length cuts) in
     let c = flat_map form cuts in
     let all : h ++ (n ++ (c ++ [])) ≡ cuts_form head cuts = ap (λ t. h ++ (n ++ t)) (append-nil c) ∙ sym (append_assoc h n c) in
-    let read : EndsAs (chain_to_end (head_read record_magic versions kinds) (λ head. records_read head.1 head.0)) (h ++ (n ++ (c ++ []))) value =
+    let read : IsFileOf (h ++ (n ++ (c ++ []))) value =
     then_ends (head_read record_magic versions kinds) (λ head. records_read head.1 head.0) h (n ++ (c ++ [])) (head, cuts_kind) value (head_spells cuts_kind head lawful.form.head_is (cuts_kind_is head.version))
     (then_ends (number_read w32 any_rule) (λ n. chain_to_end (cuts_read head.version head.samples n) (λ cuts. value_at_end (Cuts head cuts))) n (c ++ []) (length cuts) value
     (spells_32 any_rule (length cuts) (length cuts) lawful.form.count (λ at. refl))
     (then_ends (cuts_read head.version head.samples (length cuts)) (λ cuts. value_at_end (Cuts head cuts)) c [] cuts value (cuts_spell head cuts lawful short) (value_ends value))) in
-    let bytes = h ++ (n ++ (c ++ [])) in
-    let whole : StandsAt 0 bytes bytes = record { is = sym (take_all (length bytes) bytes (omega arith)); within = omega arith } in
-    let end : length bytes ≡ 0 + length bytes = omega arith in
-    subst (λ bytes. cert_read bytes ≡ Ok value) all (read 0 bytes whole end)
+    subst (λ bytes. IsFileOf bytes value) all read
+
+pub cuts_again : (head : Head) (cuts : List CutRecord) → AreReadAgain head cuts
+cuts_again head cuts lawful short = file_again (cuts_form head cuts) (Cuts head cuts) (cuts_end head cuts lawful short)

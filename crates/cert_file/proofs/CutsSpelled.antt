@@ -36,10 +36,10 @@ use Rattle.cert_file.specs.declared.file.CertFile.{CertFile}
 use Rattle.cert_file.specs.declared.file.CertFile.TheVariants.{Cuts}
 use Rattle.cert_file.specs.CutForms.{box_size_field, choice_bytes, choice_field, cut_form, flow_field, from_field}
 use Rattle.cert_file.specs.CutReading.{bits_of, box_axis_rule, box_cells, box_cells_rule, box_size_read, choice_read, choice_rule, corner_rule, cut_read, each_read, flow_read, flow_rule, from_read, none_set, number_of_two}
-use Rattle.cert_file.specs.RecordFiles.{AreSpelled, cuts_form, cuts_kind, kinds, record_magic, records_read, versions}
+use Rattle.cert_file.specs.RecordFiles.{AreSpelled, cert_form, cuts_form, cuts_kind, kinds, record_magic, records_read, versions}
 use Rattle.cert_file.specs.Rules.{any_rule}
 use Rattle.cert_file.proofs.ChoiceSpelled.{choice_spelled}
-use Rattle.cert_file.proofs.ByKind.{cuts_only, spelling}
+use Rattle.cert_file.proofs.ByKind.{cuts_only}
 
 -- a number of two bytes is spelled by them
 pub two : (a b : ℕ) → a < 256 → b < 256 → field_16 (from_be_bytes w16 (a ∷ b ∷ [])) ≡ a ∷ b ∷ []
@@ -222,4 +222,4 @@ cuts_spelled bytes head cuts small is =
     let r = each_stood read form (λ front. cut_stood top.version top.samples (box_cells front)) p.count.0 p.count.1 bytes p.cuts.0 p.cuts.1 small n.within p.cuts_are in
     let all = both_stood 0 p.count.1 p.cuts.1 (head_form record_magic cuts_kind top ++ field_32 (length p.cuts.0)) (flat_map form p.cuts.0) bytes
     (both_stood 0 a.x.1 p.count.1 (head_form record_magic cuts_kind top) (field_32 (length p.cuts.0)) bytes h n') r in
-    whole_stood (cuts_form top p.cuts.0) bytes p.cuts.1 all p.ends ∙ ap spelling p.value_is
+    whole_stood (cuts_form top p.cuts.0) bytes p.cuts.1 all p.ends ∙ ap cert_form p.value_is

@@ -15,3 +15,4 @@ pub mod BlocksAgain
 pub mod BlocksSpelled
 pub mod VersionOne
 pub mod StripColumns
+pub mod NoPrefix

@@ -1,7 +1,7 @@
 -- A walk record that is spelled is read again.
 use Rattle.std.proofs.Common.{◌≡◌, true, false, ℕ, ◌+◌, ◌≤◌, List, [], ◌∷◌, ◌++◌, length, refl, sym, ap, ◌∙◌, subst, append_assoc, arith}
 use Rattle.std.proofs.lemmas.Bool.{le-leb, lt-leb}
-use Rattle.std.proofs.lemmas.List.{append-nil, take_all}
+use Rattle.std.proofs.lemmas.List.{append-nil}
 use Rattle.std.specs.Bool.{nat_eq}
 use Rattle.std.specs.Int.{w8, w16, w32, w64}
 use Rattle.std.specs.Prelude.{Result, Ok, nat_le, nat_lt}
@@ -9,7 +9,6 @@ use Rattle.shelf_core.specs.declared.fault.ReadError.{ReadError}
 use Rattle.cells.specs.declared.place.Taps.{Taps}
 use Rattle.cells.specs.declared.place.Taps.TheVariants.{Four, None0, Two}
 use Rattle.file_bytes.specs.Fields.{field_16, field_32, fields_16, fields_64}
-use Rattle.file_bytes.specs.Reading.{StandsAt}
 use Rattle.source_map.specs.declared.head.Head.{Head}
 use Rattle.source_map.specs.Heads.{IsKind, head_form, head_read}
 use Rattle.source_map.specs.Readings.{list_read, number_read}
@@ -17,11 +16,11 @@ use Rattle.source_map.proofs.Again.{Spells, alone_spells, not_equal, spells_16, 
 use Rattle.source_map.proofs.FieldLaws.{chain, value_alone}
 use Rattle.cert_file.specs.declared.file.CertFile.TheVariants.{Walk}
 use Rattle.cert_file.specs.declared.walk_fields.WalkStart.{WalkStart}
-use Rattle.cert_file.specs.RecordFiles.{IsWalkReadAgain, cert_read, kinds, record_magic, records_read, versions, walk_file_form, walk_kind}
+use Rattle.cert_file.specs.RecordFiles.{IsWalkReadAgain, kinds, record_magic, records_read, versions, walk_file_form, walk_kind}
 use Rattle.cert_file.specs.Rules.{any_rule}
-use Rattle.cert_file.specs.WalkForms.{table_entries, frames_of, taps_number, walk_form, walk_start_form}
+use Rattle.cert_file.specs.WalkForms.{AreWide, IsWalkInForm, table_entries, frames_of, taps_number, walk_form, walk_start_form}
 use Rattle.cert_file.specs.WalkReading.{few_frames_read, frames_rule, gap_rule, length_rule, taps_rule, walk_file_read, walk_start_read}
-use Rattle.cert_file.proofs.CutsAgain.{EndsAs, head_spells, ruled_spells, then_ends, value_ends}
+use Rattle.cert_file.proofs.CutsAgain.{EndsAs, IsFileOf, file_again, head_spells, ruled_spells, then_ends, value_ends}
 use Rattle.cert_file.proofs.NumberLists.{spells_all_16, spells_all_64}
 use Rattle.cert_file.proofs.RecordReading.{chain_to_end, value_at_end}
 
@@ -59,9 +58,10 @@ start_spells len taps gap len_lo len_hi gap_lo gap_hi =
     (then_spells rb (λ y. chain rc (end len y)) b (c ++ []) taps value (taps_spell taps)
     (then_spells rc (end len taps) c [] gap value (gap_spells gap gap_lo gap_hi) (alone_spells value))))
 
-pub walk_again : (head : Head) (taps : Taps) (gap : ℕ) (walk tables : List ℕ) → IsWalkReadAgain head taps gap walk tables
+pub walk_end : (head : Head) (taps : Taps) (gap : ℕ) (walk tables : List ℕ) → IsWalkInForm head gap walk tables → AreWide walk tables
+    → IsFileOf (walk_file_form head taps gap walk tables) (Walk head taps gap walk tables)
 unfolding walk_form
-walk_again head taps gap walk tables lawful wide =
+walk_end head taps gap walk tables lawful wide =
     let value = Walk head taps gap walk tables in
     let start : WalkStart = record { length = length walk; taps = taps; gap = gap } in
     let h = head_form record_magic walk_kind head in
@@ -85,10 +85,11 @@ walk_again head taps gap walk tables lawful wide =
     (start_spells (length walk) taps gap lawful.len.0 lawful.len.1 lawful.gap_from lawful.gap_to)
     (then_ends (read_walk (length walk)) (λ w. chain_to_end (read_tables (length walk)) (end start w)) a (b ++ []) walk value walk_is
     (then_ends (read_tables (length walk)) (end start walk) b [] tables value tables_are (value_ends value)))) in
-    let read : EndsAs (chain_to_end (head_read record_magic versions kinds) (λ head. records_read head.1 head.0)) (h ++ (s ++ (a ++ (b ++ [])))) value =
+    let read : IsFileOf (h ++ (s ++ (a ++ (b ++ [])))) value =
     then_ends (head_read record_magic versions kinds) (λ head. records_read head.1 head.0) h (s ++ (a ++ (b ++ []))) (head, walk_kind) value
     (head_spells walk_kind head lawful.head_is (subst (λ v. IsKind kinds v walk_kind) (sym lawful.version) refl)) body in
-    let bytes = h ++ (s ++ (a ++ (b ++ []))) in
-    let whole : StandsAt 0 bytes bytes = record { is = sym (take_all (length bytes) bytes (omega arith)); within = omega arith } in
-    let ends : length bytes ≡ 0 + length bytes = omega arith in
-    subst (λ bytes. cert_read bytes ≡ Ok value) all (read 0 bytes whole ends)
+    subst (λ bytes. IsFileOf bytes value) all read
+
+pub walk_again : (head : Head) (taps : Taps) (gap : ℕ) (walk tables : List ℕ) → IsWalkReadAgain head taps gap walk tables
+walk_again head taps gap walk tables lawful wide =
+    file_again (walk_file_form head taps gap walk tables) (Walk head taps gap walk tables) (walk_end head taps gap walk tables lawful wide)

@@ -20,12 +20,12 @@ use Rattle.source_map.proofs.Spelled.{Spelled, Stood, both_stood, ended, field_s
 use Rattle.cert_file.specs.declared.file.CertFile.{CertFile}
 use Rattle.cert_file.specs.declared.file.CertFile.TheVariants.{Walk}
 use Rattle.cert_file.specs.declared.walk_fields.WalkStart.{WalkStart}
-use Rattle.cert_file.specs.RecordFiles.{IsWalkSpelled, kinds, record_magic, records_read, versions, walk_file_form, walk_kind}
+use Rattle.cert_file.specs.RecordFiles.{IsWalkSpelled, cert_form, kinds, record_magic, records_read, versions, walk_file_form, walk_kind}
 use Rattle.cert_file.specs.Rules.{any_rule}
 use Rattle.cert_file.specs.WalkForms.{table_entries, taps_number, walk_form, walk_start_form}
 use Rattle.cert_file.specs.WalkReading.{gap_rule, length_rule, taps_rule, walk_start_read}
 use Rattle.cert_file.proofs.CutsSpelled.{whole_stood}
-use Rattle.cert_file.proofs.ByKind.{walk_only, spelling}
+use Rattle.cert_file.proofs.ByKind.{walk_only}
 
 length_code : (at n x : ℕ) → length_rule at n ≡ Ok x → n ≡ x
 length_code at n x is =
@@ -89,4 +89,4 @@ walk_spelled bytes head taps gap walk tables small is =
     let f3 = fields_64 p.tables.0 in
     let body = both_stood a.x.1 p.walk.1 p.tables.1 (f1 ++ f2) f3 bytes (both_stood a.x.1 p.start.1 p.walk.1 f1 f2 bytes start' frames) entries in
     let all = both_stood 0 a.x.1 p.tables.1 (head_form record_magic walk_kind top) (f1 ++ f2 ++ f3) bytes h body in
-    whole_stood (walk_file_form top s.taps s.gap p.walk.0 p.tables.0) bytes p.tables.1 all p.ends ∙ ap spelling p.value_is
+    whole_stood (walk_file_form top s.taps s.gap p.walk.0 p.tables.0) bytes p.tables.1 all p.ends ∙ ap cert_form p.value_is

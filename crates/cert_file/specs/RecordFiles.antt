@@ -92,6 +92,20 @@ IsCert (Cuts head cuts) = AreCutsInLimits head cuts
 IsCert (Blocks head blocks) = AreBlocksInLimits head blocks
 IsCert (Walk head taps gap walk tables) = IsWalkInForm head gap walk tables
 
+-- the one spelling of a value
+abbrev pub cert_form : CertFile → List ℕ
+cert_form (Cuts head cuts) = cuts_form head cuts
+cert_form (Blocks head blocks) = blocks_form head blocks
+cert_form (Walk head taps gap walk tables) = walk_file_form head taps gap walk tables
+
+-- a value that is spelled so that it is read again: within the limits, with numbers of as many bits as
+-- all in memory have
+abbrev pub HasSpelling : CertFile → Type 0
+HasSpelling (Cuts head cuts) = AreCutsInLimits head cuts × All HasShortFlows cuts
+HasSpelling (Blocks head blocks) = AreBlocksInLimits head blocks × All IsWideBlock blocks
+HasSpelling (Walk head taps gap walk tables) =
+    IsWalkInForm head gap walk tables × AreWide walk tables
+
 -- cut records, from behind a head to the end of the file
 abbrev pub cuts_file_read : Head → ℕ → List ℕ → Result CertFile ReadError
 cuts_file_read head at bytes =

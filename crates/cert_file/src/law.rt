@@ -1,12 +1,12 @@
 // What the form promises, whoever reads or writes.
-ghost use Rattle.std.specs.Prelude.{◌≡◌, ℕ, List};
+ghost use Rattle.std.specs.Prelude.{◌≡◌, ◌++◌, ℕ, List};
 ghost use Rattle.shelf_core.specs.declared.fault.ReadError.{ReadError};
 ghost use Rattle.cert_file.specs.declared.file.CertFile.{CertFile};
 ghost use Rattle.cells.specs.declared.place.Taps.{Taps};
 ghost use Rattle.cut_check.specs.declared.record.CutRecord.{CutRecord};
 ghost use Rattle.quilt.specs.declared.block.BlockRecord.{BlockRecord};
 ghost use Rattle.source_map.specs.declared.head.Head.{Head};
-ghost use Rattle.cert_file.specs.RecordFiles.{AreBlocksReadAgain, AreBlocksSpelled, AreReadAgain, AreSpelled, IsCertOf, IsReadByBoth, IsWalkReadAgain, IsWalkSpelled, RefusesCert};
+ghost use Rattle.cert_file.specs.RecordFiles.{AreBlocksReadAgain, AreBlocksSpelled, AreReadAgain, AreSpelled, HasSpelling, IsCertOf, IsReadByBoth, IsWalkReadAgain, IsWalkSpelled, RefusesCert, cert_form};
 
 /// Bytes stand for one value at most, have one refusal at most, and not both.
 pub fn one_reading()
@@ -50,6 +50,13 @@ pub fn walk_read_again()
 pub fn walk_has_one_spelling()
     ensures { (bytes : List ℕ) (head : Head) (taps : Taps) (gap : ℕ) (walk tables : List ℕ) →
         IsWalkSpelled bytes head taps gap walk tables }
+{}
+
+/// No spelling is a proper prefix of another: where bytes begin with the spelling of a value and are the
+/// spelling of one, the two values are equal.
+pub fn no_record_begins_another()
+    ensures { (first second : CertFile) (more : List ℕ) → HasSpelling first → HasSpelling second →
+        cert_form first ++ more ≡ cert_form second → first ≡ second }
 {}
 
 /// A reader of version 1 alone reads nothing else than one of all versions does, and cut records of

@@ -21,7 +21,8 @@ pub use file::{CertFile, read_cert, read_version_one_cuts, write_cuts};
 pub use items::Items;
 pub use law::{
     blocks_have_one_spelling, blocks_read_again, cuts_have_one_spelling, cuts_read_again,
-    one_reading, version_one_cuts_are_cuts, walk_has_one_spelling, walk_read_again,
+    no_record_begins_another, one_reading, version_one_cuts_are_cuts, walk_has_one_spelling,
+    walk_read_again,
 };
 pub use quilt::{BlockRecord, BoundaryRecord};
 pub use source_map::{Head, Version};

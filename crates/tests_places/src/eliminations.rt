@@ -1,36 +1,42 @@
 // Worked examples of block_sums: which places blocks of 2x2 cells rule out, and which only single cells do.
+ghost use Rattle.map_canvas.specs.Canvases.{StandsOver};
+
 use crate::rows::{assert_fits, canvas_over};
 use block_sums::{BoxLevels, Eliminated, Pauses, SampleSums};
 use cells::{At, Box3, Size, Volume};
-use map_canvas::Placement;
+use map_canvas::{Canvas, Placement};
 use std::alloc::{AllocError, Global};
 use std::process::Abort;
 use std::test::Fail;
 
 const FIRST: At = At { x: 0, y: 0, f: 0 };
 
-// What is ruled out for a limit over a canvas that is the first cells of a sample: of the places from the first one on.
+// What is ruled out for a limit over a canvas that is filled with the first cells of a sample: of the places from the first
+// one on.
 fn eliminated(
     rt: &impl Abort,
     alloc: Global,
+    canvas: &mut Canvas,
     sample: &Volume,
-    size: Size,
+    all: &[bool],
     limit: u64,
-) -> Result<Eliminated, AllocError> {
-    assert!(rt; size.w == size.h && size.w <= 9 && size.f == 1);
+) -> Result<Eliminated, AllocError>
+    requires { StandsOver canvas.old sample.now }
+{
+    let size = canvas.map().size();
     let rect = Box3 {
         corner: FIRST,
         size,
     };
     let placement = Placement { rect, from: FIRST };
-    let mut canvas = canvas_over(alloc, size, sample)?;
-    assert_fits(rt, &canvas, sample, &placement);
-    let all = [true; 81];
-    canvas.put_choice(sample, &placement, &all[..size.cells()]);
+    assert_fits(rt, canvas, sample, &placement);
+    assert!(rt; all.len() == size.cells());
+    canvas.put_choice(sample, &placement, all);
+    assert_fits(rt, canvas, sample, &placement);
     let sums = SampleSums::make(alloc, sample)?;
-    let levels = BoxLevels::gather(alloc, &canvas, &rect, &sums)?;
+    let levels = BoxLevels::gather(alloc, canvas, &rect, &sums)?;
     let mut pauses = Pauses::none();
-    Ok(levels.eliminate(&sums, &canvas, sample, &rect, 0, FIRST, limit, &mut pauses))
+    Ok(levels.eliminate(&sums, canvas, sample, &rect, 0, FIRST, limit, &mut pauses))
 }
 
 // A picture of 8x4 cells in which each cell is one more than that before it.
@@ -48,6 +54,9 @@ const BOARD: &[u8] = &[
 // Whether the places of a row from its first one on are covered up to a column, and from each so many are ruled out.
 fn are_gone(run: &Eliminated, covered: i32, limit: u64, gone: &[u32]) -> bool {
     for (x, count) in gone.iter().enumerate() {
+        if x >= 99 {
+            return false;
+        }
         let at = At {
             x: x as i32,
             y: 0,
@@ -65,7 +74,8 @@ fn are_gone(run: &Eliminated, covered: i32, limit: u64, gone: &[u32]) -> bool {
 fn places_of_a_sample(rt: HostRuntime) -> Result<(), Fail> {
     let bytes = Vec::from_slice(rt.alloc(), RISING)?;
     let sample = Volume::from_bytes(Size { w: 8, h: 4, f: 1 }, 1, bytes);
-    let run = eliminated(&rt, rt.alloc(), &sample, Size { w: 4, h: 4, f: 1 }, 64)?;
+    let mut canvas = canvas_over(rt.alloc(), Size { w: 4, h: 4, f: 1 }, &sample)?;
+    let run = eliminated(&rt, rt.alloc(), &mut canvas, &sample, &[true; 16], 64)?;
     assert!(rt; are_gone(&run, 5, 64, &[0, 0, 0, 2, 1, 0, 0, 0]));
     assert!(rt; are_gone(&run, 5, 65, &[0; 8]));
     Ok(())
@@ -78,7 +88,8 @@ const EVERY_OTHER: &[u32] = &[0, 1, 0, 1, 0, 1, 0, 1, 0, 1, 0, 1, 0, 1, 0, 1, 0,
 fn places_told_by_single_cells(rt: HostRuntime) -> Result<(), Fail> {
     let bytes = Vec::from_slice(rt.alloc(), BOARD)?;
     let sample = Volume::from_bytes(Size { w: 20, h: 2, f: 1 }, 1, bytes);
-    let run = eliminated(&rt, rt.alloc(), &sample, Size { w: 2, h: 2, f: 1 }, 30_000)?;
+    let mut canvas = canvas_over(rt.alloc(), Size { w: 2, h: 2, f: 1 }, &sample)?;
+    let run = eliminated(&rt, rt.alloc(), &mut canvas, &sample, &[true; 4], 30_000)?;
     assert!(rt; are_gone(&run, 19, 30_000, EVERY_OTHER));
     Ok(())
 }

@@ -1,12 +1,12 @@
 // Worked examples of patch_place: the first draws of two seeds, as another program gives them, the lists of
 // small samples and outputs, and steps over a row.
-ghost use Rattle.std.specs.Prelude.{◌≡◌, ◌<◌, ◌≤◌, ◌+◌, IfOk, IsTrue};
+ghost use Rattle.std.specs.Prelude.{◌≡◌, ◌<◌, ◌≤◌, ◌+◌, All, IfOk, IsTrue};
 ghost use Rattle.cells.specs.Cells.{blank};
 ghost use Rattle.cells.specs.Places.{IsInside, IsSmall, cell_count};
 ghost use Rattle.map_canvas.specs.Canvases.{StandsOver};
-ghost use Rattle.patch_place.specs.Fitting.{HasPatch};
+ghost use Rattle.patch_place.specs.Fitting.{FitsAndCovers, HasPatch};
 ghost use Rattle.patch_place.specs.Lists.{IsWithin};
-ghost use Rattle.patch_place.specs.Picks.{AllFit, HasEntries};
+ghost use Rattle.patch_place.specs.Picks.{AllFit, HasEntries, listed_on};
 
 use crate::rows::{greys, row_of, two_parts};
 use cells::{At, Box3, PartPlace, Size, Volume};
@@ -163,6 +163,9 @@ fn are_listed(list: &Candidates, output: Size, sample: &Volume, expected: &[Row]
     requires within { IsWithin list.now output }
 {
     for (i, row) in expected.iter().enumerate() {
+        if i >= 99 {
+            return false;
+        }
         let n = i as u32;
         if n >= list.count(output, sample) || list.entry(n, output, sample) != picture(row) {
             return false;
@@ -412,6 +415,8 @@ fn candidates_for(mode: &Mode, q: At, canvas: &Canvas, sample: &Volume) -> Candi
     requires inside { IsInside canvas.now.map.size q }
     ensures within { IsWithin result canvas.now.map.size }
     ensures some { HasEntries canvas.now sample.now result }
+    ensures over { All (FitsAndCovers canvas.now.map.size sample.now q)
+        (listed_on canvas.now sample.now result) }
     ensures fit { AllFit canvas.now sample.now result }
 {
     mode.candidates(q, canvas.map().size(), sample)

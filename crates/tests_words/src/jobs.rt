@@ -3,7 +3,6 @@ use job_words::{
     GrowJob, Job, Key, LoopJob, Name, Place, QuiltJob, Taps, UpgradeJob, WordFault, Words, read_job,
 };
 use std::alloc::{AllocError, Global};
-use std::test::Fail;
 
 fn words_of(alloc: Global, words: &[&str]) -> Result<Words, AllocError> {
     let mut list = Words::new(alloc);
@@ -129,14 +128,6 @@ fn long_numbers_out_of_range(rt: HostRuntime) {
     assert!(rt; fault == Some(WordFault::OutOfRange(2)));
 }
 
-// The job of words.
-fn job(alloc: Global, words: &[&str]) -> Result<Job, Fail> {
-    match read(alloc, words) {
-        Ok(job) => Ok(job),
-        Err(_) => Err(Fail::from("refused")),
-    }
-}
-
 // A height of 7, with 399 zeros before it.
 const SEVEN: &str = "height=\
     00000000000000000000000000000000000000000000000000000000000000000000000000000000\
@@ -226,6 +217,14 @@ fn is_asked(job: &Job, grown: &Grown) -> bool {
     }
 }
 
+// Whether words are read as a job that has what they say.
+fn is_read(alloc: Global, words: &[&str], grown: &Grown) -> bool {
+    match read(alloc, words) {
+        Ok(job) => is_asked(&job, grown),
+        Err(_) => false,
+    }
+}
+
 const DEFAULTS: Grown<'static> = Grown {
     sample: "a",
     more: &[],
@@ -261,7 +260,7 @@ const WHOLE: Grown<'static> = Grown {
 };
 
 #[test]
-fn defaults(rt: HostRuntime) -> Result<(), Fail> {
+fn defaults(rt: HostRuntime) {
     let words = [
         "grow",
         "width=4096",
@@ -271,12 +270,11 @@ fn defaults(rt: HostRuntime) -> Result<(), Fail> {
         "sample=a",
         "out=place",
     ];
-    assert!(rt; is_asked(&job(rt.alloc(), &words)?, &DEFAULTS));
-    Ok(())
+    assert!(rt; is_read(rt.alloc(), &words, &DEFAULTS));
 }
 
 #[test]
-fn all_keys(rt: HostRuntime) -> Result<(), Fail> {
+fn all_keys(rt: HostRuntime) {
     let words = [
         "grow",
         "seed=18446744073709551615",
@@ -295,29 +293,25 @@ fn all_keys(rt: HostRuntime) -> Result<(), Fail> {
         "sample=a",
         "sample2=b",
     ];
-    assert!(rt; is_asked(&job(rt.alloc(), &words)?, &WHOLE));
-    Ok(())
+    assert!(rt; is_read(rt.alloc(), &words, &WHOLE));
 }
 
 #[test]
-fn defaults_of_quilts(rt: HostRuntime) -> Result<(), Fail> {
+fn defaults_of_quilts(rt: HostRuntime) {
     let words = [
         "quilt", "sample=a", "height=2", "out=o", "map=m", "record=r", "width=3",
     ];
-    assert!(rt; is_asked(&job(rt.alloc(), &words)?, &DEFAULTS));
-    Ok(())
+    assert!(rt; is_read(rt.alloc(), &words, &DEFAULTS));
 }
 
 #[test]
-fn defaults_of_loops(rt: HostRuntime) -> Result<(), Fail> {
+fn defaults_of_loops(rt: HostRuntime) {
     let words = ["loop", "sample=a", "out=o", "map=m", "record=r", "length=7"];
-    assert!(rt; is_asked(&job(rt.alloc(), &words)?, &DEFAULTS));
-    Ok(())
+    assert!(rt; is_read(rt.alloc(), &words, &DEFAULTS));
 }
 
 #[test]
-fn files_of_upgrades(rt: HostRuntime) -> Result<(), Fail> {
+fn files_of_upgrades(rt: HostRuntime) {
     let words = ["upgrade", "newrecord=d", "newmap=c", "record=b", "map=a"];
-    assert!(rt; is_asked(&job(rt.alloc(), &words)?, &DEFAULTS));
-    Ok(())
+    assert!(rt; is_read(rt.alloc(), &words, &DEFAULTS));
 }

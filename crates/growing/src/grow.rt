@@ -12,8 +12,8 @@ use crate::steps::{Work, begin, refine_step, step};
 use block_sums::SampleSums;
 use cells::Volume;
 use items::Items;
-use patch_place::{Mode, window_size};
-use seam_cost::SeamTable;
+use patch_place::Mode;
+use refine_seams::round_windows;
 use std::alloc::Global;
 
 // Whether the run picks among the places of a box: in mode `Sub`, and in rounds. Then it goes by the sums of the
@@ -59,8 +59,7 @@ fn refine_all(
     if plan.rounds == 0 {
         return Ok(());
     }
-    let window = window_size(plan.side, work.canvas.map().size(), sample);
-    let mut table = SeamTable::make(alloc, &work.canvas, sample, window)?;
+    let mut table = round_windows(alloc, &work.canvas, sample, plan.side)?;
     let mut more = true;
     'refining: while more && work.rounds < plan.rounds {
         more = refine_step(alloc, plan, sample, sums, work, &mut table)?;

@@ -11,4 +11,4 @@ mod laws;
 mod rounds;
 
 pub use laws::there_is_one_round;
-pub use rounds::{round, round_with};
+pub use rounds::{round, round_windows, round_with};

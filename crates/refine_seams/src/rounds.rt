@@ -1,5 +1,5 @@
 // Rounds of refinement.
-ghost use Rattle.std.specs.Prelude.{◌≡◌, ◌≤◌, IfSome};
+ghost use Rattle.std.specs.Prelude.{◌≡◌, ◌≤◌, IfOk, IfSome};
 ghost use Rattle.cells.specs.Boxes.{HasCells};
 ghost use Rattle.map_canvas.specs.Canvases.{IsCanvas, StandsOver};
 ghost use Rattle.map_canvas.specs.Maps.{IsFull};
@@ -32,6 +32,23 @@ fn worst_box(canvas: &Canvas, sample: &Volume, side: u32, table: &SeamTable) -> 
         corner: worst.corner,
         size: window_size(side, canvas.map().size(), sample),
     })
+}
+
+/// The sums of all windows by which the rounds of a side go: of the size that `window_size` gives. The one error is
+/// out of memory.
+pub fn round_windows(
+    alloc: Global,
+    canvas: &Canvas,
+    sample: &Volume,
+    side: u32,
+) -> Result<SeamTable, AllocError>
+    requires over { StandsOver canvas.now sample.now }
+    requires side { 1 ≤ side }
+    ensures { IfOk result (SumsWindowsOf side canvas.now.map sample.now) }
+{
+    let window = window_size(side, canvas.map().size(), sample);
+    let table = SeamTable::make(alloc, canvas, sample, window)?;
+    Ok(table)
 }
 
 /// One round of refinement: the window of a side whose seams cost the most is laid anew. Among all places of

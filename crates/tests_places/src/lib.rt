@@ -20,4 +20,6 @@ mod placements;
 #[cfg(test)]
 mod quilts;
 #[cfg(test)]
+mod rounds;
+#[cfg(test)]
 mod rows;

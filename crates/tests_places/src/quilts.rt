@@ -3,7 +3,9 @@ ghost use Rattle.std.specs.Prelude.{◌≤◌};
 
 use crate::rows::greys;
 use cells::{At, Size};
-use quilt::QuiltPlan;
+use map_canvas::Canvas;
+use patch_place::Draws;
+use quilt::{QuiltPlan, empty_map_is_laid, next_block};
 use quilting::{QuiltRun, quilt_canvas};
 use std::alloc::{AllocError, Global};
 use std::process::Abort;
@@ -65,5 +67,28 @@ fn rows(rt: HostRuntime) -> Result<(), Fail> {
         tol: 10,
     };
     expect_row(&rt, rt.alloc(), halves, &[0, 1, 0, 1, 2, 3], 2, 1, 1200)?;
+    Ok(())
+}
+
+// The first block covers the row, with no boundary, by the first draw; then the row is full.
+#[test]
+fn one_block(rt: HostRuntime) -> Result<(), Fail> {
+    let alloc = rt.alloc();
+    let sample = greys(alloc)?;
+    let plan = QuiltPlan {
+        block: 8,
+        overlap: 5,
+        tol: 10,
+    };
+    empty_map_is_laid();
+    let mut canvas = Canvas::empty(alloc, Size { w: 4, h: 1, f: 1 }, sample.samples())?;
+    let mut draws = Draws::from_seed(0);
+    let block = next_block(alloc, &plan, &mut canvas, &sample, &mut draws)?;
+    let alone = block.map(|block| block.left.is_none() && block.top.is_none());
+    assert!(rt; alone == Some(true));
+    assert!(rt; draws.place() == 1);
+    let more = next_block(alloc, &plan, &mut canvas, &sample, &mut draws)?;
+    assert!(rt; more.is_none());
+    assert!(rt; canvas.first_unfilled().is_none() && draws.place() == 1);
     Ok(())
 }

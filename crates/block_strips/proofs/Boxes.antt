@@ -9,10 +9,10 @@ use Rattle.cells.specs.Boxes.{AxisHolds, HasCells, IsInBox}
 use Rattle.cells.specs.Places.{IsInside, index_in, minus, spot}
 use Rattle.cells.proofs.BoxTests.{inside_of, of_inside, on_axis_bounds, on_axis_some}
 use Rattle.cells.proofs.Raster.{has_index, index_of_spot, index_parts}
-use Rattle.patch_place.specs.Axes.{SpanFits}
-use Rattle.patch_place.proofs.Spans.{grid_fits}
+use Rattle.spans.specs.Axes.{SpanFits}
+use Rattle.spans.proofs.Spans.{grid_fits}
+use Rattle.spans.specs.declared.axis.Span.{Span}
 use Rattle.block_strips.specs.declared.plan.QuiltPlan.{QuiltPlan}
-use Rattle.patch_place.specs.declared.axis.Span.{Span}
 use Rattle.block_strips.specs.Blocks.{FitsBlock, block_at, block_len, block_on, box_of}
 
 -- the box of one frame at a column and a row, with so many of both

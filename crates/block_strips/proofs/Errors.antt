@@ -11,7 +11,7 @@ use Rattle.cells.proofs.Raster.{index_of_spot}
 use Rattle.map_canvas.specs.declared.canvas.Placement.{Placement}
 use Rattle.map_canvas.specs.Canvases.{CanvasState, IsCanvas}
 use Rattle.map_canvas.specs.Choices.{Fits, new_source}
-use Rattle.match_error.specs.Errors.{box_spot}
+use Rattle.map_canvas.specs.CellErrors.{box_spot}
 use Rattle.strip_boundary.specs.Strips.{IsStrip, table_of}
 use Rattle.strip_boundary.specs.declared.strip.TheConstants.{GREATEST_ERROR}
 use Rattle.block_strips.specs.declared.side.Side.{Side}

@@ -10,11 +10,11 @@ use Rattle.cells.specs.Boxes.{HasCells, IsInBox}
 use Rattle.cells.specs.Cells.{Cells}
 use Rattle.cells.specs.Places.{HasAxes, IsInside, cell_count, place_of, spot}
 use Rattle.cells.proofs.Raster.{place_at}
+use Rattle.spans.specs.Axes.{grid_step}
 use Rattle.map_canvas.specs.Maps.{IsFilled, IsMap, SourceMap, empty_map, first_unfilled}
 use Rattle.map_canvas.proofs.AfterLaws.{filled_of, source_of_place}
 use Rattle.map_canvas.proofs.EmptyAndFull.{map_at-empty}
 use Rattle.map_canvas.proofs.Fronts.{front_passes, front_stops}
-use Rattle.patch_place.specs.Axes.{grid_step}
 use Rattle.block_strips.specs.declared.plan.QuiltPlan.{QuiltPlan}
 use Rattle.block_strips.specs.Blocks.{FitsBlock, block_at, block_len, block_overlap, next_box, shared_on}
 use Rattle.block_strips.specs.Laid.{AreFirstBlocks, IsFirstPlaceWithout, IsInOne, IsLaidByBlocks, SharesStrips, StaysLaid}

@@ -7,7 +7,7 @@ use Rattle.cells.specs.Boxes.{IsInBox}
 use Rattle.cells.specs.Cells.{Cells}
 use Rattle.cells.specs.Places.{IsInside, cell_count, place_of}
 use Rattle.map_canvas.specs.Maps.{SourceMap, IsFilled, empty_map}
-use Rattle.match_error.specs.Errors.{box_spot}
+use Rattle.map_canvas.specs.CellErrors.{box_spot}
 use Rattle.block_strips.specs.declared.plan.QuiltPlan.{QuiltPlan}
 use Rattle.block_strips.specs.declared.side.Side.TheVariants.{Left, Top}
 use Rattle.block_strips.specs.Blocks.{block_at, shared_cols}

@@ -6,7 +6,7 @@ use Rattle.cells.specs.declared.place.Size.{Size}
 use Rattle.cells.specs.Cells.{Cells}
 use Rattle.map_canvas.specs.declared.canvas.Placement.{Placement}
 use Rattle.map_canvas.specs.Maps.{SourceMap}
-use Rattle.match_error.specs.Errors.{spot_error}
+use Rattle.map_canvas.specs.CellErrors.{spot_error}
 use Rattle.strip_boundary.specs.Strips.{ErrorTable, table_of}
 use Rattle.block_strips.specs.declared.side.Side.{Side}
 use Rattle.block_strips.specs.declared.side.Side.TheVariants.{Left, Top}

@@ -1,21 +1,14 @@
 // Where the next block is laid.
 ghost use Rattle.std.specs.Prelude.{◌≡◌, ◌≤◌, ◌<◌, ◌↔◌, IfSome, None};
 ghost use Rattle.cells.specs.Cells.{IsOnePart};
+ghost use Rattle.spans.specs.Axes.{SpanFits};
 ghost use Rattle.map_canvas.specs.Maps.{IsFull};
-ghost use Rattle.patch_place.specs.Axes.{SpanFits, at_least_0};
 ghost use Rattle.block_strips.specs.Blocks.{FitsBlock, block_len, block_on, box_of, next_box, shared_on};
 
 use crate::QuiltPlan;
 use cells::{At, Box3, GREATEST_AXIS, Size, Volume};
 use map_canvas::Canvas;
-use patch_place::{Span, grid_on};
-
-// A coordinate as a count; 0 before the first cell.
-fn count_of(z: i32) -> u32
-    ensures { result ≡ at_least_0 z }
-{
-    if z < 0 { 0 } else { z as u32 }
-}
+use spans::{Span, count_of, grid_on};
 
 // How long a block is along an axis.
 fn block_len(output: u32, part: u32, plan: &QuiltPlan) -> u32

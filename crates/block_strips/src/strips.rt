@@ -5,7 +5,7 @@ ghost use Rattle.cells.specs.Places.{SumFits, plus, spot};
 ghost use Rattle.map_canvas.specs.Maps.{sample_cell};
 ghost use Rattle.map_canvas.specs.Canvases.{StandsOver};
 ghost use Rattle.map_canvas.specs.Choices.{Fits};
-ghost use Rattle.match_error.specs.Errors.{cell_error, spot_error};
+ghost use Rattle.map_canvas.specs.CellErrors.{cell_error, spot_error};
 ghost use Rattle.block_strips.specs.Strips.{most_cols, strip_error, strip_of, strip_rows};
 
 use crate::Side;

@@ -20,7 +20,8 @@ use Rattle.lane_kernels.specs.Sums.{sum_of_squared_differences}
 use Rattle.map_canvas.specs.Canvases.{CanvasState, IsCanvas}
 use Rattle.map_canvas.specs.Choices.{new_source}
 use Rattle.map_canvas.specs.Maps.{IsFilled, map_at}
-use Rattle.match_error.specs.Errors.{cell_error, error_sum, spot_error}
+use Rattle.map_canvas.specs.CellErrors.{cell_error, spot_error}
+use Rattle.match_error.specs.Errors.{error_sum}
 use Rattle.match_error.specs.Runs.{IsInRow, IsLaidOver, laid_from}
 use Rattle.match_error.proofs.Overlaps.{run_is_error}
 use Rattle.match_error.proofs.RowPlaces.{have_samples, row_is_run}

@@ -14,7 +14,8 @@ use Rattle.lane_kernels.proofs.Bounds.{ssd_bound}
 use Rattle.map_canvas.specs.declared.canvas.Placement.{Placement}
 use Rattle.map_canvas.specs.Maps.{SourceMap, map_at, sample_cell}
 use Rattle.map_canvas.specs.Choices.{Fits, new_source}
-use Rattle.match_error.specs.Errors.{cell_error, error_sum, row_error}
+use Rattle.map_canvas.specs.CellErrors.{cell_error}
+use Rattle.match_error.specs.Errors.{error_sum, row_error}
 
 -- at most 6 samples, each a byte
 record IsShort (cell : List ℕ) : Type 0 where

@@ -21,7 +21,8 @@ use Rattle.map_canvas.specs.declared.canvas.Placement.{Placement}
 use Rattle.map_canvas.specs.Maps.{SourceMap, IsFilled, map_at, source_at}
 use Rattle.map_canvas.specs.Canvases.{CanvasState, IsCanvas, StandsOver, mark_of, filled_marks}
 use Rattle.map_canvas.specs.Choices.{Fits, new_source}
-use Rattle.match_error.specs.Errors.{box_spot, cell_error, row_error, spot_error}
+use Rattle.map_canvas.specs.CellErrors.{box_spot, cell_error, spot_error}
+use Rattle.match_error.specs.Errors.{row_error}
 use Rattle.box_sums.specs.Sums.{sum_to}
 use Rattle.match_error.proofs.RowPlaces.{IsRow, IsVolumeRow, row_in_volume, have_samples, row_is_run, row_of}
 use Rattle.match_error.proofs.Runs.{HaveSamples, masked_by_ones, masked_by_zeros, masked_cells, plain_cells}

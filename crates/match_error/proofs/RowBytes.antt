@@ -14,7 +14,7 @@ use Rattle.map_canvas.specs.declared.canvas.Placement.{Placement}
 use Rattle.map_canvas.specs.Canvases.{CanvasState, IsCanvas, StandsOver}
 use Rattle.map_canvas.specs.Choices.{Fits}
 use Rattle.map_canvas.specs.Maps.{IsFilled}
-use Rattle.match_error.specs.Errors.{spot_error}
+use Rattle.map_canvas.specs.CellErrors.{spot_error}
 use Rattle.match_error.specs.LaidRows.{AreRowBytes}
 use Rattle.match_error.proofs.Offsets.{run_in_volume}
 use Rattle.match_error.proofs.Overlaps.{in_output, in_sample, picture_count, run_is_error}

@@ -11,9 +11,9 @@ use Rattle.box_sums.specs.Sums.{sum_to}
 use Rattle.box_sums.proofs.Additions.{counts}
 use Rattle.box_sums.proofs.Axes.{sum_none, sum_split}
 use Rattle.map_canvas.specs.Maps.{SourceMap, IsFilled}
+use Rattle.map_canvas.specs.CellErrors.{box_spot}
 use Rattle.match_error.specs.declared.filled_rows.Inset.{Inset}
 use Rattle.match_error.specs.declared.filled_rows.RowRun.{RowRun}
-use Rattle.match_error.specs.Errors.{box_spot}
 use Rattle.match_error.specs.Rows.{AreLaidRuns, AreMoreRuns, AreRowRuns, AreRunsOf, AreRunsTo, IsFilledAt, IsGap, IsInset, column_in, run_part}
 use Rattle.match_error.proofs.RunLists.{last_piece, same_piece}
 use Rattle.match_error.proofs.Tables.{cell_in_rows, rows_in}

@@ -15,7 +15,8 @@ use Rattle.box_sums.proofs.Axes.{sum_equal, sum_more, sum_plus, sum_split}
 use Rattle.box_sums.proofs.Bounds.{box_bound, sum_bound}
 use Rattle.box_sums.proofs.Boxes.{box_equal}
 use Rattle.map_canvas.specs.Maps.{SourceMap, map_at}
-use Rattle.match_error.specs.Errors.{box_spot, filled_cells, one_filled}
+use Rattle.map_canvas.specs.CellErrors.{box_spot}
+use Rattle.match_error.specs.Errors.{filled_cells, one_filled}
 use Rattle.match_error.specs.Tables.{AreEntries, AreMoreEntries, filled_before, one_in_row}
 use Rattle.match_error.proofs.Filled.{box_cells, one_at_most}
 

@@ -5,36 +5,17 @@ use Rattle.std.specs.Prelude.{◌+◌, ◌*◌, ℕ, Bool, Option, Some, None, n
 use Rattle.cells.specs.declared.bounds.TheConstants.{GREATEST_AXIS, MOST_SAMPLES}
 use Rattle.cells.specs.declared.place.At.{At}
 use Rattle.cells.specs.declared.place.Box3.{Box3}
-use Rattle.cells.specs.Places.{plus, spot}
 use Rattle.cells.specs.Cells.{Cells}
 use Rattle.box_sums.specs.Sums.{sum_box, sum_to}
-use Rattle.lane_kernels.specs.Sums.{sum_of_squared_differences}
 use Rattle.map_canvas.specs.declared.canvas.Placement.{Placement}
-use Rattle.map_canvas.specs.Maps.{SourceMap, map_at, sample_cell}
-use Rattle.map_canvas.specs.Choices.{new_source}
+use Rattle.map_canvas.specs.CellErrors.{box_spot, spot_error}
+use Rattle.map_canvas.specs.Maps.{SourceMap, map_at}
 use Rattle.match_error.specs.declared.error.Error.{Error}
-
--- the squared difference of a cell's source and another place of the sample; nothing of an unfilled
--- cell
-abbrev pub cell_error : Cells → Option At → At → ℕ
-cell_error sample None new = 0
-cell_error sample (Some from) new =
-    sum_of_squared_differences (sample_cell sample (Some from)) (sample_cell sample (Some new))
 
 -- 1 for a filled cell
 abbrev pub one_filled : Option At → ℕ
 one_filled None = 0
 one_filled (Some from) = 1
-
--- the cell of a box at three counts from its corner
-abbrev pub box_spot : Box3 → ℕ → ℕ → ℕ → At
-box_spot rect x y f = plus rect.corner (spot x y f)
-
--- the squared difference of that cell from its new source
-abbrev pub spot_error : SourceMap → Cells → Placement → ℕ → ℕ → ℕ → ℕ
-spot_error m sample placement x y f =
-    cell_error sample (map_at m (box_spot placement.rect x y f))
-    (new_source placement (box_spot placement.rect x y f))
 
 -- the sum over the filled cells of a row of the box, of a frame of it, and of the box
 abbrev pub row_error : SourceMap → Cells → Placement → ℕ → ℕ → ℕ

@@ -7,10 +7,10 @@ use Rattle.cells.specs.declared.place.Box3.{Box3}
 use Rattle.cells.specs.Boxes.{HoldsBox}
 use Rattle.box_sums.specs.Sums.{sum_to}
 use Rattle.map_canvas.specs.Maps.{SourceMap, IsFilled}
+use Rattle.map_canvas.specs.CellErrors.{box_spot}
 use Rattle.match_error.specs.declared.filled_rows.FilledRows.{FilledRows}
 use Rattle.match_error.specs.declared.filled_rows.Inset.{Inset}
 use Rattle.match_error.specs.declared.filled_rows.RowRun.{RowRun}
-use Rattle.match_error.specs.Errors.{box_spot}
 
 -- the cell of a row of a box at a column is filled
 abbrev pub IsFilledAt : SourceMap → Box3 → ℕ → ℕ → ℕ → Type 0

@@ -12,9 +12,10 @@ use Rattle.lane_kernels.specs.Sums.{sum_of_squared_differences}
 use Rattle.map_canvas.specs.declared.canvas.Placement.{Placement}
 use Rattle.map_canvas.specs.Canvases.{CanvasState, StandsOver}
 use Rattle.map_canvas.specs.Choices.{Fits}
+use Rattle.map_canvas.specs.CellErrors.{spot_error}
 use Rattle.match_error.specs.declared.gathered.FilledRun.{FilledRun}
 use Rattle.match_error.specs.declared.gathered.FilledRuns.{FilledRuns}
-use Rattle.match_error.specs.Errors.{error_sum, frame_error, row_error, spot_error}
+use Rattle.match_error.specs.Errors.{error_sum, frame_error, row_error}
 
 -- so many columns are in a row of the box
 pub record IsInRow (rect : Box3) (columns y f : ℕ) : Type 0 where

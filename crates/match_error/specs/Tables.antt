@@ -6,8 +6,9 @@ use Rattle.cells.specs.declared.place.Box3.{Box3}
 use Rattle.cells.specs.Boxes.{HoldsBox}
 use Rattle.box_sums.specs.Sums.{sum_to}
 use Rattle.map_canvas.specs.Maps.{SourceMap, map_at}
+use Rattle.map_canvas.specs.CellErrors.{box_spot}
 use Rattle.match_error.specs.declared.table.FilledCounts.{FilledCounts}
-use Rattle.match_error.specs.Errors.{box_spot, one_filled}
+use Rattle.match_error.specs.Errors.{one_filled}
 
 -- 1 for a filled cell of a row of a box, its rows counted on through all frames
 abbrev pub one_in_row : SourceMap → Box3 → ℕ → ℕ → ℕ

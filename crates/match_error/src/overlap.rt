@@ -3,7 +3,8 @@ ghost use Rattle.std.specs.Prelude.{◌≡◌, ◌≤◌, ◌<◌, ◌+◌, ◌*
 ghost use Rattle.cells.specs.Places.{IsSmall};
 ghost use Rattle.map_canvas.specs.Canvases.{StandsOver};
 ghost use Rattle.map_canvas.specs.Choices.{Fits, box_count};
-ghost use Rattle.match_error.specs.Errors.{error_of, error_sum, frame_error, most_frame_error, most_row_error, row_error, spot_error};
+ghost use Rattle.map_canvas.specs.CellErrors.{spot_error};
+ghost use Rattle.match_error.specs.Errors.{error_of, error_sum, frame_error, most_frame_error, most_row_error, row_error};
 ghost use Rattle.match_error.specs.LaidRows.{AreFronts, AreRowBytes};
 ghost use Rattle.match_error.specs.Rows.{AreFilledRows, AreLaidRuns, IsInset, IsLaidRun, column_in, run_part};
 ghost use Rattle.box_sums.specs.Sums.{sum_to};

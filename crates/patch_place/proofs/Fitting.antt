@@ -13,16 +13,16 @@ use Rattle.cells.specs.Places.{HasAxes, IsInside, cell_count, index_in, minus, p
 use Rattle.cells.proofs.BoxLaws.{step_of}
 use Rattle.cells.proofs.PartBoxes.{box_held}
 use Rattle.cells.proofs.Raster.{has_index, index_of_spot, index_parts}
+use Rattle.spans.specs.declared.axis.Span.{Span}
+use Rattle.spans.specs.Axes.{SpanFits, grid_on}
+use Rattle.spans.proofs.Spans.{laid_fits, grid_fits, patch_fits}
 use Rattle.map_canvas.specs.declared.canvas.Placement.{Placement}
-use Rattle.patch_place.specs.declared.axis.Span.{Span}
 use Rattle.patch_place.specs.declared.mode.Mode.{Mode}
 use Rattle.patch_place.specs.declared.mode.Mode.TheVariants.{Grid, Random, Whole, Sub}
-use Rattle.patch_place.specs.Axes.{SpanFits, grid_on}
 use Rattle.patch_place.specs.Lists.{filled_from, first_half, fit_list, from_part, laid, laid_list, part_lists, placed, room}
 use Rattle.patch_place.specs.Modes.{candidates, least_part, patch_box}
 use Rattle.patch_place.specs.Fitting.{FitsAndCovers, HasPatch}
 use Rattle.patch_place.proofs.PartLists.{all_of_parts, some_of_part}
-use Rattle.patch_place.proofs.Spans.{laid_fits, grid_fits, patch_fits}
 use Rattle.patch_place.proofs.Stocks.{axes_at, least_some, least_within, part_held}
 use Rattle.cells.proofs.PlaceLists.{count_over, entry_over}
 

@@ -1,6 +1,5 @@
 pub mod Parts
 pub mod Walking
-pub mod Spans
 pub mod Stocks
 pub mod Fitting
 pub mod BoxLists

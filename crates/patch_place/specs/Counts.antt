@@ -6,11 +6,11 @@ use Rattle.cells.specs.declared.place.At.{At}
 use Rattle.cells.specs.declared.place.Box3.{Box3}
 use Rattle.cells.specs.declared.place.Size.{Size}
 use Rattle.cells.specs.Places.{HasAxes, cell_count, places}
+use Rattle.spans.specs.Axes.{at_least_0}
 use Rattle.map_canvas.specs.declared.canvas.Placement.{Placement}
 use Rattle.patch_place.specs.declared.candidates.Candidates.{Candidates}
 use Rattle.patch_place.specs.declared.candidates.Candidates.TheVariants.{One, Laid, Fits}
 use Rattle.patch_place.specs.declared.candidates.Spot.{Spot}
-use Rattle.patch_place.specs.Axes.{at_least_0}
 use Rattle.patch_place.specs.Lists.{filled_from, first_half, from_part, laid, lists_from, room}
 
 -- sizes whose places are counted by 32 bits: an axis may be 0 or one more than that of a part, and

@@ -5,6 +5,7 @@ use Rattle.cells.specs.declared.place.Size.{Size}
 use Rattle.cells.specs.Places.{IsInside, minus}
 use Rattle.cells.specs.Cells.{Cells, sizes_of}
 use Rattle.cells.specs.SizeLists.{size_of_part}
+use Rattle.spans.specs.Rooms.{HasRoom}
 use Rattle.map_canvas.specs.declared.canvas.Placement.{Placement}
 use Rattle.map_canvas.specs.Choices.{Fits}
 use Rattle.patch_place.specs.declared.mode.Mode.{Mode}
@@ -23,13 +24,7 @@ HasPatch Random = Unit {0}
 HasPatch (Whole tol) = Unit {0}
 HasPatch (Sub side overlap tol) = 1 ≤ side
 
--- a box of this size has a place in an output or a part of the other
-pub record HasRoom (outer inner : Size) : Type 0 where
-  pub w : inner.w ≤ outer.w
-  pub h : inner.h ≤ outer.h
-  pub f : inner.f ≤ outer.f
-
--- and in each part of a sample
+-- a box of this size has a place in each part of a sample
 abbrev pub HasRoomInEach : Cells → Size → Type 0
 HasRoomInEach sample inner =
     (number : ℕ) (part : Size) → size_of_part (sizes_of sample) number ≡ Some part

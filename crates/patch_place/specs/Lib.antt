@@ -1,5 +1,4 @@
 pub mod Draws
-pub mod Axes
 pub mod Lists
 pub mod Modes
 pub mod Counts

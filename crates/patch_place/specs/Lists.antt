@@ -8,11 +8,11 @@ use Rattle.cells.specs.declared.place.Box3.{Box3}
 use Rattle.cells.specs.Cells.{Cells, sizes_of}
 use Rattle.cells.specs.Places.{IsInside, places}
 use Rattle.cells.specs.SizeLists.{stock_place}
+use Rattle.spans.specs.declared.axis.Span.{Span}
+use Rattle.spans.specs.Axes.{at_least_0, laid_on}
 use Rattle.map_canvas.specs.declared.canvas.Placement.{Placement}
 use Rattle.patch_place.specs.declared.candidates.Candidates.{Candidates}
 use Rattle.patch_place.specs.declared.candidates.Candidates.TheVariants.{One, Laid, Fits}
-use Rattle.patch_place.specs.declared.axis.Span.{Span}
-use Rattle.patch_place.specs.Axes.{at_least_0, laid_on}
 
 -- the placement with these spans along X, Y and F
 abbrev pub placed : Span → Span → Span → Placement

@@ -3,13 +3,13 @@ ghost use Rattle.std.specs.Prelude.{◌≡◌, ◌≤◌, ◌<◌, ◌+◌, ◌*
 ghost use Rattle.cells.specs.Cells.{sizes_of};
 ghost use Rattle.cells.specs.Places.{IsInside, IsSmall, cell_count, place_of, spot};
 ghost use Rattle.cells.specs.SizeLists.{frames_to_part};
-ghost use Rattle.patch_place.specs.Axes.{at_least_0};
+ghost use Rattle.spans.specs.Axes.{at_least_0};
 ghost use Rattle.patch_place.specs.Lists.{IsWithin, first_half, from_part, laid, listed, placed, room};
 ghost use Rattle.patch_place.specs.Counts.{AreVolumeParts, FitsCount, IsBelowSize, IsNearFrame, IsNextSpot, IsOverParts, IsSpotAt, all_entries, entries_in, steps_in};
 
-use crate::axis::{Span, count_of, laid_on};
 use cells::{At, Box3, Size, Sizes, Volume};
 use map_canvas::Placement;
+use spans::{Span, count_of, laid_on};
 
 /// Placements that may be taken, in an order; no list of them is kept.
 #[derive(Clone, Copy, Debug, Drop, PartialEq, Eq)]

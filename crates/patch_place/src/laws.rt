@@ -4,21 +4,13 @@ ghost use Rattle.cells.specs.declared.place.At.{At};
 ghost use Rattle.cells.specs.Boxes.{HasCells, HoldsBox};
 ghost use Rattle.cells.specs.Cells.{sizes_of};
 ghost use Rattle.cells.specs.SizeLists.{size_of_part};
+ghost use Rattle.spans.specs.Rooms.{HasRoom};
 ghost use Rattle.map_canvas.specs.Choices.{Fits};
-ghost use Rattle.patch_place.specs.Axes.{IsGridCorner, grid_corner};
-ghost use Rattle.patch_place.specs.Fitting.{HasRoom};
 ghost use Rattle.patch_place.specs.Lists.{filled_from, fit_list, part_lists};
 ghost use Rattle.patch_place.specs.Picks.{ThereIsOnePick};
 ghost use Rattle.patch_place.specs.Steps.{ThereIsOneNext};
 
 use cells::{Box3, Size, Volume};
-
-/// A law, with nothing to run: along an axis of this size, the grid's corner is the least multiple of the
-/// step, counted from 0, that is greater than q less the size.
-pub fn grid_corner_is_least(size: u32, step: u32, q: u32)
-    requires step { (1 ≤ step) × (step ≤ size) }
-    ensures { IsGridCorner size step q (grid_corner size step q) }
-{}
 
 /// A law, with nothing to run: the list of a box over all parts of a sample has exactly the placements of
 /// that box that fit. It has an entry where the box has room in some part.

@@ -11,8 +11,8 @@
 //! list of placements is kept. `Draws` gives words of a ChaCha8 stream by their place
 //! (specs/Draws.antt).
 //!
-//! `axis` has what happens along one axis, `candidates` the lists over the parts of a sample, `mode` the
-//! modes and the size of a window, `draws` the draws, and `laws` what follows from the definitions. `steps`
+//! What happens along one axis is that of the crate spans. `candidates` has the lists over the parts of a
+//! sample, `mode` the modes and the size of a window, `draws` the draws, and `laws` what follows from the definitions. `steps`
 //! has the step, `picks` the pick, `errors` the walks over lists that fill the shortlist that it is made
 //! from, where a sum that can't be eligible is left unfinished, `hints` the likely candidates of a box
 //! with whose least error its walk begins, `skips` those that its walk leaves out, since sums of blocks
@@ -26,7 +26,6 @@
 //! box.
 #![tactic(auto)]
 
-mod axis;
 mod candidates;
 mod draws;
 mod eligible;
@@ -40,12 +39,9 @@ mod shortlist;
 mod skips;
 mod steps;
 
-pub use axis::{Span, grid_on};
 pub use candidates::Candidates;
 pub use draws::Draws;
-pub use laws::{
-    box_list_is_all_that_fit, grid_corner_is_least, there_is_one_next_placement, there_is_one_pick,
-};
+pub use laws::{box_list_is_all_that_fit, there_is_one_next_placement, there_is_one_pick};
 pub use mode::{Mode, window_size};
 pub use picks::{pick, pick_with};
 pub use steps::{next_placement, next_placement_with};

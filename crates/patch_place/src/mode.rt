@@ -3,16 +3,17 @@ ghost use Rattle.std.specs.Prelude.{◌≡◌, ◌≤◌, ◌<◌, All, length};
 ghost use Rattle.cells.specs.Boxes.{HasCells};
 ghost use Rattle.cells.specs.Cells.{sizes_of};
 ghost use Rattle.cells.specs.Places.{HasAxes, IsInside, IsSmall};
+ghost use Rattle.spans.specs.Rooms.{HasRoom};
 ghost use Rattle.patch_place.specs.Counts.{AreVolumeParts, IsBelowSize};
-ghost use Rattle.patch_place.specs.Fitting.{FitsAndCovers, HasPatch, HasRoom, HasRoomInEach};
+ghost use Rattle.patch_place.specs.Fitting.{FitsAndCovers, HasPatch, HasRoomInEach};
 ghost use Rattle.patch_place.specs.Lists.{IsWithin, listed};
 ghost use Rattle.patch_place.specs.Modes.{candidates, grid_placement, least_part, lesser, patch_box, window};
 
 use crate::Candidates;
-use crate::axis::{count_of, grid_on, patch_corner, patch_len};
 use crate::candidates::{part_after, parts_of, placed};
 use cells::{At, Box3, Size, Sizes, Volume};
 use map_canvas::Placement;
+use spans::{count_of, grid_on, patch_corner, patch_len};
 
 /// How an output is grown from its first unfilled cell on.
 #[derive(Clone, Copy, Debug, Drop, PartialEq, Eq)]

@@ -6,11 +6,11 @@ ghost use Rattle.match_error.specs.Rows.{AreFilledRows};
 ghost use Rattle.match_error.specs.Tables.{AreFilledCounts};
 
 use crate::Candidates;
-use crate::axis::count_of;
 use crate::candidates::{part_after, parts_of};
 use cells::{At, Box3, Size, Volume};
 use map_canvas::Canvas;
 use match_error::{FilledCounts, FilledRows};
+use spans::count_of;
 use std::alloc::{AllocError, Global};
 
 // A run of cells along one axis.

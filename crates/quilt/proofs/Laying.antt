@@ -9,7 +9,7 @@ use Rattle.cells.proofs.BoxLaws.{step_of}
 use Rattle.map_canvas.specs.declared.canvas.Placement.{Placement}
 use Rattle.map_canvas.specs.Choices.{Fits, box_cell}
 use Rattle.map_canvas.specs.Maps.{IsFilled, SourceMap}
-use Rattle.match_error.specs.Errors.{box_spot}
+use Rattle.map_canvas.specs.CellErrors.{box_spot}
 use Rattle.strip_boundary.specs.declared.boundary.BoundaryRecord.{BoundaryRecord}
 use Rattle.strip_boundary.specs.Records.{BoundaryStands}
 use Rattle.block_strips.specs.declared.plan.QuiltPlan.{QuiltPlan}

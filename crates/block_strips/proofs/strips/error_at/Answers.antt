@@ -3,7 +3,7 @@ use Rattle.std.specs.Prelude.{Some}
 use Rattle.cells.specs.Cells.{HasCell}
 use Rattle.map_canvas.specs.Choices.{new_source}
 use Rattle.map_canvas.specs.Maps.{map_at}
-use Rattle.match_error.specs.Errors.{box_spot, cell_error}
+use Rattle.map_canvas.specs.CellErrors.{box_spot, cell_error}
 use Rattle.block_strips.proofs.Errors.{new_source_is, source_cell, source_sum}
 use Rattle.block_strips.proofs.strips.error_at.Goals as goal
 

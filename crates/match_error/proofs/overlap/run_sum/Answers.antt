@@ -3,7 +3,7 @@ use Rattle.std.proofs.Math.Nat.{mul-le-mul_left}
 use Rattle.std.proofs.lemmas.List.{length-take}
 use Rattle.lane_kernels.specs.Sums.{sum_of_squared_differences}
 use Rattle.box_sums.specs.Sums.{sum_to}
-use Rattle.match_error.specs.Errors.{spot_error}
+use Rattle.map_canvas.specs.CellErrors.{spot_error}
 use Rattle.match_error.proofs.Overlaps.{row_short}
 use Rattle.match_error.proofs.RowBytes.{part_is_error, piece_of_row}
 use Rattle.match_error.proofs.overlap.run_sum.Goals as goal

@@ -1,7 +1,8 @@
 use Rattle.std.proofs.Common.{◌∙◌, ℕ, ap, arith, refl}
 use Rattle.std.proofs.lemmas.List.{take_all}
 use Rattle.std.specs.List.{sum_by}
-use Rattle.match_error.specs.Errors.{row_error, spot_error}
+use Rattle.map_canvas.specs.CellErrors.{spot_error}
+use Rattle.match_error.specs.Errors.{row_error}
 use Rattle.match_error.specs.Rows.{run_part}
 use Rattle.match_error.proofs.Bounds.{row_small}
 use Rattle.match_error.proofs.Overlaps.{unfilled_error}

@@ -1,6 +1,6 @@
 use Rattle.std.proofs.Common.{◌≡◌, take}
 use Rattle.std.specs.List.{sum_by}
-use Rattle.match_error.specs.Errors.{spot_error}
+use Rattle.map_canvas.specs.CellErrors.{spot_error}
 use Rattle.match_error.specs.Rows.{run_part}
 use Rattle.match_error.proofs.overlap.runs_sum.Given as goal
 

@@ -4,7 +4,8 @@ use Rattle.box_sums.specs.Sums.{sum_to}
 use Rattle.box_sums.proofs.Additions.{counts}
 use Rattle.box_sums.proofs.Axes.{sum_more}
 use Rattle.map_canvas.specs.Maps.{map_at}
-use Rattle.match_error.specs.Errors.{box_spot, one_filled}
+use Rattle.map_canvas.specs.CellErrors.{box_spot}
+use Rattle.match_error.specs.Errors.{one_filled}
 use Rattle.match_error.proofs.Entries.{ArePut, above_kept, one_put}
 use Rattle.match_error.proofs.Filled.{one_at_most}
 use Rattle.match_error.proofs.table.add_row.Goals as goal

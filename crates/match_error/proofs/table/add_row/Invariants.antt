@@ -1,7 +1,8 @@
 use Rattle.std.proofs.Common.{◌≡◌, ◌≤◌, ◌+◌}
 use Rattle.box_sums.specs.Sums.{sum_to}
 use Rattle.map_canvas.specs.Maps.{map_at}
-use Rattle.match_error.specs.Errors.{box_spot, one_filled}
+use Rattle.map_canvas.specs.CellErrors.{box_spot}
+use Rattle.match_error.specs.Errors.{one_filled}
 use Rattle.match_error.proofs.Entries.{ArePut}
 use Rattle.match_error.proofs.table.add_row.Given as goal
 

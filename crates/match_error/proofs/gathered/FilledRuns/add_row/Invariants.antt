@@ -1,6 +1,6 @@
 use Rattle.std.proofs.Common.{◌≤◌, ◌-◌}
 use Rattle.box_sums.specs.Sums.{sum_to}
-use Rattle.match_error.specs.Errors.{spot_error}
+use Rattle.map_canvas.specs.CellErrors.{spot_error}
 use Rattle.match_error.specs.Runs.{AddsError, AreRunsIn, laid_from}
 use Rattle.match_error.proofs.gathered.FilledRuns.add_row.Given as goal
 

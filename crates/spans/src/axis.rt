@@ -1,6 +1,6 @@
 // Placements along one axis.
 ghost use Rattle.std.specs.Prelude.{◌≡◌, ◌≤◌, ◌<◌, pos};
-ghost use Rattle.patch_place.specs.Axes.{IsGridCorner, SpanFits, at_least_0, grid_on, grid_step, laid_on, patch_corner, patch_len};
+ghost use Rattle.spans.specs.Axes.{IsGridCorner, SpanFits, at_least_0, grid_on, grid_step, laid_on, patch_corner, patch_len};
 
 use cells::GREATEST_AXIS;
 
@@ -17,14 +17,14 @@ pub struct Span {
 }
 
 /// A coordinate as a count; 0 before the first cell.
-pub(crate) fn count_of(z: i32) -> u32
+pub fn count_of(z: i32) -> u32
     ensures { result ≡ at_least_0 z }
 {
     if z < 0 { 0 } else { z as u32 }
 }
 
 /// The whole part, laid so that its coordinate c comes to q, as far as it is inside the output.
-pub(crate) fn laid_on(output: u32, part: u32, q: u32, c: u32) -> Span
+pub fn laid_on(output: u32, part: u32, q: u32, c: u32) -> Span
     requires part { part ≤ GREATEST_AXIS }
     requires output { output ≤ GREATEST_AXIS }
     requires q { q < output }
@@ -62,15 +62,16 @@ pub fn grid_on(output: u32, size: u32, overlap: u32, q: u32) -> Span
     }
 }
 
-/// The length of a patch, which fits in both.
-pub(crate) fn patch_len(output: u32, part: u32, side: u32) -> u32
+/// The length of a patch whose side is asked for: so much of it as fits in the output and in the part.
+pub fn patch_len(output: u32, part: u32, side: u32) -> u32
     ensures { result ≡ patch_len output part side }
 {
     side.min(part.min(output))
 }
 
-/// Where a patch begins.
-pub(crate) fn patch_corner(output: u32, len: u32, overlap: u32, q: u32) -> u32
+/// Where a patch of a length begins, so that it has the coordinate q: as far before q as it may overlap, at most
+/// by all but one of its cells, and no further on than where it ends with the output.
+pub fn patch_corner(output: u32, len: u32, overlap: u32, q: u32) -> u32
     requires { len ≤ output }
     ensures { result ≡ patch_corner output len overlap q }
 {

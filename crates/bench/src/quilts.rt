@@ -2,8 +2,8 @@
 ghost use Rattle.cells.specs.Places.{IsSmall};
 
 use crate::samples::{Texture, sample_of, sum_of};
+use block_strips::QuiltPlan;
 use cells::Size;
-use quilt::QuiltPlan;
 use quilting::{QuiltRun, quilt_canvas};
 use std::alloc::{AllocError, Global};
 

@@ -12,10 +12,10 @@ use Rattle.strip_boundary.specs.Records.{ColumnHolds, FirstBadColumn, FirstBadSu
 use Rattle.strip_boundary.specs.Strips.{ErrorTable}
 use Rattle.block_strips.specs.declared.side.Side.{Side}
 use Rattle.block_strips.specs.declared.side.Side.TheVariants.{Left, Top}
-use Rattle.quilt.specs.declared.block.BlockRecord.{BlockRecord}
-use Rattle.quilt.specs.Blocks.{strip_on}
-use Rattle.quilt.specs.Records.{BlockBreaksFit, BreaksLeft, BreaksOverlap, BreaksTop, IsFirstBlockFault, IsFirstWithout, IsJoinFault, OverlapsAt}
-use Rattle.quilt.proofs.Faults.{no_bad_column, no_join_fault}
+use Rattle.block_check.specs.declared.block.BlockRecord.{BlockRecord}
+use Rattle.block_check.specs.Blocks.{strip_on}
+use Rattle.block_check.specs.Records.{BlockBreaksFit, BreaksLeft, BreaksOverlap, BreaksTop, IsFirstBlockFault, IsFirstWithout, IsJoinFault, OverlapsAt}
+use Rattle.block_check.proofs.Faults.{no_bad_column, no_join_fault}
 use Rattle.block_replay.specs.BlockReplay.{AreOneBlockFault}
 
 -- of a first property of faults and others, of which at most one holds, and for one fault

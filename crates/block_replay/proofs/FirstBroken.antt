@@ -5,12 +5,11 @@ use Rattle.std.proofs.lemmas.Option.{same_Some}
 use Rattle.std.specs.Prelude.{Some, slice_get}
 use Rattle.cells.specs.Cells.{Cells}
 use Rattle.map_canvas.specs.Maps.{SourceMap}
-use Rattle.quilt.specs.declared.block.BlockRecord.{BlockRecord}
-use Rattle.quilt.specs.Records.{BlockStands, IsFirstBlockFault}
-use Rattle.quilt.specs.Runs.{left_by_blocks}
-use Rattle.quilt.proofs.Faults.{standing_breaks_none}
+use Rattle.block_check.specs.declared.block.BlockRecord.{BlockRecord}
+use Rattle.block_check.specs.Records.{BlockStands, IsFirstBlockFault}
+use Rattle.block_check.proofs.Faults.{standing_breaks_none}
 use Rattle.block_replay.specs.declared.records.BrokenBlock.{BrokenBlock}
-use Rattle.block_replay.specs.BlockReplay.{AreOneBlockFault, BrokenBlockStandsNot, IsFirstBrokenBlock, OneFirstBrokenBlock}
+use Rattle.block_replay.specs.BlockReplay.{AreOneBlockFault, BrokenBlockStandsNot, IsFirstBrokenBlock, OneFirstBrokenBlock, left_by_blocks}
 use Rattle.block_replay.proofs.Faults.{one_block_fault}
 use Rattle.block_replay.proofs.RunLaws.{each_at, each_before}
 

@@ -1,4 +1,5 @@
 pub mod RunLaws
+pub mod Standing
 pub mod Faults
 pub mod FirstBroken
 pub mod Replaying

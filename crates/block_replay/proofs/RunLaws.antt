@@ -5,10 +5,10 @@ use Rattle.std.proofs.lemmas.Option.{none-some, same_Some}
 use Rattle.std.specs.Prelude.{Some, slice_get}
 use Rattle.cells.specs.Cells.{Cells}
 use Rattle.map_canvas.specs.Maps.{SourceMap}
-use Rattle.quilt.specs.declared.block.BlockRecord.{BlockRecord}
-use Rattle.quilt.specs.Blocks.{after_block}
-use Rattle.quilt.specs.Records.{BlockStands}
-use Rattle.quilt.specs.Runs.{EachBlockOver, EachBlockStands, left_by_blocks}
+use Rattle.block_check.specs.declared.block.BlockRecord.{BlockRecord}
+use Rattle.block_check.specs.Blocks.{after_block}
+use Rattle.block_check.specs.Records.{BlockStands}
+use Rattle.block_replay.specs.BlockReplay.{EachBlockOver, EachBlockStands, left_by_blocks}
 
 left_more : (m : SourceMap) (blocks : List BlockRecord) (block : BlockRecord) → left_by_blocks m (blocks ++ block ∷ []) ≡ after_block (left_by_blocks m blocks) block
 left_more m [] block = refl

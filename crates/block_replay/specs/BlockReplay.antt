@@ -1,18 +1,37 @@
--- A reader has to trust this file. The first of several block records that doesn't stand. (Own.)
-use Rattle.std.specs.Prelude.{◌≡◌, ℕ, List, take, Some, slice_get, Result, Ok, Err}
+-- A reader has to trust this file. What block records leave, put in one after another, and the
+-- first of them that doesn't stand. (Own.)
+use Rattle.std.specs.Prelude.{◌≡◌, ℕ, List, [], ◌∷◌, take, Some, slice_get, Result, Ok, Err}
 use Rattle.cells.specs.Cells.{Cells}
 use Rattle.map_canvas.specs.Canvases.{CanvasState}
 use Rattle.map_canvas.specs.Maps.{SourceMap}
 use Rattle.strip_boundary.specs.declared.check.BlockFault.{BlockFault}
-use Rattle.quilt.specs.declared.block.BlockRecord.{BlockRecord}
-use Rattle.quilt.specs.declared.check.BlockError.{BlockError}
-use Rattle.quilt.specs.declared.check.BlockError.TheVariants as one
-use Rattle.quilt.specs.Blocks.{after_block}
-use Rattle.quilt.specs.Records.{BlockStands, IsFirstBlockFault}
-use Rattle.quilt.specs.Runs.{EachBlockStands, left_by_blocks}
+use Rattle.block_check.specs.declared.block.BlockRecord.{BlockRecord}
+use Rattle.block_check.specs.declared.check.BlockError.{BlockError}
+use Rattle.block_check.specs.declared.check.BlockError.TheVariants as one
+use Rattle.block_check.specs.Blocks.{after_block}
+use Rattle.block_check.specs.Records.{BlockIsLeast, BlockStands, IsFirstBlockFault}
 use Rattle.block_replay.specs.declared.records.BlocksError.{BlocksError}
 use Rattle.block_replay.specs.declared.records.BlocksError.TheVariants.{Broken, NoMemory}
 use Rattle.block_replay.specs.declared.records.BrokenBlock.{BrokenBlock}
+
+-- the map that block records leave, put in one after another
+abbrev pub left_by_blocks : SourceMap → List BlockRecord → SourceMap
+left_by_blocks m [] = m
+left_by_blocks m (block ∷ blocks) = left_by_blocks (after_block m block) blocks
+
+-- something holds of each record and the map that the records before it leave
+abbrev pub EachBlockOver :
+    (SourceMap → BlockRecord → Type 0) → SourceMap → List BlockRecord → Type 0
+EachBlockOver Holds m [] = Unit {0}
+EachBlockOver Holds m (block ∷ blocks) =
+    Holds m block × EachBlockOver Holds (after_block m block) blocks
+
+-- each record stands over that map, and each boundary is least there
+abbrev pub EachBlockStands : Cells → SourceMap → List BlockRecord → Type 0
+EachBlockStands sample = EachBlockOver (λ m block. BlockStands m sample block)
+
+abbrev pub EachBlockIsLeast : Cells → SourceMap → List BlockRecord → Type 0
+EachBlockIsLeast sample = EachBlockOver (λ m block. BlockIsLeast m sample block)
 
 -- the first record that doesn't stand over the map that the records before it leave, and its first
 -- fault
@@ -46,6 +65,12 @@ ReplaysBlock before sample block after (Err (one.Fault fault)) =
 ReplaysBlock before sample block after (Err one.NoMemory) = after ≡ before
 
 -- Laws.
+
+-- where each record stands, each boundary is least
+abbrev pub EachStandingIsLeast : Type 0
+EachStandingIsLeast =
+    (sample : Cells) (m : SourceMap) (blocks : List BlockRecord)
+    → EachBlockStands sample m blocks → EachBlockIsLeast sample m blocks
 
 -- where a record is the first broken one, not every record stands
 abbrev pub BrokenBlockStandsNot : Type 0

@@ -1,14 +1,14 @@
 // Block records over one another.
 ghost use Rattle.std.specs.Prelude.{◌≡◌, All, OnOk};
 ghost use Rattle.map_canvas.specs.Canvases.{IsCanvas, StandsOver};
-ghost use Rattle.quilt.specs.Blocks.{IsFormedBlock};
-ghost use Rattle.quilt.specs.Runs.{EachBlockIsLeast};
-ghost use Rattle.block_replay.specs.BlockReplay.{ReplaysBlock, ReplaysBlocks};
+ghost use Rattle.block_check.specs.Blocks.{IsFormedBlock};
+ghost use Rattle.block_replay.specs.BlockReplay.{EachBlockIsLeast, ReplaysBlock, ReplaysBlocks};
 
+use block_check::{BlockError, BlockRecord, check_block, put_block};
 use cells::Volume;
 use map_canvas::Canvas;
-use quilt::{BlockError, BlockFault, BlockRecord, check_block, put_block};
 use std::alloc::{AllocError, Global};
+use strip_boundary::BlockFault;
 use thiserror::Error;
 
 /// The first record that doesn't stand over the map that the records before it leave.

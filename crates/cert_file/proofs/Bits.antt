@@ -2,8 +2,8 @@
 use Rattle.std.proofs.Common.{◌≡◌, ◌+◌, ◌*◌, ◌++◌, ◌∷◌, [], ◌∙◌, ℕ, List, Bool, length, refl, ap, arith}
 use Rattle.cells.specs.Places.{cell_count}
 use Rattle.cut_check.specs.declared.record.CutRecord.{CutRecord}
-use Rattle.quilt.specs.declared.block.BlockRecord.{BlockRecord}
-use Rattle.quilt.specs.Blocks.{block_cells}
+use Rattle.block_check.specs.declared.block.BlockRecord.{BlockRecord}
+use Rattle.block_check.specs.Blocks.{block_cells}
 use Rattle.cert_file.specs.CutReading.{bits_of, box_cells, byte_bits}
 use Rattle.std.proofs.lemmas.List.{length-append}
 

@@ -12,8 +12,8 @@ use Rattle.cells.specs.declared.place.At.{At}
 use Rattle.cells.specs.declared.place.Size.{Size}
 use Rattle.cells.specs.Places.{cell_count}
 use Rattle.strip_boundary.specs.declared.boundary.BoundaryRecord.{BoundaryRecord}
-use Rattle.quilt.specs.declared.block.BlockRecord.{BlockRecord}
-use Rattle.quilt.specs.Blocks.{HasColumns, block_cells}
+use Rattle.block_check.specs.declared.block.BlockRecord.{BlockRecord}
+use Rattle.block_check.specs.Blocks.{HasColumns, block_cells}
 use Rattle.file_bytes.specs.Fields.{field_16, field_32, fields_16, fields_32}
 use Rattle.source_map.specs.declared.head.Head.{Head}
 use Rattle.source_map.specs.Heads.{IsKind, head_form, head_read}

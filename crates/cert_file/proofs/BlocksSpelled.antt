@@ -13,7 +13,7 @@ use Rattle.cells.specs.declared.place.At.{At}
 use Rattle.cells.specs.declared.place.Size.{Size}
 use Rattle.cells.specs.Places.{cell_count}
 use Rattle.strip_boundary.specs.declared.boundary.BoundaryRecord.{BoundaryRecord}
-use Rattle.quilt.specs.declared.block.BlockRecord.{BlockRecord}
+use Rattle.block_check.specs.declared.block.BlockRecord.{BlockRecord}
 use Rattle.file_bytes.specs.Fields.{field_16, field_32, fields_16, fields_32}
 use Rattle.source_map.specs.declared.head.Head.{Head}
 use Rattle.source_map.specs.Heads.{head_form, head_read}
@@ -25,7 +25,7 @@ use Rattle.cert_file.specs.declared.file.CertFile.{CertFile}
 use Rattle.cert_file.specs.declared.file.CertFile.TheVariants.{Blocks}
 use Rattle.cert_file.specs.BlockForms.{block_form, block_size_field, boundary_form, flag, spot_field}
 use Rattle.cert_file.specs.BlockReading.{block_read, block_size_read, block_start_read, boundary_read, cols_rule, flags_rule, has_left, has_top, left_read, side_read, spot_read, spot_rule, top_read}
-use Rattle.quilt.specs.Blocks.{block_cells}
+use Rattle.block_check.specs.Blocks.{block_cells}
 use Rattle.cert_file.specs.CutReading.{box_axis_rule, box_cells_rule, number_of_two}
 use Rattle.cert_file.specs.RecordFiles.{AreBlocksSpelled, blocks_form, blocks_kind, cert_form, kinds, record_magic, records_read, versions}
 use Rattle.cert_file.specs.Rules.{any_rule}

@@ -7,7 +7,7 @@ use Rattle.shelf_core.specs.declared.fault.FormFault.TheVariants.{Form}
 use Rattle.shelf_core.specs.declared.fault.ReadError.TheVariants.{Bad}
 use Rattle.cells.specs.declared.place.Taps.{Taps}
 use Rattle.cut_check.specs.declared.record.CutRecord.{CutRecord}
-use Rattle.quilt.specs.declared.block.BlockRecord.{BlockRecord}
+use Rattle.block_check.specs.declared.block.BlockRecord.{BlockRecord}
 use Rattle.source_map.specs.declared.head.Head.{Head}
 use Rattle.source_map.specs.declared.head.Version.{Version}
 use Rattle.source_map.specs.declared.head.Version.TheVariants.{One, Two}

@@ -8,8 +8,8 @@ use Rattle.strip_boundary.specs.declared.boundary.BoundaryRecord.{BoundaryRecord
 use Rattle.block_strips.specs.declared.side.Side.{Side}
 use Rattle.block_strips.specs.declared.side.Side.TheVariants.{Left, Top}
 use Rattle.block_strips.specs.Strips.{strip_rows}
-use Rattle.quilt.specs.declared.block.BlockRecord.{BlockRecord}
-use Rattle.quilt.specs.Blocks.{IsFormedBlock, boundary_on, cols_of}
+use Rattle.block_check.specs.declared.block.BlockRecord.{BlockRecord}
+use Rattle.block_check.specs.Blocks.{IsFormedBlock, boundary_on, cols_of}
 
 -- a place in frame 0: x, y, two bytes each
 abbrev pub spot_field : At → List ℕ

@@ -12,8 +12,8 @@ use Rattle.source_map.specs.Readings.{◌>>=◌, field_read, list_read, number_r
 use Rattle.strip_boundary.specs.declared.boundary.BoundaryRecord.{BoundaryRecord}
 use Rattle.block_strips.specs.declared.side.Side.TheVariants.{Left, Top}
 use Rattle.block_strips.specs.Strips.{most_cols, strip_rows}
-use Rattle.quilt.specs.declared.block.BlockRecord.{BlockRecord}
-use Rattle.quilt.specs.Blocks.{HasColumns, block_cells}
+use Rattle.block_check.specs.declared.block.BlockRecord.{BlockRecord}
+use Rattle.block_check.specs.Blocks.{HasColumns, block_cells}
 use Rattle.cert_file.specs.declared.block_fields.BlockStart.{BlockStart}
 use Rattle.cert_file.specs.CutReading.{IsBoxAfter, box_axis_rule, box_cells_rule, each_read, number_of_two}
 use Rattle.cert_file.specs.Rules.{any_rule}

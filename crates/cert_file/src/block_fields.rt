@@ -13,9 +13,9 @@ use crate::number_lists::{read_list_16, read_list_32};
 use cells::{At, Box3, Size};
 use file_bytes::FileReader;
 use map_canvas::Placement;
-use quilt::BoundaryRecord;
 use shelf_core::{ReadError, Shelf};
 use std::alloc::Global;
+use strip_boundary::BoundaryRecord;
 
 // What a block record begins with.
 #[derive(Drop)]

@@ -8,7 +8,7 @@ ghost use Rattle.file_bytes.specs.Writing.{Puts};
 ghost use Rattle.cells.specs.Places.{cell_count};
 ghost use Rattle.block_strips.specs.Strips.{most_cols, strip_rows};
 ghost use Rattle.block_strips.specs.declared.side.Side.TheVariants.{Left, Top};
-ghost use Rattle.quilt.specs.Blocks.{HasColumns, HasColumnsOn, block_cells, boundary_on, cols_of};
+ghost use Rattle.block_check.specs.Blocks.{HasColumns, HasColumnsOn, block_cells, boundary_on, cols_of};
 ghost use Rattle.source_map.specs.Readings.{ReadsFrom};
 ghost use Rattle.cert_file.specs.BlockForms.{IsBlockInForm, IsWideBlock, IsWideBoundary, block_form, block_start_form, boundary_form, flags_of, spot_field};
 ghost use Rattle.cert_file.specs.BlockReading.{IsBoundaryRead, IsSpot, block_read, blocks_read, side_read};
@@ -21,13 +21,14 @@ use crate::block_fields::{read_block_start, read_boundary};
 use crate::cut_reading::cells_of;
 use crate::file::{BLOCKS, CertFile, MAGIC, read_count};
 use crate::number_lists::{fit_16, fit_32};
+use block_check::BlockRecord;
 use cells::At;
 use file_bytes::{FileReader, FileWriter, make_room};
 use items::Items;
-use quilt::{BlockRecord, BoundaryRecord};
 use shelf_core::{ReadError, Shelf, WriteFault};
 use source_map::{Head, put_head};
 use std::alloc::Global;
+use strip_boundary::BoundaryRecord;
 
 // A place in frame 0 in the file's form.
 fn spot_bytes(p: At) -> [u8; 4]

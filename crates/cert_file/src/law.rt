@@ -4,7 +4,7 @@ ghost use Rattle.shelf_core.specs.declared.fault.ReadError.{ReadError};
 ghost use Rattle.cert_file.specs.declared.file.CertFile.{CertFile};
 ghost use Rattle.cells.specs.declared.place.Taps.{Taps};
 ghost use Rattle.cut_check.specs.declared.record.CutRecord.{CutRecord};
-ghost use Rattle.quilt.specs.declared.block.BlockRecord.{BlockRecord};
+ghost use Rattle.block_check.specs.declared.block.BlockRecord.{BlockRecord};
 ghost use Rattle.source_map.specs.declared.head.Head.{Head};
 ghost use Rattle.cert_file.specs.RecordFiles.{AreBlocksReadAgain, AreBlocksSpelled, AreReadAgain, AreSpelled, HasSpelling, IsCertOf, IsReadByBoth, IsWalkReadAgain, IsWalkSpelled, RefusesCert, cert_form};
 

@@ -13,6 +13,7 @@ mod number_lists;
 mod walk_fields;
 mod walks;
 
+pub use block_check::BlockRecord;
 pub use blocks::write_blocks;
 pub use cells::Taps;
 pub use cut_check::{CutRecord, Flow};
@@ -24,7 +25,7 @@ pub use law::{
     no_record_begins_another, one_reading, version_one_cuts_are_cuts, walk_has_one_spelling,
     walk_read_again,
 };
-pub use quilt::{BlockRecord, BoundaryRecord};
 pub use source_map::{Head, Version};
+pub use strip_boundary::BoundaryRecord;
 pub use walk_fields::{GREATEST_GAP, MOST_FRAMES};
 pub use walks::write_walk;

@@ -18,11 +18,11 @@ use Rattle.block_strips.specs.declared.side.Side.TheVariants.{Left, Top}
 use Rattle.block_strips.specs.Blocks.{FitsBlock, shared_cols}
 use Rattle.block_strips.specs.Laid.{SharesStrips}
 use Rattle.block_strips.specs.Strips.{most_cols, strip_of, strip_rows}
-use Rattle.quilt.specs.declared.block.BlockRecord.{BlockRecord}
-use Rattle.quilt.specs.Blocks.{HasColumnsOn, IsFormedBlock, cols_on, strip_cols}
-use Rattle.quilt.specs.Records.{BlockStands, JoinStands, OverlapsAt}
+use Rattle.block_check.specs.declared.block.BlockRecord.{BlockRecord}
+use Rattle.block_check.specs.Blocks.{HasColumnsOn, IsFormedBlock, cols_on, strip_cols}
+use Rattle.block_check.specs.Records.{BlockStands, JoinStands, OverlapsAt}
 use Rattle.quilt.specs.Runs.{IsLaidBlock, JoinsBy, plan_strip}
-use Rattle.quilt.proofs.Columns.{cols_are, rows_some}
+use Rattle.block_check.proofs.Columns.{cols_are, rows_some}
 
 -- the columns of a boundary are those of the strip that it goes through
 module _ (side : Side) (m : SourceMap) (sample : Cells) (placement : Placement) (cols : ℕ) (some : HasCells placement.rect.size) where

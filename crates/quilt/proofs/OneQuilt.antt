@@ -20,8 +20,8 @@ use Rattle.strip_boundary.proofs.OneAnswer.{one_first_least, one_tight}
 use Rattle.block_strips.specs.declared.plan.QuiltPlan.{QuiltPlan}
 use Rattle.block_strips.specs.declared.side.Side.TheVariants.{Left, Top}
 use Rattle.block_strips.specs.Blocks.{block_at, next_box}
-use Rattle.quilt.specs.declared.block.BlockRecord.{BlockRecord}
-use Rattle.quilt.specs.Blocks.{after_block, new_cells}
+use Rattle.block_check.specs.declared.block.BlockRecord.{BlockRecord}
+use Rattle.block_check.specs.Blocks.{after_block, new_cells}
 use Rattle.quilt.specs.Runs.{JoinsBy, OneQuilt, QuiltsBy, QuiltsTo, Quilting, plan_strip}
 use Rattle.map_canvas.proofs.MapsAfter.{after_is_map}
 

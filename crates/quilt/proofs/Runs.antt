@@ -8,18 +8,14 @@ use Rattle.map_canvas.proofs.Marks.{empty_is_canvas}
 use Rattle.block_strips.specs.declared.plan.QuiltPlan.{QuiltPlan}
 use Rattle.block_strips.specs.Laid.{IsLaidByBlocks}
 use Rattle.block_strips.proofs.Laying.{empty_is_laid, next_fits, shares_strips, stays_laid}
-use Rattle.quilt.specs.declared.block.BlockRecord.{BlockRecord}
-use Rattle.quilt.specs.Blocks.{after_block, new_cells}
-use Rattle.quilt.specs.Records.{BlockStands}
-use Rattle.quilt.specs.Runs.{EachStandingIsLeast, QuiltsBy, QuiltsReplay, QuiltsTo, Quilting, BlocksReplay}
-use Rattle.quilt.proofs.Filling.{fills_block}
+use Rattle.block_check.specs.declared.block.BlockRecord.{BlockRecord}
+use Rattle.block_check.specs.Blocks.{after_block, new_cells}
+use Rattle.block_check.specs.Records.{BlockStands}
+use Rattle.quilt.specs.Runs.{QuiltsBy, QuiltsReplay, QuiltsTo, Quilting, BlocksReplay}
+use Rattle.block_check.proofs.Filling.{fills_block}
 use Rattle.quilt.proofs.Laying.{HasJoins, laid_stands}
 use Rattle.map_canvas.proofs.MapsAfter.{after_is_map}
-use Rattle.quilt.proofs.Standing.{standing_is_least}
-
-pub each_least : EachStandingIsLeast
-each_least sample m [] stand = tt
-each_least sample m (block ∷ blocks) stand = (standing_is_least m sample block stand.0, each_least sample (after_block m block) blocks stand.1)
+use Rattle.block_check.proofs.Standing.{standing_is_least}
 
 -- one step
 pub record StepLeaves (plan : QuiltPlan) (sample : Cells) (m : SourceMap) (block : BlockRecord) : Type 0 where

@@ -24,9 +24,9 @@ use Rattle.block_strips.specs.declared.side.Side.TheVariants.{Left, Top}
 use Rattle.block_strips.specs.Blocks.{next_box, shared_cols}
 use Rattle.block_strips.specs.Laid.{IsLaidByBlocks}
 use Rattle.block_strips.specs.Strips.{strip_of}
-use Rattle.quilt.specs.declared.block.BlockRecord.{BlockRecord}
-use Rattle.quilt.specs.Blocks.{after_block}
-use Rattle.quilt.specs.Records.{BlockIsLeast, BlockStands}
+use Rattle.block_check.specs.declared.block.BlockRecord.{BlockRecord}
+use Rattle.block_check.specs.Blocks.{after_block}
+use Rattle.block_replay.specs.BlockReplay.{EachBlockIsLeast, EachBlockStands, left_by_blocks}
 
 -- a canvas and a sample of one frame, with cells of three samples, where the canvas stands over the
 -- sample
@@ -107,25 +107,6 @@ pub record IsQuilted (plan : QuiltPlan) (sample : Cells) (size : Size) (seed : �
   pub run : QuiltsTo plan sample (first_quilting size seed) blocks after
   pub full : IsFull after.map
 
--- the map that block records leave, put in one after another
-abbrev pub left_by_blocks : SourceMap → List BlockRecord → SourceMap
-left_by_blocks m [] = m
-left_by_blocks m (block ∷ blocks) = left_by_blocks (after_block m block) blocks
-
--- something holds of each record and the map that the records before it leave
-abbrev pub EachBlockOver :
-    (SourceMap → BlockRecord → Type 0) → SourceMap → List BlockRecord → Type 0
-EachBlockOver Holds m [] = Unit {0}
-EachBlockOver Holds m (block ∷ blocks) =
-    Holds m block × EachBlockOver Holds (after_block m block) blocks
-
--- each record stands over that map, and each boundary is least there
-abbrev pub EachBlockStands : Cells → SourceMap → List BlockRecord → Type 0
-EachBlockStands sample = EachBlockOver (λ m block. BlockStands m sample block)
-
-abbrev pub EachBlockIsLeast : Cells → SourceMap → List BlockRecord → Type 0
-EachBlockIsLeast sample = EachBlockOver (λ m block. BlockIsLeast m sample block)
-
 -- Laws.
 
 -- what a run of steps leaves is what its records leave, each of which stands and has least
@@ -142,12 +123,6 @@ QuiltsReplay plan sample size =
     (seed : ℕ) (blocks : List BlockRecord) (after : Quilting)
     → QuiltsTo plan sample (first_quilting size seed) blocks after
     → BlocksReplay plan sample (empty_map size) blocks after.map
-
--- where each record stands, each boundary is least
-abbrev pub EachStandingIsLeast : Type 0
-EachStandingIsLeast =
-    (sample : Cells) (m : SourceMap) (blocks : List BlockRecord)
-    → EachBlockStands sample m blocks → EachBlockIsLeast sample m blocks
 
 -- of a plan, a sample, a size and a seed there is one quilted run
 abbrev pub OneQuilt : QuiltPlan → Cells → Size → Type 0

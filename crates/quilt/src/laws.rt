@@ -2,20 +2,10 @@
 ghost use Rattle.std.specs.Prelude.{◌≡◌, ◌≤◌};
 ghost use Rattle.cells.specs.Cells.{IsOnePart};
 ghost use Rattle.cells.specs.Places.{IsSmall};
-ghost use Rattle.quilt.specs.Records.{StandingBlockBreaksNone, StandingBlockIsLeast};
-ghost use Rattle.quilt.specs.Runs.{EachStandingIsLeast, OneQuilt, QuiltsReplay};
+ghost use Rattle.quilt.specs.Runs.{OneQuilt, QuiltsReplay};
 
 use block_strips::QuiltPlan;
 use cells::{Size, Volume};
-
-/// A law, with nothing to run: each boundary of a record that stands is least of all boundaries of its strip,
-/// whoever made it, and so is each of a list of records that stand over one another; and a record that stands
-/// breaks no rule.
-pub fn standing_blocks_are_least()
-    ensures least { StandingBlockIsLeast }
-    ensures each { EachStandingIsLeast }
-    ensures unbroken { StandingBlockBreaksNone }
-{}
 
 /// A law, with nothing to run: what steps of a plan leave, from the canvas with no cell filled on, is the map
 /// that their records leave, put in one after another. Each record stands over the map that those before it

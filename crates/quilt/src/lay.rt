@@ -5,11 +5,11 @@ ghost use Rattle.map_canvas.specs.Choices.{Fits};
 ghost use Rattle.block_strips.specs.Blocks.{next_box};
 ghost use Rattle.block_strips.specs.Laid.{IsLaidByBlocks, SharesStrips};
 ghost use Rattle.block_strips.specs.Strips.{most_cols, strip_of};
-ghost use Rattle.quilt.specs.Blocks.{IsFormedBlock};
-ghost use Rattle.quilt.specs.Records.{BlockStands};
+ghost use Rattle.block_check.specs.Blocks.{IsFormedBlock};
+ghost use Rattle.block_check.specs.Records.{BlockStands};
 ghost use Rattle.quilt.specs.Runs.{HaveOneFrame, IsLaidBlock, JoinsBy};
 
-use crate::BlockRecord;
+use block_check::BlockRecord;
 use block_strips::{QuiltPlan, Side, next_block_shares_strips, strip_of};
 use cells::Volume;
 use map_canvas::{Canvas, Placement};

@@ -9,11 +9,12 @@ ghost use Rattle.patch_place.specs.Picks.{IsPick};
 ghost use Rattle.patch_place.specs.Steps.{after_draw};
 ghost use Rattle.block_strips.specs.Blocks.{FitsBlock, next_box};
 ghost use Rattle.block_strips.specs.Laid.{IsLaidByBlocks};
-ghost use Rattle.quilt.specs.Blocks.{after_block};
-ghost use Rattle.quilt.specs.Records.{BlockStands};
+ghost use Rattle.block_check.specs.Blocks.{after_block};
+ghost use Rattle.block_check.specs.Records.{BlockStands};
 ghost use Rattle.quilt.specs.Runs.{HaveOneFrame, IsLaidBlock, LaysNext, quilting};
 
-use crate::{BlockRecord, lay_block, put_block};
+use crate::lay_block;
+use block_check::{BlockRecord, put_block};
 use block_strips::{QuiltPlan, block_rect, next_block_shares_strips};
 use block_sums::SampleSums;
 use cells::{Box3, Volume};

@@ -8,7 +8,7 @@ use Rattle.netpbm_p6.proofs.OneReading.{one_picture}
 use Rattle.map_canvas.specs.Maps.{SourceMap, picture_of}
 use Rattle.source_map.specs.MapFiles.{cell_map_form}
 use Rattle.source_map.specs.declared.head.Version.TheVariants.{One}
-use Rattle.quilt.specs.declared.block.BlockRecord.{BlockRecord}
+use Rattle.block_check.specs.declared.block.BlockRecord.{BlockRecord}
 use Rattle.quilt.specs.Runs.{IsQuilted, Quilting, quilting}
 use Rattle.quilt.proofs.OneQuilt.{one_quilt}
 use Rattle.cert_file.specs.RecordFiles.{blocks_form}

@@ -11,8 +11,8 @@ use Rattle.source_map.specs.declared.head.Version.TheVariants.{One}
 use Rattle.source_map.specs.declared.map_file.MapFile.TheVariants.{Cells as CellMap}
 use Rattle.source_map.specs.MapFiles.{cell_map_form, map_read}
 use Rattle.source_map.proofs.MapsAgain as maps
-use Rattle.quilt.specs.declared.block.BlockRecord.{BlockRecord}
-use Rattle.quilt.specs.Blocks.{block_cells}
+use Rattle.block_check.specs.declared.block.BlockRecord.{BlockRecord}
+use Rattle.block_check.specs.Blocks.{block_cells}
 use Rattle.cert_file.specs.declared.file.CertFile.TheVariants.{Blocks}
 use Rattle.cert_file.specs.RecordFiles.{IsCertOf, blocks_form}
 use Rattle.cert_file.proofs.BlocksAgain.{blocks_again}

@@ -18,9 +18,9 @@ use Rattle.strip_boundary.specs.declared.boundary.BoundaryRecord.{BoundaryRecord
 use Rattle.block_strips.specs.declared.side.Side.{Side}
 use Rattle.block_strips.specs.declared.side.Side.TheVariants.{Left, Top}
 use Rattle.block_strips.specs.Strips.{strip_rows}
-use Rattle.quilt.specs.declared.block.BlockRecord.{BlockRecord}
+use Rattle.block_check.specs.declared.block.BlockRecord.{BlockRecord}
 use Rattle.quilting.specs.Costs.{IsFileBlock, IsFileSide}
-use Rattle.quilt.specs.Blocks.{block_cells}
+use Rattle.block_check.specs.Blocks.{block_cells}
 use Rattle.quilting.proofs.Stepping.{some_cells}
 use Rattle.cert_file.specs.BlockForms.{IsBlockInForm, IsWideBlock, IsWideBoundary}
 use Rattle.cert_file.specs.RecordFiles.{AreBlocksInForm}

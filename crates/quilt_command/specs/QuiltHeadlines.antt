@@ -11,8 +11,9 @@ use Rattle.map_canvas.specs.Maps.{SourceMap, IsFull, IsMap, IsOver, empty_map, m
 use Rattle.source_map.specs.MapFiles.{cell_map_form}
 use Rattle.source_map.specs.declared.head.Version.TheVariants.{One}
 use Rattle.patch_place.specs.Draws.{DrawState}
-use Rattle.quilt.specs.declared.block.BlockRecord.{BlockRecord}
-use Rattle.quilt.specs.Runs.{EachBlockIsLeast, EachBlockStands, IsQuilted, left_by_blocks, quilting}
+use Rattle.block_check.specs.declared.block.BlockRecord.{BlockRecord}
+use Rattle.quilt.specs.Runs.{IsQuilted, quilting}
+use Rattle.block_replay.specs.BlockReplay.{EachBlockIsLeast, EachBlockStands, left_by_blocks}
 use Rattle.quilting.specs.Costs.{all_boundaries, quilt_cost}
 use Rattle.cert_file.specs.RecordFiles.{blocks_form}
 use Rattle.job_words.specs.declared.quilt.QuiltJob.{QuiltJob}

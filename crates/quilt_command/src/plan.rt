@@ -5,10 +5,10 @@ ghost use Rattle.job_words.specs.QuiltWords.{IsQuiltJob};
 ghost use Rattle.run_outcome.specs.Outcomes.{Plans};
 ghost use Rattle.quilt_command.specs.Quilts.{IsMadeQuilt, SetForPicture, fault_of_quilting, quilt_command, quilt_files, quilt_run_of, quilt_size, quilt_summary};
 
+use block_strips::QuiltPlan;
 use cells::Size;
 use job_words::QuiltJob;
 use netpbm_p6::{Picture, read_p6};
-use quilt::QuiltPlan;
 use quilting::{QuiltError, QuiltRun, Quilted, quilt_canvas};
 use replay::MOST_BOX_CELLS;
 use run_outcome::read_fault;

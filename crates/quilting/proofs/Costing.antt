@@ -4,7 +4,7 @@ use Rattle.strip_boundary.specs.declared.boundary.BoundaryRecord.{BoundaryRecord
 use Rattle.strip_boundary.specs.Boundaries.{boundary_cost}
 use Rattle.strip_boundary.specs.Records.{BoundaryStands}
 use Rattle.strip_boundary.specs.Strips.{ErrorTable, at_cell}
-use Rattle.quilt.proofs.Columns.{cols_are}
+use Rattle.block_check.proofs.Columns.{cols_are}
 use Rattle.quilting.specs.QuiltWork.{IsLeastAt}
 
 -- one row less

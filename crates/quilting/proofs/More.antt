@@ -4,9 +4,10 @@ use Rattle.cells.specs.Cells.{Cells}
 use Rattle.map_canvas.specs.Choices.{box_count}
 use Rattle.map_canvas.specs.Maps.{SourceMap}
 use Rattle.block_strips.specs.declared.plan.QuiltPlan.{QuiltPlan}
-use Rattle.quilt.specs.declared.block.BlockRecord.{BlockRecord}
-use Rattle.quilt.specs.Blocks.{after_block, block_cells}
-use Rattle.quilt.specs.Runs.{QuiltsBy, QuiltsTo, Quilting, left_by_blocks}
+use Rattle.block_check.specs.declared.block.BlockRecord.{BlockRecord}
+use Rattle.block_check.specs.Blocks.{after_block, block_cells}
+use Rattle.quilt.specs.Runs.{QuiltsBy, QuiltsTo, Quilting}
+use Rattle.block_replay.specs.BlockReplay.{left_by_blocks}
 use Rattle.quilting.specs.Costs.{all_boundaries, block_boundaries, block_cost, quilt_cost}
 
 pub quilts_more : (plan : QuiltPlan) (sample : Cells) (s : Quilting) (blocks : List BlockRecord) (t : Quilting) (block : BlockRecord) (u : Quilting) → QuiltsTo plan sample s blocks t → QuiltsBy plan sample t block u → QuiltsTo plan sample s (blocks ++ block ∷ []) u

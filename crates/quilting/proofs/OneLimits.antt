@@ -10,8 +10,8 @@ use Rattle.map_canvas.specs.Maps.{IsFull, IsMap}
 use Rattle.map_canvas.proofs.Marks.{empty_is_canvas}
 use Rattle.block_strips.specs.declared.plan.QuiltPlan.{QuiltPlan}
 use Rattle.block_strips.specs.Blocks.{next_box}
-use Rattle.quilt.specs.declared.block.BlockRecord.{BlockRecord}
-use Rattle.quilt.specs.Blocks.{block_cells, new_cells}
+use Rattle.block_check.specs.declared.block.BlockRecord.{BlockRecord}
+use Rattle.block_check.specs.Blocks.{block_cells, new_cells}
 use Rattle.quilt.specs.Runs.{QuiltsBy, QuiltsTo, Quilting, first_quilting}
 use Rattle.map_canvas.proofs.MapsAfter.{after_is_map}
 use Rattle.quilt.proofs.OneQuilt.{no_box, one_step}

@@ -17,10 +17,11 @@ use Rattle.block_strips.specs.declared.side.Side.{Side}
 use Rattle.block_strips.specs.declared.side.Side.TheVariants.{Left, Top}
 use Rattle.block_strips.specs.Laid.{IsLaidByBlocks}
 use Rattle.block_strips.proofs.Laying.{next_fits, shares_strips}
-use Rattle.quilt.specs.declared.block.BlockRecord.{BlockRecord}
-use Rattle.quilt.specs.Blocks.{IsFormedBlock, block_cells}
-use Rattle.quilt.specs.Records.{BlockStands, JoinStands}
-use Rattle.quilt.specs.Runs.{HaveOneFrame, QuiltsBy, QuiltsTo, Quilting, first_quilting, left_by_blocks, quilting}
+use Rattle.block_check.specs.declared.block.BlockRecord.{BlockRecord}
+use Rattle.block_check.specs.Blocks.{IsFormedBlock, block_cells}
+use Rattle.block_check.specs.Records.{BlockStands, JoinStands}
+use Rattle.quilt.specs.Runs.{HaveOneFrame, QuiltsBy, QuiltsTo, Quilting, first_quilting, quilting}
+use Rattle.block_replay.specs.BlockReplay.{left_by_blocks}
 use Rattle.quilt.proofs.Laying.{HasJoins, laid_formed}
 use Rattle.quilt.proofs.Runs.{quilts_replay}
 use Rattle.replay.specs.declared.records.TheConstants.{MOST_BOX_CELLS}

@@ -12,8 +12,8 @@ use Rattle.strip_boundary.specs.Boundaries.{boundary_cost}
 use Rattle.block_strips.specs.declared.side.Side.{Side}
 use Rattle.block_strips.specs.declared.side.Side.TheVariants.{Left, Top}
 use Rattle.block_strips.specs.Strips.{strip_rows}
-use Rattle.quilt.specs.declared.block.BlockRecord.{BlockRecord}
-use Rattle.quilt.specs.Blocks.{IsFormedBlock, after_block, block_cells, strip_on}
+use Rattle.block_check.specs.declared.block.BlockRecord.{BlockRecord}
+use Rattle.block_check.specs.Blocks.{IsFormedBlock, after_block, block_cells, strip_on}
 use Rattle.replay.specs.declared.records.TheConstants.{MOST_BOX_CELLS}
 
 -- how many boundaries there are: on one side of a block, of a block, and of a list of them

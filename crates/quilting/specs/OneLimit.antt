@@ -2,11 +2,11 @@
 -- end, and there is one number. That there is one run is a law of the crate quilt. (Own.)
 use Rattle.std.specs.Prelude.{◌≡◌, ◌≤◌, ℕ, List}
 use Rattle.cells.specs.Cells.{Cells}
-use Rattle.quilt.specs.declared.block.BlockRecord.{BlockRecord}
+use Rattle.block_check.specs.declared.block.BlockRecord.{BlockRecord}
 use Rattle.quilt.specs.Runs.{IsQuilted, Quilting}
 use Rattle.replay.specs.declared.records.TheConstants.{MOST_BOX_CELLS}
 use Rattle.quilting.specs.declared.asked.QuiltRun.{QuiltRun}
-use Rattle.quilt.specs.Blocks.{block_cells}
+use Rattle.block_check.specs.Blocks.{block_cells}
 use Rattle.quilting.specs.Quilted.{QuiltPassesAt}
 
 -- a run that ends with boxes within the bound passes it nowhere

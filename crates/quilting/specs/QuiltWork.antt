@@ -11,15 +11,15 @@ use Rattle.strip_boundary.specs.Records.{BoundaryStands}
 use Rattle.strip_boundary.specs.Strips.{ErrorTable}
 use Rattle.block_strips.specs.declared.side.Side.{Side}
 use Rattle.block_strips.specs.Laid.{IsLaidByBlocks}
-use Rattle.quilt.specs.declared.block.BlockRecord.{BlockRecord}
-use Rattle.quilt.specs.Records.{BlockStands, JoinStands}
+use Rattle.block_check.specs.declared.block.BlockRecord.{BlockRecord}
+use Rattle.block_check.specs.Records.{BlockStands, JoinStands}
 use Rattle.quilt.specs.Runs.{HaveOneFrame, QuiltsTo, first_quilting, quilting}
 use Rattle.replay.specs.declared.records.TheConstants.{MOST_BOX_CELLS}
 use Rattle.quilting.specs.declared.asked.QuiltRun.{QuiltRun}
 use Rattle.quilting.specs.declared.asked.QuiltError.{QuiltError}
 use Rattle.quilting.specs.declared.steps.QuiltWork.{QuiltWork}
 use Rattle.quilting.specs.Costs.{IsFileBlock, all_boundaries, block_cost, quilt_cost, side_cost}
-use Rattle.quilt.specs.Blocks.{block_cells}
+use Rattle.block_check.specs.Blocks.{block_cells}
 use Rattle.quilting.specs.Quilted.{IsQuiltFault}
 
 -- one of the first so many numbers of a list that is least of them, by its place

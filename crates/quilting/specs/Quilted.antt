@@ -8,7 +8,7 @@ use Rattle.map_canvas.specs.Canvases.{IsCanvas, StandsOver}
 use Rattle.map_canvas.specs.Maps.{empty_map}
 use Rattle.patch_place.specs.Draws.{DrawState}
 use Rattle.block_strips.specs.Blocks.{next_box}
-use Rattle.quilt.specs.declared.block.BlockRecord.{BlockRecord}
+use Rattle.block_check.specs.declared.block.BlockRecord.{BlockRecord}
 use Rattle.quilt.specs.Runs.{IsQuilted, Quilting, QuiltsTo, BlocksReplay, first_quilting, quilting}
 use Rattle.replay.specs.declared.records.TheConstants.{MOST_BOX_CELLS}
 use Rattle.quilting.specs.declared.asked.QuiltRun.{QuiltRun}
@@ -16,7 +16,7 @@ use Rattle.quilting.specs.declared.asked.Quilted.{Quilted}
 use Rattle.quilting.specs.declared.asked.QuiltError.{QuiltError}
 use Rattle.quilting.specs.declared.asked.QuiltError.TheVariants.{Records, NoMemory}
 use Rattle.quilting.specs.Costs.{AreFileBlocks, all_boundaries, quilt_cost}
-use Rattle.quilt.specs.Blocks.{block_cells}
+use Rattle.block_check.specs.Blocks.{block_cells}
 
 -- what quilting asks for: an output of one frame, blocks of at least one cell, and a sample of one
 -- part and one frame, with cells of three samples

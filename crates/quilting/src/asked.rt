@@ -1,8 +1,9 @@
 // What is asked of quilting, and what it gives.
+use block_check::BlockRecord;
+use block_strips::QuiltPlan;
 use cells::Size;
 use items::Items;
 use map_canvas::Canvas;
-use quilt::{BlockRecord, QuiltPlan};
 use std::alloc::AllocError;
 
 /// A quilt that is asked for.

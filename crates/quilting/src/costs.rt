@@ -1,12 +1,14 @@
 // What is told of the record of a block.
 ghost use Rattle.std.specs.Prelude.{◌≡◌, ◌≤◌, ◌<◌, ◌+◌, ◌-◌, ◌^◌, ℕ, All, length, slice_index};
 ghost use Rattle.block_strips.specs.Strips.{strip_rows};
-ghost use Rattle.quilt.specs.Blocks.{HasColumnsOn, IsFormedBlock};
+ghost use Rattle.block_check.specs.Blocks.{HasColumnsOn, IsFormedBlock};
 ghost use Rattle.quilting.specs.Costs.{block_boundaries, side_count};
 ghost use Rattle.quilting.specs.QuiltWork.{BlockCostsSo, CostsSo, HasBlockWidths, HasSideWidths, HasWidths, IsLeastAt, SideCostsSo};
 
+use block_check::BlockRecord;
+use block_strips::Side;
 use map_canvas::Placement;
-use quilt::{BlockRecord, BoundaryRecord, Side};
+use strip_boundary::BoundaryRecord;
 
 // The place of the first least number.
 fn least_at(numbers: &[u32]) -> usize

@@ -6,11 +6,13 @@ ghost use Rattle.quilting.specs.QuiltWork.{QuiltAdvances, IsQuiltWork};
 
 use crate::asked::{QuiltError, QuiltRun};
 use crate::costs::{block_boundaries, block_cost, block_fits};
+use block_check::BlockRecord;
+use block_strips::empty_map_is_laid;
 use block_sums::SampleSums;
 use cells::Volume;
 use map_canvas::Canvas;
 use patch_place::Draws;
-use quilt::{BlockRecord, empty_map_is_laid, next_block_with};
+use quilt::next_block_with;
 use replay::MOST_BOX_CELLS;
 use std::alloc::{AllocError, Global};
 

@@ -13,13 +13,12 @@ use Rattle.source_map.specs.declared.map_file.MapFile.{MapFile}
 use Rattle.source_map.specs.MapFiles.{numbered_size}
 use Rattle.cut_check.specs.declared.record.CutRecord.{CutRecord}
 use Rattle.replay.specs.Replay.{EachStands, IsFormed, left_by}
-use Rattle.quilt.specs.declared.block.BlockRecord.{BlockRecord}
-use Rattle.quilt.specs.Runs.{EachBlockStands, left_by_blocks}
-use Rattle.quilt.specs.Blocks.{IsFormedBlock}
+use Rattle.block_check.specs.declared.block.BlockRecord.{BlockRecord}
+use Rattle.block_check.specs.Blocks.{IsFormedBlock}
 use Rattle.block_replay.specs.declared.records.BlocksError.{BlocksError}
 use Rattle.block_replay.specs.declared.records.BlocksError.TheVariants.{Broken as BrokenAt}
 use Rattle.block_replay.specs.declared.records.BrokenBlock.{BrokenBlock}
-use Rattle.block_replay.specs.BlockReplay.{ReplaysBlocks}
+use Rattle.block_replay.specs.BlockReplay.{EachBlockStands, ReplaysBlocks, left_by_blocks}
 use Rattle.frame_distance.specs.Steps.{Steps}
 use Rattle.frame_distance.specs.declared.table.TheConstants.{MOST_CLIP_CELLS}
 use Rattle.loop_walk.specs.Records.{WalkStands}

@@ -16,10 +16,9 @@ use Rattle.cut_check.specs.declared.record.CutRecord.{CutRecord}
 use Rattle.cut_check.specs.Records.{Each, IsFirstWithout}
 use Rattle.replay.specs.declared.records.Broken.{Broken}
 use Rattle.replay.specs.Replay.{EachLeast, EachStands, IsFirstBroken, left_by}
-use Rattle.quilt.specs.declared.block.BlockRecord.{BlockRecord}
-use Rattle.quilt.specs.Runs.{EachBlockIsLeast, EachBlockStands, left_by_blocks}
+use Rattle.block_check.specs.declared.block.BlockRecord.{BlockRecord}
 use Rattle.block_replay.specs.declared.records.BrokenBlock.{BrokenBlock}
-use Rattle.block_replay.specs.BlockReplay.{IsFirstBrokenBlock}
+use Rattle.block_replay.specs.BlockReplay.{EachBlockIsLeast, EachBlockStands, IsFirstBrokenBlock, left_by_blocks}
 use Rattle.frame_distance.specs.Steps.{Steps, steps_of}
 use Rattle.frame_distance.specs.Tables.{distances_of}
 use Rattle.loop_walk.specs.declared.fault.LoopFault.{LoopFault}

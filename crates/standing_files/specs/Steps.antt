@@ -9,8 +9,8 @@ use Rattle.source_map.specs.declared.map_file.MapFile.{MapFile}
 use Rattle.cut_check.specs.declared.record.CutRecord.{CutRecord}
 use Rattle.cut_check.specs.Records.{Each, IsFirstWithout}
 use Rattle.replay.specs.Replay.{EachStands, left_by}
-use Rattle.quilt.specs.declared.block.BlockRecord.{BlockRecord}
-use Rattle.quilt.specs.Runs.{EachBlockStands, left_by_blocks}
+use Rattle.block_check.specs.declared.block.BlockRecord.{BlockRecord}
+use Rattle.block_replay.specs.BlockReplay.{EachBlockStands, left_by_blocks}
 use Rattle.frame_distance.specs.Steps.{Steps}
 use Rattle.loop_walk.specs.Records.{WalkStands}
 use Rattle.cert_file.specs.declared.file.CertFile.{CertFile}

@@ -2,7 +2,7 @@
 //!
 //! `judge` says that they stand exactly where they do (specs/Standing.antt), and else names the first
 //! broken rule with the number of its record and its place. Rules 1 to 6 are those of cut records, which
-//! the crates cut_check and replay judge, rules 7 to 11 those of block records, of the crates quilt and
+//! the crates cut_check and replay judge, rules 7 to 11 those of block records, of the crates block_check and
 //! block_replay, and rules 12 to 14 those of walk records, of the crate loop_walk. The three rules of whole
 //! files are here: `together` tries whether the files go together, `records` whether the records stand and
 //! leave the map, and `picture` whether the out picture is that of the map.

@@ -3,7 +3,7 @@ ghost use Rattle.std.specs.Prelude.{◌≡◌, ◌≤◌, ◌<◌, ◌*◌, ◌^
 ghost use Rattle.cells.specs.Cells.{IsOnePart};
 ghost use Rattle.cells.specs.Places.{cell_count, place_of};
 ghost use Rattle.replay.specs.Replay.{IsFormed};
-ghost use Rattle.quilt.specs.Blocks.{IsFormedBlock};
+ghost use Rattle.block_check.specs.Blocks.{IsFormedBlock};
 ghost use Rattle.frame_distance.specs.declared.table.TheConstants.{MOST_CLIP_CELLS};
 ghost use Rattle.loop_walk.specs.Tables.{IsLength, table_count};
 ghost use Rattle.cert_file.specs.RecordFiles.{IsCert};
@@ -12,6 +12,7 @@ ghost use Rattle.standing_files.specs.Standing.{HasOneFrame, HasOneSource, walk_
 ghost use Rattle.standing_files.specs.Steps.{FirstWithout, JudgesBlocks, JudgesCuts, JudgesRecords, JudgesWalk, Suit, verdict_on_map};
 
 use crate::verdict::{MAP_RULE, Verdict};
+use block_check::BlockRecord;
 use block_replay::{BlocksError, replay_blocks};
 use cells::{At, Taps, Volume};
 use cert_file::CertFile;
@@ -19,7 +20,6 @@ use cut_check::CutRecord;
 use frame_distance::{distances, filtered};
 use loop_walk::check_loop;
 use map_canvas::{Canvas, Map};
-use quilt::BlockRecord;
 use replay::replay_cuts;
 use samples::Samples;
 use source_map::MapFile;

@@ -2,10 +2,10 @@
 ghost use Rattle.std.specs.Prelude.{IfOk};
 ghost use Rattle.samples.specs.Several.{AreSoundSamples};
 
+use block_check::{FIT_RULE, OVERLAP_RULE};
 use cert_file::read_cert;
 use cut_check::{FILL_RULE, VALUE_RULE};
 use loop_walk::{DIAGONAL_RULE, TABLES_RULE, WALK_RULE};
-use quilt::{COST_RULE, FIT_RULE, OVERLAP_RULE, PATH_RULE, SUMS_RULE};
 use samples::{Sample, Samples, read_sample};
 use shelf_core::MemShelf;
 use source_map::read_map;
@@ -13,6 +13,7 @@ use standing_files::Verdict::{Fails, Stands};
 use standing_files::{MAP_RULE, PICTURE_RULE, TOGETHER_RULE, Verdict, judge};
 use std::alloc::{AllocError, Global};
 use std::test::Fail;
+use strip_boundary::{COST_RULE, PATH_RULE, SUMS_RULE};
 
 // Four cells of grey in a row: 10, 20, 30 and 40.
 const SAMPLE: &[u8] = b"P6\n4 1\n255\n\x0a\x0a\x0a\x14\x14\x14\x1e\x1e\x1e\x28\x28\x28";

@@ -2,10 +2,11 @@
 ghost use Rattle.std.specs.Prelude.{◌≤◌};
 
 use crate::rows::greys;
+use block_strips::{QuiltPlan, empty_map_is_laid};
 use cells::{At, Size};
 use map_canvas::Canvas;
 use patch_place::Draws;
-use quilt::{QuiltPlan, empty_map_is_laid, next_block};
+use quilt::next_block;
 use quilting::{QuiltRun, quilt_canvas};
 use std::alloc::{AllocError, Global};
 use std::process::Abort;

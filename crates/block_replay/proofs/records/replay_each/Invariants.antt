@@ -1,6 +1,6 @@
 use Rattle.std.proofs.Common.{◌≡◌, take}
 use Rattle.map_canvas.specs.Canvases.{IsCanvas, StandsOver}
-use Rattle.quilt.specs.Runs.{EachBlockStands, left_by_blocks}
+use Rattle.block_replay.specs.BlockReplay.{EachBlockStands, left_by_blocks}
 use Rattle.block_replay.proofs.records.replay_each.Given as goal
 
 abbrev pub invariant-loop-number : goal.invariant-loop-number

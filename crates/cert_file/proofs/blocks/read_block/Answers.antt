@@ -4,7 +4,7 @@ use Rattle.std.specs.Prelude.{Result, Ok, Err, Option}
 use Rattle.shelf_core.specs.declared.fault.ReadError.{ReadError}
 use Rattle.shelf_core.proofs.FileLaws.{only_reads_same, only_reads_then}
 use Rattle.strip_boundary.specs.declared.boundary.BoundaryRecord.{BoundaryRecord}
-use Rattle.quilt.specs.declared.block.BlockRecord.{BlockRecord}
+use Rattle.block_check.specs.declared.block.BlockRecord.{BlockRecord}
 use Rattle.source_map.proofs.FieldLaws.{chain, first_stops, lifted, made, then_reads, value_alone}
 use Rattle.cert_file.specs.declared.block_fields.BlockStart.{BlockStart}
 use Rattle.cert_file.specs.BlockReading.{block_start_read, left_read, top_read}

@@ -6,7 +6,7 @@ use Rattle.shelf_core.proofs.FileLaws.{only_reads_then}
 use Rattle.source_map.specs.Readings.{Found, ReadsFrom}
 use Rattle.cert_file.specs.BlockForms.{IsBlockInForm}
 use Rattle.cert_file.specs.BlockReading.{block_read, blocks_read}
-use Rattle.quilt.specs.Blocks.{block_cells}
+use Rattle.block_check.specs.Blocks.{block_cells}
 use Rattle.cert_file.proofs.Bits.{block_cells-append}
 use Rattle.cert_file.proofs.Readings.{each_more, each_stops}
 use Rattle.cert_file.proofs.blocks.read_blocks.Goals as goal

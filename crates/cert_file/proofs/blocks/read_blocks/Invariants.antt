@@ -4,7 +4,7 @@ use Rattle.shelf_core.specs.Files.{OnlyReads}
 use Rattle.source_map.specs.Readings.{Found}
 use Rattle.cert_file.specs.BlockForms.{IsBlockInForm}
 use Rattle.cert_file.specs.BlockReading.{blocks_read}
-use Rattle.quilt.specs.Blocks.{block_cells}
+use Rattle.block_check.specs.Blocks.{block_cells}
 use Rattle.cert_file.proofs.blocks.read_blocks.Given as goal
 
 abbrev pub invariant-loop-i : goal.invariant-loop-i

@@ -4,7 +4,7 @@ use Rattle.std.specs.Int.{w32}
 use Rattle.std.specs.Prelude.{Result, Ok, Err}
 use Rattle.shelf_core.specs.declared.fault.ReadError.{ReadError}
 use Rattle.shelf_core.proofs.FileLaws.{only_reads_then}
-use Rattle.quilt.specs.declared.block.BlockRecord.{BlockRecord}
+use Rattle.block_check.specs.declared.block.BlockRecord.{BlockRecord}
 use Rattle.source_map.specs.Readings.{number_read}
 use Rattle.source_map.proofs.FieldLaws.{lifted}
 use Rattle.source_map.specs.declared.head.Head.{Head}

@@ -5,7 +5,7 @@ use Rattle.quilt.specs.Runs.{QuiltsTo, first_quilting, quilting}
 use Rattle.quilt.proofs.Runs.{quilts_replay}
 use Rattle.replay.specs.declared.records.TheConstants.{MOST_BOX_CELLS}
 use Rattle.quilting.specs.Costs.{IsFileBlock, all_boundaries, quilt_cost}
-use Rattle.quilt.specs.Blocks.{block_cells}
+use Rattle.block_check.specs.Blocks.{block_cells}
 use Rattle.quilting.specs.QuiltWork.{IsQuiltWork}
 use Rattle.quilting.proofs.lay.quilt_canvas.Goals as goal
 

@@ -1,7 +1,7 @@
 use Rattle.std.proofs.Common.{◌+◌, ap, arith, refl}
 use Rattle.cells.specs.Places.{IsSmall}
 use Rattle.map_canvas.proofs.Filling.{fits_small}
-use Rattle.quilt.specs.Records.{BlockStands}
+use Rattle.block_check.specs.Records.{BlockStands}
 use Rattle.quilt.specs.Runs.{QuiltsBy, quilting}
 use Rattle.quilting.proofs.Stepping.{block_formed, one_more, passes, some_cells}
 use Rattle.quilting.proofs.steps.step.Goals as goal

@@ -1,7 +1,7 @@
 use Rattle.std.proofs.Common.{◌≡◌, ◌∙◌, ap, sym, subst, arith}
 use Rattle.map_canvas.specs.Canvases.{CanvasState}
 use Rattle.map_canvas.specs.Maps.{SourceMap, empty_map}
-use Rattle.quilt.specs.Runs.{EachBlockStands, left_by_blocks}
+use Rattle.block_replay.specs.BlockReplay.{EachBlockStands, left_by_blocks}
 use Rattle.standing_files.specs.declared.verdict.Verdict.{Verdict}
 use Rattle.standing_files.specs.Steps.{JudgesBlocks}
 use Rattle.standing_files.proofs.Judging.{blocks_judged, broken_below}

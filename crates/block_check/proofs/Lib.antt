@@ -1,0 +1,4 @@
+pub mod Columns
+pub mod Faults
+pub mod Filling
+pub mod Standing

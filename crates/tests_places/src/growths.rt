@@ -74,56 +74,73 @@ fn assert_record(rt: &impl Abort, cut: &CutRecord, x: i32, choice: &[bool], flow
     }
 }
 
+const SIX: Size = Size { w: 6, h: 1, f: 1 };
+
+const SIX_COLUMNS: [(i32, i32); 6] = [(0, 0), (1, 0), (2, 0), (1, 0), (2, 0), (3, 0)];
+
 // A row of 10, 20, 30 and 40 is grown to six cells by a grid that overlaps by two: the third cell is kept, and
-// the fourth is new. A round lays the first window anew, all of whose choices cost the same. The records over
-// one another leave the same map; over the full map the first one isn't lawful, since its last cell is kept.
+// the fourth is new. A round lays the first window anew, all of whose choices cost the same.
 #[test]
 fn row_of_four_grown_to_six(rt: HostRuntime) -> Result<(), Fail> {
-    let alloc = rt.alloc();
-    let sample = greys(alloc)?;
-    let size = Size { w: 6, h: 1, f: 1 };
-    let columns = [(0, 0), (1, 0), (2, 0), (1, 0), (2, 0), (3, 0)];
+    let sample = greys(rt.alloc())?;
     for rounds in 0..2u32 {
-        let plan = GrowPlan {
-            size,
-            mode: Mode::Grid { overlap: 2 },
-            side: 4,
-            tol: 10,
-            rounds,
-            seed: 0,
-        };
-        let run = grown(&rt, alloc, &plan, &sample)?;
-        assert_row(&rt, &run.canvas, &columns);
-        assert!(rt; total(&run.canvas, &sample) == 120);
-        assert!(rt; run.rounds == rounds);
-        let cuts = run.cuts.as_slice();
-        assert!(rt; cuts.len() == 2 + rounds as usize);
-        assert_record(&rt, &cuts[0], 0, &[true; 4], &[(0, 0); 3]);
-        assert_record(
-            &rt,
-            &cuts[1],
-            2,
-            &[false, true, true, true],
-            &[(120, 120), (120, 0), (0, 0)],
-        );
-        if rounds == 1 {
-            assert_record(
-                &rt,
-                &cuts[2],
-                0,
-                &[true, true, true, false],
-                &[(0, 0), (0, 0), (0, -120)],
-            );
-        }
-        let mut again = Canvas::empty(alloc, size, sample.samples())?;
-        assert!(rt; replay_cuts(&mut again, &sample, cuts).is_ok());
-        assert_row(&rt, &again, &columns);
-        let fault = CutFault {
-            kind: KEEP_RULE,
-            place: 3,
-        };
-        assert!(rt; replay_cuts(&mut again, &sample, cuts) == Err(Broken { number: 0, fault }));
+        expect_six(&rt, rt.alloc(), &sample, rounds)?;
     }
+    Ok(())
+}
+
+// Asserts what is grown to six cells, and its records.
+fn expect_six(
+    rt: &impl Abort,
+    alloc: Global,
+    sample: &Volume,
+    rounds: u32,
+) -> Result<(), AllocError> {
+    let plan = GrowPlan {
+        size: SIX,
+        mode: Mode::Grid { overlap: 2 },
+        side: 4,
+        tol: 10,
+        rounds,
+        seed: 0,
+    };
+    let run = grown(rt, alloc, &plan, sample)?;
+    assert_row(rt, &run.canvas, &SIX_COLUMNS);
+    assert!(rt; total(&run.canvas, sample) == 120);
+    assert!(rt; run.rounds == rounds);
+    assert_six_records(rt, run.cuts.as_slice(), rounds);
+    expect_replay(rt, alloc, sample, run.cuts.as_slice())
+}
+
+fn assert_six_records(rt: &impl Abort, cuts: &[CutRecord], rounds: u32) {
+    assert!(rt; rounds < 2 && cuts.len() == 2 + rounds as usize);
+    assert_record(rt, &cuts[0], 0, &[true; 4], &[(0, 0); 3]);
+    let choice = [false, true, true, true];
+    assert_record(rt, &cuts[1], 2, &choice, &[(120, 120), (120, 0), (0, 0)]);
+    if rounds == 1 {
+        let choice = [true, true, true, false];
+        assert_record(rt, &cuts[2], 0, &choice, &[(0, 0), (0, 0), (0, -120)]);
+    }
+}
+
+// Asserts that the records over one another leave the same map. Over the full map the first one isn't lawful,
+// since its last cell is kept.
+fn expect_replay(
+    rt: &impl Abort,
+    alloc: Global,
+    sample: &Volume,
+    cuts: &[CutRecord],
+) -> Result<(), AllocError>
+    requires { All IsFormed cuts.now }
+{
+    let mut again = Canvas::empty(alloc, SIX, sample.samples())?;
+    assert!(rt; replay_cuts(&mut again, sample, cuts).is_ok());
+    assert_row(rt, &again, &SIX_COLUMNS);
+    let fault = CutFault {
+        kind: KEEP_RULE,
+        place: 3,
+    };
+    assert!(rt; replay_cuts(&mut again, sample, cuts) == Err(Broken { number: 0, fault }));
     Ok(())
 }
 
@@ -168,40 +185,49 @@ fn one_cell_in_each_mode(rt: HostRuntime) -> Result<(), Fail> {
     Ok(())
 }
 
+// Asserts a run over two parts, and gives whether its first cell is of part 1.
+fn first_of_part_one(
+    rt: &impl Abort,
+    alloc: Global,
+    sample: &Volume,
+    seed: u64,
+) -> Result<bool, AllocError> {
+    let plan = GrowPlan {
+        size: Size { w: 3, h: 1, f: 1 },
+        mode: Mode::Sub {
+            side: 2,
+            overlap: 1,
+            tol: 0,
+        },
+        side: 2,
+        tol: 0,
+        rounds: 0,
+        seed,
+    };
+    let run = grown(rt, alloc, &plan, sample)?;
+    assert!(rt; run.cuts.as_slice().len() == 2);
+    let is_first = run.canvas.map().at(FIRST) == Some(FIRST);
+    if is_first {
+        assert_row(rt, &run.canvas, &[(0, 0), (1, 0), (1, 2)]);
+        assert!(rt; total(&run.canvas, sample) == 765);
+    } else {
+        assert_row(rt, &run.canvas, &[(0, 2), (1, 2), (1, 2)]);
+        assert!(rt; total(&run.canvas, sample) == 795);
+    }
+    Ok(is_first)
+}
+
 // Over two parts the second patch is that of part 2, whatever the draws. Where
 // the first is of part 1, only the place past its end costs something.
 #[test]
 fn three_cells_of_two_parts(rt: HostRuntime) -> Result<(), Fail> {
-    let alloc = rt.alloc();
-    let sample = two_parts(alloc)?;
-    let mut first_met = false;
-    let mut second_met = false;
+    let sample = two_parts(rt.alloc())?;
+    let mut firsts = 0u32;
     for seed in 0..8u64 {
-        let plan = GrowPlan {
-            size: Size { w: 3, h: 1, f: 1 },
-            mode: Mode::Sub {
-                side: 2,
-                overlap: 1,
-                tol: 0,
-            },
-            side: 2,
-            tol: 0,
-            rounds: 0,
-            seed,
-        };
-        let run = grown(&rt, alloc, &plan, &sample)?;
-        assert!(rt; run.cuts.as_slice().len() == 2);
-        let map = run.canvas.map();
-        if map.at(FIRST) == Some(FIRST) {
-            assert_row(&rt, &run.canvas, &[(0, 0), (1, 0), (1, 2)]);
-            assert!(rt; total(&run.canvas, &sample) == 765);
-            first_met = true;
-        } else {
-            assert_row(&rt, &run.canvas, &[(0, 2), (1, 2), (1, 2)]);
-            assert!(rt; total(&run.canvas, &sample) == 795);
-            second_met = true;
+        if first_of_part_one(&rt, rt.alloc(), &sample, seed)? {
+            firsts += 1;
         }
     }
-    assert!(rt; first_met && second_met);
+    assert!(rt; 0 < firsts && firsts < 8);
     Ok(())
 }

@@ -502,12 +502,27 @@ fn steps_of_each_mode(rt: HostRuntime) -> Result<(), Fail> {
     let empty = row_of(&rt, rt.alloc(), 6, &sample, &[])?;
     let begun = row_of(&rt, rt.alloc(), 6, &sample, &[1, 0])?;
     for (mode, number, on_empty, on_begun) in STEPS.iter() {
-        assert!(rt; has_patch(mode));
-        let step = step_at(rt.alloc(), mode, &empty, &sample, *number)?;
-        assert!(rt; step == (Some(on_empty.0), on_empty.1), "{mode:?}");
-        let step = step_at(rt.alloc(), mode, &begun, &sample, *number)?;
-        assert!(rt; step == (Some(on_begun.0), on_begun.1), "{mode:?}");
+        expect_step(&rt, rt.alloc(), mode, *number, &empty, &sample, on_empty)?;
+        expect_step(&rt, rt.alloc(), mode, *number, &begun, &sample, on_begun)?;
     }
+    Ok(())
+}
+
+// Asserts the step of a mode by the draw of a number.
+fn expect_step(
+    rt: &impl Abort,
+    alloc: Global,
+    mode: &Mode,
+    number: u64,
+    canvas: &Canvas,
+    sample: &Volume,
+    expected: &Step,
+) -> Result<(), AllocError>
+    requires { StandsOver canvas.now sample.now }
+{
+    assert!(rt; has_patch(mode));
+    let step = step_at(alloc, mode, canvas, sample, number)?;
+    assert!(rt; step == (Some(expected.0), expected.1), "{mode:?}");
     Ok(())
 }
 

@@ -1,11 +1,15 @@
 // Worked examples: the bytes of a clip and the answer, spelled from the grammar by hand.
+ghost use Rattle.std.specs.Prelude.{◌≤◌};
+ghost use Rattle.y4m_clip.specs.Writing.{IsForm};
+
 use cells::{Size, Volume};
 use shelf_core::FormFault::{Cell, Form, NoFrames, Space};
 use shelf_core::ReadError::{Bad, Limit};
 use shelf_core::{Call, MemShelf, ReadError, What};
 use std::alloc::Global;
+use std::process::Abort;
 use std::test::Fail;
-use y4m_clip::{ClipWriter, SpaceKind, read_clip};
+use y4m_clip::{ClipForm, ClipWriter, SpaceKind, read_clip};
 
 const TWO_CELLS: &[u8] =
     b"YUV4MPEG2 W4 H2 F25:1 Ip A1:1 C420jpeg XYSCSS=420JPEG\nFRAME\n\x01\x02\x03\x04\x05\x06\x07\x08\x09\x0a\x0b\x0c";
@@ -169,12 +173,18 @@ const COPIES: &[(&[u8], &[u8])] = &[
     ),
 ];
 
+// Whether this is written of a clip.
+fn is_copied(alloc: Global, bytes: &[u8], want: &[u8]) -> Result<bool, Fail> {
+    let mut shelf = MemShelf::new(alloc);
+    shelf.put_file("sample", bytes)?;
+    let has_failed = copy(alloc, &mut shelf)?;
+    Ok(!has_failed && shelf.file("out") == Some(want))
+}
+
 // The number of the first clip, from 0, that isn't written so.
 fn wrong_copy(alloc: Global, table: &[(&[u8], &[u8])]) -> Result<Option<usize>, Fail> {
     for (i, (bytes, want)) in table.iter().enumerate() {
-        let mut shelf = MemShelf::new(alloc);
-        shelf.put_file("sample", *bytes)?;
-        if copy(alloc, &mut shelf)? || shelf.file("out") != Some(*want) {
+        if !is_copied(alloc, *bytes, *want)? {
             return Ok(Some(i));
         }
     }
@@ -191,19 +201,30 @@ fn copies(rt: HostRuntime) -> Result<(), Fail> {
 const WIDER: &[u8] =
     b"YUV4MPEG2 W6 H2 F25:1 Ip A1:1 C420jpeg XYSCSS=420JPEG\nFRAME\n\x01\x02\x03\x04\x01\x02\x05\x06\x07\x08\x05\x06\x09\x0a\x09\x0b\x0c\x0b";
 
-#[test]
-fn wider(rt: HostRuntime) -> Result<(), Fail> {
-    let alloc = rt.alloc();
-    let mut shelf = MemShelf::new(alloc);
-    shelf.put_file("sample", TWO_CELLS)?;
-    let clip = read_clip(alloc, &mut shelf, "sample", 2)?;
+// Writes them in the form of a clip of two cells, and says whether each call went well.
+fn write_wider(
+    rt: &impl Abort,
+    alloc: Global,
+    form: &ClipForm,
+    shelf: &mut MemShelf,
+) -> Result<bool, Fail>
+    requires { IsForm form.now }
+{
+    assert!(rt; form.space == SpaceKind::C420);
     let cells = b"\x01\x02\x05\x06\x09\x0b\x03\x04\x07\x08\x0a\x0c\x01\x02\x05\x06\x09\x0b";
-    assert!(rt; clip.form.space == SpaceKind::C420);
     let size = Size { w: 3, h: 1, f: 1 };
     let volume = Volume::from_bytes(size, 6, Vec::from_slice(alloc, cells)?);
-    let mut writer = ClipWriter::make(alloc, &clip.form, size)?;
-    assert!(rt; writer.start(&mut shelf, "out").is_ok());
-    assert!(rt; writer.frame(&volume, 0, &mut shelf, "out").is_ok());
+    let mut writer = ClipWriter::make(alloc, form, size)?;
+    let is_begun = writer.start(shelf, "out").is_ok();
+    Ok(is_begun && writer.frame(&volume, 0, shelf, "out").is_ok())
+}
+
+#[test]
+fn wider(rt: HostRuntime) -> Result<(), Fail> {
+    let mut shelf = MemShelf::new(rt.alloc());
+    shelf.put_file("sample", TWO_CELLS)?;
+    let clip = read_clip(rt.alloc(), &mut shelf, "sample", 2)?;
+    assert!(rt; write_wider(&rt, rt.alloc(), &clip.form, &mut shelf)?);
     assert!(rt; shelf.file("out") == Some(WIDER));
     Ok(())
 }
@@ -216,14 +237,27 @@ const WRITE_FAULTS: &[(Call, u32, usize, usize)] = &[
     (Call::Add, 3, 7, 67),
 ];
 
+// Whether the copy tells a write that fails, and leaves so many bytes.
+fn tells_fault(
+    alloc: Global,
+    call: Call,
+    nth: u32,
+    kept: usize,
+    left: usize,
+) -> Result<bool, Fail>
+    requires { 1 ≤ nth }
+{
+    let mut shelf = MemShelf::new(alloc);
+    shelf.put_file("sample", TWO_CELLS)?;
+    shelf.fail_at(call, "out", nth, kept)?;
+    let is_told = copy(alloc, &mut shelf)? && shelf.write_faults() == 1;
+    Ok(is_told && shelf.file("out") == TWO_CELLS.get(..left))
+}
+
 // The number of the first fault, from 0, after which another file stands, or of which the copy doesn't tell.
 fn wrong_fault(alloc: Global) -> Result<Option<usize>, Fail> {
     for (i, (call, nth, kept, left)) in WRITE_FAULTS.iter().enumerate() {
-        let mut shelf = MemShelf::new(alloc);
-        shelf.put_file("sample", TWO_CELLS)?;
-        shelf.fail_at(*call, "out", *nth, *kept)?;
-        let is_told = copy(alloc, &mut shelf)? && shelf.write_faults() == 1;
-        if !is_told || shelf.file("out").unwrap_or(b"") != &TWO_CELLS[..*left] {
+        if !tells_fault(alloc, *call, *nth, *kept, *left)? {
             return Ok(Some(i));
         }
     }

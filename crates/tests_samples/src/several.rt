@@ -126,13 +126,18 @@ const REFUSED: &[(&[u8], &[u8], Fault)] = &[
     (TWO_GREY, TWO_GREY, Fault::Read(FileOf::More(3))),
 ];
 
+// Why the samples `s` and `t` are refused, and the third that is missing.
+fn refusal(alloc: Global, first: &[u8], next: &[u8]) -> Result<Option<Fault>, Fail> {
+    let mut shelf = MemShelf::new(alloc);
+    shelf.put_file("s", first)?;
+    shelf.put_file("t", next)?;
+    Ok(read_three(alloc, &mut shelf)?.err())
+}
+
 // The number of the first samples, from 0, that aren't refused so.
 fn wrong_refusal(alloc: Global, table: &[(&[u8], &[u8], Fault)]) -> Result<Option<usize>, Fail> {
     for (i, (first, next, fault)) in table.iter().enumerate() {
-        let mut shelf = MemShelf::new(alloc);
-        shelf.put_file("s", *first)?;
-        shelf.put_file("t", *next)?;
-        if read_three(alloc, &mut shelf)?.err() != Some(*fault) {
+        if refusal(alloc, *first, *next)? != Some(*fault) {
             return Ok(Some(i));
         }
     }

@@ -1,6 +1,6 @@
 // Runs of each command over stores that take no memory once they are made, so that every growth
 // that is refused is one of the run's own.
-use crate::runs::texts_of;
+use crate::runs::{texts_of, words_of};
 use job_words::Words;
 use shelf_core::{SureShelf, SureSink};
 use std::alloc::{AllocError, Global};
@@ -110,13 +110,45 @@ fn is_refused(shelf: &SureShelf, out: &SureSink, err: &SureSink, files: &[(&str,
         && are_files(shelf, files)
 }
 
-fn words_of(alloc: Global, line: &str) -> Result<Words, AllocError> {
+fn words_in(alloc: Global, line: &str) -> Result<Words, AllocError> {
     let texts = texts_of(alloc, line)?;
-    let mut words = Words::new(alloc);
-    for text in texts.iter() {
-        words.push(text.as_str())?;
+    words_of(alloc, &texts)
+}
+
+// How a run ended, by its status and what it left.
+fn judged(
+    status: u8,
+    shelf: &SureShelf,
+    out: &SureSink,
+    err: &SureSink,
+    files: &[(&str, &[u8])],
+    report: &str,
+) -> Surely {
+    if status == 0
+        && out.bytes() == Some(report.as_bytes())
+        && err.bytes() == Some(b"".as_slice())
+    {
+        return Surely::Well;
     }
-    Ok(words)
+    if status == 7 && is_refused(shelf, out, err, files) {
+        return Surely::NoMemory;
+    }
+    Surely::Wrong
+}
+
+// Runs words over stores of its own.
+fn ended(
+    alloc: Global,
+    words: &Words,
+    files: &[(&str, &[u8])],
+    report: &str,
+) -> Result<Surely, AllocError> {
+    let mut shelf = SureShelf::make(alloc, 8192)?;
+    put_files(&mut shelf, files);
+    let mut out = SureSink::make(alloc, 256)?;
+    let mut err = SureSink::make(alloc, 256)?;
+    let status = run(alloc, words, &mut shelf, &mut out, &mut err);
+    Ok(judged(status, &shelf, &out, &err, files, report))
 }
 
 /// Does the run of a number. The one error is that there is no memory for its stores and its
@@ -125,20 +157,6 @@ pub fn end_of(alloc: Global, number: usize) -> Result<Surely, AllocError> {
     let Some((line, files, report)) = RUNS.get(number) else {
         return Ok(Surely::Wrong);
     };
-    let mut shelf = SureShelf::make(alloc, 8192)?;
-    put_files(&mut shelf, *files);
-    let mut out = SureSink::make(alloc, 256)?;
-    let mut err = SureSink::make(alloc, 256)?;
-    let words = words_of(alloc, *line)?;
-    let status = run(alloc, &words, &mut shelf, &mut out, &mut err);
-    if status == 0
-        && out.bytes() == Some(report.as_bytes())
-        && err.bytes() == Some(b"".as_slice())
-    {
-        return Ok(Surely::Well);
-    }
-    if status == 7 && is_refused(&shelf, &out, &err, *files) {
-        return Ok(Surely::NoMemory);
-    }
-    Ok(Surely::Wrong)
+    let words = words_in(alloc, *line)?;
+    ended(alloc, &words, *files, *report)
 }

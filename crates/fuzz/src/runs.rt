@@ -31,20 +31,37 @@ pub struct Left {
     pub shelf: MemShelf,
 }
 
-fn words_of(alloc: Global, texts: &[String]) -> Result<Words, AllocError> {
-    let mut words = Words::new(alloc);
+fn add_words(words: &mut Words, texts: &[String]) -> Result<(), AllocError> {
     for text in texts.iter() {
         words.push(text.as_str())?;
     }
+    Ok(())
+}
+
+/// The words of these texts.
+pub fn words_of(alloc: Global, texts: &[String]) -> Result<Words, AllocError> {
+    let mut words = Words::new(alloc);
+    add_words(&mut words, texts)?;
     Ok(words)
+}
+
+fn add_text(alloc: Global, texts: &mut Vec<String>, word: &str) -> Result<(), AllocError> {
+    let text = String::from_str(alloc, word)?;
+    texts.push(text)?;
+    Ok(())
+}
+
+fn add_texts(alloc: Global, texts: &mut Vec<String>, line: &str) -> Result<(), AllocError> {
+    for word in line.split(' ') {
+        add_text(alloc, texts, word)?;
+    }
+    Ok(())
 }
 
 /// The words of a line, which blanks part.
 pub fn texts_of(alloc: Global, line: &str) -> Result<Vec<String>, AllocError> {
     let mut texts = Vec::new(alloc);
-    for word in line.split(' ') {
-        texts.push(String::from_str(alloc, word)?)?;
-    }
+    add_texts(alloc, &mut texts, line)?;
     Ok(texts)
 }
 

@@ -4,6 +4,14 @@ use shelf_core::{Shelf, Sink};
 use std::alloc::{AllocError, Global};
 use weave_engine::run;
 
+// Adds the words of a line, which blanks part.
+fn add_words(words: &mut Words, line: &str) -> Result<(), AllocError> {
+    for word in line.split_ascii_whitespace() {
+        words.push(word)?;
+    }
+    Ok(())
+}
+
 /// Runs the words of a line, which blanks part.
 pub fn ran<S: Shelf, O: Sink, E: Sink>(
     alloc: Global,
@@ -13,11 +21,7 @@ pub fn ran<S: Shelf, O: Sink, E: Sink>(
     err: &mut E,
 ) -> Result<u8, AllocError> {
     let mut words = Words::new(alloc);
-    for word in line.split(' ') {
-        if !word.is_empty() {
-            words.push(word)?;
-        }
-    }
+    add_words(&mut words, line)?;
     Ok(run(alloc, &words, shelf, out, err))
 }
 

@@ -11,11 +11,16 @@ use synth_report::{Fault, Summary};
 use upgrade_command::upgrade;
 
 // The words of a line, which blanks part.
-fn words_of(alloc: Global, line: &str) -> Result<Words, AllocError> {
-    let mut words = Words::new(alloc);
-    for word in line.split(' ') {
+fn add_words(words: &mut Words, line: &str) -> Result<(), AllocError> {
+    for word in line.split_ascii_whitespace() {
         words.push(word)?;
     }
+    Ok(())
+}
+
+fn words_of(alloc: Global, line: &str) -> Result<Words, AllocError> {
+    let mut words = Words::new(alloc);
+    add_words(&mut words, line)?;
     Ok(words)
 }
 

@@ -4,6 +4,7 @@ use crate::real::RealShelf;
 use crate::streams::{ErrorOutput, Output};
 use job_words::Words;
 use shelf_core::Shelf;
+use std::alloc::{AllocError, Global};
 use std::fs::OpenOptions;
 use std::test::Fail;
 use std::{env, fs, process};
@@ -27,19 +28,26 @@ const RECORD: &[u8] = b"WEAVEREC\x01\x00\
 \x00\x02\x00\x00\x00\x00\x00\x01\x00\x01\x00\x01\x00\x00\x00\x00\x00\x00\x80";
 
 // The status of a run in a folder, with these names of its sample and its picture.
+fn add_words(words: &mut Words, line: &str) -> Result<(), AllocError> {
+    for word in line.split('\n') {
+        words.push(word)?;
+    }
+    Ok(())
+}
+
+fn words_of(alloc: Global, files: &str) -> Result<Words, AllocError> {
+    let mut words = Words::new(alloc);
+    add_words(&mut words, "grow\nwidth=3\nheight=1\nplace=grid\noverlap=0")?;
+    add_words(&mut words, files)?;
+    Ok(words)
+}
+
 fn ran(rt: &HostRuntime, folder: &str, sample: &str, out: &str) -> Result<u8, Fail> {
     let alloc = rt.alloc();
     let files = format!(in alloc;
         "sample={folder}/{sample}\nout={folder}/{out}\nmap={folder}/m\nrecord={folder}/r"
     )?;
-    let mut words = Words::new(alloc);
-    words.push("grow")?;
-    for word in files.as_str().split('\n') {
-        words.push(word)?;
-    }
-    for word in ["width=3", "height=1", "place=grid", "overlap=0"] {
-        words.push(word)?;
-    }
+    let words = words_of(alloc, files.as_str())?;
     let mut shelf = RealShelf::new(rt.clone()?, alloc)?;
     let mut out = Output::new(rt.clone()?);
     let mut err = ErrorOutput::new(rt.clone()?);

@@ -297,6 +297,10 @@ name_given (Some (Within least most)) name h = absurd h
 name_given (Some (Among a b c)) name h = absurd h
 name_given (Some (OneOf texts)) name h = absurd h
 
+some_first : (o : Option (List ℕ)) (name : List ℕ) (rest : List (List ℕ)) → o ≡ Some name → 1 ≤ length (cons_option o rest)
+some_first None name rest is = absurd (cc)
+some_first (Some other) name rest is = omega arith
+
 module _ (rows : List Row) (all : List Setting) (sound : AreSound rows rows) (a : AreAll rows all) where
   -- the names of those keys that have one
   abbrev names_at : List Key → List (List ℕ)
@@ -359,14 +363,17 @@ module _ (rows : List Row) (all : List Setting) (sound : AreSound rows rows) (a 
       ap (λ o. cons_option o (names_at keys)) (name_set (value_at key all) named.0)
       ∙ ap (λ rest. text_of key all ∷ rest) (names_set keys named.1)
 
-  -- the names of a run are those of their keys
-  names_listed : HasNames all → names_at (key.Sample ∷ (more_keys ++ key.Out ∷ key.Map ∷ key.Cert ∷ [])) ≡ name_list (names_of all)
-  names_listed has =
-      let last : names_at (key.Out ∷ key.Map ∷ key.Cert ∷ []) ≡ text_of key.Out all ∷ text_of key.Map all ∷ text_of key.Cert all ∷ [] =
-      names_set (key.Out ∷ key.Map ∷ key.Cert ∷ []) (has.out, (has.map, (has.cert, tt))) in
-      ap (λ o. cons_option o (names_at (more_keys ++ key.Out ∷ key.Map ∷ key.Cert ∷ []))) (name_set (value_at key.Sample all) has.sample)
+  -- the names of the samples, and behind them those of keys of which each has one
+  pub names_listed : (last : List Key) → IsNamed (value_at key.Sample all) → AreNamed last
+      → names_at (key.Sample ∷ (more_keys ++ last)) ≡ text_of key.Sample all ∷ (more_names all ++ map (λ k. text_of k all) last)
+  names_listed last first named =
+      ap (λ o. cons_option o (names_at (more_keys ++ last))) (name_set (value_at key.Sample all) first)
       ∙ ap (λ rest. text_of key.Sample all ∷ rest)
-      (filter_map-append (name_if_set all) more_keys (key.Out ∷ key.Map ∷ key.Cert ∷ []) ∙ ap (λ rest. more_names all ++ rest) last)
+      (filter_map-append (name_if_set all) more_keys last ∙ ap (λ rest. more_names all ++ rest) (names_set last named))
+
+  -- where the second sample is set, there is a further one
+  pub second_set : IsNamed (value_at (key.More 2) all) → 1 ≤ length (more_names all)
+  second_set named = some_first (name_in (value_at (key.More 2) all)) _ _ (name_set (value_at (key.More 2) all) named)
 
   -- keys that aren't of the table have no names
   unnamed : (keys : List Key) → are_unknown rows keys ≡ true → names_at keys ≡ []
@@ -388,7 +395,9 @@ module _ (rows : List Row) (all : List Setting) (sound : AreSound rows rows) (a 
   none_further e = unnamed more_keys e
 
   pub names_of_run : HasNames all → AreNames (name_list (names_of all))
-  names_of_run has = subst AreNames (names_listed has) (are_names (key.Sample ∷ (more_keys ++ key.Out ∷ key.Map ∷ key.Cert ∷ [])) refl)
+  names_of_run has =
+      let last = key.Out ∷ key.Map ∷ key.Cert ∷ [] in
+      subst AreNames (names_listed last has.sample (has.out, (has.map, (has.cert, tt)))) (are_names (key.Sample ∷ (more_keys ++ last)) refl)
 
 -- A number in its range, and the position of a text in its list.
 

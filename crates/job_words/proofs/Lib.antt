@@ -12,4 +12,7 @@ pub mod LoopLawful
 pub mod CheckLawful
 pub mod TrialLawful
 pub mod UpgradeLawful
+pub mod TransferLawful
+pub mod MergeLawful
+pub mod TileLawful
 pub mod Commands

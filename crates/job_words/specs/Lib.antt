@@ -9,4 +9,7 @@ pub mod LoopWords
 pub mod CheckWords
 pub mod TrialWords
 pub mod UpgradeWords
+pub mod TransferWords
+pub mod MergeWords
+pub mod TileWords
 pub mod Jobs

@@ -6,6 +6,12 @@ pub const GREATEST_OVERLAP: u32 = 4095;
 /// The greatest tolerance of a pick, in hundredths.
 pub const GREATEST_TOLERANCE: u32 = 1000;
 
+/// The greatest weight of the overlap's error beside that of a target, in hundredths.
+pub const GREATEST_ALPHA: u32 = 100;
+
+/// The fewest cells of an output on an axis on which its edges are to meet.
+pub const LEAST_WRAPPED_AXIS: u32 = 3;
+
 /// The most rounds of refinement.
 pub const MOST_ROUNDS: u32 = 1000;
 

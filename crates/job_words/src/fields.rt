@@ -86,8 +86,8 @@ fn add_name(names: &mut Vec<Name>, name: Name) -> Result<(), AllocError>
     Ok(())
 }
 
-// The file names of the further samples.
-fn more_at(alloc: Global, settings: &[Setting]) -> Result<Names16, AllocError>
+/// The file names of the further samples.
+pub fn more_at(alloc: Global, settings: &[Setting]) -> Result<Names16, AllocError>
     ensures { IfOk result (λ names. names ≡ more_names settings.now) }
 {
     let mut names = Vec::new(alloc);

@@ -14,17 +14,20 @@ mod grow;
 mod job;
 mod keys;
 mod loop_words;
+mod merge;
 mod name;
 mod quilt;
 mod read;
 mod settings;
 mod table;
+mod tile;
+mod transfer;
 mod trial;
 mod upgrade;
 
 pub use bounds::{
-    GREATEST_OVERLAP, GREATEST_SAMPLE_NUMBER, GREATEST_SEED, GREATEST_TOLERANCE, LONGEST_LOOP,
-    MOST_ROUNDS, WIDEST_GAP,
+    GREATEST_ALPHA, GREATEST_OVERLAP, GREATEST_SAMPLE_NUMBER, GREATEST_SEED, GREATEST_TOLERANCE,
+    LEAST_WRAPPED_AXIS, LONGEST_LOOP, MOST_ROUNDS, WIDEST_GAP,
 };
 pub use cells::Taps;
 pub use check::CheckJob;
@@ -32,8 +35,11 @@ pub use grow::{GrowJob, Place};
 pub use job::{Job, Names, WordFault};
 pub use keys::Key;
 pub use loop_words::LoopJob;
+pub use merge::{MergeJob, read_merge};
 pub use name::{Name, Names16, Words};
 pub use quilt::QuiltJob;
 pub use read::read_job;
+pub use tile::{TileJob, TilePlan, Wrap, read_tile};
+pub use transfer::{TransferJob, read_transfer};
 pub use trial::TrialJob;
 pub use upgrade::UpgradeJob;

@@ -105,8 +105,8 @@ impl Words {
         Ok(())
     }
 
-    // The words in their order.
-    pub(crate) fn as_slice(&self) -> &[Name]
+    /// The words in their order.
+    pub fn as_slice(&self) -> &[Name]
         ensures { result.now ≡ self.now }
     {
         self.words.as_slice()

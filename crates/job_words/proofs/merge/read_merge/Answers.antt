@@ -1,0 +1,8 @@
+use Rattle.job_words.proofs.MergeLawful.{merge_values, merge_lawful}
+use Rattle.job_words.proofs.merge.read_merge.Goals as goal
+
+pub job_of-requires : goal.job_of-requires
+job_of-requires c = merge_values c.rows.result.now c.args.words.now _ c.deref.result.now c.rows.ensures (c.in_ok-settings.ensures {u = tt}).ok c.deref.ensures.value
+
+pub returns-clause-lawful : goal.returns-clause-lawful
+returns-clause-lawful c = merge_lawful c.rows.result.now c.args.words.now _ c.deref.result.now c.rows.ensures (c.in_ok-settings.ensures {u = tt}).ok c.deref.ensures.value c.in_ok-job.job (c.in_ok-job.ensures {u = tt})

@@ -1,0 +1,10 @@
+use Rattle.job_words.proofs.TileLawful.{tile_values, tile_lawful}
+use Rattle.job_words.proofs.tile.read_tile.Goals as goal
+
+pub job_of-requires : goal.job_of-requires
+job_of-requires c = tile_values c.rows.result.now c.args.words.now _ c.deref.result.now c.rows.ensures (c.in_ok-settings.ensures {u = tt}).ok c.deref.ensures.value
+
+pub returns-clause-lawful : goal.returns-clause-lawful
+returns-clause-lawful c =
+    tile_lawful c.rows.result.now c.args.words.now _ c.deref.result.now c.rows.ensures (c.in_ok-settings.ensures {u = tt}).ok c.deref.ensures.value
+    c.in_ok-job.job c.unless_narrow.result (c.in_ok-job.ensures {u = tt}) c.unless_narrow.ensures

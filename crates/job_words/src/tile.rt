@@ -1,0 +1,170 @@
+// The words of `tile`.
+ghost use Rattle.std.specs.Prelude.{◌≡◌, ◌<◌, IfOk};
+ghost use Rattle.job_words.specs.Words as by;
+ghost use Rattle.job_words.specs.TileWords.{HasTileValues, IsTileJob, is_narrow, narrow_axis, tile_job_of, tile_of, tile_plan, tile_rows, tile_size, unless_narrow, wrap_nth};
+
+use crate::bounds::{GREATEST_OVERLAP, GREATEST_SEED, GREATEST_TOLERANCE, LEAST_WRAPPED_AXIS};
+use crate::fields::{name_at, nth_at, number_at};
+use crate::job::WordFault;
+use crate::keys::Key;
+use crate::name::Name;
+use crate::read::all_settings;
+use crate::settings::Setting;
+use crate::table::{Choice, Kind, Need, Row, Texts, file_row, number_row};
+use cells::{Axis, GREATEST_AXIS, Size};
+use std::alloc::{AllocError, Global};
+
+/// The axes on which an output's edges meet.
+#[derive(Clone, Copy, Debug, Drop, PartialEq, Eq)]
+pub struct Wrap {
+    pub x: bool,
+    pub y: bool,
+    pub f: bool,
+}
+
+/// How patches are laid on an output whose edges meet.
+#[derive(Clone, Copy, Drop)]
+pub struct TilePlan {
+    pub wrap: Wrap,
+    /// How many cells a patch has on an axis, cut to the sample and the output: 1 to 4,096.
+    pub side: u32,
+    /// How many cells neighbouring patches share on an axis, cut to the patch: 0 to 4,095.
+    pub overlap: u32,
+    /// By how much more than the best a pick may differ, in hundredths: 0 to 1,000.
+    pub tol: u32,
+}
+
+/// Growing an output whose edges meet.
+#[derive(Drop)]
+pub struct TileJob {
+    /// The sample.
+    pub sample: Name,
+    /// The picture or clip that is written.
+    pub out: Name,
+    /// The map that is written.
+    pub map: Name,
+    /// The output's size in cells: 1 to 4,096 on each axis, 3 at the least where its edges meet.
+    pub size: Size,
+    pub plan: TilePlan,
+    /// The seed of the draws.
+    pub seed: u64,
+}
+
+const ROWS: [Row; 11] = [
+    file_row!(Sample),
+    file_row!(Out),
+    file_row!(Map),
+    number_row!(Width, 1, GREATEST_AXIS as u64),
+    number_row!(Height, 1, GREATEST_AXIS as u64),
+    number_row!(Frames, 1, GREATEST_AXIS as u64, 1),
+    Row {
+        key: Key::Wrap,
+        kind: Kind::OneOf(Texts::Wraps),
+        need: Need::Default(Choice::Nth(2)),
+    },
+    number_row!(Side, 1, GREATEST_AXIS as u64, 32),
+    number_row!(Overlap, 0, GREATEST_OVERLAP as u64, 8),
+    number_row!(Tol, 0, GREATEST_TOLERANCE as u64, 10),
+    number_row!(Seed, 0, GREATEST_SEED, 0),
+];
+
+fn rows() -> &'static [Row]
+    ensures { result.now ≡ tile_rows }
+{
+    &ROWS
+}
+
+// The axes at a position of the list of their texts: `x`, `y`, `xy`, `f`, `xyf`.
+fn wrap_nth(n: usize) -> Wrap
+    requires { n < 5 }
+    ensures { result ≡ wrap_nth n }
+{
+    Wrap {
+        x: [true, false, true, false, true][n],
+        y: [false, true, true, false, true][n],
+        f: [false, false, false, true, true][n],
+    }
+}
+
+// The output's size.
+fn size_at(settings: &[Setting]) -> Size
+    requires { HasTileValues settings.now }
+    ensures { result ≡ tile_size settings.now }
+{
+    Size {
+        w: number_at(settings, Key::Width) as u32,
+        h: number_at(settings, Key::Height) as u32,
+        f: number_at(settings, Key::Frames) as u32,
+    }
+}
+
+// The plan of the values of all keys.
+fn plan_of(settings: &[Setting]) -> TilePlan
+    requires { HasTileValues settings.now }
+    ensures { result ≡ tile_plan settings.now }
+{
+    TilePlan {
+        wrap: wrap_nth(nth_at(settings, Key::Wrap)),
+        side: number_at(settings, Key::Side) as u32,
+        overlap: number_at(settings, Key::Overlap) as u32,
+        tol: number_at(settings, Key::Tol) as u32,
+    }
+}
+
+// The job of the values of all keys.
+fn job_of(alloc: Global, settings: &[Setting]) -> Result<TileJob, AllocError>
+    requires { HasTileValues settings.now }
+    ensures { IfOk result (λ job. job ≡ tile_of settings.now) }
+{
+    Ok(TileJob {
+        sample: name_at(alloc, settings, Key::Sample)?,
+        out: name_at(alloc, settings, Key::Out)?,
+        map: name_at(alloc, settings, Key::Map)?,
+        size: size_at(settings),
+        plan: plan_of(settings),
+        seed: number_at(settings, Key::Seed),
+    })
+}
+
+fn is_narrow(wrapped: bool, n: u32) -> bool
+    ensures { result ≡ is_narrow wrapped n }
+{
+    wrapped && n < LEAST_WRAPPED_AXIS
+}
+
+// The first axis on which the edges meet and there are too few cells between them.
+fn narrow_axis(wrap: Wrap, size: Size) -> Option<Axis>
+    ensures { result ≡ narrow_axis wrap size }
+{
+    if is_narrow(wrap.x, size.w) {
+        return Some(Axis::X);
+    }
+    if is_narrow(wrap.y, size.h) {
+        return Some(Axis::Y);
+    }
+    if is_narrow(wrap.f, size.f) {
+        return Some(Axis::F);
+    }
+    None
+}
+
+// The job, unless an axis is too narrow.
+fn unless_narrow(job: TileJob) -> Result<TileJob, WordFault>
+    ensures { result ≡ unless_narrow (narrow_axis job.plan.wrap job.size) job }
+{
+    match narrow_axis(job.plan.wrap, job.size) {
+        None => Ok(job),
+        Some(axis) => Err(WordFault::Narrow(axis)),
+    }
+}
+
+/// The job of the words after the command, or their first refusal. That an axis is too narrow is refused
+/// last, of the words alone.
+pub fn read_tile(alloc: Global, words: &[Name]) -> Result<TileJob, WordFault>
+    ensures exact { by.AnswersAs (tile_job_of words.now) result }
+    ensures lawful { IfOk result IsTileJob }
+{
+    let settings = all_settings(alloc, rows(), words)?;
+    let job = job_of(alloc, &settings)?;
+    unless_narrow(job)
+}

@@ -1,0 +1,79 @@
+// The words of `transfer`.
+ghost use Rattle.std.specs.Prelude.{◌≡◌, IfOk};
+ghost use Rattle.job_words.specs.Words as by;
+ghost use Rattle.job_words.specs.TransferWords.{HasTransferValues, IsTransferJob, transfer_job_of, transfer_of, transfer_rows};
+
+use crate::bounds::{GREATEST_ALPHA, GREATEST_OVERLAP, GREATEST_SEED, GREATEST_TOLERANCE};
+use crate::fields::{name_at, names_at, number_at};
+use crate::job::{Names, WordFault};
+use crate::keys::Key;
+use crate::name::Name;
+use crate::read::all_settings;
+use crate::settings::Setting;
+use crate::table::{Choice, Kind, Need, Row, file_row, number_row};
+use cells::GREATEST_AXIS;
+use std::alloc::{AllocError, Global};
+
+/// Painting a target picture with blocks of another one.
+#[derive(Drop)]
+pub struct TransferJob {
+    /// The files: there is no further sample.
+    pub names: Names,
+    /// The picture that is painted, whose size is the output's.
+    pub target: Name,
+    /// How many cells a block has on an axis, cut to the sample and the output: 1 to 4,096.
+    pub block: u32,
+    /// How many cells neighbouring blocks share on an axis, cut to the block: 0 to 4,095.
+    pub overlap: u32,
+    /// By how much more than the best a pick may differ, in hundredths: 0 to 1,000.
+    pub tol: u32,
+    /// What the overlap weighs beside the target, in hundredths: 0 to 100.
+    pub alpha: u32,
+    /// The seed of the draws.
+    pub seed: u64,
+}
+
+const ROWS: [Row; 10] = [
+    file_row!(Sample),
+    file_row!(Target),
+    file_row!(Out),
+    file_row!(Map),
+    file_row!(Cert),
+    number_row!(Block, 1, GREATEST_AXIS as u64, 32),
+    number_row!(Overlap, 0, GREATEST_OVERLAP as u64, 5),
+    number_row!(Tol, 0, GREATEST_TOLERANCE as u64, 10),
+    number_row!(Alpha, 0, GREATEST_ALPHA as u64, 50),
+    number_row!(Seed, 0, GREATEST_SEED, 0),
+];
+
+fn rows() -> &'static [Row]
+    ensures { result.now ≡ transfer_rows }
+{
+    &ROWS
+}
+
+// The job of the values of all keys.
+fn job_of(alloc: Global, settings: &[Setting]) -> Result<TransferJob, AllocError>
+    requires { HasTransferValues settings.now }
+    ensures { IfOk result (λ job. job ≡ transfer_of settings.now) }
+{
+    Ok(TransferJob {
+        names: names_at(alloc, settings)?,
+        target: name_at(alloc, settings, Key::Target)?,
+        block: number_at(settings, Key::Block) as u32,
+        overlap: number_at(settings, Key::Overlap) as u32,
+        tol: number_at(settings, Key::Tol) as u32,
+        alpha: number_at(settings, Key::Alpha) as u32,
+        seed: number_at(settings, Key::Seed),
+    })
+}
+
+/// The job of the words after the command, or their first refusal.
+pub fn read_transfer(alloc: Global, words: &[Name]) -> Result<TransferJob, WordFault>
+    ensures exact { by.AnswersAs (transfer_job_of words.now) result }
+    ensures lawful { IfOk result IsTransferJob }
+{
+    let settings = all_settings(alloc, rows(), words)?;
+    let job = job_of(alloc, &settings)?;
+    Ok(job)
+}

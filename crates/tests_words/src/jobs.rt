@@ -4,7 +4,7 @@ use job_words::{
 };
 use std::alloc::{AllocError, Global};
 
-fn words_of(alloc: Global, words: &[&str]) -> Result<Words, AllocError> {
+pub fn words_of(alloc: Global, words: &[&str]) -> Result<Words, AllocError> {
     let mut list = Words::new(alloc);
     for word in words {
         list.push(word)?;
@@ -21,6 +21,8 @@ fn read(alloc: Global, words: &[&str]) -> Result<Job, WordFault> {
 const REFUSED: &[(&[&str], WordFault)] = &[
     (&[], WordFault::NoCommand),
     (&["merge"], WordFault::UnknownCommand),
+    (&["transfer"], WordFault::UnknownCommand),
+    (&["tile"], WordFault::UnknownCommand),
     (&["grow "], WordFault::UnknownCommand),
     (&[""], WordFault::UnknownCommand),
     (&["grow"], WordFault::Missing(Key::Sample)),
@@ -29,6 +31,8 @@ const REFUSED: &[(&[&str], WordFault)] = &[
     (&["grow", "=x"], WordFault::BadWord(2)),
     (&["grow", ""], WordFault::BadWord(2)),
     (&["grow", "block=4"], WordFault::UnknownKey(2)),
+    (&["grow", "turns=all"], WordFault::UnknownKey(2)),
+    (&["check", "turns=none"], WordFault::UnknownKey(2)),
     (&["grow", "sample1=a"], WordFault::UnknownKey(2)),
     (&["grow", "sample02=a"], WordFault::UnknownKey(2)),
     (&["grow", "sample17=a"], WordFault::UnknownKey(2)),
@@ -137,7 +141,7 @@ const SEVEN: &str = "height=\
     00000000000000000000000000000000000000000000000000000000000000000000000000000007";
 
 // A name has this text.
-fn is_name(name: &Name, text: &str) -> bool {
+pub fn is_name(name: &Name, text: &str) -> bool {
     name.as_text() == text
 }
 
@@ -158,7 +162,7 @@ struct Grown<'a> {
     seed: u64,
 }
 
-fn are_names(names: &[Name], texts: &[&str]) -> bool {
+pub fn are_names(names: &[Name], texts: &[&str]) -> bool {
     for (i, text) in texts.iter().enumerate() {
         match names.get(i) {
             Some(name) if is_name(name, text) => {}

@@ -1,0 +1,394 @@
+// The words of `transfer`, `merge` and `tile`, which are read by calls of their own: `read_job` knows none of these
+// commands.
+use crate::jobs::{are_names, is_name, words_of};
+use cells::{Axis, Size};
+use job_words::{
+    Key, MergeJob, Name, TileJob, TransferJob, WordFault, Wrap, read_merge, read_tile, read_transfer,
+};
+use std::alloc::Global;
+
+// Why words after a command are refused.
+fn fault_after(alloc: Global, command: &str, words: &[Name]) -> Option<WordFault> {
+    match command {
+        "transfer" => read_transfer(alloc, words).err(),
+        "merge" => read_merge(alloc, words).err(),
+        _ => read_tile(alloc, words).err(),
+    }
+}
+
+fn fault_of(alloc: Global, words: &[&str]) -> Option<WordFault> {
+    let Ok(list) = words_of(alloc, words) else {
+        return Some(WordFault::NoMemory);
+    };
+    match list.as_slice() {
+        [command, words @ ..] => fault_after(alloc, command.as_text(), words),
+        [] => Some(WordFault::NoCommand),
+    }
+}
+
+// Words, the command first, and why they are refused.
+const REFUSED: &[(&[&str], WordFault)] = &[
+    (&["transfer"], WordFault::Missing(Key::Sample)),
+    (&["transfer", "sample=a"], WordFault::Missing(Key::Target)),
+    (
+        &["transfer", "target=b", "sample=a"],
+        WordFault::Missing(Key::Out),
+    ),
+    (
+        &["transfer", "out=c", "target=b", "sample=a"],
+        WordFault::Missing(Key::Map),
+    ),
+    (
+        &["transfer", "map=d", "out=c", "target=b", "sample=a"],
+        WordFault::Missing(Key::Cert),
+    ),
+    (&["transfer", "target=a", "sample=a"], WordFault::SameName(3)),
+    (&["transfer", "record=a", "target=a"], WordFault::SameName(3)),
+    (&["transfer", "alpha=101"], WordFault::OutOfRange(2)),
+    (&["transfer", "alpha=half"], WordFault::BadValue(2)),
+    (&["transfer", "block=0"], WordFault::OutOfRange(2)),
+    (&["transfer", "overlap=4096"], WordFault::OutOfRange(2)),
+    (&["transfer", "width=7"], WordFault::UnknownKey(2)),
+    (&["transfer", "sample2=b"], WordFault::UnknownKey(2)),
+    (&["merge"], WordFault::Missing(Key::Sample)),
+    (&["merge", "sample=a"], WordFault::Missing(Key::More(2))),
+    (
+        &["merge", "sample3=c", "sample=a"],
+        WordFault::Missing(Key::More(2)),
+    ),
+    (
+        &["merge", "sample4=d", "sample2=b", "sample=a"],
+        WordFault::Missing(Key::More(3)),
+    ),
+    (
+        &["merge", "sample=a", "sample2=b"],
+        WordFault::Missing(Key::Marks),
+    ),
+    (
+        &["merge", "sample=a", "sample2=b", "marks=m"],
+        WordFault::Missing(Key::Out),
+    ),
+    (
+        &["merge", "sample=a", "sample2=b", "marks=m", "out=o"],
+        WordFault::Missing(Key::Map),
+    ),
+    (&["merge", "sample2=a", "marks=a"], WordFault::SameName(3)),
+    (&["merge", "marks=a", "out=a"], WordFault::SameName(3)),
+    (&["merge", "record=r"], WordFault::UnknownKey(2)),
+    (&["merge", "sample17=q"], WordFault::UnknownKey(2)),
+    (&["tile"], WordFault::Missing(Key::Sample)),
+    (&["tile", "sample=a"], WordFault::Missing(Key::Out)),
+    (&["tile", "sample=a", "out=o"], WordFault::Missing(Key::Map)),
+    (
+        &["tile", "sample=a", "out=o", "map=m"],
+        WordFault::Missing(Key::Width),
+    ),
+    (
+        &["tile", "sample=a", "out=o", "map=m", "width=2", "wrap=x"],
+        WordFault::Missing(Key::Height),
+    ),
+    (&["tile", "out=a", "map=a"], WordFault::SameName(3)),
+    (&["tile", "wrap=yx"], WordFault::BadValue(2)),
+    (&["tile", "wrap=none"], WordFault::BadValue(2)),
+    (&["tile", "wrap=X"], WordFault::BadValue(2)),
+    (&["tile", "wrap="], WordFault::BadWord(2)),
+    (&["tile", "wrap=x", "wrap=y"], WordFault::Repeated(3)),
+    (&["tile", "box=4097"], WordFault::OutOfRange(2)),
+    (&["tile", "record=r"], WordFault::UnknownKey(2)),
+    (&["tile", "rounds=1"], WordFault::UnknownKey(2)),
+    (&["tile", "place=sub"], WordFault::UnknownKey(2)),
+    (&["tile", "turns=all"], WordFault::UnknownKey(2)),
+    (
+        &[
+            "tile", "sample=a", "out=o", "map=m", "width=2", "height=3",
+        ],
+        WordFault::Narrow(Axis::X),
+    ),
+    (
+        &[
+            "tile", "sample=a", "out=o", "map=m", "width=3", "height=2",
+        ],
+        WordFault::Narrow(Axis::Y),
+    ),
+    (
+        &[
+            "tile", "sample=a", "out=o", "map=m", "width=2", "height=1", "wrap=y",
+        ],
+        WordFault::Narrow(Axis::Y),
+    ),
+    (
+        &[
+            "tile", "sample=a", "out=o", "map=m", "width=9", "height=9", "wrap=f",
+        ],
+        WordFault::Narrow(Axis::F),
+    ),
+    (
+        &[
+            "tile", "sample=a", "out=o", "map=m", "width=1", "height=1", "wrap=xyf",
+        ],
+        WordFault::Narrow(Axis::X),
+    ),
+    (
+        &[
+            "tile", "frames=2", "sample=a", "out=o", "map=m", "width=3", "height=3", "wrap=xyf",
+        ],
+        WordFault::Narrow(Axis::F),
+    ),
+    (
+        &["tile", "width=2", "height=2", "wrap=xy", "seed=-1"],
+        WordFault::BadValue(5),
+    ),
+];
+
+// The number of the first words, from 0, that aren't refused so.
+fn wrong_words(alloc: Global) -> Option<usize> {
+    for (i, (words, fault)) in REFUSED.iter().enumerate() {
+        if fault_of(alloc, *words) != Some(*fault) {
+            return Some(i);
+        }
+    }
+    None
+}
+
+#[test]
+fn refusals(rt: HostRuntime) {
+    assert_eq!(rt; wrong_words(rt.alloc()), None);
+}
+
+// The files of a transfer whose names are s, t, o, m and r.
+fn has_files(job: &TransferJob) -> bool {
+    job.names.more.as_slice().is_empty()
+        && is_name(&job.names.sample, "s")
+        && is_name(&job.target, "t")
+        && is_name(&job.names.out, "o")
+        && is_name(&job.names.map, "m")
+        && is_name(&job.names.cert, "r")
+}
+
+// The numbers of a job of `transfer`: block, overlap, tolerance, weight and seed.
+fn has_numbers(job: &TransferJob, numbers: (u32, u32, u32, u32, u64)) -> bool {
+    let (block, overlap, tol, alpha, seed) = numbers;
+    job.block == block
+        && job.overlap == overlap
+        && job.tol == tol
+        && job.alpha == alpha
+        && job.seed == seed
+}
+
+// Whether words after `transfer` are read as a job of those files with these numbers.
+fn is_transferred(alloc: Global, words: &[&str], numbers: (u32, u32, u32, u32, u64)) -> bool {
+    let Ok(list) = words_of(alloc, words) else {
+        return false;
+    };
+    match read_transfer(alloc, list.as_slice()) {
+        Ok(job) => has_files(&job) && has_numbers(&job, numbers),
+        Err(_) => false,
+    }
+}
+
+#[test]
+fn transfers(rt: HostRuntime) {
+    let words = ["record=r", "map=m", "out=o", "target=t", "sample=s"];
+    assert!(rt; is_transferred(rt.alloc(), &words, (32, 5, 10, 50, 0)));
+    let words = [
+        "seed=18446744073709551615",
+        "alpha=100",
+        "tol=1000",
+        "overlap=4095",
+        "block=4096",
+        "sample=s",
+        "target=t",
+        "out=o",
+        "map=m",
+        "record=r",
+    ];
+    let greatest = (4096, 4095, 1000, 100, u64::MAX);
+    assert!(rt; is_transferred(rt.alloc(), &words, greatest));
+}
+
+fn has_pictures(job: &MergeJob, more: &[&str]) -> bool {
+    is_name(&job.sample, "a")
+        && are_names(job.more.as_slice(), more)
+        && is_name(&job.marks, "k")
+        && is_name(&job.out, "o")
+        && is_name(&job.map, "m")
+}
+
+// Whether words after `merge` are read as a job with these further pictures.
+fn is_merged(alloc: Global, words: &[&str], more: &[&str]) -> bool {
+    let Ok(list) = words_of(alloc, words) else {
+        return false;
+    };
+    match read_merge(alloc, list.as_slice()) {
+        Ok(job) => has_pictures(&job, more),
+        Err(_) => false,
+    }
+}
+
+#[test]
+fn merges(rt: HostRuntime) {
+    let words = ["map=m", "out=o", "marks=k", "sample2=b", "sample=a"];
+    assert!(rt; is_merged(rt.alloc(), &words, &["b"]));
+    let words = [
+        "sample4=d",
+        "sample3=c",
+        "map=m",
+        "out=o",
+        "marks=k",
+        "sample2=b",
+        "sample=a",
+    ];
+    assert!(rt; is_merged(rt.alloc(), &words, &["b", "c", "d"]));
+}
+
+// What a job of `tile` has, but for its files.
+#[derive(Clone, Copy, Drop)]
+struct Tiled {
+    size: Size,
+    wrap: Wrap,
+    side: u32,
+    overlap: u32,
+    tol: u32,
+    seed: u64,
+}
+
+fn is_tile(job: &TileJob, of: &Tiled) -> bool {
+    is_name(&job.sample, "a")
+        && is_name(&job.out, "o")
+        && is_name(&job.map, "m")
+        && job.size == of.size
+        && job.plan.wrap == of.wrap
+        && job.plan.side == of.side
+        && job.plan.overlap == of.overlap
+        && job.plan.tol == of.tol
+        && job.seed == of.seed
+}
+
+// Whether words after `tile` are read as such a job.
+fn is_tiled(alloc: Global, words: &[&str], of: &Tiled) -> bool {
+    let Ok(list) = words_of(alloc, words) else {
+        return false;
+    };
+    match read_tile(alloc, list.as_slice()) {
+        Ok(job) => is_tile(&job, of),
+        Err(_) => false,
+    }
+}
+
+const DEFAULTS: Tiled = Tiled {
+    size: Size { w: 3, h: 3, f: 1 },
+    wrap: Wrap {
+        x: true,
+        y: true,
+        f: false,
+    },
+    side: 32,
+    overlap: 8,
+    tol: 10,
+    seed: 0,
+};
+
+const WHOLE: Tiled = Tiled {
+    size: Size {
+        w: 3,
+        h: 4096,
+        f: 3,
+    },
+    wrap: Wrap {
+        x: true,
+        y: true,
+        f: true,
+    },
+    side: 4096,
+    overlap: 4095,
+    tol: 1000,
+    seed: u64::MAX,
+};
+
+#[test]
+fn tiles(rt: HostRuntime) {
+    let words = ["height=3", "width=3", "map=m", "out=o", "sample=a"];
+    assert!(rt; is_tiled(rt.alloc(), &words, &DEFAULTS));
+    let words = [
+        "seed=18446744073709551615",
+        "tol=1000",
+        "overlap=4095",
+        "box=4096",
+        "wrap=xyf",
+        "frames=3",
+        "height=4096",
+        "width=3",
+        "map=m",
+        "out=o",
+        "sample=a",
+    ];
+    assert!(rt; is_tiled(rt.alloc(), &words, &WHOLE));
+}
+
+// The text of each set of axes, a size that is as small as it may be, and what is then asked for.
+const WRAPPED: &[(&[&str], Size, Wrap)] = &[
+    (
+        &[
+            "sample=a", "out=o", "map=m", "wrap=x", "width=3", "height=1", "frames=1",
+        ],
+        Size { w: 3, h: 1, f: 1 },
+        Wrap {
+            x: true,
+            y: false,
+            f: false,
+        },
+    ),
+    (
+        &[
+            "sample=a", "out=o", "map=m", "wrap=y", "width=1", "height=3", "frames=1",
+        ],
+        Size { w: 1, h: 3, f: 1 },
+        Wrap {
+            x: false,
+            y: true,
+            f: false,
+        },
+    ),
+    (
+        &[
+            "sample=a", "out=o", "map=m", "wrap=xy", "width=3", "height=3", "frames=1",
+        ],
+        Size { w: 3, h: 3, f: 1 },
+        Wrap {
+            x: true,
+            y: true,
+            f: false,
+        },
+    ),
+    (
+        &[
+            "sample=a", "out=o", "map=m", "wrap=f", "width=1", "height=1", "frames=3",
+        ],
+        Size { w: 1, h: 1, f: 3 },
+        Wrap {
+            x: false,
+            y: false,
+            f: true,
+        },
+    ),
+];
+
+// The number of the first row, from 0, whose words aren't read so.
+fn wrong_wrap(alloc: Global) -> Option<usize> {
+    for (i, (words, size, wrap)) in WRAPPED.iter().enumerate() {
+        let of = Tiled {
+            size: *size,
+            wrap: *wrap,
+            ..DEFAULTS
+        };
+        if !is_tiled(alloc, *words, &of) {
+            return Some(i);
+        }
+    }
+    None
+}
+
+#[test]
+fn wraps(rt: HostRuntime) {
+    assert_eq!(rt; wrong_wrap(rt.alloc()), None);
+}

@@ -2,3 +2,4 @@ pub mod Turns
 pub mod Values
 pub mod NotRead
 pub mod OneAnswer
+pub mod Checked

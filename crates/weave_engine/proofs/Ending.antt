@@ -24,15 +24,17 @@ use Rattle.upgrade_command.specs.Upgraded.{UpgradeHeadline}
 use Rattle.upgrade_command.proofs.Headline.{finished}
 use Rattle.upgrade_command.proofs.OneAnswer.{upgrade_has_one_answer}
 use Rattle.weave_engine.specs.Engine.{command_of}
-use Rattle.weave_engine.specs.Headlines.{CheckHeadline, TrialHeadline, GrowHeadline, HaveSameOutput, HaveSameSamples, IsGrownRun, OneOutput}
+use Rattle.grow_command.specs.GrowHeadlines.{GrowHeadline, HaveSameOutput, HaveSameSamples, IsGrownRun, OneOutput}
+use Rattle.check_command.specs.CheckHeadlines.{CheckHeadline}
+use Rattle.trial_command.specs.TrialHeadlines.{TrialHeadline}
 use Rattle.standing_files.specs.declared.verdict.Verdict.TheVariants as verdict
 use Rattle.check_command.specs.Checks.{Stand, check_command, summary_of}
 use Rattle.check_command.proofs.OneAnswer.{check_has_one_answer}
-use Rattle.weave_engine.proofs.Checked.{broke, made_breaking, made_standing, stood}
-use Rattle.weave_engine.proofs.GrowLaws.{grow_has_one_answer, grown_run, small_output}
-use Rattle.weave_engine.proofs.OneOutputs.{one_output}
-use Rattle.weave_engine.specs.Trials.{IsTrialOf}
-use Rattle.weave_engine.proofs.Trying.{one_trial, trial_has_one_answer, trial_unchanged}
+use Rattle.check_command.proofs.Checked.{broke, made_breaking, made_standing, stood}
+use Rattle.grow_command.proofs.GrowLaws.{grow_has_one_answer, grown_run, small_output}
+use Rattle.grow_command.proofs.OneOutputs.{one_output}
+use Rattle.trial_command.specs.Trials.{IsTrialOf}
+use Rattle.trial_command.proofs.Trying.{one_trial, trial_has_one_answer, trial_unchanged}
 
 pub one_answer : (job : Job) → IsJob job → HasOneAnswer (command_of job)
 one_answer (Grow job) lawful = grow_has_one_answer job lawful

@@ -1,8 +1,1 @@
-pub mod Ready
-pub mod Accepted
-pub mod Growing
-pub mod GrowLaws
-pub mod OneOutputs
-pub mod Checked
-pub mod Trying
 pub mod Ending

@@ -5,8 +5,8 @@ use Rattle.check_command.specs.Checks.{check_command}
 use Rattle.loop_command.specs.Loops.{loop_command}
 use Rattle.quilt_command.specs.Quilts.{quilt_command}
 use Rattle.upgrade_command.specs.Upgrades.{upgrade_command}
-use Rattle.weave_engine.specs.Growths.{grow_command}
-use Rattle.weave_engine.specs.Trials.{trial_command}
+use Rattle.grow_command.specs.Growths.{grow_command}
+use Rattle.trial_command.specs.Trials.{trial_command}
 
 -- the command of a job
 abbrev pub command_of : Commands

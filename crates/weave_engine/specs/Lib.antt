@@ -1,4 +1,1 @@
-pub mod Growths
-pub mod Trials
 pub mod Engine
-pub mod Headlines

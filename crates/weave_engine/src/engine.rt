@@ -2,14 +2,16 @@
 ghost use Rattle.job_words.specs.Jobs.{IsJob};
 ghost use Rattle.run_outcome.specs.Outcomes.{Answers, Leaves, Runs};
 ghost use Rattle.run_outcome.specs.Promises.{DoneStatus, IsComplete, IsRunStatus, KeepsFiles, KeepsOthers, MemoryStatus, ReadStatus, RefusedStatus, WordsStatus, WriteStatus};
+ghost use Rattle.check_command.specs.CheckHeadlines.{CheckHeadline};
+ghost use Rattle.grow_command.specs.GrowHeadlines.{GrowHeadline, OneOutput};
 ghost use Rattle.loop_command.specs.LoopHeadlines.{LoopHeadline, OneLoop};
 ghost use Rattle.quilt_command.specs.QuiltHeadlines.{OneQuiltOutput, QuiltHeadline, QuiltReport};
+ghost use Rattle.trial_command.specs.TrialHeadlines.{TrialHeadline};
 ghost use Rattle.upgrade_command.specs.Upgraded.{UpgradeHeadline};
 ghost use Rattle.weave_engine.specs.Engine.{command_of};
-ghost use Rattle.weave_engine.specs.Headlines.{CheckHeadline, GrowHeadline, OneOutput, TrialHeadline};
 
-use crate::{grow, trial};
 use check_command::check_files;
+use grow_command::grow;
 use job_words::{Job, Words, read_job};
 use loop_command::loop_clip;
 use quilt_command::quilt_picture;
@@ -17,6 +19,7 @@ use run_outcome::finish;
 use shelf_core::{Shelf, Sink};
 use std::alloc::Global;
 use synth_report::{Fault, Summary};
+use trial_command::trial;
 use upgrade_command::upgrade;
 
 // Runs the command of a job.

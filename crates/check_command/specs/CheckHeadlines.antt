@@ -1,0 +1,30 @@
+-- The headline of `check`: what its statuses say of the files. To be trusted: contracts cite these
+-- words. (Own.)
+use Rattle.std.specs.Prelude.{◌≡◌, ◌⊎◌, ℕ, List}
+use Rattle.shelf_core.specs.Files.{Files, ShelfState, SinkState, Changes}
+use Rattle.job_words.specs.declared.check.CheckJob.{CheckJob}
+use Rattle.job_words.specs.declared.job.Job.TheVariants.{Check}
+use Rattle.synth_report.specs.declared.summary.Summary.TheVariants.{Fails}
+use Rattle.run_outcome.specs.Promises.{Asks, TellsFiles}
+use Rattle.run_outcome.specs.Writing.{Reported}
+use Rattle.check_command.specs.Checks.{Break, Stand}
+
+-- `check` ends with status 0 where the files stand, and with status 1 where they are in their forms
+-- and within their limits and don't, and out has the first rule that they break; each yields to
+-- failures of reads and writes and to want of memory. No file is changed
+pub record CheckHeadline (words : List (List ℕ)) (was now : ShelfState) (out out' : SinkState)
+    (status : ℕ) : Type 0 where
+  pub stand : (job : CheckJob) → Asks words (Check job) → status ≡ 0
+      → Changes was now (λ before after. (after ≡ before) × Stand job.names before)
+  pub break : (job : CheckJob) → Asks words (Check job) → status ≡ 1
+      → (number : ℕ) × (rule : ℕ) × (place : ℕ)
+      × Changes was now (λ before after.
+      (after ≡ before) × Break job.names before number rule place)
+      × Reported (Fails number rule place) out out'
+  pub where_they_stand : (job : CheckJob) (files : Files) → Asks words (Check job)
+      → TellsFiles was now files → Stand job.names files
+      → (status ≡ 0) ⊎ (status ≡ 5) ⊎ (status ≡ 6) ⊎ (status ≡ 7)
+  pub where_they_break : (job : CheckJob) (files : Files) (number rule place : ℕ)
+      → Asks words (Check job) → TellsFiles was now files
+      → Break job.names files number rule place
+      → (status ≡ 1) ⊎ (status ≡ 5) ⊎ (status ≡ 6) ⊎ (status ≡ 7)

@@ -1,0 +1,5 @@
+pub mod Ready
+pub mod Accepted
+pub mod Growing
+pub mod GrowLaws
+pub mod OneOutputs

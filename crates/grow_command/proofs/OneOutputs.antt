@@ -1,0 +1,48 @@
+-- The out file and the map file are a function of the words and the sample files.
+use Rattle.std.proofs.Common.{◌≡◌, ℕ, List, ap, sym, ◌∙◌, subst}
+use Rattle.cells.specs.Cells.{sizes_of}
+use Rattle.cells.specs.Places.{IsSmall}
+use Rattle.shelf_core.specs.Files.{Files, content_of}
+use Rattle.map_canvas.specs.Maps.{SourceMap, picture_of}
+use Rattle.source_map.specs.MapFiles.{cell_map_form}
+use Rattle.growing.specs.Grown.{Growth, IsDone, IsRun}
+use Rattle.growing.proofs.OneRuns.{runs_are_one}
+use Rattle.job_words.specs.declared.grow.GrowJob.{GrowJob}
+use Rattle.samples.specs.declared.several.Samples.{Samples}
+use Rattle.samples.specs.Samples.{form_text}
+use Rattle.samples.specs.Several.{StandForSamples, contents}
+use Rattle.samples.proofs.OneAnswer.{one_value}
+use Rattle.grow_command.specs.Growths.{plan_of, version_over}
+use Rattle.grow_command.specs.GrowHeadlines.{HaveSameOutput, HaveSameSamples, IsGrownRun}
+
+module _ (job : GrowJob) (small : IsSmall job.size) (before after earlier later : Files) (same : HaveSameSamples job earlier before) (run : IsGrownRun job before after) (other : IsGrownRun job earlier later) where
+  abbrev samples : Samples
+  samples = run.output.samples
+
+  one_samples : other.output.samples ≡ samples
+  one_samples = one_value (content_of before job.names.sample) (contents before job.names.more) other.output.samples samples
+      (subst (λ more. StandForSamples (content_of before job.names.sample) more other.output.samples) same.further (subst (λ first. StandForSamples first (contents earlier job.names.more) other.output.samples) same.first other.output.read.files_are))
+      run.output.read.files_are
+
+  abbrev growth : Growth
+  growth = record { map = run.output.map; draws = run.records.draws; rounds = run.records.rounds }
+
+  abbrev again : Growth
+  again = record { map = other.output.map; draws = other.records.draws; rounds = other.records.rounds }
+
+  one_map : other.output.map ≡ run.output.map
+  one_map = sym (ap (λ (g : Growth). g.map) (runs_are_one (plan_of job) samples.volume run.output.read.volume small run.records.cuts other.records.cuts growth again run.records.run run.records.done
+      (subst (λ (s : Samples). IsRun (plan_of job) s.volume other.records.cuts again) one_samples other.records.run) (subst (λ (s : Samples). IsDone (plan_of job) s.volume again) one_samples other.records.done)).left)
+
+  abbrev map_spelled : Samples → SourceMap → List ℕ
+  map_spelled s m = cell_map_form m (sizes_of s.volume) (version_over s.volume)
+
+  abbrev out_spelled : Samples → SourceMap → List ℕ
+  out_spelled s m = form_text s.form (picture_of m s.volume)
+
+  pub one_output : HaveSameOutput job later after
+  one_output = record {
+    out = other.output.out_file ∙ ap (form_text other.output.samples.form) other.output.of_map ∙ (λ i. out_spelled (one_samples i) (one_map i))
+        ∙ sym (run.output.out_file ∙ ap (form_text samples.form) run.output.of_map);
+    map = other.output.map_file ∙ (λ i. map_spelled (one_samples i) (one_map i)) ∙ sym run.output.map_file;
+  }

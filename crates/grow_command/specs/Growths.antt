@@ -1,0 +1,206 @@
+-- `grow` as a command: what it reads and refuses, what it makes, and the files that it writes. To
+-- be trusted: contracts cite these words. (Own.)
+use Rattle.std.specs.Prelude.{◌≡◌, ◌≤◌, ◌<◌, ◌⊎◌, ◌+◌, ◌-◌, ℕ, List, [], ◌∷◌, length, All, Result, Ok, Err}
+use Rattle.cells.specs.declared.place.Size.{Size}
+use Rattle.cells.specs.Cells.{Cells, IsVolume, sizes_of}
+use Rattle.cells.specs.Places.{cell_count}
+use Rattle.cells.specs.declared.bounds.TheConstants.{GREATEST_AXIS}
+use Rattle.shelf_core.specs.Files.{Files, content_of}
+use Rattle.shelf_core.specs.declared.fault.What.TheVariants.{Frames, Output, Records as RecordsLimit}
+use Rattle.source_map.specs.MapFiles.{cell_map_form}
+use Rattle.source_map.specs.declared.head.Head.{Head}
+use Rattle.source_map.specs.declared.head.Version.{Version}
+use Rattle.source_map.specs.declared.head.Version.TheVariants.{One, Two}
+use Rattle.graph_place.specs.Placed.{map_total}
+use Rattle.patch_place.specs.declared.mode.Mode.{Mode}
+use Rattle.patch_place.specs.declared.mode.Mode.TheVariants as mode
+use Rattle.replay.specs.declared.records.TheConstants.{MOST_BOX_CELLS}
+use Rattle.growing.specs.declared.plan.GrowPlan.{GrowPlan}
+use Rattle.growing.specs.declared.plan.GrowError.{GrowError}
+use Rattle.growing.specs.declared.plan.GrowError.TheVariants as error
+use Rattle.growing.specs.Grown.{IsGrown, PassesAt}
+use Rattle.cert_file.specs.CutForms.{HasShortFlows}
+use Rattle.cert_file.specs.RecordFiles.{cuts_form}
+use Rattle.job_words.specs.declared.grow.GrowJob.{GrowJob}
+use Rattle.job_words.specs.declared.grow.Place.{Place}
+use Rattle.job_words.specs.declared.grow.Place.TheVariants as place
+use Rattle.synth_report.specs.declared.fault.Fault.{Fault}
+use Rattle.synth_report.specs.declared.fault.Fault.TheVariants.{Limit, NoMemory}
+use Rattle.synth_report.specs.declared.fault.FileOf.TheVariants as part
+use Rattle.synth_report.specs.declared.summary.Summary.{Summary}
+use Rattle.synth_report.specs.declared.summary.Summary.TheVariants.{Grow}
+use Rattle.run_outcome.specs.Commands.{Command, named}
+use Rattle.run_outcome.specs.Writing.{FileText, file_text, texts_in}
+use Rattle.samples.specs.declared.form.Form.{Form}
+use Rattle.samples.specs.declared.form.Form.TheVariants.{Picture, Clip}
+use Rattle.samples.specs.declared.several.Samples.{Samples}
+use Rattle.samples.specs.Samples.{form_text}
+use Rattle.samples.specs.Several.{StandForSamples, AreSoundSamples, MayRefuseSamples, RefusesSamples, contents, sample_files}
+use Rattle.grow_command.specs.declared.asked.TheConstants.{MOST_OUTPUT_CELLS}
+use Rattle.grow_command.specs.declared.plan.Growth.{Growth}
+
+-- The plan of a job.
+
+abbrev pub mode_for : Place → ℕ → ℕ → ℕ → Mode
+mode_for place.Grid side overlap tol = mode.Grid overlap
+mode_for place.Random side overlap tol = mode.Random
+mode_for place.Whole side overlap tol = mode.Whole tol
+mode_for place.Sub side overlap tol = mode.Sub side overlap tol
+
+-- how the output is grown and refined
+abbrev pub plan_of : GrowJob → GrowPlan
+plan_of job = record {
+  size = job.size;
+  mode = mode_for job.place job.side job.overlap job.tol;
+  side = job.side;
+  tol = job.tol;
+  rounds = job.rounds;
+  seed = job.seed;
+}
+
+-- The bounds of a job over samples that are read.
+
+-- the most frames of an output in this form
+abbrev pub frames_allowed : Form → ℕ
+frames_allowed (Picture maxval) = 1
+frames_allowed (Clip form) = GREATEST_AXIS
+
+-- the output has no more frames than its form allows, and no more cells than an output may have
+pub record IsWithinBounds (job : GrowJob) (form : Form) : Type 0 where
+  pub frames : job.size.f ≤ frames_allowed form
+  pub cells : cell_count job.size ≤ MOST_OUTPUT_CELLS
+
+pub record FramesPass (job : GrowJob) (form : Form) (fault : Fault) : Type 0 where
+  pub passes : frames_allowed form < job.size.f
+  pub is : fault ≡ Limit Frames job.size.f (frames_allowed form)
+
+pub record OutputPasses (job : GrowJob) (form : Form) (fault : Fault) : Type 0 where
+  pub frames : job.size.f ≤ frames_allowed form
+  pub passes : MOST_OUTPUT_CELLS < cell_count job.size
+  pub is : fault ≡ Limit Output (cell_count job.size) MOST_OUTPUT_CELLS
+
+-- the frames pass their bound, or they don't and the cells of the output pass theirs
+abbrev pub RefusesOutput : GrowJob → Form → Fault → Type 0
+RefusesOutput job form fault = FramesPass job form fault ⊎ OutputPasses job form fault
+
+-- whether the output is within its bounds
+abbrev pub SetAgainst : GrowJob → Form → Result (Unit {0}) Fault → Type 0
+SetAgainst job form (Ok done) = IsWithinBounds job form
+SetAgainst job form (Err fault) = RefusesOutput job form fault
+
+-- the boxes of the run pass the bound on their cells, at this number
+pub record RecordsPass (job : GrowJob) (samples : Samples) (fault : Fault) : Type 0 where
+  pub bounds : IsWithinBounds job samples.form
+  pub number : ℕ
+  pub passes : PassesAt (plan_of job) samples.volume number
+  pub is : fault ≡ Limit RecordsLimit number MOST_BOX_CELLS
+
+-- what a run without an output is refused for
+abbrev pub fault_of_growing : GrowError → Fault
+fault_of_growing (error.Records number) = Limit RecordsLimit number MOST_BOX_CELLS
+fault_of_growing error.NoMemory = NoMemory
+
+-- What is grown of the files.
+
+-- the sample files stand for these samples
+pub record AreSamplesIn (files : Files) (job : GrowJob) (samples : Samples) : Type 0 where
+  pub files_are :
+      StandForSamples (content_of files job.names.sample) (contents files job.names.more) samples
+  pub volume : IsVolume samples.volume
+
+-- the samples that the files stand for, the output that is grown and refined over them, with flows
+-- of 16 bits as their type has them, and the total cost of its seams
+pub record IsGrowth (job : GrowJob) (files : Files) (growth : Growth) : Type 0 where
+  pub samples : AreSamplesIn files job growth.samples
+  pub bounds : IsWithinBounds job growth.samples.form
+  pub grown : IsGrown (plan_of job) growth.samples.volume growth.grown
+  pub flows : All HasShortFlows growth.grown.cuts
+  pub seams : growth.seams ≡ map_total growth.samples.volume growth.grown.canvas.map
+
+-- what the writers of the files of a growth ask for
+pub record IsMade (job : GrowJob) (growth : Growth) : Type 0 where
+  pub volume : IsVolume growth.samples.volume
+  pub sound : AreSoundSamples growth.samples
+  pub bounds : IsWithinBounds job growth.samples.form
+  pub grown : IsGrown (plan_of job) growth.samples.volume growth.grown
+
+-- The files that are written.
+
+-- one sample is told in version 1, and several are in version 2
+abbrev pub version_for : List Size → Version
+version_for [] = One
+version_for (size ∷ more) = Two
+
+abbrev pub version_over : Cells → Version
+version_over volume = version_for volume.more
+
+-- the head of the map and the record of an output of this size over a volume
+abbrev pub head_over : Size → Cells → Head
+head_over output volume = record {
+  output = output;
+  samples = sizes_of volume;
+  version = version_over volume;
+}
+
+-- in order, with their texts: the picture in the form of the samples, the map, and the record
+abbrev pub growth_files : GrowJob → Growth → List FileText
+growth_files job growth =
+    file_text part.Out job.names.out (form_text growth.samples.form growth.grown.canvas.picture)
+    ∷ file_text part.Map job.names.map (cell_map_form growth.grown.canvas.map
+    (sizes_of growth.samples.volume) (version_over growth.samples.volume))
+    ∷ file_text part.Cert job.names.cert
+    (cuts_form (head_over job.size growth.samples.volume) growth.grown.cuts)
+    ∷ []
+
+-- the records but those of rounds are those of placements
+abbrev pub growth_summary : GrowJob → Growth → Summary
+growth_summary job growth =
+    Grow job.size (length growth.grown.cuts - growth.grown.rounds) growth.grown.rounds growth.seams
+
+-- The command.
+
+-- all sample files are read, and the job is refused over the samples that they stand for
+pub record RefusesOver (job : GrowJob) (files : Files) (n : ℕ) (fault : Fault) : Type 0 where
+  pub all : n ≡ length job.names.more + 1
+  pub samples : Samples
+  pub read : AreSamplesIn files job samples
+  pub refused : RefusesOutput job samples.form fault ⊎ RecordsPass job samples fault
+
+-- the refusals of the files, once so many are read: those of the samples, and then those of the job
+abbrev pub RefusesGrowth : GrowJob → ℕ → Files → Fault → Type 0
+RefusesGrowth job n files fault =
+    RefusesSamples n (content_of files job.names.sample) (contents files job.names.more) fault
+    ⊎ RefusesOver job files n fault
+
+-- the samples are read, and every number is within its bound
+pub record TakesToGrow (job : GrowJob) (files : Files) : Type 0 where
+  pub samples : Samples
+  pub read : AreSamplesIn files job samples
+  pub bounds : IsWithinBounds job samples.form
+  pub records : (number : ℕ) → PassesAt (plan_of job) samples.volume number → ⊥
+
+-- a growth of the files, with its texts and its summary
+pub record MakesGrowth (job : GrowJob) (files : Files) (texts : List (List ℕ)) (summary : Summary)
+    : Type 0 where
+  pub growth : Growth
+  pub grown : IsGrowth job files growth
+  pub texts_are : texts ≡ texts_in (growth_files job growth)
+  pub summary_is : summary ≡ growth_summary job growth
+
+-- the summaries of `grow`
+abbrev pub IsGrowSummary : Summary → Type 0
+IsGrowSummary summary =
+    (size : Size) × (placements : ℕ) × (rounds : ℕ) × (seams : ℕ)
+    × (summary ≡ Grow size placements rounds seams)
+
+abbrev pub grow_command : GrowJob → Command
+grow_command job = record {
+  reads = sample_files job.names.sample job.names.more;
+  writes = named part.Out job.names.out ∷ named part.Map job.names.map
+      ∷ named part.Cert job.names.cert ∷ [];
+  Takes = TakesToGrow job;
+  Refuses = RefusesGrowth job;
+  Makes = MakesGrowth job;
+  MayRefuse = MayRefuseSamples (length job.names.more + 1);
+  MayMake = IsGrowSummary;
+}

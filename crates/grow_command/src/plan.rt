@@ -1,0 +1,118 @@
+// What is read and computed before a file is begun.
+ghost use Rattle.std.specs.Prelude.{◌≡◌, IfOk};
+ghost use Rattle.cells.specs.Places.{HasAxes, cell_count};
+ghost use Rattle.shelf_core.specs.Files.{OnlyReads};
+ghost use Rattle.job_words.specs.GrowWords.{IsGrowJob};
+ghost use Rattle.run_outcome.specs.Outcomes.{Plans};
+ghost use Rattle.grow_command.specs.Growths.{IsMade, SetAgainst, grow_command, growth_files, growth_summary, frames_allowed, plan_of};
+
+use crate::asked::{MOST_OUTPUT_CELLS, growing_fault, mode_for};
+use cells::{GREATEST_AXIS, Size};
+use growing::{GrowPlan, Grown, grow_canvas};
+use job_words::GrowJob;
+use run_files::records_fit;
+use samples::{Form, Samples, read_samples};
+use seams::total;
+use shelf_core::{Shelf, What};
+use std::alloc::Global;
+use synth_report::Fault;
+
+/// The samples that were read, the output grown and refined over them with its records, and what its
+/// seams cost in all.
+#[derive(Drop)]
+pub struct Growth {
+    pub samples: Samples,
+    pub grown: Grown,
+    pub seams: u64,
+}
+
+// How an output is grown and refined.
+fn plan_of(job: &GrowJob) -> GrowPlan
+    ensures { result ≡ plan_of job.now }
+{
+    GrowPlan {
+        size: job.size,
+        mode: mode_for(job.place, job.side, job.overlap, job.tol),
+        side: job.side,
+        tol: job.tol,
+        rounds: job.rounds,
+        seed: job.seed,
+    }
+}
+
+// The most frames of an output in this form.
+fn frames_allowed(form: &Form) -> u32
+    ensures { result ≡ frames_allowed form.now }
+{
+    match form {
+        Form::Picture { .. } => 1,
+        Form::Clip { .. } => GREATEST_AXIS,
+    }
+}
+
+// How many cells an output of a size has, also where they are too many for a volume.
+fn cells_of(size: Size) -> u64
+    requires { HasAxes size }
+    ensures { result ≡ cell_count size }
+{
+    u64::from(size.w) * (u64::from(size.h) * u64::from(size.f))
+}
+
+// Sets a job against the form of its samples.
+fn set_against(job: &GrowJob, form: &Form) -> Result<(), Fault>
+    requires { IsGrowJob job.now }
+    ensures { SetAgainst job.now form.now result }
+{
+    let frames = frames_allowed(form);
+    if job.size.f > frames {
+        return Err(Fault::Limit {
+            what: What::Frames,
+            number: u64::from(job.size.f),
+            bound: u64::from(frames),
+        });
+    }
+    let cells = cells_of(job.size);
+    if cells > MOST_OUTPUT_CELLS as u64 {
+        return Err(Fault::Limit {
+            what: What::Output,
+            number: cells,
+            bound: MOST_OUTPUT_CELLS as u64,
+        });
+    }
+    Ok(())
+}
+
+/// Reads the samples and computes all that is to be written. Nothing is written yet.
+pub(crate) fn plan<S: Shelf>(
+    alloc: Global,
+    job: &GrowJob,
+    shelf: &mut S,
+) -> Result<Growth, Fault>
+    requires { IsGrowJob job.now }
+    ensures planned { Plans (grow_command job.now) (growth_files job.now) (growth_summary job.now)
+        (S.state shelf.old) (S.state shelf.new) result }
+    ensures made { IfOk result (IsMade job.now) }
+    ensures reads { OnlyReads (S.state shelf.old) (S.state shelf.new) }
+{
+    let samples = match read_samples(alloc, shelf, &job.names.sample, job.names.more.as_slice()) {
+        Ok(samples) => samples,
+        Err(fault) => return Err(fault),
+    };
+    // It is asked for only to show the check that the samples are a volume.
+    let _k = samples.volume.samples();
+    match set_against(job, &samples.form) {
+        Ok(()) => {}
+        Err(fault) => return Err(fault),
+    }
+    let grown = match grow_canvas(alloc, &plan_of(job), &samples.volume) {
+        Ok(grown) => grown,
+        Err(error) => return Err(growing_fault(error)),
+    };
+    records_fit(grown.cuts.as_slice());
+    let seams = total(&grown.canvas, &samples.volume);
+    Ok(Growth {
+        samples,
+        grown,
+        seams,
+    })
+}

@@ -1,0 +1,78 @@
+-- `trial` as a command: it reads and writes no file, grows an output from the sample of a number, and
+-- says what came of it. To be trusted: contracts cite these words. (Own.)
+use Rattle.std.specs.Prelude.{◌≡◌, ◌≤◌, ◌<◌, ◌⊎◌, ◌-◌, ℕ, [], length}
+use Rattle.cells.specs.Places.{cell_count}
+use Rattle.shelf_core.specs.declared.fault.What.TheVariants.{Output, Records as RecordsLimit}
+use Rattle.graph_place.specs.Placed.{map_total}
+use Rattle.trial_sample.specs.TrialSamples.{trial_sample}
+use Rattle.replay.specs.declared.records.TheConstants.{MOST_BOX_CELLS}
+use Rattle.growing.specs.declared.plan.GrowPlan.{GrowPlan}
+use Rattle.growing.specs.declared.plan.Grown.{Grown}
+use Rattle.growing.specs.Grown.{IsGrown, PassesAt}
+use Rattle.job_words.specs.declared.trial.TrialJob.{TrialJob}
+use Rattle.synth_report.specs.declared.fault.Fault.{Fault}
+use Rattle.synth_report.specs.declared.fault.Fault.TheVariants.{Limit, NoMemory}
+use Rattle.synth_report.specs.declared.summary.Summary.{Summary}
+use Rattle.synth_report.specs.declared.summary.Summary.TheVariants.{Trial}
+use Rattle.run_outcome.specs.Commands.{Command}
+use Rattle.grow_command.specs.declared.asked.TheConstants.{MOST_OUTPUT_CELLS}
+use Rattle.grow_command.specs.Growths.{mode_for}
+
+-- how the output is grown and refined
+abbrev pub trial_plan : TrialJob → GrowPlan
+trial_plan job = record {
+  size = job.size;
+  mode = mode_for job.place job.side job.overlap job.tol;
+  side = job.side;
+  tol = job.tol;
+  rounds = job.rounds;
+  seed = job.seed;
+}
+
+-- the records but those of rounds are those of placements
+abbrev pub trial_summary : TrialJob → Grown → Summary
+trial_summary job grown =
+    Trial job.n job.size (length grown.cuts - grown.rounds) grown.rounds
+    (map_total (trial_sample job.n) grown.canvas.map)
+
+-- what is grown from the sample of the number, within the bound on cells, and the summary of it: of
+-- its records each stands
+pub record IsTrialOf (job : TrialJob) (summary : Summary) : Type 0 where
+  pub within : cell_count job.size ≤ MOST_OUTPUT_CELLS
+  pub grown : Grown
+  pub is_grown : IsGrown (trial_plan job) (trial_sample job.n) grown
+  pub summary_is : summary ≡ trial_summary job grown
+
+-- the cells of the output pass their bound; or those of the boxes of the run do, at this number
+pub record TrialPasses (job : TrialJob) (fault : Fault) : Type 0 where
+  pub passes : MOST_OUTPUT_CELLS < cell_count job.size
+  pub is : fault ≡ Limit Output (cell_count job.size) MOST_OUTPUT_CELLS
+
+pub record TrialRecordsPass (job : TrialJob) (fault : Fault) : Type 0 where
+  pub within : cell_count job.size ≤ MOST_OUTPUT_CELLS
+  pub number : ℕ
+  pub passes : PassesAt (trial_plan job) (trial_sample job.n) number
+  pub is : fault ≡ Limit RecordsLimit number MOST_BOX_CELLS
+
+abbrev pub IsTrialRefused : TrialJob → Fault → Type 0
+IsTrialRefused job fault = TrialPasses job fault ⊎ TrialRecordsPass job fault
+
+-- why nothing is made: it is refused, or memory ran out
+abbrev pub NotTried : TrialJob → Fault → Type 0
+NotTried job fault = (fault ≡ NoMemory) ⊎ IsTrialRefused job fault
+
+pub record TakesTrial (job : TrialJob) : Type 0 where
+  pub within : cell_count job.size ≤ MOST_OUTPUT_CELLS
+  pub records : (number : ℕ) → PassesAt (trial_plan job) (trial_sample job.n) number → ⊥
+
+-- what it refuses and makes is the same whatever files there are
+abbrev pub trial_command : TrialJob → Command
+trial_command job = record {
+  reads = [];
+  writes = [];
+  Takes = λ files. TakesTrial job;
+  Refuses = λ n files fault. (n ≡ 0) × IsTrialRefused job fault;
+  Makes = λ files texts summary. (texts ≡ []) × IsTrialOf job summary;
+  MayRefuse = IsTrialRefused job;
+  MayMake = IsTrialOf job;
+}

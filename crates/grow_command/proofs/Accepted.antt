@@ -21,7 +21,6 @@ use Rattle.job_words.specs.declared.grow.GrowJob.{GrowJob}
 use Rattle.job_words.specs.GrowWords.{IsGrowJob}
 use Rattle.samples.specs.declared.form.Form.{Form}
 use Rattle.samples.specs.declared.form.Form.TheVariants.{Picture, Clip}
-use Rattle.samples.specs.declared.several.Samples.{Samples}
 use Rattle.samples.specs.Samples.{CanStandIn, StandsWithin, form_text}
 use Rattle.samples.specs.Several.{StandForSamples, contents}
 use Rattle.samples.proofs.Sound.{stand_sound}
@@ -76,30 +75,30 @@ module _ (job : GrowJob) (lawful : IsGrowJob job) (before after : Files) (growth
       let more = same_contents before after job.names.more (λ i lt. read_stays (suc i) (omega (arith, lt))) in
       let first : content_of after job.names.sample ≡ content_of before job.names.sample = read_stays 0 (omega arith) in
       subst (λ bytes. StandForSamples bytes (contents after job.names.more) growth.samples) (sym first)
-      (subst (λ files. StandForSamples (content_of before job.names.sample) files growth.samples) (sym more) grown.samples.files_are)
+      (subst (λ files. StandForSamples (content_of before job.names.sample) files growth.samples) (sym more) grown.samples)
 
   made : IsMade job growth
   made = record {
-    volume = grown.samples.volume;
-    sound = stand_sound (content_of before job.names.sample) (contents before job.names.more) growth.samples grown.samples.files_are;
+    volume = grown.volume;
+    sound = stand_sound (content_of before job.names.sample) (contents before job.names.more) growth.samples grown.samples;
     bounds = grown.bounds;
     grown = grown.grown;
   }
 
   out_read : StandsWithin 33554432 (content_of after job.names.out) growth.samples.form growth.grown.canvas.picture
   out_read = subst (λ bytes. StandsWithin 33554432 bytes growth.samples.form growth.grown.canvas.picture) (sym out_file)
-      (picture_again growth.samples.form growth.grown.canvas.picture (picture_ready job growth growth.grown.canvas.picture refl grown.samples.volume lawful made)
+      (picture_again growth.samples.form growth.grown.canvas.picture (picture_ready job growth growth.grown.canvas.picture refl grown.volume lawful made)
       (let size : cell_count growth.grown.canvas.picture.size ≡ cell_count job.size = ap cell_count (grown.grown.canvas.size ∙ grown.grown.size) in omega (arith, size, grown.bounds.cells)))
 
   map_again : map_read (content_of after job.names.map) ≡ Ok (CellMap growth.grown.canvas.map (sizes_of growth.samples.volume) (version_over growth.samples.volume))
   map_again = ap map_read map_file
       ∙ maps.read_again (CellMap growth.grown.canvas.map (sizes_of growth.samples.volume) (version_over growth.samples.volume))
-      (grown.grown.canvas.map, map_ready job growth growth.grown.canvas.map refl grown.samples.volume made)
+      (grown.grown.canvas.map, map_ready job growth growth.grown.canvas.map refl grown.volume made)
 
   cert_again : IsCertOf (content_of after job.names.cert) (Cuts (head_over job.size growth.samples.volume) growth.grown.cuts)
   cert_again = subst (λ bytes. IsCertOf bytes (Cuts (head_over job.size growth.samples.volume) growth.grown.cuts)) (sym cert_file)
       (cuts_again (head_over job.size growth.samples.volume) growth.grown.cuts (record {
-        form = record_ready job growth grown.samples.volume lawful made;
+        form = record_ready job growth grown.volume lawful made;
         cells = subst (λ n. n ≤ 33554432) (sym (same_cells growth.grown.cuts)) grown.grown.writable.cells;
       }) grown.flows)
 

@@ -1,22 +1,32 @@
 -- `grow` has one answer to files, and its headline.
-use Rattle.std.proofs.Common.{◌≡◌, ◌≢◌, ℕ, ◌+◌, ◌⊎◌, inl, inr, List, length, ap, sym, ◌∙◌, subst, arith}
+use Rattle.std.proofs.Common.{◌≡◌, ◌≢◌, ℕ, ◌-◌, ◌≤◌, ◌⊎◌, inl, inr, List, [], ◌∷◌, length, ap, sym, ◌∙◌, subst, arith}
 use Rattle.std.specs.FinMap.{get, insert}
 use Rattle.cells.specs.Places.{IsSmall}
-use Rattle.cells.specs.Cells.{sizes_of}
+use Rattle.cells.specs.Cells.{Cells, IsVolume, sizes_of}
 use Rattle.shelf_core.specs.Files.{Files, content_of}
 use Rattle.shelf_core.specs.declared.fault.What.TheVariants.{Records}
 use Rattle.shelf_core.specs.Written.{written}
+use Rattle.map_canvas.specs.Maps.{IsMap}
 use Rattle.map_canvas.proofs.Pictures.{full_picture}
 use Rattle.source_map.specs.MapFiles.{cell_map_form}
+use Rattle.cut_check.specs.declared.record.CutRecord.{CutRecord}
+use Rattle.graph_place.specs.Placed.{map_total}
+use Rattle.replay.specs.Replay.{EachOver}
 use Rattle.replay.specs.declared.records.TheConstants.{MOST_BOX_CELLS}
-use Rattle.growing.specs.Grown.{PassesAt}
+use Rattle.growing.specs.declared.plan.GrowPlan.{GrowPlan}
+use Rattle.growing.specs.Grown.{Growth as Growing, GrowsBy, PassesAt, first_growth}
+use Rattle.growing.specs.Runs.{Leads}
+use Rattle.growing.proofs.Nexts.{stays_map}
 use Rattle.growing.proofs.OneRuns.{ends_within, limits_are_one}
+use Rattle.growing.proofs.Raising.{none_raises}
+use Rattle.growing.proofs.Splitting.{starts}
 use Rattle.cert_file.specs.RecordFiles.{cuts_form}
 use Rattle.job_words.specs.declared.grow.GrowJob.{GrowJob}
 use Rattle.job_words.specs.GrowWords.{IsGrowJob}
 use Rattle.synth_report.specs.declared.fault.Fault.{Fault}
 use Rattle.synth_report.specs.declared.fault.Fault.TheVariants.{Limit}
 use Rattle.synth_report.specs.declared.summary.Summary.{Summary}
+use Rattle.synth_report.specs.declared.summary.Summary.TheVariants.{Grow}
 use Rattle.synth_report.specs.Texts.{summary_status}
 use Rattle.run_outcome.specs.Commands.{HasOneAnswer}
 use Rattle.run_outcome.specs.Outcomes.{WritesAll}
@@ -29,14 +39,14 @@ use Rattle.samples.specs.Several.{contents}
 use Rattle.samples.proofs.OneAnswer.{not_both, one_value, refused_once}
 use Rattle.grow_command.specs.declared.plan.Growth.{Growth}
 use Rattle.grow_command.specs.Growths.{AreSamplesIn, IsWithinBounds, MakesGrowth, RecordsPass, RefusesGrowth, RefusesOutput, grow_command, head_over, plan_of, version_over}
-use Rattle.grow_command.specs.GrowHeadlines.{IsGrownOutput, IsGrownRecord, IsGrownRun}
+use Rattle.grow_command.specs.GrowHeadlines.{IsGrownOutput, IsGrownRecord, IsGrownRun, IsToldOfGrown, RaisesNone}
 use Rattle.grow_command.proofs.Accepted.{accepted}
 
 pub small_output : (job : GrowJob) → IsGrowJob job → (form : Form) → IsWithinBounds job form → IsSmall job.size
 small_output job lawful form bounds = record { axes = lawful.axes; cells = omega (arith, bounds.cells) }
 
 pub same_samples : (job : GrowJob) (files : Files) (one other : Samples) → AreSamplesIn files job one → AreSamplesIn files job other → one ≡ other
-same_samples job files one other a b = one_value (content_of files job.names.sample) (contents files job.names.more) one other a.files_are b.files_are
+same_samples job files one other a b = one_value (content_of files job.names.sample) (contents files job.names.more) one other a b
 
 module _ (job : GrowJob) (form : Form) (first second : Fault) where
   within_or_refused : IsWithinBounds job form → RefusesOutput job form first → ⊥
@@ -56,7 +66,7 @@ module _ (job : GrowJob) (lawful : IsGrowJob job) (files : Files) where
   -- samples that are read, with an output and records within their bounds, aren't refused
   unrefused : (samples : Samples) → AreSamplesIn files job samples → IsWithinBounds job samples.form → ((number : ℕ) → PassesAt (plan_of job) samples.volume number → ⊥)
       → (n : ℕ) (fault : Fault) → RefusesGrowth job n files fault → ⊥
-  unrefused samples read bounds none n fault (inl refuses) = not_both (content_of files job.names.sample) (contents files job.names.more) samples n fault read.files_are refuses
+  unrefused samples read bounds none n fault (inl refuses) = not_both (content_of files job.names.sample) (contents files job.names.more) samples n fault read refuses
   unrefused samples read bounds none n fault (inr over) = by (subst (λ s. Refused s fault) (same_samples job files over.samples samples over.read read) over.refused)
     where
       by : Refused samples fault → ⊥
@@ -68,20 +78,31 @@ module _ (job : GrowJob) (lawful : IsGrowJob job) (files : Files) where
   one_over samples read first second (inl a) (inr b) = absurd (within_or_refused job samples.form first first b.bounds a)
   one_over samples read first second (inr a) (inl b) = absurd (within_or_refused job samples.form second second a.bounds b)
   one_over samples read first second (inr a) (inr b) =
-      a.is ∙ ap (λ number. Limit Records number MOST_BOX_CELLS) (limits_are_one (plan_of job) samples.volume read.volume a.number b.number a.passes b.passes) ∙ sym b.is
+      a.is ∙ ap (λ number. Limit Records number MOST_BOX_CELLS) (limits_are_one (plan_of job) samples.volume a.number b.number a.passes b.passes) ∙ sym b.is
 
   one_fault : (m n : ℕ) (first second : Fault) → RefusesGrowth job m files first → RefusesGrowth job n files second → first ≡ second
   one_fault m n first second (inl a) (inl b) = refused_once (content_of files job.names.sample) (contents files job.names.more) m n first second a b
-  one_fault m n first second (inl a) (inr b) = absurd (not_both (content_of files job.names.sample) (contents files job.names.more) b.samples m first b.read.files_are a)
-  one_fault m n first second (inr a) (inl b) = absurd (not_both (content_of files job.names.sample) (contents files job.names.more) a.samples n second a.read.files_are b)
+  one_fault m n first second (inl a) (inr b) = absurd (not_both (content_of files job.names.sample) (contents files job.names.more) b.samples m first b.read a)
+  one_fault m n first second (inr a) (inl b) = absurd (not_both (content_of files job.names.sample) (contents files job.names.more) a.samples n second a.read b)
   one_fault m n first second (inr a) (inr b) = one_over a.samples a.read first second a.refused (subst (λ s. Refused s second) (same_samples job files b.samples a.samples b.read a.read) b.refused)
 
   made_unrefused : (texts : List (List ℕ)) (summary : Summary) (n : ℕ) (fault : Fault) → MakesGrowth job files texts summary → RefusesGrowth job n files fault → ⊥
   made_unrefused texts summary n fault makes refuses =
       let made = makes.grown in
       unrefused makes.growth.samples made.samples made.bounds
-      (λ number passes. ends_within (plan_of job) makes.growth.samples.volume made.samples.volume (small_output job lawful makes.growth.samples.form made.bounds) makes.growth.grown.cuts
+      (λ number passes. ends_within (plan_of job) makes.growth.samples.volume made.volume (small_output job lawful makes.growth.samples.form made.bounds) makes.growth.grown.cuts
       (record { map = makes.growth.grown.canvas.map; draws = made.grown.draws; rounds = makes.growth.grown.rounds }) number made.grown.run made.grown.done made.grown.writable.cells passes) n fault refuses
+
+-- no record of a round raises the total
+none_raise_over : (plan : GrowPlan) (sample : Cells) → IsVolume sample → (from : Growing) (cuts : List CutRecord) (after : Growing) → IsMap from.map → Leads (GrowsBy plan sample) from cuts after
+    → EachOver (RaisesNone sample) from.map cuts
+none_raise_over plan sample volume from [] after is run = tt
+none_raise_over plan sample volume from (cut ∷ cuts) after is run =
+    let step = run.1.0 in
+    (
+      λ full. subst (λ m. map_total sample m ≤ map_total sample from.map) step.map (none_raises plan sample from run.0 cut is full step),
+      subst (λ m. EachOver (RaisesNone sample) m cuts) step.map (none_raise_over plan sample volume run.0 cuts after (stays_map plan sample from run.0 cut volume step is) run.1.1),
+    )
 
 pub grow_has_one_answer : (job : GrowJob) → IsGrowJob job → HasOneAnswer (grow_command job)
 grow_has_one_answer job lawful = record {
@@ -115,6 +136,7 @@ module _ (job : GrowJob) (lawful : IsGrowJob job) (before after : Files) (texts 
   output = record {
     samples = growth.samples;
     read = makes.grown.samples;
+    one_volume = makes.grown.volume;
     map = growth.grown.canvas.map;
     asked = makes.grown.grown.size;
     is_map = makes.grown.grown.canvas.map;
@@ -142,15 +164,26 @@ module _ (job : GrowJob) (lawful : IsGrowJob job) (before after : Files) (texts 
     stand = makes.grown.grown.stand;
     least = makes.grown.grown.least;
     keep = makes.grown.grown.keep;
+    split = makes.grown.grown.split;
+    none_raises = none_raise_over (plan_of job) growth.samples.volume makes.grown.volume (first_growth (plan_of job)) growth.grown.cuts
+        (record { map = growth.grown.canvas.map; draws = makes.grown.grown.draws; rounds = growth.grown.rounds })
+        (starts (plan_of job) growth.samples.volume makes.grown.volume (small_output job lawful growth.samples.form makes.grown.bounds)) makes.grown.grown.run;
   }
 
-  whole_run : IsGrownRun job before after
-  whole_run = record {
-    output = output;
-    records = records;
-    accepted = accepted job lawful before after growth makes.grown output.out_file output.map_file records.file stays;
-    others = stays;
+  told : IsToldOfGrown job summary before after
+  told = record {
+    run = record {
+      output = output;
+      records = records;
+      accepted = accepted job lawful before after growth makes.grown output.out_file output.map_file records.file stays;
+      others = stays;
+    };
+    summary_is = makes.summary_is ∙ ap (Grow job.size (length growth.grown.cuts - growth.grown.rounds) growth.grown.rounds) makes.grown.seams;
   }
+
+-- what is told is told of such a run
+pub grow_told : (job : GrowJob) → IsGrowJob job → (summary : Summary) (before after : Files) → WritesAll (grow_command job) summary before after → IsToldOfGrown job summary before after
+grow_told job lawful summary before after (texts, makes, wrote) = told job lawful before after texts summary makes wrote
 
 pub grown_run : (job : GrowJob) → IsGrowJob job → (summary : Summary) (before after : Files) → WritesAll (grow_command job) summary before after → IsGrownRun job before after
-grown_run job lawful summary before after (texts, makes, wrote) = whole_run job lawful before after texts summary makes wrote
+grown_run job lawful summary before after wrote = (grow_told job lawful summary before after wrote).run

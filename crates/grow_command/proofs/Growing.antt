@@ -29,12 +29,12 @@ module _ (job : GrowJob) (a b : ShelfState) (reads : OnlyReads a b) where
   pub samples_not_read : (fault : Fault) → SamplesReadAs job.names.sample job.names.more a b (Err fault) → NotMade (grow_command job) a b fault
   samples_not_read fault left = samples_not_made (grow_command job) job.names.sample job.names.more (λ turn its name has. has) (λ its may. may) (λ files n its refuses. inl refuses) only a b fault left
 
-  module _ (samples : Samples) (volume : IsVolume samples.volume) (read : Changes a b (λ before after. StandForSamples (content_of before job.names.sample) (contents before job.names.more) samples)) where
+  module _ (samples : Samples) (read : Changes a b (λ before after. StandForSamples (content_of before job.names.sample) (contents before job.names.more) samples)) where
     over : (what : _) (number bound : ℕ) → (RefusesOutput job samples.form (Limit what number bound) ⊎ RecordsPass job samples (Limit what number bound)) → AreRefused (grow_command job) (Limit what number bound) a b
     over what number bound why = record {
       known = tt;
       refused = told_weaker (λ before after. StandForSamples (content_of before job.names.sample) (contents before job.names.more) samples) (λ before after. (n : ℕ) × RefusesGrowth job n before (Limit what number bound)) a.files b.files
-          (λ before after stand. (length job.names.more + 1, inr (record { all = refl; samples = samples; read = record { files_are = stand; volume = volume }; refused = why }))) read;
+          (λ before after stand. (length job.names.more + 1, inr (record { all = refl; samples = samples; read = stand; refused = why }))) read;
     }
 
     pub output_refused : (fault : Fault) → RefusesOutput job samples.form fault → NotMade (grow_command job) a b fault
@@ -57,7 +57,7 @@ module _ (job : GrowJob) (a b : ShelfState) (reads : OnlyReads a b) where
           p.0,
           record {
             growth = growth;
-            grown = record { samples = record { files_are = p.1; volume = volume }; bounds = bounds; grown = grown; flows = flows; seams = seams };
+            grown = record { samples = p.1; volume = volume; bounds = bounds; grown = grown; flows = flows; seams = seams };
             texts_are = refl;
             summary_is = refl;
           },

@@ -1,19 +1,24 @@
--- The out file and the map file are a function of the words and the sample files.
-use Rattle.std.proofs.Common.{◌≡◌, ℕ, List, ap, sym, ◌∙◌, subst}
+-- The out file, the map file and the report are a function of the words and the sample files.
+use Rattle.std.proofs.Common.{◌≡◌, ℕ, ◌-◌, List, length, ap, sym, ◌∙◌, subst}
+use Rattle.std.proofs.lemmas.List.Elements.{length_all_zip}
 use Rattle.cells.specs.Cells.{sizes_of}
 use Rattle.cells.specs.Places.{IsSmall}
 use Rattle.shelf_core.specs.Files.{Files, content_of}
 use Rattle.map_canvas.specs.Maps.{SourceMap, picture_of}
 use Rattle.source_map.specs.MapFiles.{cell_map_form}
+use Rattle.graph_place.specs.Placed.{map_total}
 use Rattle.growing.specs.Grown.{Growth, IsDone, IsRun}
+use Rattle.growing.specs.OneRun.{IsSameRun, SameButFlows}
 use Rattle.growing.proofs.OneRuns.{runs_are_one}
 use Rattle.job_words.specs.declared.grow.GrowJob.{GrowJob}
+use Rattle.synth_report.specs.declared.summary.Summary.{Summary}
+use Rattle.synth_report.specs.declared.summary.Summary.TheVariants.{Grow}
 use Rattle.samples.specs.declared.several.Samples.{Samples}
 use Rattle.samples.specs.Samples.{form_text}
 use Rattle.samples.specs.Several.{StandForSamples, contents}
 use Rattle.samples.proofs.OneAnswer.{one_value}
 use Rattle.grow_command.specs.Growths.{plan_of, version_over}
-use Rattle.grow_command.specs.GrowHeadlines.{HaveSameOutput, HaveSameSamples, IsGrownRun}
+use Rattle.grow_command.specs.GrowHeadlines.{HaveSameOutput, HaveSameSamples, IsGrownRun, IsOneReport, IsToldOfGrown, told_of_cuts}
 
 module _ (job : GrowJob) (small : IsSmall job.size) (before after earlier later : Files) (same : HaveSameSamples job earlier before) (run : IsGrownRun job before after) (other : IsGrownRun job earlier later) where
   abbrev samples : Samples
@@ -21,8 +26,8 @@ module _ (job : GrowJob) (small : IsSmall job.size) (before after earlier later 
 
   one_samples : other.output.samples ≡ samples
   one_samples = one_value (content_of before job.names.sample) (contents before job.names.more) other.output.samples samples
-      (subst (λ more. StandForSamples (content_of before job.names.sample) more other.output.samples) same.further (subst (λ first. StandForSamples first (contents earlier job.names.more) other.output.samples) same.first other.output.read.files_are))
-      run.output.read.files_are
+      (subst (λ more. StandForSamples (content_of before job.names.sample) more other.output.samples) same.further (subst (λ first. StandForSamples first (contents earlier job.names.more) other.output.samples) same.first other.output.read))
+      run.output.read
 
   abbrev growth : Growth
   growth = record { map = run.output.map; draws = run.records.draws; rounds = run.records.rounds }
@@ -30,9 +35,18 @@ module _ (job : GrowJob) (small : IsSmall job.size) (before after earlier later 
   abbrev again : Growth
   again = record { map = other.output.map; draws = other.records.draws; rounds = other.records.rounds }
 
+  runs : IsSameRun run.records.cuts other.records.cuts growth again
+  runs = runs_are_one (plan_of job) samples.volume run.output.one_volume small run.records.cuts other.records.cuts growth again run.records.run run.records.done
+      (subst (λ (s : Samples). IsRun (plan_of job) s.volume other.records.cuts again) one_samples other.records.run) (subst (λ (s : Samples). IsDone (plan_of job) s.volume again) one_samples other.records.done)
+
   one_map : other.output.map ≡ run.output.map
-  one_map = sym (ap (λ (g : Growth). g.map) (runs_are_one (plan_of job) samples.volume run.output.read.volume small run.records.cuts other.records.cuts growth again run.records.run run.records.done
-      (subst (λ (s : Samples). IsRun (plan_of job) s.volume other.records.cuts again) one_samples other.records.run) (subst (λ (s : Samples). IsDone (plan_of job) s.volume again) one_samples other.records.done)).left)
+  one_map = sym (ap (λ (g : Growth). g.map) runs.left)
+
+  one_rounds : other.records.rounds ≡ run.records.rounds
+  one_rounds = sym (ap (λ (g : Growth). g.rounds) runs.left)
+
+  as_many : length other.records.cuts ≡ length run.records.cuts
+  as_many = sym (length_all_zip SameButFlows run.records.cuts other.records.cuts runs.steps)
 
   abbrev map_spelled : Samples → SourceMap → List ℕ
   map_spelled s m = cell_map_form m (sizes_of s.volume) (version_over s.volume)
@@ -46,3 +60,13 @@ module _ (job : GrowJob) (small : IsSmall job.size) (before after earlier later 
         ∙ sym (run.output.out_file ∙ ap (form_text samples.form) run.output.of_map);
     map = other.output.map_file ∙ (λ i. map_spelled (one_samples i) (one_map i)) ∙ sym run.output.map_file;
   }
+
+  pub one_told : told_of_cuts job other.output.samples.volume other.output.map other.records.cuts other.records.rounds ≡ told_of_cuts job samples.volume run.output.map run.records.cuts run.records.rounds
+  one_told = λ i. Grow job.size (as_many i - one_rounds i) (one_rounds i) (map_total (one_samples i).volume (one_map i))
+
+-- so is the summary
+pub one_report : (job : GrowJob) → IsSmall job.size → (summary : Summary) (before after : Files) → IsToldOfGrown job summary before after → IsOneReport job summary before after
+one_report job small summary before after told = record {
+  told = told;
+  one = λ other earlier later same also. also.summary_is ∙ one_told job small before after earlier later same told.run also.run ∙ sym told.summary_is;
+}

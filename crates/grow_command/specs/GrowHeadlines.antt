@@ -1,33 +1,39 @@
 -- The headline of `grow`: what stands when it ends with status 0. To be trusted: contracts cite
 -- these words. (Own.)
-use Rattle.std.specs.Prelude.{◌≡◌, ◌≢◌, ℕ, List, Some, Ok}
+use Rattle.std.specs.Prelude.{◌≡◌, ◌≢◌, ◌≤◌, ◌-◌, ℕ, List, length, Some, Ok}
 use Rattle.std.specs.FinMap as fin
 use Rattle.cells.specs.declared.place.At.{At}
 use Rattle.cells.specs.Cells.{Cells, IsOnePart, IsVolume, cell_at, sizes_of}
-use Rattle.shelf_core.specs.Files.{Files, ShelfState, Changes, content_of}
+use Rattle.shelf_core.specs.Files.{Files, ShelfState, SinkState, Changes, content_of}
+use Rattle.map_canvas.specs.Choices.{map_after}
 use Rattle.map_canvas.specs.Maps.{SourceMap, IsFull, IsMap, IsOver, empty_map, map_at, picture_of}
 use Rattle.source_map.specs.MapFiles.{cell_map_form}
 use Rattle.patch_place.specs.Draws.{DrawState}
 use Rattle.cut_check.specs.declared.record.CutRecord.{CutRecord}
+use Rattle.graph_place.specs.Placed.{map_total}
 use Rattle.replay.specs.Replay.{EachLeast, EachOver, EachStands, KeepsFixed, left_by}
-use Rattle.growing.specs.Grown.{IsDone, IsRun}
+use Rattle.growing.specs.Grown.{IsDone, IsRun, IsSplit}
 use Rattle.cert_file.specs.RecordFiles.{cuts_form}
 use Rattle.job_words.specs.declared.grow.GrowJob.{GrowJob}
 use Rattle.job_words.specs.declared.job.Job.TheVariants.{Grow}
 use Rattle.job_words.specs.Jobs.{job_of}
+use Rattle.synth_report.specs.declared.summary.Summary.{Summary}
+use Rattle.synth_report.specs.declared.summary.Summary.TheVariants.{Grow as Told}
+use Rattle.run_outcome.specs.Writing.{Reported}
 use Rattle.samples.specs.declared.several.Samples.{Samples}
 use Rattle.samples.specs.Samples.{form_text}
 use Rattle.samples.specs.Several.{contents}
 use Rattle.check_command.specs.Checks.{Stand}
 use Rattle.grow_command.specs.Growths.{AreSamplesIn, head_over, plan_of, version_over}
 
--- the sample files stand for samples. The map file has the form of a map of the asked size, which
--- is full and lies over the samples. The out file has the form of a picture in the samples' form: a
--- volume of that size, the picture of the map, each cell of which is the samples' cell that the map
--- names
+-- the sample files stand for samples, the parts of one volume. The map file has the form of a map
+-- of the asked size, which is full and lies over the samples. The out file has the form of a
+-- picture in the samples' form: a volume of that size, the picture of the map, each cell of which
+-- is the samples' cell that the map names
 pub record IsGrownOutput (job : GrowJob) (before after : Files) : Type 0 where
   pub samples : Samples
   pub read : AreSamplesIn before job samples
+  pub one_volume : IsVolume samples.volume
   pub map : SourceMap
   pub asked : map.size ≡ job.size
   pub is_map : IsMap map
@@ -44,10 +50,16 @@ pub record IsGrownOutput (job : GrowJob) (before after : Files) : Type 0 where
       → cell_at picture p ≡ cell_at samples.volume from
   pub out_file : content_of after job.names.out ≡ form_text samples.form picture
 
+-- a record over a full map, which is that of a round, leaves a map whose seams cost no more in all
+abbrev pub RaisesNone : Cells → SourceMap → CutRecord → Type 0
+RaisesNone sample m cut =
+    IsFull m → map_total sample (map_after m cut.placement cut.choice) ≤ map_total sample m
+
 -- and the record file has the records of the steps of the run of these words: each pick is that of
 -- its draw, and of the least choices the one with the fewest old cells is taken. They replay to the
 -- map; over the map that the records before it leave, each record stands, keeps the fixed cells, and
--- no lawful choice has a smaller total cost of seams, old ones included
+-- no lawful choice has a smaller total cost of seams, old ones included. First come the records of
+-- placements, and then those of rounds, each over a full map, of which none raises the total
 pub record IsGrownRecord (job : GrowJob) (output : Samples) (map : SourceMap) (text : List ℕ)
     : Type 0 where
   pub cuts : List CutRecord
@@ -62,6 +74,8 @@ pub record IsGrownRecord (job : GrowJob) (output : Samples) (map : SourceMap) (t
   pub stand : EachStands output.volume (empty_map job.size) cuts
   pub least : EachLeast output.volume (empty_map job.size) cuts
   pub keep : EachOver KeepsFixed (empty_map job.size) cuts
+  pub split : IsSplit job.size cuts rounds
+  pub none_raises : EachOver (RaisesNone output.volume) (empty_map job.size) cuts
 
 -- both; samples, out file, map file and record file stand, which is what `check` tries; and all files
 -- but the three that are written are as before
@@ -78,6 +92,19 @@ abbrev pub GrowHeadline : List (List ℕ) → ShelfState → ShelfState → ℕ 
 GrowHeadline words was now status =
     (job : GrowJob) → job_of words ≡ Ok (Grow job) → status ≡ 0
     → Changes was now (IsGrownRun job)
+
+-- what is told of a run: the asked size, how many of its records are of placements and how many of
+-- rounds, and what the seams of its map cost in all
+abbrev pub told_of_cuts : GrowJob → Cells → SourceMap → List CutRecord → ℕ → Summary
+told_of_cuts job samples map cuts rounds =
+    Told job.size (length cuts - rounds) rounds (map_total samples map)
+
+-- the summary is that of the map and the record of a run
+pub record IsToldOfGrown (job : GrowJob) (summary : Summary) (before after : Files)
+    : Type 0 where
+  pub run : IsGrownRun job before after
+  pub summary_is : summary ≡ told_of_cuts job run.output.samples.volume run.output.map
+      run.records.cuts run.records.rounds
 
 -- the sample files of a job hold the same bytes
 pub record HaveSameSamples (job : GrowJob) (one other : Files) : Type 0 where
@@ -97,3 +124,18 @@ OneOutput words was now status =
     → Changes was now (λ before after.
     (earlier later : Files) → HaveSameSamples job earlier before → IsGrownRun job earlier later
     → HaveSameOutput job later after)
+
+-- the summary is that of a run, and each other run of the words, from files with the same samples,
+-- has the same
+pub record IsOneReport (job : GrowJob) (summary : Summary) (before after : Files) : Type 0 where
+  pub told : IsToldOfGrown job summary before after
+  pub one : (other : Summary) (earlier later : Files) → HaveSameSamples job earlier before
+      → IsToldOfGrown job other earlier later → other ≡ summary
+
+-- whenever `grow` ends with status 0 out has the report of the map and the record that are written,
+-- and the report is a function of the words and the sample files
+abbrev pub GrowReport : List (List ℕ) → ShelfState → ShelfState → SinkState → SinkState → ℕ
+    → Type 0
+GrowReport words was now out out' status =
+    (job : GrowJob) → job_of words ≡ Ok (Grow job) → status ≡ 0
+    → (summary : Summary) × Reported summary out out' × Changes was now (IsOneReport job summary)

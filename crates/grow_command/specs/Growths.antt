@@ -103,15 +103,15 @@ fault_of_growing error.NoMemory = NoMemory
 -- What is grown of the files.
 
 -- the sample files stand for these samples
-pub record AreSamplesIn (files : Files) (job : GrowJob) (samples : Samples) : Type 0 where
-  pub files_are :
-      StandForSamples (content_of files job.names.sample) (contents files job.names.more) samples
-  pub volume : IsVolume samples.volume
+abbrev pub AreSamplesIn : Files → GrowJob → Samples → Type 0
+AreSamplesIn files job samples =
+    StandForSamples (content_of files job.names.sample) (contents files job.names.more) samples
 
--- the samples that the files stand for, the output that is grown and refined over them, with flows
--- of 16 bits as their type has them, and the total cost of its seams
+-- the samples that the files stand for, the parts of one volume, the output that is grown and
+-- refined over them, with flows of 16 bits as their type has them, and the total cost of its seams
 pub record IsGrowth (job : GrowJob) (files : Files) (growth : Growth) : Type 0 where
   pub samples : AreSamplesIn files job growth.samples
+  pub volume : IsVolume growth.samples.volume
   pub bounds : IsWithinBounds job growth.samples.form
   pub grown : IsGrown (plan_of job) growth.samples.volume growth.grown
   pub flows : All HasShortFlows growth.grown.cuts

@@ -18,7 +18,7 @@ use Rattle.growing.specs.Runs.{Leads}
 use Rattle.growing.proofs.Nexts.{next_fits, next_is_one, none_at_end, stays_map}
 use Rattle.growing.proofs.Splitting.{starts}
 
-module _ (plan : GrowPlan) (sample : Cells) (volume : IsVolume sample) where
+module _ (plan : GrowPlan) (sample : Cells) where
   one_step : (was now later : Growth) (cut other : CutRecord) → GrowsBy plan sample was cut now → GrowsBy plan sample was other later → SameButFlows cut other × (now ≡ later)
   one_step was now later cut other is also = (same, λ i. record { map = same_map i; draws = same_draws i; rounds = same_rounds i })
     where
@@ -51,31 +51,6 @@ module _ (plan : GrowPlan) (sample : Cells) (volume : IsVolume sample) where
   next_at : (one other : Growth) (placement : Placement) → one ≡ other → ComesNext plan sample one placement → ComesNext plan sample other placement
   next_at one other placement e next = subst (λ growth. ComesNext plan sample growth placement) e next
 
-  later_map : (was now : Growth) (cut : CutRecord) → GrowsBy plan sample was cut now → IsMap was.map → IsMap now.map
-  later_map was now cut step is = stays_map plan sample was now cut volume step is
-
-  one_run : (from : Growth) (cuts others : List CutRecord) (growth other : Growth) → IsMap from.map → Leads (GrowsBy plan sample) from cuts growth → IsDone plan sample growth
-      → Leads (GrowsBy plan sample) from others other → IsDone plan sample other → IsSameRun cuts others growth other
-  one_run from [] [] growth other is run done also done_also = record { steps = tt; left = run ∙ sym also }
-  one_run from [] (b ∷ others) growth other is run done also done_also = absurd (no_step from also.0 b is also.1.0 (done_at growth from run done))
-  one_run from (a ∷ cuts) [] growth other is run done also done_also = absurd (no_step from run.0 a is run.1.0 (done_at other from also done_also))
-  one_run from (a ∷ cuts) (b ∷ others) growth other is run done also done_also =
-      let step = one_step from run.0 also.0 a b run.1.0 also.1.0 in
-      let rest = one_run run.0 cuts others growth other (later_map from run.0 a run.1.0 is) run.1.1 done (subst (λ next. Leads (GrowsBy plan sample) next others other) (sym step.1) also.1.1) done_also in
-      record { steps = (step.0, rest.steps); left = rest.left }
-
-  -- a run to its end makes each next placement of a run
-  makes_next : (from : Growth) (cuts others : List CutRecord) (growth other : Growth) (placement : Placement) → IsMap from.map → Leads (GrowsBy plan sample) from cuts growth → ComesNext plan sample growth placement
-      → Leads (GrowsBy plan sample) from others other → IsDone plan sample other → box_cells cuts + box_count placement ≤ box_cells others
-  makes_next from [] [] growth other placement is run next also done =
-      absurd (none_at_end plan sample from placement is (next_at growth from placement run next) (done_at other from also done))
-  makes_next from [] (b ∷ others) growth other placement is run next also done =
-      omega (arith, ap box_count (next_is_one plan sample from placement b.placement (next_at growth from placement run next) also.1.0.next))
-  makes_next from (a ∷ cuts) [] growth other placement is run next also done = absurd (no_step from run.0 a is run.1.0 (done_at other from also done))
-  makes_next from (a ∷ cuts) (b ∷ others) growth other placement is run next also done =
-      let step = one_step from run.0 also.0 a b run.1.0 also.1.0 in
-      omega (arith, ap box_count step.0.placement, makes_next run.0 cuts others growth other placement (later_map from run.0 a run.1.0 is) run.1.1 next (subst (λ after. Leads (GrowsBy plan sample) after others other) (sym step.1) also.1.1) done)
-
   -- two runs pass a bound at the same number
   one_number : (most : ℕ) (from : Growth) (cuts others : List CutRecord) (growth other : Growth) (placement another : Placement)
       → Leads (GrowsBy plan sample) from cuts growth → box_cells cuts ≤ most → ComesNext plan sample growth placement → most < box_cells cuts + box_count placement
@@ -94,6 +69,32 @@ module _ (plan : GrowPlan) (sample : Cells) (volume : IsVolume sample) where
       (subst (λ after. Leads (GrowsBy plan sample) after others other) (sym step.1) also.1.1) (omega (arith, within_also, same)) next_also (omega (arith, past_also, within_also, same)) in
       omega (arith, rest, same)
 
+module _ (plan : GrowPlan) (sample : Cells) (volume : IsVolume sample) where
+  later_map : (was now : Growth) (cut : CutRecord) → GrowsBy plan sample was cut now → IsMap was.map → IsMap now.map
+  later_map was now cut step is = stays_map plan sample was now cut volume step is
+
+  one_run : (from : Growth) (cuts others : List CutRecord) (growth other : Growth) → IsMap from.map → Leads (GrowsBy plan sample) from cuts growth → IsDone plan sample growth
+      → Leads (GrowsBy plan sample) from others other → IsDone plan sample other → IsSameRun cuts others growth other
+  one_run from [] [] growth other is run done also done_also = record { steps = tt; left = run ∙ sym also }
+  one_run from [] (b ∷ others) growth other is run done also done_also = absurd (no_step plan sample from also.0 b is also.1.0 (done_at plan sample growth from run done))
+  one_run from (a ∷ cuts) [] growth other is run done also done_also = absurd (no_step plan sample from run.0 a is run.1.0 (done_at plan sample other from also done_also))
+  one_run from (a ∷ cuts) (b ∷ others) growth other is run done also done_also =
+      let step = one_step plan sample from run.0 also.0 a b run.1.0 also.1.0 in
+      let rest = one_run run.0 cuts others growth other (later_map from run.0 a run.1.0 is) run.1.1 done (subst (λ next. Leads (GrowsBy plan sample) next others other) (sym step.1) also.1.1) done_also in
+      record { steps = (step.0, rest.steps); left = rest.left }
+
+  -- a run to its end makes each next placement of a run
+  makes_next : (from : Growth) (cuts others : List CutRecord) (growth other : Growth) (placement : Placement) → IsMap from.map → Leads (GrowsBy plan sample) from cuts growth → ComesNext plan sample growth placement
+      → Leads (GrowsBy plan sample) from others other → IsDone plan sample other → box_cells cuts + box_count placement ≤ box_cells others
+  makes_next from [] [] growth other placement is run next also done =
+      absurd (none_at_end plan sample from placement is (next_at plan sample growth from placement run next) (done_at plan sample other from also done))
+  makes_next from [] (b ∷ others) growth other placement is run next also done =
+      omega (arith, ap box_count (next_is_one plan sample from placement b.placement (next_at plan sample growth from placement run next) also.1.0.next))
+  makes_next from (a ∷ cuts) [] growth other placement is run next also done = absurd (no_step plan sample from run.0 a is run.1.0 (done_at plan sample other from also done))
+  makes_next from (a ∷ cuts) (b ∷ others) growth other placement is run next also done =
+      let step = one_step plan sample from run.0 also.0 a b run.1.0 also.1.0 in
+      omega (arith, ap box_count step.0.placement, makes_next run.0 cuts others growth other placement (later_map from run.0 a run.1.0 is) run.1.1 next (subst (λ after. Leads (GrowsBy plan sample) after others other) (sym step.1) also.1.1) done)
+
 pub runs_are_one : (plan : GrowPlan) (sample : Cells) → IsVolume sample → IsSmall plan.size → OneRun plan sample
 runs_are_one plan sample volume small cuts others growth other run done also done_also =
     one_run plan sample volume (first_growth plan) cuts others growth other (starts plan sample volume small) run done also done_also
@@ -102,7 +103,7 @@ pub ends_within : (plan : GrowPlan) (sample : Cells) → IsVolume sample → IsS
 ends_within plan sample volume small cuts growth number run done within passes =
     omega (arith, within, passes.past, passes.cells, makes_next plan sample volume (first_growth plan) passes.cuts cuts passes.growth growth passes.placement (starts plan sample volume small) passes.run passes.next run done)
 
-pub limits_are_one : (plan : GrowPlan) (sample : Cells) → IsVolume sample → OneLimit plan sample
-limits_are_one plan sample volume number other one also =
-    one.cells ∙ one_number plan sample volume MOST_BOX_CELLS (first_growth plan) one.cuts also.cuts one.growth also.growth one.placement also.placement
+pub limits_are_one : (plan : GrowPlan) (sample : Cells) → OneLimit plan sample
+limits_are_one plan sample number other one also =
+    one.cells ∙ one_number plan sample MOST_BOX_CELLS (first_growth plan) one.cuts also.cuts one.growth also.growth one.placement also.placement
     one.run one.within one.next (omega (arith, one.past, one.cells)) also.run also.within also.next (omega (arith, also.past, also.cells)) ∙ sym also.cells

@@ -1,6 +1,6 @@
 -- `trial` has one answer, what it leaves by it, and its headline.
-use Rattle.std.proofs.Common.{◌≡◌, ℕ, suc, ◌-◌, ◌≤◌, ◌⊎◌, inl, inr, List, [], ◌∷◌, length, refl, ap, sym, ◌∙◌, subst, arith}
-use Rattle.std.specs.List.{AllZip}
+use Rattle.std.proofs.Common.{◌≡◌, ℕ, ◌-◌, ◌≤◌, ◌⊎◌, inl, inr, [], refl, ap, sym, ◌∙◌, subst, arith}
+use Rattle.std.proofs.lemmas.List.Elements.{length_all_zip}
 use Rattle.cells.specs.Places.{IsSmall, cell_count}
 use Rattle.shelf_core.specs.Files.{Files, ShelfState}
 use Rattle.shelf_core.specs.declared.fault.What.{What}
@@ -39,12 +39,6 @@ small_trial job lawful within = record { axes = lawful.axes; cells = omega (arit
 abbrev grown_growth : (job : TrialJob) (summary : Summary) → IsTrialOf job summary → Growth
 grown_growth job summary t = record { map = t.grown.canvas.map; draws = t.is_grown.draws; rounds = t.grown.rounds }
 
-zip_length : {X : Type 0} (P : X → X → Type 0) (xs ys : List X) → AllZip P xs ys → length xs ≡ length ys
-zip_length P [] [] zip = refl
-zip_length P [] (y ∷ ys) zip = absurd zip
-zip_length P (x ∷ xs) [] zip = absurd zip
-zip_length P (x ∷ xs) (y ∷ ys) zip = ap suc (zip_length P xs ys zip.1)
-
 module _ (job : TrialJob) (lawful : IsTrialJob job) where
   -- a trial that is made isn't refused
   unrefused : (summary : Summary) → IsTrialOf job summary → (fault : Fault) → IsTrialRefused job fault → ⊥
@@ -56,7 +50,7 @@ module _ (job : TrialJob) (lawful : IsTrialJob job) where
   one_fault first second (inl a) (inr b) = absurd (omega (arith, a.passes, b.within))
   one_fault first second (inr a) (inl b) = absurd (omega (arith, b.passes, a.within))
   one_fault first second (inr a) (inr b) =
-      a.is ∙ ap (λ number. Limit Records number MOST_BOX_CELLS) (limits_are_one (trial_plan job) (trial_sample job.n) (trial_is_volume job.n) a.number b.number a.passes b.passes) ∙ sym b.is
+      a.is ∙ ap (λ number. Limit Records number MOST_BOX_CELLS) (limits_are_one (trial_plan job) (trial_sample job.n) a.number b.number a.passes b.passes) ∙ sym b.is
 
   not_taken : TakesTrial job → (fault : Fault) → IsTrialRefused job fault → ⊥
   not_taken takes fault (inl p) = omega (arith, takes.within, p.passes)
@@ -72,7 +66,7 @@ module _ (job : TrialJob) (lawful : IsTrialJob job) where
 
       same : trial_summary job a.grown ≡ trial_summary job b.grown
       same =
-          let count = zip_length SameButFlows a.grown.cuts b.grown.cuts runs.steps in
+          let count = length_all_zip SameButFlows a.grown.cuts b.grown.cuts runs.steps in
           let rounds : a.grown.rounds ≡ b.grown.rounds = ap (λ (g : Growth). g.rounds) runs.left in
           let map : a.grown.canvas.map ≡ b.grown.canvas.map = ap (λ (g : Growth). g.map) runs.left in
           λ i. Trial job.n job.size (count i - rounds i) (rounds i) (map_total (trial_sample job.n) (map i))

@@ -1,5 +1,5 @@
 -- Each command has one answer, no status is another's, and the headlines.
-use Rattle.std.proofs.Common.{◌≡◌, ℕ, inl, inr, List, [], ap, sym, ◌∙◌, subst, arith}
+use Rattle.std.proofs.Common.{◌≡◌, ℕ, inl, inr, List, [], sym, ◌∙◌, subst}
 use Rattle.std.specs.Prelude.{Ok}
 use Rattle.shelf_core.specs.Files.{Files, ShelfState, SinkState, Changes, content_of}
 use Rattle.shelf_core.proofs.FileLaws.{told_weaker}
@@ -24,15 +24,15 @@ use Rattle.upgrade_command.specs.Upgraded.{UpgradeHeadline}
 use Rattle.upgrade_command.proofs.Headline.{finished}
 use Rattle.upgrade_command.proofs.OneAnswer.{upgrade_has_one_answer}
 use Rattle.weave_engine.specs.Engine.{command_of}
-use Rattle.grow_command.specs.GrowHeadlines.{GrowHeadline, HaveSameOutput, HaveSameSamples, IsGrownRun, OneOutput}
+use Rattle.grow_command.specs.GrowHeadlines.{GrowHeadline, GrowReport, HaveSameOutput, HaveSameSamples, IsGrownRun, IsOneReport, OneOutput}
 use Rattle.check_command.specs.CheckHeadlines.{CheckHeadline}
 use Rattle.trial_command.specs.TrialHeadlines.{TrialHeadline}
 use Rattle.standing_files.specs.declared.verdict.Verdict.TheVariants as verdict
 use Rattle.check_command.specs.Checks.{Stand, check_command, summary_of}
 use Rattle.check_command.proofs.OneAnswer.{check_has_one_answer}
 use Rattle.check_command.proofs.Checked.{broke, made_breaking, made_standing, stood}
-use Rattle.grow_command.proofs.GrowLaws.{grow_has_one_answer, grown_run, small_output}
-use Rattle.grow_command.proofs.OneOutputs.{one_output}
+use Rattle.grow_command.proofs.GrowLaws.{grow_has_one_answer, grow_told, grown_run, small_output}
+use Rattle.grow_command.proofs.OneOutputs.{one_output, one_report}
 use Rattle.trial_command.specs.Trials.{IsTrialOf}
 use Rattle.trial_command.proofs.Trying.{one_trial, trial_has_one_answer, trial_unchanged}
 
@@ -77,7 +77,7 @@ module _ (words : List (List ℕ)) (was now : ShelfState) (out out' err err' : S
   then_of : (job : Job) (its : DoneOf job) (Holds : Files → Files → Type 0) → ((before after : Files) → WritesAll (command_of job) its.summary before after → Holds before after) → Changes was now Holds
   then_of job its Holds follows = told_weaker (WritesAll (command_of job) its.summary) Holds was.files now.files follows its.files
 
-  -- the headline of `grow`, and its one output
+  -- the headline of `grow`, its one output, and its report
   pub grow_headline : GrowHeadline words was now status
   grow_headline job asks zero = let its = done_of (Grow job) asks zero in then_of (Grow job) its (IsGrownRun job) (grown_run job its.lawful its.summary)
 
@@ -86,6 +86,16 @@ module _ (words : List (List ℕ)) (was now : ShelfState) (out out' err err' : S
       let its = done_of (Grow job) asks zero in
       then_of (Grow job) its (λ before after. (earlier later : Files) → HaveSameSamples job earlier before → IsGrownRun job earlier later → HaveSameOutput job later after)
       (λ before after wrote earlier later same other. one_output job (small_output job its.lawful wrote.1.growth.samples.form wrote.1.grown.bounds) before after earlier later same (grown_run job its.lawful its.summary before after wrote) other)
+
+  pub grow_reported : GrowReport words was now out out' status
+  grow_reported job asks zero =
+      let its = done_of (Grow job) asks zero in
+      (
+        its.summary,
+        its.told,
+        then_of (Grow job) its (IsOneReport job its.summary)
+            (λ before after wrote. one_report job (small_output job its.lawful wrote.1.growth.samples.form wrote.1.grown.bounds) its.summary before after (grow_told job its.lawful its.summary before after wrote)),
+      )
 
   -- the headline of `quilt`, its one output, and its report
   pub quilt_headline : QuiltHeadline words was now status

@@ -3,7 +3,7 @@ ghost use Rattle.job_words.specs.Jobs.{IsJob};
 ghost use Rattle.run_outcome.specs.Outcomes.{Answers, Leaves, Runs};
 ghost use Rattle.run_outcome.specs.Promises.{DoneStatus, IsComplete, IsRunStatus, KeepsFiles, KeepsOthers, MemoryStatus, ReadStatus, RefusedStatus, WordsStatus, WriteStatus};
 ghost use Rattle.check_command.specs.CheckHeadlines.{CheckHeadline};
-ghost use Rattle.grow_command.specs.GrowHeadlines.{GrowHeadline, OneOutput};
+ghost use Rattle.grow_command.specs.GrowHeadlines.{GrowHeadline, GrowReport, OneOutput};
 ghost use Rattle.loop_command.specs.LoopHeadlines.{LoopHeadline, OneLoop};
 ghost use Rattle.quilt_command.specs.QuiltHeadlines.{OneQuiltOutput, QuiltHeadline, QuiltReport};
 ghost use Rattle.trial_command.specs.TrialHeadlines.{TrialHeadline};
@@ -59,21 +59,6 @@ fn answer<S: Shelf, O: Sink>(
     }
 }
 
-// A whole run, with its outcome.
-fn run_whole<S: Shelf, O: Sink, E: Sink>(
-    alloc: Global,
-    words: &Words,
-    shelf: &mut S,
-    out: &mut O,
-    err: &mut E,
-) -> u8
-    ensures { Runs command_of words.now (S.state shelf.old) (S.state shelf.new)
-        (O.state out.old) (O.state out.new) (E.state err.old) (E.state err.new) result }
-{
-    let answer = answer(alloc, words, shelf, out);
-    finish(&answer, err)
-}
-
 /// Does all that the program does: reads the words, runs the command that they ask for, which writes
 /// its files and its report to `out`, and says on `err` why it ended, if not well.
 ///
@@ -117,12 +102,17 @@ pub fn run<S: Shelf, O: Sink, E: Sink>(
 
     // With status 0 of `grow` every output cell is the sample cell that the written map names; each placement
     // of the written record keeps its fixed cells and has the least total cost of seams, old ones
-    // included, of all choices between old and new; the record stands and replays to the map; and the
-    // files are such that `check` accepts them.
+    // included, of all choices between old and new; no record of a round raises the total; the record stands
+    // and replays to the map; and the files are such that `check` accepts them.
     ensures headline { GrowHeadline words.now (S.state shelf.old) (S.state shelf.new) result }
 
     // Out file and map are a function of the words and the sample files.
     ensures one_output { OneOutput words.now (S.state shelf.old) (S.state shelf.new) result }
+
+    // The report is that of the written map and record: the size, how many placements and rounds, and what the
+    // seams cost in all. It is a function of the words and the sample files, too.
+    ensures grow_report { GrowReport words.now (S.state shelf.old) (S.state shelf.new)
+        (O.state out.old) (O.state out.new) result }
 
     // With status 0 of `quilt` every output cell is the sample cell that the written map names; each boundary of
     // the written record is the first of the least ones through its strip; the record stands and replays to
@@ -156,5 +146,6 @@ pub fn run<S: Shelf, O: Sink, E: Sink>(
     ensures upgraded { UpgradeHeadline words.now (S.state shelf.old) (S.state shelf.new)
         (O.state out.old) (O.state out.new) result }
 {
-    run_whole(alloc, words, shelf, out, err)
+    let answer = answer(alloc, words, shelf, out);
+    finish(&answer, err)
 }

@@ -23,7 +23,7 @@ returns-in-Err-set_against-clause-planned g c =
     let b = g.S.Shelf.state c.read_samples.new.shelf in
     let job = c.args.job.now in
     let samples = c.in-Ok.samples in
-    output_refused job a b c.read_samples.ensures.reads samples c.samples-k.ensures.volume
+    output_refused job a b c.read_samples.ensures.reads samples
     (subst (λ more. Changes a b (λ before after. StandForSamples (content_of before job.names.sample) (contents before more) samples)) c.as_slice.ensures.names (c.in-Ok.ensures {u = tt}).answer)
     c.in-Err-set_against.fault (c.in-Err-set_against.ensures {u = tt})
 
@@ -34,7 +34,7 @@ returns-in-Err-grow_canvas-clause-planned g c =
     let job = c.args.job.now in
     let samples = c.in-Ok.samples in
     subst (NotMade (grow_command job) a b) (sym c.growing_fault.ensures)
-    (not_grown job a b c.read_samples.ensures.reads samples c.samples-k.ensures.volume
+    (not_grown job a b c.read_samples.ensures.reads samples
     (subst (λ more. Changes a b (λ before after. StandForSamples (content_of before job.names.sample) (contents before more) samples)) c.as_slice.ensures.names (c.in-Ok.ensures {u = tt}).answer)
     (c.in-Ok-set_against.ensures {u = tt}) c.in-Err-grow_canvas.error
     (subst (λ plan. IsGrowFault plan samples.volume c.in-Err-grow_canvas.error) c.plan_of.ensures (c.in-Err-grow_canvas.ensures {u = tt})))

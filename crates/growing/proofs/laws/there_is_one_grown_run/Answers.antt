@@ -8,4 +8,4 @@ pub returns-clause-within : goal.returns-clause-within
 returns-clause-within c = ends_within c.args.plan.now c.args.sample.now c.samples-samples.ensures.volume c.requires
 
 pub returns-clause-limit : goal.returns-clause-limit
-returns-clause-limit c = limits_are_one c.args.plan.now c.args.sample.now c.samples-samples.ensures.volume
+returns-clause-limit c = limits_are_one c.args.plan.now c.args.sample.now

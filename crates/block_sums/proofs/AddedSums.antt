@@ -3,9 +3,9 @@ use Rattle.std.proofs.Common.{◌≡◌, ℕ, ◌+◌, ◌-◌, ◌*◌, ◌^◌
 use Rattle.std.proofs.Math.Nat.{mul-le-mul_left}
 use Rattle.std.proofs.lemmas.Bool.{cases_lt}
 use Rattle.std.proofs.lemmas.List.{get_or-drop, get_or-take}
-use Rattle.box_sums.proofs.Additions.{counts}
-use Rattle.box_sums.proofs.Axes.{sum_equal, sum_more}
-use Rattle.box_sums.proofs.Bounds.{sum_bound, sum_of_more}
+use Rattle.boxes.proofs.Additions.{counts}
+use Rattle.boxes.proofs.Axes.{sum_equal, sum_more}
+use Rattle.boxes.proofs.Bounds.{sum_bound, sum_of_more}
 use Rattle.block_sums.specs.declared.sums.TheConstants.{LANES}
 use Rattle.block_sums.specs.Sums.{AreAdded, AreAddedTo, stepped_sum}
 

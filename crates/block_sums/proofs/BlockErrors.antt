@@ -12,10 +12,10 @@ use Rattle.cells.specs.Cells.{Cells, HasRun, IsVolume, index_of, row_at}
 use Rattle.cells.specs.Places.{plus, spot}
 use Rattle.cells.proofs.PartBoxes.{run_of_volume}
 use Rattle.cells.proofs.Raster.{has_index}
-use Rattle.box_sums.specs.Sums.{sum_to}
-use Rattle.box_sums.proofs.Additions.{counts}
-use Rattle.box_sums.proofs.Axes.{sum_equal}
-use Rattle.box_sums.proofs.Boxes.{box_counts}
+use Rattle.boxes.specs.Sums.{sum_to}
+use Rattle.boxes.proofs.Additions.{counts}
+use Rattle.boxes.proofs.Axes.{sum_equal}
+use Rattle.boxes.proofs.Boxes.{box_counts}
 use Rattle.lane_kernels.specs.Sums.{sum_of_squared_differences}
 use Rattle.map_canvas.specs.Canvases.{CanvasState, IsCanvas}
 use Rattle.map_canvas.specs.Choices.{new_source}

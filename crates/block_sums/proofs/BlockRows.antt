@@ -10,9 +10,9 @@ use Rattle.cells.specs.declared.place.Box3.{Box3}
 use Rattle.cells.specs.Cells.{Cells, Holds, IsVolume, row_at, run_from}
 use Rattle.cells.specs.Places.{cell_count, plus, raster_index, spot}
 use Rattle.cells.proofs.Raster.{in_rows}
-use Rattle.box_sums.specs.Sums.{sum_to}
-use Rattle.box_sums.proofs.Additions.{counts}
-use Rattle.box_sums.proofs.Axes.{sum_equal}
+use Rattle.boxes.specs.Sums.{sum_to}
+use Rattle.boxes.proofs.Additions.{counts}
+use Rattle.boxes.proofs.Axes.{sum_equal}
 use Rattle.match_error.proofs.RowPlaces.{have_samples, row_in_volume}
 use Rattle.match_error.proofs.Runs.{HaveSamples, length-run, run, run_more}
 use Rattle.block_sums.specs.Blocks.{block_bytes, block_sum}

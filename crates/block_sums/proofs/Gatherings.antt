@@ -11,10 +11,10 @@ use Rattle.cells.specs.declared.place.Size.{Size}
 use Rattle.cells.specs.Boxes.{HasCells}
 use Rattle.cells.specs.Places.{cell_count, place_of, plus, spot}
 use Rattle.cells.proofs.BoxLaws.{step_of}
-use Rattle.box_sums.specs.Sums.{sum_to}
-use Rattle.box_sums.proofs.Additions.{counts}
-use Rattle.box_sums.proofs.Axes.{sum_equal}
-use Rattle.box_sums.proofs.Bounds.{sum_at_most}
+use Rattle.boxes.specs.Sums.{sum_to}
+use Rattle.boxes.proofs.Additions.{counts}
+use Rattle.boxes.proofs.Axes.{sum_equal}
+use Rattle.boxes.proofs.Bounds.{sum_at_most}
 use Rattle.map_canvas.specs.Canvases.{CanvasState}
 use Rattle.map_canvas.specs.Maps.{SourceMap, IsFilled}
 use Rattle.block_sums.specs.declared.blocks.Block.{Block}

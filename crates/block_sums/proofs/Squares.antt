@@ -7,7 +7,7 @@ use Rattle.std.proofs.lemmas.List.Sums.{sum_by-cons}
 use Rattle.std.specs.Prelude.{sum}
 use Rattle.std.specs.Int.{abs_diff}
 use Rattle.std.specs.List.{zip}
-use Rattle.box_sums.specs.Sums.{sum_to}
+use Rattle.boxes.specs.Sums.{sum_to}
 use Rattle.lane_kernels.specs.Sums.{absolute_difference, squared_difference as square_of, sum_of_absolute_differences, sum_of_squared_differences}
 use Rattle.block_sums.specs.Blocks.{square_of_difference}
 

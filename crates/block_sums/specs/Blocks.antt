@@ -10,7 +10,7 @@ use Rattle.cells.specs.declared.place.Box3.{Box3}
 use Rattle.cells.specs.declared.place.Size.{Size}
 use Rattle.cells.specs.Cells.{Cells, row_at}
 use Rattle.cells.specs.Places.{plus, raster_index, spot}
-use Rattle.box_sums.specs.Sums.{sum_to}
+use Rattle.boxes.specs.Sums.{sum_to}
 use Rattle.map_canvas.specs.Canvases.{CanvasState}
 use Rattle.match_error.specs.Errors.{error_sum}
 use Rattle.match_error.specs.Runs.{IsLaidOver, laid_from}

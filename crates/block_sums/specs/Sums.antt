@@ -5,7 +5,7 @@ use Rattle.cells.specs.declared.place.Box3.{Box3}
 use Rattle.cells.specs.declared.place.Size.{Size}
 use Rattle.cells.specs.Cells.{Cells, Holds, row_at}
 use Rattle.cells.specs.Places.{cell_count, plus, raster_index, spot}
-use Rattle.box_sums.specs.Sums.{sum_to}
+use Rattle.boxes.specs.Sums.{sum_to}
 use Rattle.block_sums.specs.declared.sums.BlockSums.{BlockSums}
 use Rattle.block_sums.specs.declared.sums.TheConstants.{LANES}
 use Rattle.block_sums.specs.Blocks.{block_bytes, block_sum}

@@ -6,7 +6,7 @@ use Rattle.std.proofs.lemmas.List.FromFn.{fill_by_all, map-range_with_len_more, 
 use Rattle.std.proofs.lemmas.Nat.{div-mul-add}
 use Rattle.std.specs.Bool.{nat_eq}
 use Rattle.std.specs.List.{range_with_len}
-use Rattle.box_walk.specs.Pairs.{one_if}
+use Rattle.boxes.specs.Pairs.{one_if}
 use Rattle.cert_file.specs.CutForms.{choice_byte, choice_bytes, choice_field}
 use Rattle.cert_file.specs.CutReading.{bits_of, byte_bits, none_set}
 

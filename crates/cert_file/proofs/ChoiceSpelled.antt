@@ -8,7 +8,7 @@ use Rattle.std.proofs.lemmas.Nat.{div-add-mod'}
 use Rattle.std.specs.Bool.{nat_eq}
 use Rattle.std.specs.Prelude.{nat_lt}
 use mathlib.Core.Bool.{false≢true}
-use Rattle.box_walk.specs.Pairs.{one_if}
+use Rattle.boxes.specs.Pairs.{one_if}
 use Rattle.cert_file.specs.CutForms.{choice_byte, choice_bytes, choice_field}
 use Rattle.cert_file.specs.CutReading.{bits_of, byte_bits, none_set}
 use Rattle.cert_file.proofs.Bits.{length-bits_of}

@@ -5,9 +5,9 @@ use borrow.Author.Tests.{le-ltb}
 use Rattle.cells.specs.declared.place.Size.{Size}
 use Rattle.cells.specs.Boxes.{HasCells}
 use Rattle.cells.specs.Places.{cell_count}
-use Rattle.box_walk.specs.Pairs.{AreCounts, pair_count}
-use Rattle.box_walk.proofs.ClosedForm.{closed_is}
-use Rattle.box_walk.proofs.PairNumbers.{pairs_before_last}
+use Rattle.boxes.specs.Pairs.{AreCounts, pair_count}
+use Rattle.boxes.proofs.ClosedForm.{closed_is}
+use Rattle.boxes.proofs.PairNumbers.{pairs_before_last}
 
 -- on each axis, the cells less those of the last layer
 pub pairs_by_layers : (size : Size) → HasCells size → pair_count size ≡ (cell_count size - size.h * size.f) + (cell_count size - size.w * size.f) + (cell_count size - size.w * size.h)

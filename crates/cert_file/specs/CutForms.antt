@@ -6,7 +6,7 @@ use Rattle.file_bytes.specs.Fields.{field_16}
 use Rattle.cells.specs.declared.place.At.{At}
 use Rattle.cells.specs.declared.place.Size.{Size}
 use Rattle.cells.specs.Places.{cell_count}
-use Rattle.box_walk.specs.Pairs.{one_if, pair_count}
+use Rattle.boxes.specs.Pairs.{one_if, pair_count}
 use Rattle.source_map.specs.MapFiles.{IsInSamples, IsShort, place_field, source_field}
 use Rattle.cut_check.specs.declared.record.CutRecord.{CutRecord}
 use Rattle.cut_check.specs.declared.record.Flow.{Flow}

@@ -2,7 +2,7 @@
 ghost use Rattle.std.specs.Prelude.{◌≡◌, ◌≤◌, ◌<◌, ◌+◌, ◌*◌, ◌^◌, All, length, IfOk, IfErr, OnOk};
 ghost use Rattle.shelf_core.specs.Files.{OnlyReads};
 ghost use Rattle.cells.specs.Places.{cell_count};
-ghost use Rattle.box_walk.specs.Pairs.{pair_count};
+ghost use Rattle.boxes.specs.Pairs.{pair_count};
 ghost use Rattle.file_bytes.specs.Reading.{Follows};
 ghost use Rattle.source_map.specs.Readings.{IsRefusal, ReadsFrom, field_read, list_read};
 ghost use Rattle.cert_file.specs.CutForms.{IsBoxSize, IsCutInForm};

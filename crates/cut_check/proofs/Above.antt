@@ -6,9 +6,9 @@ use Rattle.cells.specs.declared.place.Axis.TheVariants.{X, Y}
 use Rattle.cells.specs.declared.place.Size.{Size}
 use Rattle.cells.specs.Boxes.{HasCells}
 use Rattle.cells.specs.Places.{raster_index}
-use Rattle.box_walk.specs.Pairs.{AreCounts, has_next, one_if, pair_number, pairs_before}
-use Rattle.box_walk.proofs.ClosedForm.{closed_is, pairs_closed}
-use Rattle.box_walk.proofs.PairNumbers.{pairs_back}
+use Rattle.boxes.specs.Pairs.{AreCounts, has_next, one_if, pair_number, pairs_before}
+use Rattle.boxes.proofs.ClosedForm.{closed_is, pairs_closed}
+use Rattle.boxes.proofs.PairNumbers.{pairs_back}
 use Rattle.cut_check.specs.Steps.{pairs_since_above, pairs_since_last}
 
 -- along each axis alone

@@ -14,10 +14,10 @@ use Rattle.map_canvas.specs.Choices.{box_cell, box_index, new_source}
 use Rattle.map_canvas.specs.Maps.{SourceMap, IsFilled, IsSource}
 use Rattle.map_canvas.proofs.ChoiceLaws.{box_index_of}
 use Rattle.map_canvas.proofs.Filling.{cell_is_source}
-use Rattle.box_walk.specs.declared.counts.Counts.{Counts}
-use Rattle.box_walk.specs.Pairs.{AreCounts, at_index, cell_in}
-use Rattle.box_walk.specs.Raster.{largest}
-use Rattle.box_walk.proofs.Indices.{counts_below}
+use Rattle.boxes.specs.declared.counts.Counts.{Counts}
+use Rattle.boxes.specs.Pairs.{AreCounts, at_index, cell_in}
+use Rattle.boxes.specs.Raster.{largest}
+use Rattle.boxes.proofs.Indices.{counts_below}
 use Rattle.seams.specs.Lawful.{StaysOld}
 use Rattle.seams.proofs.Near.{in_largest}
 use Rattle.cut_check.specs.declared.record.CutRecord.{CutRecord}

@@ -15,20 +15,20 @@ use Rattle.cells.specs.Boxes.{IsInBox}
 use Rattle.cells.specs.Distances.{distance}
 use Rattle.map_canvas.specs.Maps.{IsFilled, map_at}
 use Rattle.map_canvas.specs.Choices.{after_at, new_source}
-use Rattle.box_sums.specs.Sums.{signed_sum_box}
-use Rattle.box_sums.proofs.Additions.{integers}
-use Rattle.box_sums.proofs.Boxes.{box_equal}
-use Rattle.box_sums.proofs.Bounds.{signed_box_at_most, signed_box_pos}
+use Rattle.boxes.specs.Sums.{signed_sum_box}
+use Rattle.boxes.proofs.Additions.{integers}
+use Rattle.boxes.proofs.Boxes.{box_equal}
+use Rattle.boxes.proofs.Bounds.{signed_box_at_most, signed_box_pos}
 use Rattle.seams.specs.Costs.{map_within, pair_at, pairs_at, seam_of}
 use Rattle.seams.specs.Lawful.{AreHeld, IsFree, IsLawful, LeavesHeld, StaysOld, is_new, window_after}
-use Rattle.box_walk.specs.Pairs.{AreCounts, cell_in, has_next, pair_count}
+use Rattle.boxes.specs.Pairs.{AreCounts, cell_in, has_next, pair_count}
 use Rattle.cut_check.specs.declared.record.Flow.{Flow}
 use Rattle.cut_check.specs.declared.record.CutRecord.{CutRecord}
 use Rattle.cut_check.specs.Flows.{IsBounded, IsBoundedAt, pair_flow, leaving}
 use Rattle.cut_check.specs.Records.{Each, IsBalanced, IsBoundedPair, IsPartWhere, IsValue, Setting}
-use Rattle.box_walk.proofs.Cells.{cell_inside, next_inside}
-use Rattle.box_walk.proofs.Indices.{each_cell}
-use Rattle.box_walk.proofs.PairNumbers.{number_below}
+use Rattle.boxes.proofs.Cells.{cell_inside, next_inside}
+use Rattle.boxes.proofs.Indices.{each_cell}
+use Rattle.boxes.proofs.PairNumbers.{number_below}
 use Rattle.cut_check.proofs.Leaving.{given, given_is_left, no_pair, part_if, part_none}
 
 -- whether a cell with this source before stays old

@@ -12,8 +12,8 @@ use Rattle.cells.proofs.BoxTests.{OnAxes, of_inside, on_axis_bounds}
 use Rattle.map_canvas.specs.Canvases.{IsFilledOutside, IsKept, MeetsAlong}
 use Rattle.map_canvas.specs.Maps.{SourceMap}
 use Rattle.map_canvas.proofs.Keeping.{filled_inside, meets_third}
-use Rattle.box_walk.specs.Pairs.{AreCounts, cell_in}
-use Rattle.box_walk.proofs.Cells.{cell_inside, next_x, next_y, next_f}
+use Rattle.boxes.specs.Pairs.{AreCounts, cell_in}
+use Rattle.boxes.proofs.Cells.{cell_inside, next_x, next_y, next_f}
 use Rattle.cut_check.specs.Steps.{IsEnclosed}
 use Rattle.cut_check.proofs.PairBounds.{step_back}
 

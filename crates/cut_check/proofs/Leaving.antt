@@ -10,14 +10,14 @@ use Rattle.cells.specs.declared.place.Axis.{Axis}
 use Rattle.cells.specs.declared.place.Axis.TheVariants.{X, Y, F}
 use Rattle.cells.specs.Places.{plus}
 use Rattle.cells.specs.Neighbours.{unit_step}
-use Rattle.box_sums.specs.Sums.{signed_sum_box}
-use Rattle.box_sums.proofs.Additions.{integers}
-use Rattle.box_sums.proofs.Boxes.{box_equal, box_moved_f, box_moved_x, box_moved_y, box_plus}
-use Rattle.box_sums.proofs.Bounds.{signed_box_minus}
-use Rattle.box_walk.specs.Pairs.{cell_in, has_next, pair_number}
+use Rattle.boxes.specs.Sums.{signed_sum_box}
+use Rattle.boxes.proofs.Additions.{integers}
+use Rattle.boxes.proofs.Boxes.{box_equal, box_moved_f, box_moved_x, box_moved_y, box_plus}
+use Rattle.boxes.proofs.Bounds.{signed_box_minus}
+use Rattle.boxes.specs.Pairs.{cell_in, has_next, pair_number}
 use Rattle.cut_check.specs.declared.record.Flow.{Flow}
 use Rattle.cut_check.specs.Flows.{pair_flow, flow_into, leaving, leaving_along, no_flow}
-use Rattle.box_walk.proofs.Cells.{next_suc_f, next_suc_x, next_suc_y}
+use Rattle.boxes.proofs.Cells.{next_suc_f, next_suc_x, next_suc_y}
 
 -- a number where a test holds, and 0 elsewhere
 abbrev pub part_if : Bool → ℤ → ℤ

@@ -7,7 +7,7 @@ use Rattle.cells.specs.declared.place.Axis.TheVariants.{F}
 use Rattle.cells.specs.declared.place.At.{At}
 use Rattle.cells.specs.declared.place.Size.{Size}
 use Rattle.map_canvas.specs.Maps.{SourceMap}
-use Rattle.box_walk.specs.Pairs.{has_next}
+use Rattle.boxes.specs.Pairs.{has_next}
 use Rattle.cut_check.specs.declared.record.CutRecord.{CutRecord}
 use Rattle.cut_check.specs.declared.record.Flow.{Flow}
 use Rattle.cut_check.specs.Flows.{leaving_along}

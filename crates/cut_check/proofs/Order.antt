@@ -7,10 +7,10 @@ use Rattle.cells.specs.declared.place.Axis.{Axis}
 use Rattle.cells.specs.declared.place.Axis.TheVariants.{X, Y, F}
 use Rattle.cells.specs.Distances.{distance}
 use Rattle.cells.specs.Places.{cell_count, raster_index}
-use Rattle.box_walk.specs.declared.counts.Counts.{Counts}
-use Rattle.box_walk.specs.Pairs.{IsPair, has_next, pair_number}
-use Rattle.box_walk.proofs.Indices.{counts_below, index_below, same_at}
-use Rattle.box_walk.proofs.PairNumbers.{earlier, number_below}
+use Rattle.boxes.specs.declared.counts.Counts.{Counts}
+use Rattle.boxes.specs.Pairs.{IsPair, has_next, pair_number}
+use Rattle.boxes.proofs.Indices.{counts_below, index_below, same_at}
+use Rattle.boxes.proofs.PairNumbers.{earlier, number_below}
 use Rattle.cut_check.specs.declared.record.CutRecord.{CutRecord}
 use Rattle.cut_check.specs.Records.{BoundsAll, IsBoundedPair, IsFirstUnbounded, Setting}
 use Rattle.cut_check.specs.Steps.{EachAxis, EachBefore, HoldsAlong, HoldsBefore, IsAt, IsFirstAxis}

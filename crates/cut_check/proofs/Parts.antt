@@ -15,7 +15,7 @@ use Rattle.map_canvas.specs.Canvases.{IsFilledOutside, IsKept, MeetsAlong, Meets
 use Rattle.map_canvas.specs.Maps.{SourceMap, IsFilled}
 use Rattle.map_canvas.proofs.Keeping.{meets_of, meets_third}
 use Rattle.seams.specs.Lawful.{StaysOld, is_held}
-use Rattle.box_walk.specs.Pairs.{cell_in}
+use Rattle.boxes.specs.Pairs.{cell_in}
 use Rattle.cut_check.specs.declared.record.CutRecord.{CutRecord}
 use Rattle.cut_check.specs.Flows.{leaving}
 use Rattle.cut_check.specs.Records.{IsPartWhere, Setting}

@@ -12,7 +12,7 @@ use Rattle.map_canvas.specs.declared.canvas.Placement.{Placement}
 use Rattle.map_canvas.specs.Maps.{SourceMap, map_at}
 use Rattle.map_canvas.specs.Choices.{new_source}
 use Rattle.seams.specs.Costs.{seam}
-use Rattle.box_walk.specs.Pairs.{cell_in, has_next, pair_number}
+use Rattle.boxes.specs.Pairs.{cell_in, has_next, pair_number}
 use Rattle.cut_check.specs.declared.record.Flow.{Flow}
 
 abbrev pub no_flow : Flow

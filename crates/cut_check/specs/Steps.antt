@@ -13,9 +13,9 @@ use Rattle.cells.specs.Cells.{Cells, Holds, IsVolume}
 use Rattle.map_canvas.specs.declared.canvas.Placement.{Placement}
 use Rattle.map_canvas.specs.Maps.{IsMap, IsSource, SourceMap, map_at}
 use Rattle.map_canvas.specs.Choices.{new_source}
-use Rattle.box_walk.specs.declared.counts.Counts.{Counts}
-use Rattle.box_walk.specs.Pairs.{AreCounts, cell_in, has_next}
-use Rattle.box_walk.specs.Walks.{IsAtIndex}
+use Rattle.boxes.specs.declared.counts.Counts.{Counts}
+use Rattle.boxes.specs.Pairs.{AreCounts, cell_in, has_next}
+use Rattle.boxes.specs.Walks.{IsAtIndex}
 use Rattle.seams.specs.Lawful.{StaysOld}
 use Rattle.cut_check.specs.declared.bounds.Laid.{Laid}
 use Rattle.cut_check.specs.declared.record.CutRecord.{CutRecord}

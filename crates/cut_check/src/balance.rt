@@ -2,10 +2,10 @@
 ghost use Rattle.std.specs.Prelude.{◌≡◌, ◌<◌, ◌↔◌, IfOk, IfSome, IsSome, IsTrue, MatchResult, ℕ, ℤ, pos};
 ghost use Rattle.cells.specs.Cells.{Cells};
 ghost use Rattle.cells.specs.Places.{cell_count};
-ghost use Rattle.box_sums.specs.Sums.{signed_sum_box};
+ghost use Rattle.boxes.specs.Sums.{signed_sum_box};
 ghost use Rattle.map_canvas.specs.Choices.{box_cell};
-ghost use Rattle.box_walk.specs.Pairs.{at_index};
-ghost use Rattle.box_walk.specs.Walks.{IsWalkAt};
+ghost use Rattle.boxes.specs.Pairs.{at_index};
+ghost use Rattle.boxes.specs.Walks.{IsWalkAt};
 ghost use Rattle.seams.specs.Lawful.{StaysOld};
 ghost use Rattle.cut_check.specs.Flows.{IsBetween, leaving, minus_of};
 ghost use Rattle.cut_check.specs.Records.{BalancesAll, IsBalanced, IsFirstUnbalanced, IsPartWhere, setting};
@@ -14,7 +14,7 @@ ghost use Rattle.cut_check.specs.Steps.{ArePartsOfValue, LiesIn, most_leaving, m
 use crate::flows::leaving;
 use crate::record::CutRecord;
 use crate::rules::{box_cell, stays_old};
-use box_walk::Walk;
+use boxes::Walk;
 use map_canvas::Canvas;
 
 // What leaves a cell, if it has to stay old, and 0 for another that is balanced; None where it isn't. Where

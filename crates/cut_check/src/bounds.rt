@@ -6,8 +6,8 @@ ghost use Rattle.cells.specs.Neighbours.{unit_step};
 ghost use Rattle.cells.specs.Places.{plus};
 ghost use Rattle.map_canvas.specs.Choices.{new_source};
 ghost use Rattle.map_canvas.specs.Maps.{IsSource};
-ghost use Rattle.box_walk.specs.Pairs.{AreCounts, IsPair, cell_in, pair_number};
-ghost use Rattle.box_walk.specs.Walks.{IsWalkIn, most_pairs};
+ghost use Rattle.boxes.specs.Pairs.{AreCounts, IsPair, cell_in, pair_number};
+ghost use Rattle.boxes.specs.Walks.{IsWalkIn, most_pairs};
 ghost use Rattle.seams.specs.Costs.{most_of_pair, seam};
 ghost use Rattle.cut_check.specs.Flows.{IsBetween, IsBetweenOld, IsBounded, IsBoundedOn, LeavesFirst, LeavesNone, LeavesSecond, minus_of};
 ghost use Rattle.cut_check.specs.Records.{BoundsAll, IsFirstUnbounded, setting};
@@ -15,7 +15,7 @@ ghost use Rattle.cut_check.specs.Steps.{EachAxis, HoldsAlong, IsFirstAxis, IsLai
 
 use crate::flows::{flow_at, flow_of};
 use crate::record::{CutRecord, Flow};
-use box_walk::{Counts, Walk};
+use boxes::{Counts, Walk};
 use cells::{At, Axis, Volume, cell_distance};
 use map_canvas::{Map, Placement};
 use seams::seam_of;

@@ -6,7 +6,7 @@ ghost use Rattle.cells.specs.Places.{cell_count};
 ghost use Rattle.map_canvas.specs.Canvases.{StandsOver};
 ghost use Rattle.map_canvas.specs.Choices.{Fits};
 ghost use Rattle.seams.specs.Lawful.{AreMarks, IsLeastChoice, IsLeastHeld, held_marks};
-ghost use Rattle.box_walk.specs.Pairs.{pair_count};
+ghost use Rattle.boxes.specs.Pairs.{pair_count};
 ghost use Rattle.cut_check.specs.Records.{CutStands, IsFirstCutFault, IsLawfulCut, setting};
 ghost use Rattle.cut_check.specs.Steps.{LiesOver};
 

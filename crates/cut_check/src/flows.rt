@@ -1,13 +1,13 @@
 // The flows of the pairs of a cell, and what leaves it.
 ghost use Rattle.std.specs.Prelude.{◌≡◌, ◌≤◌, ◌+◌, ◌-◌, pos, ◌+ℤ◌, nat_lt, slice_index_or, if◌then◌else◌};
 ghost use Rattle.cells.specs.Places.{IsSmall};
-ghost use Rattle.box_walk.specs.Pairs.{AreCounts, pair_number};
-ghost use Rattle.box_walk.specs.Walks.{IsWalkIn};
+ghost use Rattle.boxes.specs.Pairs.{AreCounts, pair_number};
+ghost use Rattle.boxes.specs.Walks.{IsWalkIn};
 ghost use Rattle.cut_check.specs.Flows.{IsBetween, flow_into, leaving, leaving_along, minus_of, no_flow, pair_flow};
 ghost use Rattle.cut_check.specs.Steps.{most_along, most_leaving, pairs_since_above, pairs_since_last};
 
 use crate::record::Flow;
-use box_walk::{Counts, Walk};
+use boxes::{Counts, Walk};
 use cells::{Axis, Size};
 
 // Nothing flows.

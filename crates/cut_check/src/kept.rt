@@ -2,10 +2,10 @@
 ghost use Rattle.std.specs.Prelude.{◌≡◌, ◌<◌, ◌↔◌, IsTrue};
 ghost use Rattle.cells.specs.Boxes.{AxisHolds, HoldsBox};
 ghost use Rattle.map_canvas.specs.Canvases.{IsKept};
-ghost use Rattle.box_walk.specs.Pairs.{AreCounts, cell_in};
+ghost use Rattle.boxes.specs.Pairs.{AreCounts, cell_in};
 ghost use Rattle.cut_check.specs.Steps.{IsEnclosed, IsEnclosedAlong};
 
-use box_walk::Counts;
+use boxes::Counts;
 use cells::{At, Box3, Size};
 use map_canvas::Canvas;
 

@@ -8,7 +8,7 @@
 //!
 //! `record` has the types, `check` the rules in their order, `rules` those of the choice, with `kept` for
 //! the cells that have to stay old, `bounds` that of pairs, `balance` that of free cells with the value, and
-//! `flows` the flows of the pairs of a cell. All of them go over the box by the walk of the crate `box_walk`.
+//! `flows` the flows of the pairs of a cell. All of them go over the box by the walk of the crate `boxes`.
 #![tactic(auto)]
 
 mod balance;

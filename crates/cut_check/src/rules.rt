@@ -10,7 +10,7 @@ ghost use Rattle.cut_check.specs.Steps.{IsAt, LiesIn};
 
 use crate::kept::is_kept_at;
 use crate::record::CutRecord;
-use box_walk::Counts;
+use boxes::Counts;
 use cells::At;
 use map_canvas::{Canvas, Map, Placement};
 

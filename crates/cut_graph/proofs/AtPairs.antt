@@ -3,8 +3,8 @@ use Rattle.std.proofs.Common.{◌≡◌, ℕ, ◌+◌, List, [], ◌∷◌, ◌+
 use Rattle.std.proofs.lemmas.Bool.{cases_lt}
 use Rattle.cells.specs.declared.place.Size.{Size}
 use Rattle.cells.specs.declared.place.Axis.{Axis}
-use Rattle.box_walk.proofs.PairNumbers.{SamePair, number_apart}
-use Rattle.box_walk.specs.Pairs.{pair_number, IsPair}
+use Rattle.boxes.proofs.PairNumbers.{SamePair, number_apart}
+use Rattle.boxes.specs.Pairs.{pair_number, IsPair}
 use Rattle.cut_graph.specs.declared.numbering.Numbering.{Numbering}
 use Rattle.cut_graph.specs.Building.{AreSeamNodes, Gives, IsSeamNode, are_filled}
 use Rattle.cut_graph.specs.Numberings.{AtPairs}

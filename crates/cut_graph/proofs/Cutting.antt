@@ -17,15 +17,15 @@ use Rattle.cells.specs.Distances.{IsPseudometric}
 use Rattle.map_canvas.specs.declared.canvas.Placement.{Placement}
 use Rattle.map_canvas.specs.Maps.{SourceMap, IsFilled, map_at}
 use Rattle.map_canvas.specs.Choices.{after_at, new_source}
-use Rattle.box_sums.proofs.Additions.{counts}
-use Rattle.box_sums.proofs.Boxes.{box_related}
+use Rattle.boxes.proofs.Additions.{counts}
+use Rattle.boxes.proofs.Boxes.{box_related}
 use Rattle.max_flow.specs.Networks.{FlowNetwork}
 use Rattle.max_flow.specs.Flows.{IsCut, capacity_out, cut_capacity, is_in}
 use Rattle.seams.specs.Costs.{pair_at, seam_of}
 use Rattle.seams.specs.Lawful.{StaysOld, is_new, window_after}
-use Rattle.box_walk.specs.Pairs.{AreCounts, cell_in, has_next, IsPair}
+use Rattle.boxes.specs.Pairs.{AreCounts, cell_in, has_next, IsPair}
 use Rattle.seams.proofs.Existence.{new_inside}
-use Rattle.box_walk.proofs.Cells.{next_is, cell_inside, cell_of}
+use Rattle.boxes.proofs.Cells.{next_is, cell_inside, cell_of}
 use Rattle.seams.proofs.Windows.{pair_within, window_pairs}
 use Rattle.cut_graph.specs.declared.places.Places.{Places}
 use Rattle.cut_graph.specs.Nodes.{HasSeam, IsFreeAt, IsInner, StandsForCell, StandsForSeam, cell_node, seam_node}

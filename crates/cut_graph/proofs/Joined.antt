@@ -11,14 +11,14 @@ use Rattle.cells.specs.Places.{cell_count}
 use Rattle.cells.proofs.Raster.{in_rows}
 use Rattle.map_canvas.specs.declared.canvas.Placement.{Placement}
 use Rattle.map_canvas.specs.Maps.{SourceMap}
-use Rattle.box_sums.specs.Sums.{signed_sum_box, signed_sum_to, sum_box}
-use Rattle.box_sums.proofs.Additions.{Addition, counts, integers, sum_of, sum_over}
-use Rattle.box_sums.proofs.Axes.{sum_equal, sum_first}
-use Rattle.box_sums.proofs.Boxes.{at_counts, box_equal, box_raster}
+use Rattle.boxes.specs.Sums.{signed_sum_box, signed_sum_to, sum_box}
+use Rattle.boxes.proofs.Additions.{Addition, counts, integers, sum_of, sum_over}
+use Rattle.boxes.proofs.Axes.{sum_equal, sum_first}
+use Rattle.boxes.proofs.Boxes.{at_counts, box_equal, box_raster}
 use Rattle.max_flow.specs.declared.network.Pipe.{Pipe}
 use Rattle.max_flow.specs.Networks.{FlowNetwork, no_pipe, pipe_at}
 use Rattle.max_flow.specs.Flows.{FitsPipe, IsFlow, capacity_out, pipe_flow, net_leaving, part_if}
-use Rattle.box_walk.specs.Pairs.{AreCounts, at_index}
+use Rattle.boxes.specs.Pairs.{AreCounts, at_index}
 use Rattle.cut_graph.specs.declared.places.Places.{Places}
 use Rattle.cut_graph.specs.Pipes.{first_pipe, joined, pipes_along, pipes_from, pipes_of}
 

@@ -18,10 +18,10 @@ use Rattle.map_canvas.specs.Choices.{new_source}
 use Rattle.map_canvas.specs.Maps.{map_at}
 use Rattle.cells.proofs.BoxLaws.{box_small}
 use Rattle.max_flow.specs.declared.network.Pipe.{Pipe}
-use Rattle.box_walk.proofs.PairNumbers.{number_below, pairs_next}
-use Rattle.box_walk.proofs.Indices.{at_counts}
-use Rattle.box_walk.specs.Raster.{stride}
-use Rattle.box_walk.specs.Pairs.{AreCounts, at_index, cell_in, has_next, one_if, pair_count, pair_number, pairs_before, IsPair}
+use Rattle.boxes.proofs.PairNumbers.{number_below, pairs_next}
+use Rattle.boxes.proofs.Indices.{at_counts}
+use Rattle.boxes.specs.Raster.{stride}
+use Rattle.boxes.specs.Pairs.{AreCounts, at_index, cell_in, has_next, one_if, pair_count, pair_number, pairs_before, IsPair}
 use Rattle.cut_graph.specs.declared.piping.Piping.{Piping}
 use Rattle.cut_graph.specs.declared.plan.PairCell.{PairCell}
 use Rattle.cut_graph.specs.declared.plan.Plan.{Plan}

@@ -11,8 +11,8 @@ use Rattle.cells.proofs.Raster.{index_of_spot}
 use Rattle.map_canvas.specs.declared.canvas.Placement.{Placement}
 use Rattle.map_canvas.specs.Maps.{SourceMap}
 use Rattle.seams.specs.Lawful.{is_held}
-use Rattle.box_walk.proofs.Indices.{at_counts}
-use Rattle.box_walk.specs.Pairs.{AreCounts, at_index, cell_in}
+use Rattle.boxes.proofs.Indices.{at_counts}
+use Rattle.boxes.specs.Pairs.{AreCounts, at_index, cell_in}
 use Rattle.cut_graph.specs.declared.cell_nodes.Standing.{Standing}
 use Rattle.cut_graph.specs.declared.numbering.Numbering.{Numbering}
 use Rattle.cut_graph.specs.Building.{Adds, AreCellNodes, Gives, IsCellNode, IsNodeOf, IsStanding}

@@ -13,10 +13,10 @@ use Rattle.cells.specs.Places.{cell_count, plus, raster_index}
 use Rattle.map_canvas.specs.declared.canvas.Placement.{Placement}
 use Rattle.map_canvas.specs.Maps.{SourceMap, IsFilled, map_at}
 use Rattle.seams.specs.Lawful.{AreHeld, AreMarks, IsFree, StaysOld, held_marks}
-use Rattle.box_walk.proofs.PairNumbers.{HasPair, find_pair, number_apart, number_below}
-use Rattle.box_walk.proofs.Indices.{at_counts, counts_at, index_below, same_counts}
-use Rattle.box_walk.specs.Raster.{stride}
-use Rattle.box_walk.specs.Pairs.{AreCounts, cell_in, pair_count, pair_number, IsPair}
+use Rattle.boxes.proofs.PairNumbers.{HasPair, find_pair, number_apart, number_below}
+use Rattle.boxes.proofs.Indices.{at_counts, counts_at, index_below, same_counts}
+use Rattle.boxes.specs.Raster.{stride}
+use Rattle.boxes.specs.Pairs.{AreCounts, cell_in, pair_count, pair_number, IsPair}
 use Rattle.cut_graph.specs.declared.cell_nodes.Standing.{Standing}
 use Rattle.cut_graph.specs.declared.cell_nodes.Standing.TheVariants.{Old, Unfilled, Free}
 use Rattle.cut_graph.specs.declared.numbering.Numbering.{Numbering}

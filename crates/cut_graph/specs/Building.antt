@@ -8,8 +8,8 @@ use Rattle.cells.specs.declared.place.Axis.{Axis}
 use Rattle.map_canvas.specs.declared.canvas.Placement.{Placement}
 use Rattle.map_canvas.specs.Maps.{SourceMap, IsFilled, map_at}
 use Rattle.seams.specs.Lawful.{IsFree, StaysOld}
-use Rattle.box_walk.specs.Raster.{stride}
-use Rattle.box_walk.specs.Pairs.{at_index, cell_in}
+use Rattle.boxes.specs.Raster.{stride}
+use Rattle.boxes.specs.Pairs.{at_index, cell_in}
 use Rattle.cut_graph.specs.declared.cell_nodes.Standing.{Standing}
 use Rattle.cut_graph.specs.declared.cell_nodes.Standing.TheVariants.{Old, Unfilled, Free}
 use Rattle.cut_graph.specs.declared.numbering.Numbering.{Numbering}

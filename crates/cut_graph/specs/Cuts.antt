@@ -5,7 +5,7 @@ use Rattle.cells.specs.declared.place.At.{At}
 use Rattle.map_canvas.specs.declared.canvas.Placement.{Placement}
 use Rattle.map_canvas.specs.Maps.{SourceMap}
 use Rattle.seams.specs.Lawful.{IsLawful, LeavesHeld, is_new, window_after}
-use Rattle.box_walk.specs.Pairs.{AreCounts, cell_in}
+use Rattle.boxes.specs.Pairs.{AreCounts, cell_in}
 use Rattle.max_flow.specs.Networks.{FlowNetwork}
 use Rattle.max_flow.specs.Flows.{IsCut, cut_capacity, is_in}
 use Rattle.cut_graph.specs.declared.places.Places.{Places}

@@ -11,7 +11,7 @@ use Rattle.cells.specs.Neighbours.{unit_step}
 use Rattle.map_canvas.specs.declared.canvas.Placement.{Placement}
 use Rattle.map_canvas.specs.Maps.{SourceMap, IsFilled, map_at}
 use Rattle.seams.specs.Lawful.{IsFree, StaysOld}
-use Rattle.box_walk.specs.Pairs.{AreCounts, IsPair, cell_in, pair_count, pair_number}
+use Rattle.boxes.specs.Pairs.{AreCounts, IsPair, cell_in, pair_count, pair_number}
 use Rattle.cut_graph.specs.declared.places.Places.{Places}
 
 -- the node of a cell, by its counts from the corner

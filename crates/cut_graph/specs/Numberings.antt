@@ -4,7 +4,7 @@
 use Rattle.std.specs.Prelude.{◌≡◌, ◌≤◌, ◌<◌, ◌+◌, ℕ, List, length, slice_index}
 use Rattle.cells.specs.declared.place.Size.{Size}
 use Rattle.cells.specs.declared.place.Axis.{Axis}
-use Rattle.box_walk.specs.Pairs.{pair_number, IsPair}
+use Rattle.boxes.specs.Pairs.{pair_number, IsPair}
 
 -- the number stands in the list
 pub record IsGivenAt (nodes : List ℕ) (n : ℕ) : Type 0 where

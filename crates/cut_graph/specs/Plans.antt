@@ -9,7 +9,7 @@ use Rattle.cells.specs.Distances.{distance}
 use Rattle.cells.specs.Places.{cell_count, raster_index}
 use Rattle.map_canvas.specs.Choices.{Fits, new_source}
 use Rattle.map_canvas.specs.Maps.{IsMap, IsSource, map_at}
-use Rattle.box_walk.specs.Pairs.{has_next, one_if, pair_count, pair_number}
+use Rattle.boxes.specs.Pairs.{has_next, one_if, pair_count, pair_number}
 use Rattle.max_flow.specs.Networks.{FlowNetwork}
 use Rattle.max_flow.specs.declared.network.Pipe.{Pipe}
 use Rattle.cut_graph.specs.declared.places.Places.{Places}

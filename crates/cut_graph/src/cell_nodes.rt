@@ -3,13 +3,13 @@ ghost use Rattle.std.specs.Prelude.{◌≡◌, ◌<◌, ◌+◌, Bool, List, IfO
 ghost use Rattle.cells.specs.Boxes.{HoldsBox, IsInBox};
 ghost use Rattle.cells.specs.Places.{IsSmall, cell_count, raster_index};
 ghost use Rattle.seams.specs.Lawful.{held_marks, is_held};
-ghost use Rattle.box_walk.specs.Pairs.{AreCounts};
+ghost use Rattle.boxes.specs.Pairs.{AreCounts};
 ghost use Rattle.cut_graph.specs.Building.{AreCellNodes, Gives, IsNodeOf, IsStanding};
 ghost use Rattle.cut_graph.specs.Numberings.{IsNumbering};
 
 use crate::numbering::Numbering;
 use crate::places::{SINK, SOURCE};
-use box_walk::Counts;
+use boxes::Counts;
 use cells::{At, MOST_CELLS};
 use map_canvas::{Canvas, Placement};
 use std::alloc::{AllocError, Global};

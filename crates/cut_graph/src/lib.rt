@@ -7,7 +7,7 @@
 //! are. `build` and `build_held` promise exactly this network, and `Places` tells which node and which pipe
 //! stand for what.
 //!
-//! The network is built in three passes over the cells of the box in raster order by the walk of the crate `box_walk`: the nodes of
+//! The network is built in three passes over the cells of the box in raster order by the walk of the crate `boxes`: the nodes of
 //! the cells (`cell_nodes`), the seam nodes of the pairs (`seam_nodes`), both given out by a `Numbering`,
 //! and the pipes between them (`plan`, `piping`). specs/Numberings.antt, specs/Building.antt and
 //! specs/Plans.antt say how far each pass has come; nothing outside this crate has to read them.

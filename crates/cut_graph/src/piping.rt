@@ -5,15 +5,15 @@ ghost use Rattle.cells.specs.Places.{cell_count, raster_index};
 ghost use Rattle.max_flow.specs.Networks.{empty_network};
 ghost use Rattle.max_flow.specs.declared.network.Pipe.{Pipe};
 ghost use Rattle.map_canvas.specs.Maps.{IsSource};
-ghost use Rattle.box_walk.specs.Pairs.{AreCounts, cell_in, pair_count, pairs_before, IsPair};
-ghost use Rattle.box_walk.specs.Walks.{most_pairs};
+ghost use Rattle.boxes.specs.Pairs.{AreCounts, cell_in, pair_count, pairs_before, IsPair};
+ghost use Rattle.boxes.specs.Walks.{most_pairs};
 ghost use Rattle.seams.specs.Costs.{most_of_pair};
 ghost use Rattle.cut_graph.specs.Pipes.{first_or_none, pair_pipes};
 ghost use Rattle.cut_graph.specs.Plans.{HasNodes, HasSources, IsCellAt, IsPiped, IsPipedPast, IsPipedTo, IsPlan, before, with_pipes};
 
 use crate::places::{NO_PIPE, SINK, SOURCE};
 use crate::plan::{PairCell, Plan};
-use box_walk::{Counts, stride};
+use boxes::{Counts, stride};
 use cells::{At, Axis, Volume};
 use max_flow::{Network, Pipe};
 use seams::seam_of;

@@ -1,13 +1,13 @@
 // The seam nodes of the pairs of a placement's box.
 ghost use Rattle.std.specs.Prelude.{◌≡◌, ◌≤◌, ◌<◌, ◌+◌, ℕ, length, IfOk, OnOk};
 ghost use Rattle.cells.specs.Places.{IsSmall, cell_count, raster_index};
-ghost use Rattle.box_walk.specs.Pairs.{AreCounts, has_next, one_if, pair_count, pair_number, pairs_before};
+ghost use Rattle.boxes.specs.Pairs.{AreCounts, has_next, one_if, pair_count, pair_number, pairs_before};
 ghost use Rattle.cut_graph.specs.Building.{AreSeamNodes, Gives, IsSeamNode, both_filled};
 ghost use Rattle.cut_graph.specs.Numberings.{IsNumbering};
 
 use crate::numbering::Numbering;
 use crate::places::{NO_SEAM, SINK};
-use box_walk::{Counts, stride};
+use boxes::{Counts, stride};
 use cells::{Axis, MOST_CELLS, Size};
 use std::alloc::{AllocError, Global};
 

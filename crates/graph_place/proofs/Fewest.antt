@@ -5,10 +5,10 @@ use Rattle.std.specs.Prelude.{ℤ, not}
 use Rattle.cells.specs.declared.place.At.{At}
 use Rattle.map_canvas.specs.declared.canvas.Placement.{Placement}
 use Rattle.map_canvas.specs.Maps.{SourceMap}
-use Rattle.box_sums.proofs.Bounds.{box_at_most, box_terms_equal}
+use Rattle.boxes.proofs.Bounds.{box_at_most, box_terms_equal}
 use Rattle.seams.specs.Lawful.{ChangesAsWindow, IsLeastHeld, is_new, window_after}
-use Rattle.box_walk.specs.Pairs.{AreCounts, cell_in, one_if}
-use Rattle.box_walk.proofs.Cells.{cell_of}
+use Rattle.boxes.specs.Pairs.{AreCounts, cell_in, one_if}
+use Rattle.boxes.proofs.Cells.{cell_of}
 use Rattle.max_flow.specs.Networks.{FlowNetwork}
 use Rattle.max_flow.specs.Flows.{IsLeastCut, is_in}
 use Rattle.max_flow.specs.Solutions.{IsSolution}

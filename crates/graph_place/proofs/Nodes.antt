@@ -18,8 +18,8 @@ use Rattle.map_canvas.specs.Maps.{SourceMap, map_at}
 use Rattle.map_canvas.specs.Choices.{box_cell, box_index, chosen}
 use Rattle.map_canvas.proofs.ChoiceLaws.{box_index_of}
 use Rattle.seams.specs.Lawful.{StaysOld, is_new}
-use Rattle.box_walk.specs.Pairs.{AreCounts, cell_in, IsPair}
-use Rattle.box_walk.proofs.Cells.{next_suc_f, next_suc_x, next_suc_y, cell_inside}
+use Rattle.boxes.specs.Pairs.{AreCounts, cell_in, IsPair}
+use Rattle.boxes.proofs.Cells.{next_suc_f, next_suc_x, next_suc_y, cell_inside}
 use Rattle.cut_graph.specs.declared.places.Places.{Places}
 use Rattle.cut_graph.specs.Nodes.{AreNodes, HasSeam, IsFreeAt, cell_node, seam_node}
 use Rattle.cut_graph.specs.Pipes.{next_node}

@@ -10,12 +10,12 @@ use Rattle.cells.specs.Places.{IsSmall, cell_count, raster_index}
 use Rattle.cells.specs.Boxes.{HasCells}
 use Rattle.map_canvas.specs.declared.canvas.Placement.{Placement}
 use Rattle.map_canvas.specs.Maps.{SourceMap}
-use Rattle.box_sums.proofs.Additions.{counts}
-use Rattle.box_sums.proofs.Axes.{sum_equal}
-use Rattle.box_sums.proofs.Boxes.{at_counts}
-use Rattle.box_walk.specs.Pairs.{at_index, has_next, one_if, pair_number, pairs_before, pairs_from, IsPair}
-use Rattle.box_walk.proofs.Indices.{index_below}
-use Rattle.box_walk.proofs.PairNumbers.{number_below as pair_number_below, pairs_few}
+use Rattle.boxes.proofs.Additions.{counts}
+use Rattle.boxes.proofs.Axes.{sum_equal}
+use Rattle.boxes.proofs.Boxes.{at_counts}
+use Rattle.boxes.specs.Pairs.{at_index, has_next, one_if, pair_number, pairs_before, pairs_from, IsPair}
+use Rattle.boxes.proofs.Indices.{index_below}
+use Rattle.boxes.proofs.PairNumbers.{number_below as pair_number_below, pairs_few}
 use Rattle.max_flow.specs.declared.solver.Solved.{Solved}
 use Rattle.cut_graph.specs.declared.places.Places.{Places}
 use Rattle.cut_graph.proofs.Joined.{StandsAt, joined_at, sum_joined}

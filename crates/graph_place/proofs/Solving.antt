@@ -14,7 +14,7 @@ use Rattle.cells.proofs.DistanceLaws.{distance_bound}
 use Rattle.map_canvas.specs.declared.canvas.Placement.{Placement}
 use Rattle.map_canvas.specs.Maps.{SourceMap, map_at}
 use Rattle.seams.specs.Costs.{seam}
-use Rattle.box_walk.specs.Pairs.{cell_in, has_next, IsPair}
+use Rattle.boxes.specs.Pairs.{cell_in, has_next, IsPair}
 use Rattle.max_flow.specs.declared.network.Pipe.{Pipe}
 use Rattle.max_flow.specs.declared.solver.Solved.{Solved}
 use Rattle.max_flow.specs.Networks.{FlowNetwork, no_pipe}

@@ -8,7 +8,7 @@ use Rattle.cells.specs.Boxes.{HoldsBox}
 use Rattle.cells.specs.Cells.{Cells}
 use Rattle.cells.specs.Distances.{distance}
 use Rattle.cells.specs.Places.{spot}
-use Rattle.box_sums.specs.Sums.{sum_box}
+use Rattle.boxes.specs.Sums.{sum_box}
 use Rattle.map_canvas.specs.declared.canvas.Placement.{Placement}
 use Rattle.map_canvas.specs.Choices.{IsAfter, after_at, box_index, chosen, new_source}
 use Rattle.map_canvas.specs.Maps.{SourceMap, map_at}

@@ -7,9 +7,9 @@ use Rattle.cells.specs.Boxes.{HasCells, IsInBox}
 use Rattle.cells.specs.Places.{cell_count}
 use Rattle.map_canvas.specs.declared.canvas.Placement.{Placement}
 use Rattle.map_canvas.specs.Maps.{SourceMap}
-use Rattle.box_sums.specs.Sums.{sum_box}
+use Rattle.boxes.specs.Sums.{sum_box}
 use Rattle.seams.specs.Lawful.{IsLeastChoice, IsLeastHeld, is_new}
-use Rattle.box_walk.specs.Pairs.{cell_in, one_if}
+use Rattle.boxes.specs.Pairs.{cell_in, one_if}
 
 -- how many cells of the box a choice leaves old
 abbrev pub old_count : Placement → List Bool → ℕ

@@ -7,7 +7,7 @@ use Rattle.cells.specs.declared.place.Axis.TheVariants.{X, Y, F}
 use Rattle.cells.specs.Places.{cell_count}
 use Rattle.map_canvas.specs.declared.canvas.Placement.{Placement}
 use Rattle.map_canvas.specs.Maps.{SourceMap}
-use Rattle.box_walk.specs.Pairs.{at_index, has_next, pair_count}
+use Rattle.boxes.specs.Pairs.{at_index, has_next, pair_count}
 use Rattle.max_flow.specs.Flows.{is_in}
 use Rattle.cut_graph.specs.declared.places.Places.{Places}
 use Rattle.cut_graph.specs.Pipes.{joined}

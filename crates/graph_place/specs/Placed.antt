@@ -8,7 +8,7 @@ use Rattle.map_canvas.specs.Canvases.{CanvasState, StandsOver}
 use Rattle.map_canvas.specs.Choices.{IsAfter, map_after}
 use Rattle.map_canvas.specs.Maps.{IsFull, SourceMap, map_at}
 use Rattle.seams.specs.Costs.{total_of}
-use Rattle.box_walk.specs.Pairs.{pair_count}
+use Rattle.boxes.specs.Pairs.{pair_count}
 use Rattle.cut_check.specs.declared.record.CutRecord.{CutRecord}
 use Rattle.cut_check.specs.Records.{CutStands}
 use Rattle.graph_place.specs.Fewest.{IsFewestHeld}

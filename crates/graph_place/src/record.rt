@@ -2,13 +2,13 @@
 ghost use Rattle.std.specs.Prelude.{◌≡◌, ◌<◌, ◌++◌, ℕ, IfOk, OnOk, length, slice_index, vec_len};
 ghost use Rattle.cells.specs.Boxes.{HasCells, HoldsBox};
 ghost use Rattle.cells.specs.Places.{IsSmall, cell_count, raster_index};
-ghost use Rattle.box_walk.specs.Pairs.{AreCounts, pair_number, pairs_before};
-ghost use Rattle.box_walk.specs.Raster.{largest};
+ghost use Rattle.boxes.specs.Pairs.{AreCounts, pair_number, pairs_before};
+ghost use Rattle.boxes.specs.Raster.{largest};
 ghost use Rattle.max_flow.specs.Flows.{pipe_flow};
 ghost use Rattle.graph_place.specs.Parts.{IsChoiceOf, flow_along, flows_before, flows_from};
 ghost use Rattle.graph_place.specs.Records.{HasFlows, IsRecordOf, IsSmallFlow, IsSolvedFor, flow_of, pipe_count, source_in};
 
-use box_walk::Counts;
+use boxes::Counts;
 use cells::{At, Axis};
 use cut_check::{CutRecord, Flow};
 use cut_graph::Places;

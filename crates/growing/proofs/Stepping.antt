@@ -12,7 +12,7 @@ use Rattle.map_canvas.specs.declared.canvas.Placement.{Placement}
 use Rattle.map_canvas.specs.Canvases.{CanvasState, IsCanvas, StandsOver, empty_canvas}
 use Rattle.map_canvas.specs.Choices.{box_count, map_after}
 use Rattle.map_canvas.specs.Maps.{empty_map, first_unfilled}
-use Rattle.box_walk.specs.Pairs.{pair_count}
+use Rattle.boxes.specs.Pairs.{pair_count}
 use Rattle.patch_place.specs.Steps.{IsNextAt, draws_after}
 use Rattle.cut_check.specs.declared.record.CutRecord.{CutRecord}
 use Rattle.cut_check.specs.Records.{CutStands, setting}

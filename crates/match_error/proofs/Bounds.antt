@@ -8,8 +8,8 @@ use Rattle.cells.specs.Cells.{Cells, IsVolume, cell_at}
 use Rattle.cells.specs.Places.{IsSmall, plus, spot}
 use Rattle.cells.proofs.BoxLaws.{box_small}
 use Rattle.cells.proofs.CellLaws.{IfCell, cell_is_cell}
-use Rattle.box_sums.specs.Sums.{sum_to}
-use Rattle.box_sums.proofs.Bounds.{box_bound, sum_bound, sum_of_more}
+use Rattle.boxes.specs.Sums.{sum_to}
+use Rattle.boxes.proofs.Bounds.{box_bound, sum_bound, sum_of_more}
 use Rattle.lane_kernels.proofs.Bounds.{ssd_bound}
 use Rattle.map_canvas.specs.declared.canvas.Placement.{Placement}
 use Rattle.map_canvas.specs.Maps.{SourceMap, map_at, sample_cell}

@@ -12,10 +12,10 @@ use Rattle.cells.specs.declared.place.Size.{Size}
 use Rattle.cells.specs.Boxes.{HoldsBox}
 use Rattle.cells.specs.Cells.{row_at, run_from}
 use Rattle.cells.specs.Places.{cell_count, plus, spot}
-use Rattle.box_sums.specs.Sums.{sum_to}
-use Rattle.box_sums.proofs.Additions.{counts}
-use Rattle.box_sums.proofs.Axes.{sum_equal, sum_none}
-use Rattle.box_sums.proofs.Bounds.{sum_bound}
+use Rattle.boxes.specs.Sums.{sum_to}
+use Rattle.boxes.proofs.Additions.{counts}
+use Rattle.boxes.proofs.Axes.{sum_equal, sum_none}
+use Rattle.boxes.proofs.Bounds.{sum_bound}
 use Rattle.map_canvas.specs.Maps.{SourceMap, IsMap, map_at, source_at}
 use Rattle.map_canvas.specs.Canvases.{mark_of, filled_marks}
 use Rattle.match_error.specs.Errors.{filled_cells, one_filled}

@@ -14,8 +14,8 @@ use Rattle.cells.specs.Parts.{count_from}
 use Rattle.cells.proofs.PartLaws.{index_front}
 use Rattle.cells.proofs.Raster.{has_index}
 use Rattle.cells.proofs.CellLaws.{cell_is, cell_by_index}
-use Rattle.box_sums.proofs.Additions.{counts}
-use Rattle.box_sums.proofs.Axes.{sum_equal}
+use Rattle.boxes.proofs.Additions.{counts}
+use Rattle.boxes.proofs.Axes.{sum_equal}
 use Rattle.lane_kernels.specs.Sums.{masked_sum_of_squared_differences, sum_of_squared_differences}
 use Rattle.map_canvas.specs.declared.canvas.Placement.{Placement}
 use Rattle.map_canvas.specs.Maps.{SourceMap, IsFilled, map_at, source_at}
@@ -23,7 +23,7 @@ use Rattle.map_canvas.specs.Canvases.{CanvasState, IsCanvas, StandsOver, mark_of
 use Rattle.map_canvas.specs.Choices.{Fits, new_source}
 use Rattle.map_canvas.specs.CellErrors.{box_spot, cell_error, spot_error}
 use Rattle.match_error.specs.Errors.{row_error}
-use Rattle.box_sums.specs.Sums.{sum_to}
+use Rattle.boxes.specs.Sums.{sum_to}
 use Rattle.match_error.proofs.RowPlaces.{IsRow, IsVolumeRow, row_in_volume, have_samples, row_is_run, row_of}
 use Rattle.match_error.proofs.Runs.{HaveSamples, masked_by_ones, masked_by_zeros, masked_cells, plain_cells}
 

@@ -9,7 +9,7 @@ use Rattle.cells.specs.Cells.{Cells, IsVolume, index_of, row_at}
 use Rattle.cells.specs.Places.{index_in, plus, spot}
 use Rattle.cells.proofs.PartLaws.{index_front}
 use Rattle.lane_kernels.specs.Sums.{sum_of_squared_differences}
-use Rattle.box_sums.specs.Sums.{sum_to}
+use Rattle.boxes.specs.Sums.{sum_to}
 use Rattle.map_canvas.specs.declared.canvas.Placement.{Placement}
 use Rattle.map_canvas.specs.Canvases.{CanvasState, IsCanvas, StandsOver}
 use Rattle.map_canvas.specs.Choices.{Fits}

@@ -7,9 +7,9 @@ use Rattle.std.proofs.lemmas.List.Sums.{sum_by-cons}
 use Rattle.std.specs.Prelude.{All}
 use Rattle.std.specs.List.{sum_by}
 use Rattle.cells.specs.declared.place.Box3.{Box3}
-use Rattle.box_sums.specs.Sums.{sum_to}
-use Rattle.box_sums.proofs.Additions.{counts}
-use Rattle.box_sums.proofs.Axes.{sum_none, sum_split}
+use Rattle.boxes.specs.Sums.{sum_to}
+use Rattle.boxes.proofs.Additions.{counts}
+use Rattle.boxes.proofs.Axes.{sum_none, sum_split}
 use Rattle.map_canvas.specs.Maps.{SourceMap, IsFilled}
 use Rattle.map_canvas.specs.CellErrors.{box_spot}
 use Rattle.match_error.specs.declared.filled_rows.Inset.{Inset}

@@ -20,9 +20,9 @@ use Rattle.map_canvas.specs.Maps.{IsFilled}
 use Rattle.map_canvas.specs.CellErrors.{box_spot, spot_error}
 use Rattle.match_error.specs.declared.gathered.FilledRun.{FilledRun}
 use Rattle.match_error.specs.declared.gathered.FilledRuns.{FilledRuns}
-use Rattle.box_sums.specs.Sums.{sum_to}
-use Rattle.box_sums.proofs.Additions.{counts}
-use Rattle.box_sums.proofs.Axes.{sum_more, sum_split}
+use Rattle.boxes.specs.Sums.{sum_to}
+use Rattle.boxes.proofs.Additions.{counts}
+use Rattle.boxes.proofs.Axes.{sum_more, sum_split}
 use Rattle.match_error.specs.Runs.{AddsError, AddsRun, AreRunsIn, IsInRow, IsRunIn, laid_from, run_error}
 use Rattle.match_error.proofs.Overlaps.{run_is_error, unfilled_error}
 

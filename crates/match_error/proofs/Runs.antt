@@ -6,7 +6,7 @@ use Rattle.std.proofs.lemmas.List.Folds.{concat-append}
 use Rattle.std.proofs.lemmas.List.Sums.{sum_by-append, sum_by-cons}
 use Rattle.std.specs.Prelude.{replicate}
 use Rattle.std.specs.List.{concat, sum_by, zip}
-use Rattle.box_sums.specs.Sums.{sum_to}
+use Rattle.boxes.specs.Sums.{sum_to}
 use Rattle.lane_kernels.specs.Sums.{masked_squared_difference, masked_sum_of_squared_differences, squared_difference, sum_of_squared_differences}
 
 -- w cells from an index on, joined

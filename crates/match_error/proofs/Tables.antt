@@ -9,11 +9,11 @@ use Rattle.std.specs.Prelude.{ℤ, pos, ◌+ℤ◌, replicate}
 use Rattle.cells.specs.declared.place.Box3.{Box3}
 use Rattle.cells.specs.Boxes.{HoldsBox}
 use Rattle.cells.specs.Places.{IsSmall, cell_count}
-use Rattle.box_sums.specs.Sums.{sum_to}
-use Rattle.box_sums.proofs.Additions.{counts}
-use Rattle.box_sums.proofs.Axes.{sum_equal, sum_more, sum_plus, sum_split}
-use Rattle.box_sums.proofs.Bounds.{box_bound, sum_bound}
-use Rattle.box_sums.proofs.Boxes.{box_equal}
+use Rattle.boxes.specs.Sums.{sum_to}
+use Rattle.boxes.proofs.Additions.{counts}
+use Rattle.boxes.proofs.Axes.{sum_equal, sum_more, sum_plus, sum_split}
+use Rattle.boxes.proofs.Bounds.{box_bound, sum_bound}
+use Rattle.boxes.proofs.Boxes.{box_equal}
 use Rattle.map_canvas.specs.Maps.{SourceMap, map_at}
 use Rattle.map_canvas.specs.CellErrors.{box_spot}
 use Rattle.match_error.specs.Errors.{filled_cells, one_filled}

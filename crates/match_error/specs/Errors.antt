@@ -6,7 +6,7 @@ use Rattle.cells.specs.declared.bounds.TheConstants.{GREATEST_AXIS, MOST_SAMPLES
 use Rattle.cells.specs.declared.place.At.{At}
 use Rattle.cells.specs.declared.place.Box3.{Box3}
 use Rattle.cells.specs.Cells.{Cells}
-use Rattle.box_sums.specs.Sums.{sum_box, sum_to}
+use Rattle.boxes.specs.Sums.{sum_box, sum_to}
 use Rattle.map_canvas.specs.declared.canvas.Placement.{Placement}
 use Rattle.map_canvas.specs.CellErrors.{box_spot, spot_error}
 use Rattle.map_canvas.specs.Maps.{SourceMap, map_at}

@@ -5,7 +5,7 @@ use Rattle.std.specs.Prelude.{◌≡◌, ◌≤◌, ◌<◌, ◌+◌, ◌-◌, �
 use Rattle.std.specs.List.{sum_by}
 use Rattle.cells.specs.declared.place.Box3.{Box3}
 use Rattle.cells.specs.Boxes.{HoldsBox}
-use Rattle.box_sums.specs.Sums.{sum_to}
+use Rattle.boxes.specs.Sums.{sum_to}
 use Rattle.map_canvas.specs.Maps.{SourceMap, IsFilled}
 use Rattle.map_canvas.specs.CellErrors.{box_spot}
 use Rattle.match_error.specs.declared.filled_rows.FilledRows.{FilledRows}

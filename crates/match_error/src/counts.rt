@@ -3,7 +3,7 @@ ghost use Rattle.std.specs.Prelude.{◌≡◌, ◌≤◌, ◌<◌, ◌*◌, leng
 ghost use Rattle.cells.specs.Boxes.{HoldsBox};
 ghost use Rattle.cells.specs.Places.{cell_count, plus, spot};
 ghost use Rattle.map_canvas.specs.Maps.{map_at};
-ghost use Rattle.box_sums.specs.Sums.{sum_to};
+ghost use Rattle.boxes.specs.Sums.{sum_to};
 ghost use Rattle.match_error.specs.Errors.{filled_cells, one_filled};
 
 use crate::rows::row_start;

@@ -4,7 +4,7 @@ ghost use Rattle.cells.specs.Boxes.{AxisHolds, HoldsBox};
 ghost use Rattle.cells.specs.Places.{cell_count};
 ghost use Rattle.map_canvas.specs.Maps.{map_at};
 ghost use Rattle.map_canvas.specs.CellErrors.{box_spot};
-ghost use Rattle.box_sums.specs.Sums.{sum_to};
+ghost use Rattle.boxes.specs.Sums.{sum_to};
 ghost use Rattle.match_error.specs.Errors.{filled_cells, one_filled};
 ghost use Rattle.match_error.specs.Runs.{IsInRow};
 ghost use Rattle.match_error.specs.Tables.{AreFilledCounts, AreMoreEntries, filled_before, one_in_row};

@@ -9,7 +9,7 @@ use Rattle.cells.specs.Places.{cell_count}
 use Rattle.map_canvas.specs.Canvases.{IsKept}
 use Rattle.map_canvas.specs.Choices.{Fits, box_count, map_after}
 use Rattle.map_canvas.specs.Maps.{IsMap, SourceMap, map_at}
-use Rattle.box_walk.specs.Pairs.{pair_count}
+use Rattle.boxes.specs.Pairs.{pair_count}
 use Rattle.seams.specs.Lawful.{IsLeastChoice}
 use Rattle.cut_check.specs.declared.record.CutRecord.{CutRecord}
 use Rattle.cut_check.specs.Records.{CutStands, IsFirstCutFault, setting}

@@ -13,13 +13,13 @@ use Rattle.cells.specs.Places.{IsInside, plus, spot}
 use Rattle.cells.proofs.BoxLaws.{plus_minus}
 use Rattle.cells.proofs.BoxTests.{of_inside, on_axis_bounds}
 use Rattle.cells.proofs.Raster.{index_of_spot}
-use Rattle.box_sums.specs.Sums.{sum_box}
-use Rattle.box_sums.proofs.Additions.{counts}
-use Rattle.box_sums.proofs.Boxes.{box_equal, box_part, box_plus}
+use Rattle.boxes.specs.Sums.{sum_box}
+use Rattle.boxes.proofs.Additions.{counts}
+use Rattle.boxes.proofs.Boxes.{box_equal, box_part, box_plus}
 use Rattle.seams.specs.Costs.{map_within, pair_at, seam_of}
 use Rattle.seam_cost.specs.Windows.{window_at}
-use Rattle.box_walk.specs.Pairs.{AreCounts}
-use Rattle.box_walk.specs.Pairs.{in_box}
+use Rattle.boxes.specs.Pairs.{AreCounts}
+use Rattle.boxes.specs.Pairs.{in_box}
 use Rattle.seam_cost.specs.Slides.{axis_sum, less_one}
 use Rattle.seams.proofs.Wholes.{outside_none}
 

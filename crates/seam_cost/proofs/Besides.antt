@@ -5,13 +5,13 @@ use Rattle.cells.specs.declared.place.At.{At}
 use Rattle.cells.specs.declared.place.Box3.{Box3}
 use Rattle.cells.specs.Boxes.{IsInBox}
 use Rattle.cells.specs.Places.{plus, spot}
-use Rattle.box_sums.specs.Sums.{sum_box}
+use Rattle.boxes.specs.Sums.{sum_box}
 use Rattle.map_canvas.specs.declared.canvas.Placement.{Placement}
 use Rattle.map_canvas.specs.Choices.{IsAfter, after_at, box_index, chosen, new_source}
 use Rattle.map_canvas.specs.Maps.{SourceMap, map_at}
 use Rattle.std.specs.Prelude.{Some}
 use Rattle.seams.specs.Costs.{map_within, pairs_at, window_of}
-use Rattle.box_walk.specs.Pairs.{in_box}
+use Rattle.boxes.specs.Pairs.{in_box}
 use Rattle.seam_cost.specs.Tables.{IsRight, IsRightBeside, SameBeside, WindowSums}
 use Rattle.seams.proofs.Wholes.{no_index}
 

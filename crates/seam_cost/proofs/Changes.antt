@@ -13,7 +13,7 @@ use Rattle.cells.proofs.Raster.{index_parts}
 use Rattle.seam_cost.specs.declared.block.Block.{Block}
 use Rattle.seam_cost.specs.declared.block.Run.{Run}
 use Rattle.seam_cost.specs.Windows.{window_at}
-use Rattle.box_walk.specs.Pairs.{AreCounts}
+use Rattle.boxes.specs.Pairs.{AreCounts}
 use Rattle.seam_cost.specs.Slides.{AreApart, AreOthers, HoldsBlock, IsInBlock, IsOnRun, block_size}
 use Rattle.seam_cost.specs.Tables.{IsRight, IsRightAt, Touches, corners}
 use Rattle.seam_cost.proofs.Rows.{one_row}

@@ -10,8 +10,8 @@ use Rattle.cells.specs.declared.place.Axis.TheVariants.{X, Y, F}
 use Rattle.cells.specs.Boxes.{HasCells}
 use Rattle.cells.specs.Places.{IsSmall, cell_count, raster_index, spot}
 use Rattle.cells.proofs.Raster.{in_rows}
-use Rattle.box_sums.proofs.Additions.{counts}
-use Rattle.box_sums.proofs.Boxes.{box_equal, box_none}
+use Rattle.boxes.proofs.Additions.{counts}
+use Rattle.boxes.proofs.Boxes.{box_equal, box_none}
 use Rattle.seam_cost.specs.declared.block.Block.{Block}
 use Rattle.seams.specs.Costs.{pair_at}
 use Rattle.seam_cost.specs.Slides.{AreCosts, HoldsBlock, IsInBlock, axis_sum, block_size, box_run, less_one, reach_of, row_offset, row_start}

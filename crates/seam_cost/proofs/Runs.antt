@@ -1,7 +1,7 @@
 -- Sums of runs of entries at equal steps, by the sums of all entries after.
 use Rattle.std.proofs.Common.{◌≡◌, ℕ, zero, suc, ◌+◌, ◌*◌, ◌≤◌, List, get_or, ap, arith}
-use Rattle.box_sums.specs.Sums.{sum_to}
-use Rattle.box_sums.proofs.Bounds.{sum_bound}
+use Rattle.boxes.specs.Sums.{sum_to}
+use Rattle.boxes.proofs.Bounds.{sum_bound}
 
 -- where each sum has its own entry and the sum one step on, it has a run and the sum after the run
 pub sum_after : (old sums : List ℕ) (step : ℕ) → ((j : ℕ) → get_or sums j 0 ≡ get_or old j 0 + get_or sums (j + step) 0)

@@ -1,4 +1,4 @@
-pub use Rattle.box_walk.specs.Pairs
+pub use Rattle.boxes.specs.Pairs
 pub use Rattle.seams.specs.Costs
 pub use Rattle.seams.specs.Lawful
 pub mod Windows

@@ -8,7 +8,7 @@ use Rattle.cells.specs.declared.place.Axis.{Axis}
 use Rattle.cells.specs.declared.place.Axis.TheVariants.{X, Y, F}
 use Rattle.cells.specs.declared.place.Size.{Size}
 use Rattle.cells.specs.Places.{spot}
-use Rattle.box_sums.specs.Sums.{sum_to, sum_box}
+use Rattle.boxes.specs.Sums.{sum_to, sum_box}
 use Rattle.seam_cost.specs.declared.block.Block.{Block}
 use Rattle.seam_cost.specs.declared.block.Run.{Run}
 use Rattle.seams.specs.Costs.{pair_at}

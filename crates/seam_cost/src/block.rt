@@ -3,11 +3,11 @@
 ghost use Rattle.std.specs.Prelude.{◌≡◌, ◌≤◌, ◌<◌, ◌⊎◌, ◌+◌, ◌*◌, ◌+ℤ◌, ◌≤ℤ◌, ℕ, pos};
 ghost use Rattle.cells.specs.Boxes.{HasCells};
 ghost use Rattle.cells.specs.Places.{IsSmall, cell_count, spot};
-ghost use Rattle.box_walk.specs.Pairs.{AreCounts};
+ghost use Rattle.boxes.specs.Pairs.{AreCounts};
 ghost use Rattle.seam_cost.specs.Slides.{AreOthers, HoldsBlock, IsInBlock, block_size, reach_of, reach_run};
 ghost use Rattle.seam_cost.specs.Tables.{IsWindow, Touches, corners};
 
-use box_walk::clipped;
+use boxes::clipped;
 use cells::{Box3, GREATEST_AXIS, Size};
 
 /// A run of cells along one axis.

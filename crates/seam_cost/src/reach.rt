@@ -7,13 +7,13 @@ ghost use Rattle.cells.specs.Places.{IsSmall, cell_count, raster_index, spot};
 ghost use Rattle.map_canvas.specs.Maps.{map_at};
 ghost use Rattle.seams.specs.Costs.{most_of_pair, pair_at};
 ghost use Rattle.seam_cost.specs.Windows.{window_at};
-ghost use Rattle.box_walk.specs.Pairs.{AreCounts};
+ghost use Rattle.boxes.specs.Pairs.{AreCounts};
 ghost use Rattle.seam_cost.specs.Slides.{AreAtMost, AreCosts, AreRowCosts, EachOfRows, HoldsBlock, IsInBlock, SameElsewhere, added, at_row, axis_sum, block_size, less_one, IsLens, most_after_three, number_if, reach_of, row_offset, row_start};
 ghost use Rattle.seam_cost.specs.Tables.{IsWindow, corners};
 
 use crate::block::{Block, corners};
 use crate::slide::sum_boxes;
-use box_walk::{Counts, has_cells};
+use boxes::{Counts, has_cells};
 use cells::{Axis, GREATEST_AXIS, Size, Volume};
 use map_canvas::Map;
 use seams::{Sources, seam_of};

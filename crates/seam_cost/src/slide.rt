@@ -1,7 +1,7 @@
 // Sums of runs of entries, in place: of each entry and those after it at equal steps.
 ghost use Rattle.std.specs.Prelude.{◌≡◌, ◌≤◌, ◌<◌, ℕ, ◌+◌, ◌*◌, length, slice_index};
 ghost use Rattle.cells.specs.Places.{IsSmall, cell_count};
-ghost use Rattle.box_sums.specs.Sums.{sum_to};
+ghost use Rattle.boxes.specs.Sums.{sum_to};
 ghost use Rattle.seams.specs.Costs.{most_of_pair};
 ghost use Rattle.seam_cost.specs.Slides.{AreAtMost, IsLens, box_run, most_after_three, most_after_two};
 

@@ -9,7 +9,7 @@ ghost use Rattle.seam_cost.specs.Tables.{IsGreatest, IsRight, IsRightBeside, IsW
 
 use crate::block::{Block, corners};
 use crate::reach::refresh;
-use box_walk::has_cells;
+use boxes::has_cells;
 use cells::{At, Box3, Size, Volume};
 use map_canvas::Canvas;
 use std::alloc::{AllocError, Global};

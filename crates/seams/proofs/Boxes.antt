@@ -11,8 +11,8 @@ use Rattle.cells.specs.Places.{minus, on_axis, plus, spot}
 use Rattle.cells.specs.Neighbours.{unit_step}
 use Rattle.cells.specs.Boxes.{HoldsBox, IsInBox}
 use Rattle.cells.proofs.BoxTests.{OnAxes, of_inside, on_axis_bounds}
-use Rattle.box_sums.proofs.Additions.{counts}
-use Rattle.box_sums.proofs.Boxes.{box_equal, box_part}
+use Rattle.boxes.proofs.Additions.{counts}
+use Rattle.boxes.proofs.Boxes.{box_equal, box_part}
 use Rattle.seams.specs.Costs.{map_within, pairs_at, seam_of, total_of, window_of}
 use Rattle.seams.proofs.Wholes.{outside_none}
 

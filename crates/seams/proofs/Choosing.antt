@@ -15,8 +15,8 @@ use Rattle.map_canvas.specs.declared.canvas.Placement.{Placement}
 use Rattle.map_canvas.specs.Choices.{Fits, after_at, box_index, chosen, new_source}
 use Rattle.map_canvas.specs.Maps.{SourceMap, IsSource, map_at}
 use Rattle.map_canvas.proofs.Filling.{step_source, step_sum}
-use Rattle.box_walk.specs.Pairs.{AreCounts, cell_in, has_next}
-use Rattle.box_walk.proofs.Cells.{cell_inside, next_in_box}
+use Rattle.boxes.specs.Pairs.{AreCounts, cell_in, has_next}
+use Rattle.boxes.proofs.Cells.{cell_inside, next_in_box}
 use Rattle.seams.specs.Choosing.{within_after}
 use Rattle.seams.specs.Costs.{pair_at, seam_of}
 use Rattle.seams.proofs.Copies.{seam_of_copies}

@@ -10,12 +10,12 @@ use Rattle.cells.specs.declared.place.Size.{Size}
 use Rattle.cells.specs.Boxes.{AxisHolds, HasCells, HoldsBox, IsInBox}
 use Rattle.cells.specs.Places.{IsInside, index_in, plus, spot}
 use Rattle.cells.proofs.BoxTests.{of_inside, on_axis_bounds}
-use Rattle.box_sums.specs.Sums.{sum_box}
-use Rattle.box_sums.proofs.Additions.{counts}
-use Rattle.box_sums.proofs.Boxes.{box_equal, box_none, box_part}
+use Rattle.boxes.specs.Sums.{sum_box}
+use Rattle.boxes.proofs.Additions.{counts}
+use Rattle.boxes.proofs.Boxes.{box_equal, box_none, box_part}
 use Rattle.map_canvas.specs.Maps.{SourceMap, map_at, source_at}
-use Rattle.box_walk.specs.Pairs.{cell_in, in_box}
-use Rattle.box_walk.proofs.Cells.{cell_inside, cell_of}
+use Rattle.boxes.specs.Pairs.{cell_in, in_box}
+use Rattle.boxes.proofs.Cells.{cell_inside, cell_of}
 use Rattle.seams.specs.Costs.{map_within, pairs_at, window_of}
 use Rattle.seams.specs.Intersections.{IsIntersection, IsOff, IsOn, IsRunOn}
 use Rattle.seams.proofs.Boxes.{no_pairs}

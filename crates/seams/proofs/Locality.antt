@@ -8,13 +8,13 @@ use Rattle.cells.specs.declared.place.Axis.TheVariants.{X, Y, F}
 use Rattle.cells.specs.Places.{plus, spot}
 use Rattle.cells.specs.Neighbours.{unit_step}
 use Rattle.cells.specs.Boxes.{HoldsBox, IsInBox}
-use Rattle.box_sums.proofs.Additions.{counts}
-use Rattle.box_sums.proofs.Boxes.{box_equal, box_plus}
+use Rattle.boxes.proofs.Additions.{counts}
+use Rattle.boxes.proofs.Boxes.{box_equal, box_plus}
 use Rattle.map_canvas.specs.declared.canvas.Placement.{Placement}
 use Rattle.map_canvas.specs.Maps.{SourceMap, map_at}
 use Rattle.map_canvas.specs.Canvases.{IsFilledOutside, IsKept, MeetsOutside}
 use Rattle.map_canvas.specs.Choices.{after_at, box_index, chosen, new_source}
-use Rattle.box_walk.specs.Pairs.{in_box}
+use Rattle.boxes.specs.Pairs.{in_box}
 use Rattle.seams.specs.Costs.{map_within, pair_at, pairs_at, seam_of, total_of, window_of}
 use Rattle.seams.specs.Lawful.{ChangesAsWindow, IsLawful, is_new}
 use Rattle.seams.proofs.Boxes.{total_within}

@@ -8,9 +8,9 @@ use Rattle.map_canvas.specs.declared.canvas.Placement.{Placement}
 use Rattle.map_canvas.specs.Choices.{box_cell, box_count, box_index, chosen}
 use Rattle.map_canvas.specs.Maps.{SourceMap, IsFilled}
 use Rattle.map_canvas.proofs.ChoiceLaws.{box_index_of}
-use Rattle.box_walk.specs.Pairs.{cell_in}
-use Rattle.box_walk.specs.Walks.{IsAtIndex}
-use Rattle.box_walk.proofs.Indices.{place_is}
+use Rattle.boxes.specs.Pairs.{cell_in}
+use Rattle.boxes.specs.Walks.{IsAtIndex}
+use Rattle.boxes.proofs.Indices.{place_is}
 use Rattle.seams.specs.Lawful.{AreMarks}
 use Rattle.seams.proofs.Existence.{new_inside}
 

@@ -13,8 +13,8 @@ use Rattle.cells.specs.Neighbours.{unit_step}
 use Rattle.cells.specs.Boxes.{AxisHolds, HoldsBox}
 use Rattle.cells.proofs.Raster.{OnAxis, index_below, index_parts}
 use Rattle.map_canvas.specs.Maps.{SourceMap, IsCoordinate, IsMap, IsSource, map_at, source_at}
-use Rattle.box_walk.specs.Pairs.{AreCounts, cell_in}
-use Rattle.box_walk.specs.Raster.{largest}
+use Rattle.boxes.specs.Pairs.{AreCounts, cell_in}
+use Rattle.boxes.specs.Raster.{largest}
 use Rattle.cells.specs.declared.bounds.TheConstants.{GREATEST_AXIS}
 use Rattle.seams.specs.Costs.{IsAsked, IsAskedOn}
 

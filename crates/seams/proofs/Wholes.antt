@@ -9,8 +9,8 @@ use Rattle.cells.specs.declared.place.Box3.{Box3}
 use Rattle.cells.specs.Places.{index_in, minus, plus, spot}
 use Rattle.cells.specs.Boxes.{IsInBox}
 use Rattle.map_canvas.specs.Maps.{SourceMap, map_at, source_at}
-use Rattle.box_sums.specs.Sums.{sum_box}
-use Rattle.box_walk.specs.Pairs.{in_box}
+use Rattle.boxes.specs.Sums.{sum_box}
+use Rattle.boxes.specs.Pairs.{in_box}
 use Rattle.seams.specs.Costs.{map_within, pairs_at, pairs_of_box, total_of, window_of}
 
 -- outside a box its part of a map has nothing

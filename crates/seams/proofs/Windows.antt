@@ -7,11 +7,11 @@ use Rattle.cells.specs.declared.place.Axis.TheVariants.{X, Y, F}
 use Rattle.cells.specs.declared.place.Box3.{Box3}
 use Rattle.cells.specs.Places.{plus}
 use Rattle.cells.specs.Neighbours.{unit_step}
-use Rattle.box_sums.specs.Sums.{sum_box}
-use Rattle.box_sums.proofs.Additions.{counts}
-use Rattle.box_sums.proofs.Boxes.{box_equal}
-use Rattle.box_walk.specs.Pairs.{AreCounts, cell_in, has_next}
-use Rattle.box_walk.proofs.Cells.{cell_inside, next_in_box}
+use Rattle.boxes.specs.Sums.{sum_box}
+use Rattle.boxes.proofs.Additions.{counts}
+use Rattle.boxes.proofs.Boxes.{box_equal}
+use Rattle.boxes.specs.Pairs.{AreCounts, cell_in, has_next}
+use Rattle.boxes.proofs.Cells.{cell_inside, next_in_box}
 use Rattle.seams.specs.Costs.{map_within, pair_at, seam_of, window_of}
 use Rattle.seams.proofs.Locality.{seam_none}
 

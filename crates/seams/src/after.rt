@@ -4,13 +4,13 @@ ghost use Rattle.cells.specs.Distances.{distance};
 ghost use Rattle.cells.specs.Places.{raster_index};
 ghost use Rattle.map_canvas.specs.Choices.{Fits};
 ghost use Rattle.map_canvas.specs.Maps.{IsSource};
-ghost use Rattle.box_walk.specs.Pairs.{AreCounts, cell_in};
+ghost use Rattle.boxes.specs.Pairs.{AreCounts, cell_in};
 ghost use Rattle.seams.specs.Choosing.{within_after};
 ghost use Rattle.seams.specs.Costs.{most_of_cell, most_of_pair, pair_at, pairs_at};
 ghost use Rattle.seams.specs.Lawful.{window_after};
 
 use crate::pairs::seam_of;
-use box_walk::{Counts, stride};
+use boxes::{Counts, stride};
 use cells::{At, Axis, Volume};
 use map_canvas::{Canvas, Map, Placement};
 

@@ -3,7 +3,7 @@ ghost use Rattle.std.specs.Prelude.{◌≡◌, ◌≤◌, ◌<◌, ◌⊎◌, �
 ghost use Rattle.std.specs.Int.{w32};
 ghost use Rattle.seams.specs.Intersections.{IsIntersection, IsOff, IsOn};
 
-use box_walk::clipped;
+use boxes::clipped;
 use cells::{At, Box3, Size};
 
 // Cells of a run that an axis has: how many of the run come before them, and how many they are.

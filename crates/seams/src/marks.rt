@@ -3,11 +3,11 @@ ghost use Rattle.std.specs.Prelude.{◌≡◌, ◌≤◌, ◌↔◌, ◌+ℤ◌,
 ghost use Rattle.cells.specs.Boxes.{HasCells};
 ghost use Rattle.cells.specs.Places.{IsInside, IsSmall, cell_count};
 ghost use Rattle.map_canvas.specs.Maps.{IsFilled};
-ghost use Rattle.box_walk.specs.Pairs.{cell_in};
+ghost use Rattle.boxes.specs.Pairs.{cell_in};
 ghost use Rattle.seams.specs.Intersections.{IsOn};
 ghost use Rattle.seams.specs.Lawful.{AreMarks};
 
-use box_walk::Counts;
+use boxes::Counts;
 use cells::{At, Box3, GREATEST_AXIS, Size};
 use map_canvas::{Canvas, Placement};
 

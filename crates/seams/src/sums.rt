@@ -5,14 +5,14 @@ ghost use Rattle.cells.specs.Distances.{distance};
 ghost use Rattle.cells.specs.Neighbours.{unit_step};
 ghost use Rattle.cells.specs.Places.{plus};
 ghost use Rattle.map_canvas.specs.Maps.{IsSource, map_at};
-ghost use Rattle.box_walk.specs.Pairs.{AreCounts, cell_in};
-ghost use Rattle.box_walk.specs.Raster.{largest};
+ghost use Rattle.boxes.specs.Pairs.{AreCounts, cell_in};
+ghost use Rattle.boxes.specs.Raster.{largest};
 ghost use Rattle.seams.specs.Costs.{most_of_cell, most_of_frame, most_of_pair, most_of_row, pair_at, pairs_at, pairs_of_box, pairs_of_frame, pairs_of_row, total_of, window_of};
 
 use crate::intersection::intersection;
 use crate::pairs::seam_of;
 use crate::sources::{Sources, Within};
-use box_walk::{Counts, has_cells};
+use boxes::{Counts, has_cells};
 use cells::{At, Axis, Box3, Volume};
 use map_canvas::Canvas;
 

@@ -5,7 +5,7 @@ ghost use Rattle.cells.specs.Places.{IsSmall};
 ghost use Rattle.map_canvas.specs.Canvases.{StandsOver};
 
 use crate::laying::{assert_fits, canvas_over, put};
-use box_walk::pair_count;
+use boxes::pair_count;
 use cells::{At, Axis, Box3, GREATEST_AXIS, MOST_CELLS, Size, Volume};
 use cut_check::{
     BALANCE_RULE, BOUNDS_RULE, CutRecord, FILL_RULE, FIT_RULE, Flow, KEEP_RULE, VALUE_RULE,

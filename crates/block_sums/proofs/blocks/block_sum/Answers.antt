@@ -3,8 +3,8 @@ use Rattle.std.specs.Prelude.{sum}
 use Rattle.cells.specs.Cells.{HasRun, row_at}
 use Rattle.cells.specs.Places.{SumFits, plus, spot}
 use Rattle.cells.proofs.PartBoxes.{inside_sum_fits}
-use Rattle.box_sums.proofs.Additions.{counts}
-use Rattle.box_sums.proofs.Axes.{sum_more}
+use Rattle.boxes.proofs.Additions.{counts}
+use Rattle.boxes.proofs.Axes.{sum_more}
 use Rattle.block_sums.proofs.RowBytes.{row_short, rows_small}
 use Rattle.block_sums.proofs.blocks.block_sum.Goals as goal
 

@@ -2,7 +2,7 @@ use Rattle.std.proofs.Common.{◌≡◌, ◌≤◌, ◌*◌}
 use Rattle.std.specs.Prelude.{sum}
 use Rattle.cells.specs.Cells.{row_at}
 use Rattle.cells.specs.Places.{plus, spot}
-use Rattle.box_sums.specs.Sums.{sum_to}
+use Rattle.boxes.specs.Sums.{sum_to}
 use Rattle.block_sums.proofs.blocks.block_sum.Given as goal
 
 abbrev pub invariant-loop-y : goal.invariant-loop-y

@@ -7,7 +7,7 @@ use Rattle.cells.specs.declared.place.Size.{Size}
 use Rattle.cells.specs.declared.place.At.{At}
 use Rattle.source_map.proofs.FieldLaws.{chain, first_stops, made, then_reads, lifted}
 use Rattle.cells.specs.Places.{cell_count}
-use Rattle.box_walk.specs.Pairs.{pair_count}
+use Rattle.boxes.specs.Pairs.{pair_count}
 use Rattle.cut_check.specs.declared.record.CutRecord.{CutRecord}
 use Rattle.cut_check.specs.declared.record.Flow.{Flow}
 use Rattle.std.specs.Prelude.{Bool}

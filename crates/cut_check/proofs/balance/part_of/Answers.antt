@@ -3,9 +3,9 @@ use Rattle.std.proofs.lemmas.Int.{ints}
 use Rattle.std.specs.Prelude.{pos}
 use mathlib.Core.Bool.{false≢true}
 use Rattle.map_canvas.specs.Maps.{IsFilled}
-use Rattle.box_walk.specs.Pairs.{at_index}
-use Rattle.box_walk.proofs.Indices.{at_index_is}
-use Rattle.box_walk.proofs.PairNumbers.{walk_in}
+use Rattle.boxes.specs.Pairs.{at_index}
+use Rattle.boxes.proofs.Indices.{at_index_is}
+use Rattle.boxes.proofs.PairNumbers.{walk_in}
 use Rattle.seams.specs.Lawful.{StaysOld}
 use Rattle.cut_check.specs.declared.record.Flow.{Flow}
 use Rattle.cut_check.specs.Flows.{leaving}

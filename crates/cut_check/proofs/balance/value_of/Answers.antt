@@ -2,14 +2,14 @@ use Rattle.std.proofs.Common.{◌≡◌, ◌∙◌, ◌/◌, ◌%◌, refl, ap, 
 use Rattle.std.proofs.lemmas.Int.{ints}
 use mathlib.Core.Bool.{false≢true}
 use Rattle.cells.specs.Places.{cell_count}
-use Rattle.box_sums.specs.Sums.{signed_sum_to}
-use Rattle.box_sums.proofs.Additions.{integers}
-use Rattle.box_sums.proofs.Axes.{sum_more}
-use Rattle.box_sums.proofs.Boxes.{box_counts}
+use Rattle.boxes.specs.Sums.{signed_sum_to}
+use Rattle.boxes.proofs.Additions.{integers}
+use Rattle.boxes.proofs.Axes.{sum_more}
+use Rattle.boxes.proofs.Boxes.{box_counts}
 use Rattle.map_canvas.specs.Choices.{box_cell}
-use Rattle.box_walk.specs.Pairs.{at_index}
-use Rattle.box_walk.proofs.Indices.{counts_at}
-use Rattle.box_walk.proofs.PairNumbers.{walk_in}
+use Rattle.boxes.specs.Pairs.{at_index}
+use Rattle.boxes.proofs.Indices.{counts_at}
+use Rattle.boxes.proofs.PairNumbers.{walk_in}
 use Rattle.seams.specs.Lawful.{StaysOld}
 use Rattle.cut_check.specs.Flows.{leaving}
 use Rattle.cut_check.specs.Records.{IsBalanced, setting}

@@ -1,8 +1,8 @@
 use Rattle.std.proofs.Common.{◌≡◌, ℕ, ◌*◌, ◌<◌, neg_ℤ, pos, ◌≤ℤ◌, ℤ}
 use Rattle.cells.specs.Cells.{Cells}
-use Rattle.box_sums.specs.Sums.{signed_sum_to}
-use Rattle.box_walk.specs.Pairs.{at_index}
-use Rattle.box_walk.specs.Walks.{IsWalkAt}
+use Rattle.boxes.specs.Sums.{signed_sum_to}
+use Rattle.boxes.specs.Pairs.{at_index}
+use Rattle.boxes.specs.Walks.{IsWalkAt}
 use Rattle.cut_check.specs.Records.{IsBalanced, setting}
 use Rattle.cut_check.specs.Steps.{ArePartsOfValue, most_leaving}
 use Rattle.cut_check.proofs.balance.value_of.Given as goal

@@ -1,6 +1,6 @@
 use Rattle.std.proofs.Common.{List, arith, subst}
 use Rattle.cells.specs.Distances.{distance}
-use Rattle.box_walk.proofs.PairNumbers.{pairs_small}
+use Rattle.boxes.proofs.PairNumbers.{pairs_small}
 use Rattle.cut_check.specs.declared.record.Flow.{Flow}
 use Rattle.cut_check.specs.Steps.{IsStill}
 use Rattle.cut_check.proofs.Still.{still_holds}

@@ -1,5 +1,5 @@
 use Rattle.cells.specs.Distances.{distance}
-use Rattle.box_walk.specs.Walks.{IsWalkAt}
+use Rattle.boxes.specs.Walks.{IsWalkAt}
 use Rattle.cut_check.specs.Steps.{EachAxis, EachBefore, HoldsAlong}
 use Rattle.cut_check.proofs.bounds.first_unbounded.Given as goal
 

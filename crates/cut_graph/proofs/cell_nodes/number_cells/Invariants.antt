@@ -1,6 +1,6 @@
 use Rattle.std.specs.Prelude.{option_copied}
 use Rattle.seams.specs.Lawful.{held_marks}
-use Rattle.box_walk.specs.Walks.{IsAtIndex}
+use Rattle.boxes.specs.Walks.{IsAtIndex}
 use Rattle.cut_graph.specs.Building.{AreCellNodes}
 use Rattle.cut_graph.proofs.cell_nodes.number_cells.Given as goal
 

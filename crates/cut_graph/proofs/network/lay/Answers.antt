@@ -2,7 +2,7 @@ use Rattle.std.proofs.Common.{◌≡◌, length, ap, ◌∙◌, subst}
 use Rattle.std.proofs.lemmas.Result.{IfOk-weaker}
 use Rattle.cells.specs.Distances.{distance}
 use Rattle.cells.specs.Places.{cell_count}
-use Rattle.box_walk.specs.Pairs.{pair_count}
+use Rattle.boxes.specs.Pairs.{pair_count}
 use Rattle.cut_graph.specs.declared.plan.Plan.{Plan}
 use Rattle.cut_graph.specs.Building.{HasAllPipes}
 use Rattle.cut_graph.specs.Plans.{IsPiped, before}

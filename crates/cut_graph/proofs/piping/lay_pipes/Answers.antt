@@ -1,7 +1,7 @@
 use Rattle.std.proofs.Common.{◌+◌, arith, subst}
 use Rattle.cells.specs.Places.{cell_count}
-use Rattle.box_walk.proofs.PairNumbers.{pairs_few}
-use Rattle.box_walk.specs.Pairs.{pairs_before}
+use Rattle.boxes.proofs.PairNumbers.{pairs_few}
+use Rattle.boxes.specs.Pairs.{pairs_before}
 use Rattle.cut_graph.specs.Plans.{IsPiped, before}
 use Rattle.cut_graph.proofs.Laying.{plan_small}
 use Rattle.cut_graph.proofs.piping.lay_pipes.Goals as goal

@@ -1,5 +1,5 @@
-use Rattle.box_walk.specs.Walks.{IsAtIndex}
-use Rattle.box_walk.specs.Pairs.{pairs_before}
+use Rattle.boxes.specs.Walks.{IsAtIndex}
+use Rattle.boxes.specs.Pairs.{pairs_before}
 use Rattle.cut_graph.specs.Plans.{IsPiped, before}
 use Rattle.cut_graph.proofs.piping.lay_pipes.Given as goal
 

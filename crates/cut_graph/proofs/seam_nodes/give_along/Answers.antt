@@ -1,8 +1,8 @@
 use Rattle.std.proofs.Common.{◌≡◌, ◌+◌, true, sym, ap, ◌∙◌, subst, arith}
 use Rattle.std.specs.Prelude.{OnOk}
 use Rattle.std.proofs.lemmas.Result.{on_ok_weaker}
-use Rattle.box_walk.proofs.Indices.{stride_below}
-use Rattle.box_walk.specs.Pairs.{has_next, one_if, pair_number, IsPair}
+use Rattle.boxes.proofs.Indices.{stride_below}
+use Rattle.boxes.specs.Pairs.{has_next, one_if, pair_number, IsPair}
 use Rattle.cut_graph.specs.Building.{AreSeamNodes, Gives, IsSeamNode, are_filled, both_filled}
 use Rattle.cut_graph.proofs.AtPairs.{more_seams}
 use Rattle.cut_graph.proofs.seam_nodes.give_along.Goals as goal

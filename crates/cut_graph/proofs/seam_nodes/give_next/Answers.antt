@@ -1,8 +1,8 @@
 use Rattle.std.proofs.Common.{◌≡◌, ◌+◌, sym, ap, subst, arith}
 use Rattle.std.proofs.lemmas.Result.{on_ok_weaker}
 use Rattle.cells.specs.declared.place.Axis.TheVariants.{F}
-use Rattle.box_walk.proofs.PairNumbers.{pairs_next}
-use Rattle.box_walk.specs.Pairs.{has_next, one_if, pair_number, pairs_before}
+use Rattle.boxes.proofs.PairNumbers.{pairs_next}
+use Rattle.boxes.specs.Pairs.{has_next, one_if, pair_number, pairs_before}
 use Rattle.cut_graph.specs.Building.{AreSeamNodes}
 use Rattle.cut_graph.proofs.seam_nodes.give_next.Goals as goal
 

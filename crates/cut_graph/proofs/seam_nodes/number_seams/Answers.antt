@@ -1,5 +1,5 @@
 use Rattle.std.proofs.Common.{arith}
-use Rattle.box_walk.proofs.PairNumbers.{pairs_few}
+use Rattle.boxes.proofs.PairNumbers.{pairs_few}
 use Rattle.cut_graph.proofs.seam_nodes.number_seams.Goals as goal
 
 pub give_next-requires-clause-room : goal.give_next-requires-clause-room

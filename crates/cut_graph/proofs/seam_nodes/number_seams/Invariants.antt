@@ -1,5 +1,5 @@
-use Rattle.box_walk.specs.Walks.{IsAtIndex}
-use Rattle.box_walk.specs.Pairs.{pairs_before}
+use Rattle.boxes.specs.Walks.{IsAtIndex}
+use Rattle.boxes.specs.Pairs.{pairs_before}
 use Rattle.cut_graph.specs.Building.{AreSeamNodes}
 use Rattle.cut_graph.proofs.seam_nodes.number_seams.Given as goal
 

@@ -1,5 +1,5 @@
 use Rattle.std.proofs.Common.{◌≤◌, ◌*◌, ℕ, rules, sym, ◌∙◌, Fits, w64}
-use Rattle.box_walk.specs.Pairs.{IsPair}
+use Rattle.boxes.specs.Pairs.{IsPair}
 use Rattle.graph_place.proofs.Recording.{number_below, number_small}
 use Rattle.graph_place.proofs.record.add_pair.Goals as goal
 use Rattle.graph_place.proofs.record.add_pair.Goals.{After-len}

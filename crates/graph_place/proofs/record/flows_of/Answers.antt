@@ -1,7 +1,7 @@
 use Rattle.std.proofs.Common.{◌++◌, ap, sym, ◌∙◌, arith, length}
 use Rattle.cells.proofs.BoxLaws.{box_small}
-use Rattle.box_walk.specs.Pairs.{pairs_before}
-use Rattle.box_walk.proofs.Indices.{at_index_is}
+use Rattle.boxes.specs.Pairs.{pairs_before}
+use Rattle.boxes.proofs.Indices.{at_index_is}
 use Rattle.graph_place.specs.Parts.{flows_before, flows_from}
 use Rattle.graph_place.proofs.Recording.{before_more, length-before}
 use Rattle.graph_place.proofs.record.flows_of.Goals as goal

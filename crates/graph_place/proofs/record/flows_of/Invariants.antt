@@ -1,5 +1,5 @@
 use Rattle.std.proofs.Common.{◌≡◌}
-use Rattle.box_walk.specs.Walks.{IsAtIndex}
+use Rattle.boxes.specs.Walks.{IsAtIndex}
 use Rattle.graph_place.specs.Parts.{flows_before}
 use Rattle.graph_place.proofs.record.flows_of.Given as goal
 

@@ -1,7 +1,7 @@
 use Rattle.std.proofs.Common.{◌≡◌, ◌≤◌, ◌*◌}
 use Rattle.cells.specs.Places.{plus, spot}
 use Rattle.map_canvas.specs.Maps.{map_at}
-use Rattle.box_sums.specs.Sums.{sum_to}
+use Rattle.boxes.specs.Sums.{sum_to}
 use Rattle.match_error.specs.Errors.{one_filled}
 use Rattle.match_error.proofs.counts.frame_count.Given as goal
 

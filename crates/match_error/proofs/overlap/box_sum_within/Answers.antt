@@ -1,6 +1,6 @@
 use Rattle.std.proofs.Common.{◌≡◌, ◌<◌, ap, arith, subst, sym}
 use Rattle.std.specs.Prelude.{IfNone}
-use Rattle.box_sums.specs.Sums.{sum_to}
+use Rattle.boxes.specs.Sums.{sum_to}
 use Rattle.map_canvas.proofs.Filling.{fits_small}
 use Rattle.match_error.specs.Errors.{error_sum, frame_error}
 use Rattle.match_error.proofs.Bounds.{error_small, passed}

@@ -1,5 +1,5 @@
 use Rattle.std.proofs.Common.{◌≡◌, ◌≤◌, ◌*◌}
-use Rattle.box_sums.specs.Sums.{sum_to}
+use Rattle.boxes.specs.Sums.{sum_to}
 use Rattle.match_error.specs.Errors.{frame_error, most_frame_error}
 use Rattle.match_error.proofs.overlap.box_sum_within.Given as goal
 

@@ -2,7 +2,7 @@ use Rattle.std.proofs.Common.{◌≡◌, ◌≤◌, ℕ, ◌+◌, ◌-◌, ◌*�
 use Rattle.std.proofs.Math.Nat.{mul-le-mul_left}
 use Rattle.std.proofs.lemmas.List.{length-take}
 use Rattle.lane_kernels.specs.Sums.{sum_of_squared_differences}
-use Rattle.box_sums.specs.Sums.{sum_to}
+use Rattle.boxes.specs.Sums.{sum_to}
 use Rattle.map_canvas.specs.CellErrors.{spot_error}
 use Rattle.match_error.proofs.Overlaps.{row_short}
 use Rattle.match_error.proofs.RowBytes.{part_is_error, piece_of_row}

@@ -1,5 +1,5 @@
 use Rattle.std.proofs.Common.{◌≡◌, ◌≤◌, ◌+◌, ◌*◌}
-use Rattle.box_sums.specs.Sums.{sum_to}
+use Rattle.boxes.specs.Sums.{sum_to}
 use Rattle.match_error.specs.Errors.{row_error, most_frame_error, most_row_error}
 use Rattle.match_error.proofs.overlap.with_frame.Given as goal
 

@@ -1,5 +1,5 @@
 use Rattle.std.proofs.Common.{◌≡◌, ◌≤◌, ◌+◌}
-use Rattle.box_sums.specs.Sums.{sum_to}
+use Rattle.boxes.specs.Sums.{sum_to}
 use Rattle.map_canvas.specs.Maps.{map_at}
 use Rattle.map_canvas.specs.CellErrors.{box_spot}
 use Rattle.match_error.specs.Errors.{one_filled}

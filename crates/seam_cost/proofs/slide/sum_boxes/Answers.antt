@@ -1,5 +1,5 @@
 use Rattle.std.proofs.Common.{◌≡◌, ℕ, List, ◌+◌, ◌*◌, ◌≤◌, ◌∙◌, get_or, arith}
-use Rattle.box_sums.specs.Sums.{sum_to}
+use Rattle.boxes.specs.Sums.{sum_to}
 use Rattle.seam_cost.proofs.Runs.{run_at_most}
 use Rattle.seam_cost.proofs.slide.sum_boxes.Goals as goal
 

@@ -2,7 +2,7 @@ use Rattle.std.proofs.Common.{◌≡◌, ◌∙◌, ◌+◌, sym, subst, arith, 
 use Rattle.cells.specs.Distances.{distance}
 use Rattle.cells.specs.Places.{raster_index}
 use Rattle.map_canvas.proofs.Filling.{fits_small}
-use Rattle.box_walk.proofs.Indices.{index_below}
+use Rattle.boxes.proofs.Indices.{index_below}
 use Rattle.seams.proofs.Choosing.{both_new, no_next}
 use Rattle.seams.proofs.after.costs_nothing.Goals as goal
 

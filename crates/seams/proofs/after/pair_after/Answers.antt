@@ -1,7 +1,7 @@
 use Rattle.std.proofs.Common.{◌∙◌, sym, arith}
 use Rattle.cells.specs.Distances.{distance}
 use Rattle.map_canvas.proofs.Filling.{fits_small}
-use Rattle.box_walk.proofs.Indices.{index_below}
+use Rattle.boxes.proofs.Indices.{index_below}
 use Rattle.seams.proofs.Choosing.{no_next}
 use Rattle.seams.proofs.after.pair_after.Goals as goal
 

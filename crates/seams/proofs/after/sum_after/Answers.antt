@@ -1,13 +1,13 @@
 use Rattle.std.proofs.Common.{◌≡◌, ◌∙◌, ℕ, ap, arith}
 use Rattle.cells.specs.Distances.{distance}
 use Rattle.cells.specs.Places.{cell_count}
-use Rattle.box_sums.specs.Sums.{sum_to}
-use Rattle.box_sums.proofs.Additions.{counts}
-use Rattle.box_sums.proofs.Axes.{sum_more}
-use Rattle.box_sums.proofs.Boxes.{box_counts}
+use Rattle.boxes.specs.Sums.{sum_to}
+use Rattle.boxes.proofs.Additions.{counts}
+use Rattle.boxes.proofs.Axes.{sum_more}
+use Rattle.boxes.proofs.Boxes.{box_counts}
 use Rattle.map_canvas.proofs.Filling.{fits_small}
-use Rattle.box_walk.specs.Pairs.{at_index, cell_in}
-use Rattle.box_walk.proofs.Indices.{at_index_is}
+use Rattle.boxes.specs.Pairs.{at_index, cell_in}
+use Rattle.boxes.proofs.Indices.{at_index_is}
 use Rattle.seams.specs.Choosing.{within_after}
 use Rattle.seams.specs.Costs.{pairs_at}
 use Rattle.seams.proofs.after.sum_after.Goals as goal

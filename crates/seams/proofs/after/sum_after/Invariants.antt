@@ -1,8 +1,8 @@
 use Rattle.std.proofs.Common.{◌≡◌, ◌≤◌, ◌*◌}
 use Rattle.cells.specs.Distances.{distance}
-use Rattle.box_sums.specs.Sums.{sum_to}
-use Rattle.box_walk.specs.Pairs.{at_index, cell_in}
-use Rattle.box_walk.specs.Walks.{IsAtIndex}
+use Rattle.boxes.specs.Sums.{sum_to}
+use Rattle.boxes.specs.Pairs.{at_index, cell_in}
+use Rattle.boxes.specs.Walks.{IsAtIndex}
 use Rattle.seams.specs.Choosing.{within_after}
 use Rattle.seams.specs.Costs.{most_of_cell, pairs_at}
 use Rattle.seams.proofs.after.sum_after.Given as goal

@@ -1,7 +1,7 @@
 use Rattle.std.proofs.Common.{◌≡◌, ℕ, ◌<◌, get_or, true, false}
 use Rattle.map_canvas.specs.Choices.{box_cell}
 use Rattle.map_canvas.specs.Maps.{IsFilled}
-use Rattle.box_walk.specs.Walks.{IsAtIndex}
+use Rattle.boxes.specs.Walks.{IsAtIndex}
 use Rattle.seams.proofs.marks.are_all_marks.Given as goal
 
 abbrev pub invariant-loop-i : goal.invariant-loop-i

@@ -1,6 +1,6 @@
 use Rattle.std.proofs.Common.{◌≡◌, ◌≤◌, ◌*◌}
 use Rattle.cells.specs.Distances.{distance}
-use Rattle.box_sums.specs.Sums.{sum_to}
+use Rattle.boxes.specs.Sums.{sum_to}
 use Rattle.seams.specs.Costs.{most_of_row, pairs_of_row}
 use Rattle.seams.proofs.sums.frame.Given as goal
 

@@ -2,7 +2,7 @@ use Rattle.std.proofs.Common.{◌∙◌, sym, subst, ap}
 use Rattle.cells.specs.declared.place.At.{At}
 use Rattle.cells.specs.Neighbours.{unit_step}
 use Rattle.cells.specs.Places.{SumFits, plus}
-use Rattle.box_walk.specs.Pairs.{cell_in}
+use Rattle.boxes.specs.Pairs.{cell_in}
 use Rattle.seams.specs.Costs.{IsAsked}
 use Rattle.seams.proofs.Near.{asked_step, cell_asked, next_asked}
 use Rattle.seams.proofs.sums.next_source.Goals as goal

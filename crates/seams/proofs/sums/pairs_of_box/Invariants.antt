@@ -1,6 +1,6 @@
 use Rattle.std.proofs.Common.{◌≡◌, ◌≤◌, ◌*◌}
 use Rattle.cells.specs.Distances.{distance}
-use Rattle.box_sums.specs.Sums.{sum_to}
+use Rattle.boxes.specs.Sums.{sum_to}
 use Rattle.seams.specs.Costs.{most_of_frame, pairs_of_frame}
 use Rattle.seams.proofs.sums.pairs_of_box.Given as goal
 

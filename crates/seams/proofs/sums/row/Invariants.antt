@@ -1,9 +1,9 @@
 use Rattle.std.proofs.Common.{◌≡◌, ◌≤◌, ◌*◌}
 use Rattle.std.specs.Prelude.{IfSome}
 use Rattle.cells.specs.Distances.{distance}
-use Rattle.box_sums.specs.Sums.{sum_to}
+use Rattle.boxes.specs.Sums.{sum_to}
 use Rattle.map_canvas.specs.Maps.{IsSource}
-use Rattle.box_walk.specs.Pairs.{cell_in}
+use Rattle.boxes.specs.Pairs.{cell_in}
 use Rattle.seams.specs.Costs.{most_of_cell, pairs_at}
 use Rattle.seams.proofs.sums.row.Given as goal
 

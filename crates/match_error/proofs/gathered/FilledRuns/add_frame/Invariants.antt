@@ -1,4 +1,4 @@
-use Rattle.box_sums.specs.Sums.{sum_to}
+use Rattle.boxes.specs.Sums.{sum_to}
 use Rattle.match_error.specs.Errors.{row_error}
 use Rattle.match_error.specs.Runs.{AddsError, AreRunsIn, laid_from}
 use Rattle.match_error.proofs.gathered.FilledRuns.add_frame.Given as goal

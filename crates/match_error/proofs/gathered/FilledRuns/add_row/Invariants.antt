@@ -1,5 +1,5 @@
 use Rattle.std.proofs.Common.{◌≤◌, ◌-◌}
-use Rattle.box_sums.specs.Sums.{sum_to}
+use Rattle.boxes.specs.Sums.{sum_to}
 use Rattle.map_canvas.specs.CellErrors.{spot_error}
 use Rattle.match_error.specs.Runs.{AddsError, AreRunsIn, laid_from}
 use Rattle.match_error.proofs.gathered.FilledRuns.add_row.Given as goal

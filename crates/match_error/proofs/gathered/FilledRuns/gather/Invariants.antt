@@ -1,7 +1,7 @@
 use Rattle.std.proofs.Common.{◌≡◌}
 use Rattle.cells.specs.declared.place.At.{At}
 use Rattle.cells.specs.Cells.{Cells}
-use Rattle.box_sums.specs.Sums.{sum_to}
+use Rattle.boxes.specs.Sums.{sum_to}
 use Rattle.match_error.specs.Errors.{frame_error}
 use Rattle.match_error.specs.Runs.{AreRunsIn, IsLaidOver, laid_from, runs_error}
 use Rattle.match_error.proofs.gathered.FilledRuns.gather.Given as goal

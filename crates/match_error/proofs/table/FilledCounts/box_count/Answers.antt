@@ -1,8 +1,8 @@
 use Rattle.std.proofs.Common.{◌≡◌, ◌≤◌, ◌+◌, ◌*◌, ℕ, ap, sym, ◌∙◌, arith}
 use Rattle.std.proofs.Math.Nat.{mul-le-mul, mul-le-mul_left}
-use Rattle.box_sums.specs.Sums.{sum_to}
-use Rattle.box_sums.proofs.Additions.{counts}
-use Rattle.box_sums.proofs.Axes.{sum_more}
+use Rattle.boxes.specs.Sums.{sum_to}
+use Rattle.boxes.proofs.Additions.{counts}
+use Rattle.boxes.proofs.Axes.{sum_more}
 use Rattle.match_error.specs.Tables.{one_in_row}
 use Rattle.match_error.proofs.Filled.{box_cells}
 use Rattle.match_error.proofs.Tables.{few_rows, rows_in}

@@ -4,7 +4,7 @@ use Rattle.cells.specs.Distances.{distance}
 use Rattle.cells.specs.Places.{raster_index, spot}
 use Rattle.map_canvas.specs.Maps.{map_at}
 use Rattle.seam_cost.specs.Windows.{window_at}
-use Rattle.box_walk.specs.Pairs.{AreCounts}
+use Rattle.boxes.specs.Pairs.{AreCounts}
 use Rattle.seam_cost.specs.Slides.{HoldsBlock}
 use Rattle.seam_cost.specs.Tables.{IsRight, corners}
 use Rattle.seam_cost.proofs.Changes.{right_of}

@@ -1,4 +1,0 @@
-pub mod Additions
-pub mod Axes
-pub mod Boxes
-pub mod Bounds

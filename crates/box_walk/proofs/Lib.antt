@@ -1,4 +1,0 @@
-pub mod Cells
-pub mod Indices
-pub mod PairNumbers
-pub mod ClosedForm

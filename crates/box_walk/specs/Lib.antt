@@ -1,3 +1,0 @@
-pub mod Raster
-pub mod Pairs
-pub mod Walks

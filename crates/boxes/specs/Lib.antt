@@ -1,0 +1,4 @@
+pub mod Sums
+pub mod Raster
+pub mod Pairs
+pub mod Walks

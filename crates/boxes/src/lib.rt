@@ -1,0 +1,23 @@
+//! The cells and the pairs of a box: the walk over them, by counts from its corner, and sums over them.
+//!
+//! `Counts` is a cell of a box. A walk begins at `Counts::first` and takes `next` for each index in raster
+//! order, with no division; `next_along` is the neighbour along an axis, and `stride` how many cells on it
+//! comes. `Walk` counts the pairs of the cells as it goes, so that it has the number of each pair that it
+//! comes to; `Counts::pair_number` is the number of any pair in closed form, so that a walk may look back with
+//! no list of them. specs/Raster.antt has raster order, specs/Pairs.antt cells, pairs and their numbers.
+//!
+//! specs/Sums.antt has the sums that contracts cite, of numbers (`sum_to`, `sum_box`) and of signed
+//! numbers (`signed_sum_to`, `signed_sum_box`). Most of their laws hold of any addition whose
+//! terms may be put together in any order, and are proved once for all of them (proofs/Additions.antt): a
+//! law cited with `counts` speaks of numbers, with `integers` of signed numbers. proofs/Axes.antt has the
+//! laws along one axis, each by induction on its length, proofs/Boxes.antt the same over the three axes of
+//! a box, and proofs/Bounds.antt what order and signs add.
+#![tactic(auto)]
+
+mod counts;
+mod numbers;
+mod walk;
+
+pub use counts::{Counts, clipped, has_cells, stride};
+pub use numbers::pair_count;
+pub use walk::Walk;

@@ -18,8 +18,8 @@ use Rattle.boxes.specs.declared.counts.Counts.{Counts}
 use Rattle.boxes.specs.Pairs.{AreCounts, at_index, cell_in}
 use Rattle.boxes.specs.Raster.{largest}
 use Rattle.boxes.proofs.Indices.{counts_below}
-use Rattle.seams.specs.Lawful.{StaysOld}
-use Rattle.seams.proofs.Near.{in_largest}
+use Rattle.costs.specs.Lawful.{StaysOld}
+use Rattle.costs.proofs.Near.{in_largest}
 use Rattle.cut_check.specs.declared.record.CutRecord.{CutRecord}
 use Rattle.cut_check.specs.Flows.{leaving}
 use Rattle.cut_check.specs.Records.{IsBalanced, setting}

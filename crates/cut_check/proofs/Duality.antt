@@ -19,8 +19,8 @@ use Rattle.boxes.specs.Sums.{signed_sum_box}
 use Rattle.boxes.proofs.Additions.{integers}
 use Rattle.boxes.proofs.Boxes.{box_equal}
 use Rattle.boxes.proofs.Bounds.{signed_box_at_most, signed_box_pos}
-use Rattle.seams.specs.Costs.{map_within, pair_at, pairs_at, seam_of}
-use Rattle.seams.specs.Lawful.{AreHeld, IsFree, IsLawful, LeavesHeld, StaysOld, is_new, window_after}
+use Rattle.costs.specs.Costs.{map_within, pair_at, pairs_at, seam_of}
+use Rattle.costs.specs.Lawful.{AreHeld, IsFree, IsLawful, LeavesHeld, StaysOld, is_new, window_after}
 use Rattle.boxes.specs.Pairs.{AreCounts, cell_in, has_next, pair_count}
 use Rattle.cut_check.specs.declared.record.Flow.{Flow}
 use Rattle.cut_check.specs.declared.record.CutRecord.{CutRecord}

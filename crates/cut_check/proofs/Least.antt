@@ -10,9 +10,9 @@ use Rattle.cells.specs.Distances.{distance}
 use Rattle.map_canvas.specs.declared.canvas.Placement.{Placement}
 use Rattle.map_canvas.specs.Maps.{SourceMap, map_at}
 use Rattle.map_canvas.specs.Choices.{box_index, chosen}
-use Rattle.seams.specs.Lawful.{AreHeld, AreMarks, IsLawful, IsLeastChoice, IsLeastHeld, LeavesHeld, StaysOld, is_held, held_marks, total_after}
-use Rattle.seams.proofs.Existence.{index_of_cell, new_inside}
-use Rattle.seams.proofs.Locality.{changes_as_window}
+use Rattle.costs.specs.Lawful.{AreHeld, AreMarks, IsLawful, IsLeastChoice, IsLeastHeld, LeavesHeld, StaysOld, is_held, held_marks, total_after}
+use Rattle.costs.proofs.Existence.{index_of_cell, new_inside}
+use Rattle.costs.proofs.Locality.{changes_as_window}
 use Rattle.cut_check.specs.declared.record.CutRecord.{CutRecord}
 use Rattle.cut_check.specs.Records.{IsLawfulCut, Setting, CutStands}
 use Rattle.cut_check.proofs.Duality.{weak_duality}

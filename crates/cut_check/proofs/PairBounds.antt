@@ -12,7 +12,7 @@ use Rattle.cells.specs.Places.{minus, plus}
 use Rattle.cells.proofs.DistanceLaws.{distance_symmetric}
 use Rattle.map_canvas.specs.declared.canvas.Placement.{Placement}
 use Rattle.map_canvas.specs.Choices.{new_source}
-use Rattle.seams.specs.Costs.{seam}
+use Rattle.costs.specs.Costs.{seam}
 use Rattle.cut_check.specs.declared.record.Flow.{Flow}
 use Rattle.cut_check.specs.Flows.{IsBetween, IsBetweenOld, IsBounded, LeavesNone, minus_of}
 

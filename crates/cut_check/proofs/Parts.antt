@@ -14,7 +14,7 @@ use Rattle.map_canvas.specs.declared.canvas.Placement.{Placement}
 use Rattle.map_canvas.specs.Canvases.{IsFilledOutside, IsKept, MeetsAlong, MeetsOutside}
 use Rattle.map_canvas.specs.Maps.{SourceMap, IsFilled}
 use Rattle.map_canvas.proofs.Keeping.{meets_of, meets_third}
-use Rattle.seams.specs.Lawful.{StaysOld, is_held}
+use Rattle.costs.specs.Lawful.{StaysOld, is_held}
 use Rattle.boxes.specs.Pairs.{cell_in}
 use Rattle.cut_check.specs.declared.record.CutRecord.{CutRecord}
 use Rattle.cut_check.specs.Flows.{leaving}

@@ -11,7 +11,7 @@ use Rattle.cells.specs.Neighbours.{unit_step}
 use Rattle.map_canvas.specs.declared.canvas.Placement.{Placement}
 use Rattle.map_canvas.specs.Maps.{SourceMap, map_at}
 use Rattle.map_canvas.specs.Choices.{new_source}
-use Rattle.seams.specs.Costs.{seam}
+use Rattle.costs.specs.Costs.{seam}
 use Rattle.boxes.specs.Pairs.{cell_in, has_next, pair_number}
 use Rattle.cut_check.specs.declared.record.Flow.{Flow}
 

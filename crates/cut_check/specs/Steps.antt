@@ -16,7 +16,7 @@ use Rattle.map_canvas.specs.Choices.{new_source}
 use Rattle.boxes.specs.declared.counts.Counts.{Counts}
 use Rattle.boxes.specs.Pairs.{AreCounts, cell_in, has_next}
 use Rattle.boxes.specs.Walks.{IsAtIndex}
-use Rattle.seams.specs.Lawful.{StaysOld}
+use Rattle.costs.specs.Lawful.{StaysOld}
 use Rattle.cut_check.specs.declared.bounds.Laid.{Laid}
 use Rattle.cut_check.specs.declared.record.CutRecord.{CutRecord}
 use Rattle.cut_check.specs.declared.record.Flow.{Flow}

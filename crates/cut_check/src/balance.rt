@@ -6,7 +6,7 @@ ghost use Rattle.boxes.specs.Sums.{signed_sum_box};
 ghost use Rattle.map_canvas.specs.Choices.{box_cell};
 ghost use Rattle.boxes.specs.Pairs.{at_index};
 ghost use Rattle.boxes.specs.Walks.{IsWalkAt};
-ghost use Rattle.seams.specs.Lawful.{StaysOld};
+ghost use Rattle.costs.specs.Lawful.{StaysOld};
 ghost use Rattle.cut_check.specs.Flows.{IsBetween, leaving, minus_of};
 ghost use Rattle.cut_check.specs.Records.{BalancesAll, IsBalanced, IsFirstUnbalanced, IsPartWhere, setting};
 ghost use Rattle.cut_check.specs.Steps.{ArePartsOfValue, LiesIn, most_leaving, most_value};

@@ -8,7 +8,7 @@ ghost use Rattle.map_canvas.specs.Choices.{new_source};
 ghost use Rattle.map_canvas.specs.Maps.{IsSource};
 ghost use Rattle.boxes.specs.Pairs.{AreCounts, IsPair, cell_in, pair_number};
 ghost use Rattle.boxes.specs.Walks.{IsWalkIn, most_pairs};
-ghost use Rattle.seams.specs.Costs.{most_of_pair, seam};
+ghost use Rattle.costs.specs.Costs.{most_of_pair, seam};
 ghost use Rattle.cut_check.specs.Flows.{IsBetween, IsBetweenOld, IsBounded, IsBoundedOn, LeavesFirst, LeavesNone, LeavesSecond, minus_of};
 ghost use Rattle.cut_check.specs.Records.{BoundsAll, IsFirstUnbounded, setting};
 ghost use Rattle.cut_check.specs.Steps.{EachAxis, HoldsAlong, IsFirstAxis, IsLaid, IsStill, LiesOver};
@@ -18,7 +18,7 @@ use crate::record::{CutRecord, Flow};
 use boxes::{Counts, Walk};
 use cells::{At, Axis, Volume, cell_distance};
 use map_canvas::{Map, Placement};
-use seams::seam_of;
+use costs::seam_of;
 
 // A number between minus a cost and the cost.
 fn is_within(cost: u32, z: i16) -> bool
@@ -76,7 +76,7 @@ fn is_within_seam(sample: &Volume, axis: Axis, a: At, b: At, z: i16) -> bool
 
 // All that leaves the first cell comes to the second, and the source of the second is the next one after that of
 // the first.
-#[tactic(auto, using(seams::proofs::Near::step_fits))]
+#[tactic(auto, using(costs::proofs::Near::step_fits))]
 fn passes_on(axis: Axis, a: At, b: At, flow: Flow) -> bool
     requires { IsSource a }
     ensures { IsTrue result ↔ (flow.x ≡ flow.y) × (plus a (unit_step axis) ≡ b) }

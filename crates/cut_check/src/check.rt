@@ -5,7 +5,7 @@ ghost use Rattle.cells.specs.Distances.{distance};
 ghost use Rattle.cells.specs.Places.{cell_count};
 ghost use Rattle.map_canvas.specs.Canvases.{StandsOver};
 ghost use Rattle.map_canvas.specs.Choices.{Fits};
-ghost use Rattle.seams.specs.Lawful.{AreMarks, IsLeastChoice, IsLeastHeld, held_marks};
+ghost use Rattle.costs.specs.Lawful.{AreMarks, IsLeastChoice, IsLeastHeld, held_marks};
 ghost use Rattle.boxes.specs.Pairs.{pair_count};
 ghost use Rattle.cut_check.specs.Records.{CutStands, IsFirstCutFault, IsLawfulCut, setting};
 ghost use Rattle.cut_check.specs.Steps.{LiesOver};
@@ -18,7 +18,7 @@ use crate::record::{
 use crate::rules::{first_new, first_unfilled};
 use cells::{Box3, Volume};
 use map_canvas::{Canvas, Placement};
-use seams::window_after;
+use costs::window_after;
 
 // Rule 1, for a box that has a cell.
 pub(crate) fn fits(canvas: &Canvas, sample: &Volume, placement: &Placement) -> bool

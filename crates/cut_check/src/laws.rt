@@ -3,7 +3,7 @@ ghost use Rattle.std.specs.Prelude.{[]};
 ghost use Rattle.cells.specs.Cells.{Cells};
 ghost use Rattle.cells.specs.Distances.{distance};
 ghost use Rattle.map_canvas.specs.Maps.{SourceMap};
-ghost use Rattle.seams.specs.Lawful.{AreHeld, IsLeastChoice, IsLeastHeld};
+ghost use Rattle.costs.specs.Lawful.{AreHeld, IsLeastChoice, IsLeastHeld};
 ghost use Rattle.cut_check.specs.declared.record.CutFault.{CutFault};
 ghost use Rattle.cut_check.specs.Records.{CutStands, IsFirstCutFault, Setting, setting};
 

@@ -4,7 +4,7 @@ ghost use Rattle.cells.specs.Cells.{Cells};
 ghost use Rattle.cells.specs.Places.{cell_count};
 ghost use Rattle.map_canvas.specs.Choices.{box_cell};
 ghost use Rattle.map_canvas.specs.Maps.{map_at};
-ghost use Rattle.seams.specs.Lawful.{StaysOld};
+ghost use Rattle.costs.specs.Lawful.{StaysOld};
 ghost use Rattle.cut_check.specs.Records.{FillsAll, IsFirstNotOld, IsFirstUnfilled, LeavesAllOld, setting};
 ghost use Rattle.cut_check.specs.Steps.{IsAt, LiesIn};
 
@@ -22,7 +22,7 @@ pub fn is_marked(marks: &[bool], i: usize) -> bool
 }
 
 /// The cell of a placement's box at an index in raster order.
-#[tactic(auto, using(crate::proofs::Cells::counts_in, crate::proofs::Cells::holds_largest, seams::proofs::MarkLaws::cell_at))]
+#[tactic(auto, using(crate::proofs::Cells::counts_in, crate::proofs::Cells::holds_largest, costs::proofs::MarkLaws::cell_at))]
 pub fn box_cell(map: &Map, placement: &Placement, i: usize, at: Counts) -> At
     requires lies { LiesIn map.now placement.now }
     requires here { IsAt placement.now.rect.size i at }

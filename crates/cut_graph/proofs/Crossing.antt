@@ -10,7 +10,7 @@ use Rattle.cells.specs.Places.{minus, plus}
 use Rattle.cells.specs.Neighbours.{unit_step}
 use Rattle.cells.specs.Distances.{IsPseudometric}
 use Rattle.max_flow.specs.Flows.{capacity_out, crossing}
-use Rattle.seams.specs.Costs.{seam, seam_of}
+use Rattle.costs.specs.Costs.{seam, seam_of}
 use Rattle.cut_graph.specs.Pipes.{pair_pipes, pipe}
 
 back_again : (p e : At) → minus (plus p e) e ≡ p

@@ -21,12 +21,12 @@ use Rattle.boxes.proofs.Additions.{counts}
 use Rattle.boxes.proofs.Boxes.{box_related}
 use Rattle.max_flow.specs.Networks.{FlowNetwork}
 use Rattle.max_flow.specs.Flows.{IsCut, capacity_out, cut_capacity, is_in}
-use Rattle.seams.specs.Costs.{pair_at, seam_of}
-use Rattle.seams.specs.Lawful.{StaysOld, is_new, window_after}
+use Rattle.costs.specs.Costs.{pair_at, seam_of}
+use Rattle.costs.specs.Lawful.{StaysOld, is_new, window_after}
 use Rattle.boxes.specs.Pairs.{AreCounts, cell_in, has_next, IsPair}
-use Rattle.seams.proofs.Existence.{new_inside}
+use Rattle.costs.proofs.Existence.{new_inside}
 use Rattle.boxes.proofs.Cells.{next_is, cell_inside, cell_of}
-use Rattle.seams.proofs.Windows.{pair_within, window_pairs}
+use Rattle.costs.proofs.Windows.{pair_within, window_pairs}
 use Rattle.cut_graph.specs.declared.places.Places.{Places}
 use Rattle.cut_graph.specs.Nodes.{HasSeam, IsFreeAt, IsInner, StandsForCell, StandsForSeam, cell_node, seam_node}
 use Rattle.cut_graph.specs.Pipes.{next_node, pipes_along, pipes_between}

@@ -10,7 +10,7 @@ use Rattle.cells.proofs.BoxLaws.{plus_minus}
 use Rattle.cells.proofs.Raster.{index_of_spot}
 use Rattle.map_canvas.specs.declared.canvas.Placement.{Placement}
 use Rattle.map_canvas.specs.Maps.{SourceMap}
-use Rattle.seams.specs.Lawful.{is_held}
+use Rattle.costs.specs.Lawful.{is_held}
 use Rattle.boxes.proofs.Indices.{at_counts}
 use Rattle.boxes.specs.Pairs.{AreCounts, at_index, cell_in}
 use Rattle.cut_graph.specs.declared.cell_nodes.Standing.{Standing}

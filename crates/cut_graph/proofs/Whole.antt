@@ -12,7 +12,7 @@ use Rattle.cells.specs.Neighbours.{unit_step}
 use Rattle.cells.specs.Places.{cell_count, plus, raster_index}
 use Rattle.map_canvas.specs.declared.canvas.Placement.{Placement}
 use Rattle.map_canvas.specs.Maps.{SourceMap, IsFilled, map_at}
-use Rattle.seams.specs.Lawful.{AreHeld, AreMarks, IsFree, StaysOld, held_marks}
+use Rattle.costs.specs.Lawful.{AreHeld, AreMarks, IsFree, StaysOld, held_marks}
 use Rattle.boxes.proofs.PairNumbers.{HasPair, find_pair, number_apart, number_below}
 use Rattle.boxes.proofs.Indices.{at_counts, counts_at, index_below, same_counts}
 use Rattle.boxes.specs.Raster.{stride}

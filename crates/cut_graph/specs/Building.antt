@@ -7,7 +7,7 @@ use Rattle.cells.specs.declared.place.Size.{Size}
 use Rattle.cells.specs.declared.place.Axis.{Axis}
 use Rattle.map_canvas.specs.declared.canvas.Placement.{Placement}
 use Rattle.map_canvas.specs.Maps.{SourceMap, IsFilled, map_at}
-use Rattle.seams.specs.Lawful.{IsFree, StaysOld}
+use Rattle.costs.specs.Lawful.{IsFree, StaysOld}
 use Rattle.boxes.specs.Raster.{stride}
 use Rattle.boxes.specs.Pairs.{at_index, cell_in}
 use Rattle.cut_graph.specs.declared.cell_nodes.Standing.{Standing}

@@ -4,7 +4,7 @@ use Rattle.std.specs.Prelude.{◌≡◌, ◌≤◌, ℕ, Bool, not, List}
 use Rattle.cells.specs.declared.place.At.{At}
 use Rattle.map_canvas.specs.declared.canvas.Placement.{Placement}
 use Rattle.map_canvas.specs.Maps.{SourceMap}
-use Rattle.seams.specs.Lawful.{IsLawful, LeavesHeld, is_new, window_after}
+use Rattle.costs.specs.Lawful.{IsLawful, LeavesHeld, is_new, window_after}
 use Rattle.boxes.specs.Pairs.{AreCounts, cell_in}
 use Rattle.max_flow.specs.Networks.{FlowNetwork}
 use Rattle.max_flow.specs.Flows.{IsCut, cut_capacity, is_in}

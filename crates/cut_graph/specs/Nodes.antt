@@ -10,7 +10,7 @@ use Rattle.cells.specs.Places.{cell_count, plus}
 use Rattle.cells.specs.Neighbours.{unit_step}
 use Rattle.map_canvas.specs.declared.canvas.Placement.{Placement}
 use Rattle.map_canvas.specs.Maps.{SourceMap, IsFilled, map_at}
-use Rattle.seams.specs.Lawful.{IsFree, StaysOld}
+use Rattle.costs.specs.Lawful.{IsFree, StaysOld}
 use Rattle.boxes.specs.Pairs.{AreCounts, IsPair, cell_in, pair_count, pair_number}
 use Rattle.cut_graph.specs.declared.places.Places.{Places}
 

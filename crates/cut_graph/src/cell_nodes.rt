@@ -2,7 +2,7 @@
 ghost use Rattle.std.specs.Prelude.{◌≡◌, ◌<◌, ◌+◌, Bool, List, IfOk, IfSome, OnOk, option_copied, length, false, slice_index_or};
 ghost use Rattle.cells.specs.Boxes.{HoldsBox, IsInBox};
 ghost use Rattle.cells.specs.Places.{IsSmall, cell_count, raster_index};
-ghost use Rattle.seams.specs.Lawful.{held_marks, is_held};
+ghost use Rattle.costs.specs.Lawful.{held_marks, is_held};
 ghost use Rattle.boxes.specs.Pairs.{AreCounts};
 ghost use Rattle.cut_graph.specs.Building.{AreCellNodes, Gives, IsNodeOf, IsStanding};
 ghost use Rattle.cut_graph.specs.Numberings.{IsNumbering};

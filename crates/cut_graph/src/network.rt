@@ -3,7 +3,7 @@ ghost use Rattle.std.specs.Prelude.{◌≡◌, IfOk, IfSome, length, option_copi
 ghost use Rattle.cells.specs.Distances.{distance};
 ghost use Rattle.map_canvas.specs.Canvases.{StandsOver};
 ghost use Rattle.map_canvas.specs.Choices.{Fits};
-ghost use Rattle.seams.specs.Lawful.{AreMarks, held_marks};
+ghost use Rattle.costs.specs.Lawful.{AreMarks, held_marks};
 ghost use Rattle.boxes.specs.Pairs.{pair_count};
 ghost use Rattle.cells.specs.Places.{cell_count};
 ghost use Rattle.cut_graph.specs.Building.{AreSeamNodes, HasAllPipes};

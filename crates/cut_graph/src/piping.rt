@@ -7,7 +7,7 @@ ghost use Rattle.max_flow.specs.declared.network.Pipe.{Pipe};
 ghost use Rattle.map_canvas.specs.Maps.{IsSource};
 ghost use Rattle.boxes.specs.Pairs.{AreCounts, cell_in, pair_count, pairs_before, IsPair};
 ghost use Rattle.boxes.specs.Walks.{most_pairs};
-ghost use Rattle.seams.specs.Costs.{most_of_pair};
+ghost use Rattle.costs.specs.Costs.{most_of_pair};
 ghost use Rattle.cut_graph.specs.Pipes.{first_or_none, pair_pipes};
 ghost use Rattle.cut_graph.specs.Plans.{HasNodes, HasSources, IsCellAt, IsPiped, IsPipedPast, IsPipedTo, IsPlan, before, with_pipes};
 
@@ -16,7 +16,7 @@ use crate::plan::{PairCell, Plan};
 use boxes::{Counts, stride};
 use cells::{At, Axis, Volume};
 use max_flow::{Network, Pipe};
-use seams::seam_of;
+use costs::seam_of;
 use std::alloc::{AllocError, Global};
 
 // The network with the pipes so far, how many they are, and the first pipe of each pair so far.

@@ -14,7 +14,7 @@ use Rattle.map_canvas.specs.Choices.{new_source}
 use Rattle.boxes.specs.Sums.{signed_sum_box}
 use Rattle.boxes.proofs.Additions.{integers}
 use Rattle.boxes.proofs.Boxes.{box_equal, box_single}
-use Rattle.seams.specs.Lawful.{StaysOld}
+use Rattle.costs.specs.Lawful.{StaysOld}
 use Rattle.boxes.specs.Pairs.{AreCounts, cell_in, has_next, pair_number, IsPair}
 use Rattle.max_flow.specs.declared.network.Pipe.{Pipe}
 use Rattle.max_flow.specs.Networks.{FlowNetwork, no_pipe, pipe_at}

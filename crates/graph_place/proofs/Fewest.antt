@@ -6,7 +6,7 @@ use Rattle.cells.specs.declared.place.At.{At}
 use Rattle.map_canvas.specs.declared.canvas.Placement.{Placement}
 use Rattle.map_canvas.specs.Maps.{SourceMap}
 use Rattle.boxes.proofs.Bounds.{box_at_most, box_terms_equal}
-use Rattle.seams.specs.Lawful.{ChangesAsWindow, IsLeastHeld, is_new, window_after}
+use Rattle.costs.specs.Lawful.{ChangesAsWindow, IsLeastHeld, is_new, window_after}
 use Rattle.boxes.specs.Pairs.{AreCounts, cell_in, one_if}
 use Rattle.boxes.proofs.Cells.{cell_of}
 use Rattle.max_flow.specs.Networks.{FlowNetwork}

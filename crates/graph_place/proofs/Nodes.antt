@@ -17,7 +17,7 @@ use Rattle.map_canvas.specs.declared.canvas.Placement.{Placement}
 use Rattle.map_canvas.specs.Maps.{SourceMap, map_at}
 use Rattle.map_canvas.specs.Choices.{box_cell, box_index, chosen}
 use Rattle.map_canvas.proofs.ChoiceLaws.{box_index_of}
-use Rattle.seams.specs.Lawful.{StaysOld, is_new}
+use Rattle.costs.specs.Lawful.{StaysOld, is_new}
 use Rattle.boxes.specs.Pairs.{AreCounts, cell_in, IsPair}
 use Rattle.boxes.proofs.Cells.{next_suc_f, next_suc_x, next_suc_y, cell_inside}
 use Rattle.cut_graph.specs.declared.places.Places.{Places}

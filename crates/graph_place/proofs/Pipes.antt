@@ -8,7 +8,7 @@ use Rattle.cells.specs.declared.place.Axis.{Axis}
 use Rattle.max_flow.specs.declared.network.Pipe.{Pipe}
 use Rattle.max_flow.specs.Networks.{pipe_at}
 use Rattle.max_flow.specs.Flows.{FitsPipe, pipe_flow, net_leaving, part_if}
-use Rattle.seams.specs.Costs.{seam}
+use Rattle.costs.specs.Costs.{seam}
 use Rattle.cut_graph.specs.Pipes.{first_or_none, pair_pipes, pipe}
 use Rattle.cut_check.specs.Flows.{IsBounded}
 use Rattle.graph_place.specs.Records.{flow_of, pipe_count}

@@ -5,7 +5,7 @@ use Rattle.cells.specs.Distances.{distance}
 use Rattle.map_canvas.specs.declared.canvas.Placement.{Placement}
 use Rattle.map_canvas.specs.Canvases.{CanvasState, StandsOver}
 use Rattle.map_canvas.specs.Choices.{Fits, IsAfter, map_after}
-use Rattle.seams.proofs.Locality.{changes_as_window}
+use Rattle.costs.proofs.Locality.{changes_as_window}
 use Rattle.max_flow.specs.declared.solver.Solved.{Solved}
 use Rattle.max_flow.specs.Networks.{FlowNetwork}
 use Rattle.max_flow.specs.Solutions.{IsSolution}

@@ -13,7 +13,7 @@ use Rattle.cells.specs.Places.{cell_count, minus, plus}
 use Rattle.cells.proofs.DistanceLaws.{distance_bound}
 use Rattle.map_canvas.specs.declared.canvas.Placement.{Placement}
 use Rattle.map_canvas.specs.Maps.{SourceMap, map_at}
-use Rattle.seams.specs.Costs.{seam}
+use Rattle.costs.specs.Costs.{seam}
 use Rattle.boxes.specs.Pairs.{cell_in, has_next, IsPair}
 use Rattle.max_flow.specs.declared.network.Pipe.{Pipe}
 use Rattle.max_flow.specs.declared.solver.Solved.{Solved}

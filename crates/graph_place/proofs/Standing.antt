@@ -11,7 +11,7 @@ use Rattle.map_canvas.specs.declared.canvas.Placement.{Placement}
 use Rattle.map_canvas.specs.Maps.{SourceMap}
 use Rattle.map_canvas.specs.Choices.{Fits, box_cell}
 use Rattle.map_canvas.proofs.ChoiceLaws.{box_index_of}
-use Rattle.seams.specs.Lawful.{is_new, window_after}
+use Rattle.costs.specs.Lawful.{is_new, window_after}
 use Rattle.boxes.proofs.Indices.{index_below}
 use Rattle.max_flow.specs.declared.solver.Solved.{Solved}
 use Rattle.max_flow.specs.Networks.{FlowNetwork}

@@ -12,9 +12,9 @@ use Rattle.boxes.specs.Sums.{sum_box}
 use Rattle.map_canvas.specs.declared.canvas.Placement.{Placement}
 use Rattle.map_canvas.specs.Choices.{IsAfter, after_at, box_index, chosen, new_source}
 use Rattle.map_canvas.specs.Maps.{SourceMap, map_at}
-use Rattle.seams.specs.Costs.{pairs_at, total_of}
-use Rattle.seams.specs.Lawful.{IsLeastChoice, IsLeastHeld, held_marks, is_new}
-use Rattle.seams.proofs.Existence.{old_lawful}
+use Rattle.costs.specs.Costs.{pairs_at, total_of}
+use Rattle.costs.specs.Lawful.{IsLeastChoice, IsLeastHeld, held_marks, is_new}
+use Rattle.costs.proofs.Existence.{old_lawful}
 use Rattle.graph_place.specs.Fewest.{IsLeastWith}
 use Rattle.graph_place.specs.Placed.{KeepsTotal, map_total}
 

@@ -8,7 +8,7 @@ use Rattle.cells.specs.Places.{cell_count}
 use Rattle.map_canvas.specs.declared.canvas.Placement.{Placement}
 use Rattle.map_canvas.specs.Maps.{SourceMap}
 use Rattle.boxes.specs.Sums.{sum_box}
-use Rattle.seams.specs.Lawful.{IsLeastChoice, IsLeastHeld, is_new}
+use Rattle.costs.specs.Lawful.{IsLeastChoice, IsLeastHeld, is_new}
 use Rattle.boxes.specs.Pairs.{cell_in, one_if}
 
 -- how many cells of the box a choice leaves old

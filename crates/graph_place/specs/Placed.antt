@@ -7,7 +7,7 @@ use Rattle.map_canvas.specs.declared.canvas.Placement.{Placement}
 use Rattle.map_canvas.specs.Canvases.{CanvasState, StandsOver}
 use Rattle.map_canvas.specs.Choices.{IsAfter, map_after}
 use Rattle.map_canvas.specs.Maps.{IsFull, SourceMap, map_at}
-use Rattle.seams.specs.Costs.{total_of}
+use Rattle.costs.specs.Costs.{total_of}
 use Rattle.boxes.specs.Pairs.{pair_count}
 use Rattle.cut_check.specs.declared.record.CutRecord.{CutRecord}
 use Rattle.cut_check.specs.Records.{CutStands}

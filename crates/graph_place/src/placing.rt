@@ -3,7 +3,7 @@ ghost use Rattle.std.specs.Prelude.{◌≡◌, IfSome, OnErr, OnOk, IfOk, option
 ghost use Rattle.cells.specs.Distances.{distance};
 ghost use Rattle.map_canvas.specs.Canvases.{IsCanvas, StandsOver};
 ghost use Rattle.map_canvas.specs.Choices.{Fits};
-ghost use Rattle.seams.specs.Lawful.{AreMarks, IsLeastChoice, held_marks};
+ghost use Rattle.costs.specs.Lawful.{AreMarks, IsLeastChoice, held_marks};
 ghost use Rattle.graph_place.specs.Fewest.{IsLeastWith};
 ghost use Rattle.graph_place.specs.Placed.{IsPlaced, KeepsTotal};
 

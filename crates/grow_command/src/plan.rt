@@ -12,7 +12,7 @@ use growing::{GrowPlan, Grown, grow_canvas};
 use job_words::GrowJob;
 use run_files::records_fit;
 use samples::{Form, Samples, read_samples};
-use seams::total;
+use costs::total;
 use shelf_core::{Shelf, What};
 use std::alloc::Global;
 use synth_report::Fault;

@@ -4,7 +4,7 @@ use Rattle.std.specs.Prelude.{All, ◌≡◌, ◌≤◌, ◌<◌, ◌+◌, true,
 use Rattle.cells.specs.Cells.{Cells}
 use Rattle.map_canvas.specs.Canvases.{IsCanvas, StandsOver}
 use Rattle.map_canvas.specs.Maps.{IsFull, empty_map, first_unfilled}
-use Rattle.seam_cost.specs.Tables.{WindowSums}
+use Rattle.cost_windows.specs.Tables.{WindowSums}
 use Rattle.refine_seams.specs.Rounds.{NoWindowCosts, SumsWindowsOf}
 use Rattle.replay.specs.declared.records.TheConstants.{MOST_BOX_CELLS}
 use Rattle.replay.specs.Replay.{EachStands, IsFormed, box_cells, left_by}

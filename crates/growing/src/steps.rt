@@ -14,7 +14,7 @@ use map_canvas::Canvas;
 use patch_place::{Draws, next_placement_with};
 use refine_seams::round_with;
 use replay::MOST_BOX_CELLS;
-use seam_cost::SeamTable;
+use cost_windows::SeamTable;
 use std::alloc::{AllocError, Global};
 
 /// A run so far.

@@ -6,11 +6,11 @@
 //! past `MOST_BOX_CELLS`. `there_is_one_quilt_limit` says that of what is asked and a sample there is one answer,
 //! want of memory apart (specs/OneLimit.antt).
 //!
-//! `asked` has the types, `costs` what is told of a record, `steps` one step, `lay` the run.
+//! `asked` has the types, `totals` what is told of a record, `steps` one step, `lay` the run.
 #![tactic(auto)]
 
 mod asked;
-mod costs;
+mod totals;
 mod laws;
 mod lay;
 mod steps;

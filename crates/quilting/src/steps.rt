@@ -5,7 +5,7 @@ ghost use Rattle.quilting.specs.Quilted.{CanBeQuilted};
 ghost use Rattle.quilting.specs.QuiltWork.{QuiltAdvances, IsQuiltWork};
 
 use crate::asked::{QuiltError, QuiltRun};
-use crate::costs::{block_boundaries, block_cost, block_fits};
+use crate::totals::{block_boundaries, block_cost, block_fits};
 use block_check::BlockRecord;
 use block_strips::empty_map_is_laid;
 use block_sums::SampleSums;

@@ -6,7 +6,7 @@ use Rattle.cells.specs.Boxes.{HasCells}
 use Rattle.cells.specs.Distances.{distance}
 use Rattle.map_canvas.specs.Maps.{map_at}
 use Rattle.match_error.specs.Errors.{error_of}
-use Rattle.seam_cost.proofs.OneWorst.{one_worst}
+use Rattle.cost_windows.proofs.OneWorst.{one_worst}
 use Rattle.patch_place.specs.Lists.{fit_list, part_lists}
 use Rattle.patch_place.specs.Modes.{window}
 use Rattle.patch_place.specs.Picks.{IsPick}

@@ -12,8 +12,8 @@ use Rattle.map_canvas.specs.declared.canvas.Placement.{Placement}
 use Rattle.map_canvas.specs.Choices.{Fits, IsAfter}
 use Rattle.map_canvas.specs.Maps.{IsFull, SourceMap, map_at}
 use Rattle.map_canvas.proofs.AfterLaws.{stays_filled}
-use Rattle.seam_cost.specs.Tables.{WindowSums}
-use Rattle.seam_cost.specs.Windows.{IsWorst, window_at}
+use Rattle.cost_windows.specs.Tables.{WindowSums}
+use Rattle.cost_windows.specs.Windows.{IsWorst, window_at}
 use Rattle.patch_place.specs.Fitting.{HasRoomInEach}
 use Rattle.patch_place.specs.Lists.{fit_list, part_lists}
 use Rattle.patch_place.specs.Modes.{window}

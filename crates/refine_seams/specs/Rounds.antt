@@ -13,8 +13,8 @@ use Rattle.map_canvas.specs.Canvases.{CanvasState}
 use Rattle.map_canvas.specs.Choices.{Fits}
 use Rattle.map_canvas.specs.Maps.{SourceMap, map_at}
 use Rattle.match_error.specs.Errors.{error_of}
-use Rattle.seam_cost.specs.Tables.{IsRight, WindowSums}
-use Rattle.seam_cost.specs.Windows.{IsWorst, window_at}
+use Rattle.cost_windows.specs.Tables.{IsRight, WindowSums}
+use Rattle.cost_windows.specs.Windows.{IsWorst, window_at}
 use Rattle.patch_place.specs.Draws.{DrawState}
 use Rattle.patch_place.specs.Lists.{fit_list, part_lists}
 use Rattle.patch_place.specs.Modes.{window}

@@ -14,7 +14,7 @@ use cut_check::CutRecord;
 use graph_place::place;
 use map_canvas::Canvas;
 use patch_place::{Candidates, Draws, pick_with, window_size};
-use seam_cost::SeamTable;
+use cost_windows::SeamTable;
 use std::alloc::{AllocError, Global};
 
 // The worst window; None where it costs nothing.

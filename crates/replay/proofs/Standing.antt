@@ -9,7 +9,7 @@ use Rattle.cells.specs.Distances.{distance}
 use Rattle.map_canvas.specs.Choices.{Fits, box_index, chosen, map_after, new_source}
 use Rattle.map_canvas.specs.Maps.{IsMap, SourceMap, map_at}
 use Rattle.map_canvas.proofs.Afters.{map_after_is}
-use Rattle.seams.specs.Lawful.{IsLeastChoice, is_new}
+use Rattle.costs.specs.Lawful.{IsLeastChoice, is_new}
 use Rattle.cut_check.specs.declared.record.CutRecord.{CutRecord}
 use Rattle.cut_check.specs.Records.{CutStands, setting}
 use Rattle.cut_check.proofs.Least.{stands_least_alone}

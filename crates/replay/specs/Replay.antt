@@ -10,7 +10,7 @@ use Rattle.map_canvas.specs.Canvases.{IsKept}
 use Rattle.map_canvas.specs.Choices.{Fits, box_count, map_after}
 use Rattle.map_canvas.specs.Maps.{IsMap, SourceMap, map_at}
 use Rattle.boxes.specs.Pairs.{pair_count}
-use Rattle.seams.specs.Lawful.{IsLeastChoice}
+use Rattle.costs.specs.Lawful.{IsLeastChoice}
 use Rattle.cut_check.specs.declared.record.CutRecord.{CutRecord}
 use Rattle.cut_check.specs.Records.{CutStands, IsFirstCutFault, setting}
 use Rattle.replay.specs.declared.records.Broken.{Broken}

@@ -13,7 +13,7 @@ use cut_check::{
 };
 use items::Items;
 use map_canvas::{Canvas, Placement};
-use seams::{are_marks, window_after};
+use costs::{are_marks, window_after};
 use std::alloc::{AllocError, Global};
 use std::process::Abort;
 use std::test::Fail;

@@ -1,16 +1,16 @@
-// Worked examples of seams and seam_cost: the costs of a row, what of a window lies outside the output, copies
+// Worked examples of costs and cost_windows: the costs of a row, what of a window lies outside the output, copies
 // of one cell, and the worst window.
 ghost use Rattle.std.specs.Prelude.{◌≡◌};
 ghost use Rattle.cells.specs.Distances.{distance};
 ghost use Rattle.map_canvas.specs.Canvases.{StandsOver};
 ghost use Rattle.map_canvas.specs.Maps.{map_at};
-ghost use Rattle.seam_cost.specs.Tables.{IsRight, IsWindow};
+ghost use Rattle.cost_windows.specs.Tables.{IsRight, IsWindow};
 
 use crate::laying::{ONE, assert_fits, canvas_over, column, put_copies, put_row};
 use cells::{Axis, Box3, Size, Volume};
 use map_canvas::{Canvas, Placement};
-use seam_cost::SeamTable;
-use seams::{are_marks, pair_cost, total, window};
+use cost_windows::SeamTable;
+use costs::{are_marks, pair_cost, total, window};
 use std::process::Abort;
 use std::test::Fail;
 

@@ -7,7 +7,7 @@ use cells::Volume;
 use cut_graph::{build, build_held};
 use map_canvas::{Canvas, Placement};
 use max_flow::solve;
-use seams::are_marks;
+use costs::are_marks;
 use std::alloc::{AllocError, Global};
 use std::process::Abort;
 use std::test::Fail;

@@ -11,7 +11,7 @@ use growing::{GrowPlan, Grown, grow_canvas};
 use map_canvas::{Canvas, Placement};
 use patch_place::Mode;
 use replay::{Broken, replay_cuts};
-use seams::total;
+use costs::total;
 use std::alloc::{AllocError, Global};
 use std::process::Abort;
 use std::test::Fail;

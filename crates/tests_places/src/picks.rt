@@ -13,7 +13,7 @@ use cells::{At, Box3, PartPlace, Size, Volume};
 use graph_place::place;
 use map_canvas::{Canvas, Placement};
 use patch_place::{Candidates, Draws, Mode, next_placement, pick, window_size};
-use seams::total;
+use costs::total;
 use std::alloc::{AllocError, Global};
 use std::process::Abort;
 use std::test::Fail;

@@ -7,7 +7,7 @@ use cells::{At, Box3, Size, Volume};
 use cut_check::Flow;
 use graph_place::place_held;
 use map_canvas::{Canvas, Placement};
-use seams::{are_marks, window};
+use costs::{are_marks, window};
 use std::alloc::{AllocError, Global};
 use std::process::Abort;
 use std::test::Fail;

@@ -13,7 +13,7 @@ use growing::{GrowPlan, Grown, grow_canvas};
 use job_words::TrialJob;
 use map_canvas::Canvas;
 use replay::replay_cuts;
-use seams::total;
+use costs::total;
 use shelf_core::What;
 use std::alloc::{AllocError, Global};
 use synth_report::{Fault, Summary};

@@ -6,7 +6,7 @@ use Rattle.map_canvas.specs.Maps.{IsFilled}
 use Rattle.boxes.specs.Pairs.{at_index}
 use Rattle.boxes.proofs.Indices.{at_index_is}
 use Rattle.boxes.proofs.PairNumbers.{walk_in}
-use Rattle.seams.specs.Lawful.{StaysOld}
+use Rattle.costs.specs.Lawful.{StaysOld}
 use Rattle.cut_check.specs.declared.record.Flow.{Flow}
 use Rattle.cut_check.specs.Flows.{leaving}
 use Rattle.cut_check.proofs.Cells.{in_box_at, unbalanced_free}

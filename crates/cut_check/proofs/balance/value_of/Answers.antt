@@ -10,7 +10,7 @@ use Rattle.map_canvas.specs.Choices.{box_cell}
 use Rattle.boxes.specs.Pairs.{at_index}
 use Rattle.boxes.proofs.Indices.{counts_at}
 use Rattle.boxes.proofs.PairNumbers.{walk_in}
-use Rattle.seams.specs.Lawful.{StaysOld}
+use Rattle.costs.specs.Lawful.{StaysOld}
 use Rattle.cut_check.specs.Flows.{leaving}
 use Rattle.cut_check.specs.Records.{IsBalanced, setting}
 use Rattle.cut_check.proofs.Parts.{one_part}

@@ -3,7 +3,7 @@ use Rattle.std.proofs.lemmas.Int.{ints}
 use Rattle.std.specs.Prelude.{pos}
 use mathlib.Core.Bool.{false≢true}
 use Rattle.cells.specs.Distances.{distance}
-use Rattle.seams.specs.Costs.{seam}
+use Rattle.costs.specs.Costs.{seam}
 use Rattle.cut_check.specs.Flows.{IsBetween, minus_of}
 use Rattle.cut_check.proofs.PairBounds.{passes_between}
 use Rattle.cut_check.proofs.bounds.is_between_old.Goals as goal

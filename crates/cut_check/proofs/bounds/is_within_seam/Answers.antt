@@ -3,7 +3,7 @@ use Rattle.std.proofs.lemmas.Int.{ints}
 use Rattle.cells.specs.Distances.{distance}
 use Rattle.cells.specs.Neighbours.{unit_step}
 use Rattle.cells.specs.Places.{DifferenceFits, SumFits, minus, plus}
-use Rattle.seams.proofs.Near.{step_fits}
+use Rattle.costs.proofs.Near.{step_fits}
 use Rattle.cut_check.proofs.bounds.is_within_seam.Goals as goal
 
 pub minus-requires : goal.minus-requires

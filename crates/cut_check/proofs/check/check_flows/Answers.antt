@@ -4,7 +4,7 @@ use Rattle.std.specs.Prelude.{pos}
 use mathlib.Core.Bool.{false≢true}
 use Rattle.cells.specs.Distances.{distance}
 use Rattle.map_canvas.specs.Maps.{SourceMap}
-use Rattle.seams.specs.Lawful.{window_after}
+use Rattle.costs.specs.Lawful.{window_after}
 use Rattle.cut_check.specs.Records.{BoundsAll, IsFirstUnbounded, Setting, setting}
 use Rattle.cut_check.proofs.Parts.{part_at, parts_are}
 use Rattle.cut_check.proofs.check.check_flows.Goals as goal

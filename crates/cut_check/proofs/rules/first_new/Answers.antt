@@ -3,7 +3,7 @@ use Rattle.std.specs.Prelude.{false, slice_index_or}
 use mathlib.Core.Bool.{false≢true}
 use Rattle.cells.specs.declared.place.At.{At}
 use Rattle.map_canvas.specs.Choices.{box_cell}
-use Rattle.seams.specs.Lawful.{StaysOld}
+use Rattle.costs.specs.Lawful.{StaysOld}
 use Rattle.cut_check.proofs.Cells.{counts_in}
 use Rattle.cut_check.proofs.rules.first_new.Goals as goal
 

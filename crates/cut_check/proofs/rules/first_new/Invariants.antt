@@ -1,7 +1,7 @@
 use Rattle.std.proofs.Common.{◌≡◌, ℕ, ◌<◌}
 use Rattle.std.specs.Prelude.{slice_index_or, false}
 use Rattle.map_canvas.specs.Choices.{box_cell}
-use Rattle.seams.specs.Lawful.{StaysOld}
+use Rattle.costs.specs.Lawful.{StaysOld}
 use Rattle.cut_check.specs.Steps.{IsAt}
 use Rattle.cut_check.proofs.rules.first_new.Given as goal
 

@@ -1,7 +1,7 @@
 use Rattle.std.proofs.Common.{◌∙◌, sym, ap, inl, inr, ⊎_elim}
 use mathlib.Core.Bool.{false≢true}
 use Rattle.map_canvas.specs.Choices.{chosen}
-use Rattle.seams.proofs.MarkLaws.{cell_at}
+use Rattle.costs.proofs.MarkLaws.{cell_at}
 use Rattle.cut_check.proofs.Cells.{index_at}
 use Rattle.cut_check.proofs.rules.stays_old.Goals as goal
 

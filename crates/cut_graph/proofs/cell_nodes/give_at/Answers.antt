@@ -2,7 +2,7 @@ use Rattle.std.proofs.Common.{◌≡◌, false, sym, ap, ◌∙◌, subst}
 use Rattle.std.specs.Prelude.{option_copied, slice_index_or}
 use Rattle.std.proofs.lemmas.Result.{on_ok_weaker}
 use Rattle.cells.specs.Boxes.{IsInBox}
-use Rattle.seams.specs.Lawful.{is_held, held_marks}
+use Rattle.costs.specs.Lawful.{is_held, held_marks}
 use Rattle.cut_graph.specs.Building.{IsStanding}
 use Rattle.cut_graph.proofs.Numbered.{held_by_index, in_box, more_cells}
 use Rattle.cut_graph.proofs.cell_nodes.give_at.Goals as goal

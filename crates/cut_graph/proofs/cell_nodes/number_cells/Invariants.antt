@@ -1,5 +1,5 @@
 use Rattle.std.specs.Prelude.{option_copied}
-use Rattle.seams.specs.Lawful.{held_marks}
+use Rattle.costs.specs.Lawful.{held_marks}
 use Rattle.boxes.specs.Walks.{IsAtIndex}
 use Rattle.cut_graph.specs.Building.{AreCellNodes}
 use Rattle.cut_graph.proofs.cell_nodes.number_cells.Given as goal

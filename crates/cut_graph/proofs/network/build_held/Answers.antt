@@ -1,7 +1,7 @@
 use Rattle.std.proofs.Common.{sym, subst, arith}
 use Rattle.std.specs.Prelude.{option_copied}
 use Rattle.cells.specs.Distances.{distance}
-use Rattle.seams.specs.Lawful.{held_marks}
+use Rattle.costs.specs.Lawful.{held_marks}
 use Rattle.boxes.specs.Pairs.{pair_count}
 use Rattle.cut_graph.specs.Building.{AreSeamNodes}
 use Rattle.cut_graph.specs.Cuts.{IsNetworkOf}

@@ -1,7 +1,7 @@
 use Rattle.std.proofs.Common.{◌≡◌, subst, option_copied}
 use Rattle.cells.specs.Distances.{distance}
 use Rattle.map_canvas.specs.Choices.{IsAfter, map_after}
-use Rattle.seams.specs.Lawful.{held_marks}
+use Rattle.costs.specs.Lawful.{held_marks}
 use Rattle.max_flow.specs.Solutions.{IsSolution}
 use Rattle.graph_place.proofs.Placed.{placed}
 use Rattle.graph_place.proofs.Solving.{solved_for}

@@ -1,5 +1,5 @@
 use Rattle.cells.specs.Distances.{distance}
-use Rattle.seam_cost.proofs.Besides.{right_beside_choice}
+use Rattle.cost_windows.proofs.Besides.{right_beside_choice}
 use Rattle.refine_seams.proofs.Rounding.{each_fits, some_entry}
 use Rattle.refine_seams.proofs.rounds.round_with.Goals as goal
 

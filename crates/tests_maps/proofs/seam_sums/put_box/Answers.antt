@@ -1,5 +1,5 @@
 use Rattle.cells.specs.Distances.{distance}
-use Rattle.seam_cost.proofs.Besides.{right_beside_choice}
+use Rattle.cost_windows.proofs.Besides.{right_beside_choice}
 use Rattle.tests_maps.proofs.seam_sums.put_box.Goals as goal
 
 pub update-requires-clause-beside : goal.update-requires-clause-beside

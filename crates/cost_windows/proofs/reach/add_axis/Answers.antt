@@ -1,0 +1,16 @@
+use Rattle.std.proofs.Common.{◌+◌, ◌/◌, ◌%◌, ◌∙◌, sym, subst, arith}
+use mathlib.Core.Bool.{false≢true}
+use Rattle.cells.specs.Boxes.{HasCells}
+use Rattle.cells.specs.Distances.{distance}
+use Rattle.map_canvas.specs.Maps.{map_at}
+use Rattle.cost_windows.proofs.Reaches.{axis_none}
+use Rattle.cost_windows.proofs.reach.add_axis.Goals as goal
+
+pub returns-else-has_cells-clause-put : goal.returns-else-has_cells-clause-put
+returns-else-has_cells-clause-put c = λ row k below lt.
+    let block = c.args.block.now in
+    omega (
+      arith,
+      axis_none (distance c.args.sample.now) (map_at c.args.map.now) c.args.axis c.args.window (block.x.from + k) (block.y.from + row % block.y.len) (block.f.from + row / block.y.len)
+          (λ some. false≢true (sym c.if-has_cells.false ∙ c.has_cells.ensures.1 (subst HasCells (sym c.less_one-less.ensures.less) some))),
+    )

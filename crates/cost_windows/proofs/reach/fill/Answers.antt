@@ -1,0 +1,22 @@
+use Rattle.std.proofs.Common.{◌+◌, ◌-◌, ◌*◌, ◌/◌, ◌%◌, ◌≤◌, ◌≡◌, drop, length, arith, length-take, length-drop}
+use Rattle.std.proofs.Math.Nat.{mul-le-mul_left}
+use Rattle.cells.specs.Distances.{distance}
+use Rattle.cells.specs.Places.{spot}
+use Rattle.map_canvas.specs.Maps.{map_at}
+use Rattle.costs.specs.Costs.{most_of_pair, pair_at}
+use Rattle.cost_windows.proofs.Rows.{rows_at_most, rows_filled}
+use Rattle.cost_windows.proofs.reach.fill.Goals as goal
+
+pub loop-row-preserved : goal.loop-row-preserved
+loop-row-preserved c =
+    let block = c.args.block.now in
+    let w = block.x.len in
+    let row = c.loop-row.row in
+    let made = c.loop-row.costs in
+    let fits : w * row + w ≤ length made = omega (arith, c.loop-row.auto.costs, c.requires.count, mul-le-mul_left w c.loop-row-test.true) in
+    let long : length c.fill_row.new.costs ≡ w = omega (arith, c.fill_row.auto.costs, length-take (w * row + w - w * row) (drop (w * row) made), length-drop (w * row) made) in
+    record {
+      costs = rows_filled w row made c.fill_row.new.costs (λ r k. pair_at (distance c.args.sample.now) (map_at c.args.map.now) c.args.axis (spot (block.x.from + k) (block.y.from + r % block.y.len) (block.f.from + r / block.y.len)))
+          fits long c.loop-row.invariant.costs (λ k lt. c.fill_row.ensures.costs k (omega arith));
+      small = rows_at_most w row most_of_pair made c.fill_row.new.costs fits long c.loop-row.invariant.small c.fill_row.ensures.small;
+    }

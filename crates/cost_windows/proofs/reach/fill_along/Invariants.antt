@@ -1,0 +1,16 @@
+use Rattle.std.proofs.Common.{◌≡◌, ◌≤◌, ◌<◌, ℕ, ◌+◌, get_or}
+use Rattle.std.specs.Prelude.{IfSome}
+use Rattle.cells.specs.declared.place.Axis.TheVariants.{X}
+use Rattle.cells.specs.Distances.{distance}
+use Rattle.cells.specs.Places.{spot}
+use Rattle.map_canvas.specs.Maps.{IsSource, map_at}
+use Rattle.costs.specs.Costs.{most_of_pair, pair_at}
+use Rattle.cost_windows.proofs.reach.fill_along.Given as goal
+
+abbrev pub invariant-loop-k : goal.invariant-loop-k
+invariant-loop-k l = record {
+  costs : (i : ℕ) → i < l.k → get_or l.costs i 0 ≡ pair_at (distance l.sample) (map_at l.map) X (spot (l.x + i) l.y l.f);
+  small : (i : ℕ) → i < l.k → get_or l.costs i 0 ≤ most_of_pair;
+  source : l.source ≡ map_at l.map (spot (l.x + l.k) l.y l.f);
+  near : IfSome l.source IsSource;
+}

@@ -1,0 +1,34 @@
+use Rattle.std.proofs.Common.{◌≡◌, ◌<◌, ◌+◌, ◌-◌, drop, length, sym, subst, arith, length-take, length-drop}
+use Rattle.cost_windows.specs.Slides.{number_if, row_offset, row_start}
+use Rattle.cost_windows.proofs.Rows.{row_before, row_more, rows_apart, rows_put}
+use Rattle.cost_windows.proofs.reach.put_rows.Goals as goal
+
+pub put_row-requires-clause-fits : goal.put_row-requires-clause-fits
+put_row-requires-clause-fits c = λ k below.
+    let block = c.args.block.now in
+    let w = block.x.len in
+    let row = c.loop-row.row in
+    let to = c.start_of-to.result in
+    let start = row_start c.args.corners block in
+    let lt : k < w = omega (arith, below, length-take (to + w - to) (drop to c.loop-row.sums)) in
+    let before = row_before w row to start (row_offset c.args.size block) c.args.keep c.args.sums.now c.args.more.now c.loop-row.sums c.loop-row.invariant c.start_of-to.ensures.start
+    (λ r i j less li lj. rows_apart c.args.corners block row r i j c.requires.inside c.loop-row-test.true less li lj) k lt in
+    let more = row_more w c.offset_of-from.result (row_offset c.args.size block row) c.args.more.now c.offset_of-from.ensures.start k lt in
+    subst (λ n. n < 18446744073709551616) (sym (λ i. number_if c.args.keep (before i) + more i)) (c.requires.fits row k c.loop-row-test.true lt)
+
+pub loop-row-preserved : goal.loop-row-preserved
+loop-row-preserved c =
+    let block = c.args.block.now in
+    let w = block.x.len in
+    let row = c.loop-row.row in
+    let to = c.start_of-to.result in
+    let sums = c.loop-row.sums in
+    let long : length c.put_row.new.sums ≡ w =
+    omega (arith, c.put_row.auto.sums, length-take (to + w - to) (drop to sums), length-drop to sums, c.start_of-to.ensures.end, c.loop-row.auto.sums, c.requires.sums) in
+    rows_put w row to c.offset_of-from.result (row_start c.args.corners block) (row_offset c.args.size block) c.args.keep c.args.sums.now c.args.more.now sums c.put_row.new.sums
+    c.loop-row.invariant c.start_of-to.ensures.start c.offset_of-from.ensures.start (omega (arith, c.start_of-to.ensures.end, c.loop-row.auto.sums, c.requires.sums)) long
+    (λ r i j less li lj. rows_apart c.args.corners block row r i j c.requires.inside c.loop-row-test.true less li lj)
+    (λ k lt. c.put_row.ensures k (omega (arith, c.put_row.auto.sums, long, lt)))
+
+pub returns-clause-others : goal.returns-clause-others
+returns-clause-others c = λ i none. c.loop-row.invariant.others i (λ r k less lt e. none r k (omega (arith, c.loop-row.auto.row-end)) lt e)

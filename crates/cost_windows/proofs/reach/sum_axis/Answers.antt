@@ -1,0 +1,15 @@
+use Rattle.std.proofs.Common.{ap, ◌∙◌, subst}
+use Rattle.cells.specs.Distances.{distance}
+use Rattle.map_canvas.specs.Maps.{map_at}
+use Rattle.cost_windows.specs.Slides.{AreCosts, block_size, box_run}
+use Rattle.cost_windows.proofs.Reaches.{axis_of_runs}
+use Rattle.cost_windows.proofs.reach.sum_axis.Goals as goal
+
+pub returns-clause-sums : goal.returns-clause-sums
+returns-clause-sums c =
+    let d = distance c.args.sample.now in
+    let m = map_at c.args.map.now in
+    let same = c.reach-reach.ensures.reach in
+    axis_of_runs d m c.args.axis c.args.window c.args.block.now c.fill.new.costs c.sum_boxes.new.buffer c.requires.window.some
+    (subst (λ reach. AreCosts d m c.args.axis reach c.fill.new.costs) same c.fill.ensures.costs)
+    (λ j. c.sum_boxes.ensures.sums j ∙ (λ i. box_run ((c.size-2.ensures ∙ ap block_size same) i) (c.less_one.ensures.less i) c.fill.new.costs j))

@@ -1,0 +1,47 @@
+use Rattle.std.proofs.Common.{◌≡◌, ◌∙◌, get_or, refl, ap, sym, subst, arith}
+use Rattle.std.proofs.lemmas.List.{with_items_is}
+use mathlib.Core.Bool.{false≢true}
+use Rattle.cells.specs.Boxes.{HasCells}
+use Rattle.cells.specs.Distances.{distance}
+use Rattle.cells.specs.Places.{raster_index, spot}
+use Rattle.map_canvas.specs.Maps.{map_at}
+use Rattle.cost_windows.specs.Windows.{window_at}
+use Rattle.boxes.specs.Pairs.{AreCounts}
+use Rattle.cost_windows.specs.Slides.{HoldsBlock}
+use Rattle.cost_windows.specs.Tables.{IsRight, IsRightBeside, corners}
+use Rattle.cost_windows.proofs.Changes.{cells_of_block, right_of}
+use Rattle.cost_windows.proofs.table.SeamTable.update.Goals as goal
+
+pub returns-then-has_cells-clause-right : goal.returns-then-has_cells-clause-right
+returns-then-has_cells-clause-right c =
+    let d = distance c.args.sample.now in
+    let m = map_at c.args.canvas.now.map in
+    let output = c.self.inside.output in
+    let window = c.self.inside.window in
+    let block = c.touched-block.result in
+    let old = c.self.inside.sums.items in
+    let sums = c.refresh.new.sums in
+    let same : c.map.result.now.size ≡ output = ap (λ map. map.size) c.map.ensures.map ∙ c.requires.size ∙ ap (λ table. table.output) (sym c.self.view_is) in
+    let beside : IsRightBeside d m c.args.changed.now (record { output = output; window = window; sums = old }) = subst (IsRightBeside d m c.args.changed.now) (sym c.self.view_is) c.requires.beside in
+    let right : IsRight d m (record { output = output; window = window; sums = sums }) =
+    right_of d m output window block old sums (subst (λ size. HoldsBlock size block) c.corners.ensures.corners c.touched-block.ensures.inside)
+    (λ x y f inside. ap (λ size. get_or sums (raster_index (corners size window) x y f) 0) (sym same) ∙ c.refresh.ensures.put x y f inside ∙ (λ i. window_at d window (map_at (c.map.ensures.map i)) (spot x y f)))
+    (λ i none. c.refresh.ensures.others i (λ x y f inside e. none x y f inside (e ∙ ap (λ size. raster_index (corners size window) x y f) same)) ∙ ap (λ xs. get_or xs i 0) c.deref_mut.ensures.value)
+    (λ x y f are out. beside (spot x y f) (c.touched-block.ensures.others x y f (subst (λ size. AreCounts size x y f) (sym c.corners.ensures.corners) are) out)) in
+    subst (λ xs. IsRight d m (record { output = output; window = window; sums = xs })) (sym (with_items_is c.self.inside.sums sums (omega arith))) right
+
+pub returns-else-has_cells-clause-right : goal.returns-else-has_cells-clause-right
+returns-else-has_cells-clause-right c =
+    let d = distance c.args.sample.now in
+    let m = map_at c.args.canvas.now.map in
+    let output = c.self.inside.output in
+    let window = c.self.inside.window in
+    let block = c.touched-block.result in
+    let old = c.self.inside.sums.items in
+    let beside : IsRightBeside d m c.args.changed.now (record { output = output; window = window; sums = old }) = subst (IsRightBeside d m c.args.changed.now) (sym c.self.view_is) c.requires.beside in
+    let right : IsRight d m (record { output = output; window = window; sums = old }) =
+    right_of d m output window block old old (subst (λ size. HoldsBlock size block) c.corners.ensures.corners c.touched-block.ensures.inside)
+    (λ x y f inside. absurd (false≢true (sym c.if-has_cells.false ∙ c.has_cells.ensures.1 (subst HasCells (sym c.size.ensures) (cells_of_block block x y f inside)))))
+    (λ i none. refl)
+    (λ x y f are out. beside (spot x y f) (c.touched-block.ensures.others x y f (subst (λ size. AreCounts size x y f) (sym c.corners.ensures.corners) are) out)) in
+    subst (IsRight d m) c.self.view_is right

@@ -1,0 +1,306 @@
+// The sums of all windows of a block of corners, from the costs of the pairs of all their cells.
+ghost use Rattle.std.specs.Prelude.{◌≡◌, ◌≤◌, ◌<◌, ℕ, ◌+◌, ◌*◌, ◌/◌, ◌%◌, ◌^◌, length, slice_index};
+ghost use Rattle.cells.specs.declared.place.Axis.TheVariants.{X};
+ghost use Rattle.cells.specs.Boxes.{HasCells};
+ghost use Rattle.cells.specs.Distances.{distance};
+ghost use Rattle.cells.specs.Places.{IsSmall, cell_count, raster_index, spot};
+ghost use Rattle.map_canvas.specs.Maps.{map_at};
+ghost use Rattle.costs.specs.Costs.{most_of_pair, pair_at};
+ghost use Rattle.cost_windows.specs.Windows.{window_at};
+ghost use Rattle.boxes.specs.Pairs.{AreCounts};
+ghost use Rattle.cost_windows.specs.Slides.{AreAtMost, AreCosts, AreRowCosts, EachOfRows, HoldsBlock, IsInBlock, SameElsewhere, added, at_row, axis_sum, block_size, less_one, IsLens, most_after_three, number_if, reach_of, row_offset, row_start};
+ghost use Rattle.cost_windows.specs.Tables.{IsWindow, corners};
+
+use crate::block::{Block, corners};
+use crate::slide::sum_boxes;
+use boxes::{Counts, has_cells};
+use cells::{Axis, GREATEST_AXIS, Size, Volume};
+use map_canvas::Map;
+use costs::{Sources, seam_of};
+
+// The costs of the cells of a row and the next ones in it, from a cell on. The source of each is asked
+// for once: it is the second of one pair, and the first of the next.
+#[tactic(auto, using(crate::proofs::Fills::pair_along))]
+fn fill_along(costs: &mut [u64], map: &Map, sample: &Volume, x: u32, y: u32, f: u32)
+    requires row { x + length costs.old ≤ GREATEST_AXIS }
+    requires counts { (y < GREATEST_AXIS) × (f < GREATEST_AXIS) }
+    ensures costs { AreRowCosts (distance sample.now) (map_at map.now) X x y f costs.new }
+    ensures small { AreAtMost most_of_pair costs.new }
+{
+    let mut source = map.source(Counts { x, y, f }.place());
+    for k in 0..costs.len() {
+        let x = x + k as u32 + 1;
+        let next = map.source(Counts { x, y, f }.place());
+        costs[k] = u64::from(seam_of(sample, Axis::X, source, next));
+        source = next;
+    }
+}
+
+// The cost of a cell and the next one along an axis.
+fn pair_at(map: &Map, sample: &Volume, at: Counts, axis: Axis) -> u32
+    requires { (at.x < GREATEST_AXIS) × (at.y < GREATEST_AXIS) × (at.f < GREATEST_AXIS) }
+    ensures cost { result ≡ pair_at (distance sample.now) (map_at map.now) axis
+        (spot at.x at.y at.f) }
+    ensures small { result ≤ most_of_pair }
+{
+    let p = at.place();
+    match map.source(p) {
+        Some(a) => seam_of(sample, axis, Some(a), map.source(p.plus(axis.unit()))),
+        None => 0,
+    }
+}
+
+// The costs of the cells of a row and the next ones along an axis, from a cell on.
+fn fill_across(costs: &mut [u64], map: &Map, sample: &Volume, x: u32, y: u32, f: u32, axis: Axis)
+    requires row { x + length costs.old ≤ GREATEST_AXIS }
+    requires counts { (y < GREATEST_AXIS) × (f < GREATEST_AXIS) }
+    ensures costs { AreRowCosts (distance sample.now) (map_at map.now) axis x y f costs.new }
+    ensures small { AreAtMost most_of_pair costs.new }
+{
+    for k in 0..costs.len() {
+        let x = x + k as u32;
+        costs[k] = u64::from(pair_at(map, sample, Counts { x, y, f }, axis));
+    }
+}
+
+// The costs of the cells of a row and the next ones along an axis, from a cell on.
+fn fill_row(costs: &mut [u64], map: &Map, sample: &Volume, x: u32, y: u32, f: u32, axis: Axis)
+    requires row { x + length costs.old ≤ GREATEST_AXIS }
+    requires counts { (y < GREATEST_AXIS) × (f < GREATEST_AXIS) }
+    ensures costs { AreRowCosts (distance sample.now) (map_at map.now) axis x y f costs.new }
+    ensures small { AreAtMost most_of_pair costs.new }
+{
+    match axis {
+        Axis::X => fill_along(costs, map, sample, x, y, f),
+        _ => fill_across(costs, map, sample, x, y, f, axis),
+    }
+}
+
+// The costs of the cells of a block and the next ones along an axis, in raster order of the block.
+fn fill(costs: &mut [u64], map: &Map, sample: &Volume, block: &Block, axis: Axis)
+    requires inside { HoldsBlock map.now.size block.now }
+    requires count { length costs.old ≡ cell_count (block_size block.now) }
+    ensures costs { AreCosts (distance sample.now) (map_at map.now) axis block.now costs.new }
+    ensures small { AreAtMost most_of_pair costs.new }
+{
+    let _size = map.size();
+    let w = block.x.len as usize;
+    let rows = block.y.len * block.f.len;
+    for row in 0..rows {
+        let start = w * row as usize;
+        let y = block.y.from + row % block.y.len;
+        let f = block.f.from + row / block.y.len;
+        fill_row(
+            &mut costs[start..start + w],
+            map,
+            sample,
+            block.x.from,
+            y,
+            f,
+            axis,
+        );
+    }
+}
+
+// Puts a row of numbers into a row of sums, added to those where these are kept.
+fn put_row(sums: &mut [u64], more: &[u64], keep: bool)
+    requires lengths { length sums.old ≡ length more.now }
+    requires fits { (k : ℕ) → k < length sums.old → added keep sums.old more.now k k < 2 ^ 64 }
+    ensures { (k : ℕ) → k < length sums.old →
+        slice_index sums.new k ≡ added keep sums.old more.now k k }
+{
+    for k in 0..sums.len() {
+        let before = if keep { sums[k] } else { 0 };
+        sums[k] = before + more[k];
+    }
+}
+
+// The index, among the cells of a size, of the first cell of a row of a block.
+fn start_of(size: Size, block: &Block, row: u32) -> usize
+    requires small { IsSmall size }
+    requires inside { HoldsBlock size block.now }
+    requires some { 1 ≤ block.now.x.len }
+    requires row { row < block.now.y.len * block.now.f.len }
+    ensures start { result ≡ row_start size block.now row }
+    ensures end { result + block.now.x.len ≤ cell_count size }
+{
+    let y = block.y.from + row % block.y.len;
+    let f = block.f.from + row / block.y.len;
+    let x = block.x.from;
+    Counts { x, y, f }.index(size)
+}
+
+// The same, among the cells of a size from the block's first cell on.
+fn offset_of(size: Size, block: &Block, row: u32) -> usize
+    requires small { IsSmall size }
+    requires room { (block.now.x.len ≤ size.w) × (block.now.y.len ≤ size.h)
+        × (block.now.f.len ≤ size.f) }
+    requires some { 1 ≤ block.now.x.len }
+    requires row { row < block.now.y.len * block.now.f.len }
+    ensures start { result ≡ row_offset size block.now row }
+    ensures end { result + block.now.x.len ≤ cell_count size }
+{
+    let y = row % block.y.len;
+    let f = row / block.y.len;
+    Counts { x: 0, y, f }.index(size)
+}
+
+// Puts the first entries of each row of a box of numbers, at the corners of a block, into their sums.
+fn put_rows(sums: &mut [u64], corners: Size, block: &Block, more: &[u64], size: Size, keep: bool)
+    requires small { IsSmall corners }
+    requires inside { HoldsBlock corners block.now }
+    requires some { 1 ≤ block.now.x.len }
+    requires sums { length sums.old ≡ cell_count corners }
+    requires reach { IsSmall size }
+    requires more { length more.now ≡ cell_count size }
+    requires room { (block.now.x.len ≤ size.w) × (block.now.y.len ≤ size.h)
+        × (block.now.f.len ≤ size.f) }
+    requires fits { EachOfRows block.now (λ row k.
+        added keep sums.old more.now (row_start corners block.now row + k)
+        (row_offset size block.now row + k) < 2 ^ 64) }
+    ensures put { EachOfRows block.now (λ row k.
+        slice_index sums.new (row_start corners block.now row + k)
+        ≡ added keep sums.old more.now (row_start corners block.now row + k)
+        (row_offset size block.now row + k)) }
+    ensures others { SameElsewhere corners block.now sums.old sums.new }
+{
+    let w = block.x.len as usize;
+    let rows = block.y.len * block.f.len;
+    for row in 0..rows {
+        let to = start_of(corners, block, row);
+        let from = offset_of(size, block, row);
+        put_row(&mut sums[to..to + w], &more[from..from + w], keep);
+    }
+}
+
+// A size with one cell less along an axis.
+fn less_one(axis: Axis, size: Size) -> Size
+    requires some { HasCells size }
+    requires lens { IsLens size }
+    ensures less { result ≡ less_one axis size }
+    ensures lens { IsLens result }
+{
+    let mut less = size;
+    match axis {
+        Axis::X => less.w -= 1,
+        Axis::Y => less.h -= 1,
+        Axis::F => less.f -= 1,
+    }
+    less
+}
+
+// What the pairs along one axis cost in each window whose corner is in a block, from the first entry
+// of the rows of its reach on.
+fn sum_axis(costs: &mut [u64], map: &Map, sample: &Volume, window: Size, block: &Block, axis: Axis)
+    requires window { IsWindow map.now.size window }
+    requires some { HasCells (block_size block.now) }
+    requires inside { HoldsBlock (corners map.now.size window) block.now }
+    requires count { length costs.old ≡ cell_count (block_size (reach_of window block.now)) }
+    ensures sums { EachOfRows block.now (λ row k.
+        slice_index costs.new
+        (row_offset (block_size (reach_of window block.now)) block.now row + k)
+        ≡ at_row block.now (axis_sum (distance sample.now) (map_at map.now) axis window) row k) }
+    ensures small { AreAtMost most_after_three costs.new }
+{
+    let reach = block.reach(map.size(), window);
+    fill(costs, map, sample, &reach, axis);
+    sum_boxes(costs, reach.size(), less_one(axis, window));
+}
+
+// Puts what the pairs along one axis cost in each window whose corner is in a block into the sums.
+fn put_axis(
+    sums: &mut [u64],
+    scratch: &mut [u64],
+    map: &Map,
+    sample: &Volume,
+    window: Size,
+    block: &Block,
+    axis: Axis,
+    keep: bool,
+)
+    requires window { IsWindow map.now.size window }
+    requires some { HasCells (block_size block.now) }
+    requires inside { HoldsBlock (corners map.now.size window) block.now }
+    requires sums { length sums.old ≡ cell_count (corners map.now.size window) }
+    requires scratch { length scratch.old ≡ cell_count map.now.size }
+    requires fits { EachOfRows block.now (λ row k.
+        number_if keep (slice_index sums.old
+        (row_start (corners map.now.size window) block.now row + k)) ≤ 2 ^ 60) }
+    ensures put { EachOfRows block.now (λ row k.
+        slice_index sums.new (row_start (corners map.now.size window) block.now row + k)
+        ≡ number_if keep (slice_index sums.old
+        (row_start (corners map.now.size window) block.now row + k))
+        + at_row block.now (axis_sum (distance sample.now) (map_at map.now) axis window) row k) }
+    ensures small { EachOfRows block.now
+        (λ row k. slice_index sums.new (row_start (corners map.now.size window) block.now row + k)
+        ≤ number_if keep (slice_index sums.old
+        (row_start (corners map.now.size window) block.now row + k)) + most_after_three) }
+    ensures others { SameElsewhere (corners map.now.size window) block.now sums.old sums.new }
+{
+    let output = map.size();
+    let size = block.reach(output, window).size();
+    let costs = &mut scratch[..size.cells()];
+    sum_axis(costs, map, sample, window, block, axis);
+    put_rows(sums, corners(output, window), block, costs, size, keep);
+}
+
+// The same, added to the sums. Where the window has one cell along the axis, it has no such pair.
+fn add_axis(
+    sums: &mut [u64],
+    scratch: &mut [u64],
+    map: &Map,
+    sample: &Volume,
+    window: Size,
+    block: &Block,
+    axis: Axis,
+)
+    requires window { IsWindow map.now.size window }
+    requires some { HasCells (block_size block.now) }
+    requires inside { HoldsBlock (corners map.now.size window) block.now }
+    requires sums { length sums.old ≡ cell_count (corners map.now.size window) }
+    requires scratch { length scratch.old ≡ cell_count map.now.size }
+    requires fits { EachOfRows block.now (λ row k.
+        slice_index sums.old (row_start (corners map.now.size window) block.now row + k) ≤ 2 ^ 60) }
+    ensures put { EachOfRows block.now (λ row k.
+        slice_index sums.new (row_start (corners map.now.size window) block.now row + k)
+        ≡ slice_index sums.old (row_start (corners map.now.size window) block.now row + k)
+        + at_row block.now (axis_sum (distance sample.now) (map_at map.now) axis window) row k) }
+    ensures small { EachOfRows block.now
+        (λ row k. slice_index sums.new (row_start (corners map.now.size window) block.now row + k)
+        ≤ slice_index sums.old (row_start
+        (corners map.now.size window) block.now row + k) + most_after_three) }
+    ensures others { SameElsewhere (corners map.now.size window) block.now sums.old sums.new }
+{
+    let _size = map.size();
+    let less = less_one(axis, window);
+    if has_cells(less) {
+        put_axis(sums, scratch, map, sample, window, block, axis, true);
+    }
+}
+
+/// Makes the sums of all windows with a corner in a block those of a map. The scratch memory has as
+/// many entries as the map has cells.
+pub(crate) fn refresh(
+    sums: &mut [u64],
+    scratch: &mut [u64],
+    map: &Map,
+    sample: &Volume,
+    window: Size,
+    block: &Block,
+)
+    requires window { IsWindow map.now.size window }
+    requires some { HasCells (block_size block.now) }
+    requires inside { HoldsBlock (corners map.now.size window) block.now }
+    requires sums { length sums.old ≡ cell_count (corners map.now.size window) }
+    requires scratch { length scratch.old ≡ cell_count map.now.size }
+    ensures put { (x y f : ℕ) → IsInBlock block.now x y f →
+        slice_index sums.new (raster_index (corners map.now.size window) x y f) ≡
+        window_at (distance sample.now) window (map_at map.now) (spot x y f) }
+    ensures others { (i : ℕ) → ((x y f : ℕ) → IsInBlock block.now x y f →
+        i ≡ raster_index (corners map.now.size window) x y f → ⊥) →
+        slice_index sums.new i ≡ slice_index sums.old i }
+{
+    put_axis(sums, scratch, map, sample, window, block, Axis::X, false);
+    add_axis(sums, scratch, map, sample, window, block, Axis::Y);
+    add_axis(sums, scratch, map, sample, window, block, Axis::F);
+}

@@ -1,0 +1,140 @@
+// A table of window sums.
+ghost use Rattle.std.specs.Prelude.{◌≡◌, ◌<◌, ℕ, Option, IfOk, length};
+ghost use Rattle.cells.specs.declared.place.At.{At};
+ghost use Rattle.cells.specs.Distances.{distance};
+ghost use Rattle.map_canvas.specs.Canvases.{StandsOver};
+ghost use Rattle.map_canvas.specs.Maps.{map_at};
+ghost use Rattle.cost_windows.specs.Windows.{IsWorst, window_at};
+ghost use Rattle.cost_windows.specs.Tables.{IsGreatest, IsRight, IsRightBeside, IsWindow};
+
+use crate::block::{Block, corners};
+use crate::reach::refresh;
+use boxes::has_cells;
+use cells::{At, Box3, Size, Volume};
+use map_canvas::Canvas;
+use std::alloc::{AllocError, Global};
+use std::marker::Model;
+
+/// A window and its sum.
+#[derive(Clone, Copy, Debug, Drop, PartialEq, Eq)]
+pub struct Worst {
+    /// The corner of the window.
+    pub corner: At,
+    /// The sum of the costs over all neighbours that are both in the window.
+    pub cost: u64,
+}
+
+/// The sums of all windows of one size that an output holds, and the memory in which they are found.
+#[derive(Drop)]
+pub struct SeamTable {
+    output: Size,
+    window: Size,
+    sums: Vec<u64>,
+    scratch: Vec<u64>,
+}
+
+impl Model for SeamTable {
+    ghost use Rattle.std.specs.Prelude.{◌≡◌};
+    ghost use Rattle.std.specs.Prelude.{vec_len};
+    ghost use Rattle.cells.specs.Places.{cell_count};
+    ghost use Rattle.cost_windows.specs.Tables.{WindowSums, IsSumTable};
+
+    ghost Value = { WindowSums };
+
+    ghost view = { λ a. record { output = a.output; window = a.window; sums = a.sums.items } };
+
+    ghost invariant = { λ a. IsSumTable (record {
+      output = a.output;
+      window = a.window;
+      sums = a.sums.items;
+    }) × (vec_len a.scratch ≡ cell_count a.output) };
+}
+
+// The index of the greatest number, and the first where several are.
+fn greatest(sums: &[u64]) -> usize
+    requires { 0 < length sums.now }
+    ensures { IsGreatest sums.now (length sums.now) result }
+{
+    let mut best = 0;
+    for i in 1..sums.len() {
+        if sums[i] > sums[best] {
+            best = i;
+        }
+    }
+    best
+}
+
+impl SeamTable {
+    /// The table of a canvas. It takes all memory that its updates need. The one error is out of memory.
+    pub fn make(
+        alloc: Global,
+        canvas: &Canvas,
+        sample: &Volume,
+        window: Size,
+    ) -> Result<SeamTable, AllocError>
+        requires over { StandsOver canvas.now sample.now }
+        requires window { IsWindow canvas.now.map.size window }
+        ensures sizes { IfOk result (λ table. (table.output ≡ canvas.now.map.size)
+            × (table.window ≡ window)) }
+        ensures right { IfOk result (λ table.
+            IsRight (distance sample.now) (map_at canvas.now.map) table) }
+    {
+        let map = canvas.map();
+        let output = map.size();
+        let corners = corners(output, window);
+        let mut sums = vec![in alloc; 0u64; corners.cells()]?;
+        let mut scratch = vec![in alloc; 0u64; output.cells()]?;
+        refresh(
+            &mut sums,
+            &mut scratch,
+            map,
+            sample,
+            window,
+            &Block::whole(corners),
+        );
+        Ok(SeamTable {
+            output,
+            window,
+            sums,
+            scratch,
+        })
+    }
+
+    /// Makes the sums right after the canvas has changed inside a box, which may lie outside the output.
+    pub fn update(&mut self, canvas: &Canvas, sample: &Volume, changed: &Box3)
+        requires over { StandsOver canvas.now sample.now }
+        requires size { canvas.now.map.size ≡ self.old.output }
+        requires beside { IsRightBeside (distance sample.now)
+            (map_at canvas.now.map) changed.now self.old }
+        ensures sizes { (self.new.output ≡ self.old.output) × (self.new.window ≡ self.old.window) }
+        ensures right { IsRight (distance sample.now) (map_at canvas.now.map) self.new }
+    {
+        let window = self.window;
+        let block = Block::touched(corners(self.output, window), window, changed);
+        if has_cells(block.size()) {
+            refresh(
+                &mut self.sums,
+                &mut self.scratch,
+                canvas.map(),
+                sample,
+                window,
+                &block,
+            );
+        }
+    }
+
+    /// The window of greatest sum, and of several the first in raster order of their corners.
+    pub fn worst(&self) -> Worst
+        ensures worst { (d : At → At → ℕ) (m : At → Option At) → IsRight d m self.now →
+            IsWorst d self.now.output m self.now.window result.corner }
+        ensures cost { (d : At → At → ℕ) (m : At → Option At) → IsRight d m self.now →
+            result.cost ≡ window_at d self.now.window m result.corner }
+    {
+        let sums = self.sums.as_slice();
+        let i = greatest(sums);
+        Worst {
+            corner: corners(self.output, self.window).place_at(i),
+            cost: sums[i],
+        }
+    }
+}

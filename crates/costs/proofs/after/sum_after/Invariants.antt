@@ -1,0 +1,15 @@
+use Rattle.std.proofs.Common.{◌≡◌, ◌≤◌, ◌*◌}
+use Rattle.cells.specs.Distances.{distance}
+use Rattle.boxes.specs.Sums.{sum_to}
+use Rattle.boxes.specs.Pairs.{at_index, cell_in}
+use Rattle.boxes.specs.Walks.{IsAtIndex}
+use Rattle.costs.specs.Choosing.{within_after}
+use Rattle.costs.specs.Costs.{most_of_cell, pairs_at}
+use Rattle.costs.proofs.after.sum_after.Given as goal
+
+abbrev pub invariant-loop-i : goal.invariant-loop-i
+invariant-loop-i l = record {
+  at : IsAtIndex l.after.placement.now.rect.size l.i l.at.x l.at.y l.at.f;
+  sum : l.sum ≡ sum_to l.i (at_index l.after.placement.now.rect.size (λ x y f. pairs_at (distance l.after.sample.now) (within_after l.after.map.now l.after.placement.now l.after.choice.now) (cell_in l.after.placement.now.rect x y f)));
+  fits : l.sum ≤ most_of_cell * l.i;
+}

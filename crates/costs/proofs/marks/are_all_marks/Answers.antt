@@ -1,0 +1,38 @@
+use Rattle.std.proofs.Common.{◌≡◌, ◌∙◌, get_or, sym, subst, arith, below_more, true, false}
+use mathlib.Core.Bool.{false≢true}
+use Rattle.map_canvas.specs.Choices.{box_cell}
+use Rattle.map_canvas.specs.Maps.{IsFilled}
+use Rattle.costs.proofs.MarkLaws.{cell_at, marked_filled, marks_if}
+use Rattle.costs.proofs.marks.are_all_marks.Goals as goal
+
+pub returns-then-not-is_filled_if : goal.returns-then-not-is_filled_if
+returns-then-not-is_filled_if c = (
+  λ false'. absurd (false≢true false'),
+  λ marks.
+      let m = c.args.canvas.now.map in
+      let placement = c.args.placement.now in
+      let i = c.loop-i.i in
+      let at = c.loop-i.at in
+      let count = c.has_count.ensures.0 c.if-not-has_count.false in
+      absurd (false≢true (sym c.if-not-is_filled_if.true ∙ c.is_filled_if.ensures.1
+      (λ marked. subst (IsFilled m) (cell_at placement i at.x at.y at.f c.loop-i.invariant.at) (marked_filled m placement c.args.held.now i c.requires (omega arith) marks marked)))),
+)
+
+pub loop-i-preserved : goal.loop-i-preserved
+loop-i-preserved c =
+    let m = c.args.canvas.now.map in
+    let placement = c.args.placement.now in
+    let i = c.loop-i.i in
+    let at = c.loop-i.at in
+    record {
+      at = c.next-at.ensures i c.loop-i.invariant.at;
+      each = below_more (λ k. get_or c.args.held.now k false ≡ true → IsFilled m (box_cell placement k)) i c.loop-i.invariant.each
+          (λ marked. subst (IsFilled m) (sym (cell_at placement i at.x at.y at.f c.loop-i.invariant.at)) (c.is_filled_if.ensures.0 c.if-not-is_filled_if.false marked));
+    }
+
+pub returns : goal.returns
+returns c = (
+  λ _. let count = c.has_count.ensures.0 c.if-not-has_count.false in
+      marks_if c.args.canvas.now.map c.args.placement.now c.args.held.now count (λ k lt. c.loop-i.invariant.each k (omega arith)),
+  λ _. λ k. true,
+)

@@ -1,8 +1,0 @@
-use Rattle.seam_cost.proofs.Besides.{right_beside_change, right_beside_choice}
-use Rattle.seam_cost.proofs.laws.table_right_beside_a_change.Goals as goal
-
-pub returns-clause-change : goal.returns-clause-change
-returns-clause-change c = right_beside_change
-
-pub returns-clause-choice : goal.returns-clause-choice
-returns-clause-choice c = right_beside_choice

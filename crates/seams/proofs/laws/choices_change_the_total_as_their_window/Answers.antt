@@ -1,5 +1,0 @@
-use Rattle.seams.proofs.Locality.{changes_as_window}
-use Rattle.seams.proofs.laws.choices_change_the_total_as_their_window.Goals as goal
-
-pub returns : goal.returns
-returns c d m = changes_as_window d m c.args.placement.now

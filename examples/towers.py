@@ -12,7 +12,7 @@ import pathlib
 import re
 import sys
 
-JUDGE = ["costs", "cut_check", "replay", "strip_boundary", "block_strips", "block_check", "block_replay", "frame_distance", "loop_walk"]
+JUDGE = ["costs", "cut_check", "cut_replay", "strip_boundary", "block_strips", "block_check", "block_replay", "frame_distance", "loop_walk"]
 JUDGE += ["cert_file", "standing_files", "check_command"]
 SEARCH = ["match_error", "block_sums", "patch_place", "trial_sample", "cost_windows", "max_flow", "cut_graph", "graph_place", "refine_seams"]
 SEARCH += ["growing", "quilt", "quilting"]

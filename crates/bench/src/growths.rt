@@ -2,7 +2,7 @@
 ghost use Rattle.std.specs.Prelude.{◌≤◌, All, IfOk};
 ghost use Rattle.cells.specs.Places.{IsSmall};
 ghost use Rattle.patch_place.specs.Fitting.{HasPatch};
-ghost use Rattle.replay.specs.Replay.{IsFormed};
+ghost use Rattle.cut_replay.specs.Replay.{IsFormed};
 ghost use Rattle.bench.specs.Sizes.{IsGrowthCase};
 
 use crate::samples::{Texture, sample_of, sum_of};
@@ -10,7 +10,7 @@ use cells::{Size, Volume};
 use growing::{GrowPlan, Grown, grow_canvas};
 use map_canvas::Canvas;
 use patch_place::Mode;
-use replay::replay_cuts;
+use cut_replay::replay_cuts;
 use std::alloc::{AllocError, Global};
 
 /// A growth: the texture and the side of its sample, and what is grown of it.

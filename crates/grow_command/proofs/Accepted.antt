@@ -12,7 +12,7 @@ use Rattle.source_map.specs.declared.map_file.MapFile.TheVariants.{Cells as Cell
 use Rattle.source_map.specs.MapFiles.{cell_map_form, map_read}
 use Rattle.source_map.proofs.MapsAgain as maps
 use Rattle.cut_check.specs.declared.record.CutRecord.{CutRecord}
-use Rattle.replay.specs.Replay.{box_cells}
+use Rattle.cut_replay.specs.Replay.{box_cells}
 use Rattle.cert_file.specs.declared.file.CertFile.TheVariants.{Cuts}
 use Rattle.cert_file.specs.CutReading as cert
 use Rattle.cert_file.specs.RecordFiles.{IsCertOf, cuts_form}

@@ -11,7 +11,7 @@ use Rattle.source_map.specs.MapFiles.{cell_map_form}
 use Rattle.patch_place.specs.Draws.{DrawState}
 use Rattle.cut_check.specs.declared.record.CutRecord.{CutRecord}
 use Rattle.graph_place.specs.Placed.{map_total}
-use Rattle.replay.specs.Replay.{EachLeast, EachOver, EachStands, KeepsFixed, left_by}
+use Rattle.cut_replay.specs.Replay.{EachLeast, EachOver, EachStands, KeepsFixed, left_by}
 use Rattle.growing.specs.Grown.{IsDone, IsRun, IsSplit}
 use Rattle.cert_file.specs.RecordFiles.{cuts_form}
 use Rattle.job_words.specs.declared.grow.GrowJob.{GrowJob}

@@ -14,7 +14,7 @@ use Rattle.source_map.specs.declared.head.Version.TheVariants.{One, Two}
 use Rattle.graph_place.specs.Placed.{map_total}
 use Rattle.patch_place.specs.declared.mode.Mode.{Mode}
 use Rattle.patch_place.specs.declared.mode.Mode.TheVariants as mode
-use Rattle.replay.specs.declared.records.TheConstants.{MOST_BOX_CELLS}
+use Rattle.cut_replay.specs.declared.records.TheConstants.{MOST_BOX_CELLS}
 use Rattle.growing.specs.declared.plan.GrowPlan.{GrowPlan}
 use Rattle.growing.specs.declared.plan.GrowError.{GrowError}
 use Rattle.growing.specs.declared.plan.GrowError.TheVariants as error

@@ -5,7 +5,7 @@ ghost use Rattle.grow_command.specs.Growths.{fault_of_growing, mode_for};
 use growing::GrowError;
 use job_words::Place;
 use patch_place::Mode;
-use replay::MOST_BOX_CELLS;
+use cut_replay::MOST_BOX_CELLS;
 use shelf_core::What;
 use synth_report::Fault;
 

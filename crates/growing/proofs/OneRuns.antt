@@ -9,8 +9,8 @@ use Rattle.map_canvas.specs.Maps.{IsMap}
 use Rattle.cut_check.specs.declared.record.CutRecord.{CutRecord}
 use Rattle.graph_place.specs.Fewest.{IsFewestHeld}
 use Rattle.graph_place.proofs.OneChoice.{one_fewest}
-use Rattle.replay.specs.declared.records.TheConstants.{MOST_BOX_CELLS}
-use Rattle.replay.specs.Replay.{box_cells}
+use Rattle.cut_replay.specs.declared.records.TheConstants.{MOST_BOX_CELLS}
+use Rattle.cut_replay.specs.Replay.{box_cells}
 use Rattle.growing.specs.declared.plan.GrowPlan.{GrowPlan}
 use Rattle.growing.specs.Grown.{ComesNext, Growth, GrowsBy, IsDone, first_growth}
 use Rattle.growing.specs.OneRun.{EndsWithin, IsSameRun, OneLimit, OneRun, SameButFlows}

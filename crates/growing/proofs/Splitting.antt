@@ -12,7 +12,7 @@ use Rattle.map_canvas.proofs.Marks.{empty_is_canvas}
 use Rattle.map_canvas.proofs.Unfilled.{full_is_whole}
 use Rattle.cut_check.specs.declared.record.CutRecord.{CutRecord}
 use Rattle.refine_seams.proofs.Rounding.{stays_full}
-use Rattle.replay.specs.Replay.{EachOver, left_by}
+use Rattle.cut_replay.specs.Replay.{EachOver, left_by}
 use Rattle.growing.specs.declared.plan.GrowPlan.{GrowPlan}
 use Rattle.growing.specs.Grown.{Growth, GrowsBy, first_growth, rounds_made}
 use Rattle.growing.specs.OneRun.{RoundsFollow}

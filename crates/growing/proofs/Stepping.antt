@@ -19,9 +19,9 @@ use Rattle.cut_check.specs.Records.{CutStands, setting}
 use Rattle.graph_place.specs.Fewest.{IsFewestHeld}
 use Rattle.graph_place.specs.Placed.{IsPlaced}
 use Rattle.refine_seams.specs.Rounds.{IsRoundAt}
-use Rattle.replay.specs.declared.records.TheConstants.{MOST_BOX_CELLS}
-use Rattle.replay.specs.Replay.{EachStands, IsFormed, box_cells, left_by}
-use Rattle.replay.proofs.RunLaws.{cells_more, each_more, left_more}
+use Rattle.cut_replay.specs.declared.records.TheConstants.{MOST_BOX_CELLS}
+use Rattle.cut_replay.specs.Replay.{EachStands, IsFormed, box_cells, left_by}
+use Rattle.cut_replay.proofs.RunLaws.{cells_more, each_more, left_more}
 use Rattle.growing.specs.declared.plan.GrowPlan.{GrowPlan}
 use Rattle.growing.specs.declared.steps.Work.{Work}
 use Rattle.growing.specs.Grown.{ComesNext, ComesNextFor, Growth, GrowsBy, IsRun, PassesAt, draws_left, first_growth, rounds_made}

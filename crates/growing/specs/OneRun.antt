@@ -6,8 +6,8 @@ use Rattle.cells.specs.Cells.{Cells}
 use Rattle.map_canvas.specs.Maps.{IsFull, IsMap}
 use Rattle.cut_check.specs.declared.record.CutRecord.{CutRecord}
 use Rattle.graph_place.specs.Placed.{map_total}
-use Rattle.replay.specs.declared.records.TheConstants.{MOST_BOX_CELLS}
-use Rattle.replay.specs.Replay.{box_cells}
+use Rattle.cut_replay.specs.declared.records.TheConstants.{MOST_BOX_CELLS}
+use Rattle.cut_replay.specs.Replay.{box_cells}
 use Rattle.growing.specs.declared.plan.GrowPlan.{GrowPlan}
 use Rattle.growing.specs.Grown.{Growth, GrowsBy, IsDone, IsRun, IsSplit, PassesAt}
 use Rattle.growing.specs.Runs.{Leads}

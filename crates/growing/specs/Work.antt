@@ -6,8 +6,8 @@ use Rattle.map_canvas.specs.Canvases.{IsCanvas, StandsOver}
 use Rattle.map_canvas.specs.Maps.{IsFull, empty_map, first_unfilled}
 use Rattle.cost_windows.specs.Tables.{WindowSums}
 use Rattle.refine_seams.specs.Rounds.{NoWindowCosts, SumsWindowsOf}
-use Rattle.replay.specs.declared.records.TheConstants.{MOST_BOX_CELLS}
-use Rattle.replay.specs.Replay.{EachStands, IsFormed, box_cells, left_by}
+use Rattle.cut_replay.specs.declared.records.TheConstants.{MOST_BOX_CELLS}
+use Rattle.cut_replay.specs.Replay.{EachStands, IsFormed, box_cells, left_by}
 use Rattle.growing.specs.declared.plan.GrowPlan.{GrowPlan}
 use Rattle.growing.specs.declared.plan.GrowError.{GrowError}
 use Rattle.growing.specs.declared.steps.Work.{Work}

@@ -13,7 +13,7 @@ use graph_place::place;
 use map_canvas::Canvas;
 use patch_place::{Draws, next_placement_with};
 use refine_seams::round_with;
-use replay::MOST_BOX_CELLS;
+use cut_replay::MOST_BOX_CELLS;
 use cost_windows::SeamTable;
 use std::alloc::{AllocError, Global};
 

@@ -11,7 +11,7 @@ use Rattle.netpbm_p6.specs.Pictures.{IsRead, IsSound, Refuses, p6_form}
 use Rattle.source_map.specs.MapFiles.{cell_map_form}
 use Rattle.source_map.specs.declared.head.Head.{Head}
 use Rattle.source_map.specs.declared.head.Version.TheVariants.{One}
-use Rattle.replay.specs.declared.records.TheConstants.{MOST_BOX_CELLS}
+use Rattle.cut_replay.specs.declared.records.TheConstants.{MOST_BOX_CELLS}
 use Rattle.quilting.specs.declared.asked.QuiltRun.{QuiltRun}
 use Rattle.quilting.specs.declared.asked.QuiltError.{QuiltError}
 use Rattle.quilting.specs.declared.asked.QuiltError.TheVariants as error

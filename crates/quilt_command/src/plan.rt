@@ -10,7 +10,7 @@ use cells::Size;
 use job_words::QuiltJob;
 use netpbm_p6::{Picture, read_p6};
 use quilting::{QuiltError, QuiltRun, Quilted, quilt_canvas};
-use replay::MOST_BOX_CELLS;
+use cut_replay::MOST_BOX_CELLS;
 use run_outcome::read_fault;
 use shelf_core::{Shelf, What};
 use std::alloc::Global;

@@ -14,7 +14,7 @@ use Rattle.block_strips.specs.Laid.{IsLaidByBlocks}
 use Rattle.block_check.specs.declared.block.BlockRecord.{BlockRecord}
 use Rattle.block_check.specs.Records.{BlockStands, JoinStands}
 use Rattle.quilt.specs.Runs.{HaveOneFrame, QuiltsTo, first_quilting, quilting}
-use Rattle.replay.specs.declared.records.TheConstants.{MOST_BOX_CELLS}
+use Rattle.cut_replay.specs.declared.records.TheConstants.{MOST_BOX_CELLS}
 use Rattle.quilting.specs.declared.asked.QuiltRun.{QuiltRun}
 use Rattle.quilting.specs.declared.asked.QuiltError.{QuiltError}
 use Rattle.quilting.specs.declared.steps.QuiltWork.{QuiltWork}

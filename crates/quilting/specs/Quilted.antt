@@ -10,7 +10,7 @@ use Rattle.patch_place.specs.Draws.{DrawState}
 use Rattle.block_strips.specs.Blocks.{next_box}
 use Rattle.block_check.specs.declared.block.BlockRecord.{BlockRecord}
 use Rattle.quilt.specs.Runs.{IsQuilted, Quilting, QuiltsTo, BlocksReplay, first_quilting, quilting}
-use Rattle.replay.specs.declared.records.TheConstants.{MOST_BOX_CELLS}
+use Rattle.cut_replay.specs.declared.records.TheConstants.{MOST_BOX_CELLS}
 use Rattle.quilting.specs.declared.asked.QuiltRun.{QuiltRun}
 use Rattle.quilting.specs.declared.asked.Quilted.{Quilted}
 use Rattle.quilting.specs.declared.asked.QuiltError.{QuiltError}

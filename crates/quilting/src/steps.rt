@@ -13,7 +13,7 @@ use cells::Volume;
 use map_canvas::Canvas;
 use patch_place::Draws;
 use quilt::next_block_with;
-use replay::MOST_BOX_CELLS;
+use cut_replay::MOST_BOX_CELLS;
 use std::alloc::{AllocError, Global};
 
 /// A run so far.

@@ -7,7 +7,7 @@ use Rattle.map_canvas.specs.Maps.{empty_map}
 use Rattle.source_map.specs.declared.map_file.MapFile.{MapFile}
 use Rattle.cert_file.specs.declared.file.CertFile.{CertFile}
 use Rattle.cert_file.specs.declared.file.CertFile.TheVariants.{Blocks, Cuts, Walk}
-use Rattle.replay.proofs.Standing.{stands_not}
+use Rattle.cut_replay.proofs.Standing.{stands_not}
 use Rattle.block_replay.proofs.FirstBroken as quilted
 use Rattle.loop_walk.proofs.OneAnswer.{no_fault}
 use Rattle.samples.specs.declared.sample.Sample.{Sample}

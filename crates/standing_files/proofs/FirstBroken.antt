@@ -9,8 +9,8 @@ use Rattle.map_canvas.specs.Maps.{SourceMap}
 use Rattle.cut_check.specs.declared.record.CutRecord.{CutRecord}
 use Rattle.cut_check.specs.Records.{CutStands, IsFirstCutFault, setting}
 use Rattle.cut_check.proofs.NoFault.{no_fault}
-use Rattle.replay.specs.declared.records.Broken.{Broken}
-use Rattle.replay.specs.Replay.{EachStands, IsFirstBroken, left_by}
+use Rattle.cut_replay.specs.declared.records.Broken.{Broken}
+use Rattle.cut_replay.specs.Replay.{EachStands, IsFirstBroken, left_by}
 use Rattle.standing_files.proofs.CutFaults.{AreAlike, one_fault}
 
 -- a record before the first n, which all stand, stands

@@ -12,7 +12,7 @@ use Rattle.source_map.specs.declared.head.Head.{Head}
 use Rattle.source_map.specs.declared.map_file.MapFile.{MapFile}
 use Rattle.source_map.specs.MapFiles.{numbered_size}
 use Rattle.cut_check.specs.declared.record.CutRecord.{CutRecord}
-use Rattle.replay.specs.Replay.{EachStands, IsFormed, left_by}
+use Rattle.cut_replay.specs.Replay.{EachStands, IsFormed, left_by}
 use Rattle.block_check.specs.declared.block.BlockRecord.{BlockRecord}
 use Rattle.block_check.specs.Blocks.{IsFormedBlock}
 use Rattle.block_replay.specs.declared.records.BlocksError.{BlocksError}

@@ -6,7 +6,7 @@ use Rattle.loop_walk.specs.Walks.{AtMost, IsLeastWalk, steps_round, walk_cost}
 use Rattle.loop_walk.specs.Tables.{entry_at, table_count}
 use Rattle.loop_walk.specs.Records.{WalkStands}
 use Rattle.loop_walk.proofs.WayLaws.{closed_cost, least_from}
-use Rattle.replay.proofs.Standing.{each_least}
+use Rattle.cut_replay.proofs.Standing.{each_least}
 use Rattle.block_replay.proofs.Standing as blocks_standing
 use Rattle.cert_file.specs.declared.file.CertFile.TheVariants.{Blocks, Cuts, Walk}
 use Rattle.standing_files.specs.Standing.{StandingRecordsAreLeast, walk_costs}

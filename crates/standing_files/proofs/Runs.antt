@@ -10,7 +10,7 @@ use Rattle.cells.specs.Places.{IsInside, cell_count, place_of, spot}
 use Rattle.cells.proofs.Raster.{below_of_div, has_index, place_at}
 use Rattle.map_canvas.specs.Maps.{SourceMap, IsFull, IsMap, empty_map, map_at}
 use Rattle.source_map.specs.MapFiles.{frame_source}
-use Rattle.replay.specs.Replay.{EachStands, left_by}
+use Rattle.cut_replay.specs.Replay.{EachStands, left_by}
 use Rattle.block_replay.specs.BlockReplay.{EachBlockStands, left_by_blocks}
 use Rattle.y4m_clip.specs.declared.form.SpaceKind.{SpaceKind}
 use Rattle.y4m_clip.specs.declared.form.SpaceKind.TheVariants.{Mono, C444, C422, C411, C420}

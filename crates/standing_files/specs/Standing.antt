@@ -14,8 +14,8 @@ use Rattle.source_map.specs.declared.map_file.MapFile.TheVariants.{Cells as Cell
 use Rattle.source_map.specs.MapFiles.{frame_source}
 use Rattle.cut_check.specs.declared.record.CutRecord.{CutRecord}
 use Rattle.cut_check.specs.Records.{Each, IsFirstWithout}
-use Rattle.replay.specs.declared.records.Broken.{Broken}
-use Rattle.replay.specs.Replay.{EachLeast, EachStands, IsFirstBroken, left_by}
+use Rattle.cut_replay.specs.declared.records.Broken.{Broken}
+use Rattle.cut_replay.specs.Replay.{EachLeast, EachStands, IsFirstBroken, left_by}
 use Rattle.block_check.specs.declared.block.BlockRecord.{BlockRecord}
 use Rattle.block_replay.specs.declared.records.BrokenBlock.{BrokenBlock}
 use Rattle.block_replay.specs.BlockReplay.{EachBlockIsLeast, EachBlockStands, IsFirstBrokenBlock, left_by_blocks}

@@ -8,7 +8,7 @@ use Rattle.map_canvas.specs.Maps.{SourceMap, empty_map}
 use Rattle.source_map.specs.declared.map_file.MapFile.{MapFile}
 use Rattle.cut_check.specs.declared.record.CutRecord.{CutRecord}
 use Rattle.cut_check.specs.Records.{Each, IsFirstWithout}
-use Rattle.replay.specs.Replay.{EachStands, left_by}
+use Rattle.cut_replay.specs.Replay.{EachStands, left_by}
 use Rattle.block_check.specs.declared.block.BlockRecord.{BlockRecord}
 use Rattle.block_replay.specs.BlockReplay.{EachBlockStands, left_by_blocks}
 use Rattle.frame_distance.specs.Steps.{Steps}

@@ -2,7 +2,7 @@
 ghost use Rattle.std.specs.Prelude.{◌≡◌, ◌≤◌, ◌<◌, ◌*◌, ◌^◌, ◌↔◌, All, IfOk, IfSome, IfNone, IsTrue, length};
 ghost use Rattle.cells.specs.Cells.{IsOnePart};
 ghost use Rattle.cells.specs.Places.{cell_count, place_of};
-ghost use Rattle.replay.specs.Replay.{IsFormed};
+ghost use Rattle.cut_replay.specs.Replay.{IsFormed};
 ghost use Rattle.block_check.specs.Blocks.{IsFormedBlock};
 ghost use Rattle.frame_distance.specs.declared.table.TheConstants.{MOST_CLIP_CELLS};
 ghost use Rattle.loop_walk.specs.Tables.{IsLength, table_count};
@@ -20,7 +20,7 @@ use cut_check::CutRecord;
 use frame_distance::{distances, filtered};
 use loop_walk::check_loop;
 use map_canvas::{Canvas, Map};
-use replay::replay_cuts;
+use cut_replay::replay_cuts;
 use samples::Samples;
 use source_map::MapFile;
 use std::alloc::{AllocError, Global};

@@ -2,7 +2,7 @@
 ghost use Rattle.std.specs.Prelude.{◌≤◌, All, IfOk};
 ghost use Rattle.cells.specs.Places.{IsSmall};
 ghost use Rattle.patch_place.specs.Fitting.{HasPatch};
-ghost use Rattle.replay.specs.Replay.{IsFormed};
+ghost use Rattle.cut_replay.specs.Replay.{IsFormed};
 
 use crate::rows::{greys, two_parts};
 use cells::{At, Box3, Size, Volume};
@@ -10,7 +10,7 @@ use cut_check::{CutFault, CutRecord, Flow, KEEP_RULE};
 use growing::{GrowPlan, Grown, grow_canvas};
 use map_canvas::{Canvas, Placement};
 use patch_place::Mode;
-use replay::{Broken, replay_cuts};
+use cut_replay::{Broken, replay_cuts};
 use costs::total;
 use std::alloc::{AllocError, Global};
 use std::process::Abort;

@@ -9,7 +9,7 @@ use Rattle.shelf_core.proofs.FileLaws.{told_same, told_weaker}
 use Rattle.graph_place.specs.Placed.{map_total}
 use Rattle.trial_sample.specs.TrialSamples.{trial_sample}
 use Rattle.trial_sample.proofs.Volumes.{trial_is_volume}
-use Rattle.replay.specs.declared.records.TheConstants.{MOST_BOX_CELLS}
+use Rattle.cut_replay.specs.declared.records.TheConstants.{MOST_BOX_CELLS}
 use Rattle.growing.specs.declared.plan.GrowError.{GrowError}
 use Rattle.growing.specs.declared.plan.GrowError.TheVariants as error
 use Rattle.growing.specs.Grown.{Growth, IsGrowFault}

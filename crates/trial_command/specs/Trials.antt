@@ -5,7 +5,7 @@ use Rattle.cells.specs.Places.{cell_count}
 use Rattle.shelf_core.specs.declared.fault.What.TheVariants.{Output, Records as RecordsLimit}
 use Rattle.graph_place.specs.Placed.{map_total}
 use Rattle.trial_sample.specs.TrialSamples.{trial_sample}
-use Rattle.replay.specs.declared.records.TheConstants.{MOST_BOX_CELLS}
+use Rattle.cut_replay.specs.declared.records.TheConstants.{MOST_BOX_CELLS}
 use Rattle.growing.specs.declared.plan.GrowPlan.{GrowPlan}
 use Rattle.growing.specs.declared.plan.Grown.{Grown}
 use Rattle.growing.specs.Grown.{IsGrown, PassesAt}

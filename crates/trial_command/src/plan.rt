@@ -12,7 +12,7 @@ use grow_command::{MOST_OUTPUT_CELLS, growing_fault, mode_for};
 use growing::{GrowPlan, Grown, grow_canvas};
 use job_words::TrialJob;
 use map_canvas::Canvas;
-use replay::replay_cuts;
+use cut_replay::replay_cuts;
 use costs::total;
 use shelf_core::What;
 use std::alloc::{AllocError, Global};

@@ -1,9 +1,9 @@
 use Rattle.std.proofs.Common.{◌≤◌, ◌∙◌, ap, sym, subst}
 use Rattle.std.specs.Prelude.{All}
 use Rattle.map_canvas.specs.Maps.{empty_map}
-use Rattle.replay.specs.declared.records.TheConstants.{MOST_BOX_CELLS}
-use Rattle.replay.specs.Replay.{EachStands, IsFormed, box_cells, left_by}
-use Rattle.replay.proofs.Standing.{each_fits, each_keeps, each_least}
+use Rattle.cut_replay.specs.declared.records.TheConstants.{MOST_BOX_CELLS}
+use Rattle.cut_replay.specs.Replay.{EachStands, IsFormed, box_cells, left_by}
+use Rattle.cut_replay.proofs.Standing.{each_fits, each_keeps, each_least}
 use Rattle.growing.specs.Grown.{IsRun, first_growth}
 use Rattle.growing.specs.Work.{growth_of}
 use Rattle.growing.proofs.Splitting.{run_splits, size_stays, starts}

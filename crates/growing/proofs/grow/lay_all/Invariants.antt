@@ -1,6 +1,6 @@
 use Rattle.std.specs.Prelude.{◌≡◌, ◌+◌, ◌-◌, false, None, if◌then◌else◌}
 use Rattle.map_canvas.specs.Maps.{first_unfilled}
-use Rattle.replay.specs.declared.records.TheConstants.{MOST_BOX_CELLS}
+use Rattle.cut_replay.specs.declared.records.TheConstants.{MOST_BOX_CELLS}
 use Rattle.growing.specs.Work.{IsWork}
 use Rattle.growing.proofs.grow.lay_all.Given as goal
 

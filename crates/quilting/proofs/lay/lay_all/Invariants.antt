@@ -1,6 +1,6 @@
 use Rattle.std.specs.Prelude.{◌≡◌, ◌+◌, ◌-◌, false, if◌then◌else◌}
 use Rattle.map_canvas.specs.Maps.{IsFull}
-use Rattle.replay.specs.declared.records.TheConstants.{MOST_BOX_CELLS}
+use Rattle.cut_replay.specs.declared.records.TheConstants.{MOST_BOX_CELLS}
 use Rattle.quilting.specs.QuiltWork.{IsQuiltWork}
 use Rattle.quilting.proofs.lay.lay_all.Given as goal
 

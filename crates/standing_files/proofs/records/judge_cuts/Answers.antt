@@ -1,7 +1,7 @@
 use Rattle.std.proofs.Common.{◌≡◌, ◌∙◌, ap, sym, subst}
 use Rattle.map_canvas.specs.Canvases.{CanvasState}
 use Rattle.map_canvas.specs.Maps.{SourceMap, empty_map}
-use Rattle.replay.specs.Replay.{EachStands, left_by}
+use Rattle.cut_replay.specs.Replay.{EachStands, left_by}
 use Rattle.standing_files.specs.declared.verdict.Verdict.{Verdict}
 use Rattle.standing_files.specs.Steps.{JudgesCuts}
 use Rattle.standing_files.proofs.Judging.{cuts_judged}

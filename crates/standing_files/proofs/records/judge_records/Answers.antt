@@ -5,7 +5,7 @@ use Rattle.source_map.specs.declared.map_file.MapFile.{MapFile}
 use Rattle.source_map.specs.declared.map_file.MapFile.TheVariants.{Cells as CellMap, Frames}
 use Rattle.cut_check.specs.declared.record.CutRecord.{CutRecord}
 use Rattle.block_check.specs.declared.block.BlockRecord.{BlockRecord}
-use Rattle.replay.specs.Replay.{IsFormed}
+use Rattle.cut_replay.specs.Replay.{IsFormed}
 use Rattle.block_check.specs.Blocks.{IsFormedBlock}
 use Rattle.cert_file.specs.declared.file.CertFile.{CertFile}
 use Rattle.cert_file.specs.declared.file.CertFile.TheVariants.{Blocks, Cuts, Walk}

@@ -1,7 +1,7 @@
 // Records over one another.
 ghost use Rattle.std.specs.Prelude.{◌≡◌, All, OnErr, OnOk};
 ghost use Rattle.map_canvas.specs.Canvases.{IsCanvas, StandsOver};
-ghost use Rattle.replay.specs.Replay.{EachLeast, EachOver, EachStands, IsFormed, KeepsFixed, Replays};
+ghost use Rattle.cut_replay.specs.Replay.{EachLeast, EachOver, EachStands, IsFormed, KeepsFixed, Replays};
 
 use cells::Volume;
 use cut_check::{CutFault, CutRecord, check_cut};

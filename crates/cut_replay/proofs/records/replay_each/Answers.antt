@@ -1,7 +1,7 @@
 use Rattle.std.proofs.Common.{◌∙◌, ap}
 use Rattle.map_canvas.specs.Choices.{map_after}
-use Rattle.replay.proofs.Replaying.{left_longer, stands_longer}
-use Rattle.replay.proofs.records.replay_each.Goals as goal
+use Rattle.cut_replay.proofs.Replaying.{left_longer, stands_longer}
+use Rattle.cut_replay.proofs.records.replay_each.Goals as goal
 
 pub loop-number-preserved : goal.loop-number-preserved
 loop-number-preserved c =

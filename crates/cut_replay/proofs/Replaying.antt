@@ -7,10 +7,10 @@ use Rattle.map_canvas.specs.Choices.{map_after}
 use Rattle.map_canvas.specs.Maps.{IsMap, SourceMap}
 use Rattle.cut_check.specs.declared.record.CutRecord.{CutRecord}
 use Rattle.cut_check.specs.Records.{CutStands, setting}
-use Rattle.replay.specs.declared.records.Broken.{Broken}
-use Rattle.replay.specs.Replay.{EachLeast, EachOver, EachStands, KeepsFixed, Replays, left_by}
-use Rattle.replay.proofs.RunLaws.{each_more, left_more}
-use Rattle.replay.proofs.Standing.{each_keeps, each_least, stands_not}
+use Rattle.cut_replay.specs.declared.records.Broken.{Broken}
+use Rattle.cut_replay.specs.Replay.{EachLeast, EachOver, EachStands, KeepsFixed, Replays, left_by}
+use Rattle.cut_replay.proofs.RunLaws.{each_more, left_more}
+use Rattle.cut_replay.proofs.Standing.{each_keeps, each_least, stands_not}
 
 module _ (sample : Cells) (m : SourceMap) (cuts : List CutRecord) (n : ℕ) (cut : CutRecord) (lt : n < length cuts) (at : cut ≡ get_or cuts n cut) where
   one_longer : take (n + 1) cuts ≡ take n cuts ++ cut ∷ []

@@ -1,5 +1,5 @@
 // What the definitions mean.
-ghost use Rattle.replay.specs.Replay.{BrokenStandsNot, StandingFits, StandingIsLeast, StandingKeeps, StandingLeavesMap};
+ghost use Rattle.cut_replay.specs.Replay.{BrokenStandsNot, StandingFits, StandingIsLeast, StandingKeeps, StandingLeavesMap};
 
 /// A law, with nothing to run: where each record stands over the map that the records before it leave, each
 /// choice is least there, each placement fits, each fixed cell keeps its source, and a map is left.

@@ -1,5 +1,5 @@
-use Rattle.replay.proofs.Standing.{each_fits, each_keeps, each_least, left_is_map}
-use Rattle.replay.proofs.laws.records_that_stand.Goals as goal
+use Rattle.cut_replay.proofs.Standing.{each_fits, each_keeps, each_least, left_is_map}
+use Rattle.cut_replay.proofs.laws.records_that_stand.Goals as goal
 
 pub returns-clause-least : goal.returns-clause-least
 returns-clause-least c = each_least

@@ -1,5 +1,5 @@
-use Rattle.replay.proofs.Replaying.{answer_broken, answer_keeps, answer_least}
-use Rattle.replay.proofs.records.replay_cuts.Goals as goal
+use Rattle.cut_replay.proofs.Replaying.{answer_broken, answer_keeps, answer_least}
+use Rattle.cut_replay.proofs.records.replay_cuts.Goals as goal
 
 pub returns-clause-broken : goal.returns-clause-broken
 returns-clause-broken c = answer_broken c.args.sample.now c.args.canvas.now.map c.args.cuts.now c.replay_each.new.canvas.map c.replay_each.result c.replay_each.ensures.replayed

@@ -14,9 +14,9 @@ use Rattle.cut_check.specs.declared.record.CutRecord.{CutRecord}
 use Rattle.cut_check.specs.Records.{CutStands, setting}
 use Rattle.cut_check.proofs.Least.{stands_least_alone}
 use Rattle.cut_check.proofs.NoFault.{no_fault}
-use Rattle.replay.specs.Replay.{BrokenStandsNot, KeepsFixed, StandingFits, StandingIsLeast, StandingKeeps, StandingLeavesMap}
+use Rattle.cut_replay.specs.Replay.{BrokenStandsNot, KeepsFixed, StandingFits, StandingIsLeast, StandingKeeps, StandingLeavesMap}
 use Rattle.map_canvas.proofs.MapsAfter.{after_is_map}
-use Rattle.replay.proofs.RunLaws.{each_at, each_weaker}
+use Rattle.cut_replay.proofs.RunLaws.{each_at, each_weaker}
 
 pub each_least : StandingIsLeast
 each_least sample = each_weaker (λ m cut. CutStands (setting m sample []) cut) (λ m cut. IsLeastChoice (distance sample) m cut.placement cut.choice)

@@ -1,7 +1,7 @@
 use Rattle.std.proofs.Common.{◌≡◌, take}
 use Rattle.map_canvas.specs.Canvases.{IsCanvas, StandsOver}
-use Rattle.replay.specs.Replay.{EachStands, left_by}
-use Rattle.replay.proofs.records.replay_each.Given as goal
+use Rattle.cut_replay.specs.Replay.{EachStands, left_by}
+use Rattle.cut_replay.proofs.records.replay_each.Given as goal
 
 abbrev pub invariant-loop-number : goal.invariant-loop-number
 invariant-loop-number l = record {

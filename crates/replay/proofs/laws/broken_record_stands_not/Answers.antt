@@ -1,5 +1,0 @@
-use Rattle.replay.proofs.Standing.{stands_not}
-use Rattle.replay.proofs.laws.broken_record_stands_not.Goals as goal
-
-pub returns : goal.returns
-returns c = stands_not

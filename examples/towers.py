@@ -14,11 +14,11 @@ import sys
 
 JUDGE = ["costs", "cut_check", "cut_replay", "strip_boundary", "block_strips", "block_check", "block_replay", "frame_distance", "loop_walk"]
 JUDGE += ["cert_file", "standing_files", "check_command"]
-SEARCH = ["match_error", "block_sums", "patch_place", "trial_sample", "cost_windows", "max_flow", "cut_graph", "graph_place", "refine_seams"]
+SEARCH = ["match_error", "search_squares", "patch_place", "trial_sample", "cost_windows", "max_flow", "cut_graph", "graph_place", "refine_seams"]
 SEARCH += ["growing", "quilt", "quilting"]
 
 # The most lines of the crates that stand on a crate, for an edit of that crate.
-MOST = {"block_sums": 14_000, "patch_place": 9_000}
+MOST = {"search_squares": 14_000, "patch_place": 9_000}
 
 
 def lines_of(folder):

@@ -1,12 +1,12 @@
 // A run, step by step.
 ghost use Rattle.std.specs.Prelude.{◌≡◌, ◌≤◌, ◌<◌, IfOk};
 ghost use Rattle.cells.specs.Places.{IsSmall};
-ghost use Rattle.block_sums.specs.Eliminations.{AreSampleSums};
+ghost use Rattle.search_squares.specs.Eliminations.{AreSampleSums};
 ghost use Rattle.patch_place.specs.Fitting.{HasPatch};
 ghost use Rattle.growing.specs.Work.{Advances, IsRefining, IsWork, Refines};
 
 use crate::plan::{GrowError, GrowPlan};
-use block_sums::SampleSums;
+use search_squares::SampleSums;
 use cells::Volume;
 use cut_check::CutRecord;
 use graph_place::place;

@@ -2,9 +2,9 @@
 use Rattle.std.proofs.Common.{◌≡◌, ℕ, zero, suc, ◌+◌, ◌^◌, ◌<◌, ◌≤◌, List, [], ◌∷◌, ◌++◌, map, take, ap, refl, sym, subst, ◌∙◌, arith}
 use Rattle.std.proofs.lemmas.Int.{ints}
 use Rattle.std.specs.Prelude.{ℤ, pos, ◌+ℤ◌, All, Some, slice_get}
-use Rattle.block_sums.specs.Bounds.{place_along}
-use Rattle.block_sums.specs.Eliminations.{AreEliminated, IsEliminated}
-use Rattle.block_sums.specs.declared.eliminated.Eliminated.{Eliminated}
+use Rattle.search_squares.specs.Bounds.{place_along}
+use Rattle.search_squares.specs.Eliminations.{AreEliminated, IsEliminated}
+use Rattle.search_squares.specs.declared.eliminated.Eliminated.{Eliminated}
 use Rattle.cells.specs.declared.place.At.{At}
 use Rattle.cells.specs.declared.place.Box3.{Box3}
 use Rattle.cells.specs.declared.place.Size.{Size}

@@ -1,6 +1,6 @@
 // The shortlist of a list of candidates, of which a draw picks an entry.
 ghost use Rattle.std.specs.Prelude.{◌≡◌, ◌≤◌, ◌<◌, ◌+◌, ◌^◌, IfOk, OnOk, Some, length, slice_get};
-ghost use Rattle.block_sums.specs.Eliminations.{AreBoxLevels, AreEliminated, AreSampleSums};
+ghost use Rattle.search_squares.specs.Eliminations.{AreBoxLevels, AreEliminated, AreSampleSums};
 ghost use Rattle.cells.specs.Boxes.{HoldsBox};
 ghost use Rattle.cells.specs.Cells.{sizes_of};
 ghost use Rattle.map_canvas.specs.Canvases.{StandsOver};
@@ -20,7 +20,7 @@ use crate::hints::least_hint;
 use crate::reach::{counts_for, rows_for};
 use crate::shortlist::Shortlist;
 use crate::skips::Skips;
-use block_sums::{BoxLevels, SampleSums};
+use search_squares::{BoxLevels, SampleSums};
 use cells::{Box3, Sizes, Volume};
 use map_canvas::{Canvas, Placement};
 use match_error::{Error, FilledCounts, FilledRows, FilledRuns, error_sum_within, filled_count};

@@ -16,7 +16,7 @@
 //! has the step, `picks` the pick, `errors` the walks over lists that fill the shortlist that it is made
 //! from, where a sum that can't be eligible is left unfinished, `hints` the likely candidates of a box
 //! with whose least error its walk begins, `skips` those that its walk leaves out, since sums of blocks
-//! (crate block_sums) show that they can't be eligible, `reach` the sums by which the filled cells of laid
+//! (crate search_squares) show that they can't be eligible, `reach` the sums by which the filled cells of laid
 //! candidates are counted and the runs over which they are compared, `shortlist` the shortlist, and
 //! `eligible` which of its entries are about as good as the best. README.md says the definitions and the
 //! promises in words.

@@ -1,6 +1,6 @@
 // Picks: one of the candidates that are about as good as the best, by a draw.
 ghost use Rattle.std.specs.Prelude.{◌≡◌, Contains, IfOk, IsSome, IsTrue, OnErr, OnOk};
-ghost use Rattle.block_sums.specs.Eliminations.{AreSampleSums};
+ghost use Rattle.search_squares.specs.Eliminations.{AreSampleSums};
 ghost use Rattle.map_canvas.specs.Canvases.{StandsOver};
 ghost use Rattle.map_canvas.specs.Choices.{Fits};
 ghost use Rattle.patch_place.specs.Lists.{IsWithin};
@@ -10,7 +10,7 @@ ghost use Rattle.patch_place.specs.Tables.{IsPickAtOn};
 
 use crate::errors::{count_for, entry_for, shortlist_of};
 use crate::{Candidates, Draws};
-use block_sums::SampleSums;
+use search_squares::SampleSums;
 use cells::Volume;
 use map_canvas::{Canvas, Placement};
 use std::alloc::{AllocError, Global};

@@ -4,10 +4,10 @@ ghost use Rattle.cells.specs.declared.place.Box3.{Box3};
 ghost use Rattle.cells.specs.Boxes.{HoldsBox};
 ghost use Rattle.cells.specs.Cells.{Cells};
 ghost use Rattle.map_canvas.specs.Canvases.{CanvasState, StandsOver};
-ghost use Rattle.block_sums.specs.Bounds.{place_along};
-ghost use Rattle.block_sums.specs.Eliminations.{AreBoxLevels, AreEliminated, AreSampleSums, IsEliminated};
+ghost use Rattle.search_squares.specs.Bounds.{place_along};
+ghost use Rattle.search_squares.specs.Eliminations.{AreBoxLevels, AreEliminated, AreSampleSums, IsEliminated};
 
-use block_sums::{BoxLevels, Eliminated, LANES, Pauses, SampleSums};
+use search_squares::{BoxLevels, Eliminated, LANES, Pauses, SampleSums};
 use cells::{At, Volume};
 use map_canvas::{Canvas, Placement};
 

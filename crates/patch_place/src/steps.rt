@@ -1,7 +1,7 @@
 // Steps of growing: the next placement of a mode.
 ghost use Rattle.std.specs.Prelude.{◌≡◌, All, IsSome, IsTrue, IfOk, OnErr, OnOk};
 ghost use Rattle.cells.specs.Places.{IsInside};
-ghost use Rattle.block_sums.specs.Eliminations.{AreSampleSums};
+ghost use Rattle.search_squares.specs.Eliminations.{AreSampleSums};
 ghost use Rattle.map_canvas.specs.Canvases.{StandsOver};
 ghost use Rattle.patch_place.specs.Fitting.{FitsAndCovers, HasPatch};
 ghost use Rattle.patch_place.specs.Lists.{IsWithin};
@@ -11,7 +11,7 @@ ghost use Rattle.patch_place.specs.Steps.{IsChosen, IsNext, draws_after, toleran
 
 use crate::errors::entry_for;
 use crate::{Candidates, Draws, Mode, pick_with};
-use block_sums::SampleSums;
+use search_squares::SampleSums;
 use cells::{At, Volume};
 use map_canvas::{Canvas, Placement};
 use std::alloc::{AllocError, Global};

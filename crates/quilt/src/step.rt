@@ -3,7 +3,7 @@ ghost use Rattle.std.specs.Prelude.{◌≡◌, ◌≤◌, IfOk, IfSome, OnErr, O
 ghost use Rattle.map_canvas.specs.Canvases.{IsCanvas, StandsOver};
 ghost use Rattle.map_canvas.specs.Choices.{Fits};
 ghost use Rattle.match_error.specs.Errors.{error_of};
-ghost use Rattle.block_sums.specs.Eliminations.{AreSampleSums};
+ghost use Rattle.search_squares.specs.Eliminations.{AreSampleSums};
 ghost use Rattle.patch_place.specs.Lists.{fit_list, part_lists};
 ghost use Rattle.patch_place.specs.Picks.{IsPick};
 ghost use Rattle.patch_place.specs.Steps.{after_draw};
@@ -16,7 +16,7 @@ ghost use Rattle.quilt.specs.Runs.{HaveOneFrame, IsLaidBlock, LaysNext, quilting
 use crate::lay_block;
 use block_check::{BlockRecord, put_block};
 use block_strips::{QuiltPlan, block_rect, next_block_shares_strips};
-use block_sums::SampleSums;
+use search_squares::SampleSums;
 use cells::{Box3, Volume};
 use map_canvas::{Canvas, Placement};
 use patch_place::{Candidates, Draws, box_list_is_all_that_fit, pick_with};

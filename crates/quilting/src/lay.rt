@@ -1,11 +1,11 @@
 // The whole run.
-ghost use Rattle.block_sums.specs.Eliminations.{AreSampleSums};
+ghost use Rattle.search_squares.specs.Eliminations.{AreSampleSums};
 ghost use Rattle.quilting.specs.Quilted.{CanBeQuilted, Quilts};
 ghost use Rattle.quilting.specs.QuiltWork.{LaysQuilt};
 
 use crate::asked::{QuiltError, QuiltRun, Quilted};
 use crate::steps::{QuiltWork, begin, step};
-use block_sums::SampleSums;
+use search_squares::SampleSums;
 use cells::Volume;
 use items::Items;
 use std::alloc::Global;

@@ -1,6 +1,6 @@
 // A run, step by step.
 ghost use Rattle.std.specs.Prelude.{IfOk};
-ghost use Rattle.block_sums.specs.Eliminations.{AreSampleSums};
+ghost use Rattle.search_squares.specs.Eliminations.{AreSampleSums};
 ghost use Rattle.quilting.specs.Quilted.{CanBeQuilted};
 ghost use Rattle.quilting.specs.QuiltWork.{QuiltAdvances, IsQuiltWork};
 
@@ -8,7 +8,7 @@ use crate::asked::{QuiltError, QuiltRun};
 use crate::totals::{block_boundaries, block_cost, block_fits};
 use block_check::BlockRecord;
 use block_strips::empty_map_is_laid;
-use block_sums::SampleSums;
+use search_squares::SampleSums;
 use cells::Volume;
 use map_canvas::Canvas;
 use patch_place::Draws;

@@ -3,12 +3,12 @@ ghost use Rattle.std.specs.Prelude.{◌≡◌, ◌≤◌, IfOk, IfSome};
 ghost use Rattle.cells.specs.Boxes.{HasCells};
 ghost use Rattle.map_canvas.specs.Canvases.{IsCanvas, StandsOver};
 ghost use Rattle.map_canvas.specs.Maps.{IsFull};
-ghost use Rattle.block_sums.specs.Eliminations.{AreSampleSums};
+ghost use Rattle.search_squares.specs.Eliminations.{AreSampleSums};
 ghost use Rattle.patch_place.specs.Fitting.{HasRoomInEach};
 ghost use Rattle.graph_place.specs.Placed.{map_total};
 ghost use Rattle.refine_seams.specs.Rounds.{IsRoundBox, SumsWindowsOf, Rounds};
 
-use block_sums::SampleSums;
+use search_squares::SampleSums;
 use cells::{Box3, Volume};
 use cut_check::CutRecord;
 use graph_place::place;

@@ -1,8 +1,8 @@
-// Worked examples of block_sums: which places blocks of 2x2 cells rule out, and which only single cells do.
+// Worked examples of search_squares: which places blocks of 2x2 cells rule out, and which only single cells do.
 ghost use Rattle.map_canvas.specs.Canvases.{StandsOver};
 
 use crate::rows::{assert_fits, canvas_over};
-use block_sums::{BoxLevels, Eliminated, Pauses, SampleSums};
+use search_squares::{BoxLevels, Eliminated, Pauses, SampleSums};
 use cells::{At, Box3, Size, Volume};
 use map_canvas::{Canvas, Placement};
 use std::alloc::{AllocError, Global};

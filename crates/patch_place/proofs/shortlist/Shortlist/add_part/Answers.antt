@@ -1,6 +1,6 @@
 use Rattle.std.proofs.Common.{◌≡◌, ◌≤◌, ◌<◌, ◌+◌, ◌++◌, map, take, ap, sym, subst, ◌∙◌, arith}
 use Rattle.std.specs.Prelude.{All, Some, slice_get}
-use Rattle.block_sums.specs.Eliminations.{AreEliminated}
+use Rattle.search_squares.specs.Eliminations.{AreEliminated}
 use Rattle.cells.specs.Places.{cell_count}
 use Rattle.cells.specs.SizeLists.{frames_to_part}
 use Rattle.map_canvas.specs.Choices.{Fits}

@@ -1,5 +1,5 @@
 use Rattle.std.proofs.Common.{◌≡◌, ◌+◌, ◌-◌, ◌≤◌, ◌++◌, map, take}
-use Rattle.block_sums.specs.Eliminations.{AreEliminated}
+use Rattle.search_squares.specs.Eliminations.{AreEliminated}
 use Rattle.cells.specs.Places.{cell_count}
 use Rattle.cells.specs.SizeLists.{frames_to_part}
 use Rattle.match_error.specs.Errors.{error_of}

@@ -1,4 +1,0 @@
-use Rattle.block_sums.proofs.blocks.Block.entry_in.Goals as goal
-
-pub returns-then-own : goal.returns-then-own
-returns-then-own c = c.requires.own c.if-own.true

@@ -1,6 +1,0 @@
-use Rattle.std.proofs.Common.{◌+◌, ◌*◌, ◌<◌, ℕ}
-use Rattle.block_sums.specs.Gathered.{AreFree}
-use Rattle.block_sums.proofs.blocks.is_block_free.Given as goal
-
-abbrev pub invariant-loop-j : goal.invariant-loop-j
-invariant-loop-j l = (j : ℕ) → j < l.j → AreFree l.free (l.start + l.w * j) l.side

@@ -1,5 +1,0 @@
-use Rattle.block_sums.specs.Gathered.{AreFree}
-use Rattle.block_sums.proofs.blocks.is_row_free.Given as goal
-
-abbrev pub invariant-loop-i : goal.invariant-loop-i
-invariant-loop-i l = AreFree l.free l.start l.i

@@ -1,6 +1,0 @@
-use Rattle.std.proofs.Common.{◌+◌, ◌*◌}
-use Rattle.block_sums.specs.Gathered.{IsTaken, rows_sum}
-use Rattle.block_sums.proofs.blocks.take_block.Given as goal
-
-abbrev pub invariant-loop-j : goal.invariant-loop-j
-invariant-loop-j l = IsTaken (l.start + l.w * l.j) (rows_sum l.start l.w l.side l.j) l.fn.free l.free

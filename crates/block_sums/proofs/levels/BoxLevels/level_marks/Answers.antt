@@ -1,8 +1,0 @@
-use Rattle.block_sums.proofs.PlaceRuns.{none_marked}
-use Rattle.block_sums.proofs.levels.BoxLevels.level_marks.Goals as goal
-
-pub returns-in_default : goal.returns-in_default
-returns-in_default c = λ j _ marked. absurd (none_marked j marked)
-
-pub returns-in_default-get : goal.returns-in_default-get
-returns-in_default-get c = λ j _ marked. absurd (none_marked j marked)

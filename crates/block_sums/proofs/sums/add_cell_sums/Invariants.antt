@@ -1,5 +1,0 @@
-use Rattle.block_sums.specs.Sums.{ArePut, IsCellSum}
-use Rattle.block_sums.proofs.sums.add_cell_sums.Given as goal
-
-abbrev pub invariant-loop-x : goal.invariant-loop-x
-invariant-loop-x l = ArePut (IsCellSum l.sample l.rect l.y l.f) l.x l.fn.sums.items l.sums.items

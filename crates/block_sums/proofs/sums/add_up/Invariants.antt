@@ -1,7 +1,0 @@
-use Rattle.std.proofs.Common.{◌*◌}
-use Rattle.block_sums.specs.declared.sums.TheConstants.{LANES}
-use Rattle.block_sums.specs.Sums.{AreAddedTo}
-use Rattle.block_sums.proofs.sums.add_up.Given as goal
-
-abbrev pub invariant-loop-run : goal.invariant-loop-run
-invariant-loop-run l = AreAddedTo l.step l.n (LANES * l.run) l.fn.entries l.entries

@@ -1,5 +1,0 @@
-use Rattle.block_sums.specs.Sums.{AreRows, IsCellSum}
-use Rattle.block_sums.proofs.sums.cell_rows.Given as goal
-
-abbrev pub invariant-loop-row : goal.invariant-loop-row
-invariant-loop-row l = AreRows (IsCellSum l.sample l.rect) l.rect.size l.row l.sums.items

@@ -1,0 +1,20 @@
+use Rattle.search_squares.specs.Bounds.{place_along}
+use Rattle.search_squares.proofs.PlaceRuns.{inner_held, none_marked}
+use Rattle.search_squares.proofs.levels.marks_of.Goals as goal
+
+pub returns-then-blocks-sums : goal.returns-then-blocks-sums
+returns-then-blocks-sums c = λ j _ marked. absurd (none_marked j marked)
+
+pub above-requires-clause-laid : goal.above-requires-clause-laid
+above-requires-clause-laid c = λ j lj. record {
+  volume = c.samples-sample.ensures.volume;
+  stands = c.requires.over;
+  fits = record {
+    some = c.holds_run.ensures.some c.if-not-holds_run.false;
+    inside = c.requires.inside;
+    sources = inner_held c.args.sample.now c.args.sums.now.rect (place_along c.args.from j) c.args.rect.now.size (c.holds_run.ensures.inside c.if-not-holds_run.false j lj) c.requires.sums.inside;
+  };
+}
+
+pub above-requires-clause-inside : goal.above-requires-clause-inside
+above-requires-clause-inside c = c.holds_run.ensures.inside c.if-not-holds_run.false

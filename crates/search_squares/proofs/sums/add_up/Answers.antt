@@ -1,0 +1,35 @@
+use Rattle.std.proofs.Common.{◌≡◌, ◌≤◌, ◌<◌, ◌+◌, ◌-◌, ◌*◌, ◌^◌, ◌∙◌, ap, sym, subst, arith}
+use Rattle.std.proofs.Math.Nat.{mul-le-mul_left}
+use Rattle.search_squares.specs.declared.sums.TheConstants.{LANES}
+use Rattle.search_squares.proofs.AddedSums.{all_added, none_added, run_added, same_sums}
+use Rattle.search_squares.proofs.sums.add_up.Goals as goal
+
+pub overflow_mul-reach : goal.overflow_mul-reach
+overflow_mul-reach c = omega (arith, c.requires.reach, mul-le-mul_left c.args.step (let le : c.args.n - 1 ≤ c.args.n = omega arith in le))
+
+pub loop-run-init : goal.loop-run-init
+loop-run-init c = none_added c.args.step c.args.n (LANES * 0) c.args.entries.now (omega arith)
+
+pub stepped_sums-sums-requires-clause-inside : goal.stepped_sums-sums-requires-clause-inside
+stepped_sums-sums-requires-clause-inside c = λ j lt.
+    omega (arith, mul-le-mul_left c.args.step (let le : j ≤ c.args.n - 1 = omega (arith, lt) in le), c.loop-run-test.true, c.loop-run.auto, c.loop-run.invariant.long)
+
+pub stepped_sums-sums-requires-clause-fits : goal.stepped_sums-sums-requires-clause-fits
+stepped_sums-sums-requires-clause-fits c = λ i lt.
+    let at = LANES * c.loop-run.run + i in
+    subst (λ s. s < 2 ^ 16) (sym (same_sums c.args.step c.args.n (LANES * c.loop-run.run) c.args.entries.now c.loop-run.entries c.loop-run.invariant at (omega arith))) (c.requires.fits at)
+
+pub put_run-requires-clause-room : goal.put_run-requires-clause-room
+put_run-requires-clause-room c = omega (arith, c.loop-run-test.true, c.loop-run.auto, c.loop-run.invariant.long)
+
+pub loop-run-preserved : goal.loop-run-preserved
+loop-run-preserved c =
+    run_added c.args.step c.args.n (LANES * c.loop-run.run) c.args.entries.now c.loop-run.entries c.loop-run.invariant _ (LANES * (c.loop-run.run + 1)) (omega arith) c.put_run.ensures.long
+    (λ i lt. c.put_run.ensures.run i lt ∙ c.stepped_sums-sums.ensures.sums i lt) c.put_run.ensures.before c.put_run.ensures.after
+
+pub returns : goal.returns
+returns c =
+    all_added c.args.step c.args.n (LANES * c.loop-run.run) c.args.entries.now c.loop-run.entries c.loop-run.invariant c.requires.some
+    (λ i last is le.
+    let reach : c.args.step * (c.args.n - 1) ≡ c.args.step * last = ap (λ m. c.args.step * m) (let e : c.args.n - 1 ≡ last = omega (arith, is) in e) in
+    omega (arith, reach, le, c.loop-run-test.false, c.loop-run.auto))

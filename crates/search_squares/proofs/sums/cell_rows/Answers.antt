@@ -1,0 +1,25 @@
+use Rattle.std.proofs.Common.{◌≡◌, ◌*◌, sym, subst, arith}
+use Rattle.cells.proofs.Raster.{below_of_div}
+use Rattle.search_squares.specs.Sums.{AreRows, IsCellSum}
+use Rattle.search_squares.proofs.SumRows.{no_rows, row_more}
+use Rattle.search_squares.proofs.sums.cell_rows.Goals as goal
+
+pub add_cell_sums-requires-clause-row : goal.add_cell_sums-requires-clause-row
+add_cell_sums-requires-clause-row c =
+    let size = c.args.rect.now.size in
+    (omega (arith, c.requires.small.axes.h), below_of_div size.h size.f c.loop-row.row (omega (arith, c.requires.small.axes.h)) (omega (arith, c.loop-row-test.true)))
+
+pub loop-row-init : goal.loop-row-init
+loop-row-init c =
+    let Is = IsCellSum c.args.sample.now c.args.rect.now in
+    subst (AreRows Is c.args.rect.now.size 0) (sym c.in_ok-sums.ensures.items) (no_rows Is c.args.rect.now.size)
+
+pub loop-row-preserved : goal.loop-row-preserved
+loop-row-preserved c =
+    row_more (IsCellSum c.args.sample.now c.args.rect.now) c.args.rect.now.size c.loop-row.row c.loop-row.sums.items _ c.loop-row.invariant c.in_ok-add_cell_sums.ensures
+
+pub returns : goal.returns
+returns c =
+    let size = c.args.rect.now.size in
+    let whole : c.loop-row.row ≡ size.h * size.f = omega (arith, c.loop-row-test.false, c.loop-row.auto.row-end) in
+    subst (λ n. AreRows (IsCellSum c.args.sample.now c.args.rect.now) size n c.loop-row.sums.items) whole c.loop-row.invariant

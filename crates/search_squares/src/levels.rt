@@ -1,0 +1,355 @@
+// Blocks of several sizes, of a whole sample and of one box of the output.
+ghost use Rattle.std.specs.Prelude.{◌≡◌, ◌≤◌, ◌<◌, ◌*◌, ◌^◌, IfOk, IsTrue, OnErr, OnOk, length};
+ghost use Rattle.cells.specs.Boxes.{HasCells, HoldsBox};
+ghost use Rattle.cells.specs.Cells.{Cells, sizes_of};
+ghost use Rattle.cells.specs.Places.{cell_count};
+ghost use Rattle.map_canvas.specs.Canvases.{StandsOver};
+ghost use Rattle.search_squares.specs.Blocks.{AreBoxBlocks, block_bytes};
+ghost use Rattle.search_squares.specs.Bounds.{AreAbove};
+ghost use Rattle.search_squares.specs.Eliminations.{AreBoxLevels, AreEliminated, AreSampleSums};
+ghost use Rattle.search_squares.specs.Gathered.{HasShortRows, MarkFilled};
+ghost use Rattle.search_squares.specs.Sums.{AreBlockSums};
+
+use crate::blocks::{BoxBlocks, filled_cells};
+use crate::eliminated::Eliminated;
+use crate::lanes::{left_in, marks_of_both};
+use crate::pauses::Pauses;
+use crate::places::{holds_run, places_to_end};
+use crate::rows::{has_cells, short_rows};
+use crate::sums::{BlockSums, LANES};
+use cells::{At, Box3, MOST_SAMPLES, Size, Sizes, Volume};
+use map_canvas::Canvas;
+use std::alloc::{AllocError, Global};
+
+/// How many sizes of blocks there are: the coarse level, the middle one, the fine one, and that of single
+/// cells.
+pub(crate) const LEVELS: usize = 4;
+
+// The cells of a block of the middle level on each side.
+const MIDDLE_SIDE: u32 = 4;
+
+// The cells of a block of the fine level on each side.
+const FINE_SIDE: u32 = 2;
+
+// That of single cells, each of which is a block. Its sums are those of a cell's samples.
+const SINGLE_SIDE: u32 = 1;
+
+// The most bytes of a sample that has sums of all levels: a greater one has those of the coarse level and
+// of the fine one, which take half as much memory.
+const MOST_BYTES_OF_ALL: usize = 1 << 22;
+
+// The most places of a run for which each level isn't tried: that takes about as long as to sum up so
+// many errors.
+const FEW_PLACES: [u32; LEVELS] = [0, 3, 3, 16];
+
+// The cells of a block of the coarse level on each side: not so many that the bytes of a block can
+// add up to 2^16.
+fn coarse_side(k: u32) -> u32
+    requires { k ≤ MOST_SAMPLES }
+    ensures some { 1 ≤ result }
+    ensures few { 255 * block_bytes result k < 2 ^ 16 }
+{
+    if k <= 4 {
+        return 8;
+    }
+    6
+}
+
+// The box that has sums of all levels, of that of a part: all of it, or no cell of it where the sample is
+// too great.
+fn box_of_all(sample: &Volume, part: &Box3) -> Box3 {
+    if sample.bytes().len() <= MOST_BYTES_OF_ALL {
+        return *part;
+    }
+    Box3 {
+        corner: part.corner,
+        size: Size { w: 0, h: 0, f: 0 },
+    }
+}
+
+// The box of a part in the joined volume, by its number from 1.
+fn part_box(sizes: &Sizes, part: u32) -> Box3
+    requires from { 1 ≤ part }
+    requires to { part ≤ length sizes.now }
+{
+    let size = sizes.at(part);
+    let corner = sizes.stock(part, At { x: 0, y: 0, f: 0 });
+    Box3 { corner, size }
+}
+
+/// The sums of the blocks of all parts of a sample, of several sizes. Made once, they serve all picks
+/// from it.
+#[derive(Drop)]
+pub struct SampleSums {
+    // those of the first part, from the coarse level on, then those of the next
+    pub(crate) levels: Vec<BlockSums>,
+}
+
+impl SampleSums {
+    /// No sums, by which no place is eliminated. It takes no memory.
+    pub fn none(alloc: Global) -> SampleSums
+        ensures { (sample : Cells) → AreSampleSums sample result }
+    {
+        SampleSums {
+            levels: Vec::new(alloc),
+        }
+    }
+
+    // The sums of the blocks of one size more, of one part.
+    fn add_level(
+        &mut self,
+        alloc: Global,
+        sample: &Volume,
+        rect: &Box3,
+        side: u32,
+    ) -> Result<(), AllocError>
+        requires some { 1 ≤ side }
+        requires few { 255 * block_bytes side sample.now.k < 2 ^ 16 }
+        requires sums { AreSampleSums sample.now self.old }
+        ensures { OnOk result (AreSampleSums sample.now self.new) }
+    {
+        if !sample.holds(rect) {
+            return Ok(());
+        }
+        let sums = BlockSums::make(alloc, sample, rect, side)?;
+        self.levels.push(sums)?;
+        Ok(())
+    }
+
+    // The sums of the blocks of all sizes, of one part.
+    fn add_part(&mut self, alloc: Global, sample: &Volume, rect: &Box3) -> Result<(), AllocError>
+        requires sums { AreSampleSums sample.now self.old }
+        ensures { OnOk result (AreSampleSums sample.now self.new) }
+    {
+        let side = coarse_side(sample.samples());
+        let all = box_of_all(sample, rect);
+        self.add_level(alloc, sample, rect, side)?;
+        self.add_level(alloc, sample, &all, MIDDLE_SIDE)?;
+        self.add_level(alloc, sample, rect, FINE_SIDE)?;
+        self.add_level(alloc, sample, &all, SINGLE_SIDE)
+    }
+
+    /// The sums of all parts of a sample. They take 8 bytes a cell, or 4 where the sample has more than
+    /// 2^22 bytes, and some more a part; and no more while they are made. The one error is out of
+    /// memory.
+    pub fn make(alloc: Global, sample: &Volume) -> Result<SampleSums, AllocError>
+        ensures { IfOk result (AreSampleSums sample.now) }
+    {
+        let mut sums = SampleSums::none(alloc);
+        let sizes = sample.sizes();
+        for n in 0..sizes.len() {
+            let rect = part_box(&sizes, n + 1);
+            sums.add_part(alloc, sample, &rect)?;
+        }
+        Ok(sums)
+    }
+
+    /// The same where a search goes by them, and else no sums, which take no memory.
+    pub fn make_if(alloc: Global, sample: &Volume, wanted: bool) -> Result<SampleSums, AllocError>
+        ensures sums { IfOk result (AreSampleSums sample.now) }
+        ensures memory { OnErr result (IsTrue wanted) }
+    {
+        if wanted {
+            SampleSums::make(alloc, sample)
+        } else {
+            Ok(SampleSums::none(alloc))
+        }
+    }
+}
+
+// Of n places along X from one on, those that blocks of one size eliminate. None where the box, laid
+// from one of them, isn't in that of the sums.
+fn marks_of(
+    blocks: &BoxBlocks,
+    sums: &BlockSums,
+    canvas: &Canvas,
+    sample: &Volume,
+    rect: &Box3,
+    from: At,
+    n: u32,
+    limit: u64,
+) -> u32
+    requires over { StandsOver canvas.now sample.now }
+    requires inside { HoldsBox canvas.now.map.size rect.now.corner rect.now.size }
+    requires blocks { AreBoxBlocks canvas.now rect.now blocks.now }
+    requires sums { AreBlockSums sample.now sums.now }
+    requires few { n ≤ LANES }
+    ensures { AreAbove canvas.now sample.now rect.now from n limit result }
+{
+    // It is asked for only to show the check that the sample is a volume.
+    let _sample = sample.samples();
+    if blocks.side != sums.side || !holds_run(&sums.rect, rect.size, from, n) {
+        return 0;
+    }
+    blocks.above(sums, canvas, sample, rect, from, n, limit)
+}
+
+/// Disjoint blocks of the filled cells of one box, of several sizes. They serve all placements of the
+/// box, as long as the canvas stays as it is.
+#[derive(Drop)]
+pub struct BoxLevels {
+    // from the coarse level on
+    pub(crate) levels: Vec<BoxBlocks>,
+}
+
+impl BoxLevels {
+    // The blocks of one size more.
+    fn add_level(
+        &mut self,
+        alloc: Global,
+        canvas: &Canvas,
+        rect: &Box3,
+        side: u32,
+        size: Size,
+        filled: &[bool],
+    ) -> Result<(), AllocError>
+        requires inside { HoldsBox canvas.now.map.size rect.now.corner rect.now.size }
+        requires cells { HasCells rect.now.size }
+        requires some { 1 ≤ side }
+        requires few { 255 * block_bytes side canvas.now.picture.k < 2 ^ 16 }
+        requires rows { HasShortRows size }
+        requires long { length filled.now ≡ cell_count rect.now.size }
+        requires filled { MarkFilled canvas.now.map rect.now filled.now }
+        requires levels { AreBoxLevels canvas.now rect.now self.old }
+        ensures { OnOk result (AreBoxLevels canvas.now rect.now self.new) }
+    {
+        let mut blocks = BoxBlocks::gather_of(alloc, canvas, rect, side, size, filled)?;
+        blocks.put_far_first();
+        self.levels.push(blocks)?;
+        Ok(())
+    }
+
+    /// The blocks of the sizes that a sample's sums have; none where it has none. The one error is out
+    /// of memory.
+    pub fn gather(
+        alloc: Global,
+        canvas: &Canvas,
+        rect: &Box3,
+        sums: &SampleSums,
+    ) -> Result<BoxLevels, AllocError>
+        requires inside { HoldsBox canvas.now.map.size rect.now.corner rect.now.size }
+        ensures { IfOk result (AreBoxLevels canvas.now rect.now) }
+    {
+        let mut levels = BoxLevels {
+            levels: Vec::new(alloc),
+        };
+        let Some(first) = sums.levels.first() else {
+            return Ok(levels);
+        };
+        if !has_cells(rect.size) {
+            return Ok(levels);
+        }
+        let filled = filled_cells(alloc, canvas, rect)?;
+        let size = short_rows(first.rect.size);
+        let side = coarse_side(canvas.picture().samples());
+        levels.add_level(alloc, canvas, rect, side, size, &filled)?;
+        levels.add_level(alloc, canvas, rect, MIDDLE_SIDE, size, &filled)?;
+        levels.add_level(alloc, canvas, rect, FINE_SIDE, size, &filled)?;
+        levels.add_level(alloc, canvas, rect, SINGLE_SIDE, size, &filled)?;
+        Ok(levels)
+    }
+
+    // Those that the blocks of one level eliminate, by the sums of one part.
+    fn level_marks(
+        &self,
+        level: usize,
+        sums: &SampleSums,
+        canvas: &Canvas,
+        sample: &Volume,
+        rect: &Box3,
+        part: u32,
+        from: At,
+        n: u32,
+        limit: u64,
+    ) -> u32
+        requires below { level < LEVELS }
+        requires over { StandsOver canvas.now sample.now }
+        requires inside { HoldsBox canvas.now.map.size rect.now.corner rect.now.size }
+        requires sums { AreSampleSums sample.now sums.now }
+        requires levels { AreBoxLevels canvas.now rect.now self.now }
+        requires few { n ≤ LANES }
+        ensures { AreAbove canvas.now sample.now rect.now from n limit result }
+    {
+        let Some(blocks) = self.levels.get(level) else {
+            return 0;
+        };
+        let Some(sums) = sums.levels.get(LEVELS * part as usize + level) else {
+            return 0;
+        };
+        marks_of(blocks, sums, canvas, sample, rect, from, n, limit)
+    }
+
+    // Those that the blocks of one of the levels eliminate. A finer level is left out where the coarser ones
+    // leave so few places that their errors are summed up sooner, and where it was of little use to the
+    // runs before.
+    fn marks(
+        &self,
+        sums: &SampleSums,
+        canvas: &Canvas,
+        sample: &Volume,
+        rect: &Box3,
+        part: u32,
+        from: At,
+        n: u32,
+        limit: u64,
+        pauses: &mut Pauses,
+    ) -> u32
+        requires over { StandsOver canvas.now sample.now }
+        requires inside { HoldsBox canvas.now.map.size rect.now.corner rect.now.size }
+        requires sums { AreSampleSums sample.now sums.now }
+        requires levels { AreBoxLevels canvas.now rect.now self.now }
+        requires few { n ≤ LANES }
+        ensures { AreAbove canvas.now sample.now rect.now from n limit result }
+    {
+        let mut marks = self.level_marks(0, sums, canvas, sample, rect, part, from, n, limit);
+        'levels: for level in 1..LEVELS {
+            let left = left_in(marks, n);
+            if left <= FEW_PLACES[level] {
+                return marks;
+            }
+            if pauses.leaves_out(level) {
+                continue 'levels;
+            }
+            let more = self.level_marks(level, sums, canvas, sample, rect, part, from, n, limit);
+            marks = marks_of_both(marks, more);
+            pauses.count(level, left, left_in(marks, n));
+        }
+        marks
+    }
+
+    /// Of a run of places along X, from one on, those that the box can't be laid from with an error up
+    /// to a limit. The run has no more places than the box may be laid from in the part with this
+    /// number, counted from 0. The pauses are those of the runs before.
+    pub fn eliminate(
+        &self,
+        sums: &SampleSums,
+        canvas: &Canvas,
+        sample: &Volume,
+        rect: &Box3,
+        part: u32,
+        from: At,
+        limit: u64,
+        pauses: &mut Pauses,
+    ) -> Eliminated
+        requires over { StandsOver canvas.now sample.now }
+        requires inside { HoldsBox canvas.now.map.size rect.now.corner rect.now.size }
+        requires sums { AreSampleSums sample.now sums.now }
+        requires levels { AreBoxLevels canvas.now rect.now self.now }
+        ensures { AreEliminated canvas.now sample.now rect.now result }
+    {
+        let Some(coarse) = sums.levels.get(LEVELS * part as usize) else {
+            return Eliminated::none();
+        };
+        let n = places_to_end(&coarse.rect, rect.size.w, from);
+        if n == 0 {
+            return Eliminated::none();
+        }
+        let above = self.marks(sums, canvas, sample, rect, part, from, n, limit, pauses);
+        Eliminated {
+            from,
+            n,
+            limit,
+            above,
+        }
+    }
+}

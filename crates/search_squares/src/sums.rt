@@ -1,0 +1,240 @@
+// The sums of the blocks of a box of the sample.
+ghost use Rattle.std.specs.Prelude.{◌≡◌, ◌≤◌, ◌<◌, ◌+◌, ◌*◌, ◌^◌, ℕ, IfOk, OnOk, Some, drop, length, replicate, slice_index, take};
+ghost use Rattle.cells.specs.Cells.{Holds, IsVolume};
+ghost use Rattle.cells.specs.Places.{DifferenceFits, IsInside, IsSmall, index_in, minus};
+ghost use Rattle.search_squares.specs.Blocks.{block_bytes};
+ghost use Rattle.search_squares.specs.Sums.{AreAdded, AreBlockSums, AreCellSums, AreBlockEntries, ArePut, AreRows, IsCellSum, stepped_sum};
+
+use crate::lanes::{no_sums, with_run};
+use crate::rows::{byte_sum, has_cells, step_to};
+use cells::{At, Box3, Size, Volume};
+use std::alloc::{AllocError, Global};
+use std::simd::prelude::*;
+
+/// How many places are bounded at once.
+pub const LANES: usize = 32;
+
+/// The sums of the bytes of all blocks of so many cells on each side, of a box of the sample. They
+/// serve all picks from it.
+#[derive(Drop)]
+pub(crate) struct BlockSums {
+    pub(crate) rect: Box3,
+    pub(crate) side: u32,
+    // in raster order, and LANES more
+    pub(crate) sums: Vec<u16>,
+}
+
+// The bytes of a cell of a row, by its number in it.
+fn cell_of(row: &[u8], k: usize, x: usize) -> &[u8]
+    requires { k * x + k ≤ length row.now }
+    ensures bytes { result.now ≡ take k (drop (k * x) row.now) }
+    ensures long { length result.now ≡ k }
+{
+    let start = k * x;
+    &row[start..start + k]
+}
+
+// The sums of the cells of one more row of the box.
+fn add_cell_sums(
+    sums: &mut Vec<u16>,
+    sample: &Volume,
+    rect: &Box3,
+    y: u32,
+    f: u32,
+) -> Result<(), AllocError>
+    requires volume { IsVolume sample.now }
+    requires small { IsSmall rect.now.size }
+    requires inside { Holds sample.now rect.now.corner rect.now.size }
+    requires row { (y < rect.now.size.h) × (f < rect.now.size.f) }
+    ensures { OnOk result (ArePut (IsCellSum sample.now rect.now y f) rect.now.size.w
+        sums.old.items sums.new.items) }
+{
+    let k = sample.samples() as usize;
+    let row = sample.row(rect.corner.plus(step_to(0, y, f)), rect.size.w);
+    for x in 0..rect.size.w {
+        sums.push(byte_sum(cell_of(row, k, x as usize)))?;
+    }
+    Ok(())
+}
+
+// The sums of the cells of a box, in raster order. There is room for LANES more.
+fn cell_rows(alloc: Global, sample: &Volume, rect: &Box3) -> Result<Vec<u16>, AllocError>
+    requires volume { IsVolume sample.now }
+    requires small { IsSmall rect.now.size }
+    requires inside { Holds sample.now rect.now.corner rect.now.size }
+    ensures { IfOk result (λ sums. AreRows (IsCellSum sample.now rect.now) rect.now.size
+        (rect.now.size.h * rect.now.size.f) sums.items) }
+{
+    let h = rect.size.h;
+    let mut sums = Vec::with_capacity(alloc, rect.size.cells() + LANES)?;
+    for row in 0..h * rect.size.f {
+        add_cell_sums(&mut sums, sample, rect, row % h, row / h)?;
+    }
+    Ok(sums)
+}
+
+// The same, and LANES entries of 0 after them.
+fn cell_sums(alloc: Global, sample: &Volume, rect: &Box3) -> Result<Vec<u16>, AllocError>
+    requires volume { IsVolume sample.now }
+    requires small { IsSmall rect.now.size }
+    requires inside { Holds sample.now rect.now.corner rect.now.size }
+    ensures { IfOk result (λ sums. AreCellSums sample.now rect.now sums.items) }
+{
+    let mut sums = cell_rows(alloc, sample, rect)?;
+    sums.extend_from_slice(&[0; LANES])?;
+    Ok(sums)
+}
+
+// A run of entries from one on, one a lane.
+#[inline(always)]
+fn run_at(entries: &[u16], first: usize) -> &[u16]
+    requires { first + LANES ≤ length entries.now }
+    ensures run { result.now ≡ take LANES (drop first entries.now) }
+    ensures long { length result.now ≡ LANES }
+{
+    &entries[first..first + LANES]
+}
+
+// The sums of n entries each, one a lane: from an entry of a run on, each so many further than the one
+// before.
+fn stepped_sums(entries: &[u16], first: usize, step: usize, n: u32) -> u16x32
+    requires inside { (j : ℕ) → j < n → first + step * j + LANES ≤ length entries.now }
+    requires fits { (i : ℕ) → i < LANES → stepped_sum entries.now step n (first + i) < 2 ^ 16 }
+    ensures sums { (i : ℕ) → i < LANES
+        → slice_index result i ≡ stepped_sum entries.now step n (first + i) }
+    ensures long { length result ≡ LANES }
+{
+    let mut sums = no_sums();
+    for j in 0..n {
+        sums = with_run(sums, run_at(entries, first + step * j as usize));
+    }
+    sums
+}
+
+// Writes sums over a run of entries.
+#[inline(always)]
+fn put_run(entries: &mut [u16], first: usize, sums: u16x32)
+    requires room { first + LANES ≤ length entries.old }
+    requires long { length sums ≡ LANES }
+    ensures long { length entries.new ≡ length entries.old }
+    ensures run { (i : ℕ) → i < LANES
+        → slice_index entries.new (first + i) ≡ slice_index sums i }
+    ensures before { (i : ℕ) → i < first
+        → slice_index entries.new i ≡ slice_index entries.old i }
+    ensures after { (i : ℕ) → first + LANES ≤ i
+        → slice_index entries.new i ≡ slice_index entries.old i }
+{
+    sums.copy_to_slice(&mut entries[first..]);
+}
+
+// Makes of each entry, in its place, the sum of n entries: from it on, each so many further than the one
+// before. No entry is written over before the sums that it is in are made, since those stand no later. The
+// last entries stay, from which no n runs can be read.
+fn add_up(entries: &mut [u16], step: usize, n: u32)
+    requires some { 1 ≤ n }
+    requires reach { step * n < 2 ^ 32 }
+    requires fits { (i : ℕ) → stepped_sum entries.old step n i < 2 ^ 16 }
+    ensures { AreAdded step n entries.old entries.new }
+{
+    let reach = step * (n as usize - 1);
+    let runs = entries.len().saturating_sub(reach) / LANES;
+    for run in 0..runs {
+        let first = LANES * run;
+        let sums = stepped_sums(entries, first, step, n);
+        put_run(entries, first, sums);
+    }
+}
+
+// The sums of the blocks of a box with cells, in raster order, and LANES entries more. They are made in
+// the place of the sums of its cells: first along the rows, then down the columns. A sum that runs past
+// the end of a row or of a frame is no block's.
+fn sums_of_cells(
+    alloc: Global,
+    sample: &Volume,
+    rect: &Box3,
+    side: u32,
+) -> Result<Vec<u16>, AllocError>
+    requires volume { IsVolume sample.now }
+    requires small { IsSmall rect.now.size }
+    requires inside { Holds sample.now rect.now.corner rect.now.size }
+    requires some { 1 ≤ side }
+    requires few { 255 * block_bytes side sample.now.k < 2 ^ 16 }
+    ensures { IfOk result (λ sums. AreBlockEntries sample.now rect.now side sums.items) }
+{
+    let mut sums = cell_sums(alloc, sample, rect)?;
+    add_up(&mut sums, 1, side);
+    add_up(&mut sums, rect.size.w as usize, side);
+    Ok(sums)
+}
+
+// Entries of 0 for a box without cells.
+fn no_entries(alloc: Global) -> Result<Vec<u16>, AllocError>
+    ensures { IfOk result (λ sums. sums.items ≡ replicate LANES 0) }
+{
+    vec![in alloc; 0u16; LANES]
+}
+
+// The sums of the blocks of a box, in raster order, and LANES entries more.
+fn block_sums(
+    alloc: Global,
+    sample: &Volume,
+    rect: &Box3,
+    side: u32,
+) -> Result<Vec<u16>, AllocError>
+    requires inside { Holds sample.now rect.now.corner rect.now.size }
+    requires some { 1 ≤ side }
+    requires few { 255 * block_bytes side sample.now.k < 2 ^ 16 }
+    ensures { IfOk result (λ sums. AreBlockEntries sample.now rect.now side sums.items) }
+{
+    if !has_cells(rect.size) {
+        return no_entries(alloc);
+    }
+    // It is asked for only to show the check that the sample is a volume.
+    let _sample = sample.samples();
+    sums_of_cells(alloc, sample, rect, side)
+}
+
+impl BlockSums {
+    /// The sums of the blocks of a box inside the sample. They take 2 bytes a cell, and no more
+    /// while they are made. The one error is out of memory.
+    pub(crate) fn make(
+        alloc: Global,
+        sample: &Volume,
+        rect: &Box3,
+        side: u32,
+    ) -> Result<BlockSums, AllocError>
+        requires inside { Holds sample.now rect.now.corner rect.now.size }
+        requires some { 1 ≤ side }
+        requires few { 255 * block_bytes side sample.now.k < 2 ^ 16 }
+        ensures sums { IfOk result (AreBlockSums sample.now) }
+        ensures rect { IfOk result (λ sums. sums.rect ≡ rect.now) }
+        ensures side { IfOk result (λ sums. sums.side ≡ side) }
+    {
+        let sums = block_sums(alloc, sample, rect, side)?;
+        Ok(BlockSums {
+            rect: *rect,
+            side,
+            sums,
+        })
+    }
+
+    /// The index of the entry of a place of the box.
+    pub(crate) fn index_of(&self, at: At) -> usize
+        requires small { IsSmall self.now.rect.size }
+        requires fits { DifferenceFits at self.now.rect.corner }
+        requires inside { IsInside self.now.rect.size (minus at self.now.rect.corner) }
+        ensures { index_in self.now.rect.size (minus at self.now.rect.corner) ≡ Some result }
+    {
+        self.rect.size.index_of(at.minus(self.rect.corner)).unwrap()
+    }
+
+    /// The entries of a run of places, one a lane, from an entry on.
+    #[inline(always)]
+    pub(crate) fn run(&self, entry: usize) -> &[u16]
+        requires { entry + LANES ≤ length self.now.sums.items }
+        ensures run { result.now ≡ take LANES (drop entry self.now.sums.items) }
+        ensures long { length result.now ≡ LANES }
+    {
+        run_at(&self.sums, entry)
+    }
+}

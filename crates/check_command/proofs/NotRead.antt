@@ -16,10 +16,10 @@ use Rattle.synth_report.specs.declared.fault.FileOf.TheVariants as part
 use Rattle.run_outcome.specs.Faults.{FailsToRead}
 use Rattle.run_outcome.specs.Outcomes.{NoneRefused, NotMade}
 use Rattle.run_outcome.proofs.Halves.{not_read}
-use Rattle.samples.specs.declared.sample.Sample.{Sample}
-use Rattle.samples.specs.declared.several.Samples.{Samples}
-use Rattle.samples.specs.Several.{MayRefuseSamples, RefusesSamples, SamplesReadAs, StandForSamples, contents}
-use Rattle.samples.proofs.Commands.{samples_not_made}
+use Rattle.sample_files.specs.declared.sample.Sample.{Sample}
+use Rattle.sample_files.specs.declared.several.Samples.{Samples}
+use Rattle.sample_files.specs.Several.{MayRefuseSamples, RefusesSamples, SamplesReadAs, StandForSamples, contents}
+use Rattle.sample_files.proofs.Commands.{samples_not_made}
 use Rattle.check_command.specs.Checks.{HaveMap, HaveOut, HaveSamples, IsReadMap, IsOut, MayRefuseFiles, RefusesFiles, RefusesMap, RefusesOutBytes, check_command}
 use Rattle.check_command.specs.Readings.{IsNotRead}
 use Rattle.check_command.proofs.Turns.{cert_turn, map_turn, out_turn, sample_turn}

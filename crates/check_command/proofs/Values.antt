@@ -8,10 +8,10 @@ use Rattle.synth_report.specs.declared.fault.Fault.{Fault}
 use Rattle.synth_report.specs.declared.fault.FileOf.{FileOf}
 use Rattle.synth_report.specs.declared.fault.FileOf.TheVariants as part
 use Rattle.run_outcome.specs.Faults.{ReaderRefuses, fault_of_read}
-use Rattle.samples.specs.declared.sample.Sample.{Sample}
-use Rattle.samples.specs.Several.{RefusesSamples, contents}
-use Rattle.samples.proofs.OneAnswer.{not_both, one_value, refused_once}
-use Rattle.samples.proofs.OneSample.{one_sample, one_sample_refusal, stands_or_refused}
+use Rattle.sample_files.specs.declared.sample.Sample.{Sample}
+use Rattle.sample_files.specs.Several.{RefusesSamples, contents}
+use Rattle.sample_files.proofs.OneAnswer.{not_both, one_value, refused_once}
+use Rattle.sample_files.proofs.OneSample.{one_sample, one_sample_refusal, stands_or_refused}
 use Rattle.cert_file.specs.RecordFiles.{RefusesCert}
 use Rattle.check_command.specs.declared.reading.ReadFiles.{ReadFiles}
 use Rattle.check_command.specs.Checks.{AreRunFiles, HaveMap, HaveSamples, IsOut, RefusesFiles, RefusesMap, RefusesMapFile, RefusesOut, RefusesOutBytes, RefusesRecord}

@@ -15,9 +15,9 @@ use Rattle.synth_report.specs.declared.summary.Summary.{Summary}
 use Rattle.synth_report.specs.declared.summary.Summary.TheVariants as summary
 use Rattle.run_outcome.specs.Commands.{Command, named}
 use Rattle.run_outcome.specs.Faults.{ReaderRefuses}
-use Rattle.samples.specs.declared.sample.Sample.{Sample}
-use Rattle.samples.specs.Samples.{IsSampleWithin, RefusesWithin}
-use Rattle.samples.specs.Several.{StandForSamples, MayRefuseSamples, RefusesSamples, contents, sample_files}
+use Rattle.sample_files.specs.declared.sample.Sample.{Sample}
+use Rattle.sample_files.specs.Samples.{IsSampleWithin, RefusesWithin}
+use Rattle.sample_files.specs.Several.{StandForSamples, MayRefuseSamples, RefusesSamples, contents, sample_files}
 use Rattle.standing_files.specs.declared.verdict.Verdict.{Verdict}
 use Rattle.standing_files.specs.declared.verdict.Verdict.TheVariants.{Stands, Fails}
 use Rattle.standing_files.specs.Standing.{FilesStand, IsFirstBrokenRule, IsVerdict}

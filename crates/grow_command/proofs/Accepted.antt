@@ -19,11 +19,11 @@ use Rattle.cert_file.specs.RecordFiles.{IsCertOf, cuts_form}
 use Rattle.cert_file.proofs.CutsAgain.{cuts_again}
 use Rattle.job_words.specs.declared.grow.GrowJob.{GrowJob}
 use Rattle.job_words.specs.GrowWords.{IsGrowJob}
-use Rattle.samples.specs.declared.form.Form.{Form}
-use Rattle.samples.specs.declared.form.Form.TheVariants.{Picture, Clip}
-use Rattle.samples.specs.Samples.{CanStandIn, StandsWithin, form_text}
-use Rattle.samples.specs.Several.{StandForSamples, contents}
-use Rattle.samples.proofs.Sound.{stand_sound}
+use Rattle.sample_files.specs.declared.form.Form.{Form}
+use Rattle.sample_files.specs.declared.form.Form.TheVariants.{Picture, Clip}
+use Rattle.sample_files.specs.Samples.{CanStandIn, StandsWithin, form_text}
+use Rattle.sample_files.specs.Several.{StandForSamples, contents}
+use Rattle.sample_files.proofs.Sound.{stand_sound}
 use Rattle.standing_files.specs.Standing.{FilesStand}
 use Rattle.standing_files.proofs.Runs.{run_stands}
 use Rattle.check_command.specs.declared.reading.ReadFiles.{ReadFiles}

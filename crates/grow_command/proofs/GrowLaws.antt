@@ -32,11 +32,11 @@ use Rattle.run_outcome.specs.Commands.{HasOneAnswer}
 use Rattle.run_outcome.specs.Outcomes.{WritesAll}
 use Rattle.run_outcome.specs.Writing.{pieces}
 use Rattle.run_files.proofs.ThreeFiles.{cert_holds, map_holds, others_stay, out_holds}
-use Rattle.samples.specs.declared.form.Form.{Form}
-use Rattle.samples.specs.declared.several.Samples.{Samples}
-use Rattle.samples.specs.Samples.{form_text}
-use Rattle.samples.specs.Several.{contents}
-use Rattle.samples.proofs.OneAnswer.{not_both, one_value, refused_once}
+use Rattle.sample_files.specs.declared.form.Form.{Form}
+use Rattle.sample_files.specs.declared.several.Samples.{Samples}
+use Rattle.sample_files.specs.Samples.{form_text}
+use Rattle.sample_files.specs.Several.{contents}
+use Rattle.sample_files.proofs.OneAnswer.{not_both, one_value, refused_once}
 use Rattle.grow_command.specs.declared.plan.Growth.{Growth}
 use Rattle.grow_command.specs.Growths.{AreSamplesIn, IsWithinBounds, MakesGrowth, RecordsPass, RefusesGrowth, RefusesOutput, grow_command, head_over, plan_of, version_over}
 use Rattle.grow_command.specs.GrowHeadlines.{IsGrownOutput, IsGrownRecord, IsGrownRun, IsToldOfGrown, RaisesNone}

@@ -14,9 +14,9 @@ use Rattle.synth_report.specs.declared.fault.Fault.{Fault}
 use Rattle.synth_report.specs.declared.fault.Fault.TheVariants.{Limit}
 use Rattle.run_outcome.specs.Outcomes.{AreRefused, IsPlanned, NotMade}
 use Rattle.run_outcome.specs.Writing.{texts_in}
-use Rattle.samples.specs.declared.several.Samples.{Samples}
-use Rattle.samples.specs.Several.{StandForSamples, RefusesSamples, SamplesReadAs, contents}
-use Rattle.samples.proofs.Commands.{samples_not_made}
+use Rattle.sample_files.specs.declared.several.Samples.{Samples}
+use Rattle.sample_files.specs.Several.{StandForSamples, RefusesSamples, SamplesReadAs, contents}
+use Rattle.sample_files.proofs.Commands.{samples_not_made}
 use Rattle.grow_command.specs.declared.plan.Growth.{Growth}
 use Rattle.grow_command.specs.Growths.{IsWithinBounds, RecordsPass, RefusesGrowth, RefusesOutput, fault_of_growing, grow_command, growth_files, growth_summary, plan_of}
 

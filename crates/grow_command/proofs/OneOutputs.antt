@@ -13,10 +13,10 @@ use Rattle.growing.proofs.OneRuns.{runs_are_one}
 use Rattle.job_words.specs.declared.grow.GrowJob.{GrowJob}
 use Rattle.synth_report.specs.declared.summary.Summary.{Summary}
 use Rattle.synth_report.specs.declared.summary.Summary.TheVariants.{Grow}
-use Rattle.samples.specs.declared.several.Samples.{Samples}
-use Rattle.samples.specs.Samples.{form_text}
-use Rattle.samples.specs.Several.{StandForSamples, contents}
-use Rattle.samples.proofs.OneAnswer.{one_value}
+use Rattle.sample_files.specs.declared.several.Samples.{Samples}
+use Rattle.sample_files.specs.Samples.{form_text}
+use Rattle.sample_files.specs.Several.{StandForSamples, contents}
+use Rattle.sample_files.proofs.OneAnswer.{one_value}
 use Rattle.grow_command.specs.Growths.{plan_of, version_over}
 use Rattle.grow_command.specs.GrowHeadlines.{HaveSameOutput, HaveSameSamples, IsGrownRun, IsOneReport, IsToldOfGrown, told_of_cuts}
 

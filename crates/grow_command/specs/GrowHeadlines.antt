@@ -20,9 +20,9 @@ use Rattle.job_words.specs.Jobs.{job_of}
 use Rattle.synth_report.specs.declared.summary.Summary.{Summary}
 use Rattle.synth_report.specs.declared.summary.Summary.TheVariants.{Grow as Told}
 use Rattle.run_outcome.specs.Writing.{Reported}
-use Rattle.samples.specs.declared.several.Samples.{Samples}
-use Rattle.samples.specs.Samples.{form_text}
-use Rattle.samples.specs.Several.{contents}
+use Rattle.sample_files.specs.declared.several.Samples.{Samples}
+use Rattle.sample_files.specs.Samples.{form_text}
+use Rattle.sample_files.specs.Several.{contents}
 use Rattle.check_command.specs.Checks.{Stand}
 use Rattle.grow_command.specs.Growths.{AreSamplesIn, head_over, plan_of, version_over}
 

@@ -31,11 +31,11 @@ use Rattle.synth_report.specs.declared.summary.Summary.{Summary}
 use Rattle.synth_report.specs.declared.summary.Summary.TheVariants.{Grow}
 use Rattle.run_outcome.specs.Commands.{Command, named}
 use Rattle.run_outcome.specs.Writing.{FileText, file_text, texts_in}
-use Rattle.samples.specs.declared.form.Form.{Form}
-use Rattle.samples.specs.declared.form.Form.TheVariants.{Picture, Clip}
-use Rattle.samples.specs.declared.several.Samples.{Samples}
-use Rattle.samples.specs.Samples.{form_text}
-use Rattle.samples.specs.Several.{StandForSamples, AreSoundSamples, MayRefuseSamples, RefusesSamples, contents, sample_files}
+use Rattle.sample_files.specs.declared.form.Form.{Form}
+use Rattle.sample_files.specs.declared.form.Form.TheVariants.{Picture, Clip}
+use Rattle.sample_files.specs.declared.several.Samples.{Samples}
+use Rattle.sample_files.specs.Samples.{form_text}
+use Rattle.sample_files.specs.Several.{StandForSamples, AreSoundSamples, MayRefuseSamples, RefusesSamples, contents, sample_files}
 use Rattle.grow_command.specs.declared.asked.TheConstants.{MOST_OUTPUT_CELLS}
 use Rattle.grow_command.specs.declared.plan.Growth.{Growth}
 

@@ -11,7 +11,7 @@ use cells::{GREATEST_AXIS, Size};
 use growing::{GrowPlan, Grown, grow_canvas};
 use job_words::GrowJob;
 use run_files::records_fit;
-use samples::{Form, Samples, read_samples};
+use sample_files::{Form, Samples, read_samples};
 use costs::total;
 use shelf_core::{Shelf, What};
 use std::alloc::Global;

@@ -18,7 +18,7 @@ use Rattle.cert_file.specs.declared.file.CertFile.TheVariants.{Walk}
 use Rattle.cert_file.specs.RecordFiles.{IsCertOf, walk_file_form}
 use Rattle.job_words.specs.declared.loop_words.LoopJob.{LoopJob}
 use Rattle.job_words.specs.LoopWords.{IsLoopJob}
-use Rattle.samples.specs.declared.form.Form.TheVariants.{Clip}
+use Rattle.sample_files.specs.declared.form.Form.TheVariants.{Clip}
 use Rattle.standing_files.specs.Standing.{FilesStand}
 use Rattle.standing_files.proofs.Runs.{loop_stands}
 use Rattle.check_command.specs.declared.reading.ReadFiles.{ReadFiles}

@@ -18,11 +18,11 @@ use Rattle.cert_file.specs.RecordFiles.{IsCertOf, walk_file_form}
 use Rattle.cert_file.proofs.WalksAgain.{walk_again}
 use Rattle.job_words.specs.declared.loop_words.LoopJob.{LoopJob}
 use Rattle.job_words.specs.LoopWords.{IsLoopJob}
-use Rattle.samples.specs.declared.form.Form.TheVariants.{Clip}
-use Rattle.samples.specs.declared.several.Samples.{Samples}
-use Rattle.samples.specs.Several.{StandForParts, StandForSamples, contents}
-use Rattle.samples.proofs.Joined.{parts_alone}
-use Rattle.samples.proofs.OneSample.{count_alone}
+use Rattle.sample_files.specs.declared.form.Form.TheVariants.{Clip}
+use Rattle.sample_files.specs.declared.several.Samples.{Samples}
+use Rattle.sample_files.specs.Several.{StandForParts, StandForSamples, contents}
+use Rattle.sample_files.proofs.Joined.{parts_alone}
+use Rattle.sample_files.proofs.OneSample.{count_alone}
 use Rattle.loop_command.specs.declared.plan.LoopedClip.{LoopedClip}
 use Rattle.loop_command.specs.Loops.{IsLoopOf, frames_taken, loop_head, loop_size}
 use Rattle.loop_command.proofs.LoopReady.{asked, frames_are_clip, map_ready, record_ready}

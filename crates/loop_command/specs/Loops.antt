@@ -31,7 +31,7 @@ use Rattle.synth_report.specs.declared.summary.Summary.TheVariants.{Loop}
 use Rattle.run_outcome.specs.Commands.{Command, named}
 use Rattle.run_outcome.specs.Faults.{ReaderRefuses}
 use Rattle.run_outcome.specs.Writing.{FileText, file_text, texts_in}
-use Rattle.samples.specs.declared.sample.TheConstants.{MOST_SAMPLE_CELLS}
+use Rattle.sample_files.specs.declared.sample.TheConstants.{MOST_SAMPLE_CELLS}
 use Rattle.standing_files.specs.Standing.{walk_costs}
 use Rattle.job_words.specs.declared.loop_words.LoopJob.{LoopJob}
 use Rattle.loop_command.specs.declared.plan.LoopedClip.{LoopedClip}

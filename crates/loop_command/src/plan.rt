@@ -15,7 +15,7 @@ use frame_distance::{distances, filtered};
 use job_words::LoopJob;
 use loop_walk::{LoopError, LoopRecord, least_loop};
 use run_outcome::read_fault;
-use samples::MOST_SAMPLE_CELLS;
+use sample_files::MOST_SAMPLE_CELLS;
 use shelf_core::{Shelf, What};
 use std::alloc::Global;
 use synth_report::{Fault, FileOf};

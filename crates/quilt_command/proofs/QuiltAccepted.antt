@@ -18,12 +18,12 @@ use Rattle.cert_file.specs.RecordFiles.{IsCertOf, blocks_form}
 use Rattle.cert_file.proofs.BlocksAgain.{blocks_again}
 use Rattle.job_words.specs.declared.quilt.QuiltJob.{QuiltJob}
 use Rattle.job_words.specs.QuiltWords.{IsQuiltJob}
-use Rattle.samples.specs.declared.form.Form.TheVariants.{Picture}
-use Rattle.samples.specs.declared.several.Samples.{Samples}
-use Rattle.samples.specs.Samples.{StandsWithin}
-use Rattle.samples.specs.Several.{StandForParts, StandForSamples, contents}
-use Rattle.samples.proofs.Joined.{parts_alone}
-use Rattle.samples.proofs.OneSample.{count_alone}
+use Rattle.sample_files.specs.declared.form.Form.TheVariants.{Picture}
+use Rattle.sample_files.specs.declared.several.Samples.{Samples}
+use Rattle.sample_files.specs.Samples.{StandsWithin}
+use Rattle.sample_files.specs.Several.{StandForParts, StandForSamples, contents}
+use Rattle.sample_files.proofs.Joined.{parts_alone}
+use Rattle.sample_files.proofs.OneSample.{count_alone}
 use Rattle.standing_files.specs.Standing.{FilesStand}
 use Rattle.standing_files.proofs.Runs.{quilt_stands}
 use Rattle.check_command.specs.declared.reading.ReadFiles.{ReadFiles}

@@ -29,7 +29,7 @@ use Rattle.run_outcome.specs.Faults.{fault_of_read}
 use Rattle.run_outcome.specs.Outcomes.{WritesAll}
 use Rattle.run_outcome.specs.Writing.{pieces}
 use Rattle.run_files.proofs.ThreeFiles.{cert_holds, map_holds, others_stay, out_holds, sample_stays}
-use Rattle.samples.proofs.Sound.{read_is_sound}
+use Rattle.sample_files.proofs.Sound.{read_is_sound}
 use Rattle.quilt_command.specs.declared.plan.PictureQuilt.{PictureQuilt}
 use Rattle.quilt_command.specs.Quilts.{BlocksPass, IsMadeQuilt, IsPictureIn, IsPictureQuilt, IsQuiltWithin, MakesQuilt, QuiltPasses, RefusesOverPicture, RefusesPicture, RefusesQuilt, quilt_command, quilt_head, quilt_run_of, quilt_size}
 use Rattle.quilt_command.specs.QuiltHeadlines.{IsQuiltedOutput, IsQuiltedRecord, IsQuiltedRun, IsToldOfRun}

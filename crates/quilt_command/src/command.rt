@@ -13,7 +13,7 @@ use cert_file::Head;
 use job_words::QuiltJob;
 use run_files::{CellMapFile, OutFile};
 use run_outcome::{Then, write_run};
-use samples::Form;
+use sample_files::Form;
 use shelf_core::{Shelf, Sink};
 use source_map::Version;
 use std::alloc::Global;

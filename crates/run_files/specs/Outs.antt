@@ -4,8 +4,8 @@ use Rattle.cells.specs.declared.place.Size.{Size}
 use Rattle.cells.specs.Cells.{Cells}
 use Rattle.y4m_clip.specs.Spaces.{joined_to}
 use Rattle.y4m_clip.specs.Writing.{IsForm, Writer, frame_form, writer_of}
-use Rattle.samples.specs.declared.form.Form.{Form}
-use Rattle.samples.specs.declared.form.Form.TheVariants.{Picture, Clip}
+use Rattle.sample_files.specs.declared.form.Form.{Form}
+use Rattle.sample_files.specs.declared.form.Form.TheVariants.{Picture, Clip}
 
 -- the form can be that of a writer
 abbrev pub CanBeWriter : Form → Type 0

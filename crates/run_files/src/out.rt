@@ -7,14 +7,14 @@ ghost use Rattle.shelf_core.specs.Written.{HoldsPart, HoldsText};
 ghost use Rattle.synth_report.specs.declared.fault.FileOf.TheVariants as part;
 ghost use Rattle.run_outcome.specs.Writing.{file_text};
 ghost use Rattle.y4m_clip.specs.Spaces.{samples_of};
-ghost use Rattle.samples.specs.Samples.{CanStandIn, form_text};
+ghost use Rattle.sample_files.specs.Samples.{CanStandIn, form_text};
 ghost use Rattle.run_files.specs.Outs.{CanBeWriter, HasWriter, whole_clip};
 
 use cells::{Size, Volume};
 use job_words::Name;
 use netpbm_p6::write_p6;
 use run_outcome::RunFiles;
-use samples::Form;
+use sample_files::Form;
 use shelf_core::{Shelf, WriteFault};
 use std::alloc::{AllocError, Global};
 use synth_report::FileOf;

@@ -10,8 +10,8 @@ use Rattle.cert_file.specs.declared.file.CertFile.TheVariants.{Blocks, Cuts, Wal
 use Rattle.cut_replay.proofs.Standing.{stands_not}
 use Rattle.block_replay.proofs.FirstBroken as quilted
 use Rattle.loop_walk.proofs.OneAnswer.{no_fault}
-use Rattle.samples.specs.declared.sample.Sample.{Sample}
-use Rattle.samples.specs.declared.several.Samples.{Samples}
+use Rattle.sample_files.specs.declared.sample.Sample.{Sample}
+use Rattle.sample_files.specs.declared.several.Samples.{Samples}
 use Rattle.standing_files.specs.Standing.{AreOneFault, BreaksMap, BreaksPicture, BreaksRecord, BreaksTogether, IsBrokenRecord, IsCopiedAt, IsFirstBrokenRule, LeaveAt, OneFirstBrokenRule, RecordsStand, StandingFilesBreakNone, map_entries, map_output, walk_costs}
 use Rattle.standing_files.proofs.FirstBroken.{one_broken}
 use Rattle.standing_files.proofs.LoopFaults.{one_loop_fault}

@@ -27,12 +27,12 @@ use Rattle.cert_file.specs.declared.file.CertFile.{CertFile}
 use Rattle.cert_file.specs.declared.file.CertFile.TheVariants.{Blocks, Cuts, Walk}
 use Rattle.cert_file.specs.RecordFiles.{IsCert}
 use Rattle.cert_file.specs.WalkForms.{frames_of}
-use Rattle.samples.specs.declared.form.Form.{Form}
-use Rattle.samples.specs.declared.form.Form.TheVariants.{Clip, Picture}
-use Rattle.samples.specs.declared.sample.Sample.{Sample}
-use Rattle.samples.specs.declared.several.Samples.{Samples}
-use Rattle.samples.specs.Samples.{AreSoundIn}
-use Rattle.samples.specs.Several.{AreSoundSamples}
+use Rattle.sample_files.specs.declared.form.Form.{Form}
+use Rattle.sample_files.specs.declared.form.Form.TheVariants.{Clip, Picture}
+use Rattle.sample_files.specs.declared.sample.Sample.{Sample}
+use Rattle.sample_files.specs.declared.several.Samples.{Samples}
+use Rattle.sample_files.specs.Samples.{AreSoundIn}
+use Rattle.sample_files.specs.Several.{AreSoundSamples}
 use Rattle.standing_files.specs.declared.verdict.Verdict.{Verdict}
 use Rattle.standing_files.specs.declared.verdict.Verdict.TheVariants.{Stands, Fails}
 use Rattle.standing_files.specs.Standing.{FilesStand, GoTogether, HasOneFrame, IsBrokenBlock, IsBrokenCut, IsBrokenWalk, IsLeftAt, IsVerdict, TakesForm}

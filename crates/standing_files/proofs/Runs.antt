@@ -14,9 +14,9 @@ use Rattle.cut_replay.specs.Replay.{EachStands, left_by}
 use Rattle.block_replay.specs.BlockReplay.{EachBlockStands, left_by_blocks}
 use Rattle.y4m_clip.specs.declared.form.SpaceKind.{SpaceKind}
 use Rattle.y4m_clip.specs.declared.form.SpaceKind.TheVariants.{Mono, C444, C422, C411, C420}
-use Rattle.samples.specs.declared.form.Form.{Form}
-use Rattle.samples.specs.declared.form.Form.TheVariants.{Picture, Clip}
-use Rattle.samples.specs.Samples.{goes_with, same_space}
+use Rattle.sample_files.specs.declared.form.Form.{Form}
+use Rattle.sample_files.specs.declared.form.Form.TheVariants.{Picture, Clip}
+use Rattle.sample_files.specs.Samples.{goes_with, same_space}
 use Rattle.standing_files.specs.Standing.{IsCopied, IsLeftAt, LoopStands, NamesSizes, QuiltStands, RunStands}
 
 one_space : (space : SpaceKind) → same_space space space ≡ true

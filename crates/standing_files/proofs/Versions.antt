@@ -7,8 +7,8 @@ use Rattle.source_map.specs.declared.head.Version.{Version}
 use Rattle.source_map.specs.declared.map_file.MapFile.TheVariants.{Cells as CellMap}
 use Rattle.cut_check.specs.declared.record.CutRecord.{CutRecord}
 use Rattle.cert_file.specs.declared.file.CertFile.TheVariants.{Cuts}
-use Rattle.samples.specs.declared.sample.Sample.{Sample}
-use Rattle.samples.specs.declared.several.Samples.{Samples}
+use Rattle.sample_files.specs.declared.sample.Sample.{Sample}
+use Rattle.sample_files.specs.declared.several.Samples.{Samples}
 use Rattle.standing_files.specs.declared.verdict.Verdict.TheVariants.{Stands, Fails}
 use Rattle.standing_files.specs.Standing.{GoTogether, VersionsDontCount}
 

@@ -27,11 +27,11 @@ use Rattle.loop_walk.specs.Tables.{entry_count}
 use Rattle.loop_walk.specs.Walks.{IsLeastWalk}
 use Rattle.cert_file.specs.declared.file.CertFile.{CertFile}
 use Rattle.cert_file.specs.declared.file.CertFile.TheVariants.{Blocks, Cuts, Walk}
-use Rattle.samples.specs.declared.form.Form.{Form}
-use Rattle.samples.specs.declared.form.Form.TheVariants.{Clip, Picture}
-use Rattle.samples.specs.declared.sample.Sample.{Sample}
-use Rattle.samples.specs.declared.several.Samples.{Samples}
-use Rattle.samples.specs.Samples.{goes_with}
+use Rattle.sample_files.specs.declared.form.Form.{Form}
+use Rattle.sample_files.specs.declared.form.Form.TheVariants.{Clip, Picture}
+use Rattle.sample_files.specs.declared.sample.Sample.{Sample}
+use Rattle.sample_files.specs.declared.several.Samples.{Samples}
+use Rattle.sample_files.specs.Samples.{goes_with}
 use Rattle.standing_files.specs.declared.verdict.TheConstants.{TOGETHER_RULE, MAP_RULE, PICTURE_RULE}
 use Rattle.standing_files.specs.declared.verdict.Verdict.{Verdict}
 use Rattle.standing_files.specs.declared.verdict.Verdict.TheVariants.{Stands, Fails}

@@ -14,7 +14,7 @@ use Rattle.block_replay.specs.BlockReplay.{EachBlockStands, left_by_blocks}
 use Rattle.frame_distance.specs.Steps.{Steps}
 use Rattle.loop_walk.specs.Records.{WalkStands}
 use Rattle.cert_file.specs.declared.file.CertFile.{CertFile}
-use Rattle.samples.specs.declared.several.Samples.{Samples}
+use Rattle.sample_files.specs.declared.several.Samples.{Samples}
 use Rattle.standing_files.specs.declared.verdict.TheConstants.{MAP_RULE}
 use Rattle.standing_files.specs.declared.verdict.Verdict.{Verdict}
 use Rattle.standing_files.specs.declared.verdict.Verdict.TheVariants.{Stands, Fails}

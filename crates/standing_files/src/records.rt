@@ -7,7 +7,7 @@ ghost use Rattle.block_check.specs.Blocks.{IsFormedBlock};
 ghost use Rattle.frame_distance.specs.declared.table.TheConstants.{MOST_CLIP_CELLS};
 ghost use Rattle.loop_walk.specs.Tables.{IsLength, table_count};
 ghost use Rattle.cert_file.specs.RecordFiles.{IsCert};
-ghost use Rattle.samples.specs.Several.{AreSoundSamples};
+ghost use Rattle.sample_files.specs.Several.{AreSoundSamples};
 ghost use Rattle.standing_files.specs.Standing.{HasOneFrame, HasOneSource, walk_costs};
 ghost use Rattle.standing_files.specs.Steps.{FirstWithout, JudgesBlocks, JudgesCuts, JudgesRecords, JudgesWalk, Suit, verdict_on_map};
 
@@ -21,7 +21,7 @@ use frame_distance::{distances, filtered};
 use loop_walk::check_loop;
 use map_canvas::{Canvas, Map};
 use cut_replay::replay_cuts;
-use samples::Samples;
+use sample_files::Samples;
 use source_map::MapFile;
 use std::alloc::{AllocError, Global};
 

@@ -4,7 +4,7 @@ ghost use Rattle.standing_files.specs.Standing.{AreKindsOfOneRun, GoTogether, Na
 
 use cells::{Size, Sizes};
 use cert_file::CertFile;
-use samples::{Form, Sample, Samples};
+use sample_files::{Form, Sample, Samples};
 use source_map::{Head, MapFile};
 
 // Whether two lists of sizes are the same.

@@ -1,7 +1,7 @@
 // The verdict on the files of a run.
 ghost use Rattle.std.specs.Prelude.{◌≡◌, ◌↔◌, IfOk};
 ghost use Rattle.cert_file.specs.RecordFiles.{IsCert};
-ghost use Rattle.samples.specs.Several.{AreSoundSamples};
+ghost use Rattle.sample_files.specs.Several.{AreSoundSamples};
 ghost use Rattle.standing_files.specs.Standing.{FilesStand, IsVerdict};
 ghost use Rattle.standing_files.specs.declared.verdict.Verdict.TheVariants.{Stands};
 
@@ -9,7 +9,7 @@ use crate::picture::first_not_copied;
 use crate::records::judge_records;
 use crate::together::go_together;
 use cert_file::CertFile;
-use samples::{Sample, Samples};
+use sample_files::{Sample, Samples};
 use source_map::MapFile;
 use std::alloc::{AllocError, Global};
 

@@ -1,12 +1,12 @@
 // Worked examples: the files of runs of cuts, of blocks and of a walk, and the same files with other bytes.
 ghost use Rattle.std.specs.Prelude.{IfOk};
-ghost use Rattle.samples.specs.Several.{AreSoundSamples};
+ghost use Rattle.sample_files.specs.Several.{AreSoundSamples};
 
 use block_check::{FIT_RULE, OVERLAP_RULE};
 use cert_file::read_cert;
 use cut_check::{FILL_RULE, VALUE_RULE};
 use loop_walk::{DIAGONAL_RULE, TABLES_RULE, WALK_RULE};
-use samples::{Sample, Samples, read_sample};
+use sample_files::{Sample, Samples, read_sample};
 use shelf_core::MemShelf;
 use source_map::read_map;
 use standing_files::Verdict::{Fails, Stands};

@@ -1,6 +1,6 @@
 use cells::{At, Size};
 use job_words::{Job, Words, read_job};
-use samples::{Form, Samples, read_samples};
+use sample_files::{Form, Samples, read_samples};
 use shelf_core::{FormFault, MemShelf};
 use std::alloc::{AllocError, Global};
 use std::test::Fail;

@@ -3,7 +3,7 @@ use Rattle.std.specs.Prelude.{Err}
 use Rattle.shelf_core.specs.Files.{Changes, content_of}
 use Rattle.shelf_core.proofs.FileLaws.{only_reads_then}
 use Rattle.shelf_core.proofs.Sees.{sees_earlier}
-use Rattle.samples.specs.Several.{SamplesReadAs, StandForSamples, contents}
+use Rattle.sample_files.specs.Several.{SamplesReadAs, StandForSamples, contents}
 use Rattle.check_command.specs.Checks.{HaveMap, HaveOut, HaveSamples}
 use Rattle.check_command.proofs.NotRead.{cert_not_read, map_not_read, out_not_read, samples_not_read, seen_map, seen_out, seen_samples}
 use Rattle.check_command.proofs.reading.read_files.Goals as goal

@@ -4,7 +4,7 @@ use Rattle.source_map.specs.MapFiles.{IsWritable, cell_map_form}
 use Rattle.cert_file.specs.RecordFiles.{AreCutsInForm, cuts_form}
 use Rattle.synth_report.specs.declared.fault.FileOf.TheVariants as part
 use Rattle.run_outcome.specs.Writing.{FileText, WritesRun, file_text}
-use Rattle.samples.specs.Samples.{form_text}
+use Rattle.sample_files.specs.Samples.{form_text}
 use Rattle.run_files.specs.Outs.{HasWriter}
 use Rattle.grow_command.specs.Growths.{growth_files, growth_summary, head_over}
 use Rattle.grow_command.proofs.Ready.{map_ready, picture_ready, record_ready}

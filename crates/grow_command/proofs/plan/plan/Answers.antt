@@ -3,7 +3,7 @@ use Rattle.std.specs.Prelude.{All, Err}
 use Rattle.cert_file.specs.CutForms.{HasShortFlows}
 use Rattle.shelf_core.specs.Files.{Changes, content_of}
 use Rattle.run_outcome.specs.Outcomes.{NotMade}
-use Rattle.samples.specs.Several.{StandForSamples, SamplesReadAs, contents}
+use Rattle.sample_files.specs.Several.{StandForSamples, SamplesReadAs, contents}
 use Rattle.grow_command.specs.Growths.{grow_command}
 use Rattle.growing.specs.Grown.{IsGrowFault, IsGrown}
 use Rattle.grow_command.proofs.Growing.{growth_made, not_grown, output_refused, samples_not_read}

@@ -1,4 +1,4 @@
-use Rattle.samples.proofs.Reading.{sound_start}
+use Rattle.sample_files.proofs.Reading.{sound_start}
 use Rattle.tests_commands.proofs.standing.read_one.Goals as goal
 
 pub returns : goal.returns

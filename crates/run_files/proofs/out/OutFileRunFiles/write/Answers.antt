@@ -1,4 +1,4 @@
-use Rattle.samples.specs.Samples.{form_text}
+use Rattle.sample_files.specs.Samples.{form_text}
 use Rattle.synth_report.specs.declared.fault.FileOf.TheVariants.{Out}
 use Rattle.run_outcome.proofs.WritingLaws.{stops_at_one}
 use Rattle.run_files.proofs.out.OutFileRunFiles.write.Goals as goal

@@ -1,0 +1,67 @@
+-- From the reading of samples to what a command leaves that reads them first.
+use Rattle.std.proofs.Common.{◌≡◌, ℕ, suc, ◌+◌, ◌≤◌, List, [], ◌∷◌, length, refl, sym, ap, ◌∙◌, subst, arith}
+use Rattle.std.specs.Prelude.{Err}
+use Rattle.std.proofs.lemmas.Option.{slice_get_within}
+use Rattle.cells.specs.Cells.{Cells}
+use Rattle.cells.specs.PartLists.{parts_of}
+use Rattle.shelf_core.specs.Files.{Files, ShelfState, content_of}
+use Rattle.shelf_core.proofs.FileLaws.{told_weaker}
+use Rattle.synth_report.specs.declared.fault.FileOf.{FileOf}
+use Rattle.synth_report.specs.declared.fault.Fault.{Fault}
+use Rattle.synth_report.specs.declared.fault.Fault.TheVariants.{Words, Form as FormFault, Unlike, Mark, Limit, Read, Write, NoMemory, NoLoop}
+use Rattle.run_outcome.specs.Commands.{Command, HasTurn, named}
+use Rattle.run_outcome.specs.Outcomes.{AreRefused, NoneRefused, NotMade}
+use Rattle.sample_files.specs.declared.several.Samples.{Samples}
+use Rattle.sample_files.specs.Samples.{StandsAs}
+use Rattle.sample_files.specs.Several.{StandForSamples, MayRefuseSamples, NoSampleRefused, RefusesSamples, SamplesAreRefused, SamplesReadAs, StandForParts, contents, numbered_files, sample_files}
+use Rattle.sample_files.proofs.OneSample.{stands_alone}
+use Rattle.sample_files.proofs.Joined.{parts_alone, same_parts}
+
+pub length-numbered : (names : List (List ℕ)) (n : ℕ) → length (numbered_files n names) ≡ length names
+length-numbered [] n = refl
+length-numbered (x ∷ names) n = ap suc (length-numbered names (suc n))
+
+-- a command that reads the samples first, and refuses them as they are refused, has this answer
+module _ (c : Command) (first : List ℕ) (more : List (List ℕ))
+    (turns : (turn : ℕ) (part : FileOf) (name : List ℕ) → HasTurn (sample_files first more) turn part name → HasTurn c.reads turn part name)
+    (known : (fault : Fault) → MayRefuseSamples (length more + 1) fault → c.MayRefuse fault)
+    (refuses : (files : Files) (n : ℕ) (fault : Fault) → RefusesSamples n (content_of files first) (contents files more) fault → c.Refuses n files fault)
+    (only : (files : Files) (n : ℕ) (fault : Fault) → n ≤ length more → c.Refuses n files fault → RefusesSamples n (content_of files first) (contents files more) fault)
+    (was now : ShelfState) where
+  refused : (fault : Fault) → SamplesAreRefused first more fault was now → AreRefused c fault was now
+  refused fault r = record {
+    known = known fault r.known;
+    refused = told_weaker (λ before after. (n : ℕ) × RefusesSamples n (content_of before first) (contents before more) fault) (λ before after. (n : ℕ) × c.Refuses n before fault) was.files now.files
+        (λ before after s. (s.0, refuses before s.0 fault s.1)) r.refused;
+  }
+
+  pub samples_not_made : (fault : Fault) → SamplesReadAs first more was now (Err fault) → NotMade c was now fault
+  samples_not_made (Read part) left = record {
+    turn = left.turn;
+    name = left.name;
+    its = turns left.turn part left.name left.has_turn;
+    rose = left.rose;
+    earlier = (let below = slice_get_within (sample_files first more) left.turn (named part left.name) left.has_turn in
+        let few : left.turn ≤ length more = omega (arith, below, length-numbered more 2) in
+        told_weaker (λ before after. NoSampleRefused left.turn (content_of before first) (contents before more)) (λ before after. NoneRefused c left.turn before) was.files now.files
+        (λ before after none. λ m fault le r. none m fault le (only before m fault (omega (arith, le, few)) r)) left.earlier);
+  }
+  samples_not_made NoMemory left = tt
+  samples_not_made (FormFault part why) left = refused (FormFault part why) left
+  samples_not_made (Unlike part) left = refused (Unlike part) left
+  samples_not_made (Mark index) left = refused (Mark index) left
+  samples_not_made (Limit what number bound) left = refused (Limit what number bound) left
+  samples_not_made (NoLoop length) left = refused (NoLoop length) left
+  samples_not_made (Words fault) left = absurd left.known
+  samples_not_made (Write part) left = absurd left.known
+
+-- the samples of one file are the sample of that file
+pub one_file : (first : List ℕ) (samples : Samples) → StandForSamples first [] samples → StandsAs first samples.form samples.volume
+one_file first samples a = by (parts_of samples.volume) refl a.parts
+  where
+    by : (parts : List Cells) → parts_of samples.volume ≡ parts → StandForParts samples.form first [] parts → StandsAs first samples.form samples.volume
+    by [] is stand = absurd stand
+    by (p ∷ []) is stand =
+        let same : samples.volume ≡ p = same_parts samples.volume p (is ∙ sym (parts_alone p (stands_alone 8388608 first samples.form p stand.0))) in
+        subst (StandsAs first samples.form) (sym same) stand.0
+    by (p ∷ q ∷ parts) is stand = absurd stand.1

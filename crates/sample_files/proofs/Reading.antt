@@ -1,0 +1,231 @@
+-- The samples read so far, and how the reading ends.
+use Rattle.std.proofs.Common.{◌≡◌, ℕ, zero, suc, ◌+◌, ◌<◌, ◌≤◌, inl, inr, ◌++◌, List, [], ◌∷◌, length, get_or, take, refl, sym, ap, ◌∙◌, subst, arith, true, add-one}
+use Rattle.std.specs.Prelude.{slice_get, Some, Err}
+use Rattle.std.proofs.Math.Seq.{take-suc}
+use Rattle.std.proofs.lemmas.Option.{slice_get-map, slice_get_read}
+use Rattle.cells.specs.Cells.{Cells, count_of, sizes_of, with_part}
+use Rattle.cells.specs.PartLists.{parts_of}
+use Rattle.cells.proofs.Joining.{count_behind}
+use Rattle.shelf_core.specs.Files.{Files, ShelfState, OnlyReads, Changes, content_of}
+use Rattle.shelf_core.specs.declared.fault.ReadError.{ReadError}
+use Rattle.shelf_core.specs.declared.fault.ReadError.TheVariants as error
+use Rattle.shelf_core.proofs.FileLaws.{rose_later, told_both, told_then, told_weaker}
+use Rattle.synth_report.specs.declared.fault.FileOf.TheVariants as part
+use Rattle.synth_report.specs.declared.fault.Fault.{Fault}
+use Rattle.synth_report.specs.declared.fault.Fault.TheVariants.{Words, Form as FormFault, Unlike, Mark, Limit, Read, Write, NoMemory, NoLoop}
+use Rattle.run_outcome.specs.Commands.{named}
+use Rattle.run_outcome.specs.Faults.{FailsToRead, fault_of_read}
+use Rattle.sample_files.specs.declared.form.Form.{Form}
+use Rattle.sample_files.specs.declared.sample.Sample.{Sample}
+use Rattle.sample_files.specs.declared.several.Samples.{Samples}
+use Rattle.sample_files.specs.Samples.{IsSampleOf, IsSoundIn, IsSoundSample, RefusesSample, goes_with}
+use Rattle.sample_files.specs.Several.{StandForSamples, AreSoundSamples, MayRefuseSamples, NoSampleRefused, RefusesNext, RefusesSamples, SamplesAreRefused, SamplesReadAs, StandAlike, StandForParts, StandsAlike, contents, numbered_files}
+use Rattle.sample_files.specs.Steps.{IsJoined, IsNextRead, IsNextRefused, NotNext}
+use Rattle.sample_files.proofs.OneSample.{count_alone, sound_alone, sound_count, sound_first, sound_joined}
+use Rattle.sample_files.proofs.Joined.{parts_alone}
+use Rattle.sample_files.proofs.OneAnswer.{none_at_first, none_refused}
+
+-- Joining.
+
+pub joined : (samples : Samples) (sample : Sample) (after : Samples) → AreSoundSamples samples → IsSoundSample sample → goes_with samples.form sample.form ≡ true
+    → count_of samples.volume + count_of sample.volume ≤ 8388608 → after.form ≡ samples.form → after.volume ≡ with_part samples.volume sample.volume
+    → parts_of after.volume ≡ parts_of samples.volume ++ sample.volume ∷ [] → IsJoined samples sample after
+joined samples sample after s p alike fits form volume parts = record {
+  alike = alike;
+  form = form;
+  sizes = ap sizes_of volume;
+  parts = parts;
+  sound = subst AreSoundSamples (sym after_is) (record {
+    form = sound_joined samples.form sample.form samples.volume sample.volume alike s.form p;
+    fits = (let more = count_behind samples.volume.size samples.volume.more sample.volume.size in
+        let alone = count_alone sample.volume (sound_alone sample.form sample.volume p) in
+        omega (arith, more, alone, fits));
+  });
+}
+  where
+    after_is : after ≡ record { form = samples.form; volume = with_part samples.volume sample.volume }
+    after_is = ap (λ f. record after { form = f }) form ∙ ap (λ v. record { form = samples.form; volume = v }) volume
+
+-- One sample more stands.
+
+alike_behind : (form : Form) (files : List (List ℕ)) (parts : List Cells) (bytes : List ℕ) (own : Cells) → StandAlike form files parts → StandsAlike form bytes own → StandAlike form (files ++ bytes ∷ []) (parts ++ own ∷ [])
+alike_behind form [] [] bytes own a here = (here, tt)
+alike_behind form [] (p ∷ parts) bytes own a here = absurd a
+alike_behind form (file ∷ files) [] bytes own a here = absurd a
+alike_behind form (file ∷ files) (p ∷ parts) bytes own a here = (a.0, alike_behind form files parts bytes own a.1 here)
+
+parts_behind : (form : Form) (first : List ℕ) (files : List (List ℕ)) (parts : List Cells) (bytes : List ℕ) (own : Cells) → StandForParts form first files parts → StandsAlike form bytes own
+    → StandForParts form first (files ++ bytes ∷ []) (parts ++ own ∷ [])
+parts_behind form first files [] bytes own a here = absurd a
+parts_behind form first files (p ∷ parts) bytes own a here = (a.0, alike_behind form files parts bytes own a.1 here)
+
+stand_more : (first : List ℕ) (files : List (List ℕ)) (bytes : List ℕ) (before after : Samples) (sample : Sample) → StandForSamples first files before → IsSampleOf bytes sample → IsJoined before sample after
+    → StandForSamples first (files ++ bytes ∷ []) after
+stand_more first files bytes before after sample a read j = record {
+  parts = subst (λ f. StandForParts f first (files ++ bytes ∷ []) (parts_of after.volume)) (sym j.form)
+      (subst (StandForParts before.form first (files ++ bytes ∷ [])) (sym j.parts)
+      (parts_behind before.form first files (parts_of before.volume) bytes sample.volume a.parts (record { own = sample.form; alike = j.alike; stands = read })));
+  fits = j.sound.fits;
+}
+
+-- the samples of the first file
+pub stand_first : (bytes : List ℕ) (form : Form) (volume : Cells) → IsSoundIn form volume → IsSampleOf bytes (record { form = form; volume = volume }) → StandForSamples bytes [] (record { form = form; volume = volume })
+stand_first bytes form volume s read = record {
+  parts = subst (StandForParts form bytes []) (sym (parts_alone volume (sound_alone form volume s))) (read, tt);
+  fits = sound_count form volume s;
+}
+
+pub sound_start : (form : Form) (volume : Cells) → IsSoundIn form volume → AreSoundSamples (record { form = form; volume = volume })
+sound_start form volume s = record { form = sound_first form volume s; fits = sound_count form volume s }
+
+contents_more : (files : Files) (names : List (List ℕ)) (i : ℕ) (name : List ℕ) → i < length names → name ≡ get_or names i name → contents files (take (i + 1) names) ≡ contents files (take i names) ++ content_of files name ∷ []
+contents_more files names i name lt is =
+    ap (λ k. contents files (take k names)) (add-one i) ∙ ap (contents files) (take-suc names i name lt)
+    ∙ ap (λ n. contents files (take i names ++ n ∷ [])) (sym is) ∙ map_append (take i names)
+  where
+    map_append : (xs : List (List ℕ)) → contents files (xs ++ name ∷ []) ≡ contents files xs ++ content_of files name ∷ []
+    map_append [] = refl
+    map_append (x ∷ xs) = ap (λ ys. content_of files x ∷ ys) (map_append xs)
+
+-- Reading.
+
+abbrev pub AreReadSoFar : List ℕ → List (List ℕ) → Samples → ShelfState → ShelfState → Type 0
+AreReadSoFar first names samples was now = Changes was now (λ before after. StandForSamples (content_of before first) (contents before names) samples)
+
+module _ (was mid now : ShelfState) (reads : OnlyReads was mid) where
+  -- what is known of the files as they are is known of them as they were
+  later : (P : Files → Type 0) → Changes mid now (λ before after. P before) → Changes was now (λ before after. P before)
+  later P known = told_then (λ before after. after ≡ before) (λ before after. P before) (λ before after. P before) was.files mid.files now.files
+      (λ x y z same p. subst P same p) reads.files known
+
+  pub read_more : (first : List ℕ) (names : List (List ℕ)) (i : ℕ) (name : List ℕ) (before after : Samples) → i < length names → name ≡ get_or names i name
+      → AreReadSoFar first (take i names) before was mid → IsNextRead before name mid now after → AreReadSoFar first (take (i + 1) names) after was now
+  read_more first names i name before after lt is so_far next =
+      told_then (λ x y. (y ≡ x) × StandForSamples (content_of x first) (contents x (take i names)) before) (λ x y. IsSampleOf (content_of x name) next.sample)
+      (λ x y. StandForSamples (content_of x first) (contents x (take (i + 1) names)) after) was.files mid.files now.files
+      (λ x y z same read. subst (λ files. StandForSamples (content_of x first) files after) (sym (contents_more x names i name lt is))
+      (stand_more (content_of x first) (contents x (take i names)) (content_of x name) before after next.sample same.1 (subst (λ f. IsSampleOf (content_of f name) next.sample) same.0 read) next.joined))
+      (told_both (λ x y. y ≡ x) (λ x y. StandForSamples (content_of x first) (contents x (take i names)) before) was.files mid.files reads.files so_far) next.read
+
+-- The first sample isn't read.
+
+pub first_unread : (first : List ℕ) (more : List (List ℕ)) (was now : ShelfState) → OnlyReads was now → (answer : ReadError) → FailsToRead RefusesSample first was now answer → SamplesReadAs first more was now (Err (fault_of_read part.Sample answer))
+first_unread first more was now reads error.ReadFault left = record {
+  turn = 0;
+  name = first;
+  has_turn = refl;
+  rose = left;
+  earlier = told_weaker (λ before after. after ≡ before) (λ before after. NoSampleRefused 0 (content_of before first) (contents before more)) was.files now.files
+      (λ before after same. none_at_first (content_of before first) (contents before more)) reads.files;
+}
+first_unread first more was now reads error.NoMemory left = tt
+first_unread first more was now reads (error.Bad why) left = record {
+  known = tt;
+  refused = told_weaker (λ before after. RefusesSample (content_of before first) (error.Bad why)) (λ before after. (n : ℕ) × RefusesSamples n (content_of before first) (contents before more) (FormFault part.Sample why)) was.files now.files
+      (λ before after r. (1, inl (refl, (error.Bad why, r, refl)))) left;
+}
+first_unread first more was now reads (error.Limit what number bound) left = record {
+  known = tt;
+  refused = told_weaker (λ before after. RefusesSample (content_of before first) (error.Limit what number bound)) (λ before after. (n : ℕ) × RefusesSamples n (content_of before first) (contents before more) (Limit what number bound)) was.files now.files
+      (λ before after r. (1, inl (refl, (error.Limit what number bound, r, refl)))) left;
+}
+
+-- A further sample isn't joined.
+
+numbered : (names : List (List ℕ)) (n i : ℕ) (name : List ℕ) → slice_get names i ≡ Some name → slice_get (numbered_files n names) i ≡ Some (named (part.More (n + i)) name)
+numbered [] n i name is = absurd (cc)
+numbered (x ∷ names) n zero name is =
+    let one : x ≡ name = cc in let same : n ≡ n + 0 = omega arith in
+    ap (λ t. Some (named (part.More n) t)) one ∙ ap (λ m. Some (named (part.More m) name)) same
+numbered (x ∷ names) n (suc i) name is =
+    let same : suc n + i ≡ n + suc i = omega arith in
+    numbered names (suc n) i name is ∙ ap (λ m. Some (named (part.More m) name)) same
+
+known_in : (m n : ℕ) (fault : Fault) → m ≤ n → MayRefuseSamples m fault → MayRefuseSamples n fault
+known_in m n (FormFault part.Sample why) le k = k
+known_in m n (FormFault (part.More x) why) le k = (k.0, omega (arith, k.1))
+known_in m n (Unlike part.Sample) le k = k
+known_in m n (Unlike (part.More x)) le k = (k.0, omega (arith, k.1))
+known_in m n (Limit what number bound) le k = tt
+known_in m n (FormFault part.Target why) le k = absurd k
+known_in m n (FormFault part.Marks why) le k = absurd k
+known_in m n (FormFault part.Out why) le k = absurd k
+known_in m n (FormFault part.Map why) le k = absurd k
+known_in m n (FormFault part.Cert why) le k = absurd k
+known_in m n (FormFault part.NewMap why) le k = absurd k
+known_in m n (FormFault part.NewCert why) le k = absurd k
+known_in m n (FormFault part.Report why) le k = absurd k
+known_in m n (Unlike part.Target) le k = absurd k
+known_in m n (Unlike part.Marks) le k = absurd k
+known_in m n (Unlike part.Out) le k = absurd k
+known_in m n (Unlike part.Map) le k = absurd k
+known_in m n (Unlike part.Cert) le k = absurd k
+known_in m n (Unlike part.NewMap) le k = absurd k
+known_in m n (Unlike part.NewCert) le k = absurd k
+known_in m n (Unlike part.Report) le k = absurd k
+known_in m n (Words fault) le k = absurd k
+known_in m n (Mark index) le k = absurd k
+known_in m n (Read its) le k = absurd k
+known_in m n (Write its) le k = absurd k
+known_in m n NoMemory le k = absurd k
+known_in m n (NoLoop length) le k = absurd k
+
+module _ (first : List ℕ) (names : List (List ℕ)) (i : ℕ) (name : List ℕ) (before : Samples) (was mid now : ShelfState) (lt : i < length names) (is : name ≡ get_or names i name)
+    (reads : OnlyReads was mid) (so_far : AreReadSoFar first (take i names) before was mid) where
+  get : slice_get names i ≡ Some name
+  get = slice_get_read names (length names) i name refl lt is
+
+  contents_get : (files : Files) → slice_get (contents files names) i ≡ Some (content_of files name)
+  contents_get files = slice_get-map (content_of files) names i ∙ ap (λ o. Rattle.std.specs.Option.option_map (content_of files) o) get
+
+  contents_front : (files : Files) (xs : List (List ℕ)) (n : ℕ) → contents files (take n xs) ≡ take n (contents files xs)
+  contents_front files [] zero = refl
+  contents_front files [] (suc n) = refl
+  contents_front files (x ∷ xs) zero = refl
+  contents_front files (x ∷ xs) (suc n) = ap (λ ys. content_of files x ∷ ys) (contents_front files xs n)
+
+  abbrev SoFar : Files → Files → Type 0
+  SoFar x y = StandForSamples (content_of x first) (take i (contents x names)) before
+
+  then_front : AreReadSoFar first (take i names) before was mid → Changes was mid (λ x y. (y ≡ x) × SoFar x y)
+  then_front known = told_both (λ x y. y ≡ x) SoFar was.files mid.files reads.files
+      (told_weaker (λ x y. StandForSamples (content_of x first) (contents x (take i names)) before) SoFar was.files mid.files
+      (λ x y a. subst (λ files. StandForSamples (content_of x first) files before) (contents_front x names i) a) known)
+
+  refused : (fault : Fault) → IsNextRefused before (i + 2) name mid now fault → SamplesAreRefused first names fault was now
+  refused fault r = record {
+    known = known_in (i + 2) (length names + 1) fault (omega arith) r.known;
+    refused = told_then (λ x y. (y ≡ x) × SoFar x y) (λ x y. RefusesNext before (i + 2) (content_of x name) fault)
+        (λ x y. (n : ℕ) × RefusesSamples n (content_of x first) (contents x names) fault) was.files mid.files now.files
+        (λ x y z same next. (
+          i + 2,
+          inr (record {
+            turn = i;
+            number_is = refl;
+            bytes = content_of x name;
+            its = contents_get x;
+            before = before;
+            stand = same.1;
+            refused = subst (λ f. RefusesNext before (i + 2) (content_of f name) fault) same.0 next;
+          }),
+        )) (then_front so_far) r.refused;
+  }
+
+  pub next_unread : OnlyReads mid now → (fault : Fault) → NotNext before (i + 2) name mid now fault → SamplesReadAs first names was now (Err fault)
+  next_unread then_reads (Read its) left = record {
+    turn = i + 1;
+    name = name;
+    has_turn = (let same : 2 + i ≡ i + 2 = omega arith in rw (add-one i)
+        (numbered names 2 i name get ∙ ap (λ m. Some (named (part.More m) name)) same ∙ ap (λ p. Some (named p name)) (sym left.0)));
+    rose = rose_later (was.reads name) (mid.reads name) (now.reads name) (reads.reads name) left.1;
+    earlier = told_then (λ x y. (y ≡ x) × SoFar x y) (λ x y. y ≡ x) (λ x y. NoSampleRefused (i + 1) (content_of x first) (contents x names)) was.files mid.files now.files
+        (λ x y z same then_same. none_refused (content_of x first) (contents x names) i before same.1) (then_front so_far) then_reads.files;
+  }
+  next_unread then_reads NoMemory left = tt
+  next_unread then_reads (FormFault its why) left = refused (FormFault its why) left
+  next_unread then_reads (Unlike its) left = refused (Unlike its) left
+  next_unread then_reads (Limit what number bound) left = refused (Limit what number bound) left
+  next_unread then_reads (Words fault) left = refused (Words fault) left
+  next_unread then_reads (Mark index) left = refused (Mark index) left
+  next_unread then_reads (Write its) left = refused (Write its) left
+  next_unread then_reads (NoLoop length) left = refused (NoLoop length) left

@@ -1,0 +1,121 @@
+-- Bytes that stand for samples stand for sound ones.
+use Rattle.std.proofs.Common.{◌≡◌, ℕ, zero, suc, ◌*◌, ◌/◌, ◌≤◌, List, [], ◌∷◌, length, take, drop, sym, ap, ◌∙◌, subst, arith, true, eqb-true}
+use Rattle.std.specs.Prelude.{All}
+use Rattle.std.specs.List.{AllByRecursion, concat}
+use Rattle.std.proofs.Math.Nat.{mul-div-le, mul-le-mul_left}
+use Rattle.std.proofs.lemmas.List.{take-append-drop}
+use Rattle.std.proofs.lemmas.List.Elements.{All-append, All-drop, All-nil, All-take}
+use Rattle.std.proofs.lemmas.List.Folds.{concat-append}
+use Rattle.cells.specs.declared.place.Size.{Size}
+use Rattle.cells.specs.Cells.{Cells, bytes_of, cells_of, count_of}
+use Rattle.cells.specs.PartLists.{parts_from, parts_of}
+use Rattle.cells.specs.Places.{cell_count}
+use Rattle.netpbm_p6.specs.Pictures.{IsRead, IsSound, picture_size}
+use Rattle.y4m_clip.specs.declared.form.ClipForm.{ClipForm}
+use Rattle.y4m_clip.specs.Clips.{HasSpaceKind, cells_h, cells_w}
+use Rattle.y4m_clip.specs.Refusals.{IsReadClip, IsSoundClip}
+use Rattle.y4m_clip.specs.Spaces.{samples_of}
+use Rattle.y4m_clip.proofs.FormLaws.{form_of_line}
+use Rattle.sample_files.specs.declared.form.Form.{Form}
+use Rattle.sample_files.specs.declared.form.Form.TheVariants.{Picture, Clip}
+use Rattle.sample_files.specs.declared.several.Samples.{Samples}
+use Rattle.sample_files.specs.Samples.{AreSoundIn, IsSoundWithin, StandsAs, StandsWithin, goes_with}
+use Rattle.sample_files.specs.Several.{AreSoundSamples, StandAlike, StandForParts, StandForSamples, StandsAlike}
+
+-- what holds of each byte holds of the bytes of the cells that are made of them
+cell_bytes : (P : ℕ → Type 0) (k n : ℕ) (bytes : List ℕ) → All P bytes → All P (concat (cells_of k n bytes))
+cell_bytes P k zero bytes all = All-nil P
+cell_bytes P k (suc n) bytes all = All-append P (take k bytes) (concat (cells_of k n (drop k bytes))) (All-take P k bytes all) (cell_bytes P k n (drop k bytes) (All-drop P k bytes all))
+
+-- a picture that is read is sound
+pub read_is_sound : (bytes : List ℕ) (maxval : ℕ) (cells : Cells) → IsRead bytes (record { maxval = maxval; volume = cells }) → IsSound (record { maxval = maxval; volume = cells })
+read_is_sound bytes maxval cells read =
+    let p = read.stands in
+    let h = p.headed in
+    let size = picture_size h.width h.height in
+    record {
+      positive = subst (λ m. 1 ≤ m) (sym p.maxval) h.is_header.gives_maxval.counts.positive;
+      fits = subst (λ m. m ≤ 255) (sym p.maxval) p.depth;
+      one = ap (λ (v : Cells). v.more) p.volume;
+      frames = ap (λ (v : Cells). v.size.f) p.volume;
+      colours = ap (λ (v : Cells). v.k) p.volume;
+      samples = subst (λ m. All (λ b. b ≤ m) (bytes_of cells)) (sym p.maxval)
+          (subst (λ (v : Cells). All (λ b. b ≤ h.maxval) (bytes_of v)) (sym p.volume) (cell_bytes (λ b. b ≤ h.maxval) 3 (cell_count size) h.raster p.samples));
+      cells = subst (λ (v : Cells). count_of v ≤ 8388608) (sym p.volume) (omega (arith, read.limits.cells_fit));
+    }
+
+-- and so is a clip
+clip_is_sound : (most : ℕ) (bytes : List ℕ) (form : ClipForm) (cells : Cells) → IsReadClip most bytes (record { form = form; volume = cells }) → IsSoundClip most (record { form = form; volume = cells })
+clip_is_sound most bytes form cells read =
+    let c = read.stands in
+    let line = c.sized.lined in
+    let kind = c.sized.kind in
+    let w = cells_w line.tags kind in
+    let h = cells_h line.tags kind in
+    let f = length c.frames in
+    let whole : w * h * f ≤ w * h * (most / (w * h)) = mul-le-mul_left (w * h) (omega (arith, read.few)) in
+    let within = mul-div-le most (w * h) in
+    let turned : w * (h * f) ≡ w * h * f = grind arith in
+    record {
+      form = form_of_line form line.line line.tags line.is_line c.tags (subst (HasSpaceKind line.tags) (sym c.space) c.sized.is_kind) read.fits.tags_fit;
+      one = ap (λ (v : Cells). v.more) c.volume;
+      samples = ap (λ (v : Cells). v.k) c.volume ∙ ap samples_of (sym c.space);
+      cells = subst (λ (v : Cells). cell_count v.size ≤ most) (sym c.volume) (omega (arith, whole, within, turned));
+    }
+
+pub stands_is_sound : (most : ℕ) (bytes : List ℕ) (form : Form) (cells : Cells) → StandsWithin most bytes form cells → IsSoundWithin most form cells
+stands_is_sound most bytes (Picture maxval) cells stands = read_is_sound bytes maxval cells stands
+stands_is_sound most bytes (Clip form) cells stands = clip_is_sound most bytes form cells stands
+
+-- Of each part, and so of all.
+
+record PartsSound (maxval k : ℕ) (size : Size) (more : List Size) (cells : List (List ℕ)) : Type 0 where
+  frames : AllByRecursion (λ (s : Size). s.f ≡ 1) (size ∷ more)
+  samples : All (λ b. b ≤ maxval) (concat cells)
+
+alike_sound : (maxval : ℕ) (bytes : List ℕ) (p : Cells) → StandsAlike (Picture maxval) bytes p → IsSound (record { maxval = maxval; volume = p })
+alike_sound maxval bytes p a = by a.own a.alike a.stands
+  where
+    by : (own : Form) → goes_with (Picture maxval) own ≡ true → StandsAs bytes own p → IsSound (record { maxval = maxval; volume = p })
+    by (Clip other) alike stands = absurd (cc)
+    by (Picture other) alike stands = subst (λ n. IsSound (record { maxval = n; volume = p })) (sym (eqb-true maxval other alike)) (read_is_sound bytes other p stands)
+
+whole : (P : ℕ → Type 0) (n : ℕ) (cells : List (List ℕ)) → All P (concat (take n cells)) → All P (concat (drop n cells)) → All P (concat cells)
+whole P n cells front back = subst (All P) (sym (concat-append (take n cells) (drop n cells)) ∙ ap concat (take-append-drop n cells)) (All-append P (concat (take n cells)) (concat (drop n cells)) front back)
+
+others_sound : (maxval k : ℕ) (files : List (List ℕ)) (size : Size) (more : List Size) (cells : List (List ℕ)) → StandAlike (Picture maxval) files (parts_from k size more cells) → PartsSound maxval k size more cells
+others_sound maxval k [] size [] cells a = absurd a
+others_sound maxval k [] size (next ∷ more) cells a = absurd a
+others_sound maxval k (file ∷ files) size [] cells a =
+    let s = alike_sound maxval file _ a.0 in
+    record { frames = (s.frames, tt); samples = s.samples }
+others_sound maxval k (file ∷ files) size (next ∷ more) cells a =
+    let s = alike_sound maxval file _ a.0 in
+    let rest = others_sound maxval k files next more (drop (cell_count size) cells) a.1 in
+    record { frames = (s.frames, rest.frames); samples = whole (λ b. b ≤ maxval) (cell_count size) cells s.samples rest.samples }
+
+first_sound : (maxval : ℕ) (first : List ℕ) (more : List (List ℕ)) (v : Cells) → StandForParts (Picture maxval) first more (parts_of v) → AreSoundIn (Picture maxval) v
+first_sound maxval first files v = by v.size v.more v.cells
+  where
+    by : (size : Size) (more : List Size) (cells : List (List ℕ)) → StandForParts (Picture maxval) first files (parts_from v.k size more cells) → AreSoundIn (Picture maxval) (record { size = size; more = more; k = v.k; cells = cells })
+    by size [] cells stand =
+        let s = read_is_sound first maxval _ stand.0 in
+        record { positive = s.positive; fits = s.fits; colours = s.colours; frames = (s.frames, tt); samples = s.samples }
+    by size (next ∷ more) cells stand =
+        let s = read_is_sound first maxval _ stand.0 in
+        let rest = others_sound maxval v.k files next more (drop (cell_count size) cells) stand.1 in
+        record { positive = s.positive; fits = s.fits; colours = s.colours; frames = (s.frames, rest.frames); samples = whole (λ b. b ≤ maxval) (cell_count size) cells s.samples rest.samples }
+
+clips_sound : (form : ClipForm) (first : List ℕ) (more : List (List ℕ)) (v : Cells) → StandForParts (Clip form) first more (parts_of v) → AreSoundIn (Clip form) v
+clips_sound form first files v = by v.size v.more v.cells
+  where
+    by : (size : Size) (more : List Size) (cells : List (List ℕ)) → StandForParts (Clip form) first files (parts_from v.k size more cells) → AreSoundIn (Clip form) (record { size = size; more = more; k = v.k; cells = cells })
+    by size [] cells stand = let s = clip_is_sound 8388608 first form _ stand.0 in record { is_form = s.form; samples = s.samples }
+    by size (next ∷ more) cells stand = let s = clip_is_sound 8388608 first form _ stand.0 in record { is_form = s.form; samples = s.samples }
+
+pub stand_sound : (first : List ℕ) (more : List (List ℕ)) (samples : Samples) → StandForSamples first more samples → AreSoundSamples samples
+stand_sound first more samples stand = record { form = by samples.form stand.parts; fits = stand.fits }
+  where
+    by : (form : Form) → StandForParts form first more (parts_of samples.volume) → AreSoundIn form samples.volume
+    by (Picture maxval) parts = first_sound maxval first more samples.volume parts
+    by (Clip form) parts = clips_sound form first more samples.volume parts

@@ -1,0 +1,44 @@
+use Rattle.std.proofs.Common.{◌+◌, [], ◌∷◌, length, arith, ap, sym, subst, length-append}
+use Rattle.std.specs.Prelude.{Err}
+use Rattle.std.proofs.lemmas.Result.{err_from_is_err_and}
+use Rattle.shelf_core.proofs.FileLaws.{only_reads_then}
+use Rattle.run_outcome.specs.Faults.{FailsToRead}
+use Rattle.sample_files.specs.Samples.{RefusesSample}
+use Rattle.sample_files.specs.Several.{SamplesReadAs}
+use Rattle.sample_files.specs.Steps.{IsNextRead, NotNext}
+use Rattle.sample_files.proofs.Reading.{first_unread, next_unread, read_more}
+use Rattle.sample_files.proofs.several.read_samples.Goals as goal
+
+pub returns-in-Err-clause-answer : goal.returns-in-Err-clause-answer
+returns-in-Err-clause-answer g c =
+    let was = g.S.Shelf.state c.args.shelf.now in
+    let now = g.S.Shelf.state c.read_sample.new.shelf in
+    let left = subst (λ name. FailsToRead RefusesSample name was now c.in-Err.error) c.as_text.ensures (c.in-Err.ensures {u = tt}).answer in
+    subst (λ fault. SamplesReadAs c.args.first.now c.args.more.now was now (Err fault)) (sym c.read_fault.ensures)
+    (first_unread c.args.first.now c.args.more.now was now c.read_sample.ensures.reads c.in-Err.error left)
+
+pub returns-in_err-read_next-clause-answer : goal.returns-in_err-read_next-clause-answer
+returns-in_err-read_next-clause-answer g c =
+    let was = g.S.Shelf.state c.args.shelf.now in
+    let mid = g.S.Shelf.state c.loop-i.shelf in
+    let now = g.S.Shelf.state c.read_next.new.shelf in
+    let fault = c.in_err-read_next.field-0.0 in
+    let name = c.index-more-i.result in
+    let p = err_from_is_err_and c.from_residual.result c.from_residual.ensures.1 in
+    let left = subst (λ n. NotNext c.loop-i.samples (c.loop-i.i + 2) n mid now fault) c.as_text-in-loop-i.ensures (c.in_err-read_next.ensures {u = tt}).answer in
+    rw (p.1, p.2)
+    (next_unread c.args.first.now c.args.more.now c.loop-i.i name c.loop-i.samples was mid now c.loop-i-test.true c.index-more-i.is c.loop-i.invariant.reads c.loop-i.invariant.read c.read_next.ensures.reads fault left)
+
+pub loop-i-preserved : goal.loop-i-preserved
+loop-i-preserved g c =
+    let was = g.S.Shelf.state c.args.shelf.now in
+    let mid = g.S.Shelf.state c.loop-i.shelf in
+    let now = g.S.Shelf.state c.read_next.new.shelf in
+    let name = c.index-more-i.result in
+    let next = subst (λ n. IsNextRead c.loop-i.samples n mid now c.read_next.new.samples) c.as_text-in-loop-i.ensures (c.in_ok-read_next.ensures {u = tt}).answer in
+    record {
+      reads = only_reads_then was mid now c.loop-i.invariant.reads c.read_next.ensures.reads;
+      read = read_more was mid now c.loop-i.invariant.reads c.args.first.now c.args.more.now c.loop-i.i name c.loop-i.samples c.read_next.new.samples c.loop-i-test.true c.index-more-i.is c.loop-i.invariant.read next;
+      sound = next.joined.sound;
+      count = omega (arith, ap length next.joined.sizes, c.loop-i.invariant.count, length-append (c.loop-i.samples.volume.size ∷ c.loop-i.samples.volume.more) (next.sample.volume.size ∷ []));
+    }

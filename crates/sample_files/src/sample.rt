@@ -1,0 +1,103 @@
+// One sample: what its bytes are, whatever its form.
+ghost use Rattle.std.specs.Prelude.{◌≡◌, ◌≤◌, true, false, IfOk, OnErr};
+ghost use Rattle.shelf_core.specs.Files.{InFile, OnlyReads, ReadsRose};
+ghost use Rattle.y4m_clip.specs.declared.bounds.TheConstants.{MOST_OF_ALL};
+ghost use Rattle.sample_files.specs.Samples.{IsSoundSample, IsSoundSampleWithin, SampleReadsAs, SampleReadsWithin, begins_clip};
+ghost use Rattle.sample_files.specs.Steps.{ReadsInForm};
+
+use crate::form::Form;
+use cells::Volume;
+use netpbm_p6::{Picture, read_p6};
+use shelf_core::{Failed, ReadError, Shelf};
+use std::alloc::Global;
+use y4m_clip::{Clip, read_clip};
+
+/// The most cells of a sample, and of the samples of a run together.
+pub const MOST_SAMPLE_CELLS: u64 = 8_388_608;
+
+/// A sample: its form, and its cells.
+#[derive(Drop)]
+pub struct Sample {
+    pub form: Form,
+    pub volume: Volume,
+}
+
+// Whether a file is read as a clip: its first byte is `Y`.
+fn begins_clip<S: Shelf>(shelf: &mut S, name: &str) -> Result<bool, Failed>
+    ensures begins { IfOk result (λ clip. InFile name.now (S.state shelf.old) (S.state shelf.new)
+        (λ bytes. begins_clip bytes ≡ clip)) }
+    ensures failed { OnErr result (ReadsRose name.now (S.state shelf.old) (S.state shelf.new)) }
+    ensures reads { OnlyReads (S.state shelf.old) (S.state shelf.new) }
+{
+    let mut first = [0u8; 1];
+    let count = shelf.get(name, 0, &mut first)?;
+    Ok(count == 1 && first[0] == b'Y')
+}
+
+// Reads a clip of at most so many cells.
+fn read_as_clip<S: Shelf>(
+    alloc: Global,
+    shelf: &mut S,
+    name: &str,
+    most: u64,
+) -> Result<Sample, ReadError>
+    requires { most ≤ MOST_OF_ALL }
+    ensures answer { ReadsInForm true most name.now (S.state shelf.old) (S.state shelf.new) result }
+    ensures sound { IfOk result (IsSoundSampleWithin most) }
+    ensures reads { OnlyReads (S.state shelf.old) (S.state shelf.new) }
+{
+    match read_clip(alloc, shelf, name, most) {
+        Ok(Clip { form, volume }) => Ok(Sample {
+            form: Form::Clip { form },
+            volume,
+        }),
+        Err(error) => Err(error),
+    }
+}
+
+// Reads a picture.
+fn read_as_picture<S: Shelf>(alloc: Global, shelf: &mut S, name: &str) -> Result<Sample, ReadError>
+    ensures answer { (most : _) → ReadsInForm false most name.now
+        (S.state shelf.old) (S.state shelf.new) result }
+    ensures sound { (most : _) → IfOk result (IsSoundSampleWithin most) }
+    ensures reads { OnlyReads (S.state shelf.old) (S.state shelf.new) }
+{
+    match read_p6(alloc, shelf, name) {
+        Ok(Picture { maxval, volume }) => Ok(Sample {
+            form: Form::Picture { maxval },
+            volume,
+        }),
+        Err(error) => Err(error),
+    }
+}
+
+/// Reads a file in the form of a sample, to the file's end, with the refusals of its form: a clip of at
+/// most `most` cells where its first byte is `Y`, and otherwise a P6 picture, which has at most 2^23
+/// cells.
+pub fn read_sample_within<S: Shelf>(
+    alloc: Global,
+    shelf: &mut S,
+    name: &str,
+    most: u64,
+) -> Result<Sample, ReadError>
+    requires { most ≤ MOST_OF_ALL }
+    ensures answer { SampleReadsWithin most name.now
+        (S.state shelf.old) (S.state shelf.new) result }
+    ensures sound { IfOk result (IsSoundSampleWithin most) }
+    ensures reads { OnlyReads (S.state shelf.old) (S.state shelf.new) }
+{
+    if begins_clip(shelf, name)? {
+        return read_as_clip(alloc, shelf, name, most);
+    }
+    read_as_picture(alloc, shelf, name)
+}
+
+/// Reads a sample from the named file, to the file's end, with the refusals of its form. It has at most
+/// 2^23 cells.
+pub fn read_sample<S: Shelf>(alloc: Global, shelf: &mut S, name: &str) -> Result<Sample, ReadError>
+    ensures answer { SampleReadsAs name.now (S.state shelf.old) (S.state shelf.new) result }
+    ensures sound { IfOk result IsSoundSample }
+    ensures reads { OnlyReads (S.state shelf.old) (S.state shelf.new) }
+{
+    read_sample_within(alloc, shelf, name, MOST_SAMPLE_CELLS)
+}

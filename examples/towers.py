@@ -15,7 +15,7 @@ import sys
 JUDGE = ["costs", "cut_check", "cut_replay", "strip_boundary", "block_strips", "block_check", "block_replay", "frame_distance", "loop_walk"]
 JUDGE += ["cert_file", "standing_files", "check_command"]
 SEARCH = ["match_error", "search_squares", "patch_place", "trial_sample", "cost_windows", "max_flow", "cut_graph", "graph_place", "refine_seams"]
-SEARCH += ["growing", "quilt", "quilting"]
+SEARCH += ["grow_run", "quilt", "quilt_run"]
 
 # The most lines of the crates that stand on a crate, for an edit of that crate.
 MOST = {"search_squares": 14_000, "patch_place": 9_000}

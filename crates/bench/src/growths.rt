@@ -7,7 +7,7 @@ ghost use Rattle.bench.specs.Sizes.{IsGrowthCase};
 
 use crate::samples::{Texture, sample_of, sum_of};
 use cells::{Size, Volume};
-use growing::{GrowPlan, Grown, grow_canvas};
+use grow_run::{GrowPlan, Grown, grow_canvas};
 use map_canvas::Canvas;
 use patch_place::Mode;
 use cut_replay::replay_cuts;

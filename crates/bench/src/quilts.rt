@@ -4,7 +4,7 @@ ghost use Rattle.cells.specs.Places.{IsSmall};
 use crate::samples::{Texture, sample_of, sum_of};
 use block_strips::QuiltPlan;
 use cells::Size;
-use quilting::{QuiltRun, quilt_canvas};
+use quilt_run::{QuiltRun, quilt_canvas};
 use std::alloc::{AllocError, Global};
 
 /// Quilts a picture of that side so often, of blocks of 64x64 cells with overlaps of 16, from a sample of the same

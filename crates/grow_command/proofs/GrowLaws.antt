@@ -13,13 +13,13 @@ use Rattle.cut_check.specs.declared.record.CutRecord.{CutRecord}
 use Rattle.graph_place.specs.Placed.{map_total}
 use Rattle.cut_replay.specs.Replay.{EachOver}
 use Rattle.cut_replay.specs.declared.records.TheConstants.{MOST_BOX_CELLS}
-use Rattle.growing.specs.declared.plan.GrowPlan.{GrowPlan}
-use Rattle.growing.specs.Grown.{Growth as Growing, GrowsBy, PassesAt, first_growth}
-use Rattle.growing.specs.Runs.{Leads}
-use Rattle.growing.proofs.Nexts.{stays_map}
-use Rattle.growing.proofs.OneRuns.{ends_within, limits_are_one}
-use Rattle.growing.proofs.Raising.{none_raises}
-use Rattle.growing.proofs.Splitting.{starts}
+use Rattle.grow_run.specs.declared.plan.GrowPlan.{GrowPlan}
+use Rattle.grow_run.specs.Grown.{Growth as Growing, GrowsBy, PassesAt, first_growth}
+use Rattle.grow_run.specs.Runs.{Leads}
+use Rattle.grow_run.proofs.Nexts.{stays_map}
+use Rattle.grow_run.proofs.OneRuns.{ends_within, limits_are_one}
+use Rattle.grow_run.proofs.Raising.{none_raises}
+use Rattle.grow_run.proofs.Splitting.{starts}
 use Rattle.cert_file.specs.RecordFiles.{cuts_form}
 use Rattle.job_words.specs.declared.grow.GrowJob.{GrowJob}
 use Rattle.job_words.specs.GrowWords.{IsGrowJob}

@@ -6,9 +6,9 @@ use Rattle.cells.specs.Cells.{IsVolume}
 use Rattle.shelf_core.specs.Files.{Files, ShelfState, OnlyReads, Changes, content_of}
 use Rattle.shelf_core.proofs.FileLaws.{told_both, told_weaker}
 use Rattle.graph_place.specs.Placed.{map_total}
-use Rattle.growing.specs.declared.plan.GrowError.{GrowError}
-use Rattle.growing.specs.declared.plan.GrowError.TheVariants as error
-use Rattle.growing.specs.Grown.{IsGrown, IsGrowFault}
+use Rattle.grow_run.specs.declared.plan.GrowError.{GrowError}
+use Rattle.grow_run.specs.declared.plan.GrowError.TheVariants as error
+use Rattle.grow_run.specs.Grown.{IsGrown, IsGrowFault}
 use Rattle.job_words.specs.declared.grow.GrowJob.{GrowJob}
 use Rattle.synth_report.specs.declared.fault.Fault.{Fault}
 use Rattle.synth_report.specs.declared.fault.Fault.TheVariants.{Limit}

@@ -7,9 +7,9 @@ use Rattle.shelf_core.specs.Files.{Files, content_of}
 use Rattle.map_canvas.specs.Maps.{SourceMap, picture_of}
 use Rattle.source_map.specs.MapFiles.{cell_map_form}
 use Rattle.graph_place.specs.Placed.{map_total}
-use Rattle.growing.specs.Grown.{Growth, IsDone, IsRun}
-use Rattle.growing.specs.OneRun.{IsSameRun, SameButFlows}
-use Rattle.growing.proofs.OneRuns.{runs_are_one}
+use Rattle.grow_run.specs.Grown.{Growth, IsDone, IsRun}
+use Rattle.grow_run.specs.OneRun.{IsSameRun, SameButFlows}
+use Rattle.grow_run.proofs.OneRuns.{runs_are_one}
 use Rattle.job_words.specs.declared.grow.GrowJob.{GrowJob}
 use Rattle.synth_report.specs.declared.summary.Summary.{Summary}
 use Rattle.synth_report.specs.declared.summary.Summary.TheVariants.{Grow}

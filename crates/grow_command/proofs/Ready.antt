@@ -21,7 +21,7 @@ use Rattle.source_map.specs.MapFiles.{IsInSamples, IsShortCoordinate, IsWritable
 use Rattle.source_map.specs.Heads.{AreSamples}
 use Rattle.cut_check.specs.declared.record.CutRecord.{CutRecord}
 use Rattle.cut_replay.specs.Replay.{IsFormed, box_cells}
-use Rattle.growing.proofs.Stepping.{some_cells}
+use Rattle.grow_run.proofs.Stepping.{some_cells}
 use Rattle.cert_file.specs.CutForms.{IsCutInForm}
 use Rattle.cert_file.specs.RecordFiles.{AreCutsInForm}
 use Rattle.job_words.specs.declared.grow.GrowJob.{GrowJob}

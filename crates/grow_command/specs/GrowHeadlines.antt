@@ -12,7 +12,7 @@ use Rattle.patch_place.specs.Draws.{DrawState}
 use Rattle.cut_check.specs.declared.record.CutRecord.{CutRecord}
 use Rattle.graph_place.specs.Placed.{map_total}
 use Rattle.cut_replay.specs.Replay.{EachLeast, EachOver, EachStands, KeepsFixed, left_by}
-use Rattle.growing.specs.Grown.{IsDone, IsRun, IsSplit}
+use Rattle.grow_run.specs.Grown.{IsDone, IsRun, IsSplit}
 use Rattle.cert_file.specs.RecordFiles.{cuts_form}
 use Rattle.job_words.specs.declared.grow.GrowJob.{GrowJob}
 use Rattle.job_words.specs.declared.job.Job.TheVariants.{Grow}

@@ -15,10 +15,10 @@ use Rattle.graph_place.specs.Placed.{map_total}
 use Rattle.patch_place.specs.declared.mode.Mode.{Mode}
 use Rattle.patch_place.specs.declared.mode.Mode.TheVariants as mode
 use Rattle.cut_replay.specs.declared.records.TheConstants.{MOST_BOX_CELLS}
-use Rattle.growing.specs.declared.plan.GrowPlan.{GrowPlan}
-use Rattle.growing.specs.declared.plan.GrowError.{GrowError}
-use Rattle.growing.specs.declared.plan.GrowError.TheVariants as error
-use Rattle.growing.specs.Grown.{IsGrown, PassesAt}
+use Rattle.grow_run.specs.declared.plan.GrowPlan.{GrowPlan}
+use Rattle.grow_run.specs.declared.plan.GrowError.{GrowError}
+use Rattle.grow_run.specs.declared.plan.GrowError.TheVariants as error
+use Rattle.grow_run.specs.Grown.{IsGrown, PassesAt}
 use Rattle.cert_file.specs.CutForms.{HasShortFlows}
 use Rattle.cert_file.specs.RecordFiles.{cuts_form}
 use Rattle.job_words.specs.declared.grow.GrowJob.{GrowJob}

@@ -8,7 +8,7 @@ ghost use Rattle.grow_command.specs.Growths.{IsMade, SetAgainst, grow_command, g
 
 use crate::asked::{MOST_OUTPUT_CELLS, growing_fault, mode_for};
 use cells::{GREATEST_AXIS, Size};
-use growing::{GrowPlan, Grown, grow_canvas};
+use grow_run::{GrowPlan, Grown, grow_canvas};
 use job_words::GrowJob;
 use run_files::records_fit;
 use sample_files::{Form, Samples, read_samples};

@@ -9,9 +9,9 @@ use Rattle.shelf_core.specs.declared.fault.ReadError.{ReadError}
 use Rattle.shelf_core.specs.declared.fault.ReadError.TheVariants.{Bad, Limit as ReadLimit, NoMemory as ReadMemory, ReadFault}
 use Rattle.netpbm_p6.specs.declared.picture.Picture.{Picture}
 use Rattle.netpbm_p6.specs.Pictures.{IsRead, IsSound, ReadsAs, Refuses}
-use Rattle.quilting.specs.declared.asked.QuiltError.{QuiltError}
-use Rattle.quilting.specs.declared.asked.QuiltError.TheVariants as error
-use Rattle.quilting.specs.Quilted.{CanBeQuilted, IsQuilt, IsQuiltFault}
+use Rattle.quilt_run.specs.declared.asked.QuiltError.{QuiltError}
+use Rattle.quilt_run.specs.declared.asked.QuiltError.TheVariants as error
+use Rattle.quilt_run.specs.Quilted.{CanBeQuilted, IsQuilt, IsQuiltFault}
 use Rattle.job_words.specs.declared.quilt.QuiltJob.{QuiltJob}
 use Rattle.job_words.specs.QuiltWords.{IsQuiltJob}
 use Rattle.synth_report.specs.declared.fault.Fault.{Fault}

@@ -13,8 +13,8 @@ use Rattle.source_map.specs.MapFiles.{cell_map_form}
 use Rattle.source_map.specs.declared.head.Version.TheVariants.{One}
 use Rattle.cut_replay.specs.declared.records.TheConstants.{MOST_BOX_CELLS}
 use Rattle.quilt.specs.Runs.{quilting}
-use Rattle.quilting.specs.Quilted.{QuiltPassesAt}
-use Rattle.quilting.proofs.OneLimits.{ends_within, limits_are_one}
+use Rattle.quilt_run.specs.Quilted.{QuiltPassesAt}
+use Rattle.quilt_run.proofs.OneLimits.{ends_within, limits_are_one}
 use Rattle.cert_file.specs.RecordFiles.{blocks_form}
 use Rattle.job_words.specs.declared.quilt.QuiltJob.{QuiltJob}
 use Rattle.job_words.specs.QuiltWords.{IsQuiltJob}

@@ -19,9 +19,9 @@ use Rattle.block_strips.specs.declared.side.Side.{Side}
 use Rattle.block_strips.specs.declared.side.Side.TheVariants.{Left, Top}
 use Rattle.block_strips.specs.Strips.{strip_rows}
 use Rattle.block_check.specs.declared.block.BlockRecord.{BlockRecord}
-use Rattle.quilting.specs.Costs.{IsFileBlock, IsFileSide}
+use Rattle.quilt_run.specs.Costs.{IsFileBlock, IsFileSide}
 use Rattle.block_check.specs.Blocks.{block_cells}
-use Rattle.quilting.proofs.Stepping.{some_cells}
+use Rattle.quilt_run.proofs.Stepping.{some_cells}
 use Rattle.cert_file.specs.BlockForms.{IsBlockInForm, IsWideBlock, IsWideBoundary}
 use Rattle.cert_file.specs.RecordFiles.{AreBlocksInForm}
 use Rattle.job_words.specs.declared.quilt.QuiltJob.{QuiltJob}

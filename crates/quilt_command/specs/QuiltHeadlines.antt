@@ -14,7 +14,7 @@ use Rattle.patch_place.specs.Draws.{DrawState}
 use Rattle.block_check.specs.declared.block.BlockRecord.{BlockRecord}
 use Rattle.quilt.specs.Runs.{IsQuilted, quilting}
 use Rattle.block_replay.specs.BlockReplay.{EachBlockIsLeast, EachBlockStands, left_by_blocks}
-use Rattle.quilting.specs.Costs.{all_boundaries, quilt_cost}
+use Rattle.quilt_run.specs.Costs.{all_boundaries, quilt_cost}
 use Rattle.cert_file.specs.RecordFiles.{blocks_form}
 use Rattle.job_words.specs.declared.quilt.QuiltJob.{QuiltJob}
 use Rattle.job_words.specs.declared.job.Job.TheVariants.{Quilt as QuiltOf}

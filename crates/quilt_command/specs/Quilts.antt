@@ -12,10 +12,10 @@ use Rattle.source_map.specs.MapFiles.{cell_map_form}
 use Rattle.source_map.specs.declared.head.Head.{Head}
 use Rattle.source_map.specs.declared.head.Version.TheVariants.{One}
 use Rattle.cut_replay.specs.declared.records.TheConstants.{MOST_BOX_CELLS}
-use Rattle.quilting.specs.declared.asked.QuiltRun.{QuiltRun}
-use Rattle.quilting.specs.declared.asked.QuiltError.{QuiltError}
-use Rattle.quilting.specs.declared.asked.QuiltError.TheVariants as error
-use Rattle.quilting.specs.Quilted.{IsQuilt, QuiltPassesAt}
+use Rattle.quilt_run.specs.declared.asked.QuiltRun.{QuiltRun}
+use Rattle.quilt_run.specs.declared.asked.QuiltError.{QuiltError}
+use Rattle.quilt_run.specs.declared.asked.QuiltError.TheVariants as error
+use Rattle.quilt_run.specs.Quilted.{IsQuilt, QuiltPassesAt}
 use Rattle.cert_file.specs.RecordFiles.{blocks_form}
 use Rattle.job_words.specs.declared.quilt.QuiltJob.{QuiltJob}
 use Rattle.synth_report.specs.declared.fault.Fault.{Fault}

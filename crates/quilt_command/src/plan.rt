@@ -9,7 +9,7 @@ use block_strips::QuiltPlan;
 use cells::Size;
 use job_words::QuiltJob;
 use netpbm_p6::{Picture, read_p6};
-use quilting::{QuiltError, QuiltRun, Quilted, quilt_canvas};
+use quilt_run::{QuiltError, QuiltRun, Quilted, quilt_canvas};
 use cut_replay::MOST_BOX_CELLS;
 use run_outcome::read_fault;
 use shelf_core::{Shelf, What};

@@ -7,7 +7,7 @@ ghost use Rattle.cut_replay.specs.Replay.{IsFormed};
 use crate::rows::{greys, two_parts};
 use cells::{At, Box3, Size, Volume};
 use cut_check::{CutFault, CutRecord, Flow, KEEP_RULE};
-use growing::{GrowPlan, Grown, grow_canvas};
+use grow_run::{GrowPlan, Grown, grow_canvas};
 use map_canvas::{Canvas, Placement};
 use patch_place::Mode;
 use cut_replay::{Broken, replay_cuts};

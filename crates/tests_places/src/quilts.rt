@@ -7,7 +7,7 @@ use cells::{At, Size};
 use map_canvas::Canvas;
 use patch_place::Draws;
 use quilt::next_block;
-use quilting::{QuiltRun, quilt_canvas};
+use quilt_run::{QuiltRun, quilt_canvas};
 use std::alloc::{AllocError, Global};
 use std::process::Abort;
 use std::test::Fail;

@@ -10,11 +10,11 @@ use Rattle.graph_place.specs.Placed.{map_total}
 use Rattle.trial_sample.specs.TrialSamples.{trial_sample}
 use Rattle.trial_sample.proofs.Volumes.{trial_is_volume}
 use Rattle.cut_replay.specs.declared.records.TheConstants.{MOST_BOX_CELLS}
-use Rattle.growing.specs.declared.plan.GrowError.{GrowError}
-use Rattle.growing.specs.declared.plan.GrowError.TheVariants as error
-use Rattle.growing.specs.Grown.{Growth, IsGrowFault}
-use Rattle.growing.specs.OneRun.{IsSameRun, SameButFlows}
-use Rattle.growing.proofs.OneRuns.{ends_within, limits_are_one, runs_are_one}
+use Rattle.grow_run.specs.declared.plan.GrowError.{GrowError}
+use Rattle.grow_run.specs.declared.plan.GrowError.TheVariants as error
+use Rattle.grow_run.specs.Grown.{Growth, IsGrowFault}
+use Rattle.grow_run.specs.OneRun.{IsSameRun, SameButFlows}
+use Rattle.grow_run.proofs.OneRuns.{ends_within, limits_are_one, runs_are_one}
 use Rattle.job_words.specs.declared.trial.TrialJob.{TrialJob}
 use Rattle.job_words.specs.TrialWords.{IsTrialJob}
 use Rattle.synth_report.specs.declared.fault.Fault.{Fault}

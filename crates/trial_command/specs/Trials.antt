@@ -6,9 +6,9 @@ use Rattle.shelf_core.specs.declared.fault.What.TheVariants.{Output, Records as 
 use Rattle.graph_place.specs.Placed.{map_total}
 use Rattle.trial_sample.specs.TrialSamples.{trial_sample}
 use Rattle.cut_replay.specs.declared.records.TheConstants.{MOST_BOX_CELLS}
-use Rattle.growing.specs.declared.plan.GrowPlan.{GrowPlan}
-use Rattle.growing.specs.declared.plan.Grown.{Grown}
-use Rattle.growing.specs.Grown.{IsGrown, PassesAt}
+use Rattle.grow_run.specs.declared.plan.GrowPlan.{GrowPlan}
+use Rattle.grow_run.specs.declared.plan.Grown.{Grown}
+use Rattle.grow_run.specs.Grown.{IsGrown, PassesAt}
 use Rattle.job_words.specs.declared.trial.TrialJob.{TrialJob}
 use Rattle.synth_report.specs.declared.fault.Fault.{Fault}
 use Rattle.synth_report.specs.declared.fault.Fault.TheVariants.{Limit, NoMemory}

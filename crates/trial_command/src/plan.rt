@@ -1,7 +1,7 @@
 // What is computed before the report.
 ghost use Rattle.std.specs.Prelude.{◌≡◌, ◌≤◌, IfOk, IfErr};
 ghost use Rattle.cells.specs.Places.{cell_count};
-ghost use Rattle.growing.specs.Grown.{IsGrown};
+ghost use Rattle.grow_run.specs.Grown.{IsGrown};
 ghost use Rattle.job_words.specs.TrialWords.{IsTrialJob};
 ghost use Rattle.trial_sample.specs.TrialSamples.{trial_sample};
 ghost use Rattle.grow_command.specs.declared.asked.TheConstants.{MOST_OUTPUT_CELLS};
@@ -9,7 +9,7 @@ ghost use Rattle.trial_command.specs.Trials.{IsTrialOf, NotTried, trial_plan, tr
 
 use cells::Volume;
 use grow_command::{MOST_OUTPUT_CELLS, growing_fault, mode_for};
-use growing::{GrowPlan, Grown, grow_canvas};
+use grow_run::{GrowPlan, Grown, grow_canvas};
 use job_words::TrialJob;
 use map_canvas::Canvas;
 use cut_replay::replay_cuts;

@@ -5,7 +5,7 @@ use Rattle.shelf_core.specs.Files.{Changes, content_of}
 use Rattle.run_outcome.specs.Outcomes.{NotMade}
 use Rattle.sample_files.specs.Several.{StandForSamples, SamplesReadAs, contents}
 use Rattle.grow_command.specs.Growths.{grow_command}
-use Rattle.growing.specs.Grown.{IsGrowFault, IsGrown}
+use Rattle.grow_run.specs.Grown.{IsGrowFault, IsGrown}
 use Rattle.grow_command.proofs.Growing.{growth_made, not_grown, output_refused, samples_not_read}
 use Rattle.grow_command.proofs.plan.plan.Goals as goal
 

@@ -2,7 +2,7 @@ use Rattle.std.proofs.Common.{subst, sym}
 use Rattle.std.specs.Prelude.{Err}
 use Rattle.shelf_core.specs.Files.{Changes, content_of}
 use Rattle.netpbm_p6.specs.Pictures.{IsRead, ReadsAs}
-use Rattle.quilting.specs.Quilted.{CanBeQuilted, IsQuilt, IsQuiltFault}
+use Rattle.quilt_run.specs.Quilted.{CanBeQuilted, IsQuilt, IsQuiltFault}
 use Rattle.run_outcome.specs.Outcomes.{NotMade}
 use Rattle.quilt_command.specs.Quilts.{quilt_command}
 use Rattle.quilt_command.proofs.Planning.{can_quilt, not_quilted, output_refused, picture_not_read, quilt_made}

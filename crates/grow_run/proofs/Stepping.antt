@@ -1,0 +1,121 @@
+-- The steps of a run, as the code makes them.
+use Rattle.std.proofs.Common.{◌≡◌, ℕ, ◌+◌, ◌*◌, ◌≤◌, ◌<◌, List, [], ◌∷◌, ◌++◌, refl, ap, sym, ◌∙◌, subst, arith}
+use Rattle.std.proofs.lemmas.Nat.{mul-add-lt}
+use Rattle.std.proofs.lemmas.List.Elements.{All-nil, All-push}
+use Rattle.std.specs.Prelude.{All, None}
+use Rattle.cells.specs.declared.place.Size.{Size}
+use Rattle.cells.specs.Boxes.{HasCells}
+use Rattle.cells.specs.Cells.{Cells}
+use Rattle.cells.specs.Distances.{distance}
+use Rattle.cells.specs.Places.{cell_count}
+use Rattle.map_canvas.specs.declared.canvas.Placement.{Placement}
+use Rattle.map_canvas.specs.Canvases.{CanvasState, IsCanvas, StandsOver, empty_canvas}
+use Rattle.map_canvas.specs.Choices.{box_count, map_after}
+use Rattle.map_canvas.specs.Maps.{empty_map, first_unfilled}
+use Rattle.boxes.specs.Pairs.{pair_count}
+use Rattle.patch_place.specs.Steps.{IsNextAt, draws_after}
+use Rattle.cut_check.specs.declared.record.CutRecord.{CutRecord}
+use Rattle.cut_check.specs.Records.{CutStands, setting}
+use Rattle.graph_place.specs.Fewest.{IsFewestHeld}
+use Rattle.graph_place.specs.Placed.{IsPlaced}
+use Rattle.refine_seams.specs.Rounds.{IsRoundAt}
+use Rattle.cut_replay.specs.declared.records.TheConstants.{MOST_BOX_CELLS}
+use Rattle.cut_replay.specs.Replay.{EachStands, IsFormed, box_cells, left_by}
+use Rattle.cut_replay.proofs.RunLaws.{cells_more, each_more, left_more}
+use Rattle.grow_run.specs.declared.plan.GrowPlan.{GrowPlan}
+use Rattle.grow_run.specs.declared.steps.Work.{Work}
+use Rattle.grow_run.specs.Grown.{ComesNext, ComesNextFor, Growth, GrowsBy, IsRun, PassesAt, draws_left, first_growth, rounds_made}
+use Rattle.grow_run.specs.Runs.{Leads}
+use Rattle.grow_run.specs.Work.{IsWork, growth_of}
+
+leads_more : {S A : Type 0} (Step : S → A → S → Type 0) (s : S) (list : List A) (t : S) (a : A) (u : S) → Leads Step s list t → Step t a u → Leads Step s (list ++ a ∷ []) u
+leads_more Step s [] t a u run step = (u, (subst (λ x. Step x a u) run step, refl))
+leads_more Step s (b ∷ rest) t a u run step = (run.0, (run.1.0, leads_more Step run.0 rest t a u run.1.1 step))
+
+-- a placement that is put in is one step more
+pub one_more : (plan : GrowPlan) (sample : Cells) (was now : Work) (placement : Placement) (cut : CutRecord) → IsWork plan sample was
+    → ComesNext plan sample (growth_of was) placement → HasCells placement.rect.size → now.draws ≡ draws_left plan was.draws (first_unfilled was.canvas.map) → now.rounds ≡ rounds_made was.rounds (first_unfilled was.canvas.map)
+    → IsPlaced was.canvas sample placement [] now.canvas cut → IsCanvas now.canvas
+    → now.cuts.items ≡ was.cuts.items ++ cut ∷ [] → now.cells ≡ was.cells + box_count placement → now.cells ≤ MOST_BOX_CELLS → now.rounds ≤ plan.rounds
+    → IsWork plan sample now
+one_more plan sample was now placement cut work next some draws rounds placed is items cells within few = record {
+  run = subst (λ cuts. IsRun plan sample cuts (growth_of now)) (sym items) (leads_more (GrowsBy plan sample) (first_growth plan) was.cuts.items (growth_of was) cut (growth_of now) work.run by);
+  cells = cells ∙ ap (λ n. n + box_count placement) work.cells ∙ ap (λ p. box_cells was.cuts.items + box_count p) here ∙ sym (cells_more was.cuts.items cut) ∙ ap box_cells (sym items);
+  within = within;
+  rounds = few;
+  formed = subst (All IsFormed) (sym items) (All-push IsFormed was.cuts.items cut work.formed (record {
+    cells = subst (λ (p : Placement). HasCells p.rect.size) here some;
+    choice = placed.choice_count ∙ ap box_count here;
+    flows = placed.flow_count ∙ ap (λ (p : Placement). pair_count p.rect.size) here;
+  }));
+  stand = subst (EachStands sample (empty_map plan.size)) (sym items) (each_more (λ m cut. CutStands (setting m sample []) cut) (empty_map plan.size) was.cuts.items cut work.stand
+      (subst (λ m. CutStands (setting m sample []) cut) (sym work.left) placed.stands));
+  left = ap (left_by (empty_map plan.size)) items ∙ left_more (empty_map plan.size) was.cuts.items cut ∙ ap (λ m. map_after m cut.placement cut.choice) work.left ∙ sym left_now;
+  over = placed.over;
+  canvas = is;
+}
+  where
+    here : placement ≡ cut.placement
+    here = sym placed.same_placement
+
+    left_now : now.canvas.map ≡ map_after was.canvas.map cut.placement cut.choice
+    left_now = placed.map ∙ ap (λ p. map_after was.canvas.map p cut.choice) here
+
+    by : GrowsBy plan sample (growth_of was) cut (growth_of now)
+    by = record {
+      next = subst (ComesNext plan sample (growth_of was)) here next;
+      choice_count = placed.choice_count ∙ ap box_count here;
+      fewest = subst (λ p. IsFewestHeld (distance sample) was.canvas.map p [] cut.choice) here placed.fewest;
+      map = left_now;
+      draws = draws;
+      rounds = rounds;
+    }
+
+-- no step is made yet
+pub none_made : (plan : GrowPlan) (sample : Cells) (now : Work) → IsCanvas now.canvas → StandsOver now.canvas sample → now.canvas ≡ empty_canvas plan.size sample.k → now.draws ≡ record { seed = plan.seed; place = 0 }
+    → now.cuts.items ≡ [] → now.cells ≡ 0 → now.rounds ≡ 0 → IsWork plan sample now
+none_made plan sample now is over canvas draws none cells rounds = record {
+  run = subst (λ cuts. IsRun plan sample cuts (growth_of now)) (sym none) (λ i. record { map = (canvas i).map; draws = draws i; rounds = rounds i });
+  cells = cells ∙ ap box_cells (sym none);
+  within = omega (arith, cells);
+  rounds = omega (arith, rounds);
+  formed = subst (All IsFormed) (sym none) (All-nil IsFormed);
+  stand = subst (EachStands sample (empty_map plan.size)) (sym none) tt;
+  left = ap (left_by (empty_map plan.size)) none ∙ ap (λ (c : CanvasState). c.map) (sym canvas);
+  over = over;
+  canvas = is;
+}
+
+-- the mode's next placement comes next, and so does that of a round of a full map
+pub next_laid : (plan : GrowPlan) (sample : Cells) (growth : Growth) (placement : Placement) → IsNextAt plan.mode growth.map sample growth.draws placement → ComesNext plan sample growth placement
+next_laid plan sample growth placement next = subst (λ o. ComesNextFor plan sample growth o placement) (sym next.first) next
+
+pub draws_laid : (plan : GrowPlan) (sample : Cells) (growth : Growth) (placement : Placement) → IsNextAt plan.mode growth.map sample growth.draws placement → draws_after plan.mode growth.draws ≡ draws_left plan growth.draws (first_unfilled growth.map)
+draws_laid plan sample growth placement next = ap (draws_left plan growth.draws) (sym next.first)
+
+pub rounds_laid : (plan : GrowPlan) (sample : Cells) (growth : Growth) (placement : Placement) → IsNextAt plan.mode growth.map sample growth.draws placement → growth.rounds ≡ rounds_made growth.rounds (first_unfilled growth.map)
+rounds_laid plan sample growth placement next = ap (rounds_made growth.rounds) (sym next.first)
+
+pub next_refined : (plan : GrowPlan) (sample : Cells) (growth : Growth) (placement : Placement) → first_unfilled growth.map ≡ None → growth.rounds < plan.rounds
+    → IsRoundAt plan.side plan.tol growth.map sample growth.draws placement → ComesNext plan sample growth placement
+next_refined plan sample growth placement none left round = subst (λ o. ComesNextFor plan sample growth o placement) (sym none) (left, round)
+
+-- a box that has a cell has some
+pub some_cells : (size : Size) → HasCells size → 0 < cell_count size
+some_cells size has =
+    let inner : 0 * size.h + 0 < size.h * size.f = mul-add-lt 0 size.h 0 size.f has.f has.h in
+    omega (arith, mul-add-lt 0 size.w 0 (size.h * size.f) (omega (arith, inner)) has.w)
+
+-- the box of the next placement takes the run past its bound
+pub passes : (plan : GrowPlan) (sample : Cells) (was : Work) (placement : Placement) (number : ℕ) → IsWork plan sample was → ComesNext plan sample (growth_of was) placement
+    → number ≡ was.cells + box_count placement → MOST_BOX_CELLS < number → PassesAt plan sample number
+passes plan sample was placement number work next cells past = record {
+  cuts = was.cuts.items;
+  growth = growth_of was;
+  placement = placement;
+  run = work.run;
+  within = subst (λ n. n ≤ MOST_BOX_CELLS) work.cells work.within;
+  next = next;
+  cells = cells ∙ ap (λ n. n + box_count placement) work.cells;
+  past = past;
+}

@@ -1,0 +1,10 @@
+use Rattle.std.proofs.Common.{◌∙◌, ap, refl, sym}
+use Rattle.map_canvas.specs.Canvases.{empty_canvas}
+use Rattle.grow_run.proofs.Stepping.{none_made}
+use Rattle.grow_run.proofs.steps.begin.Goals as goal
+
+pub returns : goal.returns
+returns c = none_made c.args.plan.now c.args.sample.now _ c.in_ok-canvas.ensures.canvas
+    (c.in_ok-canvas.ensures.stands c.args.sample.now (sym c.samples.ensures.samples))
+    (c.in_ok-canvas.ensures.empty ∙ ap (empty_canvas c.args.plan.now.size) c.samples.ensures.samples)
+    c.from_seed.ensures c.new.ensures.items refl refl

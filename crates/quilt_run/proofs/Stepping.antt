@@ -1,0 +1,156 @@
+-- The steps of a run, as the code makes them.
+use Rattle.std.proofs.Common.{◌≡◌, ℕ, ◌+◌, ◌*◌, ◌≤◌, ◌<◌, ◌^◌, [], ◌∷◌, ◌++◌, ap, sym, ◌∙◌, subst, arith}
+use Rattle.std.proofs.lemmas.Nat.{mul-add-lt}
+use Rattle.std.proofs.lemmas.List.Elements.{All-nil, All-push}
+use Rattle.std.specs.Prelude.{All, Option, Some, None}
+use Rattle.cells.specs.declared.place.Size.{Size}
+use Rattle.cells.specs.Boxes.{HasCells}
+use Rattle.cells.specs.Cells.{Cells, IsVolume}
+use Rattle.cells.specs.Places.{cell_count}
+use Rattle.map_canvas.specs.declared.canvas.Placement.{Placement}
+use Rattle.map_canvas.specs.Canvases.{CanvasState, IsCanvas, StandsOver, empty_canvas}
+use Rattle.map_canvas.specs.Choices.{Fits, box_count}
+use Rattle.map_canvas.specs.Maps.{SourceMap, empty_map}
+use Rattle.strip_boundary.specs.declared.boundary.BoundaryRecord.{BoundaryRecord}
+use Rattle.patch_place.specs.Draws.{DrawState}
+use Rattle.block_strips.specs.declared.side.Side.{Side}
+use Rattle.block_strips.specs.declared.side.Side.TheVariants.{Left, Top}
+use Rattle.block_strips.specs.Laid.{IsLaidByBlocks}
+use Rattle.block_strips.proofs.Laying.{next_fits, shares_strips}
+use Rattle.block_check.specs.declared.block.BlockRecord.{BlockRecord}
+use Rattle.block_check.specs.Blocks.{IsFormedBlock, block_cells}
+use Rattle.block_check.specs.Records.{BlockStands, JoinStands}
+use Rattle.quilt.specs.Runs.{HaveOneFrame, QuiltsBy, QuiltsTo, Quilting, first_quilting, quilting}
+use Rattle.block_replay.specs.BlockReplay.{left_by_blocks}
+use Rattle.quilt.proofs.Laying.{HasJoins, laid_formed}
+use Rattle.quilt.proofs.Runs.{quilts_replay}
+use Rattle.cut_replay.specs.declared.records.TheConstants.{MOST_BOX_CELLS}
+use Rattle.quilt_run.specs.declared.asked.QuiltRun.{QuiltRun}
+use Rattle.quilt_run.specs.declared.steps.QuiltWork.{QuiltWork}
+use Rattle.quilt_run.specs.Costs.{IsFileBlock, IsFileSide, all_boundaries, block_boundaries, block_cost, quilt_cost}
+use Rattle.quilt_run.specs.Quilted.{CanBeQuilted, QuiltPassesAt}
+use Rattle.quilt_run.specs.QuiltWork.{BlockCostsSo, HasBlockWidths, HasSideWidths, IsQuiltWork}
+use Rattle.quilt_run.proofs.More.{boundaries_more, cells_more, cost_more, quilts_more}
+
+-- a box that has a cell has some
+pub some_cells : (size : Size) → HasCells size → 0 < cell_count size
+some_cells size has =
+    let inner : 0 * size.h + 0 < size.h * size.f = mul-add-lt 0 size.h 0 size.f has.f has.h in
+    omega (arith, mul-add-lt 0 size.w 0 (size.h * size.f) (omega (arith, inner)) has.w)
+
+-- a boundary that stands, with the widths of its types, is as a file holds it
+file_side : (side : Side) (m : SourceMap) (sample : Cells) (placement : Placement) (boundary : Option BoundaryRecord) → JoinStands side m sample placement boundary → HasSideWidths boundary → IsFileSide side placement boundary
+file_side side m sample placement None stands widths = tt
+file_side side m sample placement (Some it) stands widths = record { column_per_row = stands.path.column_per_row; columns = widths.columns; sums = widths.sums }
+
+module _ (asked : QuiltRun) (sample : Cells) (volume : IsVolume sample) (can : CanBeQuilted asked sample) (was : QuiltWork) (work : IsQuiltWork asked sample was) (block : BlockRecord) (after : Quilting)
+    (by : QuiltsBy asked.plan sample (quilting was.canvas.map was.draws) block after) where
+  pub block_formed : IsFormedBlock block
+  block_formed =
+      let m = was.canvas.map in
+      let rect = block.placement.rect in
+      let axes = volume.small.axes in
+      let one : m.size.f ≡ 1 = ap (λ (size : Size). size.f) work.size ∙ can.frame in
+      let box = next_fits asked.plan m sample rect work.canvas.map axes can.block one by.next in
+      let has : HasJoins asked.plan m sample block = record {
+        fits = by.fits;
+        first_frame = box.first_frame;
+        one_frame = box.one_frame;
+        shares = shares_strips asked.plan m sample rect work.canvas.map axes can.block one by.next work.laid;
+        left = by.laid.left;
+        top = by.laid.top;
+      } in
+      laid_formed asked.plan m sample block has
+
+  file_block : BlockStands was.canvas.map sample block → HasBlockWidths block → IsFileBlock asked.size sample block
+  file_block stands widths = record {
+    fits = subst (λ size. Fits size sample block.placement) work.size by.fits;
+    formed = block_formed;
+    left = file_side Left was.canvas.map sample block.placement block.left stands.left widths.left;
+    top = file_side Top was.canvas.map sample block.placement block.top stands.top widths.top;
+  }
+
+  left : left_by_blocks (empty_map asked.size) was.blocks.items ≡ was.canvas.map
+  left = (quilts_replay asked.plan sample volume can.block asked.size can.small can.frame asked.seed was.blocks.items (quilting was.canvas.map was.draws) work.steps).left
+
+  -- a block that is laid is one step more
+  pub one_more : (now : QuiltWork) (cost : ℕ) → after ≡ quilting now.canvas.map now.draws → BlockStands was.canvas.map sample block → HaveOneFrame now.canvas sample → IsLaidByBlocks asked.plan sample now.canvas.map → IsCanvas now.canvas
+      → HasBlockWidths block → 1 ≤ box_count block.placement → now.blocks.items ≡ was.blocks.items ++ block ∷ [] → now.cells ≡ was.cells + box_count block.placement → now.cells ≤ MOST_BOX_CELLS
+      → now.boundaries ≡ was.boundaries + block_boundaries block → block_boundaries block ≤ 2 → now.cost ≡ was.cost + cost → BlockCostsSo block cost → cost < 2 ^ 33 → IsQuiltWork asked sample now
+  one_more now cost is stands pictures laid canvas widths some items cells within boundaries few costs so cheap = record {
+    steps = subst (λ blocks. QuiltsTo asked.plan sample (first_quilting asked.size asked.seed) blocks (quilting now.canvas.map now.draws)) (sym items)
+        (quilts_more asked.plan sample (first_quilting asked.size asked.seed) was.blocks.items (quilting was.canvas.map was.draws) block (quilting now.canvas.map now.draws) work.steps
+        (subst (QuiltsBy asked.plan sample (quilting was.canvas.map was.draws) block) is by));
+    size = ap (λ (q : Quilting). q.map.size) (sym is) ∙ ap (λ (m : SourceMap). m.size) by.map ∙ work.size;
+    pictures = pictures;
+    laid = laid;
+    canvas = canvas;
+    cells = cells ∙ ap (λ n. n + box_count block.placement) work.cells ∙ sym (cells_more was.blocks.items block) ∙ ap block_cells (sym items);
+    within = within;
+    boundaries = boundaries ∙ ap (λ n. n + block_boundaries block) work.boundaries ∙ sym (boundaries_more was.blocks.items block) ∙ ap all_boundaries (sym items);
+    few = omega (arith, boundaries, few, work.few, cells, some);
+    cost = costs ∙ (λ i. work.cost i + here i) ∙ sym (cost_more sample (empty_map asked.size) was.blocks.items block) ∙ ap (quilt_cost sample (empty_map asked.size)) (sym items);
+    cheap = omega (arith, costs, cheap, work.cheap, cells, some);
+    each = subst (All (IsFileBlock asked.size sample)) (sym items) (All-push (IsFileBlock asked.size sample) was.blocks.items block work.each (file_block stands widths));
+  }
+    where
+      here : cost ≡ block_cost (left_by_blocks (empty_map asked.size) was.blocks.items) sample block
+      here = so was.canvas.map sample stands ∙ ap (λ m. block_cost m sample block) (sym left)
+
+  -- its box takes the run past its bound
+  pub passes : (number : ℕ) → number ≡ was.cells + box_count block.placement → MOST_BOX_CELLS < number → QuiltPassesAt asked sample number
+  passes number cells past = record {
+    blocks = was.blocks.items;
+    so_far = quilting was.canvas.map was.draws;
+    run = work.steps;
+    within = subst (λ n. n ≤ MOST_BOX_CELLS) work.cells work.within;
+    rect = block.placement.rect;
+    next = by.next;
+    cells = cells ∙ ap (λ n. n + box_count block.placement) work.cells;
+    past = past;
+  }
+
+-- where none is laid, all is as it was
+pub stays : (asked : QuiltRun) (sample : Cells) (was : QuiltWork) (canvas : CanvasState) (draws : DrawState) → IsQuiltWork asked sample was → quilting canvas.map draws ≡ quilting was.canvas.map was.draws → HaveOneFrame canvas sample → IsCanvas canvas
+    → IsQuiltWork asked sample (record was { canvas = canvas; draws = draws })
+stays asked sample was canvas draws work same pictures is = record {
+  steps = subst (QuiltsTo asked.plan sample (first_quilting asked.size asked.seed) was.blocks.items) (sym same) work.steps;
+  size = ap (λ (q : Quilting). q.map.size) same ∙ work.size;
+  pictures = pictures;
+  laid = subst (λ (q : Quilting). IsLaidByBlocks asked.plan sample q.map) (sym same) work.laid;
+  canvas = is;
+  cells = work.cells;
+  within = work.within;
+  boundaries = work.boundaries;
+  few = work.few;
+  cost = work.cost;
+  cheap = work.cheap;
+  each = work.each;
+}
+
+-- no step is made yet
+pub none_made : (asked : QuiltRun) (sample : Cells) (now : QuiltWork) → CanBeQuilted asked sample → IsCanvas now.canvas → StandsOver now.canvas sample → now.canvas ≡ empty_canvas asked.size sample.k → IsLaidByBlocks asked.plan sample (empty_map asked.size)
+    → now.draws ≡ record { seed = asked.seed; place = 0 } → now.blocks.items ≡ [] → now.cells ≡ 0 → now.boundaries ≡ 0 → now.cost ≡ 0 → IsQuiltWork asked sample now
+none_made asked sample now can is over canvas laid draws none cells boundaries cost =
+    let map : now.canvas.map ≡ empty_map asked.size = ap (λ (c : CanvasState). c.map) canvas in
+    let size : now.canvas.map.size ≡ asked.size = ap (λ (m : SourceMap). m.size) map in
+    record {
+      steps = subst (λ blocks. QuiltsTo asked.plan sample (first_quilting asked.size asked.seed) blocks (quilting now.canvas.map now.draws)) (sym none) (λ i. quilting (map i) (draws i));
+      size = size;
+      pictures = record {
+        over = over;
+        samples = can.samples;
+        part = can.part;
+        output_frame = ap (λ (size : Size). size.f) size ∙ can.frame;
+        sample_frame = can.sample_frame;
+      };
+      laid = subst (IsLaidByBlocks asked.plan sample) (sym map) laid;
+      canvas = is;
+      cells = cells ∙ ap block_cells (sym none);
+      within = omega (arith, cells);
+      boundaries = boundaries ∙ ap all_boundaries (sym none);
+      few = omega (arith, boundaries);
+      cost = cost ∙ ap (quilt_cost sample (empty_map asked.size)) (sym none);
+      cheap = omega (arith, cost);
+      each = subst (All (IsFileBlock asked.size sample)) (sym none) (All-nil (IsFileBlock asked.size sample));
+    }

@@ -1,0 +1,14 @@
+use Rattle.std.specs.Prelude.{◌≡◌, ◌+◌, ◌-◌, false, if◌then◌else◌}
+use Rattle.map_canvas.specs.Maps.{IsFull}
+use Rattle.cut_replay.specs.declared.records.TheConstants.{MOST_BOX_CELLS}
+use Rattle.quilt_run.specs.QuiltWork.{IsQuiltWork}
+use Rattle.quilt_run.proofs.lay.lay_all.Given as goal
+
+abbrev pub invariant-laying : goal.invariant-laying
+invariant-laying l = record {
+  work : IsQuiltWork l.asked l.sample l.work;
+  full : l.more ≡ false → IsFull l.work.canvas.map;
+}
+
+abbrev pub decreases-laying : goal.decreases-laying
+decreases-laying l = if l.more then MOST_BOX_CELLS - l.work.cells + 1 else 0

@@ -7,8 +7,8 @@ use Rattle.job_words.specs.declared.check.CheckJob.{CheckJob}
 use Rattle.synth_report.specs.declared.summary.Summary.{Summary}
 use Rattle.synth_report.specs.declared.summary.Summary.TheVariants as summary
 use Rattle.synth_report.specs.Texts.{summary_status}
-use Rattle.run_outcome.specs.Outcomes.{WritesAll}
-use Rattle.run_outcome.specs.Writing.{Reported}
+use Rattle.command.specs.Outcomes.{WritesAll}
+use Rattle.command.specs.Writing.{Reported}
 use Rattle.standing_files.specs.declared.verdict.Verdict.{Verdict}
 use Rattle.standing_files.specs.declared.verdict.Verdict.TheVariants.{Stands, Fails}
 use Rattle.standing_files.specs.Standing.{IsVerdict}
@@ -16,7 +16,7 @@ use Rattle.check_command.specs.declared.reading.ReadFiles.{ReadFiles}
 use Rattle.check_command.specs.Checks.{AreRunFiles, Break, IsCheckSummary, MakesVerdict, Stand, check_command, summary_of}
 
 -- it writes no file
-unchanged : (job : CheckJob) (texts : List (List ℕ)) (before after : Files) → after ≡ written (Rattle.run_outcome.specs.Writing.pieces (check_command job).writes texts) before → after ≡ before
+unchanged : (job : CheckJob) (texts : List (List ℕ)) (before after : Files) → after ≡ written (Rattle.command.specs.Writing.pieces (check_command job).writes texts) before → after ≡ before
 unchanged job texts before after wrote = wrote
 
 module _ (job : CheckJob) (said : Summary) where

@@ -13,9 +13,9 @@ use Rattle.job_words.specs.declared.check.CheckJob.{CheckJob}
 use Rattle.synth_report.specs.declared.fault.Fault.{Fault}
 use Rattle.synth_report.specs.declared.fault.Fault.TheVariants.{Words, Form, Unlike, Mark, Limit, Read, Write, NoMemory, NoLoop}
 use Rattle.synth_report.specs.declared.fault.FileOf.TheVariants as part
-use Rattle.run_outcome.specs.Faults.{FailsToRead}
-use Rattle.run_outcome.specs.Outcomes.{NoneRefused, NotMade}
-use Rattle.run_outcome.proofs.Halves.{not_read}
+use Rattle.command.specs.Faults.{FailsToRead}
+use Rattle.command.specs.Outcomes.{NoneRefused, NotMade}
+use Rattle.command.proofs.Halves.{not_read}
 use Rattle.sample_files.specs.declared.sample.Sample.{Sample}
 use Rattle.sample_files.specs.declared.several.Samples.{Samples}
 use Rattle.sample_files.specs.Several.{MayRefuseSamples, RefusesSamples, SamplesReadAs, StandForSamples, contents}

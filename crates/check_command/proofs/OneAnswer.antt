@@ -5,7 +5,7 @@ use Rattle.job_words.specs.declared.job.Names.{Names}
 use Rattle.shelf_core.specs.Files.{Files}
 use Rattle.synth_report.specs.declared.summary.Summary.{Summary}
 use Rattle.synth_report.specs.Texts.{summary_status}
-use Rattle.run_outcome.specs.Commands.{HasOneAnswer}
+use Rattle.command.specs.Commands.{HasOneAnswer}
 use Rattle.standing_files.specs.declared.verdict.Verdict.{Verdict}
 use Rattle.standing_files.specs.declared.verdict.Verdict.TheVariants.{Stands, Fails}
 use Rattle.standing_files.specs.Standing.{IsVerdict}

@@ -4,7 +4,7 @@ use Rattle.std.specs.Prelude.{Some, slice_get}
 use Rattle.job_words.specs.declared.check.CheckJob.{CheckJob}
 use Rattle.synth_report.specs.declared.fault.FileOf.{FileOf}
 use Rattle.synth_report.specs.declared.fault.FileOf.TheVariants as part
-use Rattle.run_outcome.specs.Commands.{HasTurn, NamedFile, named}
+use Rattle.command.specs.Commands.{HasTurn, NamedFile, named}
 use Rattle.sample_files.specs.Several.{sample_files}
 use Rattle.sample_files.proofs.Commands.{length-numbered}
 use Rattle.check_command.specs.Checks.{check_command}

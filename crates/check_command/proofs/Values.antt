@@ -7,7 +7,7 @@ use Rattle.job_words.specs.declared.job.Names.{Names}
 use Rattle.synth_report.specs.declared.fault.Fault.{Fault}
 use Rattle.synth_report.specs.declared.fault.FileOf.{FileOf}
 use Rattle.synth_report.specs.declared.fault.FileOf.TheVariants as part
-use Rattle.run_outcome.specs.Faults.{ReaderRefuses, fault_of_read}
+use Rattle.command.specs.Faults.{ReaderRefuses, fault_of_read}
 use Rattle.sample_files.specs.declared.sample.Sample.{Sample}
 use Rattle.sample_files.specs.Several.{RefusesSamples, contents}
 use Rattle.sample_files.proofs.OneAnswer.{not_both, one_value, refused_once}

@@ -5,8 +5,8 @@ use Rattle.shelf_core.specs.Files.{Files, ShelfState, SinkState, Changes}
 use Rattle.job_words.specs.declared.check.CheckJob.{CheckJob}
 use Rattle.job_words.specs.declared.job.Job.TheVariants.{Check}
 use Rattle.synth_report.specs.declared.summary.Summary.TheVariants.{Fails}
-use Rattle.run_outcome.specs.Promises.{Asks, TellsFiles}
-use Rattle.run_outcome.specs.Writing.{Reported}
+use Rattle.command.specs.Promises.{Asks, TellsFiles}
+use Rattle.command.specs.Writing.{Reported}
 use Rattle.check_command.specs.Checks.{Break, Stand}
 
 -- `check` ends with status 0 where the files stand, and with status 1 where they are in their forms

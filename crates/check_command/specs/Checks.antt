@@ -13,8 +13,8 @@ use Rattle.synth_report.specs.declared.fault.Fault.TheVariants.{Form}
 use Rattle.synth_report.specs.declared.fault.FileOf.TheVariants as part
 use Rattle.synth_report.specs.declared.summary.Summary.{Summary}
 use Rattle.synth_report.specs.declared.summary.Summary.TheVariants as summary
-use Rattle.run_outcome.specs.Commands.{Command, named}
-use Rattle.run_outcome.specs.Faults.{ReaderRefuses}
+use Rattle.command.specs.Commands.{Command, named}
+use Rattle.command.specs.Faults.{ReaderRefuses}
 use Rattle.sample_files.specs.declared.sample.Sample.{Sample}
 use Rattle.sample_files.specs.Samples.{IsSampleWithin, RefusesWithin}
 use Rattle.sample_files.specs.Several.{StandForSamples, MayRefuseSamples, RefusesSamples, contents, sample_files}

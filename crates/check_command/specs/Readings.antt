@@ -4,7 +4,7 @@ use Rattle.shelf_core.specs.Files.{ShelfState, InFile}
 use Rattle.shelf_core.specs.declared.fault.ReadError.{ReadError}
 use Rattle.synth_report.specs.declared.fault.Fault.{Fault}
 use Rattle.synth_report.specs.declared.fault.FileOf.{FileOf}
-use Rattle.run_outcome.specs.Faults.{FailsToRead, fault_of_read}
+use Rattle.command.specs.Faults.{FailsToRead, fault_of_read}
 
 -- a file of this part isn't read, and the fault says why
 pub record IsNotRead (Refuses : List ℕ → ReadError → Type 0) (part : FileOf) (name : List ℕ)

@@ -1,12 +1,12 @@
 // The verdict on the files of a run, as a command.
 ghost use Rattle.std.specs.Prelude.{◌≡◌, []};
 ghost use Rattle.shelf_core.specs.Files.{OnlyReads};
-ghost use Rattle.run_outcome.specs.Outcomes.{Leaves, Plans};
+ghost use Rattle.command.specs.Outcomes.{Leaves, Plans};
 ghost use Rattle.check_command.specs.Checks.{check_command, summary_of};
 
 use crate::reading::read_files;
 use job_words::CheckJob;
-use run_outcome::report_run;
+use command::report_run;
 use shelf_core::{Shelf, Sink};
 use standing_files::{Verdict, judge};
 use std::alloc::Global;

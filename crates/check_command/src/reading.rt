@@ -4,13 +4,13 @@ ghost use Rattle.shelf_core.specs.Files.{Changes, OnlyReads};
 ghost use Rattle.cert_file.specs.RecordFiles.{IsCert, IsCertOf, RefusesCert};
 ghost use Rattle.sample_files.specs.Several.{AreSoundSamples};
 ghost use Rattle.synth_report.specs.declared.fault.FileOf.TheVariants as part;
-ghost use Rattle.run_outcome.specs.Outcomes.{NotMade};
+ghost use Rattle.command.specs.Outcomes.{NotMade};
 ghost use Rattle.check_command.specs.Checks.{AreRunFiles, IsReadMap, IsOut, RefusesMap, RefusesOutBytes, check_command};
 ghost use Rattle.check_command.specs.Readings.{ReadsPart};
 
 use cert_file::{CertFile, read_cert};
 use job_words::{CheckJob, Name};
-use run_outcome::read_fault;
+use command::read_fault;
 use sample_files::{Sample, Samples, read_sample_within, read_samples};
 use shelf_core::Shelf;
 use source_map::{MapFile, read_map};

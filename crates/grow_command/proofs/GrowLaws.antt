@@ -28,10 +28,10 @@ use Rattle.synth_report.specs.declared.fault.Fault.TheVariants.{Limit}
 use Rattle.synth_report.specs.declared.summary.Summary.{Summary}
 use Rattle.synth_report.specs.declared.summary.Summary.TheVariants.{Grow}
 use Rattle.synth_report.specs.Texts.{summary_status}
-use Rattle.run_outcome.specs.Commands.{HasOneAnswer}
-use Rattle.run_outcome.specs.Outcomes.{WritesAll}
-use Rattle.run_outcome.specs.Writing.{pieces}
-use Rattle.run_files.proofs.ThreeFiles.{cert_holds, map_holds, others_stay, out_holds}
+use Rattle.command.specs.Commands.{HasOneAnswer}
+use Rattle.command.specs.Outcomes.{WritesAll}
+use Rattle.command.specs.Writing.{pieces}
+use Rattle.command_files.proofs.ThreeFiles.{cert_holds, map_holds, others_stay, out_holds}
 use Rattle.sample_files.specs.declared.form.Form.{Form}
 use Rattle.sample_files.specs.declared.several.Samples.{Samples}
 use Rattle.sample_files.specs.Samples.{form_text}

@@ -12,8 +12,8 @@ use Rattle.grow_run.specs.Grown.{IsGrown, IsGrowFault}
 use Rattle.job_words.specs.declared.grow.GrowJob.{GrowJob}
 use Rattle.synth_report.specs.declared.fault.Fault.{Fault}
 use Rattle.synth_report.specs.declared.fault.Fault.TheVariants.{Limit}
-use Rattle.run_outcome.specs.Outcomes.{AreRefused, IsPlanned, NotMade}
-use Rattle.run_outcome.specs.Writing.{texts_in}
+use Rattle.command.specs.Outcomes.{AreRefused, IsPlanned, NotMade}
+use Rattle.command.specs.Writing.{texts_in}
 use Rattle.sample_files.specs.declared.several.Samples.{Samples}
 use Rattle.sample_files.specs.Several.{StandForSamples, RefusesSamples, SamplesReadAs, contents}
 use Rattle.sample_files.proofs.Commands.{samples_not_made}

@@ -32,7 +32,7 @@ use Rattle.sample_files.specs.Samples.{AreSoundIn, CanStandIn}
 use Rattle.grow_command.specs.declared.plan.Growth.{Growth}
 use Rattle.grow_command.specs.Growths.{IsMade, head_over, frames_allowed, version_for, version_over}
 use Rattle.source_map.specs.declared.head.Version.TheVariants.{One}
-use Rattle.run_files.proofs.Pictures.{picture_bytes}
+use Rattle.command_files.proofs.Pictures.{picture_bytes}
 
 -- the picture of a full canvas over samples can stand in their form
 can_stand : (form : Form) (sample : Cells) (canvas : CanvasState) → IsVolume sample → AreSoundIn form sample → IsFull canvas.map → canvas.map.size.f ≤ frames_allowed form → 1 ≤ canvas.map.size.f → IsCanvas canvas → StandsOver canvas sample → CanStandIn form canvas.picture

@@ -19,7 +19,7 @@ use Rattle.job_words.specs.declared.job.Job.TheVariants.{Grow}
 use Rattle.job_words.specs.Jobs.{job_of}
 use Rattle.synth_report.specs.declared.summary.Summary.{Summary}
 use Rattle.synth_report.specs.declared.summary.Summary.TheVariants.{Grow as Told}
-use Rattle.run_outcome.specs.Writing.{Reported}
+use Rattle.command.specs.Writing.{Reported}
 use Rattle.sample_files.specs.declared.several.Samples.{Samples}
 use Rattle.sample_files.specs.Samples.{form_text}
 use Rattle.sample_files.specs.Several.{contents}

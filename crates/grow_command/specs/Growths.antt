@@ -29,8 +29,8 @@ use Rattle.synth_report.specs.declared.fault.Fault.TheVariants.{Limit, NoMemory}
 use Rattle.synth_report.specs.declared.fault.FileOf.TheVariants as part
 use Rattle.synth_report.specs.declared.summary.Summary.{Summary}
 use Rattle.synth_report.specs.declared.summary.Summary.TheVariants.{Grow}
-use Rattle.run_outcome.specs.Commands.{Command, named}
-use Rattle.run_outcome.specs.Writing.{FileText, file_text, texts_in}
+use Rattle.command.specs.Commands.{Command, named}
+use Rattle.command.specs.Writing.{FileText, file_text, texts_in}
 use Rattle.sample_files.specs.declared.form.Form.{Form}
 use Rattle.sample_files.specs.declared.form.Form.TheVariants.{Picture, Clip}
 use Rattle.sample_files.specs.declared.several.Samples.{Samples}

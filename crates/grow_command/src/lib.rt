@@ -1,17 +1,17 @@
 //! The command `grow`: a texture from samples, with its map, its records, and its report.
 //!
 //! `grow` promises what a run of the command leaves, by its answer (specs/Growths.antt has the command as a value
-//! over the crate run_outcome: what it reads, refuses, makes and writes). What stands when it ends well is the
+//! over the crate command: what it reads, refuses, makes and writes). What stands when it ends well is the
 //! headline of the command (specs/GrowHeadlines.antt), which proofs/GrowLaws.antt proves of all that it writes.
 //!
-//! `asked` has what `grow` and `trial` ask of growing, `plan` what is read and computed, `command` the writing
+//! `asked` has what `grow` and `trial` ask of growing, `plan` what is read and computed, `whole` the writing
 //! and the whole.
 #![tactic(auto)]
 
 mod asked;
-mod command;
+mod whole;
 mod plan;
 
 pub use asked::{MOST_OUTPUT_CELLS, growing_fault, mode_for};
-pub use command::grow;
+pub use whole::grow;
 pub use plan::Growth;

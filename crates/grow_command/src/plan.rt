@@ -3,14 +3,14 @@ ghost use Rattle.std.specs.Prelude.{◌≡◌, IfOk};
 ghost use Rattle.cells.specs.Places.{HasAxes, cell_count};
 ghost use Rattle.shelf_core.specs.Files.{OnlyReads};
 ghost use Rattle.job_words.specs.GrowWords.{IsGrowJob};
-ghost use Rattle.run_outcome.specs.Outcomes.{Plans};
+ghost use Rattle.command.specs.Outcomes.{Plans};
 ghost use Rattle.grow_command.specs.Growths.{IsMade, SetAgainst, grow_command, growth_files, growth_summary, frames_allowed, plan_of};
 
 use crate::asked::{MOST_OUTPUT_CELLS, growing_fault, mode_for};
 use cells::{GREATEST_AXIS, Size};
 use grow_run::{GrowPlan, Grown, grow_canvas};
 use job_words::GrowJob;
-use run_files::records_fit;
+use command_files::records_fit;
 use sample_files::{Form, Samples, read_samples};
 use costs::total;
 use shelf_core::{Shelf, What};

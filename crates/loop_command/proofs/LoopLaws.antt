@@ -15,11 +15,11 @@ use Rattle.synth_report.specs.declared.fault.Fault.{Fault}
 use Rattle.synth_report.specs.declared.fault.FileOf.TheVariants as part
 use Rattle.synth_report.specs.declared.summary.Summary.{Summary}
 use Rattle.synth_report.specs.Texts.{summary_status}
-use Rattle.run_outcome.specs.Commands.{HasOneAnswer}
-use Rattle.run_outcome.specs.Faults.{ReaderRefuses, fault_of_read}
-use Rattle.run_outcome.specs.Outcomes.{WritesAll}
-use Rattle.run_outcome.specs.Writing.{pieces}
-use Rattle.run_files.proofs.ThreeFiles.{cert_holds, map_holds, others_stay, out_holds}
+use Rattle.command.specs.Commands.{HasOneAnswer}
+use Rattle.command.specs.Faults.{ReaderRefuses, fault_of_read}
+use Rattle.command.specs.Outcomes.{WritesAll}
+use Rattle.command.specs.Writing.{pieces}
+use Rattle.command_files.proofs.ThreeFiles.{cert_holds, map_holds, others_stay, out_holds}
 use Rattle.job_words.specs.LoopWords.{IsLoopJob}
 use Rattle.job_words.specs.declared.loop_words.LoopJob.{LoopJob}
 use Rattle.loop_command.specs.declared.plan.LoopedClip.{LoopedClip}

@@ -14,10 +14,10 @@ use Rattle.loop_walk.specs.Walks.{HasNoWalk}
 use Rattle.synth_report.specs.declared.fault.Fault.{Fault}
 use Rattle.synth_report.specs.declared.fault.Fault.TheVariants.{NoLoop}
 use Rattle.synth_report.specs.declared.fault.FileOf.TheVariants as part
-use Rattle.run_outcome.specs.Faults.{FailsToRead, fault_of_read}
-use Rattle.run_outcome.specs.Outcomes.{AreRefused, IsPlanned, NoneRefused, NotMade}
-use Rattle.run_outcome.specs.Writing.{texts_in}
-use Rattle.run_outcome.proofs.Halves.{not_read}
+use Rattle.command.specs.Faults.{FailsToRead, fault_of_read}
+use Rattle.command.specs.Outcomes.{AreRefused, IsPlanned, NoneRefused, NotMade}
+use Rattle.command.specs.Writing.{texts_in}
+use Rattle.command.proofs.Halves.{not_read}
 use Rattle.job_words.specs.declared.loop_words.LoopJob.{LoopJob}
 use Rattle.loop_command.specs.declared.plan.LoopedClip.{LoopedClip}
 use Rattle.loop_command.specs.Loops.{IsClipIn, IsLoopMade, IsLoopWithin, LacksLoop, PassesBounds, RefusesLoop, fault_of_looping, loop_command, loop_files, loop_summary, steps_over}

@@ -11,7 +11,7 @@ use Rattle.loop_walk.specs.Tables.{AreTightTables}
 use Rattle.loop_walk.proofs.OneAnswer.{one_tight}
 use Rattle.synth_report.specs.declared.summary.Summary.{Summary}
 use Rattle.synth_report.specs.declared.summary.Summary.TheVariants.{Loop}
-use Rattle.run_outcome.specs.Outcomes.{WritesAll}
+use Rattle.command.specs.Outcomes.{WritesAll}
 use Rattle.job_words.specs.LoopWords.{IsLoopJob}
 use Rattle.job_words.specs.declared.loop_words.LoopJob.{LoopJob}
 use Rattle.loop_command.specs.declared.plan.LoopedClip.{LoopedClip}

@@ -18,7 +18,7 @@ use Rattle.job_words.specs.declared.job.Job.TheVariants.{Loop as LoopAsked}
 use Rattle.job_words.specs.Jobs.{job_of}
 use Rattle.synth_report.specs.declared.summary.Summary.{Summary}
 use Rattle.synth_report.specs.declared.summary.Summary.TheVariants.{Loop}
-use Rattle.run_outcome.specs.Writing.{Reported}
+use Rattle.command.specs.Writing.{Reported}
 use Rattle.check_command.specs.Checks.{Stand}
 use Rattle.loop_command.specs.Loops.{IsClipIn, frames_taken, loop_head, loop_size, steps_over}
 

@@ -28,9 +28,9 @@ use Rattle.synth_report.specs.declared.fault.Fault.TheVariants.{Form, Limit, NoL
 use Rattle.synth_report.specs.declared.fault.FileOf.TheVariants as part
 use Rattle.synth_report.specs.declared.summary.Summary.{Summary}
 use Rattle.synth_report.specs.declared.summary.Summary.TheVariants.{Loop}
-use Rattle.run_outcome.specs.Commands.{Command, named}
-use Rattle.run_outcome.specs.Faults.{ReaderRefuses}
-use Rattle.run_outcome.specs.Writing.{FileText, file_text, texts_in}
+use Rattle.command.specs.Commands.{Command, named}
+use Rattle.command.specs.Faults.{ReaderRefuses}
+use Rattle.command.specs.Writing.{FileText, file_text, texts_in}
 use Rattle.sample_files.specs.declared.sample.TheConstants.{MOST_SAMPLE_CELLS}
 use Rattle.standing_files.specs.Standing.{walk_costs}
 use Rattle.job_words.specs.declared.loop_words.LoopJob.{LoopJob}

@@ -8,13 +8,13 @@ ghost use Rattle.y4m_clip.specs.Spaces.{samples_of};
 ghost use Rattle.cert_file.specs.RecordFiles.{walk_file_form};
 ghost use Rattle.cert_file.specs.WalkForms.{IsWalkInForm};
 ghost use Rattle.synth_report.specs.declared.fault.FileOf.TheVariants as part;
-ghost use Rattle.run_outcome.specs.Writing.{file_text};
+ghost use Rattle.command.specs.Writing.{file_text};
 ghost use Rattle.loop_command.specs.LoopOuts.{CanWriteFrames, walked_clip};
 
 use cells::{Size, Taps, Volume};
 use cert_file::{Head, write_walk};
 use job_words::Name;
-use run_outcome::RunFiles;
+use command::RunFiles;
 use shelf_core::{Shelf, WriteFault};
 use source_map::write_frame_map;
 use synth_report::FileOf;

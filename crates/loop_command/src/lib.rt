@@ -4,13 +4,13 @@
 //! least change at its jumps, and writes the frames of the walk as a clip, the frame map and the walk's
 //! record (specs/Loops.antt has what it refuses and makes). specs/LoopHeadlines.antt has what stands when
 //! it is done. `plan` reads and computes, `files` writes the files frame by frame, straight from the
-//! sample, and `command` does both.
+//! sample, and `whole` does both.
 #![tactic(auto)]
 
-mod command;
+mod whole;
 mod files;
 mod plan;
 
-pub use command::loop_clip;
+pub use whole::loop_clip;
 pub use files::{FrameMapFile, LoopFile, WalkFile};
 pub use plan::{LoopedClip, MOST_LOOP_CELLS, MOST_LOOP_FRAMES};

@@ -6,7 +6,7 @@ ghost use Rattle.frame_distance.specs.declared.table.TheConstants.{MOST_CLIP_CEL
 ghost use Rattle.shelf_core.specs.Files.{OnlyReads};
 ghost use Rattle.loop_walk.specs.Walks.{HasNoWalk};
 ghost use Rattle.cert_file.specs.WalkForms.{AreWide};
-ghost use Rattle.run_outcome.specs.Outcomes.{Plans};
+ghost use Rattle.command.specs.Outcomes.{Plans};
 ghost use Rattle.job_words.specs.LoopWords.{IsLoopJob};
 ghost use Rattle.loop_command.specs.Loops.{IsLoopFound, IsLoopMade, IsLoopWithin, SetAgainstClip, fault_of_looping, loop_command, loop_files, loop_summary, steps_over};
 
@@ -14,7 +14,7 @@ use cells::Volume;
 use frame_distance::{distances, filtered};
 use job_words::LoopJob;
 use loop_walk::{LoopError, LoopRecord, least_loop};
-use run_outcome::read_fault;
+use command::read_fault;
 use sample_files::MOST_SAMPLE_CELLS;
 use shelf_core::{Shelf, What};
 use std::alloc::Global;

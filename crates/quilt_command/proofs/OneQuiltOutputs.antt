@@ -15,7 +15,7 @@ use Rattle.cert_file.specs.RecordFiles.{blocks_form}
 use Rattle.job_words.specs.declared.quilt.QuiltJob.{QuiltJob}
 use Rattle.job_words.specs.QuiltWords.{IsQuiltJob}
 use Rattle.synth_report.specs.declared.summary.Summary.{Summary}
-use Rattle.run_outcome.specs.Outcomes.{WritesAll}
+use Rattle.command.specs.Outcomes.{WritesAll}
 use Rattle.quilt_command.specs.Quilts.{IsQuiltWithin, quilt_command, quilt_head, quilt_run_of, quilt_size}
 use Rattle.quilt_command.specs.QuiltHeadlines.{HaveSameQuilt, IsQuiltedRun}
 use Rattle.quilt_command.proofs.QuiltLaws.{quilted_run}

@@ -17,10 +17,10 @@ use Rattle.job_words.specs.QuiltWords.{IsQuiltJob}
 use Rattle.synth_report.specs.declared.fault.Fault.{Fault}
 use Rattle.synth_report.specs.declared.fault.Fault.TheVariants.{Limit}
 use Rattle.synth_report.specs.declared.fault.FileOf.TheVariants as part
-use Rattle.run_outcome.specs.Faults.{FailsToRead, fault_of_read}
-use Rattle.run_outcome.specs.Outcomes.{AreRefused, IsPlanned, NoneRefused, NotMade}
-use Rattle.run_outcome.proofs.Halves.{not_read}
-use Rattle.run_outcome.specs.Writing.{texts_in}
+use Rattle.command.specs.Faults.{FailsToRead, fault_of_read}
+use Rattle.command.specs.Outcomes.{AreRefused, IsPlanned, NoneRefused, NotMade}
+use Rattle.command.proofs.Halves.{not_read}
+use Rattle.command.specs.Writing.{texts_in}
 use Rattle.quilt_command.specs.declared.plan.PictureQuilt.{PictureQuilt}
 use Rattle.quilt_command.specs.Quilts.{BlocksPass, IsQuiltWithin, QuiltPasses, RefusesQuilt, fault_of_quilting, quilt_command, quilt_files, quilt_run_of, quilt_size, quilt_summary}
 use Rattle.quilt_command.proofs.Ready.{small_quilt}

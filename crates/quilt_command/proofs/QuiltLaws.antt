@@ -24,11 +24,11 @@ use Rattle.synth_report.specs.declared.fault.FileOf.TheVariants as part
 use Rattle.synth_report.specs.declared.summary.Summary.{Summary}
 use Rattle.synth_report.specs.declared.summary.Summary.TheVariants.{Quilt}
 use Rattle.synth_report.specs.Texts.{summary_status}
-use Rattle.run_outcome.specs.Commands.{HasOneAnswer}
-use Rattle.run_outcome.specs.Faults.{fault_of_read}
-use Rattle.run_outcome.specs.Outcomes.{WritesAll}
-use Rattle.run_outcome.specs.Writing.{pieces}
-use Rattle.run_files.proofs.ThreeFiles.{cert_holds, map_holds, others_stay, out_holds, sample_stays}
+use Rattle.command.specs.Commands.{HasOneAnswer}
+use Rattle.command.specs.Faults.{fault_of_read}
+use Rattle.command.specs.Outcomes.{WritesAll}
+use Rattle.command.specs.Writing.{pieces}
+use Rattle.command_files.proofs.ThreeFiles.{cert_holds, map_holds, others_stay, out_holds, sample_stays}
 use Rattle.sample_files.proofs.Sound.{read_is_sound}
 use Rattle.quilt_command.specs.declared.plan.PictureQuilt.{PictureQuilt}
 use Rattle.quilt_command.specs.Quilts.{BlocksPass, IsMadeQuilt, IsPictureIn, IsPictureQuilt, IsQuiltWithin, MakesQuilt, QuiltPasses, RefusesOverPicture, RefusesPicture, RefusesQuilt, quilt_command, quilt_head, quilt_run_of, quilt_size}

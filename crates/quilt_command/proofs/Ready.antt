@@ -26,7 +26,7 @@ use Rattle.cert_file.specs.BlockForms.{IsBlockInForm, IsWideBlock, IsWideBoundar
 use Rattle.cert_file.specs.RecordFiles.{AreBlocksInForm}
 use Rattle.job_words.specs.declared.quilt.QuiltJob.{QuiltJob}
 use Rattle.job_words.specs.QuiltWords.{IsQuiltJob}
-use Rattle.run_files.proofs.Ranges.{corner_inside, frame_0, in_samples, picture_stands, short_axis, short_place, volume_sizes}
+use Rattle.command_files.proofs.Ranges.{corner_inside, frame_0, in_samples, picture_stands, short_axis, short_place, volume_sizes}
 use Rattle.quilt_command.specs.declared.plan.PictureQuilt.{PictureQuilt}
 use Rattle.quilt_command.specs.Quilts.{IsMadeQuilt, IsQuiltWithin, quilt_head, quilt_size}
 

@@ -21,7 +21,7 @@ use Rattle.job_words.specs.declared.job.Job.TheVariants.{Quilt as QuiltOf}
 use Rattle.job_words.specs.Jobs.{job_of}
 use Rattle.synth_report.specs.declared.summary.Summary.{Summary}
 use Rattle.synth_report.specs.declared.summary.Summary.TheVariants.{Quilt}
-use Rattle.run_outcome.specs.Writing.{Reported}
+use Rattle.command.specs.Writing.{Reported}
 use Rattle.check_command.specs.Checks.{Stand}
 use Rattle.quilt_command.specs.Quilts.{IsPictureIn, quilt_head, quilt_run_of, quilt_size}
 

@@ -23,9 +23,9 @@ use Rattle.synth_report.specs.declared.fault.Fault.TheVariants.{Form, Limit, NoM
 use Rattle.synth_report.specs.declared.fault.FileOf.TheVariants as part
 use Rattle.synth_report.specs.declared.summary.Summary.{Summary}
 use Rattle.synth_report.specs.declared.summary.Summary.TheVariants.{Quilt}
-use Rattle.run_outcome.specs.Commands.{Command, named}
-use Rattle.run_outcome.specs.Faults.{ReaderRefuses}
-use Rattle.run_outcome.specs.Writing.{FileText, file_text, texts_in}
+use Rattle.command.specs.Commands.{Command, named}
+use Rattle.command.specs.Faults.{ReaderRefuses}
+use Rattle.command.specs.Writing.{FileText, file_text, texts_in}
 use Rattle.quilt_command.specs.declared.plan.PictureQuilt.{PictureQuilt}
 use Rattle.quilt_command.specs.declared.plan.TheConstants.{MOST_QUILT_CELLS}
 

@@ -2,12 +2,12 @@
 ghost use Rattle.std.specs.Prelude.{[], ◌∷◌};
 ghost use Rattle.cert_file.specs.RecordFiles.{AreBlocksInForm, blocks_form};
 ghost use Rattle.synth_report.specs.declared.fault.FileOf.TheVariants as part;
-ghost use Rattle.run_outcome.specs.Writing.{file_text};
+ghost use Rattle.command.specs.Writing.{file_text};
 
 use block_check::BlockRecord;
 use cert_file::{Head, write_blocks};
 use job_words::Name;
-use run_outcome::RunFiles;
+use command::RunFiles;
 use shelf_core::{Shelf, WriteFault};
 use synth_report::FileOf;
 

@@ -1,16 +1,16 @@
 //! The command `quilt`: a picture from the blocks of one picture, with its map, its records, and its report.
 //!
 //! `quilt_picture` promises what a run of the command leaves, by its answer (specs/Quilts.antt has the command as a
-//! value over the crate run_outcome: what it reads, refuses, makes and writes). What stands when it ends well is the
+//! value over the crate command: what it reads, refuses, makes and writes). What stands when it ends well is the
 //! headline of the command (specs/QuiltHeadlines.antt), which proofs/QuiltLaws.antt proves of all that it writes.
 //!
-//! `files` has the record file, `plan` what is read and computed, `command` the writing and the whole.
+//! `files` has the record file, `plan` what is read and computed, `whole` the writing and the whole.
 #![tactic(auto)]
 
-mod command;
+mod whole;
 mod files;
 mod plan;
 
-pub use command::quilt_picture;
+pub use whole::quilt_picture;
 pub use files::BlocksFile;
 pub use plan::{MOST_QUILT_CELLS, PictureQuilt};

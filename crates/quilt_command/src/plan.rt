@@ -2,7 +2,7 @@
 ghost use Rattle.std.specs.Prelude.{◌≡◌, IfOk};
 ghost use Rattle.shelf_core.specs.Files.{OnlyReads};
 ghost use Rattle.job_words.specs.QuiltWords.{IsQuiltJob};
-ghost use Rattle.run_outcome.specs.Outcomes.{Plans};
+ghost use Rattle.command.specs.Outcomes.{Plans};
 ghost use Rattle.quilt_command.specs.Quilts.{IsMadeQuilt, SetForPicture, fault_of_quilting, quilt_command, quilt_files, quilt_run_of, quilt_size, quilt_summary};
 
 use block_strips::QuiltPlan;
@@ -11,7 +11,7 @@ use job_words::QuiltJob;
 use netpbm_p6::{Picture, read_p6};
 use quilt_run::{QuiltError, QuiltRun, Quilted, quilt_canvas};
 use cut_replay::MOST_BOX_CELLS;
-use run_outcome::read_fault;
+use command::read_fault;
 use shelf_core::{Shelf, What};
 use std::alloc::Global;
 use synth_report::{Fault, FileOf};

@@ -9,8 +9,8 @@ use Rattle.shelf_core.proofs.FileLaws.{told_weaker}
 use Rattle.synth_report.specs.declared.fault.FileOf.{FileOf}
 use Rattle.synth_report.specs.declared.fault.Fault.{Fault}
 use Rattle.synth_report.specs.declared.fault.Fault.TheVariants.{Words, Form as FormFault, Unlike, Mark, Limit, Read, Write, NoMemory, NoLoop}
-use Rattle.run_outcome.specs.Commands.{Command, HasTurn, named}
-use Rattle.run_outcome.specs.Outcomes.{AreRefused, NoneRefused, NotMade}
+use Rattle.command.specs.Commands.{Command, HasTurn, named}
+use Rattle.command.specs.Outcomes.{AreRefused, NoneRefused, NotMade}
 use Rattle.sample_files.specs.declared.several.Samples.{Samples}
 use Rattle.sample_files.specs.Samples.{StandsAs}
 use Rattle.sample_files.specs.Several.{StandForSamples, MayRefuseSamples, NoSampleRefused, RefusesSamples, SamplesAreRefused, SamplesReadAs, StandForParts, contents, numbered_files, sample_files}

@@ -8,7 +8,7 @@ use Rattle.shelf_core.specs.declared.fault.What.TheVariants.{Cells as CellsLimit
 use Rattle.synth_report.specs.declared.fault.FileOf.TheVariants as part
 use Rattle.synth_report.specs.declared.fault.Fault.{Fault}
 use Rattle.synth_report.specs.declared.fault.Fault.TheVariants.{Limit}
-use Rattle.run_outcome.specs.Faults.{fault_of_read}
+use Rattle.command.specs.Faults.{fault_of_read}
 use Rattle.sample_files.specs.declared.form.Form.{Form}
 use Rattle.sample_files.specs.declared.several.Samples.{Samples}
 use Rattle.sample_files.specs.Samples.{StandsAs, goes_with}

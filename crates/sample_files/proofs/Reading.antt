@@ -13,8 +13,8 @@ use Rattle.shelf_core.proofs.FileLaws.{rose_later, told_both, told_then, told_we
 use Rattle.synth_report.specs.declared.fault.FileOf.TheVariants as part
 use Rattle.synth_report.specs.declared.fault.Fault.{Fault}
 use Rattle.synth_report.specs.declared.fault.Fault.TheVariants.{Words, Form as FormFault, Unlike, Mark, Limit, Read, Write, NoMemory, NoLoop}
-use Rattle.run_outcome.specs.Commands.{named}
-use Rattle.run_outcome.specs.Faults.{FailsToRead, fault_of_read}
+use Rattle.command.specs.Commands.{named}
+use Rattle.command.specs.Faults.{FailsToRead, fault_of_read}
 use Rattle.sample_files.specs.declared.form.Form.{Form}
 use Rattle.sample_files.specs.declared.sample.Sample.{Sample}
 use Rattle.sample_files.specs.declared.several.Samples.{Samples}

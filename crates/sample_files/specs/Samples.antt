@@ -17,7 +17,7 @@ use Rattle.sample_files.specs.declared.form.Form.{Form}
 use Rattle.sample_files.specs.declared.form.Form.TheVariants.{Picture, Clip}
 use Rattle.sample_files.specs.declared.sample.Sample.{Sample}
 use Rattle.sample_files.specs.declared.sample.TheConstants.{MOST_SAMPLE_CELLS}
-use Rattle.run_outcome.specs.Faults.{FailsToRead}
+use Rattle.command.specs.Faults.{FailsToRead}
 
 -- What bytes stand for.
 

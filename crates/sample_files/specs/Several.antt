@@ -9,8 +9,8 @@ use Rattle.synth_report.specs.declared.fault.FileOf.{FileOf}
 use Rattle.synth_report.specs.declared.fault.FileOf.TheVariants as part
 use Rattle.synth_report.specs.declared.fault.Fault.{Fault}
 use Rattle.synth_report.specs.declared.fault.Fault.TheVariants.{Form as FormFault, Unlike, Limit, Read, NoMemory}
-use Rattle.run_outcome.specs.Commands.{NamedFile, HasTurn, named}
-use Rattle.run_outcome.specs.Faults.{ReaderRefuses}
+use Rattle.command.specs.Commands.{NamedFile, HasTurn, named}
+use Rattle.command.specs.Faults.{ReaderRefuses}
 use Rattle.sample_files.specs.declared.form.Form.{Form}
 use Rattle.sample_files.specs.declared.sample.Sample.{Sample}
 use Rattle.sample_files.specs.declared.several.Samples.{Samples}

@@ -12,7 +12,7 @@ use Rattle.synth_report.specs.declared.fault.Fault.TheVariants.{Unlike, Limit, R
 use Rattle.sample_files.specs.declared.sample.Sample.{Sample}
 use Rattle.sample_files.specs.declared.several.Samples.{Samples}
 use Rattle.sample_files.specs.declared.sample.TheConstants.{MOST_SAMPLE_CELLS}
-use Rattle.run_outcome.specs.Faults.{FailsToRead}
+use Rattle.command.specs.Faults.{FailsToRead}
 use Rattle.sample_files.specs.Samples.{IsSampleOf, IsSampleWithin, RefusesAs, goes_with}
 use Rattle.sample_files.specs.Several.{AreSoundSamples, MayRefuseSamples, RefusesNext}
 

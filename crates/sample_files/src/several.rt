@@ -11,7 +11,7 @@ use crate::form::Form;
 use crate::sample::{MOST_SAMPLE_CELLS, Sample, read_sample};
 use cells::Volume;
 use job_words::Name;
-use run_outcome::read_fault;
+use command::read_fault;
 use shelf_core::{Shelf, What};
 use std::alloc::Global;
 use synth_report::{Fault, FileOf};

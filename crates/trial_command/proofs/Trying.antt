@@ -22,8 +22,8 @@ use Rattle.synth_report.specs.declared.fault.Fault.TheVariants.{Limit, NoMemory}
 use Rattle.synth_report.specs.declared.summary.Summary.{Summary}
 use Rattle.synth_report.specs.declared.summary.Summary.TheVariants.{Trial}
 use Rattle.synth_report.specs.Texts.{summary_status}
-use Rattle.run_outcome.specs.Commands.{HasOneAnswer}
-use Rattle.run_outcome.specs.Outcomes.{AreRefused, IsPlanned, NotMade, WritesAll}
+use Rattle.command.specs.Commands.{HasOneAnswer}
+use Rattle.command.specs.Outcomes.{AreRefused, IsPlanned, NotMade, WritesAll}
 use Rattle.grow_command.specs.declared.asked.TheConstants.{MOST_OUTPUT_CELLS}
 use Rattle.grow_command.specs.Growths.{fault_of_growing}
 use Rattle.trial_command.specs.Trials.{IsTrialOf, IsTrialRefused, TakesTrial, TrialPasses, TrialRecordsPass, trial_command, trial_plan, trial_summary}

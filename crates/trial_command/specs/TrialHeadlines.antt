@@ -5,8 +5,8 @@ use Rattle.shelf_core.specs.Files.{ShelfState, SinkState, Changes}
 use Rattle.job_words.specs.declared.trial.TrialJob.{TrialJob}
 use Rattle.job_words.specs.declared.job.Job.TheVariants.{Trial}
 use Rattle.synth_report.specs.declared.summary.Summary.{Summary}
-use Rattle.run_outcome.specs.Promises.{Asks}
-use Rattle.run_outcome.specs.Writing.{Reported}
+use Rattle.command.specs.Promises.{Asks}
+use Rattle.command.specs.Writing.{Reported}
 use Rattle.trial_command.specs.Trials.{IsTrialOf}
 
 -- whenever `trial` ends with status 0, no file is changed, and the report is that of what is grown,

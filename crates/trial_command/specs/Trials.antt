@@ -14,7 +14,7 @@ use Rattle.synth_report.specs.declared.fault.Fault.{Fault}
 use Rattle.synth_report.specs.declared.fault.Fault.TheVariants.{Limit, NoMemory}
 use Rattle.synth_report.specs.declared.summary.Summary.{Summary}
 use Rattle.synth_report.specs.declared.summary.Summary.TheVariants.{Trial}
-use Rattle.run_outcome.specs.Commands.{Command}
+use Rattle.command.specs.Commands.{Command}
 use Rattle.grow_command.specs.declared.asked.TheConstants.{MOST_OUTPUT_CELLS}
 use Rattle.grow_command.specs.Growths.{mode_for}
 

@@ -2,13 +2,13 @@
 //! reports what came of it.
 //!
 //! `trial` promises what a run of the command leaves, by its answer (specs/Trials.antt has the command as a
-//! value over the crate run_outcome: it reads and writes no file). What its report says is the headline of the
+//! value over the crate command: it reads and writes no file). What its report says is the headline of the
 //! command (specs/TrialHeadlines.antt), which proofs/Trying.antt proves.
 //!
-//! `plan` grows and checks, and `command` is the whole.
+//! `plan` grows and checks, and `whole` is the whole.
 #![tactic(auto)]
 
-mod command;
+mod whole;
 mod plan;
 
-pub use command::trial;
+pub use whole::trial;

@@ -25,8 +25,8 @@ use Rattle.job_words.specs.declared.upgrade.UpgradeJob.{UpgradeJob}
 use Rattle.job_words.specs.UpgradeWords.{IsUpgradeJob, upgrade_names}
 use Rattle.synth_report.specs.declared.summary.Summary.{Summary}
 use Rattle.synth_report.specs.declared.summary.Summary.TheVariants.{Upgrade}
-use Rattle.run_outcome.specs.Outcomes.{WritesAll}
-use Rattle.run_outcome.specs.Writing.{Reported, pieces}
+use Rattle.command.specs.Outcomes.{WritesAll}
+use Rattle.command.specs.Writing.{Reported, pieces}
 use Rattle.standing_files.specs.declared.verdict.Verdict.{Verdict}
 use Rattle.standing_files.specs.declared.verdict.Verdict.TheVariants.{Stands, Fails}
 use Rattle.standing_files.specs.Standing.{IsVerdict}

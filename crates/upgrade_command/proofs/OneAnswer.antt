@@ -11,8 +11,8 @@ use Rattle.synth_report.specs.declared.fault.Fault.TheVariants.{Words, Form, Unl
 use Rattle.synth_report.specs.declared.fault.FileOf.{FileOf}
 use Rattle.synth_report.specs.declared.fault.FileOf.TheVariants as part
 use Rattle.synth_report.specs.Texts.{status_of, summary_status}
-use Rattle.run_outcome.specs.Commands.{HasOneAnswer}
-use Rattle.run_outcome.specs.Faults.{ReaderRefuses, fault_of_read}
+use Rattle.command.specs.Commands.{HasOneAnswer}
+use Rattle.command.specs.Faults.{ReaderRefuses, fault_of_read}
 use Rattle.upgrade_command.specs.declared.pair.Pair.{Pair}
 use Rattle.upgrade_command.specs.Upgrades.{HoldPair, MayRefusePair, RefusesPair, upgrade_command}
 

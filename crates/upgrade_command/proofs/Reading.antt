@@ -18,10 +18,10 @@ use Rattle.cert_file.specs.RecordFiles.{AreCutsInLimits, ReadsCertBy, version_on
 use Rattle.job_words.specs.declared.upgrade.UpgradeJob.{UpgradeJob}
 use Rattle.synth_report.specs.declared.fault.Fault.{Fault}
 use Rattle.synth_report.specs.declared.fault.FileOf.TheVariants as part
-use Rattle.run_outcome.specs.Faults.{FailsToRead}
-use Rattle.run_outcome.specs.Outcomes.{IsPlanned, NoneRefused, NotMade}
-use Rattle.run_outcome.specs.Writing.{texts_in}
-use Rattle.run_outcome.proofs.Halves.{not_read}
+use Rattle.command.specs.Faults.{FailsToRead}
+use Rattle.command.specs.Outcomes.{IsPlanned, NoneRefused, NotMade}
+use Rattle.command.specs.Writing.{texts_in}
+use Rattle.command.proofs.Halves.{not_read}
 use Rattle.check_command.specs.Readings.{IsNotRead}
 use Rattle.upgrade_command.specs.declared.pair.Pair.{Pair}
 use Rattle.upgrade_command.specs.Upgrades.{AreFirstCuts, HoldPair, HoldsFirstMap, IsFirstMap, IsSoundPair, MakesPair, RefusesFirstCuts, RefusesFirstMap, pair_files, pair_summary, upgrade_command}

@@ -18,7 +18,7 @@ use Rattle.job_words.specs.declared.job.Names.{Names}
 use Rattle.job_words.specs.declared.upgrade.UpgradeJob.{UpgradeJob}
 use Rattle.job_words.specs.Jobs.{job_of}
 use Rattle.synth_report.specs.declared.summary.Summary.TheVariants as summary
-use Rattle.run_outcome.specs.Writing.{Reported}
+use Rattle.command.specs.Writing.{Reported}
 use Rattle.check_command.specs.Checks.{Break, Stand}
 use Rattle.upgrade_command.specs.Upgrades.{in_version_two}
 

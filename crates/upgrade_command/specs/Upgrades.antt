@@ -19,9 +19,9 @@ use Rattle.synth_report.specs.declared.fault.Fault.TheVariants.{Form, Limit}
 use Rattle.synth_report.specs.declared.fault.FileOf.TheVariants as part
 use Rattle.synth_report.specs.declared.summary.Summary.{Summary}
 use Rattle.synth_report.specs.declared.summary.Summary.TheVariants.{Upgrade}
-use Rattle.run_outcome.specs.Commands.{Command, named}
-use Rattle.run_outcome.specs.Faults.{ReaderRefuses}
-use Rattle.run_outcome.specs.Writing.{FileText, file_text, texts_in}
+use Rattle.command.specs.Commands.{Command, named}
+use Rattle.command.specs.Faults.{ReaderRefuses}
+use Rattle.command.specs.Writing.{FileText, file_text, texts_in}
 use Rattle.upgrade_command.specs.declared.pair.Pair.{Pair}
 
 -- What the files are.

@@ -1,15 +1,15 @@
 // The command that tells a map and a record in version 2.
 ghost use Rattle.std.specs.Prelude.{◌≡◌, IfOk};
 ghost use Rattle.shelf_core.specs.Files.{OnlyReads, OnlyWrites};
-ghost use Rattle.run_outcome.specs.Outcomes.{Leaves, Plans};
-ghost use Rattle.run_outcome.specs.Writing.{WritesRun};
+ghost use Rattle.command.specs.Outcomes.{Leaves, Plans};
+ghost use Rattle.command.specs.Writing.{WritesRun};
 ghost use Rattle.upgrade_command.specs.Upgrades.{IsSoundPair, in_version_two, pair_files, pair_summary, upgrade_command};
 
 use crate::pair::{Pair, pair_of, read_first_cuts, read_first_map};
 use cert_file::Head;
 use job_words::UpgradeJob;
-use run_files::{CellMapFile, CutsFile, records_fit};
-use run_outcome::{Then, write_run};
+use command_files::{CellMapFile, CutsFile, records_fit};
+use command::{Then, write_run};
 use shelf_core::{Shelf, Sink};
 use source_map::Version;
 use std::alloc::Global;

@@ -9,11 +9,11 @@ use Rattle.job_words.specs.declared.trial.TrialJob.{TrialJob}
 use Rattle.job_words.specs.declared.job.Job.TheVariants.{Grow, Quilt, Loop, Check, Trial, Upgrade}
 use Rattle.job_words.specs.Jobs.{IsJob, job_of}
 use Rattle.synth_report.specs.declared.summary.Summary.{Summary}
-use Rattle.run_outcome.specs.Commands.{HasOneAnswer}
-use Rattle.run_outcome.specs.Outcomes.{Runs, WritesAll}
-use Rattle.run_outcome.specs.Promises.{Asks, DoneStatus, HasDone, IsRunStatus}
-use Rattle.run_outcome.specs.Writing.{Reported}
-use Rattle.run_outcome.proofs.Promising.{done_promise, status_promise}
+use Rattle.command.specs.Commands.{HasOneAnswer}
+use Rattle.command.specs.Outcomes.{Runs, WritesAll}
+use Rattle.command.specs.Promises.{Asks, DoneStatus, HasDone, IsRunStatus}
+use Rattle.command.specs.Writing.{Reported}
+use Rattle.command.proofs.Promising.{done_promise, status_promise}
 use Rattle.loop_command.specs.LoopHeadlines.{IsLoopedRun, IsOneLoop, LoopHeadline, OneLoop}
 use Rattle.loop_command.proofs.LoopLaws.{loop_has_one_answer, looped_run}
 use Rattle.loop_command.proofs.OneLoops.{one_loop}

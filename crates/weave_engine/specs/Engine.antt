@@ -1,6 +1,6 @@
 -- The commands of weave. To be trusted: contracts cite these words. (Own.)
 use Rattle.job_words.specs.declared.job.Job.TheVariants.{Grow, Quilt, Loop, Check, Trial, Upgrade}
-use Rattle.run_outcome.specs.Outcomes.{Commands}
+use Rattle.command.specs.Outcomes.{Commands}
 use Rattle.check_command.specs.Checks.{check_command}
 use Rattle.loop_command.specs.Loops.{loop_command}
 use Rattle.quilt_command.specs.Quilts.{quilt_command}

@@ -1,7 +1,7 @@
 // A whole run, from the words to the status.
 ghost use Rattle.job_words.specs.Jobs.{IsJob};
-ghost use Rattle.run_outcome.specs.Outcomes.{Answers, Leaves, Runs};
-ghost use Rattle.run_outcome.specs.Promises.{DoneStatus, IsComplete, IsRunStatus, KeepsFiles, KeepsOthers, MemoryStatus, ReadStatus, RefusedStatus, WordsStatus, WriteStatus};
+ghost use Rattle.command.specs.Outcomes.{Answers, Leaves, Runs};
+ghost use Rattle.command.specs.Promises.{DoneStatus, IsComplete, IsRunStatus, KeepsFiles, KeepsOthers, MemoryStatus, ReadStatus, RefusedStatus, WordsStatus, WriteStatus};
 ghost use Rattle.check_command.specs.CheckHeadlines.{CheckHeadline};
 ghost use Rattle.grow_command.specs.GrowHeadlines.{GrowHeadline, GrowReport, OneOutput};
 ghost use Rattle.loop_command.specs.LoopHeadlines.{LoopHeadline, OneLoop};
@@ -15,7 +15,7 @@ use grow_command::grow;
 use job_words::{Job, Words, read_job};
 use loop_command::loop_clip;
 use quilt_command::quilt_picture;
-use run_outcome::finish;
+use command::finish;
 use shelf_core::{Shelf, Sink};
 use std::alloc::Global;
 use synth_report::{Fault, Summary};

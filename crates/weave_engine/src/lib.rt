@@ -2,7 +2,7 @@
 //!
 //! `run` promises what each status means and what the files hold after it, from the words to the bytes
 //! written. Each command is a value (`command_of` in specs/Engine.antt), over which the crate
-//! run_outcome has what any run leaves, and its promises. Each has a crate of its own: grow_command, quilt_command,
+//! command has what any run leaves, and its promises. Each has a crate of its own: grow_command, quilt_command,
 //! loop_command, check_command, trial_command and upgrade_command, whose calls are named here again. README.md
 //! says what another command brings.
 #![tactic(auto)]

@@ -1,6 +1,6 @@
 use Rattle.std.proofs.Common.{[], subst}
-use Rattle.run_outcome.specs.Writing.{WritesRun}
-use Rattle.run_outcome.proofs.Halves.{planned}
+use Rattle.command.specs.Writing.{WritesRun}
+use Rattle.command.proofs.Halves.{planned}
 use Rattle.check_command.specs.Checks.{check_command, summary_of}
 use Rattle.check_command.proofs.check.check_files.Goals as goal
 

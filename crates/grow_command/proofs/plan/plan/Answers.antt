@@ -2,7 +2,7 @@ use Rattle.std.proofs.Common.{subst, sym}
 use Rattle.std.specs.Prelude.{All, Err}
 use Rattle.cert_file.specs.CutForms.{HasShortFlows}
 use Rattle.shelf_core.specs.Files.{Changes, content_of}
-use Rattle.run_outcome.specs.Outcomes.{NotMade}
+use Rattle.command.specs.Outcomes.{NotMade}
 use Rattle.sample_files.specs.Several.{StandForSamples, SamplesReadAs, contents}
 use Rattle.grow_command.specs.Growths.{grow_command}
 use Rattle.grow_run.specs.Grown.{IsGrowFault, IsGrown}

@@ -4,7 +4,7 @@ use Rattle.shelf_core.proofs.FileLaws.{only_writes_then}
 use Rattle.y4m_clip.specs.Spaces.{joined_to}
 use Rattle.y4m_clip.specs.Writing.{Writer, frame_form}
 use Rattle.y4m_clip.proofs.Writes.{on_err}
-use Rattle.run_files.proofs.Clips.{frame_added, frame_in_part, line_in_part}
+use Rattle.command_files.proofs.Clips.{frame_added, frame_in_part, line_in_part}
 use Rattle.loop_command.proofs.files.write_frames.Goals as goal
 
 pub returns-in_err-start-clause-err : goal.returns-in_err-start-clause-err

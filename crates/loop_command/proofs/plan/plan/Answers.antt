@@ -2,7 +2,7 @@ use Rattle.std.proofs.Common.{subst, sym}
 use Rattle.std.specs.Prelude.{Err}
 use Rattle.shelf_core.specs.Files.{Changes, content_of}
 use Rattle.y4m_clip.specs.Refusals.{IsReadClip, ReadsClipAs}
-use Rattle.run_outcome.specs.Outcomes.{NotMade}
+use Rattle.command.specs.Outcomes.{NotMade}
 use Rattle.loop_command.specs.Loops.{loop_command}
 use Rattle.loop_command.proofs.Looping.{bounds_passed, clip_not_read, loop_made, not_looped}
 use Rattle.loop_command.proofs.plan.plan.Goals as goal

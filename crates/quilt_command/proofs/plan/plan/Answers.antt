@@ -3,7 +3,7 @@ use Rattle.std.specs.Prelude.{Err}
 use Rattle.shelf_core.specs.Files.{Changes, content_of}
 use Rattle.netpbm_p6.specs.Pictures.{IsRead, ReadsAs}
 use Rattle.quilt_run.specs.Quilted.{CanBeQuilted, IsQuilt, IsQuiltFault}
-use Rattle.run_outcome.specs.Outcomes.{NotMade}
+use Rattle.command.specs.Outcomes.{NotMade}
 use Rattle.quilt_command.specs.Quilts.{quilt_command}
 use Rattle.quilt_command.proofs.Planning.{can_quilt, not_quilted, output_refused, picture_not_read, quilt_made}
 use Rattle.quilt_command.proofs.plan.plan.Goals as goal

@@ -2,7 +2,7 @@ use Rattle.std.proofs.Common.{◌+◌, [], ◌∷◌, length, arith, ap, sym, su
 use Rattle.std.specs.Prelude.{Err}
 use Rattle.std.proofs.lemmas.Result.{err_from_is_err_and}
 use Rattle.shelf_core.proofs.FileLaws.{only_reads_then}
-use Rattle.run_outcome.specs.Faults.{FailsToRead}
+use Rattle.command.specs.Faults.{FailsToRead}
 use Rattle.sample_files.specs.Samples.{RefusesSample}
 use Rattle.sample_files.specs.Several.{SamplesReadAs}
 use Rattle.sample_files.specs.Steps.{IsNextRead, NotNext}

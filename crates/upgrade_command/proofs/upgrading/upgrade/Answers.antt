@@ -1,5 +1,5 @@
 use Rattle.std.proofs.lemmas.Result.{err_from_is_err_and}
-use Rattle.run_outcome.proofs.Halves.{not_planned, planned}
+use Rattle.command.proofs.Halves.{not_planned, planned}
 use Rattle.upgrade_command.specs.Upgrades.{pair_files, pair_summary, upgrade_command}
 use Rattle.upgrade_command.proofs.upgrading.upgrade.Goals as goal
 

@@ -3,7 +3,7 @@ use Rattle.source_map.specs.declared.head.Version.TheVariants.{Two}
 use Rattle.source_map.specs.MapFiles.{cell_map_form}
 use Rattle.cert_file.specs.RecordFiles.{AreCutsInForm, cuts_form}
 use Rattle.synth_report.specs.declared.fault.FileOf.TheVariants as part
-use Rattle.run_outcome.specs.Writing.{FileText, WritesRun, file_text}
+use Rattle.command.specs.Writing.{FileText, WritesRun, file_text}
 use Rattle.upgrade_command.specs.Upgrades.{in_version_two, pair_files, pair_summary}
 use Rattle.upgrade_command.proofs.Ready.{cuts_ready, map_ready}
 use Rattle.upgrade_command.proofs.upgrading.write_pair.Goals as goal

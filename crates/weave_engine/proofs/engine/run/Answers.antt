@@ -1,5 +1,5 @@
-use Rattle.run_outcome.proofs.Promising.{complete_promise, done_promise, keeps_promise, memory_promise, others_promise, read_promise, refused_promise, words_promise, write_promise}
-use Rattle.run_outcome.proofs.Views.{form_number, limit_number, loop_number}
+use Rattle.command.proofs.Promising.{complete_promise, done_promise, keeps_promise, memory_promise, others_promise, read_promise, refused_promise, words_promise, write_promise}
+use Rattle.command.proofs.Views.{form_number, limit_number, loop_number}
 use Rattle.weave_engine.specs.Engine.{command_of}
 use Rattle.weave_engine.proofs.Ending.{check_headline, grow_headline, grow_once, grow_reported, known_status, loop_headline, loop_once, one_answer, quilt_headline, quilt_once, quilt_reported, trial_headline, upgrade_headline}
 use Rattle.weave_engine.proofs.engine.run.Goals as goal

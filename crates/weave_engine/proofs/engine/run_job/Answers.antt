@@ -1,5 +1,5 @@
 use Rattle.std.proofs.Common.{subst, sym}
-use Rattle.run_outcome.specs.Outcomes.{Leaves}
+use Rattle.command.specs.Outcomes.{Leaves}
 use Rattle.weave_engine.specs.Engine.{command_of}
 use Rattle.weave_engine.proofs.engine.run_job.Goals as goal
 

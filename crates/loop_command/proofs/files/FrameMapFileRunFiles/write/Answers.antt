@@ -1,6 +1,6 @@
 use Rattle.source_map.specs.MapFiles.{frame_map_form}
 use Rattle.synth_report.specs.declared.fault.FileOf.TheVariants.{Map}
-use Rattle.run_outcome.proofs.WritingLaws.{stops_at_one}
+use Rattle.command.proofs.WritingLaws.{stops_at_one}
 use Rattle.loop_command.proofs.files.FrameMapFileRunFiles.write.Goals as goal
 
 pub returns-in-Err-clause-wrote : goal.returns-in-Err-clause-wrote

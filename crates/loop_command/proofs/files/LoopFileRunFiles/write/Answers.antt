@@ -1,5 +1,5 @@
 use Rattle.synth_report.specs.declared.fault.FileOf.TheVariants.{Out}
-use Rattle.run_outcome.proofs.WritingLaws.{stops_at_one}
+use Rattle.command.proofs.WritingLaws.{stops_at_one}
 use Rattle.loop_command.specs.LoopOuts.{walked_clip}
 use Rattle.loop_command.proofs.files.LoopFileRunFiles.write.Goals as goal
 

@@ -3,7 +3,7 @@ use Rattle.shelf_core.specs.Files.{Changes}
 use Rattle.shelf_core.specs.Written.{HoldsText}
 use Rattle.cert_file.specs.RecordFiles.{blocks_form}
 use Rattle.synth_report.specs.declared.fault.FileOf.TheVariants.{Cert}
-use Rattle.run_outcome.proofs.WritingLaws.{stops_at_one}
+use Rattle.command.proofs.WritingLaws.{stops_at_one}
 use Rattle.quilt_command.proofs.files.BlocksFileRunFiles.write.Goals as goal
 
 pub returns-in-Err-clause-wrote : goal.returns-in-Err-clause-wrote

@@ -1,0 +1,101 @@
+-- A command in two halves: what it reads and computes, and the writing of what it made.
+use Rattle.std.proofs.Common.{◌≡◌, ℕ, suc, ◌⊎◌, inl, inr, List, ap, sym, ◌∙◌, subst}
+use Rattle.std.specs.Prelude.{Result, Ok, Err}
+use Rattle.shelf_core.specs.Files.{Files, ShelfState, SinkState, OnlyReads, Changes, Rose, content_of}
+use Rattle.shelf_core.specs.Written.{Untouched, StoppedAt, written}
+use Rattle.shelf_core.proofs.FileLaws.{told_same, told_then, told_weaker}
+use Rattle.shelf_core.proofs.Sees.{Sees, sees_both, sees_weaker}
+use Rattle.shelf_core.specs.declared.fault.FormFault.{FormFault}
+use Rattle.shelf_core.specs.declared.fault.What.{What}
+use Rattle.shelf_core.specs.declared.fault.ReadError.{ReadError}
+use Rattle.shelf_core.specs.declared.fault.ReadError.TheVariants as error
+use Rattle.synth_report.specs.declared.fault.FileOf.{FileOf}
+use Rattle.synth_report.specs.declared.fault.Fault.{Fault}
+use Rattle.synth_report.specs.declared.fault.Fault.TheVariants.{Words, Form, Unlike, Mark, Limit, Read, Write, NoMemory, NoLoop}
+use Rattle.synth_report.specs.declared.summary.Summary.{Summary}
+use Rattle.command.specs.Commands.{Command, HasTurn}
+use Rattle.command.specs.Faults.{FailsToRead, fault_of_read}
+use Rattle.command.specs.Writing.{FileText, HoldAll, IsSilent, StopsReporting, StopsWriting, WritesRun, files_in, pieces, pieces_of, texts_in}
+use Rattle.command.specs.Outcomes.{IsPlanned, IsStopped, Leaves, NoneRefused, NotMade, WritesAll, WritesUpTo}
+
+-- The first half fails.
+
+module _ (c : Command) (a b : ShelfState) where
+  -- a file of the command isn't read, by what its reader promises, once something was seen of those before it; the command refuses it for what its reader does
+  pub not_read : (turn : ℕ) (part : FileOf) (name : List ℕ) → HasTurn c.reads turn part name → (Refuses : List ℕ → ReadError → Type 0) (Seen : Files → Type 0)
+      → ((why : FormFault) → c.MayRefuse (Form part why)) → ((what : What) (number bound : ℕ) → c.MayRefuse (Limit what number bound))
+      → ((files : Files) (refusal : ReadError) → Seen files → Refuses (content_of files name) refusal → c.Refuses (suc turn) files (fault_of_read part refusal))
+      → ((files : Files) → Seen files → NoneRefused c turn files)
+      → Sees a b Seen → (answer : ReadError) → FailsToRead Refuses name a b answer → NotMade c a b (fault_of_read part answer)
+  not_read turn part name its Refuses Seen bad limit refuses none seen error.ReadFault left =
+      record { turn = turn; name = name; its = its; rose = left; earlier = sees_weaker Seen (NoneRefused c turn) a b none seen }
+  not_read turn part name its Refuses Seen bad limit refuses none seen error.NoMemory left = tt
+  not_read turn part name its Refuses Seen bad limit refuses none seen (error.Bad why) left = record {
+    known = bad why;
+    refused = sees_both Seen (λ files. Refuses (content_of files name) (error.Bad why)) (λ files. (n : ℕ) × c.Refuses n files (Form part why)) a b
+        (λ files s r. (suc turn, refuses files (error.Bad why) s r)) seen left;
+  }
+  not_read turn part name its Refuses Seen bad limit refuses none seen (error.Limit what number bound) left = record {
+    known = limit what number bound;
+    refused = sees_both Seen (λ files. Refuses (content_of files name) (error.Limit what number bound)) (λ files. (n : ℕ) × c.Refuses n files (Limit what number bound)) a b
+        (λ files s r. (suc turn, refuses files (error.Limit what number bound) s r)) seen left;
+  }
+
+  -- so it is the answer of the command
+  pub not_planned : OnlyReads a b → (out : SinkState) (fault : Fault) → NotMade c a b fault → Leaves c a b out out (Err fault)
+  not_planned reads out fault left = by fault left (record { files = reads.files; added = told_same out.bytes })
+    where
+      by : (fault : Fault) → NotMade c a b fault → Untouched a b out out → Leaves c a b out out (Err fault)
+      by (Read part) left same = (same, left)
+      by NoMemory left same = (same, left)
+      by (Form part why) left same = (same, left)
+      by (Unlike part) left same = (same, left)
+      by (Mark index) left same = (same, left)
+      by (Limit what number bound) left same = (same, left)
+      by (NoLoop length) left same = (same, left)
+      by (Words fault) left same = absurd left
+      by (Write part) left same = absurd left
+
+-- What it made is written.
+
+module _ (c : Command) (files : List FileText) (summary : Summary) (a b d : ShelfState) (out out' : SinkState) (reads : OnlyReads a b) (made : IsPlanned c files summary a b) where
+  abbrev Made : Files → Files → Type 0
+  Made before after = (after ≡ before) × c.Makes before (texts_in files) summary
+
+  same_pieces : pieces_of files ≡ pieces c.writes (texts_in files)
+  same_pieces = ap (λ names. pieces names (texts_in files)) made.named
+
+  wrote_all : HoldAll files b d → Changes a d (WritesAll c summary)
+  wrote_all whole = told_then Made (λ before after. after ≡ written (pieces_of files) before) (WritesAll c summary) a.files b.files d.files
+      (λ x y z p q. (texts_in files, p.1, q ∙ ap (written (pieces_of files)) p.0 ∙ ap (λ ps. written ps x) same_pieces)) made.made whole
+
+  wrote_up_to : (turn : ℕ) → Changes b d (StoppedAt (pieces_of files) turn) → Changes a d (WritesUpTo c turn)
+  wrote_up_to turn stopped = told_then Made (StoppedAt (pieces_of files) turn) (WritesUpTo c turn) a.files b.files d.files
+      (λ x y z p q. (texts_in files, summary, p.1, subst (λ ps. StoppedAt ps turn x z) same_pieces (subst (λ before. StoppedAt (pieces_of files) turn before z) p.0 q))) made.made stopped
+
+  stopped : (part : FileOf) → StopsWriting files part b d → IsSilent out out' → IsStopped c part a d out out'
+  stopped part s silent = record {
+    turn = s.turn;
+    name = s.name;
+    its = subst (λ names. HasTurn names s.turn part s.name) made.named s.its;
+    files = wrote_up_to s.turn s.stopped;
+    rose = subst (λ counts. Rose (counts s.name) (d.writes s.name)) reads.writes s.rose;
+    silent = silent;
+  }
+
+  unwritten : (part : FileOf) → StopsReporting files summary part b d out out' ⊎ (StopsWriting files part b d × IsSilent out out') → Leaves c a d out out' (Err (Write part))
+  unwritten part (inl left) = inl (record { is = left.is; summary = summary; known = made.known; files = wrote_all left.whole; told = left.told; rose = left.rose })
+  unwritten part (inr left) = inr (stopped part left.0 left.1)
+
+  -- so it is what the command leaves
+  pub planned : (answer : Result Summary Fault) → WritesRun files summary b d out out' answer → Leaves c a d out out' answer
+  planned (Ok done) left = subst (λ s. Leaves c a d out out' (Ok s)) (sym left.0) (record { known = made.known; files = wrote_all left.1; told = left.2 })
+  planned (Err (Write part)) left = unwritten part left
+  planned (Err (Read part)) left = absurd left
+  planned (Err NoMemory) left = absurd left
+  planned (Err (Form part why)) left = absurd left
+  planned (Err (Unlike part)) left = absurd left
+  planned (Err (Mark index)) left = absurd left
+  planned (Err (Limit what number bound)) left = absurd left
+  planned (Err (NoLoop length)) left = absurd left
+  planned (Err (Words fault)) left = absurd left

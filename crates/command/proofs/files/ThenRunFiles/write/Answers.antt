@@ -1,0 +1,14 @@
+use Rattle.std.proofs.lemmas.Result.{err_from_is_err_and}
+use Rattle.command.proofs.WritingLaws.{both_written, stops_first}
+use Rattle.command.proofs.files.ThenRunFiles.write.Goals as goal
+
+pub returns-in_err-write-clause-wrote : goal.returns-in_err-write-clause-wrote
+returns-in_err-write-clause-wrote g c =
+    let p = err_from_is_err_and c.from_residual.result c.from_residual.ensures.1 in
+    rw (p.1, p.2) (stops_first _ _ _ (g.S.Shelf.state c.args.shelf.now) (g.S.Shelf.state c.write.new.shelf) (g.S.Shelf.state c.write.new.shelf) (c.in_err-write.ensures {u = tt}).wrote)
+
+pub returns-clause-wrote : goal.returns-clause-wrote
+returns-clause-wrote g c =
+    let state = g.S.Shelf.state in
+    both_written (g.A.RunFiles.texts c.args.self.now.0) (g.B.RunFiles.texts c.args.self.now.1)
+    (state c.args.shelf.now) (state c.write.new.shelf) (state c.write-2.new.shelf) c.write-2.result c.write.ensures.writes (c.in_ok-write.ensures {u = tt}).wrote c.write-2.ensures.wrote

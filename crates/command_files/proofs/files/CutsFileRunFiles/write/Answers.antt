@@ -1,0 +1,18 @@
+use Rattle.std.proofs.Common.{subst}
+use Rattle.shelf_core.specs.Files.{Changes}
+use Rattle.shelf_core.specs.Written.{HoldsText}
+use Rattle.cert_file.specs.RecordFiles.{cuts_form}
+use Rattle.command.proofs.WritingLaws.{stops_at_one}
+use Rattle.command_files.proofs.files.CutsFileRunFiles.write.Goals as goal
+
+pub returns-in-Ok-clause-wrote : goal.returns-in-Ok-clause-wrote
+returns-in-Ok-clause-wrote g c =
+    let file = c.args.self.now in
+    subst (λ name. Changes (g.S.Shelf.state c.args.shelf.now) (g.S.Shelf.state c.write_cuts.new.shelf) (HoldsText name (cuts_form file.head file.cuts.now))) c.as_text.ensures (c.in-Ok.ensures {u = tt}).ok
+
+pub returns-in-Err-clause-wrote : goal.returns-in-Err-clause-wrote
+returns-in-Err-clause-wrote g c =
+    let file = c.args.self.now in
+    let failed = c.in-Err.ensures {u = tt} in
+    stops_at_one file.part file.name.now c.as_text.result.now (cuts_form file.head file.cuts.now)
+    (g.S.Shelf.state c.args.shelf.now) (g.S.Shelf.state c.write_cuts.new.shelf) c.as_text.ensures failed.err failed.failed

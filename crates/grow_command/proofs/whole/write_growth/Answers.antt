@@ -1,0 +1,41 @@
+use Rattle.std.proofs.Common.{◌≡◌, ◌∙◌, List, [], ◌∷◌, ap, subst, sym}
+use Rattle.cells.specs.Cells.{Cells, sizes_of}
+use Rattle.source_map.specs.MapFiles.{IsWritable, cell_map_form}
+use Rattle.cert_file.specs.RecordFiles.{AreCutsInForm, cuts_form}
+use Rattle.synth_report.specs.declared.fault.FileOf.TheVariants as part
+use Rattle.command.specs.Writing.{FileText, WritesRun, file_text}
+use Rattle.sample_files.specs.Samples.{form_text}
+use Rattle.command_files.specs.Outs.{HasWriter}
+use Rattle.grow_command.specs.Growths.{growth_files, growth_summary, head_over}
+use Rattle.grow_command.proofs.Ready.{map_ready, picture_ready, record_ready}
+use Rattle.grow_command.proofs.whole.write_growth.Goals as goal
+
+pub write_run-requires : goal.write_run-requires
+write_run-requires g c =
+    let job = c.args.job.now in
+    let growth = c.args.growth.now in
+    let made = c.requires.made in
+    let map = subst (λ sizes. IsWritable c.map.result.now sizes c.version_over.result) (sym c.sizes.ensures)
+    (subst (λ version. IsWritable c.map.result.now (sizes_of growth.samples.volume) version) (sym c.version_over.ensures) (map_ready job growth c.map.result.now c.map.ensures.map made.volume made)) in
+    let record_file = subst (λ head. AreCutsInForm head c.as_slice.result.now) (sym c.head_over.ensures)
+    (subst (λ cuts. AreCutsInForm (head_over job.size growth.samples.volume) cuts) (sym c.as_slice.ensures) (record_ready job growth made.volume c.requires.job made)) in
+    let size : c.picture.result.now.size ≡ job.size = ap (λ (v : Cells). v.size) c.picture.ensures.picture ∙ made.grown.canvas.size ∙ made.grown.size in
+    ((picture_ready job growth c.picture.result.now c.picture.ensures.picture made.volume c.requires.job made, subst (λ s. HasWriter growth.samples.form s c.args.writer) (sym size) c.requires.writer), (map, record_file))
+
+pub returns-clause-wrote : goal.returns-clause-wrote
+returns-clause-wrote g c =
+    let job = c.args.job.now in
+    let growth = c.args.growth.now in
+    let was = g.S.Shelf.state c.args.shelf.now in
+    let now = g.S.Shelf.state c.write_run.new.shelf in
+    let out = g.O.Sink.state c.args.out.now in
+    let out' = g.O.Sink.state c.write_run.new.out in
+    let given : List FileText =
+    file_text part.Out job.names.out (form_text growth.samples.form c.picture.result.now) ∷ file_text part.Map job.names.map (cell_map_form c.map.result.now c.sizes.result c.version_over.result)
+    ∷ file_text part.Cert job.names.cert (cuts_form c.head_over.result c.as_slice.result.now) ∷ [] in
+    let same : given ≡ growth_files job growth =
+    λ i. file_text part.Out job.names.out (form_text growth.samples.form (c.picture.ensures.picture i))
+    ∷ file_text part.Map job.names.map (cell_map_form (c.map.ensures.map i) (c.sizes.ensures i) (c.version_over.ensures i))
+    ∷ file_text part.Cert job.names.cert (cuts_form (c.head_over.ensures i) (c.as_slice.ensures i)) ∷ [] in
+    subst (λ files. WritesRun files (growth_summary job growth) was now out out' c.write_run.result) same
+    (subst (λ summary. WritesRun given summary was now out out' c.write_run.result) c.summary_of-summary.ensures c.write_run.ensures.wrote)

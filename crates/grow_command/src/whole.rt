@@ -1,0 +1,116 @@
+// The command that grows a texture from samples.
+ghost use Rattle.std.specs.Prelude.{◌≡◌};
+ghost use Rattle.shelf_core.specs.Files.{OnlyWrites};
+ghost use Rattle.job_words.specs.GrowWords.{IsGrowJob};
+ghost use Rattle.command.specs.Outcomes.{Leaves};
+ghost use Rattle.command.specs.Writing.{WritesRun};
+ghost use Rattle.command_files.specs.Outs.{HasWriter};
+ghost use Rattle.grow_command.specs.Growths.{IsMade, grow_command, growth_files, growth_summary, head_over, version_over};
+
+use crate::plan::{Growth, plan};
+use cells::Volume;
+use cert_file::Head;
+use job_words::GrowJob;
+use command_files::{CellMapFile, CutsFile, OutFile, writer_for};
+use command::{Then, write_run};
+use shelf_core::{Shelf, Sink};
+use source_map::Version;
+use std::alloc::Global;
+use synth_report::{Fault, FileOf, Summary};
+use y4m_clip::ClipWriter;
+
+// The summary of a growth.
+fn summary_of(job: &GrowJob, growth: &Growth) -> Summary
+    requires made { IsMade job.now growth.now }
+    ensures { result ≡ growth_summary job.now growth.now }
+{
+    let rounds = growth.grown.rounds;
+    Summary::Grow {
+        size: job.size,
+        placements: growth.grown.cuts.as_slice().len() as u64 - u64::from(rounds),
+        rounds: u64::from(rounds),
+        seams: growth.seams,
+    }
+}
+
+// One sample is told in version 1, and several are in version 2.
+fn version_over(volume: &Volume) -> Version
+    ensures { result ≡ version_over volume.now }
+{
+    if volume.sizes().len() == 1 {
+        Version::One
+    } else {
+        Version::Two
+    }
+}
+
+// The head of the record of an output.
+fn head_over(job: &GrowJob, volume: &Volume) -> Head
+    ensures { result ≡ head_over job.now.size volume.now }
+{
+    Head {
+        output: job.size,
+        samples: volume.sizes(),
+        version: version_over(volume),
+    }
+}
+
+// Writes the picture of a growth, its map, its record, and the report.
+fn write_growth<S: Shelf, O: Sink>(
+    job: &GrowJob,
+    growth: &Growth,
+    writer: Option<ClipWriter>,
+    shelf: &mut S,
+    out: &mut O,
+) -> Result<Summary, Fault>
+    requires job { IsGrowJob job.now }
+    requires made { IsMade job.now growth.now }
+    requires writer { HasWriter growth.now.samples.form job.now.size writer }
+    ensures wrote { WritesRun (growth_files job.now growth.now) (growth_summary job.now growth.now)
+        (S.state shelf.old) (S.state shelf.new) (O.state out.old) (O.state out.new) result }
+    ensures writes { OnlyWrites (S.state shelf.old) (S.state shelf.new) }
+{
+    let volume = &growth.samples.volume;
+    let picture = OutFile {
+        name: &job.names.out,
+        form: &growth.samples.form,
+        writer,
+        picture: growth.grown.canvas.picture(),
+    };
+    let map = CellMapFile {
+        part: FileOf::Map,
+        name: &job.names.map,
+        map: growth.grown.canvas.map(),
+        samples: volume.sizes(),
+        version: version_over(volume),
+    };
+    let record = CutsFile {
+        part: FileOf::Cert,
+        name: &job.names.cert,
+        head: head_over(job, volume),
+        cuts: growth.grown.cuts.as_slice(),
+    };
+    let summary = summary_of(job, growth);
+    write_run(&mut Then(picture, Then(map, record)), summary, shelf, out)
+}
+
+/// Grows a texture: reads the samples in the order of their numbers, computes the output, and writes the
+/// picture, then the map, the record, and the report. All is computed before the first file is begun, and
+/// no memory is taken after it.
+pub fn grow<S: Shelf, O: Sink>(
+    alloc: Global,
+    job: &GrowJob,
+    shelf: &mut S,
+    out: &mut O,
+) -> Result<Summary, Fault>
+    requires { IsGrowJob job.now }
+    ensures { Leaves (grow_command job.now)
+        (S.state shelf.old) (S.state shelf.new) (O.state out.old) (O.state out.new) result }
+{
+    let growth = plan(alloc, job, shelf)?;
+    let writer = match writer_for(alloc, &growth.samples.form, job.size) {
+        Ok(writer) => writer,
+        Err(_) => return Err(Fault::NoMemory),
+    };
+    write_growth(job, &growth, writer, shelf, out)
+}

@@ -3,7 +3,7 @@
 
     examples/byte_tables.py NAME [NAME ..]
 
-prints a module of the tests in crates/tests_files: of each file that is named its bytes, its numbers, and the rows of its table.
+prints a module of the tests in crates/test_files: of each file that is named its bytes, its numbers, and the rows of its table.
 `examples/byte_tables.py --compare` says whether the modules there have these tables. A row is
 
     (first place, last place, first value, last value, answer, number, shift)
@@ -161,7 +161,7 @@ def data_of(name):
 
 def compare():
     """Whether the modules of the tests are these."""
-    source = os.path.join(os.path.dirname(__file__), "..", "crates", "tests_files", "src")
+    source = os.path.join(os.path.dirname(__file__), "..", "crates", "test_files", "src")
     for module, names in MODULES.items():
         with open(os.path.join(source, f"{module}.rt"), encoding="utf-8") as file:
             print(f"{module}: {'as here' if file.read() == say_module(names) else 'another table'}")

@@ -16,7 +16,7 @@ import pathlib
 import re
 import sys
 
-TESTS = re.compile(r"tests?_|runs_|run_stage$|bench$|fuzz$")
+TESTS = re.compile(r"tests?_|runs_|test_stage$|bench$|fuzz$")
 CLAUSE = re.compile(r"\b(?:requires|ensures|ghost|invariant|decreases)\b[^{};]*(?=\{)")
 ITEM = re.compile(r"(?P<pub>pub )?(?:const )?fn (?P<fn>\w+)|impl\b(?P<impl>[^{;]*)")
 USE = re.compile(r"\b(?:ghost |pub )?use [^;]*;")

@@ -1,0 +1,12 @@
+use Rattle.std.proofs.Common.{ap, sym}
+use Rattle.map_canvas.specs.Canvases.{CanvasState}
+use Rattle.test_places.proofs.quilts.one_block.Goals as goal
+
+pub next_block-requires-clause-pictures : goal.next_block-requires-clause-pictures
+next_block-requires-clause-pictures g c = record {
+  over = c.in_ok-canvas.ensures.stands c.in_ok-sample.sample (sym c.samples.ensures.samples);
+  samples = c.in_ok-sample.ensures.samples;
+  part = c.in_ok-sample.ensures.part;
+  output_frame = ap (λ (canvas : CanvasState). canvas.map.size.f) c.in_ok-canvas.ensures.empty;
+  sample_frame = c.in_ok-sample.ensures.frame;
+}

@@ -1,0 +1,85 @@
+// What was grown is accepted; files and reports that fail.
+use test_stage::{
+    FOUR_CELLS, Made, NO_CELL, OVERLAP_MAP, OVERLAP_PICTURE, OVERLAP_RECORD, OVERLAPPING, ran,
+    wrong_made,
+};
+use shelf_core::{Call, MemShelf, MemSink, SureShelf, SureSink};
+use std::alloc::{AllocError, Global};
+use std::test::Fail;
+
+const CHECK: &str = "check sample=s out=o map=m record=r";
+
+const MADE: &[Made<'static>] = &[Made {
+    words: OVERLAPPING,
+    check: CHECK,
+    sample: FOUR_CELLS,
+    second: NO_CELL,
+    report: "grow 6x1x1\nplacements 2\nrounds 0\nseams 120\n",
+    picture: OVERLAP_PICTURE,
+}];
+
+// Over stores that take no memory.
+fn is_surely_accepted(alloc: Global) -> Result<bool, AllocError> {
+    let mut shelf = SureShelf::make(alloc, 4096)?;
+    shelf.put_file("s", FOUR_CELLS);
+    let mut out = SureSink::make(alloc, 4096)?;
+    let mut err = SureSink::make(alloc, 4096)?;
+    let grown = ran(alloc, OVERLAPPING, &mut shelf, &mut out, &mut err)?;
+    let mut said = SureSink::make(alloc, 4096)?;
+    let checked = ran(alloc, CHECK, &mut shelf, &mut said, &mut err)?;
+    Ok(grown == 0 && checked == 0 && said.bytes() == Some(b"stands\n".as_slice()))
+}
+
+#[test]
+fn what_was_grown_is_accepted(rt: HostRuntime) -> Result<(), Fail> {
+    assert_eq!(rt; wrong_made(rt.alloc(), MADE)?, None);
+    assert!(rt; is_surely_accepted(rt.alloc())?);
+    Ok(())
+}
+
+fn files_that_stand(alloc: Global) -> Result<MemShelf, AllocError> {
+    let mut shelf = MemShelf::new(alloc);
+    shelf.put_file("s", FOUR_CELLS)?;
+    shelf.put_file("o", OVERLAP_PICTURE)?;
+    shelf.put_file("m", OVERLAP_MAP)?;
+    shelf.put_file("r", OVERLAP_RECORD)?;
+    Ok(shelf)
+}
+
+// Whether a check that can't read a file ends with this line.
+fn cant_be_read(alloc: Global, name: &str, line: &str) -> Result<bool, AllocError> {
+    let mut shelf = files_that_stand(alloc)?;
+    shelf.fail_at(Call::Get, name, 1, 0)?;
+    let mut out = MemSink::new(alloc);
+    let mut err = MemSink::new(alloc);
+    let status = ran(alloc, CHECK, &mut shelf, &mut out, &mut err)?;
+    Ok(status == 5 && out.bytes().is_empty() && err.bytes() == line.as_bytes())
+}
+
+// Each file that can't be read, once those before it are in their forms.
+#[test]
+fn files_that_cant_be_read(rt: HostRuntime) -> Result<(), Fail> {
+    let alloc = rt.alloc();
+    assert!(rt; cant_be_read(alloc, "s", "weave: sample: read fault\n")?);
+    assert!(rt; cant_be_read(alloc, "o", "weave: out: read fault\n")?);
+    assert!(rt; cant_be_read(alloc, "m", "weave: map: read fault\n")?);
+    assert!(rt; cant_be_read(alloc, "r", "weave: record: read fault\n")?);
+    Ok(())
+}
+
+// Whether a check whose report fails keeps so much of it and ends with the one write fault.
+fn cant_be_reported(alloc: Global, kept: usize) -> Result<bool, AllocError> {
+    let mut shelf = files_that_stand(alloc)?;
+    let mut out = MemSink::new(alloc);
+    out.fail_at(1, kept)?;
+    let mut err = MemSink::new(alloc);
+    let status = ran(alloc, CHECK, &mut shelf, &mut out, &mut err)?;
+    let said = b"stands\n".get(..kept) == Some(out.bytes());
+    Ok(status == 6 && said && err.bytes() == b"weave: report: write fault\n".as_slice())
+}
+
+#[test]
+fn a_report_that_cant_be_written(rt: HostRuntime) -> Result<(), Fail> {
+    assert!(rt; cant_be_reported(rt.alloc(), 2)?);
+    Ok(())
+}

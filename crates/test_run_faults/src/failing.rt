@@ -1,0 +1,109 @@
+// Each command, with each of its calls failing in turn.
+use crate::files::{FOUR_FRAMES, ONE_GREY, TWO_FRAMES, TWO_GREYS};
+use crate::trying::{Trying, wrong_trying};
+use test_stage::{FOUR_CELLS, OVERLAP_MAP, OVERLAP_PICTURE, OVERLAP_RECORD, OVERLAPPING};
+use std::test::Fail;
+
+const OUTPUTS: &[(&str, &str)] = &[("o", "out"), ("m", "map"), ("r", "record")];
+
+const GROWN: &[Trying<'static>] = &[
+    Trying {
+        words: OVERLAPPING,
+        reads: &[("s", "sample", FOUR_CELLS)],
+        writes: OUTPUTS,
+        status: 0,
+        report: "grow 6x1x1\nplacements 2\nrounds 0\nseams 120\n",
+    },
+    Trying {
+        words: "grow sample=s sample2=t out=o map=m record=r width=2 height=1 place=grid overlap=0",
+        reads: &[("s", "sample", ONE_GREY), ("t", "sample2", TWO_GREYS)],
+        writes: OUTPUTS,
+        status: 0,
+        report: "grow 2x1x1\nplacements 2\nrounds 0\nseams 1530\n",
+    },
+    Trying {
+        words: "grow sample=s out=o map=m record=r width=1 height=1 frames=4 place=grid overlap=1",
+        reads: &[("s", "sample", TWO_FRAMES)],
+        writes: OUTPUTS,
+        status: 0,
+        report: "grow 1x1x4\nplacements 3\nrounds 0\nseams 530\n",
+    },
+];
+
+#[test]
+fn grow(rt: HostRuntime) -> Result<(), Fail> {
+    assert_eq!(rt; wrong_trying(rt.alloc(), GROWN)?, None);
+    Ok(())
+}
+
+const QUILTS_AND_LOOPS: &[Trying<'static>] = &[
+    Trying {
+        words: "quilt sample=s out=o map=m record=r width=6 height=1 block=4 overlap=2",
+        reads: &[("s", "sample", FOUR_CELLS)],
+        writes: OUTPUTS,
+        status: 0,
+        report: "quilt 6x1x1\nblocks 2\nboundaries 1\ncost 1200\n",
+    },
+    Trying {
+        words: "loop sample=s out=o map=m record=r length=2 taps=0 gap=1",
+        reads: &[("s", "sample", FOUR_FRAMES)],
+        writes: OUTPUTS,
+        status: 0,
+        report: "loop 2\nstart 0\ncost 0\n",
+    },
+];
+
+#[test]
+fn quilt_and_loop(rt: HostRuntime) -> Result<(), Fail> {
+    assert_eq!(rt; wrong_trying(rt.alloc(), QUILTS_AND_LOOPS)?, None);
+    Ok(())
+}
+
+const CHECKED: Trying<'static> = Trying {
+    words: "check sample=s out=o map=m record=r",
+    reads: &[
+        ("s", "sample", FOUR_CELLS),
+        ("o", "out", OVERLAP_PICTURE),
+        ("m", "map", OVERLAP_MAP),
+        ("r", "record", OVERLAP_RECORD),
+    ],
+    writes: &[],
+    status: 0,
+    report: "stands\n",
+};
+
+// The second has the sample as its out file.
+const OTHERS: &[Trying<'static>] = &[
+    CHECKED,
+    Trying {
+        reads: &[
+            ("s", "sample", FOUR_CELLS),
+            ("o", "out", FOUR_CELLS),
+            ("m", "map", OVERLAP_MAP),
+            ("r", "record", OVERLAP_RECORD),
+        ],
+        status: 1,
+        report: "fails record 0 rule 15 place 0\n",
+        ..CHECKED
+    },
+    Trying {
+        words: "upgrade map=m record=r newmap=n newrecord=q",
+        reads: &[("m", "map", OVERLAP_MAP), ("r", "record", OVERLAP_RECORD)],
+        writes: &[("n", "newmap"), ("q", "newrecord")],
+        status: 0,
+        report: "upgrade 6 2\n",
+    },
+    Trying {
+        words: "trial n=7 width=1 height=1 place=grid rounds=0",
+        reads: &[],
+        writes: &[],
+        status: 0,
+        report: "trial 7\nsample 64x64x1\ngrow 1x1x1\nplacements 1\nrounds 0\nseams 0\nrecord stands\n",
+    },
+];
+
+#[test]
+fn check_upgrade_and_trial(rt: HostRuntime) -> Result<(), Fail> {
+    assert_eq!(rt; wrong_trying(rt.alloc(), OTHERS)?, None);
+    Ok(())
+}

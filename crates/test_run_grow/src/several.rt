@@ -1,0 +1,141 @@
+// Runs over two samples: the files of version 2, and the refusals of the second.
+use test_stage::{BEFORE, Case, Failing, Made, holds, is_made, wrong_case};
+use std::alloc::{AllocError, Global};
+use std::test::Fail;
+
+// The sizes of both samples, and for each cell its sample and the place in it. A grid has the first alone.
+const MAP: &[u8] = b"WEAVEMAP\x02\x00\
+\x00\x00\x00\x02\x00\x00\x00\x01\x00\x00\x00\x01\x00\x02\
+\x00\x00\x00\x01\x00\x00\x00\x01\x00\x00\x00\x01\
+\x00\x00\x00\x02\x00\x00\x00\x01\x00\x00\x00\x01\
+\x00\x01\x00\x00\x00\x00\x00\x00\x00\x01\x00\x00\x00\x00\x00\x00";
+
+const RECORD: &[u8] = b"WEAVEREC\x02\x00\
+\x00\x00\x00\x02\x00\x00\x00\x01\x00\x00\x00\x01\x00\x02\
+\x00\x00\x00\x01\x00\x00\x00\x01\x00\x00\x00\x01\
+\x00\x00\x00\x02\x00\x00\x00\x01\x00\x00\x00\x01\
+\x00\x00\x00\x02\
+\x00\x00\x00\x00\x00\x00\x00\x01\x00\x01\x00\x01\x00\x01\x00\x00\x00\x00\x00\x00\x80\
+\x00\x01\x00\x00\x00\x00\x00\x01\x00\x01\x00\x01\x00\x01\x00\x00\x00\x00\x00\x00\x80";
+
+// A cell of grey 10, and two of grey 20 and 30.
+const TWO_SAMPLES: Case<'static> = Case {
+    words: "grow sample=s sample2=t out=o map=m record=r width=2 height=1 place=grid overlap=0",
+    sample: b"P6\n1 1\n255\n\x0a\x0a\x0a",
+    second: b"P6\n2 1\n255\n\x14\x14\x14\x1e\x1e\x1e",
+    failing: Failing::Nothing,
+    status: 0,
+    report: "grow 2x1x1\nplacements 2\nrounds 0\nseams 1530\n",
+    line: "",
+    picture: b"P6\n2 1\n255\n\x0a\x0a\x0a\x0a\x0a\x0a",
+    map: MAP,
+    record: RECORD,
+};
+
+// Cells 0 and 1 are sample 1, and cell 2 is the second cell of sample 2.
+const MIXED_MAP: &[u8] = b"WEAVEMAP\x02\x00\
+\x00\x00\x00\x03\x00\x00\x00\x01\x00\x00\x00\x01\x00\x02\
+\x00\x00\x00\x02\x00\x00\x00\x01\x00\x00\x00\x01\
+\x00\x00\x00\x02\x00\x00\x00\x01\x00\x00\x00\x01\
+\x00\x01\x00\x00\x00\x00\x00\x00\x00\x01\x00\x01\x00\x00\x00\x00\
+\x00\x02\x00\x01\x00\x00\x00\x00";
+
+// The second placement keeps its first cell. What stands beside it in sample 1 lies outside: 765 flows out of it.
+const MIXED_RECORD: &[u8] = b"WEAVEREC\x02\x00\
+\x00\x00\x00\x03\x00\x00\x00\x01\x00\x00\x00\x01\x00\x02\
+\x00\x00\x00\x02\x00\x00\x00\x01\x00\x00\x00\x01\
+\x00\x00\x00\x02\x00\x00\x00\x01\x00\x00\x00\x01\
+\x00\x00\x00\x02\
+\x00\x00\x00\x00\x00\x00\x00\x02\x00\x01\x00\x01\x00\x01\x00\x00\x00\x00\x00\x00\xc0\
+\x00\x00\x00\x00\
+\x00\x01\x00\x00\x00\x00\x00\x02\x00\x01\x00\x01\x00\x02\x00\x00\x00\x00\x00\x00\x40\
+\x02\xfd\x00\x00";
+
+// Two cells of grey 10 and 20, and two of grey 20 and 30. Draw 0 of seed 0 takes the first sample of two; the second patch
+// is that of sample 2, whose first cell is what stands there.
+const MIXED: Case<'static> = Case {
+    words: "grow sample=s sample2=t out=o map=m record=r width=3 height=1 box=2 overlap=1 tol=0",
+    sample: b"P6\n2 1\n255\n\x0a\x0a\x0a\x14\x14\x14",
+    second: b"P6\n2 1\n255\n\x14\x14\x14\x1e\x1e\x1e",
+    report: "grow 3x1x1\nplacements 2\nrounds 0\nseams 765\n",
+    picture: b"P6\n3 1\n255\n\x0a\x0a\x0a\x14\x14\x14\x1e\x1e\x1e",
+    map: MIXED_MAP,
+    record: MIXED_RECORD,
+    ..TWO_SAMPLES
+};
+
+const REFUSED: Case<'static> = Case {
+    status: 3,
+    report: "",
+    picture: BEFORE,
+    map: BEFORE,
+    record: BEFORE,
+    ..TWO_SAMPLES
+};
+
+const CASES: &[Case<'static>] = &[
+    TWO_SAMPLES,
+    MIXED,
+    Case {
+        second: b"P6\n1 1\n15\n\x0a\x0a\x0a",
+        line: "weave: sample2: unlike\n",
+        ..REFUSED
+    },
+    Case {
+        second: b"P5",
+        line: "weave: sample2: form at 1\n",
+        ..REFUSED
+    },
+    // A clip beside a picture.
+    Case {
+        second: b"YUV4MPEG2 W1 H1 Cmono\nFRAME\n\x0a",
+        line: "weave: sample2: unlike\n",
+        ..REFUSED
+    },
+];
+
+#[test]
+fn runs_over_two_samples(rt: HostRuntime) -> Result<(), Fail> {
+    assert_eq!(rt; wrong_case(rt.alloc(), CASES)?, None);
+    Ok(())
+}
+
+// The run, and the check of what it leaves.
+fn is_accepted(alloc: Global) -> Result<bool, AllocError> {
+    let made = Made {
+        words: MIXED.words,
+        check: "check sample=s sample2=t out=o map=m record=r",
+        sample: MIXED.sample,
+        second: MIXED.second,
+        report: MIXED.report,
+        picture: MIXED.picture,
+    };
+    is_made(alloc, &made)
+}
+
+#[test]
+fn a_run_over_two_samples_is_accepted(rt: HostRuntime) -> Result<(), Fail> {
+    assert!(rt; is_accepted(rt.alloc())?);
+    Ok(())
+}
+
+// Two pictures of 4096 x 2048 black cells: each is within the bound, and both together pass it.
+fn are_too_many(alloc: Global) -> Result<bool, AllocError> {
+    let raster = vec![in alloc; 0u8; 25_165_824]?;
+    let mut sample = Vec::from_slice(alloc, b"P6\n4096 2048\n255\n")?;
+    sample.extend_from_slice(&raster)?;
+    let case = Case {
+        sample: &sample,
+        second: &sample,
+        status: 4,
+        line: "weave: limit cells 16777216 over 8388608\n",
+        ..REFUSED
+    };
+    holds(alloc, &case)
+}
+
+#[test]
+fn samples_of_too_many_cells(rt: HostRuntime) -> Result<(), Fail> {
+    assert!(rt; are_too_many(rt.alloc())?);
+    Ok(())
+}

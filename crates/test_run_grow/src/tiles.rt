@@ -1,0 +1,65 @@
+// Six copies of one cell, by each way to place them.
+use test_stage::{Case, Failing, NO_CELL, ONE_CELL, SIX_CELLS, wrong_case};
+use std::test::Fail;
+
+const PICTURE: &[u8] =
+    b"P6\n3 2\n255\n\x07\x08\x09\x07\x08\x09\x07\x08\x09\x07\x08\x09\x07\x08\x09\x07\x08\x09";
+
+// A head of 34 bytes, and six sources of 6 bytes.
+const MAP: &[u8] = b"\x57\x45\x41\x56\x45\x4d\x41\x50\x01\x00\
+\x00\x00\x00\x03\x00\x00\x00\x02\x00\x00\x00\x01\
+\x00\x00\x00\x01\x00\x00\x00\x01\x00\x00\x00\x01\
+\x00\x00\x00\x00\x00\x00\x00\x00\x00\x00\x00\x00\x00\x00\x00\x00\x00\x00\
+\x00\x00\x00\x00\x00\x00\x00\x00\x00\x00\x00\x00\x00\x00\x00\x00\x00\x00";
+
+// A head of 34 bytes, the count, and for each cell a record: its box, where its source begins, one bit
+// and no flow.
+const RECORD: &[u8] = b"WEAVEREC\x01\x00\
+\x00\x00\x00\x03\x00\x00\x00\x02\x00\x00\x00\x01\
+\x00\x00\x00\x01\x00\x00\x00\x01\x00\x00\x00\x01\
+\x00\x00\x00\x06\
+\x00\x00\x00\x00\x00\x00\x00\x01\x00\x01\x00\x01\x00\x00\x00\x00\x00\x00\x80\
+\x00\x01\x00\x00\x00\x00\x00\x01\x00\x01\x00\x01\x00\x00\x00\x00\x00\x00\x80\
+\x00\x02\x00\x00\x00\x00\x00\x01\x00\x01\x00\x01\x00\x00\x00\x00\x00\x00\x80\
+\x00\x00\x00\x01\x00\x00\x00\x01\x00\x01\x00\x01\x00\x00\x00\x00\x00\x00\x80\
+\x00\x01\x00\x01\x00\x00\x00\x01\x00\x01\x00\x01\x00\x00\x00\x00\x00\x00\x80\
+\x00\x02\x00\x01\x00\x00\x00\x01\x00\x01\x00\x01\x00\x00\x00\x00\x00\x00\x80";
+
+const SIX: Case<'static> = Case {
+    words: SIX_CELLS,
+    sample: ONE_CELL,
+    second: NO_CELL,
+    failing: Failing::Nothing,
+    status: 0,
+    report: "grow 3x2x1\nplacements 6\nrounds 0\nseams 10710\n",
+    line: "",
+    picture: PICTURE,
+    map: MAP,
+    record: RECORD,
+};
+
+const CASES: &[Case<'static>] = &[
+    SIX,
+    Case {
+        sample: b"P6\n# one cell\n1 1\n255\n\x07\x08\x09",
+        ..SIX
+    },
+    Case {
+        words: "grow height=2 width=3 place=random record=r map=m out=o sample=s",
+        ..SIX
+    },
+    Case {
+        words: "grow sample=s out=o map=m record=r width=3 height=2 place=whole seed=7",
+        ..SIX
+    },
+    Case {
+        words: "grow sample=s out=o map=m record=r width=3 height=2",
+        ..SIX
+    },
+];
+
+#[test]
+fn copies_of_one_cell(rt: HostRuntime) -> Result<(), Fail> {
+    assert_eq!(rt; wrong_case(rt.alloc(), CASES)?, None);
+    Ok(())
+}

@@ -1,0 +1,104 @@
+// What is said of an output that is grown from a sample of a number. No file is read or written.
+use test_stage::{BEFORE, Case, Failing, NO_CELL, ONE_CELL, ran, wrong_case, wrong_words};
+use shelf_core::{MemShelf, MemSink};
+use std::alloc::{AllocError, Global};
+use std::test::Fail;
+
+const BEGINNING: &[u8] =
+    b"trial 1\nsample 64x64x1\ngrow 256x256x1\nplacements 121\nrounds 5\nseams ";
+
+const LONG_BEGINNING: &[u8] =
+    b"trial 1\nsample 64x64x1\ngrow 256x256x1\nplacements 121\nrounds 200\nseams ";
+
+const END: &[u8] = b"\nrecord stands\n";
+
+// The report of a trial, where it ends with status 0 and without a line.
+fn report_of(alloc: Global, words: &str) -> Result<Option<Vec<u8>>, AllocError> {
+    let mut shelf = MemShelf::new(alloc);
+    let mut out = MemSink::new(alloc);
+    let mut err = MemSink::new(alloc);
+    let status = ran(alloc, words, &mut shelf, &mut out, &mut err)?;
+    if status != 0 || !err.bytes().is_empty() {
+        return Ok(None);
+    }
+    Ok(Some(Vec::from_slice(alloc, out.bytes())?))
+}
+
+// Whether both lines of words have one report, which begins and ends as given.
+fn is_one_report(
+    alloc: Global,
+    first: &str,
+    second: &str,
+    beginning: &[u8],
+) -> Result<bool, AllocError> {
+    let Some(text) = report_of(alloc, first)? else {
+        return Ok(false);
+    };
+    let Some(again) = report_of(alloc, second)? else {
+        return Ok(false);
+    };
+    Ok(text.as_slice() == again.as_slice() && text.starts_with(beginning) && text.ends_with(END))
+}
+
+#[test]
+fn the_trial_of_number_1_is_the_same_text_twice(rt: HostRuntime) -> Result<(), Fail> {
+    let words = "trial seed=0 rounds=5 n=1 place=sub box=32 overlap=8 tol=10 width=256 height=256";
+    assert!(rt; is_one_report(rt.alloc(), "trial n=1", words, BEGINNING)?);
+    Ok(())
+}
+
+#[test]
+fn a_trial_of_200_rounds_is_the_same_text_twice(rt: HostRuntime) -> Result<(), Fail> {
+    let words = "trial rounds=200 n=1";
+    assert!(rt; is_one_report(rt.alloc(), "trial n=1 rounds=200", words, LONG_BEGINNING)?);
+    Ok(())
+}
+
+const REFUSED: &[(&str, u8, &str)] = &[
+    ("trial", 2, "weave: missing key n\n"),
+    ("trial n=4294967296", 2, "weave: word 2: out of range\n"),
+    ("trial n=1 sample=s", 2, "weave: word 3: unknown key\n"),
+    ("trial n=1 frames=1", 2, "weave: word 3: unknown key\n"),
+    (
+        "trial n=1 width=1025 height=1024",
+        4,
+        "weave: limit output 1049600 over 1048576\n",
+    ),
+];
+
+#[test]
+fn trials_that_are_refused(rt: HostRuntime) -> Result<(), Fail> {
+    assert_eq!(rt; wrong_words(rt.alloc(), ONE_CELL, REFUSED)?, None);
+    Ok(())
+}
+
+// The sample alone fills a small output by one copy; its seams are none.
+const SMALL: Case<'static> = Case {
+    words: "trial n=7 width=64 height=64 place=grid rounds=0",
+    sample: NO_CELL,
+    second: NO_CELL,
+    failing: Failing::Nothing,
+    status: 0,
+    report: "trial 7\nsample 64x64x1\ngrow 64x64x1\nplacements 1\nrounds 0\nseams 0\nrecord stands\n",
+    line: "",
+    picture: BEFORE,
+    map: BEFORE,
+    record: BEFORE,
+};
+
+const WRITTEN: &[Case<'static>] = &[
+    SMALL,
+    Case {
+        failing: Failing::ReportWrite(3),
+        status: 6,
+        report: "tri",
+        line: "weave: report: write fault\n",
+        ..SMALL
+    },
+];
+
+#[test]
+fn a_small_trial_and_a_report_that_cant_be_written(rt: HostRuntime) -> Result<(), Fail> {
+    assert_eq!(rt; wrong_case(rt.alloc(), WRITTEN)?, None);
+    Ok(())
+}

@@ -1,0 +1,63 @@
+// The words that are refused, each with its line.
+use test_stage::{ONE_CELL, refused, wrong_words};
+use std::alloc::{AllocError, Global};
+use std::test::Fail;
+
+const REFUSED: &[(&str, u8, &str)] = &[
+    ("", 2, "weave: no command\n"),
+    ("tile", 2, "weave: unknown command\n"),
+    ("sample=s grow", 2, "weave: unknown command\n"),
+    ("grow", 2, "weave: missing key sample\n"),
+    ("grow sample", 2, "weave: word 2: not key=value\n"),
+    ("grow =x", 2, "weave: word 2: not key=value\n"),
+    ("grow sample=", 2, "weave: word 2: not key=value\n"),
+    ("grow length=3", 2, "weave: word 2: unknown key\n"),
+    ("grow größe=3", 2, "weave: word 2: unknown key\n"),
+    ("grow width=7 width=8", 2, "weave: word 3: repeated key\n"),
+    ("grow place=best", 2, "weave: word 2: bad value\n"),
+    ("grow width=٣", 2, "weave: word 2: bad value\n"),
+    ("grow width=0", 2, "weave: word 2: out of range\n"),
+    ("grow width=4097", 2, "weave: word 2: out of range\n"),
+    ("grow rounds=1001", 2, "weave: word 2: out of range\n"),
+    ("grow out=a map=a", 2, "weave: word 3: name already used\n"),
+    (
+        "grow sample=s sample3=t out=o map=m record=r width=3 height=2",
+        2,
+        "weave: missing key sample2\n",
+    ),
+    (
+        "grow sample=s out=s map=m record=r width=3 height=2 place=grid overlap=0",
+        2,
+        "weave: word 3: name already used\n",
+    ),
+    (
+        "grow sample=s out=o map=m record=r height=2",
+        2,
+        "weave: missing key width\n",
+    ),
+];
+
+#[test]
+fn words_are_refused(rt: HostRuntime) -> Result<(), Fail> {
+    assert_eq!(rt; wrong_words(rt.alloc(), ONE_CELL, REFUSED)?, None);
+    Ok(())
+}
+
+// Whether a width of 400 digits is refused with this line.
+fn is_refused(alloc: Global, digit: char, last: &str, line: &str) -> Result<bool, AllocError> {
+    let mut words = String::from_str(alloc, "grow width=")?;
+    for _ in 0..399u32 {
+        words.push(digit)?;
+    }
+    words.push_str(last)?;
+    refused(alloc, &words, ONE_CELL, 2, line)
+}
+
+#[test]
+fn widths_of_400_digits(rt: HostRuntime) -> Result<(), Fail> {
+    let alloc = rt.alloc();
+    assert!(rt; is_refused(alloc, '9', "7", "weave: word 2: out of range\n")?);
+    assert!(rt; is_refused(alloc, '0', "0", "weave: word 2: out of range\n")?);
+    assert!(rt; is_refused(alloc, '0', "7", "weave: missing key sample\n")?);
+    Ok(())
+}

@@ -1,0 +1,113 @@
+// What the files of a quilt hold after each status.
+use crate::blocks::{STANDS, TWO};
+use crate::square::{SQUARE, SQUARE_STANDS};
+use test_stage::{BEFORE, Case, FOUR_CELLS, Failing, Verdict, wrong_case, wrong_verdict};
+use std::test::Fail;
+
+const ONE_MAP: &[u8] = b"WEAVEMAP\x01\x00\
+\x00\x00\x00\x04\x00\x00\x00\x01\x00\x00\x00\x01\
+\x00\x00\x00\x04\x00\x00\x00\x01\x00\x00\x00\x01\
+\x00\x00\x00\x00\x00\x00\x00\x01\x00\x00\x00\x00\
+\x00\x02\x00\x00\x00\x00\x00\x03\x00\x00\x00\x00";
+
+const ONE_RECORD: &[u8] = b"WEAVEREC\x01\x01\
+\x00\x00\x00\x04\x00\x00\x00\x01\x00\x00\x00\x01\
+\x00\x00\x00\x04\x00\x00\x00\x01\x00\x00\x00\x01\
+\x00\x00\x00\x01\
+\x00\x00\x00\x00\x00\x04\x00\x01\x00\x00\x00\x00\x00";
+
+// A block that is the whole output, which is the whole sample.
+const ONE: Case<'static> = Case {
+    words: "quilt sample=s out=o map=m record=r width=4 height=1 block=8",
+    report: "quilt 4x1x1\nblocks 1\nboundaries 0\ncost 0\n",
+    picture: FOUR_CELLS,
+    map: ONE_MAP,
+    record: ONE_RECORD,
+    ..TWO
+};
+
+const QUILTED: &[Case<'static>] = &[
+    ONE,
+    TWO,
+    SQUARE,
+    Case {
+        words: "quilt seed=7 tol=0 overlap=2 block=4 height=1 width=6 record=r map=m out=o sample=s",
+        ..TWO
+    },
+];
+
+#[test]
+fn quilts(rt: HostRuntime) -> Result<(), Fail> {
+    assert_eq!(rt; wrong_case(rt.alloc(), QUILTED)?, None);
+    Ok(())
+}
+
+const ACCEPTED: &[Verdict<'static>] = &[
+    Verdict {
+        picture: FOUR_CELLS,
+        map: ONE_MAP,
+        record: ONE_RECORD,
+        ..STANDS
+    },
+    STANDS,
+    SQUARE_STANDS,
+];
+
+#[test]
+fn quilts_are_accepted(rt: HostRuntime) -> Result<(), Fail> {
+    assert_eq!(rt; wrong_verdict(rt.alloc(), ACCEPTED)?, None);
+    Ok(())
+}
+
+const FAILING: &[Case<'static>] = &[
+    Case {
+        failing: Failing::SampleRead,
+        status: 5,
+        report: "",
+        line: "weave: sample: read fault\n",
+        picture: BEFORE,
+        map: BEFORE,
+        record: BEFORE,
+        ..TWO
+    },
+    Case {
+        failing: Failing::PictureBegin,
+        status: 6,
+        report: "",
+        line: "weave: out: write fault\n",
+        picture: BEFORE,
+        map: BEFORE,
+        record: BEFORE,
+        ..TWO
+    },
+    Case {
+        failing: Failing::MapWrite(0),
+        status: 6,
+        report: "",
+        line: "weave: map: write fault\n",
+        map: b"",
+        record: BEFORE,
+        ..TWO
+    },
+    Case {
+        failing: Failing::RecordWrite(3),
+        status: 6,
+        report: "",
+        line: "weave: record: write fault\n",
+        record: b"WEA",
+        ..TWO
+    },
+    Case {
+        failing: Failing::ReportWrite(2),
+        status: 6,
+        report: "qu",
+        line: "weave: report: write fault\n",
+        ..TWO
+    },
+];
+
+#[test]
+fn the_files_after_each_fault(rt: HostRuntime) -> Result<(), Fail> {
+    assert_eq!(rt; wrong_case(rt.alloc(), FAILING)?, None);
+    Ok(())
+}

@@ -7,10 +7,10 @@ ghost use Rattle.bench.specs.Sizes.{IsGrowthCase};
 
 use crate::samples::{Texture, sample_of, sum_of};
 use cells::{Size, Volume};
+use cut_replay::replay_cuts;
 use grow_run::{GrowPlan, Grown, grow_canvas};
 use map_canvas::Canvas;
 use patch_place::Mode;
-use cut_replay::replay_cuts;
 use std::alloc::{AllocError, Global};
 
 /// A growth: the texture and the side of its sample, and what is grown of it.

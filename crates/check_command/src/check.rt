@@ -5,8 +5,8 @@ ghost use Rattle.command.specs.Outcomes.{Leaves, Plans};
 ghost use Rattle.check_command.specs.Checks.{check_command, summary_of};
 
 use crate::reading::read_files;
-use job_words::CheckJob;
 use command::report_run;
+use job_words::CheckJob;
 use shelf_core::{Shelf, Sink};
 use standing_files::{Verdict, judge};
 use std::alloc::Global;

@@ -9,8 +9,8 @@ ghost use Rattle.check_command.specs.Checks.{AreRunFiles, IsReadMap, IsOut, Refu
 ghost use Rattle.check_command.specs.Readings.{ReadsPart};
 
 use cert_file::{CertFile, read_cert};
-use job_words::{CheckJob, Name};
 use command::read_fault;
+use job_words::{CheckJob, Name};
 use sample_files::{Sample, Samples, read_sample_within, read_samples};
 use shelf_core::Shelf;
 use source_map::{MapFile, read_map};

@@ -6,8 +6,8 @@ ghost use Rattle.command.specs.Writing.{file_text};
 
 use cells::Sizes;
 use cert_file::{CutRecord, Head, write_cuts};
-use job_words::Name;
 use command::RunFiles;
+use job_words::Name;
 use shelf_core::{Shelf, WriteFault};
 use source_map::{Map, Version, write_cell_map};
 use synth_report::FileOf;

@@ -11,9 +11,9 @@ ghost use Rattle.sample_files.specs.Samples.{CanStandIn, form_text};
 ghost use Rattle.command_files.specs.Outs.{CanBeWriter, HasWriter, whole_clip};
 
 use cells::{Size, Volume};
+use command::RunFiles;
 use job_words::Name;
 use netpbm_p6::write_p6;
-use command::RunFiles;
 use sample_files::Form;
 use shelf_core::{Shelf, WriteFault};
 use std::alloc::{AllocError, Global};

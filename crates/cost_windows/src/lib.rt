@@ -14,9 +14,9 @@ mod reach;
 mod slide;
 mod table;
 
-pub use laws::{table_right_beside_a_change, worst_window_is_one};
 pub use costs::{
     Sources, choices_change_the_total_as_their_window, pair_cost, pairs_of_box, seam_of,
     some_choice_is_lawful, total, window, window_after,
 };
+pub use laws::{table_right_beside_a_change, worst_window_is_one};
 pub use table::{SeamTable, Worst};

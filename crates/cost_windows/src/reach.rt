@@ -15,8 +15,8 @@ use crate::block::{Block, corners};
 use crate::slide::sum_boxes;
 use boxes::{Counts, has_cells};
 use cells::{Axis, GREATEST_AXIS, Size, Volume};
-use map_canvas::Map;
 use costs::{Sources, seam_of};
+use map_canvas::Map;
 
 // The costs of the cells of a row and the next ones in it, from a cell on. The source of each is asked
 // for once: it is the second of one pair, and the first of the next.

@@ -17,8 +17,8 @@ use crate::flows::{flow_at, flow_of};
 use crate::record::{CutRecord, Flow};
 use boxes::{Counts, Walk};
 use cells::{At, Axis, Volume, cell_distance};
-use map_canvas::{Map, Placement};
 use costs::seam_of;
+use map_canvas::{Map, Placement};
 
 // A number between minus a cost and the cost.
 fn is_within(cost: u32, z: i16) -> bool

@@ -17,8 +17,8 @@ use crate::record::{
 };
 use crate::rules::{first_new, first_unfilled};
 use cells::{Box3, Volume};
-use map_canvas::{Canvas, Placement};
 use costs::window_after;
+use map_canvas::{Canvas, Placement};
 
 // Rule 1, for a box that has a cell.
 pub(crate) fn fits(canvas: &Canvas, sample: &Volume, placement: &Placement) -> bool

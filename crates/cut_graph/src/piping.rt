@@ -15,8 +15,8 @@ use crate::places::{NO_PIPE, SINK, SOURCE};
 use crate::plan::{PairCell, Plan};
 use boxes::{Counts, stride};
 use cells::{At, Axis, Volume};
-use max_flow::{Network, Pipe};
 use costs::seam_of;
+use max_flow::{Network, Pipe};
 use std::alloc::{AllocError, Global};
 
 // The network with the pipes so far, how many they are, and the first pipe of each pair so far.

@@ -98,8 +98,7 @@ none_raise_over : (plan : GrowPlan) (sample : Cells) → IsVolume sample → (fr
     → EachOver (RaisesNone sample) from.map cuts
 none_raise_over plan sample volume from [] after is run = tt
 none_raise_over plan sample volume from (cut ∷ cuts) after is run =
-    let step = run.1.0 in
-    (
+    let step = run.1.0 in (
       λ full. subst (λ m. map_total sample m ≤ map_total sample from.map) step.map (none_raises plan sample from run.0 cut is full step),
       subst (λ m. EachOver (RaisesNone sample) m cuts) step.map (none_raise_over plan sample volume run.0 cuts after (stays_map plan sample from run.0 cut volume step is) run.1.1),
     )

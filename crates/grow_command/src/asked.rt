@@ -2,10 +2,10 @@
 ghost use Rattle.std.specs.Prelude.{◌≡◌};
 ghost use Rattle.grow_command.specs.Growths.{fault_of_growing, mode_for};
 
+use cut_replay::MOST_BOX_CELLS;
 use grow_run::GrowError;
 use job_words::Place;
 use patch_place::Mode;
-use cut_replay::MOST_BOX_CELLS;
 use shelf_core::What;
 use synth_report::Fault;
 

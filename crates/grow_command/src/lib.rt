@@ -9,9 +9,9 @@
 #![tactic(auto)]
 
 mod asked;
-mod whole;
 mod plan;
+mod whole;
 
 pub use asked::{MOST_OUTPUT_CELLS, growing_fault, mode_for};
-pub use whole::grow;
 pub use plan::Growth;
+pub use whole::grow;

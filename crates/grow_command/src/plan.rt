@@ -8,11 +8,11 @@ ghost use Rattle.grow_command.specs.Growths.{IsMade, SetAgainst, grow_command, g
 
 use crate::asked::{MOST_OUTPUT_CELLS, growing_fault, mode_for};
 use cells::{GREATEST_AXIS, Size};
+use command_files::records_fit;
+use costs::total;
 use grow_run::{GrowPlan, Grown, grow_canvas};
 use job_words::GrowJob;
-use command_files::records_fit;
 use sample_files::{Form, Samples, read_samples};
-use costs::total;
 use shelf_core::{Shelf, What};
 use std::alloc::Global;
 use synth_report::Fault;
@@ -83,11 +83,7 @@ fn set_against(job: &GrowJob, form: &Form) -> Result<(), Fault>
 }
 
 /// Reads the samples and computes all that is to be written. Nothing is written yet.
-pub(crate) fn plan<S: Shelf>(
-    alloc: Global,
-    job: &GrowJob,
-    shelf: &mut S,
-) -> Result<Growth, Fault>
+pub(crate) fn plan<S: Shelf>(alloc: Global, job: &GrowJob, shelf: &mut S) -> Result<Growth, Fault>
     requires { IsGrowJob job.now }
     ensures planned { Plans (grow_command job.now) (growth_files job.now) (growth_summary job.now)
         (S.state shelf.old) (S.state shelf.new) result }

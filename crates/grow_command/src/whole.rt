@@ -10,9 +10,9 @@ ghost use Rattle.grow_command.specs.Growths.{IsMade, grow_command, growth_files,
 use crate::plan::{Growth, plan};
 use cells::Volume;
 use cert_file::Head;
-use job_words::GrowJob;
-use command_files::{CellMapFile, CutsFile, OutFile, writer_for};
 use command::{Then, write_run};
+use command_files::{CellMapFile, CutsFile, OutFile, writer_for};
+use job_words::GrowJob;
 use shelf_core::{Shelf, Sink};
 use source_map::Version;
 use std::alloc::Global;

@@ -9,11 +9,11 @@ ghost use Rattle.grow_run.specs.Work.{Ends, IsWork, LaysGrowth};
 
 use crate::plan::{GrowError, GrowPlan, Grown};
 use crate::steps::{Work, begin, refine_step, step};
-use search_squares::SampleSums;
 use cells::Volume;
 use items::Items;
 use patch_place::Mode;
 use refine_seams::round_windows;
+use search_squares::SampleSums;
 use std::alloc::Global;
 
 // Whether the run picks among the places of a box: in mode `Sub`, and in rounds. Then it goes by the sums of the

@@ -6,15 +6,15 @@ ghost use Rattle.patch_place.specs.Fitting.{HasPatch};
 ghost use Rattle.grow_run.specs.Work.{Advances, IsRefining, IsWork, Refines};
 
 use crate::plan::{GrowError, GrowPlan};
-use search_squares::SampleSums;
 use cells::Volume;
+use cost_windows::SeamTable;
 use cut_check::CutRecord;
+use cut_replay::MOST_BOX_CELLS;
 use graph_place::place;
 use map_canvas::Canvas;
 use patch_place::{Draws, next_placement_with};
 use refine_seams::round_with;
-use cut_replay::MOST_BOX_CELLS;
-use cost_windows::SeamTable;
+use search_squares::SampleSums;
 use std::alloc::{AllocError, Global};
 
 /// A run so far.

@@ -13,8 +13,8 @@ ghost use Rattle.loop_command.specs.LoopOuts.{CanWriteFrames, walked_clip};
 
 use cells::{Size, Taps, Volume};
 use cert_file::{Head, write_walk};
-use job_words::Name;
 use command::RunFiles;
+use job_words::Name;
 use shelf_core::{Shelf, WriteFault};
 use source_map::write_frame_map;
 use synth_report::FileOf;

@@ -7,10 +7,10 @@
 //! sample, and `whole` does both.
 #![tactic(auto)]
 
-mod whole;
 mod files;
 mod plan;
+mod whole;
 
-pub use whole::loop_clip;
 pub use files::{FrameMapFile, LoopFile, WalkFile};
 pub use plan::{LoopedClip, MOST_LOOP_CELLS, MOST_LOOP_FRAMES};
+pub use whole::loop_clip;

@@ -11,10 +11,10 @@ ghost use Rattle.job_words.specs.LoopWords.{IsLoopJob};
 ghost use Rattle.loop_command.specs.Loops.{IsLoopFound, IsLoopMade, IsLoopWithin, SetAgainstClip, fault_of_looping, loop_command, loop_files, loop_summary, steps_over};
 
 use cells::Volume;
+use command::read_fault;
 use frame_distance::{distances, filtered};
 use job_words::LoopJob;
 use loop_walk::{LoopError, LoopRecord, least_loop};
-use command::read_fault;
 use sample_files::MOST_SAMPLE_CELLS;
 use shelf_core::{Shelf, What};
 use std::alloc::Global;

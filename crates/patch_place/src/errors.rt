@@ -20,10 +20,10 @@ use crate::hints::least_hint;
 use crate::reach::{counts_for, rows_for};
 use crate::shortlist::Shortlist;
 use crate::skips::Skips;
-use search_squares::{BoxLevels, SampleSums};
 use cells::{Box3, Sizes, Volume};
 use map_canvas::{Canvas, Placement};
 use match_error::{Error, FilledCounts, FilledRows, FilledRuns, error_sum_within, filled_count};
+use search_squares::{BoxLevels, SampleSums};
 use std::alloc::{AllocError, Global};
 
 // How many candidates there are for a canvas and a sample.

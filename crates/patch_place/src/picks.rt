@@ -10,9 +10,9 @@ ghost use Rattle.patch_place.specs.Tables.{IsPickAtOn};
 
 use crate::errors::{count_for, entry_for, shortlist_of};
 use crate::{Candidates, Draws};
-use search_squares::SampleSums;
 use cells::Volume;
 use map_canvas::{Canvas, Placement};
+use search_squares::SampleSums;
 use std::alloc::{AllocError, Global};
 
 // The index of the picked candidate.

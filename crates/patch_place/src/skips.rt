@@ -7,9 +7,9 @@ ghost use Rattle.map_canvas.specs.Canvases.{CanvasState, StandsOver};
 ghost use Rattle.search_squares.specs.Bounds.{place_along};
 ghost use Rattle.search_squares.specs.Eliminations.{AreBoxLevels, AreEliminated, AreSampleSums, IsEliminated};
 
-use search_squares::{BoxLevels, Eliminated, LANES, Pauses, SampleSums};
 use cells::{At, Volume};
 use map_canvas::{Canvas, Placement};
+use search_squares::{BoxLevels, Eliminated, LANES, Pauses, SampleSums};
 
 // The most runs that a walk passes over before it tries one again.
 const MOST_PASSED: usize = 15;

@@ -11,9 +11,9 @@ ghost use Rattle.patch_place.specs.Steps.{IsChosen, IsNext, draws_after, toleran
 
 use crate::errors::entry_for;
 use crate::{Candidates, Draws, Mode, pick_with};
-use search_squares::SampleSums;
 use cells::{At, Volume};
 use map_canvas::{Canvas, Placement};
+use search_squares::SampleSums;
 use std::alloc::{AllocError, Global};
 
 impl Mode {

@@ -16,10 +16,10 @@ ghost use Rattle.quilt.specs.Runs.{HaveOneFrame, IsLaidBlock, LaysNext, quilting
 use crate::lay_block;
 use block_check::{BlockRecord, put_block};
 use block_strips::{QuiltPlan, block_rect, next_block_shares_strips};
-use search_squares::SampleSums;
 use cells::{Box3, Volume};
 use map_canvas::{Canvas, Placement};
 use patch_place::{Candidates, Draws, box_list_is_all_that_fit, pick_with};
+use search_squares::SampleSums;
 use std::alloc::{AllocError, Global};
 
 // The placement of a box that the next draw picks.

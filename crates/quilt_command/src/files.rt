@@ -6,8 +6,8 @@ ghost use Rattle.command.specs.Writing.{file_text};
 
 use block_check::BlockRecord;
 use cert_file::{Head, write_blocks};
-use job_words::Name;
 use command::RunFiles;
+use job_words::Name;
 use shelf_core::{Shelf, WriteFault};
 use synth_report::FileOf;
 

@@ -7,10 +7,10 @@
 //! `files` has the record file, `plan` what is read and computed, `whole` the writing and the whole.
 #![tactic(auto)]
 
-mod whole;
 mod files;
 mod plan;
+mod whole;
 
-pub use whole::quilt_picture;
 pub use files::BlocksFile;
 pub use plan::{MOST_QUILT_CELLS, PictureQuilt};
+pub use whole::quilt_picture;

@@ -7,11 +7,11 @@ ghost use Rattle.quilt_command.specs.Quilts.{IsMadeQuilt, SetForPicture, fault_o
 
 use block_strips::QuiltPlan;
 use cells::Size;
+use command::read_fault;
+use cut_replay::MOST_BOX_CELLS;
 use job_words::QuiltJob;
 use netpbm_p6::{Picture, read_p6};
 use quilt_run::{QuiltError, QuiltRun, Quilted, quilt_canvas};
-use cut_replay::MOST_BOX_CELLS;
-use command::read_fault;
 use shelf_core::{Shelf, What};
 use std::alloc::Global;
 use synth_report::{Fault, FileOf};

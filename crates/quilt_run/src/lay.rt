@@ -5,9 +5,9 @@ ghost use Rattle.quilt_run.specs.QuiltWork.{LaysQuilt};
 
 use crate::asked::{QuiltError, QuiltRun, Quilted};
 use crate::steps::{QuiltWork, begin, step};
-use search_squares::SampleSums;
 use cells::Volume;
 use items::Items;
+use search_squares::SampleSums;
 use std::alloc::Global;
 
 // Lays blocks until the canvas is full.

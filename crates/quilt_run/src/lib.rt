@@ -10,10 +10,10 @@
 #![tactic(auto)]
 
 mod asked;
-mod totals;
 mod laws;
 mod lay;
 mod steps;
+mod totals;
 
 pub use asked::{QuiltError, QuiltRun, Quilted};
 pub use laws::there_is_one_quilt_limit;

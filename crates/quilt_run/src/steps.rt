@@ -8,12 +8,12 @@ use crate::asked::{QuiltError, QuiltRun};
 use crate::totals::{block_boundaries, block_cost, block_fits};
 use block_check::BlockRecord;
 use block_strips::empty_map_is_laid;
-use search_squares::SampleSums;
 use cells::Volume;
+use cut_replay::MOST_BOX_CELLS;
 use map_canvas::Canvas;
 use patch_place::Draws;
 use quilt::next_block_with;
-use cut_replay::MOST_BOX_CELLS;
+use search_squares::SampleSums;
 use std::alloc::{AllocError, Global};
 
 /// A run so far.

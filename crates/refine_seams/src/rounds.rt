@@ -8,13 +8,13 @@ ghost use Rattle.patch_place.specs.Fitting.{HasRoomInEach};
 ghost use Rattle.graph_place.specs.Placed.{map_total};
 ghost use Rattle.refine_seams.specs.Rounds.{IsRoundBox, SumsWindowsOf, Rounds};
 
-use search_squares::SampleSums;
 use cells::{Box3, Volume};
+use cost_windows::SeamTable;
 use cut_check::CutRecord;
 use graph_place::place;
 use map_canvas::Canvas;
 use patch_place::{Candidates, Draws, pick_with, window_size};
-use cost_windows::SeamTable;
+use search_squares::SampleSums;
 use std::alloc::{AllocError, Global};
 
 // The worst window; None where it costs nothing.

@@ -8,9 +8,9 @@ ghost use Rattle.cost_windows.specs.Tables.{IsRight, IsWindow};
 
 use crate::laying::{ONE, assert_fits, canvas_over, column, put_copies, put_row};
 use cells::{Axis, Box3, Size, Volume};
-use map_canvas::{Canvas, Placement};
 use cost_windows::SeamTable;
 use costs::{are_marks, pair_cost, total, window};
+use map_canvas::{Canvas, Placement};
 use std::process::Abort;
 use std::test::Fail;
 

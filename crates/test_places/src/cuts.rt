@@ -4,10 +4,10 @@ ghost use Rattle.map_canvas.specs.Canvases.{StandsOver};
 
 use crate::rows::{assert_fits, greys, row_at, row_of};
 use cells::Volume;
+use costs::are_marks;
 use cut_graph::{build, build_held};
 use map_canvas::{Canvas, Placement};
 use max_flow::solve;
-use costs::are_marks;
 use std::alloc::{AllocError, Global};
 use std::process::Abort;
 use std::test::Fail;

@@ -2,9 +2,9 @@
 ghost use Rattle.map_canvas.specs.Canvases.{StandsOver};
 
 use crate::rows::{assert_fits, canvas_over};
-use search_squares::{BoxLevels, Eliminated, Pauses, SampleSums};
 use cells::{At, Box3, Size, Volume};
 use map_canvas::{Canvas, Placement};
+use search_squares::{BoxLevels, Eliminated, Pauses, SampleSums};
 use std::alloc::{AllocError, Global};
 use std::process::Abort;
 use std::test::Fail;

@@ -6,12 +6,12 @@ ghost use Rattle.cut_replay.specs.Replay.{IsFormed};
 
 use crate::rows::{greys, two_parts};
 use cells::{At, Box3, Size, Volume};
+use costs::total;
 use cut_check::{CutFault, CutRecord, Flow, KEEP_RULE};
+use cut_replay::{Broken, replay_cuts};
 use grow_run::{GrowPlan, Grown, grow_canvas};
 use map_canvas::{Canvas, Placement};
 use patch_place::Mode;
-use cut_replay::{Broken, replay_cuts};
-use costs::total;
 use std::alloc::{AllocError, Global};
 use std::process::Abort;
 use std::test::Fail;

@@ -10,10 +10,10 @@ ghost use Rattle.patch_place.specs.Picks.{AllFit, HasEntries, listed_on};
 
 use crate::rows::{greys, row_of, two_parts};
 use cells::{At, Box3, PartPlace, Size, Volume};
+use costs::total;
 use graph_place::place;
 use map_canvas::{Canvas, Placement};
 use patch_place::{Candidates, Draws, Mode, next_placement, pick, window_size};
-use costs::total;
 use std::alloc::{AllocError, Global};
 use std::process::Abort;
 use std::test::Fail;

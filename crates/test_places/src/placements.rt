@@ -4,10 +4,10 @@ ghost use Rattle.map_canvas.specs.Canvases.{StandsOver};
 
 use crate::rows::{assert_fits, canvas_over, greys, put, row_at, row_of};
 use cells::{At, Box3, Size, Volume};
+use costs::{are_marks, window};
 use cut_check::Flow;
 use graph_place::place_held;
 use map_canvas::{Canvas, Placement};
-use costs::{are_marks, window};
 use std::alloc::{AllocError, Global};
 use std::process::Abort;
 use std::test::Fail;

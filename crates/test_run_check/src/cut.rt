@@ -1,8 +1,8 @@
 // Maps and records that are cut off or go on.
 use crate::files::STANDS;
-use test_stage::{OVERLAP_MAP, OVERLAP_RECORD, Verdict, is_judged};
 use std::alloc::{AllocError, Global};
 use std::test::Fail;
+use test_stage::{OVERLAP_MAP, OVERLAP_RECORD, Verdict, is_judged};
 
 // The first bytes of the map are refused at their end.
 fn is_map_cut(alloc: Global, n: usize) -> Result<bool, AllocError> {

@@ -1,8 +1,8 @@
 // Files that aren't in their forms or pass a limit. The sizes of the output stand at byte 10 of map and record, the count of records at 34, and the
 // first record at 38.
 use crate::files::STANDS;
-use test_stage::{Verdict, wrong_verdict};
 use std::test::Fail;
+use test_stage::{Verdict, wrong_verdict};
 
 const FORM: Verdict<'static> = Verdict {
     status: 3,

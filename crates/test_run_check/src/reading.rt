@@ -1,11 +1,11 @@
 // What was grown is accepted; files and reports that fail.
+use shelf_core::{Call, MemShelf, MemSink, SureShelf, SureSink};
+use std::alloc::{AllocError, Global};
+use std::test::Fail;
 use test_stage::{
     FOUR_CELLS, Made, NO_CELL, OVERLAP_MAP, OVERLAP_PICTURE, OVERLAP_RECORD, OVERLAPPING, ran,
     wrong_made,
 };
-use shelf_core::{Call, MemShelf, MemSink, SureShelf, SureSink};
-use std::alloc::{AllocError, Global};
-use std::test::Fail;
 
 const CHECK: &str = "check sample=s out=o map=m record=r";
 

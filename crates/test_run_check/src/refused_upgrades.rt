@@ -2,8 +2,8 @@
 use crate::lifted::LIFTED;
 use crate::lifted_files::{BLOCK_RECORD, FRAME_MAP, MAP, RECORD, WALK_RECORD};
 use crate::upgrading::{Upgrade, wrong_upgrade};
-use test_stage::{BEFORE, NO_CELL, wrong_words};
 use std::test::Fail;
+use test_stage::{BEFORE, NO_CELL, wrong_words};
 
 const WORDS: &[(&str, u8, &str)] = &[
     ("upgrade", 2, "weave: missing key map\n"),

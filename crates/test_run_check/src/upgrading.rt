@@ -1,7 +1,7 @@
 // A run of `upgrade` over stores in memory, and what stands afterwards.
-use test_stage::{BEFORE, is_file, ran};
 use shelf_core::{Call, MemShelf, MemSink};
 use std::alloc::{AllocError, Global};
+use test_stage::{BEFORE, is_file, ran};
 
 /// What fails: nothing, or the first call of a kind on the file of a name. A write that fails keeps so many bytes.
 #[derive(Clone, Copy, Drop)]

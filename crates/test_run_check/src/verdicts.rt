@@ -1,7 +1,9 @@
 // What `check` says of a pair of version 2: what it says of the pair of version 1.
 use crate::lifted_files::{MAP, RECORD};
-use test_stage::{FOUR_CELLS, OVERLAP_MAP, OVERLAP_PICTURE, OVERLAP_RECORD, Verdict, wrong_verdict};
 use std::test::Fail;
+use test_stage::{
+    FOUR_CELLS, OVERLAP_MAP, OVERLAP_PICTURE, OVERLAP_RECORD, Verdict, wrong_verdict,
+};
 
 const STANDS: Verdict<'static> = Verdict {
     sample: FOUR_CELLS,

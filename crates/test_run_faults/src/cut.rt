@@ -1,8 +1,8 @@
 // Files that are cut off at each byte, read by every command that reads such files.
 use crate::hostile::{MAP_READERS, PICTURE_READERS, RECORD_READERS, Reader, is_refused};
-use test_stage::{FOUR_CELLS, OVERLAP_MAP, OVERLAP_RECORD};
 use std::alloc::{AllocError, Global};
 use std::test::Fail;
+use test_stage::{FOUR_CELLS, OVERLAP_MAP, OVERLAP_RECORD};
 
 // The least number of first bytes that a command doesn't refuse at their end.
 fn wrong_cut(alloc: Global, reader: &Reader, file: &[u8]) -> Result<Option<usize>, AllocError> {

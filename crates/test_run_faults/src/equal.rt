@@ -1,10 +1,10 @@
 // Maps that name another cell than the records leave, with equal bytes: the picture is the map's,
 // and `check` refuses the map.
 use crate::files::FOUR_FRAMES;
-use test_stage::ran;
 use shelf_core::{MemShelf, MemSink};
 use std::alloc::{AllocError, Global};
 use std::test::Fail;
+use test_stage::ran;
 
 // Two cells of grey 10.
 const TWO_ALIKE: &[u8] = b"P6\n2 1\n255\n\x0a\x0a\x0a\x0a\x0a\x0a";

@@ -1,8 +1,8 @@
 // Each command, with each of its calls failing in turn.
 use crate::files::{FOUR_FRAMES, ONE_GREY, TWO_FRAMES, TWO_GREYS};
 use crate::trying::{Trying, wrong_trying};
-use test_stage::{FOUR_CELLS, OVERLAP_MAP, OVERLAP_PICTURE, OVERLAP_RECORD, OVERLAPPING};
 use std::test::Fail;
+use test_stage::{FOUR_CELLS, OVERLAP_MAP, OVERLAP_PICTURE, OVERLAP_RECORD, OVERLAPPING};
 
 const OUTPUTS: &[(&str, &str)] = &[("o", "out"), ("m", "map"), ("r", "record")];
 

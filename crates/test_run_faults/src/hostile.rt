@@ -1,10 +1,10 @@
 // Files that are refused, read by every command that reads such files. What each breaks is told
 // with the name of the file, and every file stays as it was.
 use crate::files::{FOUR_FRAMES, ONE_GREY, TWO_CELLS};
-use test_stage::{BEFORE, FOUR_CELLS, OVERLAP_MAP, OVERLAP_PICTURE, OVERLAP_RECORD, is_file, ran};
 use shelf_core::{MemShelf, MemSink};
 use std::alloc::{AllocError, Global};
 use std::test::Fail;
+use test_stage::{BEFORE, FOUR_CELLS, OVERLAP_MAP, OVERLAP_PICTURE, OVERLAP_RECORD, is_file, ran};
 
 /// A command that reads a file: its words, its other files, the name of the file, and what lines
 /// call it.

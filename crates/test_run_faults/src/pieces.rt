@@ -1,10 +1,10 @@
 // Larger files, which are read and written in several pieces.
 use crate::files::FOUR_FRAMES;
 use crate::trying::{Trying, fails_well};
-use test_stage::{FOUR_CELLS, ran};
 use shelf_core::{MemShelf, MemSink};
 use std::alloc::{AllocError, Global};
 use std::test::Fail;
+use test_stage::{FOUR_CELLS, ran};
 
 const OUTPUTS: &[(&str, &str)] = &[("o", "out"), ("m", "map"), ("r", "record")];
 

@@ -1,10 +1,10 @@
 // Lines that can't be written: with each write on `err` failing in turn every status stays.
 use crate::files::FOUR_FRAMES;
 use crate::trying::{Failing, list_failing};
-use test_stage::{FOUR_CELLS, OVERLAP_MAP, OVERLAP_PICTURE, OVERLAP_RECORD, ran};
 use shelf_core::{Call, MemShelf, MemSink};
 use std::alloc::{AllocError, Global};
 use std::test::Fail;
+use test_stage::{FOUR_CELLS, OVERLAP_MAP, OVERLAP_PICTURE, OVERLAP_RECORD, ran};
 
 // The most writes of a line that are tried.
 const MOST_CALLS: u8 = 50;

@@ -1,7 +1,7 @@
 // Runs of which one call after another fails.
-use test_stage::{BEFORE, is_file, ran};
 use shelf_core::{Call, MemShelf, MemSink};
 use std::alloc::{AllocError, Global};
+use test_stage::{BEFORE, is_file, ran};
 
 // The most calls of a kind on one file that a run is to have.
 const MOST_CALLS: u8 = 250;

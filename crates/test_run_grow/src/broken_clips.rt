@@ -1,6 +1,6 @@
 // Clips that are refused, each with its line.
-use test_stage::wrong_sample;
 use std::test::Fail;
+use test_stage::wrong_sample;
 
 const WORDS: &str = "grow sample=s out=o map=m record=r width=3 height=1 place=grid overlap=0";
 

@@ -1,6 +1,6 @@
 // The pictures that are refused, each with its line.
-use test_stage::{SIX_CELLS, wrong_sample};
 use std::test::Fail;
+use test_stage::{SIX_CELLS, wrong_sample};
 
 const REFUSED: &[(&[u8], u8, &str)] = &[
     (b"P6\n2 1\n255\nabcde", 3, "weave: sample: form at 16\n"),

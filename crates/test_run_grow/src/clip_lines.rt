@@ -1,7 +1,7 @@
 // Long stream lines, frame lines and tags.
-use test_stage::refused;
 use std::alloc::{AllocError, Global};
 use std::test::Fail;
+use test_stage::refused;
 
 const WORDS: &str = "grow sample=s out=o map=m record=r width=1 height=1 place=grid overlap=0";
 

@@ -1,8 +1,8 @@
 // A clip that is cut off at each byte.
 use crate::clips::TWO_CELLS;
-use test_stage::refused;
 use std::alloc::{AllocError, Global};
 use std::test::Fail;
+use test_stage::refused;
 
 const WORDS: &str = "grow sample=s out=o map=m record=r width=2 height=1 place=grid overlap=0";
 

@@ -1,7 +1,7 @@
 // Pictures that are cut off.
-use test_stage::{FOUR_CELLS, OVERLAP_PICTURE, SIX_CELLS, refused};
 use std::alloc::{AllocError, Global};
 use std::test::Fail;
+use test_stage::{FOUR_CELLS, OVERLAP_PICTURE, SIX_CELLS, refused};
 
 // The first bytes of a picture are refused at their end.
 fn is_cut(alloc: Global, picture: &[u8], n: usize) -> Result<bool, AllocError> {

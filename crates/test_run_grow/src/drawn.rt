@@ -1,6 +1,6 @@
 // A run in which draws alone place the copies.
-use test_stage::{FOUR_CELLS, Made, NO_CELL, is_made};
 use std::test::Fail;
+use test_stage::{FOUR_CELLS, Made, NO_CELL, is_made};
 
 // Four cells of grey 10, 20, 30 and 40. Draw 0 of seed 0 is even: the first copy begins at cell 0. Draw 1 is odd: the
 // second cell of the next copy comes to cell 4. So that copy begins at cell 3, which stays as it is, though a copy that

@@ -1,9 +1,9 @@
 // What the files hold after a read or a write that failed, and what `err` holds after its own.
 use crate::overlap::TWO;
-use test_stage::{BEFORE, Case, FOUR_CELLS, Failing, is_file, ran, wrong_case};
 use shelf_core::{Call, MemShelf, MemSink};
 use std::alloc::{AllocError, Global};
 use std::test::Fail;
+use test_stage::{BEFORE, Case, FOUR_CELLS, Failing, is_file, ran, wrong_case};
 
 const NOTHING_WRITTEN: Case<'static> = Case {
     status: 6,

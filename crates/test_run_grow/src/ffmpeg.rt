@@ -1,7 +1,7 @@
 // Clips that ffmpeg made, byte for byte those of examples/: each that is read is copied to the byte, tags and all, and the copy is
 // accepted; each other one is refused with its line.
-use test_stage::{Made, NO_CELL, wrong_made, wrong_sample};
 use std::test::Fail;
+use test_stage::{Made, NO_CELL, wrong_made, wrong_sample};
 
 // Gray, of odd width and height, in two frames.
 const GRAY: &[u8] = b"YUV4MPEG2 W5 H3 F5:1 Ip A1:1 Cmono XCOLORRANGE=FULL\nFRAME\n\

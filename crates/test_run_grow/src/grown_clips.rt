@@ -1,7 +1,7 @@
 // Clips that are grown and then checked, and one that can't be written.
 use crate::clips::{TWO_CELLS, TWO_FRAMES};
-use test_stage::{BEFORE, Case, Failing, Made, NO_CELL, wrong_case, wrong_made};
 use std::test::Fail;
+use test_stage::{BEFORE, Case, Failing, Made, NO_CELL, wrong_case, wrong_made};
 
 const COPIED: &str = "grow sample=s out=o map=m record=r width=2 height=1 place=grid overlap=0";
 

@@ -1,7 +1,7 @@
 // Long headers.
-use test_stage::{SIX_CELLS, refused};
 use std::alloc::{AllocError, Global};
 use std::test::Fail;
+use test_stage::{SIX_CELLS, refused};
 
 // A header that goes on through so many bytes of a comment, and then ends as given.
 fn long_comment(alloc: Global, count: usize, end: &[u8]) -> Result<Vec<u8>, AllocError> {

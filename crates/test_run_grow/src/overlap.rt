@@ -1,9 +1,9 @@
 // Two copies of four cells that overlap by two, and a round after them.
+use std::test::Fail;
 use test_stage::{
     Case, FOUR_CELLS, Failing, NO_CELL, OVERLAP_MAP, OVERLAP_PICTURE, OVERLAP_RECORD, OVERLAPPING,
     wrong_case,
 };
-use std::test::Fail;
 
 // After one round: the count is 3, and the third record lays the first window anew.
 const ROUND_RECORD: &[u8] = b"WEAVEREC\x01\x00\

@@ -1,7 +1,7 @@
 // Runs over two samples: the files of version 2, and the refusals of the second.
-use test_stage::{BEFORE, Case, Failing, Made, holds, is_made, wrong_case};
 use std::alloc::{AllocError, Global};
 use std::test::Fail;
+use test_stage::{BEFORE, Case, Failing, Made, holds, is_made, wrong_case};
 
 // The sizes of both samples, and for each cell its sample and the place in it. A grid has the first alone.
 const MAP: &[u8] = b"WEAVEMAP\x02\x00\

@@ -1,7 +1,7 @@
 // Two clips as samples, and a second sample that doesn't go with the first.
 use crate::clips::{PICTURE, TWO_CELLS, TWO_FRAMES};
-use test_stage::{BEFORE, Case, Failing, Made, wrong_case, wrong_made};
 use std::test::Fail;
+use test_stage::{BEFORE, Case, Failing, Made, wrong_case, wrong_made};
 
 const WORDS: &str =
     "grow sample=s sample2=t out=o map=m record=r width=1 height=1 frames=2 place=grid overlap=0";

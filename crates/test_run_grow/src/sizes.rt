@@ -1,8 +1,8 @@
 // Great samples and outputs. What a seam between two tiles costs doesn't depend on their cells.
 use crate::tiled_files::{picture, raster, tiled_map, tiled_raster, tiled_record};
-use test_stage::{Case, Failing, NO_CELL, ONE_CELL, holds, wrong_words};
 use std::alloc::{AllocError, Global};
 use std::test::Fail;
+use test_stage::{Case, Failing, NO_CELL, ONE_CELL, holds, wrong_words};
 
 const ABOVE_THE_BOUND: &[(&str, u8, &str)] = &[
     (

@@ -1,10 +1,10 @@
 // Runs over stores that never fail.
-use test_stage::{
-    FOUR_CELLS, OVERLAP_MAP, OVERLAP_PICTURE, OVERLAP_RECORD, OVERLAPPING, is_file, ran,
-};
 use shelf_core::{SureShelf, SureSink};
 use std::alloc::{AllocError, Global};
 use std::test::Fail;
+use test_stage::{
+    FOUR_CELLS, OVERLAP_MAP, OVERLAP_PICTURE, OVERLAP_RECORD, OVERLAPPING, is_file, ran,
+};
 
 // A run over stores that never fail, where the sample alone stands before it.
 fn surely_grown(alloc: Global) -> Result<bool, AllocError> {

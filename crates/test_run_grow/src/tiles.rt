@@ -1,6 +1,6 @@
 // Six copies of one cell, by each way to place them.
-use test_stage::{Case, Failing, NO_CELL, ONE_CELL, SIX_CELLS, wrong_case};
 use std::test::Fail;
+use test_stage::{Case, Failing, NO_CELL, ONE_CELL, SIX_CELLS, wrong_case};
 
 const PICTURE: &[u8] =
     b"P6\n3 2\n255\n\x07\x08\x09\x07\x08\x09\x07\x08\x09\x07\x08\x09\x07\x08\x09\x07\x08\x09";

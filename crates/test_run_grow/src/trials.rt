@@ -1,8 +1,8 @@
 // What is said of an output that is grown from a sample of a number. No file is read or written.
-use test_stage::{BEFORE, Case, Failing, NO_CELL, ONE_CELL, ran, wrong_case, wrong_words};
 use shelf_core::{MemShelf, MemSink};
 use std::alloc::{AllocError, Global};
 use std::test::Fail;
+use test_stage::{BEFORE, Case, Failing, NO_CELL, ONE_CELL, ran, wrong_case, wrong_words};
 
 const BEGINNING: &[u8] =
     b"trial 1\nsample 64x64x1\ngrow 256x256x1\nplacements 121\nrounds 5\nseams ";

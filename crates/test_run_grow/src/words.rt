@@ -1,7 +1,7 @@
 // The words that are refused, each with its line.
-use test_stage::{ONE_CELL, refused, wrong_words};
 use std::alloc::{AllocError, Global};
 use std::test::Fail;
+use test_stage::{ONE_CELL, refused, wrong_words};
 
 const REFUSED: &[(&str, u8, &str)] = &[
     ("", 2, "weave: no command\n"),

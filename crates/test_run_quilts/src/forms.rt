@@ -1,8 +1,8 @@
 // Block records that aren't in their form or pass a limit, and that are cut off.
 use crate::blocks::{RECORD, STANDS};
-use test_stage::{Verdict, is_judged, wrong_verdict};
 use std::alloc::{AllocError, Global};
 use std::test::Fail;
+use test_stage::{Verdict, is_judged, wrong_verdict};
 
 const FORM: Verdict<'static> = Verdict {
     status: 3,

@@ -1,7 +1,7 @@
 // Clips of too many frames, and loops of too many cells.
-use test_stage::refused;
 use std::alloc::{AllocError, Global};
 use std::test::Fail;
+use test_stage::refused;
 
 // A clip of frames of bytes of 0.
 fn clip(alloc: Global, line: &[u8], cells: usize, frames: u32) -> Result<Vec<u8>, AllocError> {

@@ -1,7 +1,7 @@
 // Loops in their forms, with the first rule that they break.
 use crate::loop_clips::{ONE_MAP, ONE_PICTURE, ONE_RECORD, STANDS, THREE_FRAMES, TWO_FRAMES};
-use test_stage::{Verdict, wrong_verdict};
 use std::test::Fail;
+use test_stage::{Verdict, wrong_verdict};
 
 const BROKEN: Verdict<'static> = Verdict {
     status: 1,

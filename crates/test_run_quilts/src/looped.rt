@@ -1,11 +1,11 @@
 // What the files of a loop hold after each status, and that `check` accepts them.
 use crate::loop_clips::{FOUR_FRAMES, ONE, ONE_MAP, ONE_PICTURE, ONE_RECORD, STANDS, TWO};
-use test_stage::{
-    BEFORE, Case, Failing, Made, NO_CELL, Verdict, ran, wrong_case, wrong_made, wrong_verdict,
-};
 use shelf_core::{MemShelf, MemSink};
 use std::alloc::{AllocError, Global};
 use std::test::Fail;
+use test_stage::{
+    BEFORE, Case, Failing, Made, NO_CELL, Verdict, ran, wrong_case, wrong_made, wrong_verdict,
+};
 
 const LOOPED: &[Case<'static>] = &[ONE, TWO];
 

@@ -1,8 +1,8 @@
 // What the files of a quilt hold after each status.
 use crate::blocks::{STANDS, TWO};
 use crate::square::{SQUARE, SQUARE_STANDS};
-use test_stage::{BEFORE, Case, FOUR_CELLS, Failing, Verdict, wrong_case, wrong_verdict};
 use std::test::Fail;
+use test_stage::{BEFORE, Case, FOUR_CELLS, Failing, Verdict, wrong_case, wrong_verdict};
 
 const ONE_MAP: &[u8] = b"WEAVEMAP\x01\x00\
 \x00\x00\x00\x04\x00\x00\x00\x01\x00\x00\x00\x01\

@@ -1,6 +1,6 @@
 // Words, samples and sizes that `quilt` refuses, each with its line.
-use test_stage::{ONE_CELL, wrong_sample, wrong_words};
 use std::test::Fail;
+use test_stage::{ONE_CELL, wrong_sample, wrong_words};
 
 const WORDS: &[(&str, u8, &str)] = &[
     ("quilt", 2, "weave: missing key sample\n"),

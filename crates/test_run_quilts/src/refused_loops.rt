@@ -1,7 +1,7 @@
 // Words and clips that `loop` refuses, and clips without a loop of the asked length, each with its line.
 use crate::loop_clips::{THREE_FRAMES, TWO_FRAMES};
-use test_stage::{ONE_CELL, wrong_sample, wrong_words};
 use std::test::Fail;
+use test_stage::{ONE_CELL, wrong_sample, wrong_words};
 
 const WORDS: &[(&str, u8, &str)] = &[
     ("loop", 2, "weave: missing key sample\n"),

@@ -1,8 +1,8 @@
 // Quilts in their forms, with the first rule that they break.
 use crate::blocks::STANDS;
 use crate::square::SQUARE_STANDS;
-use test_stage::{Verdict, wrong_verdict};
 use std::test::Fail;
+use test_stage::{Verdict, wrong_verdict};
 
 const BROKEN: Verdict<'static> = Verdict {
     status: 1,

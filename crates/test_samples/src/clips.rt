@@ -238,13 +238,7 @@ const WRITE_FAULTS: &[(Call, u32, usize, usize)] = &[
 ];
 
 // Whether the copy tells a write that fails, and leaves so many bytes.
-fn tells_fault(
-    alloc: Global,
-    call: Call,
-    nth: u32,
-    kept: usize,
-    left: usize,
-) -> Result<bool, Fail>
+fn tells_fault(alloc: Global, call: Call, nth: u32, kept: usize, left: usize) -> Result<bool, Fail>
     requires { 1 ≤ nth }
 {
     let mut shelf = MemShelf::new(alloc);

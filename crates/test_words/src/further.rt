@@ -3,7 +3,8 @@
 use crate::jobs::{are_names, is_name, words_of};
 use cells::{Axis, Size};
 use job_words::{
-    Key, MergeJob, Name, TileJob, TransferJob, WordFault, Wrap, read_merge, read_tile, read_transfer,
+    Key, MergeJob, Name, TileJob, TransferJob, WordFault, Wrap, read_merge, read_tile,
+    read_transfer,
 };
 use std::alloc::Global;
 
@@ -42,8 +43,14 @@ const REFUSED: &[(&[&str], WordFault)] = &[
         &["transfer", "map=d", "out=c", "target=b", "sample=a"],
         WordFault::Missing(Key::Cert),
     ),
-    (&["transfer", "target=a", "sample=a"], WordFault::SameName(3)),
-    (&["transfer", "record=a", "target=a"], WordFault::SameName(3)),
+    (
+        &["transfer", "target=a", "sample=a"],
+        WordFault::SameName(3),
+    ),
+    (
+        &["transfer", "record=a", "target=a"],
+        WordFault::SameName(3),
+    ),
     (&["transfer", "alpha=101"], WordFault::OutOfRange(2)),
     (&["transfer", "alpha=half"], WordFault::BadValue(2)),
     (&["transfer", "block=0"], WordFault::OutOfRange(2)),
@@ -99,15 +106,11 @@ const REFUSED: &[(&[&str], WordFault)] = &[
     (&["tile", "place=sub"], WordFault::UnknownKey(2)),
     (&["tile", "turns=all"], WordFault::UnknownKey(2)),
     (
-        &[
-            "tile", "sample=a", "out=o", "map=m", "width=2", "height=3",
-        ],
+        &["tile", "sample=a", "out=o", "map=m", "width=2", "height=3"],
         WordFault::Narrow(Axis::X),
     ),
     (
-        &[
-            "tile", "sample=a", "out=o", "map=m", "width=3", "height=2",
-        ],
+        &["tile", "sample=a", "out=o", "map=m", "width=3", "height=2"],
         WordFault::Narrow(Axis::Y),
     ),
     (

@@ -8,7 +8,7 @@
 //! `plan` grows and checks, and `whole` is the whole.
 #![tactic(auto)]
 
-mod whole;
 mod plan;
+mod whole;
 
 pub use whole::trial;

@@ -8,12 +8,12 @@ ghost use Rattle.grow_command.specs.declared.asked.TheConstants.{MOST_OUTPUT_CEL
 ghost use Rattle.trial_command.specs.Trials.{IsTrialOf, NotTried, trial_plan, trial_summary};
 
 use cells::Volume;
+use costs::total;
+use cut_replay::replay_cuts;
 use grow_command::{MOST_OUTPUT_CELLS, growing_fault, mode_for};
 use grow_run::{GrowPlan, Grown, grow_canvas};
 use job_words::TrialJob;
 use map_canvas::Canvas;
-use cut_replay::replay_cuts;
-use costs::total;
 use shelf_core::What;
 use std::alloc::{AllocError, Global};
 use synth_report::{Fault, Summary};

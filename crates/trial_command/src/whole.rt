@@ -5,8 +5,8 @@ ghost use Rattle.command.specs.Outcomes.{Leaves};
 ghost use Rattle.trial_command.specs.Trials.{trial_command};
 
 use crate::plan::plan;
-use job_words::TrialJob;
 use command::report_run;
+use job_words::TrialJob;
 use shelf_core::Sink;
 use std::alloc::Global;
 use synth_report::{Fault, Summary};

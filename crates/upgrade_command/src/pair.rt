@@ -11,8 +11,8 @@ ghost use Rattle.upgrade_command.specs.Upgrades.{AreFirstCuts, IsFirstMap, Refus
 
 use cells::Sizes;
 use cert_file::{CertFile, CutRecord, Head, Items, read_version_one_cuts};
-use job_words::Name;
 use command::read_fault;
+use job_words::Name;
 use shelf_core::Shelf;
 use source_map::{Map, MapFile, Version, read_version_one_map};
 use std::alloc::Global;

@@ -7,9 +7,9 @@ ghost use Rattle.upgrade_command.specs.Upgrades.{IsSoundPair, in_version_two, pa
 
 use crate::pair::{Pair, pair_of, read_first_cuts, read_first_map};
 use cert_file::Head;
-use job_words::UpgradeJob;
-use command_files::{CellMapFile, CutsFile, records_fit};
 use command::{Then, write_run};
+use command_files::{CellMapFile, CutsFile, records_fit};
+use job_words::UpgradeJob;
 use shelf_core::{Shelf, Sink};
 use source_map::Version;
 use std::alloc::Global;

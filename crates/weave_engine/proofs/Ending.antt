@@ -89,8 +89,7 @@ module _ (words : List (List ℕ)) (was now : ShelfState) (out out' err err' : S
 
   pub grow_reported : GrowReport words was now out out' status
   grow_reported job asks zero =
-      let its = done_of (Grow job) asks zero in
-      (
+      let its = done_of (Grow job) asks zero in (
         its.summary,
         its.told,
         then_of (Grow job) its (IsOneReport job its.summary)

@@ -11,11 +11,11 @@ ghost use Rattle.upgrade_command.specs.Upgraded.{UpgradeHeadline};
 ghost use Rattle.weave_engine.specs.Engine.{command_of};
 
 use check_command::check_files;
+use command::finish;
 use grow_command::grow;
 use job_words::{Job, Words, read_job};
 use loop_command::loop_clip;
 use quilt_command::quilt_picture;
-use command::finish;
 use shelf_core::{Shelf, Sink};
 use std::alloc::Global;
 use synth_report::{Fault, Summary};

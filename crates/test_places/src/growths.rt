@@ -222,12 +222,15 @@ fn first_of_part_one(
 #[test]
 fn three_cells_of_two_parts(rt: HostRuntime) -> Result<(), Fail> {
     let sample = two_parts(rt.alloc())?;
-    let mut firsts = 0u32;
+    let mut first_met = false;
+    let mut second_met = false;
     for seed in 0..8u64 {
         if first_of_part_one(&rt, rt.alloc(), &sample, seed)? {
-            firsts += 1;
+            first_met = true;
+        } else {
+            second_met = true;
         }
     }
-    assert!(rt; 0 < firsts && firsts < 8);
+    assert!(rt; first_met && second_met);
     Ok(())
 }

@@ -75,7 +75,7 @@ any_short w zero at place bytes within ends short = absurd (omega (arith, within
 any_short w (suc n) at place bytes within ends short = short_list w n at place bytes ends (omega (arith, short))
 
 -- a list in which the file ends, or that wasn't read
-pub list_lacks : (name : List ℕ) (w : Width) (n : ℕ) (was now : ShelfState) (before r : Reading) (error : ReadError) → Follows name was before → OnlyReads was now
+pub list_lacks : {names : List (List ℕ)} (name : List ℕ) (w : Width) (n : ℕ) (was now : ShelfState) (before r : Reading) (error : ReadError) → Follows name was before → OnlyReads names was now
     → StopsInList name (before.at + byte_len w * n) was now error → ReadsFrom (Unit {0}) name before.at was now r (list_read (number_read w any_rule) n) (Err error)
 list_lacks name w n was now before r ReadFault follows reads stops = stops
 list_lacks name w n was now before r NoMemory follows reads stops = tt

@@ -33,8 +33,8 @@ by_rule {A = A} memory name was now r rule (Err (Limit what number bound)) is la
     every name (λ bytes. ruled rule r.at bytes ≡ Err (Limit what number bound)) now.files (λ bytes. ap (λ (o : Result A ReadError). o >>= λ y. Ok (y, r.at)) (sym is))
 
 -- one value more, read in the light of those before
-pub each_more : {A : Type 0} (name : List ℕ) (place i : ℕ) (read : List A → ℕ → List ℕ → Result (A × ℕ) ReadError) (a b c : ShelfState) (r r' : Reading) (front : List A) (x : A)
-    → OnlyReads a b → OnlyReads b c → Found name place b r (each_read read i) front → Found name r.at c r' (read front) x → Found name place c r' (each_read read (i + 1)) (front ++ x ∷ [])
+pub each_more : {names : List (List ℕ)} {A : Type 0} (name : List ℕ) (place i : ℕ) (read : List A → ℕ → List ℕ → Result (A × ℕ) ReadError) (a b c : ShelfState) (r r' : Reading) (front : List A) (x : A)
+    → OnlyReads names a b → OnlyReads names b c → Found name place b r (each_read read i) front → Found name r.at c r' (read front) x → Found name place c r' (each_read read (i + 1)) (front ++ x ∷ [])
 each_more name place i read a b c r r' front x before after so_far last =
     subst (λ n. Found name place c r' (each_read read n) (front ++ x ∷ [])) (sym (add-one i))
     (then_reads ⊥ name place (each_read read i) (λ front. chain (read front) (behind front)) a b c r r' front (Ok (front ++ x ∷ [])) before after so_far
@@ -52,8 +52,8 @@ each_stays read (suc k) n m at bytes error same is =
     (ap (λ p. p >>= λ front. read front.0 front.1 bytes >>= λ last. Ok (front.0 ++ last.0 ∷ [], last.1)) (each_stays read k n (k + n) at bytes error refl is))
 
 -- a refusal of one is that of all
-pub each_stops : {A : Type 0} (memory : Type 0) (name : List ℕ) (place i n : ℕ) (read : List A → ℕ → List ℕ → Result (A × ℕ) ReadError) (a b c : ShelfState) (r r' : Reading) (front : List A) (error : ReadError)
-    → i < n → OnlyReads a b → OnlyReads b c → Found name place b r (each_read read i) front → ReadsFrom memory name r.at b c r' (read front) (Err error)
+pub each_stops : {names : List (List ℕ)} {A : Type 0} (memory : Type 0) (name : List ℕ) (place i n : ℕ) (read : List A → ℕ → List ℕ → Result (A × ℕ) ReadError) (a b c : ShelfState) (r r' : Reading) (front : List A) (error : ReadError)
+    → i < n → OnlyReads names a b → OnlyReads names b c → Found name place b r (each_read read i) front → ReadsFrom memory name r.at b c r' (read front) (Err error)
     → ReadsFrom memory name place a c r' (each_read read n) (Err error)
 each_stops memory name place i n read a b c r r' front error lt before after so_far stops = on error at_next
   where

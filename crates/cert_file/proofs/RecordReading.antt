@@ -31,8 +31,8 @@ to_end_stops memory name place first second was now r (Limit what number bound) 
     weaker name (λ bytes. first place bytes ≡ Err (Limit what number bound)) (λ bytes. chain_to_end first second place bytes ≡ Err (Limit what number bound)) now.files
     (λ bytes is. ap (λ p. p >>= λ x. second x.0 x.1 bytes) is) stops
 
-pub then_to_end : {A B : Type 0} (memory : Type 0) (name : List ℕ) (place : ℕ) (first : ℕ → List ℕ → Result (A × ℕ) ReadError) (second : A → ℕ → List ℕ → Result B ReadError)
-    (a b c : ShelfState) (r : Reading) (x : A) (result : Result B ReadError) → OnlyReads a b → OnlyReads b c
+pub then_to_end : {names : List (List ℕ)} {A B : Type 0} (memory : Type 0) (name : List ℕ) (place : ℕ) (first : ℕ → List ℕ → Result (A × ℕ) ReadError) (second : A → ℕ → List ℕ → Result B ReadError)
+    (a b c : ShelfState) (r : Reading) (x : A) (result : Result B ReadError) → OnlyReads names a b → OnlyReads names b c
     → Found name place b r first x → ReadsToEnd memory name r.at b c (second x) result
     → ReadsToEnd memory name place a c (chain_to_end first second) result
 then_to_end {A = A} {B = B} memory name place first second a b c r x result before after found rest = by result rest

@@ -1,7 +1,7 @@
 // The fields of a block record, as they are read.
 ghost use Rattle.std.specs.Prelude.{◌≡◌, ◌≤◌, ◌<◌, ◌+◌, ◌*◌, ◌^◌, IfOk, IfErr, OnOk};
 ghost use Rattle.std.specs.Int.{w8, w16};
-ghost use Rattle.shelf_core.specs.Files.{OnlyReads};
+ghost use Rattle.shelf_core.specs.Files.{OnlyReadsFile};
 ghost use Rattle.file_bytes.specs.Reading.{Follows};
 ghost use Rattle.source_map.specs.Readings.{IsRefusal, ReadsFrom, number_read};
 ghost use Rattle.cert_file.specs.BlockReading.{IsStartAfter, IsBoundaryRead, IsSpot, block_size_read, block_start_read, boundary_read, cols_rule, flags_rule, spot_read, spot_rule};
@@ -67,7 +67,7 @@ fn read_spot<S: Shelf>(file: &mut FileReader, shelf: &mut S, name: &str) -> Resu
         file.new spot_read result }
     ensures short { IfOk result IsSpot }
     ensures place { OnOk result (file.new.at ≡ file.old.at + 4) }
-    ensures reads { OnlyReads (S.state shelf.old) (S.state shelf.new) }
+    ensures reads { OnlyReadsFile name.now (S.state shelf.old) (S.state shelf.new) }
 {
     let at = file.place();
     let mut piece = [0; 4];
@@ -90,7 +90,7 @@ fn read_block_size<S: Shelf>(
     ensures within { IfOk result (IsBoxAfter before) }
     ensures frame { IfOk result (λ size. size.f ≡ 1) }
     ensures place { OnOk result (file.new.at ≡ file.old.at + 4) }
-    ensures reads { OnlyReads (S.state shelf.old) (S.state shelf.new) }
+    ensures reads { OnlyReadsFile name.now (S.state shelf.old) (S.state shelf.new) }
 {
     let w = read_box_axis(file, shelf, name)?;
     let h = read_box_axis(file, shelf, name)?;
@@ -104,7 +104,7 @@ fn read_flags<S: Shelf>(file: &mut FileReader, shelf: &mut S, name: &str) -> Res
     ensures answer { ReadsFrom ⊥ name.now file.old.at (S.state shelf.old) (S.state shelf.new)
         file.new (number_read w8 flags_rule) result }
     ensures place { OnOk result (file.new.at ≡ file.old.at + 1) }
-    ensures reads { OnlyReads (S.state shelf.old) (S.state shelf.new) }
+    ensures reads { OnlyReadsFile name.now (S.state shelf.old) (S.state shelf.new) }
 {
     let at = file.place();
     let n = file.u8(shelf, name)?;
@@ -125,7 +125,7 @@ pub(crate) fn read_block_start<S: Shelf>(
         file.new (block_start_read before) result }
     ensures within { IfOk result (IsStartAfter before) }
     ensures place { OnOk result (file.new.at ≡ file.old.at + 13) }
-    ensures reads { OnlyReads (S.state shelf.old) (S.state shelf.new) }
+    ensures reads { OnlyReadsFile name.now (S.state shelf.old) (S.state shelf.new) }
 {
     let corner = read_spot(file, shelf, name)?;
     let size = read_block_size(file, before, shelf, name)?;
@@ -151,7 +151,7 @@ fn read_cols<S: Shelf>(
         file.new (number_read w16 (cols_rule most)) result }
     ensures within { IfOk result (λ n. (1 ≤ n) × (n ≤ most)) }
     ensures place { OnOk result (file.new.at ≡ file.old.at + 2) }
-    ensures reads { OnlyReads (S.state shelf.old) (S.state shelf.new) }
+    ensures reads { OnlyReadsFile name.now (S.state shelf.old) (S.state shelf.new) }
 {
     let at = file.place();
     let n = file.u16(shelf, name)?;
@@ -175,7 +175,7 @@ pub(crate) fn read_boundary<S: Shelf>(
         (S.state shelf.new) file.new (boundary_read rows most) result }
     ensures form { IfOk result (IsBoundaryRead rows most) }
     ensures place { OnOk result (file.new.at ≤ file.old.at + 8 * (rows * most)) }
-    ensures reads { OnlyReads (S.state shelf.old) (S.state shelf.new) }
+    ensures reads { OnlyReadsFile name.now (S.state shelf.old) (S.state shelf.new) }
 {
     let cols = read_cols(file, most, shelf, name)?;
     let path = read_list_16(alloc, file, rows as usize, shelf, name)?;

@@ -1,7 +1,7 @@
 // Files of block records.
 ghost use Rattle.std.specs.Prelude.{◌≡◌, ◌≤◌, ◌<◌, ◌+◌, ◌*◌, ◌^◌, All, IfErr, IfOk, IfSome, OnErr, OnOk, length, pos};
 ghost use Rattle.std.specs.List.{flat_map};
-ghost use Rattle.shelf_core.specs.Files.{Changes, OnlyReads, OnlyWrites, WritesRose};
+ghost use Rattle.shelf_core.specs.Files.{Changes, OnlyReadsFile, OnlyWritesFile, WritesRose};
 ghost use Rattle.shelf_core.specs.Written.{HoldsPart, HoldsText};
 ghost use Rattle.file_bytes.specs.Reading.{Follows};
 ghost use Rattle.file_bytes.specs.Writing.{Puts};
@@ -159,7 +159,7 @@ pub fn write_blocks<S: Shelf>(
         (HoldsText name.now (blocks_form head.now blocks.now))) }
     ensures err { OnErr result (Changes (S.state shelf.old) (S.state shelf.new)
         (HoldsPart name.now (blocks_form head.now blocks.now))) }
-    ensures writes { OnlyWrites (S.state shelf.old) (S.state shelf.new) }
+    ensures writes { OnlyWritesFile name.now (S.state shelf.old) (S.state shelf.new) }
     ensures failed { OnErr result (WritesRose name.now (S.state shelf.old) (S.state shelf.new)) }
     ensures again { AreBlocksInLimits head.now blocks.now →
         IsCertOf (blocks_form head.now blocks.now) (Blocks head.now blocks.now) }
@@ -190,7 +190,7 @@ fn read_side<S: Shelf>(
         (S.state shelf.new) file.new (side_read present rows most) result }
     ensures form { IfOk result (λ side. IfSome side (IsBoundaryRead rows most)) }
     ensures place { OnOk result (file.new.at ≤ file.old.at + 8 * (rows * most)) }
-    ensures reads { OnlyReads (S.state shelf.old) (S.state shelf.new) }
+    ensures reads { OnlyReadsFile name.now (S.state shelf.old) (S.state shelf.new) }
 {
     if present {
         let boundary = read_boundary(alloc, file, rows, most, shelf, name)?;
@@ -218,7 +218,7 @@ fn read_block<S: Shelf>(
         before + cell_count block.placement.rect.size ≤ MOST_BOX_CELLS) }
     ensures place { IfOk result (λ block.
         file.new.at ≤ file.old.at + 29 * cell_count block.placement.rect.size) }
-    ensures reads { OnlyReads (S.state shelf.old) (S.state shelf.new) }
+    ensures reads { OnlyReadsFile name.now (S.state shelf.old) (S.state shelf.new) }
 {
     let start = read_block_start(file, before, shelf, name)?;
     let size = start.placement.rect.size;
@@ -247,7 +247,7 @@ fn read_blocks<S: Shelf>(
     ensures count { IfOk result (λ blocks. length blocks ≡ count) }
     ensures form { IfOk result (All IsBlockInForm) }
     ensures cells { IfOk result (λ blocks. block_cells blocks ≤ MOST_BOX_CELLS) }
-    ensures reads { OnlyReads (S.state shelf.old) (S.state shelf.new) }
+    ensures reads { OnlyReadsFile name.now (S.state shelf.old) (S.state shelf.new) }
 {
     let mut blocks = Vec::new(alloc);
     let mut before = 0;
@@ -276,7 +276,7 @@ pub(crate) fn read_blocks_file<S: Shelf>(
     ensures answer { ReadsToEnd (Unit {0}) name.now file.old.at (S.state shelf.old)
         (S.state shelf.new) (blocks_file_read head) result }
     ensures form { IfOk result IsCert }
-    ensures reads { OnlyReads (S.state shelf.old) (S.state shelf.new) }
+    ensures reads { OnlyReadsFile name.now (S.state shelf.old) (S.state shelf.new) }
 {
     let count = read_count(file, shelf, name)?;
     let blocks = read_blocks(alloc, file, count, shelf, name)?;

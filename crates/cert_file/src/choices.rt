@@ -1,6 +1,6 @@
 // Choices, as they are read.
 ghost use Rattle.std.specs.Prelude.{◌≡◌, ◌≤◌, ◌<◌, ◌+◌, ◌*◌, ◌^◌, ◌++◌, List, ℕ, IfOk, IfErr, OnOk, length};
-ghost use Rattle.shelf_core.specs.Files.{OnlyReads};
+ghost use Rattle.shelf_core.specs.Files.{OnlyReadsFile};
 ghost use Rattle.file_bytes.specs.Reading.{Follows, StopsInList};
 ghost use Rattle.source_map.specs.Readings.{IsRefusal, ReadsFrom};
 ghost use Rattle.cert_file.specs.CutForms.{choice_bytes};
@@ -65,7 +65,7 @@ fn read_bits<S: Shelf>(
         TookBits name.now file.old.at count bits.items (S.state shelf.new) file.new) }
     ensures stops { IfErr result (StopsInList name.now (file.old.at + count)
         (S.state shelf.old) (S.state shelf.new)) }
-    ensures reads { OnlyReads (S.state shelf.old) (S.state shelf.new) }
+    ensures reads { OnlyReadsFile name.now (S.state shelf.old) (S.state shelf.new) }
 {
     let mut bits = Vec::new(alloc);
     for j in 0..count {
@@ -105,7 +105,7 @@ pub(crate) fn read_choice<S: Shelf>(
         (S.state shelf.new) file.new (choice_read cells) result }
     ensures count { IfOk result (λ choice. length choice ≡ cells) }
     ensures place { OnOk result (file.new.at ≡ file.old.at + choice_bytes cells) }
-    ensures reads { OnlyReads (S.state shelf.old) (S.state shelf.new) }
+    ensures reads { OnlyReadsFile name.now (S.state shelf.old) (S.state shelf.new) }
 {
     let at = file.place();
     let bits = read_bits(alloc, file, cells.div_ceil(8), shelf, name)?;

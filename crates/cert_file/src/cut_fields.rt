@@ -1,7 +1,7 @@
 // The fields of a cut record, as they are read.
 ghost use Rattle.std.specs.Prelude.{◌≡◌, ◌≤◌, ◌<◌, ◌+◌, ◌*◌, ◌^◌, IfOk, IfErr, OnOk};
 ghost use Rattle.std.specs.Int.{w16};
-ghost use Rattle.shelf_core.specs.Files.{OnlyReads};
+ghost use Rattle.shelf_core.specs.Files.{OnlyReadsFile};
 ghost use Rattle.file_bytes.specs.Reading.{Follows};
 ghost use Rattle.source_map.specs.MapFiles.{IsInSamples, IsShort, part_rule};
 ghost use Rattle.source_map.specs.Readings.{IsRefusal, ReadsFrom, field_read, number_read};
@@ -96,7 +96,7 @@ pub(crate) fn read_corner<S: Shelf>(
         file.new (field_read 6 corner_rule) result }
     ensures short { IfOk result IsShort }
     ensures place { OnOk result (file.new.at ≡ file.old.at + 6) }
-    ensures reads { OnlyReads (S.state shelf.old) (S.state shelf.new) }
+    ensures reads { OnlyReadsFile name.now (S.state shelf.old) (S.state shelf.new) }
 {
     let at = file.place();
     let mut piece = [0; 6];
@@ -116,7 +116,7 @@ pub(crate) fn read_box_axis<S: Shelf>(
         file.new (number_read w16 box_axis_rule) result }
     ensures some { IfOk result (λ n. 1 ≤ n) }
     ensures place { OnOk result (file.new.at ≡ file.old.at + 2) }
-    ensures reads { OnlyReads (S.state shelf.old) (S.state shelf.new) }
+    ensures reads { OnlyReadsFile name.now (S.state shelf.old) (S.state shelf.new) }
 {
     let at = file.place();
     let n = file.u16(shelf, name)?;
@@ -137,7 +137,7 @@ pub(crate) fn read_box_size<S: Shelf>(
         file.new (box_size_read before) result }
     ensures within { IfOk result (IsBoxAfter before) }
     ensures place { OnOk result (file.new.at ≡ file.old.at + 6) }
-    ensures reads { OnlyReads (S.state shelf.old) (S.state shelf.new) }
+    ensures reads { OnlyReadsFile name.now (S.state shelf.old) (S.state shelf.new) }
 {
     let w = read_box_axis(file, shelf, name)?;
     let h = read_box_axis(file, shelf, name)?;
@@ -160,7 +160,7 @@ fn read_part<S: Shelf>(
         file.new (part_read version count) result }
     ensures within { IfOk result (λ n. (1 ≤ n) × (n ≤ count)) }
     ensures place { OnOk result (file.new.at ≤ file.old.at + 2) }
-    ensures reads { OnlyReads (S.state shelf.old) (S.state shelf.new) }
+    ensures reads { OnlyReadsFile name.now (S.state shelf.old) (S.state shelf.new) }
 {
     match version {
         Version::One => Ok(1),
@@ -186,7 +186,7 @@ pub(crate) fn read_from<S: Shelf>(
         file.new (from_read version samples.now) result }
     ensures inside { IfOk result (IsInSamples samples.now) }
     ensures place { OnOk result (file.new.at ≤ file.old.at + 8) }
-    ensures reads { OnlyReads (S.state shelf.old) (S.state shelf.new) }
+    ensures reads { OnlyReadsFile name.now (S.state shelf.old) (S.state shelf.new) }
 {
     let part = read_part(file, version, samples.len(), shelf, name)?;
     let size = samples.at(u32::from(part));

@@ -1,6 +1,6 @@
 // Cut records, as they are read.
 ghost use Rattle.std.specs.Prelude.{◌≡◌, ◌≤◌, ◌<◌, ◌+◌, ◌*◌, ◌^◌, All, length, IfOk, IfErr, OnOk};
-ghost use Rattle.shelf_core.specs.Files.{OnlyReads};
+ghost use Rattle.shelf_core.specs.Files.{OnlyReadsFile};
 ghost use Rattle.cells.specs.Places.{cell_count};
 ghost use Rattle.boxes.specs.Pairs.{pair_count};
 ghost use Rattle.file_bytes.specs.Reading.{Follows};
@@ -39,7 +39,7 @@ fn read_flow<S: Shelf>(file: &mut FileReader, shelf: &mut S, name: &str) -> Resu
     ensures answer { ReadsFrom ⊥ name.now file.old.at (S.state shelf.old) (S.state shelf.new)
         file.new flow_read result }
     ensures place { OnOk result (file.new.at ≡ file.old.at + 4) }
-    ensures reads { OnlyReads (S.state shelf.old) (S.state shelf.new) }
+    ensures reads { OnlyReadsFile name.now (S.state shelf.old) (S.state shelf.new) }
 {
     let at = file.place();
     let mut piece = [0; 4];
@@ -61,7 +61,7 @@ fn read_flows<S: Shelf>(
         (S.state shelf.new) file.new (list_read flow_read count) result }
     ensures count { IfOk result (λ flows. length flows ≡ count) }
     ensures place { OnOk result (file.new.at ≡ file.old.at + 4 * count) }
-    ensures reads { OnlyReads (S.state shelf.old) (S.state shelf.new) }
+    ensures reads { OnlyReadsFile name.now (S.state shelf.old) (S.state shelf.new) }
 {
     let mut flows = Vec::new(alloc);
     for i in 0..count {
@@ -116,7 +116,7 @@ fn read_cut<S: Shelf>(
         before + cell_count cut.placement.rect.size ≤ MOST_BOX_CELLS) }
     ensures place { IfOk result (λ cut.
         file.new.at ≤ file.old.at + 34 * cell_count cut.placement.rect.size) }
-    ensures reads { OnlyReads (S.state shelf.old) (S.state shelf.new) }
+    ensures reads { OnlyReadsFile name.now (S.state shelf.old) (S.state shelf.new) }
 {
     let corner = read_corner(file, shelf, name)?;
     let size = read_box_size(file, before, shelf, name)?;
@@ -148,7 +148,7 @@ pub(crate) fn read_cuts<S: Shelf>(
     ensures count { IfOk result (λ cuts. length cuts ≡ count) }
     ensures form { IfOk result (All (IsCutInForm samples.now)) }
     ensures cells { IfOk result (λ cuts. box_cells cuts ≤ MOST_BOX_CELLS) }
-    ensures reads { OnlyReads (S.state shelf.old) (S.state shelf.new) }
+    ensures reads { OnlyReadsFile name.now (S.state shelf.old) (S.state shelf.new) }
 {
     let mut cuts = Vec::new(alloc);
     let mut before = 0;

@@ -1,7 +1,7 @@
 // Whole record files.
 ghost use Rattle.std.specs.Prelude.{◌≡◌, ◌<◌, ◌+◌, ◌^◌, IfOk, OnOk, OnErr};
 ghost use Rattle.std.specs.Int.{w32};
-ghost use Rattle.shelf_core.specs.Files.{Changes, OnlyReads, OnlyWrites, WritesRose};
+ghost use Rattle.shelf_core.specs.Files.{Changes, OnlyReadsFile, OnlyWritesFile, WritesRose};
 ghost use Rattle.shelf_core.specs.Written.{HoldsPart, HoldsText};
 ghost use Rattle.file_bytes.specs.Reading.{Follows};
 ghost use Rattle.source_map.specs.Heads.{IsHead, IsKind};
@@ -79,7 +79,7 @@ pub fn write_cuts<S: Shelf>(
         (HoldsText name.now (cuts_form head.now cuts.now))) }
     ensures err { OnErr result (Changes (S.state shelf.old) (S.state shelf.new)
         (HoldsPart name.now (cuts_form head.now cuts.now))) }
-    ensures writes { OnlyWrites (S.state shelf.old) (S.state shelf.new) }
+    ensures writes { OnlyWritesFile name.now (S.state shelf.old) (S.state shelf.new) }
     ensures failed { OnErr result (WritesRose name.now (S.state shelf.old) (S.state shelf.new)) }
     ensures again { AreCutsInLimits head.now cuts.now →
         IsCertOf (cuts_form head.now cuts.now) (Cuts head.now cuts.now) }
@@ -102,7 +102,7 @@ pub(crate) fn read_count<S: Shelf>(
     ensures answer { ReadsFrom ⊥ name.now file.old.at (S.state shelf.old) (S.state shelf.new)
         file.new (number_read w32 any_rule) result }
     ensures place { OnOk result (file.new.at ≡ file.old.at + 4) }
-    ensures reads { OnlyReads (S.state shelf.old) (S.state shelf.new) }
+    ensures reads { OnlyReadsFile name.now (S.state shelf.old) (S.state shelf.new) }
 {
     let n = file.u32(shelf, name)?;
     Ok(n)
@@ -123,7 +123,7 @@ fn read_cuts_file<S: Shelf>(
         (S.state shelf.new) (cuts_file_read head) result }
     ensures form { IfOk result IsCert }
     ensures cuts { IfOk result AreCuts }
-    ensures reads { OnlyReads (S.state shelf.old) (S.state shelf.new) }
+    ensures reads { OnlyReadsFile name.now (S.state shelf.old) (S.state shelf.new) }
 {
     let count = read_count(file, shelf, name)?;
     let cuts = read_cuts(alloc, file, head.version, &head.samples, count, shelf, name)?;
@@ -147,7 +147,7 @@ fn read_records<S: Shelf>(
     ensures answer { ReadsToEnd (Unit {0}) name.now file.old.at (S.state shelf.old)
         (S.state shelf.new) (records_read kind head) result }
     ensures form { IfOk result IsCert }
-    ensures reads { OnlyReads (S.state shelf.old) (S.state shelf.new) }
+    ensures reads { OnlyReadsFile name.now (S.state shelf.old) (S.state shelf.new) }
 {
     if kind == CUTS {
         read_cuts_file(alloc, file, head, shelf, name)
@@ -170,7 +170,7 @@ fn read_records<S: Shelf>(
 pub fn read_cert<S: Shelf>(alloc: Global, shelf: &mut S, name: &str) -> Result<CertFile, ReadError>
     ensures answer { ReadsCert name.now (S.state shelf.old) (S.state shelf.new) result }
     ensures form { IfOk result IsCert }
-    ensures reads { OnlyReads (S.state shelf.old) (S.state shelf.new) }
+    ensures reads { OnlyReadsFile name.now (S.state shelf.old) (S.state shelf.new) }
 {
     let mut file = FileReader::new();
     let (head, kind) = read_head(&mut file, MAGIC, VERSIONS, KINDS, shelf, name)?;
@@ -188,7 +188,7 @@ pub fn read_version_one_cuts<S: Shelf>(
         (S.state shelf.old) (S.state shelf.new) result }
     ensures form { IfOk result IsCert }
     ensures cuts { IfOk result AreCuts }
-    ensures reads { OnlyReads (S.state shelf.old) (S.state shelf.new) }
+    ensures reads { OnlyReadsFile name.now (S.state shelf.old) (S.state shelf.new) }
 {
     let mut file = FileReader::new();
     let (head, _) = read_head(&mut file, MAGIC, 1, 1, shelf, name)?;

@@ -1,7 +1,7 @@
 // Lists of numbers, as they are read.
 ghost use Rattle.std.specs.Prelude.{◌≡◌, ◌<◌, ◌+◌, ◌*◌, ◌^◌, All, IfOk, OnOk, length};
 ghost use Rattle.std.specs.Int.{w16, w32, w64};
-ghost use Rattle.shelf_core.specs.Files.{OnlyReads};
+ghost use Rattle.shelf_core.specs.Files.{OnlyReadsFile};
 ghost use Rattle.file_bytes.specs.Reading.{Follows};
 ghost use Rattle.source_map.specs.Readings.{ReadsFrom, list_read, number_read};
 ghost use Rattle.cert_file.specs.Rules.{any_rule};
@@ -40,7 +40,7 @@ pub(crate) fn read_list_16<S: Shelf>(
         (S.state shelf.new) file.new (list_read (number_read w16 any_rule) count) result }
     ensures count { IfOk result (λ numbers. length numbers ≡ count) }
     ensures place { OnOk result (file.new.at ≡ file.old.at + 2 * count) }
-    ensures reads { OnlyReads (S.state shelf.old) (S.state shelf.new) }
+    ensures reads { OnlyReadsFile name.now (S.state shelf.old) (S.state shelf.new) }
 {
     let numbers = file.list_u16(alloc, count, shelf, name)?;
     fit_16(&numbers);
@@ -61,7 +61,7 @@ pub(crate) fn read_list_32<S: Shelf>(
         (S.state shelf.new) file.new (list_read (number_read w32 any_rule) count) result }
     ensures count { IfOk result (λ numbers. length numbers ≡ count) }
     ensures place { OnOk result (file.new.at ≡ file.old.at + 4 * count) }
-    ensures reads { OnlyReads (S.state shelf.old) (S.state shelf.new) }
+    ensures reads { OnlyReadsFile name.now (S.state shelf.old) (S.state shelf.new) }
 {
     let numbers = file.list_u32(alloc, count, shelf, name)?;
     fit_32(&numbers);
@@ -82,7 +82,7 @@ pub(crate) fn read_list_64<S: Shelf>(
         (S.state shelf.new) file.new (list_read (number_read w64 any_rule) count) result }
     ensures count { IfOk result (λ numbers. length numbers ≡ count) }
     ensures place { OnOk result (file.new.at ≡ file.old.at + 8 * count) }
-    ensures reads { OnlyReads (S.state shelf.old) (S.state shelf.new) }
+    ensures reads { OnlyReadsFile name.now (S.state shelf.old) (S.state shelf.new) }
 {
     let numbers = file.list_u64(alloc, count, shelf, name)?;
     fit_64(&numbers);

@@ -1,7 +1,7 @@
 // The fields of a walk record, as they are read.
 ghost use Rattle.std.specs.Prelude.{◌≡◌, ◌≤◌, ◌<◌, ◌+◌, ◌^◌, IfOk, IfErr, OnOk};
 ghost use Rattle.std.specs.Int.{w8, w16, w32};
-ghost use Rattle.shelf_core.specs.Files.{OnlyReads};
+ghost use Rattle.shelf_core.specs.Files.{OnlyReadsFile};
 ghost use Rattle.file_bytes.specs.Reading.{Follows};
 ghost use Rattle.source_map.specs.Readings.{IsRefusal, ReadsFrom, number_read};
 ghost use Rattle.cert_file.specs.WalkReading.{IsStart, frames_rule, gap_rule, length_rule, taps_rule, walk_start_read};
@@ -98,7 +98,7 @@ fn read_length<S: Shelf>(file: &mut FileReader, shelf: &mut S, name: &str) -> Re
         file.new (number_read w32 length_rule) result }
     ensures within { IfOk result (λ n. (1 ≤ n) × (n ≤ GREATEST_LENGTH)) }
     ensures place { OnOk result (file.new.at ≡ file.old.at + 4) }
-    ensures reads { OnlyReads (S.state shelf.old) (S.state shelf.new) }
+    ensures reads { OnlyReadsFile name.now (S.state shelf.old) (S.state shelf.new) }
 {
     let at = file.place();
     let n = file.u32(shelf, name)?;
@@ -112,7 +112,7 @@ fn read_taps<S: Shelf>(file: &mut FileReader, shelf: &mut S, name: &str) -> Resu
     ensures answer { ReadsFrom ⊥ name.now file.old.at (S.state shelf.old) (S.state shelf.new)
         file.new (number_read w8 taps_rule) result }
     ensures place { OnOk result (file.new.at ≡ file.old.at + 1) }
-    ensures reads { OnlyReads (S.state shelf.old) (S.state shelf.new) }
+    ensures reads { OnlyReadsFile name.now (S.state shelf.old) (S.state shelf.new) }
 {
     let at = file.place();
     let n = file.u8(shelf, name)?;
@@ -127,7 +127,7 @@ fn read_gap<S: Shelf>(file: &mut FileReader, shelf: &mut S, name: &str) -> Resul
         file.new (number_read w16 gap_rule) result }
     ensures within { IfOk result (λ n. (1 ≤ n) × (n ≤ GREATEST_GAP)) }
     ensures place { OnOk result (file.new.at ≡ file.old.at + 2) }
-    ensures reads { OnlyReads (S.state shelf.old) (S.state shelf.new) }
+    ensures reads { OnlyReadsFile name.now (S.state shelf.old) (S.state shelf.new) }
 {
     let at = file.place();
     let n = file.u16(shelf, name)?;
@@ -146,7 +146,7 @@ pub(crate) fn read_walk_start<S: Shelf>(
         file.new walk_start_read result }
     ensures within { IfOk result IsStart }
     ensures place { OnOk result (file.new.at ≡ file.old.at + 7) }
-    ensures reads { OnlyReads (S.state shelf.old) (S.state shelf.new) }
+    ensures reads { OnlyReadsFile name.now (S.state shelf.old) (S.state shelf.new) }
 {
     let length = read_length(file, shelf, name)?;
     let taps = read_taps(file, shelf, name)?;

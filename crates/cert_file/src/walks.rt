@@ -1,6 +1,6 @@
 // Files of a walk record.
 ghost use Rattle.std.specs.Prelude.{◌≡◌, ◌≤◌, ◌<◌, ◌*◌, ◌^◌, IfOk, OnErr, OnOk, length};
-ghost use Rattle.shelf_core.specs.Files.{Changes, OnlyReads, OnlyWrites, WritesRose};
+ghost use Rattle.shelf_core.specs.Files.{Changes, OnlyReadsFile, OnlyWritesFile, WritesRose};
 ghost use Rattle.shelf_core.specs.Written.{HoldsPart, HoldsText};
 ghost use Rattle.file_bytes.specs.Reading.{Follows};
 ghost use Rattle.file_bytes.specs.Writing.{Puts};
@@ -90,7 +90,7 @@ pub fn write_walk<S: Shelf>(
         (HoldsText name.now (walk_file_form head.now taps gap walk.now tables.now))) }
     ensures err { OnErr result (Changes (S.state shelf.old) (S.state shelf.new)
         (HoldsPart name.now (walk_file_form head.now taps gap walk.now tables.now))) }
-    ensures writes { OnlyWrites (S.state shelf.old) (S.state shelf.new) }
+    ensures writes { OnlyWritesFile name.now (S.state shelf.old) (S.state shelf.new) }
     ensures failed { OnErr result (WritesRose name.now (S.state shelf.old) (S.state shelf.new)) }
     ensures again { IsCertOf (walk_file_form head.now taps gap walk.now tables.now)
         (Walk head.now taps gap walk.now tables.now) }
@@ -133,7 +133,7 @@ pub(crate) fn read_walk_file<S: Shelf>(
     ensures answer { ReadsToEnd (Unit {0}) name.now file.old.at (S.state shelf.old)
         (S.state shelf.new) (walk_file_read head) result }
     ensures form { IfOk result IsCert }
-    ensures reads { OnlyReads (S.state shelf.old) (S.state shelf.new) }
+    ensures reads { OnlyReadsFile name.now (S.state shelf.old) (S.state shelf.new) }
 {
     let n = sample_frames(&head);
     lawful_frames(n)?;

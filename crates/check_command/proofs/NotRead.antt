@@ -38,14 +38,14 @@ map_fails name a b ReadMemory left = tt
 map_fails name a b (Bad why) left = left
 map_fails name a b (ReadLimit what number bound) left = left
 
-pub cert_fails : (name : List ℕ) (a b : ShelfState) → OnlyReads a b → (error : ReadError) → ReadsCert name a b (Err error) → FailsToRead RefusesCert name a b error
+pub cert_fails : {names : List (List ℕ)} (name : List ℕ) (a b : ShelfState) → OnlyReads names a b → (error : ReadError) → ReadsCert name a b (Err error) → FailsToRead RefusesCert name a b error
 cert_fails name a b reads ReadFault left = left
 cert_fails name a b reads ReadMemory left = tt
 cert_fails name a b reads (Bad why) left = of_file (λ bytes. RefusesCert bytes (Bad why)) name a.files b.files reads.files left
 cert_fails name a b reads (ReadLimit what number bound) left = of_file (λ bytes. RefusesCert bytes (ReadLimit what number bound)) name a.files b.files reads.files left
 
 -- a reader that fails later fails
-fails_later : (Refuses : List ℕ → ReadError → Type 0) (name : List ℕ) (a b c : ShelfState) → OnlyReads a b → (error : ReadError) → FailsToRead Refuses name b c error → FailsToRead Refuses name a c error
+fails_later : {names : List (List ℕ)} (Refuses : List ℕ → ReadError → Type 0) (name : List ℕ) (a b c : ShelfState) → OnlyReads names a b → (error : ReadError) → FailsToRead Refuses name b c error → FailsToRead Refuses name a c error
 fails_later Refuses name a b c reads ReadFault left = fault_later name a b c reads left
 fails_later Refuses name a b c reads ReadMemory left = tt
 fails_later Refuses name a b c reads (Bad why) left = sees_later (λ files. Refuses (content_of files name) (Bad why)) a b c reads left
@@ -105,14 +105,14 @@ module _ (job : CheckJob) where
   pub seen_samples : (samples : Samples) (a b : ShelfState) → Sees a b (λ files. StandForSamples (content_of files job.names.sample) (contents files job.names.more) samples) → Sees a b (HaveSamples job.names)
   seen_samples samples a b seen = sees_weaker (λ files. StandForSamples (content_of files job.names.sample) (contents files job.names.more) samples) (HaveSamples job.names) a b (λ files stand. (samples, stand)) seen
 
-  pub seen_out : (out : Sample) (a b c : ShelfState) → OnlyReads a b → OnlyReads b c → Sees a b (HaveSamples job.names) → InFile job.names.out b c (λ bytes. IsOut bytes out) → Sees a c (HaveOut job.names)
+  pub seen_out : {names : List (List ℕ)} (out : Sample) (a b c : ShelfState) → OnlyReads names a b → OnlyReads names b c → Sees a b (HaveSamples job.names) → InFile job.names.out b c (λ bytes. IsOut bytes out) → Sees a c (HaveOut job.names)
   seen_out out a b c first second have is = sees_then (HaveSamples job.names) (λ files. IsOut (content_of files job.names.out) out) (HaveOut job.names) a b c (λ files s o. (s, (out, o))) first second have is
 
-  pub seen_map : (m : MapFile) (a b c : ShelfState) → OnlyReads a b → OnlyReads b c → Sees a b (HaveOut job.names) → InFile job.names.map b c (λ bytes. IsReadMap bytes m) → Sees a c (HaveMap job.names)
+  pub seen_map : {names : List (List ℕ)} (m : MapFile) (a b c : ShelfState) → OnlyReads names a b → OnlyReads names b c → Sees a b (HaveOut job.names) → InFile job.names.map b c (λ bytes. IsReadMap bytes m) → Sees a c (HaveMap job.names)
   seen_map m a b c first second have is = sees_then (HaveOut job.names) (λ files. IsReadMap (content_of files job.names.map) m) (HaveMap job.names) a b c (λ files o n. (o, (m, n))) first second have is
 
   -- a file behind the samples isn't read, once what stands before it is in its form
-  module _ (a b c : ShelfState) (reads : OnlyReads a b) (fault : Fault) where
+  module _ {names : List (List ℕ)} (a b c : ShelfState) (reads : OnlyReads names a b) (fault : Fault) where
     pub out_not_read : Sees a c (HaveSamples job.names) → IsNotRead RefusesOutBytes part.Out job.names.out b c fault → NotMade (check_command job) a c fault
     out_not_read seen r = subst (NotMade (check_command job) a c) (sym r.is)
         (not_read (check_command job) a c (length job.names.more + 1) part.Out job.names.out (out_turn job) RefusesOutBytes (HaveSamples job.names) (λ why. tt) (λ what number bound. tt)

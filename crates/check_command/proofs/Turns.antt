@@ -1,10 +1,13 @@
 -- The turns of the files that are read: those of the samples, and then those of the others.
-use Rattle.std.proofs.Common.{◌≡◌, ℕ, zero, suc, ◌+◌, List, [], ◌∷◌, ◌++◌, length, ap, ◌∙◌, arith}
+use Rattle.std.proofs.Common.{◌≡◌, ℕ, zero, suc, ◌+◌, List, [], ◌∷◌, ◌++◌, length, ap, ◌∙◌, subst, arith}
 use Rattle.std.specs.Prelude.{Some, slice_get}
+use Rattle.shelf_core.specs.Files.{ShelfState, OnlyReads, OnlyReadsFile}
+use Rattle.shelf_core.proofs.FileLaws.{only_reads_of_more}
 use Rattle.job_words.specs.declared.check.CheckJob.{CheckJob}
 use Rattle.synth_report.specs.declared.fault.FileOf.{FileOf}
 use Rattle.synth_report.specs.declared.fault.FileOf.TheVariants as part
-use Rattle.command.specs.Commands.{HasTurn, NamedFile, named}
+use Rattle.command.specs.Commands.{HasTurn, NamedFile, named, names_in}
+use Rattle.command.proofs.Asking.{turn_among, turns_among}
 use Rattle.sample_files.specs.Several.{sample_files}
 use Rattle.sample_files.proofs.Commands.{length-numbered}
 use Rattle.check_command.specs.Checks.{check_command}
@@ -41,3 +44,17 @@ module _ (job : CheckJob) where
 
   pub cert_turn : HasTurn (check_command job).reads (length job.names.more + 3) part.Cert job.names.cert
   cert_turn = at 2 (length job.names.more + 3) (omega arith)
+
+  -- what asks for one of the files asks for no other than them
+  pub of_samples : {more : List (List ℕ)} → more ≡ job.names.more → (a b : ShelfState) → OnlyReads (names_in (sample_files job.names.sample more)) a b → OnlyReads (names_in (check_command job).reads) a b
+  of_samples is a b reads =
+      only_reads_of_more a b (turns_among first (check_command job).reads sample_turn) (subst (λ more. OnlyReads (names_in (sample_files job.names.sample more)) a b) is reads)
+
+  pub of_out : (a b : ShelfState) → OnlyReadsFile job.names.out a b → OnlyReads (names_in (check_command job).reads) a b
+  of_out a b reads = only_reads_of_more a b (turn_among (check_command job).reads (length job.names.more + 1) part.Out job.names.out out_turn) reads
+
+  pub of_map : (a b : ShelfState) → OnlyReadsFile job.names.map a b → OnlyReads (names_in (check_command job).reads) a b
+  of_map a b reads = only_reads_of_more a b (turn_among (check_command job).reads (length job.names.more + 2) part.Map job.names.map map_turn) reads
+
+  pub of_cert : (a b : ShelfState) → OnlyReadsFile job.names.cert a b → OnlyReads (names_in (check_command job).reads) a b
+  of_cert a b reads = only_reads_of_more a b (turn_among (check_command job).reads (length job.names.more + 3) part.Cert job.names.cert cert_turn) reads

@@ -1,6 +1,7 @@
 // The verdict on the files of a run, as a command.
 ghost use Rattle.std.specs.Prelude.{◌≡◌, []};
 ghost use Rattle.shelf_core.specs.Files.{OnlyReads};
+ghost use Rattle.command.specs.Commands.{names_in};
 ghost use Rattle.command.specs.Outcomes.{Leaves, Plans};
 ghost use Rattle.check_command.specs.Checks.{check_command, summary_of};
 
@@ -16,7 +17,8 @@ use synth_report::{Fault, Summary};
 fn plan<S: Shelf>(alloc: Global, job: &CheckJob, shelf: &mut S) -> Result<Verdict, Fault>
     ensures planned { Plans (check_command job.now) (λ verdict. []) summary_of
         (S.state shelf.old) (S.state shelf.new) result }
-    ensures reads { OnlyReads (S.state shelf.old) (S.state shelf.new) }
+    ensures reads { OnlyReads (names_in (check_command job.now).reads)
+        (S.state shelf.old) (S.state shelf.new) }
 {
     let files = match read_files(alloc, job, shelf) {
         Ok(files) => files,

@@ -1,9 +1,10 @@
 // The files of a run, read in their order.
 ghost use Rattle.std.specs.Prelude.{IfOk, IfErr};
-ghost use Rattle.shelf_core.specs.Files.{Changes, OnlyReads};
+ghost use Rattle.shelf_core.specs.Files.{Changes, OnlyReads, OnlyReadsFile};
 ghost use Rattle.cert_file.specs.RecordFiles.{IsCert, IsCertOf, RefusesCert};
 ghost use Rattle.sample_files.specs.Several.{AreSoundSamples};
 ghost use Rattle.synth_report.specs.declared.fault.FileOf.TheVariants as part;
+ghost use Rattle.command.specs.Commands.{names_in};
 ghost use Rattle.command.specs.Outcomes.{NotMade};
 ghost use Rattle.check_command.specs.Checks.{AreRunFiles, IsReadMap, IsOut, RefusesMap, RefusesOutBytes, check_command};
 ghost use Rattle.check_command.specs.Readings.{ReadsPart};
@@ -35,7 +36,7 @@ pub struct ReadFiles {
 fn read_out<S: Shelf>(alloc: Global, shelf: &mut S, name: &Name) -> Result<Sample, Fault>
     ensures answer { ReadsPart IsOut RefusesOutBytes part.Out name.now
         (S.state shelf.old) (S.state shelf.new) result }
-    ensures reads { OnlyReads (S.state shelf.old) (S.state shelf.new) }
+    ensures reads { OnlyReadsFile name.now (S.state shelf.old) (S.state shelf.new) }
 {
     match read_sample_within(alloc, shelf, name.as_text(), MOST_OUT_CELLS) {
         Ok(out) => Ok(out),
@@ -47,7 +48,7 @@ fn read_out<S: Shelf>(alloc: Global, shelf: &mut S, name: &Name) -> Result<Sampl
 fn read_map_file<S: Shelf>(alloc: Global, shelf: &mut S, name: &Name) -> Result<MapFile, Fault>
     ensures answer { ReadsPart IsReadMap RefusesMap part.Map name.now
         (S.state shelf.old) (S.state shelf.new) result }
-    ensures reads { OnlyReads (S.state shelf.old) (S.state shelf.new) }
+    ensures reads { OnlyReadsFile name.now (S.state shelf.old) (S.state shelf.new) }
 {
     match read_map(alloc, shelf, name.as_text()) {
         Ok(map) => Ok(map),
@@ -60,7 +61,7 @@ fn read_record<S: Shelf>(alloc: Global, shelf: &mut S, name: &Name) -> Result<Ce
     ensures answer { ReadsPart IsCertOf RefusesCert part.Cert name.now
         (S.state shelf.old) (S.state shelf.new) result }
     ensures form { IfOk result IsCert }
-    ensures reads { OnlyReads (S.state shelf.old) (S.state shelf.new) }
+    ensures reads { OnlyReadsFile name.now (S.state shelf.old) (S.state shelf.new) }
 {
     match read_cert(alloc, shelf, name.as_text()) {
         Ok(cert) => Ok(cert),
@@ -80,7 +81,8 @@ pub(crate) fn read_files<S: Shelf>(
         (NotMade (check_command job.now) (S.state shelf.old) (S.state shelf.new)) }
     ensures sound { IfOk result (λ values. AreSoundSamples values.samples) }
     ensures form { IfOk result (λ values. IsCert values.cert) }
-    ensures reads { OnlyReads (S.state shelf.old) (S.state shelf.new) }
+    ensures reads { OnlyReads (names_in (check_command job.now).reads)
+        (S.state shelf.old) (S.state shelf.new) }
 {
     let names = &job.names;
     let samples = match read_samples(alloc, shelf, &names.sample, names.more.as_slice()) {

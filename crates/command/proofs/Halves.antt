@@ -1,9 +1,9 @@
 -- A command in two halves: what it reads and computes, and the writing of what it made.
 use Rattle.std.proofs.Common.{◌≡◌, ℕ, suc, ◌⊎◌, inl, inr, List, ap, sym, ◌∙◌, subst}
 use Rattle.std.specs.Prelude.{Result, Ok, Err}
-use Rattle.shelf_core.specs.Files.{Files, ShelfState, SinkState, OnlyReads, Changes, Rose, content_of}
+use Rattle.shelf_core.specs.Files.{Files, ShelfState, SinkState, OnlyReads, OnlyWrites, Changes, Rose, content_of}
 use Rattle.shelf_core.specs.Written.{Untouched, StoppedAt, written}
-use Rattle.shelf_core.proofs.FileLaws.{told_same, told_then, told_weaker}
+use Rattle.shelf_core.proofs.FileLaws.{AreAmong, among_left, among_right, asks_of_more, asks_then, told_same, told_then, told_weaker}
 use Rattle.shelf_core.proofs.Sees.{Sees, sees_both, sees_weaker}
 use Rattle.shelf_core.specs.declared.fault.FormFault.{FormFault}
 use Rattle.shelf_core.specs.declared.fault.What.{What}
@@ -13,10 +13,10 @@ use Rattle.synth_report.specs.declared.fault.FileOf.{FileOf}
 use Rattle.synth_report.specs.declared.fault.Fault.{Fault}
 use Rattle.synth_report.specs.declared.fault.Fault.TheVariants.{Words, Form, Unlike, Mark, Limit, Read, Write, NoMemory, NoLoop}
 use Rattle.synth_report.specs.declared.summary.Summary.{Summary}
-use Rattle.command.specs.Commands.{Command, HasTurn}
+use Rattle.command.specs.Commands.{Command, HasTurn, names_in, names_of}
 use Rattle.command.specs.Faults.{FailsToRead, fault_of_read}
-use Rattle.command.specs.Writing.{FileText, HoldAll, IsSilent, StopsReporting, StopsWriting, WritesRun, files_in, pieces, pieces_of, texts_in}
-use Rattle.command.specs.Outcomes.{IsPlanned, IsStopped, Leaves, NoneRefused, NotMade, WritesAll, WritesUpTo}
+use Rattle.command.specs.Writing.{FileText, HoldAll, IsSilent, StopsReporting, StopsWriting, WritesRun, files_in, pieces, pieces_of, text_names, texts_in}
+use Rattle.command.specs.Outcomes.{Ends, IsPlanned, IsStopped, Leaves, NoneRefused, NotMade, WritesAll, WritesUpTo}
 
 -- The first half fails.
 
@@ -42,10 +42,13 @@ module _ (c : Command) (a b : ShelfState) where
   }
 
   -- so it is the answer of the command
-  pub not_planned : OnlyReads a b → (out : SinkState) (fault : Fault) → NotMade c a b fault → Leaves c a b out out (Err fault)
-  not_planned reads out fault left = by fault left (record { files = reads.files; added = told_same out.bytes })
+  pub not_planned : OnlyReads (names_in c.reads) a b → (out : SinkState) (fault : Fault) → NotMade c a b fault → Leaves c a b out out (Err fault)
+  not_planned reads out fault left = record {
+    ends = by fault left (record { files = reads.files; added = told_same out.bytes });
+    asked = asks_of_more (names_in c.reads) (names_of c) a b (among_left (names_in c.reads) (names_in c.writes)) reads.asked;
+  }
     where
-      by : (fault : Fault) → NotMade c a b fault → Untouched a b out out → Leaves c a b out out (Err fault)
+      by : (fault : Fault) → NotMade c a b fault → Untouched a b out out → Ends c a b out out (Err fault)
       by (Read part) left same = (same, left)
       by NoMemory left same = (same, left)
       by (Form part why) left same = (same, left)
@@ -58,7 +61,8 @@ module _ (c : Command) (a b : ShelfState) where
 
 -- What it made is written.
 
-module _ (c : Command) (files : List FileText) (summary : Summary) (a b d : ShelfState) (out out' : SinkState) (reads : OnlyReads a b) (made : IsPlanned c files summary a b) where
+module _ (c : Command) (files : List FileText) (summary : Summary) (a b d : ShelfState) (out out' : SinkState)
+    (reads : OnlyReads (names_in c.reads) a b) (made : IsPlanned c files summary a b) (writes : OnlyWrites (text_names files) b d) where
   abbrev Made : Files → Files → Type 0
   Made before after = (after ≡ before) × c.Makes before (texts_in files) summary
 
@@ -83,19 +87,28 @@ module _ (c : Command) (files : List FileText) (summary : Summary) (a b d : Shel
     silent = silent;
   }
 
-  unwritten : (part : FileOf) → StopsReporting files summary part b d out out' ⊎ (StopsWriting files part b d × IsSilent out out') → Leaves c a d out out' (Err (Write part))
+  unwritten : (part : FileOf) → StopsReporting files summary part b d out out' ⊎ (StopsWriting files part b d × IsSilent out out') → Ends c a d out out' (Err (Write part))
   unwritten part (inl left) = inl (record { is = left.is; summary = summary; known = made.known; files = wrote_all left.whole; told = left.told; rose = left.rose })
   unwritten part (inr left) = inr (stopped part left.0 left.1)
 
+  ended : (answer : Result Summary Fault) → WritesRun files summary b d out out' answer → Ends c a d out out' answer
+  ended (Ok done) left = subst (λ s. Ends c a d out out' (Ok s)) (sym left.0) (record { known = made.known; files = wrote_all left.1; told = left.2 })
+  ended (Err (Write part)) left = unwritten part left
+  ended (Err (Read part)) left = absurd left
+  ended (Err NoMemory) left = absurd left
+  ended (Err (Form part why)) left = absurd left
+  ended (Err (Unlike part)) left = absurd left
+  ended (Err (Mark index)) left = absurd left
+  ended (Err (Limit what number bound)) left = absurd left
+  ended (Err (NoLoop length)) left = absurd left
+  ended (Err (Words fault)) left = absurd left
+
+  own_names : AreAmong (text_names files) (names_of c)
+  own_names = subst (λ named. AreAmong (names_in named) (names_of c)) (sym made.named) (among_right (names_in c.reads) (names_in c.writes))
+
   -- so it is what the command leaves
   pub planned : (answer : Result Summary Fault) → WritesRun files summary b d out out' answer → Leaves c a d out out' answer
-  planned (Ok done) left = subst (λ s. Leaves c a d out out' (Ok s)) (sym left.0) (record { known = made.known; files = wrote_all left.1; told = left.2 })
-  planned (Err (Write part)) left = unwritten part left
-  planned (Err (Read part)) left = absurd left
-  planned (Err NoMemory) left = absurd left
-  planned (Err (Form part why)) left = absurd left
-  planned (Err (Unlike part)) left = absurd left
-  planned (Err (Mark index)) left = absurd left
-  planned (Err (Limit what number bound)) left = absurd left
-  planned (Err (NoLoop length)) left = absurd left
-  planned (Err (Words fault)) left = absurd left
+  planned answer wrote = record {
+    ends = ended answer wrote;
+    asked = asks_then (names_of c) a b d (asks_of_more (names_in c.reads) (names_of c) a b (among_left (names_in c.reads) (names_in c.writes)) reads.asked) (asks_of_more (text_names files) (names_of c) b d own_names writes.asked);
+  }

@@ -1,4 +1,5 @@
 pub mod WritingLaws
+pub mod Asking
 pub mod Halves
 pub mod Views
 pub mod Promising

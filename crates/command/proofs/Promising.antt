@@ -2,9 +2,9 @@
 use Rattle.std.proofs.Common.{◌≡◌, ◌≢◌, ℕ, zero, suc, ◌≤◌, ◌⊎◌, inl, inr, List, [], ◌∷◌, drop, take, ap, sym, ◌∙◌, subst, refl, arith}
 use Rattle.std.specs.Prelude.{Result, Ok, Err, Option, Some, None, slice_get}
 use Rattle.std.specs.FinMap.{get, insert}
-use Rattle.shelf_core.specs.Files.{Files, ShelfState, SinkState, Changes, Told, Rose}
+use Rattle.shelf_core.specs.Files.{Files, ShelfState, SinkState, AsksOnly, Changes, Told, Rose}
 use Rattle.shelf_core.specs.Written.{HoldsPart, Says, StoppedAt, Untouched, written}
-use Rattle.shelf_core.proofs.FileLaws.{get_beside, told_weaker}
+use Rattle.shelf_core.proofs.FileLaws.{among_none, asks_of_more, get_beside, told_weaker}
 use Rattle.job_words.specs.declared.job.Job.{Job}
 use Rattle.job_words.specs.declared.job.WordFault.{WordFault}
 use Rattle.job_words.specs.declared.job.WordFault.TheVariants as word
@@ -14,10 +14,10 @@ use Rattle.synth_report.specs.declared.fault.Fault.{Fault}
 use Rattle.synth_report.specs.declared.fault.Fault.TheVariants.{Words, Read, Write, NoMemory}
 use Rattle.synth_report.specs.declared.summary.Summary.{Summary}
 use Rattle.synth_report.specs.Texts.{fault_line, status_of, summary_status, words_status}
-use Rattle.command.specs.Commands.{Command, HasOneAnswer, HasTurn, NamedFile}
+use Rattle.command.specs.Commands.{Command, HasOneAnswer, HasTurn, NamedFile, names_of}
 use Rattle.command.specs.Writing.{pieces}
 use Rattle.command.specs.Outcomes.{AreRefused, Commands, IsFinished, IsStopped, IsUnread, IsUnreported, RefusesWords, Runs, RunsJob, SaysAnswer, WritesAll, WritesUpTo, answer_status}
-use Rattle.command.specs.Promises.{Asks, DoneStatus, HasDone, HasFailedToRead, HasFailedToWrite, HasRefused, IsComplete, IsNotWritten, IsRunStatus, KeepsFiles, KeepsOthers, MemoryStatus, NoneRose, ReadStatus, RefusedStatus, TellsFiles, WordsStatus, WriteStatus}
+use Rattle.command.specs.Promises.{Asks, DoneStatus, HasDone, HasFailedToRead, HasFailedToWrite, HasRefused, IsComplete, IsNotWritten, IsRunStatus, KeepsFiles, KeepsOthers, MemoryStatus, NamedFiles, NoneRose, ReadStatus, RefusedStatus, TellsFiles, WordsStatus, WriteStatus}
 use Rattle.command.proofs.Views.{IsRefusal, View, done_or_failed, refusal_number, told_at, two_or_seven, viewed, words_two}
 use Rattle.command.proofs.Views.View.{done, refused, unread, unwritten, out_of_memory}
 
@@ -376,3 +376,14 @@ module _ (commands : Commands) (one : (job : Job) → IsJob job → HasOneAnswer
       by : RefusesWords words was now out out' ran.answer ⊎ RunsJob commands words was now out out' ran.answer → Changes was now (λ before after. get after name ≡ get before name)
       by (inl left) = untouched_stay (commands job) was now out out' name others left.untouched
       by (inr left) = others_stay (commands job) was now out out' name others ran.answer (as_asked ran.answer left job asks).0
+
+  pub named_promise : Runs commands words was now out out' err err' status → NamedFiles commands words was now
+  named_promise ran = record { of_job = λ job asks. of_job ran.left job asks; of_none = λ fault refuses. of_none ran.left fault refuses }
+    where
+      of_job : RefusesWords words was now out out' ran.answer ⊎ RunsJob commands words was now out out' ran.answer → (job : Job) → Asks words job → AsksOnly (names_of (commands job)) was now
+      of_job (inl left) job asks = asks_of_more [] (names_of (commands job)) was now (among_none (names_of (commands job))) left.unasked
+      of_job (inr left) job asks = subst (λ j. AsksOnly (names_of (commands j)) was now) (one_ok (job_of words) left.job job left.asked asks) left.left.asked
+
+      of_none : RefusesWords words was now out out' ran.answer ⊎ RunsJob commands words was now out out' ran.answer → (fault : WordFault) → job_of words ≡ Err fault → AsksOnly [] was now
+      of_none (inl left) fault refuses = left.unasked
+      of_none (inr left) fault refuses = absurd (ok_is (job_of words) left.job fault left.asked refuses)

@@ -14,7 +14,7 @@ use Rattle.synth_report.specs.declared.summary.Summary.{Summary}
 use Rattle.synth_report.specs.declared.summary.Summary.TheVariants.{Grow, Quilt, Loop, Stands, Fails, Trial, Upgrade, Transfer, Merge, Tile}
 use Rattle.synth_report.specs.Texts.{status_of, summary_status, words_status}
 use Rattle.command.specs.Commands.{Command}
-use Rattle.command.specs.Outcomes.{AreRefused, IsFinished, IsStopped, IsUnread, IsUnreported, Leaves}
+use Rattle.command.specs.Outcomes.{AreRefused, IsFinished, IsStopped, IsUnread, IsUnreported, Ends, Leaves}
 
 -- a status of refusals: 3, 4 or 8
 pub record IsRefusal (status : ℕ) : Type 0 where
@@ -45,17 +45,20 @@ module _ (c : Command) (was now : ShelfState) (out out' : SinkState) where
   refusal : (fault : Fault) → IsRefusal (status_of fault) → Untouched was now out out' × AreRefused c fault was now → View c was now out out' (Err fault)
   refusal fault is left = refused fault is left.0 left.1
 
+  ended : (answer : Result Summary Fault) → Ends c was now out out' answer → View c was now out out' answer
+  ended (Ok summary) left = done summary left
+  ended (Err (Write part)) left = unwritten part left
+  ended (Err (Read part)) left = unread part left.0 left.1
+  ended (Err NoMemory) left = out_of_memory left.0
+  ended (Err (Words fault)) left = absurd left.1
+  ended (Err (Form part why)) left = refusal (Form part why) form_number left
+  ended (Err (Unlike part)) left = refusal (Unlike part) form_number left
+  ended (Err (Mark index)) left = refusal (Mark index) form_number left
+  ended (Err (Limit what number bound)) left = refusal (Limit what number bound) limit_number left
+  ended (Err (NoLoop length)) left = refusal (NoLoop length) loop_number left
+
   pub viewed : (answer : Result Summary Fault) → Leaves c was now out out' answer → View c was now out out' answer
-  viewed (Ok summary) left = done summary left
-  viewed (Err (Write part)) left = unwritten part left
-  viewed (Err (Read part)) left = unread part left.0 left.1
-  viewed (Err NoMemory) left = out_of_memory left.0
-  viewed (Err (Words fault)) left = absurd left.1
-  viewed (Err (Form part why)) left = refusal (Form part why) form_number left
-  viewed (Err (Unlike part)) left = refusal (Unlike part) form_number left
-  viewed (Err (Mark index)) left = refusal (Mark index) form_number left
-  viewed (Err (Limit what number bound)) left = refusal (Limit what number bound) limit_number left
-  viewed (Err (NoLoop length)) left = refusal (NoLoop length) loop_number left
+  viewed answer left = ended answer left.ends
 
 -- a status of refusals is one of the three
 pub refusal_number : (status : ℕ) → IsRefusal status → (status ≡ 3) ⊎ (status ≡ 4) ⊎ (status ≡ 8)

@@ -64,7 +64,7 @@ module _ (first second : List FileText) (part : FileOf) (a b c : ShelfState) whe
     rose = s.rose;
   }
 
-  pub stops_second : OnlyWrites a b → HoldAll first a b → StopsWriting second part b c → StopsWriting (first ++ second) part a c
+  pub stops_second : {names : List (List ℕ)} → OnlyWrites names a b → HoldAll first a b → StopsWriting second part b c → StopsWriting (first ++ second) part a c
   stops_second writes whole s = record {
     turn = turn_after first s.turn;
     name = s.name;
@@ -76,7 +76,7 @@ module _ (first second : List FileText) (part : FileOf) (a b c : ShelfState) whe
   }
 
 -- how the writing of both groups ends, by the end of the second
-pub both_written : (first second : List FileText) (a b c : ShelfState) (result : Result (Unit {0}) FileOf) → OnlyWrites a b → HoldAll first a b → WritesFiles second b c result → WritesFiles (first ++ second) a c result
+pub both_written : {names : List (List ℕ)} (first second : List FileText) (a b c : ShelfState) (result : Result (Unit {0}) FileOf) → OnlyWrites names a b → HoldAll first a b → WritesFiles second b c result → WritesFiles (first ++ second) a c result
 both_written first second a b c (Ok done) writes whole wrote = hold_both first second a b c whole wrote
 both_written first second a b c (Err part) writes whole wrote = stops_second first second part a b c writes whole wrote
 

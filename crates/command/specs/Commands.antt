@@ -1,6 +1,6 @@
 -- What a command is for the promises of a run: the files that it reads and writes, what it refuses
 -- and what it makes of them. To be trusted: contracts cite these words. (Own.)
-use Rattle.std.specs.Prelude.{◌≡◌, ℕ, List, slice_get, Some}
+use Rattle.std.specs.Prelude.{◌≡◌, ◌++◌, ℕ, List, map, slice_get, Some}
 use Rattle.shelf_core.specs.Files.{Files}
 use Rattle.synth_report.specs.declared.fault.FileOf.{FileOf}
 use Rattle.synth_report.specs.declared.fault.Fault.{Fault}
@@ -14,6 +14,9 @@ pub record NamedFile : Type 0 where
 
 abbrev pub named : FileOf → List ℕ → NamedFile
 named part name = record { part = part; name = name }
+
+abbrev pub names_in : List NamedFile → List (List ℕ)
+names_in files = map (λ (file : NamedFile). file.name) files
 
 -- the file whose turn it is, counted from 0
 abbrev pub HasTurn : List NamedFile → ℕ → FileOf → List ℕ → Type 0
@@ -33,6 +36,10 @@ pub record Command : Type 1 where
   -- the faults that it ever refuses for, and the summaries that it ever makes
   pub MayRefuse : Fault → Type 0
   pub MayMake : Summary → Type 0
+
+-- the names of all its files
+abbrev pub names_of : Command → List (List ℕ)
+names_of c = names_in c.reads ++ names_in c.writes
 
 -- a command has one answer to files: it refuses them, for one fault, or it makes something of them,
 -- and whether they fail is decided; those that it can work on it doesn't refuse

@@ -1,7 +1,7 @@
 -- What a run leaves, by its answer: for any command, one line for each answer. To be trusted:
 -- contracts cite these words. (Own.)
-use Rattle.std.specs.Prelude.{◌≡◌, ◌≤◌, ◌⊎◌, ℕ, List, map, Result, Ok, Err}
-use Rattle.shelf_core.specs.Files.{Files, ShelfState, SinkState, Changes, Rose}
+use Rattle.std.specs.Prelude.{◌≡◌, ◌≤◌, ◌⊎◌, ℕ, List, [], map, Result, Ok, Err}
+use Rattle.shelf_core.specs.Files.{Files, ShelfState, SinkState, AsksOnly, Changes, Rose}
 use Rattle.shelf_core.specs.Written.{written, StoppedAt, Untouched, Says}
 use Rattle.job_words.specs.declared.job.Job.{Job}
 use Rattle.job_words.specs.declared.job.WordFault.{WordFault}
@@ -13,7 +13,7 @@ use Rattle.synth_report.specs.declared.fault.Fault.{Fault}
 use Rattle.synth_report.specs.declared.fault.Fault.TheVariants.{Words, Read, Write, NoMemory}
 use Rattle.synth_report.specs.declared.summary.Summary.{Summary}
 use Rattle.synth_report.specs.Texts.{fault_line, status_of, summary_status}
-use Rattle.command.specs.Commands.{Command, HasTurn}
+use Rattle.command.specs.Commands.{Command, HasTurn, names_of}
 use Rattle.command.specs.Writing.{FileText, Reported, ReportedInPart, IsSilent, files_in, texts_in, pieces}
 
 -- Before anything is written.
@@ -102,13 +102,19 @@ pub record IsStopped (c : Command) (part : FileOf) (was now : ShelfState) (out o
   pub rose : Rose (was.writes name) (now.writes name)
   pub silent : IsSilent out out'
 
--- what a command leaves, by its answer
-abbrev pub Leaves : Command → ShelfState → ShelfState → SinkState → SinkState → Result Summary Fault
+-- how a command ends, by its answer
+abbrev pub Ends : Command → ShelfState → ShelfState → SinkState → SinkState → Result Summary Fault
     → Type 0
-Leaves c was now out out' (Ok summary) = IsFinished c summary was now out out'
-Leaves c was now out out' (Err (Write part)) =
+Ends c was now out out' (Ok summary) = IsFinished c summary was now out out'
+Ends c was now out out' (Err (Write part)) =
     IsUnreported c part was now out out' ⊎ IsStopped c part was now out out'
-Leaves c was now out out' (Err fault) = Untouched was now out out' × NotMade c was now fault
+Ends c was now out out' (Err fault) = Untouched was now out out' × NotMade c was now fault
+
+-- what a command leaves, whatever its answer: it has asked for no file but its own
+pub record Leaves (c : Command) (was now : ShelfState) (out out' : SinkState)
+    (answer : Result Summary Fault) : Type 0 where
+  pub ends : Ends c was now out out' answer
+  pub asked : AsksOnly (names_of c) was now
 
 -- The run of words.
 
@@ -116,13 +122,14 @@ Leaves c was now out out' (Err fault) = Untouched was now out out' × NotMade c 
 abbrev pub Commands : Type 1
 Commands = Job → Command
 
--- the words are refused, or there is no memory for them
+-- the words are refused, or there is no memory for them: no file is asked for
 pub record RefusesWords (words : List (List ℕ)) (was now : ShelfState) (out out' : SinkState)
     (answer : Result Summary Fault) : Type 0 where
   pub fault : WordFault
   pub is : answer ≡ Err (Words fault)
   pub cause : (job_of words ≡ Err fault) ⊎ (fault ≡ word.NoMemory)
   pub untouched : Untouched was now out out'
+  pub unasked : AsksOnly [] was now
 
 -- the command of the job that the words ask for ran
 pub record RunsJob (commands : Commands) (words : List (List ℕ)) (was now : ShelfState)

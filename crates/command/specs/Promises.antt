@@ -1,8 +1,8 @@
 -- What a run of any command promises, in words. Each follows from what it leaves. To be trusted:
 -- contracts cite these words. (Own.)
-use Rattle.std.specs.Prelude.{◌≡◌, ◌⊎◌, ℕ, List, Option, Some, IsSome, Ok, Err}
+use Rattle.std.specs.Prelude.{◌≡◌, ◌⊎◌, ℕ, List, [], Option, Some, IsSome, Ok, Err}
 use Rattle.std.specs.FinMap as fin
-use Rattle.shelf_core.specs.Files.{Files, ShelfState, SinkState, Changes, Rose}
+use Rattle.shelf_core.specs.Files.{Files, ShelfState, SinkState, AsksOnly, Changes, Rose}
 use Rattle.shelf_core.specs.Written.{Untouched, Says}
 use Rattle.job_words.specs.declared.job.Job.{Job}
 use Rattle.job_words.specs.declared.job.WordFault.{WordFault}
@@ -12,7 +12,7 @@ use Rattle.synth_report.specs.declared.fault.Fault.{Fault}
 use Rattle.synth_report.specs.declared.fault.Fault.TheVariants.{Words, Read, Write}
 use Rattle.synth_report.specs.declared.summary.Summary.{Summary}
 use Rattle.synth_report.specs.Texts.{fault_line, memory_line, status_of, summary_status}
-use Rattle.command.specs.Commands.{Command, HasTurn}
+use Rattle.command.specs.Commands.{Command, HasTurn, names_of}
 use Rattle.command.specs.Outcomes.{AreRefused, Commands, IsFinished, IsStopped, IsUnread, IsUnreported}
 
 -- the words ask for this job
@@ -159,3 +159,10 @@ abbrev pub KeepsOthers : Commands → List (List ℕ) → ShelfState → ShelfSt
 KeepsOthers commands words was now =
     (job : Job) (name : List ℕ) → Asks words job → IsNotWritten (commands job) name
     → Changes was now (λ before after. fin.get after name ≡ fin.get before name)
+
+-- with every status only files that the words name are asked for, be it to read or to write them;
+-- where the words ask for no job none is
+pub record NamedFiles (commands : Commands) (words : List (List ℕ)) (was now : ShelfState)
+    : Type 0 where
+  pub of_job : (job : Job) → Asks words job → AsksOnly (names_of (commands job)) was now
+  pub of_none : (fault : WordFault) → job_of words ≡ Err fault → AsksOnly [] was now

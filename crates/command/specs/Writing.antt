@@ -9,7 +9,7 @@ use Rattle.synth_report.specs.declared.fault.Fault.{Fault}
 use Rattle.synth_report.specs.declared.fault.Fault.TheVariants.{Write}
 use Rattle.synth_report.specs.declared.summary.Summary.{Summary}
 use Rattle.synth_report.specs.Texts.{report_of}
-use Rattle.command.specs.Commands.{NamedFile, HasTurn}
+use Rattle.command.specs.Commands.{NamedFile, HasTurn, names_in}
 
 -- a file that is to be written, and its text
 pub record FileText : Type 0 where
@@ -21,6 +21,9 @@ file_text part name text = record { file = record { part = part; name = name }; 
 
 abbrev pub files_in : List FileText → List NamedFile
 files_in files = map (λ (each : FileText). each.file) files
+
+abbrev pub text_names : List FileText → List (List ℕ)
+text_names files = names_in (files_in files)
 
 abbrev pub texts_in : List FileText → List (List ℕ)
 texts_in files = map (λ (each : FileText). each.text) files

@@ -1,7 +1,7 @@
 // The files of a run, written one after another.
 ghost use Rattle.std.specs.Prelude.{List, ◌++◌};
 ghost use Rattle.shelf_core.specs.Files.{OnlyWrites};
-ghost use Rattle.command.specs.Writing.{FileText, WritesFiles};
+ghost use Rattle.command.specs.Writing.{FileText, WritesFiles, text_names};
 
 use shelf_core::Shelf;
 use synth_report::FileOf;
@@ -19,7 +19,8 @@ pub trait RunFiles {
         requires { AreReady self.old }
         ensures wrote { WritesFiles (texts self.old)
             (S.state shelf.old) (S.state shelf.new) result }
-        ensures writes { OnlyWrites (S.state shelf.old) (S.state shelf.new) };
+        ensures writes { OnlyWrites (text_names (texts self.old))
+            (S.state shelf.old) (S.state shelf.new) };
 }
 
 /// Some files, and then others.

@@ -1,7 +1,7 @@
 // The second half of a command: its files are written, and then its report.
 ghost use Rattle.std.specs.Prelude.{[]};
 ghost use Rattle.shelf_core.specs.Files.{OnlyWrites, ShelfState};
-ghost use Rattle.command.specs.Writing.{WritesRun};
+ghost use Rattle.command.specs.Writing.{WritesRun, text_names};
 
 use crate::files::RunFiles;
 use shelf_core::{Shelf, Sink};
@@ -18,7 +18,8 @@ pub fn write_run<F: RunFiles, S: Shelf, O: Sink>(
     requires { F.AreReady files.old }
     ensures wrote { WritesRun (F.texts files.old) summary
         (S.state shelf.old) (S.state shelf.new) (O.state out.old) (O.state out.new) result }
-    ensures writes { OnlyWrites (S.state shelf.old) (S.state shelf.new) }
+    ensures writes { OnlyWrites (text_names (F.texts files.old))
+        (S.state shelf.old) (S.state shelf.new) }
 {
     match files.write(shelf) {
         Ok(()) => {}

@@ -2,7 +2,7 @@
 ghost use Rattle.std.specs.Prelude.{◌≡◌, [], ◌∷◌, IfOk, OnErr, OnOk};
 ghost use Rattle.cells.specs.Cells.{IsOnePart};
 ghost use Rattle.cells.specs.Places.{HasAxes};
-ghost use Rattle.shelf_core.specs.Files.{Changes, OnlyWrites, WritesRose};
+ghost use Rattle.shelf_core.specs.Files.{Changes, OnlyWritesFile, WritesRose};
 ghost use Rattle.shelf_core.specs.Written.{HoldsPart, HoldsText};
 ghost use Rattle.synth_report.specs.declared.fault.FileOf.TheVariants as part;
 ghost use Rattle.command.specs.Writing.{file_text};
@@ -57,7 +57,7 @@ fn write_clip<S: Shelf>(
         (HoldsText name.now (whole_clip writer.old volume.now))) }
     ensures err { OnErr result (Changes (S.state shelf.old) (S.state shelf.new)
         (HoldsPart name.now (whole_clip writer.old volume.now))) }
-    ensures writes { OnlyWrites (S.state shelf.old) (S.state shelf.new) }
+    ensures writes { OnlyWritesFile name.now (S.state shelf.old) (S.state shelf.new) }
     ensures failed { OnErr result (WritesRose name.now (S.state shelf.old) (S.state shelf.new)) }
 {
     writer.start(shelf, name)?;
@@ -82,7 +82,7 @@ fn write_out<S: Shelf>(
         (HoldsText name.now (form_text form.now volume.now))) }
     ensures err { OnErr result (Changes (S.state shelf.old) (S.state shelf.new)
         (HoldsPart name.now (form_text form.now volume.now))) }
-    ensures writes { OnlyWrites (S.state shelf.old) (S.state shelf.new) }
+    ensures writes { OnlyWritesFile name.now (S.state shelf.old) (S.state shelf.new) }
     ensures failed { OnErr result (WritesRose name.now (S.state shelf.old) (S.state shelf.new)) }
 {
     match (form, writer) {

@@ -42,7 +42,7 @@ stands_along at p q bytes first second = record {
   within = omega (arith, second.within, length-append p q);
 }
 
-pub took_along : (name : List ℕ) (at : ℕ) (p q : List ℕ) (a b : ShelfState) (r r' : Reading) → OnlyReads a b
+pub took_along : {names : List (List ℕ)} (name : List ℕ) (at : ℕ) (p q : List ℕ) (a b : ShelfState) (r r' : Reading) → OnlyReads names a b
     → Took name at p a r → Took name r.at q b r' → Took name at (p ++ q) b r'
 took_along name at p q a b r r' reads first second = record {
   at_is = second.at_is ∙ ap (λ n. n + length q) first.at_is ∙ (let e : at + length p + length q ≡ at + length (p ++ q) = omega (arith, length-append p q) in e);
@@ -53,7 +53,7 @@ took_along name at p q a b r r' reads first second = record {
 }
 
 -- a refusal of a shorter read is one of a longer read, from an earlier state on
-pub stops_later : (name : List ℕ) (end end' : ℕ) (a b c : ShelfState) (error : ReadError) → end ≤ end' → OnlyReads a b
+pub stops_later : {names : List (List ℕ)} (name : List ℕ) (end end' : ℕ) (a b c : ShelfState) (error : ReadError) → end ≤ end' → OnlyReads names a b
     → StopsShort name end b c error → StopsShort name end' a c error
 stops_later name end end' a b c ReadFault le reads stops = rose_later (a.reads name) (b.reads name) (c.reads name) (reads.reads name) stops
 stops_later name end end' a b c (Bad (Form place)) le reads stops = shorter c.files stops
@@ -138,7 +138,7 @@ filled_within into part filled k m within le =
     omega (arith, whole, left, right, count)
 
 -- a number after those before it
-pub took_number : (name : List ℕ) (field : ℕ → List ℕ) (at : ℕ) (numbers : List ℕ) (n : ℕ) (a b : ShelfState) (r r' : Reading) → OnlyReads a b
+pub took_number : {names : List (List ℕ)} (name : List ℕ) (field : ℕ → List ℕ) (at : ℕ) (numbers : List ℕ) (n : ℕ) (a b : ShelfState) (r r' : Reading) → OnlyReads names a b
     → Took name at (flat_map field numbers) a r → Took name r.at (field n) b r' → Took name at (flat_map field (numbers ++ n ∷ [])) b r'
 took_number name field at numbers n a b r r' reads first second =
     subst (λ piece. Took name at piece b r')

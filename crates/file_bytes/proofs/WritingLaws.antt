@@ -5,7 +5,7 @@ use Rattle.std.proofs.lemmas.List.Concat.{flat_map-append}
 use Rattle.std.specs.List.{flat_map}
 use Rattle.std.specs.Prelude.{Bool, true, false, ◌⊎◌}
 use Rattle.std.specs.FinMap.{insert}
-use Rattle.shelf_core.specs.Files.{ShelfState, Changes, OnlyWrites, Rose, GrowsByPrefix, content_of}
+use Rattle.shelf_core.specs.Files.{ShelfState, Changes, OnlyWritesFile, Rose, GrowsByPrefix, content_of}
 use Rattle.shelf_core.specs.Written.{HoldsText, HoldsPart}
 use Rattle.shelf_core.proofs.FileLaws.{only_writes_then, rose_later}
 use Rattle.shelf_core.proofs.WrittenLaws.{shelf_added, shelf_added_part}
@@ -32,7 +32,7 @@ more_waits name text waiting piece failed was now put = record {
 
 -- what waited was added
 pub passes : (name text piece : List ℕ) (was a b : ShelfState) → HasPut name text was a (pending piece false)
-    → Changes a b (λ x y. y ≡ insert x name (content_of x name ++ piece)) → OnlyWrites a b → HasPut name text was b (pending [] false)
+    → Changes a b (λ x y. y ≡ insert x name (content_of x name ++ piece)) → OnlyWritesFile name a b → HasPut name text was b (pending [] false)
 passes name text piece was a b put step counts = record {
   whole = λ still.
       let old = put.whole refl in
@@ -47,7 +47,7 @@ passes name text piece was a b put step counts = record {
 
 -- it wasn't
 pub stops : (name text piece : List ℕ) (was a b : ShelfState) → HasPut name text was a (pending piece false)
-    → Changes a b (λ x y. (y ≡ x) ⊎ GrowsByPrefix x name piece y) → Rose (a.writes name) (b.writes name) → OnlyWrites a b
+    → Changes a b (λ x y. (y ≡ x) ⊎ GrowsByPrefix x name piece y) → Rose (a.writes name) (b.writes name) → OnlyWritesFile name a b
     → HasPut name text was b (pending [] true)
 stops name text piece was a b put step rose counts = record {
   whole = λ still. absurd (false≢true (sym still));

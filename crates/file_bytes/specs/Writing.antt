@@ -1,7 +1,7 @@
 -- A reader has to trust this file. A file that is being written, in the words of contracts: the
 -- text so far, of which the last bytes may still wait, until a write fails. (Own.)
 use Rattle.std.specs.Prelude.{◌≡◌, ℕ, List, ◌++◌, Bool, true, false}
-use Rattle.shelf_core.specs.Files.{ShelfState, Changes, OnlyWrites, Rose}
+use Rattle.shelf_core.specs.Files.{ShelfState, Changes, OnlyWritesFile, Rose}
 use Rattle.shelf_core.specs.Written.{HoldsText, HoldsPart}
 
 -- what a writer holds: the bytes that wait, and whether a write has failed
@@ -27,7 +27,7 @@ pub record IsBroken (name text : List ℕ) (was now : ShelfState) : Type 0 where
 pub record HasPut (name text : List ℕ) (was now : ShelfState) (pending : Pending) : Type 0 where
   pub whole : pending.failed ≡ false → IsBehind name text pending.waiting was now
   pub broken : pending.failed ≡ true → IsBroken name text was now
-  pub counts : OnlyWrites was now
+  pub counts : OnlyWritesFile name was now
 
 -- a call after which the text so far is the same
 abbrev pub Keeps : List ℕ → ShelfState → ShelfState → Pending → Pending → Type 0

@@ -1,6 +1,6 @@
 // Reading a file through one buffer.
 ghost use Rattle.std.specs.Prelude.{◌≡◌, ◌≤◌, ◌<◌, ◌+◌, ◌*◌, ◌^◌, ◌++◌, [], ◌∷◌, length, take, drop, ◌/◌, min, max, IsTrue, ◌↔◌, OnOk, OnErr, IfOk, IfErr, true, false, vec_len, vec_capacity};
-ghost use Rattle.shelf_core.specs.Files.{OnlyReads, ReadsRose};
+ghost use Rattle.shelf_core.specs.Files.{OnlyReadsFile, ReadsRose};
 ghost use Rattle.file_bytes.specs.Fields.{field_16, field_32, field_64, fields_16, fields_32, fields_64};
 ghost use Rattle.file_bytes.specs.declared.reader.TheConstants.{LEAST_ROOM};
 ghost use Rattle.file_bytes.specs.Reading.{Follows, Stops, StopsInList, StopsShort, Took, after_serving};
@@ -116,7 +116,7 @@ impl FileReader {
         ensures follows { OnOk result (Follows name.now (S.state shelf.new) self.new) }
         ensures at { OnOk result (self.new.at ≡ self.old.at) }
         ensures ended { OnOk result (self.new.waiting ≡ [] → self.new.ended ≡ true) }
-        ensures reads { OnlyReads (S.state shelf.old) (S.state shelf.new) }
+        ensures reads { OnlyReadsFile name.now (S.state shelf.old) (S.state shelf.new) }
         ensures failed { OnErr result (ReadsRose name.now (S.state shelf.old) (S.state shelf.new)) }
     {
         if !self.ended {
@@ -155,7 +155,7 @@ impl FileReader {
         ensures follows { OnOk result (Follows name.now (S.state shelf.new) self.new) }
         ensures at { OnOk result (self.new.at ≡ self.old.at) }
         ensures ended { OnOk result (self.new.waiting ≡ [] → self.new.ended ≡ true) }
-        ensures reads { OnlyReads (S.state shelf.old) (S.state shelf.new) }
+        ensures reads { OnlyReadsFile name.now (S.state shelf.old) (S.state shelf.new) }
         ensures failed { OnErr result (ReadsRose name.now (S.state shelf.old) (S.state shelf.new)) }
     {
         if self.is_empty() {
@@ -179,7 +179,7 @@ impl FileReader {
             Took name.now self.old.at (take n into.new) (S.state shelf.new) self.new) }
         ensures stops { IfErr result
             (StopsShort name.now (self.old.at + 1) (S.state shelf.old) (S.state shelf.new)) }
-        ensures reads { OnlyReads (S.state shelf.old) (S.state shelf.new) }
+        ensures reads { OnlyReadsFile name.now (S.state shelf.old) (S.state shelf.new) }
     {
         self.look(shelf, name)?;
         if self.is_empty() {
@@ -202,7 +202,7 @@ impl FileReader {
             (S.state shelf.new) self.new) }
         ensures stops { IfErr result (StopsShort name.now (self.old.at + length into.old)
             (S.state shelf.old) (S.state shelf.new)) }
-        ensures reads { OnlyReads (S.state shelf.old) (S.state shelf.new) }
+        ensures reads { OnlyReadsFile name.now (S.state shelf.old) (S.state shelf.new) }
     {
         let mut filled = 0;
         'filling: while filled < into.len() {
@@ -219,7 +219,7 @@ impl FileReader {
             Took name.now self.old.at (n ∷ []) (S.state shelf.new) self.new) }
         ensures stops { IfErr result
             (StopsShort name.now (self.old.at + 1) (S.state shelf.old) (S.state shelf.new)) }
-        ensures reads { OnlyReads (S.state shelf.old) (S.state shelf.new) }
+        ensures reads { OnlyReadsFile name.now (S.state shelf.old) (S.state shelf.new) }
     {
         let mut field = [0; 1];
         self.take(&mut field, shelf, name)?;
@@ -234,7 +234,7 @@ impl FileReader {
             Took name.now self.old.at (field_16 n) (S.state shelf.new) self.new) }
         ensures stops { IfErr result
             (StopsShort name.now (self.old.at + 2) (S.state shelf.old) (S.state shelf.new)) }
-        ensures reads { OnlyReads (S.state shelf.old) (S.state shelf.new) }
+        ensures reads { OnlyReadsFile name.now (S.state shelf.old) (S.state shelf.new) }
     {
         let mut field = [0; 2];
         self.take(&mut field, shelf, name)?;
@@ -249,7 +249,7 @@ impl FileReader {
             Took name.now self.old.at (field_32 n) (S.state shelf.new) self.new) }
         ensures stops { IfErr result
             (StopsShort name.now (self.old.at + 4) (S.state shelf.old) (S.state shelf.new)) }
-        ensures reads { OnlyReads (S.state shelf.old) (S.state shelf.new) }
+        ensures reads { OnlyReadsFile name.now (S.state shelf.old) (S.state shelf.new) }
     {
         let mut field = [0; 4];
         self.take(&mut field, shelf, name)?;
@@ -264,7 +264,7 @@ impl FileReader {
             Took name.now self.old.at (field_64 n) (S.state shelf.new) self.new) }
         ensures stops { IfErr result
             (StopsShort name.now (self.old.at + 8) (S.state shelf.old) (S.state shelf.new)) }
-        ensures reads { OnlyReads (S.state shelf.old) (S.state shelf.new) }
+        ensures reads { OnlyReadsFile name.now (S.state shelf.old) (S.state shelf.new) }
     {
         let mut field = [0; 8];
         self.take(&mut field, shelf, name)?;
@@ -275,7 +275,7 @@ impl FileReader {
     pub fn end<S: Shelf>(&mut self, shelf: &mut S, name: &str) -> Result<(), ReadError>
         requires { Follows name.now (S.state shelf.old) self.old }
         ensures stops { Stops name.now self.old.at (S.state shelf.old) (S.state shelf.new) result }
-        ensures reads { OnlyReads (S.state shelf.old) (S.state shelf.new) }
+        ensures reads { OnlyReadsFile name.now (S.state shelf.old) (S.state shelf.new) }
     {
         self.look(shelf, name)?;
         if !self.is_empty() {
@@ -299,7 +299,7 @@ impl FileReader {
             Took name.now self.old.at (fields_16 list.items) (S.state shelf.new) self.new) }
         ensures stops { IfErr result (StopsInList name.now (self.old.at + 2 * count)
             (S.state shelf.old) (S.state shelf.new)) }
-        ensures reads { OnlyReads (S.state shelf.old) (S.state shelf.new) }
+        ensures reads { OnlyReadsFile name.now (S.state shelf.old) (S.state shelf.new) }
     {
         let mut numbers = Vec::new(alloc);
         for i in 0..count {
@@ -327,7 +327,7 @@ impl FileReader {
             Took name.now self.old.at (fields_32 list.items) (S.state shelf.new) self.new) }
         ensures stops { IfErr result (StopsInList name.now (self.old.at + 4 * count)
             (S.state shelf.old) (S.state shelf.new)) }
-        ensures reads { OnlyReads (S.state shelf.old) (S.state shelf.new) }
+        ensures reads { OnlyReadsFile name.now (S.state shelf.old) (S.state shelf.new) }
     {
         let mut numbers = Vec::new(alloc);
         for i in 0..count {
@@ -355,7 +355,7 @@ impl FileReader {
             Took name.now self.old.at (fields_64 list.items) (S.state shelf.new) self.new) }
         ensures stops { IfErr result (StopsInList name.now (self.old.at + 8 * count)
             (S.state shelf.old) (S.state shelf.new)) }
-        ensures reads { OnlyReads (S.state shelf.old) (S.state shelf.new) }
+        ensures reads { OnlyReadsFile name.now (S.state shelf.old) (S.state shelf.new) }
     {
         let mut numbers = Vec::new(alloc);
         for i in 0..count {

@@ -1,6 +1,6 @@
 // Writing a file through one buffer.
 ghost use Rattle.std.specs.Prelude.{◌≡◌, ◌≤◌, ◌<◌, ◌+◌, ◌++◌, [], ◌∷◌, List, ℕ, ◌⊎◌, length, take, drop, OnOk, OnErr};
-ghost use Rattle.shelf_core.specs.Files.{ShelfState, Changes, OnlyWrites, Rose};
+ghost use Rattle.shelf_core.specs.Files.{ShelfState, Changes, OnlyWritesFile, Rose};
 ghost use Rattle.shelf_core.specs.Written.{HoldsText, HoldsPart};
 ghost use Rattle.file_bytes.specs.Fields.{field_16, field_32, field_64, fields_16, fields_32, fields_64};
 ghost use Rattle.file_bytes.specs.Writing.{HasPut, Keeps, Puts, pending};
@@ -184,7 +184,7 @@ impl FileWriter {
             OnErr result (Changes was (S.state shelf.new) (HoldsPart name.now text)) }
         ensures writes { (was : ShelfState) (text : List ℕ) →
             HasPut name.now text was (S.state shelf.old) self →
-            OnlyWrites was (S.state shelf.new) }
+            OnlyWritesFile name.now was (S.state shelf.new) }
         ensures failed { (was : ShelfState) (text : List ℕ) →
             HasPut name.now text was (S.state shelf.old) self →
             OnErr result (Rose (was.writes name.now) ((S.state shelf.new).writes name.now)) }

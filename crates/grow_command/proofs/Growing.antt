@@ -1,5 +1,5 @@
 -- What `grow` plans: from the reading of the samples to all that is to be written.
-use Rattle.std.proofs.Common.{◌≡◌, ℕ, ◌+◌, ◌≤◌, ◌⊎◌, inl, inr, length, sym, subst, refl, arith}
+use Rattle.std.proofs.Common.{◌≡◌, ℕ, ◌+◌, ◌≤◌, ◌⊎◌, inl, inr, List, length, sym, subst, refl, arith}
 use Rattle.std.specs.Prelude.{All, Err}
 use Rattle.cert_file.specs.CutForms.{HasShortFlows}
 use Rattle.cells.specs.Cells.{IsVolume}
@@ -20,7 +20,7 @@ use Rattle.sample_files.proofs.Commands.{samples_not_made}
 use Rattle.grow_command.specs.declared.plan.Growth.{Growth}
 use Rattle.grow_command.specs.Growths.{IsWithinBounds, RecordsPass, RefusesGrowth, RefusesOutput, fault_of_growing, grow_command, growth_files, growth_summary, plan_of}
 
-module _ (job : GrowJob) (a b : ShelfState) (reads : OnlyReads a b) where
+module _ {names : List (List ℕ)} (job : GrowJob) (a b : ShelfState) (reads : OnlyReads names a b) where
   -- nothing is refused of the job before all samples are read
   only : (files : Files) (n : ℕ) (fault : Fault) → n ≤ length job.names.more → RefusesGrowth job n files fault → RefusesSamples n (content_of files job.names.sample) (contents files job.names.more) fault
   only files n fault le (inl refuses) = refuses

@@ -3,7 +3,7 @@ ghost use Rattle.std.specs.Prelude.{◌≡◌};
 ghost use Rattle.shelf_core.specs.Files.{OnlyWrites};
 ghost use Rattle.job_words.specs.GrowWords.{IsGrowJob};
 ghost use Rattle.command.specs.Outcomes.{Leaves};
-ghost use Rattle.command.specs.Writing.{WritesRun};
+ghost use Rattle.command.specs.Writing.{WritesRun, text_names};
 ghost use Rattle.command_files.specs.Outs.{HasWriter};
 ghost use Rattle.grow_command.specs.Growths.{IsMade, grow_command, growth_files, growth_summary, head_over, version_over};
 
@@ -68,7 +68,8 @@ fn write_growth<S: Shelf, O: Sink>(
     requires writer { HasWriter growth.now.samples.form job.now.size writer }
     ensures wrote { WritesRun (growth_files job.now growth.now) (growth_summary job.now growth.now)
         (S.state shelf.old) (S.state shelf.new) (O.state out.old) (O.state out.new) result }
-    ensures writes { OnlyWrites (S.state shelf.old) (S.state shelf.new) }
+    ensures writes { OnlyWrites (text_names (growth_files job.now growth.now))
+        (S.state shelf.old) (S.state shelf.new) }
 {
     let volume = &growth.samples.volume;
     let picture = OutFile {

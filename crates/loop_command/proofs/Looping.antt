@@ -28,7 +28,7 @@ clip_fails most name a b ReadMemory left = tt
 clip_fails most name a b (Bad why) left = left
 clip_fails most name a b (ReadLimit what number bound) left = left
 
-module _ (job : LoopJob) (a b : ShelfState) (reads : OnlyReads a b) where
+module _ {names : List (List ℕ)} (job : LoopJob) (a b : ShelfState) (reads : OnlyReads names a b) where
   -- nothing is refused before the sample is read
   none_before : (files : Files) → NoneRefused (loop_command job) 0 files
   none_before files m fault le (inl refuses) = omega (arith, le, refuses.0)

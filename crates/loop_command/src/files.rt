@@ -1,7 +1,7 @@
 // The files that a loop writes.
 ghost use Rattle.std.specs.Prelude.{◌≡◌, ◌<◌, [], ◌∷◌, All, OnErr, OnOk};
 ghost use Rattle.cells.specs.Cells.{IsOnePart};
-ghost use Rattle.shelf_core.specs.Files.{Changes, OnlyWrites, WritesRose};
+ghost use Rattle.shelf_core.specs.Files.{Changes, OnlyWritesFile, WritesRose};
 ghost use Rattle.shelf_core.specs.Written.{HoldsPart, HoldsText};
 ghost use Rattle.source_map.specs.MapFiles.{IsFrameMap, frame_map_form};
 ghost use Rattle.y4m_clip.specs.Spaces.{samples_of};
@@ -62,7 +62,7 @@ fn write_frames<S: Shelf>(
         (HoldsText name.now (walked_clip writer.old sample.now walk.now))) }
     ensures err { OnErr result (Changes (S.state shelf.old) (S.state shelf.new)
         (HoldsPart name.now (walked_clip writer.old sample.now walk.now))) }
-    ensures writes { OnlyWrites (S.state shelf.old) (S.state shelf.new) }
+    ensures writes { OnlyWritesFile name.now (S.state shelf.old) (S.state shelf.new) }
     ensures failed { OnErr result (WritesRose name.now (S.state shelf.old) (S.state shelf.new)) }
 {
     writer.start(shelf, name)?;

@@ -6,6 +6,7 @@ ghost use Rattle.frame_distance.specs.declared.table.TheConstants.{MOST_CLIP_CEL
 ghost use Rattle.shelf_core.specs.Files.{OnlyReads};
 ghost use Rattle.loop_walk.specs.Walks.{HasNoWalk};
 ghost use Rattle.cert_file.specs.WalkForms.{AreWide};
+ghost use Rattle.command.specs.Commands.{names_in};
 ghost use Rattle.command.specs.Outcomes.{Plans};
 ghost use Rattle.job_words.specs.LoopWords.{IsLoopJob};
 ghost use Rattle.loop_command.specs.Loops.{IsLoopFound, IsLoopMade, IsLoopWithin, SetAgainstClip, fault_of_looping, loop_command, loop_files, loop_summary, steps_over};
@@ -105,7 +106,8 @@ pub(crate) fn plan<S: Shelf>(
     ensures planned { Plans (loop_command job.now) (loop_files job.now) (loop_summary job.now)
         (S.state shelf.old) (S.state shelf.new) result }
     ensures made { IfOk result (IsLoopMade job.now) }
-    ensures reads { OnlyReads (S.state shelf.old) (S.state shelf.new) }
+    ensures reads { OnlyReads (names_in (loop_command job.now).reads)
+        (S.state shelf.old) (S.state shelf.new) }
 {
     let clip = match read_clip(alloc, shelf, job.names.sample.as_text(), MOST_SAMPLE_CELLS) {
         Ok(clip) => clip,

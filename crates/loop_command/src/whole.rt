@@ -4,7 +4,7 @@ ghost use Rattle.cells.specs.Cells.{IsOnePart};
 ghost use Rattle.shelf_core.specs.Files.{OnlyWrites};
 ghost use Rattle.y4m_clip.specs.Writing.{writer_of};
 ghost use Rattle.command.specs.Outcomes.{Leaves};
-ghost use Rattle.command.specs.Writing.{WritesRun};
+ghost use Rattle.command.specs.Writing.{WritesRun, text_names};
 ghost use Rattle.job_words.specs.LoopWords.{IsLoopJob};
 ghost use Rattle.loop_command.specs.Loops.{IsLoopMade, loop_command, loop_files, loop_head, loop_size, loop_summary};
 
@@ -73,7 +73,8 @@ fn write_loop<S: Shelf, O: Sink>(
         writer_of looped.now.clip.form (loop_size looped.now.clip.volume job.now.length) }
     ensures wrote { WritesRun (loop_files job.now looped.now) (loop_summary job.now looped.now)
         (S.state shelf.old) (S.state shelf.new) (O.state out.old) (O.state out.new) result }
-    ensures writes { OnlyWrites (S.state shelf.old) (S.state shelf.new) }
+    ensures writes { OnlyWrites (text_names (loop_files job.now looped.now))
+        (S.state shelf.old) (S.state shelf.new) }
 {
     let sample = &looped.clip.volume;
     let walk = looped.found.walk.as_slice();

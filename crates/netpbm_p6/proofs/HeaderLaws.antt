@@ -85,7 +85,7 @@ too_long bytes scan next is_open reached more run = record {
 
 -- The same over several reads.
 
-pub header_broken : (name : List ℕ) (at i room : ℕ) (scan : Scan) (scanned : Scanned) (a b c : ShelfState) → at + room ≤ 65536 → scanned ≡ Broken i → IsSoundScanned room scanned → OnlyReads a b → OnlyReads b c
+pub header_broken : {names : List (List ℕ)} (name : List ℕ) (at i room : ℕ) (scan : Scan) (scanned : Scanned) (a b c : ShelfState) → at + room ≤ 65536 → scanned ≡ Broken i → IsSoundScanned room scanned → OnlyReads names a b → OnlyReads names b c
     → Sees a b (λ files. Reached (content_of files name) at scan) → Sees b c (λ files. ScansOn (drop at (content_of files name)) scan room scanned)
     → Sees a c (λ files. BreaksAt (content_of files name) (at + i) ⊎ EndsEarly (content_of files name) (at + i))
 header_broken name at i room scan scanned a b c early is sound first second reached scans =
@@ -95,7 +95,7 @@ header_broken name at i room scan scanned a b c early is sound first second reac
     (λ files came goes. inl (breaks_at (content_of files name) at i scan (omega arith) came (subst (ScansOn (drop at (content_of files name)) scan room) is goes)))
     first second reached scans
 
-pub header_ended : (name : List ℕ) (at room : ℕ) (scan : Scan) (scanned : Scanned) (header : Header) (a b c : ShelfState) → at + room ≤ 65536 → scanned ≡ Ended header → IsSoundScanned room scanned → OnlyReads a b → OnlyReads b c
+pub header_ended : {names : List (List ℕ)} (name : List ℕ) (at room : ℕ) (scan : Scan) (scanned : Scanned) (header : Header) (a b c : ShelfState) → at + room ≤ 65536 → scanned ≡ Ended header → IsSoundScanned room scanned → OnlyReads names a b → OnlyReads names b c
     → Sees a b (λ files. Reached (content_of files name) at scan) → Sees b c (λ files. ScansOn (drop at (content_of files name)) scan room scanned)
     → Sees a c (λ files. HasHeader (content_of files name) (record header { length = at + header.length }))
 header_ended name at room scan scanned header a b c early is sound first second reached scans =
@@ -105,7 +105,7 @@ header_ended name at room scan scanned header a b c early is sound first second 
     (λ files came goes. has_header (content_of files name) at scan header (omega (arith, whole.fits)) came (subst (ScansOn (drop at (content_of files name)) scan room) is goes))
     first second reached scans
 
-pub header_more : (name : List ℕ) (at room : ℕ) (scan next : Scan) (scanned : Scanned) (a b c : ShelfState) → scanned ≡ Open next → OnlyReads a b → OnlyReads b c
+pub header_more : {names : List (List ℕ)} (name : List ℕ) (at room : ℕ) (scan next : Scan) (scanned : Scanned) (a b c : ShelfState) → scanned ≡ Open next → OnlyReads names a b → OnlyReads names b c
     → Sees a b (λ files. Reached (content_of files name) at scan) → Sees b c (λ files. ScansOn (drop at (content_of files name)) scan room scanned)
     → Sees a c (λ files. Reached (content_of files name) (at + room) next)
 header_more name at room scan next scanned a b c is first second reached scans =
@@ -139,7 +139,7 @@ passes name scan scanned r a b is_open sound is scans = subst (PassesAs name sca
         ))
         scans'
 
-pub passed : (name : List ℕ) (scan : Scan) (r : ReadError) (a b c : ShelfState) → OnlyReads a b → OnlyReads b c → Sees a b (λ files. Reached (content_of files name) 65536 scan) → PassesAs name scan b c r → ReadsAs name a c (Err r)
+pub passed : {names : List (List ℕ)} (name : List ℕ) (scan : Scan) (r : ReadError) (a b c : ShelfState) → OnlyReads names a b → OnlyReads names b c → Sees a b (λ files. Reached (content_of files name) 65536 scan) → PassesAs name scan b c r → ReadsAs name a c (Err r)
 passed name scan ReadFault a b c first second reached passes' = fault_later name a b c first passes'
 passed name scan NoMemory a b c first second reached passes' = tt
 passed name scan (Bad why) a b c first second reached passes' =

@@ -155,7 +155,7 @@ raster_refuses bytes header size maxval (Bad Cell) at refuses = absurd refuses
 raster_refuses bytes header size maxval (Bad NoFrames) at refuses = absurd refuses
 raster_refuses bytes header size maxval (Limit what number bound) at refuses = absurd refuses
 
-pub raster_as : (name : List ℕ) (header : Header) (size : Size) (maxval : ℕ) (e : ReadError) (a b c : ShelfState) → OnlyReads a b → OnlyReads b c → Sees a b (λ files. HasHeader (content_of files name) header) → HeaderFits header size maxval
+pub raster_as : {names : List (List ℕ)} (name : List ℕ) (header : Header) (size : Size) (maxval : ℕ) (e : ReadError) (a b c : ShelfState) → OnlyReads names a b → OnlyReads names b c → Sees a b (λ files. HasHeader (content_of files name) header) → HeaderFits header size maxval
     → RastersAs name header.length maxval size b c (Err e) → ReadsAs name a c (Err e)
 raster_as name header size maxval ReadFault a b c first second seen fits fault = fault_later name a b c first fault
 raster_as name header size maxval NoMemory a b c first second seen fits refused = tt
@@ -182,7 +182,7 @@ is_read bytes header size maxval volume at raster = record {
   limits = at.within.limits;
 }
 
-pub read_as : (name : List ℕ) (header : Header) (size : Size) (maxval : ℕ) (volume : Cells) (a b c : ShelfState) → OnlyReads a b → OnlyReads b c → Sees a b (λ files. HasHeader (content_of files name) header) → HeaderFits header size maxval
+pub read_as : {names : List (List ℕ)} (name : List ℕ) (header : Header) (size : Size) (maxval : ℕ) (volume : Cells) (a b c : ShelfState) → OnlyReads names a b → OnlyReads names b c → Sees a b (λ files. HasHeader (content_of files name) header) → HeaderFits header size maxval
     → Sees b c (λ files. IsRaster (drop header.length (content_of files name)) size maxval volume) → Sees a c (λ files. IsRead (content_of files name) (record { maxval = maxval; volume = volume }))
 read_as name header size maxval volume a b c first second seen fits raster =
     sees_then (λ files. HasHeader (content_of files name) header) (λ files. IsRaster (drop header.length (content_of files name)) size maxval volume)

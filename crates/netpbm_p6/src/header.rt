@@ -1,6 +1,6 @@
 // Reading the header of a picture, and its limits.
 ghost use Rattle.std.specs.Prelude.{◌≡◌, ◌≤◌, ◌<◌, length, drop, IfOk, OnErr};
-ghost use Rattle.shelf_core.specs.Files.{InFile, OnlyReads, ReadsRose};
+ghost use Rattle.shelf_core.specs.Files.{InFile, OnlyReadsFile, ReadsRose};
 ghost use Rattle.netpbm_p6.specs.Scanning.{IsOpenScan, IsSoundScanned, IsSoundHeader};
 ghost use Rattle.netpbm_p6.specs.Reading.{ScansOn, cut_at, past_of, HeadsAs, PassesAs, IsAllowed};
 
@@ -42,7 +42,7 @@ fn scan_at<S: Shelf>(
         InFile name.now (S.state shelf.old) (S.state shelf.new) (λ bytes.
         ScansOn (drop at bytes) scan (length buffer.old) scanned)) }
     ensures sound { IfOk result (IsSoundScanned (length buffer.old)) }
-    ensures reads { OnlyReads (S.state shelf.old) (S.state shelf.new) }
+    ensures reads { OnlyReadsFile name.now (S.state shelf.old) (S.state shelf.new) }
     ensures failed { OnErr result (ReadsRose name.now (S.state shelf.old) (S.state shelf.new)) }
 {
     let count = shelf.get(name, at, buffer)?;
@@ -68,7 +68,7 @@ fn past(scanned: Scanned) -> ReadError
 fn past_limit<S: Shelf>(shelf: &mut S, name: &str, scan: Scan) -> ReadError
     requires { IsOpenScan scan }
     ensures refusal { PassesAs name.now scan (S.state shelf.old) (S.state shelf.new) result }
-    ensures reads { OnlyReads (S.state shelf.old) (S.state shelf.new) }
+    ensures reads { OnlyReadsFile name.now (S.state shelf.old) (S.state shelf.new) }
 {
     let mut next = [0u8; 1];
     match scan_at(shelf, name, MOST_BYTES, scan, &mut next) {
@@ -81,7 +81,7 @@ fn past_limit<S: Shelf>(shelf: &mut S, name: &str, scan: Scan) -> ReadError
 pub fn read_header<S: Shelf>(shelf: &mut S, name: &str) -> Result<Header, ReadError>
     ensures header { HeadsAs name.now (S.state shelf.old) (S.state shelf.new) result }
     ensures sound { IfOk result (IsSoundHeader MOST_BYTES) }
-    ensures reads { OnlyReads (S.state shelf.old) (S.state shelf.new) }
+    ensures reads { OnlyReadsFile name.now (S.state shelf.old) (S.state shelf.new) }
 {
     let mut buffer = [0u8; PIECE];
     let mut scan = Scan::Start;

@@ -1,6 +1,6 @@
 // Reading the raster of a picture, straight into the volume's buffer.
 ghost use Rattle.std.specs.Prelude.{◌≡◌, ◌≤◌, ◌<◌, ◌+◌, ◌*◌, ◌^◌, length, All, IfSome, IfNone, IfOk, OnOk, IsTrue, ◌↔◌, vec_len};
-ghost use Rattle.shelf_core.specs.Files.{OnlyReads};
+ghost use Rattle.shelf_core.specs.Files.{OnlyReadsFile};
 ghost use Rattle.cells.specs.Places.{IsSmall, cell_count};
 ghost use Rattle.netpbm_p6.specs.Reading.{IsFirstAbove, IsMadeOf, FillsAs, StopsAs, RastersAs};
 
@@ -43,7 +43,7 @@ fn fill<S: Shelf>(
     ensures fills { FillsAs name.now start maxval raster.new (S.state shelf.old)
         (S.state shelf.new) result }
     ensures samples { OnOk result (All (λ b. b ≤ maxval) raster.new) }
-    ensures reads { OnlyReads (S.state shelf.old) (S.state shelf.new) }
+    ensures reads { OnlyReadsFile name.now (S.state shelf.old) (S.state shelf.new) }
 {
     let count = shelf.get(name, start, raster)?;
     if let Some(i) = first_above(&raster[..count], maxval) {
@@ -58,7 +58,7 @@ fn fill<S: Shelf>(
 // The file has no byte from a place on.
 fn stop<S: Shelf>(shelf: &mut S, name: &str, end: u64) -> Result<(), ReadError>
     ensures stops { StopsAs name.now end (S.state shelf.old) (S.state shelf.new) result }
-    ensures reads { OnlyReads (S.state shelf.old) (S.state shelf.new) }
+    ensures reads { OnlyReadsFile name.now (S.state shelf.old) (S.state shelf.new) }
 {
     let mut next = [0u8; 1];
     if shelf.get(name, end, &mut next)? > 0 {
@@ -90,7 +90,7 @@ pub fn read_raster<S: Shelf>(
     ensures raster { RastersAs name.now start maxval size (S.state shelf.old)
         (S.state shelf.new) result }
     ensures made { IfOk result (IsMadeOf size maxval) }
-    ensures reads { OnlyReads (S.state shelf.old) (S.state shelf.new) }
+    ensures reads { OnlyReadsFile name.now (S.state shelf.old) (S.state shelf.new) }
 {
     let mut raster = room_for(alloc, size)?;
     fill(shelf, name, start, maxval, &mut raster)?;

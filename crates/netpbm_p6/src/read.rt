@@ -1,6 +1,6 @@
 // Reading a picture.
 ghost use Rattle.std.specs.Prelude.{IfOk};
-ghost use Rattle.shelf_core.specs.Files.{OnlyReads};
+ghost use Rattle.shelf_core.specs.Files.{OnlyReadsFile};
 ghost use Rattle.netpbm_p6.specs.Pictures.{IsSound, ReadsAs};
 
 use crate::Picture;
@@ -19,7 +19,7 @@ use std::alloc::Global;
 pub fn read_p6<S: Shelf>(alloc: Global, shelf: &mut S, name: &str) -> Result<Picture, ReadError>
     ensures answer { ReadsAs name.now (S.state shelf.old) (S.state shelf.new) result }
     ensures picture { IfOk result IsSound }
-    ensures reads { OnlyReads (S.state shelf.old) (S.state shelf.new) }
+    ensures reads { OnlyReadsFile name.now (S.state shelf.old) (S.state shelf.new) }
 {
     let header = read_header(shelf, name)?;
     let (size, maxval) = within_limits(&header)?;

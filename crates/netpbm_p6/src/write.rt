@@ -1,6 +1,6 @@
 // Writing a picture.
 ghost use Rattle.std.specs.Prelude.{◌≡◌, ◌++◌, ◌⊎◌, OnOk, OnErr, decimal};
-ghost use Rattle.shelf_core.specs.Files.{Changes, WritesRose, OnlyWrites, Appends, AppendsPart};
+ghost use Rattle.shelf_core.specs.Files.{Changes, WritesRose, OnlyWritesFile, Appends, AppendsPart};
 ghost use Rattle.shelf_core.specs.Written.{HoldsText, HoldsPart};
 ghost use Rattle.netpbm_p6.specs.Pictures.{IsPicture, p6_form};
 
@@ -14,7 +14,7 @@ fn add_number<S: Shelf>(shelf: &mut S, name: &str, number: u32, end: &[u8]) -> R
         (Appends name.now (decimal number ++ end.now))) }
     ensures part { OnErr result (Changes (S.state shelf.old) (S.state shelf.new)
         (AppendsPart name.now (decimal number ++ end.now))) }
-    ensures writes { OnlyWrites (S.state shelf.old) (S.state shelf.new) }
+    ensures writes { OnlyWritesFile name.now (S.state shelf.old) (S.state shelf.new) }
     ensures failed { OnErr result (WritesRose name.now (S.state shelf.old) (S.state shelf.new)) }
 {
     let mut buffer = Buffer::new();
@@ -35,7 +35,7 @@ pub fn write_p6<S: Shelf>(
         (HoldsText name.now (p6_form maxval volume.now))) }
     ensures err { OnErr result (Changes (S.state shelf.old) (S.state shelf.new)
         (HoldsPart name.now (p6_form maxval volume.now))) }
-    ensures writes { OnlyWrites (S.state shelf.old) (S.state shelf.new) }
+    ensures writes { OnlyWritesFile name.now (S.state shelf.old) (S.state shelf.new) }
     ensures failed { OnErr result (WritesRose name.now (S.state shelf.old) (S.state shelf.new)) }
 {
     let size = volume.size();

@@ -47,7 +47,7 @@ module _ (job : QuiltJob) (a b : ShelfState) where
   none_before : (files : Files) → NoneRefused (quilt_command job) 0 files
   none_before files m fault le refuses = omega (arith, le, refuses.all)
 
-  pub picture_not_read : OnlyReads a b → (answer : ReadError) → ReadsAs job.names.sample a b (Err answer) → NotMade (quilt_command job) a b (fault_of_read part.Sample answer)
+  pub picture_not_read : {names : List (List ℕ)} → OnlyReads names a b → (answer : ReadError) → ReadsAs job.names.sample a b (Err answer) → NotMade (quilt_command job) a b (fault_of_read part.Sample answer)
   picture_not_read reads answer left =
       not_read (quilt_command job) a b 0 part.Sample job.names.sample refl Refuses (λ files. Unit {0}) (λ why. tt) (λ what number bound. tt)
       (λ files refusal seen refuses. record { all = refl; refused = inl (refusal, refuses, refl) }) (λ files seen. none_before files) (sees_all (λ files. Unit {0}) a b (λ files. tt) reads) answer
@@ -68,7 +68,7 @@ module _ (job : QuiltJob) (a b : ShelfState) where
     not_quilted within (error.Records number) passes = over _ _ _ (inr (record { within = within; number = number; passes = passes; is = refl }))
     not_quilted within error.NoMemory left = tt
 
-  pub quilt_made : (made : PictureQuilt) → OnlyReads a b → IsVolume made.sample.volume → Changes a b (λ before after. IsRead (content_of before job.names.sample) made.sample)
+  pub quilt_made : {names : List (List ℕ)} (made : PictureQuilt) → OnlyReads names a b → IsVolume made.sample.volume → Changes a b (λ before after. IsRead (content_of before job.names.sample) made.sample)
       → IsQuiltWithin job → IsQuilt (quilt_run_of job) made.sample.volume made.quilted
       → IsPlanned (quilt_command job) (quilt_files job made) (quilt_summary job made) a b
   quilt_made made reads volume read within quilt = record {

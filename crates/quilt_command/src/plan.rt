@@ -2,6 +2,7 @@
 ghost use Rattle.std.specs.Prelude.{◌≡◌, IfOk};
 ghost use Rattle.shelf_core.specs.Files.{OnlyReads};
 ghost use Rattle.job_words.specs.QuiltWords.{IsQuiltJob};
+ghost use Rattle.command.specs.Commands.{names_in};
 ghost use Rattle.command.specs.Outcomes.{Plans};
 ghost use Rattle.quilt_command.specs.Quilts.{IsMadeQuilt, SetForPicture, fault_of_quilting, quilt_command, quilt_files, quilt_run_of, quilt_size, quilt_summary};
 
@@ -91,7 +92,8 @@ pub(crate) fn plan<S: Shelf>(
     ensures planned { Plans (quilt_command job.now) (quilt_files job.now) (quilt_summary job.now)
         (S.state shelf.old) (S.state shelf.new) result }
     ensures made { IfOk result (IsMadeQuilt job.now) }
-    ensures reads { OnlyReads (S.state shelf.old) (S.state shelf.new) }
+    ensures reads { OnlyReads (names_in (quilt_command job.now).reads)
+        (S.state shelf.old) (S.state shelf.new) }
 {
     let sample = match read_p6(alloc, shelf, job.names.sample.as_text()) {
         Ok(sample) => sample,

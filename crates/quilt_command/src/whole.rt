@@ -3,7 +3,7 @@ ghost use Rattle.std.specs.Prelude.{◌≡◌};
 ghost use Rattle.shelf_core.specs.Files.{OnlyWrites};
 ghost use Rattle.job_words.specs.QuiltWords.{IsQuiltJob};
 ghost use Rattle.command.specs.Outcomes.{Leaves};
-ghost use Rattle.command.specs.Writing.{WritesRun};
+ghost use Rattle.command.specs.Writing.{WritesRun, text_names};
 ghost use Rattle.quilt_command.specs.Quilts.{IsMadeQuilt, quilt_command, quilt_files, quilt_head, quilt_summary};
 
 use crate::files::BlocksFile;
@@ -53,7 +53,8 @@ fn write_quilt<S: Shelf, O: Sink>(
     requires made { IsMadeQuilt job.now made.now }
     ensures wrote { WritesRun (quilt_files job.now made.now) (quilt_summary job.now made.now)
         (S.state shelf.old) (S.state shelf.new) (O.state out.old) (O.state out.new) result }
-    ensures writes { OnlyWrites (S.state shelf.old) (S.state shelf.new) }
+    ensures writes { OnlyWrites (text_names (quilt_files job.now made.now))
+        (S.state shelf.old) (S.state shelf.new) }
 {
     let volume = &made.sample.volume;
     let form = Form::Picture {

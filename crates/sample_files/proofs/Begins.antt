@@ -26,7 +26,7 @@ clip_begins bytes clip is =
     let l = is.sized.lined in
     ap begins_clip (l.is ∙ ap (λ t. t ++ l.rest) l.is_line.is)
 
-module _ (most : ℕ) (name : List ℕ) (a b c : ShelfState) (clip : Bool) (reads : OnlyReads a b) (then_reads : OnlyReads b c) (begins : InFile name a b (λ bytes. begins_clip bytes ≡ clip)) where
+module _ {names : List (List ℕ)} (most : ℕ) (name : List ℕ) (a b c : ShelfState) (clip : Bool) (reads : OnlyReads names a b) (then_reads : OnlyReads names b c) (begins : InFile name a b (λ bytes. begins_clip bytes ≡ clip)) where
   refused : (error : ReadError) → InFile name b c (λ bytes. RefusesAs clip most bytes error) → InFile name a c (λ bytes. RefusesWithin most bytes error)
   refused error left = sees_then (λ files. begins_clip (content_of files name) ≡ clip) (λ files. RefusesAs clip most (content_of files name) error) (λ files. RefusesWithin most (content_of files name) error) a b c
       (λ files is r. subst (λ t. RefusesAs t most (content_of files name) error) (sym is) r) reads then_reads begins left

@@ -6,20 +6,21 @@ use Rattle.std.proofs.lemmas.Option.{slice_get-map, slice_get_read}
 use Rattle.cells.specs.Cells.{Cells, count_of, sizes_of, with_part}
 use Rattle.cells.specs.PartLists.{parts_of}
 use Rattle.cells.proofs.Joining.{count_behind}
-use Rattle.shelf_core.specs.Files.{Files, ShelfState, OnlyReads, Changes, content_of}
+use Rattle.shelf_core.specs.Files.{Files, ShelfState, OnlyReads, OnlyReadsFile, Changes, content_of}
 use Rattle.shelf_core.specs.declared.fault.ReadError.{ReadError}
 use Rattle.shelf_core.specs.declared.fault.ReadError.TheVariants as error
-use Rattle.shelf_core.proofs.FileLaws.{rose_later, told_both, told_then, told_weaker}
+use Rattle.shelf_core.proofs.FileLaws.{among_head, only_reads_of_more, rose_later, told_both, told_then, told_weaker}
 use Rattle.synth_report.specs.declared.fault.FileOf.TheVariants as part
 use Rattle.synth_report.specs.declared.fault.Fault.{Fault}
 use Rattle.synth_report.specs.declared.fault.Fault.TheVariants.{Words, Form as FormFault, Unlike, Mark, Limit, Read, Write, NoMemory, NoLoop}
-use Rattle.command.specs.Commands.{named}
+use Rattle.command.specs.Commands.{named, names_in}
 use Rattle.command.specs.Faults.{FailsToRead, fault_of_read}
+use Rattle.command.proofs.Asking.{turn_among}
 use Rattle.sample_files.specs.declared.form.Form.{Form}
 use Rattle.sample_files.specs.declared.sample.Sample.{Sample}
 use Rattle.sample_files.specs.declared.several.Samples.{Samples}
 use Rattle.sample_files.specs.Samples.{IsSampleOf, IsSoundIn, IsSoundSample, RefusesSample, goes_with}
-use Rattle.sample_files.specs.Several.{StandForSamples, AreSoundSamples, MayRefuseSamples, NoSampleRefused, RefusesNext, RefusesSamples, SamplesAreRefused, SamplesReadAs, StandAlike, StandForParts, StandsAlike, contents, numbered_files}
+use Rattle.sample_files.specs.Several.{StandForSamples, AreSoundSamples, MayRefuseSamples, NoSampleRefused, RefusesNext, RefusesSamples, SamplesAreRefused, SamplesReadAs, StandAlike, StandForParts, StandsAlike, contents, numbered_files, sample_files}
 use Rattle.sample_files.specs.Steps.{IsJoined, IsNextRead, IsNextRefused, NotNext}
 use Rattle.sample_files.proofs.OneSample.{count_alone, sound_alone, sound_count, sound_first, sound_joined}
 use Rattle.sample_files.proofs.Joined.{parts_alone}
@@ -92,7 +93,7 @@ contents_more files names i name lt is =
 abbrev pub AreReadSoFar : List ℕ → List (List ℕ) → Samples → ShelfState → ShelfState → Type 0
 AreReadSoFar first names samples was now = Changes was now (λ before after. StandForSamples (content_of before first) (contents before names) samples)
 
-module _ (was mid now : ShelfState) (reads : OnlyReads was mid) where
+module _ {asked : List (List ℕ)} (was mid now : ShelfState) (reads : OnlyReads asked was mid) where
   -- what is known of the files as they are is known of them as they were
   later : (P : Files → Type 0) → Changes mid now (λ before after. P before) → Changes was now (λ before after. P before)
   later P known = told_then (λ before after. after ≡ before) (λ before after. P before) (λ before after. P before) was.files mid.files now.files
@@ -109,7 +110,7 @@ module _ (was mid now : ShelfState) (reads : OnlyReads was mid) where
 
 -- The first sample isn't read.
 
-pub first_unread : (first : List ℕ) (more : List (List ℕ)) (was now : ShelfState) → OnlyReads was now → (answer : ReadError) → FailsToRead RefusesSample first was now answer → SamplesReadAs first more was now (Err (fault_of_read part.Sample answer))
+pub first_unread : {names : List (List ℕ)} (first : List ℕ) (more : List (List ℕ)) (was now : ShelfState) → OnlyReads names was now → (answer : ReadError) → FailsToRead RefusesSample first was now answer → SamplesReadAs first more was now (Err (fault_of_read part.Sample answer))
 first_unread first more was now reads error.ReadFault left = record {
   turn = 0;
   name = first;
@@ -141,6 +142,19 @@ numbered (x ∷ names) n (suc i) name is =
     let same : suc n + i ≡ n + suc i = omega arith in
     numbered names (suc n) i name is ∙ ap (λ m. Some (named (part.More m) name)) same
 
+-- The files of the samples alone are asked for.
+
+pub first_reads : (first : List ℕ) (more : List (List ℕ)) (seen : List ℕ) → seen ≡ first → (a b : ShelfState) → OnlyReadsFile seen a b → OnlyReads (names_in (sample_files first more)) a b
+first_reads first more seen is a b reads =
+    only_reads_of_more a b (among_head first (names_in (numbered_files 2 more))) (subst (λ name. OnlyReadsFile name a b) is reads)
+
+pub next_reads : (first : List ℕ) (more : List (List ℕ)) (i : ℕ) (name seen : List ℕ) → i < length more → name ≡ get_or more i name → seen ≡ name → (a b : ShelfState) → OnlyReadsFile seen a b
+    → OnlyReads (names_in (sample_files first more)) a b
+next_reads first more i name seen lt its is a b reads =
+    only_reads_of_more a b
+    (turn_among (sample_files first more) (suc i) (part.More (2 + i)) name (numbered more 2 i name (slice_get_read more (length more) i name refl lt its)))
+    (subst (λ n. OnlyReadsFile n a b) is reads)
+
 known_in : (m n : ℕ) (fault : Fault) → m ≤ n → MayRefuseSamples m fault → MayRefuseSamples n fault
 known_in m n (FormFault part.Sample why) le k = k
 known_in m n (FormFault (part.More x) why) le k = (k.0, omega (arith, k.1))
@@ -170,8 +184,8 @@ known_in m n (Write its) le k = absurd k
 known_in m n NoMemory le k = absurd k
 known_in m n (NoLoop length) le k = absurd k
 
-module _ (first : List ℕ) (names : List (List ℕ)) (i : ℕ) (name : List ℕ) (before : Samples) (was mid now : ShelfState) (lt : i < length names) (is : name ≡ get_or names i name)
-    (reads : OnlyReads was mid) (so_far : AreReadSoFar first (take i names) before was mid) where
+module _ {asked : List (List ℕ)} (first : List ℕ) (names : List (List ℕ)) (i : ℕ) (name : List ℕ) (before : Samples) (was mid now : ShelfState) (lt : i < length names) (is : name ≡ get_or names i name)
+    (reads : OnlyReads asked was mid) (so_far : AreReadSoFar first (take i names) before was mid) where
   get : slice_get names i ≡ Some name
   get = slice_get_read names (length names) i name refl lt is
 
@@ -211,7 +225,7 @@ module _ (first : List ℕ) (names : List (List ℕ)) (i : ℕ) (name : List ℕ
         )) (then_front so_far) r.refused;
   }
 
-  pub next_unread : OnlyReads mid now → (fault : Fault) → NotNext before (i + 2) name mid now fault → SamplesReadAs first names was now (Err fault)
+  pub next_unread : {later : List (List ℕ)} → OnlyReads later mid now → (fault : Fault) → NotNext before (i + 2) name mid now fault → SamplesReadAs first names was now (Err fault)
   next_unread then_reads (Read its) left = record {
     turn = i + 1;
     name = name;

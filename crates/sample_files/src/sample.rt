@@ -1,6 +1,6 @@
 // One sample: what its bytes are, whatever its form.
 ghost use Rattle.std.specs.Prelude.{◌≡◌, ◌≤◌, true, false, IfOk, OnErr};
-ghost use Rattle.shelf_core.specs.Files.{InFile, OnlyReads, ReadsRose};
+ghost use Rattle.shelf_core.specs.Files.{InFile, OnlyReadsFile, ReadsRose};
 ghost use Rattle.y4m_clip.specs.declared.bounds.TheConstants.{MOST_OF_ALL};
 ghost use Rattle.sample_files.specs.Samples.{IsSoundSample, IsSoundSampleWithin, SampleReadsAs, SampleReadsWithin, begins_clip};
 ghost use Rattle.sample_files.specs.Steps.{ReadsInForm};
@@ -27,7 +27,7 @@ fn begins_clip<S: Shelf>(shelf: &mut S, name: &str) -> Result<bool, Failed>
     ensures begins { IfOk result (λ clip. InFile name.now (S.state shelf.old) (S.state shelf.new)
         (λ bytes. begins_clip bytes ≡ clip)) }
     ensures failed { OnErr result (ReadsRose name.now (S.state shelf.old) (S.state shelf.new)) }
-    ensures reads { OnlyReads (S.state shelf.old) (S.state shelf.new) }
+    ensures reads { OnlyReadsFile name.now (S.state shelf.old) (S.state shelf.new) }
 {
     let mut first = [0u8; 1];
     let count = shelf.get(name, 0, &mut first)?;
@@ -44,7 +44,7 @@ fn read_as_clip<S: Shelf>(
     requires { most ≤ MOST_OF_ALL }
     ensures answer { ReadsInForm true most name.now (S.state shelf.old) (S.state shelf.new) result }
     ensures sound { IfOk result (IsSoundSampleWithin most) }
-    ensures reads { OnlyReads (S.state shelf.old) (S.state shelf.new) }
+    ensures reads { OnlyReadsFile name.now (S.state shelf.old) (S.state shelf.new) }
 {
     match read_clip(alloc, shelf, name, most) {
         Ok(Clip { form, volume }) => Ok(Sample {
@@ -60,7 +60,7 @@ fn read_as_picture<S: Shelf>(alloc: Global, shelf: &mut S, name: &str) -> Result
     ensures answer { (most : _) → ReadsInForm false most name.now
         (S.state shelf.old) (S.state shelf.new) result }
     ensures sound { (most : _) → IfOk result (IsSoundSampleWithin most) }
-    ensures reads { OnlyReads (S.state shelf.old) (S.state shelf.new) }
+    ensures reads { OnlyReadsFile name.now (S.state shelf.old) (S.state shelf.new) }
 {
     match read_p6(alloc, shelf, name) {
         Ok(Picture { maxval, volume }) => Ok(Sample {
@@ -84,7 +84,7 @@ pub fn read_sample_within<S: Shelf>(
     ensures answer { SampleReadsWithin most name.now
         (S.state shelf.old) (S.state shelf.new) result }
     ensures sound { IfOk result (IsSoundSampleWithin most) }
-    ensures reads { OnlyReads (S.state shelf.old) (S.state shelf.new) }
+    ensures reads { OnlyReadsFile name.now (S.state shelf.old) (S.state shelf.new) }
 {
     if begins_clip(shelf, name)? {
         return read_as_clip(alloc, shelf, name, most);
@@ -97,7 +97,7 @@ pub fn read_sample_within<S: Shelf>(
 pub fn read_sample<S: Shelf>(alloc: Global, shelf: &mut S, name: &str) -> Result<Sample, ReadError>
     ensures answer { SampleReadsAs name.now (S.state shelf.old) (S.state shelf.new) result }
     ensures sound { IfOk result IsSoundSample }
-    ensures reads { OnlyReads (S.state shelf.old) (S.state shelf.new) }
+    ensures reads { OnlyReadsFile name.now (S.state shelf.old) (S.state shelf.new) }
 {
     read_sample_within(alloc, shelf, name, MOST_SAMPLE_CELLS)
 }

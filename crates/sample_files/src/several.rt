@@ -2,9 +2,10 @@
 ghost use Rattle.std.specs.Prelude.{◌≡◌, ◌≤◌, ◌<◌, length, IfOk};
 ghost use Rattle.cells.specs.Cells.{IsVolume, count_of, sizes_of};
 ghost use Rattle.cells.specs.declared.bounds.TheConstants.{MOST_PARTS};
-ghost use Rattle.shelf_core.specs.Files.{OnlyReads};
+ghost use Rattle.shelf_core.specs.Files.{OnlyReads, OnlyReadsFile};
+ghost use Rattle.command.specs.Commands.{names_in};
 ghost use Rattle.sample_files.specs.Samples.{IsSoundSample};
-ghost use Rattle.sample_files.specs.Several.{AreSoundSamples, SamplesReadAs};
+ghost use Rattle.sample_files.specs.Several.{AreSoundSamples, SamplesReadAs, sample_files};
 ghost use Rattle.sample_files.specs.Steps.{Joins, NextReadsAs};
 
 use crate::form::Form;
@@ -67,7 +68,7 @@ fn read_next<S: Shelf>(
     requires number { 2 ≤ number }
     ensures answer { NextReadsAs samples.old number name.now
         (S.state shelf.old) (S.state shelf.new) samples.new result }
-    ensures reads { OnlyReads (S.state shelf.old) (S.state shelf.new) }
+    ensures reads { OnlyReadsFile name.now (S.state shelf.old) (S.state shelf.new) }
 {
     let sample = match read_sample(alloc, shelf, name) {
         Ok(sample) => sample,
@@ -79,6 +80,7 @@ fn read_next<S: Shelf>(
 /// Reads the samples of a run in the order of their numbers, each to its end, with the refusals of
 /// their forms. A further sample is refused where it doesn't go with the first, and then where all so
 /// far have too many cells together. No file is read after a refusal.
+#[tactic(auto, using(crate::proofs::Reading::first_reads))]
 pub fn read_samples<S: Shelf>(
     alloc: Global,
     shelf: &mut S,
@@ -89,7 +91,8 @@ pub fn read_samples<S: Shelf>(
     ensures answer { SamplesReadAs first.now more.now
         (S.state shelf.old) (S.state shelf.new) result }
     ensures sound { IfOk result AreSoundSamples }
-    ensures reads { OnlyReads (S.state shelf.old) (S.state shelf.new) }
+    ensures reads { OnlyReads (names_in (sample_files first.now more.now))
+        (S.state shelf.old) (S.state shelf.new) }
 {
     let Sample { form, volume } = match read_sample(alloc, shelf, first.as_text()) {
         Ok(sample) => sample,

@@ -39,11 +39,22 @@ listing_code = code_by (Call × (List ℕ × (ℕ × ℕ)))
 abbrev pub files_code : Coded Files
 files_code = fin.code {R = slice_cmp nat_cmp} (coded_list coded_ℕ) (coded_list coded_ℕ)
 
+abbrev pub calls_code : Coded (Option (List (List ℕ)))
+calls_code = coded_option (coded_list (coded_list coded_ℕ))
+
 abbrev pub mem_shelf_code : Coded MemShelfState
-mem_shelf_code = code_by (Files × (List Listing × (ℕ × ℕ)))
-    (coded× files_code (coded× (coded_list listing_code) (coded× coded_ℕ coded_ℕ)))
-    (λ s. (s.files, (s.listings, (s.reads, s.writes))))
-    (λ p. record { files = p.0; listings = p.1.0; reads = p.1.1.0; writes = p.1.1.1 })
+mem_shelf_code =
+    code_by (Files × (List Listing × (ℕ × (ℕ × Option (List (List ℕ))))))
+    (coded× files_code (coded× (coded_list listing_code) (coded× coded_ℕ
+    (coded× coded_ℕ calls_code))))
+    (λ s. (s.files, (s.listings, (s.reads, (s.writes, s.asked)))))
+    (λ p. record {
+      files = p.0;
+      listings = p.1.0;
+      reads = p.1.1.0;
+      writes = p.1.1.1.0;
+      asked = p.1.1.1.1;
+    })
     (λ _. refl)
 
 abbrev pub sure_shelf_code : Coded SureShelfState

@@ -1,20 +1,22 @@
 -- A reader has to trust this file. What the calls of a shelf do to its files, and those of a sink
 -- to its bytes. (Own.)
-use Rattle.std.specs.Prelude.{◌≡◌, ◌<◌, ◌≤◌, ◌-◌, ◌⊎◌, ℕ, List, [], ◌++◌, length, take, drop, min, Option, Some, None, unwrap_or}
+use Rattle.std.specs.Prelude.{◌≡◌, ◌<◌, ◌≤◌, ◌-◌, ◌⊎◌, ℕ, Bool, not, nat_eq, List, [], ◌∷◌, ◌++◌, filter, length, take, drop, min, Option, Some, None, unwrap_or}
 use Rattle.std.specs.Ordering.{nat_cmp}
-use Rattle.std.specs.Cmp.Lexicographic.{slice_cmp}
+use Rattle.std.specs.Cmp.Lexicographic.{pointwise, slice_cmp}
 use Rattle.std.specs.FinMap as map
+use Rattle.std.specs.List.{list_any}
 
 -- files: a finite map from the bytes of a name to the bytes of the file
 abbrev pub Files : Type 0
 Files = map.FinMap (slice_cmp nat_cmp) (List ℕ)
 
--- what a shelf means: its files, where it tells them, and for each name how often a read and a
--- write have failed
+-- what a shelf means: its files, where it tells them; for each name how often a read and a write
+-- have failed; and the name of each of its calls, in their order, where it tells those
 pub record ShelfState : Type 0 where
   pub files : Option Files
   pub reads : List ℕ → ℕ
   pub writes : List ℕ → ℕ
+  pub asked : Option (List (List ℕ))
 
 -- what a sink means: the bytes written, where it tells them, and how often a write has failed
 pub record SinkState : Type 0 where
@@ -58,16 +60,42 @@ InFile name was now Holds = Changes was now (λ before after. Holds (content_of 
 abbrev pub NeverFalls : (List ℕ → ℕ) → (List ℕ → ℕ) → Type 0
 NeverFalls before now = (name : List ℕ) → before name ≤ now name
 
--- the files stay, and the counts of write faults
-pub record OnlyReads (was now : ShelfState) : Type 0 where
+-- the shelf was asked for this name, once
+abbrev pub AsksFor : List ℕ → ShelfState → ShelfState → Type 0
+AsksFor name was now = Told was.asked now.asked (λ before after. after ≡ before ++ name ∷ [])
+
+-- the name is one of these
+abbrev pub is_one_of : List (List ℕ) → List ℕ → Bool
+is_one_of names name = list_any (pointwise nat_eq name) names
+
+-- the calls that were for none of these names, in their order
+unfoldable pub calls_beside : List (List ℕ) → List (List ℕ) → List (List ℕ)
+calls_beside names calls = filter (λ call. not (is_one_of names call)) calls
+
+-- the shelf was asked for these names alone: the calls for all others are as before
+abbrev pub AsksOnly : List (List ℕ) → ShelfState → ShelfState → Type 0
+AsksOnly names was now = Told was.asked now.asked
+    (λ before after. calls_beside names after ≡ calls_beside names before)
+
+-- these files alone are asked for; all files stay, and the counts of write faults
+pub record OnlyReads (names : List (List ℕ)) (was now : ShelfState) : Type 0 where
   pub files : Changes was now (λ before after. after ≡ before)
   pub reads : NeverFalls was.reads now.reads
   pub writes : now.writes ≡ was.writes
+  pub asked : AsksOnly names was now
 
--- the counts of read faults stay
-pub record OnlyWrites (was now : ShelfState) : Type 0 where
+-- these files alone are asked for; the counts of read faults stay
+pub record OnlyWrites (names : List (List ℕ)) (was now : ShelfState) : Type 0 where
   pub writes : NeverFalls was.writes now.writes
   pub reads : now.reads ≡ was.reads
+  pub asked : AsksOnly names was now
+
+-- the same of one file
+abbrev pub OnlyReadsFile : List ℕ → ShelfState → ShelfState → Type 0
+OnlyReadsFile name was now = OnlyReads (name ∷ []) was now
+
+abbrev pub OnlyWritesFile : List ℕ → ShelfState → ShelfState → Type 0
+OnlyWritesFile name was now = OnlyWrites (name ∷ []) was now
 
 -- a read of n bytes from a place on: as many as the buffer and the file have, and those of the file
 pub record Reads (bytes : List ℕ) (at : ℕ) (into : List ℕ) (n : ℕ) : Type 0 where

@@ -7,12 +7,14 @@ use Rattle.shelf_core.specs.declared.listing.Call.{Call}
 use Rattle.shelf_core.specs.declared.listing.Call.TheVariants.{Get, Add}
 use Rattle.shelf_core.specs.declared.listing.Listing.{Listing}
 
--- the files, the calls that are listed to fail, and one count of faults of each kind for all names
+-- the files, the calls that are listed to fail, one count of faults of each kind for all names, and
+-- the names of all calls while there is memory for them
 pub record MemShelfState : Type 0 where
   pub files : Files
   pub listings : List Listing
   pub reads : ℕ
   pub writes : ℕ
+  pub asked : Option (List (List ℕ))
 
 -- the bytes, the calls of add that are listed to fail, and the count of faults
 pub record MemSinkState : Type 0 where
@@ -20,29 +22,39 @@ pub record MemSinkState : Type 0 where
   pub listings : List Listing
   pub faults : ℕ
 
--- what the trait sees of each: everything is told, and the counts are those of every name
+-- what the trait sees of each: files and bytes are told, and the counts are those of every name
 abbrev pub mem_shelf_state : MemShelfState → ShelfState
-mem_shelf_state m = record { files = Some m.files; reads = λ _. m.reads; writes = λ _. m.writes }
+mem_shelf_state m = record {
+  files = Some m.files;
+  reads = λ _. m.reads;
+  writes = λ _. m.writes;
+  asked = m.asked;
+}
 
 abbrev pub mem_sink_state : MemSinkState → SinkState
 mem_sink_state m = record { bytes = Some m.bytes; faults = m.faults }
 
--- after a call that went well: the files are these
-abbrev pub well : Call → List ℕ → MemShelfState → Files → MemShelfState
-well call name was files =
-    record was { files = files; listings = after_call call name was.listings }
+-- after a call that went well: the files are these, and the names of all calls
+abbrev pub well : Call → List ℕ → MemShelfState → Files → Option (List (List ℕ)) → MemShelfState
+well call name was files calls =
+    record was { files = files; listings = after_call call name was.listings; asked = calls }
 
--- after a read that failed
-abbrev pub unread : List ℕ → MemShelfState → MemShelfState
-unread name was =
-    record was { listings = after_call Get name was.listings; reads = one_more was.reads }
+-- after a read that failed: the names of all calls are these
+abbrev pub unread : List ℕ → MemShelfState → Option (List (List ℕ)) → MemShelfState
+unread name was calls = record was {
+  listings = after_call Get name was.listings;
+  reads = one_more was.reads;
+  asked = calls;
+}
 
--- after a write that failed: the files are these
-abbrev pub unwritten : Call → List ℕ → MemShelfState → Files → MemShelfState
-unwritten call name was files = record was {
+-- after a write that failed: the files are these, and the names of all calls
+abbrev pub unwritten : Call → List ℕ → MemShelfState → Files → Option (List (List ℕ))
+    → MemShelfState
+unwritten call name was files calls = record was {
   files = files;
   listings = after_call call name was.listings;
   writes = one_more was.writes;
+  asked = calls;
 }
 
 -- a sink after an add that went well

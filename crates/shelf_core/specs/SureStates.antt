@@ -16,9 +16,9 @@ pub record SureSinkState : Type 0 where
   pub room : ℕ
   pub bytes : Option (List ℕ)
 
--- what the trait sees of each: no call has failed
+-- what the trait sees of each: no call has failed, and no name of a call is kept
 abbrev pub sure_shelf_state : SureShelfState → ShelfState
-sure_shelf_state s = record { files = s.files; reads = λ _. 0; writes = λ _. 0 }
+sure_shelf_state s = record { files = s.files; reads = λ _. 0; writes = λ _. 0; asked = None }
 
 abbrev pub sure_sink_state : SureSinkState → SinkState
 sure_sink_state s = record { bytes = s.bytes; faults = 0 }

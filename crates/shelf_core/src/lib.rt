@@ -10,6 +10,7 @@
 #![tactic(auto)]
 
 mod bytes;
+mod calls;
 mod fault;
 mod listing;
 mod mem_shelf;

@@ -1,12 +1,13 @@
 // A shelf in memory, which always tells its files.
-ghost use Rattle.std.specs.Prelude.{◌≡◌, ◌≤◌, ◌⊎◌, ◌++◌, ◌∷◌, [], ◌↔◌, IfOk, OnOk, OnErr, IsErr, IsSome, option_copied, position, length};
+ghost use Rattle.std.specs.Prelude.{◌≡◌, ◌≤◌, ◌⊎◌, ◌++◌, ◌∷◌, [], ◌↔◌, Some, IfOk, OnOk, OnErr, IsErr, IsSome, option_copied, position, length};
 ghost use Rattle.std.specs.FinMap as map;
-ghost use Rattle.shelf_core.specs.Files.{Changes, Rose, Reads, OnlyReads, OnlyWrites, content_of, Begins, BeginsPart, Appends, AppendsPart};
+ghost use Rattle.shelf_core.specs.Files.{Changes, Rose, Reads, AsksFor, OnlyReadsFile, OnlyWritesFile, content_of, Begins, BeginsPart, Appends, AppendsPart};
 ghost use Rattle.shelf_core.specs.Listings.{due, one_more};
 ghost use Rattle.shelf_core.specs.MemStates.{mem_shelf_state, well, unread, unwritten, FailsToGet, KeptBy};
 ghost use Rattle.shelf_core.specs.Entries.{files_of, is_named};
 
 use crate::bytes::Bytes;
+use crate::calls::Calls;
 use crate::listing::{Call, Listing, Listings, raised};
 use crate::pieces::{copy_out, front_of};
 use crate::{Failed, Shelf};
@@ -21,7 +22,8 @@ pub struct MemFile {
 }
 
 /// Files in memory, with one count of faults of each kind for all names. Calls can be listed to
-/// fail. A `get` of a missing name, a listed call and a refused growth fail, and no other call.
+/// fail. A `get` of a missing name, a listed call and a refused growth fail, and no other call. It keeps
+/// the name of each call; where there is no memory for one, it tells none from then on.
 #[derive(Drop)]
 pub struct MemShelf {
     alloc: Global,
@@ -29,6 +31,7 @@ pub struct MemShelf {
     listings: Listings,
     read_faults: u64,
     write_faults: u64,
+    calls: Calls,
 }
 
 impl Model for MemShelf {
@@ -46,6 +49,7 @@ impl Model for MemShelf {
       listings = a.listings;
       reads = a.read_faults;
       writes = a.write_faults;
+      asked = a.calls;
     } };
 }
 
@@ -109,7 +113,8 @@ fn extend(
 impl MemShelf {
     /// No file, no listing and no fault.
     pub fn new(alloc: Global) -> MemShelf
-        ensures { result ≡ record { files = map.empty; listings = []; reads = 0; writes = 0 } }
+        ensures { result ≡
+            record { files = map.empty; listings = []; reads = 0; writes = 0; asked = Some [] } }
     {
         MemShelf {
             alloc,
@@ -117,6 +122,7 @@ impl MemShelf {
             listings: Listings::new(alloc),
             read_faults: 0,
             write_faults: 0,
+            calls: Calls::new(alloc),
         }
     }
 
@@ -198,12 +204,16 @@ impl Shelf for MemShelf {
         ensures read { IfOk result (λ n.
             Changes (mem_shelf_state self.old) (mem_shelf_state self.new)
             (λ was now. Reads (content_of was name.now) at into.new n)) }
-        ensures reads { OnlyReads (mem_shelf_state self.old) (mem_shelf_state self.new) }
+        ensures reads { OnlyReadsFile name.now (mem_shelf_state self.old)
+            (mem_shelf_state self.new) }
+        ensures asked { AsksFor name.now (mem_shelf_state self.old) (mem_shelf_state self.new) }
         ensures failed { OnErr result (Rose self.old.reads self.new.reads) }
         ensures fails { IsErr result ↔ FailsToGet name.now self.old }
-        ensures ok { OnOk result (self.new ≡ well Call.Get name.now self.old self.old.files) }
-        ensures err { OnErr result (self.new ≡ unread name.now self.old) }
+        ensures ok { OnOk result (self.new ≡
+            well Call.Get name.now self.old self.old.files self.new.asked) }
+        ensures err { OnErr result (self.new ≡ unread name.now self.old self.new.asked) }
     {
+        self.calls.note(self.alloc, name.as_bytes());
         if self.listings.pass(Call::Get, name.as_bytes()).is_none()
             && let Some(bytes) = content(&self.files, name.as_bytes())
         {
@@ -218,14 +228,18 @@ impl Shelf for MemShelf {
             (Begins name.now)) }
         ensures part { OnErr result (Changes (mem_shelf_state self.old) (mem_shelf_state self.new)
             (BeginsPart name.now)) }
-        ensures writes { OnlyWrites (mem_shelf_state self.old) (mem_shelf_state self.new) }
+        ensures writes { OnlyWritesFile name.now (mem_shelf_state self.old)
+            (mem_shelf_state self.new) }
+        ensures asked { AsksFor name.now (mem_shelf_state self.old) (mem_shelf_state self.new) }
         ensures failed { OnErr result (Rose self.old.writes self.new.writes) }
         ensures listed { IsSome (due Call.Begin name.now self.old.listings) → IsErr result }
         ensures ok { OnOk result (self.new ≡
-            well Call.Begin name.now self.old (map.insert self.old.files name.now [])) }
+            well Call.Begin name.now self.old (map.insert self.old.files name.now [])
+            self.new.asked) }
         ensures err { OnErr result (self.new ≡
-            unwritten Call.Begin name.now self.old self.old.files) }
+            unwritten Call.Begin name.now self.old self.old.files self.new.asked) }
     {
+        self.calls.note(self.alloc, name.as_bytes());
         let listed = self.listings.pass(Call::Begin, name.as_bytes());
         if listed.is_none()
             && let Ok(()) = put(
@@ -245,19 +259,22 @@ impl Shelf for MemShelf {
             (Appends name.now piece.now)) }
         ensures part { OnErr result (Changes (mem_shelf_state self.old) (mem_shelf_state self.new)
             (AppendsPart name.now piece.now)) }
-        ensures writes { OnlyWrites (mem_shelf_state self.old) (mem_shelf_state self.new) }
+        ensures writes { OnlyWritesFile name.now (mem_shelf_state self.old)
+            (mem_shelf_state self.new) }
+        ensures asked { AsksFor name.now (mem_shelf_state self.old) (mem_shelf_state self.new) }
         ensures failed { OnErr result (Rose self.old.writes self.new.writes) }
         ensures listed { IsSome (due Call.Add name.now self.old.listings) → IsErr result }
         ensures ok { OnOk result (self.new ≡
             well Call.Add name.now self.old
             (map.insert self.old.files name.now
-            (content_of self.old.files name.now ++ piece.now))) }
+            (content_of self.old.files name.now ++ piece.now)) self.new.asked) }
         ensures kept { OnErr result (KeptBy
             (due Call.Add name.now self.old.listings)
             self.old.files name.now piece.now self.new.files) }
         ensures err { OnErr result (self.new ≡
-            unwritten Call.Add name.now self.old self.new.files) }
+            unwritten Call.Add name.now self.old self.new.files self.new.asked) }
     {
+        self.calls.note(self.alloc, name.as_bytes());
         if let Some(kept) = self.listings.pass(Call::Add, name.as_bytes()) {
             let _ = extend(
                 self.alloc,

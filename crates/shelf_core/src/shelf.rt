@@ -1,6 +1,6 @@
 // The traits of the outside, and what a caller may rely on.
 ghost use Rattle.std.specs.Prelude.{◌≡◌, ◌≤◌, ◌++◌, ◌⊎◌, [], length, IfOk, OnOk, OnErr};
-ghost use Rattle.shelf_core.specs.Files.{ShelfState, SinkState, Told, Changes, Rose, ReadsRose, WritesRose, Reads, OnlyReads, OnlyWrites, content_of, IsPrefixAdded, Begins, BeginsPart, Appends, AppendsPart};
+ghost use Rattle.shelf_core.specs.Files.{ShelfState, SinkState, Told, Changes, Rose, ReadsRose, WritesRose, Reads, AsksFor, OnlyReadsFile, OnlyWritesFile, content_of, IsPrefixAdded, Begins, BeginsPart, Appends, AppendsPart};
 
 /// A call to the outside that failed. The count of faults of its kind tells that it did.
 #[derive(Clone, Copy, Debug, Drop, PartialEq, Eq)]
@@ -23,7 +23,8 @@ pub trait Sink {
 
 /// Files by their names.
 pub trait Shelf {
-    /// The files, where the shelf tells them, and for each name how often reads and writes have failed.
+    /// The files, where the shelf tells them; for each name how often reads and writes have failed; and
+    /// the name of each call, in their order, where it tells those.
     ghost state: { Self → ShelfState };
 
     /// Reads the bytes of a file from place `at` on, as many as the buffer and the file have, and
@@ -33,7 +34,8 @@ pub trait Shelf {
         ensures read { IfOk result (λ n.
             Changes (state self.old) (state self.new)
             (λ was now. Reads (content_of was name.now) at into.new n)) }
-        ensures reads { OnlyReads (state self.old) (state self.new) }
+        ensures reads { OnlyReadsFile name.now (state self.old) (state self.new) }
+        ensures asked { AsksFor name.now (state self.old) (state self.new) }
         ensures failed { OnErr result (ReadsRose name.now (state self.old) (state self.new)) };
 
     /// Makes a file present and empty. After `Failed` it is as before or empty.
@@ -41,7 +43,8 @@ pub trait Shelf {
         ensures begun { OnOk result (Changes (state self.old) (state self.new) (Begins name.now)) }
         ensures part { OnErr result (Changes (state self.old) (state self.new)
             (BeginsPart name.now)) }
-        ensures writes { OnlyWrites (state self.old) (state self.new) }
+        ensures writes { OnlyWritesFile name.now (state self.old) (state self.new) }
+        ensures asked { AsksFor name.now (state self.old) (state self.new) }
         ensures failed { OnErr result (WritesRose name.now (state self.old) (state self.new)) };
 
     /// Writes a piece behind the bytes of a file; a missing one counts as empty. After `Failed` a
@@ -51,6 +54,7 @@ pub trait Shelf {
             (Appends name.now piece.now)) }
         ensures part { OnErr result (Changes (state self.old) (state self.new)
             (AppendsPart name.now piece.now)) }
-        ensures writes { OnlyWrites (state self.old) (state self.new) }
+        ensures writes { OnlyWritesFile name.now (state self.old) (state self.new) }
+        ensures asked { AsksFor name.now (state self.old) (state self.new) }
         ensures failed { OnErr result (WritesRose name.now (state self.old) (state self.new)) };
 }

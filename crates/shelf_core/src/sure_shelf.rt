@@ -2,7 +2,7 @@
 ghost use Rattle.std.specs.Prelude.{◌≡◌, ◌≤◌, ◌<◌, ◌++◌, [], Some, None, IfOk, IsOk, IfSome, IfNone, OnOk, nat_le, length, option_copied, option_and_then};
 ghost use Rattle.std.specs.Bool.{OnTrue};
 ghost use Rattle.std.specs.FinMap as map;
-ghost use Rattle.shelf_core.specs.Files.{Told, Changes, Reads, OnlyReads, OnlyWrites, content_of, Begins, Appends};
+ghost use Rattle.shelf_core.specs.Files.{Told, Changes, Reads, OnlyReadsFile, OnlyWritesFile, content_of, Begins, Appends};
 ghost use Rattle.shelf_core.specs.Entries.{map_of};
 ghost use Rattle.shelf_core.specs.SureStates.{sure_shelf_state, size_of, after_write, told_content, kept_bytes, written_over, Opens, HasNamesOnce};
 
@@ -138,7 +138,8 @@ impl Shelf for SureShelf {
         ensures read { IfOk result (λ n.
             Changes (sure_shelf_state self.old) (sure_shelf_state self.new)
             (λ was now. Reads (content_of was name.now) at into.new n)) }
-        ensures reads { OnlyReads (sure_shelf_state self.old) (sure_shelf_state self.new) }
+        ensures reads { OnlyReadsFile name.now (sure_shelf_state self.old)
+            (sure_shelf_state self.new) }
         ensures sure { IsOk result }
         ensures same { self.new ≡ self.old }
         ensures told { IfOk result (λ n. Reads (told_content self.old name.now) at into.new n) }
@@ -150,7 +151,8 @@ impl Shelf for SureShelf {
     fn begin(&mut self, name: &str) -> Result<(), Failed>
         ensures begun { OnOk result (Changes (sure_shelf_state self.old) (sure_shelf_state self.new)
             (Begins name.now)) }
-        ensures writes { OnlyWrites (sure_shelf_state self.old) (sure_shelf_state self.new) }
+        ensures writes { OnlyWritesFile name.now (sure_shelf_state self.old)
+            (sure_shelf_state self.new) }
         ensures sure { IsOk result }
         ensures after { self.new ≡ after_write self.old (λ files. map.insert files name.now []) }
     {
@@ -161,7 +163,8 @@ impl Shelf for SureShelf {
     fn add(&mut self, name: &str, piece: &[u8]) -> Result<(), Failed>
         ensures added { OnOk result (Changes (sure_shelf_state self.old) (sure_shelf_state self.new)
             (Appends name.now piece.now)) }
-        ensures writes { OnlyWrites (sure_shelf_state self.old) (sure_shelf_state self.new) }
+        ensures writes { OnlyWritesFile name.now (sure_shelf_state self.old)
+            (sure_shelf_state self.new) }
         ensures sure { IsOk result }
         ensures after { self.new ≡ after_write self.old
             (λ files. map.insert files name.now (content_of files name.now ++ piece.now)) }

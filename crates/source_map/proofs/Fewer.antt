@@ -1,5 +1,5 @@
 -- A reader of fewer versions and kinds reads nothing else than one of more.
-use Rattle.std.proofs.Common.{◌≡◌, ◌⊎◌, inl, inr, ℕ, zero, suc, ◌≤◌, ◌<◌, List, refl, sym, ap, ◌∙◌, subst, arith, Bool, true, false, eqb-true}
+use Rattle.std.proofs.Common.{◌≡◌, ℕ, suc, ◌≤◌, ◌<◌, List, refl, sym, ap, ◌∙◌, arith, Bool, true, false, eqb-true}
 use Rattle.std.proofs.lemmas.Bool.{le-leb, lt-leb, ltb-true, ltb-false}
 use Rattle.std.specs.Int.{from_be_bytes, w8}
 use Rattle.std.specs.Prelude.{Result, Ok, Err, nat_eq, nat_lt, if◌then◌else◌}

@@ -106,8 +106,8 @@ first_stops memory name place first second was now r (Limit what number bound) s
     weaker name (λ bytes. first place bytes ≡ Err (Limit what number bound)) (λ bytes. chain first second place bytes ≡ Err (Limit what number bound)) now.files
     (λ bytes is. ap (λ p. p >>= λ x. second x.0 x.1 bytes) is) stops
 
-pub then_reads : {A B : Type 0} (memory : Type 0) (name : List ℕ) (place : ℕ) (first : ℕ → List ℕ → Result (A × ℕ) ReadError) (second : A → ℕ → List ℕ → Result (B × ℕ) ReadError)
-    (a b c : ShelfState) (r r' : Reading) (x : A) (result : Result B ReadError) → OnlyReads a b → OnlyReads b c
+pub then_reads : {names : List (List ℕ)} {A B : Type 0} (memory : Type 0) (name : List ℕ) (place : ℕ) (first : ℕ → List ℕ → Result (A × ℕ) ReadError) (second : A → ℕ → List ℕ → Result (B × ℕ) ReadError)
+    (a b c : ShelfState) (r r' : Reading) (x : A) (result : Result B ReadError) → OnlyReads names a b → OnlyReads names b c
     → Found name place b r first x → ReadsFrom memory name r.at b c r' (second x) result
     → ReadsFrom memory name place a c r' (chain first second) result
 then_reads {A = A} {B = B} memory name place first second a b c r r' x result before after found rest = by result rest
@@ -151,8 +151,8 @@ lifted memory name place read was now r (Err (Limit what number bound)) answer =
 abbrev pub behind : {A : Type 0} → List A → A → ℕ → List ℕ → Result (List A × ℕ) ReadError
 behind front last at bytes = Ok (front ++ last ∷ [], at)
 
-pub list_more : {A : Type 0} (name : List ℕ) (place i : ℕ) (read : ℕ → List ℕ → Result (A × ℕ) ReadError) (a b c : ShelfState) (r r' : Reading) (front : List A) (x : A)
-    → OnlyReads a b → OnlyReads b c → Found name place b r (list_read read i) front → Found name r.at c r' read x → Found name place c r' (list_read read (i + 1)) (front ++ x ∷ [])
+pub list_more : {names : List (List ℕ)} {A : Type 0} (name : List ℕ) (place i : ℕ) (read : ℕ → List ℕ → Result (A × ℕ) ReadError) (a b c : ShelfState) (r r' : Reading) (front : List A) (x : A)
+    → OnlyReads names a b → OnlyReads names b c → Found name place b r (list_read read i) front → Found name r.at c r' read x → Found name place c r' (list_read read (i + 1)) (front ++ x ∷ [])
 list_more name place i read a b c r r' front x before after so_far last =
     subst (λ n. Found name place c r' (list_read read n) (front ++ x ∷ [])) (sym (add-one i))
     (then_reads ⊥ name place (list_read read i) (λ front. chain read (behind front)) a b c r r' front (Ok (front ++ x ∷ [])) before after so_far
@@ -170,8 +170,8 @@ list_stays read (suc k) n m at bytes error same is =
     subst (λ i. list_read read i at bytes ≡ Err error) next
     (ap (λ p. p >>= λ front. read front.1 bytes >>= λ last. Ok (front.0 ++ last.0 ∷ [], last.1)) (list_stays read k n (k + n) at bytes error refl is))
 
-pub list_stops : {A : Type 0} (memory : Type 0) (name : List ℕ) (place i n : ℕ) (read : ℕ → List ℕ → Result (A × ℕ) ReadError) (a b c : ShelfState) (r r' : Reading) (front : List A) (error : ReadError)
-    → i < n → OnlyReads a b → OnlyReads b c → Found name place b r (list_read read i) front → ReadsFrom memory name r.at b c r' read (Err error)
+pub list_stops : {names : List (List ℕ)} {A : Type 0} (memory : Type 0) (name : List ℕ) (place i n : ℕ) (read : ℕ → List ℕ → Result (A × ℕ) ReadError) (a b c : ShelfState) (r r' : Reading) (front : List A) (error : ReadError)
+    → i < n → OnlyReads names a b → OnlyReads names b c → Found name place b r (list_read read i) front → ReadsFrom memory name r.at b c r' read (Err error)
     → ReadsFrom memory name place a c r' (list_read read n) (Err error)
 list_stops memory name place i n read a b c r r' front error lt before after so_far stops = on error (at_next)
   where

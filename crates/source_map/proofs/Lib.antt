@@ -12,3 +12,4 @@ pub mod HeadsSpelled
 pub mod MapsSpelled
 pub mod Fewer
 pub mod VersionOne
+pub mod WholeMaps

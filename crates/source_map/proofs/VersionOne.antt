@@ -1,8 +1,6 @@
 -- A map of version 1 and kind 0 is read by both readers.
-use Rattle.std.proofs.Common.{◌≡◌, ℕ, List, sym, ap, ◌∙◌, arith, false}
+use Rattle.std.proofs.Common.{◌≡◌, ℕ, List, ap, ◌∙◌, arith}
 use Rattle.std.specs.Prelude.{Ok, nat_eq, if◌then◌else◌}
-use Rattle.shelf_core.specs.declared.fault.ReadError.{ReadError}
-use Rattle.source_map.specs.declared.head.Version.{Version}
 use Rattle.source_map.specs.declared.head.Version.TheVariants.{One}
 use Rattle.source_map.specs.declared.head_reading.Start.{Start}
 use Rattle.source_map.specs.declared.map_file.MapFile.{MapFile}

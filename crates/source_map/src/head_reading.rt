@@ -1,7 +1,7 @@
 // Reading the head of map and record files.
 ghost use Rattle.std.specs.Prelude.{◌≡◌, ◌≤◌, ◌<◌, ◌+◌, ◌^◌, IfOk, IfErr, OnOk, IsTrue, length, ◌*◌};
 ghost use Rattle.std.specs.Int.{w8, w16, w32};
-ghost use Rattle.shelf_core.specs.Files.{OnlyReads};
+ghost use Rattle.shelf_core.specs.Files.{OnlyReadsFile};
 ghost use Rattle.cells.specs.Places.{HasAxes};
 ghost use Rattle.cells.specs.SizeLists.{AreSizes};
 ghost use Rattle.file_bytes.specs.Reading.{Follows};
@@ -119,7 +119,7 @@ fn read_magic<S: Shelf>(
     ensures answer { ReadsFrom ⊥ name.now file.old.at (S.state shelf.old) (S.state shelf.new)
         file.new (field_read 8 (magic_rule magic)) result }
     ensures place { OnOk result (file.new.at ≡ file.old.at + 8) }
-    ensures reads { OnlyReads (S.state shelf.old) (S.state shelf.new) }
+    ensures reads { OnlyReadsFile name.now (S.state shelf.old) (S.state shelf.new) }
 {
     let at = file.place();
     let mut piece = [0; 8];
@@ -139,7 +139,7 @@ fn read_version<S: Shelf>(
     ensures answer { ReadsFrom ⊥ name.now file.old.at (S.state shelf.old) (S.state shelf.new)
         file.new (number_read w8 (version_rule versions)) result }
     ensures place { OnOk result (file.new.at ≡ file.old.at + 1) }
-    ensures reads { OnlyReads (S.state shelf.old) (S.state shelf.new) }
+    ensures reads { OnlyReadsFile name.now (S.state shelf.old) (S.state shelf.new) }
 {
     let at = file.place();
     let n = file.u8(shelf, name)?;
@@ -160,7 +160,7 @@ fn read_kind<S: Shelf>(
         file.new (number_read w8 (kind_rule kinds version)) result }
     ensures kind { IfOk result (IsKind kinds version) }
     ensures place { OnOk result (file.new.at ≡ file.old.at + 1) }
-    ensures reads { OnlyReads (S.state shelf.old) (S.state shelf.new) }
+    ensures reads { OnlyReadsFile name.now (S.state shelf.old) (S.state shelf.new) }
 {
     let at = file.place();
     let n = file.u8(shelf, name)?;
@@ -179,7 +179,7 @@ pub(crate) fn read_axis<S: Shelf>(
         file.new (number_read w32 axis_rule) result }
     ensures within { IfOk result (λ n. (1 ≤ n) × (n ≤ GREATEST_AXIS)) }
     ensures place { OnOk result (file.new.at ≡ file.old.at + 4) }
-    ensures reads { OnlyReads (S.state shelf.old) (S.state shelf.new) }
+    ensures reads { OnlyReadsFile name.now (S.state shelf.old) (S.state shelf.new) }
 {
     let at = file.place();
     let n = file.u32(shelf, name)?;
@@ -194,7 +194,7 @@ fn read_count<S: Shelf>(file: &mut FileReader, shelf: &mut S, name: &str) -> Res
         file.new (number_read w16 count_rule) result }
     ensures within { IfOk result (λ n. (1 ≤ n) × (n ≤ MOST_PARTS)) }
     ensures place { OnOk result (file.new.at ≡ file.old.at + 2) }
-    ensures reads { OnlyReads (S.state shelf.old) (S.state shelf.new) }
+    ensures reads { OnlyReadsFile name.now (S.state shelf.old) (S.state shelf.new) }
 {
     let at = file.place();
     let n = file.u16(shelf, name)?;
@@ -213,7 +213,7 @@ pub(crate) fn read_size<S: Shelf>(
         file.new size_read result }
     ensures axes { IfOk result HasAxes }
     ensures place { OnOk result (file.new.at ≡ file.old.at + 12) }
-    ensures reads { OnlyReads (S.state shelf.old) (S.state shelf.new) }
+    ensures reads { OnlyReadsFile name.now (S.state shelf.old) (S.state shelf.new) }
 {
     let w = read_axis(file, shelf, name)?;
     let h = read_axis(file, shelf, name)?;
@@ -237,7 +237,7 @@ pub(crate) fn read_start<S: Shelf>(
     ensures axes { IfOk result (λ start. HasAxes start.output) }
     ensures kind { IfOk result (λ start. IsKind kinds start.version start.kind) }
     ensures place { OnOk result (file.new.at ≡ file.old.at + 22) }
-    ensures reads { OnlyReads (S.state shelf.old) (S.state shelf.new) }
+    ensures reads { OnlyReadsFile name.now (S.state shelf.old) (S.state shelf.new) }
 {
     read_magic(file, magic, shelf, name)?;
     let version = read_version(file, versions, shelf, name)?;
@@ -266,7 +266,7 @@ fn read_sizes<S: Shelf>(
     ensures count { IfOk result (λ sizes. length sizes ≡ count) }
     ensures sizes { IfOk result AreSizes }
     ensures place { OnOk result (file.new.at ≡ file.old.at + 12 * count) }
-    ensures reads { OnlyReads (S.state shelf.old) (S.state shelf.new) }
+    ensures reads { OnlyReadsFile name.now (S.state shelf.old) (S.state shelf.new) }
 {
     let mut sizes = Sizes::one(read_size(file, shelf, name)?);
     for i in 1..count {
@@ -290,7 +290,7 @@ pub(crate) fn read_samples<S: Shelf>(
         file.new (sizes_read version) result }
     ensures samples { IfOk result (AreSamples version) }
     ensures place { OnOk result (file.new.at ≤ file.old.at + 194) }
-    ensures reads { OnlyReads (S.state shelf.old) (S.state shelf.new) }
+    ensures reads { OnlyReadsFile name.now (S.state shelf.old) (S.state shelf.new) }
 {
     match version {
         Version::One => read_sizes(file, 1, shelf, name),
@@ -322,7 +322,7 @@ pub fn read_head<S: Shelf>(
     ensures head { IfOk result (λ found. IsHead found.0) }
     ensures kind { IfOk result (λ found. IsKind kinds found.0.version found.1) }
     ensures place { OnOk result (file.new.at ≤ 216) }
-    ensures reads { OnlyReads (S.state shelf.old) (S.state shelf.new) }
+    ensures reads { OnlyReadsFile name.now (S.state shelf.old) (S.state shelf.new) }
 {
     let start = read_start(file, magic, versions, kinds, shelf, name)?;
     let samples = read_samples(file, start.version, shelf, name)?;

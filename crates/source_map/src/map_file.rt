@@ -2,7 +2,7 @@
 ghost use Rattle.std.specs.Prelude.{◌≡◌, ◌<◌, ◌^◌, All, Some, IsSomeAnd, OnOk, OnErr};
 ghost use Rattle.std.specs.List.{flat_map};
 ghost use Rattle.cells.specs.SizeLists.{IsPartPlace};
-ghost use Rattle.shelf_core.specs.Files.{Changes, WritesRose, OnlyWrites};
+ghost use Rattle.shelf_core.specs.Files.{Changes, WritesRose, OnlyWritesFile};
 ghost use Rattle.shelf_core.specs.Written.{HoldsText, HoldsPart};
 ghost use Rattle.file_bytes.specs.Writing.{Puts};
 ghost use Rattle.source_map.specs.Heads.{AreSamples};
@@ -139,7 +139,7 @@ pub fn write_cell_map<S: Shelf>(
         (HoldsText name.now (cell_map_form map.now samples.now version))) }
     ensures err { OnErr result (Changes (S.state shelf.old) (S.state shelf.new)
         (HoldsPart name.now (cell_map_form map.now samples.now version))) }
-    ensures writes { OnlyWrites (S.state shelf.old) (S.state shelf.new) }
+    ensures writes { OnlyWritesFile name.now (S.state shelf.old) (S.state shelf.new) }
     ensures failed { OnErr result
         (WritesRose name.now (S.state shelf.old) (S.state shelf.new)) }
 {
@@ -165,7 +165,7 @@ pub fn write_frame_map<S: Shelf>(
         (HoldsText name.now (frame_map_form size sample frames.now))) }
     ensures err { OnErr result (Changes (S.state shelf.old) (S.state shelf.new)
         (HoldsPart name.now (frame_map_form size sample frames.now))) }
-    ensures writes { OnlyWrites (S.state shelf.old) (S.state shelf.new) }
+    ensures writes { OnlyWritesFile name.now (S.state shelf.old) (S.state shelf.new) }
     ensures failed { OnErr result
         (WritesRose name.now (S.state shelf.old) (S.state shelf.new)) }
 {

@@ -1,7 +1,7 @@
 // Reading the files of maps.
 ghost use Rattle.std.specs.Prelude.{◌≡◌, ◌≤◌, ◌<◌, ◌+◌, ◌*◌, ◌^◌, IfOk, IfErr, IfSome, IsSomeAnd, OnOk, length, All};
 ghost use Rattle.std.specs.Int.{w16, w32};
-ghost use Rattle.shelf_core.specs.Files.{OnlyReads};
+ghost use Rattle.shelf_core.specs.Files.{OnlyReadsFile};
 ghost use Rattle.cells.specs.Places.{HasAxes, IsInside, IsSmall, cell_count, spot};
 ghost use Rattle.cells.specs.SizeLists.{AreSizes, IsInPart, stock_place};
 ghost use Rattle.file_bytes.specs.Reading.{Follows};
@@ -96,7 +96,7 @@ fn read_same<S: Shelf>(
         file.new (number_read w32 (same_rule wanted)) result }
     ensures same { IfOk result (λ m. m ≡ wanted) }
     ensures place { OnOk result (file.new.at ≡ file.old.at + 4) }
-    ensures reads { OnlyReads (S.state shelf.old) (S.state shelf.new) }
+    ensures reads { OnlyReadsFile name.now (S.state shelf.old) (S.state shelf.new) }
 {
     let at = file.place();
     let n = file.u32(shelf, name)?;
@@ -116,7 +116,7 @@ fn read_below<S: Shelf>(
         file.new (number_read w16 (below_rule bound)) result }
     ensures below { IfOk result (λ n. n < bound) }
     ensures place { OnOk result (file.new.at ≡ file.old.at + 2) }
-    ensures reads { OnlyReads (S.state shelf.old) (S.state shelf.new) }
+    ensures reads { OnlyReadsFile name.now (S.state shelf.old) (S.state shelf.new) }
 {
     let at = file.place();
     let n = file.u16(shelf, name)?;
@@ -136,7 +136,7 @@ fn read_part<S: Shelf>(
         file.new (number_read w16 (part_rule count)) result }
     ensures within { IfOk result (λ n. (1 ≤ n) × (n ≤ count)) }
     ensures place { OnOk result (file.new.at ≡ file.old.at + 2) }
-    ensures reads { OnlyReads (S.state shelf.old) (S.state shelf.new) }
+    ensures reads { OnlyReadsFile name.now (S.state shelf.old) (S.state shelf.new) }
 {
     let at = file.place();
     let n = file.u16(shelf, name)?;
@@ -168,7 +168,7 @@ pub fn read_place<S: Shelf>(
         (S.state shelf.new) file.new (place_read size) result }
     ensures inside { IfOk result (IsInside size) }
     ensures place { OnOk result (file.new.at ≡ file.old.at + 6) }
-    ensures reads { OnlyReads (S.state shelf.old) (S.state shelf.new) }
+    ensures reads { OnlyReadsFile name.now (S.state shelf.old) (S.state shelf.new) }
 {
     let x = read_below(file, size.w, shelf, name)?;
     let y = read_below(file, size.h, shelf, name)?;
@@ -189,7 +189,7 @@ fn read_number<S: Shelf>(
         file.new (number_read w16 (part_rule (length samples.now))) result }
     ensures within { IfOk result (λ n. (1 ≤ n) × (n ≤ length samples.now)) }
     ensures place { OnOk result (file.new.at ≡ file.old.at + 2) }
-    ensures reads { OnlyReads (S.state shelf.old) (S.state shelf.new) }
+    ensures reads { OnlyReadsFile name.now (S.state shelf.old) (S.state shelf.new) }
 {
     read_part(file, samples.len(), shelf, name)
 }
@@ -216,7 +216,7 @@ fn read_place_in<S: Shelf>(
         IsInSamples samples.now (stock_place samples.now part p)) }
     ensures in_one { IfOk result (λ p. part ≡ 1 → IsInSamples samples.now p) }
     ensures place { OnOk result (file.new.at ≡ file.old.at + 6) }
-    ensures reads { OnlyReads (S.state shelf.old) (S.state shelf.new) }
+    ensures reads { OnlyReadsFile name.now (S.state shelf.old) (S.state shelf.new) }
 {
     read_place(file, samples.at(part), shelf, name)
 }
@@ -236,7 +236,7 @@ fn read_place_source<S: Shelf>(
     ensures source { IfOk result (λ source. IfSome source IsSource) }
     ensures inside { IfOk result (λ source. IsSomeAnd source (IsInSamples samples.now)) }
     ensures place { OnOk result (file.new.at ≡ file.old.at + 6) }
-    ensures reads { OnlyReads (S.state shelf.old) (S.state shelf.new) }
+    ensures reads { OnlyReadsFile name.now (S.state shelf.old) (S.state shelf.new) }
 {
     let from = read_place_in(file, samples, 1, shelf, name)?;
     Ok(Some(from))
@@ -257,7 +257,7 @@ fn read_numbered_source<S: Shelf>(
     ensures source { IfOk result (λ source. IfSome source IsSource) }
     ensures inside { IfOk result (λ source. IsSomeAnd source (IsInSamples samples.now)) }
     ensures place { OnOk result (file.new.at ≡ file.old.at + 8) }
-    ensures reads { OnlyReads (S.state shelf.old) (S.state shelf.new) }
+    ensures reads { OnlyReadsFile name.now (S.state shelf.old) (S.state shelf.new) }
 {
     let part = read_number(file, samples, shelf, name)?;
     let at = read_place_in(file, samples, part, shelf, name)?;
@@ -280,7 +280,7 @@ fn read_source<S: Shelf>(
     ensures source { IfOk result (λ source. IfSome source IsSource) }
     ensures inside { IfOk result (λ source. IsSomeAnd source (IsInSamples samples.now)) }
     ensures place { OnOk result (file.new.at ≤ file.old.at + 8) }
-    ensures reads { OnlyReads (S.state shelf.old) (S.state shelf.new) }
+    ensures reads { OnlyReadsFile name.now (S.state shelf.old) (S.state shelf.new) }
 {
     match version {
         Version::One => read_place_source(file, samples, shelf, name),
@@ -309,7 +309,7 @@ fn read_sources<S: Shelf>(
     ensures inside { IfOk result (λ m.
         All (λ source. IsSomeAnd source (IsInSamples samples.now)) m.sources) }
     ensures place { OnOk result (file.new.at ≤ file.old.at + 8 * cell_count size) }
-    ensures reads { OnlyReads (S.state shelf.old) (S.state shelf.new) }
+    ensures reads { OnlyReadsFile name.now (S.state shelf.old) (S.state shelf.new) }
 {
     let count = size.cells();
     let mut sources = Vec::new(alloc);
@@ -340,7 +340,7 @@ fn read_map_samples<S: Shelf>(
     ensures small { OnOk result (IsSmall output) }
     ensures few { OnOk result (cell_count output ≤ MOST_MAP_CELLS) }
     ensures place { OnOk result (file.new.at ≤ file.old.at + 194) }
-    ensures reads { OnlyReads (S.state shelf.old) (S.state shelf.new) }
+    ensures reads { OnlyReadsFile name.now (S.state shelf.old) (S.state shelf.new) }
 {
     let samples = read_samples(file, version, shelf, name)?;
     few_cells(output)?;
@@ -362,7 +362,7 @@ fn read_sample<S: Shelf>(
     ensures axes { IfOk result HasAxes }
     ensures same { IfOk result (λ sample. (sample.w ≡ output.w) × (sample.h ≡ output.h)) }
     ensures place { OnOk result (file.new.at ≡ file.old.at + 12) }
-    ensures reads { OnlyReads (S.state shelf.old) (S.state shelf.new) }
+    ensures reads { OnlyReadsFile name.now (S.state shelf.old) (S.state shelf.new) }
 {
     let w = read_same(file, output.w, shelf, name)?;
     let h = read_same(file, output.h, shelf, name)?;
@@ -386,7 +386,7 @@ fn read_entries<S: Shelf>(
         (list_read (number_read w16 (below_rule bound)) count) result }
     ensures count { IfOk result (λ frames. length frames ≡ count) }
     ensures below { IfOk result (All (λ e. e < bound)) }
-    ensures reads { OnlyReads (S.state shelf.old) (S.state shelf.new) }
+    ensures reads { OnlyReadsFile name.now (S.state shelf.old) (S.state shelf.new) }
 {
     let mut frames = Vec::new(alloc);
     for i in 0..count {
@@ -413,7 +413,7 @@ fn read_frames<S: Shelf>(
     ensures answer { ReadsFrom (Unit {0}) name.now file.old.at (S.state shelf.old)
         (S.state shelf.new) file.new (frames_read size) result }
     ensures lawful { IfOk result IsMapFile }
-    ensures reads { OnlyReads (S.state shelf.old) (S.state shelf.new) }
+    ensures reads { OnlyReadsFile name.now (S.state shelf.old) (S.state shelf.new) }
 {
     let sample = read_sample(file, size, shelf, name)?;
     let frames = read_entries(alloc, file, size.f, sample.f, shelf, name)?;
@@ -440,7 +440,7 @@ fn read_cells<S: Shelf>(
         (S.state shelf.new) file.new (cells_read version size) result }
     ensures lawful { IfOk result IsMapFile }
     ensures version { IfOk result (λ value. version ≡ Version.One → IsVersionOneMap value) }
-    ensures reads { OnlyReads (S.state shelf.old) (S.state shelf.new) }
+    ensures reads { OnlyReadsFile name.now (S.state shelf.old) (S.state shelf.new) }
 {
     let samples = read_map_samples(file, version, size, shelf, name)?;
     let map = read_sources(alloc, file, version, &samples, size, shelf, name)?;
@@ -465,7 +465,7 @@ fn read_body<S: Shelf>(
     ensures answer { ReadsFrom (Unit {0}) name.now file.old.at (S.state shelf.old)
         (S.state shelf.new) file.new (body_read start) result }
     ensures lawful { IfOk result IsMapFile }
-    ensures reads { OnlyReads (S.state shelf.old) (S.state shelf.new) }
+    ensures reads { OnlyReadsFile name.now (S.state shelf.old) (S.state shelf.new) }
 {
     if start.kind == 1 {
         read_frames(alloc, file, start.output, shelf, name)
@@ -486,7 +486,7 @@ fn read_value<S: Shelf>(
     ensures answer { ReadsFrom (Unit {0}) name.now file.old.at (S.state shelf.old)
         (S.state shelf.new) file.new value_read result }
     ensures lawful { IfOk result IsMapFile }
-    ensures reads { OnlyReads (S.state shelf.old) (S.state shelf.new) }
+    ensures reads { OnlyReadsFile name.now (S.state shelf.old) (S.state shelf.new) }
 {
     let start = read_start(file, MAGIC, 2, 2, shelf, name)?;
     read_body(alloc, file, start, shelf, name)
@@ -503,7 +503,7 @@ fn read_value<S: Shelf>(
 pub fn read_map<S: Shelf>(alloc: Global, shelf: &mut S, name: &str) -> Result<MapFile, ReadError>
     ensures answer { MapReadsAs name.now (S.state shelf.old) (S.state shelf.new) result }
     ensures lawful { IfOk result IsMapFile }
-    ensures reads { OnlyReads (S.state shelf.old) (S.state shelf.new) }
+    ensures reads { OnlyReadsFile name.now (S.state shelf.old) (S.state shelf.new) }
 {
     let mut file = FileReader::new();
     let value = read_value(alloc, &mut file, shelf, name)?;
@@ -524,7 +524,7 @@ fn read_version_one_value<S: Shelf>(
         (S.state shelf.new) file.new version_one_value_read result }
     ensures lawful { IfOk result IsMapFile }
     ensures version { IfOk result IsVersionOneMap }
-    ensures reads { OnlyReads (S.state shelf.old) (S.state shelf.new) }
+    ensures reads { OnlyReadsFile name.now (S.state shelf.old) (S.state shelf.new) }
 {
     let start = read_start(file, MAGIC, 1, 1, shelf, name)?;
     read_cells(alloc, file, Version::One, start.output, shelf, name)
@@ -541,7 +541,7 @@ pub fn read_version_one_map<S: Shelf>(
         (S.state shelf.old) (S.state shelf.new) result }
     ensures lawful { IfOk result IsMapFile }
     ensures version { IfOk result IsVersionOneMap }
-    ensures reads { OnlyReads (S.state shelf.old) (S.state shelf.new) }
+    ensures reads { OnlyReadsFile name.now (S.state shelf.old) (S.state shelf.new) }
 {
     let mut file = FileReader::new();
     let value = read_version_one_value(alloc, &mut file, shelf, name)?;

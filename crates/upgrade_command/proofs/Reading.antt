@@ -1,10 +1,10 @@
 -- What `upgrade` answers where a file isn't read, and what it makes of files that are.
-use Rattle.std.proofs.Common.{◌≡◌, ℕ, inl, inr, List, refl, sym, ap, ◌∙◌, subst, arith}
+use Rattle.std.proofs.Common.{◌≡◌, ℕ, inl, inr, List, [], ◌∷◌, refl, sym, ap, ◌∙◌, subst, arith}
 use Rattle.std.specs.Prelude.{All, Option, Some, None, Err, Ok}
-use Rattle.shelf_core.specs.Files.{Files, InFile, OnlyReads, ShelfState, Told, content_of}
+use Rattle.shelf_core.specs.Files.{Files, InFile, OnlyReads, OnlyReadsFile, ShelfState, Told, content_of}
 use Rattle.shelf_core.specs.declared.fault.ReadError.{ReadError}
 use Rattle.shelf_core.specs.declared.fault.ReadError.TheVariants.{ReadFault, Bad, Limit as ReadLimit, NoMemory as ReadMemory}
-use Rattle.shelf_core.proofs.FileLaws.{only_reads_then, told_both, told_weaker}
+use Rattle.shelf_core.proofs.FileLaws.{among_head, among_rest, only_reads_of_more, only_reads_then, told_both, told_weaker}
 use Rattle.shelf_core.proofs.Sees.{Sees, fault_later, sees_all, sees_earlier, sees_later, sees_then, sees_weaker}
 use Rattle.file_bytes.specs.Reading.{OfFile}
 use Rattle.source_map.specs.declared.head.Version.TheVariants.{One}
@@ -18,6 +18,7 @@ use Rattle.cert_file.specs.RecordFiles.{AreCutsInLimits, ReadsCertBy, version_on
 use Rattle.job_words.specs.declared.upgrade.UpgradeJob.{UpgradeJob}
 use Rattle.synth_report.specs.declared.fault.Fault.{Fault}
 use Rattle.synth_report.specs.declared.fault.FileOf.TheVariants as part
+use Rattle.command.specs.Commands.{names_in}
 use Rattle.command.specs.Faults.{FailsToRead}
 use Rattle.command.specs.Outcomes.{IsPlanned, NoneRefused, NotMade}
 use Rattle.command.specs.Writing.{texts_in}
@@ -33,23 +34,30 @@ of_file P name a None same holds = tt
 of_file P name None (Some now) same holds = absurd same
 of_file P name (Some was) (Some now) same holds = subst (λ files. P (content_of files name)) same holds
 
-pub cuts_seen : (name : List ℕ) (a b : ShelfState) (file : CertFile) → OnlyReads a b → ReadsCertBy version_one_cuts_read name a b (Ok file) → InFile name a b (λ bytes. AreFirstCuts bytes file)
+pub cuts_seen : {names : List (List ℕ)} (name : List ℕ) (a b : ShelfState) (file : CertFile) → OnlyReads names a b → ReadsCertBy version_one_cuts_read name a b (Ok file) → InFile name a b (λ bytes. AreFirstCuts bytes file)
 cuts_seen name a b file reads is = of_file (λ bytes. AreFirstCuts bytes file) name a.files b.files reads.files is
 
-pub cuts_fail : (name : List ℕ) (a b : ShelfState) → OnlyReads a b → (error : ReadError) → ReadsCertBy version_one_cuts_read name a b (Err error) → FailsToRead RefusesFirstCuts name a b error
+pub cuts_fail : {names : List (List ℕ)} (name : List ℕ) (a b : ShelfState) → OnlyReads names a b → (error : ReadError) → ReadsCertBy version_one_cuts_read name a b (Err error) → FailsToRead RefusesFirstCuts name a b error
 cuts_fail name a b reads ReadFault left = left
 cuts_fail name a b reads ReadMemory left = tt
 cuts_fail name a b reads (Bad why) left = of_file (λ bytes. RefusesFirstCuts bytes (Bad why)) name a.files b.files reads.files left
 cuts_fail name a b reads (ReadLimit what number bound) left = of_file (λ bytes. RefusesFirstCuts bytes (ReadLimit what number bound)) name a.files b.files reads.files left
 
 -- a reader that fails later fails
-fails_later : (Refuses : List ℕ → ReadError → Type 0) (name : List ℕ) (a b c : ShelfState) → OnlyReads a b → (error : ReadError) → FailsToRead Refuses name b c error → FailsToRead Refuses name a c error
+fails_later : {names : List (List ℕ)} (Refuses : List ℕ → ReadError → Type 0) (name : List ℕ) (a b c : ShelfState) → OnlyReads names a b → (error : ReadError) → FailsToRead Refuses name b c error → FailsToRead Refuses name a c error
 fails_later Refuses name a b c reads ReadFault left = fault_later name a b c reads left
 fails_later Refuses name a b c reads ReadMemory left = tt
 fails_later Refuses name a b c reads (Bad why) left = sees_later (λ files. Refuses (content_of files name) (Bad why)) a b c reads left
 fails_later Refuses name a b c reads (ReadLimit what number bound) left = sees_later (λ files. Refuses (content_of files name) (ReadLimit what number bound)) a b c reads left
 
 module _ (job : UpgradeJob) where
+  -- what asks for one of the two files asks for no other than them
+  pub of_map : (a b : ShelfState) → OnlyReadsFile job.map a b → OnlyReads (names_in (upgrade_command job).reads) a b
+  of_map a b reads = only_reads_of_more a b (among_head job.map (job.cert ∷ [])) reads
+
+  pub of_cert : (a b : ShelfState) → OnlyReadsFile job.cert a b → OnlyReads (names_in (upgrade_command job).reads) a b
+  of_cert a b reads = only_reads_of_more a b (among_rest job.map (job.cert ∷ [])) reads
+
   none_before : (files : Files) → Unit {0} → NoneRefused (upgrade_command job) 0 files
   none_before files seen m fault le (inl r) = omega (arith, r.turn, le)
   none_before files seen m fault le (inr r) = omega (arith, r.turn, le)
@@ -59,7 +67,7 @@ module _ (job : UpgradeJob) where
   after_map files have m fault le (inr r) = omega (arith, r.turn, le)
 
   -- the map isn't read
-  pub map_not_read : (a b : ShelfState) → OnlyReads a b → (fault : Fault) → IsNotRead RefusesFirstMap part.Map job.map a b fault → NotMade (upgrade_command job) a b fault
+  pub map_not_read : {names : List (List ℕ)} (a b : ShelfState) → OnlyReads names a b → (fault : Fault) → IsNotRead RefusesFirstMap part.Map job.map a b fault → NotMade (upgrade_command job) a b fault
   map_not_read a b reads fault r = subst (NotMade (upgrade_command job) a b) (sym r.is)
       (not_read (upgrade_command job) a b 0 part.Map job.map refl RefusesFirstMap (λ files. Unit {0}) (λ why. tt) (λ what number bound. tt)
       (λ files refusal seen refuses. inl (record { turn = refl; refused = (refusal, refuses, refl) })) none_before (sees_all (λ files. Unit {0}) a b (λ files. tt) reads) r.error r.fails)
@@ -68,7 +76,7 @@ module _ (job : UpgradeJob) where
   map_seen m a b seen = sees_weaker (λ files. IsFirstMap (content_of files job.map) m) (HoldsFirstMap job) a b (λ files is. (m, is)) seen
 
   -- the record isn't
-  pub cuts_not_read : (m : MapFile) (a b d : ShelfState) → OnlyReads a b → OnlyReads b d → InFile job.map a b (λ bytes. IsFirstMap bytes m) → (fault : Fault)
+  pub cuts_not_read : {names later : List (List ℕ)} (m : MapFile) (a b d : ShelfState) → OnlyReads names a b → OnlyReads later b d → InFile job.map a b (λ bytes. IsFirstMap bytes m) → (fault : Fault)
       → IsNotRead RefusesFirstCuts part.Cert job.cert b d fault → NotMade (upgrade_command job) a d fault
   cuts_not_read m a b d first second seen fault r = subst (NotMade (upgrade_command job) a d) (sym r.is)
       (not_read (upgrade_command job) a d 1 part.Cert job.cert refl RefusesFirstCuts (HoldsFirstMap job) (λ why. tt) (λ what number bound. tt)
@@ -85,15 +93,15 @@ sound_pair map_file cert pair map_is cert_is lawful limits flows = record {
 }
 
 -- and what is made of them
-pub pair_made : (job : UpgradeJob) (map_file : MapFile) (cert : CertFile) (pair : Pair) (a b d : ShelfState) → OnlyReads a b → OnlyReads b d → map_file ≡ CellMap pair.map pair.samples One → cert ≡ Cuts pair.head pair.cuts
+pub pair_made : (job : UpgradeJob) (map_file : MapFile) (cert : CertFile) (pair : Pair) (a b d : ShelfState) → OnlyReadsFile job.map a b → OnlyReadsFile job.cert b d → map_file ≡ CellMap pair.map pair.samples One → cert ≡ Cuts pair.head pair.cuts
     → InFile job.map a b (λ bytes. IsFirstMap bytes map_file) → InFile job.cert b d (λ bytes. AreFirstCuts bytes cert) → IsSoundPair pair
     → IsPlanned (upgrade_command job) (pair_files job pair) (pair_summary pair) a d
-pair_made job map_file cert pair a b d first second map_is cert_is of_map of_cert sound = record {
+pair_made job map_file cert pair a b d first second map_is cert_is has_map has_cuts sound = record {
   known = (_, _, refl);
   named = refl;
   made = told_weaker (λ before after. (after ≡ before) × HoldPair job before pair) (λ before after. (after ≡ before) × MakesPair job before (texts_in (pair_files job pair)) (pair_summary pair)) a.files d.files
       (λ before after s. (s.0, record { pair = pair; held = s.1; sound = sound; texts_are = refl; summary_is = refl }))
-      (told_both (λ before after. after ≡ before) (λ before after. HoldPair job before pair) a.files d.files (only_reads_then a b d first second).files
+      (told_both (λ before after. after ≡ before) (λ before after. HoldPair job before pair) a.files d.files (only_reads_then a b d (of_map job a b first) (of_cert job b d second)).files
       (sees_then (λ files. IsFirstMap (content_of files job.map) map_file) (λ files. AreFirstCuts (content_of files job.cert) cert) (λ files. HoldPair job files pair) a b d
-      (λ files m c. record { map_is = m ∙ ap (λ v. Ok v) map_is; cuts_are = c ∙ ap (λ v. Ok v) cert_is }) first second of_map of_cert));
+      (λ files m c. record { map_is = m ∙ ap (λ v. Ok v) map_is; cuts_are = c ∙ ap (λ v. Ok v) cert_is }) first second has_map has_cuts));
 }

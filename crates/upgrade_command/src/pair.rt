@@ -1,6 +1,6 @@
 // A map and cut records of version 1, as they are read.
 ghost use Rattle.std.specs.Prelude.{◌≡◌, IfOk};
-ghost use Rattle.shelf_core.specs.Files.{OnlyReads};
+ghost use Rattle.shelf_core.specs.Files.{OnlyReadsFile};
 ghost use Rattle.source_map.specs.declared.map_file.MapFile.TheVariants.{Cells as CellMap};
 ghost use Rattle.source_map.specs.MapFiles.{IsMapFile, IsVersionOneMap};
 ghost use Rattle.cert_file.specs.declared.file.CertFile.TheVariants.{Cuts};
@@ -39,7 +39,7 @@ pub(crate) fn read_first_map<S: Shelf>(
         (S.state shelf.old) (S.state shelf.new) result }
     ensures lawful { IfOk result IsMapFile }
     ensures version { IfOk result IsVersionOneMap }
-    ensures reads { OnlyReads (S.state shelf.old) (S.state shelf.new) }
+    ensures reads { OnlyReadsFile name.now (S.state shelf.old) (S.state shelf.new) }
 {
     match read_version_one_map(alloc, shelf, name.as_text()) {
         Ok(map) => Ok(map),
@@ -57,7 +57,7 @@ pub(crate) fn read_first_cuts<S: Shelf>(
         (S.state shelf.old) (S.state shelf.new) result }
     ensures lawful { IfOk result IsCert }
     ensures cuts { IfOk result AreCuts }
-    ensures reads { OnlyReads (S.state shelf.old) (S.state shelf.new) }
+    ensures reads { OnlyReadsFile name.now (S.state shelf.old) (S.state shelf.new) }
 {
     match read_version_one_cuts(alloc, shelf, name.as_text()) {
         Ok(cert) => Ok(cert),

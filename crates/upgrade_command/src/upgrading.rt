@@ -1,8 +1,9 @@
 // The command that tells a map and a record in version 2.
 ghost use Rattle.std.specs.Prelude.{◌≡◌, IfOk};
 ghost use Rattle.shelf_core.specs.Files.{OnlyReads, OnlyWrites};
+ghost use Rattle.command.specs.Commands.{names_in};
 ghost use Rattle.command.specs.Outcomes.{Leaves, Plans};
-ghost use Rattle.command.specs.Writing.{WritesRun};
+ghost use Rattle.command.specs.Writing.{WritesRun, text_names};
 ghost use Rattle.upgrade_command.specs.Upgrades.{IsSoundPair, in_version_two, pair_files, pair_summary, upgrade_command};
 
 use crate::pair::{Pair, pair_of, read_first_cuts, read_first_map};
@@ -20,7 +21,8 @@ fn plan<S: Shelf>(alloc: Global, job: &UpgradeJob, shelf: &mut S) -> Result<Pair
     ensures planned { Plans (upgrade_command job.now) (pair_files job.now) pair_summary
         (S.state shelf.old) (S.state shelf.new) result }
     ensures sound { IfOk result IsSoundPair }
-    ensures reads { OnlyReads (S.state shelf.old) (S.state shelf.new) }
+    ensures reads { OnlyReads (names_in (upgrade_command job.now).reads)
+        (S.state shelf.old) (S.state shelf.new) }
 {
     let map_file = match read_first_map(alloc, shelf, &job.map) {
         Ok(map_file) => map_file,
@@ -67,7 +69,8 @@ fn write_pair<S: Shelf, O: Sink>(
     requires { IsSoundPair pair }
     ensures wrote { WritesRun (pair_files job.now pair) (pair_summary pair)
         (S.state shelf.old) (S.state shelf.new) (O.state out.old) (O.state out.new) result }
-    ensures writes { OnlyWrites (S.state shelf.old) (S.state shelf.new) }
+    ensures writes { OnlyWrites (text_names (pair_files job.now pair))
+        (S.state shelf.old) (S.state shelf.new) }
 {
     let summary = summary_of(&pair);
     let Pair {

@@ -1,4 +1,5 @@
-// The files of the system. They tell no content, and keep one count of faults of each kind for all names.
+// The files of the system. They tell no content and no name that they were asked for, and keep one count
+// of faults of each kind for all names.
 use crate::files::{Source, Target};
 use shelf_core::{Failed, Shelf};
 use std::alloc::{AllocError, Global};
@@ -38,7 +39,8 @@ impl RealShelf {
 impl Shelf for RealShelf {
     ghost use Rattle.std.specs.Prelude.{None};
 
-    ghost state = { λ m. record { files = None; reads = λ _. m.reads; writes = λ _. m.writes } };
+    ghost state = { λ m.
+        record { files = None; reads = λ _. m.reads; writes = λ _. m.writes; asked = None } };
 
     fn get(&mut self, name: &str, at: u64, into: &mut [u8]) -> Result<usize, Failed> {
         let Ok(n) = self.source.read(&self.rt, name, at, into) else {

@@ -1,7 +1,7 @@
 // A whole run, from the words to the status.
 ghost use Rattle.job_words.specs.Jobs.{IsJob};
 ghost use Rattle.command.specs.Outcomes.{Answers, Leaves, Runs};
-ghost use Rattle.command.specs.Promises.{DoneStatus, IsComplete, IsRunStatus, KeepsFiles, KeepsOthers, MemoryStatus, ReadStatus, RefusedStatus, WordsStatus, WriteStatus};
+ghost use Rattle.command.specs.Promises.{DoneStatus, IsComplete, IsRunStatus, KeepsFiles, KeepsOthers, MemoryStatus, NamedFiles, ReadStatus, RefusedStatus, WordsStatus, WriteStatus};
 ghost use Rattle.check_command.specs.CheckHeadlines.{CheckHeadline};
 ghost use Rattle.grow_command.specs.GrowHeadlines.{GrowHeadline, GrowReport, OneOutput};
 ghost use Rattle.loop_command.specs.LoopHeadlines.{LoopHeadline, OneLoop};
@@ -99,6 +99,9 @@ pub fn run<S: Shelf, O: Sink, E: Sink>(
     ensures refused_files { KeepsFiles (S.state shelf.old) (S.state shelf.new)
         (O.state out.old) (O.state out.new) result }
     ensures other_files { KeepsOthers command_of words.now (S.state shelf.old) (S.state shelf.new) }
+
+    // Whatever it answers, only files that the words name were asked for, read or written.
+    ensures named_files { NamedFiles command_of words.now (S.state shelf.old) (S.state shelf.new) }
 
     // With status 0 of `grow` every output cell is the sample cell that the written map names; each placement
     // of the written record keeps its fixed cells and has the least total cost of seams, old ones

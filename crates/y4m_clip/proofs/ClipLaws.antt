@@ -142,7 +142,7 @@ none_refused bytes most front seen none =
     let lined = seen.fronted.sized.lined in
     (seen.fronted, sym (ap (drop (length lined.line)) lined.is ∙ drop-append_seam lined.line lined.rest) ∙ ap (λ n. drop n bytes) (sym seen.start_is) ∙ none)
 
-pub frames_as : (name : List ℕ) (front : Front) (most : ℕ) (e : ReadError) (a b c : ShelfState) → OnlyReads a b → OnlyReads b c → Sees a b (λ files. FrontSeen (content_of files name) most front)
+pub frames_as : {names : List (List ℕ)} (name : List ℕ) (front : Front) (most : ℕ) (e : ReadError) (a b c : ShelfState) → OnlyReads names a b → OnlyReads names b c → Sees a b (λ files. FrontSeen (content_of files name) most front)
     → FramesAs front.form.space front.w front.h front.start most name b c (Err e) → ReadsClipAs most name a c (Err e)
 frames_as name front most ReadFault a b c first second seen frames = fault_later name a b c first frames
 frames_as name front most NoMemory a b c first second seen frames = tt
@@ -190,7 +190,7 @@ is_read bytes most front filled clip at seen frames ends some few form volume =
       few = subst (λ n. n ≤ bound_of seen.fronted) (sym there.frames.count_is) (subst (λ n. filled.count ≤ n) there.bound few);
     }
 
-pub read_as : (name : List ℕ) (most : ℕ) (front : Front) (filled : Filled) (clip : Clip) (a b c : ShelfState) → OnlyReads a b → OnlyReads b c → Sees a b (λ files. FrontSeen (content_of files name) most front)
+pub read_as : {names : List (List ℕ)} (name : List ℕ) (most : ℕ) (front : Front) (filled : Filled) (clip : Clip) (a b c : ShelfState) → OnlyReads names a b → OnlyReads names b c → Sees a b (λ files. FrontSeen (content_of files name) most front)
     → FramesAs front.form.space front.w front.h front.start most name b c (Ok filled) → IsFilledSoFar front most filled → clip.form ≡ front.form → clip.volume ≡ volume_of (frames_size front filled) (samples_of front.form.space) filled.bytes.items
     → ReadsClipAs most name a c (Ok clip)
 read_as name most front filled clip a b c first second seen frames is form volume =

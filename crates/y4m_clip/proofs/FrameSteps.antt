@@ -54,7 +54,7 @@ planes_break bytes planes at n place line short =
     )
 
 -- planes that aren't whole
-pub planes_refused : (kind : SpaceKind) (w h : ℕ) (name : List ℕ) (at n : ℕ) (planes : List ℕ) (e : ReadError) (a b c : ShelfState) → OnlyReads a b → OnlyReads b c → FindsFrameAs name at a b (Ok (Some n))
+pub planes_refused : {names : List (List ℕ)} (kind : SpaceKind) (w h : ℕ) (name : List ℕ) (at n : ℕ) (planes : List ℕ) (e : ReadError) (a b c : ShelfState) → OnlyReads names a b → OnlyReads names b c → FindsFrameAs name at a b (Ok (Some n))
     → FillsPlanesAs name (at + n) planes b c (Err e) → ReadsFrameAs kind w h name at planes a c (Err e)
 planes_refused kind w h name at n planes ReadFault a b c first second line fills = fault_later name a b c first fills
 planes_refused kind w h name at n planes NoMemory a b c first second line fills = tt
@@ -85,7 +85,7 @@ has_frame kind w h bytes planes at n whole line has =
           ∙ sym (append_assoc (take n (drop at bytes)) planes (drop (at + n + length planes) bytes));
     }
 
-pub frame_read : (kind : SpaceKind) (w h : ℕ) (name : List ℕ) (at n next : ℕ) (planes : List ℕ) (a b c : ShelfState) → length planes ≡ plane_bytes kind w h → next ≡ at + n + length planes → OnlyReads a b → OnlyReads b c
+pub frame_read : {names : List (List ℕ)} (kind : SpaceKind) (w h : ℕ) (name : List ℕ) (at n next : ℕ) (planes : List ℕ) (a b c : ShelfState) → length planes ≡ plane_bytes kind w h → next ≡ at + n + length planes → OnlyReads names a b → OnlyReads names b c
     → FindsFrameAs name at a b (Ok (Some n)) → FillsPlanesAs name (at + n) planes b c (Ok tt) → ReadsFrameAs kind w h name at planes a c (Ok (Some next))
 frame_read kind w h name at n next planes a b c whole is first second line fills =
     sees_then (λ files. HasFrameLine (drop at (content_of files name)) n) (λ files. HasPlanes (drop (at + n) (content_of files name)) planes) (λ files. HasFrame kind w h (content_of files name) at next planes) a b c

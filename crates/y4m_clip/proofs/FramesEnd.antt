@@ -20,11 +20,11 @@ use Rattle.shelf_core.proofs.Sees.{Sees, sees_then, sees_all, fault_later}
 use Rattle.y4m_clip.proofs.FramesLaws.{nothing_seen, one_more}
 use Rattle.y4m_clip.proofs.Joined.{length-frame_cells}
 
-pub seen_none : (kind : SpaceKind) (w h start : ℕ) (name cells : List ℕ) (a b : ShelfState) → cells ≡ [] → OnlyReads a b → Sees a b (λ files. FramesSeen kind w h start (content_of files name) 0 start cells)
+pub seen_none : {names : List (List ℕ)} (kind : SpaceKind) (w h start : ℕ) (name cells : List ℕ) (a b : ShelfState) → cells ≡ [] → OnlyReads names a b → Sees a b (λ files. FramesSeen kind w h start (content_of files name) 0 start cells)
 seen_none kind w h start name cells a b none reads =
     sees_all (λ files. FramesSeen kind w h start (content_of files name) 0 start cells) a b (λ files. subst (FramesSeen kind w h start (content_of files name) 0 start) (sym none) (nothing_seen kind w h start (content_of files name))) reads
 
-pub seen_more : (kind : SpaceKind) (w h start : ℕ) (name : List ℕ) (count at next : ℕ) (cells cells' planes : List ℕ) (a b c : ShelfState) → OnlyReads a b → OnlyReads b c
+pub seen_more : {names : List (List ℕ)} (kind : SpaceKind) (w h start : ℕ) (name : List ℕ) (count at next : ℕ) (cells cells' planes : List ℕ) (a b c : ShelfState) → OnlyReads names a b → OnlyReads names b c
     → Sees a b (λ files. FramesSeen kind w h start (content_of files name) count at cells) → ReadsFrameAs kind w h name at planes b c (Ok (Some next)) → cells' ≡ cells ++ frame_cells kind w h planes
     → Sees a c (λ files. FramesSeen kind w h start (content_of files name) (count + 1) next cells')
 seen_more kind w h start name count at next cells cells' planes a b c first second seen frame grown =
@@ -38,7 +38,7 @@ whole_more kind w h count cells cells' planes whole grown =
     let more : k * (count + 1) ≡ k * count + k = grind arith in
     omega (arith, whole, ap length grown, length-append cells (frame_cells kind w h planes), length-frame_cells kind w h planes, more)
 
-pub frame_refused : (kind : SpaceKind) (w h start most : ℕ) (name : List ℕ) (count at : ℕ) (cells planes : List ℕ) (e : ReadError) (a b c : ShelfState) → OnlyReads a b → OnlyReads b c → count < most_frames w h most
+pub frame_refused : {names : List (List ℕ)} (kind : SpaceKind) (w h start most : ℕ) (name : List ℕ) (count at : ℕ) (cells planes : List ℕ) (e : ReadError) (a b c : ShelfState) → OnlyReads names a b → OnlyReads names b c → count < most_frames w h most
     → length planes ≡ plane_bytes kind w h → Sees a b (λ files. FramesSeen kind w h start (content_of files name) count at cells) → ReadsFrameAs kind w h name at planes b c (Err e) → FramesAs kind w h start most name a c (Err e)
 frame_refused kind w h start most name count at cells planes ReadFault a b c first second few whole seen frame = fault_later name a b c first frame
 frame_refused kind w h start most name count at cells planes NoMemory a b c first second few whole seen frame = tt
@@ -69,7 +69,7 @@ no_frames [] none = refl
 no_frames (frame ∷ frames) none = absurd (omega arith)
 
 -- the file ends behind so many frames
-pub frames_end : (kind : SpaceKind) (w h start most : ℕ) (name : List ℕ) (count at : ℕ) (cells : List ℕ) (bytes : Vec ℕ Global) (r : Result Filled ReadError) (a b c : ShelfState) → OnlyReads a b → OnlyReads b c
+pub frames_end : {names : List (List ℕ)} (kind : SpaceKind) (w h start most : ℕ) (name : List ℕ) (count at : ℕ) (cells : List ℕ) (bytes : Vec ℕ Global) (r : Result Filled ReadError) (a b c : ShelfState) → OnlyReads names a b → OnlyReads names b c
     → r ≡ finished bytes count → bytes.items ≡ cells → Sees a b (λ files. FramesSeen kind w h start (content_of files name) count at cells) → Sees b c (λ files. drop at (content_of files name) ≡ [])
     → FramesAs kind w h start most name a c r
 frames_end kind w h start most name count at cells bytes r a b c first second is same seen ends = subst (FramesAs kind w h start most name a c) (sym is) (tested (count == 0) refl)
@@ -82,13 +82,13 @@ frames_end kind w h start most name count at cells bytes r a b c first second is
         sees_then (λ files. FramesSeen kind w h start (content_of files name) count at cells) (λ files. drop at (content_of files name) ≡ []) _ a b c
         (λ files so_far rest. (at, subst (FramesSeen kind w h start (content_of files name) count at) (sym same) so_far, rest)) first second seen ends
 
-pub frames_full : (kind : SpaceKind) (w h start most : ℕ) (name : List ℕ) (count at : ℕ) (bytes : Vec ℕ Global) (a b c : ShelfState) → OnlyReads a b → OnlyReads b c
+pub frames_full : {names : List (List ℕ)} (kind : SpaceKind) (w h start most : ℕ) (name : List ℕ) (count at : ℕ) (bytes : Vec ℕ Global) (a b c : ShelfState) → OnlyReads names a b → OnlyReads names b c
     → Sees a b (λ files. FramesSeen kind w h start (content_of files name) count at bytes.items) → Sees b c (λ files. StandsIf false (drop at (content_of files name)))
     → FramesAs kind w h start most name a c (Ok (record { bytes = bytes; count = count }))
 frames_full kind w h start most name count at bytes a b c first second seen ends =
     sees_then (λ files. FramesSeen kind w h start (content_of files name) count at bytes.items) (λ files. drop at (content_of files name) ≡ []) _ a b c (λ files so_far rest. (at, so_far, rest)) first second seen ends
 
-pub frames_past : (kind : SpaceKind) (w h start most : ℕ) (name : List ℕ) (count at : ℕ) (cells : List ℕ) (e : ReadError) (a b c : ShelfState) → OnlyReads a b → OnlyReads b c → count ≡ most_frames w h most
+pub frames_past : {names : List (List ℕ)} (kind : SpaceKind) (w h start most : ℕ) (name : List ℕ) (count at : ℕ) (cells : List ℕ) (e : ReadError) (a b c : ShelfState) → OnlyReads names a b → OnlyReads names b c → count ≡ most_frames w h most
     → Sees a b (λ files. FramesSeen kind w h start (content_of files name) count at cells) → Sees b c (λ files. StandsIf true (drop at (content_of files name))) → PassesFrames w h most count e
     → FramesAs kind w h start most name a c (Err e)
 frames_past kind w h start most name count at cells (Limit Axis number bound) a b c first second all seen more passes =

@@ -1,7 +1,7 @@
 // Reading the frames of a clip.
 ghost use Rattle.std.specs.Prelude.{◌≡◌, ◌≤◌, ◌<◌, ◌+◌, ◌*◌, ◌^◌, ◌++◌, length, take, drop, IfOk, IfSome, IfNone, ◌≢◌};
 ghost use Rattle.std.specs.List.{AllByRecursion};
-ghost use Rattle.shelf_core.specs.Files.{InFile, OnlyReads};
+ghost use Rattle.shelf_core.specs.Files.{InFile, OnlyReadsFile};
 ghost use Rattle.y4m_clip.specs.Frames.{IsFirstEnd, IsEarly, IsFrameScanned, frame_judged, FindsFrameAs, FillsPlanesAs, ReadsFrameAs, grown_by};
 ghost use Rattle.y4m_clip.specs.Clips.{frame_cells};
 ghost use Rattle.y4m_clip.specs.Spaces.{samples_of};
@@ -101,7 +101,7 @@ pub fn find_frame<S: Shelf>(
     requires { at < 2 ^ 62 }
     ensures found { FindsFrameAs name.now at (S.state shelf.old) (S.state shelf.new) result }
     ensures short { IfOk result (λ found. IfSome found (λ n. n ≤ MOST_LINE)) }
-    ensures reads { OnlyReads (S.state shelf.old) (S.state shelf.new) }
+    ensures reads { OnlyReadsFile name.now (S.state shelf.old) (S.state shelf.new) }
 {
     let count = shelf.get(name, at, buffer)?;
     judge(scan_frame(&buffer[..count]), at, count)
@@ -117,7 +117,7 @@ pub fn fill_planes<S: Shelf>(
     requires { start + length planes.old < 2 ^ 63 }
     ensures fills { FillsPlanesAs name.now start planes.new (S.state shelf.old)
         (S.state shelf.new) result }
-    ensures reads { OnlyReads (S.state shelf.old) (S.state shelf.new) }
+    ensures reads { OnlyReadsFile name.now (S.state shelf.old) (S.state shelf.new) }
 {
     let count = shelf.get(name, start, planes)?;
     if count < planes.len() {
@@ -146,7 +146,7 @@ pub fn read_frame<S: Shelf>(
         (frame_cells front.now.form.space front.now.w front.now.h planes.new) next) }
     ensures next { IfOk result (λ found. IfSome found
         (λ next. next ≤ at + MOST_LINE + length planes.new)) }
-    ensures reads { OnlyReads (S.state shelf.old) (S.state shelf.new) }
+    ensures reads { OnlyReadsFile name.now (S.state shelf.old) (S.state shelf.new) }
 {
     let mut buffer = [0u8; LINE_ROOM];
     let Some(length) = find_frame(shelf, name, at, &mut buffer)? else {

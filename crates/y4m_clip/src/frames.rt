@@ -1,6 +1,6 @@
 // Reading all frames of a clip.
 ghost use Rattle.std.specs.Prelude.{◌≡◌, ◌≤◌, ◌<◌, ◌+◌, ◌*◌, ◌/◌, ◌^◌, length, min, drop, IfOk, IfErr, IfSome};
-ghost use Rattle.shelf_core.specs.Files.{InFile, OnlyReads, ReadsRose};
+ghost use Rattle.shelf_core.specs.Files.{InFile, OnlyReadsFile, ReadsRose};
 ghost use Rattle.y4m_clip.specs.Frames.{ReadsFrameAs, grown_by, FramesAs, PassesFrames, StandsIf, finished, IsSoundFront, IsFilledSoFar};
 ghost use Rattle.y4m_clip.specs.Clips.{frame_cells, most_frames};
 ghost use Rattle.y4m_clip.specs.Spaces.{samples_of};
@@ -54,7 +54,7 @@ fn goes_on<S: Shelf>(shelf: &mut S, name: &str, at: u64) -> Result<bool, ReadErr
         (λ bytes. StandsIf more (drop at bytes))) }
     ensures failed { IfErr result (λ error. (error ≡ ReadError.ReadFault)
         × ReadsRose name.now (S.state shelf.old) (S.state shelf.new)) }
-    ensures reads { OnlyReads (S.state shelf.old) (S.state shelf.new) }
+    ensures reads { OnlyReadsFile name.now (S.state shelf.old) (S.state shelf.new) }
 {
     let mut next = [0u8; 1];
     match shelf.get(name, at, &mut next) {
@@ -84,7 +84,7 @@ fn next_frame<S: Shelf>(
         (λ next. next ≤ at + MOST_LINE + length planes.new.items)) }
     ensures planes { length planes.new.items ≡
         samples_of front.now.form.space * (front.now.w * front.now.h) }
-    ensures reads { OnlyReads (S.state shelf.old) (S.state shelf.new) }
+    ensures reads { OnlyReadsFile name.now (S.state shelf.old) (S.state shelf.new) }
 {
     read_frame(shelf, name, at, front, planes, cells)
 }
@@ -109,7 +109,7 @@ pub fn read_frames<S: Shelf>(
     ensures frames { FramesAs front.now.form.space front.now.w front.now.h front.now.start most
         name.now (S.state shelf.old) (S.state shelf.new) result }
     ensures filled { IfOk result (IsFilledSoFar front.now most) }
-    ensures reads { OnlyReads (S.state shelf.old) (S.state shelf.new) }
+    ensures reads { OnlyReadsFile name.now (S.state shelf.old) (S.state shelf.new) }
 {
     let n = front.w as usize * front.h as usize;
     let mut planes = room_for(alloc, front.form.space, n)?;

@@ -1,6 +1,6 @@
 // Reading the stream line of a clip.
 ghost use Rattle.std.specs.Prelude.{◌≡◌, ◌≤◌, ◌<◌, ◌+◌, ◌++◌, length, take, drop, IfOk, OnOk, OnErr, IsTrue, [], ◌∷◌, codes};
-ghost use Rattle.shelf_core.specs.Files.{InFile, OnlyReads};
+ghost use Rattle.shelf_core.specs.Files.{InFile, OnlyReadsFile};
 ghost use Rattle.y4m_clip.specs.Scanning.{line_kind, IsSoundLine};
 ghost use Rattle.y4m_clip.specs.Reading.{Matches, IsStreamScanned, flushed, gathered, Gathers, line_limit, line_judged, FindsLineAs, IsLineOf, AreTags, LinesAs};
 
@@ -93,7 +93,7 @@ fn find_line<S: Shelf>(
         (λ bytes. take n buffer.new ≡ take n bytes)) }
     ensures sound { IfOk result (λ n. (10 ≤ n) × (n ≤ MOST_LINE)) }
     ensures line { IfOk result (λ n. IsLineOf (take n buffer.new)) }
-    ensures reads { OnlyReads (S.state shelf.old) (S.state shelf.new) }
+    ensures reads { OnlyReadsFile name.now (S.state shelf.old) (S.state shelf.new) }
 {
     let count = shelf.get(name, 0, buffer)?;
     judge(scan_stream(&buffer[..count]), count)
@@ -150,7 +150,7 @@ pub fn read_line<S: Shelf>(alloc: Global, shelf: &mut S, name: &str) -> Result<L
     ensures line { LinesAs name.now (S.state shelf.old) (S.state shelf.new) result }
     ensures short { IfOk result (λ line. line.length ≤ MOST_LINE) }
     ensures tags { IfOk result (λ line. AreTags line.tags) }
-    ensures reads { OnlyReads (S.state shelf.old) (S.state shelf.new) }
+    ensures reads { OnlyReadsFile name.now (S.state shelf.old) (S.state shelf.new) }
 {
     let mut buffer = [0u8; LINE_ROOM];
     let length = find_line(shelf, name, &mut buffer)?;

@@ -1,7 +1,7 @@
 // Reading a clip.
 ghost use Rattle.std.specs.Prelude.{◌≡◌, ◌≤◌, [], IfOk};
 ghost use Rattle.cells.specs.Cells.{volume_of, IsOnePart};
-ghost use Rattle.shelf_core.specs.Files.{OnlyReads};
+ghost use Rattle.shelf_core.specs.Files.{OnlyReadsFile};
 ghost use Rattle.y4m_clip.specs.Spaces.{samples_of};
 ghost use Rattle.y4m_clip.specs.Refusals.{ReadsClipAs, IsSoundClip};
 ghost use Rattle.y4m_clip.specs.Frames.{IsSoundFront, IsFilledSoFar, frames_size};
@@ -55,7 +55,7 @@ pub fn read_clip<S: Shelf>(
     requires { most ≤ MOST_OF_ALL }
     ensures answer { ReadsClipAs most name.now (S.state shelf.old) (S.state shelf.new) result }
     ensures clip { IfOk result (IsSoundClip most) }
-    ensures reads { OnlyReads (S.state shelf.old) (S.state shelf.new) }
+    ensures reads { OnlyReadsFile name.now (S.state shelf.old) (S.state shelf.new) }
 {
     let line = read_line(alloc, shelf, name)?;
     let front = front_of(alloc, &line, most)?;

@@ -2,7 +2,7 @@
 ghost use Rattle.std.specs.Prelude.{◌≡◌, ◌<◌, ◌≤◌, ◌*◌, ◌++◌, length, decimal, IfOk, OnOk, OnErr};
 ghost use Rattle.cells.specs.Places.{HasAxes};
 ghost use Rattle.cells.specs.Cells.{IsOnePart};
-ghost use Rattle.shelf_core.specs.Files.{Changes, Appends, AppendsPart, OnlyWrites, WritesRose};
+ghost use Rattle.shelf_core.specs.Files.{Changes, Appends, AppendsPart, OnlyWritesFile, WritesRose};
 ghost use Rattle.shelf_core.specs.Written.{HoldsText, HoldsPart};
 ghost use Rattle.y4m_clip.specs.Spaces.{samples_of};
 ghost use Rattle.y4m_clip.specs.Clips.{spaced};
@@ -99,7 +99,7 @@ impl ClipWriter {
         ensures err { OnErr result (Changes (S.state shelf.old) (S.state shelf.new)
             (HoldsPart name.now self.old.line)) }
         ensures same { self.new ≡ self.old }
-        ensures writes { OnlyWrites (S.state shelf.old) (S.state shelf.new) }
+        ensures writes { OnlyWritesFile name.now (S.state shelf.old) (S.state shelf.new) }
         ensures failed { OnErr result (WritesRose name.now (S.state shelf.old)
             (S.state shelf.new)) }
     {
@@ -127,7 +127,7 @@ impl ClipWriter {
         ensures err { OnErr result (Changes (S.state shelf.old) (S.state shelf.new)
             (AppendsPart name.now (frame_form self.old.kind from.now f))) }
         ensures same { self.new ≡ self.old }
-        ensures writes { OnlyWrites (S.state shelf.old) (S.state shelf.new) }
+        ensures writes { OnlyWritesFile name.now (S.state shelf.old) (S.state shelf.new) }
         ensures failed { OnErr result (WritesRose name.now (S.state shelf.old)
             (S.state shelf.new)) }
     {

@@ -1,6 +1,6 @@
 use Rattle.std.proofs.Common.{◌≡◌, ◌≤◌, ◌+◌, ◌*◌}
 use Rattle.std.specs.Prelude.{All, vec_len}
-use Rattle.shelf_core.specs.Files.{OnlyReads}
+use Rattle.shelf_core.specs.Files.{OnlyReadsFile}
 use Rattle.source_map.specs.Readings.{Found}
 use Rattle.cert_file.specs.BlockForms.{IsBlockInForm}
 use Rattle.cert_file.specs.BlockReading.{blocks_read}
@@ -15,5 +15,5 @@ invariant-loop-i g l = record {
   before : l.before ≡ block_cells l.blocks.items;
   each : All IsBlockInForm l.blocks.items;
   found : Found l.name l.fn.file.at (g.S.Shelf.state l.shelf) l.file (blocks_read l.i) l.blocks.items;
-  reads : OnlyReads (g.S.Shelf.state l.fn.shelf) (g.S.Shelf.state l.shelf);
+  reads : OnlyReadsFile l.name (g.S.Shelf.state l.fn.shelf) (g.S.Shelf.state l.shelf);
 }

@@ -1,6 +1,6 @@
 use Rattle.std.proofs.Common.{◌≡◌, ◌≤◌, ◌+◌, ◌*◌}
 use Rattle.std.specs.Prelude.{All, vec_len}
-use Rattle.shelf_core.specs.Files.{OnlyReads}
+use Rattle.shelf_core.specs.Files.{OnlyReadsFile}
 use Rattle.source_map.specs.Readings.{Found}
 use Rattle.cert_file.specs.CutForms.{IsCutInForm}
 use Rattle.cert_file.specs.CutReading.{box_cells, cuts_read}
@@ -14,5 +14,5 @@ invariant-loop-i g l = record {
   before : l.before ≡ box_cells l.cuts.items;
   each : All (IsCutInForm l.samples) l.cuts.items;
   found : Found l.name l.fn.file.at (g.S.Shelf.state l.shelf) l.file (cuts_read l.version l.samples l.i) l.cuts.items;
-  reads : OnlyReads (g.S.Shelf.state l.fn.shelf) (g.S.Shelf.state l.shelf);
+  reads : OnlyReadsFile l.name (g.S.Shelf.state l.fn.shelf) (g.S.Shelf.state l.shelf);
 }

@@ -1,6 +1,9 @@
+use Rattle.std.proofs.Common.{◌+◌, [], ◌∷◌, ◌++◌, length, subst, sym, ap, ◌∙◌, arith}
 use Rattle.std.specs.Prelude.{Err}
 use Rattle.std.proofs.lemmas.Result.{err_from_is_err_and}
-use Rattle.source_map.proofs.FieldLaws.{lifted, list_stops}
+use Rattle.shelf_core.proofs.FileLaws.{only_reads_then}
+use Rattle.source_map.specs.Readings.{Found, list_read}
+use Rattle.source_map.proofs.FieldLaws.{lifted, list_more, list_stops}
 use Rattle.cert_file.specs.CutReading.{flow_read}
 use Rattle.cert_file.proofs.cut_reading.read_flows.Goals as goal
 
@@ -13,3 +16,23 @@ returns-in_err-flow-clause-answer g c =
     (list_stops (Unit {0}) name c.args.file.now.at c.loop-i.i c.args.count flow_read (state c.args.shelf.now) (state c.loop-i.shelf) (state c.read_flow.new.shelf) c.loop-i.file c.read_flow.new.file
     c.loop-i.flows.items c.in_err-flow.field-0.0 c.loop-i-test.true c.loop-i.invariant.reads c.in_err-flow.ensures.reads c.loop-i.invariant.found
     (lifted (Unit {0}) name c.loop-i.file.at flow_read (state c.loop-i.shelf) (state c.read_flow.new.shelf) c.read_flow.new.file (Err c.in_err-flow.field-0.0) c.in_err-flow.ensures.answer))
+
+pub loop-i-preserved : goal.loop-i-preserved
+loop-i-preserved g c =
+    let state = g.S.Shelf.state in
+    let name = c.args.name.now in
+    let a = state c.args.shelf.now in
+    let b = state c.loop-i.shelf in
+    let d = state c.read_flow.new.shelf in
+    let so = c.loop-i.invariant in
+    let ok = c.in_ok-flow.ensures {u = tt} in
+    let front = c.loop-i.flows.items in
+    let flow = c.in_ok-flow.flow in
+    let all = (c.in-Ok.ensures {u = tt}).items ∙ ap (λ items. items ++ flow ∷ []) c.make_room.ensures.items in
+    record {
+      count = omega (arith, (c.in-Ok.ensures {u = tt}).len, ap length c.make_room.ensures.items, so.count);
+      at = omega (arith, ok.place, so.at);
+      found = subst (λ items. Found name c.args.file.now.at d c.read_flow.new.file (list_read flow_read (c.loop-i.i + 1)) items) (sym all)
+          (list_more name c.args.file.now.at c.loop-i.i flow_read a b d c.loop-i.file c.read_flow.new.file front flow so.reads ok.reads so.found ok.answer);
+      reads = only_reads_then a b d so.reads ok.reads;
+    }

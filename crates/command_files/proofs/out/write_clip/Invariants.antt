@@ -1,5 +1,5 @@
 use Rattle.std.proofs.Common.{◌≡◌, ◌++◌}
-use Rattle.shelf_core.specs.Files.{Changes, OnlyWrites}
+use Rattle.shelf_core.specs.Files.{Changes, OnlyWritesFile}
 use Rattle.shelf_core.specs.Written.{HoldsText}
 use Rattle.y4m_clip.specs.Spaces.{joined_to}
 use Rattle.y4m_clip.specs.Writing.{frame_form}
@@ -9,6 +9,6 @@ use Rattle.command_files.proofs.out.write_clip.Given as goal
 abbrev pub invariant-loop-f : goal.invariant-loop-f
 invariant-loop-f g l = record {
   writer : l.writer ≡ l.fn.writer;
-  writes : OnlyWrites (g.S.Shelf.state l.fn.shelf) (g.S.Shelf.state l.shelf);
+  writes : OnlyWritesFile l.name (g.S.Shelf.state l.fn.shelf) (g.S.Shelf.state l.shelf);
   holds : Changes (g.S.Shelf.state l.fn.shelf) (g.S.Shelf.state l.shelf) (HoldsText l.name (l.fn.writer.line ++ joined_to l.f (frame_form l.fn.writer.kind l.volume)));
 }

@@ -1,4 +1,5 @@
 use Rattle.std.proofs.lemmas.Result.{err_from_is_err_and}
+use Rattle.synth_report.specs.declared.fault.Fault.TheVariants.{NoMemory}
 use Rattle.command.proofs.Halves.{not_planned, planned}
 use Rattle.grow_command.specs.Growths.{grow_command, growth_files, growth_summary}
 use Rattle.grow_command.proofs.whole.grow.Goals as goal
@@ -16,4 +17,8 @@ returns g c =
     let job = c.args.job.now in
     let growth = c.in_ok-growth.growth in
     planned (grow_command job) (growth_files job growth) (growth_summary job growth) (g.S.Shelf.state c.args.shelf.now) (g.S.Shelf.state c.plan.new.shelf) (g.S.Shelf.state c.write_growth.new.shelf)
-    (g.O.Sink.state c.args.out.now) (g.O.Sink.state c.write_growth.new.out) c.plan.ensures.reads (c.in_ok-growth.ensures {u = tt}).planned c.write_growth.result c.write_growth.ensures.wrote
+    (g.O.Sink.state c.args.out.now) (g.O.Sink.state c.write_growth.new.out) c.plan.ensures.reads (c.in_ok-growth.ensures {u = tt}).planned c.write_growth.ensures.writes c.write_growth.result c.write_growth.ensures.wrote
+
+pub returns-in-Err : goal.returns-in-Err
+returns-in-Err g c =
+    not_planned (grow_command c.args.job.now) (g.S.Shelf.state c.args.shelf.now) (g.S.Shelf.state c.plan.new.shelf) c.plan.ensures.reads (g.O.Sink.state c.args.out.now) NoMemory tt

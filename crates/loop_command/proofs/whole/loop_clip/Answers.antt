@@ -1,4 +1,5 @@
 use Rattle.std.proofs.lemmas.Result.{err_from_is_err_and}
+use Rattle.synth_report.specs.declared.fault.Fault.TheVariants.{NoMemory}
 use Rattle.command.proofs.Halves.{not_planned, planned}
 use Rattle.loop_command.specs.Loops.{loop_command, loop_files, loop_summary}
 use Rattle.loop_command.proofs.whole.loop_clip.Goals as goal
@@ -16,4 +17,8 @@ returns g c =
     let job = c.args.job.now in
     let looped = c.in_ok-looped.looped in
     planned (loop_command job) (loop_files job looped) (loop_summary job looped) (g.S.Shelf.state c.args.shelf.now) (g.S.Shelf.state c.plan.new.shelf) (g.S.Shelf.state c.write_loop.new.shelf)
-    (g.O.Sink.state c.args.out.now) (g.O.Sink.state c.write_loop.new.out) c.plan.ensures.reads (c.in_ok-looped.ensures {u = tt}).planned c.write_loop.result c.write_loop.ensures.wrote
+    (g.O.Sink.state c.args.out.now) (g.O.Sink.state c.write_loop.new.out) c.plan.ensures.reads (c.in_ok-looped.ensures {u = tt}).planned c.write_loop.ensures.writes c.write_loop.result c.write_loop.ensures.wrote
+
+pub returns-in-Err : goal.returns-in-Err
+returns-in-Err g c =
+    not_planned (loop_command c.args.job.now) (g.S.Shelf.state c.args.shelf.now) (g.S.Shelf.state c.plan.new.shelf) c.plan.ensures.reads (g.O.Sink.state c.args.out.now) NoMemory tt

@@ -16,4 +16,4 @@ returns g c =
     let job = c.args.job.now in
     let made = c.in_ok-made.made in
     planned (quilt_command job) (quilt_files job made) (quilt_summary job made) (g.S.Shelf.state c.args.shelf.now) (g.S.Shelf.state c.plan.new.shelf) (g.S.Shelf.state c.write_quilt.new.shelf)
-    (g.O.Sink.state c.args.out.now) (g.O.Sink.state c.write_quilt.new.out) c.plan.ensures.reads (c.in_ok-made.ensures {u = tt}).planned c.write_quilt.result c.write_quilt.ensures.wrote
+    (g.O.Sink.state c.args.out.now) (g.O.Sink.state c.write_quilt.new.out) c.plan.ensures.reads (c.in_ok-made.ensures {u = tt}).planned c.write_quilt.ensures.writes c.write_quilt.result c.write_quilt.ensures.wrote

@@ -6,7 +6,7 @@ use Rattle.command.specs.Faults.{FailsToRead}
 use Rattle.sample_files.specs.Samples.{RefusesSample}
 use Rattle.sample_files.specs.Several.{SamplesReadAs}
 use Rattle.sample_files.specs.Steps.{IsNextRead, NotNext}
-use Rattle.sample_files.proofs.Reading.{first_unread, next_unread, read_more}
+use Rattle.sample_files.proofs.Reading.{first_reads, first_unread, next_reads, next_unread, read_more}
 use Rattle.sample_files.proofs.several.read_samples.Goals as goal
 
 pub returns-in-Err-clause-answer : goal.returns-in-Err-clause-answer
@@ -37,8 +37,20 @@ loop-i-preserved g c =
     let name = c.index-more-i.result in
     let next = subst (λ n. IsNextRead c.loop-i.samples n mid now c.read_next.new.samples) c.as_text-in-loop-i.ensures (c.in_ok-read_next.ensures {u = tt}).answer in
     record {
-      reads = only_reads_then was mid now c.loop-i.invariant.reads c.read_next.ensures.reads;
+      reads = only_reads_then was mid now c.loop-i.invariant.reads
+          (next_reads c.args.first.now c.args.more.now c.loop-i.i name c.as_text-in-loop-i.result.now c.loop-i-test.true c.index-more-i.is c.as_text-in-loop-i.ensures mid now c.read_next.ensures.reads);
       read = read_more was mid now c.loop-i.invariant.reads c.args.first.now c.args.more.now c.loop-i.i name c.loop-i.samples c.read_next.new.samples c.loop-i-test.true c.index-more-i.is c.loop-i.invariant.read next;
       sound = next.joined.sound;
       count = omega (arith, ap length next.joined.sizes, c.loop-i.invariant.count, length-append (c.loop-i.samples.volume.size ∷ c.loop-i.samples.volume.more) (next.sample.volume.size ∷ []));
     }
+
+pub returns-in-Err-clause-reads : goal.returns-in-Err-clause-reads
+returns-in-Err-clause-reads g c =
+    first_reads c.args.first.now c.args.more.now c.as_text.result.now c.as_text.ensures (g.S.Shelf.state c.args.shelf.now) (g.S.Shelf.state c.read_sample.new.shelf) c.read_sample.ensures.reads
+
+pub returns-in_err-read_next-clause-reads : goal.returns-in_err-read_next-clause-reads
+returns-in_err-read_next-clause-reads g c =
+    let mid = g.S.Shelf.state c.loop-i.shelf in
+    let now = g.S.Shelf.state c.read_next.new.shelf in
+    only_reads_then (g.S.Shelf.state c.args.shelf.now) mid now c.loop-i.invariant.reads
+    (next_reads c.args.first.now c.args.more.now c.loop-i.i c.index-more-i.result c.as_text-in-loop-i.result.now c.loop-i-test.true c.index-more-i.is c.as_text-in-loop-i.ensures mid now c.read_next.ensures.reads)

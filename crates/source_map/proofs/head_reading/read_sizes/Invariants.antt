@@ -1,5 +1,5 @@
 use Rattle.std.proofs.Common.{◌≡◌, ◌+◌, ◌*◌, length}
-use Rattle.shelf_core.specs.Files.{OnlyReads}
+use Rattle.shelf_core.specs.Files.{OnlyReadsFile}
 use Rattle.source_map.specs.Heads.{size_read}
 use Rattle.source_map.specs.Readings.{Found, list_read}
 use Rattle.source_map.proofs.head_reading.read_sizes.Given as goal
@@ -9,5 +9,5 @@ invariant-loop-i g l = record {
   found : Found l.name l.fn.file.at (g.S.Shelf.state l.shelf) l.file (list_read size_read l.i) l.sizes;
   count : length l.sizes ≡ l.i;
   at : l.file.at ≡ l.fn.file.at + 12 * l.i;
-  reads : OnlyReads (g.S.Shelf.state l.fn.shelf) (g.S.Shelf.state l.shelf);
+  reads : OnlyReadsFile l.name (g.S.Shelf.state l.fn.shelf) (g.S.Shelf.state l.shelf);
 }

@@ -1,7 +1,7 @@
 use Rattle.std.proofs.Common.{◌≡◌, ◌≤◌, ◌<◌, ◌+◌, ◌*◌}
 use Rattle.std.specs.Int.{w16}
 use Rattle.std.specs.Prelude.{vec_len, All}
-use Rattle.shelf_core.specs.Files.{OnlyReads}
+use Rattle.shelf_core.specs.Files.{OnlyReadsFile}
 use Rattle.source_map.specs.MapFiles.{below_rule}
 use Rattle.source_map.specs.Readings.{Found, list_read, number_read}
 use Rattle.source_map.proofs.map_reading.read_entries.Given as goal
@@ -12,5 +12,5 @@ invariant-loop-i g l = record {
   count : vec_len l.frames ≡ l.i;
   below : All (λ e. e < l.bound) l.frames.items;
   at : l.file.at ≤ l.fn.file.at + 2 * l.i;
-  reads : OnlyReads (g.S.Shelf.state l.fn.shelf) (g.S.Shelf.state l.shelf);
+  reads : OnlyReadsFile l.name (g.S.Shelf.state l.fn.shelf) (g.S.Shelf.state l.shelf);
 }

@@ -1,6 +1,6 @@
 use Rattle.std.proofs.Common.{◌≡◌, ◌≤◌, ◌+◌, ◌*◌}
 use Rattle.std.specs.Prelude.{vec_len, All, IfSome, IsSomeAnd}
-use Rattle.shelf_core.specs.Files.{OnlyReads}
+use Rattle.shelf_core.specs.Files.{OnlyReadsFile}
 use Rattle.map_canvas.specs.Maps.{IsSource}
 use Rattle.source_map.specs.MapFiles.{IsInSamples, source_read}
 use Rattle.source_map.specs.Readings.{Found, list_read}
@@ -13,5 +13,5 @@ invariant-loop-i g l = record {
   at : l.file.at ≤ l.fn.file.at + 8 * l.i;
   sources : All (λ source. IfSome source IsSource) l.sources.items;
   inside : All (λ source. IsSomeAnd source (IsInSamples l.samples)) l.sources.items;
-  reads : OnlyReads (g.S.Shelf.state l.fn.shelf) (g.S.Shelf.state l.shelf);
+  reads : OnlyReadsFile l.name (g.S.Shelf.state l.fn.shelf) (g.S.Shelf.state l.shelf);
 }

@@ -16,4 +16,4 @@ returns g c =
     let job = c.args.job.now in
     let pair = c.in_ok-pair.pair in
     planned (upgrade_command job) (pair_files job pair) (pair_summary pair) (g.S.Shelf.state c.args.shelf.now) (g.S.Shelf.state c.plan.new.shelf) (g.S.Shelf.state c.write_pair.new.shelf)
-    (g.O.Sink.state c.args.out.now) (g.O.Sink.state c.write_pair.new.out) c.plan.ensures.reads (c.in_ok-pair.ensures {u = tt}).planned c.write_pair.result c.write_pair.ensures.wrote
+    (g.O.Sink.state c.args.out.now) (g.O.Sink.state c.write_pair.new.out) c.plan.ensures.reads (c.in_ok-pair.ensures {u = tt}).planned c.write_pair.ensures.writes c.write_pair.result c.write_pair.ensures.wrote

@@ -1,4 +1,4 @@
-use Rattle.command.proofs.Promising.{complete_promise, done_promise, keeps_promise, memory_promise, others_promise, read_promise, refused_promise, words_promise, write_promise}
+use Rattle.command.proofs.Promising.{complete_promise, done_promise, keeps_promise, memory_promise, named_promise, others_promise, read_promise, refused_promise, words_promise, write_promise}
 use Rattle.command.proofs.Views.{form_number, limit_number, loop_number}
 use Rattle.weave_engine.specs.Engine.{command_of}
 use Rattle.weave_engine.proofs.Ending.{check_headline, grow_headline, grow_once, grow_reported, known_status, loop_headline, loop_once, one_answer, quilt_headline, quilt_once, quilt_reported, trial_headline, upgrade_headline}
@@ -50,6 +50,10 @@ returns-clause-refused_files g c =
 pub returns-clause-other_files : goal.returns-clause-other_files
 returns-clause-other_files g c =
     others_promise command_of one_answer c.args.words.now (g.S.Shelf.state c.args.shelf.now) (g.S.Shelf.state c.answer-answer.new.shelf) (g.O.Sink.state c.args.out.now) (g.O.Sink.state c.answer-answer.new.out) (g.E.Sink.state c.args.err.now) (g.E.Sink.state c.finish.new.err) c.finish.result (returns-clause-ran g c)
+
+pub returns-clause-named_files : goal.returns-clause-named_files
+returns-clause-named_files g c =
+    named_promise command_of one_answer c.args.words.now (g.S.Shelf.state c.args.shelf.now) (g.S.Shelf.state c.answer-answer.new.shelf) (g.O.Sink.state c.args.out.now) (g.O.Sink.state c.answer-answer.new.out) (g.E.Sink.state c.args.err.now) (g.E.Sink.state c.finish.new.err) c.finish.result (returns-clause-ran g c)
 
 pub returns-clause-no_other_status : goal.returns-clause-no_other_status
 returns-clause-no_other_status g c =

@@ -1,4 +1,4 @@
-use Rattle.std.proofs.Common.{◌≡◌, ◌≤◌, ◌<◌, ◌*◌, length, drop, arith, sym, ap, ◌∙◌, subst}
+use Rattle.std.proofs.Common.{◌≡◌, ◌≤◌, ◌<◌, ◌*◌, [], length, drop, arith, sym, ap, ◌∙◌, subst}
 use Rattle.std.proofs.lemmas.Result.{err_from_is_err_and}
 use Rattle.shelf_core.specs.Files.{content_of}
 use Rattle.shelf_core.proofs.FileLaws.{only_reads_same, only_reads_then}
@@ -13,7 +13,7 @@ pub loop-count-init : goal.loop-count-init
 loop-count-init g c = record {
   reads = only_reads_same (g.S.Shelf.state c.args.shelf.now);
   seen = seen_none c.args.front.now.form.space c.args.front.now.w c.args.front.now.h c.args.front.now.start c.args.name.now c.new-bytes.result.items (g.S.Shelf.state c.args.shelf.now) (g.S.Shelf.state c.args.shelf.now) c.new-bytes.ensures.items
-      (only_reads_same (g.S.Shelf.state c.args.shelf.now));
+      (only_reads_same {names = []} (g.S.Shelf.state c.args.shelf.now));
   whole = omega (arith, ap length c.new-bytes.ensures.items);
   planes = c.in_ok-planes.ensures;
   place = omega (arith, c.requires.start);

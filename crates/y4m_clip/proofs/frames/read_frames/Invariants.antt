@@ -1,12 +1,12 @@
 use Rattle.std.proofs.Common.{◌≡◌, ◌≤◌, ◌+◌, ◌*◌, length}
-use Rattle.shelf_core.specs.Files.{InFile, OnlyReads}
+use Rattle.shelf_core.specs.Files.{InFile, OnlyReadsFile}
 use Rattle.y4m_clip.specs.Spaces.{samples_of}
 use Rattle.y4m_clip.specs.Frames.{FramesSeen}
 use Rattle.y4m_clip.proofs.frames.read_frames.Given as goal
 
 abbrev pub invariant-loop-count : goal.invariant-loop-count
 invariant-loop-count g l = record {
-  reads : OnlyReads (g.S.Shelf.state l.initial.shelf) (g.S.Shelf.state l.shelf);
+  reads : OnlyReadsFile l.name (g.S.Shelf.state l.initial.shelf) (g.S.Shelf.state l.shelf);
   seen : InFile l.name (g.S.Shelf.state l.initial.shelf) (g.S.Shelf.state l.shelf) (λ bytes. FramesSeen l.front.form.space l.front.w l.front.h l.front.start bytes l.count l.at l.bytes.items);
   whole : length l.bytes.items ≡ samples_of l.front.form.space * l.front.w * l.front.h * l.count;
   planes : length l.planes.items ≡ samples_of l.front.form.space * (l.front.w * l.front.h);

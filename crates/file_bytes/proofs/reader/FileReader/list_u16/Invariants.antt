@@ -1,6 +1,6 @@
 use Rattle.std.proofs.Common.{◌≡◌, ◌+◌, ◌*◌}
 use Rattle.std.specs.Prelude.{vec_len}
-use Rattle.shelf_core.specs.Files.{OnlyReads}
+use Rattle.shelf_core.specs.Files.{OnlyReadsFile}
 use Rattle.file_bytes.specs.Fields.{fields_16}
 use Rattle.file_bytes.specs.Reading.{Took}
 use Rattle.file_bytes.proofs.reader.FileReader.list_u16.Given as goal
@@ -10,5 +10,5 @@ invariant-loop-i g l = record {
   count : vec_len l.numbers ≡ l.i;
   at : l.self.at ≡ l.fn.self.at + 2 * l.i;
   took : Took l.name l.fn.self.at (fields_16 l.numbers.items) (g.S.Shelf.state l.shelf) l.self;
-  reads : OnlyReads (g.S.Shelf.state l.fn.shelf) (g.S.Shelf.state l.shelf);
+  reads : OnlyReadsFile l.name (g.S.Shelf.state l.fn.shelf) (g.S.Shelf.state l.shelf);
 }

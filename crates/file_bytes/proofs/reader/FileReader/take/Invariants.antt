@@ -1,5 +1,5 @@
 use Rattle.std.proofs.Common.{◌-◌, ◌≤◌, length, take}
-use Rattle.shelf_core.specs.Files.{OnlyReads}
+use Rattle.shelf_core.specs.Files.{OnlyReadsFile}
 use Rattle.file_bytes.specs.Reading.{Took}
 use Rattle.file_bytes.proofs.reader.FileReader.take.Given as goal
 
@@ -7,7 +7,7 @@ abbrev pub invariant-filling : goal.invariant-filling
 invariant-filling g l = record {
   within : l.filled ≤ length l.into;
   took : Took l.name l.fn.self.at (take l.filled l.into) (g.S.Shelf.state l.shelf) l.self;
-  reads : OnlyReads (g.S.Shelf.state l.fn.shelf) (g.S.Shelf.state l.shelf);
+  reads : OnlyReadsFile l.name (g.S.Shelf.state l.fn.shelf) (g.S.Shelf.state l.shelf);
 }
 
 abbrev pub decreases-filling : goal.decreases-filling

@@ -4,6 +4,7 @@ use Rattle.shelf_core.specs.Files.{Files, ShelfState, SinkState, Changes}
 use Rattle.shelf_core.specs.Written.{written}
 use Rattle.shelf_core.proofs.FileLaws.{told_weaker}
 use Rattle.job_words.specs.declared.check.CheckJob.{CheckJob}
+use Rattle.job_words.specs.declared.job.Names.{Names}
 use Rattle.synth_report.specs.declared.summary.Summary.{Summary}
 use Rattle.synth_report.specs.declared.summary.Summary.TheVariants as summary
 use Rattle.synth_report.specs.Texts.{summary_status}
@@ -11,8 +12,10 @@ use Rattle.command.specs.Outcomes.{WritesAll}
 use Rattle.command.specs.Writing.{Reported}
 use Rattle.standing_files.specs.declared.verdict.Verdict.{Verdict}
 use Rattle.standing_files.specs.declared.verdict.Verdict.TheVariants.{Stands, Fails}
-use Rattle.standing_files.specs.Standing.{IsVerdict}
+use Rattle.standing_files.specs.Standing.{IsVerdict, map_output}
+use Rattle.standing_files.proofs.Least.{records_least}
 use Rattle.check_command.specs.declared.reading.ReadFiles.{ReadFiles}
+use Rattle.check_command.specs.CheckHeadlines.{HaveLeastRecords}
 use Rattle.check_command.specs.Checks.{AreRunFiles, Break, IsCheckSummary, MakesVerdict, Stand, check_command, summary_of}
 
 -- it writes no file
@@ -57,6 +60,10 @@ module _ (job : CheckJob) (said : Summary) where
 
           files_broken : (before after : Files) → WritesAll (check_command job) said before after → (after ≡ before) × Break job.names before number rule place
           files_broken before after (texts, makes, wrote) = (unchanged job texts before after wrote, judged_so before makes.values makes.read makes.verdict makes.judged (sym is ∙ makes.summary_is))
+
+-- and are least
+pub least_records : (names : Names) (files : Files) → Stand names files → HaveLeastRecords names files
+least_records names files s = record { values = s.values; read = s.read; least = records_least s.values.samples.volume (map_output s.values.map) s.values.cert s.stand.records }
 
 -- and where they do, this is made of them
 pub made_standing : (job : CheckJob) (files : Files) → Stand job.names files → MakesVerdict job.names files [] (summary_of Stands)

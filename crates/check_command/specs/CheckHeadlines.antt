@@ -3,19 +3,33 @@
 use Rattle.std.specs.Prelude.{◌≡◌, ◌⊎◌, ℕ, List}
 use Rattle.shelf_core.specs.Files.{Files, ShelfState, SinkState, Changes}
 use Rattle.job_words.specs.declared.check.CheckJob.{CheckJob}
+use Rattle.job_words.specs.declared.job.Names.{Names}
 use Rattle.job_words.specs.declared.job.Job.TheVariants.{Check}
 use Rattle.synth_report.specs.declared.summary.Summary.TheVariants.{Fails}
 use Rattle.command.specs.Promises.{Asks, TellsFiles}
 use Rattle.command.specs.Writing.{Reported}
-use Rattle.check_command.specs.Checks.{Break, Stand}
+use Rattle.standing_files.specs.Standing.{RecordsAreLeast, map_output}
+use Rattle.check_command.specs.declared.reading.ReadFiles.{ReadFiles}
+use Rattle.check_command.specs.Checks.{AreRunFiles, Break, Stand}
+
+-- the files of these names have records, and those are least: each choice of a cut record of all
+-- lawful ones, each boundary of a block record of all boundaries of its strip, and a walk of all
+-- closed walks of its length
+pub record HaveLeastRecords (names : Names) (files : Files) : Type 0 where
+  pub values : ReadFiles
+  pub read : AreRunFiles names files values
+  pub least : RecordsAreLeast values.samples.volume (map_output values.map) values.cert
 
 -- `check` ends with status 0 where the files stand, and with status 1 where they are in their forms
 -- and within their limits and don't, and out has the first rule that they break; each yields to
--- failures of reads and writes and to want of memory. No file is changed
+-- failures of reads and writes and to want of memory. What stands is least, whoever made it. No file
+-- is changed
 pub record CheckHeadline (words : List (List ℕ)) (was now : ShelfState) (out out' : SinkState)
     (status : ℕ) : Type 0 where
   pub stand : (job : CheckJob) → Asks words (Check job) → status ≡ 0
       → Changes was now (λ before after. (after ≡ before) × Stand job.names before)
+  pub least : (job : CheckJob) → Asks words (Check job) → status ≡ 0
+      → Changes was now (λ before after. HaveLeastRecords job.names before)
   pub break : (job : CheckJob) → Asks words (Check job) → status ≡ 1
       → (number : ℕ) × (rule : ℕ) × (place : ℕ)
       × Changes was now (λ before after.

@@ -27,10 +27,10 @@ module _ (job : QuiltJob) (lawful : IsQuiltJob job) (within : IsQuiltWithin job)
   sample = run.output.sample
 
   one_sample : other.output.sample ≡ sample
-  one_sample = one_picture (content_of before job.names.sample) other.output.sample sample (subst (λ bytes. IsRead bytes other.output.sample) same other.output.read.read).stands run.output.read.read.stands
+  one_sample = one_picture (content_of before job.names.sample) other.output.sample sample (subst (λ bytes. IsRead bytes other.output.sample) same other.output.read).stands run.output.read.stands
 
   one_run : (run.records.blocks ≡ other.records.blocks) × (quilting run.output.map run.records.draws ≡ quilting other.output.map other.records.draws)
-  one_run = one_quilt (quilt_run_of job).plan sample.volume (quilt_size job) run.output.read.volume (small_quilt job lawful within) job.seed run.records.blocks other.records.blocks
+  one_run = one_quilt (quilt_run_of job).plan sample.volume (quilt_size job) run.output.sample_volume (small_quilt job lawful within) job.seed run.records.blocks other.records.blocks
       (quilting run.output.map run.records.draws) (quilting other.output.map other.records.draws) run.records.run
       (subst (λ (s : Picture). IsQuilted (quilt_run_of job).plan s.volume (quilt_size job) job.seed other.records.blocks (quilting other.output.map other.records.draws)) one_sample other.records.run)
 

@@ -1,7 +1,6 @@
 -- What `quilt` plans: from the reading of the picture to all that is to be written.
 use Rattle.std.proofs.Common.{◌≡◌, ℕ, ◌≤◌, ◌⊎◌, inl, inr, List, sym, subst, refl, arith}
 use Rattle.std.specs.Prelude.{Err}
-use Rattle.cells.specs.Cells.{Cells, IsVolume}
 use Rattle.shelf_core.specs.Files.{Files, ShelfState, OnlyReads, Changes, content_of}
 use Rattle.shelf_core.proofs.FileLaws.{told_both, told_weaker}
 use Rattle.shelf_core.proofs.Sees.{sees_all}
@@ -53,12 +52,12 @@ module _ (job : QuiltJob) (a b : ShelfState) where
       (λ files refusal seen refuses. record { all = refl; refused = inl (refusal, refuses, refl) }) (λ files seen. none_before files) (sees_all (λ files. Unit {0}) a b (λ files. tt) reads) answer
       (picture_fails job.names.sample a b answer left)
 
-  module _ (picture : Picture) (volume : IsVolume picture.volume) (read : Changes a b (λ before after. IsRead (content_of before job.names.sample) picture)) where
+  module _ (picture : Picture) (read : Changes a b (λ before after. IsRead (content_of before job.names.sample) picture)) where
     over : (what : _) (number bound : ℕ) → (QuiltPasses job (Limit what number bound) ⊎ BlocksPass job picture.volume (Limit what number bound)) → AreRefused (quilt_command job) (Limit what number bound) a b
     over what number bound why = record {
       known = tt;
       refused = told_weaker (λ before after. IsRead (content_of before job.names.sample) picture) (λ before after. (n : ℕ) × RefusesQuilt job n before (Limit what number bound)) a.files b.files
-          (λ before after stands. (1, record { all = refl; refused = inr (record { picture = picture; read = record { read = stands; volume = volume }; refused = why }) })) read;
+          (λ before after stands. (1, record { all = refl; refused = inr (record { picture = picture; read = stands; refused = why }) })) read;
     }
 
     pub output_refused : (fault : Fault) → QuiltPasses job fault → NotMade (quilt_command job) a b fault
@@ -68,10 +67,10 @@ module _ (job : QuiltJob) (a b : ShelfState) where
     not_quilted within (error.Records number) passes = over _ _ _ (inr (record { within = within; number = number; passes = passes; is = refl }))
     not_quilted within error.NoMemory left = tt
 
-  pub quilt_made : {names : List (List ℕ)} (made : PictureQuilt) → OnlyReads names a b → IsVolume made.sample.volume → Changes a b (λ before after. IsRead (content_of before job.names.sample) made.sample)
+  pub quilt_made : {names : List (List ℕ)} (made : PictureQuilt) → OnlyReads names a b → Changes a b (λ before after. IsRead (content_of before job.names.sample) made.sample)
       → IsQuiltWithin job → IsQuilt (quilt_run_of job) made.sample.volume made.quilted
       → IsPlanned (quilt_command job) (quilt_files job made) (quilt_summary job made) a b
-  quilt_made made reads volume read within quilt = record {
+  quilt_made made reads read within quilt = record {
     known = (_, _, _, _, refl);
     named = refl;
     made = told_weaker (λ before after. (after ≡ before) × IsRead (content_of before job.names.sample) made.sample)
@@ -80,7 +79,7 @@ module _ (job : QuiltJob) (a b : ShelfState) where
           p.0,
           record {
             made = made;
-            quilt = record { sample = record { read = p.1; volume = volume }; within = within; quilt = quilt };
+            quilt = record { sample = p.1; within = within; quilt = quilt };
             texts_are = refl;
             summary_is = refl;
           },

@@ -29,7 +29,7 @@ use Rattle.command.specs.Faults.{fault_of_read}
 use Rattle.command.specs.Outcomes.{WritesAll}
 use Rattle.command.specs.Writing.{pieces}
 use Rattle.command_files.proofs.ThreeFiles.{cert_holds, map_holds, others_stay, out_holds, sample_stays}
-use Rattle.sample_files.proofs.Sound.{read_is_sound}
+use Rattle.sample_files.proofs.Sound.{read_is_sound, read_is_volume}
 use Rattle.quilt_command.specs.declared.plan.PictureQuilt.{PictureQuilt}
 use Rattle.quilt_command.specs.Quilts.{BlocksPass, IsMadeQuilt, IsPictureIn, IsPictureQuilt, IsQuiltWithin, MakesQuilt, QuiltPasses, RefusesOverPicture, RefusesPicture, RefusesQuilt, quilt_command, quilt_head, quilt_run_of, quilt_size}
 use Rattle.quilt_command.specs.QuiltHeadlines.{IsQuiltedOutput, IsQuiltedRecord, IsQuiltedRun, IsToldOfRun}
@@ -37,7 +37,7 @@ use Rattle.quilt_command.proofs.QuiltAccepted.{accepted}
 use Rattle.quilt_command.proofs.Ready.{small_quilt}
 
 pub same_picture : (job : QuiltJob) (files : Files) (one other : Picture) → IsPictureIn job files one → IsPictureIn job files other → one ≡ other
-same_picture job files one other a b = one_picture (content_of files job.names.sample) one other a.read.stands b.read.stands
+same_picture job files one other a b = one_picture (content_of files job.names.sample) one other a.stands b.stands
 
 module _ (job : QuiltJob) (lawful : IsQuiltJob job) (files : Files) where
   abbrev Refused : Picture → Fault → Type 0
@@ -49,7 +49,7 @@ module _ (job : QuiltJob) (lawful : IsQuiltJob job) (files : Files) where
   -- a picture that is read, with an output and records within their bounds, isn't refused
   unrefused : (picture : Picture) → IsPictureIn job files picture → IsQuiltWithin job → ((number : ℕ) → QuiltPassesAt (quilt_run_of job) picture.volume number → ⊥)
       → (fault : Fault) → RefusedOnce fault → ⊥
-  unrefused picture read within none fault (inl r) = not_both (content_of files job.names.sample) picture r.0 read.read r.1
+  unrefused picture read within none fault (inl r) = not_both (content_of files job.names.sample) picture r.0 read r.1
   unrefused picture read within none fault (inr over) = by (subst (λ s. Refused s fault) (same_picture job files over.picture picture over.read read) over.refused)
     where
       by : Refused picture fault → ⊥
@@ -61,12 +61,12 @@ module _ (job : QuiltJob) (lawful : IsQuiltJob job) (files : Files) where
   one_over picture read first second (inl a) (inr b) = absurd (omega (arith, a.passes, b.within))
   one_over picture read first second (inr a) (inl b) = absurd (omega (arith, b.passes, a.within))
   one_over picture read first second (inr a) (inr b) =
-      a.is ∙ ap (λ number. Limit Records number MOST_BOX_CELLS) (limits_are_one (quilt_run_of job) picture.volume read.volume a.number b.number a.passes b.passes) ∙ sym b.is
+      a.is ∙ ap (λ number. Limit Records number MOST_BOX_CELLS) (limits_are_one (quilt_run_of job) picture.volume (read_is_volume (content_of files job.names.sample) picture read) a.number b.number a.passes b.passes) ∙ sym b.is
 
   one_fault : (first second : Fault) → RefusedOnce first → RefusedOnce second → first ≡ second
   one_fault first second (inl a) (inl b) = a.2 ∙ ap (fault_of_read part.Sample) (one_refusal (content_of files job.names.sample) a.0 b.0 a.1 b.1) ∙ sym b.2
-  one_fault first second (inl a) (inr b) = absurd (not_both (content_of files job.names.sample) b.picture a.0 b.read.read a.1)
-  one_fault first second (inr a) (inl b) = absurd (not_both (content_of files job.names.sample) a.picture b.0 a.read.read b.1)
+  one_fault first second (inl a) (inr b) = absurd (not_both (content_of files job.names.sample) b.picture a.0 b.read a.1)
+  one_fault first second (inr a) (inl b) = absurd (not_both (content_of files job.names.sample) a.picture b.0 a.read b.1)
   one_fault first second (inr a) (inr b) = one_over a.picture a.read first second a.refused (subst (λ s. Refused s second) (same_picture job files b.picture a.picture b.read a.read) b.refused)
 
   made_unrefused : (texts : List (List ℕ)) (summary : Summary) (fault : Fault) → MakesQuilt job files texts summary → RefusedOnce fault → ⊥
@@ -74,7 +74,7 @@ module _ (job : QuiltJob) (lawful : IsQuiltJob job) (files : Files) where
       let quilt = makes.quilt in
       let made = makes.made in
       unrefused made.sample quilt.sample quilt.within
-      (λ number passes. ends_within (quilt_run_of job) made.sample.volume quilt.sample.volume (small_quilt job lawful quilt.within) made.quilted.blocks (quilting made.quilted.canvas.map quilt.quilt.draws) number quilt.quilt.run quilt.quilt.writable.cells passes)
+      (λ number passes. ends_within (quilt_run_of job) made.sample.volume (read_is_volume (content_of files job.names.sample) made.sample quilt.sample) (small_quilt job lawful quilt.within) made.quilted.blocks (quilting made.quilted.canvas.map quilt.quilt.draws) number quilt.quilt.run quilt.quilt.writable.cells passes)
       fault refuses
 
 pub quilt_has_one_answer : (job : QuiltJob) → IsQuiltJob job → HasOneAnswer (quilt_command job)
@@ -100,7 +100,7 @@ module _ (job : QuiltJob) (lawful : IsQuiltJob job) (before after : Files) (text
   record_text = blocks_form (quilt_head job made.sample.volume) made.quilted.blocks
 
   made_of : IsPictureQuilt job before made → IsMadeQuilt job made
-  made_of is = record { volume = is.sample.volume; sound = read_is_sound (content_of before job.names.sample) made.sample.maxval made.sample.volume is.sample.read; within = is.within; quilt = is.quilt }
+  made_of is = record { volume = read_is_volume (content_of before job.names.sample) made.sample is.sample; sound = read_is_sound (content_of before job.names.sample) made.sample.maxval made.sample.volume is.sample; within = is.within; quilt = is.quilt }
 
   abbrev output : IsQuiltedOutput job before after
   output =
@@ -109,6 +109,7 @@ module _ (job : QuiltJob) (lawful : IsQuiltJob job) (before after : Files) (text
       record {
         sample = made.sample;
         read = makes.quilt.sample;
+        sample_volume = read_is_volume (content_of before job.names.sample) made.sample makes.quilt.sample;
         map = made.quilted.canvas.map;
         asked = quilt.size;
         is_map = quilt.canvas.map;
@@ -147,7 +148,7 @@ module _ (job : QuiltJob) (lawful : IsQuiltJob job) (before after : Files) (text
           output = output;
           records = records;
           accepted = accepted job lawful after made (made_of makes.quilt)
-              (subst (λ bytes. IsRead bytes made.sample) (sym (sample_stays job.names lawful.names before after out_text map_text record_text whole)) makes.quilt.sample.read)
+              (subst (λ bytes. IsRead bytes made.sample) (sym (sample_stays job.names lawful.names before after out_text map_text record_text whole)) makes.quilt.sample)
               output.out_file output.map_file records.file;
           others = others_stay job.names lawful.names before after out_text map_text record_text whole;
         };

@@ -25,13 +25,14 @@ use Rattle.command.specs.Writing.{Reported}
 use Rattle.check_command.specs.Checks.{Stand}
 use Rattle.quilt_command.specs.Quilts.{IsPictureIn, quilt_head, quilt_run_of, quilt_size}
 
--- the sample file stands for a picture. The map file has the form of a map of the asked size, which
+-- the sample file stands for a picture, a volume. The map file has the form of a map of the asked size, which
 -- is full and lies over the sample. The out file has the form of a picture with the sample's maxval:
 -- a volume of that size, the picture of the map, each cell of which is the sample's cell that the map
 -- names
 pub record IsQuiltedOutput (job : QuiltJob) (before after : Files) : Type 0 where
   pub sample : Picture
   pub read : IsPictureIn job before sample
+  pub sample_volume : IsVolume sample.volume
   pub map : SourceMap
   pub asked : map.size ≡ quilt_size job
   pub is_map : IsMap map

@@ -72,9 +72,8 @@ fault_of_quilting error.NoMemory = NoMemory
 -- What is quilted of the files.
 
 -- the sample file stands for this picture
-pub record IsPictureIn (job : QuiltJob) (files : Files) (picture : Picture) : Type 0 where
-  pub read : IsRead (content_of files job.names.sample) picture
-  pub volume : IsVolume picture.volume
+abbrev pub IsPictureIn : QuiltJob → Files → Picture → Type 0
+IsPictureIn job files picture = IsRead (content_of files job.names.sample) picture
 
 -- and the output is the whole quilt of its blocks
 pub record IsPictureQuilt (job : QuiltJob) (files : Files) (made : PictureQuilt) : Type 0 where

@@ -1,15 +1,17 @@
 -- Bytes that stand for samples stand for sound ones.
-use Rattle.std.proofs.Common.{◌≡◌, ℕ, zero, suc, ◌*◌, ◌/◌, ◌≤◌, List, [], ◌∷◌, length, take, drop, sym, ap, ◌∙◌, subst, arith, true, eqb-true}
-use Rattle.std.specs.Prelude.{All}
+use Rattle.std.proofs.Common.{◌≡◌, ℕ, zero, suc, ◌*◌, ◌/◌, ◌<◌, ◌≤◌, List, [], ◌∷◌, length, take, drop, sym, ap, ◌∙◌, subst, arith, true, eqb-true}
+use Rattle.std.specs.Prelude.{All, slice_index}
 use Rattle.std.specs.List.{AllByRecursion, concat}
 use Rattle.std.proofs.Math.Nat.{mul-div-le, mul-le-mul_left}
 use Rattle.std.proofs.lemmas.List.{take-append-drop}
-use Rattle.std.proofs.lemmas.List.Elements.{All-append, All-drop, All-nil, All-take}
+use Rattle.std.proofs.lemmas.List.Elements.{All-append, All-drop, All-nil, All-take, recursion_from_All}
 use Rattle.std.proofs.lemmas.List.Folds.{concat-append}
 use Rattle.cells.specs.declared.place.Size.{Size}
-use Rattle.cells.specs.Cells.{Cells, bytes_of, cells_of, count_of}
+use Rattle.cells.specs.Cells.{Cells, IsVolume, bytes_of, cells_of, count_of}
 use Rattle.cells.specs.PartLists.{parts_from, parts_of}
-use Rattle.cells.specs.Places.{cell_count}
+use Rattle.cells.specs.Places.{HasAxes, cell_count}
+use Rattle.cells.proofs.Buffering.{is_volume}
+use Rattle.netpbm_p6.specs.declared.picture.Picture.{Picture as ReadPicture}
 use Rattle.netpbm_p6.specs.Pictures.{IsRead, IsSound, picture_size}
 use Rattle.y4m_clip.specs.declared.form.ClipForm.{ClipForm}
 use Rattle.y4m_clip.specs.Clips.{HasSpaceKind, cells_h, cells_w}
@@ -44,7 +46,31 @@ read_is_sound bytes maxval cells read =
       cells = subst (λ (v : Cells). count_of v ≤ 8388608) (sym p.volume) (omega (arith, read.limits.cells_fit));
     }
 
--- and so is a clip
+-- and a volume: no byte of it is above its maxval
+small_bytes : (most : ℕ) → most < 256 → (bytes : List ℕ) → AllByRecursion (λ b. b ≤ most) bytes → (i : ℕ) → slice_index bytes i < 256
+small_bytes most lt [] all i = omega arith
+small_bytes most lt (b ∷ bytes) all zero = omega (arith, lt, all.0)
+small_bytes most lt (b ∷ bytes) all (suc i) = small_bytes most lt bytes all.1 i
+
+pub read_is_volume : (bytes : List ℕ) (picture : ReadPicture) → IsRead bytes picture → IsVolume picture.volume
+read_is_volume bytes picture read =
+    let p = read.stands in
+    let h = p.headed in
+    let size = picture_size h.width h.height in
+    let axes : HasAxes size = record {
+      w = (h.is_header.gives_width.counts.positive, omega (arith, read.limits.width_fits));
+      h = (h.is_header.gives_height.counts.positive, omega (arith, read.limits.height_fits));
+      f = (omega arith, omega arith);
+    } in
+    let one : h.height * 1 ≡ h.height = omega arith in
+    let cells : cell_count size ≡ h.width * h.height = ap (λ n. h.width * n) one in
+    subst IsVolume (sym p.volume) (is_volume size [] 3 h.raster (record {
+      parts = record { few = omega arith; first = axes; others = tt; cells = omega (arith, cells, read.limits.cells_fit) };
+      samples = (omega arith, omega arith);
+      whole = p.whole ∙ ap (λ n. 3 * n) (sym cells);
+    }) (small_bytes h.maxval (omega (arith, p.depth)) h.raster (recursion_from_All (λ b. b ≤ h.maxval) h.raster p.samples)))
+
+-- a clip that is read is sound, too
 clip_is_sound : (most : ℕ) (bytes : List ℕ) (form : ClipForm) (cells : Cells) → IsReadClip most bytes (record { form = form; volume = cells }) → IsSoundClip most (record { form = form; volume = cells })
 clip_is_sound most bytes form cells read =
     let c = read.stands in

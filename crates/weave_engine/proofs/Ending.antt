@@ -25,12 +25,12 @@ use Rattle.upgrade_command.proofs.Headline.{finished}
 use Rattle.upgrade_command.proofs.OneAnswer.{upgrade_has_one_answer}
 use Rattle.weave_engine.specs.Engine.{command_of}
 use Rattle.grow_command.specs.GrowHeadlines.{GrowHeadline, GrowReport, HaveSameOutput, HaveSameSamples, IsGrownRun, IsOneReport, OneOutput}
-use Rattle.check_command.specs.CheckHeadlines.{CheckHeadline}
+use Rattle.check_command.specs.CheckHeadlines.{CheckHeadline, HaveLeastRecords}
 use Rattle.trial_command.specs.TrialHeadlines.{TrialHeadline}
 use Rattle.standing_files.specs.declared.verdict.Verdict.TheVariants as verdict
 use Rattle.check_command.specs.Checks.{Stand, check_command, summary_of}
 use Rattle.check_command.proofs.OneAnswer.{check_has_one_answer}
-use Rattle.check_command.proofs.Checked.{broke, made_breaking, made_standing, stood}
+use Rattle.check_command.proofs.Checked.{broke, least_records, made_breaking, made_standing, stood}
 use Rattle.grow_command.proofs.GrowLaws.{grow_has_one_answer, grow_told, grown_run, small_output}
 use Rattle.grow_command.proofs.OneOutputs.{one_output, one_report}
 use Rattle.trial_command.specs.Trials.{IsTrialOf}
@@ -129,6 +129,9 @@ module _ (words : List (List ℕ)) (was now : ShelfState) (out out' err err' : S
   check_headline = record {
     stand = λ job asks zero. let has = done.only (inl zero) in let its = check_done job asks has in
         told_weaker (WritesAll (check_command job) has.summary) (λ before after. (after ≡ before) × Stand job.names before) was.files now.files (stood job has.summary (sym has.verdict ∙ zero)) its;
+    least = λ job asks zero. let has = done.only (inl zero) in let its = check_done job asks has in
+        told_weaker (WritesAll (check_command job) has.summary) (λ before after. HaveLeastRecords job.names before) was.files now.files
+        (λ before after wrote. least_records job.names before (stood job has.summary (sym has.verdict ∙ zero) before after wrote).1) its;
     break = λ job asks one. let has = done.only (inr one) in broke job has.summary (sym has.verdict ∙ one) (may_make job asks has) was now out out' (check_done job asks has) has.done.told;
     where_they_stand = λ job files asks tells stands. done.where_made (Check job) files [] (summary_of verdict.Stands) asks tells (made_standing job files stands);
     where_they_break = λ job files number rule place asks tells breaks. done.where_made (Check job) files [] (summary_of (verdict.Fails number rule place)) asks tells (made_breaking job files number rule place breaks);

@@ -135,7 +135,7 @@ pub fn run<S: Shelf, O: Sink, E: Sink>(
         (O.state out.old) (O.state out.new) result }
 
     // `check` answers 0 exactly where the files stand, and 1 exactly where they are in their forms and
-    // limits and don't, with the first rule that they break.
+    // limits and don't, with the first rule that they break. What it accepts is least, whoever made it.
     ensures checked { CheckHeadline words.now (S.state shelf.old) (S.state shelf.new)
         (O.state out.old) (O.state out.new) result }
 

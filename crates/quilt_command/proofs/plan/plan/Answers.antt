@@ -23,7 +23,7 @@ returns-in-Err-set_against-clause-planned g c =
     let b = g.S.Shelf.state c.read_p6.new.shelf in
     let job = c.args.job.now in
     let sample = c.in-Ok.sample in
-    output_refused job a b sample c.samples-k.ensures.volume
+    output_refused job a b sample
     (subst (λ name. Changes a b (λ before after. IsRead (content_of before name) sample)) c.as_text.ensures (c.in-Ok.ensures {u = tt}).answer)
     c.in-Err-set_against.fault (c.in-Err-set_against.ensures {u = tt})
 
@@ -38,7 +38,7 @@ returns-in-Err-quilt_canvas-clause-planned g c =
     let job = c.args.job.now in
     let sample = c.in-Ok.sample in
     subst (NotMade (quilt_command job) a b) (sym c.quilting_fault.ensures)
-    (not_quilted job a b sample c.samples-k.ensures.volume
+    (not_quilted job a b sample
     (subst (λ name. Changes a b (λ before after. IsRead (content_of before name) sample)) c.as_text.ensures (c.in-Ok.ensures {u = tt}).answer)
     (c.in-Ok-set_against.ensures {u = tt}) c.in-Err-quilt_canvas.error
     (subst (λ asked. IsQuiltFault asked sample.volume c.in-Err-quilt_canvas.error) c.run_of.ensures (c.in-Err-quilt_canvas.ensures {u = tt})))
@@ -50,7 +50,7 @@ returns-clause-planned g c =
     let job = c.args.job.now in
     let sample = c.in-Ok.sample in
     let quilted = c.in-Ok-quilt_canvas.quilted in
-    quilt_made job a b (record { sample = sample; quilted = quilted }) c.read_p6.ensures.reads c.samples-k.ensures.volume
+    quilt_made job a b (record { sample = sample; quilted = quilted }) c.read_p6.ensures.reads
     (subst (λ name. Changes a b (λ before after. IsRead (content_of before name) sample)) c.as_text.ensures (c.in-Ok.ensures {u = tt}).answer)
     (c.in-Ok-set_against.ensures {u = tt}) (subst (λ asked. IsQuilt asked sample.volume quilted) c.run_of.ensures (c.in-Ok-quilt_canvas.ensures {u = tt}))
 

@@ -1,8 +1,8 @@
 // Record files, both ways, and the copy of their bytes. The files lie in memory.
-ghost use Rattle.cert_file.specs.RecordFiles.{IsCert};
+ghost use Rattle.cert_file.specs.RecordFiles.{IsRecordFile};
 
 use crate::samples::mixed;
-use cert_file::{CertFile, read_cert, write_blocks, write_cuts};
+use cert_file::{RecordFile, read_record_file, write_blocks, write_cuts};
 use shelf_core::SureShelf;
 use std::alloc::{AllocError, Global};
 
@@ -77,9 +77,9 @@ fn shelf_of(alloc: Global, bytes: &[u8]) -> Result<SureShelf, AllocError> {
 fn read_often(alloc: Global, shelf: &mut SureShelf, times: u32) -> Result<u64, AllocError> {
     let mut number = 0u64;
     for _time in 0..times {
-        let count = match read_cert(alloc, shelf, "record") {
-            Ok(CertFile::Cuts { cuts, .. }) => cuts.as_slice().len(),
-            Ok(CertFile::Blocks { blocks, .. }) => blocks.as_slice().len(),
+        let count = match read_record_file(alloc, shelf, "record") {
+            Ok(RecordFile::Cuts { cuts, .. }) => cuts.as_slice().len(),
+            Ok(RecordFile::Blocks { blocks, .. }) => blocks.as_slice().len(),
             _ => return Err(AllocError),
         };
         number = number.wrapping_add(count as u64);
@@ -88,21 +88,21 @@ fn read_often(alloc: Global, shelf: &mut SureShelf, times: u32) -> Result<u64, A
 }
 
 // Writes a record file of cuts or of blocks, and says whether that went well.
-fn write_once(file: &CertFile, shelf: &mut SureShelf) -> bool
-    requires { IsCert file.now }
+fn write_once(file: &RecordFile, shelf: &mut SureShelf) -> bool
+    requires { IsRecordFile file.now }
 {
     match file {
-        CertFile::Cuts { head, cuts } => write_cuts(head, cuts.as_slice(), shelf, "out").is_ok(),
-        CertFile::Blocks { head, blocks } => {
+        RecordFile::Cuts { head, cuts } => write_cuts(head, cuts.as_slice(), shelf, "out").is_ok(),
+        RecordFile::Blocks { head, blocks } => {
             write_blocks(head, blocks.as_slice(), shelf, "out").is_ok()
         }
-        CertFile::Walk { .. } => false,
+        RecordFile::Walk { .. } => false,
     }
 }
 
 // Writes so often. The number is of the bytes written.
-fn write_often(file: &CertFile, shelf: &mut SureShelf, times: u32) -> Result<u64, AllocError>
-    requires { IsCert file.now }
+fn write_often(file: &RecordFile, shelf: &mut SureShelf, times: u32) -> Result<u64, AllocError>
+    requires { IsRecordFile file.now }
 {
     for _time in 0..times {
         if !write_once(file, shelf) {
@@ -117,7 +117,7 @@ fn write_often(file: &CertFile, shelf: &mut SureShelf, times: u32) -> Result<u64
 
 // Reads once, and writes so often.
 fn read_and_write(alloc: Global, shelf: &mut SureShelf, times: u32) -> Result<u64, AllocError> {
-    match read_cert(alloc, shelf, "record") {
+    match read_record_file(alloc, shelf, "record") {
         Ok(file) => write_often(&file, shelf, times),
         Err(_) => Err(AllocError),
     }

@@ -22,7 +22,7 @@ use Rattle.source_map.specs.Readings.{list_read, number_read}
 use Rattle.source_map.proofs.Again.{Spells, alone_spells, field_spells, not_equal, spells_16, spells_32, spells_8, then_spells}
 use Rattle.source_map.proofs.FieldLaws.{chain, value_alone}
 use Rattle.cert_file.specs.declared.block_fields.BlockStart.{BlockStart}
-use Rattle.cert_file.specs.declared.file.CertFile.TheVariants.{Blocks}
+use Rattle.cert_file.specs.declared.file.RecordFile.TheVariants.{Blocks}
 use Rattle.cert_file.specs.BlockForms.{IsBlockInForm, IsWideBlock, IsWideBoundary, block_form, block_size_field, block_start_form, boundary_form, flag, flags_of, spot_field}
 use Rattle.cert_file.specs.BlockReading.{block_read, block_size_read, block_start_read, blocks_read, boundary_read, cols_rule, flags_rule, has_left, has_top, left_read, side_read, spot_read, spot_rule, top_read}
 use Rattle.cert_file.specs.CutReading.{box_axis_rule, box_cells_rule}

@@ -21,13 +21,13 @@ use Rattle.source_map.specs.Readings.{◌>>=◌, AreBytes, list_read, number_rea
 use Rattle.source_map.proofs.HeadsSpelled.{head_kind, head_stood}
 use Rattle.source_map.proofs.Spelled.{Spelled, Stood, both_stood, ended, field_stood, list_count, list_stood, none_stood, number_16_stood, number_32_stood, number_8_stood, otherwise, passed, peel, same_first, same_value}
 use Rattle.cert_file.specs.declared.block_fields.BlockStart.{BlockStart}
-use Rattle.cert_file.specs.declared.file.CertFile.{CertFile}
-use Rattle.cert_file.specs.declared.file.CertFile.TheVariants.{Blocks}
+use Rattle.cert_file.specs.declared.file.RecordFile.{RecordFile}
+use Rattle.cert_file.specs.declared.file.RecordFile.TheVariants.{Blocks}
 use Rattle.cert_file.specs.BlockForms.{block_form, block_size_field, boundary_form, flag, spot_field}
 use Rattle.cert_file.specs.BlockReading.{block_read, block_size_read, block_start_read, boundary_read, cols_rule, flags_rule, has_left, has_top, left_read, side_read, spot_read, spot_rule, top_read}
 use Rattle.block_check.specs.Blocks.{block_cells}
 use Rattle.cert_file.specs.CutReading.{box_axis_rule, box_cells_rule, number_of_two}
-use Rattle.cert_file.specs.RecordFiles.{AreBlocksSpelled, blocks_form, blocks_kind, cert_form, kinds, record_magic, records_read, versions}
+use Rattle.cert_file.specs.RecordFiles.{AreBlocksSpelled, blocks_form, blocks_kind, record_file_form, kinds, record_magic, records_read, versions}
 use Rattle.cert_file.specs.Rules.{any_rule}
 use Rattle.cert_file.proofs.StripColumns.{cols_are}
 use Rattle.cert_file.proofs.BlocksAgain.{there}
@@ -223,7 +223,7 @@ block_stood before at bytes block end small le is =
 pub blocks_spelled : (bytes : List ℕ) (head : Head) (blocks : List BlockRecord) → AreBlocksSpelled bytes head blocks
 blocks_spelled bytes head blocks small is =
     let value = Blocks head blocks in
-    let a = peel {A = (Head × ℕ) × ℕ} {C = CertFile} (head_read record_magic versions kinds 0 bytes) (λ h. records_read h.0.1 h.0.0 h.1 bytes) value is in
+    let a = peel {A = (Head × ℕ) × ℕ} {C = RecordFile} (head_read record_magic versions kinds 0 bytes) (λ h. records_read h.0.1 h.0.0 h.1 bytes) value is in
     let top = a.x.0.0 in
     let parts = blocks_only a.x.0.1 top a.x.1 bytes head blocks (head_kind record_magic versions kinds 0 bytes a.x.0 a.x.1 a.one) a.two in
     let p = parts.1 in
@@ -235,4 +235,4 @@ blocks_spelled bytes head blocks small is =
     let r = each_stood read block_form (λ front. block_stood (block_cells front)) p.count.0 p.count.1 bytes p.blocks.0 p.blocks.1 small n.within p.blocks_are in
     let all = both_stood 0 p.count.1 p.blocks.1 (head_form record_magic blocks_kind top ++ field_32 (length p.blocks.0)) (flat_map block_form p.blocks.0) bytes
     (both_stood 0 a.x.1 p.count.1 (head_form record_magic blocks_kind top) (field_32 (length p.blocks.0)) bytes h n') r in
-    whole_stood (blocks_form top p.blocks.0) bytes p.blocks.1 all p.ends ∙ ap cert_form p.value_is
+    whole_stood (blocks_form top p.blocks.0) bytes p.blocks.1 all p.ends ∙ ap record_file_form p.value_is

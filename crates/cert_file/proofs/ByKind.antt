@@ -14,8 +14,8 @@ use Rattle.source_map.specs.declared.head.Version.TheVariants.{One, Two}
 use Rattle.source_map.specs.Heads.{IsKind}
 use Rattle.source_map.specs.Readings.{◌>>=◌, list_read, number_read}
 use Rattle.source_map.proofs.Spelled.{passed, peel, same_second, same_value}
-use Rattle.cert_file.specs.declared.file.CertFile.{CertFile}
-use Rattle.cert_file.specs.declared.file.CertFile.TheVariants.{Blocks, Cuts, Walk}
+use Rattle.cert_file.specs.declared.file.RecordFile.{RecordFile}
+use Rattle.cert_file.specs.declared.file.RecordFile.TheVariants.{Blocks, Cuts, Walk}
 use Rattle.cert_file.specs.declared.walk_fields.WalkStart.{WalkStart}
 use Rattle.cert_file.specs.BlockReading.{blocks_read}
 use Rattle.cert_file.specs.CutReading.{cuts_read}
@@ -25,7 +25,7 @@ use Rattle.cert_file.specs.WalkForms.{table_entries, frames_of}
 use Rattle.cert_file.specs.WalkReading.{few_frames_read, frames_rule, walk_file_read, walk_start_read}
 
 -- the parts of a file of cut records, of block records, and of a walk, that was read
-pub record CutsParts (head : Head) (at : ℕ) (bytes : List ℕ) (value : CertFile) : Type 0 where
+pub record CutsParts (head : Head) (at : ℕ) (bytes : List ℕ) (value : RecordFile) : Type 0 where
   pub count : ℕ × ℕ
   pub cuts : List CutRecord × ℕ
   pub count_is : number_read w32 any_rule at bytes ≡ Ok count
@@ -33,7 +33,7 @@ pub record CutsParts (head : Head) (at : ℕ) (bytes : List ℕ) (value : CertFi
   pub ends : nat_le (length bytes) cuts.1 ≡ true
   pub value_is : Cuts head cuts.0 ≡ value
 
-pub record BlocksParts (head : Head) (at : ℕ) (bytes : List ℕ) (value : CertFile) : Type 0 where
+pub record BlocksParts (head : Head) (at : ℕ) (bytes : List ℕ) (value : RecordFile) : Type 0 where
   pub count : ℕ × ℕ
   pub blocks : List BlockRecord × ℕ
   pub count_is : number_read w32 any_rule at bytes ≡ Ok count
@@ -41,7 +41,7 @@ pub record BlocksParts (head : Head) (at : ℕ) (bytes : List ℕ) (value : Cert
   pub ends : nat_le (length bytes) blocks.1 ≡ true
   pub value_is : Blocks head blocks.0 ≡ value
 
-pub record WalkParts (head : Head) (at : ℕ) (bytes : List ℕ) (value : CertFile) : Type 0 where
+pub record WalkParts (head : Head) (at : ℕ) (bytes : List ℕ) (value : RecordFile) : Type 0 where
   pub start : WalkStart × ℕ
   pub walk : List ℕ × ℕ
   pub tables : List ℕ × ℕ
@@ -51,38 +51,38 @@ pub record WalkParts (head : Head) (at : ℕ) (bytes : List ℕ) (value : CertFi
   pub ends : nat_le (length bytes) tables.1 ≡ true
   pub value_is : Walk head start.0.taps start.0.gap walk.0 tables.0 ≡ value
 
-cuts_parts : (head : Head) (at : ℕ) (bytes : List ℕ) (value : CertFile) → cuts_file_read head at bytes ≡ Ok value → CutsParts head at bytes value
+cuts_parts : (head : Head) (at : ℕ) (bytes : List ℕ) (value : RecordFile) → cuts_file_read head at bytes ≡ Ok value → CutsParts head at bytes value
 cuts_parts head at bytes value is =
     let read = cuts_read head.version head.samples in
-    let a = peel {A = ℕ × ℕ} {C = CertFile} (number_read w32 any_rule at bytes) (λ n. read n.0 n.1 bytes >>= λ cuts. end_rule cuts.1 bytes >>= λ end. Ok (Cuts head cuts.0)) value is in
-    let b = peel {A = List CutRecord × ℕ} {C = CertFile} (read a.x.0 a.x.1 bytes) (λ cuts. end_rule cuts.1 bytes >>= λ end. Ok (Cuts head cuts.0)) value a.two in
-    let c = peel {A = Unit {0}} {C = CertFile} (end_rule b.x.1 bytes) (λ end. Ok (Cuts head b.x.0)) value b.two in
+    let a = peel {A = ℕ × ℕ} {C = RecordFile} (number_read w32 any_rule at bytes) (λ n. read n.0 n.1 bytes >>= λ cuts. end_rule cuts.1 bytes >>= λ end. Ok (Cuts head cuts.0)) value is in
+    let b = peel {A = List CutRecord × ℕ} {C = RecordFile} (read a.x.0 a.x.1 bytes) (λ cuts. end_rule cuts.1 bytes >>= λ end. Ok (Cuts head cuts.0)) value a.two in
+    let c = peel {A = Unit {0}} {C = RecordFile} (end_rule b.x.1 bytes) (λ end. Ok (Cuts head b.x.0)) value b.two in
     let ends = passed (nat_le (length bytes) b.x.1) tt c.x (Bad (Form b.x.1)) c.one in
     record { count = a.x; cuts = b.x; count_is = a.one; cuts_are = b.one; ends = ends.0; value_is = same_value (Cuts head b.x.0) value c.two }
 
-blocks_parts : (head : Head) (at : ℕ) (bytes : List ℕ) (value : CertFile) → blocks_file_read head at bytes ≡ Ok value → BlocksParts head at bytes value
+blocks_parts : (head : Head) (at : ℕ) (bytes : List ℕ) (value : RecordFile) → blocks_file_read head at bytes ≡ Ok value → BlocksParts head at bytes value
 blocks_parts head at bytes value is =
-    let a = peel {A = ℕ × ℕ} {C = CertFile} (number_read w32 any_rule at bytes) (λ n. blocks_read n.0 n.1 bytes >>= λ blocks. end_rule blocks.1 bytes >>= λ end. Ok (Blocks head blocks.0)) value is in
-    let b = peel {A = List BlockRecord × ℕ} {C = CertFile} (blocks_read a.x.0 a.x.1 bytes) (λ blocks. end_rule blocks.1 bytes >>= λ end. Ok (Blocks head blocks.0)) value a.two in
-    let c = peel {A = Unit {0}} {C = CertFile} (end_rule b.x.1 bytes) (λ end. Ok (Blocks head b.x.0)) value b.two in
+    let a = peel {A = ℕ × ℕ} {C = RecordFile} (number_read w32 any_rule at bytes) (λ n. blocks_read n.0 n.1 bytes >>= λ blocks. end_rule blocks.1 bytes >>= λ end. Ok (Blocks head blocks.0)) value is in
+    let b = peel {A = List BlockRecord × ℕ} {C = RecordFile} (blocks_read a.x.0 a.x.1 bytes) (λ blocks. end_rule blocks.1 bytes >>= λ end. Ok (Blocks head blocks.0)) value a.two in
+    let c = peel {A = Unit {0}} {C = RecordFile} (end_rule b.x.1 bytes) (λ end. Ok (Blocks head b.x.0)) value b.two in
     let ends = passed (nat_le (length bytes) b.x.1) tt c.x (Bad (Form b.x.1)) c.one in
     record { count = a.x; blocks = b.x; count_is = a.one; blocks_are = b.one; ends = ends.0; value_is = same_value (Blocks head b.x.0) value c.two }
 
-walk_parts : (head : Head) (at : ℕ) (bytes : List ℕ) (value : CertFile) → walk_file_read head at bytes ≡ Ok value → WalkParts head at bytes value
+walk_parts : (head : Head) (at : ℕ) (bytes : List ℕ) (value : RecordFile) → walk_file_read head at bytes ≡ Ok value → WalkParts head at bytes value
 walk_parts head at bytes value is =
     let read_walk = λ (n : ℕ). list_read (number_read w16 any_rule) n in
     let read_tables = λ (n : ℕ). list_read (number_read w64 any_rule) (table_entries head n) in
     let made = λ (s : WalkStart) (w t : List ℕ). Walk head s.taps s.gap w t in
-    let f = peel {A = Unit {0} × ℕ} {C = CertFile} (few_frames_read (frames_of head) at bytes)
+    let f = peel {A = Unit {0} × ℕ} {C = RecordFile} (few_frames_read (frames_of head) at bytes)
     (λ few. walk_start_read few.1 bytes >>= λ s. read_walk s.0.length s.1 bytes >>= λ w. read_tables s.0.length w.1 bytes >>= λ t. end_rule t.1 bytes >>= λ end. Ok (made s.0 w.0 t.0)) value is in
     let r = peel {A = Unit {0}} {C = Unit {0} × ℕ} (frames_rule (frames_of head)) (λ few. Ok (few, at)) f.x f.one in
     let here : at ≡ f.x.1 = same_second r.x f.x.0 at f.x.1 r.two in
-    let s = peel {A = WalkStart × ℕ} {C = CertFile} (walk_start_read f.x.1 bytes)
+    let s = peel {A = WalkStart × ℕ} {C = RecordFile} (walk_start_read f.x.1 bytes)
     (λ s. read_walk s.0.length s.1 bytes >>= λ w. read_tables s.0.length w.1 bytes >>= λ t. end_rule t.1 bytes >>= λ end. Ok (made s.0 w.0 t.0)) value f.two in
-    let w = peel {A = List ℕ × ℕ} {C = CertFile} (read_walk s.x.0.length s.x.1 bytes)
+    let w = peel {A = List ℕ × ℕ} {C = RecordFile} (read_walk s.x.0.length s.x.1 bytes)
     (λ w. read_tables s.x.0.length w.1 bytes >>= λ t. end_rule t.1 bytes >>= λ end. Ok (made s.x.0 w.0 t.0)) value s.two in
-    let t = peel {A = List ℕ × ℕ} {C = CertFile} (read_tables s.x.0.length w.x.1 bytes) (λ t. end_rule t.1 bytes >>= λ end. Ok (made s.x.0 w.x.0 t.0)) value w.two in
-    let e = peel {A = Unit {0}} {C = CertFile} (end_rule t.x.1 bytes) (λ end. Ok (made s.x.0 w.x.0 t.x.0)) value t.two in
+    let t = peel {A = List ℕ × ℕ} {C = RecordFile} (read_tables s.x.0.length w.x.1 bytes) (λ t. end_rule t.1 bytes >>= λ end. Ok (made s.x.0 w.x.0 t.0)) value w.two in
+    let e = peel {A = Unit {0}} {C = RecordFile} (end_rule t.x.1 bytes) (λ end. Ok (made s.x.0 w.x.0 t.x.0)) value t.two in
     let ends = passed (nat_le (length bytes) t.x.1) tt e.x (Bad (Form t.x.1)) e.one in
     record {
       start = s.x;

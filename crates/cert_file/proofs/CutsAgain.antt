@@ -35,11 +35,11 @@ use Rattle.source_map.proofs.HeadsAgain.{sizes_spell, start_spells}
 use Rattle.source_map.proofs.MapWriting.{one_place}
 use Rattle.source_map.proofs.MapsAgain.{part_ok, stock_there, there_spells}
 use Rattle.source_map.proofs.PartLaws.{part_is}
-use Rattle.cert_file.specs.declared.file.CertFile.{CertFile}
-use Rattle.cert_file.specs.declared.file.CertFile.TheVariants.{Cuts}
+use Rattle.cert_file.specs.declared.file.RecordFile.{RecordFile}
+use Rattle.cert_file.specs.declared.file.RecordFile.TheVariants.{Cuts}
 use Rattle.cert_file.specs.CutForms.{HasShortFlows, IsBoxSize, IsCutInForm, IsShortFlow, box_size_field, choice_field, cut_form, flow_field, from_field, signed_field}
 use Rattle.cert_file.specs.CutReading.{box_axis_rule, box_cells, box_cells_rule, box_size_read, choice_read, choice_rule, corner_rule, cut_read, cuts_read, each_read, flow_read, flow_rule, from_read, number_of_two, part_read}
-use Rattle.cert_file.specs.RecordFiles.{AreCutsInLimits, AreReadAgain, cert_read, cuts_form, cuts_kind, kinds, record_magic, records_read, versions}
+use Rattle.cert_file.specs.RecordFiles.{AreCutsInLimits, AreReadAgain, record_file_read, cuts_form, cuts_kind, kinds, record_magic, records_read, versions}
 use Rattle.cert_file.specs.Rules.{any_rule, end_rule}
 use Rattle.source_map.proofs.Spelled.{peel, same_value}
 use Rattle.cert_file.proofs.ChoiceBits.{bits_taken, bits_unused}
@@ -280,15 +280,15 @@ value_ends {A = A} x = record { whole = whole; alone = alone }
     alone at bytes other stands is = same_value x other (peel {A = Unit {0}} {C = A} (end_rule at bytes) (λ end. Ok x) other is).two
 
 -- a whole file
-abbrev pub IsFileOf : List ℕ → CertFile → Type 0
+abbrev pub IsFileOf : List ℕ → RecordFile → Type 0
 IsFileOf piece value = EndsAs (chain_to_end (head_read record_magic versions kinds) (λ head. records_read head.1 head.0)) piece value
 
-pub file_again : (bytes : List ℕ) (value : CertFile) → IsFileOf bytes value → cert_read bytes ≡ Ok value
+pub file_again : (bytes : List ℕ) (value : RecordFile) → IsFileOf bytes value → record_file_read bytes ≡ Ok value
 file_again bytes value is =
     let whole : StandsAt 0 bytes bytes = record { is = sym (take_all (length bytes) bytes (omega arith)); within = omega arith } in
     is.whole 0 bytes whole (omega arith)
 
-pub file_alone : (piece more : List ℕ) (value other : CertFile) → IsFileOf piece value → cert_read (piece ++ more) ≡ Ok other → value ≡ other
+pub file_alone : (piece more : List ℕ) (value other : RecordFile) → IsFileOf piece value → record_file_read (piece ++ more) ≡ Ok other → value ≡ other
 file_alone piece more value other is read =
     let bytes = piece ++ more in
     let whole : StandsAt 0 bytes bytes = record { is = sym (take_all (length bytes) bytes (omega arith)); within = omega arith } in

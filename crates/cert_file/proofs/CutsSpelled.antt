@@ -32,11 +32,11 @@ use Rattle.source_map.proofs.HeadsSpelled.{head_kind, head_stood}
 use Rattle.source_map.proofs.MapsSpelled.{numbered_there, part_code, place_stood, stock_one, there_is}
 use Rattle.source_map.proofs.PartLaws.{part_is}
 use Rattle.source_map.proofs.Spelled.{Spelled, Stood, both_stood, ended, field_stood, list_stood, none_stood, number_16_stood, number_32_stood, otherwise, passed, peel, same_first, same_value}
-use Rattle.cert_file.specs.declared.file.CertFile.{CertFile}
-use Rattle.cert_file.specs.declared.file.CertFile.TheVariants.{Cuts}
+use Rattle.cert_file.specs.declared.file.RecordFile.{RecordFile}
+use Rattle.cert_file.specs.declared.file.RecordFile.TheVariants.{Cuts}
 use Rattle.cert_file.specs.CutForms.{box_size_field, choice_bytes, choice_field, cut_form, flow_field, from_field}
 use Rattle.cert_file.specs.CutReading.{bits_of, box_axis_rule, box_cells, box_cells_rule, box_size_read, choice_read, choice_rule, corner_rule, cut_read, each_read, flow_read, flow_rule, from_read, none_set, number_of_two}
-use Rattle.cert_file.specs.RecordFiles.{AreSpelled, cert_form, cuts_form, cuts_kind, kinds, record_magic, records_read, versions}
+use Rattle.cert_file.specs.RecordFiles.{AreSpelled, record_file_form, cuts_form, cuts_kind, kinds, record_magic, records_read, versions}
 use Rattle.cert_file.specs.Rules.{any_rule}
 use Rattle.cert_file.proofs.ChoiceSpelled.{choice_spelled}
 use Rattle.cert_file.proofs.ByKind.{cuts_only}
@@ -209,7 +209,7 @@ whole_stood piece bytes end stood ends =
 pub cuts_spelled : (bytes : List ℕ) (head : Head) (cuts : List CutRecord) → AreSpelled bytes head cuts
 cuts_spelled bytes head cuts small is =
     let value = Cuts head cuts in
-    let a = peel {A = (Head × ℕ) × ℕ} {C = CertFile} (head_read record_magic versions kinds 0 bytes) (λ h. records_read h.0.1 h.0.0 h.1 bytes) value is in
+    let a = peel {A = (Head × ℕ) × ℕ} {C = RecordFile} (head_read record_magic versions kinds 0 bytes) (λ h. records_read h.0.1 h.0.0 h.1 bytes) value is in
     let top = a.x.0.0 in
     let parts = cuts_only a.x.0.1 top a.x.1 bytes head cuts (head_kind record_magic versions kinds 0 bytes a.x.0 a.x.1 a.one) a.two in
     let p = parts.1 in
@@ -222,4 +222,4 @@ cuts_spelled bytes head cuts small is =
     let r = each_stood read form (λ front. cut_stood top.version top.samples (box_cells front)) p.count.0 p.count.1 bytes p.cuts.0 p.cuts.1 small n.within p.cuts_are in
     let all = both_stood 0 p.count.1 p.cuts.1 (head_form record_magic cuts_kind top ++ field_32 (length p.cuts.0)) (flat_map form p.cuts.0) bytes
     (both_stood 0 a.x.1 p.count.1 (head_form record_magic cuts_kind top) (field_32 (length p.cuts.0)) bytes h n') r in
-    whole_stood (cuts_form top p.cuts.0) bytes p.cuts.1 all p.ends ∙ ap cert_form p.value_is
+    whole_stood (cuts_form top p.cuts.0) bytes p.cuts.1 all p.ends ∙ ap record_file_form p.value_is

@@ -12,8 +12,8 @@ use Rattle.file_bytes.proofs.ReadingLaws.{still, both}
 use Rattle.source_map.specs.Heads.{head_read}
 use Rattle.source_map.specs.Readings.{◌>>=◌, Found, ReadsFrom}
 use Rattle.source_map.proofs.FieldLaws.{weaker}
-use Rattle.cert_file.specs.declared.file.CertFile.{CertFile}
-use Rattle.cert_file.specs.RecordFiles.{ReadsCert, ReadsToEnd, kinds, record_magic, records_read, versions}
+use Rattle.cert_file.specs.declared.file.RecordFile.{RecordFile}
+use Rattle.cert_file.specs.RecordFiles.{ReadsRecordFile, ReadsToEnd, kinds, record_magic, records_read, versions}
 use Rattle.cert_file.specs.Rules.{end_rule}
 
 -- one reading, and then another to the end of the file
@@ -75,8 +75,8 @@ ends_not memory name at was now x (Limit what number bound) stops = absurd stops
 ends_not memory name at was now x NoMemory stops = absurd stops
 
 -- the whole file
-pub whole_file : (name : List ℕ) (was now : ShelfState) (result : Result CertFile ReadError)
-    → ReadsToEnd (Unit {0}) name 0 was now (chain_to_end (head_read record_magic versions kinds) (λ head. records_read head.1 head.0)) result → ReadsCert name was now result
+pub whole_file : (name : List ℕ) (was now : ShelfState) (result : Result RecordFile ReadError)
+    → ReadsToEnd (Unit {0}) name 0 was now (chain_to_end (head_read record_magic versions kinds) (λ head. records_read head.1 head.0)) result → ReadsRecordFile name was now result
 whole_file name was now (Ok file) answer = answer
 whole_file name was now (Err ReadFault) answer = answer
 whole_file name was now (Err NoMemory) answer = tt

@@ -14,7 +14,7 @@ use Rattle.source_map.specs.Heads.{IsKind, head_form, head_read}
 use Rattle.source_map.specs.Readings.{list_read, number_read}
 use Rattle.source_map.proofs.Again.{Spells, alone_spells, not_equal, spells_16, spells_32, spells_8, then_spells}
 use Rattle.source_map.proofs.FieldLaws.{chain, value_alone}
-use Rattle.cert_file.specs.declared.file.CertFile.TheVariants.{Walk}
+use Rattle.cert_file.specs.declared.file.RecordFile.TheVariants.{Walk}
 use Rattle.cert_file.specs.declared.walk_fields.WalkStart.{WalkStart}
 use Rattle.cert_file.specs.RecordFiles.{IsWalkReadAgain, kinds, record_magic, records_read, versions, walk_file_form, walk_kind}
 use Rattle.cert_file.specs.Rules.{any_rule}

@@ -17,10 +17,10 @@ use Rattle.source_map.specs.Heads.{head_form, head_read}
 use Rattle.source_map.specs.Readings.{◌>>=◌, number_read, number_rule}
 use Rattle.source_map.proofs.HeadsSpelled.{head_kind, head_stood}
 use Rattle.source_map.proofs.Spelled.{Spelled, Stood, both_stood, ended, field_stood, list_count, list_stood, number_16_stood, number_32_stood, number_8_stood, otherwise, passed, peel, same_value}
-use Rattle.cert_file.specs.declared.file.CertFile.{CertFile}
-use Rattle.cert_file.specs.declared.file.CertFile.TheVariants.{Walk}
+use Rattle.cert_file.specs.declared.file.RecordFile.{RecordFile}
+use Rattle.cert_file.specs.declared.file.RecordFile.TheVariants.{Walk}
 use Rattle.cert_file.specs.declared.walk_fields.WalkStart.{WalkStart}
-use Rattle.cert_file.specs.RecordFiles.{IsWalkSpelled, cert_form, kinds, record_magic, records_read, versions, walk_file_form, walk_kind}
+use Rattle.cert_file.specs.RecordFiles.{IsWalkSpelled, record_file_form, kinds, record_magic, records_read, versions, walk_file_form, walk_kind}
 use Rattle.cert_file.specs.Rules.{any_rule}
 use Rattle.cert_file.specs.WalkForms.{table_entries, taps_number, walk_form, walk_start_form}
 use Rattle.cert_file.specs.WalkReading.{gap_rule, length_rule, taps_rule, walk_start_read}
@@ -72,7 +72,7 @@ pub walk_spelled : (bytes : List ℕ) (head : Head) (taps : Taps) (gap : ℕ) (w
 unfolding walk_form
 walk_spelled bytes head taps gap walk tables small is =
     let value = Walk head taps gap walk tables in
-    let a = peel {A = (Head × ℕ) × ℕ} {C = CertFile} (head_read record_magic versions kinds 0 bytes) (λ h. records_read h.0.1 h.0.0 h.1 bytes) value is in
+    let a = peel {A = (Head × ℕ) × ℕ} {C = RecordFile} (head_read record_magic versions kinds 0 bytes) (λ h. records_read h.0.1 h.0.0 h.1 bytes) value is in
     let top = a.x.0.0 in
     let parts = walk_only a.x.0.1 top a.x.1 bytes head taps gap walk tables (head_kind record_magic versions kinds 0 bytes a.x.0 a.x.1 a.one) a.two in
     let p = parts.1 in
@@ -89,4 +89,4 @@ walk_spelled bytes head taps gap walk tables small is =
     let f3 = fields_64 p.tables.0 in
     let body = both_stood a.x.1 p.walk.1 p.tables.1 (f1 ++ f2) f3 bytes (both_stood a.x.1 p.start.1 p.walk.1 f1 f2 bytes start' frames) entries in
     let all = both_stood 0 a.x.1 p.tables.1 (head_form record_magic walk_kind top) (f1 ++ f2 ++ f3) bytes h body in
-    whole_stood (walk_file_form top s.taps s.gap p.walk.0 p.tables.0) bytes p.tables.1 all p.ends ∙ ap cert_form p.value_is
+    whole_stood (walk_file_form top s.taps s.gap p.walk.0 p.tables.0) bytes p.tables.1 all p.ends ∙ ap record_file_form p.value_is

@@ -14,8 +14,8 @@ use Rattle.source_map.specs.declared.head.Head.{Head}
 use Rattle.source_map.specs.declared.head.Version.TheVariants.{One}
 use Rattle.source_map.specs.Heads.{IsHead, head_form, head_read}
 use Rattle.source_map.specs.Readings.{◌>>=◌, AreBytes, number_read}
-use Rattle.cert_file.specs.declared.file.CertFile.{CertFile}
-use Rattle.cert_file.specs.declared.file.CertFile.TheVariants.{Blocks, Cuts, Walk}
+use Rattle.cert_file.specs.declared.file.RecordFile.{RecordFile}
+use Rattle.cert_file.specs.declared.file.RecordFile.TheVariants.{Blocks, Cuts, Walk}
 use Rattle.cert_file.specs.BlockForms.{IsBlockInForm, IsWideBlock, block_form}
 use Rattle.cert_file.specs.BlockReading.{blocks_read}
 use Rattle.block_check.specs.Blocks.{block_cells}
@@ -87,109 +87,109 @@ pub record AreBlocksInLimits (head : Head) (blocks : List BlockRecord) : Type 0 
   pub form : AreBlocksInForm head blocks
   pub cells : block_cells blocks ≤ MOST_BOX_CELLS
 
-abbrev pub IsCert : CertFile → Type 0
-IsCert (Cuts head cuts) = AreCutsInLimits head cuts
-IsCert (Blocks head blocks) = AreBlocksInLimits head blocks
-IsCert (Walk head taps gap walk tables) = IsWalkInForm head gap walk tables
+abbrev pub IsRecordFile : RecordFile → Type 0
+IsRecordFile (Cuts head cuts) = AreCutsInLimits head cuts
+IsRecordFile (Blocks head blocks) = AreBlocksInLimits head blocks
+IsRecordFile (Walk head taps gap walk tables) = IsWalkInForm head gap walk tables
 
 -- the one spelling of a value
-abbrev pub cert_form : CertFile → List ℕ
-cert_form (Cuts head cuts) = cuts_form head cuts
-cert_form (Blocks head blocks) = blocks_form head blocks
-cert_form (Walk head taps gap walk tables) = walk_file_form head taps gap walk tables
+abbrev pub record_file_form : RecordFile → List ℕ
+record_file_form (Cuts head cuts) = cuts_form head cuts
+record_file_form (Blocks head blocks) = blocks_form head blocks
+record_file_form (Walk head taps gap walk tables) = walk_file_form head taps gap walk tables
 
 -- a value that is spelled so that it is read again: within the limits, with numbers of as many bits as
 -- all in memory have
-abbrev pub HasSpelling : CertFile → Type 0
+abbrev pub HasSpelling : RecordFile → Type 0
 HasSpelling (Cuts head cuts) = AreCutsInLimits head cuts × All HasShortFlows cuts
 HasSpelling (Blocks head blocks) = AreBlocksInLimits head blocks × All IsWideBlock blocks
 HasSpelling (Walk head taps gap walk tables) =
     IsWalkInForm head gap walk tables × AreWide walk tables
 
 -- cut records, from behind a head to the end of the file
-abbrev pub cuts_file_read : Head → ℕ → List ℕ → Result CertFile ReadError
+abbrev pub cuts_file_read : Head → ℕ → List ℕ → Result RecordFile ReadError
 cuts_file_read head at bytes =
     number_read w32 any_rule at bytes >>= λ count.
     cuts_read head.version head.samples count.0 count.1 bytes >>= λ cuts.
     end_rule cuts.1 bytes >>= λ end. Ok (Cuts head cuts.0)
 
 -- block records, from behind a head to the end of the file
-abbrev pub blocks_file_read : Head → ℕ → List ℕ → Result CertFile ReadError
+abbrev pub blocks_file_read : Head → ℕ → List ℕ → Result RecordFile ReadError
 blocks_file_read head at bytes =
     number_read w32 any_rule at bytes >>= λ count.
     blocks_read count.0 count.1 bytes >>= λ blocks.
     end_rule blocks.1 bytes >>= λ end. Ok (Blocks head blocks.0)
 
 -- what follows a head, to the end of the file
-abbrev pub records_read : ℕ → Head → ℕ → List ℕ → Result CertFile ReadError
+abbrev pub records_read : ℕ → Head → ℕ → List ℕ → Result RecordFile ReadError
 records_read kind head at bytes =
     if kind == cuts_kind then cuts_file_read head at bytes
     else if kind == blocks_kind then blocks_file_read head at bytes
     else walk_file_read head at bytes
 
 -- what a whole file is read as: a value, or its first refusal
-abbrev pub cert_read : List ℕ → Result CertFile ReadError
-cert_read bytes =
+abbrev pub record_file_read : List ℕ → Result RecordFile ReadError
+record_file_read bytes =
     head_read record_magic versions kinds 0 bytes
     >>= λ head. records_read head.0.1 head.0.0 head.1 bytes
 
 -- the same for a reader that takes version 1 and kind 0 alone: other versions and other kinds are
 -- refused at their fields, and all else is as above
-abbrev pub version_one_cuts_read : List ℕ → Result CertFile ReadError
+abbrev pub version_one_cuts_read : List ℕ → Result RecordFile ReadError
 version_one_cuts_read bytes =
     head_read record_magic 1 1 0 bytes >>= λ head. cuts_file_read head.0.0 head.1 bytes
 
 -- cut records, and not another kind
-abbrev pub AreCuts : CertFile → Type 0
+abbrev pub AreCuts : RecordFile → Type 0
 AreCuts (Cuts head cuts) = Unit {0}
 AreCuts file = ⊥
 
 -- cut records of version 1
-abbrev pub AreVersionOneCuts : CertFile → Type 0
+abbrev pub AreVersionOneCuts : RecordFile → Type 0
 AreVersionOneCuts (Cuts head cuts) = head.version ≡ One
 AreVersionOneCuts file = ⊥
 
 -- the bytes are in their form and within the limits, and stand for the value
-abbrev pub IsCertOf : List ℕ → CertFile → Type 0
-IsCertOf bytes file = cert_read bytes ≡ Ok file
+abbrev pub IsRecordFileOf : List ℕ → RecordFile → Type 0
+IsRecordFileOf bytes file = record_file_read bytes ≡ Ok file
 
 -- a reader of version 1 alone reads nothing else than one of all versions does
-abbrev pub IsReadByBoth : List ℕ → CertFile → Type 0
+abbrev pub IsReadByBoth : List ℕ → RecordFile → Type 0
 IsReadByBoth bytes file =
-    version_one_cuts_read bytes ≡ Ok file → IsCertOf bytes file × AreVersionOneCuts file
+    version_one_cuts_read bytes ≡ Ok file → IsRecordFileOf bytes file × AreVersionOneCuts file
 
 -- what is written is read again: the spelling of records within the limits stands for them. That their
 -- flows, paths and sums have 16 or 32 bits holds of all records in memory
 abbrev pub AreReadAgain : Head → List CutRecord → Type 0
 AreReadAgain head cuts = AreCutsInLimits head cuts → All HasShortFlows cuts
-    → IsCertOf (cuts_form head cuts) (Cuts head cuts)
+    → IsRecordFileOf (cuts_form head cuts) (Cuts head cuts)
 
 abbrev pub AreBlocksReadAgain : Head → List BlockRecord → Type 0
 AreBlocksReadAgain head blocks = AreBlocksInLimits head blocks → All IsWideBlock blocks
-    → IsCertOf (blocks_form head blocks) (Blocks head blocks)
+    → IsRecordFileOf (blocks_form head blocks) (Blocks head blocks)
 
 abbrev pub IsWalkReadAgain : Head → Taps → ℕ → List ℕ → List ℕ → Type 0
 IsWalkReadAgain head taps gap walk tables = IsWalkInForm head gap walk tables
     → AreWide walk tables
-    → IsCertOf (walk_file_form head taps gap walk tables) (Walk head taps gap walk tables)
+    → IsRecordFileOf (walk_file_form head taps gap walk tables) (Walk head taps gap walk tables)
 
 -- bytes that stand for records are their spelling
 abbrev pub AreSpelled : List ℕ → Head → List CutRecord → Type 0
-AreSpelled bytes head cuts = AreBytes bytes → IsCertOf bytes (Cuts head cuts)
+AreSpelled bytes head cuts = AreBytes bytes → IsRecordFileOf bytes (Cuts head cuts)
     → bytes ≡ cuts_form head cuts
 
 abbrev pub AreBlocksSpelled : List ℕ → Head → List BlockRecord → Type 0
-AreBlocksSpelled bytes head blocks = AreBytes bytes → IsCertOf bytes (Blocks head blocks)
+AreBlocksSpelled bytes head blocks = AreBytes bytes → IsRecordFileOf bytes (Blocks head blocks)
     → bytes ≡ blocks_form head blocks
 
 abbrev pub IsWalkSpelled : List ℕ → Head → Taps → ℕ → List ℕ → List ℕ → Type 0
 IsWalkSpelled bytes head taps gap walk tables =
-    AreBytes bytes → IsCertOf bytes (Walk head taps gap walk tables)
+    AreBytes bytes → IsRecordFileOf bytes (Walk head taps gap walk tables)
     → bytes ≡ walk_file_form head taps gap walk tables
 
 -- they aren't, and this is the first refusal
-abbrev pub RefusesCert : List ℕ → ReadError → Type 0
-RefusesCert bytes refusal = cert_read bytes ≡ Err refusal
+abbrev pub RefusesRecordFile : List ℕ → ReadError → Type 0
+RefusesRecordFile bytes refusal = record_file_read bytes ≡ Err refusal
 
 -- what a reader of the named file answers, of what is made of its bytes from a place on. A read
 -- fault has its cause; `memory` is that of want of memory
@@ -204,14 +204,15 @@ ReadsToEnd memory name place was now read (Err refusal) =
 
 -- what a reader answers, by what bytes are read as: the value of the file's bytes, or their first
 -- refusal; want of memory may come instead of either
-abbrev pub ReadsCertBy : (List ℕ → Result CertFile ReadError) → List ℕ → ShelfState → ShelfState
-    → Result CertFile ReadError → Type 0
-ReadsCertBy read name was now (Ok file) = OfFile name now.files (λ bytes. read bytes ≡ Ok file)
-ReadsCertBy read name was now (Err ReadFault) = ReadsRose name was now
-ReadsCertBy read name was now (Err NoMemory) = Unit {0}
-ReadsCertBy read name was now (Err refusal) =
+abbrev pub ReadsRecordFileBy : (List ℕ → Result RecordFile ReadError) → List ℕ
+    → ShelfState → ShelfState → Result RecordFile ReadError → Type 0
+ReadsRecordFileBy read name was now (Ok file) =
+    OfFile name now.files (λ bytes. read bytes ≡ Ok file)
+ReadsRecordFileBy read name was now (Err ReadFault) = ReadsRose name was now
+ReadsRecordFileBy read name was now (Err NoMemory) = Unit {0}
+ReadsRecordFileBy read name was now (Err refusal) =
     OfFile name now.files (λ bytes. read bytes ≡ Err refusal)
 
--- what `read_cert` answers
-abbrev pub ReadsCert : List ℕ → ShelfState → ShelfState → Result CertFile ReadError → Type 0
-ReadsCert = ReadsCertBy cert_read
+-- what `read_record_file` answers
+abbrev pub ReadsRecordFile : List ℕ → ShelfState → ShelfState → Result RecordFile ReadError → Type 0
+ReadsRecordFile = ReadsRecordFileBy record_file_read

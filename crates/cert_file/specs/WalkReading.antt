@@ -11,8 +11,8 @@ use Rattle.loop_walk.specs.declared.record.TheConstants.{GREATEST_LENGTH}
 use Rattle.loop_walk.specs.Tables.{IsLength}
 use Rattle.source_map.specs.declared.head.Head.{Head}
 use Rattle.source_map.specs.Readings.{◌>>=◌, list_read, number_read}
-use Rattle.cert_file.specs.declared.file.CertFile.{CertFile}
-use Rattle.cert_file.specs.declared.file.CertFile.TheVariants.{Walk}
+use Rattle.cert_file.specs.declared.file.RecordFile.{RecordFile}
+use Rattle.cert_file.specs.declared.file.RecordFile.TheVariants.{Walk}
 use Rattle.cert_file.specs.declared.walk_fields.WalkStart.{WalkStart}
 use Rattle.cert_file.specs.declared.walk_fields.TheConstants.{GREATEST_GAP, MOST_FRAMES}
 use Rattle.cert_file.specs.Rules.{any_rule, end_rule}
@@ -57,7 +57,7 @@ pub record IsStart (start : WalkStart) : Type 0 where
   pub gap : (1 ≤ start.gap) × (start.gap ≤ GREATEST_GAP)
 
 -- a walk record, from behind a head to the end of the file
-abbrev pub walk_file_read : Head → ℕ → List ℕ → Result CertFile ReadError
+abbrev pub walk_file_read : Head → ℕ → List ℕ → Result RecordFile ReadError
 walk_file_read head at bytes =
     few_frames_read (frames_of head) at bytes >>= λ few.
     walk_start_read few.1 bytes >>= λ start.

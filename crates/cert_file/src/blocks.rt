@@ -13,13 +13,13 @@ ghost use Rattle.source_map.specs.Readings.{ReadsFrom};
 ghost use Rattle.cert_file.specs.BlockForms.{IsBlockInForm, IsWideBlock, IsWideBoundary, block_form, block_start_form, boundary_form, flags_of, spot_field};
 ghost use Rattle.cert_file.specs.BlockReading.{IsBoundaryRead, IsSpot, block_read, blocks_read, side_read};
 ghost use Rattle.cert_file.specs.WalkForms.{IsHeadOfVersionOne};
-ghost use Rattle.cert_file.specs.RecordFiles.{AreBlocksInForm, AreBlocksInLimits, IsCert, IsCertOf, ReadsToEnd, blocks_file_read, blocks_form};
+ghost use Rattle.cert_file.specs.RecordFiles.{AreBlocksInForm, AreBlocksInLimits, IsRecordFile, IsRecordFileOf, ReadsToEnd, blocks_file_read, blocks_form};
 ghost use Rattle.cert_file.specs.declared.cut_fields.TheConstants.{MOST_BOX_CELLS};
-ghost use Rattle.cert_file.specs.declared.file.CertFile.TheVariants.{Blocks};
+ghost use Rattle.cert_file.specs.declared.file.RecordFile.TheVariants.{Blocks};
 
 use crate::block_fields::{read_block_start, read_boundary};
 use crate::cut_reading::cells_of;
-use crate::file::{BLOCKS, CertFile, MAGIC, read_count};
+use crate::file::{BLOCKS, MAGIC, RecordFile, read_count};
 use crate::number_lists::{fit_16, fit_32};
 use block_check::BlockRecord;
 use cells::At;
@@ -162,7 +162,7 @@ pub fn write_blocks<S: Shelf>(
     ensures writes { OnlyWritesFile name.now (S.state shelf.old) (S.state shelf.new) }
     ensures failed { OnErr result (WritesRose name.now (S.state shelf.old) (S.state shelf.new)) }
     ensures again { AreBlocksInLimits head.now blocks.now →
-        IsCertOf (blocks_form head.now blocks.now) (Blocks head.now blocks.now) }
+        IsRecordFileOf (blocks_form head.now blocks.now) (Blocks head.now blocks.now) }
 {
     let mut file = FileWriter::begin(shelf, name);
     put_head(&mut file, MAGIC, BLOCKS, head, shelf, name);
@@ -269,17 +269,17 @@ pub(crate) fn read_blocks_file<S: Shelf>(
     head: Head,
     shelf: &mut S,
     name: &str,
-) -> Result<CertFile, ReadError>
+) -> Result<RecordFile, ReadError>
     requires follows { Follows name.now (S.state shelf.old) file.old }
     requires room { file.old.at < 2 ^ 31 }
     requires head { IsHeadOfVersionOne head }
     ensures answer { ReadsToEnd (Unit {0}) name.now file.old.at (S.state shelf.old)
         (S.state shelf.new) (blocks_file_read head) result }
-    ensures form { IfOk result IsCert }
+    ensures form { IfOk result IsRecordFile }
     ensures reads { OnlyReadsFile name.now (S.state shelf.old) (S.state shelf.new) }
 {
     let count = read_count(file, shelf, name)?;
     let blocks = read_blocks(alloc, file, count, shelf, name)?;
     file.end(shelf, name)?;
-    Ok(CertFile::Blocks { head, blocks })
+    Ok(RecordFile::Blocks { head, blocks })
 }

@@ -6,8 +6,8 @@ ghost use Rattle.shelf_core.specs.Written.{HoldsPart, HoldsText};
 ghost use Rattle.file_bytes.specs.Reading.{Follows};
 ghost use Rattle.source_map.specs.Heads.{IsHead, IsKind};
 ghost use Rattle.source_map.specs.Readings.{ReadsFrom, number_read};
-ghost use Rattle.cert_file.specs.declared.file.CertFile.TheVariants.{Cuts};
-ghost use Rattle.cert_file.specs.RecordFiles.{AreCuts, AreCutsInForm, AreCutsInLimits, IsCert, IsCertOf, ReadsCert, ReadsCertBy, ReadsToEnd, cuts_file_read, cuts_form, records_read, version_one_cuts_read};
+ghost use Rattle.cert_file.specs.declared.file.RecordFile.TheVariants.{Cuts};
+ghost use Rattle.cert_file.specs.RecordFiles.{AreCuts, AreCutsInForm, AreCutsInLimits, IsRecordFile, IsRecordFileOf, ReadsRecordFile, ReadsRecordFileBy, ReadsToEnd, cuts_file_read, cuts_form, records_read, version_one_cuts_read};
 ghost use Rattle.cert_file.specs.Rules.{any_rule};
 
 use crate::blocks::read_blocks_file;
@@ -43,7 +43,7 @@ const KINDS: u8 = 3;
 
 /// What a record file holds.
 #[derive(Drop)]
-pub enum CertFile {
+pub enum RecordFile {
     /// The records of placements and rounds, in their order.
     Cuts {
         head: Head,
@@ -82,7 +82,7 @@ pub fn write_cuts<S: Shelf>(
     ensures writes { OnlyWritesFile name.now (S.state shelf.old) (S.state shelf.new) }
     ensures failed { OnErr result (WritesRose name.now (S.state shelf.old) (S.state shelf.new)) }
     ensures again { AreCutsInLimits head.now cuts.now →
-        IsCertOf (cuts_form head.now cuts.now) (Cuts head.now cuts.now) }
+        IsRecordFileOf (cuts_form head.now cuts.now) (Cuts head.now cuts.now) }
 {
     let mut file = FileWriter::begin(shelf, name);
     put_head(&mut file, MAGIC, CUTS, head, shelf, name);
@@ -115,20 +115,20 @@ fn read_cuts_file<S: Shelf>(
     head: Head,
     shelf: &mut S,
     name: &str,
-) -> Result<CertFile, ReadError>
+) -> Result<RecordFile, ReadError>
     requires follows { Follows name.now (S.state shelf.old) file.old }
     requires room { file.old.at < 2 ^ 31 }
     requires head { IsHead head }
     ensures answer { ReadsToEnd (Unit {0}) name.now file.old.at (S.state shelf.old)
         (S.state shelf.new) (cuts_file_read head) result }
-    ensures form { IfOk result IsCert }
+    ensures form { IfOk result IsRecordFile }
     ensures cuts { IfOk result AreCuts }
     ensures reads { OnlyReadsFile name.now (S.state shelf.old) (S.state shelf.new) }
 {
     let count = read_count(file, shelf, name)?;
     let cuts = read_cuts(alloc, file, head.version, &head.samples, count, shelf, name)?;
     file.end(shelf, name)?;
-    Ok(CertFile::Cuts { head, cuts })
+    Ok(RecordFile::Cuts { head, cuts })
 }
 
 // Reads what follows a head, to the end of the file.
@@ -139,14 +139,14 @@ fn read_records<S: Shelf>(
     kind: u8,
     shelf: &mut S,
     name: &str,
-) -> Result<CertFile, ReadError>
+) -> Result<RecordFile, ReadError>
     requires follows { Follows name.now (S.state shelf.old) file.old }
     requires room { file.old.at < 2 ^ 31 }
     requires head { IsHead head }
     requires kind { IsKind KINDS head.version kind }
     ensures answer { ReadsToEnd (Unit {0}) name.now file.old.at (S.state shelf.old)
         (S.state shelf.new) (records_read kind head) result }
-    ensures form { IfOk result IsCert }
+    ensures form { IfOk result IsRecordFile }
     ensures reads { OnlyReadsFile name.now (S.state shelf.old) (S.state shelf.new) }
 {
     if kind == CUTS {
@@ -167,9 +167,13 @@ fn read_records<S: Shelf>(
 /// sample) after the head, and `Limit Loop` (4,096) after its length. A byte behind the last field is
 /// `Bad(Form)` at its place. `ReadFault` comes wherever a read fails, and `NoMemory` may come at any place:
 /// memory is taken as bytes come, never by a count in the file.
-pub fn read_cert<S: Shelf>(alloc: Global, shelf: &mut S, name: &str) -> Result<CertFile, ReadError>
-    ensures answer { ReadsCert name.now (S.state shelf.old) (S.state shelf.new) result }
-    ensures form { IfOk result IsCert }
+pub fn read_record_file<S: Shelf>(
+    alloc: Global,
+    shelf: &mut S,
+    name: &str,
+) -> Result<RecordFile, ReadError>
+    ensures answer { ReadsRecordFile name.now (S.state shelf.old) (S.state shelf.new) result }
+    ensures form { IfOk result IsRecordFile }
     ensures reads { OnlyReadsFile name.now (S.state shelf.old) (S.state shelf.new) }
 {
     let mut file = FileReader::new();
@@ -177,16 +181,16 @@ pub fn read_cert<S: Shelf>(alloc: Global, shelf: &mut S, name: &str) -> Result<C
     read_records(alloc, &mut file, head, kind, shelf, name)
 }
 
-/// Reads a file of cut records of version 1, to its end: as `read_cert` does, but every other version is
-/// `Bad(Form(8))`, whatever follows it, and every other kind `Bad(Form(9))`.
+/// Reads a file of cut records of version 1, to its end: as `read_record_file` does, but every other
+/// version is `Bad(Form(8))`, whatever follows it, and every other kind `Bad(Form(9))`.
 pub fn read_version_one_cuts<S: Shelf>(
     alloc: Global,
     shelf: &mut S,
     name: &str,
-) -> Result<CertFile, ReadError>
-    ensures answer { ReadsCertBy version_one_cuts_read name.now
+) -> Result<RecordFile, ReadError>
+    ensures answer { ReadsRecordFileBy version_one_cuts_read name.now
         (S.state shelf.old) (S.state shelf.new) result }
-    ensures form { IfOk result IsCert }
+    ensures form { IfOk result IsRecordFile }
     ensures cuts { IfOk result AreCuts }
     ensures reads { OnlyReadsFile name.now (S.state shelf.old) (S.state shelf.new) }
 {

@@ -1,21 +1,21 @@
 // What the form promises, whoever reads or writes.
 ghost use Rattle.std.specs.Prelude.{◌≡◌, ◌++◌, ℕ, List};
 ghost use Rattle.shelf_core.specs.declared.fault.ReadError.{ReadError};
-ghost use Rattle.cert_file.specs.declared.file.CertFile.{CertFile};
+ghost use Rattle.cert_file.specs.declared.file.RecordFile.{RecordFile};
 ghost use Rattle.cells.specs.declared.place.Taps.{Taps};
 ghost use Rattle.cut_check.specs.declared.record.CutRecord.{CutRecord};
 ghost use Rattle.block_check.specs.declared.block.BlockRecord.{BlockRecord};
 ghost use Rattle.source_map.specs.declared.head.Head.{Head};
-ghost use Rattle.cert_file.specs.RecordFiles.{AreBlocksReadAgain, AreBlocksSpelled, AreReadAgain, AreSpelled, HasSpelling, IsCertOf, IsReadByBoth, IsWalkReadAgain, IsWalkSpelled, RefusesCert, cert_form};
+ghost use Rattle.cert_file.specs.RecordFiles.{AreBlocksReadAgain, AreBlocksSpelled, AreReadAgain, AreSpelled, HasSpelling, IsRecordFileOf, IsReadByBoth, IsWalkReadAgain, IsWalkSpelled, RefusesRecordFile, record_file_form};
 
 /// Bytes stand for one value at most, have one refusal at most, and not both.
 pub fn one_reading()
-    ensures one_value { (bytes : List ℕ) (first second : CertFile) → IsCertOf bytes first →
-        IsCertOf bytes second → first ≡ second }
-    ensures one_refusal { (bytes : List ℕ) (first second : ReadError) → RefusesCert bytes first →
-        RefusesCert bytes second → first ≡ second }
-    ensures not_both { (bytes : List ℕ) (file : CertFile) (refusal : ReadError) →
-        IsCertOf bytes file → RefusesCert bytes refusal → ⊥ }
+    ensures one_value { (bytes : List ℕ) (first second : RecordFile) → IsRecordFileOf bytes first →
+        IsRecordFileOf bytes second → first ≡ second }
+    ensures one_refusal { (bytes : List ℕ) (first second : ReadError) →
+        RefusesRecordFile bytes first → RefusesRecordFile bytes second → first ≡ second }
+    ensures not_both { (bytes : List ℕ) (file : RecordFile) (refusal : ReadError) →
+        IsRecordFileOf bytes file → RefusesRecordFile bytes refusal → ⊥ }
 {}
 
 /// Cut records that are written, and whose boxes are within the limit on cells, are read again.
@@ -55,12 +55,12 @@ pub fn walk_has_one_spelling()
 /// No spelling is a proper prefix of another: where bytes begin with the spelling of a value and are the
 /// spelling of one, the two values are equal.
 pub fn no_record_begins_another()
-    ensures { (first second : CertFile) (more : List ℕ) → HasSpelling first → HasSpelling second →
-        cert_form first ++ more ≡ cert_form second → first ≡ second }
+    ensures { (first second : RecordFile) (more : List ℕ) → HasSpelling first → HasSpelling second →
+        record_file_form first ++ more ≡ record_file_form second → first ≡ second }
 {}
 
 /// A reader of version 1 alone reads nothing else than one of all versions does, and cut records of
 /// version 1 alone.
 pub fn version_one_cuts_are_cuts()
-    ensures { (bytes : List ℕ) (file : CertFile) → IsReadByBoth bytes file }
+    ensures { (bytes : List ℕ) (file : RecordFile) → IsReadByBoth bytes file }
 {}

@@ -18,7 +18,7 @@ pub use blocks::write_blocks;
 pub use cells::Taps;
 pub use cut_check::{CutRecord, Flow};
 pub use cut_fields::MOST_BOX_CELLS;
-pub use file::{CertFile, read_cert, read_version_one_cuts, write_cuts};
+pub use file::{RecordFile, read_record_file, read_version_one_cuts, write_cuts};
 pub use items::Items;
 pub use law::{
     blocks_have_one_spelling, blocks_read_again, cuts_have_one_spelling, cuts_read_again,

@@ -6,13 +6,13 @@ ghost use Rattle.file_bytes.specs.Reading.{Follows};
 ghost use Rattle.file_bytes.specs.Writing.{Puts};
 ghost use Rattle.loop_walk.specs.Tables.{IsLength, table_count};
 ghost use Rattle.source_map.specs.Heads.{IsHead};
-ghost use Rattle.cert_file.specs.RecordFiles.{IsCert, IsCertOf, ReadsToEnd, walk_file_form};
+ghost use Rattle.cert_file.specs.RecordFiles.{IsRecordFile, IsRecordFileOf, ReadsToEnd, walk_file_form};
 ghost use Rattle.cert_file.specs.WalkForms.{AreWide, IsHeadOfVersionOne, IsWalkInForm, frames_of, taps_number, walk_form, walk_start_form};
 ghost use Rattle.cert_file.specs.WalkReading.{walk_file_read};
-ghost use Rattle.cert_file.specs.declared.file.CertFile.TheVariants.{Walk};
+ghost use Rattle.cert_file.specs.declared.file.RecordFile.TheVariants.{Walk};
 ghost use Rattle.cert_file.specs.declared.walk_fields.TheConstants.{GREATEST_GAP, MOST_FRAMES};
 
-use crate::file::{CertFile, MAGIC, WALK};
+use crate::file::{MAGIC, RecordFile, WALK};
 use crate::number_lists::{read_list_16, read_list_64};
 use crate::walk_fields::{lawful_frames, read_walk_start};
 use cells::Taps;
@@ -92,7 +92,7 @@ pub fn write_walk<S: Shelf>(
         (HoldsPart name.now (walk_file_form head.now taps gap walk.now tables.now))) }
     ensures writes { OnlyWritesFile name.now (S.state shelf.old) (S.state shelf.new) }
     ensures failed { OnErr result (WritesRose name.now (S.state shelf.old) (S.state shelf.new)) }
-    ensures again { IsCertOf (walk_file_form head.now taps gap walk.now tables.now)
+    ensures again { IsRecordFileOf (walk_file_form head.now taps gap walk.now tables.now)
         (Walk head.now taps gap walk.now tables.now) }
 {
     let mut file = FileWriter::begin(shelf, name);
@@ -126,13 +126,13 @@ pub(crate) fn read_walk_file<S: Shelf>(
     head: Head,
     shelf: &mut S,
     name: &str,
-) -> Result<CertFile, ReadError>
+) -> Result<RecordFile, ReadError>
     requires follows { Follows name.now (S.state shelf.old) file.old }
     requires room { file.old.at < 2 ^ 31 }
     requires head { IsHeadOfVersionOne head }
     ensures answer { ReadsToEnd (Unit {0}) name.now file.old.at (S.state shelf.old)
         (S.state shelf.new) (walk_file_read head) result }
-    ensures form { IfOk result IsCert }
+    ensures form { IfOk result IsRecordFile }
     ensures reads { OnlyReadsFile name.now (S.state shelf.old) (S.state shelf.new) }
 {
     let n = sample_frames(&head);
@@ -141,7 +141,7 @@ pub(crate) fn read_walk_file<S: Shelf>(
     let walk = read_list_16(alloc, file, start.length as usize, shelf, name)?;
     let tables = read_list_64(alloc, file, entry_count(n, start.length), shelf, name)?;
     file.end(shelf, name)?;
-    Ok(CertFile::Walk {
+    Ok(RecordFile::Walk {
         head,
         taps: start.taps,
         gap: start.gap,

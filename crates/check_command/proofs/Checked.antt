@@ -27,7 +27,7 @@ module _ (job : CheckJob) (said : Summary) where
   pub stood : summary_status said ≡ 0 → (before after : Files) → WritesAll (check_command job) said before after → (after ≡ before) × Stand job.names before
   stood zero before after (texts, makes, wrote) = (unchanged job texts before after wrote, by makes.verdict makes.judged makes.summary_is)
     where
-      by : (verdict : Verdict) → IsVerdict makes.values.samples makes.values.out makes.values.map makes.values.cert verdict → said ≡ summary_of verdict → Stand job.names before
+      by : (verdict : Verdict) → IsVerdict makes.values.samples makes.values.out makes.values.map makes.values.record_file verdict → said ≡ summary_of verdict → Stand job.names before
       by Stands judged is = record { values = makes.values; read = makes.read; stand = judged }
       by (Fails number rule place) judged is = let one : summary_status said ≡ 1 = ap summary_status is in absurd (omega (arith, zero, one))
 
@@ -44,7 +44,7 @@ module _ (job : CheckJob) (said : Summary) where
       by Stands is = let zero : summary_status said ≡ 0 = ap summary_status is in absurd (omega (arith, zero, one))
       by (Fails number rule place) is = (number, rule, place, told_weaker (WritesAll (check_command job) said) (λ before after. (after ≡ before) × Break job.names before number rule place) was.files now.files files_broken files, subst (λ s. Reported s out out') is told)
         where
-          judged_so : (before : Files) (values : ReadFiles) → AreRunFiles job.names before values → (verdict : Verdict) → IsVerdict values.samples values.out values.map values.cert verdict → summary_of (Fails number rule place) ≡ summary_of verdict → Break job.names before number rule place
+          judged_so : (before : Files) (values : ReadFiles) → AreRunFiles job.names before values → (verdict : Verdict) → IsVerdict values.samples values.out values.map values.record_file verdict → summary_of (Fails number rule place) ≡ summary_of verdict → Break job.names before number rule place
           judged_so before values read Stands judged same = absurd (cc)
           judged_so before values read (Fails n r p) judged same =
               let number_is : n ≡ number = cc in
@@ -53,9 +53,9 @@ module _ (job : CheckJob) (said : Summary) where
               record {
                 values = values;
                 read = read;
-                broken = subst (λ i. IsVerdict values.samples values.out values.map values.cert (Fails number rule i)) place_is
-                    (subst (λ i. IsVerdict values.samples values.out values.map values.cert (Fails number i p)) rule_is
-                    (subst (λ i. IsVerdict values.samples values.out values.map values.cert (Fails i r p)) number_is judged));
+                broken = subst (λ i. IsVerdict values.samples values.out values.map values.record_file (Fails number rule i)) place_is
+                    (subst (λ i. IsVerdict values.samples values.out values.map values.record_file (Fails number i p)) rule_is
+                    (subst (λ i. IsVerdict values.samples values.out values.map values.record_file (Fails i r p)) number_is judged));
               }
 
           files_broken : (before after : Files) → WritesAll (check_command job) said before after → (after ≡ before) × Break job.names before number rule place
@@ -63,7 +63,7 @@ module _ (job : CheckJob) (said : Summary) where
 
 -- and are least
 pub least_records : (names : Names) (files : Files) → Stand names files → HaveLeastRecords names files
-least_records names files s = record { values = s.values; read = s.read; least = records_least s.values.samples.volume (map_output s.values.map) s.values.cert s.stand.records }
+least_records names files s = record { values = s.values; read = s.read; least = records_least s.values.samples.volume (map_output s.values.map) s.values.record_file s.stand.records }
 
 -- and where they do, this is made of them
 pub made_standing : (job : CheckJob) (files : Files) → Stand job.names files → MakesVerdict job.names files [] (summary_of Stands)

@@ -8,7 +8,7 @@ use Rattle.shelf_core.proofs.Sees.{Sees, fault_later, sees_later, sees_then, see
 use Rattle.file_bytes.specs.Reading.{OfFile}
 use Rattle.source_map.specs.declared.map_file.MapFile.{MapFile}
 use Rattle.source_map.specs.MapFiles.{MapReadsAs}
-use Rattle.cert_file.specs.RecordFiles.{ReadsCert, RefusesCert}
+use Rattle.cert_file.specs.RecordFiles.{ReadsRecordFile, RefusesRecordFile}
 use Rattle.job_words.specs.declared.check.CheckJob.{CheckJob}
 use Rattle.synth_report.specs.declared.fault.Fault.{Fault}
 use Rattle.synth_report.specs.declared.fault.Fault.TheVariants.{Words, Form, Unlike, Mark, Limit, Read, Write, NoMemory, NoLoop}
@@ -22,7 +22,7 @@ use Rattle.sample_files.specs.Several.{MayRefuseSamples, RefusesSamples, Samples
 use Rattle.sample_files.proofs.Commands.{samples_not_made}
 use Rattle.check_command.specs.Checks.{HaveMap, HaveOut, HaveSamples, IsReadMap, IsOut, MayRefuseFiles, RefusesFiles, RefusesMap, RefusesOutBytes, check_command}
 use Rattle.check_command.specs.Readings.{IsNotRead}
-use Rattle.check_command.proofs.Turns.{cert_turn, map_turn, out_turn, sample_turn}
+use Rattle.check_command.proofs.Turns.{record_file_turn, map_turn, out_turn, sample_turn}
 use Rattle.check_command.proofs.Values.{no_map, no_out, no_samples}
 
 -- What readers say of a file at the exit holds of it at the entry.
@@ -38,11 +38,11 @@ map_fails name a b ReadMemory left = tt
 map_fails name a b (Bad why) left = left
 map_fails name a b (ReadLimit what number bound) left = left
 
-pub cert_fails : {names : List (List ℕ)} (name : List ℕ) (a b : ShelfState) → OnlyReads names a b → (error : ReadError) → ReadsCert name a b (Err error) → FailsToRead RefusesCert name a b error
-cert_fails name a b reads ReadFault left = left
-cert_fails name a b reads ReadMemory left = tt
-cert_fails name a b reads (Bad why) left = of_file (λ bytes. RefusesCert bytes (Bad why)) name a.files b.files reads.files left
-cert_fails name a b reads (ReadLimit what number bound) left = of_file (λ bytes. RefusesCert bytes (ReadLimit what number bound)) name a.files b.files reads.files left
+pub record_file_fails : {names : List (List ℕ)} (name : List ℕ) (a b : ShelfState) → OnlyReads names a b → (error : ReadError) → ReadsRecordFile name a b (Err error) → FailsToRead RefusesRecordFile name a b error
+record_file_fails name a b reads ReadFault left = left
+record_file_fails name a b reads ReadMemory left = tt
+record_file_fails name a b reads (Bad why) left = of_file (λ bytes. RefusesRecordFile bytes (Bad why)) name a.files b.files reads.files left
+record_file_fails name a b reads (ReadLimit what number bound) left = of_file (λ bytes. RefusesRecordFile bytes (ReadLimit what number bound)) name a.files b.files reads.files left
 
 -- a reader that fails later fails
 fails_later : {names : List (List ℕ)} (Refuses : List ℕ → ReadError → Type 0) (name : List ℕ) (a b c : ShelfState) → OnlyReads names a b → (error : ReadError) → FailsToRead Refuses name b c error → FailsToRead Refuses name a c error
@@ -54,13 +54,13 @@ fails_later Refuses name a b c reads (ReadLimit what number bound) left = sees_l
 known_samples : (n : ℕ) (fault : Fault) → MayRefuseSamples n fault → MayRefuseFiles n fault
 known_samples n (Form part.Out why) may = tt
 known_samples n (Form part.Map why) may = tt
-known_samples n (Form part.Cert why) may = tt
+known_samples n (Form part.Record why) may = tt
 known_samples n (Form part.Sample why) may = may
 known_samples n (Form (part.More number) why) may = may
 known_samples n (Form part.Target why) may = may
 known_samples n (Form part.Marks why) may = may
 known_samples n (Form part.NewMap why) may = may
-known_samples n (Form part.NewCert why) may = may
+known_samples n (Form part.NewRecord why) may = may
 known_samples n (Form part.Report why) may = may
 known_samples n (Unlike its) may = may
 known_samples n (Mark index) may = may
@@ -95,11 +95,11 @@ module _ (job : CheckJob) where
   before_map files have m fault le (inr (inr (inl r))) = omega (arith, r.turn, le)
   before_map files have m fault le (inr (inr (inr r))) = omega (arith, r.turn, le)
 
-  before_cert : (files : Files) → HaveMap job.names files → NoneRefused (check_command job) (length job.names.more + 3) files
-  before_cert files have m fault le (inl r) = no_samples job.names files have.0.0 m fault r
-  before_cert files have m fault le (inr (inl r)) = no_out job.names files have.0.1.0 have.0.1.1 m fault r
-  before_cert files have m fault le (inr (inr (inl r))) = no_map job.names files have m fault r
-  before_cert files have m fault le (inr (inr (inr r))) = omega (arith, r.turn, le)
+  before_record_file : (files : Files) → HaveMap job.names files → NoneRefused (check_command job) (length job.names.more + 3) files
+  before_record_file files have m fault le (inl r) = no_samples job.names files have.0.0 m fault r
+  before_record_file files have m fault le (inr (inl r)) = no_out job.names files have.0.1.0 have.0.1.1 m fault r
+  before_record_file files have m fault le (inr (inr (inl r))) = no_map job.names files have m fault r
+  before_record_file files have m fault le (inr (inr (inr r))) = omega (arith, r.turn, le)
 
   -- what was seen of the files so far
   pub seen_samples : (samples : Samples) (a b : ShelfState) → Sees a b (λ files. StandForSamples (content_of files job.names.sample) (contents files job.names.more) samples) → Sees a b (HaveSamples job.names)
@@ -125,8 +125,8 @@ module _ (job : CheckJob) where
         (λ files refusal have refuses. inr (inr (inl (record { turn = omega arith; before = have; refused = (refusal, refuses, refl) })))) before_map seen r.error
         (fails_later RefusesMap job.names.map a b c reads r.error r.fails))
 
-    pub cert_not_read : Sees a c (HaveMap job.names) → IsNotRead RefusesCert part.Cert job.names.cert b c fault → NotMade (check_command job) a c fault
-    cert_not_read seen r = subst (NotMade (check_command job) a c) (sym r.is)
-        (not_read (check_command job) a c (length job.names.more + 3) part.Cert job.names.cert (cert_turn job) RefusesCert (HaveMap job.names) (λ why. tt) (λ what number bound. tt)
-        (λ files refusal have refuses. inr (inr (inr (record { turn = omega arith; before = have; refused = (refusal, refuses, refl) })))) before_cert seen r.error
-        (fails_later RefusesCert job.names.cert a b c reads r.error r.fails))
+    pub record_file_not_read : Sees a c (HaveMap job.names) → IsNotRead RefusesRecordFile part.Record job.names.record_file b c fault → NotMade (check_command job) a c fault
+    record_file_not_read seen r = subst (NotMade (check_command job) a c) (sym r.is)
+        (not_read (check_command job) a c (length job.names.more + 3) part.Record job.names.record_file (record_file_turn job) RefusesRecordFile (HaveMap job.names) (λ why. tt) (λ what number bound. tt)
+        (λ files refusal have refuses. inr (inr (inr (record { turn = omega arith; before = have; refused = (refusal, refuses, refl) })))) before_record_file seen r.error
+        (fails_later RefusesRecordFile job.names.record_file a b c reads r.error r.fails))

@@ -15,13 +15,13 @@ use Rattle.check_command.specs.Checks.{MakesVerdict, check_command, summary_of}
 use Rattle.check_command.proofs.Values.{one_fault, one_values, unrefused}
 
 abbrev Judged : ReadFiles → Verdict → Type 0
-Judged v verdict = IsVerdict v.samples v.out v.map v.cert verdict
+Judged v verdict = IsVerdict v.samples v.out v.map v.record_file verdict
 
 -- whether files stand is decided
 same_status : (v : ReadFiles) (one other : Verdict) → Judged v one → Judged v other → summary_status (summary_of one) ≡ summary_status (summary_of other)
 same_status v Stands Stands a b = refl
-same_status v Stands (Fails number rule place) a b = absurd (breaks_none v.samples v.out v.map v.cert number rule place a b)
-same_status v (Fails number rule place) Stands a b = absurd (breaks_none v.samples v.out v.map v.cert number rule place b a)
+same_status v Stands (Fails number rule place) a b = absurd (breaks_none v.samples v.out v.map v.record_file number rule place a b)
+same_status v (Fails number rule place) Stands a b = absurd (breaks_none v.samples v.out v.map v.record_file number rule place b a)
 same_status v (Fails number rule place) (Fails number' rule' place') a b = refl
 
 one_verdict : (names : Names) (files : Files) (one other : List (List _)) (first second : Summary) → MakesVerdict names files one first → MakesVerdict names files other second → summary_status first ≡ summary_status second

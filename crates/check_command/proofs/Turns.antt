@@ -28,7 +28,7 @@ module _ (job : CheckJob) where
   first = sample_files job.names.sample job.names.more
 
   abbrev others : List NamedFile
-  others = named part.Out job.names.out ∷ named part.Map job.names.map ∷ named part.Cert job.names.cert ∷ []
+  others = named part.Out job.names.out ∷ named part.Map job.names.map ∷ named part.Record job.names.record_file ∷ []
 
   pub sample_turn : (turn : ℕ) (its : FileOf) (name : List ℕ) → HasTurn first turn its name → HasTurn (check_command job).reads turn its name
   sample_turn turn its name has = in_front first others turn (named its name) has
@@ -42,8 +42,8 @@ module _ (job : CheckJob) where
   pub map_turn : HasTurn (check_command job).reads (length job.names.more + 2) part.Map job.names.map
   map_turn = at 1 (length job.names.more + 2) (omega arith)
 
-  pub cert_turn : HasTurn (check_command job).reads (length job.names.more + 3) part.Cert job.names.cert
-  cert_turn = at 2 (length job.names.more + 3) (omega arith)
+  pub record_file_turn : HasTurn (check_command job).reads (length job.names.more + 3) part.Record job.names.record_file
+  record_file_turn = at 2 (length job.names.more + 3) (omega arith)
 
   -- what asks for one of the files asks for no other than them
   pub of_samples : {more : List (List ℕ)} → more ≡ job.names.more → (a b : ShelfState) → OnlyReads (names_in (sample_files job.names.sample more)) a b → OnlyReads (names_in (check_command job).reads) a b
@@ -56,5 +56,5 @@ module _ (job : CheckJob) where
   pub of_map : (a b : ShelfState) → OnlyReadsFile job.names.map a b → OnlyReads (names_in (check_command job).reads) a b
   of_map a b reads = only_reads_of_more a b (turn_among (check_command job).reads (length job.names.more + 2) part.Map job.names.map map_turn) reads
 
-  pub of_cert : (a b : ShelfState) → OnlyReadsFile job.names.cert a b → OnlyReads (names_in (check_command job).reads) a b
-  of_cert a b reads = only_reads_of_more a b (turn_among (check_command job).reads (length job.names.more + 3) part.Cert job.names.cert cert_turn) reads
+  pub of_record_file : (a b : ShelfState) → OnlyReadsFile job.names.record_file a b → OnlyReads (names_in (check_command job).reads) a b
+  of_record_file a b reads = only_reads_of_more a b (turn_among (check_command job).reads (length job.names.more + 3) part.Record job.names.record_file record_file_turn) reads

@@ -12,7 +12,7 @@ use Rattle.sample_files.specs.declared.sample.Sample.{Sample}
 use Rattle.sample_files.specs.Several.{RefusesSamples, contents}
 use Rattle.sample_files.proofs.OneAnswer.{not_both, one_value, refused_once}
 use Rattle.sample_files.proofs.OneSample.{one_sample, one_sample_refusal, stands_or_refused}
-use Rattle.cert_file.specs.RecordFiles.{RefusesCert}
+use Rattle.cert_file.specs.RecordFiles.{RefusesRecordFile}
 use Rattle.check_command.specs.declared.reading.ReadFiles.{ReadFiles}
 use Rattle.check_command.specs.Checks.{AreRunFiles, HaveMap, HaveSamples, IsOut, RefusesFiles, RefusesMap, RefusesMapFile, RefusesOut, RefusesOutBytes, RefusesRecord}
 
@@ -41,8 +41,8 @@ module _ (names : Names) (files : Files) where
       let samples = one_value (content_of files names.sample) (contents files names.more) one.samples other.samples a.samples b.samples in
       let out = same_out (content_of files names.out) one.out other.out a.out b.out in
       let map = same_ok _ one.map other.map a.map b.map in
-      let cert = same_ok _ one.cert other.cert a.cert b.cert in
-      λ i. record { samples = samples i; out = out i; map = map i; cert = cert i }
+      let record_file = same_ok _ one.record_file other.record_file a.record_file b.record_file in
+      λ i. record { samples = samples i; out = out i; map = map i; record_file = record_file i }
 
   abbrev Samples : ℕ → Fault → Type 0
   Samples n fault = RefusesSamples n (content_of files names.sample) (contents files names.more) fault
@@ -61,7 +61,7 @@ module _ (names : Names) (files : Files) where
   unrefused values a n fault (inl r) = no_samples (values.samples, a.samples) n fault r
   unrefused values a n fault (inr (inl r)) = no_out values.out a.out n fault r
   unrefused values a n fault (inr (inr (inl r))) = no_map (((values.samples, a.samples), (values.out, a.out)), (values.map, a.map)) n fault r
-  unrefused values a n fault (inr (inr (inr r))) = ok_or_err _ values.cert r.refused.0 a.cert r.refused.1
+  unrefused values a n fault (inr (inr (inr r))) = ok_or_err _ values.record_file r.refused.0 a.record_file r.refused.1
 
   -- what is refused first is refused alone
   samples_alone : (m n : ℕ) (first second : Fault) → Samples m first → RefusesFiles names n files second → first ≡ second
@@ -82,14 +82,14 @@ module _ (names : Names) (files : Files) where
   map_alone m n first second a (inr (inr (inl b))) = same_fault RefusesMap part.Map (content_of files names.map) first second (λ x y p q. same_err _ x y p q) a.refused b.refused
   map_alone m n first second a (inr (inr (inr b))) = absurd (no_map b.before m first a)
 
-  cert_alone : (m n : ℕ) (first second : Fault) → RefusesRecord names files m first → RefusesFiles names n files second → first ≡ second
-  cert_alone m n first second a (inl b) = absurd (no_samples a.before.0.0 n second b)
-  cert_alone m n first second a (inr (inl b)) = absurd (no_out a.before.0.1.0 a.before.0.1.1 n second b)
-  cert_alone m n first second a (inr (inr (inl b))) = absurd (no_map a.before n second b)
-  cert_alone m n first second a (inr (inr (inr b))) = same_fault RefusesCert part.Cert (content_of files names.cert) first second (λ x y p q. same_err _ x y p q) a.refused b.refused
+  record_file_alone : (m n : ℕ) (first second : Fault) → RefusesRecord names files m first → RefusesFiles names n files second → first ≡ second
+  record_file_alone m n first second a (inl b) = absurd (no_samples a.before.0.0 n second b)
+  record_file_alone m n first second a (inr (inl b)) = absurd (no_out a.before.0.1.0 a.before.0.1.1 n second b)
+  record_file_alone m n first second a (inr (inr (inl b))) = absurd (no_map a.before n second b)
+  record_file_alone m n first second a (inr (inr (inr b))) = same_fault RefusesRecordFile part.Record (content_of files names.record_file) first second (λ x y p q. same_err _ x y p q) a.refused b.refused
 
   pub one_fault : (m n : ℕ) (first second : Fault) → RefusesFiles names m files first → RefusesFiles names n files second → first ≡ second
   one_fault m n first second (inl a) b = samples_alone m n first second a b
   one_fault m n first second (inr (inl a)) b = out_alone m n first second a b
   one_fault m n first second (inr (inr (inl a))) b = map_alone m n first second a b
-  one_fault m n first second (inr (inr (inr a))) b = cert_alone m n first second a b
+  one_fault m n first second (inr (inr (inr a))) b = record_file_alone m n first second a b

@@ -18,7 +18,7 @@ use Rattle.check_command.specs.Checks.{AreRunFiles, Break, Stand}
 pub record HaveLeastRecords (names : Names) (files : Files) : Type 0 where
   pub values : ReadFiles
   pub read : AreRunFiles names files values
-  pub least : RecordsAreLeast values.samples.volume (map_output values.map) values.cert
+  pub least : RecordsAreLeast values.samples.volume (map_output values.map) values.record_file
 
 -- `check` ends with status 0 where the files stand, and with status 1 where they are in their forms
 -- and within their limits and don't, and out has the first rule that they break; each yields to

@@ -5,7 +5,7 @@ use Rattle.shelf_core.specs.Files.{Files, content_of}
 use Rattle.shelf_core.specs.declared.fault.ReadError.{ReadError}
 use Rattle.source_map.specs.declared.map_file.MapFile.{MapFile}
 use Rattle.source_map.specs.MapFiles.{map_read}
-use Rattle.cert_file.specs.RecordFiles.{IsCertOf, RefusesCert}
+use Rattle.cert_file.specs.RecordFiles.{IsRecordFileOf, RefusesRecordFile}
 use Rattle.job_words.specs.declared.check.CheckJob.{CheckJob}
 use Rattle.job_words.specs.declared.job.Names.{Names}
 use Rattle.synth_report.specs.declared.fault.Fault.{Fault}
@@ -45,20 +45,20 @@ pub record AreRunFiles (names : Names) (files : Files) (values : ReadFiles) : Ty
       values.samples
   pub out : IsOut (content_of files names.out) values.out
   pub map : IsReadMap (content_of files names.map) values.map
-  pub cert : IsCertOf (content_of files names.cert) values.cert
+  pub record_file : IsRecordFileOf (content_of files names.record_file) values.record_file
 
 -- the files of these names stand
 pub record Stand (names : Names) (files : Files) : Type 0 where
   pub values : ReadFiles
   pub read : AreRunFiles names files values
-  pub stand : FilesStand values.samples values.out values.map values.cert
+  pub stand : FilesStand values.samples values.out values.map values.record_file
 
 -- they are in their forms and within their limits, and this is the first rule that they break
 pub record Break (names : Names) (files : Files) (number rule place : ℕ) : Type 0 where
   pub values : ReadFiles
   pub read : AreRunFiles names files values
   pub broken :
-      IsFirstBrokenRule values.samples values.out values.map values.cert number rule place
+      IsFirstBrokenRule values.samples values.out values.map values.record_file number rule place
 
 -- The refusals of the files, in the order of reading.
 
@@ -88,7 +88,8 @@ pub record RefusesMapFile (names : Names) (files : Files) (n : ℕ) (fault : Fau
 pub record RefusesRecord (names : Names) (files : Files) (n : ℕ) (fault : Fault) : Type 0 where
   pub turn : n ≡ length names.more + 4
   pub before : HaveMap names files
-  pub refused : ReaderRefuses RefusesCert part.Cert (content_of files names.cert) fault
+  pub refused : ReaderRefuses RefusesRecordFile part.Record
+      (content_of files names.record_file) fault
 
 -- the refusals of the files, once so many are read: those of the samples, then those of the out
 -- file, of the map file and of the record file
@@ -102,7 +103,7 @@ RefusesFiles names n files fault =
 abbrev pub MayRefuseFiles : ℕ → Fault → Type 0
 MayRefuseFiles n (Form part.Out why) = Unit {0}
 MayRefuseFiles n (Form part.Map why) = Unit {0}
-MayRefuseFiles n (Form part.Cert why) = Unit {0}
+MayRefuseFiles n (Form part.Record why) = Unit {0}
 MayRefuseFiles n fault = MayRefuseSamples n fault
 
 -- What is said of them.
@@ -121,7 +122,7 @@ pub record MakesVerdict (names : Names) (files : Files) (texts : List (List ℕ)
   pub values : ReadFiles
   pub read : AreRunFiles names files values
   pub verdict : Verdict
-  pub judged : IsVerdict values.samples values.out values.map values.cert verdict
+  pub judged : IsVerdict values.samples values.out values.map values.record_file verdict
   pub texts_are : texts ≡ []
   pub summary_is : summary ≡ summary_of verdict
 
@@ -129,7 +130,7 @@ abbrev pub check_command : CheckJob → Command
 check_command job = record {
   reads = sample_files job.names.sample job.names.more
       ++ named part.Out job.names.out ∷ named part.Map job.names.map
-      ∷ named part.Cert job.names.cert ∷ [];
+      ∷ named part.Record job.names.record_file ∷ [];
   writes = [];
   Takes = λ files. (values : ReadFiles) × AreRunFiles job.names files values;
   Refuses = RefusesFiles job.names;

@@ -24,7 +24,13 @@ fn plan<S: Shelf>(alloc: Global, job: &CheckJob, shelf: &mut S) -> Result<Verdic
         Ok(files) => files,
         Err(fault) => return Err(fault),
     };
-    match judge(alloc, &files.samples, &files.out, &files.map, &files.cert) {
+    match judge(
+        alloc,
+        &files.samples,
+        &files.out,
+        &files.map,
+        &files.record_file,
+    ) {
         Ok(verdict) => Ok(verdict),
         Err(_) => Err(Fault::NoMemory),
     }

@@ -1,7 +1,7 @@
 // The files of a run, read in their order.
 ghost use Rattle.std.specs.Prelude.{IfOk, IfErr};
 ghost use Rattle.shelf_core.specs.Files.{Changes, OnlyReads, OnlyReadsFile};
-ghost use Rattle.cert_file.specs.RecordFiles.{IsCert, IsCertOf, RefusesCert};
+ghost use Rattle.cert_file.specs.RecordFiles.{IsRecordFile, IsRecordFileOf, RefusesRecordFile};
 ghost use Rattle.sample_files.specs.Several.{AreSoundSamples};
 ghost use Rattle.synth_report.specs.declared.fault.FileOf.TheVariants as part;
 ghost use Rattle.command.specs.Commands.{names_in};
@@ -9,7 +9,7 @@ ghost use Rattle.command.specs.Outcomes.{NotMade};
 ghost use Rattle.check_command.specs.Checks.{AreRunFiles, IsReadMap, IsOut, RefusesMap, RefusesOutBytes, check_command};
 ghost use Rattle.check_command.specs.Readings.{ReadsPart};
 
-use cert_file::{CertFile, read_cert};
+use cert_file::{RecordFile, read_record_file};
 use command::read_fault;
 use job_words::{CheckJob, Name};
 use sample_files::{Sample, Samples, read_sample_within, read_samples};
@@ -29,7 +29,7 @@ pub struct ReadFiles {
     pub out: Sample,
     pub map: MapFile,
     /// The record.
-    pub cert: CertFile,
+    pub record_file: RecordFile,
 }
 
 // Reads the out file.
@@ -57,15 +57,15 @@ fn read_map_file<S: Shelf>(alloc: Global, shelf: &mut S, name: &Name) -> Result<
 }
 
 // Reads the record file.
-fn read_record<S: Shelf>(alloc: Global, shelf: &mut S, name: &Name) -> Result<CertFile, Fault>
-    ensures answer { ReadsPart IsCertOf RefusesCert part.Cert name.now
+fn read_record<S: Shelf>(alloc: Global, shelf: &mut S, name: &Name) -> Result<RecordFile, Fault>
+    ensures answer { ReadsPart IsRecordFileOf RefusesRecordFile part.Record name.now
         (S.state shelf.old) (S.state shelf.new) result }
-    ensures form { IfOk result IsCert }
+    ensures form { IfOk result IsRecordFile }
     ensures reads { OnlyReadsFile name.now (S.state shelf.old) (S.state shelf.new) }
 {
-    match read_cert(alloc, shelf, name.as_text()) {
-        Ok(cert) => Ok(cert),
-        Err(error) => Err(read_fault(FileOf::Cert, error)),
+    match read_record_file(alloc, shelf, name.as_text()) {
+        Ok(record_file) => Ok(record_file),
+        Err(error) => Err(read_fault(FileOf::Record, error)),
     }
 }
 
@@ -80,7 +80,7 @@ pub(crate) fn read_files<S: Shelf>(
     ensures failed { IfErr result
         (NotMade (check_command job.now) (S.state shelf.old) (S.state shelf.new)) }
     ensures sound { IfOk result (λ values. AreSoundSamples values.samples) }
-    ensures form { IfOk result (λ values. IsCert values.cert) }
+    ensures form { IfOk result (λ values. IsRecordFile values.record_file) }
     ensures reads { OnlyReads (names_in (check_command job.now).reads)
         (S.state shelf.old) (S.state shelf.new) }
 {
@@ -97,14 +97,14 @@ pub(crate) fn read_files<S: Shelf>(
         Ok(map) => map,
         Err(fault) => return Err(fault),
     };
-    let cert = match read_record(alloc, shelf, &names.cert) {
-        Ok(cert) => cert,
+    let record_file = match read_record(alloc, shelf, &names.record_file) {
+        Ok(record_file) => record_file,
         Err(fault) => return Err(fault),
     };
     Ok(ReadFiles {
         samples,
         out,
         map,
-        cert,
+        record_file,
     })
 }

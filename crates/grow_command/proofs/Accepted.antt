@@ -13,9 +13,9 @@ use Rattle.source_map.specs.MapFiles.{cell_map_form, map_read}
 use Rattle.source_map.proofs.MapsAgain as maps
 use Rattle.cut_check.specs.declared.record.CutRecord.{CutRecord}
 use Rattle.cut_replay.specs.Replay.{box_cells}
-use Rattle.cert_file.specs.declared.file.CertFile.TheVariants.{Cuts}
-use Rattle.cert_file.specs.CutReading as cert
-use Rattle.cert_file.specs.RecordFiles.{IsCertOf, cuts_form}
+use Rattle.cert_file.specs.declared.file.RecordFile.TheVariants.{Cuts}
+use Rattle.cert_file.specs.CutReading as record_file
+use Rattle.cert_file.specs.RecordFiles.{IsRecordFileOf, cuts_form}
 use Rattle.cert_file.proofs.CutsAgain.{cuts_again}
 use Rattle.job_words.specs.declared.grow.GrowJob.{GrowJob}
 use Rattle.job_words.specs.GrowWords.{IsGrowJob}
@@ -33,7 +33,7 @@ use Rattle.grow_command.specs.Growths.{IsGrowth, IsMade, head_over, version_over
 use Rattle.grow_command.proofs.Ready.{map_ready, picture_ready, record_ready}
 
 -- the records have as many cells for the writer as for the run
-same_cells : (cuts : List CutRecord) → cert.box_cells cuts ≡ box_cells cuts
+same_cells : (cuts : List CutRecord) → record_file.box_cells cuts ≡ box_cells cuts
 same_cells [] = refl
 same_cells (cut ∷ cuts) = ap (λ n. cell_count cut.placement.rect.size + n) (same_cells cuts)
 
@@ -53,13 +53,13 @@ same_contents before after (name ∷ names) same =
 module _ (job : GrowJob) (lawful : IsGrowJob job) (before after : Files) (growth : Growth) (grown : IsGrowth job before growth)
     (out_file : content_of after job.names.out ≡ form_text growth.samples.form growth.grown.canvas.picture)
     (map_file : content_of after job.names.map ≡ cell_map_form growth.grown.canvas.map (sizes_of growth.samples.volume) (version_over growth.samples.volume))
-    (cert_file : content_of after job.names.cert ≡ cuts_form (head_over job.size growth.samples.volume) growth.grown.cuts)
-    (stays : (name : List ℕ) → name ≢ job.names.out → name ≢ job.names.map → name ≢ job.names.cert → get after name ≡ get before name) where
+    (cert_file : content_of after job.names.record_file ≡ cuts_form (head_over job.size growth.samples.volume) growth.grown.cuts)
+    (stays : (name : List ℕ) → name ≢ job.names.out → name ≢ job.names.map → name ≢ job.names.record_file → get after name ≡ get before name) where
   abbrev read_names : List (List ℕ)
   read_names = job.names.sample ∷ job.names.more
 
   abbrev written_names : List (List ℕ)
-  written_names = job.names.out ∷ job.names.map ∷ job.names.cert ∷ []
+  written_names = job.names.out ∷ job.names.map ∷ job.names.record_file ∷ []
 
   -- no sample is a file that is written
   apart : (i j : ℕ) → i < length read_names → j < 3 → get_or read_names i [] ≢ get_or written_names j []
@@ -95,8 +95,8 @@ module _ (job : GrowJob) (lawful : IsGrowJob job) (before after : Files) (growth
       ∙ maps.read_again (CellMap growth.grown.canvas.map (sizes_of growth.samples.volume) (version_over growth.samples.volume))
       (grown.grown.canvas.map, map_ready job growth growth.grown.canvas.map refl grown.volume made)
 
-  cert_again : IsCertOf (content_of after job.names.cert) (Cuts (head_over job.size growth.samples.volume) growth.grown.cuts)
-  cert_again = subst (λ bytes. IsCertOf bytes (Cuts (head_over job.size growth.samples.volume) growth.grown.cuts)) (sym cert_file)
+  record_file_again : IsRecordFileOf (content_of after job.names.record_file) (Cuts (head_over job.size growth.samples.volume) growth.grown.cuts)
+  record_file_again = subst (λ bytes. IsRecordFileOf bytes (Cuts (head_over job.size growth.samples.volume) growth.grown.cuts)) (sym cert_file)
       (cuts_again (head_over job.size growth.samples.volume) growth.grown.cuts (record {
         form = record_ready job growth grown.volume lawful made;
         cells = subst (λ n. n ≤ 33554432) (sym (same_cells growth.grown.cuts)) grown.grown.writable.cells;
@@ -107,10 +107,10 @@ module _ (job : GrowJob) (lawful : IsGrowJob job) (before after : Files) (growth
     samples = growth.samples;
     out = record { form = growth.samples.form; volume = growth.grown.canvas.picture };
     map = CellMap growth.grown.canvas.map (sizes_of growth.samples.volume) (version_over growth.samples.volume);
-    cert = Cuts (head_over job.size growth.samples.volume) growth.grown.cuts;
+    record_file = Cuts (head_over job.size growth.samples.volume) growth.grown.cuts;
   }
 
-  files_stand : FilesStand values.samples values.out values.map values.cert
+  files_stand : FilesStand values.samples values.out values.map values.record_file
   files_stand = run_stands growth.samples job.size growth.grown.cuts growth.grown.canvas.map growth.grown.canvas.picture (version_over growth.samples.volume) (version_over growth.samples.volume) (record {
     asked = grown.grown.size;
     is_map = grown.grown.canvas.map;
@@ -123,4 +123,4 @@ module _ (job : GrowJob) (lawful : IsGrowJob job) (before after : Files) (growth
   })
 
   pub accepted : Stand job.names after
-  accepted = record { values = values; read = record { samples = samples_read; out = out_read; map = map_again; cert = cert_again }; stand = files_stand }
+  accepted = record { values = values; read = record { samples = samples_read; out = out_read; map = map_again; record_file = record_file_again }; stand = files_stand }

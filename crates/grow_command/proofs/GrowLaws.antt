@@ -31,7 +31,7 @@ use Rattle.synth_report.specs.Texts.{summary_status}
 use Rattle.command.specs.Commands.{HasOneAnswer}
 use Rattle.command.specs.Outcomes.{WritesAll}
 use Rattle.command.specs.Writing.{pieces}
-use Rattle.command_files.proofs.ThreeFiles.{cert_holds, map_holds, others_stay, out_holds}
+use Rattle.command_files.proofs.ThreeFiles.{record_file_holds, map_holds, others_stay, out_holds}
 use Rattle.sample_files.specs.declared.form.Form.{Form}
 use Rattle.sample_files.specs.declared.several.Samples.{Samples}
 use Rattle.sample_files.specs.Samples.{form_text}
@@ -125,10 +125,10 @@ module _ (job : GrowJob) (lawful : IsGrowJob job) (before after : Files) (texts 
   abbrev record_text : List ℕ
   record_text = cuts_form (head_over job.size growth.samples.volume) growth.grown.cuts
 
-  whole : after ≡ insert (insert (insert before job.names.out picture_text) job.names.map map_text) job.names.cert record_text
+  whole : after ≡ insert (insert (insert before job.names.out picture_text) job.names.map map_text) job.names.record_file record_text
   whole = wrote ∙ ap (λ ts. written (pieces (grow_command job).writes ts) before) makes.texts_are
 
-  stays : (name : List ℕ) → name ≢ job.names.out → name ≢ job.names.map → name ≢ job.names.cert → get after name ≡ get before name
+  stays : (name : List ℕ) → name ≢ job.names.out → name ≢ job.names.map → name ≢ job.names.record_file → get after name ≡ get before name
   stays = others_stay job.names lawful.names before after picture_text map_text record_text whole
 
   abbrev output : IsGrownOutput job before after
@@ -151,10 +151,10 @@ module _ (job : GrowJob) (lawful : IsGrowJob job) (before after : Files) (texts 
     out_file = out_holds job.names lawful.names before after picture_text map_text record_text whole;
   }
 
-  abbrev records : IsGrownRecord job growth.samples growth.grown.canvas.map (content_of after job.names.cert)
+  abbrev records : IsGrownRecord job growth.samples growth.grown.canvas.map (content_of after job.names.record_file)
   records = record {
     cuts = growth.grown.cuts;
-    file = cert_holds job.names lawful.names before after picture_text map_text record_text whole;
+    file = record_file_holds job.names lawful.names before after picture_text map_text record_text whole;
     draws = makes.grown.grown.draws;
     rounds = growth.grown.rounds;
     run = makes.grown.grown.run;

@@ -81,10 +81,10 @@ pub record IsGrownRecord (job : GrowJob) (output : Samples) (map : SourceMap) (t
 -- but the three that are written are as before
 pub record IsGrownRun (job : GrowJob) (before after : Files) : Type 0 where
   pub output : IsGrownOutput job before after
-  pub records : IsGrownRecord job output.samples output.map (content_of after job.names.cert)
+  pub records : IsGrownRecord job output.samples output.map (content_of after job.names.record_file)
   pub accepted : Stand job.names after
   pub others : (name : List ℕ)
-      → name ≢ job.names.out → name ≢ job.names.map → name ≢ job.names.cert
+      → name ≢ job.names.out → name ≢ job.names.map → name ≢ job.names.record_file
       → fin.get after name ≡ fin.get before name
 
 -- whenever `grow` ends with status 0

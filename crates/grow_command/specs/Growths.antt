@@ -148,7 +148,7 @@ growth_files job growth =
     file_text part.Out job.names.out (form_text growth.samples.form growth.grown.canvas.picture)
     ∷ file_text part.Map job.names.map (cell_map_form growth.grown.canvas.map
     (sizes_of growth.samples.volume) (version_over growth.samples.volume))
-    ∷ file_text part.Cert job.names.cert
+    ∷ file_text part.Record job.names.record_file
     (cuts_form (head_over job.size growth.samples.volume) growth.grown.cuts)
     ∷ []
 
@@ -197,7 +197,7 @@ abbrev pub grow_command : GrowJob → Command
 grow_command job = record {
   reads = sample_files job.names.sample job.names.more;
   writes = named part.Out job.names.out ∷ named part.Map job.names.map
-      ∷ named part.Cert job.names.cert ∷ [];
+      ∷ named part.Record job.names.record_file ∷ [];
   Takes = TakesToGrow job;
   Refuses = RefusesGrowth job;
   Makes = MakesGrowth job;

@@ -86,8 +86,8 @@ fn write_growth<S: Shelf, O: Sink>(
         version: version_over(volume),
     };
     let record = CutsFile {
-        part: FileOf::Cert,
-        name: &job.names.cert,
+        part: FileOf::Record,
+        name: &job.names.record_file,
         head: head_over(job, volume),
         cuts: growth.grown.cuts.as_slice(),
     };

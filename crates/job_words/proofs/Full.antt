@@ -261,7 +261,7 @@ names_given rows all full = record {
   sample = is_named (value_at key.Sample all) (given_at (with_files rows) all full key.Sample);
   out = is_named (value_at key.Out all) (given_at (with_files rows) all full key.Out);
   map = is_named (value_at key.Map all) (given_at (with_files rows) all full key.Map);
-  cert = is_named (value_at key.Cert all) (given_at (with_files rows) all full key.Cert);
+  record_file = is_named (value_at key.Record all) (given_at (with_files rows) all full key.Record);
 }
 
 -- and where they are the first of the table of a command with one sample
@@ -270,7 +270,7 @@ names_given_of_one rows all full = record {
   sample = is_named (value_at key.Sample all) (given_at (with_one_sample rows) all full key.Sample);
   out = is_named (value_at key.Out all) (given_at (with_one_sample rows) all full key.Out);
   map = is_named (value_at key.Map all) (given_at (with_one_sample rows) all full key.Map);
-  cert = is_named (value_at key.Cert all) (given_at (with_one_sample rows) all full key.Cert);
+  record_file = is_named (value_at key.Record all) (given_at (with_one_sample rows) all full key.Record);
 }
 
 -- The file names of some keys.
@@ -396,8 +396,8 @@ module _ (rows : List Row) (all : List Setting) (sound : AreSound rows rows) (a 
 
   pub names_of_run : HasNames all → AreNames (name_list (names_of all))
   names_of_run has =
-      let last = key.Out ∷ key.Map ∷ key.Cert ∷ [] in
-      subst AreNames (names_listed last has.sample (has.out, (has.map, (has.cert, tt)))) (are_names (key.Sample ∷ (more_keys ++ last)) refl)
+      let last = key.Out ∷ key.Map ∷ key.Record ∷ [] in
+      subst AreNames (names_listed last has.sample (has.out, (has.map, (has.record_file, tt)))) (are_names (key.Sample ∷ (more_keys ++ last)) refl)
 
 -- A number in its range, and the position of a text in its list.
 

@@ -4,7 +4,7 @@ use Rattle.std.specs.Prelude.{Option, Some, None, option_map, find, unwrap_or}
 use Rattle.std.specs.Option.{option_or}
 use Rattle.std.proofs.lemmas.Bool.{eq-eqb}
 use Rattle.job_words.specs.declared.keys.Key.{Key}
-use Rattle.job_words.specs.declared.keys.Key.TheVariants.{Sample, More, Target, Marks, Out, Map, Cert, NewMap, NewCert, Width, Height, Length, N, Frames, Place, Side, Block, Overlap, Tol, Alpha, Rounds, Seed, Taps, Gap, Wrap, Turns}
+use Rattle.job_words.specs.declared.keys.Key.TheVariants.{Sample, More, Target, Marks, Out, Map, Record, NewMap, NewRecord, Width, Height, Length, N, Frames, Place, Side, Block, Overlap, Tol, Alpha, Rounds, Seed, Taps, Gap, Wrap, Turns}
 use Rattle.job_words.specs.declared.settings.Value.{Value}
 use Rattle.job_words.specs.declared.settings.Setting.{Setting}
 use Rattle.job_words.specs.Keys.{key_number, key_stem, same_key, same_number}
@@ -13,7 +13,7 @@ use Rattle.job_words.specs.Words.{is_of, value_at}
 use Rattle.job_words.proofs.Texting.{same_exact, same_itself}
 
 all_keys : List Key
-all_keys = Sample ∷ Target ∷ Marks ∷ Out ∷ Map ∷ Cert ∷ NewMap ∷ NewCert ∷ Width ∷ Height ∷ Length ∷ N ∷ Frames ∷ Place ∷ Side ∷ Block ∷ Overlap ∷ Tol ∷ Alpha ∷ Rounds ∷ Seed ∷ Taps ∷ Gap ∷ Wrap ∷ Turns ∷ []
+all_keys = Sample ∷ Target ∷ Marks ∷ Out ∷ Map ∷ Record ∷ NewMap ∷ NewRecord ∷ Width ∷ Height ∷ Length ∷ N ∷ Frames ∷ Place ∷ Side ∷ Block ∷ Overlap ∷ Tol ∷ Alpha ∷ Rounds ∷ Seed ∷ Taps ∷ Gap ∷ Wrap ∷ Turns ∷ []
 
 -- the key of a stem and a number
 key_with : List ℕ → Option ℕ → Key
@@ -28,9 +28,9 @@ key_again Target = refl
 key_again Marks = refl
 key_again Out = refl
 key_again Map = refl
-key_again Cert = refl
+key_again Record = refl
 key_again NewMap = refl
-key_again NewCert = refl
+key_again NewRecord = refl
 key_again Width = refl
 key_again Height = refl
 key_again Length = refl

@@ -21,7 +21,7 @@ values all full = record {
     sample = is_named (value_at key.Sample all) (given_at transfer_rows all full key.Sample);
     out = is_named (value_at key.Out all) (given_at transfer_rows all full key.Out);
     map = is_named (value_at key.Map all) (given_at transfer_rows all full key.Map);
-    cert = is_named (value_at key.Cert all) (given_at transfer_rows all full key.Cert);
+    record_file = is_named (value_at key.Record all) (given_at transfer_rows all full key.Record);
   };
   target = is_named (value_at key.Target all) (given_at transfer_rows all full key.Target);
   block = given_at transfer_rows all full key.Block;
@@ -33,8 +33,8 @@ values all full = record {
 
 lawful : (all : List Setting) → AreAll transfer_rows all → HasTransferValues all → IsTransferJob (transfer_of all)
 lawful all a v =
-    let keys = key.Sample ∷ key.Target ∷ key.Out ∷ key.Map ∷ key.Cert ∷ [] in
-    let listed = names_set transfer_rows all transfer_sound a keys (v.names.sample, (v.target, (v.names.out, (v.names.map, (v.names.cert, tt))))) in
+    let keys = key.Sample ∷ key.Target ∷ key.Out ∷ key.Map ∷ key.Record ∷ [] in
+    let listed = names_set transfer_rows all transfer_sound a keys (v.names.sample, (v.target, (v.names.out, (v.names.map, (v.names.record_file, tt))))) in
     record {
       names = subst AreNames listed (are_names transfer_rows all transfer_sound a keys refl);
       one = none_further transfer_rows all transfer_sound a refl;

@@ -16,15 +16,15 @@ upgrade_sound = sound upgrade_rows upgrade_rows refl
 values : (all : List Setting) → HasAllValues upgrade_rows all → HasUpgradeNames all
 values all full = record {
   map = is_named (value_at key.Map all) (given_at upgrade_rows all full key.Map);
-  cert = is_named (value_at key.Cert all) (given_at upgrade_rows all full key.Cert);
+  record_file = is_named (value_at key.Record all) (given_at upgrade_rows all full key.Record);
   new_map = is_named (value_at key.NewMap all) (given_at upgrade_rows all full key.NewMap);
-  new_cert = is_named (value_at key.NewCert all) (given_at upgrade_rows all full key.NewCert);
+  new_record_file = is_named (value_at key.NewRecord all) (given_at upgrade_rows all full key.NewRecord);
 }
 
 lawful : (all : List Setting) → AreAll upgrade_rows all → HasUpgradeNames all → IsUpgradeJob (upgrade_of all)
 lawful all a v =
-    let keys = key.Map ∷ key.Cert ∷ key.NewMap ∷ key.NewCert ∷ [] in
-    let listed = names_set upgrade_rows all upgrade_sound a keys (v.map, (v.cert, (v.new_map, (v.new_cert, tt)))) in
+    let keys = key.Map ∷ key.Record ∷ key.NewMap ∷ key.NewRecord ∷ [] in
+    let listed = names_set upgrade_rows all upgrade_sound a keys (v.map, (v.record_file, (v.new_map, (v.new_record_file, tt)))) in
     record { names = subst AreNames listed (are_names upgrade_rows all upgrade_sound a keys refl) }
 
 -- as the calls see them

@@ -1,7 +1,7 @@
 -- The keys as they stand in words. To be trusted: contracts cite these words. (Own.)
 use Rattle.std.specs.Prelude.{ℕ, ◌&&◌, Bool, true, false, nat_eq, List, [], ◌++◌, Option, Some, None, codes, decimal}
 use Rattle.job_words.specs.declared.keys.Key.{Key}
-use Rattle.job_words.specs.declared.keys.Key.TheVariants.{Sample, More, Target, Marks, Out, Map, Cert, NewMap, NewCert, Width, Height, Length, N, Frames, Place, Side, Block, Overlap, Tol, Alpha, Rounds, Seed, Taps, Gap, Wrap, Turns}
+use Rattle.job_words.specs.declared.keys.Key.TheVariants.{Sample, More, Target, Marks, Out, Map, Record, NewMap, NewRecord, Width, Height, Length, N, Frames, Place, Side, Block, Overlap, Tol, Alpha, Rounds, Seed, Taps, Gap, Wrap, Turns}
 use Rattle.job_words.specs.Texts.{same_text}
 
 -- a key as it stands in a word, up to the number of a further sample
@@ -12,9 +12,9 @@ key_stem Target = codes "target"
 key_stem Marks = codes "marks"
 key_stem Out = codes "out"
 key_stem Map = codes "map"
-key_stem Cert = codes "record"
+key_stem Record = codes "record"
 key_stem NewMap = codes "newmap"
-key_stem NewCert = codes "newrecord"
+key_stem NewRecord = codes "newrecord"
 key_stem Width = codes "width"
 key_stem Height = codes "height"
 key_stem Length = codes "length"

@@ -18,13 +18,13 @@ sample_rows =
 -- the rows of the files of a run over one sample, and then others
 abbrev pub with_one_sample : List Row → List Row
 with_one_sample rows =
-    file_row key.Sample ∷ file_row key.Out ∷ file_row key.Map ∷ file_row key.Cert ∷ rows
+    file_row key.Sample ∷ file_row key.Out ∷ file_row key.Map ∷ file_row key.Record ∷ rows
 
 -- the rows of the files of a run over samples, and then others
 abbrev pub with_files : List Row → List Row
 with_files rows =
     file_row key.Sample
-    ∷ (sample_rows ++ file_row key.Out ∷ file_row key.Map ∷ file_row key.Cert ∷ rows)
+    ∷ (sample_rows ++ file_row key.Out ∷ file_row key.Map ∷ file_row key.Record ∷ rows)
 
 -- no name is empty, and no two are the same
 pub record AreNames (names : List (List ℕ)) : Type 0 where
@@ -34,7 +34,7 @@ pub record AreNames (names : List (List ℕ)) : Type 0 where
 -- the names of a run, in the order of their keys
 abbrev pub name_list : Names → List (List ℕ)
 name_list names =
-    names.sample ∷ (names.more ++ names.out ∷ names.map ∷ names.cert ∷ [])
+    names.sample ∷ (names.more ++ names.out ∷ names.map ∷ names.record_file ∷ [])
 
 -- the keys of further samples, in the order of their numbers
 abbrev pub more_keys : List Key
@@ -62,7 +62,7 @@ names_of settings = record {
   more = more_names settings;
   out = text_of key.Out settings;
   map = text_of key.Map settings;
-  cert = text_of key.Cert settings;
+  record_file = text_of key.Record settings;
 }
 
 -- each of them that a word has to set is set
@@ -70,4 +70,4 @@ pub record HasNames (settings : List Setting) : Type 0 where
   pub sample : IsNamed (value_at key.Sample settings)
   pub out : IsNamed (value_at key.Out settings)
   pub map : IsNamed (value_at key.Map settings)
-  pub cert : IsNamed (value_at key.Cert settings)
+  pub record_file : IsNamed (value_at key.Record settings)

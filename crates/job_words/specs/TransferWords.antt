@@ -19,7 +19,7 @@ transfer_rows =
     ∷ file_row key.Target
     ∷ file_row key.Out
     ∷ file_row key.Map
-    ∷ file_row key.Cert
+    ∷ file_row key.Record
     ∷ default_row key.Block 1 GREATEST_AXIS 32
     ∷ default_row key.Overlap 0 GREATEST_OVERLAP 5
     ∷ default_row key.Tol 0 GREATEST_TOLERANCE 10
@@ -46,7 +46,7 @@ transfer_job_of words =
 -- the names of a job of `transfer`, in the order of their keys
 abbrev pub transfer_names : TransferJob → List (List ℕ)
 transfer_names job =
-    job.names.sample ∷ job.target ∷ job.names.out ∷ job.names.map ∷ job.names.cert ∷ []
+    job.names.sample ∷ job.target ∷ job.names.out ∷ job.names.map ∷ job.names.record_file ∷ []
 
 -- a job of `transfer`: its values are in the ranges of their keys, its names differ, and it has one sample
 pub record IsTransferJob (job : TransferJob) : Type 0 where

@@ -12,14 +12,14 @@ use Rattle.job_words.specs.Words.{IsNamed, and_then, all_settings, text_of, valu
 -- the keys of `upgrade`, in the order in which missing ones are looked for
 abbrev pub upgrade_rows : List Row
 upgrade_rows =
-    file_row key.Map ∷ file_row key.Cert ∷ file_row key.NewMap ∷ file_row key.NewCert ∷ []
+    file_row key.Map ∷ file_row key.Record ∷ file_row key.NewMap ∷ file_row key.NewRecord ∷ []
 
 abbrev pub upgrade_of : List Setting → UpgradeJob
 upgrade_of settings = record {
   map = text_of key.Map settings;
-  cert = text_of key.Cert settings;
+  record_file = text_of key.Record settings;
   new_map = text_of key.NewMap settings;
-  new_cert = text_of key.NewCert settings;
+  new_record_file = text_of key.NewRecord settings;
 }
 
 -- the job of the words after `upgrade`
@@ -29,7 +29,7 @@ upgrade_job_of words =
 
 -- the names of a job of `upgrade`, in the order of their keys
 abbrev pub upgrade_names : UpgradeJob → List (List ℕ)
-upgrade_names job = job.map ∷ job.cert ∷ job.new_map ∷ job.new_cert ∷ []
+upgrade_names job = job.map ∷ job.record_file ∷ job.new_map ∷ job.new_record_file ∷ []
 
 -- a job of `upgrade`: its names differ
 pub record IsUpgradeJob (job : UpgradeJob) : Type 0 where
@@ -38,6 +38,6 @@ pub record IsUpgradeJob (job : UpgradeJob) : Type 0 where
 -- each of its files is named
 pub record HasUpgradeNames (settings : List Setting) : Type 0 where
   pub map : IsNamed (value_at key.Map settings)
-  pub cert : IsNamed (value_at key.Cert settings)
+  pub record_file : IsNamed (value_at key.Record settings)
   pub new_map : IsNamed (value_at key.NewMap settings)
-  pub new_cert : IsNamed (value_at key.NewCert settings)
+  pub new_record_file : IsNamed (value_at key.NewRecord settings)

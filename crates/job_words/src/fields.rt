@@ -110,6 +110,6 @@ pub fn names_at(alloc: Global, settings: &[Setting]) -> Result<Names, AllocError
         more: more_at(alloc, settings)?,
         out: name_at(alloc, settings, Key::Out)?,
         map: name_at(alloc, settings, Key::Map)?,
-        cert: name_at(alloc, settings, Key::Cert)?,
+        record_file: name_at(alloc, settings, Key::Record)?,
     })
 }

@@ -25,7 +25,7 @@ pub struct Names {
     /// The map.
     pub map: Name,
     /// The record, by which the result can be checked.
-    pub cert: Name,
+    pub record_file: Name,
 }
 
 /// What a run is to do.

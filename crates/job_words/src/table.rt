@@ -145,7 +145,7 @@ macro_rules! with_one_sample {
             file_row!(Sample),
             file_row!(Out),
             file_row!(Map),
-            file_row!(Cert),
+            file_row!(Record),
             $($row),*
         ]
     };
@@ -173,7 +173,7 @@ macro_rules! with_files {
             sample_row!(16),
             file_row!(Out),
             file_row!(Map),
-            file_row!(Cert),
+            file_row!(Record),
             $($row),*
         ]
     };

@@ -38,7 +38,7 @@ const ROWS: [Row; 10] = [
     file_row!(Target),
     file_row!(Out),
     file_row!(Map),
-    file_row!(Cert),
+    file_row!(Record),
     number_row!(Block, 1, GREATEST_AXIS as u64, 32),
     number_row!(Overlap, 0, GREATEST_OVERLAP as u64, 5),
     number_row!(Tol, 0, GREATEST_TOLERANCE as u64, 10),

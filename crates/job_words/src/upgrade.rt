@@ -18,18 +18,18 @@ pub struct UpgradeJob {
     /// The map, which is read.
     pub map: Name,
     /// The record, which is read.
-    pub cert: Name,
+    pub record_file: Name,
     /// The map that is written.
     pub new_map: Name,
     /// The record that is written.
-    pub new_cert: Name,
+    pub new_record_file: Name,
 }
 
 const ROWS: [Row; 4] = [
     file_row!(Map),
-    file_row!(Cert),
+    file_row!(Record),
     file_row!(NewMap),
-    file_row!(NewCert),
+    file_row!(NewRecord),
 ];
 
 fn rows() -> &'static [Row]
@@ -45,9 +45,9 @@ fn job_of(alloc: Global, settings: &[Setting]) -> Result<UpgradeJob, AllocError>
 {
     Ok(UpgradeJob {
         map: name_at(alloc, settings, Key::Map)?,
-        cert: name_at(alloc, settings, Key::Cert)?,
+        record_file: name_at(alloc, settings, Key::Record)?,
         new_map: name_at(alloc, settings, Key::NewMap)?,
-        new_cert: name_at(alloc, settings, Key::NewCert)?,
+        new_record_file: name_at(alloc, settings, Key::NewRecord)?,
     })
 }
 

@@ -14,8 +14,8 @@ use Rattle.source_map.specs.declared.map_file.MapFile.TheVariants.{Frames}
 use Rattle.source_map.specs.MapFiles.{frame_map_form, frame_source, map_read}
 use Rattle.y4m_clip.specs.Refusals.{IsReadClip}
 use Rattle.y4m_clip.specs.Writing.{clip_form}
-use Rattle.cert_file.specs.declared.file.CertFile.TheVariants.{Walk}
-use Rattle.cert_file.specs.RecordFiles.{IsCertOf, walk_file_form}
+use Rattle.cert_file.specs.declared.file.RecordFile.TheVariants.{Walk}
+use Rattle.cert_file.specs.RecordFiles.{IsRecordFileOf, walk_file_form}
 use Rattle.job_words.specs.declared.loop_words.LoopJob.{LoopJob}
 use Rattle.job_words.specs.LoopWords.{IsLoopJob}
 use Rattle.sample_files.specs.declared.form.Form.TheVariants.{Clip}
@@ -32,8 +32,8 @@ use Rattle.loop_command.proofs.LoopAgain.{map_again, out_again, record_again, sa
 module _ (job : LoopJob) (lawful : IsLoopJob job) (before after : Files) (looped : LoopedClip) (is : IsLoopOf job before looped)
     (out_file : content_of after job.names.out ≡ clip_form looped.clip.form (frames_taken looped.clip.volume looped.found.walk))
     (map_file : content_of after job.names.map ≡ frame_map_form (loop_size looped.clip.volume job.length) looped.clip.volume.size looped.found.walk)
-    (cert_file : content_of after job.names.cert ≡ walk_file_form (loop_head job looped.clip.volume) job.taps job.gap looped.found.walk looped.found.tables)
-    (stays : (name : List ℕ) → name ≢ job.names.out → name ≢ job.names.map → name ≢ job.names.cert → get after name ≡ get before name) where
+    (cert_file : content_of after job.names.record_file ≡ walk_file_form (loop_head job looped.clip.volume) job.taps job.gap looped.found.walk looped.found.tables)
+    (stays : (name : List ℕ) → name ≢ job.names.out → name ≢ job.names.map → name ≢ job.names.record_file → get after name ≡ get before name) where
   abbrev sample : Cells
   sample = looped.clip.volume
 
@@ -48,14 +48,14 @@ module _ (job : LoopJob) (lawful : IsLoopJob job) (before after : Files) (looped
     samples = samples job lawful before after looped is;
     out = record { form = Clip looped.clip.form; volume = frames_taken sample walk };
     map = Frames size sample.size walk;
-    cert = Walk (loop_head job sample) job.taps job.gap walk looped.found.tables;
+    record_file = Walk (loop_head job sample) job.taps job.gap walk looped.found.tables;
   }
 
   cells : (p from : At) → IsInside size p → frame_source walk p ≡ Some from → cell_at (frames_taken sample walk) p ≡ cell_at sample from
   cells p from inside named =
       taken_cells sample is.made.volume walk (frames_below job lawful looped is.made) p from (subst (λ n. IsInside (loop_size sample n) p) (sym (asked job lawful looped is.made)) inside) named
 
-  files_stand : FilesStand values.samples values.out values.map values.cert
+  files_stand : FilesStand values.samples values.out values.map values.record_file
   files_stand = loop_stands values.samples size job.taps job.gap walk looped.found.tables (frames_taken sample walk) One (record {
     one_sample = is.made.sound.one;
     one = refl;
@@ -72,7 +72,7 @@ module _ (job : LoopJob) (lawful : IsLoopJob job) (before after : Files) (looped
       samples = sample_again job lawful before after looped is stays;
       out = subst (λ bytes. IsReadClip 33554432 bytes (record { form = looped.clip.form; volume = frames_taken sample walk })) (sym out_file) (out_again job lawful before after looped is);
       map = subst (λ bytes. map_read bytes ≡ Ok (Frames size sample.size walk)) (sym map_file) (map_again job lawful before after looped is);
-      cert = subst (λ bytes. IsCertOf bytes (Walk (loop_head job sample) job.taps job.gap walk looped.found.tables)) (sym cert_file) (record_again job lawful before after looped is);
+      record_file = subst (λ bytes. IsRecordFileOf bytes (Walk (loop_head job sample) job.taps job.gap walk looped.found.tables)) (sym cert_file) (record_again job lawful before after looped is);
     };
     stand = files_stand;
   }

@@ -13,8 +13,8 @@ use Rattle.source_map.proofs.MapsAgain as maps
 use Rattle.y4m_clip.specs.Refusals.{IsReadClip}
 use Rattle.y4m_clip.specs.Writing.{clip_form}
 use Rattle.y4m_clip.proofs.ClipAgain as clip
-use Rattle.cert_file.specs.declared.file.CertFile.TheVariants.{Walk}
-use Rattle.cert_file.specs.RecordFiles.{IsCertOf, walk_file_form}
+use Rattle.cert_file.specs.declared.file.RecordFile.TheVariants.{Walk}
+use Rattle.cert_file.specs.RecordFiles.{IsRecordFileOf, walk_file_form}
 use Rattle.cert_file.proofs.WalksAgain.{walk_again}
 use Rattle.job_words.specs.declared.loop_words.LoopJob.{LoopJob}
 use Rattle.job_words.specs.LoopWords.{IsLoopJob}
@@ -39,9 +39,9 @@ module _ (job : LoopJob) (lawful : IsLoopJob job) (before after : Files) (looped
   samples = record { form = Clip looped.clip.form; volume = sample }
 
   -- the sample isn't a file that is written
-  module _ (stays : (name : List ℕ) → name ≢ job.names.out → name ≢ job.names.map → name ≢ job.names.cert → get after name ≡ get before name) where
+  module _ (stays : (name : List ℕ) → name ≢ job.names.out → name ≢ job.names.map → name ≢ job.names.record_file → get after name ≡ get before name) where
     abbrev written_names : List (List ℕ)
-    written_names = job.names.out ∷ job.names.map ∷ job.names.cert ∷ []
+    written_names = job.names.out ∷ job.names.map ∷ job.names.record_file ∷ []
 
     apart : (j : ℕ) → j < 3 → job.names.sample ≢ get_or written_names j []
     apart j below =
@@ -69,5 +69,5 @@ module _ (job : LoopJob) (lawful : IsLoopJob job) (before after : Files) (looped
   pub map_again : map_read (frame_map_form (loop_size sample job.length) sample.size walk) ≡ Ok (Frames (loop_size sample job.length) sample.size walk)
   map_again = maps.read_again (Frames (loop_size sample job.length) sample.size walk) (map_ready job lawful looped is.made)
 
-  pub record_again : IsCertOf (walk_file_form (loop_head job sample) job.taps job.gap walk looped.found.tables) (Walk (loop_head job sample) job.taps job.gap walk looped.found.tables)
+  pub record_again : IsRecordFileOf (walk_file_form (loop_head job sample) job.taps job.gap walk looped.found.tables) (Walk (loop_head job sample) job.taps job.gap walk looped.found.tables)
   record_again = walk_again (loop_head job sample) job.taps job.gap walk looped.found.tables (record_ready job lawful looped is.made) is.made.found.wide

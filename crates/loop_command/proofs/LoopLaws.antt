@@ -19,7 +19,7 @@ use Rattle.command.specs.Commands.{HasOneAnswer}
 use Rattle.command.specs.Faults.{ReaderRefuses, fault_of_read}
 use Rattle.command.specs.Outcomes.{WritesAll}
 use Rattle.command.specs.Writing.{pieces}
-use Rattle.command_files.proofs.ThreeFiles.{cert_holds, map_holds, others_stay, out_holds}
+use Rattle.command_files.proofs.ThreeFiles.{record_file_holds, map_holds, others_stay, out_holds}
 use Rattle.job_words.specs.LoopWords.{IsLoopJob}
 use Rattle.job_words.specs.declared.loop_words.LoopJob.{LoopJob}
 use Rattle.loop_command.specs.declared.plan.LoopedClip.{LoopedClip}
@@ -119,10 +119,10 @@ module _ (job : LoopJob) (lawful : IsLoopJob job) (before after : Files) (texts 
   abbrev record_text : List ℕ
   record_text = walk_file_form (loop_head job sample) job.taps job.gap walk looped.found.tables
 
-  whole : after ≡ insert (insert (insert before job.names.out out_text) job.names.map map_text) job.names.cert record_text
+  whole : after ≡ insert (insert (insert before job.names.out out_text) job.names.map map_text) job.names.record_file record_text
   whole = wrote ∙ ap (λ ts. written (pieces (loop_command job).writes ts) before) makes.texts_are
 
-  stays : (name : List ℕ) → name ≢ job.names.out → name ≢ job.names.map → name ≢ job.names.cert → get after name ≡ get before name
+  stays : (name : List ℕ) → name ≢ job.names.out → name ≢ job.names.map → name ≢ job.names.record_file → get after name ≡ get before name
   stays = others_stay job.names lawful.names before after out_text map_text record_text whole
 
   abbrev output : IsLoopedOutput job before after
@@ -144,7 +144,7 @@ module _ (job : LoopJob) (lawful : IsLoopJob job) (before after : Files) (texts 
         out_file = out_holds job.names lawful.names before after out_text map_text record_text whole;
       }
 
-  abbrev walk_record : IsLoopedRecord job sample walk (content_of after job.names.cert)
+  abbrev walk_record : IsLoopedRecord job sample walk (content_of after job.names.record_file)
   walk_record =
       let found = makes.is_loop.made.found in
       record {
@@ -153,7 +153,7 @@ module _ (job : LoopJob) (lawful : IsLoopJob job) (before after : Files) (texts 
         cost = looped.found.cost;
         cost_is = found.cost;
         tables = looped.found.tables;
-        file = cert_holds job.names lawful.names before after out_text map_text record_text whole;
+        file = record_file_holds job.names lawful.names before after out_text map_text record_text whole;
         stands = found.stands;
         tight = found.tight;
       }

@@ -44,7 +44,7 @@ module _ (job : LoopJob) (lawful : IsLoopJob job) (before : Files) (looped : Loo
   abbrev found : IsLoopFound job looped.clip.volume looped.found
   found = is.made.found
 
-  over_one : (clip : Clip) → clip ≡ looped.clip → (r : IsLoopedRecord job clip.volume run.output.walk (content_of later job.names.cert))
+  over_one : (clip : Clip) → clip ≡ looped.clip → (r : IsLoopedRecord job clip.volume run.output.walk (content_of later job.names.record_file))
       → (r.tables ≡ looped.found.tables) × (Loop job.length (slice_index run.output.walk 0) r.cost ≡ loop_summary job looped)
   over_one clip clip_is r =
       let costs_are : steps_over job clip.volume ≡ costs = ap (λ (c : Clip). steps_over job c.volume) clip_is in

@@ -59,10 +59,10 @@ pub record IsLoopedRecord (job : LoopJob) (sample : Cells) (walk text : List ℕ
 pub record IsLoopedRun (job : LoopJob) (before after : Files) : Type 0 where
   pub output : IsLoopedOutput job before after
   pub walk_record : IsLoopedRecord job output.clip.volume output.walk
-      (content_of after job.names.cert)
+      (content_of after job.names.record_file)
   pub accepted : Stand job.names after
   pub others : (name : List ℕ)
-      → name ≢ job.names.out → name ≢ job.names.map → name ≢ job.names.cert
+      → name ≢ job.names.out → name ≢ job.names.map → name ≢ job.names.record_file
       → fin.get after name ≡ fin.get before name
 
 -- the summary of such a run: the walk's first frame, and its cost

@@ -140,7 +140,7 @@ loop_files job looped =
     ∷ file_text part.Map job.names.map
     (frame_map_form (loop_size looped.clip.volume job.length) looped.clip.volume.size
     looped.found.walk)
-    ∷ file_text part.Cert job.names.cert
+    ∷ file_text part.Record job.names.record_file
     (walk_file_form (loop_head job looped.clip.volume) job.taps job.gap looped.found.walk
     looped.found.tables)
     ∷ []
@@ -199,7 +199,7 @@ abbrev pub loop_command : LoopJob → Command
 loop_command job = record {
   reads = named part.Sample job.names.sample ∷ [];
   writes = named part.Out job.names.out ∷ named part.Map job.names.map
-      ∷ named part.Cert job.names.cert ∷ [];
+      ∷ named part.Record job.names.record_file ∷ [];
   Takes = TakesToLoop job;
   Refuses = RefusesLoop job;
   Makes = MakesLoop job;

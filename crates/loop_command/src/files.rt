@@ -116,7 +116,7 @@ impl RunFiles for FrameMapFile<'_> {
 
 impl RunFiles for WalkFile<'_> {
     ghost texts = { λ file.
-        file_text part.Cert file.name.now
+        file_text part.Record file.name.now
         (walk_file_form file.head file.taps file.gap file.walk.now file.tables.now) ∷ [] };
 
     ghost AreReady = { λ file.
@@ -133,7 +133,7 @@ impl RunFiles for WalkFile<'_> {
             self.name.as_text(),
         ) {
             Ok(()) => Ok(()),
-            Err(WriteFault) => Err(FileOf::Cert),
+            Err(WriteFault) => Err(FileOf::Record),
         }
     }
 }

@@ -91,7 +91,7 @@ fn write_loop<S: Shelf, O: Sink>(
         frames: walk,
     };
     let walk_file = WalkFile {
-        name: &job.names.cert,
+        name: &job.names.record_file,
         head: loop_head(job, sample),
         taps: job.taps,
         gap: job.gap,

@@ -51,7 +51,7 @@ module _ (job : QuiltJob) (lawful : IsQuiltJob job) (within : IsQuiltWithin job)
     out = other.output.out_file ∙ ap (p6_form other.output.sample.maxval) other.output.of_map ∙ (λ i. out_spelled (one_sample i) (one_map i))
         ∙ ap (p6_form sample.maxval) (sym run.output.of_map) ∙ sym run.output.out_file;
     map = other.output.map_file ∙ (λ i. map_spelled (one_sample i) (one_map i)) ∙ sym run.output.map_file;
-    cert = other.records.file ∙ (λ i. record_spelled (one_sample i) (sym one_run.0 i)) ∙ sym run.records.file;
+    record_file = other.records.file ∙ (λ i. record_spelled (one_sample i) (sym one_run.0 i)) ∙ sym run.records.file;
   }
 
 -- another run of the words from files with the same sample leaves what is written

@@ -13,8 +13,8 @@ use Rattle.source_map.specs.MapFiles.{cell_map_form, map_read}
 use Rattle.source_map.proofs.MapsAgain as maps
 use Rattle.block_check.specs.declared.block.BlockRecord.{BlockRecord}
 use Rattle.block_check.specs.Blocks.{block_cells}
-use Rattle.cert_file.specs.declared.file.CertFile.TheVariants.{Blocks}
-use Rattle.cert_file.specs.RecordFiles.{IsCertOf, blocks_form}
+use Rattle.cert_file.specs.declared.file.RecordFile.TheVariants.{Blocks}
+use Rattle.cert_file.specs.RecordFiles.{IsRecordFileOf, blocks_form}
 use Rattle.cert_file.proofs.BlocksAgain.{blocks_again}
 use Rattle.job_words.specs.declared.quilt.QuiltJob.{QuiltJob}
 use Rattle.job_words.specs.QuiltWords.{IsQuiltJob}
@@ -36,7 +36,7 @@ module _ (job : QuiltJob) (lawful : IsQuiltJob job) (after : Files) (made : Pict
     (sample_file : IsRead (content_of after job.names.sample) made.sample)
     (out_file : content_of after job.names.out ≡ p6_form made.sample.maxval made.quilted.canvas.picture)
     (map_file : content_of after job.names.map ≡ cell_map_form made.quilted.canvas.map (sizes_of made.sample.volume) One)
-    (cert_file : content_of after job.names.cert ≡ blocks_form (quilt_head job made.sample.volume) made.quilted.blocks) where
+    (cert_file : content_of after job.names.record_file ≡ blocks_form (quilt_head job made.sample.volume) made.quilted.blocks) where
   abbrev samples : Samples
   samples = record { form = Picture made.sample.maxval; volume = made.sample.volume }
 
@@ -59,8 +59,8 @@ module _ (job : QuiltJob) (lawful : IsQuiltJob job) (after : Files) (made : Pict
   map_again : map_read (content_of after job.names.map) ≡ Ok (CellMap made.quilted.canvas.map (sizes_of made.sample.volume) One)
   map_again = ap map_read map_file ∙ maps.read_again (CellMap made.quilted.canvas.map (sizes_of made.sample.volume) One) (is.quilt.canvas.map, map_ready job lawful made is)
 
-  cert_again : IsCertOf (content_of after job.names.cert) (Blocks (quilt_head job made.sample.volume) made.quilted.blocks)
-  cert_again = subst (λ bytes. IsCertOf bytes (Blocks (quilt_head job made.sample.volume) made.quilted.blocks)) (sym cert_file)
+  record_file_again : IsRecordFileOf (content_of after job.names.record_file) (Blocks (quilt_head job made.sample.volume) made.quilted.blocks)
+  record_file_again = subst (λ bytes. IsRecordFileOf bytes (Blocks (quilt_head job made.sample.volume) made.quilted.blocks)) (sym cert_file)
       (blocks_again (quilt_head job made.sample.volume) made.quilted.blocks (record {
         form = record_ready job lawful made is;
         cells = is.quilt.writable.cells;
@@ -71,10 +71,10 @@ module _ (job : QuiltJob) (lawful : IsQuiltJob job) (after : Files) (made : Pict
     samples = samples;
     out = record { form = Picture made.sample.maxval; volume = made.quilted.canvas.picture };
     map = CellMap made.quilted.canvas.map (sizes_of made.sample.volume) One;
-    cert = Blocks (quilt_head job made.sample.volume) made.quilted.blocks;
+    record_file = Blocks (quilt_head job made.sample.volume) made.quilted.blocks;
   }
 
-  files_stand : FilesStand values.samples values.out values.map values.cert
+  files_stand : FilesStand values.samples values.out values.map values.record_file
   files_stand = quilt_stands made.sample.maxval made.sample.volume (quilt_size job) made.quilted.blocks made.quilted.canvas.map made.quilted.canvas.picture One One (record {
     asked = is.quilt.size;
     is_map = is.quilt.canvas.map;
@@ -87,4 +87,4 @@ module _ (job : QuiltJob) (lawful : IsQuiltJob job) (after : Files) (made : Pict
   })
 
   pub accepted : Stand job.names after
-  accepted = record { values = values; read = record { samples = sample_again; out = out_again; map = map_again; cert = cert_again }; stand = files_stand }
+  accepted = record { values = values; read = record { samples = sample_again; out = out_again; map = map_again; record_file = record_file_again }; stand = files_stand }

@@ -28,7 +28,7 @@ use Rattle.command.specs.Commands.{HasOneAnswer}
 use Rattle.command.specs.Faults.{fault_of_read}
 use Rattle.command.specs.Outcomes.{WritesAll}
 use Rattle.command.specs.Writing.{pieces}
-use Rattle.command_files.proofs.ThreeFiles.{cert_holds, map_holds, others_stay, out_holds, sample_stays}
+use Rattle.command_files.proofs.ThreeFiles.{record_file_holds, map_holds, others_stay, out_holds, sample_stays}
 use Rattle.sample_files.proofs.Sound.{read_is_sound, read_is_volume}
 use Rattle.quilt_command.specs.declared.plan.PictureQuilt.{PictureQuilt}
 use Rattle.quilt_command.specs.Quilts.{BlocksPass, IsMadeQuilt, IsPictureIn, IsPictureQuilt, IsQuiltWithin, MakesQuilt, QuiltPasses, RefusesOverPicture, RefusesPicture, RefusesQuilt, quilt_command, quilt_head, quilt_run_of, quilt_size}
@@ -125,13 +125,13 @@ module _ (job : QuiltJob) (lawful : IsQuiltJob job) (before after : Files) (text
         out_file = out_holds job.names lawful.names before after out_text map_text record_text whole;
       }
 
-  abbrev records : IsQuiltedRecord job made.sample.volume made.quilted.canvas.map (content_of after job.names.cert)
+  abbrev records : IsQuiltedRecord job made.sample.volume made.quilted.canvas.map (content_of after job.names.record_file)
   records =
       let quilt = makes.quilt.quilt in
       let whole = wrote ∙ ap (λ ts. written (pieces (quilt_command job).writes ts) before) makes.texts_are in
       record {
         blocks = made.quilted.blocks;
-        file = cert_holds job.names lawful.names before after out_text map_text record_text whole;
+        file = record_file_holds job.names lawful.names before after out_text map_text record_text whole;
         draws = quilt.draws;
         run = quilt.run;
         replays = quilt.replays.left;

@@ -70,10 +70,10 @@ pub record IsQuiltedRecord (job : QuiltJob) (sample : Cells) (map : SourceMap) (
 pub record IsQuiltedRun (job : QuiltJob) (before after : Files) : Type 0 where
   pub output : IsQuiltedOutput job before after
   pub records : IsQuiltedRecord job output.sample.volume output.map
-      (content_of after job.names.cert)
+      (content_of after job.names.record_file)
   pub accepted : Stand job.names after
   pub others : (name : List ℕ)
-      → name ≢ job.names.out → name ≢ job.names.map → name ≢ job.names.cert
+      → name ≢ job.names.out → name ≢ job.names.map → name ≢ job.names.record_file
       → fin.get after name ≡ fin.get before name
 
 -- whenever `quilt` ends with status 0
@@ -104,7 +104,7 @@ QuiltReport words was now out out' status =
 pub record HaveSameQuilt (job : QuiltJob) (one other : Files) : Type 0 where
   pub out : content_of one job.names.out ≡ content_of other job.names.out
   pub map : content_of one job.names.map ≡ content_of other job.names.map
-  pub cert : content_of one job.names.cert ≡ content_of other job.names.cert
+  pub record_file : content_of one job.names.record_file ≡ content_of other job.names.record_file
 
 -- out file, map file and record file are a function of the words and the sample file: another run of
 -- the words that ends so, from files with the same sample, leaves the same

@@ -104,7 +104,7 @@ quilt_files job made =
     file_text part.Out job.names.out (p6_form made.sample.maxval made.quilted.canvas.picture)
     ∷ file_text part.Map job.names.map
     (cell_map_form made.quilted.canvas.map (sizes_of made.sample.volume) One)
-    ∷ file_text part.Cert job.names.cert
+    ∷ file_text part.Record job.names.record_file
     (blocks_form (quilt_head job made.sample.volume) made.quilted.blocks)
     ∷ []
 
@@ -162,7 +162,7 @@ abbrev pub quilt_command : QuiltJob → Command
 quilt_command job = record {
   reads = named part.Sample job.names.sample ∷ [];
   writes = named part.Out job.names.out ∷ named part.Map job.names.map
-      ∷ named part.Cert job.names.cert ∷ [];
+      ∷ named part.Record job.names.record_file ∷ [];
   Takes = TakesToQuilt job;
   Refuses = RefusesQuilt job;
   Makes = MakesQuilt job;

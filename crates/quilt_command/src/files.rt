@@ -21,14 +21,14 @@ pub struct BlocksFile<'a> {
 
 impl RunFiles for BlocksFile<'_> {
     ghost texts = { λ file.
-        file_text part.Cert file.name.now (blocks_form file.head file.blocks.now) ∷ [] };
+        file_text part.Record file.name.now (blocks_form file.head file.blocks.now) ∷ [] };
 
     ghost AreReady = { λ file. AreBlocksInForm file.head file.blocks.now };
 
     fn write<S: Shelf>(&mut self, shelf: &mut S) -> Result<(), FileOf> {
         match write_blocks(&self.head, self.blocks, shelf, self.name.as_text()) {
             Ok(()) => Ok(()),
-            Err(WriteFault) => Err(FileOf::Cert),
+            Err(WriteFault) => Err(FileOf::Record),
         }
     }
 }

@@ -74,7 +74,7 @@ fn write_quilt<S: Shelf, O: Sink>(
         version: Version::One,
     };
     let record = BlocksFile {
-        name: &job.names.cert,
+        name: &job.names.record_file,
         head: head_over(job, volume),
         blocks: made.quilted.blocks.as_slice(),
     };

@@ -23,9 +23,9 @@ use Rattle.frame_distance.specs.Steps.{Steps}
 use Rattle.frame_distance.specs.declared.table.TheConstants.{MOST_CLIP_CELLS}
 use Rattle.loop_walk.specs.Records.{WalkStands}
 use Rattle.loop_walk.specs.Tables.{table_count}
-use Rattle.cert_file.specs.declared.file.CertFile.{CertFile}
-use Rattle.cert_file.specs.declared.file.CertFile.TheVariants.{Blocks, Cuts, Walk}
-use Rattle.cert_file.specs.RecordFiles.{IsCert}
+use Rattle.cert_file.specs.declared.file.RecordFile.{RecordFile}
+use Rattle.cert_file.specs.declared.file.RecordFile.TheVariants.{Blocks, Cuts, Walk}
+use Rattle.cert_file.specs.RecordFiles.{IsRecordFile}
 use Rattle.cert_file.specs.WalkForms.{frames_of}
 use Rattle.sample_files.specs.declared.form.Form.{Form}
 use Rattle.sample_files.specs.declared.form.Form.TheVariants.{Clip, Picture}
@@ -41,12 +41,12 @@ use Rattle.standing_files.proofs.Breaking.{breaks_none}
 
 -- what is asked of the records of a file that was read
 
-pub cuts_formed : (head : Head) (cuts : List CutRecord) → IsCert (Cuts head cuts) → All IsFormed cuts
+pub cuts_formed : (head : Head) (cuts : List CutRecord) → IsRecordFile (Cuts head cuts) → All IsFormed cuts
 cuts_formed head cuts is = λ i d lt.
     let one = is.form.each i d lt in
     record { cells = record { w = one.size.w.0; h = one.size.h.0; f = one.size.f.0 }; choice = one.choice; flows = one.flows }
 
-pub blocks_formed : (head : Head) (blocks : List BlockRecord) → IsCert (Blocks head blocks) → All IsFormedBlock blocks
+pub blocks_formed : (head : Head) (blocks : List BlockRecord) → IsRecordFile (Blocks head blocks) → All IsFormedBlock blocks
 blocks_formed head blocks is = λ i d lt. (is.form.each i d lt).formed
 
 pub block_colours : (head : Head) (blocks : List BlockRecord) (form : Form) (cells : Cells) → TakesForm (Blocks head blocks) form → AreSoundIn form cells → cells.k ≡ 3
@@ -64,7 +64,7 @@ pub record IsWalkSample (sample : Cells) (walk tables : List ℕ) : Type 0 where
   pub cells : cell_count sample.size ≤ MOST_CLIP_CELLS
   pub whole : length tables ≡ table_count (length walk) * (sample.size.f * sample.size.f)
 
-pub walk_sample : (samples : Samples) (map_file : MapFile) (head : Head) (taps : Taps) (gap : ℕ) (walk tables : List ℕ) → IsCert (Walk head taps gap walk tables) → AreSoundSamples samples
+pub walk_sample : (samples : Samples) (map_file : MapFile) (head : Head) (taps : Taps) (gap : ℕ) (walk tables : List ℕ) → IsRecordFile (Walk head taps gap walk tables) → AreSoundSamples samples
     → Suit samples map_file (Walk head taps gap walk tables) → IsWalkSample samples.volume walk tables
 walk_sample samples map_file head taps gap walk tables is sound suit =
     let sizes : sizes_of samples.volume ≡ head.samples = suit.samples_are in
@@ -100,17 +100,17 @@ module _ (samples : Cells) (m left : SourceMap) (first : Option ℕ) (found : Fi
   blocks_judged blocks stand same = map_judged (EachBlockStands samples (empty_map m.size) blocks) (IsBrokenBlock samples m.size blocks) (cell_count m.size) (IsLeftAt (left_by_blocks (empty_map m.size) blocks) m) stand first
       (subst (λ (left : SourceMap). FirstWithout (cell_count m.size) (IsLeftAt left m) first) same found)
 
-module _ (samples : Samples) (out : Sample) (map_file : MapFile) (cert : CertFile) where
-  pub suits : GoTogether samples out map_file cert → Suit samples map_file cert
-  suits together = record { kinds = together.kinds; takes = together.takes; samples_are = together.cert_sizes.samples_are }
+module _ (samples : Samples) (out : Sample) (map_file : MapFile) (record_file : RecordFile) where
+  pub suits : GoTogether samples out map_file record_file → Suit samples map_file record_file
+  suits together = record { kinds = together.kinds; takes = together.takes; samples_are = together.record_file_sizes.samples_are }
 
   -- records that are judged first have the first broken rule
-  pub judged_before : GoTogether samples out map_file cert → (v : Verdict) → (v ≡ Stands → ⊥) → JudgesRecords samples.volume map_file cert v → IsVerdict samples out map_file cert v
+  pub judged_before : GoTogether samples out map_file record_file → (v : Verdict) → (v ≡ Stands → ⊥) → JudgesRecords samples.volume map_file record_file v → IsVerdict samples out map_file record_file v
   judged_before together Stands fails is = absurd (fails refl)
   judged_before together (Fails number rule place) fails (inl broken) = inr (inl (record { together = together; broken = broken }))
   judged_before together (Fails number rule place) fails (inr left) = inr (inr (inl (record { whole = left.whole; together = together; records = left.records; first = left.first })))
 
   -- the verdict is that they stand exactly where they do
-  pub stands_exactly : (v : Verdict) → IsVerdict samples out map_file cert v → (v ≡ Stands) ↔ FilesStand samples out map_file cert
+  pub stands_exactly : (v : Verdict) → IsVerdict samples out map_file record_file v → (v ≡ Stands) ↔ FilesStand samples out map_file record_file
   stands_exactly Stands is = (λ same. is, λ stand. refl)
-  stands_exactly (Fails number rule place) is = (λ same. absurd (cc), λ stand. absurd (breaks_none samples out map_file cert number rule place stand is))
+  stands_exactly (Fails number rule place) is = (λ same. absurd (cc), λ stand. absurd (breaks_none samples out map_file record_file number rule place stand is))

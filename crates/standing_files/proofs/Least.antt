@@ -8,7 +8,7 @@ use Rattle.loop_walk.specs.Records.{WalkStands}
 use Rattle.loop_walk.proofs.WayLaws.{closed_cost, least_from}
 use Rattle.cut_replay.proofs.Standing.{each_least}
 use Rattle.block_replay.proofs.Standing as blocks_standing
-use Rattle.cert_file.specs.declared.file.CertFile.TheVariants.{Blocks, Cuts, Walk}
+use Rattle.cert_file.specs.declared.file.RecordFile.TheVariants.{Blocks, Cuts, Walk}
 use Rattle.standing_files.specs.Standing.{StandingRecordsAreLeast, walk_costs}
 
 none_less : (costs : Steps) (other : List ℕ) → length other ≡ 0 → AtMost (walk_cost costs []) (walk_cost costs other)

@@ -60,12 +60,12 @@ module _ (m : SourceMap) (is : IsMap m) (full : IsFull m) where
       record { from = there.from; named = there.is; same = cells (place_of m.size i) there.from there.is }
 
 pub run_stands : RunStands
-run_stands samples size cuts m picture of_map of_cert run =
+run_stands samples size cuts m picture of_map of_record_file run =
     let replays : left_by (empty_map m.size) cuts ≡ m = ap (λ (size : Size). left_by (empty_map size) cuts) run.asked ∙ run.replays in
     record {
       together = record {
         map_sizes = sizes_named samples.volume picture m.size (run.size_is ∙ sym run.asked) run.one;
-        cert_sizes = sizes_named samples.volume picture size run.size_is run.one;
+        record_file_sizes = sizes_named samples.volume picture size run.size_is run.one;
         form = goes_with_itself samples.form;
         takes = tt;
         kinds = tt;
@@ -76,12 +76,12 @@ run_stands samples size cuts m picture of_map of_cert run =
     }
 
 pub quilt_stands : QuiltStands
-quilt_stands maxval sample size blocks m picture of_map of_cert run =
+quilt_stands maxval sample size blocks m picture of_map of_record_file run =
     let replays : left_by_blocks (empty_map m.size) blocks ≡ m = ap (λ (size : Size). left_by_blocks (empty_map size) blocks) run.asked ∙ run.replays in
     record {
       together = record {
         map_sizes = sizes_named sample picture m.size (run.size_is ∙ sym run.asked) run.one;
-        cert_sizes = sizes_named sample picture size run.size_is run.one;
+        record_file_sizes = sizes_named sample picture size run.size_is run.one;
         form = goes_with_itself (Picture maxval);
         takes = tt;
         kinds = tt;
@@ -117,13 +117,13 @@ frame_named : (walk : List ℕ) (size : Size) (i : ℕ) → i / size.w / size.h 
 frame_named walk size i lt = ap (option_map (λ e. spot (i % size.w) (i / size.w % size.h) e)) (slice_get-get_or walk (i / size.w / size.h) 0 lt)
 
 pub loop_stands : LoopStands
-loop_stands samples size taps gap walk tables clip of_cert run = record {
+loop_stands samples size taps gap walk tables clip of_record_file run = record {
   together = record {
     map_sizes = record {
       output_is = (sizes_named samples.volume clip size run.size_is run.one).output_is;
       samples_are = ap (λ (more : List Size). samples.volume.size ∷ more) run.one_sample;
     };
-    cert_sizes = sizes_named samples.volume clip size run.size_is run.one;
+    record_file_sizes = sizes_named samples.volume clip size run.size_is run.one;
     form = goes_with_itself samples.form;
     takes = tt;
     kinds = run.frames;

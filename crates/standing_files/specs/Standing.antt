@@ -25,8 +25,8 @@ use Rattle.loop_walk.specs.declared.fault.LoopFault.{LoopFault}
 use Rattle.loop_walk.specs.Records.{IsFirstLoopFault, WalkStands}
 use Rattle.loop_walk.specs.Tables.{entry_count}
 use Rattle.loop_walk.specs.Walks.{IsLeastWalk}
-use Rattle.cert_file.specs.declared.file.CertFile.{CertFile}
-use Rattle.cert_file.specs.declared.file.CertFile.TheVariants.{Blocks, Cuts, Walk}
+use Rattle.cert_file.specs.declared.file.RecordFile.{RecordFile}
+use Rattle.cert_file.specs.declared.file.RecordFile.TheVariants.{Blocks, Cuts, Walk}
 use Rattle.sample_files.specs.declared.form.Form.{Form}
 use Rattle.sample_files.specs.declared.form.Form.TheVariants.{Clip, Picture}
 use Rattle.sample_files.specs.declared.sample.Sample.{Sample}
@@ -48,10 +48,10 @@ map_samples (CellMap m samples version) = samples
 map_samples (Frames size sample frames) = sample ∷ []
 
 -- the head of a record file
-abbrev pub cert_head : CertFile → Head
-cert_head (Cuts head cuts) = head
-cert_head (Blocks head blocks) = head
-cert_head (Walk head taps gap walk tables) = head
+abbrev pub record_file_head : RecordFile → Head
+record_file_head (Cuts head cuts) = head
+record_file_head (Blocks head blocks) = head
+record_file_head (Walk head taps gap walk tables) = head
 
 -- how many entries a map file has: one for each cell, or for each frame
 abbrev pub map_entries : MapFile → ℕ
@@ -72,7 +72,7 @@ pub record NamesSizes (samples out : List Size) (output : Size) (named : List Si
 
 -- the kinds of a map file and a record file go together: records of cuts or of blocks leave a map
 -- of cells, and the record of a walk one of frames, as many as the output has
-abbrev pub AreKindsOfOneRun : MapFile → CertFile → Type 0
+abbrev pub AreKindsOfOneRun : MapFile → RecordFile → Type 0
 AreKindsOfOneRun (CellMap m samples version) (Cuts head cuts) = Unit {0}
 AreKindsOfOneRun (CellMap m samples version) (Blocks head blocks) = Unit {0}
 AreKindsOfOneRun (CellMap m samples version) (Walk head taps gap walk tables) = ⊥
@@ -82,21 +82,21 @@ AreKindsOfOneRun (Frames size sample frames) (Walk head taps gap walk tables) =
     length walk ≡ size.f
 
 -- a record file goes with samples of this form: block records with pictures alone
-abbrev pub TakesForm : CertFile → Form → Type 0
+abbrev pub TakesForm : RecordFile → Form → Type 0
 TakesForm (Blocks head blocks) (Clip form) = ⊥
-TakesForm cert form = Unit {0}
+TakesForm record_file form = Unit {0}
 
 -- map file and record file name the sizes of the pictures, the out picture's form goes with that of
 -- the first sample and that with the record file, and the kinds go together
-pub record GoTogether (samples : Samples) (out : Sample) (map_file : MapFile) (cert : CertFile)
-    : Type 0 where
+pub record GoTogether (samples : Samples) (out : Sample)
+    (map_file : MapFile) (record_file : RecordFile) : Type 0 where
   pub map_sizes : NamesSizes (sizes_of samples.volume) (sizes_of out.volume)
       (map_output map_file) (map_samples map_file)
-  pub cert_sizes : NamesSizes (sizes_of samples.volume) (sizes_of out.volume)
-      (cert_head cert).output (cert_head cert).samples
+  pub record_file_sizes : NamesSizes (sizes_of samples.volume) (sizes_of out.volume)
+      (record_file_head record_file).output (record_file_head record_file).samples
   pub form : goes_with samples.form out.form ≡ true
-  pub takes : TakesForm cert samples.form
-  pub kinds : AreKindsOfOneRun map_file cert
+  pub takes : TakesForm record_file samples.form
+  pub kinds : AreKindsOfOneRun map_file record_file
 
 -- The rules of each record.
 
@@ -106,7 +106,7 @@ walk_costs sample taps gap = steps_of (distances_of sample) taps gap
 
 -- each cut record and each block record stands over the map that the records before it leave, from
 -- the empty map of the output on; the record of a walk stands over its step costs
-abbrev pub RecordsStand : Cells → Size → CertFile → Type 0
+abbrev pub RecordsStand : Cells → Size → RecordFile → Type 0
 RecordsStand samples output (Cuts head cuts) = EachStands samples (empty_map output) cuts
 RecordsStand samples output (Blocks head blocks) =
     EachBlockStands samples (empty_map output) blocks
@@ -143,7 +143,7 @@ pub record IsBrokenWalk (costs : Steps) (walk tables : List ℕ) (number rule pl
   pub rule_is : rule ≡ fault.kind
   pub place_is : place ≡ fault.place
 
-abbrev pub IsBrokenRecord : Cells → Size → CertFile → ℕ → ℕ → ℕ → Type 0
+abbrev pub IsBrokenRecord : Cells → Size → RecordFile → ℕ → ℕ → ℕ → Type 0
 IsBrokenRecord samples output (Cuts head cuts) = IsBrokenCut samples output cuts
 IsBrokenRecord samples output (Blocks head blocks) = IsBrokenBlock samples output blocks
 IsBrokenRecord samples output (Walk head taps gap walk tables) =
@@ -168,17 +168,17 @@ pub record HasOneFrame (walk frames : List ℕ) (i : ℕ) : Type 0 where
   pub map_is : slice_get frames i ≡ Some frame
 
 -- the records leave this entry of the map file
-abbrev pub LeaveAt : CertFile → MapFile → ℕ → Type 0
+abbrev pub LeaveAt : RecordFile → MapFile → ℕ → Type 0
 LeaveAt (Cuts head cuts) (CellMap m samples version) i =
     IsLeftAt (left_by (empty_map m.size) cuts) m i
 LeaveAt (Blocks head blocks) (CellMap m samples version) i =
     IsLeftAt (left_by_blocks (empty_map m.size) blocks) m i
 LeaveAt (Walk head taps gap walk tables) (Frames size sample frames) i =
     HasOneFrame walk frames i
-LeaveAt cert map_file i = ⊥
+LeaveAt record_file map_file i = ⊥
 
-abbrev pub LeaveMap : CertFile → MapFile → Type 0
-LeaveMap cert map_file = Each (map_entries map_file) (LeaveAt cert map_file)
+abbrev pub LeaveMap : RecordFile → MapFile → Type 0
+LeaveMap record_file map_file = Each (map_entries map_file) (LeaveAt record_file map_file)
 
 -- Rule 17: the out picture is that of the map file.
 
@@ -200,11 +200,11 @@ AllCopied samples picture map_file =
 -- All of them.
 
 -- the files stand
-pub record FilesStand (samples : Samples) (out : Sample) (map_file : MapFile) (cert : CertFile)
-    : Type 0 where
-  pub together : GoTogether samples out map_file cert
-  pub records : RecordsStand samples.volume (map_output map_file) cert
-  pub left : LeaveMap cert map_file
+pub record FilesStand (samples : Samples) (out : Sample)
+    (map_file : MapFile) (record_file : RecordFile) : Type 0 where
+  pub together : GoTogether samples out map_file record_file
+  pub records : RecordsStand samples.volume (map_output map_file) record_file
+  pub left : LeaveMap record_file map_file
   pub copied : AllCopied samples.volume out.volume map_file
 
 -- a rule of whole files, which is told with the number 0
@@ -213,60 +213,64 @@ pub record IsWholeRule (number rule rule_of : ℕ) : Type 0 where
   pub rule_is : rule ≡ rule_of
 
 -- rule 15 is tried first
-pub record BreaksTogether (samples : Samples) (out : Sample) (map_file : MapFile) (cert : CertFile)
+pub record BreaksTogether (samples : Samples) (out : Sample)
+    (map_file : MapFile) (record_file : RecordFile)
     (number rule place : ℕ) : Type 0 where
   pub whole : IsWholeRule number rule TOGETHER_RULE
   pub place_is : place ≡ 0
-  pub apart : GoTogether samples out map_file cert → ⊥
+  pub apart : GoTogether samples out map_file record_file → ⊥
 
 -- then each record's rules, in the order of the records
-pub record BreaksRecord (samples : Samples) (out : Sample) (map_file : MapFile) (cert : CertFile)
+pub record BreaksRecord (samples : Samples) (out : Sample)
+    (map_file : MapFile) (record_file : RecordFile)
     (number rule place : ℕ) : Type 0 where
-  pub together : GoTogether samples out map_file cert
-  pub broken : IsBrokenRecord samples.volume (map_output map_file) cert number rule place
+  pub together : GoTogether samples out map_file record_file
+  pub broken : IsBrokenRecord samples.volume (map_output map_file) record_file number rule place
 
 -- then rule 16
-pub record BreaksMap (samples : Samples) (out : Sample) (map_file : MapFile) (cert : CertFile)
+pub record BreaksMap (samples : Samples) (out : Sample)
+    (map_file : MapFile) (record_file : RecordFile)
     (number rule place : ℕ) : Type 0 where
   pub whole : IsWholeRule number rule MAP_RULE
-  pub together : GoTogether samples out map_file cert
-  pub records : RecordsStand samples.volume (map_output map_file) cert
-  pub first : IsFirstWithout (map_entries map_file) (LeaveAt cert map_file) place
+  pub together : GoTogether samples out map_file record_file
+  pub records : RecordsStand samples.volume (map_output map_file) record_file
+  pub first : IsFirstWithout (map_entries map_file) (LeaveAt record_file map_file) place
 
 -- and rule 17 last
-pub record BreaksPicture (samples : Samples) (out : Sample) (map_file : MapFile) (cert : CertFile)
+pub record BreaksPicture (samples : Samples) (out : Sample)
+    (map_file : MapFile) (record_file : RecordFile)
     (number rule place : ℕ) : Type 0 where
   pub whole : IsWholeRule number rule PICTURE_RULE
-  pub together : GoTogether samples out map_file cert
-  pub records : RecordsStand samples.volume (map_output map_file) cert
-  pub left : LeaveMap cert map_file
+  pub together : GoTogether samples out map_file record_file
+  pub records : RecordsStand samples.volume (map_output map_file) record_file
+  pub left : LeaveMap record_file map_file
   pub first : IsFirstWithout (cell_count (map_output map_file))
       (IsCopiedAt samples.volume out.volume map_file) place
 
 -- the first broken rule: 0 or the number of the record, the rule, and the first place where it is
 -- broken
 abbrev pub IsFirstBrokenRule :
-    Samples → Sample → MapFile → CertFile → ℕ → ℕ → ℕ → Type 0
-IsFirstBrokenRule samples out map_file cert number rule place =
-    BreaksTogether samples out map_file cert number rule place
-    ⊎ (BreaksRecord samples out map_file cert number rule place
-    ⊎ (BreaksMap samples out map_file cert number rule place
-    ⊎ BreaksPicture samples out map_file cert number rule place))
+    Samples → Sample → MapFile → RecordFile → ℕ → ℕ → ℕ → Type 0
+IsFirstBrokenRule samples out map_file record_file number rule place =
+    BreaksTogether samples out map_file record_file number rule place
+    ⊎ (BreaksRecord samples out map_file record_file number rule place
+    ⊎ (BreaksMap samples out map_file record_file number rule place
+    ⊎ BreaksPicture samples out map_file record_file number rule place))
 
 -- what a verdict says
-abbrev pub IsVerdict : Samples → Sample → MapFile → CertFile → Verdict → Type 0
-IsVerdict samples out map_file cert Stands = FilesStand samples out map_file cert
-IsVerdict samples out map_file cert (Fails number rule place) =
-    IsFirstBrokenRule samples out map_file cert number rule place
+abbrev pub IsVerdict : Samples → Sample → MapFile → RecordFile → Verdict → Type 0
+IsVerdict samples out map_file record_file Stands = FilesStand samples out map_file record_file
+IsVerdict samples out map_file record_file (Fails number rule place) =
+    IsFirstBrokenRule samples out map_file record_file number rule place
 
 -- Laws.
 
 -- files that stand break no rule
 abbrev pub StandingFilesBreakNone : Type 0
 StandingFilesBreakNone =
-    (samples : Samples) (out : Sample) (map_file : MapFile) (cert : CertFile)
-    (number rule place : ℕ) → FilesStand samples out map_file cert
-    → IsFirstBrokenRule samples out map_file cert number rule place → ⊥
+    (samples : Samples) (out : Sample) (map_file : MapFile) (record_file : RecordFile)
+    (number rule place : ℕ) → FilesStand samples out map_file record_file
+    → IsFirstBrokenRule samples out map_file record_file number rule place → ⊥
 
 -- numbers, rules and places are the same
 pub record AreOneFault (number rule place number' rule' place' : ℕ) : Type 0 where
@@ -277,15 +281,15 @@ pub record AreOneFault (number rule place number' rule' place' : ℕ) : Type 0 w
 -- there is one first broken rule
 abbrev pub OneFirstBrokenRule : Type 0
 OneFirstBrokenRule =
-    (samples : Samples) (out : Sample) (map_file : MapFile) (cert : CertFile)
+    (samples : Samples) (out : Sample) (map_file : MapFile) (record_file : RecordFile)
     (number rule place number' rule' place' : ℕ)
-    → IsFirstBrokenRule samples out map_file cert number rule place
-    → IsFirstBrokenRule samples out map_file cert number' rule' place'
+    → IsFirstBrokenRule samples out map_file record_file number rule place
+    → IsFirstBrokenRule samples out map_file record_file number' rule' place'
     → AreOneFault number rule place number' rule' place'
 
 -- records that stand are least: each choice of a cut record, each boundary of a block record, and a
 -- walk among the closed walks of its length
-abbrev pub RecordsAreLeast : Cells → Size → CertFile → Type 0
+abbrev pub RecordsAreLeast : Cells → Size → RecordFile → Type 0
 RecordsAreLeast samples output (Cuts head cuts) = EachLeast samples (empty_map output) cuts
 RecordsAreLeast samples output (Blocks head blocks) =
     EachBlockIsLeast samples (empty_map output) blocks
@@ -294,17 +298,18 @@ RecordsAreLeast samples output (Walk head taps gap walk tables) =
 
 abbrev pub StandingRecordsAreLeast : Type 0
 StandingRecordsAreLeast =
-    (samples : Cells) (output : Size) (cert : CertFile) → RecordsStand samples output cert
-    → RecordsAreLeast samples output cert
+    (samples : Cells) (output : Size) (record_file : RecordFile)
+    → RecordsStand samples output record_file
+    → RecordsAreLeast samples output record_file
 
 -- the versions of map file and record file don't count
 abbrev pub VersionsDontCount : Type 0
 VersionsDontCount =
     (samples : Samples) (out : Sample) (m : SourceMap) (sizes : List Size) (version : Version)
-    (head : Head) (cuts : List CutRecord) (verdict : Verdict) (of_map of_cert : Version)
+    (head : Head) (cuts : List CutRecord) (verdict : Verdict) (of_map of_record_file : Version)
     → IsVerdict samples out (CellMap m sizes version) (Cuts head cuts) verdict
     → IsVerdict samples out (CellMap m sizes of_map)
-    (Cuts (record head { version = of_cert }) cuts) verdict
+    (Cuts (record head { version = of_record_file }) cuts) verdict
 
 -- cut records over an output of this size leave a full map, each stands over the map that those
 -- before it leave, and a picture of that size has at each cell the samples' cell that the map names
@@ -329,10 +334,10 @@ head_of_run output samples version =
 abbrev pub RunStands : Type 0
 RunStands =
     (samples : Samples) (size : Size) (cuts : List CutRecord) (m : SourceMap) (picture : Cells)
-    (of_map of_cert : Version) → IsRunOver samples.volume size cuts m picture
+    (of_map of_record_file : Version) → IsRunOver samples.volume size cuts m picture
     → FilesStand samples (record { form = samples.form; volume = picture })
     (CellMap m (sizes_of samples.volume) of_map)
-    (Cuts (head_of_run size samples.volume of_cert) cuts)
+    (Cuts (head_of_run size samples.volume of_record_file) cuts)
 
 -- the same of block records
 pub record IsQuiltOver (sample : Cells) (size : Size) (blocks : List BlockRecord) (m : SourceMap)
@@ -350,11 +355,11 @@ pub record IsQuiltOver (sample : Cells) (size : Size) (blocks : List BlockRecord
 abbrev pub QuiltStands : Type 0
 QuiltStands =
     (maxval : ℕ) (sample : Cells) (size : Size) (blocks : List BlockRecord) (m : SourceMap)
-    (picture : Cells) (of_map of_cert : Version) → IsQuiltOver sample size blocks m picture
+    (picture : Cells) (of_map of_record_file : Version) → IsQuiltOver sample size blocks m picture
     → FilesStand (record { form = Picture maxval; volume = sample })
     (record { form = Picture maxval; volume = picture })
     (CellMap m (sizes_of sample) of_map)
-    (Blocks (head_of_run size sample of_cert) blocks)
+    (Blocks (head_of_run size sample of_record_file) blocks)
 
 -- a walk record over a sample of one part stands, and a clip of this size has a frame for each
 -- frame of the walk, and at each cell the sample's cell of that frame
@@ -372,7 +377,7 @@ pub record IsLoopOver (sample : Cells) (size : Size) (taps : Taps) (gap : ℕ) (
 abbrev pub LoopStands : Type 0
 LoopStands =
     (samples : Samples) (size : Size) (taps : Taps) (gap : ℕ) (walk tables : List ℕ) (clip : Cells)
-    (of_cert : Version) → IsLoopOver samples.volume size taps gap walk tables clip
+    (of_record_file : Version) → IsLoopOver samples.volume size taps gap walk tables clip
     → FilesStand samples (record { form = samples.form; volume = clip })
     (Frames size samples.volume.size walk)
-    (Walk (head_of_run size samples.volume of_cert) taps gap walk tables)
+    (Walk (head_of_run size samples.volume of_record_file) taps gap walk tables)

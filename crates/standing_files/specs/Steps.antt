@@ -13,12 +13,12 @@ use Rattle.block_check.specs.declared.block.BlockRecord.{BlockRecord}
 use Rattle.block_replay.specs.BlockReplay.{EachBlockStands, left_by_blocks}
 use Rattle.frame_distance.specs.Steps.{Steps}
 use Rattle.loop_walk.specs.Records.{WalkStands}
-use Rattle.cert_file.specs.declared.file.CertFile.{CertFile}
+use Rattle.cert_file.specs.declared.file.RecordFile.{RecordFile}
 use Rattle.sample_files.specs.declared.several.Samples.{Samples}
 use Rattle.standing_files.specs.declared.verdict.TheConstants.{MAP_RULE}
 use Rattle.standing_files.specs.declared.verdict.Verdict.{Verdict}
 use Rattle.standing_files.specs.declared.verdict.Verdict.TheVariants.{Stands, Fails}
-use Rattle.standing_files.specs.Standing.{AreKindsOfOneRun, HasOneFrame, IsBrokenBlock, IsBrokenCut, IsBrokenRecord, IsBrokenWalk, IsCopied, IsLeftAt, IsWholeRule, LeaveAt, RecordsStand, TakesForm, cert_head, map_entries, map_output}
+use Rattle.standing_files.specs.Standing.{AreKindsOfOneRun, HasOneFrame, IsBrokenBlock, IsBrokenCut, IsBrokenRecord, IsBrokenWalk, IsCopied, IsLeftAt, IsWholeRule, LeaveAt, RecordsStand, TakesForm, record_file_head, map_entries, map_output}
 
 -- the first number below n without the property, if there is one
 abbrev pub FirstWithout : ℕ → (ℕ → Type 0) → Option ℕ → Type 0
@@ -36,10 +36,10 @@ IsRunCopied samples picture source p w = (j : ℕ) → j < w →
     IsCopied samples picture (source (plus p (spot j 0 0))) (plus p (spot j 0 0))
 
 -- what the records ask for of files that go together
-pub record Suit (samples : Samples) (map_file : MapFile) (cert : CertFile) : Type 0 where
-  pub kinds : AreKindsOfOneRun map_file cert
-  pub takes : TakesForm cert samples.form
-  pub samples_are : sizes_of samples.volume ≡ (cert_head cert).samples
+pub record Suit (samples : Samples) (map_file : MapFile) (record_file : RecordFile) : Type 0 where
+  pub kinds : AreKindsOfOneRun map_file record_file
+  pub takes : TakesForm record_file samples.form
+  pub samples_are : sizes_of samples.volume ≡ (record_file_head record_file).samples
 
 -- records that stand don't leave this entry of the map file first
 pub record LeaveOthers (Stand : Type 0) (n : ℕ) (Leave : ℕ → Type 0) (number rule place : ℕ)
@@ -80,8 +80,8 @@ JudgesWalk costs walk tables frames =
     (length walk) (HasOneFrame walk frames)
 
 -- the rules of the records, and whether they leave the map of the map file
-abbrev pub JudgesRecords : Cells → MapFile → CertFile → Verdict → Type 0
-JudgesRecords samples map_file cert =
-    JudgesBy (RecordsStand samples (map_output map_file) cert)
-    (IsBrokenRecord samples (map_output map_file) cert)
-    (map_entries map_file) (LeaveAt cert map_file)
+abbrev pub JudgesRecords : Cells → MapFile → RecordFile → Verdict → Type 0
+JudgesRecords samples map_file record_file =
+    JudgesBy (RecordsStand samples (map_output map_file) record_file)
+    (IsBrokenRecord samples (map_output map_file) record_file)
+    (map_entries map_file) (LeaveAt record_file map_file)

@@ -6,7 +6,7 @@ ghost use Rattle.cut_replay.specs.Replay.{IsFormed};
 ghost use Rattle.block_check.specs.Blocks.{IsFormedBlock};
 ghost use Rattle.frame_distance.specs.declared.table.TheConstants.{MOST_CLIP_CELLS};
 ghost use Rattle.loop_walk.specs.Tables.{IsLength, table_count};
-ghost use Rattle.cert_file.specs.RecordFiles.{IsCert};
+ghost use Rattle.cert_file.specs.RecordFiles.{IsRecordFile};
 ghost use Rattle.sample_files.specs.Several.{AreSoundSamples};
 ghost use Rattle.standing_files.specs.Standing.{HasOneFrame, HasOneSource, walk_costs};
 ghost use Rattle.standing_files.specs.Steps.{FirstWithout, JudgesBlocks, JudgesCuts, JudgesRecords, JudgesWalk, Suit, verdict_on_map};
@@ -15,7 +15,7 @@ use crate::verdict::{MAP_RULE, Verdict};
 use block_check::BlockRecord;
 use block_replay::{BlocksError, replay_blocks};
 use cells::{At, Taps, Volume};
-use cert_file::CertFile;
+use cert_file::RecordFile;
 use cut_check::CutRecord;
 use cut_replay::replay_cuts;
 use frame_distance::{distances, filtered};
@@ -166,24 +166,24 @@ pub(crate) fn judge_records(
     alloc: Global,
     samples: &Samples,
     map_file: &MapFile,
-    cert: &CertFile,
+    record_file: &RecordFile,
 ) -> Result<Verdict, AllocError>
-    requires cert { IsCert cert.now }
+    requires record_file { IsRecordFile record_file.now }
     requires sound { AreSoundSamples samples.now }
-    requires suit { Suit samples.now map_file.now cert.now }
-    ensures { IfOk result (JudgesRecords samples.now.volume map_file.now cert.now) }
+    requires suit { Suit samples.now map_file.now record_file.now }
+    ensures { IfOk result (JudgesRecords samples.now.volume map_file.now record_file.now) }
 {
     let volume = &samples.volume;
-    match (map_file, cert) {
-        (MapFile::Cells { map, .. }, CertFile::Cuts { cuts, .. }) => {
+    match (map_file, record_file) {
+        (MapFile::Cells { map, .. }, RecordFile::Cuts { cuts, .. }) => {
             judge_cuts(alloc, volume, map, cuts.as_slice())
         }
-        (MapFile::Cells { map, .. }, CertFile::Blocks { blocks, .. }) => {
+        (MapFile::Cells { map, .. }, RecordFile::Blocks { blocks, .. }) => {
             judge_blocks(alloc, volume, map, blocks.as_slice())
         }
         (
             MapFile::Frames { frames, .. },
-            CertFile::Walk {
+            RecordFile::Walk {
                 taps,
                 gap,
                 walk,

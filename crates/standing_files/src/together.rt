@@ -1,9 +1,9 @@
 // Whether files go together: their sizes, forms and kinds.
 ghost use Rattle.std.specs.Prelude.{◌≡◌, ◌↔◌, ◌∷◌, [], IsTrue};
-ghost use Rattle.standing_files.specs.Standing.{AreKindsOfOneRun, GoTogether, NamesSizes, TakesForm, cert_head, map_output, map_samples};
+ghost use Rattle.standing_files.specs.Standing.{AreKindsOfOneRun, GoTogether, NamesSizes, TakesForm, record_file_head, map_output, map_samples};
 
 use cells::{Size, Sizes};
-use cert_file::CertFile;
+use cert_file::RecordFile;
 use sample_files::{Form, Sample, Samples};
 use source_map::{Head, MapFile};
 
@@ -45,47 +45,47 @@ fn map_names_sizes(map_file: &MapFile, samples: &Sizes, out: &Sizes) -> bool
 }
 
 // The head of a record file.
-fn head_of(cert: &CertFile) -> &Head
-    ensures { result.now ≡ cert_head cert.now }
+fn head_of(record_file: &RecordFile) -> &Head
+    ensures { result.now ≡ record_file_head record_file.now }
 {
-    match cert {
-        CertFile::Cuts { head, .. } => head,
-        CertFile::Blocks { head, .. } => head,
-        CertFile::Walk { head, .. } => head,
+    match record_file {
+        RecordFile::Cuts { head, .. } => head,
+        RecordFile::Blocks { head, .. } => head,
+        RecordFile::Walk { head, .. } => head,
     }
 }
 
 // Whether a record file names them.
-fn cert_names_sizes(cert: &CertFile, samples: &Sizes, out: &Sizes) -> bool
+fn record_file_names_sizes(record_file: &RecordFile, samples: &Sizes, out: &Sizes) -> bool
     ensures { IsTrue result ↔ NamesSizes samples.now out.now
-        (cert_head cert.now).output (cert_head cert.now).samples }
+        (record_file_head record_file.now).output (record_file_head record_file.now).samples }
 {
-    let head = head_of(cert);
+    let head = head_of(record_file);
     is_one(out, head.output) && are_same(samples, &head.samples)
 }
 
 // Whether a record file goes with samples of a form: block records with pictures alone.
-fn takes_form(cert: &CertFile, form: &Form) -> bool
-    ensures { IsTrue result ↔ TakesForm cert.now form.now }
+fn takes_form(record_file: &RecordFile, form: &Form) -> bool
+    ensures { IsTrue result ↔ TakesForm record_file.now form.now }
 {
-    match (cert, form) {
-        (CertFile::Blocks { .. }, Form::Clip { .. }) => false,
-        (CertFile::Blocks { .. }, Form::Picture { .. }) => true,
-        (CertFile::Cuts { .. } | CertFile::Walk { .. }, _) => true,
+    match (record_file, form) {
+        (RecordFile::Blocks { .. }, Form::Clip { .. }) => false,
+        (RecordFile::Blocks { .. }, Form::Picture { .. }) => true,
+        (RecordFile::Cuts { .. } | RecordFile::Walk { .. }, _) => true,
     }
 }
 
 // Whether the kinds of a map file and a record file go together.
-fn are_kinds_of_one_run(map_file: &MapFile, cert: &CertFile) -> bool
-    ensures { IsTrue result ↔ AreKindsOfOneRun map_file.now cert.now }
+fn are_kinds_of_one_run(map_file: &MapFile, record_file: &RecordFile) -> bool
+    ensures { IsTrue result ↔ AreKindsOfOneRun map_file.now record_file.now }
 {
-    match (map_file, cert) {
-        (MapFile::Cells { .. }, CertFile::Cuts { .. }) => true,
-        (MapFile::Cells { .. }, CertFile::Blocks { .. }) => true,
-        (MapFile::Cells { .. }, CertFile::Walk { .. }) => false,
-        (MapFile::Frames { .. }, CertFile::Cuts { .. }) => false,
-        (MapFile::Frames { .. }, CertFile::Blocks { .. }) => false,
-        (MapFile::Frames { size, .. }, CertFile::Walk { walk, .. }) => {
+    match (map_file, record_file) {
+        (MapFile::Cells { .. }, RecordFile::Cuts { .. }) => true,
+        (MapFile::Cells { .. }, RecordFile::Blocks { .. }) => true,
+        (MapFile::Cells { .. }, RecordFile::Walk { .. }) => false,
+        (MapFile::Frames { .. }, RecordFile::Cuts { .. }) => false,
+        (MapFile::Frames { .. }, RecordFile::Blocks { .. }) => false,
+        (MapFile::Frames { size, .. }, RecordFile::Walk { walk, .. }) => {
             walk.as_slice().len() == size.f as usize
         }
     }
@@ -97,15 +97,15 @@ pub(crate) fn go_together(
     samples: &Samples,
     out: &Sample,
     map_file: &MapFile,
-    cert: &CertFile,
+    record_file: &RecordFile,
 ) -> bool
-    ensures { IsTrue result ↔ GoTogether samples.now out.now map_file.now cert.now }
+    ensures { IsTrue result ↔ GoTogether samples.now out.now map_file.now record_file.now }
 {
     let sizes = samples.volume.sizes();
     let out_sizes = out.volume.sizes();
     map_names_sizes(map_file, &sizes, &out_sizes)
-        && cert_names_sizes(cert, &sizes, &out_sizes)
+        && record_file_names_sizes(record_file, &sizes, &out_sizes)
         && samples.form.goes_with(&out.form)
-        && takes_form(cert, &samples.form)
-        && are_kinds_of_one_run(map_file, cert)
+        && takes_form(record_file, &samples.form)
+        && are_kinds_of_one_run(map_file, record_file)
 }

@@ -1,6 +1,6 @@
 // The verdict on the files of a run.
 ghost use Rattle.std.specs.Prelude.{◌≡◌, ◌↔◌, IfOk};
-ghost use Rattle.cert_file.specs.RecordFiles.{IsCert};
+ghost use Rattle.cert_file.specs.RecordFiles.{IsRecordFile};
 ghost use Rattle.sample_files.specs.Several.{AreSoundSamples};
 ghost use Rattle.standing_files.specs.Standing.{FilesStand, IsVerdict};
 ghost use Rattle.standing_files.specs.declared.verdict.Verdict.TheVariants.{Stands};
@@ -8,7 +8,7 @@ ghost use Rattle.standing_files.specs.declared.verdict.Verdict.TheVariants.{Stan
 use crate::picture::first_not_copied;
 use crate::records::judge_records;
 use crate::together::go_together;
-use cert_file::CertFile;
+use cert_file::RecordFile;
 use sample_files::{Sample, Samples};
 use source_map::MapFile;
 use std::alloc::{AllocError, Global};
@@ -45,22 +45,22 @@ pub fn judge(
     samples: &Samples,
     out: &Sample,
     map_file: &MapFile,
-    cert: &CertFile,
+    record_file: &RecordFile,
 ) -> Result<Verdict, AllocError>
-    requires cert { IsCert cert.now }
+    requires record_file { IsRecordFile record_file.now }
     requires sound { AreSoundSamples samples.now }
-    ensures verdict { IfOk result (IsVerdict samples.now out.now map_file.now cert.now) }
+    ensures verdict { IfOk result (IsVerdict samples.now out.now map_file.now record_file.now) }
     ensures stands { IfOk result (λ v.
-        (v ≡ Stands) ↔ FilesStand samples.now out.now map_file.now cert.now) }
+        (v ≡ Stands) ↔ FilesStand samples.now out.now map_file.now record_file.now) }
 {
-    if !go_together(samples, out, map_file, cert) {
+    if !go_together(samples, out, map_file, record_file) {
         return Ok(Verdict::Fails {
             number: 0,
             rule: TOGETHER_RULE,
             place: 0,
         });
     }
-    match judge_records(alloc, samples, map_file, cert)? {
+    match judge_records(alloc, samples, map_file, record_file)? {
         Verdict::Stands => {}
         fails => return Ok(fails),
     }

@@ -27,9 +27,9 @@ file_stem file.Target = codes "target"
 file_stem file.Marks = codes "marks"
 file_stem file.Out = codes "out"
 file_stem file.Map = codes "map"
-file_stem file.Cert = codes "record"
+file_stem file.Record = codes "record"
 file_stem file.NewMap = codes "newmap"
-file_stem file.NewCert = codes "newrecord"
+file_stem file.NewRecord = codes "newrecord"
 file_stem file.Report = codes "report"
 
 abbrev pub file_number : FileOf → Option ℕ

@@ -20,11 +20,11 @@ pub enum FileOf {
     Out,
     Map,
     /// The record.
-    Cert,
+    Record,
     /// The map that an upgrade writes.
     NewMap,
     /// The record that an upgrade writes.
-    NewCert,
+    NewRecord,
     Report,
 }
 
@@ -39,9 +39,9 @@ impl FileOf {
             FileOf::Marks => "marks",
             FileOf::Out => "out",
             FileOf::Map => "map",
-            FileOf::Cert => "record",
+            FileOf::Record => "record",
             FileOf::NewMap => "newmap",
-            FileOf::NewCert => "newrecord",
+            FileOf::NewRecord => "newrecord",
             FileOf::Report => "report",
         }
     }

@@ -3,7 +3,7 @@ ghost use Rattle.std.specs.Prelude.{IfOk};
 ghost use Rattle.sample_files.specs.Several.{AreSoundSamples};
 
 use block_check::{FIT_RULE, OVERLAP_RULE};
-use cert_file::read_cert;
+use cert_file::read_record_file;
 use cut_check::{FILL_RULE, VALUE_RULE};
 use loop_walk::{DIAGONAL_RULE, TABLES_RULE, WALK_RULE};
 use sample_files::{Sample, Samples, read_sample};
@@ -71,10 +71,10 @@ fn verdict_on(
         .ok()
         .ok_or("no picture")?;
     let map_file = read_map(alloc, &mut shelf, "m").ok().ok_or("no map")?;
-    let Ok(cert) = read_cert(alloc, &mut shelf, "r") else {
+    let Ok(record_file) = read_record_file(alloc, &mut shelf, "r") else {
         return Err(Fail::from("no record"));
     };
-    Ok(judge(alloc, &samples, &out, &map_file, &cert)?)
+    Ok(judge(alloc, &samples, &out, &map_file, &record_file)?)
 }
 
 // The sample, and the files of a run over it.

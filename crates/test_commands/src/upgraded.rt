@@ -61,7 +61,7 @@ const REFUSED: &[(&[u8], &[u8], FileOf, u64)] = &[
     (NEW_MAP, RECORD, FileOf::Map, 8),
     (b"WEAVEMAP\x02\x07", RECORD, FileOf::Map, 8),
     (b"WEAVEMAP\x01\x01", RECORD, FileOf::Map, 9),
-    (MAP, NEW_RECORD, FileOf::Cert, 8),
+    (MAP, NEW_RECORD, FileOf::Record, 8),
 ];
 
 // Why two files are refused.

@@ -1,7 +1,7 @@
 // The numbers of a file, in their order, from the version on. A choice is one number, whose first binary digit is
 // its first cell; a flow is two.
 use cells::{At, Size, Sizes};
-use cert_file::{BlockRecord, BoundaryRecord, CertFile, CutRecord, Head, Taps, Version};
+use cert_file::{BlockRecord, BoundaryRecord, CutRecord, Head, RecordFile, Taps, Version};
 use map_canvas::Map;
 use source_map::MapFile;
 use std::alloc::{AllocError, Global};
@@ -188,18 +188,18 @@ fn add_walk(
 }
 
 /// The numbers of a record file.
-pub fn numbers_of_record(alloc: Global, file: &CertFile) -> Result<Vec<i128>, AllocError> {
+pub fn numbers_of_record(alloc: Global, file: &RecordFile) -> Result<Vec<i128>, AllocError> {
     let mut numbers = Vec::new(alloc);
     match file {
-        CertFile::Cuts { head, cuts } => {
+        RecordFile::Cuts { head, cuts } => {
             add_head(head, 0, &mut numbers)?;
             add_cuts(head, cuts.as_slice(), &mut numbers)?;
         }
-        CertFile::Blocks { head, blocks } => {
+        RecordFile::Blocks { head, blocks } => {
             add_head(head, 1, &mut numbers)?;
             add_blocks(blocks.as_slice(), &mut numbers)?;
         }
-        CertFile::Walk {
+        RecordFile::Walk {
             head,
             taps,
             gap,

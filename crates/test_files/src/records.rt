@@ -1,5 +1,5 @@
 // Worked examples: record files to the byte, both ways, and files that are refused.
-use cert_file::{CertFile, Flow, Taps, read_cert, write_blocks, write_cuts, write_walk};
+use cert_file::{Flow, RecordFile, Taps, read_record_file, write_blocks, write_cuts, write_walk};
 use shelf_core::FormFault::Form;
 use shelf_core::ReadError::{Bad, Limit};
 use shelf_core::{MemShelf, ReadError, What};
@@ -58,15 +58,15 @@ pub(crate) fn changed(
 pub(crate) fn refusal(alloc: Global, bytes: &[u8]) -> Result<Option<ReadError>, AllocError> {
     let mut shelf = MemShelf::new(alloc);
     shelf.put_file("record", bytes)?;
-    Ok(read_cert(alloc, &mut shelf, "record").err())
+    Ok(read_record_file(alloc, &mut shelf, "record").err())
 }
 
 // Whether a file of cuts has this length, and is read and written again, byte by byte.
 fn is_written_again(alloc: Global, bytes: &[u8], length: usize) -> Result<bool, Fail> {
     let mut shelf = MemShelf::new(alloc);
     shelf.put_file("record", bytes)?;
-    let file = read_cert(alloc, &mut shelf, "record")?;
-    let CertFile::Cuts { head, cuts } = &file else {
+    let file = read_record_file(alloc, &mut shelf, "record")?;
+    let RecordFile::Cuts { head, cuts } = &file else {
         return Ok(false);
     };
     write_cuts(head, cuts.as_slice(), &mut shelf, "again")?;
@@ -86,8 +86,8 @@ fn fields(rt: HostRuntime) -> Result<(), Fail> {
     let alloc = rt.alloc();
     let mut shelf = MemShelf::new(alloc);
     shelf.put_file("record", ONE)?;
-    let file = read_cert(alloc, &mut shelf, "record")?;
-    let CertFile::Cuts { head, cuts } = &file else {
+    let file = read_record_file(alloc, &mut shelf, "record")?;
+    let RecordFile::Cuts { head, cuts } = &file else {
         return Err("no cuts".into());
     };
     let cut = cuts.as_slice().first().ok_or("no record")?;
@@ -188,8 +188,8 @@ fn walk_written_again(rt: HostRuntime) -> Result<(), Fail> {
     assert!(rt; WALK.len() == 111);
     let mut shelf = MemShelf::new(alloc);
     shelf.put_file("record", WALK)?;
-    let file = read_cert(alloc, &mut shelf, "record")?;
-    let CertFile::Walk {
+    let file = read_record_file(alloc, &mut shelf, "record")?;
+    let RecordFile::Walk {
         head,
         taps,
         gap,
@@ -274,8 +274,8 @@ fn blocks_written_again(rt: HostRuntime) -> Result<(), Fail> {
     assert!(rt; BLOCKS.len() == 126);
     let mut shelf = MemShelf::new(alloc);
     shelf.put_file("record", BLOCKS)?;
-    let file = read_cert(alloc, &mut shelf, "record")?;
-    let CertFile::Blocks { head, blocks } = &file else {
+    let file = read_record_file(alloc, &mut shelf, "record")?;
+    let RecordFile::Blocks { head, blocks } = &file else {
         return Err("no blocks".into());
     };
     let [_, block] = blocks.as_slice() else {

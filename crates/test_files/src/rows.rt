@@ -1,6 +1,6 @@
 // The rows of a table, and whether the readers answer as they say.
 use crate::numbers::{numbers_of_map, numbers_of_record};
-use cert_file::read_cert;
+use cert_file::read_record_file;
 use shelf_core::{FormFault, MemShelf, ReadError, What};
 use source_map::read_map;
 use std::alloc::{AllocError, Global};
@@ -52,7 +52,7 @@ fn read_as(alloc: Global, reader: Reader, bytes: &[u8]) -> Result<Found, AllocEr
             Ok(file) => Ok(Found::Numbers(numbers_of_map(alloc, &file)?)),
             Err(error) => Ok(Found::Refused(error)),
         },
-        Reader::OfRecords => match read_cert(alloc, &mut shelf, "file") {
+        Reader::OfRecords => match read_record_file(alloc, &mut shelf, "file") {
             Ok(file) => Ok(Found::Numbers(numbers_of_record(alloc, &file)?)),
             Err(error) => Ok(Found::Refused(error)),
         },

@@ -41,7 +41,7 @@ const REFUSED: &[(&[&str], WordFault)] = &[
     ),
     (
         &["transfer", "map=d", "out=c", "target=b", "sample=a"],
-        WordFault::Missing(Key::Cert),
+        WordFault::Missing(Key::Record),
     ),
     (
         &["transfer", "target=a", "sample=a"],
@@ -165,7 +165,7 @@ fn has_files(job: &TransferJob) -> bool {
         && is_name(&job.target, "t")
         && is_name(&job.names.out, "o")
         && is_name(&job.names.map, "m")
-        && is_name(&job.names.cert, "r")
+        && is_name(&job.names.record_file, "r")
 }
 
 // The numbers of a job of `transfer`: block, overlap, tolerance, weight and seed.

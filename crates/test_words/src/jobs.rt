@@ -152,7 +152,7 @@ struct Grown<'a> {
     more: &'a [&'a str],
     out: &'a str,
     map: &'a str,
-    cert: &'a str,
+    record_file: &'a str,
     size: Size,
     place: Place,
     side: u32,
@@ -177,7 +177,7 @@ fn is_grown(job: &GrowJob, of: &Grown) -> bool {
         && are_names(job.names.more.as_slice(), of.more)
         && is_name(&job.names.out, of.out)
         && is_name(&job.names.map, of.map)
-        && is_name(&job.names.cert, of.cert)
+        && is_name(&job.names.record_file, of.record_file)
         && job.size == of.size
         && job.place == of.place
         && job.side == of.side
@@ -190,7 +190,7 @@ fn is_grown(job: &GrowJob, of: &Grown) -> bool {
 fn is_quilted(job: &QuiltJob) -> bool {
     job.names.more.as_slice().is_empty()
         && is_name(&job.names.map, "m")
-        && is_name(&job.names.cert, "r")
+        && is_name(&job.names.record_file, "r")
         && job.w == 3
         && job.h == 2
         && job.block == 32
@@ -205,9 +205,9 @@ fn is_looped(job: &LoopJob) -> bool {
 
 fn is_lifted(job: &UpgradeJob) -> bool {
     is_name(&job.map, "a")
-        && is_name(&job.cert, "b")
+        && is_name(&job.record_file, "b")
         && is_name(&job.new_map, "c")
-        && is_name(&job.new_cert, "d")
+        && is_name(&job.new_record_file, "d")
 }
 
 // Whether a job has what its words say. The one `match` on jobs is here, since each is dear to prove.
@@ -234,7 +234,7 @@ const DEFAULTS: Grown<'static> = Grown {
     more: &[],
     out: "place",
     map: "größe=x",
-    cert: "d",
+    record_file: "d",
     size: Size {
         w: 4096,
         h: 7,
@@ -253,7 +253,7 @@ const WHOLE: Grown<'static> = Grown {
     more: &["b", "c"],
     out: "o",
     map: "m",
-    cert: "r",
+    record_file: "r",
     size: Size { w: 2, h: 1, f: 3 },
     place: Place::Random,
     side: 4096,

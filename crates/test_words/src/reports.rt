@@ -34,7 +34,7 @@ const LINES: &[(Fault, u8, &str)] = &[
         "weave: missing key sample\n",
     ),
     (
-        Fault::Words(WordFault::Missing(Key::Cert)),
+        Fault::Words(WordFault::Missing(Key::Record)),
         2,
         "weave: missing key record\n",
     ),
@@ -178,11 +178,15 @@ const LINES: &[(Fault, u8, &str)] = &[
         5,
         "weave: sample: read fault\n",
     ),
-    (Fault::Read(FileOf::Cert), 5, "weave: record: read fault\n"),
+    (
+        Fault::Read(FileOf::Record),
+        5,
+        "weave: record: read fault\n",
+    ),
     (Fault::Write(FileOf::Out), 6, "weave: out: write fault\n"),
     (Fault::Write(FileOf::Map), 6, "weave: map: write fault\n"),
     (
-        Fault::Write(FileOf::Cert),
+        Fault::Write(FileOf::Record),
         6,
         "weave: record: write fault\n",
     ),

@@ -16,9 +16,9 @@ use Rattle.source_map.specs.declared.map_file.MapFile.TheVariants.{Cells as Cell
 use Rattle.source_map.specs.MapFiles.{cell_map_form, map_read}
 use Rattle.source_map.proofs.VersionOne as maps
 use Rattle.cut_check.specs.declared.record.CutRecord.{CutRecord}
-use Rattle.cert_file.specs.declared.file.CertFile.{CertFile}
-use Rattle.cert_file.specs.declared.file.CertFile.TheVariants.{Cuts}
-use Rattle.cert_file.specs.RecordFiles.{AreVersionOneCuts, IsCertOf, cert_read, cuts_form}
+use Rattle.cert_file.specs.declared.file.RecordFile.{RecordFile}
+use Rattle.cert_file.specs.declared.file.RecordFile.TheVariants.{Cuts}
+use Rattle.cert_file.specs.RecordFiles.{AreVersionOneCuts, IsRecordFileOf, record_file_read, cuts_form}
 use Rattle.cert_file.proofs.VersionOne as records
 use Rattle.job_words.specs.declared.job.Names.{Names}
 use Rattle.job_words.specs.declared.upgrade.UpgradeJob.{UpgradeJob}
@@ -43,22 +43,22 @@ same_value r x y p q = let both : Ok x ≡ Ok y = sym p ∙ q in cc
 
 -- The verdict on one pair is that on the same pair in other versions.
 
-module _ (files : Files) (map cert other_map other_cert : List ℕ) (m : SourceMap) (sizes : List Size) (version other : Version) (head : Head) (of_cert : Version) (cuts : List CutRecord)
+module _ (files : Files) (map record_file other_map other_record_file : List ℕ) (m : SourceMap) (sizes : List Size) (version other : Version) (head : Head) (of_record_file : Version) (cuts : List CutRecord)
     (map_is : map_read (content_of files map) ≡ Ok (CellMap m sizes version)) (other_map_is : map_read (content_of files other_map) ≡ Ok (CellMap m sizes other))
-    (cert_is : IsCertOf (content_of files cert) (Cuts head cuts)) (other_cert_is : IsCertOf (content_of files other_cert) (Cuts (record head { version = of_cert }) cuts)) where
-  moved : (names : Names) (values : ReadFiles) → AreRunFiles (with_pair names map cert) files values → (verdict : Verdict) → IsVerdict values.samples values.out values.map values.cert verdict
-      → (there : ReadFiles) × AreRunFiles (with_pair names other_map other_cert) files there × IsVerdict there.samples there.out there.map there.cert verdict
+    (record_file_is : IsRecordFileOf (content_of files record_file) (Cuts head cuts)) (other_record_file_is : IsRecordFileOf (content_of files other_record_file) (Cuts (record head { version = of_record_file }) cuts)) where
+  moved : (names : Names) (values : ReadFiles) → AreRunFiles (with_pair names map record_file) files values → (verdict : Verdict) → IsVerdict values.samples values.out values.map values.record_file verdict
+      → (there : ReadFiles) × AreRunFiles (with_pair names other_map other_record_file) files there × IsVerdict there.samples there.out there.map there.record_file verdict
   moved names values read verdict judged =
       let map_same : values.map ≡ CellMap m sizes version = same_value {T = MapFile} (map_read (content_of files map)) values.map (CellMap m sizes version) read.map map_is in
-      let cert_same : values.cert ≡ Cuts head cuts = same_value {T = CertFile} (cert_read (content_of files cert)) values.cert (Cuts head cuts) read.cert cert_is in
-      let here = subst (λ c. IsVerdict values.samples values.out (CellMap m sizes version) c verdict) cert_same (subst (λ v. IsVerdict values.samples values.out v values.cert verdict) map_same judged) in
-      let there : ReadFiles = record { samples = values.samples; out = values.out; map = CellMap m sizes other; cert = Cuts (record head { version = of_cert }) cuts } in
-      (there, record { samples = read.samples; out = read.out; map = other_map_is; cert = other_cert_is }, any_versions values.samples values.out m sizes version head cuts verdict other of_cert here)
+      let record_file_same : values.record_file ≡ Cuts head cuts = same_value {T = RecordFile} (record_file_read (content_of files record_file)) values.record_file (Cuts head cuts) read.record_file record_file_is in
+      let here = subst (λ c. IsVerdict values.samples values.out (CellMap m sizes version) c verdict) record_file_same (subst (λ v. IsVerdict values.samples values.out v values.record_file verdict) map_same judged) in
+      let there : ReadFiles = record { samples = values.samples; out = values.out; map = CellMap m sizes other; record_file = Cuts (record head { version = of_record_file }) cuts } in
+      (there, record { samples = read.samples; out = read.out; map = other_map_is; record_file = other_record_file_is }, any_versions values.samples values.out m sizes version head cuts verdict other of_record_file here)
 
-  pub stands_too : (names : Names) → Stand (with_pair names map cert) files → Stand (with_pair names other_map other_cert) files
+  pub stands_too : (names : Names) → Stand (with_pair names map record_file) files → Stand (with_pair names other_map other_record_file) files
   stands_too names s = let there = moved names s.values s.read Stands s.stand in record { values = there.0; read = there.1; stand = there.2 }
 
-  pub breaks_too : (names : Names) (number rule place : ℕ) → Break (with_pair names map cert) files number rule place → Break (with_pair names other_map other_cert) files number rule place
+  pub breaks_too : (names : Names) (number rule place : ℕ) → Break (with_pair names map record_file) files number rule place → Break (with_pair names other_map other_record_file) files number rule place
   breaks_too names number rule place b = let there = moved names b.values b.read (Fails number rule place) b.broken in record { values = there.0; read = there.1; broken = there.2 }
 
 -- one size alone
@@ -82,7 +82,7 @@ module _ (job : UpgradeJob) (lawful : IsUpgradeJob job) (before after : Files) (
   abbrev with_map : Files
   with_map = insert before job.new_map map_text
 
-  whole : after ≡ insert with_map job.new_cert cuts_text
+  whole : after ≡ insert with_map job.new_record_file cuts_text
   whole = wrote ∙ ap (λ ts. written (pieces (upgrade_command job).writes ts) before) makes.texts_are
 
   apart : (i j : ℕ) → i < j → j < 4 → get_or (upgrade_names job) i [] ≢ get_or (upgrade_names job) j []
@@ -91,29 +91,29 @@ module _ (job : UpgradeJob) (lawful : IsUpgradeJob job) (before after : Files) (
   map_not_map : job.map ≢ job.new_map
   map_not_map = apart 0 2 (omega arith) (omega arith)
 
-  map_not_cert : job.map ≢ job.new_cert
-  map_not_cert = apart 0 3 (omega arith) (omega arith)
+  map_not_record_file : job.map ≢ job.new_record_file
+  map_not_record_file = apart 0 3 (omega arith) (omega arith)
 
-  cert_not_map : job.cert ≢ job.new_map
-  cert_not_map = apart 1 2 (omega arith) (omega arith)
+  record_file_not_map : job.record_file ≢ job.new_map
+  record_file_not_map = apart 1 2 (omega arith) (omega arith)
 
-  cert_not_cert : job.cert ≢ job.new_cert
-  cert_not_cert = apart 1 3 (omega arith) (omega arith)
+  record_file_not_record_file : job.record_file ≢ job.new_record_file
+  record_file_not_record_file = apart 1 3 (omega arith) (omega arith)
 
-  new_names : job.new_map ≢ job.new_cert
+  new_names : job.new_map ≢ job.new_record_file
   new_names = apart 2 3 (omega arith) (omega arith)
 
-  stays : (name : List ℕ) → name ≢ job.new_map → name ≢ job.new_cert → get after name ≡ get before name
-  stays name not_map not_cert = ap (λ files. get files name) whole ∙ get_beside with_map job.new_cert cuts_text name not_cert ∙ get_beside before job.new_map map_text name not_map
+  stays : (name : List ℕ) → name ≢ job.new_map → name ≢ job.new_record_file → get after name ≡ get before name
+  stays name not_map not_record_file = ap (λ files. get files name) whole ∙ get_beside with_map job.new_record_file cuts_text name not_record_file ∙ get_beside before job.new_map map_text name not_map
 
-  as_before : (name : List ℕ) → name ≢ job.new_map → name ≢ job.new_cert → content_of after name ≡ content_of before name
-  as_before name not_map not_cert = ap (λ o. unwrap_or o []) (stays name not_map not_cert)
+  as_before : (name : List ℕ) → name ≢ job.new_map → name ≢ job.new_record_file → content_of after name ≡ content_of before name
+  as_before name not_map not_record_file = ap (λ o. unwrap_or o []) (stays name not_map not_record_file)
 
   new_map : content_of after job.new_map ≡ map_text
-  new_map = ap (λ files. content_of files job.new_map) whole ∙ content_beside with_map job.new_cert cuts_text job.new_map new_names ∙ content_inserted before job.new_map map_text
+  new_map = ap (λ files. content_of files job.new_map) whole ∙ content_beside with_map job.new_record_file cuts_text job.new_map new_names ∙ content_inserted before job.new_map map_text
 
-  new_cert : content_of after job.new_cert ≡ cuts_text
-  new_cert = ap (λ files. content_of files job.new_cert) whole ∙ content_inserted with_map job.new_cert cuts_text
+  new_record_file : content_of after job.new_record_file ≡ cuts_text
+  new_record_file = ap (λ files. content_of files job.new_record_file) whole ∙ content_inserted with_map job.new_record_file cuts_text
 
   old_map_read : map_read (content_of before job.map) ≡ Ok (CellMap pair.map pair.samples One)
   old_map_read = maps.version_one_is_read (content_of before job.map) (CellMap pair.map pair.samples One) makes.held.map_is
@@ -121,24 +121,24 @@ module _ (job : UpgradeJob) (lawful : IsUpgradeJob job) (before after : Files) (
   new_map_read : map_read (content_of after job.new_map) ≡ Ok (CellMap pair.map pair.samples Two)
   new_map_read = ap map_read new_map ∙ map_again pair makes.sound
 
-  old_cuts : IsCertOf (content_of before job.cert) (Cuts pair.head pair.cuts) × AreVersionOneCuts (Cuts pair.head pair.cuts)
-  old_cuts = records.version_one_is_read (content_of before job.cert) (Cuts pair.head pair.cuts) makes.held.cuts_are
+  old_cuts : IsRecordFileOf (content_of before job.record_file) (Cuts pair.head pair.cuts) × AreVersionOneCuts (Cuts pair.head pair.cuts)
+  old_cuts = records.version_one_is_read (content_of before job.record_file) (Cuts pair.head pair.cuts) makes.held.cuts_are
 
-  new_cuts_read : IsCertOf (content_of after job.new_cert) (Cuts (in_version_two pair.head) pair.cuts)
-  new_cuts_read = ap cert_read new_cert ∙ cuts_read_again pair makes.sound
+  new_cuts_read : IsRecordFileOf (content_of after job.new_record_file) (Cuts (in_version_two pair.head) pair.cuts)
+  new_cuts_read = ap record_file_read new_record_file ∙ cuts_read_again pair makes.sound
 
   old_map_stays : map_read (content_of after job.map) ≡ Ok (CellMap pair.map pair.samples One)
-  old_map_stays = ap map_read (as_before job.map map_not_map map_not_cert) ∙ old_map_read
+  old_map_stays = ap map_read (as_before job.map map_not_map map_not_record_file) ∙ old_map_read
 
-  old_cuts_stay : IsCertOf (content_of after job.cert) (Cuts pair.head pair.cuts)
-  old_cuts_stay = ap cert_read (as_before job.cert cert_not_map cert_not_cert) ∙ old_cuts.0
+  old_cuts_stay : IsRecordFileOf (content_of after job.record_file) (Cuts pair.head pair.cuts)
+  old_cuts_stay = ap record_file_read (as_before job.record_file record_file_not_map record_file_not_record_file) ∙ old_cuts.0
 
-  verdicts : HaveOneVerdict after job.map job.cert job.new_map job.new_cert
+  verdicts : HaveOneVerdict after job.map job.record_file job.new_map job.new_record_file
   verdicts = record {
-    stands = stands_too after job.map job.cert job.new_map job.new_cert pair.map pair.samples One Two pair.head Two pair.cuts old_map_stays new_map_read old_cuts_stay new_cuts_read;
-    stood = stands_too after job.new_map job.new_cert job.map job.cert pair.map pair.samples Two One (in_version_two pair.head) pair.head.version pair.cuts new_map_read old_map_stays new_cuts_read old_cuts_stay;
-    breaks = breaks_too after job.map job.cert job.new_map job.new_cert pair.map pair.samples One Two pair.head Two pair.cuts old_map_stays new_map_read old_cuts_stay new_cuts_read;
-    broken = breaks_too after job.new_map job.new_cert job.map job.cert pair.map pair.samples Two One (in_version_two pair.head) pair.head.version pair.cuts new_map_read old_map_stays new_cuts_read old_cuts_stay;
+    stands = stands_too after job.map job.record_file job.new_map job.new_record_file pair.map pair.samples One Two pair.head Two pair.cuts old_map_stays new_map_read old_cuts_stay new_cuts_read;
+    stood = stands_too after job.new_map job.new_record_file job.map job.record_file pair.map pair.samples Two One (in_version_two pair.head) pair.head.version pair.cuts new_map_read old_map_stays new_cuts_read old_cuts_stay;
+    breaks = breaks_too after job.map job.record_file job.new_map job.new_record_file pair.map pair.samples One Two pair.head Two pair.cuts old_map_stays new_map_read old_cuts_stay new_cuts_read;
+    broken = breaks_too after job.new_map job.new_record_file job.map job.record_file pair.map pair.samples Two One (in_version_two pair.head) pair.head.version pair.cuts new_map_read old_map_stays new_cuts_read old_cuts_stay;
   }
 
   pair_upgraded : (cells count : ℕ) → said ≡ Upgrade cells count → IsUpgraded job cells count before after
@@ -156,10 +156,10 @@ module _ (job : UpgradeJob) (lawful : IsUpgradeJob job) (before after : Files) (
         cells_are = cc;
         head = pair.head;
         cuts = pair.cuts;
-        records = record { version = old_cuts.1; read = old_cuts.0; written = new_cert; read_again = new_cuts_read };
+        records = record { version = old_cuts.1; read = old_cuts.0; written = new_record_file; read_again = new_cuts_read };
         count_is = cc;
-        map_stays = stays job.map map_not_map map_not_cert;
-        record_stays = stays job.cert cert_not_map cert_not_cert;
+        map_stays = stays job.map map_not_map map_not_record_file;
+        record_stays = stays job.record_file record_file_not_map record_file_not_record_file;
         others = stays;
         verdicts = verdicts;
       }

@@ -30,13 +30,13 @@ one_refused read its bytes first second a b = a.2 ∙ ap (fault_of_read its) (on
 module _ (job : UpgradeJob) (files : Files) where
   unrefused : (pair : Pair) → HoldPair job files pair → (n : ℕ) (fault : Fault) → RefusesPair job n files fault → ⊥
   unrefused pair held n fault (inl r) = not_both (version_one_map_read (content_of files job.map)) _ r.refused.0 held.map_is r.refused.1
-  unrefused pair held n fault (inr r) = not_both (version_one_cuts_read (content_of files job.cert)) _ r.refused.0 held.cuts_are r.refused.1
+  unrefused pair held n fault (inr r) = not_both (version_one_cuts_read (content_of files job.record_file)) _ r.refused.0 held.cuts_are r.refused.1
 
   one_fault : (m n : ℕ) (first second : Fault) → RefusesPair job m files first → RefusesPair job n files second → first ≡ second
   one_fault m n first second (inl a) (inl b) = one_refused version_one_map_read part.Map (content_of files job.map) first second a.refused b.refused
   one_fault m n first second (inl a) (inr b) = absurd (not_both (version_one_map_read (content_of files job.map)) b.before.0 a.refused.0 b.before.1 a.refused.1)
   one_fault m n first second (inr a) (inl b) = absurd (not_both (version_one_map_read (content_of files job.map)) a.before.0 b.refused.0 a.before.1 b.refused.1)
-  one_fault m n first second (inr a) (inr b) = one_refused version_one_cuts_read part.Cert (content_of files job.cert) first second a.refused b.refused
+  one_fault m n first second (inr a) (inr b) = one_refused version_one_cuts_read part.Record (content_of files job.record_file) first second a.refused b.refused
 
 pub upgrade_has_one_answer : (job : UpgradeJob) → HasOneAnswer (upgrade_command job)
 upgrade_has_one_answer job = record {

@@ -11,10 +11,10 @@ use Rattle.source_map.specs.declared.head.Version.TheVariants.{One}
 use Rattle.source_map.specs.declared.map_file.MapFile.{MapFile}
 use Rattle.source_map.specs.declared.map_file.MapFile.TheVariants.{Cells as CellMap}
 use Rattle.source_map.specs.MapFiles.{IsMapFile}
-use Rattle.cert_file.specs.declared.file.CertFile.{CertFile}
-use Rattle.cert_file.specs.declared.file.CertFile.TheVariants.{Cuts}
+use Rattle.cert_file.specs.declared.file.RecordFile.{RecordFile}
+use Rattle.cert_file.specs.declared.file.RecordFile.TheVariants.{Cuts}
 use Rattle.cert_file.specs.CutForms.{HasShortFlows}
-use Rattle.cert_file.specs.RecordFiles.{AreCutsInLimits, ReadsCertBy, version_one_cuts_read}
+use Rattle.cert_file.specs.RecordFiles.{AreCutsInLimits, ReadsRecordFileBy, version_one_cuts_read}
 use Rattle.job_words.specs.declared.upgrade.UpgradeJob.{UpgradeJob}
 use Rattle.synth_report.specs.declared.fault.Fault.{Fault}
 use Rattle.synth_report.specs.declared.fault.FileOf.TheVariants as part
@@ -34,10 +34,10 @@ of_file P name a None same holds = tt
 of_file P name None (Some now) same holds = absurd same
 of_file P name (Some was) (Some now) same holds = subst (λ files. P (content_of files name)) same holds
 
-pub cuts_seen : {names : List (List ℕ)} (name : List ℕ) (a b : ShelfState) (file : CertFile) → OnlyReads names a b → ReadsCertBy version_one_cuts_read name a b (Ok file) → InFile name a b (λ bytes. AreFirstCuts bytes file)
+pub cuts_seen : {names : List (List ℕ)} (name : List ℕ) (a b : ShelfState) (file : RecordFile) → OnlyReads names a b → ReadsRecordFileBy version_one_cuts_read name a b (Ok file) → InFile name a b (λ bytes. AreFirstCuts bytes file)
 cuts_seen name a b file reads is = of_file (λ bytes. AreFirstCuts bytes file) name a.files b.files reads.files is
 
-pub cuts_fail : {names : List (List ℕ)} (name : List ℕ) (a b : ShelfState) → OnlyReads names a b → (error : ReadError) → ReadsCertBy version_one_cuts_read name a b (Err error) → FailsToRead RefusesFirstCuts name a b error
+pub cuts_fail : {names : List (List ℕ)} (name : List ℕ) (a b : ShelfState) → OnlyReads names a b → (error : ReadError) → ReadsRecordFileBy version_one_cuts_read name a b (Err error) → FailsToRead RefusesFirstCuts name a b error
 cuts_fail name a b reads ReadFault left = left
 cuts_fail name a b reads ReadMemory left = tt
 cuts_fail name a b reads (Bad why) left = of_file (λ bytes. RefusesFirstCuts bytes (Bad why)) name a.files b.files reads.files left
@@ -53,10 +53,10 @@ fails_later Refuses name a b c reads (ReadLimit what number bound) left = sees_l
 module _ (job : UpgradeJob) where
   -- what asks for one of the two files asks for no other than them
   pub of_map : (a b : ShelfState) → OnlyReadsFile job.map a b → OnlyReads (names_in (upgrade_command job).reads) a b
-  of_map a b reads = only_reads_of_more a b (among_head job.map (job.cert ∷ [])) reads
+  of_map a b reads = only_reads_of_more a b (among_head job.map (job.record_file ∷ [])) reads
 
-  pub of_cert : (a b : ShelfState) → OnlyReadsFile job.cert a b → OnlyReads (names_in (upgrade_command job).reads) a b
-  of_cert a b reads = only_reads_of_more a b (among_rest job.map (job.cert ∷ [])) reads
+  pub of_record_file : (a b : ShelfState) → OnlyReadsFile job.record_file a b → OnlyReads (names_in (upgrade_command job).reads) a b
+  of_record_file a b reads = only_reads_of_more a b (among_rest job.map (job.record_file ∷ [])) reads
 
   none_before : (files : Files) → Unit {0} → NoneRefused (upgrade_command job) 0 files
   none_before files seen m fault le (inl r) = omega (arith, r.turn, le)
@@ -77,31 +77,31 @@ module _ (job : UpgradeJob) where
 
   -- the record isn't
   pub cuts_not_read : {names later : List (List ℕ)} (m : MapFile) (a b d : ShelfState) → OnlyReads names a b → OnlyReads later b d → InFile job.map a b (λ bytes. IsFirstMap bytes m) → (fault : Fault)
-      → IsNotRead RefusesFirstCuts part.Cert job.cert b d fault → NotMade (upgrade_command job) a d fault
+      → IsNotRead RefusesFirstCuts part.Record job.record_file b d fault → NotMade (upgrade_command job) a d fault
   cuts_not_read m a b d first second seen fault r = subst (NotMade (upgrade_command job) a d) (sym r.is)
-      (not_read (upgrade_command job) a d 1 part.Cert job.cert refl RefusesFirstCuts (HoldsFirstMap job) (λ why. tt) (λ what number bound. tt)
+      (not_read (upgrade_command job) a d 1 part.Record job.record_file refl RefusesFirstCuts (HoldsFirstMap job) (λ why. tt) (λ what number bound. tt)
       (λ files refusal have refuses. inr (record { turn = refl; before = have; refused = (refusal, refuses, refl) })) after_map
-      (sees_earlier (HoldsFirstMap job) a b d (map_seen m a b seen) second) r.error (fails_later RefusesFirstCuts job.cert a b d first r.error r.fails))
+      (sees_earlier (HoldsFirstMap job) a b d (map_seen m a b seen) second) r.error (fails_later RefusesFirstCuts job.record_file a b d first r.error r.fails))
 
 -- what the readers of both files say
-pub sound_pair : (map_file : MapFile) (cert : CertFile) (pair : Pair) → map_file ≡ CellMap pair.map pair.samples One → cert ≡ Cuts pair.head pair.cuts
-    → IsMapFile map_file → Rattle.cert_file.specs.RecordFiles.IsCert cert → All HasShortFlows pair.cuts → IsSoundPair pair
-sound_pair map_file cert pair map_is cert_is lawful limits flows = record {
+pub sound_pair : (map_file : MapFile) (record_file : RecordFile) (pair : Pair) → map_file ≡ CellMap pair.map pair.samples One → record_file ≡ Cuts pair.head pair.cuts
+    → IsMapFile map_file → Rattle.cert_file.specs.RecordFiles.IsRecordFile record_file → All HasShortFlows pair.cuts → IsSoundPair pair
+sound_pair map_file record_file pair map_is record_file_is lawful limits flows = record {
   map_is = subst IsMapFile map_is lawful;
-  cuts_are = subst Rattle.cert_file.specs.RecordFiles.IsCert cert_is limits;
+  cuts_are = subst Rattle.cert_file.specs.RecordFiles.IsRecordFile record_file_is limits;
   flows = flows;
 }
 
 -- and what is made of them
-pub pair_made : (job : UpgradeJob) (map_file : MapFile) (cert : CertFile) (pair : Pair) (a b d : ShelfState) → OnlyReadsFile job.map a b → OnlyReadsFile job.cert b d → map_file ≡ CellMap pair.map pair.samples One → cert ≡ Cuts pair.head pair.cuts
-    → InFile job.map a b (λ bytes. IsFirstMap bytes map_file) → InFile job.cert b d (λ bytes. AreFirstCuts bytes cert) → IsSoundPair pair
+pub pair_made : (job : UpgradeJob) (map_file : MapFile) (record_file : RecordFile) (pair : Pair) (a b d : ShelfState) → OnlyReadsFile job.map a b → OnlyReadsFile job.record_file b d → map_file ≡ CellMap pair.map pair.samples One → record_file ≡ Cuts pair.head pair.cuts
+    → InFile job.map a b (λ bytes. IsFirstMap bytes map_file) → InFile job.record_file b d (λ bytes. AreFirstCuts bytes record_file) → IsSoundPair pair
     → IsPlanned (upgrade_command job) (pair_files job pair) (pair_summary pair) a d
-pair_made job map_file cert pair a b d first second map_is cert_is has_map has_cuts sound = record {
+pair_made job map_file record_file pair a b d first second map_is record_file_is has_map has_cuts sound = record {
   known = (_, _, refl);
   named = refl;
   made = told_weaker (λ before after. (after ≡ before) × HoldPair job before pair) (λ before after. (after ≡ before) × MakesPair job before (texts_in (pair_files job pair)) (pair_summary pair)) a.files d.files
       (λ before after s. (s.0, record { pair = pair; held = s.1; sound = sound; texts_are = refl; summary_is = refl }))
-      (told_both (λ before after. after ≡ before) (λ before after. HoldPair job before pair) a.files d.files (only_reads_then a b d (of_map job a b first) (of_cert job b d second)).files
-      (sees_then (λ files. IsFirstMap (content_of files job.map) map_file) (λ files. AreFirstCuts (content_of files job.cert) cert) (λ files. HoldPair job files pair) a b d
-      (λ files m c. record { map_is = m ∙ ap (λ v. Ok v) map_is; cuts_are = c ∙ ap (λ v. Ok v) cert_is }) first second has_map has_cuts));
+      (told_both (λ before after. after ≡ before) (λ before after. HoldPair job before pair) a.files d.files (only_reads_then a b d (of_map job a b first) (of_record_file job b d second)).files
+      (sees_then (λ files. IsFirstMap (content_of files job.map) map_file) (λ files. AreFirstCuts (content_of files job.record_file) record_file) (λ files. HoldPair job files pair) a b d
+      (λ files m c. record { map_is = m ∙ ap (λ v. Ok v) map_is; cuts_are = c ∙ ap (λ v. Ok v) record_file_is }) first second has_map has_cuts));
 }

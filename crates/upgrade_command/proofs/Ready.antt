@@ -8,8 +8,8 @@ use Rattle.source_map.specs.declared.map_file.MapFile.TheVariants.{Cells as Cell
 use Rattle.source_map.specs.Heads.{AreSamples}
 use Rattle.source_map.specs.MapFiles.{IsWritable, cell_map_form, map_read}
 use Rattle.source_map.proofs.MapsAgain as maps
-use Rattle.cert_file.specs.RecordFiles.{AreCutsInForm, IsCertOf, cuts_form}
-use Rattle.cert_file.specs.declared.file.CertFile.TheVariants.{Cuts}
+use Rattle.cert_file.specs.RecordFiles.{AreCutsInForm, IsRecordFileOf, cuts_form}
+use Rattle.cert_file.specs.declared.file.RecordFile.TheVariants.{Cuts}
 use Rattle.cert_file.proofs.CutsAgain.{cuts_again}
 use Rattle.upgrade_command.specs.declared.pair.Pair.{Pair}
 use Rattle.upgrade_command.specs.Upgrades.{IsSoundPair, in_version_two}
@@ -40,5 +40,5 @@ module _ (pair : Pair) (sound : IsSoundPair pair) where
     each = sound.cuts_are.form.each;
   }
 
-  pub cuts_read_again : IsCertOf (cuts_form (in_version_two pair.head) pair.cuts) (Cuts (in_version_two pair.head) pair.cuts)
+  pub cuts_read_again : IsRecordFileOf (cuts_form (in_version_two pair.head) pair.cuts) (Cuts (in_version_two pair.head) pair.cuts)
   cuts_read_again = cuts_again (in_version_two pair.head) pair.cuts (record { form = cuts_ready; cells = sound.cuts_are.cells }) sound.flows

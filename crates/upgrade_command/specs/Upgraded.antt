@@ -11,8 +11,8 @@ use Rattle.source_map.specs.declared.head.Version.TheVariants.{One, Two}
 use Rattle.source_map.specs.declared.map_file.MapFile.TheVariants.{Cells as CellMap}
 use Rattle.source_map.specs.MapFiles.{cell_map_form, map_read}
 use Rattle.cut_check.specs.declared.record.CutRecord.{CutRecord}
-use Rattle.cert_file.specs.declared.file.CertFile.TheVariants.{Cuts}
-use Rattle.cert_file.specs.RecordFiles.{IsCertOf, cuts_form}
+use Rattle.cert_file.specs.declared.file.RecordFile.TheVariants.{Cuts}
+use Rattle.cert_file.specs.RecordFiles.{IsRecordFileOf, cuts_form}
 use Rattle.job_words.specs.declared.job.Job.TheVariants.{Upgrade}
 use Rattle.job_words.specs.declared.job.Names.{Names}
 use Rattle.job_words.specs.declared.upgrade.UpgradeJob.{UpgradeJob}
@@ -35,26 +35,27 @@ pub record AreOneMap (before after : Files) (first other : List ℕ) (map : Sour
 pub record AreOneRecord (before after : Files) (first other : List ℕ) (head : Head)
     (cuts : List CutRecord) : Type 0 where
   pub version : head.version ≡ One
-  pub read : IsCertOf (content_of before first) (Cuts head cuts)
+  pub read : IsRecordFileOf (content_of before first) (Cuts head cuts)
   pub written : content_of after other ≡ cuts_form (in_version_two head) cuts
-  pub read_again : IsCertOf (content_of after other) (Cuts (in_version_two head) cuts)
+  pub read_again : IsRecordFileOf (content_of after other) (Cuts (in_version_two head) cuts)
 
 -- the names of a run, with another map and another record
 abbrev pub with_pair : Names → List ℕ → List ℕ → Names
-with_pair names map cert = record names { map = map; cert = cert }
+with_pair names map record_file = record names { map = map; record_file = record_file }
 
 -- of two pairs of a map and a record `check` says the same, whatever the samples and the out file
-pub record HaveOneVerdict (files : Files) (map cert other_map other_cert : List ℕ) : Type 0 where
-  pub stands : (names : Names) → Stand (with_pair names map cert) files
-      → Stand (with_pair names other_map other_cert) files
-  pub stood : (names : Names) → Stand (with_pair names other_map other_cert) files
-      → Stand (with_pair names map cert) files
+pub record HaveOneVerdict (files : Files)
+    (map record_file other_map other_record_file : List ℕ) : Type 0 where
+  pub stands : (names : Names) → Stand (with_pair names map record_file) files
+      → Stand (with_pair names other_map other_record_file) files
+  pub stood : (names : Names) → Stand (with_pair names other_map other_record_file) files
+      → Stand (with_pair names map record_file) files
   pub breaks : (names : Names) (number rule place : ℕ)
-      → Break (with_pair names map cert) files number rule place
-      → Break (with_pair names other_map other_cert) files number rule place
+      → Break (with_pair names map record_file) files number rule place
+      → Break (with_pair names other_map other_record_file) files number rule place
   pub broken : (names : Names) (number rule place : ℕ)
-      → Break (with_pair names other_map other_cert) files number rule place
-      → Break (with_pair names map cert) files number rule place
+      → Break (with_pair names other_map other_record_file) files number rule place
+      → Break (with_pair names map record_file) files number rule place
 
 -- the new files hold the map and the records of the old ones, of so many cells and so many records,
 -- in version 2; the old files, and all others but the two that are written, are as before; and
@@ -66,13 +67,13 @@ pub record IsUpgraded (job : UpgradeJob) (cells count : ℕ) (before after : Fil
   pub cells_are : cells ≡ cell_count map.size
   pub head : Head
   pub cuts : List CutRecord
-  pub records : AreOneRecord before after job.cert job.new_cert head cuts
+  pub records : AreOneRecord before after job.record_file job.new_record_file head cuts
   pub count_is : count ≡ length cuts
   pub map_stays : fin.get after job.map ≡ fin.get before job.map
-  pub record_stays : fin.get after job.cert ≡ fin.get before job.cert
-  pub others : (name : List ℕ) → name ≢ job.new_map → name ≢ job.new_cert
+  pub record_stays : fin.get after job.record_file ≡ fin.get before job.record_file
+  pub others : (name : List ℕ) → name ≢ job.new_map → name ≢ job.new_record_file
       → fin.get after name ≡ fin.get before name
-  pub verdicts : HaveOneVerdict after job.map job.cert job.new_map job.new_cert
+  pub verdicts : HaveOneVerdict after job.map job.record_file job.new_map job.new_record_file
 
 -- whenever `upgrade` ends with status 0; out has the report with those numbers
 abbrev pub UpgradeHeadline : List (List ℕ) → ShelfState → ShelfState → SinkState → SinkState → ℕ

@@ -9,8 +9,8 @@ use Rattle.source_map.specs.declared.head.Version.TheVariants.{One, Two}
 use Rattle.source_map.specs.declared.map_file.MapFile.{MapFile}
 use Rattle.source_map.specs.declared.map_file.MapFile.TheVariants.{Cells as CellMap}
 use Rattle.source_map.specs.MapFiles.{IsMapFile, cell_map_form, version_one_map_read}
-use Rattle.cert_file.specs.declared.file.CertFile.{CertFile}
-use Rattle.cert_file.specs.declared.file.CertFile.TheVariants.{Cuts}
+use Rattle.cert_file.specs.declared.file.RecordFile.{RecordFile}
+use Rattle.cert_file.specs.declared.file.RecordFile.TheVariants.{Cuts}
 use Rattle.cert_file.specs.CutForms.{HasShortFlows}
 use Rattle.cert_file.specs.RecordFiles.{AreCutsInLimits, cuts_form, version_one_cuts_read}
 use Rattle.job_words.specs.declared.upgrade.UpgradeJob.{UpgradeJob}
@@ -33,7 +33,7 @@ IsFirstMap bytes map_file = version_one_map_read bytes ≡ Ok map_file
 abbrev pub RefusesFirstMap : List ℕ → ReadError → Type 0
 RefusesFirstMap bytes refusal = version_one_map_read bytes ≡ Err refusal
 
-abbrev pub AreFirstCuts : List ℕ → CertFile → Type 0
+abbrev pub AreFirstCuts : List ℕ → RecordFile → Type 0
 AreFirstCuts bytes file = version_one_cuts_read bytes ≡ Ok file
 
 abbrev pub RefusesFirstCuts : List ℕ → ReadError → Type 0
@@ -42,7 +42,7 @@ RefusesFirstCuts bytes refusal = version_one_cuts_read bytes ≡ Err refusal
 -- the map file and the record file of a job hold this pair. Whether it belongs together isn't asked
 pub record HoldPair (job : UpgradeJob) (files : Files) (pair : Pair) : Type 0 where
   pub map_is : IsFirstMap (content_of files job.map) (CellMap pair.map pair.samples One)
-  pub cuts_are : AreFirstCuts (content_of files job.cert) (Cuts pair.head pair.cuts)
+  pub cuts_are : AreFirstCuts (content_of files job.record_file) (Cuts pair.head pair.cuts)
 
 -- what the writers of both files ask for; flows have 16 bits as their type has them
 pub record IsSoundPair (pair : Pair) : Type 0 where
@@ -64,7 +64,7 @@ pub record RefusesMapOf (job : UpgradeJob) (files : Files) (n : ℕ) (fault : Fa
 pub record RefusesCutsOf (job : UpgradeJob) (files : Files) (n : ℕ) (fault : Fault) : Type 0 where
   pub turn : n ≡ 2
   pub before : HoldsFirstMap job files
-  pub refused : ReaderRefuses RefusesFirstCuts part.Cert (content_of files job.cert) fault
+  pub refused : ReaderRefuses RefusesFirstCuts part.Record (content_of files job.record_file) fault
 
 abbrev pub RefusesPair : UpgradeJob → ℕ → Files → Fault → Type 0
 RefusesPair job n files fault =
@@ -73,7 +73,7 @@ RefusesPair job n files fault =
 -- the faults that a pair is ever refused for
 abbrev pub MayRefusePair : Fault → Type 0
 MayRefusePair (Form part.Map why) = Unit {0}
-MayRefusePair (Form part.Cert why) = Unit {0}
+MayRefusePair (Form part.Record why) = Unit {0}
 MayRefusePair (Limit what number bound) = Unit {0}
 MayRefusePair fault = ⊥
 
@@ -86,7 +86,7 @@ in_version_two head = record head { version = Two }
 abbrev pub pair_files : UpgradeJob → Pair → List FileText
 pair_files job pair =
     file_text part.NewMap job.new_map (cell_map_form pair.map pair.samples Two)
-    ∷ file_text part.NewCert job.new_cert (cuts_form (in_version_two pair.head) pair.cuts)
+    ∷ file_text part.NewRecord job.new_record_file (cuts_form (in_version_two pair.head) pair.cuts)
     ∷ []
 
 -- how many cells the map has, and how many records there are
@@ -108,8 +108,8 @@ IsUpgradeSummary summary = (cells : ℕ) × (cuts : ℕ) × (summary ≡ Upgrade
 
 abbrev pub upgrade_command : UpgradeJob → Command
 upgrade_command job = record {
-  reads = named part.Map job.map ∷ named part.Cert job.cert ∷ [];
-  writes = named part.NewMap job.new_map ∷ named part.NewCert job.new_cert ∷ [];
+  reads = named part.Map job.map ∷ named part.Record job.record_file ∷ [];
+  writes = named part.NewMap job.new_map ∷ named part.NewRecord job.new_record_file ∷ [];
   Takes = λ files. (pair : Pair) × HoldPair job files pair;
   Refuses = RefusesPair job;
   Makes = MakesPair job;

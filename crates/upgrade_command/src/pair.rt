@@ -3,14 +3,14 @@ ghost use Rattle.std.specs.Prelude.{◌≡◌, IfOk};
 ghost use Rattle.shelf_core.specs.Files.{OnlyReadsFile};
 ghost use Rattle.source_map.specs.declared.map_file.MapFile.TheVariants.{Cells as CellMap};
 ghost use Rattle.source_map.specs.MapFiles.{IsMapFile, IsVersionOneMap};
-ghost use Rattle.cert_file.specs.declared.file.CertFile.TheVariants.{Cuts};
-ghost use Rattle.cert_file.specs.RecordFiles.{AreCuts, IsCert};
+ghost use Rattle.cert_file.specs.declared.file.RecordFile.TheVariants.{Cuts};
+ghost use Rattle.cert_file.specs.RecordFiles.{AreCuts, IsRecordFile};
 ghost use Rattle.synth_report.specs.declared.fault.FileOf.TheVariants as part;
 ghost use Rattle.check_command.specs.Readings.{ReadsPart};
 ghost use Rattle.upgrade_command.specs.Upgrades.{AreFirstCuts, IsFirstMap, RefusesFirstCuts, RefusesFirstMap};
 
 use cells::Sizes;
-use cert_file::{CertFile, CutRecord, Head, Items, read_version_one_cuts};
+use cert_file::{CutRecord, Head, Items, RecordFile, read_version_one_cuts};
 use command::read_fault;
 use job_words::Name;
 use shelf_core::Shelf;
@@ -52,28 +52,28 @@ pub(crate) fn read_first_cuts<S: Shelf>(
     alloc: Global,
     shelf: &mut S,
     name: &Name,
-) -> Result<CertFile, Fault>
-    ensures answer { ReadsPart AreFirstCuts RefusesFirstCuts part.Cert name.now
+) -> Result<RecordFile, Fault>
+    ensures answer { ReadsPart AreFirstCuts RefusesFirstCuts part.Record name.now
         (S.state shelf.old) (S.state shelf.new) result }
-    ensures lawful { IfOk result IsCert }
+    ensures lawful { IfOk result IsRecordFile }
     ensures cuts { IfOk result AreCuts }
     ensures reads { OnlyReadsFile name.now (S.state shelf.old) (S.state shelf.new) }
 {
     match read_version_one_cuts(alloc, shelf, name.as_text()) {
-        Ok(cert) => Ok(cert),
-        Err(error) => Err(read_fault(FileOf::Cert, error)),
+        Ok(record_file) => Ok(record_file),
+        Err(error) => Err(read_fault(FileOf::Record, error)),
     }
 }
 
 /// The pair of a map file and a record file.
-pub(crate) fn pair_of(map_file: MapFile, cert: CertFile) -> Pair
+pub(crate) fn pair_of(map_file: MapFile, record_file: RecordFile) -> Pair
     requires version { IsVersionOneMap map_file }
-    requires cuts { AreCuts cert }
+    requires cuts { AreCuts record_file }
     ensures map { map_file ≡ CellMap result.map result.samples Version.One }
-    ensures cuts { cert ≡ Cuts result.head result.cuts }
+    ensures cuts { record_file ≡ Cuts result.head result.cuts }
 {
-    match (map_file, cert) {
-        (MapFile::Cells { map, samples, .. }, CertFile::Cuts { head, cuts }) => Pair {
+    match (map_file, record_file) {
+        (MapFile::Cells { map, samples, .. }, RecordFile::Cuts { head, cuts }) => Pair {
             map,
             samples,
             head,

@@ -28,11 +28,11 @@ fn plan<S: Shelf>(alloc: Global, job: &UpgradeJob, shelf: &mut S) -> Result<Pair
         Ok(map_file) => map_file,
         Err(fault) => return Err(fault),
     };
-    let cert = match read_first_cuts(alloc, shelf, &job.cert) {
-        Ok(cert) => cert,
+    let record_file = match read_first_cuts(alloc, shelf, &job.record_file) {
+        Ok(record_file) => record_file,
         Err(fault) => return Err(fault),
     };
-    let pair = pair_of(map_file, cert);
+    let pair = pair_of(map_file, record_file);
     records_fit(pair.cuts.as_slice());
     Ok(pair)
 }
@@ -87,8 +87,8 @@ fn write_pair<S: Shelf, O: Sink>(
         version: Version::Two,
     };
     let cuts_text = CutsFile {
-        part: FileOf::NewCert,
-        name: &job.new_cert,
+        part: FileOf::NewRecord,
+        name: &job.new_record_file,
         head: in_version_two(head),
         cuts: cuts.as_slice(),
     };
@@ -100,7 +100,7 @@ fn write_pair<S: Shelf, O: Sink>(
 /// All is read before the first file is begun, and no memory is taken after it.
 ///
 /// Another version is refused as `Bad(Form(8))`, before anything that follows in the file, and another kind
-/// as `Bad(Form(9))`; all else as `read_map` and `read_cert` refuse it.
+/// as `Bad(Form(9))`; all else as `read_map` and `read_record_file` refuse it.
 pub fn upgrade<S: Shelf, O: Sink>(
     alloc: Global,
     job: &UpgradeJob,

@@ -8,17 +8,17 @@ use Rattle.block_check.specs.declared.block.BlockRecord.{BlockRecord}
 use Rattle.source_map.specs.Readings.{number_read}
 use Rattle.source_map.proofs.FieldLaws.{lifted}
 use Rattle.source_map.specs.declared.head.Head.{Head}
-use Rattle.cert_file.specs.declared.file.CertFile.{CertFile}
-use Rattle.cert_file.specs.declared.file.CertFile.TheVariants.{Blocks}
+use Rattle.cert_file.specs.declared.file.RecordFile.{RecordFile}
+use Rattle.cert_file.specs.declared.file.RecordFile.TheVariants.{Blocks}
 use Rattle.cert_file.specs.BlockReading.{blocks_read}
 use Rattle.cert_file.specs.Rules.{any_rule}
 use Rattle.cert_file.proofs.RecordReading.{chain_to_end, ends, ends_not, then_to_end, to_end_stops, value_at_end}
 use Rattle.cert_file.proofs.blocks.read_blocks_file.Goals as goal
 
-abbrev end : Head → List BlockRecord → ℕ → List ℕ → Result CertFile ReadError
+abbrev end : Head → List BlockRecord → ℕ → List ℕ → Result RecordFile ReadError
 end head blocks = value_at_end (Blocks head blocks)
 
-abbrev rest : Head → ℕ → ℕ → List ℕ → Result CertFile ReadError
+abbrev rest : Head → ℕ → ℕ → List ℕ → Result RecordFile ReadError
 rest head count = chain_to_end (blocks_read count) (end head)
 
 pub returns-in_err-count-clause-answer : goal.returns-in_err-count-clause-answer

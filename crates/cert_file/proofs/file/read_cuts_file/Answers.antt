@@ -8,17 +8,17 @@ use Rattle.cut_check.specs.declared.record.CutRecord.{CutRecord}
 use Rattle.source_map.specs.Readings.{number_read}
 use Rattle.source_map.proofs.FieldLaws.{lifted}
 use Rattle.source_map.specs.declared.head.Head.{Head}
-use Rattle.cert_file.specs.declared.file.CertFile.{CertFile}
-use Rattle.cert_file.specs.declared.file.CertFile.TheVariants.{Cuts}
+use Rattle.cert_file.specs.declared.file.RecordFile.{RecordFile}
+use Rattle.cert_file.specs.declared.file.RecordFile.TheVariants.{Cuts}
 use Rattle.cert_file.specs.CutReading.{cuts_read}
 use Rattle.cert_file.specs.Rules.{any_rule}
 use Rattle.cert_file.proofs.RecordReading.{chain_to_end, ends, ends_not, then_to_end, to_end_stops, value_at_end}
 use Rattle.cert_file.proofs.file.read_cuts_file.Goals as goal
 
-abbrev end : Head → List CutRecord → ℕ → List ℕ → Result CertFile ReadError
+abbrev end : Head → List CutRecord → ℕ → List ℕ → Result RecordFile ReadError
 end head cuts = value_at_end (Cuts head cuts)
 
-abbrev rest : Head → ℕ → ℕ → List ℕ → Result CertFile ReadError
+abbrev rest : Head → ℕ → ℕ → List ℕ → Result RecordFile ReadError
 rest head count = chain_to_end (cuts_read head.version head.samples count) (end head)
 
 pub returns-in_err-count-clause-answer : goal.returns-in_err-count-clause-answer

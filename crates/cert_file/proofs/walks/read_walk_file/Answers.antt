@@ -6,7 +6,7 @@ use Rattle.shelf_core.proofs.FileLaws.{only_reads_same, only_reads_then}
 use Rattle.loop_walk.specs.Tables.{table_count}
 use Rattle.source_map.specs.Readings.{ReadsFrom, list_read, number_read}
 use Rattle.source_map.proofs.FieldLaws.{lifted}
-use Rattle.cert_file.specs.declared.file.CertFile.TheVariants.{Walk}
+use Rattle.cert_file.specs.declared.file.RecordFile.TheVariants.{Walk}
 use Rattle.cert_file.specs.declared.walk_fields.WalkStart.{WalkStart}
 use Rattle.cert_file.specs.RecordFiles.{ReadsToEnd}
 use Rattle.cert_file.specs.Rules.{any_rule}

@@ -5,8 +5,8 @@ use Rattle.shelf_core.proofs.FileLaws.{only_reads_then}
 use Rattle.shelf_core.proofs.Sees.{sees_earlier}
 use Rattle.sample_files.specs.Several.{SamplesReadAs, StandForSamples, contents}
 use Rattle.check_command.specs.Checks.{HaveMap, HaveOut, HaveSamples}
-use Rattle.check_command.proofs.NotRead.{cert_not_read, map_not_read, out_not_read, samples_not_read, seen_map, seen_out, seen_samples}
-use Rattle.check_command.proofs.Turns.{of_cert, of_map, of_out, of_samples}
+use Rattle.check_command.proofs.NotRead.{record_file_not_read, map_not_read, out_not_read, samples_not_read, seen_map, seen_out, seen_samples}
+use Rattle.check_command.proofs.Turns.{of_record_file, of_map, of_out, of_samples}
 use Rattle.check_command.proofs.reading.read_files.Goals as goal
 
 pub returns-in-Err-clause-failed : goal.returns-in-Err-clause-failed
@@ -57,7 +57,7 @@ returns-in-Err-read_record-clause-failed g c =
     let out = seen_out job c.in-Ok-read_out.out a b d samples_read out_read seen (c.in-Ok-read_out.ensures {u = tt}).answer in
     let reads = only_reads_then a b d samples_read out_read in
     let map = seen_map job c.in-Ok-read_map_file.map a d e reads map_read out (c.in-Ok-read_map_file.ensures {u = tt}).answer in
-    cert_not_read job a e f (only_reads_then a d e reads map_read) c.in-Err-read_record.fault
+    record_file_not_read job a e f (only_reads_then a d e reads map_read) c.in-Err-read_record.fault
     (sees_earlier (HaveMap job.names) a e f map c.read_record.ensures.reads) (c.in-Err-read_record.ensures {u = tt}).answer
 
 pub returns-in-Err-clause-reads : goal.returns-in-Err-clause-reads
@@ -95,7 +95,7 @@ returns-in-Err-read_record-clause-reads g c =
     let job = c.args.job.now in
     only_reads_then a e f (only_reads_then a d e (only_reads_then a b d (of_samples job c.as_slice.ensures.names a b c.read_samples.ensures.reads) (of_out job b d c.read_out.ensures.reads))
     (of_map job d e c.read_map_file.ensures.reads))
-    (of_cert job e f c.read_record.ensures.reads)
+    (of_record_file job e f c.read_record.ensures.reads)
 
 pub returns-clause-reads : goal.returns-clause-reads
 returns-clause-reads g c =
@@ -107,4 +107,4 @@ returns-clause-reads g c =
     let job = c.args.job.now in
     only_reads_then a e f (only_reads_then a d e (only_reads_then a b d (of_samples job c.as_slice.ensures.names a b c.read_samples.ensures.reads) (of_out job b d c.read_out.ensures.reads))
     (of_map job d e c.read_map_file.ensures.reads))
-    (of_cert job e f c.read_record.ensures.reads)
+    (of_record_file job e f c.read_record.ensures.reads)

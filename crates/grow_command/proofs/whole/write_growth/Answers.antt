@@ -32,10 +32,10 @@ returns-clause-wrote g c =
     let out' = g.O.Sink.state c.write_run.new.out in
     let given : List FileText =
     file_text part.Out job.names.out (form_text growth.samples.form c.picture.result.now) ∷ file_text part.Map job.names.map (cell_map_form c.map.result.now c.sizes.result c.version_over.result)
-    ∷ file_text part.Cert job.names.cert (cuts_form c.head_over.result c.as_slice.result.now) ∷ [] in
+    ∷ file_text part.Record job.names.record_file (cuts_form c.head_over.result c.as_slice.result.now) ∷ [] in
     let same : given ≡ growth_files job growth =
     λ i. file_text part.Out job.names.out (form_text growth.samples.form (c.picture.ensures.picture i))
     ∷ file_text part.Map job.names.map (cell_map_form (c.map.ensures.map i) (c.sizes.ensures i) (c.version_over.ensures i))
-    ∷ file_text part.Cert job.names.cert (cuts_form (c.head_over.ensures i) (c.as_slice.ensures i)) ∷ [] in
+    ∷ file_text part.Record job.names.record_file (cuts_form (c.head_over.ensures i) (c.as_slice.ensures i)) ∷ [] in
     subst (λ files. WritesRun files (growth_summary job growth) was now out out' c.write_run.result) same
     (subst (λ summary. WritesRun given summary was now out out' c.write_run.result) c.summary_of-summary.ensures c.write_run.ensures.wrote)

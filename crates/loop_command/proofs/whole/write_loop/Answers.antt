@@ -50,10 +50,10 @@ returns-clause-wrote g c =
     let given : List FileText =
     file_text part.Out job.names.out (walked_clip c.args.writer sample c.as_slice-walk.result.now)
     ∷ file_text part.Map job.names.map (frame_map_form c.loop_size.result c.size.result c.as_slice-walk.result.now)
-    ∷ file_text part.Cert job.names.cert (walk_file_form c.loop_head.result job.taps job.gap c.as_slice-walk.result.now c.as_slice.result.now) ∷ [] in
+    ∷ file_text part.Record job.names.record_file (walk_file_form c.loop_head.result job.taps job.gap c.as_slice-walk.result.now c.as_slice.result.now) ∷ [] in
     let same : given ≡ loop_files job looped =
     λ i. file_text part.Out job.names.out (frames i)
     ∷ file_text part.Map job.names.map (frame_map_form (c.loop_size.ensures i) (c.size.ensures.size i) (c.as_slice-walk.ensures i))
-    ∷ file_text part.Cert job.names.cert (walk_file_form (c.loop_head.ensures i) job.taps job.gap (c.as_slice-walk.ensures i) (c.as_slice.ensures i)) ∷ [] in
+    ∷ file_text part.Record job.names.record_file (walk_file_form (c.loop_head.ensures i) job.taps job.gap (c.as_slice-walk.ensures i) (c.as_slice.ensures i)) ∷ [] in
     subst (λ files. WritesRun files (loop_summary job looped) was now out out' c.write_run.result) same
     (subst (λ summary. WritesRun given summary was now out out' c.write_run.result) c.summary_of-summary.ensures c.write_run.ensures.wrote)

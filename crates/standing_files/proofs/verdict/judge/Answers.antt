@@ -6,7 +6,7 @@ returns-in_default-clause-stands c =
     let samples = c.args.samples.now in
     let out = c.args.out.now in
     let map_file = c.args.map_file.now in
-    let cert = c.args.cert.now in
+    let record_file = c.args.record_file.now in
     let fails = c.in_ok-fails.fails in
-    stands_exactly samples out map_file cert fails
-    (judged_before samples out map_file cert (c.go_together.ensures.0 c.if-not-go_together.false) fails c.in_default.not-Stands (c.in_ok-fails.ensures {u = tt}))
+    stands_exactly samples out map_file record_file fails
+    (judged_before samples out map_file record_file (c.go_together.ensures.0 c.if-not-go_together.false) fails c.in_default.not-Stands (c.in_ok-fails.ensures {u = tt}))

@@ -2,7 +2,7 @@ use Rattle.std.proofs.Common.{subst}
 use Rattle.std.specs.Prelude.{All}
 use Rattle.shelf_core.proofs.FileLaws.{only_reads_then}
 use Rattle.cert_file.specs.CutForms.{HasShortFlows}
-use Rattle.upgrade_command.proofs.Reading.{cuts_not_read, map_not_read, of_cert, of_map, pair_made, sound_pair}
+use Rattle.upgrade_command.proofs.Reading.{cuts_not_read, map_not_read, of_record_file, of_map, pair_made, sound_pair}
 use Rattle.upgrade_command.proofs.upgrading.plan.Goals as goal
 
 pub returns-in-Err-clause-planned : goal.returns-in-Err-clause-planned
@@ -16,14 +16,14 @@ returns-in-Err-read_first_cuts-clause-planned g c =
 
 pub returns-clause-sound : goal.returns-clause-sound
 returns-clause-sound g c =
-    sound_pair c.in-Ok.map_file c.in-Ok-read_first_cuts.cert c.pair_of-pair.result c.pair_of-pair.ensures.map c.pair_of-pair.ensures.cuts (c.in-Ok.ensures {u = tt}).lawful (c.in-Ok-read_first_cuts.ensures {u = tt}).lawful
+    sound_pair c.in-Ok.map_file c.in-Ok-read_first_cuts.record_file c.pair_of-pair.result c.pair_of-pair.ensures.map c.pair_of-pair.ensures.cuts (c.in-Ok.ensures {u = tt}).lawful (c.in-Ok-read_first_cuts.ensures {u = tt}).lawful
     (subst (All HasShortFlows) c.as_slice.ensures c.records_fit.ensures)
 
 pub returns-clause-planned : goal.returns-clause-planned
 returns-clause-planned g c =
-    pair_made c.args.job.now c.in-Ok.map_file c.in-Ok-read_first_cuts.cert c.pair_of-pair.result (g.S.Shelf.state c.args.shelf.now) (g.S.Shelf.state c.read_first_map.new.shelf) (g.S.Shelf.state c.read_first_cuts.new.shelf)
+    pair_made c.args.job.now c.in-Ok.map_file c.in-Ok-read_first_cuts.record_file c.pair_of-pair.result (g.S.Shelf.state c.args.shelf.now) (g.S.Shelf.state c.read_first_map.new.shelf) (g.S.Shelf.state c.read_first_cuts.new.shelf)
     c.read_first_map.ensures.reads c.read_first_cuts.ensures.reads c.pair_of-pair.ensures.map c.pair_of-pair.ensures.cuts (c.in-Ok.ensures {u = tt}).answer (c.in-Ok-read_first_cuts.ensures {u = tt}).answer
-    (sound_pair c.in-Ok.map_file c.in-Ok-read_first_cuts.cert c.pair_of-pair.result c.pair_of-pair.ensures.map c.pair_of-pair.ensures.cuts (c.in-Ok.ensures {u = tt}).lawful (c.in-Ok-read_first_cuts.ensures {u = tt}).lawful
+    (sound_pair c.in-Ok.map_file c.in-Ok-read_first_cuts.record_file c.pair_of-pair.result c.pair_of-pair.ensures.map c.pair_of-pair.ensures.cuts (c.in-Ok.ensures {u = tt}).lawful (c.in-Ok-read_first_cuts.ensures {u = tt}).lawful
     (subst (All HasShortFlows) c.as_slice.ensures c.records_fit.ensures))
 
 pub returns-in-Err-clause-reads : goal.returns-in-Err-clause-reads
@@ -34,10 +34,10 @@ pub returns-in-Err-read_first_cuts-clause-reads : goal.returns-in-Err-read_first
 returns-in-Err-read_first_cuts-clause-reads g c =
     only_reads_then (g.S.Shelf.state c.args.shelf.now) (g.S.Shelf.state c.read_first_map.new.shelf) (g.S.Shelf.state c.read_first_cuts.new.shelf)
     (of_map c.args.job.now (g.S.Shelf.state c.args.shelf.now) (g.S.Shelf.state c.read_first_map.new.shelf) c.read_first_map.ensures.reads)
-    (of_cert c.args.job.now (g.S.Shelf.state c.read_first_map.new.shelf) (g.S.Shelf.state c.read_first_cuts.new.shelf) c.read_first_cuts.ensures.reads)
+    (of_record_file c.args.job.now (g.S.Shelf.state c.read_first_map.new.shelf) (g.S.Shelf.state c.read_first_cuts.new.shelf) c.read_first_cuts.ensures.reads)
 
 pub returns-clause-reads : goal.returns-clause-reads
 returns-clause-reads g c =
     only_reads_then (g.S.Shelf.state c.args.shelf.now) (g.S.Shelf.state c.read_first_map.new.shelf) (g.S.Shelf.state c.read_first_cuts.new.shelf)
     (of_map c.args.job.now (g.S.Shelf.state c.args.shelf.now) (g.S.Shelf.state c.read_first_map.new.shelf) c.read_first_map.ensures.reads)
-    (of_cert c.args.job.now (g.S.Shelf.state c.read_first_map.new.shelf) (g.S.Shelf.state c.read_first_cuts.new.shelf) c.read_first_cuts.ensures.reads)
+    (of_record_file c.args.job.now (g.S.Shelf.state c.read_first_map.new.shelf) (g.S.Shelf.state c.read_first_cuts.new.shelf) c.read_first_cuts.ensures.reads)

@@ -25,8 +25,8 @@ returns-clause-wrote g c =
     let out = g.O.Sink.state c.args.out.now in
     let out' = g.O.Sink.state c.write_run.new.out in
     let given : List FileText =
-    file_text part.NewMap job.new_map (cell_map_form pair.map pair.samples Two) ∷ file_text part.NewCert job.new_cert (cuts_form c.in_version_two.result c.as_slice.result.now) ∷ [] in
+    file_text part.NewMap job.new_map (cell_map_form pair.map pair.samples Two) ∷ file_text part.NewRecord job.new_record_file (cuts_form c.in_version_two.result c.as_slice.result.now) ∷ [] in
     let same : given ≡ pair_files job pair =
-    λ i. file_text part.NewMap job.new_map (cell_map_form pair.map pair.samples Two) ∷ file_text part.NewCert job.new_cert (cuts_form (c.in_version_two.ensures i) (c.as_slice.ensures i)) ∷ [] in
+    λ i. file_text part.NewMap job.new_map (cell_map_form pair.map pair.samples Two) ∷ file_text part.NewRecord job.new_record_file (cuts_form (c.in_version_two.ensures i) (c.as_slice.ensures i)) ∷ [] in
     subst (λ files. WritesRun files (pair_summary pair) was now out out' c.write_run.result) same
     (subst (λ summary. WritesRun given summary was now out out' c.write_run.result) c.summary_of-summary.ensures c.write_run.ensures.wrote)

@@ -1,217 +1,246 @@
 #!/usr/bin/env python3
-"""Changes single bytes of the files of grown runs, and holds what `weave check` says against a second opinion.
+"""Changes the files of small runs, and holds what `weave check` says against verify.py.
 
-    examples/changed_bytes.py [RUNS [RANDOM [SEED]]]
+    examples/changed_bytes.py [CHANGES [SEED [KIND ..]]]
 
-First RUNS small runs (200) have to stand. Then each byte of the map and the record of one small run is changed to each
-other value, and RANDOM times (1,000) a random byte of a larger run's files to another value. `check` has to end with
-status 0 exactly where verify.py, which shares nothing with weave, finds that the changed files stand; with status 1 where
-it finds a broken rule, and then name the same record, rule and place; and with status 3 or 4 where the changed file isn't
-in its form or within its limits. Its line is then the one that is found here too, with the place of the fault, but for
-pictures and files of another kind, where it has to name the file. Build the program first: ./build. It
-takes some minutes."""
+makes runs of each kind, which have to stand: pictures and clips grown of one sample and of several, the same upgraded, quilts
+and loops. Then it changes their files CHANGES times for each kind (2,000): a byte, a bit, a number, a cut, an insertion, bytes left
+out or swapped, and whole records dropped, doubled and swapped, with the count that they then have or the old one. verify.py, which
+shares nothing with weave, has to say the same of the changed files as `weave check`: the status, and the whole line. Build
+the program first: ./build."""
 import os
 import random
 import subprocess
 import sys
 import tempfile
+from collections import Counter
 
-from random_runs import WEAVE, one_run, write_sample
-from redraw import HEADER
+from random_loops import write_clip
+from random_runs import WEAVE, write_sample
+from run_files import Block, Cut, Fields, Named
 from verify import verify
 
-class NotInForm(Exception):
-    """A file isn't in its form or within its limits: status and line, if they are found here."""
+HEADER_BYTES = b"0123456789  #\n\r\tWHCIFAXPYpt?\x00\xff"
 
 
-def hold(test, *found):
-    if not test:
-        raise NotInForm(*found)
+# Runs.
 
 
-class Strict:
-    """The fields of a binary file, each of which has to be whole and lawful."""
-
-    def __init__(self, name, part):
-        self.data = open(name, "rb").read()
-        self.part = part
-        self.place = 0
-
-    def form(self, at):
-        return 3, f"weave: {self.part}: form at {at}\n"
-
-    def take(self, count):
-        hold(self.place + count <= len(self.data), *self.form(len(self.data)))
-        self.place += count
-        return self.data[self.place - count:self.place]
-
-    def number(self, count, least, most):
-        value = int.from_bytes(self.take(count), "big")
-        hold(least <= value <= most, *self.form(self.place - count))
-        return value
-
-    def axis(self):
-        value = self.number(4, 1, 2 ** 32)
-        hold(value <= 4096, 4, f"weave: limit axis {value} over 4096\n")
-        return value
-
-    def size(self):
-        return [self.axis() for _ in range(3)]
-
-    def head(self, magic):
-        hold(self.take(8) == magic, *self.form(0))
-        version, kind = self.number(1, 1, 2), self.number(1, 0, 2)
-        hold(kind < 2 or magic == b"WEAVEREC", *self.form(9))
-        hold(kind == 0 or version == 1, *self.form(9))
-        hold(kind == 0)
-        output = self.size()
-        count = 1 if version == 1 else self.number(2, 1, 16)
-        return version, output, [self.size() for _ in range(count)]
-
-    def source(self, version, samples):
-        part = 1 if version == 1 else self.number(2, 1, len(samples))
-        for axis in samples[part - 1]:
-            self.number(2, 0, axis - 1)
-
-    def end(self):
-        hold(self.place == len(self.data), *self.form(self.place))
+def grow_words(chance, frames):
+    return [f"width={chance.randint(1, 14)}", f"height={chance.randint(1, 9)}", f"frames={frames}",
+            "place=" + chance.choice(["grid", "random", "whole", "sub", "sub"]), f"box={chance.randint(1, 6)}",
+            f"overlap={chance.randint(0, 4)}", f"tol={chance.choice([0, 10, 300])}", f"rounds={chance.randint(0, 4)}"]
 
 
-def cells_of(size):
-    return size[0] * size[1] * size[2]
+def grow(chance, folder, write, count, frames):
+    names = [os.path.join(folder, f"sample{number}") for number in range(1, count + 1)]
+    for name in names:
+        write(name, chance)
+    return "grow", names, grow_words(chance, frames)
 
 
-def hold_map(name):
-    file = Strict(name, "map")
-    version, output, samples = file.head(b"WEAVEMAP")
-    hold(cells_of(output) <= 1 << 20, 4, f"weave: limit cells {cells_of(output)} over 1048576\n")
-    for _ in range(cells_of(output)):
-        file.source(version, samples)
-    file.end()
+def write_444(name, chance):
+    write_clip(name, chance, ("444", 1, 1, 2))
 
 
-def hold_choice(file, cells):
-    at = file.place
-    bits = file.take((cells + 7) // 8)
-    hold(cells % 8 == 0 or bits[-1] & (255 >> cells % 8) == 0, *file.form(at))
+def make_quilt(chance, folder):
+    name = os.path.join(folder, "sample1")
+    write_sample(name, chance)
+    return "quilt", [name], [f"width={chance.randint(1, 14)}", f"height={chance.randint(1, 12)}",
+                             f"block={chance.randint(2, 6)}", f"overlap={chance.randint(0, 4)}"]
 
 
-def hold_record(name):
-    file = Strict(name, "record")
-    version, _, samples = file.head(b"WEAVEREC")
-    total = 0
-    for _ in range(file.number(4, 0, 2 ** 32 - 1)):
-        for _ in range(3):
-            file.number(2, 0, 65535)
-        w, h, f = (file.number(2, 1, 65535) for _ in range(3))
-        cells = w * h * f
-        total += cells
-        hold(total <= 1 << 25, 4, f"weave: limit records {total} over 33554432\n")
-        file.source(version, samples)
-        hold_choice(file, cells)
-        file.take(4 * (3 * cells - h * f - w * f - w * h))
-    file.end()
+def make_loop(chance, folder):
+    name = os.path.join(folder, "sample1")
+    write_clip(name, chance)
+    return "loop", [name], [f"length={chance.randint(1, 12)}", f"taps={chance.choice([0, 2, 4])}", f"gap={chance.randint(1, 3)}"]
 
 
-def hold_picture(name):
-    data = open(name, "rb").read()
-    header = HEADER.match(data)
-    hold(header)
-    width, height, maxval = (int(number) for number in header.groups())
-    raster = data[header.end():]
-    hold(1 <= width <= 4096 and 1 <= height <= 4096 and 1 <= maxval <= 255)
-    hold(len(raster) == 3 * width * height and max(raster) <= maxval)
+KINDS = {
+    "picture": lambda chance, folder: grow(chance, folder, write_sample, 1, 1),
+    "pictures": lambda chance, folder: grow(chance, folder, write_sample, chance.randint(2, 3), 1),
+    "upgraded": lambda chance, folder: grow(chance, folder, write_sample, 1, 1),
+    "clip": lambda chance, folder: grow(chance, folder, write_clip, 1, chance.randint(1, 4)),
+    "clips": lambda chance, folder: grow(chance, folder, write_444, 2, chance.randint(1, 4)),
+    "quilt": make_quilt,
+    "loop": make_loop,
+}
 
 
-def second_opinion(names):
-    """Status, report and line, by verify.py and the forms above; a status alone where the line isn't found here."""
-    try:
-        hold_picture(names["out"])
-        hold_map(names["map"])
-        hold_record(names["record"])
-    except NotInForm as found:
-        status, line = found.args or (None, None)
-        return status, "", line
-    answer = verify(names["out"], names["map"], names["record"], names["sample"])
-    if answer == "stands":
-        return 0, "stands\n", ""
-    return 1, "fails " + answer.replace(":", "") + "\n", ""
+def words_of(files):
+    samples = [f"sample{number if number > 1 else ''}={name}" for number, name in enumerate(files[3:], 1)]
+    return samples + [f"{key}={name}" for key, name in zip(("out", "map", "record"), files)]
 
 
-def disagreement(names, changed):
-    """What `check` and the second opinion say differently of files of which one is changed; None where nothing."""
-    words = [f"{key}={name}" for key, name in names.items()]
-    done = subprocess.run([WEAVE, "check"] + words, capture_output=True, text=True)
-    said = done.returncode, done.stdout, done.stderr
-    opinion = second_opinion(names)
-    if opinion[0] is None:
-        names_it = said[2].startswith("weave: limit ") or said[2].startswith(f"weave: {changed}: ")
-        agrees = said[0] in (3, 4) and said[1] == "" and names_it
-    else:
-        agrees = said == opinion
-    return None if agrees else f"{said} beside {opinion}"
+def make_run(kind, chance, folder):
+    """The files of a run, in the order of verify.py; None where a clip has no loop."""
+    command, samples, words = KINDS[kind](chance, folder)
+    files = [os.path.join(folder, name) for name in ("out", "map", "record")] + samples
+    done = subprocess.run([WEAVE, command] + words_of(files) + words, capture_output=True, text=True)
+    if done.returncode == 8:
+        return None
+    assert done.returncode == 0, done.stderr
+    if kind == "upgraded":
+        news = [os.path.join(folder, name) for name in ("newmap", "newrecord")]
+        old = [f"map={files[1]}", f"record={files[2]}"]
+        subprocess.run([WEAVE, "upgrade"] + old + [f"newmap={news[0]}", f"newrecord={news[1]}"], check=True, capture_output=True)
+        files[1:3] = news
+    return files
 
 
-def grown(folder, chance, words):
-    names = {key: os.path.join(folder, key) for key in ("sample", "out", "map", "record")}
-    write_sample(names["sample"], chance)
-    files = [f"{key}={name}" for key, name in names.items()]
-    subprocess.run([WEAVE, "grow"] + files + words, check=True, capture_output=True)
-    return names
+# Changes. Each takes the bytes and a place, and gives others.
 
 
-def with_byte(names, key, place, value):
-    """Changes a byte, asks, and puts it back."""
-    with open(names[key], "r+b") as file:
-        file.seek(place)
-        old = file.read(1)
-        file.seek(place)
-        file.write(bytes([value]))
-    answer = disagreement(names, key)
-    with open(names[key], "r+b") as file:
-        file.seek(place)
-        file.write(old)
-    return answer
+def changed_byte(data, at, chance):
+    return data[:at] + bytes([(data[at] + chance.choice([1, 255, chance.randrange(1, 256)])) % 256]) + data[at + 1:]
 
 
-def each_change(names):
-    for key in ("map", "record"):
-        for place, old in enumerate(open(names[key], "rb").read()):
-            for value in range(256):
-                if value != old:
-                    yield key, place, value
+def changed_bit(data, at, chance):
+    return data[:at] + bytes([data[at] ^ 1 << chance.randrange(8)]) + data[at + 1:]
 
 
-def random_changes(names, chance, count):
+def changed_number(data, at, chance):
+    """Another number of 1, 2, 4 or 8 bytes."""
+    count = chance.choice([1, 2, 2, 4, 4, 8])
+    count, top = min(count, len(data) - at), 256 ** min(count, len(data) - at)
+    old = int.from_bytes(data[at:at + count], "big")
+    number = chance.choice([0, 1, top - 1, top // 2, 256, 257, 4096, 4097, 65535, old + 1, old - 1, 2 * old]) % top
+    return data[:at] + number.to_bytes(count, "big") + data[at + count:]
+
+
+def changed_pair(data, at, chance):
+    """Two numbers one after another, as those of a flow, both greater or both less."""
+    by = chance.choice([1, -1, 256, chance.randint(-300, 300)])
+    numbers = [(int.from_bytes(data[i:i + 2], "big") + by) % 65536 for i in (at, at + 2)]
+    return data[:at] + b"".join(number.to_bytes(2, "big") for number in numbers)[:len(data) - at] + data[at + 4:]
+
+
+def cut(data, at, chance):
+    return data[:at]
+
+
+def inserted(data, at, chance):
+    more = bytes(chance.choice([chance.choice(HEADER_BYTES), chance.randrange(256)]) for _ in range(chance.choice([1, 1, 2, 9])))
+    at = chance.choice([at, at, len(data)])
+    return data[:at] + more + data[at:]
+
+
+def replaced(data, at, chance):
+    return data[:at] + bytes([chance.choice(HEADER_BYTES)]) + data[at + 1:]
+
+
+def left_out(data, at, chance):
+    return data[:at] + data[at + chance.choice([1, 2, chance.randint(1, 40)]):]
+
+
+def swapped(data, at, chance):
+    count = chance.choice([1, 2, 6, 8])
+    return data[:at] + data[at + count:at + 2 * count] + data[at:at + count] + data[at + 2 * count:]
+
+
+def lengthened(data, at, chance):
+    """Many equal bytes in a header, as long comments, numbers and tags have."""
+    return data[:at] + bytes([chance.choice(b"#0 \n19x")]) * chance.choice([20, 4000, 4096, 65536]) + data[at:]
+
+
+ANYWHERE = [changed_byte, changed_byte, changed_bit, changed_bit, changed_number, changed_number, changed_pair, changed_pair,
+            cut, inserted, left_out, swapped]
+IN_HEADERS = ANYWHERE + [replaced, replaced, replaced, inserted, lengthened]
+
+
+def record_spans(data):
+    """The head of a record file up to its count, and its records, each as bytes; of a walk its frames."""
+    fields = Fields(data, "record")
+    head = Named(fields, b"WEAVEREC", 3)
+    count, spans, before = fields.number(4), [], 0
+    if head.kind == 2:
+        return data[:fields.at + 3], [data[fields.at + 3 + 2 * i:fields.at + 5 + 2 * i] for i in range(count)]
+    begin = fields.at
     for _ in range(count):
-        key = chance.choice(["out", "map", "record"])
-        data = open(names[key], "rb").read()
-        place = chance.randrange(len(data))
-        yield key, place, (data[place] + chance.randint(1, 255)) % 256
+        at = fields.at
+        before += 1
+        Cut(fields, head.version, head.sizes, 0) if head.kind == 0 else Block(fields, 0)
+        spans.append(data[at:fields.at])
+    return data[:begin], spans
 
 
-def main(runs=200, count=1000, seed=1):
-    chance = random.Random(int(seed))
-    with tempfile.TemporaryDirectory() as folder:
-        for number in range(int(runs)):
-            answer, words = one_run(chance, folder)
-            if answer != "stands":
-                sys.exit(f"run {number}: {answer}\n{' '.join(words)}")
-        print(f"{runs} runs stand")
-        small = grown(folder, chance, ["width=6", "height=2", "box=4", "overlap=2", "rounds=1", "seed=3"])
-        changes = 0
-        for change in each_change(small):
-            answer = with_byte(small, *change)
-            changes += 1
-            if answer:
-                sys.exit(f"{change}: {answer}")
-        print(f"{changes} changes of a small run agree")
-        large = grown(folder, chance, ["width=40", "height=30", "box=6", "overlap=3", "rounds=10", "seed=5"])
-        for change in random_changes(large, chance, int(count)):
-            answer = with_byte(large, *change)
-            if answer:
-                sys.exit(f"{change}: {answer}")
-        print(f"{count} random changes of a larger run agree")
+def changed_records(data, chance):
+    """Records dropped, doubled or swapped. The count is right, but for one in ten and for walks."""
+    head, records = record_spans(data)
+    rest, many = data[len(head) + sum(map(len, records)):], len(records)
+    if not records:
+        return data + b"\0"
+    what, i, j = chance.randrange(3), chance.randrange(many), chance.randrange(many)
+    if what == 0:
+        del records[i]
+    elif what == 1:
+        records.insert(j, records[i])
+    else:
+        records[i], records[j] = records[j], records[i]
+    if not data.startswith(b"WEAVEREC\1\2") and chance.randrange(10):
+        head = head[:-4] + len(records).to_bytes(4, "big")
+    return head + b"".join(records) + rest
+
+
+def change(files, chance):
+    """Which file is changed, how, and its other bytes."""
+    which = chance.choice([0, 1, 1, 2, 2, 2] + list(range(3, len(files))))
+    with open(files[which], "rb") as file:
+        data = file.read()
+    if which == 2 and chance.randrange(4) == 0:
+        return which, "records", changed_records(data, chance)
+    in_header = chance.randrange(2) == 0
+    at = chance.randrange(min(len(data), 60) if in_header else len(data))
+    how = chance.choice(IN_HEADERS if in_header and which in (0, 3, 4, 5) else ANYWHERE)
+    return which, how.__name__, how(data, at, chance)
+
+
+def difference(files):
+    """The status that both say; or what they say differently."""
+    done = subprocess.run([WEAVE, "check"] + words_of(files), capture_output=True, text=True)
+    try:
+        status, line = verify(*files)
+    except Exception as error:  # A verifier that breaks off is wrong too.
+        status, line = -1, repr(error)
+    said = done.returncode, done.stdout, done.stderr
+    mine = status, line + "\n" if status < 2 else "", line + "\n" if status > 1 else ""
+    return (status, line), None if said == mine else f"check says {said}, verify.py {mine}"
+
+
+def try_changes(kind, chance, folder, changes):
+    """What came of so many changes of runs of a kind, by its rule or line."""
+    told, files, done = Counter(), None, 0
+    while done < changes:
+        if done % 20 == 0 or files is None:
+            files = make_run(kind, chance, folder)
+            if files is None:
+                continue
+            answer, differs = difference(files)
+            assert answer == (0, "stands") and not differs, f"{kind}: {answer} {differs}"
+        which, how, data = change(files, chance)
+        with open(files[which], "rb") as file:
+            old = file.read()
+        with open(files[which], "wb") as file:
+            file.write(data)
+        (status, line), differs = difference(files)
+        if differs:
+            kept = tempfile.mkdtemp(prefix="changed_")
+            for name in files:
+                os.rename(name, os.path.join(kept, os.path.basename(name)))
+            sys.exit(f"{kind}, {how} of {files[which]}: {differs}\nthe files are in {kept}")
+        with open(files[which], "wb") as file:
+            file.write(old)
+        told[" ".join(line.split()[3:5]) if status == 1 else f"status {status}"] += 1
+        done += 1
+    return told
+
+
+def main(changes=2000, seed=1, *kinds):
+    for kind in kinds or KINDS:
+        chance = random.Random(f"{seed} {kind}")
+        with tempfile.TemporaryDirectory() as folder:
+            told = try_changes(kind, chance, folder, int(changes))
+        print(f"{kind}: {changes} changes agree: " + ", ".join(f"{what} {count}" for what, count in sorted(told.items())))
 
 
 if __name__ == "__main__":

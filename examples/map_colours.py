@@ -8,7 +8,7 @@ further down, and the bluer the higher the number of the sample. A line stands b
 aren't neighbours in the same way: a seam. ZOOM, 1 to 16, is the pixels of a cell on each axis (3 where none is given)."""
 import sys
 
-from redraw import read_map
+from run_files import read_map
 
 
 def colour(source, samples):
@@ -42,9 +42,10 @@ def pixels_of_row(y, output, samples, sources, zoom):
 
 
 def main(map_name, out_name, zoom="3"):
-    output, samples, sources = read_map(map_name)
-    zoom = int(zoom)
+    read = read_map(map_name)
+    output, samples, zoom = read.output, read.sizes, int(zoom)
     assert output[2] == 1 and 1 <= zoom <= 16
+    sources = list(zip(*read.columns))
     with open(out_name, "wb") as out:
         out.write(b"P6\n%d %d\n255\n" % (zoom * output[0], zoom * output[1]))
         for y in range(output[1]):

@@ -1,9 +1,10 @@
 #!/usr/bin/env python3
-"""Quilts small random outputs, and has verify_quilt.py and `weave check` check each of them.
+"""Quilts small random outputs, and has verify.py and `weave check` check each of them.
 
     examples/random_quilts.py [RUNS [SEED]]
 
-Build the program first: ./build."""
+Where a strip has few boundaries, all of them are tried: none costs less, and of those that cost as much none comes first, read
+from the strip's end. Build the program first: ./build."""
 import os
 import random
 import subprocess
@@ -11,7 +12,42 @@ import sys
 import tempfile
 
 from random_runs import WEAVE, write_sample
-from verify_quilt import verify_quilt
+from verify import BlockCheck, Broken, Run
+
+FEW_WAYS = 3 ** 9
+
+
+def all_ways(rows, columns):
+    """Every boundary of a strip, by its columns."""
+    ways = [(column,) for column in range(columns)]
+    for _ in range(rows - 1):
+        ways = [way + (column,) for way in ways
+                for column in range(max(0, way[-1] - 1), min(columns, way[-1] + 2))]
+    return ways
+
+
+class EachBoundary(BlockCheck):
+    """A check of a block that tries every boundary through a small strip too."""
+
+    def check_strip(self, strip, errors):
+        super().check_strip(strip, errors)
+        rows = len(strip.path)
+        if strip.columns * 3 ** (rows - 1) > FEW_WAYS:
+            return
+        costs = {way: sum(errors[row][column] for row, column in enumerate(way)) for way in all_ways(rows, strip.columns)}
+        path = tuple(strip.path)
+        least = min((way for way in costs if costs[way] == min(costs.values())), key=lambda way: way[::-1])
+        assert path == least, f"the first least boundary is {least}, and not {path}"
+
+
+def verify_quilt(*names):
+    run = Run(*names)
+    run.checks[1] = 7, EachBoundary
+    try:
+        run.check()
+    except Broken as broken:
+        return broken.line
+    return "stands"
 
 
 def one_quilt(chance, folder):

@@ -37,7 +37,7 @@ def one_run(chance, folder):
     words += [f"tol={chance.choice([0, 10, 300])}", f"rounds={chance.randint(0, 6)}"]
     words += [f"seed={chance.randrange(2 ** 64)}"]
     done = subprocess.run([WEAVE, "grow"] + words, capture_output=True, text=True)
-    answer = verify(out, mapped, record, *names) if done.returncode == 0 else done.stderr
+    answer = verify(out, mapped, record, *names)[1] if done.returncode == 0 else done.stderr
     files = [word for word in words if re.match("sample|out|map|record", word)]
     checked = subprocess.run([WEAVE, "check"] + files, capture_output=True, text=True)
     if answer == "stands" and (checked.returncode, checked.stdout, checked.stderr) != (0, "stands\n", ""):

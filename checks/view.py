@@ -199,7 +199,8 @@ def try_seams(name, browser, report):
 
 
 def try_usage(name, browser, run):
-    numbers = run.numbers
+    numbers = run.numbers or [run.samples.number(1, x, y, f) for f in run.map.frames for y in range(run.out.size[1])
+                              for x in range(run.out.size[0])]
     rows = browser.value("[...document.querySelectorAll('#usage tr')].slice(1).map(row => row.children[2].textContent)")
     for part, text in enumerate(rows, 1):
         used = len({number for number in numbers if run.samples.place(number)[0] == part})

@@ -18,6 +18,7 @@ import sys
 from array import array
 from itertools import compress, count
 from operator import and_, gt, mul, ne, not_, or_, sub
+from struct import pack
 
 from run_files import GREATEST, KINDS, MOST_OUT_CELLS, Fault, Samples, cells_of, read_map, read_pixels, read_record
 
@@ -234,19 +235,32 @@ class BlockCheck:
             yield it > e + min(sums[row - 1][max(0, column - 1):column + 2]) if row else it != e
 
 
+def products_of_frames(cells, n):
+    """For each two of n frames the sum of the products of their bytes, by which their squared differences are known.
+
+    The bytes of all frames at one place are one long number, with 48 bits for each, so that one product has those of a
+    frame's byte with all of them."""
+    length, sums = len(cells) // n, [0] * n
+    for begin in range(0, length, 256):
+        places = range(begin, min(begin + 256, length))
+        joined = []
+        for place in places:
+            spaced = bytearray(6 * n)
+            spaced[::6] = cells[place::length]
+            joined.append(int.from_bytes(spaced, "little"))
+        for i in range(n):
+            sums[i] += sum(map(mul, cells[length * i + begin:length * i + begin + len(places)], joined))
+    rows = [number.to_bytes(6 * n, "little") for number in sums]
+    return [[int.from_bytes(row[i:i + 6], "little") for i in range(0, 6 * n, 6)] for row in rows]
+
+
 class WalkCheck:
     """Rules 12 to 14 of a walk over a sample."""
 
     def __init__(self, sample, walk):
         self.walk, self.number, n = walk, 1, sample.size[2]
-        length = len(sample.cells) // n
-        frames = [sample.cells[i:i + length] for i in range(0, len(sample.cells), length)]
-        squares = [sum(map(mul, frame, frame)) for frame in frames]
-        self.apart = [[0] * n for _ in range(n)]
-        for i in range(n):
-            for j in range(i):
-                apart = squares[i] + squares[j] - 2 * sum(map(mul, frames[i], frames[j]))
-                self.apart[i][j] = self.apart[j][i] = apart
+        products = products_of_frames(sample.cells, n)
+        self.apart = [[products[i][i] + products[j][j] - 2 * products[i][j] for j in range(n)] for i in range(n)]
         self.steps = [[self.step(i, j) for j in range(n)] for i in range(n)]
 
     def step(self, i, j):
@@ -281,12 +295,16 @@ class WalkCheck:
 def first_above(table, a, b):
     """The first entry of a table that is above one of its sums of an entry of a and one of b.
 
-    A row is one long number, with 96 bits for each of its entries, so that one addition and one subtraction hold a whole
-    row against its sums. An entry that is none is above each sum, and a sum with none above each entry."""
-    none_here, none_there, top = 1 << 80, 1 << 81, 1 << 95
+    A row is one long number, with 64 bits for each of its entries, or 96 where some are large, so that one addition and one
+    subtraction hold a whole row against its sums. An entry that is none is above each sum, and a sum with none above each
+    entry."""
+    most = max(entry for rows in (table, a, b) for row in rows for entry in row + [0] if entry is not None)
+    width = 8 if most < 1 << 60 else 12
+    none_here, none_there, top = (1 << 8 * width - bits for bits in (3, 2, 1))
 
     def joined(numbers):
-        return int.from_bytes(b"".join(number.to_bytes(12, "little") for number in numbers), "little")
+        whole = pack(f"<{len(numbers)}Q", *numbers) if width == 8 else b"".join(n.to_bytes(12, "little") for n in numbers)
+        return int.from_bytes(whole, "little")
 
     n = len(table)
     ones, tops = joined([1] * n), joined([top] * n)
@@ -308,10 +326,7 @@ def first_above(table, a, b):
 
 
 def named_numbers(samples, read):
-    """The number of the sample cell that a map names for each output cell."""
-    if read.kind == 1:
-        w, h, _ = read.output
-        return [samples.number(1, x, y, f) for f in read.frames for y in range(h) for x in range(w)]
+    """The number of the sample cell that a map of cells names for each output cell."""
     parts, xs, ys, fs = read.columns
     if len(samples.parts) > 1:
         return list(map(samples.number, parts, xs, ys, fs))
@@ -319,6 +334,14 @@ def named_numbers(samples, read):
     if samples.sizes[0][2] == 1:
         return [at + x + row * y for x, y in zip(xs, ys)]
     return [at + x + row * y + frame * f for x, y, f in zip(xs, ys, fs)]
+
+
+def drawn_by(samples, read):
+    """The bytes of all output cells, as a map draws them of the samples."""
+    if read.kind == 0:
+        return samples.drawn(named_numbers(samples, read))
+    cells, length = samples.parts[0].cells, read.output[0] * read.output[1] * samples.samples
+    return b"".join(cells[length * frame:length * (frame + 1)] for frame in read.frames)
 
 
 class Run:
@@ -343,13 +366,13 @@ class Run:
         """Raises the first rule that is broken."""
         if not self.go_together():
             raise Broken(0, 15, 0)
-        self.numbers = named_numbers(self.samples, self.map)
         if self.record.kind == 2:
             walk = self.record.records[0]
             WalkCheck(self.samples.parts[0], walk).check()
             left, named = list(walk.frames), self.map.frames
         else:
             self.replay()
+            self.numbers = named_numbers(self.samples, self.map)
             left, named = self.output.sources, self.numbers
         if left != named:
             raise Broken(0, 16, first(a != b for a, b in zip(left, named)))
@@ -357,7 +380,7 @@ class Run:
 
     def check_pixels(self):
         k, out = self.samples.samples, self.out.cells
-        drawn = self.samples.drawn(self.numbers)
+        drawn = self.samples.drawn(self.numbers) if self.numbers else drawn_by(self.samples, self.map)
         if drawn != out:
             raise Broken(0, 17, first(drawn[i:i + k] != out[i:i + k] for i in range(0, len(out), k)))
 
@@ -376,7 +399,7 @@ class Run:
         width, height, _ = self.out.size
         i, k = x + width * (y + height * f), self.samples.samples
         record = self.output.records[i] if self.output else f + 1
-        number = self.numbers[i]
+        number = self.numbers[i] if self.numbers else self.samples.number(1, x, y, self.map.frames[f])
         return self.out.cells[k * i:k * (i + 1)], self.samples.place(number), self.samples.cell(number), record
 
 
@@ -394,7 +417,7 @@ def verify(*names):
 def redraw(new_name, map_name, *sample_names):
     """Draws the output of samples and map alone."""
     samples, read = Samples(sample_names), read_map(map_name)
-    write_pixels(new_name, samples.parts[0], read.output, samples.drawn(named_numbers(samples, read)))
+    write_pixels(new_name, samples.parts[0], read.output, drawn_by(samples, read))
 
 
 def write_pixels(name, like, size, cells):

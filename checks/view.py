@@ -6,7 +6,8 @@
 Of a grown picture of two samples with rounds, a grown clip, a quilt and a loop it asks: that the cell shown under the pointer
 is the one that verify.py finds, at 200 drawn places, and at places by link and by key; that the map after drawn steps is that of
 as many records; that changed bytes of the output are counted; that the costs of seams add up to those of weave's report; that
-of changed files the page has the line of `weave check`; and that the page is no wider than a window of 400 pixels.
+of changed files the page has the line of `weave check`; and that the page is no wider than a window of 400 pixels. Of small
+random runs of all kinds each cell is compared.
 It says how long a run of 1024x1024 cells takes to open and how long a move of the pointer takes, and leaves pictures of
 the page in FOLDER. It wants Debian's package chromium. Build the program first: ./build."""
 import os
@@ -23,7 +24,7 @@ HERE = os.path.dirname(os.path.abspath(__file__))
 EXAMPLES = os.path.join(HERE, "..", "examples")
 sys.path[:0] = [HERE, EXAMPLES]
 
-from changed_bytes import change, words_of  # noqa: E402
+from changed_bytes import KINDS, change, make_run as random_run, words_of  # noqa: E402
 from chromium import Browser  # noqa: E402
 from random_runs import WEAVE  # noqa: E402
 from verify import Output, Run, verify  # noqa: E402
@@ -36,7 +37,7 @@ RUNS = {
     "quilt": ("quilt", ["pebbles.ppm"], ["width=120", "height=100", "block=24", "overlap=6"]),
     "loop": ("loop", ["life.y4m"], ["length=24"]),
 }
-PLACES, CHANGES = 200, 60
+PLACES, CHANGES, SMALL = 200, 60, 8
 
 
 def make_more(name, folder):
@@ -230,8 +231,8 @@ def malformed(run):
         yield from ((slot, whole[:count]) for count in (0, 7, 8, 9, 10, 13, 33, 34, 37, 40, len(whole) - 1))
         yield from ((slot, whole + more) for more in (b"\0", b"WEAVEMAP"))
         yield from ((slot, whole[:at] + number.to_bytes(count, "big") + whole[at + count:]) for at, count, number in numbers)
-    yield from (("out", data) for data in pictures + clips)
-    yield from (("samples", data) for data in pictures + clips)
+    for slot in ("out", "samples"):
+        yield from ((slot, data) for data in pictures + clips)
 
 
 def try_each_malformed(name, browser, files, folder):
@@ -301,6 +302,28 @@ def take_pictures(name, browser, files, pictures):
     browser.look(1280, 900)
 
 
+def try_all_at_once(name, browser, files, run, chance):
+    """All files of a run chosen at once, and dropped at once, find their places."""
+    total = len(run.out.cells) // run.samples.samples
+    wanted = [[os.path.basename(sample) for sample in files[3:]], "out", "map", "record"]
+    mixed = files[:]
+    chance.shuffle(mixed)
+    for how in ("chosen", "dropped"):
+        browser.open(PAGE)
+        if how == "chosen":
+            browser.choose("#samples", mixed)
+        else:
+            browser.value("(() => { const all = document.createElement('input'); all.type = 'file'; all.multiple = true;"
+                          " all.id = 'all'; document.body.append(all); })()")
+            browser.choose("#all", mixed)
+            browser.value("(() => { const data = new DataTransfer(); for (const file of $('all').files) data.items.add(file);"
+                          " $('all').remove(); document.body.dispatchEvent(new DragEvent('drop', { bubbles: true, dataTransfer: data })); })()")
+        browser.wait_for("document.getElementById('verdict').textContent !== ''")
+        hold(f"{name}, files {how} at once", browser.value(
+            "[files.samples.map(file => file.name), files.out.name, files.map.name, files.record.name]"), wanted)
+        hold(f"{name}, {how} at once", verdict(browser)[0], f"0 of {total} cells of the output differ from what the map names.")
+
+
 def try_play(name, browser):
     browser.press(" ")
     frames = set()
@@ -328,9 +351,35 @@ def try_run(name, browser, pictures, chance):
             try_play(name, browser)
         lines = try_malformed(name, browser, files, folder, chance) | try_each_malformed(name, browser, files, folder)
         try_changed_bytes(name, browser, files, run, folder, chance)
+        try_all_at_once(name, browser, files, run, chance)
         if pictures:
             take_pictures(name, browser, files, pictures)
         print(f"{name}: {PLACES} cells, the steps, changed and malformed files with {len(lines)} different lines", flush=True)
+
+
+def try_small(browser, chance):
+    """Each cell of small random runs of all kinds, with the record, and the source without it."""
+    kinds, done = list(KINDS) * SMALL, 0
+    with tempfile.TemporaryDirectory() as folder:
+        for kind in kinds:
+            files = random_run(kind, chance, folder)
+            if files is None:
+                continue
+            run = Run(*files)
+            run.check()
+            show(browser, files)
+            shown = browser.value("""Array.from({ length: cellsOf(run.size) }, (_, i) => {
+                const facts = cellFacts([i % run.size[0], Math.floor(i / run.size[0]) % run.size[1], Math.floor(i / run.area)]);
+                return [facts.output, [facts.part + 1, facts.x, facts.y, facts.f], facts.sample, facts.owner]; })""")
+            width, height, frames = run.out.size
+            found = [run.cell(x, y, f) for f, y, x in product(range(frames), range(height), range(width))]
+            hold(f"a small run, {kind}", shown, [[list(out), list(source), list(sample), by] for out, source, sample, by in found])
+            browser.choose("#record", [])
+            browser.value("files.record = null; refresh()")
+            hold(f"{kind}, no record", browser.value("Array.from({ length: cellsOf(run.size) }, (_, i) => placeOf(sourceOf(i)))"),
+                 [[source[0] - 1, *source[1:]] for _, source, _, _ in found])
+            done += 1
+    print(f"each cell of {done} small runs of {len(KINDS)} kinds")
 
 
 def try_speed(browser):
@@ -353,6 +402,7 @@ def main(pictures=None):
     try:
         for name in list(RUNS):
             try_run(name, browser, pictures, chance)
+        try_small(browser, chance)
         try_speed(browser)
         hold("errors of the page", browser.errors, [])
     finally:

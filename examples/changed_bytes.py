@@ -209,7 +209,7 @@ def difference(files):
 
 def try_changes(kind, chance, folder, changes):
     """What came of so many changes of runs of a kind, by its rule or line."""
-    told, files, done = Counter(), None, 0
+    answers, files, done = Counter(), None, 0
     while done < changes:
         if done % 20 == 0 or files is None:
             files = make_run(kind, chance, folder)
@@ -230,17 +230,17 @@ def try_changes(kind, chance, folder, changes):
             sys.exit(f"{kind}, {how} of {files[which]}: {differs}\nthe files are in {kept}")
         with open(files[which], "wb") as file:
             file.write(old)
-        told[" ".join(line.split()[3:5]) if status == 1 else f"status {status}"] += 1
+        answers[" ".join(line.split()[3:5]) if status == 1 else f"status {status}"] += 1
         done += 1
-    return told
+    return answers
 
 
 def main(changes=2000, seed=1, *kinds):
     for kind in kinds or KINDS:
         chance = random.Random(f"{seed} {kind}")
         with tempfile.TemporaryDirectory() as folder:
-            told = try_changes(kind, chance, folder, int(changes))
-        print(f"{kind}: {changes} changes agree: " + ", ".join(f"{what} {count}" for what, count in sorted(told.items())))
+            answers = try_changes(kind, chance, folder, int(changes))
+        print(f"{kind}: {changes} changes agree: " + ", ".join(f"{what} {count}" for what, count in sorted(answers.items())))
 
 
 if __name__ == "__main__":

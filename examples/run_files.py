@@ -25,8 +25,9 @@ class Fault(Exception):
         self.status, self.line = status, "weave: " + line
 
 
-def refused(part, what):
-    return Fault(3, f"{part}: {what}")
+def refused(key, what):
+    """A refusal of the file that a key of weave's names, as `sample`."""
+    return Fault(3, f"{key}: {what}")
 
 
 def limit(what, number, bound):
@@ -37,12 +38,12 @@ def cells_of(size):
     return size[0] * size[1] * size[2]
 
 
-def read_bytes(name, part):
+def read_bytes(name, key):
     try:
         with open(name, "rb") as file:
             return file.read()
     except OSError:
-        raise Fault(5, f"{part}: read fault") from None
+        raise Fault(5, f"{key}: read fault") from None
 
 
 # Pictures and clips.
@@ -51,12 +52,12 @@ def read_bytes(name, part):
 class Scan:
     """A text that is read byte by byte, of which each byte has to be able to stand where it does."""
 
-    def __init__(self, data, part, at, most):
-        self.data, self.part, self.at, self.end, self.most = data, part, at, at + most, most
+    def __init__(self, data, key, at, most):
+        self.data, self.key, self.at, self.end, self.most = data, key, at, at + most, most
 
     def next(self, is_fit):
         if self.at == len(self.data) or not is_fit(self.data[self.at]):
-            raise refused(self.part, f"form at {self.at}")
+            raise refused(self.key, f"form at {self.at}")
         if self.at == self.end:
             raise limit("header", self.most + 1, self.most)
         self.at += 1
@@ -94,14 +95,14 @@ def number_before(scan, byte, ends):
     return value_of(digits), byte
 
 
-def read_picture(data, part):
-    scan, items = Scan(data, part, 0, MOST_HEADER), SPACES + b"#"
+def read_picture(data, key):
+    scan, items = Scan(data, key, 0, MOST_HEADER), SPACES + b"#"
     scan.word(b"P6")
     width, byte = number_before(scan, scan.next(lambda b: b in items), items)
     height, byte = number_before(scan, byte, items)
     maxval, _ = number_before(scan, byte, SPACES)
     if maxval > 255:
-        raise refused(part, "depth")
+        raise refused(key, "depth")
     for number in (width, height):
         if number > MOST_AXIS:
             raise limit("axis", number, MOST_AXIS)
@@ -109,11 +110,11 @@ def read_picture(data, part):
         raise limit("cells", width * height, MOST_CELLS)
     raster = data[scan.at:scan.at + 3 * width * height]
     if maxval < 255 and raster and max(raster) > maxval:
-        raise refused(part, f"value at {scan.at + next(i for i, byte in enumerate(raster) if byte > maxval)}")
+        raise refused(key, f"value at {scan.at + next(i for i, byte in enumerate(raster) if byte > maxval)}")
     if len(raster) < 3 * width * height:
-        raise refused(part, f"form at {len(data)}")
+        raise refused(key, f"form at {len(data)}")
     if len(data) > scan.at + len(raster):
-        raise refused(part, f"trailing at {scan.at + len(raster)}")
+        raise refused(key, f"trailing at {scan.at + len(raster)}")
     return Pixels((width, height, 1), 3, ("picture", maxval), raster)
 
 
@@ -173,39 +174,39 @@ def cells_of_frame(planes, size, kind):
     return bytes(cells)
 
 
-def read_frames(data, part, at, size, kind, most):
+def read_frames(data, key, at, size, kind, most):
     """The bytes of the cells of all frames from a place on."""
     cells = size[0] * size[1]
     greatest, length, frames = min(MOST_AXIS, most // cells), cells * KINDS[kind][2], []
     if at == len(data):
-        raise refused(part, "no frames")
+        raise refused(key, "no frames")
     while at < len(data):
         if len(frames) == MOST_AXIS:
             raise limit("axis", MOST_AXIS + 1, MOST_AXIS)
         if len(frames) == greatest:
             raise limit("cells", cells * (greatest + 1), most)
-        scan = Scan(data, part, at, MOST_LINE)
+        scan = Scan(data, key, at, MOST_LINE)
         scan.word(b"FRAME")
         if scan.next(lambda b: b in b" \n") == ord(" "):
             while scan.next(lambda b: True) != ord("\n"):
                 pass
         at = scan.at + length
         if at > len(data):
-            raise refused(part, f"form at {len(data)}")
+            raise refused(key, f"form at {len(data)}")
         frames.append(cells_of_frame(data[scan.at:at], size, kind))
     return frames
 
 
-def read_clip(data, part, most):
-    scan = Scan(data, part, 0, MOST_LINE)
+def read_clip(data, key, most):
+    scan = Scan(data, key, 0, MOST_LINE)
     tags = read_stream_line(scan)
     values = {letter: next((tag[1:] for tag in tags if tag[:1] == letter), None) for letter in (b"W", b"H", b"C", b"I")}
     kind = SPELLINGS.get(b"420" if values[b"C"] is None else values[b"C"])
     if kind is None or values[b"I"] not in (None, b"p", b"t", b"b", b"?"):
-        raise refused(part, "colour space")
+        raise refused(key, "colour space")
     size = [axis_of(values[letter], pixels) for letter, pixels in zip((b"W", b"H"), KINDS[kind])]
     if None in size:
-        raise refused(part, "cell")
+        raise refused(key, "cell")
     carried = [tag for tag in tags if tag[:1] not in b"WH"]
     if sum(len(tag) + 1 for tag in carried) > MOST_TAGS:
         raise limit("header", sum(len(tag) + 1 for tag in carried), MOST_TAGS)
@@ -214,13 +215,13 @@ def read_clip(data, part, most):
             raise limit("axis", axis, MOST_AXIS)
     if size[0] * size[1] > most:
         raise limit("cells", size[0] * size[1], most)
-    frames = read_frames(data, part, scan.at, size, kind, most)
+    frames = read_frames(data, key, scan.at, size, kind, most)
     return Pixels((size[0], size[1], len(frames)), KINDS[kind][2], ("clip", kind), b"".join(frames), carried)
 
 
-def read_pixels(name, part, most=MOST_CELLS):
-    data = read_bytes(name, part)
-    return read_clip(data, part, most) if data[:1] == b"Y" else read_picture(data, part)
+def read_pixels(name, key, most=MOST_CELLS):
+    data = read_bytes(name, key)
+    return read_clip(data, key, most) if data[:1] == b"Y" else read_picture(data, key)
 
 
 class Samples:
@@ -231,10 +232,10 @@ class Samples:
     def __init__(self, names):
         self.parts, total = [], 0
         for number, name in enumerate(names, 1):
-            part = "sample" if number == 1 else f"sample{number}"
-            pixels = read_pixels(name, part)
+            key = "sample" if number == 1 else f"sample{number}"
+            pixels = read_pixels(name, key)
             if self.parts and pixels.form != self.parts[0].form:
-                raise refused(part, "unlike")
+                raise refused(key, "unlike")
             total += cells_of(pixels.size)
             if total > MOST_CELLS:
                 raise limit("cells", total, MOST_CELLS)
@@ -299,11 +300,11 @@ class Samples:
 class Fields:
     """The fields of a file, one after another, each of which has to be whole and to have a value that it may have."""
 
-    def __init__(self, data, part):
-        self.data, self.part, self.at = data, part, 0
+    def __init__(self, data, key):
+        self.data, self.key, self.at = data, key, 0
 
     def form(self, at):
-        return refused(self.part, f"form at {at}")
+        return refused(self.key, f"form at {at}")
 
     def take(self, count):
         if self.at + count > len(self.data):

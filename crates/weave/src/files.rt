@@ -1,6 +1,7 @@
 // One file that is read and one that is written, each kept open from call to call.
 ghost use Rattle.std.specs.Prelude.{◌≤◌, length, IfOk, min};
 
+use crate::nodes::Known;
 use crate::pieces::{read_full, write_all_of};
 use shelf_core::Failed;
 use std::alloc::{AllocError, Global};
@@ -74,10 +75,11 @@ impl Source {
     }
 
     // Opens another file.
-    fn open(&mut self, rt: &HostRuntime, name: &str) -> Result<(), Failed> {
+    fn open(&mut self, rt: &HostRuntime, name: &str, known: &mut Known) -> Result<(), Failed> {
         let Ok(file) = fs::open(rt, name) else {
             return Err(Failed);
         };
+        known.add(&file)?;
         let Ok(()) = self.opened.keep(name, file) else {
             return Err(Failed);
         };
@@ -139,18 +141,20 @@ impl Source {
         Ok(())
     }
 
-    /// Reads from a place on until the buffer is full or the file ends.
+    /// Reads from a place on until the buffer is full or the file ends. A file that it opens is known
+    /// from then on.
     pub fn read(
         &mut self,
         rt: &HostRuntime,
         name: &str,
         at: u64,
         into: &mut [u8],
+        known: &mut Known,
     ) -> Result<usize, Failed>
         ensures { IfOk result (λ n. n ≤ length into.old) }
     {
         if !self.opened.is_of(name) {
-            self.open(rt, name)?;
+            self.open(rt, name, known)?;
         }
         let n = self.copy_kept(at, into);
         if n == into.len() {
@@ -179,12 +183,18 @@ impl Target {
         })
     }
 
-    /// Makes a file present and empty, and keeps it open.
-    pub fn begin(&mut self, rt: &HostRuntime, name: &str) -> Result<(), Failed> {
+    /// Makes a file present and empty, and keeps it open. A file that is known, and a regular file that
+    /// is the standard output, is refused and stays as it is, by whatever name it is reached. One that
+    /// is begun is known from then on.
+    pub fn begin(&mut self, rt: &HostRuntime, name: &str, known: &mut Known) -> Result<(), Failed> {
         self.opened.file = None;
+        if known.would_lose(rt, name) {
+            return Err(Failed);
+        }
         let Ok(file) = fs::create(rt, name) else {
             return Err(Failed);
         };
+        known.add(&file)?;
         let Ok(()) = self.opened.keep(name, file) else {
             return Err(Failed);
         };

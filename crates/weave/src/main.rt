@@ -2,10 +2,11 @@
 //
 // All that it does is `run` of weave_engine. `real` has the shelf that stands for the system's
 // files, over `files`, and `streams` the sinks; they tell no content, and are the trusted edge.
-// `pieces` reads and writes.
+// `nodes` knows the files by more than their names, and `pieces` reads and writes.
 #![tactic(auto)]
 
 mod files;
+mod nodes;
 mod pieces;
 mod real;
 mod streams;

@@ -6,6 +6,7 @@ use job_words::Words;
 use shelf_core::Shelf;
 use std::alloc::{AllocError, Global};
 use std::fs::OpenOptions;
+use std::os::unix::fs::symlink;
 use std::test::Fail;
 use std::{env, fs, process};
 use weave_engine::run;
@@ -27,7 +28,6 @@ const RECORD: &[u8] = b"WEAVEREC\x01\x00\
 \x00\x00\x00\x00\x00\x00\x00\x02\x00\x01\x00\x01\x00\x00\x00\x00\x00\x00\xc0\x00\x00\x00\x00\
 \x00\x02\x00\x00\x00\x00\x00\x01\x00\x01\x00\x01\x00\x00\x00\x00\x00\x00\x80";
 
-// The status of a run in a folder, with these names of its sample and its picture.
 fn add_words(words: &mut Words, line: &str) -> Result<(), AllocError> {
     for word in line.split('\n') {
         words.push(word)?;
@@ -42,10 +42,11 @@ fn words_of(alloc: Global, files: &str) -> Result<Words, AllocError> {
     Ok(words)
 }
 
-fn ran(rt: &HostRuntime, folder: &str, sample: &str, out: &str) -> Result<u8, Fail> {
+// The status of a run in a folder, with these names of its sample, its picture and its map.
+fn ran(rt: &HostRuntime, folder: &str, sample: &str, out: &str, map: &str) -> Result<u8, Fail> {
     let alloc = rt.alloc();
     let files = format!(in alloc;
-        "sample={folder}/{sample}\nout={folder}/{out}\nmap={folder}/m\nrecord={folder}/r"
+        "sample={folder}/{sample}\nout={folder}/{out}\nmap={folder}/{map}\nrecord={folder}/r"
     )?;
     let words = words_of(alloc, files.as_str())?;
     let mut shelf = RealShelf::new(rt.clone()?, alloc)?;
@@ -132,16 +133,69 @@ fn runs_over_files_of_the_system(rt: HostRuntime) -> Result<(), Fail> {
     fs::write(&rt, format!(in alloc; "{folder}/s")?.as_str(), SAMPLE)?;
 
     // A sample that isn't there, and a picture in a folder that isn't there.
-    let unread = ran(&rt, folder, "none", "o")?;
-    let unwritten = ran(&rt, folder, "s", "none/o")?;
+    let unread = ran(&rt, folder, "none", "o", "m")?;
+    let unwritten = ran(&rt, folder, "s", "none/o", "m")?;
     let begun = fs::read(&rt, format!(in alloc; "{folder}/m")?.as_str()).is_ok();
 
-    let status = ran(&rt, folder, "s", "o")?;
+    let status = ran(&rt, folder, "s", "o", "m")?;
     let written = holds(&rt, folder, "o", PICTURE)? && holds(&rt, folder, "m", MAP)?;
     let kept = holds(&rt, folder, "s", SAMPLE)?;
     let recorded = holds(&rt, folder, "r", RECORD)?;
     fs::remove_dir_all(&rt, folder)?;
     assert!(rt; unread == 5 && unwritten == 6 && !begun);
     assert!(rt; status == 0 && written && kept && recorded);
+    Ok(())
+}
+
+// Names of the picture and the map where a name of each row leads to the sample `s`, or both to one file: `hard` and
+// `soft` are links to the sample, `new` is one to a file that isn't there, and `here` is one to the folder.
+const ONE_FILE: &[(&str, &str)] = &[
+    ("hard", "m"),
+    ("soft", "m"),
+    ("./s", "m"),
+    ("here/s", "m"),
+    ("here/hard", "m"),
+    ("o", "hard"),
+    ("o", "soft"),
+    ("o", "here/s"),
+    ("o", "./o"),
+    ("o", "here/o"),
+    ("new", "later"),
+];
+
+// Whether a run with a file of two names ends with status 6, and leaves the sample as it is and the map's other name
+// without a map.
+fn refuses_to_begin(rt: &HostRuntime, folder: &str, out: &str, map: &str) -> Result<bool, Fail> {
+    let status = ran(rt, folder, "s", out, map)?;
+    let kept = holds(rt, folder, "s", SAMPLE)? && !holds(rt, folder, map, MAP)?;
+    let whole = map == "m" || holds(rt, folder, out, PICTURE)?;
+    Ok(status == 6 && kept && whole)
+}
+
+#[test]
+fn begins_no_file_that_has_another_name(rt: HostRuntime) -> Result<(), Fail> {
+    let alloc = rt.alloc();
+    let folder = new_folder(&rt, "links")?;
+    let folder = folder.as_str();
+    let sample = format!(in alloc; "{folder}/s")?;
+    fs::write(&rt, sample.as_str(), SAMPLE)?;
+    fs::hard_link(
+        &rt,
+        sample.as_str(),
+        format!(in alloc; "{folder}/hard")?.as_str(),
+    )?;
+    symlink(&rt, "s", format!(in alloc; "{folder}/soft")?.as_str())?;
+    symlink(&rt, "later", format!(in alloc; "{folder}/new")?.as_str())?;
+    symlink(&rt, ".", format!(in alloc; "{folder}/here")?.as_str())?;
+    let mut refused = true;
+    for (out, map) in ONE_FILE {
+        refused = refuses_to_begin(&rt, folder, out, map)? && refused;
+    }
+
+    // A file that isn't of this run is replaced, whatever leads to it.
+    let status = ran(&rt, folder, "s", "here/later", "here/m")?;
+    let written = holds(&rt, folder, "later", PICTURE)? && holds(&rt, folder, "m", MAP)?;
+    fs::remove_dir_all(&rt, folder)?;
+    assert!(rt; refused && status == 0 && written);
     Ok(())
 }

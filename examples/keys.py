@@ -31,7 +31,7 @@ class Source:
     def __init__(self):
         self.stems = {"Sample": "sample"}
         self.stems.update(re.findall(r"Key::(\w+) => \"(\w+)\"", text(WORDS / "keys.rt")))
-        bounds = "".join(text(path) for path in (WORDS / "bounds.rt", ROOT / "crates/cells/src/bounds.rt"))
+        bounds = text(ROOT / "crates/limits/src/bounds.rt")
         self.numbers = dict(re.findall(r"pub const (\w+): u\d+ = ([\d_]+);", bounds))
         table = text(WORDS / "table.rt")
         lists = re.findall(r"Texts::(\w+) => &\[([^\]]*)\]", table)

@@ -3,7 +3,7 @@ use Rattle.std.proofs.Common.{◌≡◌, ℕ, ◌+◌, ◌*◌, ◌/◌, ◌≤�
 use Rattle.std.proofs.lemmas.Nat.{div-mul-add}
 use Rattle.std.specs.Prelude.{Option, Some, None}
 use Rattle.cells.specs.Boxes.{HasCells}
-use Rattle.cells.specs.declared.bounds.TheConstants.{GREATEST_AXIS}
+use Rattle.limits.specs.declared.bounds.TheConstants.{GREATEST_AXIS}
 use Rattle.cells.specs.declared.place.Size.{Size}
 use Rattle.cells.specs.Places.{IsSmall}
 use Rattle.map_canvas.specs.declared.canvas.Placement.{Placement}

@@ -6,7 +6,8 @@ ghost use Rattle.map_canvas.specs.Maps.{IsFull};
 ghost use Rattle.block_strips.specs.Blocks.{FitsBlock, block_len, block_on, box_of, next_box, shared_on};
 
 use crate::QuiltPlan;
-use cells::{At, Box3, GREATEST_AXIS, Size, Volume};
+use cells::{At, Box3, Size, Volume};
+use limits::GREATEST_AXIS;
 use map_canvas::Canvas;
 use spans::{Span, count_of, grid_on};
 

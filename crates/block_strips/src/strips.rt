@@ -9,8 +9,9 @@ ghost use Rattle.map_canvas.specs.CellErrors.{cell_error, spot_error};
 ghost use Rattle.block_strips.specs.Strips.{most_cols, strip_error, strip_of, strip_rows};
 
 use crate::Side;
-use cells::{At, GREATEST_AXIS, Volume};
+use cells::{At, Volume};
 use lane_kernels::ssd;
+use limits::GREATEST_AXIS;
 use map_canvas::{Canvas, Placement};
 use std::alloc::{AllocError, Global};
 use strip_boundary::{GREATEST_ERROR, Strip};

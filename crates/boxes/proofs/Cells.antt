@@ -16,7 +16,7 @@ use Rattle.cells.proofs.BoxLaws.{minus_plus, plus_minus}
 use Rattle.cells.proofs.Raster.{has_index, index_of_spot, index_parts, on_axis_in}
 use Rattle.boxes.specs.Pairs.{AreCounts, IsPair, cell_in, has_next, in_box}
 use Rattle.boxes.specs.Raster.{largest}
-use Rattle.cells.specs.declared.bounds.TheConstants.{GREATEST_AXIS}
+use Rattle.limits.specs.declared.bounds.TheConstants.{GREATEST_AXIS}
 
 -- the sum of a corner and a count is a number of 32 bits
 sum_near : (z : ℤ) (len c : ℕ) → AxisHolds GREATEST_AXIS z len → c < len → FitsSigned w32 (z +ℤ pos c)

@@ -1,6 +1,6 @@
 -- A reader has to trust this file. Steps along an axis in raster order, and the largest box. (Own.)
 use Rattle.std.specs.Prelude.{◌*◌, ℕ}
-use Rattle.cells.specs.declared.bounds.TheConstants.{GREATEST_AXIS}
+use Rattle.limits.specs.declared.bounds.TheConstants.{GREATEST_AXIS}
 use Rattle.cells.specs.declared.place.Size.{Size}
 use Rattle.cells.specs.declared.place.Axis.{Axis}
 use Rattle.cells.specs.declared.place.Axis.TheVariants.{X, Y, F}

@@ -1,7 +1,7 @@
 -- A reader need not trust this file: it says how far a walk over the cells of a box has come.
 -- (Own.)
 use Rattle.std.specs.Prelude.{◌≡◌, ◌<◌, ◌*◌, ℕ}
-use Rattle.cells.specs.declared.bounds.TheConstants.{MOST_CELLS}
+use Rattle.limits.specs.declared.bounds.TheConstants.{MOST_CELLS}
 use Rattle.cells.specs.declared.place.Size.{Size}
 use Rattle.boxes.specs.declared.walk.Walk.{Walk}
 use Rattle.boxes.specs.Pairs.{AreCounts, pairs_before}

@@ -9,7 +9,8 @@ ghost use Rattle.boxes.specs.Pairs.{AreCounts, IsPair, cell_in, has_next, pairs_
 ghost use Rattle.boxes.specs.Raster.{largest, stride};
 ghost use Rattle.boxes.specs.Walks.{IsAtIndex};
 
-use cells::{At, Axis, Box3, GREATEST_AXIS, Size};
+use cells::{At, Axis, Box3, Size};
+use limits::GREATEST_AXIS;
 
 /// A cell of a box, by how far it is from the box's corner on each axis.
 #[derive(Clone, Copy, Debug, Drop, PartialEq, Eq)]

@@ -6,7 +6,7 @@ use Rattle.std.specs.Prelude.{ℤ, pos, negsuc, ◌+ℤ◌, ◌-ℤ◌, IsSome, 
 use Rattle.std.specs.Int.{w32}
 use Rattle.cells.specs.declared.place.At.{At}
 use Rattle.cells.specs.declared.place.Size.{Size}
-use Rattle.cells.specs.declared.bounds.TheConstants.{GREATEST_AXIS}
+use Rattle.limits.specs.declared.bounds.TheConstants.{GREATEST_AXIS}
 use Rattle.cells.specs.Places.{HasAxes, IsSmall, IsInside, SumFits, cell_count, place_of, plus, minus, spot}
 use Rattle.cells.specs.Boxes.{AxisHolds, HoldsBox, HasCells}
 use Rattle.cells.proofs.Raster.{index_parts, index_of_spot, place_at}

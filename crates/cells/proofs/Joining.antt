@@ -3,7 +3,7 @@ use Rattle.std.proofs.Common.{◌≡◌, ℕ, zero, suc, ◌+◌, ◌*◌, ◌<�
 use Rattle.std.proofs.lemmas.List.{length-append, take-append-le, drop-append-le, length-drop}
 use Rattle.std.specs.List.{AllByRecursion}
 use Rattle.cells.specs.declared.place.Size.{Size}
-use Rattle.cells.specs.declared.bounds.TheConstants.{MOST_CELLS, MOST_PARTS}
+use Rattle.limits.specs.declared.bounds.TheConstants.{MOST_CELLS, MOST_PARTS}
 use Rattle.cells.specs.Places.{HasAxes, IsSmall, cell_count}
 use Rattle.cells.specs.Parts.{AreParts, count_from}
 use Rattle.cells.specs.Buffers.{IsBuffer}

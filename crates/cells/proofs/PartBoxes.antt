@@ -13,6 +13,7 @@ use Rattle.cells.specs.Cells.{Cells, HasCell, HasRun, Holds, IsInsideOf, IsOnePa
 use Rattle.cells.proofs.Raster.{has_index, index_below, index_of_spot, index_parts, place_at, run_below}
 use Rattle.std.specs.List.{AllByRecursion}
 use Rattle.std.specs.Int.{w32}
+use Rattle.limits.specs.declared.bounds.TheConstants.{GREATEST_AXIS}
 use Rattle.cells.proofs.BoxLaws.{box_small, plus_minus}
 use Rattle.cells.proofs.BoxTests.{OnAxes, axes_of_each, box_has_cells, each_of_axes, inside_of, of_inside, on_axis_bounds, on_axis_some}
 use Rattle.cells.proofs.CellLaws.{cell_has_index, indexed_has_cell, inside_part}
@@ -173,13 +174,13 @@ not_before size (next ∷ more) corner inner before (inr behind) = not_before ne
 
 -- how far from the first cell a place with a cell may be
 pub record IsNear (p : At) : Type 0 where
-  pub x : (pos 0 ≤ℤ p.x) × (p.x <ℤ pos 4096)
-  pub y : (pos 0 ≤ℤ p.y) × (p.y <ℤ pos 4096)
+  pub x : (pos 0 ≤ℤ p.x) × (p.x <ℤ pos GREATEST_AXIS)
+  pub y : (pos 0 ≤ℤ p.y) × (p.y <ℤ pos GREATEST_AXIS)
   pub f : (pos 0 ≤ℤ p.f) × (p.f <ℤ pos 65552)
 
 pub record IsWithin (n : ℕ) (p : At) : Type 0 where
-  pub x : (pos 0 ≤ℤ p.x) × (p.x <ℤ pos 4096)
-  pub y : (pos 0 ≤ℤ p.y) × (p.y <ℤ pos 4096)
+  pub x : (pos 0 ≤ℤ p.x) × (p.x <ℤ pos GREATEST_AXIS)
+  pub y : (pos 0 ≤ℤ p.y) × (p.y <ℤ pos GREATEST_AXIS)
   pub f : (pos 0 ≤ℤ p.f) × (p.f <ℤ pos (4097 * suc n))
 
 inside_near : (size : Size) (p : At) (n : ℕ) → HasAxes size → IsInside size p → IsWithin n p

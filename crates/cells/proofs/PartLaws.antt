@@ -4,7 +4,7 @@ use Rattle.std.proofs.lemmas.Int.{ints}
 use Rattle.std.specs.Prelude.{◌⊎◌, ℤ, pos, negsuc, ◌+ℤ◌, ◌-ℤ◌, ◌≤ℤ◌, ◌<ℤ◌, Option, Some, None, IsSome, length}
 use Rattle.cells.specs.declared.place.At.{At}
 use Rattle.cells.specs.declared.place.Size.{Size}
-use Rattle.cells.specs.declared.bounds.TheConstants.{MOST_CELLS, MOST_PARTS}
+use Rattle.limits.specs.declared.bounds.TheConstants.{MOST_CELLS, MOST_PARTS}
 use Rattle.cells.specs.Places.{IsSmall, index_in, cell_count, on_axis, plus, spot}
 use Rattle.cells.specs.Parts.{AreParts, count_from, index_from, or_later, past}
 use Rattle.cells.proofs.Raster.{index_parts, index_below, one_place, run_below}

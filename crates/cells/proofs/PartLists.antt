@@ -3,7 +3,7 @@ use Rattle.std.proofs.Common.{◌≡◌, ℕ, zero, suc, ◌+◌, ◌*◌, ◌<�
 use Rattle.std.proofs.lemmas.Int.{ints}
 use Rattle.std.proofs.lemmas.List.{length-drop, take-append-le, drop-append-le, length-take-le, take_at, drop_at}
 use Rattle.std.proofs.lemmas.List.Elements.{All-drop, All-take}
-use Rattle.cells.specs.declared.bounds.TheConstants.{MOST_SAMPLES}
+use Rattle.limits.specs.declared.bounds.TheConstants.{MOST_CHANNELS}
 use Rattle.std.specs.Prelude.{◌⊎◌, ◌↔◌, ℤ, pos, ◌+ℤ◌, ◌-ℤ◌, ◌≤ℤ◌, ◌<ℤ◌, Option, Some, None, IsSome, All, option_and_then, slice_get, unwrap_or}
 use Rattle.std.specs.List.{AllByRecursion}
 use mathlib.Core.Bool.{false≢true}
@@ -98,11 +98,11 @@ stands_in v (suc n) part is p inside = stands_from v.k v.size v.more v.cells n p
 -- what the buffer of some parts has: as many cells as they need, each of k samples
 pub record AreCells (k : ℕ) (size : Size) (more : List Size) (cells : List (List ℕ)) : Type 0 where
   pub parts : AreParts size more
-  pub samples : (1 ≤ k) × (k ≤ MOST_SAMPLES)
+  pub samples : (1 ≤ k) × (k ≤ MOST_CHANNELS)
   pub count : length cells ≡ count_from size more
   pub each : All (IsCell k) cells
 
-one_volume : (k : ℕ) (size : Size) (cells : List (List ℕ)) → IsSmall size → (1 ≤ k) × (k ≤ MOST_SAMPLES) → length cells ≡ cell_count size → All (IsCell k) cells → IsVolume (one_part_of size k cells)
+one_volume : (k : ℕ) (size : Size) (cells : List (List ℕ)) → IsSmall size → (1 ≤ k) × (k ≤ MOST_CHANNELS) → length cells ≡ cell_count size → All (IsCell k) cells → IsVolume (one_part_of size k cells)
 one_volume k size cells small samples count each = record { small = small; parts = one_part size small; samples = samples; count = count; cells = each }
 
 cells_behind : (k : ℕ) (size next : Size) (more : List Size) (cells : List (List ℕ)) → AreCells k size (next ∷ more) cells → AreCells k next more (drop (cell_count size) cells)

@@ -6,7 +6,7 @@ use Rattle.std.specs.List.{concat}
 use Rattle.cells.specs.declared.place.At.{At}
 use Rattle.cells.specs.declared.place.Size.{Size}
 use Rattle.cells.specs.declared.place.Box3.{Box3}
-use Rattle.cells.specs.declared.bounds.TheConstants.{MOST_SAMPLES}
+use Rattle.limits.specs.declared.bounds.TheConstants.{MOST_CHANNELS}
 use Rattle.cells.specs.Places.{IsSmall, cell_count, plus, spot}
 use Rattle.cells.specs.Boxes.{IsInBox}
 use Rattle.cells.specs.Parts.{AreParts, count_from, index_from}
@@ -26,7 +26,7 @@ pub record IsCell (k : ℕ) (cell : List ℕ) : Type 0 where
 pub record IsVolume (v : Cells) : Type 0 where
   pub small : IsSmall v.size
   pub parts : AreParts v.size v.more
-  pub samples : (1 ≤ v.k) × (v.k ≤ MOST_SAMPLES)
+  pub samples : (1 ≤ v.k) × (v.k ≤ MOST_CHANNELS)
   pub count : length v.cells ≡ count_from v.size v.more
   pub cells : All (IsCell v.k) v.cells
 

@@ -4,7 +4,7 @@ use Rattle.std.specs.Prelude.{◌≡◌, ◌≤◌, ◌<◌, ◌+◌, ◌⊎◌,
 use Rattle.std.specs.List.{AllByRecursion}
 use Rattle.cells.specs.declared.place.At.{At}
 use Rattle.cells.specs.declared.place.Size.{Size}
-use Rattle.cells.specs.declared.bounds.TheConstants.{MOST_CELLS, MOST_PARTS}
+use Rattle.limits.specs.declared.bounds.TheConstants.{MOST_CELLS, MOST_PARTS}
 use Rattle.cells.specs.Places.{HasAxes, cell_count, index_in}
 use Rattle.cells.specs.Boxes.{HoldsBox}
 

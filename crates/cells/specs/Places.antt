@@ -1,9 +1,9 @@
 -- What a reader has to trust: places, sizes and raster order. x runs fastest, then y, then f. (The
 -- order of rows and columns is Netpbm's; frames follow one another as in a clip.)
-use Rattle.std.specs.Prelude.{◌≤◌, ◌*◌, ◌+◌, ◌/◌, ◌%◌, ℕ, ℤ, pos, negsuc, ◌+ℤ◌, ◌-ℤ◌, List, map, Option, Some, None, nat_lt, if◌then◌else◌, IsSome, FitsSigned}
+use Rattle.std.specs.Prelude.{◌≤◌, ◌≤ℤ◌, ◌*◌, ◌+◌, ◌/◌, ◌%◌, ℕ, ℤ, pos, negsuc, ◌+ℤ◌, ◌-ℤ◌, List, map, Option, Some, None, nat_lt, if◌then◌else◌, IsSome, FitsSigned}
 use Rattle.std.specs.List.{range_with_len}
 use Rattle.std.specs.Int.{w32}
-use Rattle.cells.specs.declared.bounds.TheConstants.{GREATEST_AXIS, MOST_CELLS}
+use Rattle.limits.specs.declared.bounds.TheConstants.{GREATEST_AXIS, MOST_CELLS}
 use Rattle.cells.specs.declared.place.At.{At}
 use Rattle.cells.specs.declared.place.Size.{Size}
 
@@ -26,6 +26,10 @@ pub record IsSmall (size : Size) : Type 0 where
 abbrev pub on_axis : ℕ → ℤ → Option ℕ
 on_axis n (pos c) = if nat_lt c n then Some c else None
 on_axis n (negsuc c) = None
+
+-- a coordinate of a cell of some size, or the next one along the axis
+abbrev pub IsNearAxis : ℤ → Type 0
+IsNearAxis z = (pos 0 ≤ℤ z) × (z ≤ℤ pos GREATEST_AXIS)
 
 -- the index of three counts in raster order
 abbrev pub raster_index : Size → ℕ → ℕ → ℕ → ℕ

@@ -5,7 +5,7 @@ use Rattle.std.specs.List.{AllByRecursion}
 use Rattle.cells.specs.declared.place.At.{At}
 use Rattle.cells.specs.declared.place.Size.{Size}
 use Rattle.cells.specs.declared.sizes.PartPlace.{PartPlace}
-use Rattle.cells.specs.declared.bounds.TheConstants.{MOST_PARTS}
+use Rattle.limits.specs.declared.bounds.TheConstants.{MOST_PARTS}
 use Rattle.cells.specs.Places.{HasAxes, IsInside}
 
 -- the sizes of 1 to 16 parts

@@ -7,7 +7,6 @@
 //! `volume` the volume, `distance` the distance.
 #![tactic(auto)]
 
-mod bounds;
 mod distance;
 pub mod laws;
 mod parts;
@@ -15,7 +14,6 @@ mod place;
 mod sizes;
 mod volume;
 
-pub use bounds::{GREATEST_AXIS, MOST_CELLS, MOST_PARTS, MOST_SAMPLES};
 pub use distance::cell_distance;
 pub use place::{At, Axis, Box3, Size, Taps};
 pub use sizes::{PartPlace, Sizes};

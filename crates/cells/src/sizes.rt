@@ -7,7 +7,8 @@ ghost use Rattle.cells.specs.SizeLists.{AreSizes, IsInPart, IsPartFound, IsPartP
 
 use crate::parts::{More, past};
 use crate::place::sum_of;
-use crate::{At, GREATEST_AXIS, MOST_PARTS, Size};
+use crate::{At, Size};
+use limits::{GREATEST_AXIS, MOST_PARTS};
 use std::marker::Model;
 
 /// A place of one part of a volume.

@@ -6,7 +6,8 @@ ghost use Rattle.cells.specs.PartLists.{parts_of};
 ghost use Rattle.cells.specs.Cells.{cell_at, cells_of, index_of, put_cell, put_row, put_run, row_at, blank, sizes_of, volume_of, bytes_of, count_of, with_part, HasRun, Holds, IsInsideOf, IsOnePart, IsVolume};
 
 use crate::parts::{More, index_along, lies_along};
-use crate::{At, Box3, MOST_CELLS, MOST_PARTS, MOST_SAMPLES, Size, Sizes};
+use crate::{At, Box3, Size, Sizes};
+use limits::{MOST_CELLS, MOST_CHANNELS, MOST_PARTS};
 use std::alloc::{AllocError, Global};
 use std::marker::Model;
 
@@ -72,7 +73,7 @@ impl Volume {
     /// A volume of that size with k bytes of 0 in each cell. The one error is out of memory.
     pub fn make(alloc: Global, size: Size, k: u32) -> Result<Volume, AllocError>
         requires small { IsSmall size }
-        requires samples { (1 ≤ k) × (k ≤ MOST_SAMPLES) }
+        requires samples { (1 ≤ k) × (k ≤ MOST_CHANNELS) }
         ensures { IfOk result (λ v. v ≡ blank size k) }
     {
         let bytes = zeros(alloc, k as usize * size.cells())?;
@@ -89,7 +90,7 @@ impl Volume {
     /// raster order. It keeps the buffer and takes no memory.
     pub fn from_bytes(size: Size, k: u32, bytes: Vec<u8>) -> Volume
         requires small { IsSmall size }
-        requires samples { (1 ≤ k) × (k ≤ MOST_SAMPLES) }
+        requires samples { (1 ≤ k) × (k ≤ MOST_CHANNELS) }
         requires whole { length bytes.items ≡ k * cell_count size }
         ensures volume { result ≡ volume_of size k bytes.items }
         ensures bytes { bytes_of result ≡ bytes.items }

@@ -7,6 +7,7 @@ use Rattle.std.specs.Bool.{nat_eq}
 use Rattle.std.specs.Int.{w8, w16, w32}
 use Rattle.std.specs.List.{flat_map}
 use Rattle.std.specs.Prelude.{pos, All, IfSome, Option, Some, None, Result, Ok, nat_le, nat_lt}
+use Rattle.limits.specs.declared.bounds.TheConstants.{MOST_BOX_CELLS}
 use Rattle.shelf_core.specs.declared.fault.ReadError.{ReadError}
 use Rattle.cells.specs.declared.place.At.{At}
 use Rattle.cells.specs.declared.place.Size.{Size}
@@ -48,7 +49,7 @@ spot_spells p short frame =
         (λ at i. Ok (record { x = pos (from_be_bytes-to_be_bytes_2 x x_lt i); y = pos (from_be_bytes-to_be_bytes_2 y y_lt i); f = pos 0 }))
 
 -- the size of a block
-size_spells : (before : ℕ) (size : Size) → (1 ≤ size.w) × (size.w < 2 ^ 16) → (1 ≤ size.h) × (size.h < 2 ^ 16) → size.f ≡ 1 → before + cell_count size ≤ 33554432
+size_spells : (before : ℕ) (size : Size) → (1 ≤ size.w) × (size.w < 2 ^ 16) → (1 ≤ size.h) × (size.h < 2 ^ 16) → size.f ≡ 1 → before + cell_count size ≤ MOST_BOX_CELLS
     → Spells (block_size_read before) (block_size_field size) size
 size_spells before size w h frame few =
     let axis : ℕ → List ℕ → Result (ℕ × ℕ) ReadError = number_read w16 box_axis_rule in
@@ -57,7 +58,7 @@ size_spells before size w h frame few =
     let end = λ (w h : ℕ). ruled (box_cells_rule before (record { w = w; h = h; f = 1 })) in
     let a = field_16 size.w in
     let b = field_16 size.h in
-    let low : nat_le (before + cell_count made) 33554432 ≡ true = le-leb (before + cell_count made) 33554432 (subst (λ (s : Size). before + cell_count s ≤ 33554432) (sym same) few) in
+    let low : nat_le (before + cell_count made) MOST_BOX_CELLS ≡ true = le-leb (before + cell_count made) MOST_BOX_CELLS (subst (λ (s : Size). before + cell_count s ≤ MOST_BOX_CELLS) (sym same) few) in
     let lawful : box_cells_rule before made ≡ Ok made = rw low refl in
     let all : a ++ (b ++ []) ≡ a ++ b = ap (λ t. a ++ t) (append-nil b) in
     subst (λ (s : Size). Spells (block_size_read before) (a ++ b) s) same
@@ -92,7 +93,7 @@ top_told (Some left) (Some top) = refl
 abbrev start_of : BlockRecord → BlockStart
 start_of block = record { placement = block.placement; flags = flags_of block }
 
-start_spells : (before : ℕ) (block : BlockRecord) → IsBlockInForm block → before + cell_count block.placement.rect.size ≤ 33554432
+start_spells : (before : ℕ) (block : BlockRecord) → IsBlockInForm block → before + cell_count block.placement.rect.size ≤ MOST_BOX_CELLS
     → Spells (block_start_read before) (block_start_form block) (start_of block)
 start_spells before block lawful few =
     let corner = block.placement.rect.corner in
@@ -154,7 +155,7 @@ side_spells rows most (Some boundary) some small has long wide =
     (boundary_spells rows most boundary some small has long wide) (alone_spells {A = Option BoundaryRecord} (Some boundary)))
 
 -- a block record, after boxes of so many cells
-block_spells : (before : ℕ) (block : BlockRecord) → IsBlockInForm block → IsWideBlock block → before + cell_count block.placement.rect.size ≤ 33554432
+block_spells : (before : ℕ) (block : BlockRecord) → IsBlockInForm block → IsWideBlock block → before + cell_count block.placement.rect.size ≤ MOST_BOX_CELLS
     → Spells (block_read before) (block_form block) block
 unfolding block_form
 block_spells before block lawful wide few =

@@ -5,6 +5,7 @@ use Rattle.std.specs.Bool.{nat_eq}
 use Rattle.std.specs.Int.{from_be_bytes, w8, w16, w32}
 use Rattle.std.specs.List.{flat_map}
 use Rattle.std.specs.Prelude.{◌||◌, pos, Option, Some, None, Result, Ok, nat_le, nat_lt}
+use Rattle.limits.specs.declared.bounds.TheConstants.{MOST_BOX_CELLS}
 use Rattle.shelf_core.specs.declared.fault.FormFault.TheVariants.{Form}
 use Rattle.shelf_core.specs.declared.fault.ReadError.{ReadError}
 use Rattle.shelf_core.specs.declared.fault.ReadError.TheVariants.{Bad, Limit}
@@ -79,14 +80,14 @@ size_stood before at bytes size end small le is =
     let b = peel {A = ℕ × ℕ} {C = Size × ℕ} (axis a.x.1 bytes) (λ h. made a.x.0 h.0 >>= λ size. Ok (size, h.1)) (size, end) a.two in
     let r = peel {A = Size} {C = Size × ℕ} (made a.x.0 b.x.0) (λ size. Ok (size, b.x.1)) (size, end) b.two in
     let box : Size = record { w = a.x.0; h = b.x.0; f = 1 } in
-    let same : box ≡ size = (passed (nat_le (before + cell_count box) 33554432) box r.x (Limit Records (before + cell_count box) 33554432) r.one).1 ∙ same_first r.x size b.x.1 end r.two in
+    let same : box ≡ size = (passed (nat_le (before + cell_count box) MOST_BOX_CELLS) box r.x (Limit Records (before + cell_count box) MOST_BOX_CELLS) r.one).1 ∙ same_first r.x size b.x.1 end r.two in
     let w = one at bytes a.x.0 a.x.1 small le a.one in
     let h = one a.x.1 bytes b.x.0 b.x.1 small w.within b.one in
     record {
       w = subst (λ (s : Size). 1 ≤ s.w) same (axis_some at bytes a.x.0 a.x.1 small a.one);
       h = subst (λ (s : Size). 1 ≤ s.h) same (axis_some a.x.1 bytes b.x.0 b.x.1 small b.one);
       stood = ended block_size_field r.x size at b.x.1 end bytes r.two
-          (subst (λ (s : Size). Stood at b.x.1 (block_size_field s) bytes) (passed (nat_le (before + cell_count box) 33554432) box r.x (Limit Records (before + cell_count box) 33554432) r.one).1
+          (subst (λ (s : Size). Stood at b.x.1 (block_size_field s) bytes) (passed (nat_le (before + cell_count box) MOST_BOX_CELLS) box r.x (Limit Records (before + cell_count box) MOST_BOX_CELLS) r.one).1
           (both_stood at a.x.1 b.x.1 (field_16 a.x.0) (field_16 b.x.0) bytes w h));
     }
 

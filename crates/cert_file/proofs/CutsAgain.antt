@@ -46,6 +46,7 @@ use Rattle.cert_file.proofs.ChoiceBits.{bits_taken, bits_unused}
 use Rattle.cert_file.proofs.Readings.{ruled}
 use Rattle.cert_file.proofs.RecordReading.{chain_to_end, value_at_end}
 use Rattle.std.proofs.lemmas.List.FromFn.{length-map-range_with_len}
+use Rattle.limits.specs.declared.bounds.TheConstants.{MOST_BOX_CELLS}
 
 -- the corner of a box
 pub record IsCount (z : ℤ) : Type 0 where
@@ -81,14 +82,14 @@ box_axis_spells n lo small =
     let some : nat_eq n 0 ≡ false = not_equal n 0 (λ e. omega arith) in
     spells_16 box_axis_rule n n small (λ at. rw some refl)
 
-box_spells : (before : ℕ) (size : Size) → IsBoxSize size → before + cell_count size ≤ 33554432 → Spells (box_size_read before) (box_size_field size) size
+box_spells : (before : ℕ) (size : Size) → IsBoxSize size → before + cell_count size ≤ MOST_BOX_CELLS → Spells (box_size_read before) (box_size_field size) size
 box_spells before size axes few =
     let axis : ℕ → List ℕ → Result (ℕ × ℕ) ReadError = number_read w16 box_axis_rule in
     let end = λ (w h f : ℕ). ruled (box_cells_rule before (record { w = w; h = h; f = f })) in
     let w = field_16 size.w in
     let h = field_16 size.h in
     let f = field_16 size.f in
-    let low : nat_le (before + cell_count size) 33554432 ≡ true = le-leb (before + cell_count size) 33554432 few in
+    let low : nat_le (before + cell_count size) MOST_BOX_CELLS ≡ true = le-leb (before + cell_count size) MOST_BOX_CELLS few in
     let lawful : box_cells_rule before size ≡ Ok size = rw low refl in
     let all : w ++ (h ++ (f ++ [])) ≡ w ++ h ++ f = ap (λ t. w ++ (h ++ t)) (append-nil f) ∙ sym (append_assoc w h f) in
     subst (λ piece. Spells (box_size_read before) piece size) all
@@ -156,7 +157,7 @@ flow_spells flow short =
 
 -- a cut record, after boxes of so many cells
 cut_spells : (version : Version) (samples : List Size) (before : ℕ) → AreSamples version samples → (cut : CutRecord) → IsCutInForm samples cut → HasShortFlows cut
-    → before + cell_count cut.placement.rect.size ≤ 33554432 → Spells (cut_read version samples before) (cut_form version samples cut) cut
+    → before + cell_count cut.placement.rect.size ≤ MOST_BOX_CELLS → Spells (cut_read version samples before) (cut_form version samples cut) cut
 unfolding cut_form
 cut_spells version samples before are cut lawful short few =
     let corner = cut.placement.rect.corner in

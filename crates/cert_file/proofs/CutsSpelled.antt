@@ -9,6 +9,7 @@ use Rattle.std.specs.Bool.{nat_eq}
 use Rattle.std.specs.Int.{cast_signed, cast_unsigned, from_be_bytes, w16}
 use Rattle.std.specs.List.{flat_map}
 use Rattle.std.specs.Prelude.{pos, Bool, Result, Ok, nat_le}
+use Rattle.limits.specs.declared.bounds.TheConstants.{MOST_BOX_CELLS}
 use Rattle.shelf_core.specs.declared.fault.FormFault.TheVariants.{Form}
 use Rattle.shelf_core.specs.declared.fault.ReadError.{ReadError}
 use Rattle.shelf_core.specs.declared.fault.ReadError.TheVariants.{Bad, Limit}
@@ -85,7 +86,7 @@ box_stood before at bytes size end small le is =
     let c = peel {A = ℕ × ℕ} {C = Size × ℕ} (axis b.x.1 bytes) (λ f. made a.x.0 b.x.0 f.0 >>= λ size. Ok (size, f.1)) (size, end) b.two in
     let r = peel {A = Size} {C = Size × ℕ} (made a.x.0 b.x.0 c.x.0) (λ size. Ok (size, c.x.1)) (size, end) c.two in
     let box : Size = record { w = a.x.0; h = b.x.0; f = c.x.0 } in
-    let same : box ≡ r.x = (passed (nat_le (before + cell_count box) 33554432) box r.x (Limit Records (before + cell_count box) 33554432) r.one).1 in
+    let same : box ≡ r.x = (passed (nat_le (before + cell_count box) MOST_BOX_CELLS) box r.x (Limit Records (before + cell_count box) MOST_BOX_CELLS) r.one).1 in
     let w = one at bytes a.x.0 a.x.1 small le a.one in
     let h = one a.x.1 bytes b.x.0 b.x.1 small w.within b.one in
     let f = one b.x.1 bytes c.x.0 c.x.1 small h.within c.one in

@@ -5,6 +5,7 @@ use Rattle.std.proofs.lemmas.List.{append-nil}
 use Rattle.std.specs.Bool.{nat_eq}
 use Rattle.std.specs.Int.{w8, w16, w32, w64}
 use Rattle.std.specs.Prelude.{Result, Ok, nat_le, nat_lt}
+use Rattle.limits.specs.declared.bounds.TheConstants.{LONGEST_LOOP, MOST_LOOP_FRAMES, WIDEST_GAP}
 use Rattle.shelf_core.specs.declared.fault.ReadError.{ReadError}
 use Rattle.cells.specs.declared.place.Taps.{Taps}
 use Rattle.cells.specs.declared.place.Taps.TheVariants.{Four, None0, Two}
@@ -24,10 +25,10 @@ use Rattle.cert_file.proofs.CutsAgain.{EndsAs, IsFileOf, file_again, head_spells
 use Rattle.cert_file.proofs.NumberLists.{spells_all_16, spells_all_64}
 use Rattle.cert_file.proofs.RecordReading.{chain_to_end, value_at_end}
 
-length_spells : (n : ℕ) → 1 ≤ n → n ≤ 4096 → Spells (number_read w32 length_rule) (field_32 n) n
+length_spells : (n : ℕ) → 1 ≤ n → n ≤ LONGEST_LOOP → Spells (number_read w32 length_rule) (field_32 n) n
 length_spells n lo hi =
     let some : nat_eq n 0 ≡ false = not_equal n 0 (λ e. omega arith) in
-    let low : nat_le n 4096 ≡ true = le-leb n 4096 hi in
+    let low : nat_le n LONGEST_LOOP ≡ true = le-leb n LONGEST_LOOP hi in
     spells_32 length_rule n n (omega arith) (λ at. rw (some, low) refl)
 
 taps_spell : (taps : Taps) → Spells (number_read w8 taps_rule) (taps_number taps ∷ []) taps
@@ -35,13 +36,13 @@ taps_spell None0 = spells_8 taps_rule 0 None0 (λ at. refl)
 taps_spell Two = spells_8 taps_rule 2 Two (λ at. refl)
 taps_spell Four = spells_8 taps_rule 4 Four (λ at. refl)
 
-gap_spells : (n : ℕ) → 1 ≤ n → n ≤ 256 → Spells (number_read w16 gap_rule) (field_16 n) n
+gap_spells : (n : ℕ) → 1 ≤ n → n ≤ WIDEST_GAP → Spells (number_read w16 gap_rule) (field_16 n) n
 gap_spells n lo hi =
     let some : nat_eq n 0 ≡ false = not_equal n 0 (λ e. omega arith) in
-    let low : nat_lt 256 n ≡ false = lt-leb 257 n (omega arith) in
+    let low : nat_lt WIDEST_GAP n ≡ false = lt-leb (WIDEST_GAP + 1) n (omega arith) in
     spells_16 gap_rule n n (omega arith) (λ at. rw (some, low) refl)
 
-start_spells : (len : ℕ) (taps : Taps) (gap : ℕ) → 1 ≤ len → len ≤ 4096 → 1 ≤ gap → gap ≤ 256
+start_spells : (len : ℕ) (taps : Taps) (gap : ℕ) → 1 ≤ len → len ≤ LONGEST_LOOP → 1 ≤ gap → gap ≤ WIDEST_GAP
     → Spells walk_start_read (walk_start_form len taps gap) (record { length = len; taps = taps; gap = gap })
 start_spells len taps gap len_lo len_hi gap_lo gap_hi =
     let value : WalkStart = record { length = len; taps = taps; gap = gap } in
@@ -68,7 +69,7 @@ walk_end head taps gap walk tables lawful wide =
     let s = walk_start_form (length walk) taps gap in
     let a = fields_16 walk in
     let b = fields_64 tables in
-    let few : nat_le (frames_of head) 256 ≡ true = le-leb (frames_of head) 256 lawful.frames in
+    let few : nat_le (frames_of head) MOST_LOOP_FRAMES ≡ true = le-leb (frames_of head) MOST_LOOP_FRAMES lawful.frames in
     let fits : frames_rule (frames_of head) ≡ Ok tt = rw few refl in
     let read_walk = λ (n : ℕ). list_read (number_read w16 any_rule) n in
     let read_tables = λ (n : ℕ). list_read (number_read w64 any_rule) (table_entries head n) in

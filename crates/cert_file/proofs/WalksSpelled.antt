@@ -5,6 +5,7 @@ use Rattle.std.proofs.lemmas.Nat.{be_bytes_8}
 use Rattle.std.specs.Bool.{nat_eq}
 use Rattle.std.specs.Int.{w8, w16, w32, w64}
 use Rattle.std.specs.Prelude.{◌||◌, Result, Ok, Err, nat_lt, nat_le, if◌then◌else◌}
+use Rattle.limits.specs.declared.bounds.TheConstants.{LONGEST_LOOP, WIDEST_GAP}
 use Rattle.shelf_core.specs.declared.fault.FormFault.TheVariants.{Form}
 use Rattle.shelf_core.specs.declared.fault.ReadError.{ReadError}
 use Rattle.shelf_core.specs.declared.fault.ReadError.TheVariants.{Bad, Limit}
@@ -29,11 +30,11 @@ use Rattle.cert_file.proofs.ByKind.{walk_only}
 
 length_code : (at n x : ℕ) → length_rule at n ≡ Ok x → n ≡ x
 length_code at n x is =
-    let some = otherwise (nat_eq n 0) (if nat_le n 4096 then Ok n else Err (Limit Loop n 4096)) x (Bad (Form at)) is in
-    (passed (nat_le n 4096) n x (Limit Loop n 4096) some.1).1
+    let some = otherwise (nat_eq n 0) (if nat_le n LONGEST_LOOP then Ok n else Err (Limit Loop n LONGEST_LOOP)) x (Bad (Form at)) is in
+    (passed (nat_le n LONGEST_LOOP) n x (Limit Loop n LONGEST_LOOP) some.1).1
 
 gap_code : (at n x : ℕ) → gap_rule at n ≡ Ok x → n ≡ x
-gap_code at n x is = same_value n x (otherwise (nat_eq n 0 || nat_lt 256 n) (Ok n) x (Bad (Form at)) is).1
+gap_code at n x is = same_value n x (otherwise (nat_eq n 0 || nat_lt WIDEST_GAP n) (Ok n) x (Bad (Form at)) is).1
 
 taps_code : (at n : ℕ) (x : Taps) → taps_rule at n ≡ Ok x → n ≡ taps_number x
 taps_code at n x is = zero (nat_eq n 0) refl is

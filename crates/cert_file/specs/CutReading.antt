@@ -18,7 +18,7 @@ use Rattle.source_map.specs.declared.head.Version.TheVariants.{One, Two}
 use Rattle.source_map.specs.MapFiles.{numbered_size, part_rule, place_read}
 use Rattle.source_map.specs.Readings.{◌>>=◌, field_read, number_read, list_read}
 use Rattle.cert_file.specs.CutForms.{IsBoxSize, choice_bytes}
-use Rattle.cert_file.specs.declared.cut_fields.TheConstants.{MOST_BOX_CELLS}
+use Rattle.limits.specs.declared.bounds.TheConstants.{MOST_BOX_CELLS}
 
 -- the number of two bytes of a piece, from a place on
 abbrev pub number_of_two : List ℕ → ℕ → ℕ

@@ -24,7 +24,7 @@ use Rattle.cert_file.specs.CutReading.{box_cells, cuts_read}
 use Rattle.cert_file.specs.Rules.{any_rule, end_rule}
 use Rattle.cert_file.specs.WalkForms.{AreWide, IsWalkInForm, walk_form}
 use Rattle.cert_file.specs.WalkReading.{walk_file_read}
-use Rattle.cert_file.specs.declared.cut_fields.TheConstants.{MOST_BOX_CELLS}
+use Rattle.limits.specs.declared.bounds.TheConstants.{MOST_BOX_CELLS}
 
 abbrev pub record_magic : List ℕ
 record_magic = codes "WEAVEREC"

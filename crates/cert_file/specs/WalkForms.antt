@@ -8,7 +8,7 @@ use Rattle.source_map.specs.declared.head.Head.{Head}
 use Rattle.source_map.specs.declared.head.Version.TheVariants.{One}
 use Rattle.source_map.specs.Heads.{IsHead}
 use Rattle.source_map.specs.MapFiles.{numbered_size}
-use Rattle.cert_file.specs.declared.walk_fields.TheConstants.{GREATEST_GAP, MOST_FRAMES}
+use Rattle.limits.specs.declared.bounds.TheConstants.{MOST_LOOP_FRAMES, WIDEST_GAP}
 
 -- a filter, as the number of its taps
 abbrev pub taps_number : Taps → ℕ
@@ -42,10 +42,10 @@ IsHeadOfVersionOne head = IsHead head × (head.version ≡ One)
 pub record IsWalkInForm (head : Head) (gap : ℕ) (walk tables : List ℕ) : Type 0 where
   pub head_is : IsHead head
   pub version : head.version ≡ One
-  pub frames : frames_of head ≤ MOST_FRAMES
+  pub frames : frames_of head ≤ MOST_LOOP_FRAMES
   pub len : IsLength (length walk)
   pub gap_from : 1 ≤ gap
-  pub gap_to : gap ≤ GREATEST_GAP
+  pub gap_to : gap ≤ WIDEST_GAP
   pub entries : length tables ≡ table_entries head (length walk)
 
 -- the numbers of a walk have 16 bits and those of tables 64, as all have in memory

@@ -7,27 +7,26 @@ use Rattle.shelf_core.specs.declared.fault.ReadError.TheVariants.{Bad, Limit}
 use Rattle.shelf_core.specs.declared.fault.What.TheVariants.{Frames, Loop}
 use Rattle.cells.specs.declared.place.Taps.{Taps}
 use Rattle.cells.specs.declared.place.Taps.TheVariants.{Four, None0, Two}
-use Rattle.loop_walk.specs.declared.record.TheConstants.{GREATEST_LENGTH}
+use Rattle.limits.specs.declared.bounds.TheConstants.{LONGEST_LOOP, MOST_LOOP_FRAMES, WIDEST_GAP}
 use Rattle.loop_walk.specs.Tables.{IsLength}
 use Rattle.source_map.specs.declared.head.Head.{Head}
 use Rattle.source_map.specs.Readings.{◌>>=◌, list_read, number_read}
 use Rattle.cert_file.specs.declared.file.RecordFile.{RecordFile}
 use Rattle.cert_file.specs.declared.file.RecordFile.TheVariants.{Walk}
 use Rattle.cert_file.specs.declared.walk_fields.WalkStart.{WalkStart}
-use Rattle.cert_file.specs.declared.walk_fields.TheConstants.{GREATEST_GAP, MOST_FRAMES}
 use Rattle.cert_file.specs.Rules.{any_rule, end_rule}
 use Rattle.cert_file.specs.WalkForms.{table_entries, frames_of}
 
 -- the frames of the sample are limited
 abbrev pub frames_rule : ℕ → Result (Unit {0}) ReadError
-frames_rule n = if nat_le n MOST_FRAMES then Ok tt else Err (Limit Frames n MOST_FRAMES)
+frames_rule n = if nat_le n MOST_LOOP_FRAMES then Ok tt else Err (Limit Frames n MOST_LOOP_FRAMES)
 
 -- the length is at least 1, and limited
 abbrev pub length_rule : ℕ → ℕ → Result ℕ ReadError
 length_rule at n =
     if n == 0 then Err (Bad (Form at))
-    else if nat_le n GREATEST_LENGTH then Ok n
-    else Err (Limit Loop n GREATEST_LENGTH)
+    else if nat_le n LONGEST_LOOP then Ok n
+    else Err (Limit Loop n LONGEST_LOOP)
 
 abbrev pub taps_rule : ℕ → ℕ → Result Taps ReadError
 taps_rule at n =
@@ -37,7 +36,7 @@ taps_rule at n =
     else Err (Bad (Form at))
 
 abbrev pub gap_rule : ℕ → ℕ → Result ℕ ReadError
-gap_rule at n = if n == 0 || nat_lt GREATEST_GAP n then Err (Bad (Form at)) else Ok n
+gap_rule at n = if n == 0 || nat_lt WIDEST_GAP n then Err (Bad (Form at)) else Ok n
 
 -- the limit on frames, behind the head
 abbrev pub few_frames_read : ℕ → ℕ → List ℕ → Result (Unit {0} × ℕ) ReadError
@@ -54,7 +53,7 @@ walk_start_read at bytes =
 -- a length and a gap in their ranges
 pub record IsStart (start : WalkStart) : Type 0 where
   pub len : IsLength start.length
-  pub gap : (1 ≤ start.gap) × (start.gap ≤ GREATEST_GAP)
+  pub gap : (1 ≤ start.gap) × (start.gap ≤ WIDEST_GAP)
 
 -- a walk record, from behind a head to the end of the file
 abbrev pub walk_file_read : Head → ℕ → List ℕ → Result RecordFile ReadError

@@ -6,7 +6,7 @@ ghost use Rattle.file_bytes.specs.Reading.{Follows};
 ghost use Rattle.source_map.specs.Readings.{IsRefusal, ReadsFrom, number_read};
 ghost use Rattle.cert_file.specs.BlockReading.{IsStartAfter, IsBoundaryRead, IsSpot, block_size_read, block_start_read, boundary_read, cols_rule, flags_rule, spot_read, spot_rule};
 ghost use Rattle.cert_file.specs.CutReading.{IsBoxAfter};
-ghost use Rattle.cert_file.specs.declared.cut_fields.TheConstants.{MOST_BOX_CELLS};
+ghost use Rattle.limits.specs.declared.bounds.TheConstants.{MOST_BOX_CELLS};
 
 use crate::cut_fields::{form, lawful_box, read_box_axis};
 use crate::number_lists::{read_list_16, read_list_32};

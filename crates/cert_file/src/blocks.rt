@@ -14,7 +14,7 @@ ghost use Rattle.cert_file.specs.BlockForms.{IsBlockInForm, IsWideBlock, IsWideB
 ghost use Rattle.cert_file.specs.BlockReading.{IsBoundaryRead, IsSpot, block_read, blocks_read, side_read};
 ghost use Rattle.cert_file.specs.WalkForms.{IsHeadOfVersionOne};
 ghost use Rattle.cert_file.specs.RecordFiles.{AreBlocksInForm, AreBlocksInLimits, IsRecordFile, IsRecordFileOf, ReadsToEnd, blocks_file_read, blocks_form};
-ghost use Rattle.cert_file.specs.declared.cut_fields.TheConstants.{MOST_BOX_CELLS};
+ghost use Rattle.limits.specs.declared.bounds.TheConstants.{MOST_BOX_CELLS};
 ghost use Rattle.cert_file.specs.declared.file.RecordFile.TheVariants.{Blocks};
 
 use crate::block_fields::{read_block_start, read_boundary};

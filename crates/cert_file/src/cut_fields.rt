@@ -9,11 +9,9 @@ ghost use Rattle.cert_file.specs.CutReading.{IsBoxAfter, box_axis_rule, box_cell
 
 use cells::{At, Size, Sizes};
 use file_bytes::FileReader;
+use limits::MOST_BOX_CELLS;
 use shelf_core::{FormFault, ReadError, Shelf, What};
 use source_map::{Version, read_place};
-
-/// The most cells of all boxes of a record file.
-pub const MOST_BOX_CELLS: u64 = 33554432;
 
 // The refusal of a field at its place.
 pub(crate) fn form<T>(at: u64) -> Result<T, ReadError>

@@ -17,7 +17,6 @@ pub use block_check::BlockRecord;
 pub use blocks::write_blocks;
 pub use cells::Taps;
 pub use cut_check::{CutRecord, Flow};
-pub use cut_fields::MOST_BOX_CELLS;
 pub use file::{RecordFile, read_record_file, read_version_one_cuts, write_cuts};
 pub use items::Items;
 pub use law::{
@@ -27,5 +26,4 @@ pub use law::{
 };
 pub use source_map::{Head, Version};
 pub use strip_boundary::BoundaryRecord;
-pub use walk_fields::{GREATEST_GAP, MOST_FRAMES};
 pub use walks::write_walk;

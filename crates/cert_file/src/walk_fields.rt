@@ -8,14 +8,8 @@ ghost use Rattle.cert_file.specs.WalkReading.{IsStart, frames_rule, gap_rule, le
 
 use cells::Taps;
 use file_bytes::FileReader;
-use loop_walk::GREATEST_LENGTH;
+use limits::{LONGEST_LOOP, MOST_LOOP_FRAMES, WIDEST_GAP};
 use shelf_core::{FormFault, ReadError, Shelf, What};
-
-/// The most frames of the sample of a walk record.
-pub const MOST_FRAMES: u32 = 256;
-
-/// The greatest gap of a walk record.
-pub const GREATEST_GAP: u32 = 256;
 
 // What stands before the frames of a walk.
 #[derive(Clone, Copy, Drop)]
@@ -28,16 +22,16 @@ pub struct WalkStart {
 // Whether the sample's frames are few enough.
 pub(crate) fn lawful_frames(n: u32) -> Result<(), ReadError>
     ensures frames { result ≡ frames_rule n }
-    ensures few { OnOk result (n ≤ MOST_FRAMES) }
+    ensures few { OnOk result (n ≤ MOST_LOOP_FRAMES) }
     ensures refusal { IfErr result IsRefusal }
 {
-    if n <= MOST_FRAMES {
+    if n <= MOST_LOOP_FRAMES {
         Ok(())
     } else {
         Err(ReadError::Limit {
             what: What::Frames,
             number: u64::from(n),
-            bound: u64::from(MOST_FRAMES),
+            bound: u64::from(MOST_LOOP_FRAMES),
         })
     }
 }
@@ -45,18 +39,18 @@ pub(crate) fn lawful_frames(n: u32) -> Result<(), ReadError>
 // The length, if it is from 1 to the greatest.
 fn lawful_length(n: u32, at: u64) -> Result<u32, ReadError>
     ensures len { result ≡ length_rule at n }
-    ensures within { IfOk result (λ n. (1 ≤ n) × (n ≤ GREATEST_LENGTH)) }
+    ensures within { IfOk result (λ n. (1 ≤ n) × (n ≤ LONGEST_LOOP)) }
     ensures refusal { IfErr result IsRefusal }
 {
     if n == 0 {
         Err(ReadError::Bad(FormFault::Form(at)))
-    } else if n <= GREATEST_LENGTH {
+    } else if n <= LONGEST_LOOP {
         Ok(n)
     } else {
         Err(ReadError::Limit {
             what: What::Loop,
             number: u64::from(n),
-            bound: u64::from(GREATEST_LENGTH),
+            bound: u64::from(LONGEST_LOOP),
         })
     }
 }
@@ -80,10 +74,10 @@ fn lawful_taps(n: u8, at: u64) -> Result<Taps, ReadError>
 // The gap, if it is from 1 to the greatest.
 fn lawful_gap(n: u16, at: u64) -> Result<u32, ReadError>
     ensures gap { result ≡ gap_rule at n }
-    ensures within { IfOk result (λ n. (1 ≤ n) × (n ≤ GREATEST_GAP)) }
+    ensures within { IfOk result (λ n. (1 ≤ n) × (n ≤ WIDEST_GAP)) }
     ensures refusal { IfErr result IsRefusal }
 {
-    if n == 0 || u32::from(n) > GREATEST_GAP {
+    if n == 0 || u32::from(n) > WIDEST_GAP {
         Err(ReadError::Bad(FormFault::Form(at)))
     } else {
         Ok(u32::from(n))
@@ -96,7 +90,7 @@ fn read_length<S: Shelf>(file: &mut FileReader, shelf: &mut S, name: &str) -> Re
     requires room { file.old.at + 4 < 2 ^ 63 }
     ensures answer { ReadsFrom ⊥ name.now file.old.at (S.state shelf.old) (S.state shelf.new)
         file.new (number_read w32 length_rule) result }
-    ensures within { IfOk result (λ n. (1 ≤ n) × (n ≤ GREATEST_LENGTH)) }
+    ensures within { IfOk result (λ n. (1 ≤ n) × (n ≤ LONGEST_LOOP)) }
     ensures place { OnOk result (file.new.at ≡ file.old.at + 4) }
     ensures reads { OnlyReadsFile name.now (S.state shelf.old) (S.state shelf.new) }
 {
@@ -125,7 +119,7 @@ fn read_gap<S: Shelf>(file: &mut FileReader, shelf: &mut S, name: &str) -> Resul
     requires room { file.old.at + 2 < 2 ^ 63 }
     ensures answer { ReadsFrom ⊥ name.now file.old.at (S.state shelf.old) (S.state shelf.new)
         file.new (number_read w16 gap_rule) result }
-    ensures within { IfOk result (λ n. (1 ≤ n) × (n ≤ GREATEST_GAP)) }
+    ensures within { IfOk result (λ n. (1 ≤ n) × (n ≤ WIDEST_GAP)) }
     ensures place { OnOk result (file.new.at ≡ file.old.at + 2) }
     ensures reads { OnlyReadsFile name.now (S.state shelf.old) (S.state shelf.new) }
 {

@@ -10,7 +10,7 @@ ghost use Rattle.cert_file.specs.RecordFiles.{IsRecordFile, IsRecordFileOf, Read
 ghost use Rattle.cert_file.specs.WalkForms.{AreWide, IsHeadOfVersionOne, IsWalkInForm, frames_of, taps_number, walk_form, walk_start_form};
 ghost use Rattle.cert_file.specs.WalkReading.{walk_file_read};
 ghost use Rattle.cert_file.specs.declared.file.RecordFile.TheVariants.{Walk};
-ghost use Rattle.cert_file.specs.declared.walk_fields.TheConstants.{GREATEST_GAP, MOST_FRAMES};
+ghost use Rattle.limits.specs.declared.bounds.TheConstants.{MOST_LOOP_FRAMES, WIDEST_GAP};
 
 use crate::file::{MAGIC, RecordFile, WALK};
 use crate::number_lists::{read_list_16, read_list_64};
@@ -42,7 +42,7 @@ fn put_walk_start<S: Shelf>(
     shelf: &mut S,
     name: &str,
 )
-    requires gap { gap ≤ GREATEST_GAP }
+    requires gap { gap ≤ WIDEST_GAP }
     ensures { Puts name.now (walk_start_form len taps gap) (S.state shelf.old) (S.state shelf.new)
         file.old file.new }
 {
@@ -63,7 +63,7 @@ fn put_walk<S: Shelf>(
     name: &str,
 )
     requires len { IsLength (length walk.now) }
-    requires gap { gap ≤ GREATEST_GAP }
+    requires gap { gap ≤ WIDEST_GAP }
     ensures put { Puts name.now (walk_form taps gap walk.now tables.now) (S.state shelf.old)
         (S.state shelf.new) file.old file.new }
     ensures wide { AreWide walk.now tables.now }
@@ -111,7 +111,7 @@ fn sample_frames(head: &Head) -> u32
 
 // How many entries the tables for a length have, of so many frames.
 fn entry_count(n: u32, length: u32) -> usize
-    requires few { n ≤ MOST_FRAMES }
+    requires few { n ≤ MOST_LOOP_FRAMES }
     requires len { IsLength length }
     ensures count { result ≡ table_count length * (n * n) }
     ensures small { result ≤ 2 ^ 28 }

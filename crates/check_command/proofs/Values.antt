@@ -1,6 +1,7 @@
 -- The files of a run stand for one list of values at most, or are refused for one fault.
 use Rattle.std.proofs.Common.{◌≡◌, ℕ, inl, inr, List, ap, sym, ◌∙◌}
 use Rattle.std.specs.Prelude.{Result, Ok, Err}
+use Rattle.limits.specs.declared.bounds.TheConstants.{MOST_OUT_CLIP_CELLS}
 use Rattle.shelf_core.specs.Files.{Files, content_of}
 use Rattle.shelf_core.specs.declared.fault.ReadError.{ReadError}
 use Rattle.job_words.specs.declared.job.Names.{Names}
@@ -27,7 +28,7 @@ ok_or_err r x e p q = absurd (cc)
 
 pub same_out : (bytes : List ℕ) (one other : Sample) → IsOut bytes one → IsOut bytes other → one ≡ other
 same_out bytes one other a b =
-    let same = one_sample 33554432 bytes one.form other.form one.volume other.volume a b in
+    let same = one_sample MOST_OUT_CLIP_CELLS bytes one.form other.form one.volume other.volume a b in
     ap (λ f. record one { form = f }) same.form_is ∙ ap (λ v. record other { volume = v }) same.cells_are
 
 -- one refusal of a reader is one fault
@@ -52,7 +53,7 @@ module _ (names : Names) (files : Files) where
   no_samples have n fault refuses = not_both (content_of files names.sample) (contents files names.more) have.0 n fault have.1 refuses
 
   pub no_out : (out : Sample) → IsOut (content_of files names.out) out → (n : ℕ) (fault : Fault) → RefusesOut names files n fault → ⊥
-  no_out out is n fault r = stands_or_refused 33554432 (content_of files names.out) out.form out.volume r.refused.0 is r.refused.1
+  no_out out is n fault r = stands_or_refused MOST_OUT_CLIP_CELLS (content_of files names.out) out.form out.volume r.refused.0 is r.refused.1
 
   pub no_map : HaveMap names files → (n : ℕ) (fault : Fault) → RefusesMapFile names files n fault → ⊥
   no_map have n fault r = ok_or_err _ have.1.0 r.refused.0 have.1.1 r.refused.1
@@ -72,7 +73,7 @@ module _ (names : Names) (files : Files) where
 
   out_alone : (m n : ℕ) (first second : Fault) → RefusesOut names files m first → RefusesFiles names n files second → first ≡ second
   out_alone m n first second a (inl b) = absurd (no_samples a.before n second b)
-  out_alone m n first second a (inr (inl b)) = same_fault RefusesOutBytes part.Out (content_of files names.out) first second (one_sample_refusal 33554432 (content_of files names.out)) a.refused b.refused
+  out_alone m n first second a (inr (inl b)) = same_fault RefusesOutBytes part.Out (content_of files names.out) first second (one_sample_refusal MOST_OUT_CLIP_CELLS (content_of files names.out)) a.refused b.refused
   out_alone m n first second a (inr (inr (inl b))) = absurd (no_out b.before.1.0 b.before.1.1 m first a)
   out_alone m n first second a (inr (inr (inr b))) = absurd (no_out b.before.0.1.0 b.before.0.1.1 m first a)
 

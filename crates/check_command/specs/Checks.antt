@@ -22,16 +22,16 @@ use Rattle.standing_files.specs.declared.verdict.Verdict.{Verdict}
 use Rattle.standing_files.specs.declared.verdict.Verdict.TheVariants.{Stands, Fails}
 use Rattle.standing_files.specs.Standing.{FilesStand, IsFirstBrokenRule, IsVerdict}
 use Rattle.check_command.specs.declared.reading.ReadFiles.{ReadFiles}
-use Rattle.check_command.specs.declared.reading.TheConstants.{MOST_OUT_CELLS}
+use Rattle.limits.specs.declared.bounds.TheConstants.{MOST_OUT_CLIP_CELLS}
 
 -- What the files are.
 
 -- an out file is in the form of a sample, where a clip may have more cells
 abbrev pub IsOut : List ℕ → Sample → Type 0
-IsOut bytes out = IsSampleWithin MOST_OUT_CELLS bytes out
+IsOut bytes out = IsSampleWithin MOST_OUT_CLIP_CELLS bytes out
 
 abbrev pub RefusesOutBytes : List ℕ → ReadError → Type 0
-RefusesOutBytes bytes refusal = RefusesWithin MOST_OUT_CELLS bytes refusal
+RefusesOutBytes bytes refusal = RefusesWithin MOST_OUT_CLIP_CELLS bytes refusal
 
 abbrev pub IsReadMap : List ℕ → MapFile → Type 0
 IsReadMap bytes map_file = map_read bytes ≡ Ok map_file

@@ -9,4 +9,4 @@ mod check;
 mod reading;
 
 pub use check::check_files;
-pub use reading::{MOST_OUT_CELLS, ReadFiles};
+pub use reading::ReadFiles;

@@ -12,14 +12,12 @@ ghost use Rattle.check_command.specs.Readings.{ReadsPart};
 use cert_file::{RecordFile, read_record_file};
 use command::read_fault;
 use job_words::{CheckJob, Name};
+use limits::MOST_OUT_CLIP_CELLS;
 use sample_files::{Sample, Samples, read_sample_within, read_samples};
 use shelf_core::Shelf;
 use source_map::{MapFile, read_map};
 use std::alloc::Global;
 use synth_report::{Fault, FileOf};
-
-/// The most cells of an out file that is a clip.
-pub const MOST_OUT_CELLS: u64 = 33_554_432;
 
 /// The files of a run, as they were read.
 #[derive(Drop)]
@@ -38,7 +36,7 @@ fn read_out<S: Shelf>(alloc: Global, shelf: &mut S, name: &Name) -> Result<Sampl
         (S.state shelf.old) (S.state shelf.new) result }
     ensures reads { OnlyReadsFile name.now (S.state shelf.old) (S.state shelf.new) }
 {
-    match read_sample_within(alloc, shelf, name.as_text(), MOST_OUT_CELLS) {
+    match read_sample_within(alloc, shelf, name.as_text(), MOST_OUT_CLIP_CELLS) {
         Ok(out) => Ok(out),
         Err(error) => Err(read_fault(FileOf::Out, error)),
     }

@@ -2,6 +2,7 @@
 use Rattle.std.proofs.Common.{◌≡◌, ℕ, ◌≤◌, ◌<◌, ◌^◌, List, [], ◌∷◌, length, refl, ap, sym, ◌∙◌, subst, arith}
 use Rattle.std.proofs.lemmas.Int.{ints}
 use Rattle.std.specs.Prelude.{All, ℤ, pos, negsuc, ◌+ℤ◌, ◌≤ℤ◌, ◌<ℤ◌}
+use Rattle.limits.specs.declared.bounds.TheConstants.{GREATEST_AXIS}
 use Rattle.cells.specs.declared.place.At.{At}
 use Rattle.cells.specs.declared.place.Size.{Size}
 use Rattle.cells.specs.Boxes.{AxisHolds, HasCells}
@@ -46,7 +47,7 @@ pub in_samples : (sample : Cells) (p : At) → IsInsideOf sample p → IsInSampl
 in_samples sample p inside = (one_part_has sample p).inside.0 inside
 
 -- a box in an output has a corner and a size of 16 bits
-pub short_axis : (z : ℤ) (len n : ℕ) → AxisHolds n z len → 1 ≤ len → n ≤ 4096 → IsShortCoordinate z × (len < 2 ^ 16)
+pub short_axis : (z : ℤ) (len n : ℕ) → AxisHolds n z len → 1 ≤ len → n ≤ GREATEST_AXIS → IsShortCoordinate z × (len < 2 ^ 16)
 short_axis (pos c) len n box some le = ((omega (arith, ints), omega (arith, ints, box.to, some, le)), omega (arith, ints, box.to, le))
 short_axis (negsuc c) len n box some le = absurd (omega (arith, ints, box.from))
 
@@ -61,7 +62,7 @@ corner_inside sample corner inner holds some = subst (IsInsideOf sample) here (h
     here = λ k. record { x = none_on corner.x k; y = none_on corner.y k; f = none_on corner.f k }
 
 -- in a sample of one part it has coordinates of 16 bits, and frame 0 where there is one frame
-short_from : (z : ℤ) (n : ℕ) → pos 0 ≤ℤ z → z <ℤ pos n → n ≤ 4096 → IsShortCoordinate z
+short_from : (z : ℤ) (n : ℕ) → pos 0 ≤ℤ z → z <ℤ pos n → n ≤ GREATEST_AXIS → IsShortCoordinate z
 short_from z n low high le = (low, omega (arith, ints, high, le))
 
 first_of_one : (z : ℤ) (n : ℕ) → pos 0 ≤ℤ z → z <ℤ pos n → n ≡ 1 → z ≡ pos 0

@@ -8,7 +8,8 @@ ghost use Rattle.cost_windows.specs.Slides.{AreOthers, HoldsBlock, IsInBlock, bl
 ghost use Rattle.cost_windows.specs.Tables.{IsWindow, Touches, corners};
 
 use boxes::clipped;
-use cells::{Box3, GREATEST_AXIS, Size};
+use cells::{Box3, Size};
+use limits::GREATEST_AXIS;
 
 /// A run of cells along one axis.
 #[derive(Clone, Copy, Debug, Drop, PartialEq, Eq)]

@@ -14,8 +14,9 @@ ghost use Rattle.cost_windows.specs.Tables.{IsWindow, corners};
 use crate::block::{Block, corners};
 use crate::slide::sum_boxes;
 use boxes::{Counts, has_cells};
-use cells::{Axis, GREATEST_AXIS, Size, Volume};
+use cells::{Axis, Size, Volume};
 use costs::{Sources, seam_of};
+use limits::GREATEST_AXIS;
 use map_canvas::Map;
 
 // The costs of the cells of a row and the next ones in it, from a cell on. The source of each is asked

@@ -5,7 +5,8 @@ ghost use Rattle.boxes.specs.Sums.{sum_to};
 ghost use Rattle.costs.specs.Costs.{most_of_pair};
 ghost use Rattle.cost_windows.specs.Slides.{AreAtMost, IsLens, box_run, most_after_three, most_after_two};
 
-use cells::{MOST_CELLS, Size};
+use cells::Size;
+use limits::MOST_CELLS;
 
 // Adds to each entry all entries after it at multiples of a step.
 fn add_after(buffer: &mut [u64], step: usize)

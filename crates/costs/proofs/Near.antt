@@ -8,18 +8,18 @@ use Rattle.cells.specs.declared.place.Size.{Size}
 use Rattle.cells.specs.declared.place.Box3.{Box3}
 use Rattle.cells.specs.declared.place.Axis.{Axis}
 use Rattle.cells.specs.declared.place.Axis.TheVariants.{X, Y, F}
-use Rattle.cells.specs.Places.{DifferenceFits, IsSmall, SumFits, index_in, plus, spot}
+use Rattle.cells.specs.Places.{DifferenceFits, IsNearAxis, IsSmall, SumFits, index_in, plus, spot}
 use Rattle.cells.specs.Neighbours.{unit_step}
 use Rattle.cells.specs.Boxes.{AxisHolds, HoldsBox}
 use Rattle.cells.proofs.Raster.{OnAxis, index_below, index_parts}
 use Rattle.map_canvas.specs.Maps.{SourceMap, IsCoordinate, IsMap, IsSource, map_at, source_at}
 use Rattle.boxes.specs.Pairs.{AreCounts, cell_in}
 use Rattle.boxes.specs.Raster.{largest}
-use Rattle.cells.specs.declared.bounds.TheConstants.{GREATEST_AXIS}
-use Rattle.costs.specs.Costs.{IsAsked, IsAskedOn}
+use Rattle.limits.specs.declared.bounds.TheConstants.{GREATEST_AXIS}
+use Rattle.costs.specs.Costs.{IsAsked}
 
 -- a coordinate with a step of 0 or 1 is a number of 32 bits
-sum_near : (z : ℤ) (n : ℕ) → IsCoordinate z → n ≤ 4096 → FitsSigned w32 (z +ℤ pos n)
+sum_near : (z : ℤ) (n : ℕ) → IsCoordinate z → n ≤ GREATEST_AXIS → FitsSigned w32 (z +ℤ pos n)
 sum_near (pos a) n near le = small (a + n) (omega (arith, ints, near.1))
   where
     small : (d : ℕ) → d ≤ 200000 → FitsSigned w32 (pos d)
@@ -55,7 +55,7 @@ step_fits p F near = record {
 pub filled_near : (m : SourceMap) → IsMap m → (p from : At) → map_at m p ≡ Some from → IsSource p
 filled_near m is p from e = by (index_in m.size p) refl
   where
-    coordinate : (z : ℤ) (c n : ℕ) → OnAxis n z c → n ≤ 4096 → IsCoordinate z
+    coordinate : (z : ℤ) (c n : ℕ) → OnAxis n z c → n ≤ GREATEST_AXIS → IsCoordinate z
     coordinate z c n on le = subst IsCoordinate (sym on.is) (omega (arith, ints), omega (arith, ints, on.below))
 
     by : (o : Option ℕ) → index_in m.size p ≡ o → IsSource p
@@ -77,10 +77,10 @@ in_largest size corner inner small box = record {
 }
 
 -- a cell of a box and the next one along an axis may be asked for
-cell_on : (z : ℤ) (len c : ℕ) → AxisHolds GREATEST_AXIS z len → c < len → IsAskedOn (z +ℤ pos c)
+cell_on : (z : ℤ) (len c : ℕ) → AxisHolds GREATEST_AXIS z len → c < len → IsNearAxis (z +ℤ pos c)
 cell_on z len c box lt = (omega (arith, ints, box.from), omega (arith, ints, box.to))
 
-next_on : (z : ℤ) (len c step : ℕ) → AxisHolds GREATEST_AXIS z len → c < len → step ≤ 1 → IsAskedOn ((z +ℤ pos c) +ℤ pos step)
+next_on : (z : ℤ) (len c step : ℕ) → AxisHolds GREATEST_AXIS z len → c < len → step ≤ 1 → IsNearAxis ((z +ℤ pos c) +ℤ pos step)
 next_on z len c step box lt le = (omega (arith, ints, box.from), omega (arith, ints, box.to))
 
 pub cell_asked : (rect : Box3) (x y f : ℕ) → HoldsBox largest rect.corner rect.size → AreCounts rect.size x y f → IsAsked (cell_in rect x y f)
@@ -112,7 +112,7 @@ pub asked_step : (p : At) (axis : Axis) → IsAsked p → SumFits p (unit_step a
 asked_step p axis asked = let fits = step_fits p axis (record { x = (asked.x.0, omega (arith, ints, asked.x.1)); y = (asked.y.0, omega (arith, ints, asked.y.1)); f = (asked.f.0, omega (arith, ints, asked.f.1)) }) in fits.ahead
 
 -- and lies not far from the corner of a box
-apart : (z c : ℤ) (len : ℕ) → IsAskedOn z → AxisHolds GREATEST_AXIS c len → FitsSigned w32 (z -ℤ c)
+apart : (z c : ℤ) (len : ℕ) → IsNearAxis z → AxisHolds GREATEST_AXIS c len → FitsSigned w32 (z -ℤ c)
 apart z c len asked box = small (z -ℤ c) (omega (arith, ints, asked.0, box.from, box.to)) (omega (arith, ints, asked.1, box.from))
   where
     small : (d : ℤ) → negsuc 5000 ≤ℤ d → d ≤ℤ pos 5000 → FitsSigned w32 d

@@ -3,17 +3,17 @@
 --
 -- A map is read as what it says at each place: the source of the cell, or nothing where the cell is
 -- unfilled or outside the output. Sources are compared by any distance d of sample places.
-use Rattle.std.specs.Prelude.{◌≤ℤ◌, ℕ, ℤ, pos, ◌+◌, ◌*◌, Option, Some, None, if◌then◌else◌}
+use Rattle.std.specs.Prelude.{ℕ, ◌+◌, ◌*◌, Option, Some, None, if◌then◌else◌}
 use Rattle.cells.specs.declared.place.At.{At}
 use Rattle.cells.specs.declared.place.Size.{Size}
 use Rattle.cells.specs.declared.place.Axis.{Axis}
 use Rattle.cells.specs.declared.place.Axis.TheVariants.{X, Y, F}
 use Rattle.cells.specs.declared.place.Box3.{Box3}
-use Rattle.cells.specs.Places.{plus, minus, spot}
+use Rattle.cells.specs.Places.{IsNearAxis, plus, minus, spot}
 use Rattle.cells.specs.Neighbours.{unit_step}
 use Rattle.boxes.specs.Sums.{sum_box, sum_to}
 use Rattle.boxes.specs.Pairs.{cell_in, in_box}
-use Rattle.cells.specs.declared.bounds.TheConstants.{GREATEST_AXIS}
+use Rattle.limits.specs.declared.bounds.TheConstants.{GREATEST_AXIS}
 
 -- the cost of a cell of source a and the next one along an axis, of source b: how far a is from
 -- what stands before b in the sample, and what stands after a from b
@@ -72,10 +72,7 @@ abbrev pub most_of_frame : ℕ
 most_of_frame = GREATEST_AXIS * most_of_row
 
 -- a place that may be asked for a source: a cell of an output, or the next one along an axis
-abbrev pub IsAskedOn : ℤ → Type 0
-IsAskedOn z = (pos 0 ≤ℤ z) × (z ≤ℤ pos GREATEST_AXIS)
-
 pub record IsAsked (p : At) : Type 0 where
-  pub x : IsAskedOn p.x
-  pub y : IsAskedOn p.y
-  pub f : IsAskedOn p.f
+  pub x : IsNearAxis p.x
+  pub y : IsNearAxis p.y
+  pub f : IsNearAxis p.f

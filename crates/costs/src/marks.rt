@@ -8,7 +8,8 @@ ghost use Rattle.costs.specs.Intersections.{IsOn};
 ghost use Rattle.costs.specs.Lawful.{AreMarks};
 
 use boxes::Counts;
-use cells::{At, Box3, GREATEST_AXIS, Size};
+use cells::{At, Box3, Size};
+use limits::GREATEST_AXIS;
 use map_canvas::{Canvas, Placement};
 
 // Whether a size has so many cells.

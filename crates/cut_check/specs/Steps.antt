@@ -1,7 +1,7 @@
 -- A reader need not trust this file: it says what each rule takes as known, and how far a walk has
 -- come. (Own.)
 use Rattle.std.specs.Prelude.{◌≡◌, ◌<◌, ◌≤◌, ◌⊎◌, ◌+◌, ◌-◌, ◌*◌, ◌^◌, ◌+ℤ◌, ◌≤ℤ◌, ⊤, ℕ, ℤ, pos, true, List, IfSome, nat_lt, slice_index_or, if◌then◌else◌}
-use Rattle.cells.specs.declared.bounds.TheConstants.{MOST_CELLS}
+use Rattle.limits.specs.declared.bounds.TheConstants.{MOST_CELLS}
 use Rattle.cells.specs.declared.place.At.{At}
 use Rattle.cells.specs.declared.place.Axis.{Axis}
 use Rattle.cells.specs.declared.place.Axis.TheVariants.{X, Y, F}

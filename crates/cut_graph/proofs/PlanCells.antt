@@ -3,6 +3,7 @@ use Rattle.std.proofs.Common.{ℕ, ◌<◌, ◌≤◌, arith, rules}
 use Rattle.std.proofs.lemmas.Int.{ints}
 use Rattle.std.specs.Prelude.{ℤ, pos, negsuc, ◌≤ℤ◌, FitsSigned}
 use Rattle.std.specs.Int.{w32}
+use Rattle.limits.specs.declared.bounds.TheConstants.{GREATEST_AXIS}
 use Rattle.cells.specs.declared.place.At.{At}
 use Rattle.cells.specs.Boxes.{IsInBox}
 use Rattle.cells.specs.Places.{DifferenceFits, SumFits, index_in, minus, plus}
@@ -12,11 +13,11 @@ use Rattle.map_canvas.proofs.Filling.{fits_small, step_source, step_sum}
 use Rattle.cut_graph.specs.declared.plan.Plan.{Plan}
 use Rattle.cut_graph.specs.Plans.{IsPlan}
 
-near_fits : (z : ℤ) → pos 0 ≤ℤ z → z ≤ℤ pos 4096 → FitsSigned w32 z
+near_fits : (z : ℤ) → pos 0 ≤ℤ z → z ≤ℤ pos GREATEST_AXIS → FitsSigned w32 z
 near_fits (pos d) low high = let lt : d < 4097 = omega (arith, ints, high) in search rules
 near_fits (negsuc d) low high = absurd (omega (arith, ints, low))
 
-count_fits : (z : ℤ) (c n : ℕ) → OnAxis n z c → n ≤ 4096 → FitsSigned w32 z
+count_fits : (z : ℤ) (c n : ℕ) → OnAxis n z c → n ≤ GREATEST_AXIS → FitsSigned w32 z
 count_fits z c n on le = near_fits z (omega (arith, ints, on.is)) (omega (arith, ints, on.is, on.below))
 
 pub record CellFits (plan : Plan) (p : At) : Type 0 where

@@ -10,7 +10,8 @@ ghost use Rattle.cut_graph.specs.Numberings.{IsNumbering};
 use crate::numbering::Numbering;
 use crate::places::{SINK, SOURCE};
 use boxes::Counts;
-use cells::{At, MOST_CELLS};
+use cells::At;
+use limits::MOST_CELLS;
 use map_canvas::{Canvas, Placement};
 use std::alloc::{AllocError, Global};
 

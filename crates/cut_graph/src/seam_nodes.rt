@@ -8,7 +8,8 @@ ghost use Rattle.cut_graph.specs.Numberings.{IsNumbering};
 use crate::numbering::Numbering;
 use crate::places::{NO_SEAM, SINK};
 use boxes::{Counts, stride};
-use cells::{Axis, MOST_CELLS, Size};
+use cells::{Axis, Size};
+use limits::MOST_CELLS;
 use std::alloc::{AllocError, Global};
 
 // Whether two cells are both filled, by their nodes.

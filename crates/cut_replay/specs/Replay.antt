@@ -14,7 +14,7 @@ use Rattle.costs.specs.Lawful.{IsLeastChoice}
 use Rattle.cut_check.specs.declared.record.CutRecord.{CutRecord}
 use Rattle.cut_check.specs.Records.{CutStands, IsFirstCutFault, setting}
 use Rattle.cut_replay.specs.declared.records.Broken.{Broken}
-use Rattle.cut_replay.specs.declared.records.TheConstants.{MOST_BOX_CELLS}
+use Rattle.limits.specs.declared.bounds.TheConstants.{MOST_BOX_CELLS}
 
 -- the map that records leave
 abbrev pub left_by : SourceMap → List CutRecord → SourceMap

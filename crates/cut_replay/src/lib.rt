@@ -10,4 +10,4 @@ mod laws;
 mod records;
 
 pub use laws::{broken_record_stands_not, records_that_stand};
-pub use records::{Broken, MOST_BOX_CELLS, replay_cuts};
+pub use records::{Broken, replay_cuts};

@@ -7,9 +7,6 @@ use cells::Volume;
 use cut_check::{CutFault, CutRecord, check_cut};
 use map_canvas::Canvas;
 
-/// The most cells that the boxes of a list of records may have, all together.
-pub const MOST_BOX_CELLS: u64 = 33554432;
-
 /// The first record that doesn't stand over the map that the records before it leave.
 #[derive(Clone, Copy, Debug, Drop, PartialEq, Eq)]
 pub struct Broken {

@@ -4,6 +4,7 @@ use Rattle.std.specs.Prelude.{◌≡◌, ◌≤◌, ◌<◌, ℕ, ◌+◌, ◌-�
 use Rattle.std.specs.Int.{abs_diff}
 use Rattle.cells.specs.declared.place.Taps.{Taps}
 use Rattle.cells.specs.declared.place.Taps.TheVariants.{None0, Two, Four}
+use Rattle.limits.specs.declared.bounds.TheConstants.{MOST_LOOP_FRAMES}
 use Rattle.frame_distance.specs.Tables.{Distances, distance_at, entries_of}
 
 -- how many frames before and after a frame the filter reads
@@ -67,6 +68,6 @@ AreStepsOf table taps gap costs = (i j : ℕ) → i < table.frames → j < table
 
 -- what all step costs are
 pub record AreSteps (steps : Steps) : Type 0 where
-  pub frames : (1 ≤ steps.frames) × (steps.frames ≤ 256)
+  pub frames : (1 ≤ steps.frames) × (steps.frames ≤ MOST_LOOP_FRAMES)
   pub whole : length steps.costs ≡ steps.frames * steps.frames
   pub below : All (λ cost. IfSome cost (λ number. number < 2 ^ 46)) steps.costs

@@ -2,6 +2,7 @@
 use Rattle.std.specs.Prelude.{◌≡◌, ◌≤◌, ◌<◌, ℕ, ◌+◌, ◌*◌, ◌/◌, ◌%◌, ◌^◌, List, length, map, All, slice_index}
 use Rattle.std.specs.List.{range_with_len}
 use Rattle.cells.specs.Cells.{Cells}
+use Rattle.limits.specs.declared.bounds.TheConstants.{MOST_LOOP_FRAMES}
 use Rattle.frame_distance.specs.Frames.{frame_distance}
 
 -- a number for each two frames, row by row: that of frames i and j is entry i * frames + j
@@ -30,6 +31,6 @@ AreDistancesOf clip table = (i j : ℕ) → i < clip.size.f → j < clip.size.f 
 
 -- what every table of distances is
 pub record IsDistanceTable (table : Distances) : Type 0 where
-  pub frames : (1 ≤ table.frames) × (table.frames ≤ 256)
+  pub frames : (1 ≤ table.frames) × (table.frames ≤ MOST_LOOP_FRAMES)
   pub whole : length table.numbers ≡ table.frames * table.frames
   pub below : All (λ number. number < 2 ^ 43) table.numbers

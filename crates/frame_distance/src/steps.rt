@@ -4,6 +4,7 @@ ghost use Rattle.frame_distance.specs.Steps.{AreSteps, AreStepsOf, has_terms, fi
 
 use crate::table::Table;
 use cells::Taps;
+use limits::MOST_LOOP_FRAMES;
 use std::alloc::{AllocError, Global};
 use std::marker::Model;
 
@@ -50,7 +51,7 @@ impl StepCosts {
 
 // All frames that the filter reads at frame i are there.
 fn has_terms(n: u32, taps: Taps, i: u32) -> bool
-    requires { i ≤ 256 }
+    requires { i ≤ MOST_LOOP_FRAMES }
     ensures { result ≡ has_terms n taps i }
 {
     match taps {
@@ -82,8 +83,8 @@ fn filter_sum(table: &Table, taps: Taps, i: u32, j: u32) -> u64
 
 // The filtered distance of two frames; None where one of its terms isn't there.
 fn filtered_distance(table: &Table, taps: Taps, i: u32, j: u32) -> Option<u64>
-    requires row { i ≤ 256 }
-    requires column { j ≤ 256 }
+    requires row { i ≤ MOST_LOOP_FRAMES }
+    requires column { j ≤ MOST_LOOP_FRAMES }
     ensures distance { result ≡ filtered_distance table.now taps i j }
     ensures below { IfSome result (λ number. number < 2 ^ 46) }
 {

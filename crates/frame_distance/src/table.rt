@@ -7,14 +7,12 @@ ghost use Rattle.frame_distance.specs.Tables.{AreDistancesOf, IsDistanceTable, d
 
 use cells::Volume;
 use lane_kernels::ssd;
+use limits::{MOST_CHANNELS, MOST_LOOP_FRAMES, MOST_SAMPLE_CELLS};
 use std::alloc::{AllocError, Global};
 use std::marker::Model;
 
-/// The most cells of a clip whose frames are compared.
-pub const MOST_CLIP_CELLS: usize = 8388608;
-
-// The most bytes of a frame: one of all these cells, of 6 samples each.
-const MOST_FRAME_BYTES: usize = 50331648;
+// The most bytes of a frame: one of all cells of a clip.
+const MOST_FRAME_BYTES: usize = MOST_SAMPLE_CELLS as usize * MOST_CHANNELS as usize;
 
 /// The distance of each two frames of a clip: from 1 to 256 frames, each number below 2^43.
 #[derive(Drop)]
@@ -93,7 +91,7 @@ fn next_distance(bytes: &[u8], len: usize, n: usize, so_far: &[u64]) -> u64
 fn all_distances(alloc: Global, bytes: &[u8], len: usize, n: usize) -> Result<Vec<u64>, AllocError>
     requires frames { length bytes.now ≡ len * n }
     requires len { len ≤ MOST_FRAME_BYTES }
-    requires few { n ≤ 256 }
+    requires few { n ≤ MOST_LOOP_FRAMES }
     ensures numbers { IfOk result (λ numbers.
         numbers.items ≡ entries_of n (distance_in bytes.now len) (n * n)) }
     ensures small { IfOk result (λ numbers. All (λ number. number < 2 ^ 43) numbers.items) }
@@ -110,8 +108,8 @@ fn all_distances(alloc: Global, bytes: &[u8], len: usize, n: usize) -> Result<Ve
 /// differences over their samples.
 pub fn distances(alloc: Global, clip: &Volume) -> Result<Table, AllocError>
     requires part { IsOnePart clip.now }
-    requires frames { clip.now.size.f ≤ 256 }
-    requires cells { cell_count clip.now.size ≤ MOST_CLIP_CELLS }
+    requires frames { clip.now.size.f ≤ MOST_LOOP_FRAMES }
+    requires cells { cell_count clip.now.size ≤ MOST_SAMPLE_CELLS }
     ensures table { IfOk result (λ table. table ≡ distances_of clip.now) }
     ensures each { IfOk result (AreDistancesOf clip.now) }
 {

@@ -12,7 +12,7 @@ use Rattle.source_map.specs.MapFiles.{cell_map_form}
 use Rattle.cut_check.specs.declared.record.CutRecord.{CutRecord}
 use Rattle.graph_place.specs.Placed.{map_total}
 use Rattle.cut_replay.specs.Replay.{EachOver}
-use Rattle.cut_replay.specs.declared.records.TheConstants.{MOST_BOX_CELLS}
+use Rattle.limits.specs.declared.bounds.TheConstants.{MOST_BOX_CELLS}
 use Rattle.grow_run.specs.declared.plan.GrowPlan.{GrowPlan}
 use Rattle.grow_run.specs.Grown.{Growth as Growing, GrowsBy, PassesAt, first_growth}
 use Rattle.grow_run.specs.Runs.{Leads}

@@ -4,7 +4,7 @@ use Rattle.std.specs.Prelude.{◌≡◌, ◌≤◌, ◌<◌, ◌⊎◌, ◌+◌,
 use Rattle.cells.specs.declared.place.Size.{Size}
 use Rattle.cells.specs.Cells.{Cells, IsVolume, sizes_of}
 use Rattle.cells.specs.Places.{cell_count}
-use Rattle.cells.specs.declared.bounds.TheConstants.{GREATEST_AXIS}
+use Rattle.limits.specs.declared.bounds.TheConstants.{GREATEST_AXIS, MOST_BOX_CELLS, MOST_OUTPUT_CELLS, MOST_PICTURE_FRAMES}
 use Rattle.shelf_core.specs.Files.{Files, content_of}
 use Rattle.shelf_core.specs.declared.fault.What.TheVariants.{Frames, Output, Records as RecordsLimit}
 use Rattle.source_map.specs.MapFiles.{cell_map_form}
@@ -14,7 +14,6 @@ use Rattle.source_map.specs.declared.head.Version.TheVariants.{One, Two}
 use Rattle.graph_place.specs.Placed.{map_total}
 use Rattle.patch_place.specs.declared.mode.Mode.{Mode}
 use Rattle.patch_place.specs.declared.mode.Mode.TheVariants as mode
-use Rattle.cut_replay.specs.declared.records.TheConstants.{MOST_BOX_CELLS}
 use Rattle.grow_run.specs.declared.plan.GrowPlan.{GrowPlan}
 use Rattle.grow_run.specs.declared.plan.GrowError.{GrowError}
 use Rattle.grow_run.specs.declared.plan.GrowError.TheVariants as error
@@ -36,7 +35,6 @@ use Rattle.sample_files.specs.declared.form.Form.TheVariants.{Picture, Clip}
 use Rattle.sample_files.specs.declared.several.Samples.{Samples}
 use Rattle.sample_files.specs.Samples.{form_text}
 use Rattle.sample_files.specs.Several.{StandForSamples, AreSoundSamples, MayRefuseSamples, RefusesSamples, contents, sample_files}
-use Rattle.grow_command.specs.declared.asked.TheConstants.{MOST_OUTPUT_CELLS}
 use Rattle.grow_command.specs.declared.plan.Growth.{Growth}
 
 -- The plan of a job.
@@ -62,7 +60,7 @@ plan_of job = record {
 
 -- the most frames of an output in this form
 abbrev pub frames_allowed : Form → ℕ
-frames_allowed (Picture maxval) = 1
+frames_allowed (Picture maxval) = MOST_PICTURE_FRAMES
 frames_allowed (Clip form) = GREATEST_AXIS
 
 -- the output has no more frames than its form allows, and no more cells than an output may have

@@ -2,15 +2,12 @@
 ghost use Rattle.std.specs.Prelude.{◌≡◌};
 ghost use Rattle.grow_command.specs.Growths.{fault_of_growing, mode_for};
 
-use cut_replay::MOST_BOX_CELLS;
 use grow_run::GrowError;
 use job_words::Place;
+use limits::MOST_BOX_CELLS;
 use patch_place::Mode;
 use shelf_core::What;
 use synth_report::Fault;
-
-/// The greatest number of cells of an output.
-pub const MOST_OUTPUT_CELLS: usize = 1_048_576;
 
 /// The mode of growing, by what the words ask for.
 pub fn mode_for(place: Place, side: u32, overlap: u32, tol: u32) -> Mode

@@ -12,6 +12,6 @@ mod asked;
 mod plan;
 mod whole;
 
-pub use asked::{MOST_OUTPUT_CELLS, growing_fault, mode_for};
+pub use asked::{growing_fault, mode_for};
 pub use plan::Growth;
 pub use whole::grow;

@@ -7,12 +7,13 @@ ghost use Rattle.command.specs.Commands.{names_in};
 ghost use Rattle.command.specs.Outcomes.{Plans};
 ghost use Rattle.grow_command.specs.Growths.{IsMade, SetAgainst, grow_command, growth_files, growth_summary, frames_allowed, plan_of};
 
-use crate::asked::{MOST_OUTPUT_CELLS, growing_fault, mode_for};
-use cells::{GREATEST_AXIS, Size};
+use crate::asked::{growing_fault, mode_for};
+use cells::Size;
 use command_files::records_fit;
 use costs::total;
 use grow_run::{GrowPlan, Grown, grow_canvas};
 use job_words::GrowJob;
+use limits::{GREATEST_AXIS, MOST_OUTPUT_CELLS, MOST_PICTURE_FRAMES};
 use sample_files::{Form, Samples, read_samples};
 use shelf_core::{Shelf, What};
 use std::alloc::Global;
@@ -46,7 +47,7 @@ fn frames_allowed(form: &Form) -> u32
     ensures { result ≡ frames_allowed form.now }
 {
     match form {
-        Form::Picture { .. } => 1,
+        Form::Picture { .. } => MOST_PICTURE_FRAMES,
         Form::Clip { .. } => GREATEST_AXIS,
     }
 }
@@ -73,11 +74,11 @@ fn set_against(job: &GrowJob, form: &Form) -> Result<(), Fault>
         });
     }
     let cells = cells_of(job.size);
-    if cells > MOST_OUTPUT_CELLS as u64 {
+    if cells > MOST_OUTPUT_CELLS {
         return Err(Fault::Limit {
             what: What::Output,
             number: cells,
-            bound: MOST_OUTPUT_CELLS as u64,
+            bound: MOST_OUTPUT_CELLS,
         });
     }
     Ok(())

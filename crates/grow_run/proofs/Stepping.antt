@@ -19,7 +19,7 @@ use Rattle.cut_check.specs.Records.{CutStands, setting}
 use Rattle.graph_place.specs.Fewest.{IsFewestHeld}
 use Rattle.graph_place.specs.Placed.{IsPlaced}
 use Rattle.refine_seams.specs.Rounds.{IsRoundAt}
-use Rattle.cut_replay.specs.declared.records.TheConstants.{MOST_BOX_CELLS}
+use Rattle.limits.specs.declared.bounds.TheConstants.{MOST_BOX_CELLS}
 use Rattle.cut_replay.specs.Replay.{EachStands, IsFormed, box_cells, left_by}
 use Rattle.cut_replay.proofs.RunLaws.{cells_more, each_more, left_more}
 use Rattle.grow_run.specs.declared.plan.GrowPlan.{GrowPlan}

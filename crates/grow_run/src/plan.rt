@@ -38,7 +38,7 @@ pub struct Grown {
 /// Why nothing is grown.
 #[derive(Clone, Copy, Debug, Drop, PartialEq, Eq)]
 pub enum GrowError {
-    /// The boxes have more than `cut_replay::MOST_BOX_CELLS` cells, all together: so many with the first box
+    /// The boxes have more than `limits::MOST_BOX_CELLS` cells, all together: so many with the first box
     /// that is too much.
     Records(u64),
     /// There is no memory.

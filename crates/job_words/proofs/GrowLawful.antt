@@ -5,8 +5,7 @@ use Rattle.job_words.specs.declared.keys.Key.TheVariants as key
 use Rattle.job_words.specs.declared.table.Row.{Row}
 use Rattle.job_words.specs.declared.settings.Setting.{Setting}
 use Rattle.job_words.specs.declared.grow.GrowJob.{GrowJob}
-use Rattle.job_words.specs.declared.bounds.TheConstants.{GREATEST_OVERLAP, GREATEST_SEED, GREATEST_TOLERANCE, MOST_ROUNDS}
-use Rattle.cells.specs.declared.bounds.TheConstants.{GREATEST_AXIS}
+use Rattle.limits.specs.declared.bounds.TheConstants.{GREATEST_AXIS, GREATEST_OVERLAP, GREATEST_SEED, GREATEST_TOLERANCE, MOST_ROUNDS}
 use Rattle.job_words.specs.Words.{value_at, all_settings, HasAllValues}
 use Rattle.job_words.specs.GrowWords.{HasGrowValues, IsGrowJob, grow_of, grow_own_rows, grow_rows}
 use Rattle.job_words.proofs.Full.{AreAll, AreSound, all_of_words, full, given_at, names_given, names_of_run, number_within, sound}

@@ -1,7 +1,7 @@
 -- The job of `loop`: each value is in its range, the names differ, and there is one sample.
 use Rattle.std.proofs.Common.{◌≡◌, ℕ, List, refl, sym, subst}
 use Rattle.std.specs.Prelude.{Ok}
-use Rattle.job_words.specs.declared.bounds.TheConstants.{LONGEST_LOOP, WIDEST_GAP}
+use Rattle.limits.specs.declared.bounds.TheConstants.{LONGEST_LOOP, WIDEST_GAP}
 use Rattle.job_words.specs.declared.keys.Key.TheVariants as key
 use Rattle.job_words.specs.declared.loop_words.LoopJob.{LoopJob}
 use Rattle.job_words.specs.declared.table.Row.{Row}

@@ -4,8 +4,7 @@ use Rattle.std.specs.Prelude.{Option, Some, None, Result, Ok, IfOk}
 use Rattle.cells.specs.declared.place.Axis.{Axis}
 use Rattle.cells.specs.declared.place.Axis.TheVariants.{X, Y, F}
 use Rattle.cells.specs.declared.place.Size.{Size}
-use Rattle.cells.specs.declared.bounds.TheConstants.{GREATEST_AXIS}
-use Rattle.job_words.specs.declared.bounds.TheConstants.{GREATEST_OVERLAP, GREATEST_SEED, GREATEST_TOLERANCE, LEAST_WRAPPED_AXIS}
+use Rattle.limits.specs.declared.bounds.TheConstants.{GREATEST_AXIS, GREATEST_OVERLAP, GREATEST_SEED, GREATEST_TOLERANCE, LEAST_WRAPPED_AXIS}
 use Rattle.job_words.specs.declared.job.WordFault.{WordFault}
 use Rattle.job_words.specs.declared.keys.Key.TheVariants as key
 use Rattle.job_words.specs.declared.table.Row.{Row}

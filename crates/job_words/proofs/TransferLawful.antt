@@ -1,8 +1,7 @@
 -- The job of `transfer`: each value is in its range, the names differ, and there is one sample.
 use Rattle.std.proofs.Common.{◌≡◌, ℕ, List, [], ◌∷◌, refl, sym, subst}
 use Rattle.std.specs.Prelude.{Ok}
-use Rattle.cells.specs.declared.bounds.TheConstants.{GREATEST_AXIS}
-use Rattle.job_words.specs.declared.bounds.TheConstants.{GREATEST_ALPHA, GREATEST_OVERLAP, GREATEST_SEED, GREATEST_TOLERANCE}
+use Rattle.limits.specs.declared.bounds.TheConstants.{GREATEST_ALPHA, GREATEST_AXIS, GREATEST_OVERLAP, GREATEST_SEED, GREATEST_TOLERANCE}
 use Rattle.job_words.specs.declared.keys.Key.TheVariants as key
 use Rattle.job_words.specs.declared.table.Row.{Row}
 use Rattle.job_words.specs.declared.settings.Setting.{Setting}

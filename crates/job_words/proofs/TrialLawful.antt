@@ -1,8 +1,7 @@
 -- The job of `trial`: each value is in its range.
 use Rattle.std.proofs.Common.{◌≡◌, ℕ, List, refl, sym, subst, arith}
 use Rattle.std.specs.Prelude.{Ok}
-use Rattle.cells.specs.declared.bounds.TheConstants.{GREATEST_AXIS}
-use Rattle.job_words.specs.declared.bounds.TheConstants.{GREATEST_OVERLAP, GREATEST_SAMPLE_NUMBER, GREATEST_SEED, GREATEST_TOLERANCE, MOST_ROUNDS}
+use Rattle.limits.specs.declared.bounds.TheConstants.{GREATEST_AXIS, GREATEST_OVERLAP, GREATEST_SAMPLE_NUMBER, GREATEST_SEED, GREATEST_TOLERANCE, MOST_ROUNDS}
 use Rattle.job_words.specs.declared.keys.Key.TheVariants as key
 use Rattle.job_words.specs.declared.table.Row.{Row}
 use Rattle.job_words.specs.declared.settings.Setting.{Setting}

@@ -1,9 +1,8 @@
 -- The words of `grow`: its keys, and its job. To be trusted: contracts cite these words. (Own.)
 use Rattle.std.specs.Prelude.{◌≤◌, ℕ, List, [], ◌∷◌, Result, Ok, slice_index_or}
 use Rattle.cells.specs.Places.{HasAxes}
-use Rattle.cells.specs.declared.bounds.TheConstants.{GREATEST_AXIS}
+use Rattle.limits.specs.declared.bounds.TheConstants.{GREATEST_AXIS, GREATEST_OVERLAP, GREATEST_SEED, GREATEST_TOLERANCE, MOST_ROUNDS}
 use Rattle.cells.specs.declared.place.Size.{Size}
-use Rattle.job_words.specs.declared.bounds.TheConstants.{GREATEST_OVERLAP, GREATEST_SEED, GREATEST_TOLERANCE, MOST_ROUNDS}
 use Rattle.job_words.specs.declared.job.WordFault.{WordFault}
 use Rattle.job_words.specs.declared.keys.Key.TheVariants as key
 use Rattle.job_words.specs.declared.table.Texts.TheVariants.{Places}

@@ -1,7 +1,6 @@
 -- The words of `transfer`: its keys, and its job. To be trusted: contracts cite these words. (Own.)
 use Rattle.std.specs.Prelude.{◌≡◌, ◌≤◌, ℕ, List, [], ◌∷◌, Result, Ok}
-use Rattle.cells.specs.declared.bounds.TheConstants.{GREATEST_AXIS}
-use Rattle.job_words.specs.declared.bounds.TheConstants.{GREATEST_ALPHA, GREATEST_OVERLAP, GREATEST_SEED, GREATEST_TOLERANCE}
+use Rattle.limits.specs.declared.bounds.TheConstants.{GREATEST_ALPHA, GREATEST_AXIS, GREATEST_OVERLAP, GREATEST_SEED, GREATEST_TOLERANCE}
 use Rattle.job_words.specs.declared.job.WordFault.{WordFault}
 use Rattle.job_words.specs.declared.keys.Key.TheVariants as key
 use Rattle.job_words.specs.declared.settings.Setting.{Setting}

@@ -3,7 +3,6 @@ ghost use Rattle.std.specs.Prelude.{◌≡◌, ◌<◌, IfOk};
 ghost use Rattle.job_words.specs.Words as by;
 ghost use Rattle.job_words.specs.GrowWords.{HasGrowValues, IsGrowJob, grow_job_of, grow_of, grow_rows, grow_size, place_nth};
 
-use crate::bounds::{GREATEST_OVERLAP, GREATEST_SEED, GREATEST_TOLERANCE, MOST_ROUNDS};
 use crate::fields::{names_at, nth_at, number_at};
 use crate::job::{Names, WordFault};
 use crate::keys::Key;
@@ -13,7 +12,8 @@ use crate::settings::Setting;
 use crate::table::{
     Choice, Kind, Need, Row, Texts, file_row, number_row, place_row, sample_row, with_files,
 };
-use cells::{GREATEST_AXIS, Size};
+use cells::Size;
+use limits::{GREATEST_AXIS, GREATEST_OVERLAP, GREATEST_SEED, GREATEST_TOLERANCE, MOST_ROUNDS};
 use std::alloc::{AllocError, Global};
 
 /// How the places of patches are chosen.

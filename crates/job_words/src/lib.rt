@@ -7,7 +7,6 @@
 //! how one is added.
 #![tactic(auto)]
 
-mod bounds;
 mod check;
 mod fields;
 mod grow;
@@ -25,10 +24,6 @@ mod transfer;
 mod trial;
 mod upgrade;
 
-pub use bounds::{
-    GREATEST_ALPHA, GREATEST_OVERLAP, GREATEST_SAMPLE_NUMBER, GREATEST_SEED, GREATEST_TOLERANCE,
-    LEAST_WRAPPED_AXIS, LONGEST_LOOP, MOST_ROUNDS, WIDEST_GAP,
-};
 pub use cells::Taps;
 pub use check::CheckJob;
 pub use grow::{GrowJob, Place};

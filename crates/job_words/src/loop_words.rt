@@ -3,7 +3,6 @@ ghost use Rattle.std.specs.Prelude.{◌≡◌, IfOk};
 ghost use Rattle.job_words.specs.Words as by;
 ghost use Rattle.job_words.specs.LoopWords.{HasLoopValues, IsLoopJob, loop_job_of, loop_of, loop_rows, taps_of};
 
-use crate::bounds::{LONGEST_LOOP, WIDEST_GAP};
 use crate::fields::{names_at, number_at};
 use crate::job::{Names, WordFault};
 use crate::keys::Key;
@@ -12,6 +11,7 @@ use crate::read::all_settings;
 use crate::settings::Setting;
 use crate::table::{Choice, Kind, Need, Row, file_row, number_row, with_one_sample};
 use cells::Taps;
+use limits::{LONGEST_LOOP, WIDEST_GAP};
 use std::alloc::{AllocError, Global};
 
 /// Looping the frames of one clip.

@@ -3,7 +3,6 @@ ghost use Rattle.std.specs.Prelude.{◌≡◌, IfOk};
 ghost use Rattle.job_words.specs.Words as by;
 ghost use Rattle.job_words.specs.QuiltWords.{HasQuiltValues, IsQuiltJob, quilt_job_of, quilt_of, quilt_rows};
 
-use crate::bounds::{GREATEST_OVERLAP, GREATEST_SEED, GREATEST_TOLERANCE};
 use crate::fields::{names_at, number_at};
 use crate::job::{Names, WordFault};
 use crate::keys::Key;
@@ -11,7 +10,7 @@ use crate::name::Name;
 use crate::read::all_settings;
 use crate::settings::Setting;
 use crate::table::{Choice, Kind, Need, Row, file_row, number_row, with_one_sample};
-use cells::GREATEST_AXIS;
+use limits::{GREATEST_AXIS, GREATEST_OVERLAP, GREATEST_SEED, GREATEST_TOLERANCE};
 use std::alloc::{AllocError, Global};
 
 /// Quilting an output from the blocks of one picture.

@@ -3,7 +3,6 @@ ghost use Rattle.std.specs.Prelude.{◌≡◌, ◌<◌, IfOk};
 ghost use Rattle.job_words.specs.Words as by;
 ghost use Rattle.job_words.specs.TileWords.{HasTileValues, IsTileJob, is_narrow, narrow_axis, tile_job_of, tile_of, tile_plan, tile_rows, tile_size, unless_narrow, wrap_nth};
 
-use crate::bounds::{GREATEST_OVERLAP, GREATEST_SEED, GREATEST_TOLERANCE, LEAST_WRAPPED_AXIS};
 use crate::fields::{name_at, nth_at, number_at};
 use crate::job::WordFault;
 use crate::keys::Key;
@@ -11,7 +10,10 @@ use crate::name::Name;
 use crate::read::all_settings;
 use crate::settings::Setting;
 use crate::table::{Choice, Kind, Need, Row, Texts, file_row, number_row};
-use cells::{Axis, GREATEST_AXIS, Size};
+use cells::{Axis, Size};
+use limits::{
+    GREATEST_AXIS, GREATEST_OVERLAP, GREATEST_SEED, GREATEST_TOLERANCE, LEAST_WRAPPED_AXIS,
+};
 use std::alloc::{AllocError, Global};
 
 /// The axes on which an output's edges meet.

@@ -3,7 +3,6 @@ ghost use Rattle.std.specs.Prelude.{◌≡◌, IfOk};
 ghost use Rattle.job_words.specs.Words as by;
 ghost use Rattle.job_words.specs.TransferWords.{HasTransferValues, IsTransferJob, transfer_job_of, transfer_of, transfer_rows};
 
-use crate::bounds::{GREATEST_ALPHA, GREATEST_OVERLAP, GREATEST_SEED, GREATEST_TOLERANCE};
 use crate::fields::{name_at, names_at, number_at};
 use crate::job::{Names, WordFault};
 use crate::keys::Key;
@@ -11,7 +10,7 @@ use crate::name::Name;
 use crate::read::all_settings;
 use crate::settings::Setting;
 use crate::table::{Choice, Kind, Need, Row, file_row, number_row};
-use cells::GREATEST_AXIS;
+use limits::{GREATEST_ALPHA, GREATEST_AXIS, GREATEST_OVERLAP, GREATEST_SEED, GREATEST_TOLERANCE};
 use std::alloc::{AllocError, Global};
 
 /// Painting a target picture with blocks of another one.

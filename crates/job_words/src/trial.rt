@@ -3,9 +3,6 @@ ghost use Rattle.std.specs.Prelude.{◌≡◌, IfOk};
 ghost use Rattle.job_words.specs.Words as by;
 ghost use Rattle.job_words.specs.TrialWords.{HasTrialValues, IsTrialJob, trial_job_of, trial_of, trial_rows, trial_size};
 
-use crate::bounds::{
-    GREATEST_OVERLAP, GREATEST_SAMPLE_NUMBER, GREATEST_SEED, GREATEST_TOLERANCE, MOST_ROUNDS,
-};
 use crate::fields::{nth_at, number_at};
 use crate::grow::{Place, place_nth};
 use crate::job::WordFault;
@@ -14,7 +11,11 @@ use crate::name::Name;
 use crate::read::all_settings;
 use crate::settings::Setting;
 use crate::table::{Choice, Kind, Need, Row, Texts, number_row, place_row};
-use cells::{GREATEST_AXIS, Size};
+use cells::Size;
+use limits::{
+    GREATEST_AXIS, GREATEST_OVERLAP, GREATEST_SAMPLE_NUMBER, GREATEST_SEED, GREATEST_TOLERANCE,
+    MOST_ROUNDS,
+};
 use std::alloc::Global;
 
 /// Growing an output from a sample that is made of a number. What isn't told of here is as in `GrowJob`.

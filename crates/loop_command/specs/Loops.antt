@@ -31,11 +31,10 @@ use Rattle.synth_report.specs.declared.summary.Summary.TheVariants.{Loop}
 use Rattle.command.specs.Commands.{Command, named}
 use Rattle.command.specs.Faults.{ReaderRefuses}
 use Rattle.command.specs.Writing.{FileText, file_text, texts_in}
-use Rattle.sample_files.specs.declared.sample.TheConstants.{MOST_SAMPLE_CELLS}
+use Rattle.limits.specs.declared.bounds.TheConstants.{MOST_LOOP_CELLS, MOST_LOOP_FRAMES, MOST_SAMPLE_CELLS}
 use Rattle.standing_files.specs.Standing.{walk_costs}
 use Rattle.job_words.specs.declared.loop_words.LoopJob.{LoopJob}
 use Rattle.loop_command.specs.declared.plan.LoopedClip.{LoopedClip}
-use Rattle.loop_command.specs.declared.plan.TheConstants.{MOST_LOOP_CELLS, MOST_LOOP_FRAMES}
 
 -- What a loop of a clip is.
 

@@ -12,5 +12,5 @@ mod plan;
 mod whole;
 
 pub use files::{FrameMapFile, LoopFile, WalkFile};
-pub use plan::{LoopedClip, MOST_LOOP_CELLS, MOST_LOOP_FRAMES};
+pub use plan::LoopedClip;
 pub use whole::loop_clip;

@@ -2,7 +2,6 @@
 ghost use Rattle.std.specs.Prelude.{◌≡◌, ◌≤◌, IfErr, IfOk};
 ghost use Rattle.cells.specs.Cells.{IsOnePart};
 ghost use Rattle.cells.specs.Places.{cell_count};
-ghost use Rattle.frame_distance.specs.declared.table.TheConstants.{MOST_CLIP_CELLS};
 ghost use Rattle.shelf_core.specs.Files.{OnlyReads};
 ghost use Rattle.loop_walk.specs.Walks.{HasNoWalk};
 ghost use Rattle.cert_file.specs.WalkForms.{AreWide};
@@ -15,18 +14,12 @@ use cells::Volume;
 use command::read_fault;
 use frame_distance::{distances, filtered};
 use job_words::LoopJob;
+use limits::{MOST_LOOP_CELLS, MOST_LOOP_FRAMES, MOST_SAMPLE_CELLS};
 use loop_walk::{LoopError, LoopRecord, least_loop};
-use sample_files::MOST_SAMPLE_CELLS;
 use shelf_core::{Shelf, What};
 use std::alloc::Global;
 use synth_report::{Fault, FileOf};
 use y4m_clip::{Clip, read_clip};
-
-/// The greatest number of frames of a clip that a loop is made of.
-pub const MOST_LOOP_FRAMES: u32 = 256;
-
-/// The greatest number of cells of a loop.
-pub const MOST_LOOP_CELLS: u64 = 33_554_432;
 
 /// A clip, and a least closed walk through its frames with its record.
 #[derive(Drop)]
@@ -74,7 +67,7 @@ fn find_loop(alloc: Global, job: &LoopJob, sample: &Volume) -> Result<LoopRecord
     requires job { IsLoopJob job.now }
     requires one { IsOnePart sample.now }
     requires bounds { IsLoopWithin job.now sample.now }
-    requires cells { cell_count sample.now.size ≤ MOST_CLIP_CELLS }
+    requires cells { cell_count sample.now.size ≤ MOST_SAMPLE_CELLS }
     ensures found { IfOk result (IsLoopFound job.now sample.now) }
     ensures no_loop { IfErr result (λ error.
         error ≡ LoopError.NoLoop → HasNoWalk (steps_over job.now sample.now) job.now.length) }

@@ -3,6 +3,7 @@ use Rattle.std.proofs.Common.{◌≡◌, ℕ, suc, ◌+◌, ◌*◌, ◌^◌, �
 use Rattle.std.specs.Prelude.{Some, IsSome}
 use Rattle.std.proofs.lemmas.Bool.{cases_eq}
 use Rattle.std.proofs.lemmas.Nat.{mul-add-lt}
+use Rattle.limits.specs.declared.bounds.TheConstants.{LONGEST_LOOP}
 use Rattle.frame_distance.specs.Steps.{Steps}
 use Rattle.loop_walk.specs.Walks.{AtMost, HasNoWalk, walk_cost}
 use Rattle.loop_walk.specs.Tables.{EntriesHold, entry_at, table_entry, table_count}
@@ -11,7 +12,7 @@ use Rattle.loop_walk.proofs.Numbers.{at_most, entry_of-none, entry_of-some}
 use Rattle.loop_walk.proofs.TableLaws.{holds_from_tight, table_in-entry, table_in-small}
 use Rattle.loop_walk.proofs.WayLaws.{first_from, least_from, none_from, some_is}
 
-module _ (costs : Steps) (m : ℕ) (some : 1 ≤ m) (few : m ≤ 4096) (steps : List ℕ) (is : IsStepTable costs steps) (tables : List ℕ) (filled : AreFilled costs m tables)
+module _ (costs : Steps) (m : ℕ) (some : 1 ≤ m) (few : m ≤ LONGEST_LOOP) (steps : List ℕ) (is : IsStepTable costs steps) (tables : List ℕ) (filled : AreFilled costs m tables)
     (last : List ℕ) (is_last : last ≡ table_in steps tables (table_count m))
     (first : ℕ) (below : first < costs.frames)
     (least : (i : ℕ) → i < costs.frames → get_or last (first * costs.frames + first) 0 ≤ get_or last (i * costs.frames + i) 0)

@@ -5,6 +5,7 @@ use Rattle.std.proofs.Math.Nat.{mul-le-mul_right}
 use Rattle.std.proofs.lemmas.Bool.{cases_eq, cases_lt}
 use Rattle.std.proofs.lemmas.Nat.{mul-add-lt, div-add-mod', div_below, mod_below}
 use Rattle.std.proofs.lemmas.List.{get_or_append_left, get_or-append_right, length-take-le}
+use Rattle.limits.specs.declared.bounds.TheConstants.{LONGEST_LOOP}
 use Rattle.frame_distance.specs.Steps.{Steps}
 use Rattle.loop_walk.specs.Walks.{sum_if_both, AtMost}
 use Rattle.loop_walk.specs.Tables.{length_before, table_lengths, table_count, table_entry, entry_at, second_table, sum_at, IsBelowSums, IsLeastSum, EntryIsTight, EntriesAreTight, EntriesHold}
@@ -107,7 +108,7 @@ module _ (costs : Steps) where
   holds_from_tight m tables all t i j lt row column = (all t i j lt row column).below
 
 -- one more table
-module _ (costs : Steps) (m b t : ℕ) (two : 2 ≤ m) (few : m ≤ 4096) (is_b : b ≡ length_before m) (is_t : t ≡ table_count b)
+module _ (costs : Steps) (m b t : ℕ) (two : 2 ≤ m) (few : m ≤ LONGEST_LOOP) (is_b : b ≡ length_before m) (is_t : t ≡ table_count b)
     (steps : List ℕ) (is : IsStepTable costs steps) (before last : List ℕ) (filled : AreFilled costs b before) (long : length last ≡ costs.frames * costs.frames)
     (made : IsProduct costs.frames (table_in steps before t) (table_in steps before (second_table m t)) last) where
   lengths : IsBefore m b

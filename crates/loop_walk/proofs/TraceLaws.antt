@@ -5,6 +5,7 @@ use Rattle.std.proofs.Math.Nat.{mul-le-mul_right}
 use Rattle.std.proofs.lemmas.Bool.{cases_eq, false≢true}
 use Rattle.std.proofs.lemmas.Nat.{mul-add-lt}
 use Rattle.std.proofs.lemmas.List.{append-nil}
+use Rattle.limits.specs.declared.bounds.TheConstants.{LONGEST_LOOP}
 use Rattle.frame_distance.specs.Steps.{Steps, step_at}
 use Rattle.loop_walk.specs.Walks.{sum_if_both, AtMost, steps_cost, steps_along, walk_cost}
 use Rattle.loop_walk.specs.Tables.{length_before, table_lengths, table_count, entry_at, table_entry, second_table, sum_at, IsLeastSum}
@@ -80,7 +81,7 @@ goes_round costs m tables first old new began way =
       cost = ap (walk_cost costs) is ∙ way.costs_so_much;
     }
 
-pub holds_from_filled : (costs : Steps) (m : ℕ) (tables : List ℕ) → m ≤ 4096 → AreFilled costs m tables → HoldsTables costs m tables
+pub holds_from_filled : (costs : Steps) (m : ℕ) (tables : List ℕ) → m ≤ LONGEST_LOOP → AreFilled costs m tables → HoldsTables costs m tables
 holds_from_filled costs m tables few filled = record {
   enough = omega (arith, filled.made.whole);
   tight = filled.made.tight;

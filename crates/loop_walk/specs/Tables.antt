@@ -5,7 +5,7 @@
 -- step costs, and isn't written. The others stand one after another, in the order of their lengths.
 use Rattle.std.specs.Prelude.{◌≡◌, ◌<◌, ◌≤◌, ℕ, zero, suc, ◌+◌, ◌-◌, ◌*◌, ◌/◌, ◌%◌, List, [], ◌∷◌, ◌++◌, length, Option, Some, None, IfSome, ◌==◌, nat_le, if◌then◌else◌, slice_index}
 use Rattle.frame_distance.specs.Steps.{Steps, step_at}
-use Rattle.loop_walk.specs.declared.record.TheConstants.{GREATEST_LENGTH}
+use Rattle.limits.specs.declared.bounds.TheConstants.{LONGEST_LOOP}
 use Rattle.loop_walk.specs.Walks.{sum_if_both, AtMost}
 
 -- the greatest number of 64 bits stands for none
@@ -34,7 +34,7 @@ table_count m = length (table_lengths m)
 
 -- a walk has so many frames
 abbrev pub IsLength : ℕ → Type 0
-IsLength m = (1 ≤ m) × (m ≤ GREATEST_LENGTH)
+IsLength m = (1 ≤ m) × (m ≤ LONGEST_LOOP)
 
 -- how many entries a table has, and all tables for a length
 abbrev pub table_size : Steps → ℕ

@@ -27,5 +27,5 @@ pub use check::check_loop;
 pub use fault::{DIAGONAL_RULE, LoopFault, TABLES_RULE, WALK_RULE};
 pub use items::Items;
 pub use laws::{closed_walk_visits_frames, standing_record_has_no_fault, tight_tables_are_one};
-pub use record::{GREATEST_LENGTH, LoopError, LoopRecord, least_loop};
+pub use record::{LoopError, LoopRecord, least_loop};
 pub use tables::table_count;

@@ -2,6 +2,8 @@
 ghost use Rattle.std.specs.Prelude.{◌≡◌, ◌≤◌, ◌<◌, ℕ, ◌+◌, ◌*◌, ◌^◌, min, length, slice_index};
 ghost use Rattle.loop_walk.specs.Products.{AreAtMostFar, AreBroughtNear, AreRestored, AreSmall, IsLeastOf, IsNearProduct, IsProduct, near_row_sum};
 
+use limits::MOST_LOOP_FRAMES;
+
 /// Stands for none. It is above each number, and a sum that doesn't fit stops at it.
 pub const NONE: u64 = u64::MAX;
 
@@ -69,7 +71,7 @@ pub fn fill_row(n: usize, firsts: &[u64], nears: &[u64], sums: &mut [u64])
     requires firsts { length firsts.now ≡ n }
     requires nears { length nears.now ≡ n * n }
     requires sums { length sums.old ≡ n }
-    requires few { n ≤ 256 }
+    requires few { n ≤ MOST_LOOP_FRAMES }
     requires near { AreAtMostFar nears.now }
     ensures { (j : ℕ) → j < n →
         IsLeastOf FAR n (slice_index sums.new j) (near_row_sum n firsts.now nears.now j) }
@@ -105,7 +107,7 @@ fn restore(numbers: &mut [u64])
 // Makes the table whose entry (i, j) is the least over all v of entry (i, v) of the one table and
 // entry (v, j) of the other, added up, with none brought near.
 fn fill_near(n: usize, left: &[u64], nears: &[u64], made: &mut [u64])
-    requires few { n ≤ 256 }
+    requires few { n ≤ MOST_LOOP_FRAMES }
     requires left { length left.now ≡ n * n }
     requires nears { length nears.now ≡ n * n }
     requires made { length made.old ≡ n * n }
@@ -125,7 +127,7 @@ fn fill_near(n: usize, left: &[u64], nears: &[u64], made: &mut [u64])
 /// Makes the table whose entry (i, j) is the least over all v of entry (i, v) of the one table and
 /// entry (v, j) of the other, added up. `nears` has room for one table, and is written over.
 pub fn fill_product(n: usize, left: &[u64], right: &[u64], nears: &mut [u64], made: &mut [u64])
-    requires few { n ≤ 256 }
+    requires few { n ≤ MOST_LOOP_FRAMES }
     requires left { length left.now ≡ n * n }
     requires right { length right.now ≡ n * n }
     requires nears { length nears.old ≡ n * n }

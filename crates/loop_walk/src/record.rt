@@ -10,11 +10,9 @@ use crate::tables::{fill_tables, step_table, table_count, table_in};
 use crate::trace::add_way;
 use frame_distance::StepCosts;
 use items::Items;
+use limits::MOST_LOOP_FRAMES;
 use std::alloc::{AllocError, Global};
 use thiserror::Error;
-
-/// The most frames of a walk.
-pub const GREATEST_LENGTH: u32 = 4096;
 
 /// A closed walk, and the tables that show that it is least.
 #[derive(Drop)]
@@ -71,7 +69,7 @@ fn made_tables(
 // The smallest frame of which the table's diagonal has the least number.
 fn first_frame(n: usize, table: &[u64]) -> usize
     requires some { 1 ≤ n }
-    requires few { n ≤ 256 }
+    requires few { n ≤ MOST_LOOP_FRAMES }
     requires whole { length_of table.now ≡ n * n }
     ensures below { result < n }
     ensures least { (i : ℕ) → i < n → diagonal n table.now result ≤ diagonal n table.now i }

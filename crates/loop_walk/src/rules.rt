@@ -6,13 +6,13 @@ ghost use Rattle.loop_walk.specs.Records.{BreaksWalk, IsFirstPlace, PlaceHolds, 
 ghost use Rattle.loop_walk.specs.Products.{AllowsCost, step_round_at};
 
 use crate::fault::{DIAGONAL_RULE, LoopFault, TABLES_RULE, WALK_RULE};
-use crate::record::GREATEST_LENGTH;
 use crate::sums::{broken_in_row, entry_in, fill_near_table};
 use crate::tables::{length_before, second_table, table_count};
 use frame_distance::StepCosts;
+use limits::{LONGEST_LOOP, MOST_LOOP_FRAMES};
 
 // The most entries of a table.
-const GREATEST_TABLE: usize = 65536;
+const GREATEST_TABLE: usize = MOST_LOOP_FRAMES as usize * MOST_LOOP_FRAMES as usize;
 
 // The frame after the one at a position, which is the first one after the last.
 fn frame_after(walk: &[u16], position: usize) -> u32
@@ -44,7 +44,7 @@ fn step_round(costs: &StepCosts, walk: &[u16], position: usize) -> Option<u64>
 
 /// Whether the walk is closed, and its cost where it is.
 pub fn check_walk(costs: &StepCosts, walk: &[u16]) -> Result<u64, LoopFault>
-    requires { length_of walk.now ≤ GREATEST_LENGTH }
+    requires { length_of walk.now ≤ LONGEST_LOOP }
     ensures cost { IfOk result (λ cost. walk_cost costs.now walk.now ≡ Some cost) }
     ensures fault { IfErr result (λ fault. BreaksWalk costs.now walk.now fault) }
 {
@@ -70,7 +70,7 @@ fn broken_entry(
     t: usize,
     nears: &mut [u64],
 ) -> Option<usize>
-    requires number { t < GREATEST_LENGTH }
+    requires number { t < LONGEST_LOOP }
     requires last { slice_index (table_lengths length) t ≡ length }
     requires enough { (t + 1) * table_size costs.now ≤ length_of tables.now }
     requires before { PlacesHold costs.now length tables.now (t * table_size costs.now) }

@@ -6,16 +6,16 @@ ghost use Rattle.loop_walk.specs.Records.{IsFirstPlace};
 ghost use Rattle.loop_walk.specs.Products.{AreAtMostFar, AreNearEntries, IsBelowNearSums, IsBelowProducts, IsNearRow, near_entry};
 
 use crate::product::{FAR, GREATEST_NUMBER, NONE, fill_row};
-use crate::record::GREATEST_LENGTH;
 use frame_distance::StepCosts;
+use limits::{LONGEST_LOOP, MOST_LOOP_FRAMES};
 
-// The most frames of a clip.
-const MOST_FRAMES: usize = 256;
+// The most entries of a row of a table.
+const GREATEST_ROW: usize = MOST_LOOP_FRAMES as usize;
 
 // Entry (i, j) of table number t + 1 for n frames.
 fn stored_entry(tables: &[u64], n: usize, t: usize, i: usize, j: usize) -> Option<u64>
-    requires few { n ≤ 256 }
-    requires number { t ≤ GREATEST_LENGTH }
+    requires few { n ≤ MOST_LOOP_FRAMES }
+    requires number { t ≤ LONGEST_LOOP }
     requires enough { (t + 1) * (n * n) ≤ length_of tables.now }
     requires row { i < n }
     requires column { j < n }
@@ -27,7 +27,7 @@ fn stored_entry(tables: &[u64], n: usize, t: usize, i: usize, j: usize) -> Optio
 
 /// Entry (i, j) of table number t, where number 0 is that of the step costs.
 pub fn entry_in(costs: &StepCosts, tables: &[u64], t: usize, i: u32, j: u32) -> Option<u64>
-    requires number { t ≤ GREATEST_LENGTH }
+    requires number { t ≤ LONGEST_LOOP }
     requires enough { t * table_size costs.now ≤ length_of tables.now }
     requires row { i < costs.now.frames }
     requires column { j < costs.now.frames }
@@ -59,7 +59,7 @@ fn is_at_most(entry: Option<u64>, first: Option<u64>, second: Option<u64>) -> bo
 
 // Entry (i, j) of table number t + 1 is at most each of its sums.
 fn is_below_sums(costs: &StepCosts, tables: &[u64], t: usize, second: usize, i: u32, j: u32) -> bool
-    requires number { t < GREATEST_LENGTH }
+    requires number { t < LONGEST_LOOP }
     requires enough { (t + 1) * table_size costs.now ≤ length_of tables.now }
     requires second { second ≤ t }
     requires row { i < costs.now.frames }
@@ -92,7 +92,7 @@ fn near_entry(entry: Option<u64>) -> u64
 
 // Row i of table number t, as it counts in sums.
 fn fill_near_row(costs: &StepCosts, tables: &[u64], t: usize, i: u32, nears: &mut [u64])
-    requires number { t ≤ GREATEST_LENGTH }
+    requires number { t ≤ LONGEST_LOOP }
     requires enough { t * table_size costs.now ≤ length_of tables.now }
     requires row { i < costs.now.frames }
     requires nears { length_of nears.old ≡ costs.now.frames }
@@ -106,7 +106,7 @@ fn fill_near_row(costs: &StepCosts, tables: &[u64], t: usize, i: u32, nears: &mu
 
 /// Table number t, as its entries count in sums.
 pub fn fill_near_table(costs: &StepCosts, tables: &[u64], t: usize, nears: &mut [u64])
-    requires number { t ≤ GREATEST_LENGTH }
+    requires number { t ≤ LONGEST_LOOP }
     requires enough { t * table_size costs.now ≤ length_of tables.now }
     requires nears { length_of nears.old ≡ table_size costs.now }
     ensures entries { AreNearEntries costs.now tables.now t nears.new }
@@ -130,7 +130,7 @@ fn is_below(
     j: u32,
     sum: u64,
 ) -> bool
-    requires number { t < GREATEST_LENGTH }
+    requires number { t < LONGEST_LOOP }
     requires enough { (t + 1) * table_size costs.now ≤ length_of tables.now }
     requires second { second ≤ t }
     requires row { i < costs.now.frames }
@@ -156,7 +156,7 @@ pub fn broken_in_row(
     i: u32,
     nears: &[u64],
 ) -> Option<u32>
-    requires number { t < GREATEST_LENGTH }
+    requires number { t < LONGEST_LOOP }
     requires enough { (t + 1) * table_size costs.now ≤ length_of tables.now }
     requires second { second ≤ t }
     requires row { i < costs.now.frames }
@@ -169,8 +169,8 @@ pub fn broken_in_row(
         (IsFirstPlace costs.now.frames (IsBelowProducts costs.now tables.now t second i)) }
 {
     let n = costs.frames() as usize;
-    let mut firsts = [0u64; MOST_FRAMES];
-    let mut sums = [0u64; MOST_FRAMES];
+    let mut firsts = [0u64; GREATEST_ROW];
+    let mut sums = [0u64; GREATEST_ROW];
     fill_near_row(costs, tables, t, i, &mut firsts[..n]);
     fill_row(n, &firsts[..n], nears, &mut sums[..n]);
     for j in 0..costs.frames() {

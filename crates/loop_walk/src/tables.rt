@@ -4,8 +4,8 @@ ghost use Rattle.loop_walk.specs.Tables.{IsLength, entry_count, length_before, s
 ghost use Rattle.loop_walk.specs.Products.{AreFilled, IsStepTable, step_numbers, table_in};
 
 use crate::product::{NONE, fill_product};
-use crate::record::GREATEST_LENGTH;
 use frame_distance::StepCosts;
+use limits::LONGEST_LOOP;
 use std::alloc::{AllocError, Global};
 
 /// The length that the table for a length is made from.
@@ -63,7 +63,7 @@ pub fn step_table(alloc: Global, costs: &StepCosts) -> Result<Vec<u64>, AllocErr
 /// Table number t of a length, where number 0 is that of the step costs.
 pub fn table_in<'a>(steps: &'a [u64], tables: &'a [u64], t: usize) -> &'a [u64]
     requires few { length_of steps.now ≤ 2 ^ 16 }
-    requires count { t ≤ GREATEST_LENGTH }
+    requires count { t ≤ LONGEST_LOOP }
     requires there { t * length_of steps.now ≤ length_of tables.now }
     ensures { result.now ≡ table_in steps.now tables.now t }
 {

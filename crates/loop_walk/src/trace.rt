@@ -5,11 +5,12 @@ ghost use Rattle.loop_walk.specs.Products.{AddsWay, HoldsTables, IsStepTable, su
 
 use crate::tables::{length_before, second_table, table_count, table_in};
 use frame_distance::StepCosts;
+use limits::MOST_LOOP_FRAMES;
 use std::alloc::AllocError;
 
 // The two halves of a way through frame v, added up.
 fn sum_through(n: usize, left: &[u64], right: &[u64], i: usize, j: usize, v: usize) -> u64
-    requires few { n ≤ 256 }
+    requires few { n ≤ MOST_LOOP_FRAMES }
     requires left { length_of left.now ≡ n * n }
     requires right { length_of right.now ≡ n * n }
     requires from { i < n }
@@ -22,7 +23,7 @@ fn sum_through(n: usize, left: &[u64], right: &[u64], i: usize, j: usize, v: usi
 
 // A frame through which a way of least cost goes.
 fn middle(n: usize, left: &[u64], right: &[u64], i: usize, j: usize) -> usize
-    requires few { n ≤ 256 }
+    requires few { n ≤ MOST_LOOP_FRAMES }
     requires left { length_of left.now ≡ n * n }
     requires right { length_of right.now ≡ n * n }
     requires from { i < n }

@@ -3,6 +3,7 @@ use Rattle.std.proofs.Common.{◌≡◌, ℕ, zero, suc, ◌<◌, ◌≤◌, ref
 use Rattle.std.proofs.lemmas.Int.{ints}
 use Rattle.std.specs.Prelude.{ℤ, pos, negsuc, ◌+ℤ◌, ◌-ℤ◌, ◌≤ℤ◌, Option, Some, None, IsSome, FitsSigned}
 use Rattle.std.specs.Int.{w32}
+use Rattle.limits.specs.declared.bounds.TheConstants.{GREATEST_AXIS}
 use mathlib.Core.Bool.{false≢true}
 use Rattle.cells.specs.declared.place.At.{At}
 use Rattle.cells.specs.declared.place.Axis.{Axis}
@@ -22,12 +23,12 @@ filled_inside m p filled = by (index_in m.size p) filled
     by (Some i) some = refl
 
 -- a step from a coordinate on an axis
-near_fits : (z : ℤ) → negsuc 0 ≤ℤ z → z ≤ℤ pos 4096 → FitsSigned w32 z
+near_fits : (z : ℤ) → negsuc 0 ≤ℤ z → z ≤ℤ pos GREATEST_AXIS → FitsSigned w32 z
 near_fits (pos d) low high = let lt : d < 4097 = omega (arith, ints, high) in search rules
 near_fits (negsuc zero) low high = search rules
 near_fits (negsuc (suc d)) low high = absurd (omega (arith, ints, low))
 
-step_fits : (n c : ℕ) (z by' : ℤ) → OnAxis n z c → n ≤ 4096 → pos 0 ≤ℤ by' → by' ≤ℤ pos 1 → FitsSigned w32 (z +ℤ by') × FitsSigned w32 (z -ℤ by')
+step_fits : (n c : ℕ) (z by' : ℤ) → OnAxis n z c → n ≤ GREATEST_AXIS → pos 0 ≤ℤ by' → by' ≤ℤ pos 1 → FitsSigned w32 (z +ℤ by') × FitsSigned w32 (z -ℤ by')
 step_fits n c z by' on le low high =
     (near_fits (z +ℤ by') (omega (arith, ints, on.is)) (omega (arith, ints, on.is, on.below)), near_fits (z -ℤ by') (omega (arith, ints, on.is)) (omega (arith, ints, on.is, on.below)))
 

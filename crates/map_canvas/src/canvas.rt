@@ -10,7 +10,8 @@ ghost use Rattle.map_canvas.specs.Choices.{Fits, IsAfter, box_cell, box_count, b
 use crate::Map;
 use crate::kept::meets_outside;
 use crate::rendered::is_rendered;
-use cells::{At, Box3, MOST_SAMPLES, Size, Volume};
+use cells::{At, Box3, Size, Volume};
+use limits::MOST_CHANNELS;
 use std::alloc::{AllocError, Global};
 use std::marker::Model;
 
@@ -175,7 +176,7 @@ impl Canvas {
     /// memory.
     pub fn empty(alloc: Global, size: Size, k: u32) -> Result<Canvas, AllocError>
         requires small { IsSmall size }
-        requires samples { (1 ≤ k) × (k ≤ MOST_SAMPLES) }
+        requires samples { (1 ≤ k) × (k ≤ MOST_CHANNELS) }
         ensures empty { IfOk result (λ c. c ≡ empty_canvas size k) }
         ensures canvas { IfOk result IsCanvas }
         ensures stands { IfOk result (λ c. (sample : Cells) → sample.k ≡ k → StandsOver c sample) }

@@ -9,7 +9,7 @@ use Rattle.std.specs.List.{concat}
 use Rattle.cells.specs.declared.place.At.{At}
 use Rattle.cells.specs.declared.place.Box3.{Box3}
 use Rattle.cells.specs.declared.place.Size.{Size}
-use Rattle.cells.specs.declared.bounds.TheConstants.{MOST_CELLS}
+use Rattle.limits.specs.declared.bounds.TheConstants.{MOST_CELLS, MOST_CHANNELS}
 use Rattle.cells.specs.Boxes.{HasCells, HoldsBox}
 use Rattle.cells.specs.Cells.{Cells, Holds, IsVolume, bytes_of, index_of}
 use Rattle.cells.specs.Parts.{HoldsFrom}
@@ -52,8 +52,8 @@ pub few_cells : (v : Cells) → IsVolume v → length v.cells ≤ MOST_CELLS
 few_cells v is = omega (arith, is.count, is.parts.cells)
 
 -- an index times the count of samples is a small number
-pub few_bytes : (v : Cells) → IsVolume v → (n : ℕ) → n ≤ length v.cells → v.k * n ≤ 6 * 33554432
-few_bytes v is n le = mul-le-mul is.samples.1 (let few : n ≤ 33554432 = omega (arith, le, few_cells v is) in few)
+pub few_bytes : (v : Cells) → IsVolume v → (n : ℕ) → n ≤ length v.cells → v.k * n ≤ MOST_CHANNELS * MOST_CELLS
+few_bytes v is n le = mul-le-mul is.samples.1 (let few : n ≤ MOST_CELLS = omega (arith, le, few_cells v is) in few)
 
 pub run_in_volume : (v : Cells) → IsVolume v → (i w : ℕ) → i + w ≤ length v.cells → take (v.k * w) (drop (v.k * i) (bytes_of v)) ≡ run v.cells i w
 run_in_volume v is i w le = run_in_bytes v.k v.cells (have_samples v is) i w le

@@ -6,6 +6,7 @@ use Rattle.std.proofs.lemmas.Int.{ints}
 use Rattle.cells.specs.declared.place.Box3.{Box3}
 use Rattle.cells.specs.Boxes.{HoldsBox}
 use Rattle.std.specs.Prelude.{Option, Some, None, IsSome, unwrap_or}
+use Rattle.limits.specs.declared.bounds.TheConstants.{GREATEST_AXIS}
 use Rattle.cells.specs.declared.place.At.{At}
 use Rattle.cells.specs.Cells.{Cells, IsVolume, cell_at, row_at, run_from}
 use Rattle.cells.specs.Places.{cell_count, index_in, plus, spot}
@@ -39,7 +40,7 @@ marks_have_samples m k n lt =
 -- a row of a box in the output has few bytes
 pub row_short : (canvas : CanvasState) (rect : Box3) → IsCanvas canvas → HoldsBox canvas.map.size rect.corner rect.size → canvas.picture.k * rect.size.w ≤ 24576
 row_short canvas rect is holds =
-    let w : rect.size.w ≤ 4096 = omega (arith, ints, holds.x.from, holds.x.to, is.map.small.axes.w.1) in
+    let w : rect.size.w ≤ GREATEST_AXIS = omega (arith, ints, holds.x.from, holds.x.to, is.map.small.axes.w.1) in
     omega (arith, mul-le-mul is.picture.samples.1 w)
 
 -- an unfilled cell has no error

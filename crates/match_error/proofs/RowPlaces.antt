@@ -3,6 +3,7 @@ use Rattle.std.proofs.Common.{◌≡◌, ℕ, ◌+◌, ◌*◌, ◌<◌, ◌≤�
 use Rattle.std.proofs.lemmas.Int.{ints}
 use Rattle.std.specs.Prelude.{ℤ, pos, negsuc, ◌+ℤ◌, ◌≤ℤ◌, Some, FitsSigned, IsSome, length, unwrap_or}
 use Rattle.std.specs.Int.{w32}
+use Rattle.limits.specs.declared.bounds.TheConstants.{GREATEST_AXIS}
 use Rattle.cells.specs.declared.place.At.{At}
 use Rattle.cells.specs.declared.place.Size.{Size}
 use Rattle.cells.specs.Boxes.{AxisHolds, HoldsBox}
@@ -31,7 +32,7 @@ pub record IsRow (size : Size) (corner : At) (w y f : ℕ) : Type 0 where
   pub start : index_in size (plus corner (spot 0 y f)) ≡ Some first
   pub room : ((plus corner (spot 0 y f)).x +ℤ pos w) ≤ℤ pos size.w
   pub sum : HasAxes size → SumFits corner (spot 0 y f)
-  pub small : HasAxes size → (y < 4096) × (f < 4096) × (w ≤ 4096)
+  pub small : HasAxes size → (y < GREATEST_AXIS) × (f < GREATEST_AXIS) × (w ≤ GREATEST_AXIS)
 
 pub row_of : (size : Size) (corner : At) (inner : Size) (y f : ℕ) → HoldsBox size corner inner → 1 ≤ inner.w → y < inner.h → f < inner.f → IsRow size corner inner.w y f
 row_of size corner inner y f box some ly lf =

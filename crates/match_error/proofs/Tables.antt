@@ -6,6 +6,7 @@ use Rattle.std.proofs.lemmas.Int.{ints}
 use Rattle.std.proofs.lemmas.List.{get_or-replicate}
 use Rattle.std.proofs.lemmas.Nat.{mod-mul-add, div-mul-add}
 use Rattle.std.specs.Prelude.{ℤ, pos, ◌+ℤ◌, replicate}
+use Rattle.limits.specs.declared.bounds.TheConstants.{GREATEST_AXIS, MOST_CELLS}
 use Rattle.cells.specs.declared.place.Box3.{Box3}
 use Rattle.cells.specs.Boxes.{HoldsBox}
 use Rattle.cells.specs.Places.{IsSmall, cell_count}
@@ -27,12 +28,12 @@ in_entries w rows x row lx lr = omega (arith, mul-le-mul_left (w + 1) lr)
 -- the table has few rows
 pub few_rows : (m : SourceMap) (rect : Box3) → IsSmall m.size → HoldsBox m.size rect.corner rect.size → rect.size.h * rect.size.f ≤ 16777216
 few_rows m rect small inside =
-    let h : rect.size.h ≤ 4096 = omega (arith, ints, inside.y.from, inside.y.to, small.axes.h.1) in
-    let f : rect.size.f ≤ 4096 = omega (arith, ints, inside.f.from, inside.f.to, small.axes.f.1) in
+    let h : rect.size.h ≤ GREATEST_AXIS = omega (arith, ints, inside.y.from, inside.y.to, small.axes.h.1) in
+    let f : rect.size.f ≤ GREATEST_AXIS = omega (arith, ints, inside.f.from, inside.f.to, small.axes.f.1) in
     mul-le-mul h f
 
 -- no count is greater than the output
-pub before_small : (m : SourceMap) (rect : Box3) (x row : ℕ) → IsSmall m.size → HoldsBox m.size rect.corner rect.size → x ≤ rect.size.w → row ≤ rect.size.h * rect.size.f → filled_before m rect x row ≤ 33554432
+pub before_small : (m : SourceMap) (rect : Box3) (x row : ℕ) → IsSmall m.size → HoldsBox m.size rect.corner rect.size → x ≤ rect.size.w → row ≤ rect.size.h * rect.size.f → filled_before m rect x row ≤ MOST_CELLS
 before_small m rect x row small inside lx lr =
     let each = sum_bound row x (λ j. sum_to x (λ i. one_in_row m rect i j)) (λ j lj. omega (arith, sum_bound x 1 (λ i. one_in_row m rect i j) (λ i li. one_at_most _))) in
     let all : row * x ≤ (rect.size.h * rect.size.f) * rect.size.w = mul-le-mul lr lx in

@@ -2,7 +2,7 @@
 -- already. (Kwatra et al. 2003 and Efros and Freeman 2001 compare overlapping patches by the sum
 -- of squared differences; the count beside it, and the tolerance in hundredths, are own.)
 use Rattle.std.specs.Prelude.{◌+◌, ◌*◌, ℕ, Bool, Option, Some, None, nat_le}
-use Rattle.cells.specs.declared.bounds.TheConstants.{GREATEST_AXIS, MOST_SAMPLES}
+use Rattle.limits.specs.declared.bounds.TheConstants.{GREATEST_AXIS, MOST_CHANNELS}
 use Rattle.cells.specs.declared.place.At.{At}
 use Rattle.cells.specs.declared.place.Box3.{Box3}
 use Rattle.cells.specs.Cells.{Cells}
@@ -52,7 +52,7 @@ is_within tol best other = nat_le (other.sum * best.count * 100)
 
 -- the most that the error of a cell, a row or a frame of a box sums up to
 abbrev pub most_cell_error : ℕ
-most_cell_error = 255 * 255 * MOST_SAMPLES
+most_cell_error = 255 * 255 * MOST_CHANNELS
 
 abbrev pub most_row_error : ℕ
 most_row_error = GREATEST_AXIS * most_cell_error

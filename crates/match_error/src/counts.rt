@@ -7,12 +7,13 @@ ghost use Rattle.boxes.specs.Sums.{sum_to};
 ghost use Rattle.match_error.specs.Errors.{filled_cells, one_filled};
 
 use crate::rows::row_start;
-use cells::{Box3, GREATEST_AXIS, MOST_SAMPLES};
+use cells::Box3;
+use limits::{GREATEST_AXIS, MOST_CHANNELS};
 use map_canvas::Canvas;
 
 // The sum of the marks of a row of cells.
 fn mark_sum(marks: &[u8]) -> u32
-    requires { length marks.now ≤ MOST_SAMPLES * GREATEST_AXIS }
+    requires { length marks.now ≤ MOST_CHANNELS * GREATEST_AXIS }
     ensures { result ≡ sum marks.now }
 {
     marks.iter().map(|mark| u32::from(*mark)).sum()

@@ -6,7 +6,8 @@ ghost use Rattle.cells.specs.Places.{HasAxes, IsSmall, plus, raster_index, spot}
 ghost use Rattle.match_error.specs.LaidRows.{AreFronts, IsFront};
 
 use crate::rows::row_start;
-use cells::{At, GREATEST_AXIS, Size, Volume};
+use cells::{At, Size, Volume};
+use limits::GREATEST_AXIS;
 use map_canvas::{Canvas, Placement};
 
 /// Where a box begins in the first part of a volume.

@@ -11,8 +11,9 @@ ghost use Rattle.match_error.specs.Runs.{AddsFrame, AddsRow, AddsRun, AreFilledR
 
 use crate::fronts::{cells_from, first_size, offset_in};
 use crate::rows::step_to;
-use cells::{At, Box3, GREATEST_AXIS, Size, Volume};
+use cells::{At, Box3, Size, Volume};
 use lane_kernels::ssd;
+use limits::GREATEST_AXIS;
 use map_canvas::{Canvas, Placement};
 use std::alloc::{AllocError, Global};
 

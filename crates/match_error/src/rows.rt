@@ -2,7 +2,8 @@
 ghost use Rattle.std.specs.Prelude.{◌≡◌, ◌<◌};
 ghost use Rattle.cells.specs.Places.{SumFits, plus, spot};
 
-use cells::{At, GREATEST_AXIS};
+use cells::At;
+use limits::GREATEST_AXIS;
 
 /// The step from a box's corner to one of its cells.
 pub(crate) fn step_to(x: u32, y: u32, f: u32) -> At

@@ -11,7 +11,8 @@ ghost use Rattle.match_error.specs.Tables.{AreFilledCounts, AreMoreEntries, fill
 
 use crate::counts::filled_count;
 use crate::rows::step_to;
-use cells::{Box3, GREATEST_AXIS, MOST_CELLS, Size};
+use cells::{Box3, Size};
+use limits::{GREATEST_AXIS, MOST_CELLS};
 use map_canvas::Canvas;
 use std::alloc::{AllocError, Global};
 

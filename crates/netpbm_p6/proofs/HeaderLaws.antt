@@ -4,6 +4,7 @@ use Rattle.std.specs.Prelude.{Option, Some, None}
 use Rattle.std.proofs.lemmas.List.{length-take-le, length-drop, take-append-drop}
 use Rattle.std.proofs.Math.Seq.{take-add}
 use Rattle.std.specs.Prelude.{Err}
+use Rattle.limits.specs.declared.bounds.TheConstants.{MOST_HEADER_BYTES}
 use Rattle.shelf_core.specs.Files.{ShelfState, OnlyReads, content_of}
 use Rattle.shelf_core.specs.declared.fault.ReadError.{ReadError}
 use Rattle.shelf_core.specs.declared.fault.ReadError.TheVariants.{ReadFault, Bad, Limit, NoMemory}
@@ -13,7 +14,8 @@ use Rattle.netpbm_p6.specs.declared.scan.Header.{Header}
 use Rattle.netpbm_p6.specs.declared.scan.Scanned.{Scanned}
 use Rattle.netpbm_p6.specs.declared.scan.Scanned.TheVariants.{Open, Broken, Ended}
 use Rattle.netpbm_p6.specs.Header.{IsPrefix}
-use Rattle.netpbm_p6.specs.Pictures.{capped, BreaksAt, EndsEarly, HeaderTooLong, Refuses, ReadsAs}
+use Rattle.shelf_core.specs.Decimals.{capped}
+use Rattle.netpbm_p6.specs.Pictures.{BreaksAt, EndsEarly, HeaderTooLong, Refuses, ReadsAs}
 use Rattle.netpbm_p6.specs.Scanning.{run_of, IsOpenScan, EndsIn, IsSoundHeader, IsSoundScanned}
 use Rattle.netpbm_p6.specs.Reading.{Reached, BreaksOff, HasHeader, ScansOn, PassesAs, past_of}
 use Rattle.shelf_core.proofs.Sees.{Sees, sees_weaker, sees_then, fault_later}
@@ -33,7 +35,7 @@ reached_more bytes at n scan next reached inside run = record {
   run = way_on bytes at n scan (Some next) reached run;
 }
 
-pub breaks_at : (bytes : List ℕ) (at i : ℕ) (scan : Scan) → at + i ≤ 65536 → Reached bytes at scan → BreaksOff (drop at bytes) scan i → BreaksAt bytes (at + i)
+pub breaks_at : (bytes : List ℕ) (at i : ℕ) (scan : Scan) → at + i ≤ MOST_HEADER_BYTES → Reached bytes at scan → BreaksOff (drop at bytes) scan i → BreaksAt bytes (at + i)
 breaks_at bytes at i scan early reached breaks = record {
   early = early;
   inside = omega (arith, length-drop at bytes, reached.inside, breaks.inside);
@@ -51,7 +53,7 @@ breaks_at bytes at i scan early reached breaks = record {
           broken_none (take (at + i + 1) bytes) (ap (λ n. run_of capped Start (take n bytes)) (sym regroup) ∙ way_on bytes at (i + 1) scan None reached wrong.1),
         )
 
-pub has_header : (bytes : List ℕ) (at : ℕ) (scan : Scan) (header : Header) → at + header.length ≤ 65536 → Reached bytes at scan → EndsIn scan (drop at bytes) header
+pub has_header : (bytes : List ℕ) (at : ℕ) (scan : Scan) (header : Header) → at + header.length ≤ MOST_HEADER_BYTES → Reached bytes at scan → EndsIn scan (drop at bytes) header
     → HasHeader bytes (record header { length = at + header.length })
 has_header bytes at scan header early reached ends =
     let n : ℕ = at + header.length in
@@ -76,16 +78,16 @@ has_header bytes at scan header early reached ends =
       maxval_is = found.maxval_is;
     }
 
-pub too_long : (bytes : List ℕ) (scan next : Scan) → IsOpenScan scan → Reached bytes 65536 scan → 1 ≤ length (drop 65536 bytes) → run_of capped scan (take 1 (drop 65536 bytes)) ≡ Some next → HeaderTooLong bytes
+pub too_long : (bytes : List ℕ) (scan next : Scan) → IsOpenScan scan → Reached bytes MOST_HEADER_BYTES scan → 1 ≤ length (drop MOST_HEADER_BYTES bytes) → run_of capped scan (take 1 (drop MOST_HEADER_BYTES bytes)) ≡ Some next → HeaderTooLong bytes
 too_long bytes scan next is_open reached more run = record {
-  longer = omega (arith, length-drop 65536 bytes, more);
-  starts = open_proper scan (take 65536 bytes) reached.run is_open;
-  lawful = run_is_prefix next (take 65537 bytes) (way_on bytes 65536 1 scan (Some next) reached run);
+  longer = omega (arith, length-drop MOST_HEADER_BYTES bytes, more);
+  starts = open_proper scan (take MOST_HEADER_BYTES bytes) reached.run is_open;
+  lawful = run_is_prefix next (take (MOST_HEADER_BYTES + 1) bytes) (way_on bytes MOST_HEADER_BYTES 1 scan (Some next) reached run);
 }
 
 -- The same over several reads.
 
-pub header_broken : {names : List (List ℕ)} (name : List ℕ) (at i room : ℕ) (scan : Scan) (scanned : Scanned) (a b c : ShelfState) → at + room ≤ 65536 → scanned ≡ Broken i → IsSoundScanned room scanned → OnlyReads names a b → OnlyReads names b c
+pub header_broken : {names : List (List ℕ)} (name : List ℕ) (at i room : ℕ) (scan : Scan) (scanned : Scanned) (a b c : ShelfState) → at + room ≤ MOST_HEADER_BYTES → scanned ≡ Broken i → IsSoundScanned room scanned → OnlyReads names a b → OnlyReads names b c
     → Sees a b (λ files. Reached (content_of files name) at scan) → Sees b c (λ files. ScansOn (drop at (content_of files name)) scan room scanned)
     → Sees a c (λ files. BreaksAt (content_of files name) (at + i) ⊎ EndsEarly (content_of files name) (at + i))
 header_broken name at i room scan scanned a b c early is sound first second reached scans =
@@ -95,7 +97,7 @@ header_broken name at i room scan scanned a b c early is sound first second reac
     (λ files came goes. inl (breaks_at (content_of files name) at i scan (omega arith) came (subst (ScansOn (drop at (content_of files name)) scan room) is goes)))
     first second reached scans
 
-pub header_ended : {names : List (List ℕ)} (name : List ℕ) (at room : ℕ) (scan : Scan) (scanned : Scanned) (header : Header) (a b c : ShelfState) → at + room ≤ 65536 → scanned ≡ Ended header → IsSoundScanned room scanned → OnlyReads names a b → OnlyReads names b c
+pub header_ended : {names : List (List ℕ)} (name : List ℕ) (at room : ℕ) (scan : Scan) (scanned : Scanned) (header : Header) (a b c : ShelfState) → at + room ≤ MOST_HEADER_BYTES → scanned ≡ Ended header → IsSoundScanned room scanned → OnlyReads names a b → OnlyReads names b c
     → Sees a b (λ files. Reached (content_of files name) at scan) → Sees b c (λ files. ScansOn (drop at (content_of files name)) scan room scanned)
     → Sees a c (λ files. HasHeader (content_of files name) (record header { length = at + header.length }))
 header_ended name at room scan scanned header a b c early is sound first second reached scans =
@@ -115,36 +117,36 @@ header_more name at room scan next scanned a b c is first second reached scans =
 
 -- what follows the first 65,536 bytes of a header
 pub passes : (name : List ℕ) (scan : Scan) (scanned : Scanned) (r : ReadError) (a b : ShelfState) → IsOpenScan scan → IsSoundScanned 1 scanned → r ≡ past_of scanned
-    → Sees a b (λ files. ScansOn (drop 65536 (content_of files name)) scan 1 scanned) → PassesAs name scan a b r
+    → Sees a b (λ files. ScansOn (drop MOST_HEADER_BYTES (content_of files name)) scan 1 scanned) → PassesAs name scan a b r
 passes name scan scanned r a b is_open sound is scans = subst (PassesAs name scan a b) (sym is) (by_scanned scanned sound scans)
   where
-    by_scanned : (s : Scanned) → IsSoundScanned 1 s → Sees a b (λ files. ScansOn (drop 65536 (content_of files name)) scan 1 s) → PassesAs name scan a b (past_of s)
+    by_scanned : (s : Scanned) → IsSoundScanned 1 s → Sees a b (λ files. ScansOn (drop MOST_HEADER_BYTES (content_of files name)) scan 1 s) → PassesAs name scan a b (past_of s)
     by_scanned (Open next) sound' scans' =
-        sees_weaker (λ files. ScansOn (drop 65536 (content_of files name)) scan 1 (Open next)) (λ files. Reached (content_of files name) 65536 scan → Refuses (content_of files name) (past_of (Open next))) a b
+        sees_weaker (λ files. ScansOn (drop MOST_HEADER_BYTES (content_of files name)) scan 1 (Open next)) (λ files. Reached (content_of files name) MOST_HEADER_BYTES scan → Refuses (content_of files name) (past_of (Open next))) a b
         (λ files on came. (too_long (content_of files name) scan next is_open came on.0 on.1, refl, refl)) scans'
     by_scanned (Broken i) sound' scans' =
-        sees_weaker (λ files. ScansOn (drop 65536 (content_of files name)) scan 1 (Broken i)) (λ files. Reached (content_of files name) 65536 scan → Refuses (content_of files name) (past_of (Broken i))) a b
+        sees_weaker (λ files. ScansOn (drop MOST_HEADER_BYTES (content_of files name)) scan 1 (Broken i)) (λ files. Reached (content_of files name) MOST_HEADER_BYTES scan → Refuses (content_of files name) (past_of (Broken i))) a b
         (λ files off came.
         let none : i ≡ 0 = omega arith in
-        inl (breaks_at (content_of files name) 65536 0 scan (omega arith) came (subst (BreaksOff (drop 65536 (content_of files name)) scan) none off)))
+        inl (breaks_at (content_of files name) MOST_HEADER_BYTES 0 scan (omega arith) came (subst (BreaksOff (drop MOST_HEADER_BYTES (content_of files name)) scan) none off)))
         scans'
     by_scanned (Ended header) sound' scans' =
         let one : header.length ≡ 1 = omega (arith, sound'.some, sound'.fits) in
-        sees_weaker (λ files. ScansOn (drop 65536 (content_of files name)) scan 1 (Ended header)) (λ files. Reached (content_of files name) 65536 scan → Refuses (content_of files name) (past_of (Ended header))) a b
+        sees_weaker (λ files. ScansOn (drop MOST_HEADER_BYTES (content_of files name)) scan 1 (Ended header)) (λ files. Reached (content_of files name) MOST_HEADER_BYTES scan → Refuses (content_of files name) (past_of (Ended header))) a b
         (λ files ends came. (
           too_long (content_of files name) scan (Whole header.width header.height header.maxval) is_open came (omega (arith, one, ends.inside))
-              (subst (λ n. run_of capped scan (take n (drop 65536 (content_of files name))) ≡ Some (Whole header.width header.height header.maxval)) one ends.run),
+              (subst (λ n. run_of capped scan (take n (drop MOST_HEADER_BYTES (content_of files name))) ≡ Some (Whole header.width header.height header.maxval)) one ends.run),
           refl,
           refl,
         ))
         scans'
 
-pub passed : {names : List (List ℕ)} (name : List ℕ) (scan : Scan) (r : ReadError) (a b c : ShelfState) → OnlyReads names a b → OnlyReads names b c → Sees a b (λ files. Reached (content_of files name) 65536 scan) → PassesAs name scan b c r → ReadsAs name a c (Err r)
+pub passed : {names : List (List ℕ)} (name : List ℕ) (scan : Scan) (r : ReadError) (a b c : ShelfState) → OnlyReads names a b → OnlyReads names b c → Sees a b (λ files. Reached (content_of files name) MOST_HEADER_BYTES scan) → PassesAs name scan b c r → ReadsAs name a c (Err r)
 passed name scan ReadFault a b c first second reached passes' = fault_later name a b c first passes'
 passed name scan NoMemory a b c first second reached passes' = tt
 passed name scan (Bad why) a b c first second reached passes' =
-    sees_then (λ files. Reached (content_of files name) 65536 scan) (λ files. Reached (content_of files name) 65536 scan → Refuses (content_of files name) (Bad why)) (λ files. Refuses (content_of files name) (Bad why)) a b c
+    sees_then (λ files. Reached (content_of files name) MOST_HEADER_BYTES scan) (λ files. Reached (content_of files name) MOST_HEADER_BYTES scan → Refuses (content_of files name) (Bad why)) (λ files. Refuses (content_of files name) (Bad why)) a b c
     (λ files came goes. goes came) first second reached passes'
 passed name scan (Limit what number bound) a b c first second reached passes' =
-    sees_then (λ files. Reached (content_of files name) 65536 scan) (λ files. Reached (content_of files name) 65536 scan → Refuses (content_of files name) (Limit what number bound))
+    sees_then (λ files. Reached (content_of files name) MOST_HEADER_BYTES scan) (λ files. Reached (content_of files name) MOST_HEADER_BYTES scan → Refuses (content_of files name) (Limit what number bound))
     (λ files. Refuses (content_of files name) (Limit what number bound)) a b c (λ files came goes. goes came) first second reached passes'

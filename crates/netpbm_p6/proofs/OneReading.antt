@@ -6,6 +6,7 @@ use Rattle.std.proofs.lemmas.Bool.{cases_lt, lt-ltb, le-ltb}
 use Rattle.std.proofs.lemmas.List.{length-take-le, length-append, append-nil, take-append-drop, take-take}
 use Rattle.std.proofs.lemmas.List.Elements.{recursion_from_All}
 use Rattle.std.proofs.Math.Seq.{take-append_seam, drop-append_seam}
+use Rattle.limits.specs.declared.bounds.TheConstants.{GREATEST_AXIS, MOST_HEADER_BYTES, MOST_SAMPLE_CELLS}
 use Rattle.cells.specs.Cells.{volume_of}
 use Rattle.shelf_core.specs.declared.fault.ReadError.{ReadError}
 use Rattle.shelf_core.specs.declared.fault.ReadError.TheVariants.{ReadFault, Bad, Limit, NoMemory}
@@ -13,7 +14,8 @@ use Rattle.shelf_core.specs.declared.fault.FormFault.TheVariants.{Form, Depth, S
 use Rattle.shelf_core.specs.declared.fault.What.TheVariants.{Axis, Cells as CellsLimit, Header as HeaderLimit, Frames, Output, Loop, Records, Parts}
 use Rattle.netpbm_p6.specs.declared.picture.Picture.{Picture}
 use Rattle.netpbm_p6.specs.Header.{IsHeader, IsPrefix, IsProperPrefix}
-use Rattle.netpbm_p6.specs.Pictures.{capped, picture_size, Headed, raster_length, IsPictureOf, IsRead, ShortHeaded, Within, BreaksAt, HeaderTooLong, AxisPasses, Refuses}
+use Rattle.shelf_core.specs.Decimals.{capped}
+use Rattle.netpbm_p6.specs.Pictures.{picture_size, Headed, raster_length, IsPictureOf, IsRead, ShortHeaded, Within, BreaksAt, HeaderTooLong, AxisPasses, Refuses}
 use Rattle.netpbm_p6.proofs.Headers.{same_header, same_numbers}
 
 -- One header.
@@ -89,9 +91,9 @@ whole_answer maxval at (suc want) (b ∷ bytes) whole fit = sample_fits maxval b
 abbrev answer_of : ℕ → ℕ → ℕ → ℕ → List ℕ → Result (Unit {0}) ReadError
 answer_of w h m at raster =
     if nat_lt 255 m then Err (Bad Depth)
-    else if nat_lt 4096 w then Err (Limit Axis (capped w) 4096)
-    else if nat_lt 4096 h then Err (Limit Axis (capped h) 4096)
-    else if nat_lt 8388608 (w * h) then Err (Limit CellsLimit (w * h) 8388608)
+    else if nat_lt GREATEST_AXIS w then Err (Limit Axis (capped w) GREATEST_AXIS)
+    else if nat_lt GREATEST_AXIS h then Err (Limit Axis (capped h) GREATEST_AXIS)
+    else if nat_lt MOST_SAMPLE_CELLS (w * h) then Err (Limit CellsLimit (w * h) MOST_SAMPLE_CELLS)
     else raster_of m at (3 * (w * h)) raster
 
 abbrev judged : {bytes : List ℕ} → Headed bytes → Result (Unit {0}) ReadError
@@ -106,16 +108,16 @@ if_not bound n x y z le rest = ap (λ t. cond t x y) (le-ltb bound n le) ∙ res
 if_so : {A : Type 0} (bound n : ℕ) (x y : A) → bound < n → cond (nat_lt bound n) x y ≡ x
 if_so bound n x y lt = ap (λ t. cond t x y) (lt-ltb bound n lt)
 
-within_answer : (w h m at : ℕ) (raster : List ℕ) (r : Result (Unit {0}) ReadError) → m ≤ 255 → w ≤ 4096 → h ≤ 4096 → w * h ≤ 8388608 → raster_of m at (3 * (w * h)) raster ≡ r → answer_of w h m at raster ≡ r
-within_answer w h m at raster r depth wide high cells rest = if_not 255 m _ _ r depth (if_not 4096 w _ _ r wide (if_not 4096 h _ _ r high (if_not 8388608 (w * h) _ _ r cells rest)))
+within_answer : (w h m at : ℕ) (raster : List ℕ) (r : Result (Unit {0}) ReadError) → m ≤ 255 → w ≤ GREATEST_AXIS → h ≤ GREATEST_AXIS → w * h ≤ MOST_SAMPLE_CELLS → raster_of m at (3 * (w * h)) raster ≡ r → answer_of w h m at raster ≡ r
+within_answer w h m at raster r depth wide high cells rest = if_not 255 m _ _ r depth (if_not GREATEST_AXIS w _ _ r wide (if_not GREATEST_AXIS h _ _ r high (if_not MOST_SAMPLE_CELLS (w * h) _ _ r cells rest)))
 
-axis_answer : (w h m at number : ℕ) (raster : List ℕ) → m ≤ 255 → AxisPasses w h number → answer_of w h m at raster ≡ Err (Limit Axis number 4096)
-axis_answer w h m at number raster depth (inl wide) = if_not 255 m _ _ _ depth (if_so 4096 w _ _ wide.0 ∙ ap (λ n. Err (Limit Axis n 4096)) (sym wide.1))
+axis_answer : (w h m at number : ℕ) (raster : List ℕ) → m ≤ 255 → AxisPasses w h number → answer_of w h m at raster ≡ Err (Limit Axis number GREATEST_AXIS)
+axis_answer w h m at number raster depth (inl wide) = if_not 255 m _ _ _ depth (if_so GREATEST_AXIS w _ _ wide.0 ∙ ap (λ n. Err (Limit Axis n GREATEST_AXIS)) (sym wide.1))
 axis_answer w h m at number raster depth (inr high) =
-    if_not 255 m _ _ _ depth (if_not 4096 w _ _ _ high.0 (if_so 4096 h _ _ high.1 ∙ ap (λ n. Err (Limit Axis n 4096)) (sym high.2)))
+    if_not 255 m _ _ _ depth (if_not GREATEST_AXIS w _ _ _ high.0 (if_so GREATEST_AXIS h _ _ high.1 ∙ ap (λ n. Err (Limit Axis n GREATEST_AXIS)) (sym high.2)))
 
-cells_answer : (w h m at : ℕ) (raster : List ℕ) → m ≤ 255 → w ≤ 4096 → h ≤ 4096 → 8388608 < w * h → answer_of w h m at raster ≡ Err (Limit CellsLimit (w * h) 8388608)
-cells_answer w h m at raster depth wide high many = if_not 255 m _ _ _ depth (if_not 4096 w _ _ _ wide (if_not 4096 h _ _ _ high (if_so 8388608 (w * h) _ _ many)))
+cells_answer : (w h m at : ℕ) (raster : List ℕ) → m ≤ 255 → w ≤ GREATEST_AXIS → h ≤ GREATEST_AXIS → MOST_SAMPLE_CELLS < w * h → answer_of w h m at raster ≡ Err (Limit CellsLimit (w * h) MOST_SAMPLE_CELLS)
+cells_answer w h m at raster depth wide high many = if_not 255 m _ _ _ depth (if_not GREATEST_AXIS w _ _ _ wide (if_not GREATEST_AXIS h _ _ _ high (if_so MOST_SAMPLE_CELLS (w * h) _ _ many)))
 
 within_judged : {bytes : List ℕ} (within : Within bytes) (r : Result (Unit {0}) ReadError)
     → raster_of within.headed.maxval (length within.headed.header) (raster_length within.headed) within.headed.raster ≡ r → judged within.headed ≡ r
@@ -128,7 +130,7 @@ abbrev IsJudged : List ℕ → ReadError → Type 0
 IsJudged bytes e = (short : ShortHeaded bytes) × (judged short.headed ≡ Err e)
 
 abbrev Cause : List ℕ → ReadError → Type 0
-Cause bytes e = ((at : ℕ) × BreaksAt bytes at × (e ≡ Bad (Form at))) ⊎ (HeaderTooLong bytes × (e ≡ Limit HeaderLimit 65537 65536)) ⊎ IsJudged bytes e
+Cause bytes e = ((at : ℕ) × BreaksAt bytes at × (e ≡ Bad (Form at))) ⊎ (HeaderTooLong bytes × (e ≡ Limit HeaderLimit (MOST_HEADER_BYTES + 1) MOST_HEADER_BYTES)) ⊎ IsJudged bytes e
 
 within_cause : {bytes : List ℕ} (e : ReadError) (within : Within bytes)
     → raster_of within.headed.maxval (length within.headed.header) (raster_length within.headed) within.headed.raster ≡ Err e → Cause bytes e
@@ -206,7 +208,7 @@ one_break bytes i j a b =
     (λ ge. ⊎_elim (λ more. absurd (not_before bytes j i b a.before.starts a.inside more)) (λ le. omega arith) (cases_lt j i)) (cases_lt i j)
 
 break_not_long : (bytes : List ℕ) (i : ℕ) → BreaksAt bytes i → HeaderTooLong bytes → ⊥
-break_not_long bytes i breaks long = not_before bytes i 65537 breaks long.lawful (omega (arith, long.longer)) (omega (arith, breaks.early))
+break_not_long bytes i breaks long = not_before bytes i (MOST_HEADER_BYTES + 1) breaks long.lawful (omega (arith, long.longer)) (omega (arith, breaks.early))
 
 -- the bytes of the header are the first ones
 header_front : {bytes : List ℕ} (headed : Headed bytes) → take (length headed.header) bytes ≡ headed.header
@@ -242,7 +244,7 @@ break_not_headed bytes i headed breaks =
     }
 
 long_not_short : (bytes : List ℕ) → HeaderTooLong bytes → ShortHeaded bytes → ⊥
-long_not_short bytes long short = no_header_inside short.headed 65536 short.short (omega (arith, long.longer)) long.starts
+long_not_short bytes long short = no_header_inside short.headed MOST_HEADER_BYTES short.short (omega (arith, long.longer)) long.starts
 
 err_same : (e f : ReadError) (r : Result (Unit {0}) ReadError) → r ≡ Err e → r ≡ Err f → e ≡ f
 err_same e f r a b = cc

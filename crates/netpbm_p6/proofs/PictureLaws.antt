@@ -12,9 +12,10 @@ use Rattle.shelf_core.specs.declared.fault.ReadError.{ReadError}
 use Rattle.shelf_core.specs.declared.fault.ReadError.TheVariants.{ReadFault, Bad, Limit, NoMemory}
 use Rattle.shelf_core.specs.declared.fault.FormFault.TheVariants.{Form, Depth, Space, Cell, NoFrames, Sample, Trailing}
 use Rattle.shelf_core.specs.declared.fault.What.TheVariants.{Axis, Cells as CellsLimit, Header as HeaderLimit, Frames, Output, Loop, Records, Parts}
-use Rattle.netpbm_p6.specs.declared.header.TheConstants.{MOST_CELLS}
+use Rattle.limits.specs.declared.bounds.TheConstants.{GREATEST_AXIS, MOST_SAMPLE_CELLS}
 use Rattle.netpbm_p6.specs.declared.scan.Header.{Header}
-use Rattle.netpbm_p6.specs.Pictures.{capped, picture_size, Headed, raster_length, IsRead, Within, AxisPasses, Refuses, ReadsAs}
+use Rattle.shelf_core.specs.Decimals.{capped}
+use Rattle.netpbm_p6.specs.Pictures.{picture_size, Headed, raster_length, IsRead, Within, AxisPasses, Refuses, ReadsAs}
 use Rattle.netpbm_p6.specs.Reading.{HasHeader, Exceeds, HeaderFits, IsFirstAbove, RasterRefuses, IsRaster, RastersAs}
 use Rattle.shelf_core.proofs.Sees.{Sees, sees_weaker, sees_then, fault_later}
 
@@ -28,12 +29,12 @@ capped_small n given bound is le small = omega arith
 -- The header's numbers.
 
 axis_passes : (bytes : List ℕ) (header : Header) (number : ℕ) → (has : HasHeader bytes header)
-    → ((4096 < header.width) × (number ≡ header.width)) ⊎ ((header.width ≤ 4096) × (4096 < header.height) × (number ≡ header.height))
+    → ((GREATEST_AXIS < header.width) × (number ≡ header.width)) ⊎ ((header.width ≤ GREATEST_AXIS) × (GREATEST_AXIS < header.height) × (number ≡ header.height))
     → AxisPasses has.short.headed.width has.short.headed.height number
-axis_passes bytes header number has (inl wide) = inl (capped_above has.short.headed.width 4096 (subst (λ n. 4096 < n) has.width_is wide.0), wide.1 ∙ has.width_is)
+axis_passes bytes header number has (inl wide) = inl (capped_above has.short.headed.width GREATEST_AXIS (subst (λ n. GREATEST_AXIS < n) has.width_is wide.0), wide.1 ∙ has.width_is)
 axis_passes bytes header number has (inr high) =
-    let w = capped_small has.short.headed.width header.width 4096 has.width_is high.0 (omega arith) in
-    inr (subst (λ n. n ≤ 4096) w high.0, capped_above has.short.headed.height 4096 (subst (λ n. 4096 < n) has.height_is high.1), high.2 ∙ has.height_is)
+    let w = capped_small has.short.headed.width header.width GREATEST_AXIS has.width_is high.0 (omega arith) in
+    inr (subst (λ n. n ≤ GREATEST_AXIS) w high.0, capped_above has.short.headed.height GREATEST_AXIS (subst (λ n. GREATEST_AXIS < n) has.height_is high.1), high.2 ∙ has.height_is)
 
 depth_small : (bytes : List ℕ) (header : Header) → (has : HasHeader bytes header) → header.maxval ≤ 255 → has.short.headed.maxval ≤ 255
 depth_small bytes header has le = subst (λ n. n ≤ 255) (capped_small has.short.headed.maxval header.maxval 255 has.maxval_is le (omega arith)) le
@@ -42,15 +43,15 @@ limits_refuse : (bytes : List ℕ) (header : Header) (e : ReadError) → HasHead
 limits_refuse bytes header (Bad Depth) has exceeds = (has.short, capped_above has.short.headed.maxval 255 (subst (λ n. 255 < n) has.maxval_is exceeds))
 limits_refuse bytes header (Limit Axis number bound) has exceeds = (has.short, depth_small bytes header has exceeds.0, axis_passes bytes header number has exceeds.1, exceeds.2)
 limits_refuse bytes header (Limit CellsLimit number bound) has exceeds =
-    let w = capped_small has.short.headed.width header.width 4096 has.width_is exceeds.1.width_fits (omega arith) in
-    let h = capped_small has.short.headed.height header.height 4096 has.height_is exceeds.1.height_fits (omega arith) in
+    let w = capped_small has.short.headed.width header.width GREATEST_AXIS has.width_is exceeds.1.width_fits (omega arith) in
+    let h = capped_small has.short.headed.height header.height GREATEST_AXIS has.height_is exceeds.1.height_fits (omega arith) in
     let cells : header.width * header.height ≡ has.short.headed.width * has.short.headed.height = ap (λ n. n * header.height) w ∙ ap (λ n. has.short.headed.width * n) h in (
       has.short,
       depth_small bytes header has exceeds.0,
       record {
-        width_fits = subst (λ n. n ≤ 4096) w exceeds.1.width_fits;
-        height_fits = subst (λ n. n ≤ 4096) h exceeds.1.height_fits;
-        passes = subst (λ n. 8388608 < n) cells exceeds.1.passes;
+        width_fits = subst (λ n. n ≤ GREATEST_AXIS) w exceeds.1.width_fits;
+        height_fits = subst (λ n. n ≤ GREATEST_AXIS) h exceeds.1.height_fits;
+        passes = subst (λ n. MOST_SAMPLE_CELLS < n) cells exceeds.1.passes;
         number_is = exceeds.1.number_is ∙ cells;
       },
       exceeds.2,
@@ -93,8 +94,8 @@ record Found (bytes : List ℕ) (header : Header) (size : Size) (maxval : ℕ) :
 found : (bytes : List ℕ) (header : Header) (size : Size) (maxval : ℕ) → HasHeader bytes header → HeaderFits header size maxval → Found bytes header size maxval
 found bytes header size maxval has fits =
     let headed = has.short.headed in
-    let w = capped_small headed.width header.width 4096 has.width_is fits.width_fits (omega arith) in
-    let h = capped_small headed.height header.height 4096 has.height_is fits.height_fits (omega arith) in
+    let w = capped_small headed.width header.width GREATEST_AXIS has.width_is fits.width_fits (omega arith) in
+    let h = capped_small headed.height header.height GREATEST_AXIS has.height_is fits.height_fits (omega arith) in
     let m = capped_small headed.maxval header.maxval 255 has.maxval_is fits.depth (omega arith) in
     let cells : header.width * header.height ≡ headed.width * headed.height = ap (λ n. n * header.height) w ∙ ap (λ n. headed.width * n) h in
     let size_is : size ≡ picture_size headed.width headed.height = fits.size_is ∙ ap (λ n. picture_size n header.height) w ∙ ap (picture_size headed.width) h in
@@ -105,9 +106,9 @@ found bytes header size maxval has fits =
         depth = subst (λ n. n ≤ 255) m fits.depth;
         limits = record {
           header_fits = has.short.short;
-          width_fits = subst (λ n. n ≤ 4096) w fits.width_fits;
-          height_fits = subst (λ n. n ≤ 4096) h fits.height_fits;
-          cells_fit = subst (λ n. n ≤ 8388608) cells fits.cells_fit;
+          width_fits = subst (λ n. n ≤ GREATEST_AXIS) w fits.width_fits;
+          height_fits = subst (λ n. n ≤ GREATEST_AXIS) h fits.height_fits;
+          cells_fit = subst (λ n. n ≤ MOST_SAMPLE_CELLS) cells fits.cells_fit;
         };
       };
       rest = ap (λ n. drop n bytes) has.length_is ∙ ap (drop (length headed.header)) headed.is ∙ drop-append_seam headed.header headed.raster;
@@ -190,7 +191,7 @@ read_as name header size maxval volume a b c first second seen fits raster =
     (λ files has. is_read (content_of files name) header size maxval volume (found (content_of files name) header size maxval has fits)) first second seen raster
 
 -- a volume of the size that a header allows has few enough cells
-pub cells_allowed : (header : Header) (size : Size) (maxval : ℕ) (v : Cells) → HeaderFits header size maxval → v.size ≡ size → IsOnePart v → count_of v ≤ MOST_CELLS
+pub cells_allowed : (header : Header) (size : Size) (maxval : ℕ) (v : Cells) → HeaderFits header size maxval → v.size ≡ size → IsOnePart v → count_of v ≤ MOST_SAMPLE_CELLS
 cells_allowed header size maxval v fits is one =
     let alone : count_of v ≡ cell_count v.size = ap (count_from v.size) one in
     let sized : cell_count v.size ≡ header.width * (header.height * 1) = ap cell_count (is ∙ fits.size_is) in

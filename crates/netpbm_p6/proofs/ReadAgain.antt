@@ -9,8 +9,9 @@ use Rattle.cells.specs.declared.place.Size.{Size}
 use Rattle.cells.specs.Places.{cell_count}
 use Rattle.cells.specs.Parts.{count_from}
 use Rattle.cells.specs.Cells.{Cells, IsCell, IsOnePart, IsVolume, cells_of, volume_of, bytes_of}
-use Rattle.netpbm_p6.specs.declared.header.TheConstants.{MOST_CELLS}
-use Rattle.netpbm_p6.specs.Header.{IsDigit, digits_number, IsNumber, IsGroup, IsHeader, IsWhite}
+use Rattle.limits.specs.declared.bounds.TheConstants.{MOST_HEADER_BYTES, MOST_SAMPLE_CELLS}
+use Rattle.shelf_core.specs.Decimals.{IsDigit}
+use Rattle.netpbm_p6.specs.Header.{digits_number, IsNumber, IsGroup, IsHeader, IsWhite}
 use Rattle.netpbm_p6.specs.Pictures.{picture_size, IsPictureOf, IsRead, IsPicture, p6_form}
 use Rattle.netpbm_p6.proofs.Shapes.{AllByRecursion-push, length-push, value-push, one_item, white_item}
 
@@ -130,7 +131,7 @@ decimal_short n small = decimal_by_steps IsShortText one more n small
     more : (n' : ℕ) (text : List ℕ) → 10 ≤ n' → IsShortText (n' / 10) text → IsShortText n' (text ++ ((48 + n' % 10) ∷ []))
     more n' text least writes = record { short = omega (arith, length-append text ((48 + n' % 10) ∷ []), writes.short) }
 
-header_short : (w h m : List ℕ) → length w ≤ 4097 → length h ≤ 4097 → length m ≤ 256 → length (codes "P6\n" ++ w ++ codes " " ++ h ++ codes "\n" ++ m ++ codes "\n") ≤ 65536
+header_short : (w h m : List ℕ) → length w ≤ 4097 → length h ≤ 4097 → length m ≤ 256 → length (codes "P6\n" ++ w ++ codes " " ++ h ++ codes "\n" ++ m ++ codes "\n") ≤ MOST_HEADER_BYTES
 header_short w h m ws hs ms =
     omega (
       arith,
@@ -145,7 +146,7 @@ header_short w h m ws hs ms =
       length-append (codes "P6\n" ++ w ++ codes " " ++ h ++ codes "\n" ++ m) (codes "\n"),
     )
 
-pub written_is_read : (maxval : ℕ) (volume : Cells) → IsPicture maxval volume → cell_count volume.size ≤ MOST_CELLS → IsRead (p6_form maxval volume) (record { maxval = maxval; volume = volume })
+pub written_is_read : (maxval : ℕ) (volume : Cells) → IsPicture maxval volume → cell_count volume.size ≤ MOST_SAMPLE_CELLS → IsRead (p6_form maxval volume) (record { maxval = maxval; volume = volume })
 unfolding read_again
 written_is_read maxval volume picture few =
     let axes = picture.volume_is.small.axes in

@@ -1,8 +1,9 @@
 -- A reader has to trust this file. The header of a P6 picture. (Netpbm's PPM, binary form; where a
 -- comment may stand is this project's choice: after the magic, the width and the height, with or
 -- without white space before it.)
-use Rattle.std.specs.Prelude.{◌≡◌, ◌≢◌, ◌≤◌, ◌⊎◌, ◌+◌, ◌*◌, ◌-◌, ℕ, List, [], ◌∷◌, ◌++◌, length, All, codes}
+use Rattle.std.specs.Prelude.{◌≡◌, ◌≢◌, ◌≤◌, ◌⊎◌, ◌+◌, ◌-◌, ℕ, List, [], ◌∷◌, ◌++◌, length, All, codes}
 use Rattle.std.specs.List.{AllByRecursion, concat}
+use Rattle.shelf_core.specs.Decimals.{IsDigit, value_behind}
 
 -- blank, TAB, CR or LF
 abbrev pub IsWhite : ℕ → Type 0
@@ -29,14 +30,6 @@ pub record IsSeparator (text : List ℕ) : Type 0 where
   pub some : 1 ≤ length items
   pub each : AllByRecursion IsItem items
   pub is : text ≡ concat items
-
-abbrev pub IsDigit : ℕ → Type 0
-IsDigit b = (48 ≤ b) × (b ≤ 57)
-
--- the value of decimal digits, the first of which counts most, behind those of a number so far
-abbrev pub value_behind : ℕ → List ℕ → ℕ
-value_behind n [] = n
-value_behind n (digit ∷ digits) = value_behind (10 * n + (digit - 48)) digits
 
 abbrev pub digits_number : List ℕ → ℕ
 digits_number digits = value_behind 0 digits

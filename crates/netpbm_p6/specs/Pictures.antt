@@ -1,7 +1,8 @@
 -- A reader has to trust this file. P6 pictures: which bytes stand for which picture, and which
 -- refusal comes at which place. (Netpbm's
 -- PPM, binary form, with a maxval of at most 255; the bounds are this project's own.)
-use Rattle.std.specs.Prelude.{◌≡◌, ◌≤◌, ◌<◌, ◌⊎◌, ◌+◌, ◌*◌, ℕ, List, ◌++◌, length, take, min, slice_index, All, codes, decimal, Result, Ok, Err}
+use Rattle.std.specs.Prelude.{◌≡◌, ◌≤◌, ◌<◌, ◌⊎◌, ◌+◌, ◌*◌, ℕ, List, ◌++◌, length, take, slice_index, All, codes, decimal, Result, Ok, Err}
+use Rattle.shelf_core.specs.Decimals.{capped}
 use Rattle.cells.specs.declared.place.Size.{Size}
 use Rattle.cells.specs.Cells.{Cells, IsOnePart, IsVolume, volume_of, bytes_of, count_of}
 use Rattle.shelf_core.specs.Files.{ShelfState, InFile, ReadsRose}
@@ -10,7 +11,7 @@ use Rattle.shelf_core.specs.declared.fault.ReadError.TheVariants.{ReadFault, Bad
 use Rattle.shelf_core.specs.declared.fault.FormFault.TheVariants.{Form, Depth, Sample, Trailing}
 use Rattle.shelf_core.specs.declared.fault.What.TheVariants.{Axis, Cells as CellsLimit, Header}
 use Rattle.netpbm_p6.specs.declared.picture.Picture.{Picture}
-use Rattle.netpbm_p6.specs.declared.header.TheConstants.{MOST_BYTES, MOST_CELLS, MOST_ON_AXIS}
+use Rattle.limits.specs.declared.bounds.TheConstants.{GREATEST_AXIS, MOST_HEADER_BYTES, MOST_SAMPLE_CELLS}
 use Rattle.netpbm_p6.specs.Header.{IsHeader, IsPrefix, IsProperPrefix}
 
 -- the size of a picture
@@ -43,10 +44,10 @@ pub record IsPictureOf (bytes : List ℕ) (picture : Picture) : Type 0 where
 
 -- the bounds on a header's length, on the axes and on the cells
 pub record IsWithinLimits (header : List ℕ) (width height : ℕ) : Type 0 where
-  pub header_fits : length header ≤ MOST_BYTES
-  pub width_fits : width ≤ MOST_ON_AXIS
-  pub height_fits : height ≤ MOST_ON_AXIS
-  pub cells_fit : width * height ≤ MOST_CELLS
+  pub header_fits : length header ≤ MOST_HEADER_BYTES
+  pub width_fits : width ≤ GREATEST_AXIS
+  pub height_fits : height ≤ GREATEST_AXIS
+  pub cells_fit : width * height ≤ MOST_SAMPLE_CELLS
 
 -- the bytes stand for the picture, within the limits
 pub record IsRead (bytes : List ℕ) (picture : Picture) : Type 0 where
@@ -56,7 +57,7 @@ pub record IsRead (bytes : List ℕ) (picture : Picture) : Type 0 where
 -- a header that isn't too long
 pub record ShortHeaded (bytes : List ℕ) : Type 0 where
   pub headed : Headed bytes
-  pub short : length headed.header ≤ MOST_BYTES
+  pub short : length headed.header ≤ MOST_HEADER_BYTES
 
 -- a header with a maxval of at most 255, within the limits
 pub record Within (bytes : List ℕ) : Type 0 where
@@ -66,7 +67,7 @@ pub record Within (bytes : List ℕ) : Type 0 where
 
 -- the header breaks off or goes wrong at a place before it is too long
 pub record BreaksAt (bytes : List ℕ) (at : ℕ) : Type 0 where
-  pub early : at ≤ MOST_BYTES
+  pub early : at ≤ MOST_HEADER_BYTES
   pub inside : at ≤ length bytes
   pub before : IsProperPrefix (take at bytes)
   pub here : (length bytes ≡ at) ⊎ ((at < length bytes) × (IsPrefix (take (at + 1) bytes) → ⊥))
@@ -74,9 +75,9 @@ pub record BreaksAt (bytes : List ℕ) (at : ℕ) : Type 0 where
 -- the header is too long: the most bytes of one are a proper prefix of one, and the byte that
 -- follows could still be one of it
 pub record HeaderTooLong (bytes : List ℕ) : Type 0 where
-  pub longer : MOST_BYTES < length bytes
-  pub starts : IsProperPrefix (take MOST_BYTES bytes)
-  pub lawful : IsPrefix (take (MOST_BYTES + 1) bytes)
+  pub longer : MOST_HEADER_BYTES < length bytes
+  pub starts : IsProperPrefix (take MOST_HEADER_BYTES bytes)
+  pub lawful : IsPrefix (take (MOST_HEADER_BYTES + 1) bytes)
 
 -- the raster ends early, with no byte above maxval
 pub record EndsEarly (bytes : List ℕ) (at : ℕ) : Type 0 where
@@ -103,24 +104,17 @@ pub record GoesOn (bytes : List ℕ) (at : ℕ) : Type 0 where
       (take (raster_length within.headed) within.headed.raster)
   pub place : at ≡ length within.headed.header + raster_length within.headed
 
--- a number as far as a u64 goes
-abbrev pub greatest_number : ℕ
-greatest_number = 18446744073709551615
-
-abbrev pub capped : ℕ → ℕ
-capped n = min n greatest_number
-
 -- width above its bound, or height where width is in it
 abbrev pub AxisPasses : ℕ → ℕ → ℕ → Type 0
 AxisPasses width height number =
-    ((MOST_ON_AXIS < width) × (number ≡ capped width))
-    ⊎ ((width ≤ MOST_ON_AXIS) × (MOST_ON_AXIS < height) × (number ≡ capped height))
+    ((GREATEST_AXIS < width) × (number ≡ capped width))
+    ⊎ ((width ≤ GREATEST_AXIS) × (GREATEST_AXIS < height) × (number ≡ capped height))
 
 -- a width and a height in their bounds that make too many cells
 pub record CellsPass (width height number : ℕ) : Type 0 where
-  pub width_fits : width ≤ MOST_ON_AXIS
-  pub height_fits : height ≤ MOST_ON_AXIS
-  pub passes : MOST_CELLS < width * height
+  pub width_fits : width ≤ GREATEST_AXIS
+  pub height_fits : height ≤ GREATEST_AXIS
+  pub passes : MOST_SAMPLE_CELLS < width * height
   pub number_is : number ≡ width * height
 
 -- the refusal of the bytes, the first in the order of trial: the header's form, its length, the
@@ -128,14 +122,14 @@ pub record CellsPass (width height number : ℕ) : Type 0 where
 abbrev pub Refuses : List ℕ → ReadError → Type 0
 Refuses bytes (Bad (Form at)) = BreaksAt bytes at ⊎ EndsEarly bytes at
 Refuses bytes (Limit Header number bound) =
-    HeaderTooLong bytes × (number ≡ MOST_BYTES + 1) × (bound ≡ MOST_BYTES)
+    HeaderTooLong bytes × (number ≡ MOST_HEADER_BYTES + 1) × (bound ≡ MOST_HEADER_BYTES)
 Refuses bytes (Bad Depth) = (short : ShortHeaded bytes) × (255 < short.headed.maxval)
 Refuses bytes (Limit Axis number bound) =
     (short : ShortHeaded bytes) × (short.headed.maxval ≤ 255)
-    × AxisPasses short.headed.width short.headed.height number × (bound ≡ MOST_ON_AXIS)
+    × AxisPasses short.headed.width short.headed.height number × (bound ≡ GREATEST_AXIS)
 Refuses bytes (Limit CellsLimit number bound) =
     (short : ShortHeaded bytes) × (short.headed.maxval ≤ 255)
-    × CellsPass short.headed.width short.headed.height number × (bound ≡ MOST_CELLS)
+    × CellsPass short.headed.width short.headed.height number × (bound ≡ MOST_SAMPLE_CELLS)
 Refuses bytes (Bad (Sample at)) = IsAbove bytes at
 Refuses bytes (Bad (Trailing at)) = GoesOn bytes at
 Refuses bytes error = ⊥
@@ -155,7 +149,7 @@ pub record IsSound (picture : Picture) : Type 0 where
   pub frames : picture.volume.size.f ≡ 1
   pub colours : picture.volume.k ≡ 3
   pub samples : All (λ b. b ≤ picture.maxval) (bytes_of picture.volume)
-  pub cells : count_of picture.volume ≤ MOST_CELLS
+  pub cells : count_of picture.volume ≤ MOST_SAMPLE_CELLS
 
 -- a picture that can be written: a maxval of at least 1, one frame, three samples, and no byte
 -- above maxval

@@ -14,8 +14,9 @@ use Rattle.netpbm_p6.specs.declared.scan.Scan.TheVariants.{Start}
 use Rattle.netpbm_p6.specs.declared.scan.Header.{Header}
 use Rattle.netpbm_p6.specs.declared.scan.Scanned.{Scanned}
 use Rattle.netpbm_p6.specs.declared.scan.Scanned.TheVariants.{Open, Broken, Ended}
-use Rattle.netpbm_p6.specs.Pictures.{capped, picture_size, CellsPass, ShortHeaded, Refuses, ReadsAs}
-use Rattle.netpbm_p6.specs.declared.header.TheConstants.{MOST_BYTES, MOST_CELLS, MOST_ON_AXIS}
+use Rattle.shelf_core.specs.Decimals.{capped}
+use Rattle.netpbm_p6.specs.Pictures.{picture_size, CellsPass, ShortHeaded, Refuses, ReadsAs}
+use Rattle.limits.specs.declared.bounds.TheConstants.{GREATEST_AXIS, MOST_HEADER_BYTES, MOST_SAMPLE_CELLS}
 use Rattle.netpbm_p6.specs.Scanning.{run_of, RunsOn, EndsIn}
 
 -- the scanner came to this place after so many bytes of the file
@@ -57,33 +58,33 @@ HeadsAs name was now (Err error) = ReadsAs name was now (Err error)
 
 -- the refusal of a header that is too long, by what the scanner makes of the byte past them
 abbrev pub past_of : Scanned → ReadError
-past_of (Open next) = Limit HeaderLimit (MOST_BYTES + 1) MOST_BYTES
-past_of (Broken i) = Bad (Form MOST_BYTES)
-past_of (Ended header) = Limit HeaderLimit (MOST_BYTES + 1) MOST_BYTES
+past_of (Open next) = Limit HeaderLimit (MOST_HEADER_BYTES + 1) MOST_HEADER_BYTES
+past_of (Broken i) = Bad (Form MOST_HEADER_BYTES)
+past_of (Ended header) = Limit HeaderLimit (MOST_HEADER_BYTES + 1) MOST_HEADER_BYTES
 
 -- the refusal of a file in which the most bytes of a header lead to this place
 abbrev pub PassesAs : List ℕ → Scan → ShelfState → ShelfState → ReadError → Type 0
 PassesAs name scan was now ReadFault = ReadsRose name was now
 PassesAs name scan was now error =
-    InFile name was now (λ bytes. Reached bytes MOST_BYTES scan → Refuses bytes error)
+    InFile name was now (λ bytes. Reached bytes MOST_HEADER_BYTES scan → Refuses bytes error)
 
 -- the refusal of a header's numbers
 abbrev pub Exceeds : Header → ReadError → Type 0
 Exceeds header (Bad Depth) = 255 < header.maxval
 Exceeds header (Limit Axis number bound) =
-    (header.maxval ≤ 255) × (((MOST_ON_AXIS < header.width) × (number ≡ header.width))
-    ⊎ ((header.width ≤ MOST_ON_AXIS) × (MOST_ON_AXIS < header.height) × (number ≡ header.height)))
-    × (bound ≡ MOST_ON_AXIS)
+    (header.maxval ≤ 255) × (((GREATEST_AXIS < header.width) × (number ≡ header.width))
+    ⊎ ((header.width ≤ GREATEST_AXIS) × (GREATEST_AXIS < header.height) × (number ≡ header.height)))
+    × (bound ≡ GREATEST_AXIS)
 Exceeds header (Limit CellsLimit number bound) =
-    (header.maxval ≤ 255) × CellsPass header.width header.height number × (bound ≡ MOST_CELLS)
+    (header.maxval ≤ 255) × CellsPass header.width header.height number × (bound ≡ MOST_SAMPLE_CELLS)
 Exceeds header error = ⊥
 
 -- numbers within the limits, as a size and a maxval
 pub record HeaderFits (header : Header) (size : Size) (maxval : ℕ) : Type 0 where
   pub depth : header.maxval ≤ 255
-  pub width_fits : header.width ≤ MOST_ON_AXIS
-  pub height_fits : header.height ≤ MOST_ON_AXIS
-  pub cells_fit : header.width * header.height ≤ MOST_CELLS
+  pub width_fits : header.width ≤ GREATEST_AXIS
+  pub height_fits : header.height ≤ GREATEST_AXIS
+  pub cells_fit : header.width * header.height ≤ MOST_SAMPLE_CELLS
   pub size_is : size ≡ picture_size header.width header.height
   pub maxval_is : maxval ≡ header.maxval
 

@@ -6,15 +6,10 @@ ghost use Rattle.netpbm_p6.specs.Reading.{ScansOn, cut_at, past_of, HeadsAs, Pas
 
 use crate::scan::{Header, Scan, Scanned, scan_piece};
 use cells::Size;
+use limits::{GREATEST_AXIS, MOST_HEADER_BYTES, MOST_SAMPLE_CELLS};
 use shelf_core::{Failed, FormFault, ReadError, Shelf, What};
 
-/// The greatest number of bytes of a header.
-pub const MOST_BYTES: u64 = 65536;
-/// The greatest width and height.
-pub const MOST_ON_AXIS: u64 = 4096;
-/// The greatest number of cells.
-pub const MOST_CELLS: u64 = 8388608;
-/// How many bytes of a header are read at once, and how often for a header of `MOST_BYTES`.
+/// How many bytes of a header are read at once, and how often for a header of `MOST_HEADER_BYTES`.
 const PIECE: usize = 4096;
 
 const PIECES: u64 = 16;
@@ -50,28 +45,29 @@ fn scan_at<S: Shelf>(
     Ok(cut_off(scanned, count, buffer.len()))
 }
 
-// The refusal of a header of more than `MOST_BYTES` bytes, by what the scanner makes of the byte past them.
+// The refusal of a header of more than `MOST_HEADER_BYTES` bytes, by what the scanner makes of the
+// byte past them.
 fn past(scanned: Scanned) -> ReadError
     ensures { result ≡ past_of scanned }
 {
     match scanned {
-        Scanned::Broken(_) => ReadError::Bad(FormFault::Form(MOST_BYTES)),
+        Scanned::Broken(_) => ReadError::Bad(FormFault::Form(MOST_HEADER_BYTES)),
         _ => ReadError::Limit {
             what: What::Header,
-            number: MOST_BYTES + 1,
-            bound: MOST_BYTES,
+            number: MOST_HEADER_BYTES + 1,
+            bound: MOST_HEADER_BYTES,
         },
     }
 }
 
-// The refusal of a file whose header is still open behind `MOST_BYTES` bytes.
+// The refusal of a file whose header is still open behind `MOST_HEADER_BYTES` bytes.
 fn past_limit<S: Shelf>(shelf: &mut S, name: &str, scan: Scan) -> ReadError
     requires { IsOpenScan scan }
     ensures refusal { PassesAs name.now scan (S.state shelf.old) (S.state shelf.new) result }
     ensures reads { OnlyReadsFile name.now (S.state shelf.old) (S.state shelf.new) }
 {
     let mut next = [0u8; 1];
-    match scan_at(shelf, name, MOST_BYTES, scan, &mut next) {
+    match scan_at(shelf, name, MOST_HEADER_BYTES, scan, &mut next) {
         Err(Failed) => ReadError::ReadFault,
         Ok(scanned) => past(scanned),
     }
@@ -80,7 +76,7 @@ fn past_limit<S: Shelf>(shelf: &mut S, name: &str, scan: Scan) -> ReadError
 /// Reads the header of the named file, in pieces.
 pub fn read_header<S: Shelf>(shelf: &mut S, name: &str) -> Result<Header, ReadError>
     ensures header { HeadsAs name.now (S.state shelf.old) (S.state shelf.new) result }
-    ensures sound { IfOk result (IsSoundHeader MOST_BYTES) }
+    ensures sound { IfOk result (IsSoundHeader MOST_HEADER_BYTES) }
     ensures reads { OnlyReadsFile name.now (S.state shelf.old) (S.state shelf.new) }
 {
     let mut buffer = [0u8; PIECE];
@@ -109,18 +105,18 @@ pub fn within_limits(header: &Header) -> Result<(Size, u8), ReadError>
     if header.maxval > 255 {
         return Err(ReadError::Bad(FormFault::Depth));
     }
-    if header.width > MOST_ON_AXIS {
+    if header.width > u64::from(GREATEST_AXIS) {
         return Err(axis_passed(header.width));
     }
-    if header.height > MOST_ON_AXIS {
+    if header.height > u64::from(GREATEST_AXIS) {
         return Err(axis_passed(header.height));
     }
     let number = header.width * header.height;
-    if number > MOST_CELLS {
+    if number > MOST_SAMPLE_CELLS {
         return Err(ReadError::Limit {
             what: What::Cells,
             number,
-            bound: MOST_CELLS,
+            bound: MOST_SAMPLE_CELLS,
         });
     }
     let size = Size {
@@ -132,11 +128,11 @@ pub fn within_limits(header: &Header) -> Result<(Size, u8), ReadError>
 }
 
 fn axis_passed(number: u64) -> ReadError
-    ensures { result ≡ ReadError.Limit What.Axis number MOST_ON_AXIS }
+    ensures { result ≡ ReadError.Limit What.Axis number GREATEST_AXIS }
 {
     ReadError::Limit {
         what: What::Axis,
         number,
-        bound: MOST_ON_AXIS,
+        bound: u64::from(GREATEST_AXIS),
     }
 }

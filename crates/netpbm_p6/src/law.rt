@@ -3,7 +3,7 @@ ghost use Rattle.std.specs.Prelude.{◌≡◌, ◌≤◌, ℕ, List};
 ghost use Rattle.cells.specs.Cells.{Cells};
 ghost use Rattle.cells.specs.Places.{cell_count};
 ghost use Rattle.shelf_core.specs.declared.fault.ReadError.{ReadError};
-ghost use Rattle.netpbm_p6.specs.declared.header.TheConstants.{MOST_CELLS};
+ghost use Rattle.limits.specs.declared.bounds.TheConstants.{MOST_SAMPLE_CELLS};
 ghost use Rattle.netpbm_p6.specs.declared.picture.Picture.{Picture};
 ghost use Rattle.netpbm_p6.specs.Pictures.{IsPictureOf, Refuses, IsRead, IsPicture, p6_form};
 
@@ -17,7 +17,7 @@ pub fn one_reading()
     ensures not_both { (bytes : List ℕ) (picture : Picture) (refusal : ReadError) →
         IsRead bytes picture → Refuses bytes refusal → ⊥ }
     ensures written_is_read { (maxval : ℕ) (volume : Cells) → IsPicture maxval volume →
-        cell_count volume.size ≤ MOST_CELLS →
+        cell_count volume.size ≤ MOST_SAMPLE_CELLS →
         IsRead (p6_form maxval volume) (record { maxval = maxval; volume = volume }) }
     ensures read_again { (maxval : ℕ) (volume : Cells) → IsPicture maxval volume →
         IsPictureOf (p6_form maxval volume) (record { maxval = maxval; volume = volume }) }

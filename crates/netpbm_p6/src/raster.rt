@@ -4,8 +4,8 @@ ghost use Rattle.shelf_core.specs.Files.{OnlyReadsFile};
 ghost use Rattle.cells.specs.Places.{IsSmall, cell_count};
 ghost use Rattle.netpbm_p6.specs.Reading.{IsFirstAbove, IsMadeOf, FillsAs, StopsAs, RastersAs};
 
-use crate::header::MOST_BYTES;
 use cells::{Size, Volume};
+use limits::MOST_HEADER_BYTES;
 use shelf_core::{FormFault, ReadError, Shelf};
 use std::alloc::{AllocError, Global};
 
@@ -86,7 +86,7 @@ pub fn read_raster<S: Shelf>(
     size: Size,
 ) -> Result<Volume, ReadError>
     requires small { IsSmall size }
-    requires early { start ≤ MOST_BYTES }
+    requires early { start ≤ MOST_HEADER_BYTES }
     ensures raster { RastersAs name.now start maxval size (S.state shelf.old)
         (S.state shelf.new) result }
     ensures made { IfOk result (IsMadeOf size maxval) }

@@ -1,7 +1,7 @@
 -- The state of walks over parts, for the contracts within the crate; nobody has to trust this file.
-use Rattle.std.specs.Prelude.{◌≡◌, ◌≤◌, ◌<◌, ◌+◌, ◌*◌, ◌/◌, ◌%◌, ℕ, ℤ, pos, ◌≤ℤ◌, List, [], ◌∷◌, drop, length, map, take}
+use Rattle.std.specs.Prelude.{◌≡◌, ◌≤◌, ◌<◌, ◌+◌, ◌*◌, ◌/◌, ◌%◌, ℕ, List, [], ◌∷◌, drop, length, map, take}
 use Rattle.std.specs.List.{AllByRecursion}
-use Rattle.cells.specs.declared.bounds.TheConstants.{GREATEST_AXIS, MOST_CELLS, MOST_PARTS}
+use Rattle.limits.specs.declared.bounds.TheConstants.{GREATEST_AXIS, MOST_CELLS, MOST_PARTS}
 use Rattle.cells.specs.declared.place.At.{At}
 use Rattle.cells.specs.declared.place.Box3.{Box3}
 use Rattle.cells.specs.declared.place.Size.{Size}
@@ -63,10 +63,6 @@ abbrev pub IsOverParts : Candidates → Type 0
 IsOverParts (One placement) = ⊥
 IsOverParts (Laid q) = Unit {0}
 IsOverParts (Fits rect) = Unit {0}
-
--- a frame of a part, or the first one after it
-abbrev pub IsNearFrame : ℤ → Type 0
-IsNearFrame z = (pos 0 ≤ℤ z) × (z ≤ℤ pos GREATEST_AXIS)
 
 -- the entries of the first n parts, and of those after them
 abbrev pub entries_before : (Size → List Placement) → List Size → ℕ → List Placement

@@ -1,11 +1,12 @@
 -- The state of tables of errors, from which a pick is made, for the contracts within the crate;
 -- nobody has to trust this file.
-use Rattle.std.specs.Prelude.{◌≡◌, ◌≤◌, ◌<◌, ◌+◌, ◌*◌, ◌^◌, ◌≤ℤ◌, pos, ◌⊎◌, ◌++◌, ◌∷◌, [], ℕ, ℤ, Bool, true, false, List, length, map, take, All, Contains, IfSome, Option, Some, None, slice_get}
+use Rattle.std.specs.Prelude.{◌≡◌, ◌≤◌, ◌<◌, ◌+◌, ◌*◌, ◌^◌, ◌⊎◌, ◌++◌, ◌∷◌, [], ℕ, Bool, true, false, List, length, map, take, All, Contains, IfSome, Option, Some, None, slice_get}
 use Rattle.std.specs.List.{AllZip, count_by}
 use Rattle.cells.specs.declared.place.At.{At}
 use Rattle.cells.specs.declared.place.Box3.{Box3}
 use Rattle.cells.specs.declared.place.Size.{Size}
 use Rattle.cells.specs.Cells.{Cells, sizes_of}
+use Rattle.cells.specs.Places.{IsNearAxis}
 use Rattle.match_error.specs.declared.error.Error.{Error}
 use Rattle.match_error.specs.Errors.{error_of, is_within}
 use Rattle.map_canvas.specs.declared.canvas.Placement.{Placement}
@@ -179,13 +180,10 @@ IsLimitOf list count limit =
     → IsLimit list.tol (rivals list.known table) count limit
 
 -- a step from the corner of a box to one of its cells is no longer on each axis
-abbrev pub IsShortAlong : ℤ → Type 0
-IsShortAlong z = (pos 0 ≤ℤ z) × (z ≤ℤ pos (2 ^ 12))
-
 pub record IsShortStep (step : At) : Type 0 where
-  pub x : IsShortAlong step.x
-  pub y : IsShortAlong step.y
-  pub f : IsShortAlong step.f
+  pub x : IsNearAxis step.x
+  pub y : IsNearAxis step.y
+  pub f : IsNearAxis step.f
 
 -- a placement of a box that fits, and so is one of its candidates
 pub record IsHint (canvas : CanvasState) (sample : Cells) (rect : Box3)

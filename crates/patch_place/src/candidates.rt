@@ -1,11 +1,11 @@
 // Lists of placements, walked by index.
 ghost use Rattle.std.specs.Prelude.{◌≡◌, ◌≤◌, ◌<◌, ◌+◌, ◌*◌, ◌^◌, ℕ, Some, length, slice_get, pos};
 ghost use Rattle.cells.specs.Cells.{sizes_of};
-ghost use Rattle.cells.specs.Places.{IsInside, IsSmall, cell_count, place_of, spot};
+ghost use Rattle.cells.specs.Places.{IsInside, IsNearAxis, IsSmall, cell_count, place_of, spot};
 ghost use Rattle.cells.specs.SizeLists.{frames_to_part};
 ghost use Rattle.spans.specs.Axes.{at_least_0};
 ghost use Rattle.patch_place.specs.Lists.{IsWithin, first_half, from_part, laid, listed, placed, room};
-ghost use Rattle.patch_place.specs.Counts.{AreVolumeParts, FitsCount, IsBelowSize, IsNearFrame, IsNextSpot, IsOverParts, IsSpotAt, all_entries, entries_in, steps_in};
+ghost use Rattle.patch_place.specs.Counts.{AreVolumeParts, FitsCount, IsBelowSize, IsNextSpot, IsOverParts, IsSpotAt, all_entries, entries_in, steps_in};
 
 use cells::{At, Box3, Size, Sizes, Volume};
 use map_canvas::Placement;
@@ -179,7 +179,7 @@ fn laid(output: Size, part: Size, q: At, c: At) -> Placement
     requires q { IsBelowSize output q }
     requires c { IsBelowSize part c }
     ensures laid { result ≡ laid output part q c }
-    ensures near { IsNearFrame result.from.f }
+    ensures near { IsNearAxis result.from.f }
 {
     let x = laid_on(output.w, part.w, count_of(q.x), count_of(c.x));
     let y = laid_on(output.h, part.h, count_of(q.y), count_of(c.y));
@@ -222,7 +222,7 @@ pub(crate) fn frames_before(sizes: &Sizes, n: u32) -> u32
 fn in_stock(sizes: &Sizes, n: u32, placement: Placement) -> Placement
     requires parts { AreVolumeParts sizes.now }
     requires below { n < length sizes.now }
-    requires near { IsNearFrame placement.from.f }
+    requires near { IsNearAxis placement.from.f }
     ensures { result ≡ from_part sizes.now (n + 1) placement }
 {
     let At { x, y, f } = placement.from;
@@ -255,7 +255,7 @@ impl Candidates {
         requires over { IsOverParts self.now }
         requires below { i < length (entries_in self.now output part) }
         ensures at { slice_get (entries_in self.now output part) i ≡ Some result }
-        ensures near { IsNearFrame result.from.f }
+        ensures near { IsNearAxis result.from.f }
     {
         let c = place_in(self.steps_in(part), i);
         match self {

@@ -1,5 +1,5 @@
 // Likely candidates of a box: those that go on with what stands at one of its cells.
-ghost use Rattle.std.specs.Prelude.{◌≡◌, ◌≤◌, ◌<◌, ◌^◌, ◌≤ℤ◌, pos, Contains, IfSome};
+ghost use Rattle.std.specs.Prelude.{◌≡◌, ◌≤◌, ◌<◌, ◌≤ℤ◌, pos, Contains, IfSome};
 ghost use Rattle.cells.specs.Boxes.{HasCells, HoldsBox};
 ghost use Rattle.cells.specs.Places.{HasAxes};
 ghost use Rattle.map_canvas.specs.Canvases.{StandsOver};
@@ -10,14 +10,15 @@ ghost use Rattle.patch_place.specs.Tables.{IsFilledLow, IsHint, IsShortStep};
 
 use crate::Candidates;
 use cells::{At, Box3, Size, Volume};
+use limits::GREATEST_AXIS;
 use map_canvas::{Canvas, Placement};
 use match_error::{Error, FilledRuns};
 
 // Four counts spread along an axis of so many cells, with the first and the last of them.
 fn spread(len: u32, i: u32) -> i32
-    requires len { (1 ≤ len) × (len ≤ 2 ^ 12) }
+    requires len { (1 ≤ len) × (len ≤ GREATEST_AXIS) }
     requires few { i < 4 }
-    ensures { (pos 0 ≤ℤ result) × (result ≤ℤ pos (2 ^ 12)) }
+    ensures { (pos 0 ≤ℤ result) × (result ≤ℤ pos GREATEST_AXIS) }
 {
     ((len - 1) * i / 3) as i32
 }

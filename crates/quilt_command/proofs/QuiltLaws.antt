@@ -11,7 +11,7 @@ use Rattle.netpbm_p6.proofs.OneReading.{not_both, one_picture, one_refusal}
 use Rattle.map_canvas.proofs.Pictures.{full_picture}
 use Rattle.source_map.specs.MapFiles.{cell_map_form}
 use Rattle.source_map.specs.declared.head.Version.TheVariants.{One}
-use Rattle.cut_replay.specs.declared.records.TheConstants.{MOST_BOX_CELLS}
+use Rattle.limits.specs.declared.bounds.TheConstants.{MOST_BOX_CELLS}
 use Rattle.quilt.specs.Runs.{quilting}
 use Rattle.quilt_run.specs.Quilted.{QuiltPassesAt}
 use Rattle.quilt_run.proofs.OneLimits.{ends_within, limits_are_one}

@@ -11,7 +11,7 @@ use Rattle.netpbm_p6.specs.Pictures.{IsRead, IsSound, Refuses, p6_form}
 use Rattle.source_map.specs.MapFiles.{cell_map_form}
 use Rattle.source_map.specs.declared.head.Head.{Head}
 use Rattle.source_map.specs.declared.head.Version.TheVariants.{One}
-use Rattle.cut_replay.specs.declared.records.TheConstants.{MOST_BOX_CELLS}
+use Rattle.limits.specs.declared.bounds.TheConstants.{MOST_BOX_CELLS, MOST_OUTPUT_CELLS}
 use Rattle.quilt_run.specs.declared.asked.QuiltRun.{QuiltRun}
 use Rattle.quilt_run.specs.declared.asked.QuiltError.{QuiltError}
 use Rattle.quilt_run.specs.declared.asked.QuiltError.TheVariants as error
@@ -27,7 +27,6 @@ use Rattle.command.specs.Commands.{Command, named}
 use Rattle.command.specs.Faults.{ReaderRefuses}
 use Rattle.command.specs.Writing.{FileText, file_text, texts_in}
 use Rattle.quilt_command.specs.declared.plan.PictureQuilt.{PictureQuilt}
-use Rattle.quilt_command.specs.declared.plan.TheConstants.{MOST_QUILT_CELLS}
 
 -- What is asked of quilting.
 
@@ -46,11 +45,11 @@ quilt_run_of job = record {
 
 -- the output has no more cells than it may have
 abbrev pub IsQuiltWithin : QuiltJob → Type 0
-IsQuiltWithin job = cell_count (quilt_size job) ≤ MOST_QUILT_CELLS
+IsQuiltWithin job = cell_count (quilt_size job) ≤ MOST_OUTPUT_CELLS
 
 pub record QuiltPasses (job : QuiltJob) (fault : Fault) : Type 0 where
-  pub passes : MOST_QUILT_CELLS < cell_count (quilt_size job)
-  pub is : fault ≡ Limit Output (cell_count (quilt_size job)) MOST_QUILT_CELLS
+  pub passes : MOST_OUTPUT_CELLS < cell_count (quilt_size job)
+  pub is : fault ≡ Limit Output (cell_count (quilt_size job)) MOST_OUTPUT_CELLS
 
 -- whether the job is within its bound
 abbrev pub SetForPicture : QuiltJob → Result (Unit {0}) Fault → Type 0

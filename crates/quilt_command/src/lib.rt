@@ -12,5 +12,5 @@ mod plan;
 mod whole;
 
 pub use files::BlocksFile;
-pub use plan::{MOST_QUILT_CELLS, PictureQuilt};
+pub use plan::PictureQuilt;
 pub use whole::quilt_picture;

@@ -9,16 +9,13 @@ ghost use Rattle.quilt_command.specs.Quilts.{IsMadeQuilt, SetForPicture, fault_o
 use block_strips::QuiltPlan;
 use cells::Size;
 use command::read_fault;
-use cut_replay::MOST_BOX_CELLS;
 use job_words::QuiltJob;
+use limits::{MOST_BOX_CELLS, MOST_OUTPUT_CELLS};
 use netpbm_p6::{Picture, read_p6};
 use quilt_run::{QuiltError, QuiltRun, Quilted, quilt_canvas};
 use shelf_core::{Shelf, What};
 use std::alloc::Global;
 use synth_report::{Fault, FileOf};
-
-/// The greatest number of cells of a quilted output.
-pub const MOST_QUILT_CELLS: u64 = 1_048_576;
 
 /// The picture that was read, and the output quilted from its blocks.
 #[derive(Drop)]
@@ -58,11 +55,11 @@ fn set_against(job: &QuiltJob) -> Result<(), Fault>
     ensures { SetForPicture job.now result }
 {
     let cells = u64::from(job.w) * u64::from(job.h);
-    if cells > MOST_QUILT_CELLS {
+    if cells > MOST_OUTPUT_CELLS {
         return Err(Fault::Limit {
             what: What::Output,
             number: cells,
-            bound: MOST_QUILT_CELLS,
+            bound: MOST_OUTPUT_CELLS,
         });
     }
     Ok(())

@@ -15,7 +15,7 @@ use Rattle.block_check.specs.Blocks.{block_cells, new_cells}
 use Rattle.quilt.specs.Runs.{QuiltsBy, QuiltsTo, Quilting, first_quilting}
 use Rattle.map_canvas.proofs.MapsAfter.{after_is_map}
 use Rattle.quilt.proofs.OneQuilt.{no_box, one_step}
-use Rattle.cut_replay.specs.declared.records.TheConstants.{MOST_BOX_CELLS}
+use Rattle.limits.specs.declared.bounds.TheConstants.{MOST_BOX_CELLS}
 use Rattle.quilt_run.specs.declared.asked.QuiltRun.{QuiltRun}
 use Rattle.quilt_run.specs.OneLimit.{OneQuiltLimit, QuiltEndsWithin}
 

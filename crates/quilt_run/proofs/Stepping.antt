@@ -24,7 +24,7 @@ use Rattle.quilt.specs.Runs.{HaveOneFrame, QuiltsBy, QuiltsTo, Quilting, first_q
 use Rattle.block_replay.specs.BlockReplay.{left_by_blocks}
 use Rattle.quilt.proofs.Laying.{HasJoins, laid_formed}
 use Rattle.quilt.proofs.Runs.{quilts_replay}
-use Rattle.cut_replay.specs.declared.records.TheConstants.{MOST_BOX_CELLS}
+use Rattle.limits.specs.declared.bounds.TheConstants.{MOST_BOX_CELLS}
 use Rattle.quilt_run.specs.declared.asked.QuiltRun.{QuiltRun}
 use Rattle.quilt_run.specs.declared.steps.QuiltWork.{QuiltWork}
 use Rattle.quilt_run.specs.Costs.{IsFileBlock, IsFileSide, all_boundaries, block_boundaries, block_cost, quilt_cost}

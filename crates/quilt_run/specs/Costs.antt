@@ -14,7 +14,7 @@ use Rattle.block_strips.specs.declared.side.Side.TheVariants.{Left, Top}
 use Rattle.block_strips.specs.Strips.{strip_rows}
 use Rattle.block_check.specs.declared.block.BlockRecord.{BlockRecord}
 use Rattle.block_check.specs.Blocks.{IsFormedBlock, after_block, block_cells, strip_on}
-use Rattle.cut_replay.specs.declared.records.TheConstants.{MOST_BOX_CELLS}
+use Rattle.limits.specs.declared.bounds.TheConstants.{MOST_BOX_CELLS}
 
 -- how many boundaries there are: on one side of a block, of a block, and of a list of them
 abbrev pub side_count : Option BoundaryRecord → ℕ

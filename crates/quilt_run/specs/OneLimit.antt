@@ -4,7 +4,7 @@ use Rattle.std.specs.Prelude.{◌≡◌, ◌≤◌, ℕ, List}
 use Rattle.cells.specs.Cells.{Cells}
 use Rattle.block_check.specs.declared.block.BlockRecord.{BlockRecord}
 use Rattle.quilt.specs.Runs.{IsQuilted, Quilting}
-use Rattle.cut_replay.specs.declared.records.TheConstants.{MOST_BOX_CELLS}
+use Rattle.limits.specs.declared.bounds.TheConstants.{MOST_BOX_CELLS}
 use Rattle.quilt_run.specs.declared.asked.QuiltRun.{QuiltRun}
 use Rattle.block_check.specs.Blocks.{block_cells}
 use Rattle.quilt_run.specs.Quilted.{QuiltPassesAt}

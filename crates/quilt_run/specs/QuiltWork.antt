@@ -14,7 +14,7 @@ use Rattle.block_strips.specs.Laid.{IsLaidByBlocks}
 use Rattle.block_check.specs.declared.block.BlockRecord.{BlockRecord}
 use Rattle.block_check.specs.Records.{BlockStands, JoinStands}
 use Rattle.quilt.specs.Runs.{HaveOneFrame, QuiltsTo, first_quilting, quilting}
-use Rattle.cut_replay.specs.declared.records.TheConstants.{MOST_BOX_CELLS}
+use Rattle.limits.specs.declared.bounds.TheConstants.{MOST_BOX_CELLS}
 use Rattle.quilt_run.specs.declared.asked.QuiltRun.{QuiltRun}
 use Rattle.quilt_run.specs.declared.asked.QuiltError.{QuiltError}
 use Rattle.quilt_run.specs.declared.steps.QuiltWork.{QuiltWork}

@@ -10,7 +10,7 @@ use Rattle.patch_place.specs.Draws.{DrawState}
 use Rattle.block_strips.specs.Blocks.{next_box}
 use Rattle.block_check.specs.declared.block.BlockRecord.{BlockRecord}
 use Rattle.quilt.specs.Runs.{IsQuilted, Quilting, QuiltsTo, BlocksReplay, first_quilting, quilting}
-use Rattle.cut_replay.specs.declared.records.TheConstants.{MOST_BOX_CELLS}
+use Rattle.limits.specs.declared.bounds.TheConstants.{MOST_BOX_CELLS}
 use Rattle.quilt_run.specs.declared.asked.QuiltRun.{QuiltRun}
 use Rattle.quilt_run.specs.declared.asked.Quilted.{Quilted}
 use Rattle.quilt_run.specs.declared.asked.QuiltError.{QuiltError}

@@ -9,7 +9,7 @@ use crate::totals::{block_boundaries, block_cost, block_fits};
 use block_check::BlockRecord;
 use block_strips::empty_map_is_laid;
 use cells::Volume;
-use cut_replay::MOST_BOX_CELLS;
+use limits::MOST_BOX_CELLS;
 use map_canvas::Canvas;
 use patch_place::Draws;
 use quilt::next_block_with;

@@ -2,6 +2,7 @@
 use Rattle.std.proofs.Common.{◌≡◌, ℕ, suc, ◌+◌, ◌≤◌, List, [], ◌∷◌, length, refl, sym, ap, ◌∙◌, subst, arith}
 use Rattle.std.specs.Prelude.{Err}
 use Rattle.std.proofs.lemmas.Option.{slice_get_within}
+use Rattle.limits.specs.declared.bounds.TheConstants.{MOST_SAMPLE_CELLS}
 use Rattle.cells.specs.Cells.{Cells}
 use Rattle.cells.specs.PartLists.{parts_of}
 use Rattle.shelf_core.specs.Files.{Files, ShelfState, content_of}
@@ -62,6 +63,6 @@ one_file first samples a = by (parts_of samples.volume) refl a.parts
     by : (parts : List Cells) → parts_of samples.volume ≡ parts → StandForParts samples.form first [] parts → StandsAs first samples.form samples.volume
     by [] is stand = absurd stand
     by (p ∷ []) is stand =
-        let same : samples.volume ≡ p = same_parts samples.volume p (is ∙ sym (parts_alone p (stands_alone 8388608 first samples.form p stand.0))) in
+        let same : samples.volume ≡ p = same_parts samples.volume p (is ∙ sym (parts_alone p (stands_alone MOST_SAMPLE_CELLS first samples.form p stand.0))) in
         subst (StandsAs first samples.form) (sym same) stand.0
     by (p ∷ q ∷ parts) is stand = absurd stand.1

@@ -1,6 +1,7 @@
 -- Files have one answer at most: they stand for one list of samples, or they are refused for one fault.
 use Rattle.std.proofs.Common.{◌≡◌, ℕ, zero, suc, ◌+◌, ◌<◌, ◌≤◌, ◌⊎◌, inl, inr, ◌++◌, List, [], ◌∷◌, take, refl, sym, ap, ◌∙◌, subst, arith, true}
 use Rattle.std.specs.Prelude.{slice_get, Some}
+use Rattle.limits.specs.declared.bounds.TheConstants.{MOST_SAMPLE_CELLS}
 use Rattle.cells.specs.Places.{cell_count}
 use Rattle.cells.specs.Cells.{Cells, count_of}
 use Rattle.cells.specs.PartLists.{parts_of}
@@ -25,7 +26,7 @@ alike_once form [] (x ∷ xs) ys a b = absurd a
 alike_once form (bytes ∷ files) [] ys a b = absurd a
 alike_once form (bytes ∷ files) (x ∷ xs) [] a b = absurd b
 alike_once form (bytes ∷ files) (x ∷ xs) (y ∷ ys) a b =
-    let same = one_sample 8388608 bytes a.0.own b.0.own x y a.0.stands b.0.stands in
+    let same = one_sample MOST_SAMPLE_CELLS bytes a.0.own b.0.own x y a.0.stands b.0.stands in
     ap (λ z. z ∷ xs) same.cells_are ∙ ap (λ zs. y ∷ zs) (alike_once form files xs ys a.1 b.1)
 
 record SameParts (form other : Form) (xs ys : List Cells) : Type 0 where
@@ -36,7 +37,7 @@ parts_once : (form other : Form) (first : List ℕ) (more : List (List ℕ)) (xs
 parts_once form other first more [] ys a b = absurd a
 parts_once form other first more (x ∷ xs) [] a b = absurd b
 parts_once form other first more (x ∷ xs) (y ∷ ys) a b =
-    let same = one_sample 8388608 first form other x y a.0 b.0 in
+    let same = one_sample MOST_SAMPLE_CELLS first form other x y a.0 b.0 in
     record {
       form_is = same.form_is;
       parts_are = ap (λ z. z ∷ xs) same.cells_are
@@ -72,31 +73,31 @@ split_at form (file ∷ files) (suc turn) bytes (p ∷ parts) a here =
 
 module _ (first : List ℕ) (more : List (List ℕ)) (form : Form) where
   by_next : (before : Samples) (number turn : ℕ) (bytes : List ℕ) (fault : Fault) (p : Cells) (parts : List Cells) → StandsAs first form p → (s : IsSplit form more turn bytes parts)
-      → StandForSamples first (take turn more) before → parts_count (p ∷ parts) ≤ 8388608 → RefusesNext before number bytes fault → ⊥
-  by_next before number turn bytes fault p parts stands s stand fits (inl reader) = stands_or_refused 8388608 bytes s.its.own s.own reader.0 s.its.stands reader.1
+      → StandForSamples first (take turn more) before → parts_count (p ∷ parts) ≤ MOST_SAMPLE_CELLS → RefusesNext before number bytes fault → ⊥
+  by_next before number turn bytes fault p parts stands s stand fits (inl reader) = stands_or_refused MOST_SAMPLE_CELLS bytes s.its.own s.own reader.0 s.its.stands reader.1
   by_next before number turn bytes fault p parts stands s stand fits (inr (inl unlike)) =
       let same = parts_once form before.form first (take turn more) (p ∷ s.before) (parts_of before.volume) (stands, s.front) stand.parts in
-      let own = one_sample 8388608 bytes s.its.own unlike.sample.form s.own unlike.sample.volume s.its.stands unlike.read in
+      let own = one_sample MOST_SAMPLE_CELLS bytes s.its.own unlike.sample.form s.own unlike.sample.volume s.its.stands unlike.read in
       let alike : goes_with before.form unlike.sample.form ≡ true = ap (λ f. goes_with f unlike.sample.form) (sym same.form_is) ∙ ap (goes_with form) (sym own.form_is) ∙ s.its.alike in
       let differs = unlike.unlike in
       absurd (cc)
   by_next before number turn bytes fault p parts stands s stand fits (inr (inr cells)) =
       let same = parts_once form before.form first (take turn more) (p ∷ s.before) (parts_of before.volume) (stands, s.front) stand.parts in
-      let own = one_sample 8388608 bytes s.its.own cells.sample.form s.own cells.sample.volume s.its.stands cells.read in
+      let own = one_sample MOST_SAMPLE_CELLS bytes s.its.own cells.sample.form s.own cells.sample.volume s.its.stands cells.read in
       let so_far : count_of before.volume ≡ cell_count p.size + parts_count s.before = count_of_parts before.volume ∙ ap parts_count (sym same.parts_are) in
-      let its : count_of cells.sample.volume ≡ cell_count s.own.size = ap count_of (sym own.cells_are) ∙ count_alone s.own (stands_alone 8388608 bytes s.its.own s.own s.its.stands) in
+      let its : count_of cells.sample.volume ≡ cell_count s.own.size = ap count_of (sym own.cells_are) ∙ count_alone s.own (stands_alone MOST_SAMPLE_CELLS bytes s.its.own s.own s.its.stands) in
       let all : parts_count parts ≡ parts_count s.before + (cell_count s.own.size + parts_count s.after) = ap parts_count s.is ∙ parts_count-append s.before (s.own ∷ s.after) in
       omega (arith, so_far, its, all, fits, cells.passes)
 
-  by_parts : (n : ℕ) (fault : Fault) (parts : List Cells) → StandForParts form first more parts → parts_count parts ≤ 8388608 → RefusesSamples n first more fault → ⊥
+  by_parts : (n : ℕ) (fault : Fault) (parts : List Cells) → StandForParts form first more parts → parts_count parts ≤ MOST_SAMPLE_CELLS → RefusesSamples n first more fault → ⊥
   by_parts n fault [] stand fits refused = absurd stand
-  by_parts n fault (p ∷ parts) stand fits (inl (one, reader)) = stands_or_refused 8388608 first form p reader.0 stand.0 reader.1
+  by_parts n fault (p ∷ parts) stand fits (inl (one, reader)) = stands_or_refused MOST_SAMPLE_CELLS first form p reader.0 stand.0 reader.1
   by_parts n fault (p ∷ parts) stand fits (inr r) =
       by_next r.before n r.turn r.bytes fault p parts stand.0 (split_at form more r.turn r.bytes parts stand.1 r.its) r.stand fits r.refused
 
 pub not_both : (first : List ℕ) (more : List (List ℕ)) (samples : Samples) (n : ℕ) (fault : Fault) → StandForSamples first more samples → RefusesSamples n first more fault → ⊥
 not_both first more samples n fault a refused =
-    by_parts first more samples.form n fault (parts_of samples.volume) a.parts (subst (λ c. c ≤ 8388608) (count_of_parts samples.volume) a.fits) refused
+    by_parts first more samples.form n fault (parts_of samples.volume) a.parts (subst (λ c. c ≤ MOST_SAMPLE_CELLS) (count_of_parts samples.volume) a.fits) refused
 
 -- Nothing is refused of the samples before one that comes after samples.
 
@@ -141,25 +142,25 @@ none_at_first first more = by
 
 module _ (before : Samples) (number : ℕ) (bytes : List ℕ) (one other : Fault) where
   next_once : RefusesNext before number bytes one → RefusesNext before number bytes other → one ≡ other
-  next_once (inl a) (inl b) = a.2 ∙ ap (fault_of_read (part.More number)) (one_sample_refusal 8388608 bytes a.0 b.0 a.1 b.1) ∙ sym b.2
-  next_once (inl a) (inr (inl b)) = absurd (stands_or_refused 8388608 bytes b.sample.form b.sample.volume a.0 b.read a.1)
-  next_once (inl a) (inr (inr b)) = absurd (stands_or_refused 8388608 bytes b.sample.form b.sample.volume a.0 b.read a.1)
-  next_once (inr (inl a)) (inl b) = absurd (stands_or_refused 8388608 bytes a.sample.form a.sample.volume b.0 a.read b.1)
-  next_once (inr (inr a)) (inl b) = absurd (stands_or_refused 8388608 bytes a.sample.form a.sample.volume b.0 a.read b.1)
+  next_once (inl a) (inl b) = a.2 ∙ ap (fault_of_read (part.More number)) (one_sample_refusal MOST_SAMPLE_CELLS bytes a.0 b.0 a.1 b.1) ∙ sym b.2
+  next_once (inl a) (inr (inl b)) = absurd (stands_or_refused MOST_SAMPLE_CELLS bytes b.sample.form b.sample.volume a.0 b.read a.1)
+  next_once (inl a) (inr (inr b)) = absurd (stands_or_refused MOST_SAMPLE_CELLS bytes b.sample.form b.sample.volume a.0 b.read a.1)
+  next_once (inr (inl a)) (inl b) = absurd (stands_or_refused MOST_SAMPLE_CELLS bytes a.sample.form a.sample.volume b.0 a.read b.1)
+  next_once (inr (inr a)) (inl b) = absurd (stands_or_refused MOST_SAMPLE_CELLS bytes a.sample.form a.sample.volume b.0 a.read b.1)
   next_once (inr (inl a)) (inr (inl b)) = a.is ∙ sym b.is
   next_once (inr (inl a)) (inr (inr b)) =
-      let same = one_sample 8388608 bytes a.sample.form b.sample.form a.sample.volume b.sample.volume a.read b.read in
+      let same = one_sample MOST_SAMPLE_CELLS bytes a.sample.form b.sample.form a.sample.volume b.sample.volume a.read b.read in
       let alike : goes_with before.form a.sample.form ≡ true = ap (goes_with before.form) same.form_is ∙ b.alike in
       let differs = a.unlike in
       absurd (cc)
   next_once (inr (inr a)) (inr (inl b)) =
-      let same = one_sample 8388608 bytes a.sample.form b.sample.form a.sample.volume b.sample.volume a.read b.read in
+      let same = one_sample MOST_SAMPLE_CELLS bytes a.sample.form b.sample.form a.sample.volume b.sample.volume a.read b.read in
       let alike : goes_with before.form b.sample.form ≡ true = ap (goes_with before.form) (sym same.form_is) ∙ a.alike in
       let differs = b.unlike in
       absurd (cc)
   next_once (inr (inr a)) (inr (inr b)) =
-      let same = one_sample 8388608 bytes a.sample.form b.sample.form a.sample.volume b.sample.volume a.read b.read in
-      a.is ∙ ap (λ (v : Cells). Limit CellsLimit (count_of before.volume + count_of v) 8388608) same.cells_are ∙ sym b.is
+      let same = one_sample MOST_SAMPLE_CELLS bytes a.sample.form b.sample.form a.sample.volume b.sample.volume a.read b.read in
+      a.is ∙ ap (λ (v : Cells). Limit CellsLimit (count_of before.volume + count_of v) MOST_SAMPLE_CELLS) same.cells_are ∙ sym b.is
 
 module _ (first : List ℕ) (more : List (List ℕ)) (m n : ℕ) (one other : Fault) where
   same_turn : (a : IsRefusedFurther m first more one) (b : IsRefusedFurther n first more other) → a.turn ≡ b.turn → one ≡ other
@@ -180,7 +181,7 @@ module _ (first : List ℕ) (more : List (List ℕ)) (m n : ℕ) (one other : Fa
   further_once a b (inr (inr lt)) = absurd (earlier n m other one (inr b) a lt)
 
   pub refused_once : RefusesSamples m first more one → RefusesSamples n first more other → one ≡ other
-  refused_once (inl a) (inl b) = a.1.2 ∙ ap (fault_of_read part.Sample) (one_sample_refusal 8388608 first a.1.0 b.1.0 a.1.1 b.1.1) ∙ sym b.1.2
+  refused_once (inl a) (inl b) = a.1.2 ∙ ap (fault_of_read part.Sample) (one_sample_refusal MOST_SAMPLE_CELLS first a.1.0 b.1.0 a.1.1 b.1.1) ∙ sym b.1.2
   refused_once (inl a) (inr b) = let is = a.0 in absurd (earlier m n one other (inl a) b (omega (arith, b.number_is)))
   refused_once (inr a) (inl b) = let is = b.0 in absurd (earlier n m other one (inl b) a (omega (arith, a.number_is)))
   refused_once (inr a) (inr b) = further_once a b (three m n)

@@ -4,6 +4,7 @@ use Rattle.std.specs.Prelude.{All}
 use Rattle.std.specs.List.{AllByRecursion, concat}
 use Rattle.std.proofs.lemmas.List.Elements.{All-append, All-tail, All-head}
 use Rattle.std.proofs.lemmas.List.Folds.{concat-append}
+use Rattle.limits.specs.declared.bounds.TheConstants.{MOST_SAMPLE_CELLS}
 use Rattle.cells.specs.declared.place.Size.{Size}
 use Rattle.cells.specs.Places.{cell_count}
 use Rattle.cells.specs.Parts.{count_from}
@@ -82,9 +83,9 @@ sound_first (Picture maxval) cells s = record {
 }
 sound_first (Clip form) cells s = record { is_form = s.form; samples = s.samples }
 
-pub sound_count : (form : Form) (cells : Cells) → IsSoundIn form cells → count_of cells ≤ 8388608
+pub sound_count : (form : Form) (cells : Cells) → IsSoundIn form cells → count_of cells ≤ MOST_SAMPLE_CELLS
 sound_count (Picture maxval) cells s = s.cells
-sound_count (Clip form) cells s = subst (λ n. n ≤ 8388608) (sym (count_alone cells s.one)) s.cells
+sound_count (Clip form) cells s = subst (λ n. n ≤ MOST_SAMPLE_CELLS) (sym (count_alone cells s.one)) s.cells
 
 -- A sound sample that goes with others.
 

@@ -3,6 +3,7 @@ use Rattle.std.proofs.Common.{◌≡◌, ℕ, zero, suc, ◌+◌, ◌<◌, ◌�
 use Rattle.std.specs.Prelude.{slice_get, Some, Err}
 use Rattle.std.proofs.Math.Seq.{take-suc}
 use Rattle.std.proofs.lemmas.Option.{slice_get-map, slice_get_read}
+use Rattle.limits.specs.declared.bounds.TheConstants.{MOST_SAMPLE_CELLS}
 use Rattle.cells.specs.Cells.{Cells, count_of, sizes_of, with_part}
 use Rattle.cells.specs.PartLists.{parts_of}
 use Rattle.cells.proofs.Joining.{count_behind}
@@ -29,7 +30,7 @@ use Rattle.sample_files.proofs.OneAnswer.{none_at_first, none_refused}
 -- Joining.
 
 pub joined : (samples : Samples) (sample : Sample) (after : Samples) → AreSoundSamples samples → IsSoundSample sample → goes_with samples.form sample.form ≡ true
-    → count_of samples.volume + count_of sample.volume ≤ 8388608 → after.form ≡ samples.form → after.volume ≡ with_part samples.volume sample.volume
+    → count_of samples.volume + count_of sample.volume ≤ MOST_SAMPLE_CELLS → after.form ≡ samples.form → after.volume ≡ with_part samples.volume sample.volume
     → parts_of after.volume ≡ parts_of samples.volume ++ sample.volume ∷ [] → IsJoined samples sample after
 joined samples sample after s p alike fits form volume parts = record {
   alike = alike;

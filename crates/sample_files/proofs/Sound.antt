@@ -6,6 +6,7 @@ use Rattle.std.proofs.Math.Nat.{mul-div-le, mul-le-mul_left}
 use Rattle.std.proofs.lemmas.List.{take-append-drop}
 use Rattle.std.proofs.lemmas.List.Elements.{All-append, All-drop, All-nil, All-take, recursion_from_All}
 use Rattle.std.proofs.lemmas.List.Folds.{concat-append}
+use Rattle.limits.specs.declared.bounds.TheConstants.{MOST_SAMPLE_CELLS}
 use Rattle.cells.specs.declared.place.Size.{Size}
 use Rattle.cells.specs.Cells.{Cells, IsVolume, bytes_of, cells_of, count_of}
 use Rattle.cells.specs.PartLists.{parts_from, parts_of}
@@ -43,7 +44,7 @@ read_is_sound bytes maxval cells read =
       colours = ap (λ (v : Cells). v.k) p.volume;
       samples = subst (λ m. All (λ b. b ≤ m) (bytes_of cells)) (sym p.maxval)
           (subst (λ (v : Cells). All (λ b. b ≤ h.maxval) (bytes_of v)) (sym p.volume) (cell_bytes (λ b. b ≤ h.maxval) 3 (cell_count size) h.raster p.samples));
-      cells = subst (λ (v : Cells). count_of v ≤ 8388608) (sym p.volume) (omega (arith, read.limits.cells_fit));
+      cells = subst (λ (v : Cells). count_of v ≤ MOST_SAMPLE_CELLS) (sym p.volume) (omega (arith, read.limits.cells_fit));
     }
 
 -- and a volume: no byte of it is above its maxval
@@ -136,8 +137,8 @@ clips_sound : (form : ClipForm) (first : List ℕ) (more : List (List ℕ)) (v :
 clips_sound form first files v = by v.size v.more v.cells
   where
     by : (size : Size) (more : List Size) (cells : List (List ℕ)) → StandForParts (Clip form) first files (parts_from v.k size more cells) → AreSoundIn (Clip form) (record { size = size; more = more; k = v.k; cells = cells })
-    by size [] cells stand = let s = clip_is_sound 8388608 first form _ stand.0 in record { is_form = s.form; samples = s.samples }
-    by size (next ∷ more) cells stand = let s = clip_is_sound 8388608 first form _ stand.0 in record { is_form = s.form; samples = s.samples }
+    by size [] cells stand = let s = clip_is_sound MOST_SAMPLE_CELLS first form _ stand.0 in record { is_form = s.form; samples = s.samples }
+    by size (next ∷ more) cells stand = let s = clip_is_sound MOST_SAMPLE_CELLS first form _ stand.0 in record { is_form = s.form; samples = s.samples }
 
 pub stand_sound : (first : List ℕ) (more : List (List ℕ)) (samples : Samples) → StandForSamples first more samples → AreSoundSamples samples
 stand_sound first more samples stand = record { form = by samples.form stand.parts; fits = stand.fits }

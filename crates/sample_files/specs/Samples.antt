@@ -16,7 +16,7 @@ use Rattle.y4m_clip.specs.Writing.{IsClip, IsForm, clip_form}
 use Rattle.sample_files.specs.declared.form.Form.{Form}
 use Rattle.sample_files.specs.declared.form.Form.TheVariants.{Picture, Clip}
 use Rattle.sample_files.specs.declared.sample.Sample.{Sample}
-use Rattle.sample_files.specs.declared.sample.TheConstants.{MOST_SAMPLE_CELLS}
+use Rattle.limits.specs.declared.bounds.TheConstants.{MOST_SAMPLE_CELLS}
 use Rattle.command.specs.Faults.{FailsToRead}
 
 -- What bytes stand for.

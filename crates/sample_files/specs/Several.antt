@@ -14,7 +14,7 @@ use Rattle.command.specs.Faults.{ReaderRefuses}
 use Rattle.sample_files.specs.declared.form.Form.{Form}
 use Rattle.sample_files.specs.declared.sample.Sample.{Sample}
 use Rattle.sample_files.specs.declared.several.Samples.{Samples}
-use Rattle.sample_files.specs.declared.sample.TheConstants.{MOST_SAMPLE_CELLS}
+use Rattle.limits.specs.declared.bounds.TheConstants.{MOST_SAMPLE_CELLS}
 use Rattle.sample_files.specs.Samples.{StandsAs, IsSampleOf, RefusesSample, AreSoundIn, goes_with}
 
 -- The files of the samples: the first, and the further ones from number 2 on.

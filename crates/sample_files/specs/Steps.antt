@@ -11,7 +11,7 @@ use Rattle.synth_report.specs.declared.fault.Fault.{Fault}
 use Rattle.synth_report.specs.declared.fault.Fault.TheVariants.{Unlike, Limit, Read, NoMemory}
 use Rattle.sample_files.specs.declared.sample.Sample.{Sample}
 use Rattle.sample_files.specs.declared.several.Samples.{Samples}
-use Rattle.sample_files.specs.declared.sample.TheConstants.{MOST_SAMPLE_CELLS}
+use Rattle.limits.specs.declared.bounds.TheConstants.{MOST_SAMPLE_CELLS}
 use Rattle.command.specs.Faults.{FailsToRead}
 use Rattle.sample_files.specs.Samples.{IsSampleOf, IsSampleWithin, RefusesAs, goes_with}
 use Rattle.sample_files.specs.Several.{AreSoundSamples, MayRefuseSamples, RefusesNext}

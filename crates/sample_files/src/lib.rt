@@ -14,5 +14,5 @@ mod several;
 
 pub use form::Form;
 pub use law::{one_answer, samples_are_sound};
-pub use sample::{MOST_SAMPLE_CELLS, Sample, read_sample, read_sample_within};
+pub use sample::{Sample, read_sample, read_sample_within};
 pub use several::{Samples, read_samples};

@@ -1,19 +1,17 @@
 // One sample: what its bytes are, whatever its form.
 ghost use Rattle.std.specs.Prelude.{◌≡◌, ◌≤◌, true, false, IfOk, OnErr};
 ghost use Rattle.shelf_core.specs.Files.{InFile, OnlyReadsFile, ReadsRose};
-ghost use Rattle.y4m_clip.specs.declared.bounds.TheConstants.{MOST_OF_ALL};
+ghost use Rattle.limits.specs.declared.bounds.TheConstants.{MOST_CELLS};
 ghost use Rattle.sample_files.specs.Samples.{IsSoundSample, IsSoundSampleWithin, SampleReadsAs, SampleReadsWithin, begins_clip};
 ghost use Rattle.sample_files.specs.Steps.{ReadsInForm};
 
 use crate::form::Form;
 use cells::Volume;
+use limits::MOST_SAMPLE_CELLS;
 use netpbm_p6::{Picture, read_p6};
 use shelf_core::{Failed, ReadError, Shelf};
 use std::alloc::Global;
 use y4m_clip::{Clip, read_clip};
-
-/// The most cells of a sample, and of the samples of a run together.
-pub const MOST_SAMPLE_CELLS: u64 = 8_388_608;
 
 /// A sample: its form, and its cells.
 #[derive(Drop)]
@@ -41,7 +39,7 @@ fn read_as_clip<S: Shelf>(
     name: &str,
     most: u64,
 ) -> Result<Sample, ReadError>
-    requires { most ≤ MOST_OF_ALL }
+    requires { most ≤ MOST_CELLS }
     ensures answer { ReadsInForm true most name.now (S.state shelf.old) (S.state shelf.new) result }
     ensures sound { IfOk result (IsSoundSampleWithin most) }
     ensures reads { OnlyReadsFile name.now (S.state shelf.old) (S.state shelf.new) }
@@ -80,7 +78,7 @@ pub fn read_sample_within<S: Shelf>(
     name: &str,
     most: u64,
 ) -> Result<Sample, ReadError>
-    requires { most ≤ MOST_OF_ALL }
+    requires { most ≤ MOST_CELLS }
     ensures answer { SampleReadsWithin most name.now
         (S.state shelf.old) (S.state shelf.new) result }
     ensures sound { IfOk result (IsSoundSampleWithin most) }

@@ -1,7 +1,7 @@
 // The samples of a run as one volume.
 ghost use Rattle.std.specs.Prelude.{◌≡◌, ◌≤◌, ◌<◌, length, IfOk};
 ghost use Rattle.cells.specs.Cells.{IsVolume, count_of, sizes_of};
-ghost use Rattle.cells.specs.declared.bounds.TheConstants.{MOST_PARTS};
+ghost use Rattle.limits.specs.declared.bounds.TheConstants.{MOST_PARTS};
 ghost use Rattle.shelf_core.specs.Files.{OnlyReads, OnlyReadsFile};
 ghost use Rattle.command.specs.Commands.{names_in};
 ghost use Rattle.sample_files.specs.Samples.{IsSoundSample};
@@ -9,10 +9,11 @@ ghost use Rattle.sample_files.specs.Several.{AreSoundSamples, SamplesReadAs, sam
 ghost use Rattle.sample_files.specs.Steps.{Joins, NextReadsAs};
 
 use crate::form::Form;
-use crate::sample::{MOST_SAMPLE_CELLS, Sample, read_sample};
+use crate::sample::{Sample, read_sample};
 use cells::Volume;
 use command::read_fault;
 use job_words::Name;
+use limits::MOST_SAMPLE_CELLS;
 use shelf_core::{Shelf, What};
 use std::alloc::Global;
 use synth_report::{Fault, FileOf};

@@ -7,7 +7,8 @@ ghost use Rattle.search_squares.specs.Blocks.{AreBoxBlocks, block_bytes, block_s
 ghost use Rattle.search_squares.specs.Gathered.{MarkFilled, AreFree, AreGathered, HasBlockRoom, HasRows, HasShortRows, IsFreeBlock, IsTaken, rows_sum, sum_along};
 
 use crate::rows::{byte_sum, entries_before, step_to};
-use cells::{At, Box3, GREATEST_AXIS, MOST_SAMPLES, Size, Volume};
+use cells::{At, Box3, Size, Volume};
+use limits::{GREATEST_AXIS, MOST_CHANNELS};
 use map_canvas::Canvas;
 use std::alloc::{AllocError, Global};
 

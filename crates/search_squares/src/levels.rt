@@ -17,7 +17,8 @@ use crate::pauses::Pauses;
 use crate::places::{holds_run, places_to_end};
 use crate::rows::{has_cells, short_rows};
 use crate::sums::{BlockSums, LANES};
-use cells::{At, Box3, MOST_SAMPLES, Size, Sizes, Volume};
+use cells::{At, Box3, Size, Sizes, Volume};
+use limits::MOST_CHANNELS;
 use map_canvas::Canvas;
 use std::alloc::{AllocError, Global};
 
@@ -45,7 +46,7 @@ const FEW_PLACES: [u32; LEVELS] = [0, 3, 3, 16];
 // The cells of a block of the coarse level on each side: not so many that the bytes of a block can
 // add up to 2^16.
 fn coarse_side(k: u32) -> u32
-    requires { k ≤ MOST_SAMPLES }
+    requires { k ≤ MOST_CHANNELS }
     ensures some { 1 ≤ result }
     ensures few { 255 * block_bytes result k < 2 ^ 16 }
 {

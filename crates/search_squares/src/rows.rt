@@ -5,7 +5,8 @@ ghost use Rattle.cells.specs.Boxes.{HasCells};
 ghost use Rattle.cells.specs.Places.{raster_index, spot};
 ghost use Rattle.search_squares.specs.Gathered.{HasShortRows, IsCellStep};
 
-use cells::{At, GREATEST_AXIS, Size};
+use cells::{At, Size};
+use limits::GREATEST_AXIS;
 
 /// The step from a box's corner to one of its cells.
 pub(crate) fn step_to(x: u32, y: u32, f: u32) -> At

@@ -6,3 +6,4 @@ pub mod Entries
 pub mod Tapes
 pub mod SureStates
 pub mod Codes
+pub mod Decimals

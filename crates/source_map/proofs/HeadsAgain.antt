@@ -8,6 +8,7 @@ use Rattle.std.specs.Cmp.Lexicographic.{pointwise}
 use Rattle.std.specs.Int.{w8, w16, w32}
 use Rattle.std.specs.List.{flat_map, AllByRecursion}
 use Rattle.std.specs.Prelude.{Result, Ok, Err, nat_lt, nat_le, if◌then◌else◌}
+use Rattle.limits.specs.declared.bounds.TheConstants.{GREATEST_AXIS}
 use Rattle.shelf_core.specs.declared.fault.FormFault.TheVariants.{Form}
 use Rattle.shelf_core.specs.declared.fault.ReadError.{ReadError}
 use Rattle.shelf_core.specs.declared.fault.ReadError.TheVariants.{Bad}
@@ -22,13 +23,13 @@ use Rattle.source_map.specs.Readings.{field_read, list_read, number_read}
 use Rattle.source_map.proofs.FieldLaws.{chain, value_alone}
 use Rattle.source_map.proofs.Again.{Spells, alone_spells, field_spells, list_spells, not_equal, spells_16, spells_32, spells_8, then_spells}
 
-axis_ok : (n at : ℕ) → 1 ≤ n → n ≤ 4096 → axis_rule at n ≡ Ok n
+axis_ok : (n at : ℕ) → 1 ≤ n → n ≤ GREATEST_AXIS → axis_rule at n ≡ Ok n
 axis_ok n at lo hi =
     let some : nat_eq n 0 ≡ false = not_equal n 0 (λ e. omega arith) in
-    let low : nat_le n 4096 ≡ true = le-leb n 4096 hi in
+    let low : nat_le n GREATEST_AXIS ≡ true = le-leb n GREATEST_AXIS hi in
     rw (some, low) refl
 
-pub axis_spells : (n : ℕ) → 1 ≤ n → n ≤ 4096 → Spells (number_read w32 axis_rule) (field_32 n) n
+pub axis_spells : (n : ℕ) → 1 ≤ n → n ≤ GREATEST_AXIS → Spells (number_read w32 axis_rule) (field_32 n) n
 axis_spells n lo hi = spells_32 axis_rule n n (omega arith) (λ at. axis_ok n at lo hi)
 
 pub size_spells : (size : Size) → HasAxes size → Spells size_read (size_field size) size

@@ -6,6 +6,7 @@ use Rattle.std.specs.Cmp.Lexicographic.{pointwise}
 use Rattle.std.specs.Int.{from_be_bytes, w8, w16, w32}
 use Rattle.std.specs.List.{flat_map}
 use Rattle.std.specs.Prelude.{◌||◌, Bool, Result, Ok, Err, nat_lt, nat_le, if◌then◌else◌}
+use Rattle.limits.specs.declared.bounds.TheConstants.{GREATEST_AXIS}
 use lib.Pointwise.{bytes_decides}
 use Rattle.shelf_core.specs.declared.fault.FormFault.TheVariants.{Form}
 use Rattle.shelf_core.specs.declared.fault.ReadError.{ReadError}
@@ -23,8 +24,8 @@ use Rattle.source_map.proofs.Spelled.{Spelled, Stood, both_stood, ended, field_s
 
 axis_code : (at n x : ℕ) → axis_rule at n ≡ Ok x → n ≡ x
 axis_code at n x is =
-    let some = otherwise (nat_eq n 0) (if nat_le n 4096 then Ok n else Err (Limit Axis n 4096)) x (Bad (Form at)) is in
-    (passed (nat_le n 4096) n x (Limit Axis n 4096) some.1).1
+    let some = otherwise (nat_eq n 0) (if nat_le n GREATEST_AXIS then Ok n else Err (Limit Axis n GREATEST_AXIS)) x (Bad (Form at)) is in
+    (passed (nat_le n GREATEST_AXIS) n x (Limit Axis n GREATEST_AXIS) some.1).1
 
 pub axis_stood : Spelled (number_read w32 axis_rule) (λ n. field_32 n)
 axis_stood = number_32_stood axis_rule (λ n. n) axis_code

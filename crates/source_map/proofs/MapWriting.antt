@@ -6,6 +6,7 @@ use mathlib.Core.Bool.{false≢true}
 use Rattle.std.proofs.lemmas.Int.{ints}
 use Rattle.std.specs.Prelude.{ℤ, pos, ◌+ℤ◌, Option, Some, None, IsSome, IsSomeAnd, All, slice_get}
 use Rattle.std.specs.List.{AllByRecursion}
+use Rattle.limits.specs.declared.bounds.TheConstants.{GREATEST_AXIS}
 use Rattle.cells.specs.declared.place.At.{At}
 use Rattle.cells.specs.declared.place.Size.{Size}
 use Rattle.cells.specs.declared.sizes.PartPlace.{PartPlace}
@@ -26,7 +27,7 @@ short_inside size axes p inside =
       f = short p.f at.f size.f at.f_on axes.f.1;
     }
   where
-    short : (z : ℤ) (c n : ℕ) → OnAxis n z c → n ≤ 4096 → IsShortCoordinate z
+    short : (z : ℤ) (c n : ℕ) → OnAxis n z c → n ≤ GREATEST_AXIS → IsShortCoordinate z
     short z c n on le = subst IsShortCoordinate (sym on.is) (omega (arith, ints), omega (arith, ints, on.below))
 
 pub axes_of : (sizes : List Size) (i : ℕ) (size : Size) → AllByRecursion HasAxes sizes → slice_get sizes i ≡ Some size → HasAxes size

@@ -6,6 +6,7 @@ use Rattle.std.proofs.lemmas.Option.{slice_get_within}
 use Rattle.std.specs.Int.{w16, w32}
 use Rattle.std.specs.List.{flat_map}
 use Rattle.std.specs.Prelude.{Option, Some, None, IsSomeAnd, Result, Ok, Err, nat_eq, nat_lt, nat_le, unwrap_or}
+use Rattle.limits.specs.declared.bounds.TheConstants.{GREATEST_AXIS, MOST_MAP_CELLS}
 use Rattle.shelf_core.specs.declared.fault.ReadError.{ReadError}
 use Rattle.cells.specs.declared.place.At.{At}
 use Rattle.cells.specs.declared.place.Size.{Size}
@@ -124,10 +125,10 @@ sources_spell m samples version is writable =
     (then_spells (list_read read (cell_count m.size)) (λ xs. value_alone {A = SourceMap} (record { size = m.size; sources = xs })) sources [] m.sources m
     (subst (λ n. Spells (list_read read n) sources m.sources) is.count items) (alone_spells m))
 
-samples_spell : (version : Version) (output : Size) (samples : List Size) → AreSamples version samples → cell_count output ≤ 1048576
+samples_spell : (version : Version) (output : Size) (samples : List Size) → AreSamples version samples → cell_count output ≤ MOST_MAP_CELLS
     → Spells (samples_read version output) (sizes_field version samples) samples
 samples_spell version output samples are few at bytes stands =
-    let low : nat_le (cell_count output) 1048576 ≡ true = le-leb (cell_count output) 1048576 few in
+    let low : nat_le (cell_count output) MOST_MAP_CELLS ≡ true = le-leb (cell_count output) MOST_MAP_CELLS few in
     let limit : cells_rule output ≡ Ok tt = rw low refl in
     ap (λ r. r >>= λ s. cells_rule output >>= λ few. Ok s) (sizes_spell version samples are at bytes stands)
     ∙ ap (λ r. r >>= λ few. Ok (samples, at + length (sizes_field version samples))) limit
@@ -194,7 +195,7 @@ value_spells (Frames size sample frames) lawful =
     (then_spells (start_read map_magic 2 2) body_read head (s ++ (entries ++ [])) (record { version = One; kind = 1; output = size }) value
     (start_spells map_magic 2 2 1 One size refl refl (omega arith) refl lawful.size_axes) body)
   where
-    small : (e f : ℕ) → e < f → f ≤ 4096 → e < 2 ^ 16
+    small : (e f : ℕ) → e < f → f ≤ GREATEST_AXIS → e < 2 ^ 16
     small e f lt le = omega arith
 
 pub read_again : (value : MapFile) → IsMapFile value → map_read (map_form value) ≡ Ok value

@@ -3,6 +3,7 @@ use Rattle.std.proofs.Common.{◌≡◌, ℕ, zero, suc, ◌+◌, ◌*◌, ◌<�
 use Rattle.std.proofs.lemmas.Int.{ints}
 use Rattle.std.specs.Prelude.{ℤ, pos, ◌+ℤ◌, Option, Some, None, All, IsSome, IsSomeAnd, unwrap_or}
 use Rattle.std.specs.List.{AllByRecursion}
+use Rattle.limits.specs.declared.bounds.TheConstants.{GREATEST_AXIS, MOST_MAP_CELLS}
 use Rattle.cells.specs.declared.place.At.{At}
 use Rattle.cells.specs.declared.place.Size.{Size}
 use Rattle.cells.specs.Places.{HasAxes, IsInside, cell_count, index_in, index_on_axes, on_axis, raster_index, spot}
@@ -22,7 +23,7 @@ inside_source size axes p inside =
       f = short p.f at.f size.f at.f_on axes.f.1;
     }
   where
-    short : (z : ℤ) (c n : ℕ) → OnAxis n z c → n ≤ 4096 → IsCoordinate z
+    short : (z : ℤ) (c n : ℕ) → OnAxis n z c → n ≤ GREATEST_AXIS → IsCoordinate z
     short z c n on le = subst IsCoordinate (sym on.is) (omega (arith, ints), omega (arith, ints, on.below))
 
 pub part_inside : (samples : List Size) (part : ℕ) (size : Size) (p : At) → Some size ≡ size_of_part samples part → IsInside size p → IsInPart samples part p
@@ -49,7 +50,7 @@ stock_source samples (suc n) size p are axes is inside =
     low : {a b : ℕ} → a ≤ 4097 * b → b ≤ 16 → a ≤ 65552
     low {a} {b} le few = omega arith
 
-    later : (z : ℤ) (c n k : ℕ) → OnAxis n z c → n ≤ 4096 → k ≤ 65552 → IsCoordinate (z +ℤ pos k)
+    later : (z : ℤ) (c n k : ℕ) → OnAxis n z c → n ≤ GREATEST_AXIS → k ≤ 65552 → IsCoordinate (z +ℤ pos k)
     later z c n k on le few = subst (λ z. IsCoordinate (z +ℤ pos k)) (sym on.is) (omega (arith, ints), omega (arith, ints, on.below))
 
 pub spot_inside : (size : Size) (x y f : ℕ) → x < size.w → y < size.h → f < size.f → IsInside size (spot x y f)
@@ -87,7 +88,7 @@ one_in samples part size p one is inside =
     no_frames (s ∷ sizes) = refl
 
 -- a map whose sources are all in the samples can be written
-pub writable_of : (m : SourceMap) (samples : List Size) (version : Version) → IsMap m → AreSamples version samples → cell_count m.size ≤ 1048576
+pub writable_of : (m : SourceMap) (samples : List Size) (version : Version) → IsMap m → AreSamples version samples → cell_count m.size ≤ MOST_MAP_CELLS
     → All (λ source. IsSomeAnd source (IsInSamples samples)) m.sources → IsWritable m samples version
 writable_of m samples version is are few all = record {
   full = λ p inside. (found p inside).0;

@@ -1,6 +1,7 @@
 -- The map of a canvas with no cell unfilled can be written.
 use Rattle.std.proofs.Common.{◌≡◌, ◌≤◌}
 use Rattle.std.specs.Prelude.{None}
+use Rattle.limits.specs.declared.bounds.TheConstants.{MOST_MAP_CELLS}
 use Rattle.cells.specs.Places.{cell_count}
 use Rattle.cells.specs.Cells.{Cells, sizes_of}
 use Rattle.cells.proofs.CellLaws.{cell_has_index}
@@ -13,7 +14,7 @@ use Rattle.source_map.specs.Heads.{AreSamples}
 use Rattle.source_map.specs.MapFiles.{IsWritable}
 
 pub whole_is_writable : (canvas : CanvasState) (sample : Cells) (version : Version) → IsCanvas canvas → AreSamples version (sizes_of sample) → StandsOver canvas sample
-    → first_unfilled canvas.map ≡ None → cell_count canvas.map.size ≤ 1048576 → IsWritable canvas.map (sizes_of sample) version
+    → first_unfilled canvas.map ≡ None → cell_count canvas.map.size ≤ MOST_MAP_CELLS → IsWritable canvas.map (sizes_of sample) version
 whole_is_writable canvas sample version is samples stands whole few = record {
   full = whole_is_full canvas.map is.map whole;
   cells = few;

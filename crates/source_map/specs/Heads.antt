@@ -9,7 +9,7 @@ use Rattle.shelf_core.specs.declared.fault.FormFault.TheVariants.{Form}
 use Rattle.shelf_core.specs.declared.fault.ReadError.{ReadError}
 use Rattle.shelf_core.specs.declared.fault.ReadError.TheVariants.{Bad, Limit}
 use Rattle.shelf_core.specs.declared.fault.What.TheVariants.{Axis}
-use Rattle.cells.specs.declared.bounds.TheConstants.{GREATEST_AXIS, MOST_PARTS}
+use Rattle.limits.specs.declared.bounds.TheConstants.{GREATEST_AXIS, MOST_PARTS}
 use Rattle.cells.specs.declared.place.Size.{Size}
 use Rattle.cells.specs.Places.{HasAxes}
 use Rattle.cells.specs.SizeLists.{AreSizes}

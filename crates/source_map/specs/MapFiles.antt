@@ -21,7 +21,7 @@ use Rattle.source_map.specs.declared.head.Version.TheVariants.{One, Two}
 use Rattle.source_map.specs.declared.head_reading.Start.{Start}
 use Rattle.source_map.specs.declared.map_file.MapFile.{MapFile}
 use Rattle.source_map.specs.declared.map_file.MapFile.TheVariants.{Cells, Frames}
-use Rattle.source_map.specs.declared.map_file.TheConstants.{MOST_MAP_CELLS}
+use Rattle.limits.specs.declared.bounds.TheConstants.{MOST_MAP_CELLS}
 use Rattle.source_map.specs.Heads.{AreSamples, axis_rule, size_field, sizes_field, sizes_read, start_form, start_read}
 use Rattle.source_map.specs.Readings.{◌>>=◌, list_read, number_read}
 

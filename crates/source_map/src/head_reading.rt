@@ -9,8 +9,9 @@ ghost use Rattle.source_map.specs.Heads.{AreSamples, IsHead, IsKind, axis_rule, 
 ghost use Rattle.source_map.specs.Readings.{IsRefusal, ReadsFrom, field_read, list_read, number_read};
 
 use crate::head::{Head, Version};
-use cells::{GREATEST_AXIS, MOST_PARTS, Size, Sizes};
+use cells::{Size, Sizes};
 use file_bytes::FileReader;
+use limits::{GREATEST_AXIS, MOST_PARTS};
 use shelf_core::{FormFault, ReadError, Shelf, What};
 
 // What stands before the sizes of the samples.

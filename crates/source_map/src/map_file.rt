@@ -15,9 +15,6 @@ use items::Items;
 use map_canvas::Map;
 use shelf_core::{Shelf, WriteFault};
 
-/// The most cells of a map in a file.
-pub const MOST_MAP_CELLS: usize = 1048576;
-
 // What a map file begins with.
 pub(crate) const MAGIC: [u8; 8] = *b"WEAVEMAP";
 

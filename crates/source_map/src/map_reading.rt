@@ -12,10 +12,11 @@ ghost use Rattle.source_map.specs.Readings.{IsRefusal, ReadsFrom, list_read, num
 
 use crate::head::Version;
 use crate::head_reading::{Start, form, read_axis, read_samples, read_start};
-use crate::map_file::{MAGIC, MOST_MAP_CELLS, MapFile};
+use crate::map_file::{MAGIC, MapFile};
 use cells::{At, Size, Sizes};
 use file_bytes::{FileReader, make_room};
 use items::Items;
+use limits::MOST_MAP_CELLS;
 use map_canvas::Map;
 use shelf_core::{ReadError, Shelf, What};
 use std::alloc::Global;
@@ -72,13 +73,13 @@ fn few_cells(size: Size) -> Result<(), ReadError>
     ensures refusal { IfErr result IsRefusal }
 {
     let cells = cells_of(size);
-    if cells <= MOST_MAP_CELLS as u64 {
+    if cells <= MOST_MAP_CELLS {
         Ok(())
     } else {
         Err(ReadError::Limit {
             what: What::Cells,
             number: cells,
-            bound: MOST_MAP_CELLS as u64,
+            bound: MOST_MAP_CELLS,
         })
     }
 }

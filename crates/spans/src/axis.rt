@@ -2,7 +2,7 @@
 ghost use Rattle.std.specs.Prelude.{◌≡◌, ◌≤◌, ◌<◌, pos};
 ghost use Rattle.spans.specs.Axes.{IsGridCorner, SpanFits, at_least_0, grid_on, grid_step, laid_on, patch_corner, patch_len};
 
-use cells::GREATEST_AXIS;
+use limits::GREATEST_AXIS;
 
 /// The box of a placement along one axis: where it begins, how long it is, and which coordinate of
 /// the sample's part comes to its beginning.

@@ -20,7 +20,7 @@ use Rattle.block_replay.specs.declared.records.BlocksError.TheVariants.{Broken a
 use Rattle.block_replay.specs.declared.records.BrokenBlock.{BrokenBlock}
 use Rattle.block_replay.specs.BlockReplay.{EachBlockStands, ReplaysBlocks, left_by_blocks}
 use Rattle.frame_distance.specs.Steps.{Steps}
-use Rattle.frame_distance.specs.declared.table.TheConstants.{MOST_CLIP_CELLS}
+use Rattle.limits.specs.declared.bounds.TheConstants.{MOST_LOOP_FRAMES, MOST_SAMPLE_CELLS}
 use Rattle.loop_walk.specs.Records.{WalkStands}
 use Rattle.loop_walk.specs.Tables.{table_count}
 use Rattle.cert_file.specs.declared.file.RecordFile.{RecordFile}
@@ -60,8 +60,8 @@ one_size size (other ∷ more) one = absurd (omega arith)
 -- the sample of a walk record
 pub record IsWalkSample (sample : Cells) (walk tables : List ℕ) : Type 0 where
   pub part : IsOnePart sample
-  pub few : sample.size.f ≤ 256
-  pub cells : cell_count sample.size ≤ MOST_CLIP_CELLS
+  pub few : sample.size.f ≤ MOST_LOOP_FRAMES
+  pub cells : cell_count sample.size ≤ MOST_SAMPLE_CELLS
   pub whole : length tables ≡ table_count (length walk) * (sample.size.f * sample.size.f)
 
 pub walk_sample : (samples : Samples) (map_file : MapFile) (head : Head) (taps : Taps) (gap : ℕ) (walk tables : List ℕ) → IsRecordFile (Walk head taps gap walk tables) → AreSoundSamples samples
@@ -72,8 +72,8 @@ walk_sample samples map_file head taps gap walk tables is sound suit =
     let frames : samples.volume.size.f ≡ frames_of head = ap (λ (sizes : List Size). (numbered_size sizes 1).f) sizes in
     record {
       part = part;
-      few = subst (λ n. n ≤ 256) (sym frames) is.frames;
-      cells = subst (λ (more : List Size). count_from samples.volume.size more ≤ 8388608) part sound.fits;
+      few = subst (λ n. n ≤ MOST_LOOP_FRAMES) (sym frames) is.frames;
+      cells = subst (λ (more : List Size). count_from samples.volume.size more ≤ MOST_SAMPLE_CELLS) part sound.fits;
       whole = is.entries ∙ ap (λ n. table_count (length walk) * (n * n)) (sym frames);
     }
 

@@ -4,7 +4,7 @@ ghost use Rattle.cells.specs.Cells.{IsOnePart};
 ghost use Rattle.cells.specs.Places.{cell_count, place_of};
 ghost use Rattle.cut_replay.specs.Replay.{IsFormed};
 ghost use Rattle.block_check.specs.Blocks.{IsFormedBlock};
-ghost use Rattle.frame_distance.specs.declared.table.TheConstants.{MOST_CLIP_CELLS};
+ghost use Rattle.limits.specs.declared.bounds.TheConstants.{MOST_LOOP_FRAMES, MOST_SAMPLE_CELLS};
 ghost use Rattle.loop_walk.specs.Tables.{IsLength, table_count};
 ghost use Rattle.cert_file.specs.RecordFiles.{IsRecordFile};
 ghost use Rattle.sample_files.specs.Several.{AreSoundSamples};
@@ -139,8 +139,8 @@ fn judge_walk(
     frames: &[u16],
 ) -> Result<Verdict, AllocError>
     requires part { IsOnePart sample.now }
-    requires few { sample.now.size.f ≤ 256 }
-    requires cells { cell_count sample.now.size ≤ MOST_CLIP_CELLS }
+    requires few { sample.now.size.f ≤ MOST_LOOP_FRAMES }
+    requires cells { cell_count sample.now.size ≤ MOST_SAMPLE_CELLS }
     requires walk { IsLength (length walk.now) }
     requires tables { length tables.now ≡
         table_count (length walk.now) * (sample.now.size.f * sample.now.size.f) }

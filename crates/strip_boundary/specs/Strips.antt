@@ -1,6 +1,7 @@
 -- A reader has to trust this file. Strips, as tables of errors.
 use Rattle.std.specs.Prelude.{ℕ, ◌+◌, ◌*◌, ◌≤◌, ◌≡◌, List, length, slice_index, All}
-use Rattle.strip_boundary.specs.declared.strip.TheConstants.{GREATEST_AXIS, GREATEST_ERROR}
+use Rattle.strip_boundary.specs.declared.strip.TheConstants.{GREATEST_ERROR}
+use Rattle.limits.specs.declared.bounds.TheConstants.{GREATEST_AXIS}
 
 -- a strip: the squared differences of its cells, row by row (Efros and Freeman 2001)
 pub record ErrorTable : Type 0 where

@@ -24,4 +24,4 @@ pub use boundary::{BoundaryRecord, least_boundary};
 pub use check::{BlockFault, COST_RULE, PATH_RULE, SUMS_RULE, check_boundary};
 pub use items::Items;
 pub use laws::{first_least_boundary_is_one, tight_sums_are_one};
-pub use strip::{GREATEST_AXIS, GREATEST_ERROR, Strip};
+pub use strip::{GREATEST_ERROR, Strip};

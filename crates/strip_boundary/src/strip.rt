@@ -4,9 +4,6 @@ ghost use Rattle.std.specs.Prelude.{◌≡◌, ℕ, ◌+◌, ◌*◌, ◌<◌, �
 use std::alloc::{AllocError, Global};
 use std::marker::Model;
 
-/// The most rows, and the most columns, of a strip.
-pub const GREATEST_AXIS: u32 = 4096;
-
 /// The greatest error of a cell: three samples, each of which differs by 255.
 pub const GREATEST_ERROR: u32 = 195_075;
 

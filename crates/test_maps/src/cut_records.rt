@@ -6,13 +6,14 @@ ghost use Rattle.map_canvas.specs.Canvases.{StandsOver};
 
 use crate::laying::{assert_fits, canvas_over, put};
 use boxes::pair_count;
-use cells::{At, Axis, Box3, GREATEST_AXIS, MOST_CELLS, Size, Volume};
+use cells::{At, Axis, Box3, Size, Volume};
 use costs::{are_marks, window_after};
 use cut_check::{
     BALANCE_RULE, BOUNDS_RULE, CutRecord, FILL_RULE, FIT_RULE, Flow, KEEP_RULE, VALUE_RULE,
     check_cut, check_held,
 };
 use items::Items;
+use limits::{GREATEST_AXIS, MOST_CELLS};
 use map_canvas::{Canvas, Placement};
 use std::alloc::{AllocError, Global};
 use std::process::Abort;

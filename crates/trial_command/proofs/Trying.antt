@@ -9,7 +9,7 @@ use Rattle.shelf_core.proofs.FileLaws.{told_same, told_weaker}
 use Rattle.graph_place.specs.Placed.{map_total}
 use Rattle.trial_sample.specs.TrialSamples.{trial_sample}
 use Rattle.trial_sample.proofs.Volumes.{trial_is_volume}
-use Rattle.cut_replay.specs.declared.records.TheConstants.{MOST_BOX_CELLS}
+use Rattle.limits.specs.declared.bounds.TheConstants.{MOST_BOX_CELLS, MOST_OUTPUT_CELLS}
 use Rattle.grow_run.specs.declared.plan.GrowError.{GrowError}
 use Rattle.grow_run.specs.declared.plan.GrowError.TheVariants as error
 use Rattle.grow_run.specs.Grown.{Growth, IsGrowFault}
@@ -24,7 +24,6 @@ use Rattle.synth_report.specs.declared.summary.Summary.TheVariants.{Trial}
 use Rattle.synth_report.specs.Texts.{summary_status}
 use Rattle.command.specs.Commands.{HasOneAnswer}
 use Rattle.command.specs.Outcomes.{AreRefused, IsPlanned, NotMade, WritesAll}
-use Rattle.grow_command.specs.declared.asked.TheConstants.{MOST_OUTPUT_CELLS}
 use Rattle.grow_command.specs.Growths.{fault_of_growing}
 use Rattle.trial_command.specs.Trials.{IsTrialOf, IsTrialRefused, TakesTrial, TrialPasses, TrialRecordsPass, trial_command, trial_plan, trial_summary}
 

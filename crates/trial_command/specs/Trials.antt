@@ -5,7 +5,7 @@ use Rattle.cells.specs.Places.{cell_count}
 use Rattle.shelf_core.specs.declared.fault.What.TheVariants.{Output, Records as RecordsLimit}
 use Rattle.graph_place.specs.Placed.{map_total}
 use Rattle.trial_sample.specs.TrialSamples.{trial_sample}
-use Rattle.cut_replay.specs.declared.records.TheConstants.{MOST_BOX_CELLS}
+use Rattle.limits.specs.declared.bounds.TheConstants.{MOST_BOX_CELLS, MOST_OUTPUT_CELLS}
 use Rattle.grow_run.specs.declared.plan.GrowPlan.{GrowPlan}
 use Rattle.grow_run.specs.declared.plan.Grown.{Grown}
 use Rattle.grow_run.specs.Grown.{IsGrown, PassesAt}
@@ -15,7 +15,6 @@ use Rattle.synth_report.specs.declared.fault.Fault.TheVariants.{Limit, NoMemory}
 use Rattle.synth_report.specs.declared.summary.Summary.{Summary}
 use Rattle.synth_report.specs.declared.summary.Summary.TheVariants.{Trial}
 use Rattle.command.specs.Commands.{Command}
-use Rattle.grow_command.specs.declared.asked.TheConstants.{MOST_OUTPUT_CELLS}
 use Rattle.grow_command.specs.Growths.{mode_for}
 
 -- how the output is grown and refined

@@ -4,15 +4,15 @@ ghost use Rattle.cells.specs.Places.{cell_count};
 ghost use Rattle.grow_run.specs.Grown.{IsGrown};
 ghost use Rattle.job_words.specs.TrialWords.{IsTrialJob};
 ghost use Rattle.trial_sample.specs.TrialSamples.{trial_sample};
-ghost use Rattle.grow_command.specs.declared.asked.TheConstants.{MOST_OUTPUT_CELLS};
 ghost use Rattle.trial_command.specs.Trials.{IsTrialOf, NotTried, trial_plan, trial_summary};
 
 use cells::Volume;
 use costs::total;
 use cut_replay::replay_cuts;
-use grow_command::{MOST_OUTPUT_CELLS, growing_fault, mode_for};
+use grow_command::{growing_fault, mode_for};
 use grow_run::{GrowPlan, Grown, grow_canvas};
 use job_words::TrialJob;
+use limits::MOST_OUTPUT_CELLS;
 use map_canvas::Canvas;
 use shelf_core::What;
 use std::alloc::{AllocError, Global};
@@ -86,11 +86,11 @@ pub(crate) fn plan(alloc: Global, job: &TrialJob) -> Result<Summary, Fault>
     ensures failed { IfErr result (NotTried job.now) }
 {
     let cells = job.size.cells();
-    if cells > MOST_OUTPUT_CELLS {
+    if cells as u64 > MOST_OUTPUT_CELLS {
         return Err(Fault::Limit {
             what: What::Output,
             number: cells as u64,
-            bound: MOST_OUTPUT_CELLS as u64,
+            bound: MOST_OUTPUT_CELLS,
         });
     }
     let sample = trial_sample(alloc, job.n)?;

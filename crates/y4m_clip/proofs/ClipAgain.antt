@@ -6,6 +6,7 @@ use Rattle.std.proofs.Math.Nat.{mul-le-mul_left}
 use Rattle.std.proofs.lemmas.Nat.{le-div}
 use Rattle.std.proofs.lemmas.List.{length-append, append-nil}
 use Rattle.std.proofs.lemmas.List.Concat.{flat_map-append}
+use Rattle.limits.specs.declared.bounds.TheConstants.{GREATEST_AXIS, MOST_TAG_BYTES}
 use Rattle.cells.specs.Places.{cell_count}
 use Rattle.cells.specs.Parts.{count_from}
 use Rattle.cells.specs.Cells.{Cells, IsOnePart, IsVolume, cells_of, volume_of, bytes_of}
@@ -122,9 +123,9 @@ written_is_read most form v is few =
       stands = read_again form v is;
       fits = record {
         line_fits = says.short;
-        tags_fit = subst (λ tags. length (spaced tags) ≤ 4000) says.tags is.form_is.fits;
-        width_fits = subst (λ n. n ≤ 4096) (sym says.w) axes.w.1;
-        height_fits = subst (λ n. n ≤ 4096) (sym says.h) axes.h.1;
+        tags_fit = subst (λ tags. length (spaced tags) ≤ MOST_TAG_BYTES) says.tags is.form_is.fits;
+        width_fits = subst (λ n. n ≤ GREATEST_AXIS) (sym says.w) axes.w.1;
+        height_fits = subst (λ n. n ≤ GREATEST_AXIS) (sym says.h) axes.h.1;
         cells_fit = subst (λ n. n ≤ most) (λ i. sym says.w i * sym says.h i) (omega arith);
       };
       short = all_frames IsShortFrame form.space v f (λ i lt. omega arith);

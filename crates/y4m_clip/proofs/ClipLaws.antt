@@ -3,6 +3,7 @@ use Rattle.std.proofs.Common.{◌≡◌, ℕ, ◌≤◌, ◌<◌, ◌+◌, ◌-�
 use Rattle.std.specs.Prelude.{Ok, Err}
 use Rattle.std.proofs.lemmas.List.{length-append, append-nil}
 use Rattle.std.proofs.Math.Seq.{drop-append_seam}
+use Rattle.limits.specs.declared.bounds.TheConstants.{GREATEST_AXIS, MOST_LINE_BYTES}
 use Rattle.cells.specs.Cells.{volume_of}
 use Rattle.shelf_core.specs.Files.{ShelfState, OnlyReads, content_of}
 use Rattle.shelf_core.specs.declared.fault.ReadError.{ReadError}
@@ -83,7 +84,7 @@ form_refused bytes most front place seen after =
     }
 
 header_refused : (bytes : List ℕ) (most : ℕ) (front : Front) (number bound : ℕ) → FrontSeen bytes most front
-    → After front.form.space front.w front.h front.start bytes (λ count at rest. (count < most_frames front.w front.h most) × FrameLineTooLong rest × (number ≡ 4097) × (bound ≡ 4096))
+    → After front.form.space front.w front.h front.start bytes (λ count at rest. (count < most_frames front.w front.h most) × FrameLineTooLong rest × (number ≡ MOST_LINE_BYTES + 1) × (bound ≡ MOST_LINE_BYTES))
     → RefusesClip most bytes (Limit Header number bound)
 header_refused bytes most front number bound seen after =
     let there = moved bytes most front after.count after.at after.cells seen after.seen in
@@ -130,7 +131,7 @@ cells_refused bytes most front number bound seen after =
         holds = (
           after.holds.0 ∙ there.bound,
           after.holds.1,
-          subst (λ n. n < 4096) (after.holds.0 ∙ there.bound) after.holds.2.0,
+          subst (λ n. n < GREATEST_AXIS) (after.holds.0 ∙ there.bound) after.holds.2.0,
           after.holds.2.1 ∙ (λ i. seen.w_is i * seen.h_is i * (after.count + 1)),
         );
       },

@@ -3,6 +3,7 @@ use Rattle.std.proofs.Common.{◌≡◌, ℕ, zero, suc, ◌≤◌, ◌<◌, ◌
 use Rattle.std.specs.Prelude.{Some, None, nat_lt, replicate, Ok, Err, IfOk}
 use Rattle.std.proofs.lemmas.List.{append-nil, length-append, take-append-drop, length-take-le, take-take, length-drop}
 use Rattle.std.proofs.lemmas.Bool.{ltb-true, ltb-false}
+use Rattle.limits.specs.declared.bounds.TheConstants.{MOST_LINE_BYTES}
 use Rattle.shelf_core.specs.declared.fault.ReadError.TheVariants.{Bad, Limit}
 use Rattle.shelf_core.specs.declared.fault.FormFault.TheVariants.{Form}
 use Rattle.shelf_core.specs.declared.fault.What.TheVariants.{Header}
@@ -56,44 +57,44 @@ proper_shorter text i prefix shorter = record {
 front_of : (bytes : List ℕ) (count i : ℕ) → i ≤ count → take i (take count bytes) ≡ take i bytes
 front_of bytes count i le = take-take i count bytes le
 
-open_found : (bytes : List ℕ) (count : ℕ) (past : Bool) → count ≡ min 4097 (length bytes) → nat_lt 4096 count ≡ past → IsProperLinePrefix (take count bytes)
-    → IsLineFound bytes (cond past (Err (Limit Header 4097 4096)) (Err (Bad (Form count))))
+open_found : (bytes : List ℕ) (count : ℕ) (past : Bool) → count ≡ min (MOST_LINE_BYTES + 1) (length bytes) → nat_lt MOST_LINE_BYTES count ≡ past → IsProperLinePrefix (take count bytes)
+    → IsLineFound bytes (cond past (Err (Limit Header (MOST_LINE_BYTES + 1) MOST_LINE_BYTES)) (Err (Bad (Form count))))
 open_found bytes count true is e proper =
-    let more : 4096 < count = ltb-true 4096 count e in
-    let all : count ≡ 4097 = omega arith in (
+    let more : MOST_LINE_BYTES < count = ltb-true MOST_LINE_BYTES count e in
+    let all : count ≡ MOST_LINE_BYTES + 1 = omega arith in (
       record {
         longer = omega arith;
-        starts = subst IsProperLinePrefix (front_of bytes count 4096 (omega arith)) (proper_shorter (take count bytes) 4096 proper.starts (omega (arith, length-take-le count bytes (omega arith))));
+        starts = subst IsProperLinePrefix (front_of bytes count MOST_LINE_BYTES (omega arith)) (proper_shorter (take count bytes) MOST_LINE_BYTES proper.starts (omega (arith, length-take-le count bytes (omega arith))));
         lawful = subst (λ n. IsLinePrefix (take n bytes)) all proper.starts;
       },
       refl,
       refl,
     )
 open_found bytes count false is e proper =
-    let few : count ≤ 4096 = ltb-false 4096 count e in
+    let few : count ≤ MOST_LINE_BYTES = ltb-false MOST_LINE_BYTES count e in
     record { early = few; inside = omega arith; before = proper; here = inl (omega arith) }
 
-ended_found : (bytes : List ℕ) (count n : ℕ) (past : Bool) → count ≡ min 4097 (length bytes) → nat_lt 4096 n ≡ past → EndsAfter (take count bytes) n
-    → IsLineFound bytes (cond past (Err (Limit Header 4097 4096)) (Ok n))
+ended_found : (bytes : List ℕ) (count n : ℕ) (past : Bool) → count ≡ min (MOST_LINE_BYTES + 1) (length bytes) → nat_lt MOST_LINE_BYTES n ≡ past → EndsAfter (take count bytes) n
+    → IsLineFound bytes (cond past (Err (Limit Header (MOST_LINE_BYTES + 1) MOST_LINE_BYTES)) (Ok n))
 ended_found bytes count n true is e ends =
-    let more : 4096 < n = ltb-true 4096 n e in
+    let more : MOST_LINE_BYTES < n = ltb-true MOST_LINE_BYTES n e in
     let room : length (take count bytes) ≡ count = length-take-le count bytes (omega arith) in
-    let all : n ≡ 4097 = omega (arith, ends.inside) in
-    let before : n - 1 ≡ 4096 = omega arith in (
+    let all : n ≡ MOST_LINE_BYTES + 1 = omega (arith, ends.inside) in
+    let before : n - 1 ≡ MOST_LINE_BYTES = omega arith in (
       record {
         longer = omega (arith, ends.inside);
-        starts = subst IsProperLinePrefix (ap (λ m. take m (take count bytes)) before ∙ front_of bytes count 4096 (omega (arith, ends.inside))) ends.before;
+        starts = subst IsProperLinePrefix (ap (λ m. take m (take count bytes)) before ∙ front_of bytes count MOST_LINE_BYTES (omega (arith, ends.inside))) ends.before;
         lawful = record {
           rest = [];
           tags = ends.line.0;
-          line = subst (λ t. IsStreamLine t ends.line.0) (front_of bytes count n (omega (arith, ends.inside)) ∙ ap (λ m. take m bytes) all ∙ sym (append-nil (take 4097 bytes))) ends.line.1;
+          line = subst (λ t. IsStreamLine t ends.line.0) (front_of bytes count n (omega (arith, ends.inside)) ∙ ap (λ m. take m bytes) all ∙ sym (append-nil (take (MOST_LINE_BYTES + 1) bytes))) ends.line.1;
         };
       },
       refl,
       refl,
     )
 ended_found bytes count n false is e ends =
-    let few : n ≤ 4096 = ltb-false 4096 n e in
+    let few : n ≤ MOST_LINE_BYTES = ltb-false MOST_LINE_BYTES n e in
     let room : length (take count bytes) ≡ count = length-take-le count bytes (omega arith) in
     let le : n ≤ count = omega (arith, ends.inside) in (
       record {
@@ -105,7 +106,7 @@ ended_found bytes count n false is e ends =
       few,
     )
 
-broken_found : (bytes : List ℕ) (count i : ℕ) → count ≡ min 4097 (length bytes) → GoesWrong (take count bytes) i → LineBreaks bytes i
+broken_found : (bytes : List ℕ) (count i : ℕ) → count ≡ min (MOST_LINE_BYTES + 1) (length bytes) → GoesWrong (take count bytes) i → LineBreaks bytes i
 broken_found bytes count i is wrong =
     let room : length (take count bytes) ≡ count = length-take-le count bytes (omega arith) in
     let less : i < count = omega (arith, wrong.inside) in
@@ -116,40 +117,40 @@ broken_found bytes count i is wrong =
       here = inr (omega arith, λ prefix. wrong.here (subst IsLinePrefix (sym (front_of bytes count (i + 1) (omega arith))) prefix));
     }
 
-pub line_found : (bytes buffer : List ℕ) (count : ℕ) (scanned : ScannedLine) → length buffer ≡ 4097 → Reads bytes 0 buffer count → IsStreamScanned (take count buffer) scanned
+pub line_found : (bytes buffer : List ℕ) (count : ℕ) (scanned : ScannedLine) → length buffer ≡ MOST_LINE_BYTES + 1 → Reads bytes 0 buffer count → IsStreamScanned (take count buffer) scanned
     → IsLineFound bytes (line_judged count scanned)
 line_found bytes buffer count scanned room reads is = by scanned (subst (λ t. IsStreamScanned t scanned) reads.read is)
   where
-    all : count ≡ min 4097 (length bytes)
+    all : count ≡ min (MOST_LINE_BYTES + 1) (length bytes)
     all = omega (arith, reads.count)
 
     by : (s : ScannedLine) → IsStreamScanned (take count bytes) s → IsLineFound bytes (line_judged count s)
-    by Open proper = open_found bytes count (nat_lt 4096 count) all refl proper
+    by Open proper = open_found bytes count (nat_lt MOST_LINE_BYTES count) all refl proper
     by (Broken i) wrong = broken_found bytes count i all wrong
-    by (Ended n) ends = ended_found bytes count n (nat_lt 4096 n) all refl ends
+    by (Ended n) ends = ended_found bytes count n (nat_lt MOST_LINE_BYTES n) all refl ends
 
 -- as the shelf tells it
-pub finds_as : (name buffer : List ℕ) (count : ℕ) (scanned : ScannedLine) (a b : ShelfState) → length buffer ≡ 4097 → Changes a b (λ was now. Reads (content_of was name) 0 buffer count)
+pub finds_as : (name buffer : List ℕ) (count : ℕ) (scanned : ScannedLine) (a b : ShelfState) → length buffer ≡ MOST_LINE_BYTES + 1 → Changes a b (λ was now. Reads (content_of was name) 0 buffer count)
     → IsStreamScanned (take count buffer) scanned → FindsLineAs name a b (line_judged count scanned)
 finds_as name buffer count scanned a b room reads is =
     by scanned
     (sees_weaker (λ files. Reads (content_of files name) 0 buffer count) (λ files. IsLineFound (content_of files name) (line_judged count scanned)) a b
     (λ files read. line_found (content_of files name) buffer count scanned room read is) reads)
   where
-    limit_or_form : (past : Bool) → Sees a b (λ files. IsLineFound (content_of files name) (cond past (Err (Limit Header 4097 4096)) (Err (Bad (Form count)))))
-        → FindsLineAs name a b (cond past (Err (Limit Header 4097 4096)) (Err (Bad (Form count))))
+    limit_or_form : (past : Bool) → Sees a b (λ files. IsLineFound (content_of files name) (cond past (Err (Limit Header (MOST_LINE_BYTES + 1) MOST_LINE_BYTES)) (Err (Bad (Form count)))))
+        → FindsLineAs name a b (cond past (Err (Limit Header (MOST_LINE_BYTES + 1) MOST_LINE_BYTES)) (Err (Bad (Form count))))
     limit_or_form true seen = seen
     limit_or_form false seen = seen
 
-    limit_or_length : (n : ℕ) (past : Bool) → Sees a b (λ files. IsLineFound (content_of files name) (cond past (Err (Limit Header 4097 4096)) (Ok n)))
-        → FindsLineAs name a b (cond past (Err (Limit Header 4097 4096)) (Ok n))
+    limit_or_length : (n : ℕ) (past : Bool) → Sees a b (λ files. IsLineFound (content_of files name) (cond past (Err (Limit Header (MOST_LINE_BYTES + 1) MOST_LINE_BYTES)) (Ok n)))
+        → FindsLineAs name a b (cond past (Err (Limit Header (MOST_LINE_BYTES + 1) MOST_LINE_BYTES)) (Ok n))
     limit_or_length n true seen = seen
     limit_or_length n false seen = seen
 
     by : (s : ScannedLine) → Sees a b (λ files. IsLineFound (content_of files name) (line_judged count s)) → FindsLineAs name a b (line_judged count s)
-    by Open seen = limit_or_form (nat_lt 4096 count) seen
+    by Open seen = limit_or_form (nat_lt MOST_LINE_BYTES count) seen
     by (Broken i) seen = seen
-    by (Ended n) seen = limit_or_length n (nat_lt 4096 n) seen
+    by (Ended n) seen = limit_or_length n (nat_lt MOST_LINE_BYTES n) seen
 
 -- a whole line has more bytes than the magic
 some_continues : (letters : List ℕ) (tags : List (List ℕ)) (text : List ℕ) → Continues letters tags text → 1 ≤ length text
@@ -158,35 +159,35 @@ some_continues letters [] text (both, suc n, is) = let e : text ≡ 32 ∷ (repl
 some_continues letters ([] ∷ tags) text goes = absurd goes
 some_continues letters ((letter ∷ value) ∷ tags) text goes = let e : text ≡ 32 ∷ (replicate goes.3 32 ++ letter ∷ value ++ goes.4) = goes.5 in omega (arith, ap length e)
 
-pub judged_sound : (text : List ℕ) (count : ℕ) (scanned : ScannedLine) → IsStreamScanned text scanned → IfOk (line_judged count scanned) (λ n. (10 ≤ n) × (n ≤ 4096))
-judged_sound text count Open is = tested (nat_lt 4096 count)
+pub judged_sound : (text : List ℕ) (count : ℕ) (scanned : ScannedLine) → IsStreamScanned text scanned → IfOk (line_judged count scanned) (λ n. (10 ≤ n) × (n ≤ MOST_LINE_BYTES))
+judged_sound text count Open is = tested (nat_lt MOST_LINE_BYTES count)
   where
-    tested : (past : Bool) → IfOk (cond past (Err (Limit Header 4097 4096)) (Err (Bad (Form count)))) (λ n. (10 ≤ n) × (n ≤ 4096))
+    tested : (past : Bool) → IfOk (cond past (Err (Limit Header (MOST_LINE_BYTES + 1) MOST_LINE_BYTES)) (Err (Bad (Form count)))) (λ n. (10 ≤ n) × (n ≤ MOST_LINE_BYTES))
     tested true = tt
     tested false = tt
 judged_sound text count (Broken i) is = tt
-judged_sound text count (Ended n) is = tested (nat_lt 4096 n) refl
+judged_sound text count (Ended n) is = tested (nat_lt MOST_LINE_BYTES n) refl
   where
     whole : IsStreamLine (take n text) is.line.0
     whole = is.line.1
 
-    tested : (past : Bool) → nat_lt 4096 n ≡ past → IfOk (cond past (Err (Limit Header 4097 4096)) (Ok n)) (λ m. (10 ≤ m) × (m ≤ 4096))
+    tested : (past : Bool) → nat_lt MOST_LINE_BYTES n ≡ past → IfOk (cond past (Err (Limit Header (MOST_LINE_BYTES + 1) MOST_LINE_BYTES)) (Ok n)) (λ m. (10 ≤ m) × (m ≤ MOST_LINE_BYTES))
     tested true e = tt
-    tested false e = (omega (arith, length-take-le n text is.inside, ap length whole.is, length-append magic whole.rest, some_continues [] is.line.0 whole.rest whole.continues), ltb-false 4096 n e)
+    tested false e = (omega (arith, length-take-le n text is.inside, ap length whole.is, length-append magic whole.rest, some_continues [] is.line.0 whole.rest whole.continues), ltb-false MOST_LINE_BYTES n e)
 
 -- the line that was found stands in what was scanned
 pub judged_line : (buffer : List ℕ) (count : ℕ) (scanned : ScannedLine) → IsStreamScanned (take count buffer) scanned → count ≤ length buffer → IfOk (line_judged count scanned) (λ n. IsLineOf (take n buffer))
-judged_line buffer count Open is le = tested (nat_lt 4096 count)
+judged_line buffer count Open is le = tested (nat_lt MOST_LINE_BYTES count)
   where
-    tested : (past : Bool) → IfOk (cond past (Err (Limit Header 4097 4096)) (Err (Bad (Form count)))) (λ n. IsLineOf (take n buffer))
+    tested : (past : Bool) → IfOk (cond past (Err (Limit Header (MOST_LINE_BYTES + 1) MOST_LINE_BYTES)) (Err (Bad (Form count)))) (λ n. IsLineOf (take n buffer))
     tested true = tt
     tested false = tt
 judged_line buffer count (Broken i) is le = tt
-judged_line buffer count (Ended n) is le = tested (nat_lt 4096 n)
+judged_line buffer count (Ended n) is le = tested (nat_lt MOST_LINE_BYTES n)
   where
     front : take n (take count buffer) ≡ take n buffer
     front = take-take n count buffer (omega (arith, is.inside, length-take-le count buffer le))
 
-    tested : (past : Bool) → IfOk (cond past (Err (Limit Header 4097 4096)) (Ok n)) (λ m. IsLineOf (take m buffer))
+    tested : (past : Bool) → IfOk (cond past (Err (Limit Header (MOST_LINE_BYTES + 1) MOST_LINE_BYTES)) (Ok n)) (λ m. IsLineOf (take m buffer))
     tested true = tt
     tested false = (is.line.0, subst (λ t. IsStreamLine t is.line.0) front is.line.1)

@@ -2,6 +2,7 @@
 use Rattle.std.proofs.Common.{◌≡◌, ℕ, ◌≤◌, List, [], ◌∷◌, ◌++◌, length, refl, sym, ap, ◌∙◌, subst, append_assoc, Bool, true, false, cond}
 use Rattle.std.specs.Prelude.{◌==◌, ◌&&◌, ◌||◌, not, Some, codes}
 use Rattle.std.proofs.lemmas.Bool.{eqb-true}
+use Rattle.limits.specs.declared.bounds.TheConstants.{MOST_TAG_BYTES}
 use Rattle.y4m_clip.specs.declared.form.ClipForm.{ClipForm}
 use Rattle.y4m_clip.specs.declared.form.SpaceKind.{SpaceKind}
 use Rattle.y4m_clip.specs.StreamLine.{is_axis, has_stood, again, may_stand, has_axes, Continues, IsStreamLine}
@@ -100,11 +101,11 @@ carried_kind tags kind is = record {
 }
 
 -- the form that a reader makes of a stream line
-pub form_of_line : (form : ClipForm) (text : List ℕ) (tags : List (List ℕ)) → IsStreamLine text tags → form.tags ≡ carried tags → HasSpaceKind tags form.space → length (spaced (carried tags)) ≤ 4000 → IsForm form
+pub form_of_line : (form : ClipForm) (text : List ℕ) (tags : List (List ℕ)) → IsStreamLine text tags → form.tags ≡ carried tags → HasSpaceKind tags form.space → length (spaced (carried tags)) ≤ MOST_TAG_BYTES → IsForm form
 form_of_line form text tags line same is fits = record {
   stand = subst (λ t. Continues (codes "HW") t (spaced t ++ codes "\n")) (sym same) (carried_stand [] (codes "HW") tags line.rest line.continues none refl);
   is_kind = subst (λ t. HasSpaceKind t form.space) (sym same) (carried_kind tags form.space is);
-  fits = subst (λ t. length (spaced t) ≤ 4000) (sym same) fits;
+  fits = subst (λ t. length (spaced t) ≤ MOST_TAG_BYTES) (sym same) fits;
 }
   where
     none : StandsLess [] (codes "HW")

@@ -5,6 +5,7 @@ use Rattle.std.specs.List.{AllByRecursion}
 use Rattle.std.proofs.lemmas.List.{append-nil, length-append, take-append-drop, length-take-le, length-drop, take-take, take_all, take_more, get_or-take}
 use Rattle.std.proofs.lemmas.Bool.{ltb-true, ltb-false}
 use Rattle.std.proofs.Math.Seq.{take-append-add, take-append_seam}
+use Rattle.limits.specs.declared.bounds.TheConstants.{MOST_LINE_BYTES}
 use Rattle.y4m_clip.specs.Clips.{IsFrameLine, IsOpenFrameLine, IsFrameLinePrefix}
 use Rattle.y4m_clip.specs.Reading.{Matches}
 use Rattle.shelf_core.specs.declared.fault.ReadError.TheVariants.{Bad, Limit}
@@ -65,48 +66,48 @@ line_words text i is blank end =
 -- What is read of a file from a place on tells the answer of its frame line.
 
 -- a line that goes on behind the most bytes of one is open before
-open_before : (text : List ℕ) → length text ≡ 4097 → IsOpenFrameLine text → IsOpenFrameLine (take 4096 text)
+open_before : (text : List ℕ) → length text ≡ MOST_LINE_BYTES + 1 → IsOpenFrameLine text → IsOpenFrameLine (take MOST_LINE_BYTES text)
 open_before text long (inl start) = absurd (omega (arith, long, length-append text start.0, ap length start.1))
 open_before text long (inr start) =
-    inr (take 4090 start.0, AllByRecursion-take 4090 start.0 start.1, ap (take 4096) start.2 ∙ take-append-add (codes "FRAME ") start.0 4090)
+    inr (take 4090 start.0, AllByRecursion-take 4090 start.0 start.1, ap (take MOST_LINE_BYTES) start.2 ∙ take-append-add (codes "FRAME ") start.0 4090)
   where
     AllByRecursion-take : (n : ℕ) (xs : List ℕ) → AllByRecursion (λ b. b ≢ 10) xs → AllByRecursion (λ b. b ≢ 10) (take n xs)
     AllByRecursion-take zero xs each = tt
     AllByRecursion-take (suc n) [] each = tt
     AllByRecursion-take (suc n) (x ∷ xs) each = (each.0, AllByRecursion-take n xs each.1)
 
-line_before : (text : List ℕ) → length text ≡ 4097 → IsFrameLine text → IsOpenFrameLine (take 4096 text)
+line_before : (text : List ℕ) → length text ≡ MOST_LINE_BYTES + 1 → IsFrameLine text → IsOpenFrameLine (take MOST_LINE_BYTES text)
 line_before text long (inl line) = absurd (omega (arith, long, ap length line))
 line_before text long (inr line) =
-    let count : length (codes "FRAME " ++ line.0) ≡ 4096 = omega (arith, long, ap length line.2, length-append (codes "FRAME " ++ line.0) (10 ∷ [])) in
-    inr (line.0, line.1, ap (take 4096) line.2 ∙ ap (λ n. take n (codes "FRAME " ++ line.0 ++ 10 ∷ [])) (sym count) ∙ take-append_seam (codes "FRAME " ++ line.0) (10 ∷ []))
+    let count : length (codes "FRAME " ++ line.0) ≡ MOST_LINE_BYTES = omega (arith, long, ap length line.2, length-append (codes "FRAME " ++ line.0) (10 ∷ [])) in
+    inr (line.0, line.1, ap (take MOST_LINE_BYTES) line.2 ∙ ap (λ n. take n (codes "FRAME " ++ line.0 ++ 10 ∷ [])) (sym count) ∙ take-append_seam (codes "FRAME " ++ line.0) (10 ∷ []))
 
-open_found : (rest : List ℕ) (at count : ℕ) (past : Bool) → count ≡ min 4097 (length rest) → nat_lt 4096 count ≡ past → 1 ≤ length (take count rest) → IsOpenFrameLine (take count rest)
-    → IsFrameFound rest at (cond past (Err (Limit Header 4097 4096)) (Err (Bad (Form (at + count)))))
+open_found : (rest : List ℕ) (at count : ℕ) (past : Bool) → count ≡ min (MOST_LINE_BYTES + 1) (length rest) → nat_lt MOST_LINE_BYTES count ≡ past → 1 ≤ length (take count rest) → IsOpenFrameLine (take count rest)
+    → IsFrameFound rest at (cond past (Err (Limit Header (MOST_LINE_BYTES + 1) MOST_LINE_BYTES)) (Err (Bad (Form (at + count)))))
 open_found rest at count true is e some start =
-    let more : 4096 < count = ltb-true 4096 count e in
-    let all : count ≡ 4097 = omega arith in
-    let room : length (take count rest) ≡ 4097 = length-take-le count rest (omega arith) ∙ all in
-    (record { longer = omega arith; starts = subst IsOpenFrameLine (take-take 4096 count rest (omega arith)) (open_before (take count rest) room start) }, refl, refl)
+    let more : MOST_LINE_BYTES < count = ltb-true MOST_LINE_BYTES count e in
+    let all : count ≡ MOST_LINE_BYTES + 1 = omega arith in
+    let room : length (take count rest) ≡ MOST_LINE_BYTES + 1 = length-take-le count rest (omega arith) ∙ all in
+    (record { longer = omega arith; starts = subst IsOpenFrameLine (take-take MOST_LINE_BYTES count rest (omega arith)) (open_before (take count rest) room start) }, refl, refl)
 open_found rest at count false is e some start =
-    let few : count ≤ 4096 = ltb-false 4096 count e in
+    let few : count ≤ MOST_LINE_BYTES = ltb-false MOST_LINE_BYTES count e in
     let room : length (take count rest) ≡ count = length-take-le count rest (omega arith) in
     (count, refl, record { early = few; inside = omega arith; before = start; here = inl (omega arith, omega arith) })
 
-whole_found : (rest : List ℕ) (at count n : ℕ) (past : Bool) → count ≡ min 4097 (length rest) → nat_lt 4096 n ≡ past → n ≤ length (take count rest) → IsFrameLine (take n (take count rest))
-    → IsFrameFound rest at (cond past (Err (Limit Header 4097 4096)) (Ok (Some n)))
+whole_found : (rest : List ℕ) (at count n : ℕ) (past : Bool) → count ≡ min (MOST_LINE_BYTES + 1) (length rest) → nat_lt MOST_LINE_BYTES n ≡ past → n ≤ length (take count rest) → IsFrameLine (take n (take count rest))
+    → IsFrameFound rest at (cond past (Err (Limit Header (MOST_LINE_BYTES + 1) MOST_LINE_BYTES)) (Ok (Some n)))
 whole_found rest at count n true is e inside line =
-    let more : 4096 < n = ltb-true 4096 n e in
+    let more : MOST_LINE_BYTES < n = ltb-true MOST_LINE_BYTES n e in
     let room : length (take count rest) ≡ count = length-take-le count rest (omega arith) in
-    let all : n ≡ 4097 = omega arith in
+    let all : n ≡ MOST_LINE_BYTES + 1 = omega arith in
     let same : take n (take count rest) ≡ take n rest = take-take n count rest (omega arith) in
-    let long : length (take n rest) ≡ 4097 = length-take-le n rest (omega arith) ∙ all in
-    (record { longer = omega arith; starts = subst IsOpenFrameLine (take-take 4096 n rest (omega arith)) (line_before (take n rest) long (subst IsFrameLine same line)) }, refl, refl)
+    let long : length (take n rest) ≡ MOST_LINE_BYTES + 1 = length-take-le n rest (omega arith) ∙ all in
+    (record { longer = omega arith; starts = subst IsOpenFrameLine (take-take MOST_LINE_BYTES n rest (omega arith)) (line_before (take n rest) long (subst IsFrameLine same line)) }, refl, refl)
 whole_found rest at count n false is e inside line =
     let room : length (take count rest) ≡ count = length-take-le count rest (omega arith) in
-    record { inside = omega arith; is_line = subst IsFrameLine (take-take n count rest (omega arith)) line; short = ltb-false 4096 n e }
+    record { inside = omega arith; is_line = subst IsFrameLine (take-take n count rest (omega arith)) line; short = ltb-false MOST_LINE_BYTES n e }
 
-wrong_found : (rest : List ℕ) (at count i : ℕ) → count ≡ min 4097 (length rest) → i ≤ 5 → WrongInFrame (take count rest) i → IsFrameFound rest at (Err (Bad (Form (at + i))))
+wrong_found : (rest : List ℕ) (at count i : ℕ) → count ≡ min (MOST_LINE_BYTES + 1) (length rest) → i ≤ 5 → WrongInFrame (take count rest) i → IsFrameFound rest at (Err (Bad (Form (at + i))))
 wrong_found rest at count i is early wrong =
     let room : length (take count rest) ≡ count = length-take-le count rest (omega arith) in
     let less : i < count = omega (arith, wrong.inside) in (
@@ -124,39 +125,39 @@ no_bytes : (bytes : List ℕ) → length bytes ≡ 0 → bytes ≡ []
 no_bytes [] none = refl
 no_bytes (b ∷ bytes) none = absurd (omega arith)
 
-pub frame_found : (bytes buffer : List ℕ) (at count : ℕ) (scan : FrameScan) → length buffer ≡ 4097 → Reads bytes at buffer count → IsFrameScanned (take count buffer) scan → IsEarly scan
+pub frame_found : (bytes buffer : List ℕ) (at count : ℕ) (scan : FrameScan) → length buffer ≡ MOST_LINE_BYTES + 1 → Reads bytes at buffer count → IsFrameScanned (take count buffer) scan → IsEarly scan
     → IsFrameFound (drop at bytes) at (frame_judged at count scan)
 frame_found bytes buffer at count scan room reads is early = by scan (subst (λ t. IsFrameScanned t scan) reads.read is) early
   where
-    all : count ≡ min 4097 (length (drop at bytes))
+    all : count ≡ min (MOST_LINE_BYTES + 1) (length (drop at bytes))
     all = omega (arith, reads.count, length-drop at bytes)
 
     by : (s : FrameScan) → IsFrameScanned (take count (drop at bytes)) s → IsEarly s → IsFrameFound (drop at bytes) at (frame_judged at count s)
     by Nothing none early' = no_bytes (drop at bytes) (omega (arith, ap length none, length-take-le count (drop at bytes) (omega (arith, all)), all))
-    by Open start early' = open_found (drop at bytes) at count (nat_lt 4096 count) all refl start.0 start.1
+    by Open start early' = open_found (drop at bytes) at count (nat_lt MOST_LINE_BYTES count) all refl start.0 start.1
     by (Wrong i) wrong early' = wrong_found (drop at bytes) at count i all early' wrong
-    by (Whole n) whole early' = whole_found (drop at bytes) at count n (nat_lt 4096 n) all refl whole.0 whole.1
+    by (Whole n) whole early' = whole_found (drop at bytes) at count n (nat_lt MOST_LINE_BYTES n) all refl whole.0 whole.1
 
 -- as the shelf tells it
-pub finds_frame_as : (name buffer : List ℕ) (at count : ℕ) (scan : FrameScan) (a b : ShelfState) → length buffer ≡ 4097 → Changes a b (λ was now. Reads (content_of was name) at buffer count)
+pub finds_frame_as : (name buffer : List ℕ) (at count : ℕ) (scan : FrameScan) (a b : ShelfState) → length buffer ≡ MOST_LINE_BYTES + 1 → Changes a b (λ was now. Reads (content_of was name) at buffer count)
     → IsFrameScanned (take count buffer) scan → IsEarly scan → FindsFrameAs name at a b (frame_judged at count scan)
 finds_frame_as name buffer at count scan a b room reads is early =
     by scan
     (sees_weaker (λ files. Reads (content_of files name) at buffer count) (λ files. IsFrameFound (drop at (content_of files name)) at (frame_judged at count scan)) a b
     (λ files read. frame_found (content_of files name) buffer at count scan room read is early) reads)
   where
-    limit_or_form : (past : Bool) → Sees a b (λ files. IsFrameFound (drop at (content_of files name)) at (cond past (Err (Limit Header 4097 4096)) (Err (Bad (Form (at + count))))))
-        → FindsFrameAs name at a b (cond past (Err (Limit Header 4097 4096)) (Err (Bad (Form (at + count)))))
+    limit_or_form : (past : Bool) → Sees a b (λ files. IsFrameFound (drop at (content_of files name)) at (cond past (Err (Limit Header (MOST_LINE_BYTES + 1) MOST_LINE_BYTES)) (Err (Bad (Form (at + count))))))
+        → FindsFrameAs name at a b (cond past (Err (Limit Header (MOST_LINE_BYTES + 1) MOST_LINE_BYTES)) (Err (Bad (Form (at + count)))))
     limit_or_form true seen = seen
     limit_or_form false seen = seen
 
-    limit_or_length : (n : ℕ) (past : Bool) → Sees a b (λ files. IsFrameFound (drop at (content_of files name)) at (cond past (Err (Limit Header 4097 4096)) (Ok (Some n))))
-        → FindsFrameAs name at a b (cond past (Err (Limit Header 4097 4096)) (Ok (Some n)))
+    limit_or_length : (n : ℕ) (past : Bool) → Sees a b (λ files. IsFrameFound (drop at (content_of files name)) at (cond past (Err (Limit Header (MOST_LINE_BYTES + 1) MOST_LINE_BYTES)) (Ok (Some n))))
+        → FindsFrameAs name at a b (cond past (Err (Limit Header (MOST_LINE_BYTES + 1) MOST_LINE_BYTES)) (Ok (Some n)))
     limit_or_length n true seen = seen
     limit_or_length n false seen = seen
 
     by : (s : FrameScan) → Sees a b (λ files. IsFrameFound (drop at (content_of files name)) at (frame_judged at count s)) → FindsFrameAs name at a b (frame_judged at count s)
     by Nothing seen = seen
-    by Open seen = limit_or_form (nat_lt 4096 count) seen
+    by Open seen = limit_or_form (nat_lt MOST_LINE_BYTES count) seen
     by (Wrong i) seen = seen
-    by (Whole n) seen = limit_or_length n (nat_lt 4096 n) seen
+    by (Whole n) seen = limit_or_length n (nat_lt MOST_LINE_BYTES n) seen

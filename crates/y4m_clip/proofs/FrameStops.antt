@@ -5,6 +5,7 @@ use Rattle.std.specs.List.{AllByRecursion}
 use Rattle.std.proofs.lemmas.Bool.{cases_lt, cases_eq}
 use Rattle.std.proofs.lemmas.List.{length-append, take-append-drop, take-append-le, length-take-le, take-take, take_all, take_more}
 use Rattle.std.proofs.Math.Seq.{take-append_seam}
+use Rattle.limits.specs.declared.bounds.TheConstants.{MOST_LINE_BYTES}
 use Rattle.y4m_clip.specs.declared.form.SpaceKind.{SpaceKind}
 use Rattle.y4m_clip.specs.Clips.{IsFrameLine, IsOpenFrameLine, IsFrameLinePrefix, Frame, IsFrame, frame_text, plane_bytes}
 use Rattle.y4m_clip.specs.Refusals.{FrameLineBreaks, PlanesBreak, FrameLineTooLong}
@@ -127,26 +128,26 @@ line_unbroken rest line part i is whole breaks = split (cases_lt i (length line)
         no_line_open line (drop (length line) (take i rest)) whole (subst IsOpenFrameLine (sym joins) breaks.before)
 
 -- nor is it too long, where a whole line stands within the bound
-pub line_not_long : (rest line part : List ℕ) → rest ≡ line ++ part → IsFrameLine line → length line ≤ 4096 → FrameLineTooLong rest → ⊥
+pub line_not_long : (rest line part : List ℕ) → rest ≡ line ++ part → IsFrameLine line → length line ≤ MOST_LINE_BYTES → FrameLineTooLong rest → ⊥
 line_not_long rest line part is whole short long =
-    let same : take (length line) (take 4096 rest) ≡ line
-    = take-take (length line) 4096 rest short ∙ ap (take (length line)) is ∙ take-append_seam line part in
-    let joins : line ++ drop (length line) (take 4096 rest) ≡ take 4096 rest = ap (λ t. t ++ drop (length line) (take 4096 rest)) (sym same) ∙ take-append-drop (length line) (take 4096 rest) in
-    no_line_open line (drop (length line) (take 4096 rest)) whole (subst IsOpenFrameLine (sym joins) long.starts)
+    let same : take (length line) (take MOST_LINE_BYTES rest) ≡ line
+    = take-take (length line) MOST_LINE_BYTES rest short ∙ ap (take (length line)) is ∙ take-append_seam line part in
+    let joins : line ++ drop (length line) (take MOST_LINE_BYTES rest) ≡ take MOST_LINE_BYTES rest = ap (λ t. t ++ drop (length line) (take MOST_LINE_BYTES rest)) (sym same) ∙ take-append-drop (length line) (take MOST_LINE_BYTES rest) in
+    no_line_open line (drop (length line) (take MOST_LINE_BYTES rest)) whole (subst IsOpenFrameLine (sym joins) long.starts)
 
 -- what breaks within the bound isn't too long
 pub break_not_long : (rest : List ℕ) (i : ℕ) → FrameLineBreaks rest i → FrameLineTooLong rest → ⊥
-break_not_long rest i breaks long = split (cases_lt i 4096)
+break_not_long rest i breaks long = split (cases_lt i MOST_LINE_BYTES)
   where
-    last : i ≡ 4096 → ((1 ≤ i) × (length rest ≡ i)) ⊎ ((i < length rest) × (IsFrameLinePrefix (take (i + 1) rest) → ⊥)) → ⊥
+    last : i ≡ MOST_LINE_BYTES → ((1 ≤ i) × (length rest ≡ i)) ⊎ ((i < length rest) × (IsFrameLinePrefix (take (i + 1) rest) → ⊥)) → ⊥
     last at (inl ends) = omega (arith, ends.1, long.longer)
     last at (inr goes) =
         goes.1
-        (subst IsFrameLinePrefix (sym (ap (λ n. take (n + 1) rest) at ∙ take_more rest 4096 0 long.longer))
-        (open_more (get_or rest 4096 0) (take 4096 rest) long.starts (omega (arith, length-take-le 4096 rest (omega (arith, long.longer))))))
+        (subst IsFrameLinePrefix (sym (ap (λ n. take (n + 1) rest) at ∙ take_more rest MOST_LINE_BYTES 0 long.longer))
+        (open_more (get_or rest MOST_LINE_BYTES 0) (take MOST_LINE_BYTES rest) long.starts (omega (arith, length-take-le MOST_LINE_BYTES rest (omega (arith, long.longer))))))
 
-    split : (i < 4096) ⊎ (4096 ≤ i) → ⊥
-    split (inl less) = break_first rest i 4096 breaks long.starts (omega (arith, long.longer)) less
+    split : (i < MOST_LINE_BYTES) ⊎ (MOST_LINE_BYTES ≤ i) → ⊥
+    split (inl less) = break_first rest i MOST_LINE_BYTES breaks long.starts (omega (arith, long.longer)) less
     split (inr more) = last (omega (arith, breaks.early)) breaks.here
 
 -- planes that break off are no whole ones

@@ -5,6 +5,7 @@ use Rattle.std.specs.declared.alloc.Global.{Global}
 use Rattle.std.proofs.lemmas.List.{length-append}
 use Rattle.std.proofs.Math.Nat.{mul-suc, add-div_left}
 use Rattle.std.proofs.lemmas.Bool.{eqb-true}
+use Rattle.limits.specs.declared.bounds.TheConstants.{MOST_LINE_BYTES}
 use Rattle.shelf_core.specs.Files.{ShelfState, OnlyReads, content_of}
 use Rattle.shelf_core.specs.declared.fault.ReadError.{ReadError}
 use Rattle.shelf_core.specs.declared.fault.ReadError.TheVariants.{ReadFault, Bad, Limit, NoMemory}
@@ -48,7 +49,7 @@ frame_refused kind w h start most name count at cells planes (Bad (Form place)) 
     (λ files so_far breaks. record { count = count; at = at; cells = cells; seen = so_far; holds = (few, breaks.0, breaks.1, subst (λ n. FrameLineBreaks (drop at (content_of files name)) breaks.0 ⊎ PlanesBreak n (drop at (content_of files name)) breaks.0) whole breaks.2) })
     first second seen frame
 frame_refused kind w h start most name count at cells planes (Limit Header number bound) a b c first second few whole seen frame =
-    sees_then (λ files. FramesSeen kind w h start (content_of files name) count at cells) (λ files. FrameLineTooLong (drop at (content_of files name)) × (number ≡ 4097) × (bound ≡ 4096)) _ a b c
+    sees_then (λ files. FramesSeen kind w h start (content_of files name) count at cells) (λ files. FrameLineTooLong (drop at (content_of files name)) × (number ≡ MOST_LINE_BYTES + 1) × (bound ≡ MOST_LINE_BYTES)) _ a b c
     (λ files so_far long. record { count = count; at = at; cells = cells; seen = so_far; holds = (few, long.0, long.1, long.2) }) first second seen frame
 frame_refused kind w h start most name count at cells planes (Bad Depth) a b c first second few whole seen frame = absurd frame
 frame_refused kind w h start most name count at cells planes (Bad Space) a b c first second few whole seen frame = absurd frame

@@ -3,6 +3,7 @@ use Rattle.std.proofs.Common.{◌≡◌, ℕ, ◌≤◌, ◌+◌, ◌*◌, List,
 use Rattle.std.specs.List.{AllByRecursion, flat_map}
 use Rattle.std.proofs.lemmas.List.{length-append, append-nil}
 use Rattle.std.proofs.lemmas.List.Concat.{flat_map-append}
+use Rattle.limits.specs.declared.bounds.TheConstants.{MOST_CELLS}
 use Rattle.y4m_clip.specs.declared.form.SpaceKind.{SpaceKind}
 use Rattle.y4m_clip.specs.declared.form.SpaceKind.TheVariants.{Mono, C444, C422, C411, C420}
 use Rattle.y4m_clip.specs.Spaces.{samples_of}
@@ -16,7 +17,7 @@ samples_few C422 = omega arith
 samples_few C411 = omega arith
 samples_few C420 = omega arith
 
-pub want_small : (kind : SpaceKind) (n : ℕ) → n ≤ 33554432 → samples_of kind * n ≤ 201326592
+pub want_small : (kind : SpaceKind) (n : ℕ) → n ≤ MOST_CELLS → samples_of kind * n ≤ 201326592
 want_small Mono n few = omega arith
 want_small C444 n few = omega arith
 want_small C422 n few = omega arith

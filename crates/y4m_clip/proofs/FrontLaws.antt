@@ -1,6 +1,7 @@
 -- From the tags of a line, as the reader takes them, to the front of the grammar or its refusal.
 use Rattle.std.proofs.Common.{◌≡◌, ℕ, ◌≤◌, ◌<◌, ◌*◌, ◌/◌, ◌%◌, ◌⊎◌, inl, inr, List, length, refl, sym, ap, ◌∙◌, subst, arith}
 use Rattle.std.specs.Prelude.{Err}
+use Rattle.limits.specs.declared.bounds.TheConstants.{GREATEST_AXIS, MOST_CELLS, MOST_LINE_BYTES, MOST_TAG_BYTES}
 use Rattle.shelf_core.specs.Files.{ShelfState, content_of}
 use Rattle.shelf_core.specs.declared.fault.ReadError.{ReadError}
 use Rattle.shelf_core.specs.declared.fault.ReadError.TheVariants.{ReadFault, Bad, Limit, NoMemory}
@@ -11,7 +12,8 @@ use Rattle.y4m_clip.specs.declared.form.SpaceKind.TheVariants.{Mono, C444, C422,
 use Rattle.y4m_clip.specs.declared.line.Line.{Line}
 use Rattle.y4m_clip.specs.declared.head.Front.{Front}
 use Rattle.y4m_clip.specs.Spaces.{cell_width, cell_height}
-use Rattle.y4m_clip.specs.Clips.{capped, pixels_w, pixels_h, cells_w, cells_h, carried, spaced, HasSpaceKind, IsWhole, Fronted}
+use Rattle.shelf_core.specs.Decimals.{capped}
+use Rattle.y4m_clip.specs.Clips.{pixels_w, pixels_h, cells_w, cells_h, carried, spaced, HasSpaceKind, IsWhole, Fronted}
 use Rattle.y4m_clip.specs.Refusals.{ShortLined, ShortSized, width_of, height_of, RefusesClip, ReadsClipAs}
 use Rattle.y4m_clip.specs.Reading.{AreTags, HasLine}
 use Rattle.y4m_clip.specs.Heads.{IsCellNumber, carried_number, HasFront, SizeRefused, TagsRefused, FrontAs}
@@ -22,46 +24,46 @@ use Rattle.y4m_clip.proofs.TagLaws.{tags_fit_line, width_positive, height_positi
 
 -- Numbers of cells as far as a u64 of pixels goes.
 
-small_w : (kind : SpaceKind) (p : ℕ) → capped p / cell_width kind ≤ 4096 → capped p / cell_width kind ≡ p / cell_width kind
+small_w : (kind : SpaceKind) (p : ℕ) → capped p / cell_width kind ≤ GREATEST_AXIS → capped p / cell_width kind ≡ p / cell_width kind
 small_w Mono p few = omega arith
 small_w C444 p few = omega arith
 small_w C422 p few = omega arith
 small_w C411 p few = omega arith
 small_w C420 p few = omega arith
 
-small_h : (kind : SpaceKind) (p : ℕ) → capped p / cell_height kind ≤ 4096 → capped p / cell_height kind ≡ p / cell_height kind
+small_h : (kind : SpaceKind) (p : ℕ) → capped p / cell_height kind ≤ GREATEST_AXIS → capped p / cell_height kind ≡ p / cell_height kind
 small_h Mono p few = omega arith
 small_h C444 p few = omega arith
 small_h C422 p few = omega arith
 small_h C411 p few = omega arith
 small_h C420 p few = omega arith
 
-great_w : (kind : SpaceKind) (p : ℕ) → 4096 < capped p / cell_width kind → 4096 < p / cell_width kind
+great_w : (kind : SpaceKind) (p : ℕ) → GREATEST_AXIS < capped p / cell_width kind → GREATEST_AXIS < p / cell_width kind
 great_w Mono p many = omega arith
 great_w C444 p many = omega arith
 great_w C422 p many = omega arith
 great_w C411 p many = omega arith
 great_w C420 p many = omega arith
 
-great_h : (kind : SpaceKind) (p : ℕ) → 4096 < capped p / cell_height kind → 4096 < p / cell_height kind
+great_h : (kind : SpaceKind) (p : ℕ) → GREATEST_AXIS < capped p / cell_height kind → GREATEST_AXIS < p / cell_height kind
 great_h Mono p many = omega arith
 great_h C444 p many = omega arith
 great_h C422 p many = omega arith
 great_h C411 p many = omega arith
 great_h C420 p many = omega arith
 
-pub same_w : (kind : SpaceKind) (p w : ℕ) → IsCellNumber p (cell_width kind) w → w ≤ 4096 → w ≡ p / cell_width kind
-same_w kind p w is few = is.number_is ∙ small_w kind p (subst (λ n. n ≤ 4096) is.number_is few)
+pub same_w : (kind : SpaceKind) (p w : ℕ) → IsCellNumber p (cell_width kind) w → w ≤ GREATEST_AXIS → w ≡ p / cell_width kind
+same_w kind p w is few = is.number_is ∙ small_w kind p (subst (λ n. n ≤ GREATEST_AXIS) is.number_is few)
 
-pub same_h : (kind : SpaceKind) (p h : ℕ) → IsCellNumber p (cell_height kind) h → h ≤ 4096 → h ≡ p / cell_height kind
-same_h kind p h is few = is.number_is ∙ small_h kind p (subst (λ n. n ≤ 4096) is.number_is few)
+pub same_h : (kind : SpaceKind) (p h : ℕ) → IsCellNumber p (cell_height kind) h → h ≤ GREATEST_AXIS → h ≡ p / cell_height kind
+same_h kind p h is few = is.number_is ∙ small_h kind p (subst (λ n. n ≤ GREATEST_AXIS) is.number_is few)
 
 -- The carried tags of a short line.
 
-carried_small : (bytes : List ℕ) → (short : ShortLined bytes) → length (spaced (carried short.lined.tags)) ≤ 4096
+carried_small : (bytes : List ℕ) → (short : ShortLined bytes) → length (spaced (carried short.lined.tags)) ≤ MOST_LINE_BYTES
 carried_small bytes short = omega (arith, tags_fit_line short.lined.line short.lined.tags short.lined.is_line, short.short)
 
-pub tags_fit : (bytes : List ℕ) → (short : ShortLined bytes) → carried_number short.lined.tags ≤ 4000 → length (spaced (carried short.lined.tags)) ≤ 4000
+pub tags_fit : (bytes : List ℕ) → (short : ShortLined bytes) → carried_number short.lined.tags ≤ MOST_TAG_BYTES → length (spaced (carried short.lined.tags)) ≤ MOST_TAG_BYTES
 tags_fit bytes short fits = omega (arith, carried_small bytes short, fits)
 
 -- The sized line.
@@ -79,13 +81,13 @@ size_refused bytes most (Limit Axis number bound) short refused = (
   refused.exceeds.1,
 )
   where
-    by : ((4096 < refused.w) × (number ≡ refused.w)) ⊎ ((refused.w ≤ 4096) × (4096 < refused.h) × (number ≡ refused.h))
-        → ((4096 < cells_w short.lined.tags refused.kind) × (number ≡ capped (pixels_w short.lined.tags) / cell_width refused.kind))
-        ⊎ ((cells_w short.lined.tags refused.kind ≤ 4096) × (4096 < cells_h short.lined.tags refused.kind) × (number ≡ capped (pixels_h short.lined.tags) / cell_height refused.kind))
-    by (inl wide) = inl (great_w refused.kind (pixels_w short.lined.tags) (subst (λ n. 4096 < n) refused.cells.width.number_is wide.0), wide.1 ∙ refused.cells.width.number_is)
+    by : ((GREATEST_AXIS < refused.w) × (number ≡ refused.w)) ⊎ ((refused.w ≤ GREATEST_AXIS) × (GREATEST_AXIS < refused.h) × (number ≡ refused.h))
+        → ((GREATEST_AXIS < cells_w short.lined.tags refused.kind) × (number ≡ capped (pixels_w short.lined.tags) / cell_width refused.kind))
+        ⊎ ((cells_w short.lined.tags refused.kind ≤ GREATEST_AXIS) × (GREATEST_AXIS < cells_h short.lined.tags refused.kind) × (number ≡ capped (pixels_h short.lined.tags) / cell_height refused.kind))
+    by (inl wide) = inl (great_w refused.kind (pixels_w short.lined.tags) (subst (λ n. GREATEST_AXIS < n) refused.cells.width.number_is wide.0), wide.1 ∙ refused.cells.width.number_is)
     by (inr high) = inr (
-      subst (λ n. n ≤ 4096) (same_w refused.kind (pixels_w short.lined.tags) refused.w refused.cells.width high.0) high.0,
-      great_h refused.kind (pixels_h short.lined.tags) (subst (λ n. 4096 < n) refused.cells.height.number_is high.1),
+      subst (λ n. n ≤ GREATEST_AXIS) (same_w refused.kind (pixels_w short.lined.tags) refused.w refused.cells.width high.0) high.0,
+      great_h refused.kind (pixels_h short.lined.tags) (subst (λ n. GREATEST_AXIS < n) refused.cells.height.number_is high.1),
       high.2 ∙ refused.cells.height.number_is,
     )
 size_refused bytes most (Limit CellsLimit number bound) short refused =
@@ -94,8 +96,8 @@ size_refused bytes most (Limit CellsLimit number bound) short refused =
       inl record {
         short = sized_of bytes short refused.kind refused.cells.is_kind (refused.cells.width.whole, refused.cells.height.whole);
         tags_fit = tags_fit bytes short refused.tags_fit;
-        width_fits = subst (λ n. n ≤ 4096) w refused.exceeds.0;
-        height_fits = subst (λ n. n ≤ 4096) h refused.exceeds.1;
+        width_fits = subst (λ n. n ≤ GREATEST_AXIS) w refused.exceeds.0;
+        height_fits = subst (λ n. n ≤ GREATEST_AXIS) h refused.exceeds.1;
         passes = refused.exceeds.2;
         number_is = refused.exceeds.3 ∙ (λ i. w i * h i);
       },
@@ -179,9 +181,9 @@ front_seen bytes line most front has is =
         };
         fits = record {
           line_fits = short.short;
-          tags_fit = tags_fit bytes short (subst (λ tags. carried_number tags ≤ 4000) has.tags_are is.tags_fit);
-          width_fits = subst (λ n. n ≤ 4096) (sym is.size.width_is ∙ w) is.size.width;
-          height_fits = subst (λ n. n ≤ 4096) (sym is.size.height_is ∙ h) is.size.height;
+          tags_fit = tags_fit bytes short (subst (λ tags. carried_number tags ≤ MOST_TAG_BYTES) has.tags_are is.tags_fit);
+          width_fits = subst (λ n. n ≤ GREATEST_AXIS) (sym is.size.width_is ∙ w) is.size.width;
+          height_fits = subst (λ n. n ≤ GREATEST_AXIS) (sym is.size.height_is ∙ h) is.size.height;
           cells_fit = subst (λ n. n ≤ most) (λ i. (sym is.size.width_is ∙ w) i * (sym is.size.height_is ∙ h) i) is.size.cells;
         };
       };
@@ -207,14 +209,14 @@ some_h C411 p some whole = omega arith
 some_h C420 p some whole = omega arith
 
 -- a front that was made of a line can be read on
-pub sound_front : (line : Line) (most : ℕ) (front : Front) → most ≤ 33554432 → line.length ≤ 4096 → AreTags line.tags → HasFront line most front → IsSoundFront front most
+pub sound_front : (line : Line) (most : ℕ) (front : Front) → most ≤ MOST_CELLS → line.length ≤ MOST_LINE_BYTES → AreTags line.tags → HasFront line most front → IsSoundFront front most
 sound_front line most front few short tags is = record {
   w_some = subst (λ n. 1 ≤ n) (sym (is.size.width_is ∙ is.cells.width.number_is)) (some_w front.form.space (pixels_w line.tags) (width_positive tags.0 line.tags tags.1) is.cells.width.whole);
   h_some = subst (λ n. 1 ≤ n) (sym (is.size.height_is ∙ is.cells.height.number_is)) (some_h front.form.space (pixels_h line.tags) (height_positive tags.0 line.tags tags.1) is.cells.height.whole);
-  w_fits = subst (λ n. n ≤ 4096) (sym is.size.width_is) is.size.width;
-  h_fits = subst (λ n. n ≤ 4096) (sym is.size.height_is) is.size.height;
+  w_fits = subst (λ n. n ≤ GREATEST_AXIS) (sym is.size.width_is) is.size.width;
+  h_fits = subst (λ n. n ≤ GREATEST_AXIS) (sym is.size.height_is) is.size.height;
   cells = subst (λ n. n ≤ most) (λ i. sym is.size.width_is i * sym is.size.height_is i) is.size.cells;
-  start = subst (λ n. n ≤ 4096) (sym is.start_is) short;
+  start = subst (λ n. n ≤ MOST_LINE_BYTES) (sym is.start_is) short;
   most_fits = few;
   form = form_of_line front.form tags.0 line.tags tags.1 is.tags_are is.cells.is_kind (omega (arith, is.tags_fit));
 }

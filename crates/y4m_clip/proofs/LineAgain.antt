@@ -5,14 +5,16 @@ use Rattle.std.specs.List.{AllByRecursion, list_any}
 use Rattle.std.proofs.lemmas.Bool.{ltb-false}
 use Rattle.std.proofs.lemmas.List.{length-append}
 use Rattle.std.proofs.lemmas.Fmt.{decimal_by_steps, length-decimal-le}
+use Rattle.limits.specs.declared.bounds.TheConstants.{GREATEST_AXIS, MOST_LINE_BYTES, MOST_TAG_BYTES}
 use Rattle.cells.specs.declared.place.Size.{Size}
 use Rattle.cells.specs.Places.{HasAxes}
 use Rattle.y4m_clip.specs.declared.form.ClipForm.{ClipForm}
 use Rattle.y4m_clip.specs.declared.form.SpaceKind.{SpaceKind}
 use Rattle.y4m_clip.specs.declared.form.SpaceKind.TheVariants.{Mono, C444, C422, C411, C420}
-use Rattle.y4m_clip.specs.StreamLine.{IsDigit, IsCount, is_axis, has_stood, again, may_stand, has_axes, Continues, IsStreamLine}
+use Rattle.shelf_core.specs.Decimals.{IsDigit, value_behind}
+use Rattle.y4m_clip.specs.StreamLine.{IsCount, is_axis, has_stood, again, may_stand, has_axes, Continues, IsStreamLine}
 use Rattle.y4m_clip.specs.Spaces.{cell_width, cell_height}
-use Rattle.y4m_clip.specs.Clips.{value_behind, pixels_w, pixels_h, cells_w, cells_h, carried, spaced, IsWhole}
+use Rattle.y4m_clip.specs.Clips.{pixels_w, pixels_h, cells_w, cells_h, carried, spaced, IsWhole}
 use Rattle.y4m_clip.specs.Writing.{IsForm, line_form}
 use Rattle.y4m_clip.proofs.Numbers.{value-push}
 use Rattle.y4m_clip.proofs.FramesLaws.{all-push}
@@ -65,14 +67,14 @@ pub record IsSide (cell n : ℕ) : Type 0 where
   pub whole : cell * n % cell ≡ 0
   pub cells : cell * n / cell ≡ n
 
-pub width_side : (kind : SpaceKind) (n : ℕ) → 1 ≤ n → n ≤ 4096 → IsSide (cell_width kind) n
+pub width_side : (kind : SpaceKind) (n : ℕ) → 1 ≤ n → n ≤ GREATEST_AXIS → IsSide (cell_width kind) n
 width_side Mono n some few = record { some = omega arith; small = omega arith; whole = omega arith; cells = omega arith }
 width_side C444 n some few = record { some = omega arith; small = omega arith; whole = omega arith; cells = omega arith }
 width_side C422 n some few = record { some = omega arith; small = omega arith; whole = omega arith; cells = omega arith }
 width_side C411 n some few = record { some = omega arith; small = omega arith; whole = omega arith; cells = omega arith }
 width_side C420 n some few = record { some = omega arith; small = omega arith; whole = omega arith; cells = omega arith }
 
-pub height_side : (kind : SpaceKind) (n : ℕ) → 1 ≤ n → n ≤ 4096 → IsSide (cell_height kind) n
+pub height_side : (kind : SpaceKind) (n : ℕ) → 1 ≤ n → n ≤ GREATEST_AXIS → IsSide (cell_height kind) n
 height_side Mono n some few = record { some = omega arith; small = omega arith; whole = omega arith; cells = omega arith }
 height_side C444 n some few = record { some = omega arith; small = omega arith; whole = omega arith; cells = omega arith }
 height_side C422 n some few = record { some = omega arith; small = omega arith; whole = omega arith; cells = omega arith }
@@ -145,9 +147,9 @@ pub record Says (form : ClipForm) (size : Size) : Type 0 where
   pub w : cells_w (line_tags form size) form.space ≡ size.w
   pub h : cells_h (line_tags form size) form.space ≡ size.h
   pub tags : form.tags ≡ carried (line_tags form size)
-  pub short : length (line_form form size) ≤ 4096
+  pub short : length (line_form form size) ≤ MOST_LINE_BYTES
 
-length-line : (a b s : List ℕ) → length a ≤ 5 → length b ≤ 5 → length s ≤ 4000 → length (codes "YUV4MPEG2 W" ++ a ++ codes " H" ++ b ++ s ++ codes "\n") ≤ 4096
+length-line : (a b s : List ℕ) → length a ≤ 5 → length b ≤ 5 → length s ≤ MOST_TAG_BYTES → length (codes "YUV4MPEG2 W" ++ a ++ codes " H" ++ b ++ s ++ codes "\n") ≤ MOST_LINE_BYTES
 length-line a b s la lb ls =
     omega (
       arith,

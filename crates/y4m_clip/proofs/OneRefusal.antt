@@ -4,6 +4,7 @@ use Rattle.std.specs.Prelude.{nat_lt, ◌&&◌, if◌then◌else◌, Result, Ok,
 use Rattle.std.proofs.lemmas.Bool.{cases_lt, cases_Bool, and_parts, and_from, eqb-true, eq-eqb, ne_eqb, lt-ltb, le-ltb}
 use Rattle.std.proofs.lemmas.List.{length-append, append-nil, take-append-drop, take-take, length-take-le}
 use Rattle.std.proofs.Math.Seq.{take-append_seam}
+use Rattle.limits.specs.declared.bounds.TheConstants.{GREATEST_AXIS, MOST_LINE_BYTES, MOST_TAG_BYTES}
 use Rattle.shelf_core.specs.declared.fault.ReadError.{ReadError}
 use Rattle.shelf_core.specs.declared.fault.ReadError.TheVariants.{ReadFault, Bad, Limit, NoMemory}
 use Rattle.shelf_core.specs.declared.fault.FormFault.TheVariants.{Form, Depth, Space, Cell, NoFrames, Sample, Trailing}
@@ -12,7 +13,8 @@ use Rattle.y4m_clip.specs.declared.form.SpaceKind.{SpaceKind}
 use Rattle.y4m_clip.specs.declared.form.Clip.{Clip}
 use Rattle.y4m_clip.specs.StreamLine.{IsStreamLine, IsLinePrefix, IsProperLinePrefix}
 use Rattle.y4m_clip.specs.Spaces.{GivesSpace, cell_width, cell_height}
-use Rattle.y4m_clip.specs.Clips.{tag_value, carried, spaced, Lined, HasSpaceKind, IsWhole, pixels_w, pixels_h, cells_w, cells_h, capped, LineFits, Fronted}
+use Rattle.shelf_core.specs.Decimals.{capped}
+use Rattle.y4m_clip.specs.Clips.{tag_value, carried, spaced, Lined, HasSpaceKind, IsWhole, pixels_w, pixels_h, cells_w, cells_h, LineFits, Fronted}
 use Rattle.y4m_clip.specs.Refusals.{LineBreaks, LineTooLong, ShortLined, KindLined, ShortSized, SizePasses, width_of, height_of, bound_of, RefusesClip, IsReadClip}
 use Rattle.y4m_clip.specs.Reading.{line_limit}
 use Rattle.y4m_clip.proofs.FileLines.{no_longer, shorter_prefix}
@@ -37,7 +39,7 @@ one_break bytes i j a b =
     (λ ge. ⊎_elim (λ more. absurd (not_before bytes j i b a.before.starts a.inside more)) (λ le. omega arith) (cases_lt j i)) (cases_lt i j)
 
 break_not_long : (bytes : List ℕ) (i : ℕ) → LineBreaks bytes i → LineTooLong bytes → ⊥
-break_not_long bytes i breaks long = not_before bytes i 4097 breaks long.lawful (omega (arith, long.longer)) (omega (arith, breaks.early))
+break_not_long bytes i breaks long = not_before bytes i (GREATEST_AXIS + 1) breaks long.lawful (omega (arith, long.longer)) (omega (arith, breaks.early))
 
 line_front : {bytes : List ℕ} (lined : Lined bytes) → take (length lined.line) bytes ≡ lined.line
 line_front lined = ap (take (length lined.line)) lined.is ∙ take-append_seam lined.line lined.rest
@@ -65,15 +67,15 @@ break_not_lined bytes i lined breaks =
     whole = record { rest = []; tags = lined.tags; line = subst (λ t. IsStreamLine t lined.tags) (sym (line_front lined) ∙ sym (append-nil (take (length lined.line) bytes))) lined.is_line }
 
 long_not_short : (bytes : List ℕ) → LineTooLong bytes → ShortLined bytes → ⊥
-long_not_short bytes long short = no_line_inside short.lined 4096 short.short (omega (arith, long.longer)) long.starts
+long_not_short bytes long short = no_line_inside short.lined MOST_LINE_BYTES short.short (omega (arith, long.longer)) long.starts
 
 -- The tags of a line with a colour kind: whole cells, and then the limits.
 
 abbrev limits_of : ℕ → List (List ℕ) → SpaceKind → Result (Unit {0}) ReadError
 limits_of most tags kind =
-    if nat_lt 4000 (length (spaced (carried tags))) then Err (Limit Header (length (spaced (carried tags))) 4000)
-    else if nat_lt 4096 (cells_w tags kind) then Err (Limit Axis (capped (pixels_w tags) / cell_width kind) 4096)
-    else if nat_lt 4096 (cells_h tags kind) then Err (Limit Axis (capped (pixels_h tags) / cell_height kind) 4096)
+    if nat_lt MOST_TAG_BYTES (length (spaced (carried tags))) then Err (Limit Header (length (spaced (carried tags))) MOST_TAG_BYTES)
+    else if nat_lt GREATEST_AXIS (cells_w tags kind) then Err (Limit Axis (capped (pixels_w tags) / cell_width kind) GREATEST_AXIS)
+    else if nat_lt GREATEST_AXIS (cells_h tags kind) then Err (Limit Axis (capped (pixels_h tags) / cell_height kind) GREATEST_AXIS)
     else if nat_lt most (cells_w tags kind * cells_h tags kind) then Err (Limit CellsLimit (cells_w tags kind * cells_h tags kind) most)
     else Ok tt
 
@@ -103,23 +105,23 @@ if_not bound n x y z le rest = ap (λ t. cond t x y) (le-ltb bound n le) ∙ res
 if_so : {A : Type 0} (bound n : ℕ) (x y : A) → bound < n → cond (nat_lt bound n) x y ≡ x
 if_so bound n x y lt = ap (λ t. cond t x y) (lt-ltb bound n lt)
 
-axis_limit : (most : ℕ) (tags : List (List ℕ)) (kind : SpaceKind) (number : ℕ) → length (spaced (carried tags)) ≤ 4000 → SizePasses tags kind number → limits_of most tags kind ≡ Err (Limit Axis number 4096)
-axis_limit most tags kind number fits (inl wide) = if_not 4000 (length (spaced (carried tags))) _ _ _ fits (if_so 4096 (cells_w tags kind) _ _ wide.0 ∙ ap (λ n. Err (Limit Axis n 4096)) (sym wide.1))
+axis_limit : (most : ℕ) (tags : List (List ℕ)) (kind : SpaceKind) (number : ℕ) → length (spaced (carried tags)) ≤ MOST_TAG_BYTES → SizePasses tags kind number → limits_of most tags kind ≡ Err (Limit Axis number GREATEST_AXIS)
+axis_limit most tags kind number fits (inl wide) = if_not MOST_TAG_BYTES (length (spaced (carried tags))) _ _ _ fits (if_so GREATEST_AXIS (cells_w tags kind) _ _ wide.0 ∙ ap (λ n. Err (Limit Axis n GREATEST_AXIS)) (sym wide.1))
 axis_limit most tags kind number fits (inr high) =
-    if_not 4000 (length (spaced (carried tags))) _ _ _ fits
-    (if_not 4096 (cells_w tags kind) _ _ _ high.0 (if_so 4096 (cells_h tags kind) _ _ high.1 ∙ ap (λ n. Err (Limit Axis n 4096)) (sym high.2)))
+    if_not MOST_TAG_BYTES (length (spaced (carried tags))) _ _ _ fits
+    (if_not GREATEST_AXIS (cells_w tags kind) _ _ _ high.0 (if_so GREATEST_AXIS (cells_h tags kind) _ _ high.1 ∙ ap (λ n. Err (Limit Axis n GREATEST_AXIS)) (sym high.2)))
 
-cells_limit : (most : ℕ) (tags : List (List ℕ)) (kind : SpaceKind) → length (spaced (carried tags)) ≤ 4000 → cells_w tags kind ≤ 4096 → cells_h tags kind ≤ 4096 → most < cells_w tags kind * cells_h tags kind
+cells_limit : (most : ℕ) (tags : List (List ℕ)) (kind : SpaceKind) → length (spaced (carried tags)) ≤ MOST_TAG_BYTES → cells_w tags kind ≤ GREATEST_AXIS → cells_h tags kind ≤ GREATEST_AXIS → most < cells_w tags kind * cells_h tags kind
     → limits_of most tags kind ≡ Err (Limit CellsLimit (cells_w tags kind * cells_h tags kind) most)
 cells_limit most tags kind fits wide high many =
-    if_not 4000 (length (spaced (carried tags))) _ _ _ fits
-    (if_not 4096 (cells_w tags kind) _ _ _ wide (if_not 4096 (cells_h tags kind) _ _ _ high (if_so most (cells_w tags kind * cells_h tags kind) _ _ many)))
+    if_not MOST_TAG_BYTES (length (spaced (carried tags))) _ _ _ fits
+    (if_not GREATEST_AXIS (cells_w tags kind) _ _ _ wide (if_not GREATEST_AXIS (cells_h tags kind) _ _ _ high (if_so most (cells_w tags kind * cells_h tags kind) _ _ many)))
 
 no_limit : (most : ℕ) (line : List ℕ) (tags : List (List ℕ)) (kind : SpaceKind) → LineFits line tags kind most → limits_of most tags kind ≡ Ok tt
 no_limit most line tags kind fits =
-    if_not 4000 (length (spaced (carried tags))) _ _ _ fits.tags_fit
-    (if_not 4096 (cells_w tags kind) _ _ _ fits.width_fits
-    (if_not 4096 (cells_h tags kind) _ _ _ fits.height_fits (if_not most (cells_w tags kind * cells_h tags kind) _ _ _ fits.cells_fit refl)))
+    if_not MOST_TAG_BYTES (length (spaced (carried tags))) _ _ _ fits.tags_fit
+    (if_not GREATEST_AXIS (cells_w tags kind) _ _ _ fits.width_fits
+    (if_not GREATEST_AXIS (cells_h tags kind) _ _ _ fits.height_fits (if_not most (cells_w tags kind * cells_h tags kind) _ _ _ fits.cells_fit refl)))
 
 abbrev judged : {bytes : List ℕ} → ℕ → KindLined bytes → Result (Unit {0}) ReadError
 judged most lined = answer_of most lined.lined.lined.tags lined.kind
@@ -179,7 +181,7 @@ cause_of most bytes (Limit Header number bound) (inl long) = inr (inl (long.0, �
 cause_of most bytes (Limit Header number bound) (inr (inl tags)) =
     let short = tags.0.short in
     sized_cause most bytes (Limit Header number bound) short
-    (if_so 4000 (length (spaced (carried short.sized.lined.tags))) _ _ (omega (arith, tags.0.longer, tags.0.number_is)) ∙ (λ i. Err (Limit Header (sym tags.0.number_is i) (sym tags.1 i))))
+    (if_so MOST_TAG_BYTES (length (spaced (carried short.sized.lined.tags))) _ _ (omega (arith, tags.0.longer, tags.0.number_is)) ∙ (λ i. Err (Limit Header (sym tags.0.number_is i) (sym tags.1 i))))
 cause_of most bytes (Limit Header number bound) (inr (inr long)) =
     let b = long.0 in
     stop_cause most bytes (Limit Header number bound) b.front (record { rest = b.rest; count = b.count; framed = b.framed; stop = inr (inl (b.holds.0, b.holds.1, λ i. Limit Header (long.1 i) (long.2 i))) })
@@ -197,7 +199,7 @@ cause_of most bytes (Limit Axis number bound) (inr (b, is), at) =
       stop = inr (inr (inl (
         b.holds.0,
         b.holds.1,
-        (λ i. Limit Axis (is i) (at i)) ∙ sym (ap (λ t. cond t (Limit Axis 4097 4096) (Limit CellsLimit (width_of b.front * height_of b.front * (b.count + 1)) most)) (eq-eqb (bound_of b.front) 4096 b.holds.2)),
+        (λ i. Limit Axis (is i) (at i)) ∙ sym (ap (λ t. cond t (Limit Axis (GREATEST_AXIS + 1) GREATEST_AXIS) (Limit CellsLimit (width_of b.front * height_of b.front * (b.count + 1)) most)) (eq-eqb (bound_of b.front) GREATEST_AXIS b.holds.2)),
       )));
     })
 cause_of most bytes (Limit CellsLimit number bound) (inl size, at) =
@@ -214,7 +216,7 @@ cause_of most bytes (Limit CellsLimit number bound) (inr b, at) =
         b.holds.0,
         b.holds.1,
         (λ i. Limit CellsLimit (b.holds.3 i) (at i))
-            ∙ sym (ap (λ t. cond t (Limit Axis 4097 4096) (Limit CellsLimit (width_of b.front * height_of b.front * (b.count + 1)) most)) (ne_eqb (bound_of b.front) 4096 (λ same. omega (arith, b.holds.2, same)))),
+            ∙ sym (ap (λ t. cond t (Limit Axis (GREATEST_AXIS + 1) GREATEST_AXIS) (Limit CellsLimit (width_of b.front * height_of b.front * (b.count + 1)) most)) (ne_eqb (bound_of b.front) GREATEST_AXIS (λ same. omega (arith, b.holds.2, same)))),
       )));
     })
 cause_of most bytes (Bad NoFrames) (front, none) =

@@ -3,6 +3,7 @@ use Rattle.std.proofs.Common.{◌≡◌, ℕ, zero, suc, ◌≤◌, ◌<◌, ◌
 use Rattle.std.specs.List.{AllByRecursion}
 use Rattle.std.proofs.lemmas.Bool.{cases_lt}
 use Rattle.std.proofs.lemmas.List.{length-append, length-drop, append-nil}
+use Rattle.limits.specs.declared.bounds.TheConstants.{GREATEST_AXIS}
 use Rattle.shelf_core.specs.declared.fault.ReadError.{ReadError}
 use Rattle.shelf_core.specs.declared.fault.ReadError.TheVariants.{Bad, Limit}
 use Rattle.shelf_core.specs.declared.fault.FormFault.TheVariants.{Form, NoFrames}
@@ -87,7 +88,7 @@ one_end kind w h bound text rest rest' count count' a b ends ends' = record { re
 
 -- the refusal of a byte behind the greatest number of frames
 abbrev past : ℕ → ℕ → ℕ → ℕ → ReadError
-past w h most count = cond (eqb (most_frames w h most) 4096) (Limit Axis 4097 4096) (Limit CellsLimit (w * h * (count + 1)) most)
+past w h most count = cond (eqb (most_frames w h most) GREATEST_AXIS) (Limit Axis (GREATEST_AXIS + 1) GREATEST_AXIS) (Limit CellsLimit (w * h * (count + 1)) most)
 
 abbrev pub Stop : SpaceKind → ℕ → ℕ → ℕ → ℕ → List ℕ → ℕ → ReadError → Type 0
 Stop kind w h most total rest count e =

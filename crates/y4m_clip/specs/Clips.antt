@@ -2,10 +2,11 @@
 -- at which place. (YUV4MPEG2, with planes of 8 bits; the bounds are this project's own.)
 use Rattle.std.specs.Prelude.{◌≡◌, ◌≢◌, ◌≤◌, ◌⊎◌, ◌+◌, ◌-◌, ◌*◌, ◌/◌, ◌%◌, ℕ, ◌==◌, if◌then◌else◌, List, [], ◌∷◌, ◌++◌, length, take, drop, min, Option, Some, None, unwrap_or, codes}
 use Rattle.std.specs.List.{AllByRecursion, flat_map}
+use Rattle.shelf_core.specs.Decimals.{capped, value_behind}
 use Rattle.cells.specs.Cells.{volume_of}
 use Rattle.y4m_clip.specs.declared.form.SpaceKind.{SpaceKind}
 use Rattle.y4m_clip.specs.declared.form.Clip.{Clip}
-use Rattle.y4m_clip.specs.declared.bounds.TheConstants.{MOST_LINE, MOST_TAGS, MOST_ON_AXIS}
+use Rattle.limits.specs.declared.bounds.TheConstants.{GREATEST_AXIS, MOST_LINE_BYTES, MOST_TAG_BYTES}
 use Rattle.y4m_clip.specs.StreamLine.{is_axis, IsStreamLine}
 use Rattle.y4m_clip.specs.Spaces.{GivesSpace, GivesInterlace, cell_width, cell_height, samples_of, joined_to, cell_bytes}
 
@@ -16,11 +17,6 @@ abbrev pub tag_value : ℕ → List (List ℕ) → Option (List ℕ)
 tag_value letter [] = None
 tag_value letter ([] ∷ tags) = tag_value letter tags
 tag_value letter ((l ∷ value) ∷ tags) = if l == letter then Some value else tag_value letter tags
-
--- the value of decimal digits, the first of which counts most, behind those of a number so far
-abbrev pub value_behind : ℕ → List ℕ → ℕ
-value_behind n [] = n
-value_behind n (digit ∷ digits) = value_behind (10 * n + (digit - 48)) digits
 
 -- the number that the tag with a letter gives
 abbrev pub tag_number : ℕ → List (List ℕ) → ℕ
@@ -71,13 +67,6 @@ cells_w tags kind = pixels_w tags / cell_width kind
 abbrev pub cells_h : List (List ℕ) → SpaceKind → ℕ
 cells_h tags kind = pixels_h tags / cell_height kind
 
--- a number as far as a u64 goes
-abbrev pub greatest_number : ℕ
-greatest_number = 18446744073709551615
-
-abbrev pub capped : ℕ → ℕ
-capped n = min n greatest_number
-
 -- a stream line with a colour kind, and whole cells
 pub record Sized (bytes : List ℕ) : Type 0 where
   pub lined : Lined bytes
@@ -88,10 +77,10 @@ pub record Sized (bytes : List ℕ) : Type 0 where
 -- the bounds on the stream line, the carried tags, width and height, and on the cells of one frame
 pub record LineFits (line : List ℕ) (tags : List (List ℕ)) (kind : SpaceKind)
     (most : ℕ) : Type 0 where
-  pub line_fits : length line ≤ MOST_LINE
-  pub tags_fit : length (spaced (carried tags)) ≤ MOST_TAGS
-  pub width_fits : cells_w tags kind ≤ MOST_ON_AXIS
-  pub height_fits : cells_h tags kind ≤ MOST_ON_AXIS
+  pub line_fits : length line ≤ MOST_LINE_BYTES
+  pub tags_fit : length (spaced (carried tags)) ≤ MOST_TAG_BYTES
+  pub width_fits : cells_w tags kind ≤ GREATEST_AXIS
+  pub height_fits : cells_h tags kind ≤ GREATEST_AXIS
   pub cells_fit : cells_w tags kind * cells_h tags kind ≤ most
 
 pub record Fronted (bytes : List ℕ) (most : ℕ) : Type 0 where
@@ -160,7 +149,7 @@ pub record IsFrame (kind : SpaceKind) (w h : ℕ) (frame : Frame) : Type 0 where
   pub whole : length frame.planes ≡ plane_bytes kind w h
 
 abbrev pub IsShortFrame : Frame → Type 0
-IsShortFrame frame = length frame.line ≤ MOST_LINE
+IsShortFrame frame = length frame.line ≤ MOST_LINE_BYTES
 
 abbrev pub frames_text : List Frame → List ℕ
 frames_text frames = flat_map frame_text frames
@@ -189,4 +178,4 @@ pub record IsClipOf (bytes : List ℕ) (clip : Clip) : Type 0 where
 
 -- the greatest number of frames of w x h cells
 abbrev pub most_frames : ℕ → ℕ → ℕ → ℕ
-most_frames w h most = min MOST_ON_AXIS (most / (w * h))
+most_frames w h most = min GREATEST_AXIS (most / (w * h))

@@ -8,7 +8,7 @@ use Rattle.shelf_core.specs.declared.fault.ReadError.{ReadError}
 use Rattle.shelf_core.specs.declared.fault.ReadError.TheVariants.{ReadFault, Bad, Limit, NoMemory}
 use Rattle.shelf_core.specs.declared.fault.FormFault.TheVariants.{Form, NoFrames}
 use Rattle.shelf_core.specs.declared.fault.What.TheVariants.{Axis, Cells as CellsLimit, Header}
-use Rattle.y4m_clip.specs.declared.bounds.TheConstants.{MOST_LINE, MOST_ON_AXIS, MOST_OF_ALL}
+use Rattle.limits.specs.declared.bounds.TheConstants.{GREATEST_AXIS, MOST_CELLS, MOST_LINE_BYTES}
 use Rattle.y4m_clip.specs.declared.form.SpaceKind.{SpaceKind}
 use Rattle.y4m_clip.specs.declared.frame.FrameScan.{FrameScan}
 use Rattle.y4m_clip.specs.declared.frame.FrameScan.TheVariants.{Nothing, Open, Wrong, Whole}
@@ -50,15 +50,15 @@ IsFrameScanned text (Whole n) = (n ≤ length text) × IsFrameLine (take n text)
 abbrev pub frame_judged : ℕ → ℕ → FrameScan → Result (Option ℕ) ReadError
 frame_judged at count Nothing = Ok None
 frame_judged at count Open =
-    if nat_lt MOST_LINE count then Err line_limit else Err (Bad (Form (at + count)))
+    if nat_lt MOST_LINE_BYTES count then Err line_limit else Err (Bad (Form (at + count)))
 frame_judged at count (Wrong i) = Err (Bad (Form (at + i)))
-frame_judged at count (Whole n) = if nat_lt MOST_LINE n then Err line_limit else Ok (Some n)
+frame_judged at count (Whole n) = if nat_lt MOST_LINE_BYTES n then Err line_limit else Ok (Some n)
 
 -- a frame line of so many bytes
 pub record HasFrameLine (rest : List ℕ) (n : ℕ) : Type 0 where
   pub inside : n ≤ length rest
   pub is_line : IsFrameLine (take n rest)
-  pub short : n ≤ MOST_LINE
+  pub short : n ≤ MOST_LINE_BYTES
 
 -- what stands at a place of a file
 abbrev pub IsFrameFound : List ℕ → ℕ → Result (Option ℕ) ReadError → Type 0
@@ -66,7 +66,7 @@ IsFrameFound rest at (Ok None) = rest ≡ []
 IsFrameFound rest at (Ok (Some n)) = HasFrameLine rest n
 IsFrameFound rest at (Err (Bad (Form place))) = (i : ℕ) × (place ≡ at + i) × FrameLineBreaks rest i
 IsFrameFound rest at (Err (Limit Header number bound)) =
-    FrameLineTooLong rest × (number ≡ MOST_LINE + 1) × (bound ≡ MOST_LINE)
+    FrameLineTooLong rest × (number ≡ MOST_LINE_BYTES + 1) × (bound ≡ MOST_LINE_BYTES)
 IsFrameFound rest at (Err error) = ⊥
 
 abbrev pub FindsFrameAs : List ℕ → ℕ → ShelfState → ShelfState → Result (Option ℕ) ReadError
@@ -120,7 +120,7 @@ ReadsFrameAs kind w h name at planes was now (Err (Bad (Form place))) =
     × (FrameLineBreaks (drop at bytes) i ⊎ PlanesBreak (length planes) (drop at bytes) i))
 ReadsFrameAs kind w h name at planes was now (Err (Limit Header number bound)) =
     InFile name was now (λ bytes. FrameLineTooLong (drop at bytes)
-    × (number ≡ MOST_LINE + 1) × (bound ≡ MOST_LINE))
+    × (number ≡ MOST_LINE_BYTES + 1) × (bound ≡ MOST_LINE_BYTES))
 ReadsFrameAs kind w h name at planes was now (Err error) = ⊥
 
 -- the cells before a frame and after it
@@ -142,9 +142,9 @@ pub record FramesSeen (kind : SpaceKind) (w h start : ℕ) (bytes : List ℕ) (c
 -- a byte stands behind the greatest number of frames
 abbrev pub PassesFrames : ℕ → ℕ → ℕ → ℕ → ReadError → Type 0
 PassesFrames w h most count (Limit Axis number bound) =
-    (count ≡ MOST_ON_AXIS) × (number ≡ MOST_ON_AXIS + 1) × (bound ≡ MOST_ON_AXIS)
+    (count ≡ GREATEST_AXIS) × (number ≡ GREATEST_AXIS + 1) × (bound ≡ GREATEST_AXIS)
 PassesFrames w h most count (Limit CellsLimit number bound) =
-    (count < MOST_ON_AXIS) × (number ≡ w * h * (count + 1)) × (bound ≡ most)
+    (count < GREATEST_AXIS) × (number ≡ w * h * (count + 1)) × (bound ≡ most)
 PassesFrames w h most count error = ⊥
 
 -- after so many frames, a fact of their count, of the place behind them and of what stands there
@@ -173,7 +173,7 @@ FramesAs kind w h start most name was now (Err (Bad (Form place))) =
 FramesAs kind w h start most name was now (Err (Limit Header number bound)) =
     InFile name was now (λ bytes. After kind w h start bytes (λ count at rest.
     (count < most_frames w h most) × FrameLineTooLong rest
-    × (number ≡ MOST_LINE + 1) × (bound ≡ MOST_LINE)))
+    × (number ≡ MOST_LINE_BYTES + 1) × (bound ≡ MOST_LINE_BYTES)))
 FramesAs kind w h start most name was now (Err (Limit Axis number bound)) =
     InFile name was now (λ bytes. After kind w h start bytes (λ count at rest.
     (count ≡ most_frames w h most) × (1 ≤ length rest)
@@ -188,11 +188,11 @@ FramesAs kind w h start most name was now (Err error) = ⊥
 pub record IsSoundFront (front : Front) (most : ℕ) : Type 0 where
   pub w_some : 1 ≤ front.w
   pub h_some : 1 ≤ front.h
-  pub w_fits : front.w ≤ MOST_ON_AXIS
-  pub h_fits : front.h ≤ MOST_ON_AXIS
+  pub w_fits : front.w ≤ GREATEST_AXIS
+  pub h_fits : front.h ≤ GREATEST_AXIS
   pub cells : front.w * front.h ≤ most
-  pub start : front.start ≤ MOST_LINE
-  pub most_fits : most ≤ MOST_OF_ALL
+  pub start : front.start ≤ MOST_LINE_BYTES
+  pub most_fits : most ≤ MOST_CELLS
   pub form : IsForm front.form
 
 -- cells of one frame or more, as many as fit

@@ -4,13 +4,14 @@ use Rattle.shelf_core.specs.declared.fault.ReadError.{ReadError}
 use Rattle.shelf_core.specs.declared.fault.ReadError.TheVariants.{Bad, Limit, NoMemory}
 use Rattle.shelf_core.specs.declared.fault.FormFault.TheVariants.{Space, Cell}
 use Rattle.shelf_core.specs.declared.fault.What.TheVariants.{Axis, Cells as CellsLimit, Header}
-use Rattle.y4m_clip.specs.declared.bounds.TheConstants.{MOST_TAGS, MOST_ON_AXIS}
+use Rattle.limits.specs.declared.bounds.TheConstants.{GREATEST_AXIS, MOST_TAG_BYTES}
 use Rattle.y4m_clip.specs.declared.head.Count.{Count}
 use Rattle.y4m_clip.specs.declared.head.Front.{Front}
 use Rattle.y4m_clip.specs.declared.line.Line.{Line}
 use Rattle.y4m_clip.specs.declared.form.SpaceKind.{SpaceKind}
 use Rattle.y4m_clip.specs.Spaces.{cell_width, cell_height}
-use Rattle.y4m_clip.specs.Clips.{capped, carried, spaced, pixels_w, pixels_h, HasSpaceKind, IsWhole}
+use Rattle.shelf_core.specs.Decimals.{capped}
+use Rattle.y4m_clip.specs.Clips.{carried, spaced, pixels_w, pixels_h, HasSpaceKind, IsWhole}
 
 -- a number, as far as a u64 goes, and what is left of it after division by 4
 pub record IsCounted (n : ℕ) (count : Count) : Type 0 where
@@ -25,15 +26,15 @@ pub record IsCellNumber (pixels cell number : ℕ) : Type 0 where
 -- width and height in cells within their limits, or the first that is passed
 abbrev pub SizeExceeds : ℕ → ℕ → ℕ → ReadError → Type 0
 SizeExceeds w h most (Limit Axis number bound) =
-    (((MOST_ON_AXIS < w) × (number ≡ w))
-    ⊎ ((w ≤ MOST_ON_AXIS) × (MOST_ON_AXIS < h) × (number ≡ h))) × (bound ≡ MOST_ON_AXIS)
+    (((GREATEST_AXIS < w) × (number ≡ w))
+    ⊎ ((w ≤ GREATEST_AXIS) × (GREATEST_AXIS < h) × (number ≡ h))) × (bound ≡ GREATEST_AXIS)
 SizeExceeds w h most (Limit CellsLimit number bound) =
-    (w ≤ MOST_ON_AXIS) × (h ≤ MOST_ON_AXIS) × (most < number) × (number ≡ w * h) × (bound ≡ most)
+    (w ≤ GREATEST_AXIS) × (h ≤ GREATEST_AXIS) × (most < number) × (number ≡ w * h) × (bound ≡ most)
 SizeExceeds w h most error = ⊥
 
 pub record SizeFits (w h most : ℕ) (size : ℕ × ℕ) : Type 0 where
-  pub width : w ≤ MOST_ON_AXIS
-  pub height : h ≤ MOST_ON_AXIS
+  pub width : w ≤ GREATEST_AXIS
+  pub height : h ≤ GREATEST_AXIS
   pub cells : w * h ≤ most
   pub width_is : size.0 ≡ w
   pub height_is : size.1 ≡ h
@@ -57,7 +58,7 @@ pub record HasFront (line : Line) (most : ℕ) (front : Front) : Type 0 where
   pub w : ℕ
   pub h : ℕ
   pub cells : HasWholeCells line.tags front.form.space w h
-  pub tags_fit : carried_number line.tags ≤ MOST_TAGS
+  pub tags_fit : carried_number line.tags ≤ MOST_TAG_BYTES
   pub size : SizeFits w h most (front.w, front.h)
   pub tags_are : front.form.tags ≡ carried line.tags
   pub start_is : front.start ≡ line.length
@@ -68,7 +69,7 @@ pub record SizeRefused (tags : List (List ℕ)) (most : ℕ) (error : ReadError)
   pub w : ℕ
   pub h : ℕ
   pub cells : HasWholeCells tags kind w h
-  pub tags_fit : carried_number tags ≤ MOST_TAGS
+  pub tags_fit : carried_number tags ≤ MOST_TAG_BYTES
   pub exceeds : SizeExceeds w h most error
 
 -- whole cells, and too many carried tags
@@ -77,8 +78,8 @@ pub record TagsRefused (tags : List (List ℕ)) (number bound : ℕ) : Type 0 wh
   pub is_kind : HasSpaceKind tags kind
   pub whole : IsWhole tags kind
   pub number_is : number ≡ carried_number tags
-  pub longer : MOST_TAGS < number
-  pub bound_is : bound ≡ MOST_TAGS
+  pub longer : MOST_TAG_BYTES < number
+  pub bound_is : bound ≡ MOST_TAG_BYTES
 
 -- the front of a line, or a refusal of it, which says that those tried before it don't stand
 abbrev pub FrontAs : Line → ℕ → Result Front ReadError → Type 0

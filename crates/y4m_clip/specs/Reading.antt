@@ -6,7 +6,7 @@ use Rattle.shelf_core.specs.declared.fault.ReadError.{ReadError}
 use Rattle.shelf_core.specs.declared.fault.ReadError.TheVariants.{ReadFault, Bad, Limit, NoMemory}
 use Rattle.shelf_core.specs.declared.fault.FormFault.TheVariants.{Form}
 use Rattle.shelf_core.specs.declared.fault.What.TheVariants.{Header}
-use Rattle.y4m_clip.specs.declared.bounds.TheConstants.{MOST_LINE}
+use Rattle.limits.specs.declared.bounds.TheConstants.{MOST_LINE_BYTES}
 use Rattle.y4m_clip.specs.declared.scan.LineKind.{LineKind}
 use Rattle.y4m_clip.specs.declared.scan.LineKind.TheVariants.{Blank, LineEnd, Ink}
 use Rattle.y4m_clip.specs.declared.scan.ScannedLine.{ScannedLine}
@@ -83,32 +83,32 @@ LinesAs name was now (Err ReadFault) = ReadsRose name was now
 LinesAs name was now (Err NoMemory) = Unit {0}
 LinesAs name was now (Err (Bad (Form at))) = InFile name was now (λ bytes. LineBreaks bytes at)
 LinesAs name was now (Err (Limit Header number bound)) =
-    InFile name was now (λ bytes. LineTooLong bytes × (number ≡ MOST_LINE + 1)
-    × (bound ≡ MOST_LINE))
+    InFile name was now (λ bytes. LineTooLong bytes × (number ≡ MOST_LINE_BYTES + 1)
+    × (bound ≡ MOST_LINE_BYTES))
 LinesAs name was now (Err error) = ⊥
 
 -- the refusal of a stream line that is too long
 abbrev pub line_limit : ReadError
-line_limit = Limit Header (MOST_LINE + 1) MOST_LINE
+line_limit = Limit Header (MOST_LINE_BYTES + 1) MOST_LINE_BYTES
 
 -- the answer of a stream line, by what the scanner makes of the file's first bytes: as many as a line
 -- may have and one more, or all
 abbrev pub line_judged : ℕ → ScannedLine → Result ℕ ReadError
 line_judged count Open =
-    if nat_lt MOST_LINE count then Err line_limit else Err (Bad (Form count))
+    if nat_lt MOST_LINE_BYTES count then Err line_limit else Err (Bad (Form count))
 line_judged count (Broken i) = Err (Bad (Form i))
-line_judged count (Ended n) = if nat_lt MOST_LINE n then Err line_limit else Ok n
+line_judged count (Ended n) = if nat_lt MOST_LINE_BYTES n then Err line_limit else Ok n
 
 -- a stream line of so many bytes, within their bound
 abbrev pub HasShortLine : List ℕ → ℕ → Type 0
-HasShortLine bytes n = EndsAfter bytes n × (n ≤ MOST_LINE)
+HasShortLine bytes n = EndsAfter bytes n × (n ≤ MOST_LINE_BYTES)
 
 -- the length of the stream line of a file was found, or the line is refused
 abbrev pub IsLineFound : List ℕ → Result ℕ ReadError → Type 0
 IsLineFound bytes (Ok n) = HasShortLine bytes n
 IsLineFound bytes (Err (Bad (Form at))) = LineBreaks bytes at
 IsLineFound bytes (Err (Limit Header number bound)) =
-    LineTooLong bytes × (number ≡ MOST_LINE + 1) × (bound ≡ MOST_LINE)
+    LineTooLong bytes × (number ≡ MOST_LINE_BYTES + 1) × (bound ≡ MOST_LINE_BYTES)
 IsLineFound bytes (Err error) = ⊥
 
 -- the same for the file as a shelf holds it

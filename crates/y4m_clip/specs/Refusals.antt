@@ -10,17 +10,18 @@ use Rattle.shelf_core.specs.declared.fault.FormFault.TheVariants.{Form, Space, C
 use Rattle.shelf_core.specs.declared.fault.What.TheVariants.{Axis, Cells as CellsLimit, Header}
 use Rattle.y4m_clip.specs.declared.form.SpaceKind.{SpaceKind}
 use Rattle.y4m_clip.specs.declared.form.Clip.{Clip}
-use Rattle.y4m_clip.specs.declared.bounds.TheConstants.{MOST_LINE, MOST_TAGS, MOST_ON_AXIS}
+use Rattle.limits.specs.declared.bounds.TheConstants.{GREATEST_AXIS, MOST_LINE_BYTES, MOST_TAG_BYTES}
 use Rattle.y4m_clip.specs.StreamLine.{IsLinePrefix, IsProperLinePrefix}
 use Rattle.y4m_clip.specs.Spaces.{cell_width, cell_height, samples_of}
-use Rattle.y4m_clip.specs.Clips.{carried, spaced, pixels_w, pixels_h, Lined, HasSpaceKind, IsWhole, Sized, LineFits, Fronted, cells_w, cells_h, capped, IsOpenFrameLine, IsFrameLine, IsFrameLinePrefix, Frame, IsFrame, IsShortFrame, frames_text, plane_bytes, IsClipOf, most_frames}
+use Rattle.shelf_core.specs.Decimals.{capped}
+use Rattle.y4m_clip.specs.Clips.{carried, spaced, pixels_w, pixels_h, Lined, HasSpaceKind, IsWhole, Sized, LineFits, Fronted, cells_w, cells_h, IsOpenFrameLine, IsFrameLine, IsFrameLinePrefix, Frame, IsFrame, IsShortFrame, frames_text, plane_bytes, IsClipOf, most_frames}
 use Rattle.y4m_clip.specs.Writing.{IsForm}
 
 -- The stream line.
 
 -- the stream line breaks off or goes wrong at a place before it is too long
 pub record LineBreaks (bytes : List ℕ) (at : ℕ) : Type 0 where
-  pub early : at ≤ MOST_LINE
+  pub early : at ≤ MOST_LINE_BYTES
   pub inside : at ≤ length bytes
   pub before : IsProperLinePrefix (take at bytes)
   pub here : (length bytes ≡ at)
@@ -29,14 +30,14 @@ pub record LineBreaks (bytes : List ℕ) (at : ℕ) : Type 0 where
 -- the stream line is too long: the most bytes of one are a proper prefix of one, and the byte that
 -- follows could still be one of it
 pub record LineTooLong (bytes : List ℕ) : Type 0 where
-  pub longer : MOST_LINE < length bytes
-  pub starts : IsProperLinePrefix (take MOST_LINE bytes)
-  pub lawful : IsLinePrefix (take (MOST_LINE + 1) bytes)
+  pub longer : MOST_LINE_BYTES < length bytes
+  pub starts : IsProperLinePrefix (take MOST_LINE_BYTES bytes)
+  pub lawful : IsLinePrefix (take (MOST_LINE_BYTES + 1) bytes)
 
 -- a stream line that isn't too long
 pub record ShortLined (bytes : List ℕ) : Type 0 where
   pub lined : Lined bytes
-  pub short : length lined.line ≤ MOST_LINE
+  pub short : length lined.line ≤ MOST_LINE_BYTES
 
 -- such a line, with a colour kind and an interlacing that is read
 pub record KindLined (bytes : List ℕ) : Type 0 where
@@ -47,33 +48,33 @@ pub record KindLined (bytes : List ℕ) : Type 0 where
 -- such a line, with whole cells
 pub record ShortSized (bytes : List ℕ) : Type 0 where
   pub sized : Sized bytes
-  pub short : length sized.lined.line ≤ MOST_LINE
+  pub short : length sized.lined.line ≤ MOST_LINE_BYTES
 
 -- the carried tags are too long
 pub record TagsTooLong (bytes : List ℕ) (number : ℕ) : Type 0 where
   pub short : ShortSized bytes
-  pub longer : MOST_TAGS < number
+  pub longer : MOST_TAG_BYTES < number
   pub number_is : number ≡ length (spaced (carried short.sized.lined.tags))
 
 -- the width is above its bound, or the height where the width is in it
 abbrev pub SizePasses : List (List ℕ) → SpaceKind → ℕ → Type 0
 SizePasses tags kind number =
-    ((MOST_ON_AXIS < cells_w tags kind)
+    ((GREATEST_AXIS < cells_w tags kind)
     × (number ≡ capped (pixels_w tags) / cell_width kind))
-    ⊎ ((cells_w tags kind ≤ MOST_ON_AXIS) × (MOST_ON_AXIS < cells_h tags kind)
+    ⊎ ((cells_w tags kind ≤ GREATEST_AXIS) × (GREATEST_AXIS < cells_h tags kind)
     × (number ≡ capped (pixels_h tags) / cell_height kind))
 
 pub record SizeTooGreat (bytes : List ℕ) (number : ℕ) : Type 0 where
   pub short : ShortSized bytes
-  pub tags_fit : length (spaced (carried short.sized.lined.tags)) ≤ MOST_TAGS
+  pub tags_fit : length (spaced (carried short.sized.lined.tags)) ≤ MOST_TAG_BYTES
   pub passes : SizePasses short.sized.lined.tags short.sized.kind number
 
 -- one frame has too many cells
 pub record FrameTooGreat (bytes : List ℕ) (most number : ℕ) : Type 0 where
   pub short : ShortSized bytes
-  pub tags_fit : length (spaced (carried short.sized.lined.tags)) ≤ MOST_TAGS
-  pub width_fits : cells_w short.sized.lined.tags short.sized.kind ≤ MOST_ON_AXIS
-  pub height_fits : cells_h short.sized.lined.tags short.sized.kind ≤ MOST_ON_AXIS
+  pub tags_fit : length (spaced (carried short.sized.lined.tags)) ≤ MOST_TAG_BYTES
+  pub width_fits : cells_w short.sized.lined.tags short.sized.kind ≤ GREATEST_AXIS
+  pub height_fits : cells_h short.sized.lined.tags short.sized.kind ≤ GREATEST_AXIS
   pub passes : most < number
   pub number_is : number ≡ cells_w short.sized.lined.tags short.sized.kind
       * cells_h short.sized.lined.tags short.sized.kind
@@ -97,7 +98,7 @@ pub record Framed (kind : SpaceKind) (w h : ℕ) (text rest : List ℕ) (count :
 
 -- a frame breaks off or goes wrong in its line, after i bytes of it
 pub record FrameLineBreaks (rest : List ℕ) (i : ℕ) : Type 0 where
-  pub early : i ≤ MOST_LINE
+  pub early : i ≤ MOST_LINE_BYTES
   pub inside : i ≤ length rest
   pub before : IsOpenFrameLine (take i rest)
   pub here : ((1 ≤ i) × (length rest ≡ i))
@@ -108,15 +109,15 @@ pub record PlanesBreak (want : ℕ) (rest : List ℕ) (i : ℕ) : Type 0 where
   pub line : List ℕ
   pub part : List ℕ
   pub is_line : IsFrameLine line
-  pub short_line : length line ≤ MOST_LINE
+  pub short_line : length line ≤ MOST_LINE_BYTES
   pub is : rest ≡ line ++ part
   pub short : length part < want
   pub place : length rest ≡ i
 
 -- a frame line is too long
 pub record FrameLineTooLong (rest : List ℕ) : Type 0 where
-  pub longer : MOST_LINE < length rest
-  pub starts : IsOpenFrameLine (take MOST_LINE rest)
+  pub longer : MOST_LINE_BYTES < length rest
+  pub starts : IsOpenFrameLine (take MOST_LINE_BYTES rest)
 
 -- after the frames that may stand, a fact of what follows
 pub record Behind (bytes : List ℕ) (most : ℕ)
@@ -145,12 +146,12 @@ FrameHeaderTooLong bytes most = Behind bytes most (λ front rest count.
 -- a byte stands after the greatest number of frames, which is the bound of an axis
 abbrev pub TooManyFrames : List ℕ → ℕ → Type 0
 TooManyFrames bytes most = Behind bytes most (λ front rest count.
-    (count ≡ bound_of front) × (1 ≤ length rest) × (bound_of front ≡ MOST_ON_AXIS))
+    (count ≡ bound_of front) × (1 ≤ length rest) × (bound_of front ≡ GREATEST_AXIS))
 
 -- the same, where another frame would have too many cells
 abbrev pub TooManyCells : List ℕ → ℕ → ℕ → Type 0
 TooManyCells bytes most number = Behind bytes most (λ front rest count.
-    (count ≡ bound_of front) × (1 ≤ length rest) × (bound_of front < MOST_ON_AXIS)
+    (count ≡ bound_of front) × (1 ≤ length rest) × (bound_of front < GREATEST_AXIS)
     × (number ≡ width_of front * height_of front * (count + 1)))
 
 -- The answers.
@@ -161,16 +162,16 @@ TooManyCells bytes most number = Behind bytes most (λ front rest count.
 abbrev pub RefusesClip : ℕ → List ℕ → ReadError → Type 0
 RefusesClip most bytes (Bad (Form at)) = LineBreaks bytes at ⊎ FrameBreaks bytes most at
 RefusesClip most bytes (Limit Header number bound) =
-    (LineTooLong bytes × (number ≡ MOST_LINE + 1) × (bound ≡ MOST_LINE))
-    ⊎ (TagsTooLong bytes number × (bound ≡ MOST_TAGS))
-    ⊎ (FrameHeaderTooLong bytes most × (number ≡ MOST_LINE + 1) × (bound ≡ MOST_LINE))
+    (LineTooLong bytes × (number ≡ MOST_LINE_BYTES + 1) × (bound ≡ MOST_LINE_BYTES))
+    ⊎ (TagsTooLong bytes number × (bound ≡ MOST_TAG_BYTES))
+    ⊎ (FrameHeaderTooLong bytes most × (number ≡ MOST_LINE_BYTES + 1) × (bound ≡ MOST_LINE_BYTES))
 RefusesClip most bytes (Bad Space) =
     (short : ShortLined bytes) × ((kind : SpaceKind) → HasSpaceKind short.lined.tags kind → ⊥)
 RefusesClip most bytes (Bad Cell) =
     (lined : KindLined bytes) × (IsWhole lined.lined.lined.tags lined.kind → ⊥)
 RefusesClip most bytes (Limit Axis number bound) =
-    (SizeTooGreat bytes number ⊎ (TooManyFrames bytes most × (number ≡ MOST_ON_AXIS + 1)))
-    × (bound ≡ MOST_ON_AXIS)
+    (SizeTooGreat bytes number ⊎ (TooManyFrames bytes most × (number ≡ GREATEST_AXIS + 1)))
+    × (bound ≡ GREATEST_AXIS)
 RefusesClip most bytes (Limit CellsLimit number bound) =
     (FrameTooGreat bytes most number ⊎ TooManyCells bytes most number) × (bound ≡ most)
 RefusesClip most bytes (Bad NoFrames) =

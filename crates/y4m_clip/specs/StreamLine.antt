@@ -1,15 +1,13 @@
 -- A reader has to trust this file. The stream line of a clip: which texts are one, and with which
 -- tags. (YUV4MPEG2; that the letters W, H, F, I, A and C stand once at most, and that other values
 -- may be empty, is this project's choice.)
-use Rattle.std.specs.Prelude.{◌≡◌, ◌≢◌, ◌≤◌, ℕ, suc, ◌==◌, nat_lt, Bool, true, false, not, ◌&&◌, ◌||◌, List, [], ◌∷◌, ◌++◌, replicate, codes}
+use Rattle.std.specs.Prelude.{◌≡◌, ◌≢◌, ℕ, suc, ◌==◌, nat_lt, Bool, true, false, not, ◌&&◌, ◌||◌, List, [], ◌∷◌, ◌++◌, replicate, codes}
 use Rattle.std.specs.List.{AllByRecursion, list_any}
+use Rattle.shelf_core.specs.Decimals.{IsDigit}
 
 -- neither blank nor LF
 abbrev pub IsInk : ℕ → Type 0
 IsInk b = (b ≢ 32) × (b ≢ 10)
-
-abbrev pub IsDigit : ℕ → Type 0
-IsDigit b = (48 ≤ b) × (b ≤ 57)
 
 -- W or H
 abbrev pub is_axis : ℕ → Bool

@@ -5,7 +5,7 @@ use Rattle.std.specs.Prelude.{◌≡◌, ◌≤◌, ◌+◌, ◌*◌, ℕ, List,
 use Rattle.cells.specs.declared.place.Size.{Size}
 use Rattle.cells.specs.Places.{spot}
 use Rattle.cells.specs.Cells.{Cells, IsOnePart, IsVolume, cell_at}
-use Rattle.y4m_clip.specs.declared.bounds.TheConstants.{MOST_TAGS}
+use Rattle.limits.specs.declared.bounds.TheConstants.{MOST_TAG_BYTES}
 use Rattle.y4m_clip.specs.declared.form.SpaceKind.{SpaceKind}
 use Rattle.y4m_clip.specs.declared.form.SpaceKind.TheVariants.{Mono, C444, C422, C411, C420}
 use Rattle.y4m_clip.specs.declared.form.ClipForm.{ClipForm}
@@ -18,7 +18,7 @@ use Rattle.y4m_clip.specs.Clips.{spaced, span, HasSpaceKind}
 pub record IsForm (form : ClipForm) : Type 0 where
   pub stand : Continues (codes "HW") form.tags (spaced form.tags ++ codes "\n")
   pub is_kind : HasSpaceKind form.tags form.space
-  pub fits : length (spaced form.tags) ≤ MOST_TAGS
+  pub fits : length (spaced form.tags) ≤ MOST_TAG_BYTES
 
 -- a clip that can be written: such a form, and a volume of one part with the samples of its kind
 pub record IsClip (form : ClipForm) (volume : Cells) : Type 0 where

@@ -6,10 +6,10 @@ ghost use Rattle.y4m_clip.specs.Frames.{IsFirstEnd, IsEarly, IsFrameScanned, fra
 ghost use Rattle.y4m_clip.specs.Clips.{frame_cells};
 ghost use Rattle.y4m_clip.specs.Spaces.{samples_of};
 
-use crate::bounds::{MOST_LINE, MOST_OF_ALL};
 use crate::head::Front;
 use crate::line::{LINE_ROOM, matched, too_long};
 use crate::planes::add_frame;
+use limits::{MOST_CELLS, MOST_LINE_BYTES};
 use shelf_core::{FormFault, ReadError, Shelf};
 use std::alloc::AllocError;
 
@@ -77,13 +77,13 @@ fn judge(scan: FrameScan, at: u64, count: usize) -> Result<Option<usize>, ReadEr
 {
     match scan {
         FrameScan::Nothing => Ok(None),
-        FrameScan::Open => if count as u64 > MOST_LINE {
+        FrameScan::Open => if count as u64 > MOST_LINE_BYTES {
             Err(too_long())
         } else {
             Err(ReadError::Bad(FormFault::Form(at + count as u64)))
         },
         FrameScan::Wrong(i) => Err(ReadError::Bad(FormFault::Form(at + i as u64))),
-        FrameScan::Whole(n) => if n as u64 > MOST_LINE {
+        FrameScan::Whole(n) => if n as u64 > MOST_LINE_BYTES {
             Err(too_long())
         } else {
             Ok(Some(n))
@@ -100,7 +100,7 @@ pub fn find_frame<S: Shelf>(
 ) -> Result<Option<usize>, ReadError>
     requires { at < 2 ^ 62 }
     ensures found { FindsFrameAs name.now at (S.state shelf.old) (S.state shelf.new) result }
-    ensures short { IfOk result (λ found. IfSome found (λ n. n ≤ MOST_LINE)) }
+    ensures short { IfOk result (λ found. IfSome found (λ n. n ≤ MOST_LINE_BYTES)) }
     ensures reads { OnlyReadsFile name.now (S.state shelf.old) (S.state shelf.new) }
 {
     let count = shelf.get(name, at, buffer)?;
@@ -139,13 +139,13 @@ pub fn read_frame<S: Shelf>(
     requires at { at < 2 ^ 61 }
     requires planes { length planes.old ≡
         samples_of front.now.form.space * (front.now.w * front.now.h) }
-    requires few { front.now.w * front.now.h ≤ MOST_OF_ALL }
+    requires few { front.now.w * front.now.h ≤ MOST_CELLS }
     ensures frame { ReadsFrameAs front.now.form.space front.now.w front.now.h name.now at planes.new
         (S.state shelf.old) (S.state shelf.new) result }
     ensures cells { IfOk result (λ next. cells.new.items ≡ grown_by cells.old.items
         (frame_cells front.now.form.space front.now.w front.now.h planes.new) next) }
     ensures next { IfOk result (λ found. IfSome found
-        (λ next. next ≤ at + MOST_LINE + length planes.new)) }
+        (λ next. next ≤ at + MOST_LINE_BYTES + length planes.new)) }
     ensures reads { OnlyReadsFile name.now (S.state shelf.old) (S.state shelf.new) }
 {
     let mut buffer = [0u8; LINE_ROOM];

@@ -5,10 +5,10 @@ ghost use Rattle.y4m_clip.specs.Frames.{ReadsFrameAs, grown_by, FramesAs, Passes
 ghost use Rattle.y4m_clip.specs.Clips.{frame_cells, most_frames};
 ghost use Rattle.y4m_clip.specs.Spaces.{samples_of};
 
-use crate::bounds::{MOST_LINE, MOST_OF_ALL, MOST_ON_AXIS};
 use crate::form::SpaceKind;
 use crate::frame::read_frame;
 use crate::head::Front;
+use limits::{GREATEST_AXIS, MOST_CELLS, MOST_LINE_BYTES};
 use shelf_core::{FormFault, ReadError, Shelf, What};
 use std::alloc::{AllocError, Global};
 
@@ -21,24 +21,24 @@ pub struct Filled {
 
 // The greatest number of frames of w x h cells.
 fn bound_of(w: u32, h: u32, most: u64) -> u64
-    requires w { (1 ≤ w) × (w ≤ MOST_ON_AXIS) }
-    requires h { (1 ≤ h) × (h ≤ MOST_ON_AXIS) }
+    requires w { (1 ≤ w) × (w ≤ GREATEST_AXIS) }
+    requires h { (1 ≤ h) × (h ≤ GREATEST_AXIS) }
     ensures { result ≡ most_frames w h most }
 {
-    MOST_ON_AXIS.min(most / (u64::from(w) * u64::from(h)))
+    u64::from(GREATEST_AXIS).min(most / (u64::from(w) * u64::from(h)))
 }
 
 // The refusal of a byte behind so many frames.
 fn past(w: u32, h: u32, most: u64, count: u64) -> ReadError
-    requires cells { w * h ≤ MOST_OF_ALL }
-    requires count { count ≤ MOST_ON_AXIS }
+    requires cells { w * h ≤ MOST_CELLS }
+    requires count { count ≤ GREATEST_AXIS }
     ensures { PassesFrames w h most count result }
 {
-    if count == MOST_ON_AXIS {
+    if count == u64::from(GREATEST_AXIS) {
         return ReadError::Limit {
             what: What::Axis,
-            number: MOST_ON_AXIS + 1,
-            bound: MOST_ON_AXIS,
+            number: u64::from(GREATEST_AXIS) + 1,
+            bound: u64::from(GREATEST_AXIS),
         };
     }
     ReadError::Limit {
@@ -75,13 +75,13 @@ fn next_frame<S: Shelf>(
     requires at { at < 2 ^ 61 }
     requires planes { length planes.old.items ≡
         samples_of front.now.form.space * (front.now.w * front.now.h) }
-    requires few { front.now.w * front.now.h ≤ MOST_OF_ALL }
+    requires few { front.now.w * front.now.h ≤ MOST_CELLS }
     ensures frame { ReadsFrameAs front.now.form.space front.now.w front.now.h name.now at
         planes.new.items (S.state shelf.old) (S.state shelf.new) result }
     ensures cells { IfOk result (λ next. cells.new.items ≡ grown_by cells.old.items
         (frame_cells front.now.form.space front.now.w front.now.h planes.new.items) next) }
     ensures next { IfOk result (λ found. IfSome found
-        (λ next. next ≤ at + MOST_LINE + length planes.new.items)) }
+        (λ next. next ≤ at + MOST_LINE_BYTES + length planes.new.items)) }
     ensures planes { length planes.new.items ≡
         samples_of front.now.form.space * (front.now.w * front.now.h) }
     ensures reads { OnlyReadsFile name.now (S.state shelf.old) (S.state shelf.new) }
@@ -91,7 +91,7 @@ fn next_frame<S: Shelf>(
 
 /// A buffer for the planes of a frame of n cells.
 pub fn room_for(alloc: Global, space: SpaceKind, n: usize) -> Result<Vec<u8>, AllocError>
-    requires { n ≤ MOST_OF_ALL }
+    requires { n ≤ MOST_CELLS }
     ensures { IfOk result (λ planes. length planes.items ≡ samples_of space * n) }
 {
     vec![in alloc; 0u8; space.samples() as usize * n]

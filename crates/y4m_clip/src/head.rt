@@ -2,13 +2,14 @@
 ghost use Rattle.std.specs.Prelude.{◌≡◌, ◌≢◌, ◌≤◌, ◌<◌, ◌*◌, ◌+◌, ◌%◌, ◌/◌, ◌⊎◌, [], length, IfOk, IfSome, IfNone, IsTrue, ◌↔◌, option_copied, codes};
 ghost use Rattle.y4m_clip.specs.declared.form.SpaceKind.{SpaceKind};
 ghost use Rattle.y4m_clip.specs.Spaces.{IsSpelling, GivesSpace, GivesInterlace, cell_width, cell_height, samples_of};
-ghost use Rattle.y4m_clip.specs.Clips.{tag_value, tag_number, value_behind, capped, carried, spaced, HasSpaceKind};
+ghost use Rattle.shelf_core.specs.Decimals.{capped, value_behind};
+ghost use Rattle.y4m_clip.specs.Clips.{tag_value, tag_number, carried, spaced, HasSpaceKind};
 ghost use Rattle.y4m_clip.specs.Heads.{IsCounted, IsCellNumber, IsAllowedSize, FrontAs};
 
-use crate::bounds::{MOST_LINE, MOST_ON_AXIS, MOST_TAGS};
 use crate::form::{ClipForm, SpaceKind, Tags};
 use crate::line::Line;
 use items::Items;
+use limits::{GREATEST_AXIS, MOST_LINE_BYTES, MOST_TAG_BYTES};
 use shelf_core::{FormFault, ReadError, What};
 use std::alloc::{AllocError, Global};
 
@@ -156,12 +157,12 @@ fn cells_on(tags: &[Items<u8>], letter: u8, cell: u32) -> Option<u64>
 }
 
 fn axis_passed(number: u64) -> ReadError
-    ensures { result ≡ ReadError.Limit What.Axis number MOST_ON_AXIS }
+    ensures { result ≡ ReadError.Limit What.Axis number GREATEST_AXIS }
 {
     ReadError::Limit {
         what: What::Axis,
         number,
-        bound: MOST_ON_AXIS,
+        bound: u64::from(GREATEST_AXIS),
     }
 }
 
@@ -169,10 +170,10 @@ fn axis_passed(number: u64) -> ReadError
 fn allowed(w: u64, h: u64, most: u64) -> Result<(u32, u32), ReadError>
     ensures { IsAllowedSize w h most result }
 {
-    if w > MOST_ON_AXIS {
+    if w > u64::from(GREATEST_AXIS) {
         return Err(axis_passed(w));
     }
-    if h > MOST_ON_AXIS {
+    if h > u64::from(GREATEST_AXIS) {
         return Err(axis_passed(h));
     }
     let number = w * h;
@@ -240,11 +241,11 @@ pub fn front_of(alloc: Global, line: &Line, most: u64) -> Result<Front, ReadErro
     };
     let list = carry(alloc, tags)?;
     let number = spaced_length(&list);
-    if number > MOST_TAGS {
+    if number > MOST_TAG_BYTES {
         return Err(ReadError::Limit {
             what: What::Header,
             number,
-            bound: MOST_TAGS,
+            bound: MOST_TAG_BYTES,
         });
     }
     let (w, h) = allowed(w, h, most)?;

@@ -7,7 +7,6 @@
 //! at most, and that what is written is read again.
 #![tactic(auto)]
 
-mod bounds;
 mod form;
 mod frame;
 mod frames;

@@ -4,15 +4,15 @@ ghost use Rattle.shelf_core.specs.Files.{InFile, OnlyReadsFile};
 ghost use Rattle.y4m_clip.specs.Scanning.{line_kind, IsSoundLine};
 ghost use Rattle.y4m_clip.specs.Reading.{Matches, IsStreamScanned, flushed, gathered, Gathers, line_limit, line_judged, FindsLineAs, IsLineOf, AreTags, LinesAs};
 
-use crate::bounds::MOST_LINE;
 use crate::form::Tags;
 use crate::scan::{LineKind, ScannedLine, classify, scan_line};
 use items::Items;
+use limits::MOST_LINE_BYTES;
 use shelf_core::{FormFault, ReadError, Shelf, What};
 use std::alloc::{AllocError, Global};
 
 /// The most bytes of a line, and one more.
-pub const LINE_ROOM: usize = 4097;
+pub const LINE_ROOM: usize = MOST_LINE_BYTES as usize + 1;
 
 /// The tags of a stream line, and its length in bytes.
 #[derive(Drop)]
@@ -58,8 +58,8 @@ pub fn too_long() -> ReadError
 {
     ReadError::Limit {
         what: What::Header,
-        number: MOST_LINE + 1,
-        bound: MOST_LINE,
+        number: MOST_LINE_BYTES + 1,
+        bound: MOST_LINE_BYTES,
     }
 }
 
@@ -68,13 +68,13 @@ fn judge(scanned: ScannedLine, count: usize) -> Result<usize, ReadError>
     ensures { result ≡ line_judged count scanned }
 {
     match scanned {
-        ScannedLine::Open => if count as u64 > MOST_LINE {
+        ScannedLine::Open => if count as u64 > MOST_LINE_BYTES {
             Err(too_long())
         } else {
             Err(ReadError::Bad(FormFault::Form(count as u64)))
         },
         ScannedLine::Broken(i) => Err(ReadError::Bad(FormFault::Form(i as u64))),
-        ScannedLine::Ended(n) => if n as u64 > MOST_LINE {
+        ScannedLine::Ended(n) => if n as u64 > MOST_LINE_BYTES {
             Err(too_long())
         } else {
             Ok(n)
@@ -91,7 +91,7 @@ fn find_line<S: Shelf>(
     ensures found { FindsLineAs name.now (S.state shelf.old) (S.state shelf.new) result }
     ensures front { IfOk result (λ n. InFile name.now (S.state shelf.old) (S.state shelf.new)
         (λ bytes. take n buffer.new ≡ take n bytes)) }
-    ensures sound { IfOk result (λ n. (10 ≤ n) × (n ≤ MOST_LINE)) }
+    ensures sound { IfOk result (λ n. (10 ≤ n) × (n ≤ MOST_LINE_BYTES)) }
     ensures line { IfOk result (λ n. IsLineOf (take n buffer.new)) }
     ensures reads { OnlyReadsFile name.now (S.state shelf.old) (S.state shelf.new) }
 {
@@ -148,7 +148,7 @@ fn gather_all(alloc: Global, text: &[u8]) -> Result<Vec<Items<u8>>, AllocError>
 /// Reads the stream line of the named file.
 pub fn read_line<S: Shelf>(alloc: Global, shelf: &mut S, name: &str) -> Result<Line, ReadError>
     ensures line { LinesAs name.now (S.state shelf.old) (S.state shelf.new) result }
-    ensures short { IfOk result (λ line. line.length ≤ MOST_LINE) }
+    ensures short { IfOk result (λ line. line.length ≤ MOST_LINE_BYTES) }
     ensures tags { IfOk result (λ line. AreTags line.tags) }
     ensures reads { OnlyReadsFile name.now (S.state shelf.old) (S.state shelf.new) }
 {

@@ -4,8 +4,8 @@ ghost use Rattle.y4m_clip.specs.Spaces.{cell_width, cell_height, samples_of, cel
 ghost use Rattle.y4m_clip.specs.Clips.{span, row_cells, frame_cells};
 ghost use Rattle.y4m_clip.specs.Planes.{HasPlaneCell, HasRow};
 
-use crate::bounds::MOST_OF_ALL;
 use crate::form::SpaceKind;
+use limits::MOST_CELLS;
 use std::alloc::AllocError;
 
 // So many bytes from a place on, as far as there are some.
@@ -93,7 +93,7 @@ fn add_row(
     cells: &mut Vec<u8>,
 ) -> Result<(), AllocError>
     requires planes { length planes.now ≡ samples_of space * n }
-    requires few { n ≤ MOST_OF_ALL }
+    requires few { n ≤ MOST_CELLS }
     requires inside { before + w ≤ n }
     ensures { OnOk result (cells.new.items ≡ cells.old.items
         ++ row_cells space w n planes.now before) }
@@ -118,7 +118,7 @@ pub fn add_frame(
     cells: &mut Vec<u8>,
 ) -> Result<(), AllocError>
     requires planes { length planes.now ≡ samples_of space * (w * h) }
-    requires few { w * h ≤ MOST_OF_ALL }
+    requires few { w * h ≤ MOST_CELLS }
     ensures { OnOk result (cells.new.items ≡ cells.old.items
         ++ frame_cells space w h planes.now) }
 {

@@ -6,12 +6,12 @@ ghost use Rattle.y4m_clip.specs.Spaces.{samples_of};
 ghost use Rattle.y4m_clip.specs.Refusals.{ReadsClipAs, IsSoundClip};
 ghost use Rattle.y4m_clip.specs.Frames.{IsSoundFront, IsFilledSoFar, frames_size};
 
-use crate::bounds::MOST_OF_ALL;
 use crate::form::Clip;
 use crate::frames::{Filled, read_frames};
 use crate::head::{Front, front_of};
 use crate::line::read_line;
 use cells::{Size, Volume};
+use limits::MOST_CELLS;
 use shelf_core::{ReadError, Shelf};
 use std::alloc::Global;
 
@@ -52,7 +52,7 @@ pub fn read_clip<S: Shelf>(
     name: &str,
     most: u64,
 ) -> Result<Clip, ReadError>
-    requires { most ≤ MOST_OF_ALL }
+    requires { most ≤ MOST_CELLS }
     ensures answer { ReadsClipAs most name.now (S.state shelf.old) (S.state shelf.new) result }
     ensures clip { IfOk result (IsSoundClip most) }
     ensures reads { OnlyReadsFile name.now (S.state shelf.old) (S.state shelf.new) }

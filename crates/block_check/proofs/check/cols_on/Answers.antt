@@ -1,6 +1,6 @@
 use Rattle.std.proofs.Common.{◌/◌, ◌≤◌, List, ℕ, length, sym, subst, rules}
 use Rattle.std.specs.Prelude.{Some}
-use Rattle.cells.specs.declared.bounds.TheConstants.{GREATEST_AXIS}
+use Rattle.limits.specs.declared.bounds.TheConstants.{GREATEST_AXIS}
 use Rattle.block_strips.specs.Strips.{strip_rows}
 use Rattle.block_check.specs.Blocks.{HasColumnsOn}
 use Rattle.block_check.specs.Steps.{AreColumnsOn}

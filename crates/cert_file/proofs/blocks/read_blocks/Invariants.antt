@@ -1,5 +1,6 @@
 use Rattle.std.proofs.Common.{◌≡◌, ◌≤◌, ◌+◌, ◌*◌}
 use Rattle.std.specs.Prelude.{All, vec_len}
+use Rattle.limits.specs.declared.bounds.TheConstants.{MOST_BOX_CELLS}
 use Rattle.shelf_core.specs.Files.{OnlyReadsFile}
 use Rattle.source_map.specs.Readings.{Found}
 use Rattle.cert_file.specs.BlockForms.{IsBlockInForm}
@@ -11,7 +12,7 @@ abbrev pub invariant-loop-i : goal.invariant-loop-i
 invariant-loop-i g l = record {
   count : vec_len l.blocks ≡ l.i;
   at : l.file.at ≤ l.fn.file.at + 29 * l.before;
-  few : l.before ≤ 33554432;
+  few : l.before ≤ MOST_BOX_CELLS;
   before : l.before ≡ block_cells l.blocks.items;
   each : All IsBlockInForm l.blocks.items;
   found : Found l.name l.fn.file.at (g.S.Shelf.state l.shelf) l.file (blocks_read l.i) l.blocks.items;

@@ -1,5 +1,5 @@
 use Rattle.std.proofs.Common.{◌≡◌, ◌≤◌, ◌<◌, ℕ, ◌+◌, ◌*◌, ◌-◌, length, get_or}
-use Rattle.cells.specs.declared.bounds.TheConstants.{MOST_CELLS}
+use Rattle.limits.specs.declared.bounds.TheConstants.{MOST_CELLS}
 use Rattle.cost_windows.specs.Slides.{most_after_two}
 use Rattle.cost_windows.proofs.slide.add_after.Given as goal
 

@@ -1,22 +1,23 @@
 use Rattle.std.proofs.Common.{◌≡◌, ℕ, List, ◌+◌, ◌*◌, ◌≤◌, ◌∙◌, get_or, arith}
+use Rattle.limits.specs.declared.bounds.TheConstants.{GREATEST_AXIS}
 use Rattle.boxes.specs.Sums.{sum_to}
 use Rattle.cost_windows.proofs.Runs.{run_at_most}
 use Rattle.cost_windows.proofs.slide.sum_boxes.Goals as goal
 
 -- runs along one axis, and along two
-once : (len b : ℕ) (old sums : List ℕ) (step : ℕ) → len ≤ 4096 → ((j : ℕ) → get_or sums j 0 ≡ sum_to len (λ t. get_or old (j + step * t) 0))
+once : (len b : ℕ) (old sums : List ℕ) (step : ℕ) → len ≤ GREATEST_AXIS → ((j : ℕ) → get_or sums j 0 ≡ sum_to len (λ t. get_or old (j + step * t) 0))
     → ((j : ℕ) → get_or old j 0 ≤ b) → (j : ℕ) → get_or sums j 0 ≤ len * b
 once len b old sums step le is small j = omega (arith, is j, run_at_most old step len b j small)
 
-first : (len : ℕ) (old sums : List ℕ) (step : ℕ) → len ≤ 4096 → ((j : ℕ) → get_or sums j 0 ≡ sum_to len (λ t. get_or old (j + step * t) 0))
+first : (len : ℕ) (old sums : List ℕ) (step : ℕ) → len ≤ GREATEST_AXIS → ((j : ℕ) → get_or sums j 0 ≡ sum_to len (λ t. get_or old (j + step * t) 0))
     → ((j : ℕ) → get_or old j 0 ≤ 3060) → (j : ℕ) → get_or sums j 0 ≤ 12533760
 first len old sums step le is small j = omega (arith, once len 3060 old sums step le is small j)
 
-second : (len : ℕ) (old sums : List ℕ) (step : ℕ) → len ≤ 4096 → ((j : ℕ) → get_or sums j 0 ≡ sum_to len (λ t. get_or old (j + step * t) 0))
+second : (len : ℕ) (old sums : List ℕ) (step : ℕ) → len ≤ GREATEST_AXIS → ((j : ℕ) → get_or sums j 0 ≡ sum_to len (λ t. get_or old (j + step * t) 0))
     → ((j : ℕ) → get_or old j 0 ≤ 12533760) → (j : ℕ) → get_or sums j 0 ≤ 68719476736
 second len old sums step le is small j = omega (arith, once len 12533760 old sums step le is small j)
 
-third : (len : ℕ) (old sums : List ℕ) (step : ℕ) → len ≤ 4096 → ((j : ℕ) → get_or sums j 0 ≡ sum_to len (λ t. get_or old (j + step * t) 0))
+third : (len : ℕ) (old sums : List ℕ) (step : ℕ) → len ≤ GREATEST_AXIS → ((j : ℕ) → get_or sums j 0 ≡ sum_to len (λ t. get_or old (j + step * t) 0))
     → ((j : ℕ) → get_or old j 0 ≤ 68719476736) → (j : ℕ) → get_or sums j 0 ≤ 281474976710656
 third len old sums step le is small j = omega (arith, once len 68719476736 old sums step le is small j)
 

@@ -1,7 +1,7 @@
 use Rattle.std.proofs.Common.{◌≤◌, ◌∙◌, ap, sym, subst}
 use Rattle.std.specs.Prelude.{All}
 use Rattle.map_canvas.specs.Maps.{empty_map}
-use Rattle.cut_replay.specs.declared.records.TheConstants.{MOST_BOX_CELLS}
+use Rattle.limits.specs.declared.bounds.TheConstants.{MOST_BOX_CELLS}
 use Rattle.cut_replay.specs.Replay.{EachStands, IsFormed, box_cells, left_by}
 use Rattle.cut_replay.proofs.Standing.{each_fits, each_keeps, each_least}
 use Rattle.grow_run.specs.Grown.{IsRun, first_growth}

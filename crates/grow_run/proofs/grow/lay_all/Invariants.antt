@@ -1,6 +1,6 @@
 use Rattle.std.specs.Prelude.{◌≡◌, ◌+◌, ◌-◌, false, None, if◌then◌else◌}
 use Rattle.map_canvas.specs.Maps.{first_unfilled}
-use Rattle.cut_replay.specs.declared.records.TheConstants.{MOST_BOX_CELLS}
+use Rattle.limits.specs.declared.bounds.TheConstants.{MOST_BOX_CELLS}
 use Rattle.grow_run.specs.Work.{IsWork}
 use Rattle.grow_run.proofs.grow.lay_all.Given as goal
 

@@ -1,5 +1,6 @@
 use Rattle.std.proofs.Common.{◌≡◌, ◌≤◌, ◌+◌, ℕ, get_or, subst, sym, ◌∙◌, arith}
 use Rattle.std.proofs.lemmas.Int.{ints}
+use Rattle.limits.specs.declared.bounds.TheConstants.{GREATEST_AXIS, MOST_CELLS}
 use Rattle.boxes.specs.Sums.{sum_to}
 use Rattle.boxes.proofs.Additions.{counts}
 use Rattle.boxes.proofs.Axes.{sum_more}
@@ -15,8 +16,8 @@ overflow_add-before-in-loop-x-2 c =
     let x = c.loop-x.x in
     let same = above_kept c.args.entries.now.items c.loop-x.entries.items c.as_slice.result.now c.args.above c.args.rect.now.size.w x _ c.loop-x.invariant.put c.as_slice.ensures.value c.requires.above c.loop-x-test.true in
     let one : c.one_filled-filled.result ≤ 1 = subst (λ n. n ≤ 1) (sym c.one_filled-filled.ensures) (one_at_most _) in
-    let w : c.args.rect.now.size.w ≤ 4096 = omega (arith, ints, c.requires.inside.x.from, c.requires.inside.x.to, c.map-map.ensures.canvas.map.small.axes.w.1) in
-    let entry : get_or c.args.entries.now.items (c.args.above + (x + 1)) 0 ≤ 33554432 = c.requires.small (x + 1) (omega (arith, c.loop-x-test.true)) in
+    let w : c.args.rect.now.size.w ≤ GREATEST_AXIS = omega (arith, ints, c.requires.inside.x.from, c.requires.inside.x.to, c.map-map.ensures.canvas.map.small.axes.w.1) in
+    let entry : get_or c.args.entries.now.items (c.args.above + (x + 1)) 0 ≤ MOST_CELLS = c.requires.small (x + 1) (omega (arith, c.loop-x-test.true)) in
     omega (arith, same, one, w, entry, c.loop-x.invariant.few, c.loop-x-test.true)
 
 pub loop-x-preserved : goal.loop-x-preserved

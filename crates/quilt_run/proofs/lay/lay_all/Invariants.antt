@@ -1,6 +1,6 @@
 use Rattle.std.specs.Prelude.{◌≡◌, ◌+◌, ◌-◌, false, if◌then◌else◌}
 use Rattle.map_canvas.specs.Maps.{IsFull}
-use Rattle.cut_replay.specs.declared.records.TheConstants.{MOST_BOX_CELLS}
+use Rattle.limits.specs.declared.bounds.TheConstants.{MOST_BOX_CELLS}
 use Rattle.quilt_run.specs.QuiltWork.{IsQuiltWork}
 use Rattle.quilt_run.proofs.lay.lay_all.Given as goal
 

@@ -3,7 +3,7 @@ use Rattle.std.specs.Prelude.{All}
 use Rattle.map_canvas.specs.Maps.{empty_map}
 use Rattle.quilt.specs.Runs.{QuiltsTo, first_quilting, quilting}
 use Rattle.quilt.proofs.Runs.{quilts_replay}
-use Rattle.cut_replay.specs.declared.records.TheConstants.{MOST_BOX_CELLS}
+use Rattle.limits.specs.declared.bounds.TheConstants.{MOST_BOX_CELLS}
 use Rattle.quilt_run.specs.Costs.{IsFileBlock, all_boundaries, quilt_cost}
 use Rattle.block_check.specs.Blocks.{block_cells}
 use Rattle.quilt_run.specs.QuiltWork.{IsQuiltWork}

@@ -11,6 +11,7 @@ use Rattle.source_map.specs.declared.map_file.MapFile.TheVariants.{Cells}
 use Rattle.map_canvas.specs.Maps.{SourceMap}
 use Rattle.source_map.specs.MapFiles.{samples_read, sources_read}
 use Rattle.std.proofs.Common.{◌≤◌, subst, sym}
+use Rattle.limits.specs.declared.bounds.TheConstants.{MOST_MAP_CELLS}
 use Rattle.cells.specs.Places.{cell_count}
 use Rattle.source_map.proofs.Sources.{writable_of}
 use Rattle.source_map.proofs.map_reading.read_cells.Goals as goal
@@ -59,5 +60,5 @@ returns-clause-lawful g c =
     let before = c.in_ok-samples.ensures {u = tt} in (
       read.map,
       writable_of c.in_ok-map.map c.in_ok-samples.samples c.args.version read.map before.samples
-          (subst (λ (size : Size). cell_count size ≤ 1048576) (sym read.size) before.few) read.inside,
+          (subst (λ (size : Size). cell_count size ≤ MOST_MAP_CELLS) (sym read.size) before.few) read.inside,
     )

@@ -1,4 +1,5 @@
 use Rattle.std.proofs.Common.{◌≡◌, ◌≤◌, ◌+◌, ◌*◌, length}
+use Rattle.limits.specs.declared.bounds.TheConstants.{MOST_LINE_BYTES}
 use Rattle.shelf_core.specs.Files.{InFile, OnlyReadsFile}
 use Rattle.y4m_clip.specs.Spaces.{samples_of}
 use Rattle.y4m_clip.specs.Frames.{FramesSeen}
@@ -10,5 +11,5 @@ invariant-loop-count g l = record {
   seen : InFile l.name (g.S.Shelf.state l.initial.shelf) (g.S.Shelf.state l.shelf) (λ bytes. FramesSeen l.front.form.space l.front.w l.front.h l.front.start bytes l.count l.at l.bytes.items);
   whole : length l.bytes.items ≡ samples_of l.front.form.space * l.front.w * l.front.h * l.count;
   planes : length l.planes.items ≡ samples_of l.front.form.space * (l.front.w * l.front.h);
-  place : l.at ≤ 4096 + l.count * 300000000;
+  place : l.at ≤ MOST_LINE_BYTES + l.count * 300000000;
 }

@@ -1,5 +1,6 @@
 use Rattle.std.proofs.Common.{◌≡◌, take, length}
-use Rattle.y4m_clip.specs.Clips.{capped, spaced}
+use Rattle.shelf_core.specs.Decimals.{capped}
+use Rattle.y4m_clip.specs.Clips.{spaced}
 use Rattle.y4m_clip.proofs.head.spaced_length.Given as goal
 
 abbrev pub invariant-loop-tag : goal.invariant-loop-tag

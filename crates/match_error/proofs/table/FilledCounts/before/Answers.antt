@@ -1,4 +1,5 @@
 use Rattle.std.proofs.Common.{◌≡◌, ◌≤◌, ◌+◌, ◌*◌, List, ℕ, get_or, ap, subst, sym, ◌∙◌}
+use Rattle.limits.specs.declared.bounds.TheConstants.{MOST_CELLS}
 use Rattle.match_error.specs.Tables.{filled_before}
 use Rattle.match_error.proofs.Tables.{before_small}
 use Rattle.match_error.proofs.table.FilledCounts.before.Goals as goal
@@ -10,4 +11,4 @@ returns-clause-small c =
     let i = (rect.size.w + 1) * c.args.row + c.args.x in
     let is : get_or c.as_slice-entries.result.now i 0 ≡ filled_before m rect c.args.x c.args.row =
     ap (λ (xs : List ℕ). get_or xs i 0) c.as_slice-entries.ensures.value ∙ c.requires.counts.entries c.args.x c.args.row c.requires.column c.requires.row in
-    subst (λ n. n ≤ 33554432) (sym is) (before_small m rect c.args.x c.args.row c.map-map.ensures.canvas.map.small c.requires.counts.inside c.requires.column c.requires.row)
+    subst (λ n. n ≤ MOST_CELLS) (sym is) (before_small m rect c.args.x c.args.row c.map-map.ensures.canvas.map.small c.requires.counts.inside c.requires.column c.requires.row)

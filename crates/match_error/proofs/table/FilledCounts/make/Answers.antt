@@ -1,10 +1,11 @@
 use Rattle.std.proofs.Common.{◌≤◌, subst, sym, arith}
+use Rattle.limits.specs.declared.bounds.TheConstants.{MOST_CELLS}
 use Rattle.match_error.proofs.Tables.{before_small, row_more}
 use Rattle.match_error.proofs.table.FilledCounts.make.Goals as goal
 
 pub add_row-requires-clause-small : goal.add_row-requires-clause-small
 add_row-requires-clause-small c = λ x lx.
-    subst (λ n. n ≤ 33554432) (sym (c.loop-row.invariant.are x c.loop-row.row lx (omega arith)))
+    subst (λ n. n ≤ MOST_CELLS) (sym (c.loop-row.invariant.are x c.loop-row.row lx (omega arith)))
     (before_small c.args.canvas.now.map c.args.rect.now x c.loop-row.row c.map-map.ensures.canvas.map.small c.requires.inside lx (omega (arith, c.loop-row-test.true)))
 
 pub loop-row-preserved : goal.loop-row-preserved

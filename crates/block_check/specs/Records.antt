@@ -1,8 +1,9 @@
 -- A reader has to trust this file. When the record of a block stands over a map, and else the first
 -- rule that it breaks. (Own.)
-use Rattle.std.specs.Prelude.{◌≡◌, ◌<◌, ◌/◌, ◌%◌, ◌⊎◌, ◌↔◌, ℕ, Option, IfSome, MatchOption, Result, Ok, Err}
+use Rattle.std.specs.Prelude.{◌≡◌, ◌/◌, ◌%◌, ◌⊎◌, ◌↔◌, ℕ, Option, IfSome, MatchOption, Result, Ok, Err}
 use Rattle.cells.specs.Cells.{Cells}
 use Rattle.cells.specs.Places.{cell_count}
+use Rattle.cells.specs.Firsts.{Each, IsFirstWithout}
 use Rattle.map_canvas.specs.declared.canvas.Placement.{Placement}
 use Rattle.map_canvas.specs.Choices.{Fits, box_cell}
 use Rattle.map_canvas.specs.Maps.{IsFilled, SourceMap}
@@ -17,16 +18,6 @@ use Rattle.block_check.specs.declared.check.BlockError.{BlockError}
 use Rattle.block_check.specs.declared.check.BlockError.TheVariants.{Fault, NoMemory}
 use Rattle.block_check.specs.declared.check.TheConstants.{FIT_RULE, OVERLAP_RULE}
 use Rattle.block_check.specs.Blocks.{IsInStrip, strip_on}
-
--- each number below n has the property
-abbrev pub Each : ℕ → (ℕ → Type 0) → Type 0
-Each n Holds = (i : ℕ) → i < n → Holds i
-
--- of the numbers below n, the first without the property
-pub record IsFirstWithout (n : ℕ) (Holds : ℕ → Type 0) (place : ℕ) : Type 0 where
-  pub below : place < n
-  pub before : Each place Holds
-  pub here : Holds place → ⊥
 
 -- rule 8 at a cell of the block, by its index: it is filled exactly where a strip has it
 abbrev pub OverlapsAt : SourceMap → BlockRecord → ℕ → Type 0

@@ -1,6 +1,6 @@
 -- Parts of the check and of a block, for the contracts within the crate. Nobody has to trust this
 -- file. (Own.)
-use Rattle.std.specs.Prelude.{◌≡◌, ◌≤◌, ◌<◌, ◌*◌, ◌/◌, ◌%◌, ◌⊎◌, ◌↔◌, ℕ, length, Option, Some, None, IfSome, Result, Ok, Err}
+use Rattle.std.specs.Prelude.{◌≡◌, ◌≤◌, ◌<◌, ◌*◌, ◌/◌, ◌%◌, ◌⊎◌, ◌↔◌, ℕ, length, Option, IfSome, Result, Ok, Err}
 use Rattle.map_canvas.specs.declared.canvas.Placement.{Placement}
 use Rattle.map_canvas.specs.Choices.{box_cell}
 use Rattle.map_canvas.specs.Maps.{IsFilled, SourceMap}
@@ -11,7 +11,6 @@ use Rattle.block_strips.specs.declared.side.Side.{Side}
 use Rattle.block_strips.specs.Strips.{most_cols, strip_rows}
 use Rattle.block_check.specs.declared.check.BlockError.{BlockError}
 use Rattle.block_check.specs.declared.check.BlockError.TheVariants.{Fault, NoMemory}
-use Rattle.block_check.specs.Records.{Each, IsFirstWithout}
 
 -- a cell of a placement is filled exactly where one of two strips has it
 abbrev pub IsSharedAt : SourceMap → Placement → ℕ → ℕ → ℕ → Type 0
@@ -35,11 +34,6 @@ abbrev pub ChecksStrip :
 ChecksStrip strip boundary (Ok _) = BoundaryStands strip boundary
 ChecksStrip strip boundary (Err (Fault fault)) = IsFirstBoundaryFault strip boundary fault
 ChecksStrip strip boundary (Err NoMemory) = ⊥
-
--- the first number below n without the property, if there is one
-abbrev pub FirstWithout : ℕ → (ℕ → Type 0) → Option ℕ → Type 0
-FirstWithout n Holds None = Each n Holds
-FirstWithout n Holds (Some place) = IsFirstWithout n Holds place
 
 -- a boundary, if there is one, has a column for this strip row
 abbrev pub HasColumnIn : ℕ → Option BoundaryRecord → Type 0

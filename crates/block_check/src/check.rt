@@ -2,11 +2,12 @@
 ghost use Rattle.std.specs.Prelude.{◌≡◌, ◌≤◌, ◌<◌, ◌/◌, ◌%◌, ◌⊎◌, ◌↔◌, ◌*◌, IsTrue, OnOk, length};
 ghost use Rattle.cells.specs.Boxes.{HasCells};
 ghost use Rattle.cells.specs.Places.{IsSmall, cell_count};
+ghost use Rattle.cells.specs.Firsts.{FirstWithout};
 ghost use Rattle.map_canvas.specs.Canvases.{StandsOver};
 ghost use Rattle.map_canvas.specs.Choices.{Fits, box_cell};
 ghost use Rattle.block_check.specs.Blocks.{HasColumnsOn, IsFormedBlock, cols_on};
 ghost use Rattle.block_check.specs.Records.{BlockIsLeast, Checks, ChecksJoin, OverlapsRight};
-ghost use Rattle.block_check.specs.Steps.{AreColumnsOn, ChecksStrip, FirstWithout, IsSharedAt};
+ghost use Rattle.block_check.specs.Steps.{AreColumnsOn, ChecksStrip, IsSharedAt};
 
 use crate::BlockRecord;
 use block_strips::{Side, strip_of};

@@ -4,6 +4,7 @@ use Rattle.std.proofs.lemmas.Bool.{cases_order}
 use Rattle.std.specs.Prelude.{Option, Some, None}
 use Rattle.cells.specs.Cells.{Cells}
 use Rattle.cells.specs.Places.{cell_count}
+use Rattle.cells.specs.Firsts.{IsFirstWithout}
 use Rattle.map_canvas.specs.declared.canvas.Placement.{Placement}
 use Rattle.map_canvas.specs.Maps.{SourceMap}
 use Rattle.strip_boundary.specs.declared.boundary.BoundaryRecord.{BoundaryRecord}
@@ -14,7 +15,7 @@ use Rattle.block_strips.specs.declared.side.Side.{Side}
 use Rattle.block_strips.specs.declared.side.Side.TheVariants.{Left, Top}
 use Rattle.block_check.specs.declared.block.BlockRecord.{BlockRecord}
 use Rattle.block_check.specs.Blocks.{strip_on}
-use Rattle.block_check.specs.Records.{BlockBreaksFit, BreaksLeft, BreaksOverlap, BreaksTop, IsFirstBlockFault, IsFirstWithout, IsJoinFault, OverlapsAt}
+use Rattle.block_check.specs.Records.{BlockBreaksFit, BreaksLeft, BreaksOverlap, BreaksTop, IsFirstBlockFault, IsJoinFault, OverlapsAt}
 use Rattle.block_check.proofs.Faults.{no_bad_column, no_join_fault}
 use Rattle.block_replay.specs.BlockReplay.{AreOneBlockFault}
 

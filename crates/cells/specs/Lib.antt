@@ -7,3 +7,4 @@ pub mod Buffers
 pub mod SizeLists
 pub mod PartLists
 pub mod Distances
+pub mod Firsts

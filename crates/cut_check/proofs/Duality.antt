@@ -13,6 +13,7 @@ use Rattle.cells.specs.Places.{cell_count, plus}
 use Rattle.cells.specs.Neighbours.{unit_step}
 use Rattle.cells.specs.Boxes.{IsInBox}
 use Rattle.cells.specs.Distances.{distance}
+use Rattle.cells.specs.Firsts.{Each}
 use Rattle.map_canvas.specs.Maps.{IsFilled, map_at}
 use Rattle.map_canvas.specs.Choices.{after_at, new_source}
 use Rattle.boxes.specs.Sums.{signed_sum_box}
@@ -25,7 +26,7 @@ use Rattle.boxes.specs.Pairs.{AreCounts, cell_in, has_next, pair_count}
 use Rattle.cut_check.specs.declared.record.Flow.{Flow}
 use Rattle.cut_check.specs.declared.record.CutRecord.{CutRecord}
 use Rattle.cut_check.specs.Flows.{IsBounded, IsBoundedAt, pair_flow, leaving}
-use Rattle.cut_check.specs.Records.{Each, IsBalanced, IsBoundedPair, IsPartWhere, IsValue, Setting}
+use Rattle.cut_check.specs.Records.{IsBalanced, IsBoundedPair, IsPartWhere, IsValue, Setting}
 use Rattle.boxes.proofs.Cells.{cell_inside, next_inside}
 use Rattle.boxes.proofs.Indices.{each_cell}
 use Rattle.boxes.proofs.PairNumbers.{number_below}

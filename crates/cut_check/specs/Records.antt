@@ -1,11 +1,12 @@
 -- A reader has to trust this file. Cut records: a placement, a choice, and a flow that shows that
 -- the choice is least. (Own, from the cuts of Kwatra et al. 2003; that a flow bounds every cut is
 -- Ford and Fulkerson 1956.)
-use Rattle.std.specs.Prelude.{◌≡◌, ◌<◌, ◌⊎◌, ℕ, ℤ, pos, Bool, true, false, List, None, slice_index_or}
+use Rattle.std.specs.Prelude.{◌≡◌, ◌⊎◌, ℕ, ℤ, pos, Bool, true, false, List, None, slice_index_or}
 use Rattle.cells.specs.declared.place.Axis.{Axis}
 use Rattle.cells.specs.Places.{cell_count}
 use Rattle.cells.specs.Cells.{Cells}
 use Rattle.cells.specs.Distances.{distance}
+use Rattle.cells.specs.Firsts.{Each, IsFirstWithout}
 use Rattle.map_canvas.specs.Maps.{SourceMap, map_at}
 use Rattle.map_canvas.specs.Choices.{Fits, box_cell}
 use Rattle.boxes.specs.Sums.{signed_sum_box}
@@ -70,10 +71,6 @@ abbrev pub HasValue : Setting → CutRecord → Type 0
 HasValue s cut =
     IsValue s cut (pos (window_after (distance s.sample) s.map cut.placement cut.choice))
 
--- each number below n has the property
-abbrev pub Each : ℕ → (ℕ → Type 0) → Type 0
-Each n Holds = (i : ℕ) → i < n → Holds i
-
 -- each cell or pair of the box keeps a rule
 abbrev pub FillsAll : Setting → CutRecord → Type 0
 FillsAll s cut = Each (cell_count cut.placement.rect.size) (FillsUnfilled s cut)
@@ -99,12 +96,6 @@ pub record CutStands (s : Setting) (cut : CutRecord) : Type 0 where
   pub bounded : BoundsAll s cut
   pub balanced : BalancesAll s cut
   pub value : HasValue s cut
-
--- of the numbers below n, the first without the property
-pub record IsFirstWithout (n : ℕ) (Holds : ℕ → Type 0) (place : ℕ) : Type 0 where
-  pub below : place < n
-  pub before : (earlier : ℕ) → earlier < place → Holds earlier
-  pub here : Holds place → ⊥
 
 -- the first cell or pair of the box that breaks a rule
 abbrev pub IsFirstUnfilled : Setting → CutRecord → ℕ → Type 0

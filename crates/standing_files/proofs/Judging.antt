@@ -7,6 +7,7 @@ use Rattle.cells.specs.declared.place.Taps.{Taps}
 use Rattle.cells.specs.Cells.{Cells, IsOnePart, sizes_of}
 use Rattle.cells.specs.Parts.{count_from}
 use Rattle.cells.specs.Places.{cell_count}
+use Rattle.cells.specs.Firsts.{FirstWithout}
 use Rattle.map_canvas.specs.Maps.{SourceMap, empty_map}
 use Rattle.source_map.specs.declared.head.Head.{Head}
 use Rattle.source_map.specs.declared.map_file.MapFile.{MapFile}
@@ -36,7 +37,7 @@ use Rattle.sample_files.specs.Several.{AreSoundSamples}
 use Rattle.standing_files.specs.declared.verdict.Verdict.{Verdict}
 use Rattle.standing_files.specs.declared.verdict.Verdict.TheVariants.{Stands, Fails}
 use Rattle.standing_files.specs.Standing.{FilesStand, GoTogether, HasOneFrame, IsBrokenBlock, IsBrokenCut, IsBrokenWalk, IsLeftAt, IsVerdict, TakesForm}
-use Rattle.standing_files.specs.Steps.{FirstWithout, JudgesBlocks, JudgesBy, JudgesCuts, JudgesRecords, JudgesWalk, Suit, verdict_on_map}
+use Rattle.standing_files.specs.Steps.{JudgesBlocks, JudgesBy, JudgesCuts, JudgesRecords, JudgesWalk, Suit, verdict_on_map}
 use Rattle.standing_files.proofs.Breaking.{breaks_none}
 
 -- what is asked of the records of a file that was read

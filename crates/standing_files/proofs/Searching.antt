@@ -1,7 +1,7 @@
 -- The first number without a property is one, and so is the first broken rule of several.
 use Rattle.std.proofs.Common.{◌≡◌, ◌⊎◌, ℕ, inl, inr}
 use Rattle.std.proofs.lemmas.Bool.{cases_order}
-use Rattle.cut_check.specs.Records.{IsFirstWithout}
+use Rattle.cells.specs.Firsts.{IsFirstWithout}
 use Rattle.loop_walk.specs.Records.{IsFirstPlace}
 
 pub one_first : (n : ℕ) (Holds : ℕ → Type 0) (p q : ℕ) → IsFirstWithout n Holds p → IsFirstWithout n Holds q → p ≡ q

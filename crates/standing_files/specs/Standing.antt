@@ -6,6 +6,7 @@ use Rattle.cells.specs.declared.place.Size.{Size}
 use Rattle.cells.specs.declared.place.Taps.{Taps}
 use Rattle.cells.specs.Cells.{Cells, IsOnePart, cell_at, sizes_of}
 use Rattle.cells.specs.Places.{IsInside, cell_count, place_of}
+use Rattle.cells.specs.Firsts.{Each, IsFirstWithout}
 use Rattle.map_canvas.specs.Maps.{SourceMap, IsFull, IsMap, empty_map, map_at}
 use Rattle.source_map.specs.declared.head.Head.{Head}
 use Rattle.source_map.specs.declared.head.Version.{Version}
@@ -13,7 +14,6 @@ use Rattle.source_map.specs.declared.map_file.MapFile.{MapFile}
 use Rattle.source_map.specs.declared.map_file.MapFile.TheVariants.{Cells as CellMap, Frames}
 use Rattle.source_map.specs.MapFiles.{frame_source}
 use Rattle.cut_check.specs.declared.record.CutRecord.{CutRecord}
-use Rattle.cut_check.specs.Records.{Each, IsFirstWithout}
 use Rattle.cut_replay.specs.declared.records.Broken.{Broken}
 use Rattle.cut_replay.specs.Replay.{EachLeast, EachStands, IsFirstBroken, left_by}
 use Rattle.block_check.specs.declared.block.BlockRecord.{BlockRecord}

@@ -4,10 +4,10 @@ use Rattle.std.specs.Prelude.{◌≡◌, ◌⊎◌, ◌<◌, ℕ, List, length, 
 use Rattle.cells.specs.declared.place.At.{At}
 use Rattle.cells.specs.Cells.{Cells, cell_at, sizes_of}
 use Rattle.cells.specs.Places.{cell_count, plus, spot}
+use Rattle.cells.specs.Firsts.{Each, IsFirstWithout}
 use Rattle.map_canvas.specs.Maps.{SourceMap, empty_map}
 use Rattle.source_map.specs.declared.map_file.MapFile.{MapFile}
 use Rattle.cut_check.specs.declared.record.CutRecord.{CutRecord}
-use Rattle.cut_check.specs.Records.{Each, IsFirstWithout}
 use Rattle.cut_replay.specs.Replay.{EachStands, left_by}
 use Rattle.block_check.specs.declared.block.BlockRecord.{BlockRecord}
 use Rattle.block_replay.specs.BlockReplay.{EachBlockStands, left_by_blocks}
@@ -19,11 +19,6 @@ use Rattle.standing_files.specs.declared.verdict.TheConstants.{MAP_RULE}
 use Rattle.standing_files.specs.declared.verdict.Verdict.{Verdict}
 use Rattle.standing_files.specs.declared.verdict.Verdict.TheVariants.{Stands, Fails}
 use Rattle.standing_files.specs.Standing.{AreKindsOfOneRun, HasOneFrame, IsBrokenBlock, IsBrokenCut, IsBrokenRecord, IsBrokenWalk, IsCopied, IsLeftAt, IsWholeRule, LeaveAt, RecordsStand, TakesForm, record_file_head, map_entries, map_output}
-
--- the first number below n without the property, if there is one
-abbrev pub FirstWithout : ℕ → (ℕ → Type 0) → Option ℕ → Type 0
-FirstWithout n Holds None = Each n Holds
-FirstWithout n Holds (Some place) = IsFirstWithout n Holds place
 
 -- each cell of a run is that of another run
 abbrev pub IsRunSame : Cells → Cells → At → At → ℕ → Type 0

@@ -2,10 +2,10 @@
 ghost use Rattle.std.specs.Prelude.{◌≡◌, ◌≤◌, ◌<◌, ◌+◌, ◌*◌, ◌↔◌, ◌∷◌, [], IfNone, IfSome, IsTrue};
 ghost use Rattle.cells.specs.Cells.{sizes_of};
 ghost use Rattle.cells.specs.Places.{cell_count};
+ghost use Rattle.cells.specs.Firsts.{Each, FirstWithout, IsFirstWithout};
 ghost use Rattle.source_map.specs.MapFiles.{frame_source};
-ghost use Rattle.cut_check.specs.Records.{Each, IsFirstWithout};
 ghost use Rattle.standing_files.specs.Standing.{IsCopied, IsCopiedAt, map_output, named_source};
-ghost use Rattle.standing_files.specs.Steps.{FirstWithout, IsRunCopied, IsRunSame};
+ghost use Rattle.standing_files.specs.Steps.{IsRunCopied, IsRunSame};
 
 use cells::{At, Box3, Size, Volume};
 use source_map::MapFile;

@@ -1,7 +1,7 @@
 use Rattle.std.proofs.Common.{refl, subst, inl, inr}
 use Rattle.cells.specs.Places.{cell_count}
+use Rattle.cells.specs.Firsts.{IsFirstWithout}
 use Rattle.map_canvas.proofs.Filling.{fits_small}
-use Rattle.block_check.specs.Records.{IsFirstWithout}
 use Rattle.block_strips.specs.declared.side.Side.TheVariants.{Top}
 use Rattle.block_check.specs.Blocks.{cols_on}
 use Rattle.block_check.specs.Steps.{IsSharedAt}

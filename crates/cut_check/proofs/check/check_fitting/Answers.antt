@@ -1,7 +1,8 @@
 use Rattle.std.proofs.Common.{refl, subst, inl, inr, []}
 use Rattle.cells.specs.Places.{cell_count}
+use Rattle.cells.specs.Firsts.{Each, IsFirstWithout}
 use Rattle.map_canvas.specs.Maps.{SourceMap}
-use Rattle.cut_check.specs.Records.{Each, FillsUnfilled, IsFirstWithout}
+use Rattle.cut_check.specs.Records.{FillsUnfilled}
 use Rattle.cut_check.proofs.Fitting.{fits_of}
 use Rattle.cut_check.proofs.check.check_fitting.Goals as goal
 

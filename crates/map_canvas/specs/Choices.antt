@@ -2,6 +2,7 @@
 -- a patch of the sample is laid over the output, and of each cell old or new is taken.)
 use Rattle.std.specs.Prelude.{◌≡◌, ℕ, Bool, false, List, map, slice_index_or, Option, Some, option_map, unwrap_or, if◌then◌else◌}
 use Rattle.cells.specs.declared.place.At.{At}
+use Rattle.cells.specs.declared.place.Box3.{Box3}
 use Rattle.cells.specs.declared.place.Size.{Size}
 use Rattle.cells.specs.Places.{IsInside, SumFits, cell_count, index_in, place_of, places, plus, minus}
 use Rattle.cells.specs.Boxes.{HoldsBox, HasCells, IsInBox}
@@ -14,6 +15,10 @@ pub record Fits (output : Size) (sample : Cells) (placement : Placement) : Type 
   pub some : HasCells placement.rect.size
   pub inside : HoldsBox output placement.rect.corner placement.rect.size
   pub sources : Holds sample placement.from placement.rect.size
+
+-- a box, laid from a place of the sample
+abbrev pub laid_from : Box3 → At → Placement
+laid_from rect from = record { rect = rect; from = from }
 
 -- the number of cells of the box
 abbrev pub box_count : Placement → ℕ

@@ -18,12 +18,13 @@ use Rattle.lane_kernels.specs.Sums.{sum_of_squared_differences}
 use Rattle.map_canvas.specs.Canvases.{CanvasState, IsCanvas}
 use Rattle.map_canvas.specs.Maps.{IsFilled}
 use Rattle.map_canvas.specs.CellErrors.{box_spot, spot_error}
+use Rattle.map_canvas.specs.Choices.{laid_from}
 use Rattle.match_error.specs.declared.gathered.FilledRun.{FilledRun}
 use Rattle.match_error.specs.declared.gathered.FilledRuns.{FilledRuns}
 use Rattle.boxes.specs.Sums.{sum_to}
 use Rattle.boxes.proofs.Additions.{counts}
 use Rattle.boxes.proofs.Axes.{sum_more, sum_split}
-use Rattle.match_error.specs.Runs.{AddsError, AddsRun, AreRunsIn, IsInRow, IsRunIn, laid_from, run_error}
+use Rattle.match_error.specs.Runs.{AddsError, AddsRun, AreRunsIn, IsInRow, IsRunIn, run_error}
 use Rattle.match_error.proofs.Overlaps.{run_is_error, unfilled_error}
 
 -- a step from a place along a row

@@ -9,9 +9,8 @@ use Rattle.cells.specs.Cells.{Cells, IsVolume, row_at}
 use Rattle.cells.specs.Places.{HasAxes, index_in, plus, raster_index, spot}
 use Rattle.boxes.specs.Sums.{sum_to}
 use Rattle.lane_kernels.specs.Sums.{sum_of_squared_differences}
-use Rattle.map_canvas.specs.declared.canvas.Placement.{Placement}
 use Rattle.map_canvas.specs.Canvases.{CanvasState, StandsOver}
-use Rattle.map_canvas.specs.Choices.{Fits}
+use Rattle.map_canvas.specs.Choices.{Fits, laid_from}
 use Rattle.map_canvas.specs.CellErrors.{spot_error}
 use Rattle.match_error.specs.declared.gathered.FilledRun.{FilledRun}
 use Rattle.match_error.specs.declared.gathered.FilledRuns.{FilledRuns}
@@ -56,10 +55,7 @@ run_error bytes sample from run = sum_of_squared_differences
 abbrev pub runs_error : FilledRuns → Cells → At → ℕ
 runs_error runs sample from = sum_by (run_error runs.bytes.items sample from) runs.runs.items
 
--- a box, laid from a place of a sample that the canvas stands over
-abbrev pub laid_from : Box3 → At → Placement
-laid_from rect from = record { rect = rect; from = from }
-
+-- a box is laid from a place of a sample that the canvas stands over
 pub record IsLaidOver (canvas : CanvasState) (rect : Box3) (sample : Cells) (from : At) : Type 0 where
   pub volume : IsVolume sample
   pub stands : StandsOver canvas sample

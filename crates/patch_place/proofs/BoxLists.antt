@@ -13,8 +13,8 @@ use Rattle.cells.specs.SizeLists.{size_of_part, stock_place}
 use Rattle.cells.proofs.BoxLaws.{step_of}
 use Rattle.cells.proofs.Raster.{index_below, index_of_spot, one_place, place_at}
 use Rattle.spans.specs.Rooms.{HasRoom}
-use Rattle.map_canvas.specs.Choices.{Fits}
-use Rattle.patch_place.specs.Lists.{filled_from, fit_list, from_part, part_lists, room}
+use Rattle.map_canvas.specs.Choices.{Fits, laid_from}
+use Rattle.patch_place.specs.Lists.{fit_list, from_part, part_lists, room}
 use Rattle.patch_place.proofs.Counting.{Contains-slice_get, slice_get-Contains}
 use Rattle.patch_place.proofs.Fitting.{all_over, axis_holds, over_parts, same_place, some_over}
 use Rattle.patch_place.proofs.PartLists.{entry_of_all, some_of_part}
@@ -37,13 +37,13 @@ pub some_room : (sample : Cells) (rect : Box3) (number : ℕ) (part : Size) → 
 some_room sample rect zero part at has = absurd (none-some part at)
 some_room sample rect (suc n) part at has =
     some_of_part (fit_list rect) (sizes_of sample) n part at
-    (some_over (filled_from rect) (room part rect.size) (omega (arith, has.w)) (omega (arith, has.h)) (omega (arith, has.f)))
+    (some_over (laid_from rect) (room part rect.size) (omega (arith, has.w)) (omega (arith, has.h)) (omega (arith, has.f)))
 
 pub all_in_room : (output : Size) (sample : Cells) (rect : Box3) → HasCells rect.size → HoldsBox output rect.corner rect.size → All (Fits output sample) (part_lists (fit_list rect) sample)
 all_in_room output sample rect some inside =
     over_parts (Fits output sample) (fit_list rect) sample (λ number n part e at.
     let free = room part rect.size in
-    all_over (λ placement. Fits output sample (from_part (sizes_of sample) number placement)) (filled_from rect) free
+    all_over (λ placement. Fits output sample (from_part (sizes_of sample) number placement)) (laid_from rect) free
     (λ i lt. let step = step_of free i (cells_of_index free i lt) lt in
     record {
       some = some;
@@ -60,7 +60,7 @@ on_axis_at n (pos a) len holds = (a, refl, omega (arith, ints, holds.to))
 on_axis_at n (negsuc a) len holds = absurd (omega (arith, ints, holds.from))
 
 -- of one part
-each_in_part : (part : Size) (rect : Box3) (from : At) → HoldsBox part from rect.size → Contains (fit_list rect part) (filled_from rect from)
+each_in_part : (part : Size) (rect : Box3) (from : At) → HoldsBox part from rect.size → Contains (fit_list rect part) (laid_from rect from)
 each_in_part part rect from box =
     let free = room part rect.size in
     let x = on_axis_at part.w from.x rect.size.w box.x in
@@ -74,7 +74,7 @@ each_in_part part rect from box =
     let index : index_in free from ≡ Some i = subst (λ p. index_in free p ≡ Some i) (sym here) (index_of_spot free x.0 y.0 f.0 lx ly lf) in
     let lt : i < cell_count free = index_below free from i index in
     let same : place_of free i ≡ from = one_place free (place_of free i) from i (place_at free i (omega (arith, lx)) (omega (arith, ly)) lt) index in
-    (i, subst (λ n. i < n) (sym (count_over (filled_from rect) free)) lt, get_or_from_slice_get (fit_list rect part) i (filled_from rect from) (filled_from rect from) (entry_over (filled_from rect) free i lt ∙ ap (λ p. Some (filled_from rect p)) same))
+    (i, subst (λ n. i < n) (sym (count_over (laid_from rect) free)) lt, get_or_from_slice_get (fit_list rect part) i (laid_from rect from) (laid_from rect from) (entry_over (laid_from rect) free i lt ∙ ap (λ p. Some (laid_from rect p)) same))
 
 -- an entry that is mapped
 pub Contains-map : {X Y : Type 0} (f : X → Y) (xs : List X) (x : X) → Contains xs x → Contains (map f xs) (f x)
@@ -82,12 +82,12 @@ Contains-map f xs x has =
     let at = Contains-slice_get xs x has in
     slice_get-Contains (map f xs) (f x) at.0 (slice_get-map f xs at.0 ∙ ap (option_map f) at.1)
 
-pub each_in_room : (output : Size) (sample : Cells) (rect : Box3) (from : At) → Fits output sample (filled_from rect from) → Contains (part_lists (fit_list rect) sample) (filled_from rect from)
+pub each_in_room : (output : Size) (sample : Cells) (rect : Box3) (from : At) → Fits output sample (laid_from rect from) → Contains (part_lists (fit_list rect) sample) (laid_from rect from)
 each_in_room output sample rect from fits =
     let there = held_in_part sample from rect.size fits.some fits.sources in
     let sizes = sizes_of sample in
     let number : there.n + 1 ≡ suc there.n = omega arith in
     let stock : stock_place sizes (there.n + 1) there.from ≡ from = stock_moved sizes (there.n + 1) there.n there.from number ∙ sym there.stock in
-    subst (λ p. Contains (part_lists (fit_list rect) sample) (filled_from rect p)) stock
-    (entry_of_all (fit_list rect) sizes there.n there.part (filled_from rect (stock_place sizes (there.n + 1) there.from)) there.is
-    (Contains-map (from_part sizes (there.n + 1)) (fit_list rect there.part) (filled_from rect there.from) (each_in_part there.part rect there.from there.box)))
+    subst (λ p. Contains (part_lists (fit_list rect) sample) (laid_from rect p)) stock
+    (entry_of_all (fit_list rect) sizes there.n there.part (laid_from rect (stock_place sizes (there.n + 1) there.from)) there.is
+    (Contains-map (from_part sizes (there.n + 1)) (fit_list rect there.part) (laid_from rect there.from) (each_in_part there.part rect there.from there.box)))

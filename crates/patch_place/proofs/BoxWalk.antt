@@ -11,10 +11,11 @@ use Rattle.cells.specs.Places.{cell_count, place_of, spot, places}
 use Rattle.cells.specs.SizeLists.{frames_to_part, stock_place}
 use Rattle.cells.proofs.BoxLaws.{step_of}
 use Rattle.map_canvas.specs.declared.canvas.Placement.{Placement}
+use Rattle.map_canvas.specs.Choices.{laid_from}
 use Rattle.match_error.specs.declared.error.Error.{Error}
 use Rattle.patch_place.specs.declared.candidates.Spot.{Spot}
 use Rattle.patch_place.specs.Counts.{FitsCount, IsSpotAt, entries_after, entries_before, room_entries}
-use Rattle.patch_place.specs.Lists.{filled_from, fit_list, from_part, lists_from, room}
+use Rattle.patch_place.specs.Lists.{fit_list, from_part, lists_from, room}
 use Rattle.patch_place.proofs.BoxLists.{cells_of_index}
 use Rattle.patch_place.proofs.Counting.{map_more, slice_get-Contains}
 use Rattle.patch_place.specs.declared.candidates.Candidates.TheVariants.{Fits}
@@ -47,11 +48,11 @@ spot_place sizes n free i s is =
     stock_moved sizes (n + 1) n (place_of free i) number ∙ (λ k. record { x = pos (sym is.x k); y = pos (sym is.y k); f = frame k })
 
 -- the entry there
-pub room_entry : (sizes : List Size) (n : ℕ) (rect : Box3) (free : Size) (i : ℕ) (s : Spot) → i < cell_count free → IsSpotAt free (frames_to_part sizes n) i s → slice_get (room_entries rect sizes n free) i ≡ Some (filled_from rect (spot s.x s.y s.f))
+pub room_entry : (sizes : List Size) (n : ℕ) (rect : Box3) (free : Size) (i : ℕ) (s : Spot) → i < cell_count free → IsSpotAt free (frames_to_part sizes n) i s → slice_get (room_entries rect sizes n free) i ≡ Some (laid_from rect (spot s.x s.y s.f))
 room_entry sizes n rect free i s lt is =
-    slice_get-map (from_part sizes (n + 1)) (map (filled_from rect) (places free)) i
-    ∙ ap (option_map (from_part sizes (n + 1))) (entry_over (filled_from rect) free i lt)
-    ∙ ap (λ p. Some (filled_from rect p)) (spot_place sizes n free i s is)
+    slice_get-map (from_part sizes (n + 1)) (map (laid_from rect) (places free)) i
+    ∙ ap (option_map (from_part sizes (n + 1))) (entry_over (laid_from rect) free i lt)
+    ∙ ap (λ p. Some (laid_from rect p)) (spot_place sizes n free i s is)
 
 pub room_fits_there : (P : Placement → Type 0) (sizes : List Size) (n : ℕ) (rect : Box3) (part free : Size) (i : ℕ) (entry : Placement) → slice_get sizes n ≡ Some part → free ≡ room part rect.size → slice_get (room_entries rect sizes n free) i ≡ Some entry → All P (lists_from (fit_list rect) sizes 1 sizes) → P entry
 room_fits_there P sizes n rect part free i entry at e is all =
@@ -65,7 +66,7 @@ errors_more f before list i entry at = append_assoc before (map f (take i list))
 pub errors_all : (f : Placement → Error) (sizes : List Size) (n : ℕ) (rect : Box3) (part free : Size) (i : ℕ) → slice_get sizes n ≡ Some part → free ≡ room part rect.size → cell_count free ≤ i → map f (entries_before (fit_list rect) sizes n) ++ map f (take i (room_entries rect sizes n free)) ≡ map f (entries_before (fit_list rect) sizes (n + 1))
 errors_all f sizes n rect part free i at e le =
     let here = room_entries rect sizes n free in
-    let many : length here ≡ cell_count free = length-map (map (filled_from rect) (places free)) (from_part sizes (n + 1)) ∙ count_over (filled_from rect) free in
+    let many : length here ≡ cell_count free = length-map (map (laid_from rect) (places free)) (from_part sizes (n + 1)) ∙ count_over (laid_from rect) free in
     ap (λ list. map f (entries_before (fit_list rect) sizes n) ++ map f list) (take_all i here (omega (arith, many, le)) ∙ ap (room_entries rect sizes n) e)
     ∙ sym (map-append f (entries_before (fit_list rect) sizes n) (room_entries rect sizes n (room part rect.size)))
     ∙ ap (map f) (sym (before_step (fit_list rect) sizes n part at))

@@ -17,9 +17,10 @@ use Rattle.spans.specs.declared.axis.Span.{Span}
 use Rattle.spans.specs.Axes.{SpanFits, grid_on}
 use Rattle.spans.proofs.Spans.{laid_fits, grid_fits, patch_fits}
 use Rattle.map_canvas.specs.declared.canvas.Placement.{Placement}
+use Rattle.map_canvas.specs.Choices.{laid_from}
 use Rattle.patch_place.specs.declared.mode.Mode.{Mode}
 use Rattle.patch_place.specs.declared.mode.Mode.TheVariants.{Grid, Random, Whole, Sub}
-use Rattle.patch_place.specs.Lists.{filled_from, first_half, fit_list, from_part, laid, laid_list, part_lists, placed, room}
+use Rattle.patch_place.specs.Lists.{first_half, fit_list, from_part, laid, laid_list, part_lists, placed, room}
 use Rattle.patch_place.specs.Modes.{candidates, least_part, patch_box}
 use Rattle.patch_place.specs.Fitting.{FitsAndCovers, HasPatch}
 use Rattle.patch_place.proofs.PartLists.{all_of_parts, some_of_part}
@@ -103,7 +104,7 @@ patch_all side overlap output sample x y f is has lx ly lf =
     let room_for = least_within sample n part at in
     let free = room part rect.size in
     let some : HasCells free = record { w = omega (arith, room_for.w); h = omega (arith, room_for.h); f = omega (arith, room_for.f) } in
-    all_over (λ placement. FitsAndCovers output sample (spot x y f) (from_part (sizes_of sample) number placement)) (filled_from rect) free
+    all_over (λ placement. FitsAndCovers output sample (spot x y f) (from_part (sizes_of sample) number placement)) (laid_from rect) free
     (λ i lt. let step = step_of free i some lt in
     placed_over output sample part x y f _ _ _ _
     (record {
@@ -155,7 +156,7 @@ some_there (Sub side overlap tol) output sample q is =
     let room_for = least_within sample 0 sample.size refl in
     let rect = patch_box output sample side overlap q in
     some_of_part (fit_list rect) (sizes_of sample) 0 sample.size refl
-    (some_over (filled_from rect) (room sample.size rect.size) (omega (arith, room_for.w)) (omega (arith, room_for.h)) (omega (arith, room_for.f)))
+    (some_over (laid_from rect) (room sample.size rect.size) (omega (arith, room_for.w)) (omega (arith, room_for.h)) (omega (arith, room_for.f)))
 
 -- the same of the candidates that stand for the list
 pub all_listed : (mode : Mode) (output : Size) (sample : Cells) (q : At) (list : List Placement) → list ≡ candidates mode output sample q → IsVolume sample → HasPatch mode → IsInside output q → All (FitsAndCovers output sample q) list

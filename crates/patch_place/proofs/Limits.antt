@@ -9,9 +9,9 @@ use Rattle.cells.specs.declared.place.Size.{Size}
 use Rattle.cells.specs.Boxes.{HasCells, HoldsBox}
 use Rattle.cells.specs.Cells.{Cells, sizes_of}
 use Rattle.map_canvas.specs.declared.canvas.Placement.{Placement}
-use Rattle.map_canvas.specs.Choices.{Fits}
+use Rattle.map_canvas.specs.Choices.{Fits, laid_from}
 use Rattle.map_canvas.specs.Maps.{SourceMap}
-use Rattle.patch_place.specs.Lists.{filled_from, fit_list, from_part, part_lists, room}
+use Rattle.patch_place.specs.Lists.{fit_list, from_part, part_lists, room}
 use Rattle.patch_place.specs.Tables.{AreErrorsAmong, AreTableErrors, IsBeaten, IsUnfilled, StandsForError}
 use Rattle.patch_place.proofs.Counting.{All-each, All-slice_get, AllZip-same, AllZip-weaker, first_at}
 use Rattle.patch_place.proofs.Fitting.{all_over, over_parts}
@@ -49,7 +49,7 @@ table_more tol among table errors entry error stands one =
 has_box : (sample : Cells) (rect : Box3) → All (λ (placement : Placement). placement.rect ≡ rect) (part_lists (fit_list rect) sample)
 has_box sample rect =
     over_parts (λ placement. placement.rect ≡ rect) (fit_list rect) sample
-    (λ number n part e at. all_over (λ placement. (from_part (sizes_of sample) number placement).rect ≡ rect) (filled_from rect) (room part rect.size) (λ i lt. refl))
+    (λ number n part e at. all_over (λ placement. (from_part (sizes_of sample) number placement).rect ≡ rect) (laid_from rect) (room part rect.size) (λ i lt. refl))
 
 same_box : (sample : Cells) (rect : Box3) (i : ℕ) (placement : Placement) → slice_get (part_lists (fit_list rect) sample) i ≡ Some placement → placement.rect ≡ rect
 same_box sample rect i placement at = All-slice_get (λ (placement : Placement). placement.rect ≡ rect) (part_lists (fit_list rect) sample) i placement (has_box sample rect) at

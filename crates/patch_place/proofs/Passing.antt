@@ -13,15 +13,14 @@ use Rattle.cells.specs.Places.{IsSmall, cell_count, spot}
 use Rattle.cells.specs.SizeLists.{frames_to_part}
 use Rattle.map_canvas.specs.declared.canvas.Placement.{Placement}
 use Rattle.map_canvas.specs.Canvases.{CanvasState}
-use Rattle.map_canvas.specs.Choices.{Fits}
+use Rattle.map_canvas.specs.Choices.{Fits, laid_from}
 use Rattle.match_error.specs.declared.error.Error.{Error}
 use Rattle.match_error.specs.Errors.{error_of, error_sum, filled_cells}
-use Rattle.match_error.specs.Runs.{laid_from}
 use Rattle.match_error.proofs.Bounds.{error_small}
 use Rattle.patch_place.specs.declared.candidates.Spot.{Spot}
 use Rattle.patch_place.specs.declared.shortlist.Shortlist.{Shortlist}
 use Rattle.patch_place.specs.Counts.{IsSpotAt, entries_before, room_entries}
-use Rattle.patch_place.specs.Lists.{filled_from, fit_list, lists_from, room}
+use Rattle.patch_place.specs.Lists.{fit_list, lists_from, room}
 use Rattle.patch_place.specs.Tables.{IsLimitOf, IsPast, IsShortlist}
 use Rattle.cells.proofs.BoxLaws.{step_of}
 use Rattle.patch_place.proofs.BoxLists.{cells_of_index}
@@ -67,7 +66,7 @@ along_spot x y f j = λ k. record { x = further x j k; y = stay y k; f = stay f 
 module _ (canvas : CanvasState) (small : IsSmall canvas.map.size) (sample : Cells) (volume : IsVolume sample) (rect : Box3) (sizes : List Size) (n : ℕ) (part free : Size) (at : slice_get sizes n ≡ Some part) (room_is : free ≡ room part rect.size)
     (fit : All (Fits canvas.map.size sample) (lists_from (fit_list rect) sizes 1 sizes)) (i : ℕ) (place : Spot) (here : IsSpotAt free (frames_to_part sizes n) i place) (below : i < cell_count free) (gone : ℕ) (row : place.x + gone ≤ free.w) where
   abbrev entry : ℕ → Placement
-  entry j = filled_from rect (spot (place.x + j) place.y place.f)
+  entry j = laid_from rect (spot (place.x + j) place.y place.f)
 
   abbrev list : List Placement
   list = room_entries rect sizes n free

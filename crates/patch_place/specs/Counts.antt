@@ -8,10 +8,11 @@ use Rattle.cells.specs.declared.place.Size.{Size}
 use Rattle.cells.specs.Places.{HasAxes, cell_count, places}
 use Rattle.spans.specs.Axes.{at_least_0}
 use Rattle.map_canvas.specs.declared.canvas.Placement.{Placement}
+use Rattle.map_canvas.specs.Choices.{laid_from}
 use Rattle.patch_place.specs.declared.candidates.Candidates.{Candidates}
 use Rattle.patch_place.specs.declared.candidates.Candidates.TheVariants.{One, Laid, Fits}
 use Rattle.patch_place.specs.declared.candidates.Spot.{Spot}
-use Rattle.patch_place.specs.Lists.{filled_from, first_half, from_part, laid, lists_from, room}
+use Rattle.patch_place.specs.Lists.{first_half, from_part, laid, lists_from, room}
 
 -- sizes whose places are counted by 32 bits: an axis may be 0 or one more than that of a part, and
 -- there are at most eight times the cells of a volume
@@ -48,7 +49,7 @@ steps_in (Fits rect) part = room part rect.size
 abbrev pub made_from : Candidates → Size → Size → At → Placement
 made_from (One placement) output part c = placement
 made_from (Laid q) output part c = laid output part q c
-made_from (Fits rect) output part c = filled_from rect c
+made_from (Fits rect) output part c = laid_from rect c
 
 -- the entries of a part
 abbrev pub entries_in : Candidates → Size → Size → List Placement
@@ -85,4 +86,4 @@ IsNextSpot size spot next =
 -- the entries of the part after the first n, in which a box has so much room
 abbrev pub room_entries : Box3 → List Size → ℕ → Size → List Placement
 room_entries rect sizes n free =
-    map (from_part sizes (n + 1)) (map (filled_from rect) (places free))
+    map (from_part sizes (n + 1)) (map (laid_from rect) (places free))

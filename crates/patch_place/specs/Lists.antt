@@ -11,6 +11,7 @@ use Rattle.cells.specs.SizeLists.{stock_place}
 use Rattle.spans.specs.declared.axis.Span.{Span}
 use Rattle.spans.specs.Axes.{at_least_0, laid_on}
 use Rattle.map_canvas.specs.declared.canvas.Placement.{Placement}
+use Rattle.map_canvas.specs.Choices.{laid_from}
 use Rattle.patch_place.specs.declared.candidates.Candidates.{Candidates}
 use Rattle.patch_place.specs.declared.candidates.Candidates.TheVariants.{One, Laid, Fits}
 
@@ -47,13 +48,9 @@ room part inner = record {
   f = part.f + 1 - inner.f;
 }
 
--- a box, filled from a place
-abbrev pub filled_from : Box3 → At → Placement
-filled_from rect from = record { rect = rect; from = from }
-
--- a box, filled from each place of a part where it fits, in raster order
+-- a box, laid from each place of a part where it fits, in raster order
 abbrev pub fit_list : Box3 → Size → List Placement
-fit_list rect part = map (filled_from rect) (places (room part rect.size))
+fit_list rect part = map (laid_from rect) (places (room part rect.size))
 
 -- a placement from a place of the part with this number, as one from the place of the joined volume
 abbrev pub from_part : List Size → ℕ → Placement → Placement

@@ -11,13 +11,13 @@ use Rattle.match_error.specs.declared.error.Error.{Error}
 use Rattle.match_error.specs.Errors.{error_of, is_within}
 use Rattle.map_canvas.specs.declared.canvas.Placement.{Placement}
 use Rattle.map_canvas.specs.Canvases.{CanvasState}
-use Rattle.map_canvas.specs.Choices.{Fits}
+use Rattle.map_canvas.specs.Choices.{Fits, laid_from}
 use Rattle.patch_place.specs.declared.candidates.Candidates.{Candidates}
 use Rattle.patch_place.specs.declared.eligible.Entry.{Entry}
 use Rattle.patch_place.specs.declared.shortlist.Shortlist.{Shortlist}
 use Rattle.patch_place.specs.Counts.{entries_after, entries_before}
 use Rattle.patch_place.specs.Draws.{DrawState, draw}
-use Rattle.patch_place.specs.Lists.{filled_from, fit_list, lists_from}
+use Rattle.patch_place.specs.Lists.{fit_list, lists_from}
 use Rattle.patch_place.specs.Picks.{IsBest, IsPick, is_eligible, listed_on}
 
 -- small enough to be multiplied
@@ -188,7 +188,7 @@ pub record IsShortStep (step : At) : Type 0 where
 -- a placement of a box that fits, and so is one of its candidates
 pub record IsHint (canvas : CanvasState) (sample : Cells) (rect : Box3)
     (placement : Placement) : Type 0 where
-  pub box : placement ≡ filled_from rect placement.from
+  pub box : placement ≡ laid_from rect placement.from
   pub fits : Fits canvas.map.size sample placement
 
 -- one more error

@@ -5,8 +5,8 @@ ghost use Rattle.cells.specs.Boxes.{HasCells, HoldsBox};
 ghost use Rattle.cells.specs.Cells.{sizes_of};
 ghost use Rattle.cells.specs.SizeLists.{size_of_part};
 ghost use Rattle.spans.specs.Rooms.{HasRoom};
-ghost use Rattle.map_canvas.specs.Choices.{Fits};
-ghost use Rattle.patch_place.specs.Lists.{filled_from, fit_list, part_lists};
+ghost use Rattle.map_canvas.specs.Choices.{Fits, laid_from};
+ghost use Rattle.patch_place.specs.Lists.{fit_list, part_lists};
 ghost use Rattle.patch_place.specs.Picks.{ThereIsOnePick};
 ghost use Rattle.patch_place.specs.Steps.{ThereIsOneNext};
 
@@ -18,8 +18,8 @@ pub fn box_list_is_all_that_fit(rect: &Box3, output: Size, sample: &Volume)
     requires some { HasCells rect.now.size }
     requires inside { HoldsBox output rect.now.corner rect.now.size }
     ensures fit { All (Fits output sample.now) (part_lists (fit_list rect.now) sample.now) }
-    ensures each { (from : At) → Fits output sample.now (filled_from rect.now from)
-        → Contains (part_lists (fit_list rect.now) sample.now) (filled_from rect.now from) }
+    ensures each { (from : At) → Fits output sample.now (laid_from rect.now from)
+        → Contains (part_lists (fit_list rect.now) sample.now) (laid_from rect.now from) }
     ensures some { (number : ℕ) (part : Size)
         → size_of_part (sizes_of sample.now) number ≡ Some part → HasRoom part rect.now.size →
         0 < length (part_lists (fit_list rect.now) sample.now) }

@@ -18,11 +18,11 @@ use Rattle.boxes.proofs.Axes.{sum_equal}
 use Rattle.boxes.proofs.Boxes.{box_counts}
 use Rattle.lane_kernels.specs.Sums.{sum_of_squared_differences}
 use Rattle.map_canvas.specs.Canvases.{CanvasState, IsCanvas}
-use Rattle.map_canvas.specs.Choices.{new_source}
+use Rattle.map_canvas.specs.Choices.{laid_from, new_source}
 use Rattle.map_canvas.specs.Maps.{IsFilled, map_at}
 use Rattle.map_canvas.specs.CellErrors.{cell_error, spot_error}
 use Rattle.match_error.specs.Errors.{error_sum}
-use Rattle.match_error.specs.Runs.{IsInRow, IsLaidOver, laid_from}
+use Rattle.match_error.specs.Runs.{IsInRow, IsLaidOver}
 use Rattle.match_error.proofs.Overlaps.{run_is_error}
 use Rattle.match_error.proofs.RowPlaces.{have_samples, row_is_run}
 use Rattle.match_error.proofs.RunLists.{run_held, run_of_picture}

@@ -12,8 +12,9 @@ use Rattle.cells.specs.Cells.{Cells, row_at}
 use Rattle.cells.specs.Places.{plus, raster_index, spot}
 use Rattle.boxes.specs.Sums.{sum_to}
 use Rattle.map_canvas.specs.Canvases.{CanvasState}
+use Rattle.map_canvas.specs.Choices.{laid_from}
 use Rattle.match_error.specs.Errors.{error_sum}
-use Rattle.match_error.specs.Runs.{IsLaidOver, laid_from}
+use Rattle.match_error.specs.Runs.{IsLaidOver}
 use Rattle.search_squares.specs.declared.blocks.Block.{Block}
 use Rattle.search_squares.specs.declared.blocks.BoxBlocks.{BoxBlocks}
 

@@ -9,8 +9,9 @@ use Rattle.cells.specs.Boxes.{HoldsBox}
 use Rattle.cells.specs.Cells.{Cells}
 use Rattle.cells.specs.Places.{minus, plus, spot}
 use Rattle.map_canvas.specs.Canvases.{CanvasState}
+use Rattle.map_canvas.specs.Choices.{laid_from}
 use Rattle.match_error.specs.Errors.{error_sum}
-use Rattle.match_error.specs.Runs.{IsLaidOver, laid_from}
+use Rattle.match_error.specs.Runs.{IsLaidOver}
 
 -- the place so many cells further along X
 abbrev pub place_along : At → ℕ → At

@@ -5,8 +5,8 @@ use Rattle.cells.specs.declared.place.Box3.{Box3}
 use Rattle.cells.specs.Boxes.{IsInBox}
 use Rattle.cells.specs.Cells.{Cells}
 use Rattle.map_canvas.specs.Canvases.{CanvasState}
+use Rattle.map_canvas.specs.Choices.{laid_from}
 use Rattle.match_error.specs.Errors.{error_sum}
-use Rattle.match_error.specs.Runs.{laid_from}
 use Rattle.search_squares.specs.declared.eliminated.Eliminated.{Eliminated}
 use Rattle.search_squares.specs.declared.levels.BoxLevels.{BoxLevels}
 use Rattle.search_squares.specs.declared.levels.SampleSums.{SampleSums}

@@ -1,6 +1,7 @@
 use Rattle.boxes.specs.Sums.{sum_to}
 use Rattle.match_error.specs.Errors.{row_error}
-use Rattle.match_error.specs.Runs.{AddsError, AreRunsIn, laid_from}
+use Rattle.map_canvas.specs.Choices.{laid_from}
+use Rattle.match_error.specs.Runs.{AddsError, AreRunsIn}
 use Rattle.match_error.proofs.gathered.FilledRuns.add_frame.Given as goal
 
 abbrev pub invariant-loop-y : goal.invariant-loop-y

@@ -1,7 +1,8 @@
 use Rattle.std.proofs.Common.{◌≤◌, ◌-◌}
 use Rattle.boxes.specs.Sums.{sum_to}
 use Rattle.map_canvas.specs.CellErrors.{spot_error}
-use Rattle.match_error.specs.Runs.{AddsError, AreRunsIn, laid_from}
+use Rattle.map_canvas.specs.Choices.{laid_from}
+use Rattle.match_error.specs.Runs.{AddsError, AreRunsIn}
 use Rattle.match_error.proofs.gathered.FilledRuns.add_row.Given as goal
 
 abbrev pub invariant-cells : goal.invariant-cells

@@ -1,9 +1,10 @@
 use Rattle.std.proofs.Common.{◌≡◌}
+use Rattle.map_canvas.specs.Choices.{laid_from}
 use Rattle.cells.specs.declared.place.At.{At}
 use Rattle.cells.specs.Cells.{Cells}
 use Rattle.boxes.specs.Sums.{sum_to}
 use Rattle.match_error.specs.Errors.{frame_error}
-use Rattle.match_error.specs.Runs.{AreRunsIn, IsLaidOver, laid_from, runs_error}
+use Rattle.match_error.specs.Runs.{AreRunsIn, IsLaidOver, runs_error}
 use Rattle.match_error.proofs.gathered.FilledRuns.gather.Given as goal
 
 abbrev pub invariant-loop-f : goal.invariant-loop-f

@@ -3,11 +3,11 @@ use Rattle.std.specs.Prelude.{All, Some, slice_get}
 use Rattle.search_squares.specs.Eliminations.{AreEliminated}
 use Rattle.cells.specs.Places.{cell_count}
 use Rattle.cells.specs.SizeLists.{frames_to_part}
-use Rattle.map_canvas.specs.Choices.{Fits}
+use Rattle.map_canvas.specs.Choices.{Fits, laid_from}
 use Rattle.match_error.specs.Errors.{error_of}
 use Rattle.match_error.proofs.Bounds.{error_small}
 use Rattle.patch_place.specs.Counts.{entries_before, room_entries}
-use Rattle.patch_place.specs.Lists.{filled_from, fit_list, lists_from}
+use Rattle.patch_place.specs.Lists.{fit_list, lists_from}
 use Rattle.patch_place.specs.declared.shortlist.Shortlist.{Shortlist}
 use Rattle.patch_place.specs.Tables.{IsLimitOf, IsSeenTo, IsShortlist}
 use Rattle.patch_place.proofs.Passing.{in_row, run_passed}
@@ -19,10 +19,10 @@ pub add_filled-requires-clause-fits : goal.add_filled-requires-clause-fits
 add_filled-requires-clause-fits c =
     let P = Fits c.args.canvas.now.map.size c.args.sample.now in
     let sizes = c.args.sizes.now in
-    let entry = filled_from c.args.rect.now c.place.result in
+    let entry = laid_from c.args.rect.now c.place.result in
     let at : slice_get (room_entries c.args.rect.now sizes c.args.n c.room-free.result) c.entries.done ≡ Some entry =
     room_entry sizes c.args.n c.args.rect.now c.room-free.result c.entries.done c.entries.spot (omega (arith, c.place_count-all.ensures, c.entries-test.true)) c.entries.invariant.spot
-    ∙ ap (λ p. Some (filled_from c.args.rect.now p)) (sym c.place.ensures) in
+    ∙ ap (λ p. Some (laid_from c.args.rect.now p)) (sym c.place.ensures) in
     let all : All P (lists_from (fit_list c.args.rect.now) sizes 1 sizes) = subst (λ s. All P (lists_from (fit_list c.args.rect.now) s 1 s)) (sym c.requires.sizes) c.requires.fit in
     room_fits_there P sizes c.args.n c.args.rect.now c.part_after.result c.room-free.result c.entries.done entry c.part_after.ensures.size c.room-free.ensures.room at all
 
@@ -34,18 +34,18 @@ add_filled-requires-clause-few c =
 
 pub add_filled-requires-clause-low : goal.add_filled-requires-clause-low
 add_filled-requires-clause-low c =
-    error_small c.args.canvas.now.map c.args.sample.now (filled_from c.args.rect.now c.place.result) c.map-map.ensures.canvas.map.small c.samples-samples.ensures.volume (add_filled-requires-clause-fits c)
+    error_small c.args.canvas.now.map c.args.sample.now (laid_from c.args.rect.now c.place.result) c.map-map.ensures.canvas.map.small c.samples-samples.ensures.volume (add_filled-requires-clause-fits c)
 
 pub entries-preserved : goal.entries-preserved
 entries-preserved c =
     let f = error_of c.args.canvas.now.map c.args.sample.now in
     let sizes = c.args.sizes.now in
-    let entry = filled_from c.args.rect.now c.place.result in
+    let entry = laid_from c.args.rect.now c.place.result in
     let list = room_entries c.args.rect.now sizes c.args.n c.room-free.result in
     let before = map f (entries_before (fit_list c.args.rect.now) sizes c.args.n) in
     let at : slice_get list c.entries.done ≡ Some entry =
     room_entry sizes c.args.n c.args.rect.now c.room-free.result c.entries.done c.entries.spot (omega (arith, c.place_count-all.ensures, c.entries-test.true)) c.entries.invariant.spot
-    ∙ ap (λ p. Some (filled_from c.args.rect.now p)) (sym c.place.ensures) in
+    ∙ ap (λ p. Some (laid_from c.args.rect.now p)) (sym c.place.ensures) in
     record {
       short =
           subst (IsShortlist c.add_filled.new.self) (errors_more f before list c.entries.done entry at)

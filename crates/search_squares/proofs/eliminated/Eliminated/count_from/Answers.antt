@@ -1,7 +1,7 @@
 use Rattle.std.proofs.Common.{◌+◌, ◌<◌, ap, sym, subst, ◌∙◌, arith}
+use Rattle.map_canvas.specs.Choices.{laid_from}
 use Rattle.cells.specs.declared.place.At.{At}
 use Rattle.match_error.specs.Errors.{error_sum}
-use Rattle.match_error.specs.Runs.{laid_from}
 use Rattle.search_squares.specs.Bounds.{place_along}
 use Rattle.search_squares.proofs.PlaceRuns.{along_on}
 use Rattle.search_squares.proofs.eliminated.Eliminated.count_from.Goals as goal

@@ -3,6 +3,7 @@ use Rattle.std.proofs.Common.{◌≡◌, ℕ, ◌*◌, ◌<◌, ◌≤◌, List,
 use Rattle.std.specs.Prelude.{IsSome, All}
 use Rattle.cells.specs.Cells.{Cells, HasCell, IsInsideOf, IsVolume}
 use Rattle.cells.specs.Places.{IsInside, IsSmall, SumFits, plus, spot}
+use Rattle.cells.specs.Boxes.{cell_in}
 use Rattle.cells.proofs.BoxLaws.{box_small, plus_minus}
 use Rattle.cells.proofs.BoxTests.{each_of_axes}
 use Rattle.cells.proofs.CellLaws.{indexed_has_cell, inside_part}
@@ -11,7 +12,6 @@ use Rattle.cells.proofs.Raster.{index_of_spot}
 use Rattle.map_canvas.specs.declared.canvas.Placement.{Placement}
 use Rattle.map_canvas.specs.Canvases.{CanvasState, IsCanvas}
 use Rattle.map_canvas.specs.Choices.{Fits, new_source}
-use Rattle.map_canvas.specs.CellErrors.{box_spot}
 use Rattle.strip_boundary.specs.Strips.{IsStrip, table_of}
 use Rattle.strip_boundary.specs.declared.strip.TheConstants.{GREATEST_ERROR}
 use Rattle.block_strips.specs.declared.side.Side.{Side}
@@ -26,11 +26,11 @@ module _ (canvas : CanvasState) (sample : Cells) (placement : Placement) (is : I
     step_in : IsInside placement.rect.size (spot x y 0)
     step_in = subst IsSome (sym (index_of_spot placement.rect.size x y 0 lx ly (omega (arith, fits.some.f)))) refl
 
-    pub cell_inside : IsInside canvas.map.size (box_spot placement.rect x y 0)
-    cell_inside = each_of_axes canvas.map.size placement.rect fits.inside (box_spot placement.rect x y 0) (subst (IsInside placement.rect.size) (sym (plus_minus placement.rect.corner (spot x y 0))) step_in)
+    pub cell_inside : IsInside canvas.map.size (cell_in placement.rect x y 0)
+    cell_inside = each_of_axes canvas.map.size placement.rect fits.inside (cell_in placement.rect x y 0) (subst (IsInside placement.rect.size) (sym (plus_minus placement.rect.corner (spot x y 0))) step_in)
 
     pub corner_sum : SumFits placement.rect.corner (spot x y 0)
-    corner_sum = inside_sum_fits canvas.picture is.picture placement.rect.corner (spot x y 0) (inside_part canvas.picture (box_spot placement.rect x y 0) (subst (λ size. IsInside size (box_spot placement.rect x y 0)) (sym is.size) cell_inside))
+    corner_sum = inside_sum_fits canvas.picture is.picture placement.rect.corner (spot x y 0) (inside_part canvas.picture (cell_in placement.rect x y 0) (subst (λ size. IsInside size (cell_in placement.rect x y 0)) (sym is.size) cell_inside))
 
     source_inside : IsInsideOf sample (plus placement.from (spot x y 0))
     source_inside = fits.sources (plus placement.from (spot x y 0)) (subst (IsInside placement.rect.size) (sym (plus_minus placement.from (spot x y 0))) step_in)
@@ -41,7 +41,7 @@ module _ (canvas : CanvasState) (sample : Cells) (placement : Placement) (is : I
     pub source_cell : HasCell sample (plus placement.from (spot x y 0))
     source_cell = indexed_has_cell sample volume.count (plus placement.from (spot x y 0)) source_inside
 
-    pub new_source_is : new_source placement (box_spot placement.rect x y 0) ≡ plus placement.from (spot x y 0)
+    pub new_source_is : new_source placement (cell_in placement.rect x y 0) ≡ plus placement.from (spot x y 0)
     new_source_is = ap (plus placement.from) (plus_minus placement.rect.corner (spot x y 0))
 
   -- a table of the errors of a strip is one

@@ -3,11 +3,10 @@ use Rattle.std.specs.Prelude.{◌≡◌, ◌<◌, ◌⊎◌, ◌↔◌, ℕ, Lis
 use Rattle.cells.specs.declared.place.At.{At}
 use Rattle.cells.specs.declared.place.Box3.{Box3}
 use Rattle.cells.specs.declared.place.Size.{Size}
-use Rattle.cells.specs.Boxes.{IsInBox}
+use Rattle.cells.specs.Boxes.{IsInBox, cell_in}
 use Rattle.cells.specs.Cells.{Cells}
 use Rattle.cells.specs.Places.{IsInside, cell_count, place_of}
 use Rattle.map_canvas.specs.Maps.{SourceMap, IsFilled, empty_map}
-use Rattle.map_canvas.specs.CellErrors.{box_spot}
 use Rattle.block_strips.specs.declared.plan.QuiltPlan.{QuiltPlan}
 use Rattle.block_strips.specs.declared.side.Side.TheVariants.{Left, Top}
 use Rattle.block_strips.specs.Blocks.{block_at, shared_cols}
@@ -51,7 +50,7 @@ pub record SharesStrips (plan : QuiltPlan) (sample : Cells) (m : SourceMap)
   pub left : shared_cols Left plan m.size sample.size rect < rect.size.w
   pub top : shared_cols Top plan m.size sample.size rect < rect.size.h
   pub filled : (x y : ℕ) → x < rect.size.w → y < rect.size.h
-      → IsFilled m (box_spot rect x y 0)
+      → IsFilled m (cell_in rect x y 0)
       ↔ ((x < shared_cols Left plan m.size sample.size rect)
       ⊎ (y < shared_cols Top plan m.size sample.size rect))
 

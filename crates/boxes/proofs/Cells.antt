@@ -9,12 +9,12 @@ use Rattle.cells.specs.declared.place.Axis.{Axis}
 use Rattle.cells.specs.declared.place.Axis.TheVariants.{X, Y, F}
 use Rattle.cells.specs.declared.place.Box3.{Box3}
 use Rattle.cells.specs.declared.place.Size.{Size}
-use Rattle.cells.specs.Boxes.{AxisHolds, HoldsBox, IsInBox}
+use Rattle.cells.specs.Boxes.{AxisHolds, HoldsBox, IsInBox, cell_in}
 use Rattle.cells.specs.Neighbours.{unit_step}
 use Rattle.cells.specs.Places.{SumFits, index_in, index_on_axes, minus, plus, spot}
 use Rattle.cells.proofs.BoxLaws.{minus_plus, plus_minus}
 use Rattle.cells.proofs.Raster.{has_index, index_of_spot, index_parts, on_axis_in}
-use Rattle.boxes.specs.Pairs.{AreCounts, IsPair, cell_in, has_next, in_box}
+use Rattle.boxes.specs.Pairs.{AreCounts, IsPair, has_next, in_box}
 use Rattle.boxes.specs.Raster.{largest}
 use Rattle.limits.specs.declared.bounds.TheConstants.{GREATEST_AXIS}
 

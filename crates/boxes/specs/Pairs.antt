@@ -8,12 +8,8 @@ use Rattle.cells.specs.declared.place.Size.{Size}
 use Rattle.cells.specs.declared.place.Axis.{Axis}
 use Rattle.cells.specs.declared.place.Axis.TheVariants.{X, Y, F}
 use Rattle.cells.specs.declared.place.Box3.{Box3}
-use Rattle.cells.specs.Places.{cell_count, index_in, minus, plus, raster_index, spot}
+use Rattle.cells.specs.Places.{cell_count, index_in, minus, raster_index}
 use Rattle.boxes.specs.Sums.{sum_to}
-
--- the cell of a box at three counts from its corner
-abbrev pub cell_in : Box3 → ℕ → ℕ → ℕ → At
-cell_in rect x y f = plus rect.corner (spot x y f)
 
 -- whether the place is one of the box's
 abbrev pub in_box : Box3 → At → Bool

@@ -2,10 +2,10 @@
 ghost use Rattle.std.specs.Prelude.{◌≡◌, ◌<◌, ◌≤◌, ◌+◌, ◌<ℤ◌, ◌≤ℤ◌, ◌↔◌, ℕ, pos, IsTrue};
 ghost use Rattle.cells.specs.declared.place.Box3.{Box3};
 ghost use Rattle.cells.specs.declared.place.Size.{Size};
-ghost use Rattle.cells.specs.Boxes.{HasCells, HoldsBox};
+ghost use Rattle.cells.specs.Boxes.{HasCells, HoldsBox, cell_in};
 ghost use Rattle.cells.specs.Neighbours.{unit_step};
 ghost use Rattle.cells.specs.Places.{IsSmall, cell_count, plus, raster_index, spot};
-ghost use Rattle.boxes.specs.Pairs.{AreCounts, IsPair, cell_in, has_next, pairs_from};
+ghost use Rattle.boxes.specs.Pairs.{AreCounts, IsPair, has_next, pairs_from};
 ghost use Rattle.boxes.specs.Raster.{largest, stride};
 ghost use Rattle.boxes.specs.Walks.{IsAtIndex};
 

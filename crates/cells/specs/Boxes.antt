@@ -3,7 +3,7 @@ use Rattle.std.specs.Prelude.{◌≤◌, ℕ, ℤ, pos, ◌+ℤ◌, ◌≤ℤ◌
 use Rattle.cells.specs.declared.place.At.{At}
 use Rattle.cells.specs.declared.place.Box3.{Box3}
 use Rattle.cells.specs.declared.place.Size.{Size}
-use Rattle.cells.specs.Places.{IsInside, minus}
+use Rattle.cells.specs.Places.{IsInside, minus, plus, spot}
 
 -- a run of cells along one axis lies within it
 pub record AxisHolds (n : ℕ) (corner : ℤ) (len : ℕ) : Type 0 where
@@ -21,6 +21,10 @@ pub record HasCells (size : Size) : Type 0 where
   pub w : 1 ≤ size.w
   pub h : 1 ≤ size.h
   pub f : 1 ≤ size.f
+
+-- the cell of a box at three counts from its corner
+abbrev pub cell_in : Box3 → ℕ → ℕ → ℕ → At
+cell_in rect x y f = plus rect.corner (spot x y f)
 
 -- the place is one of the box's: from its corner on, below its size on each axis
 abbrev pub IsInBox : Box3 → At → Type 0

@@ -9,13 +9,14 @@ use Rattle.cells.specs.Cells.{Cells, IsVolume}
 use Rattle.cells.specs.Distances.{distance}
 use Rattle.cells.specs.Neighbours.{unit_step}
 use Rattle.cells.specs.Places.{IsInside, SumFits, index_in, plus, raster_index, spot}
+use Rattle.cells.specs.Boxes.{cell_in}
 use Rattle.cells.proofs.BoxLaws.{plus_minus}
 use Rattle.cells.proofs.Raster.{index_of_spot}
 use Rattle.map_canvas.specs.declared.canvas.Placement.{Placement}
 use Rattle.map_canvas.specs.Choices.{Fits, after_at, box_index, chosen, new_source}
 use Rattle.map_canvas.specs.Maps.{SourceMap, IsSource, map_at}
 use Rattle.map_canvas.proofs.Filling.{step_source, step_sum}
-use Rattle.boxes.specs.Pairs.{AreCounts, cell_in, has_next}
+use Rattle.boxes.specs.Pairs.{AreCounts, has_next}
 use Rattle.boxes.proofs.Cells.{cell_inside, next_in_box}
 use Rattle.costs.specs.Choosing.{within_after}
 use Rattle.costs.specs.Costs.{pair_at, seam_of}

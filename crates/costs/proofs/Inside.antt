@@ -7,14 +7,14 @@ use mathlib.Core.Bool.{false≢true}
 use Rattle.cells.specs.declared.place.At.{At}
 use Rattle.cells.specs.declared.place.Box3.{Box3}
 use Rattle.cells.specs.declared.place.Size.{Size}
-use Rattle.cells.specs.Boxes.{AxisHolds, HasCells, HoldsBox, IsInBox}
+use Rattle.cells.specs.Boxes.{AxisHolds, HasCells, HoldsBox, IsInBox, cell_in}
 use Rattle.cells.specs.Places.{IsInside, index_in, plus, spot}
 use Rattle.cells.proofs.BoxTests.{of_inside, on_axis_bounds}
 use Rattle.boxes.specs.Sums.{sum_box}
 use Rattle.boxes.proofs.Additions.{counts}
 use Rattle.boxes.proofs.Boxes.{box_equal, box_none, box_part}
 use Rattle.map_canvas.specs.Maps.{SourceMap, map_at, source_at}
-use Rattle.boxes.specs.Pairs.{cell_in, in_box}
+use Rattle.boxes.specs.Pairs.{in_box}
 use Rattle.boxes.proofs.Cells.{cell_inside, cell_of}
 use Rattle.costs.specs.Costs.{map_within, pairs_at, window_of}
 use Rattle.costs.specs.Intersections.{IsIntersection, IsOff, IsOn, IsRunOn}

@@ -10,10 +10,10 @@ use Rattle.cells.specs.declared.place.Axis.{Axis}
 use Rattle.cells.specs.declared.place.Axis.TheVariants.{X, Y, F}
 use Rattle.cells.specs.Places.{DifferenceFits, IsNearAxis, IsSmall, SumFits, index_in, plus, spot}
 use Rattle.cells.specs.Neighbours.{unit_step}
-use Rattle.cells.specs.Boxes.{AxisHolds, HoldsBox}
+use Rattle.cells.specs.Boxes.{AxisHolds, HoldsBox, cell_in}
 use Rattle.cells.proofs.Raster.{OnAxis, index_below, index_parts}
 use Rattle.map_canvas.specs.Maps.{SourceMap, IsCoordinate, IsMap, IsSource, map_at, source_at}
-use Rattle.boxes.specs.Pairs.{AreCounts, cell_in}
+use Rattle.boxes.specs.Pairs.{AreCounts}
 use Rattle.boxes.specs.Raster.{largest}
 use Rattle.limits.specs.declared.bounds.TheConstants.{GREATEST_AXIS}
 use Rattle.costs.specs.Costs.{IsAsked}

@@ -7,10 +7,11 @@ use Rattle.cells.specs.declared.place.Axis.TheVariants.{X, Y, F}
 use Rattle.cells.specs.declared.place.Box3.{Box3}
 use Rattle.cells.specs.Places.{plus}
 use Rattle.cells.specs.Neighbours.{unit_step}
+use Rattle.cells.specs.Boxes.{cell_in}
 use Rattle.boxes.specs.Sums.{sum_box}
 use Rattle.boxes.proofs.Additions.{counts}
 use Rattle.boxes.proofs.Boxes.{box_equal}
-use Rattle.boxes.specs.Pairs.{AreCounts, cell_in, has_next}
+use Rattle.boxes.specs.Pairs.{AreCounts, has_next}
 use Rattle.boxes.proofs.Cells.{cell_inside, next_in_box}
 use Rattle.costs.specs.Costs.{map_within, pair_at, seam_of, window_of}
 use Rattle.costs.proofs.Locality.{seam_none}

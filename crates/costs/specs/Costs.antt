@@ -11,8 +11,9 @@ use Rattle.cells.specs.declared.place.Axis.TheVariants.{X, Y, F}
 use Rattle.cells.specs.declared.place.Box3.{Box3}
 use Rattle.cells.specs.Places.{IsNearAxis, plus, minus, spot}
 use Rattle.cells.specs.Neighbours.{unit_step}
+use Rattle.cells.specs.Boxes.{cell_in}
 use Rattle.boxes.specs.Sums.{sum_box, sum_to}
-use Rattle.boxes.specs.Pairs.{cell_in, in_box}
+use Rattle.boxes.specs.Pairs.{in_box}
 use Rattle.limits.specs.declared.bounds.TheConstants.{GREATEST_AXIS}
 
 -- the cost of a cell of source a and the next one along an axis, of source b: how far a is from

@@ -3,7 +3,7 @@
 use Rattle.std.specs.Prelude.{◌≡◌, ◌≤◌, ◌<◌, ◌⊎◌, ◌+◌, ℕ, ℤ, pos, ◌+ℤ◌, ◌≤ℤ◌, ◌<ℤ◌}
 use Rattle.cells.specs.declared.place.Box3.{Box3}
 use Rattle.cells.specs.declared.place.Size.{Size}
-use Rattle.boxes.specs.Pairs.{cell_in}
+use Rattle.cells.specs.Boxes.{cell_in}
 
 -- a coordinate on an axis of so many cells
 abbrev pub IsOn : ℕ → ℤ → Type 0

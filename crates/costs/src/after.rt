@@ -2,9 +2,10 @@
 ghost use Rattle.std.specs.Prelude.{◌≡◌, ◌≤◌, IfSome, IsTrue, false, slice_index_or};
 ghost use Rattle.cells.specs.Distances.{distance};
 ghost use Rattle.cells.specs.Places.{raster_index};
+ghost use Rattle.cells.specs.Boxes.{cell_in};
 ghost use Rattle.map_canvas.specs.Choices.{Fits};
 ghost use Rattle.map_canvas.specs.Maps.{IsSource};
-ghost use Rattle.boxes.specs.Pairs.{AreCounts, cell_in};
+ghost use Rattle.boxes.specs.Pairs.{AreCounts};
 ghost use Rattle.costs.specs.Choosing.{within_after};
 ghost use Rattle.costs.specs.Costs.{most_of_cell, most_of_pair, pair_at, pairs_at};
 ghost use Rattle.costs.specs.Lawful.{window_after};

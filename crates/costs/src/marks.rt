@@ -1,9 +1,8 @@
 // Whether marks are those of cells that may be held.
 ghost use Rattle.std.specs.Prelude.{◌≡◌, ◌≤◌, ◌↔◌, ◌+ℤ◌, IfSome, IsTrue, MatchOption, pos, length, option_copied, true};
-ghost use Rattle.cells.specs.Boxes.{HasCells};
+ghost use Rattle.cells.specs.Boxes.{HasCells, cell_in};
 ghost use Rattle.cells.specs.Places.{IsInside, IsSmall, cell_count};
 ghost use Rattle.map_canvas.specs.Maps.{IsFilled};
-ghost use Rattle.boxes.specs.Pairs.{cell_in};
 ghost use Rattle.costs.specs.Intersections.{IsOn};
 ghost use Rattle.costs.specs.Lawful.{AreMarks};
 

@@ -1,11 +1,11 @@
 // The sums of the costs over the neighbours of a box, and of the whole output.
 ghost use Rattle.std.specs.Prelude.{◌≡◌, ◌<◌, ◌≤◌, IfSome};
-ghost use Rattle.cells.specs.Boxes.{HoldsBox};
+ghost use Rattle.cells.specs.Boxes.{HoldsBox, cell_in};
 ghost use Rattle.cells.specs.Distances.{distance};
 ghost use Rattle.cells.specs.Neighbours.{unit_step};
 ghost use Rattle.cells.specs.Places.{plus};
 ghost use Rattle.map_canvas.specs.Maps.{IsSource, map_at};
-ghost use Rattle.boxes.specs.Pairs.{AreCounts, cell_in};
+ghost use Rattle.boxes.specs.Pairs.{AreCounts};
 ghost use Rattle.boxes.specs.Raster.{largest};
 ghost use Rattle.costs.specs.Costs.{most_of_cell, most_of_frame, most_of_pair, most_of_row, pair_at, pairs_at, pairs_of_box, pairs_of_frame, pairs_of_row, total_of, window_of};
 

@@ -2,7 +2,7 @@
 use Rattle.std.proofs.Common.{◌≡◌, ℕ, ◌<◌, refl, ap, ◌∙◌, sym, subst, Bool, List}
 use Rattle.std.specs.Prelude.{pos, Some, IsSome}
 use Rattle.cells.specs.declared.place.At.{At}
-use Rattle.cells.specs.Boxes.{HoldsBox, IsInBox}
+use Rattle.cells.specs.Boxes.{HoldsBox, IsInBox, cell_in}
 use Rattle.cells.specs.Cells.{Cells, Holds, IsInsideOf, IsVolume}
 use Rattle.cells.specs.Places.{IsInside, SumFits, cell_count, plus, spot}
 use Rattle.cells.proofs.BoxLaws.{plus_minus}
@@ -15,7 +15,7 @@ use Rattle.map_canvas.specs.Maps.{SourceMap, IsFilled, IsSource}
 use Rattle.map_canvas.proofs.ChoiceLaws.{box_index_of}
 use Rattle.map_canvas.proofs.Filling.{cell_is_source}
 use Rattle.boxes.specs.declared.counts.Counts.{Counts}
-use Rattle.boxes.specs.Pairs.{AreCounts, at_index, cell_in}
+use Rattle.boxes.specs.Pairs.{AreCounts, at_index}
 use Rattle.boxes.specs.Raster.{largest}
 use Rattle.boxes.proofs.Indices.{counts_below}
 use Rattle.costs.specs.Lawful.{StaysOld}

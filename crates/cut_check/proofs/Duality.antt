@@ -11,7 +11,7 @@ use Rattle.cells.specs.declared.place.Axis.{Axis}
 use Rattle.cells.specs.declared.place.Axis.TheVariants.{X, Y, F}
 use Rattle.cells.specs.Places.{cell_count, plus}
 use Rattle.cells.specs.Neighbours.{unit_step}
-use Rattle.cells.specs.Boxes.{IsInBox}
+use Rattle.cells.specs.Boxes.{IsInBox, cell_in}
 use Rattle.cells.specs.Distances.{distance}
 use Rattle.cells.specs.Firsts.{Each}
 use Rattle.map_canvas.specs.Maps.{IsFilled, map_at}
@@ -22,7 +22,7 @@ use Rattle.boxes.proofs.Boxes.{box_equal}
 use Rattle.boxes.proofs.Bounds.{signed_box_at_most, signed_box_pos}
 use Rattle.costs.specs.Costs.{map_within, pair_at, pairs_at, seam_of}
 use Rattle.costs.specs.Lawful.{AreHeld, IsFree, IsLawful, LeavesHeld, StaysOld, is_new, window_after}
-use Rattle.boxes.specs.Pairs.{AreCounts, cell_in, has_next, pair_count}
+use Rattle.boxes.specs.Pairs.{AreCounts, has_next, pair_count}
 use Rattle.cut_check.specs.declared.record.Flow.{Flow}
 use Rattle.cut_check.specs.declared.record.CutRecord.{CutRecord}
 use Rattle.cut_check.specs.Flows.{IsBounded, IsBoundedAt, pair_flow, leaving}

@@ -8,11 +8,12 @@ use Rattle.cells.specs.declared.place.Axis.TheVariants.{X, Y, F}
 use Rattle.cells.specs.declared.place.Box3.{Box3}
 use Rattle.cells.specs.Neighbours.{unit_step}
 use Rattle.cells.specs.Places.{minus, on_axis}
+use Rattle.cells.specs.Boxes.{cell_in}
 use Rattle.cells.proofs.BoxTests.{OnAxes, of_inside, on_axis_bounds}
 use Rattle.map_canvas.specs.Canvases.{IsFilledOutside, IsKept, MeetsAlong}
 use Rattle.map_canvas.specs.Maps.{SourceMap}
 use Rattle.map_canvas.proofs.Keeping.{filled_inside, meets_third}
-use Rattle.boxes.specs.Pairs.{AreCounts, cell_in}
+use Rattle.boxes.specs.Pairs.{AreCounts}
 use Rattle.boxes.proofs.Cells.{cell_inside, next_x, next_y, next_f}
 use Rattle.cut_check.specs.Steps.{IsEnclosed}
 use Rattle.cut_check.proofs.PairBounds.{step_back}

@@ -10,11 +10,12 @@ use Rattle.cells.specs.declared.place.Axis.{Axis}
 use Rattle.cells.specs.declared.place.Axis.TheVariants.{X, Y, F}
 use Rattle.cells.specs.Places.{plus}
 use Rattle.cells.specs.Neighbours.{unit_step}
+use Rattle.cells.specs.Boxes.{cell_in}
 use Rattle.boxes.specs.Sums.{signed_sum_box}
 use Rattle.boxes.proofs.Additions.{integers}
 use Rattle.boxes.proofs.Boxes.{box_equal, box_moved_f, box_moved_x, box_moved_y, box_plus}
 use Rattle.boxes.proofs.Bounds.{signed_box_minus}
-use Rattle.boxes.specs.Pairs.{cell_in, has_next, pair_number}
+use Rattle.boxes.specs.Pairs.{has_next, pair_number}
 use Rattle.cut_check.specs.declared.record.Flow.{Flow}
 use Rattle.cut_check.specs.Flows.{pair_flow, flow_into, leaving, leaving_along, no_flow}
 use Rattle.boxes.proofs.Cells.{next_suc_f, next_suc_x, next_suc_y}

@@ -7,7 +7,7 @@ use Rattle.cells.specs.declared.place.At.{At}
 use Rattle.cells.specs.declared.place.Axis.{Axis}
 use Rattle.cells.specs.declared.place.Axis.TheVariants.{X, Y, F}
 use Rattle.cells.specs.declared.place.Box3.{Box3}
-use Rattle.cells.specs.Boxes.{IsInBox}
+use Rattle.cells.specs.Boxes.{IsInBox, cell_in}
 use Rattle.cells.specs.Neighbours.{unit_step}
 use Rattle.cells.specs.Places.{minus, plus}
 use Rattle.map_canvas.specs.declared.canvas.Placement.{Placement}
@@ -15,7 +15,6 @@ use Rattle.map_canvas.specs.Canvases.{IsFilledOutside, IsKept, MeetsAlong, Meets
 use Rattle.map_canvas.specs.Maps.{SourceMap, IsFilled}
 use Rattle.map_canvas.proofs.Keeping.{meets_of, meets_third}
 use Rattle.costs.specs.Lawful.{StaysOld, is_held}
-use Rattle.boxes.specs.Pairs.{cell_in}
 use Rattle.cut_check.specs.declared.record.CutRecord.{CutRecord}
 use Rattle.cut_check.specs.Flows.{leaving}
 use Rattle.cut_check.specs.Records.{IsPartWhere, Setting}

@@ -6,9 +6,10 @@ use Rattle.cells.specs.declared.place.Axis.{Axis}
 use Rattle.cells.specs.declared.place.Axis.TheVariants.{X, Y, F}
 use Rattle.cells.specs.Neighbours.{unit_step}
 use Rattle.cells.specs.Places.{plus, raster_index}
+use Rattle.cells.specs.Boxes.{cell_in}
 use Rattle.map_canvas.specs.Choices.{new_source}
 use Rattle.map_canvas.specs.Maps.{SourceMap, map_at}
-use Rattle.boxes.specs.Pairs.{cell_in, has_next, one_if, pair_number, pairs_before}
+use Rattle.boxes.specs.Pairs.{has_next, one_if, pair_number, pairs_before}
 use Rattle.cut_check.specs.declared.record.CutRecord.{CutRecord}
 use Rattle.cut_check.specs.declared.record.Flow.{Flow}
 use Rattle.cut_check.specs.Flows.{LeavesNone, no_flow, pair_flow}

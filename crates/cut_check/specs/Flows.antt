@@ -8,11 +8,12 @@ use Rattle.cells.specs.declared.place.Axis.{Axis}
 use Rattle.cells.specs.declared.place.Axis.TheVariants.{X, Y, F}
 use Rattle.cells.specs.Places.{plus}
 use Rattle.cells.specs.Neighbours.{unit_step}
+use Rattle.cells.specs.Boxes.{cell_in}
 use Rattle.map_canvas.specs.declared.canvas.Placement.{Placement}
 use Rattle.map_canvas.specs.Maps.{SourceMap, map_at}
 use Rattle.map_canvas.specs.Choices.{new_source}
 use Rattle.costs.specs.Costs.{seam}
-use Rattle.boxes.specs.Pairs.{cell_in, has_next, pair_number}
+use Rattle.boxes.specs.Pairs.{has_next, pair_number}
 use Rattle.cut_check.specs.declared.record.Flow.{Flow}
 
 abbrev pub no_flow : Flow

@@ -7,11 +7,12 @@ use Rattle.cells.specs.Places.{cell_count}
 use Rattle.cells.specs.Cells.{Cells}
 use Rattle.cells.specs.Distances.{distance}
 use Rattle.cells.specs.Firsts.{Each, IsFirstWithout}
+use Rattle.cells.specs.Boxes.{cell_in}
 use Rattle.map_canvas.specs.Maps.{SourceMap, map_at}
 use Rattle.map_canvas.specs.Choices.{Fits, box_cell}
 use Rattle.boxes.specs.Sums.{signed_sum_box}
 use Rattle.costs.specs.Lawful.{IsFree, StaysOld, window_after}
-use Rattle.boxes.specs.Pairs.{AreCounts, at_index, cell_in, has_next, pair_count, pair_number}
+use Rattle.boxes.specs.Pairs.{AreCounts, at_index, has_next, pair_count, pair_number}
 use Rattle.cut_check.specs.declared.record.TheConstants.{FIT_RULE, FILL_RULE, KEEP_RULE, BOUNDS_RULE, BALANCE_RULE, VALUE_RULE}
 use Rattle.cut_check.specs.declared.record.CutRecord.{CutRecord}
 use Rattle.cut_check.specs.declared.record.CutFault.{CutFault}

@@ -7,14 +7,14 @@ use Rattle.cells.specs.declared.place.Axis.{Axis}
 use Rattle.cells.specs.declared.place.Axis.TheVariants.{X, Y, F}
 use Rattle.cells.specs.declared.place.Box3.{Box3}
 use Rattle.cells.specs.declared.place.Size.{Size}
-use Rattle.cells.specs.Boxes.{HasCells, HoldsBox}
+use Rattle.cells.specs.Boxes.{HasCells, HoldsBox, cell_in}
 use Rattle.cells.specs.Places.{IsSmall, raster_index}
 use Rattle.cells.specs.Cells.{Cells, Holds, IsVolume}
 use Rattle.map_canvas.specs.declared.canvas.Placement.{Placement}
 use Rattle.map_canvas.specs.Maps.{IsMap, IsSource, SourceMap, map_at}
 use Rattle.map_canvas.specs.Choices.{new_source}
 use Rattle.boxes.specs.declared.counts.Counts.{Counts}
-use Rattle.boxes.specs.Pairs.{AreCounts, cell_in, has_next}
+use Rattle.boxes.specs.Pairs.{AreCounts, has_next}
 use Rattle.boxes.specs.Walks.{IsAtIndex}
 use Rattle.costs.specs.Lawful.{StaysOld}
 use Rattle.cut_check.specs.declared.bounds.Laid.{Laid}

@@ -1,8 +1,8 @@
 // Whether a cell of a box is kept. Most cells of a box have all their neighbours in it.
 ghost use Rattle.std.specs.Prelude.{◌≡◌, ◌<◌, ◌↔◌, IsTrue};
-ghost use Rattle.cells.specs.Boxes.{AxisHolds, HoldsBox};
+ghost use Rattle.cells.specs.Boxes.{AxisHolds, HoldsBox, cell_in};
 ghost use Rattle.map_canvas.specs.Canvases.{IsKept};
-ghost use Rattle.boxes.specs.Pairs.{AreCounts, cell_in};
+ghost use Rattle.boxes.specs.Pairs.{AreCounts};
 ghost use Rattle.cut_check.specs.Steps.{IsEnclosed, IsEnclosedAlong};
 
 use boxes::Counts;

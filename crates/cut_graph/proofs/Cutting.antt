@@ -12,7 +12,7 @@ use Rattle.cells.specs.declared.place.Axis.{Axis}
 use Rattle.cells.specs.declared.place.Axis.TheVariants.{X, Y, F}
 use Rattle.cells.specs.Places.{plus}
 use Rattle.cells.specs.Neighbours.{unit_step}
-use Rattle.cells.specs.Boxes.{IsInBox}
+use Rattle.cells.specs.Boxes.{IsInBox, cell_in}
 use Rattle.cells.specs.Distances.{IsPseudometric}
 use Rattle.map_canvas.specs.declared.canvas.Placement.{Placement}
 use Rattle.map_canvas.specs.Maps.{SourceMap, IsFilled, map_at}
@@ -23,7 +23,7 @@ use Rattle.max_flow.specs.Networks.{FlowNetwork}
 use Rattle.max_flow.specs.Flows.{IsCut, capacity_out, cut_capacity, is_in}
 use Rattle.costs.specs.Costs.{pair_at, seam_of}
 use Rattle.costs.specs.Lawful.{StaysOld, is_new, window_after}
-use Rattle.boxes.specs.Pairs.{AreCounts, cell_in, has_next, IsPair}
+use Rattle.boxes.specs.Pairs.{AreCounts, has_next, IsPair}
 use Rattle.costs.proofs.Existence.{new_inside}
 use Rattle.boxes.proofs.Cells.{next_is, cell_inside, cell_of}
 use Rattle.costs.proofs.Windows.{pair_within, window_pairs}

@@ -10,7 +10,7 @@ use Rattle.cells.specs.declared.place.Axis.{Axis}
 use Rattle.cells.specs.declared.place.Axis.TheVariants.{X, Y, F}
 use Rattle.cells.specs.declared.place.Box3.{Box3}
 use Rattle.cells.specs.declared.place.Size.{Size}
-use Rattle.cells.specs.Boxes.{IsInBox}
+use Rattle.cells.specs.Boxes.{IsInBox, cell_in}
 use Rattle.cells.specs.Distances.{distance}
 use Rattle.cells.specs.Neighbours.{unit_step}
 use Rattle.cells.specs.Places.{IsSmall, cell_count, plus, raster_index}
@@ -21,7 +21,7 @@ use Rattle.max_flow.specs.declared.network.Pipe.{Pipe}
 use Rattle.boxes.proofs.PairNumbers.{number_below, pairs_next}
 use Rattle.boxes.proofs.Indices.{at_counts}
 use Rattle.boxes.specs.Raster.{stride}
-use Rattle.boxes.specs.Pairs.{AreCounts, at_index, cell_in, has_next, one_if, pair_count, pair_number, pairs_before, IsPair}
+use Rattle.boxes.specs.Pairs.{AreCounts, at_index, has_next, one_if, pair_count, pair_number, pairs_before, IsPair}
 use Rattle.cut_graph.specs.declared.piping.Piping.{Piping}
 use Rattle.cut_graph.specs.declared.plan.PairCell.{PairCell}
 use Rattle.cut_graph.specs.declared.plan.Plan.{Plan}

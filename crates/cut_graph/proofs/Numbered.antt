@@ -5,14 +5,14 @@ use Rattle.std.specs.Prelude.{Some, IsSome, unwrap_or, option_map, slice_index_o
 use Rattle.cells.specs.Places.{index_in, minus, spot, raster_index}
 use Rattle.cells.specs.declared.place.At.{At}
 use Rattle.cells.specs.declared.place.Box3.{Box3}
-use Rattle.cells.specs.Boxes.{IsInBox}
+use Rattle.cells.specs.Boxes.{IsInBox, cell_in}
 use Rattle.cells.proofs.BoxLaws.{plus_minus}
 use Rattle.cells.proofs.Raster.{index_of_spot}
 use Rattle.map_canvas.specs.declared.canvas.Placement.{Placement}
 use Rattle.map_canvas.specs.Maps.{SourceMap}
 use Rattle.costs.specs.Lawful.{is_held}
 use Rattle.boxes.proofs.Indices.{at_counts}
-use Rattle.boxes.specs.Pairs.{AreCounts, at_index, cell_in}
+use Rattle.boxes.specs.Pairs.{AreCounts, at_index}
 use Rattle.cut_graph.specs.declared.cell_nodes.Standing.{Standing}
 use Rattle.cut_graph.specs.declared.numbering.Numbering.{Numbering}
 use Rattle.cut_graph.specs.Building.{Adds, AreCellNodes, Gives, IsCellNode, IsNodeOf, IsStanding}

@@ -7,7 +7,7 @@ use mathlib.Core.Bool.{false≢true}
 use Rattle.cells.specs.declared.place.At.{At}
 use Rattle.cells.specs.declared.place.Axis.{Axis}
 use Rattle.cells.specs.declared.place.Size.{Size}
-use Rattle.cells.specs.Boxes.{HasCells}
+use Rattle.cells.specs.Boxes.{HasCells, cell_in}
 use Rattle.cells.specs.Neighbours.{unit_step}
 use Rattle.cells.specs.Places.{cell_count, plus, raster_index}
 use Rattle.map_canvas.specs.declared.canvas.Placement.{Placement}
@@ -16,7 +16,7 @@ use Rattle.costs.specs.Lawful.{AreHeld, AreMarks, IsFree, StaysOld, held_marks}
 use Rattle.boxes.proofs.PairNumbers.{HasPair, find_pair, number_apart, number_below}
 use Rattle.boxes.proofs.Indices.{at_counts, counts_at, index_below, same_counts}
 use Rattle.boxes.specs.Raster.{stride}
-use Rattle.boxes.specs.Pairs.{AreCounts, cell_in, pair_count, pair_number, IsPair}
+use Rattle.boxes.specs.Pairs.{AreCounts, pair_count, pair_number, IsPair}
 use Rattle.cut_graph.specs.declared.cell_nodes.Standing.{Standing}
 use Rattle.cut_graph.specs.declared.cell_nodes.Standing.TheVariants.{Old, Unfilled, Free}
 use Rattle.cut_graph.specs.declared.numbering.Numbering.{Numbering}

@@ -9,13 +9,14 @@ use Rattle.map_canvas.specs.declared.canvas.Placement.{Placement}
 use Rattle.map_canvas.specs.Maps.{SourceMap, IsFilled, map_at}
 use Rattle.costs.specs.Lawful.{IsFree, StaysOld}
 use Rattle.boxes.specs.Raster.{stride}
-use Rattle.boxes.specs.Pairs.{at_index, cell_in}
+use Rattle.boxes.specs.Pairs.{at_index}
 use Rattle.cut_graph.specs.declared.cell_nodes.Standing.{Standing}
 use Rattle.cut_graph.specs.declared.cell_nodes.Standing.TheVariants.{Old, Unfilled, Free}
 use Rattle.cut_graph.specs.declared.numbering.Numbering.{Numbering}
 use Rattle.cut_graph.specs.declared.piping.Piping.{Piping}
 use Rattle.cut_graph.specs.Pipes.{AreFirstPipes, pipes_of}
 use Rattle.cells.specs.Places.{raster_index}
+use Rattle.cells.specs.Boxes.{cell_in}
 use Rattle.cut_graph.specs.Numberings.{AtPairs, IsNumbering}
 
 -- a numbering with one node more, and the next number that is free then

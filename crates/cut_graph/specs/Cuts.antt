@@ -2,10 +2,11 @@
 -- least cut is the best seam.)
 use Rattle.std.specs.Prelude.{◌≡◌, ◌≤◌, ℕ, Bool, not, List}
 use Rattle.cells.specs.declared.place.At.{At}
+use Rattle.cells.specs.Boxes.{cell_in}
 use Rattle.map_canvas.specs.declared.canvas.Placement.{Placement}
 use Rattle.map_canvas.specs.Maps.{SourceMap}
 use Rattle.costs.specs.Lawful.{IsLawful, LeavesHeld, is_new, window_after}
-use Rattle.boxes.specs.Pairs.{AreCounts, cell_in}
+use Rattle.boxes.specs.Pairs.{AreCounts}
 use Rattle.max_flow.specs.Networks.{FlowNetwork}
 use Rattle.max_flow.specs.Flows.{IsCut, cut_capacity, is_in}
 use Rattle.cut_graph.specs.declared.places.Places.{Places}

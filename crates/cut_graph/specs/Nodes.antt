@@ -8,10 +8,11 @@ use Rattle.cells.specs.declared.place.Size.{Size}
 use Rattle.cells.specs.declared.place.Axis.{Axis}
 use Rattle.cells.specs.Places.{cell_count, plus}
 use Rattle.cells.specs.Neighbours.{unit_step}
+use Rattle.cells.specs.Boxes.{cell_in}
 use Rattle.map_canvas.specs.declared.canvas.Placement.{Placement}
 use Rattle.map_canvas.specs.Maps.{SourceMap, IsFilled, map_at}
 use Rattle.costs.specs.Lawful.{IsFree, StaysOld}
-use Rattle.boxes.specs.Pairs.{AreCounts, IsPair, cell_in, pair_count, pair_number}
+use Rattle.boxes.specs.Pairs.{AreCounts, IsPair, pair_count, pair_number}
 use Rattle.cut_graph.specs.declared.places.Places.{Places}
 
 -- the node of a cell, by its counts from the corner

@@ -8,12 +8,13 @@ use Rattle.cells.specs.declared.place.Axis.{Axis}
 use Rattle.cells.specs.declared.place.Axis.TheVariants.{X, Y, F}
 use Rattle.cells.specs.Places.{cell_count, plus}
 use Rattle.cells.specs.Neighbours.{unit_step}
+use Rattle.cells.specs.Boxes.{cell_in}
 use Rattle.max_flow.specs.declared.network.Pipe.{Pipe}
 use Rattle.map_canvas.specs.declared.canvas.Placement.{Placement}
 use Rattle.map_canvas.specs.Maps.{SourceMap, map_at}
 use Rattle.map_canvas.specs.Choices.{new_source}
 use Rattle.costs.specs.Costs.{seam}
-use Rattle.boxes.specs.Pairs.{at_index, cell_in, has_next, pair_number, IsPair}
+use Rattle.boxes.specs.Pairs.{at_index, has_next, pair_number, IsPair}
 use Rattle.cut_graph.specs.declared.places.Places.{Places}
 use Rattle.cut_graph.specs.Nodes.{cell_node, seam_node}
 

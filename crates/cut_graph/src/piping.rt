@@ -2,10 +2,11 @@
 ghost use Rattle.std.specs.Prelude.{◌≡◌, ◌≤◌, ◌<◌, ◌+◌, ◌*◌, ◌∷◌, List, [], length, IfOk, OnOk, Some};
 ghost use Rattle.cells.specs.Distances.{distance};
 ghost use Rattle.cells.specs.Places.{cell_count, raster_index};
+ghost use Rattle.cells.specs.Boxes.{cell_in};
 ghost use Rattle.max_flow.specs.Networks.{empty_network};
 ghost use Rattle.max_flow.specs.declared.network.Pipe.{Pipe};
 ghost use Rattle.map_canvas.specs.Maps.{IsSource};
-ghost use Rattle.boxes.specs.Pairs.{AreCounts, cell_in, pair_count, pairs_before, IsPair};
+ghost use Rattle.boxes.specs.Pairs.{AreCounts, pair_count, pairs_before, IsPair};
 ghost use Rattle.boxes.specs.Walks.{most_pairs};
 ghost use Rattle.costs.specs.Costs.{most_of_pair};
 ghost use Rattle.cut_graph.specs.Pipes.{first_or_none, pair_pipes};

@@ -8,6 +8,7 @@ use Rattle.cells.specs.declared.place.Axis.{Axis}
 use Rattle.cells.specs.declared.place.Axis.TheVariants.{X, Y, F}
 use Rattle.cells.specs.Places.{plus}
 use Rattle.cells.specs.Neighbours.{unit_step}
+use Rattle.cells.specs.Boxes.{cell_in}
 use Rattle.map_canvas.specs.declared.canvas.Placement.{Placement}
 use Rattle.map_canvas.specs.Maps.{SourceMap, map_at}
 use Rattle.map_canvas.specs.Choices.{new_source}
@@ -15,7 +16,7 @@ use Rattle.boxes.specs.Sums.{signed_sum_box}
 use Rattle.boxes.proofs.Additions.{integers}
 use Rattle.boxes.proofs.Boxes.{box_equal, box_single}
 use Rattle.costs.specs.Lawful.{StaysOld}
-use Rattle.boxes.specs.Pairs.{AreCounts, cell_in, has_next, pair_number, IsPair}
+use Rattle.boxes.specs.Pairs.{AreCounts, has_next, pair_number, IsPair}
 use Rattle.max_flow.specs.declared.network.Pipe.{Pipe}
 use Rattle.max_flow.specs.Networks.{FlowNetwork, no_pipe, pipe_at}
 use Rattle.max_flow.specs.Flows.{FitsPipe, IsFlow, pipe_flow, flow_value, net_leaving, part_if}

@@ -3,11 +3,12 @@ use Rattle.std.proofs.Common.{◌≡◌, ℕ, ◌≤◌, refl, ap, sym, subst, a
 use mathlib.Core.Bool.{false≢true}
 use Rattle.std.specs.Prelude.{ℤ, not}
 use Rattle.cells.specs.declared.place.At.{At}
+use Rattle.cells.specs.Boxes.{cell_in}
 use Rattle.map_canvas.specs.declared.canvas.Placement.{Placement}
 use Rattle.map_canvas.specs.Maps.{SourceMap}
 use Rattle.boxes.proofs.Bounds.{box_at_most, box_terms_equal}
 use Rattle.costs.specs.Lawful.{ChangesAsWindow, IsLeastHeld, is_new, window_after}
-use Rattle.boxes.specs.Pairs.{AreCounts, cell_in, one_if}
+use Rattle.boxes.specs.Pairs.{AreCounts, one_if}
 use Rattle.boxes.proofs.Cells.{cell_of}
 use Rattle.max_flow.specs.Networks.{FlowNetwork}
 use Rattle.max_flow.specs.Flows.{IsLeastCut, is_in}

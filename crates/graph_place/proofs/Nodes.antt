@@ -10,7 +10,7 @@ use Rattle.cells.specs.declared.place.Axis.{Axis}
 use Rattle.cells.specs.declared.place.Axis.TheVariants.{X, Y, F}
 use Rattle.cells.specs.Places.{cell_count, index_in, plus, spot, raster_index}
 use Rattle.cells.specs.Neighbours.{unit_step}
-use Rattle.cells.specs.Boxes.{HasCells}
+use Rattle.cells.specs.Boxes.{HasCells, cell_in}
 use Rattle.cells.proofs.Raster.{index_of_spot, place_at}
 use Rattle.cells.proofs.BoxLaws.{plus_minus, step_of}
 use Rattle.map_canvas.specs.declared.canvas.Placement.{Placement}
@@ -18,7 +18,7 @@ use Rattle.map_canvas.specs.Maps.{SourceMap, map_at}
 use Rattle.map_canvas.specs.Choices.{box_cell, box_index, chosen}
 use Rattle.map_canvas.proofs.ChoiceLaws.{box_index_of}
 use Rattle.costs.specs.Lawful.{StaysOld, is_new}
-use Rattle.boxes.specs.Pairs.{AreCounts, cell_in, IsPair}
+use Rattle.boxes.specs.Pairs.{AreCounts, IsPair}
 use Rattle.boxes.proofs.Cells.{next_suc_f, next_suc_x, next_suc_y, cell_inside}
 use Rattle.cut_graph.specs.declared.places.Places.{Places}
 use Rattle.cut_graph.specs.Nodes.{AreNodes, HasSeam, IsFreeAt, cell_node, seam_node}

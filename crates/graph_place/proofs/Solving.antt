@@ -10,11 +10,12 @@ use Rattle.cells.specs.Cells.{Cells, IsVolume}
 use Rattle.cells.specs.Distances.{distance}
 use Rattle.cells.specs.Neighbours.{unit_step}
 use Rattle.cells.specs.Places.{cell_count, minus, plus}
+use Rattle.cells.specs.Boxes.{cell_in}
 use Rattle.cells.proofs.DistanceLaws.{distance_bound}
 use Rattle.map_canvas.specs.declared.canvas.Placement.{Placement}
 use Rattle.map_canvas.specs.Maps.{SourceMap, map_at}
 use Rattle.costs.specs.Costs.{seam}
-use Rattle.boxes.specs.Pairs.{cell_in, has_next, IsPair}
+use Rattle.boxes.specs.Pairs.{has_next, IsPair}
 use Rattle.max_flow.specs.declared.network.Pipe.{Pipe}
 use Rattle.max_flow.specs.declared.solver.Solved.{Solved}
 use Rattle.max_flow.specs.Networks.{FlowNetwork, no_pipe}

@@ -3,13 +3,13 @@
 -- the one with the smallest source side.)
 use Rattle.std.specs.Prelude.{◌≡◌, ◌≤◌, ℕ, Bool, not, List, Option, Some, None, length}
 use Rattle.cells.specs.declared.place.At.{At}
-use Rattle.cells.specs.Boxes.{HasCells, IsInBox}
+use Rattle.cells.specs.Boxes.{HasCells, IsInBox, cell_in}
 use Rattle.cells.specs.Places.{cell_count}
 use Rattle.map_canvas.specs.declared.canvas.Placement.{Placement}
 use Rattle.map_canvas.specs.Maps.{SourceMap}
 use Rattle.boxes.specs.Sums.{sum_box}
 use Rattle.costs.specs.Lawful.{IsLeastChoice, IsLeastHeld, is_new}
-use Rattle.boxes.specs.Pairs.{cell_in, one_if}
+use Rattle.boxes.specs.Pairs.{one_if}
 
 -- how many cells of the box a choice leaves old
 abbrev pub old_count : Placement → List Bool → ℕ

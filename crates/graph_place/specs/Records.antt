@@ -5,9 +5,10 @@ use Rattle.cells.specs.declared.place.At.{At}
 use Rattle.cells.specs.declared.place.Axis.{Axis}
 use Rattle.cells.specs.Places.{cell_count, plus}
 use Rattle.cells.specs.Neighbours.{unit_step}
+use Rattle.cells.specs.Boxes.{cell_in}
 use Rattle.map_canvas.specs.declared.canvas.Placement.{Placement}
 use Rattle.map_canvas.specs.Maps.{SourceMap, map_at}
-use Rattle.boxes.specs.Pairs.{cell_in, pair_count, pair_number, IsPair}
+use Rattle.boxes.specs.Pairs.{pair_count, pair_number, IsPair}
 use Rattle.max_flow.specs.declared.solver.Solved.{Solved}
 use Rattle.max_flow.specs.Flows.{pipe_flow, is_in}
 use Rattle.cut_graph.specs.declared.places.Places.{Places}

@@ -3,9 +3,8 @@
 -- differences.)
 use Rattle.std.specs.Prelude.{ℕ, Option, Some, None}
 use Rattle.cells.specs.declared.place.At.{At}
-use Rattle.cells.specs.declared.place.Box3.{Box3}
+use Rattle.cells.specs.Boxes.{cell_in}
 use Rattle.cells.specs.Cells.{Cells}
-use Rattle.cells.specs.Places.{plus, spot}
 use Rattle.lane_kernels.specs.Sums.{sum_of_squared_differences}
 use Rattle.map_canvas.specs.declared.canvas.Placement.{Placement}
 use Rattle.map_canvas.specs.Maps.{SourceMap, map_at, sample_cell}
@@ -18,12 +17,8 @@ cell_error sample None new = 0
 cell_error sample (Some from) new =
     sum_of_squared_differences (sample_cell sample (Some from)) (sample_cell sample (Some new))
 
--- the cell of a box at three counts from its corner
-abbrev pub box_spot : Box3 → ℕ → ℕ → ℕ → At
-box_spot rect x y f = plus rect.corner (spot x y f)
-
 -- the squared difference of that cell from its new source
 abbrev pub spot_error : SourceMap → Cells → Placement → ℕ → ℕ → ℕ → ℕ
 spot_error m sample placement x y f =
-    cell_error sample (map_at m (box_spot placement.rect x y f))
-    (new_source placement (box_spot placement.rect x y f))
+    cell_error sample (map_at m (cell_in placement.rect x y f))
+    (new_source placement (cell_in placement.rect x y f))

@@ -4,7 +4,7 @@ use Rattle.std.proofs.lemmas.List.{get_or-map, length-map, length-replicate}
 use Rattle.std.proofs.Math.Nat.{mul-le-mul}
 use Rattle.std.proofs.lemmas.Int.{ints}
 use Rattle.cells.specs.declared.place.Box3.{Box3}
-use Rattle.cells.specs.Boxes.{HoldsBox}
+use Rattle.cells.specs.Boxes.{HoldsBox, cell_in}
 use Rattle.std.specs.Prelude.{Option, Some, None, IsSome, unwrap_or}
 use Rattle.limits.specs.declared.bounds.TheConstants.{GREATEST_AXIS}
 use Rattle.cells.specs.declared.place.At.{At}
@@ -22,7 +22,7 @@ use Rattle.map_canvas.specs.declared.canvas.Placement.{Placement}
 use Rattle.map_canvas.specs.Maps.{SourceMap, IsFilled, map_at, source_at}
 use Rattle.map_canvas.specs.Canvases.{CanvasState, IsCanvas, StandsOver, mark_of, filled_marks}
 use Rattle.map_canvas.specs.Choices.{Fits, new_source}
-use Rattle.map_canvas.specs.CellErrors.{box_spot, cell_error, spot_error}
+use Rattle.map_canvas.specs.CellErrors.{cell_error, spot_error}
 use Rattle.match_error.specs.Errors.{row_error}
 use Rattle.boxes.specs.Sums.{sum_to}
 use Rattle.match_error.proofs.RowPlaces.{IsRow, IsVolumeRow, row_in_volume, have_samples, row_is_run, row_of}
@@ -44,10 +44,10 @@ row_short canvas rect is holds =
     omega (arith, mul-le-mul is.picture.samples.1 w)
 
 -- an unfilled cell has no error
-pub unfilled_error : (m : SourceMap) (sample : Cells) (placement : Placement) (x y f : ℕ) → (IsFilled m (box_spot placement.rect x y f) → ⊥) → spot_error m sample placement x y f ≡ 0
-unfilled_error m sample placement x y f not = by (map_at m (box_spot placement.rect x y f)) not
+pub unfilled_error : (m : SourceMap) (sample : Cells) (placement : Placement) (x y f : ℕ) → (IsFilled m (cell_in placement.rect x y f) → ⊥) → spot_error m sample placement x y f ≡ 0
+unfilled_error m sample placement x y f not = by (map_at m (cell_in placement.rect x y f)) not
   where
-    by : (o : Option At) → (IsSome o → ⊥) → cell_error sample o (new_source placement (box_spot placement.rect x y f)) ≡ 0
+    by : (o : Option At) → (IsSome o → ⊥) → cell_error sample o (new_source placement (cell_in placement.rect x y f)) ≡ 0
     by None none = refl
     by (Some from) none = absurd (none refl)
 

@@ -7,11 +7,11 @@ use Rattle.std.proofs.lemmas.List.Sums.{sum_by-cons}
 use Rattle.std.specs.Prelude.{All}
 use Rattle.std.specs.List.{sum_by}
 use Rattle.cells.specs.declared.place.Box3.{Box3}
+use Rattle.cells.specs.Boxes.{cell_in}
 use Rattle.boxes.specs.Sums.{sum_to}
 use Rattle.boxes.proofs.Additions.{counts}
 use Rattle.boxes.proofs.Axes.{sum_none, sum_split}
 use Rattle.map_canvas.specs.Maps.{SourceMap, IsFilled}
-use Rattle.map_canvas.specs.CellErrors.{box_spot}
 use Rattle.match_error.specs.declared.filled_rows.Inset.{Inset}
 use Rattle.match_error.specs.declared.filled_rows.RowRun.{RowRun}
 use Rattle.match_error.specs.Rows.{AreLaidRuns, AreMoreRuns, AreRowRuns, AreRunsOf, AreRunsTo, IsFilledAt, IsGap, IsInset, column_in, run_part}
@@ -201,7 +201,7 @@ laid_runs m outer rect inset y f runs is ly are = record {
     In : ℕ → Type 0
     In = IsFilledAt m rect y f
 
-    cell : (i : ℕ) → box_spot outer (inset.x + i) (((inset.y + outer.size.h * (inset.f + f)) + y) % outer.size.h) (((inset.y + outer.size.h * (inset.f + f)) + y) / outer.size.h) ≡ box_spot rect i y f
+    cell : (i : ℕ) → cell_in outer (inset.x + i) (((inset.y + outer.size.h * (inset.f + f)) + y) % outer.size.h) (((inset.y + outer.size.h * (inset.f + f)) + y) / outer.size.h) ≡ cell_in rect i y f
     cell i = cell_in_rows outer rect inset.x inset.y inset.f is.x is.y is.f i y f (omega (arith, is.rows_in))
 
     here : (i : ℕ) → IsFilledAt m outer (((inset.y + outer.size.h * (inset.f + f)) + y) % outer.size.h) (((inset.y + outer.size.h * (inset.f + f)) + y) / outer.size.h) (inset.x + i) → IsFilledAt m rect y f i

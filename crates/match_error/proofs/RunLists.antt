@@ -10,14 +10,14 @@ use Rattle.std.specs.List.{sum_by}
 use Rattle.cells.specs.declared.place.At.{At}
 use Rattle.cells.specs.declared.place.Box3.{Box3}
 use Rattle.cells.specs.declared.place.Size.{Size}
-use Rattle.cells.specs.Boxes.{HoldsBox}
+use Rattle.cells.specs.Boxes.{HoldsBox, cell_in}
 use Rattle.cells.specs.Cells.{Cells, HasRun, Holds, IsInsideOf, row_at}
 use Rattle.cells.specs.Places.{HasAxes, plus, raster_index, spot}
 use Rattle.cells.proofs.PartBoxes.{box_held, held_run, row_step}
 use Rattle.lane_kernels.specs.Sums.{sum_of_squared_differences}
 use Rattle.map_canvas.specs.Canvases.{CanvasState, IsCanvas}
 use Rattle.map_canvas.specs.Maps.{IsFilled}
-use Rattle.map_canvas.specs.CellErrors.{box_spot, spot_error}
+use Rattle.map_canvas.specs.CellErrors.{spot_error}
 use Rattle.map_canvas.specs.Choices.{laid_from}
 use Rattle.match_error.specs.declared.gathered.FilledRun.{FilledRun}
 use Rattle.match_error.specs.declared.gathered.FilledRuns.{FilledRuns}
@@ -144,7 +144,7 @@ row_more canvas rect was mid now x y f n first then = λ sample from laid.
     omega (arith, first sample from laid, then sample from laid, both)
 
 -- an unfilled cell after them
-pub row_none : (canvas : CanvasState) (rect : Box3) (was now : FilledRuns) (x y f : ℕ) → AddsError canvas rect was now (λ sample from. sum_to x (λ i. spot_error canvas.map sample (laid_from rect from) i y f)) → (IsFilled canvas.map (box_spot rect x y f) → ⊥)
+pub row_none : (canvas : CanvasState) (rect : Box3) (was now : FilledRuns) (x y f : ℕ) → AddsError canvas rect was now (λ sample from. sum_to x (λ i. spot_error canvas.map sample (laid_from rect from) i y f)) → (IsFilled canvas.map (cell_in rect x y f) → ⊥)
     → AddsError canvas rect was now (λ sample from. sum_to (x + 1) (λ i. spot_error canvas.map sample (laid_from rect from) i y f))
 row_none canvas rect was now x y f first not = λ sample from laid.
     let g = λ (i : ℕ). spot_error canvas.map sample (laid_from rect from) i y f in

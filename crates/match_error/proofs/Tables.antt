@@ -8,7 +8,7 @@ use Rattle.std.proofs.lemmas.Nat.{mod-mul-add, div-mul-add}
 use Rattle.std.specs.Prelude.{ℤ, pos, ◌+ℤ◌, replicate}
 use Rattle.limits.specs.declared.bounds.TheConstants.{GREATEST_AXIS, MOST_CELLS}
 use Rattle.cells.specs.declared.place.Box3.{Box3}
-use Rattle.cells.specs.Boxes.{HoldsBox}
+use Rattle.cells.specs.Boxes.{HoldsBox, cell_in}
 use Rattle.cells.specs.Places.{IsSmall, cell_count}
 use Rattle.boxes.specs.Sums.{sum_to}
 use Rattle.boxes.proofs.Additions.{counts}
@@ -16,7 +16,6 @@ use Rattle.boxes.proofs.Axes.{sum_equal, sum_more, sum_plus, sum_split}
 use Rattle.boxes.proofs.Bounds.{box_bound, sum_bound}
 use Rattle.boxes.proofs.Boxes.{box_equal}
 use Rattle.map_canvas.specs.Maps.{SourceMap, map_at}
-use Rattle.map_canvas.specs.CellErrors.{box_spot}
 use Rattle.match_error.specs.Errors.{filled_cells, one_filled}
 use Rattle.match_error.specs.Tables.{AreEntries, AreMoreEntries, filled_before, one_in_row}
 use Rattle.match_error.proofs.Filled.{box_cells, one_at_most}
@@ -90,7 +89,7 @@ piece_small m rect x w row h =
     omega (arith, sum_bound h w (λ j. sum_to w (λ i. one_in_row m rect (x + i) (row + j))) (λ j lj. omega (arith, sum_bound w 1 (λ i. one_in_row m rect (x + i) (row + j)) (λ i li. one_at_most _))))
 
 pub cells_small : (m : SourceMap) (rect : Box3) → filled_cells m rect ≤ cell_count rect.size
-cells_small m rect = omega (arith, box_bound rect.size 1 (λ x y f. one_filled (map_at m (box_spot rect x y f))) (λ x y f lx ly lf. one_at_most _))
+cells_small m rect = omega (arith, box_bound rect.size 1 (λ x y f. one_filled (map_at m (cell_in rect x y f))) (λ x y f lx ly lf. one_at_most _))
 
 -- the rows of a frame of a box lie among those of the frame of the table's box
 pub rows_in : (h n y len f k : ℕ) → y + len ≤ h → f + k < n → (y + h * (f + k)) + len ≤ h * n
@@ -111,9 +110,9 @@ module _ (outer rect : Box3) (x y f : ℕ) (is_x : rect.corner.x ≡ outer.corne
   further z z' n i is = omega (arith, ints, is)
 
   pub cell_in_rows : (i j k : ℕ) → y + j < outer.size.h
-      → box_spot outer (x + i) (((y + outer.size.h * (f + k)) + j) % outer.size.h) (((y + outer.size.h * (f + k)) + j) / outer.size.h) ≡ box_spot rect i j k
+      → cell_in outer (x + i) (((y + outer.size.h * (f + k)) + j) % outer.size.h) (((y + outer.size.h * (f + k)) + j) / outer.size.h) ≡ cell_in rect i j k
   cell_in_rows i j k lt =
-      (λ t. box_spot outer (x + i) (row_is j k lt t) (frame_is j k lt t))
+      (λ t. cell_in outer (x + i) (row_is j k lt t) (frame_is j k lt t))
       ∙ (λ t. record { x = further outer.corner.x rect.corner.x x i is_x t; y = further outer.corner.y rect.corner.y y j is_y t; f = further outer.corner.f rect.corner.f f k is_f t })
 
 -- the pieces of all frames are the box
@@ -121,5 +120,5 @@ pub pieces : (m : SourceMap) (outer rect : Box3) (x y f : ℕ) → rect.corner.x
     → y + rect.size.h ≤ outer.size.h
     → sum_to rect.size.f (λ k. sum_to rect.size.h (λ j. sum_to rect.size.w (λ i. one_in_row m outer (x + i) ((y + outer.size.h * (f + k)) + j)))) ≡ filled_cells m rect
 pieces m outer rect x y f is_x is_y is_f room =
-    box_equal counts rect.size (λ i j k. one_in_row m outer (x + i) ((y + outer.size.h * (f + k)) + j)) (λ i j k. one_filled (map_at m (box_spot rect i j k)))
+    box_equal counts rect.size (λ i j k. one_in_row m outer (x + i) ((y + outer.size.h * (f + k)) + j)) (λ i j k. one_filled (map_at m (cell_in rect i j k)))
     (λ i j k li lj lk. ap (λ p. one_filled (map_at m p)) (cell_in_rows outer rect x y f is_x is_y is_f i j k (omega arith)))

@@ -6,9 +6,10 @@ use Rattle.limits.specs.declared.bounds.TheConstants.{GREATEST_AXIS, MOST_CHANNE
 use Rattle.cells.specs.declared.place.At.{At}
 use Rattle.cells.specs.declared.place.Box3.{Box3}
 use Rattle.cells.specs.Cells.{Cells}
+use Rattle.cells.specs.Boxes.{cell_in}
 use Rattle.boxes.specs.Sums.{sum_box, sum_to}
 use Rattle.map_canvas.specs.declared.canvas.Placement.{Placement}
-use Rattle.map_canvas.specs.CellErrors.{box_spot, spot_error}
+use Rattle.map_canvas.specs.CellErrors.{spot_error}
 use Rattle.map_canvas.specs.Maps.{SourceMap, map_at}
 use Rattle.match_error.specs.declared.error.Error.{Error}
 
@@ -32,7 +33,7 @@ error_sum m sample placement =
 
 -- how many cells of a box are filled
 abbrev pub filled_cells : SourceMap → Box3 → ℕ
-filled_cells m rect = sum_box rect.size (λ x y f. one_filled (map_at m (box_spot rect x y f)))
+filled_cells m rect = sum_box rect.size (λ x y f. one_filled (map_at m (cell_in rect x y f)))
 
 -- how many cells of a placement's box are
 abbrev pub filled_count : SourceMap → Placement → ℕ

@@ -4,17 +4,16 @@
 use Rattle.std.specs.Prelude.{◌≡◌, ◌≤◌, ◌<◌, ◌+◌, ◌-◌, ◌*◌, ◌/◌, ◌%◌, ◌++◌, ◌∷◌, ◌+ℤ◌, [], ℕ, pos, List, All, drop, length, min, slice_index, take}
 use Rattle.std.specs.List.{sum_by}
 use Rattle.cells.specs.declared.place.Box3.{Box3}
-use Rattle.cells.specs.Boxes.{HoldsBox}
+use Rattle.cells.specs.Boxes.{HoldsBox, cell_in}
 use Rattle.boxes.specs.Sums.{sum_to}
 use Rattle.map_canvas.specs.Maps.{SourceMap, IsFilled}
-use Rattle.map_canvas.specs.CellErrors.{box_spot}
 use Rattle.match_error.specs.declared.filled_rows.FilledRows.{FilledRows}
 use Rattle.match_error.specs.declared.filled_rows.Inset.{Inset}
 use Rattle.match_error.specs.declared.filled_rows.RowRun.{RowRun}
 
 -- the cell of a row of a box at a column is filled
 abbrev pub IsFilledAt : SourceMap → Box3 → ℕ → ℕ → ℕ → Type 0
-IsFilledAt m rect y f x = IsFilled m (box_spot rect x y f)
+IsFilledAt m rect y f x = IsFilled m (cell_in rect x y f)
 
 -- a fact holds of no column from one on and before another
 pub record IsGap (Is : ℕ → Type 0) (from to : ℕ) : Type 0 where

@@ -1,9 +1,8 @@
 // How many cells are filled, summed up once for many boxes.
 ghost use Rattle.std.specs.Prelude.{◌≡◌, ◌≤◌, ◌<◌, ◌+◌, ◌*◌, ◌+ℤ◌, pos, ℕ, IfNone, IfOk, IfSome, OnOk, length, slice_index};
-ghost use Rattle.cells.specs.Boxes.{AxisHolds, HoldsBox};
+ghost use Rattle.cells.specs.Boxes.{AxisHolds, HoldsBox, cell_in};
 ghost use Rattle.cells.specs.Places.{cell_count};
 ghost use Rattle.map_canvas.specs.Maps.{map_at};
-ghost use Rattle.map_canvas.specs.CellErrors.{box_spot};
 ghost use Rattle.boxes.specs.Sums.{sum_to};
 ghost use Rattle.match_error.specs.Errors.{filled_cells, one_filled};
 ghost use Rattle.match_error.specs.Runs.{IsInRow};
@@ -30,7 +29,7 @@ pub struct FilledCounts {
 fn one_filled(canvas: &Canvas, rect: &Box3, x: u32, y: u32, f: u32) -> u32
     requires inside { HoldsBox canvas.now.map.size rect.now.corner rect.now.size }
     requires row { IsInRow rect.now (x + 1) y f }
-    ensures { result ≡ one_filled (map_at canvas.now.map (box_spot rect.now x y f)) }
+    ensures { result ≡ one_filled (map_at canvas.now.map (cell_in rect.now x y f)) }
 {
     // It is asked for only to show the check that this is a canvas.
     let _picture = canvas.picture();

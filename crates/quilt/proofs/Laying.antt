@@ -2,14 +2,13 @@
 use Rattle.std.proofs.Common.{◌≡◌, ◌⊎◌, ℕ, ◌/◌, ◌%◌, ◌<◌, ◌≤◌, ap, sym, ◌∙◌, subst, arith}
 use Rattle.std.specs.Prelude.{IfOk, Option, Some, None, Result, Ok, Err, pos}
 use Rattle.std.specs.declared.alloc.AllocError.{AllocError}
-use Rattle.cells.specs.Boxes.{HasCells}
+use Rattle.cells.specs.Boxes.{HasCells, cell_in}
 use Rattle.cells.specs.Cells.{Cells}
 use Rattle.cells.specs.Places.{cell_count, plus, spot}
 use Rattle.cells.proofs.BoxLaws.{step_of}
 use Rattle.map_canvas.specs.declared.canvas.Placement.{Placement}
 use Rattle.map_canvas.specs.Choices.{Fits, box_cell}
 use Rattle.map_canvas.specs.Maps.{IsFilled, SourceMap}
-use Rattle.map_canvas.specs.CellErrors.{box_spot}
 use Rattle.strip_boundary.specs.declared.boundary.BoundaryRecord.{BoundaryRecord}
 use Rattle.strip_boundary.specs.Records.{BoundaryStands}
 use Rattle.block_strips.specs.declared.plan.QuiltPlan.{QuiltPlan}
@@ -60,7 +59,7 @@ module _ (plan : QuiltPlan) (m : SourceMap) (sample : Cells) (block : BlockRecor
       let h = block.placement.rect.size.h in
       let step = step_of block.placement.rect.size i has.fits.some lt in
       let first : i / w / h ≡ 0 = omega (arith, step.f, has.one_frame) in
-      let here : box_spot block.placement.rect (i % w) (i / w % h) 0 ≡ box_cell block.placement i =
+      let here : cell_in block.placement.rect (i % w) (i / w % h) 0 ≡ box_cell block.placement i =
       ap (λ f. plus block.placement.rect.corner (spot (i % w) (i / w % h) f)) (sym first) in
       let filled = has.shares.filled (i % w) (i / w % h) step.x step.y in (
         λ is. subst (λ n. (i % w < n) ⊎ (i / w % h < strip_cols Top block)) (sym left_cols)

@@ -1,9 +1,10 @@
 use Rattle.std.proofs.Common.{◌≡◌, ◌∙◌, sym, subst}
 use Rattle.std.specs.Prelude.{Some}
 use Rattle.cells.specs.Cells.{HasCell}
+use Rattle.cells.specs.Boxes.{cell_in}
 use Rattle.map_canvas.specs.Choices.{new_source}
 use Rattle.map_canvas.specs.Maps.{map_at}
-use Rattle.map_canvas.specs.CellErrors.{box_spot, cell_error}
+use Rattle.map_canvas.specs.CellErrors.{cell_error}
 use Rattle.block_strips.proofs.Errors.{new_source_is, source_cell, source_sum}
 use Rattle.block_strips.proofs.strips.error_at.Goals as goal
 
@@ -20,7 +21,7 @@ pub returns-clause-error : goal.returns-clause-error
 returns-clause-error c =
     let sample = c.args.sample.now in
     let placement = c.args.placement.now in
-    let at = box_spot placement.rect c.args.x c.args.y 0 in
+    let at = cell_in placement.rect c.args.x c.args.y 0 in
     let new : c.place_from-2.result ≡ new_source placement at =
     c.place_from-2.ensures ∙ sym (new_source_is c.args.canvas.now sample placement c.map-map.ensures.canvas c.requires.fits c.samples-samples.ensures.volume c.args.x c.args.y c.requires.counts.0 c.requires.counts.1) in
     let old : Some c.in-Some.old ≡ map_at c.args.canvas.now.map at =

@@ -1,12 +1,13 @@
 use Rattle.std.proofs.Common.{◌≡◌, ◌∙◌, ℕ, ap, arith}
 use Rattle.cells.specs.Distances.{distance}
 use Rattle.cells.specs.Places.{cell_count}
+use Rattle.cells.specs.Boxes.{cell_in}
 use Rattle.boxes.specs.Sums.{sum_to}
 use Rattle.boxes.proofs.Additions.{counts}
 use Rattle.boxes.proofs.Axes.{sum_more}
 use Rattle.boxes.proofs.Boxes.{box_counts}
 use Rattle.map_canvas.proofs.Filling.{fits_small}
-use Rattle.boxes.specs.Pairs.{at_index, cell_in}
+use Rattle.boxes.specs.Pairs.{at_index}
 use Rattle.boxes.proofs.Indices.{at_index_is}
 use Rattle.costs.specs.Choosing.{within_after}
 use Rattle.costs.specs.Costs.{pairs_at}

@@ -1,7 +1,8 @@
 use Rattle.std.proofs.Common.{◌≡◌, ◌≤◌, ◌*◌}
 use Rattle.cells.specs.Distances.{distance}
+use Rattle.cells.specs.Boxes.{cell_in}
 use Rattle.boxes.specs.Sums.{sum_to}
-use Rattle.boxes.specs.Pairs.{at_index, cell_in}
+use Rattle.boxes.specs.Pairs.{at_index}
 use Rattle.boxes.specs.Walks.{IsAtIndex}
 use Rattle.costs.specs.Choosing.{within_after}
 use Rattle.costs.specs.Costs.{most_of_cell, pairs_at}

@@ -2,7 +2,7 @@ use Rattle.std.proofs.Common.{◌∙◌, sym, subst, ap}
 use Rattle.cells.specs.declared.place.At.{At}
 use Rattle.cells.specs.Neighbours.{unit_step}
 use Rattle.cells.specs.Places.{SumFits, plus}
-use Rattle.boxes.specs.Pairs.{cell_in}
+use Rattle.cells.specs.Boxes.{cell_in}
 use Rattle.costs.specs.Costs.{IsAsked}
 use Rattle.costs.proofs.Near.{asked_step, cell_asked, next_asked}
 use Rattle.costs.proofs.sums.next_source.Goals as goal

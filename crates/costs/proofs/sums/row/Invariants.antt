@@ -1,9 +1,9 @@
 use Rattle.std.proofs.Common.{◌≡◌, ◌≤◌, ◌*◌}
 use Rattle.std.specs.Prelude.{IfSome}
 use Rattle.cells.specs.Distances.{distance}
+use Rattle.cells.specs.Boxes.{cell_in}
 use Rattle.boxes.specs.Sums.{sum_to}
 use Rattle.map_canvas.specs.Maps.{IsSource}
-use Rattle.boxes.specs.Pairs.{cell_in}
 use Rattle.costs.specs.Costs.{most_of_cell, pairs_at}
 use Rattle.costs.proofs.sums.row.Given as goal
 

@@ -2,9 +2,9 @@ use Rattle.std.proofs.Common.{◌∙◌, refl, subst, ap, List}
 use Rattle.cells.specs.Distances.{distance}
 use Rattle.cells.specs.Neighbours.{unit_step}
 use Rattle.cells.specs.Places.{plus}
+use Rattle.cells.specs.Boxes.{cell_in}
 use Rattle.map_canvas.specs.Choices.{new_source}
 use Rattle.map_canvas.specs.Maps.{map_at}
-use Rattle.boxes.specs.Pairs.{cell_in}
 use Rattle.cut_check.specs.declared.record.Flow.{Flow}
 use Rattle.cut_check.specs.Flows.{LeavesNone, pair_flow}
 use Rattle.cut_check.proofs.PairBounds.{none_bounded}

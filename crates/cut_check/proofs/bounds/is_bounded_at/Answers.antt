@@ -1,8 +1,8 @@
 use Rattle.std.proofs.Common.{◌∙◌, sym, ap}
 use Rattle.cells.specs.Neighbours.{unit_step}
 use Rattle.cells.specs.Places.{plus}
+use Rattle.cells.specs.Boxes.{cell_in}
 use Rattle.map_canvas.specs.Choices.{new_source}
-use Rattle.boxes.specs.Pairs.{cell_in}
 use Rattle.cut_check.proofs.PairBounds.{new_next}
 use Rattle.cut_check.proofs.bounds.is_bounded_at.Goals as goal
 

@@ -1,11 +1,11 @@
 use Rattle.std.proofs.Common.{◌≡◌, ◌≤◌, ◌+◌, ℕ, get_or, subst, sym, ◌∙◌, arith}
 use Rattle.std.proofs.lemmas.Int.{ints}
 use Rattle.limits.specs.declared.bounds.TheConstants.{GREATEST_AXIS, MOST_CELLS}
+use Rattle.cells.specs.Boxes.{cell_in}
 use Rattle.boxes.specs.Sums.{sum_to}
 use Rattle.boxes.proofs.Additions.{counts}
 use Rattle.boxes.proofs.Axes.{sum_more}
 use Rattle.map_canvas.specs.Maps.{map_at}
-use Rattle.map_canvas.specs.CellErrors.{box_spot}
 use Rattle.match_error.specs.Errors.{one_filled}
 use Rattle.match_error.proofs.Entries.{ArePut, above_kept, one_put}
 use Rattle.match_error.proofs.Filled.{one_at_most}
@@ -24,7 +24,7 @@ pub loop-x-preserved : goal.loop-x-preserved
 loop-x-preserved c =
     let x = c.loop-x.x in
     let was = c.args.entries.now.items in
-    let cell = λ (i : ℕ). one_filled (map_at c.args.canvas.now.map (box_spot c.args.rect.now i c.args.y c.args.f)) in
+    let cell = λ (i : ℕ). one_filled (map_at c.args.canvas.now.map (cell_in c.args.rect.now i c.args.y c.args.f)) in
     let g = λ (n : ℕ). sum_to n cell in
     let same = above_kept was c.loop-x.entries.items c.as_slice.result.now c.args.above c.args.rect.now.size.w x g c.loop-x.invariant.put c.as_slice.ensures.value c.requires.above c.loop-x-test.true in
     let one : c.one_filled-filled.result ≤ 1 = subst (λ n. n ≤ 1) (sym c.one_filled-filled.ensures) (one_at_most _) in

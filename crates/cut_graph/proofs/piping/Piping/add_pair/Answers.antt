@@ -1,11 +1,11 @@
 use Rattle.std.proofs.Common.{◌≡◌, ℕ, ◌+◌, ◌<◌, [], ◌∷◌, ◌++◌, sym, ap, ◌∙◌, subst, arith, rules, Fits, w32}
 use Rattle.std.specs.Prelude.{slice_index}
-use Rattle.cells.specs.Boxes.{IsInBox}
+use Rattle.cells.specs.Boxes.{IsInBox, cell_in}
 use Rattle.cells.specs.Neighbours.{unit_step}
 use Rattle.cells.specs.Places.{cell_count, plus}
 use Rattle.boxes.proofs.PairNumbers.{number_below, pairs_few}
 use Rattle.boxes.proofs.Indices.{stride_below}
-use Rattle.boxes.specs.Pairs.{cell_in, pair_number}
+use Rattle.boxes.specs.Pairs.{pair_number}
 use Rattle.cut_graph.specs.declared.piping.Piping.{Piping}
 use Rattle.cut_graph.specs.Plans.{IsCellAt, pipes_of_pair}
 use Rattle.cut_graph.proofs.Laying.{Grows, grown, has_room, pair_is, pipes_most, plan_small, second_in_box}

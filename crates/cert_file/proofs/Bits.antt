@@ -2,9 +2,10 @@
 use Rattle.std.proofs.Common.{◌≡◌, ◌+◌, ◌*◌, ◌++◌, ◌∷◌, [], ◌∙◌, ℕ, List, Bool, length, refl, ap, arith}
 use Rattle.cells.specs.Places.{cell_count}
 use Rattle.cut_check.specs.declared.record.CutRecord.{CutRecord}
+use Rattle.cut_check.specs.Records.{box_cells}
 use Rattle.block_check.specs.declared.block.BlockRecord.{BlockRecord}
 use Rattle.block_check.specs.Blocks.{block_cells}
-use Rattle.cert_file.specs.CutReading.{bits_of, box_cells, byte_bits}
+use Rattle.cert_file.specs.CutReading.{bits_of, byte_bits}
 use Rattle.std.proofs.lemmas.List.{length-append}
 
 eight : (piece : List ℕ) → length (bits_of piece) ≡ 8 * length piece

@@ -19,6 +19,7 @@ use Rattle.cells.specs.SizeLists.{AreSizes, stock_place}
 use Rattle.boxes.specs.Pairs.{pair_count}
 use Rattle.cut_check.specs.declared.record.CutRecord.{CutRecord}
 use Rattle.cut_check.specs.declared.record.Flow.{Flow}
+use Rattle.cut_check.specs.Records.{box_cells}
 use Rattle.file_bytes.specs.Fields.{field_16, field_32}
 use Rattle.file_bytes.specs.Reading.{StandsAt}
 use Rattle.file_bytes.proofs.WritingLaws.{fields_next}
@@ -38,7 +39,7 @@ use Rattle.source_map.proofs.PartLaws.{part_is}
 use Rattle.cert_file.specs.declared.file.RecordFile.{RecordFile}
 use Rattle.cert_file.specs.declared.file.RecordFile.TheVariants.{Cuts}
 use Rattle.cert_file.specs.CutForms.{HasShortFlows, IsBoxSize, IsCutInForm, IsShortFlow, box_size_field, choice_field, cut_form, flow_field, from_field, signed_field}
-use Rattle.cert_file.specs.CutReading.{box_axis_rule, box_cells, box_cells_rule, box_size_read, choice_read, choice_rule, corner_rule, cut_read, cuts_read, each_read, flow_read, flow_rule, from_read, number_of_two, part_read}
+use Rattle.cert_file.specs.CutReading.{box_axis_rule, box_cells_rule, box_size_read, choice_read, choice_rule, corner_rule, cut_read, cuts_read, each_read, flow_read, flow_rule, from_read, number_of_two, part_read}
 use Rattle.cert_file.specs.RecordFiles.{AreCutsInLimits, AreReadAgain, record_file_read, cuts_form, cuts_kind, kinds, record_magic, records_read, versions}
 use Rattle.cert_file.specs.Rules.{any_rule, end_rule}
 use Rattle.source_map.proofs.Spelled.{peel, same_value}

@@ -22,6 +22,7 @@ use Rattle.cells.specs.SizeLists.{stock_place}
 use Rattle.boxes.specs.Pairs.{pair_count}
 use Rattle.cut_check.specs.declared.record.CutRecord.{CutRecord}
 use Rattle.cut_check.specs.declared.record.Flow.{Flow}
+use Rattle.cut_check.specs.Records.{box_cells}
 use Rattle.file_bytes.specs.Fields.{field_16, field_32}
 use Rattle.source_map.specs.declared.head.Head.{Head}
 use Rattle.source_map.specs.declared.head.Version.{Version}
@@ -36,7 +37,7 @@ use Rattle.source_map.proofs.Spelled.{Spelled, Stood, both_stood, ended, field_s
 use Rattle.cert_file.specs.declared.file.RecordFile.{RecordFile}
 use Rattle.cert_file.specs.declared.file.RecordFile.TheVariants.{Cuts}
 use Rattle.cert_file.specs.CutForms.{box_size_field, choice_bytes, choice_field, cut_form, flow_field, from_field}
-use Rattle.cert_file.specs.CutReading.{bits_of, box_axis_rule, box_cells, box_cells_rule, box_size_read, choice_read, choice_rule, corner_rule, cut_read, each_read, flow_read, flow_rule, from_read, none_set, number_of_two}
+use Rattle.cert_file.specs.CutReading.{bits_of, box_axis_rule, box_cells_rule, box_size_read, choice_read, choice_rule, corner_rule, cut_read, each_read, flow_read, flow_rule, from_read, none_set, number_of_two}
 use Rattle.cert_file.specs.RecordFiles.{AreSpelled, record_file_form, cuts_form, cuts_kind, kinds, record_magic, records_read, versions}
 use Rattle.cert_file.specs.Rules.{any_rule}
 use Rattle.cert_file.proofs.ChoiceSpelled.{choice_spelled}

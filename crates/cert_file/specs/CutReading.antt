@@ -13,6 +13,7 @@ use Rattle.cells.specs.SizeLists.{stock_place}
 use Rattle.boxes.specs.Pairs.{pair_count}
 use Rattle.cut_check.specs.declared.record.CutRecord.{CutRecord}
 use Rattle.cut_check.specs.declared.record.Flow.{Flow}
+use Rattle.cut_check.specs.Records.{box_cells}
 use Rattle.source_map.specs.declared.head.Version.{Version}
 use Rattle.source_map.specs.declared.head.Version.TheVariants.{One, Two}
 use Rattle.source_map.specs.MapFiles.{numbered_size, part_rule, place_read}
@@ -124,11 +125,6 @@ each_read read zero at bytes = Ok ([], at)
 each_read read (suc n) at bytes =
     each_read read n at bytes >>= λ front. read front.0 front.1 bytes >>= λ last.
     Ok (front.0 ++ last.0 ∷ [], last.1)
-
--- how many cells the boxes of the records have
-abbrev pub box_cells : List CutRecord → ℕ
-box_cells [] = 0
-box_cells (cut ∷ cuts) = cell_count cut.placement.rect.size + box_cells cuts
 
 -- so many cut records
 abbrev pub cuts_read : Version → List Size → ℕ → ℕ → List ℕ → Result (List CutRecord × ℕ) ReadError

@@ -9,6 +9,7 @@ use Rattle.file_bytes.specs.Fields.{field_32}
 use Rattle.file_bytes.specs.Reading.{OfFile}
 use Rattle.cells.specs.declared.place.Taps.{Taps}
 use Rattle.cut_check.specs.declared.record.CutRecord.{CutRecord}
+use Rattle.cut_check.specs.Records.{box_cells}
 use Rattle.block_check.specs.declared.block.BlockRecord.{BlockRecord}
 use Rattle.source_map.specs.declared.head.Head.{Head}
 use Rattle.source_map.specs.declared.head.Version.TheVariants.{One}
@@ -20,7 +21,7 @@ use Rattle.cert_file.specs.BlockForms.{IsBlockInForm, IsWideBlock, block_form}
 use Rattle.cert_file.specs.BlockReading.{blocks_read}
 use Rattle.block_check.specs.Blocks.{block_cells}
 use Rattle.cert_file.specs.CutForms.{HasShortFlows, IsCutInForm, cut_form}
-use Rattle.cert_file.specs.CutReading.{box_cells, cuts_read}
+use Rattle.cert_file.specs.CutReading.{cuts_read}
 use Rattle.cert_file.specs.Rules.{any_rule, end_rule}
 use Rattle.cert_file.specs.WalkForms.{AreWide, IsWalkInForm, walk_form}
 use Rattle.cert_file.specs.WalkReading.{walk_file_read}

@@ -6,8 +6,9 @@ ghost use Rattle.boxes.specs.Pairs.{pair_count};
 ghost use Rattle.file_bytes.specs.Reading.{Follows};
 ghost use Rattle.source_map.specs.Readings.{IsRefusal, ReadsFrom, field_read, list_read};
 ghost use Rattle.cert_file.specs.CutForms.{IsBoxSize, IsCutInForm};
-ghost use Rattle.cert_file.specs.CutReading.{box_cells, cut_read, cuts_read, flow_read, flow_rule};
+ghost use Rattle.cert_file.specs.CutReading.{cut_read, cuts_read, flow_read, flow_rule};
 ghost use Rattle.limits.specs.declared.bounds.TheConstants.{MOST_BOX_CELLS};
+ghost use Rattle.cut_check.specs.Records.{box_cells};
 
 use crate::choices::read_choice;
 use crate::cut_fields::{read_box_size, read_corner, read_from};

@@ -1,7 +1,7 @@
 -- A reader has to trust this file. Cut records: a placement, a choice, and a flow that shows that
 -- the choice is least. (Own, from the cuts of Kwatra et al. 2003; that a flow bounds every cut is
 -- Ford and Fulkerson 1956.)
-use Rattle.std.specs.Prelude.{◌≡◌, ◌⊎◌, ℕ, ℤ, pos, Bool, true, false, List, None, slice_index_or}
+use Rattle.std.specs.Prelude.{◌≡◌, ◌⊎◌, ◌+◌, ℕ, ℤ, pos, Bool, true, false, List, [], ◌∷◌, None, slice_index_or}
 use Rattle.cells.specs.declared.place.Axis.{Axis}
 use Rattle.cells.specs.Places.{cell_count}
 use Rattle.cells.specs.Cells.{Cells}
@@ -9,7 +9,7 @@ use Rattle.cells.specs.Distances.{distance}
 use Rattle.cells.specs.Firsts.{Each, IsFirstWithout}
 use Rattle.cells.specs.Boxes.{cell_in}
 use Rattle.map_canvas.specs.Maps.{SourceMap, map_at}
-use Rattle.map_canvas.specs.Choices.{Fits, box_cell}
+use Rattle.map_canvas.specs.Choices.{Fits, box_cell, box_count}
 use Rattle.boxes.specs.Sums.{signed_sum_box}
 use Rattle.costs.specs.Lawful.{IsFree, StaysOld, window_after}
 use Rattle.boxes.specs.Pairs.{AreCounts, at_index, has_next, pair_count, pair_number}
@@ -17,6 +17,11 @@ use Rattle.cut_check.specs.declared.record.TheConstants.{FIT_RULE, FILL_RULE, KE
 use Rattle.cut_check.specs.declared.record.CutRecord.{CutRecord}
 use Rattle.cut_check.specs.declared.record.CutFault.{CutFault}
 use Rattle.cut_check.specs.Flows.{IsBoundedAt, leaving}
+
+-- the cells of the boxes of records, all together
+abbrev pub box_cells : List CutRecord → ℕ
+box_cells [] = 0
+box_cells (cut ∷ cuts) = box_count cut.placement + box_cells cuts
 
 -- what a record is judged against: the map before the placement, the sample, and the marks of the
 -- held cells

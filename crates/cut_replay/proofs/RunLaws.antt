@@ -5,7 +5,8 @@ use Rattle.std.specs.Prelude.{Some, slice_get}
 use Rattle.map_canvas.specs.Choices.{box_count, map_after}
 use Rattle.map_canvas.specs.Maps.{SourceMap}
 use Rattle.cut_check.specs.declared.record.CutRecord.{CutRecord}
-use Rattle.cut_replay.specs.Replay.{EachOver, box_cells, left_by}
+use Rattle.cut_check.specs.Records.{box_cells}
+use Rattle.cut_replay.specs.Replay.{EachOver, left_by}
 
 pub left_more : (m : SourceMap) (cuts : List CutRecord) (cut : CutRecord) → left_by m (cuts ++ cut ∷ []) ≡ map_after (left_by m cuts) cut.placement cut.choice
 left_more m [] cut = refl

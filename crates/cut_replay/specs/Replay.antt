@@ -1,5 +1,5 @@
 -- A reader has to trust this file. What cut records leave, put in one after another. (Own.)
-use Rattle.std.specs.Prelude.{◌≡◌, ◌⊎◌, ◌≤◌, ◌+◌, ℕ, List, [], ◌∷◌, length, take, All, Some, slice_get, Result, Ok, Err}
+use Rattle.std.specs.Prelude.{◌≡◌, ◌⊎◌, ◌≤◌, List, [], ◌∷◌, length, take, All, Some, slice_get, Result, Ok, Err}
 use Rattle.cells.specs.declared.place.At.{At}
 use Rattle.cells.specs.declared.place.Size.{Size}
 use Rattle.cells.specs.Boxes.{HasCells, IsInBox}
@@ -7,12 +7,12 @@ use Rattle.cells.specs.Cells.{Cells, IsVolume}
 use Rattle.cells.specs.Distances.{distance}
 use Rattle.cells.specs.Places.{cell_count}
 use Rattle.map_canvas.specs.Canvases.{IsKept}
-use Rattle.map_canvas.specs.Choices.{Fits, box_count, map_after}
+use Rattle.map_canvas.specs.Choices.{Fits, map_after}
 use Rattle.map_canvas.specs.Maps.{IsMap, SourceMap, map_at}
 use Rattle.boxes.specs.Pairs.{pair_count}
 use Rattle.costs.specs.Lawful.{IsLeastChoice}
 use Rattle.cut_check.specs.declared.record.CutRecord.{CutRecord}
-use Rattle.cut_check.specs.Records.{CutStands, IsFirstCutFault, setting}
+use Rattle.cut_check.specs.Records.{CutStands, IsFirstCutFault, box_cells, setting}
 use Rattle.cut_replay.specs.declared.records.Broken.{Broken}
 use Rattle.limits.specs.declared.bounds.TheConstants.{MOST_BOX_CELLS}
 
@@ -46,11 +46,6 @@ pub record IsFormed (cut : CutRecord) : Type 0 where
   pub cells : HasCells cut.placement.rect.size
   pub choice : length cut.choice ≡ cell_count cut.placement.rect.size
   pub flows : length cut.flows ≡ pair_count cut.placement.rect.size
-
--- the cells of the boxes of records, all together
-abbrev pub box_cells : List CutRecord → ℕ
-box_cells [] = 0
-box_cells (cut ∷ cuts) = box_count cut.placement + box_cells cuts
 
 -- records as a file of them holds: each box lies in an output of this size and its new sources in
 -- one part of the sample, and the boxes don't have too many cells

@@ -11,10 +11,7 @@ use Rattle.y4m_clip.proofs.ClipAgain as clip
 use Rattle.source_map.specs.declared.map_file.MapFile.TheVariants.{Cells as CellMap}
 use Rattle.source_map.specs.MapFiles.{cell_map_form, map_read}
 use Rattle.source_map.proofs.MapsAgain as maps
-use Rattle.cut_check.specs.declared.record.CutRecord.{CutRecord}
-use Rattle.cut_replay.specs.Replay.{box_cells}
 use Rattle.cert_file.specs.declared.file.RecordFile.TheVariants.{Cuts}
-use Rattle.cert_file.specs.CutReading as record_file
 use Rattle.cert_file.specs.RecordFiles.{IsRecordFileOf, cuts_form}
 use Rattle.cert_file.proofs.CutsAgain.{cuts_again}
 use Rattle.job_words.specs.declared.grow.GrowJob.{GrowJob}
@@ -31,11 +28,6 @@ use Rattle.check_command.specs.Checks.{Stand}
 use Rattle.grow_command.specs.declared.plan.Growth.{Growth}
 use Rattle.grow_command.specs.Growths.{IsGrowth, IsMade, head_over, version_over}
 use Rattle.grow_command.proofs.Ready.{map_ready, picture_ready, record_ready}
-
--- the records have as many cells for the writer as for the run
-same_cells : (cuts : List CutRecord) → record_file.box_cells cuts ≡ box_cells cuts
-same_cells [] = refl
-same_cells (cut ∷ cuts) = ap (λ n. cell_count cut.placement.rect.size + n) (same_cells cuts)
 
 -- a picture that is written is read again
 picture_again : (form : Form) (picture : Cells) → CanStandIn form picture → cell_count picture.size ≤ 8388608 → StandsWithin 33554432 (form_text form picture) form picture
@@ -99,7 +91,7 @@ module _ (job : GrowJob) (lawful : IsGrowJob job) (before after : Files) (growth
   record_file_again = subst (λ bytes. IsRecordFileOf bytes (Cuts (head_over job.size growth.samples.volume) growth.grown.cuts)) (sym cert_file)
       (cuts_again (head_over job.size growth.samples.volume) growth.grown.cuts (record {
         form = record_ready job growth grown.volume lawful made;
-        cells = subst (λ n. n ≤ 33554432) (sym (same_cells growth.grown.cuts)) grown.grown.writable.cells;
+        cells = grown.grown.writable.cells;
       }) grown.flows)
 
   abbrev values : ReadFiles

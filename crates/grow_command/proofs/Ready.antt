@@ -20,7 +20,8 @@ use Rattle.map_canvas.proofs.Pictures.{full_picture}
 use Rattle.source_map.specs.MapFiles.{IsInSamples, IsShortCoordinate, IsWritable}
 use Rattle.source_map.specs.Heads.{AreSamples}
 use Rattle.cut_check.specs.declared.record.CutRecord.{CutRecord}
-use Rattle.cut_replay.specs.Replay.{IsFormed, box_cells}
+use Rattle.cut_check.specs.Records.{box_cells}
+use Rattle.cut_replay.specs.Replay.{IsFormed}
 use Rattle.grow_run.proofs.Stepping.{some_cells}
 use Rattle.cert_file.specs.CutForms.{IsCutInForm}
 use Rattle.cert_file.specs.RecordFiles.{AreCutsInForm}

@@ -7,10 +7,10 @@ use Rattle.map_canvas.specs.declared.canvas.Placement.{Placement}
 use Rattle.map_canvas.specs.Choices.{box_count, map_after}
 use Rattle.map_canvas.specs.Maps.{IsMap}
 use Rattle.cut_check.specs.declared.record.CutRecord.{CutRecord}
+use Rattle.cut_check.specs.Records.{box_cells}
 use Rattle.graph_place.specs.Fewest.{IsFewestHeld}
 use Rattle.graph_place.proofs.OneChoice.{one_fewest}
 use Rattle.limits.specs.declared.bounds.TheConstants.{MOST_BOX_CELLS}
-use Rattle.cut_replay.specs.Replay.{box_cells}
 use Rattle.grow_run.specs.declared.plan.GrowPlan.{GrowPlan}
 use Rattle.grow_run.specs.Grown.{ComesNext, Growth, GrowsBy, IsDone, first_growth}
 use Rattle.grow_run.specs.OneRun.{EndsWithin, IsSameRun, OneLimit, OneRun, SameButFlows}

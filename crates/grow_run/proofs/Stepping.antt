@@ -15,12 +15,12 @@ use Rattle.map_canvas.specs.Maps.{empty_map, first_unfilled}
 use Rattle.boxes.specs.Pairs.{pair_count}
 use Rattle.patch_place.specs.Steps.{IsNextAt, draws_after}
 use Rattle.cut_check.specs.declared.record.CutRecord.{CutRecord}
-use Rattle.cut_check.specs.Records.{CutStands, setting}
+use Rattle.cut_check.specs.Records.{CutStands, box_cells, setting}
 use Rattle.graph_place.specs.Fewest.{IsFewestHeld}
 use Rattle.graph_place.specs.Placed.{IsPlaced}
 use Rattle.refine_seams.specs.Rounds.{IsRoundAt}
 use Rattle.limits.specs.declared.bounds.TheConstants.{MOST_BOX_CELLS}
-use Rattle.cut_replay.specs.Replay.{EachStands, IsFormed, box_cells, left_by}
+use Rattle.cut_replay.specs.Replay.{EachStands, IsFormed, left_by}
 use Rattle.cut_replay.proofs.RunLaws.{cells_more, each_more, left_more}
 use Rattle.grow_run.specs.declared.plan.GrowPlan.{GrowPlan}
 use Rattle.grow_run.specs.declared.steps.Work.{Work}

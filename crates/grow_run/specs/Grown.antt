@@ -14,10 +14,11 @@ use Rattle.map_canvas.specs.Maps.{IsFull, SourceMap, empty_map, first_unfilled}
 use Rattle.patch_place.specs.Draws.{DrawState}
 use Rattle.patch_place.specs.Steps.{IsNextAt, after_draw, draws_after}
 use Rattle.cut_check.specs.declared.record.CutRecord.{CutRecord}
+use Rattle.cut_check.specs.Records.{box_cells}
 use Rattle.graph_place.specs.Fewest.{IsFewestHeld}
 use Rattle.refine_seams.specs.Rounds.{IsRoundAt, NoWindowCosts}
 use Rattle.limits.specs.declared.bounds.TheConstants.{MOST_BOX_CELLS}
-use Rattle.cut_replay.specs.Replay.{AreFileRecords, EachLeast, EachOver, EachStands, KeepsFixed, box_cells, left_by}
+use Rattle.cut_replay.specs.Replay.{AreFileRecords, EachLeast, EachOver, EachStands, KeepsFixed, left_by}
 use Rattle.grow_run.specs.declared.plan.GrowPlan.{GrowPlan}
 use Rattle.grow_run.specs.declared.plan.Grown.{Grown}
 use Rattle.grow_run.specs.declared.plan.GrowError.{GrowError}

@@ -5,9 +5,9 @@ use Rattle.std.specs.List.{AllZip}
 use Rattle.cells.specs.Cells.{Cells}
 use Rattle.map_canvas.specs.Maps.{IsFull, IsMap}
 use Rattle.cut_check.specs.declared.record.CutRecord.{CutRecord}
+use Rattle.cut_check.specs.Records.{box_cells}
 use Rattle.graph_place.specs.Placed.{map_total}
 use Rattle.limits.specs.declared.bounds.TheConstants.{MOST_BOX_CELLS}
-use Rattle.cut_replay.specs.Replay.{box_cells}
 use Rattle.grow_run.specs.declared.plan.GrowPlan.{GrowPlan}
 use Rattle.grow_run.specs.Grown.{Growth, GrowsBy, IsDone, IsRun, IsSplit, PassesAt}
 use Rattle.grow_run.specs.Runs.{Leads}

@@ -7,7 +7,8 @@ use Rattle.map_canvas.specs.Maps.{IsFull, empty_map, first_unfilled}
 use Rattle.cost_windows.specs.Tables.{WindowSums}
 use Rattle.refine_seams.specs.Rounds.{NoWindowCosts, SumsWindowsOf}
 use Rattle.limits.specs.declared.bounds.TheConstants.{MOST_BOX_CELLS}
-use Rattle.cut_replay.specs.Replay.{EachStands, IsFormed, box_cells, left_by}
+use Rattle.cut_check.specs.Records.{box_cells}
+use Rattle.cut_replay.specs.Replay.{EachStands, IsFormed, left_by}
 use Rattle.grow_run.specs.declared.plan.GrowPlan.{GrowPlan}
 use Rattle.grow_run.specs.declared.plan.GrowError.{GrowError}
 use Rattle.grow_run.specs.declared.steps.Work.{Work}

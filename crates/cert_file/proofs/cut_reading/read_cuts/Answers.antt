@@ -2,10 +2,11 @@ use Rattle.std.proofs.Common.{◌++◌, ◌∷◌, [], ◌+◌, ◌∙◌, lengt
 use Rattle.std.specs.Prelude.{All, Err}
 use Rattle.std.proofs.lemmas.List.Elements.{All-push}
 use Rattle.std.proofs.lemmas.Result.{err_from_is_err_and}
+use Rattle.cut_check.specs.Records.{box_cells}
 use Rattle.shelf_core.proofs.FileLaws.{only_reads_then}
 use Rattle.source_map.specs.Readings.{Found, ReadsFrom}
 use Rattle.cert_file.specs.CutForms.{IsCutInForm}
-use Rattle.cert_file.specs.CutReading.{box_cells, cut_read, cuts_read}
+use Rattle.cert_file.specs.CutReading.{cut_read, cuts_read}
 use Rattle.cert_file.proofs.Bits.{box_cells-append}
 use Rattle.cert_file.proofs.Readings.{each_more, each_stops}
 use Rattle.cert_file.proofs.cut_reading.read_cuts.Goals as goal

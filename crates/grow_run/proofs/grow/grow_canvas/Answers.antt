@@ -2,7 +2,8 @@ use Rattle.std.proofs.Common.{◌≤◌, ◌∙◌, ap, sym, subst}
 use Rattle.std.specs.Prelude.{All}
 use Rattle.map_canvas.specs.Maps.{empty_map}
 use Rattle.limits.specs.declared.bounds.TheConstants.{MOST_BOX_CELLS}
-use Rattle.cut_replay.specs.Replay.{EachStands, IsFormed, box_cells, left_by}
+use Rattle.cut_check.specs.Records.{box_cells}
+use Rattle.cut_replay.specs.Replay.{EachStands, IsFormed, left_by}
 use Rattle.cut_replay.proofs.Standing.{each_fits, each_keeps, each_least}
 use Rattle.grow_run.specs.Grown.{IsRun, first_growth}
 use Rattle.grow_run.specs.Work.{growth_of}

@@ -202,8 +202,9 @@ fn read_count<S: Shelf>(file: &mut FileReader, shelf: &mut S, name: &str) -> Res
     lawful_count(n, at)
 }
 
-// Reads a size.
-pub(crate) fn read_size<S: Shelf>(
+/// Reads a size: w, h, f, 4 bytes each. `Bad(Form)` comes at an axis that is 0 or within which the file ends,
+/// and `Limit Axis` for one above 4,096. It takes no memory.
+pub fn read_size<S: Shelf>(
     file: &mut FileReader,
     shelf: &mut S,
     name: &str,
@@ -251,8 +252,9 @@ pub(crate) fn read_start<S: Shelf>(
     })
 }
 
-// Reads the sizes of so many samples.
-fn read_sizes<S: Shelf>(
+/// Reads the sizes of so many samples, one after another. The refusals are those of [`read_size`]. It takes
+/// no memory.
+pub fn read_sizes<S: Shelf>(
     file: &mut FileReader,
     count: u32,
     shelf: &mut S,

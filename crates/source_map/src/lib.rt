@@ -11,7 +11,7 @@ mod map_file;
 mod map_reading;
 
 pub use head::{Head, Version, put_head};
-pub use head_reading::read_head;
+pub use head_reading::{read_head, read_size, read_sizes};
 pub use law::{no_map_begins_another, one_map_reading, version_one_maps_are_maps};
 pub use map_canvas::{Canvas, GREATEST_COORDINATE, Map, Placement};
 pub use map_file::{MapFile, place_bytes, put_source, write_cell_map, write_frame_map};

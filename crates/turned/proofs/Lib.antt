@@ -1,0 +1,5 @@
+pub mod Turns
+pub mod TurnedLists
+pub mod TurnedCells
+pub mod TurnedPlaces
+pub mod Copying

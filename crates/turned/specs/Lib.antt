@@ -1,0 +1,4 @@
+pub mod Turns
+pub mod TurnedParts
+pub mod TurnedPlaces
+pub mod Copies

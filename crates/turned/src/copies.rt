@@ -1,0 +1,249 @@
+// The turns of each part of a volume, as parts of one volume.
+ghost use Rattle.std.specs.Prelude.{◌≡◌, ◌≤◌, ◌<◌, ◌⊎◌, ◌+◌, ◌*◌, ◌-◌, ◌++◌, [], IfOk, OnOk, length, map, unwrap_or};
+ghost use Rattle.std.specs.List.{concat};
+ghost use Rattle.cells.specs.Places.{IsInside, cell_count, places, spot};
+ghost use Rattle.cells.specs.SizeLists.{stock_place};
+ghost use Rattle.cells.specs.Cells.{HasCell, IsOnePart, cell_at, count_of, sizes_of};
+ghost use Rattle.turned.specs.Turns.{turn_from, turn_size};
+ghost use Rattle.turned.specs.TurnedParts.{turned, turned_cell, turned_of};
+ghost use Rattle.turned.specs.TurnedPlaces.{sample_size};
+ghost use Rattle.turned.specs.Copies.{AreSizesOf, IsPartTurn, numbered_part, turned_row, turns_from, with_parts};
+
+use crate::places::MOST_TURNED;
+use crate::turn::{TURNS, keeps_rows, turn_from, turned_size};
+use cells::{At, Size, Sizes, Volume};
+use limits::{GREATEST_AXIS, MOST_CELLS, MOST_PARTS};
+use std::alloc::{AllocError, Global};
+
+// A turn of a part of a volume, and the part's size after it.
+#[derive(Clone, Copy, Drop)]
+pub struct PartTurn {
+    pub number: u32,
+    pub turn: u32,
+    pub size: Size,
+}
+
+// A turn of a part.
+fn part_turn(samples: &Volume, sizes: &Sizes, number: u32, turn: u32) -> PartTurn
+    requires sizes { AreSizesOf samples.now sizes.now }
+    requires from { 1 ≤ number }
+    requires to { number ≤ length sizes.now }
+    requires turn { turn < TURNS }
+    ensures number { result.number ≡ number }
+    ensures turn { result.turn ≡ turn }
+    ensures size { result.size ≡ turn_size turn (sample_size sizes.now number) }
+    ensures is { IsPartTurn samples.now sizes.now result }
+{
+    // The samples are asked for only to show the check that these are a volume.
+    let _k = samples.samples();
+    PartTurn {
+        number,
+        turn,
+        size: turned_size(turn, sizes.at(number)),
+    }
+}
+
+// The place of three counts.
+fn spot_of(x: u32, y: u32, f: u32) -> At
+    requires x { x ≤ GREATEST_AXIS }
+    requires y { y ≤ GREATEST_AXIS }
+    requires f { f ≤ GREATEST_AXIS }
+    ensures { result ≡ spot x y f }
+{
+    At {
+        x: x as i32,
+        y: y as i32,
+        f: f as i32,
+    }
+}
+
+// The place of the volume from which a turn moves a cell to a place of the turned part.
+fn source_of(sizes: &Sizes, number: u32, turn: u32, at: At) -> At
+    requires from { 1 ≤ number }
+    requires to { number ≤ length sizes.now }
+    requires turn { turn < TURNS }
+    requires inside { IsInside (turn_size turn (sample_size sizes.now number)) at }
+    ensures { result ≡ stock_place sizes.now number
+        (turn_from turn (sample_size sizes.now number) at) }
+{
+    sizes.stock(number, turn_from(turn, sizes.at(number), at))
+}
+
+// The samples of a place that has a cell.
+fn cell_at(samples: &Volume, at: At) -> &[u8]
+    requires { HasCell samples.now at }
+    ensures { result.now ≡ unwrap_or (cell_at samples.now at) [] }
+{
+    samples.cell(at).unwrap()
+}
+
+// The cell that a turn moves to a place of the turned part.
+fn cell_of<'a>(samples: &'a Volume, sizes: &Sizes, it: PartTurn, at: At) -> &'a [u8]
+    requires part { IsPartTurn samples.now sizes.now it }
+    requires inside { IsInside it.size at }
+    ensures { result.now ≡ turned_cell it.turn (numbered_part samples.now it.number) at }
+{
+    // The samples are asked for only to show the check that these are a volume.
+    let _k = samples.samples();
+    cell_at(samples, source_of(sizes, it.number, it.turn, at))
+}
+
+// Puts the cells of a row of a turned part after others, one by one.
+fn push_cells(
+    bytes: &mut Vec<u8>,
+    samples: &Volume,
+    sizes: &Sizes,
+    it: PartTurn,
+    y: u32,
+    f: u32,
+) -> Result<(), AllocError>
+    requires part { IsPartTurn samples.now sizes.now it }
+    requires row { y < it.size.h }
+    requires frame { f < it.size.f }
+    ensures { OnOk result (bytes.new.items ≡ bytes.old.items
+        ++ concat (turned_row it.turn (numbered_part samples.now it.number) y f it.size.w)) }
+{
+    for x in 0..it.size.w {
+        let cell = cell_of(samples, sizes, it, spot_of(x, y, f));
+        bytes.extend_from_slice(cell)?;
+    }
+    Ok(())
+}
+
+// A row of a part that a turn keeps, as it stands in the turned part.
+fn row_of<'a>(samples: &'a Volume, sizes: &Sizes, it: PartTurn, y: u32, f: u32) -> &'a [u8]
+    requires part { IsPartTurn samples.now sizes.now it }
+    requires keeps { (it.turn ≡ 0) ⊎ (it.turn ≡ 6) }
+    requires row { y < it.size.h }
+    requires frame { f < it.size.f }
+    ensures { result.now
+        ≡ concat (turned_row it.turn (numbered_part samples.now it.number) y f it.size.w) }
+{
+    // The samples are asked for only to show the check that these are a volume.
+    let _k = samples.samples();
+    samples.row(
+        source_of(sizes, it.number, it.turn, spot_of(0, y, f)),
+        it.size.w,
+    )
+}
+
+// Puts a row of a turned part after others: whole where the turn keeps rows, and else cell by cell.
+fn push_row(
+    bytes: &mut Vec<u8>,
+    samples: &Volume,
+    sizes: &Sizes,
+    it: PartTurn,
+    y: u32,
+    f: u32,
+) -> Result<(), AllocError>
+    requires part { IsPartTurn samples.now sizes.now it }
+    requires row { y < it.size.h }
+    requires frame { f < it.size.f }
+    ensures { OnOk result (bytes.new.items ≡ bytes.old.items
+        ++ concat (turned_row it.turn (numbered_part samples.now it.number) y f it.size.w)) }
+{
+    if keeps_rows(it.turn) {
+        bytes.extend_from_slice(row_of(samples, sizes, it, y, f))
+    } else {
+        push_cells(bytes, samples, sizes, it, y, f)
+    }
+}
+
+// The bytes of a turned part, row after row.
+fn turned_bytes(
+    alloc: Global,
+    samples: &Volume,
+    sizes: &Sizes,
+    it: PartTurn,
+) -> Result<Vec<u8>, AllocError>
+    requires { IsPartTurn samples.now sizes.now it }
+    ensures { IfOk result (λ bytes. bytes.items
+        ≡ concat (map (turned_cell it.turn (numbered_part samples.now it.number))
+        (places it.size))) }
+{
+    let mut bytes = Vec::new(alloc);
+    bytes.reserve_exact(samples.samples() as usize * it.size.cells())?;
+    for row in 0..it.size.h * it.size.f {
+        push_row(
+            &mut bytes,
+            samples,
+            sizes,
+            it,
+            row % it.size.h,
+            row / it.size.h,
+        )?;
+    }
+    Ok(bytes)
+}
+
+// A part of a volume after a turn.
+fn turned_part(
+    alloc: Global,
+    samples: &Volume,
+    sizes: &Sizes,
+    number: u32,
+    turn: u32,
+) -> Result<Volume, AllocError>
+    requires sizes { AreSizesOf samples.now sizes.now }
+    requires from { 1 ≤ number }
+    requires to { number ≤ length sizes.now }
+    requires turn { turn < TURNS }
+    ensures turned { IfOk result (λ v. v ≡ turned turn (numbered_part samples.now number)) }
+    ensures one { IfOk result IsOnePart }
+    ensures samples { IfOk result (λ v. v.k ≡ samples.now.k) }
+    ensures size { IfOk result (λ v. v.size ≡ turn_size turn (sample_size sizes.now number)) }
+{
+    let it = part_turn(samples, sizes, number, turn);
+    let bytes = turned_bytes(alloc, samples, sizes, it)?;
+    Ok(Volume::from_bytes(it.size, samples.samples(), bytes))
+}
+
+// Puts turns of a part after the parts of a volume, from one turn on.
+fn add_turns(
+    alloc: Global,
+    all: &mut Volume,
+    samples: &Volume,
+    sizes: &Sizes,
+    number: u32,
+    first: u32,
+) -> Result<(), AllocError>
+    requires sizes { AreSizesOf samples.now sizes.now }
+    requires from { 1 ≤ number }
+    requires to { number ≤ length sizes.now }
+    requires first { first < TURNS }
+    requires samples { all.old.k ≡ samples.now.k }
+    requires few { length (sizes_of all.old) ≤ first + 8 }
+    requires room { count_of all.old + (TURNS - first) * cell_count (sample_size sizes.now number)
+        ≤ MOST_CELLS }
+    ensures parts { OnOk result (all.new ≡ with_parts all.old
+        (turns_from (numbered_part samples.now number) first (TURNS - first))) }
+    ensures samples { OnOk result (all.new.k ≡ all.old.k) }
+    ensures few { OnOk result (length (sizes_of all.new)
+        ≡ length (sizes_of all.old) + (TURNS - first)) }
+    ensures room { OnOk result (count_of all.new ≡ count_of all.old
+        + (TURNS - first) * cell_count (sample_size sizes.now number)) }
+{
+    for turn in first..TURNS {
+        let part = turned_part(alloc, samples, sizes, number, turn)?;
+        all.add_part(&part)?;
+    }
+    Ok(())
+}
+
+/// The eight turns of each of 1 or 2 samples, as parts of one volume: those of one sample after those of
+/// another, in the order of the turns. The samples have at most 2^22 cells together. The one error is out
+/// of memory.
+pub fn turn_all(alloc: Global, samples: &Volume) -> Result<Volume, AllocError>
+    requires few { length (sizes_of samples.now) ≤ MOST_TURNED }
+    requires room { TURNS * count_of samples.now ≤ MOST_CELLS }
+    ensures { IfOk result (λ v. v ≡ turned_of samples.now) }
+{
+    let sizes = samples.sizes();
+    let mut all = turned_part(alloc, samples, &sizes, 1, 0)?;
+    add_turns(alloc, &mut all, samples, &sizes, 1, 1)?;
+    if sizes.len() == 1 {
+        return Ok(all);
+    }
+    add_turns(alloc, &mut all, samples, &sizes, 2, 0)?;
+    Ok(all)
+}

@@ -1,0 +1,81 @@
+use Rattle.std.proofs.Common.{ℕ, List}
+use Rattle.std.proofs.lemmas.Result.{err_from_is_err_and}
+use Rattle.std.specs.Prelude.{Option, Some, Result, Ok, Err}
+use Rattle.shelf_core.specs.declared.fault.ReadError.{ReadError}
+use Rattle.shelf_core.proofs.FileLaws.{only_reads_same, only_reads_then}
+use Rattle.cells.specs.declared.place.Size.{Size}
+use Rattle.source_map.proofs.FieldLaws.{chain, first_stops, lifted, made, then_reads}
+use Rattle.std.proofs.Common.{ap, length, subst, sym}
+use Rattle.std.specs.Int.{w16}
+use Rattle.cells.specs.declared.place.At.{At}
+use Rattle.source_map.specs.MapFiles.{below_rule, part_rule, place_read}
+use Rattle.source_map.specs.Readings.{ReadsFrom, number_read}
+use Rattle.turned.specs.TurnedPlaces.{sample_size, turned_place}
+use Rattle.turned.proofs.TurnedLists.{sample_there}
+use Rattle.turned_map.proofs.turned_reading.read_source.Goals as goal
+
+abbrev end : List Size → ℕ → ℕ → At → ℕ → List ℕ → Result (Option At × ℕ) ReadError
+end samples sample turn from at bytes = Ok (Some (turned_place samples (record { sample = sample; turn = turn; at = from })), at)
+
+pub returns-in_err-sample-clause-answer : goal.returns-in_err-sample-clause-answer
+returns-in_err-sample-clause-answer g c =
+    let state = g.S.Shelf.state in
+    let name = c.args.name.now in
+    let p = err_from_is_err_and c.from_residual.result c.from_residual.ensures.1 in
+    rw (p.1, p.2)
+    (first_stops ⊥ name c.args.file.now.at (number_read w16 (part_rule (length c.args.samples.now))) (λ (v0 : ℕ). chain (number_read w16 (below_rule 8)) (λ (v1 : ℕ). chain (place_read (sample_size c.args.samples.now v0)) (λ (v2 : At). end c.args.samples.now v0 v1 v2))) (state c.args.shelf.now) (state c.read_number.new.shelf) c.read_number.new.file c.in_err-sample.field-0.0 c.in_err-sample.ensures.answer)
+
+pub returns-in_err-turn-clause-answer : goal.returns-in_err-turn-clause-answer
+returns-in_err-turn-clause-answer g c =
+    let state = g.S.Shelf.state in
+    let name = c.args.name.now in
+    let p = err_from_is_err_and c.from_residual-in_err-turn.result c.from_residual-in_err-turn.ensures.1 in
+    let v0 : ℕ = c.in_ok-sample.sample in
+    let ok0 = c.in_ok-sample.ensures {u = tt} in
+    rw (p.1, p.2)
+    (then_reads ⊥ name c.args.file.now.at (number_read w16 (part_rule (length c.args.samples.now))) (λ (v0 : ℕ). chain (number_read w16 (below_rule 8)) (λ (v1 : ℕ). chain (place_read (sample_size c.args.samples.now v0)) (λ (v2 : At). end c.args.samples.now v0 v1 v2))) (state c.args.shelf.now) (state c.read_number.new.shelf) (state c.read_turn.new.shelf) c.read_number.new.file c.read_turn.new.file v0 (Err c.in_err-turn.field-0.0)
+    ok0.reads c.in_err-turn.ensures.reads ok0.answer
+    (first_stops ⊥ name c.read_number.new.file.at (number_read w16 (below_rule 8)) (λ (v1 : ℕ). chain (place_read (sample_size c.args.samples.now v0)) (λ (v2 : At). end c.args.samples.now v0 v1 v2)) (state c.read_number.new.shelf) (state c.read_turn.new.shelf) c.read_turn.new.file c.in_err-turn.field-0.0 c.in_err-turn.ensures.answer))
+
+pub returns-in_err-at-clause-answer : goal.returns-in_err-at-clause-answer
+returns-in_err-at-clause-answer g c =
+    let state = g.S.Shelf.state in
+    let name = c.args.name.now in
+    let p = err_from_is_err_and c.from_residual-in_err-at.result c.from_residual-in_err-at.ensures.1 in
+    let v0 : ℕ = c.in_ok-sample.sample in
+    let ok0 = c.in_ok-sample.ensures {u = tt} in
+    let v1 : ℕ = c.in_ok-turn.turn in
+    let ok1 = c.in_ok-turn.ensures {u = tt} in
+    rw (p.1, p.2)
+    (then_reads ⊥ name c.args.file.now.at (number_read w16 (part_rule (length c.args.samples.now))) (λ (v0 : ℕ). chain (number_read w16 (below_rule 8)) (λ (v1 : ℕ). chain (place_read (sample_size c.args.samples.now v0)) (λ (v2 : At). end c.args.samples.now v0 v1 v2))) (state c.args.shelf.now) (state c.read_number.new.shelf) (state c.read_place_in.new.shelf) c.read_number.new.file c.read_place_in.new.file v0 (Err c.in_err-at.field-0.0)
+    ok0.reads (only_reads_then (state c.read_number.new.shelf) (state c.read_turn.new.shelf) (state c.read_place_in.new.shelf) ok1.reads c.in_err-at.ensures.reads) ok0.answer
+    (then_reads ⊥ name c.read_number.new.file.at (number_read w16 (below_rule 8)) (λ (v1 : ℕ). chain (place_read (sample_size c.args.samples.now v0)) (λ (v2 : At). end c.args.samples.now v0 v1 v2)) (state c.read_number.new.shelf) (state c.read_turn.new.shelf) (state c.read_place_in.new.shelf) c.read_turn.new.file c.read_place_in.new.file v1 (Err c.in_err-at.field-0.0)
+    ok1.reads c.in_err-at.ensures.reads ok1.answer
+    (first_stops ⊥ name c.read_turn.new.file.at (place_read (sample_size c.args.samples.now v0)) (λ (v2 : At). end c.args.samples.now v0 v1 v2) (state c.read_turn.new.shelf) (state c.read_place_in.new.shelf) c.read_place_in.new.file c.in_err-at.field-0.0 c.in_err-at.ensures.answer)))
+
+pub returns-clause-answer : goal.returns-clause-answer
+returns-clause-answer g c =
+    let state = g.S.Shelf.state in
+    let name = c.args.name.now in
+    let v0 : ℕ = c.in_ok-sample.sample in
+    let ok0 = c.in_ok-sample.ensures {u = tt} in
+    let v1 : ℕ = c.in_ok-turn.turn in
+    let ok1 = c.in_ok-turn.ensures {u = tt} in
+    let v2 : At = c.in_ok-at.at in
+    let ok2 = c.in_ok-at.ensures {u = tt} in
+    let value : Option At = Some (turned_place c.args.samples.now (record { sample = v0; turn = v1; at = v2 })) in
+    subst (λ (v : Option At). ReadsFrom ⊥ name c.args.file.now.at (state c.args.shelf.now) (state c.read_place_in.new.shelf) c.read_place_in.new.file (chain (number_read w16 (part_rule (length c.args.samples.now))) (λ (v0 : ℕ). chain (number_read w16 (below_rule 8)) (λ (v1 : ℕ). chain (place_read (sample_size c.args.samples.now v0)) (λ (v2 : At). end c.args.samples.now v0 v1 v2)))) (Ok v)) (sym (ap Some c.moved.ensures.place))
+    (then_reads ⊥ name c.args.file.now.at (number_read w16 (part_rule (length c.args.samples.now))) (λ (v0 : ℕ). chain (number_read w16 (below_rule 8)) (λ (v1 : ℕ). chain (place_read (sample_size c.args.samples.now v0)) (λ (v2 : At). end c.args.samples.now v0 v1 v2))) (state c.args.shelf.now) (state c.read_number.new.shelf) (state c.read_place_in.new.shelf) c.read_number.new.file c.read_place_in.new.file v0 (Ok value)
+    ok0.reads (only_reads_then (state c.read_number.new.shelf) (state c.read_turn.new.shelf) (state c.read_place_in.new.shelf) ok1.reads ok2.reads) ok0.answer
+    (then_reads ⊥ name c.read_number.new.file.at (number_read w16 (below_rule 8)) (λ (v1 : ℕ). chain (place_read (sample_size c.args.samples.now v0)) (λ (v2 : At). end c.args.samples.now v0 v1 v2)) (state c.read_number.new.shelf) (state c.read_turn.new.shelf) (state c.read_place_in.new.shelf) c.read_turn.new.file c.read_place_in.new.file v1 (Ok value)
+    ok1.reads ok2.reads ok1.answer
+    (then_reads ⊥ name c.read_turn.new.file.at (place_read (sample_size c.args.samples.now v0)) (λ (v2 : At). end c.args.samples.now v0 v1 v2) (state c.read_turn.new.shelf) (state c.read_place_in.new.shelf) (state c.read_place_in.new.shelf) c.read_place_in.new.file c.read_place_in.new.file v2 (Ok value)
+    ok2.reads (only_reads_same (state c.read_place_in.new.shelf)) ok2.answer
+    (made ⊥ name (state c.read_place_in.new.shelf) (state c.read_place_in.new.shelf) c.read_place_in.new.file value ok2.answer.follows))))
+
+pub moved-requires-clause-turned : goal.moved-requires-clause-turned
+moved-requires-clause-turned g c = record {
+  sample = sample_there c.args.samples.now c.in_ok-sample.sample (c.in_ok-sample.ensures {u = tt}).within.0 (c.in_ok-sample.ensures {u = tt}).within.1;
+  turn = (c.in_ok-turn.ensures {u = tt}).below;
+  inside = (c.in_ok-at.ensures {u = tt}).inside;
+}

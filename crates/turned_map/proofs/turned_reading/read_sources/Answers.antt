@@ -1,0 +1,33 @@
+use Rattle.std.proofs.Common.{ℕ, List}
+use Rattle.std.proofs.lemmas.Result.{err_from_is_err_and}
+use Rattle.std.specs.Prelude.{Option, Result, Ok, Err}
+use Rattle.shelf_core.specs.declared.fault.ReadError.{ReadError}
+use Rattle.cells.specs.declared.place.At.{At}
+use Rattle.cells.specs.declared.place.Size.{Size}
+use Rattle.cells.specs.Places.{cell_count}
+use Rattle.map_canvas.specs.Maps.{SourceMap}
+use Rattle.source_map.specs.Readings.{list_read}
+use Rattle.source_map.proofs.FieldLaws.{first_stops, lifted, list_stops}
+use Rattle.turned_map.specs.TurnedFiles.{turned_source_read}
+use Rattle.turned_map.proofs.turned_reading.read_sources.Goals as goal
+
+abbrev end : Size → List (Option At) → ℕ → List ℕ → Result (SourceMap × ℕ) ReadError
+end size sources at bytes = Ok (record { size = size; sources = sources }, at)
+
+pub returns-in_err-source-clause-answer : goal.returns-in_err-source-clause-answer
+returns-in_err-source-clause-answer g c =
+    let state = g.S.Shelf.state in
+    let name = c.args.name.now in
+    let p = err_from_is_err_and c.from_residual-in_err-source.result c.from_residual-in_err-source.ensures.1 in
+    let read = turned_source_read c.args.samples.now in
+    let place = c.args.file.now.at in
+    let a = state c.args.shelf.now in
+    let b = state c.loop-i.shelf in
+    let d = state c.read_source.new.shelf in
+    let e = c.in_err-source.field-0.0 in
+    let count = cell_count c.args.size in
+    rw (p.1, p.2)
+    (first_stops (Unit {0}) name place (list_read read count) (end c.args.size) a d c.read_source.new.file e
+    (list_stops (Unit {0}) name place c.loop-i.i count read a b d c.loop-i.file c.read_source.new.file c.loop-i.sources.items e
+    (rw c.cells-count.ensures at c.loop-i-test.true) c.loop-i.invariant.reads c.in_err-source.ensures.reads c.loop-i.invariant.found
+    (lifted (Unit {0}) name c.loop-i.file.at read b d c.read_source.new.file (Err e) c.in_err-source.ensures.answer)))

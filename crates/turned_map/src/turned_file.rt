@@ -1,0 +1,128 @@
+// The file of a map over turned samples, written.
+ghost use Rattle.std.specs.Prelude.{◌≡◌, ◌≤◌, ◌<◌, ◌^◌, All, IsSomeAnd, OnErr, OnOk, length};
+ghost use Rattle.std.specs.List.{flat_map};
+ghost use Rattle.cells.specs.SizeLists.{AreSizes};
+ghost use Rattle.shelf_core.specs.Files.{Changes, OnlyWrites, WritesRose};
+ghost use Rattle.shelf_core.specs.Written.{HoldsPart, HoldsText};
+ghost use Rattle.file_bytes.specs.Writing.{Puts};
+ghost use Rattle.source_map.specs.MapFiles.{IsShort};
+ghost use Rattle.turned.specs.TurnedParts.{turned_sizes_of};
+ghost use Rattle.turned.specs.TurnedPlaces.{IsInTurned};
+ghost use Rattle.turned_map.specs.TurnedFiles.{IsTurnedMap, turned_field, turned_map_form, turned_source, untouched_of};
+
+use cells::{At, Sizes};
+use file_bytes::FileWriter;
+use map_canvas::Map;
+use shelf_core::{Shelf, WriteFault};
+use source_map::{Head, Version, place_bytes, put_head};
+use turned::{MOST_TURNED, Turned, turned_sizes, untouched_with};
+
+/// The version of the file of a map over turned samples.
+pub const TURNED_VERSION: u8 = 2;
+
+/// The kind of the file of a map over turned samples.
+pub const TURNED_KIND: u8 = 2;
+
+// What a map file begins with.
+pub(crate) const MAGIC: [u8; 8] = *b"WEAVEMAP";
+
+/// What the file of a map over turned samples stands for.
+#[derive(Drop)]
+pub struct TurnedFile {
+    /// The map, whose sources are places of the turned samples.
+    pub map: Map,
+    /// The sizes of the samples as they are before.
+    pub samples: Sizes,
+}
+
+// The same sizes once more.
+fn copy_of(samples: &Sizes) -> Sizes
+    ensures sizes { result ≡ samples.now }
+    ensures are { AreSizes result }
+{
+    let mut copy = Sizes::one(samples.at(1));
+    for part in 1..samples.len() {
+        copy.add(samples.at(part + 1));
+    }
+    copy
+}
+
+// Puts a cell of a sample and its turn.
+fn put_turned<S: Shelf>(file: &mut FileWriter, there: Turned, shelf: &mut S, name: &str)
+    requires sample { there.sample < 2 ^ 16 }
+    requires turn { there.turn < 2 ^ 16 }
+    requires at { IsShort there.at }
+    ensures { Puts name.now (turned_field there) (S.state shelf.old) (S.state shelf.new)
+        file.old file.new }
+{
+    file.put_u16(there.sample as u16, shelf, name);
+    file.put_u16(there.turn as u16, shelf, name);
+    file.put(&place_bytes(there.at), shelf, name);
+}
+
+// The cell that is moved to a place of the turned samples.
+fn untouched_at(samples: &Sizes, sizes: &Sizes, from: At) -> Turned
+    requires few { length samples.now ≤ MOST_TURNED }
+    requires are { AreSizes samples.now }
+    requires sizes { sizes.now ≡ turned_sizes_of samples.now }
+    requires inside { IsInTurned samples.now from }
+    ensures untouched { result ≡ untouched_of samples.now from }
+    ensures sample { result.sample < 2 ^ 16 }
+    ensures turn { result.turn < 2 ^ 16 }
+    ensures at { IsShort result.at }
+{
+    untouched_with(samples, sizes, from)
+}
+
+// Puts the sources of filled cells.
+fn put_sources<S: Shelf>(
+    file: &mut FileWriter,
+    sources: &[Option<At>],
+    samples: &Sizes,
+    sizes: &Sizes,
+    shelf: &mut S,
+    name: &str,
+)
+    requires few { length samples.now ≤ MOST_TURNED }
+    requires are { AreSizes samples.now }
+    requires sizes { sizes.now ≡ turned_sizes_of samples.now }
+    requires inside { All (λ source. IsSomeAnd source (IsInTurned samples.now)) sources.now }
+    ensures { Puts name.now (flat_map (turned_source samples.now) sources.now)
+        (S.state shelf.old) (S.state shelf.new) file.old file.new }
+{
+    for source in sources {
+        let there = untouched_at(samples, sizes, source.unwrap());
+        put_turned(file, there, shelf, name);
+    }
+}
+
+/// Writes the file of a full map of at most 2^20 cells, whose sources are places of the turned samples: a head
+/// with the sizes of the 1 or 2 samples as they are before, and for each cell the number of its sample, the
+/// turn, and its place in the sample, 10 bytes a cell. It takes no memory. After a `WriteFault` the shelf has
+/// failed, and the file may be cut off anywhere.
+pub fn write_turned_map<S: Shelf>(
+    map: &Map,
+    samples: &Sizes,
+    shelf: &mut S,
+    name: &str,
+) -> Result<(), WriteFault>
+    requires { IsTurnedMap map.now samples.now }
+    ensures ok { OnOk result (Changes (S.state shelf.old) (S.state shelf.new)
+        (HoldsText name.now (turned_map_form map.now samples.now))) }
+    ensures err { OnErr result (Changes (S.state shelf.old) (S.state shelf.new)
+        (HoldsPart name.now (turned_map_form map.now samples.now))) }
+    ensures writes { OnlyWrites (S.state shelf.old) (S.state shelf.new) }
+    ensures failed { OnErr result
+        (WritesRose name.now (S.state shelf.old) (S.state shelf.new)) }
+{
+    let head = Head {
+        output: map.size(),
+        samples: copy_of(samples),
+        version: Version::Two,
+    };
+    let sizes = turned_sizes(samples);
+    let mut file = FileWriter::begin(shelf, name);
+    put_head(&mut file, MAGIC, TURNED_KIND, &head, shelf, name);
+    put_sources(&mut file, map.sources(), samples, &sizes, shelf, name);
+    file.finish(shelf, name)
+}

@@ -1,0 +1,259 @@
+// The file of a map over turned samples, read.
+ghost use Rattle.std.specs.Prelude.{◌≡◌, ◌≤◌, ◌<◌, ◌+◌, ◌*◌, ◌^◌, All, IfOk, IfSome, IsSomeAnd, OnOk, length};
+ghost use Rattle.shelf_core.specs.Files.{OnlyReads};
+ghost use Rattle.cells.specs.Places.{HasAxes, IsInside, IsSmall, cell_count};
+ghost use Rattle.cells.specs.SizeLists.{AreSizes};
+ghost use Rattle.file_bytes.specs.Reading.{Follows};
+ghost use Rattle.map_canvas.specs.Maps.{IsMap, IsSource};
+ghost use Rattle.std.specs.Int.{w16};
+ghost use Rattle.source_map.specs.MapFiles.{part_rule, place_read};
+ghost use Rattle.source_map.specs.Readings.{ReadsFrom, number_read};
+ghost use Rattle.turned.specs.TurnedParts.{turned_sizes_of};
+ghost use Rattle.turned.specs.TurnedPlaces.{IsInTurned, IsTurned, sample_size, turned_place};
+ghost use Rattle.turned_map.specs.TurnedFiles.{IsTurnedFile, TurnedReadsAs, turned_body_read, turned_samples_read, turned_sizes_read, turned_source_read, turned_sources_read, turned_start_read, turned_value_read};
+
+use crate::fields::{few_cells, read_magic, read_mark, read_part, read_turn};
+use crate::turned_file::{TURNED_KIND, TURNED_VERSION, TurnedFile};
+use cells::{At, Size, Sizes};
+use file_bytes::{FileReader, make_room};
+use limits::MOST_MAP_CELLS;
+use map_canvas::Map;
+use shelf_core::{ReadError, Shelf};
+use source_map::{read_place, read_size, read_sizes};
+use std::alloc::Global;
+use turned::{MOST_TURNED, Turned, turned_place, turned_sizes};
+
+// Reads what stands before the sizes of the samples, of which the output's size is kept.
+fn read_start<S: Shelf>(file: &mut FileReader, shelf: &mut S, name: &str) -> Result<Size, ReadError>
+    requires follows { Follows name.now (S.state shelf.old) file.old }
+    requires room { file.old.at + 22 < 2 ^ 63 }
+    ensures answer { ReadsFrom ⊥ name.now file.old.at (S.state shelf.old) (S.state shelf.new)
+        file.new turned_start_read result }
+    ensures axes { IfOk result HasAxes }
+    ensures place { OnOk result (file.new.at ≡ file.old.at + 22) }
+    ensures reads { OnlyReads (S.state shelf.old) (S.state shelf.new) }
+{
+    read_magic(file, shelf, name)?;
+    let _version = read_mark(file, TURNED_VERSION, shelf, name)?;
+    let _kind = read_mark(file, TURNED_KIND, shelf, name)?;
+    read_size(file, shelf, name)
+}
+
+// Reads the sizes of the samples.
+fn read_samples<S: Shelf>(
+    file: &mut FileReader,
+    shelf: &mut S,
+    name: &str,
+) -> Result<Sizes, ReadError>
+    requires follows { Follows name.now (S.state shelf.old) file.old }
+    requires room { file.old.at + 194 < 2 ^ 63 }
+    ensures answer { ReadsFrom ⊥ name.now file.old.at (S.state shelf.old) (S.state shelf.new)
+        file.new turned_sizes_read result }
+    ensures sizes { IfOk result AreSizes }
+    ensures few { IfOk result (λ samples. length samples ≤ MOST_TURNED) }
+    ensures place { OnOk result (file.new.at ≤ file.old.at + 26) }
+    ensures reads { OnlyReads (S.state shelf.old) (S.state shelf.new) }
+{
+    let count = read_part(file, MOST_TURNED, shelf, name)?;
+    read_sizes(file, count, shelf, name)
+}
+
+// Reads the sizes of the samples, and tries the limit on the output's cells.
+fn read_samples_within<S: Shelf>(
+    file: &mut FileReader,
+    output: Size,
+    shelf: &mut S,
+    name: &str,
+) -> Result<Sizes, ReadError>
+    requires follows { Follows name.now (S.state shelf.old) file.old }
+    requires room { file.old.at + 194 < 2 ^ 63 }
+    requires axes { HasAxes output }
+    ensures answer { ReadsFrom ⊥ name.now file.old.at (S.state shelf.old) (S.state shelf.new)
+        file.new (turned_samples_read output) result }
+    ensures sizes { IfOk result AreSizes }
+    ensures few { IfOk result (λ samples. length samples ≤ MOST_TURNED) }
+    ensures small { OnOk result (IsSmall output) }
+    ensures cells { OnOk result (cell_count output ≤ MOST_MAP_CELLS) }
+    ensures place { OnOk result (file.new.at ≤ file.old.at + 26) }
+    ensures reads { OnlyReads (S.state shelf.old) (S.state shelf.new) }
+{
+    let samples = read_samples(file, shelf, name)?;
+    few_cells(output)?;
+    Ok(samples)
+}
+
+// The place of the turned samples to which a turn moves a cell that was read.
+fn moved(samples: &Sizes, sizes: &Sizes, there: Turned) -> At
+    requires few { length samples.now ≤ MOST_TURNED }
+    requires are { AreSizes samples.now }
+    requires sizes { sizes.now ≡ turned_sizes_of samples.now }
+    requires turned { IsTurned samples.now there }
+    ensures place { result ≡ turned_place samples.now there }
+    ensures inside { IsInTurned samples.now result }
+    ensures source { IsSource result }
+{
+    turned_place(samples, sizes, there)
+}
+
+// Reads a place in a sample.
+fn read_place_in<S: Shelf>(
+    file: &mut FileReader,
+    samples: &Sizes,
+    sample: u32,
+    shelf: &mut S,
+    name: &str,
+) -> Result<At, ReadError>
+    requires follows { Follows name.now (S.state shelf.old) file.old }
+    requires room { file.old.at + 6 < 2 ^ 63 }
+    requires from { 1 ≤ sample }
+    requires to { sample ≤ length samples.now }
+    ensures answer { ReadsFrom ⊥ name.now file.old.at (S.state shelf.old) (S.state shelf.new)
+        file.new (place_read (sample_size samples.now sample)) result }
+    ensures inside { IfOk result (IsInside (sample_size samples.now sample)) }
+    ensures place { OnOk result (file.new.at ≡ file.old.at + 6) }
+    ensures reads { OnlyReads (S.state shelf.old) (S.state shelf.new) }
+{
+    read_place(file, samples.at(sample), shelf, name)
+}
+
+// Reads the number of one of these samples.
+fn read_number<S: Shelf>(
+    file: &mut FileReader,
+    samples: &Sizes,
+    shelf: &mut S,
+    name: &str,
+) -> Result<u32, ReadError>
+    requires follows { Follows name.now (S.state shelf.old) file.old }
+    requires room { file.old.at + 2 < 2 ^ 63 }
+    ensures answer { ReadsFrom ⊥ name.now file.old.at (S.state shelf.old) (S.state shelf.new)
+        file.new (number_read w16 (part_rule (length samples.now))) result }
+    ensures within { IfOk result (λ n. (1 ≤ n) × (n ≤ length samples.now)) }
+    ensures place { OnOk result (file.new.at ≡ file.old.at + 2) }
+    ensures reads { OnlyReads (S.state shelf.old) (S.state shelf.new) }
+{
+    read_part(file, samples.len(), shelf, name)
+}
+
+// Reads the source of a cell.
+fn read_source<S: Shelf>(
+    file: &mut FileReader,
+    samples: &Sizes,
+    sizes: &Sizes,
+    shelf: &mut S,
+    name: &str,
+) -> Result<Option<At>, ReadError>
+    requires follows { Follows name.now (S.state shelf.old) file.old }
+    requires room { file.old.at + 10 < 2 ^ 63 }
+    requires few { length samples.now ≤ MOST_TURNED }
+    requires are { AreSizes samples.now }
+    requires sizes { sizes.now ≡ turned_sizes_of samples.now }
+    ensures answer { ReadsFrom ⊥ name.now file.old.at (S.state shelf.old) (S.state shelf.new)
+        file.new (turned_source_read samples.now) result }
+    ensures source { IfOk result (λ source. IfSome source IsSource) }
+    ensures inside { IfOk result (λ source. IsSomeAnd source (IsInTurned samples.now)) }
+    ensures place { OnOk result (file.new.at ≡ file.old.at + 10) }
+    ensures reads { OnlyReads (S.state shelf.old) (S.state shelf.new) }
+{
+    let sample = read_number(file, samples, shelf, name)?;
+    let turn = read_turn(file, shelf, name)?;
+    let at = read_place_in(file, samples, sample, shelf, name)?;
+    Ok(Some(moved(samples, sizes, Turned { sample, turn, at })))
+}
+
+// Reads the sources of all cells of an output.
+fn read_sources<S: Shelf>(
+    alloc: Global,
+    file: &mut FileReader,
+    samples: &Sizes,
+    size: Size,
+    shelf: &mut S,
+    name: &str,
+) -> Result<Map, ReadError>
+    requires follows { Follows name.now (S.state shelf.old) file.old }
+    requires room { file.old.at ≤ 216 }
+    requires few { length samples.now ≤ MOST_TURNED }
+    requires are { AreSizes samples.now }
+    requires small { IsSmall size }
+    ensures answer { ReadsFrom (Unit {0}) name.now file.old.at (S.state shelf.old)
+        (S.state shelf.new) file.new (turned_sources_read samples.now size) result }
+    ensures map { IfOk result IsMap }
+    ensures size { IfOk result (λ m. m.size ≡ size) }
+    ensures inside { IfOk result (λ m.
+        All (λ source. IsSomeAnd source (IsInTurned samples.now)) m.sources) }
+    ensures reads { OnlyReads (S.state shelf.old) (S.state shelf.new) }
+{
+    let sizes = turned_sizes(samples);
+    let count = size.cells();
+    let mut sources = Vec::new(alloc);
+    for i in 0..count {
+        make_room(&mut sources, count - i)?;
+        let source = read_source(file, samples, &sizes, shelf, name)?;
+        let Ok(()) = sources.push(source) else {
+            return Err(ReadError::NoMemory);
+        };
+    }
+    Ok(Map::from_sources(size, sources))
+}
+
+// Reads what follows the output's size.
+fn read_body<S: Shelf>(
+    alloc: Global,
+    file: &mut FileReader,
+    output: Size,
+    shelf: &mut S,
+    name: &str,
+) -> Result<TurnedFile, ReadError>
+    requires follows { Follows name.now (S.state shelf.old) file.old }
+    requires room { file.old.at ≤ 22 }
+    requires axes { HasAxes output }
+    ensures answer { ReadsFrom (Unit {0}) name.now file.old.at (S.state shelf.old)
+        (S.state shelf.new) file.new (turned_body_read output) result }
+    ensures lawful { IfOk result IsTurnedFile }
+    ensures reads { OnlyReads (S.state shelf.old) (S.state shelf.new) }
+{
+    let samples = read_samples_within(file, output, shelf, name)?;
+    let map = read_sources(alloc, file, &samples, output, shelf, name)?;
+    Ok(TurnedFile { map, samples })
+}
+
+// Reads a map, and not whether the file ends after it.
+fn read_value<S: Shelf>(
+    alloc: Global,
+    file: &mut FileReader,
+    shelf: &mut S,
+    name: &str,
+) -> Result<TurnedFile, ReadError>
+    requires follows { Follows name.now (S.state shelf.old) file.old }
+    requires start { file.old.at ≡ 0 }
+    ensures answer { ReadsFrom (Unit {0}) name.now file.old.at (S.state shelf.old)
+        (S.state shelf.new) file.new turned_value_read result }
+    ensures lawful { IfOk result IsTurnedFile }
+    ensures reads { OnlyReads (S.state shelf.old) (S.state shelf.new) }
+{
+    let output = read_start(file, shelf, name)?;
+    read_body(alloc, file, output, shelf, name)
+}
+
+/// Reads a map over turned samples from the named file, to the file's end. It takes memory as the sources
+/// come, which are told as places of the turned samples.
+///
+/// The refusals, in the order of the fields: `Bad(Form)` at the file's length where the file ends within
+/// a field, and else at the first byte of a field that has no lawful value (the magic is one field, each
+/// number is one), so at 8 for another version than 2, at 9 for another kind than 2, and at the count of
+/// samples where it isn't 1 or 2; `Limit Axis` (4,096) for an axis of the output or of a sample;
+/// `Limit Cells` (2^20) after the last sample size; and `Bad(Form)` at the first byte that follows the last
+/// field. `ReadFault` comes wherever a read fails, and `NoMemory` may come at any place.
+pub fn read_turned_map<S: Shelf>(
+    alloc: Global,
+    shelf: &mut S,
+    name: &str,
+) -> Result<TurnedFile, ReadError>
+    ensures answer { TurnedReadsAs name.now (S.state shelf.old) (S.state shelf.new) result }
+    ensures lawful { IfOk result IsTurnedFile }
+    ensures reads { OnlyReads (S.state shelf.old) (S.state shelf.new) }
+{
+    let mut file = FileReader::new();
+    let value = read_value(alloc, &mut file, shelf, name)?;
+    file.end(shelf, name)?;
+    Ok(value)
+}

@@ -40,8 +40,9 @@ fn copy_of(samples: &Sizes) -> Sizes
     ensures sizes { result ≡ samples.now }
     ensures are { AreSizes result }
 {
+    let count = samples.len();
     let mut copy = Sizes::one(samples.at(1));
-    for part in 1..samples.len() {
+    for part in 1..count {
         copy.add(samples.at(part + 1));
     }
     copy

@@ -16,7 +16,7 @@ loop-part-init c = c.one-copy.ensures ∙ first_taken c.args.samples.now c.at.re
 pub add-requires-clause-few : goal.add-requires-clause-few
 add-requires-clause-few c =
     let within : c.loop-part.part ≤ length c.args.samples.now = omega arith in
-    omega (arith, ap length c.loop-part.invariant, length-take-le c.loop-part.part c.args.samples.now within, c.len.ensures.sizes.few)
+    omega (arith, ap length c.loop-part.invariant, length-take-le c.loop-part.part c.args.samples.now within, c.len-count.ensures.sizes.few)
 
 pub loop-part-preserved : goal.loop-part-preserved
 loop-part-preserved c =
@@ -30,4 +30,4 @@ pub returns-clause-sizes : goal.returns-clause-sizes
 returns-clause-sizes c = c.loop-part.invariant ∙ take_all c.loop-part.part c.args.samples.now (omega arith)
 
 pub returns-clause-are : goal.returns-clause-are
-returns-clause-are c = subst AreSizes (sym (c.loop-part.invariant ∙ take_all c.loop-part.part c.args.samples.now (omega arith))) c.len.ensures.sizes
+returns-clause-are c = subst AreSizes (sym (c.loop-part.invariant ∙ take_all c.loop-part.part c.args.samples.now (omega arith))) c.len-count.ensures.sizes

@@ -1,7 +1,7 @@
 // The fields of the file of a map over turned samples, and its limit, each read by its rule.
 ghost use Rattle.std.specs.Prelude.{◌≡◌, ◌≤◌, ◌<◌, ◌+◌, ◌^◌, IfErr, IfOk, OnOk};
 ghost use Rattle.std.specs.Int.{w16, w8};
-ghost use Rattle.shelf_core.specs.Files.{OnlyReads};
+ghost use Rattle.shelf_core.specs.Files.{OnlyReadsFile};
 ghost use Rattle.cells.specs.Places.{HasAxes, IsSmall, cell_count};
 ghost use Rattle.file_bytes.specs.Reading.{Follows};
 ghost use Rattle.source_map.specs.Heads.{magic_rule};
@@ -103,7 +103,7 @@ pub(crate) fn read_magic<S: Shelf>(
     ensures answer { ReadsFrom ⊥ name.now file.old.at (S.state shelf.old) (S.state shelf.new)
         file.new (field_read 8 (magic_rule map_magic)) result }
     ensures place { OnOk result (file.new.at ≡ file.old.at + 8) }
-    ensures reads { OnlyReads (S.state shelf.old) (S.state shelf.new) }
+    ensures reads { OnlyReadsFile name.now (S.state shelf.old) (S.state shelf.new) }
 {
     let at = file.place();
     let mut piece = [0; 8];
@@ -123,7 +123,7 @@ pub(crate) fn read_mark<S: Shelf>(
     ensures answer { ReadsFrom ⊥ name.now file.old.at (S.state shelf.old) (S.state shelf.new)
         file.new (number_read w8 (same_rule wanted)) result }
     ensures place { OnOk result (file.new.at ≡ file.old.at + 1) }
-    ensures reads { OnlyReads (S.state shelf.old) (S.state shelf.new) }
+    ensures reads { OnlyReadsFile name.now (S.state shelf.old) (S.state shelf.new) }
 {
     let at = file.place();
     let n = file.u8(shelf, name)?;
@@ -143,7 +143,7 @@ pub(crate) fn read_part<S: Shelf>(
         file.new (number_read w16 (part_rule count)) result }
     ensures within { IfOk result (λ n. (1 ≤ n) × (n ≤ count)) }
     ensures place { OnOk result (file.new.at ≡ file.old.at + 2) }
-    ensures reads { OnlyReads (S.state shelf.old) (S.state shelf.new) }
+    ensures reads { OnlyReadsFile name.now (S.state shelf.old) (S.state shelf.new) }
 {
     let at = file.place();
     let n = file.u16(shelf, name)?;
@@ -162,7 +162,7 @@ pub(crate) fn read_turn<S: Shelf>(
         file.new (number_read w16 (below_rule TURNS)) result }
     ensures below { IfOk result (λ n. n < TURNS) }
     ensures place { OnOk result (file.new.at ≡ file.old.at + 2) }
-    ensures reads { OnlyReads (S.state shelf.old) (S.state shelf.new) }
+    ensures reads { OnlyReadsFile name.now (S.state shelf.old) (S.state shelf.new) }
 {
     let at = file.place();
     let n = file.u16(shelf, name)?;

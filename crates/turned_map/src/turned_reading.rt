@@ -1,6 +1,6 @@
 // The file of a map over turned samples, read.
 ghost use Rattle.std.specs.Prelude.{◌≡◌, ◌≤◌, ◌<◌, ◌+◌, ◌*◌, ◌^◌, All, IfOk, IfSome, IsSomeAnd, OnOk, length};
-ghost use Rattle.shelf_core.specs.Files.{OnlyReads};
+ghost use Rattle.shelf_core.specs.Files.{OnlyReadsFile};
 ghost use Rattle.cells.specs.Places.{HasAxes, IsInside, IsSmall, cell_count};
 ghost use Rattle.cells.specs.SizeLists.{AreSizes};
 ghost use Rattle.file_bytes.specs.Reading.{Follows};
@@ -31,7 +31,7 @@ fn read_start<S: Shelf>(file: &mut FileReader, shelf: &mut S, name: &str) -> Res
         file.new turned_start_read result }
     ensures axes { IfOk result HasAxes }
     ensures place { OnOk result (file.new.at ≡ file.old.at + 22) }
-    ensures reads { OnlyReads (S.state shelf.old) (S.state shelf.new) }
+    ensures reads { OnlyReadsFile name.now (S.state shelf.old) (S.state shelf.new) }
 {
     read_magic(file, shelf, name)?;
     let _version = read_mark(file, TURNED_VERSION, shelf, name)?;
@@ -52,7 +52,7 @@ fn read_samples<S: Shelf>(
     ensures sizes { IfOk result AreSizes }
     ensures few { IfOk result (λ samples. length samples ≤ MOST_TURNED) }
     ensures place { OnOk result (file.new.at ≤ file.old.at + 26) }
-    ensures reads { OnlyReads (S.state shelf.old) (S.state shelf.new) }
+    ensures reads { OnlyReadsFile name.now (S.state shelf.old) (S.state shelf.new) }
 {
     let count = read_part(file, MOST_TURNED, shelf, name)?;
     read_sizes(file, count, shelf, name)
@@ -75,7 +75,7 @@ fn read_samples_within<S: Shelf>(
     ensures small { OnOk result (IsSmall output) }
     ensures cells { OnOk result (cell_count output ≤ MOST_MAP_CELLS) }
     ensures place { OnOk result (file.new.at ≤ file.old.at + 26) }
-    ensures reads { OnlyReads (S.state shelf.old) (S.state shelf.new) }
+    ensures reads { OnlyReadsFile name.now (S.state shelf.old) (S.state shelf.new) }
 {
     let samples = read_samples(file, shelf, name)?;
     few_cells(output)?;
@@ -111,7 +111,7 @@ fn read_place_in<S: Shelf>(
         file.new (place_read (sample_size samples.now sample)) result }
     ensures inside { IfOk result (IsInside (sample_size samples.now sample)) }
     ensures place { OnOk result (file.new.at ≡ file.old.at + 6) }
-    ensures reads { OnlyReads (S.state shelf.old) (S.state shelf.new) }
+    ensures reads { OnlyReadsFile name.now (S.state shelf.old) (S.state shelf.new) }
 {
     read_place(file, samples.at(sample), shelf, name)
 }
@@ -129,7 +129,7 @@ fn read_number<S: Shelf>(
         file.new (number_read w16 (part_rule (length samples.now))) result }
     ensures within { IfOk result (λ n. (1 ≤ n) × (n ≤ length samples.now)) }
     ensures place { OnOk result (file.new.at ≡ file.old.at + 2) }
-    ensures reads { OnlyReads (S.state shelf.old) (S.state shelf.new) }
+    ensures reads { OnlyReadsFile name.now (S.state shelf.old) (S.state shelf.new) }
 {
     read_part(file, samples.len(), shelf, name)
 }
@@ -152,7 +152,7 @@ fn read_source<S: Shelf>(
     ensures source { IfOk result (λ source. IfSome source IsSource) }
     ensures inside { IfOk result (λ source. IsSomeAnd source (IsInTurned samples.now)) }
     ensures place { OnOk result (file.new.at ≡ file.old.at + 10) }
-    ensures reads { OnlyReads (S.state shelf.old) (S.state shelf.new) }
+    ensures reads { OnlyReadsFile name.now (S.state shelf.old) (S.state shelf.new) }
 {
     let sample = read_number(file, samples, shelf, name)?;
     let turn = read_turn(file, shelf, name)?;
@@ -180,7 +180,7 @@ fn read_sources<S: Shelf>(
     ensures size { IfOk result (λ m. m.size ≡ size) }
     ensures inside { IfOk result (λ m.
         All (λ source. IsSomeAnd source (IsInTurned samples.now)) m.sources) }
-    ensures reads { OnlyReads (S.state shelf.old) (S.state shelf.new) }
+    ensures reads { OnlyReadsFile name.now (S.state shelf.old) (S.state shelf.new) }
 {
     let sizes = turned_sizes(samples);
     let count = size.cells();
@@ -209,7 +209,7 @@ fn read_body<S: Shelf>(
     ensures answer { ReadsFrom (Unit {0}) name.now file.old.at (S.state shelf.old)
         (S.state shelf.new) file.new (turned_body_read output) result }
     ensures lawful { IfOk result IsTurnedFile }
-    ensures reads { OnlyReads (S.state shelf.old) (S.state shelf.new) }
+    ensures reads { OnlyReadsFile name.now (S.state shelf.old) (S.state shelf.new) }
 {
     let samples = read_samples_within(file, output, shelf, name)?;
     let map = read_sources(alloc, file, &samples, output, shelf, name)?;
@@ -228,7 +228,7 @@ fn read_value<S: Shelf>(
     ensures answer { ReadsFrom (Unit {0}) name.now file.old.at (S.state shelf.old)
         (S.state shelf.new) file.new turned_value_read result }
     ensures lawful { IfOk result IsTurnedFile }
-    ensures reads { OnlyReads (S.state shelf.old) (S.state shelf.new) }
+    ensures reads { OnlyReadsFile name.now (S.state shelf.old) (S.state shelf.new) }
 {
     let output = read_start(file, shelf, name)?;
     read_body(alloc, file, output, shelf, name)
@@ -250,7 +250,7 @@ pub fn read_turned_map<S: Shelf>(
 ) -> Result<TurnedFile, ReadError>
     ensures answer { TurnedReadsAs name.now (S.state shelf.old) (S.state shelf.new) result }
     ensures lawful { IfOk result IsTurnedFile }
-    ensures reads { OnlyReads (S.state shelf.old) (S.state shelf.new) }
+    ensures reads { OnlyReadsFile name.now (S.state shelf.old) (S.state shelf.new) }
 {
     let mut file = FileReader::new();
     let value = read_value(alloc, &mut file, shelf, name)?;

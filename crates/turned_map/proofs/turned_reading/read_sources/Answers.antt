@@ -1,13 +1,16 @@
-use Rattle.std.proofs.Common.{ℕ, List}
+use Rattle.std.proofs.Common.{ℕ, ◌+◌, List, [], ◌∷◌, ◌++◌, length, subst, sym, ap, ◌∙◌, arith}
+use Rattle.std.proofs.lemmas.List.Elements.{All-push}
 use Rattle.std.proofs.lemmas.Result.{err_from_is_err_and}
-use Rattle.std.specs.Prelude.{Option, Result, Ok, Err}
+use Rattle.std.specs.Prelude.{Option, Result, Ok, Err, All, IfSome, IsSomeAnd}
 use Rattle.shelf_core.specs.declared.fault.ReadError.{ReadError}
+use Rattle.shelf_core.proofs.FileLaws.{only_reads_then}
 use Rattle.cells.specs.declared.place.At.{At}
 use Rattle.cells.specs.declared.place.Size.{Size}
 use Rattle.cells.specs.Places.{cell_count}
-use Rattle.map_canvas.specs.Maps.{SourceMap}
-use Rattle.source_map.specs.Readings.{list_read}
-use Rattle.source_map.proofs.FieldLaws.{first_stops, lifted, list_stops}
+use Rattle.map_canvas.specs.Maps.{SourceMap, IsSource}
+use Rattle.source_map.specs.Readings.{Found, list_read}
+use Rattle.source_map.proofs.FieldLaws.{first_stops, lifted, list_more, list_stops}
+use Rattle.turned.specs.TurnedPlaces.{IsInTurned}
 use Rattle.turned_map.specs.TurnedFiles.{turned_source_read}
 use Rattle.turned_map.proofs.turned_reading.read_sources.Goals as goal
 
@@ -31,3 +34,28 @@ returns-in_err-source-clause-answer g c =
     (list_stops (Unit {0}) name place c.loop-i.i count read a b d c.loop-i.file c.read_source.new.file c.loop-i.sources.items e
     (rw c.cells-count.ensures at c.loop-i-test.true) c.loop-i.invariant.reads c.in_err-source.ensures.reads c.loop-i.invariant.found
     (lifted (Unit {0}) name c.loop-i.file.at read b d c.read_source.new.file (Err e) c.in_err-source.ensures.answer)))
+
+pub loop-i-preserved : goal.loop-i-preserved
+loop-i-preserved g c =
+    let state = g.S.Shelf.state in
+    let name = c.args.name.now in
+    let read = turned_source_read c.args.samples.now in
+    let a = state c.args.shelf.now in
+    let b = state c.loop-i.shelf in
+    let d = state c.read_source.new.shelf in
+    let so = c.loop-i.invariant in
+    let ok = c.in_ok-source.ensures {u = tt} in
+    let front = c.loop-i.sources.items in
+    let source = c.in_ok-source.source in
+    let IsSound : Option At → Type 0 = λ source. IfSome source IsSource in
+    let IsIn : Option At → Type 0 = λ source. IsSomeAnd source (IsInTurned c.args.samples.now) in
+    let all = (c.in-Ok.ensures {u = tt}).items ∙ ap (λ items. items ++ source ∷ []) c.make_room.ensures.items in
+    record {
+      found = subst (λ items. Found name c.args.file.now.at d c.read_source.new.file (list_read read (c.loop-i.i + 1)) items) (sym all)
+          (list_more name c.args.file.now.at c.loop-i.i read a b d c.loop-i.file c.read_source.new.file front source so.reads ok.reads so.found ok.answer);
+      count = omega (arith, (c.in-Ok.ensures {u = tt}).len, ap length c.make_room.ensures.items, so.count);
+      at = omega (arith, ok.place, so.at);
+      sources = subst (All IsSound) (sym all) (All-push IsSound front source so.sources ok.source);
+      inside = subst (All IsIn) (sym all) (All-push IsIn front source so.inside ok.inside);
+      reads = only_reads_then a b d so.reads ok.reads;
+    }

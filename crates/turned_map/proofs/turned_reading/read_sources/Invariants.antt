@@ -1,6 +1,6 @@
 use Rattle.std.proofs.Common.{◌≡◌, ◌+◌, ◌*◌}
 use Rattle.std.specs.Prelude.{vec_len, All, IfSome, IsSomeAnd}
-use Rattle.shelf_core.specs.Files.{OnlyReads}
+use Rattle.shelf_core.specs.Files.{OnlyReadsFile}
 use Rattle.map_canvas.specs.Maps.{IsSource}
 use Rattle.source_map.specs.Readings.{Found, list_read}
 use Rattle.turned.specs.TurnedPlaces.{IsInTurned}
@@ -14,5 +14,5 @@ invariant-loop-i g l = record {
   at : l.file.at ≡ l.fn.file.at + 10 * l.i;
   sources : All (λ source. IfSome source IsSource) l.sources.items;
   inside : All (λ source. IsSomeAnd source (IsInTurned l.samples)) l.sources.items;
-  reads : OnlyReads (g.S.Shelf.state l.fn.shelf) (g.S.Shelf.state l.shelf);
+  reads : OnlyReadsFile l.name (g.S.Shelf.state l.fn.shelf) (g.S.Shelf.state l.shelf);
 }

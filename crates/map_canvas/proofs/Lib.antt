@@ -12,3 +12,4 @@ pub mod Unfilled
 pub mod Runs
 pub mod RunSteps
 pub mod MapsAfter
+pub mod FromMaps

@@ -2,4 +2,5 @@ pub mod Maps
 pub mod Runs
 pub mod Choices
 pub mod CellErrors
+pub mod Shown
 pub mod Canvases

@@ -2,7 +2,7 @@
 ghost use Rattle.std.specs.Prelude.{◌≡◌, ◌<◌, ◌≤◌, ◌+◌, ◌*◌, ◌%◌, ◌+ℤ◌, ◌≤ℤ◌, ◌↔◌, ℕ, pos, length, slice_index_or, true, false, IfOk, IfSome, IsTrue, None};
 ghost use Rattle.cells.specs.Places.{IsSmall, IsInside, plus, spot};
 ghost use Rattle.cells.specs.Cells.{Cells, HasRun, IsVolume, row_at};
-ghost use Rattle.map_canvas.specs.Maps.{IsFilled, IsFull, IsMap, IsSource, first_unfilled, picture_of};
+ghost use Rattle.map_canvas.specs.Maps.{IsFilled, IsFull, IsMap, IsOver, IsSource, first_unfilled, picture_of};
 ghost use Rattle.map_canvas.specs.Runs.{AreNew, put_copies, with_run};
 ghost use Rattle.map_canvas.specs.Canvases.{IsCanvas, IsFilledPrefix, IsKept, StandsOver, empty_canvas, filled_marks};
 ghost use Rattle.map_canvas.specs.Choices.{Fits, IsAfter, box_cell, box_count, box_source, map_after};
@@ -10,6 +10,7 @@ ghost use Rattle.map_canvas.specs.Choices.{Fits, IsAfter, box_cell, box_count, b
 use crate::Map;
 use crate::kept::meets_outside;
 use crate::rendered::is_rendered;
+use crate::shown::{mark_bytes, shown_bytes};
 use cells::{At, Box3, Size, Volume};
 use limits::MOST_CHANNELS;
 use std::alloc::{AllocError, Global};
@@ -189,6 +190,28 @@ impl Canvas {
             picture,
             marks,
             reached: 0,
+        })
+    }
+
+    /// The canvas of a map over a sample: it keeps the map, and its picture has at each filled cell the
+    /// sample's cell that the map names. The one error is out of memory.
+    pub fn of_map(alloc: Global, map: Map, sample: &Volume) -> Result<Canvas, AllocError>
+        requires { IsOver map sample.now }
+        ensures map { IfOk result (λ c. c.map ≡ map) }
+        ensures canvas { IfOk result IsCanvas }
+        ensures stands { IfOk result (λ c. StandsOver c sample.now) }
+    {
+        let size = map.size();
+        let k = sample.samples();
+        let n = k as usize * size.cells();
+        let shown = shown_bytes(alloc, map.sources(), sample, n)?;
+        let marks = mark_bytes(alloc, map.sources(), k, n)?;
+        let reached = map.filled(0);
+        Ok(Canvas {
+            map,
+            picture: Volume::from_bytes(size, k, shown),
+            marks: Volume::from_bytes(size, k, marks),
+            reached,
         })
     }
 

@@ -12,6 +12,7 @@ mod kept;
 pub mod laws;
 mod map;
 mod rendered;
+mod shown;
 
 pub use canvas::{Canvas, Placement};
 pub use map::{GREATEST_COORDINATE, Map};

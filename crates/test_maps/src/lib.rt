@@ -9,6 +9,8 @@ mod cut_records;
 #[cfg(test)]
 mod laying;
 #[cfg(test)]
+mod remade;
+#[cfg(test)]
 mod seam_sums;
 #[cfg(test)]
 mod volumes;

@@ -1,0 +1,118 @@
+// Canvases that are made of a map over a sample of one part or three: empty, full and half filled.
+ghost use Rattle.std.specs.Prelude.{◌≡◌, IfOk};
+ghost use Rattle.cells.specs.Cells.{IsOnePart, count_of};
+ghost use Rattle.map_canvas.specs.Canvases.{StandsOver};
+
+use crate::laying::{canvas_over, column, put};
+use cells::{At, Size, Volume};
+use map_canvas::{Canvas, Map};
+use std::alloc::{AllocError, Global};
+use std::process::Abort;
+use std::test::Fail;
+
+const FOUR: Size = Size { w: 4, h: 1, f: 1 };
+
+// A volume of two cells of one sample.
+fn pair(alloc: Global, bytes: &[u8; 2]) -> Result<Volume, AllocError>
+    ensures one { IfOk result IsOnePart }
+    ensures samples { IfOk result (λ volume. volume.k ≡ 1) }
+    ensures count { IfOk result (λ volume. count_of volume ≡ 2) }
+{
+    let bytes = Vec::from_slice(alloc, bytes)?;
+    Ok(Volume::from_bytes(Size { w: 2, h: 1, f: 1 }, 1, bytes))
+}
+
+fn one_part(alloc: Global) -> Result<Volume, AllocError> {
+    pair(alloc, &[10, 20])
+}
+
+// The parts begin at the frames 0, 2 and 4.
+fn three_parts(alloc: Global) -> Result<Volume, AllocError> {
+    let mut volume = pair(alloc, &[10, 20])?;
+    let second = pair(alloc, &[30, 40])?;
+    let third = pair(alloc, &[50, 60])?;
+    volume.add_part(&second)?;
+    volume.add_part(&third)?;
+    Ok(volume)
+}
+
+// Whether the sample has three parts; the column and the frame of each cell's source; and the picture.
+const CANVASES: &[(bool, [Option<(i32, i32)>; 4], [u8; 4])] = &[
+    (false, [None; 4], [0; 4]),
+    (
+        false,
+        [Some((0, 0)), Some((1, 0)), Some((1, 0)), Some((0, 0))],
+        [10, 20, 20, 10],
+    ),
+    (
+        false,
+        [None, Some((1, 0)), None, Some((0, 0))],
+        [0, 20, 0, 10],
+    ),
+    (true, [None; 4], [0; 4]),
+    (
+        true,
+        [Some((0, 2)), Some((1, 4)), Some((0, 0)), Some((1, 2))],
+        [30, 60, 10, 40],
+    ),
+    (
+        true,
+        [Some((0, 4)), None, Some((1, 2)), None],
+        [50, 0, 40, 0],
+    ),
+];
+
+// A canvas whose cells get their sources one by one.
+fn laid(
+    rt: &impl Abort,
+    alloc: Global,
+    sample: &Volume,
+    sources: &[Option<(i32, i32)>; 4],
+) -> Result<Canvas, AllocError>
+    ensures { IfOk result (λ canvas. StandsOver canvas sample.now) }
+{
+    let mut canvas = canvas_over(alloc, FOUR, sample)?;
+    'cells: for x in 0..4 {
+        if let Some((from, f)) = sources[x as usize] {
+            put(rt, &mut canvas, sample, column(x), At { x: from, y: 0, f });
+        }
+    }
+    Ok(canvas)
+}
+
+// The canvas that is made of its map.
+fn remade(alloc: Global, canvas: &Canvas, sample: &Volume) -> Result<Canvas, AllocError>
+    requires { StandsOver canvas.now sample.now }
+{
+    let map = canvas.map();
+    let sources = Vec::from_slice(alloc, map.sources())?;
+    Canvas::of_map(alloc, Map::from_sources(map.size(), sources), sample)
+}
+
+// Asserts that it has the map, and this picture.
+fn assert_remade(
+    rt: &impl Abort,
+    alloc: Global,
+    sample: &Volume,
+    sources: &[Option<(i32, i32)>; 4],
+    picture: &[u8],
+) -> Result<(), AllocError> {
+    let canvas = laid(rt, alloc, sample, sources)?;
+    let made = remade(alloc, &canvas, sample)?;
+    assert!(rt; made.map().sources() == canvas.map().sources());
+    assert!(rt; made.picture().bytes() == picture);
+    assert!(rt; made.first_unfilled() == canvas.first_unfilled());
+    assert!(rt; made.render_equals(sample));
+    Ok(())
+}
+
+#[test]
+fn canvases_of_maps(rt: HostRuntime) -> Result<(), Fail> {
+    let one = one_part(rt.alloc())?;
+    let three = three_parts(rt.alloc())?;
+    for (parts, sources, picture) in CANVASES.iter() {
+        let sample = if *parts { &three } else { &one };
+        assert_remade(&rt, rt.alloc(), sample, sources, picture)?;
+    }
+    Ok(())
+}

@@ -1,0 +1,92 @@
+-- A small canvas is filled cell by cell.
+use Rattle.std.proofs.Common.{◌≡◌, ℕ, ◌+◌, ◌<◌, ◌≤◌, ◌⊎◌, inl, inr, ⊎_elim, refl, ap, sym, ◌∙◌, subst, arith, Bool, true, false}
+use Rattle.std.proofs.lemmas.Int.{ints}
+use Rattle.std.proofs.lemmas.Bool.{cases_eq, cases_lt}
+use Rattle.std.specs.Prelude.{ℤ, pos, ◌≤ℤ◌, ◌<ℤ◌, Some, None, is_some, unwrap_or}
+use Rattle.cells.specs.declared.place.At.{At}
+use Rattle.cells.specs.declared.place.Box3.{Box3}
+use Rattle.cells.specs.Places.{IsInside, cell_count, index_in, place_of}
+use Rattle.cells.proofs.BoxTests.{of_inside, on_axis_bounds}
+use Rattle.cells.proofs.Raster.{has_index, index_below, one_place, place_at}
+use Rattle.map_canvas.specs.Maps.{SourceMap, IsMap, empty_map, map_at}
+use Rattle.map_canvas.proofs.EmptyAndFull.{map_at-empty}
+use Rattle.job_words.specs.declared.tile.Wrap.{Wrap}
+use Rattle.torus.specs.Filling.{IsFilledTo, IsNamedAt}
+use Rattle.torus.specs.Tiles.{AxisTakes, IsSmallMap, output_cell, small_size}
+
+pub index_is : (m : SourceMap) (i : ℕ) → IsMap m → i < cell_count m.size → index_in m.size (place_of m.size i) ≡ Some i
+index_is m i is lt = place_at m.size i is.small.axes.w.0 is.small.axes.h.0 lt
+
+pub inside_is : (m : SourceMap) (i : ℕ) → IsMap m → i < cell_count m.size → IsInside m.size (place_of m.size i)
+inside_is m i is lt = ap is_some (index_is m i is lt)
+
+some_one : (i j : ℕ) → Some i ≡ Some j → i ≡ j
+some_one i j e = cc
+
+module _ (m : SourceMap) (wrap : Wrap) (rect : Box3) (small : SourceMap) (i : ℕ) (is : IsMap small) (filled : IsFilledTo m wrap rect i small) (lt : i < cell_count small.size) where
+  -- a place of another index is another place
+  other_place : (q : At) (j : ℕ) → index_in small.size q ≡ Some j → (j ≡ i → ⊥) → q ≡ place_of small.size i → ⊥
+  other_place q j e other same = other (some_one j i (sym e ∙ ap (index_in small.size) same ∙ index_is small i is lt))
+
+  pub fill_more : (from : At) (after : SourceMap) → IsNamedAt small (place_of small.size i) from after → map_at m (output_cell wrap m.size rect (place_of small.size i)) ≡ Some from → IsFilledTo m wrap rect (i + 1) after
+  fill_more from after named source = record {
+    size = named.size ∙ filled.size;
+    filled = λ q j e below. at q j (subst (λ s. index_in s q ≡ Some j) named.size e) below (cases_eq j i);
+    unfilled = λ q j e above.
+        let e' = subst (λ s. index_in s q ≡ Some j) named.size e in
+        named.others q (other_place q j e' (λ same. omega arith)) ∙ filled.unfilled q j e' (omega arith);
+  }
+    where
+      at : (q : At) (j : ℕ) → index_in small.size q ≡ Some j → j < i + 1 → (j ≡ i) ⊎ (j ≡ i → ⊥) → map_at after q ≡ map_at m (output_cell wrap m.size rect q)
+      at q j e below (inl same) =
+          let here : q ≡ place_of small.size i = one_place small.size q (place_of small.size i) i (e ∙ ap Some same) (index_is small i is lt) in
+          ap (map_at after) here ∙ named.here ∙ sym source ∙ ap (λ p. map_at m (output_cell wrap m.size rect p)) (sym here)
+      at q j e below (inr other) = named.others q (other_place q j e other) ∙ filled.filled q j e (less other)
+        where
+          less : (j ≡ i → ⊥) → j < i
+          less other = ⊎_elim (λ lt. lt) (λ le. absurd (other (omega arith))) (cases_lt j i)
+
+  pub fill_none : map_at m (output_cell wrap m.size rect (place_of small.size i)) ≡ None → IsFilledTo m wrap rect (i + 1) small
+  fill_none source = record {
+    size = filled.size;
+    filled = λ q j e below. at q j e below (cases_eq j i);
+    unfilled = λ q j e above. filled.unfilled q j e (omega arith);
+  }
+    where
+      at : (q : At) (j : ℕ) → index_in small.size q ≡ Some j → j < i + 1 → (j ≡ i) ⊎ (j ≡ i → ⊥) → map_at small q ≡ map_at m (output_cell wrap m.size rect q)
+      at q j e below (inl same) =
+          let here : q ≡ place_of small.size i = one_place small.size q (place_of small.size i) i (e ∙ ap Some same) (index_is small i is lt) in
+          filled.unfilled q j e (omega arith) ∙ sym source ∙ ap (λ p. map_at m (output_cell wrap m.size rect p)) (sym here)
+      at q j e below (inr other) = filled.filled q j e (less other)
+        where
+          less : (j ≡ i → ⊥) → j < i
+          less other = ⊎_elim (λ lt. lt) (λ le. absurd (other (omega arith))) (cases_lt j i)
+
+pub fill_first : (m : SourceMap) (wrap : Wrap) (rect : Box3) → IsFilledTo m wrap rect 0 (empty_map (small_size wrap m.size rect))
+fill_first m wrap rect = record {
+  size = refl;
+  filled = λ p i e lt. absurd (omega arith);
+  unfilled = λ p i e le. map_at-empty (small_size wrap m.size rect) p;
+}
+
+pub fill_all : (m : SourceMap) (wrap : Wrap) (rect : Box3) (small : SourceMap) (n : ℕ) → cell_count small.size ≤ n → IsFilledTo m wrap rect n small → IsSmallMap m wrap rect small
+fill_all m wrap rect small n le filled = record {
+  size = filled.size;
+  sources = λ p inside.
+      let i = unwrap_or (index_in small.size p) 0 in
+      let e : index_in small.size p ≡ Some i = has_index (index_in small.size p) 0 inside in
+      filled.filled p i e (omega (arith, le, index_below small.size p i e));
+}
+
+-- what the sums of coordinates ask for
+pub takes_near : (wrapped : Bool) (n : ℕ) (corner : ℤ) (len : ℕ) → AxisTakes wrapped n corner len → n ≤ 4096 → (pos 0 ≤ℤ corner) × (corner ≤ℤ pos 4096) × (len ≤ 4096)
+takes_near true n corner len takes le = (takes.0, omega (arith, ints, takes.1), omega (arith, takes.2))
+takes_near false n corner len takes le = (takes.0, omega (arith, ints, takes.1), omega (arith, ints, takes.0, takes.1))
+
+pub near_inside : (m : SourceMap) (p : At) → IsMap m → IsInside m.size p → ((pos 0 ≤ℤ p.x) × (p.x <ℤ pos 4096)) × ((pos 0 ≤ℤ p.y) × (p.y <ℤ pos 4096)) × ((pos 0 ≤ℤ p.f) × (p.f <ℤ pos 4096))
+near_inside m p is inside =
+    let on = of_inside m.size p inside in
+    let x = on_axis_bounds m.size.w p.x on.x in
+    let y = on_axis_bounds m.size.h p.y on.y in
+    let f = on_axis_bounds m.size.f p.f on.f in
+    ((x.0, omega (arith, ints, x.1, is.small.axes.w.1)), (y.0, omega (arith, ints, y.1, is.small.axes.h.1)), (f.0, omega (arith, ints, f.1, is.small.axes.f.1)))

@@ -1,0 +1,16 @@
+pub mod Axes
+pub mod Rotations
+pub mod Frames
+pub mod Borders
+pub mod SmallAxes
+pub mod Smalls
+pub mod Totals
+pub mod OneCells
+pub mod Fillings
+pub mod Puts
+pub mod TileBoxes
+pub mod Picks
+pub mod Choosing
+pub mod OneSteps
+pub mod Making
+pub mod Afters

@@ -1,0 +1,6 @@
+pub mod Wraps
+pub mod Tiles
+pub mod Boxes
+pub mod Steps
+pub mod Filling
+pub mod Choosing

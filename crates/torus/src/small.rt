@@ -1,0 +1,190 @@
+// The small canvas of a box.
+ghost use Rattle.std.specs.Prelude.{◌≡◌, ◌≤◌, ◌<◌, ◌≤ℤ◌, ◌<ℤ◌, ◌+ℤ◌, ◌-ℤ◌, ◌+◌, ◌*◌, ℕ, pos, negsuc, IfOk, IfSome, Some, None};
+ghost use Rattle.cells.specs.Boxes.{HasCells};
+ghost use Rattle.cells.specs.Cells.{HasCell};
+ghost use Rattle.cells.specs.Places.{IsInside, IsSmall, cell_count, place_of};
+ghost use Rattle.boxes.specs.Pairs.{one_if};
+ghost use Rattle.map_canvas.specs.Canvases.{IsCanvas, StandsOver};
+ghost use Rattle.map_canvas.specs.Maps.{IsSource, map_at};
+ghost use Rattle.torus.specs.Tiles.{IsSmallMap, Takes, has_after, has_before, output_cell, small_axis, small_box, small_size};
+ghost use Rattle.torus.specs.Wraps.{around_axis};
+ghost use Rattle.torus.specs.Filling.{IsFilledTo, IsNamedAt};
+
+use crate::around::around_axis;
+use cells::{At, Box3, Size, Volume};
+use job_words::Wrap;
+use limits::GREATEST_AXIS;
+use map_canvas::{Canvas, Placement};
+use std::alloc::{AllocError, Global};
+
+// How many cells the small canvas has before the box on an axis.
+fn before(wrapped: bool, corner: i32) -> u32
+    ensures is { result ≡ one_if (has_before wrapped corner) }
+    ensures few { result ≤ 1 }
+{
+    if wrapped || corner > 0 { 1 } else { 0 }
+}
+
+// And after it.
+fn after(wrapped: bool, n: u32, corner: i32, len: u32) -> u32
+    requires { (pos 0 ≤ℤ corner) × (corner ≤ℤ pos GREATEST_AXIS) × (len ≤ GREATEST_AXIS) }
+    ensures { result ≡ one_if (has_after wrapped n corner len) }
+{
+    if wrapped || corner as u32 + len < n {
+        1
+    } else {
+        0
+    }
+}
+
+// How many it has on an axis.
+fn small_axis(wrapped: bool, n: u32, corner: i32, len: u32) -> u32
+    requires { (pos 0 ≤ℤ corner) × (corner ≤ℤ pos GREATEST_AXIS) × (len ≤ GREATEST_AXIS) }
+    ensures { result ≡ small_axis wrapped n corner len }
+{
+    before(wrapped, corner) + (len + after(wrapped, n, corner, len))
+}
+
+// A coordinate as far from a corner as another is from the box's start in the small canvas.
+fn moved(corner: i32, z: i32, before: u32) -> i32
+    requires { (pos 0 ≤ℤ corner) × (corner ≤ℤ pos GREATEST_AXIS)
+        × (pos 0 ≤ℤ z) × (z <ℤ pos GREATEST_AXIS) × (before ≤ 1) }
+    ensures is { result ≡ corner +ℤ (z -ℤ pos before) }
+    ensures from { negsuc 0 ≤ℤ result }
+    ensures to { result ≤ℤ pos (2 * GREATEST_AXIS) }
+{
+    corner + (z - before as i32)
+}
+
+// The size of the small canvas.
+fn size_of(whole: Size, wrap: &Wrap, rect: &Box3) -> Size
+    requires x { (pos 0 ≤ℤ rect.now.corner.x) × (rect.now.corner.x ≤ℤ pos GREATEST_AXIS)
+        × (rect.now.size.w ≤ GREATEST_AXIS) }
+    requires y { (pos 0 ≤ℤ rect.now.corner.y) × (rect.now.corner.y ≤ℤ pos GREATEST_AXIS)
+        × (rect.now.size.h ≤ GREATEST_AXIS) }
+    requires f { (pos 0 ≤ℤ rect.now.corner.f) × (rect.now.corner.f ≤ℤ pos GREATEST_AXIS)
+        × (rect.now.size.f ≤ GREATEST_AXIS) }
+    ensures { result ≡ small_size wrap.now whole rect.now }
+{
+    Size {
+        w: small_axis(wrap.x, whole.w, rect.corner.x, rect.size.w),
+        h: small_axis(wrap.y, whole.h, rect.corner.y, rect.size.h),
+        f: small_axis(wrap.f, whole.f, rect.corner.f, rect.size.f),
+    }
+}
+
+/// The box in the small canvas.
+pub(crate) fn small_box(wrap: &Wrap, rect: &Box3) -> Box3
+    ensures { result ≡ small_box wrap.now rect.now }
+{
+    let corner = At {
+        x: before(wrap.x, rect.corner.x) as i32,
+        y: before(wrap.y, rect.corner.y) as i32,
+        f: before(wrap.f, rect.corner.f) as i32,
+    };
+    Box3 {
+        corner,
+        size: rect.size,
+    }
+}
+
+// The output's coordinate of one of the small canvas.
+fn coordinate(wrapped: bool, n: u32, corner: i32, z: i32) -> i32
+    requires { (pos 0 ≤ℤ corner) × (corner ≤ℤ pos GREATEST_AXIS)
+        × (pos 0 ≤ℤ z) × (z <ℤ pos GREATEST_AXIS) × (n ≤ GREATEST_AXIS) }
+    ensures { result ≡ around_axis wrapped n
+        (corner +ℤ (z -ℤ pos (one_if (has_before wrapped corner)))) }
+{
+    let z = moved(corner, z, before(wrapped, corner));
+    around_axis(wrapped, n, z)
+}
+
+// The cell of the output that a cell of the small canvas stands for.
+fn cell_of(size: Size, wrap: &Wrap, rect: &Box3, p: At) -> At
+    requires x { (pos 0 ≤ℤ rect.now.corner.x) × (rect.now.corner.x ≤ℤ pos GREATEST_AXIS)
+        × (pos 0 ≤ℤ p.x) × (p.x <ℤ pos GREATEST_AXIS) × (size.w ≤ GREATEST_AXIS) }
+    requires y { (pos 0 ≤ℤ rect.now.corner.y) × (rect.now.corner.y ≤ℤ pos GREATEST_AXIS)
+        × (pos 0 ≤ℤ p.y) × (p.y <ℤ pos GREATEST_AXIS) × (size.h ≤ GREATEST_AXIS) }
+    requires f { (pos 0 ≤ℤ rect.now.corner.f) × (rect.now.corner.f ≤ℤ pos GREATEST_AXIS)
+        × (pos 0 ≤ℤ p.f) × (p.f <ℤ pos GREATEST_AXIS) × (size.f ≤ GREATEST_AXIS) }
+    ensures { result ≡ output_cell wrap.now size rect.now p }
+{
+    At {
+        x: coordinate(wrap.x, size.w, rect.corner.x, p.x),
+        y: coordinate(wrap.y, size.h, rect.corner.y, p.y),
+        f: coordinate(wrap.f, size.f, rect.corner.f, p.f),
+    }
+}
+
+// Names a source for one cell of a canvas that has none.
+pub(crate) fn name_cell(small: &mut Canvas, sample: &Volume, p: At, from: At)
+    requires stands { StandsOver small.old sample.now }
+    requires inside { IsInside small.old.map.size p }
+    requires source { HasCell sample.now from }
+    ensures named { IsNamedAt small.old.map p from small.new.map }
+    ensures stands { StandsOver small.new sample.now }
+    ensures canvas { IsCanvas small.new }
+{
+    let placement = Placement {
+        rect: Box3 {
+            corner: p,
+            size: Size { w: 1, h: 1, f: 1 },
+        },
+        from,
+    };
+    small.put_choice(sample, &placement, &[true]);
+}
+
+// The cell of the output that the small canvas's cell of an index stands for.
+fn cell_at(small: &Canvas, canvas: &Canvas, wrap: &Wrap, rect: &Box3, i: usize) -> At
+    requires takes { Takes wrap.now canvas.now.map.size rect.now }
+    requires below { i < cell_count small.now.map.size }
+    ensures { result ≡ output_cell wrap.now canvas.now.map.size rect.now
+        (place_of small.now.map.size i) }
+{
+    let p = small.map().size().place_at(i);
+    cell_of(canvas.map().size(), wrap, rect, p)
+}
+
+// Fills the cell of an index as the output's cell is.
+fn fill_at(small: &mut Canvas, canvas: &Canvas, sample: &Volume, wrap: &Wrap, rect: &Box3, i: usize)
+    requires over { StandsOver canvas.now sample.now }
+    requires takes { Takes wrap.now canvas.now.map.size rect.now }
+    requires stands { StandsOver small.old sample.now }
+    requires filled { IsFilledTo canvas.now.map wrap.now rect.now i small.old.map }
+    requires below { i < cell_count small.old.map.size }
+    ensures filled { IsFilledTo canvas.now.map wrap.now rect.now (i + 1) small.new.map }
+    ensures stands { StandsOver small.new sample.now }
+    ensures canvas { IsCanvas small.new }
+{
+    let at = cell_at(small, canvas, wrap, rect, i);
+    let p = small.map().size().place_at(i);
+    match canvas.map().at(at) {
+        Some(from) => name_cell(small, sample, p, from),
+        None => {}
+    }
+}
+
+/// The canvas of the cells of a box, which may pass the edges of wrapped axes, and of one cell more on each side
+/// where the output has one. Each has the output's source, or none where the output's cell has none.
+pub fn small_canvas(
+    alloc: Global,
+    canvas: &Canvas,
+    sample: &Volume,
+    wrap: &Wrap,
+    rect: &Box3,
+) -> Result<Canvas, AllocError>
+    requires over { StandsOver canvas.now sample.now }
+    requires takes { Takes wrap.now canvas.now.map.size rect.now }
+    requires small { IsSmall (small_size wrap.now canvas.now.map.size rect.now) }
+    ensures small { IfOk result (λ small. IsSmallMap canvas.now.map wrap.now rect.now small.map) }
+    ensures stands { IfOk result (λ small. StandsOver small sample.now) }
+    ensures canvas { IfOk result IsCanvas }
+{
+    let size = size_of(canvas.map().size(), wrap, rect);
+    let mut small = Canvas::empty(alloc, size, sample.samples())?;
+    for i in 0..size.cells() {
+        fill_at(&mut small, canvas, sample, wrap, rect, i);
+    }
+    Ok(small)
+}

@@ -1,0 +1,28 @@
+use Rattle.std.proofs.Common.{Bool, ◌<◌, ◌+◌, ◌-◌, subst, sym}
+use Rattle.std.specs.Prelude.{if◌then◌else◌}
+use Rattle.cells.specs.Places.{cell_count}
+use Rattle.map_canvas.proofs.EmptyAndFull.{whole_is_full}
+use Rattle.tile_run.specs.Work.{reached}
+use Rattle.tile_run.proofs.Stepping.{smaller}
+use Rattle.tile_run.proofs.tiling.tile_canvas.Goals as goal
+
+pub returns : goal.returns
+returns c =
+    let its = c.laying.invariant.work in
+    record {
+      steps = its.steps;
+      draws = c.laying.work.draws;
+      run = its.run;
+      full = whole_is_full c.laying.work.canvas.map its.canvas.map (c.laying.invariant.full c.laying-test.false);
+      count = its.count;
+      size = its.size_is;
+      canvas = its.canvas;
+      over = its.over;
+    }
+
+pub laying-smaller : goal.laying-smaller
+laying-smaller c =
+    let size = c.args.plan.now.size in
+    let after = if c.in_ok-more.more then cell_count size - reached c.step.new.work.canvas.map + 1 else 0 in
+    subst (λ (b : Bool). after < (if b then cell_count size - reached c.laying.work.canvas.map + 1 else 0)) (sym c.laying-test.true)
+    (smaller c.args.plan.now c.args.sample.now c.laying.work c.step.new.work c.in_ok-more.more c.in_ok-more.ensures)

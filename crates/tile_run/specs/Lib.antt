@@ -1,0 +1,3 @@
+pub mod Tilings
+pub mod OneTiling
+pub mod Work

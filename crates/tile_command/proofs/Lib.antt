@@ -1,0 +1,5 @@
+pub mod TwoFiles
+pub mod TileReady
+pub mod Tiling
+pub mod TileLaws
+pub mod OneTiles

@@ -1,0 +1,66 @@
+use Rattle.std.proofs.Common.{subst, sym, ◌∙◌}
+use Rattle.std.specs.Prelude.{Err}
+use Rattle.shelf_core.specs.Files.{Changes, content_of}
+use Rattle.command.specs.Outcomes.{NotMade}
+use Rattle.sample_files.specs.Samples.{IsSampleOf, SampleReadsAs}
+use Rattle.sample_files.proofs.OneSample.{sound_alone}
+use Rattle.job_words.specs.TileWords.{IsWide}
+use Rattle.tile_run.specs.Tilings.{IsRunPlan, IsTiledTo}
+use Rattle.tile_command.specs.Tilings.{tile_command}
+use Rattle.tile_command.proofs.Tiling.{bounds_passed, run_plan, sample_not_read, tiling_made}
+use Rattle.tile_command.proofs.plan.plan.Goals as goal
+
+pub returns-in-Err-clause-planned : goal.returns-in-Err-clause-planned
+returns-in-Err-clause-planned g c =
+    let a = g.S.Shelf.state c.args.shelf.now in
+    let b = g.S.Shelf.state c.read_sample.new.shelf in
+    let job = c.args.job.now in
+    subst (NotMade (tile_command job) a b) (sym c.read_fault.ensures)
+    (sample_not_read job a b c.read_sample.ensures.reads c.in-Err.error
+    (subst (λ name. SampleReadsAs name a b (Err c.in-Err.error)) c.as_text.ensures (c.in-Err.ensures {u = tt}).answer))
+
+pub returns-in-Err-set_against-clause-planned : goal.returns-in-Err-set_against-clause-planned
+returns-in-Err-set_against-clause-planned g c =
+    let a = g.S.Shelf.state c.args.shelf.now in
+    let b = g.S.Shelf.state c.read_sample.new.shelf in
+    let job = c.args.job.now in
+    bounds_passed job a b c.read_sample.ensures.reads c.in-Ok.sample
+    (subst (λ name. Changes a b (λ before after. IsSampleOf (content_of before name) c.in-Ok.sample)) c.as_text.ensures (c.in-Ok.ensures {u = tt}).answer)
+    c.in-Err-set_against.fault (c.in-Err-set_against.ensures {u = tt})
+
+pub returns-clause-planned : goal.returns-clause-planned
+returns-clause-planned g c =
+    let a = g.S.Shelf.state c.args.shelf.now in
+    let b = g.S.Shelf.state c.read_sample.new.shelf in
+    let job = c.args.job.now in
+    tiling_made job a b c.read_sample.ensures.reads (record { sample = c.in-Ok.sample; tiled = c.in-Ok-tile_canvas.tiled; seams = c.torus_total-seams.result })
+    (subst (λ name. Changes a b (λ before after. IsSampleOf (content_of before name) c.in-Ok.sample)) c.as_text.ensures (c.in-Ok.ensures {u = tt}).answer)
+    (record {
+      volume = c.samples-k.ensures.volume;
+      one = sound_alone c.in-Ok.sample.form c.in-Ok.sample.volume (c.in-Ok.ensures {u = tt}).sound;
+      sound = (c.in-Ok.ensures {u = tt}).sound;
+      bounds = c.in-Ok-set_against.ensures {u = tt};
+      tiled = subst (λ plan. IsTiledTo plan c.in-Ok.sample.volume c.in-Ok-tile_canvas.tiled) c.plan_of.ensures (c.in-Ok-tile_canvas.ensures {u = tt});
+      seams = c.torus_total-seams.ensures;
+    })
+
+pub returns-clause-made : goal.returns-clause-made
+returns-clause-made g c = record {
+  volume = c.samples-k.ensures.volume;
+  one = sound_alone c.in-Ok.sample.form c.in-Ok.sample.volume (c.in-Ok.ensures {u = tt}).sound;
+  sound = (c.in-Ok.ensures {u = tt}).sound;
+  bounds = c.in-Ok-set_against.ensures {u = tt};
+  tiled = subst (λ plan. IsTiledTo plan c.in-Ok.sample.volume c.in-Ok-tile_canvas.tiled) c.plan_of.ensures (c.in-Ok-tile_canvas.ensures {u = tt});
+  seams = c.torus_total-seams.ensures;
+}
+
+pub tile_canvas-requires-clause-plan : goal.tile_canvas-requires-clause-plan
+tile_canvas-requires-clause-plan g c = subst IsRunPlan (sym c.plan_of.ensures) (run_plan c.args.job.now c.requires c.in-Ok.sample.form (c.in-Ok-set_against.ensures {u = tt}))
+
+pub tile_canvas-requires-clause-part : goal.tile_canvas-requires-clause-part
+tile_canvas-requires-clause-part g c = sound_alone c.in-Ok.sample.form c.in-Ok.sample.volume (c.in-Ok.ensures {u = tt}).sound
+
+pub torus_total-seams-requires : goal.torus_total-seams-requires
+torus_total-seams-requires g c =
+    let tiled = subst (λ plan. IsTiledTo plan c.in-Ok.sample.volume c.in-Ok-tile_canvas.tiled) c.plan_of.ensures (c.in-Ok-tile_canvas.ensures {u = tt}) in
+    subst (IsWide c.args.job.now.plan.wrap) (sym tiled.size) c.requires.wide

@@ -1,0 +1,36 @@
+use Rattle.std.proofs.Common.{◌≡◌, ◌∙◌, List, [], ◌∷◌, ap, subst, sym}
+use Rattle.cells.specs.Cells.{Cells, sizes_of}
+use Rattle.source_map.specs.MapFiles.{IsWritable, cell_map_form}
+use Rattle.source_map.specs.declared.head.Version.TheVariants.{One}
+use Rattle.synth_report.specs.declared.fault.FileOf.TheVariants as part
+use Rattle.command.specs.Writing.{FileText, WritesRun, file_text}
+use Rattle.sample_files.specs.Samples.{form_text}
+use Rattle.command_files.specs.Outs.{HasWriter}
+use Rattle.tile_command.specs.Tilings.{tile_files, tile_summary}
+use Rattle.tile_command.proofs.TileReady.{map_ready, picture_ready}
+use Rattle.tile_command.proofs.whole.write_tiling.Goals as goal
+
+pub write_run-requires : goal.write_run-requires
+write_run-requires g c =
+    let job = c.args.job.now in
+    let made = c.args.made.now in
+    let its = c.requires.made in
+    let map = subst (λ sizes. IsWritable c.map.result.now sizes One) (sym c.sizes.ensures) (map_ready job made c.map.result.now c.map.ensures.map its) in
+    let size : c.picture.result.now.size ≡ job.size = ap (λ (v : Cells). v.size) c.picture.ensures.picture ∙ its.tiled.canvas.size ∙ its.tiled.size in
+    ((picture_ready job made c.picture.result.now c.picture.ensures.picture c.requires.job its, subst (λ s. HasWriter made.sample.form s c.args.writer) (sym size) c.requires.writer), map)
+
+pub returns-clause-wrote : goal.returns-clause-wrote
+returns-clause-wrote g c =
+    let job = c.args.job.now in
+    let made = c.args.made.now in
+    let was = g.S.Shelf.state c.args.shelf.now in
+    let now = g.S.Shelf.state c.write_run.new.shelf in
+    let out = g.O.Sink.state c.args.out.now in
+    let out' = g.O.Sink.state c.write_run.new.out in
+    let given : List FileText =
+    file_text part.Out job.out (form_text made.sample.form c.picture.result.now) ∷ file_text part.Map job.map (cell_map_form c.map.result.now c.sizes.result One) ∷ [] in
+    let same : given ≡ tile_files job made =
+    λ i. file_text part.Out job.out (form_text made.sample.form (c.picture.ensures.picture i))
+    ∷ file_text part.Map job.map (cell_map_form (c.map.ensures.map i) (c.sizes.ensures i) One) ∷ [] in
+    subst (λ files. WritesRun files (tile_summary job made) was now out out' c.write_run.result) same
+    (subst (λ summary. WritesRun given summary was now out out' c.write_run.result) c.summary_of-summary.ensures c.write_run.ensures.wrote)

@@ -1,0 +1,115 @@
+// What is read and computed before a file is begun.
+ghost use Rattle.std.specs.Prelude.{◌≡◌, IfOk};
+ghost use Rattle.cells.specs.Places.{HasAxes, cell_count};
+ghost use Rattle.shelf_core.specs.Files.{OnlyReads};
+ghost use Rattle.job_words.specs.TileWords.{IsTileJob};
+ghost use Rattle.command.specs.Commands.{names_in};
+ghost use Rattle.command.specs.Outcomes.{Plans};
+ghost use Rattle.tile_command.specs.Tilings.{IsTilingMade, SetAgainst, frames_allowed, plan_of, tile_command, tile_files, tile_summary};
+
+use cells::Size;
+use command::read_fault;
+use job_words::TileJob;
+use limits::{GREATEST_AXIS, MOST_OUTPUT_CELLS, MOST_PICTURE_FRAMES};
+use sample_files::{Form, Sample, read_sample};
+use shelf_core::{Shelf, What};
+use std::alloc::Global;
+use synth_report::{Fault, FileOf};
+use tile_run::{RunPlan, Tiled, tile_canvas};
+use torus::torus_total;
+
+/// The sample that was read, the output tiled from it, and what the seams of that cost in all, those across
+/// the edges included.
+#[derive(Drop)]
+pub struct TiledSample {
+    pub sample: Sample,
+    pub tiled: Tiled,
+    pub seams: u64,
+}
+
+// How an output is tiled.
+fn plan_of(job: &TileJob) -> RunPlan
+    ensures { result ≡ plan_of job.now }
+{
+    RunPlan {
+        size: job.size,
+        tile: job.plan,
+        seed: job.seed,
+    }
+}
+
+// The most frames of an output in this form.
+fn frames_allowed(form: &Form) -> u32
+    ensures { result ≡ frames_allowed form.now }
+{
+    match form {
+        Form::Picture { .. } => MOST_PICTURE_FRAMES,
+        Form::Clip { .. } => GREATEST_AXIS,
+    }
+}
+
+// How many cells an output of a size has, also where they are too many for a volume.
+fn cells_of(size: Size) -> u64
+    requires { HasAxes size }
+    ensures { result ≡ cell_count size }
+{
+    u64::from(size.w) * (u64::from(size.h) * u64::from(size.f))
+}
+
+// Sets an output against the form of the sample.
+fn set_against(size: Size, form: &Form) -> Result<(), Fault>
+    requires { HasAxes size }
+    ensures { SetAgainst size form.now result }
+{
+    let frames = frames_allowed(form);
+    if size.f > frames {
+        return Err(Fault::Limit {
+            what: What::Frames,
+            number: u64::from(size.f),
+            bound: u64::from(frames),
+        });
+    }
+    let cells = cells_of(size);
+    if cells > MOST_OUTPUT_CELLS {
+        return Err(Fault::Limit {
+            what: What::Output,
+            number: cells,
+            bound: MOST_OUTPUT_CELLS,
+        });
+    }
+    Ok(())
+}
+
+/// Reads the sample and computes all that is to be written. Nothing is written yet.
+pub(crate) fn plan<S: Shelf>(
+    alloc: Global,
+    job: &TileJob,
+    shelf: &mut S,
+) -> Result<TiledSample, Fault>
+    requires { IsTileJob job.now }
+    ensures planned { Plans (tile_command job.now) (tile_files job.now) (tile_summary job.now)
+        (S.state shelf.old) (S.state shelf.new) result }
+    ensures made { IfOk result (IsTilingMade job.now) }
+    ensures reads { OnlyReads (names_in (tile_command job.now).reads)
+        (S.state shelf.old) (S.state shelf.new) }
+{
+    let sample = match read_sample(alloc, shelf, job.sample.as_text()) {
+        Ok(sample) => sample,
+        Err(error) => return Err(read_fault(FileOf::Sample, error)),
+    };
+    // It is asked for only to show the check that the sample is a volume.
+    let _k = sample.volume.samples();
+    match set_against(job.size, &sample.form) {
+        Ok(()) => {}
+        Err(fault) => return Err(fault),
+    }
+    let Ok(tiled) = tile_canvas(alloc, &plan_of(job), &sample.volume) else {
+        return Err(Fault::NoMemory);
+    };
+    let seams = torus_total(&tiled.canvas, &sample.volume, &job.plan.wrap);
+    Ok(TiledSample {
+        sample,
+        tiled,
+        seams,
+    })
+}

@@ -15,6 +15,7 @@ pub record IsUnknown (command : List ℕ) : Type 0 where
   pub check : command ≢ codes "check"
   pub trial : command ≢ codes "trial"
   pub upgrade : command ≢ codes "upgrade"
+  pub tile : command ≢ codes "tile"
 
 abbrev answer : WordFault → Result Job WordFault
 answer fault = Err fault
@@ -28,4 +29,5 @@ unknown (command ∷ words) d le is =
     let check : same_text command (codes "check") ≡ false = same_not command (codes "check") is.check in
     let trial : same_text command (codes "trial") ≡ false = same_not command (codes "trial") is.trial in
     let upgrade : same_text command (codes "upgrade") ≡ false = same_not command (codes "upgrade") is.upgrade in
-    rw (grow, quilt, loops, check, trial, upgrade) refl
+    let tile : same_text command (codes "tile") ≡ false = same_not command (codes "tile") is.tile in
+    rw (grow, quilt, loops, check, trial, upgrade, tile) refl

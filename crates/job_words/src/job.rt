@@ -8,6 +8,7 @@ use crate::keys::Key;
 use crate::loop_words::LoopJob;
 use crate::name::{Name, Names16};
 use crate::quilt::QuiltJob;
+use crate::tile::TileJob;
 use crate::trial::TrialJob;
 use crate::upgrade::UpgradeJob;
 use cells::Axis;
@@ -37,6 +38,7 @@ pub enum Job {
     Check(CheckJob),
     Trial(TrialJob),
     Upgrade(UpgradeJob),
+    Tile(TileJob),
 }
 
 /// Why words ask for no job. Words are counted from 1; the command is number 1.

@@ -1,5 +1,5 @@
-// The words of `transfer`, `merge` and `tile`, which are read by calls of their own: `read_job` knows none of these
-// commands.
+// The words of `transfer`, `merge` and `tile`, by the calls that read them: `read_job` doesn't know the commands
+// `transfer` and `merge`.
 use crate::jobs::{are_names, is_name, words_of};
 use cells::{Axis, Size};
 use job_words::{

@@ -1,6 +1,7 @@
 use cells::Size;
 use job_words::{
-    GrowJob, Job, Key, LoopJob, Name, Place, QuiltJob, Taps, UpgradeJob, WordFault, Words, read_job,
+    GrowJob, Job, Key, LoopJob, Name, Place, QuiltJob, Taps, TileJob, UpgradeJob, WordFault, Words,
+    read_job,
 };
 use std::alloc::{AllocError, Global};
 
@@ -22,9 +23,10 @@ const REFUSED: &[(&[&str], WordFault)] = &[
     (&[], WordFault::NoCommand),
     (&["merge"], WordFault::UnknownCommand),
     (&["transfer"], WordFault::UnknownCommand),
-    (&["tile"], WordFault::UnknownCommand),
     (&["grow "], WordFault::UnknownCommand),
     (&[""], WordFault::UnknownCommand),
+    (&["tile"], WordFault::Missing(Key::Sample)),
+    (&["tile "], WordFault::UnknownCommand),
     (&["grow"], WordFault::Missing(Key::Sample)),
     (&["grow", "sample"], WordFault::BadWord(2)),
     (&["grow", "sample="], WordFault::BadWord(2)),
@@ -210,6 +212,10 @@ fn is_lifted(job: &UpgradeJob) -> bool {
         && is_name(&job.new_record_file, "d")
 }
 
+fn is_tiled(job: &TileJob) -> bool {
+    is_name(&job.sample, "a") && is_name(&job.out, "o") && is_name(&job.map, "m") && job.seed == 7
+}
+
 // Whether a job has what its words say. The one `match` on jobs is here, since each is dear to prove.
 fn is_asked(job: &Job, grown: &Grown) -> bool {
     match job {
@@ -217,6 +223,7 @@ fn is_asked(job: &Job, grown: &Grown) -> bool {
         Job::Quilt(job) => is_quilted(job),
         Job::Loop(job) => is_looped(job),
         Job::Upgrade(job) => is_lifted(job),
+        Job::Tile(job) => is_tiled(job),
         _ => false,
     }
 }
@@ -317,5 +324,13 @@ fn defaults_of_loops(rt: HostRuntime) {
 #[test]
 fn files_of_upgrades(rt: HostRuntime) {
     let words = ["upgrade", "newrecord=d", "newmap=c", "record=b", "map=a"];
+    assert!(rt; is_read(rt.alloc(), &words, &DEFAULTS));
+}
+
+#[test]
+fn words_of_a_tile(rt: HostRuntime) {
+    let words = [
+        "tile", "sample=a", "out=o", "map=m", "width=3", "height=3", "seed=7",
+    ];
     assert!(rt; is_read(rt.alloc(), &words, &DEFAULTS));
 }

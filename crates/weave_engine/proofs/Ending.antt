@@ -6,7 +6,7 @@ use Rattle.shelf_core.proofs.FileLaws.{told_weaker}
 use Rattle.job_words.specs.declared.job.Job.{Job}
 use Rattle.job_words.specs.declared.check.CheckJob.{CheckJob}
 use Rattle.job_words.specs.declared.trial.TrialJob.{TrialJob}
-use Rattle.job_words.specs.declared.job.Job.TheVariants.{Grow, Quilt, Loop, Check, Trial, Upgrade}
+use Rattle.job_words.specs.declared.job.Job.TheVariants.{Grow, Quilt, Loop, Check, Trial, Upgrade, Tile}
 use Rattle.job_words.specs.Jobs.{IsJob, job_of}
 use Rattle.synth_report.specs.declared.summary.Summary.{Summary}
 use Rattle.command.specs.Commands.{HasOneAnswer}
@@ -20,6 +20,9 @@ use Rattle.loop_command.proofs.OneLoops.{one_loop}
 use Rattle.quilt_command.specs.QuiltHeadlines.{HaveSameQuilt, IsQuiltedRun, IsToldOfRun, OneQuiltOutput, QuiltHeadline, QuiltReport}
 use Rattle.quilt_command.proofs.OneQuiltOutputs.{one_quilt_output}
 use Rattle.quilt_command.proofs.QuiltLaws.{quilt_has_one_answer, quilt_told, quilted_run}
+use Rattle.tile_command.specs.TileHeadlines.{IsOneTiling, IsToldOfTiling, OneTile, TileHeadline}
+use Rattle.tile_command.proofs.OneTiles.{one_tile}
+use Rattle.tile_command.proofs.TileLaws.{tile_has_one_answer, tile_told}
 use Rattle.upgrade_command.specs.Upgraded.{UpgradeHeadline}
 use Rattle.upgrade_command.proofs.Headline.{finished}
 use Rattle.upgrade_command.proofs.OneAnswer.{upgrade_has_one_answer}
@@ -43,6 +46,7 @@ one_answer (Loop job) lawful = loop_has_one_answer job
 one_answer (Check job) lawful = check_has_one_answer job
 one_answer (Trial job) lawful = trial_has_one_answer job lawful
 one_answer (Upgrade job) lawful = upgrade_has_one_answer job
+one_answer (Tile job) lawful = tile_has_one_answer job
 
 one_ok : (words : List (List ℕ)) (a b : Job) → job_of words ≡ Ok a → job_of words ≡ Ok b → a ≡ b
 one_ok words a b p q = let both : Ok a ≡ Ok b = sym p ∙ q in cc
@@ -119,6 +123,17 @@ module _ (words : List (List ℕ)) (was now : ShelfState) (out out' err err' : S
   loop_once job asks zero =
       let its = done_of (Loop job) asks zero in
       (its.summary, its.told, then_of (Loop job) its (λ before after. IsOneLoop job its.summary before) (one_loop job its.lawful its.summary))
+
+  -- the headline of `tile`, and its one output
+  pub tile_headline : TileHeadline words was now out out' status
+  tile_headline job asks zero =
+      let its = done_of (Tile job) asks zero in
+      (its.summary, its.told, then_of (Tile job) its (IsToldOfTiling job its.summary) (tile_told job its.lawful its.summary))
+
+  pub tile_once : OneTile words was now out out' status
+  tile_once job asks zero =
+      let its = done_of (Tile job) asks zero in
+      (its.summary, its.told, then_of (Tile job) its (IsOneTiling job its.summary) (one_tile job its.lawful its.summary))
 
   -- the headline of `upgrade`
   pub upgrade_headline : UpgradeHeadline words was now out out' status

@@ -1,5 +1,5 @@
 -- The commands of weave. To be trusted: contracts cite these words. (Own.)
-use Rattle.job_words.specs.declared.job.Job.TheVariants.{Grow, Quilt, Loop, Check, Trial, Upgrade}
+use Rattle.job_words.specs.declared.job.Job.TheVariants.{Grow, Quilt, Loop, Check, Trial, Upgrade, Tile}
 use Rattle.command.specs.Outcomes.{Commands}
 use Rattle.check_command.specs.Checks.{check_command}
 use Rattle.loop_command.specs.Loops.{loop_command}
@@ -7,6 +7,7 @@ use Rattle.quilt_command.specs.Quilts.{quilt_command}
 use Rattle.upgrade_command.specs.Upgrades.{upgrade_command}
 use Rattle.grow_command.specs.Growths.{grow_command}
 use Rattle.trial_command.specs.Trials.{trial_command}
+use Rattle.tile_command.specs.Tilings.{tile_command}
 
 -- the command of a job
 abbrev pub command_of : Commands
@@ -16,3 +17,4 @@ command_of (Loop job) = loop_command job
 command_of (Check job) = check_command job
 command_of (Trial job) = trial_command job
 command_of (Upgrade job) = upgrade_command job
+command_of (Tile job) = tile_command job

@@ -6,6 +6,7 @@ ghost use Rattle.check_command.specs.CheckHeadlines.{CheckHeadline};
 ghost use Rattle.grow_command.specs.GrowHeadlines.{GrowHeadline, GrowReport, OneOutput};
 ghost use Rattle.loop_command.specs.LoopHeadlines.{LoopHeadline, OneLoop};
 ghost use Rattle.quilt_command.specs.QuiltHeadlines.{OneQuiltOutput, QuiltHeadline, QuiltReport};
+ghost use Rattle.tile_command.specs.TileHeadlines.{OneTile, TileHeadline};
 ghost use Rattle.trial_command.specs.TrialHeadlines.{TrialHeadline};
 ghost use Rattle.upgrade_command.specs.Upgraded.{UpgradeHeadline};
 ghost use Rattle.weave_engine.specs.Engine.{command_of};
@@ -19,6 +20,7 @@ use quilt_command::quilt_picture;
 use shelf_core::{Shelf, Sink};
 use std::alloc::Global;
 use synth_report::{Fault, Summary};
+use tile_command::tile;
 use trial_command::trial;
 use upgrade_command::upgrade;
 
@@ -40,6 +42,7 @@ fn run_job<S: Shelf, O: Sink>(
         Job::Check(job) => check_files(alloc, job, shelf, out),
         Job::Trial(job) => trial(alloc, job, out),
         Job::Upgrade(job) => upgrade(alloc, job, shelf, out),
+        Job::Tile(job) => tile(alloc, job, shelf, out),
     }
 }
 
@@ -147,6 +150,15 @@ pub fn run<S: Shelf, O: Sink, E: Sink>(
     // With status 0 of `upgrade` the new map and record have the values of the old ones in version 2, and
     // `check` says of the new pair what it says of the old one.
     ensures upgraded { UpgradeHeadline words.now (S.state shelf.old) (S.state shelf.new)
+        (O.state out.old) (O.state out.new) result }
+
+    // With status 0 of `tile` every output cell is the sample cell that the written map names; the map is the
+    // last one of the run of the words, each choice of which has the least total cost of seams, those across
+    // the edges included; and the report is that of the run. Out file, map and report are a function of the
+    // words and the sample file.
+    ensures tiled { TileHeadline words.now (S.state shelf.old) (S.state shelf.new)
+        (O.state out.old) (O.state out.new) result }
+    ensures one_tile { OneTile words.now (S.state shelf.old) (S.state shelf.new)
         (O.state out.old) (O.state out.new) result }
 {
     let answer = answer(alloc, words, shelf, out);

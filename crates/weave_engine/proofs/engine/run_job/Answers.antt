@@ -15,6 +15,10 @@ pub returns-in-Trial : goal.returns-in-Trial
 returns-in-Trial g c =
     subst (λ job. Leaves (command_of job) (g.S.Shelf.state c.args.shelf.now) (g.S.Shelf.state c.args.shelf.now) (g.O.Sink.state c.args.out.now) (g.O.Sink.state c.trial.new.out) c.trial.result) (sym c.in-Trial.is) (c.trial.ensures (g.S.Shelf.state c.args.shelf.now))
 
+pub returns-in-Tile : goal.returns-in-Tile
+returns-in-Tile g c =
+    subst (λ job. Leaves (command_of job) (g.S.Shelf.state c.args.shelf.now) (g.S.Shelf.state c.tile.new.shelf) (g.O.Sink.state c.args.out.now) (g.O.Sink.state c.tile.new.out) c.tile.result) (sym c.in-Tile.is) c.tile.ensures
+
 pub returns-in-Loop : goal.returns-in-Loop
 returns-in-Loop g c =
     subst (λ job. Leaves (command_of job) (g.S.Shelf.state c.args.shelf.now) (g.S.Shelf.state c.loop_clip.new.shelf) (g.O.Sink.state c.args.out.now) (g.O.Sink.state c.loop_clip.new.out) c.loop_clip.result) (sym c.in-Loop.is) c.loop_clip.ensures

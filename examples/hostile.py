@@ -24,13 +24,13 @@ import threading
 HERE = os.path.dirname(os.path.abspath(__file__))
 WEAVE = os.path.join(HERE, "..", "weave")
 FUZZ = os.path.join(HERE, "..", "fuzz")
-SURE_RUNS = 7
+SURE_RUNS = 8
 SECONDS = 60
 BEFORE = b"as before"
 NOBODY = 65534
 
 LINES = {
-    2: r"weave: (no command|unknown command|word \d+: [a-z =]+|missing key [a-z0-9]+)\n",
+    2: r"weave: (no command|unknown command|word \d+: [a-z =]+|missing key [a-z0-9]+|wrapped axis [xyf] under 3)\n",
     3: r"weave: (sample\d*|out|map|record): "
        r"(form at \d+|depth|colour space|cell|no frames|value at \d+|trailing at \d+|unlike)\n",
     4: r"weave: limit (axis|cells|header|frames|output|loop|records) \d+ over \d+\n",
@@ -204,7 +204,9 @@ def small_runs(folder):
     upgrade = done_whole(Run("upgrade map=m record=r newmap=n newrecord=q",
                              {name: grow.whole[1][name] for name in ("m", "r")}, PAIR), folder)
     trial = done_whole(Run("trial n=7 width=64 height=64 place=grid rounds=1", {}, []), folder)
-    return [grow, clip, quilt, loop, check, upgrade, trial]
+    tile = done_whole(Run("tile sample=s out=o map=m width=6 height=1 wrap=x box=4 overlap=2", {"s": GREYS}, OUTPUTS[:2]),
+                      folder)
+    return [grow, clip, quilt, loop, check, upgrade, trial, tile]
 
 
 def larger_runs(folder):
@@ -219,7 +221,8 @@ def larger_runs(folder):
     upgrade = done_whole(Run("upgrade map=m record=r newmap=n newrecord=q",
                              {name: grow.whole[1][name] for name in ("m", "r")}, PAIR), folder)
     trial = done_whole(Run("trial n=7 width=128 height=128 rounds=1", {}, []), folder)
-    return [grow, clip, quilt, loop, check, upgrade, trial]
+    tile = done_whole(Run("tile sample=s out=o map=m width=192 height=128", {"s": pebbles}, OUTPUTS[:2]), folder)
+    return [grow, clip, quilt, loop, check, upgrade, trial, tile]
 
 
 def built_refuser(room):

@@ -71,6 +71,11 @@ const RUNS: &[Sure<'static>] = &[
         "upgrade 6 2\n",
     ),
     (
+        "tile sample=s out=o map=m width=6 height=1 wrap=x box=4 overlap=2",
+        &[("s", GREYS), ("o", BEFORE), ("m", BEFORE)],
+        "tile 6x1x1\nplacements 2\nseams 1650\n",
+    ),
+    (
         "trial n=7 width=64 height=64 place=grid rounds=0",
         &[("o", BEFORE)],
         "trial 7\nsample 64x64x1\ngrow 64x64x1\nplacements 1\nrounds 0\nseams 0\nrecord stands\n",

@@ -11,6 +11,11 @@ const OUTPUTS: &[(&str, &str)] = &[
     ("record", "weave: record: write fault\n"),
 ];
 
+const PICTURE_AND_MAP: &[(&str, &str)] = &[
+    ("out", "weave: out: write fault\n"),
+    ("map", "weave: map: write fault\n"),
+];
+
 const NEW_PAIR: &[(&str, &str)] = &[
     ("newmap", "weave: newmap: write fault\n"),
     ("newrecord", "weave: newrecord: write fault\n"),
@@ -28,6 +33,7 @@ fn outputs_of(texts: &[String]) -> &'static [(&'static str, &'static str)] {
     match command_of(texts) {
         "grow" | "quilt" | "loop" => OUTPUTS,
         "upgrade" => NEW_PAIR,
+        "tile" => PICTURE_AND_MAP,
         _ => &[],
     }
 }

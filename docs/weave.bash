@@ -4,7 +4,7 @@ _weave() {
     local word=${COMP_WORDS[COMP_CWORD]} before=${COMP_WORDS[COMP_CWORD-1]} keys
     COMPREPLY=()
     if [ "$COMP_CWORD" -eq 1 ]; then
-        mapfile -t COMPREPLY < <(compgen -W "grow quilt loop check trial upgrade" -- "$word")
+        mapfile -t COMPREPLY < <(compgen -W "grow quilt loop check trial upgrade tile" -- "$word")
         return
     fi
     # The value of a key: bash takes `=` for a word of its own.
@@ -22,6 +22,9 @@ _weave() {
         place)
             mapfile -t COMPREPLY < <(compgen -W "grid random whole sub" -- "$word")
             return ;;
+        wrap)
+            mapfile -t COMPREPLY < <(compgen -W "x y xy f xyf" -- "$word")
+            return ;;
         taps)
             mapfile -t COMPREPLY < <(compgen -W "0 2 4" -- "$word")
             return ;;
@@ -35,6 +38,7 @@ _weave() {
         check) keys="sample= sample2= out= map= record=" ;;
         trial) keys="n= width= height= place= box= overlap= tol= rounds= seed=" ;;
         upgrade) keys="map= record= newmap= newrecord=" ;;
+        tile) keys="sample= out= map= width= height= frames= wrap= box= overlap= tol= seed=" ;;
         *) return ;;
     esac
     compopt -o nospace

@@ -1,6 +1,7 @@
 //! Worked examples of what searches: match errors and eliminations, candidates and picks, networks and their flows,
-//! placements, and whole grown and quilted runs. What they show stands in no clause: that a definition gives the numbers that
-//! were computed by hand or by another program, and that calls succeed where memory is ample.
+//! placements, whole grown and quilted runs, and steps of tiling. What they show stands in no clause: that a
+//! definition gives the numbers that were computed by hand or by another program, and that calls succeed where
+//! memory is ample.
 #![tactic(auto)]
 
 #[cfg(test)]
@@ -23,3 +24,5 @@ mod quilts;
 mod rounds;
 #[cfg(test)]
 mod rows;
+#[cfg(test)]
+mod tilings;

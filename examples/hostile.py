@@ -31,10 +31,10 @@ NOBODY = 65534
 
 LINES = {
     2: r"weave: (no command|unknown command|word \d+: [a-z =]+|missing key [a-z0-9]+|wrapped axis [xyf] under 3)\n",
-    3: r"weave: (sample\d*|out|map|record): "
-       r"(form at \d+|depth|colour space|cell|no frames|value at \d+|trailing at \d+|unlike)\n",
+    3: r"weave: (sample\d*|out|map|record|marks): "
+       r"(form at \d+|depth|colour space|cell|no frames|value at \d+|trailing at \d+|unlike|mark at \d+)\n",
     4: r"weave: limit (axis|cells|header|frames|output|loop|records) \d+ over \d+\n",
-    5: r"weave: (sample\d*|out|map|record): read fault\n",
+    5: r"weave: (sample\d*|out|map|record|marks): read fault\n",
     6: r"weave: (out|map|record|newmap|newrecord|report): write fault\n",
     7: r"weave: no memory\n",
     8: r"weave: no loop of length \d+\n",
@@ -187,9 +187,13 @@ def done_whole(run, folder):
 
 
 GREYS = b"P6\n4 1\n255\n" + bytes(v for v in (10, 20, 30, 40) for _ in range(3))
+OTHER_GREYS = b"P6\n4 1\n255\n" + bytes(v for v in (50, 25, 30, 10) for _ in range(3))
+MARKS = b"P6\n4 1\n255\n" + bytes(v for mark in (1, 0, 0, 2) for v in (mark, 0, 0))
 CLIP = b"YUV4MPEG2 W1 H1 Cmono\n" + b"".join(b"FRAME\n" + bytes([v]) for v in (0, 3, 0, 3))
 OUTPUTS = [("out", "o"), ("map", "m"), ("record", "r")]
 PAIR = [("newmap", "n"), ("newrecord", "q")]
+MERGED = [("out", "o"), ("map", "m")]
+MERGE = "merge sample=s sample2=t marks=k out=o map=m"
 FILES = "sample=s out=o map=m record=r"
 
 
@@ -206,7 +210,16 @@ def small_runs(folder):
     trial = done_whole(Run("trial n=7 width=64 height=64 place=grid rounds=1", {}, []), folder)
     tile = done_whole(Run("tile sample=s out=o map=m width=6 height=1 wrap=x box=4 overlap=2", {"s": GREYS}, OUTPUTS[:2]),
                       folder)
-    return [grow, clip, quilt, loop, check, upgrade, trial, tile]
+    merge = done_whole(Run(MERGE, {"s": GREYS, "t": OTHER_GREYS, "k": MARKS}, MERGED), folder)
+    return [grow, clip, quilt, loop, check, upgrade, trial, tile, merge]
+
+
+def moved_and_marked(picture):
+    """A picture of 255 levels with each cell some cells on, and marks: the first columns of it, the last of the moved one."""
+    head, size, levels, raster = picture.split(b"\n", 3)
+    width, height = map(int, size.split())
+    marks = bytes(v for i in range(width * height) for v in ((1 if i % width < 9 else 2 if i % width > width - 9 else 0), 0, 0))
+    return [b"\n".join([head, size, levels, data]) for data in (raster[36:] + raster[:36], marks)]
 
 
 def larger_runs(folder):
@@ -222,7 +235,9 @@ def larger_runs(folder):
                              {name: grow.whole[1][name] for name in ("m", "r")}, PAIR), folder)
     trial = done_whole(Run("trial n=7 width=128 height=128 rounds=1", {}, []), folder)
     tile = done_whole(Run("tile sample=s out=o map=m width=192 height=128", {"s": pebbles}, OUTPUTS[:2]), folder)
-    return [grow, clip, quilt, loop, check, upgrade, trial, tile]
+    moved, marks = moved_and_marked(pebbles)
+    merge = done_whole(Run(MERGE, {"s": pebbles, "t": moved, "k": marks}, MERGED), folder)
+    return [grow, clip, quilt, loop, check, upgrade, trial, tile, merge]
 
 
 def built_refuser(room):

@@ -35,6 +35,8 @@ ppmtopgm photo.ppm | pnmtopng > grey.png
 pnmdepth 65535 photo.ppm > deep.ppm
 cat photo.ppm photo.ppm > several.ppm
 ffmpeg -v error -f lavfi -i "testsrc=size=384x288:rate=25" -frames:v 125 -pix_fmt yuv420p clip.mp4
+examples/shots.py .
+ppmchange rgb:01/00/00 rgb:ff/00/00 rgb:02/00/00 rgb:00/ff/00 marks.ppm | pnmtopng > strokes.png
 cp photo.ppm s.ppm
 cp photo.png s.png
 cp clip.mp4 v.mp4

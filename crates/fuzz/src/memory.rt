@@ -61,6 +61,23 @@ const RUNS: &[Sure<'static>] = &[
         "loop 2\nstart 0\ncost 0\n",
     ),
     (
+        "merge sample=s sample2=t marks=u out=o map=m",
+        &[
+            ("s", GREYS),
+            (
+                "t",
+                b"P6\n4 1\n255\n\x32\x32\x32\x19\x19\x19\x1e\x1e\x1e\x0a\x0a\x0a",
+            ),
+            (
+                "u",
+                b"P6\n4 1\n2\n\x01\x00\x00\x00\x00\x00\x00\x00\x00\x02\x00\x00",
+            ),
+            ("o", BEFORE),
+            ("m", BEFORE),
+        ],
+        "merge 4x1x1\npictures 2\nseams 15\n",
+    ),
+    (
         "check sample=s out=o map=m record=r",
         &[("s", GREYS), ("o", PICTURE), ("m", MAP), ("r", RECORD)],
         "stands\n",

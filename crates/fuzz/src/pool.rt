@@ -17,6 +17,11 @@ const CHECK_BOTH: &str = "check sample=s sample2=t out=o map=m record=r";
 
 const FOUR_GREYS: &[u8] = b"P6\n4 1\n255\n\x0a\x0a\x0a\x14\x14\x14\x1e\x1e\x1e\x28\x28\x28";
 
+const FOUR_MORE: &[u8] = b"P6\n4 1\n255\n\x32\x32\x32\x19\x19\x19\x1e\x1e\x1e\x0a\x0a\x0a";
+
+// Marks of four cells.
+const MARKS: &[u8] = b"P6\n4 1\n2\n\x01\x00\x00\x00\x00\x00\x00\x00\x00\x02\x00\x00";
+
 const NINE_CELLS: &[u8] = b"P6\n# nine\n3 3\n200\n\
 \x01\x02\x03\x40\x50\x60\xc8\x00\xc8\x10\x10\x10\x80\x7f\x7e\x01\x02\x03\
 \x33\x99\x66\xc8\xc8\xc8\x00\x00\x00";
@@ -78,6 +83,12 @@ const MADE: &[(&str, &str, &[u8], &[u8])] = &[
         FULL_PLANES,
     ),
     (
+        "grow sample=s sample2=t out=o map=m record=r width=5 height=1 place=random",
+        CHECK_BOTH,
+        FOUR_GREYS,
+        FOUR_MORE,
+    ),
+    (
         "quilt sample=s out=o map=m record=r width=6 height=5 block=3 overlap=1",
         CHECK,
         SIXTEEN_CELLS,
@@ -111,7 +122,7 @@ const MADE: &[(&str, &str, &[u8], &[u8])] = &[
 
 fn before<'a>(alloc: Global, sample: &'a [u8], second: &'a [u8]) -> Result<Vec<File>, AllocError> {
     let mut files = Vec::new(alloc);
-    for (name, bytes) in [("s", sample), ("t", second), ("u", b"".as_slice())] {
+    for (name, bytes) in [("s", sample), ("t", second), ("u", MARKS)] {
         let bytes = Vec::from_slice(alloc, bytes)?;
         files.push(File { name, bytes })?;
     }

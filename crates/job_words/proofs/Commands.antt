@@ -16,6 +16,7 @@ pub record IsUnknown (command : List ℕ) : Type 0 where
   pub trial : command ≢ codes "trial"
   pub upgrade : command ≢ codes "upgrade"
   pub tile : command ≢ codes "tile"
+  pub merge : command ≢ codes "merge"
 
 abbrev answer : WordFault → Result Job WordFault
 answer fault = Err fault
@@ -30,4 +31,5 @@ unknown (command ∷ words) d le is =
     let trial : same_text command (codes "trial") ≡ false = same_not command (codes "trial") is.trial in
     let upgrade : same_text command (codes "upgrade") ≡ false = same_not command (codes "upgrade") is.upgrade in
     let tile : same_text command (codes "tile") ≡ false = same_not command (codes "tile") is.tile in
-    rw (grow, quilt, loops, check, trial, upgrade, tile) refl
+    let merge : same_text command (codes "merge") ≡ false = same_not command (codes "merge") is.merge in
+    rw (grow, quilt, loops, check, trial, upgrade, tile, merge) refl

@@ -1,7 +1,7 @@
 -- The job of a list of words, or its first refusal. To be trusted: contracts cite it. (Own.)
 use Rattle.std.specs.Prelude.{ℕ, List, [], ◌∷◌, Result, Ok, Err, codes, if◌then◌else◌}
 use Rattle.job_words.specs.declared.job.Job.{Job}
-use Rattle.job_words.specs.declared.job.Job.TheVariants.{Grow, Quilt, Loop, Check, Trial, Upgrade, Tile}
+use Rattle.job_words.specs.declared.job.Job.TheVariants.{Grow, Quilt, Loop, Check, Trial, Upgrade, Tile, Merge}
 use Rattle.job_words.specs.declared.job.WordFault.{WordFault}
 use Rattle.job_words.specs.declared.job.WordFault.TheVariants.{NoCommand, UnknownCommand}
 use Rattle.job_words.specs.Texts.{same_text}
@@ -9,6 +9,7 @@ use Rattle.job_words.specs.Words.{and_then}
 use Rattle.job_words.specs.CheckWords.{IsCheckJob, check_job_of}
 use Rattle.job_words.specs.GrowWords.{IsGrowJob, grow_job_of}
 use Rattle.job_words.specs.LoopWords.{IsLoopJob, loop_job_of}
+use Rattle.job_words.specs.MergeWords.{IsMergeJob, merge_job_of}
 use Rattle.job_words.specs.QuiltWords.{IsQuiltJob, quilt_job_of}
 use Rattle.job_words.specs.TileWords.{IsTileJob, tile_job_of}
 use Rattle.job_words.specs.TrialWords.{IsTrialJob, trial_job_of}
@@ -36,6 +37,9 @@ upgrade_asked words = and_then (λ job. Ok (Upgrade job)) (upgrade_job_of words)
 abbrev pub tile_asked : List (List ℕ) → Result Job WordFault
 tile_asked words = and_then (λ job. Ok (Tile job)) (tile_job_of words)
 
+abbrev pub merge_asked : List (List ℕ) → Result Job WordFault
+merge_asked words = and_then (λ job. Ok (Merge job)) (merge_job_of words)
+
 -- the first word names the command
 abbrev pub job_of : List (List ℕ) → Result Job WordFault
 job_of [] = Err NoCommand
@@ -47,6 +51,7 @@ job_of (command ∷ words) =
     else if same_text command (codes "trial") then trial_asked words
     else if same_text command (codes "upgrade") then upgrade_asked words
     else if same_text command (codes "tile") then tile_asked words
+    else if same_text command (codes "merge") then merge_asked words
     else Err UnknownCommand
 
 -- each job that words ask for: its values are in the ranges of their keys, and its names differ
@@ -58,3 +63,4 @@ IsJob (Check job) = IsCheckJob job
 IsJob (Trial job) = IsTrialJob job
 IsJob (Upgrade job) = IsUpgradeJob job
 IsJob (Tile job) = IsTileJob job
+IsJob (Merge job) = IsMergeJob job

@@ -6,6 +6,7 @@ use crate::check::CheckJob;
 use crate::grow::GrowJob;
 use crate::keys::Key;
 use crate::loop_words::LoopJob;
+use crate::merge::MergeJob;
 use crate::name::{Name, Names16};
 use crate::quilt::QuiltJob;
 use crate::tile::TileJob;
@@ -39,6 +40,7 @@ pub enum Job {
     Trial(TrialJob),
     Upgrade(UpgradeJob),
     Tile(TileJob),
+    Merge(MergeJob),
 }
 
 /// Why words ask for no job. Words are counted from 1; the command is number 1.

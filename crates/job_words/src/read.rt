@@ -1,13 +1,14 @@
 // All words of a run, in the order in which their refusals are tried.
 ghost use Rattle.std.specs.Prelude.{◌≡◌, ◌⊎◌, ◌<◌, ◌++◌, ◌∷◌, [], Ok, Err, IfOk, IfErr, OnOk, length, option_copied};
 ghost use Rattle.job_words.specs.Words as by;
-ghost use Rattle.job_words.specs.Jobs.{IsJob, check_asked, grow_asked, job_of, loop_asked, quilt_asked, tile_asked, trial_asked, upgrade_asked};
+ghost use Rattle.job_words.specs.Jobs.{IsJob, check_asked, grow_asked, job_of, loop_asked, merge_asked, quilt_asked, tile_asked, trial_asked, upgrade_asked};
 
 use crate::check::read_check;
 use crate::grow::read_grow;
 use crate::job::{Job, WordFault};
 use crate::keys::Key;
 use crate::loop_words::read_loop;
+use crate::merge::read_merge;
 use crate::name::{Name, Words};
 use crate::quilt::read_quilt;
 use crate::settings::{Setting, Value, read_setting, value_at};
@@ -186,6 +187,14 @@ fn tile_asked(alloc: Global, words: &[Name]) -> Result<Job, WordFault>
     Ok(Job::Tile(read_tile(alloc, words)?))
 }
 
+// The job of the words after `merge`.
+fn merge_asked(alloc: Global, words: &[Name]) -> Result<Job, WordFault>
+    ensures exact { by.AnswersAs (merge_asked words.now) result }
+    ensures lawful { IfOk result IsJob }
+{
+    Ok(Job::Merge(read_merge(alloc, words)?))
+}
+
 /// The job that words ask for, or the first of their refusals: the command is tried first, then word
 /// by word, with all refusals of a word before the next word, and last the keys that no word sets.
 /// Only `NoMemory` may come at any place.
@@ -204,6 +213,7 @@ pub fn read_job(alloc: Global, words: &Words) -> Result<Job, WordFault>
         "trial" => trial_asked(alloc, words),
         "upgrade" => upgrade_asked(alloc, words),
         "tile" => tile_asked(alloc, words),
+        "merge" => merge_asked(alloc, words),
         _ => Err(WordFault::UnknownCommand),
     }
 }

@@ -21,8 +21,10 @@ fn read(alloc: Global, words: &[&str]) -> Result<Job, WordFault> {
 // Words, and why they are refused.
 const REFUSED: &[(&[&str], WordFault)] = &[
     (&[], WordFault::NoCommand),
-    (&["merge"], WordFault::UnknownCommand),
     (&["transfer"], WordFault::UnknownCommand),
+    (&["merge"], WordFault::Missing(Key::Sample)),
+    (&["merge", "sample=a"], WordFault::Missing(Key::More(2))),
+    (&["merge", "record=r"], WordFault::UnknownKey(2)),
     (&["grow "], WordFault::UnknownCommand),
     (&[""], WordFault::UnknownCommand),
     (&["tile"], WordFault::Missing(Key::Sample)),

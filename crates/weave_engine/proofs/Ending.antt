@@ -6,7 +6,7 @@ use Rattle.shelf_core.proofs.FileLaws.{told_weaker}
 use Rattle.job_words.specs.declared.job.Job.{Job}
 use Rattle.job_words.specs.declared.check.CheckJob.{CheckJob}
 use Rattle.job_words.specs.declared.trial.TrialJob.{TrialJob}
-use Rattle.job_words.specs.declared.job.Job.TheVariants.{Grow, Quilt, Loop, Check, Trial, Upgrade, Tile}
+use Rattle.job_words.specs.declared.job.Job.TheVariants.{Grow, Quilt, Loop, Check, Trial, Upgrade, Tile, Merge}
 use Rattle.job_words.specs.Jobs.{IsJob, job_of}
 use Rattle.synth_report.specs.declared.summary.Summary.{Summary}
 use Rattle.command.specs.Commands.{HasOneAnswer}
@@ -17,6 +17,9 @@ use Rattle.command.proofs.Promising.{done_promise, status_promise}
 use Rattle.loop_command.specs.LoopHeadlines.{IsLoopedRun, IsOneLoop, LoopHeadline, OneLoop}
 use Rattle.loop_command.proofs.LoopLaws.{loop_has_one_answer, looped_run}
 use Rattle.loop_command.proofs.OneLoops.{one_loop}
+use Rattle.merge_command.specs.MergeHeadlines.{HaveSameInput, HaveSameMerge, IsMergedRun, IsOneMergeReport, MergeHeadline, MergeReport, OneMerge}
+use Rattle.merge_command.proofs.MergeRuns.{merge_has_one_answer, merged_run}
+use Rattle.merge_command.proofs.OneMerges.{one_merge, one_merge_report}
 use Rattle.quilt_command.specs.QuiltHeadlines.{HaveSameQuilt, IsQuiltedRun, IsToldOfRun, OneQuiltOutput, QuiltHeadline, QuiltReport}
 use Rattle.quilt_command.proofs.OneQuiltOutputs.{one_quilt_output}
 use Rattle.quilt_command.proofs.QuiltLaws.{quilt_has_one_answer, quilt_told, quilted_run}
@@ -47,6 +50,7 @@ one_answer (Check job) lawful = check_has_one_answer job
 one_answer (Trial job) lawful = trial_has_one_answer job lawful
 one_answer (Upgrade job) lawful = upgrade_has_one_answer job
 one_answer (Tile job) lawful = tile_has_one_answer job
+one_answer (Merge job) lawful = merge_has_one_answer job lawful
 
 one_ok : (words : List (List ℕ)) (a b : Job) → job_of words ≡ Ok a → job_of words ≡ Ok b → a ≡ b
 one_ok words a b p q = let both : Ok a ≡ Ok b = sym p ∙ q in cc
@@ -138,6 +142,21 @@ module _ (words : List (List ℕ)) (was now : ShelfState) (out out' err err' : S
   -- the headline of `upgrade`
   pub upgrade_headline : UpgradeHeadline words was now out out' status
   upgrade_headline job asks zero = let its = done_of (Upgrade job) asks zero in finished job its.lawful its.summary its.known was now out out' its.files its.told
+
+  -- the headline of `merge`, its one output, and its one report
+  pub merge_headline : MergeHeadline words was now status
+  merge_headline job asks zero = let its = done_of (Merge job) asks zero in then_of (Merge job) its (IsMergedRun job) (merged_run job its.lawful its.summary)
+
+  pub merge_once : OneMerge words was now status
+  merge_once job asks zero =
+      let its = done_of (Merge job) asks zero in
+      then_of (Merge job) its (λ before after. (earlier later : Files) → HaveSameInput job earlier before → IsMergedRun job earlier later → HaveSameMerge job later after)
+      (one_merge job its.lawful its.summary)
+
+  pub merge_reported : MergeReport words was now out out' status
+  merge_reported job asks zero =
+      let its = done_of (Merge job) asks zero in
+      (its.summary, its.told, then_of (Merge job) its (IsOneMergeReport job its.summary) (one_merge_report job its.lawful its.summary))
 
   -- what `check` says
   pub check_headline : CheckHeadline words was now out out' status

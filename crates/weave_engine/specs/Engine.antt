@@ -1,8 +1,9 @@
 -- The commands of weave. To be trusted: contracts cite these words. (Own.)
-use Rattle.job_words.specs.declared.job.Job.TheVariants.{Grow, Quilt, Loop, Check, Trial, Upgrade, Tile}
+use Rattle.job_words.specs.declared.job.Job.TheVariants.{Grow, Quilt, Loop, Check, Trial, Upgrade, Tile, Merge}
 use Rattle.command.specs.Outcomes.{Commands}
 use Rattle.check_command.specs.Checks.{check_command}
 use Rattle.loop_command.specs.Loops.{loop_command}
+use Rattle.merge_command.specs.MergeCommand.{merge_command}
 use Rattle.quilt_command.specs.Quilts.{quilt_command}
 use Rattle.upgrade_command.specs.Upgrades.{upgrade_command}
 use Rattle.grow_command.specs.Growths.{grow_command}
@@ -18,3 +19,4 @@ command_of (Check job) = check_command job
 command_of (Trial job) = trial_command job
 command_of (Upgrade job) = upgrade_command job
 command_of (Tile job) = tile_command job
+command_of (Merge job) = merge_command job

@@ -5,6 +5,7 @@ ghost use Rattle.command.specs.Promises.{DoneStatus, IsComplete, IsRunStatus, Ke
 ghost use Rattle.check_command.specs.CheckHeadlines.{CheckHeadline};
 ghost use Rattle.grow_command.specs.GrowHeadlines.{GrowHeadline, GrowReport, OneOutput};
 ghost use Rattle.loop_command.specs.LoopHeadlines.{LoopHeadline, OneLoop};
+ghost use Rattle.merge_command.specs.MergeHeadlines.{MergeHeadline, MergeReport, OneMerge};
 ghost use Rattle.quilt_command.specs.QuiltHeadlines.{OneQuiltOutput, QuiltHeadline, QuiltReport};
 ghost use Rattle.tile_command.specs.TileHeadlines.{OneTile, TileHeadline};
 ghost use Rattle.trial_command.specs.TrialHeadlines.{TrialHeadline};
@@ -16,6 +17,7 @@ use command::finish;
 use grow_command::grow;
 use job_words::{Job, Words, read_job};
 use loop_command::loop_clip;
+use merge_command::merge_pictures;
 use quilt_command::quilt_picture;
 use shelf_core::{Shelf, Sink};
 use std::alloc::Global;
@@ -43,6 +45,7 @@ fn run_job<S: Shelf, O: Sink>(
         Job::Trial(job) => trial(alloc, job, out),
         Job::Upgrade(job) => upgrade(alloc, job, shelf, out),
         Job::Tile(job) => tile(alloc, job, shelf, out),
+        Job::Merge(job) => merge_pictures(alloc, job, shelf, out),
     }
 }
 
@@ -159,6 +162,15 @@ pub fn run<S: Shelf, O: Sink, E: Sink>(
     ensures tiled { TileHeadline words.now (S.state shelf.old) (S.state shelf.new)
         (O.state out.old) (O.state out.new) result }
     ensures one_tile { OneTile words.now (S.state shelf.old) (S.state shelf.new)
+        (O.state out.old) (O.state out.new) result }
+
+    // With status 0 of `merge` every output cell is the same cell of the picture that the written map names; each
+    // marked cell is its own picture's; and the map is that of the merge, in which each picture from the second on
+    // is laid by the choice of least total cost of all that keep the marked cells. Out file and map are a function
+    // of the pictures and the marks, and so is the report, which is that of the map.
+    ensures merged { MergeHeadline words.now (S.state shelf.old) (S.state shelf.new) result }
+    ensures one_merge { OneMerge words.now (S.state shelf.old) (S.state shelf.new) result }
+    ensures merge_report { MergeReport words.now (S.state shelf.old) (S.state shelf.new)
         (O.state out.old) (O.state out.new) result }
 {
     let answer = answer(alloc, words, shelf, out);

@@ -1,7 +1,7 @@
 use Rattle.command.proofs.Promising.{complete_promise, done_promise, keeps_promise, memory_promise, named_promise, others_promise, read_promise, refused_promise, words_promise, write_promise}
 use Rattle.command.proofs.Views.{form_number, limit_number, loop_number}
 use Rattle.weave_engine.specs.Engine.{command_of}
-use Rattle.weave_engine.proofs.Ending.{check_headline, grow_headline, grow_once, grow_reported, known_status, loop_headline, loop_once, one_answer, quilt_headline, quilt_once, quilt_reported, tile_headline, tile_once, trial_headline, upgrade_headline}
+use Rattle.weave_engine.proofs.Ending.{check_headline, grow_headline, grow_once, grow_reported, known_status, loop_headline, loop_once, merge_headline, merge_once, merge_reported, one_answer, quilt_headline, quilt_once, quilt_reported, tile_headline, tile_once, trial_headline, upgrade_headline}
 use Rattle.weave_engine.proofs.engine.run.Goals as goal
 
 pub returns-clause-ran : goal.returns-clause-ran
@@ -110,3 +110,15 @@ returns-clause-tiled g c =
 pub returns-clause-one_tile : goal.returns-clause-one_tile
 returns-clause-one_tile g c =
     tile_once c.args.words.now (g.S.Shelf.state c.args.shelf.now) (g.S.Shelf.state c.answer-answer.new.shelf) (g.O.Sink.state c.args.out.now) (g.O.Sink.state c.answer-answer.new.out) (g.E.Sink.state c.args.err.now) (g.E.Sink.state c.finish.new.err) c.finish.result (returns-clause-ran g c)
+
+pub returns-clause-merged : goal.returns-clause-merged
+returns-clause-merged g c =
+    merge_headline c.args.words.now (g.S.Shelf.state c.args.shelf.now) (g.S.Shelf.state c.answer-answer.new.shelf) (g.O.Sink.state c.args.out.now) (g.O.Sink.state c.answer-answer.new.out) (g.E.Sink.state c.args.err.now) (g.E.Sink.state c.finish.new.err) c.finish.result (returns-clause-ran g c)
+
+pub returns-clause-one_merge : goal.returns-clause-one_merge
+returns-clause-one_merge g c =
+    merge_once c.args.words.now (g.S.Shelf.state c.args.shelf.now) (g.S.Shelf.state c.answer-answer.new.shelf) (g.O.Sink.state c.args.out.now) (g.O.Sink.state c.answer-answer.new.out) (g.E.Sink.state c.args.err.now) (g.E.Sink.state c.finish.new.err) c.finish.result (returns-clause-ran g c)
+
+pub returns-clause-merge_report : goal.returns-clause-merge_report
+returns-clause-merge_report g c =
+    merge_reported c.args.words.now (g.S.Shelf.state c.args.shelf.now) (g.S.Shelf.state c.answer-answer.new.shelf) (g.O.Sink.state c.args.out.now) (g.O.Sink.state c.answer-answer.new.out) (g.E.Sink.state c.args.err.now) (g.E.Sink.state c.finish.new.err) c.finish.result (returns-clause-ran g c)

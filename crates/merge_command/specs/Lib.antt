@@ -1,0 +1,4 @@
+pub mod Pictures
+pub mod PictureSteps
+pub mod MergeCommand
+pub mod MergeHeadlines

@@ -7,8 +7,7 @@ ghost use Rattle.shelf_core.specs.Written.{HoldsPart, HoldsText};
 ghost use Rattle.synth_report.specs.declared.fault.FileOf.TheVariants as part;
 ghost use Rattle.command.specs.Writing.{file_text};
 ghost use Rattle.y4m_clip.specs.Spaces.{samples_of};
-ghost use Rattle.sample_files.specs.Samples.{CanStandIn, form_text};
-ghost use Rattle.command_files.specs.Outs.{CanBeWriter, HasWriter, whole_clip};
+ghost use Rattle.command_files.specs.Outs.{CanBeWriter, CanWrite, out_text, out_writer, whole_clip};
 
 use cells::{Size, Volume};
 use command::RunFiles;
@@ -20,25 +19,34 @@ use std::alloc::{AllocError, Global};
 use synth_report::FileOf;
 use y4m_clip::ClipWriter;
 
-/// The out file: a picture or a clip, in the form of the samples, and what writes a clip.
+/// What writes the out file, by its form.
+#[derive(Drop)]
+pub enum OutWriter {
+    /// A P6 picture with this maxval.
+    Picture { maxval: u8 },
+    /// A clip, by a writer of its form and size.
+    Clip { writer: ClipWriter },
+}
+
+/// The out file: a picture or a clip, and what writes it.
 #[derive(Drop)]
 pub struct OutFile<'a> {
     pub name: &'a Name,
-    pub form: &'a Form,
-    pub writer: Option<ClipWriter>,
+    pub writer: OutWriter,
     pub picture: &'a Volume,
 }
 
-/// What writes an out file of a size in a form: nothing more for a picture. The one error is out of
-/// memory.
-pub fn writer_for(alloc: Global, form: &Form, size: Size) -> Result<Option<ClipWriter>, AllocError>
+/// What writes an out file of a size in a form. The one error is out of memory.
+pub fn writer_for(alloc: Global, form: &Form, size: Size) -> Result<OutWriter, AllocError>
     requires form { CanBeWriter form.now }
     requires axes { HasAxes size }
-    ensures { IfOk result (HasWriter form.now size) }
+    ensures { IfOk result (λ writer. writer ≡ out_writer form.now size) }
 {
     match form {
-        Form::Picture { .. } => Ok(None),
-        Form::Clip { form } => Ok(Some(ClipWriter::make(alloc, form, size)?)),
+        Form::Picture { maxval } => Ok(OutWriter::Picture { maxval: *maxval }),
+        Form::Clip { form } => Ok(OutWriter::Clip {
+            writer: ClipWriter::make(alloc, form, size)?,
+        }),
     }
 }
 
@@ -68,45 +76,35 @@ fn write_clip<S: Shelf>(
     Ok(())
 }
 
-// Writes a volume in a form.
+// Writes a volume by a writer that can write it.
 fn write_out<S: Shelf>(
-    form: &Form,
-    writer: &mut Option<ClipWriter>,
+    writer: &mut OutWriter,
     volume: &Volume,
     shelf: &mut S,
     name: &str,
 ) -> Result<(), WriteFault>
-    requires can { CanStandIn form.now volume.now }
-    requires writer { HasWriter form.now volume.now.size writer.old }
+    requires { CanWrite writer.old volume.now }
     ensures ok { OnOk result (Changes (S.state shelf.old) (S.state shelf.new)
-        (HoldsText name.now (form_text form.now volume.now))) }
+        (HoldsText name.now (out_text writer.old volume.now))) }
     ensures err { OnErr result (Changes (S.state shelf.old) (S.state shelf.new)
-        (HoldsPart name.now (form_text form.now volume.now))) }
+        (HoldsPart name.now (out_text writer.old volume.now))) }
     ensures writes { OnlyWritesFile name.now (S.state shelf.old) (S.state shelf.new) }
     ensures failed { OnErr result (WritesRose name.now (S.state shelf.old) (S.state shelf.new)) }
 {
-    match (form, writer) {
-        (Form::Picture { maxval }, _) => write_p6(*maxval, volume, shelf, name),
-        (Form::Clip { .. }, Some(writer)) => write_clip(writer, volume, shelf, name),
-        (Form::Clip { .. }, None) => unreachable!(),
+    match writer {
+        OutWriter::Picture { maxval } => write_p6(*maxval, volume, shelf, name),
+        OutWriter::Clip { writer } => write_clip(writer, volume, shelf, name),
     }
 }
 
 impl RunFiles for OutFile<'_> {
     ghost texts = { λ file.
-        file_text part.Out file.name.now (form_text file.form.now file.picture.now) ∷ [] };
+        file_text part.Out file.name.now (out_text file.writer file.picture.now) ∷ [] };
 
-    ghost AreReady = { λ file. CanStandIn file.form.now file.picture.now
-        × HasWriter file.form.now file.picture.now.size file.writer };
+    ghost AreReady = { λ file. CanWrite file.writer file.picture.now };
 
     fn write<S: Shelf>(&mut self, shelf: &mut S) -> Result<(), FileOf> {
-        match write_out(
-            self.form,
-            &mut self.writer,
-            self.picture,
-            shelf,
-            self.name.as_text(),
-        ) {
+        match write_out(&mut self.writer, self.picture, shelf, self.name.as_text()) {
             Ok(()) => Ok(()),
             Err(WriteFault) => Err(FileOf::Out),
         }

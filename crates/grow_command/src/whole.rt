@@ -4,20 +4,19 @@ ghost use Rattle.shelf_core.specs.Files.{OnlyWrites};
 ghost use Rattle.job_words.specs.GrowWords.{IsGrowJob};
 ghost use Rattle.command.specs.Outcomes.{Leaves};
 ghost use Rattle.command.specs.Writing.{WritesRun, text_names};
-ghost use Rattle.command_files.specs.Outs.{HasWriter};
+ghost use Rattle.command_files.specs.Outs.{out_writer};
 ghost use Rattle.grow_command.specs.Growths.{IsMade, grow_command, growth_files, growth_summary, head_over, version_over};
 
 use crate::plan::{Growth, plan};
 use cells::Volume;
 use cert_file::Head;
 use command::{Then, write_run};
-use command_files::{CellMapFile, CutsFile, OutFile, writer_for};
+use command_files::{CellMapFile, CutsFile, OutFile, OutWriter, writer_for};
 use job_words::GrowJob;
 use shelf_core::{Shelf, Sink};
 use source_map::Version;
 use std::alloc::Global;
 use synth_report::{Fault, FileOf, Summary};
-use y4m_clip::ClipWriter;
 
 // The summary of a growth.
 fn summary_of(job: &GrowJob, growth: &Growth) -> Summary
@@ -59,13 +58,13 @@ fn head_over(job: &GrowJob, volume: &Volume) -> Head
 fn write_growth<S: Shelf, O: Sink>(
     job: &GrowJob,
     growth: &Growth,
-    writer: Option<ClipWriter>,
+    writer: OutWriter,
     shelf: &mut S,
     out: &mut O,
 ) -> Result<Summary, Fault>
     requires job { IsGrowJob job.now }
     requires made { IsMade job.now growth.now }
-    requires writer { HasWriter growth.now.samples.form job.now.size writer }
+    requires writer { writer ≡ out_writer growth.now.samples.form job.now.size }
     ensures wrote { WritesRun (growth_files job.now growth.now) (growth_summary job.now growth.now)
         (S.state shelf.old) (S.state shelf.new) (O.state out.old) (O.state out.new) result }
     ensures writes { OnlyWrites (text_names (growth_files job.now growth.now))
@@ -74,7 +73,6 @@ fn write_growth<S: Shelf, O: Sink>(
     let volume = &growth.samples.volume;
     let picture = OutFile {
         name: &job.names.out,
-        form: &growth.samples.form,
         writer,
         picture: growth.grown.canvas.picture(),
     };

@@ -11,9 +11,8 @@ use crate::plan::{PictureQuilt, plan, quilt_size};
 use cells::Volume;
 use cert_file::Head;
 use command::{Then, write_run};
-use command_files::{CellMapFile, OutFile};
+use command_files::{CellMapFile, OutFile, OutWriter};
 use job_words::QuiltJob;
-use sample_files::Form;
 use shelf_core::{Shelf, Sink};
 use source_map::Version;
 use std::alloc::Global;
@@ -57,13 +56,11 @@ fn write_quilt<S: Shelf, O: Sink>(
         (S.state shelf.old) (S.state shelf.new) }
 {
     let volume = &made.sample.volume;
-    let form = Form::Picture {
-        maxval: made.sample.maxval,
-    };
     let picture = OutFile {
         name: &job.names.out,
-        form: &form,
-        writer: None,
+        writer: OutWriter::Picture {
+            maxval: made.sample.maxval,
+        },
         picture: made.quilted.canvas.picture(),
     };
     let map = CellMapFile {

@@ -5,7 +5,8 @@ use Rattle.cert_file.specs.RecordFiles.{AreCutsInForm, cuts_form}
 use Rattle.synth_report.specs.declared.fault.FileOf.TheVariants as part
 use Rattle.command.specs.Writing.{FileText, WritesRun, file_text}
 use Rattle.sample_files.specs.Samples.{form_text}
-use Rattle.command_files.specs.Outs.{HasWriter}
+use Rattle.command_files.specs.Outs.{CanWrite, out_text, out_writer}
+use Rattle.command_files.proofs.OutFiles.{can_write, text_of_form}
 use Rattle.grow_command.specs.Growths.{growth_files, growth_summary, head_over}
 use Rattle.grow_command.proofs.Ready.{map_ready, picture_ready, record_ready}
 use Rattle.grow_command.proofs.whole.write_growth.Goals as goal
@@ -20,7 +21,10 @@ write_run-requires g c =
     let record_file = subst (λ head. AreCutsInForm head c.as_slice.result.now) (sym c.head_over.ensures)
     (subst (λ cuts. AreCutsInForm (head_over job.size growth.samples.volume) cuts) (sym c.as_slice.ensures) (record_ready job growth made.volume c.requires.job made)) in
     let size : c.picture.result.now.size ≡ job.size = ap (λ (v : Cells). v.size) c.picture.ensures.picture ∙ made.grown.canvas.size ∙ made.grown.size in
-    ((picture_ready job growth c.picture.result.now c.picture.ensures.picture made.volume c.requires.job made, subst (λ s. HasWriter growth.samples.form s c.args.writer) (sym size) c.requires.writer), (map, record_file))
+    let form = growth.samples.form in
+    let picture = c.picture.result.now in
+    let own : c.args.writer ≡ out_writer form picture.size = c.requires.writer ∙ ap (out_writer form) (sym size) in
+    (subst (λ w. CanWrite w picture) (sym own) (can_write form picture (picture_ready job growth picture c.picture.ensures.picture made.volume c.requires.job made)), (map, record_file))
 
 pub returns-clause-wrote : goal.returns-clause-wrote
 returns-clause-wrote g c =
@@ -30,11 +34,16 @@ returns-clause-wrote g c =
     let now = g.S.Shelf.state c.write_run.new.shelf in
     let out = g.O.Sink.state c.args.out.now in
     let out' = g.O.Sink.state c.write_run.new.out in
+    let form = growth.samples.form in
+    let picture = c.picture.result.now in
+    let size : picture.size ≡ job.size = ap (λ (v : Cells). v.size) c.picture.ensures.picture ∙ c.requires.made.grown.canvas.size ∙ c.requires.made.grown.size in
+    let text : out_text c.args.writer picture ≡ form_text form growth.grown.canvas.picture =
+    ap (λ w. out_text w picture) (c.requires.writer ∙ ap (out_writer form) (sym size)) ∙ text_of_form form picture ∙ ap (form_text form) c.picture.ensures.picture in
     let given : List FileText =
-    file_text part.Out job.names.out (form_text growth.samples.form c.picture.result.now) ∷ file_text part.Map job.names.map (cell_map_form c.map.result.now c.sizes.result c.version_over.result)
+    file_text part.Out job.names.out (out_text c.args.writer picture) ∷ file_text part.Map job.names.map (cell_map_form c.map.result.now c.sizes.result c.version_over.result)
     ∷ file_text part.Record job.names.record_file (cuts_form c.head_over.result c.as_slice.result.now) ∷ [] in
     let same : given ≡ growth_files job growth =
-    λ i. file_text part.Out job.names.out (form_text growth.samples.form (c.picture.ensures.picture i))
+    λ i. file_text part.Out job.names.out (text i)
     ∷ file_text part.Map job.names.map (cell_map_form (c.map.ensures.map i) (c.sizes.ensures i) (c.version_over.ensures i))
     ∷ file_text part.Record job.names.record_file (cuts_form (c.head_over.ensures i) (c.as_slice.ensures i)) ∷ [] in
     subst (λ files. WritesRun files (growth_summary job growth) was now out out' c.write_run.result) same

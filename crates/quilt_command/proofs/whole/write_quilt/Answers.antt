@@ -21,7 +21,7 @@ write_run-requires g c =
     (subst (λ m. IsWritable m (sizes_of made.sample.volume) One) (sym c.map.ensures.map) (map_ready job lawful made is)) in
     let record_file = subst (λ head. AreBlocksInForm head c.as_slice.result.now) (sym c.head_over.ensures)
     (subst (AreBlocksInForm (quilt_head job made.sample.volume)) (sym c.as_slice.ensures) (record_ready job lawful made is)) in
-    ((picture, tt), (map, record_file))
+    (picture, (map, record_file))
 
 pub returns-clause-wrote : goal.returns-clause-wrote
 returns-clause-wrote g c =

@@ -7,14 +7,12 @@ use Rattle.job_words.specs.declared.job.WordFault.{WordFault}
 use Rattle.job_words.specs.declared.keys.Key.TheVariants as key
 use Rattle.job_words.specs.declared.table.Texts.TheVariants.{Places}
 use Rattle.job_words.specs.declared.table.Kind.TheVariants.{Within, OneOf}
-use Rattle.job_words.specs.declared.table.Choice.TheVariants.{Nth}
-use Rattle.job_words.specs.declared.table.Need.TheVariants.{Default}
 use Rattle.job_words.specs.declared.table.Row.{Row}
 use Rattle.job_words.specs.declared.settings.Setting.{Setting}
 use Rattle.job_words.specs.declared.grow.Place.{Place}
 use Rattle.job_words.specs.declared.grow.Place.TheVariants.{Grid, Random, Whole, Sub}
 use Rattle.job_words.specs.declared.grow.GrowJob.{GrowJob}
-use Rattle.job_words.specs.Tables.{row, number_row, default_row}
+use Rattle.job_words.specs.Tables.{number_row, default_row, place_row, side_row, overlap_row, tol_row, rounds_row, seed_row}
 use Rattle.job_words.specs.Words.{IsGiven, and_then, all_settings, number_at, nth_at}
 use Rattle.job_words.specs.Names.{AreNames, HasNames, names_of, name_list, with_files}
 
@@ -24,12 +22,12 @@ grow_own_rows =
     number_row key.Width 1 GREATEST_AXIS
     ∷ number_row key.Height 1 GREATEST_AXIS
     ∷ default_row key.Frames 1 GREATEST_AXIS 1
-    ∷ row key.Place (OneOf Places) (Default (Nth 3))
-    ∷ default_row key.Side 1 GREATEST_AXIS 32
-    ∷ default_row key.Overlap 0 GREATEST_OVERLAP 8
-    ∷ default_row key.Tol 0 GREATEST_TOLERANCE 10
-    ∷ default_row key.Rounds 0 MOST_ROUNDS 0
-    ∷ default_row key.Seed 0 GREATEST_SEED 0
+    ∷ place_row
+    ∷ side_row
+    ∷ overlap_row 8
+    ∷ tol_row
+    ∷ rounds_row 0
+    ∷ seed_row
     ∷ []
 
 -- the keys of `grow`, in the order in which missing ones are looked for

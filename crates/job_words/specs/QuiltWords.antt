@@ -7,7 +7,7 @@ use Rattle.job_words.specs.declared.quilt.QuiltJob.{QuiltJob}
 use Rattle.job_words.specs.declared.settings.Setting.{Setting}
 use Rattle.job_words.specs.declared.table.Kind.TheVariants.{Within}
 use Rattle.job_words.specs.declared.table.Row.{Row}
-use Rattle.job_words.specs.Tables.{number_row, default_row}
+use Rattle.job_words.specs.Tables.{number_row, block_row, overlap_row, tol_row, seed_row}
 use Rattle.job_words.specs.Words.{IsGiven, and_then, all_settings, number_at}
 use Rattle.job_words.specs.Names.{AreNames, HasNames, names_of, name_list, with_one_sample}
 
@@ -16,10 +16,10 @@ abbrev pub quilt_own_rows : List Row
 quilt_own_rows =
     number_row key.Width 1 GREATEST_AXIS
     ∷ number_row key.Height 1 GREATEST_AXIS
-    ∷ default_row key.Block 1 GREATEST_AXIS 32
-    ∷ default_row key.Overlap 0 GREATEST_OVERLAP 5
-    ∷ default_row key.Tol 0 GREATEST_TOLERANCE 10
-    ∷ default_row key.Seed 0 GREATEST_SEED 0
+    ∷ block_row
+    ∷ overlap_row 5
+    ∷ tol_row
+    ∷ seed_row
     ∷ []
 
 -- the keys of `quilt`, in the order in which missing ones are looked for

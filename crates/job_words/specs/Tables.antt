@@ -1,6 +1,7 @@
 -- What the table of a command's keys says: the texts of which a value is one, and which values
 -- are of a kind. To be trusted: contracts cite these words. (Own.)
 use Rattle.std.specs.Prelude.{◌≡◌, ◌≢◌, ◌≤◌, ◌<◌, ◌⊎◌, ℕ, List, [], ◌∷◌, length, codes}
+use Rattle.limits.specs.declared.bounds.TheConstants.{GREATEST_AXIS, GREATEST_OVERLAP, GREATEST_SEED, GREATEST_TOLERANCE, MOST_ROUNDS}
 use Rattle.job_words.specs.declared.table.Texts.{Texts}
 use Rattle.job_words.specs.declared.table.Texts.TheVariants.{Places, Wraps, Turns}
 use Rattle.job_words.specs.declared.table.Kind.{Kind}
@@ -10,7 +11,7 @@ use Rattle.job_words.specs.declared.table.Need.{Need}
 use Rattle.job_words.specs.declared.table.Need.TheVariants.{Always, Default, BelowAnother}
 use Rattle.job_words.specs.declared.table.Row.{Row}
 use Rattle.job_words.specs.declared.keys.Key.{Key}
-use Rattle.job_words.specs.declared.keys.Key.TheVariants.{More}
+use Rattle.job_words.specs.declared.keys.Key.TheVariants as keys
 use Rattle.job_words.specs.declared.settings.Value.{Value}
 use Rattle.job_words.specs.declared.settings.Value.TheVariants.{Named, Chosen}
 
@@ -37,7 +38,7 @@ file_row key = row key FileName Always
 
 -- the name of a further sample's file
 abbrev pub sample_row : ℕ → Row
-sample_row n = row (More n) FileName BelowAnother
+sample_row n = row (keys.More n) FileName BelowAnother
 
 -- a number from a least to a greatest, which a word has to give, or which has a default
 abbrev pub number_row : Key → ℕ → ℕ → Row
@@ -45,3 +46,27 @@ number_row key least most = row key (Within least most) Always
 
 abbrev pub default_row : Key → ℕ → ℕ → ℕ → Row
 default_row key least most n = row key (Within least most) (Default (Number n))
+
+-- The rows of keys that several commands have: each key has one range, and mostly one default.
+
+-- how the places of patches are chosen: without a word by fitting patches
+abbrev pub place_row : Row
+place_row = row keys.Place (OneOf Places) (Default (Nth 3))
+
+abbrev pub side_row : Row
+side_row = default_row keys.Side 1 GREATEST_AXIS 32
+
+abbrev pub block_row : Row
+block_row = default_row keys.Block 1 GREATEST_AXIS 32
+
+abbrev pub overlap_row : ℕ → Row
+overlap_row n = default_row keys.Overlap 0 GREATEST_OVERLAP n
+
+abbrev pub tol_row : Row
+tol_row = default_row keys.Tol 0 GREATEST_TOLERANCE 10
+
+abbrev pub rounds_row : ℕ → Row
+rounds_row n = default_row keys.Rounds 0 MOST_ROUNDS n
+
+abbrev pub seed_row : Row
+seed_row = default_row keys.Seed 0 GREATEST_SEED 0

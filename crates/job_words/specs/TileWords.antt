@@ -17,7 +17,7 @@ use Rattle.job_words.specs.declared.settings.Setting.{Setting}
 use Rattle.job_words.specs.declared.tile.Wrap.{Wrap}
 use Rattle.job_words.specs.declared.tile.TilePlan.{TilePlan}
 use Rattle.job_words.specs.declared.tile.TileJob.{TileJob}
-use Rattle.job_words.specs.Tables.{row, file_row, number_row, default_row}
+use Rattle.job_words.specs.Tables.{row, file_row, number_row, default_row, side_row, overlap_row, tol_row, seed_row}
 use Rattle.job_words.specs.Words.{IsGiven, IsNamed, and_then, all_settings, number_at, nth_at, text_of, value_at}
 use Rattle.job_words.specs.Names.{AreNames}
 
@@ -31,10 +31,10 @@ tile_rows =
     ∷ number_row key.Height 1 GREATEST_AXIS
     ∷ default_row key.Frames 1 GREATEST_AXIS 1
     ∷ row key.Wrap (OneOf Wraps) (Default (Nth 2))
-    ∷ default_row key.Side 1 GREATEST_AXIS 32
-    ∷ default_row key.Overlap 0 GREATEST_OVERLAP 8
-    ∷ default_row key.Tol 0 GREATEST_TOLERANCE 10
-    ∷ default_row key.Seed 0 GREATEST_SEED 0
+    ∷ side_row
+    ∷ overlap_row 8
+    ∷ tol_row
+    ∷ seed_row
     ∷ []
 
 -- the entry of a list of five, one for each text of `wrap`: x, y, xy, f, xyf

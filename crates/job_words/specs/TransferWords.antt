@@ -7,7 +7,7 @@ use Rattle.job_words.specs.declared.settings.Setting.{Setting}
 use Rattle.job_words.specs.declared.table.Kind.TheVariants.{Within}
 use Rattle.job_words.specs.declared.table.Row.{Row}
 use Rattle.job_words.specs.declared.transfer.TransferJob.{TransferJob}
-use Rattle.job_words.specs.Tables.{file_row, default_row}
+use Rattle.job_words.specs.Tables.{file_row, default_row, block_row, overlap_row, tol_row, seed_row}
 use Rattle.job_words.specs.Words.{IsGiven, IsNamed, and_then, all_settings, number_at, text_of, value_at}
 use Rattle.job_words.specs.Names.{AreNames, HasNames, names_of}
 
@@ -19,11 +19,11 @@ transfer_rows =
     ∷ file_row key.Out
     ∷ file_row key.Map
     ∷ file_row key.Record
-    ∷ default_row key.Block 1 GREATEST_AXIS 32
-    ∷ default_row key.Overlap 0 GREATEST_OVERLAP 5
-    ∷ default_row key.Tol 0 GREATEST_TOLERANCE 10
+    ∷ block_row
+    ∷ overlap_row 5
+    ∷ tol_row
     ∷ default_row key.Alpha 0 GREATEST_ALPHA 50
-    ∷ default_row key.Seed 0 GREATEST_SEED 0
+    ∷ seed_row
     ∷ []
 
 abbrev pub transfer_of : List Setting → TransferJob

@@ -7,12 +7,10 @@ use Rattle.job_words.specs.declared.job.WordFault.{WordFault}
 use Rattle.job_words.specs.declared.keys.Key.TheVariants as key
 use Rattle.job_words.specs.declared.table.Texts.TheVariants.{Places}
 use Rattle.job_words.specs.declared.table.Kind.TheVariants.{Within, OneOf}
-use Rattle.job_words.specs.declared.table.Choice.TheVariants.{Nth}
-use Rattle.job_words.specs.declared.table.Need.TheVariants.{Default}
 use Rattle.job_words.specs.declared.table.Row.{Row}
 use Rattle.job_words.specs.declared.settings.Setting.{Setting}
 use Rattle.job_words.specs.declared.trial.TrialJob.{TrialJob}
-use Rattle.job_words.specs.Tables.{row, number_row, default_row}
+use Rattle.job_words.specs.Tables.{number_row, default_row, place_row, side_row, overlap_row, tol_row, rounds_row, seed_row}
 use Rattle.job_words.specs.Words.{IsGiven, and_then, all_settings, number_at, nth_at}
 use Rattle.job_words.specs.GrowWords.{place_nth}
 
@@ -22,12 +20,12 @@ trial_rows =
     default_row key.Width 1 GREATEST_AXIS 256
     ∷ default_row key.Height 1 GREATEST_AXIS 256
     ∷ number_row key.N 0 GREATEST_SAMPLE_NUMBER
-    ∷ row key.Place (OneOf Places) (Default (Nth 3))
-    ∷ default_row key.Side 1 GREATEST_AXIS 32
-    ∷ default_row key.Overlap 0 GREATEST_OVERLAP 8
-    ∷ default_row key.Tol 0 GREATEST_TOLERANCE 10
-    ∷ default_row key.Rounds 0 MOST_ROUNDS 5
-    ∷ default_row key.Seed 0 GREATEST_SEED 0
+    ∷ place_row
+    ∷ side_row
+    ∷ overlap_row 8
+    ∷ tol_row
+    ∷ rounds_row 5
+    ∷ seed_row
     ∷ []
 
 -- a picture of this size

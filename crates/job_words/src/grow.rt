@@ -10,10 +10,11 @@ use crate::name::Name;
 use crate::read::all_settings;
 use crate::settings::Setting;
 use crate::table::{
-    Choice, Kind, Need, Row, Texts, file_row, number_row, place_row, sample_row, with_files,
+    Choice, Kind, Need, Row, Texts, file_row, number_row, overlap_row, place_row, rounds_row,
+    sample_row, seed_row, side_row, tol_row, with_files,
 };
 use cells::Size;
-use limits::{GREATEST_AXIS, GREATEST_OVERLAP, GREATEST_SEED, GREATEST_TOLERANCE, MOST_ROUNDS};
+use limits::GREATEST_AXIS;
 use std::alloc::{AllocError, Global};
 
 /// How the places of patches are chosen.
@@ -53,11 +54,11 @@ const ROWS: [Row; 28] = with_files![
     number_row!(Height, 1, GREATEST_AXIS as u64),
     number_row!(Frames, 1, GREATEST_AXIS as u64, 1),
     place_row!(),
-    number_row!(Side, 1, GREATEST_AXIS as u64, 32),
-    number_row!(Overlap, 0, GREATEST_OVERLAP as u64, 8),
-    number_row!(Tol, 0, GREATEST_TOLERANCE as u64, 10),
-    number_row!(Rounds, 0, MOST_ROUNDS as u64, 0),
-    number_row!(Seed, 0, GREATEST_SEED, 0),
+    side_row!(),
+    overlap_row!(8),
+    tol_row!(),
+    rounds_row!(0),
+    seed_row!(),
 ];
 
 fn rows() -> &'static [Row]

@@ -9,8 +9,11 @@ use crate::keys::Key;
 use crate::name::Name;
 use crate::read::all_settings;
 use crate::settings::Setting;
-use crate::table::{Choice, Kind, Need, Row, file_row, number_row, with_one_sample};
-use limits::{GREATEST_AXIS, GREATEST_OVERLAP, GREATEST_SEED, GREATEST_TOLERANCE};
+use crate::table::{
+    Choice, Kind, Need, Row, block_row, file_row, number_row, overlap_row, seed_row, tol_row,
+    with_one_sample,
+};
+use limits::GREATEST_AXIS;
 use std::alloc::{AllocError, Global};
 
 /// Quilting an output from the blocks of one picture.
@@ -35,10 +38,10 @@ pub struct QuiltJob {
 const ROWS: [Row; 10] = with_one_sample![
     number_row!(Width, 1, GREATEST_AXIS as u64),
     number_row!(Height, 1, GREATEST_AXIS as u64),
-    number_row!(Block, 1, GREATEST_AXIS as u64, 32),
-    number_row!(Overlap, 0, GREATEST_OVERLAP as u64, 5),
-    number_row!(Tol, 0, GREATEST_TOLERANCE as u64, 10),
-    number_row!(Seed, 0, GREATEST_SEED, 0),
+    block_row!(),
+    overlap_row!(5),
+    tol_row!(),
+    seed_row!(),
 ];
 
 fn rows() -> &'static [Row]

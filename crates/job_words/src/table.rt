@@ -138,6 +138,44 @@ macro_rules! place_row {
     };
 }
 
+// The rows of keys that several commands have: each key has one range, and mostly one default.
+
+macro_rules! side_row {
+    () => {
+        number_row!(Side, 1, limits::GREATEST_AXIS as u64, 32)
+    };
+}
+
+macro_rules! block_row {
+    () => {
+        number_row!(Block, 1, limits::GREATEST_AXIS as u64, 32)
+    };
+}
+
+macro_rules! overlap_row {
+    ($default:literal) => {
+        number_row!(Overlap, 0, limits::GREATEST_OVERLAP as u64, $default)
+    };
+}
+
+macro_rules! tol_row {
+    () => {
+        number_row!(Tol, 0, limits::GREATEST_TOLERANCE as u64, 10)
+    };
+}
+
+macro_rules! rounds_row {
+    ($default:literal) => {
+        number_row!(Rounds, 0, limits::MOST_ROUNDS as u64, $default)
+    };
+}
+
+macro_rules! seed_row {
+    () => {
+        number_row!(Seed, 0, limits::GREATEST_SEED, 0)
+    };
+}
+
 // The rows of the files of a run over one sample, and then others.
 macro_rules! with_one_sample {
     ($($row:expr),* $(,)?) => {
@@ -179,9 +217,15 @@ macro_rules! with_files {
     };
 }
 
+pub(crate) use block_row;
 pub(crate) use file_row;
 pub(crate) use number_row;
+pub(crate) use overlap_row;
 pub(crate) use place_row;
+pub(crate) use rounds_row;
 pub(crate) use sample_row;
+pub(crate) use seed_row;
+pub(crate) use side_row;
+pub(crate) use tol_row;
 pub(crate) use with_files;
 pub(crate) use with_one_sample;

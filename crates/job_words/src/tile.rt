@@ -9,11 +9,11 @@ use crate::keys::Key;
 use crate::name::Name;
 use crate::read::all_settings;
 use crate::settings::Setting;
-use crate::table::{Choice, Kind, Need, Row, Texts, file_row, number_row};
-use cells::{Axis, Size};
-use limits::{
-    GREATEST_AXIS, GREATEST_OVERLAP, GREATEST_SEED, GREATEST_TOLERANCE, LEAST_WRAPPED_AXIS,
+use crate::table::{
+    Choice, Kind, Need, Row, Texts, file_row, number_row, overlap_row, seed_row, side_row, tol_row,
 };
+use cells::{Axis, Size};
+use limits::{GREATEST_AXIS, LEAST_WRAPPED_AXIS};
 use std::alloc::{AllocError, Global};
 
 /// The axes on which an output's edges meet.
@@ -64,10 +64,10 @@ const ROWS: [Row; 11] = [
         kind: Kind::OneOf(Texts::Wraps),
         need: Need::Default(Choice::Nth(2)),
     },
-    number_row!(Side, 1, GREATEST_AXIS as u64, 32),
-    number_row!(Overlap, 0, GREATEST_OVERLAP as u64, 8),
-    number_row!(Tol, 0, GREATEST_TOLERANCE as u64, 10),
-    number_row!(Seed, 0, GREATEST_SEED, 0),
+    side_row!(),
+    overlap_row!(8),
+    tol_row!(),
+    seed_row!(),
 ];
 
 fn rows() -> &'static [Row]

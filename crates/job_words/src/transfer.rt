@@ -9,8 +9,10 @@ use crate::keys::Key;
 use crate::name::Name;
 use crate::read::all_settings;
 use crate::settings::Setting;
-use crate::table::{Choice, Kind, Need, Row, file_row, number_row};
-use limits::{GREATEST_ALPHA, GREATEST_AXIS, GREATEST_OVERLAP, GREATEST_SEED, GREATEST_TOLERANCE};
+use crate::table::{
+    Choice, Kind, Need, Row, block_row, file_row, number_row, overlap_row, seed_row, tol_row,
+};
+use limits::GREATEST_ALPHA;
 use std::alloc::{AllocError, Global};
 
 /// Painting a target picture with blocks of another one.
@@ -38,11 +40,11 @@ const ROWS: [Row; 10] = [
     file_row!(Out),
     file_row!(Map),
     file_row!(Record),
-    number_row!(Block, 1, GREATEST_AXIS as u64, 32),
-    number_row!(Overlap, 0, GREATEST_OVERLAP as u64, 5),
-    number_row!(Tol, 0, GREATEST_TOLERANCE as u64, 10),
+    block_row!(),
+    overlap_row!(5),
+    tol_row!(),
     number_row!(Alpha, 0, GREATEST_ALPHA as u64, 50),
-    number_row!(Seed, 0, GREATEST_SEED, 0),
+    seed_row!(),
 ];
 
 fn rows() -> &'static [Row]

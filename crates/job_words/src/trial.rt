@@ -10,12 +10,12 @@ use crate::keys::Key;
 use crate::name::Name;
 use crate::read::all_settings;
 use crate::settings::Setting;
-use crate::table::{Choice, Kind, Need, Row, Texts, number_row, place_row};
-use cells::Size;
-use limits::{
-    GREATEST_AXIS, GREATEST_OVERLAP, GREATEST_SAMPLE_NUMBER, GREATEST_SEED, GREATEST_TOLERANCE,
-    MOST_ROUNDS,
+use crate::table::{
+    Choice, Kind, Need, Row, Texts, number_row, overlap_row, place_row, rounds_row, seed_row,
+    side_row, tol_row,
 };
+use cells::Size;
+use limits::{GREATEST_AXIS, GREATEST_SAMPLE_NUMBER};
 use std::alloc::Global;
 
 /// Growing an output from a sample that is made of a number. What isn't told of here is as in `GrowJob`.
@@ -38,11 +38,11 @@ const ROWS: [Row; 9] = [
     number_row!(Height, 1, GREATEST_AXIS as u64, 256),
     number_row!(N, 0, GREATEST_SAMPLE_NUMBER as u64),
     place_row!(),
-    number_row!(Side, 1, GREATEST_AXIS as u64, 32),
-    number_row!(Overlap, 0, GREATEST_OVERLAP as u64, 8),
-    number_row!(Tol, 0, GREATEST_TOLERANCE as u64, 10),
-    number_row!(Rounds, 0, MOST_ROUNDS as u64, 5),
-    number_row!(Seed, 0, GREATEST_SEED, 0),
+    side_row!(),
+    overlap_row!(8),
+    tol_row!(),
+    rounds_row!(5),
+    seed_row!(),
 ];
 
 fn rows() -> &'static [Row]

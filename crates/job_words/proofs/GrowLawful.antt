@@ -16,9 +16,11 @@ grow_sound = sound grow_rows grow_rows refl
 values : (all : List Setting) → HasAllValues grow_rows all → HasGrowValues all
 values all full = record {
   names = names_given grow_own_rows all full;
-  width = given_at grow_rows all full key.Width;
-  height = given_at grow_rows all full key.Height;
-  frames = given_at grow_rows all full key.Frames;
+  size = record {
+    width = given_at grow_rows all full key.Width;
+    height = given_at grow_rows all full key.Height;
+    frames = given_at grow_rows all full key.Frames;
+  };
   place = given_at grow_rows all full key.Place;
   side = given_at grow_rows all full key.Side;
   overlap = given_at grow_rows all full key.Overlap;
@@ -31,9 +33,9 @@ lawful : (all : List Setting) → AreAll grow_rows all → HasGrowValues all →
 lawful all a v = record {
   names = names_of_run grow_rows all grow_sound a v.names;
   axes = record {
-    w = number_within 1 GREATEST_AXIS (value_at key.Width all) v.width;
-    h = number_within 1 GREATEST_AXIS (value_at key.Height all) v.height;
-    f = number_within 1 GREATEST_AXIS (value_at key.Frames all) v.frames;
+    w = number_within 1 GREATEST_AXIS (value_at key.Width all) v.size.width;
+    h = number_within 1 GREATEST_AXIS (value_at key.Height all) v.size.height;
+    f = number_within 1 GREATEST_AXIS (value_at key.Frames all) v.size.frames;
   };
   side = number_within 1 GREATEST_AXIS (value_at key.Side all) v.side;
   overlap = (number_within 0 GREATEST_OVERLAP (value_at key.Overlap all) v.overlap).1;

@@ -24,9 +24,11 @@ values all full = record {
   sample = is_named (value_at key.Sample all) (given_at tile_rows all full key.Sample);
   out = is_named (value_at key.Out all) (given_at tile_rows all full key.Out);
   map = is_named (value_at key.Map all) (given_at tile_rows all full key.Map);
-  width = given_at tile_rows all full key.Width;
-  height = given_at tile_rows all full key.Height;
-  frames = given_at tile_rows all full key.Frames;
+  size = record {
+    width = given_at tile_rows all full key.Width;
+    height = given_at tile_rows all full key.Height;
+    frames = given_at tile_rows all full key.Frames;
+  };
   wrap = given_at tile_rows all full key.Wrap;
   side = given_at tile_rows all full key.Side;
   overlap = given_at tile_rows all full key.Overlap;
@@ -61,9 +63,9 @@ lawful all a v none =
     record {
       names = subst AreNames listed (are_names tile_rows all tile_sound a keys refl);
       axes = record {
-        w = number_within 1 GREATEST_AXIS (value_at key.Width all) v.width;
-        h = number_within 1 GREATEST_AXIS (value_at key.Height all) v.height;
-        f = number_within 1 GREATEST_AXIS (value_at key.Frames all) v.frames;
+        w = number_within 1 GREATEST_AXIS (value_at key.Width all) v.size.width;
+        h = number_within 1 GREATEST_AXIS (value_at key.Height all) v.size.height;
+        f = number_within 1 GREATEST_AXIS (value_at key.Frames all) v.size.frames;
       };
       wide = wide (tile_of all).plan.wrap (tile_of all).size none;
       side = number_within 1 GREATEST_AXIS (value_at key.Side all) v.side;

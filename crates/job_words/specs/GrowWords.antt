@@ -2,7 +2,6 @@
 use Rattle.std.specs.Prelude.{◌≤◌, ℕ, List, [], ◌∷◌, Result, Ok, slice_index_or}
 use Rattle.cells.specs.Places.{HasAxes}
 use Rattle.limits.specs.declared.bounds.TheConstants.{GREATEST_AXIS, GREATEST_OVERLAP, GREATEST_SEED, GREATEST_TOLERANCE, MOST_ROUNDS}
-use Rattle.cells.specs.declared.place.Size.{Size}
 use Rattle.job_words.specs.declared.job.WordFault.{WordFault}
 use Rattle.job_words.specs.declared.keys.Key.TheVariants as key
 use Rattle.job_words.specs.declared.table.Texts.TheVariants.{Places}
@@ -15,6 +14,7 @@ use Rattle.job_words.specs.declared.grow.GrowJob.{GrowJob}
 use Rattle.job_words.specs.Tables.{number_row, default_row, place_row, side_row, overlap_row, tol_row, rounds_row, seed_row}
 use Rattle.job_words.specs.Words.{IsGiven, and_then, all_settings, number_at, nth_at}
 use Rattle.job_words.specs.Names.{AreNames, HasNames, names_of, name_list, with_files}
+use Rattle.job_words.specs.OutputSize.{HasSize, size_of}
 
 -- the keys of `grow` behind those of its files
 abbrev pub grow_own_rows : List Row
@@ -38,17 +38,10 @@ grow_rows = with_files grow_own_rows
 abbrev pub place_nth : ℕ → Place
 place_nth n = slice_index_or (Grid ∷ Random ∷ Whole ∷ Sub ∷ []) n Grid
 
-abbrev pub grow_size : List Setting → Size
-grow_size settings = record {
-  w = number_at key.Width settings;
-  h = number_at key.Height settings;
-  f = number_at key.Frames settings;
-}
-
 abbrev pub grow_of : List Setting → GrowJob
 grow_of settings = record {
   names = names_of settings;
-  size = grow_size settings;
+  size = size_of settings;
   place = place_nth (nth_at key.Place settings);
   side = number_at key.Side settings;
   overlap = number_at key.Overlap settings;
@@ -74,9 +67,7 @@ pub record IsGrowJob (job : GrowJob) : Type 0 where
 -- the values by which a job is made are of their keys' kinds
 pub record HasGrowValues (settings : List Setting) : Type 0 where
   pub names : HasNames settings
-  pub width : IsGiven (Within 1 GREATEST_AXIS) key.Width settings
-  pub height : IsGiven (Within 1 GREATEST_AXIS) key.Height settings
-  pub frames : IsGiven (Within 1 GREATEST_AXIS) key.Frames settings
+  pub size : HasSize settings
   pub place : IsGiven (OneOf Places) key.Place settings
   pub side : IsGiven (Within 1 GREATEST_AXIS) key.Side settings
   pub overlap : IsGiven (Within 0 GREATEST_OVERLAP) key.Overlap settings

@@ -3,6 +3,7 @@ pub mod Keys
 pub mod Tables
 pub mod Words
 pub mod Names
+pub mod OutputSize
 pub mod GrowWords
 pub mod QuiltWords
 pub mod LoopWords

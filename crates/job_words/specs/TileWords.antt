@@ -20,6 +20,7 @@ use Rattle.job_words.specs.declared.tile.TileJob.{TileJob}
 use Rattle.job_words.specs.Tables.{row, file_row, number_row, default_row, side_row, overlap_row, tol_row, seed_row}
 use Rattle.job_words.specs.Words.{IsGiven, IsNamed, and_then, all_settings, number_at, nth_at, text_of, value_at}
 use Rattle.job_words.specs.Names.{AreNames}
+use Rattle.job_words.specs.OutputSize.{HasSize, size_of}
 
 -- the keys of `tile`, in the order in which missing ones are looked for
 abbrev pub tile_rows : List Row
@@ -49,13 +50,6 @@ wrap_nth n = record {
   f = for_wrap n false false false true true;
 }
 
-abbrev pub tile_size : List Setting → Size
-tile_size settings = record {
-  w = number_at key.Width settings;
-  h = number_at key.Height settings;
-  f = number_at key.Frames settings;
-}
-
 abbrev pub tile_plan : List Setting → TilePlan
 tile_plan settings = record {
   wrap = wrap_nth (nth_at key.Wrap settings);
@@ -69,7 +63,7 @@ tile_of settings = record {
   sample = text_of key.Sample settings;
   out = text_of key.Out settings;
   map = text_of key.Map settings;
-  size = tile_size settings;
+  size = size_of settings;
   plan = tile_plan settings;
   seed = number_at key.Seed settings;
 }
@@ -94,7 +88,7 @@ unless_narrow (Some axis) job = Err (Narrow axis)
 abbrev pub tile_job_of : List (List ℕ) → Result TileJob WordFault
 tile_job_of words =
     and_then (λ settings. unless_narrow
-    (narrow_axis (tile_plan settings).wrap (tile_size settings)) (tile_of settings))
+    (narrow_axis (tile_plan settings).wrap (size_of settings)) (tile_of settings))
     (all_settings tile_rows words)
 
 -- the names of a job of `tile`, in the order of their keys
@@ -122,9 +116,7 @@ pub record HasTileValues (settings : List Setting) : Type 0 where
   pub sample : IsNamed (value_at key.Sample settings)
   pub out : IsNamed (value_at key.Out settings)
   pub map : IsNamed (value_at key.Map settings)
-  pub width : IsGiven (Within 1 GREATEST_AXIS) key.Width settings
-  pub height : IsGiven (Within 1 GREATEST_AXIS) key.Height settings
-  pub frames : IsGiven (Within 1 GREATEST_AXIS) key.Frames settings
+  pub size : HasSize settings
   pub wrap : IsGiven (OneOf Wraps) key.Wrap settings
   pub side : IsGiven (Within 1 GREATEST_AXIS) key.Side settings
   pub overlap : IsGiven (Within 0 GREATEST_OVERLAP) key.Overlap settings

@@ -3,12 +3,14 @@ ghost use Rattle.std.specs.Prelude.{◌≡◌, ◌++◌, ◌∷◌, [], IfOk, On
 ghost use Rattle.job_words.specs.Words as by;
 ghost use Rattle.job_words.specs.Words.{IsNamed, IsNumeric, IsPosition};
 ghost use Rattle.job_words.specs.Names.{HasNames, more_keys, more_names, name_if_set, names_of};
+ghost use Rattle.job_words.specs.OutputSize.{HasSize, size_of};
 
 use crate::job::Names;
 use crate::keys::Key;
 use crate::name::{Name, Names16};
 use crate::settings::{Setting, Value, value_at};
 use crate::table::Choice;
+use cells::Size;
 use std::alloc::{AllocError, Global};
 
 /// The file name of a key.
@@ -31,6 +33,18 @@ pub fn number_at(settings: &[Setting], key: Key) -> u64
         unreachable!();
     };
     *number
+}
+
+/// The output's size in cells.
+pub fn size_at(settings: &[Setting]) -> Size
+    requires { HasSize settings.now }
+    ensures { result ≡ size_of settings.now }
+{
+    Size {
+        w: number_at(settings, Key::Width) as u32,
+        h: number_at(settings, Key::Height) as u32,
+        f: number_at(settings, Key::Frames) as u32,
+    }
 }
 
 /// The position of the text of a key in its list.

@@ -1,9 +1,9 @@
 // The words of `grow`.
 ghost use Rattle.std.specs.Prelude.{◌≡◌, ◌<◌, IfOk};
 ghost use Rattle.job_words.specs.Words as by;
-ghost use Rattle.job_words.specs.GrowWords.{HasGrowValues, IsGrowJob, grow_job_of, grow_of, grow_rows, grow_size, place_nth};
+ghost use Rattle.job_words.specs.GrowWords.{HasGrowValues, IsGrowJob, grow_job_of, grow_of, grow_rows, place_nth};
 
-use crate::fields::{names_at, nth_at, number_at};
+use crate::fields::{names_at, nth_at, number_at, size_at};
 use crate::job::{Names, WordFault};
 use crate::keys::Key;
 use crate::name::Name;
@@ -73,18 +73,6 @@ pub fn place_nth(n: usize) -> Place
     ensures { result ≡ place_nth n }
 {
     [Place::Grid, Place::Random, Place::Whole, Place::Sub][n]
-}
-
-// The output's size.
-fn size_at(settings: &[Setting]) -> Size
-    requires { HasGrowValues settings.now }
-    ensures { result ≡ grow_size settings.now }
-{
-    Size {
-        w: number_at(settings, Key::Width) as u32,
-        h: number_at(settings, Key::Height) as u32,
-        f: number_at(settings, Key::Frames) as u32,
-    }
 }
 
 // The job of the values of all keys.

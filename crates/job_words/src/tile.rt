@@ -1,9 +1,9 @@
 // The words of `tile`.
 ghost use Rattle.std.specs.Prelude.{◌≡◌, ◌<◌, IfOk};
 ghost use Rattle.job_words.specs.Words as by;
-ghost use Rattle.job_words.specs.TileWords.{HasTileValues, IsTileJob, is_narrow, narrow_axis, tile_job_of, tile_of, tile_plan, tile_rows, tile_size, unless_narrow, wrap_nth};
+ghost use Rattle.job_words.specs.TileWords.{HasTileValues, IsTileJob, is_narrow, narrow_axis, tile_job_of, tile_of, tile_plan, tile_rows, unless_narrow, wrap_nth};
 
-use crate::fields::{name_at, nth_at, number_at};
+use crate::fields::{name_at, nth_at, number_at, size_at};
 use crate::job::WordFault;
 use crate::keys::Key;
 use crate::name::Name;
@@ -85,18 +85,6 @@ fn wrap_nth(n: usize) -> Wrap
         x: [true, false, true, false, true][n],
         y: [false, true, true, false, true][n],
         f: [false, false, false, true, true][n],
-    }
-}
-
-// The output's size.
-fn size_at(settings: &[Setting]) -> Size
-    requires { HasTileValues settings.now }
-    ensures { result ≡ tile_size settings.now }
-{
-    Size {
-        w: number_at(settings, Key::Width) as u32,
-        h: number_at(settings, Key::Height) as u32,
-        f: number_at(settings, Key::Frames) as u32,
     }
 }
 

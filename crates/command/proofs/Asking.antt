@@ -1,5 +1,5 @@
 -- The names of the files of a run, of which some are among others.
-use Rattle.std.proofs.Common.{◌≡◌, ℕ, zero, suc, List, [], ◌∷◌, ◌++◌, refl, sym, ap, ◌∙◌, subst, Bool, true, false, nat_eq}
+use Rattle.std.proofs.Common.{◌≡◌, ℕ, zero, suc, ◌+◌, List, [], ◌∷◌, ◌++◌, refl, sym, ap, ◌∙◌, subst, arith, Bool, true, false, nat_eq}
 use Rattle.std.proofs.Math.Bool.{◌||◌}
 use Rattle.std.proofs.lemmas.Cmp.{nat_list_eq_equiv}
 use Rattle.std.specs.Prelude.{Some, slice_get}
@@ -33,12 +33,18 @@ turn_of (file ∷ files) name is = by (pointwise nat_eq name file.name) refl (λ
         let its = later (ap (λ (b : Bool). b || is_one_of (names_in files) name) here ∙ is) in
         (suc its.0, its.1, its.2)
 
--- files that have turns among more have their names among those
+-- files that have turns among more, from one of those on, have their names among them
+pub turns_among_from : (files more : List NamedFile) (from : ℕ) → ((turn : ℕ) (part : FileOf) (name : List ℕ) → HasTurn files turn part name → HasTurn more (from + turn) part name)
+    → AreAmong (names_in files) (names_in more)
+turns_among_from files more from turns call is =
+    let its : HasATurn files call = turn_of files call is in
+    turn_among more (from + its.0) its.1 call (turns its.0 its.1 call its.2) call (ap (λ (b : Bool). b || false) (nat_list_eq_equiv.refl call))
+
+-- from the first on
 pub turns_among : (files more : List NamedFile) → ((turn : ℕ) (part : FileOf) (name : List ℕ) → HasTurn files turn part name → HasTurn more turn part name)
     → AreAmong (names_in files) (names_in more)
-turns_among files more turns call is =
-    let its : HasATurn files call = turn_of files call is in
-    turn_among more its.0 its.1 call (turns its.0 its.1 call its.2) call (ap (λ (b : Bool). b || false) (nat_list_eq_equiv.refl call))
+turns_among files more turns =
+    turns_among_from files more 0 (λ turn part name has. let e : turn ≡ 0 + turn = omega arith in subst (λ n. HasTurn more n part name) e (turns turn part name has))
 
 -- the names of texts of two groups
 text_names-append : (first second : List FileText) → text_names (first ++ second) ≡ text_names first ++ text_names second

@@ -1,6 +1,6 @@
 -- The faults of files that weren't read. To be trusted: contracts cite these words. (Own.)
-use Rattle.std.specs.Prelude.{◌≡◌, ℕ, List}
-use Rattle.shelf_core.specs.Files.{ShelfState, Changes, Rose, content_of}
+use Rattle.std.specs.Prelude.{◌≡◌, ℕ, List, Result, Ok, Err}
+use Rattle.shelf_core.specs.Files.{ShelfState, Changes, InFile, Rose, content_of}
 use Rattle.shelf_core.specs.declared.fault.FormFault.{FormFault}
 use Rattle.shelf_core.specs.declared.fault.What.{What}
 use Rattle.shelf_core.specs.declared.fault.ReadError.{ReadError}
@@ -36,3 +36,16 @@ FailsToRead Refuses name was now error.ReadFault = Rose (was.reads name) (now.re
 FailsToRead Refuses name was now error.NoMemory = Unit {0}
 FailsToRead Refuses name was now refusal =
     Changes was now (λ before after. Refuses (content_of before name) refusal)
+
+-- a file of this part isn't read, and the fault says why
+pub record IsNotRead (Refuses : List ℕ → ReadError → Type 0) (part : FileOf) (name : List ℕ)
+    (was now : ShelfState) (fault : Fault) : Type 0 where
+  pub error : ReadError
+  pub fails : FailsToRead Refuses name was now error
+  pub is : fault ≡ fault_of_read part error
+
+-- what a reader of a file of this part answers, by what its bytes are and what is refused of them
+abbrev pub ReadsPart : {T : Type 0} → (List ℕ → T → Type 0) → (List ℕ → ReadError → Type 0)
+    → FileOf → List ℕ → ShelfState → ShelfState → Result T Fault → Type 0
+ReadsPart Is Refuses part name was now (Ok value) = InFile name was now (λ bytes. Is bytes value)
+ReadsPart Is Refuses part name was now (Err fault) = IsNotRead Refuses part name was now fault

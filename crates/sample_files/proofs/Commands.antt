@@ -3,18 +3,23 @@ use Rattle.std.proofs.Common.{◌≡◌, ℕ, suc, ◌+◌, ◌≤◌, List, [],
 use Rattle.std.specs.Prelude.{Err}
 use Rattle.std.proofs.lemmas.Option.{slice_get_within}
 use Rattle.limits.specs.declared.bounds.TheConstants.{MOST_SAMPLE_CELLS}
-use Rattle.cells.specs.Cells.{Cells}
+use Rattle.cells.specs.Cells.{Cells, IsOnePart, count_of}
 use Rattle.cells.specs.PartLists.{parts_of}
-use Rattle.shelf_core.specs.Files.{Files, ShelfState, content_of}
+use Rattle.shelf_core.specs.Files.{Files, OnlyReads, ShelfState, content_of}
 use Rattle.shelf_core.proofs.FileLaws.{told_weaker}
 use Rattle.synth_report.specs.declared.fault.FileOf.{FileOf}
 use Rattle.synth_report.specs.declared.fault.Fault.{Fault}
 use Rattle.synth_report.specs.declared.fault.Fault.TheVariants.{Words, Form as FormFault, Unlike, Mark, Limit, Read, Write, NoMemory, NoLoop}
-use Rattle.command.specs.Commands.{Command, HasTurn, named}
+use Rattle.command.specs.Commands.{Command, HasTurn, NamedFile, named, names_in}
 use Rattle.command.specs.Outcomes.{AreRefused, NoneRefused, NotMade}
+use Rattle.command.specs.Stages.{Stages}
+use Rattle.command.specs.Stages.Stages.{read}
+use Rattle.command.proofs.Staging.{IsOneReader}
+use Rattle.command.proofs.Planning.{StandsBefore, not_read_on}
 use Rattle.sample_files.specs.declared.several.Samples.{Samples}
 use Rattle.sample_files.specs.Samples.{StandsAs}
 use Rattle.sample_files.specs.Several.{StandForSamples, MayRefuseSamples, NoSampleRefused, RefusesSamples, SamplesAreRefused, SamplesReadAs, StandForParts, contents, numbered_files, sample_files}
+use Rattle.sample_files.proofs.OneAnswer.{not_both, one_value, refused_once}
 use Rattle.sample_files.proofs.OneSample.{stands_alone}
 use Rattle.sample_files.proofs.Joined.{parts_alone, same_parts}
 
@@ -56,6 +61,22 @@ module _ (c : Command) (first : List ℕ) (more : List (List ℕ))
   samples_not_made (Words fault) left = absurd left.known
   samples_not_made (Write part) left = absurd left.known
 
+-- the stage that reads the samples has one answer
+pub samples_are_one : (first : List ℕ) (more : List (List ℕ)) (files : Files)
+    → IsOneReader (λ files samples. StandForSamples (content_of files first) (contents files more) samples) (λ n files fault. RefusesSamples n (content_of files first) (contents files more) fault) files
+samples_are_one first more files = record {
+  one_value = one_value (content_of files first) (contents files more);
+  not_both = not_both (content_of files first) (contents files more);
+  one_refusal = refused_once (content_of files first) (contents files more);
+}
+
+-- where they aren't read the command of that stage ends so
+pub samples_not_read : {c : Command} {a b d : ShelfState} {turn : ℕ} {V : Type 0} {others : List NamedFile} {Stand : Files → V → Type 0} {next : V → Stages others} (first : List ℕ) (more : List (List ℕ))
+    → StandsBefore c a b turn (read (sample_files first more) Stand (λ n files fault. RefusesSamples n (content_of files first) (contents files more) fault) next) → OnlyReads (names_in (sample_files first more)) b d
+    → ((fault : Fault) → MayRefuseSamples (length more + 1) fault → c.MayRefuse fault) → (fault : Fault) → SamplesReadAs first more b d (Err fault) → NotMade c a d fault
+samples_not_read {c = c} {b = b} {d = d} first more at reads known fault left =
+    not_read_on (sample_files first more) at reads c.Takes c.Makes fault (samples_not_made _ first more (λ turn part name has. has) known (λ files n its refused. refused) (λ files n its le refused. refused) b d fault left)
+
 -- the samples of one file are the sample of that file
 pub one_file : (first : List ℕ) (samples : Samples) → StandForSamples first [] samples → StandsAs first samples.form samples.volume
 one_file first samples a = by (parts_of samples.volume) refl a.parts
@@ -66,3 +87,12 @@ one_file first samples a = by (parts_of samples.volume) refl a.parts
         let same : samples.volume ≡ p = same_parts samples.volume p (is ∙ sym (parts_alone p (stands_alone MOST_SAMPLE_CELLS first samples.form p stand.0))) in
         subst (StandsAs first samples.form) (sym same) stand.0
     by (p ∷ q ∷ parts) is stand = absurd stand.1
+
+-- and what one file stands for are the samples of that file
+pub alone : (files : Files) (first : List ℕ) (more : List (List ℕ)) (samples : Samples) → more ≡ [] → StandsAs (content_of files first) samples.form samples.volume → IsOnePart samples.volume → count_of samples.volume ≤ MOST_SAMPLE_CELLS
+    → StandForSamples (content_of files first) (contents files more) samples
+alone files first more samples none stands one fits = record {
+  parts = subst (λ names. StandForParts samples.form (content_of files first) (contents files names) (parts_of samples.volume)) (sym none)
+      (subst (StandForParts samples.form (content_of files first) []) (sym (parts_alone samples.volume one)) (stands, tt));
+  fits = fits;
+}

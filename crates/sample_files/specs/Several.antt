@@ -1,6 +1,6 @@
 -- The samples of a run: which files stand for them, and which are refused, in the order of their
 -- numbers. To be trusted: contracts cite these words. (Own.)
-use Rattle.std.specs.Prelude.{◌≡◌, ◌≤◌, ◌<◌, ◌⊎◌, ◌+◌, ℕ, suc, true, false, List, [], ◌∷◌, length, map, take, slice_get, Some, Result, Ok, Err}
+use Rattle.std.specs.Prelude.{◌≡◌, ◌≤◌, ◌<◌, ◌⊎◌, ◌+◌, ◌++◌, ℕ, suc, true, false, List, [], ◌∷◌, length, map, take, slice_get, Some, Result, Ok, Err}
 use Rattle.cells.specs.Cells.{Cells, count_of}
 use Rattle.cells.specs.PartLists.{parts_of}
 use Rattle.shelf_core.specs.Files.{Files, ShelfState, Changes, Rose, content_of}
@@ -11,6 +11,8 @@ use Rattle.synth_report.specs.declared.fault.Fault.{Fault}
 use Rattle.synth_report.specs.declared.fault.Fault.TheVariants.{Form as FormFault, Unlike, Limit, Read, NoMemory}
 use Rattle.command.specs.Commands.{NamedFile, HasTurn, named}
 use Rattle.command.specs.Faults.{ReaderRefuses}
+use Rattle.command.specs.Stages.{Stages}
+use Rattle.command.specs.Stages.Stages.{read}
 use Rattle.sample_files.specs.declared.form.Form.{Form}
 use Rattle.sample_files.specs.declared.sample.Sample.{Sample}
 use Rattle.sample_files.specs.declared.several.Samples.{Samples}
@@ -119,6 +121,14 @@ MayRefuseSamples n (FormFault its why) = IsSamplePart n its
 MayRefuseSamples n (Unlike its) = IsSamplePart n its
 MayRefuseSamples n (Limit what number bound) = Unit {0}
 MayRefuseSamples n fault = ⊥
+
+-- the samples are read, and the stages go on with them
+abbrev pub read_samples : {others : List NamedFile} → (first : List ℕ) (more : List (List ℕ))
+    → (Samples → Stages others) → Stages (sample_files first more ++ others)
+read_samples first more next =
+    read (sample_files first more)
+    (λ files samples. StandForSamples (content_of files first) (contents files more) samples)
+    (λ n files fault. RefusesSamples n (content_of files first) (contents files more) fault) next
 
 -- What a reader of them answers.
 

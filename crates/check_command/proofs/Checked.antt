@@ -1,5 +1,5 @@
 -- What `check` made of files, by its status.
-use Rattle.std.proofs.Common.{◌≡◌, ℕ, List, [], refl, sym, ap, ◌∙◌, subst, arith}
+use Rattle.std.proofs.Common.{◌≡◌, ℕ, List, [], sym, ap, ◌∙◌, subst, arith}
 use Rattle.shelf_core.specs.Files.{Files, ShelfState, SinkState, Changes}
 use Rattle.shelf_core.specs.Written.{written}
 use Rattle.shelf_core.proofs.FileLaws.{told_weaker}
@@ -16,7 +16,8 @@ use Rattle.standing_files.specs.Standing.{IsVerdict, map_output}
 use Rattle.standing_files.proofs.Least.{records_least}
 use Rattle.check_command.specs.declared.reading.ReadFiles.{ReadFiles}
 use Rattle.check_command.specs.CheckHeadlines.{HaveLeastRecords}
-use Rattle.check_command.specs.Checks.{AreRunFiles, Break, IsCheckSummary, MakesVerdict, Stand, check_command, summary_of}
+use Rattle.check_command.specs.Checks.{AreRunFiles, Break, IsCheckSummary, Stand, check_command, summary_of}
+use Rattle.check_command.proofs.Staged.{IsJudged, judged_of, made_of}
 
 -- it writes no file
 unchanged : (job : CheckJob) (texts : List (List ℕ)) (before after : Files) → after ≡ written (Rattle.command.specs.Writing.pieces (check_command job).writes texts) before → after ≡ before
@@ -25,11 +26,14 @@ unchanged job texts before after wrote = wrote
 module _ (job : CheckJob) (said : Summary) where
   -- with status 0 the files stand
   pub stood : summary_status said ≡ 0 → (before after : Files) → WritesAll (check_command job) said before after → (after ≡ before) × Stand job.names before
-  stood zero before after (texts, makes, wrote) = (unchanged job texts before after wrote, by makes.verdict makes.judged makes.summary_is)
+  stood zero before after (texts, makes, wrote) = (unchanged job texts before after wrote, by (judged_of job.names before texts said makes))
     where
-      by : (verdict : Verdict) → IsVerdict makes.values.samples makes.values.out makes.values.map makes.values.record_file verdict → said ≡ summary_of verdict → Stand job.names before
-      by Stands judged is = record { values = makes.values; read = makes.read; stand = judged }
-      by (Fails number rule place) judged is = let one : summary_status said ≡ 1 = ap summary_status is in absurd (omega (arith, zero, one))
+      by : IsJudged job.names before said → Stand job.names before
+      by its = so its.verdict its.judged its.summary_is
+        where
+          so : (verdict : Verdict) → IsVerdict its.values.samples its.values.out its.values.map its.values.record_file verdict → said ≡ summary_of verdict → Stand job.names before
+          so Stands judged is = record { values = its.values; read = its.are; stand = judged }
+          so (Fails number rule place) judged is = let one : summary_status said ≡ 1 = ap summary_status is in absurd (omega (arith, zero, one))
 
   abbrev Broke : Files → Files → Verdict → Type 0
   Broke before after (Fails number rule place) = (after ≡ before) × Break job.names before number rule place
@@ -59,15 +63,17 @@ module _ (job : CheckJob) (said : Summary) where
               }
 
           files_broken : (before after : Files) → WritesAll (check_command job) said before after → (after ≡ before) × Break job.names before number rule place
-          files_broken before after (texts, makes, wrote) = (unchanged job texts before after wrote, judged_so before makes.values makes.read makes.verdict makes.judged (sym is ∙ makes.summary_is))
+          files_broken before after (texts, makes, wrote) =
+              let its = judged_of job.names before texts said makes in
+              (unchanged job texts before after wrote, judged_so before its.values its.are its.verdict its.judged (sym is ∙ its.summary_is))
 
 -- and are least
 pub least_records : (names : Names) (files : Files) → Stand names files → HaveLeastRecords names files
 least_records names files s = record { values = s.values; read = s.read; least = records_least s.values.samples.volume (map_output s.values.map) s.values.record_file s.stand.records }
 
 -- and where they do, this is made of them
-pub made_standing : (job : CheckJob) (files : Files) → Stand job.names files → MakesVerdict job.names files [] (summary_of Stands)
-made_standing job files s = record { values = s.values; read = s.read; verdict = Stands; judged = s.stand; texts_are = refl; summary_is = refl }
+pub made_standing : (job : CheckJob) (files : Files) → Stand job.names files → (check_command job).Makes files [] (summary_of Stands)
+made_standing job files s = made_of job.names files s.values s.read Stands s.stand
 
-pub made_breaking : (job : CheckJob) (files : Files) (number rule place : ℕ) → Break job.names files number rule place → MakesVerdict job.names files [] (summary_of (Fails number rule place))
-made_breaking job files number rule place b = record { values = b.values; read = b.read; verdict = Fails number rule place; judged = b.broken; texts_are = refl; summary_is = refl }
+pub made_breaking : (job : CheckJob) (files : Files) (number rule place : ℕ) → Break job.names files number rule place → (check_command job).Makes files [] (summary_of (Fails number rule place))
+made_breaking job files number rule place b = made_of job.names files b.values b.read (Fails number rule place) b.broken

@@ -1,5 +1,2 @@
-pub mod Turns
-pub mod Values
-pub mod NotRead
-pub mod OneAnswer
+pub mod Staged
 pub mod Checked

@@ -1,6 +1,6 @@
 -- `check` as a command: what it reads and refuses, and what it says of the files. To be trusted:
 -- contracts cite these words. (Own.)
-use Rattle.std.specs.Prelude.{◌≡◌, ◌⊎◌, ◌+◌, ◌++◌, ℕ, List, [], ◌∷◌, length, Ok, Err}
+use Rattle.std.specs.Prelude.{◌≡◌, ◌+◌, ◌++◌, ℕ, List, [], ◌∷◌, length, Ok, Err}
 use Rattle.shelf_core.specs.Files.{Files, content_of}
 use Rattle.shelf_core.specs.declared.fault.ReadError.{ReadError}
 use Rattle.source_map.specs.declared.map_file.MapFile.{MapFile}
@@ -14,10 +14,12 @@ use Rattle.synth_report.specs.declared.fault.FileOf.TheVariants as part
 use Rattle.synth_report.specs.declared.summary.Summary.{Summary}
 use Rattle.synth_report.specs.declared.summary.Summary.TheVariants as summary
 use Rattle.command.specs.Commands.{Command, named}
-use Rattle.command.specs.Faults.{ReaderRefuses}
+use Rattle.command.specs.Stages.{Stages, of_stages, read_file}
+use Rattle.command.specs.Stages.Stages.{make}
 use Rattle.sample_files.specs.declared.sample.Sample.{Sample}
+use Rattle.sample_files.specs.declared.several.Samples.{Samples}
 use Rattle.sample_files.specs.Samples.{IsSampleWithin, RefusesWithin}
-use Rattle.sample_files.specs.Several.{StandForSamples, MayRefuseSamples, RefusesSamples, contents, sample_files}
+use Rattle.sample_files.specs.Several.{StandForSamples, MayRefuseSamples, contents, read_samples, sample_files}
 use Rattle.standing_files.specs.declared.verdict.Verdict.{Verdict}
 use Rattle.standing_files.specs.declared.verdict.Verdict.TheVariants.{Stands, Fails}
 use Rattle.standing_files.specs.Standing.{FilesStand, IsFirstBrokenRule, IsVerdict}
@@ -60,45 +62,6 @@ pub record Break (names : Names) (files : Files) (number rule place : ℕ) : Typ
   pub broken :
       IsFirstBrokenRule values.samples values.out values.map values.record_file number rule place
 
--- The refusals of the files, in the order of reading.
-
-abbrev pub HaveSamples : Names → Files → Type 0
-HaveSamples names files =
-    (samples : _) × StandForSamples (content_of files names.sample) (contents files names.more)
-    samples
-
-abbrev pub HaveOut : Names → Files → Type 0
-HaveOut names files =
-    HaveSamples names files × ((out : _) × IsOut (content_of files names.out) out)
-
-abbrev pub HaveMap : Names → Files → Type 0
-HaveMap names files = HaveOut names files × ((m : _) × IsReadMap (content_of files names.map) m)
-
--- the file of this turn is read after those before it, which are in their forms, and is refused
-pub record RefusesOut (names : Names) (files : Files) (n : ℕ) (fault : Fault) : Type 0 where
-  pub turn : n ≡ length names.more + 2
-  pub before : HaveSamples names files
-  pub refused : ReaderRefuses RefusesOutBytes part.Out (content_of files names.out) fault
-
-pub record RefusesMapFile (names : Names) (files : Files) (n : ℕ) (fault : Fault) : Type 0 where
-  pub turn : n ≡ length names.more + 3
-  pub before : HaveOut names files
-  pub refused : ReaderRefuses RefusesMap part.Map (content_of files names.map) fault
-
-pub record RefusesRecord (names : Names) (files : Files) (n : ℕ) (fault : Fault) : Type 0 where
-  pub turn : n ≡ length names.more + 4
-  pub before : HaveMap names files
-  pub refused : ReaderRefuses RefusesRecordFile part.Record
-      (content_of files names.record_file) fault
-
--- the refusals of the files, once so many are read: those of the samples, then those of the out
--- file, of the map file and of the record file
-abbrev pub RefusesFiles : Names → ℕ → Files → Fault → Type 0
-RefusesFiles names n files fault =
-    RefusesSamples n (content_of files names.sample) (contents files names.more) fault
-    ⊎ (RefusesOut names files n fault
-    ⊎ (RefusesMapFile names files n fault ⊎ RefusesRecord names files n fault))
-
 -- the faults that the files of a run with so many samples are ever refused for
 abbrev pub MayRefuseFiles : ℕ → Fault → Type 0
 MayRefuseFiles n (Form part.Out why) = Unit {0}
@@ -116,25 +79,21 @@ summary_of (Fails number rule place) = summary.Fails number rule place
 abbrev pub IsCheckSummary : Summary → Type 0
 IsCheckSummary summary = (verdict : Verdict) × (summary ≡ summary_of verdict)
 
--- the verdict on the files, and no text
-pub record MakesVerdict (names : Names) (files : Files) (texts : List (List ℕ)) (summary : Summary)
-    : Type 0 where
-  pub values : ReadFiles
-  pub read : AreRunFiles names files values
-  pub verdict : Verdict
-  pub judged : IsVerdict values.samples values.out values.map values.record_file verdict
-  pub texts_are : texts ≡ []
-  pub summary_is : summary ≡ summary_of verdict
+-- over samples, the out file is read, then the map file and the record file, and they are judged
+abbrev pub stages_over : (names : Names) → Samples → Stages (named part.Out names.out
+    ∷ named part.Map names.map ∷ named part.Record names.record_file ∷ [])
+stages_over names samples =
+    read_file part.Out names.out IsOut RefusesOutBytes (λ out.
+    read_file part.Map names.map IsReadMap RefusesMap (λ map_file.
+    read_file part.Record names.record_file IsRecordFileOf RefusesRecordFile (λ record_file.
+    make (IsVerdict samples out map_file record_file) (λ verdict. []) summary_of)))
+
+-- and the samples are read first
+abbrev pub check_stages : (names : Names) → Stages (sample_files names.sample names.more
+    ++ named part.Out names.out ∷ named part.Map names.map
+    ∷ named part.Record names.record_file ∷ [])
+check_stages names = read_samples names.sample names.more (λ samples. stages_over names samples)
 
 abbrev pub check_command : CheckJob → Command
-check_command job = record {
-  reads = sample_files job.names.sample job.names.more
-      ++ named part.Out job.names.out ∷ named part.Map job.names.map
-      ∷ named part.Record job.names.record_file ∷ [];
-  writes = [];
-  Takes = λ files. (values : ReadFiles) × AreRunFiles job.names files values;
-  Refuses = RefusesFiles job.names;
-  Makes = MakesVerdict job.names;
-  MayRefuse = MayRefuseFiles (length job.names.more + 1);
-  MayMake = IsCheckSummary;
-}
+check_command job = of_stages (check_stages job.names) []
+    (MayRefuseFiles (length job.names.more + 1)) IsCheckSummary

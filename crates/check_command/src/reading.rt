@@ -7,7 +7,7 @@ ghost use Rattle.synth_report.specs.declared.fault.FileOf.TheVariants as part;
 ghost use Rattle.command.specs.Commands.{names_in};
 ghost use Rattle.command.specs.Outcomes.{NotMade};
 ghost use Rattle.check_command.specs.Checks.{AreRunFiles, IsReadMap, IsOut, RefusesMap, RefusesOutBytes, check_command};
-ghost use Rattle.check_command.specs.Readings.{ReadsPart};
+ghost use Rattle.command.specs.Faults.{ReadsPart};
 
 use cert_file::{RecordFile, read_record_file};
 use command::read_fault;

@@ -26,7 +26,7 @@ use Rattle.job_words.specs.UpgradeWords.{IsUpgradeJob, upgrade_names}
 use Rattle.synth_report.specs.declared.summary.Summary.{Summary}
 use Rattle.synth_report.specs.declared.summary.Summary.TheVariants.{Upgrade}
 use Rattle.command.specs.Outcomes.{WritesAll}
-use Rattle.command.specs.Writing.{Reported, pieces}
+use Rattle.command.specs.Writing.{Reported, pieces, texts_in}
 use Rattle.standing_files.specs.declared.verdict.Verdict.{Verdict}
 use Rattle.standing_files.specs.declared.verdict.Verdict.TheVariants.{Stands, Fails}
 use Rattle.standing_files.specs.Standing.{IsVerdict}
@@ -34,7 +34,7 @@ use Rattle.standing_files.proofs.Versions.{any_versions}
 use Rattle.check_command.specs.declared.reading.ReadFiles.{ReadFiles}
 use Rattle.check_command.specs.Checks.{AreRunFiles, Break, Stand}
 use Rattle.upgrade_command.specs.declared.pair.Pair.{Pair}
-use Rattle.upgrade_command.specs.Upgrades.{IsUpgradeSummary, MakesPair, in_version_two, upgrade_command}
+use Rattle.upgrade_command.specs.Upgrades.{AreFirstCuts, IsFirstMap, IsSoundPair, IsUpgradeSummary, in_version_two, pair_files, pair_summary, upgrade_command}
 use Rattle.upgrade_command.specs.Upgraded.{HaveOneVerdict, IsUpgraded, with_pair}
 use Rattle.upgrade_command.proofs.Ready.{cuts_read_again, map_again}
 
@@ -69,10 +69,9 @@ one_size (size ∷ next ∷ more) e = absurd (omega (arith, e))
 
 -- What is written.
 
-module _ (job : UpgradeJob) (lawful : IsUpgradeJob job) (before after : Files) (texts : List (List ℕ)) (said : Summary) (makes : MakesPair job before texts said) (wrote : after ≡ written (pieces (upgrade_command job).writes texts) before) where
-  abbrev pair : Pair
-  pair = makes.pair
-
+module _ (job : UpgradeJob) (lawful : IsUpgradeJob job) (before after : Files) (pair : Pair) (sound : IsSoundPair pair)
+    (map_is : IsFirstMap (content_of before job.map) (CellMap pair.map pair.samples One)) (cuts_are : AreFirstCuts (content_of before job.record_file) (Cuts pair.head pair.cuts))
+    (whole : after ≡ written (pieces (upgrade_command job).writes (texts_in (pair_files job pair))) before) where
   abbrev map_text : List ℕ
   map_text = cell_map_form pair.map pair.samples Two
 
@@ -81,9 +80,6 @@ module _ (job : UpgradeJob) (lawful : IsUpgradeJob job) (before after : Files) (
 
   abbrev with_map : Files
   with_map = insert before job.new_map map_text
-
-  whole : after ≡ insert with_map job.new_record_file cuts_text
-  whole = wrote ∙ ap (λ ts. written (pieces (upgrade_command job).writes ts) before) makes.texts_are
 
   apart : (i j : ℕ) → i < j → j < 4 → get_or (upgrade_names job) i [] ≢ get_or (upgrade_names job) j []
   apart i j lt below = lawful.names.apart i j [] lt (omega (arith, below))
@@ -116,16 +112,16 @@ module _ (job : UpgradeJob) (lawful : IsUpgradeJob job) (before after : Files) (
   new_record_file = ap (λ files. content_of files job.new_record_file) whole ∙ content_inserted with_map job.new_record_file cuts_text
 
   old_map_read : map_read (content_of before job.map) ≡ Ok (CellMap pair.map pair.samples One)
-  old_map_read = maps.version_one_is_read (content_of before job.map) (CellMap pair.map pair.samples One) makes.held.map_is
+  old_map_read = maps.version_one_is_read (content_of before job.map) (CellMap pair.map pair.samples One) map_is
 
   new_map_read : map_read (content_of after job.new_map) ≡ Ok (CellMap pair.map pair.samples Two)
-  new_map_read = ap map_read new_map ∙ map_again pair makes.sound
+  new_map_read = ap map_read new_map ∙ map_again pair sound
 
   old_cuts : IsRecordFileOf (content_of before job.record_file) (Cuts pair.head pair.cuts) × AreVersionOneCuts (Cuts pair.head pair.cuts)
-  old_cuts = records.version_one_is_read (content_of before job.record_file) (Cuts pair.head pair.cuts) makes.held.cuts_are
+  old_cuts = records.version_one_is_read (content_of before job.record_file) (Cuts pair.head pair.cuts) cuts_are
 
   new_cuts_read : IsRecordFileOf (content_of after job.new_record_file) (Cuts (in_version_two pair.head) pair.cuts)
-  new_cuts_read = ap record_file_read new_record_file ∙ cuts_read_again pair makes.sound
+  new_cuts_read = ap record_file_read new_record_file ∙ cuts_read_again pair sound
 
   old_map_stays : map_read (content_of after job.map) ≡ Ok (CellMap pair.map pair.samples One)
   old_map_stays = ap map_read (as_before job.map map_not_map map_not_record_file) ∙ old_map_read
@@ -141,10 +137,10 @@ module _ (job : UpgradeJob) (lawful : IsUpgradeJob job) (before after : Files) (
     broken = breaks_too after job.new_map job.new_record_file job.map job.record_file pair.map pair.samples Two One (in_version_two pair.head) pair.head.version pair.cuts new_map_read old_map_stays new_cuts_read old_cuts_stay;
   }
 
-  pair_upgraded : (cells count : ℕ) → said ≡ Upgrade cells count → IsUpgraded job cells count before after
+  pair_upgraded : (cells count : ℕ) → Upgrade cells count ≡ pair_summary pair → IsUpgraded job cells count before after
   pair_upgraded cells count is =
-      let one = one_size pair.samples (makes.sound.map_is.1.samples_are.one refl) in
-      let numbers : Upgrade cells count ≡ Upgrade _ _ = sym is ∙ makes.summary_is in
+      let one = one_size pair.samples (sound.map_is.1.samples_are.one refl) in
+      let numbers : Upgrade cells count ≡ Upgrade _ _ = is in
       record {
         map = pair.map;
         sample = one.0;
@@ -165,7 +161,9 @@ module _ (job : UpgradeJob) (lawful : IsUpgradeJob job) (before after : Files) (
       }
 
 pub upgraded : (job : UpgradeJob) → IsUpgradeJob job → (cells count : ℕ) (before after : Files) → WritesAll (upgrade_command job) (Upgrade cells count) before after → IsUpgraded job cells count before after
-upgraded job lawful cells count before after (texts, makes, wrote) = pair_upgraded job lawful before after texts (Upgrade cells count) makes wrote cells count refl
+upgraded job lawful cells count before after (texts, (map_file, of_map, (record_file, of_record_file, (pair, is, texts_are, summary_is))), wrote) =
+    pair_upgraded job lawful before after pair is.sound (subst (IsFirstMap (content_of before job.map)) is.map_is of_map) (subst (AreFirstCuts (content_of before job.record_file)) is.cuts_are of_record_file)
+    (wrote ∙ ap (λ ts. written (pieces (upgrade_command job).writes ts) before) texts_are) cells count summary_is
 
 -- of a run that is finished, by what its summary may be
 pub finished : (job : UpgradeJob) → IsUpgradeJob job → (said : Summary) → IsUpgradeSummary said → (was now : ShelfState) (out out' : SinkState) → Changes was now (WritesAll (upgrade_command job) said) → Reported said out out'

@@ -1,4 +1,3 @@
 pub mod Reading
-pub mod OneAnswer
 pub mod Ready
 pub mod Headline

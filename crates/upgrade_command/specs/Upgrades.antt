@@ -1,8 +1,7 @@
 -- `upgrade` as a command: what it reads and refuses, and what it writes. To be trusted: contracts
 -- cite these words. (Own.)
-use Rattle.std.specs.Prelude.{◌≡◌, ◌⊎◌, ℕ, List, [], ◌∷◌, length, All, Ok, Err}
+use Rattle.std.specs.Prelude.{◌≡◌, ℕ, List, [], ◌∷◌, length, All, Ok, Err}
 use Rattle.cells.specs.Places.{cell_count}
-use Rattle.shelf_core.specs.Files.{Files, content_of}
 use Rattle.shelf_core.specs.declared.fault.ReadError.{ReadError}
 use Rattle.source_map.specs.declared.head.Head.{Head}
 use Rattle.source_map.specs.declared.head.Version.TheVariants.{One, Two}
@@ -20,8 +19,9 @@ use Rattle.synth_report.specs.declared.fault.FileOf.TheVariants as part
 use Rattle.synth_report.specs.declared.summary.Summary.{Summary}
 use Rattle.synth_report.specs.declared.summary.Summary.TheVariants.{Upgrade}
 use Rattle.command.specs.Commands.{Command, named}
-use Rattle.command.specs.Faults.{ReaderRefuses}
-use Rattle.command.specs.Writing.{FileText, file_text, texts_in}
+use Rattle.command.specs.Stages.{Stages, of_stages, read_file}
+use Rattle.command.specs.Stages.Stages.{make}
+use Rattle.command.specs.Writing.{FileText, file_text}
 use Rattle.upgrade_command.specs.declared.pair.Pair.{Pair}
 
 -- What the files are.
@@ -39,36 +39,17 @@ AreFirstCuts bytes file = version_one_cuts_read bytes ≡ Ok file
 abbrev pub RefusesFirstCuts : List ℕ → ReadError → Type 0
 RefusesFirstCuts bytes refusal = version_one_cuts_read bytes ≡ Err refusal
 
--- the map file and the record file of a job hold this pair. Whether it belongs together isn't asked
-pub record HoldPair (job : UpgradeJob) (files : Files) (pair : Pair) : Type 0 where
-  pub map_is : IsFirstMap (content_of files job.map) (CellMap pair.map pair.samples One)
-  pub cuts_are : AreFirstCuts (content_of files job.record_file) (Cuts pair.head pair.cuts)
-
 -- what the writers of both files ask for; flows have 16 bits as their type has them
 pub record IsSoundPair (pair : Pair) : Type 0 where
   pub map_is : IsMapFile (CellMap pair.map pair.samples One)
   pub cuts_are : AreCutsInLimits pair.head pair.cuts
   pub flows : All HasShortFlows pair.cuts
 
--- The refusals of the files, in the order of reading.
-
-abbrev pub HoldsFirstMap : UpgradeJob → Files → Type 0
-HoldsFirstMap job files = (m : MapFile) × IsFirstMap (content_of files job.map) m
-
--- the map file is read first, and is refused
-pub record RefusesMapOf (job : UpgradeJob) (files : Files) (n : ℕ) (fault : Fault) : Type 0 where
-  pub turn : n ≡ 1
-  pub refused : ReaderRefuses RefusesFirstMap part.Map (content_of files job.map) fault
-
--- the record file is read after a map that is in its form, and is refused
-pub record RefusesCutsOf (job : UpgradeJob) (files : Files) (n : ℕ) (fault : Fault) : Type 0 where
-  pub turn : n ≡ 2
-  pub before : HoldsFirstMap job files
-  pub refused : ReaderRefuses RefusesFirstCuts part.Record (content_of files job.record_file) fault
-
-abbrev pub RefusesPair : UpgradeJob → ℕ → Files → Fault → Type 0
-RefusesPair job n files fault =
-    RefusesMapOf job files n fault ⊎ RefusesCutsOf job files n fault
+-- the pair of a map and a record that are read, sound. Whether they belong together isn't asked
+pub record IsPairOf (map_file : MapFile) (record_file : RecordFile) (pair : Pair) : Type 0 where
+  pub map_is : map_file ≡ CellMap pair.map pair.samples One
+  pub cuts_are : record_file ≡ Cuts pair.head pair.cuts
+  pub sound : IsSoundPair pair
 
 -- the faults that a pair is ever refused for
 abbrev pub MayRefusePair : Fault → Type 0
@@ -93,26 +74,19 @@ pair_files job pair =
 abbrev pub pair_summary : Pair → Summary
 pair_summary pair = Upgrade (cell_count pair.map.size) (length pair.cuts)
 
--- the pair of the files, with its texts and its summary
-pub record MakesPair (job : UpgradeJob) (files : Files) (texts : List (List ℕ)) (summary : Summary)
-    : Type 0 where
-  pub pair : Pair
-  pub held : HoldPair job files pair
-  pub sound : IsSoundPair pair
-  pub texts_are : texts ≡ texts_in (pair_files job pair)
-  pub summary_is : summary ≡ pair_summary pair
+-- the map file is read, and then the record file, and their pair is made
+abbrev pub upgrade_stages : (job : UpgradeJob)
+    → Stages (named part.Map job.map ∷ named part.Record job.record_file ∷ [])
+upgrade_stages job =
+    read_file part.Map job.map IsFirstMap RefusesFirstMap (λ map_file.
+    read_file part.Record job.record_file AreFirstCuts RefusesFirstCuts (λ record_file.
+    make (IsPairOf map_file record_file) (pair_files job) pair_summary))
 
 -- the summaries of `upgrade`
 abbrev pub IsUpgradeSummary : Summary → Type 0
 IsUpgradeSummary summary = (cells : ℕ) × (cuts : ℕ) × (summary ≡ Upgrade cells cuts)
 
 abbrev pub upgrade_command : UpgradeJob → Command
-upgrade_command job = record {
-  reads = named part.Map job.map ∷ named part.Record job.record_file ∷ [];
-  writes = named part.NewMap job.new_map ∷ named part.NewRecord job.new_record_file ∷ [];
-  Takes = λ files. (pair : Pair) × HoldPair job files pair;
-  Refuses = RefusesPair job;
-  Makes = MakesPair job;
-  MayRefuse = MayRefusePair;
-  MayMake = IsUpgradeSummary;
-}
+upgrade_command job = of_stages (upgrade_stages job)
+    (named part.NewMap job.new_map ∷ named part.NewRecord job.new_record_file ∷ []) MayRefusePair
+    IsUpgradeSummary

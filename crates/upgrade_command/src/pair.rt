@@ -6,7 +6,7 @@ ghost use Rattle.source_map.specs.MapFiles.{IsMapFile, IsVersionOneMap};
 ghost use Rattle.cert_file.specs.declared.file.RecordFile.TheVariants.{Cuts};
 ghost use Rattle.cert_file.specs.RecordFiles.{AreCuts, IsRecordFile};
 ghost use Rattle.synth_report.specs.declared.fault.FileOf.TheVariants as part;
-ghost use Rattle.check_command.specs.Readings.{ReadsPart};
+ghost use Rattle.command.specs.Faults.{ReadsPart};
 ghost use Rattle.upgrade_command.specs.Upgrades.{AreFirstCuts, IsFirstMap, RefusesFirstCuts, RefusesFirstMap};
 
 use cells::Sizes;

@@ -1,5 +1,5 @@
 pub mod Ready
+pub mod Planning
 pub mod QuiltAccepted
 pub mod QuiltLaws
 pub mod OneQuiltOutputs
-pub mod Planning

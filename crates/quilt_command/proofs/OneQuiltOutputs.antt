@@ -58,4 +58,4 @@ module _ (job : QuiltJob) (lawful : IsQuiltJob job) (within : IsQuiltWithin job)
 pub one_quilt_output : (job : QuiltJob) → IsQuiltJob job → (summary : Summary) (before after : Files) → WritesAll (quilt_command job) summary before after
     → (earlier later : Files) → content_of earlier job.names.sample ≡ content_of before job.names.sample → IsQuiltedRun job earlier later → HaveSameQuilt job later after
 one_quilt_output job lawful summary before after wrote earlier later same other =
-    one_output job lawful wrote.1.quilt.within before after earlier later same (quilted_run job lawful summary before after wrote) other
+    one_output job lawful wrote.1.2.0 before after earlier later same (quilted_run job lawful summary before after wrote) other

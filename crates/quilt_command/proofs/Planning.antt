@@ -1,28 +1,47 @@
--- What `quilt` plans: from the reading of the picture to all that is to be written.
-use Rattle.std.proofs.Common.{◌≡◌, ℕ, ◌≤◌, ◌⊎◌, inl, inr, List, sym, subst, refl, arith}
+-- The stages of `quilt`: each has one answer, and what is planned goes by them.
+use Rattle.std.proofs.Common.{◌≡◌, ℕ, List, refl, subst}
 use Rattle.std.specs.Prelude.{Err}
-use Rattle.shelf_core.specs.Files.{Files, ShelfState, OnlyReads, Changes, content_of}
-use Rattle.shelf_core.proofs.FileLaws.{told_both, told_weaker}
-use Rattle.shelf_core.proofs.Sees.{sees_all}
+use Rattle.cells.specs.Cells.{IsVolume}
+use Rattle.cells.specs.Places.{cell_count}
+use Rattle.limits.specs.declared.bounds.TheConstants.{MOST_OUTPUT_CELLS}
+use Rattle.shelf_core.specs.Files.{Files, InFile, OnlyReadsFile, ShelfState, content_of}
 use Rattle.shelf_core.specs.declared.fault.ReadError.{ReadError}
 use Rattle.shelf_core.specs.declared.fault.ReadError.TheVariants.{Bad, Limit as ReadLimit, NoMemory as ReadMemory, ReadFault}
+use Rattle.shelf_core.specs.declared.fault.What.TheVariants.{Output}
 use Rattle.netpbm_p6.specs.declared.picture.Picture.{Picture}
 use Rattle.netpbm_p6.specs.Pictures.{IsRead, IsSound, ReadsAs, Refuses}
+use Rattle.netpbm_p6.proofs.OneReading as p6
+use Rattle.quilt.specs.Runs.{quilting}
+use Rattle.quilt_run.specs.declared.asked.Quilted.{Quilted}
 use Rattle.quilt_run.specs.declared.asked.QuiltError.{QuiltError}
 use Rattle.quilt_run.specs.declared.asked.QuiltError.TheVariants as error
 use Rattle.quilt_run.specs.Quilted.{CanBeQuilted, IsQuilt, IsQuiltFault}
+use Rattle.quilt_run.proofs.OneLimits.{ends_within, limits_are_one}
 use Rattle.job_words.specs.declared.quilt.QuiltJob.{QuiltJob}
 use Rattle.job_words.specs.QuiltWords.{IsQuiltJob}
 use Rattle.synth_report.specs.declared.fault.Fault.{Fault}
-use Rattle.synth_report.specs.declared.fault.Fault.TheVariants.{Limit}
 use Rattle.synth_report.specs.declared.fault.FileOf.TheVariants as part
 use Rattle.command.specs.Faults.{FailsToRead, fault_of_read}
-use Rattle.command.specs.Outcomes.{AreRefused, IsPlanned, NoneRefused, NotMade}
-use Rattle.command.proofs.Halves.{not_read}
-use Rattle.command.specs.Writing.{texts_in}
-use Rattle.quilt_command.specs.declared.plan.PictureQuilt.{PictureQuilt}
-use Rattle.quilt_command.specs.Quilts.{BlocksPass, IsQuiltWithin, QuiltPasses, RefusesQuilt, fault_of_quilting, quilt_command, quilt_files, quilt_run_of, quilt_size, quilt_summary}
+use Rattle.command.specs.Outcomes.{IsPlanned, NotMade}
+use Rattle.command.specs.Stages.{PassesBound}
+use Rattle.command.proofs.Staging.{AreOne, ReadsOne, bound_is_one, file_is_one, passing_is_one}
+use Rattle.command.proofs.Planning.{StandsBefore, begin, file_not_read, limit_passed, not_passed, pass_on, plan_made, file_read}
+use Rattle.sample_files.proofs.Sound.{read_is_volume}
+use Rattle.quilt_command.specs.Quilts.{IsQuiltSummary, IsQuiltWithin, MayRefuseQuilt, fault_of_quilting, quilt_command, quilt_files, quilt_of, quilt_over, quilt_run_of, quilt_size, quilt_stages, quilt_summary}
 use Rattle.quilt_command.proofs.Ready.{small_quilt}
+
+picture_is_one : ReadsOne IsRead Refuses
+picture_is_one = record {
+  one_value = λ bytes first second a b. p6.one_picture bytes first second a.stands b.stands;
+  not_both = p6.not_both;
+  one_refusal = p6.one_refusal;
+}
+
+pub are_one : (job : QuiltJob) (files : Files) → AreOne (quilt_stages job) files
+are_one job files = (
+  file_is_one picture_is_one part.Sample job.names.sample files,
+  λ picture read. (bound_is_one _ _ _, λ within. (passing_is_one _ _ _ (limits_are_one (quilt_run_of job) picture.volume (read_is_volume (content_of files job.names.sample) picture read)), λ none first second a b. refl)),
+)
 
 -- quilting can be asked for
 pub can_quilt : (job : QuiltJob) (picture : Picture) → IsQuiltJob job → IsQuiltWithin job → IsSound picture → CanBeQuilted (quilt_run_of job) picture.volume
@@ -35,54 +54,38 @@ can_quilt job picture lawful within sound = record {
   sample_frame = sound.frames;
 }
 
-picture_fails : (name : List ℕ) (a b : ShelfState) (answer : ReadError) → ReadsAs name a b (Err answer) → FailsToRead Refuses name a b answer
+picture_fails : (name : _) (a b : ShelfState) (answer : ReadError) → ReadsAs name a b (Err answer) → FailsToRead Refuses name a b answer
 picture_fails name a b ReadFault left = left
 picture_fails name a b ReadMemory left = tt
 picture_fails name a b (Bad why) left = left
 picture_fails name a b (ReadLimit what number bound) left = left
 
-module _ (job : QuiltJob) (a b : ShelfState) where
-  -- nothing is refused before the sample is read
-  none_before : (files : Files) → NoneRefused (quilt_command job) 0 files
-  none_before files m fault le refuses = omega (arith, le, refuses.all)
+-- What is planned: the code has the sample file under the name that it sees.
 
-  pub picture_not_read : {names : List (List ℕ)} → OnlyReads names a b → (answer : ReadError) → ReadsAs job.names.sample a b (Err answer) → NotMade (quilt_command job) a b (fault_of_read part.Sample answer)
-  picture_not_read reads answer left =
-      not_read (quilt_command job) a b 0 part.Sample job.names.sample refl Refuses (λ files. Unit {0}) (λ why. tt) (λ what number bound. tt)
-      (λ files refusal seen refuses. record { all = refl; refused = inl (refusal, refuses, refl) }) (λ files seen. none_before files) (sees_all (λ files. Unit {0}) a b (λ files. tt) reads) answer
-      (picture_fails job.names.sample a b answer left)
+module _ (job : QuiltJob) (a b : ShelfState) {name : List ℕ} (same : name ≡ job.names.sample) (reads : OnlyReadsFile name a b) where
+  begun : StandsBefore (quilt_command job) a a 0 (quilt_stages job)
+  begun = begin (quilt_stages job) (quilt_command job).writes MayRefuseQuilt IsQuiltSummary (are_one job) a
 
-  module _ (picture : Picture) (read : Changes a b (λ before after. IsRead (content_of before job.names.sample) picture)) where
-    over : (what : _) (number bound : ℕ) → (QuiltPasses job (Limit what number bound) ⊎ BlocksPass job picture.volume (Limit what number bound)) → AreRefused (quilt_command job) (Limit what number bound) a b
-    over what number bound why = record {
-      known = tt;
-      refused = told_weaker (λ before after. IsRead (content_of before job.names.sample) picture) (λ before after. (n : ℕ) × RefusesQuilt job n before (Limit what number bound)) a.files b.files
-          (λ before after stands. (1, record { all = refl; refused = inr (record { picture = picture; read = stands; refused = why }) })) read;
-    }
+  to_sample : OnlyReadsFile job.names.sample a b
+  to_sample = subst (λ n. OnlyReadsFile n a b) same reads
 
-    pub output_refused : (fault : Fault) → QuiltPasses job fault → NotMade (quilt_command job) a b fault
-    output_refused fault p = subst (NotMade (quilt_command job) a b) (sym p.is) (over _ _ _ (inl (subst (QuiltPasses job) p.is p)))
+  pub picture_not_read : (answer : ReadError) → ReadsAs name a b (Err answer) → NotMade (quilt_command job) a b (fault_of_read part.Sample answer)
+  picture_not_read answer left =
+      file_not_read Refuses begun to_sample (λ why. tt) (λ what number bound. tt) answer (picture_fails job.names.sample a b answer (subst (λ n. ReadsAs n a b (Err answer)) same left))
 
-    pub not_quilted : (within : IsQuiltWithin job) (why : QuiltError) → IsQuiltFault (quilt_run_of job) picture.volume why → NotMade (quilt_command job) a b (fault_of_quilting why)
-    not_quilted within (error.Records number) passes = over _ _ _ (inr (record { within = within; number = number; passes = passes; is = refl }))
+  module _ (picture : Picture) (read : InFile name a b (λ bytes. IsRead bytes picture)) where
+    over : StandsBefore (quilt_command job) a b 1 (quilt_over job picture)
+    over = file_read begun to_sample picture (subst (λ n. InFile n a b (λ bytes. IsRead bytes picture)) same read)
+
+    pub output_refused : (fault : Fault) → PassesBound Output (cell_count (quilt_size job)) MOST_OUTPUT_CELLS fault → NotMade (quilt_command job) a b fault
+    output_refused fault passes = limit_passed over fault _ _ _ passes.1 passes tt
+
+    pub not_quilted : IsQuiltWithin job → (why : QuiltError) → IsQuiltFault (quilt_run_of job) picture.volume why → NotMade (quilt_command job) a b (fault_of_quilting why)
+    not_quilted within (error.Records number) passes = not_passed (pass_on over within) _ (number, passes, refl) tt
     not_quilted within error.NoMemory left = tt
 
-  pub quilt_made : {names : List (List ℕ)} (made : PictureQuilt) → OnlyReads names a b → Changes a b (λ before after. IsRead (content_of before job.names.sample) made.sample)
-      → IsQuiltWithin job → IsQuilt (quilt_run_of job) made.sample.volume made.quilted
-      → IsPlanned (quilt_command job) (quilt_files job made) (quilt_summary job made) a b
-  quilt_made made reads read within quilt = record {
-    known = (_, _, _, _, refl);
-    named = refl;
-    made = told_weaker (λ before after. (after ≡ before) × IsRead (content_of before job.names.sample) made.sample)
-        (λ before after. (after ≡ before) × (quilt_command job).Makes before (texts_in (quilt_files job made)) (quilt_summary job made)) a.files b.files
-        (λ before after p. (
-          p.0,
-          record {
-            made = made;
-            quilt = record { sample = p.1; within = within; quilt = quilt };
-            texts_are = refl;
-            summary_is = refl;
-          },
-        ))
-        (told_both (λ before after. after ≡ before) (λ before after. IsRead (content_of before job.names.sample) made.sample) a.files b.files reads.files read);
-  }
+    pub quilt_made : IsQuiltJob job → IsQuiltWithin job → IsVolume picture.volume → (quilted : Quilted) → IsQuilt (quilt_run_of job) picture.volume quilted
+        → IsPlanned (quilt_command job) (quilt_files job (quilt_of picture quilted)) (quilt_summary job (quilt_of picture quilted)) a b
+    quilt_made lawful within volume quilted is =
+        plan_made (pass_on (pass_on over within) (λ number. ends_within (quilt_run_of job) picture.volume volume (small_quilt job lawful within) quilted.blocks (quilting quilted.canvas.map is.draws) number is.run is.writable.cells))
+        quilted is refl (_, _, _, _, refl)

@@ -1,9 +1,8 @@
 -- The files that `quilt` leaves are read again as what was written, and stand.
-use Rattle.std.proofs.Common.{◌≡◌, ℕ, ◌+◌, ◌≤◌, List, [], ◌∷◌, refl, ap, sym, ◌∙◌, subst, arith}
+use Rattle.std.proofs.Common.{◌≡◌, ◌≤◌, ap, sym, ◌∙◌, subst, arith}
 use Rattle.std.specs.Prelude.{Ok}
 use Rattle.cells.specs.Cells.{sizes_of}
 use Rattle.cells.specs.Places.{cell_count}
-use Rattle.cells.specs.PartLists.{parts_of}
 use Rattle.shelf_core.specs.Files.{Files, content_of}
 use Rattle.netpbm_p6.specs.Pictures.{IsRead, p6_form}
 use Rattle.netpbm_p6.proofs.ReadAgain.{written_is_read}
@@ -11,8 +10,6 @@ use Rattle.source_map.specs.declared.head.Version.TheVariants.{One}
 use Rattle.source_map.specs.declared.map_file.MapFile.TheVariants.{Cells as CellMap}
 use Rattle.source_map.specs.MapFiles.{cell_map_form, map_read}
 use Rattle.source_map.proofs.MapsAgain as maps
-use Rattle.block_check.specs.declared.block.BlockRecord.{BlockRecord}
-use Rattle.block_check.specs.Blocks.{block_cells}
 use Rattle.cert_file.specs.declared.file.RecordFile.TheVariants.{Blocks}
 use Rattle.cert_file.specs.RecordFiles.{IsRecordFileOf, blocks_form}
 use Rattle.cert_file.proofs.BlocksAgain.{blocks_again}
@@ -21,9 +18,8 @@ use Rattle.job_words.specs.QuiltWords.{IsQuiltJob}
 use Rattle.sample_files.specs.declared.form.Form.TheVariants.{Picture}
 use Rattle.sample_files.specs.declared.several.Samples.{Samples}
 use Rattle.sample_files.specs.Samples.{StandsWithin}
-use Rattle.sample_files.specs.Several.{StandForParts, StandForSamples, contents}
-use Rattle.sample_files.proofs.Joined.{parts_alone}
-use Rattle.sample_files.proofs.OneSample.{count_alone}
+use Rattle.sample_files.specs.Several.{StandForSamples, contents}
+use Rattle.sample_files.proofs.Commands.{alone}
 use Rattle.standing_files.specs.Standing.{FilesStand}
 use Rattle.standing_files.proofs.Runs.{quilt_stands}
 use Rattle.check_command.specs.declared.reading.ReadFiles.{ReadFiles}
@@ -41,13 +37,7 @@ module _ (job : QuiltJob) (lawful : IsQuiltJob job) (after : Files) (made : Pict
   samples = record { form = Picture made.sample.maxval; volume = made.sample.volume }
 
   sample_again : StandForSamples (content_of after job.names.sample) (contents after job.names.more) samples
-  sample_again =
-      let alone : StandForParts (Picture made.sample.maxval) (content_of after job.names.sample) [] (made.sample.volume ∷ []) = (sample_file, tt) in
-      record {
-        parts = subst (λ names. StandForParts (Picture made.sample.maxval) (content_of after job.names.sample) (contents after names) (parts_of made.sample.volume)) (sym lawful.one)
-            (subst (StandForParts (Picture made.sample.maxval) (content_of after job.names.sample) []) (sym (parts_alone made.sample.volume is.sound.one)) alone);
-        fits = is.sound.cells;
-      }
+  sample_again = alone after job.names.sample job.names.more samples lawful.one sample_file is.sound.one is.sound.cells
 
   few_cells : cell_count made.quilted.canvas.picture.size ≤ 8388608
   few_cells = let size : cell_count made.quilted.canvas.picture.size ≡ cell_count (quilt_size job) = ap cell_count (is.quilt.canvas.size ∙ is.quilt.size) in omega (arith, size, is.within)

@@ -1,6 +1,6 @@
 -- `quilt` as a command: what it reads and refuses, what it makes, and the files that it writes. To
 -- be trusted: contracts cite these words. (Own.)
-use Rattle.std.specs.Prelude.{◌≡◌, ◌≤◌, ◌<◌, ◌⊎◌, ℕ, List, [], ◌∷◌, length, Result, Ok, Err}
+use Rattle.std.specs.Prelude.{◌≡◌, ◌≤◌, ℕ, List, [], ◌∷◌, length}
 use Rattle.cells.specs.declared.place.Size.{Size}
 use Rattle.cells.specs.Cells.{Cells, IsVolume, sizes_of}
 use Rattle.cells.specs.Places.{cell_count}
@@ -13,6 +13,7 @@ use Rattle.source_map.specs.declared.head.Head.{Head}
 use Rattle.source_map.specs.declared.head.Version.TheVariants.{One}
 use Rattle.limits.specs.declared.bounds.TheConstants.{MOST_BOX_CELLS, MOST_OUTPUT_CELLS}
 use Rattle.quilt_run.specs.declared.asked.QuiltRun.{QuiltRun}
+use Rattle.quilt_run.specs.declared.asked.Quilted.{Quilted}
 use Rattle.quilt_run.specs.declared.asked.QuiltError.{QuiltError}
 use Rattle.quilt_run.specs.declared.asked.QuiltError.TheVariants as error
 use Rattle.quilt_run.specs.Quilted.{IsQuilt, QuiltPassesAt}
@@ -24,8 +25,9 @@ use Rattle.synth_report.specs.declared.fault.FileOf.TheVariants as part
 use Rattle.synth_report.specs.declared.summary.Summary.{Summary}
 use Rattle.synth_report.specs.declared.summary.Summary.TheVariants.{Quilt}
 use Rattle.command.specs.Commands.{Command, named}
-use Rattle.command.specs.Faults.{ReaderRefuses}
-use Rattle.command.specs.Writing.{FileText, file_text, texts_in}
+use Rattle.command.specs.Stages.{Stages, bounded, never_passed, of_stages, read_file}
+use Rattle.command.specs.Stages.Stages.{make}
+use Rattle.command.specs.Writing.{FileText, file_text}
 use Rattle.quilt_command.specs.declared.plan.PictureQuilt.{PictureQuilt}
 
 -- What is asked of quilting.
@@ -47,22 +49,6 @@ quilt_run_of job = record {
 abbrev pub IsQuiltWithin : QuiltJob → Type 0
 IsQuiltWithin job = cell_count (quilt_size job) ≤ MOST_OUTPUT_CELLS
 
-pub record QuiltPasses (job : QuiltJob) (fault : Fault) : Type 0 where
-  pub passes : MOST_OUTPUT_CELLS < cell_count (quilt_size job)
-  pub is : fault ≡ Limit Output (cell_count (quilt_size job)) MOST_OUTPUT_CELLS
-
--- whether the job is within its bound
-abbrev pub SetForPicture : QuiltJob → Result (Unit {0}) Fault → Type 0
-SetForPicture job (Ok done) = IsQuiltWithin job
-SetForPicture job (Err fault) = QuiltPasses job fault
-
--- the boxes of the run pass the bound on their cells, at this number
-pub record BlocksPass (job : QuiltJob) (sample : Cells) (fault : Fault) : Type 0 where
-  pub within : IsQuiltWithin job
-  pub number : ℕ
-  pub passes : QuiltPassesAt (quilt_run_of job) sample number
-  pub is : fault ≡ Limit RecordsLimit number MOST_BOX_CELLS
-
 -- what a run without an output is refused for
 abbrev pub fault_of_quilting : QuiltError → Fault
 fault_of_quilting (error.Records number) = Limit RecordsLimit number MOST_BOX_CELLS
@@ -74,18 +60,16 @@ fault_of_quilting error.NoMemory = NoMemory
 abbrev pub IsPictureIn : QuiltJob → Files → Picture → Type 0
 IsPictureIn job files picture = IsRead (content_of files job.names.sample) picture
 
--- and the output is the whole quilt of its blocks
-pub record IsPictureQuilt (job : QuiltJob) (files : Files) (made : PictureQuilt) : Type 0 where
-  pub sample : IsPictureIn job files made.sample
-  pub within : IsQuiltWithin job
-  pub quilt : IsQuilt (quilt_run_of job) made.sample.volume made.quilted
-
 -- what the writers of the files of a quilt ask for
 pub record IsMadeQuilt (job : QuiltJob) (made : PictureQuilt) : Type 0 where
   pub volume : IsVolume made.sample.volume
   pub sound : IsSound made.sample
   pub within : IsQuiltWithin job
   pub quilt : IsQuilt (quilt_run_of job) made.sample.volume made.quilted
+
+-- a picture that is read, and a quilt of its blocks
+abbrev pub quilt_of : Picture → Quilted → PictureQuilt
+quilt_of picture quilted = record { sample = picture; quilted = quilted }
 
 -- The files that are written.
 
@@ -113,37 +97,19 @@ quilt_summary job made =
 
 -- The command.
 
--- the reader refuses the bytes of the sample file
-abbrev pub RefusesPicture : QuiltJob → Files → Fault → Type 0
-RefusesPicture job files fault =
-    ReaderRefuses Refuses part.Sample (content_of files job.names.sample) fault
+-- over the picture that is read the output is within its bound, and so are the boxes of the run;
+-- the output is the whole quilt of its blocks
+abbrev pub quilt_over : QuiltJob → Picture → Stages []
+quilt_over job picture =
+    bounded Output (cell_count (quilt_size job)) MOST_OUTPUT_CELLS
+    (never_passed RecordsLimit (QuiltPassesAt (quilt_run_of job) picture.volume) MOST_BOX_CELLS
+    (make (IsQuilt (quilt_run_of job) picture.volume)
+    (λ quilted. quilt_files job (quilt_of picture quilted))
+    (λ quilted. quilt_summary job (quilt_of picture quilted))))
 
--- the picture is read, and the job is refused over it
-pub record RefusesOverPicture (job : QuiltJob) (files : Files) (fault : Fault) : Type 0 where
-  pub picture : Picture
-  pub read : IsPictureIn job files picture
-  pub refused : QuiltPasses job fault ⊎ BlocksPass job picture.volume fault
-
--- the refusals of the files, once the sample file is read: those of the sample, and then those of
--- the job
-pub record RefusesQuilt (job : QuiltJob) (n : ℕ) (files : Files) (fault : Fault) : Type 0 where
-  pub all : n ≡ 1
-  pub refused : RefusesPicture job files fault ⊎ RefusesOverPicture job files fault
-
--- the picture is read, and every number is within its bound
-pub record TakesToQuilt (job : QuiltJob) (files : Files) : Type 0 where
-  pub picture : Picture
-  pub read : IsPictureIn job files picture
-  pub within : IsQuiltWithin job
-  pub records : (number : ℕ) → QuiltPassesAt (quilt_run_of job) picture.volume number → ⊥
-
--- a quilt of the files, with its texts and its summary
-pub record MakesQuilt (job : QuiltJob) (files : Files) (texts : List (List ℕ)) (summary : Summary)
-    : Type 0 where
-  pub made : PictureQuilt
-  pub quilt : IsPictureQuilt job files made
-  pub texts_are : texts ≡ texts_in (quilt_files job made)
-  pub summary_is : summary ≡ quilt_summary job made
+-- the sample file is read, and then so
+abbrev pub quilt_stages : (job : QuiltJob) → Stages (named part.Sample job.names.sample ∷ [])
+quilt_stages job = read_file part.Sample job.names.sample IsRead Refuses (quilt_over job)
 
 -- the faults that the files are ever refused for
 abbrev pub MayRefuseQuilt : Fault → Type 0
@@ -158,13 +124,7 @@ IsQuiltSummary summary =
     × (summary ≡ Quilt size blocks boundaries cost)
 
 abbrev pub quilt_command : QuiltJob → Command
-quilt_command job = record {
-  reads = named part.Sample job.names.sample ∷ [];
-  writes = named part.Out job.names.out ∷ named part.Map job.names.map
-      ∷ named part.Record job.names.record_file ∷ [];
-  Takes = TakesToQuilt job;
-  Refuses = RefusesQuilt job;
-  Makes = MakesQuilt job;
-  MayRefuse = MayRefuseQuilt;
-  MayMake = IsQuiltSummary;
-}
+quilt_command job = of_stages (quilt_stages job)
+    (named part.Out job.names.out ∷ named part.Map job.names.map
+    ∷ named part.Record job.names.record_file ∷ [])
+    MayRefuseQuilt IsQuiltSummary

@@ -4,7 +4,10 @@ ghost use Rattle.shelf_core.specs.Files.{OnlyReads};
 ghost use Rattle.job_words.specs.QuiltWords.{IsQuiltJob};
 ghost use Rattle.command.specs.Commands.{names_in};
 ghost use Rattle.command.specs.Outcomes.{Plans};
-ghost use Rattle.quilt_command.specs.Quilts.{IsMadeQuilt, SetForPicture, fault_of_quilting, quilt_command, quilt_files, quilt_run_of, quilt_size, quilt_summary};
+ghost use Rattle.command.specs.Stages.{AsksBound};
+ghost use Rattle.shelf_core.specs.declared.fault.What.TheVariants.{Output};
+ghost use Rattle.cells.specs.Places.{cell_count};
+ghost use Rattle.quilt_command.specs.Quilts.{IsMadeQuilt, fault_of_quilting, quilt_command, quilt_files, quilt_run_of, quilt_size, quilt_summary};
 
 use block_strips::QuiltPlan;
 use cells::Size;
@@ -52,7 +55,7 @@ fn run_of(job: &QuiltJob) -> QuiltRun
 
 // Sets a job against the picture that was read.
 fn set_against(job: &QuiltJob) -> Result<(), Fault>
-    ensures { SetForPicture job.now result }
+    ensures { AsksBound Output (cell_count (quilt_size job.now)) MOST_OUTPUT_CELLS result }
 {
     let cells = u64::from(job.w) * u64::from(job.h);
     if cells > MOST_OUTPUT_CELLS {

@@ -1,7 +1,4 @@
 use Rattle.std.proofs.Common.{subst, sym}
-use Rattle.std.specs.Prelude.{Err}
-use Rattle.shelf_core.specs.Files.{Changes, content_of}
-use Rattle.netpbm_p6.specs.Pictures.{IsRead, ReadsAs}
 use Rattle.quilt_run.specs.Quilted.{CanBeQuilted, IsQuilt, IsQuiltFault}
 use Rattle.command.specs.Outcomes.{NotMade}
 use Rattle.quilt_command.specs.Quilts.{quilt_command}
@@ -13,19 +10,14 @@ returns-in-Err-clause-planned g c =
     let a = g.S.Shelf.state c.args.shelf.now in
     let b = g.S.Shelf.state c.read_p6.new.shelf in
     let job = c.args.job.now in
-    subst (NotMade (quilt_command job) a b) (sym c.read_fault.ensures)
-    (picture_not_read job a b c.read_p6.ensures.reads c.in-Err.error
-    (subst (λ name. ReadsAs name a b (Err c.in-Err.error)) c.as_text.ensures (c.in-Err.ensures {u = tt}).answer))
+    subst (NotMade (quilt_command job) a b) (sym c.read_fault.ensures) (picture_not_read job a b c.as_text.ensures c.read_p6.ensures.reads c.in-Err.error (c.in-Err.ensures {u = tt}).answer)
 
 pub returns-in-Err-set_against-clause-planned : goal.returns-in-Err-set_against-clause-planned
 returns-in-Err-set_against-clause-planned g c =
     let a = g.S.Shelf.state c.args.shelf.now in
     let b = g.S.Shelf.state c.read_p6.new.shelf in
     let job = c.args.job.now in
-    let sample = c.in-Ok.sample in
-    output_refused job a b sample
-    (subst (λ name. Changes a b (λ before after. IsRead (content_of before name) sample)) c.as_text.ensures (c.in-Ok.ensures {u = tt}).answer)
-    c.in-Err-set_against.fault (c.in-Err-set_against.ensures {u = tt})
+    output_refused job a b c.as_text.ensures c.read_p6.ensures.reads c.in-Ok.sample (c.in-Ok.ensures {u = tt}).answer c.in-Err-set_against.fault (c.in-Err-set_against.ensures {u = tt})
 
 pub quilt_canvas-requires : goal.quilt_canvas-requires
 quilt_canvas-requires g c =
@@ -36,23 +28,19 @@ returns-in-Err-quilt_canvas-clause-planned g c =
     let a = g.S.Shelf.state c.args.shelf.now in
     let b = g.S.Shelf.state c.read_p6.new.shelf in
     let job = c.args.job.now in
-    let sample = c.in-Ok.sample in
+    let error = c.in-Err-quilt_canvas.error in
     subst (NotMade (quilt_command job) a b) (sym c.quilting_fault.ensures)
-    (not_quilted job a b sample
-    (subst (λ name. Changes a b (λ before after. IsRead (content_of before name) sample)) c.as_text.ensures (c.in-Ok.ensures {u = tt}).answer)
-    (c.in-Ok-set_against.ensures {u = tt}) c.in-Err-quilt_canvas.error
-    (subst (λ asked. IsQuiltFault asked sample.volume c.in-Err-quilt_canvas.error) c.run_of.ensures (c.in-Err-quilt_canvas.ensures {u = tt})))
+    (not_quilted job a b c.as_text.ensures c.read_p6.ensures.reads c.in-Ok.sample (c.in-Ok.ensures {u = tt}).answer (c.in-Ok-set_against.ensures {u = tt}) error
+    (subst (λ asked. IsQuiltFault asked c.in-Ok.sample.volume error) c.run_of.ensures (c.in-Err-quilt_canvas.ensures {u = tt})))
 
 pub returns-clause-planned : goal.returns-clause-planned
 returns-clause-planned g c =
     let a = g.S.Shelf.state c.args.shelf.now in
     let b = g.S.Shelf.state c.read_p6.new.shelf in
     let job = c.args.job.now in
-    let sample = c.in-Ok.sample in
     let quilted = c.in-Ok-quilt_canvas.quilted in
-    quilt_made job a b (record { sample = sample; quilted = quilted }) c.read_p6.ensures.reads
-    (subst (λ name. Changes a b (λ before after. IsRead (content_of before name) sample)) c.as_text.ensures (c.in-Ok.ensures {u = tt}).answer)
-    (c.in-Ok-set_against.ensures {u = tt}) (subst (λ asked. IsQuilt asked sample.volume quilted) c.run_of.ensures (c.in-Ok-quilt_canvas.ensures {u = tt}))
+    quilt_made job a b c.as_text.ensures c.read_p6.ensures.reads c.in-Ok.sample (c.in-Ok.ensures {u = tt}).answer
+    c.requires (c.in-Ok-set_against.ensures {u = tt}) c.samples-k.ensures.volume quilted (subst (λ asked. IsQuilt asked c.in-Ok.sample.volume quilted) c.run_of.ensures (c.in-Ok-quilt_canvas.ensures {u = tt}))
 
 pub returns-clause-made : goal.returns-clause-made
 returns-clause-made g c =

@@ -1,7 +1,6 @@
 pub mod Taken
 pub mod Looping
 pub mod LoopReady
-pub mod LoopAgain
 pub mod LoopAccepted
 pub mod LoopLaws
 pub mod OneLoops

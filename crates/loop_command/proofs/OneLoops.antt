@@ -15,7 +15,7 @@ use Rattle.command.specs.Outcomes.{WritesAll}
 use Rattle.job_words.specs.LoopWords.{IsLoopJob}
 use Rattle.job_words.specs.declared.loop_words.LoopJob.{LoopJob}
 use Rattle.loop_command.specs.declared.plan.LoopedClip.{LoopedClip}
-use Rattle.loop_command.specs.Loops.{IsLoopFound, IsLoopOf, loop_command, loop_summary, steps_over}
+use Rattle.loop_command.specs.Loops.{IsClipIn, IsLoopFound, IsLoopMade, loop_command, loop_of, loop_summary, steps_over}
 use Rattle.loop_command.specs.LoopHeadlines.{IsLoopedRecord, IsLoopedRun, IsOneLoop, looped_summary}
 
 -- Two least closed walks of one length, each from the smallest frame that any visits.
@@ -32,17 +32,17 @@ module _ (costs : Steps) (n : ℕ) (one other : List ℕ) (a : IsLeastWalk costs
       let above : y ≤ x = subst (λ c. AtMost (Some y) c) x_is (subst (λ c. AtMost c (walk_cost costs one)) y_is (b.least one a.frames a.closed)) in
       omega (arith, below, above)
 
-module _ (job : LoopJob) (lawful : IsLoopJob job) (before : Files) (looped : LoopedClip) (is : IsLoopOf job before looped) (earlier later : Files) (run : IsLoopedRun job earlier later)
+module _ (job : LoopJob) (lawful : IsLoopJob job) (before : Files) (looped : LoopedClip) (read : IsClipIn before job looped.clip) (made : IsLoopMade job looped) (earlier later : Files) (run : IsLoopedRun job earlier later)
     (same : content_of earlier job.names.sample ≡ content_of before job.names.sample) where
   one_sample : run.output.clip ≡ looped.clip
   one_sample = one_clip (content_of before job.names.sample) run.output.clip looped.clip
-      (subst (λ bytes. IsReadClip 8388608 bytes run.output.clip) same run.output.read).stands is.read.stands
+      (subst (λ bytes. IsReadClip 8388608 bytes run.output.clip) same run.output.read).stands read.stands
 
   abbrev costs : Steps
   costs = steps_over job looped.clip.volume
 
   abbrev found : IsLoopFound job looped.clip.volume looped.found
-  found = is.made.found
+  found = made.found
 
   over_one : (clip : Clip) → clip ≡ looped.clip → (r : IsLoopedRecord job clip.volume run.output.walk (content_of later job.names.record_file))
       → (r.tables ≡ looped.found.tables) × (Loop job.length (slice_index run.output.walk 0) r.cost ≡ loop_summary job looped)
@@ -60,9 +60,9 @@ module _ (job : LoopJob) (lawful : IsLoopJob job) (before : Files) (looped : Loo
   one_of_them = over_one run.output.clip one_sample run.walk_record
 
 pub one_loop : (job : LoopJob) → IsLoopJob job → (summary : Summary) (before after : Files) → WritesAll (loop_command job) summary before after → IsOneLoop job summary before
-one_loop job lawful summary before after (texts, makes, wrote) = record {
-  tables = makes.looped.found.tables;
+one_loop job lawful summary before after (texts, (clip, read, (frames, (cells, (has, (found, made, texts_are, summary_is))))), wrote) = record {
+  tables = found.tables;
   same = λ earlier later run same.
-      let both = one_of_them job lawful before makes.looped makes.is_loop earlier later run same in
-      (both.0, both.1 ∙ sym makes.summary_is);
+      let both = one_of_them job lawful before (loop_of clip found) read made earlier later run same in
+      (both.0, both.1 ∙ sym summary_is);
 }

@@ -1,7 +1,7 @@
 -- `loop` as a command: what it reads and refuses, what it makes, and the files that it writes. To be
 -- trusted: contracts cite these words. (Own; the loop is that of Schödl et al. 2000, of a fixed
 -- length.)
-use Rattle.std.specs.Prelude.{◌≡◌, ◌≤◌, ◌<◌, ◌⊎◌, ℕ, List, [], ◌∷◌, length, map, slice_index, Some, Result, Ok, Err}
+use Rattle.std.specs.Prelude.{◌≡◌, ◌≤◌, ◌⊎◌, ℕ, List, [], ◌∷◌, length, map, slice_index, Some, Result, Ok, Err}
 use Rattle.cells.specs.declared.place.Size.{Size}
 use Rattle.cells.specs.Cells.{Cells, IsVolume, sizes_of}
 use Rattle.cells.specs.Places.{cell_count, places}
@@ -29,8 +29,9 @@ use Rattle.synth_report.specs.declared.fault.FileOf.TheVariants as part
 use Rattle.synth_report.specs.declared.summary.Summary.{Summary}
 use Rattle.synth_report.specs.declared.summary.Summary.TheVariants.{Loop}
 use Rattle.command.specs.Commands.{Command, named}
-use Rattle.command.specs.Faults.{ReaderRefuses}
-use Rattle.command.specs.Writing.{FileText, file_text, texts_in}
+use Rattle.command.specs.Stages.{PassesBound, Stages, bounded, of_stages, read_file}
+use Rattle.command.specs.Stages.Stages.{ask, make}
+use Rattle.command.specs.Writing.{FileText, file_text}
 use Rattle.limits.specs.declared.bounds.TheConstants.{MOST_LOOP_CELLS, MOST_LOOP_FRAMES, MOST_SAMPLE_CELLS}
 use Rattle.standing_files.specs.Standing.{walk_costs}
 use Rattle.job_words.specs.declared.loop_words.LoopJob.{LoopJob}
@@ -73,29 +74,26 @@ pub record IsLoopWithin (job : LoopJob) (sample : Cells) : Type 0 where
   pub frames : sample.size.f ≤ MOST_LOOP_FRAMES
   pub cells : cell_count (loop_size sample job.length) ≤ MOST_LOOP_CELLS
 
-pub record SampleFramesPass (sample : Cells) (fault : Fault) : Type 0 where
-  pub passes : MOST_LOOP_FRAMES < sample.size.f
-  pub is : fault ≡ Limit Frames sample.size.f MOST_LOOP_FRAMES
-
-pub record LoopPasses (job : LoopJob) (sample : Cells) (fault : Fault) : Type 0 where
-  pub frames : sample.size.f ≤ MOST_LOOP_FRAMES
-  pub passes : MOST_LOOP_CELLS < cell_count (loop_size sample job.length)
-  pub is : fault ≡ Limit LoopLimit (cell_count (loop_size sample job.length)) MOST_LOOP_CELLS
-
 -- the frames pass their bound, or they don't and the cells of the loop pass theirs
 abbrev pub PassesBounds : LoopJob → Cells → Fault → Type 0
-PassesBounds job sample fault = SampleFramesPass sample fault ⊎ LoopPasses job sample fault
+PassesBounds job sample fault =
+    PassesBound Frames sample.size.f MOST_LOOP_FRAMES fault
+    ⊎ ((sample.size.f ≤ MOST_LOOP_FRAMES)
+    × PassesBound LoopLimit (cell_count (loop_size sample job.length)) MOST_LOOP_CELLS fault)
 
 -- whether the job is within its bounds over the sample
 abbrev pub SetAgainstClip : LoopJob → Cells → Result (Unit {0}) Fault → Type 0
 SetAgainstClip job sample (Ok done) = IsLoopWithin job sample
 SetAgainstClip job sample (Err fault) = PassesBounds job sample fault
 
--- the sample has no closed walk of the asked length
-pub record LacksLoop (job : LoopJob) (sample : Cells) (fault : Fault) : Type 0 where
-  pub bounds : IsLoopWithin job sample
-  pub none : HasNoWalk (steps_over job sample) job.length
-  pub is : fault ≡ NoLoop job.length
+-- the sample has a closed walk of the asked length, or none
+abbrev pub HasLoop : LoopJob → Cells → Type 0
+HasLoop job sample =
+    (walk : List ℕ) × (length walk ≡ job.length) × IsClosedWalk (steps_over job sample) walk
+
+abbrev pub LacksLoop : LoopJob → Cells → Fault → Type 0
+LacksLoop job sample fault =
+    HasNoWalk (steps_over job sample) job.length × (fault ≡ NoLoop job.length)
 
 -- what a run without a loop is refused for
 abbrev pub fault_of_looping : LoopJob → LoopError → Fault
@@ -115,10 +113,9 @@ pub record IsLoopMade (job : LoopJob) (looped : LoopedClip) : Type 0 where
   pub bounds : IsLoopWithin job looped.clip.volume
   pub found : IsLoopFound job looped.clip.volume looped.found
 
--- the clip that the sample file stands for, and a loop of it
-pub record IsLoopOf (job : LoopJob) (files : Files) (looped : LoopedClip) : Type 0 where
-  pub read : IsClipIn files job looped.clip
-  pub made : IsLoopMade job looped
+-- a clip that is read, and a loop that is found in it
+abbrev pub loop_of : Clip → LoopRecord → LoopedClip
+loop_of clip found = record { clip = clip; found = found }
 
 -- The files that are written.
 
@@ -150,37 +147,21 @@ loop_summary job looped = Loop job.length (slice_index looped.found.walk 0) loop
 
 -- The command.
 
--- the sample is read, and the job is refused over the clip that it stands for
-pub record RefusesLoopOver (job : LoopJob) (files : Files) (n : ℕ) (fault : Fault) : Type 0 where
-  pub all : n ≡ 1
-  pub clip : Clip
-  pub read : IsClipIn files job clip
-  pub refused : PassesBounds job clip.volume fault ⊎ LacksLoop job clip.volume fault
+-- over the clip that is read the frames are within their bound, and so are the cells of the loop;
+-- there is a closed walk of the asked length; a least one is found
+abbrev pub loop_over : LoopJob → Clip → Stages []
+loop_over job clip =
+    bounded Frames clip.volume.size.f MOST_LOOP_FRAMES
+    (bounded LoopLimit (cell_count (loop_size clip.volume job.length)) MOST_LOOP_CELLS
+    (ask (HasLoop job clip.volume) (LacksLoop job clip.volume)
+    (make (λ found. IsLoopMade job (loop_of clip found))
+    (λ found. loop_files job (loop_of clip found))
+    (λ found. loop_summary job (loop_of clip found)))))
 
--- the refusals of the sample file, once it is read: those of its reader, and then those of the job
-abbrev pub RefusesLoop : LoopJob → ℕ → Files → Fault → Type 0
-RefusesLoop job n files fault =
-    ((n ≡ 1) × ReaderRefuses (RefusesClip MOST_SAMPLE_CELLS) part.Sample
-    (content_of files job.names.sample) fault)
-    ⊎ RefusesLoopOver job files n fault
-
--- the sample is read, every number is within its bound, and there is a closed walk of the asked
--- length
-pub record TakesToLoop (job : LoopJob) (files : Files) : Type 0 where
-  pub clip : Clip
-  pub read : IsClipIn files job clip
-  pub bounds : IsLoopWithin job clip.volume
-  pub walk : List ℕ
-  pub frames : length walk ≡ job.length
-  pub closed : IsClosedWalk (steps_over job clip.volume) walk
-
--- a loop of the clip, with its texts and its summary
-pub record MakesLoop (job : LoopJob) (files : Files) (texts : List (List ℕ)) (summary : Summary)
-    : Type 0 where
-  pub looped : LoopedClip
-  pub is_loop : IsLoopOf job files looped
-  pub texts_are : texts ≡ texts_in (loop_files job looped)
-  pub summary_is : summary ≡ loop_summary job looped
+-- the sample file is read, and then so
+abbrev pub loop_stages : (job : LoopJob) → Stages (named part.Sample job.names.sample ∷ [])
+loop_stages job = read_file part.Sample job.names.sample (IsReadClip MOST_SAMPLE_CELLS)
+    (RefusesClip MOST_SAMPLE_CELLS) (loop_over job)
 
 -- the faults that `loop` ever refuses for: the form of the sample, a limit, and that there is no
 -- loop of the asked length
@@ -195,13 +176,7 @@ abbrev pub IsLoopSummary : LoopJob → Summary → Type 0
 IsLoopSummary job summary = (start : ℕ) × (cost : ℕ) × (summary ≡ Loop job.length start cost)
 
 abbrev pub loop_command : LoopJob → Command
-loop_command job = record {
-  reads = named part.Sample job.names.sample ∷ [];
-  writes = named part.Out job.names.out ∷ named part.Map job.names.map
-      ∷ named part.Record job.names.record_file ∷ [];
-  Takes = TakesToLoop job;
-  Refuses = RefusesLoop job;
-  Makes = MakesLoop job;
-  MayRefuse = MayRefuseLoop job;
-  MayMake = IsLoopSummary job;
-}
+loop_command job = of_stages (loop_stages job)
+    (named part.Out job.names.out ∷ named part.Map job.names.map
+    ∷ named part.Record job.names.record_file ∷ [])
+    (MayRefuseLoop job) (IsLoopSummary job)

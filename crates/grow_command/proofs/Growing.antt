@@ -1,66 +1,72 @@
--- What `grow` plans: from the reading of the samples to all that is to be written.
-use Rattle.std.proofs.Common.{◌≡◌, ℕ, ◌+◌, ◌≤◌, ◌⊎◌, inl, inr, List, length, sym, subst, refl, arith}
-use Rattle.std.specs.Prelude.{All, Err}
-use Rattle.cert_file.specs.CutForms.{HasShortFlows}
-use Rattle.cells.specs.Cells.{IsVolume}
-use Rattle.shelf_core.specs.Files.{Files, ShelfState, OnlyReads, Changes, content_of}
-use Rattle.shelf_core.proofs.FileLaws.{told_both, told_weaker}
-use Rattle.graph_place.specs.Placed.{map_total}
+-- The stages of `grow`: each has one answer, and what is planned goes by them.
+use Rattle.std.proofs.Common.{◌≡◌, ℕ, ◌+◌, ◌≤◌, inl, inr, List, length, refl, sym, subst, arith}
+use Rattle.std.proofs.lemmas.List.{append-nil}
+use Rattle.std.specs.Prelude.{Err}
+use Rattle.limits.specs.declared.bounds.TheConstants.{MOST_OUTPUT_CELLS}
+use Rattle.cells.specs.Places.{IsSmall, cell_count}
+use Rattle.shelf_core.specs.Files.{Files, OnlyReads, ShelfState, content_of}
+use Rattle.shelf_core.proofs.Sees.{Sees}
 use Rattle.grow_run.specs.declared.plan.GrowError.{GrowError}
 use Rattle.grow_run.specs.declared.plan.GrowError.TheVariants as error
-use Rattle.grow_run.specs.Grown.{IsGrown, IsGrowFault}
+use Rattle.grow_run.specs.declared.plan.Grown.{Grown}
+use Rattle.grow_run.specs.Grown.{IsGrowFault}
+use Rattle.grow_run.proofs.OneRuns.{ends_within, limits_are_one}
 use Rattle.job_words.specs.declared.grow.GrowJob.{GrowJob}
+use Rattle.job_words.specs.GrowWords.{IsGrowJob}
 use Rattle.synth_report.specs.declared.fault.Fault.{Fault}
-use Rattle.synth_report.specs.declared.fault.Fault.TheVariants.{Limit}
-use Rattle.command.specs.Outcomes.{AreRefused, IsPlanned, NotMade}
-use Rattle.command.specs.Writing.{texts_in}
+use Rattle.command.specs.Commands.{names_in}
+use Rattle.command.specs.Outcomes.{IsPlanned, NotMade}
+use Rattle.command.proofs.Staging.{AreOne, bound_is_one, passing_is_one}
+use Rattle.command.proofs.Planning.{StandsBefore, begin, limit_passed, not_passed, pass_on, plan_made, read_on}
 use Rattle.sample_files.specs.declared.several.Samples.{Samples}
-use Rattle.sample_files.specs.Several.{StandForSamples, RefusesSamples, SamplesReadAs, contents}
-use Rattle.sample_files.proofs.Commands.{samples_not_made}
+use Rattle.sample_files.specs.Several.{MayRefuseSamples, SamplesReadAs, StandForSamples, contents, sample_files}
+use Rattle.sample_files.proofs.Commands.{samples_are_one, samples_not_read}
 use Rattle.grow_command.specs.declared.plan.Growth.{Growth}
-use Rattle.grow_command.specs.Growths.{IsWithinBounds, RecordsPass, RefusesGrowth, RefusesOutput, fault_of_growing, grow_command, growth_files, growth_summary, plan_of}
+use Rattle.grow_command.specs.Growths.{IsGrowSummary, IsGrownOver, IsWithinBounds, RefusesOutput, fault_of_growing, grow_command, grow_over, grow_stages, growth_files, growth_of, growth_summary, plan_of}
 
-module _ {names : List (List ℕ)} (job : GrowJob) (a b : ShelfState) (reads : OnlyReads names a b) where
-  -- nothing is refused of the job before all samples are read
-  only : (files : Files) (n : ℕ) (fault : Fault) → n ≤ length job.names.more → RefusesGrowth job n files fault → RefusesSamples n (content_of files job.names.sample) (contents files job.names.more) fault
-  only files n fault le (inl refuses) = refuses
-  only files n fault le (inr over) = absurd (omega (arith, le, over.all))
+pub small_output : (job : GrowJob) → IsGrowJob job → cell_count job.size ≤ MOST_OUTPUT_CELLS → IsSmall job.size
+small_output job lawful cells = record { axes = lawful.axes; cells = omega (arith, cells) }
 
-  pub samples_not_read : (fault : Fault) → SamplesReadAs job.names.sample job.names.more a b (Err fault) → NotMade (grow_command job) a b fault
-  samples_not_read fault left = samples_not_made (grow_command job) job.names.sample job.names.more (λ turn its name has. has) (λ its may. may) (λ files n its refuses. inl refuses) only a b fault left
+pub are_one : (job : GrowJob) (files : Files) → AreOne (grow_stages job) files
+are_one job files = (
+  samples_are_one job.names.sample job.names.more files,
+  λ samples read. (
+    bound_is_one _ _ _,
+    λ frames. (bound_is_one _ _ _, λ cells. (passing_is_one _ _ _ (limits_are_one (plan_of job) samples.volume), λ none first second a b. refl)),
+  ),
+)
 
-  module _ (samples : Samples) (read : Changes a b (λ before after. StandForSamples (content_of before job.names.sample) (contents before job.names.more) samples)) where
-    over : (what : _) (number bound : ℕ) → (RefusesOutput job samples.form (Limit what number bound) ⊎ RecordsPass job samples (Limit what number bound)) → AreRefused (grow_command job) (Limit what number bound) a b
-    over what number bound why = record {
-      known = tt;
-      refused = told_weaker (λ before after. StandForSamples (content_of before job.names.sample) (contents before job.names.more) samples) (λ before after. (n : ℕ) × RefusesGrowth job n before (Limit what number bound)) a.files b.files
-          (λ before after stand. (length job.names.more + 1, inr (record { all = refl; samples = samples; read = stand; refused = why }))) read;
-    }
+-- the files that are read are the samples, and no more
+pub samples_only : (job : GrowJob) (a b : ShelfState) → OnlyReads (names_in (sample_files job.names.sample job.names.more)) a b → OnlyReads (names_in (grow_command job).reads) a b
+samples_only job a b reads = subst (λ files. OnlyReads (names_in files) a b) (sym (append-nil (sample_files job.names.sample job.names.more))) reads
+
+-- What is planned: the code has the samples under the names that it sees.
+
+module _ (job : GrowJob) (a b : ShelfState) {more : List (List ℕ)} (same : more ≡ job.names.more) (reads : OnlyReads (names_in (sample_files job.names.sample more)) a b) where
+  begun : StandsBefore (grow_command job) a a 0 (grow_stages job)
+  begun = begin (grow_stages job) (grow_command job).writes (MayRefuseSamples (length job.names.more + 1)) IsGrowSummary (are_one job) a
+
+  to_samples : OnlyReads (names_in (sample_files job.names.sample job.names.more)) a b
+  to_samples = subst (λ names. OnlyReads (names_in (sample_files job.names.sample names)) a b) same reads
+
+  pub no_samples : (fault : Fault) → SamplesReadAs job.names.sample more a b (Err fault) → NotMade (grow_command job) a b fault
+  no_samples fault left = samples_not_read job.names.sample job.names.more begun to_samples (λ its may. may) fault (subst (λ names. SamplesReadAs job.names.sample names a b (Err fault)) same left)
+
+  module _ (samples : Samples) (read : Sees a b (λ files. StandForSamples (content_of files job.names.sample) (contents files more) samples)) where
+    over : StandsBefore (grow_command job) a b (0 + length (sample_files job.names.sample job.names.more)) (grow_over job samples)
+    over = read_on (sample_files job.names.sample job.names.more) begun to_samples samples
+        (subst (λ names. Sees a b (λ files. StandForSamples (content_of files job.names.sample) (contents files names) samples)) same read)
 
     pub output_refused : (fault : Fault) → RefusesOutput job samples.form fault → NotMade (grow_command job) a b fault
-    output_refused fault (inl p) = subst (NotMade (grow_command job) a b) (sym p.is) (over _ _ _ (inl (subst (RefusesOutput job samples.form) p.is (inl p))))
-    output_refused fault (inr p) = subst (NotMade (grow_command job) a b) (sym p.is) (over _ _ _ (inl (subst (RefusesOutput job samples.form) p.is (inr p))))
+    output_refused fault (inl frames) = limit_passed over fault _ _ _ frames.1 frames tt
+    output_refused fault (inr cells) = limit_passed (pass_on over cells.0) fault _ _ _ cells.1.1 cells.1 tt
 
-    pub not_grown : (bounds : IsWithinBounds job samples.form) (why : GrowError) → IsGrowFault (plan_of job) samples.volume why → NotMade (grow_command job) a b (fault_of_growing why)
-    not_grown bounds (error.Records number) passes = over _ _ _ (inr (record { bounds = bounds; number = number; passes = passes; is = refl }))
+    pub not_grown : IsWithinBounds job samples.form → (why : GrowError) → IsGrowFault (plan_of job) samples.volume why → NotMade (grow_command job) a b (fault_of_growing why)
+    not_grown bounds (error.Records number) passes = not_passed (pass_on (pass_on over bounds.frames) bounds.cells) _ (number, passes, refl) tt
     not_grown bounds error.NoMemory left = tt
 
-  pub growth_made : (growth : Growth) → IsVolume growth.samples.volume → Changes a b (λ before after. StandForSamples (content_of before job.names.sample) (contents before job.names.more) growth.samples)
-      → IsWithinBounds job growth.samples.form → IsGrown (plan_of job) growth.samples.volume growth.grown → All HasShortFlows growth.grown.cuts → growth.seams ≡ map_total growth.samples.volume growth.grown.canvas.map
-      → IsPlanned (grow_command job) (growth_files job growth) (growth_summary job growth) a b
-  growth_made growth volume read bounds grown flows seams = record {
-    known = (_, _, _, _, refl);
-    named = refl;
-    made = told_weaker (λ before after. (after ≡ before) × StandForSamples (content_of before job.names.sample) (contents before job.names.more) growth.samples)
-        (λ before after. (after ≡ before) × (grow_command job).Makes before (texts_in (growth_files job growth)) (growth_summary job growth)) a.files b.files
-        (λ before after p. (
-          p.0,
-          record {
-            growth = growth;
-            grown = record { samples = p.1; volume = volume; bounds = bounds; grown = grown; flows = flows; seams = seams };
-            texts_are = refl;
-            summary_is = refl;
-          },
-        ))
-        (told_both (λ before after. after ≡ before) (λ before after. StandForSamples (content_of before job.names.sample) (contents before job.names.more) growth.samples) a.files b.files reads.files read);
-  }
+    pub growth_made : IsGrowJob job → IsWithinBounds job samples.form → (grown : Grown) → IsGrownOver job samples grown → (growth : Growth) → growth ≡ growth_of samples grown → IsPlanned (grow_command job) (growth_files job growth) (growth_summary job growth) a b
+    growth_made lawful bounds grown is growth growth_is =
+        let none = ends_within (plan_of job) samples.volume is.volume (small_output job lawful bounds.cells) grown.cuts (record { map = grown.canvas.map; draws = is.run.draws; rounds = grown.rounds }) in
+        let made = plan_made (pass_on (pass_on (pass_on over bounds.frames) bounds.cells) (λ number. none number is.run.run is.run.done is.run.writable.cells)) grown is refl (_, _, _, _, refl) in
+        subst (λ g. IsPlanned (grow_command job) (growth_files job g) (growth_summary job g) a b) (sym growth_is) made

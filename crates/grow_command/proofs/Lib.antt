@@ -1,5 +1,5 @@
 pub mod Ready
-pub mod Accepted
 pub mod Growing
+pub mod Accepted
 pub mod GrowLaws
 pub mod OneOutputs

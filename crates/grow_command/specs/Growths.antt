@@ -1,6 +1,6 @@
 -- `grow` as a command: what it reads and refuses, what it makes, and the files that it writes. To
 -- be trusted: contracts cite these words. (Own.)
-use Rattle.std.specs.Prelude.{◌≡◌, ◌≤◌, ◌<◌, ◌⊎◌, ◌+◌, ◌-◌, ℕ, List, [], ◌∷◌, length, All, Result, Ok, Err}
+use Rattle.std.specs.Prelude.{◌≡◌, ◌≤◌, ◌⊎◌, ◌+◌, ◌++◌, ◌-◌, ℕ, List, [], ◌∷◌, length, All, Result, Ok, Err}
 use Rattle.cells.specs.declared.place.Size.{Size}
 use Rattle.cells.specs.Cells.{Cells, IsVolume, sizes_of}
 use Rattle.cells.specs.Places.{cell_count}
@@ -15,6 +15,7 @@ use Rattle.graph_place.specs.Placed.{map_total}
 use Rattle.patch_place.specs.declared.mode.Mode.{Mode}
 use Rattle.patch_place.specs.declared.mode.Mode.TheVariants as mode
 use Rattle.grow_run.specs.declared.plan.GrowPlan.{GrowPlan}
+use Rattle.grow_run.specs.declared.plan.Grown.{Grown}
 use Rattle.grow_run.specs.declared.plan.GrowError.{GrowError}
 use Rattle.grow_run.specs.declared.plan.GrowError.TheVariants as error
 use Rattle.grow_run.specs.Grown.{IsGrown, PassesAt}
@@ -29,12 +30,14 @@ use Rattle.synth_report.specs.declared.fault.FileOf.TheVariants as part
 use Rattle.synth_report.specs.declared.summary.Summary.{Summary}
 use Rattle.synth_report.specs.declared.summary.Summary.TheVariants.{Grow}
 use Rattle.command.specs.Commands.{Command, named}
-use Rattle.command.specs.Writing.{FileText, file_text, texts_in}
+use Rattle.command.specs.Stages.{PassesBound, Stages, bounded, never_passed, of_stages}
+use Rattle.command.specs.Stages.Stages.{make}
+use Rattle.command.specs.Writing.{FileText, file_text}
 use Rattle.sample_files.specs.declared.form.Form.{Form}
 use Rattle.sample_files.specs.declared.form.Form.TheVariants.{Picture, Clip}
 use Rattle.sample_files.specs.declared.several.Samples.{Samples}
 use Rattle.sample_files.specs.Samples.{form_text}
-use Rattle.sample_files.specs.Several.{StandForSamples, AreSoundSamples, MayRefuseSamples, RefusesSamples, contents, sample_files}
+use Rattle.sample_files.specs.Several.{StandForSamples, AreSoundSamples, MayRefuseSamples, contents, read_samples, sample_files}
 use Rattle.grow_command.specs.declared.plan.Growth.{Growth}
 
 -- The plan of a job.
@@ -68,30 +71,17 @@ pub record IsWithinBounds (job : GrowJob) (form : Form) : Type 0 where
   pub frames : job.size.f ≤ frames_allowed form
   pub cells : cell_count job.size ≤ MOST_OUTPUT_CELLS
 
-pub record FramesPass (job : GrowJob) (form : Form) (fault : Fault) : Type 0 where
-  pub passes : frames_allowed form < job.size.f
-  pub is : fault ≡ Limit Frames job.size.f (frames_allowed form)
-
-pub record OutputPasses (job : GrowJob) (form : Form) (fault : Fault) : Type 0 where
-  pub frames : job.size.f ≤ frames_allowed form
-  pub passes : MOST_OUTPUT_CELLS < cell_count job.size
-  pub is : fault ≡ Limit Output (cell_count job.size) MOST_OUTPUT_CELLS
-
 -- the frames pass their bound, or they don't and the cells of the output pass theirs
 abbrev pub RefusesOutput : GrowJob → Form → Fault → Type 0
-RefusesOutput job form fault = FramesPass job form fault ⊎ OutputPasses job form fault
+RefusesOutput job form fault =
+    PassesBound Frames job.size.f (frames_allowed form) fault
+    ⊎ ((job.size.f ≤ frames_allowed form)
+    × PassesBound Output (cell_count job.size) MOST_OUTPUT_CELLS fault)
 
 -- whether the output is within its bounds
 abbrev pub SetAgainst : GrowJob → Form → Result (Unit {0}) Fault → Type 0
 SetAgainst job form (Ok done) = IsWithinBounds job form
 SetAgainst job form (Err fault) = RefusesOutput job form fault
-
--- the boxes of the run pass the bound on their cells, at this number
-pub record RecordsPass (job : GrowJob) (samples : Samples) (fault : Fault) : Type 0 where
-  pub bounds : IsWithinBounds job samples.form
-  pub number : ℕ
-  pub passes : PassesAt (plan_of job) samples.volume number
-  pub is : fault ≡ Limit RecordsLimit number MOST_BOX_CELLS
 
 -- what a run without an output is refused for
 abbrev pub fault_of_growing : GrowError → Fault
@@ -105,15 +95,20 @@ abbrev pub AreSamplesIn : Files → GrowJob → Samples → Type 0
 AreSamplesIn files job samples =
     StandForSamples (content_of files job.names.sample) (contents files job.names.more) samples
 
--- the samples that the files stand for, the parts of one volume, the output that is grown and
--- refined over them, with flows of 16 bits as their type has them, and the total cost of its seams
-pub record IsGrowth (job : GrowJob) (files : Files) (growth : Growth) : Type 0 where
-  pub samples : AreSamplesIn files job growth.samples
-  pub volume : IsVolume growth.samples.volume
-  pub bounds : IsWithinBounds job growth.samples.form
-  pub grown : IsGrown (plan_of job) growth.samples.volume growth.grown
-  pub flows : All HasShortFlows growth.grown.cuts
-  pub seams : growth.seams ≡ map_total growth.samples.volume growth.grown.canvas.map
+-- over samples that are read, the parts of one volume: the output is grown and refined, with flows
+-- of 16 bits as their type has them
+pub record IsGrownOver (job : GrowJob) (samples : Samples) (grown : Grown) : Type 0 where
+  pub volume : IsVolume samples.volume
+  pub run : IsGrown (plan_of job) samples.volume grown
+  pub flows : All HasShortFlows grown.cuts
+
+-- both, with the total cost of the seams
+abbrev pub growth_of : Samples → Grown → Growth
+growth_of samples grown = record {
+  samples = samples;
+  grown = grown;
+  seams = map_total samples.volume grown.canvas.map;
+}
 
 -- what the writers of the files of a growth ask for
 pub record IsMade (job : GrowJob) (growth : Growth) : Type 0 where
@@ -157,33 +152,21 @@ growth_summary job growth =
 
 -- The command.
 
--- all sample files are read, and the job is refused over the samples that they stand for
-pub record RefusesOver (job : GrowJob) (files : Files) (n : ℕ) (fault : Fault) : Type 0 where
-  pub all : n ≡ length job.names.more + 1
-  pub samples : Samples
-  pub read : AreSamplesIn files job samples
-  pub refused : RefusesOutput job samples.form fault ⊎ RecordsPass job samples fault
+-- over samples that are read the frames are within their bound, and so are the cells of the output
+-- and the boxes of the run; the output is grown
+abbrev pub grow_over : GrowJob → Samples → Stages []
+grow_over job samples =
+    bounded Frames job.size.f (frames_allowed samples.form)
+    (bounded Output (cell_count job.size) MOST_OUTPUT_CELLS
+    (never_passed RecordsLimit (PassesAt (plan_of job) samples.volume) MOST_BOX_CELLS
+    (make (IsGrownOver job samples)
+    (λ grown. growth_files job (growth_of samples grown))
+    (λ grown. growth_summary job (growth_of samples grown)))))
 
--- the refusals of the files, once so many are read: those of the samples, and then those of the job
-abbrev pub RefusesGrowth : GrowJob → ℕ → Files → Fault → Type 0
-RefusesGrowth job n files fault =
-    RefusesSamples n (content_of files job.names.sample) (contents files job.names.more) fault
-    ⊎ RefusesOver job files n fault
-
--- the samples are read, and every number is within its bound
-pub record TakesToGrow (job : GrowJob) (files : Files) : Type 0 where
-  pub samples : Samples
-  pub read : AreSamplesIn files job samples
-  pub bounds : IsWithinBounds job samples.form
-  pub records : (number : ℕ) → PassesAt (plan_of job) samples.volume number → ⊥
-
--- a growth of the files, with its texts and its summary
-pub record MakesGrowth (job : GrowJob) (files : Files) (texts : List (List ℕ)) (summary : Summary)
-    : Type 0 where
-  pub growth : Growth
-  pub grown : IsGrowth job files growth
-  pub texts_are : texts ≡ texts_in (growth_files job growth)
-  pub summary_is : summary ≡ growth_summary job growth
+-- the sample files are read, and then so
+abbrev pub grow_stages : (job : GrowJob)
+    → Stages (sample_files job.names.sample job.names.more ++ [])
+grow_stages job = read_samples job.names.sample job.names.more (grow_over job)
 
 -- the summaries of `grow`
 abbrev pub IsGrowSummary : Summary → Type 0
@@ -192,13 +175,7 @@ IsGrowSummary summary =
     × (summary ≡ Grow size placements rounds seams)
 
 abbrev pub grow_command : GrowJob → Command
-grow_command job = record {
-  reads = sample_files job.names.sample job.names.more;
-  writes = named part.Out job.names.out ∷ named part.Map job.names.map
-      ∷ named part.Record job.names.record_file ∷ [];
-  Takes = TakesToGrow job;
-  Refuses = RefusesGrowth job;
-  Makes = MakesGrowth job;
-  MayRefuse = MayRefuseSamples (length job.names.more + 1);
-  MayMake = IsGrowSummary;
-}
+grow_command job = of_stages (grow_stages job)
+    (named part.Out job.names.out ∷ named part.Map job.names.map
+    ∷ named part.Record job.names.record_file ∷ [])
+    (MayRefuseSamples (length job.names.more + 1)) IsGrowSummary

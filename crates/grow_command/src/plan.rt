@@ -5,6 +5,7 @@ ghost use Rattle.shelf_core.specs.Files.{OnlyReads};
 ghost use Rattle.job_words.specs.GrowWords.{IsGrowJob};
 ghost use Rattle.command.specs.Commands.{names_in};
 ghost use Rattle.command.specs.Outcomes.{Plans};
+ghost use Rattle.sample_files.specs.Several.{sample_files};
 ghost use Rattle.grow_command.specs.Growths.{IsMade, SetAgainst, grow_command, growth_files, growth_summary, frames_allowed, plan_of};
 
 use crate::asked::{growing_fault, mode_for};
@@ -90,7 +91,7 @@ pub(crate) fn plan<S: Shelf>(alloc: Global, job: &GrowJob, shelf: &mut S) -> Res
     ensures planned { Plans (grow_command job.now) (growth_files job.now) (growth_summary job.now)
         (S.state shelf.old) (S.state shelf.new) result }
     ensures made { IfOk result (IsMade job.now) }
-    ensures reads { OnlyReads (names_in (grow_command job.now).reads)
+    ensures reads { OnlyReads (names_in (sample_files job.now.names.sample job.now.names.more))
         (S.state shelf.old) (S.state shelf.new) }
 {
     let samples = match read_samples(alloc, shelf, &job.names.sample, job.names.more.as_slice()) {

@@ -1,6 +1,6 @@
 -- `trial` as a command: it reads and writes no file, grows an output from the sample of a number, and
 -- says what came of it. To be trusted: contracts cite these words. (Own.)
-use Rattle.std.specs.Prelude.{◌≡◌, ◌≤◌, ◌<◌, ◌⊎◌, ◌-◌, ℕ, [], length}
+use Rattle.std.specs.Prelude.{◌≡◌, ◌≤◌, ◌⊎◌, ◌-◌, ℕ, [], length}
 use Rattle.cells.specs.Places.{cell_count}
 use Rattle.shelf_core.specs.declared.fault.What.TheVariants.{Output, Records as RecordsLimit}
 use Rattle.graph_place.specs.Placed.{map_total}
@@ -15,6 +15,8 @@ use Rattle.synth_report.specs.declared.fault.Fault.TheVariants.{Limit, NoMemory}
 use Rattle.synth_report.specs.declared.summary.Summary.{Summary}
 use Rattle.synth_report.specs.declared.summary.Summary.TheVariants.{Trial}
 use Rattle.command.specs.Commands.{Command}
+use Rattle.command.specs.Stages.{PassesBound, Stages, bounded, never_passed, of_stages}
+use Rattle.command.specs.Stages.Stages.{make}
 use Rattle.grow_command.specs.Growths.{mode_for}
 
 -- how the output is grown and refined
@@ -42,36 +44,26 @@ pub record IsTrialOf (job : TrialJob) (summary : Summary) : Type 0 where
   pub is_grown : IsGrown (trial_plan job) (trial_sample job.n) grown
   pub summary_is : summary ≡ trial_summary job grown
 
--- the cells of the output pass their bound; or those of the boxes of the run do, at this number
-pub record TrialPasses (job : TrialJob) (fault : Fault) : Type 0 where
-  pub passes : MOST_OUTPUT_CELLS < cell_count job.size
-  pub is : fault ≡ Limit Output (cell_count job.size) MOST_OUTPUT_CELLS
-
-pub record TrialRecordsPass (job : TrialJob) (fault : Fault) : Type 0 where
-  pub within : cell_count job.size ≤ MOST_OUTPUT_CELLS
-  pub number : ℕ
-  pub passes : PassesAt (trial_plan job) (trial_sample job.n) number
-  pub is : fault ≡ Limit RecordsLimit number MOST_BOX_CELLS
-
+-- the cells of the output pass their bound; or they don't and those of the boxes of the run do, at
+-- this number
 abbrev pub IsTrialRefused : TrialJob → Fault → Type 0
-IsTrialRefused job fault = TrialPasses job fault ⊎ TrialRecordsPass job fault
+IsTrialRefused job fault =
+    PassesBound Output (cell_count job.size) MOST_OUTPUT_CELLS fault
+    ⊎ ((cell_count job.size ≤ MOST_OUTPUT_CELLS)
+    × (number : ℕ) × PassesAt (trial_plan job) (trial_sample job.n) number
+    × (fault ≡ Limit RecordsLimit number MOST_BOX_CELLS))
 
 -- why nothing is made: it is refused, or memory ran out
 abbrev pub NotTried : TrialJob → Fault → Type 0
 NotTried job fault = (fault ≡ NoMemory) ⊎ IsTrialRefused job fault
 
-pub record TakesTrial (job : TrialJob) : Type 0 where
-  pub within : cell_count job.size ≤ MOST_OUTPUT_CELLS
-  pub records : (number : ℕ) → PassesAt (trial_plan job) (trial_sample job.n) number → ⊥
+-- the cells of the output are within their bound, and so are those of the boxes of the run; the
+-- output is grown. What is refused and made is the same whatever files there are
+abbrev pub trial_stages : TrialJob → Stages []
+trial_stages job =
+    bounded Output (cell_count job.size) MOST_OUTPUT_CELLS
+    (never_passed RecordsLimit (PassesAt (trial_plan job) (trial_sample job.n)) MOST_BOX_CELLS
+    (make (IsGrown (trial_plan job) (trial_sample job.n)) (λ grown. []) (trial_summary job)))
 
--- what it refuses and makes is the same whatever files there are
 abbrev pub trial_command : TrialJob → Command
-trial_command job = record {
-  reads = [];
-  writes = [];
-  Takes = λ files. TakesTrial job;
-  Refuses = λ n files fault. (n ≡ 0) × IsTrialRefused job fault;
-  Makes = λ files texts summary. (texts ≡ []) × IsTrialOf job summary;
-  MayRefuse = IsTrialRefused job;
-  MayMake = IsTrialOf job;
-}
+trial_command job = of_stages (trial_stages job) [] (IsTrialRefused job) (IsTrialOf job)

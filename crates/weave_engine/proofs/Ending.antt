@@ -28,26 +28,27 @@ use Rattle.tile_command.proofs.OneTiles.{one_tile}
 use Rattle.tile_command.proofs.TileLaws.{tile_has_one_answer, tile_told}
 use Rattle.upgrade_command.specs.Upgraded.{UpgradeHeadline}
 use Rattle.upgrade_command.proofs.Headline.{finished}
-use Rattle.upgrade_command.proofs.OneAnswer.{upgrade_has_one_answer}
+use Rattle.upgrade_command.proofs.Reading.{upgrade_has_one_answer}
 use Rattle.weave_engine.specs.Engine.{command_of}
 use Rattle.grow_command.specs.GrowHeadlines.{GrowHeadline, GrowReport, HaveSameOutput, HaveSameSamples, IsGrownRun, IsOneReport, OneOutput}
 use Rattle.check_command.specs.CheckHeadlines.{CheckHeadline, HaveLeastRecords}
 use Rattle.trial_command.specs.TrialHeadlines.{TrialHeadline}
 use Rattle.standing_files.specs.declared.verdict.Verdict.TheVariants as verdict
 use Rattle.check_command.specs.Checks.{Stand, check_command, summary_of}
-use Rattle.check_command.proofs.OneAnswer.{check_has_one_answer}
+use Rattle.check_command.proofs.Staged.{check_has_one_answer}
 use Rattle.check_command.proofs.Checked.{broke, least_records, made_breaking, made_standing, stood}
-use Rattle.grow_command.proofs.GrowLaws.{grow_has_one_answer, grow_told, grown_run, small_output}
+use Rattle.grow_command.proofs.Growing.{small_output}
+use Rattle.grow_command.proofs.GrowLaws.{grow_has_one_answer, grow_told, grown_run}
 use Rattle.grow_command.proofs.OneOutputs.{one_output, one_report}
 use Rattle.trial_command.specs.Trials.{IsTrialOf}
 use Rattle.trial_command.proofs.Trying.{one_trial, trial_has_one_answer, trial_unchanged}
 
 pub one_answer : (job : Job) → IsJob job → HasOneAnswer (command_of job)
-one_answer (Grow job) lawful = grow_has_one_answer job lawful
-one_answer (Quilt job) lawful = quilt_has_one_answer job lawful
+one_answer (Grow job) lawful = grow_has_one_answer job
+one_answer (Quilt job) lawful = quilt_has_one_answer job
 one_answer (Loop job) lawful = loop_has_one_answer job
 one_answer (Check job) lawful = check_has_one_answer job
-one_answer (Trial job) lawful = trial_has_one_answer job lawful
+one_answer (Trial job) lawful = trial_has_one_answer job
 one_answer (Upgrade job) lawful = upgrade_has_one_answer job
 one_answer (Tile job) lawful = tile_has_one_answer job
 one_answer (Merge job) lawful = merge_has_one_answer job lawful
@@ -93,7 +94,7 @@ module _ (words : List (List ℕ)) (was now : ShelfState) (out out' err err' : S
   grow_once job asks zero =
       let its = done_of (Grow job) asks zero in
       then_of (Grow job) its (λ before after. (earlier later : Files) → HaveSameSamples job earlier before → IsGrownRun job earlier later → HaveSameOutput job later after)
-      (λ before after wrote earlier later same other. one_output job (small_output job its.lawful wrote.1.growth.samples.form wrote.1.grown.bounds) before after earlier later same (grown_run job its.lawful its.summary before after wrote) other)
+      (λ before after wrote earlier later same other. one_output job (small_output job its.lawful wrote.1.2.1.0) before after earlier later same (grown_run job its.lawful its.summary before after wrote) other)
 
   pub grow_reported : GrowReport words was now out out' status
   grow_reported job asks zero =
@@ -101,7 +102,7 @@ module _ (words : List (List ℕ)) (was now : ShelfState) (out out' err err' : S
         its.summary,
         its.told,
         then_of (Grow job) its (IsOneReport job its.summary)
-            (λ before after wrote. one_report job (small_output job its.lawful wrote.1.growth.samples.form wrote.1.grown.bounds) its.summary before after (grow_told job its.lawful its.summary before after wrote)),
+            (λ before after wrote. one_report job (small_output job its.lawful wrote.1.2.1.0) its.summary before after (grow_told job its.lawful its.summary before after wrote)),
       )
 
   -- the headline of `quilt`, its one output, and its report

@@ -4,18 +4,17 @@ ghost use Rattle.shelf_core.specs.Files.{OnlyWrites};
 ghost use Rattle.job_words.specs.TileWords.{IsTileJob};
 ghost use Rattle.command.specs.Outcomes.{Leaves};
 ghost use Rattle.command.specs.Writing.{WritesRun, text_names};
-ghost use Rattle.command_files.specs.Outs.{HasWriter};
+ghost use Rattle.command_files.specs.Outs.{out_writer};
 ghost use Rattle.tile_command.specs.Tilings.{IsTilingMade, tile_command, tile_files, tile_summary};
 
 use crate::plan::{TiledSample, plan};
 use command::{Then, write_run};
-use command_files::{CellMapFile, OutFile, writer_for};
+use command_files::{CellMapFile, OutFile, OutWriter, writer_for};
 use job_words::TileJob;
 use shelf_core::{Shelf, Sink};
 use source_map::Version;
 use std::alloc::Global;
 use synth_report::{Fault, FileOf, Summary};
-use y4m_clip::ClipWriter;
 
 // The summary of a tiling.
 fn summary_of(job: &TileJob, made: &TiledSample) -> Summary
@@ -32,13 +31,13 @@ fn summary_of(job: &TileJob, made: &TiledSample) -> Summary
 fn write_tiling<S: Shelf, O: Sink>(
     job: &TileJob,
     made: &TiledSample,
-    writer: Option<ClipWriter>,
+    writer: OutWriter,
     shelf: &mut S,
     out: &mut O,
 ) -> Result<Summary, Fault>
     requires job { IsTileJob job.now }
     requires made { IsTilingMade job.now made.now }
-    requires writer { HasWriter made.now.sample.form job.now.size writer }
+    requires writer { writer ≡ out_writer made.now.sample.form job.now.size }
     ensures wrote { WritesRun (tile_files job.now made.now) (tile_summary job.now made.now)
         (S.state shelf.old) (S.state shelf.new) (O.state out.old) (O.state out.new) result }
     ensures writes { OnlyWrites (text_names (tile_files job.now made.now))
@@ -46,7 +45,6 @@ fn write_tiling<S: Shelf, O: Sink>(
 {
     let picture = OutFile {
         name: &job.out,
-        form: &made.sample.form,
         writer,
         picture: made.tiled.canvas.picture(),
     };

@@ -5,7 +5,8 @@ use Rattle.source_map.specs.declared.head.Version.TheVariants.{One}
 use Rattle.synth_report.specs.declared.fault.FileOf.TheVariants as part
 use Rattle.command.specs.Writing.{FileText, WritesRun, file_text}
 use Rattle.sample_files.specs.Samples.{form_text}
-use Rattle.command_files.specs.Outs.{HasWriter}
+use Rattle.command_files.specs.Outs.{CanWrite, out_text, out_writer}
+use Rattle.command_files.proofs.OutFiles.{can_write, text_of_form}
 use Rattle.tile_command.specs.Tilings.{tile_files, tile_summary}
 use Rattle.tile_command.proofs.TileReady.{map_ready, picture_ready}
 use Rattle.tile_command.proofs.whole.write_tiling.Goals as goal
@@ -17,7 +18,10 @@ write_run-requires g c =
     let its = c.requires.made in
     let map = subst (λ sizes. IsWritable c.map.result.now sizes One) (sym c.sizes.ensures) (map_ready job made c.map.result.now c.map.ensures.map its) in
     let size : c.picture.result.now.size ≡ job.size = ap (λ (v : Cells). v.size) c.picture.ensures.picture ∙ its.tiled.canvas.size ∙ its.tiled.size in
-    ((picture_ready job made c.picture.result.now c.picture.ensures.picture c.requires.job its, subst (λ s. HasWriter made.sample.form s c.args.writer) (sym size) c.requires.writer), map)
+    let form = made.sample.form in
+    let picture = c.picture.result.now in
+    let own : c.args.writer ≡ out_writer form picture.size = c.requires.writer ∙ ap (out_writer form) (sym size) in
+    (subst (λ w. CanWrite w picture) (sym own) (can_write form picture (picture_ready job made picture c.picture.ensures.picture c.requires.job its)), map)
 
 pub returns-clause-wrote : goal.returns-clause-wrote
 returns-clause-wrote g c =
@@ -27,10 +31,15 @@ returns-clause-wrote g c =
     let now = g.S.Shelf.state c.write_run.new.shelf in
     let out = g.O.Sink.state c.args.out.now in
     let out' = g.O.Sink.state c.write_run.new.out in
+    let form = made.sample.form in
+    let picture = c.picture.result.now in
+    let size : picture.size ≡ job.size = ap (λ (v : Cells). v.size) c.picture.ensures.picture ∙ c.requires.made.tiled.canvas.size ∙ c.requires.made.tiled.size in
+    let text : out_text c.args.writer picture ≡ form_text form made.tiled.canvas.picture =
+    ap (λ w. out_text w picture) (c.requires.writer ∙ ap (out_writer form) (sym size)) ∙ text_of_form form picture ∙ ap (form_text form) c.picture.ensures.picture in
     let given : List FileText =
-    file_text part.Out job.out (form_text made.sample.form c.picture.result.now) ∷ file_text part.Map job.map (cell_map_form c.map.result.now c.sizes.result One) ∷ [] in
+    file_text part.Out job.out (out_text c.args.writer picture) ∷ file_text part.Map job.map (cell_map_form c.map.result.now c.sizes.result One) ∷ [] in
     let same : given ≡ tile_files job made =
-    λ i. file_text part.Out job.out (form_text made.sample.form (c.picture.ensures.picture i))
+    λ i. file_text part.Out job.out (text i)
     ∷ file_text part.Map job.map (cell_map_form (c.map.ensures.map i) (c.sizes.ensures i) One) ∷ [] in
     subst (λ files. WritesRun files (tile_summary job made) was now out out' c.write_run.result) same
     (subst (λ summary. WritesRun given summary was now out out' c.write_run.result) c.summary_of-summary.ensures c.write_run.ensures.wrote)

@@ -8,9 +8,8 @@ ghost use Rattle.merge_command.specs.MergeCommand.{IsMade, merge_command, merge_
 
 use crate::plan::{Merged, plan};
 use command::{Then, write_run};
-use command_files::{CellMapFile, OutFile};
+use command_files::{CellMapFile, OutFile, OutWriter};
 use job_words::MergeJob;
-use sample_files::Form;
 use shelf_core::{Shelf, Sink};
 use source_map::Version;
 use std::alloc::Global;
@@ -41,13 +40,11 @@ fn write_merge<S: Shelf, O: Sink>(
     ensures writes { OnlyWrites (text_names (merge_files job.now made.now))
         (S.state shelf.old) (S.state shelf.new) }
 {
-    let form = Form::Picture {
-        maxval: made.pictures.maxval,
-    };
     let picture = OutFile {
         name: &job.out,
-        form: &form,
-        writer: None,
+        writer: OutWriter::Picture {
+            maxval: made.pictures.maxval,
+        },
         picture: made.canvas.picture(),
     };
     let map = CellMapFile {

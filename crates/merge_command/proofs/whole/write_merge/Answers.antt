@@ -15,7 +15,7 @@ write_run-requires g c =
     let picture = subst (IsPicture made.pictures.maxval) (sym c.picture.ensures.picture) (picture_ready made c.requires) in
     let map = subst (λ sizes. IsWritable c.map.result.now sizes Two) (sym c.sizes.ensures)
     (subst (λ m. IsWritable m (sizes_of made.pictures.volume) Two) (sym c.map.ensures.map) (map_ready made c.requires)) in
-    ((picture, tt), map)
+    (picture, map)
 
 pub returns-clause-wrote : goal.returns-clause-wrote
 returns-clause-wrote g c =

@@ -36,30 +36,23 @@ fn three_parts(alloc: Global) -> Result<Volume, AllocError> {
     Ok(volume)
 }
 
-// Whether the sample has three parts; the column and the frame of each cell's source; and the picture.
-const CANVASES: &[(bool, [Option<(i32, i32)>; 4], [u8; 4])] = &[
-    (false, [None; 4], [0; 4]),
+// Whether the sample has three parts; of each cell that has a source its column, and the source's column and frame; and
+// the picture.
+const CANVASES: &[(bool, &[(i32, i32, i32)], [u8; 4])] = &[
+    (false, &[], [0; 4]),
     (
         false,
-        [Some((0, 0)), Some((1, 0)), Some((1, 0)), Some((0, 0))],
+        &[(0, 0, 0), (1, 1, 0), (2, 1, 0), (3, 0, 0)],
         [10, 20, 20, 10],
     ),
-    (
-        false,
-        [None, Some((1, 0)), None, Some((0, 0))],
-        [0, 20, 0, 10],
-    ),
-    (true, [None; 4], [0; 4]),
+    (false, &[(1, 1, 0), (3, 0, 0)], [0, 20, 0, 10]),
+    (true, &[], [0; 4]),
     (
         true,
-        [Some((0, 2)), Some((1, 4)), Some((0, 0)), Some((1, 2))],
+        &[(0, 0, 2), (1, 1, 4), (2, 0, 0), (3, 1, 2)],
         [30, 60, 10, 40],
     ),
-    (
-        true,
-        [Some((0, 4)), None, Some((1, 2)), None],
-        [50, 0, 40, 0],
-    ),
+    (true, &[(0, 0, 4), (2, 1, 2)], [50, 0, 40, 0]),
 ];
 
 // A canvas whose cells get their sources one by one.
@@ -67,15 +60,18 @@ fn laid(
     rt: &impl Abort,
     alloc: Global,
     sample: &Volume,
-    sources: &[Option<(i32, i32)>; 4],
+    sources: &[(i32, i32, i32)],
 ) -> Result<Canvas, AllocError>
     ensures { IfOk result (λ canvas. StandsOver canvas sample.now) }
 {
     let mut canvas = canvas_over(alloc, FOUR, sample)?;
-    'cells: for x in 0..4 {
-        if let Some((from, f)) = sources[x as usize] {
-            put(rt, &mut canvas, sample, column(x), At { x: from, y: 0, f });
-        }
+    'cells: for (x, from, f) in sources.iter() {
+        let from = At {
+            x: *from,
+            y: 0,
+            f: *f,
+        };
+        put(rt, &mut canvas, sample, column(*x), from);
     }
     Ok(canvas)
 }
@@ -94,7 +90,7 @@ fn assert_remade(
     rt: &impl Abort,
     alloc: Global,
     sample: &Volume,
-    sources: &[Option<(i32, i32)>; 4],
+    sources: &[(i32, i32, i32)],
     picture: &[u8],
 ) -> Result<(), AllocError> {
     let canvas = laid(rt, alloc, sample, sources)?;

@@ -36,44 +36,38 @@ fn three_parts(alloc: Global) -> Result<Volume, AllocError> {
     Ok(volume)
 }
 
-// Whether the sample has three parts; of each cell that has a source its column, and the source's column and frame; and
-// the picture.
-const CANVASES: &[(bool, &[(i32, i32, i32)], [u8; 4])] = &[
-    (false, &[], [0; 4]),
+// Of each cell that has a source its column, and the source's column and frame; and the picture.
+const OF_ONE_PART: &[(&[(i32, i32, i32)], [u8; 4])] = &[
+    (&[], [0; 4]),
     (
-        false,
         &[(0, 0, 0), (1, 1, 0), (2, 1, 0), (3, 0, 0)],
         [10, 20, 20, 10],
     ),
-    (false, &[(1, 1, 0), (3, 0, 0)], [0, 20, 0, 10]),
-    (true, &[], [0; 4]),
+    (&[(1, 1, 0), (3, 0, 0)], [0, 20, 0, 10]),
+];
+
+const OF_THREE_PARTS: &[(&[(i32, i32, i32)], [u8; 4])] = &[
+    (&[], [0; 4]),
     (
-        true,
         &[(0, 0, 2), (1, 1, 4), (2, 0, 0), (3, 1, 2)],
         [30, 60, 10, 40],
     ),
-    (true, &[(0, 0, 4), (2, 1, 2)], [50, 0, 40, 0]),
+    (&[(0, 0, 4), (2, 1, 2)], [50, 0, 40, 0]),
 ];
 
-// A canvas whose cells get their sources one by one.
-fn laid(
-    rt: &impl Abort,
-    alloc: Global,
-    sample: &Volume,
-    sources: &[(i32, i32, i32)],
-) -> Result<Canvas, AllocError>
-    ensures { IfOk result (λ canvas. StandsOver canvas sample.now) }
+// Gives cells their sources, one by one.
+fn put_cells(rt: &impl Abort, canvas: &mut Canvas, sample: &Volume, sources: &[(i32, i32, i32)])
+    requires { StandsOver canvas.old sample.now }
+    ensures { StandsOver canvas.new sample.now }
 {
-    let mut canvas = canvas_over(alloc, FOUR, sample)?;
     'cells: for (x, from, f) in sources.iter() {
         let from = At {
             x: *from,
             y: 0,
             f: *f,
         };
-        put(rt, &mut canvas, sample, column(*x), from);
+        put(rt, canvas, sample, column(*x), from);
     }
-    Ok(canvas)
 }
 
 // The canvas that is made of its map.
@@ -93,7 +87,8 @@ fn assert_remade(
     sources: &[(i32, i32, i32)],
     picture: &[u8],
 ) -> Result<(), AllocError> {
-    let canvas = laid(rt, alloc, sample, sources)?;
+    let mut canvas = canvas_over(alloc, FOUR, sample)?;
+    put_cells(rt, &mut canvas, sample, sources);
     let made = remade(alloc, &canvas, sample)?;
     assert!(rt; made.map().sources() == canvas.map().sources());
     assert!(rt; made.picture().bytes() == picture);
@@ -102,13 +97,29 @@ fn assert_remade(
     Ok(())
 }
 
-#[test]
-fn canvases_of_maps(rt: HostRuntime) -> Result<(), Fail> {
-    let one = one_part(rt.alloc())?;
-    let three = three_parts(rt.alloc())?;
-    for (parts, sources, picture) in CANVASES.iter() {
-        let sample = if *parts { &three } else { &one };
-        assert_remade(&rt, rt.alloc(), sample, sources, picture)?;
+// The same of each row of a table.
+fn assert_rows(
+    rt: &impl Abort,
+    alloc: Global,
+    sample: &Volume,
+    table: &[(&[(i32, i32, i32)], [u8; 4])],
+) -> Result<(), AllocError> {
+    for (sources, picture) in table.iter() {
+        assert_remade(rt, alloc, sample, sources, picture)?;
     }
+    Ok(())
+}
+
+#[test]
+fn canvases_over_one_part(rt: HostRuntime) -> Result<(), Fail> {
+    let sample = one_part(rt.alloc())?;
+    assert_rows(&rt, rt.alloc(), &sample, OF_ONE_PART)?;
+    Ok(())
+}
+
+#[test]
+fn canvases_over_three_parts(rt: HostRuntime) -> Result<(), Fail> {
+    let sample = three_parts(rt.alloc())?;
+    assert_rows(&rt, rt.alloc(), &sample, OF_THREE_PARTS)?;
     Ok(())
 }

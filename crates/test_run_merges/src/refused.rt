@@ -1,9 +1,10 @@
 // Pictures and marks that are refused. No file is written, and none is read after a refusal.
 use crate::merged::TWO;
 use crate::merging::{Failing, Merge, wrong_merge};
+use shelf_core::{MemShelf, MemSink};
 use std::alloc::{AllocError, Global};
 use std::test::Fail;
-use test_stage::BEFORE;
+use test_stage::{BEFORE, is_file, ran};
 
 const REFUSED: Merge<'static> = Merge {
     status: 3,
@@ -195,28 +196,37 @@ fn broad(alloc: Global, last: u8) -> Result<Vec<u8>, AllocError> {
     Ok(bytes)
 }
 
+// Whether a run over two pictures of these bytes ends with this status and line, and writes nothing.
+fn is_refused(
+    alloc: Global,
+    picture: &[u8],
+    marks: &[u8],
+    status: u8,
+    line: &str,
+) -> Result<bool, AllocError> {
+    let mut shelf = MemShelf::new(alloc);
+    shelf.put_file("a", picture)?;
+    shelf.put_file("b", picture)?;
+    shelf.put_file("k", marks)?;
+    shelf.put_file("o", BEFORE)?;
+    shelf.put_file("m", BEFORE)?;
+    let mut out = MemSink::new(alloc);
+    let mut err = MemSink::new(alloc);
+    let words = "merge sample=a sample2=b marks=k out=o map=m";
+    let ended = ran(alloc, words, &mut shelf, &mut out, &mut err)?;
+    let said = out.bytes().is_empty() && err.bytes() == line.as_bytes();
+    let stay = is_file(shelf.file("o"), BEFORE) && is_file(shelf.file("m"), BEFORE);
+    Ok(ended == status && said && stay)
+}
+
 // Bad marks come before the bound of an output.
 #[test]
 fn pictures_of_too_many_cells(rt: HostRuntime) -> Result<(), Fail> {
     let picture = broad(rt.alloc(), 0)?;
     let marks = broad(rt.alloc(), 1)?;
-    let table = [
-        Merge {
-            first: &picture,
-            second: &picture,
-            marks: &marks,
-            line: "weave: marks: mark at 2097151\n",
-            ..REFUSED
-        },
-        Merge {
-            first: &picture,
-            second: &picture,
-            marks: &picture,
-            status: 4,
-            line: "weave: limit output 2097152 over 1048576\n",
-            ..REFUSED
-        },
-    ];
-    assert_eq!(rt; wrong_merge(rt.alloc(), &table)?, None);
+    let bad = "weave: marks: mark at 2097151\n";
+    let over = "weave: limit output 2097152 over 1048576\n";
+    assert!(rt; is_refused(rt.alloc(), &picture, &marks, 3, bad)?);
+    assert!(rt; is_refused(rt.alloc(), &picture, &picture, 4, over)?);
     Ok(())
 }

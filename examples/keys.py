@@ -36,15 +36,17 @@ class Source:
         table = text(WORDS / "table.rt")
         lists = re.findall(r"Texts::(\w+) => &\[([^\]]*)\]", table)
         self.texts = {name: re.findall(r'"(\w+)"', words) for name, words in lists}
-        self.constant, self.around = {}, {}
+        self.constant, self.with_default, self.around = {}, {}, {}
         for name, body in re.findall(r"macro_rules! (\w+) \{(.*?)^\}", table, re.S | re.M):
             if "() =>" in body:
                 self.constant[name] = re.search(r"\(\) => \{(.*)\};", body, re.S)[1]
+            if "($default:literal) =>" in body:
+                self.with_default[name] = re.search(r"=> \{(.*)\};", body, re.S)[1]
             if "$($row),*" in body:
                 self.around[name] = re.search(r"=> \{\s*\[(.*)\$\(\$row\),\*", body, re.S)[1]
 
     def number(self, word):
-        word = word.replace(" as u64", "").strip()
+        word = word.replace(" as u64", "").replace("limits::", "").strip()
         return int(self.numbers.get(word, word).replace("_", ""))
 
     def key(self, name):
@@ -91,6 +93,8 @@ class Source:
         body = (self.around[around[:-1]] if around else "") + body
         for macro, value in self.constant.items():
             body = body.replace(f"{macro}!()", value)
+        for macro, value in self.with_default.items():
+            body = re.sub(rf"\b{macro}!\((\w+)\)", lambda found: value.replace("$default", found[1]), body)
         rows = [self.row(found) for found in ROW.finditer(body)]
         assert len(rows) == int(count), f"{name}: {len(rows)} rows are read, and the table has {count}"
         return {key: (values, default) for key, values, default in rows}

@@ -181,7 +181,7 @@ fn assert_twice(
     let plain = total(output, sample);
     let torus = torus_total(output, sample, &plan.tile.wrap);
     let whole = total(&laid, sample);
-    assert!(rt; plain < torus);
+    assert!(rt; plain <= torus);
     assert!(rt; whole % half == 0);
     assert!(rt; u128::from(whole / half) == u128::from(plain) + u128::from(torus));
     Ok(())

@@ -161,9 +161,9 @@ const FAILING: &[Case<'static>] = &[
     Case {
         words: ACROSS,
         sample: TWO_CELLS,
-        failing: Failing::ReportWrite(5),
+        failing: Failing::ReportWrite(2),
         status: 6,
-        report: "tile ",
+        report: "ti",
         line: "weave: report: write fault\n",
         picture: ACROSS_PICTURE,
         map: ACROSS_MAP,

@@ -1,4 +1,5 @@
 pub mod Maps
+pub mod Entries
 pub mod Runs
 pub mod Choices
 pub mod CellErrors

@@ -2,12 +2,13 @@
 //!
 //! A canvas keeps a map beside its picture; the contracts say that the picture is the map's picture
 //! (specs/Canvases.antt), and that a choice over a placement leaves the map after it
-//! (specs/Choices.antt). `map` has the map, `canvas` the canvas and its placements, `kept` the cells
-//! that a choice may not change, `rendered` the test of a picture against a sample. The files of maps
-//! are those of the crate source_map.
+//! (specs/Choices.antt). `map` has the map, `entry` what it has for one cell, `canvas` the canvas and its
+//! placements, `kept` the cells that a choice may not change, `rendered` the test of a picture against a
+//! sample. The files of maps are those of the crate source_map.
 #![tactic(auto)]
 
 mod canvas;
+mod entry;
 mod kept;
 pub mod laws;
 mod map;
@@ -15,4 +16,5 @@ mod rendered;
 mod shown;
 
 pub use canvas::{Canvas, Placement};
+pub use entry::Entry;
 pub use map::{GREATEST_COORDINATE, Map};

@@ -6,6 +6,7 @@ ghost use Rattle.cells.specs.Cells.{put_run};
 ghost use Rattle.map_canvas.specs.Maps.{map_at, with_source, empty_map, IsMap, IsSource};
 ghost use Rattle.map_canvas.specs.Runs.{source_run, with_run};
 
+use crate::Entry;
 use cells::{At, Size};
 use std::alloc::{AllocError, Global};
 use std::marker::Model;
@@ -17,7 +18,7 @@ pub const GREATEST_COORDINATE: i32 = 131072;
 #[derive(Drop)]
 pub struct Map {
     size: Size,
-    sources: Vec<Option<At>>,
+    sources: Vec<Entry>,
 }
 
 impl Model for Map {
@@ -31,19 +32,19 @@ impl Model for Map {
 }
 
 // How many entries, from the first on, are sources. The first `start` of them are known to be.
-fn filled_from(sources: &[Option<At>], start: usize) -> usize
+fn filled_from(sources: &[Entry], start: usize) -> usize
     requires { start ≤ position_or_len is_none sources.now }
     ensures { result ≡ position_or_len is_none sources.now }
 {
     let mut reached = start;
-    'filled: while reached < sources.len() && sources[reached].is_some() {
+    'filled: while reached < sources.len() && sources[reached].source().is_some() {
         reached += 1;
     }
     reached
 }
 
 // Names the places along X from a source on for so many cells, from an index on.
-fn name_run(sources: &mut [Option<At>], start: usize, from: At, w: u32)
+fn name_run(sources: &mut [Entry], start: usize, from: At, w: u32)
     requires room { start + w ≤ length sources.old }
     requires sources { (j : ℕ) → j < w → IsSource (plus from (spot j 0 0)) }
     ensures { sources.new ≡ put_run sources.old (Some start) (source_run from w) }
@@ -54,7 +55,7 @@ fn name_run(sources: &mut [Option<At>], start: usize, from: At, w: u32)
             y: 0,
             f: 0,
         };
-        sources[start + j as usize] = Some(from.plus(step));
+        sources[start + j as usize] = Entry::new(Some(from.plus(step)));
     }
 }
 
@@ -64,13 +65,13 @@ impl Map {
         requires { IsSmall size }
         ensures { IfOk result (λ m. m ≡ empty_map size) }
     {
-        let sources = vec![in alloc; None; size.cells()]?;
+        let sources = vec![in alloc; Entry::new(None); size.cells()]?;
         Ok(Map { size, sources })
     }
 
     /// The map of an output of that size whose cells have these sources, in raster order. It keeps the
     /// list and takes no memory.
-    pub fn from_sources(size: Size, sources: Vec<Option<At>>) -> Map
+    pub fn from_sources(size: Size, sources: Vec<Entry>) -> Map
         requires { IsMap (record { size = size; sources = sources.items }) }
         ensures { result ≡ record { size = size; sources = sources.items } }
     {
@@ -91,11 +92,11 @@ impl Map {
         ensures source { IfSome result IsSource }
     {
         let i = self.size.index_of(p)?;
-        self.sources.get(i).copied().flatten()
+        self.sources[i].source()
     }
 
     /// The sources of all cells, in raster order; None for each cell that is unfilled.
-    pub fn sources(&self) -> &[Option<At>]
+    pub fn sources(&self) -> &[Entry]
         ensures { result.now ≡ self.now.sources }
     {
         self.sources.as_slice()
@@ -108,7 +109,7 @@ impl Map {
         ensures { self.new ≡ with_source self.old p from }
     {
         let i = self.size.index_of(p).unwrap();
-        self.sources[i] = Some(from);
+        self.sources[i] = Entry::new(Some(from));
     }
 
     /// Names the places along X from a source on for a run of w cells along X, from a cell on; the whole

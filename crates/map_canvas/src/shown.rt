@@ -5,6 +5,7 @@ ghost use Rattle.cells.specs.Cells.{HasCell};
 ghost use Rattle.map_canvas.specs.Canvases.{mark_of};
 ghost use Rattle.map_canvas.specs.Shown.{HaveCells, shown_cell};
 
+use crate::Entry;
 use cells::{At, Volume};
 use std::alloc::{AllocError, Global};
 
@@ -43,7 +44,7 @@ fn add_mark(bytes: &mut Vec<u8>, k: u32, source: Option<At>) -> Result<(), Alloc
 /// sample of a cell without a source. The list has room for `n` bytes from the start.
 pub(crate) fn shown_bytes(
     alloc: Global,
-    sources: &[Option<At>],
+    sources: &[Entry],
     sample: &Volume,
     n: usize,
 ) -> Result<Vec<u8>, AllocError>
@@ -53,7 +54,7 @@ pub(crate) fn shown_bytes(
 {
     let mut bytes = Vec::with_capacity(alloc, n)?;
     for source in sources {
-        add_cell(&mut bytes, sample, *source)?;
+        add_cell(&mut bytes, sample, source.source())?;
     }
     Ok(bytes)
 }
@@ -62,7 +63,7 @@ pub(crate) fn shown_bytes(
 /// The list has room for `n` bytes from the start.
 pub(crate) fn mark_bytes(
     alloc: Global,
-    sources: &[Option<At>],
+    sources: &[Entry],
     k: u32,
     n: usize,
 ) -> Result<Vec<u8>, AllocError>
@@ -70,7 +71,7 @@ pub(crate) fn mark_bytes(
 {
     let mut bytes = Vec::with_capacity(alloc, n)?;
     for source in sources {
-        add_mark(&mut bytes, k, *source)?;
+        add_mark(&mut bytes, k, source.source())?;
     }
     Ok(bytes)
 }

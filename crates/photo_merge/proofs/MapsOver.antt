@@ -60,6 +60,10 @@ module _ (f : At → Option At) (size : Size) where
   pub over_source : (p from : At) → map_at over p ≡ Some from → f p ≡ Some from
   over_source p from e = sym (over_inside p (filled_inside p from e)) ∙ e
 
+  -- each entry of such a map is a source
+  pub entry_is_source : IsMap over → (i : ℕ) → i < cell_count size → IfSome (f (place_of size i)) IsSource
+  entry_is_source is i lt = subst (λ source. IfSome source IsSource) (entry i lt) (is.sources i None (omega (arith, is.count, lt)))
+
   pub over_is_map : IsSmall size → ((p : At) → IsInside size p → IfSome (f p) IsSource) → IsMap over
   over_is_map small each = record {
     small = small;

@@ -1,15 +1,15 @@
 // The steps of a merge.
-ghost use Rattle.std.specs.Prelude.{◌≡◌, ◌≤◌, IfOk, length};
+ghost use Rattle.std.specs.Prelude.{◌≡◌, ◌≤◌, IfOk, IfSome, length};
 ghost use Rattle.cells.specs.Cells.{sizes_of};
 ghost use Rattle.map_canvas.specs.Canvases.{IsCanvas, StandsOver};
 ghost use Rattle.map_canvas.specs.Choices.{Fits};
-ghost use Rattle.map_canvas.specs.Maps.{IsFull};
+ghost use Rattle.map_canvas.specs.Maps.{IsFull, IsSource};
 ghost use Rattle.photo_merge.specs.Merges.{AreOneSize, IsMerge, MergesNext, first_map, source_without, whole_from, without};
 
 use crate::marks::{earlier_marks, mark_at};
 use cells::{At, Box3, Size, Volume};
 use graph_place::place_held;
-use map_canvas::{Canvas, Map, Placement};
+use map_canvas::{Canvas, Entry, Map, Placement};
 use std::alloc::{AllocError, Global};
 
 // The map on which each cell comes from its own place of the first picture.
@@ -24,14 +24,15 @@ fn first_map(alloc: Global, pictures: &Volume) -> Result<Map, AllocError>
     let mut sources = Vec::with_capacity(alloc, count)?;
     for i in 0..count {
         // A place of the first picture is that of the volume.
-        sources.push(Some(size.place_at(i)))?;
+        sources.push(Entry::new(Some(size.place_at(i))))?;
     }
     Ok(Map::from_sources(size, sources))
 }
 
 // The source of a cell, but none where it is marked with a number.
 fn source_without(map: &Map, marks: &Volume, number: u32, p: At) -> Option<At>
-    ensures { result ≡ source_without map.now marks.now number p }
+    ensures without { result ≡ source_without map.now marks.now number p }
+    ensures source { IfSome result IsSource }
 {
     if mark_at(marks, p) == number {
         None
@@ -48,7 +49,8 @@ fn without(alloc: Global, map: &Map, marks: &Volume, number: u32) -> Result<Map,
     let count = size.cells();
     let mut sources = Vec::with_capacity(alloc, count)?;
     for i in 0..count {
-        sources.push(source_without(map, marks, number, size.place_at(i)))?;
+        let source = source_without(map, marks, number, size.place_at(i));
+        sources.push(Entry::new(source))?;
     }
     Ok(Map::from_sources(size, sources))
 }

@@ -12,7 +12,7 @@ use crate::head::{Version, put_samples, put_size, put_start};
 use cells::{At, PartPlace, Size, Sizes};
 use file_bytes::FileWriter;
 use items::Items;
-use map_canvas::Map;
+use map_canvas::{Entry, Map};
 use shelf_core::{Shelf, WriteFault};
 
 // What a map file begins with.
@@ -104,7 +104,7 @@ pub fn put_source<S: Shelf>(
 // Puts the sources of filled cells.
 fn put_sources<S: Shelf>(
     file: &mut FileWriter,
-    sources: &[Option<At>],
+    sources: &[Entry],
     samples: &Sizes,
     version: Version,
     shelf: &mut S,
@@ -116,7 +116,14 @@ fn put_sources<S: Shelf>(
         (S.state shelf.old) (S.state shelf.new) file.old file.new }
 {
     for source in sources {
-        put_source(file, source.unwrap(), samples, version, shelf, name);
+        put_source(
+            file,
+            source.source().unwrap(),
+            samples,
+            version,
+            shelf,
+            name,
+        );
     }
 }
 

@@ -17,7 +17,7 @@ use cells::{At, Size, Sizes};
 use file_bytes::{FileReader, make_room};
 use items::Items;
 use limits::MOST_MAP_CELLS;
-use map_canvas::Map;
+use map_canvas::{Entry, Map};
 use shelf_core::{ReadError, Shelf, What};
 use std::alloc::Global;
 
@@ -317,7 +317,7 @@ fn read_sources<S: Shelf>(
     for i in 0..count {
         make_room(&mut sources, count - i)?;
         let source = read_source(file, version, samples, shelf, name)?;
-        let Ok(()) = sources.push(source) else {
+        let Ok(()) = sources.push(Entry::new(source)) else {
             return Err(ReadError::NoMemory);
         };
     }

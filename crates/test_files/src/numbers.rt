@@ -2,7 +2,7 @@
 // its first cell; a flow is two.
 use cells::{At, Size, Sizes};
 use cert_file::{BlockRecord, BoundaryRecord, CutRecord, Head, RecordFile, Taps, Version};
-use map_canvas::Map;
+use map_canvas::{Entry, Map};
 use source_map::MapFile;
 use std::alloc::{AllocError, Global};
 
@@ -222,15 +222,15 @@ pub fn numbers_of_record(alloc: Global, file: &RecordFile) -> Result<Vec<i128>, 
 fn add_sources(
     version: Version,
     samples: &Sizes,
-    sources: &[Option<At>],
+    sources: &[Entry],
     numbers: &mut Vec<i128>,
 ) -> Result<(), AllocError> {
     for source in sources {
-        let Some(source) = source else {
+        let Some(source) = source.source() else {
             numbers.push(-1)?;
             return Ok(());
         };
-        add_source(version, samples, *source, numbers)?;
+        add_source(version, samples, source, numbers)?;
     }
     Ok(())
 }

@@ -163,7 +163,7 @@ fn assert_one_cell(rt: &impl Abort, alloc: Global, mode: Mode) -> Result<(), All
     assert!(rt; run.cuts.as_slice().len() == 6, "{mode:?}");
     assert!(rt; run.rounds == 0, "{mode:?}");
     for source in run.canvas.map().sources() {
-        assert!(rt; *source == Some(FIRST), "{mode:?}");
+        assert!(rt; source.source() == Some(FIRST), "{mode:?}");
     }
     Ok(())
 }

@@ -73,7 +73,7 @@ fn row_of_three(rt: HostRuntime) -> Result<(), Fail> {
             .map()
             .sources()
             .iter()
-            .map(|it| it.map(|it| it.x))
+            .map(|it| it.source().map(|it| it.x))
             .eq([Some(1), Some(1), Some(0)])
     );
     Ok(())

@@ -12,7 +12,7 @@ ghost use Rattle.turned_map.specs.TurnedFiles.{IsTurnedMap, turned_field, turned
 
 use cells::{At, Sizes};
 use file_bytes::FileWriter;
-use map_canvas::Map;
+use map_canvas::{Entry, Map};
 use shelf_core::{Shelf, WriteFault};
 use source_map::{Head, Version, place_bytes, put_head};
 use turned::{MOST_TURNED, Turned, turned_sizes, untouched_with};
@@ -78,7 +78,7 @@ fn untouched_at(samples: &Sizes, sizes: &Sizes, from: At) -> Turned
 // Puts the sources of filled cells.
 fn put_sources<S: Shelf>(
     file: &mut FileWriter,
-    sources: &[Option<At>],
+    sources: &[Entry],
     samples: &Sizes,
     sizes: &Sizes,
     shelf: &mut S,
@@ -92,7 +92,7 @@ fn put_sources<S: Shelf>(
         (S.state shelf.old) (S.state shelf.new) file.old file.new }
 {
     for source in sources {
-        let there = untouched_at(samples, sizes, source.unwrap());
+        let there = untouched_at(samples, sizes, source.source().unwrap());
         put_turned(file, there, shelf, name);
     }
 }

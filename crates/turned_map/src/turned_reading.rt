@@ -17,7 +17,7 @@ use crate::turned_file::{TURNED_KIND, TURNED_VERSION, TurnedFile};
 use cells::{At, Size, Sizes};
 use file_bytes::{FileReader, make_room};
 use limits::MOST_MAP_CELLS;
-use map_canvas::Map;
+use map_canvas::{Entry, Map};
 use shelf_core::{ReadError, Shelf};
 use source_map::{read_place, read_size, read_sizes};
 use std::alloc::Global;
@@ -188,7 +188,7 @@ fn read_sources<S: Shelf>(
     for i in 0..count {
         make_room(&mut sources, count - i)?;
         let source = read_source(file, samples, &sizes, shelf, name)?;
-        let Ok(()) = sources.push(source) else {
+        let Ok(()) = sources.push(Entry::new(source)) else {
             return Err(ReadError::NoMemory);
         };
     }

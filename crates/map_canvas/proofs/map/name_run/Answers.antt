@@ -16,7 +16,7 @@ loop-j-preserved c =
     let j = c.loop-j.j in
     let near : j ≤ 131072 = omega (arith, ints, (c.requires.sources 0 (omega (arith, c.loop-j-test.true))).x.0, (c.requires.sources j c.loop-j-test.true).x.1) in
     let source : c.plus.result ≡ plus c.args.from (spot j 0 0) = c.plus.ensures ∙ (λ i. plus c.args.from (record { x = to_z_pos w32 j (omega (arith, near)) i; y = pos 0; f = pos 0 })) in
-    (λ i. slice_set (c.loop-j.invariant i) (c.args.start + j) ((ap Some source ∙ sym (source_run-at c.args.from c.args.w j None c.loop-j-test.true)) i))
+    (λ i. slice_set (c.loop-j.invariant i) (c.args.start + j) ((c.new.ensures ∙ ap Some source ∙ sym (source_run-at c.args.from c.args.w j None c.loop-j-test.true)) i))
     ∙ paste_more c.args.sources.now c.args.start run j None (omega (arith, c.requires.room, c.loop-j-test.true)) (omega (arith, c.loop-j-test.true, length-source_run c.args.from c.args.w))
 
 pub returns : goal.returns

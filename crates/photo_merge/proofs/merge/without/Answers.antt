@@ -14,7 +14,7 @@ pub loop-i-preserved : goal.loop-i-preserved
 loop-i-preserved c =
     let m = c.args.map.now in
     let f : At → Option At = source_without m c.args.marks.now c.args.number in
-    let its : c.source_without.result ≡ f (place_of m.size c.loop-i.i) = c.source_without.ensures ∙ ap f (c.place_at.ensures ∙ ap (λ size. place_of size c.loop-i.i) c.size-size.ensures.size) in
+    let its : c.new.result ≡ f (place_of m.size c.loop-i.i) = c.new.ensures ∙ c.source_without-source.ensures.without ∙ ap f (c.place_at.ensures ∙ ap (λ size. place_of size c.loop-i.i) c.size-size.ensures.size) in
     c.in_ok-push.ensures.items ∙ (λ k. c.loop-i.invariant k ++ its k ∷ [])
     ∙ sym (map-range_with_len_more (λ i. f (place_of m.size i)) 0 c.loop-i.i c.loop-i.i (omega arith))
 

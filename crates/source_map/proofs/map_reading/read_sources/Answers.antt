@@ -48,7 +48,7 @@ loop-i-preserved g c =
     let source = c.in_ok-source.source in
     let IsSound : Option At → Type 0 = λ source. IfSome source IsSource in
     let IsIn : Option At → Type 0 = λ source. IsSomeAnd source (IsInSamples c.args.samples.now) in
-    let all = (c.in-Ok.ensures {u = tt}).items ∙ ap (λ items. items ++ source ∷ []) c.make_room.ensures.items in
+    let all = (c.in-Ok.ensures {u = tt}).items ∙ (λ k. c.make_room.ensures.items k ++ c.new.ensures k ∷ []) in
     record {
       found = subst (λ items. Found name c.args.file.now.at d c.read_source.new.file (list_read read (c.loop-i.i + 1)) items) (sym all)
           (list_more name c.args.file.now.at c.loop-i.i read a b d c.loop-i.file c.read_source.new.file front source so.reads ok.reads so.found ok.answer);

@@ -84,12 +84,10 @@ impl Size {
         ensures index { result ≡ index_in self at }
         ensures below { IfSome result (λ i. i < cell_count self) }
     {
-        if at.x < 0 || at.y < 0 || at.f < 0 {
-            return None;
-        }
-        let x = at.x as u32;
-        let y = at.y as u32;
-        let f = at.f as u32;
+        // A coordinate below 0 is past any axis as a number of 32 bits without a sign.
+        let x = at.x.cast_unsigned();
+        let y = at.y.cast_unsigned();
+        let f = at.f.cast_unsigned();
         if x >= self.w || y >= self.h || f >= self.f {
             return None;
         }

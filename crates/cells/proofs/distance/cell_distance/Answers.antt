@@ -6,8 +6,8 @@ use Rattle.cells.proofs.distance.cell_distance.Goals as goal
 pub returns-in-Some-Some-clause-bound : goal.returns-in-Some-Some-clause-bound
 returns-in-Some-Some-clause-bound c =
     let v = c.args.v.now in
-    let whole : c.difference.result ≡ distance v c.args.a c.args.b =
-    c.difference.ensures ∙ (λ i. distance_of v.k (c.in-Some-Some.ensures.bytes i) (c.in-Some-Some.ensures'.bytes i)) in
+    let whole : c.difference_of_cells.result ≡ distance v c.args.a c.args.b =
+    c.difference_of_cells.ensures ∙ (λ i. distance_of v.k (c.in-Some-Some.ensures.bytes i) (c.in-Some-Some.ensures'.bytes i)) in
     omega (arith, whole, distance_bound v c.samples-k.ensures.volume c.args.a c.args.b)
 
 pub returns-in-Some-Some-clause-laws : goal.returns-in-Some-Some-clause-laws

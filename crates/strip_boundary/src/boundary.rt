@@ -30,6 +30,17 @@ pub fn least_boundary(alloc: Global, strip: &Strip) -> Result<BoundaryRecord, Al
     ensures stands { IfOk result (λ made. BoundaryStands strip.now made) }
     ensures tight { IfOk result (λ made. AreTightSums strip.now made.sums) }
 {
+    traced_record(alloc, strip)
+}
+
+// The same record, made apart: so an edit of `least_boundary` is refused by what it breaks alone.
+fn traced_record(alloc: Global, strip: &Strip) -> Result<BoundaryRecord, AllocError>
+    ensures boundary { IfOk result (λ made. IsBoundary strip.now made.path) }
+    ensures least { IfOk result (λ made. IsLeastBoundary strip.now made.path) }
+    ensures first { IfOk result (λ made. IsFirstLeast strip.now made.path) }
+    ensures stands { IfOk result (λ made. BoundaryStands strip.now made) }
+    ensures tight { IfOk result (λ made. AreTightSums strip.now made.sums) }
+{
     let sums = running_sums(alloc, strip)?;
     let path = trace_back(alloc, strip, sums.as_slice())?;
     Ok(BoundaryRecord {

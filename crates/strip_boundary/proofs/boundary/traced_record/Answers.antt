@@ -1,7 +1,7 @@
 use Rattle.strip_boundary.specs.Boundaries.{IsFirstLeast}
 use Rattle.strip_boundary.specs.Tables.{IsTracedFrom}
 use Rattle.strip_boundary.proofs.PathLaws.{stands_from_traced, first_least_from_traced}
-use Rattle.strip_boundary.proofs.boundary.least_boundary.Goals as goal
+use Rattle.strip_boundary.proofs.boundary.traced_record.Goals as goal
 
 -- the path of the record goes back through its sums
 traced : (c : goal.After-from_vec-2) → IsTracedFrom c.args.strip.now c.in_ok-sums.sums.items c.from_vec.result 0

@@ -11,7 +11,9 @@ returns-in_err-growth g c =
     rw (p.1, p.2) (not_planned (grow_command c.args.job.now) (g.S.Shelf.state c.args.shelf.now) (g.S.Shelf.state c.plan.new.shelf) (samples_only c.args.job.now (g.S.Shelf.state c.args.shelf.now) (g.S.Shelf.state c.plan.new.shelf) c.plan.ensures.reads) (g.O.Sink.state c.args.out.now) c.in_err-growth.field-0.0 (c.in_err-growth.ensures {u = tt}).planned)
 
 pub write_growth-requires-clause-made : goal.write_growth-requires-clause-made
-write_growth-requires-clause-made g c = (c.in_ok-growth.ensures {u = tt}).made
+write_growth-requires-clause-made g c =
+    let its = (c.in_ok-growth.ensures {u = tt}).made in
+    record { volume = its.volume; sound = its.sound; bounds = its.bounds; grown = its.grown }
 
 pub returns : goal.returns
 returns g c =

@@ -1,15 +1,12 @@
 -- The stages of `quilt`: each has one answer, and what is planned goes by them.
-use Rattle.std.proofs.Common.{◌≡◌, ℕ, List, refl, subst}
-use Rattle.std.specs.Prelude.{Err}
+use Rattle.std.proofs.Common.{refl}
 use Rattle.cells.specs.Cells.{IsVolume}
 use Rattle.cells.specs.Places.{cell_count}
 use Rattle.limits.specs.declared.bounds.TheConstants.{MOST_OUTPUT_CELLS}
 use Rattle.shelf_core.specs.Files.{Files, InFile, OnlyReadsFile, ShelfState, content_of}
-use Rattle.shelf_core.specs.declared.fault.ReadError.{ReadError}
-use Rattle.shelf_core.specs.declared.fault.ReadError.TheVariants.{Bad, Limit as ReadLimit, NoMemory as ReadMemory, ReadFault}
 use Rattle.shelf_core.specs.declared.fault.What.TheVariants.{Output}
 use Rattle.netpbm_p6.specs.declared.picture.Picture.{Picture}
-use Rattle.netpbm_p6.specs.Pictures.{IsRead, IsSound, ReadsAs, Refuses}
+use Rattle.netpbm_p6.specs.Pictures.{IsRead, IsSound, Refuses}
 use Rattle.netpbm_p6.proofs.OneReading as p6
 use Rattle.quilt.specs.Runs.{quilting}
 use Rattle.quilt_run.specs.declared.asked.Quilted.{Quilted}
@@ -21,11 +18,11 @@ use Rattle.job_words.specs.declared.quilt.QuiltJob.{QuiltJob}
 use Rattle.job_words.specs.QuiltWords.{IsQuiltJob}
 use Rattle.synth_report.specs.declared.fault.Fault.{Fault}
 use Rattle.synth_report.specs.declared.fault.FileOf.TheVariants as part
-use Rattle.command.specs.Faults.{FailsToRead, fault_of_read}
+use Rattle.command.specs.Faults.{IsNotRead}
 use Rattle.command.specs.Outcomes.{IsPlanned, NotMade}
 use Rattle.command.specs.Stages.{PassesBound}
 use Rattle.command.proofs.Staging.{AreOne, ReadsOne, bound_is_one, file_is_one, passing_is_one}
-use Rattle.command.proofs.Planning.{StandsBefore, begin, file_not_read, limit_passed, not_passed, pass_on, plan_made, file_read}
+use Rattle.command.proofs.Planning.{StandsBefore, begin, file_read, limit_passed, not_passed, part_not_read, pass_on, plan_made}
 use Rattle.sample_files.proofs.Sound.{read_is_volume}
 use Rattle.quilt_command.specs.Quilts.{IsQuiltSummary, IsQuiltWithin, MayRefuseQuilt, fault_of_quilting, quilt_command, quilt_files, quilt_of, quilt_over, quilt_run_of, quilt_size, quilt_stages, quilt_summary}
 use Rattle.quilt_command.proofs.Ready.{small_quilt}
@@ -54,28 +51,18 @@ can_quilt job picture lawful within sound = record {
   sample_frame = sound.frames;
 }
 
-picture_fails : (name : _) (a b : ShelfState) (answer : ReadError) → ReadsAs name a b (Err answer) → FailsToRead Refuses name a b answer
-picture_fails name a b ReadFault left = left
-picture_fails name a b ReadMemory left = tt
-picture_fails name a b (Bad why) left = left
-picture_fails name a b (ReadLimit what number bound) left = left
+-- What is planned.
 
--- What is planned: the code has the sample file under the name that it sees.
-
-module _ (job : QuiltJob) (a b : ShelfState) {name : List ℕ} (same : name ≡ job.names.sample) (reads : OnlyReadsFile name a b) where
+module _ (job : QuiltJob) (a b : ShelfState) (reads : OnlyReadsFile job.names.sample a b) where
   begun : StandsBefore (quilt_command job) a a 0 (quilt_stages job)
   begun = begin (quilt_stages job) (quilt_command job).writes MayRefuseQuilt IsQuiltSummary (are_one job) a
 
-  to_sample : OnlyReadsFile job.names.sample a b
-  to_sample = subst (λ n. OnlyReadsFile n a b) same reads
+  pub picture_not_read : (fault : Fault) → IsNotRead Refuses part.Sample job.names.sample a b fault → NotMade (quilt_command job) a b fault
+  picture_not_read = part_not_read Refuses begun reads (λ why. tt) (λ what number bound. tt)
 
-  pub picture_not_read : (answer : ReadError) → ReadsAs name a b (Err answer) → NotMade (quilt_command job) a b (fault_of_read part.Sample answer)
-  picture_not_read answer left =
-      file_not_read Refuses begun to_sample (λ why. tt) (λ what number bound. tt) answer (picture_fails job.names.sample a b answer (subst (λ n. ReadsAs n a b (Err answer)) same left))
-
-  module _ (picture : Picture) (read : InFile name a b (λ bytes. IsRead bytes picture)) where
+  module _ (picture : Picture) (read : InFile job.names.sample a b (λ bytes. IsRead bytes picture)) where
     over : StandsBefore (quilt_command job) a b 1 (quilt_over job picture)
-    over = file_read begun to_sample picture (subst (λ n. InFile n a b (λ bytes. IsRead bytes picture)) same read)
+    over = file_read begun reads picture read
 
     pub output_refused : (fault : Fault) → PassesBound Output (cell_count (quilt_size job)) MOST_OUTPUT_CELLS fault → NotMade (quilt_command job) a b fault
     output_refused fault passes = limit_passed over fault _ _ _ passes.1 passes tt

@@ -11,14 +11,14 @@ ghost use Rattle.quilt_command.specs.Quilts.{IsMadeQuilt, fault_of_quilting, qui
 
 use block_strips::QuiltPlan;
 use cells::Size;
-use command::read_fault;
 use job_words::QuiltJob;
 use limits::{MOST_BOX_CELLS, MOST_OUTPUT_CELLS};
-use netpbm_p6::{Picture, read_p6};
+use netpbm_p6::Picture;
 use quilt_run::{QuiltError, QuiltRun, Quilted, quilt_canvas};
+use sample_files::read_picture;
 use shelf_core::{Shelf, What};
 use std::alloc::Global;
-use synth_report::{Fault, FileOf};
+use synth_report::Fault;
 
 /// The picture that was read, and the output quilted from its blocks.
 #[derive(Drop)]
@@ -95,12 +95,10 @@ pub(crate) fn plan<S: Shelf>(
     ensures reads { OnlyReads (names_in (quilt_command job.now).reads)
         (S.state shelf.old) (S.state shelf.new) }
 {
-    let sample = match read_p6(alloc, shelf, job.names.sample.as_text()) {
+    let sample = match read_picture(alloc, shelf, &job.names.sample) {
         Ok(sample) => sample,
-        Err(error) => return Err(read_fault(FileOf::Sample, error)),
+        Err(fault) => return Err(fault),
     };
-    // It is asked for only to show the check that the picture is a volume.
-    let _k = sample.volume.samples();
     match set_against(job) {
         Ok(()) => {}
         Err(fault) => return Err(fault),

@@ -1,4 +1,5 @@
 pub mod Begins
+pub mod OnePicture
 pub mod OneSample
 pub mod Joined
 pub mod OneAnswer

@@ -8,46 +8,46 @@ use Rattle.quilt_command.proofs.plan.plan.Goals as goal
 pub returns-in-Err-clause-planned : goal.returns-in-Err-clause-planned
 returns-in-Err-clause-planned g c =
     let a = g.S.Shelf.state c.args.shelf.now in
-    let b = g.S.Shelf.state c.read_p6.new.shelf in
+    let b = g.S.Shelf.state c.read_picture.new.shelf in
     let job = c.args.job.now in
-    subst (NotMade (quilt_command job) a b) (sym c.read_fault.ensures) (picture_not_read job a b c.as_text.ensures c.read_p6.ensures.reads c.in-Err.error (c.in-Err.ensures {u = tt}).answer)
+    picture_not_read job a b c.read_picture.ensures.reads c.in-Err.fault (c.in-Err.ensures {u = tt}).answer
 
 pub returns-in-Err-set_against-clause-planned : goal.returns-in-Err-set_against-clause-planned
 returns-in-Err-set_against-clause-planned g c =
     let a = g.S.Shelf.state c.args.shelf.now in
-    let b = g.S.Shelf.state c.read_p6.new.shelf in
+    let b = g.S.Shelf.state c.read_picture.new.shelf in
     let job = c.args.job.now in
-    output_refused job a b c.as_text.ensures c.read_p6.ensures.reads c.in-Ok.sample (c.in-Ok.ensures {u = tt}).answer c.in-Err-set_against.fault (c.in-Err-set_against.ensures {u = tt})
+    output_refused job a b c.read_picture.ensures.reads c.in-Ok.sample (c.in-Ok.ensures {u = tt}).answer c.in-Err-set_against.fault (c.in-Err-set_against.ensures {u = tt})
 
 pub quilt_canvas-requires : goal.quilt_canvas-requires
 quilt_canvas-requires g c =
-    subst (λ asked. CanBeQuilted asked c.in-Ok.sample.volume) (sym c.run_of.ensures) (can_quilt c.args.job.now c.in-Ok.sample c.requires (c.in-Ok-set_against.ensures {u = tt}) (c.in-Ok.ensures {u = tt}).picture)
+    subst (λ asked. CanBeQuilted asked c.in-Ok.sample.volume) (sym c.run_of.ensures) (can_quilt c.args.job.now c.in-Ok.sample c.requires (c.in-Ok-set_against.ensures {u = tt}) (c.in-Ok.ensures {u = tt}).sound)
 
 pub returns-in-Err-quilt_canvas-clause-planned : goal.returns-in-Err-quilt_canvas-clause-planned
 returns-in-Err-quilt_canvas-clause-planned g c =
     let a = g.S.Shelf.state c.args.shelf.now in
-    let b = g.S.Shelf.state c.read_p6.new.shelf in
+    let b = g.S.Shelf.state c.read_picture.new.shelf in
     let job = c.args.job.now in
     let error = c.in-Err-quilt_canvas.error in
     subst (NotMade (quilt_command job) a b) (sym c.quilting_fault.ensures)
-    (not_quilted job a b c.as_text.ensures c.read_p6.ensures.reads c.in-Ok.sample (c.in-Ok.ensures {u = tt}).answer (c.in-Ok-set_against.ensures {u = tt}) error
+    (not_quilted job a b c.read_picture.ensures.reads c.in-Ok.sample (c.in-Ok.ensures {u = tt}).answer (c.in-Ok-set_against.ensures {u = tt}) error
     (subst (λ asked. IsQuiltFault asked c.in-Ok.sample.volume error) c.run_of.ensures (c.in-Err-quilt_canvas.ensures {u = tt})))
 
 pub returns-clause-planned : goal.returns-clause-planned
 returns-clause-planned g c =
     let a = g.S.Shelf.state c.args.shelf.now in
-    let b = g.S.Shelf.state c.read_p6.new.shelf in
+    let b = g.S.Shelf.state c.read_picture.new.shelf in
     let job = c.args.job.now in
     let quilted = c.in-Ok-quilt_canvas.quilted in
-    quilt_made job a b c.as_text.ensures c.read_p6.ensures.reads c.in-Ok.sample (c.in-Ok.ensures {u = tt}).answer
-    c.requires (c.in-Ok-set_against.ensures {u = tt}) c.samples-k.ensures.volume quilted (subst (λ asked. IsQuilt asked c.in-Ok.sample.volume quilted) c.run_of.ensures (c.in-Ok-quilt_canvas.ensures {u = tt}))
+    quilt_made job a b c.read_picture.ensures.reads c.in-Ok.sample (c.in-Ok.ensures {u = tt}).answer
+    c.requires (c.in-Ok-set_against.ensures {u = tt}) (c.in-Ok.ensures {u = tt}).volume quilted (subst (λ asked. IsQuilt asked c.in-Ok.sample.volume quilted) c.run_of.ensures (c.in-Ok-quilt_canvas.ensures {u = tt}))
 
 pub returns-clause-made : goal.returns-clause-made
 returns-clause-made g c =
     let sample = c.in-Ok.sample in
     record {
-      volume = c.samples-k.ensures.volume;
-      sound = (c.in-Ok.ensures {u = tt}).picture;
+      volume = (c.in-Ok.ensures {u = tt}).volume;
+      sound = (c.in-Ok.ensures {u = tt}).sound;
       within = c.in-Ok-set_against.ensures {u = tt};
       quilt = subst (λ asked. IsQuilt asked sample.volume c.in-Ok-quilt_canvas.quilted) c.run_of.ensures (c.in-Ok-quilt_canvas.ensures {u = tt});
     }

@@ -10,7 +10,7 @@ pub const MOST_CELLS: usize = 33_554_432;
 /// The most bytes of a cell.
 pub const MOST_CHANNELS: u32 = 6;
 
-/// The most parts of a volume: one for each sample of a run.
+/// The most parts of a volume: one for each sample of a run, or for each picture that is merged.
 pub const MOST_PARTS: u32 = 16;
 
 /// The most cells of a sample, of all samples of a run together, and of any other picture that is read.
@@ -34,10 +34,10 @@ pub const MOST_TAG_BYTES: u64 = 4000;
 /// The most frames of an output that is a picture.
 pub const MOST_PICTURE_FRAMES: u32 = 1;
 
-/// The most frames of a clip that a loop is made of.
+/// The most frames of a clip that a loop is made of, also in a walk record.
 pub const MOST_LOOP_FRAMES: u32 = 256;
 
-/// The most cells of an output that is grown or quilted.
+/// The most cells of an output that is grown, quilted, tiled or merged.
 pub const MOST_OUTPUT_CELLS: u64 = 1_048_576;
 
 /// The most cells of a loop, all its frames together.
@@ -46,7 +46,8 @@ pub const MOST_LOOP_CELLS: u64 = 33_554_432;
 /// The most frames of a loop, asked for, or in a walk record.
 pub const LONGEST_LOOP: u32 = 4096;
 
-/// The most cells of the boxes of one run, or of one record file, all boxes together.
+/// The most cells of the boxes that one output is grown or quilted of, or of one record file, all boxes
+/// together.
 pub const MOST_BOX_CELLS: u64 = 33_554_432;
 
 /// The greatest overlap of neighbouring patches or blocks, in cells.
@@ -64,11 +65,12 @@ pub const LEAST_WRAPPED_AXIS: u32 = 3;
 /// The most rounds of refinement.
 pub const MOST_ROUNDS: u32 = 1000;
 
-/// The greatest number of frames from the next one at which a loop's jump may have to end at the least.
+/// The greatest distance, in frames from the next one, at which a loop's jump may be asked to end at the
+/// least, also in a walk record.
 pub const WIDEST_GAP: u32 = 256;
 
 /// The greatest seed of draws.
 pub const GREATEST_SEED: u64 = 18_446_744_073_709_551_615;
 
-/// The greatest number of which a sample is made.
+/// The greatest number of which `trial` makes a sample.
 pub const GREATEST_SAMPLE_NUMBER: u32 = 4_294_967_295;

@@ -26,10 +26,11 @@ use Rattle.command.specs.Writing.{pieces, texts_in}
 use Rattle.command.proofs.Staging.{one_answer}
 use Rattle.command_files.proofs.ThreeFiles.{HoldThree, three_files}
 use Rattle.sample_files.specs.declared.several.Samples.{Samples}
+use Rattle.sample_files.specs.Outputs.{IsWithinBounds}
 use Rattle.sample_files.specs.Samples.{form_text}
 use Rattle.sample_files.specs.Several.{MayRefuseSamples, StandForSamples, contents}
 use Rattle.sample_files.proofs.Sound.{stand_sound}
-use Rattle.grow_command.specs.Growths.{AreSamplesIn, IsGrowSummary, IsGrownOver, IsMade, IsWithinBounds, grow_command, grow_stages, growth_files, growth_of, growth_summary, head_over, plan_of, version_over}
+use Rattle.grow_command.specs.Growths.{AreSamplesIn, IsGrowSummary, IsGrownOver, IsMade, grow_command, grow_stages, growth_files, growth_of, growth_summary, head_over, plan_of, version_over}
 use Rattle.grow_command.specs.GrowHeadlines.{IsGrownOutput, IsGrownRecord, IsGrownRun, IsToldOfGrown, RaisesNone}
 use Rattle.grow_command.proofs.Growing.{are_one, small_output}
 use Rattle.grow_command.proofs.Accepted.{accepted}
@@ -48,7 +49,7 @@ pub grow_has_one_answer : (job : GrowJob) → HasOneAnswer (grow_command job)
 grow_has_one_answer job = one_answer (grow_stages job) (grow_command job).writes (MayRefuseSamples (length job.names.more + 1)) IsGrowSummary (are_one job)
 
 -- what is written is the run of the headline
-module _ (job : GrowJob) (lawful : IsGrowJob job) (before after : Files) (samples : Samples) (read : AreSamplesIn before job samples) (bounds : IsWithinBounds job samples.form)
+module _ (job : GrowJob) (lawful : IsGrowJob job) (before after : Files) (samples : Samples) (read : AreSamplesIn before job samples) (bounds : IsWithinBounds job.size samples.form)
     (grown : Grown) (is : IsGrownOver job samples grown) (wrote : after ≡ written (pieces (grow_command job).writes (texts_in (growth_files job (growth_of samples grown)))) before) where
   abbrev files : HoldThree job.names before after (form_text samples.form grown.canvas.picture) (cell_map_form grown.canvas.map (sizes_of samples.volume) (version_over samples.volume)) (cuts_form (head_over job.size samples.volume) grown.cuts)
   files = three_files job.names lawful.names before after _ _ _ wrote

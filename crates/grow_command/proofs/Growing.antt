@@ -19,10 +19,11 @@ use Rattle.command.specs.Outcomes.{IsPlanned, NotMade}
 use Rattle.command.proofs.Staging.{AreOne, bound_is_one, passing_is_one}
 use Rattle.command.proofs.Planning.{StandsBefore, begin, limit_passed, not_passed, pass_on, plan_made, read_on}
 use Rattle.sample_files.specs.declared.several.Samples.{Samples}
+use Rattle.sample_files.specs.Outputs.{IsWithinBounds, PassesBounds}
 use Rattle.sample_files.specs.Several.{MayRefuseSamples, SamplesReadAs, StandForSamples, contents, sample_files}
 use Rattle.sample_files.proofs.Commands.{samples_are_one, samples_not_read}
 use Rattle.grow_command.specs.declared.plan.Growth.{Growth}
-use Rattle.grow_command.specs.Growths.{IsGrowSummary, IsGrownOver, IsWithinBounds, RefusesOutput, fault_of_growing, grow_command, grow_over, grow_stages, growth_files, growth_of, growth_summary, plan_of}
+use Rattle.grow_command.specs.Growths.{IsGrowSummary, IsGrownOver, fault_of_growing, grow_command, grow_over, grow_stages, growth_files, growth_of, growth_summary, plan_of}
 
 pub small_output : (job : GrowJob) → IsGrowJob job → cell_count job.size ≤ MOST_OUTPUT_CELLS → IsSmall job.size
 small_output job lawful cells = record { axes = lawful.axes; cells = omega (arith, cells) }
@@ -57,15 +58,15 @@ module _ (job : GrowJob) (a b : ShelfState) {more : List (List ℕ)} (same : mor
     over = read_on (sample_files job.names.sample job.names.more) begun to_samples samples
         (subst (λ names. Sees a b (λ files. StandForSamples (content_of files job.names.sample) (contents files names) samples)) same read)
 
-    pub output_refused : (fault : Fault) → RefusesOutput job samples.form fault → NotMade (grow_command job) a b fault
+    pub output_refused : (fault : Fault) → PassesBounds job.size samples.form fault → NotMade (grow_command job) a b fault
     output_refused fault (inl frames) = limit_passed over fault _ _ _ frames.1 frames tt
     output_refused fault (inr cells) = limit_passed (pass_on over cells.0) fault _ _ _ cells.1.1 cells.1 tt
 
-    pub not_grown : IsWithinBounds job samples.form → (why : GrowError) → IsGrowFault (plan_of job) samples.volume why → NotMade (grow_command job) a b (fault_of_growing why)
+    pub not_grown : IsWithinBounds job.size samples.form → (why : GrowError) → IsGrowFault (plan_of job) samples.volume why → NotMade (grow_command job) a b (fault_of_growing why)
     not_grown bounds (error.Records number) passes = not_passed (pass_on (pass_on over bounds.frames) bounds.cells) _ (number, passes, refl) tt
     not_grown bounds error.NoMemory left = tt
 
-    pub growth_made : IsGrowJob job → IsWithinBounds job samples.form → (grown : Grown) → IsGrownOver job samples grown → (growth : Growth) → growth ≡ growth_of samples grown → IsPlanned (grow_command job) (growth_files job growth) (growth_summary job growth) a b
+    pub growth_made : IsGrowJob job → IsWithinBounds job.size samples.form → (grown : Grown) → IsGrownOver job samples grown → (growth : Growth) → growth ≡ growth_of samples grown → IsPlanned (grow_command job) (growth_files job growth) (growth_summary job growth) a b
     growth_made lawful bounds grown is growth growth_is =
         let none = ends_within (plan_of job) samples.volume is.volume (small_output job lawful bounds.cells) grown.cuts (record { map = grown.canvas.map; draws = is.run.draws; rounds = grown.rounds }) in
         let made = plan_made (pass_on (pass_on (pass_on over bounds.frames) bounds.cells) (λ number. none number is.run.run is.run.done is.run.writable.cells)) grown is refl (_, _, _, _, refl) in

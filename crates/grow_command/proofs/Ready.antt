@@ -29,9 +29,10 @@ use Rattle.job_words.specs.declared.grow.GrowJob.{GrowJob}
 use Rattle.job_words.specs.GrowWords.{IsGrowJob}
 use Rattle.sample_files.specs.declared.form.Form.{Form}
 use Rattle.sample_files.specs.declared.form.Form.TheVariants.{Picture, Clip}
+use Rattle.sample_files.specs.Outputs.{frames_allowed}
 use Rattle.sample_files.specs.Samples.{AreSoundIn, CanStandIn}
 use Rattle.grow_command.specs.declared.plan.Growth.{Growth}
-use Rattle.grow_command.specs.Growths.{IsMade, head_over, frames_allowed, version_for, version_over}
+use Rattle.grow_command.specs.Growths.{IsMade, head_over, version_for, version_over}
 use Rattle.source_map.specs.declared.head.Version.TheVariants.{One}
 use Rattle.command_files.proofs.Pictures.{picture_bytes}
 

@@ -1,12 +1,11 @@
 -- `grow` as a command: what it reads and refuses, what it makes, and the files that it writes. To
 -- be trusted: contracts cite these words. (Own.)
-use Rattle.std.specs.Prelude.{◌≡◌, ◌≤◌, ◌⊎◌, ◌+◌, ◌++◌, ◌-◌, ℕ, List, [], ◌∷◌, length, All, Result, Ok, Err}
+use Rattle.std.specs.Prelude.{◌≡◌, ◌+◌, ◌++◌, ◌-◌, ℕ, List, [], ◌∷◌, length, All}
 use Rattle.cells.specs.declared.place.Size.{Size}
 use Rattle.cells.specs.Cells.{Cells, IsVolume, sizes_of}
-use Rattle.cells.specs.Places.{cell_count}
-use Rattle.limits.specs.declared.bounds.TheConstants.{GREATEST_AXIS, MOST_BOX_CELLS, MOST_OUTPUT_CELLS, MOST_PICTURE_FRAMES}
+use Rattle.limits.specs.declared.bounds.TheConstants.{MOST_BOX_CELLS}
 use Rattle.shelf_core.specs.Files.{Files, content_of}
-use Rattle.shelf_core.specs.declared.fault.What.TheVariants.{Frames, Output, Records as RecordsLimit}
+use Rattle.shelf_core.specs.declared.fault.What.TheVariants.{Records as RecordsLimit}
 use Rattle.source_map.specs.MapFiles.{cell_map_form}
 use Rattle.source_map.specs.declared.head.Head.{Head}
 use Rattle.source_map.specs.declared.head.Version.{Version}
@@ -30,12 +29,11 @@ use Rattle.synth_report.specs.declared.fault.FileOf.TheVariants as part
 use Rattle.synth_report.specs.declared.summary.Summary.{Summary}
 use Rattle.synth_report.specs.declared.summary.Summary.TheVariants.{Grow}
 use Rattle.command.specs.Commands.{Command, named}
-use Rattle.command.specs.Stages.{PassesBound, Stages, bounded, never_passed, of_stages}
+use Rattle.command.specs.Stages.{Stages, never_passed, of_stages}
 use Rattle.command.specs.Stages.Stages.{make}
 use Rattle.command.specs.Writing.{FileText, file_text}
-use Rattle.sample_files.specs.declared.form.Form.{Form}
-use Rattle.sample_files.specs.declared.form.Form.TheVariants.{Picture, Clip}
 use Rattle.sample_files.specs.declared.several.Samples.{Samples}
+use Rattle.sample_files.specs.Outputs.{IsWithinBounds, bounded_in}
 use Rattle.sample_files.specs.Samples.{form_text}
 use Rattle.sample_files.specs.Several.{StandForSamples, AreSoundSamples, MayRefuseSamples, contents, read_samples, sample_files}
 use Rattle.grow_command.specs.declared.plan.Growth.{Growth}
@@ -58,30 +56,6 @@ plan_of job = record {
   rounds = job.rounds;
   seed = job.seed;
 }
-
--- The bounds of a job over samples that are read.
-
--- the most frames of an output in this form
-abbrev pub frames_allowed : Form → ℕ
-frames_allowed (Picture maxval) = MOST_PICTURE_FRAMES
-frames_allowed (Clip form) = GREATEST_AXIS
-
--- the output has no more frames than its form allows, and no more cells than an output may have
-pub record IsWithinBounds (job : GrowJob) (form : Form) : Type 0 where
-  pub frames : job.size.f ≤ frames_allowed form
-  pub cells : cell_count job.size ≤ MOST_OUTPUT_CELLS
-
--- the frames pass their bound, or they don't and the cells of the output pass theirs
-abbrev pub RefusesOutput : GrowJob → Form → Fault → Type 0
-RefusesOutput job form fault =
-    PassesBound Frames job.size.f (frames_allowed form) fault
-    ⊎ ((job.size.f ≤ frames_allowed form)
-    × PassesBound Output (cell_count job.size) MOST_OUTPUT_CELLS fault)
-
--- whether the output is within its bounds
-abbrev pub SetAgainst : GrowJob → Form → Result (Unit {0}) Fault → Type 0
-SetAgainst job form (Ok done) = IsWithinBounds job form
-SetAgainst job form (Err fault) = RefusesOutput job form fault
 
 -- what a run without an output is refused for
 abbrev pub fault_of_growing : GrowError → Fault
@@ -114,7 +88,7 @@ growth_of samples grown = record {
 pub record IsMade (job : GrowJob) (growth : Growth) : Type 0 where
   pub volume : IsVolume growth.samples.volume
   pub sound : AreSoundSamples growth.samples
-  pub bounds : IsWithinBounds job growth.samples.form
+  pub bounds : IsWithinBounds job.size growth.samples.form
   pub grown : IsGrown (plan_of job) growth.samples.volume growth.grown
 
 -- The files that are written.
@@ -156,12 +130,11 @@ growth_summary job growth =
 -- and the boxes of the run; the output is grown
 abbrev pub grow_over : GrowJob → Samples → Stages []
 grow_over job samples =
-    bounded Frames job.size.f (frames_allowed samples.form)
-    (bounded Output (cell_count job.size) MOST_OUTPUT_CELLS
+    bounded_in job.size samples.form
     (never_passed RecordsLimit (PassesAt (plan_of job) samples.volume) MOST_BOX_CELLS
     (make (IsGrownOver job samples)
     (λ grown. growth_files job (growth_of samples grown))
-    (λ grown. growth_summary job (growth_of samples grown)))))
+    (λ grown. growth_summary job (growth_of samples grown))))
 
 -- the sample files are read, and then so
 abbrev pub grow_stages : (job : GrowJob)

@@ -1,22 +1,19 @@
 // What is read and computed before a file is begun.
 ghost use Rattle.std.specs.Prelude.{◌≡◌, IfOk};
-ghost use Rattle.cells.specs.Places.{HasAxes, cell_count};
 ghost use Rattle.shelf_core.specs.Files.{OnlyReads};
 ghost use Rattle.job_words.specs.GrowWords.{IsGrowJob};
 ghost use Rattle.command.specs.Commands.{names_in};
 ghost use Rattle.command.specs.Outcomes.{Plans};
 ghost use Rattle.sample_files.specs.Several.{sample_files};
-ghost use Rattle.grow_command.specs.Growths.{IsMade, SetAgainst, grow_command, growth_files, growth_summary, frames_allowed, plan_of};
+ghost use Rattle.grow_command.specs.Growths.{IsMade, grow_command, growth_files, growth_summary, plan_of};
 
 use crate::asked::{growing_fault, mode_for};
-use cells::Size;
 use command_files::records_fit;
 use costs::total;
 use grow_run::{GrowPlan, Grown, grow_canvas};
 use job_words::GrowJob;
-use limits::{GREATEST_AXIS, MOST_OUTPUT_CELLS, MOST_PICTURE_FRAMES};
-use sample_files::{Form, Samples, read_samples};
-use shelf_core::{Shelf, What};
+use sample_files::{Samples, read_samples, within_bounds};
+use shelf_core::Shelf;
 use std::alloc::Global;
 use synth_report::Fault;
 
@@ -43,48 +40,6 @@ fn plan_of(job: &GrowJob) -> GrowPlan
     }
 }
 
-// The most frames of an output in this form.
-fn frames_allowed(form: &Form) -> u32
-    ensures { result ≡ frames_allowed form.now }
-{
-    match form {
-        Form::Picture { .. } => MOST_PICTURE_FRAMES,
-        Form::Clip { .. } => GREATEST_AXIS,
-    }
-}
-
-// How many cells an output of a size has, also where they are too many for a volume.
-fn cells_of(size: Size) -> u64
-    requires { HasAxes size }
-    ensures { result ≡ cell_count size }
-{
-    u64::from(size.w) * (u64::from(size.h) * u64::from(size.f))
-}
-
-// Sets a job against the form of its samples.
-fn set_against(job: &GrowJob, form: &Form) -> Result<(), Fault>
-    requires { IsGrowJob job.now }
-    ensures { SetAgainst job.now form.now result }
-{
-    let frames = frames_allowed(form);
-    if job.size.f > frames {
-        return Err(Fault::Limit {
-            what: What::Frames,
-            number: u64::from(job.size.f),
-            bound: u64::from(frames),
-        });
-    }
-    let cells = cells_of(job.size);
-    if cells > MOST_OUTPUT_CELLS {
-        return Err(Fault::Limit {
-            what: What::Output,
-            number: cells,
-            bound: MOST_OUTPUT_CELLS,
-        });
-    }
-    Ok(())
-}
-
 /// Reads the samples and computes all that is to be written. Nothing is written yet.
 pub(crate) fn plan<S: Shelf>(alloc: Global, job: &GrowJob, shelf: &mut S) -> Result<Growth, Fault>
     requires { IsGrowJob job.now }
@@ -100,7 +55,7 @@ pub(crate) fn plan<S: Shelf>(alloc: Global, job: &GrowJob, shelf: &mut S) -> Res
     };
     // It is asked for only to show the check that the samples are a volume.
     let _k = samples.volume.samples();
-    match set_against(job, &samples.form) {
+    match within_bounds(job.size, &samples.form) {
         Ok(()) => {}
         Err(fault) => return Err(fault),
     }

@@ -1,10 +1,7 @@
 -- The stages of `quilt`: each has one answer, and what is planned goes by them.
 use Rattle.std.proofs.Common.{refl}
 use Rattle.cells.specs.Cells.{IsVolume}
-use Rattle.cells.specs.Places.{cell_count}
-use Rattle.limits.specs.declared.bounds.TheConstants.{MOST_OUTPUT_CELLS}
 use Rattle.shelf_core.specs.Files.{Files, InFile, OnlyReadsFile, ShelfState, content_of}
-use Rattle.shelf_core.specs.declared.fault.What.TheVariants.{Output}
 use Rattle.netpbm_p6.specs.declared.picture.Picture.{Picture}
 use Rattle.netpbm_p6.specs.Pictures.{IsRead, IsSound, Refuses}
 use Rattle.netpbm_p6.proofs.OneReading as p6
@@ -20,9 +17,9 @@ use Rattle.synth_report.specs.declared.fault.Fault.{Fault}
 use Rattle.synth_report.specs.declared.fault.FileOf.TheVariants as part
 use Rattle.command.specs.Faults.{IsNotRead}
 use Rattle.command.specs.Outcomes.{IsPlanned, NotMade}
-use Rattle.command.specs.Stages.{PassesBound}
 use Rattle.command.proofs.Staging.{AreOne, ReadsOne, bound_is_one, file_is_one, passing_is_one}
 use Rattle.command.proofs.Planning.{StandsBefore, begin, file_read, limit_passed, not_passed, part_not_read, pass_on, plan_made}
+use Rattle.sample_files.specs.Outputs.{PassesOutput}
 use Rattle.sample_files.proofs.Sound.{read_is_volume}
 use Rattle.quilt_command.specs.Quilts.{IsQuiltSummary, IsQuiltWithin, MayRefuseQuilt, fault_of_quilting, quilt_command, quilt_files, quilt_of, quilt_over, quilt_run_of, quilt_size, quilt_stages, quilt_summary}
 use Rattle.quilt_command.proofs.Ready.{small_quilt}
@@ -64,7 +61,7 @@ module _ (job : QuiltJob) (a b : ShelfState) (reads : OnlyReadsFile job.names.sa
     over : StandsBefore (quilt_command job) a b 1 (quilt_over job picture)
     over = file_read begun reads picture read
 
-    pub output_refused : (fault : Fault) → PassesBound Output (cell_count (quilt_size job)) MOST_OUTPUT_CELLS fault → NotMade (quilt_command job) a b fault
+    pub output_refused : (fault : Fault) → PassesOutput (quilt_size job) fault → NotMade (quilt_command job) a b fault
     output_refused fault passes = limit_passed over fault _ _ _ passes.1 passes tt
 
     pub not_quilted : IsQuiltWithin job → (why : QuiltError) → IsQuiltFault (quilt_run_of job) picture.volume why → NotMade (quilt_command job) a b (fault_of_quilting why)

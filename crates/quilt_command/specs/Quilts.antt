@@ -1,17 +1,16 @@
 -- `quilt` as a command: what it reads and refuses, what it makes, and the files that it writes. To
 -- be trusted: contracts cite these words. (Own.)
-use Rattle.std.specs.Prelude.{◌≡◌, ◌≤◌, ℕ, List, [], ◌∷◌, length}
+use Rattle.std.specs.Prelude.{◌≡◌, ℕ, List, [], ◌∷◌, length}
 use Rattle.cells.specs.declared.place.Size.{Size}
 use Rattle.cells.specs.Cells.{Cells, IsVolume, sizes_of}
-use Rattle.cells.specs.Places.{cell_count}
 use Rattle.shelf_core.specs.Files.{Files, content_of}
-use Rattle.shelf_core.specs.declared.fault.What.TheVariants.{Output, Records as RecordsLimit}
+use Rattle.shelf_core.specs.declared.fault.What.TheVariants.{Records as RecordsLimit}
 use Rattle.netpbm_p6.specs.declared.picture.Picture.{Picture}
 use Rattle.netpbm_p6.specs.Pictures.{IsRead, IsSound, Refuses, p6_form}
 use Rattle.source_map.specs.MapFiles.{cell_map_form}
 use Rattle.source_map.specs.declared.head.Head.{Head}
 use Rattle.source_map.specs.declared.head.Version.TheVariants.{One}
-use Rattle.limits.specs.declared.bounds.TheConstants.{MOST_BOX_CELLS, MOST_OUTPUT_CELLS}
+use Rattle.limits.specs.declared.bounds.TheConstants.{MOST_BOX_CELLS}
 use Rattle.quilt_run.specs.declared.asked.QuiltRun.{QuiltRun}
 use Rattle.quilt_run.specs.declared.asked.Quilted.{Quilted}
 use Rattle.quilt_run.specs.declared.asked.QuiltError.{QuiltError}
@@ -25,9 +24,10 @@ use Rattle.synth_report.specs.declared.fault.FileOf.TheVariants as part
 use Rattle.synth_report.specs.declared.summary.Summary.{Summary}
 use Rattle.synth_report.specs.declared.summary.Summary.TheVariants.{Quilt}
 use Rattle.command.specs.Commands.{Command, named}
-use Rattle.command.specs.Stages.{Stages, bounded, never_passed, of_stages, read_file}
+use Rattle.command.specs.Stages.{Stages, never_passed, of_stages, read_file}
 use Rattle.command.specs.Stages.Stages.{make}
 use Rattle.command.specs.Writing.{FileText, file_text}
+use Rattle.sample_files.specs.Outputs.{FitsOutput, bounded_output}
 use Rattle.quilt_command.specs.declared.plan.PictureQuilt.{PictureQuilt}
 
 -- What is asked of quilting.
@@ -47,7 +47,7 @@ quilt_run_of job = record {
 
 -- the output has no more cells than it may have
 abbrev pub IsQuiltWithin : QuiltJob → Type 0
-IsQuiltWithin job = cell_count (quilt_size job) ≤ MOST_OUTPUT_CELLS
+IsQuiltWithin job = FitsOutput (quilt_size job)
 
 -- what a run without an output is refused for
 abbrev pub fault_of_quilting : QuiltError → Fault
@@ -101,7 +101,7 @@ quilt_summary job made =
 -- the output is the whole quilt of its blocks
 abbrev pub quilt_over : QuiltJob → Picture → Stages []
 quilt_over job picture =
-    bounded Output (cell_count (quilt_size job)) MOST_OUTPUT_CELLS
+    bounded_output (quilt_size job)
     (never_passed RecordsLimit (QuiltPassesAt (quilt_run_of job) picture.volume) MOST_BOX_CELLS
     (make (IsQuilt (quilt_run_of job) picture.volume)
     (λ quilted. quilt_files job (quilt_of picture quilted))

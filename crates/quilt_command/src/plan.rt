@@ -4,9 +4,7 @@ ghost use Rattle.shelf_core.specs.Files.{OnlyReads};
 ghost use Rattle.job_words.specs.QuiltWords.{IsQuiltJob};
 ghost use Rattle.command.specs.Commands.{names_in};
 ghost use Rattle.command.specs.Outcomes.{Plans};
-ghost use Rattle.command.specs.Stages.{AsksBound};
-ghost use Rattle.shelf_core.specs.declared.fault.What.TheVariants.{Output};
-ghost use Rattle.cells.specs.Places.{cell_count};
+ghost use Rattle.sample_files.specs.Outputs.{AsksOutput};
 ghost use Rattle.quilt_command.specs.Quilts.{IsMadeQuilt, fault_of_quilting, quilt_command, quilt_files, quilt_run_of, quilt_size, quilt_summary};
 
 use block_strips::QuiltPlan;
@@ -55,7 +53,7 @@ fn run_of(job: &QuiltJob) -> QuiltRun
 
 // Sets a job against the picture that was read.
 fn set_against(job: &QuiltJob) -> Result<(), Fault>
-    ensures { AsksBound Output (cell_count (quilt_size job.now)) MOST_OUTPUT_CELLS result }
+    ensures { AsksOutput (quilt_size job.now) result }
 {
     let cells = u64::from(job.w) * u64::from(job.h);
     if cells > MOST_OUTPUT_CELLS {

@@ -1,3 +1,4 @@
 pub mod Samples
+pub mod Outputs
 pub mod Several
 pub mod Steps

@@ -6,16 +6,19 @@
 //! reads up to 16 samples in the order of their numbers: they are the parts of one volume, or it gives
 //! the first refusal (specs/Several.antt). `one_answer` says that files have one answer at most.
 //! `read_picture` reads the sample of a run that takes pictures alone (`ReadsPart` of the crate command).
+//! `within_bounds` asks whether an output is within its bounds in a form (specs/Outputs.antt).
 #![tactic(auto)]
 
 mod form;
 mod law;
+mod output;
 mod picture;
 mod sample;
 mod several;
 
 pub use form::Form;
 pub use law::{one_answer, samples_are_sound};
+pub use output::within_bounds;
 pub use picture::read_picture;
 pub use sample::{Sample, read_sample, read_sample_within};
 pub use several::{Samples, read_samples};

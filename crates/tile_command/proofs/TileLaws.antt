@@ -18,13 +18,14 @@ use Rattle.command.specs.Outcomes.{WritesAll}
 use Rattle.command.specs.Writing.{pieces}
 use Rattle.sample_files.specs.declared.form.Form.{Form}
 use Rattle.sample_files.specs.declared.sample.Sample.{Sample}
+use Rattle.sample_files.specs.Outputs.{IsWithinBounds, PassesBounds}
 use Rattle.sample_files.specs.Samples.{RefusesSample, form_text}
 use Rattle.sample_files.proofs.OneSample.{one_sample, one_sample_refusal, stands_or_refused}
 use Rattle.job_words.specs.declared.tile.TileJob.{TileJob}
 use Rattle.job_words.specs.TileWords.{IsTileJob}
 use Rattle.tile_run.proofs.OneRuns.{all_keep, all_least}
 use Rattle.tile_command.specs.declared.plan.TiledSample.{TiledSample}
-use Rattle.tile_command.specs.Tilings.{IsSampleIn, IsWithinBounds, MakesTile, PassesBounds, RefusesTile, plan_of, tile_command, torus_seams}
+use Rattle.tile_command.specs.Tilings.{IsSampleIn, MakesTile, RefusesTile, plan_of, tile_command, torus_seams}
 use Rattle.tile_command.specs.TileHeadlines.{IsTiledOutput, IsToldOfTiling}
 use Rattle.tile_command.proofs.TwoFiles.{map_holds, others_stay, out_holds}
 
@@ -35,14 +36,14 @@ one_sample_read job files one other a b =
 
 module _ (job : TileJob) (form : Form) (first second : Fault) where
   within_or_passed : IsWithinBounds job.size form → PassesBounds job.size form first → ⊥
-  within_or_passed bounds (inl p) = omega (arith, bounds.frames, p.passes)
-  within_or_passed bounds (inr p) = omega (arith, bounds.cells, p.passes)
+  within_or_passed bounds (inl p) = omega (arith, bounds.frames, p.0)
+  within_or_passed bounds (inr p) = omega (arith, bounds.cells, p.1.0)
 
   one_passed : PassesBounds job.size form first → PassesBounds job.size form second → first ≡ second
-  one_passed (inl p) (inl q) = p.is ∙ sym q.is
-  one_passed (inl p) (inr q) = absurd (omega (arith, p.passes, q.frames))
-  one_passed (inr p) (inl q) = absurd (omega (arith, p.frames, q.passes))
-  one_passed (inr p) (inr q) = p.is ∙ sym q.is
+  one_passed (inl p) (inl q) = p.1 ∙ sym q.1
+  one_passed (inl p) (inr q) = absurd (omega (arith, p.0, q.0))
+  one_passed (inr p) (inl q) = absurd (omega (arith, p.0, q.0))
+  one_passed (inr p) (inr q) = p.1.1 ∙ sym q.1.1
 
 module _ (job : TileJob) (files : Files) where
   abbrev Unread : Fault → Type 0

@@ -13,12 +13,13 @@ use Rattle.command.specs.Writing.{texts_in}
 use Rattle.command.proofs.Halves.{not_read}
 use Rattle.sample_files.specs.declared.form.Form.{Form}
 use Rattle.sample_files.specs.declared.sample.Sample.{Sample}
+use Rattle.sample_files.specs.Outputs.{IsWithinBounds, PassesBounds}
 use Rattle.sample_files.specs.Samples.{RefusesSample, SampleReadsAs}
 use Rattle.job_words.specs.declared.tile.TileJob.{TileJob}
 use Rattle.job_words.specs.TileWords.{IsTileJob}
 use Rattle.tile_run.specs.Tilings.{IsRunPlan}
 use Rattle.tile_command.specs.declared.plan.TiledSample.{TiledSample}
-use Rattle.tile_command.specs.Tilings.{IsSampleIn, IsTilingMade, IsWithinBounds, PassesBounds, RefusesTile, plan_of, tile_command, tile_files, tile_summary}
+use Rattle.tile_command.specs.Tilings.{IsSampleIn, IsTilingMade, RefusesTile, plan_of, tile_command, tile_files, tile_summary}
 
 -- the plan of a job within its bounds
 pub run_plan : (job : TileJob) → IsTileJob job → (form : Form) → IsWithinBounds job.size form → IsRunPlan (plan_of job)
@@ -44,8 +45,8 @@ module _ {names : List (List ℕ)} (job : TileJob) (a b : ShelfState) (reads : O
     }
 
     pub bounds_passed : (fault : Fault) → PassesBounds job.size sample.form fault → NotMade (tile_command job) a b fault
-    bounds_passed fault (inl p) = subst (NotMade (tile_command job) a b) (sym p.is) (over _ tt (subst (PassesBounds job.size sample.form) p.is (inl p)))
-    bounds_passed fault (inr p) = subst (NotMade (tile_command job) a b) (sym p.is) (over _ tt (subst (PassesBounds job.size sample.form) p.is (inr p)))
+    bounds_passed fault (inl p) = subst (NotMade (tile_command job) a b) (sym p.1) (over _ tt (subst (PassesBounds job.size sample.form) p.1 (inl p)))
+    bounds_passed fault (inr p) = subst (NotMade (tile_command job) a b) (sym p.1.1) (over _ tt (subst (PassesBounds job.size sample.form) p.1.1 (inr p)))
 
   pub tiling_made : (made : TiledSample) → Changes a b (λ before after. IsSampleIn before job made.sample) → IsTilingMade job made
       → IsPlanned (tile_command job) (tile_files job made) (tile_summary job made) a b

@@ -1,13 +1,9 @@
 -- `tile` as a command: what it reads and refuses, what it makes, and the files that it writes. To
 -- be trusted: contracts cite these words. (Own.)
-use Rattle.std.specs.Prelude.{◌≡◌, ◌≤◌, ◌<◌, ◌⊎◌, ℕ, List, [], ◌∷◌, Result, Ok, Err}
-use Rattle.limits.specs.declared.bounds.TheConstants.{GREATEST_AXIS, MOST_OUTPUT_CELLS, MOST_PICTURE_FRAMES}
-use Rattle.cells.specs.declared.place.Size.{Size}
+use Rattle.std.specs.Prelude.{◌≡◌, ◌⊎◌, ℕ, List, [], ◌∷◌}
 use Rattle.cells.specs.Cells.{Cells, IsOnePart, IsVolume, sizes_of}
 use Rattle.cells.specs.Distances.{distance}
-use Rattle.cells.specs.Places.{cell_count}
 use Rattle.shelf_core.specs.Files.{Files, content_of}
-use Rattle.shelf_core.specs.declared.fault.What.TheVariants.{Frames, Output}
 use Rattle.map_canvas.specs.Maps.{SourceMap, map_at}
 use Rattle.source_map.specs.MapFiles.{cell_map_form}
 use Rattle.source_map.specs.declared.head.Version.TheVariants.{One}
@@ -24,41 +20,10 @@ use Rattle.synth_report.specs.declared.summary.Summary.TheVariants.{Tile}
 use Rattle.command.specs.Commands.{Command, named}
 use Rattle.command.specs.Faults.{ReaderRefuses}
 use Rattle.command.specs.Writing.{FileText, file_text, texts_in}
-use Rattle.sample_files.specs.declared.form.Form.{Form}
-use Rattle.sample_files.specs.declared.form.Form.TheVariants.{Picture, Clip}
 use Rattle.sample_files.specs.declared.sample.Sample.{Sample}
+use Rattle.sample_files.specs.Outputs.{IsWithinBounds, PassesBounds}
 use Rattle.sample_files.specs.Samples.{IsSampleOf, IsSoundSample, RefusesSample, form_text}
 use Rattle.tile_command.specs.declared.plan.TiledSample.{TiledSample}
-
--- The bounds of an output in the form of the sample.
-
--- the most frames of an output in this form
-abbrev pub frames_allowed : Form → ℕ
-frames_allowed (Picture maxval) = MOST_PICTURE_FRAMES
-frames_allowed (Clip form) = GREATEST_AXIS
-
--- it has no more frames than its form allows, and no more cells than an output may have
-pub record IsWithinBounds (size : Size) (form : Form) : Type 0 where
-  pub frames : size.f ≤ frames_allowed form
-  pub cells : cell_count size ≤ MOST_OUTPUT_CELLS
-
-pub record FramesPass (size : Size) (form : Form) (fault : Fault) : Type 0 where
-  pub passes : frames_allowed form < size.f
-  pub is : fault ≡ Limit Frames size.f (frames_allowed form)
-
-pub record OutputPasses (size : Size) (form : Form) (fault : Fault) : Type 0 where
-  pub frames : size.f ≤ frames_allowed form
-  pub passes : MOST_OUTPUT_CELLS < cell_count size
-  pub is : fault ≡ Limit Output (cell_count size) MOST_OUTPUT_CELLS
-
--- the frames pass their bound, or they don't and the cells of the output pass theirs
-abbrev pub PassesBounds : Size → Form → Fault → Type 0
-PassesBounds size form fault = FramesPass size form fault ⊎ OutputPasses size form fault
-
--- whether the output is within its bounds
-abbrev pub SetAgainst : Size → Form → Result (Unit {0}) Fault → Type 0
-SetAgainst size form (Ok done) = IsWithinBounds size form
-SetAgainst size form (Err fault) = PassesBounds size form fault
 
 -- What is made of the files.
 

@@ -1,18 +1,15 @@
 // What is read and computed before a file is begun.
 ghost use Rattle.std.specs.Prelude.{◌≡◌, IfOk};
-ghost use Rattle.cells.specs.Places.{HasAxes, cell_count};
 ghost use Rattle.shelf_core.specs.Files.{OnlyReads};
 ghost use Rattle.job_words.specs.TileWords.{IsTileJob};
 ghost use Rattle.command.specs.Commands.{names_in};
 ghost use Rattle.command.specs.Outcomes.{Plans};
-ghost use Rattle.tile_command.specs.Tilings.{IsTilingMade, SetAgainst, frames_allowed, plan_of, tile_command, tile_files, tile_summary};
+ghost use Rattle.tile_command.specs.Tilings.{IsTilingMade, plan_of, tile_command, tile_files, tile_summary};
 
-use cells::Size;
 use command::read_fault;
 use job_words::TileJob;
-use limits::{GREATEST_AXIS, MOST_OUTPUT_CELLS, MOST_PICTURE_FRAMES};
-use sample_files::{Form, Sample, read_sample};
-use shelf_core::{Shelf, What};
+use sample_files::{Sample, read_sample, within_bounds};
+use shelf_core::Shelf;
 use std::alloc::Global;
 use synth_report::{Fault, FileOf};
 use tile_run::{RunPlan, Tiled, tile_canvas};
@@ -38,48 +35,6 @@ fn plan_of(job: &TileJob) -> RunPlan
     }
 }
 
-// The most frames of an output in this form.
-fn frames_allowed(form: &Form) -> u32
-    ensures { result ≡ frames_allowed form.now }
-{
-    match form {
-        Form::Picture { .. } => MOST_PICTURE_FRAMES,
-        Form::Clip { .. } => GREATEST_AXIS,
-    }
-}
-
-// How many cells an output of a size has, also where they are too many for a volume.
-fn cells_of(size: Size) -> u64
-    requires { HasAxes size }
-    ensures { result ≡ cell_count size }
-{
-    u64::from(size.w) * (u64::from(size.h) * u64::from(size.f))
-}
-
-// Sets an output against the form of the sample.
-fn set_against(size: Size, form: &Form) -> Result<(), Fault>
-    requires { HasAxes size }
-    ensures { SetAgainst size form.now result }
-{
-    let frames = frames_allowed(form);
-    if size.f > frames {
-        return Err(Fault::Limit {
-            what: What::Frames,
-            number: u64::from(size.f),
-            bound: u64::from(frames),
-        });
-    }
-    let cells = cells_of(size);
-    if cells > MOST_OUTPUT_CELLS {
-        return Err(Fault::Limit {
-            what: What::Output,
-            number: cells,
-            bound: MOST_OUTPUT_CELLS,
-        });
-    }
-    Ok(())
-}
-
 /// Reads the sample and computes all that is to be written. Nothing is written yet.
 pub(crate) fn plan<S: Shelf>(
     alloc: Global,
@@ -99,7 +54,7 @@ pub(crate) fn plan<S: Shelf>(
     };
     // It is asked for only to show the check that the sample is a volume.
     let _k = sample.volume.samples();
-    match set_against(job.size, &sample.form) {
+    match within_bounds(job.size, &sample.form) {
         Ok(()) => {}
         Err(fault) => return Err(fault),
     }

@@ -14,12 +14,12 @@ returns-in-Err-clause-planned g c =
     let job = c.args.job.now in
     no_samples job a b c.as_slice.ensures.names c.read_samples.ensures.reads c.in-Err.fault (c.in-Err.ensures {u = tt}).answer
 
-pub returns-in-Err-set_against-clause-planned : goal.returns-in-Err-set_against-clause-planned
-returns-in-Err-set_against-clause-planned g c =
+pub returns-in-Err-within_bounds-clause-planned : goal.returns-in-Err-within_bounds-clause-planned
+returns-in-Err-within_bounds-clause-planned g c =
     let a = g.S.Shelf.state c.args.shelf.now in
     let b = g.S.Shelf.state c.read_samples.new.shelf in
     let job = c.args.job.now in
-    output_refused job a b c.as_slice.ensures.names c.read_samples.ensures.reads c.in-Ok.samples (c.in-Ok.ensures {u = tt}).answer c.in-Err-set_against.fault (c.in-Err-set_against.ensures {u = tt})
+    output_refused job a b c.as_slice.ensures.names c.read_samples.ensures.reads c.in-Ok.samples (c.in-Ok.ensures {u = tt}).answer c.in-Err-within_bounds.fault (c.in-Err-within_bounds.ensures {u = tt})
 
 pub returns-in-Err-grow_canvas-clause-planned : goal.returns-in-Err-grow_canvas-clause-planned
 returns-in-Err-grow_canvas-clause-planned g c =
@@ -28,7 +28,7 @@ returns-in-Err-grow_canvas-clause-planned g c =
     let job = c.args.job.now in
     let samples = c.in-Ok.samples in
     subst (NotMade (grow_command job) a b) (sym c.growing_fault.ensures)
-    (not_grown job a b c.as_slice.ensures.names c.read_samples.ensures.reads samples (c.in-Ok.ensures {u = tt}).answer (c.in-Ok-set_against.ensures {u = tt}) c.in-Err-grow_canvas.error
+    (not_grown job a b c.as_slice.ensures.names c.read_samples.ensures.reads samples (c.in-Ok.ensures {u = tt}).answer (c.in-Ok-within_bounds.ensures {u = tt}) c.in-Err-grow_canvas.error
     (subst (λ plan. IsGrowFault plan samples.volume c.in-Err-grow_canvas.error) c.plan_of.ensures (c.in-Err-grow_canvas.ensures {u = tt})))
 
 pub returns-clause-planned : goal.returns-clause-planned
@@ -38,7 +38,7 @@ returns-clause-planned g c =
     let job = c.args.job.now in
     let samples = c.in-Ok.samples in
     let grown = c.in-Ok-grow_canvas.grown in
-    growth_made job a b c.as_slice.ensures.names c.read_samples.ensures.reads samples (c.in-Ok.ensures {u = tt}).answer c.requires (c.in-Ok-set_against.ensures {u = tt}) grown
+    growth_made job a b c.as_slice.ensures.names c.read_samples.ensures.reads samples (c.in-Ok.ensures {u = tt}).answer c.requires (c.in-Ok-within_bounds.ensures {u = tt}) grown
     (record {
       volume = c.samples-k.ensures.volume;
       run = subst (λ plan. IsGrown plan samples.volume grown) c.plan_of.ensures (c.in-Ok-grow_canvas.ensures {u = tt});

@@ -19,14 +19,14 @@ returns-in-Err-clause-planned g c =
     (sample_not_read job a b c.read_sample.ensures.reads c.in-Err.error
     (subst (λ name. SampleReadsAs name a b (Err c.in-Err.error)) c.as_text.ensures (c.in-Err.ensures {u = tt}).answer))
 
-pub returns-in-Err-set_against-clause-planned : goal.returns-in-Err-set_against-clause-planned
-returns-in-Err-set_against-clause-planned g c =
+pub returns-in-Err-within_bounds-clause-planned : goal.returns-in-Err-within_bounds-clause-planned
+returns-in-Err-within_bounds-clause-planned g c =
     let a = g.S.Shelf.state c.args.shelf.now in
     let b = g.S.Shelf.state c.read_sample.new.shelf in
     let job = c.args.job.now in
     bounds_passed job a b c.read_sample.ensures.reads c.in-Ok.sample
     (subst (λ name. Changes a b (λ before after. IsSampleOf (content_of before name) c.in-Ok.sample)) c.as_text.ensures (c.in-Ok.ensures {u = tt}).answer)
-    c.in-Err-set_against.fault (c.in-Err-set_against.ensures {u = tt})
+    c.in-Err-within_bounds.fault (c.in-Err-within_bounds.ensures {u = tt})
 
 pub returns-clause-planned : goal.returns-clause-planned
 returns-clause-planned g c =
@@ -39,7 +39,7 @@ returns-clause-planned g c =
       volume = c.samples-k.ensures.volume;
       one = sound_alone c.in-Ok.sample.form c.in-Ok.sample.volume (c.in-Ok.ensures {u = tt}).sound;
       sound = (c.in-Ok.ensures {u = tt}).sound;
-      bounds = c.in-Ok-set_against.ensures {u = tt};
+      bounds = c.in-Ok-within_bounds.ensures {u = tt};
       tiled = subst (λ plan. IsTiledTo plan c.in-Ok.sample.volume c.in-Ok-tile_canvas.tiled) c.plan_of.ensures (c.in-Ok-tile_canvas.ensures {u = tt});
       seams = c.torus_total-seams.ensures;
     })
@@ -49,13 +49,13 @@ returns-clause-made g c = record {
   volume = c.samples-k.ensures.volume;
   one = sound_alone c.in-Ok.sample.form c.in-Ok.sample.volume (c.in-Ok.ensures {u = tt}).sound;
   sound = (c.in-Ok.ensures {u = tt}).sound;
-  bounds = c.in-Ok-set_against.ensures {u = tt};
+  bounds = c.in-Ok-within_bounds.ensures {u = tt};
   tiled = subst (λ plan. IsTiledTo plan c.in-Ok.sample.volume c.in-Ok-tile_canvas.tiled) c.plan_of.ensures (c.in-Ok-tile_canvas.ensures {u = tt});
   seams = c.torus_total-seams.ensures;
 }
 
 pub tile_canvas-requires-clause-plan : goal.tile_canvas-requires-clause-plan
-tile_canvas-requires-clause-plan g c = subst IsRunPlan (sym c.plan_of.ensures) (run_plan c.args.job.now c.requires c.in-Ok.sample.form (c.in-Ok-set_against.ensures {u = tt}))
+tile_canvas-requires-clause-plan g c = subst IsRunPlan (sym c.plan_of.ensures) (run_plan c.args.job.now c.requires c.in-Ok.sample.form (c.in-Ok-within_bounds.ensures {u = tt}))
 
 pub tile_canvas-requires-clause-part : goal.tile_canvas-requires-clause-part
 tile_canvas-requires-clause-part g c = sound_alone c.in-Ok.sample.form c.in-Ok.sample.volume (c.in-Ok.ensures {u = tt}).sound

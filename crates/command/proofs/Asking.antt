@@ -1,8 +1,8 @@
 -- The names of the files of a run, of which some are among others.
-use Rattle.std.proofs.Common.{◌≡◌, ℕ, zero, suc, ◌+◌, List, [], ◌∷◌, ◌++◌, refl, sym, ap, ◌∙◌, subst, arith, Bool, true, false, nat_eq}
+use Rattle.std.proofs.Common.{◌≡◌, ℕ, zero, suc, ◌+◌, List, [], ◌∷◌, ◌++◌, refl, sym, ap, ◌∙◌, subst, Bool, true, false, nat_eq}
 use Rattle.std.proofs.Math.Bool.{◌||◌}
 use Rattle.std.proofs.lemmas.Cmp.{nat_list_eq_equiv}
-use Rattle.std.specs.Prelude.{Some, slice_get}
+use Rattle.std.specs.Prelude.{Some}
 use Rattle.std.specs.Cmp.Lexicographic.{pointwise, same_text}
 use Rattle.shelf_core.specs.Files.{is_one_of}
 use Rattle.shelf_core.proofs.FileLaws.{AreAmong, among_head, among_left, among_rest, among_right, among_then}
@@ -39,12 +39,6 @@ pub turns_among_from : (files more : List NamedFile) (from : ℕ) → ((turn : �
 turns_among_from files more from turns call is =
     let its : HasATurn files call = turn_of files call is in
     turn_among more (from + its.0) its.1 call (turns its.0 its.1 call its.2) call (ap (λ (b : Bool). b || false) (nat_list_eq_equiv.refl call))
-
--- from the first on
-pub turns_among : (files more : List NamedFile) → ((turn : ℕ) (part : FileOf) (name : List ℕ) → HasTurn files turn part name → HasTurn more turn part name)
-    → AreAmong (names_in files) (names_in more)
-turns_among files more turns =
-    turns_among_from files more 0 (λ turn part name has. let e : turn ≡ 0 + turn = omega arith in subst (λ n. HasTurn more n part name) e (turns turn part name has))
 
 -- the names of texts of two groups
 text_names-append : (first second : List FileText) → text_names (first ++ second) ≡ text_names first ++ text_names second

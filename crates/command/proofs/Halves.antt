@@ -1,47 +1,21 @@
 -- A command in two halves: what it reads and computes, and the writing of what it made.
-use Rattle.std.proofs.Common.{◌≡◌, ℕ, suc, ◌⊎◌, inl, inr, List, ap, sym, ◌∙◌, subst}
+use Rattle.std.proofs.Common.{◌≡◌, ℕ, ◌⊎◌, inl, inr, List, ap, sym, ◌∙◌, subst}
 use Rattle.std.specs.Prelude.{Result, Ok, Err}
-use Rattle.shelf_core.specs.Files.{Files, ShelfState, SinkState, OnlyReads, OnlyWrites, Changes, Rose, content_of}
+use Rattle.shelf_core.specs.Files.{Files, ShelfState, SinkState, OnlyReads, OnlyWrites, Changes, Rose}
 use Rattle.shelf_core.specs.Written.{Untouched, StoppedAt, written}
-use Rattle.shelf_core.proofs.FileLaws.{AreAmong, among_left, among_right, asks_of_more, asks_then, told_same, told_then, told_weaker}
-use Rattle.shelf_core.proofs.Sees.{Sees, sees_both, sees_weaker}
-use Rattle.shelf_core.specs.declared.fault.FormFault.{FormFault}
-use Rattle.shelf_core.specs.declared.fault.What.{What}
-use Rattle.shelf_core.specs.declared.fault.ReadError.{ReadError}
-use Rattle.shelf_core.specs.declared.fault.ReadError.TheVariants as error
+use Rattle.shelf_core.proofs.FileLaws.{AreAmong, among_left, among_right, asks_of_more, asks_then, told_same, told_then}
 use Rattle.synth_report.specs.declared.fault.FileOf.{FileOf}
 use Rattle.synth_report.specs.declared.fault.Fault.{Fault}
 use Rattle.synth_report.specs.declared.fault.Fault.TheVariants.{Words, Form, Unlike, Mark, Limit, Read, Write, NoMemory, NoLoop}
 use Rattle.synth_report.specs.declared.summary.Summary.{Summary}
 use Rattle.command.specs.Commands.{Command, HasTurn, names_in, names_of}
-use Rattle.command.specs.Faults.{FailsToRead, fault_of_read}
-use Rattle.command.specs.Writing.{FileText, HoldAll, IsSilent, StopsReporting, StopsWriting, WritesRun, files_in, pieces, pieces_of, text_names, texts_in}
-use Rattle.command.specs.Outcomes.{Ends, IsPlanned, IsStopped, Leaves, NoneRefused, NotMade, WritesAll, WritesUpTo}
+use Rattle.command.specs.Writing.{FileText, HoldAll, IsSilent, StopsReporting, StopsWriting, WritesRun, pieces, pieces_of, text_names, texts_in}
+use Rattle.command.specs.Outcomes.{Ends, IsPlanned, IsStopped, Leaves, NotMade, WritesAll, WritesUpTo}
 
 -- The first half fails.
 
 module _ (c : Command) (a b : ShelfState) where
-  -- a file of the command isn't read, by what its reader promises, once something was seen of those before it; the command refuses it for what its reader does
-  pub not_read : (turn : ℕ) (part : FileOf) (name : List ℕ) → HasTurn c.reads turn part name → (Refuses : List ℕ → ReadError → Type 0) (Seen : Files → Type 0)
-      → ((why : FormFault) → c.MayRefuse (Form part why)) → ((what : What) (number bound : ℕ) → c.MayRefuse (Limit what number bound))
-      → ((files : Files) (refusal : ReadError) → Seen files → Refuses (content_of files name) refusal → c.Refuses (suc turn) files (fault_of_read part refusal))
-      → ((files : Files) → Seen files → NoneRefused c turn files)
-      → Sees a b Seen → (answer : ReadError) → FailsToRead Refuses name a b answer → NotMade c a b (fault_of_read part answer)
-  not_read turn part name its Refuses Seen bad limit refuses none seen error.ReadFault left =
-      record { turn = turn; name = name; its = its; rose = left; earlier = sees_weaker Seen (NoneRefused c turn) a b none seen }
-  not_read turn part name its Refuses Seen bad limit refuses none seen error.NoMemory left = tt
-  not_read turn part name its Refuses Seen bad limit refuses none seen (error.Bad why) left = record {
-    known = bad why;
-    refused = sees_both Seen (λ files. Refuses (content_of files name) (error.Bad why)) (λ files. (n : ℕ) × c.Refuses n files (Form part why)) a b
-        (λ files s r. (suc turn, refuses files (error.Bad why) s r)) seen left;
-  }
-  not_read turn part name its Refuses Seen bad limit refuses none seen (error.Limit what number bound) left = record {
-    known = limit what number bound;
-    refused = sees_both Seen (λ files. Refuses (content_of files name) (error.Limit what number bound)) (λ files. (n : ℕ) × c.Refuses n files (Limit what number bound)) a b
-        (λ files s r. (suc turn, refuses files (error.Limit what number bound) s r)) seen left;
-  }
-
-  -- so it is the answer of the command
+  -- a fault for which nothing is made is the answer of the command
   pub not_planned : OnlyReads (names_in c.reads) a b → (out : SinkState) (fault : Fault) → NotMade c a b fault → Leaves c a b out out (Err fault)
   not_planned reads out fault left = record {
     ends = by fault left (record { files = reads.files; added = told_same out.bytes });

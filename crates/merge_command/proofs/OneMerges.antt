@@ -15,8 +15,8 @@ use Rattle.synth_report.specs.declared.summary.Summary.{Summary}
 use Rattle.command.specs.Outcomes.{WritesAll}
 use Rattle.sample_files.specs.Several.{contents}
 use Rattle.merge_command.specs.declared.pictures.Pictures.{Pictures}
-use Rattle.merge_command.specs.MergeCommand.{ArePicturesIn, merge_command}
-use Rattle.merge_command.specs.MergeHeadlines.{HaveSameInput, HaveSameMerge, IsMergedRun, IsOneMergeReport, IsToldOfMerge, told_of_merge}
+use Rattle.merge_command.specs.MergeCommand.{merge_command}
+use Rattle.merge_command.specs.MergeHeadlines.{HaveSameInput, HaveSameMerge, IsMergedRun, IsOneMergeReport, told_of_merge}
 use Rattle.merge_command.specs.Pictures.{StandForPictures}
 use Rattle.merge_command.proofs.PictureLaws.{one_value, same_picture}
 use Rattle.merge_command.proofs.MergeRuns.{merge_told, merged_run}

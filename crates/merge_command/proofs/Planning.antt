@@ -1,175 +1,142 @@
--- What `merge` plans: from the reading of the pictures and the marks to all that is to be written.
-use Rattle.std.proofs.Common.{◌≡◌, ℕ, zero, suc, ◌+◌, ◌<◌, ◌≤◌, ◌⊎◌, inl, inr, ◌++◌, List, [], ◌∷◌, length, refl, ap, sym, ◌∙◌, subst, arith}
-use Rattle.std.specs.Prelude.{Err, Some, slice_get}
-use Rattle.std.proofs.lemmas.Option.{slice_get_within}
-use Rattle.cells.specs.Cells.{IsVolume}
-use Rattle.shelf_core.specs.Files.{Files, ShelfState, OnlyReads, OnlyReadsFile, content_of}
+-- The stages of `merge`: each has one answer, and what is planned goes by them.
+use Rattle.std.proofs.Common.{◌≡◌, ℕ, ◌+◌, inl, inr, List, [], ◌∷◌, length, refl, ap, sym, ◌∙◌, subst}
+use Rattle.std.specs.Prelude.{Err}
+use Rattle.shelf_core.specs.Files.{Files, InFile, OnlyReads, OnlyReadsFile, ShelfState, content_of}
 use Rattle.shelf_core.specs.declared.fault.ReadError.{ReadError}
-use Rattle.shelf_core.specs.declared.fault.ReadError.TheVariants as error
-use Rattle.shelf_core.proofs.FileLaws.{only_reads_of_more, told_both, told_weaker}
-use Rattle.shelf_core.proofs.Sees.{Sees, fault_later, sees_both, sees_earlier, sees_later, sees_weaker}
+use Rattle.shelf_core.proofs.Sees.{Sees, sees_weaker}
 use Rattle.netpbm_p6.specs.declared.picture.Picture.{Picture}
 use Rattle.netpbm_p6.specs.Pictures.{IsRead, ReadsAs, Refuses}
-use Rattle.map_canvas.specs.Canvases.{IsCanvas, StandsOver}
-use Rattle.map_canvas.specs.Maps.{IsFull}
-use Rattle.graph_place.specs.Placed.{map_total}
-use Rattle.photo_merge.specs.Merges.{IsMerge}
+use Rattle.map_canvas.specs.Canvases.{CanvasState}
+use Rattle.photo_merge.specs.MergeLaws.{picture_count}
+use Rattle.photo_merge.proofs.BadMarks.{bad_once, bad_or_merging}
 use Rattle.job_words.specs.declared.merge.MergeJob.{MergeJob}
-use Rattle.synth_report.specs.declared.fault.FileOf.{FileOf}
 use Rattle.synth_report.specs.declared.fault.FileOf.TheVariants as part
 use Rattle.synth_report.specs.declared.fault.Fault.{Fault}
 use Rattle.synth_report.specs.declared.fault.Fault.TheVariants.{Words, Form, Unlike, Mark, Limit, Read, Write, NoMemory, NoLoop}
-use Rattle.command.specs.Commands.{HasTurn, NamedFile, named, names_in}
-use Rattle.command.specs.Faults.{FailsToRead, fault_of_read}
+use Rattle.command.specs.Commands.{Command, NamedFile, named, names_in}
+use Rattle.command.specs.Faults.{fault_of_read}
 use Rattle.command.specs.Outcomes.{AreRefused, IsPlanned, NoneRefused, NotMade}
-use Rattle.command.specs.Writing.{texts_in}
-use Rattle.command.proofs.Asking.{turn_among, turns_among}
-use Rattle.command.proofs.Halves.{not_read}
-use Rattle.sample_files.specs.Several.{contents, sample_files}
-use Rattle.sample_files.proofs.Commands.{length-numbered}
+use Rattle.command.specs.Stages.{Stages, read_file}
+use Rattle.command.specs.Stages.Stages.{read}
+use Rattle.command.proofs.Staging.{AreOne, IsOneQuestion, IsOneReader, bound_is_one, file_is_one}
+use Rattle.command.proofs.Planning.{StandsBefore, begin, file_not_read, file_read, limit_passed, not_passed, not_read_on, pass_on, plan_made, read_on, reads_on}
+use Rattle.sample_files.specs.Several.{MayRefuseSamples, contents, sample_files}
+use Rattle.sample_files.proofs.OnePicture.{picture_fails, picture_is_one}
 use Rattle.merge_command.specs.declared.pictures.Pictures.{Pictures}
 use Rattle.merge_command.specs.declared.plan.Merged.{Merged}
-use Rattle.merge_command.specs.Pictures.{ArePicturesRead, NoPictureRefused, PicturesAreRefused, RefusesPictures}
-use Rattle.merge_command.specs.MergeCommand.{ArePicturesIn, HasBadMark, IsSet, MarksUnlike, MayRefuseMarks, OutputPasses, RefusesMarked, RefusesMerge, merge_command, merge_files, merge_summary}
-use Rattle.merge_command.proofs.PictureLaws.{unrefused}
+use Rattle.merge_command.specs.Pictures.{ArePicturesRead, NoPictureRefused, PicturesAreRefused, RefusesPictures, StandForPictures}
+use Rattle.merge_command.specs.MergeCommand.{AreSized, HasBadMark, IsMergeOver, IsMergeSummary, IsSet, MarkPictures, MarksUnlike, MayRefuseMerge, RefusesMarked, merge_command, merge_files, merge_over, merge_stages, merge_summary, merged_of}
+use Rattle.merge_command.proofs.PictureLaws.{one_value, refused_once, unrefused}
 
--- a file whose turn it is among some has it among these and others
-turn_before : (files others : List NamedFile) (turn : ℕ) (its : NamedFile) → slice_get files turn ≡ Some its → slice_get (files ++ others) turn ≡ Some its
-turn_before [] others turn its has = absurd (cc)
-turn_before (file ∷ files) others zero its has = has
-turn_before (file ∷ files) others (suc turn) its has = turn_before files others turn its has
+-- Each stage has one answer.
 
-turn_behind : (files : List NamedFile) (its : NamedFile) → slice_get (files ++ its ∷ []) (length files) ≡ Some its
-turn_behind [] its = refl
-turn_behind (file ∷ files) its = turn_behind files its
+pictures_are_one : (first : List ℕ) (more : List (List ℕ)) (files : Files)
+    → IsOneReader (λ files pictures. StandForPictures (content_of files first) (contents files more) pictures) (λ n files fault. RefusesPictures n (content_of files first) (contents files more) fault) files
+pictures_are_one first more files = record {
+  one_value = one_value (content_of files first) (contents files more);
+  not_both = unrefused (content_of files first) (contents files more);
+  one_refusal = refused_once (content_of files first) (contents files more);
+}
 
--- a reader's answer of a file, by what commands say of it
-picture_fails : (name : List ℕ) (a b : ShelfState) (answer : ReadError) → ReadsAs name a b (Err answer) → FailsToRead Refuses name a b answer
-picture_fails name a b error.ReadFault left = left
-picture_fails name a b error.NoMemory left = tt
-picture_fails name a b (error.Bad why) left = left
-picture_fails name a b (error.Limit what number bound) left = left
+module _ (pictures : Pictures) (marks : Picture) where
+  sized_is_one : IsOneQuestion (AreSized pictures marks) (MarksUnlike pictures marks)
+  sized_is_one = record { not_both = λ fault sized r. r.unlike sized; one_refusal = λ first second a b. a.is ∙ sym b.is }
 
--- and of one that is read after others
-fails_later : {asked : List (List ℕ)} (name : List ℕ) (a b c : ShelfState) → OnlyReads asked a b → (answer : ReadError) → FailsToRead Refuses name b c answer → FailsToRead Refuses name a c answer
-fails_later name a b c reads error.ReadFault left = fault_later name a b c reads left
-fails_later name a b c reads error.NoMemory left = tt
-fails_later name a b c reads (error.Bad why) left = sees_later (λ files. Refuses (content_of files name) (error.Bad why)) a b c reads left
-fails_later name a b c reads (error.Limit what number bound) left = sees_later (λ files. Refuses (content_of files name) (error.Limit what number bound)) a b c reads left
-
-module _ (job : MergeJob) where
-  pictures_count : length (sample_files job.sample job.more) ≡ length job.more + 1
-  pictures_count = let count = length-numbered job.more 2 in omega (arith, count)
-
-  marks_turn : HasTurn (merge_command job).reads (length job.more + 1) part.Marks job.marks
-  marks_turn = subst (λ turn. HasTurn (merge_command job).reads turn part.Marks job.marks) pictures_count (turn_behind (sample_files job.sample job.more) (named part.Marks job.marks))
-
-  -- what asks for the pictures or the marks asks for no other file of the command
-  pub of_pictures : {more : List (List ℕ)} → more ≡ job.more → (a b : ShelfState) → OnlyReads (names_in (sample_files job.sample more)) a b → OnlyReads (names_in (merge_command job).reads) a b
-  of_pictures is a b reads =
-      only_reads_of_more a b (turns_among (sample_files job.sample job.more) (merge_command job).reads picture_turn) (subst (λ more. OnlyReads (names_in (sample_files job.sample more)) a b) is reads)
-    where
-      picture_turn : (turn : ℕ) (its : FileOf) (name : List ℕ) → HasTurn (sample_files job.sample job.more) turn its name → HasTurn (merge_command job).reads turn its name
-      picture_turn turn its name has = turn_before (sample_files job.sample job.more) (named part.Marks job.marks ∷ []) turn (named its name) has
-
-  pub of_marks : {seen : List ℕ} → seen ≡ job.marks → (a b : ShelfState) → OnlyReadsFile seen a b → OnlyReads (names_in (merge_command job).reads) a b
-  of_marks is a b reads = only_reads_of_more a b (turn_among (merge_command job).reads (length job.more + 1) part.Marks job.marks marks_turn) (subst (λ name. OnlyReadsFile name a b) is reads)
-
-  -- nothing is refused of the marks before all pictures are read
-  before_marks : (turn : ℕ) (files : Files) → turn ≤ length job.more + 1 → NoPictureRefused turn (content_of files job.sample) (contents files job.more) → NoneRefused (merge_command job) turn files
-  before_marks turn files few none m fault le (inl r) = none m fault le r
-  before_marks turn files few none m fault le (inr r) = omega (arith, few, le, r.all)
-
-  module _ (a b : ShelfState) where
-    refused : (fault : Fault) → PicturesAreRefused job.sample job.more fault a b → AreRefused (merge_command job) fault a b
-    refused fault r = record {
-      known = inl r.known;
-      refused = sees_weaker (λ files. (n : ℕ) × RefusesPictures n (content_of files job.sample) (contents files job.more) fault) (λ files. (n : ℕ) × RefusesMerge job n files fault) a b
-          (λ files its. (its.0, inl its.1)) r.refused;
-    }
-
-    pub pictures_not_read : (fault : Fault) → ArePicturesRead job.sample job.more a b (Err fault) → NotMade (merge_command job) a b fault
-    pictures_not_read (Read its) left =
-        let below = slice_get_within (sample_files job.sample job.more) left.turn (named its left.name) left.has_turn in
-        let few : left.turn ≤ length job.more + 1 = omega (arith, below, pictures_count) in
-        record {
-          turn = left.turn;
-          name = left.name;
-          its = turn_before (sample_files job.sample job.more) (named part.Marks job.marks ∷ []) left.turn (named its left.name) left.has_turn;
-          rose = left.rose;
-          earlier = sees_weaker (λ files. NoPictureRefused left.turn (content_of files job.sample) (contents files job.more)) (NoneRefused (merge_command job) left.turn) a b
-              (λ files none. before_marks left.turn files few none) left.earlier;
-        }
-    pictures_not_read NoMemory left = tt
-    pictures_not_read (Form its why) left = refused (Form its why) left
-    pictures_not_read (Unlike its) left = refused (Unlike its) left
-    pictures_not_read (Mark index) left = refused (Mark index) left
-    pictures_not_read (Limit what number bound) left = refused (Limit what number bound) left
-    pictures_not_read (NoLoop length) left = refused (NoLoop length) left
-    pictures_not_read (Words fault) left = absurd left.known
-    pictures_not_read (Write its) left = absurd left.known
-
-  module _ {asked later : List (List ℕ)} (a b c : ShelfState) (reads : OnlyReads asked a b) (then_reads : OnlyReads later b c) (pictures : Pictures) (read : Sees a b (λ files. ArePicturesIn files job pictures)) where
-    abbrev Seen : Files → Type 0
-    Seen files = ArePicturesIn files job pictures
-
-    seen : Sees a c Seen
-    seen = sees_earlier Seen a b c read then_reads
-
-    pub marks_not_read : (answer : ReadError) → ReadsAs job.marks b c (Err answer) → NotMade (merge_command job) a c (fault_of_read part.Marks answer)
-    marks_not_read answer left =
-        not_read (merge_command job) a c (length job.more + 1) part.Marks job.marks marks_turn Refuses Seen (λ why. inr tt) (λ what number bound. inr tt)
-        (λ files refusal its r. inr (record { all = omega arith; pictures = pictures; read = its; refused = inl (refusal, r, refl) }))
-        (λ files its. before_marks (length job.more + 1) files (omega arith) (λ m fault le r. unrefused (content_of files job.sample) (contents files job.more) pictures m fault its r))
-        seen answer (fails_later job.marks a b c reads answer (picture_fails job.marks b c answer left))
-
-    module _ (marks : Picture) (marks_read : Sees b c (λ files. IsRead (content_of files job.marks) marks)) where
-      all_seen : Sees a c (λ files. Seen files × IsRead (content_of files job.marks) marks)
-      all_seen = sees_both Seen (λ files. IsRead (content_of files job.marks) marks) (λ files. Seen files × IsRead (content_of files job.marks) marks) a c (λ files p q. (p, q)) seen
-          (sees_later (λ files. IsRead (content_of files job.marks) marks) a b c reads marks_read)
-
-      over : (fault : Fault) → MayRefuseMarks fault → RefusesMarked pictures marks fault → AreRefused (merge_command job) fault a c
-      over fault known r = record {
-        known = inr known;
-        refused = sees_weaker (λ files. Seen files × IsRead (content_of files job.marks) marks) (λ files. (n : ℕ) × RefusesMerge job n files fault) a c
-            (λ files its. (length job.more + 2, inr (record { all = refl; pictures = pictures; read = its.0; refused = inr (marks, its.1, r) }))) all_seen;
-      }
-
-      pub not_set : (fault : Fault) → RefusesMarked pictures marks fault → NotMade (merge_command job) a c fault
-      not_set fault (inl p) = subst (NotMade (merge_command job) a c) (sym p.is) (over _ tt (inl (subst (MarksUnlike pictures marks) p.is p)))
-      not_set fault (inr (inl p)) = subst (NotMade (merge_command job) a c) (sym p.is) (over _ tt (inr (inl (subst (HasBadMark pictures marks) p.is p))))
-      not_set fault (inr (inr p)) = subst (NotMade (merge_command job) a c) (sym p.is) (over _ tt (inr (inr (subst (OutputPasses pictures marks) p.is p))))
-
-  pub merge_made : {asked later all_asked : List (List ℕ)} (a b c : ShelfState) → OnlyReads asked a b → OnlyReads later b c → OnlyReads all_asked a c → (made : Merged) (marks : Picture) → IsVolume made.pictures.volume
-      → Sees a b (λ files. ArePicturesIn files job made.pictures) → Sees b c (λ files. IsRead (content_of files job.marks) marks) → IsSet made.pictures marks
-      → IsMerge made.pictures.volume marks.volume made.canvas.map → IsFull made.canvas.map → IsCanvas made.canvas → StandsOver made.canvas made.pictures.volume
-      → made.seams ≡ map_total made.pictures.volume made.canvas.map
-      → IsPlanned (merge_command job) (merge_files job made) (merge_summary made) a c
-  merge_made a b c reads then_reads all made marks volume read marks_read set merge full canvas stands seams = record {
-    known = (_, _, _, refl);
-    named = refl;
-    made = told_weaker (λ before after. (after ≡ before) × (ArePicturesIn before job made.pictures × IsRead (content_of before job.marks) marks))
-        (λ before after. (after ≡ before) × (merge_command job).Makes before (texts_in (merge_files job made)) (merge_summary made)) a.files c.files
-        (λ before after p. (
-          p.0,
-          record {
-            made = made;
-            merge = record {
-              pictures = p.1.0;
-              volume = volume;
-              marks = marks;
-              marks_read = p.1.1;
-              set = set;
-              merge = merge;
-              full = full;
-              canvas = canvas;
-              stands = stands;
-              seams = seams;
-            };
-            texts_are = refl;
-            summary_is = refl;
-          },
-        ))
-        (told_both (λ before after. after ≡ before) (λ before after. ArePicturesIn before job made.pictures × IsRead (content_of before job.marks) marks) a.files c.files all.files
-        (all_seen a b c reads then_reads made.pictures read marks marks_read));
+  marking_is_one : IsOneQuestion (MarkPictures pictures marks) (HasBadMark pictures marks)
+  marking_is_one = record {
+    not_both = λ fault are r. bad_or_merging (picture_count pictures.volume) marks.volume r.index r.first are;
+    one_refusal = λ first second a b. a.is ∙ ap Mark (bad_once (picture_count pictures.volume) marks.volume a.index b.index a.first b.first) ∙ sym b.is;
   }
+
+pub are_one : (job : MergeJob) (files : Files) → AreOne (merge_stages job) files
+are_one job files = (
+  pictures_are_one job.sample job.more files,
+  λ pictures stand. (
+    file_is_one picture_is_one part.Marks job.marks files,
+    λ marks is_marks. (sized_is_one pictures marks, λ sized. (marking_is_one pictures marks, λ are. (bound_is_one _ _ _, λ within first second a b. refl))),
+  ),
+)
+
+-- Where the pictures aren't read, the command of that stage ends so.
+
+module _ (c : Command) (first : List ℕ) (more : List (List ℕ)) (known : (fault : Fault) → MayRefuseSamples (length more + 1) fault → c.MayRefuse fault) (a b : ShelfState) where
+  abbrev PicturesAlone : Command
+  PicturesAlone = record {
+    reads = sample_files first more;
+    writes = [];
+    Takes = c.Takes;
+    Refuses = λ n files fault. RefusesPictures n (content_of files first) (contents files more) fault;
+    Makes = c.Makes;
+    MayRefuse = c.MayRefuse;
+    MayMake = c.MayMake;
+  }
+
+  refused : (fault : Fault) → PicturesAreRefused first more fault a b → AreRefused PicturesAlone fault a b
+  refused fault r = record { known = known fault r.known; refused = r.refused }
+
+  pictures_not_made : (fault : Fault) → ArePicturesRead first more a b (Err fault) → NotMade PicturesAlone a b fault
+  pictures_not_made (Read its) left = record {
+    turn = left.turn;
+    name = left.name;
+    its = left.has_turn;
+    rose = left.rose;
+    earlier = sees_weaker (λ files. NoPictureRefused left.turn (content_of files first) (contents files more)) (NoneRefused PicturesAlone left.turn) a b (λ files none m fault le r. none m fault le r) left.earlier;
+  }
+  pictures_not_made NoMemory left = tt
+  pictures_not_made (Form its why) left = refused (Form its why) left
+  pictures_not_made (Unlike its) left = refused (Unlike its) left
+  pictures_not_made (Mark index) left = refused (Mark index) left
+  pictures_not_made (Limit what number bound) left = refused (Limit what number bound) left
+  pictures_not_made (NoLoop length) left = refused (NoLoop length) left
+  pictures_not_made (Words fault) left = absurd left.known
+  pictures_not_made (Write its) left = absurd left.known
+
+pictures_not_read_on : {c : Command} {a b d : ShelfState} {turn : ℕ} {V : Type 0} {others : List NamedFile} {Stand : Files → V → Type 0} {next : V → Stages others} (first : List ℕ) (more : List (List ℕ))
+    → StandsBefore c a b turn (read (sample_files first more) Stand (λ n files fault. RefusesPictures n (content_of files first) (contents files more) fault) next) → OnlyReads (names_in (sample_files first more)) b d
+    → ((fault : Fault) → MayRefuseSamples (length more + 1) fault → c.MayRefuse fault) → (fault : Fault) → ArePicturesRead first more b d (Err fault) → NotMade c a d fault
+pictures_not_read_on {c = c} {b = b} {d = d} first more at reads known fault left = not_read_on (sample_files first more) at reads c.Takes c.Makes fault (pictures_not_made c first more known b d fault left)
+
+-- What is planned: the code has the files under the names that it sees.
+
+module _ (job : MergeJob) (a b : ShelfState) {more : List (List ℕ)} (same : more ≡ job.more) (reads : OnlyReads (names_in (sample_files job.sample more)) a b) where
+  begun : StandsBefore (merge_command job) a a 0 (merge_stages job)
+  begun = begin (merge_stages job) (merge_command job).writes (MayRefuseMerge (length job.more + 1)) IsMergeSummary (are_one job) a
+
+  to_pictures : OnlyReads (names_in (sample_files job.sample job.more)) a b
+  to_pictures = subst (λ names. OnlyReads (names_in (sample_files job.sample names)) a b) same reads
+
+  pub pictures_only : OnlyReads (names_in (merge_command job).reads) a b
+  pictures_only = reads_on (sample_files job.sample job.more) begun to_pictures
+
+  pub pictures_not_read : (fault : Fault) → ArePicturesRead job.sample more a b (Err fault) → NotMade (merge_command job) a b fault
+  pictures_not_read fault left =
+      pictures_not_read_on job.sample job.more begun to_pictures (λ its may. inl may) fault (subst (λ names. ArePicturesRead job.sample names a b (Err fault)) same left)
+
+  module _ (pictures : Pictures) (stand : Sees a b (λ files. StandForPictures (content_of files job.sample) (contents files more) pictures)) {name : List ℕ} (its : name ≡ job.marks) (d : ShelfState) (marks_reads : OnlyReadsFile name b d) where
+    before_marks : StandsBefore (merge_command job) a b (0 + length (sample_files job.sample job.more)) (read_file part.Marks job.marks IsRead Refuses (merge_over job pictures))
+    before_marks = read_on (sample_files job.sample job.more) begun to_pictures pictures
+        (subst (λ names. Sees a b (λ files. StandForPictures (content_of files job.sample) (contents files names) pictures)) same stand)
+
+    to_marks : OnlyReadsFile job.marks b d
+    to_marks = subst (λ n. OnlyReadsFile n b d) its marks_reads
+
+    pub marks_only : OnlyReads (names_in (merge_command job).reads) a d
+    marks_only = reads_on (named part.Marks job.marks ∷ []) before_marks to_marks
+
+    pub marks_not_read : (answer : ReadError) → ReadsAs name b d (Err answer) → NotMade (merge_command job) a d (fault_of_read part.Marks answer)
+    marks_not_read answer left =
+        file_not_read Refuses before_marks to_marks (λ why. inr tt) (λ what number bound. inr tt) answer (picture_fails job.marks b d answer (subst (λ n. ReadsAs n b d (Err answer)) its left))
+
+    module _ (marks : Picture) (is_marks : InFile name b d (λ bytes. IsRead bytes marks)) where
+      over : StandsBefore (merge_command job) a d ((0 + length (sample_files job.sample job.more)) + 1) (merge_over job pictures marks)
+      over = file_read before_marks to_marks marks (subst (λ n. InFile n b d (λ bytes. IsRead bytes marks)) its is_marks)
+
+      pub not_set : (fault : Fault) → RefusesMarked pictures marks fault → NotMade (merge_command job) a d fault
+      not_set fault (inl p) = subst (NotMade (merge_command job) a d) (sym p.is) (not_passed over (Unlike part.Marks) (subst (MarksUnlike pictures marks) p.is p) (inr tt))
+      not_set fault (inr (inl p)) = subst (NotMade (merge_command job) a d) (sym p.1.is) (not_passed (pass_on over p.0) (Mark p.1.index) (subst (HasBadMark pictures marks) p.1.is p.1) (inr tt))
+      not_set fault (inr (inr p)) = limit_passed (pass_on (pass_on over p.0) p.1) fault _ _ _ p.2.1 p.2 (inr tt)
+
+      pub merge_made : IsSet pictures marks → (canvas : CanvasState) → IsMergeOver pictures marks canvas → (made : Merged) → made ≡ merged_of pictures canvas → IsPlanned (merge_command job) (merge_files job made) (merge_summary made) a d
+      merge_made set canvas is made made_is =
+          let planned = plan_made (pass_on (pass_on (pass_on over set.size) set.marks_are) set.within) canvas is refl (_, _, _, refl) in
+          subst (λ m. IsPlanned (merge_command job) (merge_files job m) (merge_summary m) a d) (sym made_is) planned

@@ -1,15 +1,12 @@
 -- `merge` as a command: what it reads and refuses, what it makes, and the files that it writes. To
 -- be trusted: contracts cite these words. (Own.)
-use Rattle.std.specs.Prelude.{◌≡◌, ◌≤◌, ◌<◌, ◌⊎◌, ◌+◌, ◌++◌, ℕ, List, [], ◌∷◌, length, Result, Ok, Err}
-use Rattle.limits.specs.declared.bounds.TheConstants.{MOST_OUTPUT_CELLS}
+use Rattle.std.specs.Prelude.{◌≡◌, ◌⊎◌, ◌+◌, ◌++◌, ℕ, List, [], ◌∷◌, length, Result, Ok, Err}
 use Rattle.cells.specs.declared.place.Size.{Size}
 use Rattle.cells.specs.Cells.{IsVolume, sizes_of}
-use Rattle.cells.specs.Places.{cell_count}
 use Rattle.shelf_core.specs.Files.{Files, content_of}
-use Rattle.shelf_core.specs.declared.fault.What.TheVariants.{Output}
 use Rattle.netpbm_p6.specs.declared.picture.Picture.{Picture}
 use Rattle.netpbm_p6.specs.Pictures.{IsRead, Refuses, p6_form}
-use Rattle.map_canvas.specs.Canvases.{IsCanvas, StandsOver}
+use Rattle.map_canvas.specs.Canvases.{CanvasState, IsCanvas, StandsOver}
 use Rattle.map_canvas.specs.Maps.{IsFull}
 use Rattle.source_map.specs.MapFiles.{cell_map_form}
 use Rattle.source_map.specs.declared.head.Version.TheVariants.{Two}
@@ -24,45 +21,50 @@ use Rattle.synth_report.specs.declared.fault.FileOf.TheVariants as part
 use Rattle.synth_report.specs.declared.summary.Summary.{Summary}
 use Rattle.synth_report.specs.declared.summary.Summary.TheVariants.{Merge}
 use Rattle.command.specs.Commands.{Command, named}
-use Rattle.command.specs.Faults.{ReaderRefuses}
-use Rattle.command.specs.Writing.{FileText, file_text, texts_in}
+use Rattle.command.specs.Stages.{Stages, of_stages, read_file}
+use Rattle.command.specs.Stages.Stages.{ask, make}
+use Rattle.command.specs.Writing.{FileText, file_text}
+use Rattle.sample_files.specs.Outputs.{FitsOutput, PassesOutput, bounded_output}
 use Rattle.sample_files.specs.Several.{MayRefuseSamples, contents, sample_files}
 use Rattle.merge_command.specs.declared.pictures.Pictures.{Pictures}
 use Rattle.merge_command.specs.declared.plan.Merged.{Merged}
-use Rattle.merge_command.specs.Pictures.{AreSoundPictures, RefusesPictures, StandForPictures}
+use Rattle.merge_command.specs.Pictures.{AreSoundPictures, StandForPictures, read_pictures}
 
 -- The marks against the pictures.
 
--- the marks have the pictures' size, each cell of them marks none or one of the pictures, and a
--- picture has no more cells than an output may have
+-- the marks have the pictures' size
+abbrev pub AreSized : Pictures → Picture → Type 0
+AreSized pictures marks = marks.volume.size ≡ pictures.volume.size
+
+-- each cell of them marks none or one of the pictures
+abbrev pub MarkPictures : Pictures → Picture → Type 0
+MarkPictures pictures marks = AreMerging (picture_count pictures.volume) marks.volume
+
+-- both, and a picture has no more cells than an output may have
 pub record IsSet (pictures : Pictures) (marks : Picture) : Type 0 where
-  pub size : marks.volume.size ≡ pictures.volume.size
-  pub marks_are : AreMerging (picture_count pictures.volume) marks.volume
-  pub within : cell_count pictures.volume.size ≤ MOST_OUTPUT_CELLS
+  pub size : AreSized pictures marks
+  pub marks_are : MarkPictures pictures marks
+  pub within : FitsOutput pictures.volume.size
 
 -- the marks have another size
 pub record MarksUnlike (pictures : Pictures) (marks : Picture) (fault : Fault) : Type 0 where
-  pub unlike : marks.volume.size ≡ pictures.volume.size → ⊥
+  pub unlike : AreSized pictures marks → ⊥
   pub is : fault ≡ Unlike part.Marks
 
--- they have the pictures' size, and a cell of them marks no picture; it is the first
+-- a cell of them marks no picture; it is the first
 pub record HasBadMark (pictures : Pictures) (marks : Picture) (fault : Fault) : Type 0 where
-  pub size : marks.volume.size ≡ pictures.volume.size
   pub index : ℕ
   pub first : IsFirstBad (picture_count pictures.volume) marks.volume index
   pub is : fault ≡ Mark index
 
--- the marks are in order, and a picture has more cells than an output may have
-pub record OutputPasses (pictures : Pictures) (marks : Picture) (fault : Fault) : Type 0 where
-  pub size : marks.volume.size ≡ pictures.volume.size
-  pub marks_are : AreMerging (picture_count pictures.volume) marks.volume
-  pub passes : MOST_OUTPUT_CELLS < cell_count pictures.volume.size
-  pub is : fault ≡ Limit Output (cell_count pictures.volume.size) MOST_OUTPUT_CELLS
-
+-- the marks have another size; or they have the pictures' size, and one of them is bad; or they are
+-- in order, and a picture has more cells than an output may have
 abbrev pub RefusesMarked : Pictures → Picture → Fault → Type 0
 RefusesMarked pictures marks fault =
-    MarksUnlike pictures marks fault ⊎ HasBadMark pictures marks fault
-    ⊎ OutputPasses pictures marks fault
+    MarksUnlike pictures marks fault
+    ⊎ (AreSized pictures marks × HasBadMark pictures marks fault)
+    ⊎ (AreSized pictures marks × MarkPictures pictures marks
+    × PassesOutput pictures.volume.size fault)
 
 -- whether pictures and marks are in order
 abbrev pub SetAgainst : Pictures → Picture → Result (Unit {0}) Fault → Type 0
@@ -76,25 +78,29 @@ abbrev pub ArePicturesIn : Files → MergeJob → Pictures → Type 0
 ArePicturesIn files job pictures =
     StandForPictures (content_of files job.sample) (contents files job.more) pictures
 
--- the pictures that the files stand for, the parts of one volume, the canvas with the map of their
--- merge by the marks that their file stands for, and the total cost of its seams
-pub record IsMergeOf (job : MergeJob) (files : Files) (made : Merged) : Type 0 where
-  pub pictures : ArePicturesIn files job made.pictures
-  pub volume : IsVolume made.pictures.volume
-  pub marks : Picture
-  pub marks_read : IsRead (content_of files job.marks) marks
-  pub set : IsSet made.pictures marks
-  pub merge : IsMerge made.pictures.volume marks.volume made.canvas.map
-  pub full : IsFull made.canvas.map
-  pub canvas : IsCanvas made.canvas
-  pub stands : StandsOver made.canvas made.pictures.volume
-  pub seams : made.seams ≡ map_total made.pictures.volume made.canvas.map
+-- over pictures that are read, the parts of one volume, and their marks: the canvas has the map of
+-- their merge
+pub record IsMergeOver (pictures : Pictures) (marks : Picture) (canvas : CanvasState)
+    : Type 0 where
+  pub volume : IsVolume pictures.volume
+  pub merge : IsMerge pictures.volume marks.volume canvas.map
+  pub full : IsFull canvas.map
+  pub is_canvas : IsCanvas canvas
+  pub stands : StandsOver canvas pictures.volume
+
+-- both, with the total cost of the seams
+abbrev pub merged_of : Pictures → CanvasState → Merged
+merged_of pictures canvas = record {
+  pictures = pictures;
+  canvas = canvas;
+  seams = map_total pictures.volume canvas.map;
+}
 
 -- what the writers of the files of a merge ask for
 pub record IsMade (made : Merged) : Type 0 where
   pub volume : IsVolume made.pictures.volume
   pub sound : AreSoundPictures made.pictures
-  pub within : cell_count made.pictures.volume.size ≤ MOST_OUTPUT_CELLS
+  pub within : FitsOutput made.pictures.volume.size
   pub size : made.canvas.map.size ≡ made.pictures.volume.size
   pub full : IsFull made.canvas.map
   pub canvas : IsCanvas made.canvas
@@ -116,37 +122,24 @@ merge_summary made =
 
 -- The command.
 
--- all pictures and the marks are read, or the marks alone aren't in their form
-pub record RefusesMarks (job : MergeJob) (n : ℕ) (files : Files) (fault : Fault) : Type 0 where
-  pub all : n ≡ length job.more + 2
-  pub pictures : Pictures
-  pub read : ArePicturesIn files job pictures
-  pub refused : ReaderRefuses Refuses part.Marks (content_of files job.marks) fault
-      ⊎ ((marks : Picture) × IsRead (content_of files job.marks) marks
-      × RefusesMarked pictures marks fault)
+-- over pictures and marks that are read, the marks have the pictures' size, each cell of them marks
+-- none or one of the pictures, and the cells of a picture are within the bound of an output; the
+-- pictures are merged
+abbrev pub merge_over : MergeJob → Pictures → Picture → Stages []
+merge_over job pictures marks =
+    ask (AreSized pictures marks) (MarksUnlike pictures marks)
+    (ask (MarkPictures pictures marks) (HasBadMark pictures marks)
+    (bounded_output pictures.volume.size
+    (make (IsMergeOver pictures marks)
+    (λ canvas. merge_files job (merged_of pictures canvas))
+    (λ canvas. merge_summary (merged_of pictures canvas)))))
 
--- the refusals of the files, once so many are read: those of the pictures, and then those of the
--- marks and of both
-abbrev pub RefusesMerge : MergeJob → ℕ → Files → Fault → Type 0
-RefusesMerge job n files fault =
-    RefusesPictures n (content_of files job.sample) (contents files job.more) fault
-    ⊎ RefusesMarks job n files fault
-
--- pictures and marks are read, and are in order
-pub record TakesToMerge (job : MergeJob) (files : Files) : Type 0 where
-  pub pictures : Pictures
-  pub read : ArePicturesIn files job pictures
-  pub marks : Picture
-  pub marks_read : IsRead (content_of files job.marks) marks
-  pub set : IsSet pictures marks
-
--- a merge of the files, with its texts and its summary
-pub record MakesMerge (job : MergeJob) (files : Files) (texts : List (List ℕ)) (summary : Summary)
-    : Type 0 where
-  pub made : Merged
-  pub merge : IsMergeOf job files made
-  pub texts_are : texts ≡ texts_in (merge_files job made)
-  pub summary_is : summary ≡ merge_summary made
+-- the files of the pictures are read, then that of the marks, and then so
+abbrev pub merge_stages : (job : MergeJob)
+    → Stages (sample_files job.sample job.more ++ named part.Marks job.marks ∷ [])
+merge_stages job =
+    read_pictures job.sample job.more
+    (λ pictures. read_file part.Marks job.marks IsRead Refuses (merge_over job pictures))
 
 -- the faults that marks are ever refused for
 abbrev pub MayRefuseMarks : Fault → Type 0
@@ -166,12 +159,6 @@ IsMergeSummary summary =
     (size : Size) × (pictures : ℕ) × (seams : ℕ) × (summary ≡ Merge size pictures seams)
 
 abbrev pub merge_command : MergeJob → Command
-merge_command job = record {
-  reads = sample_files job.sample job.more ++ named part.Marks job.marks ∷ [];
-  writes = named part.Out job.out ∷ named part.Map job.map ∷ [];
-  Takes = TakesToMerge job;
-  Refuses = RefusesMerge job;
-  Makes = MakesMerge job;
-  MayRefuse = MayRefuseMerge (length job.more + 1);
-  MayMake = IsMergeSummary;
-}
+merge_command job = of_stages (merge_stages job)
+    (named part.Out job.out ∷ named part.Map job.map ∷ [])
+    (MayRefuseMerge (length job.more + 1)) IsMergeSummary

@@ -1,8 +1,8 @@
 -- Several pictures of one size and one maxval: which files stand for them, and which are refused,
 -- in the order of their numbers. To be trusted: contracts cite these words. (Own.)
-use Rattle.std.specs.Prelude.{◌≡◌, ◌≤◌, ◌<◌, ◌⊎◌, ◌+◌, ℕ, suc, List, [], ◌∷◌, length, Result, Ok, Err}
+use Rattle.std.specs.Prelude.{◌≡◌, ◌≤◌, ◌<◌, ◌⊎◌, ◌+◌, ◌++◌, ℕ, suc, List, [], ◌∷◌, length, Result, Ok, Err}
 use Rattle.limits.specs.declared.bounds.TheConstants.{MOST_SAMPLE_CELLS}
-use Rattle.cells.specs.Cells.{Cells, count_of, with_part}
+use Rattle.cells.specs.Cells.{count_of, with_part}
 use Rattle.shelf_core.specs.Files.{ShelfState, Changes, Rose, content_of}
 use Rattle.shelf_core.specs.declared.fault.What.TheVariants.{Cells as CellsLimit}
 use Rattle.netpbm_p6.specs.declared.picture.Picture.{Picture}
@@ -11,8 +11,10 @@ use Rattle.synth_report.specs.declared.fault.FileOf.{FileOf}
 use Rattle.synth_report.specs.declared.fault.FileOf.TheVariants as part
 use Rattle.synth_report.specs.declared.fault.Fault.{Fault}
 use Rattle.synth_report.specs.declared.fault.Fault.TheVariants.{Unlike, Limit, Read, NoMemory}
-use Rattle.command.specs.Commands.{HasTurn}
+use Rattle.command.specs.Commands.{HasTurn, NamedFile}
 use Rattle.command.specs.Faults.{ReaderRefuses}
+use Rattle.command.specs.Stages.{Stages}
+use Rattle.command.specs.Stages.Stages.{read}
 use Rattle.photo_merge.specs.Merges.{AreOneSize}
 use Rattle.sample_files.specs.Samples.{ArePictures}
 use Rattle.sample_files.specs.Several.{MayRefuseSamples, contents, sample_files}
@@ -106,6 +108,14 @@ RefusesPictures n first more fault =
 abbrev pub NoPictureRefused : ℕ → List ℕ → List (List ℕ) → Type 0
 NoPictureRefused n first more =
     (m : ℕ) (fault : Fault) → m ≤ n → RefusesPictures m first more fault → ⊥
+
+-- the pictures are read, and the stages go on with them
+abbrev pub read_pictures : {others : List NamedFile} → (first : List ℕ) (more : List (List ℕ))
+    → (Pictures → Stages others) → Stages (sample_files first more ++ others)
+read_pictures first more next =
+    read (sample_files first more)
+    (λ files pictures. StandForPictures (content_of files first) (contents files more) pictures)
+    (λ n files fault. RefusesPictures n (content_of files first) (contents files more) fault) next
 
 -- What a reader of them answers. The files and the faults are those of samples.
 

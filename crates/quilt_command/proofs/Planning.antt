@@ -4,7 +4,6 @@ use Rattle.cells.specs.Cells.{IsVolume}
 use Rattle.shelf_core.specs.Files.{Files, InFile, OnlyReadsFile, ShelfState, content_of}
 use Rattle.netpbm_p6.specs.declared.picture.Picture.{Picture}
 use Rattle.netpbm_p6.specs.Pictures.{IsRead, IsSound, Refuses}
-use Rattle.netpbm_p6.proofs.OneReading as p6
 use Rattle.quilt.specs.Runs.{quilting}
 use Rattle.quilt_run.specs.declared.asked.Quilted.{Quilted}
 use Rattle.quilt_run.specs.declared.asked.QuiltError.{QuiltError}
@@ -17,19 +16,13 @@ use Rattle.synth_report.specs.declared.fault.Fault.{Fault}
 use Rattle.synth_report.specs.declared.fault.FileOf.TheVariants as part
 use Rattle.command.specs.Faults.{IsNotRead}
 use Rattle.command.specs.Outcomes.{IsPlanned, NotMade}
-use Rattle.command.proofs.Staging.{AreOne, ReadsOne, bound_is_one, file_is_one, passing_is_one}
+use Rattle.command.proofs.Staging.{AreOne, bound_is_one, file_is_one, passing_is_one}
 use Rattle.command.proofs.Planning.{StandsBefore, begin, file_read, limit_passed, not_passed, part_not_read, pass_on, plan_made}
 use Rattle.sample_files.specs.Outputs.{PassesOutput}
+use Rattle.sample_files.proofs.OnePicture.{picture_is_one}
 use Rattle.sample_files.proofs.Sound.{read_is_volume}
 use Rattle.quilt_command.specs.Quilts.{IsQuiltSummary, IsQuiltWithin, MayRefuseQuilt, fault_of_quilting, quilt_command, quilt_files, quilt_of, quilt_over, quilt_run_of, quilt_size, quilt_stages, quilt_summary}
 use Rattle.quilt_command.proofs.Ready.{small_quilt}
-
-picture_is_one : ReadsOne IsRead Refuses
-picture_is_one = record {
-  one_value = λ bytes first second a b. p6.one_picture bytes first second a.stands b.stands;
-  not_both = p6.not_both;
-  one_refusal = p6.one_refusal;
-}
 
 pub are_one : (job : QuiltJob) (files : Files) → AreOne (quilt_stages job) files
 are_one job files = (

@@ -14,13 +14,14 @@ use Rattle.command.specs.Commands.{Command, HasTurn, NamedFile, named, names_in}
 use Rattle.command.specs.Outcomes.{AreRefused, NoneRefused, NotMade}
 use Rattle.command.specs.Stages.{Stages}
 use Rattle.command.specs.Stages.Stages.{read}
-use Rattle.command.proofs.Staging.{IsOneReader}
+use Rattle.command.proofs.Staging.{IsOneReader, ReadsOne}
 use Rattle.command.proofs.Planning.{StandsBefore, not_read_on}
+use Rattle.sample_files.specs.declared.sample.Sample.{Sample}
 use Rattle.sample_files.specs.declared.several.Samples.{Samples}
-use Rattle.sample_files.specs.Samples.{StandsAs}
+use Rattle.sample_files.specs.Samples.{IsSampleOf, RefusesSample, StandsAs}
 use Rattle.sample_files.specs.Several.{StandForSamples, MayRefuseSamples, NoSampleRefused, RefusesSamples, SamplesAreRefused, SamplesReadAs, StandForParts, contents, numbered_files, sample_files}
 use Rattle.sample_files.proofs.OneAnswer.{not_both, one_value, refused_once}
-use Rattle.sample_files.proofs.OneSample.{stands_alone}
+use Rattle.sample_files.proofs.OneSample.{one_sample, one_sample_refusal, stands_alone, stands_or_refused}
 use Rattle.sample_files.proofs.Joined.{parts_alone, same_parts}
 
 pub length-numbered : (names : List (List ℕ)) (n : ℕ) → length (numbered_files n names) ≡ length names
@@ -76,6 +77,19 @@ pub samples_not_read : {c : Command} {a b d : ShelfState} {turn : ℕ} {V : Type
     → ((fault : Fault) → MayRefuseSamples (length more + 1) fault → c.MayRefuse fault) → (fault : Fault) → SamplesReadAs first more b d (Err fault) → NotMade c a d fault
 samples_not_read {c = c} {b = b} {d = d} first more at reads known fault left =
     not_read_on (sample_files first more) at reads c.Takes c.Makes fault (samples_not_made _ first more (λ turn part name has. has) known (λ files n its refused. refused) (λ files n its le refused. refused) b d fault left)
+
+-- the bytes of one sample have one answer
+pub same_sample : (bytes : List ℕ) (first second : Sample) → IsSampleOf bytes first → IsSampleOf bytes second → first ≡ second
+same_sample bytes first second a b =
+    let same = one_sample MOST_SAMPLE_CELLS bytes first.form second.form first.volume second.volume a b in
+    λ k. record { form = same.form_is k; volume = same.cells_are k }
+
+pub sample_is_one : ReadsOne IsSampleOf RefusesSample
+sample_is_one = record {
+  one_value = same_sample;
+  not_both = λ bytes sample error stands refuses. stands_or_refused MOST_SAMPLE_CELLS bytes sample.form sample.volume error stands refuses;
+  one_refusal = one_sample_refusal MOST_SAMPLE_CELLS;
+}
 
 -- the samples of one file are the sample of that file
 pub one_file : (first : List ℕ) (samples : Samples) → StandForSamples first [] samples → StandsAs first samples.form samples.volume

@@ -1,60 +1,58 @@
--- What `tile` plans: from the reading of the sample to all that is to be written.
-use Rattle.std.proofs.Common.{◌≡◌, ℕ, ◌⊎◌, inl, inr, List, sym, subst, refl, arith}
+-- The stages of `tile`: each has one answer, and what is planned goes by them.
+use Rattle.std.proofs.Common.{◌≡◌, ℕ, inl, inr, List, refl, sym, subst, arith}
 use Rattle.std.specs.Prelude.{Err}
-use Rattle.shelf_core.specs.Files.{Files, ShelfState, OnlyReads, Changes}
+use Rattle.shelf_core.specs.Files.{Files, InFile, OnlyReadsFile, ShelfState}
 use Rattle.shelf_core.specs.declared.fault.ReadError.{ReadError}
-use Rattle.shelf_core.proofs.FileLaws.{told_both, told_weaker}
-use Rattle.shelf_core.proofs.Sees.{sees_all}
 use Rattle.synth_report.specs.declared.fault.Fault.{Fault}
 use Rattle.synth_report.specs.declared.fault.FileOf.TheVariants as part
 use Rattle.command.specs.Faults.{fault_of_read}
-use Rattle.command.specs.Outcomes.{AreRefused, IsPlanned, NoneRefused, NotMade}
-use Rattle.command.specs.Writing.{texts_in}
-use Rattle.command.proofs.Halves.{not_read}
+use Rattle.command.specs.Outcomes.{IsPlanned, NotMade}
+use Rattle.command.proofs.Staging.{AreOne, bound_is_one, file_is_one}
+use Rattle.command.proofs.Planning.{StandsBefore, begin, file_not_read, file_read, limit_passed, pass_on, plan_made}
 use Rattle.sample_files.specs.declared.form.Form.{Form}
 use Rattle.sample_files.specs.declared.sample.Sample.{Sample}
 use Rattle.sample_files.specs.Outputs.{IsWithinBounds, PassesBounds}
-use Rattle.sample_files.specs.Samples.{RefusesSample, SampleReadsAs}
+use Rattle.sample_files.specs.Samples.{IsSampleOf, RefusesSample, SampleReadsAs}
+use Rattle.sample_files.proofs.Commands.{sample_is_one}
 use Rattle.job_words.specs.declared.tile.TileJob.{TileJob}
 use Rattle.job_words.specs.TileWords.{IsTileJob}
+use Rattle.tile_run.specs.declared.plan.Tiled.{Tiled}
 use Rattle.tile_run.specs.Tilings.{IsRunPlan}
 use Rattle.tile_command.specs.declared.plan.TiledSample.{TiledSample}
-use Rattle.tile_command.specs.Tilings.{IsSampleIn, IsTilingMade, RefusesTile, plan_of, tile_command, tile_files, tile_summary}
+use Rattle.tile_command.specs.Tilings.{IsTileSummary, IsTilingMade, MayRefuseTile, plan_of, tile_command, tile_files, tile_over, tile_stages, tile_summary, tiling_of}
 
 -- the plan of a job within its bounds
 pub run_plan : (job : TileJob) → IsTileJob job → (form : Form) → IsWithinBounds job.size form → IsRunPlan (plan_of job)
 run_plan job lawful form bounds = record { axes = lawful.axes; cells = omega (arith, bounds.cells); wide = lawful.wide; side = lawful.side.0 }
 
-module _ {names : List (List ℕ)} (job : TileJob) (a b : ShelfState) (reads : OnlyReads names a b) where
-  -- nothing is refused before the sample is read
-  none_before : (files : Files) → NoneRefused (tile_command job) 0 files
-  none_before files m fault le (inl refuses) = omega (arith, le, refuses.0)
-  none_before files m fault le (inr over) = omega (arith, le, over.all)
+pub are_one : (job : TileJob) (files : Files) → AreOne (tile_stages job) files
+are_one job files = (
+  file_is_one sample_is_one part.Sample job.sample files,
+  λ sample read. (bound_is_one _ _ _, λ frames. (bound_is_one _ _ _, λ cells first second a b. refl)),
+)
 
-  pub sample_not_read : (answer : ReadError) → SampleReadsAs job.sample a b (Err answer) → NotMade (tile_command job) a b (fault_of_read part.Sample answer)
+-- What is planned: the code has the sample file under the name that it sees.
+
+module _ (job : TileJob) (a b : ShelfState) {name : List ℕ} (same : name ≡ job.sample) (reads : OnlyReadsFile name a b) where
+  begun : StandsBefore (tile_command job) a a 0 (tile_stages job)
+  begun = begin (tile_stages job) (tile_command job).writes MayRefuseTile (IsTileSummary job) (are_one job) a
+
+  to_sample : OnlyReadsFile job.sample a b
+  to_sample = subst (λ n. OnlyReadsFile n a b) same reads
+
+  pub sample_not_read : (answer : ReadError) → SampleReadsAs name a b (Err answer) → NotMade (tile_command job) a b (fault_of_read part.Sample answer)
   sample_not_read answer left =
-      not_read (tile_command job) a b 0 part.Sample job.sample refl RefusesSample (λ files. Unit {0}) (λ why. tt) (λ what number bound. tt)
-      (λ files refusal seen refuses. inl (refl, (refusal, refuses, refl))) (λ files seen. none_before files) (sees_all (λ files. Unit {0}) a b (λ files. tt) reads) answer left
+      file_not_read RefusesSample begun to_sample (λ why. tt) (λ what number bound. tt) answer (subst (λ n. SampleReadsAs n a b (Err answer)) same left)
 
-  module _ (sample : Sample) (read : Changes a b (λ before after. IsSampleIn before job sample)) where
-    over : (fault : Fault) → (tile_command job).MayRefuse fault → PassesBounds job.size sample.form fault → AreRefused (tile_command job) fault a b
-    over fault may why = record {
-      known = may;
-      refused = told_weaker (λ before after. IsSampleIn before job sample) (λ before after. (n : ℕ) × RefusesTile job n before fault) a.files b.files
-          (λ before after is. (1, inr (record { all = refl; sample = sample; read = is; refused = why }))) read;
-    }
+  module _ (sample : Sample) (read : InFile name a b (λ bytes. IsSampleOf bytes sample)) where
+    over : StandsBefore (tile_command job) a b 1 (tile_over job sample)
+    over = file_read begun to_sample sample (subst (λ n. InFile n a b (λ bytes. IsSampleOf bytes sample)) same read)
 
     pub bounds_passed : (fault : Fault) → PassesBounds job.size sample.form fault → NotMade (tile_command job) a b fault
-    bounds_passed fault (inl p) = subst (NotMade (tile_command job) a b) (sym p.1) (over _ tt (subst (PassesBounds job.size sample.form) p.1 (inl p)))
-    bounds_passed fault (inr p) = subst (NotMade (tile_command job) a b) (sym p.1.1) (over _ tt (subst (PassesBounds job.size sample.form) p.1.1 (inr p)))
+    bounds_passed fault (inl frames) = limit_passed over fault _ _ _ frames.1 frames tt
+    bounds_passed fault (inr cells) = limit_passed (pass_on over cells.0) fault _ _ _ cells.1.1 cells.1 tt
 
-  pub tiling_made : (made : TiledSample) → Changes a b (λ before after. IsSampleIn before job made.sample) → IsTilingMade job made
-      → IsPlanned (tile_command job) (tile_files job made) (tile_summary job made) a b
-  tiling_made made read its = record {
-    known = (_, _, refl);
-    named = refl;
-    made = told_weaker (λ before after. (after ≡ before) × IsSampleIn before job made.sample)
-        (λ before after. (after ≡ before) × (tile_command job).Makes before (texts_in (tile_files job made)) (tile_summary job made)) a.files b.files
-        (λ before after p. (p.0, record { made = made; is_tiling = record { read = p.1; is = its }; texts_are = refl; summary_is = refl }))
-        (told_both (λ before after. after ≡ before) (λ before after. IsSampleIn before job made.sample) a.files b.files reads.files read);
-  }
+    pub tiling_made : (tiled : Tiled) → IsTilingMade job (tiling_of job sample tiled) → (made : TiledSample) → made ≡ tiling_of job sample tiled → IsPlanned (tile_command job) (tile_files job made) (tile_summary job made) a b
+    tiling_made tiled is made made_is =
+        let planned = plan_made (pass_on (pass_on over is.bounds.frames) is.bounds.cells) tiled is refl (_, _, refl) in
+        subst (λ m. IsPlanned (tile_command job) (tile_files job m) (tile_summary job m) a b) (sym made_is) planned

@@ -1,6 +1,6 @@
 -- `tile` as a command: what it reads and refuses, what it makes, and the files that it writes. To
 -- be trusted: contracts cite these words. (Own.)
-use Rattle.std.specs.Prelude.{◌≡◌, ◌⊎◌, ℕ, List, [], ◌∷◌}
+use Rattle.std.specs.Prelude.{◌≡◌, ℕ, List, [], ◌∷◌}
 use Rattle.cells.specs.Cells.{Cells, IsOnePart, IsVolume, sizes_of}
 use Rattle.cells.specs.Distances.{distance}
 use Rattle.shelf_core.specs.Files.{Files, content_of}
@@ -18,10 +18,11 @@ use Rattle.synth_report.specs.declared.fault.FileOf.TheVariants as part
 use Rattle.synth_report.specs.declared.summary.Summary.{Summary}
 use Rattle.synth_report.specs.declared.summary.Summary.TheVariants.{Tile}
 use Rattle.command.specs.Commands.{Command, named}
-use Rattle.command.specs.Faults.{ReaderRefuses}
-use Rattle.command.specs.Writing.{FileText, file_text, texts_in}
+use Rattle.command.specs.Stages.{Stages, of_stages, read_file}
+use Rattle.command.specs.Stages.Stages.{make}
+use Rattle.command.specs.Writing.{FileText, file_text}
 use Rattle.sample_files.specs.declared.sample.Sample.{Sample}
-use Rattle.sample_files.specs.Outputs.{IsWithinBounds, PassesBounds}
+use Rattle.sample_files.specs.Outputs.{IsWithinBounds, bounded_in}
 use Rattle.sample_files.specs.Samples.{IsSampleOf, IsSoundSample, RefusesSample, form_text}
 use Rattle.tile_command.specs.declared.plan.TiledSample.{TiledSample}
 
@@ -39,19 +40,21 @@ torus_seams job sample m = torus_total_of (distance sample) job.plan.wrap m.size
 abbrev pub plan_of : TileJob → RunPlan
 plan_of job = record { size = job.size; tile = job.plan; seed = job.seed }
 
--- what the writers of the files of a tiling ask for, and its torus total
+-- what the writers of the files of a tiling ask for
 pub record IsTilingMade (job : TileJob) (made : TiledSample) : Type 0 where
   pub volume : IsVolume made.sample.volume
   pub one : IsOnePart made.sample.volume
   pub sound : IsSoundSample made.sample
   pub bounds : IsWithinBounds job.size made.sample.form
   pub tiled : IsTiledTo (plan_of job) made.sample.volume made.tiled
-  pub seams : made.seams ≡ torus_seams job made.sample.volume made.tiled.canvas.map
 
--- the sample that the file stands for, and the tiling of it
-pub record IsTilingOf (job : TileJob) (files : Files) (made : TiledSample) : Type 0 where
-  pub read : IsSampleIn files job made.sample
-  pub is : IsTilingMade job made
+-- a sample that is read, and a tiling of it with its torus total
+abbrev pub tiling_of : TileJob → Sample → Tiled → TiledSample
+tiling_of job sample tiled = record {
+  sample = sample;
+  tiled = tiled;
+  seams = torus_seams job sample.volume tiled.canvas.map;
+}
 
 -- in order, with their texts: the picture in the form of the sample, and the map
 abbrev pub tile_files : TileJob → TiledSample → List FileText
@@ -66,33 +69,18 @@ tile_summary job made = Tile job.size made.tiled.placements made.seams
 
 -- The command.
 
--- the sample is read, and the job is refused over the sample that it stands for
-pub record RefusesTileOver (job : TileJob) (files : Files) (n : ℕ) (fault : Fault) : Type 0 where
-  pub all : n ≡ 1
-  pub sample : Sample
-  pub read : IsSampleIn files job sample
-  pub refused : PassesBounds job.size sample.form fault
+-- over a sample that is read the frames and the cells of the output are within their bounds; the
+-- output is tiled
+abbrev pub tile_over : TileJob → Sample → Stages []
+tile_over job sample =
+    bounded_in job.size sample.form
+    (make (λ tiled. IsTilingMade job (tiling_of job sample tiled))
+    (λ tiled. tile_files job (tiling_of job sample tiled))
+    (λ tiled. tile_summary job (tiling_of job sample tiled)))
 
--- the refusals of the sample file, once it is read: those of its reader, and then those of the
--- job
-abbrev pub RefusesTile : TileJob → ℕ → Files → Fault → Type 0
-RefusesTile job n files fault =
-    ((n ≡ 1) × ReaderRefuses RefusesSample part.Sample (content_of files job.sample) fault)
-    ⊎ RefusesTileOver job files n fault
-
--- the sample is read, and every number is within its bound
-pub record TakesToTile (job : TileJob) (files : Files) : Type 0 where
-  pub sample : Sample
-  pub read : IsSampleIn files job sample
-  pub bounds : IsWithinBounds job.size sample.form
-
--- a tiling of the sample, with its texts and its summary
-pub record MakesTile (job : TileJob) (files : Files) (texts : List (List ℕ)) (summary : Summary)
-    : Type 0 where
-  pub made : TiledSample
-  pub is_tiling : IsTilingOf job files made
-  pub texts_are : texts ≡ texts_in (tile_files job made)
-  pub summary_is : summary ≡ tile_summary job made
+-- the sample file is read, and then so
+abbrev pub tile_stages : (job : TileJob) → Stages (named part.Sample job.sample ∷ [])
+tile_stages job = read_file part.Sample job.sample IsSampleOf RefusesSample (tile_over job)
 
 -- the faults that `tile` ever refuses for: the form of the sample, and a limit
 abbrev pub MayRefuseTile : Fault → Type 0
@@ -106,12 +94,5 @@ IsTileSummary job summary =
     (placements : ℕ) × (seams : ℕ) × (summary ≡ Tile job.size placements seams)
 
 abbrev pub tile_command : TileJob → Command
-tile_command job = record {
-  reads = named part.Sample job.sample ∷ [];
-  writes = named part.Out job.out ∷ named part.Map job.map ∷ [];
-  Takes = TakesToTile job;
-  Refuses = RefusesTile job;
-  Makes = MakesTile job;
-  MayRefuse = MayRefuseTile;
-  MayMake = IsTileSummary job;
-}
+tile_command job = of_stages (tile_stages job)
+    (named part.Out job.out ∷ named part.Map job.map ∷ []) MayRefuseTile (IsTileSummary job)

@@ -51,7 +51,7 @@ one_answer (Check job) lawful = check_has_one_answer job
 one_answer (Trial job) lawful = trial_has_one_answer job
 one_answer (Upgrade job) lawful = upgrade_has_one_answer job
 one_answer (Tile job) lawful = tile_has_one_answer job
-one_answer (Merge job) lawful = merge_has_one_answer job lawful
+one_answer (Merge job) lawful = merge_has_one_answer job
 
 one_ok : (words : List (List ℕ)) (a b : Job) → job_of words ≡ Ok a → job_of words ≡ Ok b → a ≡ b
 one_ok words a b p q = let both : Ok a ≡ Ok b = sym p ∙ q in cc

@@ -1,8 +1,5 @@
-use Rattle.std.proofs.Common.{subst, sym, ◌∙◌}
-use Rattle.std.specs.Prelude.{Err}
-use Rattle.shelf_core.specs.Files.{Changes, content_of}
+use Rattle.std.proofs.Common.{subst, sym}
 use Rattle.command.specs.Outcomes.{NotMade}
-use Rattle.sample_files.specs.Samples.{IsSampleOf, SampleReadsAs}
 use Rattle.sample_files.proofs.OneSample.{sound_alone}
 use Rattle.job_words.specs.TileWords.{IsWide}
 use Rattle.tile_run.specs.Tilings.{IsRunPlan, IsTiledTo}
@@ -15,34 +12,31 @@ returns-in-Err-clause-planned g c =
     let a = g.S.Shelf.state c.args.shelf.now in
     let b = g.S.Shelf.state c.read_sample.new.shelf in
     let job = c.args.job.now in
-    subst (NotMade (tile_command job) a b) (sym c.read_fault.ensures)
-    (sample_not_read job a b c.read_sample.ensures.reads c.in-Err.error
-    (subst (λ name. SampleReadsAs name a b (Err c.in-Err.error)) c.as_text.ensures (c.in-Err.ensures {u = tt}).answer))
+    subst (NotMade (tile_command job) a b) (sym c.read_fault.ensures) (sample_not_read job a b c.as_text.ensures c.read_sample.ensures.reads c.in-Err.error (c.in-Err.ensures {u = tt}).answer)
 
 pub returns-in-Err-within_bounds-clause-planned : goal.returns-in-Err-within_bounds-clause-planned
 returns-in-Err-within_bounds-clause-planned g c =
     let a = g.S.Shelf.state c.args.shelf.now in
     let b = g.S.Shelf.state c.read_sample.new.shelf in
     let job = c.args.job.now in
-    bounds_passed job a b c.read_sample.ensures.reads c.in-Ok.sample
-    (subst (λ name. Changes a b (λ before after. IsSampleOf (content_of before name) c.in-Ok.sample)) c.as_text.ensures (c.in-Ok.ensures {u = tt}).answer)
-    c.in-Err-within_bounds.fault (c.in-Err-within_bounds.ensures {u = tt})
+    bounds_passed job a b c.as_text.ensures c.read_sample.ensures.reads c.in-Ok.sample (c.in-Ok.ensures {u = tt}).answer c.in-Err-within_bounds.fault (c.in-Err-within_bounds.ensures {u = tt})
 
 pub returns-clause-planned : goal.returns-clause-planned
 returns-clause-planned g c =
     let a = g.S.Shelf.state c.args.shelf.now in
     let b = g.S.Shelf.state c.read_sample.new.shelf in
     let job = c.args.job.now in
-    tiling_made job a b c.read_sample.ensures.reads (record { sample = c.in-Ok.sample; tiled = c.in-Ok-tile_canvas.tiled; seams = c.torus_total-seams.result })
-    (subst (λ name. Changes a b (λ before after. IsSampleOf (content_of before name) c.in-Ok.sample)) c.as_text.ensures (c.in-Ok.ensures {u = tt}).answer)
+    let sample = c.in-Ok.sample in
+    let tiled = c.in-Ok-tile_canvas.tiled in
+    tiling_made job a b c.as_text.ensures c.read_sample.ensures.reads sample (c.in-Ok.ensures {u = tt}).answer tiled
     (record {
       volume = c.samples-k.ensures.volume;
-      one = sound_alone c.in-Ok.sample.form c.in-Ok.sample.volume (c.in-Ok.ensures {u = tt}).sound;
+      one = sound_alone sample.form sample.volume (c.in-Ok.ensures {u = tt}).sound;
       sound = (c.in-Ok.ensures {u = tt}).sound;
       bounds = c.in-Ok-within_bounds.ensures {u = tt};
-      tiled = subst (λ plan. IsTiledTo plan c.in-Ok.sample.volume c.in-Ok-tile_canvas.tiled) c.plan_of.ensures (c.in-Ok-tile_canvas.ensures {u = tt});
-      seams = c.torus_total-seams.ensures;
+      tiled = subst (λ plan. IsTiledTo plan sample.volume tiled) c.plan_of.ensures (c.in-Ok-tile_canvas.ensures {u = tt});
     })
+    (record { sample = sample; tiled = tiled; seams = c.torus_total-seams.result }) (λ i. record { sample = sample; tiled = tiled; seams = c.torus_total-seams.ensures i })
 
 pub returns-clause-made : goal.returns-clause-made
 returns-clause-made g c = record {
@@ -51,7 +45,6 @@ returns-clause-made g c = record {
   sound = (c.in-Ok.ensures {u = tt}).sound;
   bounds = c.in-Ok-within_bounds.ensures {u = tt};
   tiled = subst (λ plan. IsTiledTo plan c.in-Ok.sample.volume c.in-Ok-tile_canvas.tiled) c.plan_of.ensures (c.in-Ok-tile_canvas.ensures {u = tt});
-  seams = c.torus_total-seams.ensures;
 }
 
 pub tile_canvas-requires-clause-plan : goal.tile_canvas-requires-clause-plan

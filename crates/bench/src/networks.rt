@@ -46,7 +46,7 @@ fn join(network: &mut Network, from: u32, to: u32, most: u32)
 const COLUMNS: u32 = 128;
 
 // Adds the pipes from a cell of a grid to the cells beside and below it. The source stands before the first
-// column, and the sink behind the last.
+// column, and the sink after the last.
 fn join_cell(network: &mut Network, rows: u32, cell: u32)
     requires cell { cell < rows * COLUMNS }
     requires rows { rows ≤ MOST_ROWS }
@@ -111,7 +111,7 @@ fn ladder_of(alloc: Global, rungs: u32) -> Result<Network, AllocError>
 const RAILS: u32 = 4;
 
 // Adds the pipes from a cell of a long thin grid to the cell of the next rail and to that of the next step. The
-// source stands before the first step, and the sink behind the last.
+// source stands before the first step, and the sink after the last.
 fn join_rail(network: &mut Network, steps: u32, cell: u32)
     requires cell { cell < steps * RAILS }
     requires steps { steps ≤ MOST_STEPS }

@@ -94,7 +94,7 @@ IsFirstBlockFault m sample block fault =
     BlockBreaksFit m sample block fault ⊎ (BreaksOverlap m sample block fault
     ⊎ (BreaksLeft m sample block fault ⊎ BreaksTop m sample block fault))
 
--- what a check answers; want of memory has no cause
+-- what a check answers; out of memory has no cause
 abbrev pub Checks : SourceMap → Cells → BlockRecord → Result (Unit {0}) BlockError → Type 0
 Checks m sample block (Ok _) = BlockStands m sample block
 Checks m sample block (Err (Fault fault)) = IsFirstBlockFault m sample block fault

@@ -43,7 +43,7 @@ pub record IsFirstBrokenBlock (sample : Cells) (m : SourceMap) (blocks : List Bl
   pub breaks : IsFirstBlockFault (left_by_blocks m (take broken.number blocks)) sample block
       broken.fault
 
--- what the answer of a replay means, and the map that it leaves; want of memory has no cause, and
+-- what the answer of a replay means, and the map that it leaves; out of memory has no cause, and
 -- leaves what some of the first records leave
 abbrev pub ReplaysBlocks : Cells → SourceMap → List BlockRecord → SourceMap
     → Result (Unit {0}) BlocksError → Type 0

@@ -93,7 +93,7 @@ fn replay_each(
 /// Judges records, each over the canvas that the records before it leave, and puts their new cells in. Each
 /// has a box with a cell in the first frame, and for each of its boundaries a sum for each cell of a strip
 /// that fits in the box, which may lie anywhere; cells have three samples. After an error the canvas is what
-/// the records before the broken one leave, and after want of memory what some of the first records leave.
+/// the records before the broken one leave, and when memory is refused what some of the first records leave.
 pub fn replay_blocks(
     alloc: Global,
     canvas: &mut Canvas,

@@ -45,7 +45,7 @@ module _ (plan : QuiltPlan) (output sample : Size) (are : ArePictures plan outpu
     down = (omega (arith, are.block, are.some_output, are.some_sample), omega arith);
   }
 
-  -- the block that has the first cell behind a front
+  -- the block that has the first cell after a front
   pub block_is : (k j left top : ℕ) (g : Grid) → g ≡ grid_of plan output sample → Reaches g.s (g.B - g.s) k left → Reaches g.t (g.D - g.t) j top → block_at plan output sample (spot left top 0) ≡ front_box output g k j
   block_is k j left top g e along down =
       subst (λ (g : Grid). Reaches g.s (g.B - g.s) k left → Reaches g.t (g.D - g.t) j top → block_at plan output sample (spot left top 0) ≡ front_box output g k j) (sym e)

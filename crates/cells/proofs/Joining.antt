@@ -1,4 +1,4 @@
--- What a buffer tells after a part is put behind the others.
+-- What a buffer tells once a part is put after the others.
 use Rattle.std.proofs.Common.{◌≡◌, ℕ, zero, suc, ◌+◌, ◌*◌, ◌<◌, ◌≤◌, List, [], ◌∷◌, length, take, drop, ◌++◌, refl, sym, ap, ◌∙◌, subst, arith, append_assoc}
 use Rattle.std.proofs.lemmas.List.{length-append, take-append-le, drop-append-le, length-drop}
 use Rattle.std.specs.List.{AllByRecursion}
@@ -25,7 +25,7 @@ parts_joined size more last parts axes few room = record {
   cells = omega (arith, room, count_behind size more last);
 }
 
--- the cells of a buffer and of another behind it
+-- the cells of a buffer and of another after it
 pub cells_of-append : (k n m : ℕ) (bytes more : List ℕ) → length bytes ≡ k * n → cells_of k (n + m) (bytes ++ more) ≡ cells_of k n bytes ++ cells_of k m more
 cells_of-append k zero m bytes more whole =
     let none : length bytes ≡ 0 = omega (arith, whole) in

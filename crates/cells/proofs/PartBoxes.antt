@@ -19,7 +19,7 @@ use Rattle.cells.proofs.BoxTests.{OnAxes, axes_of_each, box_has_cells, each_of_a
 use Rattle.cells.proofs.CellLaws.{cell_has_index, indexed_has_cell, inside_part}
 use Rattle.cells.proofs.PartLaws.{IsBehind, from_frame, index_back, index_front, parts_behind, small_of, split_from}
 
--- a place as the part behind counts it, one step on
+-- a place as the next part counts it, one step on
 past_plus : (size : Size) (p q : At) → past size (plus p q) ≡ plus (past size p) q
 past_plus size p q = λ k. record { x = p.x +ℤ q.x; y = p.y +ℤ q.y; f = same p.f q.f k }
   where
@@ -40,7 +40,7 @@ found size next more p some =
       | inr behind ↦ inr behind
     ]
 
--- the frame of a place inside, and of one behind
+-- the frame of a place inside, and of one after it
 frame_inside : (size : Size) (p : At) → IsInside size p → (pos 0 ≤ℤ p.f) × (p.f <ℤ pos size.f)
 frame_inside size p inside = on_axis_bounds size.f p.f (of_inside size p inside).f
 
@@ -103,7 +103,7 @@ each_of_parts size (next ∷ more) corner inner (inr behind) p has =
     let there = each_of_parts next more (past size corner) inner behind (past size p) (subst (IsInside inner) (sym (past_minus size p corner)) has) in
     subst (λ o. IsSome (or_later (index_in size p) (cell_count size) o)) (sym (has_index (index_from next more (past size p)) 0 there)) (or_some (index_in size p) (cell_count size) (unwrap_or (index_from next more (past size p)) 0))
 
--- and a box of some cells whose places are inside lies inside a part: the empty frame behind a part parts it from the next
+-- and a box of some cells whose places are inside lies inside a part: the empty frame after a part parts it from the next
 pub parts_of_each : (size : Size) (more : List Size) (corner : At) (inner : Size) → HasCells inner → ((p : At) → IsInBox (record { corner = corner; size = inner }) p → IsSome (index_from size more p)) → HoldsFrom size more corner inner
 parts_of_each size [] corner inner some each = axes_of_each size (record { corner = corner; size = inner }) some each
 parts_of_each size (next ∷ more) corner inner some each =

@@ -14,7 +14,7 @@ pub small_of : (size : Size) (more : List Size) → AreParts size more → IsSma
 small_of size [] parts = record { axes = parts.first; cells = parts.cells }
 small_of size (next ∷ more) parts = record { axes = parts.first; cells = let whole : cell_count size + count_from next more ≤ MOST_CELLS = parts.cells in omega arith }
 
--- and so are those behind it
+-- and so are those after it
 pub parts_behind : (size next : Size) (more : List Size) → AreParts size (next ∷ more) → AreParts next more
 parts_behind size next more parts = record {
   few = let few : length (next ∷ more) < MOST_PARTS = parts.few in omega (arith, few);
@@ -26,7 +26,7 @@ parts_behind size next more parts = record {
 some_same : {A : Type 0} (x y : A) → Some x ≡ Some y → x ≡ y
 some_same x y e = cc
 
--- a place behind a part
+-- a place after a part
 pub record IsBehind (size next : Size) (more : List Size) (p : At) (i : ℕ) : Type 0 where
   pub outside : index_in size p ≡ None
   pub j : ℕ
@@ -95,7 +95,7 @@ pub index_front : (size : Size) (more : List Size) (p : At) (i : ℕ) → index_
 index_front size [] p i e = e
 index_front size (next ∷ more) p i e = ap (λ o. or_later o (cell_count size) (index_from next more (past size p))) e
 
--- outside it, a place has the index of the part behind
+-- outside it, a place has the index of the next part
 pub index_back : (size next : Size) (more : List Size) (p : At) → index_in size p ≡ None → index_from size (next ∷ more) p ≡ or_later None (cell_count size) (index_from next more (past size p))
 index_back size next more p e = ap (λ o. or_later o (cell_count size) (index_from next more (past size p))) e
 

@@ -37,7 +37,7 @@ no_frames : (sizes : List Size) → frames_to_part sizes 0 ≡ 0
 no_frames [] = refl
 no_frames (size ∷ sizes) = refl
 
--- not in the first part: then behind it
+-- not in the first part: then after it
 split : (number : ℕ) (size : Size) (more : List Size) (p : At) (there : PartPlace) (before : ℕ) → there.part ≡ number + before → (s : Size) → slice_get (size ∷ more) before ≡ Some s → IsInside s there.at
     → record { x = there.at.x; y = there.at.y; f = there.at.f +ℤ pos (frames_to_part (size ∷ more) before) } ≡ p → (IsInside size p → ⊥) → IsPartAlong (number + 1) more (past size p) there
 split number size more p there zero part s is inside stock out = absurd (out (subst (λ q. IsInside size q) here (subst (λ t. IsInside t there.at) (sym (some_same size s is)) inside)))

@@ -2,7 +2,7 @@
 //! several.
 //!
 //! The contracts see a volume as its size, the number of samples of a cell, and the list of its cells
-//! in raster order (specs/Cells.antt); that it lies in one buffer is told by no clause. The distance of
+//! in raster order (specs/Cells.antt); that it lies in one buffer is said by no clause. The distance of
 //! two cells obeys the triangle inequality (specs/Distances.antt). `place` has places, sizes and boxes,
 //! `volume` the volume, `distance` the distance.
 #![tactic(auto)]

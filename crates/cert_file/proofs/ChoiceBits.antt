@@ -1,4 +1,4 @@
--- The bits of the bytes of a choice are the choice, and none behind it is set.
+-- The bits of the bytes of a choice are the choice, and none after it is set.
 use Rattle.std.proofs.Common.{◌≡◌, true, false, Bool, ℕ, zero, suc, ◌+◌, ◌-◌, ◌*◌, ◌/◌, ◌%◌, ◌≤◌, ◌<◌, List, [], ◌∷◌, ◌++◌, length, take, drop, map, get_or, refl, sym, ap, ◌∙◌, arith}
 use Rattle.std.proofs.lemmas.List.{append-nil, append_assoc, get_or_past}
 use Rattle.std.proofs.lemmas.List.Concat.{flat_map-append}

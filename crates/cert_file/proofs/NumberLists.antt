@@ -34,7 +34,7 @@ one_short : (w : Width) (at place : ℕ) (bytes : List ℕ) → place ≡ length
 one_short w at place bytes ends short =
     ap (λ (p : Result (List ℕ × ℕ) ReadError). p >>= λ piece. any_rule at (from_be_bytes w piece.0) >>= λ x. Ok (x, piece.1)) (piece_short (byte_len w) at place bytes ends short)
 
--- one number behind others
+-- one number after others
 abbrev behind_them : Width → List ℕ → Result (List ℕ × ℕ) ReadError → Result (List ℕ × ℕ) ReadError
 behind_them w bytes front = front >>= λ f. number_read w any_rule f.1 bytes >>= λ last. Ok (f.0 ++ last.0 ∷ [], last.1)
 

@@ -51,7 +51,7 @@ box_size_read before at bytes =
     number_read w16 box_axis_rule h.1 bytes >>= λ f.
     box_cells_rule before (record { w = w.0; h = h.0; f = f.0 }) >>= λ size. Ok (size, f.1)
 
--- the number of a sample: not told in version 1, and from 1 to their count in version 2
+-- the number of a sample: not written in version 1, and from 1 to their count in version 2
 abbrev pub part_read : Version → ℕ → ℕ → List ℕ → Result (ℕ × ℕ) ReadError
 part_read One count at bytes = Ok (1, at)
 part_read Two count at bytes = number_read w16 (part_rule count) at bytes

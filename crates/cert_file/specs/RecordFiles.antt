@@ -107,14 +107,14 @@ HasSpelling (Blocks head blocks) = AreBlocksInLimits head blocks × All IsWideBl
 HasSpelling (Walk head taps gap walk tables) =
     IsWalkInForm head gap walk tables × AreWide walk tables
 
--- cut records, from behind a head to the end of the file
+-- cut records, from after a head to the end of the file
 abbrev pub cuts_file_read : Head → ℕ → List ℕ → Result RecordFile ReadError
 cuts_file_read head at bytes =
     number_read w32 any_rule at bytes >>= λ count.
     cuts_read head.version head.samples count.0 count.1 bytes >>= λ cuts.
     end_rule cuts.1 bytes >>= λ end. Ok (Cuts head cuts.0)
 
--- block records, from behind a head to the end of the file
+-- block records, from after a head to the end of the file
 abbrev pub blocks_file_read : Head → ℕ → List ℕ → Result RecordFile ReadError
 blocks_file_read head at bytes =
     number_read w32 any_rule at bytes >>= λ count.
@@ -193,7 +193,7 @@ abbrev pub RefusesRecordFile : List ℕ → ReadError → Type 0
 RefusesRecordFile bytes refusal = record_file_read bytes ≡ Err refusal
 
 -- what a reader of the named file answers, of what is made of its bytes from a place on. A read
--- fault has its cause; `memory` is that of want of memory
+-- fault has its cause; `memory` is that for out of memory
 abbrev pub ReadsToEnd : {A : Type 0} → Type 0 → List ℕ → ℕ → ShelfState → ShelfState
     → (ℕ → List ℕ → Result A ReadError) → Result A ReadError → Type 0
 ReadsToEnd memory name place was now read (Ok x) =
@@ -204,7 +204,7 @@ ReadsToEnd memory name place was now read (Err refusal) =
     OfFile name now.files (λ bytes. read place bytes ≡ Err refusal)
 
 -- what a reader answers, by what bytes are read as: the value of the file's bytes, or their first
--- refusal; want of memory may come instead of either
+-- refusal; out of memory may come instead of either
 abbrev pub ReadsRecordFileBy : (List ℕ → Result RecordFile ReadError) → List ℕ
     → ShelfState → ShelfState → Result RecordFile ReadError → Type 0
 ReadsRecordFileBy read name was now (Ok file) =

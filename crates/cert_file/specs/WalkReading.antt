@@ -38,7 +38,7 @@ taps_rule at n =
 abbrev pub gap_rule : ℕ → ℕ → Result ℕ ReadError
 gap_rule at n = if n == 0 || nat_lt WIDEST_GAP n then Err (Bad (Form at)) else Ok n
 
--- the limit on frames, behind the head
+-- the limit on frames, after the head
 abbrev pub few_frames_read : ℕ → ℕ → List ℕ → Result (Unit {0} × ℕ) ReadError
 few_frames_read n at bytes = frames_rule n >>= λ few. Ok (few, at)
 
@@ -55,7 +55,7 @@ pub record IsStart (start : WalkStart) : Type 0 where
   pub len : IsLength start.length
   pub gap : (1 ≤ start.gap) × (start.gap ≤ WIDEST_GAP)
 
--- a walk record, from behind a head to the end of the file
+-- a walk record, from after a head to the end of the file
 abbrev pub walk_file_read : Head → ℕ → List ℕ → Result RecordFile ReadError
 walk_file_read head at bytes =
     few_frames_read (frames_of head) at bytes >>= λ few.

@@ -262,7 +262,7 @@ fn read_blocks<S: Shelf>(
     Ok(Items::from_vec(blocks))
 }
 
-// Reads block records, from behind a head to the end of the file.
+// Reads block records, from after a head to the end of the file.
 pub(crate) fn read_blocks_file<S: Shelf>(
     alloc: Global,
     file: &mut FileReader,

@@ -28,7 +28,7 @@ fn bits_of_byte(byte: u8) -> [bool; 8]
     ]
 }
 
-// Puts the bits of a byte behind others, of which so many are missing.
+// Puts the bits of a byte after others, of which so many are missing.
 fn push_bits(bits: &mut Vec<bool>, byte: u8, missing: usize) -> Result<(), AllocError>
     ensures { OnOk result (bits.new.items ≡ bits.old.items ++ byte_bits byte) }
 {

@@ -143,7 +143,7 @@ pub(crate) fn read_box_size<S: Shelf>(
     lawful_box(before, w, h, f)
 }
 
-// Reads the number of a sample, of so many; in version 1 it isn't told.
+// Reads the number of a sample, of so many; in version 1 it isn't written.
 fn read_part<S: Shelf>(
     file: &mut FileReader,
     version: Version,

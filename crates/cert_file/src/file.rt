@@ -108,7 +108,7 @@ pub(crate) fn read_count<S: Shelf>(
     Ok(n)
 }
 
-// Reads cut records, from behind a head to the end of the file.
+// Reads cut records, from after a head to the end of the file.
 fn read_cuts_file<S: Shelf>(
     alloc: Global,
     file: &mut FileReader,
@@ -164,7 +164,7 @@ fn read_records<S: Shelf>(
 /// a field, else at the first byte of a field that has no lawful value, with the choice of a record as one
 /// field, in which no unused bit is set; `Limit Axis` (4,096) at a size of the head; `Limit Records` (2^25
 /// cells of all boxes so far) after the size of a box or a block; for a walk `Limit Frames` (256 of the
-/// sample) after the head, and `Limit Loop` (4,096) after its length. A byte behind the last field is
+/// sample) after the head, and `Limit Loop` (4,096) after its length. A byte after the last field is
 /// `Bad(Form)` at its place. `ReadFault` comes wherever a read fails, and `NoMemory` may come at any place:
 /// memory is taken as bytes come, never by a count in the file.
 pub fn read_record_file<S: Shelf>(

@@ -119,7 +119,7 @@ fn entry_count(n: u32, length: u32) -> usize
     table_count(length) as usize * (n as usize * n as usize)
 }
 
-// Reads a walk record, from behind a head to the end of the file.
+// Reads a walk record, from after a head to the end of the file.
 pub(crate) fn read_walk_file<S: Shelf>(
     alloc: Global,
     file: &mut FileReader,

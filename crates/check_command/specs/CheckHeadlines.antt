@@ -22,7 +22,7 @@ pub record HaveLeastRecords (names : Names) (files : Files) : Type 0 where
 
 -- `check` ends with status 0 where the files stand, and with status 1 where they are in their forms
 -- and within their limits and don't, and out has the first rule that they break; each yields to
--- failures of reads and writes and to want of memory. What stands is least, whoever made it. No file
+-- failures of reads and writes and to out of memory. What stands is least, whoever made it. No file
 -- is changed
 pub record CheckHeadline (words : List (List ℕ)) (was now : ShelfState) (out out' : SinkState)
     (status : ℕ) : Type 0 where

@@ -103,7 +103,7 @@ two_or_seven fault = by (words_two fault)
     by (inl two) = inl two
     by (inr memory) = inr (ap words_status memory)
 
--- a told step leads from the files at the entry to some at the exit
+-- a known step leads from the files at the entry to some at the exit
 pub told_at : (a b : Option Files) (P : Files → Files → Type 0) (files : Files) → a ≡ Some files → IsSome b → Told a b P → (after : Files) × P files after
 told_at a None P files e some told = absurd (false≢true some)
 told_at None (Some y) P files e some told = absurd told

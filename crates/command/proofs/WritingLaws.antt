@@ -80,7 +80,7 @@ pub both_written : {names : List (List ℕ)} (first second : List FileText) (a b
 both_written first second a b c (Ok done) writes whole wrote = hold_both first second a b c whole wrote
 both_written first second a b c (Err part) writes whole wrote = stops_second first second part a b c writes whole wrote
 
--- a report that was said is told whole or in part
+-- a report that was said is written whole or in part
 pub in_part : (summary : Summary) (out out' : SinkState) → Says out out' (report_of summary) → ReportedInPart summary out out'
 in_part summary out out' (inl whole) =
     told_weaker (λ before after. after ≡ before ++ report_of summary) (λ before after. IsPrefixAdded before (report_of summary) after) out.bytes out'.bytes

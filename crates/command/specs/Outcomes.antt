@@ -82,7 +82,7 @@ pub record IsFinished (c : Command) (summary : Summary) (was now : ShelfState)
   pub files : Changes was now (WritesAll c summary)
   pub told : Reported summary out out'
 
--- all files are written, and the report isn't told whole: the count of write faults of out rose
+-- all files are written, and the report isn't written whole: the count of write faults of out rose
 pub record IsUnreported (c : Command) (part : FileOf) (was now : ShelfState) (out out' : SinkState)
     : Type 0 where
   pub is : part ≡ Report

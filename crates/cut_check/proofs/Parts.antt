@@ -36,7 +36,7 @@ one_part Holds z a b first second = omega (
       apart (omega (arith, ints, first.elsewhere none, second.elsewhere none))),
 )
 
--- whether a cell has to stay old can be told
+-- whether a cell has to stay old is decided
 abbrev Sure : Type 0 → Type 0
 Sure P = P ⊎ (P → ⊥)
 

@@ -76,7 +76,7 @@ stands_second xs ys zs = stands_in (xs ++ (ys ++ zs)) (ys ++ zs) ys (length xs) 
 stands_third : {P : Type 0} (xs ys zs : List P) → StandsAt (xs ++ (ys ++ zs)) zs (length xs + length ys)
 stands_third xs ys zs = stands_in (xs ++ (ys ++ zs)) (ys ++ zs) zs (length xs) (length ys) _ refl (stands_right xs (ys ++ zs)) (stands_right ys zs)
 
--- of lists one after another, each begins behind those before it
+-- of lists one after another, each begins after those before it
 pub joined_at : {P : Type 0} (g : ℕ → List P) (n i : ℕ) → i < n → StandsAt (joined g n) (g i) (length (joined g i))
 joined_at g zero i lt = absurd (omega arith)
 joined_at g (suc n) i lt =

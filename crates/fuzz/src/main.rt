@@ -7,7 +7,7 @@
 // where there is one.
 //
 // With the word `memory` and a number it does one run over stores that take no memory, and says
-// whether it ended well. The status is 7 where it ended with want of memory and every file is as
+// whether it ended well. The status is 7 where it ended out of memory and every file is as
 // before. So it can be run with each allocation failing in turn.
 //
 // `dice` draws, `pool` makes valid files, `changes` changes them, `words` has the words, `cases` a
@@ -39,7 +39,7 @@ use std::{env, io};
 // How many cases are run where no word says it.
 const FEW_CASES: u64 = 100;
 
-// The status of want of memory.
+// The status for out of memory.
 const NO_MEMORY: u8 = 7;
 
 // What came of the cases: how many ended with each status where nothing fails, and where what they

@@ -104,7 +104,7 @@ const RUNS: &[Sure<'static>] = &[
 pub enum Surely {
     /// As it is to end where there is memory.
     Well,
-    /// With want of memory, and with every file as before.
+    /// Out of memory, and with every file as before.
     NoMemory,
     /// With another answer, or with other files.
     Wrong,
@@ -125,7 +125,7 @@ fn are_files(shelf: &SureShelf, files: &[(&str, &[u8])]) -> bool {
     true
 }
 
-// Whether an answer is one of want of memory and left all as it was.
+// Whether an answer is out of memory and left all as it was.
 fn is_refused(shelf: &SureShelf, out: &SureSink, err: &SureSink, files: &[(&str, &[u8])]) -> bool {
     out.bytes() == Some(b"".as_slice())
         && err.bytes() == Some(b"weave: no memory\n".as_slice())

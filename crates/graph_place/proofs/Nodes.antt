@@ -38,7 +38,7 @@ pub is_new_of : (placement : Placement) (choice : List Bool) (i : ℕ) → HasCe
     → is_new placement choice (box_cell placement i) ≡ slice_index_or choice i false
 is_new_of placement choice i some lt = ap (chosen choice) (box_index_of placement i (place_at placement.rect.size i some.w some.h lt))
 
--- the cell behind another one, that makes a pair with it
+-- the cell after another one, that makes a pair with it
 pub record IsNext (placement : Placement) (places : Places) (axis : Axis) (x y f : ℕ) : Type 0 where
   pub column : ℕ
   pub row : ℕ

@@ -103,7 +103,7 @@ module _ (job : GrowJob) (lawful : IsGrowJob job) (before after : Files) (sample
     summary_is = summary_is;
   }
 
--- what is told is told of such a run
+-- what is reported is that of such a run
 pub grow_told : (job : GrowJob) → IsGrowJob job → (summary : Summary) (before after : Files) → WritesAll (grow_command job) summary before after → IsToldOfGrown job summary before after
 grow_told job lawful summary before after (texts, (samples, read, (frames, (cells, (none, (grown, is, texts_are, summary_is))))), wrote) =
     told job lawful before after samples read (record { frames = frames; cells = cells }) grown is (wrote ∙ ap (λ ts. written (pieces (grow_command job).writes ts) before) texts_are) summary summary_is

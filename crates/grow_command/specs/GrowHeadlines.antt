@@ -93,8 +93,8 @@ GrowHeadline words was now status =
     (job : GrowJob) → job_of words ≡ Ok (Grow job) → status ≡ 0
     → Changes was now (IsGrownRun job)
 
--- what is told of a run: the asked size, how many of its records are of placements and how many of
--- rounds, and what the seams of its map cost in all
+-- what is reported of a run: the asked size, how many of its records are of placements and how
+-- many of rounds, and what the seams of its map cost in all
 abbrev pub told_of_cuts : GrowJob → Cells → SourceMap → List CutRecord → ℕ → Summary
 told_of_cuts job samples map cuts rounds =
     Told job.size (length cuts - rounds) rounds (map_total samples map)

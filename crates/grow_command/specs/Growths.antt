@@ -93,7 +93,7 @@ pub record IsMade (job : GrowJob) (growth : Growth) : Type 0 where
 
 -- The files that are written.
 
--- one sample is told in version 1, and several are in version 2
+-- one sample is written in version 1, and several are in version 2
 abbrev pub version_for : List Size → Version
 version_for [] = One
 version_for (size ∷ more) = Two

@@ -32,7 +32,7 @@ fn summary_of(job: &GrowJob, growth: &Growth) -> Summary
     }
 }
 
-// One sample is told in version 1, and several are in version 2.
+// One sample is written in version 1, and several are in version 2.
 fn version_over(volume: &Volume) -> Version
     ensures { result ≡ version_over volume.now }
 {

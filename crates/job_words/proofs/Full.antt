@@ -363,7 +363,7 @@ module _ (rows : List Row) (all : List Setting) (sound : AreSound rows rows) (a 
       ap (λ o. cons_option o (names_at keys)) (name_set (value_at key all) named.0)
       ∙ ap (λ rest. text_of key all ∷ rest) (names_set keys named.1)
 
-  -- the names of the samples, and behind them those of keys of which each has one
+  -- the names of the samples, and after them those of keys of which each has one
   pub names_listed : (last : List Key) → IsNamed (value_at key.Sample all) → AreNamed last
       → names_at (key.Sample ∷ (more_keys ++ last)) ≡ text_of key.Sample all ∷ (more_names all ++ map (λ k. text_of k all) last)
   names_listed last first named =

@@ -16,7 +16,7 @@ use Rattle.job_words.specs.Words.{IsGiven, and_then, all_settings, number_at, nt
 use Rattle.job_words.specs.Names.{AreNames, HasNames, names_of, name_list, with_files}
 use Rattle.job_words.specs.OutputSize.{HasSize, size_of}
 
--- the keys of `grow` behind those of its files
+-- the keys of `grow` after those of its files
 abbrev pub grow_own_rows : List Row
 grow_own_rows =
     number_row key.Width 1 GREATEST_AXIS

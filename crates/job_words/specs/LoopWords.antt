@@ -15,7 +15,7 @@ use Rattle.job_words.specs.Tables.{row, number_row, default_row}
 use Rattle.job_words.specs.Words.{IsGiven, and_then, all_settings, number_at}
 use Rattle.job_words.specs.Names.{AreNames, HasNames, names_of, name_list, with_one_sample}
 
--- the keys of `loop` behind those of its files
+-- the keys of `loop` after those of its files
 abbrev pub loop_own_rows : List Row
 loop_own_rows =
     number_row key.Length 1 LONGEST_LOOP

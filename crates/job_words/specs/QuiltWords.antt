@@ -11,7 +11,7 @@ use Rattle.job_words.specs.Tables.{number_row, block_row, overlap_row, tol_row, 
 use Rattle.job_words.specs.Words.{IsGiven, and_then, all_settings, number_at}
 use Rattle.job_words.specs.Names.{AreNames, HasNames, names_of, name_list, with_one_sample}
 
--- the keys of `quilt` behind those of its files
+-- the keys of `quilt` after those of its files
 abbrev pub quilt_own_rows : List Row
 quilt_own_rows =
     number_row key.Width 1 GREATEST_AXIS

@@ -18,7 +18,7 @@ use cells::Size;
 use limits::{GREATEST_AXIS, GREATEST_SAMPLE_NUMBER};
 use std::alloc::Global;
 
-/// Growing an output from a sample that is made of a number. What isn't told of here is as in `GrowJob`.
+/// Growing an output from a sample that is made of a number. What isn't described here is as in `GrowJob`.
 #[derive(Drop)]
 pub struct TrialJob {
     /// The number of the sample.

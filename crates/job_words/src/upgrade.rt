@@ -12,7 +12,7 @@ use crate::settings::Setting;
 use crate::table::{Kind, Need, Row, file_row};
 use std::alloc::{AllocError, Global};
 
-/// Telling a map and a record of one sample as those of several samples are told.
+/// Writing a map and a record of one sample in the form of those of several samples.
 #[derive(Drop)]
 pub struct UpgradeJob {
     /// The map, which is read.

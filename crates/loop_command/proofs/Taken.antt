@@ -121,7 +121,7 @@ module _ (sample : Cells) (is : IsVolume sample) (walk : List ℕ) (frames : All
     same_frame : (kind : SpaceKind) → frame_form kind taken i ≡ frame_form kind sample f
     same_frame kind = ap (λ planes. codes "FRAME\n" ++ planes) (same_planes kind)
 
-  -- so the frames of the sample along the walk, behind the line of the clip, are the clip of them
+  -- so the frames of the sample along the walk, after the line of the clip, are the clip of them
   pub taken_clip : (form : ClipForm) → walked_clip (writer_of form size) sample walk ≡ clip_form form taken
   taken_clip form =
       ap (λ text. line_form form size ++ text)

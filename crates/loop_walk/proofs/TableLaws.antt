@@ -46,7 +46,7 @@ module _ (n bound bound' x : ℕ) (a b : ℕ → ℕ) (room : bound + bound' < 1
       (λ at. subst (IsNoneOrAtMost (bound + bound')) (sym at.2) (small-stopped_sum bound bound' (a at.0) (b at.0) room (sa at.0 at.1) (sb at.0 at.1))) least.reached
 
 module _ (costs : Steps) where
-  -- an entry of the tables at the front, and of the one behind them
+  -- an entry of the tables at the front, and of the one after them
   pub entry_at-front : (xs ys : List ℕ) (t i j : ℕ) → t * (costs.frames * costs.frames) ≤ length xs → i < costs.frames → j < costs.frames → entry_at costs (xs ++ ys) t i j ≡ entry_at costs xs t i j
   entry_at-front xs ys zero i j fits row column = refl
   entry_at-front xs ys (suc t) i j fits row column =

@@ -26,7 +26,7 @@ length-bytes k [] all = omega arith
 length-bytes k (cell ∷ cells) all =
     omega (arith, length-append cell (concat cells), (All-head (IsCell k) cell cells all).samples, length-bytes k cells (All-tail (IsCell k) cell cells all))
 
--- the bytes of one more cell behind those of the cells before it
+-- the bytes of one more cell after those of the cells before it
 pub bytes_more : (f : Option At → List ℕ) (sources : List (Option At)) (i : ℕ) (d : Option At) (items more : List ℕ) → i < length sources → items ≡ concat (map f (take i sources)) → more ≡ items ++ f (get_or sources i d)
     → more ≡ concat (map f (take (i + 1) sources))
 bytes_more f sources i d items more lt so_far added = added ∙ ap (λ its. its ++ f (get_or sources i d)) so_far ∙ sym whole

@@ -18,7 +18,7 @@ module _ {X : Type 0} (p : X → Bool) (xs : List X) where
       negated true e = cc
       negated false e = cc
 
-  -- the element behind the front passes
+  -- the element after the front passes
   pub front_stops : (d : X) → position_or_len p xs < length xs → p (get_or xs (position_or_len p xs) d) ≡ true
   front_stops d lt = negated (p (get_or xs (position_or_len p xs) d)) (prefix_len_stops (λ x. not (p x)) xs d lt)
     where

@@ -71,7 +71,7 @@ pub record IsInset (outer rect : Box3) (inset : Inset) : Type 0 where
   pub frames_in : inset.f + rect.size.f ≤ outer.size.f
 
 -- where a column comes to in a part of w columns of its row that begins at column x: one before it
--- comes to its front, and one behind it to its end
+-- comes to its front, and one after it to its end
 abbrev pub column_in : ℕ → ℕ → ℕ → ℕ
 column_in x w column = min (column - x) w
 

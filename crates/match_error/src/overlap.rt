@@ -40,7 +40,7 @@ fn marked_row_sum(canvas: &Canvas, sample: &Volume, placement: &Placement, y: u3
 }
 
 // Where a column comes to in a part of w columns of its row that begins at column x: one before it comes
-// to its front, and one behind it to its end.
+// to its front, and one after it to its end.
 fn column_in(x: u32, w: u32, column: u32) -> u32
     ensures { result ≡ column_in x w column }
 {

@@ -68,7 +68,7 @@ pub record IsAfterLast (pipes : List Pipe) (node limit cursor : ℕ) : Type 0 wh
   pub none : (arc : ℕ) → cursor ≤ arc → arc < limit → tail pipes arc ≢ node
   pub here : 0 < cursor → tail pipes (cursor - 1) ≡ node
 
--- the chain of the arcs of each node: where it begins, and how it goes on behind each arc
+-- the chain of the arcs of each node: where it begins, and how it goes on after each arc
 pub record AreChains (pipes : List Pipe) (nodes : ℕ) (last previous : List ℕ) : Type 0 where
   pub nodes_sized : length last ≡ nodes
   pub arcs_sized : length previous ≡ arc_count pipes

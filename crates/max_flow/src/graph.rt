@@ -7,7 +7,7 @@ ghost use Rattle.max_flow.specs.Residual.{arc_count, tail, head, residual, AreRe
 use crate::network::Pipe;
 
 /// A network with the chains of its arcs. Arc `2 * j` goes along pipe `j`, and arc `2 * j + 1` against it.
-/// The arcs that leave a node are `last[node] - 1`, then `previous[arc] - 1` behind each arc, up to a 0.
+/// The arcs that leave a node are `last[node] - 1`, then `previous[arc] - 1` after each arc, up to a 0.
 #[derive(Drop)]
 pub struct Graph<'a> {
     pub pipes: &'a [Pipe],

@@ -65,7 +65,7 @@ impl Network {
         })
     }
 
-    /// Adds a pipe behind the others, in the room that is left. Several pipes may join the same nodes.
+    /// Adds a pipe after the others, in the room that is left. Several pipes may join the same nodes.
     pub fn add_pipe(&mut self, pipe: Pipe)
         requires room { 0 < self.old.spare }
         requires pipe { IsPipeOf self.old.nodes pipe }

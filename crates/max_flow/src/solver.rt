@@ -131,7 +131,7 @@ fn is_thin(graph: &Graph, levels: &[u32]) -> bool
 }
 
 // Adds blocking flows to a flow of the value `first`, until the sink has no level. Unless it's the last time,
-// it may stop before, since the search comes behind. Returns the value of the flow, and leaves the last levels
+// it may stop before, since the search comes after it. Returns the value of the flow, and leaves the last levels
 // in the tables.
 fn run(
     graph: &Graph,
@@ -241,7 +241,7 @@ fn level_graphs(
 
 /// Finds a flow of greatest value, and of all least cuts the one whose source side is contained in that of
 /// every other, by Dinic's method (1970). Where it would take many phases, search trees (Boykov and Kolmogorov
-/// 2004) propose a flow that it goes on from. It answers want of memory alone.
+/// 2004) propose a flow that it goes on from. It answers out of memory alone.
 pub fn solve(alloc: Global, network: &Network) -> Result<Solved, AllocError>
     ensures flow { IfOk result (λ solved. IsFlow network.now solved.flow) }
     ensures value { IfOk result (λ solved. flow_value network.now solved.flow ≡ pos solved.value) }

@@ -28,8 +28,8 @@ enum Parent {
     Arc { number: u32, node: u32 },
 }
 
-// How far a node is from the end of its tree was true at the time of its stamp. One that is farther than can be
-// told has the greatest distance.
+// How far a node is from the end of its tree was true at the time of its stamp. One that is farther than
+// its number can say has the greatest distance.
 #[derive(Clone, Copy, Debug)]
 struct Node {
     stamp: u32,

@@ -109,7 +109,7 @@ module _ (job : MergeJob) (lawful : IsMergeJob job) (before after : Files) (pict
     summary_is = summary_is;
   }
 
--- what is told is told of such a run
+-- what is reported is that of such a run
 pub merge_told : (job : MergeJob) → IsMergeJob job → (summary : Summary) (before after : Files) → WritesAll (merge_command job) summary before after → IsToldOfMerge job summary before after
 merge_told job lawful summary before after (texts, (pictures, read, (marks, marks_read, (size, (marks_are, (within, (canvas, over, texts_are, summary_is)))))), wrote) =
     told job lawful before after pictures read marks marks_read (record { size = size; marks_are = marks_are; within = within }) canvas over

@@ -74,7 +74,7 @@ MergeHeadline words was now status =
     (job : MergeJob) → job_of words ≡ Ok (Merge job) → status ≡ 0
     → Changes was now (IsMergedRun job)
 
--- what is told of a merge: the size, how many pictures there are, and what the seams of its map
+-- what is reported of a merge: the size, how many pictures there are, and what the seams of its map
 -- cost in all
 abbrev pub told_of_merge : Pictures → SourceMap → Summary
 told_of_merge pictures m =

@@ -48,7 +48,7 @@ in_comment numbers b not_return not_feed = by_kind (kind_of b) refl
     by_kind Digit is = refl
     by_kind Other is = refl
 
--- a separator may begin behind this place, with these numbers read
+-- a separator may begin after this place, with these numbers read
 pub record Opens (scan : Scan) (numbers : Numbers) : Type 0 where
   pub blank : (b : ℕ) → kind_of b ≡ Blank → step_of exact scan b ≡ Some (Between numbers)
   pub line_end : (b : ℕ) → kind_of b ≡ LineEnd → step_of exact scan b ≡ Some (Between numbers)

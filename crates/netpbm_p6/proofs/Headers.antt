@@ -15,7 +15,7 @@ use Rattle.netpbm_p6.proofs.Runs.{exact, run_then, run_front, run_over, test_pos
 use Rattle.netpbm_p6.proofs.Accepts.{header_run}
 use Rattle.netpbm_p6.proofs.Shapes.{shape_of}
 
--- a way to complete the header from each place: the blank and the numbers behind a number
+-- a way to complete the header from each place: the blank and the numbers after a number
 abbrev tail_of : Numbers → List ℕ
 tail_of Nothing = 32 ∷ 49 ∷ 32 ∷ 49 ∷ 32 ∷ []
 tail_of (Width w) = 32 ∷ 49 ∷ 32 ∷ []
@@ -34,7 +34,7 @@ finish (Whole w h m) = []
 abbrev Completes : Scan → List ℕ → Type 0
 Completes s rest = (w : ℕ) × (h : ℕ) × (m : ℕ) × (run_of exact s rest ≡ Some (Whole w h m))
 
--- behind a digit the number is at least 1 at the end
+-- after a digit the number is at least 1 at the end
 tail_completes : (numbers : Numbers) (n : ℕ) → 1 ≤ n → Completes (Digits numbers n) (tail_of numbers)
 tail_completes Nothing n some = (n, 1, 1, ap (λ t. option_and_then (λ next. run_of exact next (49 ∷ 32 ∷ 49 ∷ 32 ∷ [])) (cond t None (Some (Between (Width n))))) (test_positive n some))
 tail_completes (Width w) n some = (w, n, 1, ap (λ t. option_and_then (λ next. run_of exact next (49 ∷ 32 ∷ [])) (cond t None (Some (Between (Both w n))))) (test_positive n some))

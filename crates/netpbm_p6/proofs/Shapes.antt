@@ -132,7 +132,7 @@ white_item b white = inl (b, white, refl)
 
 -- One byte more.
 
--- behind a text with these groups
+-- after a text with these groups
 opened_shape : (numbers : Numbers) (front : List ℕ) (b : ℕ) (kind : ByteKind) → kind_of b ≡ kind → HasGroups numbers front → IfSome (opened numbers kind) (λ next. HasShape next (front ++ b ∷ []))
 opened_shape numbers front b Blank is groups = record { front = front; separator = b ∷ []; groups = groups; separates = one_item (b ∷ []) (white_item b (blank_white b is)); is = refl }
 opened_shape numbers front b LineEnd is groups = record { front = front; separator = b ∷ []; groups = groups; separates = one_item (b ∷ []) (white_item b (line_end_white b is)); is = refl }

@@ -65,7 +65,7 @@ pub one_added_part : (name given p q : List ℕ) (a b : ShelfState) → given �
 one_added_part name given p q a b is first =
     told_weaker (AddsPart name p) (AddsPart name (p ++ q)) a.files b.files (once_part name p q) (subst (λ piece. Changes a b (AddsPart name piece)) is first)
 
--- a text of several pieces, behind a first one
+-- a text of several pieces, after a first one
 abbrev pub joined : List ℕ → List (List ℕ) → List ℕ
 joined text [] = text
 joined text (piece ∷ pieces) = joined (text ++ piece) pieces

@@ -24,7 +24,7 @@ pub record IsComment (text : List ℕ) : Type 0 where
 abbrev pub IsItem : List ℕ → Type 0
 IsItem text = ((b : ℕ) × IsWhite b × (text ≡ b ∷ [])) ⊎ IsComment text
 
--- one item or more, one behind another
+-- one item or more, one after another
 pub record IsSeparator (text : List ℕ) : Type 0 where
   pub items : List (List ℕ)
   pub some : 1 ≤ length items

@@ -29,7 +29,7 @@ opened numbers Hash = Some (Comment numbers)
 opened numbers Digit = None
 opened numbers Other = None
 
--- a byte behind an item of a separator
+-- a byte after an item of a separator
 abbrev pub separated : Numbers → ℕ → ByteKind → Option Scan
 separated numbers b Digit = Some (Digits numbers (b - 48))
 separated numbers b Blank = Some (Between numbers)
@@ -53,7 +53,7 @@ completed width height n Hash = None
 completed width height n Digit = None
 completed width height n Other = None
 
--- a byte behind a number of at least 1
+-- a byte after a number of at least 1
 abbrev pub ended : Numbers → ℕ → ByteKind → Option Scan
 ended Nothing n kind = opened (Width n) kind
 ended (Width width) n kind = opened (Both width n) kind
@@ -62,7 +62,7 @@ ended (Both width height) n kind = completed width height n kind
 abbrev pub number_end : Numbers → ℕ → ByteKind → Option Scan
 number_end numbers n kind = if n == 0 then None else ended numbers n kind
 
--- a byte behind a digit; a number is kept by `keep`
+-- a byte after a digit; a number is kept by `keep`
 abbrev pub after_digit : (ℕ → ℕ) → Numbers → ℕ → ℕ → ByteKind → Option Scan
 after_digit keep numbers n b Digit = Some (Digits numbers (keep (10 * n + (b - 48))))
 after_digit keep numbers n b Blank = number_end numbers n Blank

@@ -14,7 +14,7 @@ const PIECE: usize = 4096;
 
 const PIECES: u64 = 16;
 
-// A header that is still open where the file ends, behind `count` bytes of a piece, breaks off there.
+// A header that is still open where the file ends, after `count` bytes of a piece, breaks off there.
 fn cut_off(scanned: Scanned, count: usize, room: usize) -> Scanned
     ensures { result ≡ cut_at count room scanned }
 {
@@ -60,7 +60,7 @@ fn past(scanned: Scanned) -> ReadError
     }
 }
 
-// The refusal of a file whose header is still open behind `MOST_HEADER_BYTES` bytes.
+// The refusal of a file whose header is still open after `MOST_HEADER_BYTES` bytes.
 fn past_limit<S: Shelf>(shelf: &mut S, name: &str, scan: Scan) -> ReadError
     requires { IsOpenScan scan }
     ensures refusal { PassesAs name.now scan (S.state shelf.old) (S.state shelf.new) result }

@@ -35,7 +35,7 @@ pub enum Scan {
     Letter,
     /// Behind the magic.
     Magic,
-    /// In a separator, behind a whole item.
+    /// In a separator, after a whole item.
     Between(Numbers),
     /// In a comment.
     Comment(Numbers),
@@ -88,7 +88,7 @@ fn open(numbers: Numbers, kind: ByteKind) -> Option<Scan>
     }
 }
 
-// A byte behind an item of a separator.
+// A byte after an item of a separator.
 fn separate(numbers: Numbers, byte: u8, kind: ByteKind) -> Option<Scan>
     ensures { result ≡ separated numbers byte kind }
 {
@@ -118,7 +118,7 @@ fn complete(width: u64, height: u64, maxval: u64, kind: ByteKind) -> Option<Scan
     }
 }
 
-// A byte behind a number of at least 1.
+// A byte after a number of at least 1.
 fn end(numbers: Numbers, number: u64, kind: ByteKind) -> Option<Scan>
     ensures { result ≡ ended numbers number kind }
 {
@@ -129,7 +129,7 @@ fn end(numbers: Numbers, number: u64, kind: ByteKind) -> Option<Scan>
     }
 }
 
-// A byte behind a digit.
+// A byte after a digit.
 fn count(numbers: Numbers, number: u64, byte: u8, kind: ByteKind) -> Option<Scan>
     ensures { result ≡ after_digit capped numbers number byte kind }
 {

@@ -82,7 +82,7 @@ fn placement_over(
 /// full. In the grid it's the one candidate, and no draw is taken. All other modes pick among their
 /// candidates, by one draw: `Random` among all of them, `Whole` and `Sub` among those within their
 /// tolerance of the best. The one error is that there is no memory, for `Sub` also for the sums of the
-/// sample's blocks, which are made anew in each call; no draw is taken then.
+/// sample's blocks, which are made again in each call; no draw is taken then.
 pub fn next_placement(
     alloc: Global,
     mode: &Mode,

@@ -79,7 +79,7 @@ module _ (job : QuiltJob) (lawful : IsQuiltJob job) (before after : Files) (samp
   told : (summary : Summary) → summary ≡ quilt_summary job (quilt_of sample quilted) → IsToldOfRun job summary before after
   told summary is = record { run = run; summary_is = is ∙ (λ i. Quilt (quilt_size job) (length quilted.blocks) (quilt.boundaries i) (quilt.cost i)) }
 
--- what is told is told of such a run
+-- what is reported is that of such a run
 pub quilt_told : (job : QuiltJob) → IsQuiltJob job → (summary : Summary) (before after : Files) → WritesAll (quilt_command job) summary before after → IsToldOfRun job summary before after
 quilt_told job lawful summary before after (texts, (sample, read, (within, (none, (quilted, quilt, texts_are, summary_is)))), wrote) =
     told job lawful before after sample read within quilted quilt (wrote ∙ ap (λ ts. written (pieces (quilt_command job).writes ts) before) texts_are) summary summary_is

@@ -82,8 +82,8 @@ QuiltHeadline words was now status =
     (job : QuiltJob) → job_of words ≡ Ok (QuiltOf job) → status ≡ 0
     → Changes was now (IsQuiltedRun job)
 
--- what is told of a run: the asked size, how many blocks and boundaries its records have, and what
--- the boundaries cost
+-- what is reported of a run: the asked size, how many blocks and boundaries its records have, and
+-- what the boundaries cost
 abbrev pub told_of_blocks : QuiltJob → Cells → List BlockRecord → Summary
 told_of_blocks job sample blocks = Quilt (quilt_size job) (length blocks) (all_boundaries blocks)
     (quilt_cost sample (empty_map (quilt_size job)) blocks)

@@ -1,6 +1,6 @@
--- A reader has to trust this file. What is told of block records: how many boundaries they have, and
--- what these cost. (Efros and Freeman 2001 cut along the boundary of least cost; that the costs are
--- summed is own.)
+-- A reader has to trust this file. What is reported of block records: how many boundaries they
+-- have, and what these cost. (Efros and Freeman 2001 cut along the boundary of least cost; that
+-- the costs are summed is own.)
 use Rattle.std.specs.Prelude.{◌≡◌, ◌<◌, ◌≤◌, ◌+◌, ◌^◌, ℕ, List, [], ◌∷◌, All, length, IfSome, Option, Some, None}
 use Rattle.cells.specs.declared.place.Size.{Size}
 use Rattle.cells.specs.Cells.{Cells}

@@ -28,7 +28,7 @@ pub record CanBeQuilted (asked : QuiltRun) (sample : Cells) : Type 0 where
   pub part : IsOnePart sample
   pub sample_frame : sample.size.f ≡ 1
 
--- all that is left at the end: the whole run, what its records leave, and what is told of them
+-- all that is left at the end: the whole run, what its records leave, and what is reported of them
 pub record IsQuilt (asked : QuiltRun) (sample : Cells) (quilted : Quilted) : Type 0 where
   pub draws : DrawState
   pub run : IsQuilted asked.plan sample asked.size asked.seed quilted.blocks

@@ -4,9 +4,9 @@
 //! `next_block_with` from the empty canvas to a full one, with a record of each block, how many boundaries they
 //! have, and what these cost in all. It answers the limit at the first box that takes the cells of all boxes
 //! past `MOST_BOX_CELLS`. `there_is_one_quilt_limit` says that of what is asked and a sample there is one answer,
-//! want of memory apart (specs/OneLimit.antt).
+//! out of memory apart (specs/OneLimit.antt).
 //!
-//! `asked` has the types, `totals` what is told of a record, `steps` one step, `lay` the run.
+//! `asked` has the types, `totals` what is reported of a record, `steps` one step, `lay` the run.
 #![tactic(auto)]
 
 mod asked;

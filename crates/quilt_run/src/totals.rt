@@ -1,4 +1,4 @@
-// What is told of the record of a block.
+// What is reported of the record of a block.
 ghost use Rattle.std.specs.Prelude.{◌≡◌, ◌≤◌, ◌<◌, ◌+◌, ◌-◌, ◌^◌, ℕ, All, length, slice_index};
 ghost use Rattle.block_strips.specs.Strips.{strip_rows};
 ghost use Rattle.block_check.specs.Blocks.{HasColumnsOn, IsFormedBlock};

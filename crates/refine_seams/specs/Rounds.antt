@@ -1,5 +1,5 @@
 -- A reader has to trust this file. Rounds of refinement, each of which lays the window of greatest
--- cost anew. (Kwatra et al. 2003 refine an output where its seams cost the most; the size of the
+-- cost again. (Kwatra et al. 2003 refine an output where its seams cost the most; the size of the
 -- windows, and which of them comes first, are own.)
 use Rattle.std.specs.Prelude.{◌≡◌, ◌≤◌, ℕ, [], Option, Some, None, Result, Ok, Err}
 use Rattle.std.specs.declared.alloc.AllocError.{AllocError}

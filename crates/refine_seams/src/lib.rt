@@ -1,4 +1,4 @@
-//! Rounds of refinement: the window of an output whose seams cost the most is laid anew from the sample.
+//! Rounds of refinement: the window of an output whose seams cost the most is laid again from the sample.
 //!
 //! `round` promises one round as it is defined in specs/Rounds.antt: the worst window of a table of window
 //! sums (crate cost_windows), a pick among all places of the sample where it fits (crate patch_place), the least

@@ -51,11 +51,11 @@ pub fn round_windows(
     Ok(table)
 }
 
-/// One round of refinement: the window of a side whose seams cost the most is laid anew. Among all places of
+/// One round of refinement: the window of a side whose seams cost the most is laid again. Among all places of
 /// the sample where it fits one is picked by the next draw, within `tol` hundredths of the best, and put in
 /// by a graph cut. The canvas is full, and the table has the sums of its windows of the size that
 /// `window_size` gives, before and after. None where no window costs anything; nothing is changed then. The
-/// one error is that there is no memory, also for the sums of the sample's blocks, which are made anew in each
+/// one error is that there is no memory, also for the sums of the sample's blocks, which are made again in each
 /// call; it changes nothing.
 #[tactic(auto, using(crate::proofs::Rounding::stays_full))]
 pub fn round(

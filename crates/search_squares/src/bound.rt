@@ -24,7 +24,7 @@ const STRETCHES: usize = 32;
 // By how many bits differences are shifted up at most.
 const MOST_UP: u32 = 8;
 
-// How totals are told from a limit. They are counted in units of 2^16, and have 16 bits a lane.
+// How totals are compared with a limit. They are counted in units of 2^16, and have 16 bits a lane.
 #[derive(Clone, Copy, Drop)]
 struct Scale {
     // how many times differences are taken, so that few of their bits are lost

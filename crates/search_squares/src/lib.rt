@@ -17,7 +17,7 @@
 //! `blocks` has the blocks of a box, `order` which of them come first, `sums` the sums of the sample's blocks,
 //! `lanes` the sums over a run of places or of entries at once, `bound` what they rule out, `places` how far a
 //! run goes, `levels` all sizes together, `pauses` when one of them is left out, `eliminated` what a search is
-//! told. specs/Blocks.antt defines blocks and what they bound, specs/Eliminations.antt what a search may leave
+//! given. specs/Blocks.antt defines blocks and what they bound, specs/Eliminations.antt what a search may leave
 //! out.
 #![tactic(auto)]
 

@@ -104,7 +104,7 @@ module _ {F : Type 0} (name_of bytes_of : F → List ℕ) where
       ∙ ap (cond (same q name) (Some bytes)) (sym (get-from_entries nat_list_cmp_total (map entry files) q))
       ∙ sym (get-insert nat_list_cmp_total (map_of (map entry files)) name bytes q))
 
-  -- and so it is to put a file behind all where no one has its name
+  -- and so it is to put a file after all where no one has its name
   pub entry_behind : (name bytes : List ℕ) (g : F) (files : List F) → position (by_name name) files ≡ None → name_of g ≡ name → bytes_of g ≡ bytes
       → map_of (map entry (files ++ g ∷ [])) ≡ insert (map_of (map entry files)) name bytes
   entry_behind name bytes g files none own new =
@@ -132,7 +132,7 @@ put_over name bytes d g files i at item own new = entry_over mem_name mem_bytes 
 pub put_behind : (name bytes : List ℕ) (g : MemFile) (files : List MemFile) → position (is_named name) files ≡ None → g.name ≡ name → g.bytes ≡ bytes → files_of (files ++ g ∷ []) ≡ insert (files_of files) name bytes
 put_behind name bytes g files none own new = entry_behind mem_name mem_bytes name bytes g files none own new
 
--- a piece put behind the bytes of a file that is there
+-- a piece put after the bytes of a file that is there
 pub added_over : (name piece : List ℕ) (d g : MemFile) (files : List MemFile) (i : ℕ) → position (is_named name) files ≡ Some i → d ≡ get_or files i d → g.name ≡ d.name → g.bytes ≡ d.bytes ++ piece
     → files_of (set files i g) ≡ insert (files_of files) name (content_of (files_of files) name ++ piece)
 added_over name piece d g files i at item own new =

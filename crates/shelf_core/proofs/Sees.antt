@@ -26,7 +26,7 @@ sees_earlier P a b c seen reads = told_then (λ x y. P x) (λ x y. y ≡ x) (λ 
 pub sees_then : {names later : List (List ℕ)} (P Q R : Files → Type 0) (a b c : ShelfState) → ((files : Files) → P files → Q files → R files) → OnlyReads names a b → OnlyReads later b c → Sees a b P → Sees b c Q → Sees a c R
 sees_then P Q R a b c join first second p q = sees_both P Q R a c join (sees_earlier P a b c p second) (sees_later Q a b c first q)
 
--- nothing but that the files are told is needed
+-- nothing but that the files are known is needed
 pub sees_all : {names : List (List ℕ)} (P : Files → Type 0) (a b : ShelfState) → ((files : Files) → P files) → OnlyReads names a b → Sees a b P
 sees_all P a b holds reads = told_weaker (λ x y. y ≡ x) (λ x y. P x) a.files b.files (λ x y same. holds x) reads.files
 

@@ -196,7 +196,7 @@ sized_new name es none sized = sized_behind name es none sized
 pub new_passes : (room : ℕ) (name : List ℕ) (es : List (List ℕ × List ℕ)) → position (has_name name) es ≡ None → HasNamesOnce es → room < spent es + length name → room < size_of (insert (map_of es) name [])
 new_passes room name es none sized over = omega (arith, sized, over, size_insert (map_of es) name [], ap (taken name) (file_missing name es none))
 
--- the piece behind what was kept_bytes
+-- the piece after what was kept_bytes
 pub stored : (was now : List (List ℕ × List ℕ)) (name piece : List ℕ) (keeps : Bool) (i : ℕ) → Opens was now name keeps i
     → map_of (set now i ((get_or now i nothing).0, (get_or now i nothing).1 ++ piece)) ≡ written_over was name keeps piece
 stored was now name piece keeps i opens =
@@ -223,7 +223,7 @@ size_stored was now name piece keeps i opens sized =
       length-append own piece,
     )
 
--- what is told after a write
+-- what is known after a write
 pub told_fitting : (room : ℕ) (write : Files → Files) (files : Option Files) → Told files (fitting room (option_map write files)) (λ was now. now ≡ write was)
 told_fitting room write None = tt
 told_fitting room write (Some files) = fits (nat_le (size_of (write files)) room)

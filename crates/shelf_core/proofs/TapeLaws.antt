@@ -1,4 +1,4 @@
--- Laws of files that stand one behind another in one list of bytes: what is found, and what an edit of the bytes changes.
+-- Laws of files that stand one after another in one list of bytes: what is found, and what an edit of the bytes changes.
 use Rattle.std.proofs.Common.{◌≡◌, ℕ, zero, suc, ◌+◌, ◌-◌, ◌<◌, ◌≤◌, List, [], ◌∷◌, ◌++◌, length, get_or, take, drop, refl, sym, ap, ◌∙◌, arith, Bool, true, false, cond, nat_eq, ne_eqb, add-one, zero-add, add-zero, add_assoc, append_assoc, append-nil, take-append-drop, take-add, length-take-le, length-drop, length-append, drop_of_length-le}
 use Rattle.std.proofs.lemmas.List.{drop-drop, nil_from_length}
 use Rattle.std.proofs.Math.ListN.{set}
@@ -55,7 +55,7 @@ cut_one s after name own back named sized = λ i. (first i, second i) ∷ cut af
     rest : drop (s.name + s.bytes) (name ++ (own ++ back)) ≡ back
     rest = sym (drop-drop s.bytes s.name (name ++ (own ++ back))) ∙ ap (drop s.bytes) behind ∙ ap (λ n. drop n (own ++ back)) sized ∙ drop-append_seam own back
 
--- the first file stays whatever stands behind it
+-- the first file stays whatever stands after it
 cut_front : (s : TapeSpan) (after : List TapeSpan) (bytes back : List ℕ) → s.name + s.bytes ≤ length bytes
     → cut (s ∷ after) (take (s.name + s.bytes) bytes ++ back) ≡ (take s.name bytes, take s.bytes (drop s.name bytes)) ∷ cut after back
 cut_front s after bytes back within =
@@ -75,7 +75,7 @@ spent_cut (s ∷ spans) bytes covered =
     let own = length-take-le s.bytes (drop s.name bytes) (omega (arith, length-drop s.name bytes)) in
     omega (arith, rest, name, own, length-drop (s.name + s.bytes) bytes)
 
--- file i stands behind those before it
+-- file i stands after those before it
 pub cut_at : (i : ℕ) (spans : List TapeSpan) (bytes : List ℕ) (s : TapeSpan) (d : List ℕ × List ℕ) → i < length spans → s ≡ get_or spans i no_span
     → get_or (cut spans bytes) i d ≡ (take s.name (drop (spanned (take i spans)) bytes), take s.bytes (drop (spanned (take i spans) + s.name) bytes))
 cut_at i [] bytes s d lt at = absurd (omega arith)
@@ -118,7 +118,7 @@ pub cut_cleared : (i : ℕ) (spans : List TapeSpan) (bytes : List ℕ) (s : Tape
     → cut (set spans i (record { name = s.name; bytes = 0 })) (take (spanned (take i spans) + s.name) bytes ++ drop ((spanned (take i spans) + s.name) + s.bytes) bytes) ≡ set (cut spans bytes) i ((get_or (cut spans bytes) i d).0, [])
 cut_cleared i spans bytes s d covered lt at = cut_set i spans bytes [] s (record { name = s.name; bytes = 0 }) d covered lt at refl refl
 
--- a file with a piece behind its bytes
+-- a file with a piece after its bytes
 pub cut_appended : (i : ℕ) (spans : List TapeSpan) (bytes piece : List ℕ) (s : TapeSpan) (d : List ℕ × List ℕ) → spanned spans ≡ length bytes → i < length spans → s ≡ get_or spans i no_span
     → cut (set spans i (record { name = s.name; bytes = s.bytes + length piece })) (take ((spanned (take i spans) + s.name) + s.bytes) bytes ++ (piece ++ drop ((spanned (take i spans) + s.name) + s.bytes) bytes))
     ≡ set (cut spans bytes) i ((get_or (cut spans bytes) i d).0, (get_or (cut spans bytes) i d).1 ++ piece)
@@ -132,7 +132,7 @@ cut_appended i spans bytes piece s d covered lt at =
     ∙ cut_set i spans bytes (own ++ piece) s t d covered lt at refl (omega (arith, length-append own piece, long))
     ∙ ap (λ (file : List ℕ × List ℕ). set (cut spans bytes) i ((get_or (cut spans bytes) i d).0, file.1 ++ piece)) (sym (cut_at i spans bytes s d lt at))
 
--- a file with no byte behind all
+-- a file with no byte after all
 pub cut_pushed : (spans : List TapeSpan) (bytes name : List ℕ) (s : TapeSpan) → spanned spans ≡ length bytes → s.name ≡ length name → s.bytes ≡ 0 → cut (spans ++ s ∷ []) (bytes ++ name) ≡ cut spans bytes ++ (name, []) ∷ []
 cut_pushed [] bytes name s covered named empty =
     ap (λ (l : List ℕ). cut (s ∷ []) (l ++ name)) (nil_from_length bytes (sym covered)) ∙ ap (cut (s ∷ [])) (sym (append-nil name)) ∙ cut_one s [] name [] [] named empty

@@ -1,4 +1,4 @@
--- The steps of everything that is written in several pieces: a file is begun and pieces are added, and a sink is told pieces of a line.
+-- The steps of everything that is written in several pieces: a file is begun and pieces are added, and a sink is given pieces of a line.
 use Rattle.std.proofs.Common.{◌≡◌, ℕ, ◌≤◌, ◌⊎◌, inl, inr, List, [], ◌++◌, length, take, drop, sym, ap, ◌∙◌, append_assoc}
 use Rattle.std.proofs.lemmas.List.{take-append-drop, append-nil}
 use Rattle.std.proofs.Math.Seq.{take-append_seam}
@@ -66,20 +66,20 @@ pub shelf_added_part : (name text piece rest : List ℕ) (a b c : ShelfState) �
 shelf_added_part name text piece rest a b c holds step =
     told_then (HoldsText name text) (λ was now. (now ≡ was) ⊎ GrowsByPrefix was name piece now) (HoldsPart name ((text ++ piece) ++ rest)) a.files b.files c.files (added_part name text piece rest) holds step
 
--- A sink, which is told a line in several pieces.
+-- A sink, which is given a line in several pieces.
 
--- nothing was told yet
+-- nothing was given yet
 pub told_nothing : (a : SinkState) → Told a.bytes a.bytes (λ was now. now ≡ was ++ [])
 told_nothing a = told_weaker (λ was now. now ≡ was) (λ was now. now ≡ was ++ []) a.bytes a.bytes (λ was now same. same ∙ sym (append-nil was)) (told_same a.bytes)
 
--- one more piece was told
+-- one more piece was given
 pub told_more : (text piece : List ℕ) (a b c : SinkState) → Told a.bytes b.bytes (λ was now. now ≡ was ++ text)
     → Told b.bytes c.bytes (λ was now. now ≡ was ++ piece) → Told a.bytes c.bytes (λ was now. now ≡ was ++ (text ++ piece))
 told_more text piece a b c so_far step =
     told_then (λ was now. now ≡ was ++ text) (λ was now. now ≡ was ++ piece) (λ was now. now ≡ was ++ (text ++ piece)) a.bytes b.bytes c.bytes
     (λ x y z first second. second ∙ ap (λ bytes. bytes ++ piece) first ∙ append_assoc x _ _) so_far step
 
--- one more piece was told in part: a prefix of the whole line stands there, whatever was to follow
+-- one more piece was taken in part: a prefix of the whole line stands there, whatever was to follow
 pub told_part : (text piece rest : List ℕ) (a b c : SinkState) → Told a.bytes b.bytes (λ was now. now ≡ was ++ text)
     → Told b.bytes c.bytes (λ was now. IsPrefixAdded was piece now) → Told a.bytes c.bytes (λ was now. IsPrefixAdded was ((text ++ piece) ++ rest) now)
 told_part text piece rest a b c so_far step =
@@ -94,7 +94,7 @@ told_part text piece rest a b c so_far step =
               ∙ ap (λ bytes. x ++ bytes) (front (text ++ kept) (drop second.0 piece ++ rest) ((text ++ piece) ++ rest) (added_front text piece rest second.0)),
         )
 
--- the whole line was told
+-- the whole line was given
 pub says_whole : (line : List ℕ) (a b : SinkState) → Told a.bytes b.bytes (λ was now. now ≡ was ++ line) → Says a b line
 says_whole line a b told = inl told
 

@@ -27,8 +27,8 @@ pub record SinkState : Type 0 where
 abbrev pub content_of : Files → List ℕ → List ℕ
 content_of files name = unwrap_or (map.get files name) []
 
--- what is told at the exit was told at the entry, and a step leads from this to that; nothing is
--- said where nothing is told at the exit
+-- what is known at the exit was known at the entry, and a step leads from this to that; nothing is
+-- said where nothing is known at the exit
 abbrev pub Told : {C : Type 0} → Option C → Option C → (C → C → Type 0) → Type 0
 Told was None step = Unit {0}
 Told None (Some now) step = ⊥
@@ -102,11 +102,11 @@ pub record Reads (bytes : List ℕ) (at : ℕ) (into : List ℕ) (n : ℕ) : Typ
   pub count : n ≡ min (length into) (length bytes - at)
   pub read : take n into ≡ take n (drop at bytes)
 
--- some of a piece, from its front, stands behind what there was
+-- some of a piece, from its front, stands after what there was
 abbrev pub IsPrefixAdded : List ℕ → List ℕ → List ℕ → Type 0
 IsPrefixAdded was piece now = (n : ℕ) × (now ≡ was ++ take n piece)
 
--- some of a piece, from its front, stands behind the bytes of one file
+-- some of a piece, from its front, stands after the bytes of one file
 abbrev pub GrowsByPrefix : Files → List ℕ → List ℕ → Files → Type 0
 GrowsByPrefix was name piece now = (n : ℕ)
     × (now ≡ map.insert was name (content_of was name ++ take n piece))

@@ -22,7 +22,7 @@ pub record MemSinkState : Type 0 where
   pub listings : List Listing
   pub faults : ℕ
 
--- what the trait sees of each: files and bytes are told, and the counts are those of every name
+-- what the trait sees of each: files and bytes are known, and the counts are those of every name
 abbrev pub mem_shelf_state : MemShelfState → ShelfState
 mem_shelf_state m = record {
   files = Some m.files;

@@ -36,7 +36,7 @@ fitting room (Some files) = if nat_le (size_of files) room then Some files else 
 abbrev pub after_write : SureShelfState → (Files → Files) → SureShelfState
 after_write was write = record was { files = fitting was.room (option_map write was.files) }
 
--- the bytes of the named file; none where it is missing, and where nothing is told
+-- the bytes of the named file; none where it is missing, and where nothing is known
 abbrev pub told_content : SureShelfState → List ℕ → List ℕ
 told_content s name = unwrap_or (option_and_then (λ files. fin.get files name) s.files) []
 
@@ -54,7 +54,7 @@ after_piece was piece =
 abbrev pub kept_bytes : Bool → List ℕ → List ℕ
 kept_bytes keeps bytes = if keeps then bytes else []
 
--- the files, each a name and its bytes, after a piece was put behind what is kept_bytes of the
+-- the files, each a name and its bytes, after a piece was put after what is kept_bytes of the
 -- named one
 abbrev pub written_over : List (List ℕ × List ℕ) → List ℕ → Bool → List ℕ → Files
 written_over files name keeps piece = fin.insert (map_of files) name

@@ -1,5 +1,5 @@
 -- A reader has to trust this file. What stands after texts are written to files one after another,
--- and what a sink was told. (Own.)
+-- and what a sink was given. (Own.)
 use Rattle.std.specs.Prelude.{◌≡◌, ◌⊎◌, ℕ, List, [], ◌∷◌, ◌++◌, take, drop}
 use Rattle.std.specs.FinMap as map
 use Rattle.shelf_core.specs.Files.{Files, ShelfState, SinkState, Told, Changes, Rose, IsPrefixAdded}
@@ -32,7 +32,7 @@ pub record Untouched (was now : ShelfState) (out out' : SinkState) : Type 0 wher
   pub files : Changes was now (λ before after. after ≡ before)
   pub added : Told out.bytes out'.bytes (λ before after. after ≡ before)
 
--- a sink has been told a line: it has the line, or it has failed and has a prefix of the line
+-- a sink has been given a line: it has the line, or it has failed and has a prefix of the line
 abbrev pub Says : SinkState → SinkState → List ℕ → Type 0
 Says err err' line =
     Told err.bytes err'.bytes (λ before after. after ≡ before ++ line)

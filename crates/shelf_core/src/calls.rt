@@ -7,7 +7,7 @@ use crate::bytes::Bytes;
 use std::alloc::Global;
 use std::marker::Model;
 
-/// The names of calls, in their order, while there is memory for them. Once it was refused none are told.
+/// The names of calls, in their order, while there is memory for them. Once it was refused none are given.
 #[derive(Drop)]
 pub struct Calls {
     names: Vec<Bytes>,

@@ -68,7 +68,7 @@ fn content<'a>(files: &'a [MemFile], name: &[u8]) -> Option<&'a [u8]>
     Some(files[i].bytes.as_slice())
 }
 
-// Puts bytes in the place of those of a name, or behind all.
+// Puts bytes in the place of those of a name, or after all.
 fn put(alloc: Global, files: &mut Vec<MemFile>, name: &[u8], bytes: Bytes) -> Result<(), AllocError>
     ensures ok { OnOk result (files_of files.new.items ≡
         map.insert (files_of files.old.items) name.now bytes) }
@@ -87,7 +87,7 @@ fn put(alloc: Global, files: &mut Vec<MemFile>, name: &[u8], bytes: Bytes) -> Re
     }
 }
 
-// Puts a piece behind the bytes of a name, which are none where it is missing.
+// Puts a piece after the bytes of a name, which are none where it is missing.
 fn extend(
     alloc: Global,
     files: &mut Vec<MemFile>,

@@ -65,7 +65,7 @@ fn open(tape: &mut Tape, name: &[u8], keeps: bool) -> Option<usize>
     }
 }
 
-// Puts a piece behind what is kept of a file, where the files then fit, and says whether they do.
+// Puts a piece after what is kept of a file, where the files then fit, and says whether they do.
 fn store(tape: &mut Tape, name: &[u8], keeps: bool, piece: &[u8]) -> bool
     requires { HasNamesOnce tape.old.files }
     ensures room { tape.new.room ≡ tape.old.room }
@@ -115,7 +115,7 @@ impl SureShelf {
         Some(self.tape.content(i))
     }
 
-    // Puts a piece behind what is kept of a file, as far as the room goes.
+    // Puts a piece after what is kept of a file, as far as the room goes.
     fn write(&mut self, name: &[u8], keeps: bool, piece: &[u8])
         ensures after { self.new ≡ after_write self.old
             (λ files. map.insert files name.now

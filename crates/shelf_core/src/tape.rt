@@ -1,7 +1,7 @@
-// Files one behind another in one buffer, whose memory is taken when it is made.
+// Files one after another in one buffer, whose memory is taken when it is made.
 //
 // Each file stands as its name and then its bytes; a span has the lengths of both. A write moves
-// the bytes behind it, and takes no memory.
+// the bytes after it, and takes no memory.
 ghost use Rattle.std.specs.Prelude.{◌≡◌, ◌+◌, ◌^◌, ◌<◌, ◌≤◌, ◌++◌, [], ◌∷◌, IfOk, None, position, length, take, drop, vec_len, vec_capacity, slice_index_or, slice_set};
 ghost use Rattle.shelf_core.specs.Tapes.{has_name, no_span, cut, spent, spanned};
 
@@ -88,7 +88,7 @@ fn find(spans: &[TapeSpan], bytes: &[u8], name: &[u8]) -> Option<usize>
     None
 }
 
-// Puts a piece behind all, where the capacity has room for it, so that no memory is asked for.
+// Puts a piece after all, where the capacity has room for it, so that no memory is asked for.
 fn put_behind(bytes: &mut Vec<u8>, piece: &[u8])
     requires { vec_len bytes.old + length piece.now ≤ vec_capacity bytes.old }
     ensures items { bytes.new.items ≡ bytes.old.items ++ piece.now }
@@ -170,7 +170,7 @@ impl Tape {
         self.spans[i].bytes = 0;
     }
 
-    // Puts a piece that there is room for behind the bytes of a file.
+    // Puts a piece that there is room for after the bytes of a file.
     pub fn append(&mut self, i: usize, piece: &[u8])
         requires within { i < length self.old.files }
         requires fits { spent self.old.files + length piece.now ≤ self.old.room }
@@ -187,7 +187,7 @@ impl Tape {
         self.spans[i].bytes += piece.len();
     }
 
-    // Puts a file with no byte behind all, whose name is new and has room.
+    // Puts a file with no byte after all, whose name is new and has room.
     pub fn push(&mut self, name: &[u8]) -> usize
         requires new { position (has_name name.now) self.old.files ≡ None }
         requires fits { spent self.old.files + length name.now ≤ self.old.room }

@@ -126,7 +126,7 @@ source_stood Two samples at bytes source end small le is =
     ended (source_field Two samples) (Some from) source at b.x.1 end bytes b.two
     (subst (λ q. Stood at b.x.1 q bytes) spelled (both_stood at a.x.1 b.x.1 (field_16 a.x.0) (place_field b.x.0) bytes number p.stood))
 
--- a map of cells, behind the output's size
+-- a map of cells, after the output's size
 samples_stood : (version : Version) (output : Size) → Spelled (samples_read version output) (sizes_field version)
 samples_stood version output at bytes sizes end small le is =
     let a = peel {A = List Size × ℕ} {C = List Size × ℕ} (sizes_read version at bytes) (λ samples. cells_rule output >>= λ few. Ok samples) (sizes, end) is in
@@ -150,7 +150,7 @@ cells_stood version output kind from at bytes value end small zero_is start is =
     ended map_form (Cells b.x.0 a.x.0 version) value from b.x.1 end bytes b.two
     (ended (λ m. map_form (Cells m a.x.0 version)) m b.x.0 from c.x.1 b.x.1 bytes c.two all)
 
--- a frame map, behind the output's size
+-- a frame map, after the output's size
 same_code : (n at m x : ℕ) → same_rule n at m ≡ Ok x → m ≡ x
 same_code n at m x is = (passed (nat_eq m n) m x (Bad (Form at)) is).1
 

@@ -53,7 +53,7 @@ pub peel : {A C : Type 0} (first : Result A ReadError) (second : A → Result C 
 peel (Ok x) second y is = record { x = x; one = refl; two = is }
 peel (Err e) second y is = never e y is
 
--- nothing, and one piece behind another
+-- nothing, and one piece after another
 pub none_stood : (at : ℕ) (bytes : List ℕ) → at ≤ length bytes → Stood at at [] bytes
 none_stood at bytes le = record { is = refl; end_is = omega arith; within = le }
 

@@ -28,7 +28,7 @@ abbrev pub version_number : Version → ℕ
 version_number One = 1
 version_number Two = 2
 
--- how many samples there are; not told in version 1
+-- how many samples there are; not written in version 1
 abbrev pub count_field : Version → ℕ → List ℕ
 count_field One n = []
 count_field Two n = field_16 n

@@ -228,7 +228,7 @@ IsVersionOneMap (Cells m samples version) = version ≡ One
 IsVersionOneMap (Frames size sample frames) = ⊥
 
 -- what a reader of the named file leaves and answers, by what its bytes are read as. A read fault has
--- its cause, and want of memory is free
+-- its cause, and out of memory is free
 abbrev pub MapReadsBy : (List ℕ → Result MapFile ReadError) → List ℕ → ShelfState → ShelfState
     → Result MapFile ReadError → Type 0
 MapReadsBy read name was now (Err ReadFault) = ReadsRose name was now

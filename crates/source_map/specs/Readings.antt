@@ -23,7 +23,7 @@ piece_read n at bytes =
     if nat_le (at + n) (length bytes) then Ok (take n (drop at bytes), at + n)
     else Err (Bad (Form (length bytes)))
 
--- what a rule makes of the bytes of a field, which is told its place
+-- what a rule makes of the bytes of a field, which is given its place
 abbrev pub field_read : {A : Type 0} → ℕ → (ℕ → List ℕ → Result A ReadError) → ℕ → List ℕ
     → Result (A × ℕ) ReadError
 field_read n rule at bytes =
@@ -63,7 +63,7 @@ pub record Found {A : Type 0} (name : List ℕ) (place : ℕ) (now : ShelfState)
   pub is : OfFile name now.files (λ bytes. read place bytes ≡ Ok (x, r.at))
 
 -- what a reader of the named file leaves and answers that stood at a place: what its bytes are read
--- as from there on. A read fault has its cause; `memory` is that of want of memory
+-- as from there on. A read fault has its cause; `memory` is that for out of memory
 abbrev pub ReadsFrom : {A : Type 0} → Type 0 → List ℕ → ℕ → ShelfState → ShelfState → Reading
     → (ℕ → List ℕ → Result (A × ℕ) ReadError) → Result A ReadError → Type 0
 ReadsFrom memory name place was now r read (Ok x) = Found name place now r read x

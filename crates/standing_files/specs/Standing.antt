@@ -207,7 +207,7 @@ pub record FilesStand (samples : Samples) (out : Sample)
   pub left : LeaveMap record_file map_file
   pub copied : AllCopied samples.volume out.volume map_file
 
--- a rule of whole files, which is told with the number 0
+-- a rule of whole files, which is reported with the number 0
 pub record IsWholeRule (number rule rule_of : ℕ) : Type 0 where
   pub number_is : number ≡ 0
   pub rule_is : rule ≡ rule_of

@@ -1,4 +1,4 @@
--- A text that is told in pieces: what was told up to a piece, and where the telling stops.
+-- A text that is given in pieces: what was given up to a piece, and where the giving stops.
 use Rattle.std.proofs.Common.{◌≡◌, ℕ, zero, suc, ◌+◌, ◌≤◌, ◌<◌, inl, inr, List, [], ◌∷◌, ◌++◌, length, get_or, take, drop, refl, sym, ap, ◌∙◌, subst, arith, append_assoc, add-one}
 use Rattle.std.specs.Prelude.{Result, Ok, Err, IsErr}
 use Rattle.std.proofs.lemmas.List.{append-nil, take_all}
@@ -30,7 +30,7 @@ module _ {A : Type 0} (text : A → List ℕ) where
   up_to (p ∷ pieces) zero d lt = append-nil (text p)
   up_to (p ∷ pieces) (suc i) d lt = ap (λ rest. text p ++ rest) (up_to pieces i d (omega arith)) ∙ sym (append_assoc (text p) _ _)
 
-  -- the first i pieces were told
+  -- the first i pieces were given
   pub record SoFar (pieces : List A) (i : ℕ) (was now : SinkState) : Type 0 where
     pub told : Told was.bytes now.bytes (λ before after. after ≡ before ++ joined_texts text (take i pieces))
     pub counted : was.faults ≤ now.faults

@@ -1,4 +1,4 @@
--- A sink that is told a text in pieces. To be trusted: contracts cite it. (Own.)
+-- A sink that is given a text in pieces. To be trusted: contracts cite it. (Own.)
 use Rattle.std.specs.Prelude.{◌≡◌, ◌≤◌, ℕ, List, [], ◌∷◌, ◌++◌, Option, Some, None, Result, OnOk, OnErr, decimal}
 use Rattle.shelf_core.specs.declared.fault.WriteFault.{WriteFault}
 use Rattle.shelf_core.specs.Files.{SinkState, Told, Rose}

@@ -1,4 +1,4 @@
-// A text that is told in pieces, one after another.
+// A text that is given in pieces, one after another.
 ghost use Rattle.synth_report.specs.Telling.{piece_text, joined_texts, TellsText};
 
 use itoa::Buffer;

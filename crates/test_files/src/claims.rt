@@ -27,7 +27,7 @@ const BLOCKS: &[u8] = b"\x01\0\0\0\x06\0\0\0\x01\0\0\0\x01\0\0\0\x04\0\0\0\x01\0
 
 const WALK: &[u8] = b"\x02\0\0\0\x01\0\0\0\x01\0\0\x10\0\0\0\0\x01\0\0\0\x01\0\0\x01\0";
 
-// A file that ends behind a claim: its sizes, what follows them, how many zeros come then, and how many KiB a reader may take.
+// A file that ends after a claim: its sizes, what follows them, how many zeros come then, and how many KiB a reader may take.
 const CLAIMS: &[(&[u8], &[u8], usize, u64)] = &[
     // 2^32 - 1 records.
     (CUTS, b"\xff\xff\xff\xff", 0, 1024),

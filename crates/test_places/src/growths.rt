@@ -79,7 +79,7 @@ const SIX: Size = Size { w: 6, h: 1, f: 1 };
 const SIX_COLUMNS: [(i32, i32); 6] = [(0, 0), (1, 0), (2, 0), (1, 0), (2, 0), (3, 0)];
 
 // A row of 10, 20, 30 and 40 is grown to six cells by a grid that overlaps by two: the third cell is kept, and
-// the fourth is new. A round lays the first window anew, all of whose choices cost the same.
+// the fourth is new. A round lays the first window again, all of whose choices cost the same.
 #[test]
 fn row_of_four_grown_to_six(rt: HostRuntime) -> Result<(), Fail> {
     let sample = greys(rt.alloc())?;

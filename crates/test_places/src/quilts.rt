@@ -12,7 +12,7 @@ use std::alloc::{AllocError, Global};
 use std::process::Abort;
 use std::test::Fail;
 
-// Quilts a row of so many cells, and sees which columns of the sample its cells have, and what is told of it.
+// Quilts a row of so many cells, and sees which columns of the sample its cells have, and what is reported of it.
 fn expect_row(
     rt: &impl Abort,
     alloc: Global,

@@ -4,7 +4,7 @@ use patch_place::Draws;
 use refine_seams::{round, round_windows};
 use std::test::Fail;
 
-// A row of two copies that overlap by two cells. Its first window is laid anew by one draw: nothing but the sample's
+// A row of two copies that overlap by two cells. Its first window is laid again by one draw: nothing but the sample's
 // own place fits, and what it leaves costs no less.
 #[test]
 fn one_round(rt: HostRuntime) -> Result<(), Fail> {

@@ -23,7 +23,7 @@ const ACROSS: Wrap = Wrap {
     f: false,
 };
 
-// What is told of a step: where its box begins, how many cells it has in a row, and the column of the sample
+// What is seen of a step: where its box begins, how many cells it has in a row, and the column of the sample
 // that it is copied from.
 type Laid = Option<(i32, u32, i32)>;
 

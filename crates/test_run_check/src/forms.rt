@@ -22,7 +22,7 @@ const PICTURES_AND_MAPS: &[Verdict<'static>] = &[
         line: "weave: out: value at 11\n",
         ..FORM
     },
-    // Of three files that break their forms the first is told.
+    // Of three files that break their forms the first is reported.
     Verdict {
         bytes: &[("o", 0, b'Q'), ("m", 0, 0), ("r", 0, 0)],
         line: "weave: out: form at 0\n",

@@ -97,7 +97,7 @@ const BROKEN_FILES: &[Upgrade<'static>] = &[
         line: "weave: map: form at 8\n",
         ..REFUSED
     },
-    // Version 2 is told before anything that follows it.
+    // Version 2 is refused before anything that follows it.
     Upgrade {
         map: b"WEAVEMAP\x02",
         line: "weave: map: form at 8\n",

@@ -94,7 +94,7 @@ const WHOLE_FILES: &[Verdict<'static>] = &[
         report: "fails record 0 rule 17 place 0\n",
         ..BROKEN
     },
-    // Of several broken rules the first is told: that of whole files before those of records, those of the first record
+    // Of several broken rules the first is reported: that of whole files before those of records, those of the first record
     // before those of the second, those of records before that of the map, and that before that of the picture.
     Verdict {
         bytes: &[("o", 9, b'4'), ("r", 87, 0xf0)],

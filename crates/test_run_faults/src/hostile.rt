@@ -1,4 +1,4 @@
-// Files that are refused, read by every command that reads such files. What each breaks is told
+// Files that are refused, read by every command that reads such files. What each breaks is said
 // with the name of the file, and every file stays as it was.
 use crate::files::{FOUR_FRAMES, ONE_GREY, TWO_CELLS};
 use shelf_core::{MemShelf, MemSink};

@@ -5,7 +5,7 @@ use test_stage::{
     wrong_case,
 };
 
-// After one round: the count is 3, and the third record lays the first window anew.
+// After one round: the count is 3, and the third record lays the first window again.
 const ROUND_RECORD: &[u8] = b"WEAVEREC\x01\x00\
 \x00\x00\x00\x06\x00\x00\x00\x01\x00\x00\x00\x01\
 \x00\x00\x00\x04\x00\x00\x00\x01\x00\x00\x00\x01\

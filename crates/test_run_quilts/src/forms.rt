@@ -49,7 +49,7 @@ const FORMS: &[Verdict<'static>] = &[
         line: "weave: record: form at 64\n",
         ..FORM
     },
-    // A block of 65,535 cells on each axis, told at the last number of its size.
+    // A block of 65,535 cells on each axis, reported at the last number of its size.
     Verdict {
         bytes: &[
             ("r", 55, 0xff),

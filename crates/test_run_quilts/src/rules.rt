@@ -70,7 +70,7 @@ const BLOCKS: &[Verdict<'static>] = &[
         report: "fails record 2 rule 10 place 1\n",
         ..BROKEN
     },
-    // Of two broken rules the first is told: a source past the end of the sample before a column past the strip, that column before a
+    // Of two broken rules the first is reported: a source past the end of the sample before a column past the strip, that column before a
     // sum, and a sum before a cost.
     Verdict {
         bytes: &[("r", 60, 1), ("r", 67, 2)],

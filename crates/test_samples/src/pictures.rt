@@ -229,7 +229,7 @@ fn fields(rt: HostRuntime) -> Result<(), Fail> {
     Ok(())
 }
 
-// Whether a read fault is told where a get fails after so many others.
+// Whether a read fault is reported where a get fails after so many others.
 fn tells_read_fault(alloc: Global, after: u8) -> Result<bool, Fail> {
     let mut shelf = MemShelf::new(alloc);
     shelf.put_file("sample", FOUR_BY_ONE)?;

@@ -52,7 +52,7 @@ pub record IsTiledOutput (job : TileJob) (before after : Files) : Type 0 where
   pub others : (name : List ℕ) → name ≢ job.out → name ≢ job.map
       → fin.get after name ≡ fin.get before name
 
--- what is told of a run: the asked size, how many steps it has, and the torus total of its map
+-- what is reported of a run: the asked size, how many steps it has, and the torus total of its map
 abbrev pub told_of_tiling : {job : TileJob} {before after : Files} → IsTiledOutput job before after
     → Summary
 told_of_tiling {job} made =

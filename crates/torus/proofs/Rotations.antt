@@ -1,4 +1,4 @@
--- Sums over whole axes may begin anywhere, where the terms begin anew after a turn.
+-- Sums over whole axes may begin anywhere, where the terms begin again after a turn.
 use Rattle.std.proofs.Common.{◌≡◌, ℕ, ◌+◌, ◌-◌, ◌<◌, ◌≤◌, ap, sym, ◌∙◌, arith}
 use Rattle.cells.specs.declared.place.Size.{Size}
 use Rattle.boxes.specs.Sums.{sum_box, sum_to}

@@ -1,4 +1,4 @@
--- The headline of `trial`: what is told when it ends with status 0. To be trusted: contracts cite
+-- The headline of `trial`: what is reported when it ends with status 0. To be trusted: contracts cite
 -- these words. (Own.)
 use Rattle.std.specs.Prelude.{◌≡◌, ℕ, List}
 use Rattle.shelf_core.specs.Files.{ShelfState, SinkState, Changes}
@@ -10,7 +10,7 @@ use Rattle.command.specs.Writing.{Reported}
 use Rattle.trial_command.specs.Trials.{IsTrialOf}
 
 -- whenever `trial` ends with status 0, no file is changed, and the report is that of what is grown,
--- each record of which stands; there is one such report, whichever run it is told of
+-- each record of which stands; there is one such report, whichever run it is of
 pub record TrialHeadline (words : List (List ℕ)) (was now : ShelfState) (out out' : SinkState)
     (status : ℕ) : Type 0 where
   pub told : (job : TrialJob) → Asks words (Trial job) → status ≡ 0

@@ -24,7 +24,7 @@ fn ground(i: u32) -> u8
     if squares % 2 == 0 { 0 } else { 96 }
 }
 
-// Puts byte j behind those before it.
+// Puts byte j after those before it.
 fn add_byte(bytes: &mut Vec<u8>, draws: &mut Draws, j: u32) -> Result<(), AllocError>
     requires place { draws.old.place ≡ j }
     ensures byte { OnOk result

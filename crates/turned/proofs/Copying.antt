@@ -371,7 +371,7 @@ part_turn_is v sizes number turn size volume same from to lt is = record {
         subst (λ (xs : List Size). IsSmall (sample_size xs number)) (sym same)
         (subst IsSmall (numbered v number from within).size (part_volume v volume number turn from within).small)
 
--- and the cells of a turned part, told over the same sizes
+-- and the cells of a turned part, said over the same sizes
 module _ (v : Cells) (sizes : List Size) (it : PartTurn) (is : IsPartTurn v sizes it) (volume : IsVolume v) where
   within_it : it.number ≤ length (sizes_of v)
   within_it = subst (λ (xs : List Size). it.number ≤ length xs) is.sizes_are is.to

@@ -1,5 +1,5 @@
 -- What a reader has to trust: the eight turns of a frame, each a mirror or none and then up to three
--- quarter turns, told by the cell that comes to each place. All frames of a part are turned alike. (Own;
+-- quarter turns, given by the cell that comes to each place. All frames of a part are turned alike. (Own;
 -- the eight symmetries of a square.)
 use Rattle.std.specs.Prelude.{◌/◌, ◌%◌, ℕ, zero, suc, ℤ, pos, ◌-ℤ◌}
 use Rattle.cells.specs.declared.place.At.{At}

@@ -75,7 +75,7 @@ pub record IsTurnedFileOf (bytes : List ℕ) (value : TurnedFile) : Type 0 where
   pub lawful : IsTurnedFile value
   pub spelled : bytes ≡ turned_map_form value.map value.samples
 
--- what stands before the samples, of which the output's size alone is told
+-- what stands before the samples, of which the output's size alone is known
 abbrev pub turned_start_read : ℕ → List ℕ → Result (Size × ℕ) ReadError
 turned_start_read at bytes =
     field_read 8 (magic_rule map_magic) at bytes >>= λ magic.
@@ -126,7 +126,7 @@ abbrev pub turned_map_read : List ℕ → Result TurnedFile ReadError
 turned_map_read bytes =
     turned_value_read 0 bytes >>= λ value. end_read value.1 bytes >>= λ end. Ok value.0
 
--- what a reader of the named file leaves and answers. A read fault has its cause, and want of memory is
+-- what a reader of the named file leaves and answers. A read fault has its cause, and out of memory is
 -- free
 abbrev pub TurnedReadsAs : List ℕ → ShelfState → ShelfState → Result TurnedFile ReadError → Type 0
 TurnedReadsAs name was now (Err ReadFault) = ReadsRose name was now

@@ -235,7 +235,7 @@ fn read_value<S: Shelf>(
 }
 
 /// Reads a map over turned samples from the named file, to the file's end. It takes memory as the sources
-/// come, which are told as places of the turned samples.
+/// come, which are given as places of the turned samples.
 ///
 /// The refusals, in the order of the fields: `Bad(Form)` at the file's length where the file ends within
 /// a field, and else at the first byte of a field that has no lawful value (the magic is one field, each

@@ -1,4 +1,4 @@
-//! The command that tells a map and a record of one sample as those of several samples are told.
+//! The command that writes a map and a record of one sample in the form of those of several samples.
 //!
 //! `upgrade` reads a cell map and cut records of version 1, and writes both in version 2, with one sample.
 //! specs/Upgrades.antt has what it reads and refuses and which texts it writes, and specs/Upgraded.antt what

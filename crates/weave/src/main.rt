@@ -23,13 +23,13 @@ use streams::{ErrorOutput, Output};
 use synth_report::{Fault, say_fault};
 use weave_engine::run;
 
-// The status of want of memory.
+// The status for out of memory.
 const NO_MEMORY: u8 = 7;
 
 // A file that is always there and is never written.
 const NULL_DEVICE: &str = "/dev/null";
 
-// The words behind the program's name.
+// The words after the program's name.
 fn words_of(rt: &HostRuntime, alloc: Global) -> Result<Words, AllocError> {
     let mut words = Words::new(alloc);
     let Ok(given) = env::args(rt) else {

@@ -60,7 +60,7 @@ axes_stay letter letters both = stay (letter == 87) (letter == 72) (has_stood le
     stay false true true true e = refl
     stay false false true true e = refl
 
--- Tags that stand behind W and H.
+-- Tags that stand after W and H.
 
 pub carried_stand : (letters fewer : List ℕ) (tags : List (List ℕ)) (text : List ℕ) → Continues letters tags text → StandsLess letters fewer → has_axes fewer ≡ true
     → Continues fewer (carried tags) (spaced (carried tags) ++ codes "\n")

@@ -46,7 +46,7 @@ wrong_early text n matches early inside = record {
 pub open_short : (text : List ℕ) (n : ℕ) → Matches text word n → length text ≤ n → IsOpenFrameLine text
 open_short text n matches ends = subst IsOpenFrameLine (take_all n text ends) (open_front text n matches)
 
--- the word, and the byte behind it
+-- the word, and the byte after it
 pub with_byte : (text : List ℕ) (n : ℕ) → Matches text word n → 5 ≤ n → 5 < length text → take 6 text ≡ word ++ get_or text 5 0 ∷ []
 with_byte text n matches late inside =
     let five : n ≡ 5 = omega (arith, matches.within) in
@@ -65,7 +65,7 @@ line_words text i is blank end =
 
 -- What is read of a file from a place on tells the answer of its frame line.
 
--- a line that goes on behind the most bytes of one is open before
+-- a line that goes on after the most bytes of one is open before
 open_before : (text : List ℕ) → length text ≡ MOST_LINE_BYTES + 1 → IsOpenFrameLine text → IsOpenFrameLine (take MOST_LINE_BYTES text)
 open_before text long (inl start) = absurd (omega (arith, long, length-append text start.0, ap length start.1))
 open_before text long (inr start) =

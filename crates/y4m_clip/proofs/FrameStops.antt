@@ -79,7 +79,7 @@ line_front n line is le = split (cases_lt n (length line))
     split (inl less) = inl (line_shorter n line is less)
     split (inr more) = inr (subst IsFrameLine (sym (take_all n line more)) is)
 
--- behind FRAME and a blank any byte may stand
+-- after FRAME and a blank any byte may stand
 open_more : (b : ℕ) (text : List ℕ) → IsOpenFrameLine text → 6 ≤ length text → IsFrameLinePrefix (text ++ b ∷ [])
 open_more b text (inl start) long = absurd (omega (arith, ap length start.1, length-append text start.0))
 open_more b text (inr start) long = split (cases_eq b 10)

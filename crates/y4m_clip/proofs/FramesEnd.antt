@@ -69,7 +69,7 @@ no_frames : (frames : List Frame) → length frames ≡ 0 → frames ≡ []
 no_frames [] none = refl
 no_frames (frame ∷ frames) none = absurd (omega arith)
 
--- the file ends behind so many frames
+-- the file ends after so many frames
 pub frames_end : {names : List (List ℕ)} (kind : SpaceKind) (w h start most : ℕ) (name : List ℕ) (count at : ℕ) (cells : List ℕ) (bytes : Vec ℕ Global) (r : Result Filled ReadError) (a b c : ShelfState) → OnlyReads names a b → OnlyReads names b c
     → r ≡ finished bytes count → bytes.items ≡ cells → Sees a b (λ files. FramesSeen kind w h start (content_of files name) count at cells) → Sees b c (λ files. drop at (content_of files name) ≡ [])
     → FramesAs kind w h start most name a c r

@@ -1,4 +1,4 @@
--- Laws of the lists that a function gives, one behind another.
+-- Laws of the lists that a function gives, one after another.
 use Rattle.std.proofs.Common.{◌≡◌, ℕ, zero, suc, ◌+◌, ◌*◌, List, ◌++◌, length, refl, sym, ap, ◌∙◌, arith, append_assoc}
 use Rattle.std.proofs.lemmas.List.{length-append}
 use Rattle.y4m_clip.specs.declared.form.SpaceKind.{SpaceKind}

@@ -1,4 +1,4 @@
--- Laws of pieces that are laid into a buffer one behind another, and of the samples of a row of cells.
+-- Laws of pieces that are laid into a buffer one after another, and of the samples of a row of cells.
 use Rattle.std.proofs.Common.{◌≡◌, ℕ, zero, suc, ◌≤◌, ◌<◌, ◌+◌, ◌*◌, List, [], ◌∷◌, ◌++◌, length, take, drop, get_or, refl, sym, ap, ◌∙◌, subst, arith, append_assoc}
 use Rattle.std.specs.Prelude.{Some, IsSome, unwrap_or}
 use Rattle.std.specs.List.{AllByRecursion, concat}

@@ -1,4 +1,4 @@
--- The writer's stream line of a form and a size is a stream line, with the form's tags behind W and H.
+-- The writer's stream line of a form and a size is a stream line, with the form's tags after W and H.
 use Rattle.std.proofs.Common.{◌≡◌, ℕ, ◌≤◌, ◌<◌, ◌+◌, ◌*◌, ◌-◌, ◌/◌, ◌%◌, ◌^◌, List, [], ◌∷◌, ◌++◌, length, refl, sym, ap, ◌∙◌, arith, append_assoc, decimal, Bool, true, false, cond}
 use Rattle.std.specs.Prelude.{◌==◌, ◌&&◌, ◌||◌, not, nat_lt, codes}
 use Rattle.std.specs.List.{AllByRecursion, list_any}
@@ -110,7 +110,7 @@ line_stands form size is axes =
       );
     }
 
--- Tags behind W and H are carried.
+-- Tags after W and H are carried.
 
 axes_shut : (letters : List ℕ) (letter : ℕ) → has_axes letters ≡ true → is_axis letter ≡ true → may_stand letters letter ≡ false
 axes_shut letters letter both axis = tested (letter == 87) (letter == 72) (has_stood letters 87) (has_stood letters 72) both axis

@@ -1,4 +1,4 @@
--- Back along the scanner's steps: what completes a line behind a byte completes it before with the byte, and each place can be completed.
+-- Back along the scanner's steps: what completes a line after a byte completes it before with the byte, and each place can be completed.
 use Rattle.std.proofs.Common.{◌≡◌, ℕ, suc, ◌⊎◌, inl, inr, List, [], ◌∷◌, ◌++◌, refl, sym, ap, ◌∙◌, subst, arith, Bool, true, false, cond}
 use Rattle.std.specs.Prelude.{Option, Some, None, option_and_then, ◌==◌, nat_le, nat_lt, ◌&&◌, ◌||◌, not}
 use Rattle.std.specs.List.{AllByRecursion, list_any}
@@ -25,7 +25,7 @@ more_blank s [] text (both, n, is) = (both, suc n, ap (λ t. 32 ∷ t) is)
 more_blank s ([] ∷ tags) text goes = goes
 more_blank s ((letter ∷ value) ∷ tags) text (ink, may, valued, n, rest, is, goes) = (ink, may, valued, suc n, rest, ap (λ t. 32 ∷ t) is, goes)
 
--- LF alone is the rest of a line behind W and H
+-- LF alone is the rest of a line after W and H
 last_end : (s : Letters) (b : ℕ) (text : List ℕ) (next : LineScan) → b ≡ 10 → line_ended s ≡ Some next → Completes next text → Goes s [] (b ∷ text)
 last_end s b text next is step at =
     let both = end_back s next step in
@@ -134,7 +134,7 @@ back (Value s) b text next step at = value_back s b text next step at
 back (Number s positive) b text next step at = number_back s positive b text next step at
 back Whole b text next step at = let none : None ≡ Some next = step in absurd cc
 
--- what the scanner came through, and a text that completes the line behind it, complete the line
+-- what the scanner came through, and a text that completes the line after it, complete the line
 pub run_completes : (s : LineScan) (text rest : List ℕ) (next : LineScan) → line_run s text ≡ Some next → Completes next rest → Completes s (text ++ rest)
 run_completes s [] rest next run at = subst (λ n. Completes n rest) (sym (some_same s next run)) at
 run_completes s (b ∷ text) rest next run at = stepped (line_step s b) refl run (λ n more. run_completes n text rest next more at)
@@ -149,7 +149,7 @@ run_completes s (b ∷ text) rest next run at = stepped (line_step s b) refl run
 one : IsCount (49 ∷ [])
 one = record { digits = ((omega arith, omega arith), tt); positive = refl }
 
--- behind W
+-- after W
 with_height : (s : Letters) → s.w ≡ true → (tags : List (List ℕ)) × (rest : List ℕ) × Goes s tags (32 ∷ rest)
 with_height s wide = tested s.h refl
   where

@@ -1,5 +1,5 @@
 -- The scanner and the grammar of stream lines agree: each place of the scanner has the texts that complete a line there, and a step goes to the
--- texts behind a byte.
+-- texts after a byte.
 use Rattle.std.proofs.Common.{◌≡◌, ℕ, zero, suc, ◌⊎◌, inl, inr, List, [], ◌∷◌, ◌++◌, refl, sym, ap, ◌∙◌, subst, arith, Bool, true, false, cond}
 use Rattle.std.specs.Prelude.{Some, None, option_and_then, ◌==◌, nat_le, nat_lt, ◌&&◌, ◌||◌, replicate}
 use Rattle.std.specs.List.{AllByRecursion, list_any}
@@ -65,7 +65,7 @@ Completes (Value s) text = InTag s (AllByRecursion IsInk) text
 Completes (Number s positive) text = InTag s (IsRest positive) text
 Completes Whole text = text ≡ []
 
--- a step with a byte, behind which the text completes the line
+-- a step with a byte, after which the text completes the line
 pub record Onward (s : LineScan) (b : ℕ) (text : List ℕ) : Type 0 where
   pub next : LineScan
   pub step : line_step s b ≡ Some next
@@ -117,7 +117,7 @@ begins s [] b text (both, suc n, is) = inr cc
 begins s ([] ∷ tags) b text goes = absurd goes
 begins s ((letter ∷ value) ∷ tags) b text goes = let is : b ∷ text ≡ 32 ∷ (replicate goes.3 32 ++ letter ∷ value ++ goes.4) = goes.5 in inr cc
 
--- the byte behind a blank
+-- the byte after a blank
 enters : (s : Letters) (b : ℕ) (value later : List ℕ) (tags : List (List ℕ)) → may_follow s b ≡ true → IsTagValue b value → Goes (with_letter s b) tags later
     → (next : LineScan) × (tag_entered s b ≡ Some next) × Completes next (value ++ later)
 enters s b value later tags may valued goes = tested (is_axis b) refl valued
@@ -264,7 +264,7 @@ nothing_left : (value later : List ℕ) → [] ≡ value ++ later → later ≡ 
 nothing_left [] later is = sym is
 nothing_left (v ∷ value) later is = cc
 
--- nothing is left behind the whole line alone
+-- nothing is left after the whole line alone
 pub only_whole : (s : LineScan) → Completes s [] → s ≡ Whole
 only_whole Magic at = absurd (some_rest no_letters at.0 [] at.1 refl)
 only_whole (Gap s) at = absurd (no_blank_alone s at.0 at.1)

@@ -86,7 +86,7 @@ one_end kind w h bound text rest rest' count count' a b ends ends' = record { re
 
 -- Why they stop.
 
--- the refusal of a byte behind the greatest number of frames
+-- the refusal of a byte after the greatest number of frames
 abbrev past : ℕ → ℕ → ℕ → ℕ → ReadError
 past w h most count = cond (eqb (most_frames w h most) GREATEST_AXIS) (Limit Axis (GREATEST_AXIS + 1) GREATEST_AXIS) (Limit CellsLimit (w * h * (count + 1)) most)
 

@@ -112,7 +112,7 @@ sample_of_row v is f y x start count i n row lf ly lx li fits same at =
     ∙ get_of_part v.size.w count x i (λ j. span (written_cell v f y j) start count) (λ j lj. length-span (written_cell v f y j) start count (omega (arith, (cell_stands v is f y j lf ly lj).long))) lx li
     ∙ get-span (written_cell v f y x) start count i li
 
--- The rows of three planes, one behind another.
+-- The rows of three planes, one after another.
 
 record Rows (v : Cells) (f y wide high blue red : ℕ) (planes : List ℕ) : Type 0 where
   upper : span planes (wide * high * (v.size.w * y)) (wide * v.size.w) ≡ row_samples v f y 0 wide

@@ -14,7 +14,7 @@ use Rattle.y4m_clip.proofs.LineBack.{run_completes, finishes}
 abbrev pub magic : List ℕ
 magic = codes "YUV4MPEG2"
 
--- what completes a line behind the magic, and back
+-- what completes a line after the magic, and back
 pub line_of : (text : List ℕ) → (at : Completes Magic text) → IsStreamLine (magic ++ text) at.0
 line_of text at = record { rest = text; is = refl; continues = continues_of [] at.0 text at.1 }
 

@@ -96,7 +96,7 @@ FillsPlanesAs name start planes was now (Err (Bad (Form place))) =
     × (place ≡ start + length (drop start bytes)))
 FillsPlanesAs name start planes was now (Err error) = ⊥
 
--- a frame stands at a place of a file, and another place is behind it
+-- a frame stands at a place of a file, and another place is after it
 pub record HasFrame (kind : SpaceKind) (w h : ℕ) (bytes : List ℕ) (at next : ℕ)
     (planes : List ℕ) : Type 0 where
   pub frame : Frame
@@ -139,7 +139,7 @@ pub record FramesSeen (kind : SpaceKind) (w h start : ℕ) (bytes : List ℕ) (c
   pub is : drop start bytes ≡ frames_text frames ++ drop at bytes
   pub cells_are : cells ≡ flat_map (λ frame. frame_cells kind w h frame.planes) frames
 
--- a byte stands behind the greatest number of frames
+-- a byte stands after the greatest number of frames
 abbrev pub PassesFrames : ℕ → ℕ → ℕ → ℕ → ReadError → Type 0
 PassesFrames w h most count (Limit Axis number bound) =
     (count ≡ GREATEST_AXIS) × (number ≡ GREATEST_AXIS + 1) × (bound ≡ GREATEST_AXIS)
@@ -147,7 +147,7 @@ PassesFrames w h most count (Limit CellsLimit number bound) =
     (count < GREATEST_AXIS) × (number ≡ w * h * (count + 1)) × (bound ≡ most)
 PassesFrames w h most count error = ⊥
 
--- after so many frames, a fact of their count, of the place behind them and of what stands there
+-- after so many frames, a fact of their count, of the place after them and of what stands there
 pub record After (kind : SpaceKind) (w h start : ℕ) (bytes : List ℕ)
     (Holds : ℕ → ℕ → List ℕ → Type 0) : Type 0 where
   pub count : ℕ
@@ -207,7 +207,7 @@ abbrev pub StandsIf : Bool → List ℕ → Type 0
 StandsIf true rest = 1 ≤ length rest
 StandsIf false rest = rest ≡ []
 
--- the answer of a file that ends behind so many frames
+-- the answer of a file that ends after so many frames
 abbrev pub finished : Vec ℕ Global → ℕ → Result Filled ReadError
 finished bytes count =
     if count == 0 then Err (Bad NoFrames) else Ok (record { bytes = bytes; count = count })

@@ -3,7 +3,7 @@ use Rattle.std.specs.Prelude.{◌≡◌, ◌+◌, ◌*◌, ℕ, List, ◌++◌, 
 use Rattle.y4m_clip.specs.Spaces.{joined_to}
 use Rattle.y4m_clip.specs.Clips.{span}
 
--- a piece is laid behind the first bytes of a buffer, and the place behind it
+-- a piece is laid after the first bytes of a buffer, and the place after it
 pub record Lays (piece was : List ℕ) (at : ℕ) (now : List ℕ) (next : ℕ) : Type 0 where
   pub room : length now ≡ length was
   pub place : next ≡ at + length piece

@@ -1,4 +1,4 @@
--- The state of the reader: the scanner of a stream line behind its magic, a step for each byte. (Own.
+-- The state of the reader: the scanner of a stream line after its magic, a step for each byte. (Own.
 -- The grammar that it keeps to stands in StreamLine.antt, and the public promise speaks of that alone.)
 use Rattle.std.specs.Prelude.{◌≡◌, ◌≢◌, ◌≤◌, ◌<◌, ◌+◌, ◌-◌, ℕ, ◌==◌, nat_le, nat_lt, Bool, false, not, ◌||◌, ◌&&◌, if◌then◌else◌, List, [], ◌∷◌, length, take, Option, Some, None, option_and_then}
 use Rattle.y4m_clip.specs.declared.scan.LineKind.{LineKind}
@@ -43,7 +43,7 @@ tag_entered s letter =
     else Some (Value (with_letter s letter)))
     else None
 
--- a byte behind a blank
+-- a byte after a blank
 abbrev pub in_gap : Letters → ℕ → LineKind → Option LineScan
 in_gap s b Blank = Some (Gap s)
 in_gap s b LineEnd = line_ended s

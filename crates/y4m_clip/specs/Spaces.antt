@@ -48,7 +48,7 @@ samples_of C422 = 4
 samples_of C411 = 6
 samples_of C420 = 6
 
--- the lists that a function gives for 0, 1, .., n - 1, one behind another
+-- the lists that a function gives for 0, 1, .., n - 1, one after another
 abbrev pub joined_to : ℕ → (ℕ → List ℕ) → List ℕ
 joined_to zero part = []
 joined_to (suc n) part = joined_to n part ++ part n

@@ -46,7 +46,7 @@ may_stand letters letter =
 abbrev pub has_axes : List ℕ → Bool
 has_axes letters = has_stood letters 87 && has_stood letters 72
 
--- the rest of a stream line, behind tags with these letters, has these tags: each with one or more
+-- the rest of a stream line, after tags with these letters, has these tags: each with one or more
 -- blanks before it; at the end stand any number of blanks and LF
 abbrev pub Continues : List ℕ → List (List ℕ) → List ℕ → Type 0
 Continues letters [] text =
@@ -57,7 +57,7 @@ Continues letters ((letter ∷ value) ∷ tags) text =
     × (n : ℕ) × (rest : List ℕ) × (text ≡ replicate (suc n) 32 ++ letter ∷ value ++ rest)
     × Continues (letter ∷ letters) tags rest
 
--- the magic, and the rest of a stream line behind no tag
+-- the magic, and the rest of a stream line after no tag
 pub record IsStreamLine (text : List ℕ) (tags : List (List ℕ)) : Type 0 where
   pub rest : List ℕ
   pub is : text ≡ codes "YUV4MPEG2" ++ rest

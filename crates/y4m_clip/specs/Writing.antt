@@ -13,7 +13,7 @@ use Rattle.y4m_clip.specs.StreamLine.{Continues}
 use Rattle.y4m_clip.specs.Spaces.{cell_width, cell_height, samples_of, joined_to}
 use Rattle.y4m_clip.specs.Clips.{spaced, span, HasSpaceKind}
 
--- a form that can be written: tags that may stand behind W and H in a stream line, that give the
+-- a form that can be written: tags that may stand after W and H in a stream line, that give the
 -- form's colour kind and an interlacing that is read, and that are no longer than their bound
 pub record IsForm (form : ClipForm) : Type 0 where
   pub stand : Continues (codes "HW") form.tags (spaced form.tags ++ codes "\n")
@@ -43,7 +43,7 @@ row_samples volume f y start count =
     joined_to volume.size.w (λ x. span (written_cell volume f y x) start count)
 
 -- a plane: for each row of cells so many rows of samples, the first of which has `count` samples
--- of each cell, from the one with this number on, and the next row the `count` samples behind them
+-- of each cell, from the one with this number on, and the next row the `count` samples after them
 abbrev pub plane_of : Cells → ℕ → ℕ → ℕ → ℕ → List ℕ
 plane_of volume f start count rows =
     joined_to volume.size.h (λ y. joined_to rows

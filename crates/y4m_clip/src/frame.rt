@@ -126,7 +126,7 @@ pub fn fill_planes<S: Shelf>(
     Ok(())
 }
 
-/// Reads the frame at a place of the file, by its planes, and adds its cells. It gives the place behind
+/// Reads the frame at a place of the file, by its planes, and adds its cells. It gives the place after
 /// the frame; None where the file ends.
 pub fn read_frame<S: Shelf>(
     shelf: &mut S,

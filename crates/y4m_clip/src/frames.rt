@@ -28,7 +28,7 @@ fn bound_of(w: u32, h: u32, most: u64) -> u64
     u64::from(GREATEST_AXIS).min(most / (u64::from(w) * u64::from(h)))
 }
 
-// The refusal of a byte behind so many frames.
+// The refusal of a byte after so many frames.
 fn past(w: u32, h: u32, most: u64, count: u64) -> ReadError
     requires cells { w * h ≤ MOST_CELLS }
     requires count { count ≤ GREATEST_AXIS }
@@ -131,7 +131,7 @@ pub fn read_frames<S: Shelf>(
     })
 }
 
-// The cells of so many frames, behind which the file ends.
+// The cells of so many frames, after which the file ends.
 fn finish(bytes: Vec<u8>, count: u32) -> Result<Filled, ReadError>
     ensures { result ≡ finished bytes count }
 {

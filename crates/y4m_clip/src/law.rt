@@ -28,7 +28,7 @@ pub fn one_reading()
         IsReadClip most (clip_form form volume) (record { form = form; volume = volume }) }
 {}
 
-/// A file that holds a text holds the frames behind it, one after another, once they are added. So after
+/// A file that holds a text holds the frames after it, one after another, once they are added. So after
 /// [`crate::ClipWriter::start`] and [`crate::ClipWriter::frame`] for each frame of a volume in order it
 /// holds the writer's form of the clip.
 pub fn frames_follow()

@@ -8,7 +8,7 @@ ghost use Rattle.y4m_clip.specs.Laying.{Lays, run_samples};
 use crate::form::SpaceKind;
 use cells::{At, Volume};
 
-// Lays a piece into a buffer, from a place on. It gives the place behind it. Most pieces are the one or two
+// Lays a piece into a buffer, from a place on. It gives the place after it. Most pieces are the one or two
 // samples of a cell, which are laid without a call that copies.
 fn lay(piece: &[u8], at: usize, planes: &mut [u8]) -> usize
     requires { at + length piece.now ≤ length planes.old }
@@ -55,7 +55,7 @@ fn lay_samples(
 }
 
 // Lays so many rows of samples of w runs of k bytes: the first has `count` bytes of each, from the one
-// with this number on, and the next row the bytes behind them.
+// with this number on, and the next row the bytes after them.
 fn lay_rows(
     row: &[u8],
     k: usize,

@@ -99,7 +99,7 @@ fn find_line<S: Shelf>(
     judge(scan_stream(&buffer[..count]), count)
 }
 
-// Puts a word behind the tags, where it isn't empty.
+// Puts a word after the tags, where it isn't empty.
 fn flush(tags: &mut Vec<Items<u8>>, word: Vec<u8>) -> Result<(), AllocError>
     ensures { OnOk result (tags.new.items ≡ tags.old.items ++ flushed word.items []) }
 {
@@ -109,7 +109,7 @@ fn flush(tags: &mut Vec<Items<u8>>, word: Vec<u8>) -> Result<(), AllocError>
     Ok(())
 }
 
-// One byte more of the line, behind a word that has begun. It gives the word that has begun behind it.
+// One byte more of the line, after a word that has begun. It gives the word that has begun after it.
 fn gather(
     alloc: Global,
     tags: &mut Vec<Items<u8>>,
@@ -132,7 +132,7 @@ fn gather(
     }
 }
 
-// The tags of what stands behind the magic of a stream line.
+// The tags of what stands after the magic of a stream line.
 fn gather_all(alloc: Global, text: &[u8]) -> Result<Vec<Items<u8>>, AllocError>
     ensures { IfOk result (λ tags. tags.items ≡ gathered [] text.now) }
 {

@@ -1,4 +1,4 @@
-// The scanner of a stream line behind its magic: a machine of small steps, one for each byte.
+// The scanner of a stream line after its magic: a machine of small steps, one for each byte.
 ghost use Rattle.std.specs.Prelude.{◌≡◌, ◌≤◌, length};
 ghost use Rattle.y4m_clip.specs.Scanning.{line_kind, no_letters, with_letter, may_follow, line_ended, tag_entered, after_number_digit, in_gap, in_value, in_number, line_step, IsLineScanned, IsSoundLine};
 
@@ -125,7 +125,7 @@ fn enter(letters: Letters, letter: u8) -> Option<LineScan>
     }
 }
 
-// A byte behind a blank.
+// A byte after a blank.
 fn gap(letters: Letters, byte: u8, kind: LineKind) -> Option<LineScan>
     ensures { result ≡ in_gap letters byte kind }
 {
@@ -190,7 +190,7 @@ fn step(scan: LineScan, byte: u8) -> Option<LineScan>
     }
 }
 
-/// Scans what stands behind the magic.
+/// Scans what stands after the magic.
 pub fn scan_line(text: &[u8]) -> ScannedLine
     ensures scanned { IsLineScanned text.now result }
     ensures sound { IsSoundLine (length text.now) result }

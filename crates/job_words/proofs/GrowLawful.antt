@@ -27,6 +27,7 @@ values all full = record {
   tol = given_at grow_rows all full key.Tol;
   rounds = given_at grow_rows all full key.Rounds;
   seed = given_at grow_rows all full key.Seed;
+  turns = given_at grow_rows all full key.Turns;
 }
 
 lawful : (all : List Setting) → AreAll grow_rows all → HasGrowValues all → IsGrowJob (grow_of all)

@@ -11,10 +11,11 @@ use Rattle.job_words.specs.declared.settings.Setting.{Setting}
 use Rattle.job_words.specs.declared.grow.Place.{Place}
 use Rattle.job_words.specs.declared.grow.Place.TheVariants.{Grid, Random, Whole, Sub}
 use Rattle.job_words.specs.declared.grow.GrowJob.{GrowJob}
-use Rattle.job_words.specs.Tables.{number_row, default_row, place_row, side_row, overlap_row, tol_row, rounds_row, seed_row}
+use Rattle.job_words.specs.Tables.{number_row, default_row, place_row, side_row, overlap_row, tol_row, rounds_row, seed_row, turns_row}
 use Rattle.job_words.specs.Words.{IsGiven, and_then, all_settings, number_at, nth_at}
 use Rattle.job_words.specs.Names.{AreNames, HasNames, names_of, name_list, with_files}
 use Rattle.job_words.specs.OutputSize.{HasSize, size_of}
+use Rattle.job_words.specs.TurnWords.{HasTurns, turns_of}
 
 -- the keys of `grow` after those of its files
 abbrev pub grow_own_rows : List Row
@@ -28,6 +29,7 @@ grow_own_rows =
     ∷ tol_row
     ∷ rounds_row 0
     ∷ seed_row
+    ∷ turns_row
     ∷ []
 
 -- the keys of `grow`, in the order in which missing ones are looked for
@@ -48,6 +50,7 @@ grow_of settings = record {
   tol = number_at key.Tol settings;
   rounds = number_at key.Rounds settings;
   seed = number_at key.Seed settings;
+  turns = turns_of settings;
 }
 
 -- the job of the words after `grow`
@@ -74,3 +77,4 @@ pub record HasGrowValues (settings : List Setting) : Type 0 where
   pub tol : IsGiven (Within 0 GREATEST_TOLERANCE) key.Tol settings
   pub rounds : IsGiven (Within 0 MOST_ROUNDS) key.Rounds settings
   pub seed : IsGiven (Within 0 GREATEST_SEED) key.Seed settings
+  pub turns : HasTurns settings

@@ -4,6 +4,7 @@ pub mod Tables
 pub mod Words
 pub mod Names
 pub mod OutputSize
+pub mod TurnWords
 pub mod GrowWords
 pub mod QuiltWords
 pub mod LoopWords

@@ -53,6 +53,10 @@ default_row key least most n = row key (Within least most) (Default (Number n))
 abbrev pub place_row : Row
 place_row = row keys.Place (OneOf Places) (Default (Nth 3))
 
+-- whether samples are turned: without a word they aren't
+abbrev pub turns_row : Row
+turns_row = row keys.Turns (OneOf Turns) (Default (Nth 0))
+
 abbrev pub side_row : Row
 side_row = default_row keys.Side 1 GREATEST_AXIS 32
 

@@ -4,6 +4,7 @@ ghost use Rattle.job_words.specs.Words as by;
 ghost use Rattle.job_words.specs.Words.{IsNamed, IsNumeric, IsPosition};
 ghost use Rattle.job_words.specs.Names.{HasNames, more_keys, more_names, name_if_set, names_of};
 ghost use Rattle.job_words.specs.OutputSize.{HasSize, size_of};
+ghost use Rattle.job_words.specs.TurnWords.{HasTurns, turns_nth, turns_of};
 
 use crate::job::Names;
 use crate::keys::Key;
@@ -56,6 +57,21 @@ pub fn nth_at(settings: &[Setting], key: Key) -> usize
         unreachable!();
     };
     *n
+}
+
+// The value at a position of the list of `none` and `all`.
+fn turns_nth(n: usize) -> bool
+    ensures { result ≡ turns_nth n }
+{
+    n == 1
+}
+
+/// Whether the samples are turned.
+pub fn turns_at(settings: &[Setting]) -> bool
+    requires { HasTurns settings.now }
+    ensures { result ≡ turns_of settings.now }
+{
+    turns_nth(nth_at(settings, Key::Turns))
 }
 
 const MORE_KEYS: [Key; 15] = [

@@ -3,7 +3,7 @@ ghost use Rattle.std.specs.Prelude.{◌≡◌, ◌<◌, IfOk};
 ghost use Rattle.job_words.specs.Words as by;
 ghost use Rattle.job_words.specs.GrowWords.{HasGrowValues, IsGrowJob, grow_job_of, grow_of, grow_rows, place_nth};
 
-use crate::fields::{names_at, nth_at, number_at, size_at};
+use crate::fields::{names_at, nth_at, number_at, size_at, turns_at};
 use crate::job::{Names, WordFault};
 use crate::keys::Key;
 use crate::name::Name;
@@ -11,7 +11,7 @@ use crate::read::all_settings;
 use crate::settings::Setting;
 use crate::table::{
     Choice, Kind, Need, Row, Texts, file_row, number_row, overlap_row, place_row, rounds_row,
-    sample_row, seed_row, side_row, tol_row, with_files,
+    sample_row, seed_row, side_row, tol_row, turns_row, with_files,
 };
 use cells::Size;
 use limits::GREATEST_AXIS;
@@ -47,9 +47,11 @@ pub struct GrowJob {
     pub rounds: u32,
     /// The seed of the draws.
     pub seed: u64,
+    /// Whether the quarter turns and mirrors of the samples are parts too.
+    pub turns: bool,
 }
 
-const ROWS: [Row; 28] = with_files![
+const ROWS: [Row; 29] = with_files![
     number_row!(Width, 1, GREATEST_AXIS as u64),
     number_row!(Height, 1, GREATEST_AXIS as u64),
     number_row!(Frames, 1, GREATEST_AXIS as u64, 1),
@@ -59,6 +61,7 @@ const ROWS: [Row; 28] = with_files![
     tol_row!(),
     rounds_row!(0),
     seed_row!(),
+    turns_row!(),
 ];
 
 fn rows() -> &'static [Row]
@@ -89,6 +92,7 @@ fn job_of(alloc: Global, settings: &[Setting]) -> Result<GrowJob, AllocError>
         tol: number_at(settings, Key::Tol) as u32,
         rounds: number_at(settings, Key::Rounds) as u32,
         seed: number_at(settings, Key::Seed),
+        turns: turns_at(settings),
     })
 }
 

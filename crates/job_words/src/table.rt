@@ -138,6 +138,17 @@ macro_rules! place_row {
     };
 }
 
+// The row of the key that says whether samples are turned: without a word they aren't.
+macro_rules! turns_row {
+    () => {
+        Row {
+            key: Key::Turns,
+            kind: Kind::OneOf(Texts::Turns),
+            need: Need::Default(Choice::Nth(0)),
+        }
+    };
+}
+
 // The rows of keys that several commands have: each key has one range, and mostly one default.
 
 macro_rules! side_row {
@@ -227,5 +238,6 @@ pub(crate) use sample_row;
 pub(crate) use seed_row;
 pub(crate) use side_row;
 pub(crate) use tol_row;
+pub(crate) use turns_row;
 pub(crate) use with_files;
 pub(crate) use with_one_sample;

@@ -35,8 +35,15 @@ const REFUSED: &[(&[&str], WordFault)] = &[
     (&["grow", "=x"], WordFault::BadWord(2)),
     (&["grow", ""], WordFault::BadWord(2)),
     (&["grow", "block=4"], WordFault::UnknownKey(2)),
-    (&["grow", "turns=all"], WordFault::UnknownKey(2)),
-    (&["check", "turns=none"], WordFault::UnknownKey(2)),
+    (&["grow", "turns=yes"], WordFault::BadValue(2)),
+    (&["grow", "turns=ALL"], WordFault::BadValue(2)),
+    (&["grow", "turns="], WordFault::BadWord(2)),
+    (&["grow", "turns=all", "turns=none"], WordFault::Repeated(3)),
+    (&["check", "turns=1"], WordFault::BadValue(2)),
+    (&["quilt", "turns=all"], WordFault::UnknownKey(2)),
+    (&["loop", "turns=none"], WordFault::UnknownKey(2)),
+    (&["trial", "turns=all"], WordFault::UnknownKey(2)),
+    (&["upgrade", "turns=all"], WordFault::UnknownKey(2)),
     (&["grow", "sample1=a"], WordFault::UnknownKey(2)),
     (&["grow", "sample02=a"], WordFault::UnknownKey(2)),
     (&["grow", "sample17=a"], WordFault::UnknownKey(2)),
@@ -164,6 +171,7 @@ struct Grown<'a> {
     tol: u32,
     rounds: u32,
     seed: u64,
+    turns: bool,
 }
 
 pub fn are_names(names: &[Name], texts: &[&str]) -> bool {
@@ -189,6 +197,7 @@ fn is_grown(job: &GrowJob, of: &Grown) -> bool {
         && job.tol == of.tol
         && job.rounds == of.rounds
         && job.seed == of.seed
+        && job.turns == of.turns
 }
 
 fn is_quilted(job: &QuiltJob) -> bool {
@@ -226,6 +235,7 @@ fn is_asked(job: &Job, grown: &Grown) -> bool {
         Job::Loop(job) => is_looped(job),
         Job::Upgrade(job) => is_lifted(job),
         Job::Tile(job) => is_tiled(job),
+        Job::Check(job) => job.turns == grown.turns,
         _ => false,
     }
 }
@@ -255,6 +265,7 @@ const DEFAULTS: Grown<'static> = Grown {
     tol: 10,
     rounds: 0,
     seed: 0,
+    turns: false,
 };
 
 const WHOLE: Grown<'static> = Grown {
@@ -270,6 +281,7 @@ const WHOLE: Grown<'static> = Grown {
     tol: 1000,
     rounds: 1000,
     seed: u64::MAX,
+    turns: true,
 };
 
 #[test]
@@ -305,8 +317,33 @@ fn all_keys(rt: HostRuntime) {
         "sample3=c",
         "sample=a",
         "sample2=b",
+        "turns=all",
     ];
     assert!(rt; is_read(rt.alloc(), &words, &WHOLE));
+}
+
+#[test]
+fn turns_of_checks(rt: HostRuntime) {
+    let files = ["check", "sample=a", "out=o", "map=m", "record=r"];
+    assert!(rt; is_read(rt.alloc(), &files, &DEFAULTS));
+    let none = [
+        "check",
+        "sample=a",
+        "out=o",
+        "map=m",
+        "record=r",
+        "turns=none",
+    ];
+    assert!(rt; is_read(rt.alloc(), &none, &DEFAULTS));
+    let all = [
+        "check",
+        "turns=all",
+        "sample=a",
+        "out=o",
+        "map=m",
+        "record=r",
+    ];
+    assert!(rt; is_read(rt.alloc(), &all, &WHOLE));
 }
 
 #[test]

@@ -54,6 +54,19 @@ goes_with (Picture maxval) (Picture other) = maxval == other
 goes_with (Clip form) (Clip other) = same_space form.space other.space
 goes_with form other = false
 
+-- each cell is one pixel, which a turn moves as a whole
+abbrev pub has_pixel_cells : SpaceKind → Bool
+has_pixel_cells Mono = true
+has_pixel_cells C444 = true
+has_pixel_cells C422 = false
+has_pixel_cells C411 = false
+has_pixel_cells C420 = false
+
+-- the cells of a sample in this form can be turned
+abbrev pub can_turn : Form → Bool
+can_turn (Picture maxval) = true
+can_turn (Clip form) = has_pixel_cells form.space
+
 -- Their refusals.
 
 -- the first byte is `Y`: the bytes are read as a clip; others, and none at all, as a picture

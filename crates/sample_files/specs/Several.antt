@@ -1,23 +1,26 @@
 -- The samples of a run: which files stand for them, and which are refused, in the order of their
--- numbers. To be trusted: contracts cite these words. (Own.)
-use Rattle.std.specs.Prelude.{◌≡◌, ◌≤◌, ◌<◌, ◌⊎◌, ◌+◌, ◌++◌, ℕ, suc, true, false, List, [], ◌∷◌, length, map, take, slice_get, Some, Result, Ok, Err}
+-- numbers. Where their turns are asked for too, the turns count as further parts and cells. To be
+-- trusted: contracts cite these words. (Own.)
+use Rattle.std.specs.Prelude.{◌≡◌, ◌≤◌, ◌<◌, ◌⊎◌, ◌+◌, ◌*◌, ◌++◌, ℕ, suc, Bool, true, false, List, [], ◌∷◌, length, map, take, slice_get, Some, Result, Ok, Err}
 use Rattle.cells.specs.Cells.{Cells, count_of}
 use Rattle.cells.specs.PartLists.{parts_of}
 use Rattle.shelf_core.specs.Files.{Files, ShelfState, Changes, Rose, content_of}
-use Rattle.shelf_core.specs.declared.fault.What.TheVariants.{Cells as CellsLimit}
+use Rattle.shelf_core.specs.declared.fault.FormFault.TheVariants.{Space}
+use Rattle.shelf_core.specs.declared.fault.What.TheVariants.{Cells as CellsLimit, Parts as PartsLimit}
 use Rattle.synth_report.specs.declared.fault.FileOf.{FileOf}
 use Rattle.synth_report.specs.declared.fault.FileOf.TheVariants as part
 use Rattle.synth_report.specs.declared.fault.Fault.{Fault}
 use Rattle.synth_report.specs.declared.fault.Fault.TheVariants.{Form as FormFault, Unlike, Limit, Read, NoMemory}
 use Rattle.command.specs.Commands.{NamedFile, HasTurn, named}
 use Rattle.command.specs.Faults.{ReaderRefuses}
-use Rattle.command.specs.Stages.{Stages}
+use Rattle.command.specs.Stages.{PassesBound, Stages, bounded}
 use Rattle.command.specs.Stages.Stages.{read}
 use Rattle.sample_files.specs.declared.form.Form.{Form}
 use Rattle.sample_files.specs.declared.sample.Sample.{Sample}
 use Rattle.sample_files.specs.declared.several.Samples.{Samples}
-use Rattle.limits.specs.declared.bounds.TheConstants.{MOST_SAMPLE_CELLS}
-use Rattle.sample_files.specs.Samples.{StandsAs, IsSampleOf, RefusesSample, AreSoundIn, goes_with}
+use Rattle.limits.specs.declared.bounds.TheConstants.{MOST_PARTS, MOST_SAMPLE_CELLS}
+use Rattle.turned.specs.declared.turn.TheConstants.{TURNS}
+use Rattle.sample_files.specs.Samples.{StandsAs, IsSampleOf, RefusesSample, AreSoundIn, can_turn, goes_with}
 
 -- The files of the samples: the first, and the further ones from number 2 on.
 
@@ -32,6 +35,11 @@ sample_files first more = named part.Sample first ∷ numbered_files 2 more
 -- the bytes of files
 abbrev pub contents : Files → List (List ℕ) → List (List ℕ)
 contents files names = map (content_of files) names
+
+-- the number of parts or of cells that so many give: with turns each gives one for each turn
+abbrev pub with_turns : Bool → ℕ → ℕ
+with_turns false n = n
+with_turns true n = TURNS * n
 
 -- Bytes that stand for samples: those of the first, and those of the further ones in order.
 
@@ -55,13 +63,39 @@ StandForParts form first more (part ∷ parts) =
 
 -- the bytes stand for the parts of the volume, one file for each in their order: the first in the
 -- form of the samples, each other in a form that goes with it. All have no more cells together than
--- one sample may have
-pub record StandForSamples (first : List ℕ) (more : List (List ℕ)) (samples : Samples)
-    : Type 0 where
+-- one sample may have. With turns their cells can be turned, and all turns of all of them have no
+-- more cells together
+pub record StandForSamples (turns : Bool) (first : List ℕ) (more : List (List ℕ))
+    (samples : Samples) : Type 0 where
   pub parts : StandForParts samples.form first more (parts_of samples.volume)
-  pub fits : count_of samples.volume ≤ MOST_SAMPLE_CELLS
+  pub pixels : turns ≡ true → can_turn samples.form ≡ true
+  pub fits : with_turns turns (count_of samples.volume) ≤ MOST_SAMPLE_CELLS
 
 -- Their refusals.
+
+-- the first sample is read, and its cells can't be turned
+pub record CannotTurn (bytes : List ℕ) (fault : Fault) : Type 0 where
+  pub sample : Sample
+  pub read : IsSampleOf bytes sample
+  pub space : can_turn sample.form ≡ false
+  pub is : fault ≡ FormFault part.Sample Space
+
+-- the first sample is read and can be turned, but its turns have too many cells together
+pub record HasTooManyTurned (bytes : List ℕ) (fault : Fault) : Type 0 where
+  pub sample : Sample
+  pub read : IsSampleOf bytes sample
+  pub pixels : can_turn sample.form ≡ true
+  pub passes : PassesBound CellsLimit (TURNS * count_of sample.volume) MOST_SAMPLE_CELLS fault
+
+-- what is refused of the first sample where its turns are asked for
+abbrev pub RefusesTurns : Bool → List ℕ → Fault → Type 0
+RefusesTurns false bytes fault = ⊥
+RefusesTurns true bytes fault = CannotTurn bytes fault ⊎ HasTooManyTurned bytes fault
+
+-- the refusals of the first sample
+abbrev pub RefusesFirst : Bool → List ℕ → Fault → Type 0
+RefusesFirst turns bytes fault =
+    ReaderRefuses RefusesSample part.Sample bytes fault ⊎ RefusesTurns turns bytes fault
 
 -- the sample of this number is read, and doesn't go with the first
 pub record IsUnlike (before : Samples) (number : ℕ) (bytes : List ℕ) (fault : Fault) : Type 0 where
@@ -70,44 +104,44 @@ pub record IsUnlike (before : Samples) (number : ℕ) (bytes : List ℕ) (fault 
   pub unlike : goes_with before.form sample.form ≡ false
   pub is : fault ≡ Unlike (part.More number)
 
--- a further sample is read and goes with the first, but all so far have too many cells together
-pub record HasTooManyCells (before : Samples) (bytes : List ℕ) (fault : Fault) : Type 0 where
+-- a further sample is read and goes with the first, but all so far have too many cells together,
+-- with their turns
+pub record HasTooManyCells (turns : Bool) (before : Samples) (bytes : List ℕ) (fault : Fault)
+    : Type 0 where
   pub sample : Sample
   pub read : IsSampleOf bytes sample
   pub alike : goes_with before.form sample.form ≡ true
-  pub passes : MOST_SAMPLE_CELLS < count_of before.volume + count_of sample.volume
-  pub is : fault
-      ≡ Limit CellsLimit (count_of before.volume + count_of sample.volume) MOST_SAMPLE_CELLS
+  pub passes : PassesBound CellsLimit
+      (with_turns turns (count_of before.volume + count_of sample.volume)) MOST_SAMPLE_CELLS fault
 
 -- the refusals of a further sample, of this number, after those before it
-abbrev pub RefusesNext : Samples → ℕ → List ℕ → Fault → Type 0
-RefusesNext before number bytes fault =
+abbrev pub RefusesNext : Bool → Samples → ℕ → List ℕ → Fault → Type 0
+RefusesNext turns before number bytes fault =
     ReaderRefuses RefusesSample (part.More number) bytes fault
     ⊎ IsUnlike before number bytes fault
-    ⊎ HasTooManyCells before bytes fault
+    ⊎ HasTooManyCells turns before bytes fault
 
 -- those before the sample of this number stand for samples, and it is refused after them
-pub record IsRefusedFurther (number : ℕ) (first : List ℕ) (more : List (List ℕ)) (fault : Fault)
-    : Type 0 where
+pub record IsRefusedFurther (turns : Bool) (number : ℕ) (first : List ℕ) (more : List (List ℕ))
+    (fault : Fault) : Type 0 where
   pub turn : ℕ
   pub number_is : number ≡ turn + 2
   pub bytes : List ℕ
   pub its : slice_get more turn ≡ Some bytes
   pub before : Samples
-  pub stand : StandForSamples first (take turn more) before
-  pub refused : RefusesNext before number bytes fault
+  pub stand : StandForSamples turns first (take turn more) before
+  pub refused : RefusesNext turns before number bytes fault
 
 -- the samples are refused for this fault once so many of them are read, and for nothing that is
 -- tried before
-abbrev pub RefusesSamples : ℕ → List ℕ → List (List ℕ) → Fault → Type 0
-RefusesSamples n first more fault =
-    ((n ≡ 1) × ReaderRefuses RefusesSample part.Sample first fault)
-    ⊎ IsRefusedFurther n first more fault
+abbrev pub RefusesSamples : Bool → ℕ → List ℕ → List (List ℕ) → Fault → Type 0
+RefusesSamples turns n first more fault =
+    ((n ≡ 1) × RefusesFirst turns first fault) ⊎ IsRefusedFurther turns n first more fault
 
 -- nothing is refused of so many samples that are read
-abbrev pub NoSampleRefused : ℕ → List ℕ → List (List ℕ) → Type 0
-NoSampleRefused n first more =
-    (m : ℕ) (fault : Fault) → m ≤ n → RefusesSamples m first more fault → ⊥
+abbrev pub NoSampleRefused : Bool → ℕ → List ℕ → List (List ℕ) → Type 0
+NoSampleRefused turns n first more =
+    (m : ℕ) (fault : Fault) → m ≤ n → RefusesSamples turns m first more fault → ⊥
 
 -- one of the first n samples
 abbrev pub IsSamplePart : ℕ → FileOf → Type 0
@@ -122,41 +156,57 @@ MayRefuseSamples n (Unlike its) = IsSamplePart n its
 MayRefuseSamples n (Limit what number bound) = Unit {0}
 MayRefuseSamples n fault = ⊥
 
+-- with turns, the parts that so many samples give are within their bound, or they are refused: this
+-- is asked before any of them is read
+abbrev pub parts_within : {others : List NamedFile} → Bool → ℕ → Stages others → Stages others
+parts_within false count next = next
+parts_within true count next = bounded PartsLimit (TURNS * count) MOST_PARTS next
+
+-- how a function answers that asks so
+abbrev pub AsksParts : Bool → ℕ → Result (Unit {0}) Fault → Type 0
+AsksParts turns count (Ok done) = turns ≡ true → TURNS * count ≤ MOST_PARTS
+AsksParts turns count (Err fault) =
+    (turns ≡ true) × PassesBound PartsLimit (TURNS * count) MOST_PARTS fault
+
 -- the samples are read, and the stages go on with them
-abbrev pub read_samples : {others : List NamedFile} → (first : List ℕ) (more : List (List ℕ))
-    → (Samples → Stages others) → Stages (sample_files first more ++ others)
-read_samples first more next =
+abbrev pub read_samples : {others : List NamedFile} → (turns : Bool) (first : List ℕ)
+    (more : List (List ℕ)) → (Samples → Stages others)
+    → Stages (sample_files first more ++ others)
+read_samples turns first more next =
     read (sample_files first more)
-    (λ files samples. StandForSamples (content_of files first) (contents files more) samples)
-    (λ n files fault. RefusesSamples n (content_of files first) (contents files more) fault) next
+    (λ files samples. StandForSamples turns (content_of files first) (contents files more) samples)
+    (λ n files fault. RefusesSamples turns n (content_of files first) (contents files more) fault)
+    next
 
 -- What a reader of them answers.
 
 -- a sample can't be read: its count of read faults rose, and nothing is refused of those before it
-pub record IsSampleUnread (first : List ℕ) (more : List (List ℕ)) (its : FileOf)
+pub record IsSampleUnread (turns : Bool) (first : List ℕ) (more : List (List ℕ)) (its : FileOf)
     (was now : ShelfState) : Type 0 where
   pub turn : ℕ
   pub name : List ℕ
   pub has_turn : HasTurn (sample_files first more) turn its name
   pub rose : Rose (was.reads name) (now.reads name)
   pub earlier : Changes was now (λ before after.
-      NoSampleRefused turn (content_of before first) (contents before more))
+      NoSampleRefused turns turn (content_of before first) (contents before more))
 
 -- the samples are refused for this fault
-pub record SamplesAreRefused (first : List ℕ) (more : List (List ℕ)) (fault : Fault)
+pub record SamplesAreRefused (turns : Bool) (first : List ℕ) (more : List (List ℕ)) (fault : Fault)
     (was now : ShelfState) : Type 0 where
   pub known : MayRefuseSamples (length more + 1) fault
   pub refused : Changes was now (λ before after.
-      (n : ℕ) × RefusesSamples n (content_of before first) (contents before more) fault)
+      (n : ℕ) × RefusesSamples turns n (content_of before first) (contents before more) fault)
 
-abbrev pub SamplesReadAs : List ℕ → List (List ℕ) → ShelfState → ShelfState
+abbrev pub SamplesReadAs : Bool → List ℕ → List (List ℕ) → ShelfState → ShelfState
     → Result Samples Fault → Type 0
-SamplesReadAs first more was now (Ok samples) =
+SamplesReadAs turns first more was now (Ok samples) =
     Changes was now (λ before after.
-    StandForSamples (content_of before first) (contents before more) samples)
-SamplesReadAs first more was now (Err (Read its)) = IsSampleUnread first more its was now
-SamplesReadAs first more was now (Err NoMemory) = Unit {0}
-SamplesReadAs first more was now (Err fault) = SamplesAreRefused first more fault was now
+    StandForSamples turns (content_of before first) (contents before more) samples)
+SamplesReadAs turns first more was now (Err (Read its)) =
+    IsSampleUnread turns first more its was now
+SamplesReadAs turns first more was now (Err NoMemory) = Unit {0}
+SamplesReadAs turns first more was now (Err fault) =
+    SamplesAreRefused turns first more fault was now
 
 -- what all samples that are read are, whether or not the shelf tells its files
 pub record AreSoundSamples (samples : Samples) : Type 0 where

@@ -1,8 +1,8 @@
 // The forms of samples.
 ghost use Rattle.std.specs.Prelude.{◌≡◌};
-ghost use Rattle.sample_files.specs.Samples.{goes_with};
+ghost use Rattle.sample_files.specs.Samples.{can_turn, goes_with, has_pixel_cells};
 
-use y4m_clip::ClipForm;
+use y4m_clip::{ClipForm, SpaceKind};
 
 /// The form of a sample, which the output has too.
 #[derive(Drop)]
@@ -13,7 +13,27 @@ pub enum Form {
     Clip { form: ClipForm },
 }
 
+// Whether each cell of a clip of this kind is one pixel.
+fn has_pixel_cells(space: SpaceKind) -> bool
+    ensures { result ≡ has_pixel_cells space }
+{
+    match space {
+        SpaceKind::Mono | SpaceKind::C444 => true,
+        SpaceKind::C422 | SpaceKind::C411 | SpaceKind::C420 => false,
+    }
+}
+
 impl Form {
+    /// Whether the cells of a sample in this form can be turned: each is one pixel, which a turn moves as a whole.
+    pub fn can_turn(&self) -> bool
+        ensures { result ≡ can_turn self.now }
+    {
+        match self {
+            Form::Picture { .. } => true,
+            Form::Clip { form } => has_pixel_cells(form.space),
+        }
+    }
+
     /// Whether a further sample of another form goes with a first one of this form.
     pub fn goes_with(&self, other: &Form) -> bool
         ensures { result ≡ goes_with self.now other.now }

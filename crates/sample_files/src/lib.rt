@@ -21,4 +21,4 @@ pub use law::{one_answer, samples_are_sound};
 pub use output::within_bounds;
 pub use picture::read_picture;
 pub use sample::{Sample, read_sample, read_sample_within};
-pub use several::{Samples, read_samples};
+pub use several::{Samples, parts_within, read_samples};

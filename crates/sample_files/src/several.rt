@@ -1,22 +1,25 @@
 // The samples of a run as one volume.
-ghost use Rattle.std.specs.Prelude.{◌≡◌, ◌≤◌, ◌<◌, length, IfOk};
+ghost use Rattle.std.specs.Prelude.{◌≡◌, ◌≤◌, ◌<◌, ◌+◌, length, IfOk};
 ghost use Rattle.cells.specs.Cells.{IsVolume, count_of, sizes_of};
-ghost use Rattle.limits.specs.declared.bounds.TheConstants.{MOST_PARTS};
+ghost use Rattle.limits.specs.declared.bounds.TheConstants.{MOST_CELLS, MOST_PARTS, MOST_SAMPLE_CELLS};
 ghost use Rattle.shelf_core.specs.Files.{OnlyReads, OnlyReadsFile};
+ghost use Rattle.shelf_core.specs.declared.fault.What.TheVariants.{Cells as CellsLimit};
 ghost use Rattle.command.specs.Commands.{names_in};
+ghost use Rattle.command.specs.Stages.{AsksBound};
 ghost use Rattle.sample_files.specs.Samples.{IsSoundSample};
-ghost use Rattle.sample_files.specs.Several.{AreSoundSamples, SamplesReadAs, sample_files};
-ghost use Rattle.sample_files.specs.Steps.{Joins, NextReadsAs};
+ghost use Rattle.sample_files.specs.Several.{AreSoundSamples, AsksParts, SamplesReadAs, sample_files, with_turns};
+ghost use Rattle.sample_files.specs.Steps.{AreSoFar, FirstReadsAs, Joins, NextReadsAs, Starts};
 
 use crate::form::Form;
 use crate::sample::{Sample, read_sample};
 use cells::Volume;
 use command::read_fault;
 use job_words::Name;
-use limits::MOST_SAMPLE_CELLS;
-use shelf_core::{Shelf, What};
+use limits::{MOST_PARTS, MOST_SAMPLE_CELLS};
+use shelf_core::{FormFault, Shelf, What};
 use std::alloc::Global;
 use synth_report::{Fault, FileOf};
+use turned::TURNS;
 
 /// The samples of a run: the form of the first, and a volume whose parts are their volumes, in the
 /// order of their numbers.
@@ -24,6 +27,23 @@ use synth_report::{Fault, FileOf};
 pub struct Samples {
     pub form: Form,
     pub volume: Volume,
+}
+
+/// Asks whether the parts that so many samples give are within their bound: with turns each gives eight.
+/// The refusal is `Limit Parts` with the number of parts.
+pub fn parts_within(turns: bool, count: usize) -> Result<(), Fault>
+    requires { count ≤ MOST_PARTS }
+    ensures { AsksParts turns count result }
+{
+    let parts = TURNS as usize * count;
+    if turns && parts > MOST_PARTS as usize {
+        return Err(Fault::Limit {
+            what: What::Parts,
+            number: parts as u64,
+            bound: u64::from(MOST_PARTS),
+        });
+    }
+    Ok(())
 }
 
 // How many cells a volume has, of all parts together.
@@ -34,17 +54,20 @@ fn cells_in(volume: &Volume) -> usize
     volume.bytes().len() / volume.samples() as usize
 }
 
-// Joins the sample of a number, from 2 on, to those before it.
-fn join(samples: &mut Samples, sample: &Sample, number: u8) -> Result<(), Fault>
-    requires sound { AreSoundSamples samples.old }
-    requires next { IsSoundSample sample.now }
-    requires few { length (sizes_of samples.old.volume) < MOST_PARTS }
-    ensures { Joins number samples.old sample.now samples.new result }
+// How many cells so many are with their turns.
+fn with_turns(turns: bool, count: usize) -> usize
+    requires { count ≤ MOST_CELLS }
+    ensures { result ≡ with_turns turns count }
 {
-    if !samples.form.goes_with(&sample.form) {
-        return Err(Fault::Unlike(FileOf::More(number)));
-    }
-    let cells = (cells_in(&samples.volume) + cells_in(&sample.volume)) as u64;
+    if turns { TURNS as usize * count } else { count }
+}
+
+// Asks whether so many cells, with their turns, are within the bound of samples.
+fn cells_within(turns: bool, count: usize) -> Result<(), Fault>
+    requires { count ≤ MOST_CELLS }
+    ensures { AsksBound CellsLimit (with_turns turns count) MOST_SAMPLE_CELLS result }
+{
+    let cells = with_turns(turns, count) as u64;
     if cells > MOST_SAMPLE_CELLS {
         return Err(Fault::Limit {
             what: What::Cells,
@@ -52,6 +75,54 @@ fn join(samples: &mut Samples, sample: &Sample, number: u8) -> Result<(), Fault>
             bound: MOST_SAMPLE_CELLS,
         });
     }
+    Ok(())
+}
+
+// Takes the first sample as the samples so far.
+fn start(turns: bool, sample: Sample) -> Result<Samples, Fault>
+    requires { IsSoundSample sample }
+    ensures { Starts turns sample result }
+{
+    if turns && !sample.form.can_turn() {
+        return Err(Fault::Form {
+            file: FileOf::Sample,
+            why: FormFault::Space,
+        });
+    }
+    cells_within(turns, cells_in(&sample.volume))?;
+    let Sample { form, volume } = sample;
+    Ok(Samples { form, volume })
+}
+
+// Reads the first sample to its end.
+fn read_first<S: Shelf>(
+    alloc: Global,
+    shelf: &mut S,
+    turns: bool,
+    name: &str,
+) -> Result<Samples, Fault>
+    ensures answer { FirstReadsAs turns name.now (S.state shelf.old) (S.state shelf.new) result }
+    ensures reads { OnlyReadsFile name.now (S.state shelf.old) (S.state shelf.new) }
+{
+    let sample = match read_sample(alloc, shelf, name) {
+        Ok(sample) => sample,
+        Err(error) => return Err(read_fault(FileOf::Sample, error)),
+    };
+    start(turns, sample)
+}
+
+// Joins the sample of a number, from 2 on, to those before it.
+fn join(turns: bool, samples: &mut Samples, sample: &Sample, number: u8) -> Result<(), Fault>
+    requires so_far { AreSoFar turns samples.old }
+    requires next { IsSoundSample sample.now }
+    requires few { length (sizes_of samples.old.volume) < MOST_PARTS }
+    ensures { Joins turns number samples.old sample.now samples.new result }
+{
+    if !samples.form.goes_with(&sample.form) {
+        return Err(Fault::Unlike(FileOf::More(number)));
+    }
+    let count = cells_in(&samples.volume) + cells_in(&sample.volume);
+    cells_within(turns, count)?;
     samples.volume.add_part(&sample.volume)?;
     Ok(())
 }
@@ -60,14 +131,15 @@ fn join(samples: &mut Samples, sample: &Sample, number: u8) -> Result<(), Fault>
 fn read_next<S: Shelf>(
     alloc: Global,
     shelf: &mut S,
+    turns: bool,
     name: &str,
     number: u8,
     samples: &mut Samples,
 ) -> Result<(), Fault>
-    requires sound { AreSoundSamples samples.old }
+    requires so_far { AreSoFar turns samples.old }
     requires few { length (sizes_of samples.old.volume) < MOST_PARTS }
     requires number { 2 ≤ number }
-    ensures answer { NextReadsAs samples.old number name.now
+    ensures answer { NextReadsAs turns samples.old number name.now
         (S.state shelf.old) (S.state shelf.new) samples.new result }
     ensures reads { OnlyReadsFile name.now (S.state shelf.old) (S.state shelf.new) }
 {
@@ -75,33 +147,42 @@ fn read_next<S: Shelf>(
         Ok(sample) => sample,
         Err(error) => return Err(read_fault(FileOf::More(number), error)),
     };
-    join(samples, &sample, number)
+    join(turns, samples, &sample, number)
 }
 
 /// Reads the samples of a run in the order of their numbers, each to its end, with the refusals of
-/// their forms. A further sample is refused where it doesn't go with the first, and then where all so
-/// far have too many cells together. No file is read after a refusal.
-#[tactic(auto, using(crate::proofs::Reading::first_reads))]
+/// their forms. With turns the first is refused where its cells can't be turned, and then where its turns
+/// have too many cells. A further sample is refused where it doesn't go with the first, and then where all
+/// so far have too many cells together, with their turns. No file is read after a refusal. The samples are
+/// as they were read: none is turned.
 pub fn read_samples<S: Shelf>(
     alloc: Global,
     shelf: &mut S,
+    turns: bool,
     first: &Name,
     more: &[Name],
 ) -> Result<Samples, Fault>
     requires { length more.now < MOST_PARTS }
-    ensures answer { SamplesReadAs first.now more.now
+    ensures answer { SamplesReadAs turns first.now more.now
         (S.state shelf.old) (S.state shelf.new) result }
     ensures sound { IfOk result AreSoundSamples }
+    ensures fits { IfOk result (λ samples.
+        with_turns turns (count_of samples.volume) ≤ MOST_SAMPLE_CELLS) }
+    ensures count { IfOk result (λ samples.
+        length (sizes_of samples.volume) ≡ length more.now + 1) }
     ensures reads { OnlyReads (names_in (sample_files first.now more.now))
         (S.state shelf.old) (S.state shelf.new) }
 {
-    let Sample { form, volume } = match read_sample(alloc, shelf, first.as_text()) {
-        Ok(sample) => sample,
-        Err(error) => return Err(read_fault(FileOf::Sample, error)),
-    };
-    let mut samples = Samples { form, volume };
+    let mut samples = read_first(alloc, shelf, turns, first.as_text())?;
     for (i, name) in more.iter().enumerate() {
-        read_next(alloc, shelf, name.as_text(), i as u8 + 2, &mut samples)?;
+        read_next(
+            alloc,
+            shelf,
+            turns,
+            name.as_text(),
+            i as u8 + 2,
+            &mut samples,
+        )?;
     }
     Ok(samples)
 }

@@ -1,6 +1,6 @@
 -- The headline of `check`: what its statuses say of the files. To be trusted: contracts cite these
 -- words. (Own.)
-use Rattle.std.specs.Prelude.{◌≡◌, ◌⊎◌, ℕ, List}
+use Rattle.std.specs.Prelude.{◌≡◌, ◌⊎◌, ℕ, Bool, List}
 use Rattle.shelf_core.specs.Files.{Files, ShelfState, SinkState, Changes}
 use Rattle.job_words.specs.declared.check.CheckJob.{CheckJob}
 use Rattle.job_words.specs.declared.job.Names.{Names}
@@ -12,12 +12,12 @@ use Rattle.standing_files.specs.Standing.{RecordsAreLeast, map_output}
 use Rattle.check_command.specs.declared.reading.ReadFiles.{ReadFiles}
 use Rattle.check_command.specs.Checks.{AreRunFiles, Break, Stand}
 
--- the files of these names have records, and those are least: each choice of a cut record of all
+-- the files of these names have records, and those are least over the worked samples: each choice of a cut record of all
 -- lawful ones, each boundary of a block record of all boundaries of its strip, and a walk of all
 -- closed walks of its length
-pub record HaveLeastRecords (names : Names) (files : Files) : Type 0 where
+pub record HaveLeastRecords (turns : Bool) (names : Names) (files : Files) : Type 0 where
   pub values : ReadFiles
-  pub read : AreRunFiles names files values
+  pub read : AreRunFiles turns names files values
   pub least : RecordsAreLeast values.samples.volume (map_output values.map) values.record_file
 
 -- `check` ends with status 0 where the files stand, and with status 1 where they are in their forms
@@ -27,18 +27,18 @@ pub record HaveLeastRecords (names : Names) (files : Files) : Type 0 where
 pub record CheckHeadline (words : List (List ℕ)) (was now : ShelfState) (out out' : SinkState)
     (status : ℕ) : Type 0 where
   pub stand : (job : CheckJob) → Asks words (Check job) → status ≡ 0
-      → Changes was now (λ before after. (after ≡ before) × Stand job.names before)
+      → Changes was now (λ before after. (after ≡ before) × Stand job.turns job.names before)
   pub least : (job : CheckJob) → Asks words (Check job) → status ≡ 0
-      → Changes was now (λ before after. HaveLeastRecords job.names before)
+      → Changes was now (λ before after. HaveLeastRecords job.turns job.names before)
   pub break : (job : CheckJob) → Asks words (Check job) → status ≡ 1
       → (number : ℕ) × (rule : ℕ) × (place : ℕ)
       × Changes was now (λ before after.
-      (after ≡ before) × Break job.names before number rule place)
+      (after ≡ before) × Break job.turns job.names before number rule place)
       × Reported (Fails number rule place) out out'
   pub where_they_stand : (job : CheckJob) (files : Files) → Asks words (Check job)
-      → TellsFiles was now files → Stand job.names files
+      → TellsFiles was now files → Stand job.turns job.names files
       → (status ≡ 0) ⊎ (status ≡ 5) ⊎ (status ≡ 6) ⊎ (status ≡ 7)
   pub where_they_break : (job : CheckJob) (files : Files) (number rule place : ℕ)
       → Asks words (Check job) → TellsFiles was now files
-      → Break job.names files number rule place
+      → Break job.turns job.names files number rule place
       → (status ≡ 1) ⊎ (status ≡ 5) ⊎ (status ≡ 6) ⊎ (status ≡ 7)

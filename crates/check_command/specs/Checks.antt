@@ -1,10 +1,16 @@
 -- `check` as a command: what it reads and refuses, and what it says of the files. To be trusted:
 -- contracts cite these words. (Own.)
-use Rattle.std.specs.Prelude.{◌≡◌, ◌+◌, ◌++◌, ℕ, List, [], ◌∷◌, length, Ok, Err}
+use Rattle.std.specs.Prelude.{◌≡◌, ◌+◌, ◌++◌, ℕ, Bool, true, false, List, [], ◌∷◌, length, Result, Ok, Err}
 use Rattle.shelf_core.specs.Files.{Files, content_of}
 use Rattle.shelf_core.specs.declared.fault.ReadError.{ReadError}
+use Rattle.source_map.specs.declared.head.Version.TheVariants.{Two}
 use Rattle.source_map.specs.declared.map_file.MapFile.{MapFile}
+use Rattle.source_map.specs.declared.map_file.MapFile.TheVariants.{Cells as CellsFile}
 use Rattle.source_map.specs.MapFiles.{map_read}
+use Rattle.turned.specs.TurnedParts.{turned_sizes_of}
+use Rattle.turned_map.specs.declared.turned_file.TurnedFile.{TurnedFile}
+use Rattle.turned_map.specs.TurnedFiles.{turned_map_read}
+use Rattle.worked.specs.Worked.{worked_samples}
 use Rattle.cert_file.specs.RecordFiles.{IsRecordFileOf, RefusesRecordFile}
 use Rattle.job_words.specs.declared.check.CheckJob.{CheckJob}
 use Rattle.job_words.specs.declared.job.Names.{Names}
@@ -19,7 +25,7 @@ use Rattle.command.specs.Stages.Stages.{make}
 use Rattle.sample_files.specs.declared.sample.Sample.{Sample}
 use Rattle.sample_files.specs.declared.several.Samples.{Samples}
 use Rattle.sample_files.specs.Samples.{IsSampleWithin, RefusesWithin}
-use Rattle.sample_files.specs.Several.{StandForSamples, MayRefuseSamples, contents, read_samples, sample_files}
+use Rattle.sample_files.specs.Several.{StandForSamples, MayRefuseSamples, contents, parts_within, read_samples, sample_files}
 use Rattle.standing_files.specs.declared.verdict.Verdict.{Verdict}
 use Rattle.standing_files.specs.declared.verdict.Verdict.TheVariants.{Stands, Fails}
 use Rattle.standing_files.specs.Standing.{FilesStand, IsFirstBrokenRule, IsVerdict}
@@ -35,30 +41,54 @@ IsOut bytes out = IsSampleWithin MOST_OUT_CLIP_CELLS bytes out
 abbrev pub RefusesOutBytes : List ℕ → ReadError → Type 0
 RefusesOutBytes bytes refusal = RefusesWithin MOST_OUT_CLIP_CELLS bytes refusal
 
-abbrev pub IsReadMap : List ℕ → MapFile → Type 0
-IsReadMap bytes map_file = map_read bytes ≡ Ok map_file
+-- a map over turned samples names a sample's cell and its turn, and stands for a map over the volume
+-- of all turns, by the places to which the turns move the cells
+abbrev pub map_of_turned : TurnedFile → MapFile
+map_of_turned file = CellsFile file.map (turned_sizes_of file.samples) Two
 
-abbrev pub RefusesMap : List ℕ → ReadError → Type 0
-RefusesMap bytes refusal = map_read bytes ≡ Err refusal
+abbrev pub of_turned : Result TurnedFile ReadError → Result MapFile ReadError
+of_turned (Ok file) = Ok (map_of_turned file)
+of_turned (Err refusal) = Err refusal
 
--- the files of these names are in their forms and within their limits, and stand for these values
-pub record AreRunFiles (names : Names) (files : Files) (values : ReadFiles) : Type 0 where
-  pub samples : StandForSamples (content_of files names.sample) (contents files names.more)
-      values.samples
+-- what the bytes of a map file are read as, without turns and with them
+abbrev pub run_map_read : Bool → List ℕ → Result MapFile ReadError
+run_map_read false bytes = map_read bytes
+run_map_read true bytes = of_turned (turned_map_read bytes)
+
+abbrev pub IsReadMap : Bool → List ℕ → MapFile → Type 0
+IsReadMap turns bytes map_file = run_map_read turns bytes ≡ Ok map_file
+
+abbrev pub RefusesMap : Bool → List ℕ → ReadError → Type 0
+RefusesMap turns bytes refusal = run_map_read turns bytes ≡ Err refusal
+
+-- the files stand for samples, of which these are the worked ones
+pub record StandForWorked (turns : Bool) (names : Names) (files : Files) (all : Samples)
+    : Type 0 where
+  pub samples : Samples
+  pub stand : StandForSamples turns (content_of files names.sample) (contents files names.more)
+      samples
+  pub is : all ≡ worked_samples turns samples
+
+-- the files of these names are in their forms and within their limits, and stand for these values;
+-- with turns, samples and map are those of the volume of all turns
+pub record AreRunFiles (turns : Bool) (names : Names) (files : Files) (values : ReadFiles)
+    : Type 0 where
+  pub samples : StandForWorked turns names files values.samples
   pub out : IsOut (content_of files names.out) values.out
-  pub map : IsReadMap (content_of files names.map) values.map
+  pub map : IsReadMap turns (content_of files names.map) values.map
   pub record_file : IsRecordFileOf (content_of files names.record_file) values.record_file
 
--- the files of these names stand
-pub record Stand (names : Names) (files : Files) : Type 0 where
+-- the files of these names stand, with turns or without
+pub record Stand (turns : Bool) (names : Names) (files : Files) : Type 0 where
   pub values : ReadFiles
-  pub read : AreRunFiles names files values
+  pub read : AreRunFiles turns names files values
   pub stand : FilesStand values.samples values.out values.map values.record_file
 
 -- they are in their forms and within their limits, and this is the first rule that they break
-pub record Break (names : Names) (files : Files) (number rule place : ℕ) : Type 0 where
+pub record Break (turns : Bool) (names : Names) (files : Files) (number rule place : ℕ)
+    : Type 0 where
   pub values : ReadFiles
-  pub read : AreRunFiles names files values
+  pub read : AreRunFiles turns names files values
   pub broken :
       IsFirstBrokenRule values.samples values.out values.map values.record_file number rule place
 
@@ -79,21 +109,27 @@ summary_of (Fails number rule place) = summary.Fails number rule place
 abbrev pub IsCheckSummary : Summary → Type 0
 IsCheckSummary summary = (verdict : Verdict) × (summary ≡ summary_of verdict)
 
--- over samples, the out file is read, then the map file and the record file, and they are judged
-abbrev pub stages_over : (names : Names) → Samples → Stages (named part.Out names.out
-    ∷ named part.Map names.map ∷ named part.Record names.record_file ∷ [])
-stages_over names samples =
+-- over samples that are read, the out file is read, then the map file and the record file, and they
+-- are judged, over the worked samples
+abbrev pub stages_over : (turns : Bool) (names : Names) → Samples
+    → Stages (named part.Out names.out ∷ named part.Map names.map
+    ∷ named part.Record names.record_file ∷ [])
+stages_over turns names samples =
     read_file part.Out names.out IsOut RefusesOutBytes (λ out.
-    read_file part.Map names.map IsReadMap RefusesMap (λ map_file.
+    read_file part.Map names.map (IsReadMap turns) (RefusesMap turns) (λ map_file.
     read_file part.Record names.record_file IsRecordFileOf RefusesRecordFile (λ record_file.
-    make (IsVerdict samples out map_file record_file) (λ verdict. []) summary_of)))
+    make (IsVerdict (worked_samples turns samples) out map_file record_file) (λ verdict. [])
+    summary_of)))
 
--- and the samples are read first
-abbrev pub check_stages : (names : Names) → Stages (sample_files names.sample names.more
+-- and with turns the number of parts is asked for first, and then the samples are read
+abbrev pub check_stages : (turns : Bool) (names : Names)
+    → Stages (sample_files names.sample names.more
     ++ named part.Out names.out ∷ named part.Map names.map
     ∷ named part.Record names.record_file ∷ [])
-check_stages names = read_samples names.sample names.more (λ samples. stages_over names samples)
+check_stages turns names =
+    parts_within turns (length names.more + 1)
+    (read_samples turns names.sample names.more (λ samples. stages_over turns names samples))
 
 abbrev pub check_command : CheckJob → Command
-check_command job = of_stages (check_stages job.names) []
+check_command job = of_stages (check_stages job.turns job.names) []
     (MayRefuseFiles (length job.names.more + 1)) IsCheckSummary

@@ -1,30 +1,37 @@
 // The files of a run, read in their order.
-ghost use Rattle.std.specs.Prelude.{IfOk, IfErr};
+ghost use Rattle.std.specs.Prelude.{◌≡◌, IfOk, IfErr};
 ghost use Rattle.shelf_core.specs.Files.{Changes, OnlyReads, OnlyReadsFile};
+ghost use Rattle.source_map.specs.MapFiles.{MapReadsBy};
+ghost use Rattle.turned_map.specs.TurnedFiles.{IsTurnedFile};
 ghost use Rattle.cert_file.specs.RecordFiles.{IsRecordFile, IsRecordFileOf, RefusesRecordFile};
 ghost use Rattle.sample_files.specs.Several.{AreSoundSamples};
 ghost use Rattle.synth_report.specs.declared.fault.FileOf.TheVariants as part;
 ghost use Rattle.command.specs.Commands.{names_in};
 ghost use Rattle.command.specs.Outcomes.{NotMade};
-ghost use Rattle.check_command.specs.Checks.{AreRunFiles, IsReadMap, IsOut, RefusesMap, RefusesOutBytes, check_command};
+ghost use Rattle.check_command.specs.Checks.{AreRunFiles, IsReadMap, IsOut, RefusesMap, RefusesOutBytes, check_command, map_of_turned, run_map_read};
 ghost use Rattle.command.specs.Faults.{ReadsPart};
 
 use cert_file::{RecordFile, read_record_file};
 use command::read_fault;
 use job_words::{CheckJob, Name};
 use limits::MOST_OUT_CLIP_CELLS;
-use sample_files::{Sample, Samples, read_sample_within, read_samples};
-use shelf_core::Shelf;
-use source_map::{MapFile, read_map};
+use sample_files::{Sample, Samples, parts_within, read_sample_within, read_samples};
+use shelf_core::{ReadError, Shelf};
+use source_map::{MapFile, Version, read_map};
 use std::alloc::Global;
 use synth_report::{Fault, FileOf};
+use turned::turned_sizes;
+use turned_map::{TurnedFile, read_turned_map};
+use worked::worked;
 
 /// The files of a run, as they were read.
 #[derive(Drop)]
 pub struct ReadFiles {
+    /// The samples, with turns those of all turns.
     pub samples: Samples,
     /// The picture.
     pub out: Sample,
+    /// The map, with turns as places of all turns.
     pub map: MapFile,
     /// The record.
     pub record_file: RecordFile,
@@ -42,13 +49,50 @@ fn read_out<S: Shelf>(alloc: Global, shelf: &mut S, name: &Name) -> Result<Sampl
     }
 }
 
+// What the file of a map over turned samples stands for.
+fn map_of_turned(file: TurnedFile) -> MapFile
+    requires { IsTurnedFile file }
+    ensures { result ≡ map_of_turned file }
+{
+    let TurnedFile { map, samples } = file;
+    MapFile::Cells {
+        map,
+        samples: turned_sizes(&samples),
+        version: Version::Two,
+    }
+}
+
+// Reads a map of its form, with turns or without.
+fn read_form<S: Shelf>(
+    alloc: Global,
+    shelf: &mut S,
+    turns: bool,
+    name: &Name,
+) -> Result<MapFile, ReadError>
+    ensures answer { MapReadsBy (run_map_read turns) name.now (S.state shelf.old) (S.state shelf.new) result }
+    ensures reads { OnlyReadsFile name.now (S.state shelf.old) (S.state shelf.new) }
+{
+    if !turns {
+        return read_map(alloc, shelf, name.as_text());
+    }
+    match read_turned_map(alloc, shelf, name.as_text()) {
+        Ok(file) => Ok(map_of_turned(file)),
+        Err(error) => Err(error),
+    }
+}
+
 // Reads the map file.
-fn read_map_file<S: Shelf>(alloc: Global, shelf: &mut S, name: &Name) -> Result<MapFile, Fault>
-    ensures answer { ReadsPart IsReadMap RefusesMap part.Map name.now
+fn read_map_file<S: Shelf>(
+    alloc: Global,
+    shelf: &mut S,
+    turns: bool,
+    name: &Name,
+) -> Result<MapFile, Fault>
+    ensures answer { ReadsPart (IsReadMap turns) (RefusesMap turns) part.Map name.now
         (S.state shelf.old) (S.state shelf.new) result }
     ensures reads { OnlyReadsFile name.now (S.state shelf.old) (S.state shelf.new) }
 {
-    match read_map(alloc, shelf, name.as_text()) {
+    match read_form(alloc, shelf, turns, name) {
         Ok(map) => Ok(map),
         Err(error) => Err(read_fault(FileOf::Map, error)),
     }
@@ -67,14 +111,15 @@ fn read_record<S: Shelf>(alloc: Global, shelf: &mut S, name: &Name) -> Result<Re
     }
 }
 
-/// Reads the samples in the order of their numbers, then the out file, the map and the record.
+/// Reads the samples in the order of their numbers, then the out file, the map and the record. With turns the
+/// number of parts is asked for before, and the samples are turned when all is read.
 pub(crate) fn read_files<S: Shelf>(
     alloc: Global,
     job: &CheckJob,
     shelf: &mut S,
 ) -> Result<ReadFiles, Fault>
     ensures read { IfOk result (λ values. Changes (S.state shelf.old) (S.state shelf.new)
-        (λ before after. AreRunFiles job.now.names before values)) }
+        (λ before after. AreRunFiles job.now.turns job.now.names before values)) }
     ensures failed { IfErr result
         (NotMade (check_command job.now) (S.state shelf.old) (S.state shelf.new)) }
     ensures sound { IfOk result (λ values. AreSoundSamples values.samples) }
@@ -83,7 +128,12 @@ pub(crate) fn read_files<S: Shelf>(
         (S.state shelf.old) (S.state shelf.new) }
 {
     let names = &job.names;
-    let samples = match read_samples(alloc, shelf, &names.sample, names.more.as_slice()) {
+    let more = names.more.as_slice();
+    match parts_within(job.turns, more.len() + 1) {
+        Ok(()) => {}
+        Err(fault) => return Err(fault),
+    }
+    let samples = match read_samples(alloc, shelf, job.turns, &names.sample, more) {
         Ok(samples) => samples,
         Err(fault) => return Err(fault),
     };
@@ -91,13 +141,17 @@ pub(crate) fn read_files<S: Shelf>(
         Ok(out) => out,
         Err(fault) => return Err(fault),
     };
-    let map = match read_map_file(alloc, shelf, &names.map) {
+    let map = match read_map_file(alloc, shelf, job.turns, &names.map) {
         Ok(map) => map,
         Err(fault) => return Err(fault),
     };
     let record_file = match read_record(alloc, shelf, &names.record_file) {
         Ok(record_file) => record_file,
         Err(fault) => return Err(fault),
+    };
+    let samples = match worked(alloc, job.turns, samples) {
+        Ok(samples) => samples,
+        Err(_) => return Err(Fault::NoMemory),
     };
     Ok(ReadFiles {
         samples,

@@ -7,7 +7,6 @@ use Rattle.cells.specs.Cells.{Cells, IsOnePart, IsVolume, cell_at, sizes_of}
 use Rattle.shelf_core.specs.Files.{Files, ShelfState, SinkState, Changes, content_of}
 use Rattle.map_canvas.specs.Choices.{map_after}
 use Rattle.map_canvas.specs.Maps.{SourceMap, IsFull, IsMap, IsOver, empty_map, map_at, picture_of}
-use Rattle.source_map.specs.MapFiles.{cell_map_form}
 use Rattle.patch_place.specs.Draws.{DrawState}
 use Rattle.cut_check.specs.declared.record.CutRecord.{CutRecord}
 use Rattle.graph_place.specs.Placed.{map_total}
@@ -23,13 +22,16 @@ use Rattle.command.specs.Writing.{Reported}
 use Rattle.sample_files.specs.declared.several.Samples.{Samples}
 use Rattle.sample_files.specs.Samples.{form_text}
 use Rattle.sample_files.specs.Several.{contents}
+use Rattle.worked.specs.Worked.{worked}
 use Rattle.check_command.specs.Checks.{Stand}
-use Rattle.grow_command.specs.Growths.{AreSamplesIn, head_over, plan_of, version_over}
+use Rattle.grow_command.specs.GrownMaps.{map_text, named_place}
+use Rattle.grow_command.specs.Growths.{AreSamplesIn, head_over, plan_of}
 
--- the sample files stand for samples, the parts of one volume. The map file has the form of a map
--- of the asked size, which is full and lies over the samples. The out file has the form of a
--- picture in the samples' form: a volume of that size, the picture of the map, each cell of which
--- is the samples' cell that the map names
+-- the sample files stand for samples, the parts of one volume. There is a map of the asked size,
+-- which is full and lies over the samples, or with turns over the volume of all their turns. The map
+-- file has the form of that map: it names the samples' cells, with turns as they are before any
+-- turn. The out file has the form of a picture in the samples' form: a volume of that size, the
+-- picture of the map, each cell of which is the samples' cell that the map file names
 pub record IsGrownOutput (job : GrowJob) (before after : Files) : Type 0 where
   pub samples : Samples
   pub read : AreSamplesIn before job samples
@@ -38,16 +40,16 @@ pub record IsGrownOutput (job : GrowJob) (before after : Files) : Type 0 where
   pub asked : map.size ≡ job.size
   pub is_map : IsMap map
   pub full : IsFull map
-  pub over : IsOver map samples.volume
+  pub over : IsOver map (worked job.turns samples.volume)
   pub map_file : content_of after job.names.map
-      ≡ cell_map_form map (sizes_of samples.volume) (version_over samples.volume)
+      ≡ map_text job.turns map (sizes_of samples.volume)
   pub picture : Cells
   pub volume : IsVolume picture
   pub one : IsOnePart picture
   pub size : picture.size ≡ job.size
-  pub of_map : picture ≡ picture_of map samples.volume
-  pub cells : (p from : At) → map_at map p ≡ Some from
-      → cell_at picture p ≡ cell_at samples.volume from
+  pub of_map : picture ≡ picture_of map (worked job.turns samples.volume)
+  pub cells : (p from : At) → map_at map p ≡ Some from → cell_at picture p
+      ≡ cell_at samples.volume (named_place job.turns (sizes_of samples.volume) from)
   pub out_file : content_of after job.names.out ≡ form_text samples.form picture
 
 -- a record over a full map, which is that of a round, leaves a map whose seams cost no more in all
@@ -59,30 +61,32 @@ RaisesNone sample m cut =
 -- its draw, and of the least choices the one with the fewest old cells is taken. They replay to the
 -- map; over the map that the records before it leave, each record stands, keeps the fixed cells, and
 -- no lawful choice has a smaller total cost of seams, old ones included. First come the records of
--- placements, and then those of rounds, each over a full map, of which none raises the total
+-- placements, and then those of rounds, each over a full map, of which none raises the total. With
+-- turns all of this is said over the volume of all turns, whose places the records have
 pub record IsGrownRecord (job : GrowJob) (output : Samples) (map : SourceMap) (text : List ℕ)
     : Type 0 where
   pub cuts : List CutRecord
-  pub file : text ≡ cuts_form (head_over job.size output.volume) cuts
+  pub file : text ≡ cuts_form (head_over job.size (worked job.turns output.volume)) cuts
   pub draws : DrawState
   pub rounds : ℕ
-  pub run : IsRun (plan_of job) output.volume cuts
+  pub run : IsRun (plan_of job) (worked job.turns output.volume) cuts
       (record { map = map; draws = draws; rounds = rounds })
-  pub done : IsDone (plan_of job) output.volume
+  pub done : IsDone (plan_of job) (worked job.turns output.volume)
       (record { map = map; draws = draws; rounds = rounds })
   pub replays : left_by (empty_map job.size) cuts ≡ map
-  pub stand : EachStands output.volume (empty_map job.size) cuts
-  pub least : EachLeast output.volume (empty_map job.size) cuts
+  pub stand : EachStands (worked job.turns output.volume) (empty_map job.size) cuts
+  pub least : EachLeast (worked job.turns output.volume) (empty_map job.size) cuts
   pub keep : EachOver KeepsFixed (empty_map job.size) cuts
   pub split : IsSplit job.size cuts rounds
-  pub none_raises : EachOver (RaisesNone output.volume) (empty_map job.size) cuts
+  pub none_raises : EachOver (RaisesNone (worked job.turns output.volume)) (empty_map job.size)
+      cuts
 
--- both; samples, out file, map file and record file stand, which is what `check` tries; and all files
--- but the three that are written are as before
+-- both; samples, out file, map file and record file stand, which is what `check` tries under the same
+-- `turns`; and all files but the three that are written are as before
 pub record IsGrownRun (job : GrowJob) (before after : Files) : Type 0 where
   pub output : IsGrownOutput job before after
   pub records : IsGrownRecord job output.samples output.map (content_of after job.names.record_file)
-  pub accepted : Stand job.names after
+  pub accepted : Stand job.turns job.names after
   pub others : (name : List ℕ)
       → name ≢ job.names.out → name ≢ job.names.map → name ≢ job.names.record_file
       → fin.get after name ≡ fin.get before name
@@ -103,8 +107,8 @@ told_of_cuts job samples map cuts rounds =
 pub record IsToldOfGrown (job : GrowJob) (summary : Summary) (before after : Files)
     : Type 0 where
   pub run : IsGrownRun job before after
-  pub summary_is : summary ≡ told_of_cuts job run.output.samples.volume run.output.map
-      run.records.cuts run.records.rounds
+  pub summary_is : summary ≡ told_of_cuts job (worked job.turns run.output.samples.volume)
+      run.output.map run.records.cuts run.records.rounds
 
 -- the sample files of a job hold the same bytes
 pub record HaveSameSamples (job : GrowJob) (one other : Files) : Type 0 where

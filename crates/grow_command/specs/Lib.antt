@@ -1,2 +1,3 @@
+pub mod GrownMaps
 pub mod Growths
 pub mod GrowHeadlines

@@ -8,20 +8,25 @@ ghost use Rattle.sample_files.specs.Several.{sample_files};
 ghost use Rattle.grow_command.specs.Growths.{IsMade, grow_command, growth_files, growth_summary, plan_of};
 
 use crate::asked::{growing_fault, mode_for};
+use cells::Sizes;
 use command_files::records_fit;
 use costs::total;
 use grow_run::{GrowPlan, Grown, grow_canvas};
 use job_words::GrowJob;
-use sample_files::{Samples, read_samples, within_bounds};
+use sample_files::{Samples, parts_within, read_samples, within_bounds};
 use shelf_core::Shelf;
 use std::alloc::Global;
 use synth_report::Fault;
+use worked::worked;
 
-/// The samples that were read, the output grown and refined over them with its records, and what its
-/// seams cost in all.
+/// The samples that were worked over, the output grown and refined over them with its records, and what
+/// its seams cost in all.
 #[derive(Drop)]
 pub struct Growth {
+    /// The samples that were read, or with turns those of all their turns.
     pub samples: Samples,
+    /// The sizes of the samples that were read.
+    pub sizes: Sizes,
     pub grown: Grown,
     pub seams: u64,
 }
@@ -40,7 +45,8 @@ fn plan_of(job: &GrowJob) -> GrowPlan
     }
 }
 
-/// Reads the samples and computes all that is to be written. Nothing is written yet.
+/// Reads the samples and computes all that is to be written. Nothing is written yet. With turns the number of
+/// parts is asked for first, and growing is over all turns of the samples, which are taken away before.
 pub(crate) fn plan<S: Shelf>(alloc: Global, job: &GrowJob, shelf: &mut S) -> Result<Growth, Fault>
     requires { IsGrowJob job.now }
     ensures planned { Plans (grow_command job.now) (growth_files job.now) (growth_summary job.now)
@@ -49,16 +55,26 @@ pub(crate) fn plan<S: Shelf>(alloc: Global, job: &GrowJob, shelf: &mut S) -> Res
     ensures reads { OnlyReads (names_in (sample_files job.now.names.sample job.now.names.more))
         (S.state shelf.old) (S.state shelf.new) }
 {
-    let samples = match read_samples(alloc, shelf, &job.names.sample, job.names.more.as_slice()) {
-        Ok(samples) => samples,
-        Err(fault) => return Err(fault),
-    };
-    // It is asked for only to show the check that the samples are a volume.
-    let _k = samples.volume.samples();
-    match within_bounds(job.size, &samples.form) {
+    let more = job.names.more.as_slice();
+    match parts_within(job.turns, more.len() + 1) {
         Ok(()) => {}
         Err(fault) => return Err(fault),
     }
+    let read = match read_samples(alloc, shelf, job.turns, &job.names.sample, more) {
+        Ok(read) => read,
+        Err(fault) => return Err(fault),
+    };
+    let sizes = read.volume.sizes();
+    match within_bounds(job.size, &read.form) {
+        Ok(()) => {}
+        Err(fault) => return Err(fault),
+    }
+    let samples = match worked(alloc, job.turns, read) {
+        Ok(samples) => samples,
+        Err(_) => return Err(Fault::NoMemory),
+    };
+    // It is asked for only to show the check that the samples are a volume.
+    let _k = samples.volume.samples();
     let grown = match grow_canvas(alloc, &plan_of(job), &samples.volume) {
         Ok(grown) => grown,
         Err(error) => return Err(growing_fault(error)),
@@ -67,6 +83,7 @@ pub(crate) fn plan<S: Shelf>(alloc: Global, job: &GrowJob, shelf: &mut S) -> Res
     let seams = total(&grown.canvas, &samples.volume);
     Ok(Growth {
         samples,
+        sizes,
         grown,
         seams,
     })

@@ -5,16 +5,16 @@ ghost use Rattle.job_words.specs.GrowWords.{IsGrowJob};
 ghost use Rattle.command.specs.Outcomes.{Leaves};
 ghost use Rattle.command.specs.Writing.{WritesRun, text_names};
 ghost use Rattle.command_files.specs.Outs.{out_writer};
-ghost use Rattle.grow_command.specs.Growths.{IsMade, grow_command, growth_files, growth_summary, head_over, version_over};
+ghost use Rattle.grow_command.specs.Growths.{IsMade, grow_command, growth_files, growth_summary, head_over};
 
+use crate::grown_map::{GrownMap, version_of};
 use crate::plan::{Growth, plan};
 use cells::Volume;
 use cert_file::Head;
 use command::{Then, write_run};
-use command_files::{CellMapFile, CutsFile, OutFile, OutWriter, writer_for};
+use command_files::{CutsFile, OutFile, OutWriter, writer_for};
 use job_words::GrowJob;
 use shelf_core::{Shelf, Sink};
-use source_map::Version;
 use std::alloc::Global;
 use synth_report::{Fault, FileOf, Summary};
 
@@ -32,17 +32,6 @@ fn summary_of(job: &GrowJob, growth: &Growth) -> Summary
     }
 }
 
-// One sample is written in version 1, and several are in version 2.
-fn version_over(volume: &Volume) -> Version
-    ensures { result ≡ version_over volume.now }
-{
-    if volume.sizes().len() == 1 {
-        Version::One
-    } else {
-        Version::Two
-    }
-}
-
 // The head of the record of an output.
 fn head_over(job: &GrowJob, volume: &Volume) -> Head
     ensures { result ≡ head_over job.now.size volume.now }
@@ -50,7 +39,7 @@ fn head_over(job: &GrowJob, volume: &Volume) -> Head
     Head {
         output: job.size,
         samples: volume.sizes(),
-        version: version_over(volume),
+        version: version_of(&volume.sizes()),
     }
 }
 
@@ -70,23 +59,21 @@ fn write_growth<S: Shelf, O: Sink>(
     ensures writes { OnlyWrites (text_names (growth_files job.now growth.now))
         (S.state shelf.old) (S.state shelf.new) }
 {
-    let volume = &growth.samples.volume;
     let picture = OutFile {
         name: &job.names.out,
         writer,
         picture: growth.grown.canvas.picture(),
     };
-    let map = CellMapFile {
-        part: FileOf::Map,
+    let map = GrownMap {
         name: &job.names.map,
+        turns: job.turns,
         map: growth.grown.canvas.map(),
-        samples: volume.sizes(),
-        version: version_over(volume),
+        samples: &growth.sizes,
     };
     let record = CutsFile {
         part: FileOf::Record,
         name: &job.names.record_file,
-        head: head_over(job, volume),
+        head: head_over(job, &growth.samples.volume),
         cuts: growth.grown.cuts.as_slice(),
     };
     let summary = summary_of(job, growth);

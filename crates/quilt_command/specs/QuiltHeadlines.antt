@@ -1,6 +1,6 @@
 -- The headline of `quilt`: what stands when it ends with status 0. To be trusted: contracts cite
 -- these words. (Own.)
-use Rattle.std.specs.Prelude.{◌≡◌, ◌≢◌, ℕ, List, length, Some, Ok}
+use Rattle.std.specs.Prelude.{◌≡◌, ◌≢◌, ℕ, false, List, length, Some, Ok}
 use Rattle.std.specs.FinMap as fin
 use Rattle.cells.specs.declared.place.At.{At}
 use Rattle.cells.specs.Cells.{Cells, IsOnePart, IsVolume, cell_at, sizes_of}
@@ -71,7 +71,7 @@ pub record IsQuiltedRun (job : QuiltJob) (before after : Files) : Type 0 where
   pub output : IsQuiltedOutput job before after
   pub records : IsQuiltedRecord job output.sample.volume output.map
       (content_of after job.names.record_file)
-  pub accepted : Stand job.names after
+  pub accepted : Stand false job.names after
   pub others : (name : List ℕ)
       → name ≢ job.names.out → name ≢ job.names.map → name ≢ job.names.record_file
       → fin.get after name ≡ fin.get before name

@@ -41,7 +41,13 @@ fn words_of(alloc: Global, list: &[&str]) -> Result<Words, AllocError> {
 // Reads the samples of a job, which is one of `grow`.
 fn read_by(alloc: Global, shelf: &mut MemShelf, job: &Job) -> Result<Samples, Fault> {
     match job {
-        Job::Grow(job) => read_samples(alloc, shelf, &job.names.sample, job.names.more.as_slice()),
+        Job::Grow(job) => read_samples(
+            alloc,
+            shelf,
+            job.turns,
+            &job.names.sample,
+            job.names.more.as_slice(),
+        ),
         _ => Err(Fault::NoMemory),
     }
 }

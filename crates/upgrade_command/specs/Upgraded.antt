@@ -1,6 +1,6 @@
 -- The headline of `upgrade`: what stands when it ends with status 0. To be trusted: contracts cite
 -- these words. (Own.)
-use Rattle.std.specs.Prelude.{◌≡◌, ◌≢◌, ℕ, List, [], ◌∷◌, length, Ok}
+use Rattle.std.specs.Prelude.{◌≡◌, ◌≢◌, ℕ, false, List, [], ◌∷◌, length, Ok}
 use Rattle.std.specs.FinMap as fin
 use Rattle.cells.specs.declared.place.Size.{Size}
 use Rattle.cells.specs.Places.{cell_count}
@@ -43,19 +43,20 @@ pub record AreOneRecord (before after : Files) (first other : List ℕ) (head : 
 abbrev pub with_pair : Names → List ℕ → List ℕ → Names
 with_pair names map record_file = record names { map = map; record_file = record_file }
 
--- of two pairs of a map and a record `check` says the same, whatever the samples and the out file
+-- of two pairs of a map and a record `check` without turns says the same, whatever the samples and
+-- the out file
 pub record HaveOneVerdict (files : Files)
     (map record_file other_map other_record_file : List ℕ) : Type 0 where
-  pub stands : (names : Names) → Stand (with_pair names map record_file) files
-      → Stand (with_pair names other_map other_record_file) files
-  pub stood : (names : Names) → Stand (with_pair names other_map other_record_file) files
-      → Stand (with_pair names map record_file) files
+  pub stands : (names : Names) → Stand false (with_pair names map record_file) files
+      → Stand false (with_pair names other_map other_record_file) files
+  pub stood : (names : Names) → Stand false (with_pair names other_map other_record_file) files
+      → Stand false (with_pair names map record_file) files
   pub breaks : (names : Names) (number rule place : ℕ)
-      → Break (with_pair names map record_file) files number rule place
-      → Break (with_pair names other_map other_record_file) files number rule place
+      → Break false (with_pair names map record_file) files number rule place
+      → Break false (with_pair names other_map other_record_file) files number rule place
   pub broken : (names : Names) (number rule place : ℕ)
-      → Break (with_pair names other_map other_record_file) files number rule place
-      → Break (with_pair names map record_file) files number rule place
+      → Break false (with_pair names other_map other_record_file) files number rule place
+      → Break false (with_pair names map record_file) files number rule place
 
 -- the new files hold the map and the records of the old ones, of so many cells and so many records,
 -- in version 2; the old files, and all others but the two that are written, are as before; and

@@ -1,0 +1,122 @@
+use job_words::{Job, Words, read_job};
+use sample_files::{Samples, parts_within, read_samples};
+use shelf_core::{FormFault, MemShelf, What};
+use std::alloc::{AllocError, Global};
+use std::test::Fail;
+use synth_report::{Fault, FileOf};
+
+const TWO_GREY: &[u8] = b"P6\n2 1\n255\n\x0a\x0a\x0a\x14\x14\x14";
+
+const MONO: &[u8] = b"YUV4MPEG2 W2 H1 Cmono\nFRAME\n\x0a\x14";
+
+const OF_444: &[u8] = b"YUV4MPEG2 W1 H1 C444\nFRAME\n\x01\x02\x03";
+
+const OF_422: &[u8] = b"YUV4MPEG2 W2 H1 C422\nFRAME\n\x01\x02\x03\x04";
+
+const OF_411: &[u8] = b"YUV4MPEG2 W4 H1 C411\nFRAME\n\x01\x02\x03\x04\x05\x06";
+
+const OF_420: &[u8] = b"YUV4MPEG2 W2 H2 C420\nFRAME\n\x01\x02\x03\x04\x05\x06";
+
+const WORDS: &[&str] = &[
+    "grow",
+    "sample=s",
+    "sample2=t",
+    "out=o",
+    "map=m",
+    "record=r",
+    "width=1",
+    "height=1",
+    "turns=all",
+];
+
+fn words_of(alloc: Global, list: &[&str]) -> Result<Words, AllocError> {
+    let mut words = Words::new(alloc);
+    for word in list {
+        words.push(word)?;
+    }
+    Ok(words)
+}
+
+// Reads the samples of a job of `grow`, with turns or without, whatever its words say.
+fn read_by(alloc: Global, shelf: &mut MemShelf, job: &Job, turns: bool) -> Result<Samples, Fault> {
+    match job {
+        Job::Grow(job) => read_samples(
+            alloc,
+            shelf,
+            turns,
+            &job.names.sample,
+            job.names.more.as_slice(),
+        ),
+        _ => Err(Fault::NoMemory),
+    }
+}
+
+// Why the samples `s` and `t` are refused.
+fn refusal(alloc: Global, first: &[u8], next: &[u8], turns: bool) -> Result<Option<Fault>, Fail> {
+    let mut shelf = MemShelf::new(alloc);
+    shelf.put_file("s", first)?;
+    shelf.put_file("t", next)?;
+    let words = words_of(alloc, WORDS)?;
+    match read_job(alloc, &words) {
+        Ok(job) => Ok(read_by(alloc, &mut shelf, &job, turns).err()),
+        Err(_) => Err(Fail::from("refused words")),
+    }
+}
+
+const NO_TURN: Option<Fault> = Some(Fault::Form {
+    file: FileOf::Sample,
+    why: FormFault::Space,
+});
+
+const UNLIKE: Option<Fault> = Some(Fault::Unlike(FileOf::More(2)));
+
+// The samples, and why they are refused with turns and without.
+const REFUSED: &[(&[u8], &[u8], Option<Fault>, Option<Fault>)] = &[
+    (TWO_GREY, TWO_GREY, None, None),
+    (MONO, MONO, None, None),
+    (OF_444, OF_444, None, None),
+    (OF_422, OF_422, NO_TURN, None),
+    (OF_411, OF_411, NO_TURN, None),
+    (OF_420, OF_420, NO_TURN, None),
+    (OF_420, TWO_GREY, NO_TURN, UNLIKE),
+    (OF_444, OF_420, UNLIKE, UNLIKE),
+    (OF_420, b"P6", NO_TURN, NO_PICTURE),
+];
+
+const NO_PICTURE: Option<Fault> = Some(Fault::Form {
+    file: FileOf::More(2),
+    why: FormFault::Form(2),
+});
+
+// The number of the first samples, from 0, that aren't refused so.
+fn wrong_refusal(
+    alloc: Global,
+    table: &[(&[u8], &[u8], Option<Fault>, Option<Fault>)],
+) -> Result<Option<usize>, Fail> {
+    for (i, (first, next, turned, as_they_are)) in table.iter().enumerate() {
+        let with_turns = refusal(alloc, *first, *next, true)?;
+        let without = refusal(alloc, *first, *next, false)?;
+        if with_turns != *turned || without != *as_they_are {
+            return Ok(Some(i));
+        }
+    }
+    Ok(None)
+}
+
+#[test]
+fn refusals_of_turns(rt: HostRuntime) -> Result<(), Fail> {
+    assert_eq!(rt; wrong_refusal(rt.alloc(), REFUSED)?, None);
+    Ok(())
+}
+
+#[test]
+fn numbers_of_parts(rt: HostRuntime) {
+    let too_many = Fault::Limit {
+        what: What::Parts,
+        number: 24,
+        bound: 16,
+    };
+    assert!(rt; parts_within(true, 2).is_ok());
+    assert!(rt; parts_within(true, 3).err() == Some(too_many));
+    assert!(rt; parts_within(false, 16).is_ok());
+}

@@ -1,5 +1,5 @@
 -- From the reading of samples to what a command leaves that reads them first.
-use Rattle.std.proofs.Common.{◌≡◌, ℕ, suc, ◌+◌, ◌≤◌, List, [], ◌∷◌, length, refl, sym, ap, ◌∙◌, subst, arith}
+use Rattle.std.proofs.Common.{◌≡◌, ℕ, suc, ◌+◌, ◌≤◌, List, [], ◌∷◌, length, refl, sym, ap, ◌∙◌, subst, arith, Bool, true, false}
 use Rattle.std.specs.Prelude.{Err}
 use Rattle.std.proofs.lemmas.Option.{slice_get_within}
 use Rattle.limits.specs.declared.bounds.TheConstants.{MOST_SAMPLE_CELLS}
@@ -29,28 +29,28 @@ length-numbered [] n = refl
 length-numbered (x ∷ names) n = ap suc (length-numbered names (suc n))
 
 -- a command that reads the samples first, and refuses them as they are refused, has this answer
-module _ (c : Command) (first : List ℕ) (more : List (List ℕ))
-    (turns : (turn : ℕ) (part : FileOf) (name : List ℕ) → HasTurn (sample_files first more) turn part name → HasTurn c.reads turn part name)
+module _ (c : Command) (turns : Bool) (first : List ℕ) (more : List (List ℕ))
+    (own : (turn : ℕ) (part : FileOf) (name : List ℕ) → HasTurn (sample_files first more) turn part name → HasTurn c.reads turn part name)
     (known : (fault : Fault) → MayRefuseSamples (length more + 1) fault → c.MayRefuse fault)
-    (refuses : (files : Files) (n : ℕ) (fault : Fault) → RefusesSamples n (content_of files first) (contents files more) fault → c.Refuses n files fault)
-    (only : (files : Files) (n : ℕ) (fault : Fault) → n ≤ length more → c.Refuses n files fault → RefusesSamples n (content_of files first) (contents files more) fault)
+    (refuses : (files : Files) (n : ℕ) (fault : Fault) → RefusesSamples turns n (content_of files first) (contents files more) fault → c.Refuses n files fault)
+    (only : (files : Files) (n : ℕ) (fault : Fault) → n ≤ length more → c.Refuses n files fault → RefusesSamples turns n (content_of files first) (contents files more) fault)
     (was now : ShelfState) where
-  refused : (fault : Fault) → SamplesAreRefused first more fault was now → AreRefused c fault was now
+  refused : (fault : Fault) → SamplesAreRefused turns first more fault was now → AreRefused c fault was now
   refused fault r = record {
     known = known fault r.known;
-    refused = told_weaker (λ before after. (n : ℕ) × RefusesSamples n (content_of before first) (contents before more) fault) (λ before after. (n : ℕ) × c.Refuses n before fault) was.files now.files
+    refused = told_weaker (λ before after. (n : ℕ) × RefusesSamples turns n (content_of before first) (contents before more) fault) (λ before after. (n : ℕ) × c.Refuses n before fault) was.files now.files
         (λ before after s. (s.0, refuses before s.0 fault s.1)) r.refused;
   }
 
-  pub samples_not_made : (fault : Fault) → SamplesReadAs first more was now (Err fault) → NotMade c was now fault
+  pub samples_not_made : (fault : Fault) → SamplesReadAs turns first more was now (Err fault) → NotMade c was now fault
   samples_not_made (Read part) left = record {
     turn = left.turn;
     name = left.name;
-    its = turns left.turn part left.name left.has_turn;
+    its = own left.turn part left.name left.has_turn;
     rose = left.rose;
     earlier = (let below = slice_get_within (sample_files first more) left.turn (named part left.name) left.has_turn in
         let few : left.turn ≤ length more = omega (arith, below, length-numbered more 2) in
-        told_weaker (λ before after. NoSampleRefused left.turn (content_of before first) (contents before more)) (λ before after. NoneRefused c left.turn before) was.files now.files
+        told_weaker (λ before after. NoSampleRefused turns left.turn (content_of before first) (contents before more)) (λ before after. NoneRefused c left.turn before) was.files now.files
         (λ before after none. λ m fault le r. none m fault le (only before m fault (omega (arith, le, few)) r)) left.earlier);
   }
   samples_not_made NoMemory left = tt
@@ -63,20 +63,20 @@ module _ (c : Command) (first : List ℕ) (more : List (List ℕ))
   samples_not_made (Write part) left = absurd left.known
 
 -- the stage that reads the samples has one answer
-pub samples_are_one : (first : List ℕ) (more : List (List ℕ)) (files : Files)
-    → IsOneReader (λ files samples. StandForSamples (content_of files first) (contents files more) samples) (λ n files fault. RefusesSamples n (content_of files first) (contents files more) fault) files
-samples_are_one first more files = record {
-  one_value = one_value (content_of files first) (contents files more);
-  not_both = not_both (content_of files first) (contents files more);
-  one_refusal = refused_once (content_of files first) (contents files more);
+pub samples_are_one : (turns : Bool) (first : List ℕ) (more : List (List ℕ)) (files : Files)
+    → IsOneReader (λ files samples. StandForSamples turns (content_of files first) (contents files more) samples) (λ n files fault. RefusesSamples turns n (content_of files first) (contents files more) fault) files
+samples_are_one turns first more files = record {
+  one_value = one_value turns (content_of files first) (contents files more);
+  not_both = not_both turns (content_of files first) (contents files more);
+  one_refusal = refused_once turns (content_of files first) (contents files more);
 }
 
 -- where they aren't read the command of that stage ends so
-pub samples_not_read : {c : Command} {a b d : ShelfState} {turn : ℕ} {V : Type 0} {others : List NamedFile} {Stand : Files → V → Type 0} {next : V → Stages others} (first : List ℕ) (more : List (List ℕ))
-    → StandsBefore c a b turn (read (sample_files first more) Stand (λ n files fault. RefusesSamples n (content_of files first) (contents files more) fault) next) → OnlyReads (names_in (sample_files first more)) b d
-    → ((fault : Fault) → MayRefuseSamples (length more + 1) fault → c.MayRefuse fault) → (fault : Fault) → SamplesReadAs first more b d (Err fault) → NotMade c a d fault
-samples_not_read {c = c} {b = b} {d = d} first more at reads known fault left =
-    not_read_on (sample_files first more) at reads c.Takes c.Makes fault (samples_not_made _ first more (λ turn part name has. has) known (λ files n its refused. refused) (λ files n its le refused. refused) b d fault left)
+pub samples_not_read : {c : Command} {a b d : ShelfState} {turn : ℕ} {V : Type 0} {others : List NamedFile} {Stand : Files → V → Type 0} {next : V → Stages others} (turns : Bool) (first : List ℕ) (more : List (List ℕ))
+    → StandsBefore c a b turn (read (sample_files first more) Stand (λ n files fault. RefusesSamples turns n (content_of files first) (contents files more) fault) next) → OnlyReads (names_in (sample_files first more)) b d
+    → ((fault : Fault) → MayRefuseSamples (length more + 1) fault → c.MayRefuse fault) → (fault : Fault) → SamplesReadAs turns first more b d (Err fault) → NotMade c a d fault
+samples_not_read {c = c} {b = b} {d = d} turns first more at reads known fault left =
+    not_read_on (sample_files first more) at reads c.Takes c.Makes fault (samples_not_made _ turns first more (λ turn part name has. has) known (λ files n its refused. refused) (λ files n its le refused. refused) b d fault left)
 
 -- the bytes of one sample have one answer
 pub same_sample : (bytes : List ℕ) (first second : Sample) → IsSampleOf bytes first → IsSampleOf bytes second → first ≡ second
@@ -92,8 +92,8 @@ sample_is_one = record {
 }
 
 -- the samples of one file are the sample of that file
-pub one_file : (first : List ℕ) (samples : Samples) → StandForSamples first [] samples → StandsAs first samples.form samples.volume
-one_file first samples a = by (parts_of samples.volume) refl a.parts
+pub one_file : (turns : Bool) (first : List ℕ) (samples : Samples) → StandForSamples turns first [] samples → StandsAs first samples.form samples.volume
+one_file turns first samples a = by (parts_of samples.volume) refl a.parts
   where
     by : (parts : List Cells) → parts_of samples.volume ≡ parts → StandForParts samples.form first [] parts → StandsAs first samples.form samples.volume
     by [] is stand = absurd stand
@@ -104,9 +104,10 @@ one_file first samples a = by (parts_of samples.volume) refl a.parts
 
 -- and what one file stands for are the samples of that file
 pub alone : (files : Files) (first : List ℕ) (more : List (List ℕ)) (samples : Samples) → more ≡ [] → StandsAs (content_of files first) samples.form samples.volume → IsOnePart samples.volume → count_of samples.volume ≤ MOST_SAMPLE_CELLS
-    → StandForSamples (content_of files first) (contents files more) samples
+    → StandForSamples false (content_of files first) (contents files more) samples
 alone files first more samples none stands one fits = record {
   parts = subst (λ names. StandForParts samples.form (content_of files first) (contents files names) (parts_of samples.volume)) (sym none)
       (subst (StandForParts samples.form (content_of files first) []) (sym (parts_alone samples.volume one)) (stands, tt));
+  pixels = λ turns. absurd (cc);
   fits = fits;
 }

@@ -2,6 +2,7 @@ pub mod Begins
 pub mod OnePicture
 pub mod OneSample
 pub mod Joined
+pub mod Turning
 pub mod OneAnswer
 pub mod Reading
 pub mod Commands

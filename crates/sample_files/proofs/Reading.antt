@@ -1,5 +1,5 @@
 -- The samples read so far, and how the reading ends.
-use Rattle.std.proofs.Common.{◌≡◌, ℕ, zero, suc, ◌+◌, ◌<◌, ◌≤◌, inl, inr, ◌++◌, List, [], ◌∷◌, length, get_or, take, refl, sym, ap, ◌∙◌, subst, arith, true, add-one}
+use Rattle.std.proofs.Common.{◌≡◌, ℕ, zero, suc, ◌+◌, ◌<◌, ◌≤◌, inl, inr, ◌++◌, List, [], ◌∷◌, length, get_or, take, refl, sym, ap, ◌∙◌, subst, arith, Bool, true, add-one}
 use Rattle.std.specs.Prelude.{slice_get, Some, Err}
 use Rattle.std.proofs.Math.Seq.{take-suc}
 use Rattle.std.proofs.lemmas.Option.{slice_get-map, slice_get_read}
@@ -8,45 +8,50 @@ use Rattle.cells.specs.Cells.{Cells, count_of, sizes_of, with_part}
 use Rattle.cells.specs.PartLists.{parts_of}
 use Rattle.cells.proofs.Joining.{count_behind}
 use Rattle.shelf_core.specs.Files.{Files, ShelfState, OnlyReads, OnlyReadsFile, Changes, content_of}
-use Rattle.shelf_core.specs.declared.fault.ReadError.{ReadError}
-use Rattle.shelf_core.specs.declared.fault.ReadError.TheVariants as error
 use Rattle.shelf_core.proofs.FileLaws.{among_head, only_reads_of_more, rose_later, told_both, told_then, told_weaker}
 use Rattle.synth_report.specs.declared.fault.FileOf.TheVariants as part
 use Rattle.synth_report.specs.declared.fault.Fault.{Fault}
 use Rattle.synth_report.specs.declared.fault.Fault.TheVariants.{Words, Form as FormFault, Unlike, Mark, Limit, Read, Write, NoMemory, NoLoop}
 use Rattle.command.specs.Commands.{named, names_in}
-use Rattle.command.specs.Faults.{FailsToRead, fault_of_read}
 use Rattle.command.proofs.Asking.{turn_among}
 use Rattle.sample_files.specs.declared.form.Form.{Form}
 use Rattle.sample_files.specs.declared.sample.Sample.{Sample}
 use Rattle.sample_files.specs.declared.several.Samples.{Samples}
-use Rattle.sample_files.specs.Samples.{IsSampleOf, IsSoundIn, IsSoundSample, RefusesSample, goes_with}
-use Rattle.sample_files.specs.Several.{StandForSamples, AreSoundSamples, MayRefuseSamples, NoSampleRefused, RefusesNext, RefusesSamples, SamplesAreRefused, SamplesReadAs, StandAlike, StandForParts, StandsAlike, contents, numbered_files, sample_files}
-use Rattle.sample_files.specs.Steps.{IsJoined, IsNextRead, IsNextRefused, NotNext}
+use Rattle.sample_files.specs.Samples.{IsSampleOf, IsSoundIn, IsSoundSample, StandsAs, can_turn, goes_with}
+use Rattle.sample_files.specs.Several.{StandForSamples, AreSoundSamples, MayRefuseSamples, NoSampleRefused, RefusesFirst, RefusesNext, RefusesSamples, SamplesAreRefused, SamplesReadAs, StandAlike, StandForParts, StandsAlike, contents, numbered_files, sample_files, with_turns}
+use Rattle.sample_files.specs.Steps.{AreSoFar, IsFirstRead, IsFirstRefused, IsJoined, IsNextRead, IsNextRefused, IsStarted, NotFirst, NotNext}
 use Rattle.sample_files.proofs.OneSample.{count_alone, sound_alone, sound_count, sound_first, sound_joined}
 use Rattle.sample_files.proofs.Joined.{parts_alone}
 use Rattle.sample_files.proofs.OneAnswer.{none_at_first, none_refused}
+use Rattle.sample_files.proofs.Turning.{with_turns-least}
 
 -- Joining.
 
-pub joined : (samples : Samples) (sample : Sample) (after : Samples) → AreSoundSamples samples → IsSoundSample sample → goes_with samples.form sample.form ≡ true
-    → count_of samples.volume + count_of sample.volume ≤ MOST_SAMPLE_CELLS → after.form ≡ samples.form → after.volume ≡ with_part samples.volume sample.volume
-    → parts_of after.volume ≡ parts_of samples.volume ++ sample.volume ∷ [] → IsJoined samples sample after
-joined samples sample after s p alike fits form volume parts = record {
+pub joined : (turns : Bool) (samples : Samples) (sample : Sample) (after : Samples) → AreSoFar turns samples → IsSoundSample sample → goes_with samples.form sample.form ≡ true
+    → with_turns turns (count_of samples.volume + count_of sample.volume) ≤ MOST_SAMPLE_CELLS → after.form ≡ samples.form → after.volume ≡ with_part samples.volume sample.volume
+    → parts_of after.volume ≡ parts_of samples.volume ++ sample.volume ∷ [] → IsJoined turns samples sample after
+joined turns samples sample after s p alike fits form volume parts = record {
   alike = alike;
   form = form;
   sizes = ap sizes_of volume;
   parts = parts;
-  sound = subst AreSoundSamples (sym after_is) (record {
-    form = sound_joined samples.form sample.form samples.volume sample.volume alike s.form p;
-    fits = (let more = count_behind samples.volume.size samples.volume.more sample.volume.size in
-        let alone = count_alone sample.volume (sound_alone sample.form sample.volume p) in
-        omega (arith, more, alone, fits));
+  so_far = subst (AreSoFar turns) (sym after_is) (record {
+    sound = record {
+      form = sound_joined samples.form sample.form samples.volume sample.volume alike s.sound.form p;
+      fits = with_turns-least turns (count_of (with_part samples.volume sample.volume)) MOST_SAMPLE_CELLS within;
+    };
+    fits = within;
   });
 }
   where
     after_is : after ≡ record { form = samples.form; volume = with_part samples.volume sample.volume }
     after_is = ap (λ f. record after { form = f }) form ∙ ap (λ v. record { form = samples.form; volume = v }) volume
+    count : count_of samples.volume + count_of sample.volume ≡ count_of (with_part samples.volume sample.volume)
+    count = (let more = count_behind samples.volume.size samples.volume.more sample.volume.size in
+        let alone = count_alone sample.volume (sound_alone sample.form sample.volume p) in
+        omega (arith, more, alone))
+    within : with_turns turns (count_of (with_part samples.volume sample.volume)) ≤ MOST_SAMPLE_CELLS
+    within = subst (λ n. with_turns turns n ≤ MOST_SAMPLE_CELLS) count fits
 
 -- One sample more stands.
 
@@ -61,20 +66,23 @@ parts_behind : (form : Form) (first : List ℕ) (files : List (List ℕ)) (parts
 parts_behind form first files [] bytes own a here = absurd a
 parts_behind form first files (p ∷ parts) bytes own a here = (a.0, alike_behind form files parts bytes own a.1 here)
 
-stand_more : (first : List ℕ) (files : List (List ℕ)) (bytes : List ℕ) (before after : Samples) (sample : Sample) → StandForSamples first files before → IsSampleOf bytes sample → IsJoined before sample after
-    → StandForSamples first (files ++ bytes ∷ []) after
-stand_more first files bytes before after sample a read j = record {
+stand_more : (turns : Bool) (first : List ℕ) (files : List (List ℕ)) (bytes : List ℕ) (before after : Samples) (sample : Sample) → StandForSamples turns first files before → IsSampleOf bytes sample → IsJoined turns before sample after
+    → StandForSamples turns first (files ++ bytes ∷ []) after
+stand_more turns first files bytes before after sample a read j = record {
   parts = subst (λ f. StandForParts f first (files ++ bytes ∷ []) (parts_of after.volume)) (sym j.form)
       (subst (StandForParts before.form first (files ++ bytes ∷ [])) (sym j.parts)
       (parts_behind before.form first files (parts_of before.volume) bytes sample.volume a.parts (record { own = sample.form; alike = j.alike; stands = read })));
-  fits = j.sound.fits;
+  pixels = λ is. subst (λ f. can_turn f ≡ true) (sym j.form) (a.pixels is);
+  fits = j.so_far.fits;
 }
 
 -- the samples of the first file
-pub stand_first : (bytes : List ℕ) (form : Form) (volume : Cells) → IsSoundIn form volume → IsSampleOf bytes (record { form = form; volume = volume }) → StandForSamples bytes [] (record { form = form; volume = volume })
-stand_first bytes form volume s read = record {
-  parts = subst (StandForParts form bytes []) (sym (parts_alone volume (sound_alone form volume s))) (read, tt);
-  fits = sound_count form volume s;
+stand_first : (turns : Bool) (bytes : List ℕ) (sample : Sample) (samples : Samples) → IsSampleOf bytes sample → IsStarted turns sample samples → StandForSamples turns bytes [] samples
+stand_first turns bytes sample samples read started = record {
+  parts = subst (StandForParts samples.form bytes []) (sym (parts_alone samples.volume started.one))
+      (subst (λ f. StandsAs bytes f samples.volume) (sym started.form) (subst (StandsAs bytes sample.form) (sym started.volume) read), tt);
+  pixels = λ is. subst (λ f. can_turn f ≡ true) (sym started.form) (started.pixels is);
+  fits = started.so_far.fits;
 }
 
 pub sound_start : (form : Form) (volume : Cells) → IsSoundIn form volume → AreSoundSamples (record { form = form; volume = volume })
@@ -91,8 +99,8 @@ contents_more files names i name lt is =
 
 -- Reading.
 
-abbrev pub AreReadSoFar : List ℕ → List (List ℕ) → Samples → ShelfState → ShelfState → Type 0
-AreReadSoFar first names samples was now = Changes was now (λ before after. StandForSamples (content_of before first) (contents before names) samples)
+abbrev pub AreReadSoFar : Bool → List ℕ → List (List ℕ) → Samples → ShelfState → ShelfState → Type 0
+AreReadSoFar turns first names samples was now = Changes was now (λ before after. StandForSamples turns (content_of before first) (contents before names) samples)
 
 module _ {asked : List (List ℕ)} (was mid now : ShelfState) (reads : OnlyReads asked was mid) where
   -- what is known of the files as they are is known of them as they were
@@ -100,39 +108,14 @@ module _ {asked : List (List ℕ)} (was mid now : ShelfState) (reads : OnlyReads
   later P known = told_then (λ before after. after ≡ before) (λ before after. P before) (λ before after. P before) was.files mid.files now.files
       (λ x y z same p. subst P same p) reads.files known
 
-  pub read_more : (first : List ℕ) (names : List (List ℕ)) (i : ℕ) (name : List ℕ) (before after : Samples) → i < length names → name ≡ get_or names i name
-      → AreReadSoFar first (take i names) before was mid → IsNextRead before name mid now after → AreReadSoFar first (take (i + 1) names) after was now
-  read_more first names i name before after lt is so_far next =
-      told_then (λ x y. (y ≡ x) × StandForSamples (content_of x first) (contents x (take i names)) before) (λ x y. IsSampleOf (content_of x name) next.sample)
-      (λ x y. StandForSamples (content_of x first) (contents x (take (i + 1) names)) after) was.files mid.files now.files
-      (λ x y z same read. subst (λ files. StandForSamples (content_of x first) files after) (sym (contents_more x names i name lt is))
-      (stand_more (content_of x first) (contents x (take i names)) (content_of x name) before after next.sample same.1 (subst (λ f. IsSampleOf (content_of f name) next.sample) same.0 read) next.joined))
-      (told_both (λ x y. y ≡ x) (λ x y. StandForSamples (content_of x first) (contents x (take i names)) before) was.files mid.files reads.files so_far) next.read
-
--- The first sample isn't read.
-
-pub first_unread : {names : List (List ℕ)} (first : List ℕ) (more : List (List ℕ)) (was now : ShelfState) → OnlyReads names was now → (answer : ReadError) → FailsToRead RefusesSample first was now answer → SamplesReadAs first more was now (Err (fault_of_read part.Sample answer))
-first_unread first more was now reads error.ReadFault left = record {
-  turn = 0;
-  name = first;
-  has_turn = refl;
-  rose = left;
-  earlier = told_weaker (λ before after. after ≡ before) (λ before after. NoSampleRefused 0 (content_of before first) (contents before more)) was.files now.files
-      (λ before after same. none_at_first (content_of before first) (contents before more)) reads.files;
-}
-first_unread first more was now reads error.NoMemory left = tt
-first_unread first more was now reads (error.Bad why) left = record {
-  known = tt;
-  refused = told_weaker (λ before after. RefusesSample (content_of before first) (error.Bad why)) (λ before after. (n : ℕ) × RefusesSamples n (content_of before first) (contents before more) (FormFault part.Sample why)) was.files now.files
-      (λ before after r. (1, inl (refl, (error.Bad why, r, refl)))) left;
-}
-first_unread first more was now reads (error.Limit what number bound) left = record {
-  known = tt;
-  refused = told_weaker (λ before after. RefusesSample (content_of before first) (error.Limit what number bound)) (λ before after. (n : ℕ) × RefusesSamples n (content_of before first) (contents before more) (Limit what number bound)) was.files now.files
-      (λ before after r. (1, inl (refl, (error.Limit what number bound, r, refl)))) left;
-}
-
--- A further sample isn't joined.
+  pub read_more : (turns : Bool) (first : List ℕ) (names : List (List ℕ)) (i : ℕ) (name : List ℕ) (before after : Samples) → i < length names → name ≡ get_or names i name
+      → AreReadSoFar turns first (take i names) before was mid → IsNextRead turns before name mid now after → AreReadSoFar turns first (take (i + 1) names) after was now
+  read_more turns first names i name before after lt is so_far next =
+      told_then (λ x y. (y ≡ x) × StandForSamples turns (content_of x first) (contents x (take i names)) before) (λ x y. IsSampleOf (content_of x name) next.sample)
+      (λ x y. StandForSamples turns (content_of x first) (contents x (take (i + 1) names)) after) was.files mid.files now.files
+      (λ x y z same read. subst (λ files. StandForSamples turns (content_of x first) files after) (sym (contents_more x names i name lt is))
+      (stand_more turns (content_of x first) (contents x (take i names)) (content_of x name) before after next.sample same.1 (subst (λ f. IsSampleOf (content_of f name) next.sample) same.0 read) next.joined))
+      (told_both (λ x y. y ≡ x) (λ x y. StandForSamples turns (content_of x first) (contents x (take i names)) before) was.files mid.files reads.files so_far) next.read
 
 numbered : (names : List (List ℕ)) (n i : ℕ) (name : List ℕ) → slice_get names i ≡ Some name → slice_get (numbered_files n names) i ≡ Some (named (part.More (n + i)) name)
 numbered [] n i name is = absurd (cc)
@@ -185,8 +168,42 @@ known_in m n (Write its) le k = absurd k
 known_in m n NoMemory le k = absurd k
 known_in m n (NoLoop length) le k = absurd k
 
-module _ {asked : List (List ℕ)} (first : List ℕ) (names : List (List ℕ)) (i : ℕ) (name : List ℕ) (before : Samples) (was mid now : ShelfState) (lt : i < length names) (is : name ≡ get_or names i name)
-    (reads : OnlyReads asked was mid) (so_far : AreReadSoFar first (take i names) before was mid) where
+-- The first sample.
+
+pub read_one : (turns : Bool) (first : List ℕ) (samples : Samples) (was now : ShelfState) → IsFirstRead turns first was now samples → AreReadSoFar turns first [] samples was now
+read_one turns first samples was now one = told_weaker (λ before after. IsSampleOf (content_of before first) one.sample) (λ before after. StandForSamples turns (content_of before first) [] samples) was.files now.files
+    (λ before after read. stand_first turns (content_of before first) one.sample samples read one.started) one.read
+
+module _ {names : List (List ℕ)} (turns : Bool) (first : List ℕ) (more : List (List ℕ)) (was now : ShelfState) (reads : OnlyReads names was now) where
+  first_refused : (fault : Fault) → IsFirstRefused turns first was now fault → SamplesAreRefused turns first more fault was now
+  first_refused fault r = record {
+    known = known_in 1 (length more + 1) fault (omega arith) r.known;
+    refused = told_weaker (λ before after. RefusesFirst turns (content_of before first) fault) (λ before after. (n : ℕ) × RefusesSamples turns n (content_of before first) (contents before more) fault) was.files now.files
+        (λ before after refused. (1, inl (refl, refused))) r.refused;
+  }
+
+  pub first_unread : (fault : Fault) → NotFirst turns first was now fault → SamplesReadAs turns first more was now (Err fault)
+  first_unread (Read its) left = record {
+    turn = 0;
+    name = first;
+    has_turn = ap (λ p. Some (named p first)) (sym left.0);
+    rose = left.1;
+    earlier = told_weaker (λ before after. after ≡ before) (λ before after. NoSampleRefused turns 0 (content_of before first) (contents before more)) was.files now.files
+        (λ before after same. none_at_first turns (content_of before first) (contents before more)) reads.files;
+  }
+  first_unread NoMemory left = tt
+  first_unread (FormFault its why) left = first_refused (FormFault its why) left
+  first_unread (Unlike its) left = first_refused (Unlike its) left
+  first_unread (Limit what number bound) left = first_refused (Limit what number bound) left
+  first_unread (Words fault) left = first_refused (Words fault) left
+  first_unread (Mark index) left = first_refused (Mark index) left
+  first_unread (Write its) left = first_refused (Write its) left
+  first_unread (NoLoop length) left = first_refused (NoLoop length) left
+
+-- A further sample.
+
+module _ {asked : List (List ℕ)} (turns : Bool) (first : List ℕ) (names : List (List ℕ)) (i : ℕ) (name : List ℕ) (before : Samples) (was mid now : ShelfState) (lt : i < length names) (is : name ≡ get_or names i name)
+    (reads : OnlyReads asked was mid) (so_far : AreReadSoFar turns first (take i names) before was mid) where
   get : slice_get names i ≡ Some name
   get = slice_get_read names (length names) i name refl lt is
 
@@ -200,18 +217,18 @@ module _ {asked : List (List ℕ)} (first : List ℕ) (names : List (List ℕ)) 
   contents_front files (x ∷ xs) (suc n) = ap (λ ys. content_of files x ∷ ys) (contents_front files xs n)
 
   abbrev SoFar : Files → Files → Type 0
-  SoFar x y = StandForSamples (content_of x first) (take i (contents x names)) before
+  SoFar x y = StandForSamples turns (content_of x first) (take i (contents x names)) before
 
-  then_front : AreReadSoFar first (take i names) before was mid → Changes was mid (λ x y. (y ≡ x) × SoFar x y)
+  then_front : AreReadSoFar turns first (take i names) before was mid → Changes was mid (λ x y. (y ≡ x) × SoFar x y)
   then_front known = told_both (λ x y. y ≡ x) SoFar was.files mid.files reads.files
-      (told_weaker (λ x y. StandForSamples (content_of x first) (contents x (take i names)) before) SoFar was.files mid.files
-      (λ x y a. subst (λ files. StandForSamples (content_of x first) files before) (contents_front x names i) a) known)
+      (told_weaker (λ x y. StandForSamples turns (content_of x first) (contents x (take i names)) before) SoFar was.files mid.files
+      (λ x y a. subst (λ files. StandForSamples turns (content_of x first) files before) (contents_front x names i) a) known)
 
-  refused : (fault : Fault) → IsNextRefused before (i + 2) name mid now fault → SamplesAreRefused first names fault was now
+  refused : (fault : Fault) → IsNextRefused turns before (i + 2) name mid now fault → SamplesAreRefused turns first names fault was now
   refused fault r = record {
     known = known_in (i + 2) (length names + 1) fault (omega arith) r.known;
-    refused = told_then (λ x y. (y ≡ x) × SoFar x y) (λ x y. RefusesNext before (i + 2) (content_of x name) fault)
-        (λ x y. (n : ℕ) × RefusesSamples n (content_of x first) (contents x names) fault) was.files mid.files now.files
+    refused = told_then (λ x y. (y ≡ x) × SoFar x y) (λ x y. RefusesNext turns before (i + 2) (content_of x name) fault)
+        (λ x y. (n : ℕ) × RefusesSamples turns n (content_of x first) (contents x names) fault) was.files mid.files now.files
         (λ x y z same next. (
           i + 2,
           inr (record {
@@ -221,20 +238,20 @@ module _ {asked : List (List ℕ)} (first : List ℕ) (names : List (List ℕ)) 
             its = contents_get x;
             before = before;
             stand = same.1;
-            refused = subst (λ f. RefusesNext before (i + 2) (content_of f name) fault) same.0 next;
+            refused = subst (λ f. RefusesNext turns before (i + 2) (content_of f name) fault) same.0 next;
           }),
         )) (then_front so_far) r.refused;
   }
 
-  pub next_unread : {later : List (List ℕ)} → OnlyReads later mid now → (fault : Fault) → NotNext before (i + 2) name mid now fault → SamplesReadAs first names was now (Err fault)
+  pub next_unread : {later : List (List ℕ)} → OnlyReads later mid now → (fault : Fault) → NotNext turns before (i + 2) name mid now fault → SamplesReadAs turns first names was now (Err fault)
   next_unread then_reads (Read its) left = record {
     turn = i + 1;
     name = name;
     has_turn = (let same : 2 + i ≡ i + 2 = omega arith in rw (add-one i)
         (numbered names 2 i name get ∙ ap (λ m. Some (named (part.More m) name)) same ∙ ap (λ p. Some (named p name)) (sym left.0)));
     rose = rose_later (was.reads name) (mid.reads name) (now.reads name) (reads.reads name) left.1;
-    earlier = told_then (λ x y. (y ≡ x) × SoFar x y) (λ x y. y ≡ x) (λ x y. NoSampleRefused (i + 1) (content_of x first) (contents x names)) was.files mid.files now.files
-        (λ x y z same then_same. none_refused (content_of x first) (contents x names) i before same.1) (then_front so_far) then_reads.files;
+    earlier = told_then (λ x y. (y ≡ x) × SoFar x y) (λ x y. y ≡ x) (λ x y. NoSampleRefused turns (i + 1) (content_of x first) (contents x names)) was.files mid.files now.files
+        (λ x y z same then_same. none_refused turns (content_of x first) (contents x names) i before same.1) (then_front so_far) then_reads.files;
   }
   next_unread then_reads NoMemory left = tt
   next_unread then_reads (FormFault its why) left = refused (FormFault its why) left

@@ -1,5 +1,5 @@
 -- Bytes that stand for samples stand for sound ones.
-use Rattle.std.proofs.Common.{◌≡◌, ℕ, zero, suc, ◌*◌, ◌/◌, ◌<◌, ◌≤◌, List, [], ◌∷◌, length, take, drop, sym, ap, ◌∙◌, subst, arith, true, eqb-true}
+use Rattle.std.proofs.Common.{◌≡◌, ℕ, zero, suc, ◌*◌, ◌/◌, ◌<◌, ◌≤◌, List, [], ◌∷◌, length, take, drop, sym, ap, ◌∙◌, subst, arith, Bool, true, eqb-true}
 use Rattle.std.specs.Prelude.{All, slice_index}
 use Rattle.std.specs.List.{AllByRecursion, concat}
 use Rattle.std.proofs.Math.Nat.{mul-div-le, mul-le-mul_left}
@@ -24,6 +24,7 @@ use Rattle.sample_files.specs.declared.form.Form.TheVariants.{Picture, Clip}
 use Rattle.sample_files.specs.declared.several.Samples.{Samples}
 use Rattle.sample_files.specs.Samples.{AreSoundIn, IsSoundWithin, StandsAs, StandsWithin, goes_with}
 use Rattle.sample_files.specs.Several.{AreSoundSamples, StandAlike, StandForParts, StandForSamples, StandsAlike}
+use Rattle.sample_files.proofs.Turning.{with_turns-least}
 
 -- what holds of each byte holds of the bytes of the cells that are made of them
 cell_bytes : (P : ℕ → Type 0) (k n : ℕ) (bytes : List ℕ) → All P bytes → All P (concat (cells_of k n bytes))
@@ -140,8 +141,8 @@ clips_sound form first files v = by v.size v.more v.cells
     by size [] cells stand = let s = clip_is_sound MOST_SAMPLE_CELLS first form _ stand.0 in record { is_form = s.form; samples = s.samples }
     by size (next ∷ more) cells stand = let s = clip_is_sound MOST_SAMPLE_CELLS first form _ stand.0 in record { is_form = s.form; samples = s.samples }
 
-pub stand_sound : (first : List ℕ) (more : List (List ℕ)) (samples : Samples) → StandForSamples first more samples → AreSoundSamples samples
-stand_sound first more samples stand = record { form = by samples.form stand.parts; fits = stand.fits }
+pub stand_sound : (turns : Bool) (first : List ℕ) (more : List (List ℕ)) (samples : Samples) → StandForSamples turns first more samples → AreSoundSamples samples
+stand_sound turns first more samples stand = record { form = by samples.form stand.parts; fits = with_turns-least turns (count_of samples.volume) MOST_SAMPLE_CELLS stand.fits }
   where
     by : (form : Form) → StandForParts form first more (parts_of samples.volume) → AreSoundIn form samples.volume
     by (Picture maxval) parts = first_sound maxval first more samples.volume parts

@@ -1,7 +1,7 @@
 -- The stages of `grow`: each has one answer, and what is planned goes by them.
 use Rattle.std.proofs.Common.{◌≡◌, ℕ, ◌+◌, ◌≤◌, inl, inr, List, length, refl, sym, subst, arith}
 use Rattle.std.proofs.lemmas.List.{append-nil}
-use Rattle.std.specs.Prelude.{Err}
+use Rattle.std.specs.Prelude.{Ok, Err}
 use Rattle.limits.specs.declared.bounds.TheConstants.{MOST_OUTPUT_CELLS}
 use Rattle.cells.specs.Places.{IsSmall, cell_count}
 use Rattle.shelf_core.specs.Files.{Files, OnlyReads, ShelfState, content_of}
@@ -20,8 +20,9 @@ use Rattle.command.proofs.Staging.{AreOne, bound_is_one, passing_is_one}
 use Rattle.command.proofs.Planning.{StandsBefore, begin, limit_passed, not_passed, pass_on, plan_made, read_on}
 use Rattle.sample_files.specs.declared.several.Samples.{Samples}
 use Rattle.sample_files.specs.Outputs.{IsWithinBounds, PassesBounds}
-use Rattle.sample_files.specs.Several.{MayRefuseSamples, SamplesReadAs, StandForSamples, contents, sample_files}
-use Rattle.sample_files.proofs.Commands.{samples_are_one, samples_not_read}
+use Rattle.sample_files.specs.Several.{AsksParts, MayRefuseSamples, SamplesReadAs, StandForSamples, contents, read_samples, sample_files}
+use Rattle.sample_files.proofs.Commands.{parts_are_one, parts_passed, parts_refused, samples_are_one, samples_not_read}
+use Rattle.worked.specs.Worked.{worked, worked_samples}
 use Rattle.grow_command.specs.declared.plan.Growth.{Growth}
 use Rattle.grow_command.specs.Growths.{IsGrowSummary, IsGrownOver, fault_of_growing, grow_command, grow_over, grow_stages, growth_files, growth_of, growth_summary, plan_of}
 
@@ -29,11 +30,11 @@ pub small_output : (job : GrowJob) → IsGrowJob job → cell_count job.size ≤
 small_output job lawful cells = record { axes = lawful.axes; cells = omega (arith, cells) }
 
 pub are_one : (job : GrowJob) (files : Files) → AreOne (grow_stages job) files
-are_one job files = (
-  samples_are_one job.names.sample job.names.more files,
+are_one job files = parts_are_one job.turns (length job.names.more + 1) _ files (
+  samples_are_one job.turns job.names.sample job.names.more files,
   λ samples read. (
     bound_is_one _ _ _,
-    λ frames. (bound_is_one _ _ _, λ cells. (passing_is_one _ _ _ (limits_are_one (plan_of job) samples.volume), λ none first second a b. refl)),
+    λ frames. (bound_is_one _ _ _, λ cells. (passing_is_one _ _ _ (limits_are_one (plan_of job) (worked job.turns samples.volume)), λ none first second a b. refl)),
   ),
 )
 
@@ -43,31 +44,38 @@ samples_only job a b reads = subst (λ files. OnlyReads (names_in files) a b) (s
 
 -- What is planned: the code has the samples under the names that it sees.
 
-module _ (job : GrowJob) (a b : ShelfState) {more : List (List ℕ)} (same : more ≡ job.names.more) (reads : OnlyReads (names_in (sample_files job.names.sample more)) a b) where
-  begun : StandsBefore (grow_command job) a a 0 (grow_stages job)
-  begun = begin (grow_stages job) (grow_command job).writes (MayRefuseSamples (length job.names.more + 1)) IsGrowSummary (are_one job) a
+-- before any file is read
+begun : (job : GrowJob) (a : ShelfState) → StandsBefore (grow_command job) a a 0 (grow_stages job)
+begun job a = begin (grow_stages job) (grow_command job).writes (MayRefuseSamples (length job.names.more + 1)) IsGrowSummary (are_one job) a
+
+pub parts_pass : (job : GrowJob) (a : ShelfState) (fault : Fault) → AsksParts job.turns (length job.names.more + 1) (Err fault) → NotMade (grow_command job) a a fault
+parts_pass job a = parts_refused job.turns (length job.names.more + 1) (begun job a) (λ what number bound. tt)
+
+module _ (job : GrowJob) (a b : ShelfState) (few : AsksParts job.turns (length job.names.more + 1) (Ok tt)) {more : List (List ℕ)} (same : more ≡ job.names.more) (reads : OnlyReads (names_in (sample_files job.names.sample more)) a b) where
+  before_samples : StandsBefore (grow_command job) a a 0 (read_samples job.turns job.names.sample job.names.more (grow_over job))
+  before_samples = parts_passed job.turns (length job.names.more + 1) (begun job a) few
 
   to_samples : OnlyReads (names_in (sample_files job.names.sample job.names.more)) a b
   to_samples = subst (λ names. OnlyReads (names_in (sample_files job.names.sample names)) a b) same reads
 
-  pub no_samples : (fault : Fault) → SamplesReadAs job.names.sample more a b (Err fault) → NotMade (grow_command job) a b fault
-  no_samples fault left = samples_not_read job.names.sample job.names.more begun to_samples (λ its may. may) fault (subst (λ names. SamplesReadAs job.names.sample names a b (Err fault)) same left)
+  pub no_samples : (fault : Fault) → SamplesReadAs job.turns job.names.sample more a b (Err fault) → NotMade (grow_command job) a b fault
+  no_samples fault left = samples_not_read job.turns job.names.sample job.names.more before_samples to_samples (λ its may. may) fault (subst (λ names. SamplesReadAs job.turns job.names.sample names a b (Err fault)) same left)
 
-  module _ (samples : Samples) (read : Sees a b (λ files. StandForSamples (content_of files job.names.sample) (contents files more) samples)) where
+  module _ (samples : Samples) (read : Sees a b (λ files. StandForSamples job.turns (content_of files job.names.sample) (contents files more) samples)) where
     over : StandsBefore (grow_command job) a b (0 + length (sample_files job.names.sample job.names.more)) (grow_over job samples)
-    over = read_on (sample_files job.names.sample job.names.more) begun to_samples samples
-        (subst (λ names. Sees a b (λ files. StandForSamples (content_of files job.names.sample) (contents files names) samples)) same read)
+    over = read_on (sample_files job.names.sample job.names.more) before_samples to_samples samples
+        (subst (λ names. Sees a b (λ files. StandForSamples job.turns (content_of files job.names.sample) (contents files names) samples)) same read)
 
     pub output_refused : (fault : Fault) → PassesBounds job.size samples.form fault → NotMade (grow_command job) a b fault
     output_refused fault (inl frames) = limit_passed over fault _ _ _ frames.1 frames tt
     output_refused fault (inr cells) = limit_passed (pass_on over cells.0) fault _ _ _ cells.1.1 cells.1 tt
 
-    pub not_grown : IsWithinBounds job.size samples.form → (why : GrowError) → IsGrowFault (plan_of job) samples.volume why → NotMade (grow_command job) a b (fault_of_growing why)
+    pub not_grown : IsWithinBounds job.size samples.form → (why : GrowError) → IsGrowFault (plan_of job) (worked job.turns samples.volume) why → NotMade (grow_command job) a b (fault_of_growing why)
     not_grown bounds (error.Records number) passes = not_passed (pass_on (pass_on over bounds.frames) bounds.cells) _ (number, passes, refl) tt
     not_grown bounds error.NoMemory left = tt
 
-    pub growth_made : IsGrowJob job → IsWithinBounds job.size samples.form → (grown : Grown) → IsGrownOver job samples grown → (growth : Growth) → growth ≡ growth_of samples grown → IsPlanned (grow_command job) (growth_files job growth) (growth_summary job growth) a b
+    pub growth_made : IsGrowJob job → IsWithinBounds job.size samples.form → (grown : Grown) → IsGrownOver job (worked_samples job.turns samples) grown → (growth : Growth) → growth ≡ growth_of job samples grown → IsPlanned (grow_command job) (growth_files job growth) (growth_summary job growth) a b
     growth_made lawful bounds grown is growth growth_is =
-        let none = ends_within (plan_of job) samples.volume is.volume (small_output job lawful bounds.cells) grown.cuts (record { map = grown.canvas.map; draws = is.run.draws; rounds = grown.rounds }) in
+        let none = ends_within (plan_of job) (worked job.turns samples.volume) is.volume (small_output job lawful bounds.cells) grown.cuts (record { map = grown.canvas.map; draws = is.run.draws; rounds = grown.rounds }) in
         let made = plan_made (pass_on (pass_on (pass_on over bounds.frames) bounds.cells) (λ number. none number is.run.run is.run.done is.run.writable.cells)) grown is refl (_, _, _, _, refl) in
         subst (λ g. IsPlanned (grow_command job) (growth_files job g) (growth_summary job g) a b) (sym growth_is) made

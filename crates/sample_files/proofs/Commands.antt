@@ -1,11 +1,12 @@
 -- From the reading of samples to what a command leaves that reads them first.
 use Rattle.std.proofs.Common.{◌≡◌, ℕ, suc, ◌+◌, ◌≤◌, List, [], ◌∷◌, length, refl, sym, ap, ◌∙◌, subst, arith, Bool, true, false}
-use Rattle.std.specs.Prelude.{Err}
+use Rattle.std.specs.Prelude.{Ok, Err}
 use Rattle.std.proofs.lemmas.Option.{slice_get_within}
 use Rattle.limits.specs.declared.bounds.TheConstants.{MOST_SAMPLE_CELLS}
 use Rattle.cells.specs.Cells.{Cells, IsOnePart, count_of}
 use Rattle.cells.specs.PartLists.{parts_of}
 use Rattle.shelf_core.specs.Files.{Files, OnlyReads, ShelfState, content_of}
+use Rattle.shelf_core.specs.declared.fault.What.{What}
 use Rattle.shelf_core.proofs.FileLaws.{told_weaker}
 use Rattle.synth_report.specs.declared.fault.FileOf.{FileOf}
 use Rattle.synth_report.specs.declared.fault.Fault.{Fault}
@@ -14,12 +15,12 @@ use Rattle.command.specs.Commands.{Command, HasTurn, NamedFile, named, names_in}
 use Rattle.command.specs.Outcomes.{AreRefused, NoneRefused, NotMade}
 use Rattle.command.specs.Stages.{Stages}
 use Rattle.command.specs.Stages.Stages.{read}
-use Rattle.command.proofs.Staging.{IsOneReader, ReadsOne}
-use Rattle.command.proofs.Planning.{StandsBefore, not_read_on}
+use Rattle.command.proofs.Staging.{AreOne, IsOneReader, ReadsOne, bound_is_one}
+use Rattle.command.proofs.Planning.{StandsBefore, limit_passed, not_read_on, pass_on}
 use Rattle.sample_files.specs.declared.sample.Sample.{Sample}
 use Rattle.sample_files.specs.declared.several.Samples.{Samples}
 use Rattle.sample_files.specs.Samples.{IsSampleOf, RefusesSample, StandsAs}
-use Rattle.sample_files.specs.Several.{StandForSamples, MayRefuseSamples, NoSampleRefused, RefusesSamples, SamplesAreRefused, SamplesReadAs, StandForParts, contents, numbered_files, sample_files}
+use Rattle.sample_files.specs.Several.{AsksParts, parts_within, StandForSamples, MayRefuseSamples, NoSampleRefused, RefusesSamples, SamplesAreRefused, SamplesReadAs, StandForParts, contents, numbered_files, sample_files}
 use Rattle.sample_files.proofs.OneAnswer.{not_both, one_value, refused_once}
 use Rattle.sample_files.proofs.OneSample.{one_sample, one_sample_refusal, stands_alone, stands_or_refused}
 use Rattle.sample_files.proofs.Joined.{parts_alone, same_parts}
@@ -91,6 +92,22 @@ sample_is_one = record {
   one_refusal = one_sample_refusal MOST_SAMPLE_CELLS;
 }
 
+-- The number of parts is asked for.
+
+pub parts_are_one : {others : List NamedFile} (turns : Bool) (count : ℕ) (next : Stages others) (files : Files) → AreOne next files → AreOne (parts_within turns count next) files
+parts_are_one false count next files one = one
+parts_are_one true count next files one = (bound_is_one _ _ _, λ passes. one)
+
+pub parts_passed : {c : Command} {a b : ShelfState} {turn : ℕ} {others : List NamedFile} {next : Stages others} (turns : Bool) (count : ℕ) → StandsBefore c a b turn (parts_within turns count next)
+    → AsksParts turns count (Ok tt) → StandsBefore c a b turn next
+parts_passed false count at within = at
+parts_passed true count at within = pass_on at (within refl)
+
+pub parts_refused : {c : Command} {a b : ShelfState} {turn : ℕ} {others : List NamedFile} {next : Stages others} (turns : Bool) (count : ℕ) → StandsBefore c a b turn (parts_within turns count next)
+    → ((what : What) (number bound : ℕ) → c.MayRefuse (Limit what number bound)) → (fault : Fault) → AsksParts turns count (Err fault) → NotMade c a b fault
+parts_refused false count at may fault asks = let is = asks.0 in absurd (cc)
+parts_refused true count at may fault asks = limit_passed at fault _ _ _ asks.1.1 asks.1 (may _ _ _)
+
 -- the samples of one file are the sample of that file
 pub one_file : (turns : Bool) (first : List ℕ) (samples : Samples) → StandForSamples turns first [] samples → StandsAs first samples.form samples.volume
 one_file turns first samples a = by (parts_of samples.volume) refl a.parts
@@ -108,6 +125,7 @@ pub alone : (files : Files) (first : List ℕ) (more : List (List ℕ)) (samples
 alone files first more samples none stands one fits = record {
   parts = subst (λ names. StandForParts samples.form (content_of files first) (contents files names) (parts_of samples.volume)) (sym none)
       (subst (StandForParts samples.form (content_of files first) []) (sym (parts_alone samples.volume one)) (stands, tt));
+  few = λ turns. absurd (cc);
   pixels = λ turns. absurd (cc);
   fits = fits;
 }

@@ -1,9 +1,12 @@
 -- The samples read so far, and how the reading ends.
-use Rattle.std.proofs.Common.{◌≡◌, ℕ, zero, suc, ◌+◌, ◌<◌, ◌≤◌, inl, inr, ◌++◌, List, [], ◌∷◌, length, get_or, take, refl, sym, ap, ◌∙◌, subst, arith, Bool, true, add-one}
+use Rattle.std.proofs.Common.{◌≡◌, ℕ, zero, suc, ◌+◌, ◌*◌, ◌<◌, ◌≤◌, inl, inr, ◌++◌, List, [], ◌∷◌, length, get_or, take, refl, sym, ap, ◌∙◌, subst, arith, Bool, true, add-one}
 use Rattle.std.specs.Prelude.{slice_get, Some, Err}
 use Rattle.std.proofs.Math.Seq.{take-suc}
+use Rattle.std.proofs.Common.{length-append}
+use Rattle.std.proofs.lemmas.List.{length-map, length-take-le}
 use Rattle.std.proofs.lemmas.Option.{slice_get-map, slice_get_read}
-use Rattle.limits.specs.declared.bounds.TheConstants.{MOST_SAMPLE_CELLS}
+use Rattle.limits.specs.declared.bounds.TheConstants.{MOST_PARTS, MOST_SAMPLE_CELLS}
+use Rattle.turned.specs.declared.turn.TheConstants.{TURNS}
 use Rattle.cells.specs.Cells.{Cells, count_of, sizes_of, with_part}
 use Rattle.cells.specs.PartLists.{parts_of}
 use Rattle.cells.proofs.Joining.{count_behind}
@@ -67,11 +70,12 @@ parts_behind form first files [] bytes own a here = absurd a
 parts_behind form first files (p ∷ parts) bytes own a here = (a.0, alike_behind form files parts bytes own a.1 here)
 
 stand_more : (turns : Bool) (first : List ℕ) (files : List (List ℕ)) (bytes : List ℕ) (before after : Samples) (sample : Sample) → StandForSamples turns first files before → IsSampleOf bytes sample → IsJoined turns before sample after
-    → StandForSamples turns first (files ++ bytes ∷ []) after
-stand_more turns first files bytes before after sample a read j = record {
+    → (turns ≡ true → TURNS * (length (files ++ bytes ∷ []) + 1) ≤ MOST_PARTS) → StandForSamples turns first (files ++ bytes ∷ []) after
+stand_more turns first files bytes before after sample a read j few = record {
   parts = subst (λ f. StandForParts f first (files ++ bytes ∷ []) (parts_of after.volume)) (sym j.form)
       (subst (StandForParts before.form first (files ++ bytes ∷ [])) (sym j.parts)
       (parts_behind before.form first files (parts_of before.volume) bytes sample.volume a.parts (record { own = sample.form; alike = j.alike; stands = read })));
+  few = few;
   pixels = λ is. subst (λ f. can_turn f ≡ true) (sym j.form) (a.pixels is);
   fits = j.so_far.fits;
 }
@@ -81,6 +85,7 @@ stand_first : (turns : Bool) (bytes : List ℕ) (sample : Sample) (samples : Sam
 stand_first turns bytes sample samples read started = record {
   parts = subst (StandForParts samples.form bytes []) (sym (parts_alone samples.volume started.one))
       (subst (λ f. StandsAs bytes f samples.volume) (sym started.form) (subst (StandsAs bytes sample.form) (sym started.volume) read), tt);
+  few = λ is. omega arith;
   pixels = λ is. subst (λ f. can_turn f ≡ true) (sym started.form) (started.pixels is);
   fits = started.so_far.fits;
 }
@@ -109,13 +114,21 @@ module _ {asked : List (List ℕ)} (was mid now : ShelfState) (reads : OnlyReads
       (λ x y z same p. subst P same p) reads.files known
 
   pub read_more : (turns : Bool) (first : List ℕ) (names : List (List ℕ)) (i : ℕ) (name : List ℕ) (before after : Samples) → i < length names → name ≡ get_or names i name
-      → AreReadSoFar turns first (take i names) before was mid → IsNextRead turns before name mid now after → AreReadSoFar turns first (take (i + 1) names) after was now
-  read_more turns first names i name before after lt is so_far next =
+      → (turns ≡ true → TURNS * (length names + 1) ≤ MOST_PARTS) → AreReadSoFar turns first (take i names) before was mid → IsNextRead turns before name mid now after → AreReadSoFar turns first (take (i + 1) names) after was now
+  read_more turns first names i name before after lt is few so_far next =
       told_then (λ x y. (y ≡ x) × StandForSamples turns (content_of x first) (contents x (take i names)) before) (λ x y. IsSampleOf (content_of x name) next.sample)
       (λ x y. StandForSamples turns (content_of x first) (contents x (take (i + 1) names)) after) was.files mid.files now.files
       (λ x y z same read. subst (λ files. StandForSamples turns (content_of x first) files after) (sym (contents_more x names i name lt is))
-      (stand_more turns (content_of x first) (contents x (take i names)) (content_of x name) before after next.sample same.1 (subst (λ f. IsSampleOf (content_of f name) next.sample) same.0 read) next.joined))
+      (stand_more turns (content_of x first) (contents x (take i names)) (content_of x name) before after next.sample same.1 (subst (λ f. IsSampleOf (content_of f name) next.sample) same.0 read) next.joined (few_so_far x)))
       (told_both (λ x y. y ≡ x) (λ x y. StandForSamples turns (content_of x first) (contents x (take i names)) before) was.files mid.files reads.files so_far) next.read
+    where
+      few_so_far : (x : Files) → turns ≡ true → TURNS * (length (contents x (take i names) ++ content_of x name ∷ []) + 1) ≤ MOST_PARTS
+      few_so_far x on =
+          let so_many = length-append (contents x (take i names)) (content_of x name ∷ []) in
+          let mapped = length-map (take i names) (content_of x) in
+          let taken = length-take-le i names (omega (arith, lt)) in
+          let all = few on in
+          omega (arith, so_many, mapped, taken, all, lt)
 
 numbered : (names : List (List ℕ)) (n i : ℕ) (name : List ℕ) → slice_get names i ≡ Some name → slice_get (numbered_files n names) i ≡ Some (named (part.More (n + i)) name)
 numbered [] n i name is = absurd (cc)

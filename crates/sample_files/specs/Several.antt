@@ -63,11 +63,12 @@ StandForParts form first more (part ∷ parts) =
 
 -- the bytes stand for the parts of the volume, one file for each in their order: the first in the
 -- form of the samples, each other in a form that goes with it. All have no more cells together than
--- one sample may have. With turns their cells can be turned, and all turns of all of them have no
--- more cells together
+-- one sample may have. With turns they give no more parts than a volume may have, their cells can be
+-- turned, and all turns of all of them have no more cells together
 pub record StandForSamples (turns : Bool) (first : List ℕ) (more : List (List ℕ))
     (samples : Samples) : Type 0 where
   pub parts : StandForParts samples.form first more (parts_of samples.volume)
+  pub few : turns ≡ true → TURNS * (length more + 1) ≤ MOST_PARTS
   pub pixels : turns ≡ true → can_turn samples.form ≡ true
   pub fits : with_turns turns (count_of samples.volume) ≤ MOST_SAMPLE_CELLS
 

@@ -1,9 +1,10 @@
 // The samples of a run as one volume.
-ghost use Rattle.std.specs.Prelude.{◌≡◌, ◌≤◌, ◌<◌, ◌+◌, length, IfOk};
+ghost use Rattle.std.specs.Prelude.{◌≡◌, ◌≤◌, ◌<◌, ◌+◌, ◌*◌, true, length, IfOk};
 ghost use Rattle.cells.specs.Cells.{IsVolume, count_of, sizes_of};
 ghost use Rattle.limits.specs.declared.bounds.TheConstants.{MOST_CELLS, MOST_PARTS, MOST_SAMPLE_CELLS};
 ghost use Rattle.shelf_core.specs.Files.{OnlyReads, OnlyReadsFile};
 ghost use Rattle.shelf_core.specs.declared.fault.What.TheVariants.{Cells as CellsLimit};
+ghost use Rattle.turned.specs.declared.turn.TheConstants.{TURNS};
 ghost use Rattle.command.specs.Commands.{names_in};
 ghost use Rattle.command.specs.Stages.{AsksBound};
 ghost use Rattle.sample_files.specs.Samples.{IsSoundSample};
@@ -151,7 +152,7 @@ fn read_next<S: Shelf>(
 }
 
 /// Reads the samples of a run in the order of their numbers, each to its end, with the refusals of
-/// their forms. With turns the first is refused where its cells can't be turned, and then where its turns
+/// their forms. With turns there are at most 2, as `parts_within` asks; the first is refused where its cells can't be turned, and then where its turns
 /// have too many cells. A further sample is refused where it doesn't go with the first, and then where all
 /// so far have too many cells together, with their turns. No file is read after a refusal. The samples are
 /// as they were read: none is turned.
@@ -162,7 +163,8 @@ pub fn read_samples<S: Shelf>(
     first: &Name,
     more: &[Name],
 ) -> Result<Samples, Fault>
-    requires { length more.now < MOST_PARTS }
+    requires some { length more.now < MOST_PARTS }
+    requires few { turns ≡ true → TURNS * (length more.now + 1) ≤ MOST_PARTS }
     ensures answer { SamplesReadAs turns first.now more.now
         (S.state shelf.old) (S.state shelf.new) result }
     ensures sound { IfOk result AreSoundSamples }

@@ -1,12 +1,11 @@
 -- The stages of `check`: each has one answer, and what is read goes by them.
-use Rattle.std.proofs.Common.{◌≡◌, ℕ, ◌+◌, List, [], ◌∷◌, length, refl, ap, ◌∙◌, subst}
-use Rattle.std.specs.Prelude.{Err}
-use Rattle.limits.specs.declared.bounds.TheConstants.{MOST_OUT_CLIP_CELLS}
+use Rattle.std.proofs.Common.{◌≡◌, ℕ, ◌+◌, ◌*◌, ◌≤◌, Bool, List, [], ◌∷◌, length, refl, ap, ◌∙◌, subst}
+use Rattle.std.specs.Prelude.{Ok, Err}
+use Rattle.limits.specs.declared.bounds.TheConstants.{MOST_OUT_CLIP_CELLS, MOST_PARTS}
 use Rattle.shelf_core.specs.Files.{Files, InFile, OnlyReads, OnlyReadsFile, ShelfState, content_of}
 use Rattle.shelf_core.proofs.FileLaws.{told_both, told_weaker}
 use Rattle.shelf_core.proofs.Sees.{Sees}
 use Rattle.source_map.specs.declared.map_file.MapFile.{MapFile}
-use Rattle.source_map.specs.MapFiles.{map_read}
 use Rattle.cert_file.specs.RecordFiles.{RefusesRecordFile, record_file_read}
 use Rattle.job_words.specs.declared.check.CheckJob.{CheckJob}
 use Rattle.job_words.specs.declared.job.Names.{Names}
@@ -23,15 +22,18 @@ use Rattle.command.proofs.Staging.{AreOne, ReadsOne, file_is_one, one_answer, re
 use Rattle.command.proofs.Planning.{StandsBefore, begin, file_read, part_not_read, read_on, reads_on}
 use Rattle.sample_files.specs.declared.sample.Sample.{Sample}
 use Rattle.sample_files.specs.declared.several.Samples.{Samples}
-use Rattle.sample_files.specs.Several.{MayRefuseSamples, SamplesReadAs, StandForSamples, contents, sample_files}
-use Rattle.sample_files.proofs.Commands.{samples_are_one, samples_not_read}
+use Rattle.sample_files.specs.Several.{AsksParts, MayRefuseSamples, SamplesReadAs, StandForSamples, contents, read_samples, sample_files}
+use Rattle.sample_files.proofs.Commands.{parts_are_one, parts_made, parts_make, parts_passed, parts_refused, samples_are_one, samples_not_read}
+use Rattle.worked.specs.Worked.{worked_samples}
+use Rattle.turned.specs.declared.turn.TheConstants.{TURNS}
+use Rattle.std.proofs.lemmas.List.{length-map}
 use Rattle.sample_files.proofs.OneSample.{one_sample, one_sample_refusal, stands_or_refused}
 use Rattle.standing_files.specs.declared.verdict.Verdict.{Verdict}
 use Rattle.standing_files.specs.declared.verdict.Verdict.TheVariants.{Stands, Fails}
 use Rattle.standing_files.specs.Standing.{IsVerdict}
 use Rattle.standing_files.proofs.Breaking.{breaks_none}
 use Rattle.check_command.specs.declared.reading.ReadFiles.{ReadFiles}
-use Rattle.check_command.specs.Checks.{AreRunFiles, IsCheckSummary, IsReadMap, IsOut, MayRefuseFiles, RefusesMap, RefusesOutBytes, check_command, check_stages, stages_over, summary_of}
+use Rattle.check_command.specs.Checks.{AreRunFiles, IsCheckSummary, IsReadMap, IsOut, MayRefuseFiles, RefusesMap, RefusesOutBytes, check_command, check_stages, run_map_read, stages_over, summary_of}
 
 known_samples : (n : ℕ) (fault : Fault) → MayRefuseSamples n fault → MayRefuseFiles n fault
 known_samples n (Form part.Out why) may = tt
@@ -70,41 +72,48 @@ same_status samples out map_file record_file Stands (Fails number rule place) a 
 same_status samples out map_file record_file (Fails number rule place) Stands a b = absurd (breaks_none samples out map_file record_file number rule place b a)
 same_status samples out map_file record_file (Fails number rule place) (Fails number' rule' place') a b = refl
 
-are_one : (names : Names) (files : Files) → AreOne (check_stages names) files
-are_one names files = (
-  samples_are_one names.sample names.more files,
+are_one : (turns : Bool) (names : Names) (files : Files) → AreOne (check_stages turns names) files
+are_one turns names files = parts_are_one turns (length names.more + 1) _ files (
+  samples_are_one turns names.sample names.more files,
   λ samples stand. (
     file_is_one out_is_one part.Out names.out files,
     λ out is_out. (
-      file_is_one (read_by map_read) part.Map names.map files,
-      λ map_file is_map. (file_is_one (read_by record_file_read) part.Record names.record_file files, λ record_file is_record_file. same_status samples out map_file record_file),
+      file_is_one (read_by (run_map_read turns)) part.Map names.map files,
+      λ map_file is_map. (file_is_one (read_by record_file_read) part.Record names.record_file files, λ record_file is_record_file. same_status (worked_samples turns samples) out map_file record_file),
     ),
   ),
 )
 
 pub check_has_one_answer : (job : CheckJob) → HasOneAnswer (check_command job)
-check_has_one_answer job = one_answer (check_stages job.names) [] (MayRefuseFiles (length job.names.more + 1)) IsCheckSummary (are_one job.names)
+check_has_one_answer job = one_answer (check_stages job.turns job.names) [] (MayRefuseFiles (length job.names.more + 1)) IsCheckSummary (are_one job.turns job.names)
+
+-- before any file is read
+begun : (job : CheckJob) (a : ShelfState) → StandsBefore (check_command job) a a 0 (check_stages job.turns job.names)
+begun job a = begin (check_stages job.turns job.names) [] (MayRefuseFiles (length job.names.more + 1)) IsCheckSummary (are_one job.turns job.names) a
+
+pub parts_pass : (job : CheckJob) (a : ShelfState) (fault : Fault) → AsksParts job.turns (length job.names.more + 1) (Err fault) → NotMade (check_command job) a a fault
+parts_pass job a = parts_refused job.turns (length job.names.more + 1) (begun job a) (λ what number bound. tt)
 
 -- What is read: the samples, which the code has under the names that it sees.
 
-module _ (job : CheckJob) (a b : ShelfState) {more : List (List ℕ)} (same : more ≡ job.names.more) (reads : OnlyReads (names_in (sample_files job.names.sample more)) a b) where
-  begun : StandsBefore (check_command job) a a 0 (check_stages job.names)
-  begun = begin (check_stages job.names) [] (MayRefuseFiles (length job.names.more + 1)) IsCheckSummary (are_one job.names) a
+module _ (job : CheckJob) (a b : ShelfState) (few : AsksParts job.turns (length job.names.more + 1) (Ok tt)) {more : List (List ℕ)} (same : more ≡ job.names.more) (reads : OnlyReads (names_in (sample_files job.names.sample more)) a b) where
+  before_samples : StandsBefore (check_command job) a a 0 (read_samples job.turns job.names.sample job.names.more (stages_over job.turns job.names))
+  before_samples = parts_passed job.turns (length job.names.more + 1) (begun job a) few
 
   to_samples : OnlyReads (names_in (sample_files job.names.sample job.names.more)) a b
   to_samples = subst (λ names. OnlyReads (names_in (sample_files job.names.sample names)) a b) same reads
 
-  pub no_samples : (fault : Fault) → SamplesReadAs job.names.sample more a b (Err fault) → NotMade (check_command job) a b fault
+  pub no_samples : (fault : Fault) → SamplesReadAs job.turns job.names.sample more a b (Err fault) → NotMade (check_command job) a b fault
   no_samples fault left =
-      samples_not_read job.names.sample job.names.more begun to_samples (known_samples (length job.names.more + 1)) fault (subst (λ names. SamplesReadAs job.names.sample names a b (Err fault)) same left)
+      samples_not_read job.turns job.names.sample job.names.more before_samples to_samples (known_samples (length job.names.more + 1)) fault (subst (λ names. SamplesReadAs job.turns job.names.sample names a b (Err fault)) same left)
 
   pub samples_only : OnlyReads (names_in (check_command job).reads) a b
-  samples_only = reads_on (sample_files job.names.sample job.names.more) begun to_samples
+  samples_only = reads_on (sample_files job.names.sample job.names.more) before_samples to_samples
 
-  module _ (samples : Samples) (stand : Sees a b (λ files. StandForSamples (content_of files job.names.sample) (contents files more) samples)) (d : ShelfState) (to_out : OnlyReadsFile job.names.out b d) where
-    before_out : StandsBefore (check_command job) a b (0 + length (sample_files job.names.sample job.names.more)) (stages_over job.names samples)
-    before_out = read_on (sample_files job.names.sample job.names.more) begun to_samples samples
-        (subst (λ names. Sees a b (λ files. StandForSamples (content_of files job.names.sample) (contents files names) samples)) same stand)
+  module _ (samples : Samples) (stand : Sees a b (λ files. StandForSamples job.turns (content_of files job.names.sample) (contents files more) samples)) (d : ShelfState) (to_out : OnlyReadsFile job.names.out b d) where
+    before_out : StandsBefore (check_command job) a b (0 + length (sample_files job.names.sample job.names.more)) (stages_over job.turns job.names samples)
+    before_out = read_on (sample_files job.names.sample job.names.more) before_samples to_samples samples
+        (subst (λ names. Sees a b (λ files. StandForSamples job.turns (content_of files job.names.sample) (contents files names) samples)) same stand)
 
     pub no_out : (fault : Fault) → IsNotRead RefusesOutBytes part.Out job.names.out b d fault → NotMade (check_command job) a d fault
     no_out = part_not_read RefusesOutBytes before_out to_out (λ why. tt) (λ what number bound. tt)
@@ -113,13 +122,13 @@ module _ (job : CheckJob) (a b : ShelfState) {more : List (List ℕ)} (same : mo
     out_only = reads_on (named part.Out job.names.out ∷ []) before_out to_out
 
     module _ (out : Sample) (is_out : InFile job.names.out b d (λ bytes. IsOut bytes out)) (e : ShelfState) (to_map : OnlyReadsFile job.names.map d e) where
-      pub no_map : (fault : Fault) → IsNotRead RefusesMap part.Map job.names.map d e fault → NotMade (check_command job) a e fault
-      no_map = part_not_read RefusesMap (file_read before_out to_out out is_out) to_map (λ why. tt) (λ what number bound. tt)
+      pub no_map : (fault : Fault) → IsNotRead (RefusesMap job.turns) part.Map job.names.map d e fault → NotMade (check_command job) a e fault
+      no_map = part_not_read (RefusesMap job.turns) (file_read before_out to_out out is_out) to_map (λ why. tt) (λ what number bound. tt)
 
       pub map_only : OnlyReads (names_in (check_command job).reads) a e
       map_only = reads_on (named part.Map job.names.map ∷ []) (file_read before_out to_out out is_out) to_map
 
-      module _ (map_file : MapFile) (is_map : InFile job.names.map d e (λ bytes. IsReadMap bytes map_file)) (f : ShelfState) (to_record : OnlyReadsFile job.names.record_file e f) where
+      module _ (map_file : MapFile) (is_map : InFile job.names.map d e (λ bytes. IsReadMap job.turns bytes map_file)) (f : ShelfState) (to_record : OnlyReadsFile job.names.record_file e f) where
         pub no_record : (fault : Fault) → IsNotRead RefusesRecordFile part.Record job.names.record_file e f fault → NotMade (check_command job) a f fault
         no_record = part_not_read RefusesRecordFile (file_read (file_read before_out to_out out is_out) to_map map_file is_map) to_record (λ why. tt) (λ what number bound. tt)
 
@@ -128,31 +137,36 @@ module _ (job : CheckJob) (a b : ShelfState) {more : List (List ℕ)} (same : mo
 
 -- What is made of them.
 
-pub made_of : (names : Names) (files : Files) (values : ReadFiles) → AreRunFiles names files values → (verdict : Verdict) → IsVerdict values.samples values.out values.map values.record_file verdict → AllMake (check_stages names) files [] (summary_of verdict)
-made_of names files values are verdict judged = (values.samples, are.samples, (values.out, are.out, (values.map, are.map, (values.record_file, are.record_file, (verdict, judged, refl, refl)))))
+pub made_of : (turns : Bool) (names : Names) (files : Files) (values : ReadFiles) → AreRunFiles turns names files values → (verdict : Verdict) → IsVerdict values.samples values.out values.map values.record_file verdict → AllMake (check_stages turns names) files [] (summary_of verdict)
+made_of turns names files values are verdict judged = parts_make turns (length names.more + 1) _ files [] (summary_of verdict)
+    (λ on. subst (λ n. TURNS * (n + 1) ≤ MOST_PARTS) (length-map names.more (content_of files)) (are.samples.stand.few on))
+    (are.samples.samples, are.samples.stand, (values.out, are.out, (values.map, are.map, (values.record_file, are.record_file, (verdict, subst (λ samples. IsVerdict samples values.out values.map values.record_file verdict) are.samples.is judged, refl, refl)))))
 
 -- it is a verdict on the values that the files stand for
-pub record IsJudged (names : Names) (files : Files) (summary : Summary) : Type 0 where
+pub record IsJudged (turns : Bool) (names : Names) (files : Files) (summary : Summary) : Type 0 where
   pub values : ReadFiles
-  pub are : AreRunFiles names files values
+  pub are : AreRunFiles turns names files values
   pub verdict : Verdict
   pub judged : IsVerdict values.samples values.out values.map values.record_file verdict
   pub summary_is : summary ≡ summary_of verdict
 
-pub judged_of : (names : Names) (files : Files) (texts : List (List ℕ)) (summary : Summary) → AllMake (check_stages names) files texts summary → IsJudged names files summary
-judged_of names files texts summary (samples, stand, (out, is_out, (map_file, is_map, (record_file, is_record_file, (verdict, judged, texts_are, summary_is))))) = record {
-  values = record { samples = samples; out = out; map = map_file; record_file = record_file };
-  are = record { samples = stand; out = is_out; map = is_map; record_file = is_record_file };
-  verdict = verdict;
-  judged = judged;
-  summary_is = summary_is;
-}
+pub judged_of : (turns : Bool) (names : Names) (files : Files) (texts : List (List ℕ)) (summary : Summary) → AllMake (check_stages turns names) files texts summary → IsJudged turns names files summary
+judged_of turns names files texts summary all = by (parts_made turns (length names.more + 1) _ files texts summary all)
+  where
+    by : AllMake (read_samples turns names.sample names.more (stages_over turns names)) files texts summary → IsJudged turns names files summary
+    by (samples, stand, (out, is_out, (map_file, is_map, (record_file, is_record_file, (verdict, judged, texts_are, summary_is))))) = record {
+      values = record { samples = worked_samples turns samples; out = out; map = map_file; record_file = record_file };
+      are = record { samples = record { samples = samples; stand = stand; is = refl }; out = is_out; map = is_map; record_file = is_record_file };
+      verdict = verdict;
+      judged = judged;
+      summary_is = summary_is;
+    }
 
-pub verdict_planned : {names : List (List ℕ)} (job : CheckJob) (a b : ShelfState) → OnlyReads names a b → (values : ReadFiles) → Sees a b (λ files. AreRunFiles job.names files values) → (verdict : Verdict) → IsVerdict values.samples values.out values.map values.record_file verdict
+pub verdict_planned : {names : List (List ℕ)} (job : CheckJob) (a b : ShelfState) → OnlyReads names a b → (values : ReadFiles) → Sees a b (λ files. AreRunFiles job.turns job.names files values) → (verdict : Verdict) → IsVerdict values.samples values.out values.map values.record_file verdict
     → IsPlanned (check_command job) [] (summary_of verdict) a b
 verdict_planned job a b reads values are verdict judged = record {
   known = (verdict, refl);
   named = refl;
-  made = told_weaker (λ before after. (after ≡ before) × AreRunFiles job.names before values) (λ before after. (after ≡ before) × AllMake (check_stages job.names) before [] (summary_of verdict)) a.files b.files
-      (λ before after seen. (seen.0, made_of job.names before values seen.1 verdict judged)) (told_both (λ before after. after ≡ before) (λ before after. AreRunFiles job.names before values) a.files b.files reads.files are);
+  made = told_weaker (λ before after. (after ≡ before) × AreRunFiles job.turns job.names before values) (λ before after. (after ≡ before) × AllMake (check_stages job.turns job.names) before [] (summary_of verdict)) a.files b.files
+      (λ before after seen. (seen.0, made_of job.turns job.names before values seen.1 verdict judged)) (told_both (λ before after. after ≡ before) (λ before after. AreRunFiles job.turns job.names before values) a.files b.files reads.files are);
 }

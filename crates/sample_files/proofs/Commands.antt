@@ -1,8 +1,9 @@
 -- From the reading of samples to what a command leaves that reads them first.
-use Rattle.std.proofs.Common.{◌≡◌, ℕ, suc, ◌+◌, ◌≤◌, List, [], ◌∷◌, length, refl, sym, ap, ◌∙◌, subst, arith, Bool, true, false}
+use Rattle.std.proofs.Common.{◌≡◌, ℕ, suc, ◌+◌, ◌*◌, ◌≤◌, List, [], ◌∷◌, length, refl, sym, ap, ◌∙◌, subst, arith, Bool, true, false}
 use Rattle.std.specs.Prelude.{Ok, Err}
 use Rattle.std.proofs.lemmas.Option.{slice_get_within}
-use Rattle.limits.specs.declared.bounds.TheConstants.{MOST_SAMPLE_CELLS}
+use Rattle.limits.specs.declared.bounds.TheConstants.{MOST_PARTS, MOST_SAMPLE_CELLS}
+use Rattle.turned.specs.declared.turn.TheConstants.{TURNS}
 use Rattle.cells.specs.Cells.{Cells, IsOnePart, count_of}
 use Rattle.cells.specs.PartLists.{parts_of}
 use Rattle.shelf_core.specs.Files.{Files, OnlyReads, ShelfState, content_of}
@@ -11,9 +12,10 @@ use Rattle.shelf_core.proofs.FileLaws.{told_weaker}
 use Rattle.synth_report.specs.declared.fault.FileOf.{FileOf}
 use Rattle.synth_report.specs.declared.fault.Fault.{Fault}
 use Rattle.synth_report.specs.declared.fault.Fault.TheVariants.{Words, Form as FormFault, Unlike, Mark, Limit, Read, Write, NoMemory, NoLoop}
+use Rattle.synth_report.specs.declared.summary.Summary.{Summary}
 use Rattle.command.specs.Commands.{Command, HasTurn, NamedFile, named, names_in}
 use Rattle.command.specs.Outcomes.{AreRefused, NoneRefused, NotMade}
-use Rattle.command.specs.Stages.{Stages}
+use Rattle.command.specs.Stages.{AllMake, Stages}
 use Rattle.command.specs.Stages.Stages.{read}
 use Rattle.command.proofs.Staging.{AreOne, IsOneReader, ReadsOne, bound_is_one}
 use Rattle.command.proofs.Planning.{StandsBefore, limit_passed, not_read_on, pass_on}
@@ -107,6 +109,16 @@ pub parts_refused : {c : Command} {a b : ShelfState} {turn : ℕ} {others : List
     → ((what : What) (number bound : ℕ) → c.MayRefuse (Limit what number bound)) → (fault : Fault) → AsksParts turns count (Err fault) → NotMade c a b fault
 parts_refused false count at may fault asks = let is = asks.0 in absurd (cc)
 parts_refused true count at may fault asks = limit_passed at fault _ _ _ asks.1.1 asks.1 (may _ _ _)
+
+pub parts_make : {others : List NamedFile} (turns : Bool) (count : ℕ) (next : Stages others) (files : Files) (texts : List (List ℕ)) (summary : Summary) → (turns ≡ true → TURNS * count ≤ MOST_PARTS)
+    → AllMake next files texts summary → AllMake (parts_within turns count next) files texts summary
+parts_make false count next files texts summary few made = made
+parts_make true count next files texts summary few made = (few refl, made)
+
+pub parts_made : {others : List NamedFile} (turns : Bool) (count : ℕ) (next : Stages others) (files : Files) (texts : List (List ℕ)) (summary : Summary)
+    → AllMake (parts_within turns count next) files texts summary → AllMake next files texts summary
+parts_made false count next files texts summary made = made
+parts_made true count next files texts summary made = made.1
 
 -- the samples of one file are the sample of that file
 pub one_file : (turns : Bool) (first : List ℕ) (samples : Samples) → StandForSamples turns first [] samples → StandsAs first samples.form samples.volume

@@ -1,5 +1,5 @@
 -- The files that `loop` leaves are read again as what was written, and stand, which is what `check` tries.
-use Rattle.std.proofs.Common.{◌≡◌, ℕ, ◌≤◌, List, refl, ap, sym, ◌∙◌, subst}
+use Rattle.std.proofs.Common.{◌≡◌, ℕ, ◌≤◌, List, refl, ap, sym, ◌∙◌, subst, false}
 use Rattle.std.specs.Prelude.{Some}
 use Rattle.cells.specs.Cells.{Cells, cell_at}
 use Rattle.cells.specs.declared.place.Size.{Size}
@@ -51,9 +51,13 @@ module _ (job : LoopJob) (lawful : IsLoopJob job) (after : Files) (looped : Loop
     record_file = Walk (loop_head job sample) job.taps job.gap walk looped.found.tables;
   }
 
-  read : AreRunFiles job.names after values
+  read : AreRunFiles false job.names after values
   read = record {
-    samples = alone after job.names.sample job.names.more values.samples lawful.one sample_file made.sound.one (subst (λ n. n ≤ 8388608) (sym (count_alone sample made.sound.one)) made.sound.cells);
+    samples = record {
+      samples = values.samples;
+      stand = alone after job.names.sample job.names.more values.samples lawful.one sample_file made.sound.one (subst (λ n. n ≤ 8388608) (sym (count_alone sample made.sound.one)) made.sound.cells);
+      is = refl;
+    };
     out = subst (λ bytes. IsReadClip 33554432 bytes (record { form = looped.clip.form; volume = frames_taken sample walk })) (sym out_file)
         (clip.written_is_read 33554432 looped.clip.form (frames_taken sample walk) (frames_are_clip job lawful looped made)
         (subst (λ n. cell_count (loop_size sample n) ≤ 33554432) (sym (asked job lawful looped made)) made.bounds.cells));
@@ -65,7 +69,7 @@ module _ (job : LoopJob) (lawful : IsLoopJob job) (after : Files) (looped : Loop
   cells p from inside named =
       taken_cells sample made.volume walk (frames_below job lawful looped made) p from (subst (λ n. IsInside (loop_size sample n) p) (sym (asked job lawful looped made)) inside) named
 
-  pub accepted : Stand job.names after
+  pub accepted : Stand false job.names after
   accepted = record {
     values = values;
     read = read;

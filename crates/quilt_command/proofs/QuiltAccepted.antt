@@ -1,5 +1,5 @@
 -- The files that `quilt` leaves are read again as what was written, and stand.
-use Rattle.std.proofs.Common.{◌≡◌, ◌≤◌, ap, sym, ◌∙◌, subst, arith}
+use Rattle.std.proofs.Common.{◌≡◌, ◌≤◌, ap, sym, ◌∙◌, subst, arith, false, refl}
 use Rattle.std.specs.Prelude.{Ok}
 use Rattle.cells.specs.Cells.{sizes_of}
 use Rattle.cells.specs.Places.{cell_count}
@@ -36,7 +36,7 @@ module _ (job : QuiltJob) (lawful : IsQuiltJob job) (after : Files) (made : Pict
   abbrev samples : Samples
   samples = record { form = Picture made.sample.maxval; volume = made.sample.volume }
 
-  sample_again : StandForSamples (content_of after job.names.sample) (contents after job.names.more) samples
+  sample_again : StandForSamples false (content_of after job.names.sample) (contents after job.names.more) samples
   sample_again = alone after job.names.sample job.names.more samples lawful.one sample_file is.sound.one is.sound.cells
 
   few_cells : cell_count made.quilted.canvas.picture.size ≤ 8388608
@@ -76,5 +76,5 @@ module _ (job : QuiltJob) (lawful : IsQuiltJob job) (after : Files) (made : Pict
     stand = is.quilt.replays.stand;
   })
 
-  pub accepted : Stand job.names after
-  accepted = record { values = values; read = record { samples = sample_again; out = out_again; map = map_again; record_file = record_file_again }; stand = files_stand }
+  pub accepted : Stand false job.names after
+  accepted = record { values = values; read = record { samples = record { samples = samples; stand = sample_again; is = refl }; out = out_again; map = map_again; record_file = record_file_again }; stand = files_stand }

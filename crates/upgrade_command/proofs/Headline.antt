@@ -1,5 +1,5 @@
 -- What stands when `upgrade` is done.
-use Rattle.std.proofs.Common.{◌≡◌, ◌≢◌, ℕ, ◌<◌, List, [], ◌∷◌, length, get_or, refl, sym, ap, ◌∙◌, subst, arith}
+use Rattle.std.proofs.Common.{◌≡◌, ◌≢◌, ℕ, ◌<◌, List, [], ◌∷◌, length, get_or, refl, sym, ap, ◌∙◌, subst, arith, false}
 use Rattle.std.specs.Prelude.{Result, Ok, unwrap_or}
 use Rattle.std.specs.FinMap.{get, insert}
 use Rattle.cells.specs.declared.place.Size.{Size}
@@ -46,8 +46,8 @@ same_value r x y p q = let both : Ok x ≡ Ok y = sym p ∙ q in cc
 module _ (files : Files) (map record_file other_map other_record_file : List ℕ) (m : SourceMap) (sizes : List Size) (version other : Version) (head : Head) (of_record_file : Version) (cuts : List CutRecord)
     (map_is : map_read (content_of files map) ≡ Ok (CellMap m sizes version)) (other_map_is : map_read (content_of files other_map) ≡ Ok (CellMap m sizes other))
     (record_file_is : IsRecordFileOf (content_of files record_file) (Cuts head cuts)) (other_record_file_is : IsRecordFileOf (content_of files other_record_file) (Cuts (record head { version = of_record_file }) cuts)) where
-  moved : (names : Names) (values : ReadFiles) → AreRunFiles (with_pair names map record_file) files values → (verdict : Verdict) → IsVerdict values.samples values.out values.map values.record_file verdict
-      → (there : ReadFiles) × AreRunFiles (with_pair names other_map other_record_file) files there × IsVerdict there.samples there.out there.map there.record_file verdict
+  moved : (names : Names) (values : ReadFiles) → AreRunFiles false (with_pair names map record_file) files values → (verdict : Verdict) → IsVerdict values.samples values.out values.map values.record_file verdict
+      → (there : ReadFiles) × AreRunFiles false (with_pair names other_map other_record_file) files there × IsVerdict there.samples there.out there.map there.record_file verdict
   moved names values read verdict judged =
       let map_same : values.map ≡ CellMap m sizes version = same_value {T = MapFile} (map_read (content_of files map)) values.map (CellMap m sizes version) read.map map_is in
       let record_file_same : values.record_file ≡ Cuts head cuts = same_value {T = RecordFile} (record_file_read (content_of files record_file)) values.record_file (Cuts head cuts) read.record_file record_file_is in
@@ -55,10 +55,10 @@ module _ (files : Files) (map record_file other_map other_record_file : List ℕ
       let there : ReadFiles = record { samples = values.samples; out = values.out; map = CellMap m sizes other; record_file = Cuts (record head { version = of_record_file }) cuts } in
       (there, record { samples = read.samples; out = read.out; map = other_map_is; record_file = other_record_file_is }, any_versions values.samples values.out m sizes version head cuts verdict other of_record_file here)
 
-  pub stands_too : (names : Names) → Stand (with_pair names map record_file) files → Stand (with_pair names other_map other_record_file) files
+  pub stands_too : (names : Names) → Stand false (with_pair names map record_file) files → Stand false (with_pair names other_map other_record_file) files
   stands_too names s = let there = moved names s.values s.read Stands s.stand in record { values = there.0; read = there.1; stand = there.2 }
 
-  pub breaks_too : (names : Names) (number rule place : ℕ) → Break (with_pair names map record_file) files number rule place → Break (with_pair names other_map other_record_file) files number rule place
+  pub breaks_too : (names : Names) (number rule place : ℕ) → Break false (with_pair names map record_file) files number rule place → Break false (with_pair names other_map other_record_file) files number rule place
   breaks_too names number rule place b = let there = moved names b.values b.read (Fails number rule place) b.broken in record { values = there.0; read = there.1; broken = there.2 }
 
 -- one size alone

@@ -163,10 +163,10 @@ module _ (words : List (List ℕ)) (was now : ShelfState) (out out' err err' : S
   pub check_headline : CheckHeadline words was now out out' status
   check_headline = record {
     stand = λ job asks zero. let has = done.only (inl zero) in let its = check_done job asks has in
-        told_weaker (WritesAll (check_command job) has.summary) (λ before after. (after ≡ before) × Stand job.names before) was.files now.files (stood job has.summary (sym has.verdict ∙ zero)) its;
+        told_weaker (WritesAll (check_command job) has.summary) (λ before after. (after ≡ before) × Stand job.turns job.names before) was.files now.files (stood job has.summary (sym has.verdict ∙ zero)) its;
     least = λ job asks zero. let has = done.only (inl zero) in let its = check_done job asks has in
         told_weaker (WritesAll (check_command job) has.summary) (λ before after. HaveLeastRecords job.names before) was.files now.files
-        (λ before after wrote. least_records job.names before (stood job has.summary (sym has.verdict ∙ zero) before after wrote).1) its;
+        (λ before after wrote. least_records job.turns job.names before (stood job has.summary (sym has.verdict ∙ zero) before after wrote).1) its;
     break = λ job asks one. let has = done.only (inr one) in broke job has.summary (sym has.verdict ∙ one) (may_make job asks has) was now out out' (check_done job asks has) has.done.told;
     where_they_stand = λ job files asks tells stands. done.where_made (Check job) files [] (summary_of verdict.Stands) asks tells (made_standing job files stands);
     where_they_break = λ job files number rule place asks tells breaks. done.where_made (Check job) files [] (summary_of (verdict.Fails number rule place)) asks tells (made_breaking job files number rule place breaks);

@@ -1,11 +1,10 @@
 -- `grow` has one answer to files, and its headline.
-use Rattle.std.proofs.Common.{◌≡◌, ◌+◌, ◌≤◌, List, [], ◌∷◌, length, ap, sym, ◌∙◌, subst}
+use Rattle.std.proofs.Common.{◌≡◌, ◌+◌, ◌*◌, ◌≤◌, true, List, [], ◌∷◌, length, ap, refl, sym, ◌∙◌, subst}
 use Rattle.cells.specs.Cells.{Cells, IsVolume, sizes_of}
 use Rattle.shelf_core.specs.Files.{Files, content_of}
 use Rattle.shelf_core.specs.Written.{written}
 use Rattle.map_canvas.specs.Maps.{IsMap}
 use Rattle.map_canvas.proofs.Pictures.{full_picture}
-use Rattle.source_map.specs.MapFiles.{cell_map_form}
 use Rattle.cut_check.specs.declared.record.CutRecord.{CutRecord}
 use Rattle.graph_place.specs.Placed.{map_total}
 use Rattle.cut_replay.specs.Replay.{EachOver}
@@ -30,7 +29,15 @@ use Rattle.sample_files.specs.Outputs.{IsWithinBounds}
 use Rattle.sample_files.specs.Samples.{form_text}
 use Rattle.sample_files.specs.Several.{MayRefuseSamples, StandForSamples, contents}
 use Rattle.sample_files.proofs.Sound.{stand_sound}
-use Rattle.grow_command.specs.Growths.{AreSamplesIn, IsGrowSummary, IsGrownOver, IsMade, grow_command, grow_stages, growth_files, growth_of, growth_summary, head_over, plan_of, version_over}
+use Rattle.grow_command.specs.Growths.{AreSamplesIn, IsGrowSummary, IsGrownOver, IsMade, grow_command, grow_stages, growth_files, growth_of, growth_summary, head_over, plan_of}
+use Rattle.limits.specs.declared.bounds.TheConstants.{MOST_PARTS}
+use Rattle.turned.specs.declared.turn.TheConstants.{TURNS}
+use Rattle.worked.specs.Worked.{worked}
+use Rattle.worked.proofs.WorkedLaws.{sizes_worked, worked_sound}
+use Rattle.sample_files.proofs.Joined.{as_many_parts}
+use Rattle.grow_command.specs.GrownMaps.{map_text}
+use Rattle.grow_command.proofs.NamedCells.{named_cell}
+use Rattle.grow_command.proofs.Ready.{volume_sizes}
 use Rattle.grow_command.specs.GrowHeadlines.{IsGrownOutput, IsGrownRecord, IsGrownRun, IsToldOfGrown, RaisesNone}
 use Rattle.grow_command.proofs.Growing.{are_one, small_output}
 use Rattle.grow_command.proofs.Accepted.{accepted}
@@ -50,8 +57,8 @@ grow_has_one_answer job = one_answer (grow_stages job) (grow_command job).writes
 
 -- what is written is the run of the headline
 module _ (job : GrowJob) (lawful : IsGrowJob job) (before after : Files) (samples : Samples) (read : AreSamplesIn before job samples) (bounds : IsWithinBounds job.size samples.form)
-    (grown : Grown) (is : IsGrownOver job samples grown) (wrote : after ≡ written (pieces (grow_command job).writes (texts_in (growth_files job (growth_of samples grown)))) before) where
-  abbrev files : HoldThree job.names before after (form_text samples.form grown.canvas.picture) (cell_map_form grown.canvas.map (sizes_of samples.volume) (version_over samples.volume)) (cuts_form (head_over job.size samples.volume) grown.cuts)
+    (grown : Grown) (is : IsGrownOver job samples grown) (wrote : after ≡ written (pieces (grow_command job).writes (texts_in (growth_files job (growth_of job samples grown)))) before) where
+  abbrev files : HoldThree job.names before after (form_text samples.form grown.canvas.picture) (map_text job.turns grown.canvas.map (sizes_of samples.volume)) (cuts_form (head_over job.size (worked job.turns samples.volume)) grown.cuts)
   files = three_files job.names lawful.names before after _ _ _ wrote
 
   abbrev output : IsGrownOutput job before after
@@ -59,6 +66,7 @@ module _ (job : GrowJob) (lawful : IsGrowJob job) (before after : Files) (sample
     samples = samples;
     read = read;
     one_volume = is.volume;
+    all = is.all;
     map = grown.canvas.map;
     asked = is.run.size;
     is_map = is.run.canvas.map;
@@ -69,8 +77,8 @@ module _ (job : GrowJob) (lawful : IsGrowJob job) (before after : Files) (sample
     volume = is.run.canvas.picture;
     one = is.run.canvas.part;
     size = is.run.canvas.size ∙ is.run.size;
-    of_map = full_picture grown.canvas samples.volume is.run.canvas is.run.over is.run.done.full;
-    cells = is.run.over.bytes;
+    of_map = full_picture grown.canvas (worked job.turns samples.volume) is.run.canvas is.run.over is.run.done.full;
+    cells = λ p from e. is.run.over.bytes p from e ∙ named_cell job.turns samples.volume is.volume from (is.run.over.over p from e);
     out_file = files.out;
   }
 
@@ -87,19 +95,30 @@ module _ (job : GrowJob) (lawful : IsGrowJob job) (before after : Files) (sample
     least = is.run.least;
     keep = is.run.keep;
     split = is.run.split;
-    none_raises = none_raise_over (plan_of job) samples.volume is.volume (first_growth (plan_of job)) grown.cuts (record { map = grown.canvas.map; draws = is.run.draws; rounds = grown.rounds })
-        (starts (plan_of job) samples.volume is.volume (small_output job lawful bounds.cells)) is.run.run;
+    none_raises = none_raise_over (plan_of job) (worked job.turns samples.volume) is.all (first_growth (plan_of job)) grown.cuts (record { map = grown.canvas.map; draws = is.run.draws; rounds = grown.rounds })
+        (starts (plan_of job) (worked job.turns samples.volume) is.all (small_output job lawful bounds.cells)) is.run.run;
   }
 
-  made : IsMade job (growth_of samples grown)
-  made = record { volume = is.volume; sound = stand_sound (content_of before job.names.sample) (contents before job.names.more) samples read; bounds = bounds; grown = is.run }
+  few : job.turns ≡ true → TURNS * length (sizes_of samples.volume) ≤ MOST_PARTS
+  few on = subst (λ n. TURNS * n ≤ MOST_PARTS) (sym (as_many_parts (content_of before job.names.sample) (contents before job.names.more) samples read)) (read.few on)
+
+  made : IsMade job (growth_of job samples grown)
+  made = record {
+    volume = is.all;
+    sound = worked_sound job.turns samples (stand_sound job.turns (content_of before job.names.sample) (contents before job.names.more) samples read) is.volume few read.fits;
+    are = volume_sizes samples.volume is.volume;
+    few = few;
+    sizes = sizes_worked job.turns samples.volume;
+    bounds = bounds;
+    grown = is.run;
+  }
 
   again : AreSamplesIn after job samples
-  again = subst (λ bytes. StandForSamples bytes (contents after job.names.more) samples) (sym files.sample) (subst (λ more. StandForSamples (content_of before job.names.sample) more samples) (sym files.more) read)
+  again = subst (λ bytes. StandForSamples job.turns bytes (contents after job.names.more) samples) (sym files.sample) (subst (λ more. StandForSamples job.turns (content_of before job.names.sample) more samples) (sym files.more) read)
 
-  told : (summary : Summary) → summary ≡ growth_summary job (growth_of samples grown) → IsToldOfGrown job summary before after
+  told : (summary : Summary) → summary ≡ growth_summary job (growth_of job samples grown) → IsToldOfGrown job summary before after
   told summary summary_is = record {
-    run = record { output = output; records = records; accepted = accepted job lawful after (growth_of samples grown) made is.flows again files.out files.map files.record_file; others = files.others };
+    run = record { output = output; records = records; accepted = accepted job lawful after (growth_of job samples grown) made is.flows (record { samples = samples; stand = again; is = refl }) files.out files.map files.record_file; others = files.others };
     summary_is = summary_is;
   }
 

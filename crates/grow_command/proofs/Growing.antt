@@ -22,7 +22,7 @@ use Rattle.sample_files.specs.declared.several.Samples.{Samples}
 use Rattle.sample_files.specs.Outputs.{IsWithinBounds, PassesBounds}
 use Rattle.sample_files.specs.Several.{AsksParts, MayRefuseSamples, SamplesReadAs, StandForSamples, contents, read_samples, sample_files}
 use Rattle.sample_files.proofs.Commands.{parts_are_one, parts_passed, parts_refused, samples_are_one, samples_not_read}
-use Rattle.worked.specs.Worked.{worked, worked_samples}
+use Rattle.worked.specs.Worked.{worked}
 use Rattle.grow_command.specs.declared.plan.Growth.{Growth}
 use Rattle.grow_command.specs.Growths.{IsGrowSummary, IsGrownOver, fault_of_growing, grow_command, grow_over, grow_stages, growth_files, growth_of, growth_summary, plan_of}
 
@@ -74,8 +74,8 @@ module _ (job : GrowJob) (a b : ShelfState) (few : AsksParts job.turns (length j
     not_grown bounds (error.Records number) passes = not_passed (pass_on (pass_on over bounds.frames) bounds.cells) _ (number, passes, refl) tt
     not_grown bounds error.NoMemory left = tt
 
-    pub growth_made : IsGrowJob job → IsWithinBounds job.size samples.form → (grown : Grown) → IsGrownOver job (worked_samples job.turns samples) grown → (growth : Growth) → growth ≡ growth_of job samples grown → IsPlanned (grow_command job) (growth_files job growth) (growth_summary job growth) a b
+    pub growth_made : IsGrowJob job → IsWithinBounds job.size samples.form → (grown : Grown) → IsGrownOver job samples grown → (growth : Growth) → growth ≡ growth_of job samples grown → IsPlanned (grow_command job) (growth_files job growth) (growth_summary job growth) a b
     growth_made lawful bounds grown is growth growth_is =
-        let none = ends_within (plan_of job) (worked job.turns samples.volume) is.volume (small_output job lawful bounds.cells) grown.cuts (record { map = grown.canvas.map; draws = is.run.draws; rounds = grown.rounds }) in
+        let none = ends_within (plan_of job) (worked job.turns samples.volume) is.all (small_output job lawful bounds.cells) grown.cuts (record { map = grown.canvas.map; draws = is.run.draws; rounds = grown.rounds }) in
         let made = plan_made (pass_on (pass_on (pass_on over bounds.frames) bounds.cells) (λ number. none number is.run.run is.run.done is.run.writable.cells)) grown is refl (_, _, _, _, refl) in
         subst (λ g. IsPlanned (grow_command job) (growth_files job g) (growth_summary job g) a b) (sym growth_is) made

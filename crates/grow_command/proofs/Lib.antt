@@ -1,5 +1,6 @@
 pub mod Ready
 pub mod Growing
+pub mod NamedCells
 pub mod Accepted
 pub mod GrowLaws
 pub mod OneOutputs

@@ -5,7 +5,6 @@ use Rattle.cells.specs.Cells.{sizes_of}
 use Rattle.cells.specs.Places.{IsSmall}
 use Rattle.shelf_core.specs.Files.{Files, content_of}
 use Rattle.map_canvas.specs.Maps.{SourceMap, picture_of}
-use Rattle.source_map.specs.MapFiles.{cell_map_form}
 use Rattle.graph_place.specs.Placed.{map_total}
 use Rattle.grow_run.specs.Grown.{Growth, IsDone, IsRun}
 use Rattle.grow_run.specs.OneRun.{IsSameRun, SameButFlows}
@@ -17,7 +16,9 @@ use Rattle.sample_files.specs.declared.several.Samples.{Samples}
 use Rattle.sample_files.specs.Samples.{form_text}
 use Rattle.sample_files.specs.Several.{StandForSamples, contents}
 use Rattle.sample_files.proofs.OneAnswer.{one_value}
-use Rattle.grow_command.specs.Growths.{plan_of, version_over}
+use Rattle.worked.specs.Worked.{worked}
+use Rattle.grow_command.specs.GrownMaps.{map_text}
+use Rattle.grow_command.specs.Growths.{plan_of}
 use Rattle.grow_command.specs.GrowHeadlines.{HaveSameOutput, HaveSameSamples, IsGrownRun, IsOneReport, IsToldOfGrown, told_of_cuts}
 
 module _ (job : GrowJob) (small : IsSmall job.size) (before after earlier later : Files) (same : HaveSameSamples job earlier before) (run : IsGrownRun job before after) (other : IsGrownRun job earlier later) where
@@ -25,8 +26,8 @@ module _ (job : GrowJob) (small : IsSmall job.size) (before after earlier later 
   samples = run.output.samples
 
   one_samples : other.output.samples ≡ samples
-  one_samples = one_value (content_of before job.names.sample) (contents before job.names.more) other.output.samples samples
-      (subst (λ more. StandForSamples (content_of before job.names.sample) more other.output.samples) same.further (subst (λ first. StandForSamples first (contents earlier job.names.more) other.output.samples) same.first other.output.read))
+  one_samples = one_value job.turns (content_of before job.names.sample) (contents before job.names.more) other.output.samples samples
+      (subst (λ more. StandForSamples job.turns (content_of before job.names.sample) more other.output.samples) same.further (subst (λ first. StandForSamples job.turns first (contents earlier job.names.more) other.output.samples) same.first other.output.read))
       run.output.read
 
   abbrev growth : Growth
@@ -36,8 +37,8 @@ module _ (job : GrowJob) (small : IsSmall job.size) (before after earlier later 
   again = record { map = other.output.map; draws = other.records.draws; rounds = other.records.rounds }
 
   runs : IsSameRun run.records.cuts other.records.cuts growth again
-  runs = runs_are_one (plan_of job) samples.volume run.output.one_volume small run.records.cuts other.records.cuts growth again run.records.run run.records.done
-      (subst (λ (s : Samples). IsRun (plan_of job) s.volume other.records.cuts again) one_samples other.records.run) (subst (λ (s : Samples). IsDone (plan_of job) s.volume again) one_samples other.records.done)
+  runs = runs_are_one (plan_of job) (worked job.turns samples.volume) run.output.all small run.records.cuts other.records.cuts growth again run.records.run run.records.done
+      (subst (λ (s : Samples). IsRun (plan_of job) (worked job.turns s.volume) other.records.cuts again) one_samples other.records.run) (subst (λ (s : Samples). IsDone (plan_of job) (worked job.turns s.volume) again) one_samples other.records.done)
 
   one_map : other.output.map ≡ run.output.map
   one_map = sym (ap (λ (g : Growth). g.map) runs.left)
@@ -49,10 +50,10 @@ module _ (job : GrowJob) (small : IsSmall job.size) (before after earlier later 
   as_many = sym (length_all_zip SameButFlows run.records.cuts other.records.cuts runs.steps)
 
   abbrev map_spelled : Samples → SourceMap → List ℕ
-  map_spelled s m = cell_map_form m (sizes_of s.volume) (version_over s.volume)
+  map_spelled s m = map_text job.turns m (sizes_of s.volume)
 
   abbrev out_spelled : Samples → SourceMap → List ℕ
-  out_spelled s m = form_text s.form (picture_of m s.volume)
+  out_spelled s m = form_text s.form (picture_of m (worked job.turns s.volume))
 
   pub one_output : HaveSameOutput job later after
   one_output = record {
@@ -61,8 +62,8 @@ module _ (job : GrowJob) (small : IsSmall job.size) (before after earlier later 
     map = other.output.map_file ∙ (λ i. map_spelled (one_samples i) (one_map i)) ∙ sym run.output.map_file;
   }
 
-  pub one_told : told_of_cuts job other.output.samples.volume other.output.map other.records.cuts other.records.rounds ≡ told_of_cuts job samples.volume run.output.map run.records.cuts run.records.rounds
-  one_told = λ i. Grow job.size (as_many i - one_rounds i) (one_rounds i) (map_total (one_samples i).volume (one_map i))
+  pub one_told : told_of_cuts job (worked job.turns other.output.samples.volume) other.output.map other.records.cuts other.records.rounds ≡ told_of_cuts job (worked job.turns samples.volume) run.output.map run.records.cuts run.records.rounds
+  one_told = λ i. Grow job.size (as_many i - one_rounds i) (one_rounds i) (map_total (worked job.turns (one_samples i).volume) (one_map i))
 
 -- so is the summary
 pub one_report : (job : GrowJob) → IsSmall job.size → (summary : Summary) (before after : Files) → IsToldOfGrown job summary before after → IsOneReport job summary before after

@@ -1,5 +1,5 @@
 -- The files of a growth can be written: its picture in the form of the samples, its map and its record.
-use Rattle.std.proofs.Common.{◌≡◌, ℕ, ◌≤◌, ◌<◌, ◌^◌, List, [], ◌∷◌, length, refl, ap, sym, ◌∙◌, subst, arith}
+use Rattle.std.proofs.Common.{◌≡◌, ℕ, Bool, true, false, ◌*◌, ◌≤◌, ◌<◌, ◌^◌, List, [], ◌∷◌, length, refl, ap, sym, ◌∙◌, subst, arith}
 use Rattle.std.proofs.lemmas.Int.{ints}
 use Rattle.std.proofs.lemmas.List.Elements.{recursion_from_All}
 use Rattle.std.specs.Prelude.{All, ℤ, pos, negsuc, ◌+ℤ◌, get_or}
@@ -15,7 +15,7 @@ use Rattle.cells.proofs.PartBoxes.{held_run}
 use Rattle.cells.proofs.PartLists.{one_part_has}
 use Rattle.map_canvas.specs.Canvases.{CanvasState, IsCanvas, StandsOver}
 use Rattle.map_canvas.specs.Choices.{Fits}
-use Rattle.map_canvas.specs.Maps.{IsFull, SourceMap}
+use Rattle.map_canvas.specs.Maps.{IsFull, IsMap, SourceMap}
 use Rattle.map_canvas.proofs.Pictures.{full_picture}
 use Rattle.source_map.specs.MapFiles.{IsInSamples, IsShortCoordinate, IsWritable}
 use Rattle.source_map.specs.Heads.{AreSamples}
@@ -32,8 +32,13 @@ use Rattle.sample_files.specs.declared.form.Form.TheVariants.{Picture, Clip}
 use Rattle.sample_files.specs.Outputs.{frames_allowed}
 use Rattle.sample_files.specs.Samples.{AreSoundIn, CanStandIn}
 use Rattle.grow_command.specs.declared.plan.Growth.{Growth}
-use Rattle.grow_command.specs.Growths.{IsMade, head_over, version_for, version_over}
-use Rattle.source_map.specs.declared.head.Version.TheVariants.{One}
+use Rattle.turned.specs.declared.turn.TheConstants.{TURNS}
+use Rattle.turned.specs.TurnedParts.{turned_sizes_of}
+use Rattle.limits.specs.declared.bounds.TheConstants.{MOST_PARTS}
+use Rattle.worked.specs.Worked.{worked_sizes}
+use Rattle.grow_command.specs.GrownMaps.{IsReadyMap, version_for, version_of}
+use Rattle.grow_command.specs.Growths.{IsMade, head_over, version_over}
+use Rattle.source_map.specs.declared.head.Version.TheVariants.{One, Two}
 use Rattle.command_files.proofs.Pictures.{picture_bytes}
 
 -- the picture of a full canvas over samples can stand in their form
@@ -62,7 +67,7 @@ picture_ready job growth picture is volume lawful made =
     (can_stand growth.samples.form growth.samples.volume growth.grown.canvas volume made.sound.form made.grown.done.full (omega (arith, frames, made.bounds.frames)) (omega (arith, frames, lawful.axes.f.0)) made.grown.canvas made.grown.over)
 
 -- the sizes of the parts of a volume
-volume_sizes : (sample : Cells) → IsVolume sample → AreSizes (sizes_of sample)
+pub volume_sizes : (sample : Cells) → IsVolume sample → AreSizes (sizes_of sample)
 volume_sizes sample volume = record {
   some = omega arith;
   few = omega (arith, volume.parts.few);
@@ -80,14 +85,33 @@ head_samples sample volume = record { sizes_are = volume_sizes sample volume; on
 in_samples : (sample : Cells) (p : At) → IsInsideOf sample p → IsInSamples (sizes_of sample) p
 in_samples sample p inside = (one_part_has sample p).inside.0 inside
 
-pub map_ready : (job : GrowJob) (growth : Growth) (map : SourceMap) → map ≡ growth.grown.canvas.map → IsVolume growth.samples.volume → IsMade job growth
-    → IsWritable map (sizes_of growth.samples.volume) (version_over growth.samples.volume)
-map_ready job growth map is volume made = subst (λ m. IsWritable m (sizes_of growth.samples.volume) (version_over growth.samples.volume)) (sym is) (record {
+-- over the worked samples the map can be written as it is
+pub cells_ready : (job : GrowJob) (growth : Growth) → IsVolume growth.samples.volume → IsMade job growth → IsWritable growth.grown.canvas.map (sizes_of growth.samples.volume) (version_over growth.samples.volume)
+cells_ready job growth volume made = record {
   full = made.grown.done.full;
   cells = subst (λ size. cell_count size ≤ 1048576) (sym made.grown.size) made.bounds.cells;
   samples_are = head_samples growth.samples.volume volume;
   sources = λ p from e. in_samples growth.samples.volume from (cell_has_index growth.samples.volume from (made.grown.over.over p from e));
-})
+}
+
+-- turns are several parts
+pub several : (sizes : List Size) → 1 ≤ length sizes → version_of (turned_sizes_of sizes) ≡ Two
+several [] some = absurd (omega (arith, some))
+several (size ∷ more) some = refl
+
+-- by whether the samples were turned
+ready_of : (turns : Bool) (m : SourceMap) (sizes all : List Size) → IsMap m → AreSizes sizes → (turns ≡ true → TURNS * length sizes ≤ MOST_PARTS) → all ≡ worked_sizes turns sizes → IsWritable m all (version_of all) → IsReadyMap turns m sizes
+ready_of false m sizes all map are few same writable = subst (λ s. IsWritable m s (version_of s)) same writable
+ready_of true m sizes all map are few same writable = record {
+  few = (let parts = few refl in omega (arith, parts));
+  sizes = are;
+  map = map;
+  writable = subst (IsWritable m (turned_sizes_of sizes)) (several sizes are.some) (subst (λ s. IsWritable m s (version_of s)) same writable);
+}
+
+pub map_ready : (job : GrowJob) (growth : Growth) (map : SourceMap) → map ≡ growth.grown.canvas.map → IsVolume growth.samples.volume → IsMade job growth → IsReadyMap job.turns map growth.sizes
+map_ready job growth map is volume made = subst (λ m. IsReadyMap job.turns m growth.sizes) (sym is)
+    (ready_of job.turns growth.grown.canvas.map growth.sizes (sizes_of growth.samples.volume) made.grown.canvas.map made.are made.few made.sizes (cells_ready job growth volume made))
 
 -- a box in an output has a corner and a size of 16 bits
 short_axis : (z : ℤ) (len n : ℕ) → AxisHolds n z len → 1 ≤ len → n ≤ 4096 → IsShortCoordinate z × (len < 2 ^ 16)

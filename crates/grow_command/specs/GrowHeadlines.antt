@@ -27,7 +27,8 @@ use Rattle.check_command.specs.Checks.{Stand}
 use Rattle.grow_command.specs.GrownMaps.{map_text, named_place}
 use Rattle.grow_command.specs.Growths.{AreSamplesIn, head_over, plan_of}
 
--- the sample files stand for samples, the parts of one volume. There is a map of the asked size,
+-- the sample files stand for samples, the parts of one volume, and so are their turns where these are
+-- asked for. There is a map of the asked size,
 -- which is full and lies over the samples, or with turns over the volume of all their turns. The map
 -- file has the form of that map: it names the samples' cells, with turns as they are before any
 -- turn. The out file has the form of a picture in the samples' form: a volume of that size, the
@@ -36,6 +37,7 @@ pub record IsGrownOutput (job : GrowJob) (before after : Files) : Type 0 where
   pub samples : Samples
   pub read : AreSamplesIn before job samples
   pub one_volume : IsVolume samples.volume
+  pub all : IsVolume (worked job.turns samples.volume)
   pub map : SourceMap
   pub asked : map.size ≡ job.size
   pub is_map : IsMap map

@@ -72,11 +72,12 @@ AreSamplesIn files job samples =
     StandForSamples job.turns (content_of files job.names.sample) (contents files job.names.more)
     samples
 
--- over the worked samples, the parts of one volume: the output is grown and refined, with flows of
--- 16 bits as their type has them
+-- over samples that are read, the parts of one volume: the output is grown and refined over the
+-- worked ones, with flows of 16 bits as their type has them
 pub record IsGrownOver (job : GrowJob) (samples : Samples) (grown : Grown) : Type 0 where
   pub volume : IsVolume samples.volume
-  pub run : IsGrown (plan_of job) samples.volume grown
+  pub all : IsVolume (worked job.turns samples.volume)
+  pub run : IsGrown (plan_of job) (worked job.turns samples.volume) grown
   pub flows : All HasShortFlows grown.cuts
 
 -- of samples that are read: what is grown over the worked ones, with the sizes of those that are read
@@ -138,7 +139,7 @@ grow_over job samples =
     bounded_in job.size samples.form
     (never_passed RecordsLimit (PassesAt (plan_of job) (worked job.turns samples.volume))
     MOST_BOX_CELLS
-    (make (IsGrownOver job (worked_samples job.turns samples))
+    (make (IsGrownOver job samples)
     (λ grown. growth_files job (growth_of job samples grown))
     (λ grown. growth_summary job (growth_of job samples grown))))
 

@@ -64,6 +64,8 @@ pub(crate) fn plan<S: Shelf>(alloc: Global, job: &GrowJob, shelf: &mut S) -> Res
         Ok(read) => read,
         Err(fault) => return Err(fault),
     };
+    // The number of samples of a cell is asked for only to show the check that these are a volume.
+    let _k = read.volume.samples();
     let sizes = read.volume.sizes();
     match within_bounds(job.size, &read.form) {
         Ok(()) => {}
@@ -73,7 +75,6 @@ pub(crate) fn plan<S: Shelf>(alloc: Global, job: &GrowJob, shelf: &mut S) -> Res
         Ok(samples) => samples,
         Err(_) => return Err(Fault::NoMemory),
     };
-    // It is asked for only to show the check that the samples are a volume.
     let _k = samples.volume.samples();
     let grown = match grow_canvas(alloc, &plan_of(job), &samples.volume) {
         Ok(grown) => grown,

@@ -1,0 +1,8 @@
+use Rattle.worked.proofs.WorkedLaws.{sizes_worked, worked_tell}
+use Rattle.worked.proofs.laws.worked_is_told.Goals as goal
+
+pub returns-clause-sizes : goal.returns-clause-sizes
+returns-clause-sizes c = sizes_worked
+
+pub returns-clause-tell : goal.returns-clause-tell
+returns-clause-tell c = worked_tell

@@ -28,13 +28,12 @@ use Rattle.sample_files.specs.declared.several.Samples.{Samples}
 use Rattle.sample_files.specs.Outputs.{IsWithinBounds}
 use Rattle.sample_files.specs.Samples.{form_text}
 use Rattle.sample_files.specs.Several.{MayRefuseSamples, StandForSamples, contents}
-use Rattle.sample_files.proofs.Sound.{stand_sound}
+use Rattle.sample_files.proofs.Sound.{as_many_parts, stand_sound}
 use Rattle.grow_command.specs.Growths.{AreSamplesIn, IsGrowSummary, IsGrownOver, IsMade, grow_command, grow_stages, growth_files, growth_of, growth_summary, head_over, plan_of}
 use Rattle.limits.specs.declared.bounds.TheConstants.{MOST_PARTS}
 use Rattle.turned.specs.declared.turn.TheConstants.{TURNS}
 use Rattle.worked.specs.Worked.{worked}
 use Rattle.worked.proofs.WorkedLaws.{sizes_worked, worked_sound}
-use Rattle.sample_files.proofs.Joined.{as_many_parts}
 use Rattle.grow_command.specs.GrownMaps.{map_text}
 use Rattle.grow_command.proofs.NamedCells.{named_cell}
 use Rattle.grow_command.proofs.Ready.{volume_sizes}

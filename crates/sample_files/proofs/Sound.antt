@@ -1,5 +1,5 @@
 -- Bytes that stand for samples stand for sound ones.
-use Rattle.std.proofs.Common.{◌≡◌, ℕ, zero, suc, ◌*◌, ◌/◌, ◌<◌, ◌≤◌, List, [], ◌∷◌, length, take, drop, sym, ap, ◌∙◌, subst, arith, Bool, true, eqb-true}
+use Rattle.std.proofs.Common.{◌≡◌, ℕ, zero, suc, ◌+◌, ◌*◌, ◌/◌, ◌<◌, ◌≤◌, List, [], ◌∷◌, length, take, drop, refl, sym, ap, ◌∙◌, subst, arith, Bool, true, eqb-true}
 use Rattle.std.specs.Prelude.{All, slice_index}
 use Rattle.std.specs.List.{AllByRecursion, concat}
 use Rattle.std.proofs.Math.Nat.{mul-div-le, mul-le-mul_left}
@@ -8,7 +8,7 @@ use Rattle.std.proofs.lemmas.List.Elements.{All-append, All-drop, All-nil, All-t
 use Rattle.std.proofs.lemmas.List.Folds.{concat-append}
 use Rattle.limits.specs.declared.bounds.TheConstants.{MOST_SAMPLE_CELLS}
 use Rattle.cells.specs.declared.place.Size.{Size}
-use Rattle.cells.specs.Cells.{Cells, IsVolume, bytes_of, cells_of, count_of}
+use Rattle.cells.specs.Cells.{Cells, IsVolume, bytes_of, cells_of, count_of, sizes_of}
 use Rattle.cells.specs.PartLists.{parts_from, parts_of}
 use Rattle.cells.specs.Places.{HasAxes, cell_count}
 use Rattle.cells.proofs.Buffering.{is_volume}
@@ -147,3 +147,23 @@ stand_sound turns first more samples stand = record { form = by samples.form sta
     by : (form : Form) → StandForParts form first more (parts_of samples.volume) → AreSoundIn form samples.volume
     by (Picture maxval) parts = first_sound maxval first more samples.volume parts
     by (Clip form) parts = clips_sound form first more samples.volume parts
+
+-- There is one part for each file.
+
+parts_counted : (k : ℕ) (size : Size) (more : List Size) (cells : List (List ℕ)) → length (parts_from k size more cells) ≡ length (size ∷ more)
+parts_counted k size [] cells = refl
+parts_counted k size (next ∷ more) cells = ap suc (parts_counted k next more (drop (cell_count size) cells))
+
+alike_counted : (form : Form) (files : List (List ℕ)) (parts : List Cells) → StandAlike form files parts → length parts ≡ length files
+alike_counted form [] [] a = refl
+alike_counted form [] (p ∷ parts) a = absurd a
+alike_counted form (file ∷ files) [] a = absurd a
+alike_counted form (file ∷ files) (p ∷ parts) a = ap suc (alike_counted form files parts a.1)
+
+pub as_many_parts : (turns : Bool) (first : List ℕ) (more : List (List ℕ)) (samples : Samples) → StandForSamples turns first more samples → length (sizes_of samples.volume) ≡ length more + 1
+as_many_parts turns first more samples stand =
+    sym (parts_counted samples.volume.k samples.volume.size samples.volume.more samples.volume.cells) ∙ by (parts_of samples.volume) stand.parts
+  where
+    by : (parts : List Cells) → StandForParts samples.form first more parts → length parts ≡ length more + 1
+    by [] parts = absurd parts
+    by (p ∷ parts) stands = let others = alike_counted samples.form more parts stands.1 in omega (arith, others)

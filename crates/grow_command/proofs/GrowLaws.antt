@@ -104,7 +104,7 @@ module _ (job : GrowJob) (lawful : IsGrowJob job) (before after : Files) (sample
   made : IsMade job (growth_of job samples grown)
   made = record {
     volume = is.all;
-    sound = worked_sound job.turns samples (stand_sound job.turns (content_of before job.names.sample) (contents before job.names.more) samples read) is.volume few read.fits;
+    sound = worked_sound job.turns samples (stand_sound job.turns (content_of before job.names.sample) (contents before job.names.more) samples read) read.fits;
     are = volume_sizes samples.volume is.volume;
     few = few;
     sizes = sizes_worked job.turns samples.volume;

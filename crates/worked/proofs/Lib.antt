@@ -1,1 +1,2 @@
+pub mod WorkedBytes
 pub mod WorkedLaws

@@ -90,9 +90,9 @@ fn put_boundary<S: Shelf>(
     let sums = boundary.sums.as_slice();
     fit_16(path);
     fit_32(sums);
-    file.put_u16(cols_number(rows, most, boundary), shelf, name);
-    file.put_all_u16(path, shelf, name);
-    file.put_all_u32(sums, shelf, name);
+    file.put_number(cols_number(rows, most, boundary), shelf, name);
+    file.put_all(path, shelf, name);
+    file.put_all(sums, shelf, name);
 }
 
 // Puts the boundary on a side, if there is one.
@@ -166,7 +166,7 @@ pub fn write_blocks<S: Shelf>(
 {
     let mut file = FileWriter::begin(shelf, name);
     put_head(&mut file, MAGIC, BLOCKS, head, shelf, name);
-    file.put_u32(blocks.len() as u32, shelf, name);
+    file.put_number(blocks.len() as u32, shelf, name);
     put_blocks(&mut file, blocks, shelf, name);
     file.finish(shelf, name)
 }

@@ -117,7 +117,7 @@ pub(crate) fn read_box_axis<S: Shelf>(
     ensures reads { OnlyReadsFile name.now (S.state shelf.old) (S.state shelf.new) }
 {
     let at = file.place();
-    let n = file.u16(shelf, name)?;
+    let n: u16 = file.number(shelf, name)?;
     lawful_box_axis(n, at)
 }
 
@@ -164,7 +164,7 @@ fn read_part<S: Shelf>(
         Version::One => Ok(1),
         Version::Two => {
             let at = file.place();
-            let n = file.u16(shelf, name)?;
+            let n: u16 = file.number(shelf, name)?;
             lawful_part(n, count, at)
         }
     }

@@ -86,7 +86,7 @@ pub fn write_cuts<S: Shelf>(
 {
     let mut file = FileWriter::begin(shelf, name);
     put_head(&mut file, MAGIC, CUTS, head, shelf, name);
-    file.put_u32(cuts.len() as u32, shelf, name);
+    file.put_number(cuts.len() as u32, shelf, name);
     put_cuts(&mut file, head.version, &head.samples, cuts, shelf, name);
     file.finish(shelf, name)
 }
@@ -104,7 +104,7 @@ pub(crate) fn read_count<S: Shelf>(
     ensures place { OnOk result (file.new.at ≡ file.old.at + 4) }
     ensures reads { OnlyReadsFile name.now (S.state shelf.old) (S.state shelf.new) }
 {
-    let n = file.u32(shelf, name)?;
+    let n: u32 = file.number(shelf, name)?;
     Ok(n)
 }
 

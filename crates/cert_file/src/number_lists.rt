@@ -42,7 +42,7 @@ pub(crate) fn read_list_16<S: Shelf>(
     ensures place { OnOk result (file.new.at ≡ file.old.at + 2 * count) }
     ensures reads { OnlyReadsFile name.now (S.state shelf.old) (S.state shelf.new) }
 {
-    let numbers = file.list_u16(alloc, count, shelf, name)?;
+    let numbers: Vec<u16> = file.list(alloc, count, shelf, name)?;
     fit_16(&numbers);
     Ok(Items::from_vec(numbers))
 }
@@ -63,7 +63,7 @@ pub(crate) fn read_list_32<S: Shelf>(
     ensures place { OnOk result (file.new.at ≡ file.old.at + 4 * count) }
     ensures reads { OnlyReadsFile name.now (S.state shelf.old) (S.state shelf.new) }
 {
-    let numbers = file.list_u32(alloc, count, shelf, name)?;
+    let numbers: Vec<u32> = file.list(alloc, count, shelf, name)?;
     fit_32(&numbers);
     Ok(Items::from_vec(numbers))
 }
@@ -84,7 +84,7 @@ pub(crate) fn read_list_64<S: Shelf>(
     ensures place { OnOk result (file.new.at ≡ file.old.at + 8 * count) }
     ensures reads { OnlyReadsFile name.now (S.state shelf.old) (S.state shelf.new) }
 {
-    let numbers = file.list_u64(alloc, count, shelf, name)?;
+    let numbers: Vec<u64> = file.list(alloc, count, shelf, name)?;
     fit_64(&numbers);
     Ok(Items::from_vec(numbers))
 }

@@ -95,7 +95,7 @@ fn read_length<S: Shelf>(file: &mut FileReader, shelf: &mut S, name: &str) -> Re
     ensures reads { OnlyReadsFile name.now (S.state shelf.old) (S.state shelf.new) }
 {
     let at = file.place();
-    let n = file.u32(shelf, name)?;
+    let n: u32 = file.number(shelf, name)?;
     lawful_length(n, at)
 }
 
@@ -124,7 +124,7 @@ fn read_gap<S: Shelf>(file: &mut FileReader, shelf: &mut S, name: &str) -> Resul
     ensures reads { OnlyReadsFile name.now (S.state shelf.old) (S.state shelf.new) }
 {
     let at = file.place();
-    let n = file.u16(shelf, name)?;
+    let n: u16 = file.number(shelf, name)?;
     lawful_gap(n, at)
 }
 

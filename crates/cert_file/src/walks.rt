@@ -46,9 +46,9 @@ fn put_walk_start<S: Shelf>(
     ensures { Puts name.now (walk_start_form len taps gap) (S.state shelf.old) (S.state shelf.new)
         file.old file.new }
 {
-    file.put_u32(len, shelf, name);
+    file.put_number(len, shelf, name);
     file.put(&[taps_byte(taps)], shelf, name);
-    file.put_u16(gap as u16, shelf, name);
+    file.put_number(gap as u16, shelf, name);
 }
 
 // Puts a walk record.
@@ -69,8 +69,8 @@ fn put_walk<S: Shelf>(
     ensures wide { AreWide walk.now tables.now }
 {
     put_walk_start(file, walk.len() as u32, taps, gap, shelf, name);
-    file.put_all_u16(walk, shelf, name);
-    file.put_all_u64(tables, shelf, name);
+    file.put_all(walk, shelf, name);
+    file.put_all(tables, shelf, name);
 }
 
 /// Writes the file of a walk record, in version 1: the head, the walk's length, its filter and gap, its

@@ -1,7 +1,8 @@
 -- Laws of a file that is being read.
-use Rattle.std.proofs.Common.{◌≡◌, ℕ, ◌+◌, ◌-◌, ◌≤◌, ◌<◌, List, [], ◌∷◌, ◌++◌, length, take, drop, min, refl, sym, ap, ◌∙◌, subst, arith, add_assoc}
+use Rattle.std.proofs.Common.{◌≡◌, ℕ, ◌+◌, ◌-◌, ◌*◌, ◌≤◌, ◌<◌, List, [], ◌∷◌, ◌++◌, length, take, drop, min, refl, sym, ap, ◌∙◌, subst, arith, add_assoc}
 use Rattle.std.proofs.lemmas.List.{drop-take, drop-drop, length-append, length-take, length-drop, take-take, take_at, append-nil}
 use Rattle.std.proofs.lemmas.List.Concat.{flat_map-append}
+use Rattle.std.proofs.Math.Nat.{mul-add, mul-one}
 use Rattle.std.specs.List.{flat_map}
 use Rattle.std.proofs.Math.Seq.{take-add, take-append-add}
 use Rattle.std.proofs.lemmas.Slice.{take-put_mid}
@@ -138,9 +139,13 @@ filled_within into part filled k m within le =
     omega (arith, whole, left, right, count)
 
 -- a number after those before it
-pub took_number : {names : List (List ℕ)} (name : List ℕ) (field : ℕ → List ℕ) (at : ℕ) (numbers : List ℕ) (n : ℕ) (a b : ShelfState) (r r' : Reading) → OnlyReads names a b
+pub took_number : {names : List (List ℕ)} {X : Type 0} (name : List ℕ) (field : X → List ℕ) (at : ℕ) (numbers : List X) (n : X) (a b : ShelfState) (r r' : Reading) → OnlyReads names a b
     → Took name at (flat_map field numbers) a r → Took name r.at (field n) b r' → Took name at (flat_map field (numbers ++ n ∷ [])) b r'
 took_number name field at numbers n a b r r' reads first second =
     subst (λ piece. Took name at piece b r')
     (sym (flat_map-append field numbers (n ∷ []) ∙ ap (λ last. flat_map field numbers ++ last) (append-nil (field n))))
     (took_along name at (flat_map field numbers) (field n) a b r r' reads first second)
+
+-- the place after one field more
+pub one_wider : (width i : ℕ) → width * (i + 1) ≡ width * i + width
+one_wider width i = mul-add width i 1 ∙ ap (λ k. width * i + k) (mul-one width)

@@ -1,10 +1,11 @@
 // Reading a file through one buffer.
 ghost use Rattle.std.specs.Prelude.{◌≡◌, ◌≤◌, ◌<◌, ◌+◌, ◌*◌, ◌^◌, ◌++◌, [], ◌∷◌, length, take, drop, ◌/◌, min, max, IsTrue, ◌↔◌, OnOk, OnErr, IfOk, IfErr, true, false, vec_len, vec_capacity};
 ghost use Rattle.shelf_core.specs.Files.{OnlyReadsFile, ReadsRose};
-ghost use Rattle.file_bytes.specs.Fields.{field_16, field_32, field_64, fields_16, fields_32, fields_64};
+ghost use Rattle.std.specs.List.{flat_map};
 ghost use Rattle.file_bytes.specs.declared.reader.TheConstants.{LEAST_ROOM};
 ghost use Rattle.file_bytes.specs.Reading.{Follows, Stops, StopsInList, StopsShort, Took, after_serving};
 
+use crate::field::Field;
 use shelf_core::{Failed, FormFault, ReadError, Shelf};
 use std::alloc::{AllocError, Global};
 use std::marker::Model;
@@ -30,7 +31,6 @@ pub struct FileReader {
 
 impl Model for FileReader {
     ghost use Rattle.std.specs.Prelude.{take, drop, ◌-◌, ◌≤◌};
-    ghost use Rattle.file_bytes.specs.Fields.{field_16, field_32, field_64, fields_16, fields_32, fields_64};
     ghost use Rattle.file_bytes.specs.Reading.{Reading};
     ghost use Rattle.file_bytes.specs.declared.reader.TheConstants.{ROOM};
 
@@ -43,32 +43,6 @@ impl Model for FileReader {
     } };
 
     ghost invariant = { λ a. (a.start ≤ a.end) × (a.end ≤ ROOM) };
-}
-
-// The number that a field stands for.
-fn number_16(field: &[u8]) -> u16
-    requires { length field.now ≡ 2 }
-    ensures { field_16 result ≡ field.now }
-{
-    u16::from_be_bytes([field[0], field[1]])
-}
-
-// The number that a field stands for.
-fn number_32(field: &[u8]) -> u32
-    requires { length field.now ≡ 4 }
-    ensures { field_32 result ≡ field.now }
-{
-    u32::from_be_bytes([field[0], field[1], field[2], field[3]])
-}
-
-// The number that a field stands for.
-fn number_64(field: &[u8]) -> u64
-    requires { length field.now ≡ 8 }
-    ensures { field_64 result ≡ field.now }
-{
-    u64::from_be_bytes([
-        field[0], field[1], field[2], field[3], field[4], field[5], field[6], field[7],
-    ])
 }
 
 /// Makes room for one more item of a list that is read. Where there is none, it takes room for an eighth
@@ -226,49 +200,19 @@ impl FileReader {
         Ok(field[0])
     }
 
-    /// Reads a number of 2 bytes.
-    pub fn u16<S: Shelf>(&mut self, shelf: &mut S, name: &str) -> Result<u16, ReadError>
+    /// Reads a number of 2, 4 or 8 bytes.
+    pub fn number<T: Field, S: Shelf>(&mut self, shelf: &mut S, name: &str) -> Result<T, ReadError>
         requires follows { Follows name.now (S.state shelf.old) self.old }
-        requires room { self.old.at + 2 < 2 ^ 63 }
+        requires room { self.old.at + T.WIDTH < 2 ^ 63 }
         ensures took { IfOk result (λ n.
-            Took name.now self.old.at (field_16 n) (S.state shelf.new) self.new) }
+            Took name.now self.old.at (T.field n) (S.state shelf.new) self.new) }
         ensures stops { IfErr result
-            (StopsShort name.now (self.old.at + 2) (S.state shelf.old) (S.state shelf.new)) }
-        ensures reads { OnlyReadsFile name.now (S.state shelf.old) (S.state shelf.new) }
-    {
-        let mut field = [0; 2];
-        self.take(&mut field, shelf, name)?;
-        Ok(number_16(&field))
-    }
-
-    /// Reads a number of 4 bytes.
-    pub fn u32<S: Shelf>(&mut self, shelf: &mut S, name: &str) -> Result<u32, ReadError>
-        requires follows { Follows name.now (S.state shelf.old) self.old }
-        requires room { self.old.at + 4 < 2 ^ 63 }
-        ensures took { IfOk result (λ n.
-            Took name.now self.old.at (field_32 n) (S.state shelf.new) self.new) }
-        ensures stops { IfErr result
-            (StopsShort name.now (self.old.at + 4) (S.state shelf.old) (S.state shelf.new)) }
-        ensures reads { OnlyReadsFile name.now (S.state shelf.old) (S.state shelf.new) }
-    {
-        let mut field = [0; 4];
-        self.take(&mut field, shelf, name)?;
-        Ok(number_32(&field))
-    }
-
-    /// Reads a number of 8 bytes.
-    pub fn u64<S: Shelf>(&mut self, shelf: &mut S, name: &str) -> Result<u64, ReadError>
-        requires follows { Follows name.now (S.state shelf.old) self.old }
-        requires room { self.old.at + 8 < 2 ^ 63 }
-        ensures took { IfOk result (λ n.
-            Took name.now self.old.at (field_64 n) (S.state shelf.new) self.new) }
-        ensures stops { IfErr result
-            (StopsShort name.now (self.old.at + 8) (S.state shelf.old) (S.state shelf.new)) }
+            (StopsShort name.now (self.old.at + T.WIDTH) (S.state shelf.old) (S.state shelf.new)) }
         ensures reads { OnlyReadsFile name.now (S.state shelf.old) (S.state shelf.new) }
     {
         let mut field = [0; 8];
-        self.take(&mut field, shelf, name)?;
-        Ok(number_64(&field))
+        self.take(&mut field[..T::WIDTH], shelf, name)?;
+        Ok(T::of(&field[..T::WIDTH]))
     }
 
     /// Whether the file ends here. A byte that stands here is answered by `Form` at its place.
@@ -284,83 +228,27 @@ impl FileReader {
         Ok(())
     }
 
-    /// Reads so many numbers of 2 bytes. It takes memory as they come.
-    pub fn list_u16<S: Shelf>(
+    /// Reads so many numbers of 2, 4 or 8 bytes. It takes memory as they come.
+    pub fn list<T: Field, S: Shelf>(
         &mut self,
         alloc: Global,
         count: usize,
         shelf: &mut S,
         name: &str,
-    ) -> Result<Vec<u16>, ReadError>
+    ) -> Result<Vec<T>, ReadError>
         requires follows { Follows name.now (S.state shelf.old) self.old }
-        requires room { self.old.at + 2 * count < 2 ^ 63 }
+        requires room { self.old.at + T.WIDTH * count < 2 ^ 63 }
         ensures count { IfOk result (λ list. vec_len list ≡ count) }
         ensures took { IfOk result (λ list.
-            Took name.now self.old.at (fields_16 list.items) (S.state shelf.new) self.new) }
-        ensures stops { IfErr result (StopsInList name.now (self.old.at + 2 * count)
+            Took name.now self.old.at (flat_map T.field list.items) (S.state shelf.new) self.new) }
+        ensures stops { IfErr result (StopsInList name.now (self.old.at + T.WIDTH * count)
             (S.state shelf.old) (S.state shelf.new)) }
         ensures reads { OnlyReadsFile name.now (S.state shelf.old) (S.state shelf.new) }
     {
         let mut numbers = Vec::new(alloc);
         for i in 0..count {
             make_room(&mut numbers, count - i)?;
-            let number = self.u16(shelf, name)?;
-            let Ok(()) = numbers.push(number) else {
-                return Err(ReadError::NoMemory);
-            };
-        }
-        Ok(numbers)
-    }
-
-    /// Reads so many numbers of 4 bytes. It takes memory as they come.
-    pub fn list_u32<S: Shelf>(
-        &mut self,
-        alloc: Global,
-        count: usize,
-        shelf: &mut S,
-        name: &str,
-    ) -> Result<Vec<u32>, ReadError>
-        requires follows { Follows name.now (S.state shelf.old) self.old }
-        requires room { self.old.at + 4 * count < 2 ^ 63 }
-        ensures count { IfOk result (λ list. vec_len list ≡ count) }
-        ensures took { IfOk result (λ list.
-            Took name.now self.old.at (fields_32 list.items) (S.state shelf.new) self.new) }
-        ensures stops { IfErr result (StopsInList name.now (self.old.at + 4 * count)
-            (S.state shelf.old) (S.state shelf.new)) }
-        ensures reads { OnlyReadsFile name.now (S.state shelf.old) (S.state shelf.new) }
-    {
-        let mut numbers = Vec::new(alloc);
-        for i in 0..count {
-            make_room(&mut numbers, count - i)?;
-            let number = self.u32(shelf, name)?;
-            let Ok(()) = numbers.push(number) else {
-                return Err(ReadError::NoMemory);
-            };
-        }
-        Ok(numbers)
-    }
-
-    /// Reads so many numbers of 8 bytes. It takes memory as they come.
-    pub fn list_u64<S: Shelf>(
-        &mut self,
-        alloc: Global,
-        count: usize,
-        shelf: &mut S,
-        name: &str,
-    ) -> Result<Vec<u64>, ReadError>
-        requires follows { Follows name.now (S.state shelf.old) self.old }
-        requires room { self.old.at + 8 * count < 2 ^ 63 }
-        ensures count { IfOk result (λ list. vec_len list ≡ count) }
-        ensures took { IfOk result (λ list.
-            Took name.now self.old.at (fields_64 list.items) (S.state shelf.new) self.new) }
-        ensures stops { IfErr result (StopsInList name.now (self.old.at + 8 * count)
-            (S.state shelf.old) (S.state shelf.new)) }
-        ensures reads { OnlyReadsFile name.now (S.state shelf.old) (S.state shelf.new) }
-    {
-        let mut numbers = Vec::new(alloc);
-        for i in 0..count {
-            make_room(&mut numbers, count - i)?;
-            let number = self.u64(shelf, name)?;
+            let number = self.number(shelf, name)?;
             let Ok(()) = numbers.push(number) else {
                 return Err(ReadError::NoMemory);
             };

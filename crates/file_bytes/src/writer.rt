@@ -1,10 +1,11 @@
 // Writing a file through one buffer.
 ghost use Rattle.std.specs.Prelude.{◌≡◌, ◌≤◌, ◌<◌, ◌+◌, ◌++◌, [], ◌∷◌, List, ℕ, ◌⊎◌, length, take, drop, OnOk, OnErr};
+ghost use Rattle.std.specs.List.{flat_map};
 ghost use Rattle.shelf_core.specs.Files.{ShelfState, Changes, OnlyWritesFile, Rose};
 ghost use Rattle.shelf_core.specs.Written.{HoldsText, HoldsPart};
-ghost use Rattle.file_bytes.specs.Fields.{field_16, field_32, field_64, fields_16, fields_32, fields_64};
 ghost use Rattle.file_bytes.specs.Writing.{HasPut, Keeps, Puts, pending};
 
+use crate::field::Field;
 use shelf_core::{Shelf, WriteFault};
 use std::marker::Model;
 
@@ -120,57 +121,23 @@ impl FileWriter {
         }
     }
 
-    /// Puts a number as 2 bytes.
-    pub fn put_u16<S: Shelf>(&mut self, number: u16, shelf: &mut S, name: &str)
-        ensures { Puts name.now (field_16 number) (S.state shelf.old) (S.state shelf.new)
+    /// Puts a number as 2, 4 or 8 bytes.
+    pub fn put_number<T: Field, S: Shelf>(&mut self, number: T, shelf: &mut S, name: &str)
+        ensures { Puts name.now (T.field number) (S.state shelf.old) (S.state shelf.new)
             self.old self.new }
     {
-        self.put(&number.to_be_bytes(), shelf, name);
+        let mut field = [0; 8];
+        number.fill(&mut field[..T::WIDTH]);
+        self.put(&field[..T::WIDTH], shelf, name);
     }
 
-    /// Puts a number as 4 bytes.
-    pub fn put_u32<S: Shelf>(&mut self, number: u32, shelf: &mut S, name: &str)
-        ensures { Puts name.now (field_32 number) (S.state shelf.old) (S.state shelf.new)
-            self.old self.new }
-    {
-        self.put(&number.to_be_bytes(), shelf, name);
-    }
-
-    /// Puts a number as 8 bytes.
-    pub fn put_u64<S: Shelf>(&mut self, number: u64, shelf: &mut S, name: &str)
-        ensures { Puts name.now (field_64 number) (S.state shelf.old) (S.state shelf.new)
-            self.old self.new }
-    {
-        self.put(&number.to_be_bytes(), shelf, name);
-    }
-
-    /// Puts numbers, one after another, as 2 bytes each.
-    pub fn put_all_u16<S: Shelf>(&mut self, numbers: &[u16], shelf: &mut S, name: &str)
-        ensures { Puts name.now (fields_16 numbers.now) (S.state shelf.old) (S.state shelf.new)
-            self.old self.new }
+    /// Puts numbers, one after another, each as [`FileWriter::put_number`] does.
+    pub fn put_all<T: Field, S: Shelf>(&mut self, numbers: &[T], shelf: &mut S, name: &str)
+        ensures { Puts name.now (flat_map T.field numbers.now) (S.state shelf.old)
+            (S.state shelf.new) self.old self.new }
     {
         for number in numbers {
-            self.put_u16(*number, shelf, name);
-        }
-    }
-
-    /// Puts numbers, one after another, as 4 bytes each.
-    pub fn put_all_u32<S: Shelf>(&mut self, numbers: &[u32], shelf: &mut S, name: &str)
-        ensures { Puts name.now (fields_32 numbers.now) (S.state shelf.old) (S.state shelf.new)
-            self.old self.new }
-    {
-        for number in numbers {
-            self.put_u32(*number, shelf, name);
-        }
-    }
-
-    /// Puts numbers, one after another, as 8 bytes each.
-    pub fn put_all_u64<S: Shelf>(&mut self, numbers: &[u64], shelf: &mut S, name: &str)
-        ensures { Puts name.now (fields_64 numbers.now) (S.state shelf.old) (S.state shelf.new)
-            self.old self.new }
-    {
-        for number in numbers {
-            self.put_u64(*number, shelf, name);
+            self.put_number(*number, shelf, name);
         }
     }
 

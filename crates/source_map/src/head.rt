@@ -45,9 +45,9 @@ pub(crate) fn put_size<S: Shelf>(file: &mut FileWriter, size: Size, shelf: &mut 
     ensures { Puts name.now (size_field size) (S.state shelf.old) (S.state shelf.new)
         file.old file.new }
 {
-    file.put_u32(size.w, shelf, name);
-    file.put_u32(size.h, shelf, name);
-    file.put_u32(size.f, shelf, name);
+    file.put_number(size.w, shelf, name);
+    file.put_number(size.h, shelf, name);
+    file.put_number(size.f, shelf, name);
 }
 
 // Puts sizes, one after another.
@@ -91,7 +91,7 @@ fn put_count<S: Shelf>(
 {
     match version {
         Version::One => {}
-        Version::Two => file.put_u16(count, shelf, name),
+        Version::Two => file.put_number(count, shelf, name),
     }
 }
 

@@ -183,7 +183,7 @@ pub(crate) fn read_axis<S: Shelf>(
     ensures reads { OnlyReadsFile name.now (S.state shelf.old) (S.state shelf.new) }
 {
     let at = file.place();
-    let n = file.u32(shelf, name)?;
+    let n: u32 = file.number(shelf, name)?;
     lawful_axis(n, at)
 }
 
@@ -198,7 +198,7 @@ fn read_count<S: Shelf>(file: &mut FileReader, shelf: &mut S, name: &str) -> Res
     ensures reads { OnlyReadsFile name.now (S.state shelf.old) (S.state shelf.new) }
 {
     let at = file.place();
-    let n = file.u16(shelf, name)?;
+    let n: u16 = file.number(shelf, name)?;
     lawful_count(n, at)
 }
 

@@ -67,7 +67,7 @@ fn put_numbered<S: Shelf>(file: &mut FileWriter, there: PartPlace, shelf: &mut S
     ensures { Puts name.now (numbered_field there) (S.state shelf.old) (S.state shelf.new)
         file.old file.new }
 {
-    file.put_u16(there.part as u16, shelf, name);
+    file.put_number(there.part as u16, shelf, name);
     file.put(&place_bytes(there.at), shelf, name);
 }
 
@@ -176,6 +176,6 @@ pub fn write_frame_map<S: Shelf>(
     let mut file = FileWriter::begin(shelf, name);
     put_start(&mut file, MAGIC, 1, Version::One, size, shelf, name);
     put_size(&mut file, sample, shelf, name);
-    file.put_all_u16(frames, shelf, name);
+    file.put_all(frames, shelf, name);
     file.finish(shelf, name)
 }

@@ -100,7 +100,7 @@ fn read_same<S: Shelf>(
     ensures reads { OnlyReadsFile name.now (S.state shelf.old) (S.state shelf.new) }
 {
     let at = file.place();
-    let n = file.u32(shelf, name)?;
+    let n: u32 = file.number(shelf, name)?;
     lawful_same(n, wanted, at)
 }
 
@@ -120,7 +120,7 @@ fn read_below<S: Shelf>(
     ensures reads { OnlyReadsFile name.now (S.state shelf.old) (S.state shelf.new) }
 {
     let at = file.place();
-    let n = file.u16(shelf, name)?;
+    let n: u16 = file.number(shelf, name)?;
     lawful_below(n, bound, at)
 }
 
@@ -140,7 +140,7 @@ fn read_part<S: Shelf>(
     ensures reads { OnlyReadsFile name.now (S.state shelf.old) (S.state shelf.new) }
 {
     let at = file.place();
-    let n = file.u16(shelf, name)?;
+    let n: u16 = file.number(shelf, name)?;
     lawful_part(n, count, at)
 }
 

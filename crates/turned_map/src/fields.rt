@@ -146,7 +146,7 @@ pub(crate) fn read_part<S: Shelf>(
     ensures reads { OnlyReadsFile name.now (S.state shelf.old) (S.state shelf.new) }
 {
     let at = file.place();
-    let n = file.u16(shelf, name)?;
+    let n: u16 = file.number(shelf, name)?;
     lawful_part(n, count, at)
 }
 
@@ -165,6 +165,6 @@ pub(crate) fn read_turn<S: Shelf>(
     ensures reads { OnlyReadsFile name.now (S.state shelf.old) (S.state shelf.new) }
 {
     let at = file.place();
-    let n = file.u16(shelf, name)?;
+    let n: u16 = file.number(shelf, name)?;
     lawful_turn(n, at)
 }

@@ -56,8 +56,8 @@ fn put_turned<S: Shelf>(file: &mut FileWriter, there: Turned, shelf: &mut S, nam
     ensures { Puts name.now (turned_field there) (S.state shelf.old) (S.state shelf.new)
         file.old file.new }
 {
-    file.put_u16(there.sample as u16, shelf, name);
-    file.put_u16(there.turn as u16, shelf, name);
+    file.put_number(there.sample as u16, shelf, name);
+    file.put_number(there.turn as u16, shelf, name);
     file.put(&place_bytes(there.at), shelf, name);
 }
 

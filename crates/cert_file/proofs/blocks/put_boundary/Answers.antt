@@ -14,11 +14,11 @@ returns-clause-put g c =
     let a = field_16 c.cols_number.result in
     let b = fields_16 c.as_slice-path.result.now in
     let d = fields_32 c.as_slice-sums.result.now in
-    subst (λ piece. Puts name piece start (state c.put_all_u32.new.shelf) file c.put_all_u32.new.self)
+    subst (λ piece. Puts name piece start (state c.put_all-2.new.shelf) file c.put_all-2.new.self)
     (λ k. field_16 (c.cols_number.ensures k) ++ fields_16 (c.as_slice-path.ensures k) ++ fields_32 (c.as_slice-sums.ensures k))
-    (put_next name (a ++ b) d (state c.put_all_u16.new.shelf) (state c.put_all_u32.new.shelf) c.put_all_u16.new.self c.put_all_u32.new.self file start
-    (put_next name a b (state c.put_u16.new.shelf) (state c.put_all_u16.new.shelf) c.put_u16.new.self c.put_all_u16.new.self file start c.put_u16.ensures c.put_all_u16.ensures)
-    c.put_all_u32.ensures)
+    (put_next name (a ++ b) d (state c.put_all.new.shelf) (state c.put_all-2.new.shelf) c.put_all.new.self c.put_all-2.new.self file start
+    (put_next name a b (state c.put_number.new.shelf) (state c.put_all.new.shelf) c.put_number.new.self c.put_all.new.self file start c.put_number.ensures c.put_all.ensures)
+    c.put_all-2.ensures)
 
 pub returns-clause-wide : goal.returns-clause-wide
 returns-clause-wide g c = record {

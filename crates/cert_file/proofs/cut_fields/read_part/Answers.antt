@@ -13,12 +13,12 @@ returns-in_err-n-in-Two-clause-answer g c =
     let state = g.S.Shelf.state in
     let p = err_from_is_err_and c.from_residual.result c.from_residual.ensures.1 in
     rw (p.1, p.2)
-    (subst (λ version. ReadsFrom ⊥ c.args.name.now c.args.file.now.at (state c.args.shelf.now) (state c.u16.new.shelf) c.u16.new.self (part_read version c.args.count) (Err c.in_err-n-in-Two.field-0.0)) (sym c.in-Two.is)
-    (field_stops ⊥ c.args.name.now 2 (number_rule w16 (part_rule c.args.count)) c.args.file.now.at (state c.args.shelf.now) (state c.u16.new.shelf) c.u16.new.self c.in_err-n-in-Two.field-0.0 c.in_err-n-in-Two.ensures.stops))
+    (subst (λ version. ReadsFrom ⊥ c.args.name.now c.args.file.now.at (state c.args.shelf.now) (state c.number.new.shelf) c.number.new.self (part_read version c.args.count) (Err c.in_err-n-in-Two.field-0.0)) (sym c.in-Two.is)
+    (field_stops ⊥ c.args.name.now 2 (number_rule w16 (part_rule c.args.count)) c.args.file.now.at (state c.args.shelf.now) (state c.number.new.shelf) c.number.new.self c.in_err-n-in-Two.field-0.0 c.in_err-n-in-Two.ensures.stops))
 
 pub returns-in_ok-n-in-Two-clause-answer : goal.returns-in_ok-n-in-Two-clause-answer
 returns-in_ok-n-in-Two-clause-answer g c =
     let state = g.S.Shelf.state in
-    subst (λ version. ReadsFrom ⊥ c.args.name.now c.args.file.now.at (state c.args.shelf.now) (state c.u16.new.shelf) c.u16.new.self (part_read version c.args.count) c.lawful_part.result) (sym c.in-Two.is)
-    (number_16 ⊥ c.args.name.now (part_rule c.args.count) c.args.file.now.at c.in_ok-n-in-Two.n (state c.args.shelf.now) (state c.u16.new.shelf) c.u16.new.self c.lawful_part.result
+    subst (λ version. ReadsFrom ⊥ c.args.name.now c.args.file.now.at (state c.args.shelf.now) (state c.number.new.shelf) c.number.new.self (part_read version c.args.count) c.lawful_part.result) (sym c.in-Two.is)
+    (number_16 ⊥ c.args.name.now (part_rule c.args.count) c.args.file.now.at c.in_ok-n-in-Two.n (state c.args.shelf.now) (state c.number.new.shelf) c.number.new.self c.lawful_part.result
     (omega arith) (c.lawful_part.ensures.part ∙ ap (λ at. part_rule c.args.count at c.in_ok-n-in-Two.n) c.place-at.ensures) c.lawful_part.ensures.refusal (c.in_ok-n-in-Two.ensures {u = tt}).took)

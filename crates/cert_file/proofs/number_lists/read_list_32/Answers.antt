@@ -11,7 +11,7 @@ pub returns-in_err-numbers-clause-answer : goal.returns-in_err-numbers-clause-an
 returns-in_err-numbers-clause-answer g c =
     let p = err_from_is_err_and c.from_residual.result c.from_residual.ensures.1 in
     rw (p.1, p.2)
-    (list_lacks c.args.name.now w32 c.args.count (g.S.Shelf.state c.args.shelf.now) (g.S.Shelf.state c.list_u32.new.shelf) c.args.file.now c.list_u32.new.self c.in_err-numbers.field-0.0
+    (list_lacks c.args.name.now w32 c.args.count (g.S.Shelf.state c.args.shelf.now) (g.S.Shelf.state c.list.new.shelf) c.args.file.now c.list.new.self c.in_err-numbers.field-0.0
     c.requires.follows c.in_err-numbers.ensures.reads c.in_err-numbers.ensures.stops)
 
 pub returns-clause-answer : goal.returns-clause-answer
@@ -19,8 +19,8 @@ returns-clause-answer g c =
     let ok = c.in_ok-numbers.ensures {u = tt} in
     let count : length c.in_ok-numbers.numbers.items ≡ c.args.count = omega (arith, ok.count) in
     let state = g.S.Shelf.state in
-    subst (λ numbers. Found c.args.name.now c.args.file.now.at (state c.list_u32.new.shelf) c.list_u32.new.self (list_read (number_read w32 any_rule) c.args.count) numbers) (sym c.from_vec.ensures)
-    (list_32 c.args.name.now c.args.count c.args.file.now.at c.in_ok-numbers.numbers.items (state c.list_u32.new.shelf) c.list_u32.new.self count (subst (All (λ n. n < 2 ^ 32)) c.deref.ensures.value c.fit_32.ensures) ok.took)
+    subst (λ numbers. Found c.args.name.now c.args.file.now.at (state c.list.new.shelf) c.list.new.self (list_read (number_read w32 any_rule) c.args.count) numbers) (sym c.from_vec.ensures)
+    (list_32 c.args.name.now c.args.count c.args.file.now.at c.in_ok-numbers.numbers.items (state c.list.new.shelf) c.list.new.self count (subst (All (λ n. n < 2 ^ 32)) c.deref.ensures.value c.fit_32.ensures) ok.took)
 
 pub returns-clause-place : goal.returns-clause-place
 returns-clause-place g c =

@@ -14,9 +14,9 @@ returns-clause-put g c =
     let file = c.args.file.now in
     let a = walk_start_form (length c.args.walk.now) c.args.taps c.args.gap in
     let b = fields_16 c.args.walk.now in
-    put_next name (a ++ b) (fields_64 c.args.tables.now) (state c.put_all_u16.new.shelf) (state c.put_all_u64.new.shelf) c.put_all_u16.new.self c.put_all_u64.new.self file start
-    (put_next name a b (state c.put_walk_start.new.shelf) (state c.put_all_u16.new.shelf) c.put_walk_start.new.file c.put_all_u16.new.self file start c.put_walk_start.ensures c.put_all_u16.ensures)
-    c.put_all_u64.ensures
+    put_next name (a ++ b) (fields_64 c.args.tables.now) (state c.put_all.new.shelf) (state c.put_all-2.new.shelf) c.put_all.new.self c.put_all-2.new.self file start
+    (put_next name a b (state c.put_walk_start.new.shelf) (state c.put_all.new.shelf) c.put_walk_start.new.file c.put_all.new.self file start c.put_walk_start.ensures c.put_all.ensures)
+    c.put_all-2.ensures
 
 pub returns-clause-wide : goal.returns-clause-wide
 returns-clause-wide g c = record {

@@ -12,7 +12,7 @@ returns g c =
     let file = c.args.file.now in
     let len = field_32 c.args.len in
     let taps = c.taps_byte.result ∷ [] in
-    subst (λ n. Puts name (len ++ n ∷ [] ++ field_16 c.args.gap) start (state c.put_u16.new.shelf) file c.put_u16.new.self) c.taps_byte.ensures
-    (put_next name (len ++ taps) (field_16 c.args.gap) (state c.put.new.shelf) (state c.put_u16.new.shelf) c.put.new.self c.put_u16.new.self file start
-    (put_next name len taps (state c.put_u32.new.shelf) (state c.put.new.shelf) c.put_u32.new.self c.put.new.self file start c.put_u32.ensures c.put.ensures)
-    c.put_u16.ensures)
+    subst (λ n. Puts name (len ++ n ∷ [] ++ field_16 c.args.gap) start (state c.put_number-2.new.shelf) file c.put_number-2.new.self) c.taps_byte.ensures
+    (put_next name (len ++ taps) (field_16 c.args.gap) (state c.put.new.shelf) (state c.put_number-2.new.shelf) c.put.new.self c.put_number-2.new.self file start
+    (put_next name len taps (state c.put_number.new.shelf) (state c.put.new.shelf) c.put_number.new.self c.put.new.self file start c.put_number.ensures c.put.ensures)
+    c.put_number-2.ensures)

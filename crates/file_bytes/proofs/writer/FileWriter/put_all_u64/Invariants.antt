@@ -1,9 +1,0 @@
-use Rattle.std.proofs.Common.{take}
-use Rattle.file_bytes.specs.Fields.{fields_64}
-use Rattle.file_bytes.specs.Writing.{Puts}
-use Rattle.file_bytes.proofs.writer.FileWriter.put_all_u64.Given as goal
-
-abbrev pub invariant-loop-number : goal.invariant-loop-number
-invariant-loop-number g l =
-    let state = g.S.Shelf.state in
-    Puts l.name (fields_64 (take l.number-index l.numbers)) (state l.fn.shelf) (state l.shelf) l.fn.self l.self

@@ -27,9 +27,10 @@ use Rattle.sample_files.specs.Samples.{CanStandIn, StandsWithin, form_text}
 use Rattle.standing_files.specs.Standing.{FilesStand}
 use Rattle.standing_files.proofs.Runs.{run_stands}
 use Rattle.check_command.specs.declared.reading.ReadFiles.{ReadFiles}
-use Rattle.check_command.specs.Checks.{Stand, StandForWorked, of_turned, run_map_read}
+use Rattle.check_command.specs.Checks.{AreRunFiles, Stand, StandForWorked, of_turned, run_map_read}
 use Rattle.grow_command.specs.declared.plan.Growth.{Growth}
 use Rattle.grow_command.specs.Growths.{IsMade, head_over, version_over}
+use Rattle.grow_command.proofs.OneTurns.{one_turns}
 use Rattle.grow_command.proofs.Ready.{cells_ready, map_ready, picture_ready, record_ready, several}
 
 -- a picture that is written is read again
@@ -90,3 +91,8 @@ module _ (job : GrowJob) (lawful : IsGrowJob job) (after : Files) (growth : Grow
 
   pub accepted : Stand job.turns job.names after
   accepted = record { values = values; read = record { samples = samples_again; out = out_read; map = map_again; record_file = record_file_again }; stand = files_stand }
+
+  -- with the other value of `turns` the map file isn't in its form
+  pub own_turns : (turns : Bool) (values : ReadFiles) → AreRunFiles turns job.names after values → turns ≡ job.turns
+  own_turns turns other files =
+      one_turns job.turns turns growth.grown.canvas.map growth.sizes other.map (subst (λ bytes. run_map_read turns bytes ≡ Ok other.map) map_file files.map)

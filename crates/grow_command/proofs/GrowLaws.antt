@@ -1,5 +1,5 @@
 -- `grow` has one answer to files, and its headline.
-use Rattle.std.proofs.Common.{◌≡◌, ◌+◌, ◌*◌, ◌≤◌, true, List, [], ◌∷◌, length, ap, refl, sym, ◌∙◌, subst}
+use Rattle.std.proofs.Common.{◌≡◌, ℕ, ◌+◌, ◌*◌, ◌≤◌, true, List, [], ◌∷◌, length, ap, refl, sym, ◌∙◌, subst}
 use Rattle.cells.specs.Cells.{Cells, IsVolume, sizes_of}
 use Rattle.shelf_core.specs.Files.{Files, content_of}
 use Rattle.shelf_core.specs.Written.{written}
@@ -21,25 +21,27 @@ use Rattle.job_words.specs.GrowWords.{IsGrowJob}
 use Rattle.synth_report.specs.declared.summary.Summary.{Summary}
 use Rattle.command.specs.Commands.{HasOneAnswer}
 use Rattle.command.specs.Outcomes.{WritesAll}
+use Rattle.command.specs.Stages.{AllMake}
 use Rattle.command.specs.Writing.{pieces, texts_in}
 use Rattle.command.proofs.Staging.{one_answer}
 use Rattle.command_files.proofs.ThreeFiles.{HoldThree, three_files}
 use Rattle.sample_files.specs.declared.several.Samples.{Samples}
-use Rattle.sample_files.specs.Outputs.{IsWithinBounds}
+use Rattle.sample_files.specs.Outputs.{FitsOutput, IsWithinBounds}
 use Rattle.sample_files.specs.Samples.{form_text}
-use Rattle.sample_files.specs.Several.{MayRefuseSamples, StandForSamples, contents}
+use Rattle.sample_files.specs.Several.{MayRefuseSamples, StandForSamples, contents, read_samples}
+use Rattle.sample_files.proofs.Commands.{parts_made}
 use Rattle.sample_files.proofs.Sound.{as_many_parts, stand_sound}
-use Rattle.grow_command.specs.Growths.{AreSamplesIn, IsGrowSummary, IsGrownOver, IsMade, grow_command, grow_stages, growth_files, growth_of, growth_summary, head_over, plan_of}
 use Rattle.limits.specs.declared.bounds.TheConstants.{MOST_PARTS}
 use Rattle.turned.specs.declared.turn.TheConstants.{TURNS}
 use Rattle.worked.specs.Worked.{worked}
 use Rattle.worked.proofs.WorkedLaws.{sizes_worked, worked_sound}
+use Rattle.grow_command.specs.Growths.{AreSamplesIn, IsGrowSummary, IsGrownOver, IsMade, grow_command, grow_over, grow_stages, growth_files, growth_of, growth_summary, head_over, plan_of}
 use Rattle.grow_command.specs.GrownMaps.{map_text}
 use Rattle.grow_command.proofs.NamedCells.{named_cell}
 use Rattle.grow_command.proofs.Ready.{volume_sizes}
 use Rattle.grow_command.specs.GrowHeadlines.{IsGrownOutput, IsGrownRecord, IsGrownRun, IsToldOfGrown, RaisesNone}
 use Rattle.grow_command.proofs.Growing.{are_one, small_output}
-use Rattle.grow_command.proofs.Accepted.{accepted}
+use Rattle.grow_command.proofs.Accepted.{accepted, own_turns}
 
 -- no record of a round raises the total
 none_raise_over : (plan : GrowPlan) (sample : Cells) → IsVolume sample → (from : Growing) (cuts : List CutRecord) (after : Growing) → IsMap from.map → Leads (GrowsBy plan sample) from cuts after
@@ -117,14 +119,34 @@ module _ (job : GrowJob) (lawful : IsGrowJob job) (before after : Files) (sample
 
   told : (summary : Summary) → summary ≡ growth_summary job (growth_of job samples grown) → IsToldOfGrown job summary before after
   told summary summary_is = record {
-    run = record { output = output; records = records; accepted = accepted job lawful after (growth_of job samples grown) made is.flows (record { samples = samples; stand = again; is = refl }) files.out files.map files.record_file; others = files.others };
+    run = record {
+      output = output;
+      records = records;
+      accepted = accepted job lawful after (growth_of job samples grown) made is.flows (record { samples = samples; stand = again; is = refl }) files.out files.map files.record_file;
+      own_turns = own_turns job lawful after (growth_of job samples grown) made is.flows (record { samples = samples; stand = again; is = refl }) files.out files.map files.record_file;
+      others = files.others;
+    };
     summary_is = summary_is;
   }
 
+-- what is made of the samples, once the number of their parts is within its bound
+abbrev MadeOver : GrowJob → Summary → Files → List (List ℕ) → Type 0
+MadeOver job summary before texts = AllMake (read_samples job.turns job.names.sample job.names.more (grow_over job)) before texts summary
+
+made_over : (job : GrowJob) (summary : Summary) (before : Files) (texts : List (List ℕ)) → (grow_command job).Makes before texts summary → MadeOver job summary before texts
+made_over job summary before texts makes = parts_made job.turns (length job.names.more + 1) (read_samples job.turns job.names.sample job.names.more (grow_over job)) before texts summary makes
+
+-- an output that is made has no more cells than one may have
+pub output_fits : (job : GrowJob) (summary : Summary) (before after : Files) → WritesAll (grow_command job) summary before after → FitsOutput job.size
+output_fits job summary before after (texts, makes, wrote) = (made_over job summary before texts makes).2.1.0
+
 -- what is reported is that of such a run
 pub grow_told : (job : GrowJob) → IsGrowJob job → (summary : Summary) (before after : Files) → WritesAll (grow_command job) summary before after → IsToldOfGrown job summary before after
-grow_told job lawful summary before after (texts, (samples, read, (frames, (cells, (none, (grown, is, texts_are, summary_is))))), wrote) =
-    told job lawful before after samples read (record { frames = frames; cells = cells }) grown is (wrote ∙ ap (λ ts. written (pieces (grow_command job).writes ts) before) texts_are) summary summary_is
+grow_told job lawful summary before after (texts, makes, wrote) = by (made_over job summary before texts makes)
+  where
+    by : MadeOver job summary before texts → IsToldOfGrown job summary before after
+    by (samples, read, (frames, (cells, (none, (grown, is, texts_are, summary_is))))) =
+        told job lawful before after samples read (record { frames = frames; cells = cells }) grown is (wrote ∙ ap (λ ts. written (pieces (grow_command job).writes ts) before) texts_are) summary summary_is
 
 pub grown_run : (job : GrowJob) → IsGrowJob job → (summary : Summary) (before after : Files) → WritesAll (grow_command job) summary before after → IsGrownRun job before after
 grown_run job lawful summary before after wrote = (grow_told job lawful summary before after wrote).run

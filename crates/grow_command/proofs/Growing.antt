@@ -1,15 +1,21 @@
 -- The stages of `grow`: each has one answer, and what is planned goes by them.
-use Rattle.std.proofs.Common.{◌≡◌, ℕ, ◌+◌, ◌≤◌, inl, inr, List, length, refl, sym, subst, arith}
+use Rattle.std.proofs.Common.{◌≡◌, ℕ, ◌+◌, ◌*◌, ◌≤◌, true, inl, inr, List, length, refl, ap, sym, ◌∙◌, subst, arith}
 use Rattle.std.proofs.lemmas.List.{append-nil}
-use Rattle.std.specs.Prelude.{Ok, Err}
-use Rattle.limits.specs.declared.bounds.TheConstants.{MOST_OUTPUT_CELLS}
+use Rattle.std.specs.Prelude.{All, Ok, Err}
+use Rattle.limits.specs.declared.bounds.TheConstants.{MOST_OUTPUT_CELLS, MOST_PARTS}
+use Rattle.cells.specs.declared.place.Size.{Size}
+use Rattle.cells.specs.Cells.{IsVolume, sizes_of}
+use Rattle.cells.specs.SizeLists.{AreSizes}
 use Rattle.cells.specs.Places.{IsSmall, cell_count}
 use Rattle.shelf_core.specs.Files.{Files, OnlyReads, ShelfState, content_of}
 use Rattle.shelf_core.proofs.Sees.{Sees}
 use Rattle.grow_run.specs.declared.plan.GrowError.{GrowError}
 use Rattle.grow_run.specs.declared.plan.GrowError.TheVariants as error
 use Rattle.grow_run.specs.declared.plan.Grown.{Grown}
-use Rattle.grow_run.specs.Grown.{IsGrowFault}
+use Rattle.turned.specs.declared.turn.TheConstants.{TURNS}
+use Rattle.graph_place.specs.Placed.{map_total}
+use Rattle.cert_file.specs.CutForms.{HasShortFlows}
+use Rattle.grow_run.specs.Grown.{IsGrowFault, IsGrown}
 use Rattle.grow_run.proofs.OneRuns.{ends_within, limits_are_one}
 use Rattle.job_words.specs.declared.grow.GrowJob.{GrowJob}
 use Rattle.job_words.specs.GrowWords.{IsGrowJob}
@@ -20,11 +26,13 @@ use Rattle.command.proofs.Staging.{AreOne, bound_is_one, passing_is_one}
 use Rattle.command.proofs.Planning.{StandsBefore, begin, limit_passed, not_passed, pass_on, plan_made, read_on}
 use Rattle.sample_files.specs.declared.several.Samples.{Samples}
 use Rattle.sample_files.specs.Outputs.{IsWithinBounds, PassesBounds}
-use Rattle.sample_files.specs.Several.{AsksParts, MayRefuseSamples, SamplesReadAs, StandForSamples, contents, read_samples, sample_files}
+use Rattle.sample_files.specs.Several.{AreSoundSamples, AsksParts, MayRefuseSamples, SamplesReadAs, StandForSamples, contents, read_samples, sample_files}
 use Rattle.sample_files.proofs.Commands.{parts_are_one, parts_passed, parts_refused, samples_are_one, samples_not_read}
-use Rattle.worked.specs.Worked.{worked}
+use Rattle.worked.specs.Worked.{worked, worked_samples, worked_sizes}
+use Rattle.worked.proofs.WorkedLaws.{sizes_worked}
 use Rattle.grow_command.specs.declared.plan.Growth.{Growth}
-use Rattle.grow_command.specs.Growths.{IsGrowSummary, IsGrownOver, fault_of_growing, grow_command, grow_over, grow_stages, growth_files, growth_of, growth_summary, plan_of}
+use Rattle.grow_command.specs.Growths.{IsGrowSummary, IsGrownOver, IsMade, fault_of_growing, grow_command, grow_over, grow_stages, growth_files, growth_of, growth_summary, plan_of}
+use Rattle.grow_command.proofs.Ready.{volume_sizes}
 
 pub small_output : (job : GrowJob) → IsGrowJob job → cell_count job.size ≤ MOST_OUTPUT_CELLS → IsSmall job.size
 small_output job lawful cells = record { axes = lawful.axes; cells = omega (arith, cells) }
@@ -79,3 +87,34 @@ module _ (job : GrowJob) (a b : ShelfState) (few : AsksParts job.turns (length j
         let none = ends_within (plan_of job) (worked job.turns samples.volume) is.all (small_output job lawful bounds.cells) grown.cuts (record { map = grown.canvas.map; draws = is.run.draws; rounds = grown.rounds }) in
         let made = plan_made (pass_on (pass_on (pass_on over bounds.frames) bounds.cells) (λ number. none number is.run.run is.run.done is.run.writable.cells)) grown is refl (_, _, _, _, refl) in
         subst (λ g. IsPlanned (grow_command job) (growth_files job g) (growth_summary job g) a b) (sym growth_is) made
+
+-- What the code has of the worked samples is what is said of those that are read.
+
+module _ (job : GrowJob) (read all : Samples) (is : all ≡ worked_samples job.turns read) (sizes : List Size) (sizes_are : sizes ≡ sizes_of read.volume) (grown : Grown) (seams : ℕ) where
+  abbrev growth : Growth
+  growth = record { samples = all; sizes = sizes; grown = grown; seams = seams }
+
+  pub grown_over : IsVolume read.volume → IsVolume all.volume → IsGrown (plan_of job) all.volume grown → All HasShortFlows grown.cuts → IsGrownOver job read grown
+  grown_over volume own run flows = record {
+    volume = volume;
+    all = subst (λ (s : Samples). IsVolume s.volume) is own;
+    run = subst (λ (s : Samples). IsGrown (plan_of job) s.volume grown) is run;
+    flows = flows;
+  }
+
+  pub growth_is : seams ≡ map_total all.volume grown.canvas.map → growth ≡ growth_of job read grown
+  growth_is total =
+      let same : seams ≡ map_total (worked job.turns read.volume) grown.canvas.map = total ∙ ap (λ (s : Samples). map_total s.volume grown.canvas.map) is in
+      λ i. record { samples = is i; sizes = sizes_are i; grown = grown; seams = same i }
+
+  pub is_made : (count : ℕ) → (job.turns ≡ true → TURNS * count ≤ MOST_PARTS) → length (sizes_of read.volume) ≡ count → IsVolume read.volume → IsVolume all.volume → AreSoundSamples all → IsWithinBounds job.size read.form
+      → IsGrown (plan_of job) all.volume grown → IsMade job growth
+  is_made count few counted volume own sound bounds run = record {
+    volume = own;
+    sound = sound;
+    are = subst AreSizes (sym sizes_are) (volume_sizes read.volume volume);
+    few = λ on. subst (λ n. TURNS * n ≤ MOST_PARTS) (sym (ap length sizes_are ∙ counted)) (few on);
+    sizes = ap (λ (s : Samples). sizes_of s.volume) is ∙ sizes_worked job.turns read.volume ∙ ap (worked_sizes job.turns) (sym sizes_are);
+    bounds = subst (λ (s : Samples). IsWithinBounds job.size s.form) (sym is) bounds;
+    grown = run;
+  }

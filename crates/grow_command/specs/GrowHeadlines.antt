@@ -1,6 +1,6 @@
 -- The headline of `grow`: what stands when it ends with status 0. To be trusted: contracts cite
 -- these words. (Own.)
-use Rattle.std.specs.Prelude.{◌≡◌, ◌≢◌, ◌≤◌, ◌-◌, ℕ, List, length, Some, Ok}
+use Rattle.std.specs.Prelude.{◌≡◌, ◌≢◌, ◌≤◌, ◌-◌, ℕ, Bool, List, length, Some, Ok}
 use Rattle.std.specs.FinMap as fin
 use Rattle.cells.specs.declared.place.At.{At}
 use Rattle.cells.specs.Cells.{Cells, IsOnePart, IsVolume, cell_at, sizes_of}
@@ -23,16 +23,17 @@ use Rattle.sample_files.specs.declared.several.Samples.{Samples}
 use Rattle.sample_files.specs.Samples.{form_text}
 use Rattle.sample_files.specs.Several.{contents}
 use Rattle.worked.specs.Worked.{worked}
-use Rattle.check_command.specs.Checks.{Stand}
+use Rattle.check_command.specs.declared.reading.ReadFiles.{ReadFiles}
+use Rattle.check_command.specs.Checks.{AreRunFiles, Stand}
 use Rattle.grow_command.specs.GrownMaps.{map_text, named_place}
 use Rattle.grow_command.specs.Growths.{AreSamplesIn, head_over, plan_of}
 
--- the sample files stand for samples, the parts of one volume, and so are their turns where these are
--- asked for. There is a map of the asked size,
--- which is full and lies over the samples, or with turns over the volume of all their turns. The map
--- file has the form of that map: it names the samples' cells, with turns as they are before any
--- turn. The out file has the form of a picture in the samples' form: a volume of that size, the
--- picture of the map, each cell of which is the samples' cell that the map file names
+-- the sample files stand for samples, the parts of one volume, and with turns all turns of them are
+-- the parts of one volume too. There is a map of the asked size, which is full and lies over the
+-- samples, or with turns over the volume of all their turns. The map file has the form of that map:
+-- it names the samples' cells, with turns as they are before any turn. The out file has the form of
+-- a picture in the samples' form: a volume of that size, the picture of the map, each cell of which
+-- is the samples' cell that the map file names
 pub record IsGrownOutput (job : GrowJob) (before after : Files) : Type 0 where
   pub samples : Samples
   pub read : AreSamplesIn before job samples
@@ -84,11 +85,14 @@ pub record IsGrownRecord (job : GrowJob) (output : Samples) (map : SourceMap) (t
       cuts
 
 -- both; samples, out file, map file and record file stand, which is what `check` tries under the same
--- `turns`; and all files but the three that are written are as before
+-- `turns`, and under the other value these files aren't in their forms; and all files but the three
+-- that are written are as before
 pub record IsGrownRun (job : GrowJob) (before after : Files) : Type 0 where
   pub output : IsGrownOutput job before after
   pub records : IsGrownRecord job output.samples output.map (content_of after job.names.record_file)
   pub accepted : Stand job.turns job.names after
+  pub own_turns : (turns : Bool) (values : ReadFiles) → AreRunFiles turns job.names after values
+      → turns ≡ job.turns
   pub others : (name : List ℕ)
       → name ≢ job.names.out → name ≢ job.names.map → name ≢ job.names.record_file
       → fin.get after name ≡ fin.get before name

@@ -64,7 +64,8 @@ pub(crate) fn plan<S: Shelf>(alloc: Global, job: &GrowJob, shelf: &mut S) -> Res
         Ok(read) => read,
         Err(fault) => return Err(fault),
     };
-    // The number of samples of a cell is asked for only to show the check that these are a volume.
+    // The number of samples of a cell is asked for only to show the check that these are a volume, here and
+    // of their turns.
     let _k = read.volume.samples();
     let sizes = read.volume.sizes();
     match within_bounds(job.size, &read.form) {
@@ -75,7 +76,7 @@ pub(crate) fn plan<S: Shelf>(alloc: Global, job: &GrowJob, shelf: &mut S) -> Res
         Ok(samples) => samples,
         Err(_) => return Err(Fault::NoMemory),
     };
-    let _k = samples.volume.samples();
+    let _n = samples.volume.samples();
     let grown = match grow_canvas(alloc, &plan_of(job), &samples.volume) {
         Ok(grown) => grown,
         Err(error) => return Err(growing_fault(error)),

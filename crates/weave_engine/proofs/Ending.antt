@@ -38,7 +38,7 @@ use Rattle.check_command.specs.Checks.{Stand, check_command, summary_of}
 use Rattle.check_command.proofs.Staged.{check_has_one_answer}
 use Rattle.check_command.proofs.Checked.{broke, least_records, made_breaking, made_standing, stood}
 use Rattle.grow_command.proofs.Growing.{small_output}
-use Rattle.grow_command.proofs.GrowLaws.{grow_has_one_answer, grow_told, grown_run}
+use Rattle.grow_command.proofs.GrowLaws.{grow_has_one_answer, grow_told, grown_run, output_fits}
 use Rattle.grow_command.proofs.OneOutputs.{one_output, one_report}
 use Rattle.trial_command.specs.Trials.{IsTrialOf}
 use Rattle.trial_command.proofs.Trying.{one_trial, trial_has_one_answer, trial_unchanged}
@@ -94,7 +94,7 @@ module _ (words : List (List ℕ)) (was now : ShelfState) (out out' err err' : S
   grow_once job asks zero =
       let its = done_of (Grow job) asks zero in
       then_of (Grow job) its (λ before after. (earlier later : Files) → HaveSameSamples job earlier before → IsGrownRun job earlier later → HaveSameOutput job later after)
-      (λ before after wrote earlier later same other. one_output job (small_output job its.lawful wrote.1.2.1.0) before after earlier later same (grown_run job its.lawful its.summary before after wrote) other)
+      (λ before after wrote earlier later same other. one_output job (small_output job its.lawful (output_fits job its.summary before after wrote)) before after earlier later same (grown_run job its.lawful its.summary before after wrote) other)
 
   pub grow_reported : GrowReport words was now out out' status
   grow_reported job asks zero =
@@ -102,7 +102,7 @@ module _ (words : List (List ℕ)) (was now : ShelfState) (out out' err err' : S
         its.summary,
         its.told,
         then_of (Grow job) its (IsOneReport job its.summary)
-            (λ before after wrote. one_report job (small_output job its.lawful wrote.1.2.1.0) its.summary before after (grow_told job its.lawful its.summary before after wrote)),
+            (λ before after wrote. one_report job (small_output job its.lawful (output_fits job its.summary before after wrote)) its.summary before after (grow_told job its.lawful its.summary before after wrote)),
       )
 
   -- the headline of `quilt`, its one output, and its report
@@ -165,7 +165,7 @@ module _ (words : List (List ℕ)) (was now : ShelfState) (out out' err err' : S
     stand = λ job asks zero. let has = done.only (inl zero) in let its = check_done job asks has in
         told_weaker (WritesAll (check_command job) has.summary) (λ before after. (after ≡ before) × Stand job.turns job.names before) was.files now.files (stood job has.summary (sym has.verdict ∙ zero)) its;
     least = λ job asks zero. let has = done.only (inl zero) in let its = check_done job asks has in
-        told_weaker (WritesAll (check_command job) has.summary) (λ before after. HaveLeastRecords job.names before) was.files now.files
+        told_weaker (WritesAll (check_command job) has.summary) (λ before after. HaveLeastRecords job.turns job.names before) was.files now.files
         (λ before after wrote. least_records job.turns job.names before (stood job has.summary (sym has.verdict ∙ zero) before after wrote).1) its;
     break = λ job asks one. let has = done.only (inr one) in broke job has.summary (sym has.verdict ∙ one) (may_make job asks has) was now out out' (check_done job asks has) has.done.told;
     where_they_stand = λ job files asks tells stands. done.where_made (Check job) files [] (summary_of verdict.Stands) asks tells (made_standing job files stands);

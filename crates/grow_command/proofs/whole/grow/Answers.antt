@@ -13,7 +13,7 @@ returns-in_err-growth g c =
 pub write_growth-requires-clause-made : goal.write_growth-requires-clause-made
 write_growth-requires-clause-made g c =
     let its = (c.in_ok-growth.ensures {u = tt}).made in
-    record { volume = its.volume; sound = its.sound; bounds = its.bounds; grown = its.grown }
+    record { volume = its.volume; sound = its.sound; are = its.are; few = its.few; sizes = its.sizes; bounds = its.bounds; grown = its.grown }
 
 pub returns : goal.returns
 returns g c =

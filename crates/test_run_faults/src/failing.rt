@@ -2,7 +2,10 @@
 use crate::files::{FOUR_FRAMES, ONE_GREY, TWO_FRAMES, TWO_GREYS};
 use crate::trying::{Trying, wrong_trying};
 use std::test::Fail;
-use test_stage::{FOUR_CELLS, OVERLAP_MAP, OVERLAP_PICTURE, OVERLAP_RECORD, OVERLAPPING};
+use test_stage::{
+    FOUR_CELLS, ONE_CELL, ONE_TURNED, ONE_TURNED_MAP, ONE_TURNED_RECORD, OVERLAP_MAP,
+    OVERLAP_PICTURE, OVERLAP_RECORD, OVERLAPPING,
+};
 
 const OUTPUTS: &[(&str, &str)] = &[("o", "out"), ("m", "map"), ("r", "record")];
 
@@ -27,6 +30,13 @@ const GROWN: &[Trying<'static>] = &[
         writes: OUTPUTS,
         status: 0,
         report: "grow 1x1x4\nplacements 3\nrounds 0\nseams 530\n",
+    },
+    Trying {
+        words: ONE_TURNED,
+        reads: &[("s", "sample", ONE_CELL)],
+        writes: OUTPUTS,
+        status: 0,
+        report: "grow 1x1x1\nplacements 1\nrounds 0\nseams 0\n",
     },
 ];
 
@@ -84,6 +94,16 @@ const OTHERS: &[Trying<'static>] = &[
         ],
         status: 1,
         report: "fails record 0 rule 15 place 0\n",
+        ..CHECKED
+    },
+    Trying {
+        words: "check sample=s out=o map=m record=r turns=all",
+        reads: &[
+            ("s", "sample", ONE_CELL),
+            ("o", "out", ONE_CELL),
+            ("m", "map", ONE_TURNED_MAP),
+            ("r", "record", ONE_TURNED_RECORD),
+        ],
         ..CHECKED
     },
     Trying {

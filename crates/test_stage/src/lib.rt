@@ -16,8 +16,8 @@ mod verdicts;
 pub use cases::{BEFORE, Case, Failing, Made, holds, is_made, wrong_case, wrong_made};
 pub use refusals::{refused, wrong_sample, wrong_words};
 pub use rows::{
-    FOUR_CELLS, NO_CELL, ONE_CELL, OVERLAP_MAP, OVERLAP_PICTURE, OVERLAP_RECORD, OVERLAPPING,
-    SIX_CELLS,
+    FOUR_CELLS, NO_CELL, ONE_CELL, ONE_TURNED, ONE_TURNED_MAP, ONE_TURNED_RECORD, OVERLAP_MAP,
+    OVERLAP_PICTURE, OVERLAP_RECORD, OVERLAPPING, SIX_CELLS,
 };
 pub use stage::{is_file, ran};
-pub use verdicts::{Verdict, is_judged, wrong_verdict};
+pub use verdicts::{Verdict, is_judged, wrong_verdict, wrong_verdict_by};

@@ -17,6 +17,8 @@ pub struct Verdict<'a> {
     pub line: &'a str,
 }
 
+const FILES: &str = "check sample=s out=o map=m record=r";
+
 // A file with the other bytes of its name.
 fn changed(
     alloc: Global,
@@ -58,23 +60,36 @@ fn files(alloc: Global, of: &Verdict) -> Result<MemShelf, AllocError> {
     Ok(shelf)
 }
 
-/// Checks the files, and says whether status, report and line are these, and no file is written.
-pub fn is_judged(alloc: Global, of: &Verdict) -> Result<bool, AllocError> {
+// Checks the files by these words, and says whether status, report and line are these, and no file is written.
+fn is_judged_by(alloc: Global, words: &str, of: &Verdict) -> Result<bool, AllocError> {
     let mut shelf = files(alloc, of)?;
     let mut out = MemSink::new(alloc);
     let mut err = MemSink::new(alloc);
-    let words = "check sample=s out=o map=m record=r";
     let status = ran(alloc, words, &mut shelf, &mut out, &mut err)?;
     let said = out.bytes() == of.report.as_bytes() && err.bytes() == of.line.as_bytes();
     Ok(status == of.status && said && shelf.write_faults() == 0)
 }
 
-/// The number of the first files, from 0, of which something else is said.
-pub fn wrong_verdict(alloc: Global, table: &[Verdict]) -> Result<Option<usize>, AllocError> {
+/// Checks the files, and says whether status, report and line are these, and no file is written.
+pub fn is_judged(alloc: Global, of: &Verdict) -> Result<bool, AllocError> {
+    is_judged_by(alloc, FILES, of)
+}
+
+/// The number of the first files, from 0, of which something else is said by these words.
+pub fn wrong_verdict_by(
+    alloc: Global,
+    words: &str,
+    table: &[Verdict],
+) -> Result<Option<usize>, AllocError> {
     for (i, of) in table.iter().enumerate() {
-        if !is_judged(alloc, of)? {
+        if !is_judged_by(alloc, words, of)? {
             return Ok(Some(i));
         }
     }
     Ok(None)
+}
+
+/// The number of the first files, from 0, of which something else is said.
+pub fn wrong_verdict(alloc: Global, table: &[Verdict]) -> Result<Option<usize>, AllocError> {
+    wrong_verdict_by(alloc, FILES, table)
 }

@@ -4,10 +4,10 @@
     examples/changed_bytes.py [CHANGES [SEED [KIND ..]]]
 
 makes runs of each kind, which have to stand: pictures and clips grown of one sample and of several, the same upgraded, quilts
-and loops. Then it changes their files CHANGES times for each kind (2,000): a byte, a bit, a number, a cut, an insertion, bytes left
-out or swapped, and whole records dropped, doubled and swapped, with the count that they then have or the old one. verify.py, which
-shares nothing with weave, has to say the same of the changed files as `weave check`: the status, and the whole line. Build
-the program first: ./build."""
+and loops, and pictures and clips grown with the turns of their samples. Then it changes their files CHANGES times for each kind
+(2,000): a byte, a bit, a number, a cut, an insertion, bytes left out or swapped, and whole records dropped, doubled and swapped,
+with the count that they then have or the old one. verify.py, which shares nothing with weave, has to say the same of the changed
+files as `weave check`: the status, and the whole line. Build the program first: ./build."""
 import os
 import random
 import subprocess
@@ -65,18 +65,23 @@ KINDS = {
     "quilt": make_quilt,
     "loop": make_loop,
 }
+TURNED = {
+    "turned": lambda chance, folder: grow(chance, folder, write_sample, chance.randint(1, 2), 1),
+    "turned clips": lambda chance, folder: grow(chance, folder, write_444, chance.randint(1, 2), chance.randint(1, 4)),
+}
 
 
-def words_of(files):
+def words_of(files, turns=False):
     samples = [f"sample{number if number > 1 else ''}={name}" for number, name in enumerate(files[3:], 1)]
-    return samples + [f"{key}={name}" for key, name in zip(("out", "map", "record"), files)]
+    words = samples + [f"{key}={name}" for key, name in zip(("out", "map", "record"), files)]
+    return words + ["turns=all"] * turns
 
 
 def make_run(kind, chance, folder):
     """The files of a run, in the order of verify.py; None where a clip has no loop."""
-    command, samples, words = KINDS[kind](chance, folder)
+    command, samples, words = {**KINDS, **TURNED}[kind](chance, folder)
     files = [os.path.join(folder, name) for name in ("out", "map", "record")] + samples
-    done = subprocess.run([WEAVE, command] + words_of(files) + words, capture_output=True, text=True)
+    done = subprocess.run([WEAVE, command] + words_of(files, kind in TURNED) + words, capture_output=True, text=True)
     if done.returncode == 8:
         return None
     assert done.returncode == 0, done.stderr
@@ -195,11 +200,11 @@ def change(files, chance):
     return which, how.__name__, how(data, at, chance)
 
 
-def difference(files):
+def difference(files, turns):
     """The status that both say; or what they say differently."""
-    done = subprocess.run([WEAVE, "check"] + words_of(files), capture_output=True, text=True)
+    done = subprocess.run([WEAVE, "check"] + words_of(files, turns), capture_output=True, text=True)
     try:
-        status, line = verify(*files)
+        status, line = verify(*files, turns=turns)
     except Exception as error:  # A verifier that breaks off is wrong too.
         status, line = -1, repr(error)
     said = done.returncode, done.stdout, done.stderr
@@ -215,14 +220,14 @@ def try_changes(kind, chance, folder, changes):
             files = make_run(kind, chance, folder)
             if files is None:
                 continue
-            answer, differs = difference(files)
+            answer, differs = difference(files, kind in TURNED)
             assert answer == (0, "stands") and not differs, f"{kind}: {answer} {differs}"
         which, how, data = change(files, chance)
         with open(files[which], "rb") as file:
             old = file.read()
         with open(files[which], "wb") as file:
             file.write(data)
-        (status, line), differs = difference(files)
+        (status, line), differs = difference(files, kind in TURNED)
         if differs:
             kept = tempfile.mkdtemp(prefix="changed_")
             for name in files:
@@ -236,7 +241,7 @@ def try_changes(kind, chance, folder, changes):
 
 
 def main(changes=2000, seed=1, *kinds):
-    for kind in kinds or KINDS:
+    for kind in kinds or [*KINDS, *TURNED]:
         chance = random.Random(f"{seed} {kind}")
         with tempfile.TemporaryDirectory() as folder:
             answers = try_changes(kind, chance, folder, int(changes))

@@ -8,6 +8,7 @@ digit is its first cell; a flow is two. docs/FORMATS.md has the forms and the or
 import sys
 
 KINDS_OF_MAP, KINDS_OF_RECORD = 2, 3
+TURNED_VERSION, TURNED_KIND, MOST_TURNED, TURNS = 2, 2, 2, 8
 MOST_ON_AXIS, MOST_MAP_CELLS, MOST_BOX_CELLS = 4096, 1 << 20, 1 << 25
 MOST_FRAMES, MOST_LENGTH, MOST_GAP = 256, 4096, 256
 BOUNDS = {"axis": MOST_ON_AXIS, "cells": MOST_MAP_CELLS, "records": MOST_BOX_CELLS, "frames": MOST_FRAMES, "loop": MOST_LENGTH}
@@ -112,6 +113,22 @@ def read_map(fields):
         read_source(fields, version, samples)
 
 
+def read_turned_map(fields):
+    """A map over samples whose turns are parts too: each source has the number of a sample and of a turn, and a place."""
+    fields.magic(b"WEAVEMAP")
+    fields.number(1, lambda n: n == TURNED_VERSION)
+    fields.number(1, lambda n: n == TURNED_KIND)
+    output = fields.size()
+    samples = [fields.size() for _ in range(fields.number(2, lambda n: 1 <= n <= MOST_TURNED))]
+    if cells(output) > MOST_MAP_CELLS:
+        raise Refused("cells", cells(output))
+    for _ in range(cells(output)):
+        part = fields.number(2, lambda n: 1 <= n <= len(samples))
+        fields.number(2, lambda n: n < TURNS)
+        for bound in samples[part - 1]:
+            fields.number(2, lambda n: n < bound)
+
+
 def read_box_size(fields, axes, before):
     """The axes of a box, and the cells of all boxes up to it."""
     size = [fields.number(2, lambda n: n >= 1) for _ in range(axes)] + [1] * (3 - axes)
@@ -187,11 +204,11 @@ def read_record(fields):
         read_walk(fields, samples[0][2])
 
 
-def read(data, is_map):
+def read(data, is_map, turns=False):
     """`("read", its numbers)`, or what it is refused for and the number of that."""
     fields = Fields(data)
     try:
-        (read_map if is_map else read_record)(fields)
+        (read_turned_map if turns else read_map if is_map else read_record)(fields)
         fields.end()
     except Refused as refused:
         return refused.answer
@@ -199,7 +216,8 @@ def read(data, is_map):
 
 
 def say(data):
-    what, number = read(data, not data.startswith(b"WEAVEREC"))
+    of_turns = data.startswith(b"WEAVEMAP" + bytes((TURNED_VERSION, TURNED_KIND)))
+    what, number = read(data, not data.startswith(b"WEAVEREC"), of_turns)
     if what == "read":
         return " ".join(str(n) for n in number)
     if what == "form":

@@ -10,6 +10,7 @@ from operator import sub
 GREATEST = 2 ** 64 - 1
 MOST_AXIS, MOST_CELLS, MOST_OUT_CELLS, MOST_MAP_CELLS, MOST_RECORD_CELLS = 4096, 1 << 23, 1 << 25, 1 << 20, 1 << 25
 MOST_HEADER, MOST_LINE, MOST_TAGS, MOST_FRAMES, MOST_LENGTH, MOST_GAP = 65536, 4096, 4000, 256, 4096, 256
+MOST_PARTS, TURNS = 16, 8
 DIGITS, SPACES = b"0123456789", b" \t\r\n"
 # Of each colour kind: the width and height of a cell in pixels, and its bytes.
 KINDS = {"mono": (1, 1, 1), "444": (1, 1, 3), "422": (2, 1, 4), "411": (4, 1, 6), "420": (2, 2, 6)}
@@ -224,22 +225,60 @@ def read_pixels(name, key, most=MOST_CELLS):
     return read_clip(data, key, most) if data[:1] == b"Y" else read_picture(data, key)
 
 
-class Samples:
-    """The samples of a run. Each cell has a number: the bytes of all cells stand in one row, with so many others around
-    each row and frame that the numbers of a cell's neighbours, which lie a stride away, are cells of the sample or lie
-    outside. Number 0 is no cell."""
+# Turns.
 
-    def __init__(self, names):
-        self.parts, total = [], 0
+
+def turned_rows(rows, turn):
+    """Rows of anything, mirrored where the turn is 4 or more, and then turned clockwise by so many quarters."""
+    if turn >= 4:
+        rows = [row[::-1] for row in rows]
+    for _ in range(turn % 4):
+        rows = list(zip(*rows[::-1]))
+    return rows
+
+
+def turned_pixels(part, turn):
+    """A turn of a sample, whose cells are one pixel each."""
+    (w, h, f), k = part.size, part.samples
+    cells = [part.cells[i:i + k] for i in range(0, len(part.cells), k)]
+    frames = []
+    for i in range(0, w * h * f, w * h):
+        rows = turned_rows([cells[at:at + w] for at in range(i, i + w * h, w)], turn)
+        frames += [b"".join(row) for row in rows]
+    return Pixels((len(rows[0]), len(rows), f), k, part.form, b"".join(frames), part.tags)
+
+
+def places_in_turns(size):
+    """Of each turn, to which x and y it moves each cell of a frame, by the cell's own x and y."""
+    own = [[(x, y) for x in range(size[0])] for y in range(size[1])]
+    return [{place: (x, y) for y, row in enumerate(turned_rows(own, turn)) for x, place in enumerate(row)}
+            for turn in range(TURNS)]
+
+
+class Samples:
+    """The samples of a run, or all turns of each. Each cell has a number: the bytes of all cells stand in one row, with so
+    many others around each row and frame that the numbers of a cell's neighbours, which lie a stride away, are cells of the
+    sample or lie outside. Number 0 is no cell."""
+
+    def __init__(self, names, turns=False):
+        many, self.parts, total = TURNS if turns else 1, [], 0
+        if turns and many * len(names) > MOST_PARTS:
+            raise limit("parts", many * len(names), MOST_PARTS)
         for number, name in enumerate(names, 1):
             key = "sample" if number == 1 else f"sample{number}"
             pixels = read_pixels(name, key)
+            if turns and not self.parts and KINDS.get(pixels.form[1], (1, 1))[:2] != (1, 1):
+                raise refused(key, "colour space")
             if self.parts and pixels.form != self.parts[0].form:
                 raise refused(key, "unlike")
-            total += cells_of(pixels.size)
+            total += many * cells_of(pixels.size)
             if total > MOST_CELLS:
                 raise limit("cells", total, MOST_CELLS)
             self.parts.append(pixels)
+        self.untouched = [part.size for part in self.parts]
+        if turns:
+            self.parts = [turned_pixels(part, turn) for part in self.parts for turn in range(TURNS)]
+            self.moved = [places_in_turns(size) for size in self.untouched]
         self.sizes = [part.size for part in self.parts]
         self.samples = self.parts[0].samples
         self.strides = [[1, w + 1, (w + 1) * (h + 1)] for w, h, _ in self.sizes]
@@ -335,9 +374,11 @@ class Fields:
     def size(self):
         return self.axis(), self.axis(), self.axis()
 
-    def source(self, version, sizes):
-        """The number of a sample, and x, y, f in it."""
+    def source(self, version, sizes, turns=False):
+        """The number of a sample, and x, y, f in it. With turns the number of a turn stands between them, and is read past."""
         part = 1 if version == 1 else self.number(2, 1, len(sizes))
+        if turns:
+            self.number(2, 0, TURNS - 1)
         return (part,) + tuple(self.number(2, 0, axis - 1) for axis in sizes[part - 1])
 
     def end(self):
@@ -346,50 +387,62 @@ class Fields:
 
 
 class Named:
-    """What a map or record file says: the sizes that it names, its kind, and its entries or records."""
+    """What a map or record file says: the sizes that it names, its kind, and its entries or records. A map over turned
+    samples is of kind 2, which is read where it is asked for."""
 
-    def __init__(self, fields, magic, kinds):
+    def __init__(self, fields, magic, kinds, turns=False):
         if fields.take(8) != magic:
             raise fields.form(0)
-        self.version = fields.number(1, 1, 2)
-        self.kind = fields.number(1, 0, kinds - 1 if self.version == 1 else 0)
+        self.version = fields.number(1, 2 if turns else 1, 2)
+        self.kind = fields.number(1, 2, 2) if turns else fields.number(1, 0, kinds - 1 if self.version == 1 else 0)
         self.output = fields.size()
         if magic == b"WEAVEMAP" and self.kind == 1:
             self.sizes = [(fields.number(4, self.output[0], self.output[0]),
                            fields.number(4, self.output[1], self.output[1]), fields.axis())]
         else:
-            count = 1 if self.version == 1 else fields.number(2, 1, 16)
+            most = MOST_PARTS // TURNS if turns else MOST_PARTS
+            count = 1 if self.version == 1 else fields.number(2, 1, most)
             self.sizes = [fields.size() for _ in range(count)]
 
 
-def are_sources(words, version, sizes):
-    """Whether each of the sources that stand one after another lies in its sample."""
-    if version == 1:
+def are_sources(words, width, sizes):
+    """Whether each of the sources that stand one after another, of so many numbers each, lies in its sample."""
+    if width == 3:
         return all(max(words[i::3]) < sizes[0][i] for i in range(3))
+    if width == 5 and max(words[1::5]) >= TURNS:
+        return False
+    places = [words[i::width] for i in range(width - 3, width)]
     return all(1 <= part <= len(sizes) and x < sizes[part - 1][0] and y < sizes[part - 1][1] and f < sizes[part - 1][2]
-               for part, x, y, f in zip(*(words[i::4] for i in range(4))))
+               for part, x, y, f in zip(words[0::width], *places))
 
 
-def read_map(name):
-    """A map, with the sources as four columns, of the samples' numbers and of x, y and f; or with the frames."""
+def read_map(name, turns=False):
+    """A map, with the sources as columns, of the samples' numbers, with turns of these, and of x, y and f; or with the
+    frames."""
     fields = Fields(read_bytes(name, "map"), "map")
-    read = Named(fields, b"WEAVEMAP", 2)
+    read = Named(fields, b"WEAVEMAP", 2, turns)
     if read.kind == 1:
         read.frames = [fields.number(2, 0, read.sizes[0][2] - 1) for _ in range(read.output[2])]
     else:
-        cells, width = cells_of(read.output), 3 if read.version == 1 else 4
+        cells, width = cells_of(read.output), 5 if turns else 3 if read.version == 1 else 4
         if cells > MOST_MAP_CELLS:
             raise limit("cells", cells, MOST_MAP_CELLS)
         at, whole = fields.at, min(cells, (len(fields.data) - fields.at) // (2 * width))
         words = fields.numbers(width * whole, "H")
-        if whole < cells or not are_sources(words, read.version, read.sizes):
+        if whole < cells or not are_sources(words, width, read.sizes):
             fields.at = at
             for _ in range(cells):
-                fields.source(read.version, read.sizes)
-        parts = words[0::4] if width == 4 else array("H", [1]) * cells
-        read.columns = [parts] + [words[i::width] for i in range(width - 3, width)]
+                fields.source(read.version, read.sizes, turns)
+        read.columns = [words[i::width] for i in range(width)]
+        if width == 3:
+            read.columns.insert(0, array("H", [1]) * cells)
     fields.end()
     return read
+
+
+def is_map_of_turns(name):
+    """Whether a map file says that it is one over turned samples."""
+    return read_bytes(name, "map")[8:10] == b"\2\2"
 
 
 class Cut:

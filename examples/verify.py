@@ -10,7 +10,8 @@ or clip against the map.
 
     examples/verify.py --redraw NEW MAP SAMPLE [SAMPLE2 ..]
 
-draws the picture or clip once more, of samples and map alone: it has the same cells as the one that weave wrote.
+draws the picture or clip once more, of samples and map alone: it has the same cells as the one that weave wrote. With
+`--turns` as the first word the files are checked as by `check` with turns=all; --redraw needs no such word.
 
 docs/FORMATS.md has the forms of all files, their limits and the rules. This is written from that page, for any Python from
 3.8 on, with its standard library alone."""
@@ -20,7 +21,8 @@ from itertools import compress, count
 from operator import and_, gt, mul, ne, not_, or_, sub
 from struct import pack
 
-from run_files import GREATEST, KINDS, MOST_OUT_CELLS, Fault, Samples, cells_of, read_map, read_pixels, read_record
+from run_files import (GREATEST, KINDS, MOST_OUT_CELLS, TURNS, Fault, Samples, cells_of, is_map_of_turns, read_map,
+                       read_pixels, read_record)
 
 # Of each number of taps: how far a pair of frames is moved, and its weight.
 WEIGHTS = {0: [(0, 1)], 2: [(-1, 1), (0, 1)], 4: [(-2, 1), (-1, 3), (0, 3), (1, 1)]}
@@ -326,7 +328,10 @@ def first_above(table, a, b):
 
 
 def named_numbers(samples, read):
-    """The number of the sample cell that a map of cells names for each output cell."""
+    """The number of the sample cell that a map of cells names for each output cell. A map over turned samples names a cell
+    as it was before its turn."""
+    if read.kind == 2:
+        return [turned_number(samples, *entry) for entry in zip(*read.columns)]
     parts, xs, ys, fs = read.columns
     if len(samples.parts) > 1:
         return list(map(samples.number, parts, xs, ys, fs))
@@ -336,8 +341,16 @@ def named_numbers(samples, read):
     return [at + x + row * y + frame * f for x, y, f in zip(xs, ys, fs)]
 
 
+def turned_number(samples, part, turn, x, y, f):
+    """The number of a cell of a turn, by its place before the turn."""
+    return samples.number(TURNS * (part - 1) + turn + 1, *samples.moved[part - 1][turn][x, y], f)
+
+
 def drawn_by(samples, read):
-    """The bytes of all output cells, as a map draws them of the samples."""
+    """The bytes of all output cells, as a map draws them of the samples, none of which is turned."""
+    if read.kind == 2:
+        parts, _, xs, ys, fs = read.columns
+        return samples.drawn(map(samples.number, parts, xs, ys, fs))
     if read.kind == 0:
         return samples.drawn(named_numbers(samples, read))
     cells, length = samples.parts[0].cells, read.output[0] * read.output[1] * samples.samples
@@ -347,10 +360,10 @@ def drawn_by(samples, read):
 class Run:
     """The files of a run, as they were read."""
 
-    def __init__(self, out_name, map_name, record_name, *sample_names):
-        self.samples = Samples(sample_names)
+    def __init__(self, out_name, map_name, record_name, *sample_names, turns=False):
+        self.samples = Samples(sample_names, turns)
         self.out = read_pixels(out_name, "out", MOST_OUT_CELLS)
-        self.map = read_map(map_name)
+        self.map = read_map(map_name, turns)
         self.record = read_record(record_name)
         self.output = self.numbers = None
         self.checks = [(1, CutCheck), (7, BlockCheck)]
@@ -359,7 +372,8 @@ class Run:
         kinds = (self.map.kind == 1) == (self.record.kind == 2)
         blocks = self.record.kind == 1 and self.out.form[0] == "clip"
         lengths = self.record.kind != 2 or len(self.record.records[0].frames) == self.out.size[2]
-        sizes = all((read.output, read.sizes) == (self.out.size, self.samples.sizes) for read in (self.map, self.record))
+        named = (self.map, self.samples.untouched), (self.record, self.samples.sizes)
+        sizes = all((read.output, read.sizes) == (self.out.size, sizes) for read, sizes in named)
         return sizes and self.out.form == self.samples.parts[0].form and kinds and not blocks and lengths
 
     def check(self):
@@ -403,10 +417,10 @@ class Run:
         return self.out.cells[k * i:k * (i + 1)], self.samples.place(number), self.samples.cell(number), record
 
 
-def verify(*names):
+def verify(*names, turns=False):
     """The status and the line of `weave check` for out file, map, record and samples."""
     try:
-        Run(*names).check()
+        Run(*names, turns=turns).check()
     except Fault as fault:
         return fault.status, fault.line
     except Broken as broken:
@@ -416,7 +430,7 @@ def verify(*names):
 
 def redraw(new_name, map_name, *sample_names):
     """Draws the output of samples and map alone."""
-    samples, read = Samples(sample_names), read_map(map_name)
+    samples, read = Samples(sample_names), read_map(map_name, is_map_of_turns(map_name))
     write_pixels(new_name, samples.parts[0], read.output, drawn_by(samples, read))
 
 
@@ -443,7 +457,8 @@ def write_pixels(name, like, size, cells):
 
 
 if __name__ == "__main__":
-    if len(sys.argv) < 5:
+    with_turns = sys.argv[1:2] == ["--turns"]
+    if len(sys.argv) < (6 if with_turns else 5):
         sys.exit(__doc__)
     if sys.argv[1] == "--redraw":
         try:
@@ -451,6 +466,6 @@ if __name__ == "__main__":
         except Fault as fault:
             sys.exit(fault.line)
     else:
-        status, line = verify(*sys.argv[1:])
+        status, line = verify(*sys.argv[2 if with_turns else 1:], turns=with_turns)
         print(line, file=sys.stdout if status < 2 else sys.stderr)
         sys.exit(status)

@@ -24,7 +24,7 @@ import threading
 HERE = os.path.dirname(os.path.abspath(__file__))
 WEAVE = os.path.join(HERE, "..", "weave")
 FUZZ = os.path.join(HERE, "..", "fuzz")
-SURE_RUNS = 8
+SURE_RUNS = 11
 SECONDS = 60
 BEFORE = b"as before"
 NOBODY = 65534
@@ -211,7 +211,9 @@ def small_runs(folder):
     tile = done_whole(Run("tile sample=s out=o map=m width=6 height=1 wrap=x box=4 overlap=2", {"s": GREYS}, OUTPUTS[:2]),
                       folder)
     merge = done_whole(Run(MERGE, {"s": GREYS, "t": OTHER_GREYS, "k": MARKS}, MERGED), folder)
-    return [grow, clip, quilt, loop, check, upgrade, trial, tile, merge]
+    turned = done_whole(Run(f"grow {FILES} width=3 height=2 box=2 overlap=1 turns=all", {"s": GREYS}, OUTPUTS), folder)
+    check_turned = done_whole(Run(f"check {FILES} turns=all", {"s": GREYS, **turned.whole[1]}, []), folder)
+    return [grow, clip, quilt, loop, check, upgrade, trial, tile, merge, turned, check_turned]
 
 
 def moved_and_marked(picture):
@@ -237,7 +239,8 @@ def larger_runs(folder):
     tile = done_whole(Run("tile sample=s out=o map=m width=192 height=128", {"s": pebbles}, OUTPUTS[:2]), folder)
     moved, marks = moved_and_marked(pebbles)
     merge = done_whole(Run(MERGE, {"s": pebbles, "t": moved, "k": marks}, MERGED), folder)
-    return [grow, clip, quilt, loop, check, upgrade, trial, tile, merge]
+    turned = done_whole(Run(f"grow {FILES} width=96 height=64 turns=all", {"s": pebbles}, OUTPUTS), folder)
+    return [grow, clip, quilt, loop, check, upgrade, trial, tile, merge, turned]
 
 
 def built_refuser(room):

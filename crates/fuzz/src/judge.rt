@@ -76,7 +76,8 @@ fn check_texts(alloc: Global, texts: &[String]) -> Result<Vec<String>, AllocErro
             Some((key, _)) => key,
             None => "",
         };
-        if key.starts_with("sample") || key == "out" || key == "map" || key == "record" {
+        let is_file = key.starts_with("sample") || key == "out" || key == "map" || key == "record";
+        if is_file || key == "turns" {
             words.push(String::from_str(alloc, text.as_str())?)?;
         }
     }

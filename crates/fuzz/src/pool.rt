@@ -15,6 +15,10 @@ const CHECK: &str = "check sample=s out=o map=m record=r";
 
 const CHECK_BOTH: &str = "check sample=s sample2=t out=o map=m record=r";
 
+const CHECK_TURNS: &str = "check sample=s out=o map=m record=r turns=all";
+
+const CHECK_BOTH_TURNS: &str = "check sample=s sample2=t out=o map=m record=r turns=all";
+
 const FOUR_GREYS: &[u8] = b"P6\n4 1\n255\n\x0a\x0a\x0a\x14\x14\x14\x1e\x1e\x1e\x28\x28\x28";
 
 const FOUR_MORE: &[u8] = b"P6\n4 1\n255\n\x32\x32\x32\x19\x19\x19\x1e\x1e\x1e\x0a\x0a\x0a";
@@ -87,6 +91,18 @@ const MADE: &[(&str, &str, &[u8], &[u8])] = &[
         CHECK_BOTH,
         FOUR_GREYS,
         FOUR_MORE,
+    ),
+    (
+        "grow sample=s out=o map=m record=r width=5 height=4 box=2 overlap=1 rounds=2 turns=all",
+        CHECK_TURNS,
+        NINE_CELLS,
+        FOUR_GREYS,
+    ),
+    (
+        "grow sample=s sample2=t out=o map=m record=r width=2 height=2 frames=3 box=2 turns=all",
+        CHECK_BOTH_TURNS,
+        MONO,
+        FOUR_FRAMES,
     ),
     (
         "quilt sample=s out=o map=m record=r width=6 height=5 block=3 overlap=1",

@@ -14,6 +14,8 @@ const LINES: &[&str] = &[
     "grow sample=t out=o map=m record=r width=4 height=4 frames=2 box=2",
     "grow sample=s sample2=t sample3=u out=o map=m record=r width=4 height=3",
     "grow sample=s out=o map=m record=r width=1025 height=1024",
+    "grow sample=t out=o map=m record=r width=4 height=3 box=2 turns=all",
+    "grow sample=s sample2=t sample3=u out=o map=m record=r width=4 height=3 turns=all",
     "tile sample=s out=o map=m width=5 height=4 box=2 overlap=1 seed=2",
     "tile sample=t out=o map=m width=4 height=3 frames=3 wrap=xyf box=3",
     "tile sample=s out=o map=m width=2 height=3 wrap=y",
@@ -23,6 +25,7 @@ const LINES: &[&str] = &[
     "upgrade map=s record=r newmap=o newrecord=q",
     "check sample=s sample2=s out=o map=m record=r",
     "check sample=o out=s map=m record=r",
+    "check sample=s out=o map=m record=r turns=all",
 ];
 
 const VALUES: &[&str] = &[
@@ -53,6 +56,7 @@ const VALUES: &[&str] = &[
     "n",
     "q",
     "none",
+    "all",
     "grid",
     "random",
     "whole",
@@ -85,6 +89,8 @@ const ODD_WORDS: &[&str] = &[
     "sample16=t",
     "sample17=t",
     "marks=u",
+    "turns=all",
+    "turns=none",
     "newmap=q",
     "--help",
     "größe=3",

@@ -22,6 +22,9 @@ _weave() {
         place)
             mapfile -t COMPREPLY < <(compgen -W "grid random whole sub" -- "$word")
             return ;;
+        turns)
+            mapfile -t COMPREPLY < <(compgen -W "none all" -- "$word")
+            return ;;
         wrap)
             mapfile -t COMPREPLY < <(compgen -W "x y xy f xyf" -- "$word")
             return ;;
@@ -32,11 +35,11 @@ _weave() {
             return ;;
     esac
     case ${COMP_WORDS[1]} in
-        grow) keys="sample= sample2= out= map= record= width= height= frames= place= box= overlap= tol= rounds= seed=" ;;
+        grow) keys="sample= sample2= out= map= record= width= height= frames= place= box= overlap= tol= rounds= seed= turns=" ;;
         quilt) keys="sample= out= map= record= width= height= block= overlap= tol= seed=" ;;
         loop) keys="sample= out= map= record= length= taps= gap=" ;;
         merge) keys="sample= sample2= marks= out= map=" ;;
-        check) keys="sample= sample2= out= map= record=" ;;
+        check) keys="sample= sample2= out= map= record= turns=" ;;
         trial) keys="n= width= height= place= box= overlap= tol= rounds= seed=" ;;
         upgrade) keys="map= record= newmap= newrecord=" ;;
         tile) keys="sample= out= map= width= height= frames= wrap= box= overlap= tol= seed=" ;;

@@ -20,7 +20,7 @@ make() {
     shift 4
     files="sample=../$sample out=$name.$ending map=$name.map record=$name.rec"
     for word in "$@"; do
-        case $word in sample[0-9]*) more="$more $word" ;; esac
+        case $word in sample[0-9]* | turns=*) more="$more $word" ;; esac
     done
     "$weave" "$command" $files "$@" > "$name.txt"
     "$weave" check $files $more > "$name.check"
@@ -35,6 +35,7 @@ make pebbles_whole grow pebbles.ppm ppm width=192 height=128 place=whole
 make pebbles_random grow pebbles.ppm ppm width=192 height=128 place=random
 make pebbles_grid grow pebbles.ppm ppm width=192 height=128 place=grid
 make mixed grow pebbles.ppm ppm sample2=../imagemagick_plasma.ppm width=160 height=120 box=24
+make pebbles_turned grow pebbles.ppm ppm width=192 height=128 rounds=20 turns=all
 make tartan grow netpbm_tartan.ppm ppm width=200 height=150 box=40 overlap=16 tol=0
 make pebbles_quilt quilt pebbles.ppm ppm width=192 height=128 block=32 overlap=8
 make tartan_quilt quilt netpbm_tartan.ppm ppm width=192 height=128 block=24 overlap=6

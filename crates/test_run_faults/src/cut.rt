@@ -1,7 +1,7 @@
 // Files that are cut off at each byte, read by every command that reads such files.
+use crate::expect::expect_no_pair;
 use crate::hostile::{MAP_READERS, PICTURE_READERS, RECORD_READERS, Reader, is_refused};
 use std::alloc::{AllocError, Global};
-use std::test::Fail;
 use test_stage::{FOUR_CELLS, OVERLAP_MAP, OVERLAP_RECORD};
 
 // The least number of first bytes that a command doesn't refuse at their end.
@@ -31,10 +31,9 @@ fn wrong_cutting(
 }
 
 #[test]
-fn files_that_are_cut(rt: HostRuntime) -> Result<(), Fail> {
+fn files_that_are_cut(rt: HostRuntime) {
     let alloc = rt.alloc();
-    assert!(rt; wrong_cutting(alloc, PICTURE_READERS, FOUR_CELLS)?.is_none());
-    assert!(rt; wrong_cutting(alloc, MAP_READERS, OVERLAP_MAP)?.is_none());
-    assert!(rt; wrong_cutting(alloc, RECORD_READERS, OVERLAP_RECORD)?.is_none());
-    Ok(())
+    expect_no_pair(&rt, wrong_cutting(alloc, PICTURE_READERS, FOUR_CELLS));
+    expect_no_pair(&rt, wrong_cutting(alloc, MAP_READERS, OVERLAP_MAP));
+    expect_no_pair(&rt, wrong_cutting(alloc, RECORD_READERS, OVERLAP_RECORD));
 }

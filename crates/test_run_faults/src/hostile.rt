@@ -1,9 +1,9 @@
 // Files that are refused, read by every command that reads such files. What each breaks is said
 // with the name of the file, and every file stays as it was.
+use crate::expect::expect_no_pair;
 use crate::files::{FOUR_FRAMES, ONE_GREY, TWO_CELLS};
 use shelf_core::{MemShelf, MemSink};
 use std::alloc::{AllocError, Global};
-use std::test::Fail;
 use test_stage::{BEFORE, FOUR_CELLS, OVERLAP_MAP, OVERLAP_PICTURE, OVERLAP_RECORD, is_file, ran};
 
 /// A command that reads a file: its words, its other files, the name of the file, and what lines
@@ -214,9 +214,8 @@ const PICTURES: &[(&[u8], u8, &str)] = &[
 ];
 
 #[test]
-fn pictures(rt: HostRuntime) -> Result<(), Fail> {
-    assert!(rt; wrong_reading(rt.alloc(), PICTURE_READERS, PICTURES)?.is_none());
-    Ok(())
+fn pictures(rt: HostRuntime) {
+    expect_no_pair(&rt, wrong_reading(rt.alloc(), PICTURE_READERS, PICTURES));
 }
 
 const CLIPS: &[(&[u8], u8, &str)] = &[
@@ -247,9 +246,8 @@ const CLIPS: &[(&[u8], u8, &str)] = &[
 ];
 
 #[test]
-fn clips(rt: HostRuntime) -> Result<(), Fail> {
-    assert!(rt; wrong_reading(rt.alloc(), CLIP_READERS, CLIPS)?.is_none());
-    Ok(())
+fn clips(rt: HostRuntime) {
+    expect_no_pair(&rt, wrong_reading(rt.alloc(), CLIP_READERS, CLIPS));
 }
 
 // Bytes of a file that are others, by their places, and the refusal of it.
@@ -319,10 +317,11 @@ const MAPS: &[Changed<'static>] = &[
 ];
 
 #[test]
-fn maps(rt: HostRuntime) -> Result<(), Fail> {
-    let wrong = wrong_changing(rt.alloc(), MAP_READERS, OVERLAP_MAP, MAPS)?;
-    assert!(rt; wrong.is_none());
-    Ok(())
+fn maps(rt: HostRuntime) {
+    expect_no_pair(
+        &rt,
+        wrong_changing(rt.alloc(), MAP_READERS, OVERLAP_MAP, MAPS),
+    );
 }
 
 // The count stands at byte 34; the first record has its size at 44, its source at 50, its choice
@@ -359,8 +358,9 @@ const RECORDS: &[Changed<'static>] = &[
 ];
 
 #[test]
-fn records(rt: HostRuntime) -> Result<(), Fail> {
-    let wrong = wrong_changing(rt.alloc(), RECORD_READERS, OVERLAP_RECORD, RECORDS)?;
-    assert!(rt; wrong.is_none());
-    Ok(())
+fn records(rt: HostRuntime) {
+    expect_no_pair(
+        &rt,
+        wrong_changing(rt.alloc(), RECORD_READERS, OVERLAP_RECORD, RECORDS),
+    );
 }

@@ -9,6 +9,8 @@ mod cut;
 #[cfg(test)]
 mod equal;
 #[cfg(test)]
+mod expect;
+#[cfg(test)]
 mod failing;
 #[cfg(test)]
 mod files;

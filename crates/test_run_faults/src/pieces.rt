@@ -1,9 +1,9 @@
 // Larger files, which are read and written in several pieces.
+use crate::expect::expect_true;
 use crate::files::FOUR_FRAMES;
 use crate::trying::{Trying, fails_well};
 use shelf_core::{MemShelf, MemSink};
 use std::alloc::{AllocError, Global};
-use std::test::Fail;
 use test_stage::{FOUR_CELLS, ran};
 
 const OUTPUTS: &[(&str, &str)] = &[("o", "out"), ("m", "map"), ("r", "record")];
@@ -43,18 +43,18 @@ const GROWING: &str = "grow sample=s out=o map=m record=r width=64 height=22 pla
 
 // Each of the 330 pairs of cells of two tiles beside each other costs 1530, and so does each of
 // the 1344 below each other.
+const LARGER: Trying<'static> = Trying {
+    words: GROWING,
+    reads: &[("s", "sample", FOUR_CELLS)],
+    writes: OUTPUTS,
+    status: 0,
+    report: "grow 64x22x1\nplacements 352\nrounds 0\nseams 2561220\n",
+};
+
 #[test]
-fn a_larger_output(rt: HostRuntime) -> Result<(), Fail> {
-    let of = Trying {
-        words: GROWING,
-        reads: &[("s", "sample", FOUR_CELLS)],
-        writes: OUTPUTS,
-        status: 0,
-        report: "grow 64x22x1\nplacements 352\nrounds 0\nseams 2561220\n",
-    };
-    assert!(rt; fails_well(rt.alloc(), &of)?);
-    assert!(rt; is_checked(rt.alloc(), GROWING, FOUR_CELLS)?);
-    Ok(())
+fn a_larger_output(rt: HostRuntime) {
+    expect_true(&rt, fails_well(rt.alloc(), &LARGER));
+    expect_true(&rt, is_checked(rt.alloc(), GROWING, FOUR_CELLS));
 }
 
 // Whether an upgrade of what the larger output leaves is as it is to be.
@@ -77,40 +77,39 @@ fn is_lifted(alloc: Global) -> Result<bool, AllocError> {
 }
 
 #[test]
-fn a_larger_pair(rt: HostRuntime) -> Result<(), Fail> {
-    assert!(rt; is_lifted(rt.alloc())?);
-    Ok(())
+fn a_larger_pair(rt: HostRuntime) {
+    expect_true(&rt, is_lifted(rt.alloc()));
 }
 
 const QUILTING: &str = "quilt sample=s out=o map=m record=r width=64 height=22 block=4 overlap=2";
 
 // Of 31 blocks in each of 22 rows all but the first have a boundary of cost 1200.
+const QUILTED: Trying<'static> = Trying {
+    words: QUILTING,
+    reads: &[("s", "sample", FOUR_CELLS)],
+    writes: OUTPUTS,
+    status: 0,
+    report: "quilt 64x22x1\nblocks 682\nboundaries 660\ncost 792000\n",
+};
+
 #[test]
-fn a_larger_quilt(rt: HostRuntime) -> Result<(), Fail> {
-    let of = Trying {
-        words: QUILTING,
-        reads: &[("s", "sample", FOUR_CELLS)],
-        writes: OUTPUTS,
-        status: 0,
-        report: "quilt 64x22x1\nblocks 682\nboundaries 660\ncost 792000\n",
-    };
-    assert!(rt; fails_well(rt.alloc(), &of)?);
-    assert!(rt; is_checked(rt.alloc(), QUILTING, FOUR_CELLS)?);
-    Ok(())
+fn a_larger_quilt(rt: HostRuntime) {
+    expect_true(&rt, fails_well(rt.alloc(), &QUILTED));
+    expect_true(&rt, is_checked(rt.alloc(), QUILTING, FOUR_CELLS));
 }
 
 const LOOPING: &str = "loop sample=s out=o map=m record=r length=40 taps=0";
 
+const LOOPED: Trying<'static> = Trying {
+    words: LOOPING,
+    reads: &[("s", "sample", FOUR_FRAMES)],
+    writes: OUTPUTS,
+    status: 0,
+    report: "loop 40\nstart 0\ncost 0\n",
+};
+
 #[test]
-fn a_longer_loop(rt: HostRuntime) -> Result<(), Fail> {
-    let of = Trying {
-        words: LOOPING,
-        reads: &[("s", "sample", FOUR_FRAMES)],
-        writes: OUTPUTS,
-        status: 0,
-        report: "loop 40\nstart 0\ncost 0\n",
-    };
-    assert!(rt; fails_well(rt.alloc(), &of)?);
-    assert!(rt; is_checked(rt.alloc(), LOOPING, FOUR_FRAMES)?);
-    Ok(())
+fn a_longer_loop(rt: HostRuntime) {
+    expect_true(&rt, fails_well(rt.alloc(), &LOOPED));
+    expect_true(&rt, is_checked(rt.alloc(), LOOPING, FOUR_FRAMES));
 }

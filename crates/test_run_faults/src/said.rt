@@ -1,9 +1,9 @@
 // Lines that can't be written: with each write on `err` failing in turn every status stays.
+use crate::expect::expect_none;
 use crate::files::FOUR_FRAMES;
 use crate::trying::{Failing, list_failing};
 use shelf_core::{Call, MemShelf, MemSink};
 use std::alloc::{AllocError, Global};
-use std::test::Fail;
 use test_stage::{FOUR_CELLS, OVERLAP_MAP, OVERLAP_PICTURE, OVERLAP_RECORD, ran};
 
 // The most writes of a line that are tried.
@@ -304,13 +304,12 @@ const TRYING: &[Refused<'static>] = &[
 ];
 
 #[test]
-fn lines_that_cant_be_written(rt: HostRuntime) -> Result<(), Fail> {
+fn lines_that_cant_be_written(rt: HostRuntime) {
     let alloc = rt.alloc();
-    assert_eq!(rt; wrong_saying(alloc, GROWING)?, None);
-    assert_eq!(rt; wrong_saying(alloc, QUILTING)?, None);
-    assert_eq!(rt; wrong_saying(alloc, LOOPING)?, None);
-    assert_eq!(rt; wrong_saying(alloc, CHECKING)?, None);
-    assert_eq!(rt; wrong_saying(alloc, UPGRADING)?, None);
-    assert_eq!(rt; wrong_saying(alloc, TRYING)?, None);
-    Ok(())
+    expect_none(&rt, wrong_saying(alloc, GROWING));
+    expect_none(&rt, wrong_saying(alloc, QUILTING));
+    expect_none(&rt, wrong_saying(alloc, LOOPING));
+    expect_none(&rt, wrong_saying(alloc, CHECKING));
+    expect_none(&rt, wrong_saying(alloc, UPGRADING));
+    expect_none(&rt, wrong_saying(alloc, TRYING));
 }

@@ -1,7 +1,7 @@
 // Maps and records that are cut off or go on.
+use crate::expect::{expect_none, expect_true};
 use crate::files::STANDS;
 use std::alloc::{AllocError, Global};
-use std::test::Fail;
 use test_stage::{OVERLAP_MAP, OVERLAP_RECORD, Verdict, is_judged};
 
 // The first bytes of the map are refused at their end.
@@ -20,12 +20,20 @@ fn is_map_cut(alloc: Global, n: usize) -> Result<bool, AllocError> {
     is_judged(alloc, &of)
 }
 
-#[test]
-fn a_map_that_is_cut(rt: HostRuntime) -> Result<(), Fail> {
-    for n in 0..70usize {
-        assert!(rt; is_map_cut(rt.alloc(), n)?, "the first {n} bytes");
+// The least number of first bytes of the map that aren't refused at their end.
+fn wrong_map_cut(alloc: Global) -> Result<Option<usize>, AllocError> {
+    for n in 0..OVERLAP_MAP.len() {
+        if !is_map_cut(alloc, n)? {
+            return Ok(Some(n));
+        }
     }
-    Ok(())
+    Ok(None)
+}
+
+#[test]
+fn a_map_that_is_cut(rt: HostRuntime) {
+    assert!(rt; OVERLAP_MAP.len() == 70);
+    expect_none(&rt, wrong_map_cut(rt.alloc()));
 }
 
 // The first bytes of the record are refused at their end.
@@ -44,12 +52,20 @@ fn is_record_cut(alloc: Global, n: usize) -> Result<bool, AllocError> {
     is_judged(alloc, &of)
 }
 
-#[test]
-fn a_record_that_is_cut(rt: HostRuntime) -> Result<(), Fail> {
-    for n in 0..100usize {
-        assert!(rt; is_record_cut(rt.alloc(), n)?, "the first {n} bytes");
+// The least number of first bytes of the record that aren't refused at their end.
+fn wrong_record_cut(alloc: Global) -> Result<Option<usize>, AllocError> {
+    for n in 0..OVERLAP_RECORD.len() {
+        if !is_record_cut(alloc, n)? {
+            return Ok(Some(n));
+        }
     }
-    Ok(())
+    Ok(None)
+}
+
+#[test]
+fn a_record_that_is_cut(rt: HostRuntime) {
+    assert!(rt; OVERLAP_RECORD.len() == 100);
+    expect_none(&rt, wrong_record_cut(rt.alloc()));
 }
 
 // A file that goes on after its end is refused there.
@@ -76,7 +92,6 @@ fn is_refused_longer(alloc: Global) -> Result<bool, AllocError> {
 }
 
 #[test]
-fn files_that_go_on(rt: HostRuntime) -> Result<(), Fail> {
-    assert!(rt; is_refused_longer(rt.alloc())?);
-    Ok(())
+fn files_that_go_on(rt: HostRuntime) {
+    expect_true(&rt, is_refused_longer(rt.alloc()));
 }

@@ -1,7 +1,7 @@
 // Files that aren't in their forms or pass a limit. The sizes of the output stand at byte 10 of map and record, the count of records at 34, and the
 // first record at 38.
+use crate::expect::expect_none;
 use crate::files::STANDS;
-use std::test::Fail;
 use test_stage::{Verdict, wrong_verdict};
 
 const FORM: Verdict<'static> = Verdict {
@@ -55,9 +55,8 @@ const PICTURES_AND_MAPS: &[Verdict<'static>] = &[
 ];
 
 #[test]
-fn pictures_and_maps(rt: HostRuntime) -> Result<(), Fail> {
-    assert_eq!(rt; wrong_verdict(rt.alloc(), PICTURES_AND_MAPS)?, None);
-    Ok(())
+fn pictures_and_maps(rt: HostRuntime) {
+    expect_none(&rt, wrong_verdict(rt.alloc(), PICTURES_AND_MAPS));
 }
 
 const RECORDS: &[Verdict<'static>] = &[
@@ -106,7 +105,6 @@ const RECORDS: &[Verdict<'static>] = &[
 ];
 
 #[test]
-fn records(rt: HostRuntime) -> Result<(), Fail> {
-    assert_eq!(rt; wrong_verdict(rt.alloc(), RECORDS)?, None);
-    Ok(())
+fn records(rt: HostRuntime) {
+    expect_none(&rt, wrong_verdict(rt.alloc(), RECORDS));
 }

@@ -7,6 +7,8 @@
 #[cfg(test)]
 mod cut;
 #[cfg(test)]
+mod expect;
+#[cfg(test)]
 mod files;
 #[cfg(test)]
 mod forms;

@@ -1,7 +1,7 @@
 // What the files hold after each status.
+use crate::expect::expect_none;
 use crate::lifted_files::{MAP, OTHER_LIFTED, OTHER_RECORD, RECORD};
 use crate::upgrading::{Failing, Upgrade, wrong_upgrade};
-use std::test::Fail;
 use test_stage::{BEFORE, OVERLAP_MAP, OVERLAP_RECORD};
 
 pub const LIFTED: Upgrade<'static> = Upgrade {
@@ -32,9 +32,8 @@ const UPGRADES: &[Upgrade<'static>] = &[
 ];
 
 #[test]
-fn files_are_lifted(rt: HostRuntime) -> Result<(), Fail> {
-    assert_eq!(rt; wrong_upgrade(rt.alloc(), UPGRADES)?, None);
-    Ok(())
+fn files_are_lifted(rt: HostRuntime) {
+    expect_none(&rt, wrong_upgrade(rt.alloc(), UPGRADES));
 }
 
 const NOTHING_WRITTEN: Upgrade<'static> = Upgrade {
@@ -95,7 +94,6 @@ const FAILING: &[Upgrade<'static>] = &[
 ];
 
 #[test]
-fn the_files_after_each_fault(rt: HostRuntime) -> Result<(), Fail> {
-    assert_eq!(rt; wrong_upgrade(rt.alloc(), FAILING)?, None);
-    Ok(())
+fn the_files_after_each_fault(rt: HostRuntime) {
+    expect_none(&rt, wrong_upgrade(rt.alloc(), FAILING));
 }

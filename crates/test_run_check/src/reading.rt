@@ -1,7 +1,7 @@
 // What was grown is accepted; files and reports that fail.
+use crate::expect::{expect_none, expect_true};
 use shelf_core::{Call, MemShelf, MemSink, SureShelf, SureSink};
 use std::alloc::{AllocError, Global};
-use std::test::Fail;
 use test_stage::{
     FOUR_CELLS, Made, NO_CELL, OVERLAP_MAP, OVERLAP_PICTURE, OVERLAP_RECORD, OVERLAPPING, ran,
     wrong_made,
@@ -31,10 +31,9 @@ fn is_surely_accepted(alloc: Global) -> Result<bool, AllocError> {
 }
 
 #[test]
-fn what_was_grown_is_accepted(rt: HostRuntime) -> Result<(), Fail> {
-    assert_eq!(rt; wrong_made(rt.alloc(), MADE)?, None);
-    assert!(rt; is_surely_accepted(rt.alloc())?);
-    Ok(())
+fn what_was_grown_is_accepted(rt: HostRuntime) {
+    expect_none(&rt, wrong_made(rt.alloc(), MADE));
+    expect_true(&rt, is_surely_accepted(rt.alloc()));
 }
 
 fn files_that_stand(alloc: Global) -> Result<MemShelf, AllocError> {
@@ -58,13 +57,12 @@ fn cant_be_read(alloc: Global, name: &str, line: &str) -> Result<bool, AllocErro
 
 // Each file that can't be read, once those before it are in their forms.
 #[test]
-fn files_that_cant_be_read(rt: HostRuntime) -> Result<(), Fail> {
+fn files_that_cant_be_read(rt: HostRuntime) {
     let alloc = rt.alloc();
-    assert!(rt; cant_be_read(alloc, "s", "weave: sample: read fault\n")?);
-    assert!(rt; cant_be_read(alloc, "o", "weave: out: read fault\n")?);
-    assert!(rt; cant_be_read(alloc, "m", "weave: map: read fault\n")?);
-    assert!(rt; cant_be_read(alloc, "r", "weave: record: read fault\n")?);
-    Ok(())
+    expect_true(&rt, cant_be_read(alloc, "s", "weave: sample: read fault\n"));
+    expect_true(&rt, cant_be_read(alloc, "o", "weave: out: read fault\n"));
+    expect_true(&rt, cant_be_read(alloc, "m", "weave: map: read fault\n"));
+    expect_true(&rt, cant_be_read(alloc, "r", "weave: record: read fault\n"));
 }
 
 // Whether a check whose report fails keeps so much of it and ends with the one write fault.
@@ -79,7 +77,6 @@ fn cant_be_reported(alloc: Global, kept: usize) -> Result<bool, AllocError> {
 }
 
 #[test]
-fn a_report_that_cant_be_written(rt: HostRuntime) -> Result<(), Fail> {
-    assert!(rt; cant_be_reported(rt.alloc(), 2)?);
-    Ok(())
+fn a_report_that_cant_be_written(rt: HostRuntime) {
+    expect_true(&rt, cant_be_reported(rt.alloc(), 2));
 }

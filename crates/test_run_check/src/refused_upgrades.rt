@@ -1,8 +1,8 @@
 // Words and files that `upgrade` refuses, each with its line: every file is as before.
+use crate::expect::expect_none;
 use crate::lifted::LIFTED;
 use crate::lifted_files::{BLOCK_RECORD, FRAME_MAP, MAP, RECORD, WALK_RECORD};
 use crate::upgrading::{Upgrade, wrong_upgrade};
-use std::test::Fail;
 use test_stage::{BEFORE, NO_CELL, wrong_words};
 
 const WORDS: &[(&str, u8, &str)] = &[
@@ -36,9 +36,8 @@ const WORDS: &[(&str, u8, &str)] = &[
 ];
 
 #[test]
-fn words_are_refused(rt: HostRuntime) -> Result<(), Fail> {
-    assert_eq!(rt; wrong_words(rt.alloc(), NO_CELL, WORDS)?, None);
-    Ok(())
+fn words_are_refused(rt: HostRuntime) {
+    expect_none(&rt, wrong_words(rt.alloc(), NO_CELL, WORDS));
 }
 
 const REFUSED: Upgrade<'static> = Upgrade {
@@ -85,9 +84,8 @@ const OTHER_FILES: &[Upgrade<'static>] = &[
 ];
 
 #[test]
-fn files_of_other_versions_and_kinds(rt: HostRuntime) -> Result<(), Fail> {
-    assert_eq!(rt; wrong_upgrade(rt.alloc(), OTHER_FILES)?, None);
-    Ok(())
+fn files_of_other_versions_and_kinds(rt: HostRuntime) {
+    expect_none(&rt, wrong_upgrade(rt.alloc(), OTHER_FILES));
 }
 
 // A version that there isn't, files that are cut off, and numbers that pass their limits.
@@ -146,7 +144,6 @@ const BROKEN_FILES: &[Upgrade<'static>] = &[
 ];
 
 #[test]
-fn broken_files(rt: HostRuntime) -> Result<(), Fail> {
-    assert_eq!(rt; wrong_upgrade(rt.alloc(), BROKEN_FILES)?, None);
-    Ok(())
+fn broken_files(rt: HostRuntime) {
+    expect_none(&rt, wrong_upgrade(rt.alloc(), BROKEN_FILES));
 }

@@ -1,7 +1,7 @@
 // Files that stand, and files in their forms with the first rule that they break. The second record stands at byte 69 of its file: the column of
 // its source at 81, its choice at 87, and a flow of 4 bytes for each pair from 88 on.
+use crate::expect::expect_none;
 use crate::files::STANDS;
-use std::test::Fail;
 use test_stage::{Verdict, wrong_verdict};
 
 const BROKEN: Verdict<'static> = Verdict {
@@ -66,9 +66,8 @@ const RECORDS: &[Verdict<'static>] = &[
 ];
 
 #[test]
-fn records(rt: HostRuntime) -> Result<(), Fail> {
-    assert_eq!(rt; wrong_verdict(rt.alloc(), RECORDS)?, None);
-    Ok(())
+fn records(rt: HostRuntime) {
+    expect_none(&rt, wrong_verdict(rt.alloc(), RECORDS));
 }
 
 const WHOLE_FILES: &[Verdict<'static>] = &[
@@ -125,7 +124,6 @@ const WHOLE_FILES: &[Verdict<'static>] = &[
 ];
 
 #[test]
-fn whole_files(rt: HostRuntime) -> Result<(), Fail> {
-    assert_eq!(rt; wrong_verdict(rt.alloc(), WHOLE_FILES)?, None);
-    Ok(())
+fn whole_files(rt: HostRuntime) {
+    expect_none(&rt, wrong_verdict(rt.alloc(), WHOLE_FILES));
 }

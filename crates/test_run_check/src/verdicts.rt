@@ -1,6 +1,6 @@
 // What `check` says of a pair of version 2: what it says of the pair of version 1.
+use crate::expect::expect_none;
 use crate::lifted_files::{MAP, RECORD};
-use std::test::Fail;
 use test_stage::{
     FOUR_CELLS, OVERLAP_MAP, OVERLAP_PICTURE, OVERLAP_RECORD, Verdict, wrong_verdict,
 };
@@ -62,9 +62,8 @@ const RULES: &[Verdict<'static>] = &[
 ];
 
 #[test]
-fn rules(rt: HostRuntime) -> Result<(), Fail> {
-    assert_eq!(rt; wrong_verdict(rt.alloc(), RULES)?, None);
-    Ok(())
+fn rules(rt: HostRuntime) {
+    expect_none(&rt, wrong_verdict(rt.alloc(), RULES));
 }
 
 // Counts and numbers of samples that there aren't.
@@ -112,7 +111,6 @@ const FORMS: &[Verdict<'static>] = &[
 ];
 
 #[test]
-fn forms(rt: HostRuntime) -> Result<(), Fail> {
-    assert_eq!(rt; wrong_verdict(rt.alloc(), FORMS)?, None);
-    Ok(())
+fn forms(rt: HostRuntime) {
+    expect_none(&rt, wrong_verdict(rt.alloc(), FORMS));
 }

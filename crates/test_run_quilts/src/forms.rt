@@ -1,7 +1,7 @@
 // Block records that aren't in their form or pass a limit, and that are cut off.
 use crate::blocks::{RECORD, STANDS};
+use crate::expect::expect_none;
 use std::alloc::{AllocError, Global};
-use std::test::Fail;
 use test_stage::{Verdict, is_judged, wrong_verdict};
 
 const FORM: Verdict<'static> = Verdict {
@@ -64,9 +64,8 @@ const FORMS: &[Verdict<'static>] = &[
 ];
 
 #[test]
-fn forms(rt: HostRuntime) -> Result<(), Fail> {
-    assert_eq!(rt; wrong_verdict(rt.alloc(), FORMS)?, None);
-    Ok(())
+fn forms(rt: HostRuntime) {
+    expect_none(&rt, wrong_verdict(rt.alloc(), FORMS));
 }
 
 // The first bytes of the record are refused at their end.
@@ -83,10 +82,18 @@ fn is_cut(alloc: Global, n: usize) -> Result<bool, AllocError> {
     is_judged(alloc, &of)
 }
 
-#[test]
-fn a_record_that_is_cut(rt: HostRuntime) -> Result<(), Fail> {
-    for n in 0..76usize {
-        assert!(rt; is_cut(rt.alloc(), n)?, "the first {n} bytes");
+// The least number of first bytes of the record that aren't refused at their end.
+fn wrong_cut(alloc: Global) -> Result<Option<usize>, AllocError> {
+    for n in 0..RECORD.len() {
+        if !is_cut(alloc, n)? {
+            return Ok(Some(n));
+        }
     }
-    Ok(())
+    Ok(None)
+}
+
+#[test]
+fn a_record_that_is_cut(rt: HostRuntime) {
+    assert!(rt; RECORD.len() == 76);
+    expect_none(&rt, wrong_cut(rt.alloc()));
 }

@@ -6,6 +6,8 @@
 #[cfg(test)]
 mod blocks;
 #[cfg(test)]
+mod expect;
+#[cfg(test)]
 mod forms;
 #[cfg(test)]
 mod great_clips;

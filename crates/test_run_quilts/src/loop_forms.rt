@@ -1,7 +1,7 @@
 // Frame maps and walk records that aren't in their forms or pass a limit, and that are cut off.
+use crate::expect::expect_none;
 use crate::loop_clips::{MAP, RECORD, STANDS};
 use std::alloc::{AllocError, Global};
-use std::test::Fail;
 use test_stage::{Verdict, is_judged, wrong_verdict};
 
 const FORM: Verdict<'static> = Verdict {
@@ -64,9 +64,8 @@ const FORMS: &[Verdict<'static>] = &[
 ];
 
 #[test]
-fn forms(rt: HostRuntime) -> Result<(), Fail> {
-    assert_eq!(rt; wrong_verdict(rt.alloc(), FORMS)?, None);
-    Ok(())
+fn forms(rt: HostRuntime) {
+    expect_none(&rt, wrong_verdict(rt.alloc(), FORMS));
 }
 
 // The first bytes of the map are refused at their end.
@@ -83,12 +82,20 @@ fn is_map_cut(alloc: Global, n: usize) -> Result<bool, AllocError> {
     is_judged(alloc, &of)
 }
 
-#[test]
-fn a_map_that_is_cut(rt: HostRuntime) -> Result<(), Fail> {
-    for n in 0..38usize {
-        assert!(rt; is_map_cut(rt.alloc(), n)?, "the first {n} bytes");
+// The least number of first bytes of the map that aren't refused at their end.
+fn wrong_map_cut(alloc: Global) -> Result<Option<usize>, AllocError> {
+    for n in 0..MAP.len() {
+        if !is_map_cut(alloc, n)? {
+            return Ok(Some(n));
+        }
     }
-    Ok(())
+    Ok(None)
+}
+
+#[test]
+fn a_map_that_is_cut(rt: HostRuntime) {
+    assert!(rt; MAP.len() == 38);
+    expect_none(&rt, wrong_map_cut(rt.alloc()));
 }
 
 // The first bytes of the record are refused at their end.
@@ -105,10 +112,18 @@ fn is_record_cut(alloc: Global, n: usize) -> Result<bool, AllocError> {
     is_judged(alloc, &of)
 }
 
-#[test]
-fn a_record_that_is_cut(rt: HostRuntime) -> Result<(), Fail> {
-    for n in 0..173usize {
-        assert!(rt; is_record_cut(rt.alloc(), n)?, "the first {n} bytes");
+// The least number of first bytes of the record that aren't refused at their end.
+fn wrong_record_cut(alloc: Global) -> Result<Option<usize>, AllocError> {
+    for n in 0..RECORD.len() {
+        if !is_record_cut(alloc, n)? {
+            return Ok(Some(n));
+        }
     }
-    Ok(())
+    Ok(None)
+}
+
+#[test]
+fn a_record_that_is_cut(rt: HostRuntime) {
+    assert!(rt; RECORD.len() == 173);
+    expect_none(&rt, wrong_record_cut(rt.alloc()));
 }

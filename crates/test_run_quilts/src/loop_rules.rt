@@ -1,6 +1,6 @@
 // Loops in their forms, with the first rule that they break.
+use crate::expect::expect_none;
 use crate::loop_clips::{ONE_MAP, ONE_PICTURE, ONE_RECORD, STANDS, THREE_FRAMES, TWO_FRAMES};
-use std::test::Fail;
 use test_stage::{Verdict, wrong_verdict};
 
 const BROKEN: Verdict<'static> = Verdict {
@@ -65,9 +65,8 @@ const WALKS: &[Verdict<'static>] = &[
 ];
 
 #[test]
-fn walks(rt: HostRuntime) -> Result<(), Fail> {
-    assert_eq!(rt; wrong_verdict(rt.alloc(), WALKS)?, None);
-    Ok(())
+fn walks(rt: HostRuntime) {
+    expect_none(&rt, wrong_verdict(rt.alloc(), WALKS));
 }
 
 // Two frames, of which none has a step but to the next where jumps go three frames at least, and three frames, which have no
@@ -133,9 +132,8 @@ const WITHOUT_A_LOOP: &[Verdict<'static>] = &[
 ];
 
 #[test]
-fn clips_without_a_loop(rt: HostRuntime) -> Result<(), Fail> {
-    assert_eq!(rt; wrong_verdict(rt.alloc(), WITHOUT_A_LOOP)?, None);
-    Ok(())
+fn clips_without_a_loop(rt: HostRuntime) {
+    expect_none(&rt, wrong_verdict(rt.alloc(), WITHOUT_A_LOOP));
 }
 
 const WHOLE_FILES: &[Verdict<'static>] = &[
@@ -186,7 +184,6 @@ const WHOLE_FILES: &[Verdict<'static>] = &[
 ];
 
 #[test]
-fn whole_files(rt: HostRuntime) -> Result<(), Fail> {
-    assert_eq!(rt; wrong_verdict(rt.alloc(), WHOLE_FILES)?, None);
-    Ok(())
+fn whole_files(rt: HostRuntime) {
+    expect_none(&rt, wrong_verdict(rt.alloc(), WHOLE_FILES));
 }

@@ -1,8 +1,8 @@
 // What the files of a loop hold after each status, and that `check` accepts them.
+use crate::expect::{expect_none, expect_true};
 use crate::loop_clips::{FOUR_FRAMES, ONE, ONE_MAP, ONE_PICTURE, ONE_RECORD, STANDS, TWO};
 use shelf_core::{MemShelf, MemSink};
 use std::alloc::{AllocError, Global};
-use std::test::Fail;
 use test_stage::{
     BEFORE, Case, Failing, Made, NO_CELL, Verdict, ran, wrong_case, wrong_made, wrong_verdict,
 };
@@ -10,9 +10,8 @@ use test_stage::{
 const LOOPED: &[Case<'static>] = &[ONE, TWO];
 
 #[test]
-fn loops(rt: HostRuntime) -> Result<(), Fail> {
-    assert_eq!(rt; wrong_case(rt.alloc(), LOOPED)?, None);
-    Ok(())
+fn loops(rt: HostRuntime) {
+    expect_none(&rt, wrong_case(rt.alloc(), LOOPED));
 }
 
 const ACCEPTED: &[Verdict<'static>] = &[
@@ -26,9 +25,8 @@ const ACCEPTED: &[Verdict<'static>] = &[
 ];
 
 #[test]
-fn loops_are_accepted(rt: HostRuntime) -> Result<(), Fail> {
-    assert_eq!(rt; wrong_verdict(rt.alloc(), ACCEPTED)?, None);
-    Ok(())
+fn loops_are_accepted(rt: HostRuntime) {
+    expect_none(&rt, wrong_verdict(rt.alloc(), ACCEPTED));
 }
 
 // Filtered distances begin at later frames: with two taps frame 0 is on no least loop, with four neither is frame 1.
@@ -53,9 +51,8 @@ FRAME\n\x05FRAME\n\x09",
 ];
 
 #[test]
-fn filtered_loops(rt: HostRuntime) -> Result<(), Fail> {
-    assert_eq!(rt; wrong_made(rt.alloc(), FILTERED)?, None);
-    Ok(())
+fn filtered_loops(rt: HostRuntime) {
+    expect_none(&rt, wrong_made(rt.alloc(), FILTERED));
 }
 
 // Whether a line of words ends with status 0 and this report.
@@ -86,9 +83,8 @@ fn is_found(alloc: Global) -> Result<bool, AllocError> {
 }
 
 #[test]
-fn a_loop_of_three(rt: HostRuntime) -> Result<(), Fail> {
-    assert!(rt; is_found(rt.alloc())?);
-    Ok(())
+fn a_loop_of_three(rt: HostRuntime) {
+    expect_true(&rt, is_found(rt.alloc()));
 }
 
 const NOTHING_WRITTEN: Case<'static> = Case {
@@ -139,7 +135,6 @@ const FAILING: &[Case<'static>] = &[
 ];
 
 #[test]
-fn the_files_after_each_fault(rt: HostRuntime) -> Result<(), Fail> {
-    assert_eq!(rt; wrong_case(rt.alloc(), FAILING)?, None);
-    Ok(())
+fn the_files_after_each_fault(rt: HostRuntime) {
+    expect_none(&rt, wrong_case(rt.alloc(), FAILING));
 }

@@ -1,7 +1,7 @@
 // What the files of a quilt hold after each status.
 use crate::blocks::{STANDS, TWO};
+use crate::expect::expect_none;
 use crate::square::{SQUARE, SQUARE_STANDS};
-use std::test::Fail;
 use test_stage::{BEFORE, Case, FOUR_CELLS, Failing, Verdict, wrong_case, wrong_verdict};
 
 const ONE_MAP: &[u8] = b"WEAVEMAP\x01\x00\
@@ -37,9 +37,8 @@ const QUILTED: &[Case<'static>] = &[
 ];
 
 #[test]
-fn quilts(rt: HostRuntime) -> Result<(), Fail> {
-    assert_eq!(rt; wrong_case(rt.alloc(), QUILTED)?, None);
-    Ok(())
+fn quilts(rt: HostRuntime) {
+    expect_none(&rt, wrong_case(rt.alloc(), QUILTED));
 }
 
 const ACCEPTED: &[Verdict<'static>] = &[
@@ -54,9 +53,8 @@ const ACCEPTED: &[Verdict<'static>] = &[
 ];
 
 #[test]
-fn quilts_are_accepted(rt: HostRuntime) -> Result<(), Fail> {
-    assert_eq!(rt; wrong_verdict(rt.alloc(), ACCEPTED)?, None);
-    Ok(())
+fn quilts_are_accepted(rt: HostRuntime) {
+    expect_none(&rt, wrong_verdict(rt.alloc(), ACCEPTED));
 }
 
 const FAILING: &[Case<'static>] = &[
@@ -107,7 +105,6 @@ const FAILING: &[Case<'static>] = &[
 ];
 
 #[test]
-fn the_files_after_each_fault(rt: HostRuntime) -> Result<(), Fail> {
-    assert_eq!(rt; wrong_case(rt.alloc(), FAILING)?, None);
-    Ok(())
+fn the_files_after_each_fault(rt: HostRuntime) {
+    expect_none(&rt, wrong_case(rt.alloc(), FAILING));
 }

@@ -1,5 +1,5 @@
 // Words, samples and sizes that `quilt` refuses, each with its line.
-use std::test::Fail;
+use crate::expect::expect_none;
 use test_stage::{ONE_CELL, wrong_sample, wrong_words};
 
 const WORDS: &[(&str, u8, &str)] = &[
@@ -33,9 +33,8 @@ const WORDS: &[(&str, u8, &str)] = &[
 ];
 
 #[test]
-fn words_are_refused(rt: HostRuntime) -> Result<(), Fail> {
-    assert_eq!(rt; wrong_words(rt.alloc(), ONE_CELL, WORDS)?, None);
-    Ok(())
+fn words_are_refused(rt: HostRuntime) {
+    expect_none(&rt, wrong_words(rt.alloc(), ONE_CELL, WORDS));
 }
 
 const SAMPLES: &[(&[u8], u8, &str)] = &[
@@ -55,8 +54,7 @@ const SAMPLES: &[(&[u8], u8, &str)] = &[
 
 // A clip is no sample of a quilt.
 #[test]
-fn samples_are_refused(rt: HostRuntime) -> Result<(), Fail> {
+fn samples_are_refused(rt: HostRuntime) {
     let words = "quilt sample=s out=o map=m record=r width=3 height=2";
-    assert_eq!(rt; wrong_sample(rt.alloc(), words, SAMPLES)?, None);
-    Ok(())
+    expect_none(&rt, wrong_sample(rt.alloc(), words, SAMPLES));
 }

@@ -1,6 +1,6 @@
 // Words and clips that `loop` refuses, and clips without a loop of the asked length, each with its line.
+use crate::expect::expect_none;
 use crate::loop_clips::{THREE_FRAMES, TWO_FRAMES};
-use std::test::Fail;
 use test_stage::{ONE_CELL, wrong_sample, wrong_words};
 
 const WORDS: &[(&str, u8, &str)] = &[
@@ -30,9 +30,8 @@ const WORDS: &[(&str, u8, &str)] = &[
 ];
 
 #[test]
-fn words_are_refused(rt: HostRuntime) -> Result<(), Fail> {
-    assert_eq!(rt; wrong_words(rt.alloc(), ONE_CELL, WORDS)?, None);
-    Ok(())
+fn words_are_refused(rt: HostRuntime) {
+    expect_none(&rt, wrong_words(rt.alloc(), ONE_CELL, WORDS));
 }
 
 const NO_LOOP: &[(&str, u8, &str)] = &[
@@ -49,9 +48,8 @@ const NO_LOOP: &[(&str, u8, &str)] = &[
 ];
 
 #[test]
-fn two_frames_without_a_loop(rt: HostRuntime) -> Result<(), Fail> {
-    assert_eq!(rt; wrong_words(rt.alloc(), TWO_FRAMES, NO_LOOP)?, None);
-    Ok(())
+fn two_frames_without_a_loop(rt: HostRuntime) {
+    expect_none(&rt, wrong_words(rt.alloc(), TWO_FRAMES, NO_LOOP));
 }
 
 const CLIPS: &[(&[u8], u8, &str)] = &[
@@ -67,8 +65,7 @@ const CLIPS: &[(&[u8], u8, &str)] = &[
 ];
 
 #[test]
-fn clips_are_refused(rt: HostRuntime) -> Result<(), Fail> {
+fn clips_are_refused(rt: HostRuntime) {
     let words = "loop sample=s out=o map=m record=r length=3";
-    assert_eq!(rt; wrong_sample(rt.alloc(), words, CLIPS)?, None);
-    Ok(())
+    expect_none(&rt, wrong_sample(rt.alloc(), words, CLIPS));
 }

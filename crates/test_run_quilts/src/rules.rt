@@ -1,7 +1,7 @@
 // Quilts in their forms, with the first rule that they break.
 use crate::blocks::STANDS;
+use crate::expect::expect_none;
 use crate::square::SQUARE_STANDS;
-use std::test::Fail;
 use test_stage::{Verdict, wrong_verdict};
 
 const BROKEN: Verdict<'static> = Verdict {
@@ -96,9 +96,8 @@ const BLOCKS: &[Verdict<'static>] = &[
 ];
 
 #[test]
-fn blocks(rt: HostRuntime) -> Result<(), Fail> {
-    assert_eq!(rt; wrong_verdict(rt.alloc(), BLOCKS)?, None);
-    Ok(())
+fn blocks(rt: HostRuntime) {
+    expect_none(&rt, wrong_verdict(rt.alloc(), BLOCKS));
 }
 
 // The left strip of the second block has its path at byte 66 and its sums of a row at 74, 82, 90 and 98; the top strip of the
@@ -141,9 +140,8 @@ const STRIPS: &[Verdict<'static>] = &[
 ];
 
 #[test]
-fn strips(rt: HostRuntime) -> Result<(), Fail> {
-    assert_eq!(rt; wrong_verdict(rt.alloc(), STRIPS)?, None);
-    Ok(())
+fn strips(rt: HostRuntime) {
+    expect_none(&rt, wrong_verdict(rt.alloc(), STRIPS));
 }
 
 const WHOLE_FILES: &[Verdict<'static>] = &[
@@ -172,7 +170,6 @@ const WHOLE_FILES: &[Verdict<'static>] = &[
 ];
 
 #[test]
-fn whole_files(rt: HostRuntime) -> Result<(), Fail> {
-    assert_eq!(rt; wrong_verdict(rt.alloc(), WHOLE_FILES)?, None);
-    Ok(())
+fn whole_files(rt: HostRuntime) {
+    expect_none(&rt, wrong_verdict(rt.alloc(), WHOLE_FILES));
 }

@@ -1,7 +1,7 @@
 // What the files hold after a call that fails.
+use crate::expect::expect_none;
 use crate::merged::TWO;
 use crate::merging::{Failing, Merge, wrong_merge};
-use std::test::Fail;
 use test_stage::BEFORE;
 
 const NOTHING_WRITTEN: Merge<'static> = Merge {
@@ -33,9 +33,8 @@ const UNREAD: &[Merge<'static>] = &[
 ];
 
 #[test]
-fn files_that_cannot_be_read(rt: HostRuntime) -> Result<(), Fail> {
-    assert_eq!(rt; wrong_merge(rt.alloc(), UNREAD)?, None);
-    Ok(())
+fn files_that_cannot_be_read(rt: HostRuntime) {
+    expect_none(&rt, wrong_merge(rt.alloc(), UNREAD));
 }
 
 // The picture is written first, then the map, and last the report.
@@ -72,7 +71,6 @@ const UNWRITTEN: &[Merge<'static>] = &[
 ];
 
 #[test]
-fn files_that_cannot_be_written(rt: HostRuntime) -> Result<(), Fail> {
-    assert_eq!(rt; wrong_merge(rt.alloc(), UNWRITTEN)?, None);
-    Ok(())
+fn files_that_cannot_be_written(rt: HostRuntime) {
+    expect_none(&rt, wrong_merge(rt.alloc(), UNWRITTEN));
 }

@@ -1,6 +1,6 @@
 // Worked examples: which picture each cell comes from, and what the seams cost.
+use crate::expect::expect_none;
 use crate::merging::{Failing, Merge, wrong_merge};
-use std::test::Fail;
 
 pub const FIRST: &[u8] = b"P6\n4 1\n255\n\
 \x0a\x0a\x0a\x14\x14\x14\x1e\x1e\x1e\
@@ -179,9 +179,8 @@ const MERGES: &[Merge<'static>] = &[
 ];
 
 #[test]
-fn pictures_are_merged(rt: HostRuntime) -> Result<(), Fail> {
-    assert_eq!(rt; wrong_merge(rt.alloc(), MERGES)?, None);
-    Ok(())
+fn pictures_are_merged(rt: HostRuntime) {
+    expect_none(&rt, wrong_merge(rt.alloc(), MERGES));
 }
 
 // The marks may have another maxval than the pictures.
@@ -219,7 +218,6 @@ const SMALL: &[Merge<'static>] = &[
 ];
 
 #[test]
-fn marks_of_another_maxval(rt: HostRuntime) -> Result<(), Fail> {
-    assert_eq!(rt; wrong_merge(rt.alloc(), SMALL)?, None);
-    Ok(())
+fn marks_of_another_maxval(rt: HostRuntime) {
+    expect_none(&rt, wrong_merge(rt.alloc(), SMALL));
 }

@@ -1,9 +1,9 @@
 // Pictures and marks that are refused. No file is written, and none is read after a refusal.
+use crate::expect::{expect_none, expect_true};
 use crate::merged::TWO;
 use crate::merging::{Failing, Merge, wrong_merge};
 use shelf_core::{MemShelf, MemSink};
 use std::alloc::{AllocError, Global};
-use std::test::Fail;
 use test_stage::{BEFORE, is_file, ran};
 
 const REFUSED: Merge<'static> = Merge {
@@ -95,9 +95,8 @@ const UNLIKE: &[Merge<'static>] = &[
 ];
 
 #[test]
-fn unlike_pictures(rt: HostRuntime) -> Result<(), Fail> {
-    assert_eq!(rt; wrong_merge(rt.alloc(), UNLIKE)?, None);
-    Ok(())
+fn unlike_pictures(rt: HostRuntime) {
+    expect_none(&rt, wrong_merge(rt.alloc(), UNLIKE));
 }
 
 // The first bad cell is named; the size of the marks is tried before.
@@ -149,9 +148,8 @@ const MARKED: &[Merge<'static>] = &[
 ];
 
 #[test]
-fn bad_marks(rt: HostRuntime) -> Result<(), Fail> {
-    assert_eq!(rt; wrong_merge(rt.alloc(), MARKED)?, None);
-    Ok(())
+fn bad_marks(rt: HostRuntime) {
+    expect_none(&rt, wrong_merge(rt.alloc(), MARKED));
 }
 
 const WORDS: &[Merge<'static>] = &[
@@ -182,9 +180,8 @@ const WORDS: &[Merge<'static>] = &[
 ];
 
 #[test]
-fn refused_words(rt: HostRuntime) -> Result<(), Fail> {
-    assert_eq!(rt; wrong_merge(rt.alloc(), WORDS)?, None);
-    Ok(())
+fn refused_words(rt: HostRuntime) {
+    expect_none(&rt, wrong_merge(rt.alloc(), WORDS));
 }
 
 // A picture of 2048x1024 black cells, but for the last byte.
@@ -220,13 +217,16 @@ fn is_refused(
 }
 
 // Bad marks come before the bound of an output.
-#[test]
-fn pictures_of_too_many_cells(rt: HostRuntime) -> Result<(), Fail> {
-    let picture = broad(rt.alloc(), 0)?;
-    let marks = broad(rt.alloc(), 1)?;
+fn are_too_broad(alloc: Global) -> Result<bool, AllocError> {
+    let picture = broad(alloc, 0)?;
+    let marks = broad(alloc, 1)?;
     let bad = "weave: marks: mark at 2097151\n";
     let over = "weave: limit output 2097152 over 1048576\n";
-    assert!(rt; is_refused(rt.alloc(), &picture, &marks, 3, bad)?);
-    assert!(rt; is_refused(rt.alloc(), &picture, &picture, 4, over)?);
-    Ok(())
+    let is_bad = is_refused(alloc, &picture, &marks, 3, bad)?;
+    Ok(is_bad && is_refused(alloc, &picture, &picture, 4, over)?)
+}
+
+#[test]
+fn pictures_of_too_many_cells(rt: HostRuntime) {
+    expect_true(&rt, are_too_broad(rt.alloc()));
 }

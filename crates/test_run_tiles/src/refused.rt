@@ -1,6 +1,6 @@
 // Words, samples and sizes that are refused, and in which order.
+use crate::expect::expect_none;
 use crate::samples::CUBE;
-use std::test::Fail;
 use test_stage::{ONE_CELL, wrong_sample, wrong_words};
 
 // Over one cell of a picture. A narrow axis is the last refusal of words, and is one for a picture and a clip alike.
@@ -58,9 +58,8 @@ const WORDS: &[(&str, u8, &str)] = &[
 ];
 
 #[test]
-fn words(rt: HostRuntime) -> Result<(), Fail> {
-    assert_eq!(rt; wrong_words(rt.alloc(), ONE_CELL, WORDS)?, None);
-    Ok(())
+fn words(rt: HostRuntime) {
+    expect_none(&rt, wrong_words(rt.alloc(), ONE_CELL, WORDS));
 }
 
 // A clip may have more frames.
@@ -78,9 +77,8 @@ const CLIP_WORDS: &[(&str, u8, &str)] = &[
 ];
 
 #[test]
-fn words_of_a_clip(rt: HostRuntime) -> Result<(), Fail> {
-    assert_eq!(rt; wrong_words(rt.alloc(), CUBE, CLIP_WORDS)?, None);
-    Ok(())
+fn words_of_a_clip(rt: HostRuntime) {
+    expect_none(&rt, wrong_words(rt.alloc(), CUBE, CLIP_WORDS));
 }
 
 // The sample is refused before the size of the output.
@@ -92,8 +90,7 @@ const SAMPLES: &[(&[u8], u8, &str)] = &[
 ];
 
 #[test]
-fn samples(rt: HostRuntime) -> Result<(), Fail> {
+fn samples(rt: HostRuntime) {
     let words = "tile sample=s out=o map=m width=1024 height=1025";
-    assert_eq!(rt; wrong_sample(rt.alloc(), words, SAMPLES)?, None);
-    Ok(())
+    expect_none(&rt, wrong_sample(rt.alloc(), words, SAMPLES));
 }

@@ -1,4 +1,5 @@
 // Whole runs, and what they write.
+use crate::expect::expect_none;
 use crate::samples::{CUBE, NINE_CELLS, TWO_CELLS};
 use crate::written::{
     ACROSS_MAP, ACROSS_PICTURE, ALL_BUT_ONE_MAP, ALL_BUT_ONE_PICTURE, BOTH_MAP, BOTH_PICTURE,
@@ -6,7 +7,6 @@ use crate::written::{
     EVERY_EDGE_MAP, EVERY_EDGE_PICTURE, FIVE_MAP, FIVE_PICTURE, LINES_MAP, LINES_PICTURE,
     NONE_SHARED_MAP, NONE_SHARED_PICTURE, SIX_MAP, SIX_PICTURE,
 };
-use std::test::Fail;
 use test_stage::{BEFORE, Case, FOUR_CELLS, Failing, NO_CELL, ONE_CELL, wrong_case};
 
 // No record is written.
@@ -116,9 +116,8 @@ const TILED: &[Case<'static>] = &[
 ];
 
 #[test]
-fn tilings(rt: HostRuntime) -> Result<(), Fail> {
-    assert_eq!(rt; wrong_case(rt.alloc(), TILED)?, None);
-    Ok(())
+fn tilings(rt: HostRuntime) {
+    expect_none(&rt, wrong_case(rt.alloc(), TILED));
 }
 
 // The first call of each kind fails in turn: what is written before it stays.
@@ -174,7 +173,6 @@ const FAILING: &[Case<'static>] = &[
 const ACROSS: &str = "tile sample=s out=o map=m width=3 height=1 wrap=x";
 
 #[test]
-fn failing_files(rt: HostRuntime) -> Result<(), Fail> {
-    assert_eq!(rt; wrong_case(rt.alloc(), FAILING)?, None);
-    Ok(())
+fn failing_files(rt: HostRuntime) {
+    expect_none(&rt, wrong_case(rt.alloc(), FAILING));
 }

@@ -1,5 +1,5 @@
 // Clips that are refused, each with its line.
-use std::test::Fail;
+use crate::expect::expect_none;
 use test_stage::wrong_sample;
 
 const WORDS: &str = "grow sample=s out=o map=m record=r width=3 height=1 place=grid overlap=0";
@@ -42,7 +42,6 @@ const REFUSED: &[(&[u8], u8, &str)] = &[
 ];
 
 #[test]
-fn clips_are_refused(rt: HostRuntime) -> Result<(), Fail> {
-    assert_eq!(rt; wrong_sample(rt.alloc(), WORDS, REFUSED)?, None);
-    Ok(())
+fn clips_are_refused(rt: HostRuntime) {
+    expect_none(&rt, wrong_sample(rt.alloc(), WORDS, REFUSED));
 }

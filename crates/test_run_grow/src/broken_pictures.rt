@@ -1,5 +1,5 @@
 // The pictures that are refused, each with its line.
-use std::test::Fail;
+use crate::expect::expect_none;
 use test_stage::{SIX_CELLS, wrong_sample};
 
 const REFUSED: &[(&[u8], u8, &str)] = &[
@@ -56,7 +56,6 @@ const REFUSED: &[(&[u8], u8, &str)] = &[
 ];
 
 #[test]
-fn pictures_are_refused(rt: HostRuntime) -> Result<(), Fail> {
-    assert_eq!(rt; wrong_sample(rt.alloc(), SIX_CELLS, REFUSED)?, None);
-    Ok(())
+fn pictures_are_refused(rt: HostRuntime) {
+    expect_none(&rt, wrong_sample(rt.alloc(), SIX_CELLS, REFUSED));
 }

@@ -1,6 +1,6 @@
 // Long stream lines, frame lines and tags.
+use crate::expect::expect_none;
 use std::alloc::{AllocError, Global};
-use std::test::Fail;
 use test_stage::refused;
 
 const WORDS: &str = "grow sample=s out=o map=m record=r width=1 height=1 place=grid overlap=0";
@@ -94,7 +94,6 @@ fn wrong_line(
 }
 
 #[test]
-fn long_lines_are_refused(rt: HostRuntime) -> Result<(), Fail> {
-    assert_eq!(rt; wrong_line(rt.alloc(), REFUSED)?, None);
-    Ok(())
+fn long_lines_are_refused(rt: HostRuntime) {
+    expect_none(&rt, wrong_line(rt.alloc(), REFUSED));
 }

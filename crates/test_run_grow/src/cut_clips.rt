@@ -1,7 +1,7 @@
 // A clip that is cut off at each byte.
 use crate::clips::TWO_CELLS;
+use crate::expect::expect_none;
 use std::alloc::{AllocError, Global};
-use std::test::Fail;
 use test_stage::refused;
 
 const WORDS: &str = "grow sample=s out=o map=m record=r width=2 height=1 place=grid overlap=0";
@@ -19,11 +19,18 @@ fn is_cut(alloc: Global, n: usize) -> Result<bool, AllocError> {
     refused(alloc, WORDS, sample, 3, line.as_str())
 }
 
-#[test]
-fn a_clip_that_is_cut(rt: HostRuntime) -> Result<(), Fail> {
-    assert_eq!(rt; TWO_CELLS.len(), 72);
-    for n in 0..72usize {
-        assert!(rt; is_cut(rt.alloc(), n)?, "the first {n} bytes");
+// The least number of first bytes that aren't refused at their end.
+fn wrong_cut(alloc: Global) -> Result<Option<usize>, AllocError> {
+    for n in 0..TWO_CELLS.len() {
+        if !is_cut(alloc, n)? {
+            return Ok(Some(n));
+        }
     }
-    Ok(())
+    Ok(None)
+}
+
+#[test]
+fn a_clip_that_is_cut(rt: HostRuntime) {
+    assert!(rt; TWO_CELLS.len() == 72);
+    expect_none(&rt, wrong_cut(rt.alloc()));
 }

@@ -1,5 +1,5 @@
 // A run in which draws alone place the copies.
-use std::test::Fail;
+use crate::expect::expect_true;
 use test_stage::{FOUR_CELLS, Made, NO_CELL, is_made};
 
 // Four cells of grey 10, 20, 30 and 40. Draw 0 of seed 0 is even: the first copy begins at cell 0. Draw 1 is odd: the
@@ -16,7 +16,6 @@ const DRAWN: Made<'static> = Made {
 };
 
 #[test]
-fn copies_by_draws_alone(rt: HostRuntime) -> Result<(), Fail> {
-    assert!(rt; is_made(rt.alloc(), &DRAWN)?);
-    Ok(())
+fn copies_by_draws_alone(rt: HostRuntime) {
+    expect_true(&rt, is_made(rt.alloc(), &DRAWN));
 }

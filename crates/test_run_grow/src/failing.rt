@@ -1,8 +1,8 @@
 // What the files hold after a read or a write that failed, and what `err` holds after its own.
+use crate::expect::{expect_none, expect_true};
 use crate::overlap::TWO;
 use shelf_core::{Call, MemShelf, MemSink};
 use std::alloc::{AllocError, Global};
-use std::test::Fail;
 use test_stage::{BEFORE, Case, FOUR_CELLS, Failing, is_file, ran, wrong_case};
 
 const NOTHING_WRITTEN: Case<'static> = Case {
@@ -85,9 +85,8 @@ const CASES: &[Case<'static>] = &[
 ];
 
 #[test]
-fn the_files_after_each_fault(rt: HostRuntime) -> Result<(), Fail> {
-    assert_eq!(rt; wrong_case(rt.alloc(), CASES)?, None);
-    Ok(())
+fn the_files_after_each_fault(rt: HostRuntime) {
+    expect_none(&rt, wrong_case(rt.alloc(), CASES));
 }
 
 // A refusal of words, said on an `err` that keeps so many bytes of its first piece and fails: it has
@@ -103,11 +102,10 @@ fn says_a_prefix(alloc: Global, kept: usize) -> Result<bool, AllocError> {
 }
 
 #[test]
-fn a_fault_of_err_changes_no_status(rt: HostRuntime) -> Result<(), Fail> {
-    for kept in [0, 1, 12] {
-        assert!(rt; says_a_prefix(rt.alloc(), kept)?, "kept {kept}");
-    }
-    Ok(())
+fn a_fault_of_err_changes_no_status(rt: HostRuntime) {
+    expect_true(&rt, says_a_prefix(rt.alloc(), 0));
+    expect_true(&rt, says_a_prefix(rt.alloc(), 1));
+    expect_true(&rt, says_a_prefix(rt.alloc(), 12));
 }
 
 // The first call of a kind on a file fails, in a run over two samples: status and line, and what the out file holds. The
@@ -166,10 +164,17 @@ fn ends_so(alloc: Global, fault: &Fault) -> Result<bool, AllocError> {
     Ok(status == fault.status && said && are_kept && is_file(shelf.file("o"), fault.picture))
 }
 
-#[test]
-fn a_second_sample_and_an_out_file_that_fail(rt: HostRuntime) -> Result<(), Fail> {
-    for fault in FAULTS {
-        assert!(rt; ends_so(rt.alloc(), fault)?, "{}", fault.line);
+// The number of the first fault, from 0, after which a run ends otherwise.
+fn wrong_end(alloc: Global, table: &[Fault]) -> Result<Option<usize>, AllocError> {
+    for (i, fault) in table.iter().enumerate() {
+        if !ends_so(alloc, fault)? {
+            return Ok(Some(i));
+        }
     }
-    Ok(())
+    Ok(None)
+}
+
+#[test]
+fn a_second_sample_and_an_out_file_that_fail(rt: HostRuntime) {
+    expect_none(&rt, wrong_end(rt.alloc(), FAULTS));
 }

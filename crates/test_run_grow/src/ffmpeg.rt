@@ -1,6 +1,6 @@
 // Clips that ffmpeg made, byte for byte those of examples/: each that is read is copied to the byte, tags and all, and the copy is
 // accepted; each other one is refused with its line.
-use std::test::Fail;
+use crate::expect::expect_none;
 use test_stage::{Made, NO_CELL, wrong_made, wrong_sample};
 
 // Gray, of odd width and height, in two frames.
@@ -123,9 +123,8 @@ const READ: &[Made<'static>] = &[
 ];
 
 #[test]
-fn clips_of_ffmpeg_are_copied(rt: HostRuntime) -> Result<(), Fail> {
-    assert_eq!(rt; wrong_made(rt.alloc(), READ)?, None);
-    Ok(())
+fn clips_of_ffmpeg_are_copied(rt: HostRuntime) {
+    expect_none(&rt, wrong_made(rt.alloc(), READ));
 }
 
 const WORDS: &str = "grow sample=s out=o map=m record=r width=2 height=2 place=grid overlap=0";
@@ -174,7 +173,6 @@ const REFUSED: &[(&[u8], u8, &str)] = &[
 ];
 
 #[test]
-fn clips_of_ffmpeg_are_refused(rt: HostRuntime) -> Result<(), Fail> {
-    assert_eq!(rt; wrong_sample(rt.alloc(), WORDS, REFUSED)?, None);
-    Ok(())
+fn clips_of_ffmpeg_are_refused(rt: HostRuntime) {
+    expect_none(&rt, wrong_sample(rt.alloc(), WORDS, REFUSED));
 }

@@ -1,6 +1,6 @@
 // Clips that are grown and then checked, and one that can't be written.
 use crate::clips::{TWO_CELLS, TWO_FRAMES};
-use std::test::Fail;
+use crate::expect::expect_none;
 use test_stage::{BEFORE, Case, Failing, Made, NO_CELL, wrong_case, wrong_made};
 
 const COPIED: &str = "grow sample=s out=o map=m record=r width=2 height=1 place=grid overlap=0";
@@ -42,9 +42,8 @@ const GROWN: &[Made<'static>] = &[
 ];
 
 #[test]
-fn clips_are_grown(rt: HostRuntime) -> Result<(), Fail> {
-    assert_eq!(rt; wrong_made(rt.alloc(), GROWN)?, None);
-    Ok(())
+fn clips_are_grown(rt: HostRuntime) {
+    expect_none(&rt, wrong_made(rt.alloc(), GROWN));
 }
 
 const FAILS: &[Case<'static>] = &[Case {
@@ -61,7 +60,6 @@ const FAILS: &[Case<'static>] = &[Case {
 }];
 
 #[test]
-fn a_clip_that_cant_be_written(rt: HostRuntime) -> Result<(), Fail> {
-    assert_eq!(rt; wrong_case(rt.alloc(), FAILS)?, None);
-    Ok(())
+fn a_clip_that_cant_be_written(rt: HostRuntime) {
+    expect_none(&rt, wrong_case(rt.alloc(), FAILS));
 }

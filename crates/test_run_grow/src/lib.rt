@@ -18,6 +18,8 @@ mod cut_pictures;
 #[cfg(test)]
 mod drawn;
 #[cfg(test)]
+mod expect;
+#[cfg(test)]
 mod failing;
 #[cfg(test)]
 mod ffmpeg;

@@ -1,6 +1,6 @@
 // Long headers.
+use crate::expect::expect_none;
 use std::alloc::{AllocError, Global};
-use std::test::Fail;
 use test_stage::{SIX_CELLS, refused};
 
 // A header that goes on through so many bytes of a comment, and then ends as given.
@@ -45,7 +45,6 @@ fn wrong_header(
 }
 
 #[test]
-fn long_headers_are_refused(rt: HostRuntime) -> Result<(), Fail> {
-    assert_eq!(rt; wrong_header(rt.alloc(), REFUSED)?, None);
-    Ok(())
+fn long_headers_are_refused(rt: HostRuntime) {
+    expect_none(&rt, wrong_header(rt.alloc(), REFUSED));
 }

@@ -1,5 +1,5 @@
 // Two copies of four cells that overlap by two, and a round after them.
-use std::test::Fail;
+use crate::expect::expect_none;
 use test_stage::{
     Case, FOUR_CELLS, Failing, NO_CELL, OVERLAP_MAP, OVERLAP_PICTURE, OVERLAP_RECORD, OVERLAPPING,
     wrong_case,
@@ -41,7 +41,6 @@ const CASES: &[Case<'static>] = &[
 ];
 
 #[test]
-fn copies_that_overlap(rt: HostRuntime) -> Result<(), Fail> {
-    assert_eq!(rt; wrong_case(rt.alloc(), CASES)?, None);
-    Ok(())
+fn copies_that_overlap(rt: HostRuntime) {
+    expect_none(&rt, wrong_case(rt.alloc(), CASES));
 }

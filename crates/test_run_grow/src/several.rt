@@ -1,6 +1,6 @@
 // Runs over two samples: the files of version 2, and the refusals of the second.
+use crate::expect::{expect_none, expect_true};
 use std::alloc::{AllocError, Global};
-use std::test::Fail;
 use test_stage::{BEFORE, Case, Failing, Made, holds, is_made, wrong_case};
 
 // The sizes of both samples, and for each cell its sample and the place in it. A grid has the first alone.
@@ -95,9 +95,8 @@ const CASES: &[Case<'static>] = &[
 ];
 
 #[test]
-fn runs_over_two_samples(rt: HostRuntime) -> Result<(), Fail> {
-    assert_eq!(rt; wrong_case(rt.alloc(), CASES)?, None);
-    Ok(())
+fn runs_over_two_samples(rt: HostRuntime) {
+    expect_none(&rt, wrong_case(rt.alloc(), CASES));
 }
 
 // The run, and the check of what it leaves.
@@ -114,9 +113,8 @@ fn is_accepted(alloc: Global) -> Result<bool, AllocError> {
 }
 
 #[test]
-fn a_run_over_two_samples_is_accepted(rt: HostRuntime) -> Result<(), Fail> {
-    assert!(rt; is_accepted(rt.alloc())?);
-    Ok(())
+fn a_run_over_two_samples_is_accepted(rt: HostRuntime) {
+    expect_true(&rt, is_accepted(rt.alloc()));
 }
 
 // Two pictures of 4096 x 2048 black cells: each is within the bound, and both together pass it.
@@ -135,7 +133,6 @@ fn are_too_many(alloc: Global) -> Result<bool, AllocError> {
 }
 
 #[test]
-fn samples_of_too_many_cells(rt: HostRuntime) -> Result<(), Fail> {
-    assert!(rt; are_too_many(rt.alloc())?);
-    Ok(())
+fn samples_of_too_many_cells(rt: HostRuntime) {
+    expect_true(&rt, are_too_many(rt.alloc()));
 }

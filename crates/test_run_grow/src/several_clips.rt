@@ -1,6 +1,6 @@
 // Two clips as samples, and a second sample that doesn't go with the first.
 use crate::clips::{PICTURE, TWO_CELLS, TWO_FRAMES};
-use std::test::Fail;
+use crate::expect::expect_none;
 use test_stage::{BEFORE, Case, Failing, Made, wrong_case, wrong_made};
 
 const WORDS: &str =
@@ -16,9 +16,8 @@ const MADE: &[Made<'static>] = &[Made {
 }];
 
 #[test]
-fn a_clip_of_two(rt: HostRuntime) -> Result<(), Fail> {
-    assert_eq!(rt; wrong_made(rt.alloc(), MADE)?, None);
-    Ok(())
+fn a_clip_of_two(rt: HostRuntime) {
+    expect_none(&rt, wrong_made(rt.alloc(), MADE));
 }
 
 const UNLIKE: Case<'static> = Case {
@@ -48,7 +47,6 @@ const REFUSED: &[Case<'static>] = &[
 ];
 
 #[test]
-fn unlike_samples_are_refused(rt: HostRuntime) -> Result<(), Fail> {
-    assert_eq!(rt; wrong_case(rt.alloc(), REFUSED)?, None);
-    Ok(())
+fn unlike_samples_are_refused(rt: HostRuntime) {
+    expect_none(&rt, wrong_case(rt.alloc(), REFUSED));
 }

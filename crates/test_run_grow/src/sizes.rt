@@ -1,7 +1,7 @@
 // Great samples and outputs. What a seam between two tiles costs doesn't depend on their cells.
+use crate::expect::{expect_none, expect_true};
 use crate::tiled_files::{picture, raster, tiled_map, tiled_raster, tiled_record};
 use std::alloc::{AllocError, Global};
-use std::test::Fail;
 use test_stage::{Case, Failing, NO_CELL, ONE_CELL, holds, wrong_words};
 
 const ABOVE_THE_BOUND: &[(&str, u8, &str)] = &[
@@ -18,9 +18,8 @@ const ABOVE_THE_BOUND: &[(&str, u8, &str)] = &[
 ];
 
 #[test]
-fn an_output_above_the_bound(rt: HostRuntime) -> Result<(), Fail> {
-    assert_eq!(rt; wrong_words(rt.alloc(), ONE_CELL, ABOVE_THE_BOUND)?, None);
-    Ok(())
+fn an_output_above_the_bound(rt: HostRuntime) {
+    expect_none(&rt, wrong_words(rt.alloc(), ONE_CELL, ABOVE_THE_BOUND));
 }
 
 // 256 tiles on 1024 x 1024 cells.
@@ -47,9 +46,8 @@ fn is_greatest(alloc: Global) -> Result<bool, AllocError> {
 }
 
 #[test]
-fn the_greatest_output(rt: HostRuntime) -> Result<(), Fail> {
-    assert!(rt; is_greatest(rt.alloc())?);
-    Ok(())
+fn the_greatest_output(rt: HostRuntime) {
+    expect_true(&rt, is_greatest(rt.alloc()));
 }
 
 // One tile of 640 x 480 cells, from a picture with a comment.
@@ -76,9 +74,8 @@ fn is_copied(alloc: Global) -> Result<bool, AllocError> {
 }
 
 #[test]
-fn a_picture_with_a_comment_is_copied(rt: HostRuntime) -> Result<(), Fail> {
-    assert!(rt; is_copied(rt.alloc())?);
-    Ok(())
+fn a_picture_with_a_comment_is_copied(rt: HostRuntime) {
+    expect_true(&rt, is_copied(rt.alloc()));
 }
 
 // The same picture quilted by one block.
@@ -108,7 +105,6 @@ fn is_quilted(alloc: Global) -> Result<bool, AllocError> {
 }
 
 #[test]
-fn a_picture_is_quilted_by_one_block(rt: HostRuntime) -> Result<(), Fail> {
-    assert!(rt; is_quilted(rt.alloc())?);
-    Ok(())
+fn a_picture_is_quilted_by_one_block(rt: HostRuntime) {
+    expect_true(&rt, is_quilted(rt.alloc()));
 }

@@ -1,7 +1,7 @@
 // Runs over stores that never fail.
+use crate::expect::expect_true;
 use shelf_core::{SureShelf, SureSink};
 use std::alloc::{AllocError, Global};
-use std::test::Fail;
 use test_stage::{
     FOUR_CELLS, OVERLAP_MAP, OVERLAP_PICTURE, OVERLAP_RECORD, OVERLAPPING, is_file, ran,
 };
@@ -37,9 +37,8 @@ fn surely_refused(alloc: Global) -> Result<bool, AllocError> {
 }
 
 #[test]
-fn stores_that_never_fail(rt: HostRuntime) -> Result<(), Fail> {
+fn stores_that_never_fail(rt: HostRuntime) {
     let alloc = rt.alloc();
-    assert!(rt; surely_grown(alloc)?);
-    assert!(rt; surely_refused(alloc)?);
-    Ok(())
+    expect_true(&rt, surely_grown(alloc));
+    expect_true(&rt, surely_refused(alloc));
 }

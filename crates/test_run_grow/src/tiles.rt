@@ -1,5 +1,5 @@
 // Six copies of one cell, by each way to place them.
-use std::test::Fail;
+use crate::expect::expect_none;
 use test_stage::{Case, Failing, NO_CELL, ONE_CELL, SIX_CELLS, wrong_case};
 
 const PICTURE: &[u8] =
@@ -59,7 +59,6 @@ const CASES: &[Case<'static>] = &[
 ];
 
 #[test]
-fn copies_of_one_cell(rt: HostRuntime) -> Result<(), Fail> {
-    assert_eq!(rt; wrong_case(rt.alloc(), CASES)?, None);
-    Ok(())
+fn copies_of_one_cell(rt: HostRuntime) {
+    expect_none(&rt, wrong_case(rt.alloc(), CASES));
 }

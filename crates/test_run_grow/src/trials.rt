@@ -1,7 +1,7 @@
 // What is said of an output that is grown from a sample of a number. No file is read or written.
+use crate::expect::{expect_none, expect_true};
 use shelf_core::{MemShelf, MemSink};
 use std::alloc::{AllocError, Global};
-use std::test::Fail;
 use test_stage::{BEFORE, Case, Failing, NO_CELL, ONE_CELL, ran, wrong_case, wrong_words};
 
 const BEGINNING: &[u8] =
@@ -41,17 +41,21 @@ fn is_one_report(
 }
 
 #[test]
-fn the_trial_of_number_1_is_the_same_text_twice(rt: HostRuntime) -> Result<(), Fail> {
+fn the_trial_of_number_1_is_the_same_text_twice(rt: HostRuntime) {
     let words = "trial seed=0 rounds=5 n=1 place=sub box=32 overlap=8 tol=10 width=256 height=256";
-    assert!(rt; is_one_report(rt.alloc(), "trial n=1", words, BEGINNING)?);
-    Ok(())
+    expect_true(
+        &rt,
+        is_one_report(rt.alloc(), "trial n=1", words, BEGINNING),
+    );
 }
 
 #[test]
-fn a_trial_of_200_rounds_is_the_same_text_twice(rt: HostRuntime) -> Result<(), Fail> {
+fn a_trial_of_200_rounds_is_the_same_text_twice(rt: HostRuntime) {
     let words = "trial rounds=200 n=1";
-    assert!(rt; is_one_report(rt.alloc(), "trial n=1 rounds=200", words, LONG_BEGINNING)?);
-    Ok(())
+    expect_true(
+        &rt,
+        is_one_report(rt.alloc(), "trial n=1 rounds=200", words, LONG_BEGINNING),
+    );
 }
 
 const REFUSED: &[(&str, u8, &str)] = &[
@@ -67,9 +71,8 @@ const REFUSED: &[(&str, u8, &str)] = &[
 ];
 
 #[test]
-fn trials_that_are_refused(rt: HostRuntime) -> Result<(), Fail> {
-    assert_eq!(rt; wrong_words(rt.alloc(), ONE_CELL, REFUSED)?, None);
-    Ok(())
+fn trials_that_are_refused(rt: HostRuntime) {
+    expect_none(&rt, wrong_words(rt.alloc(), ONE_CELL, REFUSED));
 }
 
 // The sample alone fills a small output by one copy; its seams are none.
@@ -98,7 +101,6 @@ const WRITTEN: &[Case<'static>] = &[
 ];
 
 #[test]
-fn a_small_trial_and_a_report_that_cant_be_written(rt: HostRuntime) -> Result<(), Fail> {
-    assert_eq!(rt; wrong_case(rt.alloc(), WRITTEN)?, None);
-    Ok(())
+fn a_small_trial_and_a_report_that_cant_be_written(rt: HostRuntime) {
+    expect_none(&rt, wrong_case(rt.alloc(), WRITTEN));
 }

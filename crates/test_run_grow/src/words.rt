@@ -1,6 +1,6 @@
 // The words that are refused, each with its line.
+use crate::expect::{expect_none, expect_true};
 use std::alloc::{AllocError, Global};
-use std::test::Fail;
 use test_stage::{ONE_CELL, refused, wrong_words};
 
 const REFUSED: &[(&str, u8, &str)] = &[
@@ -38,9 +38,8 @@ const REFUSED: &[(&str, u8, &str)] = &[
 ];
 
 #[test]
-fn words_are_refused(rt: HostRuntime) -> Result<(), Fail> {
-    assert_eq!(rt; wrong_words(rt.alloc(), ONE_CELL, REFUSED)?, None);
-    Ok(())
+fn words_are_refused(rt: HostRuntime) {
+    expect_none(&rt, wrong_words(rt.alloc(), ONE_CELL, REFUSED));
 }
 
 // Whether a width of 400 digits is refused with this line.
@@ -54,10 +53,18 @@ fn is_refused(alloc: Global, digit: char, last: &str, line: &str) -> Result<bool
 }
 
 #[test]
-fn widths_of_400_digits(rt: HostRuntime) -> Result<(), Fail> {
+fn widths_of_400_digits(rt: HostRuntime) {
     let alloc = rt.alloc();
-    assert!(rt; is_refused(alloc, '9', "7", "weave: word 2: out of range\n")?);
-    assert!(rt; is_refused(alloc, '0', "0", "weave: word 2: out of range\n")?);
-    assert!(rt; is_refused(alloc, '0', "7", "weave: missing key sample\n")?);
-    Ok(())
+    expect_true(
+        &rt,
+        is_refused(alloc, '9', "7", "weave: word 2: out of range\n"),
+    );
+    expect_true(
+        &rt,
+        is_refused(alloc, '0', "0", "weave: word 2: out of range\n"),
+    );
+    expect_true(
+        &rt,
+        is_refused(alloc, '0', "7", "weave: missing key sample\n"),
+    );
 }

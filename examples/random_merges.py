@@ -4,7 +4,10 @@
     examples/random_merges.py [RUNS [SEED]]
 
 The plain program has no help of weave: each picture is laid over the merge before by a least cut among the cells that no
-mark fixes, in a network with one node for each of these cells (Kolmogorov and Zabih 2004). Build the program first: ./build."""
+mark fixes, in a network with one node for each of these cells (Kolmogorov and Zabih 2004). Where there are twelve of them at
+most, all choices are tried besides, one by one: none costs less, and none that costs as much has fewer cells of the merge
+before. Build the program first: ./build."""
+import itertools
 import os
 import random
 import subprocess
@@ -15,6 +18,9 @@ from collections import deque
 from random_runs import WEAVE
 
 SOURCE, SINK = -1, -2
+
+# All choices for so many cells are tried at most.
+TRIED = 12
 
 
 class Network:
@@ -51,6 +57,20 @@ class Network:
                 self.room[a][b] -= flow
                 self.room[b][a] += flow
         return before
+
+
+def cost_of(tables, new):
+    return sum(table[new[i]][new[j]] for i, j, table in tables)
+
+
+def least_of_all(tables, free, new):
+    """What the cheapest of all choices for the free cells costs, and the fewest of them that stay as they are in one."""
+    new, found = list(new), []
+    for bits in itertools.product((False, True), repeat=len(free)):
+        for i, bit in zip(free, bits):
+            new[i] = bit
+        found.append((cost_of(tables, new), bits.count(False)))
+    return min(found)
 
 
 class Pictures:
@@ -97,9 +117,20 @@ class Pictures:
             elif is_free[j]:
                 charge(j, -second if is_new[i] else first - old)
         old_side = network.saturate()
+        laid = [is_new[i] or (is_free[i] and i not in old_side) for i in range(len(labels))]
+        free = [i for i, it in enumerate(is_free) if it]
+        if len(free) <= TRIED:
+            tables = self.tables(labels, number)
+            found = cost_of(tables, laid), sum(not laid[i] for i in free)
+            if found != least_of_all(tables, free, is_new):
+                sys.exit(f"the least of all choices isn't {found}: picture {number} over {labels}, marks {marks}")
+        return [number if new else label for new, label in zip(laid, labels)]
+
+    def tables(self, labels, number):
+        """For each pair of cells what it costs by whether each of them is of the picture of a number."""
         return [
-            number if is_new[i] or (is_free[i] and i not in old_side) else label
-            for i, label in enumerate(labels)
+            (i, j, [[self.cost(a, b, i, j) for b in (labels[j], number)] for a in (labels[i], number)])
+            for i, j in self.pairs
         ]
 
     def merged(self, marks):

@@ -17,7 +17,7 @@ ALLOWED = [  # what has the same value and bounds something else: the file, the 
     ("search_squares/src/blocks.rt", r"MOST_BLOCKS: usize = 1 << 16", "how many blocks are kept, for speed"),
     ("job_words/src/trial.rt", r"GREATEST_AXIS as u64, 256\)", "the size of a trial's output where none is asked for"),
     ("job_words/specs/TrialWords.antt", r"1 GREATEST_AXIS 256", "the same"),
-    ("max_flow/src/beginning.rt", r"WORK: u64 = 256", "the work of a search, for speed"),
+    ("max_flow/src/beginning.rt", r"WORK: u64 = 4096", "the work of a search, for speed"),
     ("netpbm_p6/src/header.rt", r"PIECE: usize = 4096", "how many bytes are read at once"),
     ("map_canvas/src/entry.rt", r"SPAN: u64 = 1_048_576", "the 20 bits of a coordinate of an entry"),
     ("map_canvas/specs/Entries.antt", r"span = 1048576", "the same"),

@@ -1,2 +1,3 @@
 pub mod WorkedBytes
 pub mod WorkedLaws
+pub mod WorkedVolumes

@@ -6,6 +6,7 @@ use Rattle.cells.specs.declared.place.Size.{Size}
 use Rattle.cells.specs.Parts.{count_from}
 use Rattle.cells.specs.Places.{cell_count}
 use Rattle.cells.specs.Cells.{Cells, count_of, sizes_of}
+use Rattle.turned.specs.Turns.{turn_size}
 use Rattle.turned.specs.TurnedParts.{turned_of, turned_sizes_of}
 use Rattle.turned.proofs.Turns.{turn_count, turn_frames}
 use Rattle.turned.proofs.TurnedCells.{sizes_turned}
@@ -28,11 +29,11 @@ worked_tell true sizes other same = sizes_told sizes other same
 
 -- Worked samples are sound where the samples are.
 
-sizes_count : List Size → ℕ
+unfoldable pub sizes_count : List Size → ℕ
 sizes_count [] = 0
 sizes_count (size ∷ sizes) = cell_count size + sizes_count sizes
 
-count_is : (size : Size) (more : List Size) → count_from size more ≡ sizes_count (size ∷ more)
+pub count_is : (size : Size) (more : List Size) → count_from size more ≡ sizes_count (size ∷ more)
 unfolding sizes_count
 count_is size [] = omega arith
 count_is size (next ∷ more) = ap (λ n. cell_count size + n) (count_is next more)
@@ -49,11 +50,9 @@ worked_count true v =
 
 turned_frames : (sizes : List Size) → AllByRecursion (λ (size : Size). size.f ≡ 1) sizes → AllByRecursion (λ (size : Size). size.f ≡ 1) (turned_sizes_of sizes)
 turned_frames [] all = tt
-turned_frames (size ∷ sizes) all = (
-  turn_frames 0 size ∙ all.0, turn_frames 1 size ∙ all.0, turn_frames 2 size ∙ all.0, turn_frames 3 size ∙ all.0,
-  turn_frames 4 size ∙ all.0, turn_frames 5 size ∙ all.0, turn_frames 6 size ∙ all.0, turn_frames 7 size ∙ all.0,
-  turned_frames sizes all.1,
-)
+turned_frames (size ∷ sizes) all =
+    let at : (t : ℕ) → (turn_size t size).f ≡ 1 = λ t. turn_frames t size ∙ all.0 in
+    (at 0, (at 1, (at 2, (at 3, (at 4, (at 5, (at 6, (at 7, turned_frames sizes all.1))))))))
 
 sound_turned : (form : Form) (v : Cells) → AreSoundIn form v → AreSoundIn form (turned_of v)
 unfolding turned_of

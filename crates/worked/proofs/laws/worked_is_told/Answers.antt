@@ -1,5 +1,9 @@
 use Rattle.worked.proofs.WorkedLaws.{sizes_worked, worked_tell}
+use Rattle.worked.proofs.WorkedVolumes.{worked_volume}
 use Rattle.worked.proofs.laws.worked_is_told.Goals as goal
+
+pub returns-clause-volume : goal.returns-clause-volume
+returns-clause-volume c = worked_volume
 
 pub returns-clause-sizes : goal.returns-clause-sizes
 returns-clause-sizes c = sizes_worked

@@ -49,10 +49,12 @@ joined turns samples sample after s p alike fits form volume parts = record {
   where
     after_is : after ≡ record { form = samples.form; volume = with_part samples.volume sample.volume }
     after_is = ap (λ f. record after { form = f }) form ∙ ap (λ v. record { form = samples.form; volume = v }) volume
+
     count : count_of samples.volume + count_of sample.volume ≡ count_of (with_part samples.volume sample.volume)
     count = (let more = count_behind samples.volume.size samples.volume.more sample.volume.size in
         let alone = count_alone sample.volume (sound_alone sample.form sample.volume p) in
         omega (arith, more, alone))
+
     within : with_turns turns (count_of (with_part samples.volume sample.volume)) ≤ MOST_SAMPLE_CELLS
     within = subst (λ n. with_turns turns n ≤ MOST_SAMPLE_CELLS) count fits
 

@@ -1,4 +1,4 @@
-use Rattle.std.proofs.Common.{◌+◌, [], ◌∷◌, length, arith, ap, sym, subst, length-append}
+use Rattle.std.proofs.Common.{suc, ◌+◌, [], ◌∷◌, length, arith, ap, sym, subst, length-append}
 use Rattle.std.specs.Prelude.{Err}
 use Rattle.std.proofs.lemmas.Result.{err_from_is_err_and}
 use Rattle.shelf_core.proofs.FileLaws.{only_reads_then}
@@ -19,7 +19,7 @@ pub returns-in_err-samples-clause-reads : goal.returns-in_err-samples-clause-rea
 returns-in_err-samples-clause-reads g c =
     first_reads c.args.first.now c.args.more.now c.as_text.result.now c.as_text.ensures (g.S.Shelf.state c.args.shelf.now) (g.S.Shelf.state c.read_first.new.shelf) c.read_first.ensures.reads
 
-pub loop-i-init : goal.loop-i-starts
+pub loop-i-init : goal.loop-i-init
 loop-i-init g c =
     let was = g.S.Shelf.state c.args.shelf.now in
     let now = g.S.Shelf.state c.read_first.new.shelf in
@@ -28,7 +28,7 @@ loop-i-init g c =
       reads = first_reads c.args.first.now c.args.more.now c.as_text.result.now c.as_text.ensures was now c.read_first.ensures.reads;
       read = read_one c.args.turns c.args.first.now c.in_ok-samples.samples was now one;
       so_far = one.started.so_far;
-      count = ap (λ more. length more + 1) one.started.one;
+      count = ap (λ more. suc (length more)) one.started.one;
     }
 
 pub returns-in_err-read_next-clause-answer : goal.returns-in_err-read_next-clause-answer
@@ -38,7 +38,7 @@ returns-in_err-read_next-clause-answer g c =
     let now = g.S.Shelf.state c.read_next.new.shelf in
     let fault = c.in_err-read_next.field-0.0 in
     let name = c.index-more-i.result in
-    let p = err_from_is_err_and c.from_residual.result c.from_residual.ensures.1 in
+    let p = err_from_is_err_and c.from_residual-in_err-read_next.result c.from_residual-in_err-read_next.ensures.1 in
     let left = subst (λ n. NotNext c.args.turns c.loop-i.samples (c.loop-i.i + 2) n mid now fault) c.as_text-in-loop-i.ensures (c.in_err-read_next.ensures {u = tt}).answer in
     rw (p.1, p.2)
     (next_unread c.args.turns c.args.first.now c.args.more.now c.loop-i.i name c.loop-i.samples was mid now c.loop-i-test.true c.index-more-i.is c.loop-i.invariant.reads c.loop-i.invariant.read c.read_next.ensures.reads fault left)

@@ -15,6 +15,8 @@ mod claims;
 #[cfg(test)]
 mod cuts;
 #[cfg(test)]
+mod expect;
+#[cfg(test)]
 mod map_files;
 #[cfg(test)]
 mod maps;

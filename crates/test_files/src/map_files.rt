@@ -2,13 +2,13 @@
 // what is cut, changed or longer is refused at its place.
 ghost use Rattle.source_map.specs.MapFiles.{IsMapFile};
 
+use crate::expect::{expect_none, expect_true};
 use crate::records::changed;
 use shelf_core::FormFault::Form;
 use shelf_core::ReadError::{Bad, Limit};
 use shelf_core::{Call, MemShelf, ReadError, What, WriteFault};
 use source_map::{MapFile, read_map, write_cell_map, write_frame_map};
 use std::alloc::{AllocError, Global};
-use std::test::Fail;
 
 // The map of six cells in a row from cells 0, 1, 2, 1, 2 and 3 of one sample of four, in version 1.
 const PLAIN: [u8; 70] = [
@@ -67,16 +67,19 @@ fn is_written_again(alloc: Global, bytes: &[u8]) -> Result<bool, AllocError> {
     Ok(write_again(&value, &mut shelf).is_ok() && shelf.file("again") == Some(bytes))
 }
 
-#[test]
-fn maps_are_read_and_written_again(rt: HostRuntime) -> Result<(), Fail> {
-    for bytes in FILES.iter() {
-        assert!(rt;
-            is_written_again(rt.alloc(), *bytes)?,
-            "{} bytes",
-            bytes.len()
-        );
+// The number of the first map, from 0, that isn't written again.
+fn wrong_copy(alloc: Global, table: &[&[u8]]) -> Result<Option<usize>, AllocError> {
+    for (i, bytes) in table.iter().enumerate() {
+        if !is_written_again(alloc, *bytes)? {
+            return Ok(Some(i));
+        }
     }
-    Ok(())
+    Ok(None)
+}
+
+#[test]
+fn maps_are_read_and_written_again(rt: HostRuntime) {
+    expect_none(&rt, wrong_copy(rt.alloc(), FILES));
 }
 
 // Whether a write that fails leaves so many bytes of the map of copies, and tells.
@@ -93,11 +96,10 @@ fn fails_well(alloc: Global, call: Call, kept: usize) -> Result<bool, AllocError
 }
 
 #[test]
-fn writes_that_fail(rt: HostRuntime) -> Result<(), Fail> {
-    assert!(rt; fails_well(rt.alloc(), Call::Begin, 0)?);
-    assert!(rt; fails_well(rt.alloc(), Call::Add, 0)?);
-    assert!(rt; fails_well(rt.alloc(), Call::Add, 42)?);
-    Ok(())
+fn writes_that_fail(rt: HostRuntime) {
+    expect_true(&rt, fails_well(rt.alloc(), Call::Begin, 0));
+    expect_true(&rt, fails_well(rt.alloc(), Call::Add, 0));
+    expect_true(&rt, fails_well(rt.alloc(), Call::Add, 42));
 }
 
 // Why bytes aren't read as a map.
@@ -122,12 +124,19 @@ fn wrong_length(alloc: Global, bytes: &[u8]) -> Result<Option<usize>, AllocError
     Ok(None)
 }
 
-#[test]
-fn cut_and_longer_maps_are_refused(rt: HostRuntime) -> Result<(), Fail> {
-    for bytes in FILES.iter() {
-        assert_eq!(rt; wrong_length(rt.alloc(), *bytes)?, None);
+// The number of bytes of the first map that isn't refused at one of its lengths.
+fn wrong_lengths(alloc: Global, table: &[&[u8]]) -> Result<Option<usize>, AllocError> {
+    for bytes in table.iter() {
+        if wrong_length(alloc, *bytes)?.is_some() {
+            return Ok(Some(bytes.len()));
+        }
     }
-    Ok(())
+    Ok(None)
+}
+
+#[test]
+fn cut_and_longer_maps_are_refused(rt: HostRuntime) {
+    expect_none(&rt, wrong_lengths(rt.alloc(), FILES));
 }
 
 // A file, a place in it and what stands there, and the refusal.
@@ -178,7 +187,6 @@ fn wrong_change(alloc: Global, table: &[Change]) -> Result<Option<usize>, AllocE
 }
 
 #[test]
-fn changed_maps_are_refused(rt: HostRuntime) -> Result<(), Fail> {
-    assert_eq!(rt; wrong_change(rt.alloc(), CHANGES)?, None);
-    Ok(())
+fn changed_maps_are_refused(rt: HostRuntime) {
+    expect_none(&rt, wrong_change(rt.alloc(), CHANGES));
 }

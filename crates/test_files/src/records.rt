@@ -1,10 +1,15 @@
 // Worked examples: record files to the byte, both ways, and files that are refused.
-use cert_file::{Flow, RecordFile, Taps, read_record_file, write_blocks, write_cuts, write_walk};
+ghost use Rattle.cert_file.specs.RecordFiles.{IsRecordFile};
+
+use crate::expect::{expect_none, expect_true};
+use cert_file::{
+    BlockRecord, BoundaryRecord, CutRecord, Flow, RecordFile, Taps, read_record_file, write_blocks,
+    write_cuts, write_walk,
+};
 use shelf_core::FormFault::Form;
 use shelf_core::ReadError::{Bad, Limit};
 use shelf_core::{MemShelf, ReadError, What};
 use std::alloc::{AllocError, Global};
-use std::test::Fail;
 
 // Two records, of 100 bytes: output 6 x 1 x 1, sample 4 x 1 x 1; a box of 4 x 1 x 1 cells at the output's first cell and one
 // at its third, from the sample's first cell; choices and flows: all new, and all but the first new.
@@ -62,41 +67,57 @@ pub(crate) fn refusal(alloc: Global, bytes: &[u8]) -> Result<Option<ReadError>, 
 }
 
 // Whether a file of cuts has this length, and is read and written again, byte by byte.
-fn is_written_again(alloc: Global, bytes: &[u8], length: usize) -> Result<bool, Fail> {
+fn is_written_again(alloc: Global, bytes: &[u8], length: usize) -> Result<bool, AllocError> {
     let mut shelf = MemShelf::new(alloc);
     shelf.put_file("record", bytes)?;
-    let file = read_record_file(alloc, &mut shelf, "record")?;
+    let Ok(file) = read_record_file(alloc, &mut shelf, "record") else {
+        return Ok(false);
+    };
     let RecordFile::Cuts { head, cuts } = &file else {
         return Ok(false);
     };
-    write_cuts(head, cuts.as_slice(), &mut shelf, "again")?;
-    Ok(bytes.len() == length && shelf.file("again") == Some(bytes))
+    let is_written = write_cuts(head, cuts.as_slice(), &mut shelf, "again").is_ok();
+    Ok(is_written && bytes.len() == length && shelf.file("again") == Some(bytes))
 }
 
 #[test]
-fn written_again(rt: HostRuntime) -> Result<(), Fail> {
-    assert!(rt; is_written_again(rt.alloc(), TWO, 100)?);
-    assert!(rt; is_written_again(rt.alloc(), THREE, 131)?);
-    assert!(rt; is_written_again(rt.alloc(), NUMBERED, 106)?);
-    Ok(())
+fn written_again(rt: HostRuntime) {
+    expect_true(&rt, is_written_again(rt.alloc(), TWO, 100));
+    expect_true(&rt, is_written_again(rt.alloc(), THREE, 131));
+    expect_true(&rt, is_written_again(rt.alloc(), NUMBERED, 106));
 }
 
-#[test]
-fn fields(rt: HostRuntime) -> Result<(), Fail> {
-    let alloc = rt.alloc();
+// The record of one placement, at the third cell.
+fn is_third(cut: &CutRecord) -> bool {
+    cut.placement.rect.corner.x == 2
+        && cut.placement.rect.size.w == 4
+        && cut.choice.as_slice() == [true, true, true, false].as_slice()
+        && cut.flows.as_slice().last() == Some(&Flow { x: 0, y: -120 })
+}
+
+// Whether a file is that of one such record.
+fn is_one(file: &RecordFile) -> bool {
+    match file {
+        RecordFile::Cuts { head, cuts } => match cuts.as_slice() {
+            [cut] => head.output.w == 6 && is_third(cut),
+            _ => false,
+        },
+        _ => false,
+    }
+}
+
+fn has_fields(alloc: Global) -> Result<bool, AllocError> {
     let mut shelf = MemShelf::new(alloc);
     shelf.put_file("record", ONE)?;
-    let file = read_record_file(alloc, &mut shelf, "record")?;
-    let RecordFile::Cuts { head, cuts } = &file else {
-        return Err("no cuts".into());
-    };
-    let cut = cuts.as_slice().first().ok_or("no record")?;
-    assert!(rt; head.output.w == 6);
-    assert!(rt; cut.placement.rect.corner.x == 2);
-    assert!(rt; cut.placement.rect.size.w == 4);
-    assert!(rt; cut.choice.as_slice() == [true, true, true, false].as_slice());
-    assert!(rt; cut.flows.as_slice().last() == Some(&Flow { x: 0, y: -120 }));
-    Ok(())
+    match read_record_file(alloc, &mut shelf, "record") {
+        Ok(file) => Ok(is_one(&file)),
+        Err(_) => Ok(false),
+    }
+}
+
+#[test]
+fn fields(rt: HostRuntime) {
+    expect_true(&rt, has_fields(rt.alloc()));
 }
 
 // A place in a file, what stands there, and the refusal if there is one.
@@ -144,9 +165,8 @@ const REFUSED: &[Change<'static>] = &[
 ];
 
 #[test]
-fn refusals(rt: HostRuntime) -> Result<(), Fail> {
-    assert_eq!(rt; wrong_change(rt.alloc(), TWO, REFUSED)?, None);
-    Ok(())
+fn refusals(rt: HostRuntime) {
+    expect_none(&rt, wrong_change(rt.alloc(), TWO, REFUSED));
 }
 
 // How many bytes of a file are the first that aren't refused at their end, or with a byte more at its place; None where all are.
@@ -165,14 +185,13 @@ fn wrong_length(alloc: Global, bytes: &[u8]) -> Result<Option<usize>, AllocError
 
 // Files of each kind that are cut off at each byte, or go on.
 #[test]
-fn cut_and_longer(rt: HostRuntime) -> Result<(), Fail> {
+fn cut_and_longer(rt: HostRuntime) {
     let alloc = rt.alloc();
-    assert_eq!(rt; wrong_length(alloc, TWO)?, None);
-    assert_eq!(rt; wrong_length(alloc, THREE)?, None);
-    assert_eq!(rt; wrong_length(alloc, NUMBERED)?, None);
-    assert_eq!(rt; wrong_length(alloc, WALK)?, None);
-    assert_eq!(rt; wrong_length(alloc, BLOCKS)?, None);
-    Ok(())
+    expect_none(&rt, wrong_length(alloc, TWO));
+    expect_none(&rt, wrong_length(alloc, THREE));
+    expect_none(&rt, wrong_length(alloc, NUMBERED));
+    expect_none(&rt, wrong_length(alloc, WALK));
+    expect_none(&rt, wrong_length(alloc, BLOCKS));
 }
 
 // The file of a walk of 3 frames over a sample of 1 x 1 x 2: its tables are those for the lengths 2 and 3.
@@ -181,42 +200,53 @@ const WALK: &[u8] = b"WEAVEREC\x01\x02\0\0\0\x01\0\0\0\x01\0\0\0\x03\0\0\0\x01\0
     \0\0\0\0\0\0\0\x0a\0\0\0\0\0\0\0\x05\xff\xff\xff\xff\xff\xff\xff\xff\0\0\0\0\0\0\0\x0a\
     \0\0\0\0\0\0\0\x0f\0\0\0\0\0\0\0\x0a\0\0\0\0\0\0\0\x14\x01\x02\x03\x04\x05\x06\x07\x08";
 
-// A walk is read, and what was read is written again, byte by byte.
-#[test]
-fn walk_written_again(rt: HostRuntime) -> Result<(), Fail> {
-    let alloc = rt.alloc();
-    assert!(rt; WALK.len() == 111);
-    let mut shelf = MemShelf::new(alloc);
-    shelf.put_file("record", WALK)?;
-    let file = read_record_file(alloc, &mut shelf, "record")?;
+// Whether the file is that walk, and is written again, byte by byte.
+fn is_walk_written(file: &RecordFile, shelf: &mut MemShelf) -> bool
+    requires { IsRecordFile file.now }
+{
     let RecordFile::Walk {
         head,
         taps,
         gap,
         walk,
         tables,
-    } = &file
+    } = file
     else {
-        return Err("no walk".into());
+        return false;
     };
-    assert!(rt; head.output.f == 3);
-    assert!(rt; *taps == Taps::Two);
-    assert!(rt; *gap == 256);
-    assert!(rt; walk.as_slice() == [0u16, 1, 1].as_slice());
-    assert!(rt; tables.as_slice().len() == 8);
-    assert!(rt; tables.as_slice().get(2) == Some(&u64::MAX));
-    assert!(rt; tables.as_slice().last() == Some(&72623859790382856));
-    write_walk(
+    let numbers = tables.as_slice();
+    let is_written = write_walk(
         head,
         *taps,
         *gap,
         walk.as_slice(),
-        tables.as_slice(),
-        &mut shelf,
+        numbers,
+        shelf,
         "again",
-    )?;
-    assert!(rt; shelf.file("again").unwrap_or(b"") == WALK);
-    Ok(())
+    ).is_ok();
+    is_written
+        && (head.output.f, *taps, *gap) == (3, Taps::Two, 256)
+        && walk.as_slice() == [0u16, 1, 1].as_slice()
+        && numbers.len() == 8
+        && numbers.get(2) == Some(&u64::MAX)
+        && numbers.last() == Some(&72623859790382856)
+}
+
+// A walk is read, and what was read is written again, byte by byte.
+fn is_walk_written_again(alloc: Global) -> Result<bool, AllocError> {
+    let mut shelf = MemShelf::new(alloc);
+    shelf.put_file("record", WALK)?;
+    let Ok(file) = read_record_file(alloc, &mut shelf, "record") else {
+        return Ok(false);
+    };
+    let is_written = is_walk_written(&file, &mut shelf);
+    Ok(is_written && shelf.file("again") == Some(WALK))
+}
+
+#[test]
+fn walk_written_again(rt: HostRuntime) {
+    assert!(rt; WALK.len() == 111);
+    expect_true(&rt, is_walk_written_again(rt.alloc()));
 }
 
 const REFUSED_WALKS: &[Change<'static>] = &[
@@ -250,9 +280,8 @@ const REFUSED_WALKS: &[Change<'static>] = &[
 ];
 
 #[test]
-fn walk_refusals(rt: HostRuntime) -> Result<(), Fail> {
-    assert_eq!(rt; wrong_change(rt.alloc(), WALK, REFUSED_WALKS)?, None);
-    Ok(())
+fn walk_refusals(rt: HostRuntime) {
+    expect_none(&rt, wrong_change(rt.alloc(), WALK, REFUSED_WALKS));
 }
 
 // The file of two blocks over a sample of 4 x 1 x 1: one of 2 x 2 cells without boundaries, and one of 2 x 3
@@ -267,32 +296,52 @@ const BLOCKS: &[u8] =
     \0\x03\0\x02\0\x03\
     \0\0\0\x07\0\0\0\x08\0\0\0\x09\0\0\0\x0a\0\0\0\x0b\xff\xff\xff\xff";
 
+// Whether a boundary has this path and these sums.
+fn is_boundary(found: &Option<BoundaryRecord>, path: &[u16], sums: &[u32]) -> bool {
+    match found {
+        Some(of) => of.path.as_slice() == path && of.sums.as_slice() == sums,
+        None => false,
+    }
+}
+
+// The second block.
+fn is_second(block: &BlockRecord) -> bool {
+    block.placement.rect.corner.y == 258
+        && block.placement.rect.size.h == 3
+        && block.placement.from.x == 259
+        && is_boundary(&block.left, &[0, 1, 258], &[1, 2, 3, 4, 5, 6])
+        && is_boundary(&block.top, &[2, 3], &[7, 8, 9, 10, 11, u32::MAX])
+}
+
+// Whether the file is that of these blocks, and is written again.
+fn are_blocks_written(file: &RecordFile, shelf: &mut MemShelf) -> bool
+    requires { IsRecordFile file.now }
+{
+    let RecordFile::Blocks { head, blocks } = file else {
+        return false;
+    };
+    let is_written = write_blocks(head, blocks.as_slice(), shelf, "again").is_ok();
+    match blocks.as_slice() {
+        [_, block] => is_written && is_second(block),
+        _ => false,
+    }
+}
+
 // Blocks are read, and what was read is written again, byte by byte.
-#[test]
-fn blocks_written_again(rt: HostRuntime) -> Result<(), Fail> {
-    let alloc = rt.alloc();
-    assert!(rt; BLOCKS.len() == 126);
+fn are_blocks_written_again(alloc: Global) -> Result<bool, AllocError> {
     let mut shelf = MemShelf::new(alloc);
     shelf.put_file("record", BLOCKS)?;
-    let file = read_record_file(alloc, &mut shelf, "record")?;
-    let RecordFile::Blocks { head, blocks } = &file else {
-        return Err("no blocks".into());
+    let Ok(file) = read_record_file(alloc, &mut shelf, "record") else {
+        return Ok(false);
     };
-    let [_, block] = blocks.as_slice() else {
-        return Err("not two blocks".into());
-    };
-    assert!(rt; block.placement.rect.corner.y == 258);
-    assert!(rt; block.placement.rect.size.h == 3);
-    assert!(rt; block.placement.from.x == 259);
-    let left = block.left.as_ref().ok_or("no left boundary")?;
-    assert!(rt; left.path.as_slice() == [0u16, 1, 258].as_slice());
-    assert!(rt; left.sums.as_slice() == [1u32, 2, 3, 4, 5, 6].as_slice());
-    let top = block.top.as_ref().ok_or("no top boundary")?;
-    assert!(rt; top.path.as_slice() == [2u16, 3].as_slice());
-    assert!(rt; top.sums.as_slice() == [7u32, 8, 9, 10, 11, u32::MAX].as_slice());
-    write_blocks(head, blocks.as_slice(), &mut shelf, "again")?;
-    assert!(rt; shelf.file("again").unwrap_or(b"") == BLOCKS);
-    Ok(())
+    let are_written = are_blocks_written(&file, &mut shelf);
+    Ok(are_written && shelf.file("again") == Some(BLOCKS))
+}
+
+#[test]
+fn blocks_written_again(rt: HostRuntime) {
+    assert!(rt; BLOCKS.len() == 126);
+    expect_true(&rt, are_blocks_written_again(rt.alloc()));
 }
 
 const REFUSED_BLOCKS: &[Change<'static>] = &[
@@ -332,7 +381,6 @@ const REFUSED_BLOCKS: &[Change<'static>] = &[
 ];
 
 #[test]
-fn blocks_refusals(rt: HostRuntime) -> Result<(), Fail> {
-    assert_eq!(rt; wrong_change(rt.alloc(), BLOCKS, REFUSED_BLOCKS)?, None);
-    Ok(())
+fn blocks_refusals(rt: HostRuntime) {
+    expect_none(&rt, wrong_change(rt.alloc(), BLOCKS, REFUSED_BLOCKS));
 }

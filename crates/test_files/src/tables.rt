@@ -1,6 +1,7 @@
 // Each byte of small files, turned to each other value.
 use crate::blocks::{BLOCKS, BLOCKS_NUMBERS, BLOCKS_ROWS};
 use crate::cuts::{CUTS, CUTS_NUMBERS, CUTS_ROWS};
+use crate::expect::expect_no_place;
 use crate::maps::{
     CELL_MAP, CELL_MAP_NUMBERS, CELL_MAP_ROWS, FRAME_MAP, FRAME_MAP_NUMBERS, FRAME_MAP_ROWS,
     NUMBERED_MAP, NUMBERED_MAP_NUMBERS, NUMBERED_MAP_ROWS,
@@ -9,7 +10,6 @@ use crate::numbered_cuts::{NUMBERED_CUTS, NUMBERED_CUTS_NUMBERS, NUMBERED_CUTS_R
 use crate::rows::{Reader, Table, are_in_order, has_numbers, try_rows};
 use crate::walk::{WALK, WALK_NUMBERS, WALK_ROWS};
 use std::alloc::{AllocError, Global};
-use std::test::Fail;
 
 // Whether a file has its numbers, and each other value of each of its bytes stands in one row of its table and is read as
 // that says. Where not, it gives a place and a value.
@@ -32,9 +32,8 @@ const OF_CUTS: Table<'static> = Table {
 };
 
 #[test]
-fn cuts(rt: HostRuntime) -> Result<(), Fail> {
-    assert_eq!(rt; wrong(rt.alloc(), &OF_CUTS)?, None);
-    Ok(())
+fn cuts(rt: HostRuntime) {
+    expect_no_place(&rt, wrong(rt.alloc(), &OF_CUTS));
 }
 
 const OF_NUMBERED_CUTS: Table<'static> = Table {
@@ -45,9 +44,8 @@ const OF_NUMBERED_CUTS: Table<'static> = Table {
 };
 
 #[test]
-fn numbered_cuts(rt: HostRuntime) -> Result<(), Fail> {
-    assert_eq!(rt; wrong(rt.alloc(), &OF_NUMBERED_CUTS)?, None);
-    Ok(())
+fn numbered_cuts(rt: HostRuntime) {
+    expect_no_place(&rt, wrong(rt.alloc(), &OF_NUMBERED_CUTS));
 }
 
 const OF_BLOCKS: Table<'static> = Table {
@@ -58,9 +56,8 @@ const OF_BLOCKS: Table<'static> = Table {
 };
 
 #[test]
-fn blocks(rt: HostRuntime) -> Result<(), Fail> {
-    assert_eq!(rt; wrong(rt.alloc(), &OF_BLOCKS)?, None);
-    Ok(())
+fn blocks(rt: HostRuntime) {
+    expect_no_place(&rt, wrong(rt.alloc(), &OF_BLOCKS));
 }
 
 const OF_WALK: Table<'static> = Table {
@@ -71,9 +68,8 @@ const OF_WALK: Table<'static> = Table {
 };
 
 #[test]
-fn a_walk(rt: HostRuntime) -> Result<(), Fail> {
-    assert_eq!(rt; wrong(rt.alloc(), &OF_WALK)?, None);
-    Ok(())
+fn a_walk(rt: HostRuntime) {
+    expect_no_place(&rt, wrong(rt.alloc(), &OF_WALK));
 }
 
 const OF_CELL_MAP: Table<'static> = Table {
@@ -84,9 +80,8 @@ const OF_CELL_MAP: Table<'static> = Table {
 };
 
 #[test]
-fn a_map_of_cells(rt: HostRuntime) -> Result<(), Fail> {
-    assert_eq!(rt; wrong(rt.alloc(), &OF_CELL_MAP)?, None);
-    Ok(())
+fn a_map_of_cells(rt: HostRuntime) {
+    expect_no_place(&rt, wrong(rt.alloc(), &OF_CELL_MAP));
 }
 
 const OF_NUMBERED_MAP: Table<'static> = Table {
@@ -97,9 +92,8 @@ const OF_NUMBERED_MAP: Table<'static> = Table {
 };
 
 #[test]
-fn a_map_of_cells_of_two_samples(rt: HostRuntime) -> Result<(), Fail> {
-    assert_eq!(rt; wrong(rt.alloc(), &OF_NUMBERED_MAP)?, None);
-    Ok(())
+fn a_map_of_cells_of_two_samples(rt: HostRuntime) {
+    expect_no_place(&rt, wrong(rt.alloc(), &OF_NUMBERED_MAP));
 }
 
 const OF_FRAME_MAP: Table<'static> = Table {
@@ -110,7 +104,6 @@ const OF_FRAME_MAP: Table<'static> = Table {
 };
 
 #[test]
-fn a_map_of_frames(rt: HostRuntime) -> Result<(), Fail> {
-    assert_eq!(rt; wrong(rt.alloc(), &OF_FRAME_MAP)?, None);
-    Ok(())
+fn a_map_of_frames(rt: HostRuntime) {
+    expect_no_place(&rt, wrong(rt.alloc(), &OF_FRAME_MAP));
 }

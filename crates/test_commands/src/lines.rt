@@ -6,7 +6,6 @@ use loop_command::loop_clip;
 use quilt_command::quilt_picture;
 use shelf_core::{MemShelf, MemSink};
 use std::alloc::{AllocError, Global};
-use std::test::Fail;
 use synth_report::{Fault, Summary};
 use upgrade_command::upgrade;
 
@@ -42,10 +41,10 @@ pub(crate) fn answer(
     line: &str,
     shelf: &mut MemShelf,
     out: &mut MemSink,
-) -> Result<Result<Summary, Fault>, Fail> {
+) -> Result<Result<Summary, Fault>, AllocError> {
     let words = words_of(alloc, line)?;
     match read_job(alloc, &words) {
         Ok(job) => Ok(done(alloc, &job, shelf, out)),
-        Err(_) => Err(Fail::from("refused words")),
+        Err(fault) => Ok(Err(Fault::Words(fault))),
     }
 }

@@ -1,8 +1,8 @@
 // Worked examples, over a clip of one grey cell a frame.
+use crate::expect::{expect_none, expect_true};
 use crate::lines::answer;
 use shelf_core::{FormFault, MemShelf, MemSink};
-use std::alloc::Global;
-use std::test::Fail;
+use std::alloc::{AllocError, Global};
 use synth_report::{Fault, FileOf, Summary};
 
 // Frames 0, 3, 0 and 3.
@@ -15,7 +15,11 @@ const THREE: &[u8] = b"YUV4MPEG2 W1 H1 F25:1 Cmono\nFRAME\n\x00FRAME\n\x03FRAME\
 const PICTURE: &[u8] = b"P6\n1 1\n255\n\0\0\0";
 
 // What a line of words answers over a sample.
-fn answer_of(alloc: Global, sample: &[u8], line: &str) -> Result<Result<Summary, Fault>, Fail> {
+fn answer_of(
+    alloc: Global,
+    sample: &[u8],
+    line: &str,
+) -> Result<Result<Summary, Fault>, AllocError> {
     let mut shelf = MemShelf::new(alloc);
     let mut out = MemSink::new(alloc);
     shelf.put_file("s", sample)?;
@@ -77,28 +81,40 @@ fn is_answer(found: Result<Summary, Fault>, wanted: &Result<(u32, u64), Fault>) 
     }
 }
 
-#[test]
-fn lengths_of_loops(rt: HostRuntime) -> Result<(), Fail> {
-    for (sample, line, wanted) in LENGTHS.iter() {
-        let found = answer_of(rt.alloc(), *sample, *line)?;
-        assert!(rt; is_answer(found, wanted), "{line}");
+// The number of the first row, from 0, with another answer.
+fn wrong_length(alloc: Global, table: &[Row]) -> Result<Option<usize>, AllocError> {
+    for (i, (sample, line, wanted)) in table.iter().enumerate() {
+        if !is_answer(answer_of(alloc, *sample, *line)?, wanted) {
+            return Ok(Some(i));
+        }
     }
-    Ok(())
+    Ok(None)
+}
+
+#[test]
+fn lengths_of_loops(rt: HostRuntime) {
+    expect_none(&rt, wrong_length(rt.alloc(), LENGTHS));
 }
 
 // Frames 0 and 1, and the table of the least costs of two steps.
-#[test]
-fn files_of_a_loop(rt: HostRuntime) -> Result<(), Fail> {
-    let mut shelf = MemShelf::new(rt.alloc());
-    let mut out = MemSink::new(rt.alloc());
+fn are_files_of_a_loop(alloc: Global) -> Result<bool, AllocError> {
+    let mut shelf = MemShelf::new(alloc);
+    let mut out = MemSink::new(alloc);
     shelf.put_file("s", FOUR)?;
     let line = "loop sample=s out=o map=m record=r length=2 taps=0 gap=1";
-    assert!(rt; answer(rt.alloc(), line, &mut shelf, &mut out)?.is_ok());
-    assert!(rt; shelf.file("o") == Some(TWO));
-    assert!(rt; shelf.file("m") == Some(MAP));
-    assert!(rt; shelf.file("r") == Some(RECORD));
-    assert!(rt; out.bytes() == REPORT);
-    Ok(())
+    let found = answer(alloc, line, &mut shelf, &mut out)?;
+    Ok(
+        found.is_ok()
+            && shelf.file("o") == Some(TWO)
+            && shelf.file("m") == Some(MAP)
+            && shelf.file("r") == Some(RECORD)
+            && out.bytes() == REPORT,
+    )
+}
+
+#[test]
+fn files_of_a_loop(rt: HostRuntime) {
+    expect_true(&rt, are_files_of_a_loop(rt.alloc()));
 }
 
 const REPORT: &[u8] = b"loop 2\nstart 0\ncost 0\n";

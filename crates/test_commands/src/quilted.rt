@@ -1,8 +1,8 @@
 // Whole runs over a store in memory.
+use crate::expect::{expect_none, expect_true};
 use crate::lines::answer;
 use shelf_core::{FormFault, MemShelf, MemSink, What};
-use std::alloc::Global;
-use std::test::Fail;
+use std::alloc::{AllocError, Global};
 use synth_report::{Fault, FileOf};
 
 // A row of grey cells 10, 20, 30 and 40.
@@ -15,23 +15,30 @@ const PICTURE: &[u8] =
 
 const REPORT: &[u8] = b"quilt 6x1x1\nblocks 2\nboundaries 1\ncost 1200\n";
 
-#[test]
-fn two_blocks(rt: HostRuntime) -> Result<(), Fail> {
-    let alloc = rt.alloc();
+// The record has the head and the count, a block without boundary, and one with a path of one column and two sums.
+const RECORD_BYTES: usize = 38 + 13 + (13 + 4 + 8);
+
+fn are_two_blocks(alloc: Global) -> Result<bool, AllocError> {
     let mut shelf = MemShelf::new(alloc);
-    shelf.put_file("s", ROW)?;
     let mut out = MemSink::new(alloc);
+    shelf.put_file("s", ROW)?;
     let line = "quilt sample=s out=o map=m record=r width=6 height=1 block=4 overlap=2";
-    assert!(rt; answer(alloc, line, &mut shelf, &mut out)?.is_ok());
-    assert!(rt; shelf.file("o") == Some(PICTURE));
-    assert!(rt; out.bytes() == REPORT);
-    // the head and the count, a block without boundary, and one with a path of one column and two sums
-    assert!(rt; shelf.file("r").map(|record| record.len()) == Some(38 + 13 + (13 + 4 + 8)));
-    Ok(())
+    let found = answer(alloc, line, &mut shelf, &mut out)?;
+    Ok(
+        found.is_ok()
+            && shelf.file("o") == Some(PICTURE)
+            && out.bytes() == REPORT
+            && shelf.file("r").unwrap_or(b"").len() == RECORD_BYTES,
+    )
+}
+
+#[test]
+fn two_blocks(rt: HostRuntime) {
+    expect_true(&rt, are_two_blocks(rt.alloc()));
 }
 
 // What a line of words answers over a sample, where it isn't begun with the out file.
-fn refusal(alloc: Global, sample: &[u8], line: &str) -> Result<Option<Fault>, Fail> {
+fn refusal(alloc: Global, sample: &[u8], line: &str) -> Result<Option<Fault>, AllocError> {
     let mut shelf = MemShelf::new(alloc);
     let mut out = MemSink::new(alloc);
     shelf.put_file("s", sample)?;
@@ -54,12 +61,30 @@ const TOO_LARGE: Fault = Fault::Limit {
 };
 
 // A clip isn't read, and an output of too many cells isn't begun.
+const REFUSED: &[(&[u8], &str, Fault)] = &[
+    (
+        b"YUV4MPEG2 W1 H1\n",
+        "quilt sample=s out=o map=m record=r width=1 height=1",
+        NO_PICTURE,
+    ),
+    (
+        ROW,
+        "quilt sample=s out=o map=m record=r width=1025 height=1024",
+        TOO_LARGE,
+    ),
+];
+
+// The number of the first row, from 0, that isn't refused so.
+fn wrong_refusal(alloc: Global) -> Result<Option<usize>, AllocError> {
+    for (i, (sample, line, fault)) in REFUSED.iter().enumerate() {
+        if refusal(alloc, *sample, *line)? != Some(*fault) {
+            return Ok(Some(i));
+        }
+    }
+    Ok(None)
+}
+
 #[test]
-fn refusals(rt: HostRuntime) -> Result<(), Fail> {
-    let alloc = rt.alloc();
-    let small = "quilt sample=s out=o map=m record=r width=1 height=1";
-    assert!(rt; refusal(alloc, b"YUV4MPEG2 W1 H1\n", small)? == Some(NO_PICTURE));
-    let large = "quilt sample=s out=o map=m record=r width=1025 height=1024";
-    assert!(rt; refusal(alloc, ROW, large)? == Some(TOO_LARGE));
-    Ok(())
+fn refusals(rt: HostRuntime) {
+    expect_none(&rt, wrong_refusal(rt.alloc()));
 }

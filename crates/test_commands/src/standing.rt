@@ -2,6 +2,7 @@
 ghost use Rattle.std.specs.Prelude.{IfOk};
 ghost use Rattle.sample_files.specs.Several.{AreSoundSamples};
 
+use crate::expect::expect_none;
 use block_check::{FIT_RULE, OVERLAP_RULE};
 use cert_file::read_record_file;
 use cut_check::{FILL_RULE, VALUE_RULE};
@@ -12,7 +13,6 @@ use source_map::read_map;
 use standing_files::Verdict::{Fails, Stands};
 use standing_files::{MAP_RULE, PICTURE_RULE, TOGETHER_RULE, Verdict, judge};
 use std::alloc::{AllocError, Global};
-use std::test::Fail;
 use strip_boundary::{COST_RULE, PATH_RULE, SUMS_RULE};
 
 // Four cells of grey in a row: 10, 20, 30 and 40.
@@ -44,13 +44,41 @@ fn with_others(alloc: Global, bytes: &[u8], others: &[(usize, u8)]) -> Result<Ve
 }
 
 // Reads a sample, alone.
-fn read_one(alloc: Global, shelf: &mut MemShelf) -> Result<Samples, Fail>
+fn read_one(alloc: Global, shelf: &mut MemShelf) -> Result<Samples, AllocError>
     ensures { IfOk result AreSoundSamples }
 {
     let Ok(Sample { form, volume }) = read_sample(alloc, shelf, "s") else {
-        return Err(Fail::from("no sample"));
+        return Err(AllocError);
     };
     Ok(Samples { form, volume })
+}
+
+fn put_files(
+    shelf: &mut MemShelf,
+    sample: &[u8],
+    out: &[u8],
+    map: &[u8],
+    record: &[u8],
+) -> Result<(), AllocError> {
+    shelf.put_file("s", sample)?;
+    shelf.put_file("o", out)?;
+    shelf.put_file("m", map)?;
+    shelf.put_file("r", record)
+}
+
+// The verdict on the files of a shelf, where each is read.
+fn verdict_of(alloc: Global, shelf: &mut MemShelf) -> Result<Verdict, AllocError> {
+    let samples = read_one(alloc, shelf)?;
+    let Ok(out) = read_sample(alloc, shelf, "o") else {
+        return Err(AllocError);
+    };
+    let Ok(map_file) = read_map(alloc, shelf, "m") else {
+        return Err(AllocError);
+    };
+    let Ok(record_file) = read_record_file(alloc, shelf, "r") else {
+        return Err(AllocError);
+    };
+    judge(alloc, &samples, &out, &map_file, &record_file)
 }
 
 // The verdict on these files.
@@ -60,21 +88,10 @@ fn verdict_on(
     out: &[u8],
     map: &[u8],
     record: &[u8],
-) -> Result<Verdict, Fail> {
+) -> Result<Verdict, AllocError> {
     let mut shelf = MemShelf::new(alloc);
-    shelf.put_file("s", sample)?;
-    shelf.put_file("o", out)?;
-    shelf.put_file("m", map)?;
-    shelf.put_file("r", record)?;
-    let samples = read_one(alloc, &mut shelf)?;
-    let out = read_sample(alloc, &mut shelf, "o")
-        .ok()
-        .ok_or("no picture")?;
-    let map_file = read_map(alloc, &mut shelf, "m").ok().ok_or("no map")?;
-    let Ok(record_file) = read_record_file(alloc, &mut shelf, "r") else {
-        return Err(Fail::from("no record"));
-    };
-    Ok(judge(alloc, &samples, &out, &map_file, &record_file)?)
+    put_files(&mut shelf, sample, out, map, record)?;
+    verdict_of(alloc, &mut shelf)
 }
 
 // The sample, and the files of a run over it.
@@ -88,13 +105,19 @@ type Row<'a> = (
     Verdict,
 );
 
+// Whether the verdict of a row is given on its files.
+fn is_judged(alloc: Global, files: &Files, row: &Row) -> Result<bool, AllocError> {
+    let (out, map, record, verdict) = row;
+    let out = with_others(alloc, files.1, *out)?;
+    let map = with_others(alloc, files.2, *map)?;
+    let record = with_others(alloc, files.3, *record)?;
+    Ok(verdict_on(alloc, files.0, &out, &map, &record)? == *verdict)
+}
+
 // The number of the first row, from 0, on whose files another verdict is given.
-fn wrong_row(alloc: Global, files: &Files, table: &[Row]) -> Result<Option<usize>, Fail> {
-    for (i, (out, map, record, verdict)) in table.iter().enumerate() {
-        let out = with_others(alloc, files.1, *out)?;
-        let map = with_others(alloc, files.2, *map)?;
-        let record = with_others(alloc, files.3, *record)?;
-        if verdict_on(alloc, files.0, &out, &map, &record)? != *verdict {
+fn wrong_row(alloc: Global, files: &Files, table: &[Row]) -> Result<Option<usize>, AllocError> {
+    for (i, row) in table.iter().enumerate() {
+        if !is_judged(alloc, files, row)? {
             return Ok(Some(i));
         }
     }
@@ -191,9 +214,8 @@ const CUT_ROWS: &[Row<'static>] = &[
 ];
 
 #[test]
-fn first_broken_rules(rt: HostRuntime) -> Result<(), Fail> {
-    assert_eq!(rt; wrong_row(rt.alloc(), &CUTS, CUT_ROWS)?, None);
-    Ok(())
+fn first_broken_rules(rt: HostRuntime) {
+    expect_none(&rt, wrong_row(rt.alloc(), &CUTS, CUT_ROWS));
 }
 
 // Four cells of grey in a row: 10, 20, 30 and 60.
@@ -307,10 +329,9 @@ const APART: &[Row<'static>] = &[(
 )];
 
 #[test]
-fn first_broken_rules_of_quilts(rt: HostRuntime) -> Result<(), Fail> {
-    assert_eq!(rt; wrong_row(rt.alloc(), &QUILTS, QUILT_ROWS)?, None);
-    assert_eq!(rt; wrong_row(rt.alloc(), &QUILTED_CLIPS, APART)?, None);
-    Ok(())
+fn first_broken_rules_of_quilts(rt: HostRuntime) {
+    expect_none(&rt, wrong_row(rt.alloc(), &QUILTS, QUILT_ROWS));
+    expect_none(&rt, wrong_row(rt.alloc(), &QUILTED_CLIPS, APART));
 }
 
 // Three frames of one cell: 10, 20 and 11. The step from the second to the first costs 1.
@@ -406,8 +427,7 @@ const LONGER_ROWS: &[Row<'static>] = &[(
 )];
 
 #[test]
-fn first_broken_rules_of_loops(rt: HostRuntime) -> Result<(), Fail> {
-    assert_eq!(rt; wrong_row(rt.alloc(), &LOOPS, LOOP_ROWS)?, None);
-    assert_eq!(rt; wrong_row(rt.alloc(), &LONGER_LOOPS, LONGER_ROWS)?, None);
-    Ok(())
+fn first_broken_rules_of_loops(rt: HostRuntime) {
+    expect_none(&rt, wrong_row(rt.alloc(), &LOOPS, LOOP_ROWS));
+    expect_none(&rt, wrong_row(rt.alloc(), &LONGER_LOOPS, LONGER_ROWS));
 }

@@ -1,27 +1,41 @@
 // The sample of a number, against bytes that a program of another language made of ChaCha8's words.
+use crate::expect::expect_none;
 use cells::At;
-use std::test::Fail;
+use std::alloc::{AllocError, Global};
 use trial_sample::trial_sample;
 
 const FIRST: At = At { x: 0, y: 0, f: 0 };
 
 const LAST: At = At { x: 63, y: 63, f: 0 };
 
-#[test]
-fn bytes_of_two_samples(rt: HostRuntime) -> Result<(), Fail> {
-    let table: [(u32, [u8; 3], [u8; 3], u64); 2] = [
-        (1, [5, 59, 8], [43, 47, 14], 973413),
-        (4294967295, [25, 58, 43], [30, 4, 24], 978876),
-    ];
-    for (n, first, last, sum) in table {
-        let sample = trial_sample(rt.alloc(), n)?;
-        assert!(rt; sample.cell(FIRST) == Some(first.as_slice()));
-        assert!(rt; sample.cell(LAST) == Some(last.as_slice()));
-        let mut all = 0;
-        for byte in sample.bytes() {
-            all = u64::min(all, 1_000_000) + u64::from(*byte);
-        }
-        assert!(rt; all == sum);
+// A number, the first and the last cell of its sample, and the sum of all bytes.
+const SAMPLES: &[(u32, [u8; 3], [u8; 3], u64)] = &[
+    (1, [5, 59, 8], [43, 47, 14], 973413),
+    (4294967295, [25, 58, 43], [30, 4, 24], 978876),
+];
+
+fn sum_of(bytes: &[u8]) -> u64 {
+    let mut all = 0;
+    for byte in bytes {
+        all = u64::min(all, 1_000_000) + u64::from(*byte);
     }
-    Ok(())
+    all
+}
+
+// The number of the first sample, from 0, with other bytes.
+fn wrong_sample(alloc: Global) -> Result<Option<usize>, AllocError> {
+    for (i, (n, first, last, sum)) in SAMPLES.iter().enumerate() {
+        let sample = trial_sample(alloc, *n)?;
+        let are_ends = sample.cell(FIRST) == Some(first.as_slice())
+            && sample.cell(LAST) == Some(last.as_slice());
+        if !are_ends || sum_of(sample.bytes()) != *sum {
+            return Ok(Some(i));
+        }
+    }
+    Ok(None)
+}
+
+#[test]
+fn bytes_of_two_samples(rt: HostRuntime) {
+    expect_none(&rt, wrong_sample(rt.alloc()));
 }

@@ -1,7 +1,7 @@
+use crate::expect::{expect_none, expect_true};
 use crate::lines::answer;
 use shelf_core::{FormFault, MemShelf, MemSink};
-use std::alloc::Global;
-use std::test::Fail;
+use std::alloc::{AllocError, Global};
 use synth_report::{Fault, FileOf, Summary};
 
 // An output of 6 x 1 x 1 cells over a sample of 4 x 1 x 1: the sample's cells 0, 1, 2, 1, 2, 3.
@@ -36,24 +36,29 @@ fn answer_over(
     out: &mut MemSink,
     map: &[u8],
     record: &[u8],
-) -> Result<Result<Summary, Fault>, Fail> {
+) -> Result<Result<Summary, Fault>, AllocError> {
     shelf.put_file("m", map)?;
     shelf.put_file("r", record)?;
     answer(alloc, LINE, shelf, out)
 }
 
-#[test]
-fn a_pair_in_version_two(rt: HostRuntime) -> Result<(), Fail> {
-    let alloc = rt.alloc();
+fn is_in_version_two(alloc: Global) -> Result<bool, AllocError> {
     let mut shelf = MemShelf::new(alloc);
     let mut out = MemSink::new(alloc);
-    assert!(rt; answer_over(alloc, &mut shelf, &mut out, MAP, RECORD)?.is_ok());
+    let found = answer_over(alloc, &mut shelf, &mut out, MAP, RECORD)?;
+    Ok(
+        found.is_ok()
+            && shelf.file("n") == Some(NEW_MAP)
+            && shelf.file("s") == Some(NEW_RECORD)
+            && out.bytes() == b"upgrade 6 2\n".as_slice(),
+    )
+}
+
+#[test]
+fn a_pair_in_version_two(rt: HostRuntime) {
     assert!(rt; MAP.len() == 70 && RECORD.len() == 100);
     assert!(rt; NEW_MAP.len() == 84 && NEW_RECORD.len() == 106);
-    assert!(rt; shelf.file("n") == Some(NEW_MAP));
-    assert!(rt; shelf.file("s") == Some(NEW_RECORD));
-    assert!(rt; out.bytes() == b"upgrade 6 2\n".as_slice());
-    Ok(())
+    expect_true(&rt, is_in_version_two(rt.alloc()));
 }
 
 // A map, a record, and the file that is refused with the place.
@@ -65,14 +70,17 @@ const REFUSED: &[(&[u8], &[u8], FileOf, u64)] = &[
 ];
 
 // Why two files are refused.
-fn refusal(alloc: Global, map: &[u8], record: &[u8]) -> Result<Option<Fault>, Fail> {
+fn refusal(alloc: Global, map: &[u8], record: &[u8]) -> Result<Option<Fault>, AllocError> {
     let mut shelf = MemShelf::new(alloc);
     let mut out = MemSink::new(alloc);
     Ok(answer_over(alloc, &mut shelf, &mut out, map, record)?.err())
 }
 
 // The number of the first pair, from 0, that isn't refused so.
-fn wrong_pair(alloc: Global, table: &[(&[u8], &[u8], FileOf, u64)]) -> Result<Option<usize>, Fail> {
+fn wrong_pair(
+    alloc: Global,
+    table: &[(&[u8], &[u8], FileOf, u64)],
+) -> Result<Option<usize>, AllocError> {
     for (i, (map, record, file, at)) in table.iter().enumerate() {
         let fault = Fault::Form {
             file: *file,
@@ -86,7 +94,6 @@ fn wrong_pair(alloc: Global, table: &[(&[u8], &[u8], FileOf, u64)]) -> Result<Op
 }
 
 #[test]
-fn later_files_are_refused(rt: HostRuntime) -> Result<(), Fail> {
-    assert_eq!(rt; wrong_pair(rt.alloc(), REFUSED)?, None);
-    Ok(())
+fn later_files_are_refused(rt: HostRuntime) {
+    expect_none(&rt, wrong_pair(rt.alloc(), REFUSED));
 }

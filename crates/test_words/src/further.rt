@@ -1,5 +1,6 @@
 // The words of `transfer`, `merge` and `tile`, by the calls that read them: `read_job` doesn't know the commands
 // `transfer` and `merge`.
+use crate::expect::expect_no_row;
 use crate::jobs::{are_names, is_name, words_of};
 use cells::{Axis, Size};
 use job_words::{
@@ -155,7 +156,7 @@ fn wrong_words(alloc: Global) -> Option<usize> {
 
 #[test]
 fn refusals(rt: HostRuntime) {
-    assert_eq!(rt; wrong_words(rt.alloc()), None);
+    expect_no_row(&rt, wrong_words(rt.alloc()));
 }
 
 // The files of a transfer whose names are s, t, o, m and r.
@@ -189,24 +190,26 @@ fn is_transferred(alloc: Global, words: &[&str], numbers: (u32, u32, u32, u32, u
     }
 }
 
+const FEW_OF_TRANSFER: &[&str] = &["record=r", "map=m", "out=o", "target=t", "sample=s"];
+
+const ALL_OF_TRANSFER: &[&str] = &[
+    "seed=18446744073709551615",
+    "alpha=100",
+    "tol=1000",
+    "overlap=4095",
+    "block=4096",
+    "sample=s",
+    "target=t",
+    "out=o",
+    "map=m",
+    "record=r",
+];
+
 #[test]
 fn transfers(rt: HostRuntime) {
-    let words = ["record=r", "map=m", "out=o", "target=t", "sample=s"];
-    assert!(rt; is_transferred(rt.alloc(), &words, (32, 5, 10, 50, 0)));
-    let words = [
-        "seed=18446744073709551615",
-        "alpha=100",
-        "tol=1000",
-        "overlap=4095",
-        "block=4096",
-        "sample=s",
-        "target=t",
-        "out=o",
-        "map=m",
-        "record=r",
-    ];
+    assert!(rt; is_transferred(rt.alloc(), FEW_OF_TRANSFER, (32, 5, 10, 50, 0)));
     let greatest = (4096, 4095, 1000, 100, u64::MAX);
-    assert!(rt; is_transferred(rt.alloc(), &words, greatest));
+    assert!(rt; is_transferred(rt.alloc(), ALL_OF_TRANSFER, greatest));
 }
 
 fn has_pictures(job: &MergeJob, more: &[&str]) -> bool {
@@ -228,20 +231,22 @@ fn is_merged(alloc: Global, words: &[&str], more: &[&str]) -> bool {
     }
 }
 
+const TWO_OF_MERGE: &[&str] = &["map=m", "out=o", "marks=k", "sample2=b", "sample=a"];
+
+const FOUR_OF_MERGE: &[&str] = &[
+    "sample4=d",
+    "sample3=c",
+    "map=m",
+    "out=o",
+    "marks=k",
+    "sample2=b",
+    "sample=a",
+];
+
 #[test]
 fn merges(rt: HostRuntime) {
-    let words = ["map=m", "out=o", "marks=k", "sample2=b", "sample=a"];
-    assert!(rt; is_merged(rt.alloc(), &words, &["b"]));
-    let words = [
-        "sample4=d",
-        "sample3=c",
-        "map=m",
-        "out=o",
-        "marks=k",
-        "sample2=b",
-        "sample=a",
-    ];
-    assert!(rt; is_merged(rt.alloc(), &words, &["b", "c", "d"]));
+    assert!(rt; is_merged(rt.alloc(), TWO_OF_MERGE, &["b"]));
+    assert!(rt; is_merged(rt.alloc(), FOUR_OF_MERGE, &["b", "c", "d"]));
 }
 
 // What a job of `tile` has, but for its files.
@@ -308,24 +313,26 @@ const WHOLE: Tiled = Tiled {
     seed: u64::MAX,
 };
 
+const FEW_OF_TILE: &[&str] = &["height=3", "width=3", "map=m", "out=o", "sample=a"];
+
+const ALL_OF_TILE: &[&str] = &[
+    "seed=18446744073709551615",
+    "tol=1000",
+    "overlap=4095",
+    "box=4096",
+    "wrap=xyf",
+    "frames=3",
+    "height=4096",
+    "width=3",
+    "map=m",
+    "out=o",
+    "sample=a",
+];
+
 #[test]
 fn tiles(rt: HostRuntime) {
-    let words = ["height=3", "width=3", "map=m", "out=o", "sample=a"];
-    assert!(rt; is_tiled(rt.alloc(), &words, &DEFAULTS));
-    let words = [
-        "seed=18446744073709551615",
-        "tol=1000",
-        "overlap=4095",
-        "box=4096",
-        "wrap=xyf",
-        "frames=3",
-        "height=4096",
-        "width=3",
-        "map=m",
-        "out=o",
-        "sample=a",
-    ];
-    assert!(rt; is_tiled(rt.alloc(), &words, &WHOLE));
+    assert!(rt; is_tiled(rt.alloc(), FEW_OF_TILE, &DEFAULTS));
+    assert!(rt; is_tiled(rt.alloc(), ALL_OF_TILE, &WHOLE));
 }
 
 // The text of each set of axes, a size that is as small as it may be, and what is then asked for.
@@ -393,5 +400,5 @@ fn wrong_wrap(alloc: Global) -> Option<usize> {
 
 #[test]
 fn wraps(rt: HostRuntime) {
-    assert_eq!(rt; wrong_wrap(rt.alloc()), None);
+    expect_no_row(&rt, wrong_wrap(rt.alloc()));
 }

@@ -1,8 +1,8 @@
+use crate::expect::{expect_no_row, expect_true};
 use cells::Size;
 use job_words::{Key, WordFault};
 use shelf_core::{FormFault, MemSink, What};
-use std::alloc::Global;
-use std::test::Fail;
+use std::alloc::{AllocError, Global};
 use synth_report::{Fault, FileOf, Summary, report, say_fault, status};
 
 // Faults, with their statuses and their lines.
@@ -218,32 +218,36 @@ fn wrong_line(alloc: Global, table: &[(Fault, u8, &str)]) -> Option<usize> {
 
 #[test]
 fn lines(rt: HostRuntime) {
-    assert_eq!(rt; wrong_line(rt.alloc(), LINES), None);
+    expect_no_row(&rt, wrong_line(rt.alloc(), LINES));
 }
 
+const SUMMARY: Summary = Summary::Grow {
+    size: Size { w: 3, h: 2, f: 1 },
+    placements: 6,
+    rounds: 0,
+    seams: 10710,
+};
+
+const REPORT: &[u8] = b"grow 3x2x1\nplacements 6\nrounds 0\nseams 10710\n";
+
 #[test]
-fn reports(rt: HostRuntime) -> Result<(), Fail> {
-    let summary = Summary::Grow {
-        size: Size { w: 3, h: 2, f: 1 },
-        placements: 6,
-        rounds: 0,
-        seams: 10710,
-    };
+fn reports(rt: HostRuntime) {
     let mut sink = MemSink::new(rt.alloc());
-    assert!(rt; report(&summary, &mut sink).is_ok());
-    let text = "grow 3x2x1\nplacements 6\nrounds 0\nseams 10710\n";
-    assert!(rt; sink.bytes() == text.as_bytes());
-    Ok(())
+    let is_said = report(&SUMMARY, &mut sink).is_ok();
+    assert!(rt; is_said && sink.bytes() == REPORT);
 }
+
+const REPEATED: Fault = Fault::Words(WordFault::Repeated(3));
 
 // A sink that fails in mid-line has the front of the line, and the call tells.
-#[test]
-fn failing_sink(rt: HostRuntime) -> Result<(), Fail> {
-    let mut sink = MemSink::new(rt.alloc());
+fn is_front(alloc: Global) -> Result<bool, AllocError> {
+    let mut sink = MemSink::new(alloc);
     sink.fail_at(4, 3)?;
-    let fault = Fault::Words(WordFault::Repeated(3));
-    assert!(rt; say_fault(&fault, &mut sink).is_err());
-    assert!(rt; sink.bytes() == b"weave: word 3: rep".as_slice());
-    assert!(rt; sink.faults() == 1);
-    Ok(())
+    let is_told = say_fault(&REPEATED, &mut sink).is_err() && sink.faults() == 1;
+    Ok(is_told && sink.bytes() == b"weave: word 3: rep".as_slice())
+}
+
+#[test]
+fn failing_sink(rt: HostRuntime) {
+    expect_true(&rt, is_front(rt.alloc()));
 }

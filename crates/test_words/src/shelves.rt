@@ -1,7 +1,8 @@
 // What no clause says: that the calls succeed while there is memory, and that the clauses mean what
 // the worked rows say.
+use crate::expect::expect_true;
 use shelf_core::{Call, MemShelf, MemSink, Shelf, Sink, SureShelf, SureSink};
-use std::test::Fail;
+use std::alloc::{AllocError, Global};
 
 // A call on a name with a piece, and whether it goes well.
 type Row<'a> = (Call, &'a str, &'a str, bool);
@@ -38,102 +39,126 @@ fn is_text(bytes: Option<&[u8]>, text: Option<&str>) -> bool {
     }
 }
 
-#[test]
-fn a_shelf_in_memory_holds_files(rt: HostRuntime) -> Result<(), Fail> {
-    let mut shelf = MemShelf::new(rt.alloc());
+const HELD: &[Row<'static>] = &[
+    (Call::Get, "f", "bcde", true),
+    (Call::Get, "g", "", false),
+    (Call::Begin, "g", "", true),
+    (Call::Get, "g", "", true),
+    (Call::Add, "g", "xy", true),
+    (Call::Add, "g", "z", true),
+    (Call::Get, "g", "yz", true),
+    (Call::Add, "h", "new", true),
+    (Call::Get, "h", "ew", true),
+    (Call::Begin, "f", "", true),
+];
+
+fn are_held(alloc: Global) -> Result<bool, AllocError> {
+    let mut shelf = MemShelf::new(alloc);
     shelf.put_file("f", b"abcdefgh")?;
     shelf.put_file("f", b"abcdef")?;
-    let rows = [
-        (Call::Get, "f", "bcde", true),
-        (Call::Get, "g", "", false),
-        (Call::Begin, "g", "", true),
-        (Call::Get, "g", "", true),
-        (Call::Add, "g", "xy", true),
-        (Call::Add, "g", "z", true),
-        (Call::Get, "g", "yz", true),
-        (Call::Add, "h", "new", true),
-        (Call::Get, "h", "ew", true),
-        (Call::Begin, "f", "", true),
-    ];
-    assert!(rt; answers(&mut shelf, &rows));
-    for (name, text) in [("f", Some("")), ("g", Some("xyz")), ("k", None)] {
-        assert!(rt; is_text(shelf.file(name), text), "{name}");
-    }
-    assert!(rt; shelf.read_faults() == 1 && shelf.write_faults() == 0);
-    Ok(())
+    let are_files = answers(&mut shelf, HELD)
+        && is_text(shelf.file("f"), Some(""))
+        && is_text(shelf.file("g"), Some("xyz"))
+        && is_text(shelf.file("k"), None);
+    Ok(are_files && shelf.read_faults() == 1 && shelf.write_faults() == 0)
 }
 
 #[test]
-fn listed_calls_of_a_shelf_fail(rt: HostRuntime) -> Result<(), Fail> {
-    let rows = [
-        (Call::Add, "f", "ab", true),
-        (Call::Add, "g", "ab", true),
-        (Call::Add, "f", "cd", false),
-        (Call::Get, "f", "b", false),
-        (Call::Add, "g", "cd", true),
-        (Call::Begin, "f", "", false),
-    ];
-    // What the earlier of two listings of the second add keeps, and the file then.
-    for (kept, text) in [(0, "ab"), (1, "abc"), (9, "abcd")] {
-        let mut shelf = MemShelf::new(rt.alloc());
-        shelf.fail_at(Call::Add, "f", 2, kept)?;
-        shelf.fail_at(Call::Add, "f", 2, 2)?;
-        shelf.fail_at(Call::Get, "f", 1, 1)?;
-        shelf.fail_at(Call::Begin, "f", 1, 1)?;
-        assert!(rt; answers(&mut shelf, &rows), "kept {kept}");
-        assert!(rt; is_text(shelf.file("f"), Some(text)), "kept {kept}");
-        assert!(rt; shelf.read_faults() == 1 && shelf.write_faults() == 2);
-    }
-    Ok(())
+fn a_shelf_in_memory_holds_files(rt: HostRuntime) {
+    expect_true(&rt, are_held(rt.alloc()));
+}
+
+const FAILING: &[Row<'static>] = &[
+    (Call::Add, "f", "ab", true),
+    (Call::Add, "g", "ab", true),
+    (Call::Add, "f", "cd", false),
+    (Call::Get, "f", "b", false),
+    (Call::Add, "g", "cd", true),
+    (Call::Begin, "f", "", false),
+];
+
+// Lists what fails: of two listings of the second add, the earlier keeps so many bytes.
+fn list_calls(shelf: &mut MemShelf, kept: usize) -> Result<(), AllocError> {
+    shelf.fail_at(Call::Add, "f", 2, kept)?;
+    shelf.fail_at(Call::Add, "f", 2, 2)?;
+    shelf.fail_at(Call::Get, "f", 1, 1)?;
+    shelf.fail_at(Call::Begin, "f", 1, 1)
+}
+
+// Whether the listed calls fail, and leave this text.
+fn shelf_fails(alloc: Global, kept: usize, text: &str) -> Result<bool, AllocError> {
+    let mut shelf = MemShelf::new(alloc);
+    list_calls(&mut shelf, kept)?;
+    let are_told = answers(&mut shelf, FAILING) && is_text(shelf.file("f"), Some(text));
+    Ok(are_told && shelf.read_faults() == 1 && shelf.write_faults() == 2)
 }
 
 #[test]
-fn listed_calls_of_a_sink_fail(rt: HostRuntime) -> Result<(), Fail> {
-    for (kept, text) in [(0, "abef"), (1, "abcef"), (9, "abcdef")] {
-        let mut sink = MemSink::new(rt.alloc());
-        sink.fail_at(2, kept)?;
-        sink.fail_at(2, 2)?;
-        let well = (
-            sink.add(b"ab").is_ok(),
-            sink.add(b"cd").is_ok(),
-            sink.add(b"ef").is_ok(),
-        );
-        assert!(rt; well == (true, false, true));
-        assert!(rt; is_text(Some(sink.bytes()), Some(text)), "kept {kept}");
-        assert!(rt; sink.faults() == 1);
-    }
-    Ok(())
+fn listed_calls_of_a_shelf_fail(rt: HostRuntime) {
+    expect_true(&rt, shelf_fails(rt.alloc(), 0, "ab"));
+    expect_true(&rt, shelf_fails(rt.alloc(), 1, "abc"));
+    expect_true(&rt, shelf_fails(rt.alloc(), 9, "abcd"));
+}
+
+// Whether the second of three writes fails alone, and this text is left.
+fn sink_fails(alloc: Global, kept: usize, text: &str) -> Result<bool, AllocError> {
+    let mut sink = MemSink::new(alloc);
+    sink.fail_at(2, kept)?;
+    sink.fail_at(2, 2)?;
+    let first = sink.add(b"ab").is_ok();
+    let second = sink.add(b"cd").is_ok();
+    let third = sink.add(b"ef").is_ok();
+    let is_told = first && !second && third && sink.faults() == 1;
+    Ok(is_told && is_text(Some(sink.bytes()), Some(text)))
 }
 
 #[test]
-fn sure_stores_tell_what_fits(rt: HostRuntime) -> Result<(), Fail> {
-    // The greatest size is 10: "f" with four bytes, "g" with three, and a file with no name.
-    let rows = [
-        (Call::Get, "f", "", true),
-        (Call::Add, "f", "wxyz", true),
-        (Call::Add, "g", "12", true),
-        (Call::Begin, "f", "", true),
-        (Call::Add, "f", "abcd", true),
-        (Call::Begin, "", "", true),
-        (Call::Add, "", "0", true),
-        (Call::Add, "g", "3", true),
-        (Call::Begin, "", "", true),
-    ];
-    for (room, f, g) in [(9, None, None), (10, Some("abcd"), Some("123"))] {
-        let mut shelf = SureShelf::make(rt.alloc(), room)?;
-        shelf.put_file("g", b"4321");
-        shelf.put_file("g", b"");
-        assert!(rt; answers(&mut shelf, &rows), "room {room}");
-        assert!(rt;
-            is_text(shelf.file("f"), f) && is_text(shelf.file("g"), g),
-            "room {room}"
-        );
-        assert!(rt; is_text(shelf.file("k"), None));
-    }
-    for (room, text) in [(3, None), (4, Some("abcd"))] {
-        let mut sink = SureSink::make(rt.alloc(), room)?;
-        assert!(rt; sink.add(b"ab").is_ok() && sink.add(b"cd").is_ok());
-        assert!(rt; is_text(sink.bytes(), text), "room {room}");
-    }
-    Ok(())
+fn listed_calls_of_a_sink_fail(rt: HostRuntime) {
+    expect_true(&rt, sink_fails(rt.alloc(), 0, "abef"));
+    expect_true(&rt, sink_fails(rt.alloc(), 1, "abcef"));
+    expect_true(&rt, sink_fails(rt.alloc(), 9, "abcdef"));
+}
+
+// The greatest size is 10: "f" with four bytes, "g" with three, and a file with no name.
+const SURE: &[Row<'static>] = &[
+    (Call::Get, "f", "", true),
+    (Call::Add, "f", "wxyz", true),
+    (Call::Add, "g", "12", true),
+    (Call::Begin, "f", "", true),
+    (Call::Add, "f", "abcd", true),
+    (Call::Begin, "", "", true),
+    (Call::Add, "", "0", true),
+    (Call::Add, "g", "3", true),
+    (Call::Begin, "", "", true),
+];
+
+// Whether a store with this room tells these texts.
+fn shelf_tells(
+    alloc: Global,
+    room: usize,
+    f: Option<&str>,
+    g: Option<&str>,
+) -> Result<bool, AllocError> {
+    let mut shelf = SureShelf::make(alloc, room)?;
+    shelf.put_file("g", b"4321");
+    shelf.put_file("g", b"");
+    let are_files = answers(&mut shelf, SURE)
+        && is_text(shelf.file("f"), f)
+        && is_text(shelf.file("g"), g);
+    Ok(are_files && is_text(shelf.file("k"), None))
+}
+
+fn sink_tells(alloc: Global, room: usize, text: Option<&str>) -> Result<bool, AllocError> {
+    let mut sink = SureSink::make(alloc, room)?;
+    let first = sink.add(b"ab").is_ok();
+    let second = sink.add(b"cd").is_ok();
+    Ok(first && second && is_text(sink.bytes(), text))
+}
+
+#[test]
+fn sure_stores_tell_what_fits(rt: HostRuntime) {
+    expect_true(&rt, shelf_tells(rt.alloc(), 9, None, None));
+    expect_true(&rt, shelf_tells(rt.alloc(), 10, Some("abcd"), Some("123")));
+    expect_true(&rt, sink_tells(rt.alloc(), 3, None));
+    expect_true(&rt, sink_tells(rt.alloc(), 4, Some("abcd")));
 }

@@ -2,20 +2,20 @@
 ghost use Rattle.std.specs.Prelude.{◌≤◌};
 ghost use Rattle.y4m_clip.specs.Writing.{IsForm};
 
+use crate::expect::{expect_none, expect_true};
 use cells::{Size, Volume};
 use shelf_core::FormFault::{Cell, Form, NoFrames, Space};
 use shelf_core::ReadError::{Bad, Limit};
 use shelf_core::{Call, MemShelf, ReadError, What};
-use std::alloc::Global;
+use std::alloc::{AllocError, Global};
 use std::process::Abort;
-use std::test::Fail;
-use y4m_clip::{ClipForm, ClipWriter, SpaceKind, read_clip};
+use y4m_clip::{Clip, ClipForm, ClipWriter, SpaceKind, read_clip};
 
 const TWO_CELLS: &[u8] =
     b"YUV4MPEG2 W4 H2 F25:1 Ip A1:1 C420jpeg XYSCSS=420JPEG\nFRAME\n\x01\x02\x03\x04\x05\x06\x07\x08\x09\x0a\x0b\x0c";
 
 // The answer to a file of these bytes, of which at most 8 cells are read, where it is a refusal.
-fn refusal(alloc: Global, bytes: &[u8]) -> Result<Option<ReadError>, Fail> {
+fn refusal(alloc: Global, bytes: &[u8]) -> Result<Option<ReadError>, AllocError> {
     let mut shelf = MemShelf::new(alloc);
     shelf.put_file("sample", bytes)?;
     Ok(read_clip(alloc, &mut shelf, "sample", 8).err())
@@ -87,7 +87,7 @@ const ANSWERS: &[(&[u8], Option<ReadError>)] = &[
 fn wrong_answer(
     alloc: Global,
     table: &[(&[u8], Option<ReadError>)],
-) -> Result<Option<usize>, Fail> {
+) -> Result<Option<usize>, AllocError> {
     for (i, (bytes, want)) in table.iter().enumerate() {
         if refusal(alloc, *bytes)? != *want {
             return Ok(Some(i));
@@ -97,7 +97,7 @@ fn wrong_answer(
 }
 
 // How many first bytes of the clip of two cells, at least, aren't refused at their end. Behind the stream line there are no frames.
-fn wrong_cut(alloc: Global) -> Result<Option<usize>, Fail> {
+fn wrong_cut(alloc: Global) -> Result<Option<usize>, AllocError> {
     for n in 0..72usize {
         let want = if n == 54 { NoFrames } else { Form(n as u64) };
         if refusal(alloc, &TWO_CELLS[..n])? != Some(Bad(want)) {
@@ -108,29 +108,39 @@ fn wrong_cut(alloc: Global) -> Result<Option<usize>, Fail> {
 }
 
 #[test]
-fn answers(rt: HostRuntime) -> Result<(), Fail> {
-    assert_eq!(rt; wrong_answer(rt.alloc(), ANSWERS)?, None);
-    assert_eq!(rt; wrong_cut(rt.alloc())?, None);
-    Ok(())
+fn answers(rt: HostRuntime) {
+    expect_none(&rt, wrong_answer(rt.alloc(), ANSWERS));
+    expect_none(&rt, wrong_cut(rt.alloc()));
+}
+
+// Whether a clip is that of two cells.
+fn is_of_two(clip: &Clip) -> bool {
+    let cells = b"\x01\x02\x05\x06\x09\x0b\x03\x04\x07\x08\x0a\x0c".as_slice();
+    clip.form.space == SpaceKind::C420
+        && clip.form.tags.as_slice().len() == 5
+        && clip.volume.size() == Size { w: 2, h: 1, f: 1 }
+        && clip.volume.bytes() == cells
+}
+
+fn are_two_read(alloc: Global) -> Result<bool, AllocError> {
+    let mut shelf = MemShelf::new(alloc);
+    shelf.put_file("sample", TWO_CELLS)?;
+    match read_clip(alloc, &mut shelf, "sample", 2) {
+        Ok(clip) => Ok(is_of_two(&clip)),
+        Err(_) => Ok(false),
+    }
 }
 
 #[test]
-fn two_cells(rt: HostRuntime) -> Result<(), Fail> {
-    let alloc = rt.alloc();
-    let mut shelf = MemShelf::new(alloc);
-    shelf.put_file("sample", TWO_CELLS)?;
-    let clip = read_clip(alloc, &mut shelf, "sample", 2)?;
-    assert!(rt; clip.form.space == SpaceKind::C420);
-    assert!(rt; clip.form.tags.as_slice().len() == 5);
-    assert!(rt; clip.volume.size() == Size { w: 2, h: 1, f: 1 });
-    let cells = b"\x01\x02\x05\x06\x09\x0b\x03\x04\x07\x08\x0a\x0c".as_slice();
-    assert!(rt; clip.volume.bytes() == cells);
-    Ok(())
+fn two_cells(rt: HostRuntime) {
+    expect_true(&rt, are_two_read(rt.alloc()));
 }
 
-// Reads a clip and writes it frame by frame to `out`. It gives whether a write failed.
-fn copy(alloc: Global, shelf: &mut MemShelf) -> Result<bool, Fail> {
-    let clip = read_clip(alloc, shelf, "sample", 64)?;
+// Reads a clip and writes it frame by frame to `out`. It gives whether a call failed.
+fn copy(alloc: Global, shelf: &mut MemShelf) -> Result<bool, AllocError> {
+    let Ok(clip) = read_clip(alloc, shelf, "sample", 64) else {
+        return Ok(true);
+    };
     let size = clip.volume.size();
     let mut writer = ClipWriter::make(alloc, &clip.form, size)?;
     if writer.start(shelf, "out").is_err() {
@@ -174,7 +184,7 @@ const COPIES: &[(&[u8], &[u8])] = &[
 ];
 
 // Whether this is written of a clip.
-fn is_copied(alloc: Global, bytes: &[u8], want: &[u8]) -> Result<bool, Fail> {
+fn is_copied(alloc: Global, bytes: &[u8], want: &[u8]) -> Result<bool, AllocError> {
     let mut shelf = MemShelf::new(alloc);
     shelf.put_file("sample", bytes)?;
     let has_failed = copy(alloc, &mut shelf)?;
@@ -182,7 +192,7 @@ fn is_copied(alloc: Global, bytes: &[u8], want: &[u8]) -> Result<bool, Fail> {
 }
 
 // The number of the first clip, from 0, that isn't written so.
-fn wrong_copy(alloc: Global, table: &[(&[u8], &[u8])]) -> Result<Option<usize>, Fail> {
+fn wrong_copy(alloc: Global, table: &[(&[u8], &[u8])]) -> Result<Option<usize>, AllocError> {
     for (i, (bytes, want)) in table.iter().enumerate() {
         if !is_copied(alloc, *bytes, *want)? {
             return Ok(Some(i));
@@ -192,9 +202,8 @@ fn wrong_copy(alloc: Global, table: &[(&[u8], &[u8])]) -> Result<Option<usize>, 
 }
 
 #[test]
-fn copies(rt: HostRuntime) -> Result<(), Fail> {
-    assert_eq!(rt; wrong_copy(rt.alloc(), COPIES)?, None);
-    Ok(())
+fn copies(rt: HostRuntime) {
+    expect_none(&rt, wrong_copy(rt.alloc(), COPIES));
 }
 
 // Three cells of a row, the third as the first.
@@ -207,7 +216,7 @@ fn write_wider(
     alloc: Global,
     form: &ClipForm,
     shelf: &mut MemShelf,
-) -> Result<bool, Fail>
+) -> Result<bool, AllocError>
     requires { IsForm form.now }
 {
     assert!(rt; form.space == SpaceKind::C420);
@@ -219,14 +228,20 @@ fn write_wider(
     Ok(is_begun && writer.frame(&volume, 0, shelf, "out").is_ok())
 }
 
-#[test]
-fn wider(rt: HostRuntime) -> Result<(), Fail> {
-    let mut shelf = MemShelf::new(rt.alloc());
+// What is written in the form of the clip that is read.
+fn are_wider_written(rt: &impl Abort, alloc: Global) -> Result<bool, AllocError> {
+    let mut shelf = MemShelf::new(alloc);
     shelf.put_file("sample", TWO_CELLS)?;
-    let clip = read_clip(rt.alloc(), &mut shelf, "sample", 2)?;
-    assert!(rt; write_wider(&rt, rt.alloc(), &clip.form, &mut shelf)?);
-    assert!(rt; shelf.file("out") == Some(WIDER));
-    Ok(())
+    let Ok(clip) = read_clip(alloc, &mut shelf, "sample", 2) else {
+        return Ok(false);
+    };
+    let is_written = write_wider(rt, alloc, &clip.form, &mut shelf)?;
+    Ok(is_written && shelf.file("out") == Some(WIDER))
+}
+
+#[test]
+fn wider(rt: HostRuntime) {
+    expect_true(&rt, are_wider_written(&rt, rt.alloc()));
 }
 
 // Writes that fail: the call, its number from 1, how many bytes of its piece it keeps, and how many bytes are written then.
@@ -238,7 +253,13 @@ const WRITE_FAULTS: &[(Call, u32, usize, usize)] = &[
 ];
 
 // Whether the copy tells a write that fails, and leaves so many bytes.
-fn tells_fault(alloc: Global, call: Call, nth: u32, kept: usize, left: usize) -> Result<bool, Fail>
+fn tells_fault(
+    alloc: Global,
+    call: Call,
+    nth: u32,
+    kept: usize,
+    left: usize,
+) -> Result<bool, AllocError>
     requires { 1 ≤ nth }
 {
     let mut shelf = MemShelf::new(alloc);
@@ -250,7 +271,7 @@ fn tells_fault(alloc: Global, call: Call, nth: u32, kept: usize, left: usize) ->
 }
 
 // The number of the first fault, from 0, after which another file stands, or of which the copy doesn't tell.
-fn wrong_fault(alloc: Global) -> Result<Option<usize>, Fail> {
+fn wrong_fault(alloc: Global) -> Result<Option<usize>, AllocError> {
     for (i, (call, nth, kept, left)) in WRITE_FAULTS.iter().enumerate() {
         if !tells_fault(alloc, *call, *nth, *kept, *left)? {
             return Ok(Some(i));
@@ -260,7 +281,6 @@ fn wrong_fault(alloc: Global) -> Result<Option<usize>, Fail> {
 }
 
 #[test]
-fn write_faults(rt: HostRuntime) -> Result<(), Fail> {
-    assert_eq!(rt; wrong_fault(rt.alloc())?, None);
-    Ok(())
+fn write_faults(rt: HostRuntime) {
+    expect_none(&rt, wrong_fault(rt.alloc()));
 }

@@ -6,6 +6,8 @@
 #[cfg(test)]
 mod clips;
 #[cfg(test)]
+mod expect;
+#[cfg(test)]
 mod of_turns;
 #[cfg(test)]
 mod pictures;

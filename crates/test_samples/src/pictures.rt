@@ -1,16 +1,16 @@
 // Worked examples: the bytes of a file and the answer, spelled from the grammar by hand.
+use crate::expect::{expect_none, expect_true};
 use cells::{Size, Volume};
-use netpbm_p6::{read_p6, write_p6};
+use netpbm_p6::{Picture, read_p6, write_p6};
 use shelf_core::FormFault::{Depth, Form, Sample, Trailing};
 use shelf_core::ReadError::{Bad, Limit, ReadFault};
 use shelf_core::{Call, MemShelf, ReadError, What};
-use std::alloc::Global;
-use std::test::Fail;
+use std::alloc::{AllocError, Global};
 
 const FOUR_BY_ONE: &[u8] = b"P6\n4 1\n255\nabcdefghijkl";
 
 // The answer to a file of these bytes, where it is a refusal.
-fn refusal(alloc: Global, bytes: &[u8]) -> Result<Option<ReadError>, Fail> {
+fn refusal(alloc: Global, bytes: &[u8]) -> Result<Option<ReadError>, AllocError> {
     let mut shelf = MemShelf::new(alloc);
     shelf.put_file("sample", bytes)?;
     Ok(read_p6(alloc, &mut shelf, "sample").err())
@@ -128,7 +128,7 @@ const ANSWERS: &[(&[u8], Option<ReadError>)] = &[
 fn wrong_answer(
     alloc: Global,
     table: &[(&[u8], Option<ReadError>)],
-) -> Result<Option<usize>, Fail> {
+) -> Result<Option<usize>, AllocError> {
     for (i, (bytes, want)) in table.iter().enumerate() {
         if refusal(alloc, *bytes)? != *want {
             return Ok(Some(i));
@@ -138,7 +138,7 @@ fn wrong_answer(
 }
 
 // How many first bytes of the picture of four cells, at least, aren't refused at their end.
-fn wrong_cut(alloc: Global) -> Result<Option<usize>, Fail> {
+fn wrong_cut(alloc: Global) -> Result<Option<usize>, AllocError> {
     for n in 0..23usize {
         if refusal(alloc, &FOUR_BY_ONE[..n])? != Some(Bad(Form(n as u64))) {
             return Ok(Some(n));
@@ -148,14 +148,13 @@ fn wrong_cut(alloc: Global) -> Result<Option<usize>, Fail> {
 }
 
 #[test]
-fn answers(rt: HostRuntime) -> Result<(), Fail> {
-    assert_eq!(rt; wrong_answer(rt.alloc(), ANSWERS)?, None);
-    assert_eq!(rt; wrong_cut(rt.alloc())?, None);
-    Ok(())
+fn answers(rt: HostRuntime) {
+    expect_none(&rt, wrong_answer(rt.alloc(), ANSWERS));
+    expect_none(&rt, wrong_cut(rt.alloc()));
 }
 
 // A header that goes on through `count` bytes of a comment.
-fn long_comment(alloc: Global, count: usize, end: &[u8]) -> Result<Vec<u8>, Fail> {
+fn long_comment(alloc: Global, count: usize, end: &[u8]) -> Result<Vec<u8>, AllocError> {
     let mut bytes = Vec::from_slice(alloc, b"P6\n#")?;
     let words = vec![in alloc; b'a'; count]?;
     bytes.extend_from_slice(&words)?;
@@ -199,7 +198,7 @@ const LONG_HEADERS: &[(usize, &[u8], Option<ReadError>)] = &[
 ];
 
 // The number of the first header, from 0, that has another answer.
-fn wrong_header(alloc: Global) -> Result<Option<usize>, Fail> {
+fn wrong_header(alloc: Global) -> Result<Option<usize>, AllocError> {
     for (i, (count, end, want)) in LONG_HEADERS.iter().enumerate() {
         let bytes = long_comment(alloc, *count, *end)?;
         if refusal(alloc, &bytes)? != *want {
@@ -210,27 +209,36 @@ fn wrong_header(alloc: Global) -> Result<Option<usize>, Fail> {
 }
 
 #[test]
-fn long_headers(rt: HostRuntime) -> Result<(), Fail> {
-    assert_eq!(rt; wrong_header(rt.alloc())?, None);
-    Ok(())
+fn long_headers(rt: HostRuntime) {
+    expect_none(&rt, wrong_header(rt.alloc()));
+}
+
+// Whether a picture is that of four cells.
+fn is_of_four(picture: &Picture) -> bool {
+    let volume = &picture.volume;
+    picture.maxval == 255
+        && volume.size() == Size { w: 4, h: 1, f: 1 }
+        && volume.samples() == 3
+        && volume.bytes() == b"abcdefghijkl".as_slice()
+}
+
+fn are_four_read(alloc: Global) -> Result<bool, AllocError> {
+    let mut shelf = MemShelf::new(alloc);
+    shelf.put_file("sample", b"P6 # four cells\n 4 01\n0255\rabcdefghijkl")?;
+    match read_p6(alloc, &mut shelf, "sample") {
+        Ok(picture) => Ok(is_of_four(&picture)),
+        Err(_) => Ok(false),
+    }
 }
 
 // What stands in the picture that was read.
 #[test]
-fn fields(rt: HostRuntime) -> Result<(), Fail> {
-    let alloc = rt.alloc();
-    let mut shelf = MemShelf::new(alloc);
-    shelf.put_file("sample", b"P6 # four cells\n 4 01\n0255\rabcdefghijkl")?;
-    let picture = read_p6(alloc, &mut shelf, "sample")?;
-    assert!(rt; picture.maxval == 255);
-    assert!(rt; picture.volume.size() == Size { w: 4, h: 1, f: 1 });
-    assert!(rt; picture.volume.samples() == 3);
-    assert!(rt; picture.volume.bytes() == b"abcdefghijkl".as_slice());
-    Ok(())
+fn fields(rt: HostRuntime) {
+    expect_true(&rt, are_four_read(rt.alloc()));
 }
 
 // Whether a read fault is reported where a get fails after so many others.
-fn tells_read_fault(alloc: Global, after: u8) -> Result<bool, Fail> {
+fn tells_read_fault(alloc: Global, after: u8) -> Result<bool, AllocError> {
     let mut shelf = MemShelf::new(alloc);
     shelf.put_file("sample", FOUR_BY_ONE)?;
     shelf.fail_at(Call::Get, "sample", u32::from(after) + 1, 0)?;
@@ -238,24 +246,26 @@ fn tells_read_fault(alloc: Global, after: u8) -> Result<bool, Fail> {
 }
 
 #[test]
-fn read_faults(rt: HostRuntime) -> Result<(), Fail> {
-    for after in 0..3u8 {
-        assert!(rt; tells_read_fault(rt.alloc(), after)?, "after {after}");
-    }
-    Ok(())
+fn read_faults(rt: HostRuntime) {
+    expect_true(&rt, tells_read_fault(rt.alloc(), 0));
+    expect_true(&rt, tells_read_fault(rt.alloc(), 1));
+    expect_true(&rt, tells_read_fault(rt.alloc(), 2));
 }
 
 // What is written of a picture with the bytes of four cells, and what a write that fails in mid-stream leaves.
-#[test]
-fn written(rt: HostRuntime) -> Result<(), Fail> {
-    let alloc = rt.alloc();
-    let mut shelf = MemShelf::new(alloc);
+fn is_written(alloc: Global) -> Result<bool, AllocError> {
     let bytes = Vec::from_slice(alloc, b"abcdefghijkl")?;
     let volume = Volume::from_bytes(Size { w: 4, h: 1, f: 1 }, 3, bytes);
-    write_p6(255, &volume, &mut shelf, "out")?;
-    assert!(rt; shelf.file("out") == Some(FOUR_BY_ONE));
+    let mut shelf = MemShelf::new(alloc);
+    let is_whole = write_p6(255, &volume, &mut shelf, "out").is_ok()
+        && shelf.file("out") == Some(FOUR_BY_ONE);
     shelf.fail_at(Call::Add, "out", 8, 2)?;
-    assert!(rt; write_p6(255, &volume, &mut shelf, "out").is_err());
-    assert!(rt; shelf.file("out") == Some(b"P6\n4 1\n255\nab".as_slice()));
-    Ok(())
+    let is_told = write_p6(255, &volume, &mut shelf, "out").is_err();
+    let left = b"P6\n4 1\n255\nab".as_slice();
+    Ok(is_whole && is_told && shelf.file("out") == Some(left))
+}
+
+#[test]
+fn written(rt: HostRuntime) {
+    expect_true(&rt, is_written(rt.alloc()));
 }

@@ -1,9 +1,9 @@
+use crate::expect::{expect_none, expect_true};
 use cells::{At, Size};
 use job_words::{Job, Words, read_job};
 use sample_files::{Form, Samples, read_samples};
 use shelf_core::{FormFault, MemShelf};
 use std::alloc::{AllocError, Global};
-use std::test::Fail;
 use synth_report::{Fault, FileOf};
 
 const TWO_GREY: &[u8] = b"P6\n2 1\n255\n\x0a\x0a\x0a\x14\x14\x14";
@@ -53,53 +53,74 @@ fn read_by(alloc: Global, shelf: &mut MemShelf, job: &Job) -> Result<Samples, Fa
 }
 
 // Reads the samples `s`, `t` and `u`.
-fn read_three(alloc: Global, shelf: &mut MemShelf) -> Result<Result<Samples, Fault>, Fail> {
+fn read_three(alloc: Global, shelf: &mut MemShelf) -> Result<Result<Samples, Fault>, AllocError> {
     let words = words_of(alloc, WORDS)?;
     match read_job(alloc, &words) {
         Ok(job) => Ok(read_by(alloc, shelf, &job)),
-        Err(_) => Err(Fail::from("refused words")),
+        Err(fault) => Ok(Err(Fault::Words(fault))),
     }
 }
 
-#[test]
-fn joined(rt: HostRuntime) -> Result<(), Fail> {
-    let alloc = rt.alloc();
+// Whether these are pictures of two cells, of three below one another, and of two.
+fn are_pictures(samples: &Samples) -> bool {
+    let sizes = samples.volume.sizes();
+    let last_of_second = samples.volume.cell(At { x: 0, y: 2, f: 2 });
+    let last_of_third = samples.volume.cell(At { x: 1, y: 0, f: 4 });
+    matches!(&samples.form, Form::Picture { maxval: 255 })
+        && sizes.len() == 3
+        && sizes.at(2) == Size { w: 1, h: 3, f: 1 }
+        && last_of_second == Some(b"\x07\x08\x09".as_slice())
+        && last_of_third == Some(b"\x14\x14\x14".as_slice())
+}
+
+fn are_joined(alloc: Global) -> Result<bool, AllocError> {
     let mut shelf = MemShelf::new(alloc);
     shelf.put_file("s", TWO_GREY)?;
     shelf.put_file("t", THREE_COLOURS)?;
     shelf.put_file("u", TWO_GREY)?;
-    let samples = read_three(alloc, &mut shelf)?.ok().ok_or("not read")?;
-    assert!(rt; matches!(&samples.form, Form::Picture { maxval: 255 }));
-    let sizes = samples.volume.sizes();
-    assert!(rt; sizes.len() == 3);
-    let tall = Size { w: 1, h: 3, f: 1 };
-    assert!(rt; sizes.at(2) == tall);
-    let last_of_second = samples.volume.cell(At { x: 0, y: 2, f: 2 });
-    assert!(rt; last_of_second.ok_or("no cell")? == b"\x07\x08\x09".as_slice());
-    let last_of_third = samples.volume.cell(At { x: 1, y: 0, f: 4 });
-    assert!(rt; last_of_third.ok_or("no cell")? == b"\x14\x14\x14".as_slice());
-    Ok(())
+    match read_three(alloc, &mut shelf)? {
+        Ok(samples) => Ok(are_pictures(&samples)),
+        Err(_) => Ok(false),
+    }
 }
 
 #[test]
-fn clips_joined(rt: HostRuntime) -> Result<(), Fail> {
-    let alloc = rt.alloc();
+fn joined(rt: HostRuntime) {
+    expect_true(&rt, are_joined(rt.alloc()));
+}
+
+// Whether a form is that of a clip with so many tags.
+fn has_tags(form: &Form, count: usize) -> bool {
+    match form {
+        Form::Clip { form } => form.tags.as_slice().len() == count,
+        Form::Picture { .. } => false,
+    }
+}
+
+// Whether these are clips of two frames, of one, and of two. The first has one tag.
+fn are_clips(samples: &Samples) -> bool {
+    let sizes = samples.volume.sizes();
+    let last = samples.volume.cell(At { x: 1, y: 0, f: 6 });
+    has_tags(&samples.form, 1)
+        && sizes.len() == 3
+        && sizes.at(3) == Size { w: 2, h: 1, f: 2 }
+        && last == Some(b"\x28".as_slice())
+}
+
+fn are_clips_joined(alloc: Global) -> Result<bool, AllocError> {
     let mut shelf = MemShelf::new(alloc);
     shelf.put_file("s", MONO)?;
     shelf.put_file("t", MONO_WITH_TAGS)?;
     shelf.put_file("u", MONO)?;
-    let samples = read_three(alloc, &mut shelf)?.ok().ok_or("not read")?;
-    match &samples.form {
-        Form::Clip { form } => assert!(rt; form.tags.as_slice().len() == 1),
-        Form::Picture { .. } => return Err(Fail::from("read as pictures")),
+    match read_three(alloc, &mut shelf)? {
+        Ok(samples) => Ok(are_clips(&samples)),
+        Err(_) => Ok(false),
     }
-    let sizes = samples.volume.sizes();
-    assert!(rt; sizes.len() == 3);
-    let long = Size { w: 2, h: 1, f: 2 };
-    assert!(rt; sizes.at(3) == long);
-    let last = samples.volume.cell(At { x: 1, y: 0, f: 6 });
-    assert!(rt; last.ok_or("no cell")? == b"\x28".as_slice());
-    Ok(())
+}
+
+#[test]
+fn clips_joined(rt: HostRuntime) {
+    expect_true(&rt, are_clips_joined(rt.alloc()));
 }
 
 const SECOND: FileOf = FileOf::More(2);
@@ -133,7 +154,7 @@ const REFUSED: &[(&[u8], &[u8], Fault)] = &[
 ];
 
 // Why the samples `s` and `t` are refused, and the third that is missing.
-fn refusal(alloc: Global, first: &[u8], next: &[u8]) -> Result<Option<Fault>, Fail> {
+fn refusal(alloc: Global, first: &[u8], next: &[u8]) -> Result<Option<Fault>, AllocError> {
     let mut shelf = MemShelf::new(alloc);
     shelf.put_file("s", first)?;
     shelf.put_file("t", next)?;
@@ -141,7 +162,10 @@ fn refusal(alloc: Global, first: &[u8], next: &[u8]) -> Result<Option<Fault>, Fa
 }
 
 // The number of the first samples, from 0, that aren't refused so.
-fn wrong_refusal(alloc: Global, table: &[(&[u8], &[u8], Fault)]) -> Result<Option<usize>, Fail> {
+fn wrong_refusal(
+    alloc: Global,
+    table: &[(&[u8], &[u8], Fault)],
+) -> Result<Option<usize>, AllocError> {
     for (i, (first, next, fault)) in table.iter().enumerate() {
         if refusal(alloc, *first, *next)? != Some(*fault) {
             return Ok(Some(i));
@@ -151,7 +175,6 @@ fn wrong_refusal(alloc: Global, table: &[(&[u8], &[u8], Fault)]) -> Result<Optio
 }
 
 #[test]
-fn refusals(rt: HostRuntime) -> Result<(), Fail> {
-    assert_eq!(rt; wrong_refusal(rt.alloc(), REFUSED)?, None);
-    Ok(())
+fn refusals(rt: HostRuntime) {
+    expect_none(&rt, wrong_refusal(rt.alloc(), REFUSED));
 }

@@ -46,7 +46,11 @@ fn grow(rt: HostRuntime) -> Result<(), Fail> {
     Ok(())
 }
 
-const QUILTS_AND_LOOPS: &[Trying<'static>] = &[
+const OTHER_CELLS: &[u8] = b"P6\n4 1\n255\n\x32\x32\x32\x19\x19\x19\x1e\x1e\x1e\x0a\x0a\x0a";
+
+const MARKS: &[u8] = b"P6\n4 1\n255\n\x01\x00\x00\x00\x00\x00\x00\x00\x00\x02\x00\x00";
+
+const OTHER_PICTURES: &[Trying<'static>] = &[
     Trying {
         words: "quilt sample=s out=o map=m record=r width=6 height=1 block=4 overlap=2",
         reads: &[("s", "sample", FOUR_CELLS)],
@@ -61,11 +65,22 @@ const QUILTS_AND_LOOPS: &[Trying<'static>] = &[
         status: 0,
         report: "loop 2\nstart 0\ncost 0\n",
     },
+    Trying {
+        words: "merge sample=s sample2=t marks=k out=o map=m",
+        reads: &[
+            ("s", "sample", FOUR_CELLS),
+            ("t", "sample2", OTHER_CELLS),
+            ("k", "marks", MARKS),
+        ],
+        writes: &[("o", "out"), ("m", "map")],
+        status: 0,
+        report: "merge 4x1x1\npictures 2\nseams 15\n",
+    },
 ];
 
 #[test]
-fn quilt_and_loop(rt: HostRuntime) -> Result<(), Fail> {
-    assert_eq!(rt; wrong_trying(rt.alloc(), QUILTS_AND_LOOPS)?, None);
+fn quilt_loop_and_merge(rt: HostRuntime) -> Result<(), Fail> {
+    assert_eq!(rt; wrong_trying(rt.alloc(), OTHER_PICTURES)?, None);
     Ok(())
 }
 

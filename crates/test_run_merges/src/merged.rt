@@ -139,6 +139,10 @@ const ALL_FIRST: &[u8] = b"P6\n3 2\n255\n\
 \x01\x00\x00\x01\x00\x00\x01\x00\x00\
 \x01\x00\x00\x01\x00\x00\x01\x00\x00";
 
+const ALL_LAST: &[u8] = b"P6\n3 2\n255\n\
+\x03\x00\x00\x03\x00\x00\x03\x00\x00\
+\x03\x00\x00\x03\x00\x00\x03\x00\x00";
+
 const THREE: Merge<'static> = Merge {
     words: "merge map=m sample3=c out=o sample=a marks=k sample2=b",
     first: SIX,
@@ -174,6 +178,13 @@ const MERGES: &[Merge<'static>] = &[
         report: "merge 3x2x1\npictures 3\nseams 0\n",
         picture: FIRST_ONE_PICTURE,
         map: FIRST_ONE_MAP,
+        ..THREE
+    },
+    Merge {
+        marks: ALL_LAST,
+        report: "merge 3x2x1\npictures 3\nseams 0\n",
+        picture: LAST_PICTURE,
+        map: LAST_MAP,
         ..THREE
     },
 ];

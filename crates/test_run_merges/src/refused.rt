@@ -72,6 +72,12 @@ const UNLIKE: &[Merge<'static>] = &[
     },
     Merge {
         words: "merge sample=a sample2=b sample3=c marks=k out=o map=m",
+        third: TALL,
+        line: "weave: sample3: unlike\n",
+        ..REFUSED
+    },
+    Merge {
+        words: "merge sample=a sample2=b sample3=c marks=k out=o map=m",
         second: NARROW,
         third: b"",
         line: "weave: sample2: unlike\n",

@@ -92,7 +92,7 @@ begun : (job : CheckJob) (a : ShelfState) → StandsBefore (check_command job) a
 begun job a = begin (check_stages job.turns job.names) [] (MayRefuseFiles (length job.names.more + 1)) IsCheckSummary (are_one job.turns job.names) a
 
 pub parts_pass : (job : CheckJob) (a : ShelfState) (fault : Fault) → AsksParts job.turns (length job.names.more + 1) (Err fault) → NotMade (check_command job) a a fault
-parts_pass job a = parts_refused job.turns (length job.names.more + 1) (begun job a) (λ what number bound. tt)
+parts_pass job a = parts_refused job.turns (length job.names.more + 1) _ (begun job a) (λ what number bound. tt)
 
 -- What is read: the samples, which the code has under the names that it sees.
 

@@ -105,10 +105,10 @@ pub parts_passed : {c : Command} {a b : ShelfState} {turn : ℕ} {others : List 
 parts_passed false count at within = at
 parts_passed true count at within = pass_on at (within refl)
 
-pub parts_refused : {c : Command} {a b : ShelfState} {turn : ℕ} {others : List NamedFile} {next : Stages others} (turns : Bool) (count : ℕ) → StandsBefore c a b turn (parts_within turns count next)
+pub parts_refused : {c : Command} {a b : ShelfState} {turn : ℕ} {others : List NamedFile} (turns : Bool) (count : ℕ) (next : Stages others) → StandsBefore c a b turn (parts_within turns count next)
     → ((what : What) (number bound : ℕ) → c.MayRefuse (Limit what number bound)) → (fault : Fault) → AsksParts turns count (Err fault) → NotMade c a b fault
-parts_refused false count at may fault asks = let is = asks.0 in absurd (cc)
-parts_refused true count at may fault asks = limit_passed at fault _ _ _ asks.1.1 asks.1 (may _ _ _)
+parts_refused false count next at may fault asks = let is = asks.0 in absurd (cc)
+parts_refused true count next at may fault asks = limit_passed at fault _ _ _ asks.1.1 asks.1 (may _ _ _)
 
 pub parts_make : {others : List NamedFile} (turns : Bool) (count : ℕ) (next : Stages others) (files : Files) (texts : List (List ℕ)) (summary : Summary) → (turns ≡ true → TURNS * count ≤ MOST_PARTS)
     → AllMake next files texts summary → AllMake (parts_within turns count next) files texts summary

@@ -101,7 +101,7 @@ module _ (job : GrowJob) (lawful : IsGrowJob job) (before after : Files) (sample
   }
 
   few : job.turns ≡ true → TURNS * length (sizes_of samples.volume) ≤ MOST_PARTS
-  few on = subst (λ n. TURNS * n ≤ MOST_PARTS) (sym (as_many_parts (content_of before job.names.sample) (contents before job.names.more) samples read)) (read.few on)
+  few on = subst (λ n. TURNS * n ≤ MOST_PARTS) (sym (as_many_parts job.turns (content_of before job.names.sample) (contents before job.names.more) samples read)) (read.few on)
 
   made : IsMade job (growth_of job samples grown)
   made = record {

@@ -57,7 +57,7 @@ begun : (job : GrowJob) (a : ShelfState) → StandsBefore (grow_command job) a a
 begun job a = begin (grow_stages job) (grow_command job).writes (MayRefuseSamples (length job.names.more + 1)) IsGrowSummary (are_one job) a
 
 pub parts_pass : (job : GrowJob) (a : ShelfState) (fault : Fault) → AsksParts job.turns (length job.names.more + 1) (Err fault) → NotMade (grow_command job) a a fault
-parts_pass job a = parts_refused job.turns (length job.names.more + 1) (begun job a) (λ what number bound. tt)
+parts_pass job a = parts_refused job.turns (length job.names.more + 1) _ (begun job a) (λ what number bound. tt)
 
 module _ (job : GrowJob) (a b : ShelfState) (few : AsksParts job.turns (length job.names.more + 1) (Ok tt)) {more : List (List ℕ)} (same : more ≡ job.names.more) (reads : OnlyReads (names_in (sample_files job.names.sample more)) a b) where
   before_samples : StandsBefore (grow_command job) a a 0 (read_samples job.turns job.names.sample job.names.more (grow_over job))

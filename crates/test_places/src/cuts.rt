@@ -2,6 +2,7 @@
 ghost use Rattle.std.specs.Prelude.{option_copied};
 ghost use Rattle.map_canvas.specs.Canvases.{StandsOver};
 
+use crate::expect::expect_done;
 use crate::rows::{assert_fits, greys, row_at, row_of};
 use cells::Volume;
 use costs::are_marks;
@@ -10,11 +11,10 @@ use map_canvas::{Canvas, Placement};
 use max_flow::solve;
 use std::alloc::{AllocError, Global};
 use std::process::Abort;
-use std::test::Fail;
 
 // What a network and its places are to be: the node of each cell, the seam node and the first pipe of each
 // pair, and the value of a greatest flow.
-#[derive(Drop)]
+#[derive(Clone, Copy, Drop)]
 struct Expected<'a> {
     cells: &'a [u32],
     seams: &'a [u32],
@@ -40,95 +40,86 @@ fn assert_is(
         None => build(alloc, canvas, sample, placement)?,
         Some(_) => build_held(alloc, canvas, sample, placement, held)?,
     };
-    assert!(rt; places.cell_nodes.as_slice() == expected.cells);
-    assert!(rt; places.seam_nodes.as_slice() == expected.seams);
-    assert!(rt; places.pipes.as_slice() == expected.pipes);
-    assert!(rt; solve(alloc, &network)?.value == expected.value);
+    let solved = solve(alloc, &network)?;
+    let are_places = places.cell_nodes.as_slice() == expected.cells
+        && places.seam_nodes.as_slice() == expected.seams
+        && places.pipes.as_slice() == expected.pipes;
+    assert!(rt; are_places && solved.value == expected.value);
     Ok(())
 }
 
+const SECOND_HELD: Option<&[bool]> = Some(&[false, true, false, false]);
+
+const ALL_NEW: Expected<'static> = Expected {
+    cells: &[1, 1, 1, 1],
+    seams: &[0, 0, 0],
+    pipes: &[0, 0, 0],
+    value: 0,
+};
+
 // Every cell of the box is unfilled, and there is no pipe.
-#[test]
-fn row_without_old_cells(rt: HostRuntime) -> Result<(), Fail> {
-    let sample = greys(rt.alloc())?;
-    let canvas = row_of(&rt, rt.alloc(), 6, &sample, &[])?;
-    let all_new = Expected {
-        cells: &[1, 1, 1, 1],
-        seams: &[0, 0, 0],
-        pipes: &[0, 0, 0],
-        value: 0,
-    };
-    assert_is(
-        &rt,
-        rt.alloc(),
-        &canvas,
-        &sample,
-        &row_at(0),
-        None,
-        &all_new,
-    )?;
-    Ok(())
+fn assert_row_without_old_cells(rt: &impl Abort, alloc: Global) -> Result<(), AllocError> {
+    let sample = greys(alloc)?;
+    let canvas = row_of(rt, alloc, 6, &sample, &[])?;
+    assert_is(rt, alloc, &canvas, &sample, &row_at(0), None, &ALL_NEW)
 }
+
+#[test]
+fn row_without_old_cells(rt: HostRuntime) {
+    expect_done(&rt, assert_row_without_old_cells(&rt, rt.alloc()));
+}
+
+const ONE_FREE: Expected<'static> = Expected {
+    cells: &[0, 2, 1, 1],
+    seams: &[3, 0, 0],
+    pipes: &[0, 3, 0],
+    value: 120,
+};
+
+const NONE_FREE: Expected<'static> = Expected {
+    cells: &[0, 0, 1, 1],
+    seams: &[2, 0, 0],
+    pipes: &[0, 3, 0],
+    value: 825,
+};
 
 // The first cell of the box is kept, the second is free, two are unfilled. With the second one held, old meets
 // new after it.
-#[test]
-fn row_half_filled(rt: HostRuntime) -> Result<(), Fail> {
-    let sample = greys(rt.alloc())?;
-    let canvas = row_of(&rt, rt.alloc(), 6, &sample, &[0, 1, 2, 3])?;
-    let one_free = Expected {
-        cells: &[0, 2, 1, 1],
-        seams: &[3, 0, 0],
-        pipes: &[0, 3, 0],
-        value: 120,
-    };
+fn assert_row_half_filled(rt: &impl Abort, alloc: Global) -> Result<(), AllocError> {
+    let sample = greys(alloc)?;
+    let canvas = row_of(rt, alloc, 6, &sample, &[0, 1, 2, 3])?;
+    assert_is(rt, alloc, &canvas, &sample, &row_at(2), None, &ONE_FREE)?;
     assert_is(
-        &rt,
-        rt.alloc(),
+        rt,
+        alloc,
         &canvas,
         &sample,
         &row_at(2),
-        None,
-        &one_free,
-    )?;
-    let none_free = Expected {
-        cells: &[0, 0, 1, 1],
-        seams: &[2, 0, 0],
-        pipes: &[0, 3, 0],
-        value: 825,
-    };
-    let held = Some([false, true, false, false].as_slice());
-    assert_is(
-        &rt,
-        rt.alloc(),
-        &canvas,
-        &sample,
-        &row_at(2),
-        held,
-        &none_free,
-    )?;
-    Ok(())
+        SECOND_HELD,
+        &NONE_FREE,
+    )
 }
 
-// The last cell of the box is kept, and its seam stays as it was.
 #[test]
-fn row_filled(rt: HostRuntime) -> Result<(), Fail> {
-    let sample = greys(rt.alloc())?;
-    let canvas = row_of(&rt, rt.alloc(), 6, &sample, &[0, 1, 2, 1, 2, 3])?;
-    let three_free = Expected {
-        cells: &[2, 3, 4, 0],
-        seams: &[5, 6, 7],
-        pipes: &[0, 3, 6],
-        value: 120,
-    };
-    assert_is(
-        &rt,
-        rt.alloc(),
-        &canvas,
-        &sample,
-        &row_at(0),
-        None,
-        &three_free,
-    )?;
-    Ok(())
+fn row_half_filled(rt: HostRuntime) {
+    expect_done(&rt, assert_row_half_filled(&rt, rt.alloc()));
+}
+
+const THREE_FREE: Expected<'static> = Expected {
+    cells: &[2, 3, 4, 0],
+    seams: &[5, 6, 7],
+    pipes: &[0, 3, 6],
+    value: 120,
+};
+
+// The last cell of the box is kept, and its seam stays as it was.
+fn assert_row_filled(rt: &impl Abort, alloc: Global) -> Result<(), AllocError> {
+    let sample = greys(alloc)?;
+    let canvas = row_of(rt, alloc, 6, &sample, &[0, 1, 2, 1, 2, 3])?;
+    assert_is(rt, alloc, &canvas, &sample, &row_at(0), None, &THREE_FREE)
+}
+
+#[test]
+fn row_filled(rt: HostRuntime) {
+    expect_done(&rt, assert_row_filled(&rt, rt.alloc()));
 }

@@ -1,13 +1,13 @@
 // Worked examples of search_squares: which places blocks of 2x2 cells rule out, and which only single cells do.
 ghost use Rattle.map_canvas.specs.Canvases.{StandsOver};
 
+use crate::expect::expect_done;
 use crate::rows::{assert_fits, canvas_over};
 use cells::{At, Box3, Size, Volume};
 use map_canvas::{Canvas, Placement};
 use search_squares::{BoxLevels, Eliminated, Pauses, SampleSums};
 use std::alloc::{AllocError, Global};
 use std::process::Abort;
-use std::test::Fail;
 
 const FIRST: At = At { x: 0, y: 0, f: 0 };
 
@@ -70,26 +70,34 @@ fn are_gone(run: &Eliminated, covered: i32, limit: u64, gone: &[u32]) -> bool {
 }
 
 // A place x columns on has the error 16 * x * x, and so have its blocks of 2x2 cells.
-#[test]
-fn places_of_a_sample(rt: HostRuntime) -> Result<(), Fail> {
-    let bytes = Vec::from_slice(rt.alloc(), RISING)?;
+fn assert_places_of_a_sample(rt: &impl Abort, alloc: Global) -> Result<(), AllocError> {
+    let bytes = Vec::from_slice(alloc, RISING)?;
     let sample = Volume::from_bytes(Size { w: 8, h: 4, f: 1 }, 1, bytes);
-    let mut canvas = canvas_over(rt.alloc(), Size { w: 4, h: 4, f: 1 }, &sample)?;
-    let run = eliminated(&rt, rt.alloc(), &mut canvas, &sample, &[true; 16], 64)?;
+    let mut canvas = canvas_over(alloc, Size { w: 4, h: 4, f: 1 }, &sample)?;
+    let run = eliminated(rt, alloc, &mut canvas, &sample, &[true; 16], 64)?;
     assert!(rt; are_gone(&run, 5, 64, &[0, 0, 0, 2, 1, 0, 0, 0]));
     assert!(rt; are_gone(&run, 5, 65, &[0; 8]));
     Ok(())
 }
 
+#[test]
+fn places_of_a_sample(rt: HostRuntime) {
+    expect_done(&rt, assert_places_of_a_sample(&rt, rt.alloc()));
+}
+
 // Every other place has the colours the other way round, and the error 4 * 100 * 100.
 const EVERY_OTHER: &[u32] = &[0, 1, 0, 1, 0, 1, 0, 1, 0, 1, 0, 1, 0, 1, 0, 1, 0, 1, 0, 0];
 
-#[test]
-fn places_told_by_single_cells(rt: HostRuntime) -> Result<(), Fail> {
-    let bytes = Vec::from_slice(rt.alloc(), BOARD)?;
+fn assert_places_told_by_single_cells(rt: &impl Abort, alloc: Global) -> Result<(), AllocError> {
+    let bytes = Vec::from_slice(alloc, BOARD)?;
     let sample = Volume::from_bytes(Size { w: 20, h: 2, f: 1 }, 1, bytes);
-    let mut canvas = canvas_over(rt.alloc(), Size { w: 2, h: 2, f: 1 }, &sample)?;
-    let run = eliminated(&rt, rt.alloc(), &mut canvas, &sample, &[true; 4], 30_000)?;
+    let mut canvas = canvas_over(alloc, Size { w: 2, h: 2, f: 1 }, &sample)?;
+    let run = eliminated(rt, alloc, &mut canvas, &sample, &[true; 4], 30_000)?;
     assert!(rt; are_gone(&run, 19, 30_000, EVERY_OTHER));
     Ok(())
+}
+
+#[test]
+fn places_told_by_single_cells(rt: HostRuntime) {
+    expect_done(&rt, assert_places_told_by_single_cells(&rt, rt.alloc()));
 }

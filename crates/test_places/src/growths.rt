@@ -4,6 +4,7 @@ ghost use Rattle.cells.specs.Places.{IsSmall};
 ghost use Rattle.patch_place.specs.Fitting.{HasPatch};
 ghost use Rattle.cut_replay.specs.Replay.{IsFormed};
 
+use crate::expect::expect_done;
 use crate::rows::{greys, two_parts};
 use cells::{At, Box3, Size, Volume};
 use costs::total;
@@ -14,7 +15,6 @@ use map_canvas::{Canvas, Placement};
 use patch_place::Mode;
 use std::alloc::{AllocError, Global};
 use std::process::Abort;
-use std::test::Fail;
 
 const FIRST: At = At { x: 0, y: 0, f: 0 };
 
@@ -80,13 +80,17 @@ const SIX_COLUMNS: [(i32, i32); 6] = [(0, 0), (1, 0), (2, 0), (1, 0), (2, 0), (3
 
 // A row of 10, 20, 30 and 40 is grown to six cells by a grid that overlaps by two: the third cell is kept, and
 // the fourth is new. A round lays the first window again, all of whose choices cost the same.
-#[test]
-fn row_of_four_grown_to_six(rt: HostRuntime) -> Result<(), Fail> {
-    let sample = greys(rt.alloc())?;
+fn assert_row_of_four_grown_to_six(rt: &impl Abort, alloc: Global) -> Result<(), AllocError> {
+    let sample = greys(alloc)?;
     for rounds in 0..2u32 {
-        expect_six(&rt, rt.alloc(), &sample, rounds)?;
+        expect_six(rt, alloc, &sample, rounds)?;
     }
     Ok(())
+}
+
+#[test]
+fn row_of_four_grown_to_six(rt: HostRuntime) {
+    expect_done(&rt, assert_row_of_four_grown_to_six(&rt, rt.alloc()));
 }
 
 // Asserts what is grown to six cells, and its records.
@@ -170,19 +174,21 @@ fn assert_one_cell(rt: &impl Abort, alloc: Global, mode: Mode) -> Result<(), All
 
 // Each mode lays the cells one by one. Each of the 7 pairs costs as much as two places outside, but no window
 // of one cell costs anything, so that there is no round.
-#[test]
-fn one_cell_in_each_mode(rt: HostRuntime) -> Result<(), Fail> {
-    let alloc = rt.alloc();
-    assert_one_cell(&rt, alloc, Mode::Grid { overlap: 0 })?;
-    assert_one_cell(&rt, alloc, Mode::Random)?;
-    assert_one_cell(&rt, alloc, Mode::Whole { tol: 10 })?;
+fn assert_one_cell_in_each_mode(rt: &impl Abort, alloc: Global) -> Result<(), AllocError> {
+    assert_one_cell(rt, alloc, Mode::Grid { overlap: 0 })?;
+    assert_one_cell(rt, alloc, Mode::Random)?;
+    assert_one_cell(rt, alloc, Mode::Whole { tol: 10 })?;
     let sub = Mode::Sub {
         side: 32,
         overlap: 8,
         tol: 10,
     };
-    assert_one_cell(&rt, alloc, sub)?;
-    Ok(())
+    assert_one_cell(rt, alloc, sub)
+}
+
+#[test]
+fn one_cell_in_each_mode(rt: HostRuntime) {
+    expect_done(&rt, assert_one_cell_in_each_mode(&rt, rt.alloc()));
 }
 
 // Asserts a run over two parts, and gives whether its first cell is of part 1.
@@ -219,13 +225,12 @@ fn first_of_part_one(
 
 // Over two parts the second patch is that of part 2, whatever the draws. Where
 // the first is of part 1, only the place past its end costs something.
-#[test]
-fn three_cells_of_two_parts(rt: HostRuntime) -> Result<(), Fail> {
-    let sample = two_parts(rt.alloc())?;
+fn assert_three_cells_of_two_parts(rt: &impl Abort, alloc: Global) -> Result<(), AllocError> {
+    let sample = two_parts(alloc)?;
     let mut first_met = false;
     let mut second_met = false;
     for seed in 0..8u64 {
-        if first_of_part_one(&rt, rt.alloc(), &sample, seed)? {
+        if first_of_part_one(rt, alloc, &sample, seed)? {
             first_met = true;
         } else {
             second_met = true;
@@ -233,4 +238,9 @@ fn three_cells_of_two_parts(rt: HostRuntime) -> Result<(), Fail> {
     }
     assert!(rt; first_met && second_met);
     Ok(())
+}
+
+#[test]
+fn three_cells_of_two_parts(rt: HostRuntime) {
+    expect_done(&rt, assert_three_cells_of_two_parts(&rt, rt.alloc()));
 }

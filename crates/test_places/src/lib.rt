@@ -9,6 +9,8 @@ mod cuts;
 #[cfg(test)]
 mod eliminations;
 #[cfg(test)]
+mod expect;
+#[cfg(test)]
 mod growths;
 #[cfg(test)]
 mod match_sums;

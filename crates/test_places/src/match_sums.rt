@@ -1,24 +1,25 @@
 // Worked examples of match_error.
+use crate::expect::expect_done;
 use crate::rows::{assert_fits, greys, row_at, row_of};
 use cells::{At, Box3};
 use match_error::{
     Error, FilledCounts, FilledRows, error_sum_within, filled_count, overlap_error, within,
 };
-use std::test::Fail;
+use std::alloc::{AllocError, Global};
+use std::process::Abort;
 
 // Over an empty row, and over one of which two cells of the box are filled, with 30 and 40 where the sample
 // has 10 and 20.
-#[test]
-fn errors_of_a_row(rt: HostRuntime) -> Result<(), Fail> {
-    let sample = greys(rt.alloc())?;
+fn assert_errors_of_a_row(rt: &impl Abort, alloc: Global) -> Result<(), AllocError> {
+    let sample = greys(alloc)?;
     let cases: [(&[i32], u64, u32); 2] = [(&[], 0, 0), (&[0, 1, 2, 3], 2400, 2)];
     for (sources, sum, count) in cases {
-        let canvas = row_of(&rt, rt.alloc(), 6, &sample, sources)?;
+        let canvas = row_of(rt, alloc, 6, &sample, sources)?;
         let placement = row_at(2);
-        assert_fits(&rt, &canvas, &sample, &placement);
+        assert_fits(rt, &canvas, &sample, &placement);
         assert!(rt; overlap_error(&canvas, &sample, &placement) == Error { sum, count });
         assert!(rt; filled_count(&canvas, &placement.rect) == count);
-        let counts = FilledCounts::make(rt.alloc(), &canvas, &placement.rect)?;
+        let counts = FilledCounts::make(alloc, &canvas, &placement.rect)?;
         assert!(rt; counts.count(&canvas, &placement.rect) == count);
         assert!(rt; error_sum_within(None, &canvas, &sample, &placement, 2400) == Some(sum));
         let below = error_sum_within(None, &canvas, &sample, &placement, 2399);
@@ -27,21 +28,30 @@ fn errors_of_a_row(rt: HostRuntime) -> Result<(), Fail> {
     Ok(())
 }
 
-// Over the second of these rows, by the runs of the whole row: the box has the last two of their cells.
 #[test]
-fn error_over_runs(rt: HostRuntime) -> Result<(), Fail> {
-    let sample = greys(rt.alloc())?;
-    let canvas = row_of(&rt, rt.alloc(), 6, &sample, &[0, 1, 2, 3])?;
+fn errors_of_a_row(rt: HostRuntime) {
+    expect_done(&rt, assert_errors_of_a_row(&rt, rt.alloc()));
+}
+
+// Over the second of these rows, by the runs of the whole row: the box has the last two of their cells.
+fn assert_error_over_runs(rt: &impl Abort, alloc: Global) -> Result<(), AllocError> {
+    let sample = greys(alloc)?;
+    let canvas = row_of(rt, alloc, 6, &sample, &[0, 1, 2, 3])?;
     let placement = row_at(2);
-    assert_fits(&rt, &canvas, &sample, &placement);
+    assert_fits(rt, &canvas, &sample, &placement);
     let whole = Box3 {
         corner: At { x: 0, y: 0, f: 0 },
         size: canvas.map().size(),
     };
-    let rows = FilledRows::gather(rt.alloc(), &canvas, &whole)?;
+    let rows = FilledRows::gather(alloc, &canvas, &whole)?;
     let sum = error_sum_within(Some(&rows), &canvas, &sample, &placement, 2400);
     assert!(rt; sum == Some(2400));
     Ok(())
+}
+
+#[test]
+fn error_over_runs(rt: HostRuntime) {
+    expect_done(&rt, assert_error_over_runs(&rt, rt.alloc()));
 }
 
 #[test]

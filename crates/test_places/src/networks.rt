@@ -1,8 +1,8 @@
 // Worked examples of max_flow, and networks that another program solved.
+use crate::expect::expect_done;
 use max_flow::{Network, Pipe, solve};
 use std::alloc::{AllocError, Global};
 use std::process::Abort;
-use std::test::Fail;
 
 // A pipe of a table: its two ends, and what it can carry ahead and back.
 type Row = (u32, u32, u32, u32);
@@ -90,11 +90,10 @@ const SOLUTIONS: &[Solution<'static>] = &[
     ),
 ];
 
-#[test]
-fn worked_examples(rt: HostRuntime) -> Result<(), Fail> {
+fn assert_worked_examples(rt: &impl Abort, alloc: Global) -> Result<(), AllocError> {
     for (nodes, pipes, flow, value, side) in SOLUTIONS.iter() {
-        let network = network_of(&rt, rt.alloc(), *nodes, *pipes)?;
-        let solved = solve(rt.alloc(), &network)?;
+        let network = network_of(rt, alloc, *nodes, *pipes)?;
+        let solved = solve(alloc, &network)?;
         let is_flow = solved.flow.as_slice() == *flow && solved.value == *value;
         assert!(rt;
             is_flow && solved.source_side.as_slice() == *side,
@@ -102,6 +101,11 @@ fn worked_examples(rt: HostRuntime) -> Result<(), Fail> {
         );
     }
     Ok(())
+}
+
+#[test]
+fn worked_examples(rt: HostRuntime) {
+    expect_done(&rt, assert_worked_examples(&rt, rt.alloc()));
 }
 
 // The value of a greatest flow of a network, and how many nodes are on the source's side.
@@ -205,13 +209,23 @@ fn square_of_seams(alloc: Global, seed: u64) -> Result<Vec<Row>, AllocError> {
 }
 
 // The values and the sizes of the source sides are those that a solver by augmenting paths in Python found.
-#[test]
-fn networks_that_another_program_solved(rt: HostRuntime) -> Result<(), Fail> {
-    let pipes = grid(rt.alloc())?;
-    assert!(rt; solved(&rt, rt.alloc(), 258, &pipes)? == (14459, 177));
+fn assert_networks_that_another_program_solved(
+    rt: &impl Abort,
+    alloc: Global,
+) -> Result<(), AllocError> {
+    let pipes = grid(alloc)?;
+    assert!(rt; solved(rt, alloc, 258, &pipes)? == (14459, 177));
     for (seed, value, count) in [(0, 6574, 20), (1, 6120, 24), (2, 6357, 21)] {
-        let pipes = square_of_seams(rt.alloc(), seed)?;
-        assert!(rt; solved(&rt, rt.alloc(), 410, &pipes)? == (value, count));
+        let pipes = square_of_seams(alloc, seed)?;
+        assert!(rt; solved(rt, alloc, 410, &pipes)? == (value, count));
     }
     Ok(())
+}
+
+#[test]
+fn networks_that_another_program_solved(rt: HostRuntime) {
+    expect_done(
+        &rt,
+        assert_networks_that_another_program_solved(&rt, rt.alloc()),
+    );
 }

@@ -8,6 +8,7 @@ ghost use Rattle.patch_place.specs.Fitting.{FitsAndCovers, HasPatch};
 ghost use Rattle.patch_place.specs.Lists.{IsWithin};
 ghost use Rattle.patch_place.specs.Picks.{AllFit, HasEntries, listed_on};
 
+use crate::expect::expect_done;
 use crate::rows::{greys, row_of, two_parts};
 use cells::{At, Box3, PartPlace, Size, Volume};
 use costs::total;
@@ -16,7 +17,6 @@ use map_canvas::{Canvas, Placement};
 use patch_place::{Candidates, Draws, Mode, next_placement, pick, window_size};
 use std::alloc::{AllocError, Global};
 use std::process::Abort;
-use std::test::Fail;
 
 // The first ten words of a seed's stream, as another program computes them. The third key has its bytes in order.
 const FIRST_DRAWS: &[(u64, [u32; 10])] = &[
@@ -229,11 +229,15 @@ const ONE_PART: &[Listing<'static>] = &[
     ),
 ];
 
-#[test]
-fn lists_of_one_part(rt: HostRuntime) -> Result<(), Fail> {
-    let sample = plain(rt.alloc(), Size { w: 3, h: 2, f: 1 })?;
-    expect_listings(&rt, ONE_PART, OUTPUT, &sample);
+fn assert_lists_of_one_part(rt: &impl Abort, alloc: Global) -> Result<(), AllocError> {
+    let sample = plain(alloc, Size { w: 3, h: 2, f: 1 })?;
+    expect_listings(rt, ONE_PART, OUTPUT, &sample);
     Ok(())
+}
+
+#[test]
+fn lists_of_one_part(rt: HostRuntime) {
+    expect_done(&rt, assert_lists_of_one_part(&rt, rt.alloc()));
 }
 
 // Copies of a sample of 4x1 that overlap by two cells, in an output of 7x1. An overlap of all cells is one of
@@ -266,11 +270,15 @@ const GRID: &[Listing<'static>] = &[
     ),
 ];
 
-#[test]
-fn grid_lists(rt: HostRuntime) -> Result<(), Fail> {
-    let sample = plain(rt.alloc(), Size { w: 4, h: 1, f: 1 })?;
-    expect_listings(&rt, GRID, Size { w: 7, h: 1, f: 1 }, &sample);
+fn assert_grid_lists(rt: &impl Abort, alloc: Global) -> Result<(), AllocError> {
+    let sample = plain(alloc, Size { w: 4, h: 1, f: 1 })?;
+    expect_listings(rt, GRID, Size { w: 7, h: 1, f: 1 }, &sample);
     Ok(())
+}
+
+#[test]
+fn grid_lists(rt: HostRuntime) {
+    expect_done(&rt, assert_grid_lists(&rt, rt.alloc()));
 }
 
 // A sample of two parts of these sizes.
@@ -322,29 +330,24 @@ const WIDE_BOX: Box3 = Box3 {
     size: Size { w: 3, h: 1, f: 1 },
 };
 
-#[test]
-fn lists_of_two_parts(rt: HostRuntime) -> Result<(), Fail> {
-    let sample = joined(
-        rt.alloc(),
-        Size { w: 3, h: 2, f: 1 },
-        Size { w: 2, h: 1, f: 1 },
-    )?;
-    expect_listings(&rt, TWO_PARTS, OUTPUT, &sample);
+fn assert_lists_of_two_parts(rt: &impl Abort, alloc: Global) -> Result<(), AllocError> {
+    let sample = joined(alloc, Size { w: 3, h: 2, f: 1 }, Size { w: 2, h: 1, f: 1 })?;
+    expect_listings(rt, TWO_PARTS, OUTPUT, &sample);
     let list = Candidates::Fits { rect: WIDE_BOX };
     assert!(rt; are_listed(&list, OUTPUT, &sample, WIDE));
     assert!(rt; window_size(32, OUTPUT, &sample) == Size { w: 2, h: 1, f: 1 });
     Ok(())
 }
 
-// A box of two frames in clips of three frames and of two, of which the second begins in frame 4.
 #[test]
-fn lists_of_frames(rt: HostRuntime) -> Result<(), Fail> {
+fn lists_of_two_parts(rt: HostRuntime) {
+    expect_done(&rt, assert_lists_of_two_parts(&rt, rt.alloc()));
+}
+
+// A box of two frames in clips of three frames and of two, of which the second begins in frame 4.
+fn assert_lists_of_frames(rt: &impl Abort, alloc: Global) -> Result<(), AllocError> {
     let output = Size { w: 1, h: 1, f: 4 };
-    let sample = joined(
-        rt.alloc(),
-        Size { w: 1, h: 1, f: 3 },
-        Size { w: 1, h: 1, f: 2 },
-    )?;
+    let sample = joined(alloc, Size { w: 1, h: 1, f: 3 }, Size { w: 1, h: 1, f: 2 })?;
     let rect = Box3 {
         corner: At { x: 0, y: 0, f: 1 },
         size: Size { w: 1, h: 1, f: 2 },
@@ -359,6 +362,11 @@ fn lists_of_frames(rt: HostRuntime) -> Result<(), Fail> {
         );
     }
     Ok(())
+}
+
+#[test]
+fn lists_of_frames(rt: HostRuntime) {
+    expect_done(&rt, assert_lists_of_frames(&rt, rt.alloc()));
 }
 
 // The next placement over a row by the draw of a number, as its corner, its length and its column of the
@@ -466,14 +474,18 @@ fn expect_picks(
     Ok(())
 }
 
-#[test]
-fn picks_within_a_tolerance(rt: HostRuntime) -> Result<(), Fail> {
-    let sample = greys(rt.alloc())?;
+fn assert_picks_within_a_tolerance(rt: &impl Abort, alloc: Global) -> Result<(), AllocError> {
+    let sample = greys(alloc)?;
     for row in TOLERATED.iter() {
-        let canvas = row_of(&rt, rt.alloc(), 6, &sample, &row.0)?;
-        expect_picks(&rt, rt.alloc(), &canvas, &sample, row)?;
+        let canvas = row_of(rt, alloc, 6, &sample, &row.0)?;
+        expect_picks(rt, alloc, &canvas, &sample, row)?;
     }
     Ok(())
+}
+
+#[test]
+fn picks_within_a_tolerance(rt: HostRuntime) {
+    expect_done(&rt, assert_picks_within_a_tolerance(&rt, rt.alloc()));
 }
 
 const BROAD: Mode = Mode::Sub {
@@ -496,16 +508,20 @@ const STEPS: &[(Mode, u64, Step, Step)] = &[
     (BROAD, u64::MAX, ((0, 3, 1), 0), ((0, 3, 0), 0)),
 ];
 
-#[test]
-fn steps_of_each_mode(rt: HostRuntime) -> Result<(), Fail> {
-    let sample = greys(rt.alloc())?;
-    let empty = row_of(&rt, rt.alloc(), 6, &sample, &[])?;
-    let begun = row_of(&rt, rt.alloc(), 6, &sample, &[1, 0])?;
+fn assert_steps_of_each_mode(rt: &impl Abort, alloc: Global) -> Result<(), AllocError> {
+    let sample = greys(alloc)?;
+    let empty = row_of(rt, alloc, 6, &sample, &[])?;
+    let begun = row_of(rt, alloc, 6, &sample, &[1, 0])?;
     for (mode, number, on_empty, on_begun) in STEPS.iter() {
-        expect_step(&rt, rt.alloc(), mode, *number, &empty, &sample, on_empty)?;
-        expect_step(&rt, rt.alloc(), mode, *number, &begun, &sample, on_begun)?;
+        expect_step(rt, alloc, mode, *number, &empty, &sample, on_empty)?;
+        expect_step(rt, alloc, mode, *number, &begun, &sample, on_begun)?;
     }
     Ok(())
+}
+
+#[test]
+fn steps_of_each_mode(rt: HostRuntime) {
+    expect_done(&rt, assert_steps_of_each_mode(&rt, rt.alloc()));
 }
 
 // Asserts the step of a mode by the draw of a number.
@@ -536,13 +552,17 @@ fn has_patch(mode: &Mode) -> bool
     }
 }
 
-#[test]
-fn no_step_on_a_full_row(rt: HostRuntime) -> Result<(), Fail> {
-    let sample = greys(rt.alloc())?;
-    let canvas = row_of(&rt, rt.alloc(), 6, &sample, &[1, 0, 0, 0, 3, 2])?;
-    let step = step_at(rt.alloc(), &Mode::Random, &canvas, &sample, 9)?;
+fn assert_no_step_on_a_full_row(rt: &impl Abort, alloc: Global) -> Result<(), AllocError> {
+    let sample = greys(alloc)?;
+    let canvas = row_of(rt, alloc, 6, &sample, &[1, 0, 0, 0, 3, 2])?;
+    let step = step_at(alloc, &Mode::Random, &canvas, &sample, 9)?;
     assert!(rt; step == (None, 9));
     Ok(())
+}
+
+#[test]
+fn no_step_on_a_full_row(rt: HostRuntime) {
+    expect_done(&rt, assert_no_step_on_a_full_row(&rt, rt.alloc()));
 }
 
 // Two parts of 2x1, of the greys 10 and 20 and of 20 and 30. Cells 0 and 1 of three are from the first part; the
@@ -569,11 +589,15 @@ fn expect_second_part(
     Ok(())
 }
 
-#[test]
-fn a_patch_of_the_second_part(rt: HostRuntime) -> Result<(), Fail> {
-    let sample = two_parts(rt.alloc())?;
+fn assert_a_patch_of_the_second_part(rt: &impl Abort, alloc: Global) -> Result<(), AllocError> {
+    let sample = two_parts(alloc)?;
     for number in 0..8 {
-        expect_second_part(&rt, rt.alloc(), &sample, number)?;
+        expect_second_part(rt, alloc, &sample, number)?;
     }
     Ok(())
+}
+
+#[test]
+fn a_patch_of_the_second_part(rt: HostRuntime) {
+    expect_done(&rt, assert_a_patch_of_the_second_part(&rt, rt.alloc()));
 }

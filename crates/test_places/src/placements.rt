@@ -2,6 +2,7 @@
 // flows are forced.
 ghost use Rattle.map_canvas.specs.Canvases.{StandsOver};
 
+use crate::expect::expect_done;
 use crate::rows::{assert_fits, canvas_over, greys, put, row_at, row_of};
 use cells::{At, Box3, Size, Volume};
 use costs::{are_marks, window};
@@ -10,7 +11,6 @@ use graph_place::place_held;
 use map_canvas::{Canvas, Placement};
 use std::alloc::{AllocError, Global};
 use std::process::Abort;
-use std::test::Fail;
 
 const FIRST: At = At { x: 0, y: 0, f: 0 };
 
@@ -44,13 +44,12 @@ fn assert_placed(
 
 // A row that is empty at first; then the first cell of the box is kept, and the second becomes new; then all
 // cells are filled, and the last of the box is kept.
-#[test]
-fn rows_of_greys(rt: HostRuntime) -> Result<(), Fail> {
-    let sample = greys(rt.alloc())?;
-    let mut canvas = row_of(&rt, rt.alloc(), 6, &sample, &[])?;
+fn assert_rows_of_greys(rt: &impl Abort, alloc: Global) -> Result<(), AllocError> {
+    let sample = greys(alloc)?;
+    let mut canvas = row_of(rt, alloc, 6, &sample, &[])?;
     assert_placed(
-        &rt,
-        rt.alloc(),
+        rt,
+        alloc,
         &mut canvas,
         &sample,
         row_at(0),
@@ -60,8 +59,8 @@ fn rows_of_greys(rt: HostRuntime) -> Result<(), Fail> {
         0,
     )?;
     assert_placed(
-        &rt,
-        rt.alloc(),
+        rt,
+        alloc,
         &mut canvas,
         &sample,
         row_at(2),
@@ -71,8 +70,8 @@ fn rows_of_greys(rt: HostRuntime) -> Result<(), Fail> {
         120,
     )?;
     assert_placed(
-        &rt,
-        rt.alloc(),
+        rt,
+        alloc,
         &mut canvas,
         &sample,
         row_at(0),
@@ -93,16 +92,20 @@ fn rows_of_greys(rt: HostRuntime) -> Result<(), Fail> {
     Ok(())
 }
 
-// With its second cell held, two cells of the box stay old; what comes to the one goes on to the other.
 #[test]
-fn row_with_a_held_cell(rt: HostRuntime) -> Result<(), Fail> {
-    let sample = greys(rt.alloc())?;
-    let mut canvas = row_of(&rt, rt.alloc(), 6, &sample, &[0, 1, 2, 3])?;
+fn rows_of_greys(rt: HostRuntime) {
+    expect_done(&rt, assert_rows_of_greys(&rt, rt.alloc()));
+}
+
+// With its second cell held, two cells of the box stay old; what comes to the one goes on to the other.
+fn assert_row_with_a_held_cell(rt: &impl Abort, alloc: Global) -> Result<(), AllocError> {
+    let sample = greys(alloc)?;
+    let mut canvas = row_of(rt, alloc, 6, &sample, &[0, 1, 2, 3])?;
     let placement = row_at(2);
     let held = Some([false, true, false, false].as_slice());
-    assert_fits(&rt, &canvas, &sample, &placement);
+    assert_fits(rt, &canvas, &sample, &placement);
     assert!(rt; are_marks(&canvas, &placement, held));
-    let cut = place_held(rt.alloc(), &mut canvas, &sample, placement, held)?;
+    let cut = place_held(alloc, &mut canvas, &sample, placement, held)?;
     assert!(rt; cut.choice.as_slice() == [false, false, true, true].as_slice());
     let flows = cut.flows.as_slice();
     assert!(rt; flows.len() == 3);
@@ -112,16 +115,20 @@ fn row_with_a_held_cell(rt: HostRuntime) -> Result<(), Fail> {
     Ok(())
 }
 
-// A box of two rows with one kept cell: what leaves it along X and along Y.
 #[test]
-fn flows_of_two_axes(rt: HostRuntime) -> Result<(), Fail> {
-    let bytes = Vec::from_slice(rt.alloc(), &[0, 10, 50, 30, 70, 100])?;
+fn row_with_a_held_cell(rt: HostRuntime) {
+    expect_done(&rt, assert_row_with_a_held_cell(&rt, rt.alloc()));
+}
+
+// A box of two rows with one kept cell: what leaves it along X and along Y.
+fn assert_flows_of_two_axes(rt: &impl Abort, alloc: Global) -> Result<(), AllocError> {
+    let bytes = Vec::from_slice(alloc, &[0, 10, 50, 30, 70, 100])?;
     let size = Size { w: 3, h: 2, f: 1 };
     let sample = Volume::from_bytes(size, 1, bytes);
-    let mut canvas = canvas_over(rt.alloc(), size, &sample)?;
-    put(&rt, &mut canvas, &sample, FIRST, At { x: 1, y: 1, f: 0 });
+    let mut canvas = canvas_over(alloc, size, &sample)?;
+    put(rt, &mut canvas, &sample, FIRST, At { x: 1, y: 1, f: 0 });
     let second = At { x: 1, y: 0, f: 0 };
-    put(&rt, &mut canvas, &sample, second, At { x: 2, y: 0, f: 0 });
+    put(rt, &mut canvas, &sample, second, At { x: 2, y: 0, f: 0 });
     let placement = Placement {
         rect: Box3 {
             corner: second,
@@ -130,8 +137,8 @@ fn flows_of_two_axes(rt: HostRuntime) -> Result<(), Fail> {
         from: FIRST,
     };
     assert_placed(
-        &rt,
-        rt.alloc(),
+        rt,
+        alloc,
         &mut canvas,
         &sample,
         placement,
@@ -139,21 +146,24 @@ fn flows_of_two_axes(rt: HostRuntime) -> Result<(), Fail> {
         &[false, true, true, true],
         &[flow(305, 0), flow(120, 0), flow(0, 0), flow(0, 0)],
         425,
-    )?;
-    Ok(())
+    )
+}
+
+#[test]
+fn flows_of_two_axes(rt: HostRuntime) {
+    expect_done(&rt, assert_flows_of_two_axes(&rt, rt.alloc()));
 }
 
 // A box of two cells on each axis whose last cell is kept: what leaves it along F, Y and X, by the numbers 7,
 // 10 and 11 of these pairs.
-#[test]
-fn flows_of_three_axes(rt: HostRuntime) -> Result<(), Fail> {
-    let bytes = Vec::from_slice(rt.alloc(), &[0, 10, 30, 70, 150, 200, 90, 255])?;
+fn assert_flows_of_three_axes(rt: &impl Abort, alloc: Global) -> Result<(), AllocError> {
+    let bytes = Vec::from_slice(alloc, &[0, 10, 30, 70, 150, 200, 90, 255])?;
     let cube = Size { w: 2, h: 2, f: 2 };
     let sample = Volume::from_bytes(cube, 1, bytes);
-    let mut canvas = canvas_over(rt.alloc(), Size { w: 3, h: 2, f: 2 }, &sample)?;
-    put(&rt, &mut canvas, &sample, At { x: 2, y: 1, f: 1 }, FIRST);
+    let mut canvas = canvas_over(alloc, Size { w: 3, h: 2, f: 2 }, &sample)?;
+    put(rt, &mut canvas, &sample, At { x: 2, y: 1, f: 1 }, FIRST);
     let last = At { x: 1, y: 1, f: 1 };
-    put(&rt, &mut canvas, &sample, last, At { x: 0, y: 1, f: 1 });
+    put(rt, &mut canvas, &sample, last, At { x: 0, y: 1, f: 1 });
     let placement = Placement {
         rect: Box3 {
             corner: FIRST,
@@ -167,8 +177,8 @@ fn flows_of_three_axes(rt: HostRuntime) -> Result<(), Fail> {
     flows[11] = flow(0, -420);
     let choice = [true, true, true, true, true, true, true, false];
     assert_placed(
-        &rt,
-        rt.alloc(),
+        rt,
+        alloc,
         &mut canvas,
         &sample,
         placement,
@@ -176,6 +186,10 @@ fn flows_of_three_axes(rt: HostRuntime) -> Result<(), Fail> {
         &choice,
         &flows,
         840,
-    )?;
-    Ok(())
+    )
+}
+
+#[test]
+fn flows_of_three_axes(rt: HostRuntime) {
+    expect_done(&rt, assert_flows_of_three_axes(&rt, rt.alloc()));
 }

@@ -1,6 +1,7 @@
 // Worked examples of whole quilted runs over a row of four cells.
 ghost use Rattle.std.specs.Prelude.{◌≤◌};
 
+use crate::expect::expect_done;
 use crate::rows::greys;
 use block_strips::{QuiltPlan, empty_map_is_laid};
 use cells::{At, Size};
@@ -54,21 +55,24 @@ fn expect_row(
 
 // One block covers the row: it has no boundary. Two blocks overlap by two cells whose errors are both 1,200:
 // the boundary costs that, and is in column 0.
-#[test]
-fn rows(rt: HostRuntime) -> Result<(), Fail> {
+fn assert_rows(rt: &impl Abort, alloc: Global) -> Result<(), AllocError> {
     let whole = QuiltPlan {
         block: 8,
         overlap: 5,
         tol: 10,
     };
-    expect_row(&rt, rt.alloc(), whole, &[0, 1, 2, 3], 1, 0, 0)?;
+    expect_row(rt, alloc, whole, &[0, 1, 2, 3], 1, 0, 0)?;
     let halves = QuiltPlan {
         block: 4,
         overlap: 2,
         tol: 10,
     };
-    expect_row(&rt, rt.alloc(), halves, &[0, 1, 0, 1, 2, 3], 2, 1, 1200)?;
-    Ok(())
+    expect_row(rt, alloc, halves, &[0, 1, 0, 1, 2, 3], 2, 1, 1200)
+}
+
+#[test]
+fn rows(rt: HostRuntime) {
+    expect_done(&rt, assert_rows(&rt, rt.alloc()));
 }
 
 // The first block covers the row, with no boundary, by the first draw; then the row is full.

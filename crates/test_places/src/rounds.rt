@@ -1,16 +1,16 @@
 // A round by the call that makes its sums.
+use crate::expect::expect_done;
 use crate::rows::{greys, row_of};
 use patch_place::Draws;
 use refine_seams::{round, round_windows};
-use std::test::Fail;
+use std::alloc::{AllocError, Global};
+use std::process::Abort;
 
 // A row of two copies that overlap by two cells. Its first window is laid again by one draw: nothing but the sample's
 // own place fits, and what it leaves costs no less.
-#[test]
-fn one_round(rt: HostRuntime) -> Result<(), Fail> {
-    let alloc = rt.alloc();
+fn assert_one_round(rt: &impl Abort, alloc: Global) -> Result<(), AllocError> {
     let sample = greys(alloc)?;
-    let mut canvas = row_of(&rt, alloc, 6, &sample, &[0, 1, 2, 1, 2, 3])?;
+    let mut canvas = row_of(rt, alloc, 6, &sample, &[0, 1, 2, 1, 2, 3])?;
     assert!(rt; canvas.first_unfilled().is_none());
     let mut table = round_windows(alloc, &canvas, &sample, 4)?;
     let mut draws = Draws::from_seed(0);
@@ -19,4 +19,9 @@ fn one_round(rt: HostRuntime) -> Result<(), Fail> {
     assert!(rt; choice == Some(true));
     assert!(rt; draws.place() == 1);
     Ok(())
+}
+
+#[test]
+fn one_round(rt: HostRuntime) {
+    expect_done(&rt, assert_one_round(&rt, rt.alloc()));
 }

@@ -5,6 +5,7 @@ ghost use Rattle.cells.specs.Places.{IsSmall};
 ghost use Rattle.map_canvas.specs.Canvases.{StandsOver};
 ghost use Rattle.tile_run.specs.Tilings.{IsRunPlan};
 
+use crate::expect::expect_done;
 use crate::rows::{canvas_over, put};
 use cells::{At, Size, Volume};
 use costs::total;
@@ -13,7 +14,6 @@ use map_canvas::Canvas;
 use patch_place::Draws;
 use std::alloc::{AllocError, Global};
 use std::process::Abort;
-use std::test::Fail;
 use tile_run::{RunPlan, tile_canvas};
 use torus::{next_tile, torus_total};
 
@@ -47,25 +47,25 @@ fn next_of_row(
     Ok(laid.map(|it| (it.rect.corner.x, it.rect.size.w, it.from.x)))
 }
 
+const GREEDY: TilePlan = TilePlan {
+    wrap: ACROSS,
+    side: 32,
+    overlap: 8,
+    tol: 10,
+};
+
 // Over two greys the first patch has the cells 2 and 0 of a row of three, and the second the cells 0 and 1, of
 // which the first is kept. Then the row is full, and stays as it is.
-#[test]
-fn row_of_three(rt: HostRuntime) -> Result<(), Fail> {
-    let bytes = Vec::from_slice(rt.alloc(), &[10, 10, 10, 20, 20, 20])?;
+fn assert_row_of_three(rt: &impl Abort, alloc: Global) -> Result<(), AllocError> {
+    let bytes = Vec::from_slice(alloc, &[10, 10, 10, 20, 20, 20])?;
     let sample = Volume::from_bytes(Size { w: 2, h: 1, f: 1 }, 3, bytes);
-    let mut canvas = canvas_over(rt.alloc(), Size { w: 3, h: 1, f: 1 }, &sample)?;
+    let mut canvas = canvas_over(alloc, Size { w: 3, h: 1, f: 1 }, &sample)?;
     let mut draws = Draws::from_seed(0);
-    let plan = TilePlan {
-        wrap: ACROSS,
-        side: 32,
-        overlap: 8,
-        tol: 10,
-    };
-    let first = next_of_row(&rt, rt.alloc(), &plan, &mut canvas, &sample, &mut draws)?;
+    let first = next_of_row(rt, alloc, &GREEDY, &mut canvas, &sample, &mut draws)?;
     assert!(rt; first == Some((2, 2, 0)));
-    let second = next_of_row(&rt, rt.alloc(), &plan, &mut canvas, &sample, &mut draws)?;
+    let second = next_of_row(rt, alloc, &GREEDY, &mut canvas, &sample, &mut draws)?;
     assert!(rt; second == Some((0, 2, 0)));
-    let third = next_of_row(&rt, rt.alloc(), &plan, &mut canvas, &sample, &mut draws)?;
+    let third = next_of_row(rt, alloc, &GREEDY, &mut canvas, &sample, &mut draws)?;
     assert!(rt; third == None);
     assert!(rt; draws.place() == 2);
     assert!(rt;
@@ -79,10 +79,21 @@ fn row_of_three(rt: HostRuntime) -> Result<(), Fail> {
     Ok(())
 }
 
-// A patch of the longest axis is cut to two cells less than a volume may have.
 #[test]
-fn longest_row(rt: HostRuntime) -> Result<(), Fail> {
-    let bytes = vec![in rt.alloc(); 7; 4096]?;
+fn row_of_three(rt: HostRuntime) {
+    expect_done(&rt, assert_row_of_three(&rt, rt.alloc()));
+}
+
+const LONGEST: TilePlan = TilePlan {
+    wrap: ACROSS,
+    side: 4096,
+    overlap: 0,
+    tol: 0,
+};
+
+// A patch of the longest axis is cut to two cells less than a volume may have.
+fn assert_longest_row(rt: &impl Abort, alloc: Global) -> Result<(), AllocError> {
+    let bytes = vec![in alloc; 7; 4096]?;
     let sample = Volume::from_bytes(
         Size {
             w: 4096,
@@ -93,7 +104,7 @@ fn longest_row(rt: HostRuntime) -> Result<(), Fail> {
         bytes,
     );
     let mut canvas = canvas_over(
-        rt.alloc(),
+        alloc,
         Size {
             w: 4096,
             h: 1,
@@ -102,15 +113,14 @@ fn longest_row(rt: HostRuntime) -> Result<(), Fail> {
         &sample,
     )?;
     let mut draws = Draws::from_seed(0);
-    let plan = TilePlan {
-        wrap: ACROSS,
-        side: 4096,
-        overlap: 0,
-        tol: 0,
-    };
-    let first = next_of_row(&rt, rt.alloc(), &plan, &mut canvas, &sample, &mut draws)?;
+    let first = next_of_row(rt, alloc, &LONGEST, &mut canvas, &sample, &mut draws)?;
     assert!(rt; first.map(|it| (it.0, it.1)) == Some((0, 4094)));
     Ok(())
+}
+
+#[test]
+fn longest_row(rt: HostRuntime) {
+    expect_done(&rt, assert_longest_row(&rt, rt.alloc()));
 }
 
 // A coordinate of what is laid twice along an axis of n cells, in the first of the two.
@@ -187,72 +197,84 @@ fn assert_twice(
     Ok(())
 }
 
+const ROW: RunPlan = RunPlan {
+    size: Size { w: 5, h: 1, f: 1 },
+    tile: TilePlan {
+        wrap: ACROSS,
+        side: 3,
+        overlap: 1,
+        tol: 10,
+    },
+    seed: 0,
+};
+
 // A row of five over nine greys in a row, a picture of them in a square, and a clip of three frames.
-#[test]
-fn twice_across(rt: HostRuntime) -> Result<(), Fail> {
-    let bytes = Vec::from_slice(rt.alloc(), &[0, 10, 50, 30, 70, 100, 20, 60, 90])?;
+fn assert_twice_across(rt: &impl Abort, alloc: Global) -> Result<(), AllocError> {
+    let bytes = Vec::from_slice(alloc, &[0, 10, 50, 30, 70, 100, 20, 60, 90])?;
     let sample = Volume::from_bytes(Size { w: 9, h: 1, f: 1 }, 1, bytes);
-    let plan = RunPlan {
-        size: Size { w: 5, h: 1, f: 1 },
-        tile: TilePlan {
-            wrap: ACROSS,
-            side: 3,
-            overlap: 1,
-            tol: 10,
-        },
-        seed: 0,
-    };
     let twice = Size { w: 10, h: 1, f: 1 };
-    assert_twice(&rt, rt.alloc(), &plan, &sample, twice, 1)?;
-    Ok(())
+    assert_twice(rt, alloc, &ROW, &sample, twice, 1)
 }
 
 #[test]
-fn twice_on_two_axes(rt: HostRuntime) -> Result<(), Fail> {
-    let bytes = Vec::from_slice(rt.alloc(), &[0, 10, 50, 30, 70, 100, 20, 60, 90])?;
-    let sample = Volume::from_bytes(Size { w: 3, h: 3, f: 1 }, 1, bytes);
-    let plan = RunPlan {
-        size: Size { w: 5, h: 4, f: 1 },
-        tile: TilePlan {
-            wrap: Wrap {
-                x: true,
-                y: true,
-                f: false,
-            },
-            side: 3,
-            overlap: 1,
-            tol: 10,
+fn twice_across(rt: HostRuntime) {
+    expect_done(&rt, assert_twice_across(&rt, rt.alloc()));
+}
+
+const PICTURE: RunPlan = RunPlan {
+    size: Size { w: 5, h: 4, f: 1 },
+    tile: TilePlan {
+        wrap: Wrap {
+            x: true,
+            y: true,
+            f: false,
         },
-        seed: 0,
-    };
+        side: 3,
+        overlap: 1,
+        tol: 10,
+    },
+    seed: 0,
+};
+
+fn assert_twice_on_two_axes(rt: &impl Abort, alloc: Global) -> Result<(), AllocError> {
+    let bytes = Vec::from_slice(alloc, &[0, 10, 50, 30, 70, 100, 20, 60, 90])?;
+    let sample = Volume::from_bytes(Size { w: 3, h: 3, f: 1 }, 1, bytes);
     let twice = Size { w: 10, h: 8, f: 1 };
-    assert_twice(&rt, rt.alloc(), &plan, &sample, twice, 2)?;
-    Ok(())
+    assert_twice(rt, alloc, &PICTURE, &sample, twice, 2)
 }
 
 #[test]
-fn twice_on_three_axes(rt: HostRuntime) -> Result<(), Fail> {
+fn twice_on_two_axes(rt: HostRuntime) {
+    expect_done(&rt, assert_twice_on_two_axes(&rt, rt.alloc()));
+}
+
+const CLIP: RunPlan = RunPlan {
+    size: Size { w: 3, h: 3, f: 3 },
+    tile: TilePlan {
+        wrap: Wrap {
+            x: true,
+            y: true,
+            f: true,
+        },
+        side: 2,
+        overlap: 1,
+        tol: 10,
+    },
+    seed: 0,
+};
+
+fn assert_twice_on_three_axes(rt: &impl Abort, alloc: Global) -> Result<(), AllocError> {
     let frames = [
         3, 200, 7, 90, 41, 250, 130, 18, 77, 5, 160, 222, 31, 99, 64, 180, 12, 245, 53, 140, 71, 9,
         210, 35, 118, 27, 66,
     ];
-    let bytes = Vec::from_slice(rt.alloc(), &frames)?;
+    let bytes = Vec::from_slice(alloc, &frames)?;
     let sample = Volume::from_bytes(Size { w: 3, h: 3, f: 3 }, 1, bytes);
-    let plan = RunPlan {
-        size: Size { w: 3, h: 3, f: 3 },
-        tile: TilePlan {
-            wrap: Wrap {
-                x: true,
-                y: true,
-                f: true,
-            },
-            side: 2,
-            overlap: 1,
-            tol: 10,
-        },
-        seed: 0,
-    };
     let twice = Size { w: 6, h: 6, f: 6 };
-    assert_twice(&rt, rt.alloc(), &plan, &sample, twice, 4)?;
-    Ok(())
+    assert_twice(rt, alloc, &CLIP, &sample, twice, 4)
+}
+
+#[test]
+fn twice_on_three_axes(rt: HostRuntime) {
+    expect_done(&rt, assert_twice_on_three_axes(&rt, rt.alloc()));
 }

@@ -3,12 +3,12 @@
 ghost use Rattle.std.specs.Prelude.{◌≡◌, pos, IfOk};
 ghost use Rattle.map_canvas.specs.Canvases.{StandsOver};
 
+use crate::expect::{expect_done, expect_none, expect_true};
 use crate::laying::{canvas_over, holds_axis, put_choice};
 use cells::{At, Box3, Size, Volume};
 use map_canvas::{Canvas, Map};
 use std::alloc::{AllocError, Global};
 use std::process::Abort;
-use std::test::Fail;
 
 // The sources of a sample of one row.
 const LEFT: Option<At> = Some(At { x: 0, y: 0, f: 0 });
@@ -39,15 +39,14 @@ fn assert_row(
     assert!(rt; canvas.first_unfilled() == first);
 }
 
-#[test]
-fn choices_fill_a_canvas(rt: HostRuntime) -> Result<(), Fail> {
-    let bytes = Vec::from_slice(rt.alloc(), &[10, 20])?;
+fn expect_choices(rt: &impl Abort, alloc: Global) -> Result<(), AllocError> {
+    let bytes = Vec::from_slice(alloc, &[10, 20])?;
     let sample = Volume::from_bytes(Size { w: 2, h: 1, f: 1 }, 1, bytes);
-    let mut canvas = canvas_over(rt.alloc(), Size { w: 5, h: 1, f: 1 }, &sample)?;
-    assert_row(&rt, &canvas, &[None; 5], &[0; 5], Some(at(0, 0)));
+    let mut canvas = canvas_over(alloc, Size { w: 5, h: 1, f: 1 }, &sample)?;
+    assert_row(rt, &canvas, &[None; 5], &[0; 5], Some(at(0, 0)));
 
     put_choice(
-        &rt,
+        rt,
         &mut canvas,
         &sample,
         at(0, 0),
@@ -56,11 +55,11 @@ fn choices_fill_a_canvas(rt: HostRuntime) -> Result<(), Fail> {
         &[true, true],
     );
     let sources = [LEFT, RIGHT, None, None, None];
-    assert_row(&rt, &canvas, &sources, &[10, 20, 0, 0, 0], Some(at(2, 0)));
+    assert_row(rt, &canvas, &sources, &[10, 20, 0, 0, 0], Some(at(2, 0)));
 
     // Cell 1 stays old.
     put_choice(
-        &rt,
+        rt,
         &mut canvas,
         &sample,
         at(1, 0),
@@ -69,11 +68,11 @@ fn choices_fill_a_canvas(rt: HostRuntime) -> Result<(), Fail> {
         &[false, true],
     );
     let sources = [LEFT, RIGHT, RIGHT, None, None];
-    assert_row(&rt, &canvas, &sources, &[10, 20, 20, 0, 0], Some(at(3, 0)));
+    assert_row(rt, &canvas, &sources, &[10, 20, 20, 0, 0], Some(at(3, 0)));
 
     // Cell 3 stays unfilled, before a filled one.
     put_choice(
-        &rt,
+        rt,
         &mut canvas,
         &sample,
         at(4, 0),
@@ -82,10 +81,10 @@ fn choices_fill_a_canvas(rt: HostRuntime) -> Result<(), Fail> {
         &[true],
     );
     let sources = [LEFT, RIGHT, RIGHT, None, LEFT];
-    assert_row(&rt, &canvas, &sources, &[10, 20, 20, 0, 10], Some(at(3, 0)));
+    assert_row(rt, &canvas, &sources, &[10, 20, 20, 0, 10], Some(at(3, 0)));
 
     put_choice(
-        &rt,
+        rt,
         &mut canvas,
         &sample,
         at(3, 0),
@@ -94,8 +93,13 @@ fn choices_fill_a_canvas(rt: HostRuntime) -> Result<(), Fail> {
         &[true, false],
     );
     let sources = [LEFT, RIGHT, RIGHT, LEFT, LEFT];
-    assert_row(&rt, &canvas, &sources, &[10, 20, 20, 10, 10], None);
+    assert_row(rt, &canvas, &sources, &[10, 20, 20, 10, 10], None);
     Ok(())
+}
+
+#[test]
+fn choices_fill_a_canvas(rt: HostRuntime) {
+    expect_done(&rt, expect_choices(&rt, rt.alloc()));
 }
 
 // A canvas of two rows over a sample of one, of 2 samples a cell, with three filled cells.
@@ -129,23 +133,31 @@ const KEPT: &[((i32, i32), (u32, u32), (i32, i32), bool)] = &[
     ((-9, 0), (9, 2), (-1, 0), false),
 ];
 
-#[test]
-fn kept_cells_of_a_box(rt: HostRuntime) -> Result<(), Fail> {
-    let bytes = Vec::from_slice(rt.alloc(), &[10, 11, 20, 21])?;
-    let sample = Volume::from_bytes(Size { w: 2, h: 1, f: 1 }, 2, bytes);
-    let canvas = part_filled(&rt, rt.alloc(), &sample)?;
-    for (corner, size, cell, kept) in KEPT.iter() {
+// The number of the first row, from 0, that isn't so.
+fn wrong_kept(canvas: &Canvas) -> Option<usize> {
+    for (i, (corner, size, cell, kept)) in KEPT.iter().enumerate() {
         let (w, h) = *size;
         let rect = Box3 {
             corner: at(corner.0, corner.1),
             size: Size { w, h, f: 1 },
         };
-        assert!(rt;
-            canvas.is_kept(&rect, at(cell.0, cell.1)) == *kept,
-            "{cell:?} of {w} x {h} at {corner:?}"
-        );
+        if canvas.is_kept(&rect, at(cell.0, cell.1)) != *kept {
+            return Some(i);
+        }
     }
-    Ok(())
+    None
+}
+
+fn wrong_kept_of_three(rt: &impl Abort, alloc: Global) -> Result<Option<usize>, AllocError> {
+    let bytes = Vec::from_slice(alloc, &[10, 11, 20, 21])?;
+    let sample = Volume::from_bytes(Size { w: 2, h: 1, f: 1 }, 2, bytes);
+    let canvas = part_filled(rt, alloc, &sample)?;
+    Ok(wrong_kept(&canvas))
+}
+
+#[test]
+fn kept_cells_of_a_box(rt: HostRuntime) {
+    expect_none(&rt, wrong_kept_of_three(&rt, rt.alloc()));
 }
 
 // Choices over two rows of three, the picture of two rows of five, and which cells of the second are filled.
@@ -194,14 +206,18 @@ fn expect_run(
 }
 
 // Runs of new cells of every length in rows of three, from every place of a row.
-#[test]
-fn runs_of_new_cells(rt: HostRuntime) -> Result<(), Fail> {
-    let bytes = Vec::from_slice(rt.alloc(), &[1, 2, 3, 4, 5, 6])?;
+fn expect_runs(rt: &impl Abort, alloc: Global) -> Result<(), AllocError> {
+    let bytes = Vec::from_slice(alloc, &[1, 2, 3, 4, 5, 6])?;
     let sample = Volume::from_bytes(Size { w: 3, h: 2, f: 1 }, 1, bytes);
     for (choice, picture, marks) in RUNS.iter() {
-        expect_run(&rt, rt.alloc(), &sample, choice, picture, marks)?;
+        expect_run(rt, alloc, &sample, choice, picture, marks)?;
     }
     Ok(())
+}
+
+#[test]
+fn runs_of_new_cells(rt: HostRuntime) {
+    expect_done(&rt, expect_runs(&rt, rt.alloc()));
 }
 
 // Of a sample its width, its bytes, the samples of a cell, and whether the canvas stands over it.
@@ -228,21 +244,26 @@ fn stands_over(
     Ok(canvas.render_equals(&other))
 }
 
-#[test]
-fn samples_that_a_canvas_stands_over(rt: HostRuntime) -> Result<(), Fail> {
-    let bytes = Vec::from_slice(rt.alloc(), &[10, 11, 20, 21])?;
+// The number of the first sample, from 0, of which that isn't so.
+fn wrong_other(rt: &impl Abort, alloc: Global) -> Result<Option<usize>, AllocError> {
+    let bytes = Vec::from_slice(alloc, &[10, 11, 20, 21])?;
     let sample = Volume::from_bytes(Size { w: 2, h: 1, f: 1 }, 2, bytes);
-    let canvas = part_filled(&rt, rt.alloc(), &sample)?;
-    for (w, bytes, k, stands) in OTHERS.iter() {
-        let found = stands_over(&rt, rt.alloc(), &canvas, *w, *bytes, *k)?;
-        assert!(rt; found == *stands, "{w} cells of {k}");
+    let canvas = part_filled(rt, alloc, &sample)?;
+    for (i, (w, bytes, k, stands)) in OTHERS.iter().enumerate() {
+        if stands_over(rt, alloc, &canvas, *w, *bytes, *k)? != *stands {
+            return Ok(Some(i));
+        }
     }
-    Ok(())
+    Ok(None)
 }
 
 #[test]
-fn a_map_by_itself(rt: HostRuntime) -> Result<(), Fail> {
-    let mut map = Map::empty(rt.alloc(), Size { w: 2, h: 2, f: 1 })?;
+fn samples_that_a_canvas_stands_over(rt: HostRuntime) {
+    expect_none(&rt, wrong_other(&rt, rt.alloc()));
+}
+
+fn is_map_by_itself(alloc: Global) -> Result<bool, AllocError> {
+    let mut map = Map::empty(alloc, Size { w: 2, h: 2, f: 1 })?;
     let from = At {
         x: 131072,
         y: 0,
@@ -251,8 +272,16 @@ fn a_map_by_itself(rt: HostRuntime) -> Result<(), Fail> {
     map.set(at(1, 1), from);
     map.set(at(0, 1), at(7, 7));
     map.set(at(0, 1), at(8, 8));
-    let empty = map.at(at(0, 0)).is_none() && map.at(at(1, 0)).is_none();
-    assert!(rt; empty && map.at(at(2, 1)).is_none());
-    assert!(rt; map.at(at(0, 1)) == Some(at(8, 8)) && map.at(at(1, 1)) == Some(from));
-    Ok(())
+    Ok(
+        map.at(at(0, 0)).is_none()
+            && map.at(at(1, 0)).is_none()
+            && map.at(at(2, 1)).is_none()
+            && map.at(at(0, 1)) == Some(at(8, 8))
+            && map.at(at(1, 1)) == Some(from),
+    )
+}
+
+#[test]
+fn a_map_by_itself(rt: HostRuntime) {
+    expect_true(&rt, is_map_by_itself(rt.alloc()));
 }

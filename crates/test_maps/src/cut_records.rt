@@ -4,6 +4,7 @@ ghost use Rattle.std.specs.Prelude.{◌≡◌, IfOk, length};
 ghost use Rattle.cells.specs.Places.{IsSmall};
 ghost use Rattle.map_canvas.specs.Canvases.{StandsOver};
 
+use crate::expect::expect_done;
 use crate::laying::{assert_fits, canvas_over, put};
 use boxes::pair_count;
 use cells::{At, Axis, Box3, Size, Volume};
@@ -17,7 +18,6 @@ use limits::{GREATEST_AXIS, MOST_CELLS};
 use map_canvas::{Canvas, Placement};
 use std::alloc::{AllocError, Global};
 use std::process::Abort;
-use std::test::Fail;
 
 // What a check says: nothing where the record stands, and else the kind and the place of its fault.
 type Verdict = Option<(u32, u64)>;
@@ -245,9 +245,9 @@ const BETWEEN: &[Row<'static>] = &[
 ];
 
 #[test]
-fn a_box_between_old_cells(rt: HostRuntime) -> Result<(), Fail> {
-    expect_verdicts(&rt, rt.alloc(), &[0, 1, 2, 1, 2, 3], None, BETWEEN)?;
-    Ok(())
+fn a_box_between_old_cells(rt: HostRuntime) {
+    let found = expect_verdicts(&rt, rt.alloc(), &[0, 1, 2, 1, 2, 3], None, BETWEEN);
+    expect_done(&rt, found);
 }
 
 const ONE_SIDE: &[(i16, i16)] = &[(120, 120), (120, 0), (0, 0)];
@@ -277,9 +277,9 @@ const OVER_THE_EDGE: &[Row<'static>] = &[
 ];
 
 #[test]
-fn a_box_over_the_edge_of_the_filled(rt: HostRuntime) -> Result<(), Fail> {
-    expect_verdicts(&rt, rt.alloc(), &[0, 1, 2, 3], None, OVER_THE_EDGE)?;
-    Ok(())
+fn a_box_over_the_edge_of_the_filled(rt: HostRuntime) {
+    let found = expect_verdicts(&rt, rt.alloc(), &[0, 1, 2, 3], None, OVER_THE_EDGE);
+    expect_done(&rt, found);
 }
 
 const WITH_A_HELD_CELL: &[Row<'static>] = &[
@@ -298,17 +298,13 @@ const WITH_A_HELD_CELL: &[Row<'static>] = &[
     ),
 ];
 
+const SECOND_HELD: Option<&[bool]> = Some(&[false, true, false, false]);
+
 #[test]
-fn a_held_cell(rt: HostRuntime) -> Result<(), Fail> {
-    let held = [false, true, false, false];
-    expect_verdicts(
-        &rt,
-        rt.alloc(),
-        &[0, 1, 2, 3],
-        Some(&held),
-        WITH_A_HELD_CELL,
-    )?;
-    Ok(())
+fn a_held_cell(rt: HostRuntime) {
+    let sources = [0, 1, 2, 3];
+    let found = expect_verdicts(&rt, rt.alloc(), &sources, SECOND_HELD, WITH_A_HELD_CELL);
+    expect_done(&rt, found);
 }
 
 // Asserts that a choice stands with these flows, that its window sum is this, that no other choice over the box
@@ -356,12 +352,11 @@ fn at(x: i32, y: i32, f: i32) -> At {
     At { x, y, f }
 }
 
-#[test]
-fn flows_forced_on_two_axes(rt: HostRuntime) -> Result<(), Fail> {
+fn expect_forced_on_two_axes(rt: &impl Abort, alloc: Global) -> Result<(), AllocError> {
     let size = Size { w: 3, h: 2, f: 1 };
-    let sample = sample_of(&rt, rt.alloc(), size, 1, &[0, 10, 50, 30, 70, 100])?;
+    let sample = sample_of(rt, alloc, size, 1, &[0, 10, 50, 30, 70, 100])?;
     let cells = [(at(0, 0, 0), at(1, 1, 0)), (at(1, 0, 0), at(2, 0, 0))];
-    let canvas = canvas_of(&rt, rt.alloc(), size, &sample, &cells)?;
+    let canvas = canvas_of(rt, alloc, size, &sample, &cells)?;
     let placement = Placement {
         rect: Box3 {
             corner: at(1, 0, 0),
@@ -371,27 +366,21 @@ fn flows_forced_on_two_axes(rt: HostRuntime) -> Result<(), Fail> {
     };
     let choice = [false, true, true, true];
     let flows = [(305, 0), (120, 0), (0, 0), (0, 0)];
-    assert_forced(
-        &rt,
-        rt.alloc(),
-        &canvas,
-        &sample,
-        placement,
-        &choice,
-        &flows,
-        425,
-    )?;
-    Ok(())
+    assert_forced(rt, alloc, &canvas, &sample, placement, &choice, &flows, 425)
 }
 
 #[test]
-fn flows_forced_on_three_axes(rt: HostRuntime) -> Result<(), Fail> {
+fn flows_forced_on_two_axes(rt: HostRuntime) {
+    expect_done(&rt, expect_forced_on_two_axes(&rt, rt.alloc()));
+}
+
+fn expect_forced_on_three_axes(rt: &impl Abort, alloc: Global) -> Result<(), AllocError> {
     let size = Size { w: 2, h: 2, f: 2 };
     let greys = [0, 10, 30, 70, 150, 200, 90, 255];
-    let sample = sample_of(&rt, rt.alloc(), size, 1, &greys)?;
+    let sample = sample_of(rt, alloc, size, 1, &greys)?;
     let output = Size { w: 3, h: 2, f: 2 };
     let cells = [(at(2, 1, 1), at(0, 0, 0)), (at(1, 1, 1), at(0, 1, 1))];
-    let canvas = canvas_of(&rt, rt.alloc(), output, &sample, &cells)?;
+    let canvas = canvas_of(rt, alloc, output, &sample, &cells)?;
     let placement = Placement {
         rect: Box3 {
             corner: at(0, 0, 0),
@@ -404,15 +393,10 @@ fn flows_forced_on_three_axes(rt: HostRuntime) -> Result<(), Fail> {
     flows[7] = (0, -205);
     flows[10] = (0, -215);
     flows[11] = (0, -420);
-    assert_forced(
-        &rt,
-        rt.alloc(),
-        &canvas,
-        &sample,
-        placement,
-        &choice,
-        &flows,
-        840,
-    )?;
-    Ok(())
+    assert_forced(rt, alloc, &canvas, &sample, placement, &choice, &flows, 840)
+}
+
+#[test]
+fn flows_forced_on_three_axes(rt: HostRuntime) {
+    expect_done(&rt, expect_forced_on_three_axes(&rt, rt.alloc()));
 }

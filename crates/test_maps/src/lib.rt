@@ -7,6 +7,8 @@ mod canvases;
 #[cfg(test)]
 mod cut_records;
 #[cfg(test)]
+mod expect;
+#[cfg(test)]
 mod laying;
 #[cfg(test)]
 mod remade;

@@ -3,12 +3,12 @@ ghost use Rattle.std.specs.Prelude.{◌≡◌, IfOk};
 ghost use Rattle.cells.specs.Cells.{IsOnePart, count_of};
 ghost use Rattle.map_canvas.specs.Canvases.{StandsOver};
 
+use crate::expect::expect_none;
 use crate::laying::{canvas_over, column, put};
 use cells::{At, Size, Volume};
 use map_canvas::{Canvas, Map};
 use std::alloc::{AllocError, Global};
 use std::process::Abort;
-use std::test::Fail;
 
 const FOUR: Size = Size { w: 4, h: 1, f: 1 };
 
@@ -79,47 +79,56 @@ fn remade(alloc: Global, canvas: &Canvas, sample: &Volume) -> Result<Canvas, All
     Canvas::of_map(alloc, Map::from_sources(map.size(), sources), sample)
 }
 
-// Asserts that it has the map, and this picture.
-fn assert_remade(
+// Whether it has the map, and this picture.
+fn is_remade(
     rt: &impl Abort,
     alloc: Global,
     sample: &Volume,
     sources: &[(i32, i32, i32)],
     picture: &[u8],
-) -> Result<(), AllocError> {
+) -> Result<bool, AllocError> {
     let mut canvas = canvas_over(alloc, FOUR, sample)?;
     put_cells(rt, &mut canvas, sample, sources);
     let made = remade(alloc, &canvas, sample)?;
-    assert!(rt; made.map().sources() == canvas.map().sources());
-    assert!(rt; made.picture().bytes() == picture);
-    assert!(rt; made.first_unfilled() == canvas.first_unfilled());
-    assert!(rt; made.render_equals(sample));
-    Ok(())
+    Ok(
+        made.map().sources() == canvas.map().sources()
+            && made.picture().bytes() == picture
+            && made.first_unfilled() == canvas.first_unfilled()
+            && made.render_equals(sample),
+    )
 }
 
-// The same of each row of a table.
-fn assert_rows(
+// The number of the first row, from 0, of which that isn't so.
+fn wrong_row(
     rt: &impl Abort,
     alloc: Global,
     sample: &Volume,
     table: &[(&[(i32, i32, i32)], [u8; 4])],
-) -> Result<(), AllocError> {
-    for (sources, picture) in table.iter() {
-        assert_remade(rt, alloc, sample, sources, picture)?;
+) -> Result<Option<usize>, AllocError> {
+    for (i, (sources, picture)) in table.iter().enumerate() {
+        if !is_remade(rt, alloc, sample, *sources, picture)? {
+            return Ok(Some(i));
+        }
     }
-    Ok(())
+    Ok(None)
+}
+
+fn wrong_of_one_part(rt: &impl Abort, alloc: Global) -> Result<Option<usize>, AllocError> {
+    let sample = one_part(alloc)?;
+    wrong_row(rt, alloc, &sample, OF_ONE_PART)
 }
 
 #[test]
-fn canvases_over_one_part(rt: HostRuntime) -> Result<(), Fail> {
-    let sample = one_part(rt.alloc())?;
-    assert_rows(&rt, rt.alloc(), &sample, OF_ONE_PART)?;
-    Ok(())
+fn canvases_over_one_part(rt: HostRuntime) {
+    expect_none(&rt, wrong_of_one_part(&rt, rt.alloc()));
+}
+
+fn wrong_of_three_parts(rt: &impl Abort, alloc: Global) -> Result<Option<usize>, AllocError> {
+    let sample = three_parts(alloc)?;
+    wrong_row(rt, alloc, &sample, OF_THREE_PARTS)
 }
 
 #[test]
-fn canvases_over_three_parts(rt: HostRuntime) -> Result<(), Fail> {
-    let sample = three_parts(rt.alloc())?;
-    assert_rows(&rt, rt.alloc(), &sample, OF_THREE_PARTS)?;
-    Ok(())
+fn canvases_over_three_parts(rt: HostRuntime) {
+    expect_none(&rt, wrong_of_three_parts(&rt, rt.alloc()));
 }

@@ -6,13 +6,14 @@ ghost use Rattle.map_canvas.specs.Canvases.{StandsOver};
 ghost use Rattle.map_canvas.specs.Maps.{map_at};
 ghost use Rattle.cost_windows.specs.Tables.{IsRight, IsWindow};
 
+use crate::expect::{expect_none, expect_true};
 use crate::laying::{ONE, assert_fits, canvas_over, column, put_copies, put_row};
-use cells::{Axis, Box3, Size, Volume};
+use cells::{At, Axis, Box3, Size, Volume};
 use cost_windows::SeamTable;
 use costs::{are_marks, pair_cost, total, window};
 use map_canvas::{Canvas, Placement};
+use std::alloc::{AllocError, Global};
 use std::process::Abort;
-use std::test::Fail;
 
 // The window sum of a box of one row.
 fn window_at(canvas: &Canvas, sample: &Volume, x: i32, w: u32) -> u64 {
@@ -67,35 +68,43 @@ fn wrong_window(canvas: &Canvas, sample: &Volume, table: &[(i32, u32, u64)]) -> 
 
 const GREYS: &[u8] = &[10, 10, 10, 20, 20, 20, 30, 30, 30, 40, 40, 40];
 
-#[test]
-fn seams_of_a_row(rt: HostRuntime) -> Result<(), Fail> {
-    let bytes = Vec::from_slice(rt.alloc(), GREYS)?;
+// Whether all seams of the row 0, 1, 2, 1, 2, 3 cost what the tables say.
+fn are_first_costs(canvas: &Canvas, sample: &Volume) -> bool {
+    total(canvas, sample) == 120
+        && wrong_pair(canvas, sample).is_none()
+        && wrong_window(canvas, sample, WINDOWS).is_none()
+}
+
+fn are_seams_of_a_row(rt: &impl Abort, alloc: Global) -> Result<bool, AllocError> {
+    let bytes = Vec::from_slice(alloc, GREYS)?;
     let sample = Volume::from_bytes(Size { w: 4, h: 1, f: 1 }, 3, bytes);
-    let mut canvas = canvas_over(rt.alloc(), Size { w: 6, h: 1, f: 1 }, &sample)?;
-    assert!(rt; total(&canvas, &sample) == 0);
-
-    put_row(&rt, &mut canvas, &sample, &[0, 1, 2, 1, 2, 3]);
-    assert!(rt; total(&canvas, &sample) == 120);
-    assert_eq!(rt; wrong_pair(&canvas, &sample), None);
-    assert_eq!(rt; wrong_window(&canvas, &sample, WINDOWS), None);
-
-    // The pair that ends the window isn't in it.
-    put_row(&rt, &mut canvas, &sample, &[0, 1, 0, 1, 2, 3]);
-    assert_eq!(rt; wrong_window(&canvas, &sample, LATER_WINDOWS), None);
-    assert!(rt; total(&canvas, &sample) == 825);
-    Ok(())
+    let mut canvas = canvas_over(alloc, Size { w: 6, h: 1, f: 1 }, &sample)?;
+    let empty = total(&canvas, &sample);
+    put_row(rt, &mut canvas, &sample, &[0, 1, 2, 1, 2, 3]);
+    let are_first = are_first_costs(&canvas, &sample);
+    put_row(rt, &mut canvas, &sample, &[0, 1, 0, 1, 2, 3]);
+    let are_later = wrong_window(&canvas, &sample, LATER_WINDOWS).is_none();
+    Ok(empty == 0 && are_first && are_later && total(&canvas, &sample) == 825)
 }
 
 #[test]
-fn copies_of_one_cell(rt: HostRuntime) -> Result<(), Fail> {
-    let bytes = Vec::from_slice(rt.alloc(), &[7, 8, 9])?;
+fn seams_of_a_row(rt: HostRuntime) {
+    expect_true(&rt, are_seams_of_a_row(&rt, rt.alloc()));
+}
+
+fn are_copies(rt: &impl Abort, alloc: Global) -> Result<bool, AllocError> {
+    let bytes = Vec::from_slice(alloc, &[7, 8, 9])?;
     let sample = Volume::from_bytes(ONE, 3, bytes);
-    let mut canvas = canvas_over(rt.alloc(), Size { w: 3, h: 2, f: 1 }, &sample)?;
-    put_copies(&rt, &mut canvas, &sample, 0, 3);
-    assert!(rt; total(&canvas, &sample) == 3060);
-    put_copies(&rt, &mut canvas, &sample, 1, 3);
-    assert!(rt; total(&canvas, &sample) == 10710);
-    Ok(())
+    let mut canvas = canvas_over(alloc, Size { w: 3, h: 2, f: 1 }, &sample)?;
+    put_copies(rt, &mut canvas, &sample, 0, 3);
+    let one_row = total(&canvas, &sample);
+    put_copies(rt, &mut canvas, &sample, 1, 3);
+    Ok(one_row == 3060 && total(&canvas, &sample) == 10710)
+}
+
+#[test]
+fn copies_of_one_cell(rt: HostRuntime) {
+    expect_true(&rt, are_copies(&rt, rt.alloc()));
 }
 
 // Marks, and whether they are marks of filled cells alone.
@@ -109,22 +118,36 @@ const MARKS: &[(Option<&[bool]>, bool)] = &[
     (Some(&[true, true, false, false, false]), false),
 ];
 
-// Marks of a box that lies over the right edge of a row of six, of which the first five cells are filled.
-#[test]
-fn marks_of_filled_cells(rt: HostRuntime) -> Result<(), Fail> {
-    let sample = Volume::make(rt.alloc(), ONE, 1)?;
-    let mut canvas = canvas_over(rt.alloc(), Size { w: 6, h: 1, f: 1 }, &sample)?;
-    put_copies(&rt, &mut canvas, &sample, 0, 5);
-    let rect = Box3 {
-        corner: column(3),
+// A box that lies over the right edge of a row of six.
+const OVER_THE_EDGE: Placement = Placement {
+    rect: Box3 {
+        corner: At { x: 3, y: 0, f: 0 },
         size: Size { w: 4, h: 1, f: 1 },
-    };
-    let from = column(0);
-    let placement = Placement { rect, from };
-    for (held, are) in MARKS.iter() {
-        assert!(rt; are_marks(&canvas, &placement, *held) == *are, "{held:?}");
+    },
+    from: At { x: 0, y: 0, f: 0 },
+};
+
+// The number of the first marks of this box, from 0, of which something else is said.
+fn wrong_marks(canvas: &Canvas) -> Option<usize> {
+    for (i, (held, are)) in MARKS.iter().enumerate() {
+        if are_marks(canvas, &OVER_THE_EDGE, *held) != *are {
+            return Some(i);
+        }
     }
-    Ok(())
+    None
+}
+
+// The first five cells of the row are filled.
+fn wrong_marks_of_five(rt: &impl Abort, alloc: Global) -> Result<Option<usize>, AllocError> {
+    let sample = Volume::make(alloc, ONE, 1)?;
+    let mut canvas = canvas_over(alloc, Size { w: 6, h: 1, f: 1 }, &sample)?;
+    put_copies(rt, &mut canvas, &sample, 0, 5);
+    Ok(wrong_marks(&canvas))
+}
+
+#[test]
+fn marks_of_filled_cells(rt: HostRuntime) {
+    expect_none(&rt, wrong_marks_of_five(&rt, rt.alloc()));
 }
 
 // Asserts that an output has windows of a size.
@@ -160,35 +183,42 @@ fn put_box(
     table.update(canvas, sample, &placement.rect);
 }
 
-#[test]
-fn worst_of_a_row(rt: HostRuntime) -> Result<(), Fail> {
-    let bytes = Vec::from_slice(rt.alloc(), GREYS)?;
-    let sample = Volume::from_bytes(Size { w: 4, h: 1, f: 1 }, 3, bytes);
-    let mut canvas = canvas_over(rt.alloc(), Size { w: 6, h: 1, f: 1 }, &sample)?;
-    put_row(&rt, &mut canvas, &sample, &[0, 1, 2, 1, 2, 3]);
-    let size = Size { w: 4, h: 1, f: 1 };
-    assert_window(&rt, canvas.map().size(), size);
-    let mut table = SeamTable::make(rt.alloc(), &canvas, &sample, size)?;
+// Whether the worst window is the first one, at this cost.
+fn is_worst(table: &SeamTable, cost: u64) -> bool {
     let worst = table.worst();
-    assert!(rt; worst.corner == column(0));
-    assert!(rt; worst.cost == 120);
+    worst.corner == column(0) && worst.cost == cost
+}
 
-    let rect = Box3 {
-        corner: column(2),
-        size,
-    };
-    let from = column(0);
-    let placement = Placement { rect, from };
+// A box of four cells from the third on, with the sample's four cells.
+const FROM_THE_THIRD: Placement = Placement {
+    rect: Box3 {
+        corner: At { x: 2, y: 0, f: 0 },
+        size: Size { w: 4, h: 1, f: 1 },
+    },
+    from: At { x: 0, y: 0, f: 0 },
+};
+
+fn are_worst(rt: &impl Abort, alloc: Global) -> Result<bool, AllocError> {
+    let bytes = Vec::from_slice(alloc, GREYS)?;
+    let sample = Volume::from_bytes(Size { w: 4, h: 1, f: 1 }, 3, bytes);
+    let mut canvas = canvas_over(alloc, Size { w: 6, h: 1, f: 1 }, &sample)?;
+    put_row(rt, &mut canvas, &sample, &[0, 1, 2, 1, 2, 3]);
+    let size = Size { w: 4, h: 1, f: 1 };
+    assert_window(rt, canvas.map().size(), size);
+    let mut table = SeamTable::make(alloc, &canvas, &sample, size)?;
+    let is_first = is_worst(&table, 120);
     put_box(
-        &rt,
+        rt,
         &mut canvas,
         &mut table,
         &sample,
-        &placement,
+        &FROM_THE_THIRD,
         &[true; 4],
     );
-    let worst = table.worst();
-    assert!(rt; worst.corner == column(0));
-    assert!(rt; worst.cost == 825);
-    Ok(())
+    Ok(is_first && is_worst(&table, 825))
+}
+
+#[test]
+fn worst_of_a_row(rt: HostRuntime) {
+    expect_true(&rt, are_worst(&rt, rt.alloc()));
 }

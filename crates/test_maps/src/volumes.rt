@@ -4,8 +4,9 @@ ghost use Rattle.std.specs.Prelude.{◌≡◌};
 ghost use Rattle.cells.specs.Cells.{HasRun, IsInsideOf};
 ghost use Rattle.cells.specs.Places.{SumFits, plus, spot};
 
+use crate::expect::{expect_none, expect_true};
 use cells::{At, Axis, Box3, PartPlace, Size, Volume, cell_distance};
-use std::test::Fail;
+use std::alloc::{AllocError, Global};
 
 fn at(place: (i32, i32, i32)) -> At
     ensures { result ≡ record { x = place.0; y = place.1; f = place.2 } }
@@ -57,32 +58,34 @@ fn places_in_raster_order(rt: HostRuntime) {
     assert!(rt; Axis::F.unit() == at((0, 0, 1)));
 }
 
-#[test]
-fn cells_and_rows(rt: HostRuntime) -> Result<(), Fail> {
+// The bytes once cells (2, 1, 1) and (1, 1, 0) are set.
+const TWO_SET: &[u8] = &[
+    0, 0, 0, 0, 0, 0, 0, 0, 7, 8, 0, 0, 0, 0, 0, 0, 0, 0, 0, 0, 0, 0, 9, 10,
+];
+
+const LOWER_ROW: Box3 = Box3 {
+    corner: At { x: 0, y: 1, f: 0 },
+    size: Size { w: 3, h: 1, f: 1 },
+};
+
+fn are_cells_and_rows(alloc: Global) -> Result<bool, AllocError> {
     let size = Size { w: 3, h: 2, f: 2 };
-    let mut volume = Volume::make(rt.alloc(), size, 2)?;
-    assert!(rt; volume.size() == size && volume.samples() == 2);
-    assert!(rt;
-        volume.holds(&Box3 {
-            corner: at((0, 1, 0)),
-            size: Size { w: 3, h: 1, f: 1 }
-        })
-    );
+    let mut volume = Volume::make(alloc, size, 2)?;
+    let is_made = volume.size() == size && volume.samples() == 2 && volume.holds(&LOWER_ROW);
     volume.set_cell(at((2, 1, 1)), &[9, 10]);
     volume.set_cell(at((1, 1, 0)), &[7, 8]);
-    assert!(rt;
-        volume.bytes()
-            == [
-                0, 0, 0, 0, 0, 0, 0, 0, 7, 8, 0, 0, 0, 0, 0, 0, 0, 0, 0, 0, 0, 0, 9, 10
-            ]
-            .as_slice()
-    );
-    assert!(rt; volume.row(at((1, 1, 0)), 2) == [7, 8, 0, 0].as_slice());
+    let is_set = volume.bytes() == TWO_SET
+        && volume.row(at((1, 1, 0)), 2) == [7, 8, 0, 0].as_slice();
     volume.set_row(at((0, 0, 1)), 2, &[1, 2, 3, 4]);
     volume.fill_row(at((1, 1, 1)), 1, 5);
-    assert!(rt; volume.row(at((0, 0, 1)), 3) == [1, 2, 3, 4, 0, 0].as_slice());
-    assert!(rt; volume.row(at((0, 1, 1)), 3) == [0, 0, 5, 5, 9, 10].as_slice());
-    Ok(())
+    let are_rows = volume.row(at((0, 0, 1)), 3) == [1, 2, 3, 4, 0, 0].as_slice()
+        && volume.row(at((0, 1, 1)), 3) == [0, 0, 5, 5, 9, 10].as_slice();
+    Ok(is_made && is_set && are_rows)
+}
+
+#[test]
+fn cells_and_rows(rt: HostRuntime) {
+    expect_true(&rt, are_cells_and_rows(rt.alloc()));
 }
 
 // Cells of a part of 2x1 and of one of 1x3, which stands in frame 2.
@@ -95,28 +98,43 @@ const PARTS: &[(Place, Option<&[u8]>)] = &[
     ((1, 0, 2), None),
 ];
 
-#[test]
-fn parts_of_a_volume(rt: HostRuntime) -> Result<(), Fail> {
-    let first = Vec::from_slice(rt.alloc(), &[10, 20])?;
+// A volume of these parts.
+fn two_parts(alloc: Global) -> Result<Volume, AllocError> {
+    let first = Vec::from_slice(alloc, &[10, 20])?;
     let mut volume = Volume::from_bytes(Size { w: 2, h: 1, f: 1 }, 1, first);
-    let second = Vec::from_slice(rt.alloc(), &[20, 30, 40])?;
+    let second = Vec::from_slice(alloc, &[20, 30, 40])?;
     let part = Volume::from_bytes(Size { w: 1, h: 3, f: 1 }, 1, second);
     volume.add_part(&part)?;
-    for (place, cell) in PARTS.iter() {
-        assert!(rt; volume.cell(at(*place)) == *cell, "at {place:?}");
-    }
-    assert!(rt; cell_distance(&volume, at((1, 0, 0)), at((0, 0, 2))) == 0);
-    assert!(rt; cell_distance(&volume, at((0, 0, 1)), at((0, 0, 2))) == 255);
+    Ok(volume)
+}
 
+// Whether each cell is as a table says, in parts with these sizes and distances.
+fn are_parts(volume: &Volume, table: &[(Place, Option<&[u8]>)]) -> bool {
+    for (place, cell) in table.iter() {
+        if volume.cell(at(*place)) != *cell {
+            return false;
+        }
+    }
     let sizes = volume.sizes();
-    assert!(rt; sizes.len() == 2);
     let there = PartPlace {
         part: 2,
         at: at((0, 2, 0)),
     };
-    assert!(rt; sizes.part_of(at((0, 2, 2))) == Some(there));
-    assert!(rt; sizes.part_of(at((0, 0, 1))) == None);
-    Ok(())
+    cell_distance(volume, at((1, 0, 0)), at((0, 0, 2))) == 0
+        && cell_distance(volume, at((0, 0, 1)), at((0, 0, 2))) == 255
+        && sizes.len() == 2
+        && sizes.part_of(at((0, 2, 2))) == Some(there)
+        && sizes.part_of(at((0, 0, 1))) == None
+}
+
+fn are_two_parts(alloc: Global) -> Result<bool, AllocError> {
+    let volume = two_parts(alloc)?;
+    Ok(are_parts(&volume, PARTS))
+}
+
+#[test]
+fn parts_of_a_volume(rt: HostRuntime) {
+    expect_true(&rt, are_two_parts(rt.alloc()));
 }
 
 // Cells of (10, 10, 10), (20, 30, 5) and (255, 0, 0), and places outside.
@@ -130,17 +148,21 @@ const DISTANCES: &[(Place, Place, u32)] = &[
     ((0, 0, 1), (-8192, 8192, 0), 0),
 ];
 
-#[test]
-fn distances_of_cells(rt: HostRuntime) -> Result<(), Fail> {
-    let bytes = Vec::from_slice(rt.alloc(), &[10, 10, 10, 20, 30, 5, 255, 0, 0])?;
+// The number of the first pair, from 0, with another distance.
+fn wrong_distance(alloc: Global) -> Result<Option<usize>, AllocError> {
+    let bytes = Vec::from_slice(alloc, &[10, 10, 10, 20, 30, 5, 255, 0, 0])?;
     let volume = Volume::from_bytes(Size { w: 3, h: 1, f: 1 }, 3, bytes);
-    for (a, b, distance) in DISTANCES.iter() {
-        assert!(rt;
-            cell_distance(&volume, at(*a), at(*b)) == *distance,
-            "{a:?} and {b:?}"
-        );
+    for (i, (a, b, distance)) in DISTANCES.iter().enumerate() {
+        if cell_distance(&volume, at(*a), at(*b)) != *distance {
+            return Ok(Some(i));
+        }
     }
-    Ok(())
+    Ok(None)
+}
+
+#[test]
+fn distances_of_cells(rt: HostRuntime) {
+    expect_none(&rt, wrong_distance(rt.alloc()));
 }
 
 // Boxes, and whether parts of 3x2x2 and of 2x2x2 hold them. The second part has the frames 3 and 4, and frame 2 is empty.
@@ -156,21 +178,29 @@ const BOXES: &[(Place, (u32, u32, u32), bool)] = &[
     ((-5, 9, 9), (0, 1, 1), true),
 ];
 
-#[test]
-fn boxes_in_a_volume(rt: HostRuntime) -> Result<(), Fail> {
-    let mut volume = Volume::make(rt.alloc(), Size { w: 3, h: 2, f: 2 }, 1)?;
-    let part = Volume::make(rt.alloc(), Size { w: 2, h: 2, f: 2 }, 1)?;
-    volume.add_part(&part)?;
-    for (corner, size, held) in BOXES.iter() {
+// The number of the first box, from 0, that isn't held so.
+fn wrong_box(volume: &Volume) -> Option<usize> {
+    for (i, (corner, size, held)) in BOXES.iter().enumerate() {
         let (w, h, f) = *size;
         let rect = Box3 {
             corner: at(*corner),
             size: Size { w, h, f },
         };
-        assert!(rt;
-            volume.holds(&rect) == *held,
-            "{w} x {h} x {f} at {corner:?}"
-        );
+        if volume.holds(&rect) != *held {
+            return Some(i);
+        }
     }
-    Ok(())
+    None
+}
+
+fn wrong_box_of_two_parts(alloc: Global) -> Result<Option<usize>, AllocError> {
+    let mut volume = Volume::make(alloc, Size { w: 3, h: 2, f: 2 }, 1)?;
+    let part = Volume::make(alloc, Size { w: 2, h: 2, f: 2 }, 1)?;
+    volume.add_part(&part)?;
+    Ok(wrong_box(&volume))
+}
+
+#[test]
+fn boxes_in_a_volume(rt: HostRuntime) {
+    expect_none(&rt, wrong_box_of_two_parts(rt.alloc()));
 }

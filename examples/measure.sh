@@ -56,3 +56,17 @@ texture 'whole, 512x512' width=512 height=512 place=whole
 texture 'random, 1024x1024' width=1024 height=1024 place=random
 texture 'grid, 1024x1024' width=1024 height=1024 place=grid
 texture 'sub, 256x256, 200 rounds' width=256 height=256 place=sub rounds=200
+
+# Two such pictures are merged. The first 8 rows come from one of them, and the last 8 from the other.
+for seed in 1 2; do
+    "$weave" grow sample="$top/examples/pebbles.ppm" out=shot$seed.ppm map=out.map record=out.record \
+        width=512 height=512 place=random seed=$seed >said
+done
+{
+    printf 'P6\n512 512\n255\n'
+    printf '\001\000\000%.0s' $(seq 4096)
+    head -c 761856 /dev/zero
+    printf '\002\000\000%.0s' $(seq 4096)
+} >marks.ppm
+measure 'merge, 512x512' 0 "$weave" merge sample=shot1.ppm sample2=shot2.ppm marks=marks.ppm \
+    out=out.ppm map=out.map

@@ -1,2 +1,3 @@
 pub mod Staged
+pub mod TurnedMaps
 pub mod Checked

@@ -4,9 +4,10 @@ use Rattle.std.specs.Prelude.{Ok, Err}
 use Rattle.limits.specs.declared.bounds.TheConstants.{MOST_OUT_CLIP_CELLS, MOST_PARTS}
 use Rattle.shelf_core.specs.Files.{Files, InFile, OnlyReads, OnlyReadsFile, ShelfState, content_of}
 use Rattle.shelf_core.proofs.FileLaws.{told_both, told_weaker}
-use Rattle.shelf_core.proofs.Sees.{Sees}
+use Rattle.shelf_core.proofs.Sees.{Sees, sees_then}
 use Rattle.source_map.specs.declared.map_file.MapFile.{MapFile}
-use Rattle.cert_file.specs.RecordFiles.{RefusesRecordFile, record_file_read}
+use Rattle.cert_file.specs.declared.file.RecordFile.{RecordFile}
+use Rattle.cert_file.specs.RecordFiles.{IsRecordFileOf, RefusesRecordFile, record_file_read}
 use Rattle.job_words.specs.declared.check.CheckJob.{CheckJob}
 use Rattle.job_words.specs.declared.job.Names.{Names}
 use Rattle.synth_report.specs.declared.fault.Fault.{Fault}
@@ -134,6 +135,29 @@ module _ (job : CheckJob) (a b : ShelfState) (few : AsksParts job.turns (length 
 
         pub record_only : OnlyReads (names_in (check_command job).reads) a f
         record_only = reads_on (named part.Record job.names.record_file ∷ []) (file_read (file_read before_out to_out out is_out) to_map map_file is_map) to_record
+
+        -- what all files stand for, once the samples are worked
+        module _ (record_file : RecordFile) (is_record_file : InFile job.names.record_file e f (λ bytes. IsRecordFileOf bytes record_file)) (all : Samples) (is : all ≡ worked_samples job.turns samples) where
+          abbrev StandIn : Files → Type 0
+          StandIn files = StandForSamples job.turns (content_of files job.names.sample) (contents files job.names.more) samples
+
+          abbrev OutIn : Files → Type 0
+          OutIn files = IsOut (content_of files job.names.out) out
+
+          abbrev MapIn : Files → Type 0
+          MapIn files = IsReadMap job.turns (content_of files job.names.map) map_file
+
+          with_out : Sees a d (λ files. StandIn files × OutIn files)
+          with_out = sees_then StandIn OutIn (λ files. StandIn files × OutIn files) a b d (λ files stands is_its. (stands, is_its)) to_samples to_out
+              (subst (λ names. Sees a b (λ files. StandForSamples job.turns (content_of files job.names.sample) (contents files names) samples)) same stand) is_out
+
+          with_map : Sees a e (λ files. (StandIn files × OutIn files) × MapIn files)
+          with_map = sees_then (λ files. StandIn files × OutIn files) MapIn (λ files. (StandIn files × OutIn files) × MapIn files) a d e (λ files stands is_its. (stands, is_its)) out_only to_map with_out is_map
+
+          pub files_are : Sees a f (λ files. AreRunFiles job.turns job.names files (record { samples = all; out = out; map = map_file; record_file = record_file }))
+          files_are = sees_then (λ files. (StandIn files × OutIn files) × MapIn files) (λ files. IsRecordFileOf (content_of files job.names.record_file) record_file)
+              (λ files. AreRunFiles job.turns job.names files (record { samples = all; out = out; map = map_file; record_file = record_file })) a e f
+              (λ files stands is_its. record { samples = record { samples = samples; stand = stands.0.0; is = is }; out = stands.0.1; map = stands.1; record_file = is_its }) map_only to_record with_map is_record_file
 
 -- What is made of them.
 

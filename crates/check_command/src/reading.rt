@@ -69,15 +69,17 @@ fn read_form<S: Shelf>(
     turns: bool,
     name: &Name,
 ) -> Result<MapFile, ReadError>
-    ensures answer { MapReadsBy (run_map_read turns) name.now (S.state shelf.old) (S.state shelf.new) result }
+    ensures answer { MapReadsBy (run_map_read turns) name.now
+        (S.state shelf.old) (S.state shelf.new) result }
     ensures reads { OnlyReadsFile name.now (S.state shelf.old) (S.state shelf.new) }
 {
-    if !turns {
-        return read_map(alloc, shelf, name.as_text());
-    }
-    match read_turned_map(alloc, shelf, name.as_text()) {
-        Ok(file) => Ok(map_of_turned(file)),
-        Err(error) => Err(error),
+    if turns {
+        match read_turned_map(alloc, shelf, name.as_text()) {
+            Ok(file) => Ok(map_of_turned(file)),
+            Err(error) => Err(error),
+        }
+    } else {
+        read_map(alloc, shelf, name.as_text())
     }
 }
 
@@ -111,8 +113,8 @@ fn read_record<S: Shelf>(alloc: Global, shelf: &mut S, name: &Name) -> Result<Re
     }
 }
 
-/// Reads the samples in the order of their numbers, then the out file, the map and the record. With turns the
-/// number of parts is asked for before, and the samples are turned when all is read.
+/// Reads the samples in the order of their numbers, then the out file, the map and the record. With
+/// turns the number of parts is asked for before, and the samples are turned when all is read.
 pub(crate) fn read_files<S: Shelf>(
     alloc: Global,
     job: &CheckJob,

@@ -1,31 +1,49 @@
-use Rattle.check_command.proofs.Staged.{map_only, no_map, no_out, no_record, no_samples, out_only, record_only, samples_only}
+use Rattle.std.proofs.Common.{◌+◌, length, subst}
+use Rattle.std.specs.Prelude.{Ok, Err}
+use Rattle.shelf_core.proofs.FileLaws.{only_reads_same}
+use Rattle.sample_files.specs.Several.{AsksParts}
+use Rattle.check_command.proofs.Staged.{files_are, map_only, no_map, no_out, no_record, no_samples, out_only, parts_pass, record_only, samples_only}
 use Rattle.check_command.proofs.reading.read_files.Goals as goal
 
 pub returns-in-Err-clause-failed : goal.returns-in-Err-clause-failed
 returns-in-Err-clause-failed g c =
     let a = g.S.Shelf.state c.args.shelf.now in
-    let b = g.S.Shelf.state c.read_samples.new.shelf in
-    no_samples c.args.job.now a b c.as_slice.ensures.names c.read_samples.ensures.reads c.in-Err.fault (c.in-Err.ensures {u = tt}).answer
+    parts_pass c.args.job.now a c.in-Err.fault (subst (λ names. AsksParts c.args.job.now.turns (length names + 1) (Err c.in-Err.fault)) c.as_slice.ensures.names (c.in-Err.ensures {u = tt}))
 
 pub returns-in-Err-clause-reads : goal.returns-in-Err-clause-reads
 returns-in-Err-clause-reads g c =
     let a = g.S.Shelf.state c.args.shelf.now in
+    only_reads_same a
+
+pub returns-in-Err-read_samples-clause-failed : goal.returns-in-Err-read_samples-clause-failed
+returns-in-Err-read_samples-clause-failed g c =
+    let a = g.S.Shelf.state c.args.shelf.now in
     let b = g.S.Shelf.state c.read_samples.new.shelf in
-    samples_only c.args.job.now a b c.as_slice.ensures.names c.read_samples.ensures.reads
+    let few = subst (λ names. AsksParts c.args.job.now.turns (length names + 1) (Ok tt)) c.as_slice.ensures.names (c.in-Ok.ensures {u = tt}) in
+    no_samples c.args.job.now a b few c.as_slice.ensures.names c.read_samples.ensures.reads c.in-Err-read_samples.fault (c.in-Err-read_samples.ensures {u = tt}).answer
+
+pub returns-in-Err-read_samples-clause-reads : goal.returns-in-Err-read_samples-clause-reads
+returns-in-Err-read_samples-clause-reads g c =
+    let a = g.S.Shelf.state c.args.shelf.now in
+    let b = g.S.Shelf.state c.read_samples.new.shelf in
+    let few = subst (λ names. AsksParts c.args.job.now.turns (length names + 1) (Ok tt)) c.as_slice.ensures.names (c.in-Ok.ensures {u = tt}) in
+    samples_only c.args.job.now a b few c.as_slice.ensures.names c.read_samples.ensures.reads
 
 pub returns-in-Err-read_out-clause-failed : goal.returns-in-Err-read_out-clause-failed
 returns-in-Err-read_out-clause-failed g c =
     let a = g.S.Shelf.state c.args.shelf.now in
     let b = g.S.Shelf.state c.read_samples.new.shelf in
     let d = g.S.Shelf.state c.read_out.new.shelf in
-    no_out c.args.job.now a b c.as_slice.ensures.names c.read_samples.ensures.reads c.in-Ok.samples (c.in-Ok.ensures {u = tt}).answer d c.read_out.ensures.reads c.in-Err-read_out.fault (c.in-Err-read_out.ensures {u = tt}).answer
+    let few = subst (λ names. AsksParts c.args.job.now.turns (length names + 1) (Ok tt)) c.as_slice.ensures.names (c.in-Ok.ensures {u = tt}) in
+    no_out c.args.job.now a b few c.as_slice.ensures.names c.read_samples.ensures.reads c.in-Ok-read_samples.samples (c.in-Ok-read_samples.ensures {u = tt}).answer d c.read_out.ensures.reads c.in-Err-read_out.fault (c.in-Err-read_out.ensures {u = tt}).answer
 
 pub returns-in-Err-read_out-clause-reads : goal.returns-in-Err-read_out-clause-reads
 returns-in-Err-read_out-clause-reads g c =
     let a = g.S.Shelf.state c.args.shelf.now in
     let b = g.S.Shelf.state c.read_samples.new.shelf in
     let d = g.S.Shelf.state c.read_out.new.shelf in
-    out_only c.args.job.now a b c.as_slice.ensures.names c.read_samples.ensures.reads c.in-Ok.samples (c.in-Ok.ensures {u = tt}).answer d c.read_out.ensures.reads
+    let few = subst (λ names. AsksParts c.args.job.now.turns (length names + 1) (Ok tt)) c.as_slice.ensures.names (c.in-Ok.ensures {u = tt}) in
+    out_only c.args.job.now a b few c.as_slice.ensures.names c.read_samples.ensures.reads c.in-Ok-read_samples.samples (c.in-Ok-read_samples.ensures {u = tt}).answer d c.read_out.ensures.reads
 
 pub returns-in-Err-read_map_file-clause-failed : goal.returns-in-Err-read_map_file-clause-failed
 returns-in-Err-read_map_file-clause-failed g c =
@@ -33,7 +51,8 @@ returns-in-Err-read_map_file-clause-failed g c =
     let b = g.S.Shelf.state c.read_samples.new.shelf in
     let d = g.S.Shelf.state c.read_out.new.shelf in
     let e = g.S.Shelf.state c.read_map_file.new.shelf in
-    no_map c.args.job.now a b c.as_slice.ensures.names c.read_samples.ensures.reads c.in-Ok.samples (c.in-Ok.ensures {u = tt}).answer d c.read_out.ensures.reads
+    let few = subst (λ names. AsksParts c.args.job.now.turns (length names + 1) (Ok tt)) c.as_slice.ensures.names (c.in-Ok.ensures {u = tt}) in
+    no_map c.args.job.now a b few c.as_slice.ensures.names c.read_samples.ensures.reads c.in-Ok-read_samples.samples (c.in-Ok-read_samples.ensures {u = tt}).answer d c.read_out.ensures.reads
     c.in-Ok-read_out.out (c.in-Ok-read_out.ensures {u = tt}).answer e c.read_map_file.ensures.reads c.in-Err-read_map_file.fault (c.in-Err-read_map_file.ensures {u = tt}).answer
 
 pub returns-in-Err-read_map_file-clause-reads : goal.returns-in-Err-read_map_file-clause-reads
@@ -42,7 +61,8 @@ returns-in-Err-read_map_file-clause-reads g c =
     let b = g.S.Shelf.state c.read_samples.new.shelf in
     let d = g.S.Shelf.state c.read_out.new.shelf in
     let e = g.S.Shelf.state c.read_map_file.new.shelf in
-    map_only c.args.job.now a b c.as_slice.ensures.names c.read_samples.ensures.reads c.in-Ok.samples (c.in-Ok.ensures {u = tt}).answer d c.read_out.ensures.reads
+    let few = subst (λ names. AsksParts c.args.job.now.turns (length names + 1) (Ok tt)) c.as_slice.ensures.names (c.in-Ok.ensures {u = tt}) in
+    map_only c.args.job.now a b few c.as_slice.ensures.names c.read_samples.ensures.reads c.in-Ok-read_samples.samples (c.in-Ok-read_samples.ensures {u = tt}).answer d c.read_out.ensures.reads
     c.in-Ok-read_out.out (c.in-Ok-read_out.ensures {u = tt}).answer e c.read_map_file.ensures.reads
 
 pub returns-in-Err-read_record-clause-failed : goal.returns-in-Err-read_record-clause-failed
@@ -52,7 +72,8 @@ returns-in-Err-read_record-clause-failed g c =
     let d = g.S.Shelf.state c.read_out.new.shelf in
     let e = g.S.Shelf.state c.read_map_file.new.shelf in
     let f = g.S.Shelf.state c.read_record.new.shelf in
-    no_record c.args.job.now a b c.as_slice.ensures.names c.read_samples.ensures.reads c.in-Ok.samples (c.in-Ok.ensures {u = tt}).answer d c.read_out.ensures.reads
+    let few = subst (λ names. AsksParts c.args.job.now.turns (length names + 1) (Ok tt)) c.as_slice.ensures.names (c.in-Ok.ensures {u = tt}) in
+    no_record c.args.job.now a b few c.as_slice.ensures.names c.read_samples.ensures.reads c.in-Ok-read_samples.samples (c.in-Ok-read_samples.ensures {u = tt}).answer d c.read_out.ensures.reads
     c.in-Ok-read_out.out (c.in-Ok-read_out.ensures {u = tt}).answer e c.read_map_file.ensures.reads
     c.in-Ok-read_map_file.map (c.in-Ok-read_map_file.ensures {u = tt}).answer f c.read_record.ensures.reads c.in-Err-read_record.fault (c.in-Err-read_record.ensures {u = tt}).answer
 
@@ -63,9 +84,35 @@ returns-in-Err-read_record-clause-reads g c =
     let d = g.S.Shelf.state c.read_out.new.shelf in
     let e = g.S.Shelf.state c.read_map_file.new.shelf in
     let f = g.S.Shelf.state c.read_record.new.shelf in
-    record_only c.args.job.now a b c.as_slice.ensures.names c.read_samples.ensures.reads c.in-Ok.samples (c.in-Ok.ensures {u = tt}).answer d c.read_out.ensures.reads
+    let few = subst (λ names. AsksParts c.args.job.now.turns (length names + 1) (Ok tt)) c.as_slice.ensures.names (c.in-Ok.ensures {u = tt}) in
+    record_only c.args.job.now a b few c.as_slice.ensures.names c.read_samples.ensures.reads c.in-Ok-read_samples.samples (c.in-Ok-read_samples.ensures {u = tt}).answer d c.read_out.ensures.reads
     c.in-Ok-read_out.out (c.in-Ok-read_out.ensures {u = tt}).answer e c.read_map_file.ensures.reads
     c.in-Ok-read_map_file.map (c.in-Ok-read_map_file.ensures {u = tt}).answer f c.read_record.ensures.reads
+
+pub returns-in-Err-worked-clause-reads : goal.returns-in-Err-worked-clause-reads
+returns-in-Err-worked-clause-reads g c =
+    let a = g.S.Shelf.state c.args.shelf.now in
+    let b = g.S.Shelf.state c.read_samples.new.shelf in
+    let d = g.S.Shelf.state c.read_out.new.shelf in
+    let e = g.S.Shelf.state c.read_map_file.new.shelf in
+    let f = g.S.Shelf.state c.read_record.new.shelf in
+    let few = subst (λ names. AsksParts c.args.job.now.turns (length names + 1) (Ok tt)) c.as_slice.ensures.names (c.in-Ok.ensures {u = tt}) in
+    record_only c.args.job.now a b few c.as_slice.ensures.names c.read_samples.ensures.reads c.in-Ok-read_samples.samples (c.in-Ok-read_samples.ensures {u = tt}).answer d c.read_out.ensures.reads
+    c.in-Ok-read_out.out (c.in-Ok-read_out.ensures {u = tt}).answer e c.read_map_file.ensures.reads
+    c.in-Ok-read_map_file.map (c.in-Ok-read_map_file.ensures {u = tt}).answer f c.read_record.ensures.reads
+
+pub returns-clause-read : goal.returns-clause-read
+returns-clause-read g c =
+    let a = g.S.Shelf.state c.args.shelf.now in
+    let b = g.S.Shelf.state c.read_samples.new.shelf in
+    let d = g.S.Shelf.state c.read_out.new.shelf in
+    let e = g.S.Shelf.state c.read_map_file.new.shelf in
+    let f = g.S.Shelf.state c.read_record.new.shelf in
+    let few = subst (λ names. AsksParts c.args.job.now.turns (length names + 1) (Ok tt)) c.as_slice.ensures.names (c.in-Ok.ensures {u = tt}) in
+    files_are c.args.job.now a b few c.as_slice.ensures.names c.read_samples.ensures.reads c.in-Ok-read_samples.samples (c.in-Ok-read_samples.ensures {u = tt}).answer d c.read_out.ensures.reads
+    c.in-Ok-read_out.out (c.in-Ok-read_out.ensures {u = tt}).answer e c.read_map_file.ensures.reads
+    c.in-Ok-read_map_file.map (c.in-Ok-read_map_file.ensures {u = tt}).answer f c.read_record.ensures.reads
+    c.in-Ok-read_record.record_file (c.in-Ok-read_record.ensures {u = tt}).answer c.in-Ok-worked.samples (c.in-Ok-worked.ensures {u = tt}).is
 
 pub returns-clause-reads : goal.returns-clause-reads
 returns-clause-reads g c =
@@ -74,6 +121,7 @@ returns-clause-reads g c =
     let d = g.S.Shelf.state c.read_out.new.shelf in
     let e = g.S.Shelf.state c.read_map_file.new.shelf in
     let f = g.S.Shelf.state c.read_record.new.shelf in
-    record_only c.args.job.now a b c.as_slice.ensures.names c.read_samples.ensures.reads c.in-Ok.samples (c.in-Ok.ensures {u = tt}).answer d c.read_out.ensures.reads
+    let few = subst (λ names. AsksParts c.args.job.now.turns (length names + 1) (Ok tt)) c.as_slice.ensures.names (c.in-Ok.ensures {u = tt}) in
+    record_only c.args.job.now a b few c.as_slice.ensures.names c.read_samples.ensures.reads c.in-Ok-read_samples.samples (c.in-Ok-read_samples.ensures {u = tt}).answer d c.read_out.ensures.reads
     c.in-Ok-read_out.out (c.in-Ok-read_out.ensures {u = tt}).answer e c.read_map_file.ensures.reads
     c.in-Ok-read_map_file.map (c.in-Ok-read_map_file.ensures {u = tt}).answer f c.read_record.ensures.reads

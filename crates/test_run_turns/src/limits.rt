@@ -12,38 +12,80 @@ const READ: &str = "weave: limit output 16777216 over 1048576\n";
 
 const PASSED: &str = "weave: limit cells 8396800 over 8388608\n";
 
-// The headers of black pictures, and the bytes of their cells.
-const TINY: (&[u8], usize) = (b"P6\n1 1\n255\n", 3);
+const CELL: &[u8] = b"P6\n1 1\n255\n";
 
-const WHOLE: (&[u8], usize) = (b"P6\n1024 1024\n255\n", 3_145_728);
+const WHOLE: &[u8] = b"P6\n1024 1024\n255\n";
 
-const WHOLE_AND_ROW: (&[u8], usize) = (b"P6\n1024 1025\n255\n", 3_148_800);
+const WHOLE_AND_ROW: &[u8] = b"P6\n1024 1025\n255\n";
 
-const HALF: (&[u8], usize) = (b"P6\n1024 512\n255\n", 1_572_864);
+const HALF: &[u8] = b"P6\n1024 512\n255\n";
 
-const HALF_AND_ROW: (&[u8], usize) = (b"P6\n1024 513\n255\n", 1_575_936);
+const HALF_AND_ROW: &[u8] = b"P6\n1024 513\n255\n";
 
-fn picture(alloc: Global, of: (&[u8], usize)) -> Result<Vec<u8>, AllocError> {
-    let (head, bytes) = of;
+// Words, two black pictures by their headers and the bytes of their cells, and the line that is said.
+#[derive(Clone, Copy, Drop)]
+struct Black<'a> {
+    words: &'a str,
+    first: &'a [u8],
+    bytes: usize,
+    second: &'a [u8],
+    more_bytes: usize,
+    line: &'a str,
+}
+
+const BLACK: &[Black<'static>] = &[
+    Black {
+        words: ONE,
+        first: WHOLE,
+        bytes: 3_145_728,
+        second: CELL,
+        more_bytes: 3,
+        line: READ,
+    },
+    Black {
+        words: ONE,
+        first: WHOLE_AND_ROW,
+        bytes: 3_148_800,
+        second: CELL,
+        more_bytes: 3,
+        line: PASSED,
+    },
+    Black {
+        words: TWO,
+        first: HALF,
+        bytes: 1_572_864,
+        second: HALF,
+        more_bytes: 1_572_864,
+        line: READ,
+    },
+    Black {
+        words: TWO,
+        first: HALF,
+        bytes: 1_572_864,
+        second: HALF_AND_ROW,
+        more_bytes: 1_575_936,
+        line: PASSED,
+    },
+];
+
+fn picture(alloc: Global, head: &[u8], bytes: usize) -> Result<Vec<u8>, AllocError> {
     let cells = vec![in alloc; 0u8; bytes]?;
     let mut all = Vec::from_slice(alloc, head)?;
     all.extend_from_slice(&cells)?;
     Ok(all)
 }
 
-fn is_said(
+fn is_said<'a>(
     alloc: Global,
-    words: &str,
-    first: (&[u8], usize),
-    next: (&[u8], usize),
-    line: &str,
+    words: &'a str,
+    sample: &'a [u8],
+    second: &'a [u8],
+    line: &'a str,
 ) -> Result<bool, AllocError> {
-    let sample = picture(alloc, first)?;
-    let second = picture(alloc, next)?;
     let case = Case {
         words,
-        sample: &sample,
-        second: &second,
+        sample,
+        second,
         failing: Failing::Nothing,
         status: 4,
         report: "",
@@ -55,12 +97,16 @@ fn is_said(
     holds(alloc, &case)
 }
 
+fn is_said_of(alloc: Global, of: &Black) -> Result<bool, AllocError> {
+    let sample = picture(alloc, of.first, of.bytes)?;
+    let second = picture(alloc, of.second, of.more_bytes)?;
+    is_said(alloc, of.words, &sample, &second, of.line)
+}
+
 #[test]
 fn cells_of_all_turns(rt: HostRuntime) -> Result<(), Fail> {
-    let alloc = rt.alloc();
-    assert!(rt; is_said(alloc, ONE, WHOLE, TINY, READ)?);
-    assert!(rt; is_said(alloc, ONE, WHOLE_AND_ROW, TINY, PASSED)?);
-    assert!(rt; is_said(alloc, TWO, HALF, HALF, READ)?);
-    assert!(rt; is_said(alloc, TWO, HALF, HALF_AND_ROW, PASSED)?);
+    for of in BLACK {
+        assert!(rt; is_said_of(rt.alloc(), of)?, "{}", of.line);
+    }
     Ok(())
 }

@@ -171,7 +171,7 @@ fn laid_twice(
 
 // Tiles an output and lays it twice along each axis on which its edges meet. Each edge lies between two copies as
 // often as half the copies are, so that the plain total of what is laid is that share of the copies' plain totals
-// and torus totals together.
+// and torus totals together. `cost` says whether these edges cost something.
 fn assert_twice(
     rt: &impl Abort,
     alloc: Global,
@@ -179,6 +179,7 @@ fn assert_twice(
     sample: &Volume,
     twice: Size,
     half: u64,
+    cost: bool,
 ) -> Result<(), AllocError>
     requires plan { IsRunPlan plan.now }
     requires part { IsOnePart sample.now }
@@ -191,9 +192,9 @@ fn assert_twice(
     let plain = total(output, sample);
     let torus = torus_total(output, sample, &plan.tile.wrap);
     let whole = total(&laid, sample);
-    assert!(rt; plain <= torus);
-    assert!(rt; whole % half == 0);
-    assert!(rt; u128::from(whole / half) == u128::from(plain) + u128::from(torus));
+    let both = u128::from(plain) + u128::from(torus);
+    let is_share = whole % half == 0 && u128::from(whole / half) == both;
+    assert!(rt; plain <= torus && (plain < torus) == cost && is_share);
     Ok(())
 }
 
@@ -208,12 +209,26 @@ const ROW: RunPlan = RunPlan {
     seed: 0,
 };
 
-// A row of five over nine greys in a row, a picture of them in a square, and a clip of three frames.
+const ROW_OF_TWO: RunPlan = RunPlan {
+    size: Size { w: 6, h: 1, f: 1 },
+    tile: TilePlan {
+        wrap: ACROSS,
+        side: 3,
+        overlap: 0,
+        tol: 10,
+    },
+    seed: 0,
+};
+
+// A row of five over nine greys in a row, a picture of them in a square, and a clip of three frames. Where patches
+// overlap, one lies across each edge and closes it; where they don't, the edges are theirs.
 fn assert_twice_across(rt: &impl Abort, alloc: Global) -> Result<(), AllocError> {
     let bytes = Vec::from_slice(alloc, &[0, 10, 50, 30, 70, 100, 20, 60, 90])?;
     let sample = Volume::from_bytes(Size { w: 9, h: 1, f: 1 }, 1, bytes);
     let twice = Size { w: 10, h: 1, f: 1 };
-    assert_twice(rt, alloc, &ROW, &sample, twice, 1)
+    assert_twice(rt, alloc, &ROW, &sample, twice, 1, false)?;
+    let twice = Size { w: 12, h: 1, f: 1 };
+    assert_twice(rt, alloc, &ROW_OF_TWO, &sample, twice, 1, true)
 }
 
 #[test]
@@ -236,11 +251,28 @@ const PICTURE: RunPlan = RunPlan {
     seed: 0,
 };
 
+const PICTURE_OF_FOUR: RunPlan = RunPlan {
+    size: Size { w: 6, h: 6, f: 1 },
+    tile: TilePlan {
+        wrap: Wrap {
+            x: true,
+            y: true,
+            f: false,
+        },
+        side: 3,
+        overlap: 0,
+        tol: 10,
+    },
+    seed: 0,
+};
+
 fn assert_twice_on_two_axes(rt: &impl Abort, alloc: Global) -> Result<(), AllocError> {
     let bytes = Vec::from_slice(alloc, &[0, 10, 50, 30, 70, 100, 20, 60, 90])?;
     let sample = Volume::from_bytes(Size { w: 3, h: 3, f: 1 }, 1, bytes);
     let twice = Size { w: 10, h: 8, f: 1 };
-    assert_twice(rt, alloc, &PICTURE, &sample, twice, 2)
+    assert_twice(rt, alloc, &PICTURE, &sample, twice, 2, false)?;
+    let twice = Size { w: 12, h: 12, f: 1 };
+    assert_twice(rt, alloc, &PICTURE_OF_FOUR, &sample, twice, 2, true)
 }
 
 #[test]
@@ -263,6 +295,21 @@ const CLIP: RunPlan = RunPlan {
     seed: 0,
 };
 
+const CLIP_OF_EIGHT: RunPlan = RunPlan {
+    size: Size { w: 4, h: 4, f: 4 },
+    tile: TilePlan {
+        wrap: Wrap {
+            x: true,
+            y: true,
+            f: true,
+        },
+        side: 2,
+        overlap: 0,
+        tol: 10,
+    },
+    seed: 0,
+};
+
 fn assert_twice_on_three_axes(rt: &impl Abort, alloc: Global) -> Result<(), AllocError> {
     let frames = [
         3, 200, 7, 90, 41, 250, 130, 18, 77, 5, 160, 222, 31, 99, 64, 180, 12, 245, 53, 140, 71, 9,
@@ -271,7 +318,9 @@ fn assert_twice_on_three_axes(rt: &impl Abort, alloc: Global) -> Result<(), Allo
     let bytes = Vec::from_slice(alloc, &frames)?;
     let sample = Volume::from_bytes(Size { w: 3, h: 3, f: 3 }, 1, bytes);
     let twice = Size { w: 6, h: 6, f: 6 };
-    assert_twice(rt, alloc, &CLIP, &sample, twice, 4)
+    assert_twice(rt, alloc, &CLIP, &sample, twice, 4, false)?;
+    let twice = Size { w: 8, h: 8, f: 8 };
+    assert_twice(rt, alloc, &CLIP_OF_EIGHT, &sample, twice, 4, true)
 }
 
 #[test]

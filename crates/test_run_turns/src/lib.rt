@@ -5,11 +5,11 @@
 #![tactic(auto)]
 
 #[cfg(test)]
+mod bounds;
+#[cfg(test)]
 mod checked;
 #[cfg(test)]
 mod grown;
-#[cfg(test)]
-mod limits;
 #[cfg(test)]
 mod refused;
 #[cfg(test)]

@@ -1,3 +1,2 @@
 pub mod Staged
-pub mod TurnedMaps
 pub mod Checked

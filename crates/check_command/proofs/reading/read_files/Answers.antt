@@ -8,7 +8,7 @@ use Rattle.check_command.proofs.reading.read_files.Goals as goal
 pub returns-in-Err-clause-failed : goal.returns-in-Err-clause-failed
 returns-in-Err-clause-failed g c =
     let a = g.S.Shelf.state c.args.shelf.now in
-    parts_pass c.args.job.now a c.in-Err.fault (subst (λ names. AsksParts c.args.job.now.turns (length names + 1) (Err c.in-Err.fault)) c.as_slice.ensures.names (c.in-Err.ensures {u = tt}))
+    parts_pass c.args.job.now a c.in-Err.fault (subst (λ names. AsksParts c.args.job.now.turns (length names + 1) (Err c.in-Err.fault)) c.as_slice-more.ensures.names (c.in-Err.ensures {u = tt}))
 
 pub returns-in-Err-clause-reads : goal.returns-in-Err-clause-reads
 returns-in-Err-clause-reads g c =
@@ -19,31 +19,31 @@ pub returns-in-Err-read_samples-clause-failed : goal.returns-in-Err-read_samples
 returns-in-Err-read_samples-clause-failed g c =
     let a = g.S.Shelf.state c.args.shelf.now in
     let b = g.S.Shelf.state c.read_samples.new.shelf in
-    let few = subst (λ names. AsksParts c.args.job.now.turns (length names + 1) (Ok tt)) c.as_slice.ensures.names (c.in-Ok.ensures {u = tt}) in
-    no_samples c.args.job.now a b few c.as_slice.ensures.names c.read_samples.ensures.reads c.in-Err-read_samples.fault (c.in-Err-read_samples.ensures {u = tt}).answer
+    let few = subst (λ names. AsksParts c.args.job.now.turns (length names + 1) (Ok tt)) c.as_slice-more.ensures.names (c.in-Ok.ensures {u = tt}) in
+    no_samples c.args.job.now a b few c.as_slice-more.ensures.names c.read_samples.ensures.reads c.in-Err-read_samples.fault (c.in-Err-read_samples.ensures {u = tt}).answer
 
 pub returns-in-Err-read_samples-clause-reads : goal.returns-in-Err-read_samples-clause-reads
 returns-in-Err-read_samples-clause-reads g c =
     let a = g.S.Shelf.state c.args.shelf.now in
     let b = g.S.Shelf.state c.read_samples.new.shelf in
-    let few = subst (λ names. AsksParts c.args.job.now.turns (length names + 1) (Ok tt)) c.as_slice.ensures.names (c.in-Ok.ensures {u = tt}) in
-    samples_only c.args.job.now a b few c.as_slice.ensures.names c.read_samples.ensures.reads
+    let few = subst (λ names. AsksParts c.args.job.now.turns (length names + 1) (Ok tt)) c.as_slice-more.ensures.names (c.in-Ok.ensures {u = tt}) in
+    samples_only c.args.job.now a b few c.as_slice-more.ensures.names c.read_samples.ensures.reads
 
 pub returns-in-Err-read_out-clause-failed : goal.returns-in-Err-read_out-clause-failed
 returns-in-Err-read_out-clause-failed g c =
     let a = g.S.Shelf.state c.args.shelf.now in
     let b = g.S.Shelf.state c.read_samples.new.shelf in
     let d = g.S.Shelf.state c.read_out.new.shelf in
-    let few = subst (λ names. AsksParts c.args.job.now.turns (length names + 1) (Ok tt)) c.as_slice.ensures.names (c.in-Ok.ensures {u = tt}) in
-    no_out c.args.job.now a b few c.as_slice.ensures.names c.read_samples.ensures.reads c.in-Ok-read_samples.samples (c.in-Ok-read_samples.ensures {u = tt}).answer d c.read_out.ensures.reads c.in-Err-read_out.fault (c.in-Err-read_out.ensures {u = tt}).answer
+    let few = subst (λ names. AsksParts c.args.job.now.turns (length names + 1) (Ok tt)) c.as_slice-more.ensures.names (c.in-Ok.ensures {u = tt}) in
+    no_out c.args.job.now a b few c.as_slice-more.ensures.names c.read_samples.ensures.reads c.in-Ok-read_samples.samples (c.in-Ok-read_samples.ensures {u = tt}).answer d c.read_out.ensures.reads c.in-Err-read_out.fault (c.in-Err-read_out.ensures {u = tt}).answer
 
 pub returns-in-Err-read_out-clause-reads : goal.returns-in-Err-read_out-clause-reads
 returns-in-Err-read_out-clause-reads g c =
     let a = g.S.Shelf.state c.args.shelf.now in
     let b = g.S.Shelf.state c.read_samples.new.shelf in
     let d = g.S.Shelf.state c.read_out.new.shelf in
-    let few = subst (λ names. AsksParts c.args.job.now.turns (length names + 1) (Ok tt)) c.as_slice.ensures.names (c.in-Ok.ensures {u = tt}) in
-    out_only c.args.job.now a b few c.as_slice.ensures.names c.read_samples.ensures.reads c.in-Ok-read_samples.samples (c.in-Ok-read_samples.ensures {u = tt}).answer d c.read_out.ensures.reads
+    let few = subst (λ names. AsksParts c.args.job.now.turns (length names + 1) (Ok tt)) c.as_slice-more.ensures.names (c.in-Ok.ensures {u = tt}) in
+    out_only c.args.job.now a b few c.as_slice-more.ensures.names c.read_samples.ensures.reads c.in-Ok-read_samples.samples (c.in-Ok-read_samples.ensures {u = tt}).answer d c.read_out.ensures.reads
 
 pub returns-in-Err-read_map_file-clause-failed : goal.returns-in-Err-read_map_file-clause-failed
 returns-in-Err-read_map_file-clause-failed g c =
@@ -51,8 +51,8 @@ returns-in-Err-read_map_file-clause-failed g c =
     let b = g.S.Shelf.state c.read_samples.new.shelf in
     let d = g.S.Shelf.state c.read_out.new.shelf in
     let e = g.S.Shelf.state c.read_map_file.new.shelf in
-    let few = subst (λ names. AsksParts c.args.job.now.turns (length names + 1) (Ok tt)) c.as_slice.ensures.names (c.in-Ok.ensures {u = tt}) in
-    no_map c.args.job.now a b few c.as_slice.ensures.names c.read_samples.ensures.reads c.in-Ok-read_samples.samples (c.in-Ok-read_samples.ensures {u = tt}).answer d c.read_out.ensures.reads
+    let few = subst (λ names. AsksParts c.args.job.now.turns (length names + 1) (Ok tt)) c.as_slice-more.ensures.names (c.in-Ok.ensures {u = tt}) in
+    no_map c.args.job.now a b few c.as_slice-more.ensures.names c.read_samples.ensures.reads c.in-Ok-read_samples.samples (c.in-Ok-read_samples.ensures {u = tt}).answer d c.read_out.ensures.reads
     c.in-Ok-read_out.out (c.in-Ok-read_out.ensures {u = tt}).answer e c.read_map_file.ensures.reads c.in-Err-read_map_file.fault (c.in-Err-read_map_file.ensures {u = tt}).answer
 
 pub returns-in-Err-read_map_file-clause-reads : goal.returns-in-Err-read_map_file-clause-reads
@@ -61,8 +61,8 @@ returns-in-Err-read_map_file-clause-reads g c =
     let b = g.S.Shelf.state c.read_samples.new.shelf in
     let d = g.S.Shelf.state c.read_out.new.shelf in
     let e = g.S.Shelf.state c.read_map_file.new.shelf in
-    let few = subst (λ names. AsksParts c.args.job.now.turns (length names + 1) (Ok tt)) c.as_slice.ensures.names (c.in-Ok.ensures {u = tt}) in
-    map_only c.args.job.now a b few c.as_slice.ensures.names c.read_samples.ensures.reads c.in-Ok-read_samples.samples (c.in-Ok-read_samples.ensures {u = tt}).answer d c.read_out.ensures.reads
+    let few = subst (λ names. AsksParts c.args.job.now.turns (length names + 1) (Ok tt)) c.as_slice-more.ensures.names (c.in-Ok.ensures {u = tt}) in
+    map_only c.args.job.now a b few c.as_slice-more.ensures.names c.read_samples.ensures.reads c.in-Ok-read_samples.samples (c.in-Ok-read_samples.ensures {u = tt}).answer d c.read_out.ensures.reads
     c.in-Ok-read_out.out (c.in-Ok-read_out.ensures {u = tt}).answer e c.read_map_file.ensures.reads
 
 pub returns-in-Err-read_record-clause-failed : goal.returns-in-Err-read_record-clause-failed
@@ -72,8 +72,8 @@ returns-in-Err-read_record-clause-failed g c =
     let d = g.S.Shelf.state c.read_out.new.shelf in
     let e = g.S.Shelf.state c.read_map_file.new.shelf in
     let f = g.S.Shelf.state c.read_record.new.shelf in
-    let few = subst (λ names. AsksParts c.args.job.now.turns (length names + 1) (Ok tt)) c.as_slice.ensures.names (c.in-Ok.ensures {u = tt}) in
-    no_record c.args.job.now a b few c.as_slice.ensures.names c.read_samples.ensures.reads c.in-Ok-read_samples.samples (c.in-Ok-read_samples.ensures {u = tt}).answer d c.read_out.ensures.reads
+    let few = subst (λ names. AsksParts c.args.job.now.turns (length names + 1) (Ok tt)) c.as_slice-more.ensures.names (c.in-Ok.ensures {u = tt}) in
+    no_record c.args.job.now a b few c.as_slice-more.ensures.names c.read_samples.ensures.reads c.in-Ok-read_samples.samples (c.in-Ok-read_samples.ensures {u = tt}).answer d c.read_out.ensures.reads
     c.in-Ok-read_out.out (c.in-Ok-read_out.ensures {u = tt}).answer e c.read_map_file.ensures.reads
     c.in-Ok-read_map_file.map (c.in-Ok-read_map_file.ensures {u = tt}).answer f c.read_record.ensures.reads c.in-Err-read_record.fault (c.in-Err-read_record.ensures {u = tt}).answer
 
@@ -84,8 +84,8 @@ returns-in-Err-read_record-clause-reads g c =
     let d = g.S.Shelf.state c.read_out.new.shelf in
     let e = g.S.Shelf.state c.read_map_file.new.shelf in
     let f = g.S.Shelf.state c.read_record.new.shelf in
-    let few = subst (λ names. AsksParts c.args.job.now.turns (length names + 1) (Ok tt)) c.as_slice.ensures.names (c.in-Ok.ensures {u = tt}) in
-    record_only c.args.job.now a b few c.as_slice.ensures.names c.read_samples.ensures.reads c.in-Ok-read_samples.samples (c.in-Ok-read_samples.ensures {u = tt}).answer d c.read_out.ensures.reads
+    let few = subst (λ names. AsksParts c.args.job.now.turns (length names + 1) (Ok tt)) c.as_slice-more.ensures.names (c.in-Ok.ensures {u = tt}) in
+    record_only c.args.job.now a b few c.as_slice-more.ensures.names c.read_samples.ensures.reads c.in-Ok-read_samples.samples (c.in-Ok-read_samples.ensures {u = tt}).answer d c.read_out.ensures.reads
     c.in-Ok-read_out.out (c.in-Ok-read_out.ensures {u = tt}).answer e c.read_map_file.ensures.reads
     c.in-Ok-read_map_file.map (c.in-Ok-read_map_file.ensures {u = tt}).answer f c.read_record.ensures.reads
 
@@ -96,8 +96,8 @@ returns-in-Err-worked-clause-reads g c =
     let d = g.S.Shelf.state c.read_out.new.shelf in
     let e = g.S.Shelf.state c.read_map_file.new.shelf in
     let f = g.S.Shelf.state c.read_record.new.shelf in
-    let few = subst (λ names. AsksParts c.args.job.now.turns (length names + 1) (Ok tt)) c.as_slice.ensures.names (c.in-Ok.ensures {u = tt}) in
-    record_only c.args.job.now a b few c.as_slice.ensures.names c.read_samples.ensures.reads c.in-Ok-read_samples.samples (c.in-Ok-read_samples.ensures {u = tt}).answer d c.read_out.ensures.reads
+    let few = subst (λ names. AsksParts c.args.job.now.turns (length names + 1) (Ok tt)) c.as_slice-more.ensures.names (c.in-Ok.ensures {u = tt}) in
+    record_only c.args.job.now a b few c.as_slice-more.ensures.names c.read_samples.ensures.reads c.in-Ok-read_samples.samples (c.in-Ok-read_samples.ensures {u = tt}).answer d c.read_out.ensures.reads
     c.in-Ok-read_out.out (c.in-Ok-read_out.ensures {u = tt}).answer e c.read_map_file.ensures.reads
     c.in-Ok-read_map_file.map (c.in-Ok-read_map_file.ensures {u = tt}).answer f c.read_record.ensures.reads
 
@@ -108,8 +108,8 @@ returns-clause-read g c =
     let d = g.S.Shelf.state c.read_out.new.shelf in
     let e = g.S.Shelf.state c.read_map_file.new.shelf in
     let f = g.S.Shelf.state c.read_record.new.shelf in
-    let few = subst (λ names. AsksParts c.args.job.now.turns (length names + 1) (Ok tt)) c.as_slice.ensures.names (c.in-Ok.ensures {u = tt}) in
-    files_are c.args.job.now a b few c.as_slice.ensures.names c.read_samples.ensures.reads c.in-Ok-read_samples.samples (c.in-Ok-read_samples.ensures {u = tt}).answer d c.read_out.ensures.reads
+    let few = subst (λ names. AsksParts c.args.job.now.turns (length names + 1) (Ok tt)) c.as_slice-more.ensures.names (c.in-Ok.ensures {u = tt}) in
+    files_are c.args.job.now a b few c.as_slice-more.ensures.names c.read_samples.ensures.reads c.in-Ok-read_samples.samples (c.in-Ok-read_samples.ensures {u = tt}).answer d c.read_out.ensures.reads
     c.in-Ok-read_out.out (c.in-Ok-read_out.ensures {u = tt}).answer e c.read_map_file.ensures.reads
     c.in-Ok-read_map_file.map (c.in-Ok-read_map_file.ensures {u = tt}).answer f c.read_record.ensures.reads
     c.in-Ok-read_record.record_file (c.in-Ok-read_record.ensures {u = tt}).answer c.in-Ok-worked.samples (c.in-Ok-worked.ensures {u = tt}).is
@@ -121,7 +121,7 @@ returns-clause-reads g c =
     let d = g.S.Shelf.state c.read_out.new.shelf in
     let e = g.S.Shelf.state c.read_map_file.new.shelf in
     let f = g.S.Shelf.state c.read_record.new.shelf in
-    let few = subst (λ names. AsksParts c.args.job.now.turns (length names + 1) (Ok tt)) c.as_slice.ensures.names (c.in-Ok.ensures {u = tt}) in
-    record_only c.args.job.now a b few c.as_slice.ensures.names c.read_samples.ensures.reads c.in-Ok-read_samples.samples (c.in-Ok-read_samples.ensures {u = tt}).answer d c.read_out.ensures.reads
+    let few = subst (λ names. AsksParts c.args.job.now.turns (length names + 1) (Ok tt)) c.as_slice-more.ensures.names (c.in-Ok.ensures {u = tt}) in
+    record_only c.args.job.now a b few c.as_slice-more.ensures.names c.read_samples.ensures.reads c.in-Ok-read_samples.samples (c.in-Ok-read_samples.ensures {u = tt}).answer d c.read_out.ensures.reads
     c.in-Ok-read_out.out (c.in-Ok-read_out.ensures {u = tt}).answer e c.read_map_file.ensures.reads
     c.in-Ok-read_map_file.map (c.in-Ok-read_map_file.ensures {u = tt}).answer f c.read_record.ensures.reads

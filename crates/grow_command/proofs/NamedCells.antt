@@ -1,7 +1,6 @@
 -- The place that the map file names has the cell that stands at the place of the worked samples.
-use Rattle.std.proofs.Common.{◌≡◌, Bool, true, false, List, refl, subst}
+use Rattle.std.proofs.Common.{◌≡◌, Bool, true, false, refl, subst}
 use Rattle.cells.specs.declared.place.At.{At}
-use Rattle.cells.specs.declared.place.Size.{Size}
 use Rattle.cells.specs.Cells.{Cells, HasCell, IsVolume, cell_at, sizes_of}
 use Rattle.cells.specs.declared.sizes.PartPlace.{PartPlace}
 use Rattle.cells.specs.SizeLists.{IsPartPlace}

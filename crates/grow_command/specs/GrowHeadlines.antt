@@ -84,9 +84,9 @@ pub record IsGrownRecord (job : GrowJob) (output : Samples) (map : SourceMap) (t
   pub none_raises : EachOver (RaisesNone (worked job.turns output.volume)) (empty_map job.size)
       cuts
 
--- both; samples, out file, map file and record file stand, which is what `check` tries under the same
--- `turns`, and under the other value these files aren't in their forms; and all files but the three
--- that are written are as before
+-- both; samples, out file, map file and record file stand, which is what `check` tries under the
+-- same `turns`, and under the other value these files aren't in their forms; and all files but the
+-- three that are written are as before
 pub record IsGrownRun (job : GrowJob) (before after : Files) : Type 0 where
   pub output : IsGrownOutput job before after
   pub records : IsGrownRecord job output.samples output.map (content_of after job.names.record_file)

@@ -1,6 +1,6 @@
--- The map file of a run: its text, what its writer asks for, and which cells of the samples it names.
--- With turns they are the cells as they are before any turn. To be trusted: contracts cite these
--- words. (Own.)
+-- The map file of a run: its text, what its writer asks for, and which cells of the samples it
+-- names. With turns they are the cells as they are before any turn. To be trusted: contracts cite
+-- these words. (Own.)
 use Rattle.std.specs.Prelude.{Bool, true, false, ℕ, List, [], ◌∷◌}
 use Rattle.cells.specs.declared.place.At.{At}
 use Rattle.cells.specs.declared.place.Size.{Size}

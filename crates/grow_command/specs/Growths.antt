@@ -80,8 +80,8 @@ pub record IsGrownOver (job : GrowJob) (samples : Samples) (grown : Grown) : Typ
   pub run : IsGrown (plan_of job) (worked job.turns samples.volume) grown
   pub flows : All HasShortFlows grown.cuts
 
--- of samples that are read: what is grown over the worked ones, with the sizes of those that are read
--- and the total cost of the seams
+-- of samples that are read: what is grown over the worked ones, with the sizes of those that are
+-- read and the total cost of the seams
 abbrev pub growth_of : GrowJob → Samples → Grown → Growth
 growth_of job samples grown = record {
   samples = worked_samples job.turns samples;

@@ -53,7 +53,7 @@ module _ (files : Files) (map record_file other_map other_record_file : List ℕ
       let record_file_same : values.record_file ≡ Cuts head cuts = same_value {T = RecordFile} (record_file_read (content_of files record_file)) values.record_file (Cuts head cuts) read.record_file record_file_is in
       let here = subst (λ c. IsVerdict values.samples values.out (CellMap m sizes version) c verdict) record_file_same (subst (λ v. IsVerdict values.samples values.out v values.record_file verdict) map_same judged) in
       let there : ReadFiles = record { samples = values.samples; out = values.out; map = CellMap m sizes other; record_file = Cuts (record head { version = of_record_file }) cuts } in
-      (there, record { samples = read.samples; out = read.out; map = other_map_is; record_file = other_record_file_is }, any_versions values.samples values.out m sizes version head cuts verdict other of_record_file here)
+      (there, record { samples = record { samples = read.samples.samples; stand = read.samples.stand; is = read.samples.is }; out = read.out; map = other_map_is; record_file = other_record_file_is }, any_versions values.samples values.out m sizes version head cuts verdict other of_record_file here)
 
   pub stands_too : (names : Names) → Stand false (with_pair names map record_file) files → Stand false (with_pair names other_map other_record_file) files
   stands_too names s = let there = moved names s.values s.read Stands s.stand in record { values = there.0; read = there.1; stand = there.2 }

@@ -40,13 +40,11 @@ fn words_of(alloc: Global, list: &[&str]) -> Result<Words, AllocError> {
 // Reads the samples of a job of `grow`, with turns or without, whatever its words say.
 fn read_by(alloc: Global, shelf: &mut MemShelf, job: &Job, turns: bool) -> Result<Samples, Fault> {
     match job {
-        Job::Grow(job) => read_samples(
-            alloc,
-            shelf,
-            turns,
-            &job.names.sample,
-            job.names.more.as_slice(),
-        ),
+        Job::Grow(job) => {
+            let more = job.names.more.as_slice();
+            parts_within(turns, more.len() + 1)?;
+            read_samples(alloc, shelf, turns, &job.names.sample, more)
+        }
         _ => Err(Fault::NoMemory),
     }
 }

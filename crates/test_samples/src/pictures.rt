@@ -216,8 +216,10 @@ fn long_headers(rt: HostRuntime) {
 // Whether a picture is that of four cells.
 fn is_of_four(picture: &Picture) -> bool {
     let volume = &picture.volume;
+    let sizes = volume.sizes();
     picture.maxval == 255
-        && volume.size() == Size { w: 4, h: 1, f: 1 }
+        && sizes.len() == 1
+        && sizes.at(1) == Size { w: 4, h: 1, f: 1 }
         && volume.samples() == 3
         && volume.bytes() == b"abcdefghijkl".as_slice()
 }

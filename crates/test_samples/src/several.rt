@@ -1,7 +1,7 @@
 use crate::expect::{expect_none, expect_true};
 use cells::{At, Size};
 use job_words::{Job, Words, read_job};
-use sample_files::{Form, Samples, read_samples};
+use sample_files::{Form, Samples, parts_within, read_samples};
 use shelf_core::{FormFault, MemShelf};
 use std::alloc::{AllocError, Global};
 use synth_report::{Fault, FileOf};
@@ -41,13 +41,11 @@ fn words_of(alloc: Global, list: &[&str]) -> Result<Words, AllocError> {
 // Reads the samples of a job, which is one of `grow`.
 fn read_by(alloc: Global, shelf: &mut MemShelf, job: &Job) -> Result<Samples, Fault> {
     match job {
-        Job::Grow(job) => read_samples(
-            alloc,
-            shelf,
-            job.turns,
-            &job.names.sample,
-            job.names.more.as_slice(),
-        ),
+        Job::Grow(job) => {
+            let more = job.names.more.as_slice();
+            parts_within(job.turns, more.len() + 1)?;
+            read_samples(alloc, shelf, job.turns, &job.names.sample, more)
+        }
         _ => Err(Fault::NoMemory),
     }
 }

@@ -6,4 +6,3 @@ pub mod Levels
 pub mod Paths
 pub mod Solutions
 pub mod Checking
-pub mod Workspaces

@@ -1,6 +1,6 @@
 // The flow that search trees make of one. Their tables are given back before those of the level graphs are taken.
 
-ghost use Rattle.std.specs.Prelude.{◌≡◌, ◌≤◌, ◌^◌, IfOk, length, map};
+ghost use Rattle.std.specs.Prelude.{◌≡◌, IfOk, length, map, vec_len};
 ghost use Rattle.max_flow.specs.Residual.{Carries};
 
 use crate::checking::flow_left;
@@ -25,24 +25,12 @@ pub fn empty(pipes: &[Pipe], backward: &mut [u32])
     }
 }
 
-// Sends more flow over pipes with the ends of a network by search trees, where `backward` has what the arc
-// against each pipe can carry. Writes what they leave for it.
-fn search(
-    alloc: Global,
-    network: &Network,
-    nodes: usize,
-    pipes: &[Pipe],
-    backward: &mut [u32],
-) -> Result<(), AllocError>
-    requires { length pipes.now ≤ 2 ^ 32 }
-{
-    let mut arcs = PackedArcs::make(alloc, nodes, pipes)?;
-    arcs.pack(pipes, backward);
-    let mut trees = Trees::make(alloc, nodes, arcs)?;
-    let limit = WORK * (pipes.len() as u64 + 1);
+// Sends more flow over arcs with the ends of a network by search trees.
+fn search(alloc: Global, network: &Network, arcs: PackedArcs) -> Result<PackedArcs, AllocError> {
+    let limit = WORK.saturating_mul(arcs.pipes() as u64);
+    let mut trees = Trees::make(alloc, arcs)?;
     trees.send(network.source(), network.sink(), limit);
-    trees.write_backward(backward);
-    Ok(())
+    Ok(trees.into_arcs())
 }
 
 /// The stars of a network, if they are many.
@@ -60,43 +48,47 @@ pub fn many_stars(alloc: Global, network: &Network) -> Result<Option<Stars>, All
     })
 }
 
-// Writes what is left for the arc against each pipe by that search. It goes on from what `backward` has, or
-// over the shorter network, with nothing flowing, where the network has many stars.
-fn propose(
-    alloc: Global,
-    network: &Network,
-    stars: Option<Stars>,
-    backward: &mut [u32],
-) -> Result<(), AllocError>
-    requires { length backward.old ≡ length network.now.pipes }
-{
-    let pipes = network.pipes();
-    let Some(mut stars) = stars else {
-        return search(alloc, network, network.nodes() as usize, pipes, backward);
-    };
-    let short = stars.shorten(alloc, pipes)?;
-    if short.len() <= pipes.len() {
-        empty(&short, &mut backward[..short.len()]);
-        search(alloc, network, stars.nodes_of(&short), &short, backward)?;
-        stars.turn_back(pipes, short.len(), backward);
-    }
+/// Writes what the search leaves for the arc against each pipe, where it goes on from what `backward` has.
+pub fn propose(alloc: Global, network: &Network, backward: &mut [u32]) -> Result<(), AllocError> {
+    let mut arcs = PackedArcs::pack(alloc, network.nodes() as usize, network.pipes())?;
+    arcs.read_backward(backward);
+    let arcs = search(alloc, network, arcs)?;
+    arcs.write_backward(backward);
     Ok(())
 }
 
-/// Writes for the arc against each pipe what it can still carry in the flow that the search makes of the one
-/// in `backward`, or where nothing flows if that isn't a flow. `stars` are those of the network, if they are
-/// many; the search then begins with nothing. Returns the value of the flow.
-pub fn better_flow(
+// The arcs of the shorter network, with nothing flowing. Its pipes are given back.
+fn short_arcs(alloc: Global, pipes: &[Pipe], stars: &Stars) -> Result<PackedArcs, AllocError> {
+    let short = stars.shorten(alloc, pipes)?;
+    PackedArcs::pack(alloc, stars.nodes_of(&short), &short)
+}
+
+/// What the search leaves for the arc against each pipe of a network with many stars, where it goes over the
+/// shorter network and begins with nothing. The table is made once those of the search are given back.
+pub fn propose_short(alloc: Global, network: &Network, stars: Stars) -> Result<Vec<u32>, AllocError>
+    ensures { IfOk result (λ backward. vec_len backward ≡ length network.now.pipes) }
+{
+    let mut stars = stars;
+    let pipes = network.pipes();
+    let arcs = short_arcs(alloc, pipes, &stars)?;
+    let arcs = search(alloc, network, arcs)?;
+    let mut backward = vec![in alloc; 0u32; pipes.len()]?;
+    arcs.write_backward(&mut backward);
+    stars.turn_back(pipes, arcs.pipes(), &mut backward);
+    Ok(backward)
+}
+
+/// The value of the flow that leaves so much for the arc against each pipe. If it isn't a flow, nothing flows
+/// then.
+pub fn checked_flow(
     alloc: Global,
     network: &Network,
-    stars: Option<Stars>,
     backward: &mut [u32],
 ) -> Result<u64, AllocError>
     requires { length backward.old ≡ length network.now.pipes }
     ensures { IfOk result
         (Carries network.now.pipes network.now.source network.now.sink backward.new) }
 {
-    propose(alloc, network, stars, backward)?;
     let pipes = network.pipes();
     let nodes = network.nodes();
     let mut excess = vec![in alloc; 0i64; nodes as usize]?;

@@ -2,16 +2,16 @@
 // search whose flow is checked comes between.
 
 ghost use Rattle.std.specs.Prelude.{◌≡◌, ◌<◌, ◌≤◌, ◌^◌, ℕ, ℤ, pos, ◌≤ℤ◌, nat_lt, Bool, List};
-ghost use Rattle.std.specs.Prelude.{IfOk, IfSome, IsSome, length, vec_len};
+ghost use Rattle.std.specs.Prelude.{All, IfOk, IfSome, IsSome, OnOk, length};
 ghost use Rattle.std.specs.Bool.{OnTrue};
+ghost use Rattle.max_flow.specs.Networks.{IsPipeOf};
 ghost use Rattle.max_flow.specs.Flows.{IsFlow, flow_value, is_in, IsCut, cut_capacity};
 ghost use Rattle.max_flow.specs.Flows.{IsLeastCut, IsContained};
 ghost use Rattle.max_flow.specs.Residual.{AreResiduals, Carries, flows_of};
 ghost use Rattle.max_flow.specs.Levels.{AreLevels, IsClosed, level_of};
 ghost use Rattle.max_flow.specs.Solutions.{IsSolution};
-ghost use Rattle.max_flow.specs.Workspaces.{IsReady};
 
-use crate::beginning::{better_flow, empty, many_stars};
+use crate::beginning::{checked_flow, empty, many_stars, propose, propose_short};
 use crate::blocking::blocking_flow;
 use crate::graph::{Graph, link};
 use crate::levels::find_levels;
@@ -41,75 +41,15 @@ pub struct Solved {
     pub value: u64,
 }
 
-// The tables of the searches: one entry for each node in each of them.
-#[derive(Drop)]
-struct NodeTables {
-    levels: Vec<u32>,
-    queue: Vec<u32>,
-    current: Vec<u32>,
-    path: Vec<u32>,
-}
-
-// All that the level graphs work on, and what a solver hands out.
-#[derive(Drop)]
-struct Workspace {
-    flow: Vec<i32>,
-    source_side: Vec<bool>,
-    last: Vec<u32>,
-    previous: Vec<u32>,
-    tables: NodeTables,
-}
-
-impl NodeTables {
-    ghost use Rattle.max_flow.specs.Workspaces.{HaveNodes};
-
-    fn make(alloc: Global, nodes: usize) -> Result<NodeTables, AllocError>
-        ensures { IfOk result (HaveNodes nodes) }
-    {
-        let levels = vec![in alloc; 0u32; nodes]?;
-        let queue = vec![in alloc; 0u32; nodes]?;
-        let current = vec![in alloc; 0u32; nodes]?;
-        let path = vec![in alloc; 0u32; nodes]?;
-        Ok(NodeTables {
-            levels,
-            queue,
-            current,
-            path,
-        })
-    }
-}
-
-impl Workspace {
-    ghost use Rattle.max_flow.specs.Workspaces.{IsReady};
-
-    // Makes the tables for a network with these pipes.
-    fn make(alloc: Global, nodes: usize, pipes: &[Pipe]) -> Result<Workspace, AllocError>
-        requires { length pipes.now ≤ 2 ^ 32 }
-        ensures { IfOk result (IsReady nodes pipes.now) }
-    {
-        let flow = vec![in alloc; 0i32; pipes.len()]?;
-        let source_side = vec![in alloc; false; nodes]?;
-        let last = vec![in alloc; 0u32; nodes]?;
-        let previous = vec![in alloc; 0u32; 2 * pipes.len()]?;
-        let tables = NodeTables::make(alloc, nodes)?;
-        Ok(Workspace {
-            flow,
-            source_side,
-            last,
-            previous,
-            tables,
-        })
-    }
-}
-
 // Writes the flows of the pipes.
-fn write_flows(graph: &Graph, backward: &[u32], flow: &mut [i32])
-    requires residuals { AreResiduals graph.now.pipes.now backward.now }
-    requires sized { length flow.old ≡ length graph.now.pipes.now }
-    ensures { flow.new ≡ flows_of graph.now.pipes.now backward.now }
+fn write_flows(pipes: &[Pipe], nodes: u32, backward: &[u32], flow: &mut [i32])
+    requires pipes { All (IsPipeOf nodes) pipes.now }
+    requires residuals { AreResiduals pipes.now backward.now }
+    requires sized { length flow.old ≡ length pipes.now }
+    ensures { flow.new ≡ flows_of pipes.now backward.now }
 {
     for j in 0..flow.len() {
-        flow[j] = backward[j] as i32 - graph.pipes[j].back as i32;
+        flow[j] = backward[j] as i32 - pipes[j].back as i32;
     }
 }
 
@@ -131,72 +71,67 @@ fn is_thin(graph: &Graph, levels: &[u32]) -> bool
 }
 
 // Adds blocking flows to a flow of the value `first`, until the sink has no level. Unless it's the last time,
-// it may stop before, since the search comes after it. Returns the value of the flow, and leaves the last levels
-// in the tables.
+// it may stop before, since the search comes after it. Returns the value of the flow, and leaves the last
+// levels. `queue` is a table to work in, for a search by breadth and then for a path.
 fn run(
+    alloc: Global,
     graph: &Graph,
     backward: &mut [u32],
-    tables: &mut NodeTables,
+    levels: &mut [u32],
+    queue: &mut [u32],
     first: u64,
     is_last: bool,
-) -> u64
+) -> Result<u64, AllocError>
     requires carries { Carries graph.now.pipes.now graph.now.source graph.now.sink backward.old
         first }
-    requires levels { vec_len tables.old.levels ≡ graph.now.nodes }
-    requires queue { vec_len tables.old.queue ≡ graph.now.nodes }
-    requires current { vec_len tables.old.current ≡ graph.now.nodes }
-    requires path { vec_len tables.old.path ≡ graph.now.nodes }
-    ensures carries { Carries graph.now.pipes.now graph.now.source graph.now.sink backward.new
-        result }
-    ensures levels { AreLevels graph.now.pipes.now graph.now.nodes graph.now.source backward.new
-        tables.new.levels.items }
-    ensures closed { level_of tables.new.levels.items graph.now.sink ≡ 0
-        → IsClosed graph.now.pipes.now backward.new tables.new.levels.items }
-    ensures sink { OnTrue is_last (level_of tables.new.levels.items graph.now.sink ≡ 0) }
+    requires levels { length levels.old ≡ graph.now.nodes }
+    requires queue { length queue.old ≡ graph.now.nodes }
+    ensures carries { IfOk result
+        (Carries graph.now.pipes.now graph.now.source graph.now.sink backward.new) }
+    ensures levels { OnOk result (AreLevels graph.now.pipes.now graph.now.nodes graph.now.source
+        backward.new levels.new) }
+    ensures closed { OnOk result (level_of levels.new graph.now.sink ≡ 0
+        → IsClosed graph.now.pipes.now backward.new levels.new) }
+    ensures sink { OnOk result (OnTrue is_last (level_of levels.new graph.now.sink ≡ 0)) }
 {
     let mut value = first;
     let mut left = PHASES;
-    'phases: while find_levels(graph, backward, &mut tables.levels, &mut tables.queue) {
-        if !is_last && left == 0 && !is_thin(graph, &tables.levels) {
-            return value;
+    'phases: while find_levels(graph, backward, levels, queue) {
+        if !is_last && left == 0 && !is_thin(graph, levels) {
+            return Ok(value);
         }
         left = left.saturating_sub(1);
-        value = blocking_flow(
-            graph,
-            backward,
-            &tables.levels,
-            &mut tables.current,
-            &mut tables.path,
-            value,
-        );
+        let mut current = vec![in alloc; 0u32; levels.len()]?;
+        value = blocking_flow(graph, backward, levels, &mut current, queue, value);
     }
-    value
+    Ok(value)
 }
 
-// Solves the network in the tables, from a flow of that value. Unless it's the last time, it may stop before.
-fn solve_in(
+// The same in a network, in tables that are given back.
+fn run_in(
+    alloc: Global,
     network: &Network,
-    space: Workspace,
     backward: &mut [u32],
+    levels: &mut [u32],
     first: u64,
     is_last: bool,
-) -> Option<Solved>
-    requires ready { IsReady network.now.nodes network.now.pipes space }
+) -> Result<u64, AllocError>
     requires limit { length network.now.pipes < 2 ^ 31 }
     requires carries { Carries network.now.pipes network.now.source network.now.sink backward.old
         first }
-    ensures solved { IfSome result (λ solved.
-        IsSolution network.now solved.flow solved.source_side solved.value) }
-    ensures last { OnTrue is_last (IsSome result) }
+    requires levels { length levels.old ≡ network.now.nodes }
+    ensures carries { IfOk result
+        (Carries network.now.pipes network.now.source network.now.sink backward.new) }
+    ensures levels { OnOk result (AreLevels network.now.pipes network.now.nodes network.now.source
+        backward.new levels.new) }
+    ensures closed { OnOk result (level_of levels.new network.now.sink ≡ 0
+        → IsClosed network.now.pipes backward.new levels.new) }
+    ensures sink { OnOk result (OnTrue is_last (level_of levels.new network.now.sink ≡ 0)) }
 {
-    let Workspace {
-        mut flow,
-        mut source_side,
-        mut last,
-        mut previous,
-        mut tables,
-    } = space;
     let pipes = network.pipes();
+    let mut last = vec![in alloc; 0u32; levels.len()]?;
+    let mut previous = vec![in alloc; 0u32; 2 * pipes.len()]?;
+    let mut queue = vec![in alloc; 0u32; levels.len()]?;
     link(pipes, &mut last, &mut previous);
     let graph = Graph {
         pipes,
@@ -206,21 +141,42 @@ fn solve_in(
         last: &last,
         previous: &previous,
     };
-    let value = run(&graph, backward, &mut tables, first, is_last);
-    if tables.levels[graph.sink] > 0 {
-        return None;
-    }
-    write_flows(&graph, backward, &mut flow);
-    write_sides(&tables.levels, &mut source_side);
-    Some(Solved {
+    let value = run(alloc, &graph, backward, levels, &mut queue, first, is_last)?;
+    Ok(value)
+}
+
+// The flow of that value, and the cut of the nodes with a level.
+fn hand_out(
+    alloc: Global,
+    network: &Network,
+    backward: &[u32],
+    levels: &[u32],
+    value: u64,
+) -> Result<Solved, AllocError>
+    requires carries { Carries network.now.pipes network.now.source network.now.sink backward.now
+        value }
+    requires levels { AreLevels network.now.pipes network.now.nodes network.now.source
+        backward.now levels.now }
+    requires closed { IsClosed network.now.pipes backward.now levels.now }
+    requires sink { level_of levels.now network.now.sink ≡ 0 }
+    ensures { IfOk result (λ solved.
+        IsSolution network.now solved.flow solved.source_side solved.value) }
+{
+    let pipes = network.pipes();
+    let mut flow = vec![in alloc; 0i32; pipes.len()]?;
+    write_flows(pipes, network.nodes(), backward, &mut flow);
+    let mut sides = vec![in alloc; false; levels.len()]?;
+    write_sides(levels, &mut sides);
+    Ok(Solved {
         flow: Items::from_vec(flow),
-        source_side: Items::from_vec(source_side),
+        source_side: Items::from_vec(sides),
         value,
     })
 }
 
-// Solves the network by level graphs, from a flow of that value, in tables that are given back. Unless it's the
-// last time, it may stop before, and leaves what the arcs can then carry.
+// Solves the network by level graphs, from a flow of that value. Unless it's the last time, it may stop before,
+// and leaves what the arcs can then carry. What is handed out is made once the tables of the level graphs are
+// given back.
 fn level_graphs(
     alloc: Global,
     network: &Network,
@@ -235,8 +191,23 @@ fn level_graphs(
         IsSolution network.now solved.flow solved.source_side solved.value)) }
     ensures last { OnTrue is_last (IfOk result IsSome) }
 {
-    let space = Workspace::make(alloc, network.nodes() as usize, network.pipes())?;
-    Ok(solve_in(network, space, backward, first, is_last))
+    let mut levels = vec![in alloc; 0u32; network.nodes() as usize]?;
+    let value = run_in(alloc, network, backward, &mut levels, first, is_last)?;
+    if levels[network.sink() as usize] > 0 {
+        return Ok(None);
+    }
+    Ok(Some(hand_out(alloc, network, backward, &levels, value)?))
+}
+
+// Solves the network by level graphs, from the flow that a search left, or from none where it isn't one.
+fn finish(alloc: Global, network: &Network, backward: &mut [u32]) -> Result<Solved, AllocError>
+    requires limit { length network.now.pipes < 2 ^ 31 }
+    requires sized { length backward.old ≡ length network.now.pipes }
+    ensures { IfOk result (λ solved.
+        IsSolution network.now solved.flow solved.source_side solved.value) }
+{
+    let value = checked_flow(alloc, network, backward)?;
+    Ok(level_graphs(alloc, network, backward, value, true)?.unwrap())
 }
 
 /// Finds a flow of greatest value, and of all least cuts the one whose source side is contained in that of
@@ -260,14 +231,15 @@ pub fn solve(alloc: Global, network: &Network) -> Result<Solved, AllocError>
     if pipes.len() >= LIMIT {
         return Err(AllocError);
     }
+    if let Some(stars) = many_stars(alloc, network)? {
+        let mut backward = propose_short(alloc, network, stars)?;
+        return Ok(finish(alloc, network, &mut backward)?);
+    }
     let mut backward = vec![in alloc; 0u32; pipes.len()]?;
     empty(pipes, &mut backward);
-    let stars = many_stars(alloc, network)?;
-    if stars.is_none() {
-        if let Some(solved) = level_graphs(alloc, network, &mut backward, 0, false)? {
-            return Ok(solved);
-        }
+    if let Some(solved) = level_graphs(alloc, network, &mut backward, 0, false)? {
+        return Ok(solved);
     }
-    let value = better_flow(alloc, network, stars, &mut backward)?;
-    Ok(level_graphs(alloc, network, &mut backward, value, true)?.unwrap())
+    propose(alloc, network, &mut backward)?;
+    Ok(finish(alloc, network, &mut backward)?)
 }

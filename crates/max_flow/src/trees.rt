@@ -66,8 +66,9 @@ pub struct Trees {
 }
 
 impl Trees {
-    /// Makes the tables for a network with that many nodes and these arcs.
-    pub fn make(alloc: Global, nodes: usize, arcs: PackedArcs) -> Result<Trees, AllocError> {
+    /// Makes the tables for a network with these arcs.
+    pub fn make(alloc: Global, arcs: PackedArcs) -> Result<Trees, AllocError> {
+        let nodes = arcs.nodes();
         let parents = vec![in alloc; Parent::Nothing; nodes]?;
         let list = vec![in alloc; LOOSE; nodes]?;
         let active = VecDeque::with_capacity(alloc, nodes)?;
@@ -468,8 +469,8 @@ impl Trees {
         self.search(limit);
     }
 
-    /// Writes what the arc against each pipe can still carry.
-    pub fn write_backward(&self, backward: &mut [u32]) {
-        self.arcs.write_backward(backward);
+    /// The arcs with what they can still carry. The other tables are given back.
+    pub fn into_arcs(self) -> PackedArcs {
+        self.arcs
     }
 }

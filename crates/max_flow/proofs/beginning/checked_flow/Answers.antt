@@ -1,7 +1,7 @@
 use Rattle.std.proofs.Common.{refl, ap, ◌∙◌}
 use Rattle.max_flow.proofs.FlowLists.{Carries-at_rest, at_rest}
 use Rattle.max_flow.proofs.Limits.{Carries_same}
-use Rattle.max_flow.proofs.beginning.better_flow.Goals as goal
+use Rattle.max_flow.proofs.beginning.checked_flow.Goals as goal
 
 pub returns : goal.returns
 returns c = Carries_same _ _ _ _ _ _ _ _ _ refl refl refl (c.empty.ensures ∙ ap at_rest c.pipes-pipes.ensures.value) (Carries-at_rest c.args.network.now.pipes c.args.network.now.source c.args.network.now.sink)

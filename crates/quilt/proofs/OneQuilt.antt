@@ -10,7 +10,6 @@ use Rattle.map_canvas.specs.declared.canvas.Placement.{Placement}
 use Rattle.map_canvas.specs.Maps.{IsFull, IsMap, SourceMap}
 use Rattle.map_canvas.proofs.Marks.{empty_is_canvas}
 use Rattle.map_canvas.proofs.Unfilled.{full_is_whole}
-use Rattle.match_error.specs.Errors.{error_of}
 use Rattle.patch_place.specs.Lists.{fit_list, part_lists}
 use Rattle.patch_place.specs.Picks.{IsPick}
 use Rattle.patch_place.proofs.OnePick.{one_pick}
@@ -22,7 +21,7 @@ use Rattle.block_strips.specs.declared.side.Side.TheVariants.{Left, Top}
 use Rattle.block_strips.specs.Blocks.{block_at, next_box}
 use Rattle.block_check.specs.declared.block.BlockRecord.{BlockRecord}
 use Rattle.block_check.specs.Blocks.{after_block, new_cells}
-use Rattle.quilt.specs.Runs.{JoinsBy, OneQuilt, QuiltsBy, QuiltsTo, Quilting, plan_strip}
+use Rattle.quilt.specs.Runs.{JoinsBy, OneQuilt, QuiltsBy, QuiltsTo, Quilting, Rating, plan_strip}
 use Rattle.map_canvas.proofs.MapsAfter.{after_is_map}
 
 -- through a strip there is one boundary, or none
@@ -41,13 +40,13 @@ pub record IsSameStep (block other : BlockRecord) (after left : Quilting) : Type
   pub block_is : block ≡ other
   pub after_is : after ≡ left
 
-pub one_step : (plan : QuiltPlan) (sample : Cells) (before after left : Quilting) (block other : BlockRecord) → QuiltsBy plan sample before block after → QuiltsBy plan sample before other left → IsSameStep block other after left
-one_step plan sample before after left block other x y =
+pub one_step : (rating : Rating) (plan : QuiltPlan) (sample : Cells) (before after left : Quilting) (block other : BlockRecord) → QuiltsBy rating plan sample before block after → QuiltsBy rating plan sample before other left → IsSameStep block other after left
+one_step rating plan sample before after left block other x y =
     let m = before.map in
     let rect : block.placement.rect ≡ other.placement.rect = same_Some _ _ (sym x.next ∙ y.next) in
-    let pick : IsPick (error_of m sample) (Some plan.tol) (part_lists (fit_list block.placement.rect) sample) before.draws other.placement =
-    subst (λ (r : Box3). IsPick (error_of m sample) (Some plan.tol) (part_lists (fit_list r) sample) before.draws other.placement) (sym rect) y.pick in
-    let placement : block.placement ≡ other.placement = one_pick (error_of m sample) (Some plan.tol) (part_lists (fit_list block.placement.rect) sample) before.draws block.placement other.placement x.pick pick in
+    let pick : IsPick (rating m) (Some plan.tol) (part_lists (fit_list block.placement.rect) sample) before.draws other.placement =
+    subst (λ (r : Box3). IsPick (rating m) (Some plan.tol) (part_lists (fit_list r) sample) before.draws other.placement) (sym rect) y.pick in
+    let placement : block.placement ≡ other.placement = one_pick (rating m) (Some plan.tol) (part_lists (fit_list block.placement.rect) sample) before.draws block.placement other.placement x.pick pick in
     let left_same : block.left ≡ other.left = one_join (plan_strip Left plan m sample block.placement) block.left other.left x.laid.left
     (subst (λ (p : Placement). JoinsBy (plan_strip Left plan m sample p) other.left) (sym placement) y.laid.left) in
     let top_same : block.top ≡ other.top = one_join (plan_strip Top plan m sample block.placement) block.top other.top x.laid.top
@@ -65,20 +64,20 @@ pub record IsSameQuilt (blocks others : List BlockRecord) (after other : Quiltin
   pub blocks_are : blocks ≡ others
   pub after_is : after ≡ other
 
-one_run : (plan : QuiltPlan) (sample : Cells) → IsVolume sample → (before after other : Quilting) (blocks others : List BlockRecord) → IsMap before.map
-    → QuiltsTo plan sample before blocks after → IsFull after.map → QuiltsTo plan sample before others other → IsFull other.map → IsSameQuilt blocks others after other
-one_run plan sample volume before after other [] [] is x full y whole = record { blocks_are = refl; after_is = x ∙ sym y }
-one_run plan sample volume before after other [] (o ∷ others) is x full y whole =
+one_run : (rating : Rating) (plan : QuiltPlan) (sample : Cells) → IsVolume sample → (before after other : Quilting) (blocks others : List BlockRecord) → IsMap before.map
+    → QuiltsTo rating plan sample before blocks after → IsFull after.map → QuiltsTo rating plan sample before others other → IsFull other.map → IsSameQuilt blocks others after other
+one_run rating plan sample volume before after other [] [] is x full y whole = record { blocks_are = refl; after_is = x ∙ sym y }
+one_run rating plan sample volume before after other [] (o ∷ others) is x full y whole =
     absurd (no_box plan before.map sample _ is (subst (λ (q : Quilting). IsFull q.map) x full) y.1.0.next)
-one_run plan sample volume before after other (b ∷ blocks) [] is x full y whole =
+one_run rating plan sample volume before after other (b ∷ blocks) [] is x full y whole =
     absurd (no_box plan before.map sample _ is (subst (λ (q : Quilting). IsFull q.map) y whole) x.1.0.next)
-one_run plan sample volume before after other (b ∷ blocks) (o ∷ others) is x full y whole =
-    let step = one_step plan sample before x.0 y.0 b o x.1.0 y.1.0 in
+one_run rating plan sample volume before after other (b ∷ blocks) (o ∷ others) is x full y whole =
+    let step = one_step rating plan sample before x.0 y.0 b o x.1.0 y.1.0 in
     let map : IsMap x.0.map = subst IsMap (sym x.1.0.map) (after_is_map before.map sample b.placement (new_cells b) volume is x.1.0.fits) in
-    let rest = one_run plan sample volume x.0 after other blocks others map x.1.1 full (subst (λ (q : Quilting). QuiltsTo plan sample q others other) (sym step.after_is) y.1.1) whole in
+    let rest = one_run rating plan sample volume x.0 after other blocks others map x.1.1 full (subst (λ (q : Quilting). QuiltsTo rating plan sample q others other) (sym step.after_is) y.1.1) whole in
     record { blocks_are = λ i. step.block_is i ∷ rest.blocks_are i; after_is = rest.after_is }
 
 pub one_quilt : (plan : QuiltPlan) (sample : Cells) (size : Size) → IsVolume sample → IsSmall size → OneQuilt plan sample size
-one_quilt plan sample size volume small seed blocks others after other x y =
-    let same = one_run plan sample volume _ after other blocks others (empty_is_canvas size 1 small (omega arith, omega arith)).map x.run x.full y.run y.full in
+one_quilt plan sample size volume small rating seed blocks others after other x y =
+    let same = one_run rating plan sample volume _ after other blocks others (empty_is_canvas size 1 small (omega arith, omega arith)).map x.run x.full y.run y.full in
     (same.blocks_are, same.after_is)

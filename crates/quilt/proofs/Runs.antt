@@ -11,7 +11,7 @@ use Rattle.block_strips.proofs.Laying.{empty_is_laid, next_fits, shares_strips, 
 use Rattle.block_check.specs.declared.block.BlockRecord.{BlockRecord}
 use Rattle.block_check.specs.Blocks.{after_block, new_cells}
 use Rattle.block_check.specs.Records.{BlockStands}
-use Rattle.quilt.specs.Runs.{QuiltsBy, QuiltsReplay, QuiltsTo, Quilting, BlocksReplay}
+use Rattle.quilt.specs.Runs.{QuiltsBy, QuiltsReplay, QuiltsTo, Quilting, Rating, BlocksReplay}
 use Rattle.block_check.proofs.Filling.{fills_block}
 use Rattle.quilt.proofs.Laying.{HasJoins, laid_stands}
 use Rattle.map_canvas.proofs.MapsAfter.{after_is_map}
@@ -24,8 +24,8 @@ pub record StepLeaves (plan : QuiltPlan) (sample : Cells) (m : SourceMap) (block
   pub laid : IsLaidByBlocks plan sample (after_block m block)
 
 module _ (plan : QuiltPlan) (sample : Cells) (volume : IsVolume sample) (some : 1 ≤ plan.block) where
-  step_leaves : (before after : Quilting) (block : BlockRecord) → IsMap before.map → before.map.size.f ≡ 1 → IsLaidByBlocks plan sample before.map → QuiltsBy plan sample before block after → StepLeaves plan sample before.map block
-  step_leaves before after block is one laid step =
+  pub step_leaves : (rating : Rating) (before after : Quilting) (block : BlockRecord) → IsMap before.map → before.map.size.f ≡ 1 → IsLaidByBlocks plan sample before.map → QuiltsBy rating plan sample before block after → StepLeaves plan sample before.map block
+  step_leaves rating before after block is one laid step =
       let m = before.map in
       let rect = block.placement.rect in
       let axes = volume.small.axes in
@@ -45,15 +45,15 @@ module _ (plan : QuiltPlan) (sample : Cells) (volume : IsVolume sample) (some : 
         laid = stays_laid plan m sample rect is axes some one step.next laid (after_block m block) refl (λ p inside. fills_block m sample block is stands.right p);
       }
 
-  run_replays : (before after : Quilting) (blocks : List BlockRecord) → IsMap before.map → before.map.size.f ≡ 1 → IsLaidByBlocks plan sample before.map → QuiltsTo plan sample before blocks after → BlocksReplay plan sample before.map blocks after.map
-  run_replays before after [] is one laid end =
+  run_replays : (rating : Rating) (before after : Quilting) (blocks : List BlockRecord) → IsMap before.map → before.map.size.f ≡ 1 → IsLaidByBlocks plan sample before.map → QuiltsTo rating plan sample before blocks after → BlocksReplay plan sample before.map blocks after.map
+  run_replays rating before after [] is one laid end =
       let same : before.map ≡ after.map = ap (λ (q : Quilting). q.map) (sym end) in
       record { left = same; stand = tt; least = tt; laid = subst (IsLaidByBlocks plan sample) same laid }
-  run_replays before after (block ∷ blocks) is one laid run =
+  run_replays rating before after (block ∷ blocks) is one laid run =
       let next = run.0 in
       let step = run.1.0 in
-      let leaves = step_leaves before next block is one laid step in
-      let rest : BlocksReplay plan sample next.map blocks after.map = run_replays next after blocks
+      let leaves = step_leaves rating before next block is one laid step in
+      let rest : BlocksReplay plan sample next.map blocks after.map = run_replays rating next after blocks
       (subst IsMap (sym step.map) leaves.map) (ap (λ (m : SourceMap). m.size.f) step.map ∙ one) (subst (IsLaidByBlocks plan sample) (sym step.map) leaves.laid) run.1.1 in
       let here : BlocksReplay plan sample (after_block before.map block) blocks after.map = subst (λ (m : SourceMap). BlocksReplay plan sample m blocks after.map) step.map rest in
       record {
@@ -64,5 +64,5 @@ module _ (plan : QuiltPlan) (sample : Cells) (volume : IsVolume sample) (some : 
       }
 
   pub quilts_replay : (size : Size) → IsSmall size → size.f ≡ 1 → QuiltsReplay plan sample size
-  quilts_replay size small one seed blocks after run =
-      run_replays _ after blocks (empty_is_canvas size 1 small (omega arith, omega arith)).map one (empty_is_laid plan sample size) run
+  quilts_replay size small one rating seed blocks after run =
+      run_replays rating _ after blocks (empty_is_canvas size 1 small (omega arith, omega arith)).map one (empty_is_laid plan sample size) run

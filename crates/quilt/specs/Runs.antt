@@ -9,6 +9,7 @@ use Rattle.map_canvas.specs.declared.canvas.Placement.{Placement}
 use Rattle.map_canvas.specs.Canvases.{CanvasState, StandsOver}
 use Rattle.map_canvas.specs.Choices.{Fits}
 use Rattle.map_canvas.specs.Maps.{IsFull, SourceMap, empty_map, first_unfilled}
+use Rattle.match_error.specs.declared.error.Error.{Error}
 use Rattle.match_error.specs.Errors.{error_of}
 use Rattle.patch_place.specs.Draws.{DrawState}
 use Rattle.patch_place.specs.Lists.{fit_list, part_lists}
@@ -69,12 +70,20 @@ pub record Quilting : Type 0 where
 abbrev pub quilting : SourceMap → DrawState → Quilting
 quilting m draws = record { map = m; draws = draws }
 
+-- how a placement is rated over a map: an error per cell that counts, where less is better
+abbrev pub Rating : Type 0
+Rating = SourceMap → Placement → Error
+
+-- quilts rate a placement by its overlap error
+abbrev pub by_overlap : Cells → Rating
+by_overlap sample m = error_of m sample
+
 -- a step: the next block of the plan, picked by the next draw among all places of the sample from
--- which it fits, with its boundaries
-pub record QuiltsBy (plan : QuiltPlan) (sample : Cells) (before : Quilting) (block : BlockRecord)
-    (after : Quilting) : Type 0 where
+-- which it fits, by their ratings, with its boundaries
+pub record QuiltsBy (rating : Rating) (plan : QuiltPlan) (sample : Cells) (before : Quilting)
+    (block : BlockRecord) (after : Quilting) : Type 0 where
   pub next : next_box plan before.map sample ≡ Some block.placement.rect
-  pub pick : IsPick (error_of before.map sample) (Some plan.tol)
+  pub pick : IsPick (rating before.map) (Some plan.tol)
       (part_lists (fit_list block.placement.rect) sample) before.draws block.placement
   pub fits : Fits before.map.size sample block.placement
   pub laid : IsLaidBlock plan before.map sample block.placement block
@@ -82,19 +91,21 @@ pub record QuiltsBy (plan : QuiltPlan) (sample : Cells) (before : Quilting) (blo
   pub draws : after.draws ≡ after_draw before.draws
 
 -- what the answer of a step means
-abbrev pub LaysNext : QuiltPlan → Cells → Quilting → Quilting
+abbrev pub LaysNext : Rating → QuiltPlan → Cells → Quilting → Quilting
     → Result (Option BlockRecord) AllocError → Type 0
-LaysNext plan sample before after (Ok None) = IsFull before.map × (after ≡ before)
-LaysNext plan sample before after (Ok (Some block)) = QuiltsBy plan sample before block after
-LaysNext plan sample before after (Err error) =
+LaysNext rating plan sample before after (Ok None) = IsFull before.map × (after ≡ before)
+LaysNext rating plan sample before after (Ok (Some block)) =
+    QuiltsBy rating plan sample before block after
+LaysNext rating plan sample before after (Err error) =
     IsSome (first_unfilled before.map) × (after ≡ before)
 
 -- steps from a quilt so far, and what they leave
-abbrev pub QuiltsTo : QuiltPlan → Cells → Quilting → List BlockRecord → Quilting → Type 0
-QuiltsTo plan sample before [] after = after ≡ before
-QuiltsTo plan sample before (block ∷ blocks) after =
-    (next : Quilting) × (QuiltsBy plan sample before block next
-    × QuiltsTo plan sample next blocks after)
+abbrev pub QuiltsTo : Rating → QuiltPlan → Cells → Quilting → List BlockRecord → Quilting
+    → Type 0
+QuiltsTo rating plan sample before [] after = after ≡ before
+QuiltsTo rating plan sample before (block ∷ blocks) after =
+    (next : Quilting) × (QuiltsBy rating plan sample before block next
+    × QuiltsTo rating plan sample next blocks after)
 
 -- at first no cell is filled, and draw number 0 of the seed comes next
 abbrev pub first_quilting : Size → ℕ → Quilting
@@ -102,9 +113,9 @@ first_quilting size seed =
     quilting (empty_map size) (record { seed = seed; place = 0 })
 
 -- a quilted run: steps from there on to a full map
-pub record IsQuilted (plan : QuiltPlan) (sample : Cells) (size : Size) (seed : ℕ)
-    (blocks : List BlockRecord) (after : Quilting) : Type 0 where
-  pub run : QuiltsTo plan sample (first_quilting size seed) blocks after
+pub record IsQuilted (rating : Rating) (plan : QuiltPlan) (sample : Cells) (size : Size)
+    (seed : ℕ) (blocks : List BlockRecord) (after : Quilting) : Type 0 where
+  pub run : QuiltsTo rating plan sample (first_quilting size seed) blocks after
   pub full : IsFull after.map
 
 -- Laws.
@@ -120,13 +131,14 @@ pub record BlocksReplay (plan : QuiltPlan) (sample : Cells) (before : SourceMap)
 
 abbrev pub QuiltsReplay : QuiltPlan → Cells → Size → Type 0
 QuiltsReplay plan sample size =
-    (seed : ℕ) (blocks : List BlockRecord) (after : Quilting)
-    → QuiltsTo plan sample (first_quilting size seed) blocks after
+    (rating : Rating) (seed : ℕ) (blocks : List BlockRecord) (after : Quilting)
+    → QuiltsTo rating plan sample (first_quilting size seed) blocks after
     → BlocksReplay plan sample (empty_map size) blocks after.map
 
--- of a plan, a sample, a size and a seed there is one quilted run
+-- of a rating, a plan, a sample, a size and a seed there is one quilted run
 abbrev pub OneQuilt : QuiltPlan → Cells → Size → Type 0
 OneQuilt plan sample size =
-    (seed : ℕ) (blocks others : List BlockRecord) (after other : Quilting)
-    → IsQuilted plan sample size seed blocks after → IsQuilted plan sample size seed others other
+    (rating : Rating) (seed : ℕ) (blocks others : List BlockRecord) (after other : Quilting)
+    → IsQuilted rating plan sample size seed blocks after
+    → IsQuilted rating plan sample size seed others other
     → (blocks ≡ others) × (after ≡ other)

@@ -21,8 +21,8 @@ pub fn quilts_replay(plan: &QuiltPlan, sample: &Volume, size: Size)
     let _size = sample.size();
 }
 
-/// A law, with nothing to run: of a plan, a sample, a size and a seed there is one quilted run, with its records
-/// and its map.
+/// A law, with nothing to run: of a rating, a plan, a sample, a size and a seed there is one quilted run, with
+/// its records and its map.
 pub fn there_is_one_quilt(plan: &QuiltPlan, sample: &Volume, size: Size)
     requires { IsSmall size }
     ensures { OneQuilt plan.now sample.now size }

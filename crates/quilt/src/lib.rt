@@ -3,19 +3,23 @@
 //! `next_block` lays the next block of a plan over a canvas: it picks a place of the sample among those that
 //! fit what stands there about as well as the best, finds the least boundary through each strip in which the
 //! block overlaps what stands there, and puts in the cells that every boundary calls new. `next_block_with` is
-//! the same step of a sample whose sums of blocks are made. The contract says the step in full
-//! (specs/Runs.antt), and that its record stands. `laws` says what follows for whole quilts: records over one
-//! another leave the map, each stands, and each boundary is least.
+//! the same step of a sample whose sums of blocks are made, and `next_block_by` the same with other ratings of
+//! places than the overlap error. The contract says the step in full (specs/Runs.antt), and that its record
+//! stands. `laws` says what follows for whole quilts: records over one another leave the map, each stands, and
+//! each boundary is least.
 //!
-//! `lay` has the boundaries of a block, and `step` the step. Where blocks lie, and the errors of their strips,
-//! are those of the crate block_strips, least boundaries those of strip_boundary; the record of a block, its
-//! check and its new cells are those of block_check, and what records leave is that of block_replay.
+//! `picks` has how places are rated and picked, `lay` the boundaries of a block, and `step` the step. Where
+//! blocks lie, and the errors of their strips, are those of the crate block_strips, least boundaries those of
+//! strip_boundary; the record of a block, its check and its new cells are those of block_check, and what records
+//! leave is that of block_replay.
 #![tactic(auto)]
 
 mod laws;
 mod lay;
+mod picks;
 mod step;
 
 pub use laws::{quilts_replay, there_is_one_quilt};
 pub use lay::lay_block;
-pub use step::{next_block, next_block_with};
+pub use picks::BlockPicks;
+pub use step::{next_block, next_block_by, next_block_with};

@@ -2,50 +2,22 @@
 ghost use Rattle.std.specs.Prelude.{◌≡◌, ◌≤◌, IfOk, IfSome, OnErr, OnOk, Some};
 ghost use Rattle.map_canvas.specs.Canvases.{IsCanvas, StandsOver};
 ghost use Rattle.map_canvas.specs.Choices.{Fits};
-ghost use Rattle.match_error.specs.Errors.{error_of};
 ghost use Rattle.search_squares.specs.Eliminations.{AreSampleSums};
-ghost use Rattle.patch_place.specs.Lists.{fit_list, part_lists};
-ghost use Rattle.patch_place.specs.Picks.{IsPick};
-ghost use Rattle.patch_place.specs.Steps.{after_draw};
-ghost use Rattle.block_strips.specs.Blocks.{FitsBlock, next_box};
+ghost use Rattle.block_strips.specs.Blocks.{next_box};
 ghost use Rattle.block_strips.specs.Laid.{IsLaidByBlocks};
 ghost use Rattle.block_check.specs.Blocks.{after_block};
 ghost use Rattle.block_check.specs.Records.{BlockStands};
-ghost use Rattle.quilt.specs.Runs.{HaveOneFrame, IsLaidBlock, LaysNext, quilting};
+ghost use Rattle.quilt.specs.Runs.{HaveOneFrame, IsLaidBlock, LaysNext, by_overlap, quilting};
 
 use crate::lay_block;
+use crate::picks::BlockPicks;
 use block_check::{BlockRecord, put_block};
 use block_strips::{QuiltPlan, block_rect, next_block_shares_strips};
-use cells::{Box3, Volume};
+use cells::Volume;
 use map_canvas::{Canvas, Placement};
-use patch_place::{Candidates, Draws, box_list_is_all_that_fit, pick_with};
+use patch_place::Draws;
 use search_squares::SampleSums;
 use std::alloc::{AllocError, Global};
-
-// The placement of a box that the next draw picks.
-fn pick_for(
-    alloc: Global,
-    plan: &QuiltPlan,
-    rect: &Box3,
-    canvas: &Canvas,
-    sample: &Volume,
-    sums: &SampleSums,
-    draws: &mut Draws,
-) -> Result<Placement, AllocError>
-    requires over { StandsOver canvas.now sample.now }
-    requires sums { AreSampleSums sample.now sums.now }
-    requires fits { FitsBlock canvas.now.map.size sample.now.size rect.now }
-    ensures pick { IfOk result (IsPick (error_of canvas.now.map sample.now) (Some plan.now.tol)
-        (part_lists (fit_list rect.now) sample.now) draws.old) }
-    ensures same { IfOk result (λ placement. placement.rect ≡ rect.now) }
-    ensures fits { IfOk result (Fits canvas.now.map.size sample.now) }
-    ensures next { OnOk result (draws.new ≡ after_draw draws.old) }
-    ensures kept { OnErr result (draws.new ≡ draws.old) }
-{
-    box_list_is_all_that_fit(rect, canvas.map().size(), sample);
-    let list = Candidates::Fits { rect: *rect };
-    pick_with(alloc, &list, Some(plan.tol), canvas, sample, sums, draws)
-}
 
 // Lays the next block at a placement, and puts it in.
 fn lay_and_put(
@@ -87,8 +59,8 @@ pub fn next_block(
     requires block { 1 ≤ plan.now.block }
     requires pictures { HaveOneFrame canvas.old sample.now }
     requires laid { IsLaidByBlocks plan.now sample.now canvas.old.map }
-    ensures next { LaysNext plan.now sample.now (quilting canvas.old.map draws.old)
-        (quilting canvas.new.map draws.new) result }
+    ensures next { LaysNext (by_overlap sample.now) plan.now sample.now
+        (quilting canvas.old.map draws.old) (quilting canvas.new.map draws.new) result }
     ensures stands { IfOk result (λ block. IfSome block (BlockStands canvas.old.map sample.now)) }
     ensures pictures { HaveOneFrame canvas.new sample.now }
     ensures laid { IsLaidByBlocks plan.now sample.now canvas.new.map }
@@ -114,8 +86,31 @@ pub fn next_block_with(
     requires sums { AreSampleSums sample.now sums.now }
     requires pictures { HaveOneFrame canvas.old sample.now }
     requires laid { IsLaidByBlocks plan.now sample.now canvas.old.map }
-    ensures next { LaysNext plan.now sample.now (quilting canvas.old.map draws.old)
-        (quilting canvas.new.map draws.new) result }
+    ensures next { LaysNext (by_overlap sample.now) plan.now sample.now
+        (quilting canvas.old.map draws.old) (quilting canvas.new.map draws.new) result }
+    ensures stands { IfOk result (λ block. IfSome block (BlockStands canvas.old.map sample.now)) }
+    ensures pictures { HaveOneFrame canvas.new sample.now }
+    ensures laid { IsLaidByBlocks plan.now sample.now canvas.new.map }
+    ensures kept { OnErr result (canvas.new ≡ canvas.old) }
+{
+    next_block_by(alloc, plan, canvas, sample, sums, draws)
+}
+
+/// The same step, at the placement that `picks` picks of those that fit, by its ratings.
+pub fn next_block_by<P: BlockPicks>(
+    alloc: Global,
+    plan: &QuiltPlan,
+    canvas: &mut Canvas,
+    sample: &Volume,
+    picks: &P,
+    draws: &mut Draws,
+) -> Result<Option<BlockRecord>, AllocError>
+    requires block { 1 ≤ plan.now.block }
+    requires ready { P.AreReady picks.now canvas.old.map.size sample.now }
+    requires pictures { HaveOneFrame canvas.old sample.now }
+    requires laid { IsLaidByBlocks plan.now sample.now canvas.old.map }
+    ensures next { LaysNext (P.rating picks.now sample.now) plan.now sample.now
+        (quilting canvas.old.map draws.old) (quilting canvas.new.map draws.new) result }
     ensures stands { IfOk result (λ block. IfSome block (BlockStands canvas.old.map sample.now)) }
     ensures pictures { HaveOneFrame canvas.new sample.now }
     ensures laid { IsLaidByBlocks plan.now sample.now canvas.new.map }
@@ -125,7 +120,7 @@ pub fn next_block_with(
         return Ok(None);
     };
     let number = draws.place();
-    let placement = pick_for(alloc, plan, &rect, canvas, sample, sums, draws)?;
+    let placement = picks.pick(alloc, plan.tol, &rect, canvas, sample, draws)?;
     match lay_and_put(alloc, plan, canvas, sample, &placement) {
         Ok(block) => Ok(Some(block)),
         Err(error) => {

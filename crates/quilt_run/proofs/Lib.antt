@@ -1,4 +1,8 @@
 pub mod More
 pub mod Costing
-pub mod Stepping
+mod FirstBlocks
+mod Spots
+mod Counting
+mod RunBlocks
 pub mod OneLimits
+pub mod Stepping

@@ -6,13 +6,13 @@ use Rattle.map_canvas.specs.Maps.{SourceMap}
 use Rattle.block_strips.specs.declared.plan.QuiltPlan.{QuiltPlan}
 use Rattle.block_check.specs.declared.block.BlockRecord.{BlockRecord}
 use Rattle.block_check.specs.Blocks.{after_block, block_cells}
-use Rattle.quilt.specs.Runs.{QuiltsBy, QuiltsTo, Quilting}
+use Rattle.quilt.specs.Runs.{QuiltsBy, QuiltsTo, Quilting, Rating}
 use Rattle.block_replay.specs.BlockReplay.{left_by_blocks}
 use Rattle.quilt_run.specs.Costs.{all_boundaries, block_boundaries, block_cost, quilt_cost}
 
-pub quilts_more : (plan : QuiltPlan) (sample : Cells) (s : Quilting) (blocks : List BlockRecord) (t : Quilting) (block : BlockRecord) (u : Quilting) → QuiltsTo plan sample s blocks t → QuiltsBy plan sample t block u → QuiltsTo plan sample s (blocks ++ block ∷ []) u
-quilts_more plan sample s [] t block u run step = (u, (subst (λ x. QuiltsBy plan sample x block u) run step, refl))
-quilts_more plan sample s (first ∷ blocks) t block u run step = (run.0, (run.1.0, quilts_more plan sample run.0 blocks t block u run.1.1 step))
+pub quilts_more : (rating : Rating) (plan : QuiltPlan) (sample : Cells) (s : Quilting) (blocks : List BlockRecord) (t : Quilting) (block : BlockRecord) (u : Quilting) → QuiltsTo rating plan sample s blocks t → QuiltsBy rating plan sample t block u → QuiltsTo rating plan sample s (blocks ++ block ∷ []) u
+quilts_more rating plan sample s [] t block u run step = (u, (subst (λ x. QuiltsBy rating plan sample x block u) run step, refl))
+quilts_more rating plan sample s (first ∷ blocks) t block u run step = (run.0, (run.1.0, quilts_more rating plan sample run.0 blocks t block u run.1.1 step))
 
 pub boundaries_more : (blocks : List BlockRecord) (block : BlockRecord) → all_boundaries (blocks ++ block ∷ []) ≡ all_boundaries blocks + block_boundaries block
 boundaries_more [] block = omega arith

@@ -1,80 +1,62 @@
--- The limit: it excludes a run to the end, and there is one number.
-use Rattle.std.proofs.Common.{◌≡◌, ℕ, ◌+◌, ◌-◌, ◌<◌, ◌≤◌, List, [], ◌∷◌, ap, sym, ◌∙◌, subst, arith}
-use Rattle.std.proofs.lemmas.Option.{same_Some}
-use Rattle.std.specs.Prelude.{Some}
-use Rattle.cells.specs.declared.place.Box3.{Box3}
+-- The limit: it excludes a run to the end, there is one number, and a run that passes its bound does so there.
+use Rattle.std.proofs.Common.{◌+◌, List, [], subst, arith}
+use Rattle.std.proofs.lemmas.Bool.{false≢true}
+use Rattle.std.specs.Prelude.{IsSome}
+use Rattle.cells.specs.declared.place.Size.{Size}
 use Rattle.cells.specs.Cells.{Cells, IsVolume}
-use Rattle.cells.specs.Places.{IsSmall, cell_count}
-use Rattle.map_canvas.specs.Choices.{box_count}
-use Rattle.map_canvas.specs.Maps.{IsFull, IsMap}
+use Rattle.map_canvas.specs.Maps.{empty_map}
+use Rattle.map_canvas.proofs.EmptyAndFull.{map_at-empty}
 use Rattle.map_canvas.proofs.Marks.{empty_is_canvas}
 use Rattle.block_strips.specs.declared.plan.QuiltPlan.{QuiltPlan}
-use Rattle.block_strips.specs.Blocks.{next_box}
+use Rattle.block_strips.specs.Laid.{IsLaidByBlocks}
 use Rattle.block_check.specs.declared.block.BlockRecord.{BlockRecord}
-use Rattle.block_check.specs.Blocks.{block_cells, new_cells}
-use Rattle.quilt.specs.Runs.{QuiltsBy, QuiltsTo, Quilting, first_quilting}
-use Rattle.map_canvas.proofs.MapsAfter.{after_is_map}
-use Rattle.quilt.proofs.OneQuilt.{no_box, one_step}
-use Rattle.limits.specs.declared.bounds.TheConstants.{MOST_BOX_CELLS}
+use Rattle.block_check.specs.Blocks.{block_cells}
+use Rattle.quilt.specs.Runs.{QuiltsTo, Quilting, Rating, first_quilting}
 use Rattle.quilt_run.specs.declared.asked.QuiltRun.{QuiltRun}
-use Rattle.quilt_run.specs.OneLimit.{OneQuiltLimit, QuiltEndsWithin}
+use Rattle.quilt_run.specs.OneLimit.{OneQuiltLimit, QuiltEndsWithin, RunsPassThere}
+use Rattle.quilt_run.specs.PlanLimit.{PlanPassesAt, PlanStaysWithin}
+use Rattle.quilt_run.specs.Quilted.{CanBeQuilted}
+use Rattle.quilt_run.proofs.FirstBlocks.{one_limit, whole_within}
+use Rattle.quilt_run.proofs.RunBlocks.{LaysFirst, next_after, none_after, run_is_map, run_lays}
 
--- the cells of two boxes that come next are as many
-same_cells : (plan : QuiltPlan) (sample : Cells) (one other : Quilting) (rect another : Box3) → one ≡ other → next_box plan one.map sample ≡ Some rect → next_box plan other.map sample ≡ Some another → cell_count rect.size ≡ cell_count another.size
-same_cells plan sample one other rect another e is also =
-    ap (λ (r : Box3). cell_count r.size) (same_Some rect another (sym is ∙ ap (λ (q : Quilting). next_box plan q.map sample) e ∙ also))
+pub limits_are_one : (asked : QuiltRun) (sample : Cells) → OneQuiltLimit asked sample
+limits_are_one asked sample = one_limit asked.plan asked.size sample.size
 
-module _ (plan : QuiltPlan) (sample : Cells) (volume : IsVolume sample) where
-  later_map : (was now : Quilting) (block : BlockRecord) → QuiltsBy plan sample was block now → IsMap was.map → IsMap now.map
-  later_map was now block step is = subst IsMap (sym step.map) (after_is_map was.map sample block.placement (new_cells block) volume is step.fits)
+-- at first there is no block
+abbrev none_laid : (plan : QuiltPlan) (sample : Cells) (size : Size) → IsLaidByBlocks plan sample (empty_map size)
+none_laid plan sample size = record {
+  rects = [];
+  blocks = tt;
+  filled = λ p inside. (λ filled. absurd (false≢true (subst IsSome (map_at-empty size p) filled)), λ none. absurd none);
+}
 
-  no_step : (was done : Quilting) (rect : Box3) → IsMap was.map → next_box plan was.map sample ≡ Some rect → was ≡ done → IsFull done.map → ⊥
-  no_step was done rect is next e full = no_box plan was.map sample rect is (subst (λ (q : Quilting). IsFull q.map) (sym e) full) next
+module _ (asked : QuiltRun) (sample : Cells) (volume : IsVolume sample) (can : CanBeQuilted asked sample) where
+  laid_by : (rating : Rating) (blocks : List BlockRecord) (after : Quilting) → QuiltsTo rating asked.plan sample (first_quilting asked.size asked.seed) blocks after
+      → LaysFirst asked.plan sample asked.size after.map (block_cells blocks)
+  laid_by rating blocks after run =
+      let lays : LaysFirst asked.plan sample asked.size after.map (0 + block_cells blocks) =
+      run_lays rating asked.plan sample volume can.block (first_quilting asked.size asked.seed) after blocks (empty_is_canvas asked.size 1 can.small (omega arith, omega arith)).map can.frame (none_laid asked.plan sample asked.size) run in
+      record { laid = lays.laid; size = lays.size; cells_are = omega (arith, lays.cells_are) }
 
-  -- a run to its end lays each next block of a run
-  lays_next : (from : Quilting) (blocks others : List BlockRecord) (so_far done : Quilting) (rect : Box3) → IsMap from.map → QuiltsTo plan sample from blocks so_far → next_box plan so_far.map sample ≡ Some rect
-      → QuiltsTo plan sample from others done → IsFull done.map → block_cells blocks + cell_count rect.size ≤ block_cells others
-  lays_next from [] [] so_far done rect is run next also full = absurd (no_step so_far done rect (subst (λ (q : Quilting). IsMap q.map) (sym run) is) next (run ∙ sym also) full)
-  lays_next from [] (b ∷ others) so_far done rect is run next also full = omega (arith, same_cells plan sample so_far from rect b.placement.rect run next also.1.0.next)
-  lays_next from (a ∷ blocks) [] so_far done rect is run next also full = absurd (no_step from done a.placement.rect is run.1.0.next (sym also) full)
-  lays_next from (a ∷ blocks) (b ∷ others) so_far done rect is run next also full =
-      let step = one_step plan sample from run.0 also.0 a b run.1.0 also.1.0 in
-      omega (
-        arith,
-        ap (λ (block : BlockRecord). box_count block.placement) step.block_is,
-        lays_next run.0 blocks others so_far done rect (later_map from run.0 a run.1.0 is) run.1.1 next (subst (λ left. QuiltsTo plan sample left others done) (sym step.after_is) also.1.1) full,
-      )
+  pub ends_within : (rating : Rating) → QuiltEndsWithin rating asked sample
+  ends_within rating blocks after number run within =
+      let lays = laid_by rating blocks after run.run in
+      let map = run_is_map rating asked.plan sample volume can.block (first_quilting asked.size asked.seed) after blocks (empty_is_canvas asked.size 1 can.small (omega arith, omega arith)).map run.run in
+      let stays : PlanStaysWithin asked.plan after.map.size sample.size = whole_within asked.plan after.map.size sample.size lays.laid.rects lays.laid.blocks (none_after asked.plan sample after.map map lays.laid run.full) (omega (arith, within, lays.cells_are)) in
+      subst (λ (size : Size). PlanStaysWithin asked.plan size sample.size) lays.size stays number
 
-  -- two runs pass a bound at the same number
-  one_number : (most : ℕ) (from : Quilting) (blocks others : List BlockRecord) (so_far other : Quilting) (rect another : Box3)
-      → QuiltsTo plan sample from blocks so_far → block_cells blocks ≤ most → next_box plan so_far.map sample ≡ Some rect → most < block_cells blocks + cell_count rect.size
-      → QuiltsTo plan sample from others other → block_cells others ≤ most → next_box plan other.map sample ≡ Some another → most < block_cells others + cell_count another.size
-      → block_cells blocks + cell_count rect.size ≡ block_cells others + cell_count another.size
-  one_number most from [] [] so_far other rect another run within next past also within_also next_also past_also =
-      ap (λ n. 0 + n) (same_cells plan sample so_far other rect another (run ∙ sym also) next next_also)
-  one_number most from [] (b ∷ others) so_far other rect another run within next past also within_also next_also past_also =
-      absurd (omega (arith, past, within_also, same_cells plan sample so_far from rect b.placement.rect run next also.1.0.next))
-  one_number most from (a ∷ blocks) [] so_far other rect another run within next past also within_also next_also past_also =
-      absurd (omega (arith, past_also, within, same_cells plan sample other from another a.placement.rect also next_also run.1.0.next))
-  one_number most from (a ∷ blocks) (b ∷ others) so_far other rect another run within next past also within_also next_also past_also =
-      let step = one_step plan sample from run.0 also.0 a b run.1.0 also.1.0 in
-      let same = ap (λ (block : BlockRecord). box_count block.placement) step.block_is in
-      let rest = one_number (most - box_count a.placement) run.0 blocks others so_far other rect another run.1.1 (omega (arith, within)) next (omega (arith, past, within))
-      (subst (λ left. QuiltsTo plan sample left others other) (sym step.after_is) also.1.1) (omega (arith, within_also, same)) next_also (omega (arith, past_also, within_also, same)) in
-      omega (arith, rest, same)
-
-pub ends_within : (asked : QuiltRun) (sample : Cells) → IsVolume sample → IsSmall asked.size → QuiltEndsWithin asked sample
-ends_within asked sample volume small blocks after number run within passes =
-    omega (
-      arith,
-      within,
-      passes.past,
-      passes.cells,
-      lays_next asked.plan sample volume (first_quilting asked.size asked.seed) passes.blocks blocks passes.so_far after passes.rect
-          (empty_is_canvas asked.size 1 small (omega arith, omega arith)).map passes.run passes.next run.run run.full,
-    )
-
-pub limits_are_one : (asked : QuiltRun) (sample : Cells) → IsVolume sample → OneQuiltLimit asked sample
-limits_are_one asked sample volume number other one also =
-    one.cells ∙ one_number asked.plan sample volume MOST_BOX_CELLS (first_quilting asked.size asked.seed) one.blocks also.blocks one.so_far also.so_far one.rect also.rect
-    one.run one.within one.next (omega (arith, one.past, one.cells)) also.run also.within also.next (omega (arith, also.past, also.cells)) ∙ sym also.cells
+  pub passes_there : (rating : Rating) → RunsPassThere rating asked sample
+  passes_there rating number passes =
+      let m = passes.so_far.map in
+      let lays = laid_by rating passes.blocks passes.so_far passes.run in
+      let map = run_is_map rating asked.plan sample volume can.block (first_quilting asked.size asked.seed) passes.so_far passes.blocks (empty_is_canvas asked.size 1 can.small (omega arith, omega arith)).map passes.run in
+      let there : PlanPassesAt asked.plan m.size sample.size number = record {
+        rects = lays.laid.rects;
+        before = lays.laid.blocks;
+        within = omega (arith, lays.cells_are, passes.within);
+        rect = passes.rect;
+        next = next_after asked.plan sample m map lays.laid passes.rect passes.next;
+        cells = omega (arith, lays.cells_are, passes.cells);
+        past = passes.past;
+      } in
+      subst (λ (size : Size). PlanPassesAt asked.plan size sample.size number) lays.size there

@@ -1,5 +1,6 @@
 -- The steps of a run, as the code makes them.
-use Rattle.std.proofs.Common.{◌≡◌, ℕ, ◌+◌, ◌*◌, ◌≤◌, ◌<◌, ◌^◌, [], ◌∷◌, ◌++◌, ap, sym, ◌∙◌, subst, arith}
+use Rattle.std.proofs.Common.{◌≡◌, ℕ, ◌+◌, ◌*◌, ◌≤◌, ◌<◌, ◌^◌, List, [], ◌∷◌, ◌++◌, refl, ap, sym, ◌∙◌, subst, arith, ⊎_elim}
+use Rattle.std.proofs.lemmas.Bool.{cases_lt}
 use Rattle.std.proofs.lemmas.Nat.{mul-add-lt}
 use Rattle.std.proofs.lemmas.List.Elements.{All-nil, All-push}
 use Rattle.std.specs.Prelude.{All, Option, Some, None}
@@ -20,7 +21,7 @@ use Rattle.block_strips.proofs.Laying.{next_fits, shares_strips}
 use Rattle.block_check.specs.declared.block.BlockRecord.{BlockRecord}
 use Rattle.block_check.specs.Blocks.{IsFormedBlock, block_cells}
 use Rattle.block_check.specs.Records.{BlockStands, JoinStands}
-use Rattle.quilt.specs.Runs.{HaveOneFrame, QuiltsBy, QuiltsTo, Quilting, first_quilting, quilting}
+use Rattle.quilt.specs.Runs.{HaveOneFrame, QuiltsBy, QuiltsTo, Quilting, Rating, first_quilting, quilting}
 use Rattle.block_replay.specs.BlockReplay.{left_by_blocks}
 use Rattle.quilt.proofs.Laying.{HasJoins, laid_formed}
 use Rattle.quilt.proofs.Runs.{quilts_replay}
@@ -28,9 +29,11 @@ use Rattle.limits.specs.declared.bounds.TheConstants.{MOST_BOX_CELLS}
 use Rattle.quilt_run.specs.declared.asked.QuiltRun.{QuiltRun}
 use Rattle.quilt_run.specs.declared.steps.QuiltWork.{QuiltWork}
 use Rattle.quilt_run.specs.Costs.{IsFileBlock, IsFileSide, all_boundaries, block_boundaries, block_cost, quilt_cost}
-use Rattle.quilt_run.specs.Quilted.{CanBeQuilted, QuiltPassesAt}
+use Rattle.quilt_run.specs.PlanLimit.{PlanStaysWithin}
+use Rattle.quilt_run.specs.Quilted.{CanBeQuilted}
 use Rattle.quilt_run.specs.QuiltWork.{BlockCostsSo, HasBlockWidths, HasSideWidths, IsQuiltWork}
 use Rattle.quilt_run.proofs.More.{boundaries_more, cells_more, cost_more, quilts_more}
+use Rattle.quilt_run.proofs.OneLimits.{passes_there}
 
 -- a box that has a cell has some
 pub some_cells : (size : Size) → HasCells size → 0 < cell_count size
@@ -43,8 +46,8 @@ file_side : (side : Side) (m : SourceMap) (sample : Cells) (placement : Placemen
 file_side side m sample placement None stands widths = tt
 file_side side m sample placement (Some it) stands widths = record { column_per_row = stands.path.column_per_row; columns = widths.columns; sums = widths.sums }
 
-module _ (asked : QuiltRun) (sample : Cells) (volume : IsVolume sample) (can : CanBeQuilted asked sample) (was : QuiltWork) (work : IsQuiltWork asked sample was) (block : BlockRecord) (after : Quilting)
-    (by : QuiltsBy asked.plan sample (quilting was.canvas.map was.draws) block after) where
+module _ (rating : Rating) (asked : QuiltRun) (sample : Cells) (volume : IsVolume sample) (can : CanBeQuilted asked sample) (was : QuiltWork) (work : IsQuiltWork rating asked sample was) (block : BlockRecord) (after : Quilting)
+    (by : QuiltsBy rating asked.plan sample (quilting was.canvas.map was.draws) block after) where
   pub block_formed : IsFormedBlock block
   block_formed =
       let m = was.canvas.map in
@@ -71,22 +74,39 @@ module _ (asked : QuiltRun) (sample : Cells) (volume : IsVolume sample) (can : C
   }
 
   left : left_by_blocks (empty_map asked.size) was.blocks.items ≡ was.canvas.map
-  left = (quilts_replay asked.plan sample volume can.block asked.size can.small can.frame asked.seed was.blocks.items (quilting was.canvas.map was.draws) work.steps).left
+  left = (quilts_replay asked.plan sample volume can.block asked.size can.small can.frame rating asked.seed was.blocks.items (quilting was.canvas.map was.draws) work.steps).left
+
+  -- its box doesn't take the run past the bound, as the plan's boxes don't
+  pub stays_within : PlanStaysWithin asked.plan asked.size sample.size → block_cells was.blocks.items + box_count block.placement ≤ MOST_BOX_CELLS
+  stays_within within =
+      let number = block_cells was.blocks.items + box_count block.placement in
+      ⊎_elim (λ (past : MOST_BOX_CELLS < number). absurd (within number (passes_there asked sample volume can rating number (record {
+        blocks = was.blocks.items;
+        so_far = quilting was.canvas.map was.draws;
+        run = work.steps;
+        within = work.within;
+        rect = block.placement.rect;
+        next = by.next;
+        cells = refl;
+        past = past;
+      })))) (λ le. le) (cases_lt MOST_BOX_CELLS number)
+
+  pub more_cells : (blocks : List BlockRecord) → blocks ≡ was.blocks.items ++ block ∷ [] → block_cells blocks ≡ block_cells was.blocks.items + box_count block.placement
+  more_cells blocks items = ap block_cells items ∙ cells_more was.blocks.items block
 
   -- a block that is laid is one step more
   pub one_more : (now : QuiltWork) (cost : ℕ) → after ≡ quilting now.canvas.map now.draws → BlockStands was.canvas.map sample block → HaveOneFrame now.canvas sample → IsLaidByBlocks asked.plan sample now.canvas.map → IsCanvas now.canvas
-      → HasBlockWidths block → 1 ≤ box_count block.placement → now.blocks.items ≡ was.blocks.items ++ block ∷ [] → now.cells ≡ was.cells + box_count block.placement → now.cells ≤ MOST_BOX_CELLS
-      → now.boundaries ≡ was.boundaries + block_boundaries block → block_boundaries block ≤ 2 → now.cost ≡ was.cost + cost → BlockCostsSo block cost → cost < 2 ^ 33 → IsQuiltWork asked sample now
-  one_more now cost is stands pictures laid canvas widths some items cells within boundaries few costs so cheap = record {
-    steps = subst (λ blocks. QuiltsTo asked.plan sample (first_quilting asked.size asked.seed) blocks (quilting now.canvas.map now.draws)) (sym items)
-        (quilts_more asked.plan sample (first_quilting asked.size asked.seed) was.blocks.items (quilting was.canvas.map was.draws) block (quilting now.canvas.map now.draws) work.steps
-        (subst (QuiltsBy asked.plan sample (quilting was.canvas.map was.draws) block) is by));
+      → HasBlockWidths block → 1 ≤ box_count block.placement → now.blocks.items ≡ was.blocks.items ++ block ∷ [] → PlanStaysWithin asked.plan asked.size sample.size
+      → now.boundaries ≡ was.boundaries + block_boundaries block → block_boundaries block ≤ 2 → now.cost ≡ was.cost + cost → BlockCostsSo block cost → cost < 2 ^ 33 → IsQuiltWork rating asked sample now
+  one_more now cost is stands pictures laid canvas widths some items within boundaries few costs so cheap = record {
+    steps = subst (λ blocks. QuiltsTo rating asked.plan sample (first_quilting asked.size asked.seed) blocks (quilting now.canvas.map now.draws)) (sym items)
+        (quilts_more rating asked.plan sample (first_quilting asked.size asked.seed) was.blocks.items (quilting was.canvas.map was.draws) block (quilting now.canvas.map now.draws) work.steps
+        (subst (QuiltsBy rating asked.plan sample (quilting was.canvas.map was.draws) block) is by));
     size = ap (λ (q : Quilting). q.map.size) (sym is) ∙ ap (λ (m : SourceMap). m.size) by.map ∙ work.size;
     pictures = pictures;
     laid = laid;
     canvas = canvas;
-    cells = cells ∙ ap (λ n. n + box_count block.placement) work.cells ∙ sym (cells_more was.blocks.items block) ∙ ap block_cells (sym items);
-    within = within;
+    within = omega (arith, cells, stays_within within);
     boundaries = boundaries ∙ ap (λ n. n + block_boundaries block) work.boundaries ∙ sym (boundaries_more was.blocks.items block) ∙ ap all_boundaries (sym items);
     few = omega (arith, boundaries, few, work.few, cells, some);
     cost = costs ∙ (λ i. work.cost i + here i) ∙ sym (cost_more sample (empty_map asked.size) was.blocks.items block) ∙ ap (quilt_cost sample (empty_map asked.size)) (sym items);
@@ -94,32 +114,21 @@ module _ (asked : QuiltRun) (sample : Cells) (volume : IsVolume sample) (can : C
     each = subst (All (IsFileBlock asked.size sample)) (sym items) (All-push (IsFileBlock asked.size sample) was.blocks.items block work.each (file_block stands widths));
   }
     where
+      cells : block_cells now.blocks.items ≡ block_cells was.blocks.items + box_count block.placement
+      cells = more_cells now.blocks.items items
+
       here : cost ≡ block_cost (left_by_blocks (empty_map asked.size) was.blocks.items) sample block
       here = so was.canvas.map sample stands ∙ ap (λ m. block_cost m sample block) (sym left)
 
-  -- its box takes the run past its bound
-  pub passes : (number : ℕ) → number ≡ was.cells + box_count block.placement → MOST_BOX_CELLS < number → QuiltPassesAt asked sample number
-  passes number cells past = record {
-    blocks = was.blocks.items;
-    so_far = quilting was.canvas.map was.draws;
-    run = work.steps;
-    within = subst (λ n. n ≤ MOST_BOX_CELLS) work.cells work.within;
-    rect = block.placement.rect;
-    next = by.next;
-    cells = cells ∙ ap (λ n. n + box_count block.placement) work.cells;
-    past = past;
-  }
-
 -- where none is laid, all is as it was
-pub stays : (asked : QuiltRun) (sample : Cells) (was : QuiltWork) (canvas : CanvasState) (draws : DrawState) → IsQuiltWork asked sample was → quilting canvas.map draws ≡ quilting was.canvas.map was.draws → HaveOneFrame canvas sample → IsCanvas canvas
-    → IsQuiltWork asked sample (record was { canvas = canvas; draws = draws })
-stays asked sample was canvas draws work same pictures is = record {
-  steps = subst (QuiltsTo asked.plan sample (first_quilting asked.size asked.seed) was.blocks.items) (sym same) work.steps;
+pub stays : (rating : Rating) (asked : QuiltRun) (sample : Cells) (was : QuiltWork) (canvas : CanvasState) (draws : DrawState) → IsQuiltWork rating asked sample was → quilting canvas.map draws ≡ quilting was.canvas.map was.draws → HaveOneFrame canvas sample → IsCanvas canvas
+    → IsQuiltWork rating asked sample (record was { canvas = canvas; draws = draws })
+stays rating asked sample was canvas draws work same pictures is = record {
+  steps = subst (QuiltsTo rating asked.plan sample (first_quilting asked.size asked.seed) was.blocks.items) (sym same) work.steps;
   size = ap (λ (q : Quilting). q.map.size) same ∙ work.size;
   pictures = pictures;
   laid = subst (λ (q : Quilting). IsLaidByBlocks asked.plan sample q.map) (sym same) work.laid;
   canvas = is;
-  cells = work.cells;
   within = work.within;
   boundaries = work.boundaries;
   few = work.few;
@@ -129,13 +138,13 @@ stays asked sample was canvas draws work same pictures is = record {
 }
 
 -- no step is made yet
-pub none_made : (asked : QuiltRun) (sample : Cells) (now : QuiltWork) → CanBeQuilted asked sample → IsCanvas now.canvas → StandsOver now.canvas sample → now.canvas ≡ empty_canvas asked.size sample.k → IsLaidByBlocks asked.plan sample (empty_map asked.size)
-    → now.draws ≡ record { seed = asked.seed; place = 0 } → now.blocks.items ≡ [] → now.cells ≡ 0 → now.boundaries ≡ 0 → now.cost ≡ 0 → IsQuiltWork asked sample now
-none_made asked sample now can is over canvas laid draws none cells boundaries cost =
+pub none_made : (rating : Rating) (asked : QuiltRun) (sample : Cells) (now : QuiltWork) → CanBeQuilted asked sample → IsCanvas now.canvas → StandsOver now.canvas sample → now.canvas ≡ empty_canvas asked.size sample.k → IsLaidByBlocks asked.plan sample (empty_map asked.size)
+    → now.draws ≡ record { seed = asked.seed; place = 0 } → now.blocks.items ≡ [] → now.boundaries ≡ 0 → now.cost ≡ 0 → IsQuiltWork rating asked sample now
+none_made rating asked sample now can is over canvas laid draws none boundaries cost =
     let map : now.canvas.map ≡ empty_map asked.size = ap (λ (c : CanvasState). c.map) canvas in
     let size : now.canvas.map.size ≡ asked.size = ap (λ (m : SourceMap). m.size) map in
     record {
-      steps = subst (λ blocks. QuiltsTo asked.plan sample (first_quilting asked.size asked.seed) blocks (quilting now.canvas.map now.draws)) (sym none) (λ i. quilting (map i) (draws i));
+      steps = subst (λ blocks. QuiltsTo rating asked.plan sample (first_quilting asked.size asked.seed) blocks (quilting now.canvas.map now.draws)) (sym none) (λ i. quilting (map i) (draws i));
       size = size;
       pictures = record {
         over = over;
@@ -146,8 +155,7 @@ none_made asked sample now can is over canvas laid draws none cells boundaries c
       };
       laid = subst (IsLaidByBlocks asked.plan sample) (sym map) laid;
       canvas = is;
-      cells = cells ∙ ap block_cells (sym none);
-      within = omega (arith, cells);
+      within = omega (arith, ap block_cells none);
       boundaries = boundaries ∙ ap all_boundaries (sym none);
       few = omega (arith, boundaries);
       cost = cost ∙ ap (quilt_cost sample (empty_map asked.size)) (sym none);

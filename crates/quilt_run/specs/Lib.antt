@@ -1,4 +1,5 @@
 pub mod Costs
+pub mod PlanLimit
 pub mod Quilted
 pub mod OneLimit
 pub mod QuiltWork

@@ -1,44 +1,63 @@
 // The whole run.
-ghost use Rattle.search_squares.specs.Eliminations.{AreSampleSums};
-ghost use Rattle.quilt_run.specs.Quilted.{CanBeQuilted, Quilts};
-ghost use Rattle.quilt_run.specs.QuiltWork.{LaysQuilt};
+ghost use Rattle.std.specs.Prelude.{IfOk};
+ghost use Rattle.quilt.specs.Runs.{by_overlap};
+ghost use Rattle.quilt_run.specs.PlanLimit.{PlanStaysWithin};
+ghost use Rattle.quilt_run.specs.Quilted.{CanBeQuilted, IsQuilt, Quilts};
+ghost use Rattle.quilt_run.specs.QuiltWork.{IsWithinOrPast, LaysQuilt};
 
 use crate::asked::{QuiltError, QuiltRun, Quilted};
+use crate::limit::first_past;
 use crate::steps::{QuiltWork, begin, step};
 use cells::Volume;
 use items::Items;
+use quilt::BlockPicks;
 use search_squares::SampleSums;
-use std::alloc::Global;
+use std::alloc::{AllocError, Global};
 
 // Lays blocks until the canvas is full.
-fn lay_all(
+fn lay_all<P: BlockPicks>(
     alloc: Global,
     asked: &QuiltRun,
     sample: &Volume,
-    sums: &SampleSums,
-) -> Result<QuiltWork, QuiltError>
+    picks: &P,
+) -> Result<QuiltWork, AllocError>
     requires can { CanBeQuilted asked.now sample.now }
-    requires sums { AreSampleSums sample.now sums.now }
-    ensures { LaysQuilt asked.now sample.now result }
+    requires within { PlanStaysWithin asked.now.plan asked.now.size sample.now.size }
+    requires ready { P.AreReady picks.now asked.now.size sample.now }
+    ensures { LaysQuilt (P.rating picks.now sample.now) asked.now sample.now result }
 {
     let mut work = begin(alloc, asked, sample)?;
     let mut more = true;
     'laying: while more {
-        more = step(alloc, asked, sample, sums, &mut work)?;
+        more = step(alloc, asked, sample, picks, &mut work)?;
     }
     Ok(work)
 }
 
-/// Quilts an output from blocks of a sample, of one frame and three samples per cell, with a record of each
-/// block. Its draws are those of the seed, from number 0 on. The sums of the sample's blocks are made once for
-/// all picks; they take 8 bytes for each cell of the sample until the run ends, or 4 where the sample has more
-/// than 2^22 bytes. The method is that of Efros and Freeman, "Image quilting" (2001).
-pub fn quilt_canvas(alloc: Global, asked: &QuiltRun, sample: &Volume) -> Result<Quilted, QuiltError>
+// Refuses a run whose boxes have too many cells, before a place is picked.
+fn keep_within(asked: &QuiltRun, sample: &Volume) -> Result<(), QuiltError>
     requires { CanBeQuilted asked.now sample.now }
-    ensures { Quilts asked.now sample.now result }
+    ensures { IsWithinOrPast asked.now sample.now result }
 {
-    let sums = SampleSums::make(alloc, sample)?;
-    let work = lay_all(alloc, asked, sample, &sums)?;
+    match first_past(&asked.plan, asked.size, sample.size()) {
+        Some(number) => Err(QuiltError::Records(number)),
+        None => Ok(()),
+    }
+}
+
+// The whole run, of a plan that stays within the bound.
+fn quilt_within<P: BlockPicks>(
+    alloc: Global,
+    asked: &QuiltRun,
+    sample: &Volume,
+    picks: &P,
+) -> Result<Quilted, AllocError>
+    requires can { CanBeQuilted asked.now sample.now }
+    requires within { PlanStaysWithin asked.now.plan asked.now.size sample.now.size }
+    requires ready { P.AreReady picks.now asked.now.size sample.now }
+    ensures { IfOk result (IsQuilt (P.rating picks.now sample.now) asked.now sample.now) }
+{
+    let work = lay_all(alloc, asked, sample, picks)?;
     // It is asked for only to show the check that the sample is a volume.
     let _samples = sample.samples();
     Ok(Quilted {
@@ -47,4 +66,33 @@ pub fn quilt_canvas(alloc: Global, asked: &QuiltRun, sample: &Volume) -> Result<
         boundaries: work.boundaries,
         cost: work.cost,
     })
+}
+
+/// Quilts an output from blocks of a sample, of one frame and three samples per cell, with a record of each
+/// block. `picks` picks the place of each block, by its ratings. The draws are those of the seed, from number 0
+/// on. The limit comes before any pick.
+pub fn quilt_by<P: BlockPicks>(
+    alloc: Global,
+    asked: &QuiltRun,
+    sample: &Volume,
+    picks: &P,
+) -> Result<Quilted, QuiltError>
+    requires can { CanBeQuilted asked.now sample.now }
+    requires ready { P.AreReady picks.now asked.now.size sample.now }
+    ensures { Quilts (P.rating picks.now sample.now) asked.now sample.now result }
+{
+    keep_within(asked, sample)?;
+    Ok(quilt_within(alloc, asked, sample, picks)?)
+}
+
+/// The same run, by overlap errors. The sums of the sample's blocks are made once for all picks; they take 8
+/// bytes for each cell of the sample until the run ends, or 4 where the sample has more than 2^22 bytes. The
+/// method is that of Efros and Freeman, "Image quilting" (2001).
+pub fn quilt_canvas(alloc: Global, asked: &QuiltRun, sample: &Volume) -> Result<Quilted, QuiltError>
+    requires { CanBeQuilted asked.now sample.now }
+    ensures { Quilts (by_overlap sample.now) asked.now sample.now result }
+{
+    keep_within(asked, sample)?;
+    let sums = SampleSums::make(alloc, sample)?;
+    Ok(quilt_within(alloc, asked, sample, &sums)?)
 }

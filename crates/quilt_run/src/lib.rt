@@ -12,9 +12,11 @@
 mod asked;
 mod laws;
 mod lay;
+mod limit;
 mod steps;
 mod totals;
 
 pub use asked::{QuiltError, QuiltRun, Quilted};
 pub use laws::there_is_one_quilt_limit;
-pub use lay::quilt_canvas;
+pub use lay::{quilt_by, quilt_canvas};
+pub use limit::first_past;

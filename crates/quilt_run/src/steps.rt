@@ -1,19 +1,18 @@
 // A run, step by step.
 ghost use Rattle.std.specs.Prelude.{IfOk};
-ghost use Rattle.search_squares.specs.Eliminations.{AreSampleSums};
+ghost use Rattle.quilt.specs.Runs.{Rating};
+ghost use Rattle.quilt_run.specs.PlanLimit.{PlanStaysWithin};
 ghost use Rattle.quilt_run.specs.Quilted.{CanBeQuilted};
 ghost use Rattle.quilt_run.specs.QuiltWork.{QuiltAdvances, IsQuiltWork};
 
-use crate::asked::{QuiltError, QuiltRun};
+use crate::asked::QuiltRun;
 use crate::totals::{block_boundaries, block_cost, block_fits};
 use block_check::BlockRecord;
 use block_strips::empty_map_is_laid;
 use cells::Volume;
-use limits::MOST_BOX_CELLS;
 use map_canvas::Canvas;
 use patch_place::Draws;
-use quilt::next_block_with;
-use search_squares::SampleSums;
+use quilt::{BlockPicks, next_block_by};
 use std::alloc::{AllocError, Global};
 
 /// A run so far.
@@ -22,8 +21,6 @@ pub(crate) struct QuiltWork {
     pub(crate) canvas: Canvas,
     pub(crate) draws: Draws,
     pub(crate) blocks: Vec<BlockRecord>,
-    // the cells of all boxes
-    pub(crate) cells: u64,
     pub(crate) boundaries: u64,
     pub(crate) cost: u64,
 }
@@ -35,7 +32,7 @@ pub(crate) fn begin(
     sample: &Volume,
 ) -> Result<QuiltWork, AllocError>
     requires { CanBeQuilted asked.now sample.now }
-    ensures { IfOk result (IsQuiltWork asked.now sample.now) }
+    ensures { IfOk result (λ work. (rating : Rating) → IsQuiltWork rating asked.now sample.now work) }
 {
     empty_map_is_laid();
     let canvas = Canvas::empty(alloc, asked.size, sample.samples())?;
@@ -43,33 +40,34 @@ pub(crate) fn begin(
         canvas,
         draws: Draws::from_seed(asked.seed),
         blocks: Vec::new(alloc),
-        cells: 0,
         boundaries: 0,
         cost: 0,
     })
 }
 
 /// Lays the next block; false where the canvas is full.
-pub(crate) fn step(
+pub(crate) fn step<P: BlockPicks>(
     alloc: Global,
     asked: &QuiltRun,
     sample: &Volume,
-    sums: &SampleSums,
+    picks: &P,
     work: &mut QuiltWork,
-) -> Result<bool, QuiltError>
+) -> Result<bool, AllocError>
     requires can { CanBeQuilted asked.now sample.now }
-    requires sums { AreSampleSums sample.now sums.now }
-    requires work { IsQuiltWork asked.now sample.now work.old }
-    ensures { QuiltAdvances asked.now sample.now work.old work.new result }
+    requires within { PlanStaysWithin asked.now.plan asked.now.size sample.now.size }
+    requires ready { P.AreReady picks.now asked.now.size sample.now }
+    requires work { IsQuiltWork (P.rating picks.now sample.now) asked.now sample.now work.old }
+    ensures { QuiltAdvances (P.rating picks.now sample.now) asked.now sample.now
+        work.old work.new result }
 {
     // It is asked for only to show the check that the sample is a volume.
     let _samples = sample.samples();
-    let next = next_block_with(
+    let next = next_block_by(
         alloc,
         &asked.plan,
         &mut work.canvas,
         sample,
-        sums,
+        picks,
         &mut work.draws,
     )?;
     // It is asked for only to show the check that the canvas is one.
@@ -77,17 +75,12 @@ pub(crate) fn step(
     let Some(block) = next else {
         return Ok(false);
     };
-    let cells = work.cells + block.placement.rect.size.cells() as u64;
-    if cells > MOST_BOX_CELLS {
-        return Err(QuiltError::Records(cells));
-    }
     let boundaries = work.boundaries + block_boundaries(&block);
     let cost = work.cost + block_cost(&block);
     block_fits(&block);
     let Ok(()) = work.blocks.push(block) else {
-        return Err(QuiltError::NoMemory);
+        return Err(AllocError);
     };
-    work.cells = cells;
     work.boundaries = boundaries;
     work.cost = cost;
     Ok(true)

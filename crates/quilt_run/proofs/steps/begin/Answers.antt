@@ -4,8 +4,8 @@ use Rattle.quilt_run.proofs.Stepping.{none_made}
 use Rattle.quilt_run.proofs.steps.begin.Goals as goal
 
 pub returns : goal.returns
-returns c = none_made c.args.asked.now c.args.sample.now _ c.requires c.in_ok-canvas.ensures.canvas
+returns c rating = none_made rating c.args.asked.now c.args.sample.now _ c.requires c.in_ok-canvas.ensures.canvas
     (c.in_ok-canvas.ensures.stands c.args.sample.now (sym c.samples.ensures.samples))
     (c.in_ok-canvas.ensures.empty ∙ ap (empty_canvas c.args.asked.now.size) c.samples.ensures.samples)
     (c.empty_map_is_laid.ensures c.args.asked.now.plan c.args.sample.now c.args.asked.now.size)
-    c.from_seed.ensures c.new.ensures.items refl refl refl
+    c.from_seed.ensures c.new.ensures.items refl refl

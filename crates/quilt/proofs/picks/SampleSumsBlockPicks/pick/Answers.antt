@@ -5,7 +5,7 @@ use Rattle.map_canvas.specs.Choices.{Fits}
 use Rattle.map_canvas.specs.Maps.{SourceMap}
 use Rattle.patch_place.specs.Lists.{fit_list, part_lists}
 use Rattle.quilt.proofs.Picking.{picked_has_box}
-use Rattle.quilt.proofs.step.pick_for.Goals as goal
+use Rattle.quilt.proofs.picks.SampleSumsBlockPicks.pick.Goals as goal
 
 pub pick_with-requires-clause-some : goal.pick_with-requires-clause-some
 pick_with-requires-clause-some c = c.box_list_is_all_that_fit.ensures.some 1 c.args.sample.now.size refl c.requires.fits.room

@@ -7,30 +7,31 @@ use Rattle.limits.specs.declared.bounds.TheConstants.{MOST_BOX_CELLS}
 use Rattle.quilt_run.specs.Costs.{IsFileBlock, all_boundaries, quilt_cost}
 use Rattle.block_check.specs.Blocks.{block_cells}
 use Rattle.quilt_run.specs.QuiltWork.{IsQuiltWork}
-use Rattle.quilt_run.proofs.lay.quilt_canvas.Goals as goal
+use Rattle.quilt_run.proofs.lay.quilt_within.Goals as goal
 
 pub returns : goal.returns
-returns c =
+returns g c =
+    let rating = g.P.BlockPicks.rating c.args.picks.now c.args.sample.now in
     let asked = c.args.asked.now in
     let sample = c.args.sample.now in
     let end = c.in_ok-work.work in
     let made = c.in_ok-work.ensures in
-    let work : IsQuiltWork asked sample end = made.0 in
+    let work : IsQuiltWork rating asked sample end = made.0 in
     let items = sym c.from_vec.ensures in
     let blocks = c.from_vec.result in
     let after = quilting end.canvas.map end.draws in
-    let steps = subst (λ blocks. QuiltsTo asked.plan sample (first_quilting asked.size asked.seed) blocks after) items work.steps in
+    let steps = subst (λ blocks. QuiltsTo rating asked.plan sample (first_quilting asked.size asked.seed) blocks after) items work.steps in
     record {
       draws = end.draws;
       run = record { run = steps; full = made.1 };
       size = work.size;
-      replays = quilts_replay asked.plan sample c.samples-samples.ensures.volume c.requires.block asked.size c.requires.small c.requires.frame asked.seed blocks after steps;
+      replays = quilts_replay asked.plan sample c.samples-samples.ensures.volume c.requires.can.block asked.size c.requires.can.small c.requires.can.frame rating asked.seed blocks after steps;
       canvas = work.canvas;
       over = work.pictures.over;
       boundaries = subst (λ blocks. end.boundaries ≡ all_boundaries blocks) items work.boundaries;
       cost = subst (λ blocks. end.cost ≡ quilt_cost sample (empty_map asked.size) blocks) items work.cost;
       writable = record {
         each = subst (All (IsFileBlock asked.size sample)) items work.each;
-        cells = subst (λ blocks. block_cells blocks ≤ MOST_BOX_CELLS) items (subst (λ n. n ≤ MOST_BOX_CELLS) work.cells work.within);
+        cells = subst (λ blocks. block_cells blocks ≤ MOST_BOX_CELLS) items work.within;
       };
     }

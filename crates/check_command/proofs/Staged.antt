@@ -23,7 +23,7 @@ use Rattle.command.proofs.Staging.{AreOne, ReadsOne, file_is_one, one_answer, re
 use Rattle.command.proofs.Planning.{StandsBefore, begin, file_read, part_not_read, read_on, reads_on}
 use Rattle.sample_files.specs.declared.sample.Sample.{Sample}
 use Rattle.sample_files.specs.declared.several.Samples.{Samples}
-use Rattle.sample_files.specs.Several.{AsksParts, MayRefuseSamples, SamplesReadAs, StandForSamples, contents, read_samples, sample_files}
+use Rattle.sample_files.specs.Several.{AsksParts, MayRefuseSamples, SamplesReadAs, StandForSamples, contents, of_samples, read_samples, sample_files}
 use Rattle.sample_files.proofs.Commands.{parts_are_one, parts_made, parts_make, parts_passed, parts_refused, samples_are_one, samples_not_read}
 use Rattle.worked.specs.Worked.{worked_samples}
 use Rattle.turned.specs.declared.turn.TheConstants.{TURNS}
@@ -75,7 +75,7 @@ same_status samples out map_file record_file (Fails number rule place) (Fails nu
 
 are_one : (turns : Bool) (names : Names) (files : Files) → AreOne (check_stages turns names) files
 are_one turns names files = parts_are_one turns (length names.more + 1) _ files (
-  samples_are_one turns names.sample names.more files,
+  samples_are_one (of_samples turns) names.sample names.more files,
   λ samples stand. (
     file_is_one out_is_one part.Out names.out files,
     λ out is_out. (
@@ -106,7 +106,7 @@ module _ (job : CheckJob) (a b : ShelfState) (few : AsksParts job.turns (length 
 
   pub no_samples : (fault : Fault) → SamplesReadAs job.turns job.names.sample more a b (Err fault) → NotMade (check_command job) a b fault
   no_samples fault left =
-      samples_not_read job.turns job.names.sample job.names.more before_samples to_samples (known_samples (length job.names.more + 1)) fault (subst (λ names. SamplesReadAs job.turns job.names.sample names a b (Err fault)) same left)
+      samples_not_read (of_samples job.turns) job.names.sample job.names.more before_samples to_samples (known_samples (length job.names.more + 1)) fault (subst (λ names. SamplesReadAs job.turns job.names.sample names a b (Err fault)) same left)
 
   pub samples_only : OnlyReads (names_in (check_command job).reads) a b
   samples_only = reads_on (sample_files job.names.sample job.names.more) before_samples to_samples

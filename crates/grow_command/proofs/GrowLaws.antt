@@ -28,7 +28,7 @@ use Rattle.command_files.proofs.ThreeFiles.{HoldThree, three_files}
 use Rattle.sample_files.specs.declared.several.Samples.{Samples}
 use Rattle.sample_files.specs.Outputs.{FitsOutput, IsWithinBounds}
 use Rattle.sample_files.specs.Samples.{form_text}
-use Rattle.sample_files.specs.Several.{MayRefuseSamples, StandForSamples, contents, read_samples}
+use Rattle.sample_files.specs.Several.{MayRefuseSamples, StandForSamples, contents, of_samples, read_samples}
 use Rattle.sample_files.proofs.Commands.{parts_made}
 use Rattle.sample_files.proofs.Sound.{as_many_parts, stand_sound}
 use Rattle.limits.specs.declared.bounds.TheConstants.{MOST_PARTS}
@@ -101,12 +101,12 @@ module _ (job : GrowJob) (lawful : IsGrowJob job) (before after : Files) (sample
   }
 
   few : job.turns ≡ true → TURNS * length (sizes_of samples.volume) ≤ MOST_PARTS
-  few on = subst (λ n. TURNS * n ≤ MOST_PARTS) (sym (as_many_parts job.turns (content_of before job.names.sample) (contents before job.names.more) samples read)) (read.few on)
+  few on = subst (λ n. TURNS * n ≤ MOST_PARTS) (sym (as_many_parts (of_samples job.turns) (content_of before job.names.sample) (contents before job.names.more) samples read)) (read.few on)
 
   made : IsMade job (growth_of job samples grown)
   made = record {
     volume = is.all;
-    sound = worked_sound job.turns samples (stand_sound job.turns (content_of before job.names.sample) (contents before job.names.more) samples read) read.fits;
+    sound = worked_sound job.turns samples (stand_sound (of_samples job.turns) (content_of before job.names.sample) (contents before job.names.more) samples read).sound read.fits;
     are = volume_sizes samples.volume is.volume;
     few = few;
     sizes = sizes_worked job.turns samples.volume;

@@ -26,7 +26,7 @@ use Rattle.command.proofs.Staging.{AreOne, bound_is_one, passing_is_one}
 use Rattle.command.proofs.Planning.{StandsBefore, begin, limit_passed, not_passed, pass_on, plan_made, read_on}
 use Rattle.sample_files.specs.declared.several.Samples.{Samples}
 use Rattle.sample_files.specs.Outputs.{IsWithinBounds, PassesBounds}
-use Rattle.sample_files.specs.Several.{AreSoundSamples, AsksParts, MayRefuseSamples, SamplesReadAs, StandForSamples, contents, read_samples, sample_files}
+use Rattle.sample_files.specs.Several.{AreSoundSamples, AsksParts, MayRefuseSamples, SamplesReadAs, StandForSamples, contents, of_samples, read_samples, sample_files}
 use Rattle.sample_files.proofs.Commands.{parts_are_one, parts_passed, parts_refused, samples_are_one, samples_not_read}
 use Rattle.worked.specs.Worked.{worked, worked_samples, worked_sizes}
 use Rattle.worked.proofs.WorkedLaws.{sizes_worked}
@@ -39,7 +39,7 @@ small_output job lawful cells = record { axes = lawful.axes; cells = omega (arit
 
 pub are_one : (job : GrowJob) (files : Files) → AreOne (grow_stages job) files
 are_one job files = parts_are_one job.turns (length job.names.more + 1) _ files (
-  samples_are_one job.turns job.names.sample job.names.more files,
+  samples_are_one (of_samples job.turns) job.names.sample job.names.more files,
   λ samples read. (
     bound_is_one _ _ _,
     λ frames. (bound_is_one _ _ _, λ cells. (passing_is_one _ _ _ (limits_are_one (plan_of job) (worked job.turns samples.volume)), λ none first second a b. refl)),
@@ -67,7 +67,7 @@ module _ (job : GrowJob) (a b : ShelfState) (few : AsksParts job.turns (length j
   to_samples = subst (λ names. OnlyReads (names_in (sample_files job.names.sample names)) a b) same reads
 
   pub no_samples : (fault : Fault) → SamplesReadAs job.turns job.names.sample more a b (Err fault) → NotMade (grow_command job) a b fault
-  no_samples fault left = samples_not_read job.turns job.names.sample job.names.more before_samples to_samples (λ its may. may) fault (subst (λ names. SamplesReadAs job.turns job.names.sample names a b (Err fault)) same left)
+  no_samples fault left = samples_not_read (of_samples job.turns) job.names.sample job.names.more before_samples to_samples (λ its may. may) fault (subst (λ names. SamplesReadAs job.turns job.names.sample names a b (Err fault)) same left)
 
   module _ (samples : Samples) (read : Sees a b (λ files. StandForSamples job.turns (content_of files job.names.sample) (contents files more) samples)) where
     over : StandsBefore (grow_command job) a b (0 + length (sample_files job.names.sample job.names.more)) (grow_over job samples)

@@ -14,7 +14,7 @@ use Rattle.synth_report.specs.declared.summary.Summary.{Summary}
 use Rattle.synth_report.specs.declared.summary.Summary.TheVariants.{Grow}
 use Rattle.sample_files.specs.declared.several.Samples.{Samples}
 use Rattle.sample_files.specs.Samples.{form_text}
-use Rattle.sample_files.specs.Several.{StandForSamples, contents}
+use Rattle.sample_files.specs.Several.{StandForSamples, contents, of_samples}
 use Rattle.sample_files.proofs.OneAnswer.{one_value}
 use Rattle.worked.specs.Worked.{worked}
 use Rattle.grow_command.specs.GrownMaps.{map_text}
@@ -26,7 +26,7 @@ module _ (job : GrowJob) (small : IsSmall job.size) (before after earlier later 
   samples = run.output.samples
 
   one_samples : other.output.samples ≡ samples
-  one_samples = one_value job.turns (content_of before job.names.sample) (contents before job.names.more) other.output.samples samples
+  one_samples = one_value (of_samples job.turns) (content_of before job.names.sample) (contents before job.names.more) other.output.samples samples
       (subst (λ more. StandForSamples job.turns (content_of before job.names.sample) more other.output.samples) same.further (subst (λ first. StandForSamples job.turns first (contents earlier job.names.more) other.output.samples) same.first other.output.read))
       run.output.read
 

@@ -27,7 +27,7 @@ use Rattle.merge_command.specs.declared.pictures.Pictures.{Pictures}
 use Rattle.merge_command.specs.MergeCommand.{ArePicturesIn, IsMergeOver, IsMergeSummary, IsSet, MayRefuseMerge, merge_command, merge_files, merge_stages, merge_summary, merged_of}
 use Rattle.merge_command.specs.MergeHeadlines.{IsMergeInput, IsMergeOutput, IsMergedRun, IsToldOfMerge}
 use Rattle.merge_command.proofs.Planning.{are_one}
-use Rattle.merge_command.proofs.Sound.{pictures_are_sound}
+use Rattle.merge_command.proofs.PictureLaws.{pictures_are_sound}
 
 pub merge_has_one_answer : (job : MergeJob) → HasOneAnswer (merge_command job)
 merge_has_one_answer job = one_answer (merge_stages job) (merge_command job).writes (MayRefuseMerge (length job.more + 1)) IsMergeSummary (are_one job)

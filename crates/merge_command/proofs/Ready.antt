@@ -1,5 +1,5 @@
 -- The files of a merge can be written: its picture with the pictures' maxval, and its map in version 2.
-use Rattle.std.proofs.Common.{◌≡◌, ℕ, ◌≤◌, length, ap, sym, ◌∙◌, subst}
+use Rattle.std.proofs.Common.{◌≡◌, ◌≤◌, length, ap, sym, ◌∙◌, subst}
 use Rattle.cells.specs.declared.place.Size.{Size}
 use Rattle.cells.specs.Cells.{Cells, sizes_of}
 use Rattle.cells.specs.Places.{cell_count}

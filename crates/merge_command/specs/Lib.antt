@@ -1,4 +1,3 @@
 pub mod Pictures
-pub mod PictureSteps
 pub mod MergeCommand
 pub mod MergeHeadlines

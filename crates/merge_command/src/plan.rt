@@ -10,13 +10,13 @@ ghost use Rattle.merge_command.specs.Pictures.{AreSoundPictures};
 ghost use Rattle.merge_command.specs.MergeCommand.{IsMade, SetAgainst, merge_command, merge_files, merge_summary};
 
 use crate::pictures::{Pictures, read_pictures};
-use command::read_fault;
 use costs::total;
 use job_words::MergeJob;
 use limits::MOST_OUTPUT_CELLS;
 use map_canvas::Canvas;
-use netpbm_p6::{Picture, read_p6};
+use netpbm_p6::Picture;
 use photo_merge::{first_bad_mark, merge_canvas};
+use sample_files::read_part;
 use shelf_core::{Shelf, What};
 use std::alloc::Global;
 use synth_report::{Fault, FileOf};
@@ -76,9 +76,9 @@ pub(crate) fn plan<S: Shelf>(alloc: Global, job: &MergeJob, shelf: &mut S) -> Re
         Ok(pictures) => pictures,
         Err(fault) => return Err(fault),
     };
-    let marks = match read_p6(alloc, shelf, job.marks.as_text()) {
+    let marks = match read_part(alloc, shelf, FileOf::Marks, &job.marks) {
         Ok(marks) => marks,
-        Err(error) => return Err(read_fault(FileOf::Marks, error)),
+        Err(fault) => return Err(fault),
     };
     // It is asked for only to show the check that the pictures are a volume.
     let _k = pictures.volume.samples();

@@ -141,16 +141,6 @@ ReadsAs name was now (Err ReadFault) = ReadsRose name was now
 ReadsAs name was now (Err NoMemory) = Unit {0}
 ReadsAs name was now (Err error) = InFile name was now (λ bytes. Refuses bytes error)
 
--- what every picture that is read is, whether or not the shelf tells its files
-pub record IsSound (picture : Picture) : Type 0 where
-  pub positive : 1 ≤ picture.maxval
-  pub fits : picture.maxval ≤ 255
-  pub one : IsOnePart picture.volume
-  pub frames : picture.volume.size.f ≡ 1
-  pub colours : picture.volume.k ≡ 3
-  pub samples : All (λ b. b ≤ picture.maxval) (bytes_of picture.volume)
-  pub cells : count_of picture.volume ≤ MOST_SAMPLE_CELLS
-
 -- a picture that can be written: a maxval of at least 1, one frame, three samples, and no byte
 -- above maxval
 pub record IsPicture (maxval : ℕ) (volume : Cells) : Type 0 where
@@ -161,6 +151,12 @@ pub record IsPicture (maxval : ℕ) (volume : Cells) : Type 0 where
   pub frames : volume.size.f ≡ 1
   pub colours : volume.k ≡ 3
   pub samples : All (λ b. b ≤ maxval) (bytes_of volume)
+
+-- what every picture that is read is, whether or not the shelf tells its files: one that can be
+-- written
+pub record IsSound (picture : Picture) : Type 0 where
+  pub form : IsPicture picture.maxval picture.volume
+  pub cells : count_of picture.volume ≤ MOST_SAMPLE_CELLS
 
 -- the one spelling of a picture that the writer gives
 abbrev pub p6_form : ℕ → Cells → List ℕ

@@ -20,9 +20,10 @@ use Rattle.command.specs.Stages.Stages.{read}
 use Rattle.command.proofs.Staging.{AreOne, IsOneReader, ReadsOne, bound_is_one}
 use Rattle.command.proofs.Planning.{StandsBefore, limit_passed, not_read_on, pass_on}
 use Rattle.sample_files.specs.declared.sample.Sample.{Sample}
+use Rattle.sample_files.specs.declared.several.Asked.{Asked}
 use Rattle.sample_files.specs.declared.several.Samples.{Samples}
 use Rattle.sample_files.specs.Samples.{IsSampleOf, RefusesSample, StandsAs}
-use Rattle.sample_files.specs.Several.{AsksParts, parts_within, StandForSamples, MayRefuseSamples, NoSampleRefused, RefusesSamples, SamplesAreRefused, SamplesReadAs, StandForParts, contents, numbered_files, sample_files}
+use Rattle.sample_files.specs.Several.{AsksParts, MayRefuseSamples, NoneRefusedOf, RefusesSeveral, SeveralAreRefused, SeveralReadAs, StandForParts, StandForSamples, StandForSeveral, contents, numbered_files, of_samples, parts_within, sample_files}
 use Rattle.sample_files.proofs.OneAnswer.{not_both, one_value, refused_once}
 use Rattle.sample_files.proofs.OneSample.{one_sample, one_sample_refusal, stands_alone, stands_or_refused}
 use Rattle.sample_files.proofs.Joined.{parts_alone, same_parts}
@@ -32,20 +33,20 @@ length-numbered [] n = refl
 length-numbered (x ∷ names) n = ap suc (length-numbered names (suc n))
 
 -- a command that reads the samples first, and refuses them as they are refused, has this answer
-module _ (c : Command) (turns : Bool) (first : List ℕ) (more : List (List ℕ))
+module _ (c : Command) (asked : Asked) (first : List ℕ) (more : List (List ℕ))
     (own : (turn : ℕ) (part : FileOf) (name : List ℕ) → HasTurn (sample_files first more) turn part name → HasTurn c.reads turn part name)
     (known : (fault : Fault) → MayRefuseSamples (length more + 1) fault → c.MayRefuse fault)
-    (refuses : (files : Files) (n : ℕ) (fault : Fault) → RefusesSamples turns n (content_of files first) (contents files more) fault → c.Refuses n files fault)
-    (only : (files : Files) (n : ℕ) (fault : Fault) → n ≤ length more → c.Refuses n files fault → RefusesSamples turns n (content_of files first) (contents files more) fault)
+    (refuses : (files : Files) (n : ℕ) (fault : Fault) → RefusesSeveral asked n (content_of files first) (contents files more) fault → c.Refuses n files fault)
+    (only : (files : Files) (n : ℕ) (fault : Fault) → n ≤ length more → c.Refuses n files fault → RefusesSeveral asked n (content_of files first) (contents files more) fault)
     (was now : ShelfState) where
-  refused : (fault : Fault) → SamplesAreRefused turns first more fault was now → AreRefused c fault was now
+  refused : (fault : Fault) → SeveralAreRefused asked first more fault was now → AreRefused c fault was now
   refused fault r = record {
     known = known fault r.known;
-    refused = told_weaker (λ before after. (n : ℕ) × RefusesSamples turns n (content_of before first) (contents before more) fault) (λ before after. (n : ℕ) × c.Refuses n before fault) was.files now.files
+    refused = told_weaker (λ before after. (n : ℕ) × RefusesSeveral asked n (content_of before first) (contents before more) fault) (λ before after. (n : ℕ) × c.Refuses n before fault) was.files now.files
         (λ before after s. (s.0, refuses before s.0 fault s.1)) r.refused;
   }
 
-  pub samples_not_made : (fault : Fault) → SamplesReadAs turns first more was now (Err fault) → NotMade c was now fault
+  pub samples_not_made : (fault : Fault) → SeveralReadAs asked first more was now (Err fault) → NotMade c was now fault
   samples_not_made (Read part) left = record {
     turn = left.turn;
     name = left.name;
@@ -53,7 +54,7 @@ module _ (c : Command) (turns : Bool) (first : List ℕ) (more : List (List ℕ)
     rose = left.rose;
     earlier = (let below = slice_get_within (sample_files first more) left.turn (named part left.name) left.has_turn in
         let few : left.turn ≤ length more = omega (arith, below, length-numbered more 2) in
-        told_weaker (λ before after. NoSampleRefused turns left.turn (content_of before first) (contents before more)) (λ before after. NoneRefused c left.turn before) was.files now.files
+        told_weaker (λ before after. NoneRefusedOf asked left.turn (content_of before first) (contents before more)) (λ before after. NoneRefused c left.turn before) was.files now.files
         (λ before after none. λ m fault le r. none m fault le (only before m fault (omega (arith, le, few)) r)) left.earlier);
   }
   samples_not_made NoMemory left = tt
@@ -66,20 +67,20 @@ module _ (c : Command) (turns : Bool) (first : List ℕ) (more : List (List ℕ)
   samples_not_made (Write part) left = absurd left.known
 
 -- the stage that reads the samples has one answer
-pub samples_are_one : (turns : Bool) (first : List ℕ) (more : List (List ℕ)) (files : Files)
-    → IsOneReader (λ files samples. StandForSamples turns (content_of files first) (contents files more) samples) (λ n files fault. RefusesSamples turns n (content_of files first) (contents files more) fault) files
-samples_are_one turns first more files = record {
-  one_value = one_value turns (content_of files first) (contents files more);
-  not_both = not_both turns (content_of files first) (contents files more);
-  one_refusal = refused_once turns (content_of files first) (contents files more);
+pub samples_are_one : (asked : Asked) (first : List ℕ) (more : List (List ℕ)) (files : Files)
+    → IsOneReader (λ files samples. StandForSeveral asked (content_of files first) (contents files more) samples) (λ n files fault. RefusesSeveral asked n (content_of files first) (contents files more) fault) files
+samples_are_one asked first more files = record {
+  one_value = one_value asked (content_of files first) (contents files more);
+  not_both = not_both asked (content_of files first) (contents files more);
+  one_refusal = refused_once asked (content_of files first) (contents files more);
 }
 
 -- where they aren't read the command of that stage ends so
-pub samples_not_read : {c : Command} {a b d : ShelfState} {turn : ℕ} {V : Type 0} {others : List NamedFile} {Stand : Files → V → Type 0} {next : V → Stages others} (turns : Bool) (first : List ℕ) (more : List (List ℕ))
-    → StandsBefore c a b turn (read (sample_files first more) Stand (λ n files fault. RefusesSamples turns n (content_of files first) (contents files more) fault) next) → OnlyReads (names_in (sample_files first more)) b d
-    → ((fault : Fault) → MayRefuseSamples (length more + 1) fault → c.MayRefuse fault) → (fault : Fault) → SamplesReadAs turns first more b d (Err fault) → NotMade c a d fault
-samples_not_read {c = c} {b = b} {d = d} turns first more at reads known fault left =
-    not_read_on (sample_files first more) at reads c.Takes c.Makes fault (samples_not_made _ turns first more (λ turn part name has. has) known (λ files n its refused. refused) (λ files n its le refused. refused) b d fault left)
+pub samples_not_read : {c : Command} {a b d : ShelfState} {turn : ℕ} {V : Type 0} {others : List NamedFile} {Stand : Files → V → Type 0} {next : V → Stages others} (asked : Asked) (first : List ℕ) (more : List (List ℕ))
+    → StandsBefore c a b turn (read (sample_files first more) Stand (λ n files fault. RefusesSeveral asked n (content_of files first) (contents files more) fault) next) → OnlyReads (names_in (sample_files first more)) b d
+    → ((fault : Fault) → MayRefuseSamples (length more + 1) fault → c.MayRefuse fault) → (fault : Fault) → SeveralReadAs asked first more b d (Err fault) → NotMade c a d fault
+samples_not_read {c = c} {b = b} {d = d} asked first more at reads known fault left =
+    not_read_on (sample_files first more) at reads c.Takes c.Makes fault (samples_not_made _ asked first more (λ turn part name has. has) known (λ files n its refused. refused) (λ files n its le refused. refused) b d fault left)
 
 -- the bytes of one sample have one answer
 pub same_sample : (bytes : List ℕ) (first second : Sample) → IsSampleOf bytes first → IsSampleOf bytes second → first ≡ second
@@ -124,7 +125,7 @@ parts_made true count next files texts summary made = made.1
 pub one_file : (turns : Bool) (first : List ℕ) (samples : Samples) → StandForSamples turns first [] samples → StandsAs first samples.form samples.volume
 one_file turns first samples a = by (parts_of samples.volume) refl a.parts
   where
-    by : (parts : List Cells) → parts_of samples.volume ≡ parts → StandForParts samples.form first [] parts → StandsAs first samples.form samples.volume
+    by : (parts : List Cells) → parts_of samples.volume ≡ parts → StandForParts (of_samples turns) samples.form first [] parts → StandsAs first samples.form samples.volume
     by [] is stand = absurd stand
     by (p ∷ []) is stand =
         let same : samples.volume ≡ p = same_parts samples.volume p (is ∙ sym (parts_alone p (stands_alone MOST_SAMPLE_CELLS first samples.form p stand.0))) in
@@ -135,8 +136,8 @@ one_file turns first samples a = by (parts_of samples.volume) refl a.parts
 pub alone : (files : Files) (first : List ℕ) (more : List (List ℕ)) (samples : Samples) → more ≡ [] → StandsAs (content_of files first) samples.form samples.volume → IsOnePart samples.volume → count_of samples.volume ≤ MOST_SAMPLE_CELLS
     → StandForSamples false (content_of files first) (contents files more) samples
 alone files first more samples none stands one fits = record {
-  parts = subst (λ names. StandForParts samples.form (content_of files first) (contents files names) (parts_of samples.volume)) (sym none)
-      (subst (StandForParts samples.form (content_of files first) []) (sym (parts_alone samples.volume one)) (stands, tt));
+  parts = subst (λ names. StandForParts (of_samples false) samples.form (content_of files first) (contents files names) (parts_of samples.volume)) (sym none)
+      (subst (StandForParts (of_samples false) samples.form (content_of files first) []) (sym (parts_alone samples.volume one)) (stands, tt));
   few = λ turns. absurd (cc);
   pixels = λ turns. absurd (cc);
   fits = fits;

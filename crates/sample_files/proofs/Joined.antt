@@ -50,7 +50,7 @@ cells_of_parts k size [] cells = append-nil cells
 cells_of_parts k size (next ∷ more) cells =
     ap (λ rest. take (cell_count size) cells ++ rest) (cells_of_parts k next more (drop (cell_count size) cells)) ∙ take-append-drop (cell_count size) cells
 
-sizes_of_parts : (k : ℕ) (size : Size) (more : List Size) (cells : List (List ℕ)) → map (λ (p : Cells). p.size) (parts_from k size more cells) ≡ size ∷ more
+pub sizes_of_parts : (k : ℕ) (size : Size) (more : List Size) (cells : List (List ℕ)) → map (λ (p : Cells). p.size) (parts_from k size more cells) ≡ size ∷ more
 sizes_of_parts k size [] cells = refl
 sizes_of_parts k size (next ∷ more) cells = ap (λ sizes. size ∷ sizes) (sizes_of_parts k next more (drop (cell_count size) cells))
 
@@ -67,3 +67,14 @@ same_parts v w same =
     same_fields v w (cc) (cc)
     (sym (k_of_parts v.k v.size v.more v.cells) ∙ ap first_k same ∙ k_of_parts w.k w.size w.more w.cells)
     (sym (cells_of_parts v.k v.size v.more v.cells) ∙ ap cells_in same ∙ cells_of_parts w.k w.size w.more w.cells)
+
+-- the first part has the size of the volume
+pub first_part_size : (v p : Cells) (parts : List Cells) → p ∷ parts ≡ parts_of v → p.size ≡ v.size
+first_part_size v p parts is =
+    let sizes : p.size ∷ map (λ (q : Cells). q.size) parts ≡ v.size ∷ v.more = ap (map (λ (q : Cells). q.size)) is ∙ sizes_of_parts v.k v.size v.more v.cells in
+    cc
+
+-- and as many samples a cell
+pub first_part_k : (v p : Cells) (parts : List Cells) → p ∷ parts ≡ parts_of v → p.k ≡ v.k
+unfolding first_k
+first_part_k v p parts is = ap first_k is ∙ k_of_parts v.k v.size v.more v.cells

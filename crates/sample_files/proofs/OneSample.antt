@@ -19,7 +19,7 @@ use Rattle.y4m_clip.proofs.OneClip.{one_clip}
 use Rattle.y4m_clip.proofs.OneRefusal as clip
 use Rattle.sample_files.specs.declared.form.Form.{Form}
 use Rattle.sample_files.specs.declared.form.Form.TheVariants.{Picture, Clip}
-use Rattle.sample_files.specs.Samples.{IsSoundIn, AreSoundIn, RefusesAs, RefusesWithin, StandsWithin, begins_clip, goes_with, same_space}
+use Rattle.sample_files.specs.Samples.{AreSoundIn, IsPictureForm, IsSoundIn, RefusesAs, RefusesIn, RefusesWithin, StandsAs, StandsIn, StandsWithin, begins_clip, goes_with, same_space}
 use Rattle.sample_files.proofs.Begins.{clip_begins, picture_begins}
 
 -- bytes that stand for a sample aren't refused
@@ -65,21 +65,49 @@ stands_alone most bytes (Picture maxval) cells a = ap (λ (v : Cells). v.more) a
 stands_alone most bytes (Clip form) cells a = ap (λ (v : Cells). v.more) a.stands.volume
 
 pub sound_alone : (form : Form) (cells : Cells) → IsSoundIn form cells → IsOnePart cells
-sound_alone (Picture maxval) cells s = s.one
+sound_alone (Picture maxval) cells s = s.form.one
 sound_alone (Clip form) cells s = s.one
 
 pub count_alone : (cells : Cells) → IsOnePart cells → count_of cells ≡ cell_count cells.size
 count_alone cells one = ap (count_from cells.size) one
 
+-- Where pictures alone may be asked for.
+
+pub stands_as : (pictures : Bool) (bytes : List ℕ) (form : Form) (cells : Cells) → StandsIn pictures bytes form cells → StandsAs bytes form cells
+stands_as false bytes form cells stands = stands
+stands_as true bytes (Picture maxval) cells stands = stands
+stands_as true bytes (Clip form) cells stands = absurd stands
+
+pub picture_in : (pictures : Bool) (bytes : List ℕ) (form : Form) (cells : Cells) → StandsIn pictures bytes form cells → pictures ≡ true → IsPictureForm form
+picture_in false bytes form cells stands is = absurd (cc)
+picture_in true bytes (Picture maxval) cells stands is = tt
+picture_in true bytes (Clip form) cells stands is = stands
+
+module _ (pictures : Bool) (bytes : List ℕ) where
+  pub alone_in : (form : Form) (cells : Cells) → StandsIn pictures bytes form cells → IsOnePart cells
+  alone_in form cells stands = stands_alone MOST_SAMPLE_CELLS bytes form cells (stands_as pictures bytes form cells stands)
+
+  pub one_sample_in : (form other : Form) (cells others : Cells) → StandsIn pictures bytes form cells → StandsIn pictures bytes other others → SameSample form other cells others
+  one_sample_in form other cells others a b = one_sample MOST_SAMPLE_CELLS bytes form other cells others (stands_as pictures bytes form cells a) (stands_as pictures bytes other others b)
+
+pub stands_or_refused_in : (pictures : Bool) (bytes : List ℕ) (form : Form) (cells : Cells) (refusal : ReadError) → StandsIn pictures bytes form cells → RefusesIn pictures bytes refusal → ⊥
+stands_or_refused_in false bytes form cells refusal stands refuses = stands_or_refused MOST_SAMPLE_CELLS bytes form cells refusal stands refuses
+stands_or_refused_in true bytes (Picture maxval) cells refusal stands refuses = not_both bytes (record { maxval = maxval; volume = cells }) refusal stands refuses
+stands_or_refused_in true bytes (Clip form) cells refusal stands refuses = stands
+
+pub one_refusal_in : (pictures : Bool) (bytes : List ℕ) (first second : ReadError) → RefusesIn pictures bytes first → RefusesIn pictures bytes second → first ≡ second
+one_refusal_in false bytes first second = one_sample_refusal MOST_SAMPLE_CELLS bytes first second
+one_refusal_in true bytes first second = one_refusal bytes first second
+
 -- A sound sample alone.
 
 pub sound_first : (form : Form) (cells : Cells) → IsSoundIn form cells → AreSoundIn form cells
 sound_first (Picture maxval) cells s = record {
-  positive = s.positive;
-  fits = s.fits;
-  colours = s.colours;
-  frames = subst (λ more. AllByRecursion (λ (size : Size). size.f ≡ 1) (cells.size ∷ more)) (sym s.one) (s.frames, tt);
-  samples = s.samples;
+  positive = s.form.positive;
+  fits = s.form.fits;
+  colours = s.form.colours;
+  frames = subst (λ more. AllByRecursion (λ (size : Size). size.f ≡ 1) (cells.size ∷ more)) (sym s.form.one) (s.form.frames, tt);
+  samples = s.form.samples;
 }
 sound_first (Clip form) cells s = record { is_form = s.form; samples = s.samples }
 
@@ -118,12 +146,12 @@ one_space C420 C411 same = absurd (cc)
 one_space C420 C420 same = refl
 
 pub same_samples : (form own : Form) (cells part : Cells) → goes_with form own ≡ true → AreSoundIn form cells → IsSoundIn own part → part.k ≡ cells.k
-same_samples (Picture maxval) (Picture other) cells part alike s p = p.colours ∙ sym s.colours
+same_samples (Picture maxval) (Picture other) cells part alike s p = p.form.colours ∙ sym s.colours
 same_samples (Clip form) (Clip other) cells part alike s p = p.samples ∙ ap samples_of (sym (one_space form.space other.space alike)) ∙ sym s.samples
 same_samples (Picture maxval) (Clip other) cells part alike s p = absurd (cc)
 same_samples (Clip form) (Picture other) cells part alike s p = absurd (cc)
 
-each_behind : {X : Type 0} (P : X → Type 0) (xs : List X) (x : X) → AllByRecursion P xs → P x → AllByRecursion P (xs ++ x ∷ [])
+pub each_behind : {X : Type 0} (P : X → Type 0) (xs : List X) (x : X) → AllByRecursion P xs → P x → AllByRecursion P (xs ++ x ∷ [])
 each_behind P [] x all here = (here, tt)
 each_behind P (y ∷ xs) x all here = (all.0, each_behind P xs x all.1 here)
 
@@ -135,9 +163,9 @@ sound_joined (Picture maxval) (Picture other) cells part alike s p =
       positive = s.positive;
       fits = s.fits;
       colours = s.colours;
-      frames = each_behind (λ (size : Size). size.f ≡ 1) (sizes_of cells) part.size s.frames p.frames;
+      frames = each_behind (λ (size : Size). size.f ≡ 1) (sizes_of cells) part.size s.frames p.form.frames;
       samples = subst (All (λ b. b ≤ maxval)) (sym bytes)
-          (All-append (λ b. b ≤ maxval) (bytes_of cells) (bytes_of part) s.samples (subst (λ n. All (λ b. b ≤ n) (bytes_of part)) (sym one) p.samples));
+          (All-append (λ b. b ≤ maxval) (bytes_of cells) (bytes_of part) s.samples (subst (λ n. All (λ b. b ≤ n) (bytes_of part)) (sym one) p.form.samples));
     }
 sound_joined (Clip form) (Clip other) cells part alike s p = record { is_form = s.is_form; samples = s.samples }
 sound_joined (Picture maxval) (Clip other) cells part alike s p = absurd (cc)

@@ -1,12 +1,14 @@
 -- The samples read so far, and how the reading ends.
-use Rattle.std.proofs.Common.{◌≡◌, ℕ, zero, suc, ◌+◌, ◌*◌, ◌<◌, ◌≤◌, inl, inr, ◌++◌, List, [], ◌∷◌, length, get_or, take, refl, sym, ap, ◌∙◌, subst, arith, Bool, true, add-one}
+use Rattle.std.proofs.Common.{◌≡◌, ℕ, zero, suc, ◌+◌, ◌*◌, ◌<◌, ◌≤◌, inl, inr, ◌++◌, List, [], ◌∷◌, length, get_or, take, refl, sym, ap, ◌∙◌, subst, arith, true, add-one}
 use Rattle.std.specs.Prelude.{slice_get, Some, Err}
+use Rattle.std.specs.List.{AllByRecursion}
 use Rattle.std.proofs.Math.Seq.{take-suc}
 use Rattle.std.proofs.Common.{length-append}
 use Rattle.std.proofs.lemmas.List.{length-map, length-take-le}
 use Rattle.std.proofs.lemmas.Option.{slice_get-map, slice_get_read}
 use Rattle.limits.specs.declared.bounds.TheConstants.{MOST_PARTS, MOST_SAMPLE_CELLS}
 use Rattle.turned.specs.declared.turn.TheConstants.{TURNS}
+use Rattle.cells.specs.declared.place.Size.{Size}
 use Rattle.cells.specs.Cells.{Cells, count_of, sizes_of, with_part}
 use Rattle.cells.specs.PartLists.{parts_of}
 use Rattle.cells.proofs.Joining.{count_behind}
@@ -19,31 +21,34 @@ use Rattle.command.specs.Commands.{named, names_in}
 use Rattle.command.proofs.Asking.{turn_among}
 use Rattle.sample_files.specs.declared.form.Form.{Form}
 use Rattle.sample_files.specs.declared.sample.Sample.{Sample}
+use Rattle.sample_files.specs.declared.several.Asked.{Asked}
 use Rattle.sample_files.specs.declared.several.Samples.{Samples}
-use Rattle.sample_files.specs.Samples.{IsSampleOf, IsSoundIn, IsSoundSample, StandsAs, can_turn, goes_with}
-use Rattle.sample_files.specs.Several.{StandForSamples, AreSoundSamples, MayRefuseSamples, NoSampleRefused, RefusesFirst, RefusesNext, RefusesSamples, SamplesAreRefused, SamplesReadAs, StandAlike, StandForParts, StandsAlike, contents, numbered_files, sample_files, with_turns}
-use Rattle.sample_files.specs.Steps.{AreSoFar, IsFirstRead, IsFirstRefused, IsJoined, IsNextRead, IsNextRefused, IsStarted, NotFirst, NotNext}
-use Rattle.sample_files.proofs.OneSample.{count_alone, sound_alone, sound_count, sound_first, sound_joined}
-use Rattle.sample_files.proofs.Joined.{parts_alone}
+use Rattle.sample_files.specs.Samples.{IsPictureForm, IsSampleIn, IsSoundIn, StandsIn, can_turn}
+use Rattle.sample_files.specs.Several.{AreSoundSamples, AreSoundSeveral, GoesAfter, MayRefuseSamples, NoneRefusedOf, RefusesFirst, RefusesNext, RefusesSeveral, SeveralAreRefused, SeveralReadAs, StandAlike, StandForParts, StandForSeveral, StandsAlike, contents, numbered_files, sample_files, with_turns}
+use Rattle.sample_files.specs.Steps.{IsFirstRead, IsFirstRefused, IsJoined, IsNextRead, IsNextRefused, IsSoundRead, IsStarted, NotFirst, NotNext}
+use Rattle.sample_files.proofs.OneSample.{count_alone, each_behind, sound_alone, sound_count, sound_first, sound_joined}
+use Rattle.sample_files.proofs.Joined.{first_part_size, parts_alone}
 use Rattle.sample_files.proofs.OneAnswer.{none_at_first, none_refused}
 use Rattle.sample_files.proofs.Turning.{with_turns-least}
 
 -- Joining.
 
-pub joined : (turns : Bool) (samples : Samples) (sample : Sample) (after : Samples) → AreSoFar turns samples → IsSoundSample sample → goes_with samples.form sample.form ≡ true
-    → with_turns turns (count_of samples.volume + count_of sample.volume) ≤ MOST_SAMPLE_CELLS → after.form ≡ samples.form → after.volume ≡ with_part samples.volume sample.volume
-    → parts_of after.volume ≡ parts_of samples.volume ++ sample.volume ∷ [] → IsJoined turns samples sample after
-joined turns samples sample after s p alike fits form volume parts = record {
-  alike = alike;
+pub joined : (asked : Asked) (samples : Samples) (sample : Sample) (after : Samples) → AreSoundSeveral asked samples → IsSoundRead asked sample → GoesAfter asked samples sample
+    → with_turns asked.turns (count_of samples.volume + count_of sample.volume) ≤ MOST_SAMPLE_CELLS → after.form ≡ samples.form → after.volume ≡ with_part samples.volume sample.volume
+    → parts_of after.volume ≡ parts_of samples.volume ++ sample.volume ∷ [] → IsJoined asked samples sample after
+joined asked samples sample after s p goes fits form volume parts = record {
+  goes = goes;
   form = form;
   sizes = ap sizes_of volume;
   parts = parts;
-  so_far = subst (AreSoFar turns) (sym after_is) (record {
+  so_far = subst (AreSoundSeveral asked) (sym after_is) (record {
     sound = record {
-      form = sound_joined samples.form sample.form samples.volume sample.volume alike s.sound.form p;
-      fits = with_turns-least turns (count_of (with_part samples.volume sample.volume)) MOST_SAMPLE_CELLS within;
+      form = sound_joined samples.form sample.form samples.volume sample.volume goes.alike s.sound.form p.sound;
+      fits = with_turns-least asked.turns (count_of (with_part samples.volume sample.volume)) MOST_SAMPLE_CELLS within;
     };
     fits = within;
+    pictures = s.pictures;
+    one_size = λ on. each_behind (λ (size : Size). size ≡ samples.volume.size) samples.volume.more sample.volume.size (s.one_size on) (goes.sized on);
   });
 }
   where
@@ -52,41 +57,44 @@ joined turns samples sample after s p alike fits form volume parts = record {
 
     count : count_of samples.volume + count_of sample.volume ≡ count_of (with_part samples.volume sample.volume)
     count = (let more = count_behind samples.volume.size samples.volume.more sample.volume.size in
-        let alone = count_alone sample.volume (sound_alone sample.form sample.volume p) in
+        let alone = count_alone sample.volume (sound_alone sample.form sample.volume p.sound) in
         omega (arith, more, alone))
 
-    within : with_turns turns (count_of (with_part samples.volume sample.volume)) ≤ MOST_SAMPLE_CELLS
-    within = subst (λ n. with_turns turns n ≤ MOST_SAMPLE_CELLS) count fits
+    within : with_turns asked.turns (count_of (with_part samples.volume sample.volume)) ≤ MOST_SAMPLE_CELLS
+    within = subst (λ n. with_turns asked.turns n ≤ MOST_SAMPLE_CELLS) count fits
 
 -- One sample more stands.
 
-alike_behind : (form : Form) (files : List (List ℕ)) (parts : List Cells) (bytes : List ℕ) (own : Cells) → StandAlike form files parts → StandsAlike form bytes own → StandAlike form (files ++ bytes ∷ []) (parts ++ own ∷ [])
-alike_behind form [] [] bytes own a here = (here, tt)
-alike_behind form [] (p ∷ parts) bytes own a here = absurd a
-alike_behind form (file ∷ files) [] bytes own a here = absurd a
-alike_behind form (file ∷ files) (p ∷ parts) bytes own a here = (a.0, alike_behind form files parts bytes own a.1 here)
+alike_behind : (asked : Asked) (form : Form) (size : Size) (files : List (List ℕ)) (parts : List Cells) (bytes : List ℕ) (own : Cells) → StandAlike asked form size files parts → StandsAlike asked form size bytes own
+    → StandAlike asked form size (files ++ bytes ∷ []) (parts ++ own ∷ [])
+alike_behind asked form size [] [] bytes own a here = (here, tt)
+alike_behind asked form size [] (p ∷ parts) bytes own a here = absurd a
+alike_behind asked form size (file ∷ files) [] bytes own a here = absurd a
+alike_behind asked form size (file ∷ files) (p ∷ parts) bytes own a here = (a.0, alike_behind asked form size files parts bytes own a.1 here)
 
-parts_behind : (form : Form) (first : List ℕ) (files : List (List ℕ)) (parts : List Cells) (bytes : List ℕ) (own : Cells) → StandForParts form first files parts → StandsAlike form bytes own
-    → StandForParts form first (files ++ bytes ∷ []) (parts ++ own ∷ [])
-parts_behind form first files [] bytes own a here = absurd a
-parts_behind form first files (p ∷ parts) bytes own a here = (a.0, alike_behind form files parts bytes own a.1 here)
+parts_behind : (asked : Asked) (form : Form) (size : Size) (first : List ℕ) (files : List (List ℕ)) (parts : List Cells) (bytes : List ℕ) (own : Cells) → ((p : Cells) (rest : List Cells) → p ∷ rest ≡ parts → p.size ≡ size)
+    → StandForParts asked form first files parts → StandsAlike asked form size bytes own → StandForParts asked form first (files ++ bytes ∷ []) (parts ++ own ∷ [])
+parts_behind asked form size first files [] bytes own its a here = absurd a
+parts_behind asked form size first files (p ∷ parts) bytes own its a here =
+    (a.0, alike_behind asked form p.size files parts bytes own a.1 (subst (λ s. StandsAlike asked form s bytes own) (sym (its p parts refl)) here))
 
-stand_more : (turns : Bool) (first : List ℕ) (files : List (List ℕ)) (bytes : List ℕ) (before after : Samples) (sample : Sample) → StandForSamples turns first files before → IsSampleOf bytes sample → IsJoined turns before sample after
-    → (turns ≡ true → TURNS * (length (files ++ bytes ∷ []) + 1) ≤ MOST_PARTS) → StandForSamples turns first (files ++ bytes ∷ []) after
-stand_more turns first files bytes before after sample a read j few = record {
-  parts = subst (λ f. StandForParts f first (files ++ bytes ∷ []) (parts_of after.volume)) (sym j.form)
-      (subst (StandForParts before.form first (files ++ bytes ∷ [])) (sym j.parts)
-      (parts_behind before.form first files (parts_of before.volume) bytes sample.volume a.parts (record { own = sample.form; alike = j.alike; stands = read })));
+stand_more : (asked : Asked) (first : List ℕ) (files : List (List ℕ)) (bytes : List ℕ) (before after : Samples) (sample : Sample) → StandForSeveral asked first files before → IsSampleIn asked.pictures bytes sample
+    → IsJoined asked before sample after → (asked.turns ≡ true → TURNS * (length (files ++ bytes ∷ []) + 1) ≤ MOST_PARTS) → StandForSeveral asked first (files ++ bytes ∷ []) after
+stand_more asked first files bytes before after sample a read j few = record {
+  parts = subst (λ f. StandForParts asked f first (files ++ bytes ∷ []) (parts_of after.volume)) (sym j.form)
+      (subst (StandForParts asked before.form first (files ++ bytes ∷ [])) (sym j.parts)
+      (parts_behind asked before.form before.volume.size first files (parts_of before.volume) bytes sample.volume (λ p rest is. first_part_size before.volume p rest is) a.parts
+      (record { own = sample.form; goes = j.goes; stands = read })));
   few = few;
   pixels = λ is. subst (λ f. can_turn f ≡ true) (sym j.form) (a.pixels is);
   fits = j.so_far.fits;
 }
 
 -- the samples of the first file
-stand_first : (turns : Bool) (bytes : List ℕ) (sample : Sample) (samples : Samples) → IsSampleOf bytes sample → IsStarted turns sample samples → StandForSamples turns bytes [] samples
-stand_first turns bytes sample samples read started = record {
-  parts = subst (StandForParts samples.form bytes []) (sym (parts_alone samples.volume started.one))
-      (subst (λ f. StandsAs bytes f samples.volume) (sym started.form) (subst (StandsAs bytes sample.form) (sym started.volume) read), tt);
+stand_first : (asked : Asked) (bytes : List ℕ) (sample : Sample) (samples : Samples) → IsSampleIn asked.pictures bytes sample → IsStarted asked sample samples → StandForSeveral asked bytes [] samples
+stand_first asked bytes sample samples read started = record {
+  parts = subst (StandForParts asked samples.form bytes []) (sym (parts_alone samples.volume started.one))
+      (subst (λ f. StandsIn asked.pictures bytes f samples.volume) (sym started.form) (subst (StandsIn asked.pictures bytes sample.form) (sym started.volume) read), tt);
   few = λ is. omega arith;
   pixels = λ is. subst (λ f. can_turn f ≡ true) (sym started.form) (started.pixels is);
   fits = started.so_far.fits;
@@ -94,6 +102,15 @@ stand_first turns bytes sample samples read started = record {
 
 pub sound_start : (form : Form) (volume : Cells) → IsSoundIn form volume → AreSoundSamples (record { form = form; volume = volume })
 sound_start form volume s = record { form = sound_first form volume s; fits = sound_count form volume s }
+
+pub several_start : (asked : Asked) (form : Form) (volume : Cells) → IsSoundIn form volume → (asked.pictures ≡ true → IsPictureForm form) → with_turns asked.turns (count_of volume) ≤ MOST_SAMPLE_CELLS
+    → AreSoundSeveral asked (record { form = form; volume = volume })
+several_start asked form volume s pictures fits = record {
+  sound = sound_start form volume s;
+  fits = fits;
+  pictures = pictures;
+  one_size = λ on. subst (AllByRecursion (λ (size : Size). size ≡ volume.size)) (sym (sound_alone form volume s)) tt;
+}
 
 contents_more : (files : Files) (names : List (List ℕ)) (i : ℕ) (name : List ℕ) → i < length names → name ≡ get_or names i name → contents files (take (i + 1) names) ≡ contents files (take i names) ++ content_of files name ∷ []
 contents_more files names i name lt is =
@@ -106,25 +123,25 @@ contents_more files names i name lt is =
 
 -- Reading.
 
-abbrev pub AreReadSoFar : Bool → List ℕ → List (List ℕ) → Samples → ShelfState → ShelfState → Type 0
-AreReadSoFar turns first names samples was now = Changes was now (λ before after. StandForSamples turns (content_of before first) (contents before names) samples)
+abbrev pub AreReadSoFar : Asked → List ℕ → List (List ℕ) → Samples → ShelfState → ShelfState → Type 0
+AreReadSoFar asked first names samples was now = Changes was now (λ before after. StandForSeveral asked (content_of before first) (contents before names) samples)
 
-module _ {asked : List (List ℕ)} (was mid now : ShelfState) (reads : OnlyReads asked was mid) where
+module _ {those : List (List ℕ)} (was mid now : ShelfState) (reads : OnlyReads those was mid) where
   -- what is known of the files as they are is known of them as they were
   later : (P : Files → Type 0) → Changes mid now (λ before after. P before) → Changes was now (λ before after. P before)
   later P known = told_then (λ before after. after ≡ before) (λ before after. P before) (λ before after. P before) was.files mid.files now.files
       (λ x y z same p. subst P same p) reads.files known
 
-  pub read_more : (turns : Bool) (first : List ℕ) (names : List (List ℕ)) (i : ℕ) (name : List ℕ) (before after : Samples) → i < length names → name ≡ get_or names i name
-      → (turns ≡ true → TURNS * (length names + 1) ≤ MOST_PARTS) → AreReadSoFar turns first (take i names) before was mid → IsNextRead turns before name mid now after → AreReadSoFar turns first (take (i + 1) names) after was now
-  read_more turns first names i name before after lt is few so_far next =
-      told_then (λ x y. (y ≡ x) × StandForSamples turns (content_of x first) (contents x (take i names)) before) (λ x y. IsSampleOf (content_of x name) next.sample)
-      (λ x y. StandForSamples turns (content_of x first) (contents x (take (i + 1) names)) after) was.files mid.files now.files
-      (λ x y z same read. subst (λ files. StandForSamples turns (content_of x first) files after) (sym (contents_more x names i name lt is))
-      (stand_more turns (content_of x first) (contents x (take i names)) (content_of x name) before after next.sample same.1 (subst (λ f. IsSampleOf (content_of f name) next.sample) same.0 read) next.joined (few_so_far x)))
-      (told_both (λ x y. y ≡ x) (λ x y. StandForSamples turns (content_of x first) (contents x (take i names)) before) was.files mid.files reads.files so_far) next.read
+  pub read_more : (asked : Asked) (first : List ℕ) (names : List (List ℕ)) (i : ℕ) (name : List ℕ) (before after : Samples) → i < length names → name ≡ get_or names i name
+      → (asked.turns ≡ true → TURNS * (length names + 1) ≤ MOST_PARTS) → AreReadSoFar asked first (take i names) before was mid → IsNextRead asked before name mid now after → AreReadSoFar asked first (take (i + 1) names) after was now
+  read_more asked first names i name before after lt is few so_far next =
+      told_then (λ x y. (y ≡ x) × StandForSeveral asked (content_of x first) (contents x (take i names)) before) (λ x y. IsSampleIn asked.pictures (content_of x name) next.sample)
+      (λ x y. StandForSeveral asked (content_of x first) (contents x (take (i + 1) names)) after) was.files mid.files now.files
+      (λ x y z same read. subst (λ files. StandForSeveral asked (content_of x first) files after) (sym (contents_more x names i name lt is))
+      (stand_more asked (content_of x first) (contents x (take i names)) (content_of x name) before after next.sample same.1 (subst (λ f. IsSampleIn asked.pictures (content_of f name) next.sample) same.0 read) next.joined (few_so_far x)))
+      (told_both (λ x y. y ≡ x) (λ x y. StandForSeveral asked (content_of x first) (contents x (take i names)) before) was.files mid.files reads.files so_far) next.read
     where
-      few_so_far : (x : Files) → turns ≡ true → TURNS * (length (contents x (take i names) ++ content_of x name ∷ []) + 1) ≤ MOST_PARTS
+      few_so_far : (x : Files) → asked.turns ≡ true → TURNS * (length (contents x (take i names) ++ content_of x name ∷ []) + 1) ≤ MOST_PARTS
       few_so_far x on =
           let so_many = length-append (contents x (take i names)) (content_of x name ∷ []) in
           let mapped = length-map (take i names) (content_of x) in
@@ -185,26 +202,26 @@ known_in m n (NoLoop length) le k = absurd k
 
 -- The first sample.
 
-pub read_one : (turns : Bool) (first : List ℕ) (samples : Samples) (was now : ShelfState) → IsFirstRead turns first was now samples → AreReadSoFar turns first [] samples was now
-read_one turns first samples was now one = told_weaker (λ before after. IsSampleOf (content_of before first) one.sample) (λ before after. StandForSamples turns (content_of before first) [] samples) was.files now.files
-    (λ before after read. stand_first turns (content_of before first) one.sample samples read one.started) one.read
+pub read_one : (asked : Asked) (first : List ℕ) (samples : Samples) (was now : ShelfState) → IsFirstRead asked first was now samples → AreReadSoFar asked first [] samples was now
+read_one asked first samples was now one = told_weaker (λ before after. IsSampleIn asked.pictures (content_of before first) one.sample) (λ before after. StandForSeveral asked (content_of before first) [] samples) was.files now.files
+    (λ before after read. stand_first asked (content_of before first) one.sample samples read one.started) one.read
 
-module _ {names : List (List ℕ)} (turns : Bool) (first : List ℕ) (more : List (List ℕ)) (was now : ShelfState) (reads : OnlyReads names was now) where
-  first_refused : (fault : Fault) → IsFirstRefused turns first was now fault → SamplesAreRefused turns first more fault was now
+module _ {names : List (List ℕ)} (asked : Asked) (first : List ℕ) (more : List (List ℕ)) (was now : ShelfState) (reads : OnlyReads names was now) where
+  first_refused : (fault : Fault) → IsFirstRefused asked first was now fault → SeveralAreRefused asked first more fault was now
   first_refused fault r = record {
     known = known_in 1 (length more + 1) fault (omega arith) r.known;
-    refused = told_weaker (λ before after. RefusesFirst turns (content_of before first) fault) (λ before after. (n : ℕ) × RefusesSamples turns n (content_of before first) (contents before more) fault) was.files now.files
+    refused = told_weaker (λ before after. RefusesFirst asked (content_of before first) fault) (λ before after. (n : ℕ) × RefusesSeveral asked n (content_of before first) (contents before more) fault) was.files now.files
         (λ before after refused. (1, inl (refl, refused))) r.refused;
   }
 
-  pub first_unread : (fault : Fault) → NotFirst turns first was now fault → SamplesReadAs turns first more was now (Err fault)
+  pub first_unread : (fault : Fault) → NotFirst asked first was now fault → SeveralReadAs asked first more was now (Err fault)
   first_unread (Read its) left = record {
     turn = 0;
     name = first;
     has_turn = ap (λ p. Some (named p first)) (sym left.0);
     rose = left.1;
-    earlier = told_weaker (λ before after. after ≡ before) (λ before after. NoSampleRefused turns 0 (content_of before first) (contents before more)) was.files now.files
-        (λ before after same. none_at_first turns (content_of before first) (contents before more)) reads.files;
+    earlier = told_weaker (λ before after. after ≡ before) (λ before after. NoneRefusedOf asked 0 (content_of before first) (contents before more)) was.files now.files
+        (λ before after same. none_at_first asked (content_of before first) (contents before more)) reads.files;
   }
   first_unread NoMemory left = tt
   first_unread (FormFault its why) left = first_refused (FormFault its why) left
@@ -217,8 +234,8 @@ module _ {names : List (List ℕ)} (turns : Bool) (first : List ℕ) (more : Lis
 
 -- A further sample.
 
-module _ {asked : List (List ℕ)} (turns : Bool) (first : List ℕ) (names : List (List ℕ)) (i : ℕ) (name : List ℕ) (before : Samples) (was mid now : ShelfState) (lt : i < length names) (is : name ≡ get_or names i name)
-    (reads : OnlyReads asked was mid) (so_far : AreReadSoFar turns first (take i names) before was mid) where
+module _ {those : List (List ℕ)} (asked : Asked) (first : List ℕ) (names : List (List ℕ)) (i : ℕ) (name : List ℕ) (before : Samples) (was mid now : ShelfState) (lt : i < length names) (is : name ≡ get_or names i name)
+    (reads : OnlyReads those was mid) (so_far : AreReadSoFar asked first (take i names) before was mid) where
   get : slice_get names i ≡ Some name
   get = slice_get_read names (length names) i name refl lt is
 
@@ -232,18 +249,18 @@ module _ {asked : List (List ℕ)} (turns : Bool) (first : List ℕ) (names : Li
   contents_front files (x ∷ xs) (suc n) = ap (λ ys. content_of files x ∷ ys) (contents_front files xs n)
 
   abbrev SoFar : Files → Files → Type 0
-  SoFar x y = StandForSamples turns (content_of x first) (take i (contents x names)) before
+  SoFar x y = StandForSeveral asked (content_of x first) (take i (contents x names)) before
 
-  then_front : AreReadSoFar turns first (take i names) before was mid → Changes was mid (λ x y. (y ≡ x) × SoFar x y)
+  then_front : AreReadSoFar asked first (take i names) before was mid → Changes was mid (λ x y. (y ≡ x) × SoFar x y)
   then_front known = told_both (λ x y. y ≡ x) SoFar was.files mid.files reads.files
-      (told_weaker (λ x y. StandForSamples turns (content_of x first) (contents x (take i names)) before) SoFar was.files mid.files
-      (λ x y a. subst (λ files. StandForSamples turns (content_of x first) files before) (contents_front x names i) a) known)
+      (told_weaker (λ x y. StandForSeveral asked (content_of x first) (contents x (take i names)) before) SoFar was.files mid.files
+      (λ x y a. subst (λ files. StandForSeveral asked (content_of x first) files before) (contents_front x names i) a) known)
 
-  refused : (fault : Fault) → IsNextRefused turns before (i + 2) name mid now fault → SamplesAreRefused turns first names fault was now
+  refused : (fault : Fault) → IsNextRefused asked before (i + 2) name mid now fault → SeveralAreRefused asked first names fault was now
   refused fault r = record {
     known = known_in (i + 2) (length names + 1) fault (omega arith) r.known;
-    refused = told_then (λ x y. (y ≡ x) × SoFar x y) (λ x y. RefusesNext turns before (i + 2) (content_of x name) fault)
-        (λ x y. (n : ℕ) × RefusesSamples turns n (content_of x first) (contents x names) fault) was.files mid.files now.files
+    refused = told_then (λ x y. (y ≡ x) × SoFar x y) (λ x y. RefusesNext asked before (i + 2) (content_of x name) fault)
+        (λ x y. (n : ℕ) × RefusesSeveral asked n (content_of x first) (contents x names) fault) was.files mid.files now.files
         (λ x y z same next. (
           i + 2,
           inr (record {
@@ -253,20 +270,20 @@ module _ {asked : List (List ℕ)} (turns : Bool) (first : List ℕ) (names : Li
             its = contents_get x;
             before = before;
             stand = same.1;
-            refused = subst (λ f. RefusesNext turns before (i + 2) (content_of f name) fault) same.0 next;
+            refused = subst (λ f. RefusesNext asked before (i + 2) (content_of f name) fault) same.0 next;
           }),
         )) (then_front so_far) r.refused;
   }
 
-  pub next_unread : {later : List (List ℕ)} → OnlyReads later mid now → (fault : Fault) → NotNext turns before (i + 2) name mid now fault → SamplesReadAs turns first names was now (Err fault)
+  pub next_unread : {later : List (List ℕ)} → OnlyReads later mid now → (fault : Fault) → NotNext asked before (i + 2) name mid now fault → SeveralReadAs asked first names was now (Err fault)
   next_unread then_reads (Read its) left = record {
     turn = i + 1;
     name = name;
     has_turn = (let same : 2 + i ≡ i + 2 = omega arith in rw (add-one i)
         (numbered names 2 i name get ∙ ap (λ m. Some (named (part.More m) name)) same ∙ ap (λ p. Some (named p name)) (sym left.0)));
     rose = rose_later (was.reads name) (mid.reads name) (now.reads name) (reads.reads name) left.1;
-    earlier = told_then (λ x y. (y ≡ x) × SoFar x y) (λ x y. y ≡ x) (λ x y. NoSampleRefused turns (i + 1) (content_of x first) (contents x names)) was.files mid.files now.files
-        (λ x y z same then_same. none_refused turns (content_of x first) (contents x names) i before same.1) (then_front so_far) then_reads.files;
+    earlier = told_then (λ x y. (y ≡ x) × SoFar x y) (λ x y. y ≡ x) (λ x y. NoneRefusedOf asked (i + 1) (content_of x first) (contents x names)) was.files mid.files now.files
+        (λ x y z same then_same. none_refused asked (content_of x first) (contents x names) i before same.1) (then_front so_far) then_reads.files;
   }
   next_unread then_reads NoMemory left = tt
   next_unread then_reads (FormFault its why) left = refused (FormFault its why) left

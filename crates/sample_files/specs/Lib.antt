@@ -2,3 +2,4 @@ pub mod Samples
 pub mod Outputs
 pub mod Several
 pub mod Steps
+pub mod Targets

@@ -99,6 +99,29 @@ SampleReadsAs name was now (Ok sample) =
     Changes was now (λ before after. IsSampleOf (content_of before name) sample)
 SampleReadsAs name was now (Err error) = FailsToRead RefusesSample name was now error
 
+-- Where pictures alone may be asked for.
+
+-- a form of pictures
+abbrev pub IsPictureForm : Form → Type 0
+IsPictureForm (Picture maxval) = Unit {0}
+IsPictureForm (Clip form) = ⊥
+
+-- the bytes stand for these cells in this form: as a picture where pictures alone are asked for
+-- (true), and otherwise as a sample
+abbrev pub StandsIn : Bool → List ℕ → Form → Cells → Type 0
+StandsIn false bytes form cells = StandsAs bytes form cells
+StandsIn true bytes (Picture maxval) cells =
+    IsRead bytes (record { maxval = maxval; volume = cells })
+StandsIn true bytes (Clip form) cells = ⊥
+
+abbrev pub IsSampleIn : Bool → List ℕ → Sample → Type 0
+IsSampleIn pictures bytes sample = StandsIn pictures bytes sample.form sample.volume
+
+-- the refusal of bytes that stand for none
+abbrev pub RefusesIn : Bool → List ℕ → ReadError → Type 0
+RefusesIn false bytes error = RefusesSample bytes error
+RefusesIn true bytes error = Refuses bytes error
+
 -- What is read.
 
 -- what every sample that is read is, whether or not the shelf tells its files

@@ -24,7 +24,8 @@ fn has_pixel_cells(space: SpaceKind) -> bool
 }
 
 impl Form {
-    /// Whether the cells of a sample in this form can be turned: each is one pixel, which a turn moves as a whole.
+    /// Whether the cells of a sample in this form can be turned: each is one pixel, which a turn moves
+    /// as a whole.
     pub fn can_turn(&self) -> bool
         ensures { result ≡ can_turn self.now }
     {

@@ -2,8 +2,8 @@
 ghost use Rattle.std.specs.Prelude.{◌≡◌, ◌≤◌, true, false, IfOk, OnErr};
 ghost use Rattle.shelf_core.specs.Files.{InFile, OnlyReadsFile, ReadsRose};
 ghost use Rattle.limits.specs.declared.bounds.TheConstants.{MOST_CELLS};
-ghost use Rattle.sample_files.specs.Samples.{IsSoundSample, IsSoundSampleWithin, SampleReadsAs, SampleReadsWithin, begins_clip};
-ghost use Rattle.sample_files.specs.Steps.{ReadsInForm};
+ghost use Rattle.sample_files.specs.Samples.{IsPictureForm, IsSoundSample, IsSoundSampleWithin, SampleReadsAs, SampleReadsWithin, begins_clip};
+ghost use Rattle.sample_files.specs.Steps.{ReadsInForm, SampleReadsIn};
 
 use crate::form::Form;
 use cells::Volume;
@@ -57,7 +57,9 @@ fn read_as_clip<S: Shelf>(
 fn read_as_picture<S: Shelf>(alloc: Global, shelf: &mut S, name: &str) -> Result<Sample, ReadError>
     ensures answer { (most : _) → ReadsInForm false most name.now
         (S.state shelf.old) (S.state shelf.new) result }
+    ensures alone { SampleReadsIn true name.now (S.state shelf.old) (S.state shelf.new) result }
     ensures sound { (most : _) → IfOk result (IsSoundSampleWithin most) }
+    ensures picture { IfOk result (λ sample. IsPictureForm sample.form) }
     ensures reads { OnlyReadsFile name.now (S.state shelf.old) (S.state shelf.new) }
 {
     match read_p6(alloc, shelf, name) {
@@ -98,4 +100,23 @@ pub fn read_sample<S: Shelf>(alloc: Global, shelf: &mut S, name: &str) -> Result
     ensures reads { OnlyReadsFile name.now (S.state shelf.old) (S.state shelf.new) }
 {
     read_sample_within(alloc, shelf, name, MOST_SAMPLE_CELLS)
+}
+
+/// Reads a file as a picture, where pictures alone are asked for, and otherwise as a sample.
+pub(crate) fn read_sample_in<S: Shelf>(
+    alloc: Global,
+    shelf: &mut S,
+    pictures: bool,
+    name: &str,
+) -> Result<Sample, ReadError>
+    ensures answer { SampleReadsIn pictures name.now
+        (S.state shelf.old) (S.state shelf.new) result }
+    ensures sound { IfOk result IsSoundSample }
+    ensures picture { IfOk result (λ sample. pictures ≡ true → IsPictureForm sample.form) }
+    ensures reads { OnlyReadsFile name.now (S.state shelf.old) (S.state shelf.new) }
+{
+    if pictures {
+        return read_as_picture(alloc, shelf, name);
+    }
+    read_sample(alloc, shelf, name)
 }

@@ -1,18 +1,17 @@
-// The samples of a run as one volume.
-ghost use Rattle.std.specs.Prelude.{◌≡◌, ◌≤◌, ◌<◌, ◌+◌, ◌*◌, true, length, IfOk};
-ghost use Rattle.cells.specs.Cells.{IsVolume, count_of, sizes_of};
+// Several files as one volume.
+ghost use Rattle.std.specs.Prelude.{◌≡◌, ◌≤◌, ◌<◌, ◌+◌, ◌*◌, ◌↔◌, true, length, IfOk, IsTrue};
+ghost use Rattle.cells.specs.Cells.{IsOnePart, IsVolume, count_of, sizes_of};
 ghost use Rattle.limits.specs.declared.bounds.TheConstants.{MOST_CELLS, MOST_PARTS, MOST_SAMPLE_CELLS};
 ghost use Rattle.shelf_core.specs.Files.{OnlyReads, OnlyReadsFile};
 ghost use Rattle.shelf_core.specs.declared.fault.What.TheVariants.{Cells as CellsLimit};
 ghost use Rattle.turned.specs.declared.turn.TheConstants.{TURNS};
 ghost use Rattle.command.specs.Commands.{names_in};
 ghost use Rattle.command.specs.Stages.{AsksBound};
-ghost use Rattle.sample_files.specs.Samples.{IsSoundSample};
-ghost use Rattle.sample_files.specs.Several.{AreSoundSamples, AsksParts, SamplesReadAs, sample_files, with_turns};
-ghost use Rattle.sample_files.specs.Steps.{AreSoFar, FirstReadsAs, Joins, NextReadsAs, Starts};
+ghost use Rattle.sample_files.specs.Several.{AreSoundSamples, AreSoundSeveral, AsksParts, GoesAfter, SamplesReadAs, SeveralReadAs, sample_files, with_turns};
+ghost use Rattle.sample_files.specs.Steps.{FirstReadsAs, IsSoundRead, Joins, NextReadsAs, Starts};
 
 use crate::form::Form;
-use crate::sample::{Sample, read_sample};
+use crate::sample::{Sample, read_sample_in};
 use cells::Volume;
 use command::read_fault;
 use job_words::Name;
@@ -22,8 +21,20 @@ use std::alloc::Global;
 use synth_report::{Fault, FileOf};
 use turned::TURNS;
 
-/// The samples of a run: the form of the first, and a volume whose parts are their volumes, in the
-/// order of their numbers.
+/// What is asked of several files that are read in the order of their numbers, beside that the form
+/// of each goes with that of the first.
+#[derive(Clone, Copy)]
+pub struct Asked {
+    /// Each is a P6 picture: a clip is refused as a picture of a wrong form at byte 0.
+    pub pictures: bool,
+    /// Each has the size of the first.
+    pub one_size: bool,
+    /// Their turns are to be samples too, which count as further parts and cells.
+    pub turns: bool,
+}
+
+/// The samples that files stand for: the form of the first, and a volume whose parts are their
+/// volumes, in the order of their numbers.
 #[derive(Drop)]
 pub struct Samples {
     pub form: Form,
@@ -80,17 +91,17 @@ fn cells_within(turns: bool, count: usize) -> Result<(), Fault>
 }
 
 // Takes the first sample as the samples so far.
-fn start(turns: bool, sample: Sample) -> Result<Samples, Fault>
-    requires { IsSoundSample sample }
-    ensures { Starts turns sample result }
+fn start(asked: Asked, sample: Sample) -> Result<Samples, Fault>
+    requires { IsSoundRead asked sample }
+    ensures { Starts asked sample result }
 {
-    if turns && !sample.form.can_turn() {
+    if asked.turns && !sample.form.can_turn() {
         return Err(Fault::Form {
             file: FileOf::Sample,
             why: FormFault::Space,
         });
     }
-    cells_within(turns, cells_in(&sample.volume))?;
+    cells_within(asked.turns, cells_in(&sample.volume))?;
     let Sample { form, volume } = sample;
     Ok(Samples { form, volume })
 }
@@ -99,31 +110,40 @@ fn start(turns: bool, sample: Sample) -> Result<Samples, Fault>
 fn read_first<S: Shelf>(
     alloc: Global,
     shelf: &mut S,
-    turns: bool,
+    asked: Asked,
     name: &str,
 ) -> Result<Samples, Fault>
-    ensures answer { FirstReadsAs turns name.now (S.state shelf.old) (S.state shelf.new) result }
+    ensures answer { FirstReadsAs asked name.now (S.state shelf.old) (S.state shelf.new) result }
     ensures reads { OnlyReadsFile name.now (S.state shelf.old) (S.state shelf.new) }
 {
-    let sample = match read_sample(alloc, shelf, name) {
+    let sample = match read_sample_in(alloc, shelf, asked.pictures, name) {
         Ok(sample) => sample,
         Err(error) => return Err(read_fault(FileOf::Sample, error)),
     };
-    start(turns, sample)
+    start(asked, sample)
+}
+
+// Whether a further sample goes with those before it.
+fn goes_after(asked: Asked, samples: &Samples, sample: &Sample) -> bool
+    requires { IsOnePart sample.now.volume }
+    ensures { IsTrue result ↔ GoesAfter asked samples.now sample.now }
+{
+    samples.form.goes_with(&sample.form)
+        && (!asked.one_size || sample.volume.size() == samples.volume.sizes().at(1))
 }
 
 // Joins the sample of a number, from 2 on, to those before it.
-fn join(turns: bool, samples: &mut Samples, sample: &Sample, number: u8) -> Result<(), Fault>
-    requires so_far { AreSoFar turns samples.old }
-    requires next { IsSoundSample sample.now }
+fn join(asked: Asked, samples: &mut Samples, sample: &Sample, number: u8) -> Result<(), Fault>
+    requires so_far { AreSoundSeveral asked samples.old }
+    requires next { IsSoundRead asked sample.now }
     requires few { length (sizes_of samples.old.volume) < MOST_PARTS }
-    ensures { Joins turns number samples.old sample.now samples.new result }
+    ensures { Joins asked number samples.old sample.now samples.new result }
 {
-    if !samples.form.goes_with(&sample.form) {
+    if !goes_after(asked, samples, sample) {
         return Err(Fault::Unlike(FileOf::More(number)));
     }
     let count = cells_in(&samples.volume) + cells_in(&sample.volume);
-    cells_within(turns, count)?;
+    cells_within(asked.turns, count)?;
     samples.volume.add_part(&sample.volume)?;
     Ok(())
 }
@@ -132,30 +152,63 @@ fn join(turns: bool, samples: &mut Samples, sample: &Sample, number: u8) -> Resu
 fn read_next<S: Shelf>(
     alloc: Global,
     shelf: &mut S,
-    turns: bool,
+    asked: Asked,
     name: &str,
     number: u8,
     samples: &mut Samples,
 ) -> Result<(), Fault>
-    requires so_far { AreSoFar turns samples.old }
+    requires so_far { AreSoundSeveral asked samples.old }
     requires few { length (sizes_of samples.old.volume) < MOST_PARTS }
     requires number { 2 ≤ number }
-    ensures answer { NextReadsAs turns samples.old number name.now
+    ensures answer { NextReadsAs asked samples.old number name.now
         (S.state shelf.old) (S.state shelf.new) samples.new result }
     ensures reads { OnlyReadsFile name.now (S.state shelf.old) (S.state shelf.new) }
 {
-    let sample = match read_sample(alloc, shelf, name) {
+    let sample = match read_sample_in(alloc, shelf, asked.pictures, name) {
         Ok(sample) => sample,
         Err(error) => return Err(read_fault(FileOf::More(number), error)),
     };
-    join(turns, samples, &sample, number)
+    join(asked, samples, &sample, number)
 }
 
-/// Reads the samples of a run in the order of their numbers, each to its end, with the refusals of
-/// their forms. With turns there are at most 2, as `parts_within` asks; the first is refused where its cells can't be turned, and then where its turns
-/// have too many cells. A further sample is refused where it doesn't go with the first, and then where all
-/// so far have too many cells together, with their turns. No file is read after a refusal. The samples are
-/// as they were read: none is turned.
+/// Reads files in the order of their numbers, each to its end, with the refusals of their forms, as
+/// is asked of them. With turns there are at most 2, as `parts_within` asks; the first is refused where
+/// its cells can't be turned, and then where its turns have too many cells. A further one is refused
+/// where it doesn't go with the first, and then where all so far have too many cells together, with
+/// their turns. No file is read after a refusal. The samples are as they were read: none is turned.
+pub fn read_several<S: Shelf>(
+    alloc: Global,
+    shelf: &mut S,
+    asked: Asked,
+    first: &Name,
+    more: &[Name],
+) -> Result<Samples, Fault>
+    requires some { length more.now < MOST_PARTS }
+    requires few { asked.turns ≡ true → TURNS * (length more.now + 1) ≤ MOST_PARTS }
+    ensures answer { SeveralReadAs asked first.now more.now
+        (S.state shelf.old) (S.state shelf.new) result }
+    ensures sound { IfOk result (AreSoundSeveral asked) }
+    ensures count { IfOk result (λ samples.
+        length (sizes_of samples.volume) ≡ length more.now + 1) }
+    ensures reads { OnlyReads (names_in (sample_files first.now more.now))
+        (S.state shelf.old) (S.state shelf.new) }
+{
+    let mut samples = read_first(alloc, shelf, asked, first.as_text())?;
+    for (i, name) in more.iter().enumerate() {
+        read_next(
+            alloc,
+            shelf,
+            asked,
+            name.as_text(),
+            i as u8 + 2,
+            &mut samples,
+        )?;
+    }
+    Ok(samples)
+}
+
+/// Reads the samples of a run, as `read_several` does: files of any form and size that go together,
+/// with or without turns.
 pub fn read_samples<S: Shelf>(
     alloc: Global,
     shelf: &mut S,
@@ -175,16 +228,10 @@ pub fn read_samples<S: Shelf>(
     ensures reads { OnlyReads (names_in (sample_files first.now more.now))
         (S.state shelf.old) (S.state shelf.new) }
 {
-    let mut samples = read_first(alloc, shelf, turns, first.as_text())?;
-    for (i, name) in more.iter().enumerate() {
-        read_next(
-            alloc,
-            shelf,
-            turns,
-            name.as_text(),
-            i as u8 + 2,
-            &mut samples,
-        )?;
-    }
-    Ok(samples)
+    let asked = Asked {
+        pictures: false,
+        one_size: false,
+        turns,
+    };
+    read_several(alloc, shelf, asked, first, more)
 }

@@ -1,5 +1,5 @@
 -- What holds of each byte of samples holds of each byte of their turns.
-use Rattle.std.proofs.Common.{◌≡◌, ℕ, zero, suc, ◌++◌, List, [], ◌∷◌, take, drop}
+use Rattle.std.proofs.Common.{ℕ, zero, suc, ◌++◌, List, [], ◌∷◌, take, drop}
 use Rattle.std.specs.Prelude.{All, Option, Some, None, map, slice_get, unwrap_or, option_and_then}
 use Rattle.std.specs.List.{AllByRecursion, concat, flat_map}
 use Rattle.std.proofs.lemmas.List.Elements.{All-append, All-cons, All-head, All-nil, All-tail}

@@ -1,7 +1,4 @@
-use Rattle.std.proofs.Common.{subst, sym}
 use Rattle.photo_merge.proofs.Leading.{merges_are_merged}
-use Rattle.command.specs.Outcomes.{NotMade}
-use Rattle.merge_command.specs.MergeCommand.{merge_command}
 use Rattle.merge_command.proofs.Planning.{marks_not_read, marks_only, merge_made, not_set, pictures_not_read, pictures_only}
 use Rattle.merge_command.proofs.plan.plan.Goals as goal
 
@@ -18,56 +15,54 @@ returns-in-Err-clause-reads g c =
     let b = g.S.Shelf.state c.read_pictures.new.shelf in
     pictures_only c.args.job.now a b c.as_slice.ensures.names c.read_pictures.ensures.reads
 
-pub returns-in-Err-read_p6-clause-planned : goal.returns-in-Err-read_p6-clause-planned
-returns-in-Err-read_p6-clause-planned g c =
+pub returns-in-Err-read_part-clause-planned : goal.returns-in-Err-read_part-clause-planned
+returns-in-Err-read_part-clause-planned g c =
     let a = g.S.Shelf.state c.args.shelf.now in
     let b = g.S.Shelf.state c.read_pictures.new.shelf in
-    let d = g.S.Shelf.state c.read_p6.new.shelf in
-    let job = c.args.job.now in
-    subst (NotMade (merge_command job) a d) (sym c.read_fault.ensures)
-    (marks_not_read job a b c.as_slice.ensures.names c.read_pictures.ensures.reads c.in-Ok.pictures (c.in-Ok.ensures {u = tt}).answer c.as_text.ensures d c.read_p6.ensures.reads
-    c.in-Err-read_p6.error (c.in-Err-read_p6.ensures {u = tt}).answer)
+    let d = g.S.Shelf.state c.read_part.new.shelf in
+    marks_not_read c.args.job.now a b c.as_slice.ensures.names c.read_pictures.ensures.reads c.in-Ok.pictures (c.in-Ok.ensures {u = tt}).answer d c.read_part.ensures.reads
+    c.in-Err-read_part.fault (c.in-Err-read_part.ensures {u = tt}).answer
 
-pub returns-in-Err-read_p6-clause-reads : goal.returns-in-Err-read_p6-clause-reads
-returns-in-Err-read_p6-clause-reads g c =
+pub returns-in-Err-read_part-clause-reads : goal.returns-in-Err-read_part-clause-reads
+returns-in-Err-read_part-clause-reads g c =
     let a = g.S.Shelf.state c.args.shelf.now in
     let b = g.S.Shelf.state c.read_pictures.new.shelf in
-    let d = g.S.Shelf.state c.read_p6.new.shelf in
-    marks_only c.args.job.now a b c.as_slice.ensures.names c.read_pictures.ensures.reads c.in-Ok.pictures (c.in-Ok.ensures {u = tt}).answer c.as_text.ensures d c.read_p6.ensures.reads
+    let d = g.S.Shelf.state c.read_part.new.shelf in
+    marks_only c.args.job.now a b c.as_slice.ensures.names c.read_pictures.ensures.reads c.in-Ok.pictures (c.in-Ok.ensures {u = tt}).answer d c.read_part.ensures.reads
 
 pub returns-in-Err-set_against-clause-planned : goal.returns-in-Err-set_against-clause-planned
 returns-in-Err-set_against-clause-planned g c =
     let a = g.S.Shelf.state c.args.shelf.now in
     let b = g.S.Shelf.state c.read_pictures.new.shelf in
-    let d = g.S.Shelf.state c.read_p6.new.shelf in
+    let d = g.S.Shelf.state c.read_part.new.shelf in
     let job = c.args.job.now in
-    not_set job a b c.as_slice.ensures.names c.read_pictures.ensures.reads c.in-Ok.pictures (c.in-Ok.ensures {u = tt}).answer c.as_text.ensures d c.read_p6.ensures.reads
-    c.in-Ok-read_p6.marks (c.in-Ok-read_p6.ensures {u = tt}).answer c.in-Err-set_against.fault (c.in-Err-set_against.ensures {u = tt})
+    not_set job a b c.as_slice.ensures.names c.read_pictures.ensures.reads c.in-Ok.pictures (c.in-Ok.ensures {u = tt}).answer d c.read_part.ensures.reads
+    c.in-Ok-read_part.marks (c.in-Ok-read_part.ensures {u = tt}).answer c.in-Err-set_against.fault (c.in-Err-set_against.ensures {u = tt})
 
 pub returns-in-Err-set_against-clause-reads : goal.returns-in-Err-set_against-clause-reads
 returns-in-Err-set_against-clause-reads g c =
     let a = g.S.Shelf.state c.args.shelf.now in
     let b = g.S.Shelf.state c.read_pictures.new.shelf in
-    let d = g.S.Shelf.state c.read_p6.new.shelf in
-    marks_only c.args.job.now a b c.as_slice.ensures.names c.read_pictures.ensures.reads c.in-Ok.pictures (c.in-Ok.ensures {u = tt}).answer c.as_text.ensures d c.read_p6.ensures.reads
+    let d = g.S.Shelf.state c.read_part.new.shelf in
+    marks_only c.args.job.now a b c.as_slice.ensures.names c.read_pictures.ensures.reads c.in-Ok.pictures (c.in-Ok.ensures {u = tt}).answer d c.read_part.ensures.reads
 
 pub returns-in-Err-merge_canvas-clause-reads : goal.returns-in-Err-merge_canvas-clause-reads
 returns-in-Err-merge_canvas-clause-reads g c =
     let a = g.S.Shelf.state c.args.shelf.now in
     let b = g.S.Shelf.state c.read_pictures.new.shelf in
-    let d = g.S.Shelf.state c.read_p6.new.shelf in
-    marks_only c.args.job.now a b c.as_slice.ensures.names c.read_pictures.ensures.reads c.in-Ok.pictures (c.in-Ok.ensures {u = tt}).answer c.as_text.ensures d c.read_p6.ensures.reads
+    let d = g.S.Shelf.state c.read_part.new.shelf in
+    marks_only c.args.job.now a b c.as_slice.ensures.names c.read_pictures.ensures.reads c.in-Ok.pictures (c.in-Ok.ensures {u = tt}).answer d c.read_part.ensures.reads
 
 pub returns-clause-planned : goal.returns-clause-planned
 returns-clause-planned g c =
     let a = g.S.Shelf.state c.args.shelf.now in
     let b = g.S.Shelf.state c.read_pictures.new.shelf in
-    let d = g.S.Shelf.state c.read_p6.new.shelf in
+    let d = g.S.Shelf.state c.read_part.new.shelf in
     let pictures = c.in-Ok.pictures in
     let canvas = c.in-Ok-merge_canvas.canvas in
     let merged = c.in-Ok-merge_canvas.ensures {u = tt} in
-    merge_made c.args.job.now a b c.as_slice.ensures.names c.read_pictures.ensures.reads pictures (c.in-Ok.ensures {u = tt}).answer c.as_text.ensures d c.read_p6.ensures.reads
-    c.in-Ok-read_p6.marks (c.in-Ok-read_p6.ensures {u = tt}).answer (c.in-Ok-set_against.ensures {u = tt}) canvas
+    merge_made c.args.job.now a b c.as_slice.ensures.names c.read_pictures.ensures.reads pictures (c.in-Ok.ensures {u = tt}).answer d c.read_part.ensures.reads
+    c.in-Ok-read_part.marks (c.in-Ok-read_part.ensures {u = tt}).answer (c.in-Ok-set_against.ensures {u = tt}) canvas
     (record {
       volume = c.samples-k.ensures.volume;
       merge = merged.merge;
@@ -86,7 +81,7 @@ returns-clause-made g c =
       volume = c.samples-k.ensures.volume;
       sound = (c.in-Ok.ensures {u = tt}).sound;
       within = set.within;
-      size = (merges_are_merged pictures.volume c.in-Ok-read_p6.marks.volume c.in-Ok-merge_canvas.canvas.map merged.merge).size;
+      size = (merges_are_merged pictures.volume c.in-Ok-read_part.marks.volume c.in-Ok-merge_canvas.canvas.map merged.merge).size;
       full = merged.full;
       canvas = merged.canvas;
       stands = merged.stands;
@@ -96,5 +91,5 @@ pub returns-clause-reads : goal.returns-clause-reads
 returns-clause-reads g c =
     let a = g.S.Shelf.state c.args.shelf.now in
     let b = g.S.Shelf.state c.read_pictures.new.shelf in
-    let d = g.S.Shelf.state c.read_p6.new.shelf in
-    marks_only c.args.job.now a b c.as_slice.ensures.names c.read_pictures.ensures.reads c.in-Ok.pictures (c.in-Ok.ensures {u = tt}).answer c.as_text.ensures d c.read_p6.ensures.reads
+    let d = g.S.Shelf.state c.read_part.new.shelf in
+    marks_only c.args.job.now a b c.as_slice.ensures.names c.read_pictures.ensures.reads c.in-Ok.pictures (c.in-Ok.ensures {u = tt}).answer d c.read_part.ensures.reads

@@ -1,4 +1,4 @@
-use Rattle.std.proofs.Common.{◌≡◌, ◌∙◌, List, [], ◌∷◌, ap, subst, sym}
+use Rattle.std.proofs.Common.{◌≡◌, List, [], ◌∷◌, subst, sym}
 use Rattle.cells.specs.Cells.{sizes_of}
 use Rattle.netpbm_p6.specs.Pictures.{IsPicture, p6_form}
 use Rattle.source_map.specs.MapFiles.{IsWritable, cell_map_form}

@@ -27,11 +27,14 @@ returns-clause-picture g c =
     let fits = c.in_ok-size.ensures {u = tt} in
     let made = (c.in_ok-volume.ensures {u = tt}).made in
     record {
-      positive = subst (λ n. 1 ≤ n) (sym fits.maxval_is) (c.in_ok-header.ensures {u = tt}).sound.maxval;
-      fits = subst (λ n. n ≤ 255) (sym fits.maxval_is) fits.depth;
-      one = made.one;
-      frames = ap (λ (size : Size). size.f) (made.size_is ∙ fits.size_is);
-      colours = made.colours;
-      samples = made.samples;
+      form = record {
+        positive = subst (λ n. 1 ≤ n) (sym fits.maxval_is) (c.in_ok-header.ensures {u = tt}).sound.maxval;
+        fits = subst (λ n. n ≤ 255) (sym fits.maxval_is) fits.depth;
+        volume_is = c.samples-k.ensures.volume;
+        one = made.one;
+        frames = ap (λ (size : Size). size.f) (made.size_is ∙ fits.size_is);
+        colours = made.colours;
+        samples = made.samples;
+      };
       cells = cells_allowed c.in_ok-header.header c.in_ok-size.size c.in_ok-size.maxval c.in_ok-volume.volume fits made.size_is made.one;
     }

@@ -1,5 +1,3 @@
-pub mod Ready
 pub mod Planning
-pub mod QuiltAccepted
 pub mod QuiltLaws
 pub mod OneQuiltOutputs

@@ -3,14 +3,12 @@
 //! `quilt_picture` promises what a run of the command leaves, by its answer (specs/Quilts.antt has the command as a
 //! value over the crate command: what it reads, refuses, makes and writes). What stands when it ends well is the
 //! headline of the command (specs/QuiltHeadlines.antt), which proofs/QuiltLaws.antt proves of all that it writes.
+//! What `transfer` shares with it is the crate block_outputs.
 //!
-//! `files` has the record file, `plan` what is read and computed, `whole` the writing and the whole.
+//! `plan` has what is read and computed, `whole` the writing and the whole.
 #![tactic(auto)]
 
-mod files;
 mod plan;
 mod whole;
 
-pub use files::BlocksFile;
-pub use plan::PictureQuilt;
 pub use whole::quilt_picture;

@@ -2,81 +2,48 @@
 ghost use Rattle.std.specs.Prelude.{◌≡◌};
 ghost use Rattle.shelf_core.specs.Files.{OnlyWrites};
 ghost use Rattle.job_words.specs.QuiltWords.{IsQuiltJob};
+ghost use Rattle.block_outputs.specs.BlockOutputs.{quilt_files};
 ghost use Rattle.command.specs.Outcomes.{Leaves};
 ghost use Rattle.command.specs.Writing.{WritesRun, text_names};
-ghost use Rattle.quilt_command.specs.Quilts.{IsMadeQuilt, quilt_command, quilt_files, quilt_head, quilt_summary};
+ghost use Rattle.quilt_command.specs.Quilts.{IsMadeQuiltOf, quilt_command, quilt_size, quilt_summary};
 
-use crate::files::BlocksFile;
-use crate::plan::{PictureQuilt, plan, quilt_size};
-use cells::Volume;
-use cert_file::Head;
-use command::{Then, write_run};
-use command_files::{CellMapFile, OutFile, OutWriter};
+use crate::plan::{plan, quilt_size, run_of};
+use block_outputs::{PictureQuilt, write_quilt};
 use job_words::QuiltJob;
+use quilt_run::Quilted;
 use shelf_core::{Shelf, Sink};
-use source_map::Version;
 use std::alloc::Global;
-use synth_report::{Fault, FileOf, Summary};
+use synth_report::{Fault, Summary};
 
 // The summary of a quilt.
-fn summary_of(job: &QuiltJob, made: &PictureQuilt) -> Summary
-    ensures { result ≡ quilt_summary job.now made.now }
+fn summary_of(job: &QuiltJob, quilted: &Quilted) -> Summary
+    ensures { result ≡ quilt_summary job.now quilted.now }
 {
     Summary::Quilt {
         size: quilt_size(job),
-        blocks: made.quilted.blocks.as_slice().len() as u64,
-        boundaries: made.quilted.boundaries,
-        cost: made.quilted.cost,
-    }
-}
-
-// The head of the record.
-fn head_over(job: &QuiltJob, volume: &Volume) -> Head
-    ensures { result ≡ quilt_head job.now volume.now }
-{
-    Head {
-        output: quilt_size(job),
-        samples: volume.sizes(),
-        version: Version::One,
+        blocks: quilted.blocks.as_slice().len() as u64,
+        boundaries: quilted.boundaries,
+        cost: quilted.cost,
     }
 }
 
 // Writes the picture of a quilt, its map, its record, and the report.
-fn write_quilt<S: Shelf, O: Sink>(
+fn write<S: Shelf, O: Sink>(
     job: &QuiltJob,
     made: &PictureQuilt,
     shelf: &mut S,
     out: &mut O,
 ) -> Result<Summary, Fault>
-    requires job { IsQuiltJob job.now }
-    requires made { IsMadeQuilt job.now made.now }
-    ensures wrote { WritesRun (quilt_files job.now made.now) (quilt_summary job.now made.now)
+    requires { IsMadeQuiltOf job.now made.now }
+    ensures wrote { WritesRun (quilt_files job.now.names (quilt_size job.now) made.now)
+        (quilt_summary job.now made.now.quilted)
         (S.state shelf.old) (S.state shelf.new) (O.state out.old) (O.state out.new) result }
-    ensures writes { OnlyWrites (text_names (quilt_files job.now made.now))
+    ensures writes { OnlyWrites
+        (text_names (quilt_files job.now.names (quilt_size job.now) made.now))
         (S.state shelf.old) (S.state shelf.new) }
 {
-    let volume = &made.sample.volume;
-    let picture = OutFile {
-        name: &job.names.out,
-        writer: OutWriter::Picture {
-            maxval: made.sample.maxval,
-        },
-        picture: made.quilted.canvas.picture(),
-    };
-    let map = CellMapFile {
-        part: FileOf::Map,
-        name: &job.names.map,
-        map: made.quilted.canvas.map(),
-        samples: volume.sizes(),
-        version: Version::One,
-    };
-    let record = BlocksFile {
-        name: &job.names.record_file,
-        head: head_over(job, volume),
-        blocks: made.quilted.blocks.as_slice(),
-    };
-    let summary = summary_of(job, made);
-    write_run(&mut Then(picture, Then(map, record)), summary, shelf, out)
+    let summary = summary_of(job, &made.quilted);
+    write_quilt(&run_of(job), &job.names, made, summary, shelf, out)
 }
 
 /// Quilts a picture: reads the sample, lays blocks along least boundaries until the output is full, and writes
@@ -93,5 +60,5 @@ pub fn quilt_picture<S: Shelf, O: Sink>(
         (S.state shelf.old) (S.state shelf.new) (O.state out.old) (O.state out.new) result }
 {
     let made = plan(alloc, job, shelf)?;
-    write_quilt(job, &made, shelf, out)
+    write(job, &made, shelf, out)
 }

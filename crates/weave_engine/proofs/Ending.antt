@@ -20,7 +20,8 @@ use Rattle.loop_command.proofs.OneLoops.{one_loop}
 use Rattle.merge_command.specs.MergeHeadlines.{HaveSameInput, HaveSameMerge, IsMergedRun, IsOneMergeReport, MergeHeadline, MergeReport, OneMerge}
 use Rattle.merge_command.proofs.MergeRuns.{merge_has_one_answer, merged_run}
 use Rattle.merge_command.proofs.OneMerges.{one_merge, one_merge_report}
-use Rattle.quilt_command.specs.QuiltHeadlines.{HaveSameQuilt, IsQuiltedRun, IsToldOfRun, OneQuiltOutput, QuiltHeadline, QuiltReport}
+use Rattle.block_outputs.specs.BlockHeadlines.{HaveSameOutput as HaveSameQuilt}
+use Rattle.quilt_command.specs.QuiltHeadlines.{IsQuiltedRun, IsToldOfRun, OneQuiltOutput, QuiltHeadline, QuiltReport}
 use Rattle.quilt_command.proofs.OneQuiltOutputs.{one_quilt_output}
 use Rattle.quilt_command.proofs.QuiltLaws.{quilt_has_one_answer, quilt_told, quilted_run}
 use Rattle.tile_command.specs.TileHeadlines.{IsOneTiling, IsToldOfTiling, OneTile, TileHeadline}
@@ -112,7 +113,7 @@ module _ (words : List (List ℕ)) (was now : ShelfState) (out out' err err' : S
   pub quilt_once : OneQuiltOutput words was now status
   quilt_once job asks zero =
       let its = done_of (Quilt job) asks zero in
-      then_of (Quilt job) its (λ before after. (earlier later : Files) → content_of earlier job.names.sample ≡ content_of before job.names.sample → IsQuiltedRun job earlier later → HaveSameQuilt job later after)
+      then_of (Quilt job) its (λ before after. (earlier later : Files) → content_of earlier job.names.sample ≡ content_of before job.names.sample → IsQuiltedRun job earlier later → HaveSameQuilt job.names later after)
       (one_quilt_output job its.lawful its.summary)
 
   pub quilt_reported : QuiltReport words was now out out' status

@@ -1,8 +1,9 @@
-use Rattle.std.proofs.Common.{subst, sym}
+use Rattle.std.proofs.Common.{refl, subst, sym}
 use Rattle.quilt_run.specs.Quilted.{CanBeQuilted, IsQuilt, IsQuiltFault}
 use Rattle.command.specs.Outcomes.{NotMade}
+use Rattle.quilt.specs.Runs.{by_overlap}
 use Rattle.quilt_command.specs.Quilts.{quilt_command}
-use Rattle.quilt_command.proofs.Planning.{can_quilt, not_quilted, output_refused, picture_not_read, quilt_made}
+use Rattle.quilt_command.proofs.Planning.{can_quilt, not_quilted, output_refused, picture_not_read, quilt_made, small_quilt}
 use Rattle.quilt_command.proofs.plan.plan.Goals as goal
 
 pub returns-in-Err-clause-planned : goal.returns-in-Err-clause-planned
@@ -12,16 +13,16 @@ returns-in-Err-clause-planned g c =
     let job = c.args.job.now in
     picture_not_read job a b c.read_picture.ensures.reads c.in-Err.fault (c.in-Err.ensures {u = tt}).answer
 
-pub returns-in-Err-set_against-clause-planned : goal.returns-in-Err-set_against-clause-planned
-returns-in-Err-set_against-clause-planned g c =
+pub returns-in-Err-within_output-clause-planned : goal.returns-in-Err-within_output-clause-planned
+returns-in-Err-within_output-clause-planned g c =
     let a = g.S.Shelf.state c.args.shelf.now in
     let b = g.S.Shelf.state c.read_picture.new.shelf in
     let job = c.args.job.now in
-    output_refused job a b c.read_picture.ensures.reads c.in-Ok.sample (c.in-Ok.ensures {u = tt}).answer c.in-Err-set_against.fault (c.in-Err-set_against.ensures {u = tt})
+    output_refused job a b c.read_picture.ensures.reads c.in-Ok.sample (c.in-Ok.ensures {u = tt}).answer c.in-Err-within_output.fault (c.in-Err-within_output.ensures {u = tt})
 
 pub quilt_canvas-requires : goal.quilt_canvas-requires
 quilt_canvas-requires g c =
-    subst (λ asked. CanBeQuilted asked c.in-Ok.sample.volume) (sym c.run_of.ensures) (can_quilt c.args.job.now c.in-Ok.sample c.requires (c.in-Ok-set_against.ensures {u = tt}) (c.in-Ok.ensures {u = tt}).sound)
+    subst (λ asked. CanBeQuilted asked c.in-Ok.sample.volume) (sym c.run_of.ensures) (can_quilt c.args.job.now c.in-Ok.sample c.requires (c.in-Ok-within_output.ensures {u = tt}) (c.in-Ok.ensures {u = tt}).sound)
 
 pub returns-in-Err-quilt_canvas-clause-planned : goal.returns-in-Err-quilt_canvas-clause-planned
 returns-in-Err-quilt_canvas-clause-planned g c =
@@ -29,8 +30,8 @@ returns-in-Err-quilt_canvas-clause-planned g c =
     let b = g.S.Shelf.state c.read_picture.new.shelf in
     let job = c.args.job.now in
     let error = c.in-Err-quilt_canvas.error in
-    subst (NotMade (quilt_command job) a b) (sym c.quilting_fault.ensures)
-    (not_quilted job a b c.read_picture.ensures.reads c.in-Ok.sample (c.in-Ok.ensures {u = tt}).answer (c.in-Ok-set_against.ensures {u = tt}) error
+    subst (NotMade (quilt_command job) a b) (sym c.quilt_fault.ensures)
+    (not_quilted job a b c.read_picture.ensures.reads c.in-Ok.sample (c.in-Ok.ensures {u = tt}).answer (c.in-Ok-within_output.ensures {u = tt}) error
     (subst (λ asked. IsQuiltFault asked c.in-Ok.sample.volume error) c.run_of.ensures (c.in-Err-quilt_canvas.ensures {u = tt})))
 
 pub returns-clause-planned : goal.returns-clause-planned
@@ -40,7 +41,8 @@ returns-clause-planned g c =
     let job = c.args.job.now in
     let quilted = c.in-Ok-quilt_canvas.quilted in
     quilt_made job a b c.read_picture.ensures.reads c.in-Ok.sample (c.in-Ok.ensures {u = tt}).answer
-    c.requires (c.in-Ok-set_against.ensures {u = tt}) (c.in-Ok.ensures {u = tt}).volume quilted (subst (λ asked. IsQuilt asked c.in-Ok.sample.volume quilted) c.run_of.ensures (c.in-Ok-quilt_canvas.ensures {u = tt}))
+    (c.in-Ok-within_output.ensures {u = tt}) (c.in-Ok.ensures {u = tt}).volume (can_quilt job c.in-Ok.sample c.requires (c.in-Ok-within_output.ensures {u = tt}) (c.in-Ok.ensures {u = tt}).sound)
+    quilted (subst (λ asked. IsQuilt (by_overlap c.in-Ok.sample.volume) asked c.in-Ok.sample.volume quilted) c.run_of.ensures (c.in-Ok-quilt_canvas.ensures {u = tt}))
 
 pub returns-clause-made : goal.returns-clause-made
 returns-clause-made g c =
@@ -48,6 +50,8 @@ returns-clause-made g c =
     record {
       volume = (c.in-Ok.ensures {u = tt}).volume;
       sound = (c.in-Ok.ensures {u = tt}).sound;
-      within = c.in-Ok-set_against.ensures {u = tt};
-      quilt = subst (λ asked. IsQuilt asked sample.volume c.in-Ok-quilt_canvas.quilted) c.run_of.ensures (c.in-Ok-quilt_canvas.ensures {u = tt});
+      small = small_quilt c.args.job.now c.requires (c.in-Ok-within_output.ensures {u = tt});
+      frame = refl;
+      within = c.in-Ok-within_output.ensures {u = tt};
+      quilt = subst (λ asked. IsQuilt (by_overlap sample.volume) asked sample.volume c.in-Ok-quilt_canvas.quilted) c.run_of.ensures (c.in-Ok-quilt_canvas.ensures {u = tt});
     }

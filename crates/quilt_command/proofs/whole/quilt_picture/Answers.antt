@@ -1,6 +1,7 @@
 use Rattle.std.proofs.lemmas.Result.{err_from_is_err_and}
 use Rattle.command.proofs.Halves.{not_planned, planned}
-use Rattle.quilt_command.specs.Quilts.{quilt_command, quilt_files, quilt_summary}
+use Rattle.block_outputs.specs.BlockOutputs.{quilt_files}
+use Rattle.quilt_command.specs.Quilts.{quilt_command, quilt_size, quilt_summary}
 use Rattle.quilt_command.proofs.whole.quilt_picture.Goals as goal
 
 pub returns-in_err-made : goal.returns-in_err-made
@@ -8,12 +9,12 @@ returns-in_err-made g c =
     let p = err_from_is_err_and c.from_residual.result c.from_residual.ensures.1 in
     rw (p.1, p.2) (not_planned (quilt_command c.args.job.now) (g.S.Shelf.state c.args.shelf.now) (g.S.Shelf.state c.plan.new.shelf) c.plan.ensures.reads (g.O.Sink.state c.args.out.now) c.in_err-made.field-0.0 (c.in_err-made.ensures {u = tt}).planned)
 
-pub write_quilt-requires-clause-made : goal.write_quilt-requires-clause-made
-write_quilt-requires-clause-made g c = (c.in_ok-made.ensures {u = tt}).made
+pub write-requires : goal.write-requires
+write-requires g c = (c.in_ok-made.ensures {u = tt}).made
 
 pub returns : goal.returns
 returns g c =
     let job = c.args.job.now in
     let made = c.in_ok-made.made in
-    planned (quilt_command job) (quilt_files job made) (quilt_summary job made) (g.S.Shelf.state c.args.shelf.now) (g.S.Shelf.state c.plan.new.shelf) (g.S.Shelf.state c.write_quilt.new.shelf)
-    (g.O.Sink.state c.args.out.now) (g.O.Sink.state c.write_quilt.new.out) c.plan.ensures.reads (c.in_ok-made.ensures {u = tt}).planned c.write_quilt.ensures.writes c.write_quilt.result c.write_quilt.ensures.wrote
+    planned (quilt_command job) (quilt_files job.names (quilt_size job) made) (quilt_summary job made.quilted) (g.S.Shelf.state c.args.shelf.now) (g.S.Shelf.state c.plan.new.shelf) (g.S.Shelf.state c.write.new.shelf)
+    (g.O.Sink.state c.args.out.now) (g.O.Sink.state c.write.new.out) c.plan.ensures.reads (c.in_ok-made.ensures {u = tt}).planned c.write.ensures.writes c.write.result c.write.ensures.wrote

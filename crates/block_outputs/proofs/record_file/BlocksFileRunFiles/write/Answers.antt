@@ -4,7 +4,7 @@ use Rattle.shelf_core.specs.Written.{HoldsText}
 use Rattle.cert_file.specs.RecordFiles.{blocks_form}
 use Rattle.synth_report.specs.declared.fault.FileOf.TheVariants.{Record}
 use Rattle.command.proofs.WritingLaws.{stops_at_one}
-use Rattle.quilt_command.proofs.files.BlocksFileRunFiles.write.Goals as goal
+use Rattle.block_outputs.proofs.record_file.BlocksFileRunFiles.write.Goals as goal
 
 pub returns-in-Err-clause-wrote : goal.returns-in-Err-clause-wrote
 returns-in-Err-clause-wrote g c =

@@ -1,0 +1,5 @@
+pub mod Ready
+pub mod Planning
+pub mod Accepted
+pub mod Written
+pub mod OneOutputs

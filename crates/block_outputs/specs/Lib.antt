@@ -1,0 +1,2 @@
+pub mod BlockOutputs
+pub mod BlockHeadlines

@@ -6,9 +6,9 @@ use crate::expect::expect_done;
 use crate::rows::{assert_fits, greys, row_at, row_of};
 use cells::Volume;
 use costs::are_marks;
-use cut_graph::{build, build_held};
+use cut_graph::{Places, build, build_held};
 use map_canvas::{Canvas, Placement};
-use max_flow::solve;
+use max_flow::{Network, solve};
 use std::alloc::{AllocError, Global};
 use std::process::Abort;
 
@@ -20,6 +20,39 @@ struct Expected<'a> {
     seams: &'a [u32],
     pipes: &'a [u32],
     value: u64,
+}
+
+// The network of a placement.
+fn network_of(
+    rt: &impl Abort,
+    alloc: Global,
+    canvas: &Canvas,
+    sample: &Volume,
+    placement: &Placement,
+    held: Option<&[bool]>,
+) -> Result<(Network, Places), AllocError>
+    requires { StandsOver canvas.now sample.now }
+{
+    assert_fits(rt, canvas, sample, placement);
+    assert!(rt; are_marks(canvas, placement, held));
+    match held {
+        None => build(alloc, canvas, sample, placement),
+        Some(_) => build_held(alloc, canvas, sample, placement, held),
+    }
+}
+
+// Whether a network and its places are so.
+fn is_expected(
+    alloc: Global,
+    network: &Network,
+    places: &Places,
+    expected: &Expected,
+) -> Result<bool, AllocError> {
+    let are_places = places.cell_nodes.as_slice() == expected.cells
+        && places.seam_nodes.as_slice() == expected.seams
+        && places.pipes.as_slice() == expected.pipes;
+    let solved = solve(alloc, network)?;
+    Ok(are_places && solved.value == expected.value)
 }
 
 // Asserts that the network of a placement is so.
@@ -34,17 +67,8 @@ fn assert_is(
 ) -> Result<(), AllocError>
     requires { StandsOver canvas.now sample.now }
 {
-    assert_fits(rt, canvas, sample, placement);
-    assert!(rt; are_marks(canvas, placement, held));
-    let (network, places) = match held {
-        None => build(alloc, canvas, sample, placement)?,
-        Some(_) => build_held(alloc, canvas, sample, placement, held)?,
-    };
-    let solved = solve(alloc, &network)?;
-    let are_places = places.cell_nodes.as_slice() == expected.cells
-        && places.seam_nodes.as_slice() == expected.seams
-        && places.pipes.as_slice() == expected.pipes;
-    assert!(rt; are_places && solved.value == expected.value);
+    let (network, places) = network_of(rt, alloc, canvas, sample, placement, held)?;
+    assert!(rt; is_expected(alloc, &network, &places, expected)?);
     Ok(())
 }
 

@@ -11,17 +11,19 @@ use std::process::Abort;
 
 const FIRST: At = At { x: 0, y: 0, f: 0 };
 
-// What is ruled out for a limit over a canvas that is filled with the first cells of a sample: of the places from the first
-// one on.
-fn eliminated(
-    rt: &impl Abort,
-    alloc: Global,
-    canvas: &mut Canvas,
-    sample: &Volume,
-    all: &[bool],
-    limit: u64,
-) -> Result<Eliminated, AllocError>
+// The placement that lays the first cells of a sample on a whole canvas.
+fn whole(size: Size) -> Placement {
+    let rect = Box3 {
+        corner: FIRST,
+        size,
+    };
+    Placement { rect, from: FIRST }
+}
+
+// Fills a canvas with the first cells of a sample.
+fn fill(rt: &impl Abort, canvas: &mut Canvas, sample: &Volume, all: &[bool])
     requires { StandsOver canvas.old sample.now }
+    ensures { StandsOver canvas.new sample.now }
 {
     let size = canvas.map().size();
     let rect = Box3 {
@@ -32,11 +34,40 @@ fn eliminated(
     assert_fits(rt, canvas, sample, &placement);
     assert!(rt; all.len() == size.cells());
     canvas.put_choice(sample, &placement, all);
+}
+
+// What is ruled out for a limit over a canvas, of the places from the first one on.
+fn ruled_out(
+    rt: &impl Abort,
+    alloc: Global,
+    canvas: &Canvas,
+    sample: &Volume,
+    limit: u64,
+) -> Result<Eliminated, AllocError>
+    requires { StandsOver canvas.now sample.now }
+{
+    let placement = whole(canvas.map().size());
+    let rect = placement.rect;
     assert_fits(rt, canvas, sample, &placement);
     let sums = SampleSums::make(alloc, sample)?;
     let levels = BoxLevels::gather(alloc, canvas, &rect, &sums)?;
     let mut pauses = Pauses::none();
     Ok(levels.eliminate(&sums, canvas, sample, &rect, 0, FIRST, limit, &mut pauses))
+}
+
+// The same over a canvas that is filled first.
+fn eliminated(
+    rt: &impl Abort,
+    alloc: Global,
+    canvas: &mut Canvas,
+    sample: &Volume,
+    all: &[bool],
+    limit: u64,
+) -> Result<Eliminated, AllocError>
+    requires { StandsOver canvas.old sample.now }
+{
+    fill(rt, canvas, sample, all);
+    ruled_out(rt, alloc, canvas, sample, limit)
 }
 
 // A picture of 8x4 cells in which each cell is one more than that before it.

@@ -19,20 +19,13 @@ use std::process::Abort;
 const FIRST: At = At { x: 0, y: 0, f: 0 };
 
 // The run of a plan.
-fn grown(
-    rt: &impl Abort,
-    alloc: Global,
-    plan: &GrowPlan,
-    sample: &Volume,
-) -> Result<Grown, AllocError>
+fn grown(alloc: Global, plan: &GrowPlan, sample: &Volume) -> Result<Grown, AllocError>
     requires small { IsSmall plan.now.size }
     requires patch { HasPatch plan.now.mode }
     requires side { 1 ≤ plan.now.side }
     ensures { IfOk result (λ run. All IsFormed run.cuts) }
 {
-    let run = grow_canvas(alloc, plan, sample);
-    assert!(rt; run.is_ok());
-    let Ok(grown) = run else {
+    let Ok(grown) = grow_canvas(alloc, plan, sample) else {
         return Err(AllocError);
     };
     Ok(grown)
@@ -52,8 +45,8 @@ fn assert_row(rt: &impl Abort, canvas: &Canvas, columns: &[(i32, i32)]) {
     }
 }
 
-// Asserts what a record of four cells in a row has.
-fn assert_record(rt: &impl Abort, cut: &CutRecord, x: i32, choice: &[bool], flows: &[(i16, i16)]) {
+// Whether a record is of four cells in a row from a column on, with this choice and these flows.
+fn is_record(cut: &CutRecord, x: i32, choice: &[bool], flows: &[Flow]) -> bool {
     let placement = Placement {
         rect: Box3 {
             corner: At { x, y: 0, f: 0 },
@@ -61,17 +54,7 @@ fn assert_record(rt: &impl Abort, cut: &CutRecord, x: i32, choice: &[bool], flow
         },
         from: FIRST,
     };
-    assert!(rt; cut.placement == placement);
-    assert!(rt; cut.choice.as_slice() == choice);
-    let found = cut.flows.as_slice();
-    assert!(rt; found.len() == flows.len());
-    for i in 0..flows.len() {
-        let flow = Flow {
-            x: flows[i].0,
-            y: flows[i].1,
-        };
-        assert!(rt; found.get(i) == Some(&flow), "flow {i}");
-    }
+    cut.placement == placement && cut.choice.as_slice() == choice && cut.flows.as_slice() == flows
 }
 
 const SIX: Size = Size { w: 6, h: 1, f: 1 };
@@ -82,10 +65,8 @@ const SIX_COLUMNS: [(i32, i32); 6] = [(0, 0), (1, 0), (2, 0), (1, 0), (2, 0), (3
 // the fourth is new. A round lays the first window again, all of whose choices cost the same.
 fn assert_row_of_four_grown_to_six(rt: &impl Abort, alloc: Global) -> Result<(), AllocError> {
     let sample = greys(alloc)?;
-    for rounds in 0..2u32 {
-        expect_six(rt, alloc, &sample, rounds)?;
-    }
-    Ok(())
+    expect_six(rt, alloc, &sample, 0)?;
+    expect_six(rt, alloc, &sample, 1)
 }
 
 #[test]
@@ -108,23 +89,33 @@ fn expect_six(
         rounds,
         seed: 0,
     };
-    let run = grown(rt, alloc, &plan, sample)?;
+    let run = grown(alloc, &plan, sample)?;
     assert_row(rt, &run.canvas, &SIX_COLUMNS);
-    assert!(rt; total(&run.canvas, sample) == 120);
-    assert!(rt; run.rounds == rounds);
-    assert_six_records(rt, run.cuts.as_slice(), rounds);
+    assert!(rt; is_grown_to_six(&run, sample, rounds));
     expect_replay(rt, alloc, sample, run.cuts.as_slice())
 }
 
-fn assert_six_records(rt: &impl Abort, cuts: &[CutRecord], rounds: u32) {
-    assert!(rt; rounds < 2 && cuts.len() == 2 + rounds as usize);
-    assert_record(rt, &cuts[0], 0, &[true; 4], &[(0, 0); 3]);
-    let choice = [false, true, true, true];
-    assert_record(rt, &cuts[1], 2, &choice, &[(120, 120), (120, 0), (0, 0)]);
-    if rounds == 1 {
-        let choice = [true, true, true, false];
-        assert_record(rt, &cuts[2], 0, &choice, &[(0, 0), (0, 0), (0, -120)]);
-    }
+const NONE: Flow = Flow { x: 0, y: 0 };
+
+const KEPT_FIRST: &[Flow] = &[Flow { x: 120, y: 120 }, Flow { x: 120, y: 0 }, NONE];
+
+const KEPT_LAST: &[Flow] = &[NONE, NONE, Flow { x: 0, y: -120 }];
+
+fn are_six_records(cuts: &[CutRecord], rounds: u32) -> bool {
+    let are_laid = cuts.len() >= 2
+        && is_record(&cuts[0], 0, &[true; 4], &[NONE; 3])
+        && is_record(&cuts[1], 2, &[false, true, true, true], KEPT_FIRST);
+    let are_round = match cuts.get(2) {
+        Some(cut) => rounds == 1 && is_record(cut, 0, &[true, true, true, false], KEPT_LAST),
+        None => rounds == 0,
+    };
+    are_laid && are_round && cuts.len() <= 3
+}
+
+fn is_grown_to_six(run: &Grown, sample: &Volume, rounds: u32) -> bool {
+    total(&run.canvas, sample) == 120
+        && run.rounds == rounds
+        && are_six_records(run.cuts.as_slice(), rounds)
 }
 
 // Asserts that the records over one another leave the same map. Over the full map the first one isn't lawful,
@@ -148,12 +139,30 @@ fn expect_replay(
     Ok(())
 }
 
+// Whether each cell comes from the first of the sample.
+fn are_copies(canvas: &Canvas) -> bool {
+    for source in canvas.map().sources() {
+        if source.source() != Some(FIRST) {
+            return false;
+        }
+    }
+    true
+}
+
+fn are_six_cells(run: &Grown, sample: &Volume) -> bool {
+    let are_six = run.cuts.as_slice().len() == 6 && run.rounds == 0;
+    total(&run.canvas, sample) == 10710 && are_six && are_copies(&run.canvas)
+}
+
 // Asserts what a mode and rounds make of three by two cells over a sample of one.
-fn assert_one_cell(rt: &impl Abort, alloc: Global, mode: Mode) -> Result<(), AllocError>
+fn assert_one_cell(
+    rt: &impl Abort,
+    alloc: Global,
+    sample: &Volume,
+    mode: Mode,
+) -> Result<(), AllocError>
     requires { HasPatch mode }
 {
-    let bytes = Vec::from_slice(alloc, &[7, 8, 9])?;
-    let sample = Volume::from_bytes(Size { w: 1, h: 1, f: 1 }, 3, bytes);
     let plan = GrowPlan {
         size: Size { w: 3, h: 2, f: 1 },
         mode,
@@ -162,28 +171,25 @@ fn assert_one_cell(rt: &impl Abort, alloc: Global, mode: Mode) -> Result<(), All
         rounds: 5,
         seed: 0,
     };
-    let run = grown(rt, alloc, &plan, &sample)?;
-    assert!(rt; total(&run.canvas, &sample) == 10710, "{mode:?}");
-    assert!(rt; run.cuts.as_slice().len() == 6, "{mode:?}");
-    assert!(rt; run.rounds == 0, "{mode:?}");
-    for source in run.canvas.map().sources() {
-        assert!(rt; source.source() == Some(FIRST), "{mode:?}");
-    }
+    let run = grown(alloc, &plan, sample)?;
+    assert!(rt; are_six_cells(&run, sample), "{mode:?}");
     Ok(())
 }
 
 // Each mode lays the cells one by one. Each of the 7 pairs costs as much as two places outside, but no window
 // of one cell costs anything, so that there is no round.
 fn assert_one_cell_in_each_mode(rt: &impl Abort, alloc: Global) -> Result<(), AllocError> {
-    assert_one_cell(rt, alloc, Mode::Grid { overlap: 0 })?;
-    assert_one_cell(rt, alloc, Mode::Random)?;
-    assert_one_cell(rt, alloc, Mode::Whole { tol: 10 })?;
+    let bytes = Vec::from_slice(alloc, &[7, 8, 9])?;
+    let sample = Volume::from_bytes(Size { w: 1, h: 1, f: 1 }, 3, bytes);
     let sub = Mode::Sub {
         side: 32,
         overlap: 8,
         tol: 10,
     };
-    assert_one_cell(rt, alloc, sub)
+    assert_one_cell(rt, alloc, &sample, Mode::Grid { overlap: 0 })?;
+    assert_one_cell(rt, alloc, &sample, Mode::Random)?;
+    assert_one_cell(rt, alloc, &sample, Mode::Whole { tol: 10 })?;
+    assert_one_cell(rt, alloc, &sample, sub)
 }
 
 #[test]
@@ -210,33 +216,32 @@ fn first_of_part_one(
         rounds: 0,
         seed,
     };
-    let run = grown(rt, alloc, &plan, sample)?;
-    assert!(rt; run.cuts.as_slice().len() == 2);
+    let run = grown(alloc, &plan, sample)?;
     let is_first = run.canvas.map().at(FIRST) == Some(FIRST);
-    if is_first {
-        assert_row(rt, &run.canvas, &[(0, 0), (1, 0), (1, 2)]);
-        assert!(rt; total(&run.canvas, sample) == 765);
-    } else {
-        assert_row(rt, &run.canvas, &[(0, 2), (1, 2), (1, 2)]);
-        assert!(rt; total(&run.canvas, sample) == 795);
-    }
+    let (frame, cost) = if is_first { (0, 765) } else { (2, 795) };
+    let are_two = run.cuts.as_slice().len() == 2;
+    assert!(rt; are_two && total(&run.canvas, sample) == cost);
+    assert_row(rt, &run.canvas, &[(0, frame), (1, frame), (1, 2)]);
     Ok(is_first)
+}
+
+// How many of eight seeds give a first cell of part 1.
+fn firsts(rt: &impl Abort, alloc: Global, sample: &Volume) -> Result<u32, AllocError> {
+    let mut count = 0u32;
+    for seed in 0..8 {
+        if first_of_part_one(rt, alloc, sample, seed)? {
+            count = count.wrapping_add(1);
+        }
+    }
+    Ok(count)
 }
 
 // Over two parts the second patch is that of part 2, whatever the draws. Where
 // the first is of part 1, only the place past its end costs something.
 fn assert_three_cells_of_two_parts(rt: &impl Abort, alloc: Global) -> Result<(), AllocError> {
     let sample = two_parts(alloc)?;
-    let mut first_met = false;
-    let mut second_met = false;
-    for seed in 0..8u64 {
-        if first_of_part_one(rt, alloc, &sample, seed)? {
-            first_met = true;
-        } else {
-            second_met = true;
-        }
-    }
-    assert!(rt; first_met && second_met);
+    let count = firsts(rt, alloc, &sample)?;
+    assert!(rt; 0 < count && count < 8);
     Ok(())
 }
 

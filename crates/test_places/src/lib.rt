@@ -7,6 +7,8 @@
 #[cfg(test)]
 mod cuts;
 #[cfg(test)]
+mod draws;
+#[cfg(test)]
 mod eliminations;
 #[cfg(test)]
 mod expect;

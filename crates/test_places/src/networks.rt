@@ -1,4 +1,6 @@
 // Worked examples of max_flow, and networks that another program solved.
+ghost use Rattle.std.specs.Prelude.{◌<◌};
+
 use crate::expect::expect_done;
 use max_flow::{Network, Pipe, solve};
 use std::alloc::{AllocError, Global};
@@ -90,15 +92,20 @@ const SOLUTIONS: &[Solution<'static>] = &[
     ),
 ];
 
+// Asserts that a network has this solution.
+fn assert_solution(rt: &impl Abort, alloc: Global, of: &Solution) -> Result<(), AllocError> {
+    let (nodes, pipes, flow, value, side) = *of;
+    let network = network_of(rt, alloc, nodes, pipes)?;
+    let solved = solve(alloc, &network)?;
+    let is_flow = solved.flow.as_slice() == flow && solved.value == value;
+    let is_solution = is_flow && solved.source_side.as_slice() == side;
+    assert!(rt; is_solution, "{pipes:?}");
+    Ok(())
+}
+
 fn assert_worked_examples(rt: &impl Abort, alloc: Global) -> Result<(), AllocError> {
-    for (nodes, pipes, flow, value, side) in SOLUTIONS.iter() {
-        let network = network_of(rt, alloc, *nodes, *pipes)?;
-        let solved = solve(alloc, &network)?;
-        let is_flow = solved.flow.as_slice() == *flow && solved.value == *value;
-        assert!(rt;
-            is_flow && solved.source_side.as_slice() == *side,
-            "{pipes:?}"
-        );
+    for of in SOLUTIONS.iter() {
+        assert_solution(rt, alloc, of)?;
     }
     Ok(())
 }
@@ -129,28 +136,77 @@ fn next(state: &mut u64) -> u32 {
     (*state >> 33) as u32
 }
 
-// Pipes between the cells of a square of 16 by 16, with ends at its first and last columns.
+// A pipe between two cells, as the next numbers of a row have it.
+fn add_pipe(pipes: &mut Vec<Row>, state: &mut u64, from: u32, to: u32) -> Result<(), AllocError> {
+    let ahead = next(state) % 3061;
+    pipes.push((from, to, ahead, next(state) % 3061))?;
+    Ok(())
+}
+
+// The pipes of a cell of a square of 16 by 16, with an end at its first and last columns.
+fn add_cell(pipes: &mut Vec<Row>, state: &mut u64, cell: u32) -> Result<(), AllocError>
+    requires { cell < 256 }
+{
+    let node = cell + 2;
+    if cell % 16 == 0 {
+        pipes.push((0, node, 65536, 0))?;
+    }
+    if cell % 16 < 15 {
+        add_pipe(pipes, state, node, node + 1)?;
+    }
+    if cell < 240 {
+        add_pipe(pipes, state, node, node + 16)?;
+    }
+    if cell % 16 == 15 {
+        pipes.push((node, 1, 65536, 0))?;
+    }
+    Ok(())
+}
+
+fn add_cells(pipes: &mut Vec<Row>) -> Result<(), AllocError> {
+    let mut state = 2006;
+    for cell in 0..256 {
+        add_cell(pipes, &mut state, cell)?;
+    }
+    Ok(())
+}
+
+// Pipes between the cells of this square.
 fn grid(alloc: Global) -> Result<Vec<Row>, AllocError> {
     let mut pipes = Vec::new(alloc);
-    let mut state = 2006;
-    for cell in 0..256u32 {
-        let node = cell + 2;
-        if cell % 16 == 0 {
-            pipes.push((0, node, 65536, 0))?;
-        }
-        if cell % 16 < 15 {
-            let ahead = next(&mut state) % 3061;
-            pipes.push((node, node + 1, ahead, next(&mut state) % 3061))?;
-        }
-        if cell < 240 {
-            let ahead = next(&mut state) % 3061;
-            pipes.push((node, node + 16, ahead, next(&mut state) % 3061))?;
-        }
-        if cell % 16 == 15 {
-            pipes.push((node, 1, 65536, 0))?;
-        }
-    }
+    add_cells(&mut pipes)?;
     Ok(pipes)
+}
+
+// What the leg of a star to the sink carries, beside legs of a and b: more than both together, nothing, or what a triangle
+// fits.
+fn leg(state: &mut u64, kind: u32, a: u32, b: u32) -> u32
+    requires a { a < 500 }
+    requires b { b < 500 }
+{
+    let most = (a + b - a.abs_diff(b)).wrapping_add(1);
+    match kind {
+        1 => 1500,
+        2 => 0,
+        _ => a
+            .abs_diff(b)
+            .wrapping_add(next(state).checked_rem(most).unwrap_or(0)),
+    }
+}
+
+// Adds the pipes of a star between two cells and the sink.
+fn add_star(
+    pipes: &mut Vec<Row>,
+    ends: (u32, u32, u32),
+    legs: (u32, u32, u32),
+    back: u32,
+) -> Result<(), AllocError> {
+    let (from, to, middle) = ends;
+    let (a, b, down) = legs;
+    pipes.push((from, middle, a, a))?;
+    pipes.push((middle, to, b, b))?;
+    pipes.push((middle, 1, down, back))?;
+    Ok(())
 }
 
 // Adds the pipes of a seam between two cells, as the next numbers of a row have it: a star whose legs a
@@ -170,42 +226,63 @@ fn add_seam(
         pipes.push((from, to, a, b))?;
         return Ok(false);
     }
-    let most = (a + b - a.abs_diff(b)).wrapping_add(1);
-    let down = match kind {
-        1 => 1500,
-        2 => 0,
-        _ => a
-            .abs_diff(b)
-            .wrapping_add(next(state).checked_rem(most).unwrap_or(0)),
-    };
-    pipes.push((from, middle, a, a))?;
-    pipes.push((middle, to, b, b))?;
-    pipes.push((middle, 1, down, next(state) % 2))?;
+    let down = leg(state, kind, a, b);
+    let back = next(state) % 2;
+    add_star(pipes, (from, to, middle), (a, b, down), back)?;
     Ok(true)
 }
 
-// Cells of a square of 12 by 12 with seams between them, the source at the first column and the sink at
-// the last.
+// The pipes of a cell of a square of 12 by 12, the source at the first column and the sink at the last. Returns the next
+// middle node.
+fn add_seams(
+    pipes: &mut Vec<Row>,
+    state: &mut u64,
+    cell: u32,
+    middle: u32,
+) -> Result<u32, AllocError>
+    requires { cell < 144 }
+{
+    let node = cell + 2;
+    let mut middle = middle;
+    if cell % 12 == 0 {
+        pipes.push((0, node, 65536, 0))?;
+    }
+    if cell % 12 < 11 && add_seam(pipes, state, node, node + 1, middle)? {
+        middle = middle.wrapping_add(1);
+    }
+    if cell < 132 && add_seam(pipes, state, node, node + 12, middle)? {
+        middle = middle.wrapping_add(1);
+    }
+    if cell % 12 == 11 {
+        pipes.push((node, 1, next(state) % 2000, 0))?;
+    }
+    Ok(middle)
+}
+
+fn add_all_seams(pipes: &mut Vec<Row>, seed: u64) -> Result<(), AllocError> {
+    let mut state = seed;
+    let mut middle = 146;
+    for cell in 0..144 {
+        middle = add_seams(pipes, &mut state, cell, middle)?;
+    }
+    Ok(())
+}
+
+// Cells of this square with seams between them.
 fn square_of_seams(alloc: Global, seed: u64) -> Result<Vec<Row>, AllocError> {
     let mut pipes = Vec::new(alloc);
-    let mut state = seed;
-    let mut middle = 146u32;
-    for cell in 0..144u32 {
-        let node = cell + 2;
-        if cell % 12 == 0 {
-            pipes.push((0, node, 65536, 0))?;
-        }
-        if cell % 12 < 11 && add_seam(&mut pipes, &mut state, node, node + 1, middle)? {
-            middle = middle.wrapping_add(1);
-        }
-        if cell < 132 && add_seam(&mut pipes, &mut state, node, node + 12, middle)? {
-            middle = middle.wrapping_add(1);
-        }
-        if cell % 12 == 11 {
-            pipes.push((node, 1, next(&mut state) % 2000, 0))?;
-        }
-    }
+    add_all_seams(&mut pipes, seed)?;
     Ok(pipes)
+}
+
+fn solved_square(rt: &impl Abort, alloc: Global, seed: u64) -> Result<(u64, usize), AllocError> {
+    let pipes = square_of_seams(alloc, seed)?;
+    solved(rt, alloc, 410, &pipes)
+}
+
+fn solved_grid(rt: &impl Abort, alloc: Global) -> Result<(u64, usize), AllocError> {
+    let pipes = grid(alloc)?;
+    solved(rt, alloc, 258, &pipes)
 }
 
 // The values and the sizes of the source sides are those that a solver by augmenting paths in Python found.
@@ -213,12 +290,10 @@ fn assert_networks_that_another_program_solved(
     rt: &impl Abort,
     alloc: Global,
 ) -> Result<(), AllocError> {
-    let pipes = grid(alloc)?;
-    assert!(rt; solved(rt, alloc, 258, &pipes)? == (14459, 177));
-    for (seed, value, count) in [(0, 6574, 20), (1, 6120, 24), (2, 6357, 21)] {
-        let pipes = square_of_seams(alloc, seed)?;
-        assert!(rt; solved(rt, alloc, 410, &pipes)? == (value, count));
-    }
+    assert!(rt; solved_grid(rt, alloc)? == (14459, 177));
+    assert!(rt; solved_square(rt, alloc, 0)? == (6574, 20));
+    assert!(rt; solved_square(rt, alloc, 1)? == (6120, 24));
+    assert!(rt; solved_square(rt, alloc, 2)? == (6357, 21));
     Ok(())
 }
 

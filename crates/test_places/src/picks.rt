@@ -1,5 +1,4 @@
-// Worked examples of patch_place: the first draws of two seeds, as another program gives them, the lists of
-// small samples and outputs, and steps over a row.
+// Worked examples of patch_place: the lists of small samples and outputs, and picks and steps over a row.
 ghost use Rattle.std.specs.Prelude.{◌≡◌, ◌<◌, ◌≤◌, ◌+◌, All, IfOk, IsTrue};
 ghost use Rattle.cells.specs.Cells.{blank};
 ghost use Rattle.cells.specs.Places.{IsInside, IsSmall, cell_count};
@@ -9,7 +8,7 @@ ghost use Rattle.patch_place.specs.Lists.{IsWithin};
 ghost use Rattle.patch_place.specs.Picks.{AllFit, HasEntries, listed_on};
 
 use crate::expect::expect_done;
-use crate::rows::{greys, row_of, two_parts};
+use crate::rows::{assert_fits, greys, row_of, two_parts};
 use cells::{At, Box3, PartPlace, Size, Volume};
 use costs::total;
 use graph_place::place;
@@ -17,109 +16,6 @@ use map_canvas::{Canvas, Placement};
 use patch_place::{Candidates, Draws, Mode, next_placement, pick, window_size};
 use std::alloc::{AllocError, Global};
 use std::process::Abort;
-
-// The first ten words of a seed's stream, as another program computes them. The third key has its bytes in order.
-const FIRST_DRAWS: &[(u64, [u32; 10])] = &[
-    (
-        0,
-        [
-            804_192_318,
-            3_594_542_985,
-            3_904_396_159,
-            2_711_947_551,
-            3_272_508_460,
-            998_218_446,
-            2_296_453_912,
-            505_049_583,
-            1_927_367_832,
-            1_097_802_169,
-        ],
-    ),
-    (
-        u64::MAX,
-        [
-            577_849_543,
-            3_025_045_049,
-            2_693_900_732,
-            999_971_585,
-            19_066_888,
-            2_794_726_118,
-            1_182_983_420,
-            1_788_402_307,
-            2_276_627_896,
-            2_310_499_488,
-        ],
-    ),
-    (
-        0x0102_0304_0506_0708,
-        [
-            3_779_564_296,
-            233_369_677,
-            504_565_293,
-            151_378_964,
-            3_634_627_318,
-            2_208_391_981,
-            2_463_984_662,
-            228_079_351,
-            1_786_446_417,
-            2_506_130_120,
-        ],
-    ),
-];
-
-// Whether the first draws of a seed among so many are those of these words.
-fn are_first(seed: u64, words: &[u32], n: u32) -> bool {
-    let mut draws = Draws::from_seed(seed);
-    for word in words {
-        if draws.below(n.max(1)) != word.checked_rem(n).unwrap_or(0) {
-            return false;
-        }
-    }
-    draws.place() == 10
-}
-
-#[test]
-fn first_draws(rt: HostRuntime) {
-    for (seed, words) in FIRST_DRAWS.iter() {
-        for n in [1, 2, 100, 9_409, u32::MAX] {
-            assert!(rt; are_first(*seed, words, n), "seed {seed} among {n}");
-        }
-    }
-}
-
-// A seed, the number of a draw, and its word.
-const DRAWS: &[(u64, u64, u32)] = &[
-    (0, 0, 804_192_318),
-    (0, 15, 1_123_945_486),
-    (0, 16, 234_532_562),
-    (0, (1 << 32) - 1, 3_807_349_373),
-    (0, u64::MAX, 3_567_980_399),
-    (u64::MAX, 16, 3_089_263_663),
-    (u64::MAX, 17, 2_545_582_257),
-    (u64::MAX, 1 << 36, 2_013_668_932),
-    (u64::MAX, u64::MAX, 1_704_046_721),
-];
-
-#[test]
-fn draws_by_their_number(rt: HostRuntime) {
-    for (seed, place, word) in DRAWS.iter() {
-        let mut draws = Draws::from_seed(*seed);
-        draws.go_to(*place);
-        assert!(rt; draws.place() == *place);
-        assert!(rt;
-            draws.below(u32::MAX) == *word,
-            "draw {place} of seed {seed}"
-        );
-    }
-    // After the last draw the first one comes again.
-    let mut draws = Draws::from_seed(0);
-    draws.go_to(u64::MAX);
-    draws.below(7);
-    assert!(rt; draws.below(u32::MAX) == 804_192_318);
-    // A draw that is given back is drawn again.
-    draws.go_to(0);
-    assert!(rt; draws.below(u32::MAX) == 804_192_318);
-}
 
 const OUTPUT: Size = Size { w: 5, h: 4, f: 1 };
 
@@ -344,6 +240,23 @@ fn lists_of_two_parts(rt: HostRuntime) {
     expect_done(&rt, assert_lists_of_two_parts(&rt, rt.alloc()));
 }
 
+// Whether the entries of a box of two frames begin in frames 0, 1 and 4.
+fn are_three(list: &Candidates, output: Size, sample: &Volume, rect: Box3) -> bool
+    requires output { IsSmall output }
+    requires within { IsWithin list.now output }
+{
+    if list.count(output, sample) != 3 {
+        return false;
+    }
+    for (i, f) in [(0, 0), (1, 1), (2, 4)] {
+        let from = At { x: 0, y: 0, f };
+        if list.entry(i, output, sample) != (Placement { rect, from }) {
+            return false;
+        }
+    }
+    true
+}
+
 // A box of two frames in clips of three frames and of two, of which the second begins in frame 4.
 fn assert_lists_of_frames(rt: &impl Abort, alloc: Global) -> Result<(), AllocError> {
     let output = Size { w: 1, h: 1, f: 4 };
@@ -353,14 +266,7 @@ fn assert_lists_of_frames(rt: &impl Abort, alloc: Global) -> Result<(), AllocErr
         size: Size { w: 1, h: 1, f: 2 },
     };
     let list = Candidates::Fits { rect };
-    assert!(rt; list.count(output, &sample) == 3);
-    for (i, f) in [(0, 0), (1, 1), (2, 4)] {
-        let from = At { x: 0, y: 0, f };
-        assert!(rt;
-            list.entry(i, output, &sample) == Placement { rect, from },
-            "entry {i}"
-        );
-    }
+    assert!(rt; are_three(&list, output, &sample, rect));
     Ok(())
 }
 
@@ -445,7 +351,35 @@ const TOLERATED: &[Tolerated] = &[
     ([1, 2], 1_000, 1, 1),
 ];
 
-// Sees that a draw among n picks the one after the first that is eligible, by the draw of each of 16 numbers.
+// Sees that the draw of a number among n picks the one after the first that is eligible.
+fn expect_pick(
+    rt: &impl Abort,
+    alloc: Global,
+    canvas: &Canvas,
+    sample: &Volume,
+    row: &Tolerated,
+    number: u64,
+) -> Result<(), AllocError>
+    requires { StandsOver canvas.now sample.now }
+{
+    let (_, tol, first, n) = *row;
+    assert!(rt; 0 < n && n < 9 && 0 <= first && first < 9 && number < 16);
+    let mode = Mode::Sub {
+        side: 3,
+        overlap: 2,
+        tol,
+    };
+    let mut draws = Draws::from_seed(0);
+    draws.go_to(number);
+    let column = first + draws.below(n) as i32;
+    let step = step_at(alloc, &mode, canvas, sample, number)?;
+    let picked = picked_at(alloc, &mode, tol, canvas, sample, number)?;
+    let is_step = step == (Some((0, 3, column)), number + 1);
+    assert!(rt; is_step && picked == Some(column), "draw {number}");
+    Ok(())
+}
+
+// The same of each of 16 numbers.
 fn expect_picks(
     rt: &impl Abort,
     alloc: Global,
@@ -455,32 +389,36 @@ fn expect_picks(
 ) -> Result<(), AllocError>
     requires { StandsOver canvas.now sample.now }
 {
-    let (_, tol, first, n) = *row;
-    assert!(rt; 0 < n && n < 9 && 0 <= first && first < 9);
-    let mode = Mode::Sub {
-        side: 3,
-        overlap: 2,
-        tol,
-    };
     for number in 0..16 {
-        let mut draws = Draws::from_seed(0);
-        draws.go_to(number);
-        let column = first + draws.below(n) as i32;
-        let step = step_at(alloc, &mode, canvas, sample, number)?;
-        assert!(rt; step == (Some((0, 3, column)), number + 1), "draw {number}");
-        let picked = picked_at(alloc, &mode, tol, canvas, sample, number)?;
-        assert!(rt; picked == Some(column), "draw {number}");
+        expect_pick(rt, alloc, canvas, sample, row, number)?;
+    }
+    Ok(())
+}
+
+fn expect_tolerated(
+    rt: &impl Abort,
+    alloc: Global,
+    sample: &Volume,
+    row: &Tolerated,
+) -> Result<(), AllocError> {
+    let canvas = row_of(rt, alloc, 6, sample, &row.0)?;
+    expect_picks(rt, alloc, &canvas, sample, row)
+}
+
+fn expect_each_tolerated(
+    rt: &impl Abort,
+    alloc: Global,
+    sample: &Volume,
+) -> Result<(), AllocError> {
+    for row in TOLERATED.iter() {
+        expect_tolerated(rt, alloc, sample, row)?;
     }
     Ok(())
 }
 
 fn assert_picks_within_a_tolerance(rt: &impl Abort, alloc: Global) -> Result<(), AllocError> {
     let sample = greys(alloc)?;
-    for row in TOLERATED.iter() {
-        let canvas = row_of(rt, alloc, 6, &sample, &row.0)?;
-        expect_picks(rt, alloc, &canvas, &sample, row)?;
-    }
-    Ok(())
+    expect_each_tolerated(rt, alloc, &sample)
 }
 
 #[test]
@@ -508,15 +446,28 @@ const STEPS: &[(Mode, u64, Step, Step)] = &[
     (BROAD, u64::MAX, ((0, 3, 1), 0), ((0, 3, 0), 0)),
 ];
 
+fn expect_steps(
+    rt: &impl Abort,
+    alloc: Global,
+    empty: &Canvas,
+    begun: &Canvas,
+    sample: &Volume,
+) -> Result<(), AllocError>
+    requires empty { StandsOver empty.now sample.now }
+    requires begun { StandsOver begun.now sample.now }
+{
+    for (mode, number, on_empty, on_begun) in STEPS.iter() {
+        expect_step(rt, alloc, mode, *number, empty, sample, on_empty)?;
+        expect_step(rt, alloc, mode, *number, begun, sample, on_begun)?;
+    }
+    Ok(())
+}
+
 fn assert_steps_of_each_mode(rt: &impl Abort, alloc: Global) -> Result<(), AllocError> {
     let sample = greys(alloc)?;
     let empty = row_of(rt, alloc, 6, &sample, &[])?;
     let begun = row_of(rt, alloc, 6, &sample, &[1, 0])?;
-    for (mode, number, on_empty, on_begun) in STEPS.iter() {
-        expect_step(rt, alloc, mode, *number, &empty, &sample, on_empty)?;
-        expect_step(rt, alloc, mode, *number, &begun, &sample, on_begun)?;
-    }
-    Ok(())
+    expect_steps(rt, alloc, &empty, &begun, &sample)
 }
 
 #[test]
@@ -565,6 +516,39 @@ fn no_step_on_a_full_row(rt: HostRuntime) {
     expect_done(&rt, assert_no_step_on_a_full_row(&rt, rt.alloc()));
 }
 
+// The next placement by the draw of a number.
+fn next_by(
+    alloc: Global,
+    canvas: &Canvas,
+    sample: &Volume,
+    number: u64,
+) -> Result<Option<Placement>, AllocError>
+    requires { StandsOver canvas.now sample.now }
+{
+    let mut draws = Draws::from_seed(0);
+    draws.go_to(number);
+    next_placement(alloc, &PATCH, canvas, sample, &mut draws)
+}
+
+// Puts a placement in, and asserts that the third cell comes from the second cell of the second part.
+fn assert_of_second(
+    rt: &impl Abort,
+    alloc: Global,
+    canvas: &mut Canvas,
+    sample: &Volume,
+    placement: Placement,
+) -> Result<(), AllocError>
+    requires { StandsOver canvas.old sample.now }
+{
+    assert_fits(rt, canvas, sample, &placement);
+    place(alloc, canvas, sample, placement)?;
+    let from = canvas.map().at(At { x: 2, y: 0, f: 0 });
+    let part = from.and_then(|from| sample.sizes().part_of(from));
+    let at = At { x: 1, y: 0, f: 0 };
+    assert!(rt; part == Some(PartPlace { part: 2, at }));
+    Ok(())
+}
+
 // Two parts of 2x1, of the greys 10 and 20 and of 20 and 30. Cells 0 and 1 of three are from the first part; the
 // patch of the second one has 20 on cell 1 too.
 fn expect_second_part(
@@ -574,27 +558,24 @@ fn expect_second_part(
     number: u64,
 ) -> Result<(), AllocError> {
     let mut canvas = row_of(rt, alloc, 3, sample, &[0, 1])?;
-    let mut draws = Draws::from_seed(0);
-    draws.go_to(number);
-    let Some(placement) = next_placement(alloc, &PATCH, &canvas, sample, &mut draws)? else {
-        return Err(AllocError);
-    };
-    assert!(rt; placement == picture(&((1, 0), (2, 1), (0, 0, 2))));
-    place(alloc, &mut canvas, sample, placement)?;
-    let from = canvas.map().at(At { x: 2, y: 0, f: 0 });
-    let part = from.and_then(|from| sample.sizes().part_of(from));
-    let at = At { x: 1, y: 0, f: 0 };
-    assert!(rt; part == Some(PartPlace { part: 2, at }));
+    let next = next_by(alloc, &canvas, sample, number)?;
+    let second = picture(&((1, 0), (2, 1), (0, 0, 2)));
+    assert!(rt; next == Some(second));
+    assert_of_second(rt, alloc, &mut canvas, sample, second)?;
     assert!(rt; total(&canvas, sample) == 765);
+    Ok(())
+}
+
+fn expect_second_parts(rt: &impl Abort, alloc: Global, sample: &Volume) -> Result<(), AllocError> {
+    for number in 0..8 {
+        expect_second_part(rt, alloc, sample, number)?;
+    }
     Ok(())
 }
 
 fn assert_a_patch_of_the_second_part(rt: &impl Abort, alloc: Global) -> Result<(), AllocError> {
     let sample = two_parts(alloc)?;
-    for number in 0..8 {
-        expect_second_part(rt, alloc, &sample, number)?;
-    }
-    Ok(())
+    expect_second_parts(rt, alloc, &sample)
 }
 
 #[test]

@@ -6,9 +6,9 @@ use crate::expect::expect_done;
 use crate::rows::{assert_fits, canvas_over, greys, put, row_at, row_of};
 use cells::{At, Box3, Size, Volume};
 use costs::{are_marks, window};
-use cut_check::Flow;
+use cut_check::{CutRecord, Flow};
 use graph_place::place_held;
-use map_canvas::{Canvas, Placement};
+use map_canvas::{Canvas, Map, Placement};
 use std::alloc::{AllocError, Global};
 use std::process::Abort;
 
@@ -18,6 +18,26 @@ fn flow(x: i16, y: i16) -> Flow {
     Flow { x, y }
 }
 
+// Puts a placement in, and asserts that it has this choice and these flows.
+fn assert_cut(
+    rt: &impl Abort,
+    alloc: Global,
+    canvas: &mut Canvas,
+    sample: &Volume,
+    placement: Placement,
+    choice: &[bool],
+    flows: &[Flow],
+) -> Result<(), AllocError>
+    requires { StandsOver canvas.old sample.now }
+    ensures { StandsOver canvas.new sample.now }
+{
+    assert_fits(rt, canvas, sample, &placement);
+    let cut = place_held(alloc, canvas, sample, placement, None)?;
+    let is_cut = cut.choice.as_slice() == choice && cut.flows.as_slice() == flows;
+    assert!(rt; is_cut);
+    Ok(())
+}
+
 // Asserts that a placement is put in with this choice, these flows and this window sum after it.
 fn assert_placed(
     rt: &impl Abort,
@@ -25,7 +45,6 @@ fn assert_placed(
     canvas: &mut Canvas,
     sample: &Volume,
     placement: Placement,
-    held: Option<&[bool]>,
     choice: &[bool],
     flows: &[Flow],
     sum: u64,
@@ -33,62 +52,73 @@ fn assert_placed(
     requires { StandsOver canvas.old sample.now }
     ensures { StandsOver canvas.new sample.now }
 {
-    assert_fits(rt, canvas, sample, &placement);
-    assert!(rt; are_marks(canvas, &placement, held));
-    let cut = place_held(alloc, canvas, sample, placement, held)?;
-    assert!(rt; cut.choice.as_slice() == choice);
-    assert!(rt; cut.flows.as_slice() == flows);
+    assert_cut(rt, alloc, canvas, sample, placement, choice, flows)?;
     assert!(rt; window(canvas, sample, &placement.rect) == sum);
     Ok(())
 }
 
+// Where the box of a row begins, its choice, its flows and its window sum.
+type Step<'a> = (i32, &'a [bool], &'a [Flow], u64);
+
+const NONE: Flow = Flow { x: 0, y: 0 };
+
+const BOTH: Flow = Flow { x: 120, y: 120 };
+
 // A row that is empty at first; then the first cell of the box is kept, and the second becomes new; then all
 // cells are filled, and the last of the box is kept.
-fn assert_rows_of_greys(rt: &impl Abort, alloc: Global) -> Result<(), AllocError> {
-    let sample = greys(alloc)?;
-    let mut canvas = row_of(rt, alloc, 6, &sample, &[])?;
-    assert_placed(
-        rt,
-        alloc,
-        &mut canvas,
-        &sample,
-        row_at(0),
-        None,
-        &[true, true, true, true],
-        &[flow(0, 0), flow(0, 0), flow(0, 0)],
-        0,
-    )?;
-    assert_placed(
-        rt,
-        alloc,
-        &mut canvas,
-        &sample,
-        row_at(2),
-        None,
+const STEPS: &[Step<'static>] = &[
+    (0, &[true, true, true, true], &[NONE, NONE, NONE], 0),
+    (
+        2,
         &[false, true, true, true],
-        &[flow(120, 120), flow(120, 0), flow(0, 0)],
+        &[BOTH, Flow { x: 120, y: 0 }, NONE],
         120,
-    )?;
-    assert_placed(
-        rt,
-        alloc,
-        &mut canvas,
-        &sample,
-        row_at(0),
-        None,
+    ),
+    (
+        0,
         &[true, true, true, false],
-        &[flow(0, 0), flow(0, 0), flow(0, -120)],
+        &[NONE, NONE, Flow { x: 0, y: -120 }],
         120,
-    )?;
-    let map = canvas.map();
-    for (x, source) in [0, 1, 2, 1, 2, 3].iter().enumerate() {
-        let from = map.at(At {
+    ),
+];
+
+fn lay_steps(
+    rt: &impl Abort,
+    alloc: Global,
+    canvas: &mut Canvas,
+    sample: &Volume,
+) -> Result<(), AllocError>
+    requires { StandsOver canvas.old sample.now }
+{
+    'steps: for (x, choice, flows, sum) in STEPS.iter() {
+        assert_placed(rt, alloc, canvas, sample, row_at(*x), *choice, *flows, *sum)?;
+    }
+    Ok(())
+}
+
+// Whether the cells of a row have these columns of the sample.
+fn has_columns(map: &Map, columns: &[i32]) -> bool {
+    for (x, source) in columns.iter().enumerate() {
+        if x >= 99 {
+            return false;
+        }
+        let at = At {
             x: x as i32,
             y: 0,
             f: 0,
-        });
-        assert!(rt; from.map(|from| from.x) == Some(*source), "at {x}");
+        };
+        if map.at(at).map(|from| from.x) != Some(*source) {
+            return false;
+        }
     }
+    true
+}
+
+fn assert_rows_of_greys(rt: &impl Abort, alloc: Global) -> Result<(), AllocError> {
+    let sample = greys(alloc)?;
+    let mut canvas = row_of(rt, alloc, 6, &sample, &[])?;
+    lay_steps(rt, alloc, &mut canvas, &sample)?;
+    assert!(rt; has_columns(canvas.map(), &[0, 1, 2, 1, 2, 3]));
     Ok(())
 }
 
@@ -97,20 +127,39 @@ fn rows_of_greys(rt: HostRuntime) {
     expect_done(&rt, assert_rows_of_greys(&rt, rt.alloc()));
 }
 
+// Whether a cut has two old cells and two new ones, and as much goes on from the held cell as comes to it.
+fn is_held(cut: &CutRecord) -> bool {
+    let flows = cut.flows.as_slice();
+    let is_choice = cut.choice.as_slice() == [false, false, true, true].as_slice();
+    is_choice
+        && flows.len() == 3
+        && flows[0].x == flows[0].y
+        && &flows[1..] == [flow(825, 0), NONE].as_slice()
+}
+
+fn place_over_held(
+    rt: &impl Abort,
+    alloc: Global,
+    canvas: &mut Canvas,
+    sample: &Volume,
+    placement: Placement,
+) -> Result<(), AllocError>
+    requires { StandsOver canvas.old sample.now }
+{
+    let held = Some([false, true, false, false].as_slice());
+    assert_fits(rt, canvas, sample, &placement);
+    assert!(rt; are_marks(canvas, &placement, held));
+    let cut = place_held(alloc, canvas, sample, placement, held)?;
+    assert!(rt; is_held(&cut));
+    Ok(())
+}
+
 // With its second cell held, two cells of the box stay old; what comes to the one goes on to the other.
 fn assert_row_with_a_held_cell(rt: &impl Abort, alloc: Global) -> Result<(), AllocError> {
     let sample = greys(alloc)?;
     let mut canvas = row_of(rt, alloc, 6, &sample, &[0, 1, 2, 3])?;
     let placement = row_at(2);
-    let held = Some([false, true, false, false].as_slice());
-    assert_fits(rt, &canvas, &sample, &placement);
-    assert!(rt; are_marks(&canvas, &placement, held));
-    let cut = place_held(alloc, &mut canvas, &sample, placement, held)?;
-    assert!(rt; cut.choice.as_slice() == [false, false, true, true].as_slice());
-    let flows = cut.flows.as_slice();
-    assert!(rt; flows.len() == 3);
-    assert!(rt; flows[0].x == flows[0].y);
-    assert!(rt; &flows[1..] == [flow(825, 0), flow(0, 0)].as_slice());
+    place_over_held(rt, alloc, &mut canvas, &sample, placement)?;
     assert!(rt; window(&canvas, &sample, &placement.rect) == 825);
     Ok(())
 }
@@ -142,7 +191,6 @@ fn assert_flows_of_two_axes(rt: &impl Abort, alloc: Global) -> Result<(), AllocE
         &mut canvas,
         &sample,
         placement,
-        None,
         &[false, true, true, true],
         &[flow(305, 0), flow(120, 0), flow(0, 0), flow(0, 0)],
         425,
@@ -182,7 +230,6 @@ fn assert_flows_of_three_axes(rt: &impl Abort, alloc: Global) -> Result<(), Allo
         &mut canvas,
         &sample,
         placement,
-        None,
         &choice,
         &flows,
         840,

@@ -54,20 +54,32 @@ const GREEDY: TilePlan = TilePlan {
     tol: 10,
 };
 
+fn assert_steps(
+    rt: &impl Abort,
+    alloc: Global,
+    canvas: &mut Canvas,
+    sample: &Volume,
+) -> Result<(), AllocError>
+    requires over { StandsOver canvas.old sample.now }
+    requires part { IsOnePart sample.now }
+{
+    let mut draws = Draws::from_seed(0);
+    let first = next_of_row(rt, alloc, &GREEDY, canvas, sample, &mut draws)?;
+    assert!(rt; first == Some((2, 2, 0)));
+    let second = next_of_row(rt, alloc, &GREEDY, canvas, sample, &mut draws)?;
+    assert!(rt; second == Some((0, 2, 0)));
+    let third = next_of_row(rt, alloc, &GREEDY, canvas, sample, &mut draws)?;
+    assert!(rt; third == None && draws.place() == 2);
+    Ok(())
+}
+
 // Over two greys the first patch has the cells 2 and 0 of a row of three, and the second the cells 0 and 1, of
 // which the first is kept. Then the row is full, and stays as it is.
 fn assert_row_of_three(rt: &impl Abort, alloc: Global) -> Result<(), AllocError> {
     let bytes = Vec::from_slice(alloc, &[10, 10, 10, 20, 20, 20])?;
     let sample = Volume::from_bytes(Size { w: 2, h: 1, f: 1 }, 3, bytes);
     let mut canvas = canvas_over(alloc, Size { w: 3, h: 1, f: 1 }, &sample)?;
-    let mut draws = Draws::from_seed(0);
-    let first = next_of_row(rt, alloc, &GREEDY, &mut canvas, &sample, &mut draws)?;
-    assert!(rt; first == Some((2, 2, 0)));
-    let second = next_of_row(rt, alloc, &GREEDY, &mut canvas, &sample, &mut draws)?;
-    assert!(rt; second == Some((0, 2, 0)));
-    let third = next_of_row(rt, alloc, &GREEDY, &mut canvas, &sample, &mut draws)?;
-    assert!(rt; third == None);
-    assert!(rt; draws.place() == 2);
+    assert_steps(rt, alloc, &mut canvas, &sample)?;
     assert!(rt;
         canvas
             .map()
@@ -169,6 +181,16 @@ fn laid_twice(
     Ok(laid)
 }
 
+// Whether the plain total of what is laid twice is this share of an output's plain total and torus total together, and
+// whether its edges cost something.
+fn is_share(plain: u64, torus: u64, whole: u64, half: u64, cost: bool) -> bool
+    requires { 1 ≤ half }
+{
+    let both = u128::from(plain) + u128::from(torus);
+    let is_share = whole % half == 0 && u128::from(whole / half) == both;
+    plain <= torus && (plain < torus) == cost && is_share
+}
+
 // Tiles an output and lays it twice along each axis on which its edges meet. Each edge lies between two copies as
 // often as half the copies are, so that the plain total of what is laid is that share of the copies' plain totals
 // and torus totals together. `cost` says whether these edges cost something.
@@ -188,13 +210,10 @@ fn assert_twice(
 {
     let tiled = tile_canvas(alloc, plan, sample)?;
     let output = &tiled.canvas;
-    let laid = laid_twice(rt, alloc, output, sample, twice)?;
     let plain = total(output, sample);
     let torus = torus_total(output, sample, &plan.tile.wrap);
-    let whole = total(&laid, sample);
-    let both = u128::from(plain) + u128::from(torus);
-    let is_share = whole % half == 0 && u128::from(whole / half) == both;
-    assert!(rt; plain <= torus && (plain < torus) == cost && is_share);
+    let laid = laid_twice(rt, alloc, output, sample, twice)?;
+    assert!(rt; is_share(plain, torus, total(&laid, sample), half, cost));
     Ok(())
 }
 

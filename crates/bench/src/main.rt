@@ -2,7 +2,7 @@
 //
 // Its first word is the name of the case, and its second how often the case is run, 1 where there is none. It
 // prints a number of what comes out, which is the same in each run. With no word it does a little of everything,
-// which the gate compares. examples/bench.sh times the cases.
+// which the gate compares. checks/bench.sh times the cases.
 //
 // `samples` makes the samples, `growths` has the cases of growing, `quilts` those of quilting, `loops` those of
 // loops, `boundaries` those of strips, `networks` those of maximum flow, and `record_files` and `clips` those of

@@ -1,4 +1,4 @@
-// Made by examples/byte_tables.py: what is expected of a file in which one byte is another.
+// Made by checks/byte_tables.py: what is expected of a file in which one byte is another.
 use crate::rows::Answer::{Axis, Form, Number, Records};
 use crate::rows::Row;
 

@@ -44,18 +44,26 @@ enum Found {
     Refused(ReadError),
 }
 
+fn read_as_map(alloc: Global, shelf: &mut MemShelf) -> Result<Found, AllocError> {
+    match read_map(alloc, shelf, "file") {
+        Ok(file) => Ok(Found::Numbers(numbers_of_map(alloc, &file)?)),
+        Err(error) => Ok(Found::Refused(error)),
+    }
+}
+
+fn read_as_record(alloc: Global, shelf: &mut MemShelf) -> Result<Found, AllocError> {
+    match read_record_file(alloc, shelf, "file") {
+        Ok(file) => Ok(Found::Numbers(numbers_of_record(alloc, &file)?)),
+        Err(error) => Ok(Found::Refused(error)),
+    }
+}
+
 fn read_as(alloc: Global, reader: Reader, bytes: &[u8]) -> Result<Found, AllocError> {
     let mut shelf = MemShelf::new(alloc);
     shelf.put_file("file", bytes)?;
     match reader {
-        Reader::OfMaps => match read_map(alloc, &mut shelf, "file") {
-            Ok(file) => Ok(Found::Numbers(numbers_of_map(alloc, &file)?)),
-            Err(error) => Ok(Found::Refused(error)),
-        },
-        Reader::OfRecords => match read_record_file(alloc, &mut shelf, "file") {
-            Ok(file) => Ok(Found::Numbers(numbers_of_record(alloc, &file)?)),
-            Err(error) => Ok(Found::Refused(error)),
-        },
+        Reader::OfMaps => read_as_map(alloc, &mut shelf),
+        Reader::OfRecords => read_as_record(alloc, &mut shelf),
     }
 }
 
@@ -126,6 +134,20 @@ pub struct Tried {
     pub wrong: Option<(usize, u8)>,
 }
 
+// Whether a file with another value of one byte is read so.
+fn is_read_so(
+    alloc: Global,
+    of: &Table,
+    place: usize,
+    value: u8,
+    answer: Answer,
+    number: i128,
+) -> Result<bool, AllocError> {
+    let bytes = changed(alloc, of.file, place, value)?;
+    let found = read_as(alloc, of.reader, &bytes)?;
+    Ok(is_answer(&found, of.numbers, answer, number))
+}
+
 // Tries the values of a row at a place.
 fn try_place(alloc: Global, of: &Table, row: &Row, place: usize) -> Result<Tried, AllocError> {
     let (_, _, first, last, answer, start, shift) = *row;
@@ -134,8 +156,7 @@ fn try_place(alloc: Global, of: &Table, row: &Row, place: usize) -> Result<Tried
     for value in first..=last {
         if of.file.get(place) != Some(&value) {
             let more = step.wrapping_mul(i128::from(value) - i128::from(first));
-            let found = read_as(alloc, of.reader, &changed(alloc, of.file, place, value)?)?;
-            if !is_answer(&found, of.numbers, answer, start.wrapping_add(more)) {
+            if !is_read_so(alloc, of, place, value, answer, start.wrapping_add(more))? {
                 return Ok(Tried {
                     count,
                     wrong: Some((place, value)),

@@ -191,7 +191,21 @@ fn choice_of(bits: u32) -> [bool; 8] {
 // Where four cells along an axis begin, their choice by its bits, the flows, and what the check says.
 type Row<'a> = (i32, u32, &'a [(i16, i16)], Verdict);
 
-// Sees what the check says along each axis, over a canvas of six cells of which the first have these sources.
+// Sees what the check says along an axis, over a canvas of six cells of which the first have these sources.
+fn expect_axis(
+    rt: &impl Abort,
+    alloc: Global,
+    axis: Axis,
+    sources: &[i32],
+    held: Option<&[bool]>,
+    table: &[Row],
+) -> Result<(), AllocError> {
+    let sample = sample_along(rt, alloc, axis)?;
+    let canvas = canvas_along(rt, alloc, &sample, axis, sources)?;
+    expect_rows(rt, alloc, &canvas, &sample, axis, held, table)
+}
+
+// The same along each axis.
 fn expect_verdicts(
     rt: &impl Abort,
     alloc: Global,
@@ -200,14 +214,38 @@ fn expect_verdicts(
     table: &[Row],
 ) -> Result<(), AllocError> {
     for axis in AXES {
-        let sample = sample_along(rt, alloc, axis)?;
-        let canvas = canvas_along(rt, alloc, &sample, axis, sources)?;
-        expect_rows(rt, alloc, &canvas, &sample, axis, held, table)?;
+        expect_axis(rt, alloc, axis, sources, held, table)?;
     }
     Ok(())
 }
 
-// The same over one canvas.
+// What the check says of a row over one canvas.
+fn said_of(
+    rt: &impl Abort,
+    alloc: Global,
+    canvas: &Canvas,
+    sample: &Volume,
+    axis: Axis,
+    held: Option<&[bool]>,
+    row: &Row,
+) -> Result<Verdict, AllocError>
+    requires { StandsOver canvas.now sample.now }
+{
+    let (corner, bits, flows, _) = *row;
+    let choice = choice_of(bits);
+    verdict(
+        rt,
+        alloc,
+        canvas,
+        sample,
+        four_at(axis, corner),
+        &choice[..4],
+        flows,
+        held,
+    )
+}
+
+// Sees what the check says of each row.
 fn expect_rows(
     rt: &impl Abort,
     alloc: Global,
@@ -219,11 +257,9 @@ fn expect_rows(
 ) -> Result<(), AllocError>
     requires { StandsOver canvas.now sample.now }
 {
-    for (corner, bits, flows, want) in table.iter() {
-        let place = four_at(axis, *corner);
-        let choice = choice_of(*bits);
-        let said = verdict(rt, alloc, canvas, sample, place, &choice[..4], *flows, held)?;
-        assert!(rt; said == *want, "{axis:?} at {corner}, {bits:b}");
+    for row in table.iter() {
+        let said = said_of(rt, alloc, canvas, sample, axis, held, row)?;
+        assert!(rt; said == row.3, "{axis:?} at {}, {:b}", row.0, row.1);
     }
     Ok(())
 }
@@ -307,6 +343,104 @@ fn a_held_cell(rt: HostRuntime) {
     expect_done(&rt, found);
 }
 
+// Asserts that a choice by its bits stands with these flows only where it is the one.
+fn assert_alone(
+    rt: &impl Abort,
+    alloc: Global,
+    canvas: &Canvas,
+    sample: &Volume,
+    placement: Placement,
+    choice: &[bool],
+    flows: &[(i16, i16)],
+    bits: u32,
+) -> Result<(), AllocError>
+    requires { StandsOver canvas.now sample.now }
+{
+    let n = choice.len();
+    assert!(rt; n <= 8);
+    let all = choice_of(bits);
+    let other = &all[..n];
+    let said = verdict(rt, alloc, canvas, sample, placement, other, flows, None)?;
+    assert!(rt; said.is_none() == (other == choice));
+    Ok(())
+}
+
+// Asserts that a choice doesn't stand with a flow that is changed.
+fn assert_moved(
+    rt: &impl Abort,
+    alloc: Global,
+    canvas: &Canvas,
+    sample: &Volume,
+    placement: Placement,
+    choice: &[bool],
+    flows: &[(i16, i16)],
+    i: usize,
+    by: (i16, i16),
+) -> Result<(), AllocError>
+    requires { StandsOver canvas.now sample.now }
+{
+    let mut list = Vec::from_slice(alloc, flows)?;
+    if let Some(flow) = list.get_mut(i) {
+        *flow = (flow.0.wrapping_add(by.0), flow.1.wrapping_add(by.1));
+    }
+    let said = verdict(rt, alloc, canvas, sample, placement, choice, &list, None)?;
+    assert!(rt; said.is_some());
+    Ok(())
+}
+
+// One more and one less in each of the two numbers.
+fn assert_moves(
+    rt: &impl Abort,
+    alloc: Global,
+    canvas: &Canvas,
+    sample: &Volume,
+    placement: Placement,
+    choice: &[bool],
+    flows: &[(i16, i16)],
+    i: usize,
+) -> Result<(), AllocError>
+    requires { StandsOver canvas.now sample.now }
+{
+    for by in [(1, 0), (-1, 0), (0, 1), (0, -1)] {
+        assert_moved(rt, alloc, canvas, sample, placement, choice, flows, i, by)?;
+    }
+    Ok(())
+}
+
+fn assert_no_other_choice(
+    rt: &impl Abort,
+    alloc: Global,
+    canvas: &Canvas,
+    sample: &Volume,
+    placement: Placement,
+    choice: &[bool],
+    flows: &[(i16, i16)],
+) -> Result<(), AllocError>
+    requires { StandsOver canvas.now sample.now }
+{
+    for bits in 0..256 {
+        assert_alone(rt, alloc, canvas, sample, placement, choice, flows, bits)?;
+    }
+    Ok(())
+}
+
+fn assert_no_other_flow(
+    rt: &impl Abort,
+    alloc: Global,
+    canvas: &Canvas,
+    sample: &Volume,
+    placement: Placement,
+    choice: &[bool],
+    flows: &[(i16, i16)],
+) -> Result<(), AllocError>
+    requires { StandsOver canvas.now sample.now }
+{
+    for i in 0..flows.len() {
+        assert_moves(rt, alloc, canvas, sample, placement, choice, flows, i)?;
+    }
+    Ok(())
+}
+
 // Asserts that a choice stands with these flows, that its window sum is this, that no other choice over the box
 // stands with them, and that the choice doesn't stand with a flow that is one more or one less anywhere.
 fn assert_forced(
@@ -322,30 +456,11 @@ fn assert_forced(
     requires { StandsOver canvas.now sample.now }
 {
     let said = verdict(rt, alloc, canvas, sample, placement, choice, flows, None)?;
-    assert!(rt; said.is_none(), "{said:?}");
+    assert!(rt; said.is_none());
     assert_fits(rt, canvas.map().size(), sample, &placement);
     assert!(rt; window_after(canvas, sample, &placement, choice) == cost);
-
-    let n = choice.len();
-    assert!(rt; n <= 8);
-    for bits in 0..256u32 {
-        let other = choice_of(bits);
-        let other = &other[..n];
-        let said = verdict(rt, alloc, canvas, sample, placement, other, flows, None)?;
-        assert!(rt; said.is_none() == (other == choice), "{bits:b}");
-    }
-    let mut list = Vec::from_slice(alloc, flows)?;
-    for i in 0..flows.len() {
-        for (x, y) in [(1, 0), (-1, 0), (0, 1), (0, -1)] {
-            let (old_x, old_y) = flows[i];
-            assert!(rt; i < list.len());
-            list[i] = (old_x.wrapping_add(x), old_y.wrapping_add(y));
-            let said = verdict(rt, alloc, canvas, sample, placement, choice, &list, None)?;
-            assert!(rt; said.is_some(), "flow {i} changed by {x} and {y}");
-            list[i] = (old_x, old_y);
-        }
-    }
-    Ok(())
+    assert_no_other_choice(rt, alloc, canvas, sample, placement, choice, flows)?;
+    assert_no_other_flow(rt, alloc, canvas, sample, placement, choice, flows)
 }
 
 fn at(x: i32, y: i32, f: i32) -> At {

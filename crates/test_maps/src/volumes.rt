@@ -39,23 +39,48 @@ const OUTSIDE: &[Place] = &[
     (i32::MIN, 1, 1),
 ];
 
+const TWELVE: Size = Size { w: 3, h: 2, f: 2 };
+
+// Whether a place has an index, and the index that place.
+fn is_corner(place: Place, index: usize) -> bool {
+    TWELVE.index_of(at(place)) == Some(index)
+        && index < TWELVE.cells()
+        && TWELVE.place_at(index) == at(place)
+}
+
+// The number of the first corner, from 0, of which that isn't so.
+fn wrong_corner() -> Option<usize> {
+    for (i, (place, index)) in CORNERS.iter().enumerate() {
+        if !is_corner(*place, *index) {
+            return Some(i);
+        }
+    }
+    None
+}
+
+// The number of the first place outside, from 0, that has an index.
+fn wrong_outside() -> Option<usize> {
+    for (i, place) in OUTSIDE.iter().enumerate() {
+        if TWELVE.index_of(at(*place)).is_some() {
+            return Some(i);
+        }
+    }
+    None
+}
+
+fn are_steps() -> bool {
+    let step = at((10, 20, -30));
+    at((1, -2, 3)).plus(step) == at((11, 18, -27))
+        && at((1, -2, 3)).minus(step) == at((-9, -22, 33))
+        && Axis::F.unit() == at((0, 0, 1))
+}
+
 #[test]
 fn places_in_raster_order(rt: HostRuntime) {
-    let size = Size { w: 3, h: 2, f: 2 };
-    assert!(rt; size.cells() == 12);
-    for (place, index) in CORNERS.iter() {
-        let (place, index) = (*place, *index);
-        assert!(rt; size.index_of(at(place)) == Some(index), "at {place:?}");
-        assert!(rt; index < size.cells());
-        assert!(rt; size.place_at(index) == at(place), "at index {index}");
-    }
-    for place in OUTSIDE.iter() {
-        assert!(rt; size.index_of(at(*place)).is_none(), "at {place:?}");
-    }
-    let step = at((10, 20, -30));
-    assert!(rt; at((1, -2, 3)).plus(step) == at((11, 18, -27)));
-    assert!(rt; at((1, -2, 3)).minus(step) == at((-9, -22, 33)));
-    assert!(rt; Axis::F.unit() == at((0, 0, 1)));
+    expect_true(&rt, Ok(TWELVE.cells() == 12));
+    expect_none(&rt, Ok(wrong_corner()));
+    expect_none(&rt, Ok(wrong_outside()));
+    expect_true(&rt, Ok(are_steps()));
 }
 
 // The bytes once cells (2, 1, 1) and (1, 1, 0) are set.
@@ -108,13 +133,18 @@ fn two_parts(alloc: Global) -> Result<Volume, AllocError> {
     Ok(volume)
 }
 
-// Whether each cell is as a table says, in parts with these sizes and distances.
-fn are_parts(volume: &Volume, table: &[(Place, Option<&[u8]>)]) -> bool {
-    for (place, cell) in table.iter() {
+// The number of the first cell, from 0, that isn't as a table says.
+fn wrong_cell(volume: &Volume) -> Option<usize> {
+    for (i, (place, cell)) in PARTS.iter().enumerate() {
         if volume.cell(at(*place)) != *cell {
-            return false;
+            return Some(i);
         }
     }
+    None
+}
+
+// Whether the parts have these sizes and distances.
+fn are_parts(volume: &Volume) -> bool {
     let sizes = volume.sizes();
     let there = PartPlace {
         part: 2,
@@ -129,7 +159,7 @@ fn are_parts(volume: &Volume, table: &[(Place, Option<&[u8]>)]) -> bool {
 
 fn are_two_parts(alloc: Global) -> Result<bool, AllocError> {
     let volume = two_parts(alloc)?;
-    Ok(are_parts(&volume, PARTS))
+    Ok(wrong_cell(&volume).is_none() && are_parts(&volume))
 }
 
 #[test]
@@ -149,20 +179,24 @@ const DISTANCES: &[(Place, Place, u32)] = &[
 ];
 
 // The number of the first pair, from 0, with another distance.
-fn wrong_distance(alloc: Global) -> Result<Option<usize>, AllocError> {
-    let bytes = Vec::from_slice(alloc, &[10, 10, 10, 20, 30, 5, 255, 0, 0])?;
-    let volume = Volume::from_bytes(Size { w: 3, h: 1, f: 1 }, 3, bytes);
+fn wrong_distance(volume: &Volume) -> Option<usize> {
     for (i, (a, b, distance)) in DISTANCES.iter().enumerate() {
-        if cell_distance(&volume, at(*a), at(*b)) != *distance {
-            return Ok(Some(i));
+        if cell_distance(volume, at(*a), at(*b)) != *distance {
+            return Some(i);
         }
     }
-    Ok(None)
+    None
+}
+
+fn wrong_distance_of_three(alloc: Global) -> Result<Option<usize>, AllocError> {
+    let bytes = Vec::from_slice(alloc, &[10, 10, 10, 20, 30, 5, 255, 0, 0])?;
+    let volume = Volume::from_bytes(Size { w: 3, h: 1, f: 1 }, 3, bytes);
+    Ok(wrong_distance(&volume))
 }
 
 #[test]
 fn distances_of_cells(rt: HostRuntime) {
-    expect_none(&rt, wrong_distance(rt.alloc()));
+    expect_none(&rt, wrong_distance_of_three(rt.alloc()));
 }
 
 // Boxes, and whether parts of 3x2x2 and of 2x2x2 hold them. The second part has the frames 3 and 4, and frame 2 is empty.

@@ -18,16 +18,30 @@ const MADE: &[Made<'static>] = &[Made {
     picture: OVERLAP_PICTURE,
 }];
 
-// Over stores that take no memory.
+// The status of a line of words over stores that take no memory, and what is reported.
+fn surely_ran(
+    alloc: Global,
+    words: &str,
+    shelf: &mut SureShelf,
+    out: &mut SureSink,
+) -> Result<u8, AllocError> {
+    let mut err = SureSink::make(alloc, 4096)?;
+    ran(alloc, words, shelf, out, &mut err)
+}
+
+// Whether the check of what was grown ends well.
+fn surely_stands(alloc: Global, shelf: &mut SureShelf) -> Result<bool, AllocError> {
+    let mut out = SureSink::make(alloc, 4096)?;
+    let status = surely_ran(alloc, CHECK, shelf, &mut out)?;
+    Ok(status == 0 && out.bytes() == Some(b"stands\n".as_slice()))
+}
+
 fn is_surely_accepted(alloc: Global) -> Result<bool, AllocError> {
     let mut shelf = SureShelf::make(alloc, 4096)?;
     shelf.put_file("s", FOUR_CELLS);
     let mut out = SureSink::make(alloc, 4096)?;
-    let mut err = SureSink::make(alloc, 4096)?;
-    let grown = ran(alloc, OVERLAPPING, &mut shelf, &mut out, &mut err)?;
-    let mut said = SureSink::make(alloc, 4096)?;
-    let checked = ran(alloc, CHECK, &mut shelf, &mut said, &mut err)?;
-    Ok(grown == 0 && checked == 0 && said.bytes() == Some(b"stands\n".as_slice()))
+    let status = surely_ran(alloc, OVERLAPPING, &mut shelf, &mut out)?;
+    Ok(status == 0 && surely_stands(alloc, &mut shelf)?)
 }
 
 #[test]

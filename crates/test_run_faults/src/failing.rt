@@ -1,7 +1,7 @@
 // Each command, with each of its calls failing in turn.
+use crate::expect::expect_none;
 use crate::files::{FOUR_FRAMES, ONE_GREY, TWO_FRAMES, TWO_GREYS};
 use crate::trying::{Trying, wrong_trying};
-use std::test::Fail;
 use test_stage::{
     FOUR_CELLS, ONE_CELL, ONE_TURNED, ONE_TURNED_MAP, ONE_TURNED_RECORD, OVERLAP_MAP,
     OVERLAP_PICTURE, OVERLAP_RECORD, OVERLAPPING,
@@ -41,9 +41,8 @@ const GROWN: &[Trying<'static>] = &[
 ];
 
 #[test]
-fn grow(rt: HostRuntime) -> Result<(), Fail> {
-    assert_eq!(rt; wrong_trying(rt.alloc(), GROWN)?, None);
-    Ok(())
+fn grow(rt: HostRuntime) {
+    expect_none(&rt, wrong_trying(rt.alloc(), GROWN));
 }
 
 const OTHER_CELLS: &[u8] = b"P6\n4 1\n255\n\x32\x32\x32\x19\x19\x19\x1e\x1e\x1e\x0a\x0a\x0a";
@@ -76,12 +75,18 @@ const OTHER_PICTURES: &[Trying<'static>] = &[
         status: 0,
         report: "merge 4x1x1\npictures 2\nseams 15\n",
     },
+    Trying {
+        words: "tile sample=s out=o map=m width=6 height=1 wrap=x box=4 overlap=2",
+        reads: &[("s", "sample", FOUR_CELLS)],
+        writes: &[("o", "out"), ("m", "map")],
+        status: 0,
+        report: "tile 6x1x1\nplacements 2\nseams 1650\n",
+    },
 ];
 
 #[test]
-fn quilt_loop_and_merge(rt: HostRuntime) -> Result<(), Fail> {
-    assert_eq!(rt; wrong_trying(rt.alloc(), OTHER_PICTURES)?, None);
-    Ok(())
+fn quilt_loop_merge_and_tile(rt: HostRuntime) {
+    expect_none(&rt, wrong_trying(rt.alloc(), OTHER_PICTURES));
 }
 
 const CHECKED: Trying<'static> = Trying {
@@ -138,7 +143,6 @@ const OTHERS: &[Trying<'static>] = &[
 ];
 
 #[test]
-fn check_upgrade_and_trial(rt: HostRuntime) -> Result<(), Fail> {
-    assert_eq!(rt; wrong_trying(rt.alloc(), OTHERS)?, None);
-    Ok(())
+fn check_upgrade_and_trial(rt: HostRuntime) {
+    expect_none(&rt, wrong_trying(rt.alloc(), OTHERS));
 }

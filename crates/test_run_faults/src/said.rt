@@ -36,22 +36,34 @@ fn status_of(alloc: Global, of: &Refused, err: &mut MemSink) -> Result<u8, Alloc
     ran(alloc, of.words, &mut shelf, &mut out, err)
 }
 
-// Whether the status stays and the line is cut off where a write of it fails, which keeps so many
-// bytes of its piece.
+// What is found of a run of which a write of the line fails, which keeps so many bytes of its piece: nothing yet where the
+// status stays and the line is cut off, and else the answer.
+fn after_writes(
+    alloc: Global,
+    of: &Refused,
+    after: u8,
+    kept: usize,
+) -> Result<Option<bool>, AllocError> {
+    let mut err = MemSink::new(alloc);
+    err.fail_at(u32::from(after) + 1, kept)?;
+    let status = status_of(alloc, of, &mut err)?;
+    let line = of.line.as_bytes();
+    let said = status == of.status && line.starts_with(err.bytes());
+    if err.faults() == 0 {
+        return Ok(Some(said && after > 0 && err.bytes() == line));
+    }
+    if said && (after > 0 || err.bytes().len() == kept) {
+        Ok(None)
+    } else {
+        Ok(Some(false))
+    }
+}
+
+// Whether the status stays and the line is cut off where each write of it fails in turn.
 fn says_well(alloc: Global, of: &Refused, kept: usize) -> Result<bool, AllocError> {
     for after in 0..MOST_CALLS {
-        let mut err = MemSink::new(alloc);
-        err.fail_at(u32::from(after) + 1, kept)?;
-        let status = status_of(alloc, of, &mut err)?;
-        let line = of.line.as_bytes();
-        if status != of.status || !line.starts_with(err.bytes()) {
-            return Ok(false);
-        }
-        if err.faults() == 0 {
-            return Ok(after > 0 && err.bytes() == line);
-        }
-        if after == 0 && err.bytes().len() != kept {
-            return Ok(false);
+        if let Some(is_well) = after_writes(alloc, of, after, kept)? {
+            return Ok(is_well);
         }
     }
     Ok(false)

@@ -177,6 +177,28 @@ fn is_cut_file(whole: &Left, left: &Left, name: &str, after: u8, kept: usize) ->
     }
 }
 
+// What is found of a run of which a call fails: nothing yet where it fails as it is to, and else the answer.
+type Found = Option<bool>;
+
+fn found(is_stopped: bool) -> Found {
+    if is_stopped { None } else { Some(false) }
+}
+
+fn after_reads(
+    alloc: Global,
+    of: &Trying,
+    whole: &Left,
+    name: &str,
+    said: &str,
+    after: u8,
+) -> Result<Found, AllocError> {
+    let left = left_by(alloc, of, Failing::OnFile(Call::Get, name, after, 0))?;
+    if left.shelf.read_faults() == 0 {
+        return Ok(Some(after > 0 && is_well(of, whole, &left)));
+    }
+    Ok(found(is_unread(alloc, of, whole, &left, said)?))
+}
+
 // Each read of a file fails in turn.
 fn reads_fail_well(
     alloc: Global,
@@ -186,15 +208,28 @@ fn reads_fail_well(
     said: &str,
 ) -> Result<bool, AllocError> {
     for after in 0..MOST_CALLS {
-        let left = left_by(alloc, of, Failing::OnFile(Call::Get, name, after, 0))?;
-        if left.shelf.read_faults() == 0 {
-            return Ok(after > 0 && is_well(of, whole, &left));
-        }
-        if !is_unread(alloc, of, whole, &left, said)? {
-            return Ok(false);
+        if let Some(is_well) = after_reads(alloc, of, whole, name, said, after)? {
+            return Ok(is_well);
         }
     }
     Ok(false)
+}
+
+fn after_begins(
+    alloc: Global,
+    of: &Trying,
+    whole: &Left,
+    i: usize,
+    name: &str,
+    said: &str,
+    after: u8,
+) -> Result<Found, AllocError> {
+    let left = left_by(alloc, of, Failing::OnFile(Call::Begin, name, after, 0))?;
+    if left.shelf.write_faults() == 0 {
+        return Ok(Some(after == 1 && is_well(of, whole, &left)));
+    }
+    let stopped = is_unwritten(alloc, of, whole, &left, i, said)?;
+    Ok(found(stopped && is_file_as_before(of, &left, i)))
 }
 
 // Each begin of file number `i` fails in turn: it leaves the file as before.
@@ -207,16 +242,29 @@ fn begins_fail_well(
     said: &str,
 ) -> Result<bool, AllocError> {
     for after in 0..MOST_CALLS {
-        let left = left_by(alloc, of, Failing::OnFile(Call::Begin, name, after, 0))?;
-        if left.shelf.write_faults() == 0 {
-            return Ok(after == 1 && is_well(of, whole, &left));
-        }
-        let stopped = is_unwritten(alloc, of, whole, &left, i, said)?;
-        if !stopped || !is_file_as_before(of, &left, i) {
-            return Ok(false);
+        if let Some(is_well) = after_begins(alloc, of, whole, i, name, said, after)? {
+            return Ok(is_well);
         }
     }
     Ok(false)
+}
+
+fn after_adds(
+    alloc: Global,
+    of: &Trying,
+    whole: &Left,
+    i: usize,
+    name: &str,
+    said: &str,
+    after: u8,
+    kept: usize,
+) -> Result<Found, AllocError> {
+    let left = left_by(alloc, of, Failing::OnFile(Call::Add, name, after, kept))?;
+    if left.shelf.write_faults() == 0 {
+        return Ok(Some(after > 0 && is_well(of, whole, &left)));
+    }
+    let stopped = is_unwritten(alloc, of, whole, &left, i, said)?;
+    Ok(found(stopped && is_cut_file(whole, &left, name, after, kept)))
 }
 
 // Each write of file number `i` fails in turn and keeps so many bytes.
@@ -230,20 +278,36 @@ fn adds_fail_well(
     kept: usize,
 ) -> Result<bool, AllocError> {
     for after in 0..MOST_CALLS {
-        let left = left_by(alloc, of, Failing::OnFile(Call::Add, name, after, kept))?;
-        if left.shelf.write_faults() == 0 {
-            return Ok(after > 0 && is_well(of, whole, &left));
-        }
-        let stopped = is_unwritten(alloc, of, whole, &left, i, said)?;
-        if !stopped || !is_cut_file(whole, &left, name, after, kept) {
-            return Ok(false);
+        if let Some(is_well) = after_adds(alloc, of, whole, i, name, said, after, kept)? {
+            return Ok(is_well);
         }
     }
     Ok(false)
 }
 
-// Each write of the report fails in turn and keeps so many bytes: every file is whole, and the
-// report is cut off.
+// A write of the report failed: that is said with status 6, every file is whole, and the report is cut off.
+fn is_unreported(of: &Trying, whole: &Left, left: &Left, after: u8, kept: usize) -> bool {
+    let said = left.status == 6 && left.err.bytes() == b"weave: report: write fault\n".as_slice();
+    said && keeps_read_files(of, left)
+        && are_written_up_to(of, whole, left, of.writes.len())
+        && is_cut_text(left.out.bytes(), of.report.as_bytes(), after, kept)
+}
+
+fn after_reports(
+    alloc: Global,
+    of: &Trying,
+    whole: &Left,
+    after: u8,
+    kept: usize,
+) -> Result<Found, AllocError> {
+    let left = left_by(alloc, of, Failing::OnReport(after, kept))?;
+    if left.out.faults() == 0 {
+        return Ok(Some(after > 0 && is_well(of, whole, &left)));
+    }
+    Ok(found(is_unreported(of, whole, &left, after, kept)))
+}
+
+// Each write of the report fails in turn and keeps so many bytes.
 fn reports_fail_well(
     alloc: Global,
     of: &Trying,
@@ -251,17 +315,8 @@ fn reports_fail_well(
     kept: usize,
 ) -> Result<bool, AllocError> {
     for after in 0..MOST_CALLS {
-        let left = left_by(alloc, of, Failing::OnReport(after, kept))?;
-        if left.out.faults() == 0 {
-            return Ok(after > 0 && is_well(of, whole, &left));
-        }
-        let said = left.status == 6
-            && left.err.bytes() == b"weave: report: write fault\n".as_slice();
-        let kept_files = keeps_read_files(of, &left)
-            && are_written_up_to(of, whole, &left, of.writes.len());
-        let cut = is_cut_text(left.out.bytes(), of.report.as_bytes(), after, kept);
-        if !said || !kept_files || !cut {
-            return Ok(false);
+        if let Some(is_well) = after_reports(alloc, of, whole, after, kept)? {
+            return Ok(is_well);
         }
     }
     Ok(false)

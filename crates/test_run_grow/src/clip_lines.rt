@@ -76,16 +76,27 @@ const REFUSED: &[(&[u8], usize, &[u8], u8, &str)] = &[
     ),
 ];
 
+// A clip with a word of so many digits in its line.
+fn clip_of(
+    alloc: Global,
+    before: &[u8],
+    count: usize,
+    behind: &[u8],
+) -> Result<Vec<u8>, AllocError> {
+    let mut clip = Vec::from_slice(alloc, before)?;
+    let word = vec![in alloc; b'7'; count]?;
+    clip.extend_from_slice(&word)?;
+    clip.extend_from_slice(behind)?;
+    Ok(clip)
+}
+
 // The number of the first clip, from 0, that isn't refused with its status and its line.
 fn wrong_line(
     alloc: Global,
     table: &[(&[u8], usize, &[u8], u8, &str)],
 ) -> Result<Option<usize>, AllocError> {
     for (i, (before, count, behind, status, line)) in table.iter().enumerate() {
-        let mut sample = Vec::from_slice(alloc, *before)?;
-        let word = vec![in alloc; b'7'; *count]?;
-        sample.extend_from_slice(&word)?;
-        sample.extend_from_slice(*behind)?;
+        let sample = clip_of(alloc, *before, *count, *behind)?;
         if !refused(alloc, WORDS, &sample, *status, *line)? {
             return Ok(Some(i));
         }

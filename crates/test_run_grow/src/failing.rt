@@ -147,13 +147,19 @@ const FAULTS: &[Fault<'static>] = &[
     },
 ];
 
-fn ends_so(alloc: Global, fault: &Fault) -> Result<bool, AllocError> {
+// Two samples, and the files that hold something before.
+fn files_before(alloc: Global) -> Result<MemShelf, AllocError> {
     let mut shelf = MemShelf::new(alloc);
     shelf.put_file("s", FOUR_CELLS)?;
     shelf.put_file("t", FOUR_CELLS)?;
     shelf.put_file("o", BEFORE)?;
     shelf.put_file("m", BEFORE)?;
     shelf.put_file("r", BEFORE)?;
+    Ok(shelf)
+}
+
+fn ends_so(alloc: Global, fault: &Fault) -> Result<bool, AllocError> {
+    let mut shelf = files_before(alloc)?;
     shelf.fail_at(fault.call, fault.name, 1, fault.kept)?;
     let mut out = MemSink::new(alloc);
     let mut err = MemSink::new(alloc);

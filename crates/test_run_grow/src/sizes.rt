@@ -22,27 +22,55 @@ fn an_output_above_the_bound(rt: HostRuntime) {
     expect_none(&rt, wrong_words(rt.alloc(), ONE_CELL, ABOVE_THE_BOUND));
 }
 
-// 256 tiles on 1024 x 1024 cells.
-fn is_greatest(alloc: Global) -> Result<bool, AllocError> {
-    let cells = raster(alloc, 12_288)?;
-    let sample = picture(alloc, b"P6\n64 64\n255\n", &cells)?;
-    let tiles = tiled_raster(alloc, &cells, 192, 16)?;
-    let wanted = picture(alloc, b"P6\n1024 1024\n255\n", &tiles)?;
-    let map = tiled_map(alloc, (1024, 1024), (64, 64))?;
-    let record = tiled_record(alloc, (1024, 1024), (64, 64))?;
+// Whether a run over a sample leaves these files and this report.
+fn leaves(
+    alloc: Global,
+    words: &str,
+    report: &str,
+    sample: &[u8],
+    picture: &[u8],
+    map: &[u8],
+    record: &[u8],
+) -> Result<bool, AllocError> {
     let case = Case {
-        words: "grow sample=s out=o map=m record=r width=1024 height=1024 place=grid overlap=0",
-        sample: &sample,
+        words,
+        sample,
         second: NO_CELL,
         failing: Failing::Nothing,
         status: 0,
-        report: "grow 1024x1024x1\nplacements 256\nrounds 0\nseams 47001600\n",
+        report,
         line: "",
-        picture: &wanted,
-        map: &map,
-        record: &record,
+        picture,
+        map,
+        record,
     };
     holds(alloc, &case)
+}
+
+const TILED: &str =
+    "grow sample=s out=o map=m record=r width=1024 height=1024 place=grid overlap=0";
+
+const OF_TILES: &str = "grow 1024x1024x1\nplacements 256\nrounds 0\nseams 47001600\n";
+
+// A picture of 64 x 64 cells, and its tiles.
+fn tile(alloc: Global) -> Result<Vec<u8>, AllocError> {
+    let cells = raster(alloc, 12_288)?;
+    picture(alloc, b"P6\n64 64\n255\n", &cells)
+}
+
+fn tiles(alloc: Global) -> Result<Vec<u8>, AllocError> {
+    let cells = raster(alloc, 12_288)?;
+    let tiles = tiled_raster(alloc, &cells, 192, 16)?;
+    picture(alloc, b"P6\n1024 1024\n255\n", &tiles)
+}
+
+// 256 tiles on 1024 x 1024 cells.
+fn is_greatest(alloc: Global) -> Result<bool, AllocError> {
+    let sample = tile(alloc)?;
+    let wanted = tiles(alloc)?;
+    let map = tiled_map(alloc, (1024, 1024), (64, 64))?;
+    let record = tiled_record(alloc, (1024, 1024), (64, 64))?;
+    leaves(alloc, TILED, OF_TILES, &sample, &wanted, &map, &record)
 }
 
 #[test]
@@ -50,27 +78,37 @@ fn the_greatest_output(rt: HostRuntime) {
     expect_true(&rt, is_greatest(rt.alloc()));
 }
 
-// One tile of 640 x 480 cells, from a picture with a comment.
-fn is_copied(alloc: Global) -> Result<bool, AllocError> {
+// A picture of 640 x 480 cells with this head.
+fn great_picture(alloc: Global, head: &[u8]) -> Result<Vec<u8>, AllocError> {
     let cells = raster(alloc, 921_600)?;
-    let head = b"P6\n# made by a paint program\n640 480\n255\n";
-    let sample = picture(alloc, head, &cells)?;
-    let wanted = picture(alloc, b"P6\n640 480\n255\n", &cells)?;
+    picture(alloc, head, &cells)
+}
+
+const WITH_A_COMMENT: &[u8] = b"P6\n# made by a paint program\n640 480\n255\n";
+
+const WITHOUT: &[u8] = b"P6\n640 480\n255\n";
+
+// Whether one copy of the picture with a comment leaves this report and this record.
+fn is_one_copy(
+    alloc: Global,
+    words: &str,
+    report: &str,
+    record: &[u8],
+) -> Result<bool, AllocError> {
+    let sample = great_picture(alloc, WITH_A_COMMENT)?;
+    let wanted = great_picture(alloc, WITHOUT)?;
     let map = tiled_map(alloc, (640, 480), (640, 480))?;
+    leaves(alloc, words, report, &sample, &wanted, &map, record)
+}
+
+const COPIED: &str = "grow sample=s out=o map=m record=r width=640 height=480 place=grid overlap=0";
+
+const OF_A_COPY: &str = "grow 640x480x1\nplacements 1\nrounds 0\nseams 0\n";
+
+// One tile.
+fn is_copied(alloc: Global) -> Result<bool, AllocError> {
     let record = tiled_record(alloc, (640, 480), (640, 480))?;
-    let case = Case {
-        words: "grow sample=s out=o map=m record=r width=640 height=480 place=grid overlap=0",
-        sample: &sample,
-        second: NO_CELL,
-        failing: Failing::Nothing,
-        status: 0,
-        report: "grow 640x480x1\nplacements 1\nrounds 0\nseams 0\n",
-        line: "",
-        picture: &wanted,
-        map: &map,
-        record: &record,
-    };
-    holds(alloc, &case)
+    is_one_copy(alloc, COPIED, OF_A_COPY, &record)
 }
 
 #[test]
@@ -78,33 +116,17 @@ fn a_picture_with_a_comment_is_copied(rt: HostRuntime) {
     expect_true(&rt, is_copied(rt.alloc()));
 }
 
-// The same picture quilted by one block.
-fn is_quilted(alloc: Global) -> Result<bool, AllocError> {
-    let cells = raster(alloc, 921_600)?;
-    let head = b"P6\n# made by a paint program\n640 480\n255\n";
-    let sample = picture(alloc, head, &cells)?;
-    let wanted = picture(alloc, b"P6\n640 480\n255\n", &cells)?;
-    let map = tiled_map(alloc, (640, 480), (640, 480))?;
-    let case = Case {
-        words: "quilt sample=s out=o map=m record=r width=640 height=480 block=640",
-        sample: &sample,
-        second: NO_CELL,
-        failing: Failing::Nothing,
-        status: 0,
-        report: "quilt 640x480x1\nblocks 1\nboundaries 0\ncost 0\n",
-        line: "",
-        picture: &wanted,
-        map: &map,
-        record: b"WEAVEREC\x01\x01\
+const QUILTED: &str = "quilt sample=s out=o map=m record=r width=640 height=480 block=640";
+
+const OF_A_BLOCK: &str = "quilt 640x480x1\nblocks 1\nboundaries 0\ncost 0\n";
+
+const BLOCK: &[u8] = b"WEAVEREC\x01\x01\
 \x00\x00\x02\x80\x00\x00\x01\xe0\x00\x00\x00\x01\
 \x00\x00\x02\x80\x00\x00\x01\xe0\x00\x00\x00\x01\
 \x00\x00\x00\x01\
-\x00\x00\x00\x00\x02\x80\x01\xe0\x00\x00\x00\x00\x00",
-    };
-    holds(alloc, &case)
-}
+\x00\x00\x00\x00\x02\x80\x01\xe0\x00\x00\x00\x00\x00";
 
 #[test]
 fn a_picture_is_quilted_by_one_block(rt: HostRuntime) {
-    expect_true(&rt, is_quilted(rt.alloc()));
+    expect_true(&rt, is_one_copy(rt.alloc(), QUILTED, OF_A_BLOCK, BLOCK));
 }

@@ -12,4 +12,8 @@ mod of_turns;
 #[cfg(test)]
 mod pictures;
 #[cfg(test)]
+mod reading;
+#[cfg(test)]
 mod several;
+#[cfg(test)]
+mod targets;

@@ -1,8 +1,9 @@
-use job_words::{Job, Words, read_job};
-use sample_files::{Samples, parts_within, read_samples};
+// Samples that are turned, and the same as they are: why they are refused.
+use crate::expect::{expect_none, expect_true};
+use crate::reading::read_words;
+use sample_files::parts_within;
 use shelf_core::{FormFault, MemShelf, What};
 use std::alloc::{AllocError, Global};
-use std::test::Fail;
 use synth_report::{Fault, FileOf};
 
 const TWO_GREY: &[u8] = b"P6\n2 1\n255\n\x0a\x0a\x0a\x14\x14\x14";
@@ -29,36 +30,17 @@ const WORDS: &[&str] = &[
     "turns=all",
 ];
 
-fn words_of(alloc: Global, list: &[&str]) -> Result<Words, AllocError> {
-    let mut words = Words::new(alloc);
-    for word in list {
-        words.push(word)?;
-    }
-    Ok(words)
-}
-
-// Reads the samples of a job of `grow`, with turns or without, whatever its words say.
-fn read_by(alloc: Global, shelf: &mut MemShelf, job: &Job, turns: bool) -> Result<Samples, Fault> {
-    match job {
-        Job::Grow(job) => {
-            let more = job.names.more.as_slice();
-            parts_within(turns, more.len() + 1)?;
-            read_samples(alloc, shelf, turns, &job.names.sample, more)
-        }
-        _ => Err(Fault::NoMemory),
-    }
-}
-
 // Why the samples `s` and `t` are refused.
-fn refusal(alloc: Global, first: &[u8], next: &[u8], turns: bool) -> Result<Option<Fault>, Fail> {
+fn refusal(
+    alloc: Global,
+    first: &[u8],
+    next: &[u8],
+    turns: bool,
+) -> Result<Option<Fault>, AllocError> {
     let mut shelf = MemShelf::new(alloc);
     shelf.put_file("s", first)?;
     shelf.put_file("t", next)?;
-    let words = words_of(alloc, WORDS)?;
-    match read_job(alloc, &words) {
-        Ok(job) => Ok(read_by(alloc, &mut shelf, &job, turns).err()),
-        Err(_) => Err(Fail::from("refused words")),
-    }
+    Ok(read_words(alloc, &mut shelf, WORDS, turns)?.err())
 }
 
 const NO_TURN: Option<Fault> = Some(Fault::Form {
@@ -86,15 +68,25 @@ const NO_PICTURE: Option<Fault> = Some(Fault::Form {
     why: FormFault::Form(2),
 });
 
+// Whether samples are refused so with turns and without.
+fn are_refused(
+    alloc: Global,
+    samples: (&[u8], &[u8]),
+    turned: Option<Fault>,
+    as_they_are: Option<Fault>,
+) -> Result<bool, AllocError> {
+    let with_turns = refusal(alloc, samples.0, samples.1, true)?;
+    let without = refusal(alloc, samples.0, samples.1, false)?;
+    Ok(with_turns == turned && without == as_they_are)
+}
+
 // The number of the first samples, from 0, that aren't refused so.
 fn wrong_refusal(
     alloc: Global,
     table: &[(&[u8], &[u8], Option<Fault>, Option<Fault>)],
-) -> Result<Option<usize>, Fail> {
+) -> Result<Option<usize>, AllocError> {
     for (i, (first, next, turned, as_they_are)) in table.iter().enumerate() {
-        let with_turns = refusal(alloc, *first, *next, true)?;
-        let without = refusal(alloc, *first, *next, false)?;
-        if with_turns != *turned || without != *as_they_are {
+        if !are_refused(alloc, (*first, *next), *turned, *as_they_are)? {
             return Ok(Some(i));
         }
     }
@@ -102,19 +94,22 @@ fn wrong_refusal(
 }
 
 #[test]
-fn refusals_of_turns(rt: HostRuntime) -> Result<(), Fail> {
-    assert_eq!(rt; wrong_refusal(rt.alloc(), REFUSED)?, None);
-    Ok(())
+fn refusals_of_turns(rt: HostRuntime) {
+    expect_none(&rt, wrong_refusal(rt.alloc(), REFUSED));
 }
 
-#[test]
-fn numbers_of_parts(rt: HostRuntime) {
+fn are_parts_bounded() -> bool {
     let too_many = Fault::Limit {
         what: What::Parts,
         number: 24,
         bound: 16,
     };
-    assert!(rt; parts_within(true, 2).is_ok());
-    assert!(rt; parts_within(true, 3).err() == Some(too_many));
-    assert!(rt; parts_within(false, 16).is_ok());
+    parts_within(true, 2).is_ok()
+        && parts_within(true, 3).err() == Some(too_many)
+        && parts_within(false, 16).is_ok()
+}
+
+#[test]
+fn numbers_of_parts(rt: HostRuntime) {
+    expect_true(&rt, Ok(are_parts_bounded()));
 }

@@ -1,7 +1,8 @@
+// Samples that are joined, and why and which are refused.
 use crate::expect::{expect_none, expect_true};
+use crate::reading::read_words;
 use cells::{At, Size};
-use job_words::{Job, Words, read_job};
-use sample_files::{Form, Samples, parts_within, read_samples};
+use sample_files::{Form, Samples};
 use shelf_core::{FormFault, MemShelf};
 use std::alloc::{AllocError, Global};
 use synth_report::{Fault, FileOf};
@@ -30,35 +31,6 @@ const WORDS: &[&str] = &[
     "height=1",
 ];
 
-fn words_of(alloc: Global, list: &[&str]) -> Result<Words, AllocError> {
-    let mut words = Words::new(alloc);
-    for word in list {
-        words.push(word)?;
-    }
-    Ok(words)
-}
-
-// Reads the samples of a job, which is one of `grow`.
-fn read_by(alloc: Global, shelf: &mut MemShelf, job: &Job) -> Result<Samples, Fault> {
-    match job {
-        Job::Grow(job) => {
-            let more = job.names.more.as_slice();
-            parts_within(job.turns, more.len() + 1)?;
-            read_samples(alloc, shelf, job.turns, &job.names.sample, more)
-        }
-        _ => Err(Fault::NoMemory),
-    }
-}
-
-// Reads the samples `s`, `t` and `u`.
-fn read_three(alloc: Global, shelf: &mut MemShelf) -> Result<Result<Samples, Fault>, AllocError> {
-    let words = words_of(alloc, WORDS)?;
-    match read_job(alloc, &words) {
-        Ok(job) => Ok(read_by(alloc, shelf, &job)),
-        Err(fault) => Ok(Err(Fault::Words(fault))),
-    }
-}
-
 // Whether these are pictures of two cells, of three below one another, and of two.
 fn are_pictures(samples: &Samples) -> bool {
     let sizes = samples.volume.sizes();
@@ -76,7 +48,7 @@ fn are_joined(alloc: Global) -> Result<bool, AllocError> {
     shelf.put_file("s", TWO_GREY)?;
     shelf.put_file("t", THREE_COLOURS)?;
     shelf.put_file("u", TWO_GREY)?;
-    match read_three(alloc, &mut shelf)? {
+    match read_words(alloc, &mut shelf, WORDS, false)? {
         Ok(samples) => Ok(are_pictures(&samples)),
         Err(_) => Ok(false),
     }
@@ -110,7 +82,7 @@ fn are_clips_joined(alloc: Global) -> Result<bool, AllocError> {
     shelf.put_file("s", MONO)?;
     shelf.put_file("t", MONO_WITH_TAGS)?;
     shelf.put_file("u", MONO)?;
-    match read_three(alloc, &mut shelf)? {
+    match read_words(alloc, &mut shelf, WORDS, false)? {
         Ok(samples) => Ok(are_clips(&samples)),
         Err(_) => Ok(false),
     }
@@ -156,7 +128,7 @@ fn refusal(alloc: Global, first: &[u8], next: &[u8]) -> Result<Option<Fault>, Al
     let mut shelf = MemShelf::new(alloc);
     shelf.put_file("s", first)?;
     shelf.put_file("t", next)?;
-    Ok(read_three(alloc, &mut shelf)?.err())
+    Ok(read_words(alloc, &mut shelf, WORDS, false)?.err())
 }
 
 // The number of the first samples, from 0, that aren't refused so.

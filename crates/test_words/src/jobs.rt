@@ -286,92 +286,101 @@ const WHOLE: Grown<'static> = Grown {
     turns: true,
 };
 
+const DEFAULT_WORDS: &[&str] = &[
+    "grow",
+    "width=4096",
+    "record=d",
+    SEVEN,
+    "map=größe=x",
+    "sample=a",
+    "out=place",
+];
+
 #[test]
 fn defaults(rt: HostRuntime) {
-    let words = [
-        "grow",
-        "width=4096",
-        "record=d",
-        SEVEN,
-        "map=größe=x",
-        "sample=a",
-        "out=place",
-    ];
-    assert!(rt; is_read(rt.alloc(), &words, &DEFAULTS));
+    assert!(rt; is_read(rt.alloc(), DEFAULT_WORDS, &DEFAULTS));
 }
+
+const ALL_KEYS: &[&str] = &[
+    "grow",
+    "seed=18446744073709551615",
+    "rounds=1000",
+    "tol=01000",
+    "overlap=4095",
+    "box=4096",
+    "place=random",
+    "frames=3",
+    "height=1",
+    "width=2",
+    "record=r",
+    "map=m",
+    "out=o",
+    "sample3=c",
+    "sample=a",
+    "sample2=b",
+    "turns=all",
+];
 
 #[test]
 fn all_keys(rt: HostRuntime) {
-    let words = [
-        "grow",
-        "seed=18446744073709551615",
-        "rounds=1000",
-        "tol=01000",
-        "overlap=4095",
-        "box=4096",
-        "place=random",
-        "frames=3",
-        "height=1",
-        "width=2",
-        "record=r",
-        "map=m",
-        "out=o",
-        "sample3=c",
-        "sample=a",
-        "sample2=b",
-        "turns=all",
-    ];
-    assert!(rt; is_read(rt.alloc(), &words, &WHOLE));
+    assert!(rt; is_read(rt.alloc(), ALL_KEYS, &WHOLE));
 }
+
+const CHECK_WORDS: &[&str] = &["check", "sample=a", "out=o", "map=m", "record=r"];
+
+const WITHOUT_TURNS: &[&str] = &[
+    "check",
+    "sample=a",
+    "out=o",
+    "map=m",
+    "record=r",
+    "turns=none",
+];
+
+const WITH_TURNS: &[&str] = &[
+    "check",
+    "turns=all",
+    "sample=a",
+    "out=o",
+    "map=m",
+    "record=r",
+];
 
 #[test]
 fn turns_of_checks(rt: HostRuntime) {
-    let files = ["check", "sample=a", "out=o", "map=m", "record=r"];
-    assert!(rt; is_read(rt.alloc(), &files, &DEFAULTS));
-    let none = [
-        "check",
-        "sample=a",
-        "out=o",
-        "map=m",
-        "record=r",
-        "turns=none",
-    ];
-    assert!(rt; is_read(rt.alloc(), &none, &DEFAULTS));
-    let all = [
-        "check",
-        "turns=all",
-        "sample=a",
-        "out=o",
-        "map=m",
-        "record=r",
-    ];
-    assert!(rt; is_read(rt.alloc(), &all, &WHOLE));
+    assert!(rt; is_read(rt.alloc(), CHECK_WORDS, &DEFAULTS));
+    assert!(rt; is_read(rt.alloc(), WITHOUT_TURNS, &DEFAULTS));
+    assert!(rt; is_read(rt.alloc(), WITH_TURNS, &WHOLE));
 }
+
+const QUILT_WORDS: &[&str] = &[
+    "quilt", "sample=a", "height=2", "out=o", "map=m", "record=r", "width=3",
+];
 
 #[test]
 fn defaults_of_quilts(rt: HostRuntime) {
-    let words = [
-        "quilt", "sample=a", "height=2", "out=o", "map=m", "record=r", "width=3",
-    ];
-    assert!(rt; is_read(rt.alloc(), &words, &DEFAULTS));
+    assert!(rt; is_read(rt.alloc(), QUILT_WORDS, &DEFAULTS));
 }
+
+const LOOP_WORDS: &[&str] = &["loop", "sample=a", "out=o", "map=m", "record=r", "length=7"];
 
 #[test]
 fn defaults_of_loops(rt: HostRuntime) {
-    let words = ["loop", "sample=a", "out=o", "map=m", "record=r", "length=7"];
-    assert!(rt; is_read(rt.alloc(), &words, &DEFAULTS));
+    assert!(rt; is_read(rt.alloc(), LOOP_WORDS, &DEFAULTS));
 }
+
+const UPGRADE_WORDS: &[&str] = &["upgrade", "newrecord=d", "newmap=c", "record=b", "map=a"];
 
 #[test]
 fn files_of_upgrades(rt: HostRuntime) {
-    let words = ["upgrade", "newrecord=d", "newmap=c", "record=b", "map=a"];
-    assert!(rt; is_read(rt.alloc(), &words, &DEFAULTS));
+    assert!(rt; is_read(rt.alloc(), UPGRADE_WORDS, &DEFAULTS));
 }
+
+const TILE_WORDS: &[&str] = &[
+    "tile", "sample=a", "out=o", "map=m", "width=3", "height=3", "seed=7",
+];
 
 #[test]
 fn words_of_a_tile(rt: HostRuntime) {
-    let words = [
-        "tile", "sample=a", "out=o", "map=m", "width=3", "height=3", "seed=7",
-    ];
-    assert!(rt; is_read(rt.alloc(), &words, &DEFAULTS));
+    assert!(rt; is_read(rt.alloc(), TILE_WORDS, &DEFAULTS));
 }

@@ -1,6 +1,0 @@
-use Rattle.map_canvas.specs.Canvases.{StandsOver}
-use Rattle.test_merges.proofs.steps.laid.Given as goal
-
--- each canvas so far stands over the pictures
-abbrev pub invariant-cells : goal.invariant-cells
-invariant-cells g l = StandsOver l.canvas l.pictures

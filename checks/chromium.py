@@ -106,6 +106,22 @@ class Browser:
         with open(name, "wb") as file:
             file.write(base64.b64decode(shot["data"]))
 
+    def processor_seconds(self):
+        """The processor time that the browser and all that it started have taken."""
+        times, children = {}, {}
+        for pid in filter(str.isdigit, os.listdir("/proc")):
+            try:
+                with open(f"/proc/{pid}/stat", encoding="utf-8") as file:
+                    fields = file.read().rpartition(")")[2].split()
+            except OSError:
+                continue
+            children.setdefault(int(fields[1]), []).append(int(pid))
+            times[int(pid)] = int(fields[11]) + int(fields[12])
+        found = [self.process.pid]
+        for pid in found:
+            found += children.get(pid, [])
+        return sum(times.get(pid, 0) for pid in found) / os.sysconf("SC_CLK_TCK")
+
     def close(self):
         try:
             self.call("Browser.close")

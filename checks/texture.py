@@ -3,26 +3,29 @@
 
     checks/texture.py
 
-It reads PNGs of all colour types, depths and both orders of rows, and has the pixels that Netpbm has; makes textures from a
-dozen forms of pictures and videos, each of which `texture verify` accepts and no longer does once a byte in its folder is another;
-refuses transparent pixels and more than 8 bits; takes ImageMagick, ffmpeg or Netpbm alone; and leaves nothing where it is
-stopped. It wants Debian's packages netpbm, imagemagick and ffmpeg. Build the program first: ./build."""
+It reads PNGs of all colour types, depths and both orders of rows, has the pixels that Netpbm has, and takes no damaged one;
+makes textures from a dozen forms of pictures and videos with each command, each of which `texture verify` accepts and no longer
+does once a byte in its folder is another; counts patches of tiles as weave does; takes marks in numbers and in colours; refuses
+transparent pixels and more than 8 bits; takes ImageMagick, ffmpeg or Netpbm alone; and leaves nothing where it is stopped. It
+says how much time it adds to that of weave. It wants Debian's packages netpbm, imagemagick and ffmpeg. Build the program first:
+./build."""
 import os
 import random
+import re
 import shutil
 import signal
 import subprocess
 import sys
 import tempfile
 import time
-from importlib.machinery import SourceFileLoader
 
-HERE = os.path.dirname(os.path.abspath(__file__))
-EXAMPLES = os.path.join(HERE, "..", "examples")
-TEXTURE = os.path.join(HERE, "..", "tools", "texture")
-sys.dont_write_bytecode = True
-texture = SourceFileLoader("texture", TEXTURE).load_module()
+from beside import EXAMPLES, TOOLS
+from texture_forms import as_pam, read_pam
+from texture_keys import closing_keys, shared_cells
+from texture_png import png, read_png
+from texture_programs import Stop
 
+TEXTURE = os.path.join(TOOLS, "texture")
 PEBBLES, LIFE = os.path.join(EXAMPLES, "pebbles.ppm"), os.path.join(EXAMPLES, "life.y4m")
 # Forms of a PNG: the words for ImageMagick.
 PNGS = {
@@ -52,25 +55,45 @@ def run(*words, status=0, says="", env=None, cwd=None):
     return text
 
 
-def try_pngs(folder):
+def bytes_of(name):
+    with open(name, "rb") as file:
+        return file.read()
+
+
+def try_pngs(folder, chance):
     """Each colour type, depth, filter and both orders of rows."""
     count = 0
     for name, words in PNGS.items():
         for lines in ("None", "PNG"):
             for kind in range(5):
-                png = os.path.join(folder, "it.png")
+                it = os.path.join(folder, "it.png")
                 made("convert", PEBBLES, "-crop", "61x37+5+7", "+repage", *words, "-interlace", lines,
-                     "-define", f"png:compression-filter={kind}", png)
-                with open(png, "rb") as file:
-                    width, height, rgb = texture.read_png(file.read(), png)
-                wanted = sh("pngtopnm", png).stdout
+                     "-define", f"png:compression-filter={kind}", it)
+                width, height, rgb, solid = read_png(bytes_of(it), it)
+                wanted = sh("pngtopnm", it).stdout
                 wanted = sh("ppmtoppm", input=sh("pnmdepth", "255", input=wanted).stdout).stdout
-                if b"P6\n%d %d\n255\n" % (width, height) + rgb != wanted:
+                if kind == 4 and read_pam(as_pam(it), it) != (width, height, rgb, solid):
+                    sys.exit(f"{name}, {lines}: other pixels by way of ImageMagick")
+                if solid or b"P6\n%d %d\n255\n" % (width, height) + rgb != wanted:
                     sys.exit(f"{name}, {lines}, filter {kind}: other pixels")
                 count += 1
-    back = texture.read_png(texture.png(61, 37, rgb), "again")
-    assert back == (61, 37, rgb)
-    print(f"{count} PNGs have the pixels that Netpbm has")
+    whole = png(61, 37, rgb)
+    assert read_png(whole, "again") == (61, 37, rgb, None)
+    print(f"{count} PNGs have the pixels that Netpbm has, and {try_damaged(whole, chance)} damaged ones are refused")
+
+
+def try_damaged(whole, chance):
+    """A PNG that is cut off, or has another byte anywhere, isn't read, but for bytes that nobody reads."""
+    damaged = [whole[:chance.randrange(8, len(whole) - 12)] for _ in range(50)]
+    for at in [chance.randrange(8, len(whole) - 12) for _ in range(200)]:
+        damaged.append(whole[:at] + bytes([whole[at] ^ 1 << chance.randrange(8)]) + whole[at + 1:])
+    for data in damaged:
+        try:
+            read_png(data, "it")
+        except Stop:
+            continue
+        sys.exit("a damaged PNG is read")
+    return len(damaged)
 
 
 def try_changed_bytes(kept, chance):
@@ -78,8 +101,7 @@ def try_changed_bytes(kept, chance):
     names = sorted(os.listdir(kept))
     for name in names + ["sums"] * 10:
         path = os.path.join(kept, name)
-        with open(path, "rb") as file:
-            data = file.read()
+        data = bytes_of(path)
         at = chance.randrange(len(data))
         with open(path, "wb") as file:
             file.write(data[:at] + bytes([data[at] ^ 1 << chance.randrange(8)]) + data[at + 1:])
@@ -91,11 +113,12 @@ def try_changed_bytes(kept, chance):
     return len(names) + 10
 
 
-def try_result(words, folder, chance):
+def try_result(words, folder, chance, says="weave check: stands\nverify.py: stands"):
+    """Makes a result, the last word with an ending, and verifies it; how many changed bytes were seen."""
     run(*words, cwd=folder)
-    result = words[-2] if "=" not in words[-1] else words[-3]
+    result = [word for word in words if re.search(r"\.\w+$", word)][-1]
     kept = os.path.join(folder, os.path.splitext(result)[0] + ".weave")
-    run("verify", kept, says="weave check: stands\nverify.py: stands")
+    run("verify", kept, says=says)
     changes = try_changed_bytes(kept, chance)
     run("verify", kept)
     left = [name for name in os.listdir(folder) if name.startswith(".texture")]
@@ -110,14 +133,117 @@ def try_forms(folder, chance):
         changes += try_result(["grow", name, "grown_" + name, "90x70"], folder, chance)
     changes += try_result(["quilt", "a.png", "quilted.png", "90x70"], folder, chance)
     changes += try_result(["grow", "a.png", "f.ppm", "mixed.png", "90x70"], folder, chance)
+    changes += try_result(["grow", "a.png", "turned.png", "90x70", "turns=all", "--tries", "2"], folder, chance)
     for name, words in CLIPS.items():
         made("ffmpeg", "-v", "error", "-i", LIFE, *words, os.path.join(folder, name))
         changes += try_result(["grow", name, "more_" + name, "60x40x6"], folder, chance)
         changes += try_result(["loop", name, "loop_" + name, "12"], folder, chance)
+    changes += try_result(["loop", "a.mp4", "short.gif", "8", "--frames", "2-11", "--crop", "60x40+3+5", "--scale", "30x20"],
+                          folder, chance)
     print(f"{len(PICTURES)} forms of pictures and {len(CLIPS)} of videos: verified, and {changes} changed bytes were seen")
 
 
-def try_refusals(folder):
+def try_tiles(folder, chance):
+    """Tiles, and how many patches they have on each axis: as many as the steps by which cells are shared."""
+    redrawn = "verify.py: samples and map draw the output\n"
+    changes = try_result(["tile", "a.png", "tile.png", "96x80"], folder, chance, redrawn)
+    changes += try_result(["tile", "a.mp4", "cyclic.mp4", "48x40x9", "wrap=xyf", "--tries", "2"], folder, chance, redrawn)
+    for _ in range(12):
+        try_patches(folder, chance)
+    closed = [closing_keys(chance.randint(40, 300), [chance.randint(300, 1024)] * 2, {}) for _ in range(50)]
+    assert all(box <= 3 * overlap <= 3 * (box // 2) for box, overlap in closed), closed
+    print(f"tiles: {changes} changed bytes were seen, and patches are as many as it counts on")
+
+
+def try_patches(folder, chance):
+    """A tile has as many patches as the steps are by which cells are shared."""
+    size, box = [chance.randint(20, 150), chance.randint(20, 150)], chance.randint(8, 40)
+    overlap = chance.randint(box // 4, box // 2)
+    said = run("tile", "a.png", "n.png", "x".join(map(str, size)), f"box={box}", f"overlap={overlap}", "--replace", cwd=folder)
+    steps = [(shared_cells(axis, box, overlap) + axis - overlap) // (min(box, axis - 1) - overlap) for axis in size]
+    if int(re.search(r"placements (\d+)", said)[1]) != steps[0] * steps[1]:
+        sys.exit(f"{size}, box {box}, overlap {overlap}: not {steps} patches: {said}")
+
+
+def try_merges(folder, chance):
+    """Merges by marks in numbers and in colours, on black and on nothing; other colours are refused."""
+    made(os.path.join(EXAMPLES, "shots.py"), folder)
+    marks, strokes = os.path.join(folder, "marks.ppm"), os.path.join(folder, "strokes.png")
+    made("convert", marks, "-fill", "#ff0000", "-opaque", "#010000", "-fill", "#00ff00", "-opaque", "#020000", strokes)
+    made("convert", strokes, "-transparent", "black", os.path.join(folder, "clear_strokes.png"))
+    changes, outs = 0, []
+    for name in ("marks.ppm", "strokes.png", "clear_strokes.png"):
+        merged = "by_" + name.replace(".ppm", ".png")
+        words = ["merge", "shot1.ppm", "shot2.ppm", name, merged]
+        changes += try_result(words, folder, chance, "each marked pixel is of its picture")
+        outs.append(bytes_of(os.path.join(folder, merged)))
+    assert len(set(outs)) == 1, "marks and strokes give different merges"
+    print(f"merges: {changes} changed bytes were seen, and strokes are taken as marks")
+
+
+# Runs a program in Python, and says the processor time that it takes without what it runs.
+ITSELF = """import os, runpy, sys
+path = sys.argv.pop(1)
+sys.path[0] = os.path.dirname(path)
+try:
+    runpy.run_path(path, run_name="__main__")
+except SystemExit:
+    print(sum(os.times()[:2]))
+"""
+
+
+def say_times(folder):
+    """The processor time that texture takes itself, without weave and the conversion."""
+    large = os.path.join(folder, "large.png")
+    run("grow", os.path.join(folder, "a.png"), large, "512x512", "place=random", "rounds=0")
+    words = ["grow", large, os.path.join(folder, "timed.png"), "1024x1024", "box=32", "overlap=8", "rounds=0"]
+    said = sh(sys.executable, "-c", ITSELF, TEXTURE, *words)
+    taken = float(said.stdout.split()[-1])
+    print(f"texture takes {taken:.2f} s of processor time itself for 1024x1024")
+    if taken > .5:
+        sys.exit("that is above half a second")
+
+
+# Words that are refused, with the status and what is said.
+REFUSED = [
+    (["grow", "deep.png", "no.png", "40x40"], 3, "16 bits"),
+    (["grow", "deep.tif", "no.png", "40x40"], 3, "16 bits"),
+    (["grow", "clear.png", "no.png", "40x40"], 3, "transparent pixels"),
+    (["grow", "clear8.png", "no.png", "40x40"], 3, "transparent pixels"),
+    (["grow", "clear.webp", "no.png", "40x40"], 3, "transparent pixels"),
+    (["grow", "deep.mp4", "no.mp4", "40x40x4"], 3, "8 bits"),
+    (["grow", "cut.png", "no.png", "40x40"], 3, "damaged"),
+    (["grow", "a.png", "no.png", "4000x4000"], 4, "weave: limit output"),
+    (["grow", "a.png", "no.mp4", "40x40"], 2, "all pictures or all videos"),
+    (["grow", "there isn't one.png", "no.png", "40x40"], 5, "no such file"),
+    (["grow", "a.png", "no.png", "40by40"], 2, "a size is wanted"),
+    (["grow", "a.png", "no.png", "40x40x2"], 2, "a size is wanted"),
+    (["grow", "a.png", "no.png", "40x40", "width=3"], 2, "grow takes place, box"),
+    (["grow", "a.png", "no.png", "40x40", "tol=x"], 2, "texture: tol=x: bad value"),
+    (["grow", "a.png", "no.png", "40x40", "seed=1", "seed=2"], 2, "seed is given twice"),
+    (["grow", "a.png", "no.png", "40x40", "--tries", "none"], 2, "another value is wanted"),
+    (["grow", "a.png", "no.png", "40x40", "--wide"], 2, "--wide"),
+    (["grow", "a.png", "no.png", "40x40", "--crop", "200x9+0+0"], 2, "outside of its 128x128"),
+    (["grow", "a.png", "no.png", "40x40", "--frames", "0-3"], 2, "--frames takes"),
+    (["grow", "a.png", "a.png", "40x40"], 2, "is the result too"),
+    (["grow", "a.png", "none/no.png", "40x40"], 6, "there is no such folder"),
+    (["grow", "a.mp4", "no.mp4", "41x40x3"], 2, "multiple of 2"),
+    (["loop", "a.mp4", "no.png", "12"], 2, "all pictures or all videos"),
+    (["loop", "a.png", "no.png", "12"], 2, "loop makes videos"),
+    (["loop", "a.mp4", "no.mp4", "12", "--tries", "2"], 2, "takes no seed"),
+    (["loop", "a.mp4", "no.mp4", "12", "--frames", "0-1", "gap=3"], 8, "weave: no loop of length 12"),
+    (["quilt", "a.png", "a.png", "no.png", "40x40"], 2, "quilt wants a sample, RESULT and SIZE"),
+    (["tile", "a.png", "no.png", "2x40"], 2, "wrapped axis x under 3"),
+    (["merge", "shot1.ppm", "shot2.ppm", "smooth.png", "no.png"], 3, "marks no picture"),
+    (["merge", "shot1.ppm", "shot2.ppm", "marks.ppm", "no.png", "seed=1"], 2, "takes no keys"),
+    (["merge", "shot1.ppm", "a.png", "marks.ppm", "no.png"], 3, "weave: sample2: unlike"),
+    (["paint", "a.png", "no.png", "40x40"], 2, "is none of grow"),
+    (["verify", "."], 1, "isn't whole"),
+]
+
+
+def make_unfit(folder):
+    """Pictures and a video that are refused."""
     def at(name):
         return os.path.join(folder, name)
 
@@ -127,41 +253,39 @@ def try_refusals(folder):
     made("convert", at("clear.png"), "-colors", "9", "PNG8:" + at("clear8.png"))
     made("convert", at("clear.png"), at("clear.webp"))
     made("convert", at("deep.png"), at("deep.tif"))
+    made("convert", at("strokes.png"), "-blur", "0x1", at("smooth.png"))
     made("ffmpeg", "-v", "error", "-i", LIFE, "-pix_fmt", "yuv420p10le", "-c:v", "libx264", at("deep.mp4"))
-    made("ffmpeg", "-v", "error", "-i", LIFE, "-vf", "scale=50:34,crop=49:33:exact=1,format=yuv444p", "-c:v", "libx264", at("odd.mp4"))
-    before = sorted(os.listdir(folder))
-    for name in ("deep.png", "deep.tif"):
-        run("grow", at(name), at("no.png"), "40x40", status=3, says="16 bits")
-    for name in ("clear.png", "clear8.png", "clear.webp"):
-        run("grow", at(name), at("no.png"), "40x40", status=3, says="transparent pixels")
-    run("grow", at("deep.mp4"), at("no.mp4"), "40x40x4", status=3, says="8 bits")
-    run("grow", at("a.png"), at("no.png"), "4000x4000", status=4, says="weave: limit output")
-    run("grow", at("a.png"), at("no.mp4"), "40x40", status=2, says="all pictures or all videos")
-    run("grow", at("there isn't one.png"), at("no.png"), "40x40", status=5, says="no such file")
-    run("grow", at("a.png"), at("no.png"), "40by40", status=2, says="a size is wanted")
-    run("grow", at("a.png"), at("no.png"), "40x40", "width=3", status=2, says="isn't a key")
-    run("grow", at("a.png"), at("no.png"), "40x40", "tol=x", status=2, says="bad value")
-    run("loop", at("a.mp4"), at("no.mp4"), "12", "--tries", "2", status=2, says="takes no seed")
-    run("grow", at("a.mp4"), at("no.mp4"), "41x40x3", status=2, says="multiple of 2")
-    with open(at("a.png"), "rb") as file:
-        whole = file.read()
     with open(at("cut.png"), "wb") as file:
-        file.write(whole[:900])
-    run("grow", at("cut.png"), at("no.png"), "40x40", status=3)
-    os.remove(at("cut.png"))
+        file.write(bytes_of(at("a.png"))[:900])
+
+
+def try_refusals(folder):
+    make_unfit(folder)
+    before = sorted(os.listdir(folder))
+    for words, status, says in REFUSED:
+        run(*words, cwd=folder, status=status, says=says)
     assert sorted(os.listdir(folder)) == before, "a refusal left something"
-    run("grow", at("odd.mp4"), at("odd_grown.y4m"), "30x31x3")
-    run("grow", at("a.png"), at("part.png"), "60x60", "--crop", "40x30+8+9", "--scale", "50x20")
-    run("grow", at("a.png"), at("part.png"), "60x60", status=2, says="already there")
-    run("grow", at("a.png"), at("part.png"), "60x60", "--replace", "--tries", "3", says="kept seed=")
-    run("verify", at("part.weave"), says="has the pixels of the output")
-    print("refusals say why and leave nothing")
+    print(f"{len(REFUSED)} refusals say why in a line and leave nothing")
+
+
+def try_options(folder):
+    """Parts of a sample, an odd size, a result that is there, and seeds."""
+    odd = "scale=50:34,crop=49:33:exact=1,format=yuv444p"
+    made("ffmpeg", "-v", "error", "-i", LIFE, "-vf", odd, "-c:v", "libx264", os.path.join(folder, "odd.mp4"))
+    run("grow", "odd.mp4", "odd_grown.mp4", "30x31x3", cwd=folder)
+    run("grow", "a.png", "part.png", "60x60", "--crop", "40x30+8+9", "--scale", "50x20", cwd=folder,
+        says="chosen: box=10 overlap=4")
+    run("grow", "a.png", "part.png", "60x60", status=2, says="already there", cwd=folder)
+    run("grow", "a.png", "part.png", "60x60", "--replace", "--tries", "3", says="kept seed=", cwd=folder)
+    run("verify", "part.weave", says="has the pixels of the output", cwd=folder)
+    os.mkdir(os.path.join(folder, "mine.weave"))
+    run("grow", "a.png", "mine.png", "60x60", "--replace", status=2, says="isn't a folder of texture's", cwd=folder)
 
 
 def try_alone(folder):
     """With one of the three packages alone."""
-    programs = {"imagemagick": ["convert"], "ffmpeg": ["ffmpeg", "ffprobe"], "netpbm": ["jpegtopnm", "pnmtopng", "pnmtojpeg", "pnmscale"],
-                "none": []}
+    programs = {"imagemagick": ["convert"], "ffmpeg": ["ffmpeg", "ffprobe"], "none": [],
+                "netpbm": ["jpegtopnm", "pnmtopng", "pnmtojpeg", "pnmscale"]}
     real = {"convert": "/usr/bin/convert"}
     for package, names in programs.items():
         bin_folder = os.path.join(folder, "bin_" + package)
@@ -202,11 +326,15 @@ def try_stopped(folder):
 def main():
     chance = random.Random(1)
     with tempfile.TemporaryDirectory() as folder:
-        try_pngs(folder)
+        try_pngs(folder, chance)
         try_forms(folder, chance)
+        try_tiles(folder, chance)
+        try_merges(folder, chance)
         try_refusals(folder)
+        try_options(folder)
         try_alone(folder)
         try_stopped(folder)
+        say_times(folder)
 
 
 if __name__ == "__main__":

@@ -1,15 +1,17 @@
 #!/usr/bin/env python3
-"""Opens tools/view.html in headless Chromium with runs of weave, and holds what it shows against examples/verify.py.
+"""Opens tools/view.html in headless Chromium with runs of weave, and holds what it shows against tools/verify.py.
 
-    checks/view.py [FOLDER]
+    checks/view.py [--pictures FOLDER] [RUN ..]
 
-Of a grown picture of two samples with rounds, a grown clip, a quilt and a loop it asks: that the cell shown under the pointer
-is the one that verify.py finds, at 200 drawn places, and at places by link and by key; that the map after drawn steps is that of
-as many records; that changed bytes of the output are counted; that the costs of seams add up to those of weave's report; that
-of changed files the page has the line of `weave check`; and that the page is no wider than a window of 400 pixels. Of small
-random runs of all kinds each cell is compared.
-It says how long a run of 1024x1024 cells takes to open and how long a move of the pointer takes, and leaves pictures of
+Of a grown picture of two samples with rounds, one with turns, a grown clip, a quilt, a loop, a tile and a merge it asks: that
+the cell shown under the pointer is the one that verify.py finds, at 200 drawn places, and at places by link and by key; that
+the map after drawn steps is that of as many records; that changed bytes of the output are counted; that the costs of seams add
+up to those of weave's report; that of changed and malformed files the page has the line of `weave check`; that a folder of
+tools/texture opens; and that the page is no wider than a window of 400 pixels. Of small random runs of all kinds each cell is
+compared. A run of 1024x1024 cells has to open in under 2 seconds, or in as much processor time where other work goes on, and a
+move of the pointer over it to take less than 16 milliseconds. With names of runs it tries these alone. It leaves pictures of
 the page in FOLDER. It wants Debian's package chromium. Build the program first: ./build."""
+import argparse
 import os
 import random
 import re
@@ -20,24 +22,48 @@ import tempfile
 import time
 from itertools import product
 
-HERE = os.path.dirname(os.path.abspath(__file__))
-EXAMPLES = os.path.join(HERE, "..", "examples")
-sys.path[:0] = [HERE, EXAMPLES]
+from beside import EXAMPLES, TOOLS, WEAVE
+from changed_bytes import KINDS, TURNED, change, make_run as random_run, words_of
+from chromium import Browser
+from malformed import malformed
+from run_files import MOST_OUT_CELLS, Samples, is_map_of_turns, read_map, read_pixels
+from verify import Output, Run, named_numbers, verify
 
-from changed_bytes import KINDS, change, make_run as random_run, words_of  # noqa: E402
-from chromium import Browser  # noqa: E402
-from random_runs import WEAVE  # noqa: E402
-from verify import Output, Run, verify  # noqa: E402
-
-PAGE = "file://" + os.path.abspath(os.path.join(HERE, "..", "tools", "view.html"))
+PAGE = "file://" + os.path.join(TOOLS, "view.html")
 MORE = "more pebbles"
 RUNS = {
     "grown": ("grow", ["pebbles.ppm", MORE], ["width=150", "height=110", "box=24", "overlap=8", "rounds=12", "tol=40"]),
+    "turned": ("grow", ["pebbles.ppm"], ["width=120", "height=90", "box=40", "overlap=16", "rounds=6", "turns=all"]),
     "clip": ("grow", ["life.y4m"], ["width=40", "height=30", "frames=10", "box=12", "overlap=4", "rounds=3"]),
     "quilt": ("quilt", ["pebbles.ppm"], ["width=120", "height=100", "block=24", "overlap=6"]),
     "loop": ("loop", ["life.y4m"], ["length=24"]),
+    "tile": ("tile", ["pebbles.ppm"], ["width=96", "height=80", "box=40", "overlap=16"]),
+    "merge": ("merge", ["shot1.ppm", "shot2.ppm"], []),
 }
 PLACES, CHANGES, SMALL = 200, 60, 8
+MOST_SECONDS, MOST_MILLISECONDS = 2, 16
+
+
+class Unrecorded(Run):
+    """The files of a tile or a merge, which have no record."""
+
+    def __init__(self, out_name, map_name, *sample_names):
+        self.samples = Samples(sample_names)
+        self.out, self.map = read_pixels(out_name, "out", MOST_OUT_CELLS), read_map(map_name)
+        self.output, self.record, self.numbers = None, None, named_numbers(self.samples, self.map)
+        self.check_pixels()
+
+    def cell(self, x, y, f):
+        return super().cell(x, y, f)[:3] + (None,)
+
+
+def read_run(files, turns):
+    """The files of a run, which have to stand."""
+    if files[2] is None:
+        return Unrecorded(files[0], files[1], *files[3:])
+    run = Run(*files, turns=turns)
+    run.check()
+    return run
 
 
 def make_more(name, folder):
@@ -47,26 +73,37 @@ def make_more(name, folder):
 
 
 def make_run(name, folder):
-    """The files of a run, in the order of verify.py, and its report."""
+    """The files of a run, in the order of verify.py with None for no record; whether it is of turns; and its report."""
     command, samples, words = RUNS[name]
     files = [os.path.join(folder, part) for part in ("out", "map", "record")]
     for number, sample in enumerate(samples, 1):
         files.append(os.path.join(folder, f"sample{number}"))
         if sample == MORE:
             make_more(files[-1], folder)
+        elif command == "merge":
+            subprocess.run([os.path.join(EXAMPLES, "shots.py"), folder], check=True, capture_output=True)
+            shutil.copy(os.path.join(folder, sample), files[-1])
         else:
             shutil.copy(os.path.join(EXAMPLES, sample), files[-1])
-    done = subprocess.run([WEAVE, command] + words_of(files) + words, capture_output=True, text=True, check=True)
-    return files, done.stdout
+    named = words_of(files)
+    if command in ("tile", "merge"):
+        named = [word for word in named if not word.startswith("record=")]
+        files[2] = None
+    if command == "merge":
+        named.append("marks=" + os.path.join(folder, "marks.ppm"))
+    done = subprocess.run([WEAVE, command] + named + words, capture_output=True, text=True, check=True)
+    return files, "turns=all" in words, done.stdout
 
 
 def show(browser, files):
     """Chooses all files of a run in a page that is opened for them."""
     browser.open(PAGE)
     for slot, names in (("samples", files[3:]), ("out", files[:1]), ("map", files[1:2]), ("record", files[2:3])):
-        browser.choose("#" + slot, names)
-    browser.wait_for("files.record !== null")
+        if names != [None]:
+            browser.choose("#" + slot, names)
+    browser.wait_for("files.map !== null" if files[2] is None else "files.record !== null")
     browser.wait_for("document.getElementById('verdict').textContent !== ''")
+    browser.value("document.getElementById('work').scrollIntoView()")
 
 
 def verdict(browser):
@@ -74,18 +111,28 @@ def verdict(browser):
 
 
 def cell_shown(browser):
-    """What the page says of a cell: its place, both bytes, the sample's number and place, and the record."""
+    """What the page says of a cell: its place, both bytes, the sample's number and place, the turn, and the record."""
     rows = browser.value("[...document.querySelectorAll('#cell tr')].map(row => [...row.children].map(part => part.textContent))")
     numbers = [[int(number) for number in re.findall(r"-?\d+", text)] for _, text in rows]
     names = [name for name, _ in rows]
-    sample, by = numbers[2], numbers[names.index("put there by")][0] if "put there by" in names else None
-    source = tuple(sample) if len(sample) == 4 else (1,) + tuple(sample)
-    return tuple(numbers[0]), bytes(numbers[1]), source, bytes(numbers[3]), by, rows[4][1] == "equal"
+    turn, by = (numbers[names.index(name)][0] if name in names else None for name in ("turn", "put there by"))
+    source = tuple(numbers[2]) if len(numbers[2]) == 4 else (1,) + tuple(numbers[2])
+    return tuple(numbers[0]), bytes(numbers[1]), source, bytes(numbers[3]), by, turn, rows[4][1] == "equal"
+
+
+def source_of(run, place):
+    """The sample's number and the place of a cell, as they are in the file, and the turn; by the map alone."""
+    x, y, f = place
+    if run.map.kind == 1:
+        return (1, x, y, run.map.frames[f]), None
+    entry = [column[x + run.out.size[0] * (y + run.out.size[1] * f)] for column in run.map.columns]
+    return (entry[0], *entry[-3:]), entry[1] if run.map.kind == 2 else None
 
 
 def cell_found(run, place):
-    out, source, sample, record = run.cell(*place)
-    return place, out, source, sample, record, out == sample
+    out, _, sample, record = run.cell(*place)
+    source, turn = source_of(run, place)
+    return place, out, source, sample, record, turn, out == sample
 
 
 def hold(what, found, wanted):
@@ -109,8 +156,9 @@ def try_cells(name, browser, run, chance):
         point_at(browser, place)
         hold(f"{name}, pointer at {place}", cell_shown(browser), cell_found(run, place))
     for place in places[:10]:
-        browser.value(f"location.hash = '#{','.join(map(str, place))}'; new Promise(done => setTimeout(done, 30))")
         browser.point(2, 2)
+        browser.value(f"location.hash = '#{','.join(map(str, place))}'")
+        browser.wait_for(f"JSON.stringify(shown.kept) === '{list(place)}'.replaceAll(' ', '')")
         hold(f"{name}, link to {place}", cell_shown(browser), cell_found(run, place))
     x, y, f = places[9]
     for key, dx, dy in (("ArrowLeft", -1, 0), ("ArrowUp", 0, -1), ("ArrowRight", 1, 0), ("ArrowDown", 0, 1)):
@@ -130,6 +178,9 @@ def flat(samples, number):
 
 def try_steps(name, browser, run, chance):
     """The map after drawn steps, forth and back, each cell."""
+    if run.record is None:
+        hold(f"{name}, whether steps are offered", browser.value("$('steps-bar').hidden"), True)
+        return
     steps = len(run.map.frames) if run.map.kind == 1 else len(run.record.records)
     area = run.out.size[0] * run.out.size[1]
     for step in [0, steps] + [chance.randint(0, steps) for _ in range(6)] + [steps]:
@@ -159,80 +210,54 @@ def try_paint(what, browser, run, shown):
 
 
 def try_changed_bytes(name, browser, files, run, folder, chance):
-    """Bytes of cells of the output that are changed are counted."""
-    changed = os.path.join(folder, "changed")
+    """Bytes of cells of the output that are changed are counted, and the next that differs is one of them."""
+    changed, each = os.path.join(folder, "changed"), run.samples.samples
     with open(files[0], "rb") as file:
         data = bytearray(file.read())
-    total = len(run.out.cells) // run.samples.samples
-    if run.out.form[0] == "picture":
-        start, each = len(data) - len(run.out.cells), run.samples.samples
-        for count in (1, 2, 5):
-            at = start + each * chance.randrange(total // 8) + each * count * (total // 8)
-            data[at] ^= 1
-            with open(changed, "wb") as file:
-                file.write(data)
-            browser.choose("#out", [changed])
-            browser.wait_for("files.out.name === 'changed' && document.getElementById('verdict').textContent !== ''")
-            wanted = {1: 1, 2: 2, 5: 3}[count]
-            hold(f"{name}, changed cells", verdict(browser)[0],
-                 f"{wanted} of {total} cells of the output differ from what the map names.")
-            browser.choose("#out", [files[0]])
-            browser.wait_for("files.out.name === 'out'")
-    else:
-        data[-1] ^= 1
+    total, is_picture, places = len(run.out.cells) // each, run.out.form[0] == "picture", set()
+    for _ in range(3 if is_picture else 1):
+        cell = chance.randrange(total) if is_picture else total - 1
+        data[len(data) - len(run.out.cells) + each * cell + chance.randrange(each) if is_picture else -1] ^= 1
+        places.add(cell)
         with open(changed, "wb") as file:
             file.write(data)
         browser.choose("#out", [changed])
         browser.wait_for("files.out.name === 'changed' && document.getElementById('verdict').textContent !== ''")
-        hold(f"{name}, changed cells", verdict(browser)[0],
-             f"1 of {total} cells of the output differ from what the map names.")
+        hold(f"{name}, changed cells", verdict(browser)[0], differing(len(places), total))
+        browser.press("d")
+        x, y, f = browser.value("shown.kept")
+        hold(f"{name}, the next that differs", x + run.out.size[0] * (y + run.out.size[1] * f) in places, True)
+        hold(f"{name}, whether it is equal", cell_shown(browser)[-1], False)
+        browser.choose("#out", [files[0]])
+        browser.wait_for("files.out.name === 'out'")
+
+
+def differing(count, total):
+    return f"{count} of {total} cells of the output differ from what the map names."
 
 
 def try_seams(name, browser, report):
-    """The costs of all seams of a picture are the report's."""
+    """The costs of all seams of a picture are the report's; of a tile with those across its edges."""
     wanted = re.search(r"seams (\d+)", report)
     if not wanted or "x1\n" not in report:
         return
-    browser.press("s")
+    keys = ["s", "r"] if name == "tile" else ["s"]
+    for key in keys:
+        browser.press(key)
     total = browser.value("[...shown.seams.right, ...shown.seams.lower].reduce((sum, cost) => sum + cost, 0)")
     hold(f"{name}, seams", total, int(wanted[1]))
-    browser.press("s")
+    for key in keys:
+        browser.press(key)
 
 
 def try_usage(name, browser, run):
-    numbers = run.numbers or [run.samples.number(1, x, y, f) for f in run.map.frames for y in range(run.out.size[1])
-                              for x in range(run.out.size[0])]
+    width, height, frames = run.out.size
+    used = {source_of(run, place)[0] for place in product(range(width), range(height), range(frames))}
     rows = browser.value("[...document.querySelectorAll('#usage tr')].slice(1).map(row => row.children[2].textContent)")
     for part, text in enumerate(rows, 1):
-        used = len({number for number in numbers if run.samples.place(number)[0] == part})
-        hold(f"{name}, cells used of sample {part}", int(text.split()[0]), used)
-        hold(f"{name}, whether a cell is of sample {part}", used > 0, True)
-
-
-def malformed(run):
-    """Files that aren't in their form or within their limits, of each kind: the slot and the bytes."""
-    clip, frame = b"YUV4MPEG2 W4 H2", b"FRAME\n" + bytes(12)
-    pictures = [b"", b"P3\n", b"P6", b"P6\n3 2\n255", b"P6\n0 2\n255\n", b"P6#\n 3#\r 2 255#", b"P6 1 1 256\n   ", b"P6 1 1 65535 ",
-                b"P6 4097 1 255 ", b"P6 1 9999999999999999999999 255 ", b"P6 4096 4096 255 ", b"P6 2 1 9 \t\n", b"P6 2 1 200 \xff",
-                b"P6 2 1 255 12345", b"P6 2 1 255 1234567", b"P6" + b" " * 65534, b"P6" + b" " * 65535, b"P6 #" + b"x" * 70000,
-                b"P6 1 1" + b" " * 65529 + b"x", b"P6 00" + b"0" * 70000]
-    clips = [b"Y", b"YUV4MPEG3", b"YUV4MPEG2W4 H2\n", clip, clip + b"\n", b"YUV4MPEG2\n", b"YUV4MPEG2 W4\n", clip + b" W4\n", clip + b" C420p10\n",
-             clip + b" Ix\n", clip + b" C411 C411\n", b"YUV4MPEG2 W4 H3\n" + frame, b"YUV4MPEG2 W0 H2\n", b"YUV4MPEG2 W4x H2\n",
-             b"YUV4MPEG2 W8194 H2\n", b"YUV4MPEG2 H2 W99999999999999999999999998\n", b"YUV4MPEG2 W8192 H8192 Cmono\n",
-             clip + b"\n" + frame[:-1], clip + b"\n" + frame + b"FRAMF", clip + b"\nFRAME x" + b"y" * 4090,
-             clip + b" X" + b"y" * 4005 + b"\n", clip + b" X" + b"y" * 5000, clip + b" X" + b"y" * (4096 - 18) + b"\n",
-             clip + b"\n" + frame[:6] + b"x", clip + b"\nFRAME \n" + bytes(11),
-             b"YUV4MPEG2 W1 H1 Cmono\n" + b"FRAME\n\0" * 4097]
-    numbers = [(0, 1, 0), (7, 1, 0), (8, 1, 0), (8, 1, 3), (9, 1, 1), (9, 1, 2), (9, 1, 3), (10, 4, 0), (10, 4, 4097),
-               (14, 4, 2 ** 32 - 1), (18, 4, 4096), (22, 4, 0), (22, 2, 0), (22, 2, 17), (22, 4, 5000), (24, 4, 4097),
-               (26, 4, 9999), (30, 4, 257), (34, 2, 65535), (34, 4, 2 ** 32 - 1), (34, 4, 4097), (38, 1, 1), (38, 2, 65535),
-               (39, 2, 0), (44, 2, 0), (46, 2, 65535), (50, 2, 65535), (48, 6, 2 ** 48 - 1)]
-    for slot, whole in (("map", run["map"]), ("record", run["record"])):
-        yield from ((slot, whole[:count]) for count in (0, 7, 8, 9, 10, 13, 33, 34, 37, 40, len(whole) - 1))
-        yield from ((slot, whole + more) for more in (b"\0", b"WEAVEMAP"))
-        yield from ((slot, whole[:at] + number.to_bytes(count, "big") + whole[at + count:]) for at, count, number in numbers)
-    for slot in ("out", "samples"):
-        yield from ((slot, data) for data in pictures + clips)
+        count = sum(source[0] == part for source in used)
+        hold(f"{name}, cells used of sample {part}", int(text.split()[0]), count)
+        hold(f"{name}, whether a cell is of sample {part}", count > 0, True)
 
 
 def try_each_malformed(name, browser, files, folder):
@@ -241,7 +266,7 @@ def try_each_malformed(name, browser, files, folder):
         with open(files[at], "rb") as file:
             whole[slot] = file.read()
     lines = set()
-    for number, (slot, data) in enumerate(malformed(whole)):
+    for number, (slot, data) in enumerate(malformed(whole, name == "grown")):
         at = {"out": 0, "map": 1, "record": 2, "samples": 3}[slot]
         lines.add(try_file(name, browser, files, folder, at, data, f"malformed{number}"))
     return {re.sub(r"\d{2,}", "N", line) for line in lines if line}
@@ -262,9 +287,10 @@ def try_file(name, browser, files, folder, which, data, called):
     mine[which] = os.path.join(folder, called)
     with open(mine[which], "wb") as file:
         file.write(data)
-    said = subprocess.run([WEAVE, "check"] + words_of(mine), capture_output=True, text=True)
+    turns = is_map_of_turns(mine[1])
+    said = subprocess.run([WEAVE, "check"] + words_of(mine, turns), capture_output=True, text=True)
     line = (said.stdout + said.stderr).rstrip("\n")
-    hold(f"{name}, {called}, verify.py", verify(*mine), (said.returncode, line))
+    hold(f"{name}, {called}, verify.py", verify(*mine, turns=turns), (said.returncode, line))
     slot = ("out", "map", "record", "samples")[min(which, 3)]
     browser.choose("#" + slot, mine[3:] if slot == "samples" else [mine[which]])
     at = f"files.samples[{which - 3}]" if slot == "samples" else f"files.{slot}"
@@ -305,8 +331,8 @@ def take_pictures(name, browser, files, pictures):
 def try_all_at_once(name, browser, files, run, chance):
     """All files of a run chosen at once, and dropped at once, find their places."""
     total = len(run.out.cells) // run.samples.samples
-    wanted = [[os.path.basename(sample) for sample in files[3:]], "out", "map", "record"]
-    mixed = files[:]
+    wanted = [[os.path.basename(sample) for sample in files[3:]], "out", "map", files[2] and "record"]
+    mixed = [name for name in files if name]
     chance.shuffle(mixed)
     for how in ("chosen", "dropped"):
         browser.open(PAGE)
@@ -316,12 +342,13 @@ def try_all_at_once(name, browser, files, run, chance):
             browser.value("(() => { const all = document.createElement('input'); all.type = 'file'; all.multiple = true;"
                           " all.id = 'all'; document.body.append(all); })()")
             browser.choose("#all", mixed)
-            browser.value("(() => { const data = new DataTransfer(); for (const file of $('all').files) data.items.add(file);"
-                          " $('all').remove(); document.body.dispatchEvent(new DragEvent('drop', { bubbles: true, dataTransfer: data })); })()")
+            browser.value("(() => { const data = new DataTransfer(), words = { bubbles: true, dataTransfer: data };"
+                          " for (const file of $('all').files) data.items.add(file);"
+                          " $('all').remove(); document.body.dispatchEvent(new DragEvent('drop', words)); })()")
         browser.wait_for("document.getElementById('verdict').textContent !== ''")
         hold(f"{name}, files {how} at once", browser.value(
-            "[files.samples.map(file => file.name), files.out.name, files.map.name, files.record.name]"), wanted)
-        hold(f"{name}, {how} at once", verdict(browser)[0], f"0 of {total} cells of the output differ from what the map names.")
+            "[files.samples.map(file => file.name), files.out.name, files.map.name, files.record && files.record.name]"), wanted)
+        hold(f"{name}, {how} at once", verdict(browser)[0], differing(0, total))
 
 
 def try_play(name, browser):
@@ -336,20 +363,19 @@ def try_play(name, browser):
 
 def try_run(name, browser, pictures, chance):
     with tempfile.TemporaryDirectory() as folder:
-        files, report = make_run(name, folder)
-        run = Run(*files)
-        run.check()
+        files, turns, report = make_run(name, folder)
+        run, lines = read_run(files, turns), set()
         show(browser, files)
-        total = len(run.out.cells) // run.samples.samples
-        hold(name, verdict(browser), [f"0 of {total} cells of the output differ from what the map names.",
-                                      "0 entries of the map differ from what the records leave."])
+        hold(name, verdict(browser), [differing(0, len(run.out.cells) // run.samples.samples)]
+             + ["0 entries of the map differ from what the records leave."] * (files[2] is not None))
         try_cells(name, browser, run, chance)
         try_steps(name, browser, run, chance)
         try_seams(name, browser, report)
         try_usage(name, browser, run)
         if run.out.size[2] > 1:
             try_play(name, browser)
-        lines = try_malformed(name, browser, files, folder, chance) | try_each_malformed(name, browser, files, folder)
+        if files[2]:
+            lines = try_malformed(name, browser, files, folder, chance) | try_each_malformed(name, browser, files, folder)
         try_changed_bytes(name, browser, files, run, folder, chance)
         try_all_at_once(name, browser, files, run, chance)
         if pictures:
@@ -357,57 +383,79 @@ def try_run(name, browser, pictures, chance):
         print(f"{name}: {PLACES} cells, the steps, changed and malformed files with {len(lines)} different lines", flush=True)
 
 
+def try_folder(browser, chance):
+    """A folder that texture left, chosen as it is."""
+    with tempfile.TemporaryDirectory() as folder:
+        words = ["grow", os.path.join(EXAMPLES, "pebbles.ppm"), os.path.join(folder, "more.png"), "90x70"]
+        subprocess.run([os.path.join(TOOLS, "texture")] + words, check=True, capture_output=True)
+        browser.open(PAGE)
+        browser.choose("#folder", [os.path.join(folder, "more.weave")])
+        browser.wait_for("document.getElementById('verdict').textContent !== ''")
+        hold("a folder of texture", verdict(browser)[0], differing(0, 90 * 70))
+        hold("its record", browser.value("run.record.kind"), 0)
+    print("a folder of texture opens")
+
+
+CELLS = """Array.from({ length: cellsOf(run.size) }, (_, i) => {
+    const facts = cellFacts([i % run.size[0], Math.floor(i / run.size[0]) % run.size[1], Math.floor(i / run.area)]);
+    const turn = run.many > 1 ? facts.turn : null;
+    return [facts.output, [facts.part + 1, facts.x, facts.y, facts.f], facts.sample, turn, facts.owner]; })"""
+
+
 def try_small(browser, chance):
     """Each cell of small random runs of all kinds, with the record, and the source without it."""
-    kinds, done = list(KINDS) * SMALL, 0
+    kinds, done = [*KINDS, *TURNED] * SMALL, 0
     with tempfile.TemporaryDirectory() as folder:
         for kind in kinds:
             files = random_run(kind, chance, folder)
             if files is None:
                 continue
-            run = Run(*files)
-            run.check()
+            run = read_run(files, kind in TURNED)
             show(browser, files)
-            shown = browser.value("""Array.from({ length: cellsOf(run.size) }, (_, i) => {
-                const facts = cellFacts([i % run.size[0], Math.floor(i / run.size[0]) % run.size[1], Math.floor(i / run.area)]);
-                return [facts.output, [facts.part + 1, facts.x, facts.y, facts.f], facts.sample, facts.owner]; })""")
-            width, height, frames = run.out.size
-            found = [run.cell(x, y, f) for f, y, x in product(range(frames), range(height), range(width))]
-            hold(f"a small run, {kind}", shown, [[list(out), list(source), list(sample), by] for out, source, sample, by in found])
-            browser.choose("#record", [])
+            places = [(x, y, f) for f, y, x in product(*map(range, run.out.size[::-1]))]
+            found = [(cell_found(run, place), place) for place in places]
+            wanted = [[list(out), list(source), list(sample), turn, by] for (_, out, source, sample, by, turn, _), _ in found]
+            hold(f"a small run, {kind}", browser.value(CELLS), wanted)
             browser.value("files.record = null; refresh()")
-            hold(f"{kind}, no record", browser.value("Array.from({ length: cellsOf(run.size) }, (_, i) => placeOf(sourceOf(i)))"),
-                 [[source[0] - 1, *source[1:]] for _, source, _, _ in found])
+            hold(f"{kind}, no record", [cell[:4] for cell in browser.value(CELLS)], [cell[:4] for cell in wanted])
             done += 1
-    print(f"each cell of {done} small runs of {len(KINDS)} kinds")
+    print(f"each cell of {done} small runs of {len(KINDS) + len(TURNED)} kinds", flush=True)
 
 
-def try_speed(browser):
+def try_speed(browser, chance):
     """How long a large run takes to open, and a move of the pointer over it."""
     with tempfile.TemporaryDirectory() as folder:
-        RUNS["large"] = ("grow", ["pebbles.ppm"], ["width=1024", "height=1024"])
-        files, _ = make_run("large", folder)
-        begin = time.time()
+        RUNS["large"] = ("grow", ["pebbles.ppm"], ["width=1024", "height=1024", "box=64", "overlap=24"])
+        files, _, _ = make_run("large", folder)
+        begin, before = time.time(), browser.processor_seconds()
         show(browser, files)
-        opened = time.time() - begin
+        opened, taken = time.time() - begin, browser.processor_seconds() - before
         each = browser.value("(() => { const begin = performance.now(); for (let i = 0; i < 200; i++) {"
                              " outView.hover([5 * i, 3 * i]); paintNow(); } return (performance.now() - begin) / 200; })()")
-        print(f"a run of 1024x1024 cells opened in {opened:.2f} s; a move of the pointer takes {each:.1f} ms")
+        print(f"a run of 1024x1024 cells opened in {opened:.2f} s, {taken:.2f} s of processor time; a move of the pointer takes "
+              f"{each:.1f} ms", flush=True)
+        hold("whether that is soon enough", (min(opened, taken) < MOST_SECONDS, each < MOST_MILLISECONDS), (True, True))
 
 
-def main(pictures=None):
-    if pictures:
-        os.makedirs(pictures, exist_ok=True)
+def main():
+    words = argparse.ArgumentParser(description=__doc__, formatter_class=argparse.RawDescriptionHelpFormatter)
+    words.add_argument("--pictures", help="the folder for pictures of the page")
+    words.add_argument("runs", nargs="*", metavar="RUN", help=f"one of {', '.join(RUNS)}, small, folder, speed; or all")
+    given = words.parse_args()
+    if given.pictures:
+        os.makedirs(given.pictures, exist_ok=True)
     browser, chance = Browser(), random.Random(1)
     try:
-        for name in list(RUNS):
-            try_run(name, browser, pictures, chance)
-        try_small(browser, chance)
-        try_speed(browser)
+        others = {"small": try_small, "folder": try_folder, "speed": try_speed}
+        for name in given.runs or [*RUNS, *others]:
+            if name in others:
+                others[name](browser, chance)
+            else:
+                try_run(name, browser, given.pictures, chance)
         hold("errors of the page", browser.errors, [])
     finally:
         browser.close()
 
 
 if __name__ == "__main__":
-    main(*sys.argv[1:])
+    main()

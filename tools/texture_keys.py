@@ -1,0 +1,110 @@
+"""Which keys texture gives to weave: those that docs/MANUAL.md advises for the sizes of the samples, and those of its user."""
+import re
+
+from run_files import KINDS
+from texture_programs import Stop
+
+# The keys of each command that its user may choose.
+KEYS = {"grow": ("place", "box", "overlap", "tol", "rounds", "seed", "turns"), "quilt": ("block", "overlap", "tol", "seed"),
+        "tile": ("wrap", "box", "overlap", "tol", "seed"), "loop": ("taps", "gap"), "merge": ()}
+AXES = "xyf"
+
+
+def keys_of(command, words):
+    """The keys and values of words."""
+    found = {}
+    for word in words:
+        key, _, value = word.partition("=")
+        if key not in KEYS[command]:
+            raise Stop(f"{word}: {command} takes {', '.join(KEYS[command]) or 'no keys'}")
+        if key in found:
+            raise Stop(f"{word}: {key} is given twice")
+        found[key] = value
+    return found
+
+
+def number_in(keys, key, default):
+    """A number that was chosen, or the default; weave says what is wrong with any other text."""
+    return int(keys[key]) if re.fullmatch(r"\d{1,4}", keys.get(key, "")) else default
+
+
+def shortest_axis(samples):
+    return min(axis for sample in samples for axis in sample.size[:3 if sample.size[2] > 1 else 2])
+
+
+def size_keys(command, text, sample):
+    """The size that is asked for, in cells. It is given in pixels, and in frames."""
+    if command == "merge":
+        return {}
+    if command == "loop":
+        if not re.fullmatch(r"\d+", text):
+            raise Stop(f"{text}: a number of frames is wanted")
+        return {"length": text}
+    found = re.fullmatch(r"(\d+)x(\d+)(?:x(\d+))?", text)
+    if not found or (found[3] and (command == "quilt" or sample.form[0] == "picture")):
+        raise Stop(f"{text}: a size is wanted, as 1024x768, and as 320x240x48 of a clip")
+    across, down, _ = KINDS[sample.form[1]] if sample.form[0] == "clip" else (1, 1, 3)
+    if int(found[1]) % across or int(found[2]) % down:
+        raise Stop(f"{text}: the width has to be a multiple of {across} and the height of {down}, as a cell of this clip is")
+    keys = {"width": str(int(found[1]) // across), "height": str(int(found[2]) // down)}
+    return dict(keys, frames=found[3]) if found[3] else keys
+
+
+def chosen_keys(command, samples, sizes, given):
+    """The keys that are chosen where the user has given none."""
+    if command in ("loop", "merge"):
+        return {}
+    shortest = shortest_axis(samples)
+    if command == "quilt":
+        block = number_in(given, "block", max(4 * shortest // 9, 1))
+        advised = {"block": block, "overlap": 2 * block // 7, "tol": 5}
+    elif command == "tile":
+        box, overlap = closing_keys(shortest, wrapped_sizes(sizes, given), given)
+        advised = {"box": box, "overlap": overlap}
+    else:
+        box = number_in(given, "box", max(shortest // 2, 1))
+        advised = {"box": box, "overlap": 2 * box // 5, "rounds": 10}
+    return {key: str(value) for key, value in advised.items() if key not in given}
+
+
+def wrapped_sizes(sizes, given):
+    """The cells of each axis on which the edges of a tile meet."""
+    lengths = dict(zip(AXES, (int(sizes["width"]), int(sizes["height"]), int(sizes.get("frames", 1)))))
+    return [lengths[axis] for axis in given.get("wrap", "xy") if axis in AXES]
+
+
+def shared_cells(size, box, overlap):
+    """How many cells the last patch of a row and the first one share, where the edges meet."""
+    box = min(box, max(size - 1, 1))
+    step, left = max(box - overlap, 1), max(size - overlap, 0)
+    return -(-left // step) * step - left
+
+
+def misses(sizes, box, overlap):
+    """By how much the last patches overlap the first ones otherwise than others do, as a share: the worst of all axes."""
+    return max((abs(shared_cells(size, box, overlap) - overlap) / max(overlap, 1) for size in sizes), default=0)
+
+
+def closing_keys(shortest, sizes, given):
+    """A box and an overlap with which a tile of these sizes closes: near those of `grow`."""
+    most = number_in(given, "box", max(shortest // 2, 1))
+    boxes = [most] if "box" in given else range(max(3 * most // 4, 1), most + 1)
+    pairs = [(box, overlap) for box in boxes for overlap in overlaps_of(box, given)]
+    return min(pairs, key=lambda pair: (max(misses(sizes, *pair) - .2, 0), most - pair[0], abs(pair[1] - 2 * pair[0] // 5)))
+
+
+def overlaps_of(box, given):
+    """The overlaps of a third to a half of a box, or the one that is given."""
+    if "overlap" in given:
+        return [number_in(given, "overlap", 0)]
+    return range(-(-box // 3), box // 2 + 1) if box > 1 else [0]
+
+
+def how_it_closes(sizes, keys):
+    """A line on how many cells the last patches share with the first ones; None where no edge meets another."""
+    if not sizes:
+        return None
+    box, overlap = number_in(keys, "box", 1), number_in(keys, "overlap", 0)
+    shares = [str(shared_cells(size, box, overlap)) for size in sizes]
+    line = f"the last patches share {' and '.join(shares)} cells with the first ones, and others {overlap} with each other"
+    return line + (": an edge may show; try another size" if misses(sizes, box, overlap) > .5 else "")

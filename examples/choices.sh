@@ -1,15 +1,16 @@
 #!/bin/bash
-# Makes the pictures of README.md and of "How to choose" in docs/MANUAL.md, in docs/images/.
+# Makes the pictures of "How to choose" in docs/MANUAL.md, in docs/images/.
 #
 #     examples/choices.sh [WEAVE [figures]]      the program is ./weave where none is named
 #
 # With `figures` it prints the costs that the page has in place of that. It wants Netpbm for the pictures (pnmcat,
-# pnmpad, pnmquant, pnmtopng), which have 256 colours, so that they are small.
+# pnmpad, pnmtile, pnmtopng).
 set -eu
 cd "$(dirname "$0")/.."
 weave=$(realpath "${1-weave}")
 images=$PWD/docs/images
 examples=$PWD/examples
+tools=$PWD/tools
 scratch=$(mktemp -d)
 trap 'rm -rf "$scratch"' EXIT
 cd "$scratch"
@@ -38,7 +39,7 @@ show() {
         pnmcat -lr -white -jtop row.ppm padded.ppm > longer.ppm
         mv longer.ppm row.ppm
     done
-    pnmquant 256 row.ppm 2> /dev/null | pnmtopng -compression 9 2> /dev/null > "$images/$out.png"
+    pnmtopng -quiet -compression 9 row.ppm > "$images/$out.png"
 }
 
 # cost COMMAND WORDS..: the last number of its report
@@ -85,13 +86,6 @@ fi
 
 size="width=200 height=140"
 
-# README: a sample, what is grown from it at twice its size, and the map of that.
-run grown grow bricks width=384 height=280 box=64 overlap=32 rounds=10
-"$examples/map_colours.py" grown.map grown_map.ppm 1
-show bricks_sample bricks
-show bricks_grown grown
-show bricks_map grown_map
-
 # box: too small, the default, right; and too large
 run box_small grow bricks $size box=12 overlap=4
 run box_default grow bricks $size
@@ -123,3 +117,22 @@ show choose_block block_small block_right block_large
 # a sample of two regions falls into its flatter one
 run halves_grown grow halves $size box=64 overlap=32
 show choose_halves halves halves_grown
+
+# turns: light from above, and from all sides
+run turns_none grow olives $size box=64 overlap=32 rounds=10 turns=none
+run turns_all grow olives $size box=64 overlap=32 rounds=10 turns=all
+show choose_turns turns_none turns_all
+
+# gap: none to speak of, some, and enough
+for gap in 1 4 8; do
+    "$weave" loop sample=sway.y4m out=looped.y4m map=gap.map record=record length=60 gap=$gap > /dev/null
+    "$tools/draw.py" walk gap.map gap_$gap.ppm 3
+done
+show choose_gap gap_1 gap_4 gap_8
+
+# tiles: a size at which the last patches and the first don't overlap, and one at which they do; each laid two by two
+for cells in 128 136; do
+    "$weave" tile sample=pebbles.ppm out=tile.ppm map=tile.map width=$cells height=$cells > /dev/null
+    pnmtile $((2 * cells)) $((2 * cells)) tile.ppm > tile_$cells.ppm
+done
+show choose_tile tile_128 tile_136

@@ -1,9 +1,11 @@
 #!/usr/bin/env python3
 """Writes samples made by formula: pictures that look like materials, and clips.
 
-    examples/samples.py NAME FILE       NAME is bricks, olives, gravel, grass, halves, waves or sway
+    examples/samples.py NAME FILE
 
-The first five are P6 pictures, the other two YUV4MPEG2 clips. Each NAME gives the same file every time."""
+NAME is that of a function below. P6 pictures are bricks, olives, gravel, grass, wood, cloth, rust, clouds, and three that
+go badly: halves, dusk and writing. YUV4MPEG2 clips are waves, sway, flame, pendulum and snow. Each NAME gives the same
+file every time."""
 import math
 import random
 import sys
@@ -13,13 +15,14 @@ def clamp(value):
     return max(0, min(255, round(value)))
 
 
-def noise(chance, width, height, step):
-    """Smooth noise between -1 and 1: random values every `step` cells, blended between."""
-    columns, rows = width // step + 2, height // step + 2
+def noise(chance, width, height, step, tall=None):
+    """Smooth noise between -1 and 1: random values every `step` cells, down a column every `tall`, blended between."""
+    tall = tall or step
+    columns, rows = width // step + 2, height // tall + 2
     grid = [[chance.uniform(-1, 1) for _ in range(columns)] for _ in range(rows)]
 
     def at(x, y):
-        i, j, u, v = x // step, y // step, x % step / step, y % step / step
+        i, j, u, v = x // step, y // tall, x % step / step, y % tall / tall
         u, v = u * u * (3 - 2 * u), v * v * (3 - 2 * v)
         top = grid[j][i] * (1 - u) + grid[j][i + 1] * u
         low = grid[j + 1][i] * (1 - u) + grid[j + 1][i + 1] * u
@@ -118,6 +121,129 @@ def halves():
     return width, height, cells
 
 
+def wood():
+    """Planed wood, 192x144 cells: rings that are cut along the trunk, and pores as short dark strokes."""
+    chance = random.Random(31)
+    width, height = 192, 144
+    bend, wave, grain = (noise(chance, width, height, step, tall) for step, tall in ((64, 24), (40, 9), (24, 1)))
+    pores = {}
+    for _ in range(900):
+        x, y, long = chance.randrange(width), chance.randrange(height), chance.randint(3, 9)
+        for i in range(long):
+            pores[x + i, y] = 14 * math.sin(math.pi * (i + 0.5) / long)
+
+    def cell(x, y):
+        ring = (y + 7 * bend(x, y) + 2 * wave(x, y)) / 12 % 1
+        light = 26 * (ring ** 2.2 - 0.4) + 9 * grain(x, y) - pores.get((x, y), 0)
+        return [clamp(176 + light), clamp(122 + 0.92 * light), clamp(72 + 0.72 * light)]
+
+    return width, height, [cell(x, y) for y in range(height) for x in range(width)]
+
+
+def cloth():
+    """A twill of 128x128 cells: threads of 4 cells, over two and under two, each of a tint of its own."""
+    chance = random.Random(37)
+    side, thread = 128, 4
+    tints = [[chance.uniform(-13, 13) for _ in range(side // thread)] for _ in range(2)]
+    rough = noise(chance, side, side, 2)
+
+    def cell(x, y):
+        i, j = x // thread, y // thread
+        is_over = (i + j) % 4 < 2
+        along, across = (y, x) if is_over else (x, y)
+        bow = math.sin(math.pi * (across % thread + 0.5) / thread)
+        steps = ((j if is_over else i) + (i if is_over else j)) % 2
+        far = (along % thread + thread * steps + 0.5) / (2 * thread)
+        light = (0.55 + 0.45 * bow) * (0.72 + 0.28 * math.sin(math.pi * far))
+        base = (86, 104, 146) if is_over else (196, 190, 176)
+        tint = tints[0][i] if is_over else tints[1][j]
+        return [clamp(value * light + tint + 6 * rough(x, y)) for value in base]
+
+    return side, side, [cell(x, y) for y in range(side) for x in range(side)]
+
+
+def rust():
+    """Paint that rust has eaten away, 176x132 cells."""
+    chance = random.Random(41)
+    width, height = 176, 132
+    octaves = [(noise(chance, width, height, step), share) for step, share in ((22, 1.0), (11, 0.6), (5, 0.35), (2, 0.2))]
+    stain, speck = noise(chance, width, height, 7), noise(chance, width, height, 2)
+
+    def cell(x, y):
+        eaten = sum(share * at(x, y) for at, share in octaves)
+        if eaten < 0.02:
+            edge = max(0.0, 1 + (eaten - 0.02) / 0.16)
+            light = 7 * stain(x, y) + 5 * speck(x, y)
+            paint = (84 + light + 70 * edge, 126 + light + 8 * edge, 124 + light - 34 * edge)
+            return [clamp(value) for value in paint]
+        deep = min(1.0, eaten / 1.1)
+        light = 22 * stain(x, y) + 16 * speck(x, y)
+        return [clamp(176 - 84 * deep + light), clamp(88 - 46 * deep + 0.6 * light), clamp(40 - 14 * deep + 0.4 * light)]
+
+    return width, height, [cell(x, y) for y in range(height) for x in range(width)]
+
+
+def clouds():
+    """White clouds on a blue sky that is even, 192x144 cells."""
+    return sky_of(0)
+
+
+def dusk():
+    """The same clouds, and a sky that grows lighter from the top to the bottom."""
+    return sky_of(90)
+
+
+def sky_of(glow):
+    chance = random.Random(43)
+    width, height = 192, 144
+    octaves = [
+        (noise(chance, width, height, step, max(2, 2 * step // 3)), share)
+        for step, share in ((40, 1.0), (20, 0.55), (10, 0.3), (5, 0.16), (2, 0.07))
+    ]
+
+    def cell(x, y):
+        dense = sum(share * at(x, y) for at, share in octaves)
+        white = 1 / (1 + math.exp(-4.2 * (dense - 0.1)))
+        low = glow * y / height
+        blue = (72 + low, 124 + 0.6 * low, 190 - 0.2 * low)
+        lit = (236, 238, 242)
+        return [clamp(a + (b - a) * white - 12 * max(0.0, dense - 0.8)) for a, b in zip(blue, lit)]
+
+    return width, height, [cell(x, y) for y in range(height) for x in range(width)]
+
+
+LETTERS = {
+    "a": "0e.01.0f.11.0f", "b": "10.16.19.11.1e", "c": "0e.10.10.11.0e", "d": "01.0d.13.11.0f", "e": "0e.11.1f.10.0e",
+    "i": "04.00.0c.04.0e", "l": "0c.04.04.04.0e", "n": "16.19.11.11.11", "o": "0e.11.11.11.0e", "r": "16.19.10.10.10",
+    "s": "0e.10.0e.01.1e", "t": "08.1c.08.09.06", "u": "11.11.11.13.0d", "v": "11.11.11.0a.04", "w": "11.15.15.15.0a",
+}
+SYLLABLES = ["wea", "ve", "tex", "tu", "re", "se", "lo", "on", "ba", "cot", "lin", "ran", "de", "sta", "nu", "bio"]
+
+
+def writing():
+    """A printed page, 144x132 cells: words of drawn syllables in letters of 5x5 cells."""
+    chance = random.Random(47)
+    width, height = 144, 132
+    cells = [[242, 238, 226] for _ in range(width * height)]
+
+    def put(letter, left, top):
+        for j, row in enumerate(LETTERS[letter].split(".")):
+            for i in range(5):
+                if int(row, 16) >> (4 - i) & 1:
+                    for k in range(2):
+                        cells[left + i + width * (top + 2 * j + k)] = [38, 34, 40]
+
+    for top in range(4, height - 10, 16):
+        left = 4
+        while left < width - 30:
+            for letter in "".join(chance.choice(SYLLABLES) for _ in range(chance.randint(1, 3))):
+                if left < width - 8 and letter in LETTERS:
+                    put(letter, left, top)
+                    left += 7
+            left += 6
+    return width, height, cells
+
+
 def waves():
     """Water: 48x48 cells and 48 frames of five waves that run in all directions."""
     chance = random.Random(29)
@@ -140,20 +266,80 @@ def sway():
     return 32, 32, [[luma(x, y, i) for y in range(32) for x in range(32)] for i in range(96)]
 
 
-PICTURES = {"bricks": bricks, "olives": olives, "gravel": gravel, "grass": grass, "halves": halves}
-CLIPS = {"waves": waves, "sway": sway}
+def flame():
+    """A row of flames, 96x32 cells and 64 frames in colour: noise that rises, hotter towards the ground."""
+    chance = random.Random(53)
+    width, height, frames = 96, 32, 64
+    octaves = [
+        (noise(chance, width, height + speed * frames, step, tall), share, speed)
+        for step, tall, share, speed in ((12, 18, 1.0, 1), (6, 9, 0.6, 2), (3, 5, 0.3, 2))
+    ]
+
+    def cell(x, y, i):
+        heat = 1.5 * y / height - 0.55 + 0.62 * sum(share * at(x, y + speed * i) for at, share, speed in octaves)
+        red, green, blue = (max(0.0, min(1.0, by * heat - less)) for by, less in ((2.2, 0), (2.0, 0.55), (3.0, 2.2)))
+        luma = 0.299 * red + 0.587 * green + 0.114 * blue
+        return clamp(16 + 219 * luma), clamp(128 + 126 * (blue - luma)), clamp(128 + 160 * (red - luma))
+
+    return width, height, [[cell(x, y, i) for y in range(height) for x in range(width)] for i in range(frames)]
+
+
+def pendulum():
+    """A pendulum of 64x48 cells that returns after 26 and a half frames, 56 frames."""
+    width, height = 64, 48
+
+    def luma(x, y, i):
+        angle = 0.62 * math.sin(2 * math.pi * i / 26.5)
+        bob = math.hypot(x - 32 - 36 * math.sin(angle), y - 2 - 36 * math.cos(angle))
+        rod = abs((x - 32) * math.cos(angle) - (y - 2) * math.sin(angle))
+        under = max(0.0, min(1.0, 6.5 - bob))
+        line = max(0.0, min(1.0, 1.4 - rod)) if bob > 5 and y < 2 + 36 * math.cos(angle) else 0.0
+        return clamp(40 + y / 2 + 165 * under + 100 * line * (1 - under))
+
+    return width, height, [[luma(x, y, i) for y in range(height) for x in range(width)] for i in range(56)]
+
+
+def snow():
+    """Falling snow, 48x48 cells and 48 frames: near flakes are larger, brighter and faster."""
+    chance = random.Random(59)
+    side, frames, dark = 48, 48, 34
+    shots = [[dark] * (side * side) for _ in range(frames)]
+    for _ in range(260):
+        near = chance.random() ** 2
+        speed = 0.7 + 1.6 * near
+        x, sway, phase = chance.uniform(0, side), chance.uniform(0, 2.5), chance.uniform(0, 6.3)
+        y = chance.uniform(-speed * frames, side)
+        for i in range(frames):
+            across, down = x + sway * math.sin(0.16 * i + phase), y + speed * i
+            for v in range(int(down) - 2, int(down) + 4):
+                for u in range(int(across) - 2, int(across) + 4):
+                    if 0 <= u < side and 0 <= v < side:
+                        light = (90 + 130 * near) * max(0.0, min(1.0, 1 + near - math.hypot(u - across, v - down)))
+                        shots[i][u + side * v] = max(shots[i][u + side * v], clamp(dark + light))
+    return side, side, shots
+
+
+PICTURES = {
+    it.__name__: it for it in (bricks, olives, gravel, grass, halves, wood, cloth, rust, clouds, dusk, writing)
+}
+CLIPS = {it.__name__: it for it in (waves, sway, flame, pendulum, snow)}
+
+
+def picture_bytes(width, height, cells):
+    return b"P6\n%d %d\n255\n" % (width, height) + bytes(value for cell in cells for value in cell)
+
+
+def clip_bytes(width, height, frames):
+    """A clip of luma, or of luma, Cb and Cr where the cells have these three."""
+    is_grey = isinstance(frames[0][0], int)
+    planes = [[frame] if is_grey else zip(*frame) for frame in frames]
+    head = b"YUV4MPEG2 W%d H%d F10:1 C%s\n" % (width, height, b"mono" if is_grey else b"444")
+    return head + b"".join(b"FRAME\n" + b"".join(bytes(plane) for plane in frame) for frame in planes)
 
 
 def main(name, file):
     with open(file, "wb") as out:
-        if name in PICTURES:
-            width, height, cells = PICTURES[name]()
-            out.write(b"P6\n%d %d\n255\n" % (width, height))
-            out.write(bytes(value for cell in cells for value in cell))
-        else:
-            width, height, frames = CLIPS[name]()
-            out.write(b"YUV4MPEG2 W%d H%d F10:1 Cmono\n" % (width, height))
-            out.write(b"".join(b"FRAME\n" + bytes(luma) for luma in frames))
+        out.write(picture_bytes(*PICTURES[name]()) if name in PICTURES else clip_bytes(*CLIPS[name]()))
 
 
 if __name__ == "__main__":

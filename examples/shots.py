@@ -3,8 +3,9 @@
 
     examples/shots.py FOLDER
 
-writes FOLDER/shot1.ppm, shot2.ppm, marks.ppm, and bright2.ppm, the second shot in another exposure. Between the shots the
-camera has moved by a cell, and the light has flickered."""
+writes FOLDER/shot1.ppm, shot2.ppm, marks.ppm, bright2.ppm, the second shot in another exposure, and marks_shown.ppm, the
+marks over both shots, red for the first one and blue for the second. Between the shots the camera has moved by a cell, and
+the light has flickered."""
 import os
 import random
 import sys
@@ -86,6 +87,18 @@ def marks():
     return bytes(cells)
 
 
+def shown(first, second, strokes):
+    """The mean of two shots, with the marks over it: red for the first, blue for the second."""
+    paints = {0: (0, 0, 0), 1: (255, 0, 0), 2: (0, 90, 255)}
+    cells = bytearray()
+    for i in range(0, len(first), 3):
+        paint = paints[strokes[i]]
+        for k in range(3):
+            mean = (first[i + k] + second[i + k]) // 2
+            cells.append((mean + 2 * paint[k]) // 3 if strokes[i] else mean)
+    return bytes(cells)
+
+
 def main(folder):
     files = {
         "shot1.ppm": shot(0, 0, 0.04),
@@ -93,6 +106,7 @@ def main(folder):
         "bright2.ppm": shot(1, 1, 0.04, 1.25),
         "marks.ppm": marks(),
     }
+    files["marks_shown.ppm"] = shown(files["shot1.ppm"], files["shot2.ppm"], files["marks.ppm"])
     for name, cells in files.items():
         with open(os.path.join(folder, name), "wb") as out:
             out.write(b"P6\n%d %d\n255\n" % (WIDTH, HEIGHT) + cells)

@@ -1,10 +1,10 @@
 #!/usr/bin/env python3
 """Tables of what small map and record files are read as once one of their bytes is another, with no help of weave.
 
-    examples/byte_tables.py NAME [NAME ..]
+    checks/byte_tables.py NAME [NAME ..]
 
 prints a module of the tests in crates/test_files: of each file that is named its bytes, its numbers, and the rows of its table.
-`examples/byte_tables.py --compare` says whether the modules there have these tables. A row is
+`checks/byte_tables.py --compare` says whether the modules there have these tables. A row is
 
     (first place, last place, first value, last value, answer, number, shift)
 
@@ -143,7 +143,7 @@ def say_numbers(name, numbers):
 
 
 def say_module(names):
-    parts = ["// Made by examples/byte_tables.py: what is expected of a file in which one byte is another."]
+    parts = ["// Made by checks/byte_tables.py: what is expected of a file in which one byte is another."]
     rows = {name: rows_of(data_of(name), name.endswith("MAP")) for name in names}
     words = sorted({row[4].capitalize() if row[4] in ANSWERS else "Number" for name in names for row in rows[name]})
     parts.append(f"use crate::rows::Answer::{{{', '.join(words)}}};\nuse crate::rows::Row;")
@@ -159,12 +159,18 @@ def data_of(name):
     return bytes.fromhex(FILES[name].replace(" ", ""))
 
 
+def without_first_line(text):
+    """A module but for the comment that says who made it."""
+    return text.partition("\n")[2]
+
+
 def compare():
     """Whether the modules of the tests are these."""
     source = os.path.join(os.path.dirname(__file__), "..", "crates", "test_files", "src")
     for module, names in MODULES.items():
         with open(os.path.join(source, f"{module}.rt"), encoding="utf-8") as file:
-            print(f"{module}: {'as here' if file.read() == say_module(names) else 'another table'}")
+            same = without_first_line(file.read()) == without_first_line(say_module(names))
+        print(f"{module}: {'as here' if same else 'another table'}")
 
 
 if __name__ == "__main__":

@@ -1,7 +1,7 @@
 #!/usr/bin/env python3
 """Tries the edits that the gate doesn't: those of crates/NAME/more-edits/.
 
-  examples/more_edits.py [--folder FOLDER] [--keep] [NAME ..]
+  checks/more_edits.py [--folder FOLDER] [--keep] [NAME ..]
 
 They are edits as those of must-fail/: each makes one body wrong, so that the check must refuse the crate. This clones
 the repository that it stands in, puts the edits of more-edits/ in place of those of must-fail/ there, and runs

@@ -1,7 +1,7 @@
 #!/usr/bin/env python3
 """Lists the public functions of the program's crates that neither the program nor a test calls.
 
-    python3 examples/uncalled.py
+    python3 checks/uncalled.py
 
 No contract can say that there is memory, so a public call that always answers that there is none is proved; only a run shows
 that it succeeds. So the program or a test has to call each public function. Read are the `pub fn` of the files crates/*/src/*.rt,

@@ -1,7 +1,7 @@
 #!/usr/bin/env python3
 """Grows small random outputs in all modes, over one to three samples, and has verify.py and `weave check` check each of them.
 
-    examples/random_runs.py [RUNS [SEED]]
+    checks/random_runs.py [RUNS [SEED]]
 
 Build the program first: ./build. 1,000 runs take a minute or two."""
 import os
@@ -11,9 +11,8 @@ import subprocess
 import sys
 import tempfile
 
+from beside import WEAVE
 from verify import verify
-
-WEAVE = os.path.join(os.path.dirname(os.path.abspath(__file__)), "..", "weave")
 
 
 def write_sample(name, chance):

@@ -1,7 +1,7 @@
 /* A library to be loaded before a program (LD_PRELOAD), which refuses a growth of memory: the call of malloc, calloc or
    realloc whose number, from 1, the variable REFUSE has; where REFUSE_ON is set, each one from it on. With STACK_KB set the
    stack is grown so far before the program begins, so that it needn't grow later, where the address space is limited and a stack
-   that can't grow ends a program by a signal. examples/hostile.py builds it by
+   that can't grow ends a program by a signal. checks/hostile.py builds it by
 
        cc -O2 -shared -fPIC -o no_memory.so no_memory.c
 

@@ -1,7 +1,7 @@
 #!/usr/bin/env python3
 """Lists where code or definitions spell a bound a second time: each is a constant of crates/limits, and is cited by its name.
 
-    python3 examples/limits.py
+    python3 checks/limits.py
 
 Read are src/ and specs/ of all crates but those of tests, without comments. A bound is looked for as a decimal number and as a power of
 two (`33_554_432`, `1 << 25`, `2 ^ 25`). Not looked for are those under 256, which count many things, the greatest numbers of 32 and 64

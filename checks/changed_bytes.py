@@ -1,7 +1,7 @@
 #!/usr/bin/env python3
 """Changes the files of small runs, and holds what `weave check` says against verify.py.
 
-    examples/changed_bytes.py [CHANGES [SEED [KIND ..]]]
+    checks/changed_bytes.py [CHANGES [SEED [KIND ..]]]
 
 makes runs of each kind, which have to stand: pictures and clips grown of one sample and of several, the same upgraded, quilts
 and loops, and pictures and clips grown with the turns of their samples. Then it changes their files CHANGES times for each kind
@@ -15,8 +15,9 @@ import sys
 import tempfile
 from collections import Counter
 
+from beside import WEAVE
 from random_loops import write_clip
-from random_runs import WEAVE, write_sample
+from random_runs import write_sample
 from run_files import Block, Cut, Fields, Named
 from verify import verify
 

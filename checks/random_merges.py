@@ -1,7 +1,7 @@
 #!/usr/bin/env python3
 """Merges small random pictures, and compares the map, the picture and the report with those of a plain program.
 
-    examples/random_merges.py [RUNS [SEED]]
+    checks/random_merges.py [RUNS [SEED]]
 
 The plain program has no help of weave: each picture is laid over the merge before by a least cut among the cells that no
 mark fixes, in a network with one node for each of these cells (Kolmogorov and Zabih 2004). Where there are twelve of them at
@@ -15,7 +15,7 @@ import sys
 import tempfile
 from collections import deque
 
-from random_runs import WEAVE
+from beside import WEAVE
 
 SOURCE, SINK = -1, -2
 

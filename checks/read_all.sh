@@ -1,5 +1,5 @@
 #!/bin/sh
-# Tiles each picture of this folder to 100x75 cells with the built program, and each clip, and compares the status and the line of
+# Tiles each picture of examples/ to 100x75 cells with the built program, and each clip, and compares the status and the line of
 # each with what examples/README.md says. Build it first: ./build.
 cd "$(dirname "$0")/.." || exit 2
 weave=./weave

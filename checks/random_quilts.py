@@ -1,7 +1,7 @@
 #!/usr/bin/env python3
 """Quilts small random outputs, and has verify.py and `weave check` check each of them.
 
-    examples/random_quilts.py [RUNS [SEED]]
+    checks/random_quilts.py [RUNS [SEED]]
 
 Where a strip has few boundaries, all of them are tried: none costs less, and of those that cost as much none comes first, read
 from the strip's end. Build the program first: ./build."""
@@ -11,7 +11,8 @@ import subprocess
 import sys
 import tempfile
 
-from random_runs import WEAVE, write_sample
+from beside import WEAVE
+from random_runs import write_sample
 from verify import BlockCheck, Broken, Run
 
 FEW_WAYS = 3 ** 9

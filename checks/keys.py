@@ -1,12 +1,11 @@
 #!/usr/bin/env python3
 """Compares the keys of each command in the source with those in the documents.
 
-    examples/keys.py
+    checks/keys.py
 
 The tables of crates/job_words/src are read as text: which commands `read_job` knows, and for each of them its rows,
 with the values of each key, its default, and whether a word has to set it. They are compared with the tables of
-docs/MANUAL.md and crates/job_words/README.md, with the entries of docs/weave.1, and with the lists of
-docs/weave.bash. Ends with 1 where one of them differs, and says where."""
+docs/MANUAL.md, with the entries of docs/weave.1, and with the lists of docs/weave.bash. Ends with 1 where one of them differs, and says where."""
 import pathlib
 import re
 import sys
@@ -116,18 +115,6 @@ def keys_of(cell):
     return names
 
 
-def plain_values(cell):
-    """The values of a cell, in the words of the source."""
-    cell = cell.replace("`", "").split(";")[0].split(":")[0].strip()
-    return FILE if cell == "a file name" else cell.replace(" or ", ", ")
-
-
-def plain_default(cell):
-    """What the crate's README says of a default, in the words of the manual."""
-    cell = cell.replace("`", "").strip()
-    return "none" if cell.startswith("may be left out") else "required" if cell == "none" else cell
-
-
 def table_after(document, start):
     """The rows of the first table after a place, without its head."""
     lines = document[start:].split("\n")
@@ -146,23 +133,6 @@ def manual(commands):
     for command in commands:
         rows = table_after(document, document.index(f"\n## {command}\n"))
         found[command] = {key: (values, default) for name, values, default, *_ in rows for key in keys_of(name)}
-    return found
-
-
-def crate_readme(commands):
-    """The tables of job_words' README, which has some of the commands."""
-    document = (ROOT / "crates/job_words/README.md").read_text()
-    parts = re.split(r"^The command `(\w+)`", document, flags=re.M)[1:]
-    found = {}
-    for command, part in zip(parts[::2], parts[1::2]):
-        if command not in commands or not part.partition("\n\n")[2].startswith("|"):
-            continue
-        rows = table_after(part, 0)
-        found[command] = {
-            key: (plain_values(values), plain_default(default))
-            for name, values, default in rows
-            for key in keys_of(name)
-        }
     return found
 
 
@@ -218,7 +188,6 @@ def main():
     source = Source().commands()
     faults = [
         *differences("docs/MANUAL.md", source, manual(source)),
-        *differences("crates/job_words/README.md", source, crate_readme(source)),
         *differences("docs/weave.1", source, man_page(source)),
         *completion(source),
     ]

@@ -3,7 +3,7 @@
 # trial, while the output is filled and in rounds of refinement. What a run within the bound leaves is checked; each other one has
 # to end with status 4 and its line, report nothing, and leave the files as they were.
 #
-#   examples/most_records.sh
+#   checks/most_records.sh
 #
 # Build the program first: ./build. It takes some minutes, and 300 MB for a file in the folder of
 # temporary files.

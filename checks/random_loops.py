@@ -1,7 +1,7 @@
 #!/usr/bin/env python3
 """Loops small random clips, and has verify.py and `weave check` check each of them.
 
-    examples/random_loops.py [RUNS [SEED]]
+    checks/random_loops.py [RUNS [SEED]]
 
 The costs of least walks are computed once more, one step after another. Where `loop` finds none, all closed walks of a short
 length are tried. Build the program first: ./build."""
@@ -12,7 +12,7 @@ import subprocess
 import sys
 import tempfile
 
-from random_runs import WEAVE
+from beside import WEAVE
 from run_files import read_pixels
 from verify import Broken, Run, WalkCheck
 

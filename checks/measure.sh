@@ -3,7 +3,7 @@
 # a plain C program. Each line is the mean user time of 20 runs, of 3 for the textures, and the most memory that
 # one of them took.
 #
-#   examples/measure.sh
+#   checks/measure.sh
 set -eu
 top=$(cd "$(dirname "$0")/.." && pwd)
 weave=$top/weave
@@ -11,7 +11,7 @@ weave=$top/weave
 work=$(mktemp -d)
 trap 'rm -rf "$work"' EXIT
 cd "$work"
-cc -O2 -o plain_read "$top/examples/plain_read.c"
+cc -O2 -o plain_read "$top/checks/plain_read.c"
 
 # measure NAME STATUS COMMAND..: the command is to end with that status each time.
 runs=20

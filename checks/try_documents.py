@@ -1,11 +1,11 @@
 #!/usr/bin/env python3
 """Runs the commands of the documents as they are written, in a scratch folder.
 
-    examples/try_documents.py [WEAVE]       the program is ./weave where none is named
+    checks/try_documents.py [WEAVE]       the program is ./weave where none is named
 
 Each block that is fenced as `sh` in README.md, docs/MANUAL.md and docs/RECIPES.md is run by bash, in its order, and
 has to end with status 0. Where a block fenced as `text` follows it, its standard output has to be that text. The
-literal blocks of docs/weave.1 are run too. The folder has the program as ./weave, a copy of examples/, docs/ and tools/,
+literal blocks of docs/weave.1 are run too. The folder has the program as ./weave, a copy of examples/, docs/, tools/ and checks/,
 and the pictures and clips that the documents take as given. It wants Netpbm, ImageMagick, ffmpeg and xxd. Ends with 1
 where a block fails, and with 0 where none does."""
 import os
@@ -64,7 +64,7 @@ def run(commands, folder):
 
 def prepare(folder, weave):
     shutil.copy(weave, folder / "weave")
-    for name in ("examples", "docs", "tools"):
+    for name in ("examples", "docs", "tools", "checks"):
         shutil.copytree(ROOT / name, folder / name, ignore=shutil.ignore_patterns("results"))
     made = run(GIVEN, folder)
     if made.returncode:

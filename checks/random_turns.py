@@ -2,7 +2,7 @@
 """Grows small random outputs over one or two pictures or clips, with the turns of these and without, and compares what the map
 names with turns that are made here, by mirrored and turned rows.
 
-    examples/random_turns.py [RUNS [SEED [WEAVE]]]
+    checks/random_turns.py [RUNS [SEED [WEAVE]]]
 
 verify.py and `weave check` have to accept each run, by the words that go with it, and to refuse its map by the others. The output
 is drawn once more of the samples as they are and the map. Clips whose cells are several pixels have to be refused. Build the
@@ -13,8 +13,9 @@ import subprocess
 import sys
 import tempfile
 
+from beside import WEAVE
 from random_loops import KINDS, write_clip
-from random_runs import WEAVE, write_sample
+from random_runs import write_sample
 from verify import redraw, verify
 
 

@@ -1,7 +1,7 @@
 #!/usr/bin/env python3
 """Says whether the two towers of crates stand apart, and how much of the program is proved again after an edit below them.
 
-    python3 examples/towers.py
+    python3 checks/towers.py
 
 One tower searches: it makes outputs, with records that show that each choice is least. The other judges: it tells whether
 such files stand. They meet at the records, the formats and the canvas alone, so that no edit of a search makes the judge, or

@@ -1,12 +1,14 @@
 #!/usr/bin/env python3
 """Tries that the calls and clauses which documents name as carrying a promise are there.
 
-    python3 examples/clauses.py
+    python3 checks/clauses.py
 
 In docs/TRUST.md and README.md each name in brackets that isn't a file or a script has to be a clause of `run`, or a
-public function; and so has each name after "proved:" in the other documents. In the list of crates of docs/DESIGN.md, and after the promises of crates/*/README.md, `call`:
-`clause`, `clause` has to be a function of that crate with such clauses. Whether a sentence says what its clause says,
-no script sees. Ends with 1 where a name isn't there."""
+public function; and so has each name after "proved:" in the other documents. In the list of crates of docs/DESIGN.md,
+and after the promises of crates/*/README.md, `call`: `clause`, `clause` has to be a function of that crate with such
+clauses. In the tables of docs/FORMATS.md each name in a column of definitions has to be one of specs/, and each in one
+of constants has to be a constant. Each edit and each test of docs/WRONG_BODIES.md has to be there. Whether a sentence says what its clause says, no script sees. Ends with 1 where a name
+isn't there."""
 import pathlib
 import re
 import sys
@@ -57,8 +59,39 @@ def names_of_crate(text, crate):
                 yield f"docs/DESIGN.md: {crate} has no {name}"
 
 
+def faults_of_tables(text):
+    """Of the tables of docs/FORMATS.md: names of definitions and of constants that aren't there."""
+    specs = "\n".join(path.read_text() for path in ROOT.glob("crates/*/specs/*.antt"))
+    code = "\n".join(path.read_text() for path in ROOT.glob("crates/*/src/*.rt"))
+    for table in re.findall(r"((?:^ *\|.*\n)+)", text, re.M):
+        rows = [[cell.strip() for cell in line.strip().strip("|").split("|")] for line in table.strip().split("\n")]
+        for column, head in enumerate(rows[0]):
+            for name in [name for row in rows[2:] for name in SPAN.findall(row[column])]:
+                if head == "Definition" and not re.search(rf"\bpub {name} :", specs):
+                    yield f"docs/FORMATS.md: there is no definition {name}"
+                if head.startswith("Constant") and not re.search(rf"\bpub const {name}\b", code):
+                    yield f"docs/FORMATS.md: there is no constant {name}"
+
+
+def faults_of_rows(text):
+    """Of docs/WRONG_BODIES.md: edits and tests that aren't there. What follows "Further" is in more-edits/."""
+    rows = text[text.index("\n1. "):text.index("\nNo contract can")]
+    for row in re.split(r"^ *(?:-|\d+\.) ", rows, flags=re.M):
+        refused, _, further = row.partition("urther:")
+        for part, folder in ((refused, "must-fail"), (further, "more-edits")):
+            for crate, edit in re.findall(r"\b([a-z0-9_]+)/([a-z0-9_]+)\b", part):
+                if not (ROOT / "crates" / crate / folder / f"{edit}.edit").exists():
+                    yield f"docs/WRONG_BODIES.md: {crate} has no {folder}/{edit}"
+        for crate, tests in re.findall(r"\b(test_\w+)\s+((?:`\w+::\w+`,?\s*)+)", row):
+            for module, name in re.findall(r"`(\w+)::(\w+)`", tests):
+                path = ROOT / "crates" / crate / "src" / f"{module}.rt"
+                if not path.exists() or not re.search(rf"\bfn {name}\b", path.read_text()):
+                    yield f"docs/WRONG_BODIES.md: {crate} has no test {module}::{name}"
+
+
 def main():
-    faults = []
+    faults = list(faults_of_tables((ROOT / "docs/FORMATS.md").read_text()))
+    faults += faults_of_rows((ROOT / "docs/WRONG_BODIES.md").read_text())
     run = contracts("weave_engine")["run"]
     public = "\n".join(text for crate in sorted((ROOT / "crates").iterdir()) for text in sources(crate.name))
     for document in ("docs/TRUST.md", "README.md"):

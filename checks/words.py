@@ -1,16 +1,20 @@
 #!/usr/bin/env python3
 """Holds the documents against the rules of their English: words to avoid, long lines, long sentences.
 
-    examples/words.py [FILE ..]         all *.md files of the repository, where none is named
+    checks/words.py [FILE ..]         all *.md files of the repository, where none is named
+    checks/words.py --comments        the words to avoid in comments of code and definitions
 
 Prints each place with what is wrong there, and how many there are; ends with 1 where there are any. Fenced code is
 held against the length of lines alone. A code span counts as one word, and its text isn't looked at. A cell of a
-table, an item of a list and a heading end a sentence as a full stop does."""
+table, an item of a list and a heading end a sentence as a full stop does. The page of a crate, but of one of tests,
+has 60 lines at most, and says what the crate doesn't promise. README.md has 120 lines at most."""
 import pathlib
 import re
 import sys
 
-MOST_COLUMNS, MOST_WORDS = 99, 29
+MOST_COLUMNS, MOST_WORDS, MOST_LINES, MOST_OF_README = 99, 29, 60, 120
+ROOT = pathlib.Path(__file__).resolve().parent.parent
+UNPROMISED = "## What it doesn't promise"
 
 AVOIDED = {
     r"behind": "after, or: hidden by",
@@ -82,8 +86,20 @@ def blocks(lines):
     yield from flush()
 
 
+def faults_of_page(path, lines):
+    """Whether README or the page of a crate is too long, or the latter lacks a part."""
+    if path == ROOT / "README.md" and len(lines) > MOST_OF_README + 1:
+        yield 1, f"page of {len(lines) - 1} lines"
+    if path.parent.parent.name == "crates" and not path.parent.name.startswith("test_"):
+        if len(lines) > MOST_LINES + 1:
+            yield 1, f"page of {len(lines) - 1} lines"
+        if UNPROMISED not in lines:
+            yield 1, f"no part '{UNPROMISED}'"
+
+
 def faults(path):
     lines = path.read_text().split("\n")
+    yield from faults_of_page(path.resolve(), lines)
     for number, line in enumerate(lines, 1):
         if len(line) > MOST_COLUMNS:
             yield number, f"line of {len(line)} columns"
@@ -97,14 +113,30 @@ def faults(path):
                 yield number, f"sentence of {count(sentence)} words: {' '.join(sentence.split()[:9])} .."
 
 
+def comments():
+    """The comments of code and definitions with a word to avoid, as lines to print."""
+    for path in sorted(ROOT.glob("crates/*/*/**/*")):
+        if path.suffix not in (".rt", ".antt") or "out" in path.parts:
+            continue
+        for number, line in enumerate(path.read_text().split("\n"), 1):
+            mark = re.search(r"//|--", line)
+            text = SPAN.sub("CODE", line[mark.end():]) if mark else ""
+            for pattern, better in PATTERNS:
+                for found in pattern.finditer(text):
+                    yield f"{path.relative_to(ROOT)}:{number}: '{found[0]}': {better}"
+
+
 def main(*names):
-    root = pathlib.Path(__file__).resolve().parent.parent
+    if names == ("--comments",):
+        found = list(comments())
+        print(*found, f"{len(found)} places in comments", sep="\n")
+        return 1 if found else 0
     paths = [pathlib.Path(name) for name in names] or sorted(
-        path for path in root.rglob("*.md") if not {".git", "out"} & set(path.relative_to(root).parts)
+        path for path in ROOT.rglob("*.md") if not {".git", "out"} & set(path.relative_to(ROOT).parts)
     )
     found = 0
     for path in paths:
-        shown = path.relative_to(root) if path.is_absolute() else path
+        shown = path.relative_to(ROOT) if path.is_absolute() else path
         for number, what in sorted(faults(path)):
             found += 1
             print(f"{shown}:{number}: {what}")

@@ -3,7 +3,7 @@
 a plain program, which tries every choice of each patch; and lays each output twice along each wrapped axis, where a plain total
 has to be what the total across the edges predicts.
 
-    examples/random_tiles.py [RUNS [SEED [WEAVE]]]
+    checks/random_tiles.py [RUNS [SEED [WEAVE]]]
 
 Build the program first: ./build. Outputs with a patch of more than 11 free cells are passed over, since a patch has 2 to that power
 of choices; 300 runs take some minutes."""
@@ -16,9 +16,9 @@ import subprocess
 import sys
 import tempfile
 
+from beside import WEAVE
 from run_files import read_map
 
-WEAVE = os.path.join(os.path.dirname(os.path.abspath(__file__)), "..", "weave")
 MOST_FREE = 11
 WRAPS = {"x": (True, False, False), "y": (False, True, False), "xy": (True, True, False), "f": (False, False, True), "xyf": (True, True, True)}
 MASK = (1 << 32) - 1

@@ -1,7 +1,7 @@
 #!/usr/bin/env python3
 """Reads a map file or a record file, with no help of weave, and says what it holds or why it is refused.
 
-    examples/read_file.py FILE ..
+    checks/read_file.py FILE ..
 
 prints for each file the numbers of its fields from the version on, or its refusal. A choice is one number, whose first binary
 digit is its first cell; a flow is two. docs/FORMATS.md has the forms and the order of the refusals."""

@@ -3,7 +3,7 @@
 # run a number of times in one process, and not at all in another, which does the rest, as making the sample; the time
 # is the difference. All this is done in turns so many rounds (5), and the medians are printed.
 #
-#   examples/bench.sh [PROGRAM ..]
+#   checks/bench.sh [PROGRAM ..]
 #
 # Each PROGRAM is a built bench, as that of another checkout: ./build bench makes one. They are run in turns, so that
 # their figures may be compared. CASES and ROUNDS in the environment choose others than all and 5. It wants GNU `time`

@@ -1,7 +1,7 @@
 #!/usr/bin/env python3
 """Runs every command of weave where memory, files, disk or streams give out, and holds what it leaves against what it promises.
 
-    examples/hostile.py [PART ..]      parts: growths sure space limits full files streams words; all where none is named
+    checks/hostile.py [PART ..]      parts: growths sure space limits full files streams words; all where none is named
 
 Build the programs first: ./build && ./build fuzz. It wants `cc`, and is run on Linux. As
 root it makes small file systems in memory and runs some commands as nobody; as another user it leaves those out and says so.
@@ -21,9 +21,9 @@ import sys
 import tempfile
 import threading
 
+from beside import EXAMPLES, FUZZ, WEAVE
+
 HERE = os.path.dirname(os.path.abspath(__file__))
-WEAVE = os.path.join(HERE, "..", "weave")
-FUZZ = os.path.join(HERE, "..", "fuzz")
 SURE_RUNS = 11
 SECONDS = 60
 BEFORE = b"as before"
@@ -226,8 +226,8 @@ def moved_and_marked(picture):
 
 def larger_runs(folder):
     """A run of each command whose files take many pieces, and whose memory some megabytes."""
-    pebbles = read_file(HERE, "pebbles.ppm")
-    life = read_file(HERE, "life.y4m")
+    pebbles = read_file(EXAMPLES, "pebbles.ppm")
+    life = read_file(EXAMPLES, "life.y4m")
     grow = done_whole(Run(f"grow {FILES} width=192 height=128 rounds=3", {"s": pebbles}, OUTPUTS), folder)
     clip = done_whole(Run(f"grow {FILES} width=40 height=30 frames=4 place=grid overlap=4", {"s": life}, OUTPUTS), folder)
     quilt = done_whole(Run(f"quilt {FILES} width=192 height=128", {"s": pebbles}, OUTPUTS), folder)

@@ -82,12 +82,16 @@ Contains-map f xs x has =
     let at = Contains-slice_get xs x has in
     slice_get-Contains (map f xs) (f x) at.0 (slice_get-map f xs at.0 ∙ ap (option_map f) at.1)
 
-pub each_in_room : (output : Size) (sample : Cells) (rect : Box3) (from : At) → Fits output sample (laid_from rect from) → Contains (part_lists (fit_list rect) sample) (laid_from rect from)
-each_in_room output sample rect from fits =
-    let there = held_in_part sample from rect.size fits.some fits.sources in
+-- of all parts
+pub each_held : (sample : Cells) (rect : Box3) (from : At) → HasCells rect.size → Holds sample from rect.size → Contains (part_lists (fit_list rect) sample) (laid_from rect from)
+each_held sample rect from some held =
+    let there = held_in_part sample from rect.size some held in
     let sizes = sizes_of sample in
     let number : there.n + 1 ≡ suc there.n = omega arith in
     let stock : stock_place sizes (there.n + 1) there.from ≡ from = stock_moved sizes (there.n + 1) there.n there.from number ∙ sym there.stock in
     subst (λ p. Contains (part_lists (fit_list rect) sample) (laid_from rect p)) stock
     (entry_of_all (fit_list rect) sizes there.n there.part (laid_from rect (stock_place sizes (there.n + 1) there.from)) there.is
     (Contains-map (from_part sizes (there.n + 1)) (fit_list rect there.part) (laid_from rect there.from) (each_in_part there.part rect there.from there.box)))
+
+pub each_in_room : (output : Size) (sample : Cells) (rect : Box3) (from : At) → Fits output sample (laid_from rect from) → Contains (part_lists (fit_list rect) sample) (laid_from rect from)
+each_in_room output sample rect from fits = each_held sample rect from fits.some fits.sources

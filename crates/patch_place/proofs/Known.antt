@@ -1,22 +1,23 @@
 -- An error that is known before its candidate is seen: what it beats, the whole table beats as well.
-use Rattle.std.proofs.Common.{◌≡◌, ℕ, zero, suc, ◌≤◌, false, List, ◌∷◌, map, ap, sym, subst, ◌∙◌, inl, inr, arith}
+use Rattle.std.proofs.Common.{◌≡◌, ℕ, zero, suc, ◌≤◌, ◌<◌, ◌^◌, false, List, ◌∷◌, length, map, sym, subst, ◌∙◌, inl, inr, arith}
+use Rattle.std.proofs.lemmas.List.Elements.{All-contains}
 use Rattle.std.proofs.lemmas.Bool.{false≢true}
 use Rattle.std.proofs.lemmas.Option.{same_Some}
-use Rattle.std.specs.Prelude.{◌⊎◌, Contains, IfSome, Option, Some, None, slice_get}
+use Rattle.std.specs.Prelude.{◌⊎◌, All, Contains, IfSome, Option, Some, None, slice_get}
 use Rattle.match_error.specs.declared.error.Error.{Error}
-use Rattle.match_error.specs.Errors.{error_of, error_sum, filled_cells, is_within}
+use Rattle.match_error.specs.Errors.{is_within}
 use Rattle.cells.specs.declared.place.Box3.{Box3}
+use Rattle.cells.specs.Boxes.{HasCells}
 use Rattle.cells.specs.Cells.{Cells}
 use Rattle.map_canvas.specs.declared.canvas.Placement.{Placement}
-use Rattle.map_canvas.specs.Canvases.{CanvasState}
-use Rattle.map_canvas.specs.Choices.{Fits}
-use Rattle.patch_place.specs.declared.candidates.Candidates.TheVariants
-use Rattle.patch_place.specs.Lists.{fit_list, part_lists}
-use Rattle.patch_place.specs.Picks.{errors_on}
-use Rattle.patch_place.specs.Tables.{AreErrorsAmong, AreTableErrors, IsBeaten, IsFilledLow, IsHint, IsUnfilled, StandsForError, rivals}
+use Rattle.patch_place.specs.declared.shortlist.Shortlist.{Shortlist}
+use Rattle.patch_place.specs.BoxErrors.{AreCounted, box_list}
+use Rattle.patch_place.specs.Draws.{DrawState}
+use Rattle.patch_place.specs.Tables.{AreErrorsAmong, AreTableErrors, IsBeaten, IsFilledLow, IsHeld, IsPickAt, IsPickOf, IsShortOf, IsShortlistOf, IsUnfilled, StandsForError, rivals}
 use Rattle.patch_place.proofs.Bests.{far_from_better, within_itself}
-use Rattle.patch_place.proofs.BoxLists.{Contains-map, each_in_room}
+use Rattle.patch_place.proofs.BoxLists.{Contains-map, each_held}
 use Rattle.patch_place.proofs.Counting.{AllZip-right, AllZip-weaker, Contains-slice_get, slice_get-Contains}
+use Rattle.patch_place.proofs.Picking.{pick_from_table}
 
 -- who beats an error: the known one, or an entry of the table
 first_or_later : (known : Error) (table : List Error) (i : ℕ) (other : Error) → slice_get (known ∷ table) i ≡ Some other → (other ≡ known) ⊎ Contains table other
@@ -88,12 +89,28 @@ without_known tol (Some known) table errors filled has stands =
     AllZip-weaker (StandsForError tol (known ∷ table)) (StandsForError tol table)
     (stands_in_table tol known table filled.0 (where_known tol known table errors filled.0 has stands)) table errors stands
 
--- a likely candidate of a box is one, and so its error is one of theirs
-pub hint_listed : (canvas : CanvasState) (sample : Cells) (rect : Box3) (placement : Placement) (error : Error) → IsHint canvas sample rect placement → error.sum ≡ error_sum canvas.map sample placement → error.count ≡ filled_cells canvas.map rect → Contains (errors_on canvas sample (TheVariants.Fits rect)) error
-hint_listed canvas sample rect placement error is sum count =
-    let f : Placement → Error = error_of canvas.map sample in
-    let list = part_lists (fit_list rect) sample in
-    let fits = subst (Fits canvas.map.size sample) is.box is.fits in
-    let listed : Contains list placement = subst (Contains list) (sym is.box) (each_in_room canvas.map.size sample rect placement.from fits) in
-    let counted : error.count ≡ filled_cells canvas.map placement.rect = count ∙ ap (λ (p : Placement). filled_cells canvas.map p.rect) (sym is.box) in
-    subst (Contains (map f list)) (λ k. record { sum = sym sum k; count = sym counted k }) (Contains-map f list placement listed)
+-- a box laid from a place of the sample is one of its candidates, and so its error is one of theirs
+pub held_listed : (sample : Cells) (rect : Box3) (placement : Placement) → HasCells rect.size → IsHeld sample rect placement → Contains (box_list rect sample) placement
+held_listed sample rect placement some is = subst (Contains (box_list rect sample)) (sym is.box) (each_held sample rect placement.from some is.held)
+
+module _ (error : Placement → Error) (MayAsk : Placement → Type 0) (count : ℕ) (counted : AreCounted error MayAsk count) (sample : Cells) (rect : Box3) (some : HasCells rect.size) (asked : All MayAsk (box_list rect sample)) (placement : Placement) (is : IsHeld sample rect placement) where
+  pub held_asked : MayAsk placement
+  held_asked = All-contains MayAsk (box_list rect sample) placement asked (held_listed sample rect placement some is)
+
+  module _ (sum : ℕ) (sum_is : sum ≡ (error placement).sum) where
+    pub hint_listed : Contains (map error (box_list rect sample)) (record { sum = sum; count = count })
+    hint_listed =
+        subst (Contains (map error (box_list rect sample))) (λ k. record { sum = sym sum_is k; count = counted.same placement held_asked k })
+        (Contains-map error (box_list rect sample) placement (held_listed sample rect placement some is))
+
+    pub hint_low : sum ≤ 2 ^ 56
+    hint_low = omega (arith, sum_is, counted.low placement held_asked)
+
+-- the pick that a shortlist of errors gives
+pub pick_of_short : (f : Placement → Error) (tol : ℕ) (list : List Placement) (draws : DrawState) (short : Shortlist) (i : ℕ) → 0 < length list → IsShortlistOf tol (map f list) short → ((table : List Error) → IsShortOf short table → IsPickOf short.tol table draws i)
+    → IsPickAt f (Some tol) list draws i
+pick_of_short f tol list draws short i some is picked =
+    pick_from_table f tol list is.short.table draws i some
+    (subst (λ t. AreTableErrors t is.short.table (map f list)) is.tolerance
+    (without_known short.tol short.known is.short.table (map f list) is.sound.known_low is.known is.short.stands))
+    (subst (λ t. IsPickOf t is.short.table draws i) is.tolerance (picked is.short.table is.short.short))

@@ -1,17 +1,19 @@
 -- Tables that stand for errors: one more entry, and lists of one box.
-use Rattle.std.proofs.Common.{◌≡◌, ℕ, ◌<◌, List, [], ◌∷◌, ◌++◌, length, map, subst, ap, ◌∙◌, inl, inr, refl}
+use Rattle.std.proofs.Common.{◌≡◌, ℕ, ◌<◌, List, [], ◌∷◌, ◌++◌, length, map, sym, subst, ap, ◌∙◌, inl, inr, refl}
 use Rattle.std.proofs.lemmas.List.Elements.{All-map, AllZip-push, Contains-append_left}
 use Rattle.std.specs.Prelude.{◌⊎◌, All, Some, slice_get}
 use Rattle.match_error.specs.declared.error.Error.{Error}
-use Rattle.match_error.specs.Errors.{error_of, filled_cells}
 use Rattle.cells.specs.declared.place.Box3.{Box3}
 use Rattle.cells.specs.declared.place.Size.{Size}
 use Rattle.cells.specs.Boxes.{HasCells, HoldsBox}
 use Rattle.cells.specs.Cells.{Cells, sizes_of}
 use Rattle.map_canvas.specs.declared.canvas.Placement.{Placement}
+use Rattle.map_canvas.specs.Canvases.{CanvasState}
 use Rattle.map_canvas.specs.Choices.{Fits, laid_from}
-use Rattle.map_canvas.specs.Maps.{SourceMap}
+use Rattle.patch_place.specs.BoxErrors.{AreCounted}
 use Rattle.patch_place.specs.Lists.{fit_list, from_part, part_lists, room}
+use Rattle.patch_place.specs.declared.overlaps.Overlaps.{Overlaps}
+use Rattle.patch_place.specs.Overlaps.{IsOverlap}
 use Rattle.patch_place.specs.Tables.{AreErrorsAmong, AreTableErrors, IsBeaten, IsUnfilled, StandsForError}
 use Rattle.patch_place.proofs.Counting.{All-each, All-slice_get, AllZip-same, AllZip-weaker, first_at}
 use Rattle.patch_place.proofs.Fitting.{all_over, over_parts}
@@ -61,12 +63,11 @@ box_inside output sample rect some all =
     let fits = All-slice_get (Fits output sample) (part_lists (fit_list rect) sample) 0 first.0 all first.1 in
     subst (λ (r : Box3). HoldsBox output r.corner r.size) (same_box sample rect 0 first.0 first.1) fits.inside
 
--- a list of one box without filled cells has errors that have none
-pub box_unfilled : (m : SourceMap) (sample : Cells) (rect : Box3) → filled_cells m rect ≡ 0 → All IsUnfilled (map (error_of m sample) (part_lists (fit_list rect) sample))
-box_unfilled m sample rect none =
-    let list = part_lists (fit_list rect) sample in
-    All-map IsUnfilled (error_of m sample) list (All-each (λ placement. IsUnfilled (error_of m sample placement)) list
-    (λ i placement at. ap (filled_cells m) (same_box sample rect i placement at) ∙ none))
+-- errors whose count is 0 have no filled cells
+pub uncounted : (error : Placement → Error) (MayAsk : Placement → Type 0) (count : ℕ) → AreCounted error MayAsk count → count ≡ 0 → (list : List Placement) → All MayAsk list → All IsUnfilled (map error list)
+uncounted error MayAsk count counted none list asked =
+    All-map IsUnfilled error list (All-each (λ placement. IsUnfilled (error placement)) list
+    (λ i placement at. counted.same placement (All-slice_get MayAsk list i placement asked at) ∙ none))
 
 -- errors without filled cells stand for themselves
 pub unfilled_stand : (tol : ℕ) (errors : List Error) → AreTableErrors tol errors errors
@@ -78,3 +79,14 @@ box_has_cells output sample rect some all =
     let first = first_at (part_lists (fit_list rect) sample) some in
     let fits = All-slice_get (Fits output sample) (part_lists (fit_list rect) sample) 0 first.0 all first.1 in
     subst (λ (r : Box3). HasCells r.size) (same_box sample rect 0 first.0 first.1) fits.some
+
+-- the placements of a box that fit are those that its overlap errors may be asked for
+pub overlaps_asked : (o : Overlaps) (canvas : CanvasState) (sample : Cells) (rect : Box3) → o.canvas.now ≡ canvas → o.sample.now ≡ sample → o.rect ≡ rect → All (Fits canvas.map.size sample) (part_lists (fit_list rect) sample) → All (IsOverlap o) (part_lists (fit_list rect) sample)
+overlaps_asked o canvas sample rect canvas_is sample_is rect_is all =
+    let list = part_lists (fit_list rect) sample in
+    All-each (IsOverlap o) list (λ i placement at. record {
+      box = same_box sample rect i placement at ∙ sym rect_is;
+      fits =
+          subst (λ v. Fits o.canvas.now.map.size v placement) (sym sample_is)
+          (subst (λ (c : CanvasState). Fits c.map.size sample placement) (sym canvas_is) (All-slice_get (Fits canvas.map.size sample) list i placement all at));
+    })

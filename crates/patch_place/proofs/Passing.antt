@@ -3,22 +3,19 @@ use Rattle.std.proofs.Common.{◌≡◌, ℕ, zero, suc, ◌+◌, ◌^◌, ◌<�
 use Rattle.std.proofs.lemmas.Int.{ints}
 use Rattle.std.specs.Prelude.{ℤ, pos, ◌+ℤ◌, All, Some, slice_get}
 use Rattle.search_squares.specs.Bounds.{place_along}
-use Rattle.search_squares.specs.Eliminations.{AreEliminated, IsEliminated}
+use Rattle.search_squares.specs.Eliminations.{AreEliminatedBy, IsEliminated}
 use Rattle.search_squares.specs.declared.eliminated.Eliminated.{Eliminated}
 use Rattle.cells.specs.declared.place.At.{At}
 use Rattle.cells.specs.declared.place.Box3.{Box3}
 use Rattle.cells.specs.declared.place.Size.{Size}
-use Rattle.cells.specs.Cells.{Cells, IsVolume, sizes_of}
-use Rattle.cells.specs.Places.{IsSmall, cell_count, spot}
+use Rattle.cells.specs.Places.{cell_count, spot}
 use Rattle.cells.specs.SizeLists.{frames_to_part}
 use Rattle.map_canvas.specs.declared.canvas.Placement.{Placement}
-use Rattle.map_canvas.specs.Canvases.{CanvasState}
-use Rattle.map_canvas.specs.Choices.{Fits, laid_from}
+use Rattle.map_canvas.specs.Choices.{laid_from}
 use Rattle.match_error.specs.declared.error.Error.{Error}
-use Rattle.match_error.specs.Errors.{error_of, error_sum, filled_cells}
-use Rattle.match_error.proofs.Bounds.{error_small}
 use Rattle.patch_place.specs.declared.candidates.Spot.{Spot}
 use Rattle.patch_place.specs.declared.shortlist.Shortlist.{Shortlist}
+use Rattle.patch_place.specs.BoxErrors.{AreCounted, sum_from}
 use Rattle.patch_place.specs.Counts.{IsSpotAt, entries_before, room_entries}
 use Rattle.patch_place.specs.Lists.{fit_list, lists_from, room}
 use Rattle.patch_place.specs.Tables.{IsLimitOf, IsPast, IsShortlist}
@@ -63,16 +60,13 @@ along_spot x y f j = λ k. record { x = further x j k; y = stay y k; f = stay f 
     stay n = omega (arith, ints)
 
 -- a walk over the places of a box in a part, at one of them, from which on some are eliminated
-module _ (canvas : CanvasState) (small : IsSmall canvas.map.size) (sample : Cells) (volume : IsVolume sample) (rect : Box3) (sizes : List Size) (n : ℕ) (part free : Size) (at : slice_get sizes n ≡ Some part) (room_is : free ≡ room part rect.size)
-    (fit : All (Fits canvas.map.size sample) (lists_from (fit_list rect) sizes 1 sizes)) (i : ℕ) (place : Spot) (here : IsSpotAt free (frames_to_part sizes n) i place) (below : i < cell_count free) (gone : ℕ) (row : place.x + gone ≤ free.w) where
+module _ (error : Placement → Error) (MayAsk : Placement → Type 0) (count : ℕ) (counted : AreCounted error MayAsk count) (rect : Box3) (sizes : List Size) (n : ℕ) (part free : Size) (at : slice_get sizes n ≡ Some part) (room_is : free ≡ room part rect.size)
+    (asked : All MayAsk (lists_from (fit_list rect) sizes 1 sizes)) (i : ℕ) (place : Spot) (here : IsSpotAt free (frames_to_part sizes n) i place) (below : i < cell_count free) (gone : ℕ) (row : place.x + gone ≤ free.w) where
   abbrev entry : ℕ → Placement
   entry j = laid_from rect (spot (place.x + j) place.y place.f)
 
   abbrev list : List Placement
   list = room_entries rect sizes n free
-
-  abbrev error : Placement → Error
-  error = error_of canvas.map sample
 
   pub run_within : i + gone ≤ cell_count free
   run_within = row_within free (frames_to_part sizes n) i gone place row here below
@@ -82,18 +76,17 @@ module _ (canvas : CanvasState) (small : IsSmall canvas.map.size) (sample : Cell
       room_entry sizes n rect free (i + j) (record { x = place.x + j; y = place.y; f = place.f }) (omega (arith, run_within, lj))
       (spot_further free (frames_to_part sizes n) i j place (record { x = place.x + j; y = place.y; f = place.f }) (omega (arith, row, lj)) refl refl refl here)
 
-  entry_low : (j : ℕ) → j < gone → error_sum canvas.map sample (entry j) ≤ 2 ^ 48
-  entry_low j lj =
-      error_small canvas.map sample (entry j) small volume
-      (room_fits_there (Fits canvas.map.size sample) sizes n rect part free (i + j) (entry j) at room_is (entry_at j lj) fit)
+  entry_asked : (j : ℕ) → j < gone → MayAsk (entry j)
+  entry_asked j lj = room_fits_there MayAsk sizes n rect part free (i + j) (entry j) at room_is (entry_at j lj) asked
 
-  module _ (from : At) (from_is : from ≡ spot place.x place.y place.f) (run : Eliminated) (are : AreEliminated canvas sample rect run) (limit : ℕ) (eliminated : (j : ℕ) → j < gone → IsEliminated run (place_along from j) limit) where
-    beyond : (j : ℕ) → j < gone → limit < error_sum canvas.map sample (entry j)
+  module _ (from : At) (from_is : from ≡ spot place.x place.y place.f) (run : Eliminated) (are : AreEliminatedBy (sum_from error rect) run) (limit : ℕ) (eliminated : (j : ℕ) → j < gone → IsEliminated run (place_along from j) limit) where
+    beyond : (j : ℕ) → j < gone → limit < (error (entry j)).sum
     beyond j lj =
-        subst (λ p. limit < error_sum canvas.map sample (laid_from rect p)) (ap (λ p. place_along p j) from_is ∙ along_spot place.x place.y place.f j)
-        (eliminated j lj canvas sample rect are)
+        subst (λ p. limit < sum_from error rect p) (ap (λ p. place_along p j) from_is ∙ along_spot place.x place.y place.f j)
+        (eliminated j lj (sum_from error rect) are)
 
     -- they are passed over
-    pub run_passed : (was : Shortlist) (before : List Error) (count : ℕ) → count ≡ filled_cells canvas.map rect → IsLimitOf was count limit → IsShortlist was (before ++ map error (take i list)) → IsShortlist (passed_by was gone) (before ++ map error (take (i + gone) list))
-    run_passed was before count counted limited is =
-        short_pass error before list was i gone entry entry_at (λ j lj. past_for was count limit (error (entry j)) limited (sym counted) (entry_low j lj) (beyond j lj)) is
+    pub run_passed : (was : Shortlist) (before : List Error) → IsLimitOf was count limit → IsShortlist was (before ++ map error (take i list)) → IsShortlist (passed_by was gone) (before ++ map error (take (i + gone) list))
+    run_passed was before limited is =
+        short_pass error before list was i gone entry entry_at
+        (λ j lj. past_for was count limit (error (entry j)) limited (counted.same (entry j) (entry_asked j lj)) (counted.low (entry j) (entry_asked j lj)) (beyond j lj)) is

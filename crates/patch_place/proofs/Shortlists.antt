@@ -14,7 +14,8 @@ use Rattle.patch_place.specs.declared.eligible.Entry.{Entry}
 use Rattle.patch_place.specs.declared.shortlist.Shortlist.{Shortlist}
 use Rattle.patch_place.specs.Draws.{DrawState, draw}
 use Rattle.patch_place.specs.Picks.{IsBest, is_eligible}
-use Rattle.patch_place.specs.Tables.{AreErrorsAmong, AreKept, FailsUnfilled, IsBeaten, IsBestOf, IsFilledLow, IsLimit, IsLimitOf, IsLow, IsMore, IsNear, IsNth, IsPast, IsShortOf, IsShortlist, IsSumLimit, IsUnfilled, StandsForError, entry_error, is_near, rivals}
+use Rattle.patch_place.specs.BoxErrors.{IsLow}
+use Rattle.patch_place.specs.Tables.{AreErrorsAmong, AreKept, FailsUnfilled, IsBeaten, IsBestOf, IsFilledLow, IsLimit, IsLimitOf, IsMore, IsNear, IsNth, IsPast, IsShortOf, IsShortlist, IsSumLimit, IsUnfilled, StandsForError, entry_error, is_near, rivals}
 use Rattle.patch_place.proofs.Bests.{within_itself}
 use Rattle.patch_place.proofs.Counting.{Contains-slice_get, slice_get-Contains}
 use Rattle.patch_place.proofs.Limits.{table_more, unfilled_stand}
@@ -214,11 +215,11 @@ past_limit tol count limit other error past counted low beyond =
     (subst (λ n. other.sum * n * (100 + tol) < error.sum * other.count * 100) (sym counted) (past error.sum low beyond))
 
 -- no sum is past a limit that none reaches
-none_past : (tol count limit : ℕ) (table : List Error) → 2 ^ 48 ≤ limit → IsLimit tol table count limit
+none_past : (tol count limit : ℕ) (table : List Error) → 2 ^ 56 ≤ limit → IsLimit tol table count limit
 none_past tol count limit table least error counted low beyond = absurd (omega (arith, least, low, beyond))
 
 -- the limits that the best and the known error give
-limit_by_best : (tol count limit : ℕ) (best known : Option Error) (table : List Error) → IfSome best (IsSumLimit tol count limit) → (best ≡ None → 2 ^ 48 ≤ limit) → IsBestOf table best → IsLimit tol (rivals known table) count limit
+limit_by_best : (tol count limit : ℕ) (best known : Option Error) (table : List Error) → IfSome best (IsSumLimit tol count limit) → (best ≡ None → 2 ^ 56 ≤ limit) → IsBestOf table best → IsLimit tol (rivals known table) count limit
 limit_by_best tol count limit None known table past none is = none_past tol count limit (rivals known table) (none refl)
 limit_by_best tol count limit (Some best) known table past none is = λ error counted low beyond.
     among_rivals tol known table error (record {
@@ -228,7 +229,7 @@ limit_by_best tol count limit (Some best) known table past none is = λ error co
       far = past_limit tol count limit best error past counted low beyond;
     })
 
-limit_by_known : (tol count limit : ℕ) (known : Option Error) (table : List Error) → IfSome known IsFilledLow → IfSome known (IsSumLimit tol count limit) → (known ≡ None → 2 ^ 48 ≤ limit) → IsLimit tol (rivals known table) count limit
+limit_by_known : (tol count limit : ℕ) (known : Option Error) (table : List Error) → IfSome known IsFilledLow → IfSome known (IsSumLimit tol count limit) → (known ≡ None → 2 ^ 56 ≤ limit) → IsLimit tol (rivals known table) count limit
 limit_by_known tol count limit None table filled past none = none_past tol count limit table (none refl)
 limit_by_known tol count limit (Some known) table filled past none = λ error counted low beyond. record {
   other = known;
@@ -237,10 +238,10 @@ limit_by_known tol count limit (Some known) table filled past none = λ error co
   far = past_limit tol count limit known error past counted low beyond;
 }
 
-pub best_limit : (list : Shortlist) (count limit : ℕ) → IfSome list.best (IsSumLimit list.tol count limit) → (list.best ≡ None → 2 ^ 48 ≤ limit) → IsLimitOf list count limit
+pub best_limit : (list : Shortlist) (count limit : ℕ) → IfSome list.best (IsSumLimit list.tol count limit) → (list.best ≡ None → 2 ^ 56 ≤ limit) → IsLimitOf list count limit
 best_limit list count limit past none = λ table is. limit_by_best list.tol count limit list.best list.known table past none is
 
-pub known_limit : (list : Shortlist) (count limit : ℕ) → IfSome list.known IsFilledLow → IfSome list.known (IsSumLimit list.tol count limit) → (list.known ≡ None → 2 ^ 48 ≤ limit) → IsLimitOf list count limit
+pub known_limit : (list : Shortlist) (count limit : ℕ) → IfSome list.known IsFilledLow → IfSome list.known (IsSumLimit list.tol count limit) → (list.known ≡ None → 2 ^ 56 ≤ limit) → IsLimitOf list count limit
 known_limit list count limit filled past none = λ table is. limit_by_known list.tol count limit list.known table filled past none
 
 -- an error past a limit is past what may be eligible

@@ -3,6 +3,8 @@ pub mod Lists
 pub mod Modes
 pub mod Counts
 pub mod Fitting
+pub mod BoxErrors
+pub mod Overlaps
 pub mod Picks
 pub mod Tables
 pub mod Steps

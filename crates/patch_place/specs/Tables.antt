@@ -5,24 +5,21 @@ use Rattle.std.specs.List.{AllZip, count_by}
 use Rattle.cells.specs.declared.place.At.{At}
 use Rattle.cells.specs.declared.place.Box3.{Box3}
 use Rattle.cells.specs.declared.place.Size.{Size}
-use Rattle.cells.specs.Cells.{Cells, sizes_of}
+use Rattle.cells.specs.Cells.{Cells, Holds}
 use Rattle.cells.specs.Places.{IsNearAxis}
 use Rattle.match_error.specs.declared.error.Error.{Error}
 use Rattle.match_error.specs.Errors.{error_of, is_within}
 use Rattle.map_canvas.specs.declared.canvas.Placement.{Placement}
 use Rattle.map_canvas.specs.Canvases.{CanvasState}
-use Rattle.map_canvas.specs.Choices.{Fits, laid_from}
+use Rattle.map_canvas.specs.Choices.{laid_from}
 use Rattle.patch_place.specs.declared.candidates.Candidates.{Candidates}
 use Rattle.patch_place.specs.declared.eligible.Entry.{Entry}
 use Rattle.patch_place.specs.declared.shortlist.Shortlist.{Shortlist}
+use Rattle.patch_place.specs.BoxErrors.{IsLow}
 use Rattle.patch_place.specs.Counts.{entries_after, entries_before}
 use Rattle.patch_place.specs.Draws.{DrawState, draw}
 use Rattle.patch_place.specs.Lists.{fit_list, lists_from}
 use Rattle.patch_place.specs.Picks.{IsBest, IsPick, is_eligible, listed_on}
-
--- small enough to be multiplied
-abbrev pub IsLow : Error → Type 0
-IsLow error = error.sum ≤ 2 ^ 48
 
 abbrev pub IsUnfilled : Error → Type 0
 IsUnfilled error = error.count ≡ 0
@@ -100,7 +97,7 @@ IsPickAtOn canvas sample list tol draws i =
 -- a sum over so many filled cells that is past the limit is outside the tolerance of an error
 abbrev pub IsSumLimit : ℕ → ℕ → ℕ → Error → Type 0
 IsSumLimit tol count limit best =
-    (other : ℕ) → other ≤ 2 ^ 48 → limit < other
+    (other : ℕ) → other ≤ 2 ^ 56 → limit < other
     → best.sum * count * (100 + tol) < other * best.count * 100
 
 -- an error of so many filled cells whose sum is past the limit is beaten
@@ -185,11 +182,10 @@ pub record IsShortStep (step : At) : Type 0 where
   pub y : IsNearAxis step.y
   pub f : IsNearAxis step.f
 
--- a placement of a box that fits, and so is one of its candidates
-pub record IsHint (canvas : CanvasState) (sample : Cells) (rect : Box3)
-    (placement : Placement) : Type 0 where
+-- a placement of a box from a place of the sample, and so one of its candidates
+pub record IsHeld (sample : Cells) (rect : Box3) (placement : Placement) : Type 0 where
   pub box : placement ≡ laid_from rect placement.from
-  pub fits : Fits canvas.map.size sample placement
+  pub held : Holds sample placement.from rect.size
 
 -- one more error
 abbrev pub IsMore : Shortlist → Shortlist → Error → Type 0
@@ -197,9 +193,9 @@ IsMore was now error =
     (errors : List Error) → IsShortlist was errors → IsShortlist now (errors ++ error ∷ [])
 
 -- the errors of a box are done for the first n parts
-abbrev pub IsBoxDone : CanvasState → Cells → Box3 → ℕ → Shortlist → Type 0
-IsBoxDone canvas sample rect n list = IsShortlist list
-    (map (error_of canvas.map sample) (entries_before (fit_list rect) (sizes_of sample) n))
+abbrev pub IsBoxDone : (Placement → Error) → Box3 → List Size → ℕ → Shortlist → Type 0
+IsBoxDone error rect sizes n list =
+    IsShortlist list (map error (entries_before (fit_list rect) sizes n))
 
 -- so many candidates of a box are seen with the first n parts
 abbrev pub IsSeenTo : Box3 → List Size → ℕ → ℕ → Type 0

@@ -4,6 +4,7 @@ ghost use Rattle.cells.specs.Cells.{sizes_of};
 ghost use Rattle.cells.specs.Places.{IsInside, IsNearAxis, IsSmall, cell_count, place_of, spot};
 ghost use Rattle.cells.specs.SizeLists.{frames_to_part};
 ghost use Rattle.spans.specs.Axes.{at_least_0};
+ghost use Rattle.patch_place.specs.BoxErrors.{box_list};
 ghost use Rattle.patch_place.specs.Lists.{IsWithin, first_half, from_part, laid, listed, placed, room};
 ghost use Rattle.patch_place.specs.Counts.{AreVolumeParts, FitsCount, IsBelowSize, IsNextSpot, IsOverParts, IsSpotAt, all_entries, entries_in, steps_in};
 
@@ -329,4 +330,25 @@ impl Candidates {
             }
         }
     }
+}
+
+// How many placements a box has over all parts of a sample.
+pub(crate) fn box_count(rect: &Box3, sample: &Volume) -> u32
+    ensures { result ≡ length (box_list rect.now sample.now) }
+{
+    let sizes = parts_of(sample);
+    // They are as many in an output of any size.
+    let output = part_after(&sizes, 0);
+    Candidates::Fits { rect: *rect }.count(output, sample)
+}
+
+// The one at an index.
+pub(crate) fn box_entry(rect: &Box3, sample: &Volume, i: u32) -> Placement
+    requires { i < length (box_list rect.now sample.now) }
+    ensures { slice_get (box_list rect.now sample.now) i ≡ Some result }
+{
+    let sizes = parts_of(sample);
+    // It is the same in an output of any size.
+    let output = part_after(&sizes, 0);
+    Candidates::Fits { rect: *rect }.entry(i, output, sample)
 }

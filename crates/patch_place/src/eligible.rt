@@ -3,7 +3,8 @@ ghost use Rattle.std.specs.Prelude.{◌≡◌, ◌≤◌, ◌<◌, ◌*◌, ◌^
 ghost use Rattle.std.specs.List.{count_by};
 ghost use Rattle.match_error.specs.declared.error.Error.{Error};
 ghost use Rattle.patch_place.specs.Picks.{is_eligible};
-ghost use Rattle.patch_place.specs.Tables.{IsBestOf, IsFilledLow, IsLow, IsLowEntry, IsNth, entry_error, is_near};
+ghost use Rattle.patch_place.specs.BoxErrors.{IsLow};
+ghost use Rattle.patch_place.specs.Tables.{IsBestOf, IsFilledLow, IsLowEntry, IsNth, entry_error, is_near};
 
 use match_error::{Error, within};
 

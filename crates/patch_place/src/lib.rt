@@ -13,19 +13,22 @@
 //!
 //! What happens along one axis is that of the crate spans. `candidates` has the lists over the parts of a
 //! sample, `mode` the modes and the size of a window, `draws` the draws, and `laws` what follows from the definitions. `steps`
-//! has the step, `picks` the pick, `errors` the walks over lists that fill the shortlist that it is made
-//! from, where a sum that can't be eligible is left unfinished, `hints` the likely candidates of a box
-//! with whose least error its walk begins, `skips` those that its walk leaves out, since sums of blocks
-//! (crate search_squares) show that they can't be eligible, `reach` the sums by which the filled cells of laid
+//! has the step, `picks` the picks, `errors` the shortlist that one is made from, `walk` the walk over the
+//! places of a box that fills it, where a sum that can't be eligible is left unfinished, `box_errors` what
+//! that walk is given, `overlaps` the overlap errors of a box, `hints` the likely candidates with whose
+//! least error the walk begins, `skips` those that it leaves out, since they can't be eligible, as sums of
+//! blocks (crate search_squares) show of overlap errors, `reach` the sums by which the filled cells of laid
 //! candidates are counted and the runs over which they are compared, `shortlist` the shortlist, and
 //! `eligible` which of its entries are about as good as the best. README.md says the definitions and the
 //! promises in words.
 //!
 //! `pick_with` and `next_placement_with` are the same calls for a sample whose sums of blocks are made
 //! once for many picks. `pick` and `next_placement` make their own, where the candidates are those of one
-//! box.
+//! box. `pick_by` picks among the places of a box by other errors, which an implementor of `BoxErrors`
+//! sums up.
 #![tactic(auto)]
 
+mod box_errors;
 mod candidates;
 mod draws;
 mod eligible;
@@ -33,15 +36,19 @@ mod errors;
 mod hints;
 mod laws;
 mod mode;
+mod overlaps;
 mod picks;
 mod reach;
 mod shortlist;
 mod skips;
 mod steps;
+mod walk;
 
+pub use box_errors::BoxErrors;
 pub use candidates::Candidates;
 pub use draws::Draws;
 pub use laws::{box_list_is_all_that_fit, there_is_one_next_placement, there_is_one_pick};
 pub use mode::{Mode, window_size};
-pub use picks::{pick, pick_with};
+pub use overlaps::Overlaps;
+pub use picks::{pick, pick_by, pick_with};
 pub use steps::{next_placement, next_placement_with};

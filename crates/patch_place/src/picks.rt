@@ -1,16 +1,20 @@
 // Picks: one of the candidates that are about as good as the best, by a draw.
-ghost use Rattle.std.specs.Prelude.{◌≡◌, Contains, IfOk, IsSome, IsTrue, OnErr, OnOk};
+ghost use Rattle.std.specs.Prelude.{◌≡◌, ◌<◌, All, Contains, IfOk, IsSome, IsTrue, OnErr, OnOk, Some, length};
+ghost use Rattle.cells.specs.Boxes.{HasCells};
 ghost use Rattle.search_squares.specs.Eliminations.{AreSampleSums};
 ghost use Rattle.map_canvas.specs.Canvases.{StandsOver};
 ghost use Rattle.map_canvas.specs.Choices.{Fits};
+ghost use Rattle.patch_place.specs.BoxErrors.{box_list};
 ghost use Rattle.patch_place.specs.Lists.{IsWithin};
-ghost use Rattle.patch_place.specs.Picks.{AllFit, HasEntries, IsPickOn, listed_on};
+ghost use Rattle.patch_place.specs.Picks.{AllFit, HasEntries, IsPick, IsPickOn, listed_on};
 ghost use Rattle.patch_place.specs.Steps.{after_draw};
 ghost use Rattle.patch_place.specs.Tables.{IsPickAtOn};
 
+use crate::candidates::box_entry;
 use crate::errors::{count_for, entry_for, shortlist_of};
-use crate::{Candidates, Draws};
-use cells::Volume;
+use crate::walk::box_shortlist;
+use crate::{BoxErrors, Candidates, Draws};
+use cells::{Box3, Volume};
 use map_canvas::{Canvas, Placement};
 use search_squares::SampleSums;
 use std::alloc::{AllocError, Global};
@@ -106,4 +110,32 @@ pub fn pick_with(
 {
     let i = picked_at(alloc, list, tol, canvas, sample, sums, draws)?;
     Ok(entry_for(list, canvas, sample, i))
+}
+
+/// Picks one of the placements of a box over all parts of a sample, by errors that the caller has. It is
+/// one of those that are about as good as the best, by the next draw, as `pick` says. All of them are where
+/// the count of the errors is 0. It takes one draw, and none where there isn't the memory: that is the one
+/// error.
+pub fn pick_by<E: BoxErrors>(
+    alloc: Global,
+    errors: &E,
+    rect: &Box3,
+    tol: u32,
+    sample: &Volume,
+    draws: &mut Draws,
+) -> Result<Placement, AllocError>
+    requires ready { E.IsReady errors.now }
+    requires cells { HasCells rect.now.size }
+    requires some { 0 < length (box_list rect.now sample.now) }
+    requires asked { All (E.MayAsk errors.now) (box_list rect.now sample.now) }
+    ensures picked { IfOk result (IsPick (E.error errors.now) (Some tol)
+        (box_list rect.now sample.now) draws.old) }
+    ensures listed { IfOk result (Contains (box_list rect.now sample.now)) }
+    ensures asked { IfOk result (E.MayAsk errors.now) }
+    ensures next { OnOk result (draws.new ≡ after_draw draws.old) }
+    ensures kept { OnErr result (draws.new ≡ draws.old) }
+{
+    let short = box_shortlist(alloc, errors, rect, tol, sample)?;
+    let i = short.picked(draws);
+    Ok(box_entry(rect, sample, i))
 }

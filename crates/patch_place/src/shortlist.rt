@@ -2,7 +2,8 @@
 ghost use Rattle.std.specs.Prelude.{◌≡◌, ◌≤◌, ◌<◌, ◌+◌, ◌^◌, [], All, IfSome, List, None, OnOk, length};
 ghost use Rattle.match_error.specs.declared.error.Error.{Error};
 ghost use Rattle.patch_place.specs.Steps.{after_draw};
-ghost use Rattle.patch_place.specs.Tables.{HasTable, IsFilledLow, IsLimitOf, IsLow, IsMore, IsPast, IsPickOf, IsShortOf, IsShortlist, IsSoundShortlist, IsSumLimit, IsUnfilled};
+ghost use Rattle.patch_place.specs.BoxErrors.{IsLow};
+ghost use Rattle.patch_place.specs.Tables.{HasTable, IsFilledLow, IsLimitOf, IsMore, IsPast, IsPickOf, IsShortOf, IsShortlist, IsSoundShortlist, IsSumLimit, IsUnfilled};
 
 use crate::Draws;
 use crate::eligible::{Entry, better, near_count, nth_near};
@@ -39,7 +40,7 @@ fn limit_of(tol: u32, best: &Error, count: u32) -> u64
 fn limit_by(tol: u32, best: &Option<Error>, count: u32) -> u64
     requires low { IfSome best.now IsFilledLow }
     ensures sum { IfSome best.now (IsSumLimit tol count result) }
-    ensures none { best.now ≡ None → 2 ^ 48 ≤ result }
+    ensures none { best.now ≡ None → 2 ^ 56 ≤ result }
 {
     match best {
         Some(best) => limit_of(tol, best, count),

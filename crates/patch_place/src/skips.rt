@@ -1,15 +1,14 @@
-// Candidates of a box that a walk leaves out, by the sums of the sample's blocks.
+// Candidates of a box that a walk leaves out.
 ghost use Rattle.std.specs.Prelude.{◌≡◌, ◌<◌, ℕ};
-ghost use Rattle.cells.specs.declared.place.Box3.{Box3};
-ghost use Rattle.cells.specs.Boxes.{HoldsBox};
-ghost use Rattle.cells.specs.Cells.{Cells};
-ghost use Rattle.map_canvas.specs.Canvases.{CanvasState, StandsOver};
+ghost use Rattle.cells.specs.declared.place.At.{At};
 ghost use Rattle.search_squares.specs.Bounds.{place_along};
-ghost use Rattle.search_squares.specs.Eliminations.{AreBoxLevels, AreEliminated, AreSampleSums, IsEliminated};
+ghost use Rattle.search_squares.specs.Eliminations.{AreEliminatedBy, IsEliminated};
+ghost use Rattle.patch_place.specs.BoxErrors.{sum_from};
 
-use cells::{At, Volume};
-use map_canvas::{Canvas, Placement};
-use search_squares::{BoxLevels, Eliminated, LANES, Pauses, SampleSums};
+use crate::BoxErrors;
+use cells::At;
+use map_canvas::Placement;
+use search_squares::{Eliminated, LANES, Pauses};
 
 // The most runs that a walk passes over before it tries one again.
 const MOST_PASSED: usize = 15;
@@ -86,7 +85,7 @@ impl Pace {
 pub(crate) struct Skips {
     // without a place while the walk passes over runs
     pub(crate) run: Eliminated,
-    // whether another run may eliminate anything: not where there are no blocks
+    // whether another run may eliminate anything: not after one without a place
     serve: bool,
     pace: Pace,
     pauses: Pauses,
@@ -95,8 +94,7 @@ pub(crate) struct Skips {
 impl Skips {
     // Before the first place.
     pub(crate) fn none() -> Skips
-        ensures { (canvas : CanvasState) (sample : Cells) (rect : Box3)
-            → AreEliminated canvas sample rect result.run }
+        ensures { (sum : At → ℕ) → AreEliminatedBy sum result.run }
     {
         Skips {
             run: Eliminated::none(),
@@ -108,42 +106,36 @@ impl Skips {
 
     // Goes on to a candidate in the part with this number: to the run from there on, where the last run
     // is passed and no run is passed over. Nothing is eliminated while each sum is within the limit.
-    pub(crate) fn go_to(
+    pub(crate) fn go_to<E: BoxErrors>(
         &mut self,
-        levels: &BoxLevels,
-        canvas: &Canvas,
-        sample: &Volume,
-        sums: &SampleSums,
+        errors: &E,
         placement: &Placement,
         part: u32,
         limit: u64,
     )
-        requires over { StandsOver canvas.now sample.now }
-        requires inside { HoldsBox canvas.now.map.size
-            placement.now.rect.corner placement.now.rect.size }
-        requires levels { AreBoxLevels canvas.now placement.now.rect levels.now }
-        requires sums { AreSampleSums sample.now sums.now }
-        requires run { AreEliminated canvas.now sample.now placement.now.rect self.old.run }
-        ensures { AreEliminated canvas.now sample.now placement.now.rect self.new.run }
+        requires ready { E.IsReady errors.now }
+        requires asked { E.MayAsk errors.now placement.now }
+        requires run { AreEliminatedBy (sum_from (E.error errors.now) placement.now.rect)
+            self.old.run }
+        ensures { AreEliminatedBy (sum_from (E.error errors.now) placement.now.rect)
+            self.new.run }
     {
-        let Placement { rect, from } = placement;
         if !self.serve || limit == u64::MAX {
             return;
         }
         if self.pace.waits() {
             return;
         }
-        if self.run.covers(*from) {
+        if self.run.covers(placement.from) {
             return;
         }
         if self.pace.rests() {
             self.run = Eliminated::none();
             return;
         }
-        let pauses = &mut self.pauses;
-        self.run = levels.eliminate(sums, canvas, sample, rect, part, *from, limit, pauses);
-        // A run without the place that it begins with is that of no blocks.
-        self.serve = self.run.covers(*from);
+        self.run = errors.eliminate(placement, part, limit, &mut self.pauses);
+        // A run without the place that it begins with eliminates nothing.
+        self.serve = self.run.covers(placement.from);
     }
 
     // How many candidates from a place along X on are eliminated for a limit, one after another.

@@ -1,5 +1,8 @@
 -- Runs of places along X.
-use Rattle.std.proofs.Common.{◌≡◌, ℕ, ◌+◌, ◌<◌, ◌≤◌, refl, sym, subst, arith}
+use Rattle.std.proofs.Common.{◌≡◌, ℕ, ◌+◌, ◌*◌, ◌/◌, ◌<◌, ◌≤◌, ◌&&◌, int_eq, true, refl, sym, subst, arith}
+use Rattle.std.proofs.Math.Nat.{mul-le-mul_left}
+use Rattle.std.proofs.lemmas.Bool.Decides.{Decides-and, Decides-int_eq}
+use Rattle.std.proofs.lemmas.Nat.{div-add-mod', mod_below}
 use Rattle.std.proofs.lemmas.Int.{ints}
 use Rattle.std.specs.Prelude.{ℤ, pos, ◌+ℤ◌, ◌-ℤ◌, Option, Some, None, IfSome, IsSome}
 use Rattle.std.proofs.lemmas.Nat.Bits.{bit_at-zero}
@@ -68,3 +71,15 @@ along_on from i j = λ k. record { x = further from.x i j k; y = stay from.y k; 
 
     stay : (z : ℤ) → (z +ℤ pos 0) +ℤ pos 0 ≡ z +ℤ pos 0
     stay z = omega (arith, ints)
+
+-- two places that compare as the same are
+pub same_place : (p q : At) → (int_eq p.x q.x && (int_eq p.y q.y && int_eq p.f q.f)) ≡ true → p ≡ q
+same_place p q equal =
+    let parts = (Decides-and _ _ (Decides-int_eq p.x q.x) (Decides-and _ _ (Decides-int_eq p.y q.y) (Decides-int_eq p.f q.f))).0 equal in
+    λ k. record { x = parts.0 k; y = parts.1.0 k; f = parts.1.1 k }
+
+-- a sum above a limit, taken some times, is above a limit that is at most as many times as great
+pub times_above : (n limit most sum other : ℕ) → 1 ≤ n → limit / n ≤ most → most < sum → n * sum ≤ other → limit < other
+times_above n limit most sum other some le lt more =
+    let far : limit / n + 1 ≤ sum = omega (arith, le, lt) in
+    omega (arith, div-add-mod' limit n, mod_below limit n some, mul-le-mul_left n far, more)

@@ -12,6 +12,7 @@
 //! A search over a whole sample goes by `SampleSums`, made once, and `BoxLevels`, gathered once a pick, each
 //! of four sizes of blocks, the last of which is a single cell. `BoxLevels::eliminate` gives an `Eliminated`,
 //! a run of places of a part of the sample, which says of each place whether it is ruled out for a limit.
+//! `Eliminated::times` and `Eliminated::or` make such runs of sums of which overlap errors are a part.
 //! `Pauses` keeps for a walk over many runs which sizes are of little use to it.
 //!
 //! `blocks` has the blocks of a box, `order` which of them come first, `sums` the sums of the sample's blocks,

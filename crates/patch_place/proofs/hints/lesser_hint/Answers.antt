@@ -1,6 +1,19 @@
-use Rattle.patch_place.proofs.Known.{hint_listed}
+use Rattle.patch_place.proofs.Known.{held_asked, hint_listed, hint_low}
 use Rattle.patch_place.proofs.hints.lesser_hint.Goals as goal
 
-pub returns-in-Some-error_sum_within-clause-listed : goal.returns-in-Some-error_sum_within-clause-listed
-returns-in-Some-error_sum_within-clause-listed c =
-    hint_listed c.args.canvas.now c.args.sample.now c.args.rect.now _ _ c.in-Some.ensures c.in-Some-error_sum_within.ensures.some c.requires.count
+pub sum_within-requires-clause-asked : goal.sum_within-requires-clause-asked
+sum_within-requires-clause-asked g c =
+    let b = g.E.BoxErrors in
+    held_asked (b.error c.args.errors.now) (b.MayAsk c.args.errors.now) c.args.count c.requires.counted c.args.sample.now c.args.rect.now c.requires.cells c.requires.asked _ c.in-Some.ensures
+
+pub returns-in-Some-sum_within-clause-listed : goal.returns-in-Some-sum_within-clause-listed
+returns-in-Some-sum_within-clause-listed g c =
+    let b = g.E.BoxErrors in
+    hint_listed (b.error c.args.errors.now) (b.MayAsk c.args.errors.now) c.args.count c.requires.counted c.args.sample.now c.args.rect.now c.requires.cells c.requires.asked _ c.in-Some.ensures _ c.in-Some-sum_within.ensures.some
+
+pub returns-in-Some-sum_within-clause-low : goal.returns-in-Some-sum_within-clause-low
+returns-in-Some-sum_within-clause-low g c =
+    let b = g.E.BoxErrors in (
+      c.requires.filled,
+      hint_low (b.error c.args.errors.now) (b.MayAsk c.args.errors.now) c.args.count c.requires.counted c.args.sample.now c.args.rect.now c.requires.cells c.requires.asked _ c.in-Some.ensures _ c.in-Some-sum_within.ensures.some,
+    )

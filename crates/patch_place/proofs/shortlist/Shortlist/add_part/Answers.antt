@@ -1,44 +1,41 @@
 use Rattle.std.proofs.Common.{◌≡◌, ◌≤◌, ◌<◌, ◌+◌, ◌++◌, map, take, ap, sym, subst, ◌∙◌, arith}
-use Rattle.std.specs.Prelude.{All, Some, slice_get}
-use Rattle.search_squares.specs.Eliminations.{AreEliminated}
+use Rattle.std.specs.Prelude.{Some, slice_get}
+use Rattle.search_squares.specs.Eliminations.{AreEliminatedBy}
 use Rattle.cells.specs.Places.{cell_count}
 use Rattle.cells.specs.SizeLists.{frames_to_part}
-use Rattle.map_canvas.specs.Choices.{Fits, laid_from}
-use Rattle.match_error.specs.Errors.{error_of}
-use Rattle.match_error.proofs.Bounds.{error_small}
-use Rattle.patch_place.specs.Counts.{entries_before, room_entries}
-use Rattle.patch_place.specs.Lists.{fit_list, lists_from}
+use Rattle.map_canvas.specs.Choices.{laid_from}
 use Rattle.patch_place.specs.declared.shortlist.Shortlist.{Shortlist}
+use Rattle.patch_place.specs.BoxErrors.{sum_from}
+use Rattle.patch_place.specs.Counts.{entries_before, room_entries}
+use Rattle.patch_place.specs.Lists.{fit_list}
 use Rattle.patch_place.specs.Tables.{IsLimitOf, IsSeenTo, IsShortlist}
 use Rattle.patch_place.proofs.Passing.{in_row, run_passed}
 use Rattle.patch_place.proofs.Walking.{row_within}
 use Rattle.patch_place.proofs.BoxWalk.{box_few, box_step, errors_all, errors_more, room_entry, room_fits_there}
 use Rattle.patch_place.proofs.shortlist.Shortlist.add_part.Goals as goal
 
-pub add_filled-requires-clause-fits : goal.add_filled-requires-clause-fits
-add_filled-requires-clause-fits c =
-    let P = Fits c.args.canvas.now.map.size c.args.sample.now in
+pub go_to-requires-clause-asked : goal.go_to-requires-clause-asked
+go_to-requires-clause-asked g c =
+    let P = g.E.BoxErrors.MayAsk c.args.errors.now in
     let sizes = c.args.sizes.now in
     let entry = laid_from c.args.rect.now c.place.result in
     let at : slice_get (room_entries c.args.rect.now sizes c.args.n c.room-free.result) c.entries.done ≡ Some entry =
     room_entry sizes c.args.n c.args.rect.now c.room-free.result c.entries.done c.entries.spot (omega (arith, c.place_count-all.ensures, c.entries-test.true)) c.entries.invariant.spot
     ∙ ap (λ p. Some (laid_from c.args.rect.now p)) (sym c.place.ensures) in
-    let all : All P (lists_from (fit_list c.args.rect.now) sizes 1 sizes) = subst (λ s. All P (lists_from (fit_list c.args.rect.now) s 1 s)) (sym c.requires.sizes) c.requires.fit in
-    room_fits_there P sizes c.args.n c.args.rect.now c.part_after.result c.room-free.result c.entries.done entry c.part_after.ensures.size c.room-free.ensures.room at all
+    room_fits_there P sizes c.args.n c.args.rect.now c.part_after.result c.room-free.result c.entries.done entry c.part_after.ensures.size c.room-free.ensures.room at c.requires.asked
 
-pub add_filled-requires-clause-few : goal.add_filled-requires-clause-few
-add_filled-requires-clause-few c =
+pub add_one-requires-clause-asked : goal.add_one-requires-clause-asked
+add_one-requires-clause-asked g c = go_to-requires-clause-asked g c
+
+pub add_one-requires-clause-few : goal.add_one-requires-clause-few
+add_one-requires-clause-few g c =
     let after = box_step c.args.rect.now c.args.sizes.now c.args.n c.args.self.now.seen c.part_after.result c.room-free.result c.part_after.ensures.size c.room-free.ensures.room c.requires.seen in
     let few : c.args.self.now.seen + cell_count c.room-free.result ≤ 268435456 = box_few c.args.rect.now c.args.sizes.now (c.args.n + 1) _ c.requires.parts after in
     omega (arith, few, c.entries.invariant.seen, c.place_count-all.ensures, c.entries-test.true)
 
-pub add_filled-requires-clause-low : goal.add_filled-requires-clause-low
-add_filled-requires-clause-low c =
-    error_small c.args.canvas.now.map c.args.sample.now (laid_from c.args.rect.now c.place.result) c.map-map.ensures.canvas.map.small c.samples-samples.ensures.volume (add_filled-requires-clause-fits c)
-
 pub entries-preserved : goal.entries-preserved
-entries-preserved c =
-    let f = error_of c.args.canvas.now.map c.args.sample.now in
+entries-preserved g c =
+    let f = g.E.BoxErrors.error c.args.errors.now in
     let sizes = c.args.sizes.now in
     let entry = laid_from c.args.rect.now c.place.result in
     let list = room_entries c.args.rect.now sizes c.args.n c.room-free.result in
@@ -48,25 +45,25 @@ entries-preserved c =
     ∙ ap (λ p. Some (laid_from c.args.rect.now p)) (sym c.place.ensures) in
     record {
       short =
-          subst (IsShortlist c.add_filled.new.self) (errors_more f before list c.entries.done entry at)
+          subst (IsShortlist c.add_one.new.self) (errors_more f before list c.entries.done entry at)
           (c.in_ok-limit.ensures.more (before ++ map f (take c.entries.done list)) c.entries.invariant.short);
       sound = c.in_ok-limit.ensures.sound;
       limited = c.in_ok-limit.ensures.limit;
       seen = omega (arith, c.in_ok-limit.ensures.seen, c.entries.invariant.seen);
       within = omega (arith, c.place_count-all.ensures, c.entries-test.true);
-      tol = c.add_filled.ensures.tol ∙ c.entries.invariant.tol;
-      known = c.add_filled.ensures.known ∙ c.entries.invariant.known;
-      run = subst (AreEliminated c.args.canvas.now c.args.sample.now c.args.rect.now) (sym c.count_from.ensures.run) c.go_to.ensures;
+      tol = c.add_one.ensures.tol ∙ c.entries.invariant.tol;
+      known = c.add_one.ensures.known ∙ c.entries.invariant.known;
+      run = subst (AreEliminatedBy (sum_from f c.args.rect.now)) (sym c.count_from.ensures.run) c.go_to.ensures;
       spot = c.next-spot.ensures (frames_to_part sizes c.args.n) c.entries.done c.entries.invariant.spot;
     }
 
 pub overflow_sub-free : goal.overflow_sub-free
-overflow_sub-free c =
+overflow_sub-free g c =
     let below : c.entries.done < cell_count c.room-free.result = omega (arith, c.place_count-all.ensures, c.entries-test.true) in
     omega (arith, in_row c.room-free.result (frames_to_part c.args.sizes.now c.args.n) c.entries.done c.entries.spot below c.entries.invariant.spot)
 
 pub pass-requires-clause-few : goal.pass-requires-clause-few
-pass-requires-clause-few c =
+pass-requires-clause-few g c =
     let rect = c.args.rect.now in
     let sizes = c.args.sizes.now in
     let free = c.room-free.result in
@@ -78,25 +75,22 @@ pass-requires-clause-few c =
     omega (arith, few, c.entries.invariant.seen, row_within free frames c.entries.done c.min-gone.result c.entries.spot row c.entries.invariant.spot below)
 
 pub entries-preserved-then-gone-gt0 : goal.entries-preserved-then-gone-gt0
-entries-preserved-then-gone-gt0 c =
-    let canvas = c.args.canvas.now in
-    let sample = c.args.sample.now in
+entries-preserved-then-gone-gt0 g c =
+    let f = g.E.BoxErrors.error c.args.errors.now in
     let rect = c.args.rect.now in
     let sizes = c.args.sizes.now in
     let free = c.room-free.result in
     let frames = frames_to_part sizes c.args.n in
-    let f = error_of canvas.map sample in
     let before = map f (entries_before (fit_list rect) sizes c.args.n) in
     let gone = c.min-gone.result in
-    let all : All (Fits canvas.map.size sample) (lists_from (fit_list rect) sizes 1 sizes) = subst (λ s. All (Fits canvas.map.size sample) (lists_from (fit_list rect) s 1 s)) (sym c.requires.sizes) c.requires.fit in
     let below : c.entries.done < cell_count free = omega (arith, c.place_count-all.ensures, c.entries-test.true) in
     let row : c.entries.spot.x + gone ≤ free.w = omega (arith, c.min-gone.ensures, in_row free frames c.entries.done c.entries.spot below c.entries.invariant.spot) in
     let passed = c.pass.ensures.passed in
     record {
       short =
           subst (λ s. IsShortlist s (before ++ map f (take (c.entries.done + gone) (room_entries rect sizes c.args.n free)))) (sym passed)
-          (run_passed canvas c.map-map.ensures.canvas.map.small sample c.samples-samples.ensures.volume rect sizes c.args.n c.part_after.result free c.part_after.ensures.size c.room-free.ensures.room all c.entries.done c.entries.spot c.entries.invariant.spot below
-          gone row c.place.result c.place.ensures c.go_to.new.self.run c.go_to.ensures c.entries.limit (λ j lj. c.count_from.ensures.gone j (omega (arith, c.min-gone.ensures, lj))) c.entries.self before c.args.count c.requires.count c.entries.invariant.limited
+          (run_passed f (g.E.BoxErrors.MayAsk c.args.errors.now) c.args.count c.requires.counted rect sizes c.args.n c.part_after.result free c.part_after.ensures.size c.room-free.ensures.room c.requires.asked c.entries.done c.entries.spot c.entries.invariant.spot below
+          gone row c.place.result c.place.ensures c.go_to.new.self.run c.go_to.ensures c.entries.limit (λ j lj. c.count_from.ensures.gone j (omega (arith, c.min-gone.ensures, lj))) c.entries.self before c.entries.invariant.limited
           c.entries.invariant.short);
       sound = c.pass.ensures.sound;
       limited = subst (λ s. IsLimitOf s c.args.count c.entries.limit) (sym passed) c.entries.invariant.limited;
@@ -104,20 +98,18 @@ entries-preserved-then-gone-gt0 c =
       within = row_within free frames c.entries.done gone c.entries.spot row c.entries.invariant.spot below;
       tol = ap (λ (s : Shortlist). s.tol) passed ∙ c.entries.invariant.tol;
       known = ap (λ (s : Shortlist). s.known) passed ∙ c.entries.invariant.known;
-      run = subst (AreEliminated canvas sample rect) (sym c.count_from.ensures.run) c.go_to.ensures;
+      run = subst (AreEliminatedBy (sum_from f rect)) (sym c.count_from.ensures.run) c.go_to.ensures;
       spot = c.after-spot.ensures frames c.entries.done c.entries.invariant.spot;
     }
 
 pub returns-clause-done : goal.returns-clause-done
-returns-clause-done c =
-    let f = error_of c.args.canvas.now.map c.args.sample.now in
-    let rect = c.args.rect.now in
+returns-clause-done g c =
+    let f = g.E.BoxErrors.error c.args.errors.now in
     let end : cell_count c.room-free.result ≤ c.entries.done = omega (arith, c.place_count-all.ensures, c.entries-test.false) in
-    subst (λ s. IsShortlist c.entries.self (map f (entries_before (fit_list rect) s (c.args.n + 1)))) c.requires.sizes
-    (subst (IsShortlist c.entries.self) (errors_all f c.args.sizes.now c.args.n rect c.part_after.result c.room-free.result c.entries.done c.part_after.ensures.size c.room-free.ensures.room end) c.entries.invariant.short)
+    subst (IsShortlist c.entries.self) (errors_all f c.args.sizes.now c.args.n c.args.rect.now c.part_after.result c.room-free.result c.entries.done c.part_after.ensures.size c.room-free.ensures.room end) c.entries.invariant.short
 
 pub returns-clause-seen : goal.returns-clause-seen
-returns-clause-seen c =
+returns-clause-seen g c =
     let end : c.entries.self.seen ≡ c.args.self.now.seen + cell_count c.room-free.result = omega (arith, c.entries.invariant.seen, c.place_count-all.ensures, c.entries-test.false, c.entries.invariant.within) in
     subst (IsSeenTo c.args.rect.now c.args.sizes.now (c.args.n + 1)) (sym end)
     (box_step c.args.rect.now c.args.sizes.now c.args.n c.args.self.now.seen c.part_after.result c.room-free.result c.part_after.ensures.size c.room-free.ensures.room c.requires.seen)

@@ -1,0 +1,23 @@
+use Rattle.std.proofs.Common.{map, subst, sym}
+use Rattle.cells.specs.declared.place.Box3.{Box3}
+use Rattle.cells.specs.Cells.{Cells}
+use Rattle.map_canvas.specs.Canvases.{CanvasState}
+use Rattle.match_error.specs.Errors.{error_of}
+use Rattle.patch_place.specs.BoxErrors.{box_list}
+use Rattle.patch_place.specs.Tables.{IsShortlistOf}
+use Rattle.patch_place.proofs.Limits.{box_has_cells, box_inside, overlaps_asked}
+use Rattle.patch_place.proofs.errors.overlap_shortlist.Goals as goal
+
+pub gather-overlaps-requires-clause-cells : goal.gather-overlaps-requires-clause-cells
+gather-overlaps-requires-clause-cells c = box_has_cells c.args.canvas.now.map.size c.args.sample.now c.args.rect.now c.requires.some c.requires.fit
+
+pub gather-overlaps-requires-clause-inside : goal.gather-overlaps-requires-clause-inside
+gather-overlaps-requires-clause-inside c = box_inside c.args.canvas.now.map.size c.args.sample.now c.args.rect.now c.requires.some c.requires.fit
+
+pub box_shortlist-requires-clause-cells : goal.box_shortlist-requires-clause-cells
+box_shortlist-requires-clause-cells c = gather-overlaps-requires-clause-cells c
+
+pub box_shortlist-requires-clause-asked : goal.box_shortlist-requires-clause-asked
+box_shortlist-requires-clause-asked c =
+    let is = c.in_ok-overlaps.ensures in
+    overlaps_asked _ c.args.canvas.now c.args.sample.now c.args.rect.now is.canvas is.sample is.rect c.requires.fit

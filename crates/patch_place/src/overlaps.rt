@@ -1,0 +1,157 @@
+// The overlap errors of the placements of one box.
+ghost use Rattle.std.specs.Prelude.{◌≡◌, ◌≤◌, ◌<◌, ◌≤ℤ◌, pos, IfNone, IfOk, IfSome};
+ghost use Rattle.cells.specs.Boxes.{HasCells, HoldsBox};
+ghost use Rattle.cells.specs.Places.{HasAxes};
+ghost use Rattle.map_canvas.specs.Canvases.{StandsOver};
+ghost use Rattle.match_error.specs.Errors.{error_of, error_sum};
+ghost use Rattle.search_squares.specs.Eliminations.{AreSampleSums};
+ghost use Rattle.patch_place.specs.Tables.{IsShortStep};
+
+use crate::BoxErrors;
+use cells::{At, Box3, Size, Volume};
+use limits::GREATEST_AXIS;
+use map_canvas::{Canvas, Placement};
+use match_error::{FilledRuns, filled_count};
+use search_squares::{BoxLevels, Eliminated, Pauses, SampleSums};
+use std::alloc::{AllocError, Global};
+
+// How many cells of a box give likely places.
+const HINTS: u32 = 16;
+
+/// The filled cells of one box of a canvas, gathered for the overlap errors of its placements.
+#[derive(Drop)]
+pub struct Overlaps<'a> {
+    pub(crate) canvas: &'a Canvas,
+    pub(crate) sample: &'a Volume,
+    pub(crate) sums: &'a SampleSums,
+    pub(crate) rect: Box3,
+    // how many cells of the box are filled
+    pub(crate) count: u32,
+    pub(crate) runs: FilledRuns,
+    pub(crate) levels: BoxLevels,
+}
+
+// Four counts spread along an axis of so many cells, with the first and the last of them.
+fn spread(len: u32, i: u32) -> i32
+    requires len { (1 ≤ len) × (len ≤ GREATEST_AXIS) }
+    requires few { i < 4 }
+    ensures { (pos 0 ≤ℤ result) × (result ≤ℤ pos GREATEST_AXIS) }
+{
+    ((len - 1) * i / 3) as i32
+}
+
+// One of 16 cells spread over the rows and columns of a box, in its first frame or, every other
+// one, in its last, as a step from the corner.
+fn spread_step(size: Size, i: u32) -> At
+    requires axes { HasAxes size }
+    requires few { i < 16 }
+    ensures { IsShortStep result }
+{
+    At {
+        x: spread(size.w, i % 4),
+        y: spread(size.h, i / 4),
+        f: spread(size.f, (i + i / 4) % 2 * 3),
+    }
+}
+
+// The place from which a box goes on with what stands at a cell of it, a step from its corner. None
+// where the cell is unfilled.
+fn hint_at(canvas: &Canvas, rect: &Box3, step: At) -> Option<At>
+    requires some { HasCells rect.now.size }
+    requires inside { HoldsBox canvas.now.map.size rect.now.corner rect.now.size }
+    requires step { IsShortStep step }
+{
+    // It is asked for only to show the check that this is a map.
+    let map = canvas.map();
+    let source = map.at(rect.corner.plus(step))?;
+    Some(source.minus(step))
+}
+
+impl Overlaps<'_> {
+    ghost use Rattle.patch_place.specs.Overlaps.{AreOverlaps, IsOverlap};
+
+    /// Gathers the filled cells of a box, for placements from all parts of the sample. The one error is
+    /// out of memory.
+    pub fn gather<'a>(
+        alloc: Global,
+        canvas: &'a Canvas,
+        sample: &'a Volume,
+        sums: &'a SampleSums,
+        rect: &Box3,
+    ) -> Result<Overlaps<'a>, AllocError>
+        requires over { StandsOver canvas.now sample.now }
+        requires sums { AreSampleSums sample.now sums.now }
+        requires cells { HasCells rect.now.size }
+        requires inside { HoldsBox canvas.now.map.size rect.now.corner rect.now.size }
+        ensures ready { IfOk result AreOverlaps }
+        ensures canvas { IfOk result (λ overlaps. overlaps.canvas.now ≡ canvas.now) }
+        ensures sample { IfOk result (λ overlaps. overlaps.sample.now ≡ sample.now) }
+        ensures rect { IfOk result (λ overlaps. overlaps.rect ≡ rect.now) }
+    {
+        let runs = FilledRuns::gather(alloc, canvas, sample, rect)?;
+        let levels = BoxLevels::gather(alloc, canvas, rect, sums)?;
+        Ok(Overlaps {
+            canvas,
+            sample,
+            sums,
+            rect: *rect,
+            count: filled_count(canvas, rect),
+            runs,
+            levels,
+        })
+    }
+}
+
+impl BoxErrors for Overlaps<'_> {
+    ghost use Rattle.patch_place.specs.Overlaps.{AreOverlaps, IsOverlap};
+
+    ghost error = { λ o. error_of o.canvas.now.map o.sample.now };
+
+    ghost IsReady = { AreOverlaps };
+
+    ghost MayAsk = { IsOverlap };
+
+    fn count(&self) -> u32 {
+        // They are asked for only to show the check that these are a map and a volume.
+        let _map = self.canvas.map();
+        let _samples = self.sample.samples();
+        self.count
+    }
+
+    #[inline(always)]
+    fn sum_within(&self, placement: &Placement, limit: u64) -> Option<u64> {
+        self.runs
+            .error_sum_within(self.canvas, self.sample, placement, limit)
+    }
+
+    fn eliminate(
+        &self,
+        placement: &Placement,
+        part: u32,
+        limit: u64,
+        pauses: &mut Pauses,
+    ) -> Eliminated {
+        let from = placement.from;
+        self.levels.eliminate(
+            self.sums,
+            self.canvas,
+            self.sample,
+            &placement.rect,
+            part,
+            from,
+            limit,
+            pauses,
+        )
+    }
+
+    fn hints(&self) -> u32 {
+        HINTS
+    }
+
+    fn hint(&self, i: u32) -> Option<At> {
+        if i >= HINTS {
+            return None;
+        }
+        hint_at(self.canvas, &self.rect, spread_step(self.rect.size, i))
+    }
+}

@@ -1,0 +1,8 @@
+use Rattle.search_squares.specs.Eliminations.{error_from}
+use Rattle.search_squares.proofs.levels.BoxLevels.eliminate.Goals as goal
+
+pub returns-in_default : goal.returns-in_default
+returns-in_default c = c.none.ensures (error_from c.args.canvas.now c.args.sample.now c.args.rect.now)
+
+pub returns-then-n-eq0 : goal.returns-then-n-eq0
+returns-then-n-eq0 c = c.none-then-n-eq0.ensures (error_from c.args.canvas.now c.args.sample.now c.args.rect.now)

@@ -15,7 +15,7 @@ pub struct Error {
 /// hundredths of it.
 pub fn within(tol: u32, best: &Error, other: &Error) -> bool
     requires counts { (1 ≤ best.now.count) × (1 ≤ other.now.count) }
-    requires sums { (best.now.sum ≤ 2 ^ 48) × (other.now.sum ≤ 2 ^ 48) }
+    requires sums { (best.now.sum ≤ 2 ^ 56) × (other.now.sum ≤ 2 ^ 56) }
     ensures { result ≡ is_within tol best.now other.now }
 {
     // The counts are multiplied over to the other side, so that no error is rounded.

@@ -7,7 +7,7 @@ use Rattle.cells.specs.declared.place.At.{At}
 use Rattle.cells.specs.declared.place.Size.{Size}
 use Rattle.cells.specs.declared.place.Box3.{Box3}
 use Rattle.cells.specs.Boxes.{AxisHolds, HasCells, HoldsBox}
-use Rattle.cells.specs.Cells.{Cells, sizes_of}
+use Rattle.cells.specs.Cells.{Cells, Holds, sizes_of}
 use Rattle.cells.specs.Places.{cell_count, index_in, place_of, spot}
 use Rattle.cells.specs.SizeLists.{size_of_part, stock_place}
 use Rattle.cells.proofs.BoxLaws.{step_of}

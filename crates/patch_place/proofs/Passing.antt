@@ -59,6 +59,12 @@ along_spot x y f j = λ k. record { x = further x j k; y = stay y k; f = stay f 
     stay : (n : ℕ) → pos n +ℤ pos 0 ≡ pos n
     stay n = omega (arith, ints)
 
+-- the box laid from the place of the walk may be asked for
+pub spot_asked : (MayAsk : Placement → Type 0) (rect : Box3) (sizes : List Size) (n : ℕ) (part free : Size) → slice_get sizes n ≡ Some part → free ≡ room part rect.size → All MayAsk (lists_from (fit_list rect) sizes 1 sizes) → (i : ℕ) (place : Spot) → i < cell_count free
+    → IsSpotAt free (frames_to_part sizes n) i place → (from : At) → from ≡ spot place.x place.y place.f → MayAsk (laid_from rect from)
+spot_asked MayAsk rect sizes n part free at room_is asked i place below here from from_is =
+    room_fits_there MayAsk sizes n rect part free i (laid_from rect from) at room_is (room_entry sizes n rect free i place below here ∙ ap (λ p. Some (laid_from rect p)) (sym from_is)) asked
+
 -- a walk over the places of a box in a part, at one of them, from which on some are eliminated
 module _ (error : Placement → Error) (MayAsk : Placement → Type 0) (count : ℕ) (counted : AreCounted error MayAsk count) (rect : Box3) (sizes : List Size) (n : ℕ) (part free : Size) (at : slice_get sizes n ≡ Some part) (room_is : free ≡ room part rect.size)
     (asked : All MayAsk (lists_from (fit_list rect) sizes 1 sizes)) (i : ℕ) (place : Spot) (here : IsSpotAt free (frames_to_part sizes n) i place) (below : i < cell_count free) (gone : ℕ) (row : place.x + gone ≤ free.w) where

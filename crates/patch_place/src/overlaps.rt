@@ -54,15 +54,16 @@ fn spread_step(size: Size, i: u32) -> At
     }
 }
 
-// The place from which a box goes on with what stands at a cell of it, a step from its corner. None
-// where the cell is unfilled.
-fn hint_at(canvas: &Canvas, rect: &Box3, step: At) -> Option<At>
+// The place from which a box goes on with what stands at one of 16 cells of it. None where the cell is
+// unfilled.
+fn hint_at(canvas: &Canvas, rect: &Box3, i: u32) -> Option<At>
     requires some { HasCells rect.now.size }
     requires inside { HoldsBox canvas.now.map.size rect.now.corner rect.now.size }
-    requires step { IsShortStep step }
+    requires few { i < 16 }
 {
     // It is asked for only to show the check that this is a map.
     let map = canvas.map();
+    let step = spread_step(rect.size, i);
     let source = map.at(rect.corner.plus(step))?;
     Some(source.minus(step))
 }
@@ -152,6 +153,6 @@ impl BoxErrors for Overlaps<'_> {
         if i >= HINTS {
             return None;
         }
-        hint_at(self.canvas, &self.rect, spread_step(self.rect.size, i))
+        hint_at(self.canvas, &self.rect, i)
     }
 }

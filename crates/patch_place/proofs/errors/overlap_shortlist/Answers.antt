@@ -8,14 +8,14 @@ use Rattle.patch_place.specs.Tables.{IsShortlistOf}
 use Rattle.patch_place.proofs.Limits.{box_has_cells, box_inside, overlaps_asked}
 use Rattle.patch_place.proofs.errors.overlap_shortlist.Goals as goal
 
-pub gather-overlaps-requires-clause-cells : goal.gather-overlaps-requires-clause-cells
-gather-overlaps-requires-clause-cells c = box_has_cells c.args.canvas.now.map.size c.args.sample.now c.args.rect.now c.requires.some c.requires.fit
+pub gather-requires-clause-cells : goal.gather-requires-clause-cells
+gather-requires-clause-cells c = box_has_cells c.args.canvas.now.map.size c.args.sample.now c.args.rect.now c.requires.some c.requires.fit
 
-pub gather-overlaps-requires-clause-inside : goal.gather-overlaps-requires-clause-inside
-gather-overlaps-requires-clause-inside c = box_inside c.args.canvas.now.map.size c.args.sample.now c.args.rect.now c.requires.some c.requires.fit
+pub gather-requires-clause-inside : goal.gather-requires-clause-inside
+gather-requires-clause-inside c = box_inside c.args.canvas.now.map.size c.args.sample.now c.args.rect.now c.requires.some c.requires.fit
 
 pub box_shortlist-requires-clause-cells : goal.box_shortlist-requires-clause-cells
-box_shortlist-requires-clause-cells c = gather-overlaps-requires-clause-cells c
+box_shortlist-requires-clause-cells c = box_has_cells c.args.canvas.now.map.size c.args.sample.now c.args.rect.now c.requires.some c.requires.fit
 
 pub box_shortlist-requires-clause-asked : goal.box_shortlist-requires-clause-asked
 box_shortlist-requires-clause-asked c =

@@ -1,4 +1,4 @@
-use Rattle.std.proofs.Common.{◌≡◌, ◌≤◌, ◌<◌, ◌+◌, ◌++◌, map, take, ap, sym, subst, ◌∙◌, arith}
+use Rattle.std.proofs.Common.{◌≡◌, ◌≤◌, ◌<◌, ◌+◌, ◌++◌, map, take, ap, rules, sym, subst, ◌∙◌, arith}
 use Rattle.std.specs.Prelude.{Some, slice_get}
 use Rattle.search_squares.specs.Eliminations.{AreEliminatedBy}
 use Rattle.cells.specs.Places.{cell_count}
@@ -9,23 +9,33 @@ use Rattle.patch_place.specs.BoxErrors.{sum_from}
 use Rattle.patch_place.specs.Counts.{entries_before, room_entries}
 use Rattle.patch_place.specs.Lists.{fit_list}
 use Rattle.patch_place.specs.Tables.{IsLimitOf, IsSeenTo, IsShortlist}
-use Rattle.patch_place.proofs.Passing.{in_row, run_passed}
+use Rattle.patch_place.proofs.Passing.{in_row, run_passed, spot_asked}
 use Rattle.patch_place.proofs.Walking.{row_within}
-use Rattle.patch_place.proofs.BoxWalk.{box_few, box_step, errors_all, errors_more, room_entry, room_fits_there}
+use Rattle.patch_place.proofs.BoxWalk.{box_few, box_step, errors_all, errors_more, room_entry}
 use Rattle.patch_place.proofs.shortlist.Shortlist.add_part.Goals as goal
+
+pub entries-init : goal.entries-init
+entries-init g c = record {
+  short = search rules;
+  sound = search rules;
+  limited = search rules;
+  seen = search rules;
+  within = search rules;
+  tol = search rules;
+  known = search rules;
+  run = c.none-skips.ensures (sum_from (g.E.BoxErrors.error c.args.errors.now) c.args.rect.now);
+  spot = search rules;
+}
 
 pub go_to-requires-clause-asked : goal.go_to-requires-clause-asked
 go_to-requires-clause-asked g c =
-    let P = g.E.BoxErrors.MayAsk c.args.errors.now in
-    let sizes = c.args.sizes.now in
-    let entry = laid_from c.args.rect.now c.place.result in
-    let at : slice_get (room_entries c.args.rect.now sizes c.args.n c.room-free.result) c.entries.done ≡ Some entry =
-    room_entry sizes c.args.n c.args.rect.now c.room-free.result c.entries.done c.entries.spot (omega (arith, c.place_count-all.ensures, c.entries-test.true)) c.entries.invariant.spot
-    ∙ ap (λ p. Some (laid_from c.args.rect.now p)) (sym c.place.ensures) in
-    room_fits_there P sizes c.args.n c.args.rect.now c.part_after.result c.room-free.result c.entries.done entry c.part_after.ensures.size c.room-free.ensures.room at c.requires.asked
+    spot_asked (g.E.BoxErrors.MayAsk c.args.errors.now) c.args.rect.now c.args.sizes.now c.args.n c.part_after.result c.room-free.result c.part_after.ensures.size c.room-free.ensures.room c.requires.asked c.entries.done c.entries.spot
+    (omega (arith, c.place_count-all.ensures, c.entries-test.true)) c.entries.invariant.spot c.place.result c.place.ensures
 
 pub add_one-requires-clause-asked : goal.add_one-requires-clause-asked
-add_one-requires-clause-asked g c = go_to-requires-clause-asked g c
+add_one-requires-clause-asked g c =
+    spot_asked (g.E.BoxErrors.MayAsk c.args.errors.now) c.args.rect.now c.args.sizes.now c.args.n c.part_after.result c.room-free.result c.part_after.ensures.size c.room-free.ensures.room c.requires.asked c.entries.done c.entries.spot
+    (omega (arith, c.place_count-all.ensures, c.entries-test.true)) c.entries.invariant.spot c.place.result c.place.ensures
 
 pub add_one-requires-clause-few : goal.add_one-requires-clause-few
 add_one-requires-clause-few g c =

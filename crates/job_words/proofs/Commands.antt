@@ -17,6 +17,7 @@ pub record IsUnknown (command : List ℕ) : Type 0 where
   pub upgrade : command ≢ codes "upgrade"
   pub tile : command ≢ codes "tile"
   pub merge : command ≢ codes "merge"
+  pub transfer : command ≢ codes "transfer"
 
 abbrev answer : WordFault → Result Job WordFault
 answer fault = Err fault
@@ -32,4 +33,5 @@ unknown (command ∷ words) d le is =
     let upgrade : same_text command (codes "upgrade") ≡ false = same_not command (codes "upgrade") is.upgrade in
     let tile : same_text command (codes "tile") ≡ false = same_not command (codes "tile") is.tile in
     let merge : same_text command (codes "merge") ≡ false = same_not command (codes "merge") is.merge in
-    rw (grow, quilt, loops, check, trial, upgrade, tile, merge) refl
+    let transfer : same_text command (codes "transfer") ≡ false = same_not command (codes "transfer") is.transfer in
+    rw (grow, quilt, loops, check, trial, upgrade, tile, merge, transfer) refl

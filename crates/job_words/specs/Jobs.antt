@@ -1,7 +1,7 @@
 -- The job of a list of words, or its first refusal. To be trusted: contracts cite it. (Own.)
 use Rattle.std.specs.Prelude.{ℕ, List, [], ◌∷◌, Result, Ok, Err, codes, if◌then◌else◌}
 use Rattle.job_words.specs.declared.job.Job.{Job}
-use Rattle.job_words.specs.declared.job.Job.TheVariants.{Grow, Quilt, Loop, Check, Trial, Upgrade, Tile, Merge}
+use Rattle.job_words.specs.declared.job.Job.TheVariants.{Grow, Quilt, Loop, Check, Trial, Upgrade, Tile, Merge, Transfer}
 use Rattle.job_words.specs.declared.job.WordFault.{WordFault}
 use Rattle.job_words.specs.declared.job.WordFault.TheVariants.{NoCommand, UnknownCommand}
 use Rattle.job_words.specs.Texts.{same_text}
@@ -12,6 +12,7 @@ use Rattle.job_words.specs.LoopWords.{IsLoopJob, loop_job_of}
 use Rattle.job_words.specs.MergeWords.{IsMergeJob, merge_job_of}
 use Rattle.job_words.specs.QuiltWords.{IsQuiltJob, quilt_job_of}
 use Rattle.job_words.specs.TileWords.{IsTileJob, tile_job_of}
+use Rattle.job_words.specs.TransferWords.{IsTransferJob, transfer_job_of}
 use Rattle.job_words.specs.TrialWords.{IsTrialJob, trial_job_of}
 use Rattle.job_words.specs.UpgradeWords.{IsUpgradeJob, upgrade_job_of}
 
@@ -40,6 +41,9 @@ tile_asked words = and_then (λ job. Ok (Tile job)) (tile_job_of words)
 abbrev pub merge_asked : List (List ℕ) → Result Job WordFault
 merge_asked words = and_then (λ job. Ok (Merge job)) (merge_job_of words)
 
+abbrev pub transfer_asked : List (List ℕ) → Result Job WordFault
+transfer_asked words = and_then (λ job. Ok (Transfer job)) (transfer_job_of words)
+
 -- the first word names the command
 abbrev pub job_of : List (List ℕ) → Result Job WordFault
 job_of [] = Err NoCommand
@@ -52,6 +56,7 @@ job_of (command ∷ words) =
     else if same_text command (codes "upgrade") then upgrade_asked words
     else if same_text command (codes "tile") then tile_asked words
     else if same_text command (codes "merge") then merge_asked words
+    else if same_text command (codes "transfer") then transfer_asked words
     else Err UnknownCommand
 
 -- each job that words ask for: its values are in the ranges of their keys, and its names differ
@@ -64,3 +69,4 @@ IsJob (Trial job) = IsTrialJob job
 IsJob (Upgrade job) = IsUpgradeJob job
 IsJob (Tile job) = IsTileJob job
 IsJob (Merge job) = IsMergeJob job
+IsJob (Transfer job) = IsTransferJob job

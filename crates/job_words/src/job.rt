@@ -10,6 +10,7 @@ use crate::merge::MergeJob;
 use crate::name::{Name, Names16};
 use crate::quilt::QuiltJob;
 use crate::tile::TileJob;
+use crate::transfer::TransferJob;
 use crate::trial::TrialJob;
 use crate::upgrade::UpgradeJob;
 use cells::Axis;
@@ -41,6 +42,7 @@ pub enum Job {
     Upgrade(UpgradeJob),
     Tile(TileJob),
     Merge(MergeJob),
+    Transfer(TransferJob),
 }
 
 /// Why words ask for no job. Words are counted from 1; the command is number 1.

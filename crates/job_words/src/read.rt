@@ -1,7 +1,7 @@
 // All words of a run, in the order in which their refusals are tried.
 ghost use Rattle.std.specs.Prelude.{◌≡◌, ◌⊎◌, ◌<◌, ◌++◌, ◌∷◌, [], Ok, Err, IfOk, IfErr, OnOk, length, option_copied};
 ghost use Rattle.job_words.specs.Words as by;
-ghost use Rattle.job_words.specs.Jobs.{IsJob, check_asked, grow_asked, job_of, loop_asked, merge_asked, quilt_asked, tile_asked, trial_asked, upgrade_asked};
+ghost use Rattle.job_words.specs.Jobs.{IsJob, check_asked, grow_asked, job_of, loop_asked, merge_asked, quilt_asked, tile_asked, transfer_asked, trial_asked, upgrade_asked};
 
 use crate::check::read_check;
 use crate::grow::read_grow;
@@ -14,6 +14,7 @@ use crate::quilt::read_quilt;
 use crate::settings::{Setting, Value, read_setting, value_at};
 use crate::table::{Choice, Need, Row};
 use crate::tile::read_tile;
+use crate::transfer::read_transfer;
 use crate::trial::read_trial;
 use crate::upgrade::read_upgrade;
 use std::alloc::{AllocError, Global};
@@ -195,6 +196,14 @@ fn merge_asked(alloc: Global, words: &[Name]) -> Result<Job, WordFault>
     Ok(Job::Merge(read_merge(alloc, words)?))
 }
 
+// The job of the words after `transfer`.
+fn transfer_asked(alloc: Global, words: &[Name]) -> Result<Job, WordFault>
+    ensures exact { by.AnswersAs (transfer_asked words.now) result }
+    ensures lawful { IfOk result IsJob }
+{
+    Ok(Job::Transfer(read_transfer(alloc, words)?))
+}
+
 /// The job that words ask for, or the first of their refusals: the command is tried first, then word
 /// by word, with all refusals of a word before the next word, and last the keys that no word sets.
 /// Only `NoMemory` may come at any place.
@@ -214,6 +223,7 @@ pub fn read_job(alloc: Global, words: &Words) -> Result<Job, WordFault>
         "upgrade" => upgrade_asked(alloc, words),
         "tile" => tile_asked(alloc, words),
         "merge" => merge_asked(alloc, words),
+        "transfer" => transfer_asked(alloc, words),
         _ => Err(WordFault::UnknownCommand),
     }
 }

@@ -5,7 +5,7 @@ use test_stage::{ONE_CELL, refused, wrong_words};
 
 const REFUSED: &[(&str, u8, &str)] = &[
     ("", 2, "weave: no command\n"),
-    ("transfer", 2, "weave: unknown command\n"),
+    ("transfer", 2, "weave: missing key sample\n"),
     ("sample=s grow", 2, "weave: unknown command\n"),
     ("grow", 2, "weave: missing key sample\n"),
     ("grow sample", 2, "weave: word 2: not key=value\n"),

@@ -6,7 +6,7 @@ use Rattle.shelf_core.proofs.FileLaws.{told_weaker}
 use Rattle.job_words.specs.declared.job.Job.{Job}
 use Rattle.job_words.specs.declared.check.CheckJob.{CheckJob}
 use Rattle.job_words.specs.declared.trial.TrialJob.{TrialJob}
-use Rattle.job_words.specs.declared.job.Job.TheVariants.{Grow, Quilt, Loop, Check, Trial, Upgrade, Tile, Merge}
+use Rattle.job_words.specs.declared.job.Job.TheVariants.{Grow, Quilt, Loop, Check, Trial, Upgrade, Tile, Merge, Transfer}
 use Rattle.job_words.specs.Jobs.{IsJob, job_of}
 use Rattle.synth_report.specs.declared.summary.Summary.{Summary}
 use Rattle.command.specs.Commands.{HasOneAnswer}
@@ -27,6 +27,9 @@ use Rattle.quilt_command.proofs.QuiltLaws.{quilt_has_one_answer, quilt_told, qui
 use Rattle.tile_command.specs.TileHeadlines.{IsOneTiling, IsToldOfTiling, OneTile, TileHeadline}
 use Rattle.tile_command.proofs.OneTiles.{one_tile}
 use Rattle.tile_command.proofs.TileLaws.{tile_has_one_answer, tile_told}
+use Rattle.transfer_command.specs.TransferHeadlines.{HaveSameInput as TransferInput, IsToldOfTransfer, IsTransferredRun, OneTransfer, TransferHeadline, TransferReport}
+use Rattle.transfer_command.proofs.OneTransfers.{one_transfer}
+use Rattle.transfer_command.proofs.TransferLaws.{transfer_has_one_answer, transfer_told, transferred_run}
 use Rattle.upgrade_command.specs.Upgraded.{UpgradeHeadline}
 use Rattle.upgrade_command.proofs.Headline.{finished}
 use Rattle.upgrade_command.proofs.Reading.{upgrade_has_one_answer}
@@ -53,6 +56,7 @@ one_answer (Trial job) lawful = trial_has_one_answer job
 one_answer (Upgrade job) lawful = upgrade_has_one_answer job
 one_answer (Tile job) lawful = tile_has_one_answer job
 one_answer (Merge job) lawful = merge_has_one_answer job
+one_answer (Transfer job) lawful = transfer_has_one_answer job
 
 one_ok : (words : List (List ℕ)) (a b : Job) → job_of words ≡ Ok a → job_of words ≡ Ok b → a ≡ b
 one_ok words a b p q = let both : Ok a ≡ Ok b = sym p ∙ q in cc
@@ -159,6 +163,21 @@ module _ (words : List (List ℕ)) (was now : ShelfState) (out out' err err' : S
   merge_reported job asks zero =
       let its = done_of (Merge job) asks zero in
       (its.summary, its.told, then_of (Merge job) its (IsOneMergeReport job its.summary) (one_merge_report job its.lawful its.summary))
+
+  -- the headline of `transfer`, its one output, and its report
+  pub transfer_headline : TransferHeadline words was now status
+  transfer_headline job asks zero = let its = done_of (Transfer job) asks zero in then_of (Transfer job) its (IsTransferredRun job) (transferred_run job its.lawful its.summary)
+
+  pub transfer_once : OneTransfer words was now status
+  transfer_once job asks zero =
+      let its = done_of (Transfer job) asks zero in
+      then_of (Transfer job) its (λ before after. (earlier later : Files) → TransferInput job earlier before → IsTransferredRun job earlier later → HaveSameQuilt job.names later after)
+      (one_transfer job its.lawful its.summary)
+
+  pub transfer_reported : TransferReport words was now out out' status
+  transfer_reported job asks zero =
+      let its = done_of (Transfer job) asks zero in
+      (its.summary, its.told, then_of (Transfer job) its (IsToldOfTransfer job its.summary) (transfer_told job its.lawful its.summary))
 
   -- what `check` says
   pub check_headline : CheckHeadline words was now out out' status

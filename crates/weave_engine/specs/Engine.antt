@@ -1,5 +1,5 @@
 -- The commands of weave. To be trusted: contracts cite these words. (Own.)
-use Rattle.job_words.specs.declared.job.Job.TheVariants.{Grow, Quilt, Loop, Check, Trial, Upgrade, Tile, Merge}
+use Rattle.job_words.specs.declared.job.Job.TheVariants.{Grow, Quilt, Loop, Check, Trial, Upgrade, Tile, Merge, Transfer}
 use Rattle.command.specs.Outcomes.{Commands}
 use Rattle.check_command.specs.Checks.{check_command}
 use Rattle.loop_command.specs.Loops.{loop_command}
@@ -9,6 +9,7 @@ use Rattle.upgrade_command.specs.Upgrades.{upgrade_command}
 use Rattle.grow_command.specs.Growths.{grow_command}
 use Rattle.trial_command.specs.Trials.{trial_command}
 use Rattle.tile_command.specs.Tilings.{tile_command}
+use Rattle.transfer_command.specs.Transfers.{transfer_command}
 
 -- the command of a job
 abbrev pub command_of : Commands
@@ -20,3 +21,4 @@ command_of (Trial job) = trial_command job
 command_of (Upgrade job) = upgrade_command job
 command_of (Tile job) = tile_command job
 command_of (Merge job) = merge_command job
+command_of (Transfer job) = transfer_command job

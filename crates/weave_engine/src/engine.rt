@@ -8,6 +8,7 @@ ghost use Rattle.loop_command.specs.LoopHeadlines.{LoopHeadline, OneLoop};
 ghost use Rattle.merge_command.specs.MergeHeadlines.{MergeHeadline, MergeReport, OneMerge};
 ghost use Rattle.quilt_command.specs.QuiltHeadlines.{OneQuiltOutput, QuiltHeadline, QuiltReport};
 ghost use Rattle.tile_command.specs.TileHeadlines.{OneTile, TileHeadline};
+ghost use Rattle.transfer_command.specs.TransferHeadlines.{OneTransfer, TransferHeadline, TransferReport};
 ghost use Rattle.trial_command.specs.TrialHeadlines.{TrialHeadline};
 ghost use Rattle.upgrade_command.specs.Upgraded.{UpgradeHeadline};
 ghost use Rattle.weave_engine.specs.Engine.{command_of};
@@ -23,6 +24,7 @@ use shelf_core::{Shelf, Sink};
 use std::alloc::Global;
 use synth_report::{Fault, Summary};
 use tile_command::tile;
+use transfer_command::transfer_picture;
 use trial_command::trial;
 use upgrade_command::upgrade;
 
@@ -46,6 +48,7 @@ fn run_job<S: Shelf, O: Sink>(
         Job::Upgrade(job) => upgrade(alloc, job, shelf, out),
         Job::Tile(job) => tile(alloc, job, shelf, out),
         Job::Merge(job) => merge_pictures(alloc, job, shelf, out),
+        Job::Transfer(job) => transfer_picture(alloc, job, shelf, out),
     }
 }
 
@@ -171,6 +174,16 @@ pub fn run<S: Shelf, O: Sink, E: Sink>(
     ensures merged { MergeHeadline words.now (S.state shelf.old) (S.state shelf.new) result }
     ensures one_merge { OneMerge words.now (S.state shelf.old) (S.state shelf.new) result }
     ensures merge_report { MergeReport words.now (S.state shelf.old) (S.state shelf.new)
+        (O.state out.old) (O.state out.new) result }
+
+    // With status 0 of `transfer` every output cell is the sample cell that the written map names, in the target's
+    // size; the record is that of the run of the words over sample and target; each of its boundaries is the first
+    // of the least ones through its strip; it stands and replays to the map; and the files are such that `check`
+    // accepts them. All three are a function of the words and the two files, and the report is that of the record
+    // and of how far the output is from the target.
+    ensures transferred { TransferHeadline words.now (S.state shelf.old) (S.state shelf.new) result }
+    ensures one_transfer { OneTransfer words.now (S.state shelf.old) (S.state shelf.new) result }
+    ensures transfer_report { TransferReport words.now (S.state shelf.old) (S.state shelf.new)
         (O.state out.old) (O.state out.new) result }
 {
     let answer = answer(alloc, words, shelf, out);

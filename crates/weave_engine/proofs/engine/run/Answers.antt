@@ -1,7 +1,7 @@
 use Rattle.command.proofs.Promising.{complete_promise, done_promise, keeps_promise, memory_promise, named_promise, others_promise, read_promise, refused_promise, words_promise, write_promise}
 use Rattle.command.proofs.Views.{form_number, limit_number, loop_number}
 use Rattle.weave_engine.specs.Engine.{command_of}
-use Rattle.weave_engine.proofs.Ending.{check_headline, grow_headline, grow_once, grow_reported, known_status, loop_headline, loop_once, merge_headline, merge_once, merge_reported, one_answer, quilt_headline, quilt_once, quilt_reported, tile_headline, tile_once, trial_headline, upgrade_headline}
+use Rattle.weave_engine.proofs.Ending.{check_headline, grow_headline, grow_once, grow_reported, known_status, loop_headline, loop_once, merge_headline, merge_once, merge_reported, one_answer, quilt_headline, quilt_once, quilt_reported, tile_headline, tile_once, transfer_headline, transfer_once, transfer_reported, trial_headline, upgrade_headline}
 use Rattle.weave_engine.proofs.engine.run.Goals as goal
 
 pub returns-clause-ran : goal.returns-clause-ran
@@ -122,3 +122,15 @@ returns-clause-one_merge g c =
 pub returns-clause-merge_report : goal.returns-clause-merge_report
 returns-clause-merge_report g c =
     merge_reported c.args.words.now (g.S.Shelf.state c.args.shelf.now) (g.S.Shelf.state c.answer-answer.new.shelf) (g.O.Sink.state c.args.out.now) (g.O.Sink.state c.answer-answer.new.out) (g.E.Sink.state c.args.err.now) (g.E.Sink.state c.finish.new.err) c.finish.result (returns-clause-ran g c)
+
+pub returns-clause-transferred : goal.returns-clause-transferred
+returns-clause-transferred g c =
+    transfer_headline c.args.words.now (g.S.Shelf.state c.args.shelf.now) (g.S.Shelf.state c.answer-answer.new.shelf) (g.O.Sink.state c.args.out.now) (g.O.Sink.state c.answer-answer.new.out) (g.E.Sink.state c.args.err.now) (g.E.Sink.state c.finish.new.err) c.finish.result (returns-clause-ran g c)
+
+pub returns-clause-one_transfer : goal.returns-clause-one_transfer
+returns-clause-one_transfer g c =
+    transfer_once c.args.words.now (g.S.Shelf.state c.args.shelf.now) (g.S.Shelf.state c.answer-answer.new.shelf) (g.O.Sink.state c.args.out.now) (g.O.Sink.state c.answer-answer.new.out) (g.E.Sink.state c.args.err.now) (g.E.Sink.state c.finish.new.err) c.finish.result (returns-clause-ran g c)
+
+pub returns-clause-transfer_report : goal.returns-clause-transfer_report
+returns-clause-transfer_report g c =
+    transfer_reported c.args.words.now (g.S.Shelf.state c.args.shelf.now) (g.S.Shelf.state c.answer-answer.new.shelf) (g.O.Sink.state c.args.out.now) (g.O.Sink.state c.answer-answer.new.out) (g.E.Sink.state c.args.err.now) (g.E.Sink.state c.finish.new.err) c.finish.result (returns-clause-ran g c)

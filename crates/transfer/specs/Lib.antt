@@ -1,0 +1,5 @@
+pub mod Targets
+pub mod Joined
+pub mod Search
+pub mod Weighing
+pub mod Transfers

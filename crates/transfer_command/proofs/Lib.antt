@@ -1,0 +1,4 @@
+pub mod Naming
+pub mod Planning
+pub mod TransferLaws
+pub mod OneTransfers

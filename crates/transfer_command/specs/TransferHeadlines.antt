@@ -1,0 +1,69 @@
+-- The headline of `transfer`: what stands when it ends with status 0. To be trusted: contracts cite
+-- these words. (Own.)
+use Rattle.std.specs.Prelude.{◌≡◌, ℕ, List, length, Ok}
+use Rattle.shelf_core.specs.Files.{Files, ShelfState, SinkState, Changes, content_of}
+use Rattle.netpbm_p6.specs.declared.picture.Picture.{Picture}
+use Rattle.map_canvas.specs.Maps.{empty_map}
+use Rattle.quilt_run.specs.Costs.{all_boundaries, quilt_cost}
+use Rattle.transfer.specs.Targets.{matched}
+use Rattle.job_words.specs.declared.transfer.TransferJob.{TransferJob}
+use Rattle.job_words.specs.declared.job.Job.TheVariants.{Transfer as TransferOf}
+use Rattle.job_words.specs.Jobs.{job_of}
+use Rattle.synth_report.specs.declared.summary.Summary.{Summary}
+use Rattle.synth_report.specs.declared.summary.Summary.TheVariants.{Transfer}
+use Rattle.command.specs.Writing.{Reported}
+use Rattle.sample_files.specs.Outputs.{FitsOutput}
+use Rattle.block_outputs.specs.BlockHeadlines.{HaveSameOutput, IsQuiltedBy}
+use Rattle.transfer_command.specs.Transfers.{IsTargetIn, transfer_rating, transfer_run_of}
+
+-- the target file stands for a picture of the sample's maxval, whose cells are within the bound of an
+-- output. Out file, map file and record file are those of the run that the words ask for, of the target's
+-- size over the sample, each place of which is picked by the overlap errors and by how far its cells are
+-- from the target's; they stand, which is what `check` tries; and all other files are as before
+pub record IsTransferredRun (job : TransferJob) (before after : Files) : Type 0 where
+  pub target : Picture
+  pub read : IsTargetIn job before target
+  pub within : FitsOutput target.volume.size
+  pub run : IsQuiltedBy (transfer_rating job target) (transfer_run_of job target) job.names
+      before after
+  pub alike : target.maxval ≡ run.output.sample.maxval
+
+-- whenever `transfer` ends with status 0
+abbrev pub TransferHeadline : List (List ℕ) → ShelfState → ShelfState → ℕ → Type 0
+TransferHeadline words was now status =
+    (job : TransferJob) → job_of words ≡ Ok (TransferOf job) → status ≡ 0
+    → Changes was now (IsTransferredRun job)
+
+-- the summary is that of such a run: the target's size, how many blocks and boundaries the records
+-- have, what the boundaries cost, and the sum of the squared differences of all bytes of the output
+-- from those of the target
+pub record IsToldOfTransfer (job : TransferJob) (summary : Summary) (before after : Files)
+    : Type 0 where
+  pub run : IsTransferredRun job before after
+  pub summary_is : summary ≡ Transfer run.target.volume.size (length run.run.records.blocks)
+      (all_boundaries run.run.records.blocks)
+      (quilt_cost run.run.output.sample.volume (empty_map run.target.volume.size)
+      run.run.records.blocks)
+      (matched run.run.output.picture run.target.volume)
+
+-- whenever `transfer` ends with status 0 out has the report of what is written
+abbrev pub TransferReport : List (List ℕ) → ShelfState → ShelfState → SinkState → SinkState → ℕ
+    → Type 0
+TransferReport words was now out out' status =
+    (job : TransferJob) → job_of words ≡ Ok (TransferOf job) → status ≡ 0
+    → (summary : Summary) × Reported summary out out'
+    × Changes was now (IsToldOfTransfer job summary)
+
+-- the files that are read hold the same bytes
+pub record HaveSameInput (job : TransferJob) (one other : Files) : Type 0 where
+  pub sample : content_of one job.names.sample ≡ content_of other job.names.sample
+  pub target : content_of one job.target ≡ content_of other job.target
+
+-- out file, map file and record file are a function of the words, the sample file and the target
+-- file: another run of the words that ends so, from files with the same two, leaves the same
+abbrev pub OneTransfer : List (List ℕ) → ShelfState → ShelfState → ℕ → Type 0
+OneTransfer words was now status =
+    (job : TransferJob) → job_of words ≡ Ok (TransferOf job) → status ≡ 0
+    → Changes was now (λ before after. (earlier later : Files)
+    → HaveSameInput job earlier before
+    → IsTransferredRun job earlier later → HaveSameOutput job.names later after)

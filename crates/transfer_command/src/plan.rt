@@ -1,0 +1,81 @@
+// What is read and computed before a file is begun.
+ghost use Rattle.std.specs.Prelude.{◌≡◌, IfOk};
+ghost use Rattle.cells.specs.Cells.{IsVolume};
+ghost use Rattle.shelf_core.specs.Files.{OnlyReads};
+ghost use Rattle.job_words.specs.TransferWords.{IsTransferJob};
+ghost use Rattle.netpbm_p6.specs.Pictures.{IsSound};
+ghost use Rattle.command.specs.Commands.{names_in};
+ghost use Rattle.command.specs.Outcomes.{Plans};
+ghost use Rattle.transfer_command.specs.Transfers.{IsMadeTransfer, made_summary, transfer_command, transfer_files, transfer_run_of};
+
+use block_outputs::{PictureQuilt, quilt_fault, within_output};
+use block_strips::QuiltPlan;
+use job_words::TransferJob;
+use netpbm_p6::Picture;
+use quilt_run::QuiltRun;
+use sample_files::{read_picture, read_target};
+use shelf_core::Shelf;
+use std::alloc::Global;
+use synth_report::Fault;
+use transfer::transfer_canvas;
+
+/// The pictures that were read, and the target painted with blocks of the sample.
+#[derive(Drop)]
+pub struct Transferred {
+    pub target: Picture,
+    pub quilt: PictureQuilt,
+}
+
+/// What is asked of a transfer.
+pub(crate) fn run_of(job: &TransferJob, target: &Picture) -> QuiltRun
+    requires { IsSound target.now }
+    ensures asked { result ≡ transfer_run_of job.now target.now }
+    ensures volume { IsVolume target.now.volume }
+{
+    QuiltRun {
+        size: target.volume.size(),
+        plan: QuiltPlan {
+            block: job.block,
+            overlap: job.overlap,
+            tol: job.tol,
+        },
+        seed: job.seed,
+    }
+}
+
+/// Reads both pictures, and paints the target with blocks of the sample.
+pub(crate) fn plan<S: Shelf>(
+    alloc: Global,
+    job: &TransferJob,
+    shelf: &mut S,
+) -> Result<Transferred, Fault>
+    requires { IsTransferJob job.now }
+    ensures planned { Plans (transfer_command job.now) (transfer_files job.now) made_summary
+        (S.state shelf.old) (S.state shelf.new) result }
+    ensures made { IfOk result (IsMadeTransfer job.now) }
+    ensures reads { OnlyReads (names_in (transfer_command job.now).reads)
+        (S.state shelf.old) (S.state shelf.new) }
+{
+    let sample = match read_picture(alloc, shelf, &job.names.sample) {
+        Ok(sample) => sample,
+        Err(fault) => return Err(fault),
+    };
+    let target = match read_target(alloc, shelf, sample.maxval, &job.target) {
+        Ok(target) => target,
+        Err(fault) => return Err(fault),
+    };
+    let asked = run_of(job, &target);
+    match within_output(asked.size.w, asked.size.h) {
+        Ok(()) => {}
+        Err(fault) => return Err(fault),
+    }
+    let quilted =
+        match transfer_canvas(alloc, &asked, job.alpha, &target.volume, &sample.volume) {
+            Ok(quilted) => quilted,
+            Err(error) => return Err(quilt_fault(error)),
+        };
+    Ok(Transferred {
+        target,
+        quilt: PictureQuilt { sample, quilted },
+    })
+}

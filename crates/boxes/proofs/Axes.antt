@@ -50,7 +50,7 @@ module _ {A : Type 0} (add : Addition A) where
   pub sum_slide : (len : ℕ) (g : ℕ → A) → add.plus (g 0) (sum_of add len (λ i. g (suc i))) ≡ add.plus (sum_of add len g) (g len)
   sum_slide len g = sym (sum_first len g)
 
-  -- where nothing stands outside a part, the sum is that of the part
+  -- where nothing is outside a part, the sum is that of the part
   pub sum_part : (a len n : ℕ) (g : ℕ → A) → a + len ≤ n → ((i : ℕ) → i < a → g i ≡ add.none) → ((i : ℕ) → a + len ≤ i → i < n → g i ≡ add.none)
       → sum_of add n g ≡ sum_of add len (λ i. g (a + i))
   sum_part a len n g fits before behind =
@@ -61,7 +61,7 @@ module _ {A : Type 0} (add : Addition A) where
       whole : n ≡ (a + len) + (n - (a + len))
       whole = omega arith
 
-  -- where only one term stands, the sum is that term
+  -- where only one term is there, the sum is that term
   pub sum_single : (a n : ℕ) (g : ℕ → A) → a < n → ((i : ℕ) → i < n → (i ≡ a → ⊥) → g i ≡ add.none) → sum_of add n g ≡ g a
   sum_single a n g lt none =
       sum_part a 1 n g (omega arith) (λ i less. none i (omega arith) (λ e. absurd (omega arith))) (λ i more less. none i less (λ e. absurd (omega arith)))

@@ -68,7 +68,8 @@ module _ {A : Type 0} (add : Addition A) where
   pub box_exchange_yf : (size : Size) (g : ℕ → ℕ → ℕ → A) → sum_over add size g ≡ sum_over add (record { w = size.w; h = size.f; f = size.h }) (λ x f y. g x y f)
   box_exchange_yf size g = sum_exchange add size.f size.h _
 
-  -- a part of a box, from its first cell on: where nothing stands outside it, the sum is that of the part
+  -- a part of a box, from its first cell on: where nothing is outside it, the sum is that of the
+  -- part
   pub box_part : (size part : Size) (a b c : ℕ) (g : ℕ → ℕ → ℕ → A) → a + part.w ≤ size.w → b + part.h ≤ size.h → c + part.f ≤ size.f
       → ((x y f : ℕ) → (x < a) ⊎ (a + part.w ≤ x) → g x y f ≡ add.none)
       → ((x y f : ℕ) → (y < b) ⊎ (b + part.h ≤ y) → g x y f ≡ add.none)
@@ -85,7 +86,7 @@ module _ {A : Type 0} (add : Addition A) where
       frame : (f : ℕ) → (f < c) ⊎ (c + part.f ≤ f) → sum_of add size.h (λ y. sum_of add size.w (λ x. g x y f)) ≡ add.none
       frame f out = sum_none add size.h _ (λ y ly. sum_none add size.w _ (λ x lx. out_f x y f out))
 
-  -- where only one term stands, the sum is that term
+  -- where only one term is there, the sum is that term
   pub box_single : (size : Size) (a b c : ℕ) (g : ℕ → ℕ → ℕ → A) → a < size.w → b < size.h → c < size.f
       → ((x y f : ℕ) → x < size.w → y < size.h → f < size.f → ((x ≡ a) × (y ≡ b) × (f ≡ c) → ⊥) → g x y f ≡ add.none)
       → sum_over add size g ≡ g a b c

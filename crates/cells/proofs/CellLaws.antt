@@ -1,4 +1,4 @@
--- What stands at each place of a volume, and after a cell is put in.
+-- What each place of a volume has, also after a cell is put in.
 use Rattle.std.proofs.Common.{◌≡◌, ◌≢◌, ℕ, zero, suc, ◌<◌, List, [], ◌∷◌, length, refl, ap, sym, ◌∙◌, subst, arith, get_or}
 use Rattle.std.specs.Prelude.{Option, Some, None, IsSome, slice_get, slice_set, option_and_then, unwrap_or, All}
 use Rattle.std.proofs.lemmas.Option.{slice_get-get_or}

@@ -1,4 +1,4 @@
--- The cells of a buffer: what stands at an index, in a run, and after a write.
+-- The cells of a buffer: what is at an index, in a run, and after a write.
 use Rattle.std.proofs.Common.{◌≡◌, ℕ, zero, suc, ◌+◌, ◌*◌, ◌-◌, ◌<◌, ◌≤◌, List, ◌∷◌, ◌++◌, length, take, drop, refl, ap, sym, ◌∙◌, arith, append_assoc}
 use Rattle.std.specs.Prelude.{Some, slice_get, slice_index, slice_set}
 use Rattle.std.specs.List.{concat, AllByRecursion}

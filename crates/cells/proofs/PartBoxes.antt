@@ -32,7 +32,7 @@ past_minus size p q = λ k. record { x = p.x -ℤ q.x; y = p.y -ℤ q.y; f = sam
     same : (a b : ℤ) → (a -ℤ pos (size.f + 1)) -ℤ (b -ℤ pos (size.f + 1)) ≡ a -ℤ b
     same a b = omega (arith, ints)
 
--- where a place with an index stands
+-- where a place with an index is
 pub found : (size next : Size) (more : List Size) (p : At) → IsSome (index_from size (next ∷ more) p) → IsInside size p ⊎ IsBehind size next more p (unwrap_or (index_from size (next ∷ more) p) 0)
 found size next more p some =
     elim (split_from size next more p _ (has_index (index_from size (next ∷ more) p) 0 some)) [

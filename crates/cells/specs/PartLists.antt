@@ -11,7 +11,7 @@ use Rattle.cells.specs.SizeLists.{IsPartPlace, size_of_part, stock_place}
 abbrev pub one_part_of : Size → ℕ → List (List ℕ) → Cells
 one_part_of size k cells = record { size = size; more = []; k = k; cells = cells }
 
--- the parts of these sizes, whose cells stand one part after another
+-- the parts of these sizes, whose cells come one part after another
 abbrev pub parts_from : ℕ → Size → List Size → List (List ℕ) → List Cells
 parts_from k size [] cells = one_part_of size k cells ∷ []
 parts_from k size (next ∷ more) cells =

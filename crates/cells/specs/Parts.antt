@@ -1,4 +1,4 @@
--- What a reader has to trust: the parts of a volume. They stand along F, one after another, with
+-- What a reader has to trust: the parts of a volume. They come along F, one after another, with
 -- one empty frame between. (Own.)
 use Rattle.std.specs.Prelude.{◌≡◌, ◌≤◌, ◌<◌, ◌+◌, ◌⊎◌, ℕ, pos, ◌-ℤ◌, List, [], ◌∷◌, length, Option, Some, None}
 use Rattle.std.specs.List.{AllByRecursion}

@@ -4,7 +4,7 @@ ghost use Rattle.cells.specs.declared.place.At.{At};
 ghost use Rattle.cells.specs.Cells.{Cells, IsVolume};
 ghost use Rattle.cells.specs.PartLists.{HasOnePart, IsPartOf, StandsIn, part_numbered};
 
-/// Each part of a volume stands in it with its own cells: the volume has the cell of a place of the part
+/// Each part of a volume lies in it with its own cells: the volume has the cell of a place of the part
 /// at the place that [`crate::Sizes::stock`] gives.
 pub fn parts_stand_in_their_volume()
     ensures part { (v : Cells) (number : ℕ) (part : Cells) →

@@ -113,7 +113,7 @@ impl Sizes {
         requires inside { IsInPart self.now part at }
         ensures { result ≡ stock_place self.now part at }
     {
-        // The size is asked for only to show the check that the place is near.
+        // The size is taken for its contract only: it shows the prover that the place is near.
         let _size = self.at(part);
         let before = frames_before(self.first, self.more.as_slice(), part - 1);
         At {

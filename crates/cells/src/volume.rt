@@ -110,7 +110,8 @@ impl Volume {
         ensures size { result ≡ self.now.size }
         ensures volume { IsVolume self.now }
     {
-        // The slice is taken only to show the check that its items are bytes, as `volume` says.
+        // The slice is taken for its contract only: it shows the prover that its items are bytes,
+        // as `volume` says.
         let bytes = self.bytes.as_slice();
         let size = self.size;
         let _bytes = bytes;
@@ -122,7 +123,8 @@ impl Volume {
         ensures samples { result ≡ self.now.k }
         ensures volume { IsVolume self.now }
     {
-        // The slice is taken only to show the check that its items are bytes, as `volume` says.
+        // The slice is taken for its contract only: it shows the prover that its items are bytes,
+        // as `volume` says.
         let bytes = self.bytes.as_slice();
         let k = self.k;
         let _bytes = bytes;

@@ -1,5 +1,5 @@
 -- A reader has to trust this file. A file that is being read, in the words of contracts: how far it
--- was read, and what stands there. (Own.)
+-- was read, and what is there. (Own.)
 use Rattle.std.specs.Prelude.{◌≡◌, ◌≤◌, ◌<◌, ◌+◌, ◌*◌, ℕ, List, length, take, drop, Bool, true, Option, Some, None, Result, Ok, Err}
 use Rattle.shelf_core.specs.Files.{Files, ShelfState, ReadsRose, content_of}
 use Rattle.shelf_core.specs.declared.fault.FormFault.TheVariants.{Form}
@@ -32,12 +32,12 @@ pub record IsAhead (r : Reading) (bytes : List ℕ) : Type 0 where
 abbrev pub Follows : List ℕ → ShelfState → Reading → Type 0
 Follows name now r = OfFile name now.files (IsAhead r)
 
--- a piece stands at a place
+-- the bytes have a piece at a place
 pub record StandsAt (at : ℕ) (piece bytes : List ℕ) : Type 0 where
   pub is : piece ≡ take (length piece) (drop at bytes)
   pub within : at + length piece ≤ length bytes
 
--- a piece was read that stands at a place, and the reader stands after it
+-- the piece at a place was read, and the reader's place is after it
 pub record Took (name : List ℕ) (at : ℕ) (piece : List ℕ) (now : ShelfState)
     (r : Reading) : Type 0 where
   pub at_is : r.at ≡ at + length piece
@@ -61,7 +61,7 @@ StopsInList name end was now ReadFault = StopsShort name end was now ReadFault
 StopsInList name end was now (Bad fault) = StopsShort name end was now (Bad fault)
 StopsInList name end was now error = ⊥
 
--- the file ends at the reader's place, or a byte stands there
+-- the file ends at the reader's place, or has a byte there
 abbrev pub Stops : List ℕ → ℕ → ShelfState → ShelfState → Result (Unit {0}) ReadError → Type 0
 Stops name at was now (Ok done) = OfFile name now.files (λ bytes. length bytes ≡ at)
 Stops name at was now (Err ReadFault) = ReadsRose name was now

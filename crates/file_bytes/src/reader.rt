@@ -215,7 +215,7 @@ impl FileReader {
         Ok(T::of(&field[..T::WIDTH]))
     }
 
-    /// Whether the file ends here. A byte that stands here is answered by `Form` at its place.
+    /// Whether the file ends here. A byte that is here is answered by `Form` at its place.
     pub fn end<S: Shelf>(&mut self, shelf: &mut S, name: &str) -> Result<(), ReadError>
         requires { Follows name.now (S.state shelf.old) self.old }
         ensures stops { Stops name.now self.old.at (S.state shelf.old) (S.state shelf.new) result }

@@ -1,4 +1,4 @@
--- What was seen of files over several reads, none of which changes them.
+-- What several reads see of the files, which none of them changes.
 use Rattle.std.proofs.Common.{◌≡◌, ℕ, List, subst}
 use Rattle.shelf_core.specs.Files.{Files, ShelfState, OnlyReads, Changes, Rose}
 use Rattle.shelf_core.proofs.FileLaws.{told_then, told_weaker, told_both, rose_later}

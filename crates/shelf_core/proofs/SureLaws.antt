@@ -136,7 +136,7 @@ sized_behind : (name : List ℕ) (es : List (List ℕ × List ℕ)) → position
 sized_behind name es none sized =
     omega (arith, sized, ap size_of (file_behind name [] es none), size_insert (map_of es) name [], ap (taken name) (file_missing name es none), spent_push es (name, []))
 
--- the name stands where it stood
+-- the name is where it was
 stays : (name : List ℕ) (k i : ℕ) (es : List (List ℕ × List ℕ)) (bytes : List ℕ) (d : List ℕ × List ℕ) → position_from (has_name name) k (set es i ((get_or es i d).0, bytes)) ≡ position_from (has_name name) k es
 stays name k i [] bytes d = refl
 stays name k zero (e ∷ es) bytes d = refl
@@ -145,7 +145,7 @@ stays name k (suc i) (e ∷ es) bytes d = ap (cond (has_name name e) (Some k)) (
 position_stays : (name : List ℕ) (i : ℕ) (es : List (List ℕ × List ℕ)) (bytes : List ℕ) → position (has_name name) (set es i ((get_or es i nothing).0, bytes)) ≡ position (has_name name) es
 position_stays name i es bytes = position_from-zero (has_name name) (set es i ((get_or es i nothing).0, bytes)) ∙ stays name 0 i es bytes nothing ∙ sym (position_from-zero (has_name name) es)
 
--- a new name stands last
+-- a name that was missing comes last
 last : (name bytes : List ℕ) (k : ℕ) (es : List (List ℕ × List ℕ)) → position_from (has_name name) k es ≡ None → position_from (has_name name) k (es ++ (name, bytes) ∷ []) ≡ Some (k + length es)
 last name bytes k [] none = ap (λ b. cond b (Some k) None) (texts_ties name name ∙ name_itself name) ∙ ap Some (sym (add-zero k))
 last name bytes k (e ∷ es) none = tested (has_name name e) refl (last name bytes (k + 1) es)

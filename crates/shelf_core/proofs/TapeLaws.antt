@@ -1,4 +1,5 @@
--- Laws of files that stand one after another in one list of bytes: what is found, and what an edit of the bytes changes.
+-- Laws of files that come one after another in one list of bytes: what is found, and what an edit
+-- of the bytes changes.
 use Rattle.std.proofs.Common.{◌≡◌, ℕ, zero, suc, ◌+◌, ◌-◌, ◌<◌, ◌≤◌, List, [], ◌∷◌, ◌++◌, length, get_or, take, drop, refl, sym, ap, ◌∙◌, arith, Bool, true, false, cond, nat_eq, ne_eqb, add-one, zero-add, add-zero, add_assoc, append_assoc, append-nil, take-append-drop, take-add, length-take-le, length-drop, length-append, drop_of_length-le}
 use Rattle.std.proofs.lemmas.List.{drop-drop, nil_from_length}
 use Rattle.std.proofs.Math.ListN.{set}
@@ -10,7 +11,7 @@ use Rattle.std.specs.Cmp.Lexicographic.{pointwise}
 use Rattle.shelf_core.specs.declared.tape.TapeSpan.{TapeSpan}
 use Rattle.shelf_core.specs.Tapes.{has_name, no_span, cut, spent, spanned, nameless, CoversBytes}
 
--- How many bytes stand before a file.
+-- How many bytes come before a file.
 
 more : (k : ℕ) (spans : List TapeSpan) (s : TapeSpan) → k < length spans → s ≡ get_or spans k no_span → spanned (take (suc k) spans) ≡ spanned (take k spans) + (s.name + s.bytes)
 more k [] s lt at = absurd (omega arith)
@@ -39,7 +40,7 @@ spanned_push (x ∷ spans) s = omega (arith, spanned_push spans s)
 
 -- The files.
 
--- the first file, when its name and bytes stand in front
+-- the first file, where its name and bytes come first
 cut_one : (s : TapeSpan) (after : List TapeSpan) (name own back : List ℕ) → s.name ≡ length name → s.bytes ≡ length own → cut (s ∷ after) (name ++ (own ++ back)) ≡ (name, own) ∷ cut after back
 cut_one s after name own back named sized = λ i. (first i, second i) ∷ cut after (rest i)
   where
@@ -55,7 +56,7 @@ cut_one s after name own back named sized = λ i. (first i, second i) ∷ cut af
     rest : drop (s.name + s.bytes) (name ++ (own ++ back)) ≡ back
     rest = sym (drop-drop s.bytes s.name (name ++ (own ++ back))) ∙ ap (drop s.bytes) behind ∙ ap (λ n. drop n (own ++ back)) sized ∙ drop-append_seam own back
 
--- the first file stays whatever stands after it
+-- the first file stays, whatever comes after it
 cut_front : (s : TapeSpan) (after : List TapeSpan) (bytes back : List ℕ) → s.name + s.bytes ≤ length bytes
     → cut (s ∷ after) (take (s.name + s.bytes) bytes ++ back) ≡ (take s.name bytes, take s.bytes (drop s.name bytes)) ∷ cut after back
 cut_front s after bytes back within =
@@ -75,7 +76,7 @@ spent_cut (s ∷ spans) bytes covered =
     let own = length-take-le s.bytes (drop s.name bytes) (omega (arith, length-drop s.name bytes)) in
     omega (arith, rest, name, own, length-drop (s.name + s.bytes) bytes)
 
--- file i stands after those before it
+-- file i comes after those before it
 pub cut_at : (i : ℕ) (spans : List TapeSpan) (bytes : List ℕ) (s : TapeSpan) (d : List ℕ × List ℕ) → i < length spans → s ≡ get_or spans i no_span
     → get_or (cut spans bytes) i d ≡ (take s.name (drop (spanned (take i spans)) bytes), take s.bytes (drop (spanned (take i spans) + s.name) bytes))
 cut_at i [] bytes s d lt at = absurd (omega arith)
@@ -183,7 +184,7 @@ all_named spans bytes none = named spans bytes 0 (sym (position_from-zero (has_n
 
 -- The search by name.
 
--- the file that stands next
+-- the file that comes next
 next : (i start : ℕ) (spans : List TapeSpan) (bytes : List ℕ) → i < length spans
     → cut (drop i spans) (drop start bytes) ≡ (take (get_or spans i no_span).name (drop start bytes), take (get_or spans i no_span).bytes (drop (get_or spans i no_span).name (drop start bytes)))
     ∷ cut (drop (i + 1) spans) (drop (start + ((get_or spans i no_span).name + (get_or spans i no_span).bytes)) bytes)

@@ -11,7 +11,7 @@ use Rattle.shelf_core.proofs.FileLaws.{content_inserted, insert_again, told_then
 front : (first rest text : List ℕ) → first ++ rest ≡ text → first ≡ take (length first) text
 front first rest text whole = sym (take-append_seam first rest) ∙ ap (take (length first)) whole
 
--- what was written and a front of the next piece stand at the front of the whole text
+-- what was written, with a prefix of the next piece, is a prefix of the whole text
 added_front : (text piece rest : List ℕ) (n : ℕ) → (text ++ take n piece) ++ (drop n piece ++ rest) ≡ (text ++ piece) ++ rest
 added_front text piece rest n =
     append_assoc text _ _ ∙ ap (λ more. text ++ more) (sym (append_assoc (take n piece) _ _) ∙ ap (λ p. p ++ rest) (take-append-drop n piece))
@@ -79,7 +79,7 @@ told_more text piece a b c so_far step =
     told_then (λ was now. now ≡ was ++ text) (λ was now. now ≡ was ++ piece) (λ was now. now ≡ was ++ (text ++ piece)) a.bytes b.bytes c.bytes
     (λ x y z first second. second ∙ ap (λ bytes. bytes ++ piece) first ∙ append_assoc x _ _) so_far step
 
--- one more piece was taken in part: a prefix of the whole line stands there, whatever was to follow
+-- one more piece was taken in part: a prefix of the whole line is there, whatever was to follow
 pub told_part : (text piece rest : List ℕ) (a b c : SinkState) → Told a.bytes b.bytes (λ was now. now ≡ was ++ text)
     → Told b.bytes c.bytes (λ was now. IsPrefixAdded was piece now) → Told a.bytes c.bytes (λ was now. IsPrefixAdded was ((text ++ piece) ++ rest) now)
 told_part text piece rest a b c so_far step =

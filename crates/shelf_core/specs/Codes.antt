@@ -1,5 +1,5 @@
 -- No promise rests on this file: how the values of the stores in memory are stored as numbers,
--- pairs and lists, by which two of them are told apart. (Own.)
+-- pairs and lists, which tell any two of them apart. (Own.)
 use Rattle.std.specs.Prelude.{◌≡◌, ℕ, zero, suc, List, Option, refl}
 use Rattle.std.specs.Coded.{Coded, code_by, coded×, coded_ℕ, coded_list, coded_option}
 use Rattle.std.specs.Ordering.{nat_cmp}

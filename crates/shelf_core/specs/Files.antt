@@ -42,7 +42,7 @@ Changes was now step = Told was.files now.files step
 abbrev pub last_count : ℕ
 last_count = 18446744073709551615
 
--- a count has risen, or stands at its last value
+-- a count has risen, or is at its last value
 abbrev pub Rose : ℕ → ℕ → Type 0
 Rose before now = (before < now) ⊎ (last_count ≤ now)
 
@@ -102,11 +102,11 @@ pub record Reads (bytes : List ℕ) (at : ℕ) (into : List ℕ) (n : ℕ) : Typ
   pub count : n ≡ min (length into) (length bytes - at)
   pub read : take n into ≡ take n (drop at bytes)
 
--- some of a piece, from its front, stands after what there was
+-- a prefix of a piece was added to what there was
 abbrev pub IsPrefixAdded : List ℕ → List ℕ → List ℕ → Type 0
 IsPrefixAdded was piece now = (n : ℕ) × (now ≡ was ++ take n piece)
 
--- some of a piece, from its front, stands after the bytes of one file
+-- a prefix of a piece was added to the bytes of one file
 abbrev pub GrowsByPrefix : Files → List ℕ → List ℕ → Files → Type 0
 GrowsByPrefix was name piece now = (n : ℕ)
     × (now ≡ map.insert was name (content_of was name ++ take n piece))

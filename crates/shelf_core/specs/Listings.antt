@@ -26,7 +26,7 @@ abbrev pub due : Call → List ℕ → List Listing → Option ℕ
 due call name listings =
     option_map (λ (listing : Listing). listing.kept) (find (is_due call name) listings)
 
--- the listing after one more call; a spent one stands at 0
+-- the listing after one more call; a spent one stays at 0
 abbrev pub one_call_less : Call → List ℕ → Listing → Listing
 one_call_less call name listing =
     if is_about call name listing

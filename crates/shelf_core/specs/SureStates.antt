@@ -60,7 +60,7 @@ abbrev pub written_over : List (List ℕ × List ℕ) → List ℕ → Bool → 
 written_over files name keeps piece = fin.insert (map_of files) name
     (kept_bytes keeps (content_of (map_of files) name) ++ piece)
 
--- no name stands twice, so that the bytes of all files are those of the map
+-- no name occurs twice, so that the bytes of all files are those of the map
 abbrev pub HasNamesOnce : List (List ℕ × List ℕ) → Type 0
 HasNamesOnce files = size_of (map_of files) ≡ spent files
 

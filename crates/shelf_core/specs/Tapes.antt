@@ -1,4 +1,4 @@
--- The state of a store that never fails: files that stand one after another in one list of bytes.
+-- The state of a store that never fails: files that come one after another in one list of bytes.
 -- (Own.)
 use Rattle.std.specs.Prelude.{◌≡◌, ◌<◌, ◌≤◌, ◌+◌, ℕ, Bool, nat_eq, List, [], ◌∷◌, take, drop, length, if◌then◌else◌}
 use Rattle.std.specs.Cmp.Lexicographic.{pointwise}

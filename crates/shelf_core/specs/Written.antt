@@ -1,5 +1,5 @@
--- A reader has to trust this file. What stands after texts are written to files one after another,
--- and what a sink was given. (Own.)
+-- A reader has to trust this file. What files have after texts are written to them one after
+-- another, and what a sink was given. (Own.)
 use Rattle.std.specs.Prelude.{◌≡◌, ◌⊎◌, ℕ, List, [], ◌∷◌, ◌++◌, take, drop}
 use Rattle.std.specs.FinMap as map
 use Rattle.shelf_core.specs.Files.{Files, ShelfState, SinkState, Told, Changes, Rose, IsPrefixAdded}
@@ -22,8 +22,8 @@ abbrev pub FirstInPart : List (List ℕ × List ℕ) → Files → Files → Typ
 FirstInPart [] was now = now ≡ was
 FirstInPart (piece ∷ pieces) was now = HoldsPart piece.0 piece.1 was now
 
--- the writing stopped at pair i: those before it are whole, it may stand in part, and all else is
--- as before
+-- the writing stopped at pair i: those before it are whole, it may be there in part, and all else
+-- is as before
 abbrev pub StoppedAt : List (List ℕ × List ℕ) → ℕ → Files → Files → Type 0
 StoppedAt pieces i was now = FirstInPart (drop i pieces) (written (take i pieces) was) now
 

@@ -42,7 +42,7 @@ pub enum FormFault {
     NoFrames,
     /// The byte at this place is above the file's greatest sample value.
     Sample(u64),
-    /// The byte at this place stands after the end of the form.
+    /// The byte at this place comes after the end of the form.
     Trailing(u64),
 }
 
@@ -58,7 +58,7 @@ pub enum ReadError {
     /// A number passes its bound.
     #[error("over a limit")]
     Limit { what: What, number: u64, bound: u64 },
-    /// Want of memory.
+    /// Out of memory.
     #[error("no memory")]
     NoMemory,
 }

@@ -53,7 +53,7 @@ impl Model for MemShelf {
     } };
 }
 
-// Where the file of a name stands.
+// Where the file of a name is.
 fn place_of(files: &[MemFile], name: &[u8]) -> Option<usize>
     ensures { result ≡ position (is_named name.now) files.now }
 {

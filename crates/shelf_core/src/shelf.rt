@@ -11,7 +11,7 @@ pub trait Sink {
     /// The bytes written so far, where the sink tells them, and how often a write has failed.
     ghost state: { Self → SinkState };
 
-    /// Writes a piece after what was written. After `Failed` a prefix of the piece may stand there.
+    /// Writes a piece after what was written. After `Failed` a prefix of the piece may be there.
     fn add(&mut self, piece: &[u8]) -> Result<(), Failed>
         ensures added { OnOk result (Told (state self.old).bytes (state self.new).bytes
             (λ was now. now ≡ was ++ piece.now)) }
@@ -48,7 +48,7 @@ pub trait Shelf {
         ensures failed { OnErr result (WritesRose name.now (state self.old) (state self.new)) };
 
     /// Writes a piece after the bytes of a file; a missing one counts as empty. After `Failed` a
-    /// prefix of the piece may stand there.
+    /// prefix of the piece may be there.
     fn add(&mut self, name: &str, piece: &[u8]) -> Result<(), Failed>
         ensures added { OnOk result (Changes (state self.old) (state self.new)
             (Appends name.now piece.now)) }

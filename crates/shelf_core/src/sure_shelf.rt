@@ -39,7 +39,7 @@ impl Model for SureShelf {
     ghost invariant = { λ s. HasNamesOnce s.tape.files };
 }
 
-// Makes a file present, with its bytes or with none, and says where it stands; None where its name
+// Makes a file present, with its bytes or with none, and says where it is; None where its name
 // has no room.
 fn open(tape: &mut Tape, name: &[u8], keeps: bool) -> Option<usize>
     requires { HasNamesOnce tape.old.files }

@@ -1,6 +1,6 @@
 // Files one after another in one buffer, whose memory is taken when it is made.
 //
-// Each file stands as its name and then its bytes; a span has the lengths of both. A write moves
+// Each file is kept as its name and then its bytes; a span has the lengths of both. A write moves
 // the bytes after it, and takes no memory.
 ghost use Rattle.std.specs.Prelude.{◌≡◌, ◌+◌, ◌^◌, ◌<◌, ◌≤◌, ◌++◌, [], ◌∷◌, IfOk, None, position, length, take, drop, vec_len, vec_capacity, slice_index_or, slice_set};
 ghost use Rattle.shelf_core.specs.Tapes.{has_name, no_span, cut, spent, spanned};
@@ -35,7 +35,7 @@ impl Model for Tape {
         (vec_capacity t.spans) };
 }
 
-// How many bytes stand before file i.
+// How many bytes come before file i.
 fn start_of(spans: &[TapeSpan], i: usize) -> usize
     requires within { i ≤ length spans.now }
     requires fits { spanned spans.now < 2 ^ 64 }
@@ -49,7 +49,7 @@ fn start_of(spans: &[TapeSpan], i: usize) -> usize
     start
 }
 
-// Where the bytes of a file stand in the buffer, and how many they are.
+// Where the bytes of a file are in the buffer, and how many they are.
 #[derive(Clone, Copy)]
 struct Place {
     start: usize,

@@ -7,7 +7,7 @@
 //! definitions and the promises in words.
 //!
 //! The search (crate patch_place) and the check of quilts (crate block_strips) both lay boxes by these words,
-//! so that neither has to stand on the other.
+//! so that neither has to depend on the other.
 #![tactic(auto)]
 
 mod axis;

@@ -34,7 +34,7 @@ fn part_turn(samples: &Volume, sizes: &Sizes, number: u32, turn: u32) -> PartTur
     ensures size { result.size ≡ turn_size turn (sample_size sizes.now number) }
     ensures is { IsPartTurn samples.now sizes.now result }
 {
-    // The samples are asked for only to show the check that these are a volume.
+    // The samples are taken for their contract only: it shows the prover that these are a volume.
     let _k = samples.samples();
     PartTurn {
         number,
@@ -83,7 +83,7 @@ fn cell_of<'a>(samples: &'a Volume, sizes: &Sizes, it: PartTurn, at: At) -> &'a 
     requires inside { IsInside it.size at }
     ensures { result.now ≡ turned_cell it.turn (numbered_part samples.now it.number) at }
 {
-    // The samples are asked for only to show the check that these are a volume.
+    // The samples are taken for their contract only: it shows the prover that these are a volume.
     let _k = samples.samples();
     cell_at(samples, source_of(sizes, it.number, it.turn, at))
 }
@@ -110,7 +110,7 @@ fn push_cells(
     Ok(())
 }
 
-// A row of a part that a turn keeps, as it stands in the turned part.
+// A row of a part that a turn keeps, as it is in the turned part.
 fn row_of<'a>(samples: &'a Volume, sizes: &Sizes, it: PartTurn, y: u32, f: u32) -> &'a [u8]
     requires part { IsPartTurn samples.now sizes.now it }
     requires keeps { (it.turn ≡ 0) ⊎ (it.turn ≡ 6) }
@@ -119,7 +119,7 @@ fn row_of<'a>(samples: &'a Volume, sizes: &Sizes, it: PartTurn, y: u32, f: u32) 
     ensures { result.now
         ≡ concat (turned_row it.turn (numbered_part samples.now it.number) y f it.size.w) }
 {
-    // The samples are asked for only to show the check that these are a volume.
+    // The samples are taken for their contract only: it shows the prover that these are a volume.
     let _k = samples.samples();
     samples.row(
         source_of(sizes, it.number, it.turn, spot_of(0, y, f)),

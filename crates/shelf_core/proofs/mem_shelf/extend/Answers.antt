@@ -1,4 +1,4 @@
--- The piece stands after the bytes that were found, or in a file of its own where none was.
+-- The piece comes after the bytes that were found, or in a file of its own where none was.
 use Rattle.std.proofs.Common.{ap, sym, ◌∙◌, refl}
 use Rattle.std.specs.Prelude.{List, position, Result, Ok, Err, OnOk}
 use Rattle.std.specs.declared.alloc.AllocError.{AllocError}

@@ -1,4 +1,4 @@
--- The files passed have other names, and the rest stands after them.
+-- The files passed have other names, and the rest comes after them.
 use Rattle.std.proofs.Common.{◌≡◌, ◌+◌, length, drop}
 use Rattle.std.specs.List.{position_from}
 use Rattle.shelf_core.specs.Tapes.{has_name, cut, spanned}

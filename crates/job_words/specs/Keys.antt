@@ -1,10 +1,10 @@
--- The keys as they stand in words. To be trusted: contracts cite these words. (Own.)
+-- The keys as words spell them. To be trusted: contracts cite these words. (Own.)
 use Rattle.std.specs.Prelude.{ℕ, ◌&&◌, Bool, true, false, nat_eq, List, [], ◌++◌, Option, Some, None, codes, decimal}
 use Rattle.job_words.specs.declared.keys.Key.{Key}
 use Rattle.job_words.specs.declared.keys.Key.TheVariants.{Sample, More, Target, Marks, Out, Map, Record, NewMap, NewRecord, Width, Height, Length, N, Frames, Place, Side, Block, Overlap, Tol, Alpha, Rounds, Seed, Taps, Gap, Wrap, Turns}
 use Rattle.job_words.specs.Texts.{same_text}
 
--- a key as it stands in a word, up to the number of a further sample
+-- a key as a word spells it, up to the number of a further sample
 abbrev pub key_stem : Key → List ℕ
 key_stem Sample = codes "sample"
 key_stem (More n) = codes "sample"
@@ -42,7 +42,7 @@ abbrev pub number_text : Option ℕ → List ℕ
 number_text None = []
 number_text (Some n) = decimal n
 
--- a key as it stands in a word
+-- a key as a word spells it
 abbrev pub key_text : Key → List ℕ
 key_text key = key_stem key ++ number_text (key_number key)
 
@@ -51,6 +51,6 @@ same_number None None = true
 same_number (Some m) (Some n) = nat_eq m n
 same_number m n = false
 
--- keys are told apart by both
+-- keys are the same where both of these are
 abbrev pub same_key : Key → Key → Bool
 same_key a b = same_text (key_stem a) (key_stem b) && same_number (key_number a) (key_number b)

@@ -24,9 +24,9 @@ pub enum Place {
     Grid,
     /// Copies of the whole sample, laid at random.
     Random,
-    /// Copies of the whole sample, laid where they fit what stands there.
+    /// Copies of the whole sample, laid where they fit what is there.
     Whole,
-    /// Patches of the sample that fit what stands there.
+    /// Patches of the sample that fit what is there.
     Sub,
 }
 

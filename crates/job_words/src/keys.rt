@@ -41,7 +41,7 @@ pub enum Key {
 }
 
 impl Key {
-    /// The key as it stands in a word, up to the number of a further sample.
+    /// The key as a word spells it, up to the number of a further sample.
     pub fn stem(self) -> &'static str
         ensures { result.now ≡ key_stem self }
     {
@@ -84,7 +84,7 @@ impl Key {
         }
     }
 
-    // Whether the key stands in a word as this text.
+    // Whether a word spells the key as this text.
     pub(crate) fn has_text(self, text: &str) -> bool
         ensures { result ≡ same_text (key_text self) text.now }
     {

@@ -4,7 +4,7 @@ ghost use Rattle.std.specs.Prelude.{◌≡◌, ◌≤◌, ◌++◌, ◌∷◌, [
 use std::alloc::{AllocError, Global};
 use std::marker::Model;
 
-/// A name of a file, as it stood in its word.
+/// A name of a file, as its word has it.
 #[derive(Drop)]
 pub struct Name {
     text: String,

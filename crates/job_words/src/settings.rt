@@ -196,7 +196,7 @@ fn read_pair(
     })
 }
 
-/// Word number `i` as a setting that stands after others.
+/// Word number `i` as a setting that comes after others.
 pub fn read_setting(
     alloc: Global,
     rows: &[Row],

@@ -10,7 +10,7 @@ use Rattle.shelf_core.proofs.FileLaws.{told_weaker, rose_later}
 use Rattle.shelf_core.proofs.WrittenLaws.{told_nothing, told_more, says_whole, says_stopped}
 use Rattle.synth_report.specs.Telling.{joined_texts, TellsText}
 
--- a piece that was said stands there whole or in part
+-- a piece that was said is there whole or in part
 in_part : (piece : List ℕ) (a b : SinkState) → Says a b piece → Told a.bytes b.bytes (λ before after. IsPrefixAdded before piece after)
 in_part piece a b (inl whole) =
     told_weaker (λ before after. after ≡ before ++ piece) (λ before after. IsPrefixAdded before piece after) a.bytes b.bytes
@@ -18,7 +18,7 @@ in_part piece a b (inl whole) =
 in_part piece a b (inr part) = part.1
 
 module _ {A : Type 0} (text : A → List ℕ) where
-  -- a piece and what stands before and after it
+  -- a piece and what comes before and after it
   around : (pieces : List A) (i : ℕ) (d : A) → i < length pieces → (joined_texts text (take i pieces) ++ text (get_or pieces i d)) ++ joined_texts text (drop (suc i) pieces) ≡ joined_texts text pieces
   around [] i d lt = absurd (omega arith)
   around (p ∷ pieces) zero d lt = refl

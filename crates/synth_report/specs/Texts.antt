@@ -19,7 +19,7 @@ use Rattle.synth_report.specs.declared.fault.Fault.TheVariants.{Words, Form, Unl
 use Rattle.synth_report.specs.declared.summary.Summary.{Summary}
 use Rattle.synth_report.specs.declared.summary.Summary.TheVariants.{Grow, Quilt, Loop, Stands, Fails, Trial, Upgrade, Transfer, Merge, Tile}
 
--- a file as it stands in a line, up to the number of a further sample
+-- a file as a line names it, up to the number of a further sample
 abbrev pub file_stem : FileOf → List ℕ
 file_stem file.Sample = codes "sample"
 file_stem (file.More n) = codes "sample"
@@ -36,7 +36,7 @@ abbrev pub file_number : FileOf → Option ℕ
 file_number (file.More n) = Some n
 file_number part = None
 
--- the number of a further sample as it stands there
+-- the number of a further sample as a line has it
 abbrev pub file_tail : FileOf → List ℕ
 file_tail part = number_text (file_number part)
 

@@ -29,7 +29,7 @@ pub enum FileOf {
 }
 
 impl FileOf {
-    // The file as it stands in a line, up to the number of a further sample.
+    // The file as a line names it, up to the number of a further sample.
     pub(crate) fn stem(self) -> &'static str
         ensures { result.now ≡ file_stem self }
     {

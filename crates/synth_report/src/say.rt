@@ -11,7 +11,7 @@ use cells::Axis;
 use job_words::{Key, WordFault};
 use shelf_core::{FormFault, Sink, What, WriteFault};
 
-// What is counted, as it stands in a line.
+// What is counted, as a line names it.
 fn text_of_what(what: What) -> &'static str
     ensures { result.now ≡ what_text what }
 {
@@ -27,7 +27,7 @@ fn text_of_what(what: What) -> &'static str
     }
 }
 
-// An axis, as it stands in a line.
+// An axis, as a line names it.
 fn text_of_axis(axis: Axis) -> &'static str
     ensures { result.now ≡ axis_text axis }
 {

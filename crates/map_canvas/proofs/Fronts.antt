@@ -1,4 +1,4 @@
--- How far a list is filled from the front.
+-- How far a list is filled from the first entry on.
 use Rattle.std.proofs.Common.{◌≡◌, ℕ, ◌+◌, ◌<◌, ◌≤◌, List, length, get_or, sym, ap, ◌∙◌, arith, ⊎_elim, Bool, true, false}
 use Rattle.std.specs.Prelude.{not}
 use Rattle.std.specs.List.{position_or_len}

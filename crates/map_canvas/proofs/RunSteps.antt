@@ -59,7 +59,7 @@ module _ (m : SourceMap) (canvas : CanvasState) (sample : Cells) (placement : Pl
   along : (j : ℕ) → j < n → i % placement.rect.size.w + j < placement.rect.size.w
   along j lt = omega (arith, row, lt)
 
-  -- where a cell of the run stands in the output and in the sample
+  -- where a cell of the run lies in the output and in the sample
   cell_at_index : (j : ℕ) → j < n → index_in canvas.map.size (box_cell placement (i + j)) ≡ Some (o + j)
   cell_at_index j lt =
       let same = box_cell-along placement i j (along j lt) in

@@ -1,4 +1,4 @@
--- What a reader has to trust: how far a cell of a placement is from what stands there already.
+-- What a reader has to trust: how far a cell of a placement is from what is there already.
 -- (Kwatra et al. 2003 and Efros and Freeman 2001 compare overlapping patches by squared
 -- differences.)
 use Rattle.std.specs.Prelude.{ℕ, Option, Some, None}

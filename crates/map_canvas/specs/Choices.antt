@@ -32,7 +32,7 @@ box_index placement p = index_in placement.rect.size (minus p placement.rect.cor
 abbrev pub new_source : Placement → At → At
 new_source placement p = plus placement.from (minus p placement.rect.corner)
 
--- a new source has a cell in the sample, and may stand in a map
+-- a new source has a cell in the sample, and may be in a map
 pub record IsNewSource (sample : Cells) (from : At) : Type 0 where
   pub cell : HasCell sample from
   pub source : IsSource from

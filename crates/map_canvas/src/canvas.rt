@@ -287,7 +287,7 @@ impl Canvas {
         ensures stands { StandsOver self.new sample.now }
         ensures canvas { IsCanvas self.new }
     {
-        // It is asked for only to show the check that the sample is a volume.
+        // Called for its contract only: it shows the prover that the sample is a volume.
         let _samples = sample.samples();
         fill_choice(
             &mut self.map,

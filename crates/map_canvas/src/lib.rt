@@ -1,4 +1,4 @@
-//! Which sample cell stands at each output cell, and the picture that follows from it.
+//! Which sample cell each output cell was copied from, and the picture that follows from it.
 //!
 //! A canvas keeps a map beside its picture; the contracts say that the picture is the map's picture
 //! (specs/Canvases.antt), and that a choice over a placement leaves the map after it

@@ -1,5 +1,5 @@
 -- A reader has to trust this file. The header of a P6 picture. (Netpbm's PPM, binary form; where a
--- comment may stand is this project's choice: after the magic, the width and the height, with or
+-- comment may come is this project's choice: after the magic, the width and the height, with or
 -- without white space before it.)
 use Rattle.std.specs.Prelude.{◌≡◌, ◌≢◌, ◌≤◌, ◌⊎◌, ◌+◌, ◌-◌, ℕ, List, [], ◌∷◌, ◌++◌, length, All, codes}
 use Rattle.std.specs.List.{AllByRecursion, concat}

@@ -1,5 +1,5 @@
 -- The state of the reader: The scanner of a header, a step for each byte: the reader goes by it.
--- (Own. The grammar that it keeps to stands in Header.antt, and the public promise speaks of the
+-- (Own. The grammar that it keeps to is in Header.antt, and the public promise speaks of the
 -- grammar alone.)
 use Rattle.std.specs.Prelude.{◌≡◌, ◌≤◌, ◌<◌, ◌+◌, ◌*◌, ◌-◌, ℕ, ◌==◌, nat_le, ◌||◌, ◌&&◌, if◌then◌else◌, List, [], ◌∷◌, length, take, Option, Some, None, option_and_then}
 use Rattle.netpbm_p6.specs.declared.scan.ByteKind.{ByteKind}

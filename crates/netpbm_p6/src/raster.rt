@@ -20,7 +20,7 @@ fn is_within(bytes: &[u8], maxval: u8) -> bool
     greatest <= maxval
 }
 
-// Where the first byte above maxval stands.
+// Where the first byte above maxval is.
 fn first_above(bytes: &[u8], maxval: u8) -> Option<usize>
     ensures none { IfNone result (All (λ b. b ≤ maxval) bytes.now) }
     ensures some { IfSome result (IsFirstAbove maxval bytes.now) }

@@ -24,7 +24,7 @@ pub fn read_p6<S: Shelf>(alloc: Global, shelf: &mut S, name: &str) -> Result<Pic
     let header = read_header(shelf, name)?;
     let (size, maxval) = within_limits(&header)?;
     let volume = read_raster(alloc, shelf, name, header.length, maxval, size)?;
-    // It is asked for only to show the check that the picture is a volume.
+    // Called for its contract only: it shows the prover that the picture is a volume.
     let _k = volume.samples();
     Ok(Picture { maxval, volume })
 }

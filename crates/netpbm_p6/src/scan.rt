@@ -31,9 +31,9 @@ pub enum Numbers {
 pub enum Scan {
     /// Before everything.
     Start,
-    /// Behind the `P`.
+    /// After the `P`.
     Letter,
-    /// Behind the magic.
+    /// After the magic.
     Magic,
     /// In a separator, after a whole item.
     Between(Numbers),
@@ -41,7 +41,7 @@ pub enum Scan {
     Comment(Numbers),
     /// In a number, with its value so far.
     Digits(Numbers, u64),
-    /// Behind the header: width, height and maxval.
+    /// After the header: width, height and maxval.
     Whole(u64, u64, u64),
 }
 

@@ -14,7 +14,7 @@ use Rattle.file_bytes.proofs.WritingLaws.{fields_next}
 use Rattle.source_map.specs.Readings.{◌>>=◌, field_read, list_read, number_read, number_rule}
 use Rattle.source_map.proofs.FieldLaws.{behind, chain, field_whole, value_alone}
 
--- wherever the piece stands, the value is read, and the place after it
+-- wherever the piece is, the value is read, and the place after it
 abbrev pub Spells : {A : Type 0} → (ℕ → List ℕ → Result (A × ℕ) ReadError) → List ℕ → A → Type 0
 Spells read piece x = (at : ℕ) (bytes : List ℕ) → StandsAt at piece bytes → read at bytes ≡ Ok (x, at + length piece)
 

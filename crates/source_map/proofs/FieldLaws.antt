@@ -20,7 +20,7 @@ pub weaker : (name : List ℕ) (P Q : List ℕ → Type 0) (files : Option Files
 weaker name P Q None so p = tt
 weaker name P Q (Some files) so p = so (content_of files name) p
 
--- a piece that stands in the bytes is read
+-- a piece that is in the bytes is read
 pub piece_whole : (n at : ℕ) (piece bytes : List ℕ) → length piece ≡ n → StandsAt at piece bytes → piece_read n at bytes ≡ Ok (piece, at + n)
 unfolding piece_read
 piece_whole n at piece bytes count stands =
@@ -34,7 +34,7 @@ piece_short n at place bytes ends short =
     let past : nat_le (at + n) (length bytes) ≡ false = lt-leb (at + n) (length bytes) (omega arith) in
     rw past (ap (λ k. Err (Bad (Form k))) (sym ends))
 
--- a field whose bytes stand there, by its rule
+-- a field whose bytes are there, by its rule
 pub field_whole : {A : Type 0} (n at : ℕ) (rule : ℕ → List ℕ → Result A ReadError) (piece bytes : List ℕ) (result : Result A ReadError) → length piece ≡ n → StandsAt at piece bytes
     → result ≡ rule at piece → field_read n rule at bytes ≡ (result >>= λ x. Ok (x, at + n))
 field_whole n at rule piece bytes result count stands is =

@@ -205,7 +205,7 @@ read_again value lawful =
     let end : nat_eq (length bytes) (0 + length bytes) ≡ true = eq-eqb (length bytes) (0 + length bytes) (omega arith) in
     ap (λ r. r >>= λ v. end_read v.1 bytes >>= λ end. Ok v.0) (value_spells value lawful 0 bytes whole) ∙ rw end refl
 
--- whatever stands after the spelling of a map, the map is read
+-- whatever comes after the spelling of a map, the map is read
 begins : (value : MapFile) → IsMapFile value → (more : List ℕ) → value_read 0 (map_form value ++ more) ≡ Ok (value, 0 + length (map_form value))
 begins value lawful more =
     let bytes = map_form value ++ more in

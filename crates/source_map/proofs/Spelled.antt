@@ -14,13 +14,13 @@ use Rattle.shelf_core.specs.declared.fault.ReadError.TheVariants.{Bad}
 use Rattle.file_bytes.specs.Fields.{field_16, field_32}
 use Rattle.source_map.specs.Readings.{◌>>=◌, AreBytes, field_read, list_read, number_read, number_rule, piece_read}
 
--- from one place to another the piece stands
+-- from one place to another there is the piece
 pub record Stood (at end : ℕ) (piece bytes : List ℕ) : Type 0 where
   pub is : piece ≡ take (length piece) (drop at bytes)
   pub end_is : end ≡ at + length piece
   pub within : end ≤ length bytes
 
--- whatever is read of bytes stands there as its field
+-- whatever is read of bytes is spelled there by its field
 abbrev pub Spelled : {A : Type 0} → (ℕ → List ℕ → Result (A × ℕ) ReadError) → (A → List ℕ) → Type 0
 Spelled {A = A} read field = (at : ℕ) (bytes : List ℕ) (x : A) (end : ℕ) → AreBytes bytes → at ≤ length bytes → read at bytes ≡ Ok (x, end) → Stood at end (field x) bytes
 

@@ -37,7 +37,7 @@ count_field Two n = field_16 n
 abbrev pub sizes_field : Version → List Size → List ℕ
 sizes_field version sizes = count_field version (length sizes) ++ flat_map size_field sizes
 
--- what stands before the samples: magic, version, kind and the output's size
+-- what comes before the samples: magic, version, kind and the output's size
 abbrev pub start_form : List ℕ → ℕ → Version → Size → List ℕ
 start_form magic kind version output =
     magic ++ version_number version ∷ kind ∷ [] ++ size_field output

@@ -199,7 +199,7 @@ body_read start at bytes =
     if start.kind == 1 then frames_read start.output at bytes
     else cells_read start.version start.output at bytes
 
--- the file ends here; a byte that stands here is refused at its place
+-- the file ends here; a byte that is here is refused at its place
 abbrev pub end_read : ℕ → List ℕ → Result (Unit {0} × ℕ) ReadError
 end_read at bytes = if length bytes == at then Ok (tt, at) else Err (Bad (Form at))
 

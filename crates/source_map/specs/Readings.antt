@@ -1,5 +1,5 @@
 -- What a reader has to trust: how a list of bytes is read, field by field from a place on. The answer
--- is a value and the place after it, or the first refusal. A number in a field that has no lawful
+-- is a value and the place after it, or the first refusal. A number in a field that has no valid
 -- value is refused at the field's first byte; a file that ends within a field at the file's length.
 -- (Own.)
 use Rattle.std.specs.Prelude.{◌≡◌, ◌<◌, ◌+◌, ◌++◌, ℕ, zero, suc, All, nat_le, if◌then◌else◌, List, [], ◌∷◌, length, take, drop, Result, Ok, Err}
@@ -56,13 +56,13 @@ IsRefusal ReadFault = ⊥
 IsRefusal NoMemory = ⊥
 IsRefusal refusal = Unit {0}
 
--- a value was read, and the reader stands after it
+-- a value was read, and the reader's place is after it
 pub record Found {A : Type 0} (name : List ℕ) (place : ℕ) (now : ShelfState) (r : Reading)
     (read : ℕ → List ℕ → Result (A × ℕ) ReadError) (x : A) : Type 0 where
   pub follows : Follows name now r
   pub is : OfFile name now.files (λ bytes. read place bytes ≡ Ok (x, r.at))
 
--- what a reader of the named file leaves and answers that stood at a place: what its bytes are read
+-- what a reader of the named file leaves and answers that began at a place: what its bytes are read
 -- as from there on. A read fault has its cause; `memory` is that for out of memory
 abbrev pub ReadsFrom : {A : Type 0} → Type 0 → List ℕ → ℕ → ShelfState → ShelfState → Reading
     → (ℕ → List ℕ → Result (A × ℕ) ReadError) → Result A ReadError → Type 0

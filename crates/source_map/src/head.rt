@@ -60,7 +60,7 @@ fn put_sizes<S: Shelf>(file: &mut FileWriter, sizes: &Sizes, shelf: &mut S, name
     }
 }
 
-// Puts what stands before the sizes of the samples.
+// Puts what comes before the sizes of the samples.
 pub(crate) fn put_start<S: Shelf>(
     file: &mut FileWriter,
     magic: [u8; 8],

@@ -14,7 +14,7 @@ use file_bytes::FileReader;
 use limits::{GREATEST_AXIS, MOST_PARTS};
 use shelf_core::{FormFault, ReadError, Shelf, What};
 
-// What stands before the sizes of the samples.
+// What comes before the sizes of the samples.
 #[derive(Clone, Copy, Drop)]
 pub struct Start {
     pub version: Version,
@@ -223,7 +223,7 @@ pub fn read_size<S: Shelf>(
     Ok(Size { w, h, f })
 }
 
-// Reads what stands before the sizes of the samples.
+// Reads what comes before the sizes of the samples.
 pub(crate) fn read_start<S: Shelf>(
     file: &mut FileReader,
     magic: [u8; 8],
@@ -275,7 +275,7 @@ pub fn read_sizes<S: Shelf>(
     for i in 1..count {
         sizes.add(read_size(file, shelf, name)?);
     }
-    // The count is asked for only to show the check that they are sizes.
+    // The count is taken for its contract only: it shows the prover that they are sizes.
     let _count = sizes.len();
     Ok(sizes)
 }
@@ -308,7 +308,7 @@ pub(crate) fn read_samples<S: Shelf>(
 /// 1 the kinds are those below `kinds`, and in version 2 kind 0 alone. It takes no memory.
 ///
 /// The refusals, in the order of the fields: `Bad(Form)` at the file's length where the file ends within
-/// a field, and else at the first byte of a field that has no lawful value (the magic is one field, each
+/// a field, and else at the first byte of a field that has no valid value (the magic is one field, each
 /// number is one); `Limit Axis` for an axis above 4,096.
 pub fn read_head<S: Shelf>(
     file: &mut FileReader,

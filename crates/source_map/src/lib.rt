@@ -1,4 +1,4 @@
-//! The files of maps: which sample cell stands at each output cell, as bytes.
+//! The files of maps: which sample cell each output cell was copied from, as bytes.
 //!
 //! The contracts say which bytes the file of a map has (specs/MapFiles.antt). Maps, and the canvases that
 //! keep them beside their pictures, are those of the crate map_canvas, named here again.

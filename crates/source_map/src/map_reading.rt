@@ -497,7 +497,7 @@ fn read_value<S: Shelf>(
 /// the sources come.
 ///
 /// The refusals, in the order of the fields: `Bad(Form)` at the file's length where the file ends within
-/// a field, and else at the first byte of a field that has no lawful value (the magic is one field, each
+/// a field, and else at the first byte of a field that has no valid value (the magic is one field, each
 /// number is one); `Limit Axis` (4,096) for an axis of the output or of a sample; `Limit Cells` (2^20)
 /// after the last sample size of a cell map; and `Bad(Form)` at the first byte that follows the last
 /// field. `ReadFault` comes wherever a read fails, and `NoMemory` may come at any place.

@@ -31,7 +31,7 @@ use Rattle.turned_map.specs.declared.turned_file.TurnedFile.{TurnedFile}
 use Rattle.turned_map.specs.TurnedFiles.{turned_body_read, turned_field, turned_map_form, turned_map_read, turned_samples_read, turned_sizes_read, turned_source, turned_source_read, turned_sources_read, turned_start_read, turned_value_read}
 use Rattle.turned_map.proofs.Entries.{entry_of_place}
 
--- what stands before the samples
+-- what comes before the samples
 mark_code : (at n x : ℕ) → same_rule 2 at n ≡ Ok x → n ≡ 2
 mark_code at n x is = eqb-true n 2 (passed (nat_eq n 2) n x (Bad (Form at)) is).0
 

@@ -75,7 +75,7 @@ pub record IsTurnedFileOf (bytes : List ℕ) (value : TurnedFile) : Type 0 where
   pub lawful : IsTurnedFile value
   pub spelled : bytes ≡ turned_map_form value.map value.samples
 
--- what stands before the samples, of which the output's size alone is known
+-- what comes before the samples, of which the output's size alone is known
 abbrev pub turned_start_read : ℕ → List ℕ → Result (Size × ℕ) ReadError
 turned_start_read at bytes =
     field_read 8 (magic_rule map_magic) at bytes >>= λ magic.

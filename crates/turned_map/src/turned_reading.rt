@@ -23,7 +23,7 @@ use source_map::{read_place, read_size, read_sizes};
 use std::alloc::Global;
 use turned::{MOST_TURNED, Turned, turned_place, turned_sizes};
 
-// Reads what stands before the sizes of the samples, of which the output's size is kept.
+// Reads what comes before the sizes of the samples, of which the output's size is kept.
 fn read_start<S: Shelf>(file: &mut FileReader, shelf: &mut S, name: &str) -> Result<Size, ReadError>
     requires follows { Follows name.now (S.state shelf.old) file.old }
     requires room { file.old.at + 22 < 2 ^ 63 }
@@ -238,7 +238,7 @@ fn read_value<S: Shelf>(
 /// come, which are given as places of the turned samples.
 ///
 /// The refusals, in the order of the fields: `Bad(Form)` at the file's length where the file ends within
-/// a field, and else at the first byte of a field that has no lawful value (the magic is one field, each
+/// a field, and else at the first byte of a field that has no valid value (the magic is one field, each
 /// number is one), so at 8 for another version than 2, at 9 for another kind than 2, and at the count of
 /// samples where it isn't 1 or 2; `Limit Axis` (4,096) for an axis of the output or of a sample;
 /// `Limit Cells` (2^20) after the last sample size; and `Bad(Form)` at the first byte that follows the last

@@ -175,7 +175,7 @@ judged_sound text count (Ended n) is = tested (nat_lt MOST_LINE_BYTES n) refl
     tested true e = tt
     tested false e = (omega (arith, length-take-le n text is.inside, ap length whole.is, length-append magic whole.rest, some_continues [] is.line.0 whole.rest whole.continues), ltb-false MOST_LINE_BYTES n e)
 
--- the line that was found stands in what was scanned
+-- the line that was found is in what was scanned
 pub judged_line : (buffer : List ℕ) (count : ℕ) (scanned : ScannedLine) → IsStreamScanned (take count buffer) scanned → count ≤ length buffer → IfOk (line_judged count scanned) (λ n. IsLineOf (take n buffer))
 judged_line buffer count Open is le = tested (nat_lt MOST_LINE_BYTES count)
   where

@@ -26,7 +26,7 @@ later_or : (p q : Bool) → q ≡ true → p || q ≡ true
 later_or true q e = refl
 later_or false q e = e
 
--- every letter but W and H that has stood in the second list has stood in the first
+-- every letter but W and H that is in the second list is in the first
 abbrev StandsLess : List ℕ → List ℕ → Type 0
 StandsLess letters fewer = (l : ℕ) → is_axis l ≡ false → has_stood fewer l ≡ true → has_stood letters l ≡ true
 
@@ -60,7 +60,7 @@ axes_stay letter letters both = stay (letter == 87) (letter == 72) (has_stood le
     stay false true true true e = refl
     stay false false true true e = refl
 
--- Tags that stand after W and H.
+-- Tags that come after W and H.
 
 pub carried_stand : (letters fewer : List ℕ) (tags : List (List ℕ)) (text : List ℕ) → Continues letters tags text → StandsLess letters fewer → has_axes fewer ≡ true
     → Continues fewer (carried tags) (spaced (carried tags) ++ codes "\n")

@@ -1,4 +1,4 @@
--- A frame breaks at one place at most, and not where a whole frame stands.
+-- A frame breaks at one place at most, and not where a whole frame is.
 use Rattle.std.proofs.Common.{◌≡◌, ◌≢◌, ℕ, zero, suc, ◌≤◌, ◌<◌, ◌+◌, ◌⊎◌, inl, inr, List, [], ◌∷◌, ◌++◌, length, take, drop, get_or, refl, sym, ap, ◌∙◌, subst, arith, append_assoc, ⊎_elim}
 use Rattle.std.specs.Prelude.{codes}
 use Rattle.std.specs.List.{AllByRecursion}
@@ -79,7 +79,7 @@ line_front n line is le = split (cases_lt n (length line))
     split (inl less) = inl (line_shorter n line is less)
     split (inr more) = inr (subst IsFrameLine (sym (take_all n line more)) is)
 
--- after FRAME and a blank any byte may stand
+-- after FRAME and a blank any byte may come
 open_more : (b : ℕ) (text : List ℕ) → IsOpenFrameLine text → 6 ≤ length text → IsFrameLinePrefix (text ++ b ∷ [])
 open_more b text (inl start) long = absurd (omega (arith, ap length start.1, length-append text start.0))
 open_more b text (inr start) long = split (cases_eq b 10)
@@ -106,7 +106,7 @@ one_line_break rest i j a b =
     ⊎_elim (λ less. absurd (break_first rest i j a b.before b.inside less))
     (λ ge. ⊎_elim (λ more. absurd (break_first rest j i b a.before a.inside more)) (λ le. omega arith) (cases_lt j i)) (cases_lt i j)
 
--- a whole line stands, and so no line breaks
+-- there is a whole line, and so no line breaks
 pub line_unbroken : (rest line part : List ℕ) (i : ℕ) → rest ≡ line ++ part → IsFrameLine line → FrameLineBreaks rest i → ⊥
 line_unbroken rest line part i is whole breaks = split (cases_lt i (length line))
   where
@@ -127,7 +127,7 @@ line_unbroken rest line part i is whole breaks = split (cases_lt i (length line)
         let joins : line ++ drop (length line) (take i rest) ≡ take i rest = ap (λ t. t ++ drop (length line) (take i rest)) (sym same) ∙ take-append-drop (length line) (take i rest) in
         no_line_open line (drop (length line) (take i rest)) whole (subst IsOpenFrameLine (sym joins) breaks.before)
 
--- nor is it too long, where a whole line stands within the bound
+-- nor is it too long, where there is a whole line within the bound
 pub line_not_long : (rest line part : List ℕ) → rest ≡ line ++ part → IsFrameLine line → length line ≤ MOST_LINE_BYTES → FrameLineTooLong rest → ⊥
 line_not_long rest line part is whole short long =
     let same : take (length line) (take MOST_LINE_BYTES rest) ≡ line

@@ -112,7 +112,7 @@ positive : (w h : ℕ) → 1 ≤ w → 1 ≤ h → 1 ≤ w * h
 positive w zero some least = absurd (omega arith)
 positive w (suc h) some least = omega (arith, mul-suc h w)
 
--- one frame at least may stand
+-- there may be one frame at least
 pub some_frames : (w h most : ℕ) → 1 ≤ w → 1 ≤ h → w * h ≤ most → 1 ≤ most_frames w h most
 some_frames w h most some least fits =
     let n = positive w h some least in

@@ -13,7 +13,7 @@ use Rattle.shelf_core.specs.Decimals.{IsDigit}
 use Rattle.y4m_clip.specs.StreamLine.{IsInk, is_axis, MayHaveValue, IsTagValue, has_stood, Continues}
 use Rattle.y4m_clip.specs.Scanning.{line_kind, no_letters, with_letter, may_follow, line_ended, tag_entered, in_gap, in_value, in_number, line_step, line_run}
 
--- which letters have stood
+-- which letters have come
 abbrev pub flags_of : List ℕ → Letters
 flags_of letters = record {
   w = has_stood letters 87;
@@ -24,7 +24,7 @@ flags_of letters = record {
   c = has_stood letters 67;
 }
 
--- the rest of a stream line, by the letters that have stood
+-- the rest of a stream line, by the letters that have come
 abbrev pub Goes : Letters → List (List ℕ) → List ℕ → Type 0
 Goes s [] text = (s.w && s.h ≡ true) × (n : ℕ) × (text ≡ replicate n 32 ++ 10 ∷ [])
 Goes s ([] ∷ tags) text = ⊥

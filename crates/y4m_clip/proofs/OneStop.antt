@@ -38,7 +38,7 @@ all-drop P zero xs each = each
 all-drop P (suc n) [] each = tt
 all-drop P (suc n) (x ∷ xs) each = all-drop P n xs each.1
 
--- a whole short frame stands at the front of a rest
+-- a rest begins with a whole short frame
 record HasNext (kind : SpaceKind) (w h : ℕ) (rest : List ℕ) : Type 0 where
   frame : Frame
   more : List ℕ

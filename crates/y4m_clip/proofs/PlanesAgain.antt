@@ -63,7 +63,7 @@ get_of_part n m i j part each below fits =
 
 -- The cells of a volume.
 
--- where the cell at x, y of frame f stands, and that it has k samples
+-- where the cell at x, y of frame f is, and that it has k samples
 record Stands (v : Cells) (f y x : ℕ) : Type 0 where
   here : written_cell v f y x ≡ get_or v.cells (x + v.size.w * (y + v.size.h * f)) []
   long : length (written_cell v f y x) ≡ v.k

@@ -60,7 +60,7 @@ pub record HasFrameLine (rest : List ℕ) (n : ℕ) : Type 0 where
   pub is_line : IsFrameLine (take n rest)
   pub short : n ≤ MOST_LINE_BYTES
 
--- what stands at a place of a file
+-- what is at a place of a file
 abbrev pub IsFrameFound : List ℕ → ℕ → Result (Option ℕ) ReadError → Type 0
 IsFrameFound rest at (Ok None) = rest ≡ []
 IsFrameFound rest at (Ok (Some n)) = HasFrameLine rest n
@@ -96,7 +96,7 @@ FillsPlanesAs name start planes was now (Err (Bad (Form place))) =
     × (place ≡ start + length (drop start bytes)))
 FillsPlanesAs name start planes was now (Err error) = ⊥
 
--- a frame stands at a place of a file, and another place is after it
+-- a frame is at a place of a file, and another place is after it
 pub record HasFrame (kind : SpaceKind) (w h : ℕ) (bytes : List ℕ) (at next : ℕ)
     (planes : List ℕ) : Type 0 where
   pub frame : Frame
@@ -128,7 +128,7 @@ abbrev pub grown_by : List ℕ → List ℕ → Option ℕ → List ℕ
 grown_by old cells None = old
 grown_by old cells (Some next) = old ++ cells
 
--- so many frames stand between two places of a file, with these cells
+-- so many frames lie between two places of a file, with these cells
 pub record FramesSeen (kind : SpaceKind) (w h start : ℕ) (bytes : List ℕ) (count at : ℕ)
     (cells : List ℕ) : Type 0 where
   pub frames : List Frame
@@ -139,7 +139,7 @@ pub record FramesSeen (kind : SpaceKind) (w h start : ℕ) (bytes : List ℕ) (c
   pub is : drop start bytes ≡ frames_text frames ++ drop at bytes
   pub cells_are : cells ≡ flat_map (λ frame. frame_cells kind w h frame.planes) frames
 
--- a byte stands after the greatest number of frames
+-- a byte comes after the greatest number of frames
 abbrev pub PassesFrames : ℕ → ℕ → ℕ → ℕ → ReadError → Type 0
 PassesFrames w h most count (Limit Axis number bound) =
     (count ≡ GREATEST_AXIS) × (number ≡ GREATEST_AXIS + 1) × (bound ≡ GREATEST_AXIS)
@@ -147,7 +147,7 @@ PassesFrames w h most count (Limit CellsLimit number bound) =
     (count < GREATEST_AXIS) × (number ≡ w * h * (count + 1)) × (bound ≡ most)
 PassesFrames w h most count error = ⊥
 
--- after so many frames, a fact of their count, of the place after them and of what stands there
+-- after so many frames, a fact of their count, of the place after them and of what is there
 pub record After (kind : SpaceKind) (w h start : ℕ) (bytes : List ℕ)
     (Holds : ℕ → ℕ → List ℕ → Type 0) : Type 0 where
   pub count : ℕ
@@ -202,7 +202,7 @@ pub record IsFilledSoFar (front : Front) (most : ℕ) (filled : Filled) : Type 0
   pub whole : length filled.bytes.items
       ≡ samples_of front.form.space * front.w * front.h * filled.count
 
--- whether a byte stands in the rest of a file
+-- whether the rest of a file has a byte
 abbrev pub StandsIf : Bool → List ℕ → Type 0
 StandsIf true rest = 1 ≤ length rest
 StandsIf false rest = rest ≡ []

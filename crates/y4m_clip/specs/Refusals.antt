@@ -119,7 +119,7 @@ pub record FrameLineTooLong (rest : List ℕ) : Type 0 where
   pub longer : MOST_LINE_BYTES < length rest
   pub starts : IsOpenFrameLine (take MOST_LINE_BYTES rest)
 
--- after the frames that may stand, a fact of what follows
+-- after the frames that a clip may have, a fact of what follows
 pub record Behind (bytes : List ℕ) (most : ℕ)
     (Holds : Fronted bytes most → List ℕ → ℕ → Type 0) : Type 0 where
   pub front : Fronted bytes most
@@ -133,7 +133,7 @@ pub record Behind (bytes : List ℕ) (most : ℕ)
 abbrev pub bound_of : {bytes : List ℕ} {most : ℕ} → Fronted bytes most → ℕ
 bound_of {bytes} {most} front = most_frames (width_of front) (height_of front) most
 
--- a frame that may still stand breaks at a place of the file
+-- a frame that the clip may still have breaks at a place of the file
 abbrev pub FrameBreaks : (bytes : List ℕ) → ℕ → ℕ → Type 0
 FrameBreaks bytes most at = Behind bytes most (λ front rest count. (count < bound_of front)
     × ((i : ℕ) × (at ≡ length bytes - length rest + i) × (FrameLineBreaks rest i
@@ -143,7 +143,7 @@ abbrev pub FrameHeaderTooLong : List ℕ → ℕ → Type 0
 FrameHeaderTooLong bytes most = Behind bytes most (λ front rest count.
     (count < bound_of front) × FrameLineTooLong rest)
 
--- a byte stands after the greatest number of frames, which is the bound of an axis
+-- a byte comes after the greatest number of frames, which is the bound of an axis
 abbrev pub TooManyFrames : List ℕ → ℕ → Type 0
 TooManyFrames bytes most = Behind bytes most (λ front rest count.
     (count ≡ bound_of front) × (1 ≤ length rest) × (bound_of front ≡ GREATEST_AXIS))

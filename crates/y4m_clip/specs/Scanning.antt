@@ -1,5 +1,5 @@
 -- The state of the reader: the scanner of a stream line after its magic, a step for each byte. (Own.
--- The grammar that it keeps to stands in StreamLine.antt, and the public promise speaks of that alone.)
+-- The grammar that it keeps to is in StreamLine.antt, and the public promise speaks of that alone.)
 use Rattle.std.specs.Prelude.{◌≡◌, ◌≢◌, ◌≤◌, ◌<◌, ◌+◌, ◌-◌, ℕ, ◌==◌, nat_le, nat_lt, Bool, false, not, ◌||◌, ◌&&◌, if◌then◌else◌, List, [], ◌∷◌, length, take, Option, Some, None, option_and_then}
 use Rattle.y4m_clip.specs.declared.scan.LineKind.{LineKind}
 use Rattle.y4m_clip.specs.declared.scan.LineKind.TheVariants.{Blank, LineEnd, Ink}

@@ -1,5 +1,5 @@
 -- A reader has to trust this file. The stream line of a clip: which texts are one, and with which
--- tags. (YUV4MPEG2; that the letters W, H, F, I, A and C stand once at most, and that other values
+-- tags. (YUV4MPEG2; that the letters W, H, F, I, A and C occur once at most, and that other values
 -- may be empty, is this project's choice.)
 use Rattle.std.specs.Prelude.{◌≡◌, ◌≢◌, ℕ, suc, ◌==◌, nat_lt, Bool, true, false, not, ◌&&◌, ◌||◌, List, [], ◌∷◌, ◌++◌, replicate, codes}
 use Rattle.std.specs.List.{AllByRecursion, list_any}
@@ -27,27 +27,27 @@ MayHaveValue false value = AllByRecursion IsInk value
 abbrev pub IsTagValue : ℕ → List ℕ → Type 0
 IsTagValue letter value = MayHaveValue (is_axis letter) value
 
--- a tag with this letter stands before
+-- a tag with this letter comes before
 abbrev pub has_stood : List ℕ → ℕ → Bool
 has_stood [] letter = false
 has_stood (l ∷ letters) letter = l == letter || has_stood letters letter
 
--- a letter stands again
+-- a letter comes again
 abbrev pub again : List ℕ → ℕ → ℕ → Bool
 again letters letter once = letter == once && has_stood letters once
 
--- a letter may stand after those of the tags before it: W, H, F, I, A and C stand once at most
+-- a letter may come after those of the tags before it: W, H, F, I, A and C occur once at most
 abbrev pub may_stand : List ℕ → ℕ → Bool
 may_stand letters letter =
     not (again letters letter 87 || again letters letter 72 || again letters letter 70
     || again letters letter 73 || again letters letter 65 || again letters letter 67)
 
--- W and H have stood
+-- W and H have come
 abbrev pub has_axes : List ℕ → Bool
 has_axes letters = has_stood letters 87 && has_stood letters 72
 
 -- the rest of a stream line, after tags with these letters, has these tags: each with one or more
--- blanks before it; at the end stand any number of blanks and LF
+-- blanks before it; at the end come any number of blanks and LF
 abbrev pub Continues : List ℕ → List (List ℕ) → List ℕ → Type 0
 Continues letters [] text =
     (has_axes letters ≡ true) × (n : ℕ) × (text ≡ replicate n 32 ++ 10 ∷ [])

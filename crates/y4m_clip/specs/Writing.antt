@@ -13,7 +13,7 @@ use Rattle.y4m_clip.specs.StreamLine.{Continues}
 use Rattle.y4m_clip.specs.Spaces.{cell_width, cell_height, samples_of, joined_to}
 use Rattle.y4m_clip.specs.Clips.{spaced, span, HasSpaceKind}
 
--- a form that can be written: tags that may stand after W and H in a stream line, that give the
+-- a form that can be written: tags that may come after W and H in a stream line, that give the
 -- form's colour kind and an interlacing that is read, and that are no longer than their bound
 pub record IsForm (form : ClipForm) : Type 0 where
   pub stand : Continues (codes "HW") form.tags (spaced form.tags ++ codes "\n")

@@ -26,7 +26,7 @@ pub enum FrameScan {
     Whole(usize),
 }
 
-// Where the first LF stands.
+// Where the first LF is.
 fn end_of(words: &[u8]) -> Option<usize>
     ensures none { IfNone result (AllByRecursion (λ b. b ≢ 10) words.now) }
     ensures some { IfSome result (IsFirstEnd words.now) }

@@ -48,7 +48,7 @@ fn past(w: u32, h: u32, most: u64, count: u64) -> ReadError
     }
 }
 
-// Whether a byte stands at a place of the file.
+// Whether the file has a byte at a place.
 fn goes_on<S: Shelf>(shelf: &mut S, name: &str, at: u64) -> Result<bool, ReadError>
     ensures stands { IfOk result (λ more. InFile name.now (S.state shelf.old) (S.state shelf.new)
         (λ bytes. StandsIf more (drop at bytes))) }

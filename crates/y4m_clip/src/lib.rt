@@ -1,6 +1,6 @@
 //! Clips in YUV4MPEG2, with planes of 8 bits.
 //!
-//! The grammar stands in specs/StreamLine.antt, specs/Spaces.antt and specs/Clips.antt, as a relation
+//! The grammar is in specs/StreamLine.antt, specs/Spaces.antt and specs/Clips.antt, as a relation
 //! between a whole list of bytes and a clip, the place of each refusal in specs/Refusals.antt, and the
 //! writer's form in specs/Writing.antt. `read_clip` promises the clip or the refusal, `ClipWriter` the
 //! writer's form, and `one_reading` that a list of bytes stands for one clip at most or has one refusal

@@ -132,7 +132,7 @@ fn gather(
     }
 }
 
-// The tags of what stands after the magic of a stream line.
+// The tags of what comes after the magic of a stream line.
 fn gather_all(alloc: Global, text: &[u8]) -> Result<Vec<Items<u8>>, AllocError>
     ensures { IfOk result (λ tags. tags.items ≡ gathered [] text.now) }
 {

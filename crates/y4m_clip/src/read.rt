@@ -44,7 +44,7 @@ fn made_of(front: Front, filled: Filled, most: u64) -> Clip
 /// `Limit Header` for the carried tags (4,000 bytes); `Limit Axis` (4,096), the width before the height;
 /// `Limit Cells`, where one frame passes `most`; `Bad(NoFrames)`; and then in the order of the bytes
 /// `Bad(Form)` in a frame, `Limit Header` for a frame line (4,096 bytes), and `Limit Axis` or
-/// `Limit Cells` where a byte stands after the greatest number of frames. `NoMemory` may come at any
+/// `Limit Cells` where a byte comes after the greatest number of frames. `NoMemory` may come at any
 /// place.
 pub fn read_clip<S: Shelf>(
     alloc: Global,

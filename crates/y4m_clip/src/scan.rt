@@ -11,7 +11,7 @@ pub enum LineKind {
     Ink,
 }
 
-/// Which of the letters that stand once at most have stood.
+/// Which of the letters that may occur once at most have occurred.
 #[derive(Clone, Copy)]
 pub struct Letters {
     pub w: bool,
@@ -25,15 +25,15 @@ pub struct Letters {
 /// A place in a stream line, with the letters of the tags before it.
 #[derive(Clone, Copy)]
 pub enum LineScan {
-    /// Behind the magic.
+    /// After the magic.
     Magic,
-    /// Behind a blank.
+    /// After a blank.
     Gap(Letters),
     /// In a tag other than W and H.
     Value(Letters),
     /// In the number of W or H, of which some digit isn't 0 or none is yet.
     Number(Letters, bool),
-    /// Behind the line.
+    /// After the line.
     Whole,
 }
 
@@ -72,7 +72,7 @@ impl Letters {
         }
     }
 
-    // One more tag has stood.
+    // One more tag has come.
     fn with(self, letter: u8) -> Letters
         ensures { result ≡ with_letter self letter }
     {
@@ -86,7 +86,7 @@ impl Letters {
         }
     }
 
-    // The letter may stand in the next tag.
+    // The next tag may have this letter.
     fn allow(self, letter: u8) -> bool
         ensures { result ≡ may_follow self letter }
     {
@@ -190,7 +190,7 @@ fn step(scan: LineScan, byte: u8) -> Option<LineScan>
     }
 }
 
-/// Scans what stands after the magic.
+/// Scans what comes after the magic.
 pub fn scan_line(text: &[u8]) -> ScannedLine
     ensures scanned { IsLineScanned text.now result }
     ensures sound { IsSoundLine (length text.now) result }

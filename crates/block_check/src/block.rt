@@ -3,7 +3,7 @@ use map_canvas::Placement;
 use strip_boundary::BoundaryRecord;
 
 /// A block of a quilt: where it is laid, and the boundaries through the strips that it shares with what
-/// stands before it (Efros and Freeman, SIGGRAPH 2001).
+/// is there before it (Efros and Freeman, SIGGRAPH 2001).
 #[derive(Drop)]
 pub struct BlockRecord {
     /// The block's box of the output, and the sample place that comes to its corner.

@@ -79,7 +79,7 @@ fn cell_at(placement: &Placement, i: usize, canvas: &Canvas, sample: &Volume) ->
     requires below { i < cell_count placement.now.rect.size }
     ensures { result ≡ box_cell placement.now i }
 {
-    // It is asked for only to show the check that this is a canvas.
+    // Called for its contract only: it shows the prover that this is a canvas.
     let _map = canvas.map();
     placement.rect.corner.plus(placement.rect.size.place_at(i))
 }
@@ -116,7 +116,7 @@ fn first_unlike(
     ensures { FirstWithout (cell_count placement.now.rect.size)
         (IsSharedAt canvas.now.map placement.now left top) result }
 {
-    // It is asked for only to show the check that this is a canvas.
+    // Called for its contract only: it shows the prover that this is a canvas.
     let _map = canvas.map();
     for i in 0..placement.rect.size.cells() {
         if !is_shared(canvas, sample, placement, left, top, i) {
@@ -152,7 +152,7 @@ fn check_join(
     requires formed { HasColumnsOn side placement.now boundary.now }
     ensures { ChecksJoin side canvas.now.map sample.now placement.now boundary.now result }
 {
-    // It is asked for only to show the check that this is a canvas.
+    // Called for its contract only: it shows the prover that this is a canvas.
     let _map = canvas.map();
     let cols = cols_on(side, placement, boundary);
     let Some(boundary) = boundary else {
@@ -204,7 +204,7 @@ pub fn check_block(
             place: 0,
         }));
     }
-    // It is asked for only to show the check that this is a canvas.
+    // Called for its contract only: it shows the prover that this is a canvas.
     let _map = canvas.map();
     let left = cols_on(Side::Left, placement, &block.left);
     let top = cols_on(Side::Top, placement, &block.top);

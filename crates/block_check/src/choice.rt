@@ -78,7 +78,7 @@ pub fn put_block(
     ensures canvas { IsCanvas canvas.new }
     ensures kept { OnErr result (canvas.new ≡ canvas.old) }
 {
-    // They are asked for only to show the check that these are a map and a volume.
+    // Called for their contracts only: they show the prover that these are a map and a volume.
     let _map = canvas.map();
     let _samples = sample.samples();
     let choice = new_cells(alloc, block)?;

@@ -56,7 +56,7 @@ fn replay_block(
     ensures over { StandsOver canvas.new sample.now }
     ensures canvas { IsCanvas canvas.new }
 {
-    // It is asked for only to show the check that this is a canvas.
+    // Called for its contract only: it shows the prover that this is a canvas.
     let _map = canvas.map();
     check_block(alloc, canvas, sample, block)?;
     put_block(alloc, canvas, sample, block)?;
@@ -108,7 +108,7 @@ pub fn replay_blocks(
     ensures over { StandsOver canvas.new sample.now }
     ensures canvas { IsCanvas canvas.new }
 {
-    // It is asked for only to show the check that this is a canvas.
+    // Called for its contract only: it shows the prover that this is a canvas.
     let _map = canvas.map();
     replay_each(alloc, canvas, sample, blocks)
 }

@@ -1,5 +1,5 @@
 -- A reader has to trust this file. The strips of a block, as tables of errors. (Efros and Freeman
--- 2001: the overlap of a block with what stands before it, left of it and above.)
+-- 2001: the overlap of a block with what is there before it, left of it and above.)
 use Rattle.std.specs.Prelude.{◌*◌, ◌/◌, ◌%◌, ℕ, map}
 use Rattle.std.specs.List.{range_with_len}
 use Rattle.cells.specs.declared.place.Size.{Size}
@@ -30,7 +30,7 @@ abbrev pub col_on : Side → ℕ → ℕ → ℕ
 col_on Left x y = x
 col_on Top x y = y
 
--- the error of a strip cell: the sum of the squared differences of the three samples of what stands
+-- the error of a strip cell: the sum of the squared differences of the three samples of what is
 -- in the output before the block, and of what comes with it
 abbrev pub strip_error : Side → SourceMap → Cells → Placement → ℕ → ℕ → ℕ
 strip_error Left m sample placement row col = spot_error m sample placement col row 0

@@ -21,7 +21,7 @@ pub fn next_block_shares_strips(plan: &QuiltPlan, canvas: &Canvas, sample: &Volu
     ensures strips { SharesStrips plan.now sample.now canvas.now.map rect.now }
     ensures more { StaysLaid plan.now sample.now canvas.now.map rect.now }
 {
-    // They are asked for only to show the check that these are a map and a volume.
+    // Called for their contracts only: they show the prover that these are a map and a volume.
     let _map = canvas.map();
     let _size = sample.size();
 }

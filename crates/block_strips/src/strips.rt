@@ -50,8 +50,8 @@ fn squared_difference(sample: &Volume, old: At, new: At) -> u32
     ssd(cell_of(sample, old), cell_of(sample, new)) as u32
 }
 
-// The squared difference of what stands at a cell of a block, by its column and row, and what comes there; 0
-// where nothing stands there.
+// The squared difference of what is at a cell of a block, by its column and row, and what comes
+// there; 0 where nothing is there.
 fn error_at(canvas: &Canvas, sample: &Volume, placement: &Placement, x: u32, y: u32) -> u32
     requires over { StandsOver canvas.now sample.now }
     requires samples { sample.now.k ≡ 3 }
@@ -60,7 +60,7 @@ fn error_at(canvas: &Canvas, sample: &Volume, placement: &Placement, x: u32, y: 
     ensures error { result ≡ spot_error canvas.now.map sample.now placement.now x y 0 }
     ensures small { result ≤ GREATEST_ERROR }
 {
-    // It is asked for only to show the check that the sample is a volume.
+    // Called for its contract only: it shows the prover that the sample is a volume.
     let _samples = sample.samples();
     let map = canvas.map();
     let Some(old) = map.at(place_from(placement.rect.corner, x, y)) else {
@@ -92,8 +92,8 @@ fn strip_error(
     }
 }
 
-/// A strip of a block, with so many strip columns, over what stands before the block: the squared differences
-/// of the output's cells from those of the block. The one error is out of memory.
+/// A strip of a block, with so many strip columns, over what is there before the block: the squared
+/// differences of the output's cells from those of the block. The one error is out of memory.
 pub fn strip_of(
     alloc: Global,
     canvas: &Canvas,
@@ -110,7 +110,7 @@ pub fn strip_of(
     ensures { IfOk result (λ strip. strip
         ≡ strip_of side canvas.now.map sample.now placement.now cols) }
 {
-    // It is asked for only to show the check that this is a map.
+    // Called for its contract only: it shows the prover that this is a map.
     let _map = canvas.map();
     let rows = side.rows(placement.rect.size);
     let count = rows * cols;

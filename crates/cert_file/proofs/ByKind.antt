@@ -1,4 +1,4 @@
--- What stands after a head is read by its kind alone.
+-- What comes after a head is read by its kind alone.
 use Rattle.std.proofs.Common.{◌≡◌, true, ℕ, zero, suc, List, length, refl, sym, ap, ◌∙◌, arith}
 use Rattle.std.proofs.lemmas.Bool.{eqb-true, ltb-true}
 use Rattle.std.specs.Int.{w16, w32, w64}

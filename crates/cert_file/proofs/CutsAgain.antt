@@ -253,7 +253,7 @@ cuts_kind_is : (version : Version) → IsKind kinds version cuts_kind
 cuts_kind_is One = refl
 cuts_kind_is Two = refl
 
--- wherever the piece stands, its value is read where it ends the bytes, and no other value is read
+-- wherever the piece is, its value is read where it ends the bytes, and no other value is read
 pub record EndsAs {A : Type 0} (read : ℕ → List ℕ → Result A ReadError) (piece : List ℕ) (x : A) : Type 0 where
   pub whole : (at : ℕ) (bytes : List ℕ) → StandsAt at piece bytes → length bytes ≡ at + length piece → read at bytes ≡ Ok x
   pub alone : (at : ℕ) (bytes : List ℕ) (other : A) → StandsAt at piece bytes → read at bytes ≡ Ok other → x ≡ other

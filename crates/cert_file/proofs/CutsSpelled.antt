@@ -179,7 +179,7 @@ cut_stood version samples before at bytes cut end small le is =
     (both_stood at d.x.1 e.x.1 (p1 ++ p2 ++ p3 ++ p4) p5 bytes
     (both_stood at c.x.1 d.x.1 (p1 ++ p2 ++ p3) p4 bytes (both_stood at b.x.1 c.x.1 (p1 ++ p2) p3 bytes (both_stood at a.x.1 b.x.1 p1 p2 bytes s1 s2) s3) s4) s5)
 
--- a list, of whose items each is spelled, whatever stands before it
+-- a list, of whose items each is spelled, whatever comes before it
 pub each_stood : {A : Type 0} (read : List A → ℕ → List ℕ → Result (A × ℕ) ReadError) (field : A → List ℕ) → ((front : List A) → Spelled (read front) field) → (n : ℕ) → Spelled (each_read read n) (flat_map field)
 each_stood {A = A} read field one zero at bytes xs end small le is =
     ended {A = List A} (flat_map field) [] xs at at end bytes is (none_stood at bytes le)

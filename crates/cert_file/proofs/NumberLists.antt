@@ -18,7 +18,7 @@ use Rattle.source_map.proofs.Again.{Spells, field_spells, list_spells, spells_16
 use Rattle.source_map.proofs.FieldLaws.{piece_short, weaker}
 use Rattle.cert_file.specs.Rules.{any_rule}
 
--- so many numbers of a width, which stand there
+-- so many numbers of a width, which are there
 record Whole (w : Width) (n at : ℕ) (bytes : List ℕ) : Type 0 where
   xs : List ℕ
   is : list_read (number_read w any_rule) n at bytes ≡ Ok (xs, at + n * byte_len w)

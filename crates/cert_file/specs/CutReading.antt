@@ -113,7 +113,7 @@ cut_read version samples before at bytes =
       flows.1,
     )
 
--- the box has lawful axes, and fits after boxes of so many cells
+-- the box has valid axes, and fits after boxes of so many cells
 pub record IsBoxAfter (before : ℕ) (size : Size) : Type 0 where
   pub axes : IsBoxSize size
   pub cells : before + cell_count size ≤ MOST_BOX_CELLS

@@ -4,7 +4,7 @@ use Rattle.shelf_core.specs.declared.fault.FormFault.TheVariants.{Form}
 use Rattle.shelf_core.specs.declared.fault.ReadError.{ReadError}
 use Rattle.shelf_core.specs.declared.fault.ReadError.TheVariants.{Bad}
 
--- any number may stand there
+-- any number may be there
 abbrev pub any_rule : ℕ → ℕ → Result ℕ ReadError
 any_rule at n = Ok n
 

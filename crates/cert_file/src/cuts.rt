@@ -1,4 +1,4 @@
-// Cut records as they stand in a file.
+// Cut records as a file has them.
 ghost use Rattle.std.specs.Prelude.{◌≡◌, ◌≤◌, ◌<◌, ◌+◌, ◌*◌, ◌^◌, All, Some};
 ghost use Rattle.std.specs.List.{flat_map};
 ghost use Rattle.file_bytes.specs.Writing.{Puts};

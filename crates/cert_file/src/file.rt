@@ -161,7 +161,7 @@ fn read_records<S: Shelf>(
 /// Reads a record file, to its end.
 ///
 /// The refusals, in the order of the fields: `Bad(Form)` at the file's length where the file ends within
-/// a field, else at the first byte of a field that has no lawful value, with the choice of a record as one
+/// a field, else at the first byte of a field that has no valid value, with the choice of a record as one
 /// field, in which no unused bit is set; `Limit Axis` (4,096) at a size of the head; `Limit Records` (2^25
 /// cells of all boxes so far) after the size of a box or a block; for a walk `Limit Frames` (256 of the
 /// sample) after the head, and `Limit Loop` (4,096) after its length. A byte after the last field is

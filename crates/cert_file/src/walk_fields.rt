@@ -11,7 +11,7 @@ use file_bytes::FileReader;
 use limits::{LONGEST_LOOP, MOST_LOOP_FRAMES, WIDEST_GAP};
 use shelf_core::{FormFault, ReadError, Shelf, What};
 
-// What stands before the frames of a walk.
+// What comes before the frames of a walk.
 #[derive(Clone, Copy, Drop)]
 pub struct WalkStart {
     pub length: u32,
@@ -128,7 +128,7 @@ fn read_gap<S: Shelf>(file: &mut FileReader, shelf: &mut S, name: &str) -> Resul
     lawful_gap(n, at)
 }
 
-// Reads what stands before the frames of a walk.
+// Reads what comes before the frames of a walk.
 pub(crate) fn read_walk_start<S: Shelf>(
     file: &mut FileReader,
     shelf: &mut S,

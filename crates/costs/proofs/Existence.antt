@@ -1,4 +1,5 @@
--- There is a lawful choice: the one of the unfilled cells. Where every cell is filled, a choice of none is lawful.
+-- There is an admissible choice: the one of the unfilled cells. Where every cell is filled, a
+-- choice of none is admissible.
 use Rattle.std.proofs.Common.{◌≡◌, ℕ, ◌<◌, refl, ap, sym, ◌∙◌, arith, Bool, true, false, List}
 use mathlib.Core.Bool.{false≢true}
 use mathlib.Core.List.{map}
@@ -63,7 +64,7 @@ module _ (m : SourceMap) (placement : Placement) where
   pub some_lawful : (held : List Bool) → AreHeld m placement held → (choice : List Bool) × (IsLawful m placement choice × LeavesHeld placement held choice)
   some_lawful held are = (unfilled_cells, (unfilled_lawful, unfilled_held held are))
 
-  -- a choice of no new cell is lawful where every cell of the output is filled
+  -- a choice of no new cell is admissible where every cell of the output is filled
   pub old_lawful : IsFull m → HoldsBox m.size placement.rect.corner placement.rect.size → (choice : List Bool) → ((p : At) → is_new placement choice p ≡ false) → IsLawful m placement choice
   old_lawful full holds choice old = record {
     unfilled = λ p inside e. absurd (false≢true (sym (ap is_some e) ∙ full p (each_of_axes m.size placement.rect holds p inside)));

@@ -1,4 +1,4 @@
--- Two lawful choices change the costs of the pairs in the box alone.
+-- Two admissible choices change the costs of the pairs in the box alone.
 use Rattle.std.proofs.Common.{◌≡◌, ℕ, ◌+◌, refl, ap, sym, ◌∙◌, arith, ◌⊎◌, inl, inr, Bool, true, false, List}
 use mathlib.Core.Bool.{false≢true}
 use Rattle.std.specs.Prelude.{Option, Some, None, is_some, if◌then◌else◌}
@@ -109,6 +109,6 @@ module _ (d : At → At → ℕ) (m : SourceMap) (placement : Placement) (choice
       ∙ sym (box_plus counts m.size _ _) ∙ box_equal counts m.size _ _ (λ x y f lx ly lf. three_pairs (spot x y f)) ∙ box_plus counts m.size _ _
       ∙ ap (λ n. total_of d m.size (after_at m placement other) + n) (total_within d m.size placement.rect (after_at m placement choice) holds)
 
--- two lawful choices change the total as they change the window sum of the box
+-- two admissible choices change the total as they change the window sum of the box
 pub changes_as_window : (d : At → At → ℕ) (m : SourceMap) (placement : Placement) → HoldsBox m.size placement.rect.corner placement.rect.size → ChangesAsWindow d m placement
 changes_as_window d m placement holds choice other lawful lawful' = changes d m placement choice other lawful lawful' holds

@@ -1,4 +1,4 @@
--- What stands outside a box, and the box of the whole output, whose window sum is the total.
+-- What is outside a box, and the box of the whole output, whose window sum is the total.
 use Rattle.std.proofs.Common.{◌≡◌, ℕ, refl, sym, ap, ◌∙◌, arith}
 use Rattle.std.proofs.lemmas.Int.{ints}
 use Rattle.std.specs.Prelude.{ℤ, pos, ◌+ℤ◌, ◌-ℤ◌, Bool, true, false, Option, Some, None, is_some, if◌then◌else◌}

@@ -1,5 +1,5 @@
 -- A reader has to trust this file. Seam costs. (Kwatra et al. 2003: at a seam each of two
--- neighbours is compared with what stood beside the other in the sample.)
+-- neighbours is compared with what is beside the other in the sample.)
 --
 -- A map is read as what it says at each place: the source of the cell, or nothing where the cell is
 -- unfilled or outside the output. Sources are compared by any distance d of sample places.
@@ -17,7 +17,7 @@ use Rattle.boxes.specs.Pairs.{in_box}
 use Rattle.limits.specs.declared.bounds.TheConstants.{GREATEST_AXIS}
 
 -- the cost of a cell of source a and the next one along an axis, of source b: how far a is from
--- what stands before b in the sample, and what stands after a from b
+-- what comes before b in the sample, and what comes after a from b
 abbrev pub seam : (At → At → ℕ) → Axis → At → At → ℕ
 seam d axis a b = d a (minus b (unit_step axis)) + d (plus a (unit_step axis)) b
 

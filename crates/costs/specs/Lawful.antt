@@ -1,6 +1,6 @@
--- A reader has to trust this file. Which choices between old and new are lawful, and which of them
--- cost the least. (Kwatra et al. 2003, who hold the old pixels at the border of a patch; cells that
--- are held beside those are own.)
+-- A reader has to trust this file. Which choices between old and new are admissible (`IsLawful`),
+-- and which of them cost the least. (Kwatra et al. 2003, who hold the old pixels at the border of a
+-- patch; cells that are held beside those are own.)
 use Rattle.std.specs.Prelude.{◌≡◌, ◌≤◌, ◌+◌, ◌⊎◌, ℕ, Bool, true, false, List, [], length, Option, Some, None}
 use Rattle.cells.specs.declared.place.At.{At}
 use Rattle.cells.specs.Boxes.{IsInBox}
@@ -69,17 +69,17 @@ pub record CostsLeast (IsOne : List Bool → Type 0) (cost : List Bool → ℕ)
   pub one : IsOne choice
   pub least : (other : List Bool) → IsOne other → cost choice ≤ cost other
 
--- a lawful choice, such that no lawful choice leaves a smaller total
+-- an admissible choice, such that no admissible choice leaves a smaller total
 abbrev pub IsLeastChoice : (At → At → ℕ) → SourceMap → Placement → List Bool → Type 0
 IsLeastChoice d m placement = CostsLeast (IsLawful m placement) (total_after d m placement)
 
--- the same among the lawful choices without a held cell
+-- the same among the admissible choices without a held cell
 abbrev pub IsLeastHeld : (At → At → ℕ) → SourceMap → Placement → List Bool → List Bool → Type 0
 IsLeastHeld d m placement held =
     CostsLeast (λ choice. IsLawful m placement choice × LeavesHeld placement held choice)
     (total_after d m placement)
 
--- two lawful choices change the total as they change the window sum of the box
+-- two admissible choices change the total as they change the window sum of the box
 abbrev pub ChangesAsWindow : (At → At → ℕ) → SourceMap → Placement → Type 0
 ChangesAsWindow d m placement = (choice other : List Bool)
     → IsLawful m placement choice → IsLawful m placement other

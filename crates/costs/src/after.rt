@@ -41,7 +41,7 @@ fn source_at(after: &After, at: Counts, i: usize) -> Option<At>
         after.now.choice.now (cell_in after.now.placement.now.rect at.x at.y at.f) }
     ensures near { IfSome result IsSource }
 {
-    // These are asked for only to show the check that there are a map and a volume.
+    // Called for their contracts only: they show the prover that there are a map and a volume.
     let _map = after.map.size();
     let _sample = after.sample.samples();
     if is_new(after.choice, i) {
@@ -61,7 +61,7 @@ fn costs_nothing(after: &After, axis: Axis, at: Counts, i: usize) -> bool
         (within_after after.now.map.now after.now.placement.now after.now.choice.now) axis
         (cell_in after.now.placement.now.rect at.x at.y at.f) ≡ 0 }
 {
-    // It is asked for only to show the check that there is a map.
+    // Called for its contract only: it shows the prover that there is a map.
     let _map = after.map.size();
     let size = after.placement.rect.size;
     if !at.has_next(size, axis) {
@@ -87,7 +87,7 @@ fn pair_after(after: &After, axis: Axis, at: Counts, i: usize, a: Option<At>) ->
         (cell_in after.now.placement.now.rect at.x at.y at.f) }
     ensures small { result ≤ most_of_pair }
 {
-    // It is asked for only to show the check that there is a map.
+    // Called for its contract only: it shows the prover that there is a map.
     let _map = after.map.size();
     let size = after.placement.rect.size;
     if !at.has_next(size, axis) {
@@ -138,7 +138,7 @@ fn sum_after(after: &After) -> u64
     ensures { result ≡ window_after (distance after.now.sample.now) after.now.map.now
         after.now.placement.now after.now.choice.now }
 {
-    // It is asked for only to show the check that there is a map.
+    // Called for its contract only: it shows the prover that there is a map.
     let _map = after.map.size();
     let size = after.placement.rect.size;
     let mut at = Counts::first();

@@ -2,8 +2,8 @@
 //! aren't neighbours there, and which choices between old and new cost the least.
 //!
 //! specs/Costs.antt defines the cost of two neighbours, the total of a map and the window sum of a box, for
-//! any distance of sample places; specs/Lawful.antt kept and free cells, lawful choices and least ones, by
-//! totals alone. The calls of this crate give the costs of those definitions, with the distance of cells;
+//! any distance of sample places; `specs/Lawful.antt` kept and free cells, admissible choices and least ones,
+//! by totals alone. The calls of this crate give the costs of those definitions, with the distance of cells;
 //! `laws` has what follows from the definitions.
 //!
 //! One walk over a box (`sums`) adds the costs of its pairs, wherever the sources of the cells come from

@@ -24,7 +24,7 @@ fn seam(sample: &Volume, axis: Axis, a: At, b: At) -> u32
 }
 
 /// The cost of a cell of source `a` and the next one along an axis, of source `b`: how far `a` is from
-/// what stands before `b` in the sample, and what stands after `a` from `b`. It is 0 where one of the
+/// what comes before `b` in the sample, and what comes after `a` from `b`. It is 0 where one of the
 /// two is missing.
 pub fn seam_of(sample: &Volume, axis: Axis, a: Option<At>, b: Option<At>) -> u32
     requires a { IfSome a IsSource }
@@ -39,7 +39,7 @@ pub fn seam_of(sample: &Volume, axis: Axis, a: Option<At>, b: Option<At>) -> u32
 }
 
 /// The cost of the cell at a place and the next one along an axis: how far the source of the first is
-/// from what stands before the source of the next in the sample, and what stands after the source of
+/// from what comes before the source of the next in the sample, and what comes after the source of
 /// the first from that of the next. It is 0 where one of the two isn't a filled cell of the output.
 pub fn pair_cost(canvas: &Canvas, sample: &Volume, at: At, axis: Axis) -> u32
     ensures cost { result ≡ pair_at (distance sample.now) (map_at canvas.now.map) axis at }

@@ -1,5 +1,6 @@
 -- Weak duality: the value of a flow within its bounds that is balanced is at most the window sum of the box after any
--- lawful choice that leaves the held cells. (That a flow is at most any cut is Ford and Fulkerson 1956.)
+-- admissible choice that leaves the held cells. (That a flow is at most any cut is Ford and
+-- Fulkerson 1956.)
 use Rattle.std.proofs.Common.{◌≡◌, ℕ, ◌+◌, refl, ap, sym, ◌∙◌, subst, arith, inl, inr, Bool, true, false, List}
 use Rattle.std.proofs.lemmas.Int.{ints}
 use Rattle.std.proofs.Math.IntN.{ℤ_discrete}

@@ -1,5 +1,5 @@
 -- A cut record that stands has a least choice: by rule 6 its window sum is the value of the flow, which is at most
--- that of any lawful choice that leaves the held cells.
+-- that of any admissible choice that leaves the held cells.
 use Rattle.std.proofs.Common.{◌≡◌, ℕ, ◌+◌, ◌≤◌, refl, ap, sym, ◌∙◌, subst, arith, inl, inr, Bool, false, List, []}
 use Rattle.std.proofs.lemmas.Int.{ints}
 use mathlib.Core.Bool.{false≢true}
@@ -17,7 +17,8 @@ use Rattle.cut_check.specs.declared.record.CutRecord.{CutRecord}
 use Rattle.cut_check.specs.Records.{IsLawfulCut, Setting, CutStands}
 use Rattle.cut_check.proofs.Duality.{weak_duality}
 
--- what a rule says of each index it says of each cell: the choice is lawful, and leaves the held cells
+-- what a rule says of each index it says of each cell: the choice is admissible, and leaves the
+-- held cells
 module _ (s : Setting) (cut : CutRecord) (is : IsLawfulCut s cut) where
   pub cut_is_lawful : IsLawful s.map cut.placement cut.choice
   cut_is_lawful = record {
@@ -32,7 +33,7 @@ module _ (s : Setting) (cut : CutRecord) (is : IsLawfulCut s cut) where
       let at = new_inside cut.placement s.held p held in
       ap (chosen cut.choice) at.1.index ∙ is.old at.0 at.1.below (subst (StaysOld s.map cut.placement s.held) at.1.cell (inr held))
 
--- no lawful choice that leaves the held cells costs less
+-- no admissible choice that leaves the held cells costs less
 total_at_most : (s : Setting) (cut : CutRecord) → AreHeld s.map cut.placement s.held → CutStands s cut → (other : List Bool) → IsLawful s.map cut.placement other → LeavesHeld cut.placement s.held other
     → total_after (distance s.sample) s.map cut.placement cut.choice ≤ total_after (distance s.sample) s.map cut.placement other
 total_at_most s cut marks stands other lawful leaves =
@@ -42,7 +43,7 @@ total_at_most s cut marks stands other lawful leaves =
     compare : (a b v w : ℕ) → a + w ≡ b + v → pos v ≤ℤ pos w → a ≤ b
     compare a b v w e le = omega (arith, ints)
 
--- the choice of a record that stands is least among the lawful ones without a held cell
+-- the choice of a record that stands is least among the admissible ones without a held cell
 pub record_is_least : (s : Setting) (cut : CutRecord) → AreHeld s.map cut.placement s.held → CutStands s cut → IsLeastHeld (distance s.sample) s.map cut.placement s.held cut.choice
 record_is_least s cut marks stands = record {
   one = (cut_is_lawful s cut stands.lawful, cut_leaves_held s cut stands.lawful);
@@ -66,7 +67,7 @@ pub stands_least : (m : SourceMap) (sample : Cells) (cut : CutRecord) (held : Op
     → CutStands (record { map = m; sample = sample; held = held_marks held }) cut → IsLeastHeld (distance sample) m cut.placement (held_marks held) cut.choice
 stands_least m sample cut held marks = record_is_least (record { map = m; sample = sample; held = held_marks held }) cut (held_filled m cut.placement held marks)
 
--- where no cell is held, it is least among all lawful ones
+-- where no cell is held, it is least among all admissible ones
 pub stands_least_alone : (m : SourceMap) (sample : Cells) (cut : CutRecord) → CutStands (record { map = m; sample = sample; held = [] }) cut → IsLeastChoice (distance sample) m cut.placement cut.choice
 stands_least_alone m sample cut stands =
     let least = stands_least m sample cut None tt stands in

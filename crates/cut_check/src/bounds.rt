@@ -194,8 +194,8 @@ fn lay(map: &Map, sample: &Volume, placement: &Placement, at: Counts) -> Laid
     }
 }
 
-// The flow of the pair of a cell along an axis is within the bounds of the pair. Few pairs come to it, so it
-// stands apart from the walk over all of them.
+// The flow of the pair of a cell along an axis is within the bounds of the pair. Few pairs come to
+// it, so it is kept out of the walk over all of them.
 #[inline(never)]
 fn is_bounded_at(
     map: &Map,

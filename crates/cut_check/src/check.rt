@@ -30,7 +30,7 @@ pub(crate) fn fits(canvas: &Canvas, sample: &Volume, placement: &Placement) -> b
         corner: placement.from,
         size: placement.rect.size,
     };
-    // It is asked for only to show the check that the sample is a volume.
+    // Called for its contract only: it shows the prover that the sample is a volume.
     let _sample = sample.samples();
     canvas.picture().holds(&placement.rect) && sample.holds(&sources)
 }
@@ -108,9 +108,9 @@ pub(crate) fn check_fitting(
     check_flows(canvas, sample, cut, held)
 }
 
-/// Whether a cut record stands over a canvas, with cells of its box that are held too: no lawful choice
-/// without a held cell leaves a smaller total then. `held` has a mark for each cell of the box, in raster
-/// order, or is missing where none is held. It takes no memory.
+/// Whether a cut record stands over a canvas, with cells of its box that are held too: no admissible
+/// choice without a held cell leaves a smaller total then. `held` has a mark for each cell of the box, in
+/// raster order, or is missing where none is held. It takes no memory.
 pub fn check_held(
     canvas: &Canvas,
     sample: &Volume,
@@ -138,7 +138,7 @@ pub fn check_held(
     check_fitting(canvas, sample, cut, marks(held))
 }
 
-/// The same with no cell held: no lawful choice leaves a smaller total.
+/// The same with no cell held: no admissible choice leaves a smaller total.
 pub fn check_cut(canvas: &Canvas, sample: &Volume, cut: &CutRecord) -> Result<(), CutFault>
     requires over { StandsOver canvas.now sample.now }
     requires cells { HasCells cut.now.placement.rect.size }

@@ -10,7 +10,8 @@ ghost use Rattle.cut_check.specs.Records.{CutStands, IsFirstCutFault, Setting, s
 use crate::record::CutRecord;
 
 /// A law, with nothing to run: where a record stands over a map, the total of the map after its choice is the
-/// least among the lawful choices that leave the held cells; and among all lawful choices where none is held.
+/// least among the admissible choices that leave the held cells; and among all admissible choices where none
+/// is held.
 pub fn choice_of_a_record_is_least(cut: &CutRecord)
     ensures held { (s : Setting) → AreHeld s.map cut.now.placement s.held → CutStands s cut.now
         → IsLeastHeld (distance s.sample) s.map cut.now.placement s.held cut.now.choice }

@@ -2,9 +2,9 @@
 //! costs the least.
 //!
 //! `check_held`, and `check_cut` with no cell held, accept exactly the records that stand
-//! (specs/Records.antt), name the first broken rule and its first place of any other, and what they
-//! accept is least among all lawful choices without a held cell, whoever made it: the flow of the record
-//! bounds the cost of every choice (proofs/Least.antt). No memory is taken.
+//! (specs/Records.antt), and name the first broken rule and its first place of any other. What they accept
+//! is least among all admissible choices without a held cell, whoever made it: the flow of the record bounds
+//! the cost of every choice (proofs/Least.antt). No memory is taken.
 //!
 //! `record` has the types, `check` the rules in their order, `rules` those of the choice, with `kept` for
 //! the cells that have to stay old, `bounds` that of pairs, `balance` that of free cells with the value, and

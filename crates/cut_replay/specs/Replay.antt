@@ -31,7 +31,7 @@ EachOver Holds m (cut ∷ cuts) =
 abbrev pub EachStands : Cells → SourceMap → List CutRecord → Type 0
 EachStands sample = EachOver (λ m cut. CutStands (setting m sample []) cut)
 
--- each choice is lawful there, and no lawful choice leaves a smaller total
+-- each choice is admissible there, and no admissible choice leaves a smaller total
 abbrev pub EachLeast : Cells → SourceMap → List CutRecord → Type 0
 EachLeast sample = EachOver (λ m cut. IsLeastChoice (distance sample) m cut.placement cut.choice)
 

@@ -48,7 +48,7 @@ pub fn replay_cuts(canvas: &mut Canvas, sample: &Volume, cuts: &[CutRecord]) -> 
     ensures over { StandsOver canvas.new sample.now }
     ensures canvas { IsCanvas canvas.new }
 {
-    // They are asked for only to show the check that these are a map and a volume.
+    // Called for their contracts only: they show the prover that these are a map and a volume.
     let _map = canvas.map();
     let _samples = sample.samples();
     replay_each(canvas, sample, cuts)

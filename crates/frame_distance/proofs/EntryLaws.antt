@@ -44,7 +44,7 @@ entries_of-same {X = X} n f g same =
         ∙ same (k / n) (k % n) (row_below n k lt) (column_below n k lt)
         ∙ sym (get_or-map-range_with_len (λ k. g (k / n) (k % n)) 0 (n * n) k k d lt (omega arith))
 
--- the entry across the diagonal stands before one below it
+-- the entry across the diagonal comes before one below it
 pub across_before : (n k i j : ℕ) → i ≡ k / n → j ≡ k % n → i < n → j < i → j * n + i < k
 across_before n k i j row column below lt =
     omega (arith, div-add-mod' k n, ap (λ m. m * n) row, mul-le-mul_right n (let le : j + 1 ≤ i = omega arith in le))

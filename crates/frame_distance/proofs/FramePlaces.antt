@@ -1,4 +1,4 @@
--- The cells of a frame stand one after another.
+-- The cells of a frame come one after another.
 use Rattle.std.proofs.Common.{◌≡◌, ℕ, ◌+◌, ◌*◌, ◌/◌, ◌%◌, ◌<◌, ◌≤◌, List, [], ◌∷◌, ◌++◌, length, take, drop, min, get_or, refl, ap, sym, ◌∙◌, subst, arith}
 use Rattle.std.specs.Prelude.{Some, map, unwrap_or, option_and_then, slice_get}
 use Rattle.std.specs.List.{concat, flat_map}
@@ -18,7 +18,7 @@ concat_map : {X : Type 0} (f : X → List ℕ) (xs : List X) → concat (map f x
 concat_map f [] = refl
 concat_map f (x ∷ xs) = ap (λ rest. f x ++ rest) (concat_map f xs)
 
--- the index of the cell of frame i that stands at index k of the frame
+-- the index of the cell of frame i that is at index k of the frame
 cell_index : (size : Size) (i k : ℕ) → 1 ≤ size.w → i < size.f → k < size.w * size.h
     → index_in size (plus (place_of (record { w = size.w; h = size.h; f = 1 }) k) (spot 0 0 i)) ≡ Some (size.w * size.h * i + k)
 cell_index size i k w below lt =

@@ -2,7 +2,7 @@
 -- (Own.)
 --
 -- A table has an entry for each two of n frames, row by row. The table for length 1 is that of the
--- step costs, and isn't written. The others stand one after another, in the order of their lengths.
+-- step costs, and isn't written. The others come one after another, in the order of their lengths.
 use Rattle.std.specs.Prelude.{◌≡◌, ◌<◌, ◌≤◌, ℕ, zero, suc, ◌+◌, ◌-◌, ◌*◌, ◌/◌, ◌%◌, List, [], ◌∷◌, ◌++◌, length, Option, Some, None, IfSome, ◌==◌, nat_le, if◌then◌else◌, slice_index}
 use Rattle.frame_distance.specs.Steps.{Steps, step_at}
 use Rattle.limits.specs.declared.bounds.TheConstants.{LONGEST_LOOP}
@@ -43,7 +43,7 @@ table_size costs = costs.frames * costs.frames
 abbrev pub entry_count : Steps → ℕ → ℕ
 entry_count costs len = table_count len * table_size costs
 
--- where entry (i, j) of written table t stands among all entries
+-- where entry (i, j) of written table t is among all entries
 abbrev pub entry_place : Steps → ℕ → ℕ → ℕ → ℕ
 entry_place costs t i j = t * table_size costs + (i * costs.frames + j)
 

@@ -1,5 +1,5 @@
 //! Least closed walks through the frames of a clip: the loops of a fixed length that show the least
-//! change at their jumps, and records by which anyone can check that they are least.
+//! change at their jumps, and records that let anyone verify that they are least.
 //!
 //! `least_loop` promises a closed walk of the length such that no closed walk of that length costs
 //! less, from the smallest frame that any such walk visits, and answers `NoLoop` exactly where there

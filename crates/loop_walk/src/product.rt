@@ -23,7 +23,7 @@ fn lesser(a: u64, b: u64) -> u64
     if (a as i64) < (b as i64) { a } else { b }
 }
 
-// Lowers each number of a row to the sums of two first halves with the second halves that stand there.
+// Lowers each number of a row to sums of two first halves with the second halves at its place.
 fn lower(sums: &mut [u64], first: u64, seconds: &[u64], other: u64, others: &[u64])
     requires seconds { length sums.old ≡ length seconds.now }
     requires others { length sums.old ≡ length others.now }

@@ -1,6 +1,6 @@
 //! Least boundaries through the strips in which quilted blocks overlap.
 //!
-//! Two blocks that overlap leave a strip: a table of the squared differences between what stands
+//! Two blocks that overlap leave a strip: a table of the squared differences between what is
 //! there already and what comes (Efros and Freeman, SIGGRAPH 2001). A boundary goes through the
 //! strip, one column per strip row, and says where the new block begins.
 //!

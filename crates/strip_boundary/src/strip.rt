@@ -7,7 +7,7 @@ use std::marker::Model;
 /// The greatest error of a cell: three samples, each of which differs by 255.
 pub const GREATEST_ERROR: u32 = 195_075;
 
-/// The overlap of a block with what stands before it: one error per cell, row by row.
+/// The overlap of a block with what is there before it: one error per cell, row by row.
 ///
 /// An error is the sum of the squared differences of the three samples of two cells.
 #[derive(Drop)]

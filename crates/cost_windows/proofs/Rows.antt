@@ -125,7 +125,7 @@ pub record RowsPut (w row : ℕ) (start offset : ℕ → ℕ) (keep : Bool) (old
   pub put : (r k : ℕ) → r < row → k < w → get_or sums (start r + k) 0 ≡ number_if keep (get_or old (start r + k) 0) + get_or more (offset r + k) 0
   pub others : (i : ℕ) → ((r k : ℕ) → r < row → k < w → i ≡ start r + k → ⊥) → get_or sums i 0 ≡ get_or old i 0
 
--- what stood where the row comes, and what comes there
+-- what was there where the row comes, and what comes there
 pub row_before : (w row to : ℕ) (start offset : ℕ → ℕ) (keep : Bool) (old more sums : List ℕ) → RowsPut w row start offset keep old more sums → to ≡ start row
     → ((r k i : ℕ) → r < row → k < w → i < w → start r + k ≡ start row + i → ⊥) → (k : ℕ) → k < w
     → get_or (take (to + w - to) (drop to sums)) k 0 ≡ get_or old (start row + k) 0

@@ -88,7 +88,7 @@ row_offset size block row = size.w * (row % block.y.len + size.h * (row / block.
 abbrev pub number_if : Bool → ℕ → ℕ
 number_if keep n = if keep then n else 0
 
--- what stands there after a number has been added to another that is kept, or put in its place
+-- what is there after a number has been added to another that is kept, or put in its place
 abbrev pub added : Bool → List ℕ → List ℕ → ℕ → ℕ → ℕ
 added keep old more i j = number_if keep (slice_index old i) + slice_index more j
 

@@ -152,7 +152,7 @@ module _ (d : At → At → ℕ) (m : SourceMap) (placement : Placement) (held :
         → side ≡ not (is_new placement choice (cell_in placement.rect x y f)) && not (is_new placement choice (plus (cell_in placement.rect x y f) (unit_step axis)))
 
   module _ (choice : List Bool) (opened : IsLawfulHeld m placement held choice) where
-    -- nodes are told apart by what they stand for
+    -- nodes that stand for different things are different
     of_free : (n : ℕ) → StandsForCell m placement held places n → IsInner network.nodes n → (side : Bool) × IsSideOf choice n side
     of_free n stands inner = (
       not (is_new placement choice (cell_in placement.rect stands.x stands.y stands.f)),

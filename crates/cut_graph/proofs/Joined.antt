@@ -1,4 +1,4 @@
--- Sums over a list that is made part by part, and where its parts stand in it.
+-- Sums over a list that is made part by part, and where its parts are in it.
 use Rattle.std.proofs.Common.{◌≡◌, ℕ, zero, suc, ◌+◌, ◌*◌, ◌<◌, ◌≤◌, refl, ap, sym, ◌∙◌, subst, arith, ⊎_elim, Bool, List, [], ◌∷◌, ◌++◌, length, get_or, drop, length-append, drop-drop, drop-cons}
 use Rattle.std.proofs.lemmas.Int.{ints}
 use Rattle.std.proofs.lemmas.List.{get_or_append_left, get_or-append-add}
@@ -95,7 +95,7 @@ module _ (d : At → At → ℕ) (m : SourceMap) (placement : Placement) (places
       ∙ box_equal add placement.rect.size _ _ (λ x y f lx ly lf. ap (λ ps. given ps (first_pipe d m placement places X x y f)) (at_counts placement.rect.size (pipes_from d m placement places) x y f lx ly)
       ∙ sum_three add given is _ _ _ _)
 
-  -- the pipes of a pair stand from its first pipe on
+  -- the pipes of a pair come from its first pipe on
   pub pair_stands : (axis : Axis) (x y f : ℕ) → AreCounts placement.rect.size x y f
       → StandsAt (pipes_of d m placement places) (pipes_along d m placement places axis x y f) (first_pipe d m placement places axis x y f)
   pair_stands axis x y f at = by axis

@@ -94,7 +94,7 @@ second_in_box rect axis x y f is =
     let next = behind_of rect axis x y f is in
     subst (IsInBox rect) next.place (in_box rect next.a next.b next.c next.counts)
 
--- and its node stands so far after it
+-- and its node comes so far after it
 next_is : (plan : Plan) (axis : Axis) (x y f : ℕ)
     → next_node (places_of plan) plan.placement.rect.size axis x y f ≡ slice_index plan.cells.now (raster_index plan.placement.rect.size x y f + stride plan.placement.rect.size axis)
 next_is plan X x y f =

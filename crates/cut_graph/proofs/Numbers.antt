@@ -19,7 +19,7 @@ length-end xs v = length-append xs (v ∷ [])
 pub get-past : (xs : List ℕ) (v k : ℕ) → length xs < k → get_or (xs ++ v ∷ []) k 0 ≡ 0
 get-past xs v k lt = get_or_past (xs ++ v ∷ []) k 0 (omega (arith, length-end xs v))
 
--- where an index of the longer list stands
+-- where an index of the longer list is
 data Stands (xs : List ℕ) (v k : ℕ) : Type 0 where
   before : k < length xs → get_or (xs ++ v ∷ []) k 0 ≡ get_or xs k 0 → Stands xs v k
   last : k ≡ length xs → get_or (xs ++ v ∷ []) k 0 ≡ v → Stands xs v k

@@ -31,7 +31,7 @@ pub record Gives (IsOne : ℕ → Type 0) (from : ℕ) (was now : Numbering) : T
   pub items : now.nodes.items ≡ was.nodes.items ++ node ∷ []
   pub numbering : IsNumbering from now.next now.nodes.items
 
--- how a cell of the box stands
+-- what a cell of the box is to a choice
 abbrev pub IsStanding : SourceMap → Placement → List Bool → At → Standing → Type 0
 IsStanding m placement held p Old = IsFilled m p × StaysOld m placement held p
 IsStanding m placement held p Unfilled = map_at m p ≡ None

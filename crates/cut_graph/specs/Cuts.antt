@@ -22,7 +22,7 @@ pub record IsNetworkOf (d : At → At → ℕ) (m : SourceMap) (placement : Plac
   pub pipes : network.pipes ≡ pipes_of d m placement places
   pub first : AreFirstPipes d m placement places
 
--- a lawful choice without a held cell
+-- an admissible choice without a held cell
 pub record IsLawfulHeld (m : SourceMap) (placement : Placement)
     (held choice : List Bool) : Type 0 where
   pub lawful : IsLawful m placement choice
@@ -35,8 +35,8 @@ Agree placement places sides choice = (x y f : ℕ) → AreCounts placement.rect
     → is_new placement choice (cell_in placement.rect x y f) ≡
     not (is_in sides (cell_node places placement.rect.size x y f))
 
--- what a cut says of each cell is a lawful choice without a held cell, and its capacity is at least
--- the window sum after it
+-- what a cut says of each cell is an admissible choice without a held cell, and its capacity is at
+-- least the window sum after it
 abbrev pub CutsAreChoices : (At → At → ℕ) → SourceMap → Placement → List Bool → FlowNetwork →
     Places → Type 0
 CutsAreChoices d m placement held network places = (sides choice : List Bool) →
@@ -44,7 +44,7 @@ CutsAreChoices d m placement held network places = (sides choice : List Bool) �
     → IsLawfulHeld m placement held choice
     × (window_after d m placement choice ≤ cut_capacity network sides)
 
--- the cut of a choice whose seam nodes stand on their best sides: its capacity is the window sum
+-- the cut of a choice whose seam nodes are on their best sides: its capacity is the window sum
 pub record HasCut (d : At → At → ℕ) (m : SourceMap) (placement : Placement) (network : FlowNetwork)
     (places : Places) (choice : List Bool) : Type 0 where
   pub sides : List Bool
@@ -52,8 +52,8 @@ pub record HasCut (d : At → At → ℕ) (m : SourceMap) (placement : Placement
   pub agree : Agree placement places sides choice
   pub capacity : cut_capacity network sides ≡ window_after d m placement choice
 
--- for each lawful choice without a held cell the least capacity over the sides of the seam nodes is
--- the window sum after it
+-- for each admissible choice without a held cell the least capacity over the sides of the seam
+-- nodes is the window sum after it
 pub record ChoicesAreCuts (d : At → At → ℕ) (m : SourceMap) (placement : Placement)
     (held : List Bool) (network : FlowNetwork) (places : Places) : Type 0 where
   pub choices : CutsAreChoices d m placement held network places

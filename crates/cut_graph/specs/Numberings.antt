@@ -6,13 +6,13 @@ use Rattle.cells.specs.declared.place.Size.{Size}
 use Rattle.cells.specs.declared.place.Axis.{Axis}
 use Rattle.boxes.specs.Pairs.{pair_number, IsPair}
 
--- the number stands in the list
+-- the number is in the list
 pub record IsGivenAt (nodes : List ℕ) (n : ℕ) : Type 0 where
   pub index : ℕ
   pub below : index < length nodes
   pub is : slice_index nodes index ≡ n
 
--- each number from one on, as far as the next that is free, stands once
+-- each number from one on, as far as the next that is free, occurs once
 pub record IsNumbering (from next : ℕ) (nodes : List ℕ) : Type 0 where
   pub order : from ≤ next
   pub short : next ≤ from + length nodes

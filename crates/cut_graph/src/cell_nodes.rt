@@ -15,7 +15,7 @@ use limits::MOST_CELLS;
 use map_canvas::{Canvas, Placement};
 use std::alloc::{AllocError, Global};
 
-// How a cell of the box stands.
+// What a cell of the box is to a choice.
 #[derive(Clone, Copy, Debug, Drop)]
 pub(crate) enum Standing {
     // It is filled, and kept or held.
@@ -37,7 +37,7 @@ fn is_marked(held: Option<&[bool]>, i: usize) -> bool
     }
 }
 
-// How a cell of the box stands, by whether it is held.
+// What a cell of the box is to a choice, by whether it is held.
 fn standing_of(canvas: &Canvas, placement: &Placement, p: At, held: bool) -> Standing
     requires { IsInBox placement.now.rect p }
     ensures { (marks : List Bool) → is_held placement.now marks p ≡ held →

@@ -39,7 +39,7 @@ fn lay(
     ensures { IfOk result (HasAllPipes (distance sample.now) canvas.now.map placement.now
         cells.now.nodes.items seams.now.nodes.items seams.now.next) }
 {
-    // It is asked for only to show the check that the sample is a volume.
+    // Called for its contract only: it shows the prover that the sample is a volume.
     let _samples = sample.samples();
     let plan = Plan {
         map: canvas.map(),
@@ -71,8 +71,8 @@ pub fn build_held(
         (distance sample.now) canvas.now.map placement.now
         (held_marks (option_copied held.entry)) made.0 made.1) }
 {
-    // The map is asked for only to show the check that the box is small, and the samples that the
-    // sample is a volume.
+    // Called for their contracts only: the map shows the prover that the box is small, and the
+    // samples that the sample is a volume.
     let _map = canvas.map();
     let _samples = sample.samples();
     let cells = number_cells(alloc, canvas, placement, held)?;

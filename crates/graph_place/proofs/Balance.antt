@@ -78,7 +78,7 @@ module _ (d : At → At → ℕ) (m : SourceMap) (placement : Placement) (held :
       by (Some a) None ea eb = absurd (subst (λ o. o) (λ k. IsSeam (ea k) (eb k)) both)
       by None b ea eb = absurd (subst (λ o. o) (λ k. IsSeam (ea k) (eb k)) both)
 
-  -- what a seam node leaves behind, and that it balances
+  -- what is left at a seam node, and that it balances
   abbrev behind : Axis → ℕ → ℕ → ℕ → ℤ
   behind axis x y f = left_at_seam (first x y f) (second axis x y f) flows (begin axis x y f)
 

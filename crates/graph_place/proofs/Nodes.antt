@@ -104,7 +104,7 @@ module _ (m : SourceMap) (placement : Placement) (held : List Bool) (places : Pl
       by None e = not_none e
       by (Some a) e = not_free (record { counts = at; free = record { inside = cell_inside placement.rect x y f at; filled = ap is_some e; free = not_old } })
 
-  -- only cells that have to stay old stand at the source
+  -- only cells that have to stay old are at the source
   pub none_free : (x y f : ℕ) → AreCounts placement.rect.size x y f → (StaysOld m placement held (cell_in placement.rect x y f) → ⊥) → cell_node places placement.rect.size x y f ≡ 0 → ⊥
   none_free x y f at not_old source = kinds x y f at not_old (λ none. omega (arith, source, are.unfilled x y f at none)) (λ free. omega (arith, source, (are.free x y f free).above))
 

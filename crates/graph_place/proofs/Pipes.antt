@@ -46,7 +46,7 @@ module _ (side : ℕ → Bool) where
   three_leave p q r flows o =
       omega (arith, ints, leaving_at p (q ∷ r ∷ []) flows o o (omega arith), leaving_at q (r ∷ []) flows (o + 1) (o + 1) (omega arith), leaving_at r [] flows (o + 1 + 1) (o + 2) (omega arith))
 
--- what a pair leaves behind at its seam node: nothing, where that balances
+-- what a pair leaves at its seam node: nothing, where that balances
 abbrev pub left_at_seam : Option At → Option At → List ℤ → ℕ → ℤ
 left_at_seam (Some a) (Some b) flows o = (pipe_flow flows (o + 1) +ℤ pipe_flow flows (o + 2)) -ℤ pipe_flow flows o
 left_at_seam (Some a) None flows o = pos 0

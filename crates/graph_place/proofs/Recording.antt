@@ -1,4 +1,4 @@
--- The flows of a record, pair by pair, and where each stands in the list.
+-- The flows of a record, pair by pair, and where each is in the list.
 use Rattle.std.proofs.Common.{◌≡◌, ℕ, ◌+◌, ◌*◌, ◌/◌, ◌%◌, ◌<◌, ◌≤◌, refl, ap, ◌∙◌, subst, arith, Bool, true, false, List, [], ◌∷◌, ◌++◌, length, get_or, length-append}
 use Rattle.std.proofs.Math.Numerals.{add-one}
 use mathlib.Core.Bool.{false≢true}
@@ -83,7 +83,7 @@ module _ (m : SourceMap) (placement : Placement) (places : Places) (flows : List
   pick_f false true true p q r e = refl
   pick_f false false true p q r e = refl
 
-  -- each pair's flow stands at the pair's number
+  -- each pair's flow is at the pair's number
   pub flow_stands : (axis : Axis) (x y f : ℕ) → IsPair placement.rect.size axis x y f
       → slice_index_or (flows_before m placement places flows (cell_count placement.rect.size)) (pair_number placement.rect.size axis x y f) no_flow ≡ own axis x y f
   flow_stands axis x y f pair = by axis pair.next

@@ -22,9 +22,8 @@ abbrev pub AreSame : Placement → List Bool → List Bool → Type 0
 AreSame placement choice other =
     (p : At) → IsInBox placement.rect p → is_new placement choice p ≡ is_new placement other p
 
--- least of the lawful choices without a held cell; of the least ones it has the fewest old cells,
--- and no
--- other has as few
+-- least of the admissible choices without a held cell; of the least ones it has the fewest old
+-- cells, and no other has as few
 pub record IsFewestHeld (d : At → At → ℕ) (m : SourceMap) (placement : Placement)
     (held choice : List Bool) : Type 0 where
   pub least : IsLeastHeld d m placement held choice
@@ -33,7 +32,7 @@ pub record IsFewestHeld (d : At → At → ℕ) (m : SourceMap) (placement : Pla
   pub only : (other : List Bool) → IsLeastHeld d m placement held other
       → old_count placement other ≤ old_count placement choice → AreSame placement choice other
 
--- least of all lawful choices where no marks are given, otherwise of those without a held cell
+-- least of all admissible choices where no marks are given, otherwise of those without a held cell
 abbrev pub IsLeastWith :
     (At → At → ℕ) → SourceMap → Placement → Option (List Bool) → List Bool → Type 0
 IsLeastWith d m placement None choice = IsLeastChoice d m placement choice

@@ -15,8 +15,8 @@ use map_canvas::{Canvas, Placement};
 use max_flow::solve;
 use std::alloc::{AllocError, Global};
 
-/// Puts a placement in, with cells of its box that are held old too: of the lawful choices without a held cell the
-/// one that leaves the least total seam cost, and of these the one with the fewest old cells. `held` has a
+/// Puts a placement in, with cells of its box that are held old too: of the admissible choices without a held cell
+/// the one that leaves the least total seam cost, and of these the one with the fewest old cells. `held` has a
 /// mark for each cell of the box, in raster order, or is missing where none is held. Gives the record, which
 /// `check_held` accepts over the canvas as it was. The one error is that there is no memory, and leaves the
 /// canvas as it was. The method is that of Kwatra et al. (2003).
@@ -38,7 +38,7 @@ pub fn place_held(
     ensures canvas { IsCanvas canvas.new }
     ensures kept { OnErr result (canvas.new ≡ canvas.old) }
 {
-    // They are asked for only to show the check that these are a map and a volume.
+    // Called for their contracts only: they show the prover that these are a map and a volume.
     let _map = canvas.map();
     let _samples = sample.samples();
     let (network, places) = build_held(alloc, canvas, sample, &placement, held)?;

@@ -81,7 +81,7 @@ pub fn grow_canvas(alloc: Global, plan: &GrowPlan, sample: &Volume) -> Result<Gr
     let sums = SampleSums::make_if(alloc, sample, picks_places(plan))?;
     let mut work = lay_all(alloc, plan, sample, &sums)?;
     refine_all(alloc, plan, sample, &sums, &mut work)?;
-    // It is asked for only to show the check that the sample is a volume.
+    // Called for its contract only: it shows the prover that the sample is a volume.
     let _samples = sample.samples();
     Ok(Grown {
         canvas: work.canvas,

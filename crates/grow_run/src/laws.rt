@@ -14,7 +14,7 @@ pub fn there_is_one_grown_run(plan: &GrowPlan, sample: &Volume)
     ensures within { EndsWithin plan.now sample.now }
     ensures limit { OneLimit plan.now sample.now }
 {
-    // It is asked for only to show the check that the sample is a volume.
+    // Called for its contract only: it shows the prover that the sample is a volume.
     let _samples = sample.samples();
 }
 
@@ -23,7 +23,7 @@ pub fn no_round_raises_the_total(plan: &GrowPlan, sample: &Volume)
     ensures one { NoneRaises plan.now sample.now }
     ensures all { NoneRaise plan.now sample.now }
 {
-    // It is asked for only to show the check that the sample is a volume.
+    // Called for its contract only: it shows the prover that the sample is a volume.
     let _samples = sample.samples();
 }
 
@@ -33,6 +33,6 @@ pub fn rounds_follow_placements(plan: &GrowPlan, sample: &Volume)
     requires { IsSmall plan.now.size }
     ensures { RoundsFollow plan.now sample.now }
 {
-    // It is asked for only to show the check that the sample is a volume.
+    // Called for its contract only: it shows the prover that the sample is a volume.
     let _samples = sample.samples();
 }

@@ -5,8 +5,9 @@
 //! each the next placement of the mode, or that of a round, with the least choice that has the fewest old
 //! cells; a full canvas over the sample; and a record of each step that stands over the map that the records
 //! before it leave. It answers the limit at the first box that takes the cells of all boxes past
-//! `MOST_BOX_CELLS`. `laws` says that of a plan and a sample there is one answer, flows of records and want of
-//! memory apart, that no round raises the total, and that rounds follow placements (specs/OneRun.antt).
+//! `MOST_BOX_CELLS`. `laws` says that of a plan and a sample there is one answer, but for the flows of
+//! records and for out of memory, that no round raises the total, and that rounds follow placements
+//! (specs/OneRun.antt).
 //!
 //! `plan` has the types, `steps` one step and one round, `grow` the run.
 #![tactic(auto)]

@@ -3,7 +3,7 @@ use Rattle.std.proofs.Common.{◌≡◌, ℕ, ◌+◌, ◌<◌, List, [], ◌∷
 use Rattle.std.proofs.lemmas.Bool.{cases_eq}
 use Rattle.std.proofs.lemmas.List.{get_or_append_left, get_or-append-add}
 
--- so many entries stand after others: each that of the row above and a number more
+-- so many entries come after others: each that of the row above and a number more
 pub record ArePut (was now : List ℕ) (above count : ℕ) (g : ℕ → ℕ) : Type 0 where
   pub long : length now ≡ length was + count
   pub kept : (i : ℕ) → i < length was → get_or now i 0 ≡ get_or was i 0

@@ -1,4 +1,4 @@
--- Where the cells of a row of a box stand, and what stands in them.
+-- Where the cells of a row of a box are, and what is in them.
 use Rattle.std.proofs.Common.{◌≡◌, ℕ, ◌+◌, ◌*◌, ◌<◌, ◌≤◌, [], refl, ap, sym, ◌∙◌, subst, arith, rules}
 use Rattle.std.proofs.lemmas.Int.{ints}
 use Rattle.std.specs.Prelude.{ℤ, pos, negsuc, ◌+ℤ◌, ◌≤ℤ◌, Some, FitsSigned, IsSome, length, unwrap_or}

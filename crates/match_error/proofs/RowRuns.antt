@@ -181,7 +181,7 @@ module _ (Is In : ℕ → Type 0) (x w : ℕ) (here : (i : ℕ) → Is (x + i) �
       (λ i le lt. let at = among x w run.first run.end i le lt in here i (are.0.cells (x + i) at.0 at.1))
       (in_part run.end to runs are.1)
 
--- the row in which a row of a box lies that stands so far in another
+-- the row in which a row of a box lies that is so far in another
 pub row_below : (outer rect : Box3) (inset : Inset) (y f : ℕ) → IsInset outer rect inset → y < rect.size.h → f < rect.size.f → ((inset.y + outer.size.h * (inset.f + f)) + y) + 1 ≤ outer.size.h * outer.size.f
 row_below outer rect inset y f is ly lf =
     omega (arith, rows_in outer.size.h outer.size.f inset.y (y + 1) inset.f f (omega (arith, is.rows_in)) (omega (arith, is.frames_in)))

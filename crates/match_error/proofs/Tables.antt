@@ -20,7 +20,7 @@ use Rattle.match_error.specs.Errors.{filled_cells, one_filled}
 use Rattle.match_error.specs.Tables.{AreEntries, AreMoreEntries, filled_before, one_in_row}
 use Rattle.match_error.proofs.Filled.{box_cells, one_at_most}
 
--- where an entry stands
+-- where an entry is
 pub in_entries : (w rows x row : ℕ) → x ≤ w → row ≤ rows → (w + 1) * row + x < (w + 1) * (rows + 1)
 in_entries w rows x row lx lr = omega (arith, mul-le-mul_left (w + 1) lr)
 
@@ -95,7 +95,7 @@ cells_small m rect = omega (arith, box_bound rect.size 1 (λ x y f. one_filled (
 pub rows_in : (h n y len f k : ℕ) → y + len ≤ h → f + k < n → (y + h * (f + k)) + len ≤ h * n
 rows_in h n y len f k lh lf = omega (arith, mul-le-mul_left h (let next : f + k + 1 ≤ n = omega arith in next))
 
--- where a cell of a box stands among the rows of the table's box
+-- where a cell of a box is among the rows of the table's box
 module _ (outer rect : Box3) (x y f : ℕ) (is_x : rect.corner.x ≡ outer.corner.x +ℤ pos x) (is_y : rect.corner.y ≡ outer.corner.y +ℤ pos y) (is_f : rect.corner.f ≡ outer.corner.f +ℤ pos f) where
   turned : (k j : ℕ) → (y + outer.size.h * (f + k)) + j ≡ (f + k) * outer.size.h + (y + j)
   turned k j = omega arith

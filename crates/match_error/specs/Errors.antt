@@ -1,4 +1,4 @@
--- To be trusted: overlap errors, how far the cells of a placement are from what stands there
+-- To be trusted: overlap errors, how far the cells of a placement are from what is there
 -- already. (Kwatra et al. 2003 and Efros and Freeman 2001 compare overlapping patches by the sum
 -- of squared differences; the count beside it, and the tolerance in hundredths, are own.)
 use Rattle.std.specs.Prelude.{◌+◌, ◌*◌, ℕ, Bool, Option, Some, None, nat_le}

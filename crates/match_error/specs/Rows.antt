@@ -61,7 +61,7 @@ pub record AreFilledRows (m : SourceMap) (rows : FilledRows) : Type 0 where
   pub runs : AreRunsTo m rows.rect (rows.rect.size.h * rows.rect.size.f) rows.starts.items
       rows.runs.items
 
--- a box stands so far in another, and lies in it
+-- a box is so far in another, and lies in it
 pub record IsInset (outer rect : Box3) (inset : Inset) : Type 0 where
   pub x : rect.corner.x ≡ outer.corner.x +ℤ pos inset.x
   pub y : rect.corner.y ≡ outer.corner.y +ℤ pos inset.y

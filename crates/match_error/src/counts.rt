@@ -41,7 +41,7 @@ fn frame_count(canvas: &Canvas, rect: &Box3, f: u32) -> u32
         one_filled (map_at canvas.now.map (plus rect.now.corner (spot x y f))))) }
     ensures small { result ≤ rect.now.size.w * rect.now.size.h }
 {
-    // The map is asked only to show the check that its size is small.
+    // The map is taken for its contract only: it shows the prover that its size is small.
     let _map = canvas.map();
     let mut count = 0;
     for y in 0..rect.size.h {
@@ -60,7 +60,7 @@ pub fn filled_count(canvas: &Canvas, rect: &Box3) -> u32
     if rect.size.w == 0 {
         return 0;
     }
-    // The map is asked only to show the check that its size is small.
+    // The map is taken for its contract only: it shows the prover that its size is small.
     let _map = canvas.map();
     let mut count = 0;
     for f in 0..rect.size.f {

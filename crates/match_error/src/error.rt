@@ -2,7 +2,7 @@
 ghost use Rattle.std.specs.Prelude.{◌≡◌, ◌≤◌, ◌^◌};
 ghost use Rattle.match_error.specs.Errors.{is_within};
 
-/// How far the cells of a placement are from what stands there already.
+/// How far the cells of a placement are from what is there already.
 #[derive(Clone, Copy, Debug, Drop, PartialEq, Eq)]
 pub struct Error {
     /// The sum over the filled cells of the box, and the samples of each, of the squared differences.

@@ -20,7 +20,7 @@ pub(crate) struct RowRun {
     pub(crate) end: u32,
 }
 
-/// How far in another box a box stands: from corner to corner.
+/// How far a box is in another: from corner to corner.
 #[derive(Clone, Copy, Drop)]
 pub(crate) struct Inset {
     pub(crate) x: u32,
@@ -52,7 +52,7 @@ fn add_row(
     ensures { OnOk result (AreMoreRuns (IsFilledAt canvas.now.map rect.now y f) rect.now.size.w
         runs.old.items runs.new.items) }
 {
-    // It is asked for only to show the check that this is a canvas.
+    // Called for its contract only: it shows the prover that this is a canvas.
     let _picture = canvas.picture();
     let w = rect.size.w;
     let mut x = 0;
@@ -87,7 +87,7 @@ impl FilledRows {
         requires inside { HoldsBox canvas.now.map.size rect.now.corner rect.now.size }
         ensures { IfOk result (AreFilledRows canvas.now.map) }
     {
-        // The map is asked only to show the check that its size is small.
+        // The map is taken for its contract only: it shows the prover that its size is small.
         let _map = canvas.map();
         let h = rect.size.h;
         let mut runs = Vec::new(alloc);
@@ -105,7 +105,7 @@ impl FilledRows {
         })
     }
 
-    /// How far in their box another stands; None where it doesn't lie in it.
+    /// How far another box is in theirs; None where it doesn't lie in it.
     pub(crate) fn inset_of(&self, rect: &Box3) -> Option<Inset>
         ensures { IfSome result (IsInset self.now.rect rect.now) }
     {
@@ -128,7 +128,7 @@ impl FilledRows {
             (row % self.now.rect.size.h) (row / self.now.rect.size.h))
             0 self.now.rect.size.w result.now }
     {
-        // The map is asked only to show the check that its size is small.
+        // The map is taken for its contract only: it shows the prover that its size is small.
         let _map = canvas.map();
         let starts = self.starts.as_slice();
         let start = starts[row as usize];
@@ -137,7 +137,7 @@ impl FilledRows {
         runs_between(all, start, end)
     }
 
-    /// The runs of that row in which a row of another box lies, which stands so far in theirs. Its row
+    /// The runs of that row in which a row of another box lies, which is so far in theirs. Its row
     /// begins at column `inset.x` of the runs.
     pub(crate) fn runs_of(
         &self,
@@ -152,7 +152,7 @@ impl FilledRows {
         requires row { (y < rect.now.size.h) × (f < rect.now.size.f) }
         ensures { AreLaidRuns canvas.now.map rect.now inset.x y f result.now }
     {
-        // The map is asked only to show the check that its size is small.
+        // The map is taken for its contract only: it shows the prover that its size is small.
         let _map = canvas.map();
         let row = inset.y + self.rect.size.h * (inset.f + f) + y;
         self.row_runs(canvas, row)

@@ -33,7 +33,7 @@ pub(crate) fn first_size(sample: &Volume) -> Size
     ensures size { result ≡ sample.now.size }
     ensures small { IsSmall result }
 {
-    // It is asked for only to show the check that the sample is a volume.
+    // Called for its contract only: it shows the prover that the sample is a volume.
     let _sample = sample.samples();
     sample.sizes().at(1)
 }
@@ -94,7 +94,7 @@ pub(crate) fn box_row(
     ensures bytes { result.now ≡ row_at volume.now (plus corner (spot 0 y f)) size.w }
     ensures len { length result.now ≡ volume.now.k * size.w }
 {
-    // It is asked for only to show the check that this is a volume.
+    // Called for its contract only: it shows the prover that this is a volume.
     let _samples = volume.samples();
     match front {
         Some(Front { part, index }) => {

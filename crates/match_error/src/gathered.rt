@@ -30,7 +30,7 @@ struct FilledRun {
     offset: usize,
 }
 
-/// The filled cells of a box, as runs along X with the bytes that stand there. They serve all
+/// The filled cells of a box, as runs along X with the bytes that are there. They serve all
 /// placements of the box, as long as the canvas stays as it is.
 #[derive(Drop)]
 pub struct FilledRuns {
@@ -99,7 +99,7 @@ impl FilledRuns {
         ensures runs { OnOk result (AreRunsIn canvas.now.picture.k rect.now self.new) }
         ensures adds { OnOk result (AddsRow canvas.now rect.now y f self.old self.new) }
     {
-        // It is asked for only to show the check that this is a canvas.
+        // Called for its contract only: it shows the prover that this is a canvas.
         let _picture = canvas.picture();
         let w = rect.size.w;
         let mut x = 0;
@@ -232,7 +232,7 @@ impl FilledRuns {
         ensures bound { error_sum canvas.now.map sample.now placement.now ≤ 2 ^ 48 }
         ensures none { IfNone result (limit < error_sum canvas.now.map sample.now placement.now) }
     {
-        // They are asked for only to show the check that these are a map and a volume.
+        // Called for their contracts only: they show the prover that these are a map and a volume.
         let _map = canvas.map();
         let _sample = sample.samples();
         let front = self.front_index(sample, placement.from);

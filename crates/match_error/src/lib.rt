@@ -10,7 +10,7 @@
 //! the counts of many boxes (specs/Tables.antt). `FilledRuns::gather`, `FilledRows::gather` and
 //! `FilledCounts::make` take memory, and no other call does. `overlap` has the sums, `gathered` the runs
 //! of one box, `filled_rows` those of the rows, `counts` the counts of single boxes, `table` those of
-//! many, `rows` where the rows and the cells of a box stand, `fronts` where by the index of the box's
+//! many, `rows` where the rows and the cells of a box are, `fronts` where by the index of the box's
 //! first cell, `bytes` the sum over two runs of bytes, `error` the error and the comparison.
 #![tactic(auto)]
 

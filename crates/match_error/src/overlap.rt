@@ -27,7 +27,7 @@ fn marked_row_sum(canvas: &Canvas, sample: &Volume, placement: &Placement, y: u3
     ensures sum { result ≡ row_error canvas.now.map sample.now placement.now y f }
     ensures small { result ≤ most_row_error }
 {
-    // It is asked for only to show the check that the sample is a volume.
+    // Called for its contract only: it shows the prover that the sample is a volume.
     let _sample = sample.samples();
     let picture = canvas.picture();
     let at = row_start(placement.rect.corner, y, f);
@@ -68,7 +68,7 @@ fn run_sum(
     ensures { result ≡ run_part (λ i. spot_error canvas.now.map sample.now placement.now i y f)
         x placement.now.rect.size.w run.now }
 {
-    // It is asked for only to show the check that this is a canvas.
+    // Called for its contract only: it shows the prover that this is a canvas.
     let _picture = canvas.picture();
     let w = placement.rect.size.w;
     let first = column_in(x, w, run.first);
@@ -103,7 +103,7 @@ fn runs_sum(
     ensures sum { result ≡ row_error canvas.now.map sample.now placement.now y f }
     ensures small { result ≤ most_row_error }
 {
-    // They are asked for only to show the check that these are a map and a volume.
+    // Called for their contracts only: they show the prover that these are a map and a volume.
     let _map = canvas.map();
     let _sample = sample.samples();
     let mut sum: u64 = 0;
@@ -113,7 +113,7 @@ fn runs_sum(
     sum
 }
 
-// The sum over a row of the box, which may stand in that of rows of runs.
+// The sum over a row of the box, which may lie in the box of rows of runs.
 fn row_sum(
     rows: Option<&FilledRows>,
     inset: Inset,
@@ -182,7 +182,8 @@ fn with_frame(
     Some(sum)
 }
 
-// The sum over the box where it is at most a limit, else None. The box may stand in that of rows of runs.
+// The sum over the box where it is at most a limit, else None. The box may lie in the box of rows
+// of runs.
 fn box_sum_within(
     rows: Option<&FilledRows>,
     inset: Inset,
@@ -201,7 +202,7 @@ fn box_sum_within(
     ensures bound { error_sum canvas.now.map sample.now placement.now ≤ 2 ^ 48 }
     ensures none { IfNone result (limit < error_sum canvas.now.map sample.now placement.now) }
 {
-    // They are asked for only to show the check that these are a map and a volume.
+    // Called for their contracts only: they show the prover that these are a map and a volume.
     let _map = canvas.map();
     let _sample = sample.samples();
     let fronts = fronts_of(canvas, sample, placement);

@@ -1,4 +1,4 @@
-// Where the rows and the cells of a box stand.
+// Where the rows and the cells of a box are.
 ghost use Rattle.std.specs.Prelude.{◌≡◌, ◌<◌};
 ghost use Rattle.cells.specs.Places.{SumFits, plus, spot};
 

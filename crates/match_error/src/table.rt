@@ -31,7 +31,7 @@ fn one_filled(canvas: &Canvas, rect: &Box3, x: u32, y: u32, f: u32) -> u32
     requires row { IsInRow rect.now (x + 1) y f }
     ensures { result ≡ one_filled (map_at canvas.now.map (cell_in rect.now x y f)) }
 {
-    // It is asked for only to show the check that this is a canvas.
+    // Called for its contract only: it shows the prover that this is a canvas.
     let _picture = canvas.picture();
     if canvas.is_filled(rect.corner.plus(step_to(x, y, f))) {
         return 1;
@@ -56,7 +56,7 @@ fn add_row(
     ensures { OnOk result (AreMoreEntries canvas.now.map rect.now above y f
         entries.old.items entries.new.items) }
 {
-    // The map is asked only to show the check that its size is small.
+    // The map is taken for its contract only: it shows the prover that its size is small.
     let _map = canvas.map();
     let mut filled = 0;
     entries.push(entries[above])?;
@@ -87,7 +87,7 @@ impl FilledCounts {
         requires inside { HoldsBox canvas.now.map.size rect.now.corner rect.now.size }
         ensures { IfOk result (AreFilledCounts canvas.now.map) }
     {
-        // The map is asked only to show the check that its size is small.
+        // The map is taken for its contract only: it shows the prover that its size is small.
         let _map = canvas.map();
         let h = rect.size.h;
         let across = rect.size.w as usize + 1;
@@ -116,7 +116,7 @@ impl FilledCounts {
         ensures count { result ≡ filled_before canvas.now.map self.now.rect x row }
         ensures small { result ≤ MOST_CELLS }
     {
-        // The map is asked only to show the check that its size is small.
+        // The map is taken for its contract only: it shows the prover that its size is small.
         let _map = canvas.map();
         let across = self.rect.size.w as usize + 1;
         let entries = self.entries.as_slice();
@@ -132,7 +132,7 @@ impl FilledCounts {
             one_in_row canvas.now.map self.now.rect (x + i) (row + j))) }
         ensures small { result ≤ w * h }
     {
-        // The map is asked only to show the check that its size is small.
+        // The map is taken for its contract only: it shows the prover that its size is small.
         let _map = canvas.map();
         let inner = self.before(canvas, x, row);
         let right = self.before(canvas, x + w, row);
@@ -151,7 +151,7 @@ impl FilledCounts {
             one_in_row canvas.now.map self.now.rect (x + i)
             (y + self.now.rect.size.h * (f + k) + j)))) }
     {
-        // The map is asked only to show the check that its size is small.
+        // The map is taken for its contract only: it shows the prover that its size is small.
         let _map = canvas.map();
         let mut count = 0;
         for k in 0..size.f {

@@ -53,7 +53,7 @@ const FEW: u32 = 16;
 #[derive(Drop)]
 pub struct Trees {
     arcs: PackedArcs,
-    // The parents stand apart, since paths are followed more often than all else is read.
+    // The parents are kept apart, since paths are followed more often than all else is read.
     parents: Vec<Parent>,
     nodes: Vec<Node>,
     // Nodes from which a tree may grow.

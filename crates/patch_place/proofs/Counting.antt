@@ -14,7 +14,7 @@ Contains-slice_get xs x has = (has.0, slice_get-get_or xs has.0 x has.1 ∙ ap S
 pub slice_get-Contains : {X : Type 0} (xs : List X) (x : X) (i : ℕ) → slice_get xs i ≡ Some x → Contains xs x
 slice_get-Contains xs x i at = (i, slice_get_within xs i x at, get_or_from_slice_get xs i x x at)
 
--- lists whose entries agree have as many that pass, also of as many from the front
+-- lists whose entries agree have as many that pass, also among as many first entries
 alike : {X Y : Type 0} (x : X) (y : Y) (a b : Bool) (xs : List X) (ys : List Y) → a ≡ b → length xs ≡ length ys → length (cond a (x ∷ xs) xs) ≡ length (cond b (y ∷ ys) ys)
 alike x y true true xs ys e rest = ap (λ n. suc n) rest
 alike x y true false xs ys e rest = absurd (false≢true (sym e))
@@ -34,7 +34,7 @@ AllZip-take R [] (y ∷ ys) (suc i) zip = absurd zip
 AllZip-take R (x ∷ xs) [] (suc i) zip = absurd zip
 AllZip-take R (x ∷ xs) (y ∷ ys) (suc i) zip = (zip.0, AllZip-take R xs ys i zip.1)
 
--- an entry that passes stands after those before it that pass
+-- an entry that passes comes after those before it that pass
 pub passed_at : {X : Type 0} (q : X → Bool) (xs : List X) (i : ℕ) (x : X) → slice_get xs i ≡ Some x → q x ≡ true → slice_get (filter q xs) (length (filter q (take i xs))) ≡ Some x
 passed_at q [] i x at passes = absurd (none-some x at)
 passed_at q (y ∷ ys) zero x at passes = here (q y) (subst (λ z. q z ≡ true) (sym (same_Some y x at)) passes)

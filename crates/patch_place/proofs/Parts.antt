@@ -41,7 +41,7 @@ part_small sizes n part are at axes =
     let number : n + 1 ≡ suc n = omega arith in
     record { axes = axes; cells = omega (arith, part_within sizes n part (sym (at ∙ ap (size_of_part sizes) number)), are.cells) }
 
--- the first cell of a part stands at its first frame
+-- the first cell of a part is at its first frame
 pub stock_frames : (sizes : List Size) (n : ℕ) (p : At) → p ≡ stock_place sizes (n + 1) (spot 0 0 0) → p.f ≡ pos (frames_to_part sizes n)
 stock_frames sizes n p e =
     let number : n + 1 ≡ suc n = omega arith in

@@ -23,7 +23,7 @@ grid_placement output part overlap q = placed
 abbrev pub lesser : Size → Size → Size
 lesser a b = record { w = min a.w b.w; h = min a.h b.h; f = min a.f b.f }
 
--- on each axis the least of some sizes, of which one stands first
+-- on each axis the least of some sizes, of which one comes first
 abbrev pub least_of : Size → List Size → Size
 least_of size [] = size
 least_of size (next ∷ more) = least_of (lesser size next) more

@@ -56,7 +56,7 @@ abbrev pub rivals : Option Error → List Error → List Error
 rivals None table = table
 rivals (Some known) table = known ∷ table
 
--- the entry that passes a test after n others, and where it stands
+-- the entry that passes a test after n others, and where it is
 pub record IsNth {X : Type 0} (test : X → Bool) (table : List X) (n : ℕ) (entry : X) : Type 0 where
   pub i : ℕ
   pub at : slice_get table i ≡ Some entry

@@ -193,7 +193,7 @@ pub(crate) fn parts_of(sample: &Volume) -> Sizes
     ensures sizes { result ≡ sizes_of sample.now }
     ensures parts { AreVolumeParts result }
 {
-    // It is asked for only to show the check that the sample is a volume.
+    // Called for its contract only: it shows the prover that the sample is a volume.
     let _sample = sample.samples();
     sample.sizes()
 }

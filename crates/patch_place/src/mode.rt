@@ -25,12 +25,12 @@ pub enum Mode {
     },
     /// A whole part of the sample, laid at random.
     Random,
-    /// A whole part of the sample, laid where it fits what stands there.
+    /// A whole part of the sample, laid where it fits what is there.
     Whole {
         /// By how much more than the best a placement may differ, in hundredths.
         tol: u32,
     },
-    /// A patch of the sample that fits what stands there.
+    /// A patch of the sample that fits what is there.
     Sub {
         /// The cells of the patch on each axis, at most those of the output and of each part.
         side: u32,
@@ -59,7 +59,7 @@ fn least_part(sample: &Volume) -> Size
     ensures some { HasCells result }
     ensures parts { HasRoomInEach sample.now result }
 {
-    // It is asked for only to show the check that the sample is a volume.
+    // Called for its contract only: it shows the prover that the sample is a volume.
     let _sample = sample.samples();
     let sizes = parts_of(sample);
     let mut least = part_after(&sizes, 0);
@@ -125,7 +125,7 @@ impl Mode {
         ensures fit { HasPatch self.now
             → All (FitsAndCovers output sample.now q) (listed result output sample.now) }
     {
-        // It is asked for only to show the check that the sample is a volume.
+        // Called for its contract only: it shows the prover that the sample is a volume.
         let _sample = sample.samples();
         self.list_for(q, output, sample)
     }

@@ -54,14 +54,14 @@ fn spread_step(size: Size, i: u32) -> At
     }
 }
 
-// The place from which a box goes on with what stands at one of 16 cells of it. None where the cell is
+// The place from which a box goes on with what is at one of 16 cells of it. None where the cell is
 // unfilled.
 fn hint_at(canvas: &Canvas, rect: &Box3, i: u32) -> Option<At>
     requires some { HasCells rect.now.size }
     requires inside { HoldsBox canvas.now.map.size rect.now.corner rect.now.size }
     requires few { i < 16 }
 {
-    // It is asked for only to show the check that this is a map.
+    // Called for its contract only: it shows the prover that this is a map.
     let map = canvas.map();
     let step = spread_step(rect.size, i);
     let source = map.at(rect.corner.plus(step))?;
@@ -113,7 +113,7 @@ impl BoxErrors for Overlaps<'_> {
     ghost MayAsk = { IsOverlap };
 
     fn count(&self) -> u32 {
-        // They are asked for only to show the check that these are a map and a volume.
+        // Called for their contracts only: they show the prover that these are a map and a volume.
         let _map = self.canvas.map();
         let _samples = self.sample.samples();
         self.count

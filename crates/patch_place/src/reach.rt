@@ -35,7 +35,7 @@ fn reach_on(output: u32, part: u32, q: u32) -> Reach
 
 // On each axis the greatest of the parts of a sample.
 fn greatest_part(sample: &Volume) -> Size {
-    // It is asked for only to show the check that the sample is a volume.
+    // Called for its contract only: it shows the prover that the sample is a volume.
     let _sample = sample.samples();
     let sizes = parts_of(sample);
     let mut greatest = part_after(&sizes, 0);

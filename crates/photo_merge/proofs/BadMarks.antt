@@ -12,7 +12,7 @@ use Rattle.cells.proofs.CellLaws.{cell_is}
 use Rattle.cells.proofs.Raster.{place_at}
 use Rattle.photo_merge.specs.Marks.{AreMerging, HasMark, IsFirstBad}
 
--- the cell at a place of the marks stands at its index
+-- the cell at a place of the marks is at its index
 pub mark_cell : (marks : Cells) → IsVolume marks → (i : ℕ) → i < cell_count marks.size → cell_at marks (place_of marks.size i) ≡ Some (get_or marks.cells i [])
 mark_cell marks volume i lt = cell_is marks volume (place_of marks.size i) i (place_at marks.size i volume.small.axes.w.0 volume.small.axes.h.0 lt)
 

@@ -74,7 +74,7 @@ module _ (f : At → Option At) (size : Size) where
         subst (λ source. IfSome source IsSource) (sym (entry i below)) (each (place_of size i) inside));
   }
 
--- a source of a map may stand in one
+-- a source of a map may be in one
 pub source_is : (m : SourceMap) → IsMap m → (p : At) → IfSome (map_at m p) IsSource
 source_is m is p = by (index_in m.size p) refl
   where

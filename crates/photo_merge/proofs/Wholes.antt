@@ -50,7 +50,7 @@ module _ (pictures : Cells) (number : ℕ) (size : Size) where
   pub of_whole : (p : At) → IsInBox (whole_from pictures number size).rect p → IsInside size p
   of_whole p inside = subst (IsInside size) (from_first p) inside
 
-  -- what a list says of a cell stands at the cell's index
+  -- what a list says of a cell is at the cell's index
   pub said_of : (says : List Bool) (p : At) (i : ℕ) → IsPlaceAt size p i → chosen says (box_index (whole_from pictures number size) p) ≡ get_or says i false
   said_of says p i at = ap (λ q. chosen says (index_in size q)) (from_first p) ∙ ap (chosen says) at.index
 

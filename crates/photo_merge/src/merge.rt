@@ -17,7 +17,7 @@ fn first_map(alloc: Global, pictures: &Volume) -> Result<Map, AllocError>
     requires { AreOneSize pictures.now }
     ensures { IfOk result (λ m. m ≡ first_map pictures.now) }
 {
-    // They are asked for only to show the check that the pictures are a volume.
+    // Called for their contracts only: they show the prover that the pictures are a volume.
     let _samples = pictures.samples();
     let size = pictures.sizes().at(1);
     let count = size.cells();
@@ -64,7 +64,7 @@ fn whole_from(pictures: &Volume, number: u32, size: Size) -> Placement
     ensures placement { result ≡ whole_from pictures.now number size }
     ensures fits { Fits size pictures.now result }
 {
-    // They are asked for only to show the check that the pictures are a volume.
+    // Called for their contracts only: they show the prover that the pictures are a volume.
     let _samples = pictures.samples();
     let corner = At { x: 0, y: 0, f: 0 };
     Placement {
@@ -73,10 +73,10 @@ fn whole_from(pictures: &Volume, number: u32, size: Size) -> Placement
     }
 }
 
-/// Lays one more picture, the one of a number from 2 on, over the whole output: the cells marked with it come
-/// from it, those marked with an earlier one stay as they are, and of all choices for the others the one is taken
-/// whose seams cost the least in all, and of those the one with the fewest cells that stay. The one error is out
-/// of memory.
+/// Lays one more picture, the one of a number from 2 on, over the whole output. The cells marked with it come
+/// from it, and those marked with an earlier one stay as they are. Of all choices for the others, the one is
+/// taken whose seams cost the least in all, and of those the one with the fewest cells that stay. The one error
+/// is out of memory.
 pub fn merge_step(
     alloc: Global,
     canvas: &Canvas,
@@ -114,7 +114,7 @@ pub fn merge_canvas(alloc: Global, pictures: &Volume, marks: &Volume) -> Result<
     ensures stands { IfOk result (λ merged. StandsOver merged pictures.now) }
     ensures canvas { IfOk result IsCanvas }
 {
-    // They are asked for only to show the check that the pictures are a volume.
+    // Called for their contracts only: they show the prover that the pictures are a volume.
     let _samples = pictures.samples();
     let map = first_map(alloc, pictures)?;
     let mut canvas = Canvas::of_map(alloc, map, pictures)?;

@@ -1,5 +1,5 @@
 -- A reader has to trust this file. Quilts, block by block. (Efros and Freeman 2001 pick a block
--- that fits what stands there, and cut along least boundaries; which block is drawn, and which of
+-- that fits what is there, and cut along least boundaries; which block is drawn, and which of
 -- several least boundaries is taken, is own.)
 use Rattle.std.specs.Prelude.{◌≡◌, ◌≤◌, ℕ, List, [], ◌∷◌, Option, Some, None, IsSome, Result, Ok, Err}
 use Rattle.std.specs.declared.alloc.AllocError.{AllocError}

@@ -17,7 +17,7 @@ pub fn quilts_replay(plan: &QuiltPlan, sample: &Volume, size: Size)
     requires frame { size.f ≡ 1 }
     ensures { QuiltsReplay plan.now sample.now size }
 {
-    // It is asked for only to show the check that the sample is a volume.
+    // Called for its contract only: it shows the prover that the sample is a volume.
     let _size = sample.size();
 }
 
@@ -27,6 +27,6 @@ pub fn there_is_one_quilt(plan: &QuiltPlan, sample: &Volume, size: Size)
     requires { IsSmall size }
     ensures { OneQuilt plan.now sample.now size }
 {
-    // It is asked for only to show the check that the sample is a volume.
+    // Called for its contract only: it shows the prover that the sample is a volume.
     let _samples = sample.samples();
 }

@@ -1,9 +1,9 @@
 //! Quilts of blocks, after Efros and Freeman (SIGGRAPH 2001).
 //!
-//! `next_block` lays the next block of a plan over a canvas: it picks a place of the sample among those that
-//! fit what stands there about as well as the best, finds the least boundary through each strip in which the
-//! block overlaps what stands there, and puts in the cells that every boundary calls new. `next_block_with` is
-//! the same step of a sample whose sums of blocks are made, and `next_block_by` the same with other ratings of
+//! `next_block` lays the next block of a plan over a canvas. It picks a place of the sample among those that
+//! fit what is there about as well as the best. It finds the least boundary through each strip in which the
+//! block overlaps what is there, and puts in the cells that every boundary calls new. `next_block_with` is the
+//! same step of a sample whose sums of blocks are made, and `next_block_by` the same with other ratings of
 //! places than the overlap error. The contract says the step in full (specs/Runs.antt), and that its record
 //! stands. `laws` says what follows for whole quilts: records over one another leave the map, each stands, and
 //! each boundary is least.

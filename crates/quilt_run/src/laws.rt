@@ -14,6 +14,6 @@ pub fn there_is_one_quilt_limit(asked: &QuiltRun, sample: &Volume)
     ensures limit { OneQuiltLimit asked.now sample.now }
     ensures run { (rating : Rating) → RunsPassThere rating asked.now sample.now }
 {
-    // It is asked for only to show the check that the sample is a volume.
+    // Called for its contract only: it shows the prover that the sample is a volume.
     let _samples = sample.samples();
 }

@@ -58,7 +58,7 @@ fn quilt_within<P: BlockPicks>(
     ensures { IfOk result (IsQuilt (P.rating picks.now sample.now) asked.now sample.now) }
 {
     let work = lay_all(alloc, asked, sample, picks)?;
-    // It is asked for only to show the check that the sample is a volume.
+    // Called for its contract only: it shows the prover that the sample is a volume.
     let _samples = sample.samples();
     Ok(Quilted {
         canvas: work.canvas,

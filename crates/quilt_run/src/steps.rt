@@ -60,7 +60,7 @@ pub(crate) fn step<P: BlockPicks>(
     ensures { QuiltAdvances (P.rating picks.now sample.now) asked.now sample.now
         work.old work.new result }
 {
-    // It is asked for only to show the check that the sample is a volume.
+    // Called for its contract only: it shows the prover that the sample is a volume.
     let _samples = sample.samples();
     let next = next_block_by(
         alloc,
@@ -70,7 +70,7 @@ pub(crate) fn step<P: BlockPicks>(
         picks,
         &mut work.draws,
     )?;
-    // It is asked for only to show the check that the canvas is one.
+    // Called for its contract only: it shows the prover that the canvas is one.
     let _map = work.canvas.map();
     let Some(block) = next else {
         return Ok(false);

@@ -78,7 +78,7 @@ pub fn round(
     ensures lower { map_total sample.now canvas.new.map ≤ map_total sample.now canvas.old.map }
     ensures canvas { IsCanvas canvas.new }
 {
-    // It is asked for only to show the check that this is a map.
+    // Called for its contract only: it shows the prover that this is a map.
     let _map = canvas.map();
     let Some(_) = worst_box(canvas, sample, side, table) else {
         return Ok(None);
@@ -111,7 +111,7 @@ pub fn round_with(
     ensures lower { map_total sample.now canvas.new.map ≤ map_total sample.now canvas.old.map }
     ensures canvas { IsCanvas canvas.new }
 {
-    // They are asked for only to show the check that these are a map and a volume.
+    // Called for their contracts only: they show the prover that these are a map and a volume.
     let _map = canvas.map();
     let _samples = sample.samples();
     let Some(rect) = worst_box(canvas, sample, side, table) else {

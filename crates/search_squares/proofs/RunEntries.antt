@@ -1,4 +1,4 @@
--- Where the entries of a run of places stand.
+-- Where the entries of a run of places are.
 use Rattle.std.proofs.Common.{◌≡◌, ℕ, ◌+◌, ◌*◌, ◌/◌, ◌<◌, ◌≤◌, List, length, get_or, take, drop, refl, ap, sym, subst, ◌∙◌, arith, rules, ⊎_elim}
 use Rattle.std.proofs.lemmas.Int.{ints}
 use Rattle.std.proofs.lemmas.List.{get_or-drop, get_or-take, take-take}
@@ -44,7 +44,7 @@ run_of : (n : ℕ) (z : ℤ) (len : ℕ) → AxisHolds n z len → Run n z len
 run_of n (pos a) len holds = record { from = a; is = refl; to = omega (arith, ints, holds.to) }
 run_of n (negsuc a) len holds = absurd (omega (arith, ints, holds.from))
 
--- a box laid from each of some places along X lies in another: where the first of them stands in it
+-- a box laid from each of some places along X lies in another: where the first of them is in it
 pub record IsPlaced (outer : Box3) (from : At) (n : ℕ) (inner : Size) : Type 0 where
   pub x : ℕ
   pub y : ℕ

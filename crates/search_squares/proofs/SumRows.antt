@@ -83,7 +83,7 @@ module _ (Is : ℕ → ℕ → ℕ → ℕ → Type 0) (size : Size) where
           let rest = factors size.h size.f (omega (arith, first.1)) in
           record { w = first.0; h = rest.0; f = rest.1 }
 
-  -- the entry of a place, whatever stands after the rows
+  -- the entry of a place, whatever comes after the rows
   pub entry : (entries more : List ℕ) → AreRows Is size (size.h * size.f) entries → (x y f : ℕ) → x < size.w → y < size.h → f < size.f → Is y f x (get_or (entries ++ more) (x + size.w * (y + size.h * f)) 0)
   entry entries more are x y f lx ly lf =
       let parts = index_parts size.h y f ly in

@@ -1,6 +1,6 @@
 -- A reader has to trust this file. Blocks of a box, and what they bound: the squared difference of
 -- the sums of two blocks is at most the squared difference of their bytes, as many times as they
--- have bytes, by which a search for the best match leaves candidates out (Li and Salari 1995;
+-- have bytes. By this a search for the best match leaves candidates out (Li and Salari 1995;
 -- several sizes of blocks: Gao, Duanmu and Zou 2000).
 use Rattle.std.specs.Prelude.{◌≡◌, ◌≤◌, ◌<◌, ◌+◌, ◌*◌, ℕ, All, sum}
 use Rattle.std.specs.Int.{abs_diff}
@@ -45,7 +45,7 @@ abbrev pub HasEntry : Size → Block → Type 0
 HasEntry size block =
     (x y f : ℕ) → block.step ≡ spot x y f → block.entry ≡ raster_index size x y f
 
--- its sum is that of what stands there
+-- its sum is that of what is there
 abbrev pub HasSumOf : CanvasState → Box3 → ℕ → Block → Type 0
 HasSumOf canvas rect side block =
     block.sum ≡ block_sum canvas.picture side (plus rect.corner block.step)

@@ -15,7 +15,7 @@ pub record IsCellSum (sample : Cells) (rect : Box3) (y f x entry : ℕ) : Type 0
   pub is : entry ≡ sum (row_at sample (plus rect.corner (spot x y f)) 1)
   pub small : entry ≤ 255 * sample.k
 
--- so many entries stand after others, and of each a fact holds
+-- so many entries come after others, and of each a fact holds
 pub record ArePut (Is : ℕ → ℕ → Type 0) (count : ℕ) (was now : List ℕ) : Type 0 where
   pub long : length now ≡ length was + count
   pub kept : (i : ℕ) → i < length was → slice_index now i ≡ slice_index was i

@@ -48,7 +48,7 @@ pub(crate) fn filled_cells(
     ensures long { IfOk result (λ cells. length cells.items ≡ cell_count rect.now.size) }
     ensures filled { IfOk result (λ cells. MarkFilled canvas.now.map rect.now cells.items) }
 {
-    // The map is asked only to show the check that its size is small.
+    // The map is taken for its contract only: it shows the prover that its size is small.
     let _map = canvas.map();
     let count = rect.size.cells();
     let mut cells = Vec::with_capacity(alloc, count)?;
@@ -127,7 +127,7 @@ fn block_sum(picture: &Volume, at: At, side: u32) -> u16
     requires few { 255 * block_bytes side picture.now.k < 2 ^ 16 }
     ensures { result ≡ block_sum picture.now side at }
 {
-    // It is asked for only to show the check that the picture is a volume.
+    // Called for its contract only: it shows the prover that the picture is a volume.
     let _samples = picture.samples();
     let mut sum = 0;
     for y in 0..side {
@@ -224,7 +224,7 @@ impl BoxBlocks {
         ensures blocks { IfOk result (AreBoxBlocks canvas.now rect.now) }
         ensures side { IfOk result (λ blocks. blocks.side ≡ side) }
     {
-        // It is asked for only to show the check that this is a canvas.
+        // Called for its contract only: it shows the prover that this is a canvas.
         let _picture = canvas.picture();
         let mut blocks = BoxBlocks {
             side,

@@ -177,7 +177,7 @@ fn marks_of(
     requires few { n ≤ LANES }
     ensures { AreAbove canvas.now sample.now rect.now from n limit result }
 {
-    // It is asked for only to show the check that the sample is a volume.
+    // Called for its contract only: it shows the prover that the sample is a volume.
     let _sample = sample.samples();
     if blocks.side != sums.side || !holds_run(&sums.rect, rect.size, from, n) {
         return 0;

@@ -1,5 +1,5 @@
 // What the blocks of a box and the sums of the sample are both made with: cells by their counts, where
-// they stand in raster order, and the bytes of a row.
+// they come in raster order, and the bytes of a row.
 ghost use Rattle.std.specs.Prelude.{◌≡◌, ◌≤◌, ◌<◌, ◌*◌, ◌^◌, ◌↔◌, ℕ, IsTrue, length, sum};
 ghost use Rattle.cells.specs.Boxes.{HasCells};
 ghost use Rattle.cells.specs.Places.{raster_index, spot};

@@ -127,9 +127,9 @@ fn put_run(entries: &mut [u16], first: usize, sums: u16x32)
     sums.copy_to_slice(&mut entries[first..]);
 }
 
-// Makes of each entry, in its place, the sum of n entries: from it on, each so many further than the one
-// before. No entry is written over before the sums that it is in are made, since those stand no later. The
-// last entries stay, from which no n runs can be read.
+// Makes of each entry, in its place, the sum of n entries: from it on, each so many further than
+// the one before. No entry is written over before the sums that it is in are made, since those come
+// no later. The last entries stay, from which no n runs can be read.
 fn add_up(entries: &mut [u16], step: usize, n: u32)
     requires some { 1 ≤ n }
     requires reach { step * n < 2 ^ 32 }
@@ -189,7 +189,7 @@ fn block_sums(
     if !has_cells(rect.size) {
         return no_entries(alloc);
     }
-    // It is asked for only to show the check that the sample is a volume.
+    // Called for its contract only: it shows the prover that the sample is a volume.
     let _sample = sample.samples();
     sums_of_cells(alloc, sample, rect, side)
 }

@@ -41,7 +41,7 @@ EachTile wrap Is m [] = Unit {0}
 EachTile wrap Is m (step ∷ steps) =
     Is m step × EachTile wrap Is (map_after_around m wrap step.placement step.choice) steps
 
--- each choice is least on the torus, among all that are lawful over the map before it
+-- each choice is least on the torus, among all that are admissible over the map before it
 abbrev pub EachTileIsLeast : Cells → Wrap → SourceMap → List TileStep → Type 0
 EachTileIsLeast sample wrap =
     EachTile wrap (λ m step. IsLeastAround (distance sample) m wrap step.placement step.choice)

@@ -13,6 +13,6 @@ pub fn there_is_one_tiled_run(plan: &RunPlan, sample: &Volume)
     ensures least { EachIsLeast plan.now sample.now }
     ensures keep { EachKeeps plan.now sample.now }
 {
-    // It is asked for only to show the check that the sample is a volume.
+    // Called for its contract only: it shows the prover that the sample is a volume.
     let _samples = sample.samples();
 }

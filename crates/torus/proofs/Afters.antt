@@ -1,4 +1,4 @@
--- What a step leaves: a map, with one more cell filled from the front.
+-- What a step leaves: a map, with one more of its first cells filled.
 use Rattle.std.proofs.Common.{◌≡◌, ℕ, ◌+◌, ◌<◌, ◌≤◌, ◌⊎◌, inl, inr, ⊎_elim, List, length, map, get_or, refl, ap, sym, ◌∙◌, subst, arith, Bool, true, false, cond}
 use borrow.Author.Tests.{ltb-true}
 use mathlib.Core.Bool.{false≢true}
@@ -155,7 +155,7 @@ reaches_more plan sample before next step is by =
     subst (λ m. position_or_len is_none before.map.sources < position_or_len is_none m.sources) (sym by.map)
     (reaches_on before.map plan.wrap step.placement step.choice is by.next.q by.next.first by.next.covers by.fewest.least.one)
 
--- what a lawful choice keeps
+-- what an admissible choice keeps
 pub keeps_around : (m : SourceMap) (wrap : Wrap) (placement : Placement) (choice : List Bool) → IsLawfulAround m wrap placement choice → (p : At)
     → IsKeptAround m wrap placement.rect p ⊎ (IsInside m.size p × (IsInTile wrap m.size placement.rect p → ⊥)) → after_around m wrap placement choice p ≡ map_at m p
 keeps_around m wrap placement choice lawful p (inl kept) = ap (λ b. if b then Some (plus placement.from (step_around wrap m.size placement.rect p)) else map_at m p) (lawful.kept p kept)

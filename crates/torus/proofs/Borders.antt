@@ -1,4 +1,5 @@
--- Two choices that are lawful on the torus change the torus total as they change the window sum of the box.
+-- Two choices that are admissible on the torus change the torus total as they change the window sum
+-- of the box.
 use Rattle.std.proofs.Common.{◌≡◌, ℕ, ◌+◌, ◌<◌, ◌≤◌, ◌⊎◌, inl, inr, refl, ap, sym, ◌∙◌, subst, arith, Bool, true, false, List}
 use Rattle.std.proofs.lemmas.Int.{ints}
 use mathlib.Core.Bool.{false≢true}

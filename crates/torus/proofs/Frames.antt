@@ -152,7 +152,7 @@ module _ (m : SourceMap) (wrap : Wrap) (placement : Placement)
         here : whole (spot x y (m.size.f + i)) ≡ whole (spot x y i)
         here = λ k. to (pos x) (pos y) (ff.framed.period i lt k)
 
-    -- what stands at a place of the frame, and at the next one
+    -- what is at a place of the frame, and at the next one
     at_place : (x y f : ℕ) → x ≤ m.size.w → y ≤ m.size.h → f ≤ m.size.f → whole (plus start (spot x y f)) ≡ after_framed choice (spot x y f)
     at_place x y f lx ly lf = after_is choice (spot x y f) (one_step x y f lx ly lf)
 

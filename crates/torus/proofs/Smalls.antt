@@ -1,5 +1,5 @@
--- The small canvas: it has the kept cells of the torus, its lawful choices are those of the torus, and of two
--- of them the two totals differ by the same number.
+-- The small canvas: it has the kept cells of the torus, its admissible choices are those of the
+-- torus, and of two of them the two totals differ by the same number.
 use Rattle.std.proofs.Common.{◌≡◌, ℕ, ◌+◌, ◌-◌, ◌<◌, ◌≤◌, ◌⊎◌, inl, inr, ⊎_elim, refl, ap, sym, ◌∙◌, subst, arith, Bool, true, false, List}
 use Rattle.std.proofs.lemmas.Int.{ints}
 use mathlib.Core.Bool.{false≢true}
@@ -209,7 +209,7 @@ module _ (m : SourceMap) (wrap : Wrap) (placement : Placement) (small : SourceMa
         outside = λ tile. kept.meets.outside.1 (box_of kept.meets.other inside' tile);
       }
 
-  -- a choice that is lawful on the torus is lawful in the small canvas
+  -- a choice that is admissible on the torus is admissible in the small canvas
   pub lawful_small : (choice : List Bool) → IsLawfulAround m wrap placement choice → IsLawful small (small_placement wrap placement) choice
   lawful_small choice lawful = record {
     unfilled = λ p in_ none.
@@ -374,7 +374,7 @@ module _ (m : SourceMap) (wrap : Wrap) (placement : Placement) (small : SourceMa
         meets = meets p kept.other at kept.inside.inside (filled_inside m kept.other kept.other_filled) kept.beside kept.outside kept.other_filled;
       }
 
-  -- and a choice that is lawful in the small canvas is lawful on the torus
+  -- and a choice that is admissible in the small canvas is admissible on the torus
   pub lawful_around : (choice : List Bool) → IsLawful small (small_placement wrap placement) choice → IsLawfulAround m wrap placement choice
   lawful_around choice lawful = record {
     unfilled = λ p tile none.

@@ -1,4 +1,5 @@
--- Of two lawful choices the total of the small canvas and the torus total differ by the same number.
+-- Of two admissible choices the total of the small canvas and the torus total differ by the same
+-- number.
 use Rattle.std.proofs.Common.{◌≡◌, ℕ, ◌+◌, ◌≤◌, refl, ap, sym, ◌∙◌, subst, arith, Bool, true, false, List}
 use Rattle.std.proofs.lemmas.Int.{ints}
 use Rattle.std.specs.Prelude.{pos, Option, Some, if◌then◌else◌}

@@ -65,8 +65,8 @@ AreSameAround m wrap placement choice other =
     (p : At) → IsInTile wrap m.size placement.rect p
     → is_new_around wrap m.size placement choice p ≡ is_new_around wrap m.size placement other p
 
--- least of the lawful choices; of the least ones it has the fewest old cells, and no other has as
--- few
+-- least of the admissible choices; of the least ones it has the fewest old cells, and no other has
+-- as few
 pub record IsFewestAround (d : At → At → ℕ) (m : SourceMap) (wrap : Wrap) (placement : Placement)
     (choice : List Bool) : Type 0 where
   pub least : IsLeastAround d m wrap placement choice

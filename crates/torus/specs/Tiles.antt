@@ -1,5 +1,5 @@
 -- A reader has to trust this file. Boxes that may pass the edge of a wrapped axis, which of their
--- cells are kept, which choices are lawful, and what a choice leaves. (Own, after Kwatra et al.
+-- cells are kept, which choices are admissible, and what a choice leaves. (Own, after Kwatra et al.
 -- 2003.)
 use Rattle.std.specs.Prelude.{◌≡◌, ◌<◌, ◌+◌, ◌⊎◌, ◌↔◌, ℕ, ℤ, pos, negsuc, ◌+ℤ◌, ◌≤ℤ◌, ◌<ℤ◌, nat_lt, Bool, true, false, List, Option, Some, None, if◌then◌else◌}
 use Rattle.cells.specs.declared.place.At.{At}
@@ -125,7 +125,7 @@ abbrev pub small_placement : Wrap → Placement → Placement
 small_placement wrap placement =
     record { rect = small_box wrap placement.rect; from = placement.from }
 
--- of two lawful choices, the totals of the small canvas and of the torus differ by the same
+-- of two admissible choices, the totals of the small canvas and of the torus differ by the same
 -- number
 abbrev pub DifferAlike : (At → At → ℕ) → SourceMap → Wrap → Placement → SourceMap → Type 0
 DifferAlike d m wrap placement small = (choice other : List Bool)
@@ -135,13 +135,13 @@ DifferAlike d m wrap placement small = (choice other : List Bool)
     ≡ torus_total_after d m wrap placement other
     + total_after d small (small_placement wrap placement) choice
 
--- a choice is lawful in the small canvas exactly where it is lawful on the torus
+-- a choice is admissible in the small canvas exactly where it is admissible on the torus
 abbrev pub LawfulAlike : SourceMap → Wrap → Placement → SourceMap → Type 0
 LawfulAlike m wrap placement small = (choice : List Bool)
     → IsLawful small (small_placement wrap placement) choice
     ↔ IsLawfulAround m wrap placement choice
 
--- a lawful choice, such that no lawful choice leaves a smaller torus total
+-- an admissible choice, such that no admissible choice leaves a smaller torus total
 abbrev pub IsLeastAround :
     (At → At → ℕ) → SourceMap → Wrap → Placement → List Bool → Type 0
 IsLeastAround d m wrap placement =

@@ -7,8 +7,9 @@ ghost use Rattle.job_words.specs.declared.tile.Wrap.{Wrap};
 ghost use Rattle.torus.specs.Steps.{ThereIsOneTile};
 ghost use Rattle.torus.specs.Tiles.{DifferAlike, IsSmallMap, LawfulAlike, LeastAlike, Takes};
 
-/// A law, with nothing to run: a choice is lawful in the small canvas exactly where it is lawful on the
-/// torus; of two such choices the totals of both differ by the same number; so the least ones are the same.
+/// A law, with nothing to run: a choice is admissible in the small canvas exactly where it is admissible on
+/// the torus; of two such choices the totals of both differ by the same number; so the least ones are the
+/// same.
 pub fn small_canvas_has_the_least_choices()
     ensures lawful { (m : SourceMap) (wrap : Wrap) (placement : Placement) (small : SourceMap) →
         Takes wrap m.size placement.rect → IsSmallMap m wrap placement.rect small →

@@ -76,7 +76,8 @@ fn put_at(
     ensures stands { StandsOver canvas.new sample.now }
     ensures canvas { IsCanvas canvas.new }
 {
-    // These are asked for only to show the check that there are a map and a volume, and new sources.
+    // Called for their contracts only: they show the prover that there are a map and a volume, and
+    // new sources.
     let size = canvas.map().size();
     let _samples = sample.samples();
     new_sources();
@@ -105,7 +106,7 @@ pub fn put_around(
     ensures stands { StandsOver canvas.new sample.now }
     ensures canvas { IsCanvas canvas.new }
 {
-    // It is asked for only to show the check that there is a map.
+    // Called for its contract only: it shows the prover that there is a map.
     let _map = canvas.map().size();
     for i in 0..choice.len() {
         put_at(canvas, sample, wrap, placement, choice[i], i);

@@ -77,7 +77,7 @@ pub fn next_tile(
     ensures stands { StandsOver canvas.new sample.now }
     ensures canvas { IsCanvas canvas.new }
 {
-    // It is asked for only to show the check that this is a map.
+    // Called for its contract only: it shows the prover that this is a map.
     let _map = canvas.map();
     let Some(_) = canvas.first_unfilled() else {
         return Ok(None);

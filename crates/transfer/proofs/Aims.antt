@@ -1,4 +1,5 @@
--- A box of the target as a canvas of its own: what stands there, and that its errors are those from the target.
+-- A box of the target as a canvas of its own: what is there, and that its errors are those from the
+-- target.
 use Rattle.std.proofs.Common.{◌≡◌, ℕ, ◌+◌, ◌*◌, ◌<◌, ◌≤◌, List, [], ◌∷◌, length, get_or, true, false, refl, ap, sym, ◌∙◌, subst, arith}
 use Rattle.std.proofs.lemmas.Int.{ints}
 use Rattle.std.proofs.lemmas.List.{get_or-replicate}

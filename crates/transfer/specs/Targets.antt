@@ -1,5 +1,5 @@
 -- A reader has to trust this file. How far the cells of a placement are from those of a target, and
--- how a placement is rated by both its target and what stands there. (Efros and Freeman 2001 weigh
+-- how a placement is rated by both its target and what is there. (Efros and Freeman 2001 weigh
 -- the two errors by alpha; that it counts in hundredths is own.)
 use Rattle.std.specs.Prelude.{◌≡◌, ◌+◌, ◌-◌, ◌*◌, ℕ, Some, nat_le}
 use Rattle.boxes.specs.Sums.{sum_box, sum_to}

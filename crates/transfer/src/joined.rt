@@ -58,7 +58,7 @@ pub(crate) fn target_box(
     requires inside { HoldsBox target.now.size rect.now.corner rect.now.size }
     ensures { IfOk result (IsTargetBox sample.now target.now joined.now rect.now) }
 {
-    // It is asked for only to show the check that the sample is a volume.
+    // Called for its contract only: it shows the prover that the sample is a volume.
     let _sample = sample.samples();
     let k = joined.samples();
     let from = joined.sizes().stock(2, rect.corner);

@@ -45,7 +45,7 @@ pub fn next_transfer(
     let Some(_) = canvas.first_unfilled() else {
         return Ok(None);
     };
-    // They are asked for only to show the check that these are volumes.
+    // Called for their contracts only: they show the prover that these are volumes.
     let _sample = sample.samples();
     let _target = target.samples();
     let search = TargetSearch::make(alloc, target, sample)?;
@@ -98,7 +98,7 @@ pub fn transfer_canvas(
     requires target { IsTargetOf asked.now.size sample.now target.now }
     ensures { Quilts (by_target alpha target.now sample.now) asked.now sample.now result }
 {
-    // They are asked for only to show the check that these are volumes.
+    // Called for their contracts only: they show the prover that these are volumes.
     let _sample = sample.samples();
     let _target = target.samples();
     let search = TargetSearch::make(alloc, target, sample)?;

@@ -34,7 +34,7 @@ fn row_sum(target: &Volume, sample: &Volume, placement: &Placement, y: u32, f: u
     ensures sum { result ≡ target_row target.now sample.now placement.now y f }
     ensures small { result ≤ most_row_error }
 {
-    // They are asked for only to show the check that these are volumes.
+    // Called for their contracts only: they show the prover that these are volumes.
     let _target = target.samples();
     let _sample = sample.samples();
     let w = placement.rect.size.w;
@@ -67,7 +67,7 @@ pub fn target_error(target: &Volume, sample: &Volume, placement: &Placement) -> 
     ensures sum { result ≡ target_sum target.now sample.now placement.now }
     ensures small { result ≤ most_cell_error * cell_count placement.now.rect.size }
 {
-    // They are asked for only to show the check that these are volumes.
+    // Called for their contracts only: they show the prover that these are volumes.
     let _target = target.samples();
     let _sample = sample.samples();
     let mut sum: u64 = 0;

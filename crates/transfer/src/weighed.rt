@@ -1,4 +1,4 @@
-// Picks by a target and by what stands there.
+// Picks by a target and by what is there.
 ghost use Rattle.std.specs.Prelude.{◌≡◌, ◌≤◌, IfOk, OnErr, OnOk, Some};
 ghost use Rattle.limits.specs.declared.bounds.TheConstants.{GREATEST_ALPHA};
 ghost use Rattle.cells.specs.Boxes.{HasCells, HoldsBox};
@@ -57,7 +57,7 @@ fn weighing<'a>(
 {
     let joined = &search.joined;
     let sums = &search.sums;
-    // They are asked for only to show the check that these are volumes.
+    // Called for their contracts only: they show the prover that these are volumes.
     let _sample = sample.samples();
     let _joined = joined.samples();
     let first = at_first(rect);

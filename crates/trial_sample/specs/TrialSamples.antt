@@ -5,7 +5,7 @@ use Rattle.cells.specs.Cells.{Cells, volume_of}
 use Rattle.patch_place.specs.Draws.{draw}
 use Rattle.trial_sample.specs.declared.sample.TheConstants.{BYTES, CELL_BYTES, SIZE}
 
--- what stands under the draws at the cell of an index
+-- what is under the draws at the cell of an index
 abbrev pub ground : ℕ → ℕ
 ground i = 96 * ((i % SIZE.w / 8 + i / SIZE.w / 8) % 2)
 

@@ -15,7 +15,7 @@ const CELL_BYTES: u32 = 3;
 /// The bytes of the sample.
 const BYTES: u32 = 12288;
 
-// What stands under the draws at the cell of an index.
+// What is under the draws at the cell of an index.
 fn ground(i: u32) -> u8
     ensures ground { result ≡ ground i }
     ensures most { result < 97 }

@@ -13,7 +13,7 @@ use Rattle.check_command.specs.declared.reading.ReadFiles.{ReadFiles}
 use Rattle.check_command.specs.Checks.{AreRunFiles, Break, Stand}
 
 -- the files of these names have records, and those are least over the worked samples: each choice
--- of a cut record of all lawful ones, each boundary of a block record of all boundaries of its
+-- of a cut record of all admissible ones, each boundary of a block record of all boundaries of its
 -- strip, and a walk of all closed walks of its length
 pub record HaveLeastRecords (turns : Bool) (names : Names) (files : Files) : Type 0 where
   pub values : ReadFiles

@@ -54,9 +54,9 @@ fn summary_of(verdict: Verdict) -> Summary
     }
 }
 
-/// Checks the files of a run, with the turns of its samples where the job asks for them: reads the
-/// samples in the order of their numbers, then the out file, the map and the record, judges them, and
-/// reports that they stand, or the first rule that they break. It begins no file.
+/// Checks the files of a run, with the turns of its samples where the job asks for them. It reads the
+/// samples in the order of their numbers, then the out file, the map and the record. It judges them,
+/// and reports that they stand, or the first rule that they break. It begins no file.
 pub fn check_files<S: Shelf, O: Sink>(
     alloc: Global,
     job: &CheckJob,

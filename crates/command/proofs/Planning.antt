@@ -1,4 +1,5 @@
--- The first half of a command of stages: after each stage it stands before the next, and a stage that isn't passed ends it.
+-- The first half of a command of stages: after each stage it is before the next, and a stage
+-- that isn't passed ends it.
 use Rattle.std.proofs.Common.{◌≡◌, ℕ, zero, suc, ◌+◌, ◌<◌, inl, inr, List, [], ◌∷◌, ◌++◌, length, refl, ap, sym, ◌∙◌, subst, arith}
 use Rattle.std.specs.Prelude.{Some, slice_get}
 use Rattle.std.proofs.lemmas.Option.{slice_get_within}
@@ -29,13 +30,13 @@ pub record Lead (c : Command) (turn : ℕ) {reads : List NamedFile} (stages : St
   pub makes : (texts : List (List ℕ)) (summary : Summary) → AllMake stages files texts summary → c.Makes files texts summary
   pub one : AreOne stages files
 
--- the command stands before these stages: what it did so far only read files of its own
+-- the command is before these stages: what it did so far only read files of its own
 pub record StandsBefore (c : Command) (a b : ShelfState) (turn : ℕ) {reads : List NamedFile} (stages : Stages reads) : Type 0 where
   pub only : OnlyReads (names_in c.reads) a b
   pub turns : (i : ℕ) (part : FileOf) (name : List ℕ) → HasTurn reads i part name → HasTurn c.reads (turn + i) part name
   pub lead : Sees a b (Lead c turn stages)
 
--- at its entry it stands before all of them
+-- at its entry it is before all of them
 pub begin : {reads : List NamedFile} (stages : Stages reads) (writes : List NamedFile) (MayRefuse : Fault → Type 0) (MayMake : Summary → Type 0) → ((files : Files) → AreOne stages files) → (a : ShelfState)
     → StandsBefore (of_stages stages writes MayRefuse MayMake) a a 0 stages
 begin {reads} stages writes MayRefuse MayMake one a = record {

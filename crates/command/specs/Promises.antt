@@ -99,7 +99,7 @@ ReadStatus commands words was now err err' status =
 -- STATUS 6
 
 -- a file that the command writes, or the report, can't be written whole: its count of write faults
--- rose, all that stands before it is written, and err has the line that names it
+-- rose, all that comes before it is written, and err has the line that names it
 pub record HasFailedToWrite (commands : Commands) (words : List (List ℕ)) (was now : ShelfState)
     (out out' err err' : SinkState) : Type 0 where
   pub job : Job

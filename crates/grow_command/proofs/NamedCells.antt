@@ -1,4 +1,4 @@
--- The place that the map file names has the cell that stands at the place of the worked samples.
+-- The place that the map file names has the cell that is at the place of the worked samples.
 use Rattle.std.proofs.Common.{◌≡◌, Bool, true, false, refl, subst}
 use Rattle.cells.specs.declared.place.At.{At}
 use Rattle.cells.specs.Cells.{Cells, HasCell, IsVolume, cell_at, sizes_of}

@@ -29,7 +29,7 @@ abbrev Fails : {A : Type 0} → Result A ReadError → Type 0
 Fails (Ok x) = ⊥
 Fails (Err refusal) = Unit {0}
 
--- wherever the piece stands, it is refused
+-- wherever the piece is, it is refused
 abbrev Refused : {A : Type 0} → (ℕ → List ℕ → Result (A × ℕ) ReadError) → List ℕ → Type 0
 Refused read piece = (at : ℕ) (bytes : List ℕ) → StandsAt at piece bytes → Fails (read at bytes)
 

@@ -41,7 +41,7 @@ use Rattle.grow_command.specs.Growths.{IsMade, head_over, version_over}
 use Rattle.source_map.specs.declared.head.Version.TheVariants.{One, Two}
 use Rattle.command_files.proofs.Pictures.{picture_bytes}
 
--- the picture of a full canvas over samples can stand in their form
+-- the picture of a full canvas over samples can be written in their form
 can_stand : (form : Form) (sample : Cells) (canvas : CanvasState) → IsVolume sample → AreSoundIn form sample → IsFull canvas.map → canvas.map.size.f ≤ frames_allowed form → 1 ≤ canvas.map.size.f → IsCanvas canvas → StandsOver canvas sample → CanStandIn form canvas.picture
 can_stand (Picture maxval) sample canvas volume sound full frames some is stands = record {
   positive = sound.positive;

@@ -1,4 +1,4 @@
--- The headline of `grow`: what stands when it ends with status 0. To be trusted: contracts cite
+-- The headline of `grow`: what holds when it ends with status 0. To be trusted: contracts cite
 -- these words. (Own.)
 use Rattle.std.specs.Prelude.{◌≡◌, ◌≢◌, ◌≤◌, ◌-◌, ℕ, Bool, List, length, Some, Ok}
 use Rattle.std.specs.FinMap as fin
@@ -63,9 +63,9 @@ RaisesNone sample m cut =
 -- and the record file has the records of the steps of the run of these words: each pick is that of
 -- its draw, and of the least choices the one with the fewest old cells is taken. They replay to the
 -- map; over the map that the records before it leave, each record stands, keeps the fixed cells, and
--- no lawful choice has a smaller total cost of seams, old ones included. First come the records of
--- placements, and then those of rounds, each over a full map, of which none raises the total. With
--- turns all of this is said over the volume of all turns, whose places the records have
+-- no admissible choice has a smaller total cost of seams, old ones included. First come the records
+-- of placements, and then those of rounds, each over a full map, of which none raises the total.
+-- With turns all of this is said over the volume of all turns, whose places the records have
 pub record IsGrownRecord (job : GrowJob) (output : Samples) (map : SourceMap) (text : List ℕ)
     : Type 0 where
   pub cuts : List CutRecord

@@ -1,7 +1,7 @@
 //! The command `grow`: a texture from samples, with its map, its records, and its report.
 //!
 //! `grow` promises what a run of the command leaves, by its answer (specs/Growths.antt has the command as a value
-//! over the crate command: what it reads, refuses, makes and writes). What stands when it ends well is the
+//! over the crate command: what it reads, refuses, makes and writes). What holds when it ends well is the
 //! headline of the command (specs/GrowHeadlines.antt), which proofs/GrowLaws.antt proves of all that it writes.
 //!
 //! With turns the run works over the volume of all turns of its samples, and the map file names their cells as

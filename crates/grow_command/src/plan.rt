@@ -64,8 +64,8 @@ pub(crate) fn plan<S: Shelf>(alloc: Global, job: &GrowJob, shelf: &mut S) -> Res
         Ok(read) => read,
         Err(fault) => return Err(fault),
     };
-    // The number of samples of a cell is asked for only to show the check that these are a volume, here and
-    // of their turns.
+    // The number of samples of a cell is taken for its contract only: it shows the prover that
+    // these are a volume, here and of their turns.
     let _k = read.volume.samples();
     let sizes = read.volume.sizes();
     match within_bounds(job.size, &read.form) {

@@ -1,4 +1,4 @@
--- The headline of `loop`: what stands when it ends with status 0. To be trusted: contracts cite
+-- The headline of `loop`: what holds when it ends with status 0. To be trusted: contracts cite
 -- these words. (Own.)
 use Rattle.std.specs.Prelude.{◌≡◌, ◌≢◌, ℕ, false, List, slice_index, Some, Ok}
 use Rattle.std.specs.FinMap as fin

@@ -106,7 +106,7 @@ pub(crate) fn plan<S: Shelf>(
         Ok(clip) => clip,
         Err(error) => return Err(read_fault(FileOf::Sample, error)),
     };
-    // It is asked for only to show the check that the clip is a volume.
+    // Called for its contract only: it shows the prover that the clip is a volume.
     let _k = clip.volume.samples();
     match set_against(job, &clip.volume) {
         Ok(()) => {}

@@ -102,10 +102,10 @@ fn write_loop<S: Shelf, O: Sink>(
     write_run(&mut Then(frames, Then(map, walk_file)), summary, shelf, out)
 }
 
-/// Makes a loop of a clip: reads the sample, which has to be a clip, finds a closed walk of the asked
-/// length through its frames that costs least, and writes the frames of the walk as a clip, then the frame
-/// map, the record of the walk, and the report. All is computed before the first file is begun, and no
-/// memory is taken after it.
+/// Makes a loop of a clip. It reads the sample, which has to be a clip, and finds a closed walk of the
+/// asked length through its frames that costs least. It writes the frames of the walk as a clip, then the
+/// frame map, the record of the walk, and the report. All is computed before the first file is begun, and
+/// no memory is taken after it.
 pub fn loop_clip<S: Shelf, O: Sink>(
     alloc: Global,
     job: &LoopJob,

@@ -2,7 +2,7 @@
 //! where each cell comes from, and a report.
 //!
 //! `merge_pictures` promises what a run of the command leaves, by its answer (specs/MergeCommand.antt has the command
-//! as a value over the crate command: what it reads, refuses, makes and writes). What stands when it ends well is the
+//! as a value over the crate command: what it reads, refuses, makes and writes). What holds when it ends well is the
 //! headline of the command (specs/MergeHeadlines.antt), which proofs/MergeRuns.antt proves of all that it writes.
 //!
 //! `pictures` reads several pictures of one size (specs/Pictures.antt), `plan` has what is read and computed, `whole`

@@ -43,7 +43,7 @@ fn set_against(pictures: &Pictures, marks: &Picture) -> Result<(), Fault>
     requires marks { IsSound marks.now }
     ensures { SetAgainst pictures.now marks.now result }
 {
-    // It is asked for only to show the check that the pictures are a volume.
+    // Called for its contract only: it shows the prover that the pictures are a volume.
     let _k = pictures.volume.samples();
     if !is_sized(pictures, marks) {
         return Err(Fault::Unlike(FileOf::Marks));
@@ -80,7 +80,7 @@ pub(crate) fn plan<S: Shelf>(alloc: Global, job: &MergeJob, shelf: &mut S) -> Re
         Ok(marks) => marks,
         Err(fault) => return Err(fault),
     };
-    // It is asked for only to show the check that the pictures are a volume.
+    // Called for its contract only: it shows the prover that the pictures are a volume.
     let _k = pictures.volume.samples();
     match set_against(&pictures, &marks) {
         Ok(()) => {}

@@ -1,7 +1,7 @@
 //! The command `quilt`: a picture from the blocks of one picture, with its map, its records, and its report.
 //!
 //! `quilt_picture` promises what a run of the command leaves, by its answer (specs/Quilts.antt has the command as a
-//! value over the crate command: what it reads, refuses, makes and writes). What stands when it ends well is the
+//! value over the crate command: what it reads, refuses, makes and writes). What holds when it ends well is the
 //! headline of the command (specs/QuiltHeadlines.antt), which proofs/QuiltLaws.antt proves of all that it writes.
 //! What `transfer` shares with it is the crate block_outputs.
 //!

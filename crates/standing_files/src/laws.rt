@@ -26,8 +26,8 @@ pub fn files_of_a_loop_stand()
     ensures { LoopStands }
 {}
 
-/// A law, with nothing to run: records that stand are least. No lawful choice of a cut leaves a smaller total,
-/// no boundary of a block costs less, and no closed walk of as many frames costs less.
+/// A law, with nothing to run: records that stand are least. No admissible choice of a cut leaves a smaller
+/// total, no boundary of a block costs less, and no closed walk of as many frames costs less.
 pub fn standing_records_are_least()
     ensures { StandingRecordsAreLeast }
 {}

@@ -23,7 +23,7 @@ use Rattle.job_words.specs.TileWords.{IsTileJob}
 use Rattle.tile_command.specs.declared.plan.TiledSample.{TiledSample}
 use Rattle.tile_command.specs.Tilings.{IsTilingMade}
 
--- the picture of a full canvas over a sample can stand in its form
+-- the picture of a full canvas over a sample can be written in its form
 can_stand : (form : Form) (sample : Cells) (canvas : CanvasState) → IsVolume sample → AreSoundIn form sample → IsFull canvas.map → canvas.map.size.f ≤ frames_allowed form → 1 ≤ canvas.map.size.f → IsCanvas canvas → StandsOver canvas sample → CanStandIn form canvas.picture
 can_stand (Picture maxval) sample canvas volume sound full frames some is stands = record {
   positive = sound.positive;

@@ -1,4 +1,4 @@
--- The headline of `tile`: what stands when it ends with status 0. To be trusted: contracts cite
+-- The headline of `tile`: what holds when it ends with status 0. To be trusted: contracts cite
 -- these words. (Own.)
 use Rattle.std.specs.Prelude.{◌≡◌, ◌≢◌, ℕ, List, length, Some, Ok}
 use Rattle.std.specs.FinMap as fin

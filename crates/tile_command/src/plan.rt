@@ -52,7 +52,7 @@ pub(crate) fn plan<S: Shelf>(
         Ok(sample) => sample,
         Err(error) => return Err(read_fault(FileOf::Sample, error)),
     };
-    // It is asked for only to show the check that the sample is a volume.
+    // Called for its contract only: it shows the prover that the sample is a volume.
     let _k = sample.volume.samples();
     match within_bounds(job.size, &sample.form) {
         Ok(()) => {}

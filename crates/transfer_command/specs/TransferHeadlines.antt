@@ -1,4 +1,4 @@
--- The headline of `transfer`: what stands when it ends with status 0. To be trusted: contracts cite
+-- The headline of `transfer`: what holds when it ends with status 0. To be trusted: contracts cite
 -- these words. (Own.)
 use Rattle.std.specs.Prelude.{◌≡◌, ℕ, List, length, Ok}
 use Rattle.shelf_core.specs.Files.{Files, ShelfState, SinkState, Changes, content_of}

@@ -58,10 +58,10 @@ fn write<S: Shelf, O: Sink>(
     write_quilt(&run_of(job, &made.target), &job.names, &made.quilt, summary, shelf, out)
 }
 
-/// Paints a target with blocks of a sample: reads both pictures, lays blocks along least boundaries, each at a
-/// place that agrees with what stands there and with the target, and writes the picture in the target's size, then
-/// the map, the record, and the report. All is computed before the first file is begun, and no memory is taken after
-/// it. The method is that of Efros and Freeman, "Image quilting" (2001), section 3, in one pass.
+/// Paints a target with blocks of a sample. It reads both pictures, and lays blocks along least boundaries, each at
+/// a place that agrees with what is there and with the target. It writes the picture in the target's size, then the
+/// map, the record, and the report. All is computed before the first file is begun, and no memory is taken after it.
+/// The method is that of Efros and Freeman, "Image quilting" (2001), section 3, in one pass.
 pub fn transfer_picture<S: Shelf, O: Sink>(
     alloc: Global,
     job: &TransferJob,

@@ -1,4 +1,4 @@
--- What stands when `upgrade` is done.
+-- What holds when `upgrade` is done.
 use Rattle.std.proofs.Common.{◌≡◌, ◌≢◌, ℕ, ◌<◌, List, [], ◌∷◌, length, get_or, refl, sym, ap, ◌∙◌, subst, arith, false}
 use Rattle.std.specs.Prelude.{Result, Ok, unwrap_or}
 use Rattle.std.specs.FinMap.{get, insert}

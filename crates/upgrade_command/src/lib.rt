@@ -2,7 +2,7 @@
 //!
 //! `upgrade` reads a cell map and cut records of version 1, and writes both in version 2, with one sample.
 //! specs/Upgrades.antt has what it reads and refuses and which texts it writes, and specs/Upgraded.antt what
-//! stands when it is done: the same map and the same records, of which `check` says the same. `pair` has what
+//! holds when it is done: the same map and the same records, of which `check` says the same. `pair` has what
 //! was read, and `upgrade` the command.
 #![tactic(auto)]
 

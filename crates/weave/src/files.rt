@@ -48,7 +48,7 @@ pub struct Source {
     opened: Opened,
     // how many bytes of the file have been read
     place: u64,
-    // the last of them, from the front of a buffer on
+    // the last of them, from the first byte of a buffer on
     last: Vec<u8>,
     kept: usize,
 }

@@ -16,7 +16,7 @@ const MOST_ROWS: u32 = 1_000;
 // The most rungs of a ladder.
 const MOST_RUNGS: u32 = 100_000;
 
-// The most steps of rails that stand side by side.
+// The most steps of rails that lie side by side.
 const MOST_STEPS: u32 = 100_000;
 
 // The most nodes of a network that looks drawn, and the most pipes between them.
@@ -45,8 +45,8 @@ fn join(network: &mut Network, from: u32, to: u32, most: u32)
 // The columns of a grid.
 const COLUMNS: u32 = 128;
 
-// Adds the pipes from a cell of a grid to the cells beside and below it. The source stands before the first
-// column, and the sink after the last.
+// Adds the pipes from a cell of a grid to the cells beside and below it. The source comes before
+// the first column, and the sink after the last.
 fn join_cell(network: &mut Network, rows: u32, cell: u32)
     requires cell { cell < rows * COLUMNS }
     requires rows { rows ≤ MOST_ROWS }
@@ -111,7 +111,7 @@ fn ladder_of(alloc: Global, rungs: u32) -> Result<Network, AllocError>
 const RAILS: u32 = 4;
 
 // Adds the pipes from a cell of a long thin grid to the cell of the next rail and to that of the next step. The
-// source stands before the first step, and the sink after the last.
+// source comes before the first step, and the sink after the last.
 fn join_rail(network: &mut Network, steps: u32, cell: u32)
     requires cell { cell < steps * RAILS }
     requires steps { steps ≤ MOST_STEPS }

@@ -24,7 +24,7 @@ pub struct Said {
     pub err: MemSink,
 }
 
-/// What stands after a run.
+/// What is there after a run.
 #[derive(Drop)]
 pub struct Left {
     pub said: Said,

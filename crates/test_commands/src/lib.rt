@@ -1,5 +1,5 @@
 //! Worked examples of files that stand and of those that don't, of the commands `quilt`, `loop` and `upgrade` over a
-//! store in memory, and of the sample of `trial`. What they show stands in no clause: that the definitions give the bytes
+//! store in memory, and of the sample of `trial`. No clause says what they show: that the definitions give the bytes
 //! and the numbers that were computed by hand or by another program.
 #![tactic(auto)]
 

@@ -1,6 +1,6 @@
 //! Worked examples, as tests alone: sums over rows, boundaries through strips, distances of frames and steps between them,
-//! loops, marks and steps of merges, turned samples and the files of their maps; and records and files that don't stand. What
-//! they show stands in no clause: that the definitions give the numbers that were computed by hand, and that none of all
+//! loops, marks and steps of merges, turned samples and the files of their maps; and records and files that don't stand. No
+//! clause says what they show: that the definitions give the numbers that were computed by hand, and that none of all
 //! choices of a merge's step, tried one by one, costs less.
 #![tactic(auto)]
 

@@ -106,7 +106,7 @@ fn are_six_sources(alloc: Global) -> Result<bool, AllocError> {
     is_read_as(alloc, &SIX, &sources)
 }
 
-// Sample 2 has two frames, and its turns stand after the eight of sample 1 with their empty frames.
+// Sample 2 has two frames, and its turns come after the eight of sample 1 with their empty frames.
 fn are_two_sources(alloc: Global) -> Result<bool, AllocError> {
     is_read_as(alloc, &TWO, &[place(0, 2, 38), place(0, 0, 6)])
 }
@@ -183,7 +183,7 @@ fn changed(alloc: Global, bytes: &[u8], at: usize, new: &[u8]) -> Result<Vec<u8>
     Ok(result)
 }
 
-// A file, a place in it and what stands there, and the refusal.
+// A file, a place in it with the bytes put there, and the refusal.
 type Change<'a> = (&'a [u8], usize, &'a [u8], ReadError);
 
 const CHANGES: &[Change<'static>] = &[

@@ -47,7 +47,7 @@ const EXCHANGED: &[u8] = &[4, 5, 6, 1, 2, 3, 10, 11, 12, 7, 8, 9];
 // Whether each turn exchanges the two cells of a row, from turn 0 on.
 const EXCHANGES: &[bool] = &[false, false, true, true, true, true, false, false];
 
-// The first turn, from 0, of which other bytes stand in all turns.
+// The first turn, counted from 0, whose bytes aren't the expected ones.
 fn wrong_turn(bytes: &[u8]) -> Option<usize> {
     for (turn, exchanges) in EXCHANGES.iter().enumerate() {
         let expected = if *exchanges { EXCHANGED } else { KEPT };

@@ -1,6 +1,6 @@
 //! Map and record files, to the byte: worked examples that are read and written again, what is cut off, changed or longer,
-//! claims of more than a file has, and what small files are read as once one of their bytes is another. What they show stands
-//! in no clause: that the forms give the bytes that were written by hand, or the numbers that a program gives that is no part
+//! claims of more than a file has, and what small files are read as once one of their bytes is another. No clause says
+//! what they show: that the forms give the bytes that were written by hand, or the numbers that a program gives that is no part
 //! of weave.
 //!
 //! `map_files`, `records` and `claims` have the worked examples. Of each byte of seven files, turned to each other value,

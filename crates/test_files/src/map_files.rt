@@ -139,7 +139,7 @@ fn cut_and_longer_maps_are_refused(rt: HostRuntime) {
     expect_none(&rt, wrong_lengths(rt.alloc(), FILES));
 }
 
-// A file, a place in it and what stands there, and the refusal.
+// A file, a place in it with the bytes put there, and the refusal.
 type Change<'a> = (&'a [u8], usize, &'a [u8], ReadError);
 
 const CHANGES: &[Change<'static>] = &[

@@ -120,7 +120,7 @@ fn fields(rt: HostRuntime) {
     expect_true(&rt, has_fields(rt.alloc()));
 }
 
-// A place in a file, what stands there, and the refusal if there is one.
+// A place in a file, the bytes put there, and the refusal if there is one.
 type Change<'a> = (usize, &'a [u8], Option<ReadError>);
 
 // The number of the first change, from 0, that has another answer.

@@ -17,7 +17,7 @@ pub enum Answer {
 }
 
 /// First and last place, first and last value, the answer, its number at the first value, and how many bits the step
-/// has after it by which a number grows from one value to the next; the place of a refusal doesn't. The value that stands
+/// has after it by which a number grows from one value to the next; the place of a refusal doesn't. The value that is
 /// at a place is left out.
 pub type Row = (usize, usize, u8, u8, Answer, i128, u32);
 
@@ -201,7 +201,7 @@ pub fn try_rows(alloc: Global, of: &Table) -> Result<Tried, AllocError> {
     Ok(Tried { count, wrong: None })
 }
 
-/// Whether each row stands after the one before it, so that no place and value stand in two.
+/// Whether each row comes after the one before it, so that no place and value are in two.
 pub fn are_in_order(rows: &[Row]) -> bool {
     let mut before: Option<(usize, u8)> = None;
     for (from, to, first, last, ..) in rows {

@@ -11,8 +11,8 @@ use crate::rows::{Reader, Table, are_in_order, has_numbers, try_rows};
 use crate::walk::{WALK, WALK_NUMBERS, WALK_ROWS};
 use std::alloc::{AllocError, Global};
 
-// Whether a file has its numbers, and each other value of each of its bytes stands in one row of its table and is read as
-// that says. Where not, it gives a place and a value.
+// Whether a file has its numbers, and each other value of each of its bytes is in one row of its
+// table and is read as that says. Where not, it gives a place and a value.
 fn wrong(alloc: Global, of: &Table) -> Result<Option<(usize, u8)>, AllocError> {
     if !has_numbers(alloc, of)? || !are_in_order(of.rows) {
         return Ok(Some((0, 0)));

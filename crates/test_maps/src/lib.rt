@@ -1,5 +1,5 @@
-//! Worked examples of volumes, maps and canvases, of seam costs and their sums, and of cut records. What they show
-//! stands in no clause: that a definition gives the numbers that were computed by hand or by another program.
+//! Worked examples of volumes, maps and canvases, of seam costs and their sums, and of cut records. No clause says
+//! what they show: that a definition gives the numbers that were computed by hand or by another program.
 #![tactic(auto)]
 
 #[cfg(test)]

@@ -113,7 +113,7 @@ fn cells_and_rows(rt: HostRuntime) {
     expect_true(&rt, are_cells_and_rows(rt.alloc()));
 }
 
-// Cells of a part of 2x1 and of one of 1x3, which stands in frame 2.
+// Cells of a part of 2x1 and of one of 1x3, which is in frame 2.
 const PARTS: &[(Place, Option<&[u8]>)] = &[
     ((0, 0, 0), Some(&[10])),
     ((1, 0, 0), Some(&[20])),

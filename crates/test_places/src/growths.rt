@@ -118,8 +118,8 @@ fn is_grown_to_six(run: &Grown, sample: &Volume, rounds: u32) -> bool {
         && are_six_records(run.cuts.as_slice(), rounds)
 }
 
-// Asserts that the records over one another leave the same map. Over the full map the first one isn't lawful,
-// since its last cell is kept.
+// Asserts that the records over one another leave the same map. Over the full map the first one
+// isn't admissible, since its last cell is kept.
 fn expect_replay(
     rt: &impl Abort,
     alloc: Global,

@@ -1,5 +1,5 @@
 //! Worked examples of what searches: match errors and eliminations, candidates and picks, networks and their flows,
-//! placements, whole grown and quilted runs, and steps of tiling. What they show stands in no clause: that a
+//! placements, whole grown and quilted runs, and steps of tiling. No clause says what they show: that a
 //! definition gives the numbers that were computed by hand or by another program, and that calls succeed where
 //! memory is ample.
 #![tactic(auto)]

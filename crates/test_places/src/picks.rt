@@ -189,7 +189,7 @@ fn joined(alloc: Global, first: Size, second: Size) -> Result<Volume, AllocError
     Ok(sample)
 }
 
-// Over parts of 3x2 and of 2x1, which stands in frame 2. A patch is as large as both allow.
+// Over parts of 3x2 and of 2x1, which is in frame 2. A patch is as large as both allow.
 const TWO_PARTS: &[Listing<'static>] = &[
     (
         Mode::Random,

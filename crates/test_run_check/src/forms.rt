@@ -1,5 +1,5 @@
-// Files that aren't in their forms or pass a limit. The sizes of the output stand at byte 10 of map and record, the count of records at 34, and the
-// first record at 38.
+// Files that aren't in their forms or pass a limit. The sizes of the output are at byte 10 of map
+// and record, the count of records at 34, and the first record at 38.
 use crate::expect::expect_none;
 use crate::files::STANDS;
 use test_stage::{Verdict, wrong_verdict};

@@ -1,5 +1,5 @@
 // What `check` says of files over turned samples, by the words that go with them and by the others, and of records of other
-// sizes and kinds. The first entry of the map stands at byte 36: a sample, a turn, and a place.
+// sizes and kinds. The first entry of the map begins at byte 36: a sample, a turn, and a place.
 use crate::expect::expect_none;
 use crate::turned_samples::SQUARE;
 use crate::turned_written::{SQUARE_MAP, SQUARE_PICTURE, SQUARE_RECORD};
@@ -144,7 +144,7 @@ fn records_of_other_sizes_and_kinds(rt: HostRuntime) {
     expect_none(&rt, wrong_verdict_by(rt.alloc(), TURNS, OTHERS));
 }
 
-// The map and the record stand in the place of the samples.
+// The map and the record are in the place of the samples.
 const UPGRADED: &[Case<'static>] = &[Case {
     words: "upgrade map=s record=t newmap=m newrecord=r",
     sample: SQUARE_MAP,

@@ -2,7 +2,7 @@
 use crate::expect::expect_none;
 use test_stage::{ONE_CELL, wrong_sample, wrong_words};
 
-// No file stands by the name `u`: the number of parts is asked for before any file is read.
+// There is no file of the name `u`: the number of parts is asked for before any file is read.
 const WORDS: &[(&str, u8, &str)] = &[
     (
         "grow sample=s out=o map=m record=r width=1 height=1 turns=yes",

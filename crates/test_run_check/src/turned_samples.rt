@@ -1,4 +1,4 @@
-// The samples of these runs; those of one cell and of four in a row stand in test_stage.
+// The samples of these runs; those of one cell and of four in a row are in test_stage.
 
 /// Four cells of grey 10, 20, then 30, 40.
 pub const SQUARE: &[u8] = b"P6\n2 2\n255\n\

@@ -1,4 +1,4 @@
-// A run of `upgrade` over stores in memory, and what stands afterwards.
+// A run of `upgrade` over stores in memory, and what is there afterwards.
 use shelf_core::{Call, MemShelf, MemSink};
 use std::alloc::{AllocError, Global};
 use test_stage::{BEFORE, is_file, ran};
@@ -13,7 +13,7 @@ pub enum Failing<'a> {
     Report(usize),
 }
 
-/// The words, the map `m` and the record `r`, what fails, and what is to stand afterwards in the map `n` and the record `q`.
+/// The words, the map `m` and the record `r`, what fails, and what is expected afterwards in the map `n` and the record `q`.
 #[derive(Clone, Copy, Drop)]
 pub struct Upgrade<'a> {
     pub words: &'a str,
@@ -50,7 +50,7 @@ fn files_before(alloc: Global, map: &[u8], record: &[u8]) -> Result<MemShelf, Al
     Ok(shelf)
 }
 
-// Whether the files hold what is to stand. The old ones stay.
+// Whether the files hold what is expected. The old ones stay.
 fn are_files(shelf: &MemShelf, of: &Upgrade) -> bool {
     is_file(shelf.file("m"), of.map)
         && is_file(shelf.file("r"), of.record)

@@ -27,8 +27,8 @@ const FORM: Verdict<'static> = Verdict {
     ..STANDS
 };
 
-// The second record stands at byte 73: the number of its sample at 85, its column at 87, its choice at 93 and its flows
-// from 94 on. One new file and one old go together.
+// The second record begins at byte 73: the number of its sample at 85, its column at 87, its choice
+// at 93 and its flows from 94 on. One new file and one old go together.
 const RULES: &[Verdict<'static>] = &[
     STANDS,
     Verdict {

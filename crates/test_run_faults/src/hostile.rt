@@ -295,7 +295,7 @@ fn wrong_changing(
     Ok(None)
 }
 
-// The output's size stands at byte 10, the sample's at 22, and the sources from 34 on.
+// The output's size is at byte 10, the sample's at 22, and the sources from 34 on.
 const MAPS: &[Changed<'static>] = &[
     (&[(0, b'w')], 3, "form at 0"),
     (&[(7, b'p')], 3, "form at 0"),
@@ -324,7 +324,7 @@ fn maps(rt: HostRuntime) {
     );
 }
 
-// The count stands at byte 34; the first record has its size at 44, its source at 50, its choice
+// The count is at byte 34; the first record has its size at 44, its source at 50, its choice
 // at 56 and flows from 57 on.
 const RECORDS: &[Changed<'static>] = &[
     (&[(0, b'w')], 3, "form at 0"),

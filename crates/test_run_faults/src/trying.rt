@@ -42,7 +42,7 @@ pub fn list_failing(
     }
 }
 
-// What stands after a run.
+// What is there after a run.
 #[derive(Drop)]
 struct Left {
     status: u8,

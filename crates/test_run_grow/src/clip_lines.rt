@@ -5,7 +5,8 @@ use test_stage::refused;
 
 const WORDS: &str = "grow sample=s out=o map=m record=r width=1 height=1 place=grid overlap=0";
 
-// A clip with a long word: what stands before it, how many bytes it has, and what follows; the status and the line.
+// A clip with a long word: what comes before it, how many bytes it has, and what follows; the
+// status and the line.
 const REFUSED: &[(&[u8], usize, &[u8], u8, &str)] = &[
     // A stream line of 4,096 bytes that goes on, and one of a byte more, whether it ends there or not.
     (

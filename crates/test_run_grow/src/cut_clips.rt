@@ -6,7 +6,8 @@ use test_stage::refused;
 
 const WORDS: &str = "grow sample=s out=o map=m record=r width=2 height=1 place=grid overlap=0";
 
-// The first bytes of a clip are refused at their end, and at the end of the stream line for want of a frame.
+// The first bytes of a clip are refused at their end, and at the end of the stream line since there
+// is no frame.
 fn is_cut(alloc: Global, n: usize) -> Result<bool, AllocError> {
     let line = if n == 54 {
         format!(in alloc; "weave: sample: no frames\n")?

@@ -4,8 +4,8 @@ use test_stage::{FOUR_CELLS, Made, NO_CELL, is_made};
 
 // Four cells of grey 10, 20, 30 and 40. Draw 0 of seed 0 is even: the first copy begins at cell 0. Draw 1 is odd: the
 // second cell of the next copy comes to cell 4. So that copy begins at cell 3, which stays as it is, though a copy that
-// begins at cell 4 would fit without a difference. Beside cell 3 in the sample nothing stands, 765; beside the second
-// cell stands 10 in place of 40, three times.
+// begins at cell 4 would fit without a difference. Beside cell 3 in the sample there is nothing, 765; beside the
+// second cell there is 10 in place of 40, three times.
 const DRAWN: Made<'static> = Made {
     words: "grow sample=s out=o map=m record=r width=6 height=1 place=random",
     check: "check sample=s out=o map=m record=r",

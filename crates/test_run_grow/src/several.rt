@@ -40,7 +40,8 @@ const MIXED_MAP: &[u8] = b"WEAVEMAP\x02\x00\
 \x00\x01\x00\x00\x00\x00\x00\x00\x00\x01\x00\x01\x00\x00\x00\x00\
 \x00\x02\x00\x01\x00\x00\x00\x00";
 
-// The second placement keeps its first cell. What stands beside it in sample 1 lies outside: 765 flows out of it.
+// The second placement keeps its first cell. What lies beside it in sample 1 is outside: 765 flows
+// out of it.
 const MIXED_RECORD: &[u8] = b"WEAVEREC\x02\x00\
 \x00\x00\x00\x03\x00\x00\x00\x01\x00\x00\x00\x01\x00\x02\
 \x00\x00\x00\x02\x00\x00\x00\x01\x00\x00\x00\x01\
@@ -52,7 +53,7 @@ const MIXED_RECORD: &[u8] = b"WEAVEREC\x02\x00\
 \x02\xfd\x00\x00";
 
 // Two cells of grey 10 and 20, and two of grey 20 and 30. Draw 0 of seed 0 takes the first sample of two; the second patch
-// is that of sample 2, whose first cell is what stands there.
+// is that of sample 2, whose first cell is what is there.
 const MIXED: Case<'static> = Case {
     words: "grow sample=s sample2=t out=o map=m record=r width=3 height=1 box=2 overlap=1 tol=0",
     sample: b"P6\n2 1\n255\n\x0a\x0a\x0a\x14\x14\x14",

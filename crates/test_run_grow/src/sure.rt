@@ -21,7 +21,7 @@ fn surely_ends(
     Ok(ended == status && is_file(out.bytes(), report) && is_file(err.bytes(), line))
 }
 
-// A run where the sample alone stands before it.
+// A run before which the sample alone is there.
 fn surely_grown(alloc: Global) -> Result<bool, AllocError> {
     let mut shelf = SureShelf::make(alloc, 4096)?;
     shelf.put_file("s", FOUR_CELLS);

@@ -8,8 +8,8 @@ pub const MAP: &[u8] = b"WEAVEMAP\x01\x00\
 \x00\x00\x00\x00\x00\x00\x00\x01\x00\x00\x00\x00\x00\x00\x00\x00\x00\x00\
 \x00\x01\x00\x00\x00\x00\x00\x02\x00\x00\x00\x00\x00\x03\x00\x00\x00\x00";
 
-// The count stands at byte 34, the first block at 38 and the second at 51: its source at 59, its flags at 63, the columns of its left
-// strip at 64, its path at 66 and its sums from 68 on.
+// The count is at byte 34, the first block at 38 and the second at 51: its source at 59, its flags
+// at 63, the columns of its left strip at 64, its path at 66 and its sums from 68 on.
 pub const RECORD: &[u8] = b"WEAVEREC\x01\x01\
 \x00\x00\x00\x06\x00\x00\x00\x01\x00\x00\x00\x01\
 \x00\x00\x00\x04\x00\x00\x00\x01\x00\x00\x00\x01\

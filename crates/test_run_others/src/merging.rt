@@ -1,4 +1,4 @@
-// A run of `merge` over stores in memory, and what stands afterwards.
+// A run of `merge` over stores in memory, and what is there afterwards.
 use shelf_core::{Call, MemShelf, MemSink};
 use std::alloc::{AllocError, Global};
 use test_stage::{BEFORE, is_file, ran};
@@ -13,7 +13,7 @@ pub enum Failing<'a> {
     Report(usize),
 }
 
-/// The words, the pictures `a`, `b` and `c`, the marks `k`, what fails, and what is to stand afterwards in the picture
+/// The words, the pictures `a`, `b` and `c`, the marks `k`, what fails, and what is expected afterwards in the picture
 /// `o` and the map `m`.
 #[derive(Clone, Copy, Drop)]
 pub struct Merge<'a> {
@@ -55,7 +55,7 @@ fn files_before(alloc: Global, of: &Merge) -> Result<MemShelf, AllocError> {
     Ok(shelf)
 }
 
-// Whether the files hold what is to stand. Pictures and marks stay.
+// Whether the files hold what is expected. Pictures and marks stay.
 fn are_files(shelf: &MemShelf, of: &Merge) -> bool {
     is_file(shelf.file("a"), of.first)
         && is_file(shelf.file("b"), of.second)

@@ -1,4 +1,4 @@
-// The samples of these runs; those of one cell and of four stand in test_stage.
+// The samples of these runs; those of one cell and of four are in test_stage.
 
 /// Two cells of grey 10 and 20.
 pub const TWO_CELLS: &[u8] = b"P6\n2 1\n255\n\x0a\x0a\x0a\x14\x14\x14";

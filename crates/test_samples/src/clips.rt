@@ -96,7 +96,8 @@ fn wrong_answer(
     Ok(None)
 }
 
-// How many first bytes of the clip of two cells, at least, aren't refused at their end. Behind the stream line there are no frames.
+// How many first bytes of the clip of two cells, at least, aren't refused at their end. After the
+// stream line there are no frames.
 fn wrong_cut(alloc: Global) -> Result<Option<usize>, AllocError> {
     for n in 0..72usize {
         let want = if n == 54 { NoFrames } else { Form(n as u64) };
@@ -272,7 +273,8 @@ fn tells_fault(
     Ok(is_told && Some(stands) == TWO_CELLS.get(..left))
 }
 
-// The number of the first fault, from 0, after which another file stands, or of which the copy doesn't tell.
+// The number of the first fault, from 0, after which the file is another, or which the
+// copy doesn't report.
 fn wrong_fault(alloc: Global) -> Result<Option<usize>, AllocError> {
     for (i, (call, nth, kept, left)) in WRITE_FAULTS.iter().enumerate() {
         if !tells_fault(alloc, *call, *nth, *kept, *left)? {

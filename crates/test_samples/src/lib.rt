@@ -1,5 +1,5 @@
 //! Worked examples of pictures, of clips, and of the samples of a run: the bytes of files and what they are read
-//! as, and the bytes that are written. What they show stands in no clause: that the forms give what was spelled
+//! as, and the bytes that are written. No clause says what they show: that the forms give what was spelled
 //! from their grammars by hand, and files that other programs wrote.
 #![tactic(auto)]
 

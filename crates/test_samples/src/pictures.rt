@@ -233,7 +233,7 @@ fn are_four_read(alloc: Global) -> Result<bool, AllocError> {
     }
 }
 
-// What stands in the picture that was read.
+// What is in the picture that was read.
 #[test]
 fn fields(rt: HostRuntime) {
     expect_true(&rt, are_four_read(rt.alloc()));

@@ -1,4 +1,5 @@
-// Runs that write a picture or clip, a map and a record: the words, what fails, and what is to stand afterwards.
+// Runs that write a picture or clip, a map and a record: the words, what fails, and what is
+// expected afterwards.
 use crate::stage::{is_file, ran};
 use shelf_core::{Call, MemShelf, MemSink};
 use std::alloc::{AllocError, Global};
@@ -38,7 +39,7 @@ fn list_failing(
 }
 
 /// A run over stores in memory, where every file of it stands: the words, the samples `s` and `t`, what fails, and
-/// what is to stand afterwards in `o`, `m` and `r`.
+/// what is expected afterwards in `o`, `m` and `r`.
 #[derive(Clone, Copy, Drop)]
 pub struct Case<'a> {
     pub words: &'a str,
@@ -64,7 +65,7 @@ fn files_before(alloc: Global, sample: &[u8], second: &[u8]) -> Result<MemShelf,
     Ok(shelf)
 }
 
-// Whether the files hold what is to stand. The samples stay.
+// Whether the files hold what is expected. The samples stay.
 fn are_files(shelf: &MemShelf, case: &Case) -> bool {
     is_file(shelf.file("s"), case.sample)
         && is_file(shelf.file("t"), case.second)

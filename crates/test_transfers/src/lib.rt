@@ -1,4 +1,4 @@
-//! Worked examples of transfer. What they show stands in no clause: that calls succeed where there is memory, and
+//! Worked examples of transfer. No clause says what they show: that calls succeed where there is memory, and
 //! which cells come out for given numbers.
 #![tactic(auto)]
 

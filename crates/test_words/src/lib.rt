@@ -1,5 +1,5 @@
-//! Worked examples of shelves and sinks, of the words of a run, and of the lines and reports that it tells. What they
-//! show stands in no clause: that calls succeed while there is memory, and that the definitions mean what the rows
+//! Worked examples of shelves and sinks, of the words of a run, and of its lines and reports. No clause says what
+//! they show: that calls succeed while there is memory, and that the definitions mean what the rows
 //! of the tables say.
 #![tactic(auto)]
 

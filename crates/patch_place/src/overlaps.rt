@@ -1,10 +1,11 @@
 // The overlap errors of the placements of one box.
-ghost use Rattle.std.specs.Prelude.{◌≡◌, ◌≤◌, ◌<◌, ◌≤ℤ◌, pos, IfNone, IfOk, IfSome};
+ghost use Rattle.std.specs.Prelude.{◌≡◌, ◌≤◌, ◌<◌, ◌+◌, ◌*◌, ◌≤ℤ◌, pos, IfNone, IfOk, IfSome};
 ghost use Rattle.cells.specs.Boxes.{HasCells, HoldsBox};
 ghost use Rattle.cells.specs.Places.{HasAxes};
 ghost use Rattle.map_canvas.specs.Canvases.{StandsOver};
 ghost use Rattle.match_error.specs.Errors.{error_of, error_sum};
-ghost use Rattle.search_squares.specs.Eliminations.{AreSampleSums};
+ghost use Rattle.search_squares.specs.declared.joint.TheConstants.{MOST_TIMES};
+ghost use Rattle.search_squares.specs.Eliminations.{AreEliminatedBy, AreSampleSums, error_from};
 ghost use Rattle.patch_place.specs.Tables.{IsShortStep};
 
 use crate::BoxErrors;
@@ -12,7 +13,7 @@ use cells::{At, Box3, Size, Volume};
 use limits::GREATEST_AXIS;
 use map_canvas::{Canvas, Placement};
 use match_error::{FilledRuns, filled_count};
-use search_squares::{BoxLevels, Eliminated, Pauses, SampleSums};
+use search_squares::{BoxLevels, Eliminated, Pauses, SampleSums, Term, eliminate_both};
 use std::alloc::{AllocError, Global};
 
 // How many cells of a box give likely places.
@@ -87,6 +88,7 @@ impl Overlaps<'_> {
         ensures ready { IfOk result AreOverlaps }
         ensures canvas { IfOk result (λ overlaps. overlaps.canvas.now ≡ canvas.now) }
         ensures sample { IfOk result (λ overlaps. overlaps.sample.now ≡ sample.now) }
+        ensures sums { IfOk result (λ overlaps. overlaps.sums.now ≡ sums.now) }
         ensures rect { IfOk result (λ overlaps. overlaps.rect ≡ rect.now) }
     {
         let runs = FilledRuns::gather(alloc, canvas, sample, rect)?;
@@ -100,6 +102,49 @@ impl Overlaps<'_> {
             runs,
             levels,
         })
+    }
+}
+
+impl Overlaps<'_> {
+    ghost use Rattle.patch_place.specs.Overlaps.{AreOverlaps};
+
+    /// Of the places along X from that of a placement on, in the part with this number, counted from 0, some
+    /// from which the sum of the box and that of another box laid from there, each taken so many times, come to
+    /// more than a limit. Both boxes go by the same sums. The pauses are those of the runs before.
+    pub fn eliminate_both(
+        &self,
+        times: u32,
+        other: &Overlaps<'_>,
+        other_times: u32,
+        from: At,
+        part: u32,
+        limit: u64,
+        pauses: &mut Pauses,
+    ) -> Eliminated
+        requires ready { AreOverlaps self.now }
+        requires other { AreOverlaps other.now }
+        requires sums { AreSampleSums other.now.sample.now self.now.sums.now }
+        requires some { (1 ≤ times) × (1 ≤ other_times) }
+        requires few { (times ≤ MOST_TIMES) × (other_times ≤ MOST_TIMES) }
+        ensures { AreEliminatedBy (λ at. times
+            * error_from self.now.canvas.now self.now.sample.now self.now.rect at + other_times
+            * error_from other.now.canvas.now other.now.sample.now other.now.rect at) result }
+    {
+        let one = Term {
+            times,
+            canvas: self.canvas,
+            sample: self.sample,
+            rect: self.rect,
+            levels: &self.levels,
+        };
+        let second = Term {
+            times: other_times,
+            canvas: other.canvas,
+            sample: other.sample,
+            rect: other.rect,
+            levels: &other.levels,
+        };
+        eliminate_both(&one, &second, self.sums, part, from, limit, pauses)
     }
 }
 

@@ -18,6 +18,10 @@ module _ (most : ℕ) (totals : List ℕ) (long : length totals ≡ 32) where
   pub mask_is : mask_l (map (top 15) (zip2 (λ a b. cond (ltb a b) 65535 0) (replicate 32 most) totals)) % 2 ^ 64 ≡ mask_l (lanes_above most totals)
   mask_is = ap (λ lanes. mask_l lanes % 2 ^ 64) (tops_compared w16 ltb (replicate 32 most) totals) ∙ mask_l-mod (lanes_above most totals) 64 (omega (arith, answers))
 
+  -- and what one of wider lanes gives
+  pub wide_mask_is : mask_l (map (top 31) (zip2 (λ a b. cond (ltb a b) 4294967295 0) (replicate 32 most) totals)) % 2 ^ 64 ≡ mask_l (lanes_above most totals)
+  wide_mask_is = ap (λ lanes. mask_l lanes % 2 ^ 64) (tops_compared w32 ltb (replicate 32 most) totals) ∙ mask_l-mod (lanes_above most totals) 64 (omega (arith, answers))
+
   -- the marks fit 32 bits
   pub mask_fits : Fits w32 (mask_l (lanes_above most totals))
   mask_fits = Fits-of_lt (subst (λ n. mask_l (lanes_above most totals) < 2 ^ n) answers (mask_l-lt (lanes_above most totals)))

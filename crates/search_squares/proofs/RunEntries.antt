@@ -208,8 +208,18 @@ above_limit factor bytes limit error total difference most is above part bound =
     let whole : factor * factor * difference ≤ factor * factor * (bytes * limit) = mul-le-mul_left (factor * factor) (omega (arith, bound, mul-le-mul_left bytes le)) in
     absurd (omega (arith, is, above, part, whole))) (cases_lt limit error)
 
+-- two totals that come to more than the most show that two errors do to more than the limit
+pub joint_above : (factor bytes limit most lane times total difference error : ℕ) (times' total' difference' error' : ℕ) → factor * factor * (bytes * limit) < 65536 * (most + 1) → most < lane → lane ≤ times * total + times' * total'
+    → 65536 * total ≤ factor * factor * difference → difference ≤ bytes * error → 65536 * total' ≤ factor * factor * difference' → difference' ≤ bytes * error' → limit < times * error + times' * error'
+joint_above factor bytes limit most lane times total difference error times' total' difference' error' is above sum part bound part' bound' =
+    ⊎_elim (λ lt. lt) (λ le.
+    let whole : factor * factor * (bytes * (times * error + times' * error')) ≤ factor * factor * (bytes * limit) = mul-le-mul_left (factor * factor) (mul-le-mul_left bytes le) in
+    let one : 65536 * total ≤ factor * factor * (bytes * error) = omega (arith, part, mul-le-mul_left (factor * factor) bound) in
+    let other : 65536 * total' ≤ factor * factor * (bytes * error') = omega (arith, part', mul-le-mul_left (factor * factor) bound') in
+    absurd (omega (arith, is, above, sum, whole, mul-le-mul_left times one, mul-le-mul_left times' other))) (cases_lt limit (times * error + times' * error'))
+
 -- the most for a limit, where it is so small that no product was cut off
-pub scale_holds : (bytes limit factor bound square scaled most : ℕ) → bound ≡ min (bytes * limit) 18446744073709551615 → square ≡ factor * factor → scaled ≡ min (bound * square) 18446744073709551615 → most ≡ scaled / 65536 → most ≤ 65535
+pub scale_holds : (bytes limit factor bound square scaled most : ℕ) → bound ≡ min (bytes * limit) 18446744073709551615 → square ≡ factor * factor → scaled ≡ min (bound * square) 18446744073709551615 → most ≡ scaled / 65536 → most ≤ 4294967295
     → factor * factor * (bytes * limit) < 65536 * (most + 1)
 scale_holds bytes limit factor bound square scaled most bound_is square_is scaled_is most_is small =
     subst (λ s. s * (bytes * limit) < 65536 * (most + 1)) square_is

@@ -1,5 +1,5 @@
 -- What the vectors of a run hold, as lists of lanes.
-use Rattle.std.proofs.Common.{◌≡◌, ℕ, zero, suc, ◌+◌, ◌*◌, ◌%◌, ◌^◌, ◌<◌, ◌≤◌, Bool, true, false, if◌then◌else◌, nat_lt, List, [], ◌∷◌, length, map, get_or, take, cond, refl, sym, subst, arith, w16, Fits}
+use Rattle.std.proofs.Common.{◌≡◌, ℕ, zero, suc, ◌+◌, ◌*◌, ◌%◌, ◌^◌, ◌<◌, ◌≤◌, Bool, true, false, if◌then◌else◌, nat_lt, List, [], ◌∷◌, length, map, get_or, take, cond, replicate, refl, sym, subst, arith, w16, Fits}
 use Rattle.std.proofs.Math.Nat.{mul-le-mul}
 use Rattle.std.specs.Simd.Lanes.{zip2, Each2, sel_l, top}
 use Rattle.std.proofs.lemmas.List.{get_or-take}
@@ -37,3 +37,22 @@ pub lanes_fit : (sums run : List ℕ) → length sums ≡ LANES → LANES ≤ le
 lanes_fit sums run long enough small =
     each_fits sums (take LANES run)
     (λ j lt. let below : j < LANES = omega (arith, long, lt) in subst (λ n. get_or sums j 0 + n < 65536) (sym (get_or-take LANES run j 0 below)) (small j below))
+
+-- products and sums by their low 32 bits are at most those
+pub taken_at_most : (n times : ℕ) (xs : List ℕ) (j : ℕ) → get_or (zip2 (λ a b. (a * b) % 4294967296) (replicate n times) xs) j 0 ≤ times * get_or xs j 0
+taken_at_most zero times xs j = omega arith
+taken_at_most (suc n) times [] j = omega arith
+taken_at_most (suc n) times (x ∷ xs) zero = omega arith
+taken_at_most (suc n) times (x ∷ xs) (suc j) = taken_at_most n times xs j
+
+pub added_at_most : (xs ys : List ℕ) (j : ℕ) → get_or (zip2 (λ a b. (a + b) % 4294967296) xs ys) j 0 ≤ get_or xs j 0 + get_or ys j 0
+added_at_most [] ys j = omega arith
+added_at_most (x ∷ xs) [] j = omega arith
+added_at_most (x ∷ xs) (y ∷ ys) zero = omega arith
+added_at_most (x ∷ xs) (y ∷ ys) (suc j) = added_at_most xs ys j
+
+-- lanes of which each is at most what it was are so at each place
+pub mapped_at_most : (f : ℕ → ℕ) → ((a : ℕ) → f a ≤ a) → (xs : List ℕ) (j : ℕ) → get_or (map f xs) j 0 ≤ get_or xs j 0
+mapped_at_most f le [] j = omega arith
+mapped_at_most f le (x ∷ xs) zero = le x
+mapped_at_most f le (x ∷ xs) (suc j) = mapped_at_most f le xs j

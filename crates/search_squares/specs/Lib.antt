@@ -4,3 +4,4 @@ pub mod Sums
 pub mod Bounds
 pub mod Eliminations
 pub mod Lanes
+pub mod Terms

@@ -26,11 +26,11 @@ const MOST_UP: u32 = 8;
 
 // How totals are compared with a limit. They are counted in units of 2^16, and have 16 bits a lane.
 #[derive(Clone, Copy, Drop)]
-struct Scale {
+pub(crate) struct Scale {
     // how many times differences are taken, so that few of their bits are lost
-    factor: u16,
+    pub(crate) factor: u16,
     // the most that a total may be where the error is at most the limit
-    most: u16,
+    pub(crate) most: u16,
 }
 
 // The scale for a limit: the factor is a power of two by which the most still fits. By it no difference
@@ -38,7 +38,7 @@ struct Scale {
 // more from 0 where it doesn't fit. One does by itself only in blocks of more than 192 bytes (8x8 cells with
 // 4 samples, 6x6 with 6), between a nearly black one and a nearly white one. None where there isn't a
 // factor, since no total would be above the most.
-fn scale_of(side: u32, k: u32, limit: u64) -> Option<Scale>
+pub(crate) fn scale_of(side: u32, k: u32, limit: u64) -> Option<Scale>
     requires some { 1 ≤ k }
     requires few { 255 * block_bytes side k < 2 ^ 16 }
     ensures { IfSome result (λ scale. scale.factor * scale.factor * (block_bytes side k * limit)
@@ -83,7 +83,7 @@ impl Block {
 impl BoxBlocks {
     // For each of the places a total that is at most how far the blocks are from those of the sample, in
     // units of 2^16 and by the factor squared. It stops where all of them are above the most.
-    fn totals(
+    pub(crate) fn totals(
         &self,
         sums: &BlockSums,
         canvas: &Canvas,

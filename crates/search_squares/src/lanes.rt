@@ -83,6 +83,50 @@ pub(crate) fn marks(totals: u16x32, most: u16) -> u32
     totals.simd_gt(u16x32::splat(most)).to_bitmask() as u32
 }
 
+// Totals so many times, one a lane, or less where that doesn't fit.
+#[inline(always)]
+fn taken(totals: u16x32, times: u32) -> u32x32
+    ensures at_most { (j : ℕ) → slice_index result j ≤ times * slice_index totals j }
+    ensures long { length result ≡ LANES }
+{
+    u32x32::splat(times) * totals.cast::<u32>()
+}
+
+// The sums of the lanes of two vectors, or less where a sum doesn't fit.
+#[inline(always)]
+fn added(some: u32x32, others: u32x32) -> u32x32
+    ensures at_most { (j : ℕ) → slice_index result j ≤ slice_index some j + slice_index others j }
+    ensures long { length result ≡ LANES }
+{
+    some + others
+}
+
+// Marks the lanes that are above a number: lane j by the bit of 2^j.
+#[inline(always)]
+fn wide_marks(lanes: u32x32, most: u32) -> u32
+    ensures { (j : ℕ) → j < LANES → IsMarked result j → most < slice_index lanes j }
+{
+    lanes.simd_gt(u32x32::splat(most)).to_bitmask() as u32
+}
+
+/// Marks the lanes whose totals, each taken so many times, come to more than a number: lane j by the bit of 2^j.
+#[inline(always)]
+pub(crate) fn marks_of_terms(
+    totals: u16x32,
+    times: u32,
+    others: u16x32,
+    other_times: u32,
+    most: u32,
+) -> u32
+    ensures { (j : ℕ) → j < LANES → IsMarked result j
+        → most < times * slice_index totals j + other_times * slice_index others j }
+{
+    wide_marks(
+        added(taken(totals, times), taken(others, other_times)),
+        most,
+    )
+}
+
 /// Marks the lanes that one of two numbers marks.
 #[inline(always)]
 pub(crate) fn marks_of_both(some: u32, others: u32) -> u32

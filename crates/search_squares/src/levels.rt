@@ -41,7 +41,7 @@ const MOST_BYTES_OF_ALL: usize = 1 << 22;
 
 // The most places of a run for which each level isn't tried: that takes about as long as to sum up so
 // many errors.
-const FEW_PLACES: [u32; LEVELS] = [0, 3, 3, 16];
+pub(crate) const FEW_PLACES: [u32; LEVELS] = [0, 3, 3, 16];
 
 // The cells of a block of the coarse level on each side: not so many that the bytes of a block can
 // add up to 2^16.

@@ -25,6 +25,7 @@
 mod blocks;
 mod bound;
 mod eliminated;
+mod joint;
 mod lanes;
 mod levels;
 mod order;
@@ -34,6 +35,7 @@ mod rows;
 mod sums;
 
 pub use eliminated::Eliminated;
+pub use joint::{MOST_TIMES, Term, eliminate_both};
 pub use levels::{BoxLevels, SampleSums};
 pub use pauses::Pauses;
 pub use sums::LANES;

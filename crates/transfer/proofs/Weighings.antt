@@ -14,6 +14,7 @@ use Rattle.map_canvas.specs.Choices.{Fits, laid_from}
 use Rattle.match_error.specs.Errors.{error_sum}
 use Rattle.patch_place.specs.BoxErrors.{IsLow}
 use Rattle.patch_place.specs.Overlaps.{AreOverlaps, IsOverlap}
+use Rattle.search_squares.specs.Eliminations.{AreSampleSums}
 use Rattle.transfer.specs.declared.weighing.Weighing.{Weighing}
 use Rattle.transfer.specs.Joined.{CanBeJoined, IsTargetBox, at_first}
 use Rattle.transfer.specs.Targets.{by_target, target_sum}
@@ -25,7 +26,7 @@ use Rattle.transfer.proofs.Joining.{stays_held}
 module _ (e : Weighing) (target : Cells) (here : AreOverlaps e.here) (there : AreOverlaps e.there) (volume : IsVolume e.here.sample.now) (other : IsVolume e.there.sample.now)
     (can : CanBeJoined e.here.sample.now target) (box : IsTargetBox e.here.sample.now target e.there.sample.now e.here.rect e.there.canvas.now)
     (joined : e.there.sample.now ≡ with_part e.here.sample.now target) (size : target.size ≡ e.here.canvas.now.map.size) (first : e.first ≡ at_first e.here.rect) (same : e.there.rect ≡ e.first)
-    (alpha : e.alpha ≤ GREATEST_ALPHA) where
+    (alpha : e.alpha ≤ GREATEST_ALPHA) (sums : AreSampleSums e.here.sample.now e.there.sums.now) where
   sources : (p : Placement) → IsOverlap e.here p → Holds e.here.sample.now p.from e.here.rect.size
   sources p asked = subst (λ (r : Box3). Holds e.here.sample.now p.from r.size) asked.box asked.fits.sources
 
@@ -48,7 +49,7 @@ module _ (e : Weighing) (target : Cells) (here : AreOverlaps e.here) (there : Ar
       weighed_small e.alpha (sum_over e.here p) (sum_over e.there (aimed e p)) n alpha over away (held_small e.here.sample.now p.from e.here.rect.size volume here.cells (sources p asked)).cells
 
   pub weighing_ready : IsWeighing e
-  weighing_ready = record { alpha = alpha; here = here; there = there; aims = aims; low = low }
+  weighing_ready = record { alpha = alpha; here = here; there = there; sums = sums; aims = aims; low = low }
 
   pub weighing_errors : (p : Placement) → p.rect ≡ e.here.rect → Fits e.here.canvas.now.map.size e.here.sample.now p → weighed_error e p ≡ by_target e.alpha target e.here.sample.now e.here.canvas.now.map p
   weighing_errors p rect fits =

@@ -13,6 +13,7 @@ use Rattle.match_error.specs.Errors.{error_sum}
 use Rattle.patch_place.specs.declared.overlaps.Overlaps.{Overlaps}
 use Rattle.patch_place.specs.BoxErrors.{IsLow}
 use Rattle.patch_place.specs.Overlaps.{AreOverlaps, IsOverlap}
+use Rattle.search_squares.specs.Eliminations.{AreSampleSums}
 use Rattle.transfer.specs.declared.weighed.Weighed.{Weighed}
 use Rattle.transfer.specs.declared.weighing.Weighing.{Weighing}
 use Rattle.transfer.specs.Search.{ServesTransfer}
@@ -39,6 +40,7 @@ pub record IsWeighing (e : Weighing) : Type 0 where
   pub alpha : e.alpha ≤ GREATEST_ALPHA
   pub here : AreOverlaps e.here
   pub there : AreOverlaps e.there
+  pub sums : AreSampleSums e.here.sample.now e.there.sums.now
   pub aims : (placement : Placement) → IsOverlap e.here placement
       → IsOverlap e.there (aimed e placement)
   pub low : (placement : Placement) → IsOverlap e.here placement → IsLow (weighed_error e placement)

@@ -98,6 +98,18 @@ impl BoxErrors for Weighing<'_> {
             rect: self.first,
             from: placement.from,
         };
+        if self.alpha > 0 && self.alpha < 100 {
+            let (away, over) = (100 - self.alpha, self.alpha);
+            return self.there.eliminate_both(
+                away,
+                &self.here,
+                over,
+                placement.from,
+                part,
+                limit,
+                pauses,
+            );
+        }
         let away = eliminate_times(&self.there, 100 - self.alpha, &aim, part, limit, pauses);
         let over = eliminate_times(&self.here, self.alpha, placement, part, limit, pauses);
         away.or(over)

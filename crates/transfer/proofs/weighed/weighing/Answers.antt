@@ -35,13 +35,14 @@ returns c =
     let joined : e.there.sample.now ≡ with_part e.here.sample.now target = there.sample ∙ c.requires.search.joined ∙ ap (λ (v : Cells). with_part v target) (sym here.sample) in
     let size = c.requires.target.size ∙ ap (λ (a : CanvasState). a.map.size) (sym here.canvas) in
     let first : e.first ≡ at_first e.here.rect = c.at_first-first.ensures ∙ ap at_first (sym here.rect) in
+    let sums : AreSampleSums e.here.sample.now e.there.sums.now = subst₂ AreSampleSums (sym here.sample) (sym there.sums) c.requires.search.sums in
     record {
-      ready = weighing_ready e target here.ready there.ready volume other can box joined size first there.rect c.requires.alpha;
+      ready = weighing_ready e target here.ready there.ready volume other can box joined size first there.rect c.requires.alpha sums;
       canvas_is = here.canvas;
       sample_is = here.sample;
       rect_is = here.rect;
       errors = λ p same fits.
-          weighing_errors e target here.ready there.ready volume other can box joined size first there.rect c.requires.alpha p (same ∙ sym here.rect)
+          weighing_errors e target here.ready there.ready volume other can box joined size first there.rect c.requires.alpha sums p (same ∙ sym here.rect)
           (subst₂ (λ (a : CanvasState) (v : Cells). Fits a.map.size v p) (sym here.canvas) (sym here.sample) fits)
           ∙ (λ i. by_target c.args.alpha target (here.sample i) (here.canvas i).map p);
     }

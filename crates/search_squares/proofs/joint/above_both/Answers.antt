@@ -1,0 +1,34 @@
+use Rattle.std.proofs.Common.{◌<◌, ◌≤◌, ◌+◌, ◌*◌, ◌^◌, subst, sym, arith}
+use Rattle.match_error.specs.Errors.{error_sum}
+use Rattle.map_canvas.specs.Choices.{laid_from}
+use Rattle.search_squares.specs.Blocks.{block_bytes, blocks_difference}
+use Rattle.search_squares.specs.Bounds.{place_along}
+use Rattle.search_squares.proofs.PlaceRuns.{none_marked}
+use Rattle.search_squares.proofs.RunEntries.{joint_above}
+use Rattle.search_squares.proofs.joint.above_both.Goals as goal
+
+pub joint_scale-requires-clause-few : goal.joint_scale-requires-clause-few
+joint_scale-requires-clause-few c =
+    subst (λ k. 255 * block_bytes c.args.sums.now.side k < 2 ^ 16) (sym c.samples.ensures.samples) c.requires.sums.few
+
+pub returns-in_default : goal.returns-in_default
+returns-in_default c = λ j _ marked. absurd (none_marked j marked)
+
+pub returns : goal.returns
+returns c = λ j lj marked.
+    let in_lanes : j < 32 = omega (arith, c.requires.few) in
+    let one = c.args.one.now in
+    let other = c.args.other.now in
+    let side = c.args.sums.now.side in
+    let scale = c.in-Some.scale in
+    let from = place_along c.args.from j in
+    let most = subst (λ k. scale.factor * scale.factor * (block_bytes side k * c.args.limit) < 65536 * (scale.most + 1)) c.samples.ensures.samples c.in-Some.ensures in
+    let first : blocks_difference c.args.blocks.now one.sample.now from ≤ block_bytes side one.sample.now.k * error_sum one.canvas.now.map one.sample.now (laid_from one.rect from) =
+    subst (λ s. blocks_difference c.args.blocks.now one.sample.now from ≤ block_bytes s one.sample.now.k * error_sum one.canvas.now.map one.sample.now (laid_from one.rect from)) c.requires.side
+    (c.requires.blocks.bound one.sample.now from (c.requires.laid j lj)) in
+    let second : blocks_difference c.args.others.now other.sample.now from ≤ block_bytes side one.sample.now.k * error_sum other.canvas.now.map other.sample.now (laid_from other.rect from) =
+    subst (λ k. blocks_difference c.args.others.now other.sample.now from ≤ block_bytes side k * error_sum other.canvas.now.map other.sample.now (laid_from other.rect from)) (sym c.requires.samples)
+    (subst (λ s. blocks_difference c.args.others.now other.sample.now from ≤ block_bytes s other.sample.now.k * error_sum other.canvas.now.map other.sample.now (laid_from other.rect from)) c.requires.other_side
+    (c.requires.others.bound other.sample.now from (c.requires.other_laid j lj))) in
+    joint_above scale.factor (block_bytes side one.sample.now.k) c.args.limit scale.most _ one.times _ _ _ other.times _ _ _ most (c.marks_of_terms.ensures j in_lanes marked) (omega arith)
+    (c.totals-totals.ensures j lj) first (c.totals-more.ensures j lj) second

@@ -1,0 +1,40 @@
+use Rattle.std.proofs.Common.{arith}
+use Rattle.std.proofs.lemmas.Grind.{common_steps}
+use Rattle.search_squares.specs.Bounds.{place_along}
+use Rattle.search_squares.specs.Sums.{AreBlockSums}
+use Rattle.search_squares.proofs.PlaceRuns.{inner_held}
+use Rattle.search_squares.proofs.joint.level_marks.Goals as goal
+
+pub above_both-requires-clause-laid : goal.above_both-requires-clause-laid
+above_both-requires-clause-laid c = λ j lj.
+    let one = c.args.one.now in
+    let served : AreBlockSums one.sample.now c.in-Some-get-2.sums.now = grind (arith, common_steps) in
+    record {
+      volume = c.samples-k.ensures.volume;
+      stands = c.requires.one.over;
+      fits = record {
+        some = c.holds_run.ensures.some c.if-not-holds_run.false;
+        inside = c.requires.one.inside;
+        sources = inner_held one.sample.now c.in-Some-get-2.sums.now.rect (place_along c.args.from j) one.rect.size (c.holds_run.ensures.inside c.if-not-holds_run.false j lj) served.inside;
+      };
+    }
+
+pub above_both-requires-clause-other_laid : goal.above_both-requires-clause-other_laid
+above_both-requires-clause-other_laid c = λ j lj.
+    let other = c.args.other.now in
+    let served : AreBlockSums other.sample.now c.in-Some-get-2.sums.now = grind (arith, common_steps) in
+    record {
+      volume = c.samples-other_k.ensures.volume;
+      stands = c.requires.other.over;
+      fits = record {
+        some = c.holds_run-2.ensures.some c.if-not-holds_run-2.false;
+        inside = c.requires.other.inside;
+        sources = inner_held other.sample.now c.in-Some-get-2.sums.now.rect (place_along c.args.from j) other.rect.size (c.holds_run-2.ensures.inside c.if-not-holds_run-2.false j lj) served.inside;
+      };
+    }
+
+pub above_both-requires-clause-inside : goal.above_both-requires-clause-inside
+above_both-requires-clause-inside c = c.holds_run.ensures.inside c.if-not-holds_run.false
+
+pub above_both-requires-clause-other_inside : goal.above_both-requires-clause-other_inside
+above_both-requires-clause-other_inside c = c.holds_run-2.ensures.inside c.if-not-holds_run-2.false

@@ -32,7 +32,8 @@ pub(crate) fn begin(
     sample: &Volume,
 ) -> Result<QuiltWork, AllocError>
     requires { CanBeQuilted asked.now sample.now }
-    ensures { IfOk result (λ work. (rating : Rating) → IsQuiltWork rating asked.now sample.now work) }
+    ensures { IfOk result (λ work. (rating : Rating)
+        → IsQuiltWork rating asked.now sample.now work) }
 {
     empty_map_is_laid();
     let canvas = Canvas::empty(alloc, asked.size, sample.samples())?;

@@ -181,7 +181,8 @@ pub fn run<S: Shelf, O: Sink, E: Sink>(
     // of the least ones through its strip; it stands and replays to the map; and the files are such that `check`
     // accepts them. All three are a function of the words and the two files, and the report is that of the record
     // and of how far the output is from the target.
-    ensures transferred { TransferHeadline words.now (S.state shelf.old) (S.state shelf.new) result }
+    ensures transferred { TransferHeadline words.now (S.state shelf.old) (S.state shelf.new)
+        result }
     ensures one_transfer { OneTransfer words.now (S.state shelf.old) (S.state shelf.new) result }
     ensures transfer_report { TransferReport words.now (S.state shelf.old) (S.state shelf.new)
         (O.state out.old) (O.state out.new) result }

@@ -1,10 +1,10 @@
 // Steps of a transfer, and the whole of it.
-ghost use Rattle.std.specs.Prelude.{◌≡◌, ◌≤◌, IfOk, IfSome, OnErr};
+ghost use Rattle.std.specs.Prelude.{◌≡◌, ◌≤◌, IfErr, IfOk, IfSome, OnErr};
 ghost use Rattle.limits.specs.declared.bounds.TheConstants.{GREATEST_ALPHA};
 ghost use Rattle.block_check.specs.Records.{BlockStands};
 ghost use Rattle.block_strips.specs.Laid.{IsLaidByBlocks};
 ghost use Rattle.quilt.specs.Runs.{HaveOneFrame, LaysNext, quilting};
-ghost use Rattle.quilt_run.specs.Quilted.{CanBeQuilted, Quilts};
+ghost use Rattle.quilt_run.specs.Quilted.{CanBeQuilted, IsQuiltFault, Quilts};
 ghost use Rattle.transfer.specs.Search.{ServesTransfer};
 ghost use Rattle.transfer.specs.Targets.{IsTargetOf, by_target};
 
@@ -16,7 +16,7 @@ use cells::Volume;
 use map_canvas::Canvas;
 use patch_place::Draws;
 use quilt::next_block_by;
-use quilt_run::{QuiltError, QuiltRun, Quilted, quilt_by};
+use quilt_run::{QuiltError, QuiltRun, Quilted, first_past, quilt_by};
 use std::alloc::{AllocError, Global};
 
 /// Lays the next block of a transfer over a canvas that is laid for its plan, and leaves a canvas that is: as
@@ -83,9 +83,20 @@ pub fn next_transfer_with(
     next_block_by(alloc, &plan.quilt, canvas, sample, &picks, draws)
 }
 
+// Refuses a run whose boxes have too many cells, before anything is made that its picks go by.
+fn keep_within(asked: &QuiltRun, sample: &Volume) -> Result<(), QuiltError>
+    requires { CanBeQuilted asked.now sample.now }
+    ensures { IfErr result (IsQuiltFault asked.now sample.now) }
+{
+    match first_past(&asked.plan, asked.size, sample.size()) {
+        Some(number) => Err(QuiltError::Records(number)),
+        None => Ok(()),
+    }
+}
+
 /// A whole transfer: blocks until the output, of the target's size, is full, with a record of each. Its draws are
-/// those of the seed, from number 0 on. The method is that of Efros and Freeman, "Image quilting" (2001), in one
-/// pass.
+/// those of the seed, from number 0 on. The limit comes first: a run that passes it makes nothing. The method is
+/// that of Efros and Freeman, "Image quilting" (2001), in one pass.
 pub fn transfer_canvas(
     alloc: Global,
     asked: &QuiltRun,
@@ -98,6 +109,7 @@ pub fn transfer_canvas(
     requires target { IsTargetOf asked.now.size sample.now target.now }
     ensures { Quilts (by_target alpha target.now sample.now) asked.now sample.now result }
 {
+    keep_within(asked, sample)?;
     // Called for their contracts only: they show the prover that these are volumes.
     let _sample = sample.samples();
     let _target = target.samples();

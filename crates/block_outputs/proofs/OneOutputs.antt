@@ -16,14 +16,14 @@ use Rattle.quilt_run.specs.declared.asked.QuiltRun.{QuiltRun}
 use Rattle.cert_file.specs.RecordFiles.{blocks_form}
 use Rattle.job_words.specs.declared.job.Names.{Names}
 use Rattle.block_outputs.specs.BlockOutputs.{quilt_head}
-use Rattle.block_outputs.specs.BlockHeadlines.{HaveSameOutput, IsQuiltedBy}
+use Rattle.block_outputs.specs.BlockHeadlines.{HaveSameQuilt, IsQuiltedBy}
 
 module _ (rating : Cells → Rating) (asked : QuiltRun) (names : Names) (small : IsSmall asked.size) (before after earlier later : Files) (same : content_of earlier names.sample ≡ content_of before names.sample)
     (run : IsQuiltedBy rating asked names before after) (other : IsQuiltedBy rating asked names earlier later) where
   abbrev sample : Picture
   sample = run.output.sample
 
-  one_sample : other.output.sample ≡ sample
+  pub one_sample : other.output.sample ≡ sample
   one_sample = one_picture (content_of before names.sample) other.output.sample sample (subst (λ bytes. IsRead bytes other.output.sample) same other.output.read).stands run.output.read.stands
 
   one_run : (run.records.blocks ≡ other.records.blocks) × (quilting run.output.map run.records.draws ≡ quilting other.output.map other.records.draws)
@@ -34,8 +34,11 @@ module _ (rating : Cells → Rating) (asked : QuiltRun) (names : Names) (small :
   one_map : other.output.map ≡ run.output.map
   one_map = sym (ap (λ (q : Quilting). q.map) one_run.1)
 
-  abbrev out_spelled : Picture → SourceMap → List ℕ
-  out_spelled s m = p6_form s.maxval (picture_of m s.volume)
+  pub one_record : other.records.blocks ≡ run.records.blocks
+  one_record = sym one_run.0
+
+  pub one_output : other.output.picture ≡ run.output.picture
+  one_output = other.output.of_map ∙ (λ i. picture_of (one_map i) (one_sample i).volume) ∙ sym run.output.of_map
 
   abbrev map_spelled : Picture → SourceMap → List ℕ
   map_spelled s m = cell_map_form m (sizes_of s.volume) One
@@ -43,10 +46,9 @@ module _ (rating : Cells → Rating) (asked : QuiltRun) (names : Names) (small :
   abbrev record_spelled : Picture → List BlockRecord → List ℕ
   record_spelled s blocks = blocks_form (quilt_head asked.size s.volume) blocks
 
-  pub same_output : HaveSameOutput names later after
+  pub same_output : HaveSameQuilt names later after
   same_output = record {
-    out = other.output.out_file ∙ ap (p6_form other.output.sample.maxval) other.output.of_map ∙ (λ i. out_spelled (one_sample i) (one_map i))
-        ∙ ap (p6_form sample.maxval) (sym run.output.of_map) ∙ sym run.output.out_file;
+    out = other.output.out_file ∙ (λ i. p6_form (one_sample i).maxval (one_output i)) ∙ sym run.output.out_file;
     map = other.output.map_file ∙ (λ i. map_spelled (one_sample i) (one_map i)) ∙ sym run.output.map_file;
-    record_file = other.records.file ∙ (λ i. record_spelled (one_sample i) (sym one_run.0 i)) ∙ sym run.records.file;
+    record_file = other.records.file ∙ (λ i. record_spelled (one_sample i) (one_record i)) ∙ sym run.records.file;
   }

@@ -72,7 +72,7 @@ pub record IsQuiltedBy (rating : Cells → Rating) (asked : QuiltRun) (names : N
       → fin.get after name ≡ fin.get before name
 
 -- the three files hold the same bytes
-pub record HaveSameOutput (names : Names) (one other : Files) : Type 0 where
+pub record HaveSameQuilt (names : Names) (one other : Files) : Type 0 where
   pub out : content_of one names.out ≡ content_of other names.out
   pub map : content_of one names.map ≡ content_of other names.map
   pub record_file : content_of one names.record_file ≡ content_of other names.record_file

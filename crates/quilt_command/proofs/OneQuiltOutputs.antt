@@ -6,7 +6,7 @@ use Rattle.job_words.specs.declared.quilt.QuiltJob.{QuiltJob}
 use Rattle.job_words.specs.QuiltWords.{IsQuiltJob}
 use Rattle.synth_report.specs.declared.summary.Summary.{Summary}
 use Rattle.command.specs.Outcomes.{WritesAll}
-use Rattle.block_outputs.specs.BlockHeadlines.{HaveSameOutput}
+use Rattle.block_outputs.specs.BlockHeadlines.{HaveSameQuilt}
 use Rattle.block_outputs.proofs.OneOutputs.{same_output}
 use Rattle.quilt_command.specs.Quilts.{quilt_command, quilt_run_of}
 use Rattle.quilt_command.specs.QuiltHeadlines.{IsQuiltedRun}
@@ -15,6 +15,6 @@ use Rattle.quilt_command.proofs.QuiltLaws.{quilted_run}
 
 -- another run of the words from files with the same sample leaves what is written
 pub one_quilt_output : (job : QuiltJob) → IsQuiltJob job → (summary : Summary) (before after : Files) → WritesAll (quilt_command job) summary before after
-    → (earlier later : Files) → content_of earlier job.names.sample ≡ content_of before job.names.sample → IsQuiltedRun job earlier later → HaveSameOutput job.names later after
+    → (earlier later : Files) → content_of earlier job.names.sample ≡ content_of before job.names.sample → IsQuiltedRun job earlier later → HaveSameQuilt job.names later after
 one_quilt_output job lawful summary before after wrote earlier later same other =
     same_output by_overlap (quilt_run_of job) job.names (small_quilt job lawful wrote.1.2.0) before after earlier later same (quilted_run job lawful summary before after wrote) other

@@ -13,7 +13,7 @@ use Rattle.job_words.specs.Jobs.{job_of}
 use Rattle.synth_report.specs.declared.summary.Summary.{Summary}
 use Rattle.synth_report.specs.declared.summary.Summary.TheVariants.{Quilt}
 use Rattle.command.specs.Writing.{Reported}
-use Rattle.block_outputs.specs.BlockHeadlines.{HaveSameOutput, IsQuiltedBy}
+use Rattle.block_outputs.specs.BlockHeadlines.{HaveSameQuilt, IsQuiltedBy}
 use Rattle.quilt_command.specs.Quilts.{quilt_run_of, quilt_size}
 
 -- the sample file stands for a picture. Out file, map file and record file are those of the quilted run
@@ -53,4 +53,4 @@ OneQuiltOutput words was now status =
     (job : QuiltJob) → job_of words ≡ Ok (QuiltOf job) → status ≡ 0
     → Changes was now (λ before after. (earlier later : Files)
     → content_of earlier job.names.sample ≡ content_of before job.names.sample
-    → IsQuiltedRun job earlier later → HaveSameOutput job.names later after)
+    → IsQuiltedRun job earlier later → HaveSameQuilt job.names later after)

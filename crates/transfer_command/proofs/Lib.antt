@@ -1,4 +1,5 @@
 pub mod Naming
 pub mod Planning
+pub mod Matching
 pub mod TransferLaws
 pub mod OneTransfers

@@ -1,9 +1,10 @@
 -- `transfer` has one answer to files, and its headline.
 use Rattle.std.proofs.Common.{◌≡◌, length, ap, ◌∙◌}
+use Rattle.cells.specs.Places.{IsSmall}
 use Rattle.shelf_core.specs.Files.{Files, content_of}
 use Rattle.shelf_core.specs.Written.{written}
-use Rattle.cells.specs.Places.{IsSmall}
 use Rattle.netpbm_p6.specs.declared.picture.Picture.{Picture}
+use Rattle.netpbm_p6.specs.Pictures.{IsRead}
 use Rattle.quilt_run.specs.declared.asked.Quilted.{Quilted}
 use Rattle.quilt_run.specs.Quilted.{IsQuilt}
 use Rattle.transfer.specs.Targets.{matched}
@@ -19,7 +20,7 @@ use Rattle.sample_files.specs.Outputs.{FitsOutput}
 use Rattle.sample_files.proofs.Sound.{read_is_sound, read_is_volume}
 use Rattle.block_outputs.specs.BlockOutputs.{quilt_files, quilt_of}
 use Rattle.block_outputs.proofs.Written.{quilted_by}
-use Rattle.transfer_command.specs.Transfers.{IsSampleIn, IsTargetIn, IsTransferSummary, MayRefuseTransfer, transfer_command, transfer_rating, transfer_run_of, transfer_stages, transfer_summary}
+use Rattle.transfer_command.specs.Transfers.{IsTargetIn, IsTransferSummary, MayRefuseTransfer, transfer_command, transfer_rating, transfer_run_of, transfer_stages, transfer_summary}
 use Rattle.transfer_command.specs.TransferHeadlines.{IsToldOfTransfer, IsTransferredRun}
 use Rattle.transfer_command.proofs.Naming.{file_names}
 use Rattle.transfer_command.proofs.Planning.{are_one}
@@ -32,7 +33,7 @@ pub small_target : (files : Files) (job : TransferJob) (target : Picture) → Is
 small_target files job target read = (read_is_volume (content_of files job.target) target read).small
 
 -- what is written is the run of the headline
-told : (job : TransferJob) → IsTransferJob job → (before after : Files) (sample target : Picture) → IsSampleIn job before sample → IsTargetIn job before target → target.maxval ≡ sample.maxval → FitsOutput target.volume.size
+told : (job : TransferJob) → IsTransferJob job → (before after : Files) (sample target : Picture) → IsRead (content_of before job.names.sample) sample → IsTargetIn job before target → target.maxval ≡ sample.maxval → FitsOutput target.volume.size
     → (quilted : Quilted) → IsQuilt (transfer_rating job target sample.volume) (transfer_run_of job target) sample.volume quilted
     → after ≡ written (pieces (transfer_command job).writes (texts_in (quilt_files job.names target.volume.size (quilt_of sample quilted)))) before
     → (summary : Summary) → summary ≡ transfer_summary target quilted → IsToldOfTransfer job summary before after

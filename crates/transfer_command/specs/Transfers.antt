@@ -1,6 +1,7 @@
 -- `transfer` as a command: what it reads and refuses, what it makes, and the files that it writes. To
 -- be trusted: contracts cite these words. (Own.)
 use Rattle.std.specs.Prelude.{◌≡◌, ℕ, List, [], ◌∷◌, length}
+use Rattle.cells.specs.declared.place.Size.{Size}
 use Rattle.cells.specs.Cells.{Cells}
 use Rattle.shelf_core.specs.Files.{Files, content_of}
 use Rattle.netpbm_p6.specs.declared.picture.Picture.{Picture}
@@ -38,10 +39,7 @@ transfer_rating job target sample = by_target job.alpha target.volume sample
 
 -- What is made of the files.
 
--- the sample file stands for this picture; and the target file does
-abbrev pub IsSampleIn : TransferJob → Files → Picture → Type 0
-IsSampleIn job files picture = IsRead (content_of files job.names.sample) picture
-
+-- the target file stands for this picture
 abbrev pub IsTargetIn : TransferJob → Files → Picture → Type 0
 IsTargetIn job files picture = IsRead (content_of files job.target) picture
 
@@ -87,8 +85,9 @@ MayRefuseTransfer fault = ⊥
 
 -- the summaries of `transfer`
 abbrev pub IsTransferSummary : Summary → Type 0
-IsTransferSummary summary = (target : Picture) × (quilted : Quilted)
-    × (summary ≡ transfer_summary target quilted)
+IsTransferSummary summary =
+    (size : Size) × (blocks : ℕ) × (boundaries : ℕ) × (cost : ℕ) × (distance : ℕ)
+    × (summary ≡ Transfer size blocks boundaries cost distance)
 
 abbrev pub transfer_command : TransferJob → Command
 transfer_command job = of_stages (transfer_stages job)

@@ -1,6 +1,5 @@
 // What is read and computed before a file is begun.
 ghost use Rattle.std.specs.Prelude.{◌≡◌, IfOk};
-ghost use Rattle.cells.specs.Cells.{IsVolume};
 ghost use Rattle.shelf_core.specs.Files.{OnlyReads};
 ghost use Rattle.job_words.specs.TransferWords.{IsTransferJob};
 ghost use Rattle.netpbm_p6.specs.Pictures.{IsSound};
@@ -26,11 +25,10 @@ pub struct Transferred {
     pub quilt: PictureQuilt,
 }
 
-/// What is asked of a transfer.
+/// What is asked of a transfer: an output of the target's size.
 pub(crate) fn run_of(job: &TransferJob, target: &Picture) -> QuiltRun
     requires { IsSound target.now }
-    ensures asked { result ≡ transfer_run_of job.now target.now }
-    ensures volume { IsVolume target.now.volume }
+    ensures { result ≡ transfer_run_of job.now target.now }
 {
     QuiltRun {
         size: target.volume.size(),
@@ -69,11 +67,10 @@ pub(crate) fn plan<S: Shelf>(
         Ok(()) => {}
         Err(fault) => return Err(fault),
     }
-    let quilted =
-        match transfer_canvas(alloc, &asked, job.alpha, &target.volume, &sample.volume) {
-            Ok(quilted) => quilted,
-            Err(error) => return Err(quilt_fault(error)),
-        };
+    let quilted = match transfer_canvas(alloc, &asked, job.alpha, &target.volume, &sample.volume) {
+        Ok(quilted) => quilted,
+        Err(error) => return Err(quilt_fault(error)),
+    };
     Ok(Transferred {
         target,
         quilt: PictureQuilt { sample, quilted },

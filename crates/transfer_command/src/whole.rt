@@ -1,5 +1,5 @@
 // The command that paints a target with blocks of a sample.
-ghost use Rattle.std.specs.Prelude.{◌≡◌, ◌≤◌, length};
+ghost use Rattle.std.specs.Prelude.{◌≡◌, ◌≤◌, ◌^◌, length};
 ghost use Rattle.cells.specs.Cells.{bytes_of};
 ghost use Rattle.shelf_core.specs.Files.{OnlyWrites};
 ghost use Rattle.job_words.specs.TransferWords.{IsTransferJob};
@@ -55,7 +55,14 @@ fn write<S: Shelf, O: Sink>(
         (S.state shelf.old) (S.state shelf.new) }
 {
     let summary = summary_of(job, made);
-    write_quilt(&run_of(job, &made.target), &job.names, &made.quilt, summary, shelf, out)
+    write_quilt(
+        &run_of(job, &made.target),
+        &job.names,
+        &made.quilt,
+        summary,
+        shelf,
+        out,
+    )
 }
 
 /// Paints a target with blocks of a sample. It reads both pictures, and lays blocks along least boundaries, each at

@@ -20,16 +20,16 @@ use Rattle.loop_command.proofs.OneLoops.{one_loop}
 use Rattle.merge_command.specs.MergeHeadlines.{HaveSameInput, HaveSameMerge, IsMergedRun, IsOneMergeReport, MergeHeadline, MergeReport, OneMerge}
 use Rattle.merge_command.proofs.MergeRuns.{merge_has_one_answer, merged_run}
 use Rattle.merge_command.proofs.OneMerges.{one_merge, one_merge_report}
-use Rattle.block_outputs.specs.BlockHeadlines.{HaveSameOutput as HaveSameQuilt}
+use Rattle.block_outputs.specs.BlockHeadlines.{HaveSameQuilt}
 use Rattle.quilt_command.specs.QuiltHeadlines.{IsQuiltedRun, IsToldOfRun, OneQuiltOutput, QuiltHeadline, QuiltReport}
 use Rattle.quilt_command.proofs.OneQuiltOutputs.{one_quilt_output}
 use Rattle.quilt_command.proofs.QuiltLaws.{quilt_has_one_answer, quilt_told, quilted_run}
 use Rattle.tile_command.specs.TileHeadlines.{IsOneTiling, IsToldOfTiling, OneTile, TileHeadline}
 use Rattle.tile_command.proofs.OneTiles.{one_tile}
 use Rattle.tile_command.proofs.TileLaws.{tile_has_one_answer, tile_told}
-use Rattle.transfer_command.specs.TransferHeadlines.{HaveSameInput as TransferInput, IsToldOfTransfer, IsTransferredRun, OneTransfer, TransferHeadline, TransferReport}
-use Rattle.transfer_command.proofs.OneTransfers.{one_transfer}
-use Rattle.transfer_command.proofs.TransferLaws.{transfer_has_one_answer, transfer_told, transferred_run}
+use Rattle.transfer_command.specs.TransferHeadlines.{HaveSamePictures, IsOneTransferReport, IsTransferredRun, OneTransfer, TransferHeadline, TransferReport}
+use Rattle.transfer_command.proofs.OneTransfers.{one_transfer, one_transfer_report}
+use Rattle.transfer_command.proofs.TransferLaws.{transfer_has_one_answer, transferred_run}
 use Rattle.upgrade_command.specs.Upgraded.{UpgradeHeadline}
 use Rattle.upgrade_command.proofs.Headline.{finished}
 use Rattle.upgrade_command.proofs.Reading.{upgrade_has_one_answer}
@@ -164,20 +164,20 @@ module _ (words : List (List ℕ)) (was now : ShelfState) (out out' err err' : S
       let its = done_of (Merge job) asks zero in
       (its.summary, its.told, then_of (Merge job) its (IsOneMergeReport job its.summary) (one_merge_report job its.lawful its.summary))
 
-  -- the headline of `transfer`, its one output, and its report
+  -- the headline of `transfer`, its one output, and its one report
   pub transfer_headline : TransferHeadline words was now status
   transfer_headline job asks zero = let its = done_of (Transfer job) asks zero in then_of (Transfer job) its (IsTransferredRun job) (transferred_run job its.lawful its.summary)
 
   pub transfer_once : OneTransfer words was now status
   transfer_once job asks zero =
       let its = done_of (Transfer job) asks zero in
-      then_of (Transfer job) its (λ before after. (earlier later : Files) → TransferInput job earlier before → IsTransferredRun job earlier later → HaveSameQuilt job.names later after)
+      then_of (Transfer job) its (λ before after. (earlier later : Files) → HaveSamePictures job earlier before → IsTransferredRun job earlier later → HaveSameQuilt job.names later after)
       (one_transfer job its.lawful its.summary)
 
   pub transfer_reported : TransferReport words was now out out' status
   transfer_reported job asks zero =
       let its = done_of (Transfer job) asks zero in
-      (its.summary, its.told, then_of (Transfer job) its (IsToldOfTransfer job its.summary) (transfer_told job its.lawful its.summary))
+      (its.summary, its.told, then_of (Transfer job) its (IsOneTransferReport job its.summary) (one_transfer_report job its.lawful its.summary))
 
   -- what `check` says
   pub check_headline : CheckHeadline words was now out out' status

@@ -179,8 +179,8 @@ pub fn run<S: Shelf, O: Sink, E: Sink>(
     // With status 0 of `transfer` every output cell is the sample cell that the written map names, in the target's
     // size; the record is that of the run of the words over sample and target; each of its boundaries is the first
     // of the least ones through its strip; it stands and replays to the map; and the files are such that `check`
-    // accepts them. All three are a function of the words and the two files, and the report is that of the record
-    // and of how far the output is from the target.
+    // accepts them. All three are a function of the words and the two files, and so is the report, which is that of
+    // the record and of how far the output is from the target.
     ensures transferred { TransferHeadline words.now (S.state shelf.old) (S.state shelf.new)
         result }
     ensures one_transfer { OneTransfer words.now (S.state shelf.old) (S.state shelf.new) result }

@@ -35,8 +35,8 @@ pub fn next_transfer(
     requires target { IsTargetOf canvas.old.map.size sample.now target.now }
     requires pictures { HaveOneFrame canvas.old sample.now }
     requires laid { IsLaidByBlocks plan.now.quilt sample.now canvas.old.map }
-    ensures next { LaysNext (by_target plan.now.alpha target.now sample.now) plan.now.quilt sample.now
-        (quilting canvas.old.map draws.old) (quilting canvas.new.map draws.new) result }
+    ensures next { LaysNext (by_target plan.now.alpha target.now sample.now) plan.now.quilt
+        sample.now (quilting canvas.old.map draws.old) (quilting canvas.new.map draws.new) result }
     ensures stands { IfOk result (λ block. IfSome block (BlockStands canvas.old.map sample.now)) }
     ensures pictures { HaveOneFrame canvas.new sample.now }
     ensures laid { IsLaidByBlocks plan.now.quilt sample.now canvas.new.map }
@@ -68,8 +68,8 @@ pub fn next_transfer_with(
     requires search { ServesTransfer sample.now target.now search.now }
     requires pictures { HaveOneFrame canvas.old sample.now }
     requires laid { IsLaidByBlocks plan.now.quilt sample.now canvas.old.map }
-    ensures next { LaysNext (by_target plan.now.alpha target.now sample.now) plan.now.quilt sample.now
-        (quilting canvas.old.map draws.old) (quilting canvas.new.map draws.new) result }
+    ensures next { LaysNext (by_target plan.now.alpha target.now sample.now) plan.now.quilt
+        sample.now (quilting canvas.old.map draws.old) (quilting canvas.new.map draws.new) result }
     ensures stands { IfOk result (λ block. IfSome block (BlockStands canvas.old.map sample.now)) }
     ensures pictures { HaveOneFrame canvas.new sample.now }
     ensures laid { IsLaidByBlocks plan.now.quilt sample.now canvas.new.map }

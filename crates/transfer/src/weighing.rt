@@ -52,7 +52,8 @@ fn eliminate_times(
     requires ready { AreOverlaps overlaps.now }
     requires asked { IsOverlap overlaps.now placement.now }
     ensures { (other : At → ℕ)
-        → AreAtLeastTimes n (sum_from (error_of overlaps.now.canvas.now.map overlaps.now.sample.now)
+        → AreAtLeastTimes n
+        (sum_from (error_of overlaps.now.canvas.now.map overlaps.now.sample.now)
         placement.now.rect) other
         → AreEliminatedBy other result }
 {

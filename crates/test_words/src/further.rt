@@ -1,5 +1,4 @@
-// The words of `transfer`, `merge` and `tile`, by the calls that read them: `read_job` doesn't know the commands
-// `transfer` and `merge`.
+// The words of `transfer`, `merge` and `tile`, by the calls that read them.
 use crate::expect::expect_no_row;
 use crate::jobs::{are_names, is_name, words_of};
 use cells::{Axis, Size};
@@ -48,12 +47,21 @@ const REFUSED: &[(&[&str], WordFault)] = &[
         &["transfer", "target=a", "sample=a"],
         WordFault::SameName(3),
     ),
+    (&["transfer", "target=a", "out=a"], WordFault::SameName(3)),
+    (&["transfer", "target=a", "map=a"], WordFault::SameName(3)),
     (
         &["transfer", "record=a", "target=a"],
         WordFault::SameName(3),
     ),
     (&["transfer", "alpha=101"], WordFault::OutOfRange(2)),
+    (&["transfer", "alpha=0101"], WordFault::OutOfRange(2)),
+    (&["transfer", "alpha=-1"], WordFault::BadValue(2)),
     (&["transfer", "alpha=half"], WordFault::BadValue(2)),
+    (&["transfer", "alpha="], WordFault::BadWord(2)),
+    (
+        &["transfer", "alpha=050", "alpha=50"],
+        WordFault::Repeated(3),
+    ),
     (&["transfer", "block=0"], WordFault::OutOfRange(2)),
     (&["transfer", "overlap=4096"], WordFault::OutOfRange(2)),
     (&["transfer", "width=7"], WordFault::UnknownKey(2)),
@@ -205,9 +213,22 @@ const ALL_OF_TRANSFER: &[&str] = &[
     "record=r",
 ];
 
+const SMALL_OF_TRANSFER: &[&str] = &[
+    "sample=s",
+    "target=t",
+    "out=o",
+    "map=m",
+    "record=r",
+    "block=1",
+    "overlap=0",
+    "tol=0",
+    "alpha=070",
+];
+
 #[test]
 fn transfers(rt: HostRuntime) {
     assert!(rt; is_transferred(rt.alloc(), FEW_OF_TRANSFER, (32, 5, 10, 50, 0)));
+    assert!(rt; is_transferred(rt.alloc(), SMALL_OF_TRANSFER, (1, 0, 0, 70, 0)));
     let greatest = (4096, 4095, 1000, 100, u64::MAX);
     assert!(rt; is_transferred(rt.alloc(), ALL_OF_TRANSFER, greatest));
 }

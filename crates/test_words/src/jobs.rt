@@ -21,7 +21,9 @@ fn read(alloc: Global, words: &[&str]) -> Result<Job, WordFault> {
 // Words, and why they are refused.
 const REFUSED: &[(&[&str], WordFault)] = &[
     (&[], WordFault::NoCommand),
-    (&["transfer"], WordFault::UnknownCommand),
+    (&["transfer "], WordFault::UnknownCommand),
+    (&["transfer"], WordFault::Missing(Key::Sample)),
+    (&["transfer", "turns=all"], WordFault::UnknownKey(2)),
     (&["merge"], WordFault::Missing(Key::Sample)),
     (&["merge", "sample=a"], WordFault::Missing(Key::More(2))),
     (&["merge", "record=r"], WordFault::UnknownKey(2)),

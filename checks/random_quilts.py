@@ -41,9 +41,10 @@ class EachBoundary(BlockCheck):
         assert path == least, f"the first least boundary is {least}, and not {path}"
 
 
-def verify_quilt(*names):
+def verify_blocks(check, *names):
+    """What verify.py says of a run of blocks, each of which is tried by a check of this kind."""
     run = Run(*names)
-    run.checks[1] = 7, EachBoundary
+    run.checks[1] = 7, check
     try:
         run.check()
     except Broken as broken:
@@ -58,7 +59,7 @@ def one_quilt(chance, folder):
     words = [f"width={chance.randint(1, 14)}", f"height={chance.randint(1, 12)}", f"block={chance.randint(1, 6)}"]
     words += [f"overlap={chance.randint(0, 5)}", f"tol={chance.choice([0, 10, 300])}", f"seed={chance.randrange(2 ** 64)}"]
     done = subprocess.run([WEAVE, "quilt"] + files + words, capture_output=True, text=True)
-    answer = verify_quilt(out, mapped, record, sample) if done.returncode == 0 else done.stderr
+    answer = verify_blocks(EachBoundary, out, mapped, record, sample) if done.returncode == 0 else done.stderr
     checked = subprocess.run([WEAVE, "check"] + files, capture_output=True, text=True)
     if answer == "stands" and checked.stdout != "stands\n":
         answer = f"check: {checked.stdout}{checked.stderr}"

@@ -15,8 +15,8 @@ from beside import WEAVE
 from verify import verify
 
 
-def write_sample(name, chance):
-    width, height = chance.randint(1, 7), chance.randint(1, 7)
+def write_sample(name, chance, most=7):
+    width, height = chance.randint(1, most), chance.randint(1, most)
     shades = chance.choice([2, 4, 256])
     raster = bytes(chance.randrange(shades) * (255 // (shades - 1)) for _ in range(3 * width * height))
     with open(name, "wb") as out:

@@ -4,7 +4,7 @@ _weave() {
     local word=${COMP_WORDS[COMP_CWORD]} before=${COMP_WORDS[COMP_CWORD-1]} keys
     COMPREPLY=()
     if [ "$COMP_CWORD" -eq 1 ]; then
-        mapfile -t COMPREPLY < <(compgen -W "grow quilt loop check trial upgrade tile merge" -- "$word")
+        mapfile -t COMPREPLY < <(compgen -W "grow quilt loop check trial upgrade tile merge transfer" -- "$word")
         return
     fi
     # The value of a key: bash takes `=` for a word of its own.
@@ -16,7 +16,7 @@ _weave() {
         before=
     fi
     case $before in
-        sample* | marks | out | map | record | newmap | newrecord)
+        sample* | target | marks | out | map | record | newmap | newrecord)
             mapfile -t COMPREPLY < <(compgen -f -- "$word")
             return ;;
         place)
@@ -37,6 +37,7 @@ _weave() {
     case ${COMP_WORDS[1]} in
         grow) keys="sample= sample2= out= map= record= width= height= frames= place= box= overlap= tol= rounds= seed= turns=" ;;
         quilt) keys="sample= out= map= record= width= height= block= overlap= tol= seed=" ;;
+        transfer) keys="sample= target= out= map= record= block= overlap= tol= alpha= seed=" ;;
         loop) keys="sample= out= map= record= length= taps= gap=" ;;
         merge) keys="sample= sample2= marks= out= map=" ;;
         check) keys="sample= sample2= out= map= record= turns=" ;;

@@ -3,8 +3,8 @@
 
     examples/samples.py NAME FILE
 
-NAME is that of a function below. P6 pictures are bricks, olives, gravel, grass, wood, cloth, rust, clouds, and three that
-go badly: halves, dusk and writing. YUV4MPEG2 clips are waves, sway, flame, pendulum and snow. Each NAME gives the same
+NAME is that of a function below. P6 pictures are bricks, olives, gravel, grass, wood, cloth, rust, clouds, three that go
+badly, halves, dusk and writing, and vase, to be painted. YUV4MPEG2 clips are waves, sway, flame, pendulum and snow. Each NAME gives the same
 file every time."""
 import math
 import random
@@ -212,6 +212,33 @@ def sky_of(glow):
     return width, height, [cell(x, y) for y in range(height) for x in range(width)]
 
 
+def vase():
+    """A grey still life to paint with textures, 256x256 cells: a vase and a ball, lit from the upper left."""
+    side = 256
+
+    def half_width(y):
+        """Of the vase, at a height from 0 at its rim to 1 at its foot."""
+        return 13 + 34 * math.sin(math.pi * min(1.0, y * 1.08)) ** 1.4 + 10 * max(0.0, 1 - 9 * y)
+
+    def lit(across, down):
+        """How light a point of a round thing is, whose outline has the distance 1 from its middle."""
+        up = math.sqrt(max(0.0, 1 - across * across - down * down))
+        return max(0.0, min(1.0, 0.6 * up - 0.75 * across - 0.5 * down + 0.1))
+
+    def light(x, y):
+        height, across, down = (y - 34) / 172, (x - 184) / 42, (y - 168) / 42
+        if 0 <= height <= 1 and abs(x - 92) <= half_width(height):
+            return lit((x - 92) / half_width(height), 0)
+        if across * across + down * down <= 1:
+            return lit(across, down)
+        if y > 192 and ((x - 150) / 98) ** 2 + ((y - 210) / 13) ** 2 < 1:
+            return 0.0
+        return 0.75 if y > 186 else 0.35
+
+    cells = [[clamp(70 + 75 * light(x, y))] * 3 for y in range(side) for x in range(side)]
+    return side, side, cells
+
+
 LETTERS = {
     "a": "0e.01.0f.11.0f", "b": "10.16.19.11.1e", "c": "0e.10.10.11.0e", "d": "01.0d.13.11.0f", "e": "0e.11.1f.10.0e",
     "i": "04.00.0c.04.0e", "l": "0c.04.04.04.0e", "n": "16.19.11.11.11", "o": "0e.11.11.11.0e", "r": "16.19.10.10.10",
@@ -320,7 +347,8 @@ def snow():
 
 
 PICTURES = {
-    it.__name__: it for it in (bricks, olives, gravel, grass, halves, wood, cloth, rust, clouds, dusk, writing)
+    it.__name__: it
+    for it in (bricks, olives, gravel, grass, halves, wood, cloth, rust, clouds, dusk, writing, vase)
 }
 CLIPS = {it.__name__: it for it in (waves, sway, flame, pendulum, snow)}
 

@@ -1,31 +1,29 @@
 -- A box of the target as a canvas of its own: what is there, and that its errors are those from the
 -- target.
-use Rattle.std.proofs.Common.{◌≡◌, ℕ, ◌+◌, ◌*◌, ◌<◌, ◌≤◌, List, [], ◌∷◌, length, get_or, true, false, refl, ap, sym, ◌∙◌, subst, arith}
+use Rattle.std.proofs.Common.{◌≡◌, ℕ, ◌+◌, ◌*◌, ◌<◌, List, [], get_or, true, false, ap, sym, ◌∙◌, arith}
 use Rattle.std.proofs.lemmas.Int.{ints}
 use Rattle.std.proofs.lemmas.List.{get_or-replicate}
-use Rattle.std.specs.Prelude.{ℤ, pos, ◌+ℤ◌, ◌-ℤ◌, Bool, Option, Some, None, IsSome, if◌then◌else◌, replicate, unwrap_or}
+use Rattle.std.specs.Prelude.{ℤ, pos, ◌+ℤ◌, ◌-ℤ◌, Bool, Some, if◌then◌else◌, replicate, unwrap_or}
 use Rattle.boxes.specs.Pairs.{AreCounts}
-use Rattle.boxes.specs.Sums.{sum_box}
 use Rattle.boxes.proofs.Additions.{counts, sum_box_is}
 use Rattle.boxes.proofs.Boxes.{box_equal}
 use Rattle.boxes.proofs.Cells.{cell_inside}
 use Rattle.cells.specs.declared.place.At.{At}
 use Rattle.cells.specs.declared.place.Box3.{Box3}
 use Rattle.cells.specs.declared.place.Size.{Size}
-use Rattle.cells.specs.Boxes.{HasCells, HoldsBox, cell_in}
-use Rattle.cells.specs.Cells.{Cells, Holds, IsInsideOf, IsVolume, cell_at, with_part}
-use Rattle.cells.specs.Places.{IsInside, cell_count, index_in, minus, plus, raster_index, spot}
+use Rattle.cells.specs.Boxes.{HoldsBox, cell_in}
+use Rattle.cells.specs.Cells.{Cells, Holds, IsInsideOf, IsVolume, with_part}
+use Rattle.cells.specs.Places.{cell_count, index_in, minus, plus, raster_index, spot}
 use Rattle.cells.proofs.BoxLaws.{plus_minus}
 use Rattle.cells.proofs.BoxTests.{each_of_axes}
 use Rattle.cells.proofs.Raster.{in_rows, index_of_spot}
 use Rattle.lane_kernels.specs.Sums.{sum_of_squared_differences}
-use Rattle.map_canvas.specs.declared.canvas.Placement.{Placement}
 use Rattle.map_canvas.specs.Canvases.{CanvasState}
 use Rattle.map_canvas.specs.CellErrors.{cell_error, spot_error}
-use Rattle.map_canvas.specs.Choices.{IsAfter, after_at, chosen, laid_from, new_source}
+use Rattle.map_canvas.specs.Choices.{IsAfter, chosen, laid_from, new_source}
 use Rattle.map_canvas.specs.Maps.{SourceMap, map_at, sample_cell}
 use Rattle.match_error.specs.Errors.{error_sum}
-use Rattle.transfer.specs.Joined.{CanBeJoined, IsTargetBox, at_first, target_place}
+use Rattle.transfer.specs.Joined.{CanBeJoined, IsTargetBox, at_first}
 use Rattle.transfer.specs.Targets.{target_spot, target_sum}
 use Rattle.transfer.proofs.Joining.{same_cell, target_cell}
 

@@ -1,19 +1,18 @@
 -- A sample and a target in one volume: where each has its cells.
-use Rattle.std.proofs.Common.{◌≡◌, ℕ, ◌+◌, ◌*◌, ◌<◌, ◌≤◌, List, [], ◌∷◌, ◌++◌, length, take, drop, get_or, inl, inr, refl, ap, sym, ◌∙◌, subst, arith}
+use Rattle.std.proofs.Common.{◌≡◌, ℕ, ◌+◌, ◌<◌, ◌≤◌, [], ◌∷◌, ◌++◌, length, take, drop, inr, refl, ap, sym, ◌∙◌, subst, arith}
 use Rattle.std.proofs.lemmas.Int.{ints}
 use Rattle.std.proofs.lemmas.List.{drop-append-le, get_or_append_left, length-append, length-drop, take-append-le}
 use Rattle.std.proofs.lemmas.Option.{slice_get-get_or}
-use Rattle.std.specs.Prelude.{ℤ, pos, ◌+ℤ◌, ◌-ℤ◌, Option, Some, None, IsSome, slice_get, unwrap_or}
+use Rattle.std.specs.Prelude.{ℤ, pos, ◌+ℤ◌, Some, IsSome, slice_get, unwrap_or}
 use Rattle.std.specs.List.{concat}
 use Rattle.cells.specs.declared.place.At.{At}
-use Rattle.cells.specs.declared.place.Box3.{Box3}
 use Rattle.cells.specs.declared.place.Size.{Size}
-use Rattle.cells.specs.Boxes.{HasCells, HoldsBox, cell_in}
+use Rattle.cells.specs.Boxes.{HoldsBox}
 use Rattle.cells.specs.Cells.{Cells, HasRun, Holds, IsInsideOf, IsOnePart, IsVolume, cell_at, index_of, row_at, run_from, sizes_of, with_part}
 use Rattle.cells.specs.PartLists.{one_part_of, part_numbered, parts_of}
 use Rattle.cells.specs.Parts.{HoldsFrom, index_from, past}
-use Rattle.cells.specs.Places.{IsInside, cell_count, plus, spot}
-use Rattle.cells.specs.SizeLists.{frames_on, frames_to_part, stock_place}
+use Rattle.cells.specs.Places.{IsInside, plus}
+use Rattle.cells.specs.SizeLists.{frames_to_part, stock_place}
 use Rattle.cells.proofs.CellLaws.{cell_at-index}
 use Rattle.cells.proofs.PartBoxes.{held, run_of_volume}
 use Rattle.cells.proofs.PartLaws.{index_from_below, index_front}

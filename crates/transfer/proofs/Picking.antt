@@ -1,7 +1,7 @@
 -- What a pick among the placements of a box gives.
-use Rattle.std.proofs.Common.{◌≡◌, ℕ, List, refl, ap, sym, ◌∙◌, subst, subst₂}
+use Rattle.std.proofs.Common.{◌≡◌, ℕ, List, sym, ◌∙◌, subst₂}
 use Rattle.std.proofs.lemmas.List.Elements.{All-contains, All-contains_itself, All-weaker}
-use Rattle.std.specs.Prelude.{All, Contains, IfOk, Ok, Err, Option, Some, Result}
+use Rattle.std.specs.Prelude.{All, Contains, IfOk, Ok, Err, Some, Result}
 use Rattle.std.specs.declared.alloc.AllocError.{AllocError}
 use Rattle.cells.specs.declared.place.Box3.{Box3}
 use Rattle.cells.specs.Cells.{Cells}
@@ -10,7 +10,6 @@ use Rattle.map_canvas.specs.Canvases.{CanvasState}
 use Rattle.map_canvas.specs.Choices.{Fits}
 use Rattle.patch_place.specs.Draws.{DrawState}
 use Rattle.patch_place.specs.Lists.{fit_list, part_lists}
-use Rattle.patch_place.specs.Overlaps.{IsOverlap}
 use Rattle.patch_place.specs.Picks.{IsPick}
 use Rattle.quilt.proofs.Picking.{listed_has_box}
 use Rattle.transfer.specs.declared.weighing.Weighing.{Weighing}

@@ -1,5 +1,5 @@
 -- A sample and a target of one frame each have room in one volume.
-use Rattle.std.proofs.Common.{◌≡◌, ℕ, ◌+◌, ◌*◌, ◌≤◌, ap, ◌∙◌, arith}
+use Rattle.std.proofs.Common.{◌≡◌, ℕ, ◌+◌, ◌*◌, ◌≤◌, ap, arith}
 use Rattle.std.proofs.Math.Nat.{mul-le-mul}
 use Rattle.limits.specs.declared.bounds.TheConstants.{MOST_CELLS}
 use Rattle.cells.specs.Cells.{Cells, IsOnePart, IsVolume, count_of}

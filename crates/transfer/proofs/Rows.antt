@@ -1,14 +1,11 @@
 -- A row of the box in the target and in the sample: what the sum over the two is, and how large such sums get.
-use Rattle.std.proofs.Common.{◌≡◌, ℕ, ◌+◌, ◌*◌, ◌<◌, ◌≤◌, List, [], length, get_or, ap, sym, ◌∙◌, arith}
+use Rattle.std.proofs.Common.{◌≡◌, ℕ, ◌+◌, ◌<◌, [], get_or, ap, sym, ◌∙◌}
 use Rattle.std.specs.Prelude.{Some, unwrap_or}
-use Rattle.boxes.specs.Sums.{sum_to}
 use Rattle.boxes.proofs.Additions.{counts}
 use Rattle.boxes.proofs.Axes.{sum_equal}
-use Rattle.boxes.proofs.Bounds.{box_bound, sum_bound}
 use Rattle.cells.specs.declared.place.At.{At}
-use Rattle.cells.specs.Boxes.{HoldsBox}
-use Rattle.cells.specs.Cells.{Cells, Holds, IsVolume, cell_at, row_at}
-use Rattle.cells.specs.Places.{cell_count, plus, spot}
+use Rattle.cells.specs.Cells.{Cells, IsVolume, row_at}
+use Rattle.cells.specs.Places.{plus, spot}
 use Rattle.cells.proofs.BoxLaws.{plus_minus}
 use Rattle.cells.proofs.CellLaws.{cell_by_index}
 use Rattle.cells.proofs.PartBoxes.{box_held}
@@ -16,10 +13,9 @@ use Rattle.lane_kernels.specs.Sums.{sum_of_squared_differences}
 use Rattle.map_canvas.specs.declared.canvas.Placement.{Placement}
 use Rattle.map_canvas.specs.Maps.{sample_cell}
 use Rattle.map_canvas.specs.Choices.{Fits, new_source}
-use Rattle.cells.specs.Boxes.{cell_in}
 use Rattle.match_error.proofs.RowPlaces.{IsVolumeRow, row_in_volume, have_samples, row_is_run}
 use Rattle.match_error.proofs.Runs.{plain_cells}
-use Rattle.transfer.specs.Targets.{target_row, target_spot, target_sum}
+use Rattle.transfer.specs.Targets.{target_row, target_spot}
 
 module _ (target sample : Cells) (placement : Placement) (volume : IsVolume target) (is : IsVolume sample) (same : target.k ≡ sample.k) (fits : Fits target.size sample placement) where
   module _ (y f : ℕ) (ly : y < placement.rect.size.h) (lf : f < placement.rect.size.f) where

@@ -1,16 +1,15 @@
 -- The sums of a sample's blocks serve the sample with a target as its second part.
-use Rattle.std.proofs.Common.{◌≡◌, ℕ, ◌+◌, ◌<◌, ◌≤◌, List, [], ◌∷◌, ap, sym, ◌∙◌, subst, arith}
+use Rattle.std.proofs.Common.{◌≡◌, ℕ, ◌+◌, ◌<◌, ◌≤◌, ap, sym, ◌∙◌, subst, arith}
 use Rattle.std.proofs.lemmas.Int.{ints}
 use Rattle.std.proofs.lemmas.List.Elements.{All-weaker}
-use Rattle.std.specs.Prelude.{All, ℤ, pos, ◌+ℤ◌, sum}
-use Rattle.boxes.specs.Pairs.{AreCounts}
+use Rattle.std.specs.Prelude.{ℤ, pos, ◌+ℤ◌, sum}
 use Rattle.boxes.proofs.Additions.{counts}
 use Rattle.boxes.proofs.Axes.{sum_equal}
 use Rattle.boxes.proofs.Cells.{cell_inside}
 use Rattle.cells.specs.declared.place.At.{At}
 use Rattle.cells.specs.declared.place.Box3.{Box3}
 use Rattle.cells.specs.Boxes.{cell_in}
-use Rattle.cells.specs.Cells.{Cells, HasRun, Holds, IsInsideOf, IsVolume, row_at, with_part}
+use Rattle.cells.specs.Cells.{Cells, HasRun, Holds, IsInsideOf, IsVolume, with_part}
 use Rattle.cells.specs.Places.{plus, spot}
 use Rattle.search_squares.specs.declared.levels.SampleSums.{SampleSums}
 use Rattle.search_squares.specs.declared.sums.BlockSums.{BlockSums}

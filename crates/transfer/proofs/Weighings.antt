@@ -1,13 +1,11 @@
 -- The errors of a box and of the target's box beside it are those of the rating by a target.
-use Rattle.std.proofs.Common.{◌≡◌, ℕ, ◌+◌, ◌-◌, ◌*◌, ◌≤◌, refl, ap, sym, ◌∙◌, subst, subst₂, arith}
-use Rattle.std.proofs.lemmas.Int.{ints}
+use Rattle.std.proofs.Common.{◌≡◌, ◌+◌, ◌-◌, ◌*◌, ◌≤◌, ap, sym, ◌∙◌, subst, subst₂}
 use Rattle.limits.specs.declared.bounds.TheConstants.{GREATEST_ALPHA}
-use Rattle.cells.specs.declared.place.At.{At}
 use Rattle.cells.specs.declared.place.Box3.{Box3}
 use Rattle.cells.specs.declared.place.Size.{Size}
 use Rattle.cells.specs.Boxes.{HoldsBox}
 use Rattle.cells.specs.Cells.{Cells, Holds, IsVolume, with_part}
-use Rattle.cells.specs.Places.{cell_count, spot}
+use Rattle.cells.specs.Places.{cell_count}
 use Rattle.cells.proofs.PartBoxes.{held_small}
 use Rattle.map_canvas.specs.declared.canvas.Placement.{Placement}
 use Rattle.map_canvas.specs.Choices.{Fits, laid_from}

@@ -2,4 +2,3 @@ pub mod Targets
 pub mod Joined
 pub mod Search
 pub mod Weighing
-pub mod Transfers

@@ -2,8 +2,8 @@
 //!
 //! `target_error` gives how far the cells of a placement are from the target's (specs/Targets.antt), and
 //! `next_transfer` lays the next block of a transfer, which is picked by this and by the overlap error.
-//! `transfer_canvas` lays all of them (specs/Transfers.antt). `TargetSearch` has what picks go by, made once for
-//! all of them. `eligible_by_error` says which candidates are eligible.
+//! `transfer_canvas` lays all of them: the quilted run by this rating. `TargetSearch` has what picks go by, made
+//! once for all of them. `eligible_by_error` says which candidates are eligible.
 //!
 //! `target` has the error, `plan` what is asked for, `joined` the sample and the target in one volume, and a box
 //! of the target as a canvas over it, `search` what is made once, `weighing` the errors of a box of which two

@@ -3,14 +3,13 @@ use Rattle.std.specs.Prelude.{Some, replicate}
 use Rattle.cells.specs.declared.place.At.{At}
 use Rattle.cells.specs.declared.place.Box3.{Box3}
 use Rattle.cells.specs.declared.place.Size.{Size}
-use Rattle.cells.specs.Cells.{Cells, Holds, sizes_of, with_part}
+use Rattle.cells.specs.Cells.{Cells, Holds, sizes_of}
 use Rattle.cells.specs.Places.{cell_count, spot}
 use Rattle.cells.specs.SizeLists.{stock_place}
 use Rattle.cells.proofs.PartBoxes.{held_small}
-use Rattle.map_canvas.specs.declared.canvas.Placement.{Placement}
 use Rattle.map_canvas.specs.Canvases.{CanvasState}
 use Rattle.map_canvas.specs.Choices.{Fits, IsAfter, laid_from}
-use Rattle.transfer.specs.Joined.{CanBeJoined, IsTargetBox, at_first, target_place}
+use Rattle.transfer.specs.Joined.{at_first, target_place}
 use Rattle.transfer.proofs.Aims.{all_new, first_holds}
 use Rattle.transfer.proofs.Joining.{both_sizes, target_held, target_step}
 use Rattle.transfer.proofs.joined.target_box.Goals as goal

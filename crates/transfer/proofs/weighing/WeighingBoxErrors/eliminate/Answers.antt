@@ -1,4 +1,4 @@
-use Rattle.std.proofs.Common.{◌≡◌, ℕ, ◌+◌, ◌-◌, ◌*◌, ◌≤◌, arith}
+use Rattle.std.proofs.Common.{ℕ, ◌+◌, ◌-◌, ◌*◌, ◌≤◌, arith}
 use Rattle.cells.specs.declared.place.At.{At}
 use Rattle.map_canvas.specs.Choices.{laid_from}
 use Rattle.patch_place.specs.BoxErrors.{sum_from}

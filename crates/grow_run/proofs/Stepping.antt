@@ -28,7 +28,7 @@ use Rattle.grow_run.specs.Grown.{ComesNext, ComesNextFor, Growth, GrowsBy, IsRun
 use Rattle.grow_run.specs.Runs.{Leads}
 use Rattle.grow_run.specs.Work.{IsWork, growth_of}
 
-leads_more : {S A : Type 0} (Step : S → A → S → Type 0) (s : S) (list : List A) (t : S) (a : A) (u : S) → Leads Step s list t → Step t a u → Leads Step s (list ++ a ∷ []) u
+pub leads_more : {S A : Type 0} (Step : S → A → S → Type 0) (s : S) (list : List A) (t : S) (a : A) (u : S) → Leads Step s list t → Step t a u → Leads Step s (list ++ a ∷ []) u
 leads_more Step s [] t a u run step = (u, (subst (λ x. Step x a u) run step, refl))
 leads_more Step s (b ∷ rest) t a u run step = (run.0, (run.1.0, leads_more Step run.0 rest t a u run.1.1 step))
 

@@ -1,4 +1,6 @@
 pub mod Runs
 pub mod Grown
 pub mod OneRun
+pub mod BoxLimit
+pub mod Counted
 pub mod Work

@@ -1,12 +1,13 @@
 // The whole run.
-ghost use Rattle.std.specs.Prelude.{◌≤◌};
+ghost use Rattle.std.specs.Prelude.{◌≤◌, IfErr};
 ghost use Rattle.cells.specs.Places.{IsSmall};
 ghost use Rattle.map_canvas.specs.Maps.{IsFull};
 ghost use Rattle.search_squares.specs.Eliminations.{AreSampleSums};
 ghost use Rattle.patch_place.specs.Fitting.{HasPatch};
-ghost use Rattle.grow_run.specs.Grown.{Grows};
+ghost use Rattle.grow_run.specs.Grown.{Grows, IsGrowFault};
 ghost use Rattle.grow_run.specs.Work.{Ends, IsWork, LaysGrowth};
 
+use crate::limit::first_past;
 use crate::plan::{GrowError, GrowPlan, Grown};
 use crate::steps::{Work, begin, refine_step, step};
 use cells::Volume;
@@ -67,6 +68,20 @@ fn refine_all(
     Ok(())
 }
 
+// Refuses a plan whose boxes have too many cells, where sizes alone say so, before a place is picked.
+fn keep_within(plan: &GrowPlan, sample: &Volume) -> Result<(), GrowError>
+    requires small { IsSmall plan.now.size }
+    requires patch { HasPatch plan.now.mode }
+    ensures { IfErr result (IsGrowFault plan.now sample.now) }
+{
+    // Called for its contract only: it shows the prover that the sample is a volume.
+    let _samples = sample.samples();
+    match first_past(plan, sample) {
+        Some(number) => Err(GrowError::Records(number)),
+        None => Ok(()),
+    }
+}
+
 /// Grows an output over a sample by the placements of a mode, each put in by a graph cut, and then refines
 /// it, with a record of each placement. Its draws are those of the seed, from number 0 on. In mode `Sub`, and
 /// with rounds, the sums of the sample's blocks are made once for all picks; until the run ends they take 8 bytes
@@ -78,6 +93,7 @@ pub fn grow_canvas(alloc: Global, plan: &GrowPlan, sample: &Volume) -> Result<Gr
     requires side { 1 ≤ plan.now.side }
     ensures { Grows plan.now sample.now result }
 {
+    keep_within(plan, sample)?;
     let sums = SampleSums::make_if(alloc, sample, picks_places(plan))?;
     let mut work = lay_all(alloc, plan, sample, &sums)?;
     refine_all(alloc, plan, sample, &sums, &mut work)?;

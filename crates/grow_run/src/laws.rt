@@ -1,6 +1,8 @@
 // What the definitions mean.
 ghost use Rattle.std.specs.Prelude.{◌≤◌};
 ghost use Rattle.cells.specs.Places.{IsSmall};
+ghost use Rattle.patch_place.specs.Fitting.{HasPatch};
+ghost use Rattle.grow_run.specs.BoxLimit.{RunPassesThere};
 ghost use Rattle.grow_run.specs.OneRun.{EndsWithin, NoneRaise, NoneRaises, OneLimit, OneRun, RoundsFollow};
 
 use crate::plan::GrowPlan;
@@ -32,6 +34,17 @@ pub fn no_round_raises_the_total(plan: &GrowPlan, sample: &Volume)
 pub fn rounds_follow_placements(plan: &GrowPlan, sample: &Volume)
     requires { IsSmall plan.now.size }
     ensures { RoundsFollow plan.now sample.now }
+{
+    // Called for its contract only: it shows the prover that the sample is a volume.
+    let _samples = sample.samples();
+}
+
+/// A law, with nothing to run: where the boxes that sizes alone say pass the bound on their cells, the run of
+/// the plan passes it, at the same number.
+pub fn the_run_passes_where_boxes_do(plan: &GrowPlan, sample: &Volume)
+    requires small { IsSmall plan.now.size }
+    requires patch { HasPatch plan.now.mode }
+    ensures { RunPassesThere plan.now sample.now }
 {
     // Called for its contract only: it shows the prover that the sample is a volume.
     let _samples = sample.samples();

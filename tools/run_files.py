@@ -11,6 +11,9 @@ GREATEST = 2 ** 64 - 1
 MOST_AXIS, MOST_CELLS, MOST_OUT_CELLS, MOST_MAP_CELLS, MOST_RECORD_CELLS = 4096, 1 << 23, 1 << 25, 1 << 20, 1 << 25
 MOST_HEADER, MOST_LINE, MOST_TAGS, MOST_FRAMES, MOST_LENGTH, MOST_GAP = 65536, 4096, 4000, 256, 4096, 256
 MOST_PARTS, TURNS = 16, 8
+# The bytes of the longest map and record: a source has 10 at most, a cell of a box 12 of flows and a bit, and a box 20.
+LONGEST_MAP, LONGEST_RECORD, PIECE = 256 + 10 * MOST_MAP_CELLS, 64 + 33 * MOST_RECORD_CELLS, 1 << 20
+MOST_OUTPUT_CELLS = 1 << 20
 DIGITS, SPACES = b"0123456789", b" \t\r\n"
 # Of each colour kind: the width and height of a cell in pixels, and its bytes.
 KINDS = {"mono": (1, 1, 1), "444": (1, 1, 3), "422": (2, 1, 4), "411": (4, 1, 6), "420": (2, 2, 6)}
@@ -39,12 +42,17 @@ def cells_of(size):
     return size[0] * size[1] * size[2]
 
 
-def read_bytes(name, key):
+def read_bytes(name, key, most):
+    """The bytes of a file, and of a longer one one byte more than `most`, since a file of its kind has no more."""
+    pieces, left = [], most + 1
     try:
         with open(name, "rb") as file:
-            return file.read()
-    except OSError:
+            while left and (piece := file.read(min(left, PIECE))):
+                pieces.append(piece)
+                left -= len(piece)
+    except (OSError, ValueError):
         raise Fault(5, f"{key}: read fault") from None
+    return b"".join(pieces)
 
 
 # Pictures and clips.
@@ -221,8 +229,13 @@ def read_clip(data, key, most):
 
 
 def read_pixels(name, key, most=MOST_CELLS):
-    data = read_bytes(name, key)
+    data = read_bytes(name, key, MOST_LINE + MOST_AXIS * MOST_LINE + 6 * most)
     return read_clip(data, key, most) if data[:1] == b"Y" else read_picture(data, key)
+
+
+def read_picture_file(name, key):
+    """A picture where a clip is none."""
+    return read_picture(read_bytes(name, key, MOST_HEADER + 3 * MOST_CELLS), key)
 
 
 # Turns.
@@ -260,16 +273,17 @@ class Samples:
     many others around each row and frame that the numbers of a cell's neighbours, which lie a stride away, are cells of the
     sample or lie outside. Number 0 is no cell."""
 
-    def __init__(self, names, turns=False):
+    def __init__(self, names, turns=False, aligned=False):
+        """`aligned` samples are pictures of one size."""
         many, self.parts, total = TURNS if turns else 1, [], 0
         if turns and many * len(names) > MOST_PARTS:
             raise limit("parts", many * len(names), MOST_PARTS)
         for number, name in enumerate(names, 1):
             key = "sample" if number == 1 else f"sample{number}"
-            pixels = read_pixels(name, key)
+            pixels = read_picture_file(name, key) if aligned else read_pixels(name, key)
             if turns and not self.parts and KINDS.get(pixels.form[1], (1, 1))[:2] != (1, 1):
                 raise refused(key, "colour space")
-            if self.parts and pixels.form != self.parts[0].form:
+            if self.parts and (pixels.form != self.parts[0].form or aligned and pixels.size != self.parts[0].size):
                 raise refused(key, "unlike")
             total += many * cells_of(pixels.size)
             if total > MOST_CELLS:
@@ -326,6 +340,10 @@ class Samples:
         if self.inside[a] and self.inside[b]:
             return sum(map(abs, map(sub, self.cell(a), self.cell(b))))
         return 0 if self.inside[a] == self.inside[b] else 255 * self.samples
+
+    def seam(self, axis, a, b):
+        """What two cells cost beside each other along an axis: how far each is from the one beside the other in the sample."""
+        return self.distance(a, b - self.stride(axis, b)) + self.distance(a + self.stride(axis, a), b)
 
     def drawn(self, numbers):
         """The bytes of cells by their numbers."""
@@ -419,7 +437,7 @@ def are_sources(words, width, sizes):
 def read_map(name, turns=False):
     """A map, with the sources as columns, of the samples' numbers, with turns of these, and of x, y and f; or with the
     frames."""
-    fields = Fields(read_bytes(name, "map"), "map")
+    fields = Fields(read_bytes(name, "map", LONGEST_MAP), "map")
     read = Named(fields, b"WEAVEMAP", 2, turns)
     if read.kind == 1:
         read.frames = [fields.number(2, 0, read.sizes[0][2] - 1) for _ in range(read.output[2])]
@@ -442,7 +460,7 @@ def read_map(name, turns=False):
 
 def is_map_of_turns(name):
     """Whether a map file says that it is one over turned samples."""
-    return read_bytes(name, "map")[8:10] == b"\2\2"
+    return read_bytes(name, "map", LONGEST_MAP)[8:10] == b"\2\2"
 
 
 class Cut:
@@ -520,13 +538,14 @@ class Walk:
         rows = [entries[i:i + frames] for i in range(0, len(entries), frames)]
         self.tables = [rows[i:i + frames] for i in range(0, len(rows), frames)]
 
+
 def table_steps(length):
     """Of each table of a walk, whether it is of one step more than the one before it, and not of twice as many."""
     return [more for digit in bin(length)[3:] for more in ([False, True] if digit == "1" else [False])]
 
 
 def read_record(name):
-    fields = Fields(read_bytes(name, "record"), "record")
+    fields = Fields(read_bytes(name, "record", LONGEST_RECORD), "record")
     read = Named(fields, b"WEAVEREC", 3)
     if read.kind == 2:
         read.records = [Walk(fields, read.sizes[0][2])]

@@ -1,39 +1,59 @@
 #!/usr/bin/env python3
-"""Checks the files of a run of grow, quilt or loop, with no help of weave.
+"""Checks the files of a run, with no help of weave.
 
-    tools/verify.py OUT MAP RECORD SAMPLE [SAMPLE2 ..]
+    tools/verify.py [--turns] OUT MAP RECORD SAMPLE [SAMPLE2 ..]
 
 ends with the line and the status of `weave check`: `stands` and 0; the first rule that is broken, with the number of the
 record and the place, and 1; or the refusal of the first file that isn't in its form or within the limits, and 3 or 4. Each
 record is held against the map that the records before it leave, the map against what all records leave, and the picture
-or clip against the map.
+or clip against the map. With `--turns` the files are checked as by `check` with turns=all.
+
+    tools/verify.py --target TARGET OUT MAP RECORD SAMPLE
+    tools/verify.py --wrap AXES OUT MAP SAMPLE
+    tools/verify.py --marks MARKS OUT MAP SAMPLE SAMPLE2 [..]
+
+tries more of a run of transfer, and what can be tried of tile and of merge, which have no record. An output of transfer has
+the target's size. Each cell of a merge is at its own place of a picture, and each marked one is of its own picture.
+
+With `--report REPORT` each of these holds what the run printed against the files: all of its numbers, but how many
+placements a tile has, and of grow how many of the records are rounds.
 
     tools/verify.py --redraw NEW MAP SAMPLE [SAMPLE2 ..]
 
-draws the picture or clip once more, of samples and map alone: it has the same cells as the one that weave wrote. With
-`--turns` as the first word the files are checked as by `check` with turns=all; --redraw needs no such word.
+draws the picture or clip once more, of samples and map alone: it has the same cells as the one that weave wrote.
 
 docs/FORMATS.md has the forms of all files, their limits and the rules. This is written from that page, for any Python from
 3.8 on, with its standard library alone."""
+import argparse
 import sys
 from array import array
-from itertools import compress, count
+from itertools import compress, count, cycle, repeat
 from operator import and_, gt, mul, ne, not_, or_, sub
 from struct import pack
 
-from run_files import (GREATEST, KINDS, MOST_OUT_CELLS, TURNS, Fault, Samples, cells_of, is_map_of_turns, read_map,
-                       read_pixels, read_record)
+from run_drawing import drawn_by, named_numbers, redraw
+from run_files import (GREATEST, MOST_OUT_CELLS, MOST_OUTPUT_CELLS, Fault, Samples, cells_of, limit, read_bytes, read_map,
+                       read_picture_file, read_pixels, read_record, refused)
+from run_reports import AXES, report_fault
 
+LONGEST_REPORT = 4096
 # Of each number of taps: how far a pair of frames is moved, and its weight.
 WEIGHTS = {0: [(0, 1)], 2: [(-1, 1), (0, 1)], 4: [(-2, 1), (-1, 3), (0, 3), (1, 1)]}
 
 
-class Broken(Exception):
+class Wrong(Exception):
+    """What is wrong with files that were read, as a line."""
+
+    def __init__(self, line):
+        super().__init__(line)
+        self.line = line
+
+
+class Broken(Wrong):
     """A broken rule: the number of the record, the rule and the place."""
 
     def __init__(self, number, rule, place):
-        super().__init__(number, rule, place)
-        self.line = f"fails record {number} rule {rule} place {place}"
+        super().__init__(f"fails record {number} rule {rule} place {place}")
 
 
 def first(wrong):
@@ -194,7 +214,7 @@ class CutCheck:
         before = b and b - self.samples.stride(axis, b)
         w1 = self.errors[s] + distance(after, v) if a else 0
         w2 = distance(u, before) + self.errors[t] if b else 0
-        return w1, w2, distance(a, before) + distance(after, b) if a and b else 0
+        return w1, w2, self.samples.seam(axis, a, b) if a and b else 0
 
 
 class BlockCheck:
@@ -290,8 +310,8 @@ class WalkCheck:
             if place is not None:
                 raise Broken(1, 13, count + place)
             before, count = table, count + n * n
-        cost = sum(self.steps[i][j] for i, j in there)
-        self.hold(14, (before[i][i] is not None and before[i][i] < cost for i in range(n)))
+        self.cost = sum(self.steps[i][j] for i, j in there)
+        self.hold(14, (before[i][i] is not None and before[i][i] < self.cost for i in range(n)))
 
 
 def first_above(table, a, b):
@@ -327,45 +347,44 @@ def first_above(table, a, b):
 # Whole files.
 
 
-def named_numbers(samples, read):
-    """The number of the sample cell that a map of cells names for each output cell. A map over turned samples names a cell
-    as it was before its turn."""
-    if read.kind == 2:
-        return [turned_number(samples, *entry) for entry in zip(*read.columns)]
-    parts, xs, ys, fs = read.columns
-    if len(samples.parts) > 1:
-        return list(map(samples.number, parts, xs, ys, fs))
-    at, (_, row, frame) = samples.firsts[0], samples.strides[0]
-    if samples.sizes[0][2] == 1:
-        return [at + x + row * y for x, y in zip(xs, ys)]
-    return [at + x + row * y + frame * f for x, y, f in zip(xs, ys, fs)]
+def read_target(name, sample):
+    """The target of a transfer, whose maxval is that of the sample."""
+    target = read_picture_file(name, "target")
+    if target.form != sample.form:
+        raise refused("target", "unlike")
+    hold_output(target)
+    return target
 
 
-def turned_number(samples, part, turn, x, y, f):
-    """The number of a cell of a turn, by its place before the turn."""
-    return samples.number(TURNS * (part - 1) + turn + 1, *samples.moved[part - 1][turn][x, y], f)
+def read_marks(name, samples):
+    """The marks of a merge: the number of a picture for each cell, or 0."""
+    marks = read_picture_file(name, "marks")
+    if marks.size != samples.sizes[0]:
+        raise refused("marks", "unlike")
+    numbers, greens, blues = (marks.cells[i::3] for i in range(3))
+    bad = first(map(or_, map(gt, numbers, repeat(len(samples.parts))), map(or_, greens, blues)))
+    if bad is not None:
+        raise refused("marks", f"mark at {bad}")
+    hold_output(marks)
+    return numbers
 
 
-def drawn_by(samples, read):
-    """The bytes of all output cells, as a map draws them of the samples, none of which is turned."""
-    if read.kind == 2:
-        parts, _, xs, ys, fs = read.columns
-        return samples.drawn(map(samples.number, parts, xs, ys, fs))
-    if read.kind == 0:
-        return samples.drawn(named_numbers(samples, read))
-    cells, length = samples.parts[0].cells, read.output[0] * read.output[1] * samples.samples
-    return b"".join(cells[length * frame:length * (frame + 1)] for frame in read.frames)
+def hold_output(picture):
+    """An output of this size is one that weave makes."""
+    if cells_of(picture.size) > MOST_OUTPUT_CELLS:
+        raise limit("output", cells_of(picture.size), MOST_OUTPUT_CELLS)
 
 
 class Run:
     """The files of a run, as they were read."""
 
-    def __init__(self, out_name, map_name, record_name, *sample_names, turns=False):
-        self.samples = Samples(sample_names, turns)
+    def __init__(self, out_name, map_name, record_name, *sample_names, turns=False, target=None):
+        self.samples = Samples(sample_names, turns, aligned=target is not None)
+        self.target = None if target is None else read_target(target, self.samples.parts[0])
         self.out = read_pixels(out_name, "out", MOST_OUT_CELLS)
         self.map = read_map(map_name, turns)
         self.record = read_record(record_name)
-        self.output = self.numbers = None
+        self.output = self.numbers = self.walk_cost = None
         self.checks = [(1, CutCheck), (7, BlockCheck)]
 
     def go_together(self):
@@ -382,7 +401,9 @@ class Run:
             raise Broken(0, 15, 0)
         if self.record.kind == 2:
             walk = self.record.records[0]
-            WalkCheck(self.samples.parts[0], walk).check()
+            check = WalkCheck(self.samples.parts[0], walk)
+            check.check()
+            self.walk_cost = check.cost
             left, named = list(walk.frames), self.map.frames
         else:
             self.replay()
@@ -391,6 +412,14 @@ class Run:
         if left != named:
             raise Broken(0, 16, first(a != b for a, b in zip(left, named)))
         self.check_pixels()
+        if self.target and self.out.size != self.target.size:
+            raise Wrong("the output doesn't have the target's size")
+
+    def check_report(self, name):
+        """Raises what is wrong with the report of files that stand."""
+        wrong = report_fault(self, read_bytes(name, "report", LONGEST_REPORT).decode("latin-1"))
+        if wrong:
+            raise Wrong(wrong)
 
     def check_pixels(self):
         k, out = self.samples.samples, self.out.cells
@@ -417,55 +446,102 @@ class Run:
         return self.out.cells[k * i:k * (i + 1)], self.samples.place(number), self.samples.cell(number), record
 
 
-def verify(*names, turns=False):
-    """The status and the line of `weave check` for out file, map, record and samples."""
+class Unrecorded(Run):
+    """The files of a tile, with the axes on which its edges meet, or of a merge with its marks: these have no record."""
+
+    def __init__(self, out_name, map_name, *sample_names, wrap=None, marks=None):
+        self.samples = Samples(sample_names, aligned=marks is not None)
+        self.marks, self.wrap = None if marks is None else read_marks(marks, self.samples), wrap
+        self.out, self.map = read_pixels(out_name, "out", MOST_OUT_CELLS), read_map(map_name)
+        self.output = self.record = self.numbers = None
+
+    def go_together(self):
+        sizes = self.map.output == self.out.size and self.map.sizes == self.samples.sizes
+        return sizes and self.map.kind == 0 and self.out.form == self.samples.parts[0].form
+
+    def check(self):
+        if not self.go_together():
+            raise Broken(0, 15, 0)
+        self.numbers = named_numbers(self.samples, self.map)
+        self.check_pixels()
+        for axis, cells in zip(AXES, self.out.size):
+            if axis in (self.wrap or "") and cells < 3:
+                raise Wrong(f"the output has {cells} cells on the axis {axis}, where its edges can't meet")
+        if self.marks is not None:
+            self.check_merge()
+
+    def check_merge(self):
+        parts, xs, ys, _ = self.map.columns
+        width, height, _ = self.out.size
+        if self.out.size != self.samples.sizes[0]:
+            raise Wrong("the output doesn't have the pictures' size")
+        moved = first(map(or_, map(ne, xs, cycle(range(width))), map(ne, ys, (y for y in range(height) for _ in range(width)))))
+        if moved is not None:
+            raise Wrong(f"cell {moved} comes from another place of its picture")
+        other = first(map(and_, map(bool, self.marks), map(ne, self.marks, parts)))
+        if other is not None:
+            raise Wrong(f"cell {other} isn't of the picture that is marked there")
+
+    def cell(self, x, y, f):
+        return super().cell(x, y, f)[:3] + (None,)
+
+
+def judge(kind, names, report=None, **how):
+    """The status and the line for the files of a run."""
     try:
-        Run(*names, turns=turns).check()
+        run = kind(*names, **how)
+        run.check()
+        if report is not None:
+            run.check_report(report)
     except Fault as fault:
         return fault.status, fault.line
-    except Broken as broken:
-        return 1, broken.line
+    except Wrong as wrong:
+        return 1, wrong.line
     return 0, "stands"
 
 
-def redraw(new_name, map_name, *sample_names):
-    """Draws the output of samples and map alone."""
-    samples, read = Samples(sample_names), read_map(map_name, is_map_of_turns(map_name))
-    write_pixels(new_name, samples.parts[0], read.output, drawn_by(samples, read))
+def verify(*names, **how):
+    """The status and the line of `weave check` for out file, map, record and samples; with `turns`, a `target` or a `report`
+    also by these."""
+    return judge(Run, names, **how)
 
 
-def write_pixels(name, like, size, cells):
-    """Writes a picture or a clip, with the maxval or the tags of a sample."""
-    with open(name, "wb") as out:
-        if like.form[0] == "picture":
-            out.write(b"P6\n%d %d\n%d\n" % (size[0], size[1], like.form[1]) + cells)
-            return
-        (width, height, count), across = KINDS[like.form[1]], size[0]
-        tags = b"".join(b" " + tag for tag in like.tags)
-        out.write(b"YUV4MPEG2 W%d H%d" % (width * size[0], height * size[1]) + tags + b"\n")
-        length = count * size[0] * size[1]
-        for start in range(0, len(cells), length):
-            frame, luma = cells[start:start + length], bytearray(width * height * size[0] * size[1])
-            for row in range(height * size[1]):
-                begin = count * across * (row // height)
-                for column in range(width):
-                    at = width * across * row
-                    luma[at + column:at + width * across:width] = frame[
-                        begin + width * (row % height) + column:begin + count * across:count]
-            chroma = b"" if count == 1 else frame[count - 2::count] + frame[count - 1::count]
-            out.write(b"FRAME\n" + luma + chroma)
+def verify_unrecorded(*names, **how):
+    """The same for out file, map and samples of a tile or a merge, by `wrap` or `marks`, and a `report`."""
+    return judge(Unrecorded, names, **how)
+
+
+def options_of(words):
+    parser = argparse.ArgumentParser(usage=__doc__, add_help=False)
+    parser.add_argument("--turns", action="store_true")
+    for name in ("--report", "--target", "--marks", "--redraw"):
+        parser.add_argument(name)
+    parser.add_argument("--wrap", choices=["x", "y", "xy", "f", "xyf"])
+    parser.add_argument("files", nargs="*")
+    options = parser.parse_args(words)
+    how = [name for name in ("turns", "target", "marks", "redraw", "wrap") if getattr(options, name)]
+    least = {"marks": 4, "redraw": 2, "wrap": 3}.get("".join(how), 4)
+    most = {"target": 4, "wrap": 3}.get("".join(how), 19)
+    if len(how) > 1 or not least <= len(options.files) <= most or (options.redraw and options.report):
+        parser.error("these words don't go together")
+    return options
+
+
+def main(words):
+    options = options_of(words)
+    if options.redraw:
+        try:
+            redraw(options.redraw, *options.files)
+        except Fault as fault:
+            return fault.status, fault.line
+        return 0, ""
+    if options.marks or options.wrap:
+        return verify_unrecorded(*options.files, wrap=options.wrap, marks=options.marks, report=options.report)
+    return verify(*options.files, turns=options.turns, target=options.target, report=options.report)
 
 
 if __name__ == "__main__":
-    with_turns = sys.argv[1:2] == ["--turns"]
-    if len(sys.argv) < (6 if with_turns else 5):
-        sys.exit(__doc__)
-    if sys.argv[1] == "--redraw":
-        try:
-            redraw(*sys.argv[2:])
-        except Fault as fault:
-            sys.exit(fault.line)
-    else:
-        status, line = verify(*sys.argv[2 if with_turns else 1:], turns=with_turns)
+    status, line = main(sys.argv[1:])
+    if line:
         print(line, file=sys.stdout if status < 2 else sys.stderr)
-        sys.exit(status)
+    sys.exit(status)

@@ -474,7 +474,7 @@ def hold_report(what, made, data, folder):
     put(report, data)
     status, line = made.judged(made.files, report)
     unknown = {"grow": rb"^(placements|rounds) (0|[1-9][0-9]{0,9})$", "tile": rb"^(placements) (0|[1-9][0-9]{0,9})$"}.get(made.command)
-    same = [re.sub(unknown, rb"\1", text, flags=re.MULTILINE) if unknown else text for text in (old, data)]
+    same = [re.sub(unknown, rb"\1 N", text, flags=re.MULTILINE) if unknown else text for text in (old, data)]
     numbers = [sum(map(int, re.findall(rb"^(?:placements|rounds) ([0-9]{1,20})", text, re.MULTILINE))) for text in (old, data)]
     alike = same[0] == same[1] and (made.command != "grow" or numbers[0] == numbers[1])
     if (status, line == "stands") != (not alike, alike):

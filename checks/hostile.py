@@ -443,8 +443,8 @@ def closed_to_nobody(room):
             tried(run, folder, f"{name} may not be written", setup=as_nobody, command=[program] + run.words)
 
 
-def piped(run, folder, data, what, statuses):
-    """A run whose sample is a pipe with a name."""
+def piped(run, key, folder, data, what, status):
+    """A run that reads one of its files from a pipe with a name, which has to end with this status."""
     pipe = os.path.join(folder, "pipe")
     if not os.path.exists(pipe):
         os.mkfifo(pipe)
@@ -457,8 +457,10 @@ def piped(run, folder, data, what, statuses):
             pass
     writer = threading.Thread(target=pour)
     writer.start()
-    expected(with_file(run, "sample", "pipe"), folder, what, statuses)
+    ended = tried(with_file(run, key, "pipe"), folder, what)
     writer.join()
+    if ended != status:
+        TALLY.fail(f"{' '.join(run.words)}: {what}: status {ended}, not {status}")
 
 
 def closed_end():
@@ -469,7 +471,7 @@ def closed_end():
 
 
 def streams(_, folder):
-    """Standard output and standard error that are full, closed, or read by nobody; samples that come through a pipe."""
+    """Standard output and standard error that are full, closed, or read by nobody; each file that is read through a pipe."""
     for run in small_runs(folder):
         with open("/dev/full", "wb") as device:
             tried(run, folder, "a full standard output", hears_out=False, out=device)
@@ -483,12 +485,12 @@ def streams(_, folder):
                   setup=lambda number=number: os.close(number))
         tried(run, folder, "all streams closed", hears_out=False, hears_err=False,
               setup=lambda: [os.close(number) for number in (0, 1, 2)])
-        words = [word for word in run.words if word.startswith("sample=")]
-        if words and run.words[0] != "check":
-            data = run.reads["s"]
-            piped(run, folder, data, "a pipe as sample", [0])
-            piped(run, folder, data[:-1], "a pipe that ends too early", [3])
-            piped(run, folder, b"", "a pipe without a byte", [3])
+        for key, _, name in (word.partition("=") for word in run.words[1:]):
+            if name in run.reads:
+                data = run.reads[name]
+                piped(run, key, folder, data, f"{key} is a pipe", 0)
+                piped(run, key, folder, data[:-1], f"{key} is a pipe that ends too early", 3)
+                piped(run, key, folder, b"", f"{key} is a pipe without a byte", 3)
 
 
 def words(_, folder):

@@ -1,8 +1,9 @@
-//! Whole runs of `quilt`, `loop`, `tile` and `merge`: the files and the report, with files failing in turn; words, samples, marks
-//! and sizes that are refused, in the order in which their refusals are tried; `check` of quilts and loops, with each rule of
-//! their records broken. What is expected is spelled by hand from the formats of the files and the texts of reports and faults.
-//! Costs and walks were found by trying each boundary and each walk; maps and seams of tilings by hand, and by a plain program
-//! that tries every choice of each patch (checks/random_tiles.py).
+//! Whole runs of `quilt`, `transfer`, `loop`, `tile` and `merge`: the files and the report, with files failing in turn; words,
+//! samples, targets, marks and sizes that are refused, in the order in which their refusals are tried; `check` of quilts,
+//! transfers and loops, with each rule of their records broken. What is expected is spelled by hand from the formats of the files
+//! and the texts of reports and faults. Costs and walks were found by trying each boundary and each walk, and picks of transfers
+//! by trying each candidate; maps and seams of tilings by hand, and by a plain program that tries every choice of each patch
+//! (checks/random_tiles.py).
 #![tactic(auto)]
 
 #[cfg(test)]
@@ -38,6 +39,8 @@ mod refused_merges;
 #[cfg(test)]
 mod refused_tiles;
 #[cfg(test)]
+mod refused_transfers;
+#[cfg(test)]
 mod rules;
 #[cfg(test)]
 mod square;
@@ -47,3 +50,5 @@ mod tile_files;
 mod tile_samples;
 #[cfg(test)]
 mod tiled;
+#[cfg(test)]
+mod transferred;

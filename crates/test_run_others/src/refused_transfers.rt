@@ -1,0 +1,143 @@
+// Words, samples and targets that `transfer` refuses, in the order in which they are refused. No file is written.
+use crate::expect::{expect_none, expect_true};
+use crate::transferred::TWO;
+use std::alloc::{AllocError, Global};
+use test_stage::{BEFORE, Case, FOUR_CELLS, Failing, holds, wrong_case, wrong_words};
+
+const WORDS: &[(&str, u8, &str)] = &[
+    ("transfer sample=s out=o", 2, "weave: missing key target\n"),
+    (
+        "transfer sample=s target=s",
+        2,
+        "weave: word 3: name already used\n",
+    ),
+    ("transfer alpha=101", 2, "weave: word 2: out of range\n"),
+    ("transfer alpha=-1", 2, "weave: word 2: bad value\n"),
+    ("transfer width=3", 2, "weave: word 2: unknown key\n"),
+    // The number 50; what is refused is the sample.
+    (
+        "transfer sample=x target=s out=o map=m record=r alpha=050",
+        5,
+        "weave: sample: read fault\n",
+    ),
+];
+
+#[test]
+fn words_are_refused(rt: HostRuntime) {
+    expect_none(&rt, wrong_words(rt.alloc(), FOUR_CELLS, WORDS));
+}
+
+const REFUSED: Case<'static> = Case {
+    status: 3,
+    report: "",
+    picture: BEFORE,
+    map: BEFORE,
+    record: BEFORE,
+    ..TWO
+};
+
+const CLIP: &[u8] = b"YUV4MPEG2 W3 H1 Cmono\nFRAME\n\x1e\x28\x0a";
+
+// Another maxval, and as many cells as are read at most.
+const DARK: &[u8] = b"P6\n3 1\n200\n\x1e\x1e\x1e\x28\x28\x28\x0a\x0a\x0a";
+
+const BROAD: &[u8] = b"P6\n4096 2049\n255\n";
+
+const FILES: &[Case<'static>] = &[
+    Case {
+        sample: CLIP,
+        line: "weave: sample: form at 0\n",
+        ..REFUSED
+    },
+    Case {
+        second: CLIP,
+        line: "weave: target: form at 0\n",
+        ..REFUSED
+    },
+    Case {
+        second: DARK,
+        line: "weave: target: unlike\n",
+        ..REFUSED
+    },
+    Case {
+        sample: DARK,
+        line: "weave: target: unlike\n",
+        ..REFUSED
+    },
+    // The sample is refused before the target is read, and a target that can't be read is refused whatever its maxval.
+    Case {
+        sample: b"P6\n",
+        second: CLIP,
+        line: "weave: sample: form at 3\n",
+        ..REFUSED
+    },
+    Case {
+        failing: Failing::SampleRead,
+        second: CLIP,
+        status: 5,
+        line: "weave: sample: read fault\n",
+        ..REFUSED
+    },
+    Case {
+        second: BROAD,
+        status: 4,
+        line: "weave: limit cells 8392704 over 8388608\n",
+        ..REFUSED
+    },
+];
+
+#[test]
+fn files_are_refused(rt: HostRuntime) {
+    expect_none(&rt, wrong_case(rt.alloc(), FILES));
+}
+
+// A black picture.
+fn black(alloc: Global, head: &[u8], cells: usize) -> Result<Vec<u8>, AllocError> {
+    let mut bytes = Vec::from_slice(alloc, head)?;
+    let cells = vec![in alloc; 0u8; 3 * cells]?;
+    bytes.extend_from_slice(&cells)?;
+    Ok(bytes)
+}
+
+// A target of more cells than an output has; its maxval comes before that.
+fn are_too_broad(alloc: Global) -> Result<bool, AllocError> {
+    let dark = black(alloc, b"P6\n1025 1024\n200\n", 1025 * 1024)?;
+    let target = black(alloc, b"P6\n1025 1024\n255\n", 1025 * 1024)?;
+    let unlike = Case {
+        second: &dark,
+        line: "weave: target: unlike\n",
+        ..REFUSED
+    };
+    let over = Case {
+        second: &target,
+        status: 4,
+        line: "weave: limit output 1049600 over 1048576\n",
+        ..REFUSED
+    };
+    Ok(holds(alloc, &unlike)? && holds(alloc, &over)?)
+}
+
+#[test]
+fn targets_of_too_many_cells(rt: HostRuntime) {
+    expect_true(&rt, are_too_broad(rt.alloc()));
+}
+
+// The blocks of a target of as many cells as an output has take more cells than a record has.
+fn are_too_many(alloc: Global) -> Result<bool, AllocError> {
+    let sample = black(alloc, b"P6\n9 9\n255\n", 81)?;
+    let target = black(alloc, b"P6\n1024 1024\n255\n", 1024 * 1024)?;
+    let of = Case {
+        words: "transfer sample=s target=t out=o map=m record=r block=8 overlap=7",
+        sample: &sample,
+        second: &target,
+        status: 4,
+        line: "weave: limit records 33554496 over 33554432\n",
+        ..REFUSED
+    };
+    holds(alloc, &of)
+}
+
+#[test]
+fn records_of_too_many_cells(rt: HostRuntime) {
+    expect_true(&rt, are_too_many(rt.alloc()));
+}

@@ -45,6 +45,8 @@ fn grow(rt: HostRuntime) {
     expect_none(&rt, wrong_trying(rt.alloc(), GROWN));
 }
 
+const TARGET: &[u8] = b"P6\n3 1\n255\n\x1e\x1e\x1e\x28\x28\x28\x0a\x0a\x0a";
+
 const OTHER_CELLS: &[u8] = b"P6\n4 1\n255\n\x32\x32\x32\x19\x19\x19\x1e\x1e\x1e\x0a\x0a\x0a";
 
 const MARKS: &[u8] = b"P6\n4 1\n255\n\x01\x00\x00\x00\x00\x00\x00\x00\x00\x02\x00\x00";
@@ -56,6 +58,13 @@ const OTHER_PICTURES: &[Trying<'static>] = &[
         writes: OUTPUTS,
         status: 0,
         report: "quilt 6x1x1\nblocks 2\nboundaries 1\ncost 1200\n",
+    },
+    Trying {
+        words: "transfer sample=s target=t out=o map=m record=r block=2 overlap=1 tol=0",
+        reads: &[("s", "sample", FOUR_CELLS), ("t", "target", TARGET)],
+        writes: OUTPUTS,
+        status: 0,
+        report: "transfer 3x1x1\nblocks 2\nboundaries 1\ncost 300\nmatch 3000\n",
     },
     Trying {
         words: "loop sample=s out=o map=m record=r length=2 taps=0 gap=1",
@@ -85,7 +94,7 @@ const OTHER_PICTURES: &[Trying<'static>] = &[
 ];
 
 #[test]
-fn quilt_loop_merge_and_tile(rt: HostRuntime) {
+fn quilt_transfer_loop_merge_and_tile(rt: HostRuntime) {
     expect_none(&rt, wrong_trying(rt.alloc(), OTHER_PICTURES));
 }
 

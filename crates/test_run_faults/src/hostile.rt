@@ -37,6 +37,39 @@ pub const PICTURE_READERS: &[Reader<'static>] = &[
     },
     QUILT,
     Reader {
+        words: "transfer sample=s target=t out=o map=m record=r",
+        others: &[("t", BEFORE), ("o", BEFORE), ("m", BEFORE), ("r", BEFORE)],
+        ..QUILT
+    },
+    Reader {
+        words: "transfer sample=t target=s out=o map=m record=r",
+        others: &[("t", ONE_GREY), ("o", BEFORE), ("m", BEFORE), ("r", BEFORE)],
+        said: "target",
+        ..QUILT
+    },
+    Reader {
+        words: "tile sample=s out=o map=m width=6 height=6",
+        others: &[("o", BEFORE), ("m", BEFORE)],
+        ..QUILT
+    },
+    Reader {
+        words: "merge sample=t sample2=s marks=k out=o map=m",
+        others: &[("t", ONE_GREY), ("k", BEFORE), ("o", BEFORE), ("m", BEFORE)],
+        said: "sample2",
+        ..QUILT
+    },
+    Reader {
+        words: "merge sample=t sample2=u marks=s out=o map=m",
+        others: &[
+            ("t", ONE_GREY),
+            ("u", ONE_GREY),
+            ("o", BEFORE),
+            ("m", BEFORE),
+        ],
+        said: "marks",
+        ..QUILT
+    },
+    Reader {
         words: "check sample=s out=o map=m record=r",
         ..QUILT
     },
@@ -69,6 +102,11 @@ pub const CLIP_READERS: &[Reader<'static>] = &[
             ("r", BEFORE),
         ],
         said: "sample2",
+        ..LOOP
+    },
+    Reader {
+        words: "tile sample=s out=o map=m width=6 height=6",
+        others: &[("o", BEFORE), ("m", BEFORE)],
         ..LOOP
     },
     Reader {

@@ -164,6 +164,123 @@ const QUILTING: &[Refused<'static>] = &[
     },
 ];
 
+const TRANSFERRED: Refused<'static> = Refused {
+    words: "transfer sample=s target=t out=o map=m record=r",
+    files: &[("s", FOUR_CELLS), ("t", FOUR_CELLS)],
+    ..GROWN
+};
+
+const TRANSFERRING: &[Refused<'static>] = &[
+    Refused {
+        words: "transfer sample=s",
+        line: "weave: missing key target\n",
+        ..TRANSFERRED
+    },
+    Refused {
+        files: &[("s", FOUR_CELLS), ("t", b"P6\n1 1\n9\n\x09\x09\x09")],
+        status: 3,
+        line: "weave: target: unlike\n",
+        ..TRANSFERRED
+    },
+    Refused {
+        files: &[("s", FOUR_CELLS), ("t", b"P6\n4097 1\n255\n")],
+        status: 4,
+        line: "weave: limit axis 4097 over 4096\n",
+        ..TRANSFERRED
+    },
+    Refused {
+        files: &[("s", FOUR_CELLS)],
+        status: 5,
+        line: "weave: target: read fault\n",
+        ..TRANSFERRED
+    },
+    Refused {
+        failing: Failing::OnFile(Call::Begin, "r", 0, 0),
+        status: 6,
+        line: "weave: record: write fault\n",
+        ..TRANSFERRED
+    },
+];
+
+const TILED: Refused<'static> = Refused {
+    words: "tile sample=s out=o map=m width=6 height=3",
+    ..GROWN
+};
+
+const TILING: &[Refused<'static>] = &[
+    Refused {
+        words: "tile sample=s out=o map=m width=6 height=1",
+        line: "weave: wrapped axis y under 3\n",
+        ..TILED
+    },
+    Refused {
+        files: &[("s", b"P6\n1 1\n255\n")],
+        status: 3,
+        line: "weave: sample: form at 11\n",
+        ..TILED
+    },
+    Refused {
+        words: "tile sample=s out=o map=m width=1025 height=1024",
+        status: 4,
+        line: "weave: limit output 1049600 over 1048576\n",
+        ..TILED
+    },
+    Refused {
+        files: &[],
+        status: 5,
+        line: "weave: sample: read fault\n",
+        ..TILED
+    },
+    Refused {
+        failing: Failing::OnFile(Call::Add, "m", 0, 1),
+        status: 6,
+        line: "weave: map: write fault\n",
+        ..TILED
+    },
+];
+
+const MERGED: Refused<'static> = Refused {
+    words: "merge sample=s sample2=t marks=k out=o map=m",
+    files: &[("s", FOUR_CELLS), ("t", FOUR_CELLS), ("k", NO_MARKS)],
+    ..GROWN
+};
+
+const NO_MARKS: &[u8] = b"P6\n4 1\n255\n\x00\x00\x00\x00\x00\x00\x00\x00\x00\x00\x00\x00";
+
+const BAD_MARKS: &[u8] = b"P6\n4 1\n255\n\x00\x00\x00\x03\x00\x00\x00\x00\x00\x00\x00\x00";
+
+const MERGING: &[Refused<'static>] = &[
+    Refused {
+        words: "merge sample=s marks=k",
+        line: "weave: missing key sample2\n",
+        ..MERGED
+    },
+    Refused {
+        files: &[("s", FOUR_CELLS), ("t", FOUR_CELLS), ("k", BAD_MARKS)],
+        status: 3,
+        line: "weave: marks: mark at 1\n",
+        ..MERGED
+    },
+    Refused {
+        files: &[("s", b"P6\n4096 4096\n255\n")],
+        status: 4,
+        line: "weave: limit cells 16777216 over 8388608\n",
+        ..MERGED
+    },
+    Refused {
+        files: &[("s", FOUR_CELLS), ("t", FOUR_CELLS)],
+        status: 5,
+        line: "weave: marks: read fault\n",
+        ..MERGED
+    },
+    Refused {
+        failing: Failing::OnReport(1, 0),
+        status: 6,
+        line: "weave: report: write fault\n",
+        ..MERGED
+    },
+];
+
 const LOOPED: Refused<'static> = Refused {
     words: "loop sample=s out=o map=m record=r length=2 taps=0",
     files: &[("s", FOUR_FRAMES)],
@@ -320,6 +437,9 @@ fn lines_that_cant_be_written(rt: HostRuntime) {
     let alloc = rt.alloc();
     expect_none(&rt, wrong_saying(alloc, GROWING));
     expect_none(&rt, wrong_saying(alloc, QUILTING));
+    expect_none(&rt, wrong_saying(alloc, TRANSFERRING));
+    expect_none(&rt, wrong_saying(alloc, TILING));
+    expect_none(&rt, wrong_saying(alloc, MERGING));
     expect_none(&rt, wrong_saying(alloc, LOOPING));
     expect_none(&rt, wrong_saying(alloc, CHECKING));
     expect_none(&rt, wrong_saying(alloc, UPGRADING));

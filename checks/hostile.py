@@ -24,17 +24,17 @@ import threading
 from beside import EXAMPLES, FUZZ, WEAVE
 
 HERE = os.path.dirname(os.path.abspath(__file__))
-SURE_RUNS = 11
+SURE_RUNS = 12
 SECONDS = 60
 BEFORE = b"as before"
 NOBODY = 65534
 
 LINES = {
     2: r"weave: (no command|unknown command|word \d+: [a-z =]+|missing key [a-z0-9]+|wrapped axis [xyf] under 3)\n",
-    3: r"weave: (sample\d*|out|map|record|marks): "
+    3: r"weave: (sample\d*|target|out|map|record|marks): "
        r"(form at \d+|depth|colour space|cell|no frames|value at \d+|trailing at \d+|unlike|mark at \d+)\n",
     4: r"weave: limit (axis|cells|header|frames|output|loop|records) \d+ over \d+\n",
-    5: r"weave: (sample\d*|out|map|record|marks): read fault\n",
+    5: r"weave: (sample\d*|target|out|map|record|marks): read fault\n",
     6: r"weave: (out|map|record|newmap|newrecord|report): write fault\n",
     7: r"weave: no memory\n",
     8: r"weave: no loop of length \d+\n",
@@ -189,6 +189,7 @@ def done_whole(run, folder):
 GREYS = b"P6\n4 1\n255\n" + bytes(v for v in (10, 20, 30, 40) for _ in range(3))
 OTHER_GREYS = b"P6\n4 1\n255\n" + bytes(v for v in (50, 25, 30, 10) for _ in range(3))
 MARKS = b"P6\n4 1\n255\n" + bytes(v for mark in (1, 0, 0, 2) for v in (mark, 0, 0))
+TARGET = b"P6\n3 1\n255\n" + bytes(v for v in (30, 40, 10) for _ in range(3))
 CLIP = b"YUV4MPEG2 W1 H1 Cmono\n" + b"".join(b"FRAME\n" + bytes([v]) for v in (0, 3, 0, 3))
 OUTPUTS = [("out", "o"), ("map", "m"), ("record", "r")]
 PAIR = [("newmap", "n"), ("newrecord", "q")]
@@ -203,6 +204,7 @@ def small_runs(folder):
                       folder)
     clip = done_whole(Run(f"grow {FILES} width=2 height=1 frames=3 box=2 overlap=1", {"s": CLIP}, OUTPUTS), folder)
     quilt = done_whole(Run(f"quilt {FILES} width=6 height=1 block=4 overlap=2", {"s": GREYS}, OUTPUTS), folder)
+    transfer = done_whole(Run(f"transfer target=t {FILES} block=2 overlap=1", {"s": GREYS, "t": TARGET}, OUTPUTS), folder)
     loop = done_whole(Run(f"loop {FILES} length=3 taps=0", {"s": CLIP}, OUTPUTS), folder)
     check = done_whole(Run(f"check {FILES}", {"s": GREYS, **grow.whole[1]}, []), folder)
     upgrade = done_whole(Run("upgrade map=m record=r newmap=n newrecord=q",
@@ -213,7 +215,7 @@ def small_runs(folder):
     merge = done_whole(Run(MERGE, {"s": GREYS, "t": OTHER_GREYS, "k": MARKS}, MERGED), folder)
     turned = done_whole(Run(f"grow {FILES} width=3 height=2 box=2 overlap=1 turns=all", {"s": GREYS}, OUTPUTS), folder)
     check_turned = done_whole(Run(f"check {FILES} turns=all", {"s": GREYS, **turned.whole[1]}, []), folder)
-    return [grow, clip, quilt, loop, check, upgrade, trial, tile, merge, turned, check_turned]
+    return [grow, clip, quilt, transfer, loop, check, upgrade, trial, tile, merge, turned, check_turned]
 
 
 def moved_and_marked(picture):
@@ -231,6 +233,8 @@ def larger_runs(folder):
     grow = done_whole(Run(f"grow {FILES} width=192 height=128 rounds=3", {"s": pebbles}, OUTPUTS), folder)
     clip = done_whole(Run(f"grow {FILES} width=40 height=30 frames=4 place=grid overlap=4", {"s": life}, OUTPUTS), folder)
     quilt = done_whole(Run(f"quilt {FILES} width=192 height=128", {"s": pebbles}, OUTPUTS), folder)
+    tartan = read_file(EXAMPLES, "netpbm_tartan.ppm")
+    transfer = done_whole(Run(f"transfer target=t {FILES} block=16", {"s": pebbles, "t": tartan}, OUTPUTS), folder)
     loop = done_whole(Run(f"loop {FILES} length=20 taps=2", {"s": life}, OUTPUTS), folder)
     check = done_whole(Run(f"check {FILES}", {"s": pebbles, **grow.whole[1]}, []), folder)
     upgrade = done_whole(Run("upgrade map=m record=r newmap=n newrecord=q",
@@ -240,7 +244,7 @@ def larger_runs(folder):
     moved, marks = moved_and_marked(pebbles)
     merge = done_whole(Run(MERGE, {"s": pebbles, "t": moved, "k": marks}, MERGED), folder)
     turned = done_whole(Run(f"grow {FILES} width=96 height=64 turns=all", {"s": pebbles}, OUTPUTS), folder)
-    return [grow, clip, quilt, loop, check, upgrade, trial, tile, merge, turned]
+    return [grow, clip, quilt, transfer, loop, check, upgrade, trial, tile, merge, turned]
 
 
 def built_refuser(room):

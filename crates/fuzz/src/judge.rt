@@ -128,7 +128,7 @@ fn check_promise(
         return Ok(None);
     }
     let holds = match command_of(&case.texts) {
-        "grow" | "quilt" | "loop" => stands(alloc, case, &mut whole.shelf)?,
+        "grow" | "quilt" | "transfer" | "loop" => stands(alloc, case, &mut whole.shelf)?,
         "upgrade" => is_same_pair(alloc, case, &mut whole.shelf)?,
         _ => true,
     };

@@ -11,7 +11,14 @@ const OF_WORDS: &[&[u8]] = &[
     b"wrapped axis ",
 ];
 
-const OF_FORMS: &[&[u8]] = &[b"sample", b"out: ", b"map: ", b"record: ", b"marks: "];
+const OF_FORMS: &[&[u8]] = &[
+    b"sample",
+    b"target: ",
+    b"out: ",
+    b"map: ",
+    b"record: ",
+    b"marks: ",
+];
 
 fn begins_as_one(bytes: &[u8], beginnings: &[&[u8]]) -> bool {
     for beginning in beginnings.iter() {
@@ -52,7 +59,7 @@ pub fn is_line_of(status: u8, bytes: &[u8]) -> bool {
 /// command.
 pub fn is_status_of(command: &str, status: u8) -> bool {
     match command {
-        "grow" | "quilt" | "upgrade" | "tile" | "merge" => status == 0
+        "grow" | "quilt" | "transfer" | "upgrade" | "tile" | "merge" => status == 0
             || (2 <= status && status <= 7),
         "loop" => status != 1 && status <= 8,
         "check" => status <= 7,

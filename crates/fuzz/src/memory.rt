@@ -77,6 +77,17 @@ const RUNS: &[Sure<'static>] = &[
         "quilt 6x1x1\nblocks 2\nboundaries 1\ncost 1200\n",
     ),
     (
+        "transfer sample=s target=t out=o map=m record=r block=2 overlap=1 tol=0",
+        &[
+            ("s", GREYS),
+            ("t", b"P6\n3 1\n255\n\x1e\x1e\x1e\x28\x28\x28\x0a\x0a\x0a"),
+            ("o", BEFORE),
+            ("m", BEFORE),
+            ("r", BEFORE),
+        ],
+        "transfer 3x1x1\nblocks 2\nboundaries 1\ncost 300\nmatch 3000\n",
+    ),
+    (
         "loop sample=s out=o map=m record=r length=2 taps=0",
         &[("s", FRAMES), ("o", BEFORE), ("m", BEFORE), ("r", BEFORE)],
         "loop 2\nstart 0\ncost 0\n",

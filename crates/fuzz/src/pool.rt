@@ -117,6 +117,18 @@ const MADE: &[(&str, &str, &[u8], &[u8])] = &[
         PLANES,
     ),
     (
+        "transfer sample=s target=t out=o map=m record=r block=3 overlap=1",
+        CHECK,
+        SIXTEEN_CELLS,
+        FOUR_GREYS,
+    ),
+    (
+        "transfer sample=s target=t out=o map=m record=r block=2 overlap=1 tol=50 alpha=90 seed=7",
+        CHECK,
+        FOUR_MORE,
+        SIXTEEN_CELLS,
+    ),
+    (
         "loop sample=s out=o map=m record=r length=3 taps=0 gap=1",
         CHECK,
         FOUR_FRAMES,

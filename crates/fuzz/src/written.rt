@@ -31,7 +31,7 @@ pub fn command_of(texts: &[String]) -> &str {
 
 fn outputs_of(texts: &[String]) -> &'static [(&'static str, &'static str)] {
     match command_of(texts) {
-        "grow" | "quilt" | "loop" => OUTPUTS,
+        "grow" | "quilt" | "transfer" | "loop" => OUTPUTS,
         "merge" => PICTURE_AND_MAP,
         "upgrade" => NEW_PAIR,
         "tile" => PICTURE_AND_MAP,

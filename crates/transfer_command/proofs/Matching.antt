@@ -1,5 +1,5 @@
 -- An output has as many bytes as its target, few enough for one sum.
-use Rattle.std.proofs.Common.{◌≡◌, ℕ, ◌*◌, ◌^◌, ◌≤◌, length, refl, sym, ◌∙◌, arith}
+use Rattle.std.proofs.Common.{◌≡◌, ◌*◌, ◌^◌, ◌≤◌, length, refl, sym, ◌∙◌, arith}
 use Rattle.cells.specs.declared.place.Size.{Size}
 use Rattle.cells.specs.Cells.{Cells, IsOnePart, IsVolume, bytes_of}
 use Rattle.cells.specs.Parts.{count_from}

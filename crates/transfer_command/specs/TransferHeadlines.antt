@@ -18,10 +18,11 @@ use Rattle.sample_files.specs.Outputs.{FitsOutput}
 use Rattle.block_outputs.specs.BlockHeadlines.{HaveSameQuilt, IsQuiltedBy}
 use Rattle.transfer_command.specs.Transfers.{IsTargetIn, transfer_rating, transfer_run_of}
 
--- the target file stands for a picture of the sample's maxval, whose cells are within the bound of an
--- output. Out file, map file and record file are those of the run that the words ask for, of the target's
--- size over the sample, each place of which is picked by the overlap errors and by how far its cells are
--- from the target's; they stand, which is what `check` tries; and all other files are as before
+-- the target file stands for a picture of the sample's maxval, whose cells are within the bound of
+-- an output. Out file, map file and record file are those of the run that the words ask for, of the
+-- target's size over the sample, each place of which is picked by the overlap errors and by how far
+-- its cells are from the target's; they stand, which is what `check` tries; and all other files are
+-- as before
 pub record IsTransferredRun (job : TransferJob) (before after : Files) : Type 0 where
   pub target : Picture
   pub read : IsTargetIn job before target
@@ -36,9 +37,9 @@ TransferHeadline words was now status =
     (job : TransferJob) → job_of words ≡ Ok (TransferOf job) → status ≡ 0
     → Changes was now (IsTransferredRun job)
 
--- what is reported of a run: the target's size, how many blocks and boundaries its records have, what
--- the boundaries cost, and the sum of the squared differences of all bytes of the output from those of
--- the target
+-- what is reported of a run: the target's size, how many blocks and boundaries its records have,
+-- what the boundaries cost, and the sum of the squared differences of all bytes of the output from
+-- those of the target
 abbrev pub told_of_transfer : Picture → Cells → List BlockRecord → Cells → Summary
 told_of_transfer target sample blocks picture =
     Transfer target.volume.size (length blocks) (all_boundaries blocks)

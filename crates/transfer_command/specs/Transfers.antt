@@ -1,5 +1,5 @@
--- `transfer` as a command: what it reads and refuses, what it makes, and the files that it writes. To
--- be trusted: contracts cite these words. (Own.)
+-- `transfer` as a command: what it reads and refuses, what it makes, and the files that it writes.
+-- To be trusted: contracts cite these words. (Own.)
 use Rattle.std.specs.Prelude.{◌≡◌, ℕ, List, [], ◌∷◌, length}
 use Rattle.cells.specs.declared.place.Size.{Size}
 use Rattle.cells.specs.Cells.{Cells}

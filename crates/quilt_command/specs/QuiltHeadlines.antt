@@ -39,13 +39,6 @@ pub record IsToldOfRun (job : QuiltJob) (summary : Summary) (before after : File
   pub run : IsQuiltedRun job before after
   pub summary_is : summary ≡ told_of_blocks job run.output.sample.volume run.records.blocks
 
--- whenever `quilt` ends with status 0 out has the report of the record that is written
-abbrev pub QuiltReport : List (List ℕ) → ShelfState → ShelfState → SinkState → SinkState → ℕ
-    → Type 0
-QuiltReport words was now out out' status =
-    (job : QuiltJob) → job_of words ≡ Ok (QuiltOf job) → status ≡ 0
-    → (summary : Summary) × Reported summary out out' × Changes was now (IsToldOfRun job summary)
-
 -- out file, map file and record file are a function of the words and the sample file: another run of
 -- the words that ends so, from files with the same sample, leaves the same
 abbrev pub OneQuiltOutput : List (List ℕ) → ShelfState → ShelfState → ℕ → Type 0
@@ -54,3 +47,21 @@ OneQuiltOutput words was now status =
     → Changes was now (λ before after. (earlier later : Files)
     → content_of earlier job.names.sample ≡ content_of before job.names.sample
     → IsQuiltedRun job earlier later → HaveSameQuilt job.names later after)
+
+-- the summary is that of a run, and each other run of the words, from files with the same sample, has
+-- the same
+pub record IsOneQuiltReport (job : QuiltJob) (summary : Summary) (before after : Files)
+    : Type 0 where
+  pub told : IsToldOfRun job summary before after
+  pub one : (other : Summary) (earlier later : Files)
+      → content_of earlier job.names.sample ≡ content_of before job.names.sample
+      → IsToldOfRun job other earlier later → other ≡ summary
+
+-- whenever `quilt` ends with status 0 out has the report of the record that is written, and the
+-- report is a function of the words and the sample file
+abbrev pub QuiltReport : List (List ℕ) → ShelfState → ShelfState → SinkState → SinkState → ℕ
+    → Type 0
+QuiltReport words was now out out' status =
+    (job : QuiltJob) → job_of words ≡ Ok (QuiltOf job) → status ≡ 0
+    → (summary : Summary) × Reported summary out out'
+    × Changes was now (IsOneQuiltReport job summary)

@@ -21,9 +21,9 @@ use Rattle.merge_command.specs.MergeHeadlines.{HaveSameInput, HaveSameMerge, IsM
 use Rattle.merge_command.proofs.MergeRuns.{merge_has_one_answer, merged_run}
 use Rattle.merge_command.proofs.OneMerges.{one_merge, one_merge_report}
 use Rattle.block_outputs.specs.BlockHeadlines.{HaveSameQuilt}
-use Rattle.quilt_command.specs.QuiltHeadlines.{IsQuiltedRun, IsToldOfRun, OneQuiltOutput, QuiltHeadline, QuiltReport}
-use Rattle.quilt_command.proofs.OneQuiltOutputs.{one_quilt_output}
-use Rattle.quilt_command.proofs.QuiltLaws.{quilt_has_one_answer, quilt_told, quilted_run}
+use Rattle.quilt_command.specs.QuiltHeadlines.{IsOneQuiltReport, IsQuiltedRun, OneQuiltOutput, QuiltHeadline, QuiltReport}
+use Rattle.quilt_command.proofs.OneQuiltOutputs.{one_quilt_output, one_quilt_report}
+use Rattle.quilt_command.proofs.QuiltLaws.{quilt_has_one_answer, quilted_run}
 use Rattle.tile_command.specs.TileHeadlines.{IsOneTiling, IsToldOfTiling, OneTile, TileHeadline}
 use Rattle.tile_command.proofs.OneTiles.{one_tile}
 use Rattle.tile_command.proofs.TileLaws.{tile_has_one_answer, tile_told}
@@ -110,7 +110,7 @@ module _ (words : List (List ℕ)) (was now : ShelfState) (out out' err err' : S
             (λ before after wrote. one_report job (small_output job its.lawful (output_fits job its.summary before after wrote)) its.summary before after (grow_told job its.lawful its.summary before after wrote)),
       )
 
-  -- the headline of `quilt`, its one output, and its report
+  -- the headline of `quilt`, its one output, and its one report
   pub quilt_headline : QuiltHeadline words was now status
   quilt_headline job asks zero = let its = done_of (Quilt job) asks zero in then_of (Quilt job) its (IsQuiltedRun job) (quilted_run job its.lawful its.summary)
 
@@ -123,7 +123,7 @@ module _ (words : List (List ℕ)) (was now : ShelfState) (out out' err err' : S
   pub quilt_reported : QuiltReport words was now out out' status
   quilt_reported job asks zero =
       let its = done_of (Quilt job) asks zero in
-      (its.summary, its.told, then_of (Quilt job) its (IsToldOfRun job its.summary) (quilt_told job its.lawful its.summary))
+      (its.summary, its.told, then_of (Quilt job) its (IsOneQuiltReport job its.summary) (one_quilt_report job its.lawful its.summary))
 
   -- the headline of `loop`, and its one report
   pub loop_headline : LoopHeadline words was now status

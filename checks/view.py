@@ -26,8 +26,8 @@ from beside import EXAMPLES, TOOLS, WEAVE
 from changed_bytes import KINDS, TURNED, change, make_run as random_run, words_of
 from chromium import Browser
 from malformed import malformed
-from run_files import MOST_OUT_CELLS, Samples, is_map_of_turns, read_map, read_pixels
-from verify import Output, Run, named_numbers, verify
+from run_files import is_map_of_turns
+from verify import Output, Run, Unrecorded, verify
 
 PAGE = "file://" + os.path.join(TOOLS, "view.html")
 MORE = "more pebbles"
@@ -44,24 +44,9 @@ PLACES, CHANGES, SMALL = 200, 60, 8
 MOST_SECONDS, MOST_MILLISECONDS = 2, 16
 
 
-class Unrecorded(Run):
-    """The files of a tile or a merge, which have no record."""
-
-    def __init__(self, out_name, map_name, *sample_names):
-        self.samples = Samples(sample_names)
-        self.out, self.map = read_pixels(out_name, "out", MOST_OUT_CELLS), read_map(map_name)
-        self.output, self.record, self.numbers = None, None, named_numbers(self.samples, self.map)
-        self.check_pixels()
-
-    def cell(self, x, y, f):
-        return super().cell(x, y, f)[:3] + (None,)
-
-
 def read_run(files, turns):
     """The files of a run, which have to stand."""
-    if files[2] is None:
-        return Unrecorded(files[0], files[1], *files[3:])
-    run = Run(*files, turns=turns)
+    run = Run(*files, turns=turns) if files[2] else Unrecorded(*files[:2], *files[3:])
     run.check()
     return run
 

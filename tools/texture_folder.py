@@ -4,10 +4,9 @@ import os
 import re
 import shlex
 
-from run_files import MOST_OUT_CELLS, Samples, read_map, read_pixels
 from texture_forms import is_result
 from texture_programs import Stop, find_weave, weave
-from verify import drawn_by, verify
+from verify import verify, verify_unrecorded
 
 ABOUT, REPORT, SUMS, WORDS = "about", "report", "sums", "words"
 FILE = re.compile(r"(sample\d*|marks|out|map|record)=(.*)")
@@ -52,6 +51,7 @@ class Files:
         self.words = [word for word in words if FILE.fullmatch(word)]
         self.names = dict(FILE.fullmatch(word).groups() for word in self.words)
         self.turns = "turns=all" in words
+        self.wrap = next((word[5:] for word in words if word.startswith("wrap=")), "xy")
 
     def at(self, key):
         return os.path.join(self.folder, self.names[key])
@@ -74,41 +74,27 @@ def check_with_weave(files, program):
 
 
 def check_with_python(files):
-    """Has verify.py judge the files, or redraw the output where there is no record, and gives what it says."""
+    """Has verify.py judge the files and the report, and gives what it says."""
+    more = {key: files.at(key) for key in ("target", "marks") if key in files.names}
+    more["report"], said = os.path.join(files.folder, REPORT), "verify.py: stands"
     if "record" in files.names:
-        status, line = verify(files.at("out"), files.at("map"), files.at("record"), *files.samples(), turns=files.turns)
-        if status:
-            raise Stop(f"verify.py: {line}", 1)
-        return "verify.py: stands"
-    return redrawn(files)
-
-
-def redrawn(files):
-    """Holds the output against what samples and map alone draw, and the map against the marks."""
-    samples, read = Samples(files.samples()), read_map(files.at("map"))
-    out = read_pixels(files.at("out"), "out", MOST_OUT_CELLS)
-    if (out.size, out.form) != (read.output, samples.parts[0].form) or out.cells != drawn_by(samples, read):
-        raise Stop("verify.py: samples and map draw another output", 1)
-    if "marks" in files.names:
-        hold_marks(files, read)
-        return "verify.py: samples and map draw the output, and each marked pixel is of its picture"
-    return "verify.py: samples and map draw the output"
-
-
-def hold_marks(files, read):
-    marks, parts = read_pixels(files.at("marks"), "marks").cells[::3], read.columns[0]
-    bad = next((i for i, (mark, part) in enumerate(zip(marks, parts)) if mark not in (0, part)), None)
-    if len(marks) != len(parts) or bad is not None:
-        raise Stop(f"the marks: pixel {bad} isn't of the picture that is marked there", 1)
+        status, line = verify(files.at("out"), files.at("map"), files.at("record"), *files.samples(), turns=files.turns, **more)
+    else:
+        wrap = None if "marks" in more else files.wrap
+        status, line = verify_unrecorded(files.at("out"), files.at("map"), *files.samples(), wrap=wrap, **more)
+        said = "verify.py: samples and map draw the output" + ("" if wrap else ", and each marked pixel is of its picture")
+    if status:
+        raise Stop(f"verify.py: {line}", 1)
+    return said
 
 
 def finish(folder, words, report, result, called, origins, program):
     """Checks the files of a run, and writes the texts that go with them. `result` is still elsewhere than it will be."""
     files = Files(folder, words)
+    write_text(folder, REPORT, report)
     checked = check_with_weave(files, program) if files.check_words() else check_with_python(files)
     how = "weave " + " ".join(files.check_words() or ["(a run of this command has no record to check)"])
     write_text(folder, WORDS, "weave " + " ".join(map(shlex.quote, words)) + "\n")
-    write_text(folder, REPORT, report)
     write_text(folder, ABOUT, f"result: {called}\n" + "".join(f"{line}\n" for line in origins)
                + f"program: {program}\nsum of the program: {sum_of(program)}\n{checked}\n"
                + f"to check again: texture verify {os.path.splitext(called)[0]}.weave; or, in this folder: {how}\n")

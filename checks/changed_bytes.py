@@ -21,6 +21,7 @@ import copy
 import os
 import random
 import re
+import resource
 import shlex
 import subprocess
 import sys
@@ -34,6 +35,7 @@ from random_runs import write_sample
 from run_files import Block, Cut, Fields, Named
 from verify import verify, verify_unrecorded
 
+MOST_MEMORY = 1 << 29
 HEADER_BYTES = b"0123456789  #\n\r\tWHCIFAXPYpt?\x00\xff"
 
 
@@ -514,6 +516,8 @@ def other_files(chance, folder):
 
 
 def main(changes=2000, seed=1, *kinds):
+    # A count that claims more than its file holds may not take the memory for it.
+    resource.setrlimit(resource.RLIMIT_AS, (MOST_MEMORY, MOST_MEMORY))
     for kind in kinds or ALL:
         chance = random.Random(f"{seed} {kind}")
         with tempfile.TemporaryDirectory() as folder:

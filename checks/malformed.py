@@ -1,12 +1,12 @@
-"""Files of runs that aren't in their form or within their limits, of each kind: maps, records, pictures and clips, and the targets
-and marks that some commands read."""
+"""Files of runs that aren't in their form or within their limits, or just within them, of each kind: maps, records, pictures and
+clips, and the targets and marks that some commands read."""
 
 CLIP, FRAME = b"YUV4MPEG2 W4 H2", b"FRAME\n" + bytes(12)
 PICTURES = [
     b"", b"P3\n", b"P6", b"P6\n3 2\n255", b"P6\n0 2\n255\n", b"P6#\n 3#\r 2 255#", b"P6 1 1 256\n   ", b"P6 1 1 65535 ",
     b"P6 4097 1 255 ", b"P6 1 9999999999999999999999 255 ", b"P6 4096 4096 255 ", b"P6 2 1 9 \t\n", b"P6 2 1 200 \xff",
     b"P6 2 1 255 12345", b"P6 2 1 255 1234567", b"P6" + b" " * 65534, b"P6" + b" " * 65535, b"P6 #" + b"x" * 70000,
-    b"P6 1 1" + b" " * 65529 + b"x", b"P6 00" + b"0" * 70000,
+    b"P6 1 1" + b" " * 65529 + b"x", b"P6 00" + b"0" * 70000, b"P6" + b" " * 65526 + b"1 1 255 abc", b"P6" + b" " * 65527 + b"1 1 255 abc",
 ]
 CLIPS = [
     b"Y", b"YUV4MPEG3", b"YUV4MPEG2W4 H2\n", CLIP, CLIP + b"\n", b"YUV4MPEG2\n", b"YUV4MPEG2 W4\n", CLIP + b" W4\n",
@@ -15,7 +15,9 @@ CLIPS = [
     b"YUV4MPEG2 W8192 H8192 Cmono\n", CLIP + b"\n" + FRAME[:-1], CLIP + b"\n" + FRAME + b"FRAMF",
     CLIP + b"\nFRAME x" + b"y" * 4090, CLIP + b" X" + b"y" * 4005 + b"\n", CLIP + b" X" + b"y" * 5000,
     CLIP + b" X" + b"y" * (4096 - 18) + b"\n", CLIP + b"\n" + FRAME[:6] + b"x", CLIP + b"\nFRAME \n" + bytes(11),
-    b"YUV4MPEG2 W1 H1 Cmono\n" + b"FRAME\n\0" * 4097,
+    b"YUV4MPEG2 W1 H1 Cmono\n" + b"FRAME\n\0" * 4097, CLIP + b" X" + b"y" * 3998 + b"\n" + FRAME, CLIP + b" X" + b"y" * 3999 + b"\n" + FRAME,
+    CLIP + b" " * 4080 + b"\n" + FRAME, CLIP + b" " * 4081 + b"\n" + FRAME,
+    CLIP + b"\nFRAME " + b"x" * 4089 + b"\n" + FRAME[6:], CLIP + b"\nFRAME " + b"x" * 4090 + b"\n" + FRAME[6:],
 ]
 # Numbers of a map or record: the place, the bytes, and the number that is put there.
 NUMBERS = [

@@ -5,6 +5,7 @@ for what a file holds, and not for what its numbers claim. docs/FORMATS.md has t
 import sys
 from array import array
 from bisect import bisect
+from itertools import chain
 from operator import sub
 
 GREATEST = 2 ** 64 - 1
@@ -261,11 +262,24 @@ def turned_pixels(part, turn):
     return Pixels((len(rows[0]), len(rows), f), k, part.form, b"".join(frames), part.tags)
 
 
+class Moves:
+    """To which x and y a turn moves each cell of a frame, by the cell's own x and y."""
+
+    def __init__(self, size, turn):
+        self.width, height, _ = size
+        rows = turned_rows([range(at, at + self.width) for at in range(0, self.width * height, self.width)], turn)
+        self.turned_width, self.to = len(rows[0]), array("L", [0]) * (self.width * height)
+        for at, cell in enumerate(chain.from_iterable(rows)):
+            self.to[cell] = at
+
+    def __getitem__(self, place):
+        at = self.to[place[0] + self.width * place[1]]
+        return at % self.turned_width, at // self.turned_width
+
+
 def places_in_turns(size):
-    """Of each turn, to which x and y it moves each cell of a frame, by the cell's own x and y."""
-    own = [[(x, y) for x in range(size[0])] for y in range(size[1])]
-    return [{place: (x, y) for y, row in enumerate(turned_rows(own, turn)) for x, place in enumerate(row)}
-            for turn in range(TURNS)]
+    """Of each turn the moves of the cells of a frame."""
+    return [Moves(size, turn) for turn in range(TURNS)]
 
 
 class Samples:

@@ -15,7 +15,7 @@ room=$(mktemp -d) || exit 2
 trap 'rm -rf "$room"' EXIT
 cd "$room" || exit 2
 wrong=0
-cp "$here/netpbm_camouflage.ppm" s
+cp "$here/../examples/netpbm_camouflage.ppm" s
 
 # expect STATUS REPORT LINE WORD..: runs weave, and compares what it says.
 expect() {
@@ -51,6 +51,8 @@ grid="place=grid overlap=63"
 stands "grow 191x127x1 placements 8192 rounds 0 seams 0 " grow $grid width=191 height=127
 passes grow $grid width=192 height=127
 passes grow $grid width=1024 height=1024
+passes grow place=sub box=64 overlap=63 width=192 height=127
+passes grow place=sub box=64 overlap=63 width=1024 height=1024
 blocks="block=64 overlap=63"
 stands "quilt 191x127x1 blocks 8192 boundaries 16192 cost 32146218 " quilt $blocks width=191 height=127
 passes quilt $blocks width=192 height=127

@@ -19,7 +19,7 @@ SEARCH += ["grow_run", "quilt", "quilt_run", "transfer", "torus", "tile_run"]
 
 # The most lines of the crates that stand on a crate, for an edit of that crate. `grow`, `quilt`, `transfer` and `tile` each pick
 # patches, so that the crates of all four are among them.
-MOST = {"search_squares": 23_000, "patch_place": 17_500}
+MOST = {"search_squares": 24_000, "patch_place": 18_500}
 
 
 def lines_of(folder):

@@ -101,18 +101,17 @@ fn black(alloc: Global, head: &[u8], cells: usize) -> Result<Vec<u8>, AllocError
 
 // A target of more cells than an output has; its maxval comes before that.
 fn are_too_broad(alloc: Global) -> Result<bool, AllocError> {
-    let dark = black(alloc, b"P6\n1025 1024\n200\n", 1025 * 1024)?;
-    let target = black(alloc, b"P6\n1025 1024\n255\n", 1025 * 1024)?;
+    let target = black(alloc, b"P6\n1025 1024\n200\n", 1025 * 1024)?;
     let unlike = Case {
-        second: &dark,
+        second: &target,
         line: "weave: target: unlike\n",
         ..REFUSED
     };
     let over = Case {
-        second: &target,
+        sample: DARK,
         status: 4,
         line: "weave: limit output 1049600 over 1048576\n",
-        ..REFUSED
+        ..unlike
     };
     Ok(holds(alloc, &unlike)? && holds(alloc, &over)?)
 }
@@ -122,16 +121,16 @@ fn targets_of_too_many_cells(rt: HostRuntime) {
     expect_true(&rt, are_too_broad(rt.alloc()));
 }
 
-// The blocks of a target of as many cells as an output has take more cells than a record has.
+// Blocks that overlap by all but one of their columns and rows: there are so many that they have more cells than a record.
 fn are_too_many(alloc: Global) -> Result<bool, AllocError> {
-    let sample = black(alloc, b"P6\n9 9\n255\n", 81)?;
-    let target = black(alloc, b"P6\n1024 1024\n255\n", 1024 * 1024)?;
+    let sample = black(alloc, b"P6\n100 100\n255\n", 100 * 100)?;
+    let target = black(alloc, b"P6\n200 200\n255\n", 200 * 200)?;
     let of = Case {
-        words: "transfer sample=s target=t out=o map=m record=r block=8 overlap=7",
+        words: "transfer sample=s target=t out=o map=m record=r block=100 overlap=99",
         sample: &sample,
         second: &target,
         status: 4,
-        line: "weave: limit records 33554496 over 33554432\n",
+        line: "weave: limit records 33560000 over 33554432\n",
         ..REFUSED
     };
     holds(alloc, &of)

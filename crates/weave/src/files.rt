@@ -1,11 +1,12 @@
 // One file that is read and one that is written, each kept open from call to call.
-ghost use Rattle.std.specs.Prelude.{◌≤◌, length, IfOk, min};
+ghost use Rattle.std.specs.Prelude.{◌≤◌, length, IfOk, OnOk, min};
+ghost use Rattle.weave.specs.Nodes.{IsBegun};
 
 use crate::nodes::Known;
 use crate::pieces::{read_full, write_all_of};
 use shelf_core::Failed;
 use std::alloc::{AllocError, Global};
-use std::fs::{self, File, OpenOptions};
+use std::fs::{self, File, Metadata, OpenOptions};
 use std::io::{self, Seek, SeekFrom};
 
 // The most bytes of a path that the system takes.
@@ -79,7 +80,12 @@ impl Source {
         let Ok(file) = fs::open(rt, name) else {
             return Err(Failed);
         };
-        known.add(&file)?;
+        let Ok(metadata) = file.metadata() else {
+            return Err(Failed);
+        };
+        let Ok(_) = known.add(&file, &metadata) else {
+            return Err(Failed);
+        };
         let Ok(()) = self.opened.keep(name, file) else {
             return Err(Failed);
         };
@@ -169,6 +175,14 @@ impl Source {
     }
 }
 
+// Drops all bytes of an open file with this metadata. A pipe and a device have none to drop.
+fn cut_to_nothing(file: &File, metadata: &Metadata) -> io::Result<()> {
+    if !metadata.is_file() {
+        return Ok(());
+    }
+    file.set_len(0)
+}
+
 /// The file that was begun last.
 #[derive(Drop)]
 pub struct Target {
@@ -183,18 +197,26 @@ impl Target {
         })
     }
 
-    /// Makes a file present and empty, and keeps it open. A file that is known, and a regular file that
-    /// is the standard output, is refused and stays as it is, by whatever name it is reached. One that
-    /// is begun is known from then on.
-    pub fn begin(&mut self, rt: &HostRuntime, name: &str, known: &mut Known) -> Result<(), Failed> {
+    /// Makes a file present and empty, and keeps it open; it is known from then on. A file that is
+    /// known is refused and stays as it is, by whatever name it is reached. Whether it is known is asked
+    /// of what was opened, before a byte of that is dropped: a name that is given to another file
+    /// meanwhile changes nothing.
+    pub fn begin(&mut self, rt: &HostRuntime, name: &str, known: &mut Known) -> Result<(), Failed>
+        ensures { OnOk result (IsBegun known.old known.new) }
+    {
         self.opened.file = None;
-        if known.would_lose(rt, name) {
-            return Err(Failed);
-        }
-        let Ok(file) = fs::create(rt, name) else {
+        let Ok(file) = OpenOptions::new().write(true).create(true).open(rt, name) else {
             return Err(Failed);
         };
-        known.add(&file)?;
+        let Ok(metadata) = file.metadata() else {
+            return Err(Failed);
+        };
+        let Ok(true) = known.add(&file, &metadata) else {
+            return Err(Failed);
+        };
+        let Ok(()) = cut_to_nothing(&file, &metadata) else {
+            return Err(Failed);
+        };
         let Ok(()) = self.opened.keep(name, file) else {
             return Err(Failed);
         };

@@ -1,14 +1,18 @@
 // Which files a run has read or begun, by what tells one file from another whatever its name is.
-use shelf_core::Failed;
+ghost use Rattle.std.specs.Prelude.{◌≡◌, ◌↔◌, IfOk, OnErr, IsSome};
+ghost use Rattle.std.specs.Fs.{file_type, IsFile};
+ghost use Rattle.weave.specs.Nodes.{is_known, Adds};
+
 use std::alloc::{AllocError, Global};
 use std::fs::{self, File, Metadata};
+use std::marker::Model;
 use std::os::unix::fs::MetadataExt;
 
 // How many files a run reads and begins, at most, with some to spare.
 const MOST_FILES: usize = 32;
 
-// The name of the standard output as a file.
-const OUTPUT: &str = "/dev/stdout";
+// The standard output as a file. It is there where the standard output has no name, too.
+const OUTPUT: &str = "/proc/self/fd/1";
 
 // A file: its device, and its number there.
 #[derive(Clone, Copy, PartialEq, Eq)]
@@ -17,67 +21,74 @@ struct Node {
     number: u64,
 }
 
-// The file that these data are of, if it is a regular one.
-fn node_of(data: &Metadata) -> Option<Node> {
-    if !data.is_file() {
+// The file that this is said of, if it is a regular one.
+fn node_of(metadata: &Metadata) -> Option<Node>
+    ensures { IsSome result ↔ IsFile (file_type metadata.now) }
+{
+    if !metadata.is_file() {
         return None;
     }
     Some(Node {
-        device: data.dev(),
-        number: data.ino(),
+        device: metadata.dev(),
+        number: metadata.ino(),
     })
 }
 
-// The regular file that a name leads to, if there is one.
-fn named(rt: &HostRuntime, name: &str) -> Option<Node> {
-    match fs::metadata(rt, name) {
-        Ok(data) => node_of(&data),
-        Err(_) => None,
-    }
-}
-
-/// The regular files that were read or begun.
+/// The regular files that were read or begun, and the standard output if it is one.
 #[derive(Drop)]
 pub struct Known {
     nodes: Vec<Node>,
+    // Each file, as far as the system lets it be open twice. The number of one that is open isn't
+    // given to another, whoever removes its names.
+    held: Vec<File>,
+}
+
+impl Model for Known {
+    ghost use Rattle.std.specs.Prelude.{List};
+    ghost use Rattle.weave.specs.declared.nodes.Node.{Node};
+
+    ghost Value = { List Node };
+
+    ghost view = { λ a. a.nodes.items };
 }
 
 impl Known {
-    /// No file. It takes all the memory that those of a run need; the one error is out of memory.
-    pub fn none(alloc: Global) -> Result<Known, AllocError> {
-        Ok(Known {
-            nodes: Vec::with_capacity(alloc, MOST_FILES)?,
-        })
+    /// The standard output, if it is a regular file. It takes all the memory that the files of a run
+    /// need; the one error is out of memory.
+    pub fn new(rt: &HostRuntime, alloc: Global) -> Result<Known, AllocError> {
+        let mut nodes = Vec::with_capacity(alloc, MOST_FILES)?;
+        if let Ok(metadata) = fs::metadata(rt, OUTPUT)
+            && let Some(node) = node_of(&metadata)
+        {
+            nodes.push(node)?;
+        }
+        let held = Vec::with_capacity(alloc, MOST_FILES)?;
+        Ok(Known { nodes, held })
     }
 
     // Whether a file is among these.
-    fn has(&self, node: Node) -> bool {
+    fn has(&self, node: Node) -> bool
+        ensures { result ≡ is_known self.now node }
+    {
         self.nodes.as_slice().contains(&node)
     }
 
-    /// Adds an open file, where it is a regular one.
-    pub fn add(&mut self, file: &File) -> Result<(), Failed> {
-        let Ok(data) = file.metadata() else {
-            return Err(Failed);
-        };
-        let Some(node) = node_of(&data) else {
-            return Ok(());
+    /// Adds an open file with its metadata, if it is a regular one that isn't known. It says whether
+    /// the file was none of these; the one error is out of memory.
+    pub fn add(&mut self, file: &File, metadata: &Metadata) -> Result<bool, AllocError>
+        ensures ok { IfOk result (λ fresh. Adds metadata.now fresh self.old self.new) }
+        ensures err { OnErr result (self.new ≡ self.old) }
+    {
+        let Some(node) = node_of(metadata) else {
+            return Ok(true);
         };
         if self.has(node) {
-            return Ok(());
+            return Ok(false);
         }
-        let Ok(()) = self.nodes.push(node) else {
-            return Err(Failed);
-        };
-        Ok(())
-    }
-
-    /// Whether a name leads to one of these, or to a regular file that is the standard output: a file
-    /// that would be emptied if it were begun by that name.
-    pub fn would_lose(&self, rt: &HostRuntime, name: &str) -> bool {
-        let Some(node) = named(rt, name) else {
-            return false;
-        };
-        self.has(node) || named(rt, OUTPUT) == Some(node)
+        if let Ok(held) = file.try_clone() {
+            self.held.push(held)?;
+        }
+        self.nodes.push(node)?;
+        Ok(true)
     }
 }

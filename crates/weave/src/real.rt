@@ -30,7 +30,7 @@ impl RealShelf {
     {
         let source = Source::none(alloc)?;
         let target = Target::none(alloc)?;
-        let known = Known::none(alloc)?;
+        let known = Known::new(&rt, alloc)?;
         Ok(RealShelf {
             rt,
             source,

@@ -42,11 +42,15 @@ fn words_of(alloc: Global, files: &str) -> Result<Words, AllocError> {
     Ok(words)
 }
 
-// The status of a run in a folder, with these names of its sample, its picture and its map.
-fn ran(rt: &HostRuntime, folder: &str, sample: &str, out: &str, map: &str) -> Result<u8, Fail> {
+// Names of a run's files: its sample, and its picture, map and record.
+type Names<'a> = (&'a str, &'a str, &'a str, &'a str);
+
+// The status of a run in a folder.
+fn ran(rt: &HostRuntime, folder: &str, names: Names<'_>) -> Result<u8, Fail> {
     let alloc = rt.alloc();
+    let (sample, out, map, record) = names;
     let files = format!(in alloc;
-        "sample={folder}/{sample}\nout={folder}/{out}\nmap={folder}/{map}\nrecord={folder}/r"
+        "sample={folder}/{sample}\nout={folder}/{out}\nmap={folder}/{map}\nrecord={folder}/{record}"
     )?;
     let words = words_of(alloc, files.as_str())?;
     let mut shelf = RealShelf::new(rt.clone()?, alloc)?;
@@ -133,11 +137,13 @@ fn runs_over_files_of_the_system(rt: HostRuntime) -> Result<(), Fail> {
     fs::write(&rt, format!(in alloc; "{folder}/s")?.as_str(), SAMPLE)?;
 
     // A sample that isn't there, and a picture in a folder that isn't there.
-    let unread = ran(&rt, folder, "none", "o", "m")?;
-    let unwritten = ran(&rt, folder, "s", "none/o", "m")?;
+    let unread = ran(&rt, folder, ("none", "o", "m", "r"))?;
+    let unwritten = ran(&rt, folder, ("s", "none/o", "m", "r"))?;
     let begun = fs::read(&rt, format!(in alloc; "{folder}/m")?.as_str()).is_ok();
 
-    let status = ran(&rt, folder, "s", "o", "m")?;
+    // A file that had more bytes than the picture has them no longer.
+    fs::write(&rt, format!(in alloc; "{folder}/o")?.as_str(), MAP)?;
+    let status = ran(&rt, folder, ("s", "o", "m", "r"))?;
     let written = holds(&rt, folder, "o", PICTURE)? && holds(&rt, folder, "m", MAP)?;
     let kept = holds(&rt, folder, "s", SAMPLE)?;
     let recorded = holds(&rt, folder, "r", RECORD)?;
@@ -147,29 +153,37 @@ fn runs_over_files_of_the_system(rt: HostRuntime) -> Result<(), Fail> {
     Ok(())
 }
 
-// Names of the picture and the map where a name of each row leads to the sample `s`, or both to one file: `hard` and
-// `soft` are links to the sample, `new` is one to a file that isn't there, and `here` is one to the folder.
-const ONE_FILE: &[(&str, &str)] = &[
-    ("hard", "m"),
-    ("soft", "m"),
-    ("./s", "m"),
-    ("here/s", "m"),
-    ("here/hard", "m"),
-    ("o", "hard"),
-    ("o", "soft"),
-    ("o", "here/s"),
-    ("o", "./o"),
-    ("o", "here/o"),
-    ("new", "later"),
+// Names where one of each row leads to the sample `s`, or to an output before it: `hard` and `soft` are links to the
+// sample, `new` is one to a file that isn't there at first, and `here` is one to the folder.
+const ONE_FILE: &[Names<'static>] = &[
+    ("s", "hard", "m", "r"),
+    ("s", "soft", "m", "r"),
+    ("soft", "hard", "m", "r"),
+    ("s", "./s", "m", "r"),
+    ("s", "here/s", "m", "r"),
+    ("s", "here/hard", "m", "r"),
+    ("s", "o", "hard", "r"),
+    ("s", "o", "soft", "r"),
+    ("s", "o", "here/s", "r"),
+    ("s", "o", "./o", "r"),
+    ("s", "o", "here/o", "r"),
+    ("s", "new", "later", "r"),
+    ("s", "later", "new", "r"),
+    ("s", "o", "m", "hard"),
+    ("s", "o", "m", "here/o"),
+    ("s", "o", "m", "./m"),
+    ("s", "o", "new", "later"),
 ];
 
-// Whether a run with a file of two names ends with status 6, and leaves the sample as it is and the map's other name
-// without a map.
-fn refuses_to_begin(rt: &HostRuntime, folder: &str, out: &str, map: &str) -> Result<bool, Fail> {
-    let status = ran(rt, folder, "s", out, map)?;
-    let kept = holds(rt, folder, "s", SAMPLE)? && !holds(rt, folder, map, MAP)?;
-    let whole = map == "m" || holds(rt, folder, out, PICTURE)?;
-    Ok(status == 6 && kept && whole)
+// Whether a run with a file of two names ends with status 6, and leaves the sample as it is, the outputs before the
+// one that it refuses whole, and that one without what it was to hold.
+fn refuses_to_begin(rt: &HostRuntime, folder: &str, names: Names<'_>) -> Result<bool, Fail> {
+    let status = ran(rt, folder, names)?;
+    let (_, out, map, record) = names;
+    let kept = holds(rt, folder, "s", SAMPLE)? && !holds(rt, folder, record, RECORD)?;
+    let pictured = map == "m" || holds(rt, folder, out, PICTURE)?;
+    let mapped = holds(rt, folder, map, MAP)? == (record != "r");
+    Ok(status == 6 && kept && pictured && mapped)
 }
 
 #[test]
@@ -188,14 +202,41 @@ fn begins_no_file_that_has_another_name(rt: HostRuntime) -> Result<(), Fail> {
     symlink(&rt, "later", format!(in alloc; "{folder}/new")?.as_str())?;
     symlink(&rt, ".", format!(in alloc; "{folder}/here")?.as_str())?;
     let mut refused = true;
-    for (out, map) in ONE_FILE {
-        refused = refuses_to_begin(&rt, folder, out, map)? && refused;
+    for names in ONE_FILE {
+        refused = refuses_to_begin(&rt, folder, *names)? && refused;
     }
 
     // A file that isn't of this run is replaced, whatever leads to it.
-    let status = ran(&rt, folder, "s", "here/later", "here/m")?;
+    let status = ran(&rt, folder, ("s", "here/later", "here/m", "r"))?;
     let written = holds(&rt, folder, "later", PICTURE)? && holds(&rt, folder, "m", MAP)?;
     fs::remove_dir_all(&rt, folder)?;
     assert!(rt; refused && status == 0 && written);
+    Ok(())
+}
+
+#[test]
+fn begins_a_file_in_the_place_of_a_removed_one(rt: HostRuntime) -> Result<(), Fail> {
+    let alloc = rt.alloc();
+    let folder = new_folder(&rt, "removed")?;
+    let folder = folder.as_str();
+    let sample = format!(in alloc; "{folder}/s")?;
+    let second = format!(in alloc; "{folder}/t")?;
+    let picture = format!(in alloc; "{folder}/o")?;
+    let map = format!(in alloc; "{folder}/m")?;
+    let record = format!(in alloc; "{folder}/r")?;
+    fs::write(&rt, sample.as_str(), b"abc")?;
+    fs::write(&rt, second.as_str(), b"abc")?;
+    let mut shelf = RealShelf::new(rt.clone()?, alloc)?;
+    let mut bytes = [0u8; 9];
+
+    // A system may give a file the number of one that is gone.
+    let read = shelf.get(sample.as_str(), 0, &mut bytes).is_ok()
+        && shelf.get(second.as_str(), 0, &mut bytes).is_ok();
+    fs::remove_file(&rt, sample.as_str())?;
+    let begun = shelf.begin(picture.as_str()).is_ok() && shelf.begin(map.as_str()).is_ok();
+    fs::remove_file(&rt, picture.as_str())?;
+    let again = shelf.begin(record.as_str()).is_ok();
+    fs::remove_dir_all(&rt, folder)?;
+    assert!(rt; read && begun && again);
     Ok(())
 }

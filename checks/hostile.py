@@ -1,7 +1,7 @@
 #!/usr/bin/env python3
 """Runs every command of weave where memory, files, disk or streams give out, and holds what it leaves against what it promises.
 
-    checks/hostile.py [PART ..]      parts: growths sure space limits full files streams words; all where none is named
+    checks/hostile.py [PART ..]      parts: growths sure space limits full files names streams words; all where none is named
 
 Build the programs first: ./build && ./build fuzz. It wants `cc`, and is run on Linux. As
 root it makes small file systems in memory and runs some commands as nobody; as another user it leaves those out and says so.
@@ -21,6 +21,7 @@ import sys
 import tempfile
 import threading
 
+import two_names
 from beside import EXAMPLES, FUZZ, WEAVE
 
 HERE = os.path.dirname(os.path.abspath(__file__))
@@ -48,7 +49,7 @@ class Run:
 
     def __init__(self, words, reads, writes):
         self.words, self.reads, self.writes = words.split(), reads, writes
-        self.whole = None
+        self.whole, self.before = None, BEFORE
 
 
 class Tally:
@@ -447,6 +448,40 @@ def closed_to_nobody(room):
             tried(run, folder, f"{name} may not be written", setup=as_nobody, command=[program] + run.words)
 
 
+def case_fault(run, folder, case, ended):
+    """What is wrong with a run that has another file for a key."""
+    line = f"weave: {case.refused}: write fault\n".encode() if case.refused else b""
+    if (ended.status, ended.err) != (6 if line else 0, line):
+        return f"status {ended.status}, {ended.err!r}"
+    wrong = [name for name, data in case.wanted.items() if read_file(folder, name) != data]
+    return f"{', '.join(wrong)} afterwards" if wrong else None
+
+
+def with_case(run, folder, case):
+    set_back(run, folder)
+    for name, data in case.files.items():
+        if data is not None:
+            write_file(folder, name, data)
+        elif os.path.exists(os.path.join(folder, name)):
+            os.remove(os.path.join(folder, name))
+    with case.report() as out:
+        ended = start([WEAVE] + with_file(run, case.key, case.path).words, folder, out=out)
+    TALLY.count(ended.status)
+    fault = case_fault(run, folder, case, ended)
+    if fault:
+        TALLY.fail(f"{' '.join(run.words)}: {case.key} is {case.path}, {case.files}: {fault}")
+
+
+def names(_, folder):
+    """Each output by other names: of a file of its run, of the file that the report goes to, and of any other file."""
+    two_names.make_folders(folder)
+    mixed = Run(f"grow {FILES} sample2=t width=6 height=1 place=grid overlap=2 box=4", {"s": GREYS, "t": OTHER_GREYS}, OUTPUTS)
+    for run in small_runs(folder) + [done_whole(mixed, folder)]:
+        for number in range(len(run.writes)):
+            for case in two_names.cases(folder, run, number):
+                with_case(run, folder, case)
+
+
 def piped(run, key, folder, data, what, status):
     """A run that reads one of its files from a pipe with a name, which has to end with this status."""
     pipe = os.path.join(folder, "pipe")
@@ -512,7 +547,7 @@ def words(_, folder):
             TALLY.fail(f"{[word[:20] for word in given[:4]]}: {fault}")
 
 
-PARTS = [growths, sure, space, limits, full, files, streams, words]
+PARTS = [growths, sure, space, limits, full, files, names, streams, words]
 
 
 def main(*names):

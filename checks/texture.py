@@ -165,6 +165,14 @@ def try_patches(folder, chance):
         sys.exit(f"{size}, box {box}, overlap {overlap}: not {steps} patches: {said}")
 
 
+def try_transfers(folder, chance):
+    """Pictures painted with blocks of another, in their own size and in another one."""
+    made(os.path.join(EXAMPLES, "shots.py"), folder)
+    changes = try_result(["transfer", "a.png", "shot1.ppm", "painted.png", "alpha=30"], folder, chance)
+    changes += try_result(["transfer", "a.png", "shot2.ppm", "small.png", "80x56", "--tries", "2"], folder, chance)
+    print(f"transfers: {changes} changed bytes were seen")
+
+
 def try_merges(folder, chance):
     """Merges by marks in numbers and in colours, on black and on nothing; other colours are refused."""
     made(os.path.join(EXAMPLES, "shots.py"), folder)
@@ -234,6 +242,9 @@ REFUSED = [
     (["loop", "a.mp4", "no.mp4", "12", "--frames", "0-1", "gap=3"], 8, "weave: no loop of length 12"),
     (["quilt", "a.png", "a.png", "no.png", "40x40"], 2, "quilt wants a sample, RESULT and SIZE"),
     (["tile", "a.png", "no.png", "2x40"], 2, "wrapped axis x under 3"),
+    (["transfer", "a.png", "a.mp4", "no.png"], 2, "all pictures or all videos"),
+    (["transfer", "a.png", "no.png"], 2, "transfer wants a sample, TARGET and RESULT"),
+    (["transfer", "a.png", "shot1.ppm", "no.png", "2000x2000"], 4, "weave: limit output"),
     (["merge", "shot1.ppm", "shot2.ppm", "smooth.png", "no.png"], 3, "marks no picture"),
     (["merge", "shot1.ppm", "shot2.ppm", "marks.ppm", "no.png", "seed=1"], 2, "takes no keys"),
     (["merge", "shot1.ppm", "a.png", "marks.ppm", "no.png"], 3, "weave: sample2: unlike"),
@@ -329,6 +340,7 @@ def main():
         try_pngs(folder, chance)
         try_forms(folder, chance)
         try_tiles(folder, chance)
+        try_transfers(folder, chance)
         try_merges(folder, chance)
         try_refusals(folder)
         try_options(folder)

@@ -3,14 +3,14 @@
 
     checks/view.py [--pictures FOLDER] [RUN ..]
 
-Of a grown picture of two samples with rounds, one with turns, a grown clip, a quilt, a loop, a tile and a merge it asks: that
-the cell shown under the pointer is the one that verify.py finds, at 200 drawn places, and at places by link and by key; that
-the map after drawn steps is that of as many records; that changed bytes of the output are counted; that the costs of seams add
-up to those of weave's report; that of changed and malformed files the page has the line of `weave check`; that a folder of
-tools/texture opens; and that the page is no wider than a window of 400 pixels. Of small random runs of all kinds each cell is
-compared. A run of 1024x1024 cells has to open in under 2 seconds, or in as much processor time where other work goes on, and a
-move of the pointer over it to take less than 16 milliseconds. With names of runs it tries these alone. It leaves pictures of
-the page in FOLDER. It wants Debian's package chromium. Build the program first: ./build."""
+Of a grown picture of two samples with rounds, one with turns, a grown clip, a quilt, a transfer, a loop, a tile and a merge it
+asks: that the cell shown under the pointer is the one that verify.py finds, at 200 drawn places, and at places by link and by
+key; that the map after drawn steps is that of as many records; that changed bytes of the output are counted; that the costs of
+seams add up to those of weave's report; that of changed and malformed files the page has the line of `weave check`; that a
+folder of tools/texture opens; and that the page is no wider than a window of 400 pixels. Of small random runs of all kinds each
+cell is compared. A run of 1024x1024 cells has to open in under 2 seconds, or in as much processor time where other work goes
+on, and a move of the pointer over it to take less than 16 milliseconds. With names of runs it tries these alone. It leaves
+pictures of the page in FOLDER. It wants Debian's package chromium. Build the program first: ./build."""
 import argparse
 import os
 import random
@@ -36,6 +36,7 @@ RUNS = {
     "turned": ("grow", ["pebbles.ppm"], ["width=120", "height=90", "box=40", "overlap=16", "rounds=6", "turns=all"]),
     "clip": ("grow", ["life.y4m"], ["width=40", "height=30", "frames=10", "box=12", "overlap=4", "rounds=3"]),
     "quilt": ("quilt", ["pebbles.ppm"], ["width=120", "height=100", "block=24", "overlap=6"]),
+    "transfer": ("transfer", ["pebbles.ppm"], ["block=14", "overlap=5", "alpha=40"]),
     "loop": ("loop", ["life.y4m"], ["length=24"]),
     "tile": ("tile", ["pebbles.ppm"], ["width=96", "height=80", "box=40", "overlap=16"]),
     "merge": ("merge", ["shot1.ppm", "shot2.ppm"], []),
@@ -61,21 +62,22 @@ def make_run(name, folder):
     """The files of a run, in the order of verify.py with None for no record; whether it is of turns; and its report."""
     command, samples, words = RUNS[name]
     files = [os.path.join(folder, part) for part in ("out", "map", "record")]
+    if command in ("merge", "transfer"):
+        subprocess.run([os.path.join(EXAMPLES, "shots.py"), folder], check=True, capture_output=True)
     for number, sample in enumerate(samples, 1):
         files.append(os.path.join(folder, f"sample{number}"))
         if sample == MORE:
             make_more(files[-1], folder)
-        elif command == "merge":
-            subprocess.run([os.path.join(EXAMPLES, "shots.py"), folder], check=True, capture_output=True)
-            shutil.copy(os.path.join(folder, sample), files[-1])
         else:
-            shutil.copy(os.path.join(EXAMPLES, sample), files[-1])
+            shutil.copy(os.path.join(folder if command == "merge" else EXAMPLES, sample), files[-1])
     named = words_of(files)
     if command in ("tile", "merge"):
         named = [word for word in named if not word.startswith("record=")]
         files[2] = None
     if command == "merge":
         named.append("marks=" + os.path.join(folder, "marks.ppm"))
+    if command == "transfer":
+        named.append("target=" + os.path.join(folder, "shot1.ppm"))
     done = subprocess.run([WEAVE, command] + named + words, capture_output=True, text=True, check=True)
     return files, "turns=all" in words, done.stdout
 

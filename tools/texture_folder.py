@@ -9,7 +9,7 @@ from texture_programs import Stop, find_weave, weave
 from verify import verify, verify_unrecorded
 
 ABOUT, REPORT, SUMS, WORDS = "about", "report", "sums", "words"
-FILE = re.compile(r"(sample\d*|marks|out|map|record)=(.*)")
+FILE = re.compile(r"(sample\d*|target|marks|out|map|record)=(.*)")
 
 
 def sum_of(name):
@@ -62,7 +62,8 @@ class Files:
 
     def check_words(self):
         """The words of `check`; None where the run has no record to check."""
-        return ["check"] + self.words + ["turns=all"] * self.turns if "record" in self.names else None
+        words = [word for word in self.words if not word.startswith("target=")]
+        return ["check"] + words + ["turns=all"] * self.turns if "record" in self.names else None
 
 
 def check_with_weave(files, program):

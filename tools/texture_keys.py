@@ -6,7 +6,8 @@ from texture_programs import Stop
 
 # The keys of each command that its user may choose.
 KEYS = {"grow": ("place", "box", "overlap", "tol", "rounds", "seed", "turns"), "quilt": ("block", "overlap", "tol", "seed"),
-        "tile": ("wrap", "box", "overlap", "tol", "seed"), "loop": ("taps", "gap"), "merge": ()}
+        "tile": ("wrap", "box", "overlap", "tol", "seed"), "transfer": ("block", "overlap", "tol", "alpha", "seed"),
+        "loop": ("taps", "gap"), "merge": ()}
 AXES = "xyf"
 
 
@@ -34,7 +35,7 @@ def shortest_axis(samples):
 
 def size_keys(command, text, sample):
     """The size that is asked for, in cells. It is given in pixels, and in frames."""
-    if command == "merge":
+    if command in ("merge", "transfer"):
         return {}
     if command == "loop":
         if not re.fullmatch(r"\d+", text):
@@ -50,12 +51,15 @@ def size_keys(command, text, sample):
     return dict(keys, frames=found[3]) if found[3] else keys
 
 
-def chosen_keys(command, samples, sizes, given):
+def chosen_keys(command, samples, sizes, given, target=None):
     """The keys that are chosen where the user has given none."""
     if command in ("loop", "merge"):
         return {}
     shortest = shortest_axis(samples)
-    if command == "quilt":
+    if command == "transfer":
+        block = number_in(given, "block", max(min(shortest_axis([target]) // 20, shortest), 4))
+        advised = {"block": block, "overlap": block // 3}
+    elif command == "quilt":
         block = number_in(given, "block", max(4 * shortest // 9, 1))
         advised = {"block": block, "overlap": 2 * block // 7, "tol": 5}
     elif command == "tile":

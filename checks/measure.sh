@@ -1,7 +1,7 @@
 #!/bin/sh
-# Prints the user time and the peak memory of the program, of `cp` of the same bytes, and for reading also of
-# a plain C program. Each line is the mean user time of 20 runs, of 3 for the textures, and the most memory that
-# one of them took.
+# Prints the user time and the peak memory of the program, of `cp` of the same bytes, and for reading and transfers
+# also of plain C programs. Each line is the mean user time of 20 runs, of 3 for the textures and of one for the
+# transfers, and the most memory that one of them took.
 #
 #   checks/measure.sh
 set -eu
@@ -70,3 +70,25 @@ done
 } >marks.ppm
 measure 'merge, 512x512' 0 "$weave" merge sample=shot1.ppm sample2=shot2.ppm marks=marks.ppm \
     out=out.ppm map=out.map
+
+# A target of another picture is painted with blocks of pebbles. The plain program does the same, with the same
+# elimination and with none; its files have to be those of weave.
+cc -O3 -o plain_transfer "$top/checks/plain_transfer.c"
+runs=1
+"$weave" grow sample="$top/examples/imagemagick_plasma.ppm" out=target.ppm map=out.map record=out.record \
+    width=512 height=512 place=random >said
+
+# transfer WIDTH HEIGHT BLOCK: from a sample of that size.
+transfer() {
+    "$weave" grow sample="$top/examples/pebbles.ppm" out=sample.ppm map=out.map record=out.record \
+        width="$1" height="$2" place=random >said
+    measure "transfer from $1x$2, block $3" 0 "$weave" transfer sample=sample.ppm target=target.ppm \
+        out=out.ppm map=out.map record=out.record block="$3"
+    set -- sample.ppm target.ppm plain.ppm plain.map plain.record "$3" 5 10 50 0
+    measure '  plain C, the same elimination' 0 ./plain_transfer "$@"
+    for kind in ppm map record; do cmp out.$kind plain.$kind; done
+    measure '  plain C, every candidate' 0 ./plain_transfer all "$@"
+}
+transfer 256 256 16
+transfer 256 256 32
+transfer 600 400 12

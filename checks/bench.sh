@@ -14,11 +14,12 @@ if [ $# -eq 0 ]; then
     "$top/build" bench >&2 || { echo "bench is not built" >&2; exit 1; }
     set -- "$top/bench"
 fi
-cases=${CASES:-sub:2 sub-256:1 rounds:2 noise:1 equal-means:1 plain:1 sub-64:1 sub-2048:1 whole:1 random:1 grid:10
-    quilt:1 quilt-noise:1 check:10 check-random:10 loop-100:10 loop-4095:5 boundary-5:3000 boundary-10:2000
-    boundary-100:20 network-grid:10 network-ladder:10 network-thin:10 network-drawn:10 network-comb:10
-    records-read:100 records-write:100 records-copy:1000 strip-read:50 strip-write:50 strip-copy:500
-    clip-420-read:10 clip-420-write:10 clip-444-read:10 clip-444-write:10}
+cases=${CASES:-sub:2 sub-256:1 rounds:2 noise:1 equal-means:1 plain:1 sub-64:1 sub-2048:1 whole:1
+    random:1 grid:10 quilt:1 quilt-noise:1 transfer:1 merge:1 check:10 check-random:10 loop-100:10
+    loop-4095:5 boundary-5:3000 boundary-10:2000 boundary-100:20 network-grid:10 network-ladder:10
+    network-thin:10 network-drawn:10 network-comb:10 records-read:100 records-write:100
+    records-copy:1000 strip-read:50 strip-write:50 strip-copy:500 clip-420-read:10 clip-420-write:10
+    clip-444-read:10 clip-444-write:10}
 rounds=${ROUNDS:-5}
 work=$(mktemp -d)
 trap 'rm -rf "$work"' EXIT

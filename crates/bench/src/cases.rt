@@ -7,8 +7,9 @@ use crate::boundaries::least_boundaries;
 use crate::clips::{clip_bytes, move_clip};
 use crate::growths::{GrowthCase, check_records, grow_often};
 use crate::loops::least_loops;
+use crate::merges::merge_often;
 use crate::networks::{solve_combs, solve_drawn, solve_grids, solve_ladders, solve_thin_grids};
-use crate::quilts::quilt_often;
+use crate::quilts::{quilt_often, transfer_often};
 use crate::record_files::{Way, cuts_of, move_records, strip_of};
 use crate::samples::Texture;
 use patch_place::Mode;
@@ -33,6 +34,10 @@ pub enum Case {
     /// Quilts of 512x512 cells, from 512x512, with blocks of 64x64 cells and overlaps of 16.
     Quilt,
     QuiltNoise,
+    /// A transfer of 512x512 cells, from 256x256.
+    Transfer,
+    /// A merge of two pictures of 512x512 cells.
+    Merge,
     /// Mode `Sub` over a sample of 2048x2048, to 128x64.
     SubGreat,
     /// Mode `Whole`, from 128x128 to 512x512.
@@ -100,6 +105,8 @@ pub fn case_of(name: &str) -> Case {
         "sub-64" => Case::SubBroad,
         "quilt" => Case::Quilt,
         "quilt-noise" => Case::QuiltNoise,
+        "transfer" => Case::Transfer,
+        "merge" => Case::Merge,
         "sub-2048" => Case::SubGreat,
         "whole" => Case::Whole,
         "random" => Case::Random,
@@ -229,9 +236,11 @@ fn run_quick(alloc: Global) -> Result<u64, AllocError> {
     let looped = least_loops(alloc, 12, 9, 1)?;
     let bounded = least_boundaries(alloc, 16, 5, 1)?;
     let quilted = quilt_often(alloc, Texture::Noise, 80, 1)?;
+    let painted = transfer_often(alloc, 40, 48, 1)?;
+    let merged = merge_often(alloc, 24, 1)?;
     let solved = run_networks(alloc)?;
     let moved = run_files(alloc)?;
-    Ok(grown ^ checked ^ looped ^ bounded ^ quilted ^ solved ^ moved)
+    Ok(grown ^ checked ^ looped ^ bounded ^ quilted ^ painted ^ merged ^ solved ^ moved)
 }
 
 // The stream lines of clips of 640x360 pixels.
@@ -268,6 +277,8 @@ pub fn run_case(alloc: Global, case: Case, times: u32) -> Result<u64, AllocError
         Case::NetworkComb => solve_combs(alloc, 300, times),
         Case::Quilt => quilt_often(alloc, Texture::Lumps, 512, times),
         Case::QuiltNoise => quilt_often(alloc, Texture::Noise, 512, times),
+        Case::Transfer => transfer_often(alloc, 256, 512, times),
+        Case::Merge => merge_often(alloc, 512, times),
         Case::Records(way) => move_records(alloc, &cuts_of(alloc, 200)?, way, times),
         Case::Strip(way) => move_records(alloc, &strip_of(alloc, 1023)?, way, times),
         Case::Clip420(way) => move_frames(alloc, LINE_420, 345600, way, times),

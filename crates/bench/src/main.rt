@@ -4,9 +4,9 @@
 // prints a number of what comes out, which is the same in each run. With no word it does a little of everything,
 // which the gate compares. checks/bench.sh times the cases.
 //
-// `samples` makes the samples, `growths` has the cases of growing, `quilts` those of quilting, `loops` those of
-// loops, `boundaries` those of strips, `networks` those of maximum flow, and `record_files` and `clips` those of
-// files.
+// `samples` makes the samples, `growths` has the cases of growing, `quilts` those of quilting and of transfer, `merges`
+// those of merging, `loops` those of loops, `boundaries` those of strips, `networks` those of maximum flow, and
+// `record_files` and `clips` those of files.
 #![tactic(auto)]
 
 mod boundaries;
@@ -14,6 +14,7 @@ mod cases;
 mod clips;
 mod growths;
 mod loops;
+mod merges;
 mod networks;
 mod quilts;
 mod record_files;

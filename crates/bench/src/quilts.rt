@@ -1,4 +1,4 @@
-// Quilts.
+// Quilts and transfers.
 ghost use Rattle.cells.specs.Places.{IsSmall};
 
 use crate::samples::{Texture, sample_of, sum_of};
@@ -6,6 +6,7 @@ use block_strips::QuiltPlan;
 use cells::Size;
 use quilt_run::{QuiltRun, quilt_canvas};
 use std::alloc::{AllocError, Global};
+use transfer::transfer_canvas;
 
 /// Quilts a picture of that side so often, of blocks of 64x64 cells with overlaps of 16, from a sample of the same
 /// side. The number is of the picture's bytes.
@@ -37,6 +38,33 @@ pub fn quilt_often(
             return Err(AllocError);
         };
         number = u64::from(sum_of(quilted.canvas.picture().bytes()));
+    }
+    Ok(number)
+}
+
+/// Paints a picture of lumps of a side so often, with blocks of 16x16 cells of other lumps of a side, at an alpha of 50. The
+/// number is of the painted picture's bytes.
+pub fn transfer_often(alloc: Global, from: u32, side: u32, times: u32) -> Result<u64, AllocError>
+    requires from { IsSmall (record { w = from; h = from; f = 1 }) }
+    requires side { IsSmall (record { w = side; h = side; f = 1 }) }
+{
+    let sample = sample_of(alloc, Texture::Lumps, from)?;
+    let target = sample_of(alloc, Texture::OtherLumps, side)?;
+    let asked = QuiltRun {
+        size: target.size(),
+        plan: QuiltPlan {
+            block: 16,
+            overlap: 5,
+            tol: 10,
+        },
+        seed: 1,
+    };
+    let mut number = 0u64;
+    for _time in 0..times {
+        let Ok(painted) = transfer_canvas(alloc, &asked, 50, &target, &sample) else {
+            return Err(AllocError);
+        };
+        number = u64::from(sum_of(painted.canvas.picture().bytes()));
     }
     Ok(number)
 }

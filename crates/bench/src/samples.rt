@@ -47,6 +47,8 @@ pub enum Texture {
     EqualMeans,
     /// One colour.
     Plain,
+    /// The lumps that are 4,096 columns on.
+    OtherLumps,
 }
 
 // The byte of a channel of a cell of lumps.
@@ -94,6 +96,7 @@ fn byte_at(texture: Texture, x: u32, y: u32, channel: u32) -> u8 {
         Texture::Noise => (mixed(x.wrapping_mul(3).wrapping_add(channel), y) % 256) as u8,
         Texture::EqualMeans => equal_mean_at(x, y, channel),
         Texture::Plain => 90,
+        Texture::OtherLumps => lump_at(x.wrapping_add(4096), y, channel),
     }
 }
 
@@ -117,7 +120,9 @@ fn volume_of(alloc: Global, texture: Texture, size: Size) -> Result<Volume, Allo
 /// A square picture of a texture, of that side.
 pub fn sample_of(alloc: Global, texture: Texture, side: u32) -> Result<Volume, AllocError>
     requires { IsSmall (record { w = side; h = side; f = 1 }) }
-    ensures { IfOk result (λ v. (IsOnePart v × (v.size.f ≡ 1)) × (v.k ≡ 3)) }
+    ensures part { IfOk result IsOnePart }
+    ensures size { IfOk result (λ v. v.size ≡ record { w = side; h = side; f = 1 }) }
+    ensures samples { IfOk result (λ v. v.k ≡ 3) }
 {
     volume_of(
         alloc,

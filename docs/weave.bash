@@ -1,7 +1,8 @@
 # Completion of the commands and keys of weave for bash: `source docs/weave.bash`, or install it as
 # /usr/share/bash-completion/completions/weave.
 _weave() {
-    local word=${COMP_WORDS[COMP_CWORD]} before=${COMP_WORDS[COMP_CWORD-1]} keys
+    local word=${COMP_WORDS[COMP_CWORD]} before=${COMP_WORDS[COMP_CWORD-1]} keys key number
+    local given=" ${COMP_WORDS[*]} "
     COMPREPLY=()
     if [ "$COMP_CWORD" -eq 1 ]; then
         mapfile -t COMPREPLY < <(compgen -W "grow quilt loop check trial upgrade tile merge transfer" -- "$word")
@@ -17,7 +18,10 @@ _weave() {
     fi
     case $before in
         sample* | target | marks | out | map | record | newmap | newrecord)
-            mapfile -t COMPREPLY < <(compgen -f -- "$word")
+            # With this bash puts a slash after a folder, and marks blanks in names.
+            compopt -o filenames
+            word=${word//\\ / }
+            mapfile -t COMPREPLY < <(compgen -f -- "${word#[\"\']}")
             return ;;
         place)
             mapfile -t COMPREPLY < <(compgen -W "grid random whole sub" -- "$word")
@@ -46,6 +50,17 @@ _weave() {
         tile) keys="sample= out= map= width= height= frames= wrap= box= overlap= tol= seed=" ;;
         *) return ;;
     esac
+    # Of several samples the next one, up to sample16, once the one before it is given.
+    if [[ $keys == *sample2=* ]]; then
+        for number in {3..16}; do
+            [[ $given == *" sample$((number - 1)) = "* ]] || break
+            keys+=" sample$number="
+        done
+    fi
+    # Each key may be given once.
+    for key in $keys; do
+        [[ $given == *" ${key%=} = "* ]] && keys=${keys/"$key"/}
+    done
     compopt -o nospace
     mapfile -t COMPREPLY < <(compgen -W "$keys" -- "$word")
 }

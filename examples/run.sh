@@ -34,7 +34,10 @@ make pebbles_sub grow pebbles.ppm ppm width=192 height=128 rounds=20
 make pebbles_whole grow pebbles.ppm ppm width=192 height=128 place=whole
 make pebbles_random grow pebbles.ppm ppm width=192 height=128 place=random
 make pebbles_grid grow pebbles.ppm ppm width=192 height=128 place=grid
-make mixed grow pebbles.ppm ppm sample2=../imagemagick_plasma.ppm width=160 height=120 box=24
+make mixed grow pebbles.ppm ppm sample2=../imagemagick_plasma.ppm width=160 height=120 place=random
+# Each of its cells names a sample, in the first two of eight bytes: both have to be there.
+parts=$(od -An -v -tx1 -w8 -j48 mixed.map | cut -c2-6 | sort | uniq -c)
+[ "$(wc -l <<< "$parts")" = 2 ] || { echo "mixed: of one sample alone: $parts"; exit 1; }
 make pebbles_turned grow pebbles.ppm ppm width=192 height=128 rounds=20 turns=all
 make tartan grow netpbm_tartan.ppm ppm width=200 height=150 box=40 overlap=16 tol=0
 make pebbles_quilt quilt pebbles.ppm ppm width=192 height=128 block=32 overlap=8

@@ -4,8 +4,8 @@
     examples/samples.py NAME FILE
 
 NAME is that of a function below. P6 pictures are bricks, olives, gravel, grass, wood, cloth, rust, clouds, three that go
-badly, halves, dusk and writing, and vase, to be painted. YUV4MPEG2 clips are waves, sway, flame, pendulum and snow. Each NAME gives the same
-file every time."""
+badly, halves, dusk and writing, and portrait, to be painted. YUV4MPEG2 clips are waves, sway, flame, pendulum and snow. Each
+NAME gives the same file every time."""
 import math
 import random
 import sys
@@ -212,31 +212,48 @@ def sky_of(glow):
     return width, height, [cell(x, y) for y in range(height) for x in range(width)]
 
 
-def vase():
-    """A grey still life to paint with textures, 256x256 cells: a vase and a ball, lit from the upper left."""
+def portrait():
+    """A grey portrait to be painted, 256x256 cells: a face lit from the upper left, before a wall."""
     side = 256
 
-    def half_width(y):
-        """Of the vase, at a height from 0 at its rim to 1 at its foot."""
-        return 13 + 34 * math.sin(math.pi * min(1.0, y * 1.08)) ** 1.4 + 10 * max(0.0, 1 - 9 * y)
+    def bump(x, y, cx, cy, rx, ry):
+        return math.exp(-(((x - cx) / rx) ** 2) - ((y - cy) / ry) ** 2)
 
-    def lit(across, down):
-        """How light a point of a round thing is, whose outline has the distance 1 from its middle."""
-        up = math.sqrt(max(0.0, 1 - across * across - down * down))
-        return max(0.0, min(1.0, 0.6 * up - 0.75 * across - 0.5 * down + 0.1))
+    def pair(x, y, cx, cy, rx, ry):
+        """A bump at each side of the middle of the face."""
+        return bump(abs(x - 128), y, cx, cy, rx, ry)
+
+    def rise(x, y):
+        """1 in the middle of the face, and 0 along its outline."""
+        return 1 - ((x - 128) / (90 - 0.0012 * max(0, y - 128) ** 2)) ** 2 - ((y - 118) / 118) ** 2
+
+    def depth(x, y):
+        """How far the surface comes forward: the face with its features, or the neck."""
+        if rise(x, y) <= 0:
+            return 40 * math.sqrt(max(0.0, 1 - ((x - 128) / 52) ** 2))
+        eyes = 6 * pair(x, y, 34, 92, 27, 9) - 15 * pair(x, y, 35, 112, 21, 13)
+        nose = 24 * bump(x, y, 128, 154, 13, 17) + 13 * bump(x, y, 128, 122, 8, 30)
+        mouth = 7 * bump(x, y, 128, 186, 26, 6) + 7 * bump(x, y, 128, 201, 20, 6) - 6 * bump(x, y, 128, 193, 28, 3)
+        rest = 8 * pair(x, y, 46, 156, 22, 20) + 9 * bump(x, y, 128, 224, 20, 12)
+        return 95 * math.sqrt(rise(x, y)) + eyes + nose + mouth + rest
+
+    def lit(x, y):
+        dx, dy = depth(x + 1, y) - depth(x, y), depth(x, y + 1) - depth(x, y)
+        return 0.1 + max(0.0, (0.66 + 0.5 * dx + 0.34 * dy) / math.sqrt(1 + dx * dx + dy * dy))
 
     def light(x, y):
-        height, across, down = (y - 34) / 172, (x - 184) / 42, (y - 168) / 42
-        if 0 <= height <= 1 and abs(x - 92) <= half_width(height):
-            return lit((x - 92) / half_width(height), 0)
-        if across * across + down * down <= 1:
-            return lit(across, down)
-        if y > 192 and ((x - 150) / 98) ** 2 + ((y - 210) / 13) ** 2 < 1:
-            return 0.0
-        return 0.75 if y > 186 else 0.35
+        in_hair = ((x - 128) / 106) ** 2 + ((y - 104) / 124) ** 2 < 1 < ((x - 138) / 78) ** 2 + ((y - 140) / 94) ** 2
+        if in_hair and y < 190:
+            return 0.08 + 0.3 * bump(x, y, 84, 24, 40, 24)
+        if rise(x, y) < 0 and (y < 190 or abs(x - 128) > 52):
+            return 0.45 + 0.2 * x / side
+        if pair(x, y, 35, 114, 17, 7) > 0.4:
+            return 0.05 if pair(x, y, 35, 114, 7, 7) > 0.4 else 0.95
+        dark = 0.65 * (pair(x, y, 35, 89, 24, 5) > 0.5) + 0.5 * (bump(x, y, 128, 193, 32, 3) > 0.5)
+        dark += 0.3 * (bump(x, y, 128, 193, 33, 11) > 0.5) + 0.5 * (pair(x, y, 9, 170, 5, 4) > 0.5)
+        return lit(x, y) * max(0.1, 1 - dark)
 
-    cells = [[clamp(70 + 75 * light(x, y))] * 3 for y in range(side) for x in range(side)]
-    return side, side, cells
+    return side, side, [[clamp(255 * light(x, y))] * 3 for y in range(side) for x in range(side)]
 
 
 LETTERS = {
@@ -348,7 +365,7 @@ def snow():
 
 PICTURES = {
     it.__name__: it
-    for it in (bricks, olives, gravel, grass, halves, wood, cloth, rust, clouds, dusk, writing, vase)
+    for it in (bricks, olives, gravel, grass, halves, wood, cloth, rust, clouds, dusk, writing, portrait)
 }
 CLIPS = {it.__name__: it for it in (waves, sway, flame, pendulum, snow)}
 

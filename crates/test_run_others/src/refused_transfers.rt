@@ -91,29 +91,41 @@ fn files_are_refused(rt: HostRuntime) {
     expect_none(&rt, wrong_case(rt.alloc(), FILES));
 }
 
-// A black picture.
-fn black(alloc: Global, head: &[u8], cells: usize) -> Result<Vec<u8>, AllocError> {
+// A picture of so many black bytes.
+fn black(alloc: Global, head: &[u8], count: usize) -> Result<Vec<u8>, AllocError> {
     let mut bytes = Vec::from_slice(alloc, head)?;
-    let cells = vec![in alloc; 0u8; 3 * cells]?;
-    bytes.extend_from_slice(&cells)?;
+    let black = vec![in alloc; 0u8; count]?;
+    bytes.extend_from_slice(&black)?;
     Ok(bytes)
+}
+
+// Whether a run over these files ends with this status and line, and writes nothing.
+fn is_refused<'a>(
+    alloc: Global,
+    words: &'a str,
+    sample: &'a [u8],
+    target: &'a [u8],
+    status: u8,
+    line: &'a str,
+) -> Result<bool, AllocError> {
+    let of = Case {
+        words,
+        sample,
+        second: target,
+        status,
+        line,
+        ..REFUSED
+    };
+    holds(alloc, &of)
 }
 
 // A target of more cells than an output has; its maxval comes before that.
 fn are_too_broad(alloc: Global) -> Result<bool, AllocError> {
-    let target = black(alloc, b"P6\n1025 1024\n200\n", 1025 * 1024)?;
-    let unlike = Case {
-        second: &target,
-        line: "weave: target: unlike\n",
-        ..REFUSED
-    };
-    let over = Case {
-        sample: DARK,
-        status: 4,
-        line: "weave: limit output 1049600 over 1048576\n",
-        ..unlike
-    };
-    Ok(holds(alloc, &unlike)? && holds(alloc, &over)?)
+    let target = black(alloc, b"P6\n1025 1024\n200\n", 3 * 1025 * 1024)?;
+    let unlike = "weave: target: unlike\n";
+    let over = "weave: limit output 1049600 over 1048576\n";
+    let is_unlike = is_refused(alloc, TWO.words, FOUR_CELLS, &target, 3, unlike)?;
+    Ok(is_unlike && is_refused(alloc, TWO.words, DARK, &target, 4, over)?)
 }
 
 #[test]
@@ -121,19 +133,14 @@ fn targets_of_too_many_cells(rt: HostRuntime) {
     expect_true(&rt, are_too_broad(rt.alloc()));
 }
 
+const OVERLAPPING: &str = "transfer sample=s target=t out=o map=m record=r block=100 overlap=99";
+
 // Blocks that overlap by all but one of their columns and rows: there are so many that they have more cells than a record.
 fn are_too_many(alloc: Global) -> Result<bool, AllocError> {
-    let sample = black(alloc, b"P6\n100 100\n255\n", 100 * 100)?;
-    let target = black(alloc, b"P6\n200 200\n255\n", 200 * 200)?;
-    let of = Case {
-        words: "transfer sample=s target=t out=o map=m record=r block=100 overlap=99",
-        sample: &sample,
-        second: &target,
-        status: 4,
-        line: "weave: limit records 33560000 over 33554432\n",
-        ..REFUSED
-    };
-    holds(alloc, &of)
+    let sample = black(alloc, b"P6\n100 100\n255\n", 3 * 100 * 100)?;
+    let target = black(alloc, b"P6\n200 200\n255\n", 3 * 200 * 200)?;
+    let line = "weave: limit records 33560000 over 33554432\n";
+    is_refused(alloc, OVERLAPPING, &sample, &target, 4, line)
 }
 
 #[test]

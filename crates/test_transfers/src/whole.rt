@@ -1,12 +1,18 @@
 // Whole transfers.
+ghost use Rattle.std.specs.Prelude.{◌≡◌, IfOk};
+ghost use Rattle.cells.specs.Cells.{IsOnePart};
+ghost use Rattle.cells.specs.Places.{IsSmall};
+
+use crate::expect::expect_done;
 use crate::pictures::greys;
 use block_strips::QuiltPlan;
 use cells::{At, Size, Volume};
 use lane_kernels::ssd;
+use limits::GREATEST_ALPHA;
+use map_canvas::Canvas;
 use quilt_run::{QuiltRun, Quilted};
 use std::alloc::{AllocError, Global};
 use std::process::Abort;
-use std::test::Fail;
 use transfer::transfer_canvas;
 
 // What is asked for, and what comes out.
@@ -131,62 +137,85 @@ const CASES: &[Case] = &[
     },
 ];
 
+// A picture of greys, by its columns, rows and cells.
+fn picture(rt: &impl Abort, alloc: Global, of: (u32, u32, &[u8])) -> Result<Volume, AllocError>
+    ensures one { IfOk result IsOnePart }
+    ensures samples { IfOk result (λ picture. picture.k ≡ 3) }
+    ensures small { IfOk result (λ picture. IsSmall picture.size) }
+    ensures frame { IfOk result (λ picture. picture.size.f ≡ 1) }
+{
+    let (w, h, cells) = of;
+    greys(rt, alloc, Size { w, h, f: 1 }, cells)
+}
+
 fn transferred(
+    rt: &impl Abort,
     alloc: Global,
     case: &Case,
     target: &Volume,
-    size: Size,
-) -> Result<Quilted, AllocError> {
-    let (w, h, cells) = case.sample;
-    let sample = greys(alloc, w, h, cells)?;
+) -> Result<Quilted, AllocError>
+    requires one { IsOnePart target.now }
+    requires samples { target.now.k ≡ 3 }
+    requires small { IsSmall target.now.size }
+    requires frame { target.now.size.f ≡ 1 }
+{
+    let sample = picture(rt, alloc, case.sample)?;
     let plan = QuiltPlan {
         block: case.block,
         overlap: case.overlap,
         tol: case.tol,
     };
     let asked = QuiltRun {
-        size,
+        size: target.size(),
         plan,
         seed: case.seed,
     };
+    assert!(rt; case.block >= 1 && case.alpha <= GREATEST_ALPHA);
     let Ok(quilted) = transfer_canvas(alloc, &asked, case.alpha, target, &sample) else {
         return Err(AllocError);
     };
     Ok(quilted)
 }
 
-fn expect(rt: &impl Abort, alloc: Global, case: &Case) -> Result<(), AllocError> {
-    let (w, h, cells) = case.target;
-    let target = greys(alloc, w, h, cells)?;
-    let quilted = transferred(alloc, case, &target, Size { w, h, f: 1 })?;
-    assert!(rt; quilted.blocks.as_slice().len() == case.blocks);
-    assert!(rt; quilted.boundaries == case.boundaries);
-    assert!(rt; quilted.cost == case.cost, "cost {}", quilted.cost);
-    let matched = ssd(quilted.canvas.picture().bytes(), target.bytes());
-    assert!(rt; matched == case.matched, "match {matched}");
-    let map = quilted.canvas.map();
-    'cells: for (i, place) in case.sources.iter().enumerate() {
-        let x = i as i32 % w as i32;
-        let y = i as i32 / w as i32;
-        let source = map.at(At { x, y, f: 0 });
+// Asserts which places of the sample the cells of a picture of so many columns come from.
+fn assert_sources(rt: &impl Abort, canvas: &Canvas, w: u32, sources: &[(i32, i32)]) {
+    let map = canvas.map();
+    assert!(rt; w >= 1 && w < 100);
+    'cells: for (i, place) in sources.iter().enumerate() {
+        assert!(rt; i < 100);
+        let at = At {
+            x: i as i32 % w as i32,
+            y: i as i32 / w as i32,
+            f: 0,
+        };
         assert!(rt;
-            source
-                == Some(At {
-                    x: place.0,
-                    y: place.1,
-                    f: 0
-                }),
+            map.at(at).map(|at| (at.x, at.y)) == Some(*place),
             "cell {i}"
         );
+    }
+}
+
+fn assert_case(rt: &impl Abort, alloc: Global, case: &Case) -> Result<(), AllocError> {
+    let target = picture(rt, alloc, case.target)?;
+    let quilted = transferred(rt, alloc, case, &target)?;
+    assert!(rt; quilted.blocks.as_slice().len() == case.blocks);
+    assert!(rt; quilted.boundaries == case.boundaries);
+    assert!(rt; quilted.cost == case.cost);
+    let (made, wanted) = (quilted.canvas.picture().bytes(), target.bytes());
+    assert!(rt; made.len() == wanted.len() && made.len() < 1000);
+    assert!(rt; ssd(made, wanted) == case.matched);
+    assert_sources(rt, &quilted.canvas, target.size().w, case.sources);
+    Ok(())
+}
+
+fn assert_cases(rt: &impl Abort, alloc: Global) -> Result<(), AllocError> {
+    'cases: for case in CASES {
+        assert_case(rt, alloc, case)?;
     }
     Ok(())
 }
 
 #[test]
-fn worked_values(rt: HostRuntime) -> Result<(), Fail> {
-    let alloc = rt.alloc();
-    'cases: for case in CASES {
-        expect(&rt, alloc, case)?;
-    }
-    Ok(())
+fn worked_values(rt: HostRuntime) {
+    expect_done(&rt, assert_cases(&rt, rt.alloc()));
 }

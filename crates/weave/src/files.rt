@@ -1,6 +1,6 @@
 // One file that is read and one that is written, each kept open from call to call.
-ghost use Rattle.std.specs.Prelude.{◌≤◌, length, IfOk, OnOk, min};
-ghost use Rattle.weave.specs.Nodes.{IsBegun};
+ghost use Rattle.std.specs.Prelude.{◌≤◌, true, length, IfOk, OnOk, min};
+ghost use Rattle.weave.specs.Nodes.{Adds, IsBegun};
 
 use crate::nodes::Known;
 use crate::pieces::{read_full, write_all_of};
@@ -197,6 +197,28 @@ impl Target {
         })
     }
 
+    // Takes an open file with its metadata as the one begun: it drops all bytes, unless the file was known.
+    fn take(
+        &mut self,
+        name: &str,
+        file: File,
+        metadata: &Metadata,
+        known: &mut Known,
+    ) -> Result<(), Failed>
+        ensures { OnOk result (Adds metadata.now true known.old known.new) }
+    {
+        let Ok(true) = known.add(&file, metadata) else {
+            return Err(Failed);
+        };
+        let Ok(()) = cut_to_nothing(&file, metadata) else {
+            return Err(Failed);
+        };
+        let Ok(()) = self.opened.keep(name, file) else {
+            return Err(Failed);
+        };
+        Ok(())
+    }
+
     /// Makes a file present and empty, and keeps it open; it is known from then on. A file that is
     /// known is refused and stays as it is, by whatever name it is reached. Whether it is known is asked
     /// of what was opened, before a byte of that is dropped: a name that is given to another file
@@ -211,16 +233,7 @@ impl Target {
         let Ok(metadata) = file.metadata() else {
             return Err(Failed);
         };
-        let Ok(true) = known.add(&file, &metadata) else {
-            return Err(Failed);
-        };
-        let Ok(()) = cut_to_nothing(&file, &metadata) else {
-            return Err(Failed);
-        };
-        let Ok(()) = self.opened.keep(name, file) else {
-            return Err(Failed);
-        };
-        Ok(())
+        self.take(name, file, &metadata, known)
     }
 
     // Opens a file that isn't the one begun last, to add to it.

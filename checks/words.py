@@ -6,13 +6,14 @@
 
 Prints each place with what is wrong there, and how many there are; ends with 1 where there are any. Fenced code is
 held against the length of lines alone. A code span counts as one word, and its text isn't looked at. A cell of a
-table, an item of a list and a heading end a sentence as a full stop does. The page of a crate, but of one of tests,
-has 60 lines at most, and says what the crate doesn't promise. README.md has 120 lines at most."""
+table, an item of a list and a heading end a sentence as a full stop does. The page of a crate has 30 to 60 lines,
+and says what the crate doesn't promise. README.md has 120 lines at most."""
 import pathlib
 import re
 import sys
 
-MOST_COLUMNS, MOST_WORDS, MOST_LINES, MOST_OF_README = 99, 29, 60, 120
+MOST_COLUMNS, MOST_WORDS, MOST_OF_README = 99, 29, 120
+LEAST_LINES, MOST_LINES = 30, 60
 ROOT = pathlib.Path(__file__).resolve().parent.parent
 UNPROMISED = "## What it doesn't promise"
 
@@ -87,11 +88,11 @@ def blocks(lines):
 
 
 def faults_of_page(path, lines):
-    """Whether README or the page of a crate is too long, or the latter lacks a part."""
+    """Whether README or the page of a crate has too many lines or too few, or the latter lacks a part."""
     if path == ROOT / "README.md" and len(lines) > MOST_OF_README + 1:
         yield 1, f"page of {len(lines) - 1} lines"
-    if path.parent.parent.name == "crates" and not path.parent.name.startswith("test_"):
-        if len(lines) > MOST_LINES + 1:
+    if path.parent.parent.name == "crates":
+        if not LEAST_LINES <= len(lines) - 1 <= MOST_LINES:
             yield 1, f"page of {len(lines) - 1} lines"
         if UNPROMISED not in lines:
             yield 1, f"no part '{UNPROMISED}'"

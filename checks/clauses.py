@@ -4,11 +4,13 @@
     python3 checks/clauses.py
 
 In docs/TRUST.md and README.md each name in brackets that isn't a file or a script has to be a clause of `run`, or a
-public function; and so has each name after "proved:" in the other documents. In the list of crates of docs/DESIGN.md,
+public function; and so has each name after "proved:" in the other documents. In docs/PROMISES.md each name after
+"Clause" has to be a clause of `run`, and each in brackets too, or a definition of the crate that it names. In the list of crates of docs/DESIGN.md,
 and after the promises of crates/*/README.md, `call`: `clause`, `clause` has to be a function of that crate with such
 clauses. In the tables of docs/FORMATS.md each name in a column of definitions has to be one of specs/, and each in one
-of constants has to be a constant. Each edit and each test of docs/WRONG_BODIES.md has to be there. Whether a sentence says what its clause says, no script sees. Ends with 1 where a name
-isn't there."""
+of constants has to be a constant. Each edit and each test of docs/WRONG_BODIES.md has to be there. The page of a crate
+of tests has to name each of its modules, and no other. Whether a sentence says what its clause says, no script sees.
+Ends with 1 where a name isn't there."""
 import pathlib
 import re
 import sys
@@ -89,10 +91,39 @@ def faults_of_rows(text):
                     yield f"docs/WRONG_BODIES.md: {crate} has no test {module}::{name}"
 
 
+def faults_of_promises(text, run):
+    """Of docs/PROMISES.md: names of clauses and of definitions that aren't there."""
+    named = re.findall(r"\bClause\s+`(\w+)`", text)
+    for group in re.findall(r"\(([^()]*`[^()]*)\)", text):
+        for name, crate in re.findall(r"`([A-Za-z]\w*)`(?:\s+in\s+(\w+))?", group):
+            specs = "\n".join(path.read_text() for path in ROOT.glob(f"crates/{crate or '*'}/specs/*.antt"))
+            if name in ("out", "err"):
+                continue
+            if name[0].islower() and not crate and not (ROOT / "crates" / name).exists():
+                named.append(name)
+            elif (crate or name[0].isupper()) and not re.search(rf"\bpub (?:record )?{name}\b", specs):
+                yield f"docs/PROMISES.md: there is no definition {name} in {crate or 'any crate'}"
+    for name in named:
+        if name not in run:
+            yield f"docs/PROMISES.md: there is no clause {name} of run"
+
+
+def faults_of_tests(crate, text):
+    """Of the page of a crate of tests: modules that it doesn't name, and names that are none."""
+    heads = re.findall(r"^- ((?:`\w+`(?:,\s+)?)+):", text, re.M)
+    named = {name for head in heads for name in SPAN.findall(head)}
+    there = {path.stem for path in (ROOT / "crates" / crate / "src").glob("*.rt")} - {"lib", "expect"}
+    for module in sorted(there - named):
+        yield f"{crate}: the page doesn't name {module}"
+    for module in sorted(named - there - {"expect"}):
+        yield f"{crate}: there is no module {module}"
+
+
 def main():
     faults = list(faults_of_tables((ROOT / "docs/FORMATS.md").read_text()))
     faults += faults_of_rows((ROOT / "docs/WRONG_BODIES.md").read_text())
     run = contracts("weave_engine")["run"]
+    faults += faults_of_promises((ROOT / "docs/PROMISES.md").read_text(), run)
     public = "\n".join(text for crate in sorted((ROOT / "crates").iterdir()) for text in sources(crate.name))
     for document in ("docs/TRUST.md", "README.md"):
         for group in re.findall(r"\(([^()]*`[^()]*)\)", (ROOT / document).read_text()):
@@ -120,6 +151,8 @@ def main():
             faults.append(f"docs/DESIGN.md: the list of crates has no {crate}")
         readme = ROOT / "crates" / crate / "README.md"
         faults += faults_of_pairs(readme.relative_to(ROOT), readme.read_text(), crate)
+        if crate.startswith("test_"):
+            faults += faults_of_tests(crate, readme.read_text())
     print(*faults, f"{len(faults)} names aren't there", sep="\n")
     return 1 if faults else 0
 

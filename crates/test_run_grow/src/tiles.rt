@@ -1,4 +1,4 @@
-// Six copies of one cell, by each way to place them.
+// Six copies of one cell, by each way to place them, and one copy of four cells.
 use crate::expect::expect_none;
 use test_stage::{Case, Failing, NO_CELL, ONE_CELL, SIX_CELLS, wrong_case};
 
@@ -38,8 +38,33 @@ const SIX: Case<'static> = Case {
     record: RECORD,
 };
 
+// The first two cells have the same bytes; the map names each.
+const EQUAL_CELLS: &[u8] = b"P6\n4 1\n255\n\x0a\x0a\x0a\x0a\x0a\x0a\x1e\x1e\x1e\x28\x28\x28";
+
+const EACH_MAP: &[u8] = b"WEAVEMAP\x01\x00\
+\x00\x00\x00\x04\x00\x00\x00\x01\x00\x00\x00\x01\
+\x00\x00\x00\x04\x00\x00\x00\x01\x00\x00\x00\x01\
+\x00\x00\x00\x00\x00\x00\x00\x01\x00\x00\x00\x00\
+\x00\x02\x00\x00\x00\x00\x00\x03\x00\x00\x00\x00";
+
+const EACH_RECORD: &[u8] = b"WEAVEREC\x01\x00\
+\x00\x00\x00\x04\x00\x00\x00\x01\x00\x00\x00\x01\
+\x00\x00\x00\x04\x00\x00\x00\x01\x00\x00\x00\x01\
+\x00\x00\x00\x01\
+\x00\x00\x00\x00\x00\x00\x00\x04\x00\x01\x00\x01\x00\x00\x00\x00\x00\x00\xf0\
+\x00\x00\x00\x00\x00\x00\x00\x00\x00\x00\x00\x00";
+
 const CASES: &[Case<'static>] = &[
     SIX,
+    Case {
+        words: "grow sample=s out=o map=m record=r width=4 height=1 place=grid overlap=0",
+        sample: EQUAL_CELLS,
+        report: "grow 4x1x1\nplacements 1\nrounds 0\nseams 0\n",
+        picture: EQUAL_CELLS,
+        map: EACH_MAP,
+        record: EACH_RECORD,
+        ..SIX
+    },
     Case {
         sample: b"P6\n# one cell\n1 1\n255\n\x07\x08\x09",
         ..SIX

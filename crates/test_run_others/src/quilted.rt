@@ -26,8 +26,16 @@ const ONE: Case<'static> = Case {
     ..TWO
 };
 
+// The first two cells have the same bytes; the map names each.
+const EQUAL_CELLS: &[u8] = b"P6\n4 1\n255\n\x0a\x0a\x0a\x0a\x0a\x0a\x1e\x1e\x1e\x28\x28\x28";
+
 const QUILTED: &[Case<'static>] = &[
     ONE,
+    Case {
+        sample: EQUAL_CELLS,
+        picture: EQUAL_CELLS,
+        ..ONE
+    },
     TWO,
     SQUARE,
     Case {

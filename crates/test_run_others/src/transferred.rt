@@ -117,7 +117,32 @@ const FOUR: Case<'static> = Case {
     ..TWO
 };
 
+// A target that is the sample. Its first two cells have the same bytes; the map names each.
+const EQUAL_CELLS: &[u8] = b"P6\n4 1\n255\n\x0a\x0a\x0a\x0a\x0a\x0a\x1e\x1e\x1e\x28\x28\x28";
+
+const EACH_MAP: &[u8] = b"WEAVEMAP\x01\x00\
+\x00\x00\x00\x04\x00\x00\x00\x01\x00\x00\x00\x01\
+\x00\x00\x00\x04\x00\x00\x00\x01\x00\x00\x00\x01\
+\x00\x00\x00\x00\x00\x00\x00\x01\x00\x00\x00\x00\
+\x00\x02\x00\x00\x00\x00\x00\x03\x00\x00\x00\x00";
+
+const WHOLE_RECORD: &[u8] = b"WEAVEREC\x01\x01\
+\x00\x00\x00\x04\x00\x00\x00\x01\x00\x00\x00\x01\
+\x00\x00\x00\x04\x00\x00\x00\x01\x00\x00\x00\x01\
+\x00\x00\x00\x01\
+\x00\x00\x00\x00\x00\x04\x00\x01\x00\x00\x00\x00\x00";
+
 const TRANSFERRED: &[Case<'static>] = &[
+    Case {
+        words: "transfer sample=s target=t out=o map=m record=r block=4 overlap=0 alpha=0 tol=0",
+        sample: EQUAL_CELLS,
+        second: EQUAL_CELLS,
+        report: "transfer 4x1x1\nblocks 1\nboundaries 0\ncost 0\nmatch 0\n",
+        picture: EQUAL_CELLS,
+        map: EACH_MAP,
+        record: WHOLE_RECORD,
+        ..TWO
+    },
     Case {
         words: "transfer sample=s target=t out=o map=m record=r block=2 overlap=0 alpha=0 tol=0",
         second: PAIR,

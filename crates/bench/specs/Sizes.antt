@@ -1,6 +1,6 @@
 -- What can be grown. A reader need not trust this file: it says which cases the program has. (Own.)
 use Rattle.cells.specs.Places.{IsSmall}
-use Rattle.patch_place.specs.Fitting.{HasPatch}
+use Rattle.patch_picks.specs.Fitting.{HasPatch}
 use Rattle.bench.specs.declared.growths.GrowthCase.{GrowthCase}
 
 -- sample and output are volumes of one frame, and a patch has a cell

@@ -1,6 +1,6 @@
 // The cases, by their names.
 ghost use Rattle.cells.specs.Places.{IsSmall};
-ghost use Rattle.patch_place.specs.Fitting.{HasPatch};
+ghost use Rattle.patch_picks.specs.Fitting.{HasPatch};
 ghost use Rattle.bench.specs.Sizes.{IsGrowthCase};
 
 use crate::boundaries::least_boundaries;
@@ -12,7 +12,7 @@ use crate::networks::{solve_combs, solve_drawn, solve_grids, solve_ladders, solv
 use crate::quilts::{quilt_often, transfer_often};
 use crate::record_files::{Way, cuts_of, move_records, strip_of};
 use crate::samples::Texture;
-use patch_place::Mode;
+use patch_picks::Mode;
 use std::alloc::{AllocError, Global};
 
 /// What is run.

@@ -1,7 +1,7 @@
 // Growths, and checks of their records.
 ghost use Rattle.std.specs.Prelude.{◌≤◌, All, IfOk};
 ghost use Rattle.cells.specs.Places.{IsSmall};
-ghost use Rattle.patch_place.specs.Fitting.{HasPatch};
+ghost use Rattle.patch_picks.specs.Fitting.{HasPatch};
 ghost use Rattle.cut_replay.specs.Replay.{IsFormed};
 ghost use Rattle.bench.specs.Sizes.{IsGrowthCase};
 
@@ -10,7 +10,7 @@ use cells::{Size, Volume};
 use cut_replay::replay_cuts;
 use grow_run::{GrowPlan, Grown, grow_canvas};
 use map_canvas::Canvas;
-use patch_place::Mode;
+use patch_picks::Mode;
 use std::alloc::{AllocError, Global};
 
 /// A growth: the texture and the side of its sample, and what is grown of it.

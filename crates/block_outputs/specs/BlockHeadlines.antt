@@ -10,7 +10,7 @@ use Rattle.netpbm_p6.specs.Pictures.{IsRead, p6_form}
 use Rattle.map_canvas.specs.Maps.{SourceMap, IsFull, IsMap, IsOver, empty_map, map_at, picture_of}
 use Rattle.source_map.specs.MapFiles.{cell_map_form}
 use Rattle.source_map.specs.declared.head.Version.TheVariants.{One}
-use Rattle.patch_place.specs.Draws.{DrawState}
+use Rattle.patch_picks.specs.Draws.{DrawState}
 use Rattle.block_check.specs.declared.block.BlockRecord.{BlockRecord}
 use Rattle.quilt.specs.Runs.{IsQuilted, Rating, quilting}
 use Rattle.quilt_run.specs.declared.asked.QuiltRun.{QuiltRun}

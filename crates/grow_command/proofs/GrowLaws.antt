@@ -11,7 +11,7 @@ use Rattle.cut_replay.specs.Replay.{EachOver}
 use Rattle.grow_run.specs.declared.plan.GrowPlan.{GrowPlan}
 use Rattle.grow_run.specs.declared.plan.Grown.{Grown}
 use Rattle.grow_run.specs.Grown.{Growth as Growing, GrowsBy, first_growth}
-use Rattle.grow_run.specs.Runs.{Leads}
+use Rattle.patch_picks.specs.Runs.{Leads}
 use Rattle.grow_run.proofs.Nexts.{stays_map}
 use Rattle.grow_run.proofs.Raising.{none_raises}
 use Rattle.grow_run.proofs.Splitting.{starts}

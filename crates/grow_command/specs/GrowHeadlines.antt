@@ -7,7 +7,7 @@ use Rattle.cells.specs.Cells.{Cells, IsOnePart, IsVolume, cell_at, sizes_of}
 use Rattle.shelf_core.specs.Files.{Files, ShelfState, SinkState, Changes, content_of}
 use Rattle.map_canvas.specs.Choices.{map_after}
 use Rattle.map_canvas.specs.Maps.{SourceMap, IsFull, IsMap, IsOver, empty_map, map_at, picture_of}
-use Rattle.patch_place.specs.Draws.{DrawState}
+use Rattle.patch_picks.specs.Draws.{DrawState}
 use Rattle.cut_check.specs.declared.record.CutRecord.{CutRecord}
 use Rattle.graph_place.specs.Placed.{map_total}
 use Rattle.cut_replay.specs.Replay.{EachLeast, EachOver, EachStands, KeepsFixed, left_by}

@@ -11,8 +11,8 @@ use Rattle.source_map.specs.declared.head.Head.{Head}
 use Rattle.source_map.specs.declared.head.Version.{Version}
 use Rattle.turned.specs.declared.turn.TheConstants.{TURNS}
 use Rattle.graph_place.specs.Placed.{map_total}
-use Rattle.patch_place.specs.declared.mode.Mode.{Mode}
-use Rattle.patch_place.specs.declared.mode.Mode.TheVariants as mode
+use Rattle.patch_picks.specs.declared.mode.Mode.{Mode}
+use Rattle.patch_picks.specs.declared.mode.Mode.TheVariants as mode
 use Rattle.grow_run.specs.declared.plan.GrowPlan.{GrowPlan}
 use Rattle.grow_run.specs.declared.plan.Grown.{Grown}
 use Rattle.grow_run.specs.declared.plan.GrowError.{GrowError}

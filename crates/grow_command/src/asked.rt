@@ -5,7 +5,7 @@ ghost use Rattle.grow_command.specs.Growths.{fault_of_growing, mode_for};
 use grow_run::GrowError;
 use job_words::Place;
 use limits::MOST_BOX_CELLS;
-use patch_place::Mode;
+use patch_picks::Mode;
 use shelf_core::What;
 use synth_report::Fault;
 

@@ -8,8 +8,8 @@ use Rattle.map_canvas.specs.declared.canvas.Placement.{Placement}
 use Rattle.map_canvas.specs.Choices.{Fits}
 use Rattle.map_canvas.specs.Maps.{IsMap, first_unfilled}
 use Rattle.map_canvas.proofs.Unfilled.{full_is_whole}
-use Rattle.patch_place.specs.Steps.{draws_after}
-use Rattle.patch_place.proofs.OnePick.{one_next}
+use Rattle.patch_picks.specs.Steps.{draws_after}
+use Rattle.patch_picks.proofs.OnePick.{one_next}
 use Rattle.cut_check.specs.declared.record.CutRecord.{CutRecord}
 use Rattle.refine_seams.proofs.OneRound.{none_idle, one_round}
 use Rattle.map_canvas.proofs.MapsAfter.{after_is_map}

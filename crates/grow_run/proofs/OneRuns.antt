@@ -14,7 +14,7 @@ use Rattle.limits.specs.declared.bounds.TheConstants.{MOST_BOX_CELLS}
 use Rattle.grow_run.specs.declared.plan.GrowPlan.{GrowPlan}
 use Rattle.grow_run.specs.Grown.{ComesNext, Growth, GrowsBy, IsDone, first_growth}
 use Rattle.grow_run.specs.OneRun.{EndsWithin, IsSameRun, OneLimit, OneRun, SameButFlows}
-use Rattle.grow_run.specs.Runs.{Leads}
+use Rattle.patch_picks.specs.Runs.{Leads}
 use Rattle.grow_run.proofs.Nexts.{next_fits, next_is_one, none_at_end, stays_map}
 use Rattle.grow_run.proofs.Splitting.{starts}
 

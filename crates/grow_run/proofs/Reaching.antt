@@ -22,7 +22,7 @@ use Rattle.map_canvas.proofs.EmptyAndFull.{map_at-empty}
 use Rattle.map_canvas.proofs.Fronts.{front_here, front_reaches}
 use Rattle.map_canvas.proofs.MapsAfter.{after_is_map}
 use Rattle.costs.specs.Lawful.{IsLawful}
-use Rattle.patch_place.specs.Fitting.{HasPatch}
+use Rattle.patch_picks.specs.Fitting.{HasPatch}
 use Rattle.cut_check.specs.declared.record.CutRecord.{CutRecord}
 use Rattle.cut_check.specs.Records.{box_cells}
 use Rattle.cut_replay.proofs.RunLaws.{cells_more}

@@ -16,7 +16,7 @@ use Rattle.cut_replay.specs.Replay.{EachOver, left_by}
 use Rattle.grow_run.specs.declared.plan.GrowPlan.{GrowPlan}
 use Rattle.grow_run.specs.Grown.{Growth, GrowsBy, first_growth, rounds_made}
 use Rattle.grow_run.specs.OneRun.{RoundsFollow}
-use Rattle.grow_run.specs.Runs.{Leads}
+use Rattle.patch_picks.specs.Runs.{Leads}
 use Rattle.grow_run.proofs.Nexts.{next_fits, stays_map}
 
 abbrev IsUnfilled : SourceMap → CutRecord → Type 0

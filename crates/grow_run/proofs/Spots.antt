@@ -9,7 +9,7 @@ use Rattle.cells.specs.Places.{HasAxes, cell_count, index_in, minus, place_of, s
 use Rattle.cells.proofs.BoxTests.{inside_of, of_inside, on_axis_bounds, on_axis_some}
 use Rattle.cells.proofs.Raster.{index_parts, place_at}
 use Rattle.spans.specs.declared.axis.Span.{Span}
-use Rattle.patch_place.specs.Lists.{placed}
+use Rattle.patch_picks.specs.Lists.{placed}
 
 -- which places the box of three spans has
 pub record IsAmong (x y f : Span) (a b c : ℕ) : Type 0 where

@@ -13,7 +13,7 @@ use Rattle.map_canvas.specs.Canvases.{CanvasState, IsCanvas, StandsOver, empty_c
 use Rattle.map_canvas.specs.Choices.{box_count, map_after}
 use Rattle.map_canvas.specs.Maps.{empty_map, first_unfilled}
 use Rattle.boxes.specs.Pairs.{pair_count}
-use Rattle.patch_place.specs.Steps.{IsNextAt, draws_after}
+use Rattle.patch_picks.specs.Steps.{IsNextAt, draws_after}
 use Rattle.cut_check.specs.declared.record.CutRecord.{CutRecord}
 use Rattle.cut_check.specs.Records.{CutStands, box_cells, setting}
 use Rattle.graph_place.specs.Fewest.{IsFewestHeld}
@@ -25,7 +25,7 @@ use Rattle.cut_replay.proofs.RunLaws.{cells_more, each_more, left_more}
 use Rattle.grow_run.specs.declared.plan.GrowPlan.{GrowPlan}
 use Rattle.grow_run.specs.declared.steps.Work.{Work}
 use Rattle.grow_run.specs.Grown.{ComesNext, ComesNextFor, Growth, GrowsBy, IsRun, PassesAt, draws_left, first_growth, rounds_made}
-use Rattle.grow_run.specs.Runs.{Leads}
+use Rattle.patch_picks.specs.Runs.{Leads}
 use Rattle.grow_run.specs.Work.{IsWork, growth_of}
 
 pub leads_more : {S A : Type 0} (Step : S → A → S → Type 0) (s : S) (list : List A) (t : S) (a : A) (u : S) → Leads Step s list t → Step t a u → Leads Step s (list ++ a ∷ []) u

@@ -9,9 +9,9 @@ use Rattle.cells.specs.Boxes.{IsInBox}
 use Rattle.cells.specs.Cells.{Cells}
 use Rattle.cells.specs.Firsts.{IsFirstWithout}
 use Rattle.cells.specs.Places.{cell_count, place_of}
-use Rattle.patch_place.specs.declared.mode.Mode.{Mode}
-use Rattle.patch_place.specs.declared.mode.Mode.TheVariants.{Grid, Random, Whole, Sub}
-use Rattle.patch_place.specs.Modes.{grid_placement, patch_box}
+use Rattle.patch_picks.specs.declared.mode.Mode.{Mode}
+use Rattle.patch_picks.specs.declared.mode.Mode.TheVariants.{Grid, Random, Whole, Sub}
+use Rattle.patch_picks.specs.Modes.{grid_placement, patch_box}
 use Rattle.limits.specs.declared.bounds.TheConstants.{MOST_BOX_CELLS}
 use Rattle.grow_run.specs.declared.plan.GrowPlan.{GrowPlan}
 use Rattle.grow_run.specs.Grown.{PassesAt}

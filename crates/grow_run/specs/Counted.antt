@@ -9,7 +9,7 @@ use Rattle.cells.specs.Places.{spot}
 use Rattle.spans.specs.declared.axis.Span.{Span}
 use Rattle.spans.specs.Axes.{grid_on, patch_corner}
 use Rattle.limits.specs.declared.bounds.TheConstants.{GREATEST_AXIS}
-use Rattle.patch_place.specs.Lists.{placed}
+use Rattle.patch_picks.specs.Lists.{placed}
 use Rattle.grow_run.specs.declared.limit.Kind.{Kind}
 use Rattle.grow_run.specs.declared.limit.Kind.TheVariants.{Copies, Patches}
 use Rattle.grow_run.specs.declared.limit.Boxes.{Boxes}

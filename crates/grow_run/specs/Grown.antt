@@ -11,8 +11,8 @@ use Rattle.map_canvas.specs.declared.canvas.Placement.{Placement}
 use Rattle.map_canvas.specs.Canvases.{IsCanvas, StandsOver}
 use Rattle.map_canvas.specs.Choices.{box_count, map_after}
 use Rattle.map_canvas.specs.Maps.{IsFull, SourceMap, empty_map, first_unfilled}
-use Rattle.patch_place.specs.Draws.{DrawState}
-use Rattle.patch_place.specs.Steps.{IsNextAt, after_draw, draws_after}
+use Rattle.patch_picks.specs.Draws.{DrawState}
+use Rattle.patch_picks.specs.Steps.{IsNextAt, after_draw, draws_after}
 use Rattle.cut_check.specs.declared.record.CutRecord.{CutRecord}
 use Rattle.cut_check.specs.Records.{box_cells}
 use Rattle.graph_place.specs.Fewest.{IsFewestHeld}
@@ -23,7 +23,7 @@ use Rattle.grow_run.specs.declared.plan.GrowPlan.{GrowPlan}
 use Rattle.grow_run.specs.declared.plan.Grown.{Grown}
 use Rattle.grow_run.specs.declared.plan.GrowError.{GrowError}
 use Rattle.grow_run.specs.declared.plan.GrowError.TheVariants.{Records, NoMemory}
-use Rattle.grow_run.specs.Runs.{Leads}
+use Rattle.patch_picks.specs.Runs.{Leads}
 
 -- the map, the next draw, and how many rounds have been made
 pub record Growth : Type 0 where

@@ -1,4 +1,3 @@
-pub mod Runs
 pub mod Grown
 pub mod OneRun
 pub mod BoxLimit

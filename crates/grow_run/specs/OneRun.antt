@@ -10,7 +10,7 @@ use Rattle.graph_place.specs.Placed.{map_total}
 use Rattle.limits.specs.declared.bounds.TheConstants.{MOST_BOX_CELLS}
 use Rattle.grow_run.specs.declared.plan.GrowPlan.{GrowPlan}
 use Rattle.grow_run.specs.Grown.{Growth, GrowsBy, IsDone, IsRun, IsSplit, PassesAt}
-use Rattle.grow_run.specs.Runs.{Leads}
+use Rattle.patch_picks.specs.Runs.{Leads}
 
 -- the same but for the flows, which the definition of a run leaves free
 pub record SameButFlows (one other : CutRecord) : Type 0 where

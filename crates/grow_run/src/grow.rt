@@ -3,7 +3,7 @@ ghost use Rattle.std.specs.Prelude.{◌≤◌, IfErr};
 ghost use Rattle.cells.specs.Places.{IsSmall};
 ghost use Rattle.map_canvas.specs.Maps.{IsFull};
 ghost use Rattle.search_squares.specs.Eliminations.{AreSampleSums};
-ghost use Rattle.patch_place.specs.Fitting.{HasPatch};
+ghost use Rattle.patch_picks.specs.Fitting.{HasPatch};
 ghost use Rattle.grow_run.specs.Grown.{Grows, IsGrowFault};
 ghost use Rattle.grow_run.specs.Work.{Ends, IsWork, LaysGrowth};
 
@@ -12,7 +12,7 @@ use crate::plan::{GrowError, GrowPlan, Grown};
 use crate::steps::{Work, begin, refine_step, step};
 use cells::Volume;
 use items::Items;
-use patch_place::Mode;
+use patch_picks::Mode;
 use refine_seams::round_windows;
 use search_squares::SampleSums;
 use std::alloc::Global;

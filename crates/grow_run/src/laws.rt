@@ -1,7 +1,7 @@
 // What the definitions mean.
 ghost use Rattle.std.specs.Prelude.{◌≤◌};
 ghost use Rattle.cells.specs.Places.{IsSmall};
-ghost use Rattle.patch_place.specs.Fitting.{HasPatch};
+ghost use Rattle.patch_picks.specs.Fitting.{HasPatch};
 ghost use Rattle.grow_run.specs.BoxLimit.{RunPassesThere};
 ghost use Rattle.grow_run.specs.OneRun.{EndsWithin, NoneRaise, NoneRaises, OneLimit, OneRun, RoundsFollow};
 

@@ -4,15 +4,15 @@ ghost use Rattle.cells.specs.declared.place.At.{At};
 ghost use Rattle.cells.specs.declared.place.Box3.{Box3};
 ghost use Rattle.cells.specs.Places.{HasAxes, IsSmall, cell_count};
 ghost use Rattle.spans.specs.Axes.{SpanFits};
-ghost use Rattle.patch_place.specs.Fitting.{HasPatch};
-ghost use Rattle.patch_place.specs.Lists.{placed};
+ghost use Rattle.patch_picks.specs.Fitting.{HasPatch};
+ghost use Rattle.patch_picks.specs.Lists.{placed};
 ghost use Rattle.grow_run.specs.BoxLimit.{IsFirstPast, PlanIsFirstPast};
 ghost use Rattle.grow_run.specs.Counted.{AreBoxes, AreBoxesOf, HasLen, HasLens, span_on};
 
 use crate::plan::GrowPlan;
 use cells::{Size, Volume};
 use limits::{GREATEST_AXIS, MOST_BOX_CELLS};
-use patch_place::{Mode, window_size};
+use patch_picks::{Mode, window_size};
 use spans::{Span, grid_on, patch_corner};
 
 // How boxes lie along an axis.

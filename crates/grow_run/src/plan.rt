@@ -3,7 +3,7 @@ use cells::Size;
 use cut_check::CutRecord;
 use items::Items;
 use map_canvas::Canvas;
-use patch_place::Mode;
+use patch_picks::Mode;
 use std::alloc::AllocError;
 
 /// How an output is grown and refined.

@@ -2,7 +2,7 @@
 ghost use Rattle.std.specs.Prelude.{◌≡◌, ◌≤◌, ◌<◌, IfOk};
 ghost use Rattle.cells.specs.Places.{IsSmall};
 ghost use Rattle.search_squares.specs.Eliminations.{AreSampleSums};
-ghost use Rattle.patch_place.specs.Fitting.{HasPatch};
+ghost use Rattle.patch_picks.specs.Fitting.{HasPatch};
 ghost use Rattle.grow_run.specs.Work.{Advances, IsRefining, IsWork, Refines};
 
 use crate::plan::{GrowError, GrowPlan};
@@ -12,7 +12,8 @@ use cut_check::CutRecord;
 use graph_place::place;
 use limits::MOST_BOX_CELLS;
 use map_canvas::Canvas;
-use patch_place::{Draws, next_placement_with};
+use patch_picks::Draws;
+use patch_place::next_placement_with;
 use refine_seams::round_with;
 use search_squares::SampleSums;
 use std::alloc::{AllocError, Global};

@@ -12,11 +12,11 @@ use Rattle.cells.specs.Cells.{Cells}
 use Rattle.map_canvas.specs.declared.canvas.Placement.{Placement}
 use Rattle.patch_place.specs.declared.shortlist.Shortlist.{Shortlist}
 use Rattle.patch_place.specs.BoxErrors.{AreCounted, box_list}
-use Rattle.patch_place.specs.Draws.{DrawState}
+use Rattle.patch_picks.specs.Draws.{DrawState}
 use Rattle.patch_place.specs.Tables.{AreErrorsAmong, AreTableErrors, IsBeaten, IsFilledLow, IsHeld, IsPickAt, IsPickOf, IsShortOf, IsShortlistOf, IsUnfilled, StandsForError, rivals}
-use Rattle.patch_place.proofs.Bests.{far_from_better, within_itself}
-use Rattle.patch_place.proofs.BoxLists.{Contains-map, each_held}
-use Rattle.patch_place.proofs.Counting.{AllZip-right, AllZip-weaker, Contains-slice_get, slice_get-Contains}
+use Rattle.patch_picks.proofs.Bests.{far_from_better, within_itself}
+use Rattle.patch_picks.proofs.BoxLists.{Contains-map, each_held}
+use Rattle.patch_picks.proofs.Counting.{AllZip-right, AllZip-weaker, Contains-slice_get, slice_get-Contains}
 use Rattle.patch_place.proofs.Picking.{pick_from_table}
 
 -- who beats an error: the known one, or an entry of the table

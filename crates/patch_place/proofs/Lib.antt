@@ -1,16 +1,8 @@
-pub mod Parts
 pub mod Walking
-pub mod Stocks
-pub mod Fitting
-pub mod BoxLists
-pub mod Bests
-pub mod Counting
 pub mod Picking
 pub mod Stepping
 pub mod Limits
 pub mod Known
 pub mod Shortlists
-pub mod PartLists
 pub mod BoxWalk
-pub mod OnePick
 pub mod Passing

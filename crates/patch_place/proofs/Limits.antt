@@ -1,5 +1,5 @@
 -- Tables that stand for errors: one more entry, and lists of one box.
-use Rattle.std.proofs.Common.{◌≡◌, ℕ, ◌<◌, List, [], ◌∷◌, ◌++◌, length, map, sym, subst, ap, ◌∙◌, inl, inr, refl}
+use Rattle.std.proofs.Common.{◌≡◌, ℕ, ◌<◌, List, [], ◌∷◌, ◌++◌, length, map, sym, subst, ◌∙◌, inl, inr, refl}
 use Rattle.std.proofs.lemmas.List.Elements.{All-map, AllZip-push, Contains-append_left}
 use Rattle.std.specs.Prelude.{◌⊎◌, All, Some, slice_get}
 use Rattle.match_error.specs.declared.error.Error.{Error}
@@ -11,12 +11,12 @@ use Rattle.map_canvas.specs.declared.canvas.Placement.{Placement}
 use Rattle.map_canvas.specs.Canvases.{CanvasState}
 use Rattle.map_canvas.specs.Choices.{Fits, laid_from}
 use Rattle.patch_place.specs.BoxErrors.{AreCounted}
-use Rattle.patch_place.specs.Lists.{fit_list, from_part, part_lists, room}
+use Rattle.patch_picks.specs.Lists.{fit_list, from_part, part_lists, room}
 use Rattle.patch_place.specs.declared.overlaps.Overlaps.{Overlaps}
 use Rattle.patch_place.specs.Overlaps.{IsOverlap}
 use Rattle.patch_place.specs.Tables.{AreErrorsAmong, AreTableErrors, IsBeaten, IsUnfilled, StandsForError}
-use Rattle.patch_place.proofs.Counting.{All-each, All-slice_get, AllZip-same, AllZip-weaker, first_at}
-use Rattle.patch_place.proofs.Fitting.{all_over, over_parts}
+use Rattle.patch_picks.proofs.Counting.{All-each, All-slice_get, AllZip-same, AllZip-weaker, first_at}
+use Rattle.patch_picks.proofs.Fitting.{all_over, over_parts}
 
 still_beaten : (tol : ℕ) (table : List Error) (entry error : Error) → IsBeaten tol table error → IsBeaten tol (table ++ entry ∷ []) error
 still_beaten tol table entry error is = record {

@@ -1,5 +1,5 @@
 -- Many candidates that a walk passes over at once.
-use Rattle.std.proofs.Common.{◌≡◌, ℕ, zero, suc, ◌+◌, ◌^◌, ◌<◌, ◌≤◌, List, [], ◌∷◌, ◌++◌, map, take, ap, refl, sym, subst, ◌∙◌, arith}
+use Rattle.std.proofs.Common.{◌≡◌, ℕ, zero, suc, ◌+◌, ◌<◌, ◌≤◌, List, ◌++◌, map, take, ap, refl, sym, subst, ◌∙◌, arith}
 use Rattle.std.proofs.lemmas.Int.{ints}
 use Rattle.std.specs.Prelude.{ℤ, pos, ◌+ℤ◌, All, Some, slice_get}
 use Rattle.search_squares.specs.Bounds.{place_along}
@@ -13,14 +13,14 @@ use Rattle.cells.specs.SizeLists.{frames_to_part}
 use Rattle.map_canvas.specs.declared.canvas.Placement.{Placement}
 use Rattle.map_canvas.specs.Choices.{laid_from}
 use Rattle.match_error.specs.declared.error.Error.{Error}
-use Rattle.patch_place.specs.declared.candidates.Spot.{Spot}
+use Rattle.patch_place.specs.declared.spots.Spot.{Spot}
 use Rattle.patch_place.specs.declared.shortlist.Shortlist.{Shortlist}
 use Rattle.patch_place.specs.BoxErrors.{AreCounted, sum_from}
-use Rattle.patch_place.specs.Counts.{IsSpotAt, entries_before, room_entries}
-use Rattle.patch_place.specs.Lists.{fit_list, lists_from, room}
+use Rattle.patch_place.specs.Spots.{IsSpotAt, room_entries}
+use Rattle.patch_picks.specs.Lists.{fit_list, lists_from, room}
 use Rattle.patch_place.specs.Tables.{IsLimitOf, IsPast, IsShortlist}
 use Rattle.cells.proofs.BoxLaws.{step_of}
-use Rattle.patch_place.proofs.BoxLists.{cells_of_index}
+use Rattle.patch_picks.proofs.BoxLists.{cells_of_index}
 use Rattle.patch_place.proofs.BoxWalk.{errors_more, room_entry, room_fits_there}
 use Rattle.patch_place.proofs.Shortlists.{past_for, short_skip}
 use Rattle.patch_place.proofs.Walking.{row_within, spot_further}

@@ -10,11 +10,11 @@ use Rattle.std.specs.List.{AllZip, count_by, filter}
 use Rattle.match_error.specs.declared.error.Error.{Error}
 use Rattle.match_error.specs.Errors.{is_within}
 use Rattle.map_canvas.specs.declared.canvas.Placement.{Placement}
-use Rattle.patch_place.specs.Draws.{DrawState, draw}
-use Rattle.patch_place.specs.Picks.{AreEligible, IsBest, is_eligible}
+use Rattle.patch_picks.specs.Draws.{DrawState, draw}
+use Rattle.patch_picks.specs.Picks.{AreEligible, IsBest, is_eligible}
 use Rattle.patch_place.specs.Tables.{IsBeaten, IsNth, IsPickAt, IsPickOf, AreTableErrors, IsUnfilled, StandsForError, drawn_near}
-use Rattle.patch_place.proofs.Bests.{between, far_is_more, same_eligible, still_within}
-use Rattle.patch_place.proofs.Counting.{AllZip-from_map, AllZip-left, AllZip-right, AllZip-take, Contains-slice_get, kept_alike, map_at, passed_at, slice_get-Contains}
+use Rattle.patch_picks.proofs.Bests.{between, far_is_more, same_eligible, still_within}
+use Rattle.patch_picks.proofs.Counting.{AllZip-from_map, AllZip-left, AllZip-right, AllZip-take, Contains-slice_get, kept_alike, map_at, passed_at, slice_get-Contains}
 
 -- where no entry has a filled cell, no candidate has one
 unfilled_errors : (t : ℕ) (table errors : List Error) → AreTableErrors t table errors → All IsUnfilled table → (error : Error) → Contains errors error → error.count ≡ 0

@@ -12,14 +12,14 @@ use Rattle.match_error.specs.declared.error.Error.{Error}
 use Rattle.match_error.specs.Errors.{is_within}
 use Rattle.patch_place.specs.declared.eligible.Entry.{Entry}
 use Rattle.patch_place.specs.declared.shortlist.Shortlist.{Shortlist}
-use Rattle.patch_place.specs.Draws.{DrawState, draw}
-use Rattle.patch_place.specs.Picks.{IsBest, is_eligible}
+use Rattle.patch_picks.specs.Draws.{DrawState, draw}
+use Rattle.patch_picks.specs.Picks.{IsBest, is_eligible}
 use Rattle.patch_place.specs.BoxErrors.{IsLow}
 use Rattle.patch_place.specs.Tables.{AreErrorsAmong, AreKept, FailsUnfilled, IsBeaten, IsBestOf, IsFilledLow, IsLimit, IsLimitOf, IsMore, IsNear, IsNth, IsPast, IsShortOf, IsShortlist, IsSumLimit, IsUnfilled, StandsForError, entry_error, is_near, rivals}
-use Rattle.patch_place.proofs.Bests.{within_itself}
-use Rattle.patch_place.proofs.Counting.{Contains-slice_get, slice_get-Contains}
+use Rattle.patch_picks.proofs.Bests.{within_itself}
+use Rattle.patch_picks.proofs.Counting.{Contains-slice_get, slice_get-Contains}
 use Rattle.patch_place.proofs.Limits.{table_more, unfilled_stand}
-use Rattle.patch_place.proofs.PartLists.{slice_get_left}
+use Rattle.patch_picks.proofs.PartLists.{slice_get_left}
 use Rattle.patch_place.proofs.Picking.{unfilled_is_not}
 
 -- the last entry of a list, and the others

@@ -7,9 +7,9 @@ use Rattle.cells.specs.declared.place.Size.{Size}
 use Rattle.cells.specs.Cells.{Cells}
 use Rattle.map_canvas.specs.declared.canvas.Placement.{Placement}
 use Rattle.map_canvas.specs.Choices.{Fits}
-use Rattle.patch_place.specs.declared.candidates.Candidates.{Candidates}
-use Rattle.patch_place.specs.Fitting.{FitsAndCovers}
-use Rattle.patch_place.specs.Lists.{listed}
+use Rattle.patch_picks.specs.declared.candidates.Candidates.{Candidates}
+use Rattle.patch_picks.specs.Fitting.{FitsAndCovers}
+use Rattle.patch_picks.specs.Lists.{listed}
 
 pub all_fit_over : (output : Size) (sample : Cells) (q : At) (list : List Placement) → All (FitsAndCovers output sample q) list → All (Fits output sample) list
 all_fit_over output sample q list all = All-weaker (FitsAndCovers output sample q) (Fits output sample) (λ placement over. over.fits) list all

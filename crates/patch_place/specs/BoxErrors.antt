@@ -6,7 +6,7 @@ use Rattle.cells.specs.Cells.{Cells}
 use Rattle.map_canvas.specs.declared.canvas.Placement.{Placement}
 use Rattle.map_canvas.specs.Choices.{laid_from}
 use Rattle.match_error.specs.declared.error.Error.{Error}
-use Rattle.patch_place.specs.Lists.{fit_list, part_lists}
+use Rattle.patch_picks.specs.Lists.{fit_list, part_lists}
 
 -- the placements of a box over all parts of a sample
 abbrev pub box_list : Box3 → Cells → List Placement

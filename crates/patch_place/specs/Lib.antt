@@ -1,10 +1,4 @@
-pub mod Draws
-pub mod Lists
-pub mod Modes
-pub mod Counts
-pub mod Fitting
 pub mod BoxErrors
 pub mod Overlaps
-pub mod Picks
+pub mod Spots
 pub mod Tables
-pub mod Steps

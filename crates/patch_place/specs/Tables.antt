@@ -12,14 +12,14 @@ use Rattle.match_error.specs.Errors.{error_of, is_within}
 use Rattle.map_canvas.specs.declared.canvas.Placement.{Placement}
 use Rattle.map_canvas.specs.Canvases.{CanvasState}
 use Rattle.map_canvas.specs.Choices.{laid_from}
-use Rattle.patch_place.specs.declared.candidates.Candidates.{Candidates}
+use Rattle.patch_picks.specs.declared.candidates.Candidates.{Candidates}
 use Rattle.patch_place.specs.declared.eligible.Entry.{Entry}
 use Rattle.patch_place.specs.declared.shortlist.Shortlist.{Shortlist}
 use Rattle.patch_place.specs.BoxErrors.{IsLow}
-use Rattle.patch_place.specs.Counts.{entries_after, entries_before}
-use Rattle.patch_place.specs.Draws.{DrawState, draw}
-use Rattle.patch_place.specs.Lists.{fit_list, lists_from}
-use Rattle.patch_place.specs.Picks.{IsBest, IsPick, is_eligible, listed_on}
+use Rattle.patch_picks.specs.Counts.{entries_after, entries_before}
+use Rattle.patch_picks.specs.Draws.{DrawState, draw}
+use Rattle.patch_picks.specs.Lists.{fit_list, lists_from}
+use Rattle.patch_picks.specs.Picks.{IsBest, IsPick, is_eligible, listed_on}
 
 abbrev pub IsUnfilled : Error → Type 0
 IsUnfilled error = error.count ≡ 0

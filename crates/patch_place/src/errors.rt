@@ -6,17 +6,18 @@ ghost use Rattle.map_canvas.specs.Choices.{Fits};
 ghost use Rattle.match_error.specs.Errors.{error_of};
 ghost use Rattle.match_error.specs.Rows.{AreFilledRows};
 ghost use Rattle.match_error.specs.Tables.{AreFilledCounts};
-ghost use Rattle.patch_place.specs.Lists.{IsWithin};
-ghost use Rattle.patch_place.specs.Picks.{AllFit, errors_on, listed_on};
+ghost use Rattle.patch_picks.specs.Lists.{IsWithin};
+ghost use Rattle.patch_picks.specs.Picks.{AllFit, errors_on, listed_on};
 ghost use Rattle.patch_place.specs.Tables.{IsMore, IsShortlistOf, IsSoundShortlist};
 
+use crate::Overlaps;
 use crate::reach::{counts_for, rows_for};
 use crate::shortlist::Shortlist;
 use crate::walk::box_shortlist;
-use crate::{Candidates, Overlaps};
 use cells::{Box3, Volume};
 use map_canvas::{Canvas, Placement};
 use match_error::{Error, FilledCounts, FilledRows, error_sum_within};
+use patch_picks::Candidates;
 use search_squares::SampleSums;
 use std::alloc::{AllocError, Global};
 

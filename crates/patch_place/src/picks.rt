@@ -5,17 +5,18 @@ ghost use Rattle.search_squares.specs.Eliminations.{AreSampleSums};
 ghost use Rattle.map_canvas.specs.Canvases.{StandsOver};
 ghost use Rattle.map_canvas.specs.Choices.{Fits};
 ghost use Rattle.patch_place.specs.BoxErrors.{box_list};
-ghost use Rattle.patch_place.specs.Lists.{IsWithin};
-ghost use Rattle.patch_place.specs.Picks.{AllFit, HasEntries, IsPick, IsPickOn, listed_on};
-ghost use Rattle.patch_place.specs.Steps.{after_draw};
+ghost use Rattle.patch_picks.specs.Lists.{IsWithin};
+ghost use Rattle.patch_picks.specs.Picks.{AllFit, HasEntries, IsPick, IsPickOn, listed_on};
+ghost use Rattle.patch_picks.specs.Steps.{after_draw};
 ghost use Rattle.patch_place.specs.Tables.{IsPickAtOn};
 
-use crate::candidates::box_entry;
+use crate::BoxErrors;
+use crate::box_list::box_entry;
 use crate::errors::{count_for, entry_for, shortlist_of};
 use crate::walk::box_shortlist;
-use crate::{BoxErrors, Candidates, Draws};
 use cells::{Box3, Volume};
 use map_canvas::{Canvas, Placement};
+use patch_picks::{Candidates, Draws};
 use search_squares::SampleSums;
 use std::alloc::{AllocError, Global};
 

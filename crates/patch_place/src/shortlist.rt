@@ -1,13 +1,13 @@
 // Shortlists: of many candidates those that may be eligible.
 ghost use Rattle.std.specs.Prelude.{◌≡◌, ◌≤◌, ◌<◌, ◌+◌, ◌^◌, [], All, IfSome, List, None, OnOk, length};
 ghost use Rattle.match_error.specs.declared.error.Error.{Error};
-ghost use Rattle.patch_place.specs.Steps.{after_draw};
+ghost use Rattle.patch_picks.specs.Steps.{after_draw};
 ghost use Rattle.patch_place.specs.BoxErrors.{IsLow};
 ghost use Rattle.patch_place.specs.Tables.{HasTable, IsFilledLow, IsLimitOf, IsMore, IsPast, IsPickOf, IsShortOf, IsShortlist, IsSoundShortlist, IsSumLimit, IsUnfilled};
 
-use crate::Draws;
 use crate::eligible::{Entry, better, near_count, nth_near};
 use match_error::Error;
+use patch_picks::Draws;
 use std::alloc::{AllocError, Global};
 
 /// The candidates, of those seen so far, that may be eligible: one whose error is past the tolerance

@@ -3,37 +3,26 @@ ghost use Rattle.std.specs.Prelude.{◌≡◌, All, IsSome, IsTrue, IfOk, OnErr,
 ghost use Rattle.cells.specs.Places.{IsInside};
 ghost use Rattle.search_squares.specs.Eliminations.{AreSampleSums};
 ghost use Rattle.map_canvas.specs.Canvases.{StandsOver};
-ghost use Rattle.patch_place.specs.Fitting.{FitsAndCovers, HasPatch};
-ghost use Rattle.patch_place.specs.Lists.{IsWithin};
-ghost use Rattle.patch_place.specs.Modes.{candidates};
-ghost use Rattle.patch_place.specs.Picks.{AllFit, HasEntries, listed_on};
-ghost use Rattle.patch_place.specs.Steps.{IsChosen, IsNext, draws_after, tolerance};
+ghost use Rattle.patch_picks.specs.Fitting.{FitsAndCovers, HasPatch};
+ghost use Rattle.patch_picks.specs.Lists.{IsWithin};
+ghost use Rattle.patch_picks.specs.Modes.{candidates};
+ghost use Rattle.patch_picks.specs.Picks.{AllFit, HasEntries, listed_on};
+ghost use Rattle.patch_picks.specs.Steps.{IsChosen, IsNext, draws_after, tolerance};
 
 use crate::errors::entry_for;
-use crate::{Candidates, Draws, Mode, pick_with};
+use crate::pick_with;
 use cells::{At, Volume};
 use map_canvas::{Canvas, Placement};
+use patch_picks::{Candidates, Draws, Mode};
 use search_squares::SampleSums;
 use std::alloc::{AllocError, Global};
 
-impl Mode {
-    // By how many hundredths a candidate may be worse than the best; None where all are eligible.
-    fn tolerance(&self) -> Option<u32>
-        ensures { result ≡ tolerance self.now }
-    {
-        match self {
-            Mode::Grid { .. } | Mode::Random => None,
-            Mode::Whole { tol } | Mode::Sub { tol, .. } => Some(*tol),
-        }
-    }
-
-    // Whether its picks go by the sums of the sample's blocks: those of `Sub` alone, which picks among the
-    // candidates of one box.
-    fn goes_by_sums(&self) -> bool
-        ensures { IsTrue result → IsSome (tolerance self.now) }
-    {
-        matches!(self, Mode::Sub { .. })
-    }
+// Whether a mode's picks go by the sums of the sample's blocks: those of `Sub` alone, which picks among the
+// candidates of one box.
+fn goes_by_sums(mode: &Mode) -> bool
+    ensures { IsTrue result → IsSome (tolerance mode.now) }
+{
+    matches!(mode, Mode::Sub { .. })
 }
 
 // The candidates of a mode for the first unfilled cell.
@@ -97,7 +86,7 @@ pub fn next_placement(
     let Some(_) = canvas.first_unfilled() else {
         return Ok(None);
     };
-    let sums = SampleSums::make_if(alloc, sample, mode.goes_by_sums())?;
+    let sums = SampleSums::make_if(alloc, sample, goes_by_sums(mode))?;
     next_placement_with(alloc, mode, canvas, sample, &sums, draws)
 }
 

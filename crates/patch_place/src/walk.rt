@@ -3,18 +3,20 @@ ghost use Rattle.std.specs.Prelude.{◌≡◌, ◌≤◌, ◌<◌, ◌+◌, ◌^
 ghost use Rattle.cells.specs.Boxes.{HasCells};
 ghost use Rattle.cells.specs.Cells.{sizes_of};
 ghost use Rattle.patch_place.specs.BoxErrors.{AreCounted, box_list};
-ghost use Rattle.patch_place.specs.Counts.{AreVolumeParts};
-ghost use Rattle.patch_place.specs.Lists.{fit_list, lists_from};
+ghost use Rattle.patch_picks.specs.Counts.{AreVolumeParts};
+ghost use Rattle.patch_picks.specs.Lists.{fit_list, lists_from};
 ghost use Rattle.patch_place.specs.Tables.{IsBoxDone, IsLimitOf, IsMore, IsSeenTo, IsShortlistOf, IsSoundShortlist};
 
 use crate::BoxErrors;
-use crate::candidates::{Spot, box_count, frames_before, part_after, parts_of, place_count, room};
+use crate::box_list::box_count;
 use crate::hints::least_hint;
 use crate::shortlist::Shortlist;
 use crate::skips::Skips;
+use crate::spots::Spot;
 use cells::{Box3, Sizes, Volume};
 use map_canvas::Placement;
 use match_error::Error;
+use patch_picks::{frames_before, part_after, parts_of, place_count, room};
 use std::alloc::{AllocError, Global};
 
 impl Shortlist {

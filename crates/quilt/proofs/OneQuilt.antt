@@ -10,9 +10,9 @@ use Rattle.map_canvas.specs.declared.canvas.Placement.{Placement}
 use Rattle.map_canvas.specs.Maps.{IsFull, IsMap, SourceMap}
 use Rattle.map_canvas.proofs.Marks.{empty_is_canvas}
 use Rattle.map_canvas.proofs.Unfilled.{full_is_whole}
-use Rattle.patch_place.specs.Lists.{fit_list, part_lists}
-use Rattle.patch_place.specs.Picks.{IsPick}
-use Rattle.patch_place.proofs.OnePick.{one_pick}
+use Rattle.patch_picks.specs.Lists.{fit_list, part_lists}
+use Rattle.patch_picks.specs.Picks.{IsPick}
+use Rattle.patch_picks.proofs.OnePick.{one_pick}
 use Rattle.strip_boundary.specs.declared.boundary.BoundaryRecord.{BoundaryRecord}
 use Rattle.strip_boundary.specs.Strips.{ErrorTable}
 use Rattle.strip_boundary.proofs.OneAnswer.{one_first_least, one_tight}

@@ -7,9 +7,9 @@ use Rattle.cells.specs.declared.place.Box3.{Box3}
 use Rattle.cells.specs.Cells.{Cells, sizes_of}
 use Rattle.map_canvas.specs.declared.canvas.Placement.{Placement}
 use Rattle.map_canvas.specs.Choices.{laid_from}
-use Rattle.patch_place.specs.Lists.{fit_list, from_part, part_lists, room}
-use Rattle.patch_place.proofs.Fitting.{all_over}
-use Rattle.patch_place.proofs.PartLists.{all_of_parts}
+use Rattle.patch_picks.specs.Lists.{fit_list, from_part, part_lists, room}
+use Rattle.patch_picks.proofs.Fitting.{all_over}
+use Rattle.patch_picks.proofs.PartLists.{all_of_parts}
 
 all_have : (rect : Box3) (sample : Cells) → All (λ placement. placement.rect ≡ rect) (part_lists (fit_list rect) sample)
 all_have rect sample =

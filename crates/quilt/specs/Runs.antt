@@ -11,10 +11,10 @@ use Rattle.map_canvas.specs.Choices.{Fits}
 use Rattle.map_canvas.specs.Maps.{IsFull, SourceMap, empty_map, first_unfilled}
 use Rattle.match_error.specs.declared.error.Error.{Error}
 use Rattle.match_error.specs.Errors.{error_of}
-use Rattle.patch_place.specs.Draws.{DrawState}
-use Rattle.patch_place.specs.Lists.{fit_list, part_lists}
-use Rattle.patch_place.specs.Picks.{IsPick}
-use Rattle.patch_place.specs.Steps.{after_draw}
+use Rattle.patch_picks.specs.Draws.{DrawState}
+use Rattle.patch_picks.specs.Lists.{fit_list, part_lists}
+use Rattle.patch_picks.specs.Picks.{IsPick}
+use Rattle.patch_picks.specs.Steps.{after_draw}
 use Rattle.strip_boundary.specs.declared.boundary.BoundaryRecord.{BoundaryRecord}
 use Rattle.strip_boundary.specs.Boundaries.{IsFirstLeast}
 use Rattle.strip_boundary.specs.Records.{AreTightSums, BoundaryStands}

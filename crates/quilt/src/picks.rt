@@ -8,15 +8,16 @@ ghost use Rattle.map_canvas.specs.Choices.{Fits};
 ghost use Rattle.map_canvas.specs.Maps.{SourceMap};
 ghost use Rattle.match_error.specs.declared.error.Error.{Error};
 ghost use Rattle.search_squares.specs.Eliminations.{AreSampleSums};
-ghost use Rattle.patch_place.specs.Lists.{fit_list, part_lists};
-ghost use Rattle.patch_place.specs.Picks.{IsPick};
-ghost use Rattle.patch_place.specs.Steps.{after_draw};
+ghost use Rattle.patch_picks.specs.Lists.{fit_list, part_lists};
+ghost use Rattle.patch_picks.specs.Picks.{IsPick};
+ghost use Rattle.patch_picks.specs.Steps.{after_draw};
 ghost use Rattle.block_strips.specs.Blocks.{FitsBlock};
 ghost use Rattle.quilt.specs.Runs.{by_overlap};
 
 use cells::{Box3, Volume};
 use map_canvas::{Canvas, Placement};
-use patch_place::{Candidates, Draws, box_list_is_all_that_fit, pick_with};
+use patch_picks::{Candidates, Draws, box_list_is_all_that_fit};
+use patch_place::pick_with;
 use search_squares::SampleSums;
 use std::alloc::{AllocError, Global};
 

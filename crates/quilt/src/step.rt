@@ -15,7 +15,7 @@ use block_check::{BlockRecord, put_block};
 use block_strips::{QuiltPlan, block_rect, next_block_shares_strips};
 use cells::Volume;
 use map_canvas::{Canvas, Placement};
-use patch_place::Draws;
+use patch_picks::Draws;
 use search_squares::SampleSums;
 use std::alloc::{AllocError, Global};
 

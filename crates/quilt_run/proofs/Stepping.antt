@@ -13,7 +13,7 @@ use Rattle.map_canvas.specs.Canvases.{CanvasState, IsCanvas, StandsOver, empty_c
 use Rattle.map_canvas.specs.Choices.{Fits, box_count}
 use Rattle.map_canvas.specs.Maps.{SourceMap, empty_map}
 use Rattle.strip_boundary.specs.declared.boundary.BoundaryRecord.{BoundaryRecord}
-use Rattle.patch_place.specs.Draws.{DrawState}
+use Rattle.patch_picks.specs.Draws.{DrawState}
 use Rattle.block_strips.specs.declared.side.Side.{Side}
 use Rattle.block_strips.specs.declared.side.Side.TheVariants.{Left, Top}
 use Rattle.block_strips.specs.Laid.{IsLaidByBlocks}

@@ -5,7 +5,7 @@ use Rattle.cells.specs.Cells.{Cells, IsOnePart}
 use Rattle.cells.specs.Places.{IsSmall}
 use Rattle.map_canvas.specs.Canvases.{IsCanvas, StandsOver}
 use Rattle.map_canvas.specs.Maps.{empty_map}
-use Rattle.patch_place.specs.Draws.{DrawState}
+use Rattle.patch_picks.specs.Draws.{DrawState}
 use Rattle.quilt.specs.Runs.{IsQuilted, Rating, BlocksReplay, quilting}
 use Rattle.quilt_run.specs.declared.asked.QuiltRun.{QuiltRun}
 use Rattle.quilt_run.specs.declared.asked.Quilted.{Quilted}

@@ -11,7 +11,7 @@ use block_check::BlockRecord;
 use block_strips::empty_map_is_laid;
 use cells::Volume;
 use map_canvas::Canvas;
-use patch_place::Draws;
+use patch_picks::Draws;
 use quilt::{BlockPicks, next_block_by};
 use std::alloc::{AllocError, Global};
 

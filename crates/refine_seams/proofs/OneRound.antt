@@ -7,10 +7,10 @@ use Rattle.cells.specs.Distances.{distance}
 use Rattle.map_canvas.specs.Maps.{map_at}
 use Rattle.match_error.specs.Errors.{error_of}
 use Rattle.cost_windows.proofs.OneWorst.{one_worst}
-use Rattle.patch_place.specs.Lists.{fit_list, part_lists}
-use Rattle.patch_place.specs.Modes.{window}
-use Rattle.patch_place.specs.Picks.{IsPick}
-use Rattle.patch_place.proofs.OnePick.{one_pick}
+use Rattle.patch_picks.specs.Lists.{fit_list, part_lists}
+use Rattle.patch_picks.specs.Modes.{window}
+use Rattle.patch_picks.specs.Picks.{IsPick}
+use Rattle.patch_picks.proofs.OnePick.{one_pick}
 use Rattle.refine_seams.specs.Rounds.{NoRoundIsIdle, ThereIsOneRound}
 
 same_box : (one other : Box3) → one.corner ≡ other.corner → one.size ≡ other.size → one ≡ other

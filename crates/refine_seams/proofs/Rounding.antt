@@ -14,10 +14,10 @@ use Rattle.map_canvas.specs.Maps.{IsFull, SourceMap, map_at}
 use Rattle.map_canvas.proofs.AfterLaws.{stays_filled}
 use Rattle.cost_windows.specs.Tables.{WindowSums}
 use Rattle.cost_windows.specs.Windows.{IsWorst, window_at}
-use Rattle.patch_place.specs.Fitting.{HasRoomInEach}
-use Rattle.patch_place.specs.Lists.{fit_list, part_lists}
-use Rattle.patch_place.specs.Modes.{window}
-use Rattle.patch_place.proofs.BoxLists.{all_in_room, some_room}
+use Rattle.patch_picks.specs.Fitting.{HasRoomInEach}
+use Rattle.patch_picks.specs.Lists.{fit_list, part_lists}
+use Rattle.patch_picks.specs.Modes.{window}
+use Rattle.patch_picks.proofs.BoxLists.{all_in_room, some_room}
 use Rattle.refine_seams.specs.Rounds.{SumsWindowsOf, IsWorstAt, IsWorstBox}
 
 -- a size of an output has cells

@@ -15,11 +15,11 @@ use Rattle.map_canvas.specs.Maps.{SourceMap, map_at}
 use Rattle.match_error.specs.Errors.{error_of}
 use Rattle.cost_windows.specs.Tables.{IsRight, WindowSums}
 use Rattle.cost_windows.specs.Windows.{IsWorst, window_at}
-use Rattle.patch_place.specs.Draws.{DrawState}
-use Rattle.patch_place.specs.Lists.{fit_list, part_lists}
-use Rattle.patch_place.specs.Modes.{window}
-use Rattle.patch_place.specs.Picks.{IsPick}
-use Rattle.patch_place.specs.Steps.{after_draw}
+use Rattle.patch_picks.specs.Draws.{DrawState}
+use Rattle.patch_picks.specs.Lists.{fit_list, part_lists}
+use Rattle.patch_picks.specs.Modes.{window}
+use Rattle.patch_picks.specs.Picks.{IsPick}
+use Rattle.patch_picks.specs.Steps.{after_draw}
 use Rattle.cut_check.specs.declared.record.CutRecord.{CutRecord}
 use Rattle.graph_place.specs.Placed.{IsPlaced}
 

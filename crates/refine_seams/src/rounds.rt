@@ -4,7 +4,7 @@ ghost use Rattle.cells.specs.Boxes.{HasCells};
 ghost use Rattle.map_canvas.specs.Canvases.{IsCanvas, StandsOver};
 ghost use Rattle.map_canvas.specs.Maps.{IsFull};
 ghost use Rattle.search_squares.specs.Eliminations.{AreSampleSums};
-ghost use Rattle.patch_place.specs.Fitting.{HasRoomInEach};
+ghost use Rattle.patch_picks.specs.Fitting.{HasRoomInEach};
 ghost use Rattle.graph_place.specs.Placed.{map_total};
 ghost use Rattle.refine_seams.specs.Rounds.{IsRoundBox, SumsWindowsOf, Rounds};
 
@@ -13,7 +13,8 @@ use cost_windows::SeamTable;
 use cut_check::CutRecord;
 use graph_place::place;
 use map_canvas::Canvas;
-use patch_place::{Candidates, Draws, pick_with, window_size};
+use patch_picks::{Candidates, Draws, window_size};
+use patch_place::pick_with;
 use search_squares::SampleSums;
 use std::alloc::{AllocError, Global};
 

@@ -1,5 +1,5 @@
 // Worked examples of draws, as another program gives them.
-use patch_place::Draws;
+use patch_picks::Draws;
 
 // The first ten words of a seed's stream, as another program computes them. The third key has its bytes in order.
 const FIRST_DRAWS: &[(u64, [u32; 10])] = &[

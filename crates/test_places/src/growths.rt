@@ -1,7 +1,7 @@
 // Whole grown runs over small samples, and their records over one another.
 ghost use Rattle.std.specs.Prelude.{◌≤◌, All, IfOk};
 ghost use Rattle.cells.specs.Places.{IsSmall};
-ghost use Rattle.patch_place.specs.Fitting.{HasPatch};
+ghost use Rattle.patch_picks.specs.Fitting.{HasPatch};
 ghost use Rattle.cut_replay.specs.Replay.{IsFormed};
 
 use crate::expect::expect_done;
@@ -12,7 +12,7 @@ use cut_check::{CutFault, CutRecord, Flow, KEEP_RULE};
 use cut_replay::{Broken, replay_cuts};
 use grow_run::{GrowPlan, Grown, grow_canvas};
 use map_canvas::{Canvas, Placement};
-use patch_place::Mode;
+use patch_picks::Mode;
 use std::alloc::{AllocError, Global};
 use std::process::Abort;
 

@@ -3,9 +3,9 @@ ghost use Rattle.std.specs.Prelude.{◌≡◌, ◌<◌, ◌≤◌, ◌+◌, All,
 ghost use Rattle.cells.specs.Cells.{blank};
 ghost use Rattle.cells.specs.Places.{IsInside, IsSmall, cell_count};
 ghost use Rattle.map_canvas.specs.Canvases.{StandsOver};
-ghost use Rattle.patch_place.specs.Fitting.{FitsAndCovers, HasPatch};
-ghost use Rattle.patch_place.specs.Lists.{IsWithin};
-ghost use Rattle.patch_place.specs.Picks.{AllFit, HasEntries, listed_on};
+ghost use Rattle.patch_picks.specs.Fitting.{FitsAndCovers, HasPatch};
+ghost use Rattle.patch_picks.specs.Lists.{IsWithin};
+ghost use Rattle.patch_picks.specs.Picks.{AllFit, HasEntries, listed_on};
 
 use crate::expect::expect_done;
 use crate::rows::{assert_fits, greys, row_of, two_parts};
@@ -13,7 +13,8 @@ use cells::{At, Box3, PartPlace, Size, Volume};
 use costs::total;
 use graph_place::place;
 use map_canvas::{Canvas, Placement};
-use patch_place::{Candidates, Draws, Mode, next_placement, pick, window_size};
+use patch_picks::{Candidates, Draws, Mode, window_size};
+use patch_place::{next_placement, pick};
 use std::alloc::{AllocError, Global};
 use std::process::Abort;
 

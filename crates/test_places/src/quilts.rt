@@ -8,7 +8,7 @@ use crate::rows::greys;
 use block_strips::{QuiltPlan, empty_map_is_laid};
 use cells::{At, Size, Volume};
 use map_canvas::Canvas;
-use patch_place::Draws;
+use patch_picks::Draws;
 use quilt::next_block;
 use quilt_run::{QuiltRun, Quilted, quilt_by};
 use search_squares::SampleSums;

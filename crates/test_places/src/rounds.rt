@@ -5,7 +5,7 @@ use crate::expect::expect_done;
 use crate::rows::{greys, row_of};
 use cells::Volume;
 use map_canvas::Canvas;
-use patch_place::Draws;
+use patch_picks::Draws;
 use refine_seams::{round, round_windows};
 use std::alloc::{AllocError, Global};
 use std::process::Abort;

@@ -11,7 +11,7 @@ use cells::{At, Size, Volume};
 use costs::total;
 use job_words::{TilePlan, Wrap};
 use map_canvas::Canvas;
-use patch_place::Draws;
+use patch_picks::Draws;
 use std::alloc::{AllocError, Global};
 use std::process::Abort;
 use tile_run::{RunPlan, tile_canvas};

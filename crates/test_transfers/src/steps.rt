@@ -12,7 +12,7 @@ use block_check::BlockRecord;
 use block_strips::{QuiltPlan, empty_map_is_laid};
 use cells::{At, Box3, Size, Volume};
 use map_canvas::{Canvas, Placement};
-use patch_place::Draws;
+use patch_picks::Draws;
 use std::alloc::{AllocError, Global};
 use std::process::Abort;
 use transfer::{TargetSearch, TransferPlan, next_transfer, next_transfer_with, target_error};

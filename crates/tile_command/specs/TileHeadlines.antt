@@ -8,7 +8,7 @@ use Rattle.shelf_core.specs.Files.{Files, ShelfState, SinkState, Changes, conten
 use Rattle.map_canvas.specs.Maps.{SourceMap, IsFull, IsMap, IsOver, empty_map, map_at, picture_of}
 use Rattle.source_map.specs.MapFiles.{cell_map_form}
 use Rattle.source_map.specs.declared.head.Version.TheVariants.{One}
-use Rattle.patch_place.specs.Draws.{DrawState}
+use Rattle.patch_picks.specs.Draws.{DrawState}
 use Rattle.torus.specs.Steps.{TileStep}
 use Rattle.tile_run.specs.Tilings.{EachTileIsLeast, EachTileKeeps, IsTiled}
 use Rattle.job_words.specs.declared.tile.TileJob.{TileJob}

@@ -3,7 +3,7 @@ use Rattle.std.proofs.Common.{◌≡◌, List, [], ◌∷◌, refl, sym, ◌∙�
 use Rattle.cells.specs.Cells.{Cells, IsVolume}
 use Rattle.map_canvas.specs.Maps.{IsFull, IsMap}
 use Rattle.map_canvas.proofs.Marks.{empty_is_canvas}
-use Rattle.grow_run.specs.Runs.{Leads}
+use Rattle.patch_picks.specs.Runs.{Leads}
 use Rattle.job_words.specs.declared.tile.TilePlan.{TilePlan}
 use Rattle.torus.specs.Steps.{TileStep, TilesBy, Tiling}
 use Rattle.torus.proofs.Afters.{full_has_none, keeps_around, leaves_map}

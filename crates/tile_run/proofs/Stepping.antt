@@ -6,7 +6,7 @@ use Rattle.map_canvas.specs.Canvases.{CanvasState, IsCanvas, StandsOver, empty_c
 use Rattle.map_canvas.specs.Maps.{IsMap, empty_map}
 use Rattle.map_canvas.proofs.Fronts.{front_in}
 use Rattle.std.specs.Prelude.{Ok, is_none, if◌then◌else◌}
-use Rattle.grow_run.specs.Runs.{Leads}
+use Rattle.patch_picks.specs.Runs.{Leads}
 use Rattle.torus.specs.Steps.{TileStep, TilesBy, Tiling, tiling_of}
 use Rattle.torus.proofs.Afters.{reaches_more}
 use Rattle.tile_run.specs.declared.plan.RunPlan.{RunPlan}

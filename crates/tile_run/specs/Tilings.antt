@@ -9,8 +9,8 @@ use Rattle.cells.specs.Distances.{distance}
 use Rattle.cells.specs.Places.{HasAxes, IsInside, cell_count}
 use Rattle.map_canvas.specs.Canvases.{IsCanvas, StandsOver}
 use Rattle.map_canvas.specs.Maps.{IsFull, SourceMap, empty_map, map_at}
-use Rattle.patch_place.specs.Draws.{DrawState}
-use Rattle.grow_run.specs.Runs.{Leads}
+use Rattle.patch_picks.specs.Draws.{DrawState}
+use Rattle.patch_picks.specs.Runs.{Leads}
 use Rattle.job_words.specs.declared.tile.Wrap.{Wrap}
 use Rattle.job_words.specs.TileWords.{IsWide}
 use Rattle.torus.specs.Steps.{TileStep, TilesBy, Tiling, map_after_around}

@@ -8,7 +8,7 @@ ghost use Rattle.tile_run.specs.Work.{Advances, IsWork};
 use crate::plan::{RunPlan, Tiled};
 use cells::Volume;
 use map_canvas::Canvas;
-use patch_place::Draws;
+use patch_picks::Draws;
 use search_squares::SampleSums;
 use std::alloc::{AllocError, Global};
 use torus::next_tile_with;

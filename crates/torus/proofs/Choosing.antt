@@ -19,9 +19,9 @@ use Rattle.map_canvas.specs.Choices.{Fits, box_index, chosen, laid_from}
 use Rattle.map_canvas.specs.Maps.{SourceMap, map_at}
 use Rattle.match_error.specs.declared.error.Error.{Error}
 use Rattle.match_error.specs.Errors.{error_of, one_filled}
-use Rattle.patch_place.specs.Draws.{DrawState}
-use Rattle.patch_place.specs.Lists.{fit_list, part_lists}
-use Rattle.patch_place.specs.Picks.{IsPick}
+use Rattle.patch_picks.specs.Draws.{DrawState}
+use Rattle.patch_picks.specs.Lists.{fit_list, part_lists}
+use Rattle.patch_picks.specs.Picks.{IsPick}
 use Rattle.costs.specs.Lawful.{IsLeastChoice, IsLeastHeld, is_held}
 use Rattle.graph_place.specs.Fewest.{AreSame, IsFewestHeld, old_count}
 use Rattle.cut_check.specs.declared.record.CutRecord.{CutRecord}

@@ -6,8 +6,8 @@ use Rattle.cells.specs.declared.place.Box3.{Box3}
 use Rattle.cells.specs.Cells.{Cells}
 use Rattle.map_canvas.specs.Canvases.{CanvasState}
 use Rattle.map_canvas.specs.Maps.{IsMap, first_unfilled}
-use Rattle.patch_place.specs.Draws.{DrawState}
-use Rattle.patch_place.specs.Steps.{after_draw}
+use Rattle.patch_picks.specs.Draws.{DrawState}
+use Rattle.patch_picks.specs.Steps.{after_draw}
 use Rattle.cut_check.specs.declared.record.CutRecord.{CutRecord}
 use Rattle.job_words.specs.declared.tile.TilePlan.{TilePlan}
 use Rattle.torus.specs.Boxes.{tile_box}

@@ -14,7 +14,7 @@ use Rattle.map_canvas.specs.declared.canvas.Placement.{Placement}
 use Rattle.map_canvas.specs.Choices.{chosen}
 use Rattle.map_canvas.specs.Maps.{IsMap, SourceMap, map_at}
 use Rattle.map_canvas.proofs.AfterLaws.{source_of_place}
-use Rattle.patch_place.proofs.OnePick.{one_pick}
+use Rattle.patch_picks.proofs.OnePick.{one_pick}
 use Rattle.job_words.specs.declared.tile.TilePlan.{TilePlan}
 use Rattle.job_words.specs.declared.tile.Wrap.{Wrap}
 use Rattle.torus.specs.Boxes.{tile_box}

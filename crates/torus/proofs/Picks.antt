@@ -15,11 +15,11 @@ use Rattle.cells.specs.SizeLists.{stock_place}
 use Rattle.map_canvas.specs.declared.canvas.Placement.{Placement}
 use Rattle.map_canvas.specs.Choices.{laid_from}
 use Rattle.match_error.specs.declared.error.Error.{Error}
-use Rattle.patch_place.specs.Draws.{DrawState, draw}
-use Rattle.patch_place.specs.Lists.{fit_list, from_part, lists_from, part_lists, room}
-use Rattle.patch_place.specs.Picks.{IsBest, IsPick, NoneIsFilled, is_eligible, near}
-use Rattle.patch_place.proofs.BoxLists.{Contains-map}
-use Rattle.patch_place.proofs.Counting.{Contains-slice_get, slice_get-Contains}
+use Rattle.patch_picks.specs.Draws.{DrawState, draw}
+use Rattle.patch_picks.specs.Lists.{fit_list, from_part, lists_from, part_lists, room}
+use Rattle.patch_picks.specs.Picks.{IsBest, IsPick, NoneIsFilled, is_eligible, near}
+use Rattle.patch_picks.proofs.BoxLists.{Contains-map}
+use Rattle.patch_picks.proofs.Counting.{Contains-slice_get, slice_get-Contains}
 
 -- the places of parts from which a box of a size is filled
 abbrev froms : List Size → Size → ℕ → List Size → List At

@@ -9,7 +9,7 @@ use Rattle.cells.specs.Places.{cell_count}
 use Rattle.map_canvas.specs.declared.canvas.Placement.{Placement}
 use Rattle.map_canvas.specs.Choices.{Fits}
 use Rattle.map_canvas.specs.Maps.{SourceMap}
-use Rattle.patch_place.specs.Draws.{DrawState}
+use Rattle.patch_picks.specs.Draws.{DrawState}
 use Rattle.cut_check.specs.declared.record.CutRecord.{CutRecord}
 use Rattle.job_words.specs.declared.tile.TilePlan.{TilePlan}
 use Rattle.torus.specs.Tiles.{small_placement}

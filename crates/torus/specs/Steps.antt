@@ -15,10 +15,10 @@ use Rattle.map_canvas.specs.CellErrors.{cell_error}
 use Rattle.map_canvas.specs.Maps.{SourceMap, first_unfilled, map_at}
 use Rattle.match_error.specs.declared.error.Error.{Error}
 use Rattle.match_error.specs.Errors.{one_filled}
-use Rattle.patch_place.specs.Draws.{DrawState}
-use Rattle.patch_place.specs.Lists.{fit_list, part_lists}
-use Rattle.patch_place.specs.Picks.{IsPick}
-use Rattle.patch_place.specs.Steps.{after_draw}
+use Rattle.patch_picks.specs.Draws.{DrawState}
+use Rattle.patch_picks.specs.Lists.{fit_list, part_lists}
+use Rattle.patch_picks.specs.Picks.{IsPick}
+use Rattle.patch_picks.specs.Steps.{after_draw}
 use Rattle.graph_place.specs.Fewest.{old_count}
 use Rattle.job_words.specs.declared.tile.TilePlan.{TilePlan}
 use Rattle.job_words.specs.declared.tile.Wrap.{Wrap}

@@ -4,7 +4,7 @@ ghost use Rattle.cells.specs.Cells.{IsOnePart};
 ghost use Rattle.cells.specs.Places.{cell_count};
 ghost use Rattle.map_canvas.specs.Canvases.{IsCanvas, StandsOver};
 ghost use Rattle.search_squares.specs.Eliminations.{AreSampleSums};
-ghost use Rattle.patch_place.specs.Steps.{after_draw};
+ghost use Rattle.patch_picks.specs.Steps.{after_draw};
 ghost use Rattle.job_words.specs.TileWords.{IsWide};
 ghost use Rattle.torus.specs.Choosing.{IsChosenAround};
 ghost use Rattle.torus.specs.Filling.{IsTileBox};
@@ -19,7 +19,8 @@ use graph_place::place;
 use job_words::TilePlan;
 use limits::MOST_OUTPUT_CELLS;
 use map_canvas::{Canvas, Placement};
-use patch_place::{Candidates, Draws, pick_with};
+use patch_picks::{Candidates, Draws};
+use patch_place::pick_with;
 use search_squares::SampleSums;
 use std::alloc::{AllocError, Global};
 

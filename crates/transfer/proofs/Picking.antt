@@ -8,9 +8,9 @@ use Rattle.cells.specs.Cells.{Cells}
 use Rattle.map_canvas.specs.declared.canvas.Placement.{Placement}
 use Rattle.map_canvas.specs.Canvases.{CanvasState}
 use Rattle.map_canvas.specs.Choices.{Fits}
-use Rattle.patch_place.specs.Draws.{DrawState}
-use Rattle.patch_place.specs.Lists.{fit_list, part_lists}
-use Rattle.patch_place.specs.Picks.{IsPick}
+use Rattle.patch_picks.specs.Draws.{DrawState}
+use Rattle.patch_picks.specs.Lists.{fit_list, part_lists}
+use Rattle.patch_picks.specs.Picks.{IsPick}
 use Rattle.quilt.proofs.Picking.{listed_has_box}
 use Rattle.transfer.specs.declared.weighing.Weighing.{Weighing}
 use Rattle.transfer.specs.Targets.{by_target}

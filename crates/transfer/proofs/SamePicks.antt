@@ -4,8 +4,8 @@ use Rattle.std.proofs.lemmas.List.Elements.{All-contains, All-head, All-tail}
 use Rattle.std.specs.Prelude.{All, Option}
 use Rattle.map_canvas.specs.declared.canvas.Placement.{Placement}
 use Rattle.match_error.specs.declared.error.Error.{Error}
-use Rattle.patch_place.specs.Draws.{DrawState}
-use Rattle.patch_place.specs.Picks.{IsBest, IsPick, NoneIsFilled, is_eligible, near}
+use Rattle.patch_picks.specs.Draws.{DrawState}
+use Rattle.patch_picks.specs.Picks.{IsBest, IsPick, NoneIsFilled, is_eligible, near}
 
 module _ (error other : Placement → Error) where
   abbrev Same : Placement → Type 0

@@ -14,7 +14,7 @@ use crate::weighed::Weighed;
 use block_check::BlockRecord;
 use cells::Volume;
 use map_canvas::Canvas;
-use patch_place::Draws;
+use patch_picks::Draws;
 use quilt::next_block_by;
 use quilt_run::{QuiltError, QuiltRun, Quilted, first_past, quilt_by};
 use std::alloc::{AllocError, Global};

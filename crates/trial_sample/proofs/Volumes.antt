@@ -5,7 +5,7 @@ use Rattle.std.specs.List.{AllByRecursion}
 use Rattle.std.proofs.lemmas.List.Elements.{All-append, All-cons, All-nil, recursion_from_All}
 use Rattle.cells.specs.Cells.{IsVolume}
 use Rattle.cells.proofs.Buffering.{is_volume}
-use Rattle.patch_place.specs.Draws.{draw_word}
+use Rattle.patch_picks.specs.Draws.{draw_word}
 use Rattle.trial_sample.specs.declared.sample.TheConstants.{BYTES, CELL_BYTES, SIZE}
 use Rattle.trial_sample.specs.TrialSamples.{trial_byte, trial_bytes, trial_sample}
 use Rattle.trial_sample.proofs.Bytes.{length-bytes}

@@ -2,7 +2,7 @@
 -- be trusted: contracts cite these words. (Own.)
 use Rattle.std.specs.Prelude.{◌+◌, ◌*◌, ◌/◌, ◌%◌, ℕ, zero, suc, List, [], ◌∷◌, ◌++◌}
 use Rattle.cells.specs.Cells.{Cells, volume_of}
-use Rattle.patch_place.specs.Draws.{draw}
+use Rattle.patch_picks.specs.Draws.{draw}
 use Rattle.trial_sample.specs.declared.sample.TheConstants.{BYTES, CELL_BYTES, SIZE}
 
 -- what is under the draws at the cell of an index

@@ -3,7 +3,7 @@ ghost use Rattle.std.specs.Prelude.{◌≡◌, ◌<◌, ◌+◌, ◌++◌, ◌�
 ghost use Rattle.trial_sample.specs.TrialSamples.{ground, trial_byte, trial_bytes, trial_sample};
 
 use cells::{Size, Volume};
-use patch_place::Draws;
+use patch_picks::Draws;
 use std::alloc::{AllocError, Global};
 
 /// The size of a sample that is made of a number, in cells.

@@ -1,6 +1,6 @@
 use Rattle.std.proofs.Common.{◌+◌, ap, ◌∙◌, arith}
 use Rattle.cells.specs.Places.{cell_count}
-use Rattle.patch_place.specs.Lists.{placed}
+use Rattle.patch_picks.specs.Lists.{placed}
 use Rattle.grow_run.proofs.Counting.{IsNextCell, all_counted, along, counted_past, down, end_of, next_of, none_counted, none_room, one_more, over, room_after}
 use Rattle.grow_run.proofs.limit.count.Goals as goal
 

@@ -1,7 +1,7 @@
 use Rattle.std.proofs.Common.{subst, sym, ◌∙◌, arith}
 use Rattle.std.proofs.lemmas.Bool.{ltb-true}
 use Rattle.patch_place.specs.Tables.{IsBestOf}
-use Rattle.patch_place.proofs.Bests.{best_of_less}
+use Rattle.patch_picks.proofs.Bests.{best_of_less}
 use Rattle.patch_place.proofs.eligible.better.Goals as goal
 
 pub returns-then-is_less-clause-best : goal.returns-then-is_less-clause-best

@@ -1,7 +1,7 @@
 use Rattle.std.proofs.Common.{◌≡◌, Some, slice_get}
 use Rattle.map_canvas.specs.Choices.{Fits}
-use Rattle.patch_place.specs.Picks.{listed_on}
-use Rattle.patch_place.proofs.Counting.{All-slice_get}
+use Rattle.patch_picks.specs.Picks.{listed_on}
+use Rattle.patch_picks.proofs.Counting.{All-slice_get}
 use Rattle.patch_place.proofs.errors.entry_for.Goals as goal
 
 pub returns-clause-fits : goal.returns-clause-fits

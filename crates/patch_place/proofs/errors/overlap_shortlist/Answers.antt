@@ -1,10 +1,4 @@
-use Rattle.std.proofs.Common.{map, subst, sym}
-use Rattle.cells.specs.declared.place.Box3.{Box3}
-use Rattle.cells.specs.Cells.{Cells}
-use Rattle.map_canvas.specs.Canvases.{CanvasState}
-use Rattle.match_error.specs.Errors.{error_of}
-use Rattle.patch_place.specs.BoxErrors.{box_list}
-use Rattle.patch_place.specs.Tables.{IsShortlistOf}
+use Rattle.std.proofs.Common.{map}
 use Rattle.patch_place.proofs.Limits.{box_has_cells, box_inside, overlaps_asked}
 use Rattle.patch_place.proofs.errors.overlap_shortlist.Goals as goal
 

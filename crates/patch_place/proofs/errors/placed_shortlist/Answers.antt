@@ -1,8 +1,8 @@
 use Rattle.std.proofs.Common.{map, take, sym, subst, ◌∙◌, arith}
 use Rattle.match_error.specs.Errors.{error_of}
-use Rattle.patch_place.specs.Picks.{listed_on}
+use Rattle.patch_picks.specs.Picks.{listed_on}
 use Rattle.patch_place.specs.Tables.{IsShortlist}
-use Rattle.patch_place.proofs.Counting.{map_more}
+use Rattle.patch_picks.proofs.Counting.{map_more}
 use Rattle.patch_place.proofs.errors.placed_shortlist.Goals as goal
 
 pub entries-preserved : goal.entries-preserved

@@ -1,6 +1,6 @@
 use Rattle.std.proofs.Common.{◌≡◌, None, map, take}
 use Rattle.match_error.specs.Errors.{error_of}
-use Rattle.patch_place.specs.Picks.{listed_on}
+use Rattle.patch_picks.specs.Picks.{listed_on}
 use Rattle.patch_place.specs.Tables.{IsShortlist, IsSoundShortlist}
 use Rattle.patch_place.proofs.errors.placed_shortlist.Given as goal
 

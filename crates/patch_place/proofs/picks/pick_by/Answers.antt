@@ -1,7 +1,7 @@
 use Rattle.std.specs.Prelude.{All}
 use Rattle.std.proofs.lemmas.List.Elements.{All-contains}
 use Rattle.patch_place.specs.BoxErrors.{box_list}
-use Rattle.patch_place.proofs.Counting.{slice_get-Contains}
+use Rattle.patch_picks.proofs.Counting.{slice_get-Contains}
 use Rattle.patch_place.proofs.Known.{pick_of_short}
 use Rattle.patch_place.proofs.picks.pick_by.Goals as goal
 

@@ -1,6 +1,6 @@
 use Rattle.std.proofs.Common.{subst, sym}
 use Rattle.match_error.specs.Errors.{error_of}
-use Rattle.patch_place.specs.Picks.{listed_on}
+use Rattle.patch_picks.specs.Picks.{listed_on}
 use Rattle.patch_place.specs.Tables.{IsPickAt}
 use Rattle.patch_place.proofs.Known.{pick_of_short}
 use Rattle.patch_place.proofs.picks.picked_at.Goals as goal

@@ -1,6 +1,6 @@
 use Rattle.std.proofs.Common.{◌≡◌, subst}
 use Rattle.cells.specs.Places.{IsInside}
-use Rattle.patch_place.specs.Picks.{listed_on}
+use Rattle.patch_picks.specs.Picks.{listed_on}
 use Rattle.patch_place.proofs.Stepping.{all_fit_over, over_for}
 use Rattle.patch_place.proofs.steps.candidates_for.Goals as goal
 

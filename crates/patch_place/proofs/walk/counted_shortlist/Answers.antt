@@ -1,7 +1,7 @@
 use Rattle.std.proofs.Common.{map, sym, subst, ◌∙◌}
 use Rattle.std.specs.Prelude.{All, Contains, IfSome}
 use Rattle.patch_place.specs.BoxErrors.{box_list}
-use Rattle.patch_place.specs.Lists.{fit_list, lists_from}
+use Rattle.patch_picks.specs.Lists.{fit_list, lists_from}
 use Rattle.patch_place.proofs.BoxWalk.{none_seen}
 use Rattle.patch_place.proofs.walk.counted_shortlist.Goals as goal
 

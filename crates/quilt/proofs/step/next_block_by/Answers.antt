@@ -3,8 +3,8 @@ use Rattle.std.specs.Prelude.{Some}
 use Rattle.cells.specs.declared.place.Box3.{Box3}
 use Rattle.map_canvas.specs.declared.canvas.Placement.{Placement}
 use Rattle.map_canvas.specs.Choices.{Fits}
-use Rattle.patch_place.specs.Lists.{fit_list, part_lists}
-use Rattle.patch_place.specs.Picks.{IsPick}
+use Rattle.patch_picks.specs.Lists.{fit_list, part_lists}
+use Rattle.patch_picks.specs.Picks.{IsPick}
 use Rattle.quilt.specs.Runs.{IsLaidBlock}
 use Rattle.quilt.proofs.step.next_block_by.Goals as goal
 

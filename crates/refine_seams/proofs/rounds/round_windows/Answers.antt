@@ -3,7 +3,7 @@ use Rattle.cells.specs.declared.place.Size.{Size}
 use Rattle.cells.specs.Boxes.{HasCells}
 use Rattle.spans.specs.Rooms.{HasRoom}
 use Rattle.map_canvas.specs.Maps.{SourceMap}
-use Rattle.patch_place.specs.Modes.{window}
+use Rattle.patch_picks.specs.Modes.{window}
 use Rattle.refine_seams.proofs.Rounding.{small_cells}
 use Rattle.refine_seams.proofs.rounds.round_windows.Goals as goal
 

@@ -2,8 +2,8 @@ use Rattle.std.proofs.Common.{◌<◌, length, refl, sym, subst}
 use Rattle.std.specs.Prelude.{All, Some}
 use Rattle.cells.specs.Boxes.{HoldsBox}
 use Rattle.map_canvas.specs.Choices.{Fits}
-use Rattle.patch_place.specs.Lists.{fit_list, part_lists}
-use Rattle.patch_place.proofs.BoxLists.{all_in_room, some_room}
+use Rattle.patch_picks.specs.Lists.{fit_list, part_lists}
+use Rattle.patch_picks.proofs.BoxLists.{all_in_room, some_room}
 use Rattle.torus.specs.Tiles.{small_box}
 use Rattle.torus.proofs.Choosing.{chosen_around}
 use Rattle.torus.proofs.TileBoxes.{inner_holds}

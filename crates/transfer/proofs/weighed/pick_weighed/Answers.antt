@@ -3,7 +3,7 @@ use Rattle.std.specs.Prelude.{All}
 use Rattle.cells.specs.declared.place.Size.{Size}
 use Rattle.map_canvas.specs.Choices.{Fits}
 use Rattle.map_canvas.specs.Maps.{SourceMap}
-use Rattle.patch_place.specs.Lists.{fit_list, part_lists}
+use Rattle.patch_picks.specs.Lists.{fit_list, part_lists}
 use Rattle.transfer.proofs.Picking.{all_asked, picked_box, picked_by_target, picked_fits}
 use Rattle.transfer.proofs.weighed.pick_weighed.Goals as goal
 

@@ -6,8 +6,9 @@ use Rattle.cells.specs.SizeLists.{frames_to_part}
 use Rattle.map_canvas.specs.Choices.{laid_from}
 use Rattle.patch_place.specs.declared.shortlist.Shortlist.{Shortlist}
 use Rattle.patch_place.specs.BoxErrors.{sum_from}
-use Rattle.patch_place.specs.Counts.{entries_before, room_entries}
-use Rattle.patch_place.specs.Lists.{fit_list}
+use Rattle.patch_picks.specs.Counts.{entries_before}
+use Rattle.patch_place.specs.Spots.{room_entries}
+use Rattle.patch_picks.specs.Lists.{fit_list}
 use Rattle.patch_place.specs.Tables.{IsLimitOf, IsSeenTo, IsShortlist}
 use Rattle.patch_place.proofs.Passing.{in_row, run_passed, spot_asked}
 use Rattle.patch_place.proofs.Walking.{row_within}

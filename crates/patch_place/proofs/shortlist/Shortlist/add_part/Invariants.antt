@@ -3,8 +3,9 @@ use Rattle.search_squares.specs.Eliminations.{AreEliminatedBy}
 use Rattle.cells.specs.Places.{cell_count}
 use Rattle.cells.specs.SizeLists.{frames_to_part}
 use Rattle.patch_place.specs.BoxErrors.{sum_from}
-use Rattle.patch_place.specs.Counts.{IsSpotAt, entries_before, room_entries}
-use Rattle.patch_place.specs.Lists.{fit_list}
+use Rattle.patch_picks.specs.Counts.{entries_before}
+use Rattle.patch_place.specs.Spots.{IsSpotAt, room_entries}
+use Rattle.patch_picks.specs.Lists.{fit_list}
 use Rattle.patch_place.specs.Tables.{IsLimitOf, IsShortlist, IsSoundShortlist}
 use Rattle.patch_place.proofs.shortlist.Shortlist.add_part.Given as goal
 

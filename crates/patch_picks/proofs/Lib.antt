@@ -1,0 +1,11 @@
+pub mod Parts
+pub mod Rooms
+pub mod Stocks
+pub mod Fitting
+pub mod BoxLists
+pub mod Bests
+pub mod Counting
+pub mod PartLists
+pub mod SomeBest
+pub mod OnePick
+pub mod AnyPick

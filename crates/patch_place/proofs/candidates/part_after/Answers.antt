@@ -1,5 +1,0 @@
-use Rattle.patch_place.proofs.Parts.{part_small}
-use Rattle.patch_place.proofs.candidates.part_after.Goals as goal
-
-pub returns-clause-small : goal.returns-clause-small
-returns-clause-small c = part_small c.args.sizes.now c.args.n c.at.result c.requires.parts c.at.ensures.size c.at.ensures.axes

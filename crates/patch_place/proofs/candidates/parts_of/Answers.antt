@@ -1,7 +1,0 @@
-use Rattle.std.proofs.Common.{subst, sym}
-use Rattle.patch_place.specs.Counts.{AreVolumeParts}
-use Rattle.patch_place.proofs.Parts.{volume_parts}
-use Rattle.patch_place.proofs.candidates.parts_of.Goals as goal
-
-pub returns-clause-parts : goal.returns-clause-parts
-returns-clause-parts c = subst AreVolumeParts (sym c.sizes.ensures) (volume_parts c.args.sample.now c.samples-sample.ensures.volume)

@@ -1,5 +1,0 @@
-use Rattle.patch_place.proofs.OnePick.{one_next}
-use Rattle.patch_place.proofs.laws.there_is_one_next_placement.Goals as goal
-
-pub returns : goal.returns
-returns c = one_next

@@ -3,7 +3,7 @@ ghost use Rattle.std.specs.Prelude.{◌≤◌};
 ghost use Rattle.cells.specs.Cells.{IsOnePart};
 ghost use Rattle.cells.specs.Places.{IsSmall};
 ghost use Rattle.map_canvas.specs.Canvases.{StandsOver};
-ghost use Rattle.tile_run.specs.Tilings.{IsRunPlan};
+ghost use Rattle.torus.specs.Tilings.{IsRunPlan};
 
 use crate::expect::expect_done;
 use crate::rows::{canvas_over, put};
@@ -14,8 +14,8 @@ use map_canvas::Canvas;
 use patch_picks::Draws;
 use std::alloc::{AllocError, Global};
 use std::process::Abort;
-use tile_run::{RunPlan, tile_canvas};
-use torus::{next_tile, torus_total};
+use tile_run::{next_tile, tile_canvas};
+use torus::{RunPlan, torus_total};
 
 const ACROSS: Wrap = Wrap {
     x: true,

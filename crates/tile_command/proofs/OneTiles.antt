@@ -6,8 +6,8 @@ use Rattle.map_canvas.specs.Maps.{SourceMap, picture_of}
 use Rattle.source_map.specs.MapFiles.{cell_map_form}
 use Rattle.source_map.specs.declared.head.Version.TheVariants.{One}
 use Rattle.torus.specs.Steps.{Tiling}
-use Rattle.tile_run.specs.Tilings.{IsRunPlan, IsTiled}
-use Rattle.tile_run.proofs.OneRuns.{one_tiling}
+use Rattle.torus.specs.Tilings.{IsRunPlan, IsTiled}
+use Rattle.torus.proofs.OneRuns.{one_tiling}
 use Rattle.job_words.specs.declared.tile.TileJob.{TileJob}
 use Rattle.job_words.specs.TileWords.{IsTileJob}
 use Rattle.synth_report.specs.declared.summary.Summary.{Summary}

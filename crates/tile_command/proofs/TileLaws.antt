@@ -17,9 +17,9 @@ use Rattle.sample_files.specs.declared.sample.Sample.{Sample}
 use Rattle.sample_files.specs.Samples.{form_text}
 use Rattle.job_words.specs.declared.tile.TileJob.{TileJob}
 use Rattle.job_words.specs.TileWords.{IsTileJob}
-use Rattle.tile_run.specs.declared.plan.Tiled.{Tiled}
-use Rattle.tile_run.specs.Tilings.{IsTiledTo}
-use Rattle.tile_run.proofs.OneRuns.{all_keep, all_least}
+use Rattle.torus.specs.declared.plan.Tiled.{Tiled}
+use Rattle.torus.specs.Tilings.{IsTiledTo}
+use Rattle.torus.proofs.OneRuns.{all_keep, all_least}
 use Rattle.tile_command.specs.Tilings.{IsSampleIn, IsTileSummary, IsTilingMade, MayRefuseTile, plan_of, tile_command, tile_files, tile_stages, tile_summary, tiling_of, torus_seams}
 use Rattle.tile_command.specs.TileHeadlines.{IsTiledOutput, IsToldOfTiling}
 use Rattle.tile_command.proofs.Tiling.{are_one}

@@ -16,8 +16,8 @@ use Rattle.sample_files.specs.Samples.{IsSampleOf, RefusesSample, SampleReadsAs}
 use Rattle.sample_files.proofs.Commands.{sample_is_one}
 use Rattle.job_words.specs.declared.tile.TileJob.{TileJob}
 use Rattle.job_words.specs.TileWords.{IsTileJob}
-use Rattle.tile_run.specs.declared.plan.Tiled.{Tiled}
-use Rattle.tile_run.specs.Tilings.{IsRunPlan}
+use Rattle.torus.specs.declared.plan.Tiled.{Tiled}
+use Rattle.torus.specs.Tilings.{IsRunPlan}
 use Rattle.tile_command.specs.declared.plan.TiledSample.{TiledSample}
 use Rattle.tile_command.specs.Tilings.{IsTileSummary, IsTilingMade, MayRefuseTile, plan_of, tile_command, tile_files, tile_over, tile_stages, tile_summary, tiling_of}
 

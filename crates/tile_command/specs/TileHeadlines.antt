@@ -10,7 +10,7 @@ use Rattle.source_map.specs.MapFiles.{cell_map_form}
 use Rattle.source_map.specs.declared.head.Version.TheVariants.{One}
 use Rattle.patch_picks.specs.Draws.{DrawState}
 use Rattle.torus.specs.Steps.{TileStep}
-use Rattle.tile_run.specs.Tilings.{EachTileIsLeast, EachTileKeeps, IsTiled}
+use Rattle.torus.specs.Tilings.{EachTileIsLeast, EachTileKeeps, IsTiled}
 use Rattle.job_words.specs.declared.tile.TileJob.{TileJob}
 use Rattle.job_words.specs.declared.job.Job.TheVariants.{Tile as TileOf}
 use Rattle.job_words.specs.Jobs.{job_of}

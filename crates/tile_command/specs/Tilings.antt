@@ -8,9 +8,9 @@ use Rattle.map_canvas.specs.Maps.{SourceMap, map_at}
 use Rattle.source_map.specs.MapFiles.{cell_map_form}
 use Rattle.source_map.specs.declared.head.Version.TheVariants.{One}
 use Rattle.torus.specs.Wraps.{torus_total_of}
-use Rattle.tile_run.specs.declared.plan.RunPlan.{RunPlan}
-use Rattle.tile_run.specs.declared.plan.Tiled.{Tiled}
-use Rattle.tile_run.specs.Tilings.{IsTiledTo}
+use Rattle.torus.specs.declared.plan.RunPlan.{RunPlan}
+use Rattle.torus.specs.declared.plan.Tiled.{Tiled}
+use Rattle.torus.specs.Tilings.{IsTiledTo}
 use Rattle.job_words.specs.declared.tile.TileJob.{TileJob}
 use Rattle.synth_report.specs.declared.fault.Fault.{Fault}
 use Rattle.synth_report.specs.declared.fault.Fault.TheVariants.{Form as FormFault, Limit}

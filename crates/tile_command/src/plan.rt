@@ -12,8 +12,8 @@ use sample_files::{Sample, read_sample, within_bounds};
 use shelf_core::Shelf;
 use std::alloc::Global;
 use synth_report::{Fault, FileOf};
-use tile_run::{RunPlan, Tiled, tile_canvas};
-use torus::torus_total;
+use tile_run::tile_canvas;
+use torus::{RunPlan, Tiled, torus_total};
 
 /// The sample that was read, the output tiled from it, and what the seams of that cost in all, those across
 /// the edges included.

@@ -1,26 +1,21 @@
 -- The steps of a run, as the code makes them.
-use Rattle.std.proofs.Common.{◌≡◌, ℕ, ◌+◌, ◌-◌, ◌<◌, ◌≤◌, Bool, true, false, List, [], ◌∷◌, ◌++◌, length, length-append, refl, ap, sym, ◌∙◌, subst, arith}
-use Rattle.cells.specs.Cells.{Cells, IsVolume}
-use Rattle.cells.specs.Places.{IsSmall, cell_count}
+use Rattle.std.proofs.Common.{◌≡◌, ◌+◌, ◌-◌, ◌<◌, ◌≤◌, Bool, true, false, List, [], ◌∷◌, ◌++◌, length, length-append, refl, ap, sym, ◌∙◌, subst, arith}
+use Rattle.cells.specs.Cells.{Cells}
+use Rattle.cells.specs.Places.{cell_count}
 use Rattle.map_canvas.specs.Canvases.{CanvasState, IsCanvas, StandsOver, empty_canvas}
-use Rattle.map_canvas.specs.Maps.{IsMap, empty_map}
 use Rattle.map_canvas.proofs.Fronts.{front_in}
 use Rattle.std.specs.Prelude.{Ok, is_none, if◌then◌else◌}
 use Rattle.patch_picks.specs.Runs.{Leads}
 use Rattle.torus.specs.Steps.{TileStep, TilesBy, Tiling, tiling_of}
 use Rattle.torus.proofs.Afters.{reaches_more}
-use Rattle.tile_run.specs.declared.plan.RunPlan.{RunPlan}
+use Rattle.torus.specs.declared.plan.RunPlan.{RunPlan}
 use Rattle.tile_run.specs.declared.tiling.Work.{Work}
-use Rattle.tile_run.specs.Tilings.{IsRunPlan, IsTiled, first_tiling}
+use Rattle.torus.specs.Tilings.{IsRunPlan, IsTiled, first_tiling}
 use Rattle.tile_run.specs.Work.{Advances, IsWork, reached}
 
 leads_more : {S A : Type 0} (Step : S → A → S → Type 0) (s : S) (list : List A) (t : S) (a : A) (u : S) → Leads Step s list t → Step t a u → Leads Step s (list ++ a ∷ []) u
 leads_more Step s [] t a u run step = (u, (subst (λ x. Step x a u) run step, refl))
 leads_more Step s (b ∷ rest) t a u run step = (run.0, (run.1.0, leads_more Step run.0 rest t a u run.1.1 step))
-
--- an output of at most 2^20 cells is small
-pub small_output : (plan : RunPlan) → IsRunPlan plan → IsSmall plan.size
-small_output plan is = record { axes = is.axes; cells = omega (arith, is.cells) }
 
 -- no step is made yet
 pub none_laid : (plan : RunPlan) (sample : Cells) (now : Work) → IsCanvas now.canvas → StandsOver now.canvas sample → now.canvas ≡ empty_canvas plan.size sample.k → now.draws ≡ record { seed = plan.seed; place = 0 } → now.placements ≡ 0 → IsWork plan sample now

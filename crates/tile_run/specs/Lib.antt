@@ -1,3 +1,1 @@
-pub mod Tilings
-pub mod OneTiling
 pub mod Work

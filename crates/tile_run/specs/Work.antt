@@ -7,9 +7,9 @@ use Rattle.cells.specs.Cells.{Cells}
 use Rattle.map_canvas.specs.Canvases.{IsCanvas, StandsOver}
 use Rattle.map_canvas.specs.Maps.{SourceMap, first_unfilled}
 use Rattle.torus.specs.Steps.{TileStep, tiling_of}
-use Rattle.tile_run.specs.declared.plan.RunPlan.{RunPlan}
+use Rattle.torus.specs.declared.plan.RunPlan.{RunPlan}
 use Rattle.tile_run.specs.declared.tiling.Work.{Work}
-use Rattle.tile_run.specs.Tilings.{IsTiled}
+use Rattle.torus.specs.Tilings.{IsTiled}
 
 -- how many cells, from the first in raster order on, are filled
 abbrev pub reached : SourceMap → ℕ

@@ -2,16 +2,16 @@
 ghost use Rattle.std.specs.Prelude.{IfOk};
 ghost use Rattle.cells.specs.Cells.{IsOnePart};
 ghost use Rattle.search_squares.specs.Eliminations.{AreSampleSums};
-ghost use Rattle.tile_run.specs.Tilings.{IsRunPlan, IsTiledTo};
+ghost use Rattle.torus.specs.Tilings.{IsRunPlan, IsTiledTo};
 ghost use Rattle.tile_run.specs.Work.{Advances, IsWork};
 
-use crate::plan::{RunPlan, Tiled};
+use crate::next_tile_with;
 use cells::Volume;
 use map_canvas::Canvas;
 use patch_picks::Draws;
 use search_squares::SampleSums;
 use std::alloc::{AllocError, Global};
-use torus::next_tile_with;
+use torus::{RunPlan, Tiled};
 
 // A run so far.
 #[derive(Drop)]

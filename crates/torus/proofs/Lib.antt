@@ -14,3 +14,4 @@ pub mod Choosing
 pub mod OneSteps
 pub mod Making
 pub mod Afters
+pub mod OneRuns

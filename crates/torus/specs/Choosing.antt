@@ -1,5 +1,5 @@
--- What a step has found on its small canvas, for the contracts within the crate; nobody has to
--- trust this file. (Own.)
+-- What a step has found on its small canvas, for a contract within the crate tile_run; nobody has
+-- to trust this file. (Own.)
 use Rattle.std.specs.Prelude.{◌≡◌, length}
 use Rattle.cells.specs.declared.place.Box3.{Box3}
 use Rattle.cells.specs.declared.place.Size.{Size}

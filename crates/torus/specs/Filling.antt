@@ -1,5 +1,5 @@
 -- How far a small canvas is filled and a choice put in, and the boxes for which there is one, for
--- the contracts within the crate; nobody has to trust this file. (Own.)
+-- contracts within the crates torus and tile_run; nobody has to trust this file. (Own.)
 use Rattle.std.specs.Prelude.{◌≡◌, ◌<◌, ◌≤◌, ℕ, Bool, List, Some, None}
 use Rattle.cells.specs.declared.place.At.{At}
 use Rattle.cells.specs.declared.place.Box3.{Box3}

@@ -4,3 +4,5 @@ pub mod Boxes
 pub mod Steps
 pub mod Filling
 pub mod Choosing
+pub mod Tilings
+pub mod OneTiling

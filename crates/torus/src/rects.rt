@@ -53,8 +53,9 @@ fn tile_inner(plan: &TilePlan, output: Size, part: Size) -> Size
     }
 }
 
-/// The box that the patch for a cell q goes to.
-pub(crate) fn tile_box(plan: &TilePlan, output: Size, part: Size, q: At) -> Box3
+/// The box that the patch for a cell q goes to, of an output and a part of these sizes. On a wrapped axis it may
+/// begin in the output and pass its edge.
+pub fn tile_box(plan: &TilePlan, output: Size, part: Size, q: At) -> Box3
     requires output { HasAxes output }
     requires inside { IsInside output q }
     ensures { result ≡ tile_box plan.now output part q }

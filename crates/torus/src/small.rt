@@ -73,8 +73,8 @@ fn size_of(whole: Size, wrap: &Wrap, rect: &Box3) -> Size
     }
 }
 
-/// The box in the small canvas.
-pub(crate) fn small_box(wrap: &Wrap, rect: &Box3) -> Box3
+/// Where a box of the output lies in its small canvas.
+pub fn small_box(wrap: &Wrap, rect: &Box3) -> Box3
     ensures { result ≡ small_box wrap.now rect.now }
 {
     let corner = At {

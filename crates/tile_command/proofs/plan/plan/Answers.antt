@@ -2,7 +2,7 @@ use Rattle.std.proofs.Common.{subst, sym}
 use Rattle.command.specs.Outcomes.{NotMade}
 use Rattle.sample_files.proofs.OneSample.{sound_alone}
 use Rattle.job_words.specs.TileWords.{IsWide}
-use Rattle.tile_run.specs.Tilings.{IsRunPlan, IsTiledTo}
+use Rattle.torus.specs.Tilings.{IsRunPlan, IsTiledTo}
 use Rattle.tile_command.specs.Tilings.{tile_command}
 use Rattle.tile_command.proofs.Tiling.{bounds_passed, run_plan, sample_not_read, tiling_made}
 use Rattle.tile_command.proofs.plan.plan.Goals as goal

@@ -1,6 +1,7 @@
 use Rattle.std.proofs.Common.{◌∙◌, ap, refl, sym}
 use Rattle.map_canvas.specs.Canvases.{empty_canvas}
-use Rattle.tile_run.proofs.Stepping.{none_laid, small_output}
+use Rattle.torus.proofs.OneRuns.{small_output}
+use Rattle.tile_run.proofs.Stepping.{none_laid}
 use Rattle.tile_run.proofs.tiling.begin.Goals as goal
 
 pub empty-requires-clause-small : goal.empty-requires-clause-small

@@ -4,8 +4,8 @@ use Rattle.std.specs.Prelude.{◌≡◌, List}
 use Rattle.cells.specs.Cells.{Cells}
 use Rattle.map_canvas.specs.Maps.{IsFull, empty_map}
 use Rattle.torus.specs.Steps.{TileStep, Tiling}
-use Rattle.tile_run.specs.declared.plan.RunPlan.{RunPlan}
-use Rattle.tile_run.specs.Tilings.{EachTileIsLeast, EachTileKeeps, IsTiled}
+use Rattle.torus.specs.declared.plan.RunPlan.{RunPlan}
+use Rattle.torus.specs.Tilings.{EachTileIsLeast, EachTileKeeps, IsTiled}
 
 -- two runs to full maps have the same steps, and leave the same
 abbrev pub OneTiling : RunPlan → Cells → Type 0

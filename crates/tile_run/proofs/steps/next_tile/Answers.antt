@@ -1,7 +1,7 @@
 use Rattle.std.proofs.Common.{refl, sym, ◌∙◌, subst}
 use Rattle.std.proofs.lemmas.Result.{err_from_is_err_and}
 use Rattle.std.specs.Prelude.{IsSome}
-use Rattle.torus.proofs.steps.next_tile.Goals as goal
+use Rattle.tile_run.proofs.steps.next_tile.Goals as goal
 
 pub returns-in_err-sums-clause-tiles : goal.returns-in_err-sums-clause-tiles
 returns-in_err-sums-clause-tiles c =

@@ -1,6 +1,7 @@
 -- There is one run to a full map, and each of its choices is least.
-use Rattle.std.proofs.Common.{◌≡◌, List, [], ◌∷◌, refl, sym, ◌∙◌, subst}
+use Rattle.std.proofs.Common.{◌≡◌, List, [], ◌∷◌, refl, sym, ◌∙◌, subst, arith}
 use Rattle.cells.specs.Cells.{Cells, IsVolume}
+use Rattle.cells.specs.Places.{IsSmall}
 use Rattle.map_canvas.specs.Maps.{IsFull, IsMap}
 use Rattle.map_canvas.proofs.Marks.{empty_is_canvas}
 use Rattle.patch_picks.specs.Runs.{Leads}
@@ -8,10 +9,13 @@ use Rattle.job_words.specs.declared.tile.TilePlan.{TilePlan}
 use Rattle.torus.specs.Steps.{TileStep, TilesBy, Tiling}
 use Rattle.torus.proofs.Afters.{full_has_none, keeps_around, leaves_map}
 use Rattle.torus.proofs.OneSteps.{one_tile}
-use Rattle.tile_run.specs.declared.plan.RunPlan.{RunPlan}
-use Rattle.tile_run.specs.OneTiling.{EachIsLeast, EachKeeps, OneTiling}
-use Rattle.tile_run.specs.Tilings.{EachTileIsLeast, EachTileKeeps, IsRunPlan, first_tiling}
-use Rattle.tile_run.proofs.Stepping.{small_output}
+use Rattle.torus.specs.declared.plan.RunPlan.{RunPlan}
+use Rattle.torus.specs.OneTiling.{EachIsLeast, EachKeeps, OneTiling}
+use Rattle.torus.specs.Tilings.{EachTileIsLeast, EachTileKeeps, IsRunPlan, first_tiling}
+
+-- an output of at most 2^20 cells is small
+pub small_output : (plan : RunPlan) → IsRunPlan plan → IsSmall plan.size
+small_output plan is = record { axes = is.axes; cells = omega (arith, is.cells) }
 
 module _ (plan : TilePlan) (sample : Cells) (volume : IsVolume sample) where
   one_run : (from : Tiling) (steps others : List TileStep) (tiling other : Tiling) → IsMap from.map → Leads (TilesBy plan sample) from steps tiling → IsFull tiling.map

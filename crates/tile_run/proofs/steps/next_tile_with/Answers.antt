@@ -6,7 +6,7 @@ use Rattle.torus.specs.Choosing.{placed_around}
 use Rattle.torus.specs.Tiles.{IsAfterAround}
 use Rattle.torus.proofs.Making.{step_made}
 use Rattle.torus.proofs.TileBoxes.{tile_at}
-use Rattle.torus.proofs.steps.next_tile_with.Goals as goal
+use Rattle.tile_run.proofs.steps.next_tile_with.Goals as goal
 
 pub tile_box-rect-requires-clause-output : goal.tile_box-rect-requires-clause-output
 tile_box-rect-requires-clause-output c = subst HasAxes (sym (c.size-size.ensures.size ∙ ap (λ m. m.size) c.map.ensures.map)) c.map.ensures.canvas.map.small.axes

@@ -15,8 +15,8 @@ use Rattle.job_words.specs.declared.tile.Wrap.{Wrap}
 use Rattle.job_words.specs.TileWords.{IsWide}
 use Rattle.torus.specs.Steps.{TileStep, TilesBy, Tiling, map_after_around}
 use Rattle.torus.specs.Tiles.{IsInTile, IsKeptAround, IsLeastAround, after_around}
-use Rattle.tile_run.specs.declared.plan.RunPlan.{RunPlan}
-use Rattle.tile_run.specs.declared.plan.Tiled.{Tiled}
+use Rattle.torus.specs.declared.plan.RunPlan.{RunPlan}
+use Rattle.torus.specs.declared.plan.Tiled.{Tiled}
 
 -- what a run asks for: an output within the limit, 3 cells at the least on each wrapped axis, and
 -- patches of some

@@ -7,7 +7,7 @@ use Rattle.patch_picks.proofs.BoxLists.{all_in_room, some_room}
 use Rattle.torus.specs.Tiles.{small_box}
 use Rattle.torus.proofs.Choosing.{chosen_around}
 use Rattle.torus.proofs.TileBoxes.{inner_holds}
-use Rattle.torus.proofs.steps.choose.Goals as goal
+use Rattle.tile_run.proofs.steps.choose.Goals as goal
 
 pub pick_with-requires-clause-some : goal.pick_with-requires-clause-some
 pick_with-requires-clause-some c =

@@ -10,9 +10,6 @@ ghost use Rattle.torus.specs.Choosing.{IsChosenAround};
 ghost use Rattle.torus.specs.Filling.{IsTileBox};
 ghost use Rattle.torus.specs.Steps.{Tiles, tiling_of};
 
-use crate::put::put_around;
-use crate::rects::tile_box;
-use crate::small::{small_box, small_canvas};
 use cells::{Box3, Volume};
 use cut_check::CutRecord;
 use graph_place::place;
@@ -23,6 +20,7 @@ use patch_picks::{Candidates, Draws};
 use patch_place::pick_with;
 use search_squares::SampleSums;
 use std::alloc::{AllocError, Global};
+use torus::{put_around, small_box, small_canvas, tile_box};
 
 // Picks a placement of a box, and of its choices the one that is taken, on a small canvas.
 fn choose(

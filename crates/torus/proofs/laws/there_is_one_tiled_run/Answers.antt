@@ -1,5 +1,5 @@
-use Rattle.tile_run.proofs.OneRuns.{all_keep, all_least, one_tiling}
-use Rattle.tile_run.proofs.laws.there_is_one_tiled_run.Goals as goal
+use Rattle.torus.proofs.OneRuns.{all_keep, all_least, one_tiling}
+use Rattle.torus.proofs.laws.there_is_one_tiled_run.Goals as goal
 
 pub returns-clause-one : goal.returns-clause-one
 returns-clause-one c = one_tiling c.args.plan.now c.args.sample.now c.samples-samples.ensures.volume c.requires

@@ -1,4 +1,5 @@
-// Worked examples of patch_place: the lists of small samples and outputs, and picks and steps over a row.
+// Worked examples of patch_picks and patch_place: the lists of small samples and outputs, and picks and steps
+// over a row.
 ghost use Rattle.std.specs.Prelude.{◌≡◌, ◌<◌, ◌≤◌, ◌+◌, All, IfOk, IsTrue};
 ghost use Rattle.cells.specs.Cells.{blank};
 ghost use Rattle.cells.specs.Places.{IsInside, IsSmall, cell_count};

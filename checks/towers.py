@@ -14,8 +14,8 @@ import sys
 
 JUDGE = ["costs", "cut_check", "cut_replay", "strip_boundary", "block_strips", "block_check", "block_replay", "frame_distance", "loop_walk"]
 JUDGE += ["cert_file", "standing_files", "check_command"]
-SEARCH = ["match_error", "patch_picks", "search_squares", "patch_place", "trial_sample", "cost_windows", "max_flow", "cut_graph", "graph_place", "refine_seams"]
-SEARCH += ["grow_run", "quilt", "quilt_run", "transfer", "torus", "tile_run"]
+SEARCH = ["match_error", "patch_picks", "search_squares", "patch_place", "trial_sample", "least_choice", "cost_windows", "grown", "max_flow", "cut_graph"]
+SEARCH += ["graph_place", "refine_seams", "grow_run", "quilt", "quilt_run", "transfer", "torus", "tile_run"]
 
 # The most lines of the crates that stand on a crate, for an edit of that crate. `grow`, `quilt`, `transfer` and `tile` each pick
 # patches, so that the crates of all four are among them.

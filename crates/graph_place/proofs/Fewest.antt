@@ -16,7 +16,7 @@ use Rattle.max_flow.specs.Solutions.{IsSolution}
 use Rattle.cut_graph.specs.declared.places.Places.{Places}
 use Rattle.cut_graph.specs.Nodes.{cell_node}
 use Rattle.cut_graph.specs.Cuts.{Agree, ChoicesAreCuts, HasCut, IsLawfulHeld}
-use Rattle.graph_place.specs.Fewest.{AreSame, IsFewestHeld, old_count}
+use Rattle.least_choice.specs.Fewest.{AreSame, IsFewestHeld, old_count}
 
 -- a cell that is old where its node is in a set
 fewer_old : (in_one in_other new other : Bool) → (in_one ≡ true → in_other ≡ true) → new ≡ not in_one → other ≡ not in_other → one_if (not new) ≤ one_if (not other)

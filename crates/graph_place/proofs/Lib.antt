@@ -3,8 +3,6 @@ pub mod Nodes
 pub mod Balance
 pub mod Standing
 pub mod Fewest
-pub mod OneChoice
-pub mod Totals
 pub mod Recording
 pub mod Solving
 pub mod Placed

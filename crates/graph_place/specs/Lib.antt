@@ -1,4 +1,3 @@
 pub mod Records
-pub mod Fewest
 pub mod Placed
 pub mod Parts

@@ -1,17 +1,15 @@
 -- To be trusted: what a placement by a graph cut leaves. (Kwatra et al. 2003.)
-use Rattle.std.specs.Prelude.{◌≡◌, ◌≤◌, ℕ, List, Bool, length}
+use Rattle.std.specs.Prelude.{◌≡◌, List, Bool, length}
 use Rattle.cells.specs.Cells.{Cells}
 use Rattle.cells.specs.Distances.{distance}
 use Rattle.cells.specs.Places.{cell_count}
 use Rattle.map_canvas.specs.declared.canvas.Placement.{Placement}
 use Rattle.map_canvas.specs.Canvases.{CanvasState, StandsOver}
 use Rattle.map_canvas.specs.Choices.{IsAfter, map_after}
-use Rattle.map_canvas.specs.Maps.{IsFull, SourceMap, map_at}
-use Rattle.costs.specs.Costs.{total_of}
 use Rattle.boxes.specs.Pairs.{pair_count}
 use Rattle.cut_check.specs.declared.record.CutRecord.{CutRecord}
 use Rattle.cut_check.specs.Records.{CutStands}
-use Rattle.graph_place.specs.Fewest.{IsFewestHeld}
+use Rattle.least_choice.specs.Fewest.{IsFewestHeld}
 
 -- the record is one of the placement and stands over the canvas before; its choice is the least one
 -- with
@@ -26,11 +24,3 @@ pub record IsPlaced (before : CanvasState) (sample : Cells) (placement : Placeme
   pub map : after.map ≡ map_after before.map placement cut.choice
   pub each : IsAfter before.map placement cut.choice after.map
   pub over : StandsOver after sample
-
--- the total seam cost of a map
-abbrev pub map_total : Cells → SourceMap → ℕ
-map_total sample m = total_of (distance sample) m.size (map_at m)
-
--- a map that was full has no greater total than before
-abbrev pub KeepsTotal : Cells → SourceMap → SourceMap → Type 0
-KeepsTotal sample before after = IsFull before → map_total sample after ≤ map_total sample before

@@ -2,17 +2,15 @@
 //! record that shows it.
 //!
 //! `place_held` and `place` promise a choice of the least total seam cost, of those the one with the
-//! fewest old cells, the map after it, and a record that stands over the canvas as it was
-//! (specs/Placed.antt, specs/Fewest.antt). They take all their memory before they change the canvas.
+//! fewest old cells (crate least_choice), the map after it, and a record that stands over the canvas as it
+//! was (specs/Placed.antt). They take all their memory before they change the canvas.
 //! `to_record` reads the record out of a solved network (specs/Records.antt). The method is that of
 //! Kwatra et al., "Graphcut textures" (2003): the network is `cut_graph`'s, its solver `max_flow`'s, and
 //! `cut_check` judges the record.
 #![tactic(auto)]
 
-mod laws;
 mod placing;
 mod record;
 
-pub use laws::there_is_one_fewest_choice;
 pub use placing::{place, place_held};
 pub use record::to_record;

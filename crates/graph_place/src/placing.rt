@@ -4,8 +4,9 @@ ghost use Rattle.cells.specs.Distances.{distance};
 ghost use Rattle.map_canvas.specs.Canvases.{IsCanvas, StandsOver};
 ghost use Rattle.map_canvas.specs.Choices.{Fits};
 ghost use Rattle.costs.specs.Lawful.{AreMarks, IsLeastChoice, held_marks};
-ghost use Rattle.graph_place.specs.Fewest.{IsLeastWith};
-ghost use Rattle.graph_place.specs.Placed.{IsPlaced, KeepsTotal};
+ghost use Rattle.least_choice.specs.Fewest.{IsLeastWith};
+ghost use Rattle.graph_place.specs.Placed.{IsPlaced};
+ghost use Rattle.least_choice.specs.Totals.{KeepsTotal};
 
 use crate::record::to_record;
 use cells::Volume;

@@ -5,31 +5,19 @@ ghost use Rattle.job_words.specs.GrowWords.{IsGrowJob};
 ghost use Rattle.command.specs.Commands.{names_in};
 ghost use Rattle.command.specs.Outcomes.{Plans};
 ghost use Rattle.sample_files.specs.Several.{sample_files};
-ghost use Rattle.grow_command.specs.Growths.{IsMade, grow_command, growth_files, growth_summary, plan_of};
+ghost use Rattle.grow_outputs.specs.Growths.{IsMade, grow_command, growth_files, growth_summary, plan_of};
 
-use crate::asked::{growing_fault, mode_for};
-use cells::Sizes;
 use command_files::records_fit;
 use costs::total;
-use grow_run::{GrowPlan, Grown, grow_canvas};
+use grow_outputs::{Growth, growing_fault, mode_for};
+use grow_run::grow_canvas;
+use grown::GrowPlan;
 use job_words::GrowJob;
-use sample_files::{Samples, parts_within, read_samples, within_bounds};
+use sample_files::{parts_within, read_samples, within_bounds};
 use shelf_core::Shelf;
 use std::alloc::Global;
 use synth_report::Fault;
 use worked::worked;
-
-/// The samples that were worked over, the output grown and refined over them with its records, and what
-/// its seams cost in all.
-#[derive(Drop)]
-pub struct Growth {
-    /// The samples that were read, or with turns those of all their turns.
-    pub samples: Samples,
-    /// The sizes of the samples that were read.
-    pub sizes: Sizes,
-    pub grown: Grown,
-    pub seams: u64,
-}
 
 // How an output is grown and refined.
 fn plan_of(job: &GrowJob) -> GrowPlan

@@ -1,5 +1,1 @@
-pub mod Grown
-pub mod OneRun
-pub mod BoxLimit
-pub mod Counted
 pub mod Work

@@ -5,14 +5,15 @@ use Rattle.cells.specs.Cells.{Cells}
 use Rattle.map_canvas.specs.Canvases.{IsCanvas, StandsOver}
 use Rattle.map_canvas.specs.Maps.{IsFull, empty_map, first_unfilled}
 use Rattle.cost_windows.specs.Tables.{WindowSums}
-use Rattle.refine_seams.specs.Rounds.{NoWindowCosts, SumsWindowsOf}
+use Rattle.grown.specs.Rounds.{NoWindowCosts}
+use Rattle.refine_seams.specs.Rounds.{SumsWindowsOf}
 use Rattle.limits.specs.declared.bounds.TheConstants.{MOST_BOX_CELLS}
 use Rattle.cut_check.specs.Records.{box_cells}
 use Rattle.cut_replay.specs.Replay.{EachStands, IsFormed, left_by}
-use Rattle.grow_run.specs.declared.plan.GrowPlan.{GrowPlan}
-use Rattle.grow_run.specs.declared.plan.GrowError.{GrowError}
+use Rattle.grown.specs.declared.plan.GrowPlan.{GrowPlan}
+use Rattle.grown.specs.declared.plan.GrowError.{GrowError}
 use Rattle.grow_run.specs.declared.steps.Work.{Work}
-use Rattle.grow_run.specs.Grown.{Growth, IsDone, IsGrowFault, IsRun}
+use Rattle.grown.specs.Grown.{Growth, IsDone, IsGrowFault, IsRun}
 
 abbrev pub growth_of : Work → Growth
 growth_of work = record { map = work.canvas.map; draws = work.draws; rounds = work.rounds }

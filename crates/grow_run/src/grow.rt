@@ -4,13 +4,12 @@ ghost use Rattle.cells.specs.Places.{IsSmall};
 ghost use Rattle.map_canvas.specs.Maps.{IsFull};
 ghost use Rattle.search_squares.specs.Eliminations.{AreSampleSums};
 ghost use Rattle.patch_picks.specs.Fitting.{HasPatch};
-ghost use Rattle.grow_run.specs.Grown.{Grows, IsGrowFault};
+ghost use Rattle.grown.specs.Grown.{Grows, IsGrowFault};
 ghost use Rattle.grow_run.specs.Work.{Ends, IsWork, LaysGrowth};
 
-use crate::limit::first_past;
-use crate::plan::{GrowError, GrowPlan, Grown};
 use crate::steps::{Work, begin, refine_step, step};
 use cells::Volume;
+use grown::{GrowError, GrowPlan, Grown, first_past};
 use items::Items;
 use patch_picks::Mode;
 use refine_seams::round_windows;

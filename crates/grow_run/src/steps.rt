@@ -5,11 +5,11 @@ ghost use Rattle.search_squares.specs.Eliminations.{AreSampleSums};
 ghost use Rattle.patch_picks.specs.Fitting.{HasPatch};
 ghost use Rattle.grow_run.specs.Work.{Advances, IsRefining, IsWork, Refines};
 
-use crate::plan::{GrowError, GrowPlan};
 use cells::Volume;
 use cost_windows::SeamTable;
 use cut_check::CutRecord;
 use graph_place::place;
+use grown::{GrowError, GrowPlan};
 use limits::MOST_BOX_CELLS;
 use map_canvas::Canvas;
 use patch_picks::Draws;

@@ -10,7 +10,7 @@ use Rattle.map_canvas.specs.Canvases.{CanvasState, IsCanvas, StandsOver}
 use Rattle.map_canvas.specs.Maps.{IsFull}
 use Rattle.source_map.specs.MapFiles.{cell_map_form}
 use Rattle.source_map.specs.declared.head.Version.TheVariants.{Two}
-use Rattle.graph_place.specs.Placed.{map_total}
+use Rattle.least_choice.specs.Totals.{map_total}
 use Rattle.photo_merge.specs.Marks.{AreMerging, IsFirstBad}
 use Rattle.photo_merge.specs.Merges.{IsMerge}
 use Rattle.photo_merge.specs.MergeLaws.{picture_count}

@@ -10,7 +10,7 @@ use Rattle.netpbm_p6.specs.Pictures.{IsRead, p6_form}
 use Rattle.map_canvas.specs.Maps.{SourceMap, IsFull, IsMap, IsOver, map_at, picture_of}
 use Rattle.source_map.specs.MapFiles.{cell_map_form}
 use Rattle.source_map.specs.declared.head.Version.TheVariants.{Two}
-use Rattle.graph_place.specs.Placed.{map_total}
+use Rattle.least_choice.specs.Totals.{map_total}
 use Rattle.photo_merge.specs.Merges.{AreOneSize, IsMerge}
 use Rattle.photo_merge.specs.MergeLaws.{EachComesFrom, MarkedAreOwn, picture_count}
 use Rattle.job_words.specs.declared.merge.MergeJob.{MergeJob}

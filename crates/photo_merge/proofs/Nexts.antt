@@ -14,7 +14,7 @@ use Rattle.map_canvas.specs.Maps.{IsFull, SourceMap, map_at}
 use Rattle.costs.specs.Lawful.{AreHeld, AreMarks, is_held, is_new}
 use Rattle.costs.proofs.Locality.{after_new, after_old}
 use Rattle.costs.proofs.Existence.{new_inside}
-use Rattle.graph_place.proofs.OneChoice.{one_fewest}
+use Rattle.least_choice.proofs.OneChoice.{one_fewest}
 use Rattle.photo_merge.specs.Marks.{earlier_marks, mark_at}
 use Rattle.photo_merge.specs.Merges.{MergesNext, same_place, whole_from, without}
 use Rattle.photo_merge.proofs.MapsOver.{over_inside, place_inside}

@@ -14,7 +14,7 @@ use Rattle.map_canvas.specs.Maps.{IsFull, IsMap, IsOver, SourceMap}
 use Rattle.map_canvas.proofs.Filling.{cell_is_source}
 use Rattle.costs.specs.Lawful.{AreMarks}
 use Rattle.cut_check.specs.declared.record.CutRecord.{CutRecord}
-use Rattle.graph_place.specs.Fewest.{IsFewestHeld}
+use Rattle.least_choice.specs.Fewest.{IsFewestHeld}
 use Rattle.graph_place.specs.Placed.{IsPlaced}
 use Rattle.photo_merge.specs.Marks.{earlier_marks}
 use Rattle.photo_merge.specs.Merges.{AreOneSize, MergesNext, first_map, same_place, whole_from, without}

@@ -15,7 +15,7 @@ use Rattle.cells.specs.SizeLists.{stock_place}
 use Rattle.map_canvas.specs.declared.canvas.Placement.{Placement}
 use Rattle.map_canvas.specs.Choices.{map_after}
 use Rattle.map_canvas.specs.Maps.{SourceMap, map_at}
-use Rattle.graph_place.specs.Fewest.{IsFewestHeld}
+use Rattle.least_choice.specs.Fewest.{IsFewestHeld}
 use Rattle.photo_merge.specs.Marks.{earlier_marks, mark_at}
 
 -- all pictures have the size of the first

@@ -1,31 +1,27 @@
--- The worst window has places in the sample, and a full map stays full.
-use Rattle.std.proofs.Common.{◌≡◌, ℕ, ◌<◌, List, length, refl, ap, sym, ◌∙◌, subst}
-use Rattle.std.specs.Prelude.{All, Bool}
+-- The worst window has places in the sample.
+use Rattle.std.proofs.Common.{◌≡◌, ℕ, ◌<◌, length, refl, ap, sym, ◌∙◌, subst}
+use Rattle.std.specs.Prelude.{All}
 use Rattle.cells.specs.declared.place.At.{At}
 use Rattle.cells.specs.declared.place.Box3.{Box3}
 use Rattle.cells.specs.declared.place.Size.{Size}
 use Rattle.cells.specs.Boxes.{HasCells, HoldsBox}
 use Rattle.cells.specs.Cells.{Cells}
 use Rattle.cells.specs.Distances.{distance}
-use Rattle.cells.specs.Places.{IsInside, IsSmall}
-use Rattle.map_canvas.specs.declared.canvas.Placement.{Placement}
-use Rattle.map_canvas.specs.Choices.{Fits, IsAfter}
-use Rattle.map_canvas.specs.Maps.{IsFull, SourceMap, map_at}
-use Rattle.map_canvas.proofs.AfterLaws.{stays_filled}
+use Rattle.cells.specs.Places.{IsSmall}
+use Rattle.map_canvas.specs.Choices.{Fits}
+use Rattle.map_canvas.specs.Maps.{SourceMap, map_at}
 use Rattle.cost_windows.specs.Tables.{WindowSums}
 use Rattle.cost_windows.specs.Windows.{IsWorst, window_at}
 use Rattle.patch_picks.specs.Fitting.{HasRoomInEach}
 use Rattle.patch_picks.specs.Lists.{fit_list, part_lists}
 use Rattle.patch_picks.specs.Modes.{window}
 use Rattle.patch_picks.proofs.BoxLists.{all_in_room, some_room}
-use Rattle.refine_seams.specs.Rounds.{SumsWindowsOf, IsWorstAt, IsWorstBox}
+use Rattle.refine_seams.specs.Rounds.{SumsWindowsOf}
+use Rattle.grown.specs.Rounds.{IsWorstAt, IsWorstBox}
 
 -- a size of an output has cells
 pub small_cells : (size : Size) → IsSmall size → HasCells size
 small_cells size small = record { w = small.axes.w.0; h = small.axes.h.0; f = small.axes.f.0 }
-
-pub stays_full : (m after : SourceMap) (placement : Placement) (choice : List Bool) → IsFull m → IsAfter m placement choice after → IsFull after
-stays_full m after placement choice full step p inside = stays_filled m placement choice after step p (full p (subst (λ (size : Size). IsInside size p) step.size inside))
 
 -- the list of the worst window has an entry, and each of its entries fits
 pub some_entry : (sample : Cells) (rect : Box3) → HasRoomInEach sample rect.size → 0 < length (part_lists (fit_list rect) sample)

@@ -5,7 +5,7 @@ ghost use Rattle.map_canvas.specs.Canvases.{IsCanvas, StandsOver};
 ghost use Rattle.map_canvas.specs.Maps.{IsFull};
 ghost use Rattle.search_squares.specs.Eliminations.{AreSampleSums};
 ghost use Rattle.patch_picks.specs.Fitting.{HasRoomInEach};
-ghost use Rattle.graph_place.specs.Placed.{map_total};
+ghost use Rattle.least_choice.specs.Totals.{map_total};
 ghost use Rattle.refine_seams.specs.Rounds.{IsRoundBox, SumsWindowsOf, Rounds};
 
 use cells::{Box3, Volume};
@@ -58,7 +58,7 @@ pub fn round_windows(
 /// `window_size` gives, before and after. None where no window costs anything; nothing is changed then. The
 /// one error is that there is no memory, also for the sums of the sample's blocks, which are made again in each
 /// call; it changes nothing.
-#[tactic(auto, using(crate::proofs::Rounding::stays_full))]
+#[tactic(auto, using(grown::proofs::Splitting::stays_full))]
 pub fn round(
     alloc: Global,
     canvas: &mut Canvas,
@@ -89,7 +89,7 @@ pub fn round(
 }
 
 /// The same round as `round`, of a sample whose sums of blocks are made.
-#[tactic(auto, using(crate::proofs::Rounding::stays_full))]
+#[tactic(auto, using(grown::proofs::Splitting::stays_full))]
 pub fn round_with(
     alloc: Global,
     canvas: &mut Canvas,

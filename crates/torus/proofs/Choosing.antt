@@ -23,7 +23,7 @@ use Rattle.patch_picks.specs.Draws.{DrawState}
 use Rattle.patch_picks.specs.Lists.{fit_list, part_lists}
 use Rattle.patch_picks.specs.Picks.{IsPick}
 use Rattle.costs.specs.Lawful.{IsLeastChoice, IsLeastHeld, is_held}
-use Rattle.graph_place.specs.Fewest.{AreSame, IsFewestHeld, old_count}
+use Rattle.least_choice.specs.Fewest.{AreSame, IsFewestHeld, old_count}
 use Rattle.cut_check.specs.declared.record.CutRecord.{CutRecord}
 use Rattle.job_words.specs.declared.tile.TilePlan.{TilePlan}
 use Rattle.job_words.specs.declared.tile.Wrap.{Wrap}

@@ -19,7 +19,7 @@ use Rattle.patch_picks.specs.Draws.{DrawState}
 use Rattle.patch_picks.specs.Lists.{fit_list, part_lists}
 use Rattle.patch_picks.specs.Picks.{IsPick}
 use Rattle.patch_picks.specs.Steps.{after_draw}
-use Rattle.graph_place.specs.Fewest.{old_count}
+use Rattle.least_choice.specs.Fewest.{old_count}
 use Rattle.job_words.specs.declared.tile.TilePlan.{TilePlan}
 use Rattle.job_words.specs.declared.tile.Wrap.{Wrap}
 use Rattle.torus.specs.Boxes.{tile_box}

@@ -4,15 +4,15 @@ use Rattle.std.proofs.lemmas.List.Elements.{length_all_zip}
 use Rattle.cells.specs.Places.{IsSmall, cell_count}
 use Rattle.shelf_core.specs.Files.{Files, ShelfState}
 use Rattle.shelf_core.specs.declared.fault.What.TheVariants.{Output}
-use Rattle.graph_place.specs.Placed.{map_total}
+use Rattle.least_choice.specs.Totals.{map_total}
 use Rattle.trial_sample.specs.TrialSamples.{trial_sample}
 use Rattle.trial_sample.proofs.Volumes.{trial_is_volume}
 use Rattle.limits.specs.declared.bounds.TheConstants.{MOST_OUTPUT_CELLS}
-use Rattle.grow_run.specs.declared.plan.GrowError.{GrowError}
-use Rattle.grow_run.specs.declared.plan.GrowError.TheVariants as error
-use Rattle.grow_run.specs.Grown.{Growth, IsGrowFault, PassesAt}
-use Rattle.grow_run.specs.OneRun.{IsSameRun, SameButFlows}
-use Rattle.grow_run.proofs.OneRuns.{ends_within, limits_are_one, runs_are_one}
+use Rattle.grown.specs.declared.plan.GrowError.{GrowError}
+use Rattle.grown.specs.declared.plan.GrowError.TheVariants as error
+use Rattle.grown.specs.Grown.{Growth, IsGrowFault, PassesAt}
+use Rattle.grown.specs.OneRun.{IsSameRun, SameButFlows}
+use Rattle.grown.proofs.OneRuns.{ends_within, limits_are_one, runs_are_one}
 use Rattle.job_words.specs.declared.trial.TrialJob.{TrialJob}
 use Rattle.job_words.specs.TrialWords.{IsTrialJob}
 use Rattle.synth_report.specs.declared.fault.Fault.{Fault}
@@ -23,7 +23,7 @@ use Rattle.command.specs.Outcomes.{IsPlanned, NotMade, WritesAll}
 use Rattle.command.specs.Stages.{PassesBound}
 use Rattle.command.proofs.Staging.{AreOne, bound_is_one, one_answer, passing_is_one}
 use Rattle.command.proofs.Planning.{StandsBefore, begin, limit_passed, pass_on, plan_made}
-use Rattle.grow_command.specs.Growths.{fault_of_growing}
+use Rattle.grow_outputs.specs.Growths.{fault_of_growing}
 use Rattle.trial_command.specs.Trials.{IsTrialOf, IsTrialRefused, NotTried, trial_command, trial_plan, trial_stages, trial_summary}
 
 -- the output has no more cells than one may have

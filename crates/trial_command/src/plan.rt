@@ -1,7 +1,7 @@
 // What is computed before the report.
 ghost use Rattle.std.specs.Prelude.{◌≡◌, ◌≤◌, IfOk, IfErr};
 ghost use Rattle.cells.specs.Places.{cell_count};
-ghost use Rattle.grow_run.specs.Grown.{IsGrown};
+ghost use Rattle.grown.specs.Grown.{IsGrown};
 ghost use Rattle.job_words.specs.TrialWords.{IsTrialJob};
 ghost use Rattle.trial_sample.specs.TrialSamples.{trial_sample};
 ghost use Rattle.trial_command.specs.Trials.{IsTrialOf, NotTried, trial_plan, trial_summary};
@@ -9,8 +9,9 @@ ghost use Rattle.trial_command.specs.Trials.{IsTrialOf, NotTried, trial_plan, tr
 use cells::Volume;
 use costs::total;
 use cut_replay::replay_cuts;
-use grow_command::{growing_fault, mode_for};
-use grow_run::{GrowPlan, Grown, grow_canvas};
+use grow_outputs::{growing_fault, mode_for};
+use grow_run::grow_canvas;
+use grown::{GrowPlan, Grown};
 use job_words::TrialJob;
 use limits::MOST_OUTPUT_CELLS;
 use map_canvas::Canvas;

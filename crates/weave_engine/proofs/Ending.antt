@@ -34,16 +34,16 @@ use Rattle.upgrade_command.specs.Upgraded.{UpgradeHeadline}
 use Rattle.upgrade_command.proofs.Headline.{finished}
 use Rattle.upgrade_command.proofs.Reading.{upgrade_has_one_answer}
 use Rattle.weave_engine.specs.Engine.{command_of}
-use Rattle.grow_command.specs.GrowHeadlines.{GrowHeadline, GrowReport, HaveSameOutput, HaveSameSamples, IsGrownRun, IsOneReport, OneOutput}
+use Rattle.grow_outputs.specs.GrowHeadlines.{GrowHeadline, GrowReport, HaveSameOutput, HaveSameSamples, IsGrownRun, IsOneReport, OneOutput}
 use Rattle.check_command.specs.CheckHeadlines.{CheckHeadline, HaveLeastRecords}
 use Rattle.trial_command.specs.TrialHeadlines.{TrialHeadline}
 use Rattle.standing_files.specs.declared.verdict.Verdict.TheVariants as verdict
 use Rattle.check_command.specs.Checks.{Stand, check_command, summary_of}
 use Rattle.check_command.proofs.Staged.{check_has_one_answer}
 use Rattle.check_command.proofs.Checked.{broke, least_records, made_breaking, made_standing, stood}
-use Rattle.grow_command.proofs.Growing.{small_output}
-use Rattle.grow_command.proofs.GrowLaws.{grow_has_one_answer, grow_told, grown_run, output_fits}
-use Rattle.grow_command.proofs.OneOutputs.{one_output, one_report}
+use Rattle.grow_outputs.proofs.Growing.{small_output}
+use Rattle.grow_outputs.proofs.GrowLaws.{grow_has_one_answer, grow_told, grown_run, output_fits}
+use Rattle.grow_outputs.proofs.OneOutputs.{one_output, one_report}
 use Rattle.trial_command.specs.Trials.{IsTrialOf}
 use Rattle.trial_command.proofs.Trying.{one_trial, trial_has_one_answer, trial_unchanged}
 

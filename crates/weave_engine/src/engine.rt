@@ -3,7 +3,7 @@ ghost use Rattle.job_words.specs.Jobs.{IsJob};
 ghost use Rattle.command.specs.Outcomes.{Answers, Leaves, Runs};
 ghost use Rattle.command.specs.Promises.{DoneStatus, IsComplete, IsRunStatus, KeepsFiles, KeepsOthers, MemoryStatus, NamedFiles, ReadStatus, RefusedStatus, WordsStatus, WriteStatus};
 ghost use Rattle.check_command.specs.CheckHeadlines.{CheckHeadline};
-ghost use Rattle.grow_command.specs.GrowHeadlines.{GrowHeadline, GrowReport, OneOutput};
+ghost use Rattle.grow_outputs.specs.GrowHeadlines.{GrowHeadline, GrowReport, OneOutput};
 ghost use Rattle.loop_command.specs.LoopHeadlines.{LoopHeadline, OneLoop};
 ghost use Rattle.merge_command.specs.MergeHeadlines.{MergeHeadline, MergeReport, OneMerge};
 ghost use Rattle.quilt_command.specs.QuiltHeadlines.{OneQuiltOutput, QuiltHeadline, QuiltReport};

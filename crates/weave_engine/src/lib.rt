@@ -11,7 +11,7 @@ mod engine;
 
 pub use check_command::check_files;
 pub use engine::run;
-pub use grow_command::{Growth, grow};
+pub use grow_command::grow;
 pub use loop_command::loop_clip;
 pub use merge_command::merge_pictures;
 pub use quilt_command::quilt_picture;

@@ -5,7 +5,7 @@ use Rattle.costs.specs.Lawful.{held_marks}
 use Rattle.max_flow.specs.Solutions.{IsSolution}
 use Rattle.graph_place.proofs.Placed.{placed}
 use Rattle.graph_place.proofs.Solving.{solved_for}
-use Rattle.graph_place.proofs.Totals.{keeps_total, least_with}
+use Rattle.least_choice.proofs.Totals.{keeps_total, least_with}
 use Rattle.graph_place.proofs.placing.place_held.Goals as goal
 use Rattle.graph_place.proofs.placing.place_held.Goals.{In_ok-solved}
 

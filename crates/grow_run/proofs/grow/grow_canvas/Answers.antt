@@ -5,9 +5,9 @@ use Rattle.limits.specs.declared.bounds.TheConstants.{MOST_BOX_CELLS}
 use Rattle.cut_check.specs.Records.{box_cells}
 use Rattle.cut_replay.specs.Replay.{EachStands, IsFormed, left_by}
 use Rattle.cut_replay.proofs.Standing.{each_fits, each_keeps, each_least}
-use Rattle.grow_run.specs.Grown.{IsRun, first_growth}
+use Rattle.grown.specs.Grown.{IsRun, first_growth}
 use Rattle.grow_run.specs.Work.{growth_of}
-use Rattle.grow_run.proofs.Splitting.{run_splits, size_stays, starts}
+use Rattle.grown.proofs.Splitting.{run_splits, size_stays, starts}
 use Rattle.grow_run.proofs.grow.grow_canvas.Goals as goal
 
 pub returns : goal.returns

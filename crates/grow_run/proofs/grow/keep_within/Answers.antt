@@ -1,4 +1,4 @@
-use Rattle.grow_run.proofs.Reaching.{boxes_pass}
+use Rattle.grown.proofs.Reaching.{boxes_pass}
 use Rattle.grow_run.proofs.grow.keep_within.Goals as goal
 
 pub returns-in-Some : goal.returns-in-Some

@@ -1,5 +1,5 @@
 use Rattle.std.specs.Prelude.{◌≡◌, ◌+◌, ◌-◌, false, if◌then◌else◌}
-use Rattle.refine_seams.specs.Rounds.{NoWindowCosts}
+use Rattle.grown.specs.Rounds.{NoWindowCosts}
 use Rattle.grow_run.specs.Work.{IsRefining}
 use Rattle.grow_run.proofs.grow.refine_all.Given as goal
 

@@ -4,9 +4,10 @@ use Rattle.map_canvas.specs.Maps.{first_unfilled}
 use Rattle.map_canvas.proofs.Filling.{fits_small}
 use Rattle.map_canvas.proofs.Unfilled.{full_is_whole}
 use Rattle.refine_seams.specs.Rounds.{IsRound}
-use Rattle.grow_run.specs.Grown.{ComesNext, draws_left, rounds_made}
+use Rattle.grown.specs.Grown.{ComesNext, draws_left, rounds_made}
 use Rattle.grow_run.specs.Work.{growth_of}
-use Rattle.grow_run.proofs.Stepping.{next_refined, one_more, passes}
+use Rattle.grown.proofs.Stepping.{next_refined}
+use Rattle.grow_run.proofs.Stepping.{one_more, passes}
 use Rattle.grow_run.proofs.steps.refine_step.Goals as goal
 use Rattle.grow_run.proofs.steps.refine_step.Goals.{In-Some}
 

@@ -3,7 +3,8 @@ use Rattle.cells.specs.Places.{IsSmall}
 use Rattle.map_canvas.proofs.Filling.{fits_small}
 use Rattle.patch_picks.specs.Steps.{IsNextAt, draws_after}
 use Rattle.grow_run.specs.Work.{growth_of}
-use Rattle.grow_run.proofs.Stepping.{draws_laid, next_laid, one_more, passes, rounds_laid, some_cells}
+use Rattle.grown.proofs.Stepping.{draws_laid, next_laid, rounds_laid, some_cells}
+use Rattle.grow_run.proofs.Stepping.{one_more, passes}
 use Rattle.grow_run.proofs.steps.step.Goals as goal
 use Rattle.grow_run.proofs.steps.step.Goals.{In-Some}
 

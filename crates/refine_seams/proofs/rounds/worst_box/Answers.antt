@@ -4,7 +4,7 @@ use Rattle.cells.specs.Boxes.{HasCells}
 use Rattle.cells.specs.Distances.{distance}
 use Rattle.map_canvas.specs.Maps.{SourceMap, map_at}
 use Rattle.patch_picks.specs.Modes.{window}
-use Rattle.refine_seams.specs.Rounds.{IsWorstAt}
+use Rattle.grown.specs.Rounds.{IsWorstAt}
 use Rattle.refine_seams.proofs.Rounding.{small_cells, worst_of_table}
 use Rattle.refine_seams.proofs.rounds.worst_box.Goals as goal
 

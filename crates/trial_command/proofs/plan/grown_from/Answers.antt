@@ -1,5 +1,5 @@
 use Rattle.std.proofs.Common.{subst, sym}
-use Rattle.grow_run.specs.Grown.{IsGrowFault, IsGrown}
+use Rattle.grown.specs.Grown.{IsGrowFault, IsGrown}
 use Rattle.trial_command.specs.Trials.{NotTried, trial_plan}
 use Rattle.trial_command.proofs.Trying.{not_grown}
 use Rattle.trial_command.proofs.plan.grown_from.Goals as goal

@@ -1,5 +1,0 @@
-use Rattle.grow_run.proofs.Reaching.{boxes_pass}
-use Rattle.grow_run.proofs.laws.the_run_passes_where_boxes_do.Goals as goal
-
-pub returns : goal.returns
-returns c = boxes_pass c.args.plan.now c.args.sample.now c.samples-samples.ensures.volume c.requires.small c.requires.patch

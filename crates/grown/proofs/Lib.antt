@@ -1,0 +1,11 @@
+pub mod OneRound
+pub mod Nexts
+pub mod Stepping
+pub mod Splitting
+pub mod OneRuns
+pub mod Raising
+mod Spots
+mod FirstBoxes
+mod Counting
+mod SomePick
+pub mod Reaching

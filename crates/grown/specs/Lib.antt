@@ -1,0 +1,5 @@
+pub mod Rounds
+pub mod Grown
+pub mod OneRun
+pub mod BoxLimit
+pub mod Counted

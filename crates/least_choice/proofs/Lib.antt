@@ -1,0 +1,5 @@
+pub mod OneChoice
+pub mod Totals
+pub mod Digits
+mod Choices
+pub mod LeastCuts

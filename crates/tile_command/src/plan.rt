@@ -4,25 +4,17 @@ ghost use Rattle.shelf_core.specs.Files.{OnlyReads};
 ghost use Rattle.job_words.specs.TileWords.{IsTileJob};
 ghost use Rattle.command.specs.Commands.{names_in};
 ghost use Rattle.command.specs.Outcomes.{Plans};
-ghost use Rattle.tile_command.specs.Tilings.{IsTilingMade, plan_of, tile_command, tile_files, tile_summary};
+ghost use Rattle.tile_outputs.specs.Tilings.{IsTilingMade, plan_of, tile_command, tile_files, tile_summary};
 
 use command::read_fault;
 use job_words::TileJob;
-use sample_files::{Sample, read_sample, within_bounds};
+use sample_files::{read_sample, within_bounds};
 use shelf_core::Shelf;
 use std::alloc::Global;
 use synth_report::{Fault, FileOf};
+use tile_outputs::TiledSample;
 use tile_run::tile_canvas;
-use torus::{RunPlan, Tiled, torus_total};
-
-/// The sample that was read, the output tiled from it, and what the seams of that cost in all, those across
-/// the edges included.
-#[derive(Drop)]
-pub struct TiledSample {
-    pub sample: Sample,
-    pub tiled: Tiled,
-    pub seams: u64,
-}
+use torus::{RunPlan, torus_total};
 
 // How an output is tiled.
 fn plan_of(job: &TileJob) -> RunPlan

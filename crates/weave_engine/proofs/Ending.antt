@@ -24,9 +24,9 @@ use Rattle.block_outputs.specs.BlockHeadlines.{HaveSameQuilt}
 use Rattle.quilt_command.specs.QuiltHeadlines.{IsOneQuiltReport, IsQuiltedRun, OneQuiltOutput, QuiltHeadline, QuiltReport}
 use Rattle.quilt_command.proofs.OneQuiltOutputs.{one_quilt_output, one_quilt_report}
 use Rattle.quilt_command.proofs.QuiltLaws.{quilt_has_one_answer, quilted_run}
-use Rattle.tile_command.specs.TileHeadlines.{IsOneTiling, IsToldOfTiling, OneTile, TileHeadline}
-use Rattle.tile_command.proofs.OneTiles.{one_tile}
-use Rattle.tile_command.proofs.TileLaws.{tile_has_one_answer, tile_told}
+use Rattle.tile_outputs.specs.TileHeadlines.{IsOneTiling, IsToldOfTiling, OneTile, TileHeadline}
+use Rattle.tile_outputs.proofs.OneTiles.{one_tile}
+use Rattle.tile_outputs.proofs.TileLaws.{tile_has_one_answer, tile_told}
 use Rattle.transfer_command.specs.TransferHeadlines.{HaveSamePictures, IsOneTransferReport, IsTransferredRun, OneTransfer, TransferHeadline, TransferReport}
 use Rattle.transfer_command.proofs.OneTransfers.{one_transfer, one_transfer_report}
 use Rattle.transfer_command.proofs.TransferLaws.{transfer_has_one_answer, transferred_run}

@@ -8,7 +8,7 @@ use Rattle.quilt_command.specs.Quilts.{quilt_command}
 use Rattle.upgrade_command.specs.Upgrades.{upgrade_command}
 use Rattle.grow_outputs.specs.Growths.{grow_command}
 use Rattle.trial_command.specs.Trials.{trial_command}
-use Rattle.tile_command.specs.Tilings.{tile_command}
+use Rattle.tile_outputs.specs.Tilings.{tile_command}
 use Rattle.transfer_command.specs.Transfers.{transfer_command}
 
 -- the command of a job

@@ -7,7 +7,7 @@ ghost use Rattle.grow_outputs.specs.GrowHeadlines.{GrowHeadline, GrowReport, One
 ghost use Rattle.loop_command.specs.LoopHeadlines.{LoopHeadline, OneLoop};
 ghost use Rattle.merge_command.specs.MergeHeadlines.{MergeHeadline, MergeReport, OneMerge};
 ghost use Rattle.quilt_command.specs.QuiltHeadlines.{OneQuiltOutput, QuiltHeadline, QuiltReport};
-ghost use Rattle.tile_command.specs.TileHeadlines.{OneTile, TileHeadline};
+ghost use Rattle.tile_outputs.specs.TileHeadlines.{OneTile, TileHeadline};
 ghost use Rattle.transfer_command.specs.TransferHeadlines.{OneTransfer, TransferHeadline, TransferReport};
 ghost use Rattle.trial_command.specs.TrialHeadlines.{TrialHeadline};
 ghost use Rattle.upgrade_command.specs.Upgraded.{UpgradeHeadline};

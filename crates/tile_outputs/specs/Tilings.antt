@@ -24,7 +24,7 @@ use Rattle.command.specs.Writing.{FileText, file_text}
 use Rattle.sample_files.specs.declared.sample.Sample.{Sample}
 use Rattle.sample_files.specs.Outputs.{IsWithinBounds, bounded_in}
 use Rattle.sample_files.specs.Samples.{IsSampleOf, IsSoundSample, RefusesSample, form_text}
-use Rattle.tile_command.specs.declared.plan.TiledSample.{TiledSample}
+use Rattle.tile_outputs.specs.declared.output.TiledSample.{TiledSample}
 
 -- What is made of the files.
 

@@ -20,8 +20,8 @@ use Rattle.sample_files.specs.Samples.{AreSoundIn, CanStandIn}
 use Rattle.sample_files.proofs.OneSample.{sound_first}
 use Rattle.job_words.specs.declared.tile.TileJob.{TileJob}
 use Rattle.job_words.specs.TileWords.{IsTileJob}
-use Rattle.tile_command.specs.declared.plan.TiledSample.{TiledSample}
-use Rattle.tile_command.specs.Tilings.{IsTilingMade}
+use Rattle.tile_outputs.specs.declared.output.TiledSample.{TiledSample}
+use Rattle.tile_outputs.specs.Tilings.{IsTilingMade}
 
 -- the picture of a full canvas over a sample can be written in its form
 can_stand : (form : Form) (sample : Cells) (canvas : CanvasState) → IsVolume sample → AreSoundIn form sample → IsFull canvas.map → canvas.map.size.f ≤ frames_allowed form → 1 ≤ canvas.map.size.f → IsCanvas canvas → StandsOver canvas sample → CanStandIn form canvas.picture

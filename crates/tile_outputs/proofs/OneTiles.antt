@@ -16,10 +16,10 @@ use Rattle.command.specs.Outcomes.{WritesAll}
 use Rattle.sample_files.specs.declared.sample.Sample.{Sample}
 use Rattle.sample_files.specs.Samples.{IsSampleOf, form_text}
 use Rattle.sample_files.proofs.Commands.{same_sample}
-use Rattle.tile_command.specs.Tilings.{plan_of, tile_command, torus_seams}
-use Rattle.tile_command.specs.TileHeadlines.{HaveSameTiling, IsOneTiling, IsTiledOutput, told_of_tiling}
-use Rattle.tile_command.proofs.TileLaws.{tile_told}
-use Rattle.tile_command.proofs.Tiling.{run_plan}
+use Rattle.tile_outputs.specs.Tilings.{plan_of, tile_command, torus_seams}
+use Rattle.tile_outputs.specs.TileHeadlines.{HaveSameTiling, IsOneTiling, IsTiledOutput, told_of_tiling}
+use Rattle.tile_outputs.proofs.TileLaws.{tile_told}
+use Rattle.tile_outputs.proofs.Tiling.{run_plan}
 
 module _ (job : TileJob) (is : IsRunPlan (plan_of job)) (before after earlier later : Files) (same : content_of earlier job.sample ≡ content_of before job.sample) (run : IsTiledOutput job before after) (volume : IsVolume run.sample.volume)
     (other : IsTiledOutput job earlier later) where

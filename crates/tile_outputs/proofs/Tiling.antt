@@ -18,8 +18,8 @@ use Rattle.job_words.specs.declared.tile.TileJob.{TileJob}
 use Rattle.job_words.specs.TileWords.{IsTileJob}
 use Rattle.torus.specs.declared.plan.Tiled.{Tiled}
 use Rattle.torus.specs.Tilings.{IsRunPlan}
-use Rattle.tile_command.specs.declared.plan.TiledSample.{TiledSample}
-use Rattle.tile_command.specs.Tilings.{IsTileSummary, IsTilingMade, MayRefuseTile, plan_of, tile_command, tile_files, tile_over, tile_stages, tile_summary, tiling_of}
+use Rattle.tile_outputs.specs.declared.output.TiledSample.{TiledSample}
+use Rattle.tile_outputs.specs.Tilings.{IsTileSummary, IsTilingMade, MayRefuseTile, plan_of, tile_command, tile_files, tile_over, tile_stages, tile_summary, tiling_of}
 
 -- the plan of a job within its bounds
 pub run_plan : (job : TileJob) → IsTileJob job → (form : Form) → IsWithinBounds job.size form → IsRunPlan (plan_of job)

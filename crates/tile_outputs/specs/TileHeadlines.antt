@@ -19,7 +19,7 @@ use Rattle.synth_report.specs.declared.summary.Summary.TheVariants.{Tile}
 use Rattle.command.specs.Writing.{Reported}
 use Rattle.sample_files.specs.declared.sample.Sample.{Sample}
 use Rattle.sample_files.specs.Samples.{form_text}
-use Rattle.tile_command.specs.Tilings.{IsSampleIn, plan_of, torus_seams}
+use Rattle.tile_outputs.specs.Tilings.{IsSampleIn, plan_of, torus_seams}
 
 -- the sample file stands for a sample. The map file has the form of a map of the asked size,
 -- which is full and lies over the sample. It is the last map of the run of these words: each

@@ -20,10 +20,10 @@ use Rattle.job_words.specs.TileWords.{IsTileJob}
 use Rattle.torus.specs.declared.plan.Tiled.{Tiled}
 use Rattle.torus.specs.Tilings.{IsTiledTo}
 use Rattle.torus.proofs.OneRuns.{all_keep, all_least}
-use Rattle.tile_command.specs.Tilings.{IsSampleIn, IsTileSummary, IsTilingMade, MayRefuseTile, plan_of, tile_command, tile_files, tile_stages, tile_summary, tiling_of, torus_seams}
-use Rattle.tile_command.specs.TileHeadlines.{IsTiledOutput, IsToldOfTiling}
-use Rattle.tile_command.proofs.Tiling.{are_one}
-use Rattle.tile_command.proofs.TwoFiles.{map_holds, others_stay, out_holds}
+use Rattle.tile_outputs.specs.Tilings.{IsSampleIn, IsTileSummary, IsTilingMade, MayRefuseTile, plan_of, tile_command, tile_files, tile_stages, tile_summary, tiling_of, torus_seams}
+use Rattle.tile_outputs.specs.TileHeadlines.{IsTiledOutput, IsToldOfTiling}
+use Rattle.tile_outputs.proofs.Tiling.{are_one}
+use Rattle.tile_outputs.proofs.TwoFiles.{map_holds, others_stay, out_holds}
 
 pub tile_has_one_answer : (job : TileJob) → HasOneAnswer (tile_command job)
 tile_has_one_answer job = one_answer (tile_stages job) (tile_command job).writes MayRefuseTile (IsTileSummary job) (are_one job)

@@ -7,9 +7,9 @@ use Rattle.command.specs.Writing.{FileText, WritesRun, file_text}
 use Rattle.sample_files.specs.Samples.{form_text}
 use Rattle.command_files.specs.Outs.{CanWrite, out_text, out_writer}
 use Rattle.command_files.proofs.OutFiles.{can_write, text_of_form}
-use Rattle.tile_command.specs.Tilings.{tile_files, tile_summary}
-use Rattle.tile_command.proofs.TileReady.{map_ready, picture_ready}
-use Rattle.tile_command.proofs.whole.write_tiling.Goals as goal
+use Rattle.tile_outputs.specs.Tilings.{tile_files, tile_summary}
+use Rattle.tile_outputs.proofs.TileReady.{map_ready, picture_ready}
+use Rattle.tile_outputs.proofs.write.write_tiling.Goals as goal
 
 pub write_run-requires : goal.write_run-requires
 write_run-requires g c =

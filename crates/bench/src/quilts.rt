@@ -4,7 +4,8 @@ ghost use Rattle.cells.specs.Places.{IsSmall};
 use crate::samples::{Texture, sample_of, sum_of};
 use block_strips::QuiltPlan;
 use cells::Size;
-use quilt_run::{QuiltRun, quilt_canvas};
+use quilt_run::quilt_canvas;
+use quilted::QuiltRun;
 use std::alloc::{AllocError, Global};
 use transfer::transfer_canvas;
 

@@ -14,8 +14,8 @@ use Rattle.cert_file.specs.declared.file.RecordFile.TheVariants.{Blocks}
 use Rattle.cert_file.specs.RecordFiles.{IsRecordFileOf, blocks_form}
 use Rattle.cert_file.proofs.BlocksAgain.{blocks_again}
 use Rattle.job_words.specs.declared.job.Names.{Names}
-use Rattle.quilt.specs.Runs.{Rating}
-use Rattle.quilt_run.specs.declared.asked.QuiltRun.{QuiltRun}
+use Rattle.quilted.specs.Runs.{Rating}
+use Rattle.quilted.specs.declared.asked.QuiltRun.{QuiltRun}
 use Rattle.sample_files.specs.declared.form.Form.TheVariants.{Picture}
 use Rattle.sample_files.specs.declared.several.Samples.{Samples}
 use Rattle.sample_files.specs.Samples.{StandsWithin}

@@ -10,9 +10,9 @@ use Rattle.map_canvas.specs.Maps.{SourceMap, picture_of}
 use Rattle.source_map.specs.MapFiles.{cell_map_form}
 use Rattle.source_map.specs.declared.head.Version.TheVariants.{One}
 use Rattle.block_check.specs.declared.block.BlockRecord.{BlockRecord}
-use Rattle.quilt.specs.Runs.{IsQuilted, Quilting, Rating, quilting}
-use Rattle.quilt.proofs.OneQuilt.{one_quilt}
-use Rattle.quilt_run.specs.declared.asked.QuiltRun.{QuiltRun}
+use Rattle.quilted.specs.Runs.{IsQuilted, Quilting, Rating, quilting}
+use Rattle.quilted.proofs.OneQuilt.{one_quilt}
+use Rattle.quilted.specs.declared.asked.QuiltRun.{QuiltRun}
 use Rattle.cert_file.specs.RecordFiles.{blocks_form}
 use Rattle.job_words.specs.declared.job.Names.{Names}
 use Rattle.block_outputs.specs.BlockOutputs.{quilt_head}

@@ -7,13 +7,13 @@ use Rattle.shelf_core.specs.declared.fault.What.TheVariants.{Output, Records as 
 use Rattle.limits.specs.declared.bounds.TheConstants.{MOST_BOX_CELLS, MOST_OUTPUT_CELLS}
 use Rattle.netpbm_p6.specs.declared.picture.Picture.{Picture}
 use Rattle.netpbm_p6.specs.Pictures.{IsSound}
-use Rattle.quilt.specs.Runs.{Rating, quilting}
-use Rattle.quilt_run.specs.declared.asked.QuiltRun.{QuiltRun}
-use Rattle.quilt_run.specs.declared.asked.Quilted.{Quilted}
-use Rattle.quilt_run.specs.declared.asked.QuiltError.{QuiltError}
-use Rattle.quilt_run.specs.declared.asked.QuiltError.TheVariants as error
-use Rattle.quilt_run.specs.Quilted.{CanBeQuilted, IsQuilt, IsQuiltFault}
-use Rattle.quilt_run.proofs.OneLimits.{ends_within, limits_are_one}
+use Rattle.quilted.specs.Runs.{Rating, quilting}
+use Rattle.quilted.specs.declared.asked.QuiltRun.{QuiltRun}
+use Rattle.quilted.specs.declared.asked.Quilted.{Quilted}
+use Rattle.quilted.specs.declared.asked.QuiltError.{QuiltError}
+use Rattle.quilted.specs.declared.asked.QuiltError.TheVariants as error
+use Rattle.quilted.specs.Quilted.{CanBeQuilted, IsQuilt, IsQuiltFault}
+use Rattle.quilted.proofs.OneLimits.{ends_within, limits_are_one}
 use Rattle.job_words.specs.declared.job.Names.{Names}
 use Rattle.synth_report.specs.declared.fault.Fault.{Fault}
 use Rattle.synth_report.specs.declared.fault.Fault.TheVariants.{Limit}

@@ -19,11 +19,11 @@ use Rattle.block_strips.specs.declared.side.Side.{Side}
 use Rattle.block_strips.specs.declared.side.Side.TheVariants.{Left, Top}
 use Rattle.block_strips.specs.Strips.{strip_rows}
 use Rattle.block_check.specs.declared.block.BlockRecord.{BlockRecord}
-use Rattle.quilt.specs.Runs.{Rating}
-use Rattle.quilt_run.specs.declared.asked.QuiltRun.{QuiltRun}
-use Rattle.quilt_run.specs.Costs.{IsFileBlock, IsFileSide}
+use Rattle.quilted.specs.Runs.{Rating}
+use Rattle.quilted.specs.declared.asked.QuiltRun.{QuiltRun}
+use Rattle.quilted.specs.Costs.{IsFileBlock, IsFileSide}
 use Rattle.block_check.specs.Blocks.{block_cells}
-use Rattle.quilt_run.proofs.Stepping.{some_cells}
+use Rattle.quilted.proofs.Spots.{some_cells}
 use Rattle.cert_file.specs.BlockForms.{IsBlockInForm, IsWideBlock, IsWideBoundary}
 use Rattle.cert_file.specs.RecordFiles.{AreBlocksInForm}
 use Rattle.command_files.proofs.Ranges.{corner_inside, frame_0, in_samples, picture_stands, short_axis, short_place, volume_sizes}

@@ -9,10 +9,10 @@ use Rattle.netpbm_p6.specs.Pictures.{IsRead, p6_form}
 use Rattle.map_canvas.proofs.Pictures.{full_picture}
 use Rattle.source_map.specs.MapFiles.{cell_map_form}
 use Rattle.source_map.specs.declared.head.Version.TheVariants.{One}
-use Rattle.quilt.specs.Runs.{Rating}
-use Rattle.quilt_run.specs.declared.asked.QuiltRun.{QuiltRun}
-use Rattle.quilt_run.specs.declared.asked.Quilted.{Quilted}
-use Rattle.quilt_run.specs.Quilted.{IsQuilt}
+use Rattle.quilted.specs.Runs.{Rating}
+use Rattle.quilted.specs.declared.asked.QuiltRun.{QuiltRun}
+use Rattle.quilted.specs.declared.asked.Quilted.{Quilted}
+use Rattle.quilted.specs.Quilted.{IsQuilt}
 use Rattle.cert_file.specs.RecordFiles.{blocks_form}
 use Rattle.job_words.specs.declared.job.Names.{Names}
 use Rattle.job_words.specs.Names.{AreNames, name_list}

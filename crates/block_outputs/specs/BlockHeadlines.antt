@@ -12,8 +12,8 @@ use Rattle.source_map.specs.MapFiles.{cell_map_form}
 use Rattle.source_map.specs.declared.head.Version.TheVariants.{One}
 use Rattle.patch_picks.specs.Draws.{DrawState}
 use Rattle.block_check.specs.declared.block.BlockRecord.{BlockRecord}
-use Rattle.quilt.specs.Runs.{IsQuilted, Rating, quilting}
-use Rattle.quilt_run.specs.declared.asked.QuiltRun.{QuiltRun}
+use Rattle.quilted.specs.Runs.{IsQuilted, Rating, quilting}
+use Rattle.quilted.specs.declared.asked.QuiltRun.{QuiltRun}
 use Rattle.block_replay.specs.BlockReplay.{EachBlockIsLeast, EachBlockStands, left_by_blocks}
 use Rattle.cert_file.specs.RecordFiles.{blocks_form}
 use Rattle.job_words.specs.declared.job.Names.{Names}

@@ -11,12 +11,12 @@ use Rattle.source_map.specs.MapFiles.{cell_map_form}
 use Rattle.source_map.specs.declared.head.Head.{Head}
 use Rattle.source_map.specs.declared.head.Version.TheVariants.{One}
 use Rattle.limits.specs.declared.bounds.TheConstants.{MOST_BOX_CELLS}
-use Rattle.quilt.specs.Runs.{Rating}
-use Rattle.quilt_run.specs.declared.asked.QuiltRun.{QuiltRun}
-use Rattle.quilt_run.specs.declared.asked.Quilted.{Quilted}
-use Rattle.quilt_run.specs.declared.asked.QuiltError.{QuiltError}
-use Rattle.quilt_run.specs.declared.asked.QuiltError.TheVariants as error
-use Rattle.quilt_run.specs.Quilted.{IsQuilt, QuiltPassesAt}
+use Rattle.quilted.specs.Runs.{Rating}
+use Rattle.quilted.specs.declared.asked.QuiltRun.{QuiltRun}
+use Rattle.quilted.specs.declared.asked.Quilted.{Quilted}
+use Rattle.quilted.specs.declared.asked.QuiltError.{QuiltError}
+use Rattle.quilted.specs.declared.asked.QuiltError.TheVariants as error
+use Rattle.quilted.specs.Quilted.{IsQuilt, QuiltPassesAt}
 use Rattle.cert_file.specs.RecordFiles.{blocks_form}
 use Rattle.job_words.specs.declared.job.Names.{Names}
 use Rattle.synth_report.specs.declared.fault.Fault.{Fault}

@@ -7,7 +7,7 @@ ghost use Rattle.block_outputs.specs.BlockOutputs.{fault_of_quilting};
 use cells::Size;
 use limits::{MOST_BOX_CELLS, MOST_OUTPUT_CELLS};
 use netpbm_p6::Picture;
-use quilt_run::{QuiltError, Quilted};
+use quilted::{QuiltError, Quilted};
 use shelf_core::What;
 use synth_report::Fault;
 

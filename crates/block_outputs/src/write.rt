@@ -11,7 +11,7 @@ use cert_file::Head;
 use command::{Then, write_run};
 use command_files::{CellMapFile, OutFile, OutWriter};
 use job_words::Names;
-use quilt_run::QuiltRun;
+use quilted::QuiltRun;
 use shelf_core::{Shelf, Sink};
 use source_map::Version;
 use synth_report::{Fault, FileOf, Summary};

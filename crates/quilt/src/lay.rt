@@ -7,7 +7,7 @@ ghost use Rattle.block_strips.specs.Laid.{IsLaidByBlocks, SharesStrips};
 ghost use Rattle.block_strips.specs.Strips.{most_cols, strip_of};
 ghost use Rattle.block_check.specs.Blocks.{IsFormedBlock};
 ghost use Rattle.block_check.specs.Records.{BlockStands};
-ghost use Rattle.quilt.specs.Runs.{HaveOneFrame, IsLaidBlock, JoinsBy};
+ghost use Rattle.quilted.specs.Runs.{HaveOneFrame, IsLaidBlock, JoinsBy};
 
 use block_check::BlockRecord;
 use block_strips::{QuiltPlan, Side, next_block_shares_strips, strip_of};

@@ -1,25 +1,22 @@
-//! Quilts of blocks, after Efros and Freeman (SIGGRAPH 2001).
+//! Steps of a quilt of blocks, after Efros and Freeman (SIGGRAPH 2001).
 //!
 //! `next_block` lays the next block of a plan over a canvas. It picks a place of the sample among those that
 //! fit what is there about as well as the best. It finds the least boundary through each strip in which the
 //! block overlaps what is there, and puts in the cells that every boundary calls new. `next_block_with` is the
 //! same step of a sample whose sums of blocks are made, and `next_block_by` the same with other ratings of
-//! places than the overlap error. The contract says the step in full (specs/Runs.antt), and that its record
-//! stands. `laws` says what follows for whole quilts: records over one another leave the map, each stands, and
-//! each boundary is least.
+//! places than the overlap error. The contract says the step in full (specs/Runs.antt of the crate quilted), and
+//! that its record stands.
 //!
 //! `picks` has how places are rated and picked, `lay` the boundaries of a block, and `step` the step. Where
 //! blocks lie, and the errors of their strips, are those of the crate block_strips, least boundaries those of
-//! strip_boundary; the record of a block, its check and its new cells are those of block_check, and what records
-//! leave is that of block_replay.
+//! strip_boundary; the record of a block, its check and its new cells are those of block_check. What a step and a
+//! run are, and what holds of whole quilts, is said in quilted.
 #![tactic(auto)]
 
-mod laws;
 mod lay;
 mod picks;
 mod step;
 
-pub use laws::{quilts_replay, there_is_one_quilt};
 pub use lay::lay_block;
 pub use picks::BlockPicks;
 pub use step::{next_block, next_block_by, next_block_with};

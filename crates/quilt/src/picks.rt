@@ -12,7 +12,7 @@ ghost use Rattle.patch_picks.specs.Lists.{fit_list, part_lists};
 ghost use Rattle.patch_picks.specs.Picks.{IsPick};
 ghost use Rattle.patch_picks.specs.Steps.{after_draw};
 ghost use Rattle.block_strips.specs.Blocks.{FitsBlock};
-ghost use Rattle.quilt.specs.Runs.{by_overlap};
+ghost use Rattle.quilted.specs.Runs.{by_overlap};
 
 use cells::{Box3, Volume};
 use map_canvas::{Canvas, Placement};

@@ -7,7 +7,7 @@ ghost use Rattle.block_strips.specs.Blocks.{next_box};
 ghost use Rattle.block_strips.specs.Laid.{IsLaidByBlocks};
 ghost use Rattle.block_check.specs.Blocks.{after_block};
 ghost use Rattle.block_check.specs.Records.{BlockStands};
-ghost use Rattle.quilt.specs.Runs.{HaveOneFrame, IsLaidBlock, LaysNext, by_overlap, quilting};
+ghost use Rattle.quilted.specs.Runs.{HaveOneFrame, IsLaidBlock, LaysNext, by_overlap, quilting};
 
 use crate::lay_block;
 use crate::picks::BlockPicks;

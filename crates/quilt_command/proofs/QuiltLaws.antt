@@ -3,9 +3,9 @@ use Rattle.std.proofs.Common.{◌≡◌, length, refl, ap, ◌∙◌}
 use Rattle.shelf_core.specs.Files.{Files}
 use Rattle.shelf_core.specs.Written.{written}
 use Rattle.netpbm_p6.specs.declared.picture.Picture.{Picture}
-use Rattle.quilt.specs.Runs.{by_overlap}
-use Rattle.quilt_run.specs.declared.asked.Quilted.{Quilted}
-use Rattle.quilt_run.specs.Quilted.{IsQuilt}
+use Rattle.quilted.specs.Runs.{by_overlap}
+use Rattle.quilted.specs.declared.asked.Quilted.{Quilted}
+use Rattle.quilted.specs.Quilted.{IsQuilt}
 use Rattle.job_words.specs.declared.quilt.QuiltJob.{QuiltJob}
 use Rattle.job_words.specs.QuiltWords.{IsQuiltJob}
 use Rattle.synth_report.specs.declared.summary.Summary.{Summary}

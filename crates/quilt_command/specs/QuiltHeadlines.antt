@@ -5,8 +5,8 @@ use Rattle.cells.specs.Cells.{Cells}
 use Rattle.shelf_core.specs.Files.{Files, ShelfState, SinkState, Changes, content_of}
 use Rattle.map_canvas.specs.Maps.{empty_map}
 use Rattle.block_check.specs.declared.block.BlockRecord.{BlockRecord}
-use Rattle.quilt.specs.Runs.{by_overlap}
-use Rattle.quilt_run.specs.Costs.{all_boundaries, quilt_cost}
+use Rattle.quilted.specs.Runs.{by_overlap}
+use Rattle.quilted.specs.Costs.{all_boundaries, quilt_cost}
 use Rattle.job_words.specs.declared.quilt.QuiltJob.{QuiltJob}
 use Rattle.job_words.specs.declared.job.Job.TheVariants.{Quilt as QuiltOf}
 use Rattle.job_words.specs.Jobs.{job_of}

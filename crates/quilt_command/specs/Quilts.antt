@@ -5,9 +5,9 @@ use Rattle.cells.specs.declared.place.Size.{Size}
 use Rattle.shelf_core.specs.Files.{Files, content_of}
 use Rattle.netpbm_p6.specs.declared.picture.Picture.{Picture}
 use Rattle.netpbm_p6.specs.Pictures.{IsRead, Refuses}
-use Rattle.quilt.specs.Runs.{by_overlap}
-use Rattle.quilt_run.specs.declared.asked.QuiltRun.{QuiltRun}
-use Rattle.quilt_run.specs.declared.asked.Quilted.{Quilted}
+use Rattle.quilted.specs.Runs.{by_overlap}
+use Rattle.quilted.specs.declared.asked.QuiltRun.{QuiltRun}
+use Rattle.quilted.specs.declared.asked.Quilted.{Quilted}
 use Rattle.job_words.specs.declared.quilt.QuiltJob.{QuiltJob}
 use Rattle.synth_report.specs.declared.fault.Fault.{Fault}
 use Rattle.synth_report.specs.declared.fault.Fault.TheVariants.{Form, Limit}

@@ -10,7 +10,7 @@ ghost use Rattle.quilt_command.specs.Quilts.{IsMadeQuiltOf, quilt_command, quilt
 use crate::plan::{plan, quilt_size, run_of};
 use block_outputs::{PictureQuilt, write_quilt};
 use job_words::QuiltJob;
-use quilt_run::Quilted;
+use quilted::Quilted;
 use shelf_core::{Shelf, Sink};
 use std::alloc::Global;
 use synth_report::{Fault, Summary};

@@ -1,11 +1,9 @@
 -- The steps of a run, as the code makes them.
 use Rattle.std.proofs.Common.{◌≡◌, ℕ, ◌+◌, ◌*◌, ◌≤◌, ◌<◌, ◌^◌, List, [], ◌∷◌, ◌++◌, refl, ap, sym, ◌∙◌, subst, arith, ⊎_elim}
 use Rattle.std.proofs.lemmas.Bool.{cases_lt}
-use Rattle.std.proofs.lemmas.Nat.{mul-add-lt}
 use Rattle.std.proofs.lemmas.List.Elements.{All-nil, All-push}
 use Rattle.std.specs.Prelude.{All, Option, Some, None}
 use Rattle.cells.specs.declared.place.Size.{Size}
-use Rattle.cells.specs.Boxes.{HasCells}
 use Rattle.cells.specs.Cells.{Cells, IsVolume}
 use Rattle.cells.specs.Places.{cell_count}
 use Rattle.map_canvas.specs.declared.canvas.Placement.{Placement}
@@ -21,25 +19,20 @@ use Rattle.block_strips.proofs.Laying.{next_fits, shares_strips}
 use Rattle.block_check.specs.declared.block.BlockRecord.{BlockRecord}
 use Rattle.block_check.specs.Blocks.{IsFormedBlock, block_cells}
 use Rattle.block_check.specs.Records.{BlockStands, JoinStands}
-use Rattle.quilt.specs.Runs.{HaveOneFrame, QuiltsBy, QuiltsTo, Quilting, Rating, first_quilting, quilting}
+use Rattle.quilted.specs.Runs.{HaveOneFrame, QuiltsBy, QuiltsTo, Quilting, Rating, first_quilting, quilting}
 use Rattle.block_replay.specs.BlockReplay.{left_by_blocks}
-use Rattle.quilt.proofs.Laying.{HasJoins, laid_formed}
-use Rattle.quilt.proofs.Runs.{quilts_replay}
+use Rattle.quilted.proofs.Laying.{HasJoins, laid_formed}
+use Rattle.quilted.proofs.Runs.{quilts_replay}
 use Rattle.limits.specs.declared.bounds.TheConstants.{MOST_BOX_CELLS}
-use Rattle.quilt_run.specs.declared.asked.QuiltRun.{QuiltRun}
+use Rattle.quilted.specs.declared.asked.QuiltRun.{QuiltRun}
 use Rattle.quilt_run.specs.declared.steps.QuiltWork.{QuiltWork}
-use Rattle.quilt_run.specs.Costs.{IsFileBlock, IsFileSide, all_boundaries, block_boundaries, block_cost, quilt_cost}
-use Rattle.quilt_run.specs.PlanLimit.{PlanStaysWithin}
-use Rattle.quilt_run.specs.Quilted.{CanBeQuilted}
-use Rattle.quilt_run.specs.QuiltWork.{BlockCostsSo, HasBlockWidths, HasSideWidths, IsQuiltWork}
-use Rattle.quilt_run.proofs.More.{boundaries_more, cells_more, cost_more, quilts_more}
-use Rattle.quilt_run.proofs.OneLimits.{passes_there}
-
--- a box that has a cell has some
-pub some_cells : (size : Size) → HasCells size → 0 < cell_count size
-some_cells size has =
-    let inner : 0 * size.h + 0 < size.h * size.f = mul-add-lt 0 size.h 0 size.f has.f has.h in
-    omega (arith, mul-add-lt 0 size.w 0 (size.h * size.f) (omega (arith, inner)) has.w)
+use Rattle.quilted.specs.Costs.{IsFileBlock, IsFileSide, all_boundaries, block_boundaries, block_cost, quilt_cost}
+use Rattle.quilted.specs.PlanLimit.{PlanStaysWithin}
+use Rattle.quilted.specs.Quilted.{CanBeQuilted}
+use Rattle.quilted.specs.Totals.{BlockCostsSo, HasBlockWidths, HasSideWidths}
+use Rattle.quilt_run.specs.QuiltWork.{IsQuiltWork}
+use Rattle.quilted.proofs.More.{boundaries_more, cells_more, cost_more, quilts_more}
+use Rattle.quilted.proofs.OneLimits.{passes_there}
 
 -- a boundary that stands, with the widths of its types, is as a file holds it
 file_side : (side : Side) (m : SourceMap) (sample : Cells) (placement : Placement) (boundary : Option BoundaryRecord) → JoinStands side m sample placement boundary → HasSideWidths boundary → IsFileSide side placement boundary

@@ -1,5 +1,1 @@
-pub mod Costs
-pub mod PlanLimit
-pub mod Quilted
-pub mod OneLimit
 pub mod QuiltWork

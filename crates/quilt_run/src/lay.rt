@@ -1,16 +1,15 @@
 // The whole run.
 ghost use Rattle.std.specs.Prelude.{IfOk};
-ghost use Rattle.quilt.specs.Runs.{by_overlap};
-ghost use Rattle.quilt_run.specs.PlanLimit.{PlanStaysWithin};
-ghost use Rattle.quilt_run.specs.Quilted.{CanBeQuilted, IsQuilt, Quilts};
+ghost use Rattle.quilted.specs.Runs.{by_overlap};
+ghost use Rattle.quilted.specs.PlanLimit.{PlanStaysWithin};
+ghost use Rattle.quilted.specs.Quilted.{CanBeQuilted, IsQuilt, Quilts};
 ghost use Rattle.quilt_run.specs.QuiltWork.{IsWithinOrPast, LaysQuilt};
 
-use crate::asked::{QuiltError, QuiltRun, Quilted};
-use crate::limit::first_past;
 use crate::steps::{QuiltWork, begin, step};
 use cells::Volume;
 use items::Items;
 use quilt::BlockPicks;
+use quilted::{QuiltError, QuiltRun, Quilted, first_past};
 use search_squares::SampleSums;
 use std::alloc::{AllocError, Global};
 

@@ -1,7 +1,7 @@
 // Worked examples of whole quilted runs over a row of four cells.
 ghost use Rattle.std.specs.Prelude.{◌≤◌};
 ghost use Rattle.block_strips.specs.Laid.{IsLaidByBlocks};
-ghost use Rattle.quilt.specs.Runs.{HaveOneFrame};
+ghost use Rattle.quilted.specs.Runs.{HaveOneFrame};
 
 use crate::expect::expect_done;
 use crate::rows::greys;
@@ -10,7 +10,8 @@ use cells::{At, Size, Volume};
 use map_canvas::Canvas;
 use patch_picks::Draws;
 use quilt::next_block;
-use quilt_run::{QuiltRun, Quilted, quilt_by};
+use quilt_run::quilt_by;
+use quilted::{QuiltRun, Quilted};
 use search_squares::SampleSums;
 use std::alloc::{AllocError, Global};
 use std::process::Abort;

@@ -2,7 +2,7 @@
 ghost use Rattle.std.specs.Prelude.{◌≤◌};
 ghost use Rattle.block_strips.specs.Laid.{IsLaidByBlocks};
 ghost use Rattle.limits.specs.declared.bounds.TheConstants.{GREATEST_ALPHA};
-ghost use Rattle.quilt.specs.Runs.{HaveOneFrame};
+ghost use Rattle.quilted.specs.Runs.{HaveOneFrame};
 ghost use Rattle.transfer.specs.Search.{ServesTransfer};
 ghost use Rattle.transfer.specs.Targets.{IsTargetOf};
 

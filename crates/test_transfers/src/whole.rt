@@ -10,7 +10,7 @@ use cells::{At, Size, Volume};
 use lane_kernels::ssd;
 use limits::GREATEST_ALPHA;
 use map_canvas::Canvas;
-use quilt_run::{QuiltRun, Quilted};
+use quilted::{QuiltRun, Quilted};
 use std::alloc::{AllocError, Global};
 use std::process::Abort;
 use transfer::transfer_canvas;

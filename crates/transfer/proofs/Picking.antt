@@ -11,7 +11,7 @@ use Rattle.map_canvas.specs.Choices.{Fits}
 use Rattle.patch_picks.specs.Draws.{DrawState}
 use Rattle.patch_picks.specs.Lists.{fit_list, part_lists}
 use Rattle.patch_picks.specs.Picks.{IsPick}
-use Rattle.quilt.proofs.Picking.{listed_has_box}
+use Rattle.quilted.proofs.Picking.{listed_has_box}
 use Rattle.transfer.specs.declared.weighing.Weighing.{Weighing}
 use Rattle.transfer.specs.Targets.{by_target}
 use Rattle.transfer.specs.Weighing.{IsWeighed, IsWeighingOf, weighed_error}

@@ -12,7 +12,7 @@ use Rattle.map_canvas.specs.Choices.{new_source}
 use Rattle.map_canvas.specs.Maps.{SourceMap, sample_cell}
 use Rattle.match_error.specs.Errors.{error_sum}
 use Rattle.patch_picks.specs.Picks.{is_eligible}
-use Rattle.quilt.specs.Runs.{Rating}
+use Rattle.quilted.specs.Runs.{Rating}
 
 -- a target of one part, which has the output's size and cells of as many samples as the sample's
 pub record IsTargetOf (output : Size) (sample target : Cells) : Type 0 where

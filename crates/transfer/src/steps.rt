@@ -3,8 +3,8 @@ ghost use Rattle.std.specs.Prelude.{◌≡◌, ◌≤◌, IfErr, IfOk, IfSome, O
 ghost use Rattle.limits.specs.declared.bounds.TheConstants.{GREATEST_ALPHA};
 ghost use Rattle.block_check.specs.Records.{BlockStands};
 ghost use Rattle.block_strips.specs.Laid.{IsLaidByBlocks};
-ghost use Rattle.quilt.specs.Runs.{HaveOneFrame, LaysNext, quilting};
-ghost use Rattle.quilt_run.specs.Quilted.{CanBeQuilted, IsQuiltFault, Quilts};
+ghost use Rattle.quilted.specs.Runs.{HaveOneFrame, LaysNext, quilting};
+ghost use Rattle.quilted.specs.Quilted.{CanBeQuilted, IsQuiltFault, Quilts};
 ghost use Rattle.transfer.specs.Search.{ServesTransfer};
 ghost use Rattle.transfer.specs.Targets.{IsTargetOf, by_target};
 
@@ -16,7 +16,8 @@ use cells::Volume;
 use map_canvas::Canvas;
 use patch_picks::Draws;
 use quilt::next_block_by;
-use quilt_run::{QuiltError, QuiltRun, Quilted, first_past, quilt_by};
+use quilt_run::quilt_by;
+use quilted::{QuiltError, QuiltRun, Quilted, first_past};
 use std::alloc::{AllocError, Global};
 
 /// Lays the next block of a transfer over a canvas that is laid for its plan, and leaves a canvas that is: as

@@ -6,9 +6,9 @@ use Rattle.cells.specs.Cells.{IsVolume}
 use Rattle.shelf_core.specs.Files.{Files, InFile, OnlyReads, OnlyReadsFile, ShelfState}
 use Rattle.netpbm_p6.specs.declared.picture.Picture.{Picture}
 use Rattle.netpbm_p6.specs.Pictures.{IsRead, IsSound, Refuses}
-use Rattle.quilt_run.specs.declared.asked.Quilted.{Quilted}
-use Rattle.quilt_run.specs.declared.asked.QuiltError.{QuiltError}
-use Rattle.quilt_run.specs.Quilted.{CanBeQuilted, IsQuilt, IsQuiltFault}
+use Rattle.quilted.specs.declared.asked.Quilted.{Quilted}
+use Rattle.quilted.specs.declared.asked.QuiltError.{QuiltError}
+use Rattle.quilted.specs.Quilted.{CanBeQuilted, IsQuilt, IsQuiltFault}
 use Rattle.transfer.specs.Targets.{IsTargetOf}
 use Rattle.job_words.specs.declared.transfer.TransferJob.{TransferJob}
 use Rattle.job_words.specs.TransferWords.{IsTransferJob}

@@ -5,8 +5,8 @@ use Rattle.shelf_core.specs.Files.{Files, content_of}
 use Rattle.shelf_core.specs.Written.{written}
 use Rattle.netpbm_p6.specs.declared.picture.Picture.{Picture}
 use Rattle.netpbm_p6.specs.Pictures.{IsRead}
-use Rattle.quilt_run.specs.declared.asked.Quilted.{Quilted}
-use Rattle.quilt_run.specs.Quilted.{IsQuilt}
+use Rattle.quilted.specs.declared.asked.Quilted.{Quilted}
+use Rattle.quilted.specs.Quilted.{IsQuilt}
 use Rattle.transfer.specs.Targets.{matched}
 use Rattle.job_words.specs.declared.transfer.TransferJob.{TransferJob}
 use Rattle.job_words.specs.TransferWords.{IsTransferJob}

@@ -6,7 +6,7 @@ use Rattle.shelf_core.specs.Files.{Files, ShelfState, SinkState, Changes, conten
 use Rattle.netpbm_p6.specs.declared.picture.Picture.{Picture}
 use Rattle.map_canvas.specs.Maps.{empty_map}
 use Rattle.block_check.specs.declared.block.BlockRecord.{BlockRecord}
-use Rattle.quilt_run.specs.Costs.{all_boundaries, quilt_cost}
+use Rattle.quilted.specs.Costs.{all_boundaries, quilt_cost}
 use Rattle.transfer.specs.Targets.{matched}
 use Rattle.job_words.specs.declared.transfer.TransferJob.{TransferJob}
 use Rattle.job_words.specs.declared.job.Job.TheVariants.{Transfer as TransferOf}

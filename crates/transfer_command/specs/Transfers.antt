@@ -6,9 +6,9 @@ use Rattle.cells.specs.Cells.{Cells}
 use Rattle.shelf_core.specs.Files.{Files, content_of}
 use Rattle.netpbm_p6.specs.declared.picture.Picture.{Picture}
 use Rattle.netpbm_p6.specs.Pictures.{IsRead, IsSound, Refuses}
-use Rattle.quilt.specs.Runs.{Rating}
-use Rattle.quilt_run.specs.declared.asked.QuiltRun.{QuiltRun}
-use Rattle.quilt_run.specs.declared.asked.Quilted.{Quilted}
+use Rattle.quilted.specs.Runs.{Rating}
+use Rattle.quilted.specs.declared.asked.QuiltRun.{QuiltRun}
+use Rattle.quilted.specs.declared.asked.Quilted.{Quilted}
 use Rattle.transfer.specs.Targets.{by_target, matched}
 use Rattle.job_words.specs.declared.transfer.TransferJob.{TransferJob}
 use Rattle.synth_report.specs.declared.fault.Fault.{Fault}

@@ -11,7 +11,7 @@ use block_outputs::{PictureQuilt, quilt_fault, within_output};
 use block_strips::QuiltPlan;
 use job_words::TransferJob;
 use netpbm_p6::Picture;
-use quilt_run::QuiltRun;
+use quilted::QuiltRun;
 use sample_files::{read_picture, read_target};
 use shelf_core::Shelf;
 use std::alloc::Global;

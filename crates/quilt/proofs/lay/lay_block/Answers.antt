@@ -1,4 +1,4 @@
-use Rattle.quilt.proofs.Laying.{answer_formed, answer_stands}
+use Rattle.quilted.proofs.Laying.{answer_formed, answer_stands}
 use Rattle.quilt.proofs.lay.lay_block.Goals as goal
 
 pub returns-clause-formed : goal.returns-clause-formed

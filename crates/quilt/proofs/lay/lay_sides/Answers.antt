@@ -3,7 +3,7 @@ use Rattle.map_canvas.specs.Maps.{SourceMap}
 use Rattle.block_strips.specs.declared.side.Side.TheVariants.{Left, Top}
 use Rattle.block_strips.specs.Blocks.{shared_cols}
 use Rattle.block_strips.specs.Strips.{strip_of}
-use Rattle.quilt.specs.Runs.{JoinsBy}
+use Rattle.quilted.specs.Runs.{JoinsBy}
 use Rattle.quilt.proofs.lay.lay_sides.Goals as goal
 
 pub returns : goal.returns

@@ -5,7 +5,7 @@ use Rattle.map_canvas.specs.declared.canvas.Placement.{Placement}
 use Rattle.map_canvas.specs.Choices.{Fits}
 use Rattle.patch_picks.specs.Lists.{fit_list, part_lists}
 use Rattle.patch_picks.specs.Picks.{IsPick}
-use Rattle.quilt.specs.Runs.{IsLaidBlock}
+use Rattle.quilted.specs.Runs.{IsLaidBlock}
 use Rattle.quilt.proofs.step.next_block_by.Goals as goal
 
 pub returns-in-Ok-clause-next : goal.returns-in-Ok-clause-next

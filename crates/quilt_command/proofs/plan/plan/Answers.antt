@@ -1,7 +1,7 @@
 use Rattle.std.proofs.Common.{refl, subst, sym}
-use Rattle.quilt_run.specs.Quilted.{CanBeQuilted, IsQuilt, IsQuiltFault}
+use Rattle.quilted.specs.Quilted.{CanBeQuilted, IsQuilt, IsQuiltFault}
 use Rattle.command.specs.Outcomes.{NotMade}
-use Rattle.quilt.specs.Runs.{by_overlap}
+use Rattle.quilted.specs.Runs.{by_overlap}
 use Rattle.quilt_command.specs.Quilts.{quilt_command}
 use Rattle.quilt_command.proofs.Planning.{can_quilt, not_quilted, output_refused, picture_not_read, quilt_made, small_quilt}
 use Rattle.quilt_command.proofs.plan.plan.Goals as goal

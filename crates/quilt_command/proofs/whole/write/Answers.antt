@@ -1,6 +1,6 @@
 use Rattle.std.proofs.Common.{subst, sym}
 use Rattle.shelf_core.specs.Files.{OnlyWrites}
-use Rattle.quilt.specs.Runs.{by_overlap}
+use Rattle.quilted.specs.Runs.{by_overlap}
 use Rattle.command.specs.Writing.{WritesRun, text_names}
 use Rattle.block_outputs.specs.BlockOutputs.{IsMadeQuilt, quilt_files}
 use Rattle.quilt_command.specs.Quilts.{quilt_size}

@@ -1,5 +1,5 @@
 use Rattle.std.proofs.Common.{subst}
-use Rattle.quilt_run.specs.PlanLimit.{PlanStaysWithin}
+use Rattle.quilted.specs.PlanLimit.{PlanStaysWithin}
 use Rattle.quilt_run.proofs.lay.keep_within.Goals as goal
 
 pub returns-in-None : goal.returns-in-None

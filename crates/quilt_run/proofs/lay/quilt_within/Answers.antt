@@ -1,10 +1,10 @@
 use Rattle.std.proofs.Common.{◌≡◌, ◌≤◌, sym, subst}
 use Rattle.std.specs.Prelude.{All}
 use Rattle.map_canvas.specs.Maps.{empty_map}
-use Rattle.quilt.specs.Runs.{QuiltsTo, first_quilting, quilting}
-use Rattle.quilt.proofs.Runs.{quilts_replay}
+use Rattle.quilted.specs.Runs.{QuiltsTo, first_quilting, quilting}
+use Rattle.quilted.proofs.Runs.{quilts_replay}
 use Rattle.limits.specs.declared.bounds.TheConstants.{MOST_BOX_CELLS}
-use Rattle.quilt_run.specs.Costs.{IsFileBlock, all_boundaries, quilt_cost}
+use Rattle.quilted.specs.Costs.{IsFileBlock, all_boundaries, quilt_cost}
 use Rattle.block_check.specs.Blocks.{block_cells}
 use Rattle.quilt_run.specs.QuiltWork.{IsQuiltWork}
 use Rattle.quilt_run.proofs.lay.quilt_within.Goals as goal

@@ -1,6 +1,6 @@
 use Rattle.std.proofs.Common.{subst, sym, ap}
-use Rattle.quilt_run.specs.declared.asked.QuiltRun.{QuiltRun}
-use Rattle.quilt_run.specs.Quilted.{CanBeQuilted, IsQuilt, IsQuiltFault}
+use Rattle.quilted.specs.declared.asked.QuiltRun.{QuiltRun}
+use Rattle.quilted.specs.Quilted.{CanBeQuilted, IsQuilt, IsQuiltFault}
 use Rattle.transfer.specs.Targets.{IsTargetOf}
 use Rattle.command.specs.Outcomes.{NotMade}
 use Rattle.sample_files.specs.Outputs.{FitsOutput, PassesOutput}

@@ -4,7 +4,7 @@ use Rattle.cells.specs.declared.place.Size.{Size}
 use Rattle.map_canvas.specs.Choices.{Fits}
 use Rattle.map_canvas.specs.Maps.{SourceMap}
 use Rattle.patch_picks.specs.Lists.{fit_list, part_lists}
-use Rattle.quilt.proofs.Picking.{picked_has_box}
+use Rattle.quilted.proofs.Picking.{picked_has_box}
 use Rattle.quilt.proofs.picks.SampleSumsBlockPicks.pick.Goals as goal
 
 pub pick_with-requires-clause-some : goal.pick_with-requires-clause-some

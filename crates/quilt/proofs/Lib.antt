@@ -1,4 +1,0 @@
-pub mod Laying
-pub mod OneQuilt
-pub mod Picking
-pub mod Runs

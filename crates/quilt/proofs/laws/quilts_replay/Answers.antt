@@ -1,5 +1,0 @@
-use Rattle.quilt.proofs.Runs.{quilts_replay}
-use Rattle.quilt.proofs.laws.quilts_replay.Goals as goal
-
-pub returns : goal.returns
-returns c = quilts_replay c.args.plan.now c.args.sample.now c.size-size.ensures.volume c.requires.block c.args.size c.requires.small c.requires.frame

@@ -1,5 +1,0 @@
-use Rattle.quilt_run.specs.QuiltWork.{IsLeastAt}
-use Rattle.quilt_run.proofs.totals.least_at.Given as goal
-
-abbrev pub invariant-loop-i : goal.invariant-loop-i
-invariant-loop-i l = IsLeastAt l.numbers l.i l.least

@@ -1,0 +1,11 @@
+pub mod Laying
+pub mod OneQuilt
+pub mod Picking
+pub mod Runs
+pub mod More
+pub mod Costing
+mod FirstBlocks
+pub mod Spots
+mod Counting
+mod RunBlocks
+pub mod OneLimits

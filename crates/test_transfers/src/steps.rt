@@ -4,7 +4,7 @@ ghost use Rattle.block_strips.specs.Laid.{IsLaidByBlocks};
 ghost use Rattle.limits.specs.declared.bounds.TheConstants.{GREATEST_ALPHA};
 ghost use Rattle.quilted.specs.Runs.{HaveOneFrame};
 ghost use Rattle.transfer.specs.Search.{ServesTransfer};
-ghost use Rattle.transfer.specs.Targets.{IsTargetOf};
+ghost use Rattle.targets.specs.Targets.{IsTargetOf};
 
 use crate::expect::expect_done;
 use crate::pictures::{assert_fits, greys};
@@ -15,7 +15,8 @@ use map_canvas::{Canvas, Placement};
 use patch_picks::Draws;
 use std::alloc::{AllocError, Global};
 use std::process::Abort;
-use transfer::{TargetSearch, TransferPlan, next_transfer, next_transfer_with, target_error};
+use targets::target_error;
+use transfer::{TargetSearch, TransferPlan, next_transfer, next_transfer_with};
 
 const ROW: Size = Size { w: 4, h: 1, f: 1 };
 

@@ -1,9 +1,4 @@
-pub mod Bounds
-pub mod Rows
-pub mod Joining
-pub mod Aims
 pub mod Serving
 pub mod SamePicks
 pub mod Weighings
 pub mod Picking
-pub mod Rooms

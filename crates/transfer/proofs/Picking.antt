@@ -13,7 +13,7 @@ use Rattle.patch_picks.specs.Lists.{fit_list, part_lists}
 use Rattle.patch_picks.specs.Picks.{IsPick}
 use Rattle.quilted.proofs.Picking.{listed_has_box}
 use Rattle.transfer.specs.declared.weighing.Weighing.{Weighing}
-use Rattle.transfer.specs.Targets.{by_target}
+use Rattle.targets.specs.Targets.{by_target}
 use Rattle.transfer.specs.Weighing.{IsWeighed, IsWeighingOf, weighed_error}
 use Rattle.transfer.proofs.SamePicks.{same_pick}
 

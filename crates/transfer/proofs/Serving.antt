@@ -16,8 +16,8 @@ use Rattle.search_squares.specs.declared.sums.BlockSums.{BlockSums}
 use Rattle.search_squares.specs.Blocks.{block_sum}
 use Rattle.search_squares.specs.Eliminations.{AreSampleSums}
 use Rattle.search_squares.specs.Sums.{AreBlockSums}
-use Rattle.transfer.specs.Joined.{CanBeJoined}
-use Rattle.transfer.proofs.Joining.{same_row, stays_held}
+use Rattle.targets.specs.Joined.{CanBeJoined}
+use Rattle.targets.proofs.Joining.{same_row, stays_held}
 
 -- steps along the rows and the columns of a box
 row_of : (rect : Box3) (x y f j : ℕ) → plus (cell_in rect x y f) (spot 0 j 0) ≡ cell_in rect x (y + j) f

@@ -14,12 +14,12 @@ use Rattle.patch_place.specs.BoxErrors.{IsLow}
 use Rattle.patch_place.specs.Overlaps.{AreOverlaps, IsOverlap}
 use Rattle.search_squares.specs.Eliminations.{AreSampleSums}
 use Rattle.transfer.specs.declared.weighing.Weighing.{Weighing}
-use Rattle.transfer.specs.Joined.{CanBeJoined, IsTargetBox, at_first}
-use Rattle.transfer.specs.Targets.{by_target, target_sum}
+use Rattle.targets.specs.Joined.{CanBeJoined, IsTargetBox, at_first}
+use Rattle.targets.specs.Targets.{by_target, target_sum}
 use Rattle.transfer.specs.Weighing.{IsWeighing, aimed, sum_over, weighed_error}
-use Rattle.transfer.proofs.Aims.{aim_sum, first_holds}
-use Rattle.transfer.proofs.Bounds.{overlap_small, weighed_small}
-use Rattle.transfer.proofs.Joining.{stays_held}
+use Rattle.targets.proofs.Aims.{aim_sum, first_holds}
+use Rattle.targets.proofs.Bounds.{overlap_small, weighed_small}
+use Rattle.targets.proofs.Joining.{stays_held}
 
 module _ (e : Weighing) (target : Cells) (here : AreOverlaps e.here) (there : AreOverlaps e.there) (volume : IsVolume e.here.sample.now) (other : IsVolume e.there.sample.now)
     (can : CanBeJoined e.here.sample.now target) (box : IsTargetBox e.here.sample.now target e.there.sample.now e.here.rect e.there.canvas.now)

@@ -1,4 +1,2 @@
-pub mod Targets
-pub mod Joined
 pub mod Search
 pub mod Weighing

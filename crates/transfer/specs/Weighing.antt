@@ -17,7 +17,7 @@ use Rattle.search_squares.specs.Eliminations.{AreSampleSums}
 use Rattle.transfer.specs.declared.weighed.Weighed.{Weighed}
 use Rattle.transfer.specs.declared.weighing.Weighing.{Weighing}
 use Rattle.transfer.specs.Search.{ServesTransfer}
-use Rattle.transfer.specs.Targets.{IsTargetOf, by_target}
+use Rattle.targets.specs.Targets.{IsTargetOf, by_target}
 
 -- the box of the target, laid from the same place
 abbrev pub aimed : Weighing → Placement → Placement

@@ -2,13 +2,13 @@
 ghost use Rattle.std.specs.Prelude.{◌≤◌, ◌+◌, IfOk};
 ghost use Rattle.cells.specs.Cells.{count_of};
 ghost use Rattle.limits.specs.declared.bounds.TheConstants.{MOST_CELLS};
-ghost use Rattle.transfer.specs.Joined.{CanBeJoined};
+ghost use Rattle.targets.specs.Joined.{CanBeJoined};
 ghost use Rattle.transfer.specs.Search.{ServesTransfer};
 
-use crate::joined::joined;
 use cells::Volume;
 use search_squares::SampleSums;
 use std::alloc::{AllocError, Global};
+use targets::join_target;
 
 /// What the picks of a transfer go by: the sample with the target as a further part, and the sums of the sample's
 /// blocks. Made once, it serves all picks from the sample by the target.
@@ -27,7 +27,7 @@ impl TargetSearch {
         ensures { IfOk result (ServesTransfer sample.now target.now) }
     {
         let sums = SampleSums::make(alloc, sample)?;
-        let joined = joined(alloc, sample, target)?;
+        let joined = join_target(alloc, sample, target)?;
         Ok(TargetSearch { joined, sums })
     }
 }

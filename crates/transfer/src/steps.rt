@@ -6,7 +6,7 @@ ghost use Rattle.block_strips.specs.Laid.{IsLaidByBlocks};
 ghost use Rattle.quilted.specs.Runs.{HaveOneFrame, LaysNext, quilting};
 ghost use Rattle.quilted.specs.Quilted.{CanBeQuilted, IsQuiltFault, Quilts};
 ghost use Rattle.transfer.specs.Search.{ServesTransfer};
-ghost use Rattle.transfer.specs.Targets.{IsTargetOf, by_target};
+ghost use Rattle.targets.specs.Targets.{IsTargetOf, by_target};
 
 use crate::plan::TransferPlan;
 use crate::search::TargetSearch;

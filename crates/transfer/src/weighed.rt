@@ -9,12 +9,11 @@ ghost use Rattle.patch_picks.specs.Lists.{fit_list, part_lists};
 ghost use Rattle.patch_picks.specs.Picks.{IsPick};
 ghost use Rattle.patch_picks.specs.Steps.{after_draw};
 ghost use Rattle.block_strips.specs.Blocks.{FitsBlock};
-ghost use Rattle.transfer.specs.Joined.{IsTargetBox};
+ghost use Rattle.targets.specs.Joined.{IsTargetBox};
 ghost use Rattle.transfer.specs.Search.{ServesTransfer};
-ghost use Rattle.transfer.specs.Targets.{IsTargetOf, by_target};
+ghost use Rattle.targets.specs.Targets.{IsTargetOf, by_target};
 ghost use Rattle.transfer.specs.Weighing.{ArePicksFor, IsWeighingOf};
 
-use crate::joined::{at_first, target_box};
 use crate::search::TargetSearch;
 use crate::weighing::Weighing;
 use cells::{Box3, Volume};
@@ -23,6 +22,7 @@ use patch_picks::{Draws, box_list_is_all_that_fit};
 use patch_place::{Overlaps, pick_by};
 use quilt::BlockPicks;
 use std::alloc::{AllocError, Global};
+use targets::{at_first, target_box};
 
 /// Picks blocks by a target too: so many hundredths of a block's error are its overlap error, and the others are its
 /// distance from the target.

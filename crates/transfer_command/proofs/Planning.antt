@@ -9,7 +9,7 @@ use Rattle.netpbm_p6.specs.Pictures.{IsRead, IsSound, Refuses}
 use Rattle.quilted.specs.declared.asked.Quilted.{Quilted}
 use Rattle.quilted.specs.declared.asked.QuiltError.{QuiltError}
 use Rattle.quilted.specs.Quilted.{CanBeQuilted, IsQuilt, IsQuiltFault}
-use Rattle.transfer.specs.Targets.{IsTargetOf}
+use Rattle.targets.specs.Targets.{IsTargetOf}
 use Rattle.job_words.specs.declared.transfer.TransferJob.{TransferJob}
 use Rattle.job_words.specs.TransferWords.{IsTransferJob}
 use Rattle.synth_report.specs.declared.fault.Fault.{Fault}

@@ -7,7 +7,7 @@ use Rattle.netpbm_p6.specs.declared.picture.Picture.{Picture}
 use Rattle.netpbm_p6.specs.Pictures.{IsRead}
 use Rattle.quilted.specs.declared.asked.Quilted.{Quilted}
 use Rattle.quilted.specs.Quilted.{IsQuilt}
-use Rattle.transfer.specs.Targets.{matched}
+use Rattle.targets.specs.Targets.{matched}
 use Rattle.job_words.specs.declared.transfer.TransferJob.{TransferJob}
 use Rattle.job_words.specs.TransferWords.{IsTransferJob}
 use Rattle.synth_report.specs.declared.summary.Summary.{Summary}

@@ -7,7 +7,7 @@ use Rattle.netpbm_p6.specs.declared.picture.Picture.{Picture}
 use Rattle.map_canvas.specs.Maps.{empty_map}
 use Rattle.block_check.specs.declared.block.BlockRecord.{BlockRecord}
 use Rattle.quilted.specs.Costs.{all_boundaries, quilt_cost}
-use Rattle.transfer.specs.Targets.{matched}
+use Rattle.targets.specs.Targets.{matched}
 use Rattle.job_words.specs.declared.transfer.TransferJob.{TransferJob}
 use Rattle.job_words.specs.declared.job.Job.TheVariants.{Transfer as TransferOf}
 use Rattle.job_words.specs.Jobs.{job_of}

@@ -9,7 +9,7 @@ use Rattle.netpbm_p6.specs.Pictures.{IsRead, IsSound, Refuses}
 use Rattle.quilted.specs.Runs.{Rating}
 use Rattle.quilted.specs.declared.asked.QuiltRun.{QuiltRun}
 use Rattle.quilted.specs.declared.asked.Quilted.{Quilted}
-use Rattle.transfer.specs.Targets.{by_target, matched}
+use Rattle.targets.specs.Targets.{by_target, matched}
 use Rattle.job_words.specs.declared.transfer.TransferJob.{TransferJob}
 use Rattle.synth_report.specs.declared.fault.Fault.{Fault}
 use Rattle.synth_report.specs.declared.fault.Fault.TheVariants.{Form, Limit, Unlike}

@@ -5,7 +5,7 @@ ghost use Rattle.shelf_core.specs.Files.{OnlyWrites};
 ghost use Rattle.job_words.specs.TransferWords.{IsTransferJob};
 ghost use Rattle.command.specs.Outcomes.{Leaves};
 ghost use Rattle.command.specs.Writing.{WritesRun, text_names};
-ghost use Rattle.transfer.specs.Targets.{matched};
+ghost use Rattle.targets.specs.Targets.{matched};
 ghost use Rattle.transfer_command.specs.Transfers.{IsMadeTransfer, made_summary, transfer_command, transfer_files};
 
 use crate::plan::{Transferred, plan, run_of};

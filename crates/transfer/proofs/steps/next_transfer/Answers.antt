@@ -1,6 +1,6 @@
 use Rattle.std.proofs.Common.{ap, ◌∙◌}
 use Rattle.cells.specs.declared.place.Size.{Size}
-use Rattle.transfer.proofs.Rooms.{both_have_room}
+use Rattle.targets.proofs.Rooms.{both_have_room}
 use Rattle.transfer.proofs.steps.next_transfer.Goals as goal
 
 pub make-requires-clause-room : goal.make-requires-clause-room

@@ -5,8 +5,8 @@ use Rattle.map_canvas.specs.Canvases.{CanvasState}
 use Rattle.map_canvas.specs.Choices.{Fits}
 use Rattle.search_squares.specs.Eliminations.{AreSampleSums}
 use Rattle.transfer.specs.declared.weighing.Weighing.{Weighing}
-use Rattle.transfer.specs.Joined.{CanBeJoined, IsTargetBox, at_first}
-use Rattle.transfer.specs.Targets.{by_target}
+use Rattle.targets.specs.Joined.{CanBeJoined, IsTargetBox, at_first}
+use Rattle.targets.specs.Targets.{by_target}
 use Rattle.transfer.proofs.Serving.{sums_serve}
 use Rattle.transfer.proofs.Weighings.{weighing_errors, weighing_ready}
 use Rattle.transfer.proofs.weighed.weighing.Goals as goal

@@ -1,7 +1,7 @@
 use Rattle.std.proofs.Common.{subst, sym, ap}
 use Rattle.quilted.specs.declared.asked.QuiltRun.{QuiltRun}
 use Rattle.quilted.specs.Quilted.{CanBeQuilted, IsQuilt, IsQuiltFault}
-use Rattle.transfer.specs.Targets.{IsTargetOf}
+use Rattle.targets.specs.Targets.{IsTargetOf}
 use Rattle.command.specs.Outcomes.{NotMade}
 use Rattle.sample_files.specs.Outputs.{FitsOutput, PassesOutput}
 use Rattle.transfer_command.specs.Transfers.{transfer_command, transfer_rating}

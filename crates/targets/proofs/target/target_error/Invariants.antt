@@ -1,8 +1,8 @@
 use Rattle.std.proofs.Common.{◌≡◌, ◌≤◌, ◌*◌}
 use Rattle.boxes.specs.Sums.{sum_to}
 use Rattle.match_error.specs.Errors.{most_frame_error}
-use Rattle.transfer.specs.Targets.{target_frame}
-use Rattle.transfer.proofs.target.target_error.Given as goal
+use Rattle.targets.specs.Targets.{target_frame}
+use Rattle.targets.proofs.target.target_error.Given as goal
 
 abbrev pub invariant-loop-f : goal.invariant-loop-f
 invariant-loop-f l = record {

@@ -5,7 +5,7 @@ ghost use Rattle.cells.specs.Cells.{IsOnePart};
 ghost use Rattle.cells.specs.Places.{SumFits, cell_count, plus, spot};
 ghost use Rattle.map_canvas.specs.Choices.{Fits};
 ghost use Rattle.match_error.specs.Errors.{most_cell_error, most_frame_error, most_row_error};
-ghost use Rattle.transfer.specs.Targets.{target_frame, target_row, target_sum};
+ghost use Rattle.targets.specs.Targets.{target_frame, target_row, target_sum};
 
 use cells::{At, Volume};
 use lane_kernels::ssd;

@@ -3,7 +3,7 @@ ghost use Rattle.std.specs.Prelude.{◌≡◌, ◌≤◌, ◌+◌, true, IfOk, l
 ghost use Rattle.cells.specs.Boxes.{HasCells, HoldsBox};
 ghost use Rattle.cells.specs.Cells.{IsOnePart, count_of, with_part};
 ghost use Rattle.limits.specs.declared.bounds.TheConstants.{MOST_CELLS};
-ghost use Rattle.transfer.specs.Joined.{CanBeJoined, IsTargetBox, at_first};
+ghost use Rattle.targets.specs.Joined.{CanBeJoined, IsTargetBox, at_first};
 
 use cells::{At, Box3, Volume};
 use map_canvas::{Canvas, Placement};
@@ -23,7 +23,7 @@ fn copy_of(alloc: Global, volume: &Volume, more: usize) -> Result<Volume, AllocE
 }
 
 /// The sample with the target as its second part.
-pub(crate) fn joined(alloc: Global, sample: &Volume, target: &Volume) -> Result<Volume, AllocError>
+pub fn join_target(alloc: Global, sample: &Volume, target: &Volume) -> Result<Volume, AllocError>
     requires can { CanBeJoined sample.now target.now }
     requires room { count_of sample.now + count_of target.now ≤ MOST_CELLS }
     ensures { IfOk result (λ both. both ≡ with_part sample.now target.now) }
@@ -34,7 +34,7 @@ pub(crate) fn joined(alloc: Global, sample: &Volume, target: &Volume) -> Result<
 }
 
 /// A box of that size at the first cell.
-pub(crate) fn at_first(rect: &Box3) -> Box3
+pub fn at_first(rect: &Box3) -> Box3
     ensures { result ≡ at_first rect.now }
 {
     Box3 {
@@ -45,7 +45,7 @@ pub(crate) fn at_first(rect: &Box3) -> Box3
 
 /// A box of the target as a full canvas of the box's size, whose sources are the cells of the target in the
 /// joined volume.
-pub(crate) fn target_box(
+pub fn target_box(
     alloc: Global,
     sample: &Volume,
     target: &Volume,

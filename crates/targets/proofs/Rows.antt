@@ -15,7 +15,7 @@ use Rattle.map_canvas.specs.Maps.{sample_cell}
 use Rattle.map_canvas.specs.Choices.{Fits, new_source}
 use Rattle.match_error.proofs.RowPlaces.{IsVolumeRow, row_in_volume, have_samples, row_is_run}
 use Rattle.match_error.proofs.Runs.{plain_cells}
-use Rattle.transfer.specs.Targets.{target_row, target_spot}
+use Rattle.targets.specs.Targets.{target_row, target_spot}
 
 module _ (target sample : Cells) (placement : Placement) (volume : IsVolume target) (is : IsVolume sample) (same : target.k ≡ sample.k) (fits : Fits target.size sample placement) where
   module _ (y f : ℕ) (ly : y < placement.rect.size.h) (lf : f < placement.rect.size.f) where

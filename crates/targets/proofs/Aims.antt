@@ -23,9 +23,9 @@ use Rattle.map_canvas.specs.CellErrors.{cell_error, spot_error}
 use Rattle.map_canvas.specs.Choices.{IsAfter, chosen, laid_from, new_source}
 use Rattle.map_canvas.specs.Maps.{SourceMap, map_at, sample_cell}
 use Rattle.match_error.specs.Errors.{error_sum}
-use Rattle.transfer.specs.Joined.{CanBeJoined, IsTargetBox, at_first}
-use Rattle.transfer.specs.Targets.{target_spot, target_sum}
-use Rattle.transfer.proofs.Joining.{same_cell, target_cell}
+use Rattle.targets.specs.Joined.{CanBeJoined, IsTargetBox, at_first}
+use Rattle.targets.specs.Targets.{target_spot, target_sum}
+use Rattle.targets.proofs.Joining.{same_cell, target_cell}
 
 from_first : (p : At) → minus p (spot 0 0 0) ≡ p
 from_first p = λ k. record { x = same p.x k; y = same p.y k; f = same p.f k }

@@ -18,7 +18,7 @@ use Rattle.cells.proofs.PartBoxes.{held, run_of_volume}
 use Rattle.cells.proofs.PartLaws.{index_from_below, index_front}
 use Rattle.cells.proofs.PartLists.{joined_parts, stands_in}
 use Rattle.cells.proofs.Raster.{has_index}
-use Rattle.transfer.specs.Joined.{CanBeJoined, target_place}
+use Rattle.targets.specs.Joined.{CanBeJoined, target_place}
 
 -- a volume of one part, with its parts written out
 pub single : (v : Cells) → IsOnePart v → v ≡ one_part_of v.size v.k v.cells

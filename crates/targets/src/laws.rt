@@ -1,5 +1,5 @@
 // What the definitions mean.
-ghost use Rattle.transfer.specs.Targets.{EligibleByError};
+ghost use Rattle.targets.specs.Targets.{EligibleByError};
 
 use cells::Volume;
 

@@ -1,8 +1,8 @@
 use Rattle.std.proofs.Common.{◌≡◌, ap, arith}
 use Rattle.boxes.specs.Sums.{sum_to}
-use Rattle.transfer.specs.Targets.{target_frame}
-use Rattle.transfer.proofs.Bounds.{target_small}
-use Rattle.transfer.proofs.target.target_error.Goals as goal
+use Rattle.targets.specs.Targets.{target_frame}
+use Rattle.targets.proofs.Bounds.{target_small}
+use Rattle.targets.proofs.target.target_error.Goals as goal
 
 pub returns-clause-small : goal.returns-clause-small
 returns-clause-small c =

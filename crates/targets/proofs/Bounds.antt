@@ -17,7 +17,7 @@ use Rattle.map_canvas.specs.Maps.{SourceMap, map_at, sample_cell}
 use Rattle.map_canvas.specs.Choices.{new_source}
 use Rattle.map_canvas.specs.CellErrors.{cell_error}
 use Rattle.match_error.specs.Errors.{error_sum}
-use Rattle.transfer.specs.Targets.{target_spot, target_sum}
+use Rattle.targets.specs.Targets.{target_spot, target_sum}
 
 -- at most 6 samples, each a byte
 record IsShort (cell : List ℕ) : Type 0 where

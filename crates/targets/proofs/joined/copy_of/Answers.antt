@@ -3,8 +3,8 @@ use Rattle.cells.specs.Cells.{bytes_of, volume_of}
 use Rattle.cells.specs.Parts.{count_from}
 use Rattle.cells.specs.Places.{cell_count}
 use Rattle.map_canvas.proofs.FromMaps.{bytes_count, volume_of_cells}
-use Rattle.transfer.proofs.Joining.{single}
-use Rattle.transfer.proofs.joined.copy_of.Goals as goal
+use Rattle.targets.proofs.Joining.{single}
+use Rattle.targets.proofs.joined.copy_of.Goals as goal
 
 pub from_bytes-requires-clause-whole : goal.from_bytes-requires-clause-whole
 from_bytes-requires-clause-whole c =

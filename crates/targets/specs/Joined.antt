@@ -1,4 +1,4 @@
--- A sample with a target as its second part, for the contracts of this crate; of it a reader has to
+-- A sample with a target as its second part, for the contracts of transfer; of it a reader has to
 -- trust that it serves the search. (Own.)
 use Rattle.std.specs.Prelude.{◌≡◌, ◌<◌, ℕ, [], ◌∷◌, Some}
 use Rattle.cells.specs.declared.place.At.{At}

@@ -1,8 +1,8 @@
 use Rattle.std.proofs.Common.{◌≡◌, ◌≤◌, ◌*◌}
 use Rattle.boxes.specs.Sums.{sum_to}
 use Rattle.match_error.specs.Errors.{most_row_error}
-use Rattle.transfer.specs.Targets.{target_row}
-use Rattle.transfer.proofs.target.frame_sum.Given as goal
+use Rattle.targets.specs.Targets.{target_row}
+use Rattle.targets.proofs.target.frame_sum.Given as goal
 
 abbrev pub invariant-loop-y : goal.invariant-loop-y
 invariant-loop-y l = record {

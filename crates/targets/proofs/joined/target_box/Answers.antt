@@ -9,10 +9,10 @@ use Rattle.cells.specs.SizeLists.{stock_place}
 use Rattle.cells.proofs.PartBoxes.{held_small}
 use Rattle.map_canvas.specs.Canvases.{CanvasState}
 use Rattle.map_canvas.specs.Choices.{Fits, IsAfter, laid_from}
-use Rattle.transfer.specs.Joined.{at_first, target_place}
-use Rattle.transfer.proofs.Aims.{all_new, first_holds}
-use Rattle.transfer.proofs.Joining.{both_sizes, target_held, target_step}
-use Rattle.transfer.proofs.joined.target_box.Goals as goal
+use Rattle.targets.specs.Joined.{at_first, target_place}
+use Rattle.targets.proofs.Aims.{all_new, first_holds}
+use Rattle.targets.proofs.Joining.{both_sizes, target_held, target_step}
+use Rattle.targets.proofs.joined.target_box.Goals as goal
 
 pub empty-requires-clause-small : goal.empty-requires-clause-small
 empty-requires-clause-small c =

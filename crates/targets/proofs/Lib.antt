@@ -1,0 +1,5 @@
+pub mod Bounds
+pub mod Rows
+pub mod Joining
+pub mod Aims
+pub mod Rooms

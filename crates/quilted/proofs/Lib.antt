@@ -9,3 +9,5 @@ pub mod Spots
 mod Counting
 mod RunBlocks
 pub mod OneLimits
+mod Boundaries
+mod Reaching

@@ -1,5 +1,5 @@
 -- A reader has to trust this file. What holds of the limit of all quilts: it excludes a run to the
--- end, there is one number, and a run that passes the bound does so at it. (Own.)
+-- end, there is one number, a run that passes the bound does so at it, and there is such a run. (Own.)
 use Rattle.std.specs.Prelude.{◌≡◌, ◌≤◌, ◌<◌, ◌+◌, ℕ, List, Some}
 use Rattle.cells.specs.declared.place.Box3.{Box3}
 use Rattle.cells.specs.Cells.{Cells}
@@ -42,3 +42,8 @@ pub record RunPassesAt (rating : Rating) (asked : QuiltRun) (sample : Cells) (nu
 abbrev pub RunsPassThere : Rating → QuiltRun → Cells → Type 0
 RunsPassThere rating asked sample =
     (number : ℕ) → RunPassesAt rating asked sample number → QuiltPassesAt asked sample number
+
+-- and where the blocks of the plan pass it, there is such a run
+abbrev pub RunPassesWhereBlocksDo : Rating → QuiltRun → Cells → Type 0
+RunPassesWhereBlocksDo rating asked sample =
+    (number : ℕ) → QuiltPassesAt asked sample number → RunPassesAt rating asked sample number

@@ -2,7 +2,7 @@
 ghost use Rattle.std.specs.Prelude.{◌≡◌, ◌≤◌};
 ghost use Rattle.cells.specs.Cells.{IsOnePart};
 ghost use Rattle.cells.specs.Places.{IsSmall};
-ghost use Rattle.quilted.specs.OneLimit.{OneQuiltLimit, QuiltEndsWithin, RunsPassThere};
+ghost use Rattle.quilted.specs.OneLimit.{OneQuiltLimit, QuiltEndsWithin, RunPassesWhereBlocksDo, RunsPassThere};
 ghost use Rattle.quilted.specs.Quilted.{CanBeQuilted};
 ghost use Rattle.quilted.specs.Runs.{OneQuilt, QuiltsReplay, Rating};
 
@@ -41,6 +41,17 @@ pub fn there_is_one_quilt_limit(asked: &QuiltRun, sample: &Volume)
     ensures within { (rating : Rating) → QuiltEndsWithin rating asked.now sample.now }
     ensures limit { OneQuiltLimit asked.now sample.now }
     ensures run { (rating : Rating) → RunsPassThere rating asked.now sample.now }
+{
+    // Called for its contract only: it shows the prover that the sample is a volume.
+    let _samples = sample.samples();
+}
+
+/// A law, with nothing to run: where the blocks of the plan pass the bound on their cells, a run does, at the same
+/// number, whatever rates its places. It lays each block before that one from a place that its draw picks, along
+/// least boundaries.
+pub fn a_run_passes_where_blocks_do(asked: &QuiltRun, sample: &Volume)
+    requires { CanBeQuilted asked.now sample.now }
+    ensures { (rating : Rating) → RunPassesWhereBlocksDo rating asked.now sample.now }
 {
     // Called for its contract only: it shows the prover that the sample is a volume.
     let _samples = sample.samples();

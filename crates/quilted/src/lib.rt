@@ -4,7 +4,7 @@
 //! that steps make. specs/Quilted.antt has what is asked for, and what each answer means. What is counted of a run
 //! is here too: what its boundaries cost (`totals`), and where its boxes pass the bound on their cells, by the plan
 //! alone (`first_past`). `laws` says what the definitions mean: records over one another leave the map, there is one
-//! run, and one number at the limit.
+//! run, and one number at the limit, which a run passes.
 //!
 //! `asked` has the types, `limit` the count of boxes, `totals` what is reported of a record. The crates quilt and
 //! quilt_run lay blocks; those that write what they lay stand on this one alone.
@@ -16,6 +16,8 @@ mod limit;
 mod totals;
 
 pub use asked::{QuiltError, QuiltRun, Quilted};
-pub use laws::{quilts_replay, there_is_one_quilt, there_is_one_quilt_limit};
+pub use laws::{
+    a_run_passes_where_blocks_do, quilts_replay, there_is_one_quilt, there_is_one_quilt_limit,
+};
 pub use limit::first_past;
 pub use totals::{block_boundaries, block_cost, block_fits};

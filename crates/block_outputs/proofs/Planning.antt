@@ -13,7 +13,8 @@ use Rattle.quilted.specs.declared.asked.Quilted.{Quilted}
 use Rattle.quilted.specs.declared.asked.QuiltError.{QuiltError}
 use Rattle.quilted.specs.declared.asked.QuiltError.TheVariants as error
 use Rattle.quilted.specs.Quilted.{CanBeQuilted, IsQuilt, IsQuiltFault}
-use Rattle.quilted.proofs.OneLimits.{ends_within, limits_are_one}
+use Rattle.quilted.proofs.OneLimits.{ends_within, passes_there, runs_pass_once}
+use Rattle.quilted.proofs.Reaching.{blocks_pass}
 use Rattle.job_words.specs.declared.job.Names.{Names}
 use Rattle.synth_report.specs.declared.fault.Fault.{Fault}
 use Rattle.synth_report.specs.declared.fault.Fault.TheVariants.{Limit}
@@ -29,7 +30,7 @@ use Rattle.block_outputs.specs.BlockOutputs.{fault_of_quilting, quilt_files, qui
 
 -- whatever is reported, with one status
 pub over_is_one : (rating : Rating) (asked : QuiltRun) (names : Names) (summary : Quilted → Summary) → ((first second : Quilted) → summary_status (summary first) ≡ summary_status (summary second)) → (picture : Picture) (files : Files) → AreOne (quilt_over rating asked names summary picture) files
-over_is_one rating asked names summary same picture files = (bound_is_one _ _ _, λ within. (passing_is_one _ _ _ (limits_are_one asked picture.volume), λ none first second a b. same first second))
+over_is_one rating asked names summary same picture files = (bound_is_one _ _ _, λ within. (passing_is_one _ _ _ (runs_pass_once rating asked picture.volume), λ none first second a b. same first second))
 
 -- What is planned.
 
@@ -38,12 +39,12 @@ module _ (rating : Rating) (asked : QuiltRun) (names : Names) (summary : Quilted
   pub output_refused : (fault : Fault) → PassesOutput asked.size fault → NotMade c a b fault
   output_refused fault passes = limit_passed over fault _ _ _ passes.1 passes (may _).0
 
-  pub not_quilted : FitsOutput asked.size → (why : QuiltError) → IsQuiltFault asked picture.volume why → NotMade c a b (fault_of_quilting why)
-  not_quilted within (error.Records number) passes = not_passed (pass_on over within) _ (number, passes, refl) (may number).1
-  not_quilted within error.NoMemory left = tt
+  pub not_quilted : FitsOutput asked.size → IsVolume picture.volume → CanBeQuilted asked picture.volume → (why : QuiltError) → IsQuiltFault asked picture.volume why → NotMade c a b (fault_of_quilting why)
+  not_quilted within volume can (error.Records number) passes = not_passed (pass_on over within) _ (number, blocks_pass rating asked picture.volume volume can number passes, refl) (may number).1
+  not_quilted within volume can error.NoMemory left = tt
 
   pub quilt_made : FitsOutput asked.size → IsVolume picture.volume → CanBeQuilted asked picture.volume → (quilted : Quilted) → IsQuilt rating asked picture.volume quilted
       → files_in (quilt_files names asked.size (quilt_of picture quilted)) ≡ c.writes → c.MayMake (summary quilted) → IsPlanned c (quilt_files names asked.size (quilt_of picture quilted)) (summary quilted) a b
   quilt_made within volume can quilted is writes makes =
-      plan_made (pass_on (pass_on over within) (λ number. ends_within asked picture.volume volume can rating quilted.blocks (quilting quilted.canvas.map is.draws) number is.run is.writable.cells))
+      plan_made (pass_on (pass_on over within) (λ number passes. ends_within asked picture.volume volume can rating quilted.blocks (quilting quilted.canvas.map is.draws) number is.run is.writable.cells (passes_there asked picture.volume volume can rating number passes)))
       quilted is writes makes

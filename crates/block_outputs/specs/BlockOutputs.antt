@@ -16,7 +16,8 @@ use Rattle.quilted.specs.declared.asked.QuiltRun.{QuiltRun}
 use Rattle.quilted.specs.declared.asked.Quilted.{Quilted}
 use Rattle.quilted.specs.declared.asked.QuiltError.{QuiltError}
 use Rattle.quilted.specs.declared.asked.QuiltError.TheVariants as error
-use Rattle.quilted.specs.Quilted.{IsQuilt, QuiltPassesAt}
+use Rattle.quilted.specs.OneLimit.{RunPassesAt}
+use Rattle.quilted.specs.Quilted.{IsQuilt}
 use Rattle.cert_file.specs.RecordFiles.{blocks_form}
 use Rattle.job_words.specs.declared.job.Names.{Names}
 use Rattle.synth_report.specs.declared.fault.Fault.{Fault}
@@ -76,6 +77,6 @@ quilt_files names size made =
 abbrev pub quilt_over : Rating → QuiltRun → Names → (Quilted → Summary) → Picture → Stages []
 quilt_over rating asked names summary picture =
     bounded_output asked.size
-    (never_passed RecordsLimit (QuiltPassesAt asked picture.volume) MOST_BOX_CELLS
+    (never_passed RecordsLimit (RunPassesAt rating asked picture.volume) MOST_BOX_CELLS
     (make (IsQuilt rating asked picture.volume)
     (λ quilted. quilt_files names asked.size (quilt_of picture quilted)) summary))

@@ -59,7 +59,7 @@ module _ (job : QuiltJob) (a b : ShelfState) (reads : OnlyReadsFile job.names.sa
     pub output_refused : (fault : Fault) → PassesOutput (quilt_size job) fault → NotMade (quilt_command job) a b fault
     output_refused = rest.output_refused (by_overlap picture.volume) (quilt_run_of job) job.names (quilt_summary job) picture over (λ number. (tt, tt))
 
-    pub not_quilted : FitsOutput (quilt_size job) → (why : QuiltError) → IsQuiltFault (quilt_run_of job) picture.volume why → NotMade (quilt_command job) a b (fault_of_quilting why)
+    pub not_quilted : FitsOutput (quilt_size job) → IsVolume picture.volume → CanBeQuilted (quilt_run_of job) picture.volume → (why : QuiltError) → IsQuiltFault (quilt_run_of job) picture.volume why → NotMade (quilt_command job) a b (fault_of_quilting why)
     not_quilted = rest.not_quilted (by_overlap picture.volume) (quilt_run_of job) job.names (quilt_summary job) picture over (λ number. (tt, tt))
 
     pub quilt_made : FitsOutput (quilt_size job) → IsVolume picture.volume → CanBeQuilted (quilt_run_of job) picture.volume → (quilted : Quilted) → IsQuilt (by_overlap picture.volume) (quilt_run_of job) picture.volume quilted

@@ -10,4 +10,4 @@ mod Counting
 mod RunBlocks
 pub mod OneLimits
 mod Boundaries
-mod Reaching
+pub mod Reaching

@@ -86,7 +86,7 @@ module _ (job : TransferJob) (a b : ShelfState) (reads : OnlyReadsFile job.names
       pub output_refused : (fault : Fault) → PassesOutput target.volume.size fault → NotMade (transfer_command job) a d fault
       output_refused = rest.output_refused (transfer_rating job target sample.volume) (transfer_run_of job target) job.names (transfer_summary target) sample over (λ number. (tt, tt))
 
-      pub not_quilted : FitsOutput target.volume.size → (why : QuiltError) → IsQuiltFault (transfer_run_of job target) sample.volume why → NotMade (transfer_command job) a d (fault_of_quilting why)
+      pub not_quilted : FitsOutput target.volume.size → IsVolume sample.volume → CanBeQuilted (transfer_run_of job target) sample.volume → (why : QuiltError) → IsQuiltFault (transfer_run_of job target) sample.volume why → NotMade (transfer_command job) a d (fault_of_quilting why)
       not_quilted = rest.not_quilted (transfer_rating job target sample.volume) (transfer_run_of job target) job.names (transfer_summary target) sample over (λ number. (tt, tt))
 
       pub quilt_made : FitsOutput target.volume.size → IsVolume sample.volume → CanBeQuilted (transfer_run_of job target) sample.volume → (quilted : Quilted) → IsQuilt (transfer_rating job target sample.volume) (transfer_run_of job target) sample.volume quilted

@@ -31,7 +31,8 @@ returns-in-Err-quilt_canvas-clause-planned g c =
     let job = c.args.job.now in
     let error = c.in-Err-quilt_canvas.error in
     subst (NotMade (quilt_command job) a b) (sym c.quilt_fault.ensures)
-    (not_quilted job a b c.read_picture.ensures.reads c.in-Ok.sample (c.in-Ok.ensures {u = tt}).answer (c.in-Ok-within_output.ensures {u = tt}) error
+    (not_quilted job a b c.read_picture.ensures.reads c.in-Ok.sample (c.in-Ok.ensures {u = tt}).answer (c.in-Ok-within_output.ensures {u = tt}) (c.in-Ok.ensures {u = tt}).volume
+    (can_quilt job c.in-Ok.sample c.requires (c.in-Ok-within_output.ensures {u = tt}) (c.in-Ok.ensures {u = tt}).sound) error
     (subst (λ asked. IsQuiltFault asked c.in-Ok.sample.volume error) c.run_of.ensures (c.in-Err-quilt_canvas.ensures {u = tt})))
 
 pub returns-clause-planned : goal.returns-clause-planned

@@ -99,7 +99,8 @@ returns-in-Err-transfer_canvas-clause-planned g c =
     let fits : FitsOutput target.volume.size = subst FitsOutput (target_size target its.sound c.run_of-asked.result.size (ap (λ (asked : QuiltRun). asked.size) is)) (c.in-Ok-within_output.ensures {u = tt}) in
     let error = c.in-Err-transfer_canvas.error in
     subst (NotMade (transfer_command job) a d) (sym c.quilt_fault.ensures)
-    (not_quilted job a b c.read_picture.ensures.reads c.in-Ok.sample (c.in-Ok.ensures {u = tt}).answer d c.read_target.ensures.reads target its.answer fits error
+    (not_quilted job a b c.read_picture.ensures.reads c.in-Ok.sample (c.in-Ok.ensures {u = tt}).answer d c.read_target.ensures.reads target its.answer fits (c.in-Ok.ensures {u = tt}).volume
+    (can_transfer job sample target c.requires (c.in-Ok.ensures {u = tt}).sound its.sound) error
     (subst (λ asked. IsQuiltFault asked sample.volume error) is (c.in-Err-transfer_canvas.ensures {u = tt})))
 
 pub returns-clause-planned : goal.returns-clause-planned

@@ -5,10 +5,10 @@
 
 It reads PNGs of all colour types, depths and both orders of rows, has the pixels that Netpbm has, and takes no damaged one;
 makes textures from a dozen forms of pictures and videos with each command, each of which `texture verify` accepts and no longer
-does once a byte in its folder is another; counts patches of tiles as weave does; takes marks in numbers and in colours; refuses
-transparent pixels and more than 8 bits; takes ImageMagick, ffmpeg or Netpbm alone; and leaves nothing where it is stopped. It
-says how much time it adds to that of weave. It wants Debian's packages netpbm, imagemagick and ffmpeg. Build the program first:
-./build."""
+does once a byte in its folder is another; takes pictures of other colours, and files of odd names; counts patches of tiles as
+weave does; takes marks in numbers and in colours; refuses transparent pixels and more than 8 bits; takes ImageMagick, ffmpeg or
+Netpbm alone; and leaves nothing where it is stopped. It says how much time it adds to that of weave. It wants Debian's packages
+netpbm, imagemagick and ffmpeg. Build the program first: ./build."""
 import os
 import random
 import re
@@ -72,7 +72,7 @@ def try_pngs(folder, chance):
                 width, height, rgb, solid = read_png(bytes_of(it), it)
                 wanted = sh("pngtopnm", it).stdout
                 wanted = sh("ppmtoppm", input=sh("pnmdepth", "255", input=wanted).stdout).stdout
-                if kind == 4 and read_pam(as_pam(it), it) != (width, height, rgb, solid):
+                if kind == 4 and read_pam(as_pam(it, bytes_of(it)), it) != (width, height, rgb, solid):
                     sys.exit(f"{name}, {lines}: other pixels by way of ImageMagick")
                 if solid or b"P6\n%d %d\n255\n" % (width, height) + rgb != wanted:
                     sys.exit(f"{name}, {lines}, filter {kind}: other pixels")
@@ -97,20 +97,21 @@ def try_damaged(whole, chance):
 
 
 def try_changed_bytes(kept, chance):
-    """Any other byte in the folder is seen."""
-    names = sorted(os.listdir(kept))
-    for name in names + ["sums"] * 10:
+    """Any other byte in the folder is seen; how many were changed. At the end of a line it is another line break."""
+    changes = [(name, None, chance.randrange(1, 256)) for name in sorted(os.listdir(kept)) + ["sums"] * 8]
+    changes += [("sums", 64, ord(" ")), ("sums", -1, ord("\n") ^ ord("\r"))]
+    for name, at, bits in changes:
         path = os.path.join(kept, name)
         data = bytes_of(path)
-        at = chance.randrange(len(data))
+        at = (chance.randrange(len(data)) if at is None else at) % len(data)
         with open(path, "wb") as file:
-            file.write(data[:at] + bytes([data[at] ^ 1 << chance.randrange(8)]) + data[at + 1:])
+            file.write(data[:at] + bytes([data[at] ^ bits]) + data[at + 1:])
         done = sh(TEXTURE, "verify", kept)
-        if done.returncode == 0:
-            sys.exit(f"{path}: another byte at {at} wasn't seen")
+        if done.returncode != 1 or b"Traceback" in done.stderr:
+            sys.exit(f"{path}: another byte at {at}: {done.returncode} {done.stderr.decode()}")
         with open(path, "wb") as file:
             file.write(data)
-    return len(names) + 10
+    return len(changes)
 
 
 def try_result(words, folder, chance, says="weave check: stands\nverify.py: stands"):
@@ -141,6 +142,33 @@ def try_forms(folder, chance):
     changes += try_result(["loop", "a.mp4", "short.gif", "8", "--frames", "2-11", "--crop", "60x40+3+5", "--scale", "30x20"],
                           folder, chance)
     print(f"{len(PICTURES)} forms of pictures and {len(CLIPS)} of videos: verified, and {changes} changed bytes were seen")
+
+
+def try_colours(folder):
+    """Pictures whose numbers aren't red, green and blue, or whose files have a comment or name no form."""
+    plain, found = os.path.join(folder, "a.png"), os.path.join(folder, "colours.weave", "sample.ppm")
+    for name, words in {"cmyk.jpg": ["-colorspace", "CMYK", "-quality", "98"], "lab.tif": ["-colorspace", "Lab"], "it.tga": [],
+                        "said.jpg": ["-set", "comment", "said", "-quality", "98"], "turned.jpg": ["-quality", "98"]}.items():
+        made("convert", plain, "-orient", "TopLeft", *words, os.path.join(folder, name))
+        run("grow", name, "colours.png", "40x40", "--replace", cwd=folder)
+        differs = float(sh("compare", "-metric", "MAE", plain, found, "null:").stderr.decode().split("(")[1].rstrip(")"))
+        if differs > .02:
+            sys.exit(f"{name}: its colours differ by {differs}")
+    print("pictures of other colours are taken as red, green and blue, and comments left out")
+
+
+def try_names(folder):
+    """Names with blanks, letters that aren't ASCII, and what other programs take for more than a name."""
+    names = ["my wall", "größer", "it's [1] (2)", "a:b%d", "*?", "%03d", "-v", os.fsdecode(b"caf\xe9"), "line\u2028break"]
+    for name, ending in zip(names, [".jpg", ".webp", ".tif", ".jpg", ".webp", ".jpg", ".tif", ".jpg", ".webp"]):
+        shutil.copyfile(os.path.join(folder, "b.jpg"), os.path.join(folder, name + ".jpg"))
+        run("grow", f"./{name}.jpg", f"./{name} out{ending}", "50x40", cwd=folder)
+        run("verify", f"./{name} out.weave", cwd=folder)
+    for name, ending in zip(names, [".mp4", ".webm", ".gif", ".mp4", ".gif", ".gif", ".mp4", ".webm", ".mp4"]):
+        shutil.copyfile(os.path.join(folder, "a.mp4"), os.path.join(folder, name + ".mp4"))
+        run("loop", f"./{name}.mp4", f"./{name} again{ending}", "8", cwd=folder)
+        run("verify", f"./{name} again.weave", cwd=folder)
+    print(f"{len(names)} odd names of pictures and of videos are taken, and verified")
 
 
 def try_tiles(folder, chance):
@@ -221,6 +249,12 @@ REFUSED = [
     (["grow", "clear.webp", "no.png", "40x40"], 3, "transparent pixels"),
     (["grow", "deep.mp4", "no.mp4", "40x40x4"], 3, "8 bits"),
     (["grow", "cut.png", "no.png", "40x40"], 3, "damaged"),
+    (["grow", "bit.png", "no.png", "40x40"], 3, "bit.png: is a damaged PNG"),
+    (["grow", "cut.webp", "no.png", "40x40"], 3, "cut.webp: convert can't convert it"),
+    (["grow", "cut.mp4", "no.mp4", "40x40x4"], 3, "cut.mp4: ffprobe can't convert it"),
+    (["grow", "a.png", "no.xyz", "40x40"], 2, "an ending is wanted"),
+    (["grow", "a.png", "no", "40x40"], 2, "an ending is wanted"),
+    (["grow", "a.png", "n\no.png", "40x40"], 2, "without a line break"),
     (["grow", "a.png", "no.png", "4000x4000"], 4, "weave: limit output"),
     (["grow", "a.png", "no.mp4", "40x40"], 2, "all pictures or all videos"),
     (["grow", "there isn't one.png", "no.png", "40x40"], 5, "no such file"),
@@ -266,8 +300,14 @@ def make_unfit(folder):
     made("convert", at("deep.png"), at("deep.tif"))
     made("convert", at("strokes.png"), "-blur", "0x1", at("smooth.png"))
     made("ffmpeg", "-v", "error", "-i", LIFE, "-pix_fmt", "yuv420p10le", "-c:v", "libx264", at("deep.mp4"))
-    with open(at("cut.png"), "wb") as file:
-        file.write(bytes_of(at("a.png"))[:900])
+    made("convert", PEBBLES, "-resize", "300%", at("large.png"))
+    large = bytearray(bytes_of(at("large.png")))
+    large[len(large) // 2] ^= 1
+    cut = {"cut.png": bytes_of(at("a.png"))[:900], "cut.webp": bytes_of(at("c.webp"))[:900], "bit.png": large,
+           "cut.mp4": bytes_of(at("a.mp4"))[:900]}
+    for name, data in cut.items():
+        with open(at(name), "wb") as file:
+            file.write(data)
 
 
 def try_refusals(folder):
@@ -308,6 +348,10 @@ def try_alone(folder):
         words = ["grow", os.path.join(folder, "b.jpg"), os.path.join(folder, package + "_jpg.jpg"), "50x40", "--scale", "60x50"]
         if package == "none":
             run(*words, env=env, status=3, says="needs one of these packages: imagemagick, ffmpeg, netpbm")
+            run("grow", os.path.join(folder, "a.png"), os.path.join(folder, "none.webp"), "4000x4000", env=env, status=3,
+                says="none.webp: needs one of these packages: imagemagick, ffmpeg")
+            run("loop", os.path.join(folder, "d.y4m"), os.path.join(folder, "none.webm"), "12", env=env, status=3,
+                says="none.webm: needs one of these packages: ffmpeg")
         else:
             run(*words, env=env)
             run("verify", os.path.join(folder, package + "_jpg.weave"), env=env)
@@ -339,6 +383,8 @@ def main():
     with tempfile.TemporaryDirectory() as folder:
         try_pngs(folder, chance)
         try_forms(folder, chance)
+        try_colours(folder)
+        try_names(folder)
         try_tiles(folder, chance)
         try_transfers(folder, chance)
         try_merges(folder, chance)

@@ -21,13 +21,17 @@ def sum_of(name):
     return found.hexdigest()
 
 
+# Names of files may have bytes that aren't text, and each byte of a file counts.
+AS_BYTES = {"encoding": "utf-8", "errors": "surrogateescape", "newline": ""}
+
+
 def write_text(folder, name, text):
-    with open(os.path.join(folder, name), "w", encoding="utf-8") as file:
+    with open(os.path.join(folder, name), "w", **AS_BYTES) as file:
         file.write(text)
 
 
 def read_text(folder, name):
-    with open(os.path.join(folder, name), encoding="utf-8") as file:
+    with open(os.path.join(folder, name), **AS_BYTES) as file:
         return file.read()
 
 
@@ -94,11 +98,12 @@ def finish(folder, words, report, result, called, origins, program):
     files = Files(folder, words)
     write_text(folder, REPORT, report)
     checked = check_with_weave(files, program) if files.check_words() else check_with_python(files)
+    kept = shlex.quote(os.path.splitext(called)[0] + ".weave")
     how = "weave " + " ".join(files.check_words() or ["(a run of this command has no record to check)"])
     write_text(folder, WORDS, "weave " + " ".join(map(shlex.quote, words)) + "\n")
     write_text(folder, ABOUT, f"result: {called}\n" + "".join(f"{line}\n" for line in origins)
                + f"program: {program}\nsum of the program: {sum_of(program)}\n{checked}\n"
-               + f"to check again: texture verify {os.path.splitext(called)[0]}.weave; or, in this folder: {how}\n")
+               + f"to check again: texture verify {kept}; or, in this folder: {how}\n")
     write_text(folder, SUMS, sums_text(folder, result, called))
     return checked
 
@@ -107,10 +112,10 @@ def hold_sums(folder):
     """The words of the run and the path of its result, where all sums are as they were."""
     try:
         about, sums, words = (read_text(folder, name) for name in (ABOUT, SUMS, WORDS))
-        called = about.splitlines()[0].partition(": ")[2]
+        called = about.split("\n")[0].partition(": ")[2]
         result = os.path.join(os.path.dirname(os.path.abspath(folder)), called)
         found = sums_text(folder, result, called)
-    except (OSError, UnicodeDecodeError, IndexError) as error:
+    except (OSError, ValueError) as error:
         raise Stop(f"{folder}: isn't whole: {error}", 1) from None
     if found != sums:
         names = sorted({line.partition("  ")[2] for line in set(found.splitlines()) ^ set(sums.splitlines())})

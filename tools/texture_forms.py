@@ -1,13 +1,16 @@
 """Pictures and videos of common forms as those that weave reads, and back."""
+import contextlib
 import os
 import re
 import shutil
+from shlex import quote
 
 from run_files import KINDS, MOST_AXIS, MOST_CELLS, read_picture, read_pixels
 from texture_png import deep, joined, png, read_png
 from texture_programs import Stop, have, imagemagick, needs, run
 
 VIDEOS = (".mp4", ".webm", ".gif", ".mkv", ".mov", ".avi", ".y4m")
+PICTURES = (".png", ".jpg", ".jpeg", ".webp", ".tif", ".tiff", ".bmp", ".ppm", ".jp2", ".jxl", ".avif", ".heic")
 LOSSLESS = (".png", ".ppm", ".tif", ".tiff", ".bmp", ".y4m")
 # The colour kind in which a video of each of ffmpeg's formats of 8 bits is taken.
 EIGHT_BITS = {"yuv420p": "yuv420p", "yuvj420p": "yuv420p", "yuv422p": "yuv422p", "yuvj422p": "yuv422p", "yuv411p": "yuv411p",
@@ -16,6 +19,8 @@ EIGHT_BITS = {"yuv420p": "yuv420p", "yuvj420p": "yuv420p", "yuv422p": "yuv422p",
               "gbrp": "yuv444p", "bgr0": "yuv444p", "rgb0": "yuv444p", "yuva420p": "yuv420p", "gbrap": "yuv444p"}
 WITH_ALPHA = ("bgra", "rgba", "argb", "abgr", "yuva420p", "gbrap", "pal8")
 PNG_BEGINS, MOST_HERE = b"\x89PNG\r\n\x1a\n", 1 << 15
+# The comments that name the colours of pictures whose numbers are taken as they are.
+PLAIN_COLOURS = (b"#sRGB", b"#RGB", b"#Gray", b"#LinearGray")
 KIND_OF = {"yuv420p": "420", "yuv422p": "422", "yuv411p": "411", "yuv444p": "444", "gray": "mono"}
 # Colours of strokes, for whoever paints marks in colours that are seen: those of pictures 1 to 6.
 STROKES = {(255, 0, 0): 1, (0, 255, 0): 2, (0, 0, 255): 3, (255, 255, 0): 4, (255, 0, 255): 5, (0, 255, 255): 6}
@@ -36,22 +41,26 @@ def p6(width, height, maxval, cells):
 # Pictures in.
 
 
-def as_pam(name):
+def as_pam(name, data):
     """A picture in any form as a PAM, which keeps transparency and 16 bits, so that they are seen; or as a PNG."""
     program = imagemagick()
-    if program:
-        return run([program, name + "[0]", "-auto-orient", "pam:-"], what=name)
+    if program:  # It reads its standard input, since it takes some characters of a name for more than the name.
+        words = [program, "tga:-[0]" if ending_of(name) == ".tga" else "-[0]", "-auto-orient"]
+        words += ["-set", "comment", "%[colorspace]"]
+        pam = run(words + ["pam:-"], data, name)
+        return pam if pam.split(b"\n", 2)[1] in PLAIN_COLOURS else run(words + ["-colorspace", "sRGB", "pam:-"], data, name)
     if have("ffmpeg"):
-        return run(["ffmpeg", "-v", "error", "-i", name, "-frames:v", "1", "-f", "image2pipe", "-c:v", "pam", "-"], what=name)
+        return run(["ffmpeg", "-v", "error", "-i", "file:" + name, "-frames:v", "1", "-f", "image2pipe", "-c:v", "pam", "-"],
+                   what=name)
     if ending_of(name) in (".jpg", ".jpeg") and have("jpegtopnm", "pnmtopng"):
-        return run(["pnmtopng"], run(["jpegtopnm", name], what=name), name)
+        return run(["pnmtopng", "-quiet"], run(["jpegtopnm", "-quiet"], data, name), name)
     raise needs(name, "imagemagick", "ffmpeg", "netpbm (JPEG alone)")
 
 
 def read_pam(data, name):
     """Width, height, the bytes R, G, B of each pixel, and how solid each is, or None where all are."""
     head, _, cells = data.partition(b"ENDHDR\n")
-    facts = dict(line.split(None, 1) for line in head.split(b"\n")[1:] if line.strip())
+    facts = dict(line.split(None, 1) for line in head.split(b"\n")[1:] if line.strip() and line[:1] != b"#")
     width, height, depth, maxval = (int(facts[key]) for key in (b"WIDTH", b"HEIGHT", b"DEPTH", b"MAXVAL"))
     if maxval > 255:
         raise deep(name)
@@ -73,8 +82,11 @@ def read_any(name):
     if data[:2] == b"P6":
         pixels = read_picture(data, os.path.basename(name))
         return pixels.size[0], pixels.size[1], pixels.form[1], pixels.cells, None
-    if data[:8] != PNG_BEGINS or (is_large(data) and (imagemagick() or have("ffmpeg"))):
-        data = as_pam(name)
+    if data[:8] != PNG_BEGINS:
+        data = as_pam(name, data)
+    elif is_large(data) and (imagemagick() or have("ffmpeg")):
+        with contextlib.suppress(Stop):  # It is read here then, which says what is wrong.
+            data = as_pam(name, data)
     width, height, rgb, solid = (read_pam if data[:2] == b"P7" else read_png)(data, name)
     return width, height, 255, rgb, solid
 
@@ -84,7 +96,7 @@ def picture_of(name, options):
     width, height, maxval, rgb, solid = read_any(name)
     if solid:
         raise Stop(f"{name}: has transparent pixels. Lay it over a colour: "
-                   f"convert {name} -background white -alpha remove solid.png", 3)
+                   f"convert {quote(name)} -background white -alpha remove solid.png", 3)
     width, height, rgb = cropped(name, width, height, rgb, options.crop)
     data = p6(width, height, maxval, rgb)
     return scaled(data, name, *options.scale) if options.scale else data
@@ -143,7 +155,7 @@ def number_of(colour, pictures):
 def facts_of(name):
     """Width, height and pixel format of a video."""
     said = run(["ffprobe", "-v", "error", "-select_streams", "v:0", "-show_entries", "stream=width,height,pix_fmt", "-of",
-                "default=nw=1", name], what=name).decode()
+                "default=nw=1", "file:" + name], what=name).decode()
     facts = dict(line.split("=", 1) for line in said.split() if "=" in line)
     if not {"width", "height", "pix_fmt"} <= set(facts):
         raise Stop(f"{name}: there is no video in it", 3)
@@ -165,10 +177,10 @@ def keeping_frames():
 
 def refuse_transparent(name, options):
     filters = chosen_frames(options) + ["format=rgba", "alphaextract"]
-    clear = run(["ffmpeg", "-v", "error", "-i", name, "-vf", ",".join(filters), "-frames:v", str(MOST_AXIS), "-f", "rawvideo",
-                 "-pix_fmt", "gray", "-"], what=name)
+    clear = run(["ffmpeg", "-v", "error", "-i", "file:" + name, "-vf", ",".join(filters), "-frames:v", str(MOST_AXIS),
+                 "-f", "rawvideo", "-pix_fmt", "gray", "-"], what=name)
     if clear and min(clear) < 255:
-        raise Stop(f"{name}: has transparent pixels. Make them solid: ffmpeg -i {name} -vf format=rgb24 solid.mp4", 3)
+        raise Stop(f"{name}: has transparent pixels. Make them solid: ffmpeg -i {quote(name)} -vf format=rgb24 solid.mp4", 3)
 
 
 def clip_of(name, options):
@@ -180,7 +192,7 @@ def clip_of(name, options):
         raise needs(name, "ffmpeg")
     width, height, form = facts_of(name)
     if form not in EIGHT_BITS:
-        raise Stop(f"{name}: is of {form}, not of 8 bits. Make it so: ffmpeg -i {name} -pix_fmt yuv420p eight.mp4", 3)
+        raise Stop(f"{name}: is of {form}, not of 8 bits. Make it so: ffmpeg -i {quote(name)} -pix_fmt yuv420p eight.mp4", 3)
     if form in WITH_ALPHA:
         refuse_transparent(name, options)
     size = options.scale or (options.crop[:2] if options.crop else (width, height))
@@ -193,8 +205,8 @@ def clip_of(name, options):
     filters += ["crop={0}:{1}:{2}:{3}:exact=1".format(*options.crop)] if options.crop else []
     filters += (["scale={0}:{1}".format(*options.scale)] if options.scale else []) + [f"format={kind}"]
     most = min(MOST_AXIS, across * down * MOST_CELLS // (size[0] * size[1])) + 1
-    return run(["ffmpeg", "-v", "error", "-i", name, "-vf", ",".join(filters), "-frames:v", str(most), *keeping_frames(), "-an",
-                "-strict", "-1", "-f", "yuv4mpegpipe", "-"], what=name)
+    return run(["ffmpeg", "-v", "error", "-i", "file:" + name, "-vf", ",".join(filters), "-frames:v", str(most),
+                *keeping_frames(), "-an", "-strict", "-1", "-f", "yuv4mpegpipe", "-"], what=name)
 
 
 # Results.
@@ -219,32 +231,48 @@ def write_result(out_name, result):
     elif is_clip(result):
         write_video(out_name, result, ending)
     else:
-        write_picture(out_name, result, ending)
+        write_picture(out_name, result)
+
+
+def refuse_result(result):
+    """Refuses a result that no program here can write, before any is made."""
+    ending = ending_of(result)
+    if ending not in VIDEOS + PICTURES:
+        raise Stop(f"{result}: an ending is wanted, as .png or .mp4")
+    if ending in (".png", ".ppm", ".y4m") or have("ffmpeg") or not is_clip(result) and imagemagick():
+        return
+    if is_clip(result):
+        raise needs(result, "ffmpeg")
+    if ending not in (".jpg", ".jpeg") or not have("pnmtojpeg"):
+        raise needs(result, "imagemagick", "ffmpeg", "netpbm (JPEG alone)")
+
+
+def convert_result(words, result, data=None):
+    """Has a converter write the result, named from its own folder, of whose name it takes some characters for more."""
+    run(words + [os.path.basename(result)], data, "the result", os.path.dirname(result))
 
 
 def write_video(out_name, result, ending):
-    if not have("ffmpeg"):
-        raise needs(result, "ffmpeg")
     with open(out_name, "rb") as file:
         tags = file.readline().split()
     odd = any(int(tag[1:]) % 2 for tag in tags if tag[:1] in b"WH")
     how = {".gif": ["-filter_complex", "split[a][b];[a]palettegen[p];[b][p]paletteuse"],
            ".webm": ["-crf", "20", "-b:v", "0", "-pix_fmt", "yuv420p"]}
     plain = ["-crf", "16", "-pix_fmt", "yuv444p" if odd else "yuv420p"]
-    run(["ffmpeg", "-v", "error", "-y", "-i", out_name, *how.get(ending, plain), result], what=result)
+    convert_result(["ffmpeg", "-v", "error", "-y", "-i", "file:" + out_name, *how.get(ending, plain)], result)
 
 
-def write_picture(out_name, result, ending):
+def write_picture(out_name, result):
+    with open(out_name, "rb") as file:
+        data = file.read()
     program = imagemagick()
     if program:
-        run([program, "ppm:" + out_name, "-quality", "95", result], what=result)
+        convert_result([program, "ppm:-", "-quality", "95"], result, data)
     elif have("ffmpeg"):
-        run(["ffmpeg", "-v", "error", "-y", "-f", "image2pipe", "-c:v", "ppm", "-i", out_name, "-q:v", "2", result], what=result)
-    elif ending in (".jpg", ".jpeg") and have("pnmtojpeg"):
-        with open(result, "wb") as file:
-            file.write(run(["pnmtojpeg", "-quality=95", out_name], what=result))
+        convert_result(["ffmpeg", "-v", "error", "-y", "-f", "image2pipe", "-c:v", "ppm", "-i", "-", "-q:v", "2"], result, data)
     else:
-        raise needs(result, "imagemagick", "ffmpeg", "netpbm (JPEG alone)")
+        with open(result, "wb") as file:
+            file.write(run(["pnmtojpeg", "-quiet", "-quality=95"], data, "the result"))
 
 
 def is_result(out_name, result):

@@ -1,6 +1,7 @@
 """Reads and writes PNG pictures, with the standard library alone."""
 import struct
 import zlib
+from shlex import quote
 from itertools import accumulate
 
 from texture_programs import Stop
@@ -140,7 +141,7 @@ def joined(planes):
 
 
 def deep(name):
-    return Stop(f"{name}: has 16 bits a channel. Make it 8: convert {name} -depth 8 eight.png", 3)
+    return Stop(f"{name}: has 16 bits a channel. Make it 8: convert {quote(name)} -depth 8 eight.png", 3)
 
 
 def read_png(data, name):

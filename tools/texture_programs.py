@@ -3,6 +3,7 @@ import os
 import re
 import shutil
 import subprocess
+import sys
 
 BESIDE = os.path.join(os.path.dirname(os.path.realpath(__file__)), "..", "weave")
 
@@ -15,12 +16,15 @@ class Stop(Exception):
         self.status = status
 
 
-def run(words, data=None, what="it"):
-    """The standard output of a converter, which has to end well."""
-    done = subprocess.run(words, input=data, stdout=subprocess.PIPE, stderr=subprocess.PIPE)
+def run(words, data=None, what="it", folder=None):
+    """The standard output of a converter, which has to end well. What it complains about all the same is passed on."""
+    done = subprocess.run(words, input=data, cwd=folder, stdout=subprocess.PIPE, stderr=subprocess.PIPE)
+    program = os.path.basename(words[0])
+    said = re.sub(f"^{re.escape(program)}: | `.*", "", done.stderr.decode(errors="replace").strip().partition("\n")[0])
     if done.returncode:
-        said = done.stderr.decode(errors="replace").strip().splitlines()
-        raise Stop(f"{what}: {os.path.basename(words[0])} can't convert it: {said[-1] if said else done.returncode}", 3)
+        raise Stop(f"{what}: {program} can't convert it: {said or done.returncode}", 3)
+    if said:
+        print(f"texture: {what}: {program} says: {said}", file=sys.stderr)
     return done.stdout
 
 

@@ -33,6 +33,11 @@ def shortest_axis(samples):
     return min(axis for sample in samples for axis in sample.size[:3 if sample.size[2] > 1 else 2])
 
 
+def box_for(shortest):
+    """The box that suits samples whose shortest axis is this: half of it; of large samples a quarter, but no less than 96."""
+    return max(min(shortest // 2, 96), shortest // 4, 1)
+
+
 def size_keys(command, text, sample):
     """The size that is asked for, in cells. It is given in pixels, and in frames."""
     if command in ("merge", "transfer"):
@@ -60,13 +65,13 @@ def chosen_keys(command, samples, sizes, given, target=None):
         block = number_in(given, "block", max(min(shortest_axis([target]) // 20, shortest), 4))
         advised = {"block": block, "overlap": block // 3}
     elif command == "quilt":
-        block = number_in(given, "block", max(4 * shortest // 9, 1))
+        block = number_in(given, "block", max(8 * box_for(shortest) // 9, 1))
         advised = {"block": block, "overlap": 2 * block // 7, "tol": 5}
     elif command == "tile":
         box, overlap = closing_keys(shortest, wrapped_sizes(sizes, given), given)
         advised = {"box": box, "overlap": overlap}
     else:
-        box = number_in(given, "box", max(shortest // 2, 1))
+        box = number_in(given, "box", box_for(shortest))
         advised = {"box": box, "overlap": 2 * box // 5, "rounds": 10}
     return {key: str(value) for key, value in advised.items() if key not in given}
 
@@ -91,7 +96,7 @@ def misses(sizes, box, overlap):
 
 def closing_keys(shortest, sizes, given):
     """A box and an overlap with which a tile of these sizes closes: near those of `grow`."""
-    most = number_in(given, "box", max(shortest // 2, 1))
+    most = number_in(given, "box", box_for(shortest))
     boxes = [most] if "box" in given else range(max(3 * most // 4, 1), most + 1)
     pairs = [(box, overlap) for box in boxes for overlap in overlaps_of(box, given)]
     return min(pairs, key=lambda pair: (max(misses(sizes, *pair) - .2, 0), most - pair[0], abs(pair[1] - 2 * pair[0] // 5)))
@@ -112,3 +117,13 @@ def how_it_closes(sizes, keys):
     shares = [str(shared_cells(size, box, overlap)) for size in sizes]
     line = f"the last patches share {' and '.join(shares)} cells with the first ones, and others {overlap} with each other"
     return line + (": an edge may show; try another size" if misses(sizes, box, overlap) > .5 else "")
+
+
+def how_it_matches(report):
+    """A line on how far a byte of a painted picture is from the target's, where that is far; None where it isn't."""
+    width, height, match = map(int, re.search(r"transfer (\d+)x(\d+)x1\n(?:.*\n)*match (\d+)", report).groups())
+    differs = round((match / (3 * width * height)) ** .5)
+    if differs <= 32:
+        return None
+    return (f"a byte differs from the target's by {differs}: bring the target's colours and lights to those of the sample, "
+            "as docs/RECIPES.md does")

@@ -21,7 +21,7 @@ ALLOWED = [  # what has the same value and bounds something else: the file, the 
     ("netpbm_p6/src/header.rt", r"PIECE: usize = 4096", "how many bytes are read at once"),
     ("map_canvas/src/entry.rt", r"SPAN: u64 = 1_048_576", "the 20 bits of a coordinate of an entry"),
     ("map_canvas/specs/Entries.antt", r"span = 1048576", "the same"),
-    ("weave/src/files.rt", r"PATH_BYTES: usize = 4096", "the room for a path"),
+    ("system_files/src/files.rt", r"PATH_BYTES: usize = 4096", "the room for a path"),
 ]
 
 

@@ -1,26 +1,16 @@
 // The program: its words are those of the command line, its files those of the system.
 //
-// All that it does is `run` of weave_engine. `real` has the shelf that stands for the system's
-// files, over `files`, and `streams` the sinks; they tell no content, and are the trusted edge.
-// `nodes` knows the files by more than their names, and `pieces` reads and writes.
+// All that it does is `run` of weave_engine. system_files has the shelf that stands for the system's
+// files, and the sinks.
 #![tactic(auto)]
 
-mod files;
-mod nodes;
-mod pieces;
-mod real;
-mod streams;
-#[cfg(test)]
-mod tests;
-
 use job_words::Words;
-use real::RealShelf;
 use std::alloc::{AllocError, Global};
 use std::fs::{self, File};
 use std::process::ExitCode;
 use std::{env, io};
-use streams::{ErrorOutput, Output};
 use synth_report::{Fault, say_fault};
+use system_files::{ErrorOutput, Output, RealShelf};
 use weave_engine::run;
 
 // The status for out of memory.

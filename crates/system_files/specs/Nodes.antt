@@ -3,7 +3,7 @@ use Rattle.std.specs.Prelude.{◌≡◌, ◌&&◌, ◌++◌, ◌∷◌, [], ◌�
 use Rattle.std.specs.List.{list_any}
 use Rattle.std.specs.Fs.{file_type, IsFile}
 use Rattle.std.specs.declared.fs.attrs.Metadata.{Metadata}
-use Rattle.weave.specs.declared.nodes.Node.{Node}
+use Rattle.system_files.specs.declared.nodes.Node.{Node}
 
 -- one file: the same device, and the same number there
 abbrev pub same_file : Node → Node → Bool

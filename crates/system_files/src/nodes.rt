@@ -1,7 +1,7 @@
 // Which files a run has read or begun, by what tells one file from another whatever its name is.
 ghost use Rattle.std.specs.Prelude.{◌≡◌, ◌↔◌, IfOk, OnErr, IsSome};
 ghost use Rattle.std.specs.Fs.{file_type, IsFile};
-ghost use Rattle.weave.specs.Nodes.{is_known, Adds};
+ghost use Rattle.system_files.specs.Nodes.{is_known, Adds};
 
 use std::alloc::{AllocError, Global};
 use std::fs::{self, File, Metadata};
@@ -45,7 +45,7 @@ pub struct Known {
 
 impl Model for Known {
     ghost use Rattle.std.specs.Prelude.{List};
-    ghost use Rattle.weave.specs.declared.nodes.Node.{Node};
+    ghost use Rattle.system_files.specs.declared.nodes.Node.{Node};
 
     ghost Value = { List Node };
 

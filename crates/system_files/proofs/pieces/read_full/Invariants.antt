@@ -1,5 +1,5 @@
 use Rattle.std.proofs.Common.{◌≤◌, ◌-◌, length}
-use Rattle.weave.proofs.pieces.read_full.Given as goal
+use Rattle.system_files.proofs.pieces.read_full.Given as goal
 
 abbrev pub invariant-parts : goal.invariant-parts
 invariant-parts g l = l.n ≤ length l.into

@@ -1,6 +1,6 @@
 // One file that is read and one that is written, each kept open from call to call.
 ghost use Rattle.std.specs.Prelude.{◌≤◌, true, length, IfOk, OnOk, min};
-ghost use Rattle.weave.specs.Nodes.{Adds, IsBegun};
+ghost use Rattle.system_files.specs.Nodes.{Adds, IsBegun};
 
 use crate::nodes::Known;
 use crate::pieces::{read_full, write_all_of};

@@ -1,0 +1,10 @@
+// What a test asserts of an answer.
+use std::process::Abort;
+use std::test::Fail;
+
+/// Asserts that all is as expected.
+pub fn expect_true(rt: &impl Abort, found: Result<bool, Fail>) -> Result<(), Fail> {
+    let is_true = found?;
+    assert!(rt; is_true);
+    Ok(())
+}

@@ -1,0 +1,113 @@
+// Whole runs over files of the system.
+use crate::expect::expect_true;
+use crate::folder::{holds, is_there, new_folder, put};
+use job_words::Words;
+use std::alloc::{AllocError, Global};
+use std::fs;
+use std::test::Fail;
+use system_files::{ErrorOutput, Output, RealShelf};
+use weave_engine::run;
+
+/// Two cells of grey 10 and 20 side by side.
+pub const SAMPLE: &[u8] = b"P6\n2 1\n255\n\x0a\x0a\x0a\x14\x14\x14";
+
+/// The first and the second of them on 3 x 1 cells.
+pub const PICTURE: &[u8] = b"P6\n3 1\n255\n\x0a\x0a\x0a\x14\x14\x14\x0a\x0a\x0a";
+
+/// The map of that picture.
+pub const MAP: &[u8] = b"WEAVEMAP\x01\x00\
+\x00\x00\x00\x03\x00\x00\x00\x01\x00\x00\x00\x01\
+\x00\x00\x00\x02\x00\x00\x00\x01\x00\x00\x00\x01\
+\x00\x00\x00\x00\x00\x00\x00\x01\x00\x00\x00\x00\x00\x00\x00\x00\x00\x00";
+
+/// The record of that picture.
+pub const RECORD: &[u8] = b"WEAVEREC\x01\x00\
+\x00\x00\x00\x03\x00\x00\x00\x01\x00\x00\x00\x01\
+\x00\x00\x00\x02\x00\x00\x00\x01\x00\x00\x00\x01\
+\x00\x00\x00\x02\
+\x00\x00\x00\x00\x00\x00\x00\x02\x00\x01\x00\x01\x00\x00\x00\x00\x00\x00\xc0\x00\x00\x00\x00\
+\x00\x02\x00\x00\x00\x00\x00\x01\x00\x01\x00\x01\x00\x00\x00\x00\x00\x00\x80";
+
+/// Names of a run's files: its sample, and its picture, map and record.
+pub type Names<'a> = (&'a str, &'a str, &'a str, &'a str);
+
+fn add_words(words: &mut Words, line: &str) -> Result<(), AllocError> {
+    for word in line.split('\n') {
+        words.push(word)?;
+    }
+    Ok(())
+}
+
+// Adds a word that names a file in a folder.
+fn add_file(
+    words: &mut Words,
+    alloc: Global,
+    key: &str,
+    folder: &str,
+    name: &str,
+) -> Result<(), Fail> {
+    let word = format!(in alloc; "{key}={folder}/{name}")?;
+    words.push(word.as_str())?;
+    Ok(())
+}
+
+// The words of a run in a folder.
+fn words_of(alloc: Global, folder: &str, names: Names<'_>) -> Result<Words, Fail> {
+    let (sample, out, map, record) = names;
+    let mut words = Words::new(alloc);
+    add_words(&mut words, "grow\nwidth=3\nheight=1\nplace=grid\noverlap=0")?;
+    add_file(&mut words, alloc, "sample", folder, sample)?;
+    add_file(&mut words, alloc, "out", folder, out)?;
+    add_file(&mut words, alloc, "map", folder, map)?;
+    add_file(&mut words, alloc, "record", folder, record)?;
+    Ok(words)
+}
+
+// The status of a run over files of the system.
+fn status_of(rt: &HostRuntime, words: &Words) -> Result<u8, Fail> {
+    let alloc = rt.alloc();
+    let mut shelf = RealShelf::new(rt.clone()?, alloc)?;
+    let mut out = Output::new(rt.clone()?);
+    let mut err = ErrorOutput::new(rt.clone()?);
+    Ok(run(alloc, words, &mut shelf, &mut out, &mut err))
+}
+
+/// The status of a run in a folder.
+pub fn ran(rt: &HostRuntime, folder: &str, names: Names<'_>) -> Result<u8, Fail> {
+    let words = words_of(rt.alloc(), folder, names)?;
+    status_of(rt, &words)
+}
+
+// Whether runs end with their faults: a sample that isn't there, and a picture in a folder that isn't there.
+fn ends_with_faults(rt: &HostRuntime, folder: &str) -> Result<bool, Fail> {
+    let unread = ran(rt, folder, ("none", "o", "m", "r"))?;
+    let unwritten = ran(rt, folder, ("s", "none/o", "m", "r"))?;
+    Ok(unread == 5 && unwritten == 6 && !is_there(rt, folder, "m")?)
+}
+
+// Whether the files of a run hold what it is to write, and its sample what it held.
+fn is_written(rt: &HostRuntime, folder: &str) -> Result<bool, Fail> {
+    let picture = holds(rt, folder, "o", PICTURE)?;
+    let map = holds(rt, folder, "m", MAP)?;
+    let record = holds(rt, folder, "r", RECORD)?;
+    Ok(picture && map && record && holds(rt, folder, "s", SAMPLE)?)
+}
+
+fn runs_over_files(rt: &HostRuntime) -> Result<bool, Fail> {
+    let folder = new_folder(rt, "files")?;
+    let folder = folder.as_str();
+    put(rt, folder, "s", SAMPLE)?;
+    let faults = ends_with_faults(rt, folder)?;
+
+    // A file that had more bytes than the picture has them no longer.
+    put(rt, folder, "o", MAP)?;
+    let status = ran(rt, folder, ("s", "o", "m", "r"))?;
+    let written = is_written(rt, folder)?;
+    fs::remove_dir_all(rt, folder)?;
+    Ok(faults && status == 0 && written)
+}
+
+#[test]
+fn runs_over_files_of_the_system(rt: HostRuntime) -> Result<(), Fail> {
+    expect_true(&rt, runs_over_files(&rt))
+}

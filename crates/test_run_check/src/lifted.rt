@@ -1,8 +1,8 @@
 // What the files hold after each status.
 use crate::expect::expect_none;
 use crate::lifted_files::{MAP, OTHER_LIFTED, OTHER_RECORD, RECORD};
-use crate::upgrading::{Failing, Upgrade, wrong_upgrade};
-use test_stage::{BEFORE, OVERLAP_MAP, OVERLAP_RECORD};
+use crate::upgrading::{Upgrade, wrong_upgrade};
+use test_stage::{BEFORE, Failing, OVERLAP_MAP, OVERLAP_RECORD};
 
 pub const LIFTED: Upgrade<'static> = Upgrade {
     words: "upgrade map=m record=r newmap=n newrecord=q",

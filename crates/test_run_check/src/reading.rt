@@ -1,10 +1,10 @@
 // What was grown is accepted; files and reports that fail.
 use crate::expect::{expect_none, expect_true};
-use shelf_core::{Call, MemShelf, MemSink, SureShelf, SureSink};
+use shelf_core::{SureShelf, SureSink};
 use std::alloc::{AllocError, Global};
 use test_stage::{
-    FOUR_CELLS, Made, NO_CELL, OVERLAP_MAP, OVERLAP_PICTURE, OVERLAP_RECORD, OVERLAPPING, ran,
-    wrong_made,
+    FOUR_CELLS, Failing, File, Made, NO_CELL, OVERLAP_MAP, OVERLAP_PICTURE, OVERLAP_RECORD,
+    OVERLAPPING, Run, ran, wrong_made, wrong_run,
 };
 
 const CHECK: &str = "check sample=s out=o map=m record=r";
@@ -50,47 +50,52 @@ fn what_was_grown_is_accepted(rt: HostRuntime) {
     expect_true(&rt, is_surely_accepted(rt.alloc()));
 }
 
-fn files_that_stand(alloc: Global) -> Result<MemShelf, AllocError> {
-    let mut shelf = MemShelf::new(alloc);
-    shelf.put_file("s", FOUR_CELLS)?;
-    shelf.put_file("o", OVERLAP_PICTURE)?;
-    shelf.put_file("m", OVERLAP_MAP)?;
-    shelf.put_file("r", OVERLAP_RECORD)?;
-    Ok(shelf)
-}
+const FILES: &[File<'static>] = &[
+    ("s", FOUR_CELLS),
+    ("o", OVERLAP_PICTURE),
+    ("m", OVERLAP_MAP),
+    ("r", OVERLAP_RECORD),
+];
 
-// Whether a check that can't read a file ends with this line.
-fn cant_be_read(alloc: Global, name: &str, line: &str) -> Result<bool, AllocError> {
-    let mut shelf = files_that_stand(alloc)?;
-    shelf.fail_at(Call::Get, name, 1, 0)?;
-    let mut out = MemSink::new(alloc);
-    let mut err = MemSink::new(alloc);
-    let status = ran(alloc, CHECK, &mut shelf, &mut out, &mut err)?;
-    Ok(status == 5 && out.bytes().is_empty() && err.bytes() == line.as_bytes())
-}
+const UNREAD: Run<'static> = Run {
+    words: CHECK,
+    before: FILES,
+    failing: Failing::Get("s"),
+    status: 5,
+    report: "",
+    line: "weave: sample: read fault\n",
+    after: FILES,
+};
 
-// Each file that can't be read, once those before it are in their forms.
+// Each file that can't be read, once those before it are in their forms; and a report of which two bytes
+// are written.
+const FAILING: &[Run<'static>] = &[
+    UNREAD,
+    Run {
+        failing: Failing::Get("o"),
+        line: "weave: out: read fault\n",
+        ..UNREAD
+    },
+    Run {
+        failing: Failing::Get("m"),
+        line: "weave: map: read fault\n",
+        ..UNREAD
+    },
+    Run {
+        failing: Failing::Get("r"),
+        line: "weave: record: read fault\n",
+        ..UNREAD
+    },
+    Run {
+        failing: Failing::Report(2),
+        status: 6,
+        report: "st",
+        line: "weave: report: write fault\n",
+        ..UNREAD
+    },
+];
+
 #[test]
-fn files_that_cant_be_read(rt: HostRuntime) {
-    let alloc = rt.alloc();
-    expect_true(&rt, cant_be_read(alloc, "s", "weave: sample: read fault\n"));
-    expect_true(&rt, cant_be_read(alloc, "o", "weave: out: read fault\n"));
-    expect_true(&rt, cant_be_read(alloc, "m", "weave: map: read fault\n"));
-    expect_true(&rt, cant_be_read(alloc, "r", "weave: record: read fault\n"));
-}
-
-// Whether a check whose report fails keeps so much of it and ends with the one write fault.
-fn cant_be_reported(alloc: Global, kept: usize) -> Result<bool, AllocError> {
-    let mut shelf = files_that_stand(alloc)?;
-    let mut out = MemSink::new(alloc);
-    out.fail_at(1, kept)?;
-    let mut err = MemSink::new(alloc);
-    let status = ran(alloc, CHECK, &mut shelf, &mut out, &mut err)?;
-    let said = b"stands\n".get(..kept) == Some(out.bytes());
-    Ok(status == 6 && said && err.bytes() == b"weave: report: write fault\n".as_slice())
-}
-
-#[test]
-fn a_report_that_cant_be_written(rt: HostRuntime) {
-    expect_true(&rt, cant_be_reported(rt.alloc(), 2));
+fn files_and_reports_that_fail(rt: HostRuntime) {
+    expect_none(&rt, wrong_run(rt.alloc(), FAILING));
 }

@@ -2,7 +2,7 @@
 // refused after the samples.
 use crate::expect::expect_none;
 use std::alloc::{AllocError, Global};
-use test_stage::{BEFORE, Case, Failing, holds};
+use test_stage::{BEFORE, Case, Failing, filled, holds};
 
 const ONE: &str = "grow sample=s out=o map=m record=r width=4096 height=4096 turns=all";
 
@@ -68,13 +68,6 @@ const BLACK: &[Black<'static>] = &[
     },
 ];
 
-fn picture(alloc: Global, head: &[u8], bytes: usize) -> Result<Vec<u8>, AllocError> {
-    let cells = vec![in alloc; 0u8; bytes]?;
-    let mut all = Vec::from_slice(alloc, head)?;
-    all.extend_from_slice(&cells)?;
-    Ok(all)
-}
-
 fn is_said<'a>(
     alloc: Global,
     words: &'a str,
@@ -98,8 +91,8 @@ fn is_said<'a>(
 }
 
 fn is_said_of(alloc: Global, of: &Black) -> Result<bool, AllocError> {
-    let sample = picture(alloc, of.first, of.bytes)?;
-    let second = picture(alloc, of.second, of.more_bytes)?;
+    let sample = filled(alloc, of.first, 0, of.bytes, b"")?;
+    let second = filled(alloc, of.second, 0, of.more_bytes, b"")?;
     is_said(alloc, of.words, &sample, &second, of.line)
 }
 

@@ -1,30 +1,30 @@
 // Files that are cut off at each byte, read by every command that reads such files.
 use crate::expect::expect_no_pair;
-use crate::hostile::{MAP_READERS, PICTURE_READERS, RECORD_READERS, Reader, is_refused};
+use crate::hostile::{MAP_READERS, PICTURE_READERS, RECORD_READERS, Reader, wrong_reader};
 use std::alloc::{AllocError, Global};
 use test_stage::{FOUR_CELLS, OVERLAP_MAP, OVERLAP_RECORD};
 
-// The least number of first bytes that a command doesn't refuse at their end.
-fn wrong_cut(alloc: Global, reader: &Reader, file: &[u8]) -> Result<Option<usize>, AllocError> {
-    for n in 0..file.len() {
-        let why = format!(in alloc; "form at {n}")?;
-        let first = file.get(..n).unwrap_or(b"");
-        if !is_refused(alloc, reader, first, 3, why.as_str())? {
-            return Ok(Some(n));
-        }
-    }
-    Ok(None)
+// The number of the first command, from 0, that doesn't refuse so many first bytes of a file at their end.
+fn wrong_cut(
+    alloc: Global,
+    readers: &[Reader],
+    file: &[u8],
+    n: usize,
+) -> Result<Option<usize>, AllocError> {
+    let why = format!(in alloc; "form at {n}")?;
+    let first = file.get(..n).unwrap_or(b"");
+    wrong_reader(alloc, readers, first, 3, why.as_str())
 }
 
-// The number of the first command, from 0, that doesn't refuse each cut, with the cut.
+// The first cut, and the number of the first command, from 0, that doesn't refuse it.
 fn wrong_cutting(
     alloc: Global,
     readers: &[Reader],
     file: &[u8],
 ) -> Result<Option<(usize, usize)>, AllocError> {
-    for (i, reader) in readers.iter().enumerate() {
-        if let Some(n) = wrong_cut(alloc, reader, file)? {
-            return Ok(Some((i, n)));
+    for n in 0..file.len() {
+        if let Some(i) = wrong_cut(alloc, readers, file, n)? {
+            return Ok(Some((n, i)));
         }
     }
     Ok(None)

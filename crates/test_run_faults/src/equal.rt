@@ -2,16 +2,17 @@
 // and `check` refuses the map.
 use crate::expect::expect_none;
 use crate::files::FOUR_FRAMES;
-use shelf_core::{MemShelf, MemSink};
 use std::alloc::{AllocError, Global};
-use test_stage::ran;
+use test_stage::Stage;
 
 // Two cells of grey 10.
 const TWO_ALIKE: &[u8] = b"P6\n2 1\n255\n\x0a\x0a\x0a\x0a\x0a\x0a";
 
 // The words of a run, its sample, a byte of the map that it leaves and another value of it, and
 // what `check` then finds.
-const TABLE: &[(&str, &[u8], usize, u8, &str)] = &[
+type Row<'a> = (&'a str, &'a [u8], usize, u8, &'a str);
+
+const TABLE: &[Row<'static>] = &[
     (
         "grow sample=s out=o map=m record=r width=2 height=1 place=grid overlap=0",
         TWO_ALIKE,
@@ -36,50 +37,45 @@ const TABLE: &[(&str, &[u8], usize, u8, &str)] = &[
 ];
 
 // What `check` finds, where it ends with this status.
-fn checked(
-    alloc: Global,
-    shelf: &mut MemShelf,
-    status: u8,
-    report: &str,
-) -> Result<bool, AllocError> {
-    let mut out = MemSink::new(alloc);
-    let mut err = MemSink::new(alloc);
-    let words = "check sample=s out=o map=m record=r";
-    let ended = ran(alloc, words, shelf, &mut out, &mut err)?;
-    Ok(ended == status && out.bytes() == report.as_bytes() && err.bytes().is_empty())
+fn checked(stage: &mut Stage, status: u8, report: &str) -> Result<bool, AllocError> {
+    stage.clear();
+    stage.ends("check sample=s out=o map=m record=r", status, report, "")
+}
+
+// A file with another byte.
+fn changed(alloc: Global, file: &[u8], at: usize, byte: u8) -> Result<Vec<u8>, AllocError> {
+    let mut all = Vec::from_slice(alloc, file)?;
+    if let Some(old) = all.get_mut(at) {
+        *old = byte;
+    }
+    Ok(all)
 }
 
 // Gives the byte of the map another value.
-fn change_map(alloc: Global, shelf: &mut MemShelf, at: usize, byte: u8) -> Result<(), AllocError> {
-    let mut map = Vec::from_slice(alloc, shelf.file("m").unwrap_or(b""))?;
-    if let Some(old) = map.get_mut(at) {
-        *old = byte;
-    }
-    shelf.put_file("m", &map)
+fn change_map(alloc: Global, stage: &mut Stage, at: usize, byte: u8) -> Result<(), AllocError> {
+    let map = changed(alloc, stage.file("m").unwrap_or(b""), at, byte)?;
+    stage.put_file("m", &map)
 }
 
-fn is_found(
-    alloc: Global,
-    words: &str,
-    sample: &[u8],
-    at: usize,
-    byte: u8,
-    report: &str,
-) -> Result<bool, AllocError> {
-    let mut shelf = MemShelf::new(alloc);
-    shelf.put_file("s", sample)?;
-    let mut out = MemSink::new(alloc);
-    let mut err = MemSink::new(alloc);
-    let status = ran(alloc, words, &mut shelf, &mut out, &mut err)?;
-    let stood = checked(alloc, &mut shelf, 0, "stands\n")?;
-    change_map(alloc, &mut shelf, at, byte)?;
-    Ok(status == 0 && stood && checked(alloc, &mut shelf, 1, report)?)
+// Runs the words over a stage without a file, and checks what they leave before and after the change.
+fn is_found_on(alloc: Global, stage: &mut Stage, row: &Row) -> Result<bool, AllocError> {
+    let (words, sample, at, byte, report) = *row;
+    stage.put_file("s", sample)?;
+    let status = stage.run(words)?;
+    let stood = checked(stage, 0, "stands\n")?;
+    change_map(alloc, stage, at, byte)?;
+    Ok(status == 0 && stood && checked(stage, 1, report)?)
+}
+
+fn is_found(alloc: Global, row: &Row) -> Result<bool, AllocError> {
+    let mut stage = Stage::new(alloc);
+    is_found_on(alloc, &mut stage, row)
 }
 
 // The number of the first row, from 0, of which `check` finds something else.
 fn wrong_row(alloc: Global) -> Result<Option<usize>, AllocError> {
-    for (i, (words, sample, at, byte, report)) in TABLE.iter().enumerate() {
-        if !is_found(alloc, *words, *sample, *at, *byte, *report)? {
+    for (i, row) in TABLE.iter().enumerate() {
+        if !is_found(alloc, row)? {
             return Ok(Some(i));
         }
     }

@@ -2,9 +2,8 @@
 // with the name of the file, and every file stays as it was.
 use crate::expect::expect_no_pair;
 use crate::files::{FOUR_FRAMES, ONE_GREY, TWO_CELLS};
-use shelf_core::{MemShelf, MemSink};
 use std::alloc::{AllocError, Global};
-use test_stage::{BEFORE, FOUR_CELLS, OVERLAP_MAP, OVERLAP_PICTURE, OVERLAP_RECORD, is_file, ran};
+use test_stage::{BEFORE, FOUR_CELLS, OVERLAP_MAP, OVERLAP_PICTURE, OVERLAP_RECORD, Stage};
 
 /// A command that reads a file: its words, its other files, the name of the file, and what lines
 /// call it.
@@ -156,22 +155,6 @@ pub const RECORD_READERS: &[Reader<'static>] = &[
     },
 ];
 
-fn put_files(shelf: &mut MemShelf, files: &[(&str, &[u8])]) -> Result<(), AllocError> {
-    for (name, bytes) in files.iter() {
-        shelf.put_file(*name, *bytes)?;
-    }
-    Ok(())
-}
-
-fn are_files(shelf: &MemShelf, files: &[(&str, &[u8])]) -> bool {
-    for (name, bytes) in files.iter() {
-        if !is_file(shelf.file(*name), *bytes) {
-            return false;
-        }
-    }
-    true
-}
-
 // The line of a refusal: only that of a form names the file.
 fn line_of(alloc: Global, reader: &Reader, status: u8, why: &str) -> Result<String, AllocError> {
     if status == 3 {
@@ -181,49 +164,59 @@ fn line_of(alloc: Global, reader: &Reader, status: u8, why: &str) -> Result<Stri
     format!(in alloc; "weave: {why}\n")
 }
 
-/// Whether a command that reads these bytes ends with this status and says why, and leaves every
-/// file as it was.
-pub fn is_refused(
+// Runs a command over a stage without a file, and says whether it ends with this status and this line, and leaves
+// every file as it was.
+fn is_refused_on(
+    stage: &mut Stage,
+    reader: &Reader,
+    bytes: &[u8],
+    status: u8,
+    line: &str,
+) -> Result<bool, AllocError> {
+    stage.put_files(reader.others)?;
+    stage.put_file(reader.name, bytes)?;
+    let is_ended = stage.ends(reader.words, status, "", line)?;
+    Ok(is_ended && stage.has_files(reader.others) && stage.has_file(reader.name, bytes))
+}
+
+// Whether a command that reads these bytes ends with this status and says why, and leaves every
+// file as it was.
+fn is_refused(
     alloc: Global,
     reader: &Reader,
     bytes: &[u8],
     status: u8,
     why: &str,
 ) -> Result<bool, AllocError> {
-    let mut shelf = MemShelf::new(alloc);
-    put_files(&mut shelf, reader.others)?;
-    shelf.put_file(reader.name, bytes)?;
-    let mut out = MemSink::new(alloc);
-    let mut err = MemSink::new(alloc);
-    let ended = ran(alloc, reader.words, &mut shelf, &mut out, &mut err)?;
     let line = line_of(alloc, reader, status, why)?;
-    let said = out.bytes().is_empty() && err.bytes() == line.as_str().as_bytes();
-    let kept = are_files(&shelf, reader.others) && is_file(shelf.file(reader.name), bytes);
-    Ok(ended == status && said && kept)
+    let mut stage = Stage::new(alloc);
+    is_refused_on(&mut stage, reader, bytes, status, line.as_str())
 }
 
-// The number of the first file, from 0, that a command doesn't refuse so.
-fn wrong_file(
+/// The number of the first command, from 0, that doesn't refuse these bytes so.
+pub fn wrong_reader(
     alloc: Global,
-    reader: &Reader,
-    table: &[(&[u8], u8, &str)],
+    readers: &[Reader],
+    bytes: &[u8],
+    status: u8,
+    why: &str,
 ) -> Result<Option<usize>, AllocError> {
-    for (i, (bytes, status, why)) in table.iter().enumerate() {
-        if !is_refused(alloc, reader, *bytes, *status, *why)? {
+    for (i, reader) in readers.iter().enumerate() {
+        if !is_refused(alloc, reader, bytes, status, why)? {
             return Ok(Some(i));
         }
     }
     Ok(None)
 }
 
-// The numbers of the first command and the first file, from 0, that aren't as they are to be.
+// The numbers of the first file and the first command, from 0, that aren't as they are to be.
 fn wrong_reading(
     alloc: Global,
     readers: &[Reader],
     table: &[(&[u8], u8, &str)],
 ) -> Result<Option<(usize, usize)>, AllocError> {
-    for (i, reader) in readers.iter().enumerate() {
-        if let Some(j) = wrong_file(alloc, reader, table)? {
+    for (i, (bytes, status, why)) in table.iter().enumerate() {
+        if let Some(j) = wrong_reader(alloc, readers, *bytes, *status, *why)? {
             return Ok(Some((i, j)));
         }
     }
@@ -302,31 +295,27 @@ fn changed(alloc: Global, file: &[u8], bytes: &[(usize, u8)]) -> Result<Vec<u8>,
     Ok(all)
 }
 
-// The number of the first change, from 0, that a command doesn't refuse so.
-fn wrong_change(
+// The number of the first command, from 0, that doesn't refuse a change so.
+fn wrong_changed(
     alloc: Global,
-    reader: &Reader,
+    readers: &[Reader],
     file: &[u8],
-    table: &[Changed],
+    change: &Changed,
 ) -> Result<Option<usize>, AllocError> {
-    for (i, (bytes, status, why)) in table.iter().enumerate() {
-        let other = changed(alloc, file, *bytes)?;
-        if !is_refused(alloc, reader, &other, *status, *why)? {
-            return Ok(Some(i));
-        }
-    }
-    Ok(None)
+    let (bytes, status, why) = *change;
+    let other = changed(alloc, file, bytes)?;
+    wrong_reader(alloc, readers, &other, status, why)
 }
 
-// The numbers of the first command and the first change, from 0, that aren't as they are to be.
+// The numbers of the first change and the first command, from 0, that aren't as they are to be.
 fn wrong_changing(
     alloc: Global,
     readers: &[Reader],
     file: &[u8],
     table: &[Changed],
 ) -> Result<Option<(usize, usize)>, AllocError> {
-    for (i, reader) in readers.iter().enumerate() {
-        if let Some(j) = wrong_change(alloc, reader, file, table)? {
+    for (i, change) in table.iter().enumerate() {
+        if let Some(j) = wrong_changed(alloc, readers, file, change)? {
             return Ok(Some((i, j)));
         }
     }

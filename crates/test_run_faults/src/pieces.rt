@@ -2,32 +2,24 @@
 use crate::expect::expect_true;
 use crate::files::FOUR_FRAMES;
 use crate::trying::{Trying, fails_well};
-use shelf_core::{MemShelf, MemSink};
 use std::alloc::{AllocError, Global};
-use test_stage::{FOUR_CELLS, ran};
+use test_stage::{FOUR_CELLS, Stage};
 
 const OUTPUTS: &[(&str, &str)] = &[("o", "out"), ("m", "map"), ("r", "record")];
 
-// What a run of these words over one sample leaves, where it ends with status 0.
-fn made(alloc: Global, words: &str, sample: &[u8]) -> Result<Option<MemShelf>, AllocError> {
-    let mut shelf = MemShelf::new(alloc);
-    shelf.put_file("s", sample)?;
-    let mut out = MemSink::new(alloc);
-    let mut err = MemSink::new(alloc);
-    let status = ran(alloc, words, &mut shelf, &mut out, &mut err)?;
-    Ok(if status == 0 { Some(shelf) } else { None })
+// Runs these words over one sample, and says whether the status is 0.
+fn is_made(stage: &mut Stage, words: &str, sample: &[u8]) -> Result<bool, AllocError> {
+    stage.put_file("s", sample)?;
+    Ok(stage.run(words)? == 0)
 }
 
-// Whether a check of what a run leaves is as it is to be, with each read failing.
-fn is_checked(alloc: Global, words: &str, sample: &[u8]) -> Result<bool, AllocError> {
-    let Some(shelf) = made(alloc, words, sample)? else {
-        return Ok(false);
-    };
+// Whether a check of what a run left is as it is to be, with each read failing.
+fn is_checked_on(alloc: Global, stage: &Stage) -> Result<bool, AllocError> {
     let reads = [
-        ("s", "sample", shelf.file("s").unwrap_or(b"")),
-        ("o", "out", shelf.file("o").unwrap_or(b"")),
-        ("m", "map", shelf.file("m").unwrap_or(b"")),
-        ("r", "record", shelf.file("r").unwrap_or(b"")),
+        ("s", "sample", file_of(stage, "s")),
+        ("o", "out", file_of(stage, "o")),
+        ("m", "map", file_of(stage, "m")),
+        ("r", "record", file_of(stage, "r")),
     ];
     let of = Trying {
         words: "check sample=s out=o map=m record=r",
@@ -37,6 +29,16 @@ fn is_checked(alloc: Global, words: &str, sample: &[u8]) -> Result<bool, AllocEr
         report: "stands\n",
     };
     fails_well(alloc, &of)
+}
+
+fn file_of<'a>(stage: &'a Stage, name: &str) -> &'a [u8] {
+    stage.file(name).unwrap_or(b"")
+}
+
+// The same of a run of these words over one sample.
+fn is_checked(alloc: Global, words: &str, sample: &[u8]) -> Result<bool, AllocError> {
+    let mut stage = Stage::new(alloc);
+    Ok(is_made(&mut stage, words, sample)? && is_checked_on(alloc, &stage)?)
 }
 
 const GROWING: &str = "grow sample=s out=o map=m record=r width=64 height=22 place=grid overlap=0";
@@ -57,14 +59,11 @@ fn a_larger_output(rt: HostRuntime) {
     expect_true(&rt, is_checked(rt.alloc(), GROWING, FOUR_CELLS));
 }
 
-// Whether an upgrade of what the larger output leaves is as it is to be.
-fn is_lifted(alloc: Global) -> Result<bool, AllocError> {
-    let Some(shelf) = made(alloc, GROWING, FOUR_CELLS)? else {
-        return Ok(false);
-    };
+// Whether an upgrade of what the larger output left is as it is to be.
+fn is_lifted_on(alloc: Global, stage: &Stage) -> Result<bool, AllocError> {
     let reads = [
-        ("m", "map", shelf.file("m").unwrap_or(b"")),
-        ("r", "record", shelf.file("r").unwrap_or(b"")),
+        ("m", "map", file_of(stage, "m")),
+        ("r", "record", file_of(stage, "r")),
     ];
     let of = Trying {
         words: "upgrade map=m record=r newmap=n newrecord=q",
@@ -74,6 +73,11 @@ fn is_lifted(alloc: Global) -> Result<bool, AllocError> {
         report: "upgrade 1408 352\n",
     };
     fails_well(alloc, &of)
+}
+
+fn is_lifted(alloc: Global) -> Result<bool, AllocError> {
+    let mut stage = Stage::new(alloc);
+    Ok(is_made(&mut stage, GROWING, FOUR_CELLS)? && is_lifted_on(alloc, &stage)?)
 }
 
 #[test]

@@ -1,62 +1,61 @@
 // Lines that can't be written: with each write on `err` failing in turn every status stays.
-use crate::expect::expect_none;
+use crate::expect::expect_no_pair;
 use crate::files::FOUR_FRAMES;
-use crate::trying::{Failing, list_failing};
-use shelf_core::{Call, MemShelf, MemSink};
 use std::alloc::{AllocError, Global};
-use test_stage::{FOUR_CELLS, OVERLAP_MAP, OVERLAP_PICTURE, OVERLAP_RECORD, ran};
+use test_stage::{FOUR_CELLS, Failing, File, OVERLAP_MAP, OVERLAP_PICTURE, OVERLAP_RECORD, Stage};
 
 // The most writes of a line that are tried.
 const MOST_CALLS: u8 = 50;
 
-// A run that ends with a line: its words, the files before it, what fails, its status and its
-// line.
+// A run that ends with a line: its words, the files before it, what fails after so many calls of its kind, its status
+// and its line.
 #[derive(Clone, Copy, Drop)]
 struct Refused<'a> {
     words: &'a str,
-    files: &'a [(&'a str, &'a [u8])],
+    files: &'a [File<'a>],
     failing: Failing<'a>,
+    after: u8,
     status: u8,
     line: &'a str,
 }
 
-fn put_files(shelf: &mut MemShelf, files: &[(&str, &[u8])]) -> Result<(), AllocError> {
-    for (name, bytes) in files.iter() {
-        shelf.put_file(*name, *bytes)?;
-    }
-    Ok(())
+// Whether a line is the first of that of a run, and its status stays.
+fn says_first(of: &Refused, status: u8, line: &[u8]) -> bool {
+    status == of.status && of.line.as_bytes().starts_with(line)
 }
 
-// The status of a run over this `err`.
-fn status_of(alloc: Global, of: &Refused, err: &mut MemSink) -> Result<u8, AllocError> {
-    let mut shelf = MemShelf::new(alloc);
-    put_files(&mut shelf, of.files)?;
-    let mut out = MemSink::new(alloc);
-    list_failing(&mut shelf, &mut out, of.failing)?;
-    ran(alloc, of.words, &mut shelf, &mut out, err)
-}
-
-// What is found of a run of which a write of the line fails, which keeps so many bytes of its piece: nothing yet where the
+// What is found of a run of which a write of the line failed, which kept so many bytes of its piece: nothing yet where the
 // status stays and the line is cut off, and else the answer.
+fn found_of(of: &Refused, status: u8, stage: &Stage, after: u8, kept: usize) -> Option<bool> {
+    let line = stage.line();
+    let said = says_first(of, status, line);
+    if stage.line_faults() == 0 {
+        return Some(said && after > 0 && line == of.line.as_bytes());
+    }
+    if said && (after > 0 || line.len() == kept) {
+        None
+    } else {
+        Some(false)
+    }
+}
+
+// The status of a run over a stage without a file.
+fn status_on(stage: &mut Stage, of: &Refused) -> Result<u8, AllocError> {
+    stage.put_files(of.files)?;
+    stage.fail(of.failing, of.after)?;
+    stage.run(of.words)
+}
+
 fn after_writes(
     alloc: Global,
     of: &Refused,
     after: u8,
     kept: usize,
 ) -> Result<Option<bool>, AllocError> {
-    let mut err = MemSink::new(alloc);
-    err.fail_at(u32::from(after) + 1, kept)?;
-    let status = status_of(alloc, of, &mut err)?;
-    let line = of.line.as_bytes();
-    let said = status == of.status && line.starts_with(err.bytes());
-    if err.faults() == 0 {
-        return Ok(Some(said && after > 0 && err.bytes() == line));
-    }
-    if said && (after > 0 || err.bytes().len() == kept) {
-        Ok(None)
-    } else {
-        Ok(Some(false))
-    }
+    let mut stage = Stage::new(alloc);
+    stage.fail_line(after, kept)?;
+    let status = status_on(&mut stage, of)?;
+    Ok(found_of(of, status, &stage, after, kept))
 }
 
 // Whether the status stays and the line is cut off where each write of it fails in turn.
@@ -72,9 +71,7 @@ fn says_well(alloc: Global, of: &Refused, kept: usize) -> Result<bool, AllocErro
 // The number of the first run, from 0, whose status doesn't stay.
 fn wrong_saying(alloc: Global, table: &[Refused]) -> Result<Option<usize>, AllocError> {
     for (i, of) in table.iter().enumerate() {
-        let none = says_well(alloc, of, 0)?;
-        let one = says_well(alloc, of, 1)?;
-        if !none || !one {
+        if !says_well(alloc, of, 0)? || !says_well(alloc, of, 1)? {
             return Ok(Some(i));
         }
     }
@@ -85,6 +82,7 @@ const GROWN: Refused<'static> = Refused {
     words: "grow sample=s out=o map=m record=r width=6 height=1",
     files: &[("s", FOUR_CELLS)],
     failing: Failing::Nothing,
+    after: 0,
     status: 2,
     line: "",
 };
@@ -114,13 +112,13 @@ const GROWING: &[Refused<'static>] = &[
         ..GROWN
     },
     Refused {
-        failing: Failing::OnFile(Call::Begin, "m", 0, 0),
+        failing: Failing::Begin("m"),
         status: 6,
         line: "weave: map: write fault\n",
         ..GROWN
     },
     Refused {
-        failing: Failing::OnReport(0, 0),
+        failing: Failing::Report(0),
         status: 6,
         line: "weave: report: write fault\n",
         ..GROWN
@@ -157,7 +155,7 @@ const QUILTING: &[Refused<'static>] = &[
         ..QUILTED
     },
     Refused {
-        failing: Failing::OnFile(Call::Add, "o", 0, 1),
+        failing: Failing::Add("o", 1),
         status: 6,
         line: "weave: out: write fault\n",
         ..QUILTED
@@ -195,7 +193,7 @@ const TRANSFERRING: &[Refused<'static>] = &[
         ..TRANSFERRED
     },
     Refused {
-        failing: Failing::OnFile(Call::Begin, "r", 0, 0),
+        failing: Failing::Begin("r"),
         status: 6,
         line: "weave: record: write fault\n",
         ..TRANSFERRED
@@ -232,7 +230,7 @@ const TILING: &[Refused<'static>] = &[
         ..TILED
     },
     Refused {
-        failing: Failing::OnFile(Call::Add, "m", 0, 1),
+        failing: Failing::Add("m", 1),
         status: 6,
         line: "weave: map: write fault\n",
         ..TILED
@@ -274,7 +272,8 @@ const MERGING: &[Refused<'static>] = &[
         ..MERGED
     },
     Refused {
-        failing: Failing::OnReport(1, 0),
+        failing: Failing::Report(0),
+        after: 1,
         status: 6,
         line: "weave: report: write fault\n",
         ..MERGED
@@ -312,7 +311,7 @@ const LOOPING: &[Refused<'static>] = &[
         ..LOOPED
     },
     Refused {
-        failing: Failing::OnFile(Call::Begin, "r", 0, 0),
+        failing: Failing::Begin("r"),
         status: 6,
         line: "weave: record: write fault\n",
         ..LOOPED
@@ -355,13 +354,13 @@ const CHECKING: &[Refused<'static>] = &[
         ..CHECKED
     },
     Refused {
-        failing: Failing::OnFile(Call::Get, "r", 0, 0),
+        failing: Failing::Get("r"),
         status: 5,
         line: "weave: record: read fault\n",
         ..CHECKED
     },
     Refused {
-        failing: Failing::OnReport(0, 1),
+        failing: Failing::Report(1),
         status: 6,
         line: "weave: report: write fault\n",
         ..CHECKED
@@ -399,7 +398,7 @@ const UPGRADING: &[Refused<'static>] = &[
         ..UPGRADED
     },
     Refused {
-        failing: Failing::OnFile(Call::Add, "q", 0, 0),
+        failing: Failing::Add("q", 0),
         status: 6,
         line: "weave: newrecord: write fault\n",
         ..UPGRADED
@@ -425,23 +424,37 @@ const TRYING: &[Refused<'static>] = &[
         ..TRIED
     },
     Refused {
-        failing: Failing::OnReport(0, 0),
+        failing: Failing::Report(0),
         status: 6,
         line: "weave: report: write fault\n",
         ..TRIED
     },
 ];
 
+// The runs of each command.
+const TABLES: &[&[Refused<'static>]] = &[
+    GROWING,
+    QUILTING,
+    TRANSFERRING,
+    TILING,
+    MERGING,
+    LOOPING,
+    CHECKING,
+    UPGRADING,
+    TRYING,
+];
+
+// The numbers of the first command and the first run of it, from 0, whose status doesn't stay.
+fn wrong_command(alloc: Global) -> Result<Option<(usize, usize)>, AllocError> {
+    for (i, table) in TABLES.iter().enumerate() {
+        if let Some(j) = wrong_saying(alloc, *table)? {
+            return Ok(Some((i, j)));
+        }
+    }
+    Ok(None)
+}
+
 #[test]
 fn lines_that_cant_be_written(rt: HostRuntime) {
-    let alloc = rt.alloc();
-    expect_none(&rt, wrong_saying(alloc, GROWING));
-    expect_none(&rt, wrong_saying(alloc, QUILTING));
-    expect_none(&rt, wrong_saying(alloc, TRANSFERRING));
-    expect_none(&rt, wrong_saying(alloc, TILING));
-    expect_none(&rt, wrong_saying(alloc, MERGING));
-    expect_none(&rt, wrong_saying(alloc, LOOPING));
-    expect_none(&rt, wrong_saying(alloc, CHECKING));
-    expect_none(&rt, wrong_saying(alloc, UPGRADING));
-    expect_none(&rt, wrong_saying(alloc, TRYING));
+    expect_no_pair(&rt, wrong_command(rt.alloc()));
 }

@@ -1,7 +1,6 @@
 // Runs of which one call after another fails.
-use shelf_core::{Call, MemShelf, MemSink};
 use std::alloc::{AllocError, Global};
-use test_stage::{BEFORE, is_file, ran};
+use test_stage::{BEFORE, Failing, Stage};
 
 // The most calls of a kind on one file that a run is to have.
 const MOST_CALLS: u8 = 250;
@@ -18,88 +17,71 @@ pub struct Trying<'a> {
     pub report: &'a str,
 }
 
-/// What fails in a run: nothing, or, after so many of its kind that go well, a call on the file of
-/// a name or a write of the report. A write that fails keeps so many bytes of its piece.
-#[derive(Clone, Copy, Drop)]
-pub enum Failing<'a> {
-    Nothing,
-    OnFile(Call, &'a str, u8, usize),
-    OnReport(u8, usize),
-}
-
-/// Lists what is to fail.
-pub fn list_failing(
-    shelf: &mut MemShelf,
-    out: &mut MemSink,
-    failing: Failing,
-) -> Result<(), AllocError> {
-    match failing {
-        Failing::Nothing => Ok(()),
-        Failing::OnFile(call, name, after, kept) => {
-            shelf.fail_at(call, name, u32::from(after) + 1, kept)
-        }
-        Failing::OnReport(after, kept) => out.fail_at(u32::from(after) + 1, kept),
-    }
-}
-
 // What is there after a run.
 #[derive(Drop)]
 struct Left {
     status: u8,
-    shelf: MemShelf,
-    out: MemSink,
-    err: MemSink,
+    stage: Stage,
 }
 
-fn put_read_files(shelf: &mut MemShelf, of: &Trying) -> Result<(), AllocError> {
+fn put_read_files(stage: &mut Stage, of: &Trying) -> Result<(), AllocError> {
     for (name, _, bytes) in of.reads.iter() {
-        shelf.put_file(*name, *bytes)?;
+        stage.put_file(*name, *bytes)?;
     }
     Ok(())
 }
 
-fn put_written_files(shelf: &mut MemShelf, of: &Trying) -> Result<(), AllocError> {
+fn put_written_files(stage: &mut Stage, of: &Trying) -> Result<(), AllocError> {
     for (name, _) in of.writes.iter() {
-        shelf.put_file(*name, BEFORE)?;
+        stage.put_file(*name, BEFORE)?;
     }
     Ok(())
 }
 
-fn left_by(alloc: Global, of: &Trying, failing: Failing) -> Result<Left, AllocError> {
-    let mut shelf = MemShelf::new(alloc);
-    put_read_files(&mut shelf, of)?;
-    put_written_files(&mut shelf, of)?;
-    let mut out = MemSink::new(alloc);
-    let mut err = MemSink::new(alloc);
-    list_failing(&mut shelf, &mut out, failing)?;
-    let status = ran(alloc, of.words, &mut shelf, &mut out, &mut err)?;
-    Ok(Left {
-        status,
-        shelf,
-        out,
-        err,
-    })
+// The status of a run over a stage without a file, in which a call fails after so many of its kind.
+fn status_on(
+    stage: &mut Stage,
+    of: &Trying,
+    failing: Failing,
+    after: u8,
+) -> Result<u8, AllocError> {
+    put_read_files(stage, of)?;
+    put_written_files(stage, of)?;
+    stage.fail(failing, after)?;
+    stage.run(of.words)
+}
+
+fn left_by(alloc: Global, of: &Trying, failing: Failing, after: u8) -> Result<Left, AllocError> {
+    let mut stage = Stage::new(alloc);
+    let status = status_on(&mut stage, of, failing, after)?;
+    Ok(Left { status, stage })
 }
 
 // The files that are read are as before.
 fn keeps_read_files(of: &Trying, left: &Left) -> bool {
     for (name, _, bytes) in of.reads.iter() {
-        if !is_file(left.shelf.file(*name), *bytes) {
+        if !left.stage.has_file(*name, *bytes) {
             return false;
         }
     }
     true
 }
 
+// File number `j` of those that are written is whole where it comes before number `i`, and as before where it comes
+// after that.
+fn is_written_up_to(name: &str, whole: &Left, left: &Left, i: usize, j: usize) -> bool {
+    let wanted = if j < i {
+        whole.stage.file(name).unwrap_or(b"")
+    } else {
+        BEFORE
+    };
+    j == i || left.stage.has_file(name, wanted)
+}
+
 // Of the files that are written, those before number `i` are whole, and those after it as before.
 fn are_written_up_to(of: &Trying, whole: &Left, left: &Left, i: usize) -> bool {
     for (j, (name, _)) in of.writes.iter().enumerate() {
-        let wanted = if j < i {
-            whole.shelf.file(*name).unwrap_or(b"")
-        } else {
-            BEFORE
-        };
-        if j != i && !is_file(left.shelf.file(*name), wanted) {
+        if !is_written_up_to(*name, whole, left, i, j) {
             return false;
         }
     }
@@ -109,57 +91,35 @@ fn are_written_up_to(of: &Trying, whole: &Left, left: &Left, i: usize) -> bool {
 // All ended well.
 fn is_well(of: &Trying, whole: &Left, left: &Left) -> bool {
     left.status == of.status
-        && left.out.bytes() == of.report.as_bytes()
-        && left.err.bytes().is_empty()
+        && left.stage.has_said(of.report, "")
         && keeps_read_files(of, left)
         && are_written_up_to(of, whole, left, of.writes.len())
 }
 
-// A read failed: that is said with status 5, and every file is as before.
-fn is_unread(
+// A read or a write of a file failed: that is said with this status, and nothing is reported.
+fn is_said(
     alloc: Global,
-    of: &Trying,
-    whole: &Left,
     left: &Left,
+    status: u8,
     said: &str,
+    what: &str,
 ) -> Result<bool, AllocError> {
-    let line = format!(in alloc; "weave: {said}: read fault\n")?;
-    Ok(
-        left.status == 5
-            && left.out.bytes().is_empty()
-            && left.err.bytes() == line.as_str().as_bytes()
-            && keeps_read_files(of, left)
-            && is_file_as_before(of, left, 0)
-            && are_written_up_to(of, whole, left, 0),
-    )
+    let line = format!(in alloc; "weave: {said}: {what} fault\n")?;
+    Ok(left.status == status && left.stage.has_said("", line.as_str()))
 }
 
 // The file at number `i` of those that are written is as before, or there is none of that number.
 fn is_file_as_before(of: &Trying, left: &Left, i: usize) -> bool {
     match of.writes.get(i) {
-        Some((name, _)) => is_file(left.shelf.file(*name), BEFORE),
+        Some((name, _)) => left.stage.has_file(*name, BEFORE),
         None => true,
     }
 }
 
-// A write of file number `i` failed: that is said with status 6, and the files before and after it
-// are whole or as before.
-fn is_unwritten(
-    alloc: Global,
-    of: &Trying,
-    whole: &Left,
-    left: &Left,
-    i: usize,
-    said: &str,
-) -> Result<bool, AllocError> {
-    let line = format!(in alloc; "weave: {said}: write fault\n")?;
-    Ok(
-        left.status == 6
-            && left.out.bytes().is_empty()
-            && left.err.bytes() == line.as_str().as_bytes()
-            && keeps_read_files(of, left)
-            && are_written_up_to(of, whole, left, i),
-    )
+// The files that are read are as before, and the files before and after number `i` of those that are written are
+// whole or as before.
+fn are_files_up_to(of: &Trying, whole: &Left, left: &Left, i: usize) -> bool {
+    keeps_read_files(of, left) && are_written_up_to(of, whole, left, i)
 }
 
 // The bytes are the first of a text, of which so many pieces were written, and so many bytes of
@@ -171,151 +131,123 @@ fn is_cut_text(bytes: &[u8], text: &[u8], after: u8, kept: usize) -> bool {
 }
 
 fn is_cut_file(whole: &Left, left: &Left, name: &str, after: u8, kept: usize) -> bool {
-    match (left.shelf.file(name), whole.shelf.file(name)) {
+    match (left.stage.file(name), whole.stage.file(name)) {
         (Some(bytes), Some(text)) => is_cut_text(bytes, text, after, kept),
         _ => false,
+    }
+}
+
+// A write of the report failed: that is said with status 6, every file is whole, and the report is cut off.
+fn is_unreported(of: &Trying, whole: &Left, left: &Left, after: u8, kept: usize) -> bool {
+    left.status == 6
+        && left.stage.line() == b"weave: report: write fault\n".as_slice()
+        && is_cut_text(left.stage.report(), of.report.as_bytes(), after, kept)
+        && are_files_up_to(of, whole, left, of.writes.len())
+}
+
+// What one call of a run does that fails: a read of a file, by its name and what lines call it; a begin or a
+// write of the file of a number among those that are written; a write of the report. A write keeps so many bytes.
+#[derive(Clone, Copy, Drop)]
+enum Fault<'a> {
+    Read(&'a str, &'a str),
+    Begin(usize, &'a str, &'a str),
+    Write(usize, &'a str, &'a str, usize),
+    Report(usize),
+}
+
+// The call that fails.
+fn failing_of<'a>(fault: Fault<'a>) -> Failing<'a> {
+    match fault {
+        Fault::Read(name, _) => Failing::Get(name),
+        Fault::Begin(_, name, _) => Failing::Begin(name),
+        Fault::Write(_, name, _, kept) => Failing::Add(name, kept),
+        Fault::Report(kept) => Failing::Report(kept),
+    }
+}
+
+// How many calls failed.
+fn faults(fault: Fault, left: &Left) -> u64 {
+    match fault {
+        Fault::Read(..) => left.stage.read_faults(),
+        Fault::Begin(..) | Fault::Write(..) => left.stage.write_faults(),
+        Fault::Report(_) => left.stage.report_faults(),
+    }
+}
+
+// Whether a run whose call failed left what it is to leave. After a read every file is as before; a begin leaves its
+// file as before, and a write leaves it cut off.
+fn is_stopped(
+    alloc: Global,
+    of: &Trying,
+    whole: &Left,
+    left: &Left,
+    fault: Fault,
+    after: u8,
+) -> Result<bool, AllocError> {
+    match fault {
+        Fault::Read(_, said) => {
+            let is_kept = is_file_as_before(of, left, 0) && are_files_up_to(of, whole, left, 0);
+            Ok(is_kept && is_said(alloc, left, 5, said, "read")?)
+        }
+        Fault::Begin(i, _, said) => {
+            let is_kept = is_file_as_before(of, left, i) && are_files_up_to(of, whole, left, i);
+            Ok(is_kept && is_said(alloc, left, 6, said, "write")?)
+        }
+        Fault::Write(i, name, said, kept) => {
+            let is_cut = is_cut_file(whole, left, name, after, kept);
+            let is_kept = is_cut && are_files_up_to(of, whole, left, i);
+            Ok(is_kept && is_said(alloc, left, 6, said, "write")?)
+        }
+        Fault::Report(kept) => Ok(is_unreported(of, whole, left, after, kept)),
+    }
+}
+
+// Whether so many calls of a kind are enough: a file that is written is begun once.
+fn are_enough(fault: Fault, after: u8) -> bool {
+    match fault {
+        Fault::Begin(..) => after == 1,
+        _ => after > 0,
     }
 }
 
 // What is found of a run of which a call fails: nothing yet where it fails as it is to, and else the answer.
 type Found = Option<bool>;
 
-fn found(is_stopped: bool) -> Found {
-    if is_stopped { None } else { Some(false) }
-}
-
-fn after_reads(
+fn found_of(
     alloc: Global,
     of: &Trying,
     whole: &Left,
-    name: &str,
-    said: &str,
+    left: &Left,
+    fault: Fault,
     after: u8,
 ) -> Result<Found, AllocError> {
-    let left = left_by(alloc, of, Failing::OnFile(Call::Get, name, after, 0))?;
-    if left.shelf.read_faults() == 0 {
-        return Ok(Some(after > 0 && is_well(of, whole, &left)));
+    if faults(fault, left) == 0 {
+        return Ok(Some(are_enough(fault, after) && is_well(of, whole, left)));
     }
-    Ok(found(is_unread(alloc, of, whole, &left, said)?))
+    let is_stopped = is_stopped(alloc, of, whole, left, fault, after)?;
+    Ok(if is_stopped { None } else { Some(false) })
 }
 
-// Each read of a file fails in turn.
-fn reads_fail_well(
+fn found_after(
     alloc: Global,
     of: &Trying,
     whole: &Left,
-    name: &str,
-    said: &str,
-) -> Result<bool, AllocError> {
-    for after in 0..MOST_CALLS {
-        if let Some(is_well) = after_reads(alloc, of, whole, name, said, after)? {
-            return Ok(is_well);
-        }
-    }
-    Ok(false)
-}
-
-fn after_begins(
-    alloc: Global,
-    of: &Trying,
-    whole: &Left,
-    i: usize,
-    name: &str,
-    said: &str,
+    fault: Fault,
     after: u8,
 ) -> Result<Found, AllocError> {
-    let left = left_by(alloc, of, Failing::OnFile(Call::Begin, name, after, 0))?;
-    if left.shelf.write_faults() == 0 {
-        return Ok(Some(after == 1 && is_well(of, whole, &left)));
-    }
-    let stopped = is_unwritten(alloc, of, whole, &left, i, said)?;
-    Ok(found(stopped && is_file_as_before(of, &left, i)))
+    let left = left_by(alloc, of, failing_of(fault), after)?;
+    found_of(alloc, of, whole, &left, fault, after)
 }
 
-// Each begin of file number `i` fails in turn: it leaves the file as before.
-fn begins_fail_well(
+// Each call of a kind fails in turn.
+fn fails_in_turn(
     alloc: Global,
     of: &Trying,
     whole: &Left,
-    i: usize,
-    name: &str,
-    said: &str,
+    fault: Fault,
 ) -> Result<bool, AllocError> {
     for after in 0..MOST_CALLS {
-        if let Some(is_well) = after_begins(alloc, of, whole, i, name, said, after)? {
-            return Ok(is_well);
-        }
-    }
-    Ok(false)
-}
-
-fn after_adds(
-    alloc: Global,
-    of: &Trying,
-    whole: &Left,
-    i: usize,
-    name: &str,
-    said: &str,
-    after: u8,
-    kept: usize,
-) -> Result<Found, AllocError> {
-    let left = left_by(alloc, of, Failing::OnFile(Call::Add, name, after, kept))?;
-    if left.shelf.write_faults() == 0 {
-        return Ok(Some(after > 0 && is_well(of, whole, &left)));
-    }
-    let stopped = is_unwritten(alloc, of, whole, &left, i, said)?;
-    Ok(found(stopped && is_cut_file(whole, &left, name, after, kept)))
-}
-
-// Each write of file number `i` fails in turn and keeps so many bytes.
-fn adds_fail_well(
-    alloc: Global,
-    of: &Trying,
-    whole: &Left,
-    i: usize,
-    name: &str,
-    said: &str,
-    kept: usize,
-) -> Result<bool, AllocError> {
-    for after in 0..MOST_CALLS {
-        if let Some(is_well) = after_adds(alloc, of, whole, i, name, said, after, kept)? {
-            return Ok(is_well);
-        }
-    }
-    Ok(false)
-}
-
-// A write of the report failed: that is said with status 6, every file is whole, and the report is cut off.
-fn is_unreported(of: &Trying, whole: &Left, left: &Left, after: u8, kept: usize) -> bool {
-    let said = left.status == 6 && left.err.bytes() == b"weave: report: write fault\n".as_slice();
-    said && keeps_read_files(of, left)
-        && are_written_up_to(of, whole, left, of.writes.len())
-        && is_cut_text(left.out.bytes(), of.report.as_bytes(), after, kept)
-}
-
-fn after_reports(
-    alloc: Global,
-    of: &Trying,
-    whole: &Left,
-    after: u8,
-    kept: usize,
-) -> Result<Found, AllocError> {
-    let left = left_by(alloc, of, Failing::OnReport(after, kept))?;
-    if left.out.faults() == 0 {
-        return Ok(Some(after > 0 && is_well(of, whole, &left)));
-    }
-    Ok(found(is_unreported(of, whole, &left, after, kept)))
-}
-
-// Each write of the report fails in turn and keeps so many bytes.
-fn reports_fail_well(
-    alloc: Global,
-    of: &Trying,
-    whole: &Left,
-    kept: usize,
-) -> Result<bool, AllocError> {
-    for after in 0..MOST_CALLS {
-        if let Some(is_well) = after_reports(alloc, of, whole, after, kept)? {
+        if let Some(is_well) = found_after(alloc, of, whole, fault, after)? {
             return Ok(is_well);
         }
     }
@@ -325,37 +257,54 @@ fn reports_fail_well(
 // Each file that is read fails.
 fn each_read_file(alloc: Global, of: &Trying, whole: &Left) -> Result<bool, AllocError> {
     for (name, said, _) in of.reads.iter() {
-        if !reads_fail_well(alloc, of, whole, *name, *said)? {
+        if !fails_in_turn(alloc, of, whole, Fault::Read(*name, *said))? {
             return Ok(false);
         }
     }
     Ok(true)
+}
+
+// The file of a number among those that are written fails.
+fn written_fails(
+    alloc: Global,
+    of: &Trying,
+    whole: &Left,
+    i: usize,
+    name: &str,
+    said: &str,
+) -> Result<bool, AllocError> {
+    Ok(
+        fails_in_turn(alloc, of, whole, Fault::Begin(i, name, said))?
+            && fails_in_turn(alloc, of, whole, Fault::Write(i, name, said, 0))?
+            && fails_in_turn(alloc, of, whole, Fault::Write(i, name, said, 1))?,
+    )
 }
 
 // Each file that is written fails.
 fn each_written_file(alloc: Global, of: &Trying, whole: &Left) -> Result<bool, AllocError> {
     for (i, (name, said)) in of.writes.iter().enumerate() {
-        let begun = begins_fail_well(alloc, of, whole, i, *name, *said)?;
-        let none = adds_fail_well(alloc, of, whole, i, *name, *said, 0)?;
-        let one = adds_fail_well(alloc, of, whole, i, *name, *said, 1)?;
-        if !begun || !none || !one {
+        if !written_fails(alloc, of, whole, i, *name, *said)? {
             return Ok(false);
         }
     }
     Ok(true)
 }
 
+// Each call fails.
+fn each_fails(alloc: Global, of: &Trying, whole: &Left) -> Result<bool, AllocError> {
+    Ok(
+        each_read_file(alloc, of, whole)?
+            && each_written_file(alloc, of, whole)?
+            && fails_in_turn(alloc, of, whole, Fault::Report(0))?
+            && fails_in_turn(alloc, of, whole, Fault::Report(1))?,
+    )
+}
+
 /// Whether a run leaves what it is to leave, without a fault and with each read, begin and write
 /// failing in turn. A write that fails keeps nothing of its piece, or one byte.
 pub fn fails_well(alloc: Global, of: &Trying) -> Result<bool, AllocError> {
-    let whole = left_by(alloc, of, Failing::Nothing)?;
-    Ok(
-        is_well(of, &whole, &whole)
-            && each_read_file(alloc, of, &whole)?
-            && each_written_file(alloc, of, &whole)?
-            && reports_fail_well(alloc, of, &whole, 0)?
-            && reports_fail_well(alloc, of, &whole, 1)?,
-    )
+    let whole = left_by(alloc, of, Failing::Nothing, 0)?;
+    Ok(is_well(of, &whole, &whole) && each_fails(alloc, of, &whole)?)
 }
 
 /// The number of the first run, from 0, that doesn't.

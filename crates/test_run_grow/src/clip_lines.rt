@@ -1,13 +1,12 @@
 // Long stream lines, frame lines and tags.
 use crate::expect::expect_none;
-use std::alloc::{AllocError, Global};
-use test_stage::refused;
+use test_stage::{Long, wrong_long};
 
 const WORDS: &str = "grow sample=s out=o map=m record=r width=1 height=1 place=grid overlap=0";
 
 // A clip with a long word: what comes before it, how many bytes it has, and what follows; the
 // status and the line.
-const REFUSED: &[(&[u8], usize, &[u8], u8, &str)] = &[
+const REFUSED: &[Long<'static>] = &[
     // A stream line of 4,096 bytes that goes on, and one of a byte more, whether it ends there or not.
     (
         b"YUV4MPEG2 W1 H1 Cmono X",
@@ -77,35 +76,7 @@ const REFUSED: &[(&[u8], usize, &[u8], u8, &str)] = &[
     ),
 ];
 
-// A clip with a word of so many digits in its line.
-fn clip_of(
-    alloc: Global,
-    before: &[u8],
-    count: usize,
-    behind: &[u8],
-) -> Result<Vec<u8>, AllocError> {
-    let mut clip = Vec::from_slice(alloc, before)?;
-    let word = vec![in alloc; b'7'; count]?;
-    clip.extend_from_slice(&word)?;
-    clip.extend_from_slice(behind)?;
-    Ok(clip)
-}
-
-// The number of the first clip, from 0, that isn't refused with its status and its line.
-fn wrong_line(
-    alloc: Global,
-    table: &[(&[u8], usize, &[u8], u8, &str)],
-) -> Result<Option<usize>, AllocError> {
-    for (i, (before, count, behind, status, line)) in table.iter().enumerate() {
-        let sample = clip_of(alloc, *before, *count, *behind)?;
-        if !refused(alloc, WORDS, &sample, *status, *line)? {
-            return Ok(Some(i));
-        }
-    }
-    Ok(None)
-}
-
 #[test]
 fn long_lines_are_refused(rt: HostRuntime) {
-    expect_none(&rt, wrong_line(rt.alloc(), REFUSED));
+    expect_none(&rt, wrong_long(rt.alloc(), WORDS, b'7', REFUSED));
 }

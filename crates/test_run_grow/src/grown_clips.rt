@@ -50,7 +50,7 @@ const FAILS: &[Case<'static>] = &[Case {
     words: COPIED,
     sample: TWO_CELLS,
     second: NO_CELL,
-    failing: Failing::PictureBegin,
+    failing: Failing::Begin("o"),
     status: 6,
     report: "",
     line: "weave: out: write fault\n",

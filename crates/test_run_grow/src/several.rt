@@ -1,7 +1,7 @@
 // Runs over two samples: the files of version 2, and the refusals of the second.
 use crate::expect::{expect_none, expect_true};
 use std::alloc::{AllocError, Global};
-use test_stage::{BEFORE, Case, Failing, Made, holds, is_made, wrong_case};
+use test_stage::{BEFORE, Case, Failing, Made, filled, holds, is_made, wrong_case};
 
 // The sizes of both samples, and for each cell its sample and the place in it. A grid has the first alone.
 const MAP: &[u8] = b"WEAVEMAP\x02\x00\
@@ -52,14 +52,25 @@ const MIXED_RECORD: &[u8] = b"WEAVEREC\x02\x00\
 \x00\x01\x00\x00\x00\x00\x00\x02\x00\x01\x00\x01\x00\x02\x00\x00\x00\x00\x00\x00\x40\
 \x02\xfd\x00\x00";
 
+const MIXED_WORDS: &str =
+    "grow sample=s sample2=t out=o map=m record=r width=3 height=1 box=2 overlap=1 tol=0";
+
+const TEN_AND_20: &[u8] = b"P6\n2 1\n255\n\x0a\x0a\x0a\x14\x14\x14";
+
+const TWENTY_AND_30: &[u8] = b"P6\n2 1\n255\n\x14\x14\x14\x1e\x1e\x1e";
+
+const MIXED_REPORT: &str = "grow 3x1x1\nplacements 2\nrounds 0\nseams 765\n";
+
+const MIXED_PICTURE: &[u8] = b"P6\n3 1\n255\n\x0a\x0a\x0a\x14\x14\x14\x1e\x1e\x1e";
+
 // Two cells of grey 10 and 20, and two of grey 20 and 30. Draw 0 of seed 0 takes the first sample of two; the second patch
 // is that of sample 2, whose first cell is what is there.
 const MIXED: Case<'static> = Case {
-    words: "grow sample=s sample2=t out=o map=m record=r width=3 height=1 box=2 overlap=1 tol=0",
-    sample: b"P6\n2 1\n255\n\x0a\x0a\x0a\x14\x14\x14",
-    second: b"P6\n2 1\n255\n\x14\x14\x14\x1e\x1e\x1e",
-    report: "grow 3x1x1\nplacements 2\nrounds 0\nseams 765\n",
-    picture: b"P6\n3 1\n255\n\x0a\x0a\x0a\x14\x14\x14\x1e\x1e\x1e",
+    words: MIXED_WORDS,
+    sample: TEN_AND_20,
+    second: TWENTY_AND_30,
+    report: MIXED_REPORT,
+    picture: MIXED_PICTURE,
     map: MIXED_MAP,
     record: MIXED_RECORD,
     ..TWO_SAMPLES
@@ -101,28 +112,23 @@ fn runs_over_two_samples(rt: HostRuntime) {
 }
 
 // The run, and the check of what it leaves.
-fn is_accepted(alloc: Global) -> Result<bool, AllocError> {
-    let made = Made {
-        words: MIXED.words,
-        check: "check sample=s sample2=t out=o map=m record=r",
-        sample: MIXED.sample,
-        second: MIXED.second,
-        report: MIXED.report,
-        picture: MIXED.picture,
-    };
-    is_made(alloc, &made)
-}
+const ACCEPTED: Made<'static> = Made {
+    words: MIXED_WORDS,
+    check: "check sample=s sample2=t out=o map=m record=r",
+    sample: TEN_AND_20,
+    second: TWENTY_AND_30,
+    report: MIXED_REPORT,
+    picture: MIXED_PICTURE,
+};
 
 #[test]
 fn a_run_over_two_samples_is_accepted(rt: HostRuntime) {
-    expect_true(&rt, is_accepted(rt.alloc()));
+    expect_true(&rt, is_made(rt.alloc(), &ACCEPTED));
 }
 
 // Two pictures of 4096 x 2048 black cells: each is within the bound, and both together pass it.
 fn are_too_many(alloc: Global) -> Result<bool, AllocError> {
-    let raster = vec![in alloc; 0u8; 25_165_824]?;
-    let mut sample = Vec::from_slice(alloc, b"P6\n4096 2048\n255\n")?;
-    sample.extend_from_slice(&raster)?;
+    let sample = filled(alloc, b"P6\n4096 2048\n255\n", 0, 25_165_824, b"")?;
     let case = Case {
         sample: &sample,
         second: &sample,

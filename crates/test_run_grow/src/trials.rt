@@ -1,8 +1,7 @@
 // What is said of an output that is grown from a sample of a number. No file is read or written.
 use crate::expect::{expect_none, expect_true};
-use shelf_core::{MemShelf, MemSink};
 use std::alloc::{AllocError, Global};
-use test_stage::{BEFORE, Case, Failing, NO_CELL, ONE_CELL, ran, wrong_case, wrong_words};
+use test_stage::{BEFORE, Case, Failing, NO_CELL, ONE_CELL, Stage, wrong_case, wrong_words};
 
 const BEGINNING: &[u8] =
     b"trial 1\nsample 64x64x1\ngrow 256x256x1\nplacements 121\nrounds 5\nseams ";
@@ -12,16 +11,12 @@ const LONG_BEGINNING: &[u8] =
 
 const END: &[u8] = b"\nrecord stands\n";
 
-// The report of a trial, where it ends with status 0 and without a line.
-fn report_of(alloc: Global, words: &str) -> Result<Option<Vec<u8>>, AllocError> {
-    let mut shelf = MemShelf::new(alloc);
-    let mut out = MemSink::new(alloc);
-    let mut err = MemSink::new(alloc);
-    let status = ran(alloc, words, &mut shelf, &mut out, &mut err)?;
-    if status != 0 || !err.bytes().is_empty() {
-        return Ok(None);
-    }
-    Ok(Some(Vec::from_slice(alloc, out.bytes())?))
+// Runs a trial, and says whether it ends with status 0 and without a line, and its report begins and ends as given.
+fn is_well(stage: &mut Stage, words: &str, beginning: &[u8]) -> Result<bool, AllocError> {
+    let status = stage.run(words)?;
+    let text = stage.report();
+    let are_ends = text.starts_with(beginning) && text.ends_with(END);
+    Ok(status == 0 && stage.line().is_empty() && are_ends)
 }
 
 // Whether both lines of words have one report, which begins and ends as given.
@@ -31,13 +26,10 @@ fn is_one_report(
     second: &str,
     beginning: &[u8],
 ) -> Result<bool, AllocError> {
-    let Some(text) = report_of(alloc, first)? else {
-        return Ok(false);
-    };
-    let Some(again) = report_of(alloc, second)? else {
-        return Ok(false);
-    };
-    Ok(text.as_slice() == again.as_slice() && text.starts_with(beginning) && text.ends_with(END))
+    let mut one = Stage::new(alloc);
+    let mut other = Stage::new(alloc);
+    let are_well = is_well(&mut one, first, beginning)? && is_well(&mut other, second, beginning)?;
+    Ok(are_well && one.report() == other.report())
 }
 
 #[test]
@@ -92,7 +84,7 @@ const SMALL: Case<'static> = Case {
 const WRITTEN: &[Case<'static>] = &[
     SMALL,
     Case {
-        failing: Failing::ReportWrite(3),
+        failing: Failing::Report(3),
         status: 6,
         report: "tri",
         line: "weave: report: write fault\n",

@@ -1,7 +1,6 @@
 // The words that are refused, each with its line.
-use crate::expect::{expect_none, expect_true};
-use std::alloc::{AllocError, Global};
-use test_stage::{ONE_CELL, refused, wrong_words};
+use crate::expect::expect_none;
+use test_stage::{ONE_CELL, wrong_words};
 
 const REFUSED: &[(&str, u8, &str)] = &[
     ("", 2, "weave: no command\n"),
@@ -42,29 +41,35 @@ fn words_are_refused(rt: HostRuntime) {
     expect_none(&rt, wrong_words(rt.alloc(), ONE_CELL, REFUSED));
 }
 
-// Whether a width of 400 digits is refused with this line.
-fn is_refused(alloc: Global, digit: char, last: &str, line: &str) -> Result<bool, AllocError> {
-    let mut words = String::from_str(alloc, "grow width=")?;
-    for _ in 0..399u32 {
-        words.push(digit)?;
-    }
-    words.push_str(last)?;
-    refused(alloc, &words, ONE_CELL, 2, line)
-}
+// Widths of 400 digits.
+const NINES: &str = "grow width=\
+    99999999999999999999999999999999999999999999999999999999999999999999999999999999\
+    99999999999999999999999999999999999999999999999999999999999999999999999999999999\
+    99999999999999999999999999999999999999999999999999999999999999999999999999999999\
+    99999999999999999999999999999999999999999999999999999999999999999999999999999999\
+    99999999999999999999999999999999999999999999999999999999999999999999999999999997";
+
+const ZEROS: &str = "grow width=\
+    00000000000000000000000000000000000000000000000000000000000000000000000000000000\
+    00000000000000000000000000000000000000000000000000000000000000000000000000000000\
+    00000000000000000000000000000000000000000000000000000000000000000000000000000000\
+    00000000000000000000000000000000000000000000000000000000000000000000000000000000\
+    00000000000000000000000000000000000000000000000000000000000000000000000000000000";
+
+const SEVEN: &str = "grow width=\
+    00000000000000000000000000000000000000000000000000000000000000000000000000000000\
+    00000000000000000000000000000000000000000000000000000000000000000000000000000000\
+    00000000000000000000000000000000000000000000000000000000000000000000000000000000\
+    00000000000000000000000000000000000000000000000000000000000000000000000000000000\
+    00000000000000000000000000000000000000000000000000000000000000000000000000000007";
+
+const WIDTHS: &[(&str, u8, &str)] = &[
+    (NINES, 2, "weave: word 2: out of range\n"),
+    (ZEROS, 2, "weave: word 2: out of range\n"),
+    (SEVEN, 2, "weave: missing key sample\n"),
+];
 
 #[test]
 fn widths_of_400_digits(rt: HostRuntime) {
-    let alloc = rt.alloc();
-    expect_true(
-        &rt,
-        is_refused(alloc, '9', "7", "weave: word 2: out of range\n"),
-    );
-    expect_true(
-        &rt,
-        is_refused(alloc, '0', "0", "weave: word 2: out of range\n"),
-    );
-    expect_true(
-        &rt,
-        is_refused(alloc, '0', "7", "weave: missing key sample\n"),
-    );
+    expect_none(&rt, wrong_words(rt.alloc(), ONE_CELL, WIDTHS));
 }

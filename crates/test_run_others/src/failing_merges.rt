@@ -1,8 +1,8 @@
 // What the files hold after a call that fails.
 use crate::expect::expect_none;
 use crate::merged::TWO;
-use crate::merging::{Failing, Merge, wrong_merge};
-use test_stage::BEFORE;
+use crate::merging::{Merge, wrong_merge};
+use test_stage::{BEFORE, Failing};
 
 const NOTHING_WRITTEN: Merge<'static> = Merge {
     report: "",

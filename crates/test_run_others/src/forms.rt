@@ -1,8 +1,7 @@
 // Block records that aren't in their form or pass a limit, and that are cut off.
 use crate::blocks::{RECORD, STANDS};
 use crate::expect::expect_none;
-use std::alloc::{AllocError, Global};
-use test_stage::{Verdict, is_judged, wrong_verdict};
+use test_stage::{Verdict, wrong_record_cut, wrong_verdict};
 
 const FORM: Verdict<'static> = Verdict {
     status: 3,
@@ -69,31 +68,8 @@ fn forms(rt: HostRuntime) {
 }
 
 // The first bytes of the record are refused at their end.
-fn is_cut(alloc: Global, n: usize) -> Result<bool, AllocError> {
-    let line = format!(in alloc; "weave: record: form at {n}\n")?;
-    let Some(record) = RECORD.get(..n) else {
-        return Ok(false);
-    };
-    let of = Verdict {
-        record,
-        line: line.as_str(),
-        ..FORM
-    };
-    is_judged(alloc, &of)
-}
-
-// The least number of first bytes of the record that aren't refused at their end.
-fn wrong_cut(alloc: Global) -> Result<Option<usize>, AllocError> {
-    for n in 0..RECORD.len() {
-        if !is_cut(alloc, n)? {
-            return Ok(Some(n));
-        }
-    }
-    Ok(None)
-}
-
 #[test]
 fn a_record_that_is_cut(rt: HostRuntime) {
     assert!(rt; RECORD.len() == 76);
-    expect_none(&rt, wrong_cut(rt.alloc()));
+    expect_none(&rt, wrong_record_cut(rt.alloc(), &STANDS));
 }

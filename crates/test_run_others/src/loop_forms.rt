@@ -1,8 +1,7 @@
 // Frame maps and walk records that aren't in their forms or pass a limit, and that are cut off.
 use crate::expect::expect_none;
 use crate::loop_clips::{MAP, RECORD, STANDS};
-use std::alloc::{AllocError, Global};
-use test_stage::{Verdict, is_judged, wrong_verdict};
+use test_stage::{Verdict, wrong_map_cut, wrong_record_cut, wrong_verdict};
 
 const FORM: Verdict<'static> = Verdict {
     status: 3,
@@ -69,61 +68,15 @@ fn forms(rt: HostRuntime) {
 }
 
 // The first bytes of the map are refused at their end.
-fn is_map_cut(alloc: Global, n: usize) -> Result<bool, AllocError> {
-    let line = format!(in alloc; "weave: map: form at {n}\n")?;
-    let Some(map) = MAP.get(..n) else {
-        return Ok(false);
-    };
-    let of = Verdict {
-        map,
-        line: line.as_str(),
-        ..FORM
-    };
-    is_judged(alloc, &of)
-}
-
-// The least number of first bytes of the map that aren't refused at their end.
-fn wrong_map_cut(alloc: Global) -> Result<Option<usize>, AllocError> {
-    for n in 0..MAP.len() {
-        if !is_map_cut(alloc, n)? {
-            return Ok(Some(n));
-        }
-    }
-    Ok(None)
-}
-
 #[test]
 fn a_map_that_is_cut(rt: HostRuntime) {
     assert!(rt; MAP.len() == 38);
-    expect_none(&rt, wrong_map_cut(rt.alloc()));
+    expect_none(&rt, wrong_map_cut(rt.alloc(), &STANDS));
 }
 
 // The first bytes of the record are refused at their end.
-fn is_record_cut(alloc: Global, n: usize) -> Result<bool, AllocError> {
-    let line = format!(in alloc; "weave: record: form at {n}\n")?;
-    let Some(record) = RECORD.get(..n) else {
-        return Ok(false);
-    };
-    let of = Verdict {
-        record,
-        line: line.as_str(),
-        ..FORM
-    };
-    is_judged(alloc, &of)
-}
-
-// The least number of first bytes of the record that aren't refused at their end.
-fn wrong_record_cut(alloc: Global) -> Result<Option<usize>, AllocError> {
-    for n in 0..RECORD.len() {
-        if !is_record_cut(alloc, n)? {
-            return Ok(Some(n));
-        }
-    }
-    Ok(None)
-}
-
 #[test]
 fn a_record_that_is_cut(rt: HostRuntime) {
     assert!(rt; RECORD.len() == 173);
-    expect_none(&rt, wrong_record_cut(rt.alloc()));
+    expect_none(&rt, wrong_record_cut(rt.alloc(), &STANDS));
 }

@@ -1,10 +1,9 @@
 // What the files of a loop hold after each status, and that `check` accepts them.
 use crate::expect::{expect_none, expect_true};
 use crate::loop_clips::{FOUR_FRAMES, ONE, ONE_MAP, ONE_PICTURE, ONE_RECORD, STANDS, TWO};
-use shelf_core::{MemShelf, MemSink};
 use std::alloc::{AllocError, Global};
 use test_stage::{
-    BEFORE, Case, Failing, Made, NO_CELL, Verdict, ran, wrong_case, wrong_made, wrong_verdict,
+    BEFORE, Case, Failing, Made, NO_CELL, Stage, Verdict, wrong_case, wrong_made, wrong_verdict,
 };
 
 const LOOPED: &[Case<'static>] = &[ONE, TWO];
@@ -55,31 +54,26 @@ fn filtered_loops(rt: HostRuntime) {
     expect_none(&rt, wrong_made(rt.alloc(), FILTERED));
 }
 
-// Whether a line of words ends with status 0 and this report.
-fn reports(
-    alloc: Global,
-    words: &str,
-    shelf: &mut MemShelf,
-    report: &str,
-) -> Result<bool, AllocError> {
-    let mut out = MemSink::new(alloc);
-    let mut err = MemSink::new(alloc);
-    let status = ran(alloc, words, shelf, &mut out, &mut err)?;
-    Ok(status == 0 && out.bytes() == report.as_bytes() && err.bytes().is_empty())
-}
-
 // Several walks of three frames cost 9: which one is written is free, and it begins at frame 0.
-fn is_found(alloc: Global) -> Result<bool, AllocError> {
-    let mut shelf = MemShelf::new(alloc);
-    shelf.put_file("s", FOUR_FRAMES)?;
-    let words = "loop sample=s out=o map=m record=r length=3 taps=0 gap=1";
-    let is_reported = reports(alloc, words, &mut shelf, "loop 3\nstart 0\ncost 9\n")?;
-    let begins = match shelf.file("m") {
+fn begins_at_0(stage: &Stage) -> bool {
+    match stage.file("m") {
         Some(map) => map.len() == 40 && map.get(34..36) == Some(b"\x00\x00".as_slice()),
         None => false,
-    };
+    }
+}
+
+fn is_found_on(stage: &mut Stage) -> Result<bool, AllocError> {
+    stage.put_file("s", FOUR_FRAMES)?;
+    let words = "loop sample=s out=o map=m record=r length=3 taps=0 gap=1";
+    let is_reported = stage.reports(words, "loop 3\nstart 0\ncost 9\n")?;
+    let begins = begins_at_0(stage);
     let check = "check sample=s out=o map=m record=r";
-    Ok(is_reported && begins && reports(alloc, check, &mut shelf, "stands\n")?)
+    Ok(is_reported && begins && stage.reports(check, "stands\n")?)
+}
+
+fn is_found(alloc: Global) -> Result<bool, AllocError> {
+    let mut stage = Stage::new(alloc);
+    is_found_on(&mut stage)
 }
 
 #[test]
@@ -97,19 +91,19 @@ const NOTHING_WRITTEN: Case<'static> = Case {
 
 const FAILING: &[Case<'static>] = &[
     Case {
-        failing: Failing::SampleRead,
+        failing: Failing::Get("s"),
         status: 5,
         line: "weave: sample: read fault\n",
         ..NOTHING_WRITTEN
     },
     Case {
-        failing: Failing::PictureBegin,
+        failing: Failing::Begin("o"),
         status: 6,
         line: "weave: out: write fault\n",
         ..NOTHING_WRITTEN
     },
     Case {
-        failing: Failing::MapWrite(1),
+        failing: Failing::Add("m", 1),
         status: 6,
         report: "",
         line: "weave: map: write fault\n",
@@ -118,7 +112,7 @@ const FAILING: &[Case<'static>] = &[
         ..TWO
     },
     Case {
-        failing: Failing::RecordBegin,
+        failing: Failing::Begin("r"),
         status: 6,
         report: "",
         line: "weave: record: write fault\n",
@@ -126,7 +120,7 @@ const FAILING: &[Case<'static>] = &[
         ..TWO
     },
     Case {
-        failing: Failing::ReportWrite(2),
+        failing: Failing::Report(2),
         status: 6,
         report: "lo",
         line: "weave: report: write fault\n",

@@ -1,6 +1,7 @@
 // Worked examples: which picture each cell comes from, and what the seams cost.
 use crate::expect::expect_none;
-use crate::merging::{Failing, Merge, wrong_merge};
+use crate::merging::{Merge, wrong_merge};
+use test_stage::Failing;
 
 pub const FIRST: &[u8] = b"P6\n4 1\n255\n\
 \x0a\x0a\x0a\x14\x14\x14\x1e\x1e\x1e\

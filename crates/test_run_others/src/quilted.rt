@@ -67,7 +67,7 @@ fn quilts_are_accepted(rt: HostRuntime) {
 
 const FAILING: &[Case<'static>] = &[
     Case {
-        failing: Failing::SampleRead,
+        failing: Failing::Get("s"),
         status: 5,
         report: "",
         line: "weave: sample: read fault\n",
@@ -77,7 +77,7 @@ const FAILING: &[Case<'static>] = &[
         ..TWO
     },
     Case {
-        failing: Failing::PictureBegin,
+        failing: Failing::Begin("o"),
         status: 6,
         report: "",
         line: "weave: out: write fault\n",
@@ -87,7 +87,7 @@ const FAILING: &[Case<'static>] = &[
         ..TWO
     },
     Case {
-        failing: Failing::MapWrite(0),
+        failing: Failing::Add("m", 0),
         status: 6,
         report: "",
         line: "weave: map: write fault\n",
@@ -96,7 +96,7 @@ const FAILING: &[Case<'static>] = &[
         ..TWO
     },
     Case {
-        failing: Failing::RecordWrite(3),
+        failing: Failing::Add("r", 3),
         status: 6,
         report: "",
         line: "weave: record: write fault\n",
@@ -104,7 +104,7 @@ const FAILING: &[Case<'static>] = &[
         ..TWO
     },
     Case {
-        failing: Failing::ReportWrite(2),
+        failing: Failing::Report(2),
         status: 6,
         report: "qu",
         line: "weave: report: write fault\n",

@@ -1,9 +1,9 @@
 // Pictures and marks that are refused. No file is written, and none is read after a refusal.
 use crate::expect::{expect_none, expect_true};
 use crate::merged::TWO;
-use crate::merging::{Failing, Merge, is_merged, wrong_merge};
+use crate::merging::{Merge, is_merged, wrong_merge};
 use std::alloc::{AllocError, Global};
-use test_stage::BEFORE;
+use test_stage::{BEFORE, Failing, filled};
 
 const REFUSED: Merge<'static> = Merge {
     status: 3,
@@ -191,11 +191,13 @@ fn refused_words(rt: HostRuntime) {
 
 // A picture of 2048x1024 black cells, but for the last byte.
 fn broad(alloc: Global, last: u8) -> Result<Vec<u8>, AllocError> {
-    let mut bytes = Vec::from_slice(alloc, b"P6\n2048 1024\n255\n")?;
-    let black = vec![in alloc; 0u8; 3 * 2048 * 1024 - 1]?;
-    bytes.extend_from_slice(&black)?;
-    bytes.push(last)?;
-    Ok(bytes)
+    filled(
+        alloc,
+        b"P6\n2048 1024\n255\n",
+        0,
+        3 * 2048 * 1024 - 1,
+        &[last],
+    )
 }
 
 // Whether a run over two pictures of these bytes ends with this status and line, and writes nothing.

@@ -2,7 +2,7 @@
 use crate::expect::{expect_none, expect_true};
 use crate::transferred::TWO;
 use std::alloc::{AllocError, Global};
-use test_stage::{BEFORE, Case, FOUR_CELLS, Failing, holds, wrong_case, wrong_words};
+use test_stage::{BEFORE, Case, FOUR_CELLS, Failing, filled, holds, wrong_case, wrong_words};
 
 const WORDS: &[(&str, u8, &str)] = &[
     ("transfer sample=s out=o", 2, "weave: missing key target\n"),
@@ -72,7 +72,7 @@ const FILES: &[Case<'static>] = &[
         ..REFUSED
     },
     Case {
-        failing: Failing::SampleRead,
+        failing: Failing::Get("s"),
         second: CLIP,
         status: 5,
         line: "weave: sample: read fault\n",
@@ -89,14 +89,6 @@ const FILES: &[Case<'static>] = &[
 #[test]
 fn files_are_refused(rt: HostRuntime) {
     expect_none(&rt, wrong_case(rt.alloc(), FILES));
-}
-
-// A picture of so many black bytes.
-fn black(alloc: Global, head: &[u8], count: usize) -> Result<Vec<u8>, AllocError> {
-    let mut bytes = Vec::from_slice(alloc, head)?;
-    let black = vec![in alloc; 0u8; count]?;
-    bytes.extend_from_slice(&black)?;
-    Ok(bytes)
 }
 
 // Whether a run over these files ends with this status and line, and writes nothing.
@@ -121,7 +113,7 @@ fn is_refused<'a>(
 
 // A target of more cells than an output has; its maxval comes before that.
 fn are_too_broad(alloc: Global) -> Result<bool, AllocError> {
-    let target = black(alloc, b"P6\n1025 1024\n200\n", 3 * 1025 * 1024)?;
+    let target = filled(alloc, b"P6\n1025 1024\n200\n", 0, 3 * 1025 * 1024, b"")?;
     let unlike = "weave: target: unlike\n";
     let over = "weave: limit output 1049600 over 1048576\n";
     let is_unlike = is_refused(alloc, TWO.words, FOUR_CELLS, &target, 3, unlike)?;
@@ -137,8 +129,8 @@ const OVERLAPPING: &str = "transfer sample=s target=t out=o map=m record=r block
 
 // Blocks that overlap by all but one of their columns and rows: there are so many that they have more cells than a record.
 fn are_too_many(alloc: Global) -> Result<bool, AllocError> {
-    let sample = black(alloc, b"P6\n100 100\n255\n", 3 * 100 * 100)?;
-    let target = black(alloc, b"P6\n200 200\n255\n", 3 * 200 * 200)?;
+    let sample = filled(alloc, b"P6\n100 100\n255\n", 0, 3 * 100 * 100, b"")?;
+    let target = filled(alloc, b"P6\n200 200\n255\n", 0, 3 * 200 * 200, b"")?;
     let line = "weave: limit records 33560000 over 33554432\n";
     is_refused(alloc, OVERLAPPING, &sample, &target, 4, line)
 }

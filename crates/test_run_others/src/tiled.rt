@@ -125,7 +125,7 @@ const FAILING: &[Case<'static>] = &[
     Case {
         words: ACROSS,
         sample: TWO_CELLS,
-        failing: Failing::SampleRead,
+        failing: Failing::Get("s"),
         status: 5,
         line: "weave: sample: read fault\n",
         ..ANY
@@ -133,7 +133,7 @@ const FAILING: &[Case<'static>] = &[
     Case {
         words: ACROSS,
         sample: TWO_CELLS,
-        failing: Failing::PictureBegin,
+        failing: Failing::Begin("o"),
         status: 6,
         line: "weave: out: write fault\n",
         ..ANY
@@ -141,7 +141,7 @@ const FAILING: &[Case<'static>] = &[
     Case {
         words: ACROSS,
         sample: TWO_CELLS,
-        failing: Failing::MapBegin,
+        failing: Failing::Begin("m"),
         status: 6,
         line: "weave: map: write fault\n",
         picture: ACROSS_PICTURE,
@@ -150,7 +150,7 @@ const FAILING: &[Case<'static>] = &[
     Case {
         words: ACROSS,
         sample: TWO_CELLS,
-        failing: Failing::MapWrite(3),
+        failing: Failing::Add("m", 3),
         status: 6,
         line: "weave: map: write fault\n",
         picture: ACROSS_PICTURE,
@@ -160,7 +160,7 @@ const FAILING: &[Case<'static>] = &[
     Case {
         words: ACROSS,
         sample: TWO_CELLS,
-        failing: Failing::ReportWrite(2),
+        failing: Failing::Report(2),
         status: 6,
         report: "ti",
         line: "weave: report: write fault\n",

@@ -7,17 +7,23 @@
 //! that are refused, `verdicts` those of `check`, and `rows` the worked examples that several of these crates use.
 #![tactic(auto)]
 
+mod bytes;
 mod cases;
 mod refusals;
 mod rows;
+mod runs;
 mod stage;
 mod verdicts;
 
-pub use cases::{BEFORE, Case, Failing, Made, holds, is_made, wrong_case, wrong_made};
+pub use bytes::{Long, filled, wrong_long};
+pub use cases::{BEFORE, Case, Made, holds, is_made, wrong_case, wrong_made};
 pub use refusals::{refused, wrong_sample, wrong_words};
 pub use rows::{
     FOUR_CELLS, NO_CELL, ONE_CELL, ONE_TURNED, ONE_TURNED_MAP, ONE_TURNED_RECORD, OVERLAP_MAP,
     OVERLAP_PICTURE, OVERLAP_RECORD, OVERLAPPING, SIX_CELLS,
 };
-pub use stage::{is_file, ran};
-pub use verdicts::{Verdict, is_judged, wrong_verdict, wrong_verdict_by};
+pub use runs::{Run, leaves, wrong_run};
+pub use stage::{Failing, File, Stage, is_file, ran};
+pub use verdicts::{
+    Verdict, is_judged, wrong_map_cut, wrong_record_cut, wrong_verdict, wrong_verdict_by,
+};

@@ -1,6 +1,7 @@
 // Runs that are refused: every file stays, and nothing is reported.
-use crate::cases::{BEFORE, Case, Failing, holds};
+use crate::cases::{BEFORE, Case, holds};
 use crate::rows::NO_CELL;
+use crate::stage::Failing;
 use std::alloc::{AllocError, Global};
 
 /// Whether a run over one sample is refused with this status and this line.

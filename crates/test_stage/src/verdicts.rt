@@ -1,6 +1,5 @@
 // Runs of `check`: the files, some bytes of them changed, and what is said of them.
-use crate::stage::ran;
-use shelf_core::{Call, MemShelf, MemSink};
+use crate::stage::{Failing, Stage};
 use std::alloc::{AllocError, Global};
 
 /// What is checked, and what is to be said: the sample `s`, the out file `o`, the map `m` and the record `r`, each other byte
@@ -37,37 +36,53 @@ fn changed(
     Ok(all)
 }
 
-// A file that may neither be begun nor added to.
-fn put_file(
+// Sets a file that may neither be begun nor added to.
+fn put_kept(stage: &mut Stage, name: &str, bytes: &[u8]) -> Result<(), AllocError> {
+    stage.put_file(name, bytes)?;
+    stage.fail(Failing::Begin(name), 0)?;
+    stage.fail(Failing::Add(name, 0), 0)
+}
+
+fn put_changed(
     alloc: Global,
-    shelf: &mut MemShelf,
+    stage: &mut Stage,
     name: &str,
     file: &[u8],
     bytes: &[(&str, usize, u8)],
 ) -> Result<(), AllocError> {
     let all = changed(alloc, file, name, bytes)?;
-    shelf.put_file(name, &all)?;
-    shelf.fail_at(Call::Begin, name, 1, 0)?;
-    shelf.fail_at(Call::Add, name, 1, 0)
+    put_kept(stage, name, &all)
 }
 
-fn files(alloc: Global, of: &Verdict) -> Result<MemShelf, AllocError> {
-    let mut shelf = MemShelf::new(alloc);
-    put_file(alloc, &mut shelf, "s", of.sample, of.bytes)?;
-    put_file(alloc, &mut shelf, "o", of.picture, of.bytes)?;
-    put_file(alloc, &mut shelf, "m", of.map, of.bytes)?;
-    put_file(alloc, &mut shelf, "r", of.record, of.bytes)?;
-    Ok(shelf)
+fn put_all(alloc: Global, stage: &mut Stage, of: &Verdict) -> Result<(), AllocError> {
+    let files = [
+        ("s", of.sample),
+        ("o", of.picture),
+        ("m", of.map),
+        ("r", of.record),
+    ];
+    for (name, file) in files {
+        put_changed(alloc, stage, name, file, of.bytes)?;
+    }
+    Ok(())
+}
+
+// Checks the files of a stage by these words, and says whether all is as it is to be.
+fn is_judged_on(
+    alloc: Global,
+    stage: &mut Stage,
+    words: &str,
+    of: &Verdict,
+) -> Result<bool, AllocError> {
+    put_all(alloc, stage, of)?;
+    let is_ended = stage.ends(words, of.status, of.report, of.line)?;
+    Ok(is_ended && stage.write_faults() == 0)
 }
 
 // Checks the files by these words, and says whether status, report and line are these, and no file is written.
 fn is_judged_by(alloc: Global, words: &str, of: &Verdict) -> Result<bool, AllocError> {
-    let mut shelf = files(alloc, of)?;
-    let mut out = MemSink::new(alloc);
-    let mut err = MemSink::new(alloc);
-    let status = ran(alloc, words, &mut shelf, &mut out, &mut err)?;
-    let said = out.bytes() == of.report.as_bytes() && err.bytes() == of.line.as_bytes();
-    Ok(status == of.status && said && shelf.write_faults() == 0)
+    let mut stage = Stage::new(alloc);
+    is_judged_on(alloc, &mut stage, words, of)
 }
 
 /// Checks the files, and says whether status, report and line are these, and no file is written.
@@ -92,4 +107,50 @@ pub fn wrong_verdict_by(
 /// The number of the first files, from 0, of which something else is said.
 pub fn wrong_verdict(alloc: Global, table: &[Verdict]) -> Result<Option<usize>, AllocError> {
     wrong_verdict_by(alloc, FILES, table)
+}
+
+// Checks a map of which there are so many first bytes: it is refused at their end.
+fn is_map_cut(alloc: Global, of: &Verdict, n: usize) -> Result<bool, AllocError> {
+    let line = format!(in alloc; "weave: map: form at {n}\n")?;
+    let cut = Verdict {
+        map: of.map.get(..n).unwrap_or(b""),
+        status: 3,
+        report: "",
+        line: line.as_str(),
+        ..*of
+    };
+    is_judged(alloc, &cut)
+}
+
+/// The least number of first bytes of the map that aren't refused at their end.
+pub fn wrong_map_cut(alloc: Global, of: &Verdict) -> Result<Option<usize>, AllocError> {
+    for n in 0..of.map.len() {
+        if !is_map_cut(alloc, of, n)? {
+            return Ok(Some(n));
+        }
+    }
+    Ok(None)
+}
+
+// The same of a record.
+fn is_record_cut(alloc: Global, of: &Verdict, n: usize) -> Result<bool, AllocError> {
+    let line = format!(in alloc; "weave: record: form at {n}\n")?;
+    let cut = Verdict {
+        record: of.record.get(..n).unwrap_or(b""),
+        status: 3,
+        report: "",
+        line: line.as_str(),
+        ..*of
+    };
+    is_judged(alloc, &cut)
+}
+
+/// The least number of first bytes of the record that aren't refused at their end.
+pub fn wrong_record_cut(alloc: Global, of: &Verdict) -> Result<Option<usize>, AllocError> {
+    for n in 0..of.record.len() {
+        if !is_record_cut(alloc, of, n)? {
+            return Ok(Some(n));
+        }
+    }
+    Ok(None)
 }

@@ -10,7 +10,7 @@ mod lines;
 #[cfg(test)]
 mod looped;
 #[cfg(test)]
-mod quilted;
+mod quilting;
 #[cfg(test)]
 mod standing;
 #[cfg(test)]

@@ -29,7 +29,7 @@ mod merged;
 #[cfg(test)]
 mod merging;
 #[cfg(test)]
-mod quilted;
+mod quilting;
 #[cfg(test)]
 mod refused;
 #[cfg(test)]

@@ -21,7 +21,6 @@ use Rattle.grown.specs.declared.plan.GrowPlan.{GrowPlan}
 use Rattle.grow_run.specs.declared.steps.Work.{Work}
 use Rattle.grown.specs.Grown.{ComesNext, GrowsBy, IsRun, PassesAt, draws_left, first_growth, rounds_made}
 use Rattle.grow_run.specs.Work.{IsWork, growth_of}
-
 use Rattle.grown.proofs.Stepping.{leads_more}
 
 -- a placement that is put in is one step more

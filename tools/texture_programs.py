@@ -17,8 +17,9 @@ class Stop(Exception):
 
 
 def run(words, data=None, what="it", folder=None):
-    """The standard output of a converter, which has to end well. What it complains about all the same is passed on."""
-    done = subprocess.run(words, input=data, cwd=folder, stdout=subprocess.PIPE, stderr=subprocess.PIPE)
+    """The standard output of a converter, which has to end well. What it complains about all the same is passed on. It is never
+    left the standard input of texture, which ffmpeg would read as keys."""
+    done = subprocess.run(words, input=data or b"", cwd=folder, stdout=subprocess.PIPE, stderr=subprocess.PIPE)
     program = os.path.basename(words[0])
     said = re.sub(f"^{re.escape(program)}: | `.*", "", done.stderr.decode(errors="replace").strip().partition("\n")[0])
     if done.returncode:

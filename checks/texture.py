@@ -21,7 +21,7 @@ import time
 
 from beside import EXAMPLES, TOOLS
 from texture_forms import as_pam, read_pam
-from texture_keys import closing_keys, shared_cells
+from texture_keys import box_for, closing_keys, shared_cells
 from texture_png import png, read_png
 from texture_programs import Stop
 
@@ -138,6 +138,7 @@ def try_forms(folder, chance):
     for name, words in CLIPS.items():
         made("ffmpeg", "-v", "error", "-i", LIFE, *words, os.path.join(folder, name))
         changes += try_result(["grow", name, "more_" + name, "60x40x6"], folder, chance)
+        run("grow", name, "longer_" + name, "20x20x40", cwd=folder, says="chosen: box=8 overlap=3")
         changes += try_result(["loop", name, "loop_" + name, "12"], folder, chance)
     changes += try_result(["loop", "a.mp4", "short.gif", "8", "--frames", "2-11", "--crop", "60x40+3+5", "--scale", "30x20"],
                           folder, chance)
@@ -180,6 +181,8 @@ def try_tiles(folder, chance):
         try_patches(folder, chance)
     closed = [closing_keys(chance.randint(40, 300), [chance.randint(300, 1024)] * 2, {}) for _ in range(50)]
     assert all(box <= 3 * overlap <= 3 * (box // 2) for box, overlap in closed), closed
+    boxes = [box_for(shortest) for shortest in (1, 96, 192, 256, 384, 512, 1024)]
+    assert boxes == [1, 48, 96, 96, 96, 128, 256], boxes
     print(f"tiles: {changes} changed bytes were seen, and patches are as many as it counts on")
 
 
@@ -198,6 +201,9 @@ def try_transfers(folder, chance):
     made(os.path.join(EXAMPLES, "shots.py"), folder)
     changes = try_result(["transfer", "a.png", "shot1.ppm", "painted.png", "alpha=30"], folder, chance)
     changes += try_result(["transfer", "a.png", "shot2.ppm", "small.png", "80x56", "--tries", "2"], folder, chance)
+    made("convert", "-size", "20x20", "xc:blue", os.path.join(folder, "blue.png"))
+    run("transfer", "a.png", "blue.png", "no_blue.png", cwd=folder, says="bring the target's colours and lights to those")
+    assert "bring the target" not in run("transfer", "a.png", "a.png", "same.png", cwd=folder)
     print(f"transfers: {changes} changed bytes were seen")
 
 

@@ -1,7 +1,7 @@
 """Which keys texture gives to weave: those that docs/MANUAL.md advises for the sizes of the samples, and those of its user."""
 import re
 
-from run_files import KINDS
+from run_files import KINDS, MOST_AXIS
 from texture_programs import Stop
 
 # The keys of each command that its user may choose.
@@ -29,8 +29,14 @@ def number_in(keys, key, default):
     return int(keys[key]) if re.fullmatch(r"\d{1,4}", keys.get(key, "")) else default
 
 
-def shortest_axis(samples):
-    return min(axis for sample in samples for axis in sample.size[:3 if sample.size[2] > 1 else 2])
+def shortest_axis(samples, frames=1):
+    """The shortest axis of samples. Time is one where patches are laid one after another: of fewer frames than are asked for."""
+    return min(axis for sample in samples for axis in sample.size[:3 if sample.size[2] < frames else 2])
+
+
+def box_for(shortest):
+    """The box that suits samples whose shortest axis is this: half of it; of large samples a quarter, but no less than 96."""
+    return max(min(shortest // 2, 96), shortest // 4, 1)
 
 
 def box_for(shortest):
@@ -60,7 +66,8 @@ def chosen_keys(command, samples, sizes, given, target=None):
     """The keys that are chosen where the user has given none."""
     if command in ("loop", "merge"):
         return {}
-    shortest = shortest_axis(samples)
+    frames = MOST_AXIS if command == "tile" and "f" in given.get("wrap", "") else int(sizes.get("frames", 1))
+    shortest = shortest_axis(samples, frames)
     if command == "transfer":
         block = number_in(given, "block", max(min(shortest_axis([target]) // 20, shortest), 4))
         advised = {"block": block, "overlap": block // 3}

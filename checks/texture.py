@@ -138,7 +138,7 @@ def try_forms(folder, chance):
     for name, words in CLIPS.items():
         made("ffmpeg", "-v", "error", "-i", LIFE, *words, os.path.join(folder, name))
         changes += try_result(["grow", name, "more_" + name, "60x40x6"], folder, chance)
-        run("grow", name, "longer_" + name, "20x20x40", cwd=folder, says="chosen: box=8 overlap=3")
+        run("grow", name, "longer_" + name, "20x20x40", cwd=folder, says="chosen: box=10 overlap=4")
         changes += try_result(["loop", name, "loop_" + name, "12"], folder, chance)
     changes += try_result(["loop", "a.mp4", "short.gif", "8", "--frames", "2-11", "--crop", "60x40+3+5", "--scale", "30x20"],
                           folder, chance)
@@ -179,7 +179,7 @@ def try_tiles(folder, chance):
     changes += try_result(["tile", "a.mp4", "cyclic.mp4", "48x40x9", "wrap=xyf", "--tries", "2"], folder, chance, redrawn)
     for _ in range(12):
         try_patches(folder, chance)
-    closed = [closing_keys(chance.randint(40, 300), [chance.randint(300, 1024)] * 2, {}) for _ in range(50)]
+    closed = [closing_keys(chance.randint(20, 150), [chance.randint(300, 1024)] * 2, {}) for _ in range(50)]
     assert all(box <= 3 * overlap <= 3 * (box // 2) for box, overlap in closed), closed
     boxes = [box_for(shortest) for shortest in (1, 96, 192, 256, 384, 512, 1024)]
     assert boxes == [1, 48, 96, 96, 96, 128, 256], boxes

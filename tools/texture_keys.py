@@ -1,7 +1,7 @@
 """Which keys texture gives to weave: those that docs/MANUAL.md advises for the sizes of the samples, and those of its user."""
 import re
 
-from run_files import KINDS, MOST_AXIS
+from run_files import KINDS
 from texture_programs import Stop
 
 # The keys of each command that its user may choose.
@@ -29,19 +29,22 @@ def number_in(keys, key, default):
     return int(keys[key]) if re.fullmatch(r"\d{1,4}", keys.get(key, "")) else default
 
 
-def shortest_axis(samples, frames=1):
-    """The shortest axis of samples. Time is one where patches are laid one after another: of fewer frames than are asked for."""
-    return min(axis for sample in samples for axis in sample.size[:3 if sample.size[2] < frames else 2])
+def shortest_side(samples):
+    return min(axis for sample in samples for axis in sample.size[:2])
 
 
 def box_for(shortest):
-    """The box that suits samples whose shortest axis is this: half of it; of large samples a quarter, but no less than 96."""
+    """The box that suits pictures whose shorter side is this: half of it; of large ones a quarter, but no less than 96."""
     return max(min(shortest // 2, 96), shortest // 4, 1)
 
 
-def box_for(shortest):
-    """The box that suits samples whose shortest axis is this: half of it; of large samples a quarter, but no less than 96."""
-    return max(min(shortest // 2, 96), shortest // 4, 1)
+def box_of_clips(samples, lengths, wrap):
+    """The box that suits clips: two thirds of the shortest axis on which patches lie side by side, since the output is longer or
+    its edges meet; or more, where that lets one patch fill another axis and leaves a quarter of the sample to choose from."""
+    axes = [(sample.size[i], lengths[i], name in wrap) for sample in samples for i, name in enumerate(AXES)]
+    shortest = min([size for size, length, meets in axes if meets or size < length] or [size for size, _, _ in axes])
+    filled = [length for size, length, meets in axes if not meets and length <= size and 4 * length <= 3 * shortest]
+    return max([2 * shortest // 3, *filled, 1])
 
 
 def size_keys(command, text, sample):
@@ -66,27 +69,32 @@ def chosen_keys(command, samples, sizes, given, target=None):
     """The keys that are chosen where the user has given none."""
     if command in ("loop", "merge"):
         return {}
-    frames = MOST_AXIS if command == "tile" and "f" in given.get("wrap", "") else int(sizes.get("frames", 1))
-    shortest = shortest_axis(samples, frames)
+    box = box_for(shortest_side(samples))
+    if samples[0].form[0] == "clip":
+        box = box_of_clips(samples, lengths_of(sizes), given.get("wrap", "xy") if command == "tile" else "")
     if command == "transfer":
-        block = number_in(given, "block", max(min(shortest_axis([target]) // 20, shortest), 4))
+        block = number_in(given, "block", max(min(shortest_side([target]) // 20, shortest_side(samples)), 4))
         advised = {"block": block, "overlap": block // 3}
     elif command == "quilt":
-        block = number_in(given, "block", max(8 * box_for(shortest) // 9, 1))
+        block = number_in(given, "block", max(8 * box // 9, 1))
         advised = {"block": block, "overlap": 2 * block // 7, "tol": 5}
     elif command == "tile":
-        box, overlap = closing_keys(shortest, wrapped_sizes(sizes, given), given)
+        box, overlap = closing_keys(box, wrapped_sizes(sizes, given), given)
         advised = {"box": box, "overlap": overlap}
     else:
-        box = number_in(given, "box", box_for(shortest))
+        box = number_in(given, "box", box)
         advised = {"box": box, "overlap": 2 * box // 5, "rounds": 10}
     return {key: str(value) for key, value in advised.items() if key not in given}
 
 
+def lengths_of(sizes):
+    """The cells of the output on each axis."""
+    return [int(sizes[key]) for key in ("width", "height")] + [int(sizes.get("frames", 1))]
+
+
 def wrapped_sizes(sizes, given):
     """The cells of each axis on which the edges of a tile meet."""
-    lengths = dict(zip(AXES, (int(sizes["width"]), int(sizes["height"]), int(sizes.get("frames", 1)))))
-    return [lengths[axis] for axis in given.get("wrap", "xy") if axis in AXES]
+    return [length for name, length in zip(AXES, lengths_of(sizes)) if name in given.get("wrap", "xy")]
 
 
 def shared_cells(size, box, overlap):
@@ -101,9 +109,9 @@ def misses(sizes, box, overlap):
     return max((abs(shared_cells(size, box, overlap) - overlap) / max(overlap, 1) for size in sizes), default=0)
 
 
-def closing_keys(shortest, sizes, given):
-    """A box and an overlap with which a tile of these sizes closes: near those of `grow`."""
-    most = number_in(given, "box", box_for(shortest))
+def closing_keys(box, sizes, given):
+    """A box and an overlap with which a tile of these sizes closes: near those of `grow`, whose box is given."""
+    most = number_in(given, "box", box)
     boxes = [most] if "box" in given else range(max(3 * most // 4, 1), most + 1)
     pairs = [(box, overlap) for box in boxes for overlap in overlaps_of(box, given)]
     return min(pairs, key=lambda pair: (max(misses(sizes, *pair) - .2, 0), most - pair[0], abs(pair[1] - 2 * pair[0] // 5)))

@@ -23,14 +23,14 @@ fn an_output_above_the_bound(rt: HostRuntime) {
 }
 
 // Whether a run over a sample leaves these files and this report.
-fn leaves(
+fn leaves<'a>(
     alloc: Global,
-    words: &str,
-    report: &str,
-    sample: &[u8],
-    picture: &[u8],
-    map: &[u8],
-    record: &[u8],
+    words: &'a str,
+    report: &'a str,
+    sample: &'a [u8],
+    picture: &'a [u8],
+    map: &'a [u8],
+    record: &'a [u8],
 ) -> Result<bool, AllocError> {
     let case = Case {
         words,

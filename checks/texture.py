@@ -236,7 +236,7 @@ except SystemExit:
 
 def say_times(folder):
     """The processor time that texture takes itself, without weave and the conversion."""
-    large = os.path.join(folder, "large.png")
+    large = os.path.join(folder, "longer.png")
     run("grow", os.path.join(folder, "a.png"), large, "512x512", "place=random", "rounds=0")
     words = ["grow", large, os.path.join(folder, "timed.png"), "1024x1024", "box=32", "overlap=8", "rounds=0"]
     said = sh(sys.executable, "-c", ITSELF, TEXTURE, *words)

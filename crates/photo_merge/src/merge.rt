@@ -3,7 +3,7 @@ ghost use Rattle.std.specs.Prelude.{◌≡◌, ◌≤◌, IfOk, IfSome, length};
 ghost use Rattle.cells.specs.Cells.{sizes_of};
 ghost use Rattle.map_canvas.specs.Canvases.{IsCanvas, StandsOver};
 ghost use Rattle.map_canvas.specs.Choices.{Fits};
-ghost use Rattle.map_canvas.specs.Maps.{IsFull, IsSource};
+ghost use Rattle.map_canvas.specs.Maps.{IsFull, IsOver, IsSource, SourceMap};
 ghost use Rattle.photo_merge.specs.Merges.{AreOneSize, IsMerge, MergesNext, first_map, source_without, whole_from, without};
 
 use crate::marks::{earlier_marks, mark_at};
@@ -55,6 +55,18 @@ fn without(alloc: Global, map: &Map, marks: &Volume, number: u32) -> Result<Map,
     Ok(Map::from_sources(size, sources))
 }
 
+// The same of the map of a canvas, which is given back.
+fn map_without(
+    alloc: Global,
+    canvas: Canvas,
+    marks: &Volume,
+    number: u32,
+) -> Result<Map, AllocError>
+    ensures { IfOk result (λ m. m ≡ without canvas.map marks.now number) }
+{
+    without(alloc, canvas.map(), marks, number)
+}
+
 // The whole output, laid from the same place of a picture.
 fn whole_from(pictures: &Volume, number: u32, size: Size) -> Placement
     requires one_size { AreOneSize pictures.now }
@@ -71,6 +83,34 @@ fn whole_from(pictures: &Volume, number: u32, size: Size) -> Placement
         rect: Box3 { corner, size },
         from: pictures.sizes().stock(number, corner),
     }
+}
+
+// Lays a picture over a map that was full before the cells marked with the picture were taken out.
+fn lay(
+    alloc: Global,
+    map: Map,
+    pictures: &Volume,
+    marks: &Volume,
+    number: u32,
+) -> Result<Canvas, AllocError>
+    requires one_size { AreOneSize pictures.now }
+    requires size { map.size ≡ pictures.now.size }
+    requires before { (m : SourceMap) × IsFull m × (map ≡ without m marks.now number) }
+    requires over { IsOver map pictures.now }
+    requires from { 2 ≤ number }
+    requires to { number ≤ length (sizes_of pictures.now) }
+    ensures next { IfOk result (λ next. (m : SourceMap) → map ≡ without m marks.now number
+        → MergesNext pictures.now marks.now number m next.map) }
+    ensures full { IfOk result (λ next. IsFull next.map) }
+    ensures stands { IfOk result (λ next. StandsOver next pictures.now) }
+    ensures canvas { IfOk result IsCanvas }
+{
+    let size = map.size();
+    let mut next = Canvas::of_map(alloc, map, pictures)?;
+    let held = earlier_marks(alloc, marks, size, number)?;
+    let placement = whole_from(pictures, number, size);
+    place_held(alloc, &mut next, pictures, placement, Some(&held))?;
+    Ok(next)
 }
 
 /// Lays one more picture, the one of a number from 2 on, over the whole output. The cells marked with it come
@@ -96,13 +136,8 @@ pub fn merge_step(
     ensures stands { IfOk result (λ next. StandsOver next pictures.now) }
     ensures canvas { IfOk result IsCanvas }
 {
-    let size = canvas.map().size();
     let map = without(alloc, canvas.map(), marks, number)?;
-    let mut next = Canvas::of_map(alloc, map, pictures)?;
-    let held = earlier_marks(alloc, marks, size, number)?;
-    let placement = whole_from(pictures, number, size);
-    place_held(alloc, &mut next, pictures, placement, Some(&held))?;
-    Ok(next)
+    lay(alloc, map, pictures, marks, number)
 }
 
 /// Merges pictures of one size: begins with the first, and lays one after another over it. The one error is out
@@ -119,7 +154,9 @@ pub fn merge_canvas(alloc: Global, pictures: &Volume, marks: &Volume) -> Result<
     let map = first_map(alloc, pictures)?;
     let mut canvas = Canvas::of_map(alloc, map, pictures)?;
     for number in 2..pictures.sizes().len() + 1 {
-        canvas = merge_step(alloc, &canvas, pictures, marks, number)?;
+        // No canvas but the next one takes memory while its network is solved.
+        let rest = map_without(alloc, canvas, marks, number)?;
+        canvas = lay(alloc, rest, pictures, marks, number)?;
     }
     Ok(canvas)
 }

@@ -1,6 +1,6 @@
 -- The state of the solver: level graphs, after Dinic, "Algorithm for solution of a problem of
 -- maximum flow in networks with power estimation" (1970).
-use Rattle.std.specs.Prelude.{◌≡◌, ◌<◌, ◌≤◌, ◌+◌, ℕ, List, length, slice_index, nat_lt, count_by}
+use Rattle.std.specs.Prelude.{◌≡◌, ◌<◌, ◌≤◌, ◌+◌, ◌⊎◌, ℕ, List, length, slice_index, nat_lt, count_by}
 use Rattle.max_flow.specs.declared.network.Pipe.{Pipe}
 use Rattle.max_flow.specs.Residual.{arc_count, tail, head, residual}
 
@@ -40,21 +40,25 @@ pub record IsAdmissible (pipes : List Pipe) (backward levels : List ℕ) (arc : 
   pub open_arc : 0 < residual pipes backward arc
   pub rises : level_of levels (head pipes arc) ≡ level_of levels (tail pipes arc) + 1
 
--- a search by breadth: the queue has the nodes with a level, and all arcs of the first `done` of
--- them were tried
-pub record IsSearch (pipes : List Pipe) (nodes source : ℕ) (backward levels queue : List ℕ)
-    (done reached : ℕ) : Type 0 where
+-- how many nodes have a level
+abbrev pub levelled : List ℕ → ℕ
+levelled levels = count_by (λ level. nat_lt 0 level) levels
+
+-- all arcs of a node with residual capacity lead to nodes with a level
+abbrev pub IsTried : List Pipe → List ℕ → List ℕ → ℕ → Type 0
+IsTried pipes backward levels n =
+    (arc : ℕ) → arc < arc_count pipes → tail pipes arc ≡ n → 0 < residual pipes backward arc
+    → 0 < level_of levels (head pipes arc)
+
+-- a search by breadth: nodes with a level wait, and all arcs of the others were tried
+pub record IsSearch (pipes : List Pipe) (nodes source : ℕ) (backward levels waiting : List ℕ)
+    : Type 0 where
   pub levels_sized : length levels ≡ nodes
-  pub queue_sized : length queue ≡ nodes
   pub first : level_of levels source ≡ 1
   pub only : (n : ℕ) → level_of levels n ≡ 1 → n ≡ source
   pub led : (n : ℕ) → 1 < level_of levels n → (arc : ℕ) × LeadsTo pipes backward levels n arc
-  pub counted : count_by (λ level. nat_lt 0 level) levels ≡ reached
-  pub queued : (k : ℕ) → k < reached → (slice_index queue k < nodes)
-      × (0 < level_of levels (slice_index queue k))
-      × (level_of levels (slice_index queue k) ≤ k + 1)
-  pub all_queued : (n : ℕ) → 0 < level_of levels n
-      → (k : ℕ) × (k < reached) × (slice_index queue k ≡ n)
-  pub tried : (k : ℕ) → k < done → (arc : ℕ) → arc < arc_count pipes →
-      tail pipes arc ≡ slice_index queue k
-      → 0 < residual pipes backward arc → 0 < level_of levels (head pipes arc)
+  pub limit : (n : ℕ) → level_of levels n ≤ levelled levels
+  pub waits : (k : ℕ) → k < length waiting → 0 < level_of levels (slice_index waiting k)
+  pub tried : (n : ℕ) → 0 < level_of levels n
+      → ((k : ℕ) × (k < length waiting) × (slice_index waiting k ≡ n))
+      ⊎ IsTried pipes backward levels n

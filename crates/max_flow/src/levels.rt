@@ -1,91 +1,96 @@
 // The levels of a residual network, by a search by breadth from the source.
 
-ghost use Rattle.std.specs.Prelude.{◌≡◌, ◌<◌, ◌≤◌, ◌+◌, ◌↔◌, ℕ, IsTrue, length, slice_index};
+ghost use Rattle.std.specs.Prelude.{◌≡◌, ◌<◌, ◌+◌, ◌∷◌, ◌↔◌, ℕ, IfOk, OnOk, IsTrue, length};
 ghost use Rattle.std.specs.Bool.{OnFalse};
 ghost use Rattle.max_flow.specs.Residual.{arc_count, tail, head, residual, AreResiduals};
-ghost use Rattle.max_flow.specs.Levels.{AreLevels, IsClosed, IsSearch, level_of};
+ghost use Rattle.max_flow.specs.Levels.{AreLevels, IsClosed, IsSearch, level_of, levelled};
 
 use crate::graph::Graph;
+use std::alloc::{AllocError, Global};
+use std::collections::VecDeque;
 
-// Puts the node that an arc enters into the queue, where the arc can carry more and the node has no level
-// yet. Returns how many nodes have a level then.
+// Gives the node that an arc enters a level, and a place among those that wait, where the arc can carry more and
+// the node has no level yet.
 fn try_arc(
     graph: &Graph,
     backward: &[u32],
     levels: &mut [u32],
-    queue: &mut [u32],
-    done: usize,
-    reached: usize,
+    waiting: &mut VecDeque<u32>,
+    node: usize,
     arc: usize,
-) -> usize
+) -> Result<(), AllocError>
     requires residuals { AreResiduals graph.now.pipes.now backward.now }
     requires search { IsSearch graph.now.pipes.now graph.now.nodes graph.now.source backward.now
-        levels.old queue.old done reached }
-    requires node { done < reached }
+        levels.old (node ∷ waiting.old.items) }
     requires arc { arc < arc_count graph.now.pipes.now }
-    requires leaves { tail graph.now.pipes.now arc ≡ slice_index queue.old done }
-    ensures search { IsSearch graph.now.pipes.now graph.now.nodes graph.now.source backward.now
-        levels.new queue.new done result }
-    ensures grows { reached ≤ result }
-    ensures node { slice_index queue.new done ≡ slice_index queue.old done }
-    ensures kept { (n : ℕ) → 0 < level_of levels.old n → 0 < level_of levels.new n }
-    ensures tried { 0 < residual graph.now.pipes.now backward.now arc
-        → 0 < level_of levels.new (head graph.now.pipes.now arc) }
+    requires leaves { tail graph.now.pipes.now arc ≡ node }
+    ensures search { OnOk result (IsSearch graph.now.pipes.now graph.now.nodes graph.now.source
+        backward.now levels.new (node ∷ waiting.new.items)) }
+    ensures waits { OnOk result (levelled levels.new + length waiting.old.items
+        ≡ levelled levels.old + length waiting.new.items) }
+    ensures kept { OnOk result ((n : ℕ) → 0 < level_of levels.old n → 0 < level_of levels.new n) }
+    ensures tried { OnOk result (0 < residual graph.now.pipes.now backward.now arc
+        → 0 < level_of levels.new (head graph.now.pipes.now arc)) }
 {
-    let node = graph.head(arc);
-    if levels[node] > 0 || graph.residual(backward, arc) == 0 {
-        return reached;
+    let next = graph.head(arc);
+    if levels[next] > 0 || graph.residual(backward, arc) == 0 {
+        return Ok(());
     }
-    levels[node] = levels[queue[done] as usize] + 1;
-    queue[reached] = node as u32;
-    reached + 1
+    levels[next] = levels[node] + 1;
+    waiting.push_back(next as u32)?;
+    Ok(())
 }
 
-// Tries all arcs of the node at place `done` of the queue. Returns how many nodes have a level then.
+// Tries all arcs of a node that waits no more.
 fn visit(
     graph: &Graph,
     backward: &[u32],
     levels: &mut [u32],
-    queue: &mut [u32],
-    done: usize,
-    reached: usize,
-) -> usize
+    waiting: &mut VecDeque<u32>,
+    node: usize,
+) -> Result<(), AllocError>
     requires residuals { AreResiduals graph.now.pipes.now backward.now }
     requires search { IsSearch graph.now.pipes.now graph.now.nodes graph.now.source backward.now
-        levels.old queue.old done reached }
-    requires node { done < reached }
-    ensures search { IsSearch graph.now.pipes.now graph.now.nodes graph.now.source backward.now
-        levels.new queue.new (done + 1) result }
-    ensures grows { reached ≤ result }
+        levels.old (node ∷ waiting.old.items) }
+    ensures search { OnOk result (IsSearch graph.now.pipes.now graph.now.nodes graph.now.source
+        backward.now levels.new waiting.new.items) }
+    ensures waits { OnOk result (levelled levels.new + length waiting.old.items
+        ≡ levelled levels.old + length waiting.new.items) }
 {
-    let mut reached = reached;
-    let mut cursor = graph.last[queue[done] as usize] as usize;
+    let mut cursor = graph.last[node] as usize;
     'arcs: while cursor > 0 {
-        reached = try_arc(graph, backward, levels, queue, done, reached, cursor - 1);
+        try_arc(graph, backward, levels, waiting, node, cursor - 1)?;
         cursor = graph.previous[cursor - 1] as usize;
     }
-    reached
+    Ok(())
 }
 
 /// Gives each node that residual arcs reach from the source its level, until the sink has one.
-/// Returns whether it has. If not, no residual arc leads out of the nodes with a level.
-pub fn find_levels(graph: &Graph, backward: &[u32], levels: &mut [u32], queue: &mut [u32]) -> bool
+/// Returns whether it has. If not, no residual arc leads out of the nodes with a level. The one error is out of
+/// memory, which those that wait for their turn take.
+pub fn find_levels(
+    alloc: Global,
+    graph: &Graph,
+    backward: &[u32],
+    levels: &mut [u32],
+) -> Result<bool, AllocError>
     requires residuals { AreResiduals graph.now.pipes.now backward.now }
     requires levels { length levels.old ≡ graph.now.nodes }
-    requires queue { length queue.old ≡ graph.now.nodes }
-    ensures levels { AreLevels graph.now.pipes.now graph.now.nodes graph.now.source backward.now
-        levels.new }
-    ensures reached { IsTrue result ↔ (0 < level_of levels.new graph.now.sink) }
-    ensures closed { OnFalse result (IsClosed graph.now.pipes.now backward.now levels.new) }
+    ensures levels { OnOk result (AreLevels graph.now.pipes.now graph.now.nodes graph.now.source
+        backward.now levels.new) }
+    ensures reached { IfOk result (λ found. IsTrue found ↔ (0 < level_of levels.new graph.now.sink)) }
+    ensures closed { IfOk result (λ found.
+        OnFalse found (IsClosed graph.now.pipes.now backward.now levels.new)) }
 {
     levels.fill(0);
     levels[graph.source] = 1;
-    queue[0] = graph.source as u32;
-    let mut reached = 1;
-    let mut done = 0;
-    'nodes: while done < reached && levels[graph.sink] == 0 {
-        reached = visit(graph, backward, levels, queue, done, reached);
-        done += 1;
+    let mut waiting = VecDeque::new(alloc);
+    waiting.push_back(graph.source as u32)?;
+    'nodes: while levels[graph.sink] == 0 {
+        let Some(node) = waiting.pop_front() else {
+            return Ok(false);
+        };
+        visit(graph, backward, levels, &mut waiting, node as usize)?;
     }
-    levels[graph.sink] > 0
+    Ok(true)
 }

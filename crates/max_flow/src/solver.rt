@@ -72,20 +72,18 @@ fn is_thin(graph: &Graph, levels: &[u32]) -> bool
 
 // Adds blocking flows to a flow of the value `first`, until the sink has no level. Unless it's the last time,
 // it may stop before, since the search comes after it. Returns the value of the flow, and leaves the last
-// levels. `queue` is a table to work in, for a search by breadth and then for a path.
+// levels.
 fn run(
     alloc: Global,
     graph: &Graph,
     backward: &mut [u32],
     levels: &mut [u32],
-    queue: &mut [u32],
     first: u64,
     is_last: bool,
 ) -> Result<u64, AllocError>
     requires carries { Carries graph.now.pipes.now graph.now.source graph.now.sink backward.old
         first }
     requires levels { length levels.old ≡ graph.now.nodes }
-    requires queue { length queue.old ≡ graph.now.nodes }
     ensures carries { IfOk result
         (Carries graph.now.pipes.now graph.now.source graph.now.sink backward.new) }
     ensures levels { OnOk result (AreLevels graph.now.pipes.now graph.now.nodes graph.now.source
@@ -96,13 +94,14 @@ fn run(
 {
     let mut value = first;
     let mut left = PHASES;
-    'phases: while find_levels(graph, backward, levels, queue) {
+    'phases: while find_levels(alloc, graph, backward, levels)? {
         if !is_last && left == 0 && !is_thin(graph, levels) {
             return Ok(value);
         }
         left = left.saturating_sub(1);
         let mut current = vec![in alloc; 0u32; levels.len()]?;
-        value = blocking_flow(graph, backward, levels, &mut current, queue, value);
+        let mut path = vec![in alloc; 0u32; levels.len()]?;
+        value = blocking_flow(graph, backward, levels, &mut current, &mut path, value);
     }
     Ok(value)
 }
@@ -131,7 +130,6 @@ fn run_in(
     let pipes = network.pipes();
     let mut last = vec![in alloc; 0u32; levels.len()]?;
     let mut previous = vec![in alloc; 0u32; 2 * pipes.len()]?;
-    let mut queue = vec![in alloc; 0u32; levels.len()]?;
     link(pipes, &mut last, &mut previous);
     let graph = Graph {
         pipes,
@@ -141,7 +139,7 @@ fn run_in(
         last: &last,
         previous: &previous,
     };
-    let value = run(alloc, &graph, backward, levels, &mut queue, first, is_last)?;
+    let value = run(alloc, &graph, backward, levels, first, is_last)?;
     Ok(value)
 }
 

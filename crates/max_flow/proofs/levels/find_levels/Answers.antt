@@ -1,12 +1,13 @@
-use Rattle.std.proofs.Common.{◌≡◌, List, ℕ, set, arith, subst, sym, ap, ◌∙◌}
+use Rattle.std.proofs.Common.{◌≡◌, ◌++◌, List, ℕ, [], ◌∷◌, set, subst, sym, ap, ◌∙◌}
 use Rattle.max_flow.specs.Levels.{IsSearch}
 use Rattle.max_flow.proofs.Searching.{IsSearch_begins, zeros}
 use Rattle.max_flow.proofs.levels.find_levels.Goals as goal
 
 pub nodes-init : goal.nodes-init
 nodes-init c =
-    let filled : c.fill.new.self ≡ zeros c.args.graph.now.nodes = c.fill.ensures.after (λ y e. e) ∙ ap zeros c.requires.levels in (
-      subst (λ (levels : List ℕ). IsSearch c.args.graph.now.pipes.now c.args.graph.now.nodes c.args.graph.now.source c.args.backward.now (set levels c.args.graph.now.source 1) (set c.args.queue.now 0 c.args.graph.now.source) 0 1)
-          (sym filled) (IsSearch_begins _ _ _ _ _ c.args.graph.now.source_in c.requires.queue),
-      omega arith,
-    )
+    let filled : c.fill.new.self ≡ zeros c.args.graph.now.nodes = c.fill.ensures.after (λ y e. e) ∙ ap zeros c.requires.levels in
+    let items : c.push_back.new.self.items ≡ c.args.graph.now.source ∷ [] =
+    ◌∙◌ {A = List ℕ} c.in_ok-push_back.ensures.items (ap (λ (waiting : List ℕ). waiting ++ c.args.graph.now.source ∷ []) c.new-waiting.ensures.items) in
+    subst (λ (waiting : List ℕ). IsSearch c.args.graph.now.pipes.now c.args.graph.now.nodes c.args.graph.now.source c.args.backward.now (set c.fill.new.self c.args.graph.now.source 1) waiting) (sym items)
+    (subst (λ (levels : List ℕ). IsSearch c.args.graph.now.pipes.now c.args.graph.now.nodes c.args.graph.now.source c.args.backward.now (set levels c.args.graph.now.source 1) (c.args.graph.now.source ∷ []))
+    (sym filled) (IsSearch_begins _ _ _ _ c.args.graph.now.source_in))

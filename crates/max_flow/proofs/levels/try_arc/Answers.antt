@@ -1,22 +1,25 @@
-use Rattle.std.proofs.Common.{arith, rules, slice_index, Fits, w32}
-use Rattle.max_flow.proofs.Searching.{room_for, level_limit, enqueue, enqueue_node}
+use Rattle.std.proofs.Common.{◌≡◌, ◌+◌, ◌∷◌, ◌++◌, [], List, ℕ, arith, rules, set, slice_index, sym, subst, Fits, w32}
+use Rattle.max_flow.specs.Levels.{IsSearch}
+use Rattle.max_flow.proofs.Searching.{enqueue, front_in, front_level, room_for}
 use Rattle.max_flow.proofs.levels.try_arc.Goals as goal
 
-pub bounds-queue-reached : goal.bounds-queue-reached
-bounds-queue-reached c = omega (arith, room_for _ _ _ _ _ _ _ _ c.requires.search c.head-node.result (omega arith) (omega arith), c.requires.search.queue_sized)
+pub offset_bounds-levels-node : goal.offset_bounds-levels-node
+offset_bounds-levels-node c =
+    let nodes_fit : Fits w32 c.args.graph.now.nodes = search rules in
+    omega (arith, nodes_fit, front_in _ _ _ _ _ _ _ c.requires.search)
+
+pub bounds-levels-node : goal.bounds-levels-node
+bounds-levels-node c = omega (arith, front_in _ _ _ _ _ _ _ c.requires.search, c.requires.search.levels_sized)
 
 pub overflow_add-levels : goal.overflow_add-levels
 overflow_add-levels c =
     let nodes_fit : Fits w32 c.args.graph.now.nodes = search rules in
-    omega (
-      arith,
-      nodes_fit,
-      level_limit _ _ _ _ _ _ _ _ c.requires.search (slice_index c.args.queue.now c.args.done),
-      room_for _ _ _ _ _ _ _ _ c.requires.search c.head-node.result (omega arith) (omega arith),
-    )
+    omega (arith, nodes_fit, c.requires.search.limit c.args.node, room_for _ _ _ _ _ _ c.requires.search c.head-next.result (omega arith) (omega arith))
 
 pub returns-clause-search : goal.returns-clause-search
-returns-clause-search c = enqueue _ _ _ _ _ _ _ _ c.requires.search c.args.arc c.head-node.result c.requires.node c.requires.arc c.requires.leaves c.head-node.ensures.value (omega arith) (omega arith) (omega (arith, c.residual.ensures, c.if-residual-eq0.false))
-
-pub returns-clause-node : goal.returns-clause-node
-returns-clause-node c = enqueue_node _ _ _ _ _ _ _ _ c.requires.search c.args.arc c.head-node.result c.requires.node c.requires.arc c.requires.leaves c.head-node.ensures.value (omega arith) (omega arith) (omega (arith, c.residual.ensures, c.if-residual-eq0.false))
+returns-clause-search c =
+    let items : c.push_back.new.self.items ≡ c.args.waiting.now.items ++ c.head-next.result ∷ [] = c.in_ok-push_back.ensures.items in
+    subst (λ (waiting : List ℕ). IsSearch c.args.graph.now.pipes.now c.args.graph.now.nodes c.args.graph.now.source c.args.backward.now
+    (set c.args.levels.now c.head-next.result (slice_index c.args.levels.now c.args.node + 1)) (c.args.node ∷ waiting)) (sym items)
+    (enqueue _ _ _ _ _ _ c.requires.search c.args.arc c.args.node c.head-next.result c.requires.arc c.requires.leaves (front_level _ _ _ _ _ _ _ c.requires.search)
+    c.head-next.ensures.value (omega arith) (omega arith) (omega (arith, c.residual.ensures, c.if-residual-eq0.false)))

@@ -1,6 +1,6 @@
 -- Laws of a file that is being read.
 use Rattle.std.proofs.Common.{◌≡◌, ℕ, ◌+◌, ◌-◌, ◌*◌, ◌≤◌, ◌<◌, List, [], ◌∷◌, ◌++◌, length, take, drop, min, refl, sym, ap, ◌∙◌, subst, arith, add_assoc}
-use Rattle.std.proofs.lemmas.List.{drop-take, drop-drop, length-append, length-take, length-drop, take-take, take_at, append-nil}
+use Rattle.std.proofs.lemmas.List.{drop-take, drop-drop, length-append, length-take, length-take-le, length-drop, take-take, take_at, append-nil}
 use Rattle.std.proofs.lemmas.List.Concat.{flat_map-append}
 use Rattle.std.proofs.Math.Nat.{mul-add, mul-one}
 use Rattle.std.specs.List.{flat_map}
@@ -15,6 +15,10 @@ use Rattle.shelf_core.specs.declared.fault.ReadError.{ReadError}
 use Rattle.shelf_core.specs.declared.fault.ReadError.TheVariants.{ReadFault, Bad, Limit, NoMemory}
 use Rattle.shelf_core.proofs.FileLaws.{rose_later}
 use Rattle.file_bytes.specs.Reading.{Reading, OfFile, IsAhead, Follows, StandsAt, Took, StopsShort, after_serving}
+
+-- how many bytes wait
+pub waiting_count : (start end : ℕ) (buffer : List ℕ) → end ≤ length buffer → length (take (end - start) (drop start buffer)) ≡ end - start
+waiting_count start end buffer le = length-take-le (end - start) (drop start buffer) (omega (arith, length-drop start buffer))
 
 -- what is left of the bytes that wait
 pub left_waits : (start end n : ℕ) (buffer : List ℕ) → n ≤ end - start → take (end - (start + n)) (drop (start + n) buffer) ≡ drop n (take (end - start) (drop start buffer))

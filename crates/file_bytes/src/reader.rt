@@ -162,9 +162,9 @@ impl FileReader {
         Ok(self.serve(into))
     }
 
-    /// Reads as many bytes as the buffer has. Where the file ends before, it answers `Form` at the
-    /// file's length.
-    pub fn take<S: Shelf>(
+    // Reads as many bytes as the buffer has, asking for more as often as it takes.
+    #[inline(never)]
+    fn fill<S: Shelf>(
         &mut self,
         into: &mut [u8],
         shelf: &mut S,
@@ -183,6 +183,30 @@ impl FileReader {
             filled += self.take_some(&mut into[filled..], shelf, name)?;
         }
         Ok(())
+    }
+
+    /// Reads as many bytes as the buffer has. Where the file ends before, it answers `Form` at the
+    /// file's length.
+    pub fn take<S: Shelf>(
+        &mut self,
+        into: &mut [u8],
+        shelf: &mut S,
+        name: &str,
+    ) -> Result<(), ReadError>
+        requires follows { Follows name.now (S.state shelf.old) self.old }
+        requires room { self.old.at + length into.old < 2 ^ 63 }
+        ensures took { OnOk result (Took name.now self.old.at into.new
+            (S.state shelf.new) self.new) }
+        ensures stops { IfErr result (StopsShort name.now (self.old.at + length into.old)
+            (S.state shelf.old) (S.state shelf.new)) }
+        ensures reads { OnlyReadsFile name.now (S.state shelf.old) (S.state shelf.new) }
+    {
+        // Most pieces are short and wait whole.
+        if into.len() <= self.end - self.start {
+            self.serve(into);
+            return Ok(());
+        }
+        self.fill(into, shelf, name)
     }
 
     /// Reads a byte.

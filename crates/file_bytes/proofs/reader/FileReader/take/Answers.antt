@@ -1,25 +1,21 @@
-use Rattle.std.proofs.Common.{◌+◌, ◌-◌, ◌++◌, ◌≤◌, length, take, subst, sym, arith}
-use Rattle.std.proofs.lemmas.List.{length-append}
-use Rattle.file_bytes.specs.Reading.{Took}
-use Rattle.shelf_core.proofs.FileLaws.{only_reads_then}
-use Rattle.file_bytes.proofs.ReadingLaws.{filled_more, filled_within, took_along}
+use Rattle.std.proofs.Common.{◌≡◌, ◌∙◌, ◌-◌, length, take, ap, subst, sym, arith}
+use Rattle.std.proofs.Math.Seq.{take-length}
+use Rattle.file_bytes.specs.Reading.{Reading, Took, after_serving}
+use Rattle.file_bytes.proofs.ReadingLaws.{took_served, waiting_count}
 use Rattle.file_bytes.proofs.reader.FileReader.take.Goals as goal
 
-pub filling-preserved : goal.filling-preserved
-filling-preserved g c =
+pub returns-then-into-self-clause-took : goal.returns-then-into-self-clause-took
+returns-then-into-self-clause-took g c =
     let state = g.S.Shelf.state in
     let name = c.args.name.now in
-    let at = c.args.self.now.at in
-    let filled = c.filling.filled in
-    let n = c.in_ok-filled.field-0 in
-    let part = c.take_some.new.into in
-    let some = (c.in_ok-filled.ensures {u = tt}) in
-    let le : n ≤ length part = omega (arith, some.count.1, c.take_some.auto.into) in
-    let all = filled_more c.filling.into part filled (length c.filling.into - filled) n c.filling.invariant.within le in
-    record {
-      within = filled_within c.filling.into part filled (length c.filling.into - filled) n c.filling.invariant.within le;
-      took = subst (λ piece. Took name at piece (state c.take_some.new.shelf) c.take_some.new.self) (sym all)
-          (took_along name at (take filled c.filling.into) (take n part) (state c.filling.shelf) (state c.take_some.new.shelf) c.filling.self c.take_some.new.self
-          some.reads c.filling.invariant.took some.took);
-      reads = only_reads_then (state c.args.shelf.now) (state c.filling.shelf) (state c.take_some.new.shelf) c.filling.invariant.reads some.reads;
-    }
+    let now = state c.args.shelf.now in
+    let r : Reading = c.args.self.now in
+    let n = c.serve.result in
+    let into = c.serve.new.into in
+    let inside = c.self.inside in
+    let waits : length r.waiting ≡ inside.end - inside.start = ap (λ (r : Reading). length r.waiting) (sym c.self.view_is)
+    ∙ waiting_count inside.start inside.end inside.buffer (omega (arith, c.self.told, c.self.invariant.1)) in
+    let all : n ≡ length into = omega (arith, c.serve.ensures.count, waits, c.if-into-self.true, c.serve.auto.into) in
+    subst (λ (after : Reading). Took name r.at into now after) (sym c.serve.ensures.left)
+    (subst (λ piece. Took name r.at piece now (after_serving r n)) (ap (λ k. take k into) all ∙ take-length into)
+    (took_served name now r n c.args.into.now into c.serve.ensures.count c.serve.ensures.into c.requires.follows))

@@ -1,7 +1,7 @@
 use Rattle.std.proofs.Common.{◌-◌, ◌≤◌, length, take}
 use Rattle.shelf_core.specs.Files.{OnlyReadsFile}
 use Rattle.file_bytes.specs.Reading.{Took}
-use Rattle.file_bytes.proofs.reader.FileReader.take.Given as goal
+use Rattle.file_bytes.proofs.reader.FileReader.fill.Given as goal
 
 abbrev pub invariant-filling : goal.invariant-filling
 invariant-filling g l = record {

@@ -1,6 +1,7 @@
 pub mod Sizes
 pub mod Searching
 pub mod RunLaws
+pub mod SameMaps
 pub mod CutFaults
 pub mod FirstBroken
 pub mod LoopFaults

@@ -1,12 +1,13 @@
 -- Runs of cells with the same bytes, the sources of a row in a frame map, and the rows of a picture.
 use Rattle.std.proofs.Common.{◌≡◌, ℕ, ◌+◌, ◌-◌, ◌*◌, ◌%◌, ◌<◌, ◌≤◌, List, [], length, get_or, take, drop, refl, ap, sym, ◌∙◌, subst, arith, get_or-take, get_or-drop, ⊎_elim}
-use Rattle.std.specs.Prelude.{ℤ, pos, negsuc, ◌+ℤ◌, Option, Some, None, All, IsSome, option_map, unwrap_or}
+use Rattle.std.specs.Prelude.{ℤ, pos, negsuc, ◌+ℤ◌, ◌≤ℤ◌, Option, Some, None, All, IsSome, option_map, unwrap_or}
 use Rattle.std.specs.List.{concat}
 use Rattle.std.proofs.lemmas.Bool.{cases_lt}
 use Rattle.std.proofs.lemmas.Int.{ints}
 use Rattle.std.proofs.Math.Nat.{mul-le-mul_left, mul-mod_right}
 use Rattle.std.proofs.lemmas.List.{length-drop, length-take-le}
 use Rattle.std.proofs.lemmas.List.Elements.{All-take, All-drop}
+use Rattle.limits.specs.declared.bounds.TheConstants.{GREATEST_AXIS}
 use Rattle.cells.specs.declared.place.At.{At}
 use Rattle.cells.specs.declared.place.Size.{Size}
 use Rattle.cells.specs.Cells.{Cells, HasRun, Holds, IsCell, IsInsideOf, IsVolume, cell_at, cells_of, index_of, row_at, run_from}
@@ -17,7 +18,8 @@ use Rattle.cells.proofs.Raster.{has_index}
 use Rattle.cells.proofs.Rows.{cells_of-concat}
 use Rattle.cells.proofs.Steps.{place_along}
 use Rattle.source_map.specs.MapFiles.{frame_entry, frame_source}
-use Rattle.standing_files.specs.Steps.{IsRunSame}
+use Rattle.standing_files.specs.Standing.{IsCopied}
+use Rattle.standing_files.specs.Steps.{IsRunCopied, IsRunSame}
 
 module _ (v : Cells) (is : IsVolume v) (p : At) (w : ℕ) (run : HasRun v p w) where
   abbrev pub first : ℕ
@@ -94,3 +96,30 @@ pub row_ends : (size : Size) (row : ℕ) → row < size.h * size.f → size.w * 
 row_ends size row lt =
     let more : size.w * (row + 1) ≡ size.w * row + size.w = grind arith in
     omega (arith, more, mul-le-mul_left size.w (let le : row + 1 ≤ size.h * size.f = omega (arith, lt) in le))
+
+-- the column of a place in a volume
+pub near_place : (p : At) (size : Size) (i : ℕ) → p ≡ place_of size i → (1 ≤ size.w) × (size.w ≤ GREATEST_AXIS) → p.x ≤ℤ pos GREATEST_AXIS
+near_place p size i same w =
+    let x : p.x ≡ pos (i % size.w) = λ k. (same k).x in
+    let below : i % size.w < size.w = omega (arith, w.0) in
+    omega (arith, ints, x, below, w.1)
+
+-- one run after another
+pub run_more : (samples picture : Cells) (source : At → Option At) (p : At) (done n : ℕ) → IsRunCopied samples picture source p done → IsRunCopied samples picture source (plus p (spot done 0 0)) n
+    → IsRunCopied samples picture source p (done + n)
+run_more samples picture source p done n before here k lt =
+    ⊎_elim (before k)
+    (λ from.
+    let j = k - done in
+    let less : j < n = omega arith in
+    subst (λ (q : At). IsCopied samples picture (source q) q) (steps_along p j k (omega arith)) (here j less))
+    (cases_lt k done)
+  where
+    steps_along : (p : At) (j k : ℕ) → done + j ≡ k → plus (plus p (spot done 0 0)) (spot j 0 0) ≡ plus p (spot k 0 0)
+    steps_along p j k at = λ i. record { x = further p.x at i; y = still p.y i; f = still p.f i }
+      where
+        further : (z : ℤ) → done + j ≡ k → (z +ℤ pos done) +ℤ pos j ≡ z +ℤ pos k
+        further z at = omega (arith, ints, at)
+
+        still : (z : ℤ) → (z +ℤ pos 0) +ℤ pos 0 ≡ z +ℤ pos 0
+        still z = omega (arith, ints)

@@ -1,6 +1,6 @@
 -- The words of private functions: what one search finds, and what is judged of the records alone.
 -- (Own.)
-use Rattle.std.specs.Prelude.{◌≡◌, ◌⊎◌, ◌<◌, ℕ, List, length, Option, Some, None}
+use Rattle.std.specs.Prelude.{◌≡◌, ◌⊎◌, ◌<◌, ℕ, List, length, slice_get, Option, Some, None}
 use Rattle.cells.specs.declared.place.At.{At}
 use Rattle.cells.specs.Cells.{Cells, cell_at, sizes_of}
 use Rattle.cells.specs.Places.{cell_count, plus, spot}
@@ -29,6 +29,23 @@ IsRunSame samples picture from p w = (j : ℕ) → j < w →
 abbrev pub IsRunCopied : Cells → Cells → (At → Option At) → At → ℕ → Type 0
 IsRunCopied samples picture source p w = (j : ℕ) → j < w →
     IsCopied samples picture (source (plus p (spot j 0 0))) (plus p (spot j 0 0))
+
+-- two entries have one source
+pub record AreOneSource (left source : Option At) : Type 0 where
+  pub from : At
+  pub left_is : left ≡ Some from
+  pub is : source ≡ Some from
+
+-- two lists have one source at an index
+pub record HaveOneEntry (left sources : List (Option At)) (i : ℕ) : Type 0 where
+  pub from : At
+  pub left_is : slice_get left i ≡ Some (Some from)
+  pub is : slice_get sources i ≡ Some (Some from)
+
+-- the sources of so many cells from one on follow one another
+abbrev pub IsRunFrom : (At → Option At) → At → At → ℕ → Type 0
+IsRunFrom source p from n = (j : ℕ) → j < n →
+    source (plus p (spot j 0 0)) ≡ Some (plus from (spot j 0 0))
 
 -- what the records ask for of files that go together
 pub record Suit (samples : Samples) (map_file : MapFile) (record_file : RecordFile) : Type 0 where

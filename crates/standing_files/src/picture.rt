@@ -1,13 +1,17 @@
 // Whether the out picture is that of the map file.
-ghost use Rattle.std.specs.Prelude.{◌≡◌, ◌≤◌, ◌<◌, ◌+◌, ◌*◌, ◌↔◌, ◌∷◌, [], IfNone, IfSome, IsTrue};
+ghost use Rattle.std.specs.Prelude.{◌≡◌, ◌≤◌, ◌<◌, ◌+◌, ◌*◌, ◌≤ℤ◌, ◌↔◌, ◌∷◌, [], IfNone, IfSome, IsTrue, Some, pos};
 ghost use Rattle.cells.specs.Cells.{sizes_of};
-ghost use Rattle.cells.specs.Places.{cell_count};
+ghost use Rattle.limits.specs.declared.bounds.TheConstants.{GREATEST_AXIS};
+ghost use Rattle.cells.specs.Places.{cell_count, plus, spot};
 ghost use Rattle.cells.specs.Firsts.{Each, FirstWithout, IsFirstWithout};
+ghost use Rattle.map_canvas.specs.Maps.{IsSource, map_at};
+ghost use Rattle.map_canvas.specs.declared.map.TheConstants.{GREATEST_COORDINATE};
 ghost use Rattle.source_map.specs.MapFiles.{frame_source};
 ghost use Rattle.standing_files.specs.Standing.{IsCopied, IsCopiedAt, map_output, named_source};
-ghost use Rattle.standing_files.specs.Steps.{IsRunCopied, IsRunSame};
+ghost use Rattle.standing_files.specs.Steps.{IsRunCopied, IsRunFrom, IsRunSame};
 
 use cells::{At, Box3, Size, Volume};
+use map_canvas::Map;
 use source_map::MapFile;
 
 // The source of a cell in a frame map: the same column and row of the frame that the map names.
@@ -72,15 +76,92 @@ fn is_in_frame(samples: &Volume, picture: &Volume, frames: &[u16], p: At, w: u32
     }
 }
 
+// The place so many cells along X from another.
+fn along(p: At, n: u32) -> At
+    requires few { n ≤ GREATEST_AXIS }
+    requires near { p.x ≤ℤ GREATEST_COORDINATE }
+    ensures { result ≡ plus p (spot n 0 0) }
+{
+    p.plus(At {
+        x: n as i32,
+        y: 0,
+        f: 0,
+    })
+}
+
+// Whether the source of a cell so many columns from another is as far from a source.
+fn is_next(map: &Map, p: At, from: At, n: u32) -> bool
+    requires few { n ≤ GREATEST_AXIS }
+    requires near { p.x ≤ℤ GREATEST_COORDINATE }
+    requires source { IsSource from }
+    ensures { IsTrue result → map_at map.now (plus p (spot n 0 0)) ≡ Some (plus from (spot n 0 0)) }
+{
+    map.at(along(p, n)) == Some(along(from, n))
+}
+
+// How many cells from one on have sources that follow one another from a source on, as far as so many.
+fn run_length(map: &Map, p: At, from: At, most: u32) -> u32
+    requires few { most ≤ GREATEST_AXIS }
+    requires near { p.x ≤ℤ GREATEST_COORDINATE }
+    requires source { IsSource from }
+    ensures most { result ≤ most }
+    ensures run { IsRunFrom (map_at map.now) p from result }
+{
+    let mut n = 0;
+    'run: while n < most && is_next(map, p, from, n) {
+        n += 1;
+    }
+    n
+}
+
+// How many cells from one on are known to be copied, as far as so many: those whose sources follow one
+// another. 0 where it isn't known.
+fn copied_run(samples: &Volume, picture: &Volume, map: &Map, p: At, most: u32) -> u32
+    requires few { most ≤ GREATEST_AXIS }
+    requires near { p.x ≤ℤ GREATEST_COORDINATE }
+    ensures most { result ≤ most }
+    ensures copied { IsRunCopied samples.now picture.now (map_at map.now) p result }
+{
+    let Some(from) = map.at(p) else {
+        return 0;
+    };
+    let n = run_length(map, p, from, most);
+    if 0 < n && is_run_same(samples, picture, from, p, n) {
+        n
+    } else {
+        0
+    }
+}
+
+// Whether each cell of a run is known to be copied, where its cells are taken in runs whose sources follow
+// one another.
+fn is_in_runs(samples: &Volume, picture: &Volume, map: &Map, p: At, w: u32) -> bool
+    requires few { w ≤ GREATEST_AXIS }
+    requires near { p.x ≤ℤ pos GREATEST_AXIS }
+    ensures { IsTrue result → IsRunCopied samples.now picture.now (map_at map.now) p w }
+{
+    let mut done = 0;
+    'runs: while done < w {
+        let n = copied_run(samples, picture, map, along(p, done), w - done);
+        if n == 0 {
+            return false;
+        }
+        done += n;
+    }
+    true
+}
+
 // Whether each cell of a run is known to be copied, without a look at each. In a frame map it's one run
-// of the samples.
+// of the samples, in a map of cells so many.
 fn is_run_copied(samples: &Volume, picture: &Volume, map_file: &MapFile, p: At, w: u32) -> bool
     requires some { 1 ≤ w }
+    requires few { w ≤ GREATEST_AXIS }
+    requires near { p.x ≤ℤ pos GREATEST_AXIS }
     ensures { IsTrue result →
         IsRunCopied samples.now picture.now (named_source map_file.now) p w }
 {
     match map_file {
-        MapFile::Cells { .. } => false,
+        MapFile::Cells { map, .. } => is_in_runs(samples, picture, map, p, w),
         MapFile::Frames { frames, .. } => is_in_frame(samples, picture, frames.as_slice(), p, w),
     }
 }

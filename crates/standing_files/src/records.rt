@@ -2,7 +2,7 @@
 ghost use Rattle.std.specs.Prelude.{◌≡◌, ◌≤◌, ◌<◌, ◌*◌, ◌^◌, ◌↔◌, All, IfOk, IfSome, IfNone, IsTrue, length};
 ghost use Rattle.cells.specs.Cells.{IsOnePart};
 ghost use Rattle.cells.specs.Places.{cell_count, place_of};
-ghost use Rattle.cells.specs.Firsts.{FirstWithout};
+ghost use Rattle.cells.specs.Firsts.{Each, FirstWithout};
 ghost use Rattle.cut_replay.specs.Replay.{IsFormed};
 ghost use Rattle.block_check.specs.Blocks.{IsFormedBlock};
 ghost use Rattle.limits.specs.declared.bounds.TheConstants.{MOST_LOOP_FRAMES, MOST_SAMPLE_CELLS};
@@ -10,7 +10,7 @@ ghost use Rattle.loop_walk.specs.Tables.{IsLength, table_count};
 ghost use Rattle.cert_file.specs.RecordFiles.{IsRecordFile};
 ghost use Rattle.sample_files.specs.Several.{AreSoundSamples};
 ghost use Rattle.standing_files.specs.Standing.{HasOneFrame, HasOneSource, walk_costs};
-ghost use Rattle.standing_files.specs.Steps.{JudgesBlocks, JudgesCuts, JudgesRecords, JudgesWalk, Suit, verdict_on_map};
+ghost use Rattle.standing_files.specs.Steps.{AreOneSource, HaveOneEntry, JudgesBlocks, JudgesCuts, JudgesRecords, JudgesWalk, Suit, verdict_on_map};
 
 use crate::verdict::{MAP_RULE, Verdict};
 use block_check::BlockRecord;
@@ -21,7 +21,7 @@ use cut_check::CutRecord;
 use cut_replay::replay_cuts;
 use frame_distance::{distances, filtered};
 use loop_walk::check_loop;
-use map_canvas::{Canvas, Map};
+use map_canvas::{Canvas, Entry, Map};
 use sample_files::Samples;
 use source_map::MapFile;
 use std::alloc::{AllocError, Global};
@@ -36,11 +36,54 @@ fn has_one_source(left: &Map, map: &Map, p: At) -> bool
     }
 }
 
+// Whether two entries have one source.
+fn are_one_source(left: Entry, entry: Entry) -> bool
+    ensures { IsTrue result → AreOneSource left entry }
+{
+    match entry.source() {
+        None => false,
+        Some(from) => left.source() == Some(from),
+    }
+}
+
+// Whether two lists have one source at an index.
+fn has_one_entry(left: &[Entry], entries: &[Entry], i: usize) -> bool
+    ensures { IsTrue result → HaveOneEntry left.now entries.now i }
+{
+    if i >= left.len() || i >= entries.len() {
+        return false;
+    }
+    are_one_source(left[i], entries[i])
+}
+
+// Whether two lists have one source at each index of the second.
+fn have_one_entry_each(left: &[Entry], entries: &[Entry]) -> bool
+    ensures { IsTrue result → Each (length entries.now) (HaveOneEntry left.now entries.now) }
+{
+    for i in 0..entries.len() {
+        if !has_one_entry(left, entries, i) {
+            return false;
+        }
+    }
+    true
+}
+
+// Whether two maps are known to have one source for each cell, without a look at the place of each.
+fn is_known_left(left: &Map, map: &Map) -> bool
+    ensures { IsTrue result → Each (cell_count map.now.size)
+        (λ i. HasOneSource left.now map.now (place_of map.now.size i)) }
+{
+    left.size() == map.size() && have_one_entry_each(left.sources(), map.sources())
+}
+
 // The index of the first cell of a map that is unfilled in what is left, or has another source there.
 fn first_other_source(left: &Map, map: &Map) -> Option<usize>
     ensures { FirstWithout (cell_count map.now.size)
         (λ i. HasOneSource left.now map.now (place_of map.now.size i)) result }
 {
+    if is_known_left(left, map) {
+        return None;
+    }
     let size = map.size();
     for i in 0..size.cells() {
         if !has_one_source(left, map, size.place_at(i)) {

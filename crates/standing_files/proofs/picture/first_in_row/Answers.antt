@@ -1,10 +1,12 @@
-use Rattle.std.proofs.Common.{◌≡◌, ◌<◌, ◌∙◌, ap, subst, arith, below_more}
+use Rattle.std.proofs.Common.{◌≡◌, ◌<◌, ◌≤◌, ◌∙◌, ap, sym, subst, arith, below_more}
 use Rattle.std.specs.Prelude.{Option}
+use Rattle.limits.specs.declared.bounds.TheConstants.{GREATEST_AXIS}
 use Rattle.cells.specs.declared.place.At.{At}
+use Rattle.cells.specs.declared.place.Size.{Size}
 use Rattle.cells.specs.Places.{cell_count, place_of}
 use Rattle.standing_files.specs.Standing.{IsCopied, IsCopiedAt, map_output, named_source}
 use Rattle.standing_files.proofs.Sizes.{first_is}
-use Rattle.standing_files.proofs.RunLaws.{row_ends, row_more}
+use Rattle.standing_files.proofs.RunLaws.{near_place, row_ends, row_more}
 use Rattle.standing_files.proofs.picture.first_in_row.Goals as goal
 
 pub place_at-requires-clause-below : goal.place_at-requires-clause-below
@@ -13,6 +15,14 @@ place_at-requires-clause-below c =
     let same = c.size-size.ensures.size ∙ first_is _ _ _ _ c.requires.one in
     let some = rw (first_is _ _ _ _ c.requires.one) at c.size-size.ensures.volume.small.axes.w in
     rw same (omega (arith, row_ends size c.args.row c.requires.row, some))
+
+pub is_run_copied-requires-clause-few : goal.is_run_copied-requires-clause-few
+is_run_copied-requires-clause-few c = subst (λ (size : Size). size.w ≤ GREATEST_AXIS) (sym c.size-size.ensures.size) c.size-size.ensures.volume.small.axes.w.1
+
+pub is_run_copied-requires-clause-near : goal.is_run_copied-requires-clause-near
+is_run_copied-requires-clause-near c =
+    near_place c.place_at.result c.size-size.result _ c.place_at.ensures
+    (subst (λ (size : Size). (1 ≤ size.w) × (size.w ≤ GREATEST_AXIS)) (sym c.size-size.ensures.size) c.size-size.ensures.volume.small.axes.w)
 
 pub returns-then-is_run_copied-clause-none : goal.returns-then-is_run_copied-clause-none
 returns-then-is_run_copied-clause-none c =

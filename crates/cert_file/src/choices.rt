@@ -28,16 +28,26 @@ fn bits_of_byte(byte: u8) -> [bool; 8]
     ]
 }
 
+// Puts bits after others one by one, and makes room for each. So many of all are missing.
+fn push_each(bits: &mut Vec<bool>, more: &[bool], missing: usize) -> Result<(), AllocError>
+    ensures { OnOk result (bits.new.items ≡ bits.old.items ++ more.now) }
+{
+    for bit in more {
+        make_room(bits, missing)?;
+        bits.push(*bit)?;
+    }
+    Ok(())
+}
+
 // Puts the bits of a byte after others, of which so many are missing.
 fn push_bits(bits: &mut Vec<bool>, byte: u8, missing: usize) -> Result<(), AllocError>
     ensures { OnOk result (bits.new.items ≡ bits.old.items ++ byte_bits byte) }
 {
     let more = bits_of_byte(byte);
-    for bit in &more {
-        make_room(bits, missing)?;
-        bits.push(*bit)?;
+    if bits.capacity() - bits.len() >= more.len() {
+        return bits.extend_from_slice(&more);
     }
-    Ok(())
+    push_each(bits, &more, missing)
 }
 
 // Whether no bit is set.

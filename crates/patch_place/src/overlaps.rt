@@ -16,7 +16,7 @@ use match_error::{FilledRuns, filled_count};
 use search_squares::{BoxLevels, Eliminated, Pauses, SampleSums, Term, eliminate_both};
 use std::alloc::{AllocError, Global};
 
-// How many cells of a box give likely places.
+// How many cells of a box give likely places. After these come the places where blocks are close.
 const HINTS: u32 = 16;
 
 /// The filled cells of one box of a canvas, gathered for the overlap errors of its placements.
@@ -191,12 +191,15 @@ impl BoxErrors for Overlaps<'_> {
     }
 
     fn hints(&self) -> u32 {
-        HINTS
+        self.sums.likely(self.rect.size).saturating_add(HINTS)
     }
 
     fn hint(&self, i: u32) -> Option<At> {
         if i >= HINTS {
-            return None;
+            let number = i - HINTS;
+            return self
+                .levels
+                .likely(self.sums, self.canvas, self.sample, &self.rect, number);
         }
         hint_at(self.canvas, &self.rect, i)
     }

@@ -83,6 +83,14 @@ pub(crate) fn marks(totals: u16x32, most: u16) -> u32
     totals.simd_gt(u16x32::splat(most)).to_bitmask() as u32
 }
 
+/// The first lane that has a total. It only says what to try, so nothing is promised.
+pub(crate) fn first_of(totals: u16x32, total: u16) -> u32 {
+    totals
+        .simd_eq(u16x32::splat(total))
+        .to_bitmask()
+        .trailing_zeros()
+}
+
 // Totals so many times, one a lane, or less where that doesn't fit.
 #[inline(always)]
 fn taken(totals: u16x32, times: u32) -> u32x32

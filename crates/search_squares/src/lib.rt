@@ -13,13 +13,14 @@
 //! of four sizes of blocks, the last of which is a single cell. `BoxLevels::eliminate` gives an `Eliminated`,
 //! a run of places of a part of the sample, which says of each place whether it is ruled out for a limit.
 //! `Eliminated::times` and `Eliminated::or` make such runs of sums of which overlap errors are a part.
-//! `Pauses` keeps for a walk over many runs which sizes are of little use to it.
+//! `Pauses` keeps for a walk over many runs which sizes are of little use to it. `BoxLevels::likely` gives places
+//! to begin with, whose errors may be a first limit.
 //!
 //! `blocks` has the blocks of a box, `order` which of them come first, `sums` the sums of the sample's blocks,
 //! `lanes` the sums over a run of places or of entries at once, `bound` what they rule out, `places` how far a
-//! run goes, `levels` all sizes together, `pauses` when one of them is left out, `eliminated` what a search is
-//! given. specs/Blocks.antt defines blocks and what they bound, specs/Eliminations.antt what a search may leave
-//! out.
+//! run goes, `likely` which places may be close, `levels` all sizes together, `pauses` when one of them is left
+//! out, `eliminated` what a search is given. specs/Blocks.antt defines blocks and what they bound,
+//! specs/Eliminations.antt what a search may leave out.
 #![tactic(auto)]
 
 mod blocks;
@@ -28,6 +29,7 @@ mod eliminated;
 mod joint;
 mod lanes;
 mod levels;
+mod likely;
 mod order;
 mod pauses;
 mod places;

@@ -36,7 +36,7 @@ const FINE_SIDE: u32 = 2;
 const SINGLE_SIDE: u32 = 1;
 
 // The most bytes of a sample that has sums of all levels: a greater one has those of the coarse level and
-// of the fine one, which take half as much memory.
+// of single cells, which take half as much memory. Single cells serve boxes too small for any other block.
 const MOST_BYTES_OF_ALL: usize = 1 << 22;
 
 // The most places of a run for which each level isn't tried: that takes about as long as to sum up so
@@ -126,8 +126,8 @@ impl SampleSums {
         let all = box_of_all(sample, rect);
         self.add_level(alloc, sample, rect, side)?;
         self.add_level(alloc, sample, &all, MIDDLE_SIDE)?;
-        self.add_level(alloc, sample, rect, FINE_SIDE)?;
-        self.add_level(alloc, sample, &all, SINGLE_SIDE)
+        self.add_level(alloc, sample, &all, FINE_SIDE)?;
+        self.add_level(alloc, sample, rect, SINGLE_SIDE)
     }
 
     /// The sums of all parts of a sample. They take 8 bytes a cell, or 4 where the sample has more than

@@ -1,4 +1,4 @@
-// The flow that search trees make of one. Their tables are given back before those of the level graphs are taken.
+// The flow that a search makes of one. Its tables are given back before those of the level graphs are taken.
 
 ghost use Rattle.std.specs.Prelude.{◌≡◌, IfOk, length, map, vec_len};
 ghost use Rattle.max_flow.specs.Residual.{Carries};
@@ -6,14 +6,22 @@ ghost use Rattle.max_flow.specs.Residual.{Carries};
 use crate::checking::flow_left;
 use crate::network::{Network, Pipe};
 use crate::packed::PackedArcs;
+use crate::preflow::Preflow;
 use crate::trees::Trees;
 use crate::triangles::{Stars, may_be_many};
 use std::alloc::{AllocError, Global};
 
-// How many arcs the search trees look at, at most, for each pipe. On networks of images they end below a
-// quarter of it: two pictures of 1024x1024 cells with a stroke of each take up to 1,000. Level graphs that
-// finish in their place take many times as long there, and no less on grids whose capacities are drawn.
+// How many arcs the search trees look at, at most, for each pipe. Level graphs that finish in their place take many
+// times as long on grids whose capacities are drawn.
 const WORK: u64 = 4096;
+
+// So many they look at where an excess goes on. On most networks of images they end below 200. Where they don't,
+// each long path takes many nodes from their parents, and an excess takes less: two textures of 1024x1024 cells,
+// parted across the middle, take the trees 1,500 and an excess 400.
+const TREES: u64 = 256;
+
+// How many arcs an excess looks at, at most, for each pipe.
+const EXCESS: u64 = 4096;
 
 /// Lets nothing flow.
 pub fn empty(pipes: &[Pipe], backward: &mut [u32])
@@ -25,12 +33,30 @@ pub fn empty(pipes: &[Pipe], backward: &mut [u32])
     }
 }
 
-// Sends more flow over arcs with the ends of a network by search trees.
-fn search(alloc: Global, network: &Network, arcs: PackedArcs) -> Result<PackedArcs, AllocError> {
-    let limit = WORK.saturating_mul(arcs.pipes() as u64);
+// Sends more flow over arcs with the ends of a network by search trees, which look at so many arcs for each pipe at
+// most. Says besides whether no more can be sent.
+fn grow_trees(
+    alloc: Global,
+    network: &Network,
+    arcs: PackedArcs,
+    looks: u64,
+) -> Result<(PackedArcs, bool), AllocError> {
+    let limit = looks.saturating_mul(arcs.pipes() as u64);
     let mut trees = Trees::make(alloc, arcs)?;
-    trees.send(network.source(), network.sink(), limit);
-    Ok(trees.into_arcs())
+    let is_greatest = trees.send(network.source(), network.sink(), limit);
+    Ok((trees.into_arcs(), is_greatest))
+}
+
+// Sends more flow over arcs with the ends of a network by an excess.
+fn send_excess(
+    alloc: Global,
+    network: &Network,
+    arcs: PackedArcs,
+) -> Result<PackedArcs, AllocError> {
+    let limit = EXCESS.saturating_mul(arcs.pipes() as u64);
+    let mut preflow = Preflow::make(alloc, arcs)?;
+    preflow.send(network.source(), network.sink(), limit);
+    Ok(preflow.into_arcs())
 }
 
 /// The stars of a network, if they are many.
@@ -48,11 +74,11 @@ pub fn many_stars(alloc: Global, network: &Network) -> Result<Option<Stars>, All
     })
 }
 
-/// Writes what the search leaves for the arc against each pipe, where it goes on from what `backward` has.
+/// Writes what search trees leave for the arc against each pipe, where they go on from what `backward` has.
 pub fn propose(alloc: Global, network: &Network, backward: &mut [u32]) -> Result<(), AllocError> {
     let mut arcs = PackedArcs::pack(alloc, network.nodes() as usize, network.pipes())?;
     arcs.read_backward(backward);
-    let arcs = search(alloc, network, arcs)?;
+    let (arcs, _) = grow_trees(alloc, network, arcs, WORK)?;
     arcs.write_backward(backward);
     Ok(())
 }
@@ -63,6 +89,20 @@ fn short_arcs(alloc: Global, pipes: &[Pipe], stars: &Stars) -> Result<PackedArcs
     PackedArcs::pack(alloc, stars.nodes_of(&short), &short)
 }
 
+// Sends flow over the arcs of a shorter network: by search trees, and by an excess where they give up.
+fn search_short(
+    alloc: Global,
+    network: &Network,
+    arcs: PackedArcs,
+) -> Result<PackedArcs, AllocError> {
+    let (arcs, is_greatest) = grow_trees(alloc, network, arcs, TREES)?;
+    if is_greatest {
+        Ok(arcs)
+    } else {
+        send_excess(alloc, network, arcs)
+    }
+}
+
 /// What the search leaves for the arc against each pipe of a network with many stars, where it goes over the
 /// shorter network and begins with nothing. The table is made once those of the search are given back.
 pub fn propose_short(alloc: Global, network: &Network, stars: Stars) -> Result<Vec<u32>, AllocError>
@@ -71,7 +111,7 @@ pub fn propose_short(alloc: Global, network: &Network, stars: Stars) -> Result<V
     let mut stars = stars;
     let pipes = network.pipes();
     let arcs = short_arcs(alloc, pipes, &stars)?;
-    let arcs = search(alloc, network, arcs)?;
+    let arcs = search_short(alloc, network, arcs)?;
     let mut backward = vec![in alloc; 0u32; pipes.len()]?;
     arcs.write_backward(&mut backward);
     stars.turn_back(pipes, arcs.pipes(), &mut backward);

@@ -11,8 +11,9 @@
 //! finds a level graph (`levels.rt`) and a blocking flow in it (`paths.rt`, `blocking.rt`), over the residual
 //! network (`graph.rt`), until the sink has no level. Where a few level graphs aren't enough, search trees
 //! (`trees.rt`) over packed arcs (`packed.rt`) go on, of whose flow nothing is promised. In a network of many
-//! seams they come first, and go over a shorter one (`triangles.rt`). A check in one pass (`checking.rt`)
-//! takes their flow or begins with none (`beginning.rt`), and level graphs finish.
+//! seams they come first, and go over a shorter one (`triangles.rt`); where they give up there, an excess goes on
+//! (`preflow.rt`). A check in one pass (`checking.rt`) takes their flow or begins with none (`beginning.rt`), and
+//! level graphs finish.
 #![tactic(auto)]
 
 mod beginning;
@@ -23,6 +24,7 @@ mod levels;
 mod network;
 mod packed;
 mod paths;
+mod preflow;
 mod solver;
 mod trees;
 mod triangles;

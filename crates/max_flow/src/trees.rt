@@ -3,7 +3,8 @@
 // vision" (2004). On the networks of images it's many times as fast as level graphs.
 //
 // Nothing is promised of what it finds: `checking.rt` tells whether it's a flow, and level graphs go on
-// from there. The search gives up once it has looked at more arcs than it may.
+// from there. The search gives up once it has looked at more arcs than it may. An excess may go on then
+// (`preflow.rt`).
 
 use crate::packed::{Arc, PackedArcs, other_way};
 use std::alloc::{AllocError, Global};
@@ -424,15 +425,16 @@ impl Trees {
         if sent > 0 { Some(last) } else { None }
     }
 
-    // Lets the trees grow and sends flow where they meet, until they're apart or the work is above the limit.
-    fn search(&mut self, limit: u64) {
+    // Lets the trees grow and sends flow where they meet, until they're apart or the work is above the limit. Returns
+    // whether they are apart.
+    fn search(&mut self, limit: u64) -> bool {
         let mut last = None;
         for _ in 0..limit {
             if self.work > limit {
-                return;
+                return false;
             }
             let Some((number, from)) = self.next_node(last) else {
-                return;
+                return true;
             };
             last = None;
             self.work = self.work.wrapping_add(1);
@@ -443,10 +445,11 @@ impl Trees {
                 continue;
             };
             let Some(place) = self.send_from(number, place, limit) else {
-                return;
+                return false;
             };
             last = Some((number, place));
         }
+        false
     }
 
     // Makes an end of the network the beginning of its tree.
@@ -462,11 +465,11 @@ impl Trees {
         self.activate(number);
     }
 
-    /// Sends flow from the source to the sink, over at most about `limit` arcs.
-    pub fn send(&mut self, source: u32, sink: u32, limit: u64) {
+    /// Sends flow from the source to the sink, over at most about `limit` arcs. Returns whether no more can be sent.
+    pub fn send(&mut self, source: u32, sink: u32, limit: u64) -> bool {
         self.plant(source, Tree::Source);
         self.plant(sink, Tree::Sink);
-        self.search(limit);
+        self.search(limit)
     }
 
     /// The arcs with what they can still carry. The other tables are given back.

@@ -10,3 +10,4 @@ pub mod Tables
 pub mod RowRuns
 pub mod Blocks
 pub mod RowBytes
+pub mod SameBytes

@@ -1,5 +1,5 @@
 // The filled cells of a box as runs along X, gathered once for all placements of the box.
-ghost use Rattle.std.specs.Prelude.{◌≡◌, ◌≤◌, ◌<◌, ◌+◌, ◌*◌, ◌^◌, ℕ, IfNone, IfOk, IfSome, OnOk, Some, length};
+ghost use Rattle.std.specs.Prelude.{◌≡◌, ◌≤◌, ◌<◌, ◌+◌, ◌*◌, ◌^◌, ℕ, IfNone, IfOk, IfSome, IsTrue, OnOk, Some, length};
 ghost use Rattle.cells.specs.Boxes.{HasCells, HoldsBox};
 ghost use Rattle.cells.specs.Cells.{Holds, IsVolume, row_at, run_from};
 ghost use Rattle.cells.specs.Places.{HasAxes, IsSmall, SumFits, plus, raster_index, spot};
@@ -213,6 +213,55 @@ impl FilledRuns {
         ssd(&self.bytes[run.start..run.start + new.len()], new)
     }
 
+    // Whether the bytes that come to a run are those that are there.
+    fn is_same(
+        &self,
+        run: &FilledRun,
+        sample: &Volume,
+        placement: &Placement,
+        front: Option<usize>,
+    ) -> bool
+        requires run { IsRunIn sample.now.k placement.now.rect self.now.part
+            (length self.now.bytes.items) run.now }
+        requires volume { IsVolume sample.now }
+        requires some { HasCells placement.now.rect.size }
+        requires sources { Holds sample.now placement.now.from placement.now.rect.size }
+        requires front { IfSome front
+            (IsFrontIndex self.now.part sample.now placement.now.from) }
+        ensures same { IsTrue result → 0
+            ≡ run_error self.now.bytes.items sample.now placement.now.from run.now }
+    {
+        let new = self.new_bytes(run, sample, placement, front);
+        let old = &self.bytes[run.start..run.start + new.len()];
+        old == new
+    }
+
+    // Whether a placement of the box puts there what is there already.
+    fn is_exact(
+        &self,
+        canvas: &Canvas,
+        sample: &Volume,
+        placement: &Placement,
+        front: Option<usize>,
+    ) -> bool
+        requires cells { AreFilledRuns canvas.now placement.now.rect self.now }
+        requires over { StandsOver canvas.now sample.now }
+        requires fits { Fits canvas.now.map.size sample.now placement.now }
+        requires front { IfSome front
+            (IsFrontIndex self.now.part sample.now placement.now.from) }
+        ensures same { IsTrue result → 0 ≡ error_sum canvas.now.map sample.now placement.now }
+    {
+        // Called for their contracts only: they show the prover that these are a map and a volume.
+        let _map = canvas.map();
+        let _sample = sample.samples();
+        'runs: for run in &self.runs {
+            if !self.is_same(run, sample, placement, front) {
+                return false;
+            }
+        }
+        true
+    }
+
     /// The sum of the overlap error of a placement of the box where it is at most a limit, else None. It
     /// stops after the run in which the sum passes the limit.
     pub fn error_sum_within(
@@ -236,6 +285,10 @@ impl FilledRuns {
         let _map = canvas.map();
         let _sample = sample.samples();
         let front = self.front_index(sample, placement.from);
+        // Where only exact places are within the limit, there may be many: bytes are compared sooner than summed.
+        if limit == 0 && self.is_exact(canvas, sample, placement, front) {
+            return Some(0);
+        }
         let mut sum: u64 = 0;
         'runs: for run in &self.runs {
             sum += self.run_sum(run, sample, placement, front);

@@ -9,3 +9,4 @@ pub mod RecordLaws
 pub mod CheckLaws
 pub mod NearLaws
 pub mod OneAnswer
+pub mod RestLaws

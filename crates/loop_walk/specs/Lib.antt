@@ -2,3 +2,4 @@ pub mod Walks
 pub mod Tables
 pub mod Records
 pub mod Products
+pub mod Rests

@@ -8,9 +8,10 @@
 //! defines walks and their costs over lists of frames alone, specs/Tables.antt the tables of a record,
 //! and specs/Records.antt a record that stands.
 //!
-//! `product` has the sums of two tables, `tables` the tables along the digits of a length, `trace` a
-//! way out of the tables, `record` the least walk and its record, `sums` the entries of a record against
-//! their sums, `rules` the rules of a record and `check` the checker.
+//! `product` has the sums of two tables and `rests` those of a row in lanes of 32 bits, `tables` the
+//! tables along the digits of a length, `trace` a way out of the tables, `record` the least walk and its
+//! record, `sums` the entries of a record against their sums, `rules` the rules of a record and `check`
+//! the checker.
 #![tactic(auto)]
 
 mod check;
@@ -18,6 +19,7 @@ mod fault;
 mod laws;
 mod product;
 mod record;
+mod rests;
 mod rules;
 mod sums;
 mod tables;

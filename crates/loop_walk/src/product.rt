@@ -2,6 +2,7 @@
 ghost use Rattle.std.specs.Prelude.{◌≡◌, ◌≤◌, ◌<◌, ℕ, ◌+◌, ◌*◌, ◌^◌, min, length, slice_index};
 ghost use Rattle.loop_walk.specs.Products.{AreAtMostFar, AreBroughtNear, AreRestored, AreSmall, IsLeastOf, IsNearProduct, IsProduct, near_row_sum};
 
+use crate::rests::{GREATEST_ROW, fill_rest_table, fill_row_of_rests};
 use limits::MOST_LOOP_FRAMES;
 
 /// Stands for none. It is above each number, and a sum that doesn't fit stops at it.
@@ -105,38 +106,54 @@ fn restore(numbers: &mut [u64])
 }
 
 // Makes the table whose entry (i, j) is the least over all v of entry (i, v) of the one table and
-// entry (v, j) of the other, added up, with none brought near.
-fn fill_near(n: usize, left: &[u64], nears: &[u64], made: &mut [u64])
+// entry (v, j) of the other, added up, with none brought near. `rests` is written over.
+fn fill_near(n: usize, left: &[u64], nears: &[u64], rests: &mut [u32], made: &mut [u64])
     requires few { n ≤ MOST_LOOP_FRAMES }
     requires left { length left.now ≡ n * n }
     requires nears { length nears.now ≡ n * n }
+    requires rests { length rests.old ≡ n * n }
     requires made { length made.old ≡ n * n }
     requires near { AreAtMostFar nears.now }
     ensures { IsNearProduct n left.now nears.now made.new }
 {
+    let mut bases = [0u64; GREATEST_ROW];
+    fill_rest_table(n, nears, &mut bases[..n], rests);
+    let mut quick = true;
     for i in 0..n {
-        fill_row(
+        fill_row_of_rests(
             n,
             &left[i * n..i * n + n],
             nears,
+            &bases[..n],
+            rests,
             &mut made[i * n..i * n + n],
+            &mut quick,
         );
     }
 }
 
 /// Makes the table whose entry (i, j) is the least over all v of entry (i, v) of the one table and
-/// entry (v, j) of the other, added up. `nears` has room for one table, and is written over.
-pub fn fill_product(n: usize, left: &[u64], right: &[u64], nears: &mut [u64], made: &mut [u64])
+/// entry (v, j) of the other, added up. `nears` and `rests` have room for one table each, and are written
+/// over.
+pub fn fill_product(
+    n: usize,
+    left: &[u64],
+    right: &[u64],
+    nears: &mut [u64],
+    rests: &mut [u32],
+    made: &mut [u64],
+)
     requires few { n ≤ MOST_LOOP_FRAMES }
     requires left { length left.now ≡ n * n }
     requires right { length right.now ≡ n * n }
     requires nears { length nears.old ≡ n * n }
+    requires rests { length rests.old ≡ n * n }
     requires made { length made.old ≡ n * n }
     requires small_left { AreSmall GREATEST_NUMBER left.now }
     requires small_right { AreSmall GREATEST_NUMBER right.now }
     ensures { IsProduct n left.now right.now made.new }
 {
     bring_near(right, nears);
-    fill_near(n, left, nears, made);
+    fill_near(n, left, nears, rests, made);
     restore(made);
 }

@@ -62,7 +62,8 @@ fn made_tables(
     let n = costs.frames() as usize;
     let mut tables = vec![in alloc; 0u64; table_count(length) as usize * (n * n)]?;
     let mut nears = vec![in alloc; 0u64; n * n]?;
-    fill_tables(costs, steps, length, &mut nears, &mut tables);
+    let mut rests = vec![in alloc; 0u32; n * n]?;
+    fill_tables(costs, steps, length, &mut nears, &mut rests, &mut tables);
     Ok(tables)
 }
 

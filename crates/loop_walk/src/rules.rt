@@ -6,6 +6,7 @@ ghost use Rattle.loop_walk.specs.Records.{BreaksWalk, IsFirstPlace, PlaceHolds, 
 ghost use Rattle.loop_walk.specs.Products.{AllowsCost, step_round_at};
 
 use crate::fault::{DIAGONAL_RULE, LoopFault, TABLES_RULE, WALK_RULE};
+use crate::rests::{GREATEST_ROW, fill_rest_table};
 use crate::sums::{broken_in_row, entry_in, fill_near_table};
 use crate::tables::{length_before, second_table, table_count};
 use frame_distance::StepCosts;
@@ -61,44 +62,67 @@ pub fn check_walk(costs: &StepCosts, walk: &[u16]) -> Result<u64, LoopFault>
     Ok(cost)
 }
 
-// The first place in the last table for a length where an entry is above one of its sums. `nears` has
-// room for one table, and is written over.
+// The first place in the last table for a length where an entry is above one of its sums. `nears` and
+// `rests` have room for one table each, and are written over.
 fn broken_entry(
     costs: &StepCosts,
     tables: &[u64],
     length: u32,
     t: usize,
     nears: &mut [u64],
+    rests: &mut [u32],
 ) -> Option<usize>
     requires number { t < LONGEST_LOOP }
     requires last { slice_index (table_lengths length) t ≡ length }
     requires enough { (t + 1) * table_size costs.now ≤ length_of tables.now }
     requires before { PlacesHold costs.now length tables.now (t * table_size costs.now) }
     requires nears { length_of nears.old ≡ table_size costs.now }
+    requires rests { length_of rests.old ≡ table_size costs.now }
     ensures hold { IfNone result
         (PlacesHold costs.now length tables.now ((t + 1) * table_size costs.now)) }
     ensures broken { IfSome result
         (IsFirstPlace ((t + 1) * table_size costs.now) (PlaceHolds costs.now length tables.now)) }
 {
     let n = costs.frames();
+    let m = n as usize;
     let second = second_table(length, t);
-    let start = t * (n as usize * n as usize);
+    let start = t * (m * m);
+    let mut bases = [0u64; GREATEST_ROW];
     fill_near_table(costs, tables, second, nears);
+    fill_rest_table(m, nears, &mut bases[..m], rests);
+    let mut quick = true;
     for i in 0..n {
-        match broken_in_row(costs, tables, t, second, i, nears) {
-            Some(j) => return Some(start + (i as usize * n as usize + j as usize)),
+        match broken_in_row(
+            costs,
+            tables,
+            t,
+            second,
+            i,
+            nears,
+            &bases[..m],
+            rests,
+            &mut quick,
+        ) {
+            Some(j) => return Some(start + (i as usize * m + j as usize)),
             None => {}
         }
     }
     None
 }
 
-// The first place in all tables for a length where an entry is above one of its sums. `nears` has room
-// for one table, and is written over.
-fn broken_place(costs: &StepCosts, tables: &[u64], length: u32, nears: &mut [u64]) -> Option<usize>
+// The first place in all tables for a length where an entry is above one of its sums. `nears` and `rests`
+// have room for one table each, and are written over.
+fn broken_place(
+    costs: &StepCosts,
+    tables: &[u64],
+    length: u32,
+    nears: &mut [u64],
+    rests: &mut [u32],
+) -> Option<usize>
     requires length { IsLength length }
     requires enough { entry_count costs.now length ≤ length_of tables.now }
     requires nears { length_of nears.old ≡ table_size costs.now }
+    requires rests { length_of rests.old ≡ table_size costs.now }
     ensures hold { IfNone result
         (PlacesHold costs.now length tables.now (entry_count costs.now length)) }
     ensures broken { IfSome result
@@ -109,9 +133,9 @@ fn broken_place(costs: &StepCosts, tables: &[u64], length: u32, nears: &mut [u64
     }
     let before = length_before(length);
     let t = table_count(before) as usize;
-    match broken_place(costs, tables, before, nears) {
+    match broken_place(costs, tables, before, nears, rests) {
         Some(place) => Some(place),
-        None => broken_entry(costs, tables, length, t, nears),
+        None => broken_entry(costs, tables, length, t, nears, rests),
     }
 }
 
@@ -125,7 +149,9 @@ pub fn check_tables(costs: &StepCosts, tables: &[u64], length: u32) -> Result<()
 {
     let n = costs.frames() as usize;
     let mut nears = [0u64; GREATEST_TABLE];
-    match broken_place(costs, tables, length, &mut nears[..n * n]) {
+    let mut rests = [0u32; GREATEST_TABLE];
+    let nears = &mut nears[..n * n];
+    match broken_place(costs, tables, length, nears, &mut rests[..n * n]) {
         Some(place) => Err(LoopFault {
             kind: TABLES_RULE,
             place: place as u64,

@@ -4,13 +4,12 @@ ghost use Rattle.loop_walk.specs.Walks.{AtMost, sum_if_both};
 ghost use Rattle.loop_walk.specs.Tables.{entry_at, table_entry, table_size};
 ghost use Rattle.loop_walk.specs.Records.{IsFirstPlace};
 ghost use Rattle.loop_walk.specs.Products.{AreAtMostFar, AreNearEntries, IsBelowNearSums, IsBelowProducts, IsNearRow, near_entry};
+ghost use Rattle.loop_walk.specs.Rests.{AreRests};
 
-use crate::product::{FAR, GREATEST_NUMBER, NONE, fill_row};
+use crate::product::{FAR, GREATEST_NUMBER, NONE};
+use crate::rests::{GREATEST_ROW, fill_row_of_rests};
 use frame_distance::StepCosts;
 use limits::{LONGEST_LOOP, MOST_LOOP_FRAMES};
-
-// The most entries of a row of a table.
-const GREATEST_ROW: usize = MOST_LOOP_FRAMES as usize;
 
 // Entry (i, j) of table number t + 1 for n frames.
 fn stored_entry(tables: &[u64], n: usize, t: usize, i: usize, j: usize) -> Option<u64>
@@ -147,7 +146,8 @@ fn is_below(
 }
 
 /// The first column of row i where an entry of table number t + 1 is above one of its sums. `nears` is
-/// the table of the second halves, as its entries count in sums.
+/// the table of the second halves, as its entries count in sums, and `bases` and `rests` are what is taken
+/// away from its rows and what is left. `quick` says whether these served so far.
 pub fn broken_in_row(
     costs: &StepCosts,
     tables: &[u64],
@@ -155,6 +155,9 @@ pub fn broken_in_row(
     second: usize,
     i: u32,
     nears: &[u64],
+    bases: &[u64],
+    rests: &[u32],
+    quick: &mut bool,
 ) -> Option<u32>
     requires number { t < LONGEST_LOOP }
     requires enough { (t + 1) * table_size costs.now ≤ length_of tables.now }
@@ -163,6 +166,9 @@ pub fn broken_in_row(
     requires nears { length_of nears.now ≡ table_size costs.now }
     requires entries { AreNearEntries costs.now tables.now second nears.now }
     requires near { AreAtMostFar nears.now }
+    requires bases { length_of bases.now ≡ costs.now.frames }
+    requires rests { length_of rests.now ≡ table_size costs.now }
+    requires left { AreRests costs.now.frames nears.now bases.now rests.now }
     ensures hold { IfNone result ((j : ℕ) → j < costs.now.frames →
         IsBelowProducts costs.now tables.now t second i j) }
     ensures broken { IfSome result
@@ -172,7 +178,7 @@ pub fn broken_in_row(
     let mut firsts = [0u64; GREATEST_ROW];
     let mut sums = [0u64; GREATEST_ROW];
     fill_near_row(costs, tables, t, i, &mut firsts[..n]);
-    fill_row(n, &firsts[..n], nears, &mut sums[..n]);
+    fill_row_of_rests(n, &firsts[..n], nears, bases, rests, &mut sums[..n], quick);
     for j in 0..costs.frames() {
         if !is_below(costs, tables, t, second, i, j, sums[j as usize]) {
             return Some(j);

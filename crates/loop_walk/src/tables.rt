@@ -74,18 +74,21 @@ pub fn table_in<'a>(steps: &'a [u64], tables: &'a [u64], t: usize) -> &'a [u64]
     &tables[start..start + steps.len()]
 }
 
-/// Fills in the tables for a length, one after another. `nears` has room for one table, and is written over.
+/// Fills in the tables for a length, one after another. `nears` and `rests` have room for one table each, and are
+/// written over.
 pub fn fill_tables(
     costs: &StepCosts,
     steps: &[u64],
     length: u32,
     nears: &mut [u64],
+    rests: &mut [u32],
     tables: &mut [u64],
 )
     requires steps { IsStepTable costs.now steps.now }
     requires length { IsLength length }
     requires whole { length_of tables.old ≡ entry_count costs.now length }
     requires nears { length_of nears.old ≡ table_size costs.now }
+    requires rests { length_of rests.old ≡ table_size costs.now }
     ensures { AreFilled costs.now length tables.new }
 {
     if length == 1 {
@@ -94,9 +97,9 @@ pub fn fill_tables(
     let n = costs.frames() as usize;
     let before = length_before(length);
     let (earlier, last) = tables.split_at_mut(tables.len() - n * n);
-    fill_tables(costs, steps, before, nears, earlier);
+    fill_tables(costs, steps, before, nears, rests, earlier);
     let t = table_count(before) as usize;
     let left = table_in(steps, earlier, t);
     let right = table_in(steps, earlier, second_table(length, t));
-    fill_product(n, left, right, nears, last);
+    fill_product(n, left, right, nears, rests, last);
 }

@@ -7,6 +7,6 @@ pub loop-i-preserved : goal.loop-i-preserved
 loop-i-preserved c =
     let n = c.args.n in
     let i = c.loop-i.i in
-    product_row_more n i c.args.left.now c.args.nears.now c.loop-i.made c.fill_row.new.sums c.loop-i-test.true (c.loop-i.auto.made ∙ c.requires.made)
-    (omega (arith, c.fill_row.auto.sums, length-take (i * n + n - i * n) (drop (i * n) c.loop-i.made), length-drop (i * n) c.loop-i.made, c.loop-i.auto.made, c.requires.made, mul-le-mul_right n c.loop-i-test.true))
-    c.loop-i.invariant c.fill_row.ensures
+    product_row_more n i c.args.left.now c.args.nears.now c.loop-i.made c.fill_row_of_rests.new.sums c.loop-i-test.true (c.loop-i.auto.made ∙ c.requires.made)
+    (omega (arith, c.fill_row_of_rests.auto.sums, length-take (i * n + n - i * n) (drop (i * n) c.loop-i.made), length-drop (i * n) c.loop-i.made, c.loop-i.auto.made, c.requires.made, mul-le-mul_right n c.loop-i-test.true))
+    c.loop-i.invariant c.fill_row_of_rests.ensures

@@ -22,7 +22,7 @@ fill_tables-requires t c =
     let area = c.args.costs.now.frames * c.args.costs.now.frames in
     let whole = rooms c.args.length c.length_before-before.result area (length c.args.tables.now) (omega arith) is_b c.requires.whole in
     let front = rw c.frames-n.ensures.frames at c.split_at_mut-earlier.ensures.front_len in
-    (omega (arith, c.decreases, before.less, is_b), (c.requires.steps, ((omega (arith, before.some, is_b), omega (arith, before.less, is_b)), (omega (arith, whole, front), c.requires.nears))))
+    (omega (arith, c.decreases, before.less, is_b), (c.requires.steps, ((omega (arith, before.some, is_b), omega (arith, before.less, is_b)), (omega (arith, whole, front), (c.requires.nears, c.requires.rests)))))
 
 pub fill_product-requires-clause-left : goal.fill_product-requires-clause-left
 fill_product-requires-clause-left t c =

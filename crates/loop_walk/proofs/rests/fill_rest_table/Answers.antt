@@ -1,0 +1,27 @@
+use Rattle.std.proofs.Common.{◌≡◌, ◌+◌, ◌-◌, ◌*◌, ◌≤◌, drop, take, length, get_or, ap, ◌∙◌, arith, length-take, length-drop}
+use Rattle.std.proofs.Math.Nat.{mul-le-mul_right}
+use Rattle.loop_walk.specs.Rests.{rest_of}
+use Rattle.loop_walk.proofs.RestLaws.{get_or-row, rests_row_more, small_rests}
+use Rattle.loop_walk.proofs.rests.fill_rest_table.Goals as goal
+
+pub loop-v-preserved : goal.loop-v-preserved
+loop-v-preserved c =
+    let n = c.args.n in
+    let v = c.loop-v.v in
+    let nears = c.args.nears.now in
+    let bases = c.fill_bases.new.bases in
+    let room : v * n + n ≤ n * n = omega (arith, mul-le-mul_right n c.loop-v-test.true) in
+    let part = take (v * n + n - v * n) (drop (v * n) nears) in
+    let whole : length part ≡ n = omega (arith, room, c.requires.nears, length-take (v * n + n - v * n) (drop (v * n) nears), length-drop (v * n) nears) in
+    rests_row_more n v nears bases c.loop-v.rests c.fill_rests.new.rests c.loop-v-test.true (c.loop-v.auto.rests ∙ c.requires.rests)
+    (omega (arith, room, c.fill_rests.auto.rests, length-take (v * n + n - v * n) (drop (v * n) c.loop-v.rests), length-drop (v * n) c.loop-v.rests, c.loop-v.auto.rests, c.requires.rests))
+    c.loop-v.invariant
+    (λ j lt. c.fill_rests.ensures.rests j (omega (arith, whole, lt)) ∙ ap (λ x. rest_of (get_or bases v 0) x) (get_or-row nears (v * n) n j lt))
+
+pub returns : goal.returns
+returns c = record {
+  taken = c.fill_bases.ensures;
+  left = λ v j lt column. c.loop-v.invariant v j (omega arith) column;
+  small = small_rests c.args.n c.args.nears.now c.fill_bases.new.bases c.loop-v.rests (c.loop-v.auto.rests ∙ c.requires.rests)
+      (λ v j lt column. c.loop-v.invariant v j (omega arith) column);
+}

@@ -7,3 +7,4 @@ pub mod Changes
 pub mod Besides
 pub mod Fills
 pub mod OneWorst
+pub mod RowTops

@@ -4,3 +4,4 @@ pub use Rattle.costs.specs.Lawful
 pub mod Windows
 pub mod Tables
 pub mod Slides
+pub mod Tops

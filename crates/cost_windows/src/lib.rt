@@ -3,7 +3,8 @@
 //!
 //! specs/Windows.antt defines the worst window, specs/Tables.antt the table. `SeamTable` costs each pair of the
 //! cells that the touched windows have once, and sums runs of the costs along each axis in place (src/reach.rt,
-//! src/slide.rt; specs/Slides.antt has their words, and proofs/AxisSums.antt the law that they rest on).
+//! src/slide.rt; specs/Slides.antt has their words, and proofs/AxisSums.antt the law that they rest on). It keeps
+//! the greatest sum of each row of corners, by which the worst window is found (src/tops.rt, specs/Tops.antt).
 //!
 //! The costs themselves are those of the crate `costs`, which is handed on whole.
 #![tactic(auto)]
@@ -13,6 +14,7 @@ mod laws;
 mod reach;
 mod slide;
 mod table;
+mod tops;
 
 pub use costs::{
     Sources, choices_change_the_total_as_their_window, pair_cost, pairs_of_box, seam_of,

@@ -1,14 +1,15 @@
 // A table of window sums.
-ghost use Rattle.std.specs.Prelude.{◌≡◌, ◌<◌, ℕ, Option, IfOk, length};
+ghost use Rattle.std.specs.Prelude.{◌≡◌, ℕ, Option, IfOk};
 ghost use Rattle.cells.specs.declared.place.At.{At};
 ghost use Rattle.cells.specs.Distances.{distance};
 ghost use Rattle.map_canvas.specs.Canvases.{StandsOver};
 ghost use Rattle.map_canvas.specs.Maps.{map_at};
 ghost use Rattle.cost_windows.specs.Windows.{IsWorst, window_at};
-ghost use Rattle.cost_windows.specs.Tables.{IsGreatest, IsRight, IsRightBeside, IsWindow};
+ghost use Rattle.cost_windows.specs.Tables.{IsRight, IsRightBeside, IsWindow};
 
 use crate::block::{Block, corners};
 use crate::reach::refresh;
+use crate::tops::{greatest_by_rows, refresh_tops};
 use boxes::has_cells;
 use cells::{At, Box3, Size, Volume};
 use map_canvas::Canvas;
@@ -30,6 +31,8 @@ pub struct SeamTable {
     output: Size,
     window: Size,
     sums: Vec<u64>,
+    // The greatest sum of each row of corners.
+    tops: Vec<u64>,
     scratch: Vec<u64>,
 }
 
@@ -37,7 +40,8 @@ impl Model for SeamTable {
     ghost use Rattle.std.specs.Prelude.{◌≡◌};
     ghost use Rattle.std.specs.Prelude.{vec_len};
     ghost use Rattle.cells.specs.Places.{cell_count};
-    ghost use Rattle.cost_windows.specs.Tables.{WindowSums, IsSumTable};
+    ghost use Rattle.cost_windows.specs.Tables.{WindowSums, IsSumTable, corners};
+    ghost use Rattle.cost_windows.specs.Tops.{AreTops};
 
     ghost Value = { WindowSums };
 
@@ -47,21 +51,8 @@ impl Model for SeamTable {
       output = a.output;
       window = a.window;
       sums = a.sums.items;
-    }) × (vec_len a.scratch ≡ cell_count a.output) };
-}
-
-// The index of the greatest number, and the first where several are.
-fn greatest(sums: &[u64]) -> usize
-    requires { 0 < length sums.now }
-    ensures { IsGreatest sums.now (length sums.now) result }
-{
-    let mut best = 0;
-    for i in 1..sums.len() {
-        if sums[i] > sums[best] {
-            best = i;
-        }
-    }
-    best
+    }) × ((vec_len a.scratch ≡ cell_count a.output)
+        × AreTops (corners a.output a.window) a.sums.items a.tops.items) };
 }
 
 impl SeamTable {
@@ -83,19 +74,16 @@ impl SeamTable {
         let output = map.size();
         let corners = corners(output, window);
         let mut sums = vec![in alloc; 0u64; corners.cells()]?;
+        let mut tops = vec![in alloc; 0u64; corners.h as usize * corners.f as usize]?;
         let mut scratch = vec![in alloc; 0u64; output.cells()]?;
-        refresh(
-            &mut sums,
-            &mut scratch,
-            map,
-            sample,
-            window,
-            &Block::whole(corners),
-        );
+        let block = Block::whole(corners);
+        refresh(&mut sums, &mut scratch, map, sample, window, &block);
+        refresh_tops(&sums, &mut tops, corners, &block);
         Ok(SeamTable {
             output,
             window,
             sums,
+            tops,
             scratch,
         })
     }
@@ -110,7 +98,8 @@ impl SeamTable {
         ensures right { IsRight (distance sample.now) (map_at canvas.now.map) self.new }
     {
         let window = self.window;
-        let block = Block::touched(corners(self.output, window), window, changed);
+        let size = corners(self.output, window);
+        let block = Block::touched(size, window, changed);
         if has_cells(block.size()) {
             refresh(
                 &mut self.sums,
@@ -120,6 +109,7 @@ impl SeamTable {
                 window,
                 &block,
             );
+            refresh_tops(&self.sums, &mut self.tops, size, &block);
         }
     }
 
@@ -131,9 +121,10 @@ impl SeamTable {
             result.cost ≡ window_at d self.now.window m result.corner }
     {
         let sums = self.sums.as_slice();
-        let i = greatest(sums);
+        let corners = corners(self.output, self.window);
+        let i = greatest_by_rows(sums, self.tops.as_slice(), corners);
         Worst {
-            corner: corners(self.output, self.window).place_at(i),
+            corner: corners.place_at(i),
             cost: sums[i],
         }
     }

@@ -8,7 +8,13 @@ use Rattle.boxes.specs.Pairs.{AreCounts}
 use Rattle.cost_windows.specs.Slides.{HoldsBlock}
 use Rattle.cost_windows.specs.Tables.{IsRight, corners}
 use Rattle.cost_windows.proofs.Changes.{right_of}
+use Rattle.cost_windows.proofs.RowTops.{no_row_beside_all}
 use Rattle.cost_windows.proofs.table.SeamTable.make.Goals as goal
+
+pub refresh_tops-requires-clause-others : goal.refresh_tops-requires-clause-others
+refresh_tops-requires-clause-others c = λ r lt beside.
+    let size = c.corners-corners.result in
+    absurd (no_row_beside_all size c.whole-block.result r c.whole-block.ensures.each c.corners-corners.ensures.small.axes.w.0 lt beside)
 
 pub returns-clause-right : goal.returns-clause-right
 returns-clause-right c =
@@ -16,12 +22,12 @@ returns-clause-right c =
     let m = map_at c.args.canvas.now.map in
     let output = c.size-output.result in
     let window = c.args.window in
-    let block = c.whole.result in
+    let block = c.whole-block.result in
     let sums = c.refresh.new.sums in
     let same : c.map-map.result.now.size ≡ output = sym c.size-output.ensures.size in
     let right : IsRight d m (record { output = output; window = window; sums = sums }) =
-    right_of d m output window block c.deref_mut.result.now sums (subst (λ size. HoldsBlock size block) c.corners-corners.ensures.corners c.whole.ensures.inside)
+    right_of d m output window block c.deref_mut.result.now sums (subst (λ size. HoldsBlock size block) c.corners-corners.ensures.corners c.whole-block.ensures.inside)
     (λ x y f inside. ap (λ size. get_or sums (raster_index (corners size window) x y f) 0) (sym same) ∙ c.refresh.ensures.put x y f inside ∙ (λ i. window_at d window (map_at (c.map-map.ensures.map i)) (spot x y f)))
     (λ i none. c.refresh.ensures.others i (λ x y f inside e. none x y f inside (e ∙ ap (λ size. raster_index (corners size window) x y f) same)))
-    (λ x y f are out. absurd (out (c.whole.ensures.each x y f (subst (λ size. AreCounts size x y f) (sym c.corners-corners.ensures.corners) are)))) in
+    (λ x y f are out. absurd (out (c.whole-block.ensures.each x y f (subst (λ size. AreCounts size x y f) (sym c.corners-corners.ensures.corners) are)))) in
     subst (λ xs. IsRight d m (record { output = output; window = window; sums = xs })) (sym (with_items_is c.in_ok-sums.sums sums (omega arith))) right

@@ -5,12 +5,12 @@ use Rattle.cost_windows.proofs.table.SeamTable.worst.Goals as goal
 
 pub returns-clause-worst : goal.returns-clause-worst
 returns-clause-worst c = λ d m right.
-    (worst_found d m c.args.self.now c.as_slice-sums.result.now c.corners.result c.greatest-i.result c.place_at.result
+    (worst_found d m c.args.self.now c.as_slice-sums.result.now c.corners-corners.result c.greatest_by_rows-i.result c.place_at.result
     (subst IsSumTable c.self.view_is c.self.invariant.0) (c.as_slice-sums.ensures.value ∙ ap (λ t. t.sums) c.self.view_is)
-    (c.corners.ensures.corners ∙ (λ k. corners (c.self.view_is k).output (c.self.view_is k).window)) c.greatest-i.ensures c.place_at.ensures right).0
+    (c.corners-corners.ensures.corners ∙ (λ k. corners (c.self.view_is k).output (c.self.view_is k).window)) c.greatest_by_rows-i.ensures c.place_at.ensures right).0
 
 pub returns-clause-cost : goal.returns-clause-cost
 returns-clause-cost c = λ d m right.
-    (worst_found d m c.args.self.now c.as_slice-sums.result.now c.corners.result c.greatest-i.result c.place_at.result
+    (worst_found d m c.args.self.now c.as_slice-sums.result.now c.corners-corners.result c.greatest_by_rows-i.result c.place_at.result
     (subst IsSumTable c.self.view_is c.self.invariant.0) (c.as_slice-sums.ensures.value ∙ ap (λ t. t.sums) c.self.view_is)
-    (c.corners.ensures.corners ∙ (λ k. corners (c.self.view_is k).output (c.self.view_is k).window)) c.greatest-i.ensures c.place_at.ensures right).1
+    (c.corners-corners.ensures.corners ∙ (λ k. corners (c.self.view_is k).output (c.self.view_is k).window)) c.greatest_by_rows-i.ensures c.place_at.ensures right).1

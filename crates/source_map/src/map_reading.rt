@@ -31,6 +31,7 @@ fn lawful_same(n: u32, wanted: u32, at: u64) -> Result<u32, ReadError>
 }
 
 // The number, if it is below a bound.
+#[inline(always)]
 fn lawful_below(n: u16, bound: u32, at: u64) -> Result<u16, ReadError>
     ensures rule { result ≡ below_rule bound at n }
     ensures below { IfOk result (λ n. n < bound) }
@@ -105,6 +106,7 @@ fn read_same<S: Shelf>(
 }
 
 // Reads a number below a bound.
+#[inline(always)]
 fn read_below<S: Shelf>(
     file: &mut FileReader,
     bound: u32,
@@ -145,6 +147,7 @@ fn read_part<S: Shelf>(
 }
 
 // The place of three counts.
+#[inline(always)]
 fn place_at(x: u16, y: u16, f: u16) -> At
     ensures { result ≡ spot x y f }
 {
@@ -157,6 +160,7 @@ fn place_at(x: u16, y: u16, f: u16) -> At
 
 /// Reads a place inside a size: x, y, f, 2 bytes each. `Bad(Form)` comes at the first that isn't below its
 /// axis. It takes no memory.
+#[inline(always)]
 pub fn read_place<S: Shelf>(
     file: &mut FileReader,
     size: Size,
@@ -196,6 +200,7 @@ fn read_number<S: Shelf>(
 }
 
 // Reads a place in a sample.
+#[inline(always)]
 fn read_place_in<S: Shelf>(
     file: &mut FileReader,
     samples: &Sizes,
@@ -223,6 +228,7 @@ fn read_place_in<S: Shelf>(
 }
 
 // Reads the source of a cell, in version 1.
+#[inline(always)]
 fn read_place_source<S: Shelf>(
     file: &mut FileReader,
     samples: &Sizes,

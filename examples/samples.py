@@ -388,4 +388,6 @@ def main(name, file):
 
 
 if __name__ == "__main__":
+    if len(sys.argv) != 3 or sys.argv[1] not in {**PICTURES, **CLIPS}:
+        sys.exit(__doc__)
     main(*sys.argv[1:])

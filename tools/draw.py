@@ -9,7 +9,7 @@
 OUT is a P6 picture. ZOOM is the pixels of a pixel or frame, on each axis."""
 import sys
 
-from run_files import KINDS, read_map, read_pixels, read_record
+from run_files import KINDS, is_map_of_turns, read_map, read_pixels, read_record, start
 
 GAP = 6  # white pixels between two frames
 
@@ -29,7 +29,8 @@ def rows_of_frame(clip, number, zoom):
     """The pixels of a frame, each row as bytes. A cell has the luma of each of its pixels, and then Cb and Cr."""
     (w, h, f), k = clip.size, clip.samples
     wide, tall, _ = KINDS[clip.form[1]]
-    assert 0 <= number < f, f"there is no frame {number}"
+    if not 0 <= number < f:
+        raise ValueError(f"there is no frame {number}")
     rows = []
     for y in range(h * tall):
         row = b""
@@ -46,21 +47,36 @@ def write_picture(name, rows):
         out.write(b"P6\n%d %d\n255\n" % (len(rows[0]) // 3, len(rows)) + b"".join(rows))
 
 
-def frames(clip_name, out_name, zoom, *asked):
-    clip, zoom = read_pixels(clip_name, "sample"), int(zoom)
+def zoom_of(word):
+    zoom = int(word)
+    if zoom < 1:
+        raise ValueError("ZOOM is at least 1")
+    return zoom
+
+
+def frames(clip_name, out_name, zoom, frame, *more):
+    clip, zoom = read_pixels(clip_name, "sample"), zoom_of(zoom)
+    if clip.form[1] not in KINDS:
+        raise ValueError(f"{clip_name} isn't a clip")
     rows, between = [], b""
-    for word in asked:
+    for word in (frame, *more):
         if word == "/":
             between = (GAP // 3) * b"\xff\xff\xff" + (GAP // 3) * b"\xff\0\0" + (GAP // 3) * b"\xff\xff\xff"
             continue
-        frame = rows_of_frame(clip, int(word), zoom)
-        rows = [row + between + more for row, more in zip(rows, frame)] if rows else frame
+        drawn = rows_of_frame(clip, int(word), zoom)
+        rows = [row + between + right for row, right in zip(rows, drawn)] if rows else drawn
         between = GAP * b"\xff\xff\xff"
+    if not rows:
+        raise ValueError("no FRAME is named")
     write_picture(out_name, rows)
 
 
 def blocks(record_name, sample_name, out_name):
     record, sample = read_record(record_name), read_pixels(sample_name, "sample")
+    if record.kind != 1:
+        raise ValueError(f"{record_name} isn't the record of a quilt")
+    if list(record.sizes) != [sample.size]:
+        raise ValueError(f"{sample_name} isn't of the size of the record's sample")
     width, height, _ = record.output
     rows = [bytearray(3 * width) for _ in range(height)]
     for block in record.records:
@@ -73,7 +89,9 @@ def blocks(record_name, sample_name, out_name):
 
 def walk(map_name, out_name, zoom):
     """A jump is where the line breaks off."""
-    read, zoom = read_map(map_name), int(zoom)
+    read, zoom = read_map(map_name), zoom_of(zoom)
+    if read.kind != 1:
+        raise ValueError(f"{map_name} isn't the map of a loop")
     most = read.sizes[0][2]
     dark, paper = zoom * b"\x20\x40\x90", zoom * b"\xe8\xe8\xe4"
     rows = [b"".join(dark if frame == height else paper for frame in read.frames) for height in range(most - 1, -1, -1)]
@@ -81,11 +99,15 @@ def walk(map_name, out_name, zoom):
 
 
 def shares(map_name):
-    read = read_map(map_name)
+    read = read_map(map_name, is_map_of_turns(map_name))
+    if read.kind == 1:
+        raise ValueError(f"{map_name} is the map of a loop")
     numbers = read.columns[0]
     for part in range(1, len(read.sizes) + 1):
         print(f"sample {part}: {100 * numbers.count(part) / len(numbers):.0f}%")
 
 
+CALLS = {it.__name__: it for it in (frames, blocks, walk, shares)}
+
 if __name__ == "__main__":
-    {it.__name__: it for it in (frames, blocks, walk, shares)}[sys.argv[1]](*sys.argv[2:])
+    start(CALLS.get("".join(sys.argv[1:2])), __doc__, sys.argv[2:])

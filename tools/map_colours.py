@@ -8,9 +8,7 @@ further down, and the bluer the higher the number of the sample. Over turned sam
 greys and blues as the sample is or turned by a half, reds and browns turned by a quarter, and the lighter of each two
 mirrored. A line stands between two neighbours whose sources aren't neighbours in the same way: a seam. ZOOM, 1 to 16, is
 the pixels of a cell on each axis (3 where none is given)."""
-import sys
-
-from run_files import TURNS, is_map_of_turns, places_in_turns, read_map
+from run_files import TURNS, is_map_of_turns, places_in_turns, read_map, start
 
 # Of each turn: as it is, and by 1, 2 and 3 quarters; then the same of the mirrored sample.
 COLOURS = [(90, 90, 96), (176, 48, 40), (38, 84, 160), (120, 78, 30), (196, 196, 204), (240, 130, 118), (122, 172, 240),
@@ -56,9 +54,13 @@ def pixels_of_row(y, read, sources, zoom):
 
 
 def main(map_name, out_name, zoom="3"):
+    zoom = int(zoom)
+    if not 1 <= zoom <= 16:
+        raise ValueError("ZOOM is from 1 to 16")
     read = read_map(map_name, is_map_of_turns(map_name))
-    output, zoom = read.output, int(zoom)
-    assert output[2] == 1 and 1 <= zoom <= 16
+    output = read.output
+    if output[2] != 1:
+        raise ValueError(f"{map_name} is the map of a clip")
     sources = in_turns(read.columns, read.sizes) if read.kind == 2 else list(zip(*read.columns))
     with open(out_name, "wb") as out:
         out.write(b"P6\n%d %d\n255\n" % (zoom * output[0], zoom * output[1]))
@@ -67,4 +69,4 @@ def main(map_name, out_name, zoom="3"):
 
 
 if __name__ == "__main__":
-    main(*sys.argv[1:])
+    start(main, __doc__)

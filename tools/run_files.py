@@ -2,6 +2,8 @@
 
 A file that isn't in its form or within the limits is a Fault, with the status and the line of `weave check`. Memory is taken
 for what a file holds, and not for what its numbers claim. docs/FORMATS.md has the forms, in the same order."""
+import inspect
+import os
 import sys
 from array import array
 from bisect import bisect
@@ -28,6 +30,28 @@ class Fault(Exception):
     def __init__(self, status, line):
         super().__init__(status, line)
         self.status, self.line = status, "weave: " + line
+
+
+def start(call, usage, words=None):
+    """Runs a script: its call over the words of the command line. Words that don't fit get the usage, and what goes wrong
+    gets a line."""
+    words = sys.argv[1:] if words is None else words
+    try:
+        inspect.signature(call).bind(*words)
+    except (TypeError, ValueError):
+        print(usage, file=sys.stderr)
+        sys.exit(2)
+    try:
+        call(*words)
+    except Fault as fault:
+        print(fault.line, file=sys.stderr)
+        sys.exit(fault.status)
+    except OSError as error:
+        print(f"{os.path.basename(sys.argv[0])}: {error.filename}: {error.strerror}", file=sys.stderr)
+        sys.exit(6)
+    except ValueError as error:
+        print(f"{os.path.basename(sys.argv[0])}: {error}", file=sys.stderr)
+        sys.exit(2)
 
 
 def refused(key, what):

@@ -115,28 +115,28 @@ fn lay(
 
 /// Lays one more picture, the one of a number from 2 on, over the whole output. The cells marked with it come
 /// from it, and those marked with an earlier one stay as they are. Of all choices for the others, the one is
-/// taken whose seams cost the least in all, and of those the one with the fewest cells that stay. The one error
-/// is out of memory.
+/// taken whose seams cost the least in all, and of those the one with the fewest cells that stay. The canvas is
+/// given back before the network of the next one is made. The one error is out of memory.
 pub fn merge_step(
     alloc: Global,
-    canvas: &Canvas,
+    canvas: Canvas,
     pictures: &Volume,
     marks: &Volume,
     number: u32,
 ) -> Result<Canvas, AllocError>
     requires one_size { AreOneSize pictures.now }
-    requires size { canvas.now.map.size ≡ pictures.now.size }
-    requires full { IsFull canvas.now.map }
-    requires stands { StandsOver canvas.now pictures.now }
+    requires size { canvas.map.size ≡ pictures.now.size }
+    requires full { IsFull canvas.map }
+    requires stands { StandsOver canvas pictures.now }
     requires from { 2 ≤ number }
     requires to { number ≤ length (sizes_of pictures.now) }
     ensures next { IfOk result (λ next.
-        MergesNext pictures.now marks.now number canvas.now.map next.map) }
+        MergesNext pictures.now marks.now number canvas.map next.map) }
     ensures full { IfOk result (λ next. IsFull next.map) }
     ensures stands { IfOk result (λ next. StandsOver next pictures.now) }
     ensures canvas { IfOk result IsCanvas }
 {
-    let map = without(alloc, canvas.map(), marks, number)?;
+    let map = map_without(alloc, canvas, marks, number)?;
     lay(alloc, map, pictures, marks, number)
 }
 
@@ -154,9 +154,7 @@ pub fn merge_canvas(alloc: Global, pictures: &Volume, marks: &Volume) -> Result<
     let map = first_map(alloc, pictures)?;
     let mut canvas = Canvas::of_map(alloc, map, pictures)?;
     for number in 2..pictures.sizes().len() + 1 {
-        // No canvas but the next one takes memory while its network is solved.
-        let rest = map_without(alloc, canvas, marks, number)?;
-        canvas = lay(alloc, rest, pictures, marks, number)?;
+        canvas = merge_step(alloc, canvas, pictures, marks, number)?;
     }
     Ok(canvas)
 }

@@ -1,8 +1,7 @@
-use Rattle.std.proofs.Common.{[], ◌∷◌, sym, ◌∙◌, subst, ap, length, arith}
-use Rattle.map_canvas.specs.Maps.{IsFull, IsOver, SourceMap}
+use Rattle.std.proofs.Common.{[], ◌∷◌, sym, ◌∙◌, subst, length, ap, arith}
+use Rattle.map_canvas.specs.Maps.{IsFull, IsOver}
 use Rattle.photo_merge.proofs.Leading.{first_full, lead_size, one_more}
 use Rattle.photo_merge.proofs.Stepping.{first_over}
-use Rattle.photo_merge.proofs.Withouts.{without_over}
 use Rattle.photo_merge.proofs.merge.merge_canvas.Goals as goal
 
 pub of_map-requires : goal.of_map-requires
@@ -19,18 +18,9 @@ loop-number-init c =
       canvas = made.canvas;
     }
 
-pub lay-requires-clause-size : goal.lay-requires-clause-size
-lay-requires-clause-size c =
-    ap (λ (m : SourceMap). m.size) (c.in_ok-rest.ensures {u = tt})
-    ∙ lead_size c.args.pictures.now c.args.marks.now c.loop-number.invariant.led.0 c.loop-number.canvas.map c.loop-number.invariant.led.2
-
-pub lay-requires-clause-before : goal.lay-requires-clause-before
-lay-requires-clause-before c = (c.loop-number.canvas.map, c.loop-number.invariant.full, c.in_ok-rest.ensures {u = tt})
-
-pub lay-requires-clause-over : goal.lay-requires-clause-over
-lay-requires-clause-over c =
-    subst (λ m. IsOver m c.args.pictures.now) (sym (c.in_ok-rest.ensures {u = tt}))
-    (without_over c.loop-number.canvas.map c.args.marks.now c.loop-number.number c.args.pictures.now c.loop-number.invariant.stands.over)
+pub merge_step-requires-clause-size : goal.merge_step-requires-clause-size
+merge_step-requires-clause-size c =
+    lead_size c.args.pictures.now c.args.marks.now c.loop-number.invariant.led.0 c.loop-number.canvas.map c.loop-number.invariant.led.2
 
 pub loop-number-preserved : goal.loop-number-preserved
 loop-number-preserved c =
@@ -38,7 +28,7 @@ loop-number-preserved c =
     let next = c.in_ok-canvas-2.ensures {u = tt} in
     let before = c.loop-number.canvas.map in
     record {
-      led = (before ∷ led.0, omega (arith, led.1), one_more c.args.pictures.now c.args.marks.now c.loop-number.number led.0 before _ led.1 led.2 (next.next before (c.in_ok-rest.ensures {u = tt})));
+      led = (before ∷ led.0, omega (arith, led.1), one_more c.args.pictures.now c.args.marks.now c.loop-number.number led.0 before _ led.1 led.2 next.next);
       full = next.full;
       stands = next.stands;
       canvas = next.canvas;

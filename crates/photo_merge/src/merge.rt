@@ -3,7 +3,7 @@ ghost use Rattle.std.specs.Prelude.{◌≡◌, ◌≤◌, IfOk, IfSome, length};
 ghost use Rattle.cells.specs.Cells.{sizes_of};
 ghost use Rattle.map_canvas.specs.Canvases.{IsCanvas, StandsOver};
 ghost use Rattle.map_canvas.specs.Choices.{Fits};
-ghost use Rattle.map_canvas.specs.Maps.{IsFull, IsOver, IsSource, SourceMap};
+ghost use Rattle.map_canvas.specs.Maps.{IsFull, IsSource};
 ghost use Rattle.photo_merge.specs.Merges.{AreOneSize, IsMerge, MergesNext, first_map, source_without, whole_from, without};
 
 use crate::marks::{earlier_marks, mark_at};
@@ -85,34 +85,6 @@ fn whole_from(pictures: &Volume, number: u32, size: Size) -> Placement
     }
 }
 
-// Lays a picture over a map that was full before the cells marked with the picture were taken out.
-fn lay(
-    alloc: Global,
-    map: Map,
-    pictures: &Volume,
-    marks: &Volume,
-    number: u32,
-) -> Result<Canvas, AllocError>
-    requires one_size { AreOneSize pictures.now }
-    requires size { map.size ≡ pictures.now.size }
-    requires before { (m : SourceMap) × IsFull m × (map ≡ without m marks.now number) }
-    requires over { IsOver map pictures.now }
-    requires from { 2 ≤ number }
-    requires to { number ≤ length (sizes_of pictures.now) }
-    ensures next { IfOk result (λ next. (m : SourceMap) → map ≡ without m marks.now number
-        → MergesNext pictures.now marks.now number m next.map) }
-    ensures full { IfOk result (λ next. IsFull next.map) }
-    ensures stands { IfOk result (λ next. StandsOver next pictures.now) }
-    ensures canvas { IfOk result IsCanvas }
-{
-    let size = map.size();
-    let mut next = Canvas::of_map(alloc, map, pictures)?;
-    let held = earlier_marks(alloc, marks, size, number)?;
-    let placement = whole_from(pictures, number, size);
-    place_held(alloc, &mut next, pictures, placement, Some(&held))?;
-    Ok(next)
-}
-
 /// Lays one more picture, the one of a number from 2 on, over the whole output. The cells marked with it come
 /// from it, and those marked with an earlier one stay as they are. Of all choices for the others, the one is
 /// taken whose seams cost the least in all, and of those the one with the fewest cells that stay. The canvas is
@@ -137,7 +109,12 @@ pub fn merge_step(
     ensures canvas { IfOk result IsCanvas }
 {
     let map = map_without(alloc, canvas, marks, number)?;
-    lay(alloc, map, pictures, marks, number)
+    let size = map.size();
+    let mut next = Canvas::of_map(alloc, map, pictures)?;
+    let held = earlier_marks(alloc, marks, size, number)?;
+    let placement = whole_from(pictures, number, size);
+    place_held(alloc, &mut next, pictures, placement, Some(&held))?;
+    Ok(next)
 }
 
 /// Merges pictures of one size: begins with the first, and lays one after another over it. The one error is out

@@ -1,15 +1,51 @@
-use Rattle.std.proofs.Common.{◌∙◌, ap, sym, subst}
+use Rattle.std.proofs.Common.{◌≡◌, ap, ◌∙◌, sym, subst}
 use Rattle.map_canvas.specs.Maps.{IsOver, SourceMap}
+use Rattle.photo_merge.specs.Marks.{earlier_marks}
+use Rattle.photo_merge.specs.Merges.{MergesNext, whole_from, without}
+use Rattle.photo_merge.proofs.Nexts.{stays_full}
+use Rattle.photo_merge.proofs.Stepping.{held_there, placed_next}
 use Rattle.photo_merge.proofs.Withouts.{without_over}
 use Rattle.photo_merge.proofs.merge.merge_step.Goals as goal
+use Rattle.photo_merge.proofs.merge.merge_step.Goals.{After-deref}
 
-pub lay-requires-clause-size : goal.lay-requires-clause-size
-lay-requires-clause-size c = ap (λ (m : SourceMap). m.size) (c.in_ok-map.ensures {u = tt}) ∙ c.requires.size
+-- what is laid over the map without the picture's cells, and what is held of it
+module _ (c : After-deref) where
+  abbrev before : SourceMap
+  before = c.args.canvas.map
 
-pub lay-requires-clause-before : goal.lay-requires-clause-before
-lay-requires-clause-before c = (c.args.canvas.map, c.requires.full, c.in_ok-map.ensures {u = tt})
+  size_is : c.size-size.result ≡ before.size
+  size_is = c.size-size.ensures.size ∙ ap (λ (m : SourceMap). m.size) (c.in_ok-map.ensures {u = tt})
 
-pub lay-requires-clause-over : goal.lay-requires-clause-over
-lay-requires-clause-over c =
+  next_is : c.in_ok-next.next.map ≡ without before c.args.marks.now c.args.number
+  next_is = (c.in_ok-next.ensures {u = tt}).map ∙ c.in_ok-map.ensures {u = tt}
+
+  placement_is : c.whole_from-placement.result ≡ whole_from c.args.pictures.now c.args.number before.size
+  placement_is = c.whole_from-placement.ensures.placement ∙ ap (whole_from c.args.pictures.now c.args.number) size_is
+
+  held_is : c.deref.result.now ≡ earlier_marks c.args.marks.now before.size c.args.number
+  held_is = c.deref.ensures.value ∙ c.in_ok-held.ensures {u = tt} ∙ ap (λ size. earlier_marks c.args.marks.now size c.args.number) size_is
+
+pub of_map-requires : goal.of_map-requires
+of_map-requires c =
     subst (λ m. IsOver m c.args.pictures.now) (sym (c.in_ok-map.ensures {u = tt}))
     (without_over c.args.canvas.map c.args.marks.now c.args.number c.args.pictures.now c.requires.stands.over)
+
+pub place_held-requires-clause-held : goal.place_held-requires-clause-held
+place_held-requires-clause-held c =
+    let d = (goal.at.place_held-requires-clause-held c).After-deref in
+    held_there c.args.pictures.now c.args.marks.now c.args.number c.args.canvas.map c.in_ok-next.next.map c.whole_from-placement.result c.deref.result.now
+    c.requires.full (next_is d) (placement_is d) (held_is d)
+
+pub returns-clause-next : goal.returns-clause-next
+returns-clause-next c =
+    let d = (goal.at.returns-clause-next c).After-deref in
+    placed_next c.args.pictures.now c.args.marks.now c.args.number c.args.canvas.map c.in_ok-next.next c.place_held.new.canvas c.whole_from-placement.result c.deref.result.now
+    c.in_ok-place_held.field-0 (next_is d) (placement_is d) (held_is d) (c.in_ok-place_held.ensures {u = tt}).placed
+
+pub returns-clause-full : goal.returns-clause-full
+returns-clause-full c =
+    let d = (goal.at.returns-clause-full c).After-deref in
+    let next : MergesNext c.args.pictures.now c.args.marks.now c.args.number c.args.canvas.map c.place_held.new.canvas.map =
+    placed_next c.args.pictures.now c.args.marks.now c.args.number c.args.canvas.map c.in_ok-next.next c.place_held.new.canvas c.whole_from-placement.result c.deref.result.now
+    c.in_ok-place_held.field-0 (next_is d) (placement_is d) (held_is d) (c.in_ok-place_held.ensures {u = tt}).placed in
+    stays_full c.args.pictures.now c.args.marks.now c.args.number c.args.canvas.map c.place_held.new.canvas.map next c.requires.full

@@ -1,14 +1,15 @@
 // The pipes of the pairs of a placement's box, one pair after another.
-ghost use Rattle.std.specs.Prelude.{◌≡◌, ◌≤◌, ◌<◌, ◌+◌, ◌*◌, ◌∷◌, List, [], length, IfOk, OnOk, Some};
+ghost use Rattle.std.specs.Prelude.{◌≡◌, ◌≤◌, ◌<◌, ◌+◌, ◌*◌, ◌∷◌, ◌↔◌, IsTrue, List, [], length, IfOk, OnOk, Some};
 ghost use Rattle.cells.specs.Distances.{distance};
-ghost use Rattle.cells.specs.Places.{cell_count, raster_index};
+ghost use Rattle.cells.specs.Neighbours.{unit_step};
+ghost use Rattle.cells.specs.Places.{cell_count, plus, raster_index};
 ghost use Rattle.cells.specs.Boxes.{cell_in};
 ghost use Rattle.max_flow.specs.Networks.{empty_network};
 ghost use Rattle.max_flow.specs.declared.network.Pipe.{Pipe};
 ghost use Rattle.map_canvas.specs.Maps.{IsSource};
 ghost use Rattle.boxes.specs.Pairs.{AreCounts, pair_count, pairs_before, IsPair};
 ghost use Rattle.boxes.specs.Walks.{most_pairs};
-ghost use Rattle.costs.specs.Costs.{most_of_pair};
+ghost use Rattle.costs.specs.Costs.{most_of_pair, seam};
 ghost use Rattle.cut_graph.specs.Pipes.{first_or_none, pair_pipes};
 ghost use Rattle.cut_graph.specs.Plans.{HasNodes, HasSources, IsCellAt, IsPiped, IsPipedPast, IsPipedTo, IsPlan, before, with_pipes};
 
@@ -45,6 +46,33 @@ fn join_sink(network: &mut Network, node: u32, cost: u32)
     });
 }
 
+// Whether a source is the next one along an axis after another.
+#[tactic(auto, using(costs::proofs::Near::step_fits))]
+fn follows(axis: Axis, a: At, b: At) -> bool
+    requires { IsSource a }
+    ensures { IsTrue result ↔ (plus a (unit_step axis) ≡ b) }
+{
+    a.plus(axis.unit()) == b
+}
+
+// The cost of the new source of a cell and the old one of the next, from that of the old and the new one.
+// Where the old sources are next to one another, as most are, the two costs are one.
+fn new_old(sample: &Volume, axis: Axis, a: At, b: At, new_a: At, old_new: u32) -> u32
+    requires a { IsSource a }
+    requires b { IsSource b }
+    requires new_a { IsSource new_a }
+    requires cost { old_new ≡ seam (distance sample.now) axis a (plus new_a (unit_step axis)) }
+    requires small { old_new ≤ most_of_pair }
+    ensures cost { result ≡ seam (distance sample.now) axis new_a b }
+    ensures small { result ≤ most_of_pair }
+{
+    if follows(axis, a, b) {
+        old_new
+    } else {
+        seam_of(sample, axis, Some(new_a), Some(b))
+    }
+}
+
 // Adds the pipes of two filled cells, of sources a and b: through the seam node as much both ways as old
 // meets new, and from there to the sink what old meets old.
 fn join_filled(
@@ -66,6 +94,7 @@ fn join_filled(
     requires b { IsSource b }
     requires first_new { IsSource first.now.after }
     requires second_new { IsSource second.now.after }
+    requires next { second.now.after ≡ plus first.now.after (unit_step axis) }
     ensures { network.new ≡ with_pipes network.old
         (pair_pipes (distance sample.now) axis (Some a)
         (Some b) first.now.after second.now.after first.now.node second.now.node seam) }
@@ -77,7 +106,7 @@ fn join_filled(
         ahead,
         back: ahead,
     });
-    let back = seam_of(sample, axis, Some(first.after), Some(b));
+    let back = new_old(sample, axis, a, b, first.after, ahead);
     network.add_pipe(Pipe {
         from: seam,
         to: second.node,
@@ -104,6 +133,7 @@ fn join(
     requires ends { 2 ≤ network.old.nodes }
     requires first_sources { HasSources first.now }
     requires second_sources { HasSources second.now }
+    requires next { second.now.after ≡ plus first.now.after (unit_step axis) }
     ensures network { network.new ≡ with_pipes network.old
         (pair_pipes (distance sample.now) axis first.now.before second.now.before
         first.now.after second.now.after first.now.node second.now.node seam) }

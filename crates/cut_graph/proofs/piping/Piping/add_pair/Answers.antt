@@ -6,6 +6,8 @@ use Rattle.cells.specs.Places.{cell_count, plus}
 use Rattle.boxes.proofs.PairNumbers.{number_below, pairs_few}
 use Rattle.boxes.proofs.Indices.{stride_below}
 use Rattle.boxes.specs.Pairs.{pair_number}
+use Rattle.costs.proofs.Copies.{new_next}
+use Rattle.map_canvas.specs.Choices.{new_source}
 use Rattle.cut_graph.specs.declared.piping.Piping.{Piping}
 use Rattle.cut_graph.specs.Plans.{IsCellAt, pipes_of_pair}
 use Rattle.cut_graph.proofs.Laying.{Grows, grown, has_room, pair_is, pipes_most, plan_small, second_in_box}
@@ -34,6 +36,15 @@ bounds-plan-len c =
 
 pub offset_bounds-plan-len : goal.offset_bounds-plan-len
 offset_bounds-plan-len c = let lt = bounds-plan-len c in search rules
+
+pub join-added-requires-clause-next : goal.join-added-requires-clause-next
+join-added-requires-clause-next c =
+    let placement = c.args.plan.now.placement in
+    let at = c.args.at in
+    let step = unit_step c.args.axis in
+    let place : c.plus-place.result ≡ plus (cell_in placement.rect at.x at.y at.f) step = c.plus-place.ensures ∙ (λ k. plus (c.cell.ensures k) (c.unit.ensures k)) in
+    c.cell-second.ensures.cell.new ∙ ap (new_source placement) place
+    ∙ new_next placement (cell_in placement.rect at.x at.y at.f) step ∙ ap (λ p. plus p step) (sym c.requires.first.new)
 
 pub join-added-requires-clause-room : goal.join-added-requires-clause-room
 join-added-requires-clause-room c =

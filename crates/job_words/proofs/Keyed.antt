@@ -1,5 +1,5 @@
 -- The settings of keys: which one is found, and what one more setting changes.
-use Rattle.std.proofs.Common.{◌≡◌, ℕ, List, [], ◌∷◌, ◌++◌, refl, sym, ap, ◌∙◌, Bool, true, false, cond, ◌&&◌, eqb-true}
+use Rattle.std.proofs.Common.{◌≡◌, ◌≢◌, ℕ, List, [], ◌∷◌, ◌++◌, refl, sym, ap, ◌∙◌, Bool, true, false, cond, ◌&&◌, eqb-true}
 use Rattle.std.specs.Prelude.{Option, Some, None, option_map, find, unwrap_or}
 use Rattle.std.specs.Option.{option_or}
 use Rattle.std.proofs.lemmas.Bool.{eq-eqb}
@@ -48,6 +48,18 @@ key_again Taps = refl
 key_again Gap = refl
 key_again Wrap = refl
 key_again Turns = refl
+
+of_number : (key : Key) (n : ℕ) → key_number key ≡ Some n → key ≡ More n
+unfolding key_with
+of_number key n is = sym (key_again key) ∙ ap (key_with (key_stem key)) is
+
+-- only the key of a further sample ends in a number
+pub unnumbered : (key : Key) → ((n : ℕ) → key ≢ More n) → None ≡ key_number key
+unnumbered key other = by (key_number key) refl
+  where
+    by : (o : Option ℕ) → key_number key ≡ o → None ≡ key_number key
+    by None is = sym is
+    by (Some n) is = absurd (other n (of_number key n is))
 
 number_exact : (m n : Option ℕ) → same_number m n ≡ true → m ≡ n
 number_exact None None e = refl

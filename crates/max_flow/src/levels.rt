@@ -78,7 +78,8 @@ pub fn find_levels(
     requires levels { length levels.old ≡ graph.now.nodes }
     ensures levels { OnOk result (AreLevels graph.now.pipes.now graph.now.nodes graph.now.source
         backward.now levels.new) }
-    ensures reached { IfOk result (λ found. IsTrue found ↔ (0 < level_of levels.new graph.now.sink)) }
+    ensures reached { IfOk result (λ found.
+        IsTrue found ↔ (0 < level_of levels.new graph.now.sink)) }
     ensures closed { IfOk result (λ found.
         OnFalse found (IsClosed graph.now.pipes.now backward.now levels.new)) }
 {

@@ -60,6 +60,13 @@ one_place sizes p there one has =
     let f : there.at.f ≡ there.at.f +ℤ pos 0 = omega (arith, ints) in
     (λ i. record { x = there.at.x; y = there.at.y; f = f i }) ∙ ap (λ n. frames_on n there.at) (sym none) ∙ has.stock
 
+-- and its part is the first
+pub one_part : (sizes : List Size) (p : At) (there : PartPlace) → length sizes ≡ 1 → IsPartPlace sizes p there → there ≡ record { part = 1; at = p }
+one_part sizes p there one has =
+    let within = slice_get_within sizes has.before has.size has.is in
+    let number : there.part ≡ 1 = omega (arith, within, has.part, one) in
+    λ i. record { part = number i; at = one_place sizes p there one has i }
+
 pub one_short : (sizes : List Size) (p : At) (there : PartPlace) → AreSizes sizes → length sizes ≡ 1 → IsPartPlace sizes p there → IsShort p
 one_short sizes p there are one has = subst IsShort (one_place sizes p there one has) (part_short sizes p there are has)
 

@@ -60,23 +60,26 @@ pub fn place_bytes(p: At) -> [u8; 6]
     [a, b, c, d, e, f]
 }
 
-// Puts a place of a sample that is named by its number.
-fn put_numbered<S: Shelf>(file: &mut FileWriter, there: PartPlace, shelf: &mut S, name: &str)
+// A place of a sample that is named by its number, in the file's form.
+fn numbered_bytes(there: PartPlace) -> [u8; 8]
     requires short { IsShort there.at }
     requires number { there.part < 2 ^ 16 }
-    ensures { Puts name.now (numbered_field there) (S.state shelf.old) (S.state shelf.new)
-        file.old file.new }
+    ensures { result ≡ numbered_field there }
 {
-    file.put_number(there.part as u16, shelf, name);
-    file.put(&place_bytes(there.at), shelf, name);
+    let [a, b] = (there.part as u16).to_be_bytes();
+    let [c, d, e, f, g, h] = place_bytes(there.at);
+    [a, b, c, d, e, f, g, h]
 }
 
-// The sample that has a source, and the place in it.
+// The sample that has a source, and the place in it. One sample has them all, and isn't asked.
 fn place_of(samples: &Sizes, from: At) -> PartPlace
     requires { IsInSamples samples.now from }
     ensures part { IsPartPlace samples.now from result }
     ensures form { result ≡ part_from 1 samples.now from }
 {
+    if samples.len() == 1 {
+        return PartPlace { part: 1, at: from };
+    }
     samples.part_of(from).unwrap()
 }
 
@@ -97,7 +100,7 @@ pub fn put_source<S: Shelf>(
 {
     match version {
         Version::One => file.put(&place_bytes(from), shelf, name),
-        Version::Two => put_numbered(file, place_of(samples, from), shelf, name),
+        Version::Two => file.put(&numbered_bytes(place_of(samples, from)), shelf, name),
     }
 }
 

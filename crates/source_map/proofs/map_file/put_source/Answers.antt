@@ -5,8 +5,8 @@ pub place_bytes-requires : goal.place_bytes-requires
 place_bytes-requires g c =
     one_short c.args.samples.now c.args.from c.requires.inside.0 c.requires.samples.sizes_are (c.requires.samples.one c.in-One.is) c.requires.inside.1
 
-pub put_numbered-requires : goal.put_numbered-requires
-put_numbered-requires g c = record {
+pub numbered_bytes-requires : goal.numbered_bytes-requires
+numbered_bytes-requires g c = record {
   short = part_short c.args.samples.now c.args.from c.place_of.result c.requires.samples.sizes_are c.place_of.ensures.part;
   number = part_low c.args.samples.now c.args.from c.place_of.result c.requires.samples.sizes_are c.place_of.ensures.part;
 }

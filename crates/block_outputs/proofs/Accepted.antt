@@ -23,8 +23,7 @@ use Rattle.sample_files.specs.Several.{StandForSamples, contents}
 use Rattle.sample_files.proofs.Commands.{alone}
 use Rattle.standing_files.specs.Standing.{FilesStand}
 use Rattle.standing_files.proofs.Runs.{quilt_stands}
-use Rattle.check_command.specs.declared.reading.ReadFiles.{ReadFiles}
-use Rattle.check_command.specs.Checks.{Stand}
+use Rattle.check_command.specs.Checks.{ReadFiles, Stand}
 use Rattle.block_outputs.specs.declared.output.PictureQuilt.{PictureQuilt}
 use Rattle.block_outputs.specs.BlockOutputs.{IsMadeQuilt, quilt_head}
 use Rattle.block_outputs.proofs.Ready.{map_ready, picture_ready, record_ready, wide_block}

@@ -200,8 +200,8 @@ fn read_side<S: Shelf>(
     }
 }
 
-// Reads a block record, after boxes of so many cells.
-fn read_block<S: Shelf>(
+/// Reads a block record, after boxes of `before` cells. Its refusals are those of `read_record_file`.
+pub fn read_block<S: Shelf>(
     alloc: Global,
     file: &mut FileReader,
     before: u64,

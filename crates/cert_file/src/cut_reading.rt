@@ -75,8 +75,8 @@ fn read_flows<S: Shelf>(
     Ok(Items::from_vec(flows))
 }
 
-// How many cells a box has.
-pub(crate) fn cells_of(size: Size) -> usize
+/// How many cells the box of a record has. Its axes may be longer than those of a volume.
+pub fn cells_of(size: Size) -> usize
     requires axes { IsBoxSize size }
     requires few { cell_count size ≤ MOST_BOX_CELLS }
     ensures { result ≡ cell_count size }
@@ -97,8 +97,8 @@ fn pairs_of(size: Size) -> usize
     (cells - h * f) + (cells - w * f) + (cells - w * h)
 }
 
-// Reads a cut record, after boxes of so many cells.
-fn read_cut<S: Shelf>(
+/// Reads a cut record, after boxes of `before` cells. Its refusals are those of `read_record_file`.
+pub fn read_cut<S: Shelf>(
     alloc: Global,
     file: &mut FileReader,
     version: Version,

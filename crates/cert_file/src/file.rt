@@ -1,13 +1,13 @@
 // Whole record files.
-ghost use Rattle.std.specs.Prelude.{◌≡◌, ◌<◌, ◌+◌, ◌^◌, IfOk, OnOk, OnErr};
+ghost use Rattle.std.specs.Prelude.{◌≡◌, ◌≤◌, ◌<◌, ◌+◌, ◌^◌, IfOk, OnOk, OnErr};
 ghost use Rattle.std.specs.Int.{w32};
 ghost use Rattle.shelf_core.specs.Files.{Changes, OnlyReadsFile, OnlyWritesFile, WritesRose};
 ghost use Rattle.shelf_core.specs.Written.{HoldsPart, HoldsText};
 ghost use Rattle.file_bytes.specs.Reading.{Follows};
-ghost use Rattle.source_map.specs.Heads.{IsHead, IsKind};
+ghost use Rattle.source_map.specs.Heads.{IsHead, IsKind, head_read};
 ghost use Rattle.source_map.specs.Readings.{ReadsFrom, number_read};
 ghost use Rattle.cert_file.specs.declared.file.RecordFile.TheVariants.{Cuts};
-ghost use Rattle.cert_file.specs.RecordFiles.{AreCuts, AreCutsInForm, AreCutsInLimits, IsRecordFile, IsRecordFileOf, ReadsRecordFile, ReadsRecordFileBy, ReadsToEnd, cuts_file_read, cuts_form, records_read, version_one_cuts_read};
+ghost use Rattle.cert_file.specs.RecordFiles.{AreCuts, AreCutsInForm, AreCutsInLimits, IsRecordFile, IsRecordFileOf, ReadsRecordFile, ReadsRecordFileBy, ReadsToEnd, cuts_file_read, cuts_form, kinds, record_magic, records_read, version_one_cuts_read, versions};
 ghost use Rattle.cert_file.specs.Rules.{any_rule};
 
 use crate::blocks::read_blocks_file;
@@ -26,11 +26,11 @@ use std::alloc::Global;
 // What each record file begins with.
 pub(crate) const MAGIC: [u8; 8] = *b"WEAVEREC";
 
-// The kind of a file of cut records.
-const CUTS: u8 = 0;
+/// The kind of a file of cut records, as its head has it.
+pub const CUTS: u8 = 0;
 
-// The kind of a file of block records.
-pub(crate) const BLOCKS: u8 = 1;
+/// The kind of a file of block records.
+pub const BLOCKS: u8 = 1;
 
 // The kind of a file of a walk record.
 pub(crate) const WALK: u8 = 2;
@@ -91,8 +91,8 @@ pub fn write_cuts<S: Shelf>(
     file.finish(shelf, name)
 }
 
-// Reads how many records there are.
-pub(crate) fn read_count<S: Shelf>(
+/// Reads how many records there are, after the head of a file of cut records or of block records.
+pub fn read_count<S: Shelf>(
     file: &mut FileReader,
     shelf: &mut S,
     name: &str,
@@ -158,6 +158,26 @@ fn read_records<S: Shelf>(
     }
 }
 
+/// Reads the head of a record file, and the number of its kind, from the first byte on. A caller that
+/// needs each record only as it comes reads on by `read_count` and then `read_cut` or `read_block`, or by
+/// `read_walk_file`, and is refused what `read_record_file` refuses. It takes no memory.
+pub fn read_record_head<S: Shelf>(
+    file: &mut FileReader,
+    shelf: &mut S,
+    name: &str,
+) -> Result<(Head, u8), ReadError>
+    requires follows { Follows name.now (S.state shelf.old) file.old }
+    requires start { file.old.at ≡ 0 }
+    ensures answer { ReadsFrom ⊥ name.now file.old.at (S.state shelf.old) (S.state shelf.new)
+        file.new (head_read record_magic versions kinds) result }
+    ensures head { IfOk result (λ found. IsHead found.0) }
+    ensures kind { IfOk result (λ found. IsKind kinds found.0.version found.1) }
+    ensures place { OnOk result (file.new.at ≤ 216) }
+    ensures reads { OnlyReadsFile name.now (S.state shelf.old) (S.state shelf.new) }
+{
+    read_head(file, MAGIC, VERSIONS, KINDS, shelf, name)
+}
+
 /// Reads a record file, to its end.
 ///
 /// The refusals, in the order of the fields: `Bad(Form)` at the file's length where the file ends within
@@ -177,7 +197,7 @@ pub fn read_record_file<S: Shelf>(
     ensures reads { OnlyReadsFile name.now (S.state shelf.old) (S.state shelf.new) }
 {
     let mut file = FileReader::new();
-    let (head, kind) = read_head(&mut file, MAGIC, VERSIONS, KINDS, shelf, name)?;
+    let (head, kind) = read_record_head(&mut file, shelf, name)?;
     read_records(alloc, &mut file, head, kind, shelf, name)
 }
 

@@ -14,10 +14,14 @@ mod walk_fields;
 mod walks;
 
 pub use block_check::BlockRecord;
-pub use blocks::write_blocks;
+pub use blocks::{read_block, write_blocks};
 pub use cells::Taps;
 pub use cut_check::{CutRecord, Flow};
-pub use file::{RecordFile, read_record_file, read_version_one_cuts, write_cuts};
+pub use cut_reading::{cells_of, read_cut};
+pub use file::{
+    BLOCKS, CUTS, RecordFile, read_count, read_record_file, read_record_head,
+    read_version_one_cuts, write_cuts,
+};
 pub use items::Items;
 pub use law::{
     blocks_have_one_spelling, blocks_read_again, cuts_have_one_spelling, cuts_read_again,
@@ -26,4 +30,4 @@ pub use law::{
 };
 pub use source_map::{Head, Version};
 pub use strip_boundary::BoundaryRecord;
-pub use walks::write_walk;
+pub use walks::{read_walk_file, write_walk};

@@ -119,8 +119,9 @@ fn entry_count(n: u32, length: u32) -> usize
     table_count(length) as usize * (n as usize * n as usize)
 }
 
-// Reads a walk record, from after a head to the end of the file.
-pub(crate) fn read_walk_file<S: Shelf>(
+/// Reads a walk record, from after the head of its file to the end of the file. Its refusals are those of
+/// `read_record_file`.
+pub fn read_walk_file<S: Shelf>(
     alloc: Global,
     file: &mut FileReader,
     head: Head,

@@ -14,9 +14,8 @@ use Rattle.standing_files.specs.declared.verdict.Verdict.{Verdict}
 use Rattle.standing_files.specs.declared.verdict.Verdict.TheVariants.{Stands, Fails}
 use Rattle.standing_files.specs.Standing.{IsVerdict, map_output}
 use Rattle.standing_files.proofs.Least.{records_least}
-use Rattle.check_command.specs.declared.reading.ReadFiles.{ReadFiles}
 use Rattle.check_command.specs.CheckHeadlines.{HaveLeastRecords}
-use Rattle.check_command.specs.Checks.{AreRunFiles, Break, IsCheckSummary, Stand, check_command, summary_of}
+use Rattle.check_command.specs.Checks.{AreRunFiles, Break, IsCheckSummary, ReadFiles, Stand, check_command, summary_of}
 use Rattle.check_command.proofs.Staged.{IsJudged, judged_of, made_of}
 
 -- it writes no file

@@ -33,8 +33,7 @@ use Rattle.standing_files.specs.declared.verdict.Verdict.{Verdict}
 use Rattle.standing_files.specs.declared.verdict.Verdict.TheVariants.{Stands, Fails}
 use Rattle.standing_files.specs.Standing.{IsVerdict}
 use Rattle.standing_files.proofs.Breaking.{breaks_none}
-use Rattle.check_command.specs.declared.reading.ReadFiles.{ReadFiles}
-use Rattle.check_command.specs.Checks.{AreRunFiles, IsCheckSummary, IsReadMap, IsOut, MayRefuseFiles, RefusesMap, RefusesOutBytes, check_command, check_stages, run_map_read, stages_over, summary_of}
+use Rattle.check_command.specs.Checks.{AreRunFiles, IsCheckSummary, IsOut, IsReadMap, MayRefuseFiles, ReadFiles, RefusesMap, RefusesOutBytes, check_command, check_stages, run_map_read, stages_over, summary_of}
 
 known_samples : (n : ℕ) (fault : Fault) → MayRefuseSamples n fault → MayRefuseFiles n fault
 known_samples n (Form part.Out why) may = tt

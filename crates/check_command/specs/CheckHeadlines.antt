@@ -9,8 +9,7 @@ use Rattle.synth_report.specs.declared.summary.Summary.TheVariants.{Fails}
 use Rattle.command.specs.Promises.{Asks, TellsFiles}
 use Rattle.command.specs.Writing.{Reported}
 use Rattle.standing_files.specs.Standing.{RecordsAreLeast, map_output}
-use Rattle.check_command.specs.declared.reading.ReadFiles.{ReadFiles}
-use Rattle.check_command.specs.Checks.{AreRunFiles, Break, Stand}
+use Rattle.check_command.specs.Checks.{AreRunFiles, Break, ReadFiles, Stand}
 
 -- the files of these names have records, and those are least over the worked samples: each choice
 -- of a cut record of all admissible ones, each boundary of a block record of all boundaries of its

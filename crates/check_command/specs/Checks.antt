@@ -1,7 +1,7 @@
 -- `check` as a command: what it reads and refuses, and what it says of the files. To be trusted:
 -- contracts cite these words. (Own.)
 use Rattle.std.specs.Prelude.{◌≡◌, ◌+◌, ◌++◌, ℕ, Bool, true, false, List, [], ◌∷◌, length, Result, Ok, Err}
-use Rattle.shelf_core.specs.Files.{Files, content_of}
+use Rattle.shelf_core.specs.Files.{Files, InFile, ShelfState, content_of}
 use Rattle.shelf_core.specs.declared.fault.ReadError.{ReadError}
 use Rattle.source_map.specs.declared.head.Version.TheVariants.{Two}
 use Rattle.source_map.specs.declared.map_file.MapFile.{MapFile}
@@ -11,6 +11,7 @@ use Rattle.turned.specs.TurnedParts.{turned_sizes_of}
 use Rattle.turned_map.specs.declared.turned_file.TurnedFile.{TurnedFile}
 use Rattle.turned_map.specs.TurnedFiles.{turned_map_read}
 use Rattle.worked.specs.Worked.{worked_samples}
+use Rattle.cert_file.specs.declared.file.RecordFile.{RecordFile}
 use Rattle.cert_file.specs.RecordFiles.{IsRecordFileOf, RefusesRecordFile}
 use Rattle.job_words.specs.declared.check.CheckJob.{CheckJob}
 use Rattle.job_words.specs.declared.job.Names.{Names}
@@ -20,6 +21,7 @@ use Rattle.synth_report.specs.declared.fault.FileOf.TheVariants as part
 use Rattle.synth_report.specs.declared.summary.Summary.{Summary}
 use Rattle.synth_report.specs.declared.summary.Summary.TheVariants as summary
 use Rattle.command.specs.Commands.{Command, named}
+use Rattle.command.specs.Faults.{IsNotRead}
 use Rattle.command.specs.Stages.{Stages, of_stages, read_file}
 use Rattle.command.specs.Stages.Stages.{make}
 use Rattle.sample_files.specs.declared.sample.Sample.{Sample}
@@ -29,7 +31,6 @@ use Rattle.sample_files.specs.Several.{StandForSamples, MayRefuseSamples, conten
 use Rattle.standing_files.specs.declared.verdict.Verdict.{Verdict}
 use Rattle.standing_files.specs.declared.verdict.Verdict.TheVariants.{Stands, Fails}
 use Rattle.standing_files.specs.Standing.{FilesStand, IsFirstBrokenRule, IsVerdict}
-use Rattle.check_command.specs.declared.reading.ReadFiles.{ReadFiles}
 use Rattle.limits.specs.declared.bounds.TheConstants.{MOST_OUT_CLIP_CELLS}
 
 -- What the files are.
@@ -69,6 +70,14 @@ pub record StandForWorked (turns : Bool) (names : Names) (files : Files) (all : 
       samples
   pub is : all ≡ worked_samples turns samples
 
+-- the values that the files of a run stand for: with turns the samples are those of all turns, and
+-- the map has places of all turns
+pub record ReadFiles : Type 0 where
+  pub samples : Samples
+  pub out : Sample
+  pub map : MapFile
+  pub record_file : RecordFile
+
 -- the files of these names are in their forms and within their limits, and stand for these values;
 -- with turns, samples and map are those of the volume of all turns
 pub record AreRunFiles (turns : Bool) (names : Names) (files : Files) (values : ReadFiles)
@@ -98,6 +107,17 @@ MayRefuseFiles n (Form part.Out why) = Unit {0}
 MayRefuseFiles n (Form part.Map why) = Unit {0}
 MayRefuseFiles n (Form part.Record why) = Unit {0}
 MayRefuseFiles n fault = MayRefuseSamples n fault
+
+-- what is answered of the record file of this name, beside other files: the verdict on what it
+-- stands for, or why it isn't read
+abbrev pub JudgesRecord : Samples → Sample → MapFile → List ℕ → ShelfState → ShelfState
+    → Result Verdict Fault → Type 0
+JudgesRecord samples out map_file name was now (Ok verdict) =
+    (record_file : RecordFile)
+    × InFile name was now (λ bytes. IsRecordFileOf bytes record_file)
+    × IsVerdict samples out map_file record_file verdict
+JudgesRecord samples out map_file name was now (Err fault) =
+    IsNotRead RefusesRecordFile part.Record name was now fault
 
 -- What is said of them.
 

@@ -1,41 +1,27 @@
-// The files of a run, read in their order.
-ghost use Rattle.std.specs.Prelude.{◌≡◌, IfOk, IfErr};
-ghost use Rattle.shelf_core.specs.Files.{Changes, OnlyReads, OnlyReadsFile};
+// The files of a run, read in their order and judged.
+ghost use Rattle.std.specs.Prelude.{◌≡◌, []};
+ghost use Rattle.shelf_core.specs.Files.{OnlyReads, OnlyReadsFile};
 ghost use Rattle.source_map.specs.MapFiles.{MapReadsBy};
 ghost use Rattle.turned_map.specs.TurnedFiles.{IsTurnedFile};
-ghost use Rattle.cert_file.specs.RecordFiles.{IsRecordFile, IsRecordFileOf, RefusesRecordFile};
 ghost use Rattle.sample_files.specs.Several.{AreSoundSamples};
 ghost use Rattle.synth_report.specs.declared.fault.FileOf.TheVariants as part;
 ghost use Rattle.command.specs.Commands.{names_in};
-ghost use Rattle.command.specs.Outcomes.{NotMade};
-ghost use Rattle.check_command.specs.Checks.{AreRunFiles, IsReadMap, IsOut, RefusesMap, RefusesOutBytes, check_command, map_of_turned, run_map_read};
+ghost use Rattle.command.specs.Outcomes.{Plans};
+ghost use Rattle.check_command.specs.Checks.{IsReadMap, IsOut, JudgesRecord, RefusesMap, RefusesOutBytes, check_command, map_of_turned, run_map_read, summary_of};
 ghost use Rattle.command.specs.Faults.{ReadsPart};
 
-use cert_file::{RecordFile, read_record_file};
 use command::read_fault;
 use job_words::{CheckJob, Name};
 use limits::MOST_OUT_CLIP_CELLS;
 use sample_files::{Sample, Samples, parts_within, read_sample_within, read_samples};
 use shelf_core::{ReadError, Shelf};
 use source_map::{MapFile, Version, read_map};
+use standing_files::{Verdict, judge_record_file};
 use std::alloc::Global;
 use synth_report::{Fault, FileOf};
 use turned::turned_sizes;
 use turned_map::{TurnedFile, read_turned_map};
 use worked::worked;
-
-/// The files of a run, as they were read.
-#[derive(Drop)]
-pub struct ReadFiles {
-    /// The samples, with turns those of all turns.
-    pub samples: Samples,
-    /// The picture.
-    pub out: Sample,
-    /// The map, with turns as places of all turns.
-    pub map: MapFile,
-    /// The record.
-    pub record_file: RecordFile,
-}
 
 // Reads the out file.
 fn read_out<S: Shelf>(alloc: Global, shelf: &mut S, name: &Name) -> Result<Sample, Fault>
@@ -100,32 +86,36 @@ fn read_map_file<S: Shelf>(
     }
 }
 
-// Reads the record file.
-fn read_record<S: Shelf>(alloc: Global, shelf: &mut S, name: &Name) -> Result<RecordFile, Fault>
-    ensures answer { ReadsPart IsRecordFileOf RefusesRecordFile part.Record name.now
+// Reads the record file, and judges the files.
+fn judge_record<S: Shelf>(
+    alloc: Global,
+    samples: &Samples,
+    out: &Sample,
+    map: &MapFile,
+    shelf: &mut S,
+    name: &Name,
+) -> Result<Verdict, Fault>
+    requires sound { AreSoundSamples samples.now }
+    ensures answer { JudgesRecord samples.now out.now map.now name.now
         (S.state shelf.old) (S.state shelf.new) result }
-    ensures form { IfOk result IsRecordFile }
     ensures reads { OnlyReadsFile name.now (S.state shelf.old) (S.state shelf.new) }
 {
-    match read_record_file(alloc, shelf, name.as_text()) {
-        Ok(record_file) => Ok(record_file),
+    match judge_record_file(alloc, samples, out, map, shelf, name.as_text()) {
+        Ok(verdict) => Ok(verdict),
         Err(error) => Err(read_fault(FileOf::Record, error)),
     }
 }
 
-/// Reads the samples in the order of their numbers, then the out file, the map and the record. With
-/// turns the number of parts is asked for before, and the samples are turned when all is read.
-pub(crate) fn read_files<S: Shelf>(
+/// Reads the samples in the order of their numbers, then the out file, the map and the record, whose records
+/// are judged as they come. With turns the number of parts is asked for before, and the samples are turned
+/// before the record is read.
+pub(crate) fn judge_files<S: Shelf>(
     alloc: Global,
     job: &CheckJob,
     shelf: &mut S,
-) -> Result<ReadFiles, Fault>
-    ensures read { IfOk result (λ values. Changes (S.state shelf.old) (S.state shelf.new)
-        (λ before after. AreRunFiles job.now.turns job.now.names before values)) }
-    ensures failed { IfErr result
-        (NotMade (check_command job.now) (S.state shelf.old) (S.state shelf.new)) }
-    ensures sound { IfOk result (λ values. AreSoundSamples values.samples) }
-    ensures form { IfOk result (λ values. IsRecordFile values.record_file) }
+) -> Result<Verdict, Fault>
+    ensures planned { Plans (check_command job.now) (λ verdict. []) summary_of
+        (S.state shelf.old) (S.state shelf.new) result }
     ensures reads { OnlyReads (names_in (check_command job.now).reads)
         (S.state shelf.old) (S.state shelf.new) }
 {
@@ -147,18 +137,12 @@ pub(crate) fn read_files<S: Shelf>(
         Ok(map) => map,
         Err(fault) => return Err(fault),
     };
-    let record_file = match read_record(alloc, shelf, &names.record_file) {
-        Ok(record_file) => record_file,
-        Err(fault) => return Err(fault),
-    };
     let samples = match worked(alloc, job.turns, samples) {
         Ok(samples) => samples,
         Err(_) => return Err(Fault::NoMemory),
     };
-    Ok(ReadFiles {
-        samples,
-        out,
-        map,
-        record_file,
-    })
+    match judge_record(alloc, &samples, &out, &map, shelf, &names.record_file) {
+        Ok(verdict) => Ok(verdict),
+        Err(fault) => Err(fault),
+    }
 }

@@ -26,8 +26,7 @@ use Rattle.sample_files.specs.declared.form.Form.TheVariants.{Picture, Clip}
 use Rattle.sample_files.specs.Samples.{CanStandIn, StandsWithin, form_text}
 use Rattle.standing_files.specs.Standing.{FilesStand}
 use Rattle.standing_files.proofs.Runs.{run_stands}
-use Rattle.check_command.specs.declared.reading.ReadFiles.{ReadFiles}
-use Rattle.check_command.specs.Checks.{AreRunFiles, Stand, StandForWorked, of_turned, run_map_read}
+use Rattle.check_command.specs.Checks.{AreRunFiles, ReadFiles, Stand, StandForWorked, of_turned, run_map_read}
 use Rattle.grow_outputs.specs.declared.growth.Growth.{Growth}
 use Rattle.grow_outputs.specs.Growths.{IsMade, head_over, version_over}
 use Rattle.grow_outputs.proofs.OneTurns.{one_turns}

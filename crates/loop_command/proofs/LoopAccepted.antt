@@ -22,8 +22,7 @@ use Rattle.sample_files.specs.declared.form.Form.TheVariants.{Clip}
 use Rattle.sample_files.proofs.Commands.{alone}
 use Rattle.sample_files.proofs.OneSample.{count_alone}
 use Rattle.standing_files.proofs.Runs.{loop_stands}
-use Rattle.check_command.specs.declared.reading.ReadFiles.{ReadFiles}
-use Rattle.check_command.specs.Checks.{AreRunFiles, Stand}
+use Rattle.check_command.specs.Checks.{AreRunFiles, ReadFiles, Stand}
 use Rattle.loop_command.specs.declared.plan.LoopedClip.{LoopedClip}
 use Rattle.loop_command.specs.Loops.{IsLoopMade, frames_taken, loop_head, loop_size}
 use Rattle.loop_command.proofs.Taken.{taken_cells}

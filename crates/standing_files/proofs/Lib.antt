@@ -10,3 +10,5 @@ pub mod Least
 pub mod Runs
 pub mod Versions
 pub mod Judging
+pub mod Finding
+pub mod Concluding

@@ -76,8 +76,8 @@ fn is_known_left(left: &Map, map: &Map) -> bool
     left.size() == map.size() && have_one_entry_each(left.sources(), map.sources())
 }
 
-// The index of the first cell of a map that is unfilled in what is left, or has another source there.
-fn first_other_source(left: &Map, map: &Map) -> Option<usize>
+/// The index of the first cell of a map that is unfilled in what is left, or has another source there.
+pub(crate) fn first_other_source(left: &Map, map: &Map) -> Option<usize>
     ensures { FirstWithout (cell_count map.now.size)
         (λ i. HasOneSource left.now map.now (place_of map.now.size i)) result }
 {

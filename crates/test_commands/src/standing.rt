@@ -11,7 +11,7 @@ use sample_files::{Sample, Samples, read_sample};
 use shelf_core::MemShelf;
 use source_map::read_map;
 use standing_files::Verdict::{Fails, Stands};
-use standing_files::{MAP_RULE, PICTURE_RULE, TOGETHER_RULE, Verdict, judge};
+use standing_files::{MAP_RULE, PICTURE_RULE, TOGETHER_RULE, Verdict, judge, judge_record_file};
 use std::alloc::{AllocError, Global};
 use strip_boundary::{COST_RULE, PATH_RULE, SUMS_RULE};
 
@@ -66,7 +66,8 @@ fn put_files(
     shelf.put_file("r", record)
 }
 
-// The verdict on the files of a shelf, where each is read.
+// The verdict on the files of a shelf, where each is read. That on the record file as it is read has to be
+// the same.
 fn verdict_of(alloc: Global, shelf: &mut MemShelf) -> Result<Verdict, AllocError> {
     let samples = read_one(alloc, shelf)?;
     let Ok(out) = read_sample(alloc, shelf, "o") else {
@@ -78,7 +79,11 @@ fn verdict_of(alloc: Global, shelf: &mut MemShelf) -> Result<Verdict, AllocError
     let Ok(record_file) = read_record_file(alloc, shelf, "r") else {
         return Err(AllocError);
     };
-    judge(alloc, &samples, &out, &map_file, &record_file)
+    let verdict = judge(alloc, &samples, &out, &map_file, &record_file)?;
+    match judge_record_file(alloc, &samples, &out, &map_file, shelf, "r") {
+        Ok(as_read) if as_read == verdict => Ok(verdict),
+        _ => Err(AllocError),
+    }
 }
 
 // The verdict on these files.

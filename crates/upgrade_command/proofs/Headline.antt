@@ -31,8 +31,7 @@ use Rattle.standing_files.specs.declared.verdict.Verdict.{Verdict}
 use Rattle.standing_files.specs.declared.verdict.Verdict.TheVariants.{Stands, Fails}
 use Rattle.standing_files.specs.Standing.{IsVerdict}
 use Rattle.standing_files.proofs.Versions.{any_versions}
-use Rattle.check_command.specs.declared.reading.ReadFiles.{ReadFiles}
-use Rattle.check_command.specs.Checks.{AreRunFiles, Break, Stand}
+use Rattle.check_command.specs.Checks.{AreRunFiles, Break, ReadFiles, Stand}
 use Rattle.upgrade_command.specs.declared.pair.Pair.{Pair}
 use Rattle.upgrade_command.specs.Upgrades.{AreFirstCuts, IsFirstMap, IsSoundPair, IsUpgradeSummary, in_version_two, pair_files, pair_summary, upgrade_command}
 use Rattle.upgrade_command.specs.Upgraded.{HaveOneVerdict, IsUpgraded, with_pair}

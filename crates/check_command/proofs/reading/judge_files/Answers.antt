@@ -2,11 +2,12 @@ use Rattle.std.proofs.Common.{◌+◌, length, subst}
 use Rattle.std.specs.Prelude.{Ok, Err}
 use Rattle.shelf_core.proofs.FileLaws.{only_reads_same}
 use Rattle.sample_files.specs.Several.{AsksParts}
-use Rattle.check_command.proofs.Staged.{files_are, map_only, no_map, no_out, no_record, no_samples, out_only, parts_pass, record_only, samples_only}
-use Rattle.check_command.proofs.reading.read_files.Goals as goal
+use Rattle.check_command.specs.Checks.{ReadFiles}
+use Rattle.check_command.proofs.Staged.{files_are, map_only, no_map, no_out, no_record, no_samples, out_only, parts_pass, record_only, samples_only, verdict_planned}
+use Rattle.check_command.proofs.reading.judge_files.Goals as goal
 
-pub returns-in-Err-clause-failed : goal.returns-in-Err-clause-failed
-returns-in-Err-clause-failed g c =
+pub returns-in-Err-clause-planned : goal.returns-in-Err-clause-planned
+returns-in-Err-clause-planned g c =
     let a = g.S.Shelf.state c.args.shelf.now in
     parts_pass c.args.job.now a c.in-Err.fault (subst (λ names. AsksParts c.args.job.now.turns (length names + 1) (Err c.in-Err.fault)) c.as_slice-more.ensures.names (c.in-Err.ensures {u = tt}))
 
@@ -15,8 +16,8 @@ returns-in-Err-clause-reads g c =
     let a = g.S.Shelf.state c.args.shelf.now in
     only_reads_same a
 
-pub returns-in-Err-read_samples-clause-failed : goal.returns-in-Err-read_samples-clause-failed
-returns-in-Err-read_samples-clause-failed g c =
+pub returns-in-Err-read_samples-clause-planned : goal.returns-in-Err-read_samples-clause-planned
+returns-in-Err-read_samples-clause-planned g c =
     let a = g.S.Shelf.state c.args.shelf.now in
     let b = g.S.Shelf.state c.read_samples.new.shelf in
     let few = subst (λ names. AsksParts c.args.job.now.turns (length names + 1) (Ok tt)) c.as_slice-more.ensures.names (c.in-Ok.ensures {u = tt}) in
@@ -29,8 +30,8 @@ returns-in-Err-read_samples-clause-reads g c =
     let few = subst (λ names. AsksParts c.args.job.now.turns (length names + 1) (Ok tt)) c.as_slice-more.ensures.names (c.in-Ok.ensures {u = tt}) in
     samples_only c.args.job.now a b few c.as_slice-more.ensures.names c.read_samples.ensures.reads
 
-pub returns-in-Err-read_out-clause-failed : goal.returns-in-Err-read_out-clause-failed
-returns-in-Err-read_out-clause-failed g c =
+pub returns-in-Err-read_out-clause-planned : goal.returns-in-Err-read_out-clause-planned
+returns-in-Err-read_out-clause-planned g c =
     let a = g.S.Shelf.state c.args.shelf.now in
     let b = g.S.Shelf.state c.read_samples.new.shelf in
     let d = g.S.Shelf.state c.read_out.new.shelf in
@@ -45,8 +46,8 @@ returns-in-Err-read_out-clause-reads g c =
     let few = subst (λ names. AsksParts c.args.job.now.turns (length names + 1) (Ok tt)) c.as_slice-more.ensures.names (c.in-Ok.ensures {u = tt}) in
     out_only c.args.job.now a b few c.as_slice-more.ensures.names c.read_samples.ensures.reads c.in-Ok-read_samples.samples (c.in-Ok-read_samples.ensures {u = tt}).answer d c.read_out.ensures.reads
 
-pub returns-in-Err-read_map_file-clause-failed : goal.returns-in-Err-read_map_file-clause-failed
-returns-in-Err-read_map_file-clause-failed g c =
+pub returns-in-Err-read_map_file-clause-planned : goal.returns-in-Err-read_map_file-clause-planned
+returns-in-Err-read_map_file-clause-planned g c =
     let a = g.S.Shelf.state c.args.shelf.now in
     let b = g.S.Shelf.state c.read_samples.new.shelf in
     let d = g.S.Shelf.state c.read_out.new.shelf in
@@ -65,54 +66,27 @@ returns-in-Err-read_map_file-clause-reads g c =
     map_only c.args.job.now a b few c.as_slice-more.ensures.names c.read_samples.ensures.reads c.in-Ok-read_samples.samples (c.in-Ok-read_samples.ensures {u = tt}).answer d c.read_out.ensures.reads
     c.in-Ok-read_out.out (c.in-Ok-read_out.ensures {u = tt}).answer e c.read_map_file.ensures.reads
 
-pub returns-in-Err-read_record-clause-failed : goal.returns-in-Err-read_record-clause-failed
-returns-in-Err-read_record-clause-failed g c =
-    let a = g.S.Shelf.state c.args.shelf.now in
-    let b = g.S.Shelf.state c.read_samples.new.shelf in
-    let d = g.S.Shelf.state c.read_out.new.shelf in
-    let e = g.S.Shelf.state c.read_map_file.new.shelf in
-    let f = g.S.Shelf.state c.read_record.new.shelf in
-    let few = subst (λ names. AsksParts c.args.job.now.turns (length names + 1) (Ok tt)) c.as_slice-more.ensures.names (c.in-Ok.ensures {u = tt}) in
-    no_record c.args.job.now a b few c.as_slice-more.ensures.names c.read_samples.ensures.reads c.in-Ok-read_samples.samples (c.in-Ok-read_samples.ensures {u = tt}).answer d c.read_out.ensures.reads
-    c.in-Ok-read_out.out (c.in-Ok-read_out.ensures {u = tt}).answer e c.read_map_file.ensures.reads
-    c.in-Ok-read_map_file.map (c.in-Ok-read_map_file.ensures {u = tt}).answer f c.read_record.ensures.reads c.in-Err-read_record.fault (c.in-Err-read_record.ensures {u = tt}).answer
-
-pub returns-in-Err-read_record-clause-reads : goal.returns-in-Err-read_record-clause-reads
-returns-in-Err-read_record-clause-reads g c =
-    let a = g.S.Shelf.state c.args.shelf.now in
-    let b = g.S.Shelf.state c.read_samples.new.shelf in
-    let d = g.S.Shelf.state c.read_out.new.shelf in
-    let e = g.S.Shelf.state c.read_map_file.new.shelf in
-    let f = g.S.Shelf.state c.read_record.new.shelf in
-    let few = subst (λ names. AsksParts c.args.job.now.turns (length names + 1) (Ok tt)) c.as_slice-more.ensures.names (c.in-Ok.ensures {u = tt}) in
-    record_only c.args.job.now a b few c.as_slice-more.ensures.names c.read_samples.ensures.reads c.in-Ok-read_samples.samples (c.in-Ok-read_samples.ensures {u = tt}).answer d c.read_out.ensures.reads
-    c.in-Ok-read_out.out (c.in-Ok-read_out.ensures {u = tt}).answer e c.read_map_file.ensures.reads
-    c.in-Ok-read_map_file.map (c.in-Ok-read_map_file.ensures {u = tt}).answer f c.read_record.ensures.reads
-
 pub returns-in-Err-worked-clause-reads : goal.returns-in-Err-worked-clause-reads
 returns-in-Err-worked-clause-reads g c =
     let a = g.S.Shelf.state c.args.shelf.now in
     let b = g.S.Shelf.state c.read_samples.new.shelf in
     let d = g.S.Shelf.state c.read_out.new.shelf in
     let e = g.S.Shelf.state c.read_map_file.new.shelf in
-    let f = g.S.Shelf.state c.read_record.new.shelf in
     let few = subst (λ names. AsksParts c.args.job.now.turns (length names + 1) (Ok tt)) c.as_slice-more.ensures.names (c.in-Ok.ensures {u = tt}) in
-    record_only c.args.job.now a b few c.as_slice-more.ensures.names c.read_samples.ensures.reads c.in-Ok-read_samples.samples (c.in-Ok-read_samples.ensures {u = tt}).answer d c.read_out.ensures.reads
+    map_only c.args.job.now a b few c.as_slice-more.ensures.names c.read_samples.ensures.reads c.in-Ok-read_samples.samples (c.in-Ok-read_samples.ensures {u = tt}).answer d c.read_out.ensures.reads
     c.in-Ok-read_out.out (c.in-Ok-read_out.ensures {u = tt}).answer e c.read_map_file.ensures.reads
-    c.in-Ok-read_map_file.map (c.in-Ok-read_map_file.ensures {u = tt}).answer f c.read_record.ensures.reads
 
-pub returns-clause-read : goal.returns-clause-read
-returns-clause-read g c =
+pub returns-clause-planned : goal.returns-clause-planned
+returns-clause-planned g c =
     let a = g.S.Shelf.state c.args.shelf.now in
     let b = g.S.Shelf.state c.read_samples.new.shelf in
     let d = g.S.Shelf.state c.read_out.new.shelf in
     let e = g.S.Shelf.state c.read_map_file.new.shelf in
-    let f = g.S.Shelf.state c.read_record.new.shelf in
+    let f = g.S.Shelf.state c.judge_record.new.shelf in
     let few = subst (λ names. AsksParts c.args.job.now.turns (length names + 1) (Ok tt)) c.as_slice-more.ensures.names (c.in-Ok.ensures {u = tt}) in
-    files_are c.args.job.now a b few c.as_slice-more.ensures.names c.read_samples.ensures.reads c.in-Ok-read_samples.samples (c.in-Ok-read_samples.ensures {u = tt}).answer d c.read_out.ensures.reads
+    no_record c.args.job.now a b few c.as_slice-more.ensures.names c.read_samples.ensures.reads c.in-Ok-read_samples.samples (c.in-Ok-read_samples.ensures {u = tt}).answer d c.read_out.ensures.reads
     c.in-Ok-read_out.out (c.in-Ok-read_out.ensures {u = tt}).answer e c.read_map_file.ensures.reads
-    c.in-Ok-read_map_file.map (c.in-Ok-read_map_file.ensures {u = tt}).answer f c.read_record.ensures.reads
-    c.in-Ok-read_record.record_file (c.in-Ok-read_record.ensures {u = tt}).answer c.in-Ok-worked.samples (c.in-Ok-worked.ensures {u = tt}).is
+    c.in-Ok-read_map_file.map (c.in-Ok-read_map_file.ensures {u = tt}).answer f c.judge_record.ensures.reads c.in-Err-judge_record.fault (c.in-Err-judge_record.ensures {u = tt}).answer
 
 pub returns-clause-reads : goal.returns-clause-reads
 returns-clause-reads g c =
@@ -120,8 +94,42 @@ returns-clause-reads g c =
     let b = g.S.Shelf.state c.read_samples.new.shelf in
     let d = g.S.Shelf.state c.read_out.new.shelf in
     let e = g.S.Shelf.state c.read_map_file.new.shelf in
-    let f = g.S.Shelf.state c.read_record.new.shelf in
+    let f = g.S.Shelf.state c.judge_record.new.shelf in
     let few = subst (λ names. AsksParts c.args.job.now.turns (length names + 1) (Ok tt)) c.as_slice-more.ensures.names (c.in-Ok.ensures {u = tt}) in
     record_only c.args.job.now a b few c.as_slice-more.ensures.names c.read_samples.ensures.reads c.in-Ok-read_samples.samples (c.in-Ok-read_samples.ensures {u = tt}).answer d c.read_out.ensures.reads
     c.in-Ok-read_out.out (c.in-Ok-read_out.ensures {u = tt}).answer e c.read_map_file.ensures.reads
-    c.in-Ok-read_map_file.map (c.in-Ok-read_map_file.ensures {u = tt}).answer f c.read_record.ensures.reads
+    c.in-Ok-read_map_file.map (c.in-Ok-read_map_file.ensures {u = tt}).answer f c.judge_record.ensures.reads
+
+pub returns-in-Ok-judge_record-clause-planned : goal.returns-in-Ok-judge_record-clause-planned
+returns-in-Ok-judge_record-clause-planned g c =
+    let a = g.S.Shelf.state c.args.shelf.now in
+    let b = g.S.Shelf.state c.read_samples.new.shelf in
+    let d = g.S.Shelf.state c.read_out.new.shelf in
+    let e = g.S.Shelf.state c.read_map_file.new.shelf in
+    let f = g.S.Shelf.state c.judge_record.new.shelf in
+    let few = subst (λ names. AsksParts c.args.job.now.turns (length names + 1) (Ok tt)) c.as_slice-more.ensures.names (c.in-Ok.ensures {u = tt}) in
+    let its = (c.in-Ok-judge_record.ensures {u = tt}).answer in
+    let all = c.in-Ok-worked.samples in
+    let values : ReadFiles = record { samples = all; out = c.in-Ok-read_out.out; map = c.in-Ok-read_map_file.map; record_file = its.0 } in
+    verdict_planned c.args.job.now a f
+    (record_only c.args.job.now a b few c.as_slice-more.ensures.names c.read_samples.ensures.reads c.in-Ok-read_samples.samples (c.in-Ok-read_samples.ensures {u = tt}).answer d c.read_out.ensures.reads
+    c.in-Ok-read_out.out (c.in-Ok-read_out.ensures {u = tt}).answer e c.read_map_file.ensures.reads
+    c.in-Ok-read_map_file.map (c.in-Ok-read_map_file.ensures {u = tt}).answer f c.judge_record.ensures.reads)
+    values
+    (files_are c.args.job.now a b few c.as_slice-more.ensures.names c.read_samples.ensures.reads c.in-Ok-read_samples.samples (c.in-Ok-read_samples.ensures {u = tt}).answer d c.read_out.ensures.reads
+    c.in-Ok-read_out.out (c.in-Ok-read_out.ensures {u = tt}).answer e c.read_map_file.ensures.reads
+    c.in-Ok-read_map_file.map (c.in-Ok-read_map_file.ensures {u = tt}).answer f c.judge_record.ensures.reads
+    its.0 its.1 all (c.in-Ok-worked.ensures {u = tt}).is)
+    c.in-Ok-judge_record.verdict its.2
+
+pub returns-in-Ok-judge_record-clause-reads : goal.returns-in-Ok-judge_record-clause-reads
+returns-in-Ok-judge_record-clause-reads g c =
+    let a = g.S.Shelf.state c.args.shelf.now in
+    let b = g.S.Shelf.state c.read_samples.new.shelf in
+    let d = g.S.Shelf.state c.read_out.new.shelf in
+    let e = g.S.Shelf.state c.read_map_file.new.shelf in
+    let f = g.S.Shelf.state c.judge_record.new.shelf in
+    let few = subst (λ names. AsksParts c.args.job.now.turns (length names + 1) (Ok tt)) c.as_slice-more.ensures.names (c.in-Ok.ensures {u = tt}) in
+    record_only c.args.job.now a b few c.as_slice-more.ensures.names c.read_samples.ensures.reads c.in-Ok-read_samples.samples (c.in-Ok-read_samples.ensures {u = tt}).answer d c.read_out.ensures.reads
+    c.in-Ok-read_out.out (c.in-Ok-read_out.ensures {u = tt}).answer e c.read_map_file.ensures.reads
+    c.in-Ok-read_map_file.map (c.in-Ok-read_map_file.ensures {u = tt}).answer f c.judge_record.ensures.reads

@@ -1,0 +1,80 @@
+use Rattle.std.proofs.Common.{ℕ, List, refl}
+use Rattle.std.proofs.lemmas.Result.{err_from_is_err_and}
+use Rattle.std.specs.Int.{w32}
+use Rattle.std.specs.Prelude.{Result, Ok, Err}
+use Rattle.shelf_core.specs.declared.fault.ReadError.{ReadError}
+use Rattle.shelf_core.proofs.FileLaws.{only_reads_then}
+use Rattle.block_check.specs.declared.block.BlockRecord.{BlockRecord}
+use Rattle.source_map.specs.Readings.{number_read}
+use Rattle.source_map.proofs.FieldLaws.{lifted}
+use Rattle.source_map.specs.declared.head.Head.{Head}
+use Rattle.cert_file.specs.declared.file.RecordFile.{RecordFile}
+use Rattle.cert_file.specs.declared.file.RecordFile.TheVariants.{Blocks}
+use Rattle.cert_file.specs.BlockReading.{blocks_read}
+use Rattle.cert_file.specs.Rules.{any_rule}
+use Rattle.cert_file.proofs.RecordReading.{chain_to_end, ends, ends_not, then_to_end, to_end_stops, value_at_end}
+use Rattle.standing_files.proofs.blocks_as_read.judge_blocks_to_end.Goals as goal
+
+abbrev end : Head → List BlockRecord → ℕ → List ℕ → Result RecordFile ReadError
+end head blocks = value_at_end (Blocks head blocks)
+
+abbrev rest : Head → ℕ → ℕ → List ℕ → Result RecordFile ReadError
+rest head count = chain_to_end (blocks_read count) (end head)
+
+pub returns-in_err-count-clause-answer : goal.returns-in_err-count-clause-answer
+returns-in_err-count-clause-answer g c =
+    let state = g.S.Shelf.state in
+    let name = c.args.name.now in
+    let e = c.in_err-count.field-0.0 in
+    let p = err_from_is_err_and c.from_residual.result c.from_residual.ensures.1 in
+    rw (p.1, p.2)
+    (to_end_stops (Unit {0}) name c.args.file.now.at (number_read w32 any_rule) (rest c.args.head.now) (state c.args.shelf.now) (state c.read_count.new.shelf) c.read_count.new.file e
+    (lifted (Unit {0}) name c.args.file.now.at (number_read w32 any_rule) (state c.args.shelf.now) (state c.read_count.new.shelf) c.read_count.new.file (Err e) c.in_err-count.ensures.answer))
+
+pub returns-in_err-verdict-clause-answer : goal.returns-in_err-verdict-clause-answer
+returns-in_err-verdict-clause-answer g c =
+    let state = g.S.Shelf.state in
+    let name = c.args.name.now in
+    let e = c.in_err-verdict.field-0.0 in
+    let count : ℕ = c.in_ok-count.count in
+    let ok0 = c.in_ok-count.ensures {u = tt} in
+    let p = err_from_is_err_and c.from_residual-in_err-verdict.result c.from_residual-in_err-verdict.ensures.1 in
+    rw (p.1, p.2)
+    (then_to_end (Unit {0}) name c.args.file.now.at (number_read w32 any_rule) (rest c.args.head.now) (state c.args.shelf.now) (state c.read_count.new.shelf) (state c.judge_each_block.new.shelf) c.read_count.new.file count (Err e)
+    ok0.reads c.in_err-verdict.ensures.reads ok0.answer
+    (to_end_stops (Unit {0}) name c.read_count.new.file.at (blocks_read count) (end c.args.head.now) (state c.read_count.new.shelf) (state c.judge_each_block.new.shelf) c.judge_each_block.new.file e c.in_err-verdict.ensures.answer))
+
+pub returns-in_err-end-clause-answer : goal.returns-in_err-end-clause-answer
+returns-in_err-end-clause-answer g c =
+    let state = g.S.Shelf.state in
+    let name = c.args.name.now in
+    let e = c.in_err-end.field-0.0 in
+    let count : ℕ = c.in_ok-count.count in
+    let ok0 = c.in_ok-count.ensures {u = tt} in
+    let ok1 = c.in_ok-verdict.ensures {u = tt} in
+    let blocks : List BlockRecord = ok1.answer.0 in
+    let p = err_from_is_err_and c.from_residual-in_err-end.result c.from_residual-in_err-end.ensures.1 in
+    rw (p.1, p.2)
+    (then_to_end (Unit {0}) name c.args.file.now.at (number_read w32 any_rule) (rest c.args.head.now) (state c.args.shelf.now) (state c.read_count.new.shelf) (state c.end.new.shelf) c.read_count.new.file count (Err e)
+    ok0.reads (only_reads_then (state c.read_count.new.shelf) (state c.judge_each_block.new.shelf) (state c.end.new.shelf) ok1.reads c.in_err-end.ensures.reads) ok0.answer
+    (then_to_end (Unit {0}) name c.read_count.new.file.at (blocks_read count) (end c.args.head.now) (state c.read_count.new.shelf) (state c.judge_each_block.new.shelf) (state c.end.new.shelf) c.judge_each_block.new.file blocks (Err e)
+    ok1.reads c.in_err-end.ensures.reads ok1.answer.1
+    (ends_not (Unit {0}) name c.judge_each_block.new.file.at (state c.judge_each_block.new.shelf) (state c.end.new.shelf) (Blocks c.args.head.now blocks) e c.in_err-end.ensures.stops)))
+
+pub returns-clause-answer : goal.returns-clause-answer
+returns-clause-answer g c =
+    let state = g.S.Shelf.state in
+    let name = c.args.name.now in
+    let count : ℕ = c.in_ok-count.count in
+    let ok0 = c.in_ok-count.ensures {u = tt} in
+    let ok1 = c.in_ok-verdict.ensures {u = tt} in
+    let blocks : List BlockRecord = ok1.answer.0 in
+    let ok2 = c.in_ok-end.ensures {u = tt} in (
+      Blocks c.args.head.now blocks,
+      then_to_end (Unit {0}) name c.args.file.now.at (number_read w32 any_rule) (rest c.args.head.now) (state c.args.shelf.now) (state c.read_count.new.shelf) (state c.end.new.shelf) c.read_count.new.file count (Ok (Blocks c.args.head.now blocks))
+          ok0.reads (only_reads_then (state c.read_count.new.shelf) (state c.judge_each_block.new.shelf) (state c.end.new.shelf) ok1.reads ok2.reads) ok0.answer
+          (then_to_end (Unit {0}) name c.read_count.new.file.at (blocks_read count) (end c.args.head.now) (state c.read_count.new.shelf) (state c.judge_each_block.new.shelf) (state c.end.new.shelf) c.judge_each_block.new.file blocks (Ok (Blocks c.args.head.now blocks))
+          ok1.reads ok2.reads ok1.answer.1
+          (ends (Unit {0}) name c.judge_each_block.new.file.at (state c.judge_each_block.new.shelf) (state c.end.new.shelf) (Blocks c.args.head.now blocks) ok2.stops)),
+      (refl, ok1.answer.2),
+    )

@@ -3,17 +3,17 @@ use crate::changes::change_files;
 use crate::dice::Dice;
 use crate::files::{File, NAMES, copy_of};
 use crate::pool::World;
-use crate::runs::Failing;
+use crate::runs::Fault;
 use crate::words::texts;
-use shelf_core::Call;
 use std::alloc::{AllocError, Global};
+use test_stage::Failing;
 
 /// What is run.
 #[derive(Drop)]
 pub struct Case {
     pub texts: Vec<String>,
     pub files: Vec<File>,
-    pub failing: Failing,
+    pub fault: Fault,
 }
 
 // A small number.
@@ -21,16 +21,16 @@ fn few(dice: &mut Dice) -> u8 {
     u8::try_from(dice.below(6)).unwrap_or(0)
 }
 
-fn failing(dice: &mut Dice) -> Failing {
+fn fault(dice: &mut Dice) -> Fault {
     let name = dice.text(&NAMES);
     let after = few(dice);
     let kept = dice.below(9);
     match dice.below(10) {
-        0 | 1 | 2 => Failing::OnFile(Call::Get, name, after, 0),
-        3 => Failing::OnFile(Call::Begin, name, 0, 0),
-        4 | 5 | 6 => Failing::OnFile(Call::Add, name, after, kept),
-        7 | 8 => Failing::OnReport(after, kept),
-        _ => Failing::OnLine(after, kept),
+        0 | 1 | 2 => Fault::Call(Failing::Get(name), after),
+        3 => Fault::Call(Failing::Begin(name), 0),
+        4 | 5 | 6 => Fault::Call(Failing::Add(name, kept), after),
+        7 | 8 => Fault::Call(Failing::Report(kept), after),
+        _ => Fault::Line(after, kept),
     }
 }
 
@@ -51,10 +51,10 @@ pub fn case_of(
     if !dice.is_one_in(3) {
         change_files(&mut files, worlds, &mut dice)?;
     }
-    let failing = failing(&mut dice);
+    let fault = fault(&mut dice);
     Ok(Some(Case {
         texts,
         files,
-        failing,
+        fault,
     }))
 }

@@ -1,11 +1,11 @@
 // What the promises say of a case, where it can be computed.
 use crate::cases::Case;
-use crate::files::{are_same, shelf_of};
+use crate::files::{are_same, stage_of};
 use crate::lines::{is_line_of, is_status_of};
-use crate::runs::{Failing, Left, Said, left_by, said_over, texts_of};
+use crate::runs::{Left, NO_FAULT, left_by};
 use crate::written::{command_of, is_cut, keeps_others, value_of};
-use shelf_core::MemShelf;
 use std::alloc::{AllocError, Global};
+use test_stage::Stage;
 
 /// The status of a case where nothing fails, that where what it names fails, and the first promise
 /// that it breaks, if there is one.
@@ -17,47 +17,47 @@ pub struct Judged {
 }
 
 // Both runs said the same.
-fn say_alike(a: &Said, b: &Said) -> bool {
-    a.status == b.status && a.out.bytes() == b.out.bytes() && a.err.bytes() == b.err.bytes()
+fn say_alike(a: &Left, b: &Left) -> bool {
+    a.status == b.status && a.stage.report() == b.stage.report() && a.stage.line() == b.stage.line()
 }
 
 // A run that ended well.
-fn done_promise(case: &Case, before: &MemShelf, run: &Left) -> Option<&'static str> {
-    if !run.said.err.bytes().is_empty() {
+fn done_promise(case: &Case, before: &Stage, run: &Left) -> Option<&'static str> {
+    if !run.stage.line().is_empty() {
         return Some("a line where all is done");
     }
-    if run.said.out.bytes().is_empty() {
+    if run.stage.report().is_empty() {
         return Some("no report where all is done");
     }
-    if run.said.status == 1 && !are_same(before, &run.shelf) {
+    if run.status == 1 && !are_same(before, &run.stage) {
         return Some("a file written by a check");
     }
-    if !keeps_others(&case.texts, before, &run.shelf) {
+    if !keeps_others(&case.texts, before, &run.stage) {
         return Some("a file changed that the command doesn't write");
     }
     None
 }
 
 // A run that was refused.
-fn refused_promise(before: &MemShelf, run: &Left) -> Option<&'static str> {
-    if !is_line_of(run.said.status, run.said.err.bytes()) {
+fn refused_promise(before: &Stage, run: &Left) -> Option<&'static str> {
+    if !is_line_of(run.status, run.stage.line()) {
         return Some("another line than one of the status");
     }
-    if !run.said.out.bytes().is_empty() {
+    if !run.stage.report().is_empty() {
         return Some("a report where a run is refused");
     }
-    if !are_same(before, &run.shelf) {
+    if !are_same(before, &run.stage) {
         return Some("a file changed where a run is refused");
     }
-    if run.said.status == 5 && run.shelf.read_faults() == 0 {
+    if run.status == 5 && run.stage.read_faults() == 0 {
         return Some("a read fault of its own");
     }
     None
 }
 
 // A run in which nothing fails but reads of files that aren't there.
-fn whole_promise(case: &Case, before: &MemShelf, run: &Left) -> Option<&'static str> {
-    let status = run.said.status;
+fn whole_promise(case: &Case, before: &Stage, run: &Left) -> Option<&'static str> {
+    let status = run.status;
     if status == 6 || status == 7 || !is_status_of(command_of(&case.texts), status) {
         return Some("a status that can't be");
     }
@@ -68,54 +68,106 @@ fn whole_promise(case: &Case, before: &MemShelf, run: &Left) -> Option<&'static 
     }
 }
 
-// The words that check what a run left.
-fn check_texts(alloc: Global, texts: &[String]) -> Result<Vec<String>, AllocError> {
-    let mut words = texts_of(alloc, "check")?;
+// Whether a word names a file that `check` reads, or says that samples are turned.
+fn is_of_check(text: &str) -> bool {
+    let key = match text.split_once('=') {
+        Some((key, _)) => key,
+        None => "",
+    };
+    key.starts_with("sample") || key == "out" || key == "map" || key == "record" || key == "turns"
+}
+
+fn add_text(alloc: Global, texts: &mut Vec<String>, word: &str) -> Result<(), AllocError> {
+    let text = String::from_str(alloc, word)?;
+    texts.push(text)?;
+    Ok(())
+}
+
+fn add_check_texts(
+    alloc: Global,
+    words: &mut Vec<String>,
+    texts: &[String],
+) -> Result<(), AllocError> {
+    add_text(alloc, words, "check")?;
     for text in texts.iter() {
-        let key = match text.as_str().split_once('=') {
-            Some((key, _)) => key,
-            None => "",
-        };
-        let is_file = key.starts_with("sample") || key == "out" || key == "map" || key == "record";
-        if is_file || key == "turns" {
-            words.push(String::from_str(alloc, text.as_str())?)?;
+        if is_of_check(text.as_str()) {
+            add_text(alloc, words, text.as_str())?;
         }
     }
+    Ok(())
+}
+
+// The words that check what a run left.
+fn check_texts(alloc: Global, texts: &[String]) -> Result<Vec<String>, AllocError> {
+    let mut words = Vec::new(alloc);
+    add_check_texts(alloc, &mut words, texts)?;
     Ok(words)
 }
 
-fn stands(alloc: Global, case: &Case, shelf: &mut MemShelf) -> Result<bool, AllocError> {
+fn stands(alloc: Global, case: &Case, stage: &mut Stage) -> Result<bool, AllocError> {
     let words = check_texts(alloc, &case.texts)?;
-    let said = said_over(alloc, &words, shelf, Failing::Nothing)?;
-    Ok(said.status == 0 && said.out.bytes() == b"stands\n".as_slice())
+    stage.clear();
+    let status = stage.run_texts(&words)?;
+    Ok(status == 0 && stage.has_said("stands\n", ""))
+}
+
+// What a run ended with, reported and said.
+#[derive(Drop)]
+struct Said {
+    status: u8,
+    report: Vec<u8>,
+    line: Vec<u8>,
+}
+
+fn is_same(a: &Said, b: &Said) -> bool {
+    a.status == b.status
+        && a.report.as_slice() == b.report.as_slice()
+        && a.line.as_slice() == b.line.as_slice()
+}
+
+// What is said of a line.
+fn said_of(alloc: Global, stage: &mut Stage, line: &str) -> Result<Said, AllocError> {
+    stage.clear();
+    let status = stage.run(line)?;
+    let report = Vec::from_slice(alloc, stage.report())?;
+    let line = Vec::from_slice(alloc, stage.line())?;
+    Ok(Said {
+        status,
+        report,
+        line,
+    })
 }
 
 // What `check` says of the sample `s`, the out file `o`, and these two.
-fn said_of(
+fn said_of_pair(
     alloc: Global,
-    shelf: &mut MemShelf,
+    stage: &mut Stage,
     map: &str,
     record: &str,
 ) -> Result<Said, AllocError> {
     let line = format!(in alloc; "check sample=s out=o map={map} record={record}")?;
-    let words = texts_of(alloc, line.as_str())?;
-    said_over(alloc, &words, shelf, Failing::Nothing)
+    said_of(alloc, stage, line.as_str())
+}
+
+// The name of a key's file; that of the sample where there is none.
+fn name_of<'a>(case: &'a Case, key: &str) -> &'a str {
+    value_of(&case.texts, key).unwrap_or("s")
 }
 
 // Whether `check` says the same of both pairs of an upgrade. With a name of the sample or the out
 // file it can't be asked.
-fn is_same_pair(alloc: Global, case: &Case, shelf: &mut MemShelf) -> Result<bool, AllocError> {
-    let map = value_of(&case.texts, "map").unwrap_or("s");
-    let record = value_of(&case.texts, "record").unwrap_or("s");
-    let new_map = value_of(&case.texts, "newmap").unwrap_or("s");
-    let new_record = value_of(&case.texts, "newrecord").unwrap_or("s");
+fn is_same_pair(alloc: Global, case: &Case, stage: &mut Stage) -> Result<bool, AllocError> {
+    let map = name_of(case, "map");
+    let record = name_of(case, "record");
+    let new_map = name_of(case, "newmap");
+    let new_record = name_of(case, "newrecord");
     let names = [map, record, new_map, new_record];
     if names.contains(&"s") || names.contains(&"o") {
         return Ok(true);
     }
-    let old = said_of(alloc, shelf, map, record)?;
-    let new = said_of(alloc, shelf, new_map, new_record)?;
-    Ok(say_alike(&old, &new))
+    let old = said_of_pair(alloc, stage, map, record)?;
+    let new = said_of_pair(alloc, stage, new_map, new_record)?;
+    Ok(is_same(&old, &new))
 }
 
 // What `check` says after a run that ended with status 0.
@@ -124,12 +176,12 @@ fn check_promise(
     case: &Case,
     whole: &mut Left,
 ) -> Result<Option<&'static str>, AllocError> {
-    if whole.said.status != 0 {
+    if whole.status != 0 {
         return Ok(None);
     }
     let holds = match command_of(&case.texts) {
-        "grow" | "quilt" | "transfer" | "loop" => stands(alloc, case, &mut whole.shelf)?,
-        "upgrade" => is_same_pair(alloc, case, &mut whole.shelf)?,
+        "grow" | "quilt" | "transfer" | "loop" => stands(alloc, case, &mut whole.stage)?,
+        "upgrade" => is_same_pair(alloc, case, &mut whole.stage)?,
         _ => true,
     };
     if !holds {
@@ -140,10 +192,10 @@ fn check_promise(
 
 // A run in which a write of the line failed.
 fn unsaid_promise(whole: &Left, run: &Left) -> Option<&'static str> {
-    if run.said.status != whole.said.status
-        || run.said.out.bytes() != whole.said.out.bytes()
-        || !are_same(&run.shelf, &whole.shelf)
-        || !whole.said.err.bytes().starts_with(run.said.err.bytes())
+    if run.status != whole.status
+        || run.stage.report() != whole.stage.report()
+        || !are_same(&run.stage, &whole.stage)
+        || !whole.stage.line().starts_with(run.stage.line())
     {
         return Some("another end where only the line can't be written");
     }
@@ -152,11 +204,11 @@ fn unsaid_promise(whole: &Left, run: &Left) -> Option<&'static str> {
 
 // A run in which a write of the report failed.
 fn unreported_promise(whole: &Left, run: &Left) -> Option<&'static str> {
-    if run.said.status != 6
-        || whole.said.status > 1
-        || run.said.err.bytes() != b"weave: report: write fault\n".as_slice()
-        || !are_same(&run.shelf, &whole.shelf)
-        || !whole.said.out.bytes().starts_with(run.said.out.bytes())
+    if run.status != 6
+        || whole.status > 1
+        || run.stage.line() != b"weave: report: write fault\n".as_slice()
+        || !are_same(&run.stage, &whole.stage)
+        || !whole.stage.report().starts_with(run.stage.report())
     {
         return Some("another end where only the report can't be written");
     }
@@ -166,14 +218,14 @@ fn unreported_promise(whole: &Left, run: &Left) -> Option<&'static str> {
 // A run in which a write of a file failed.
 fn unwritten_promise(
     case: &Case,
-    before: &MemShelf,
+    before: &Stage,
     whole: &Left,
     run: &Left,
 ) -> Option<&'static str> {
-    if run.said.status != 6
-        || whole.said.status != 0
-        || !run.said.out.bytes().is_empty()
-        || !is_cut(&case.texts, before, whole, run)
+    if run.status != 6
+        || whole.status != 0
+        || !run.stage.report().is_empty()
+        || !is_cut(&case.texts, before, &whole.stage, &run.stage)
     {
         return Some("another end where a write failed");
     }
@@ -181,28 +233,23 @@ fn unwritten_promise(
 }
 
 // A run in which what the case names fails, beside the same where nothing does.
-fn failed_promise(
-    case: &Case,
-    before: &MemShelf,
-    whole: &Left,
-    run: &Left,
-) -> Option<&'static str> {
-    if run.said.err.faults() > 0 {
+fn failed_promise(case: &Case, before: &Stage, whole: &Left, run: &Left) -> Option<&'static str> {
+    if run.stage.line_faults() > 0 {
         return unsaid_promise(whole, run);
     }
-    if run.shelf.read_faults() > 0 {
-        if run.said.status != 5 {
+    if run.stage.read_faults() > 0 {
+        if run.status != 5 {
             return Some("another status where a read failed");
         }
         return refused_promise(before, run);
     }
-    if run.shelf.write_faults() > 0 {
+    if run.stage.write_faults() > 0 {
         return unwritten_promise(case, before, whole, run);
     }
-    if run.said.out.faults() > 0 {
+    if run.stage.report_faults() > 0 {
         return unreported_promise(whole, run);
     }
-    if !say_alike(&whole.said, &run.said) || !are_same(&whole.shelf, &run.shelf) {
+    if !say_alike(whole, run) || !are_same(&whole.stage, &run.stage) {
         return Some("two ends of the same words and files");
     }
     None
@@ -211,9 +258,9 @@ fn failed_promise(
 /// Runs a case, with nothing failing and with what it names failing, and says how it ends and
 /// which promise it breaks.
 pub fn judge_case(alloc: Global, case: &Case) -> Result<Judged, AllocError> {
-    let before = shelf_of(alloc, &case.files)?;
-    let mut whole = left_by(alloc, &case.texts, &case.files, Failing::Nothing)?;
-    let run = left_by(alloc, &case.texts, &case.files, case.failing)?;
+    let before = stage_of(alloc, &case.files)?;
+    let mut whole = left_by(alloc, &case.texts, &case.files, NO_FAULT)?;
+    let run = left_by(alloc, &case.texts, &case.files, case.fault)?;
     let mut broken = whole_promise(case, &before, &whole);
     if broken.is_none() {
         broken = failed_promise(case, &before, &whole, &run);
@@ -222,8 +269,8 @@ pub fn judge_case(alloc: Global, case: &Case) -> Result<Judged, AllocError> {
         broken = check_promise(alloc, case, &mut whole)?;
     }
     Ok(Judged {
-        status: whole.said.status,
-        failed: run.said.status,
+        status: whole.status,
+        failed: run.status,
         broken,
     })
 }

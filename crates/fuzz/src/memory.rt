@@ -1,13 +1,11 @@
 // Runs of each command over stores that take no memory once they are made, so that every growth
 // that is refused is one of the run's own.
-use crate::runs::{texts_of, words_of};
-use job_words::Words;
 use shelf_core::{SureShelf, SureSink};
 use std::alloc::{AllocError, Global};
-use weave_engine::run;
+use test_stage::{File, ran};
 
 // A run: its words, the files before it, and its report.
-type Sure<'a> = (&'a str, &'a [(&'a str, &'a [u8])], &'a str);
+type Sure<'a> = (&'a str, &'a [File<'a>], &'a str);
 
 const GREYS: &[u8] = b"P6\n4 1\n255\n\x0a\x0a\x0a\x14\x14\x14\x1e\x1e\x1e\x28\x28\x28";
 
@@ -157,13 +155,13 @@ pub enum Surely {
     Wrong,
 }
 
-fn put_files(shelf: &mut SureShelf, files: &[(&str, &[u8])]) {
+fn put_files(shelf: &mut SureShelf, files: &[File]) {
     for (name, bytes) in files.iter() {
         shelf.put_file(*name, *bytes);
     }
 }
 
-fn are_files(shelf: &SureShelf, files: &[(&str, &[u8])]) -> bool {
+fn are_files(shelf: &SureShelf, files: &[File]) -> bool {
     for (name, bytes) in files.iter() {
         if shelf.file(*name) != Some(*bytes) {
             return false;
@@ -173,15 +171,10 @@ fn are_files(shelf: &SureShelf, files: &[(&str, &[u8])]) -> bool {
 }
 
 // Whether an answer is out of memory and left all as it was.
-fn is_refused(shelf: &SureShelf, out: &SureSink, err: &SureSink, files: &[(&str, &[u8])]) -> bool {
+fn is_refused(shelf: &SureShelf, out: &SureSink, err: &SureSink, files: &[File]) -> bool {
     out.bytes() == Some(b"".as_slice())
         && err.bytes() == Some(b"weave: no memory\n".as_slice())
         && are_files(shelf, files)
-}
-
-fn words_in(alloc: Global, line: &str) -> Result<Words, AllocError> {
-    let texts = texts_of(alloc, line)?;
-    words_of(alloc, &texts)
 }
 
 // How a run ended, by its status and what it left.
@@ -190,7 +183,7 @@ fn judged(
     shelf: &SureShelf,
     out: &SureSink,
     err: &SureSink,
-    files: &[(&str, &[u8])],
+    files: &[File],
     report: &str,
 ) -> Surely {
     if status == 0
@@ -206,17 +199,12 @@ fn judged(
 }
 
 // Runs words over stores of its own.
-fn ended(
-    alloc: Global,
-    words: &Words,
-    files: &[(&str, &[u8])],
-    report: &str,
-) -> Result<Surely, AllocError> {
+fn ended(alloc: Global, words: &str, files: &[File], report: &str) -> Result<Surely, AllocError> {
     let mut shelf = SureShelf::make(alloc, 8192)?;
     put_files(&mut shelf, files);
     let mut out = SureSink::make(alloc, 256)?;
     let mut err = SureSink::make(alloc, 256)?;
-    let status = run(alloc, words, &mut shelf, &mut out, &mut err);
+    let status = ran(alloc, words, &mut shelf, &mut out, &mut err)?;
     Ok(judged(status, &shelf, &out, &err, files, report))
 }
 
@@ -226,6 +214,5 @@ pub fn end_of(alloc: Global, number: usize) -> Result<Surely, AllocError> {
     let Some((line, files, report)) = RUNS.get(number) else {
         return Ok(Surely::Wrong);
     };
-    let words = words_in(alloc, *line)?;
-    ended(alloc, &words, *files, *report)
+    ended(alloc, *line, *files, *report)
 }

@@ -1,7 +1,7 @@
 // Valid files of all kinds, made by runs.
-use crate::files::{File, copy_of, files_of, shelf_of};
-use crate::runs::{Failing, left_by, said_over, texts_of};
+use crate::files::{File, files_of, stage_of};
 use std::alloc::{AllocError, Global};
+use test_stage::Stage;
 
 /// A run that ended well: its words, the words that check it, and the files after it.
 #[derive(Drop)]
@@ -148,49 +148,57 @@ const MADE: &[(&str, &str, &[u8], &[u8])] = &[
     ),
 ];
 
-fn before<'a>(alloc: Global, sample: &'a [u8], second: &'a [u8]) -> Result<Vec<File>, AllocError> {
-    let mut files = Vec::new(alloc);
-    for (name, bytes) in [("s", sample), ("t", second), ("u", MARKS)] {
-        let bytes = Vec::from_slice(alloc, bytes)?;
-        files.push(File { name, bytes })?;
-    }
-    Ok(files)
+const UPGRADE: &str = "upgrade map=m record=r newmap=n newrecord=q";
+
+// Runs both lines over these samples; where one is refused, the files are as before it.
+fn made_on<'a>(
+    stage: &mut Stage,
+    words: &str,
+    sample: &'a [u8],
+    second: &'a [u8],
+) -> Result<(), AllocError> {
+    stage.put_files(&[("s", sample), ("t", second), ("u", MARKS)])?;
+    stage.run(words)?;
+    stage.run(UPGRADE)?;
+    Ok(())
 }
 
-// The files after a line, where it ends well, and else those before it.
-fn after(alloc: Global, line: &str, files: &[File]) -> Result<Vec<File>, AllocError> {
-    let texts = texts_of(alloc, line)?;
-    let run = left_by(alloc, &texts, files, Failing::Nothing)?;
-    if run.said.status == 0 {
-        return files_of(alloc, &run.shelf);
-    }
-    copy_of(alloc, files)
+fn made(alloc: Global, words: &str, sample: &[u8], second: &[u8]) -> Result<Vec<File>, AllocError> {
+    let mut stage = Stage::new(alloc);
+    made_on(&mut stage, words, sample, second)?;
+    files_of(alloc, &stage)
 }
 
-/// The files of runs of all commands; those of growths of one sample in version 2 too.
-pub fn pool(alloc: Global) -> Result<Vec<World>, AllocError> {
-    let mut worlds = Vec::new(alloc);
+fn add_worlds(alloc: Global, worlds: &mut Vec<World>) -> Result<(), AllocError> {
     for (words, check, sample, second) in MADE.iter() {
-        let files = before(alloc, *sample, *second)?;
-        let files = after(alloc, *words, &files)?;
-        let line = "upgrade map=m record=r newmap=n newrecord=q";
-        let files = after(alloc, line, &files)?;
+        let files = made(alloc, *words, *sample, *second)?;
         worlds.push(World {
             words: *words,
             check: *check,
             files,
         })?;
     }
+    Ok(())
+}
+
+/// The files of runs of all commands; those of growths of one sample in version 2 too.
+pub fn pool(alloc: Global) -> Result<Vec<World>, AllocError> {
+    let mut worlds = Vec::new(alloc);
+    add_worlds(alloc, &mut worlds)?;
     Ok(worlds)
+}
+
+// Whether `check` finds that the files of a run stand.
+fn stands(alloc: Global, world: &World) -> Result<bool, AllocError> {
+    let mut stage = stage_of(alloc, &world.files)?;
+    let status = stage.run(world.check)?;
+    Ok(status == 0)
 }
 
 /// Whether `check` finds that the files of every run stand.
 pub fn all_stand(alloc: Global, worlds: &[World]) -> Result<bool, AllocError> {
     for world in worlds.iter() {
-        let texts = texts_of(alloc, world.check)?;
-        let mut shelf = shelf_of(alloc, &world.files)?;
-        let said = said_over(alloc, &texts, &mut shelf, Failing::Nothing)?;
-        if said.status != 0 {
+        if !stands(alloc, world)? {
             return Ok(false);
         }
     }

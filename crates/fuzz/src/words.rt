@@ -157,16 +157,37 @@ fn put_changed(
     }
 }
 
+// The word, changed in one of four cases where words are.
+fn put_word(
+    alloc: Global,
+    texts: &mut Vec<String>,
+    word: &str,
+    are_changed: bool,
+    dice: &mut Dice,
+) -> Result<(), AllocError> {
+    if are_changed && dice.is_one_in(4) {
+        put_changed(alloc, texts, word, dice)
+    } else {
+        put(alloc, texts, word)
+    }
+}
+
+fn put_words(
+    alloc: Global,
+    texts: &mut Vec<String>,
+    world: &World,
+    dice: &mut Dice,
+) -> Result<(), AllocError> {
+    let are_changed = dice.is_one_in(4);
+    for word in line(world, dice).split(' ') {
+        put_word(alloc, texts, word, are_changed, dice)?;
+    }
+    Ok(())
+}
+
 /// Words of a run, of its check or of another one; some of them changed, in one of four cases.
 pub fn texts(alloc: Global, world: &World, dice: &mut Dice) -> Result<Vec<String>, AllocError> {
     let mut texts = Vec::new(alloc);
-    let are_changed = dice.is_one_in(4);
-    for word in line(world, dice).split(' ') {
-        if are_changed && dice.is_one_in(4) {
-            put_changed(alloc, &mut texts, word, dice)?;
-        } else {
-            put(alloc, &mut texts, word)?;
-        }
-    }
+    put_words(alloc, &mut texts, world, dice)?;
     Ok(texts)
 }

@@ -1,7 +1,6 @@
 // The files that a command writes.
 use crate::files::NAMES;
-use crate::runs::Left;
-use shelf_core::MemShelf;
+use test_stage::Stage;
 
 // The keys of the files that a command writes, in their order, each with the line of a write of it
 // that failed.
@@ -72,7 +71,7 @@ fn stopped_at(texts: &[String], line: &[u8]) -> Option<usize> {
 }
 
 /// Whether every file that the command doesn't write is as before.
-pub fn keeps_others(texts: &[String], before: &MemShelf, after: &MemShelf) -> bool {
+pub fn keeps_others(texts: &[String], before: &Stage, after: &Stage) -> bool {
     for name in NAMES {
         if number_of(texts, name).is_none() && before.file(name) != after.file(name) {
             return false;
@@ -94,16 +93,12 @@ fn is_part(now: Option<&[u8]>, before: Option<&[u8]>, whole: Option<&[u8]>) -> b
 
 /// Whether the files stand as after a write that failed: those before the one that the line names
 /// are whole, that one is as before or cut off, and all others are as before.
-pub fn is_cut(texts: &[String], before: &MemShelf, whole: &Left, now: &Left) -> bool {
-    let Some(stopped) = stopped_at(texts, now.said.err.bytes()) else {
+pub fn is_cut(texts: &[String], before: &Stage, whole: &Stage, now: &Stage) -> bool {
+    let Some(stopped) = stopped_at(texts, now.line()) else {
         return false;
     };
     for name in NAMES {
-        let (was, is, text) = (
-            before.file(name),
-            now.shelf.file(name),
-            whole.shelf.file(name),
-        );
+        let (was, is, text) = (before.file(name), now.file(name), whole.file(name));
         let holds = match number_of(texts, name) {
             Some(i) if i < stopped => is == text,
             Some(i) if i == stopped => is_part(is, was, text),

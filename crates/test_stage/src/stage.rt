@@ -12,6 +12,25 @@ fn add_words(words: &mut Words, line: &str) -> Result<(), AllocError> {
     Ok(())
 }
 
+// Adds these words.
+fn add_texts(words: &mut Words, texts: &[String]) -> Result<(), AllocError> {
+    for text in texts {
+        words.push(text.as_str())?;
+    }
+    Ok(())
+}
+
+// Runs words. What a run promises goes no further.
+fn run_words<S: Shelf, O: Sink, E: Sink>(
+    alloc: Global,
+    words: &Words,
+    shelf: &mut S,
+    out: &mut O,
+    err: &mut E,
+) -> u8 {
+    run(alloc, words, shelf, out, err)
+}
+
 /// Runs the words of a line, which blanks part.
 pub fn ran<S: Shelf, O: Sink, E: Sink>(
     alloc: Global,
@@ -22,7 +41,7 @@ pub fn ran<S: Shelf, O: Sink, E: Sink>(
 ) -> Result<u8, AllocError> {
     let mut words = Words::new(alloc);
     add_words(&mut words, line)?;
-    Ok(run(alloc, &words, shelf, out, err))
+    Ok(run_words(alloc, &words, shelf, out, err))
 }
 
 /// Whether a file is there and has these bytes.
@@ -107,6 +126,19 @@ impl Stage {
             &mut self.out,
             &mut self.err,
         )
+    }
+
+    /// Runs these words, and gives the status.
+    pub fn run_texts(&mut self, texts: &[String]) -> Result<u8, AllocError> {
+        let mut words = Words::new(self.alloc);
+        add_texts(&mut words, texts)?;
+        Ok(run_words(
+            self.alloc,
+            &words,
+            &mut self.shelf,
+            &mut self.out,
+            &mut self.err,
+        ))
     }
 
     /// Begins the report and the line again, empty. Neither fails from then on.

@@ -1,0 +1,14 @@
+pub mod SameNumbers
+pub mod Lists
+pub mod SameLists
+pub mod FourNumbers
+pub mod Walks
+pub mod Values
+pub mod Images
+pub mod Joins
+pub mod Halvings
+pub mod Cyclic
+pub mod Products
+pub mod Roots
+pub mod Ladders
+pub mod Offsets

@@ -1,0 +1,5 @@
+pub mod Padded
+pub mod Numbers
+pub mod Offsets
+pub mod Summed
+pub mod Errors

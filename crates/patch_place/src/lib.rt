@@ -12,7 +12,8 @@
 //! given, `overlaps` the overlap errors of a box, `hints` the likely candidates with whose least error the
 //! walk begins, `skips` those that it leaves out, since they can't be eligible, as sums of blocks (crate
 //! search_squares) show of overlap errors, `reach` the sums by which the filled cells of laid candidates are
-//! counted and the runs over which they are compared, `shortlist` the shortlist, and `eligible` which of its
+//! counted and the runs over which they are compared, `offsets` their errors at all offsets at once (crate
+//! offset_errors), where these cost less, `shortlist` the shortlist, and `eligible` which of its
 //! entries are about as good as the best. README.md says the definitions and the promises in words.
 //!
 //! `pick_with` and `next_placement_with` are the same calls for a sample whose sums of blocks are made
@@ -26,6 +27,7 @@ mod box_list;
 mod eligible;
 mod errors;
 mod hints;
+mod offsets;
 mod overlaps;
 mod picks;
 mod reach;

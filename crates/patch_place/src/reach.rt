@@ -72,9 +72,9 @@ fn reach_of(output: Size, part: Size, q: At) -> Box3
     }
 }
 
-// The box in which the filled cells of all candidates are. Where there is one candidate, sums and runs of
-// it would cost more than they save: the box has no cell.
-fn box_of_all(list: &Candidates, output: Size, sample: &Volume) -> Box3
+/// The box in which the filled cells of all candidates are. Where there is one candidate, sums and runs of
+/// it would cost more than they save: the box has no cell.
+pub(crate) fn box_of_all(list: &Candidates, output: Size, sample: &Volume) -> Box3
     requires { IsSmall output }
     ensures { HoldsBox output result.corner result.size }
 {

@@ -19,6 +19,8 @@ mod match_sums;
 #[cfg(test)]
 mod networks;
 #[cfg(test)]
+mod offsets;
+#[cfg(test)]
 mod picks;
 #[cfg(test)]
 mod placements;

@@ -11,10 +11,12 @@ entries-preserved c =
     let f = error_of c.args.canvas.now.map c.args.sample.now in
     record {
       short =
-          subst (IsShortlist c.add.new.self) (sym (map_more f list c.entries.i _ c.entry_for.ensures.at))
+          subst (IsShortlist c.add.new.self) (sym (map_more f list c.entries.i _ c.entry_for-placement.ensures.at))
           (c.in_ok-add.ensures.more (map f (take c.entries.i list)) c.entries.invariant.short);
       sound = c.in_ok-add.ensures.sound;
       seen = omega (arith, c.in_ok-add.ensures.seen, c.entries.invariant.seen);
       tol = c.add.ensures.tol ∙ c.entries.invariant.tol;
       known = c.add.ensures.known ∙ c.entries.invariant.known;
+      errors = c.in_ok-come_to.ensures.errors;
+      part = c.in_ok-come_to.ensures.part;
     }

@@ -1,5 +1,7 @@
-use Rattle.std.proofs.Common.{◌≡◌, None, map, take}
+use Rattle.std.proofs.Common.{◌≡◌, ◌<◌, IfSome, None, length, map, take}
 use Rattle.match_error.specs.Errors.{error_of}
+use Rattle.cells.specs.Cells.{sizes_of}
+use Rattle.offset_errors.specs.Errors.{AreErrors}
 use Rattle.patch_picks.specs.Picks.{listed_on}
 use Rattle.patch_place.specs.Tables.{IsShortlist, IsSoundShortlist}
 use Rattle.patch_place.proofs.errors.placed_shortlist.Given as goal
@@ -11,4 +13,6 @@ invariant-entries l = record {
   seen : l.short.seen ≡ l.i;
   tol : l.short.tol ≡ l.fn.tol;
   known : l.short.known ≡ None;
+  errors : IfSome l.errors.errors (AreErrors l.canvas.map l.sample);
+  part : l.errors.part < length (sizes_of l.sample);
 }

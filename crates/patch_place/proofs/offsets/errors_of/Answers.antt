@@ -1,0 +1,28 @@
+use Rattle.std.proofs.Common.{◌≡◌, ◌<◌, ◌^◌, ◌∙◌, ℕ, suc, ap, refl, subst, sym, to_z, arith}
+use Rattle.std.proofs.Math.Facts.{to_z_pos}
+use Rattle.std.proofs.lemmas.Int.{ints}
+use Rattle.std.specs.Int.{w32}
+use Rattle.std.specs.Prelude.{ℤ, pos, ◌+ℤ◌, Some, slice_get}
+use Rattle.cells.specs.Boxes.{HoldsBox}
+use Rattle.cells.specs.Cells.{Holds, sizes_of}
+use Rattle.cells.specs.Places.{spot}
+use Rattle.cells.specs.SizeLists.{frames_to_part, stock_place}
+use Rattle.patch_picks.proofs.Stocks.{part_held, stock_moved}
+use Rattle.patch_place.proofs.offsets.errors_of.Goals as goal
+
+pub gather-requires-clause-held : goal.gather-requires-clause-held
+gather-requires-clause-held c =
+    let n = c.args.n in
+    let part = c.part_after-size.result in
+    let sample = c.args.sample.now in
+    let at : slice_get (sizes_of sample) n ≡ Some part = subst (λ sizes. slice_get sizes n ≡ Some part) c.parts_of-sizes.ensures.sizes c.part_after-size.ensures.size in
+    let whole : HoldsBox part (spot 0 0 0) part = record {
+      x = record { from = omega (arith, ints); to = omega (arith, ints) };
+      y = record { from = omega (arith, ints); to = omega (arith, ints) };
+      f = record { from = omega (arith, ints); to = omega (arith, ints) };
+    } in
+    let frames : c.frames_before-f.result ≡ frames_to_part (sizes_of sample) n = c.frames_before-f.ensures.frames ∙ ap (λ sizes. frames_to_part sizes n) c.parts_of-sizes.ensures.sizes in
+    let signed : to_z w32 c.frames_before-f.result ≡ pos c.frames_before-f.result = to_z_pos w32 (omega (arith, c.frames_before-f.ensures.few)) in
+    let f : pos 0 +ℤ pos (frames_to_part (sizes_of sample) n) ≡ to_z w32 c.frames_before-f.result = omega (arith, ints, frames, signed) in
+    subst (λ corner. Holds sample corner part) (stock_moved (sizes_of sample) (suc n) n (spot 0 0 0) refl ∙ (λ k. record { x = pos 0; y = pos 0; f = f k }))
+    (part_held sample (suc n) n part (spot 0 0 0) part refl at whole)

@@ -1,0 +1,65 @@
+// Worked examples of cyclic products, and of errors at all offsets.
+ghost use Rattle.std.specs.Prelude.{◌≡◌};
+ghost use Rattle.cells.specs.Places.{spot};
+
+use crate::expect::expect_done;
+use crate::rows::{greys, row_at, row_of};
+use cells::{At, Box3, Size};
+use cyclic_products::Transform;
+use map_canvas::Placement;
+use offset_errors::{OffsetErrors, levels_for};
+use std::alloc::{AllocError, Global};
+use std::process::Abort;
+
+// The product of two lists of four numbers.
+fn assert_product(rt: &impl Abort, alloc: Global) -> Result<(), AllocError> {
+    let transform = Transform::make(alloc, 2)?;
+    let mut f = [1, 2, 3, 4];
+    let mut g = [5, 6, 7, 8];
+    transform.product(&mut f, &mut g);
+    assert!(rt; f == [66, 68, 66, 60]);
+    Ok(())
+}
+
+#[test]
+fn cyclic_product(rt: HostRuntime) {
+    expect_done(&rt, assert_product(&rt, rt.alloc()));
+}
+
+// A box along a row, from its first cell on.
+fn along(w: u32) -> Box3
+    ensures corner { result.corner ≡ spot 0 0 0 }
+    ensures size { result.size ≡ record { w = w; h = 1; f = 1 } }
+{
+    Box3 {
+        corner: At { x: 0, y: 0, f: 0 },
+        size: Size { w, h: 1, f: 1 },
+    }
+}
+
+// Over a row of six cells, of which four are the sample's: the sample that is laid from the third on differs in
+// two cells, by 20 in each of their three samples. A box of three of its cells leaves out one that both have.
+fn assert_sums(rt: &impl Abort, alloc: Global) -> Result<(), AllocError> {
+    let sample = greys(alloc)?;
+    let canvas = row_of(rt, alloc, 6, &sample, &[0, 1, 2, 3])?;
+    let (rect, part) = (along(6), along(4));
+    assert!(rt; sample.holds(&part));
+    let levels = levels_for(rect.size, part.size);
+    assert!(rt; levels.is_some());
+    let levels = levels.unwrap();
+    let errors = OffsetErrors::gather(alloc, canvas.map(), &sample, &rect, &part, levels)?;
+    let whole = row_at(2);
+    let mut rect = whole.rect;
+    rect.size.w = 3;
+    let shorter = Placement {
+        rect,
+        from: whole.from,
+    };
+    assert!(rt; errors.sum(&whole) == Some(2400) && errors.sum(&shorter).is_none());
+    Ok(())
+}
+
+#[test]
+fn sums_at_offsets(rt: HostRuntime) {
+    expect_done(&rt, assert_sums(&rt, rt.alloc()));
+}

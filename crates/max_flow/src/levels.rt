@@ -6,8 +6,8 @@ ghost use Rattle.max_flow.specs.Residual.{arc_count, tail, head, residual, AreRe
 ghost use Rattle.max_flow.specs.Levels.{AreLevels, IsClosed, IsSearch, level_of, levelled};
 
 use crate::graph::Graph;
+use crate::queue::Queue;
 use std::alloc::{AllocError, Global};
-use std::collections::VecDeque;
 
 // Gives the node that an arc enters a level, and a place among those that wait, where the arc can carry more and
 // the node has no level yet.
@@ -15,19 +15,19 @@ fn try_arc(
     graph: &Graph,
     backward: &[u32],
     levels: &mut [u32],
-    waiting: &mut VecDeque<u32>,
+    waiting: &mut Queue,
     node: usize,
     arc: usize,
 ) -> Result<(), AllocError>
     requires residuals { AreResiduals graph.now.pipes.now backward.now }
     requires search { IsSearch graph.now.pipes.now graph.now.nodes graph.now.source backward.now
-        levels.old (node ∷ waiting.old.items) }
+        levels.old (node ∷ waiting.old) }
     requires arc { arc < arc_count graph.now.pipes.now }
     requires leaves { tail graph.now.pipes.now arc ≡ node }
     ensures search { OnOk result (IsSearch graph.now.pipes.now graph.now.nodes graph.now.source
-        backward.now levels.new (node ∷ waiting.new.items)) }
-    ensures waits { OnOk result (levelled levels.new + length waiting.old.items
-        ≡ levelled levels.old + length waiting.new.items) }
+        backward.now levels.new (node ∷ waiting.new)) }
+    ensures waits { OnOk result (levelled levels.new + length waiting.old
+        ≡ levelled levels.old + length waiting.new) }
     ensures kept { OnOk result ((n : ℕ) → 0 < level_of levels.old n → 0 < level_of levels.new n) }
     ensures tried { OnOk result (0 < residual graph.now.pipes.now backward.now arc
         → 0 < level_of levels.new (head graph.now.pipes.now arc)) }
@@ -37,7 +37,7 @@ fn try_arc(
         return Ok(());
     }
     levels[next] = levels[node] + 1;
-    waiting.push_back(next as u32)?;
+    waiting.push(next as u32)?;
     Ok(())
 }
 
@@ -46,16 +46,16 @@ fn visit(
     graph: &Graph,
     backward: &[u32],
     levels: &mut [u32],
-    waiting: &mut VecDeque<u32>,
+    waiting: &mut Queue,
     node: usize,
 ) -> Result<(), AllocError>
     requires residuals { AreResiduals graph.now.pipes.now backward.now }
     requires search { IsSearch graph.now.pipes.now graph.now.nodes graph.now.source backward.now
-        levels.old (node ∷ waiting.old.items) }
+        levels.old (node ∷ waiting.old) }
     ensures search { OnOk result (IsSearch graph.now.pipes.now graph.now.nodes graph.now.source
-        backward.now levels.new waiting.new.items) }
-    ensures waits { OnOk result (levelled levels.new + length waiting.old.items
-        ≡ levelled levels.old + length waiting.new.items) }
+        backward.now levels.new waiting.new) }
+    ensures waits { OnOk result (levelled levels.new + length waiting.old
+        ≡ levelled levels.old + length waiting.new) }
 {
     let mut cursor = graph.last[node] as usize;
     'arcs: while cursor > 0 {
@@ -85,10 +85,10 @@ pub fn find_levels(
 {
     levels.fill(0);
     levels[graph.source] = 1;
-    let mut waiting = VecDeque::new(alloc);
-    waiting.push_back(graph.source as u32)?;
+    let mut waiting = Queue::make(alloc);
+    waiting.push(graph.source as u32)?;
     'nodes: while levels[graph.sink] == 0 {
-        let Some(node) = waiting.pop_front() else {
+        let Some(node) = waiting.pop() else {
             return Ok(false);
         };
         visit(graph, backward, levels, &mut waiting, node as usize)?;

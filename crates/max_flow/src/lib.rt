@@ -8,8 +8,8 @@
 //! is left open.
 //!
 //! Read on in `specs/Flows.antt`, which says what a flow and a cut are, and in `solver.rt`. Dinic's method
-//! finds a level graph (`levels.rt`) and a blocking flow in it (`paths.rt`, `blocking.rt`), over the residual
-//! network (`graph.rt`), until the sink has no level. Where a few level graphs aren't enough, search trees
+//! finds a level graph (`levels.rt`, `queue.rt`) and a blocking flow in it (`paths.rt`, `blocking.rt`), over the
+//! residual network (`graph.rt`), until the sink has no level. Where a few level graphs aren't enough, search trees
 //! (`trees.rt`) over packed arcs (`packed.rt`) go on, of whose flow nothing is promised. In a network of many
 //! seams they come first, and go over a shorter one (`triangles.rt`); where they give up there, an excess goes on
 //! (`preflow.rt`). A check in one pass (`checking.rt`) takes their flow or begins with none (`beginning.rt`), and
@@ -25,6 +25,7 @@ mod network;
 mod packed;
 mod paths;
 mod preflow;
+mod queue;
 mod solver;
 mod trees;
 mod triangles;

@@ -6,8 +6,8 @@ use Rattle.max_flow.proofs.levels.find_levels.Goals as goal
 pub nodes-init : goal.nodes-init
 nodes-init c =
     let filled : c.fill.new.self ≡ zeros c.args.graph.now.nodes = c.fill.ensures.after (λ y e. e) ∙ ap zeros c.requires.levels in
-    let items : c.push_back.new.self.items ≡ c.args.graph.now.source ∷ [] =
-    ◌∙◌ {A = List ℕ} c.in_ok-push_back.ensures.items (ap (λ (waiting : List ℕ). waiting ++ c.args.graph.now.source ∷ []) c.new-waiting.ensures.items) in
+    let items : c.push.new.self ≡ c.args.graph.now.source ∷ [] =
+    ◌∙◌ {A = List ℕ} c.in_ok-push.ensures (ap (λ (waiting : List ℕ). waiting ++ c.args.graph.now.source ∷ []) c.make-waiting.ensures) in
     subst (λ (waiting : List ℕ). IsSearch c.args.graph.now.pipes.now c.args.graph.now.nodes c.args.graph.now.source c.args.backward.now (set c.fill.new.self c.args.graph.now.source 1) waiting) (sym items)
     (subst (λ (levels : List ℕ). IsSearch c.args.graph.now.pipes.now c.args.graph.now.nodes c.args.graph.now.source c.args.backward.now (set levels c.args.graph.now.source 1) (c.args.graph.now.source ∷ []))
     (sym filled) (IsSearch_begins _ _ _ _ c.args.graph.now.source_in))

@@ -18,7 +18,7 @@ overflow_add-levels c =
 
 pub returns-clause-search : goal.returns-clause-search
 returns-clause-search c =
-    let items : c.push_back.new.self.items ≡ c.args.waiting.now.items ++ c.head-next.result ∷ [] = c.in_ok-push_back.ensures.items in
+    let items : c.push.new.self ≡ c.args.waiting.now ++ c.head-next.result ∷ [] = c.in_ok-push.ensures in
     subst (λ (waiting : List ℕ). IsSearch c.args.graph.now.pipes.now c.args.graph.now.nodes c.args.graph.now.source c.args.backward.now
     (set c.args.levels.now c.head-next.result (slice_index c.args.levels.now c.args.node + 1)) (c.args.node ∷ waiting)) (sym items)
     (enqueue _ _ _ _ _ _ c.requires.search c.args.arc c.args.node c.head-next.result c.requires.arc c.requires.leaves (front_level _ _ _ _ _ _ _ c.requires.search)

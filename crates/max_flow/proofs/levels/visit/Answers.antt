@@ -22,5 +22,5 @@ pub returns-clause-search : goal.returns-clause-search
 returns-clause-search c =
     let none : c.arcs.cursor ≡ 0 = omega (arith, c.arcs-test.false) in
     IsVisiting_ends _ _ _ _ _ _ _ _ _
-    (subst (λ (cursor : ℕ). IsVisiting c.args.graph.now.pipes.now c.args.graph.now.nodes c.args.graph.now.source c.args.backward.now c.args.levels.now c.arcs.levels c.args.waiting.now.items c.arcs.waiting.items c.args.node cursor)
+    (subst (λ (cursor : ℕ). IsVisiting c.args.graph.now.pipes.now c.args.graph.now.nodes c.args.graph.now.source c.args.backward.now c.args.levels.now c.arcs.levels c.args.waiting.now c.arcs.waiting c.args.node cursor)
     none c.arcs.invariant)

@@ -54,6 +54,21 @@ impl Graph<'_> {
         }
     }
 
+    /// The node that an arc enters, where it leaves `node`: the sum of both ends of its pipe, less that
+    /// node. This takes fewer steps than `head`, since it's the same whichever way the arc goes.
+    #[inline(always)]
+    #[tactic(auto, using(crate::proofs::Arcs::head_below), unfolding(crate::specs::Residual::head, crate::specs::Residual::tail))]
+    pub fn beyond(&self, arc: usize, node: usize) -> usize
+        requires arc { arc < arc_count self.now.pipes.now }
+        requires leaves { tail self.now.pipes.now arc ≡ node }
+        ensures value { result ≡ head self.now.pipes.now arc }
+        ensures within { result < self.now.nodes }
+        ensures small { result < 2 ^ 32 }
+    {
+        let pipe = &self.pipes[arc / 2];
+        pipe.from.wrapping_add(pipe.to).wrapping_sub(node as u32) as usize
+    }
+
     /// What an arc can still carry, where `backward` has it for the arc against each pipe.
     #[inline(always)]
     #[tactic(auto, unfolding(crate::specs::Residual::residual))]

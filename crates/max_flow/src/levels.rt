@@ -32,7 +32,7 @@ fn try_arc(
     ensures tried { OnOk result (0 < residual graph.now.pipes.now backward.now arc
         → 0 < level_of levels.new (head graph.now.pipes.now arc)) }
 {
-    let next = graph.head(arc);
+    let next = graph.beyond(arc, node);
     if levels[next] > 0 || graph.residual(backward, arc) == 0 {
         return Ok(());
     }

@@ -27,7 +27,9 @@ fn next_admissible(graph: &Graph, backward: &[u32], levels: &[u32], node: usize,
     let mut cursor = cursor;
     'arcs: while cursor > 0 {
         let arc = cursor as usize - 1;
-        if u64::from(levels[graph.head(arc)]) == level && graph.residual(backward, arc) > 0 {
+        if u64::from(levels[graph.beyond(arc, node)]) == level
+            && graph.residual(backward, arc) > 0
+        {
             return cursor;
         }
         cursor = graph.previous[arc];

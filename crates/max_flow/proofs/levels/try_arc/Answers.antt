@@ -14,12 +14,12 @@ bounds-levels-node c = omega (arith, front_in _ _ _ _ _ _ _ c.requires.search, c
 pub overflow_add-levels : goal.overflow_add-levels
 overflow_add-levels c =
     let nodes_fit : Fits w32 c.args.graph.now.nodes = search rules in
-    omega (arith, nodes_fit, c.requires.search.limit c.args.node, room_for _ _ _ _ _ _ c.requires.search c.head-next.result (omega arith) (omega arith))
+    omega (arith, nodes_fit, c.requires.search.limit c.args.node, room_for _ _ _ _ _ _ c.requires.search c.beyond-next.result (omega arith) (omega arith))
 
 pub returns-clause-search : goal.returns-clause-search
 returns-clause-search c =
-    let items : c.push.new.self ≡ c.args.waiting.now ++ c.head-next.result ∷ [] = c.in_ok-push.ensures in
+    let items : c.push.new.self ≡ c.args.waiting.now ++ c.beyond-next.result ∷ [] = c.in_ok-push.ensures in
     subst (λ (waiting : List ℕ). IsSearch c.args.graph.now.pipes.now c.args.graph.now.nodes c.args.graph.now.source c.args.backward.now
-    (set c.args.levels.now c.head-next.result (slice_index c.args.levels.now c.args.node + 1)) (c.args.node ∷ waiting)) (sym items)
-    (enqueue _ _ _ _ _ _ c.requires.search c.args.arc c.args.node c.head-next.result c.requires.arc c.requires.leaves (front_level _ _ _ _ _ _ _ c.requires.search)
-    c.head-next.ensures.value (omega arith) (omega arith) (omega (arith, c.residual.ensures, c.if-residual-eq0.false)))
+    (set c.args.levels.now c.beyond-next.result (slice_index c.args.levels.now c.args.node + 1)) (c.args.node ∷ waiting)) (sym items)
+    (enqueue _ _ _ _ _ _ c.requires.search c.args.arc c.args.node c.beyond-next.result c.requires.arc c.requires.leaves (front_level _ _ _ _ _ _ _ c.requires.search)
+    c.beyond-next.ensures.value (omega arith) (omega arith) (omega (arith, c.residual.ensures, c.if-residual-eq0.false)))

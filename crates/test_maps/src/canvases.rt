@@ -4,7 +4,7 @@ ghost use Rattle.std.specs.Prelude.{◌≡◌, pos, IfOk};
 ghost use Rattle.map_canvas.specs.Canvases.{StandsOver};
 
 use crate::expect::{expect_done, expect_none, expect_true};
-use crate::laying::{canvas_over, holds_axis, put_choice};
+use crate::laying::{canvas_over, column, holds_axis, put_choice};
 use cells::{At, Box3, Size, Volume};
 use map_canvas::{Canvas, Map};
 use std::alloc::{AllocError, Global};
@@ -21,80 +21,96 @@ fn at(x: i32, y: i32) -> At
     At { x, y, f: 0 }
 }
 
-// Asserts the sources of a canvas of one row, its samples, and where its first unfilled cell is.
+// Asserts the sources of a canvas of one row, and which of its cells are filled.
+fn assert_sources(rt: &impl Abort, canvas: &Canvas, sources: &[Option<At>]) {
+    for (x, source) in sources.iter().enumerate() {
+        assert!(rt; x < 9);
+        let p = at(x as i32, 0);
+        assert!(rt; canvas.map().at(p) == *source);
+        assert!(rt; canvas.is_filled(p) == source.is_some());
+    }
+}
+
+// Where a choice begins, whether each of its cells is new, and what it leaves of a canvas of one row: the sources, the
+// samples and the first unfilled column.
+type Choice = (
+    i32,
+    &'static [bool],
+    &'static [Option<At>],
+    &'static [u8],
+    Option<i32>,
+);
+
+const CHOICES: &[Choice] = &[
+    (
+        0,
+        &[true, true],
+        &[LEFT, RIGHT, None, None, None],
+        &[10, 20, 0, 0, 0],
+        Some(2),
+    ),
+    // Cell 1 stays old.
+    (
+        1,
+        &[false, true],
+        &[LEFT, RIGHT, RIGHT, None, None],
+        &[10, 20, 20, 0, 0],
+        Some(3),
+    ),
+    // Cell 3 stays unfilled, before a filled one.
+    (
+        4,
+        &[true],
+        &[LEFT, RIGHT, RIGHT, None, LEFT],
+        &[10, 20, 20, 0, 10],
+        Some(3),
+    ),
+    (
+        3,
+        &[true, false],
+        &[LEFT, RIGHT, RIGHT, LEFT, LEFT],
+        &[10, 20, 20, 10, 10],
+        None,
+    ),
+];
+
+// Asserts the sources of a canvas of one row, its samples, and its first unfilled column.
 fn assert_row(
     rt: &impl Abort,
     canvas: &Canvas,
     sources: &[Option<At>],
     bytes: &[u8],
-    first: Option<At>,
+    first: Option<i32>,
 ) {
-    for (x, source) in sources.iter().enumerate() {
-        assert!(rt; x < 9);
-        let p = at(x as i32, 0);
-        assert!(rt; canvas.map().at(p) == *source, "at {x}");
-        assert!(rt; canvas.is_filled(p) == source.is_some(), "at {x}");
-    }
+    assert_sources(rt, canvas, sources);
     assert!(rt; canvas.picture().bytes() == bytes);
-    assert!(rt; canvas.first_unfilled() == first);
+    assert!(rt; canvas.first_unfilled() == first.map(column));
+}
+
+// Puts in each choice over the canvas that the one before leaves.
+fn assert_choices(rt: &impl Abort, canvas: &mut Canvas, sample: &Volume)
+    requires { StandsOver canvas.old sample.now }
+    ensures { StandsOver canvas.new sample.now }
+{
+    'choices: for (x, choice, sources, bytes, first) in CHOICES.iter() {
+        assert!(rt; choice.len() <= 2);
+        let size = (choice.len() as u32, 1);
+        put_choice(rt, canvas, sample, column(*x), column(0), size, *choice);
+        assert_row(rt, canvas, *sources, *bytes, *first);
+    }
+}
+
+fn expect_over(rt: &impl Abort, alloc: Global, sample: &Volume) -> Result<(), AllocError> {
+    let mut canvas = canvas_over(alloc, Size { w: 5, h: 1, f: 1 }, sample)?;
+    assert_row(rt, &canvas, &[None; 5], &[0; 5], Some(0));
+    assert_choices(rt, &mut canvas, sample);
+    Ok(())
 }
 
 fn expect_choices(rt: &impl Abort, alloc: Global) -> Result<(), AllocError> {
     let bytes = Vec::from_slice(alloc, &[10, 20])?;
     let sample = Volume::from_bytes(Size { w: 2, h: 1, f: 1 }, 1, bytes);
-    let mut canvas = canvas_over(alloc, Size { w: 5, h: 1, f: 1 }, &sample)?;
-    assert_row(rt, &canvas, &[None; 5], &[0; 5], Some(at(0, 0)));
-
-    put_choice(
-        rt,
-        &mut canvas,
-        &sample,
-        at(0, 0),
-        at(0, 0),
-        (2, 1),
-        &[true, true],
-    );
-    let sources = [LEFT, RIGHT, None, None, None];
-    assert_row(rt, &canvas, &sources, &[10, 20, 0, 0, 0], Some(at(2, 0)));
-
-    // Cell 1 stays old.
-    put_choice(
-        rt,
-        &mut canvas,
-        &sample,
-        at(1, 0),
-        at(0, 0),
-        (2, 1),
-        &[false, true],
-    );
-    let sources = [LEFT, RIGHT, RIGHT, None, None];
-    assert_row(rt, &canvas, &sources, &[10, 20, 20, 0, 0], Some(at(3, 0)));
-
-    // Cell 3 stays unfilled, before a filled one.
-    put_choice(
-        rt,
-        &mut canvas,
-        &sample,
-        at(4, 0),
-        at(0, 0),
-        (1, 1),
-        &[true],
-    );
-    let sources = [LEFT, RIGHT, RIGHT, None, LEFT];
-    assert_row(rt, &canvas, &sources, &[10, 20, 20, 0, 10], Some(at(3, 0)));
-
-    put_choice(
-        rt,
-        &mut canvas,
-        &sample,
-        at(3, 0),
-        at(0, 0),
-        (2, 1),
-        &[true, false],
-    );
-    let sources = [LEFT, RIGHT, RIGHT, LEFT, LEFT];
-    assert_row(rt, &canvas, &sources, &[10, 20, 20, 10, 10], None);
-    Ok(())
+    expect_over(rt, alloc, &sample)
 }
 
 #[test]
@@ -148,11 +164,24 @@ fn wrong_kept(canvas: &Canvas) -> Option<usize> {
     None
 }
 
-fn wrong_kept_of_three(rt: &impl Abort, alloc: Global) -> Result<Option<usize>, AllocError> {
+// A sample of one row, of 2 samples a cell.
+fn two_cells(alloc: Global) -> Result<Volume, AllocError> {
     let bytes = Vec::from_slice(alloc, &[10, 11, 20, 21])?;
-    let sample = Volume::from_bytes(Size { w: 2, h: 1, f: 1 }, 2, bytes);
-    let canvas = part_filled(rt, alloc, &sample)?;
+    Ok(Volume::from_bytes(Size { w: 2, h: 1, f: 1 }, 2, bytes))
+}
+
+fn wrong_kept_over(
+    rt: &impl Abort,
+    alloc: Global,
+    sample: &Volume,
+) -> Result<Option<usize>, AllocError> {
+    let canvas = part_filled(rt, alloc, sample)?;
     Ok(wrong_kept(&canvas))
+}
+
+fn wrong_kept_of_three(rt: &impl Abort, alloc: Global) -> Result<Option<usize>, AllocError> {
+    let sample = two_cells(alloc)?;
+    wrong_kept_over(rt, alloc, &sample)
 }
 
 #[test]
@@ -184,6 +213,17 @@ const RUNS: &[([bool; 6], [u8; 10], [u8; 5])] = &[
     ),
 ];
 
+// Asserts what a choice leaves: the picture, and which cells of the second row are filled.
+fn assert_left(rt: &impl Abort, canvas: &Canvas, sample: &Volume, picture: &[u8], marks: &[u8]) {
+    assert!(rt; canvas.picture().bytes() == picture);
+    assert!(rt; canvas.render_equals(sample));
+    let size = canvas.map().size();
+    let start = at(0, 1);
+    assert!(rt; size.index_of(start).is_some());
+    assert!(rt; holds_axis(size.w, start.x, 5));
+    assert!(rt; canvas.filled_row(start, 5) == marks);
+}
+
 // Sees what a choice leaves.
 fn expect_run(
     rt: &impl Abort,
@@ -195,13 +235,7 @@ fn expect_run(
 ) -> Result<(), AllocError> {
     let mut canvas = canvas_over(alloc, Size { w: 5, h: 2, f: 1 }, sample)?;
     put_choice(rt, &mut canvas, sample, at(2, 0), at(0, 0), (3, 2), choice);
-    assert!(rt; canvas.picture().bytes() == picture);
-    assert!(rt; canvas.render_equals(sample));
-    let size = canvas.map().size();
-    let start = at(0, 1);
-    assert!(rt; size.index_of(start).is_some());
-    assert!(rt; holds_axis(size.w, start.x, 5));
-    assert!(rt; canvas.filled_row(start, 5) == marks);
+    assert_left(rt, &canvas, sample, picture, marks);
     Ok(())
 }
 
@@ -242,9 +276,9 @@ fn stands_over(
     bytes: &[u8],
     k: u32,
 ) -> Result<bool, AllocError> {
-    let bytes = Vec::from_slice(alloc, bytes)?;
     assert!(rt; 1 <= w && w <= 3 && 1 <= k && k <= 2);
     assert!(rt; bytes.len() == k as usize * w as usize);
+    let bytes = Vec::from_slice(alloc, bytes)?;
     let other = Volume::from_bytes(Size { w, h: 1, f: 1 }, k, bytes);
     Ok(canvas.render_equals(&other))
 }
@@ -263,11 +297,18 @@ fn wrong_other(
     Ok(None)
 }
 
-fn wrong_other_than_two(rt: &impl Abort, alloc: Global) -> Result<Option<usize>, AllocError> {
-    let bytes = Vec::from_slice(alloc, &[10, 11, 20, 21])?;
-    let sample = Volume::from_bytes(Size { w: 2, h: 1, f: 1 }, 2, bytes);
-    let canvas = part_filled(rt, alloc, &sample)?;
+fn wrong_other_than(
+    rt: &impl Abort,
+    alloc: Global,
+    sample: &Volume,
+) -> Result<Option<usize>, AllocError> {
+    let canvas = part_filled(rt, alloc, sample)?;
     wrong_other(rt, alloc, &canvas)
+}
+
+fn wrong_other_than_two(rt: &impl Abort, alloc: Global) -> Result<Option<usize>, AllocError> {
+    let sample = two_cells(alloc)?;
+    wrong_other_than(rt, alloc, &sample)
 }
 
 #[test]

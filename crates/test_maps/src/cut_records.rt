@@ -111,28 +111,57 @@ fn canvas_along(
     Ok(canvas)
 }
 
+// A list of these flows.
+fn flows_of(alloc: Global, flows: &[(i16, i16)]) -> Result<Items<Flow>, AllocError> {
+    let mut list = Vec::new(alloc);
+    'flows: for (x, y) in flows {
+        list.push(Flow { x: *x, y: *y })?;
+    }
+    Ok(Items::from_vec(list))
+}
+
 // A record of this choice and these flows.
 fn record_of(
     alloc: Global,
     placement: Placement,
     choice: &[bool],
     flows: &[(i16, i16)],
-) -> Result<CutRecord, AllocError>
-    ensures { IfOk result (λ cut. (cut.placement ≡ placement)
-        × (length cut.choice ≡ length choice.now) × (length cut.flows ≡ length flows.now)) }
-{
-    let mut list = Vec::new(alloc);
-    'flows: for (x, y) in flows {
-        list.push(Flow { x: *x, y: *y })?;
-    }
+) -> Result<CutRecord, AllocError> {
+    let choice = Items::from_vec(Vec::from_slice(alloc, choice)?);
+    let flows = flows_of(alloc, flows)?;
     Ok(CutRecord {
         placement,
-        choice: Items::from_vec(Vec::from_slice(alloc, choice)?),
-        flows: Items::from_vec(list),
+        choice,
+        flows,
     })
 }
 
-// What the check says.
+// What the check says of a record.
+fn said_of_cut(
+    rt: &impl Abort,
+    canvas: &Canvas,
+    sample: &Volume,
+    cut: &CutRecord,
+    held: Option<&[bool]>,
+) -> Verdict
+    requires { StandsOver canvas.now sample.now }
+{
+    let size = cut.placement.rect.size;
+    assert_small(rt, size);
+    assert!(rt; cut.choice.as_slice().len() == size.cells());
+    assert!(rt; cut.flows.as_slice().len() as u64 == pair_count(size));
+    assert!(rt; are_marks(canvas, &cut.placement, held));
+    let said = match held {
+        None => check_cut(canvas, sample, cut),
+        Some(_) => check_held(canvas, sample, cut, held),
+    };
+    match said {
+        Ok(()) => None,
+        Err(fault) => Some((fault.kind, fault.place)),
+    }
+}
+
+// What the check says of a record of this choice and these flows.
 fn verdict(
     rt: &impl Abort,
     alloc: Global,
@@ -145,20 +174,8 @@ fn verdict(
 ) -> Result<Verdict, AllocError>
     requires { StandsOver canvas.now sample.now }
 {
-    let size = placement.rect.size;
-    assert_small(rt, size);
-    assert!(rt; choice.len() == size.cells());
-    assert!(rt; flows.len() as u64 == pair_count(size));
-    assert!(rt; are_marks(canvas, &placement, held));
     let cut = record_of(alloc, placement, choice, flows)?;
-    let said = match held {
-        None => check_cut(canvas, sample, &cut),
-        Some(_) => check_held(canvas, sample, &cut, held),
-    };
-    match said {
-        Ok(()) => Ok(None),
-        Err(fault) => Ok(Some((fault.kind, fault.place))),
-    }
+    Ok(said_of_cut(rt, canvas, sample, &cut, held))
 }
 
 // A placement of four cells along an axis, whose sources begin at the sample's first cell.
@@ -192,6 +209,19 @@ fn choice_of(bits: u32) -> [bool; 8] {
 type Row<'a> = (i32, u32, &'a [(i16, i16)], Verdict);
 
 // Sees what the check says along an axis, over a canvas of six cells of which the first have these sources.
+fn expect_over(
+    rt: &impl Abort,
+    alloc: Global,
+    axis: Axis,
+    sample: &Volume,
+    sources: &[i32],
+    held: Option<&[bool]>,
+    table: &[Row],
+) -> Result<(), AllocError> {
+    let canvas = canvas_along(rt, alloc, sample, axis, sources)?;
+    expect_rows(rt, alloc, &canvas, sample, axis, held, table)
+}
+
 fn expect_axis(
     rt: &impl Abort,
     alloc: Global,
@@ -201,8 +231,7 @@ fn expect_axis(
     table: &[Row],
 ) -> Result<(), AllocError> {
     let sample = sample_along(rt, alloc, axis)?;
-    let canvas = canvas_along(rt, alloc, &sample, axis, sources)?;
-    expect_rows(rt, alloc, &canvas, &sample, axis, held, table)
+    expect_over(rt, alloc, axis, &sample, sources, held, table)
 }
 
 // The same along each axis.
@@ -259,7 +288,7 @@ fn expect_rows(
 {
     for row in table.iter() {
         let said = said_of(rt, alloc, canvas, sample, axis, held, row)?;
-        assert!(rt; said == row.3, "{axis:?} at {}, {:b}", row.0, row.1);
+        assert!(rt; said == row.3);
     }
     Ok(())
 }
@@ -365,6 +394,20 @@ fn assert_alone(
     Ok(())
 }
 
+// These flows, one of them changed.
+fn moved(
+    alloc: Global,
+    flows: &[(i16, i16)],
+    i: usize,
+    by: (i16, i16),
+) -> Result<Vec<(i16, i16)>, AllocError> {
+    let mut list = Vec::from_slice(alloc, flows)?;
+    if let Some(flow) = list.get_mut(i) {
+        *flow = (flow.0.wrapping_add(by.0), flow.1.wrapping_add(by.1));
+    }
+    Ok(list)
+}
+
 // Asserts that a choice doesn't stand with a flow that is changed.
 fn assert_moved(
     rt: &impl Abort,
@@ -379,10 +422,7 @@ fn assert_moved(
 ) -> Result<(), AllocError>
     requires { StandsOver canvas.now sample.now }
 {
-    let mut list = Vec::from_slice(alloc, flows)?;
-    if let Some(flow) = list.get_mut(i) {
-        *flow = (flow.0.wrapping_add(by.0), flow.1.wrapping_add(by.1));
-    }
+    let list = moved(alloc, flows, i, by)?;
     let said = verdict(rt, alloc, canvas, sample, placement, choice, &list, None)?;
     assert!(rt; said.is_some());
     Ok(())
@@ -467,11 +507,13 @@ fn at(x: i32, y: i32, f: i32) -> At {
     At { x, y, f }
 }
 
-fn expect_forced_on_two_axes(rt: &impl Abort, alloc: Global) -> Result<(), AllocError> {
-    let size = Size { w: 3, h: 2, f: 1 };
-    let sample = sample_of(rt, alloc, size, 1, &[0, 10, 50, 30, 70, 100])?;
+fn expect_forced_over_two_axes(
+    rt: &impl Abort,
+    alloc: Global,
+    sample: &Volume,
+) -> Result<(), AllocError> {
     let cells = [(at(0, 0, 0), at(1, 1, 0)), (at(1, 0, 0), at(2, 0, 0))];
-    let canvas = canvas_of(rt, alloc, size, &sample, &cells)?;
+    let canvas = canvas_of(rt, alloc, Size { w: 3, h: 2, f: 1 }, sample, &cells)?;
     let placement = Placement {
         rect: Box3 {
             corner: at(1, 0, 0),
@@ -481,7 +523,13 @@ fn expect_forced_on_two_axes(rt: &impl Abort, alloc: Global) -> Result<(), Alloc
     };
     let choice = [false, true, true, true];
     let flows = [(305, 0), (120, 0), (0, 0), (0, 0)];
-    assert_forced(rt, alloc, &canvas, &sample, placement, &choice, &flows, 425)
+    assert_forced(rt, alloc, &canvas, sample, placement, &choice, &flows, 425)
+}
+
+fn expect_forced_on_two_axes(rt: &impl Abort, alloc: Global) -> Result<(), AllocError> {
+    let size = Size { w: 3, h: 2, f: 1 };
+    let sample = sample_of(rt, alloc, size, 1, &[0, 10, 50, 30, 70, 100])?;
+    expect_forced_over_two_axes(rt, alloc, &sample)
 }
 
 #[test]
@@ -489,17 +537,20 @@ fn flows_forced_on_two_axes(rt: HostRuntime) {
     expect_done(&rt, expect_forced_on_two_axes(&rt, rt.alloc()));
 }
 
-fn expect_forced_on_three_axes(rt: &impl Abort, alloc: Global) -> Result<(), AllocError> {
-    let size = Size { w: 2, h: 2, f: 2 };
-    let greys = [0, 10, 30, 70, 150, 200, 90, 255];
-    let sample = sample_of(rt, alloc, size, 1, &greys)?;
+const TWO_EACH_WAY: Size = Size { w: 2, h: 2, f: 2 };
+
+fn expect_forced_over_three_axes(
+    rt: &impl Abort,
+    alloc: Global,
+    sample: &Volume,
+) -> Result<(), AllocError> {
     let output = Size { w: 3, h: 2, f: 2 };
     let cells = [(at(2, 1, 1), at(0, 0, 0)), (at(1, 1, 1), at(0, 1, 1))];
-    let canvas = canvas_of(rt, alloc, output, &sample, &cells)?;
+    let canvas = canvas_of(rt, alloc, output, sample, &cells)?;
     let placement = Placement {
         rect: Box3 {
             corner: at(0, 0, 0),
-            size,
+            size: TWO_EACH_WAY,
         },
         from: at(0, 0, 0),
     };
@@ -508,7 +559,13 @@ fn expect_forced_on_three_axes(rt: &impl Abort, alloc: Global) -> Result<(), All
     flows[7] = (0, -205);
     flows[10] = (0, -215);
     flows[11] = (0, -420);
-    assert_forced(rt, alloc, &canvas, &sample, placement, &choice, &flows, 840)
+    assert_forced(rt, alloc, &canvas, sample, placement, &choice, &flows, 840)
+}
+
+fn expect_forced_on_three_axes(rt: &impl Abort, alloc: Global) -> Result<(), AllocError> {
+    let greys = [0, 10, 30, 70, 150, 200, 90, 255];
+    let sample = sample_of(rt, alloc, TWO_EACH_WAY, 1, &greys)?;
+    expect_forced_over_three_axes(rt, alloc, &sample)
 }
 
 #[test]

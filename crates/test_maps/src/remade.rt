@@ -79,8 +79,30 @@ fn remade(alloc: Global, canvas: &Canvas, sample: &Volume) -> Result<Canvas, All
     Canvas::of_map(alloc, Map::from_sources(map.size(), sources), sample)
 }
 
-// Whether it has the map, and this picture.
+// Whether the canvas that was made has the other's map, and this picture.
+fn is_equal(made: &Canvas, canvas: &Canvas, sample: &Volume, picture: &[u8]) -> bool {
+    made.map().sources() == canvas.map().sources()
+        && made.picture().bytes() == picture
+        && made.first_unfilled() == canvas.first_unfilled()
+        && made.render_equals(sample)
+}
+
+// Whether that is so of the canvas that is made of this one's map.
 fn is_remade(
+    alloc: Global,
+    canvas: &Canvas,
+    sample: &Volume,
+    picture: &[u8],
+) -> Result<bool, AllocError>
+    requires { StandsOver canvas.now sample.now }
+{
+    let made = remade(alloc, canvas, sample)?;
+    Ok(is_equal(&made, canvas, sample, picture))
+}
+
+// Whether that is so with these sources. (Each function owns one canvas: each place where owned values end is long
+// to prove.)
+fn is_row(
     rt: &impl Abort,
     alloc: Global,
     sample: &Volume,
@@ -89,13 +111,7 @@ fn is_remade(
 ) -> Result<bool, AllocError> {
     let mut canvas = canvas_over(alloc, FOUR, sample)?;
     put_cells(rt, &mut canvas, sample, sources);
-    let made = remade(alloc, &canvas, sample)?;
-    Ok(
-        made.map().sources() == canvas.map().sources()
-            && made.picture().bytes() == picture
-            && made.first_unfilled() == canvas.first_unfilled()
-            && made.render_equals(sample),
-    )
+    is_remade(alloc, &canvas, sample, picture)
 }
 
 // The number of the first row, from 0, of which that isn't so.
@@ -106,7 +122,7 @@ fn wrong_row(
     table: &[(&[(i32, i32, i32)], [u8; 4])],
 ) -> Result<Option<usize>, AllocError> {
     for (i, (sources, picture)) in table.iter().enumerate() {
-        if !is_remade(rt, alloc, sample, *sources, picture)? {
+        if !is_row(rt, alloc, sample, *sources, picture)? {
             return Ok(Some(i));
         }
     }

@@ -75,16 +75,36 @@ fn are_first_costs(canvas: &Canvas, sample: &Volume) -> bool {
         && wrong_window(canvas, sample, WINDOWS).is_none()
 }
 
-fn are_seams_of_a_row(rt: &impl Abort, alloc: Global) -> Result<bool, AllocError> {
+const FOUR: Size = Size { w: 4, h: 1, f: 1 };
+
+const SIX: Size = Size { w: 6, h: 1, f: 1 };
+
+// A sample of a row of four cells.
+fn four_greys(alloc: Global) -> Result<Volume, AllocError> {
     let bytes = Vec::from_slice(alloc, GREYS)?;
-    let sample = Volume::from_bytes(Size { w: 4, h: 1, f: 1 }, 3, bytes);
-    let mut canvas = canvas_over(alloc, Size { w: 6, h: 1, f: 1 }, &sample)?;
-    let empty = total(&canvas, &sample);
-    put_row(rt, &mut canvas, &sample, &[0, 1, 2, 1, 2, 3]);
-    let are_first = are_first_costs(&canvas, &sample);
-    put_row(rt, &mut canvas, &sample, &[0, 1, 0, 1, 2, 3]);
-    let are_later = wrong_window(&canvas, &sample, LATER_WINDOWS).is_none();
-    Ok(empty == 0 && are_first && are_later && total(&canvas, &sample) == 825)
+    Ok(Volume::from_bytes(FOUR, 3, bytes))
+}
+
+// Whether the seams of each of two rows cost what the tables say.
+fn are_seams(rt: &impl Abort, canvas: &mut Canvas, sample: &Volume) -> bool
+    requires { StandsOver canvas.old sample.now }
+{
+    let empty = total(canvas, sample);
+    put_row(rt, canvas, sample, &[0, 1, 2, 1, 2, 3]);
+    let are_first = are_first_costs(canvas, sample);
+    put_row(rt, canvas, sample, &[0, 1, 0, 1, 2, 3]);
+    let are_later = wrong_window(canvas, sample, LATER_WINDOWS).is_none();
+    empty == 0 && are_first && are_later && total(canvas, sample) == 825
+}
+
+fn are_seams_over(rt: &impl Abort, alloc: Global, sample: &Volume) -> Result<bool, AllocError> {
+    let mut canvas = canvas_over(alloc, SIX, sample)?;
+    Ok(are_seams(rt, &mut canvas, sample))
+}
+
+fn are_seams_of_a_row(rt: &impl Abort, alloc: Global) -> Result<bool, AllocError> {
+    let sample = four_greys(alloc)?;
+    are_seams_over(rt, alloc, &sample)
 }
 
 #[test]
@@ -92,14 +112,26 @@ fn seams_of_a_row(rt: HostRuntime) {
     expect_true(&rt, are_seams_of_a_row(&rt, rt.alloc()));
 }
 
+// What the seams of one row of copies cost, and of two.
+fn cost_of_copies(rt: &impl Abort, canvas: &mut Canvas, sample: &Volume) -> (u64, u64)
+    requires { StandsOver canvas.old sample.now }
+{
+    put_copies(rt, canvas, sample, 0, 3);
+    let one_row = total(canvas, sample);
+    put_copies(rt, canvas, sample, 1, 3);
+    (one_row, total(canvas, sample))
+}
+
+fn are_copies_over(rt: &impl Abort, alloc: Global, sample: &Volume) -> Result<bool, AllocError> {
+    let mut canvas = canvas_over(alloc, Size { w: 3, h: 2, f: 1 }, sample)?;
+    let (one_row, both) = cost_of_copies(rt, &mut canvas, sample);
+    Ok(one_row == 3060 && both == 10710)
+}
+
 fn are_copies(rt: &impl Abort, alloc: Global) -> Result<bool, AllocError> {
     let bytes = Vec::from_slice(alloc, &[7, 8, 9])?;
     let sample = Volume::from_bytes(ONE, 3, bytes);
-    let mut canvas = canvas_over(alloc, Size { w: 3, h: 2, f: 1 }, &sample)?;
-    put_copies(rt, &mut canvas, &sample, 0, 3);
-    let one_row = total(&canvas, &sample);
-    put_copies(rt, &mut canvas, &sample, 1, 3);
-    Ok(one_row == 3060 && total(&canvas, &sample) == 10710)
+    are_copies_over(rt, alloc, &sample)
 }
 
 #[test]
@@ -138,11 +170,19 @@ fn wrong_marks(canvas: &Canvas) -> Option<usize> {
 }
 
 // The first five cells of the row are filled.
+fn wrong_marks_over(
+    rt: &impl Abort,
+    alloc: Global,
+    sample: &Volume,
+) -> Result<Option<usize>, AllocError> {
+    let mut canvas = canvas_over(alloc, SIX, sample)?;
+    put_copies(rt, &mut canvas, sample, 0, 5);
+    Ok(wrong_marks(&canvas))
+}
+
 fn wrong_marks_of_five(rt: &impl Abort, alloc: Global) -> Result<Option<usize>, AllocError> {
     let sample = Volume::make(alloc, ONE, 1)?;
-    let mut canvas = canvas_over(alloc, Size { w: 6, h: 1, f: 1 }, &sample)?;
-    put_copies(rt, &mut canvas, &sample, 0, 5);
-    Ok(wrong_marks(&canvas))
+    wrong_marks_over(rt, alloc, &sample)
 }
 
 #[test]
@@ -198,24 +238,31 @@ const FROM_THE_THIRD: Placement = Placement {
     from: At { x: 0, y: 0, f: 0 },
 };
 
-fn are_worst(rt: &impl Abort, alloc: Global) -> Result<bool, AllocError> {
-    let bytes = Vec::from_slice(alloc, GREYS)?;
-    let sample = Volume::from_bytes(Size { w: 4, h: 1, f: 1 }, 3, bytes);
-    let mut canvas = canvas_over(alloc, Size { w: 6, h: 1, f: 1 }, &sample)?;
-    put_row(rt, &mut canvas, &sample, &[0, 1, 2, 1, 2, 3]);
-    let size = Size { w: 4, h: 1, f: 1 };
-    assert_window(rt, canvas.map().size(), size);
-    let mut table = SeamTable::make(alloc, &canvas, &sample, size)?;
+// Whether the worst window is right, and still is once the placement is put in.
+fn are_worst_of(
+    rt: &impl Abort,
+    alloc: Global,
+    canvas: &mut Canvas,
+    sample: &Volume,
+) -> Result<bool, AllocError>
+    requires { StandsOver canvas.old sample.now }
+{
+    assert_window(rt, canvas.map().size(), FOUR);
+    let mut table = SeamTable::make(alloc, canvas, sample, FOUR)?;
     let is_first = is_worst(&table, 120);
-    put_box(
-        rt,
-        &mut canvas,
-        &mut table,
-        &sample,
-        &FROM_THE_THIRD,
-        &[true; 4],
-    );
+    put_box(rt, canvas, &mut table, sample, &FROM_THE_THIRD, &[true; 4]);
     Ok(is_first && is_worst(&table, 825))
+}
+
+fn are_worst_over(rt: &impl Abort, alloc: Global, sample: &Volume) -> Result<bool, AllocError> {
+    let mut canvas = canvas_over(alloc, SIX, sample)?;
+    put_row(rt, &mut canvas, sample, &[0, 1, 2, 1, 2, 3]);
+    are_worst_of(rt, alloc, &mut canvas, sample)
+}
+
+fn are_worst(rt: &impl Abort, alloc: Global) -> Result<bool, AllocError> {
+    let sample = four_greys(alloc)?;
+    are_worst_over(rt, alloc, &sample)
 }
 
 #[test]

@@ -35,6 +35,24 @@ fn done(alloc: Global, job: &Job, shelf: &mut MemShelf, out: &mut MemSink) -> Re
     }
 }
 
+// What words answer over a shelf. (The end of a job, spelled out in this function, would be long to prove: `drop` has it
+// proved by itself.)
+fn answer_to(
+    alloc: Global,
+    words: &Words,
+    shelf: &mut MemShelf,
+    out: &mut MemSink,
+) -> Result<Summary, Fault> {
+    match read_job(alloc, words) {
+        Ok(job) => {
+            let said = done(alloc, &job, shelf, out);
+            drop(job);
+            said
+        }
+        Err(fault) => Err(Fault::Words(fault)),
+    }
+}
+
 // What a line of words answers over a shelf.
 pub(crate) fn answer(
     alloc: Global,
@@ -43,8 +61,17 @@ pub(crate) fn answer(
     out: &mut MemSink,
 ) -> Result<Result<Summary, Fault>, AllocError> {
     let words = words_of(alloc, line)?;
-    match read_job(alloc, &words) {
-        Ok(job) => Ok(done(alloc, &job, shelf, out)),
-        Err(fault) => Ok(Err(Fault::Words(fault))),
-    }
+    Ok(answer_to(alloc, &words, shelf, out))
+}
+
+// What a line of words answers over a shelf with a sample.
+pub(crate) fn answer_of(
+    alloc: Global,
+    sample: &[u8],
+    line: &str,
+    shelf: &mut MemShelf,
+    out: &mut MemSink,
+) -> Result<Result<Summary, Fault>, AllocError> {
+    shelf.put_file("s", sample)?;
+    answer(alloc, line, shelf, out)
 }

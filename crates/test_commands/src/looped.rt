@@ -1,6 +1,6 @@
 // Worked examples, over a clip of one grey cell a frame.
 use crate::expect::{expect_none, expect_true};
-use crate::lines::answer;
+use crate::lines::answer_of;
 use shelf_core::{FormFault, MemShelf, MemSink};
 use std::alloc::{AllocError, Global};
 use synth_report::{Fault, FileOf, Summary};
@@ -15,15 +15,10 @@ const THREE: &[u8] = b"YUV4MPEG2 W1 H1 F25:1 Cmono\nFRAME\n\x00FRAME\n\x03FRAME\
 const PICTURE: &[u8] = b"P6\n1 1\n255\n\0\0\0";
 
 // What a line of words answers over a sample.
-fn answer_of(
-    alloc: Global,
-    sample: &[u8],
-    line: &str,
-) -> Result<Result<Summary, Fault>, AllocError> {
+fn loop_of(alloc: Global, sample: &[u8], line: &str) -> Result<Result<Summary, Fault>, AllocError> {
     let mut shelf = MemShelf::new(alloc);
     let mut out = MemSink::new(alloc);
-    shelf.put_file("s", sample)?;
-    answer(alloc, line, &mut shelf, &mut out)
+    answer_of(alloc, sample, line, &mut shelf, &mut out)
 }
 
 // A sample, a line of words, and what is answered: the length and the cost, or a fault.
@@ -84,7 +79,7 @@ fn is_answer(found: Result<Summary, Fault>, wanted: &Result<(u32, u64), Fault>) 
 // The number of the first row, from 0, with another answer.
 fn wrong_length(alloc: Global, table: &[Row]) -> Result<Option<usize>, AllocError> {
     for (i, (sample, line, wanted)) in table.iter().enumerate() {
-        if !is_answer(answer_of(alloc, *sample, *line)?, wanted) {
+        if !is_answer(loop_of(alloc, *sample, *line)?, wanted) {
             return Ok(Some(i));
         }
     }
@@ -97,19 +92,19 @@ fn lengths_of_loops(rt: HostRuntime) {
 }
 
 // Frames 0 and 1, and the table of the least costs of two steps.
+fn are_files(shelf: &MemShelf, out: &MemSink) -> bool {
+    shelf.file("o") == Some(TWO)
+        && shelf.file("m") == Some(MAP)
+        && shelf.file("r") == Some(RECORD)
+        && out.bytes() == REPORT
+}
+
 fn are_files_of_a_loop(alloc: Global) -> Result<bool, AllocError> {
     let mut shelf = MemShelf::new(alloc);
     let mut out = MemSink::new(alloc);
-    shelf.put_file("s", FOUR)?;
     let line = "loop sample=s out=o map=m record=r length=2 taps=0 gap=1";
-    let found = answer(alloc, line, &mut shelf, &mut out)?;
-    Ok(
-        found.is_ok()
-            && shelf.file("o") == Some(TWO)
-            && shelf.file("m") == Some(MAP)
-            && shelf.file("r") == Some(RECORD)
-            && out.bytes() == REPORT,
-    )
+    let found = answer_of(alloc, FOUR, line, &mut shelf, &mut out)?;
+    Ok(found.is_ok() && are_files(&shelf, &out))
 }
 
 #[test]

@@ -1,6 +1,6 @@
 // Whole runs over a store in memory.
 use crate::expect::{expect_none, expect_true};
-use crate::lines::answer;
+use crate::lines::answer_of;
 use shelf_core::{FormFault, MemShelf, MemSink, What};
 use std::alloc::{AllocError, Global};
 use synth_report::{Fault, FileOf};
@@ -18,18 +18,18 @@ const REPORT: &[u8] = b"quilt 6x1x1\nblocks 2\nboundaries 1\ncost 1200\n";
 // The record has the head and the count, a block without boundary, and one with a path of one column and two sums.
 const RECORD_BYTES: usize = 38 + 13 + (13 + 4 + 8);
 
+fn are_files(shelf: &MemShelf, out: &MemSink) -> bool {
+    shelf.file("o") == Some(PICTURE)
+        && out.bytes() == REPORT
+        && shelf.file("r").unwrap_or(b"").len() == RECORD_BYTES
+}
+
 fn are_two_blocks(alloc: Global) -> Result<bool, AllocError> {
     let mut shelf = MemShelf::new(alloc);
     let mut out = MemSink::new(alloc);
-    shelf.put_file("s", ROW)?;
     let line = "quilt sample=s out=o map=m record=r width=6 height=1 block=4 overlap=2";
-    let found = answer(alloc, line, &mut shelf, &mut out)?;
-    Ok(
-        found.is_ok()
-            && shelf.file("o") == Some(PICTURE)
-            && out.bytes() == REPORT
-            && shelf.file("r").unwrap_or(b"").len() == RECORD_BYTES,
-    )
+    let found = answer_of(alloc, ROW, line, &mut shelf, &mut out)?;
+    Ok(found.is_ok() && are_files(&shelf, &out))
 }
 
 #[test]
@@ -41,12 +41,9 @@ fn two_blocks(rt: HostRuntime) {
 fn refusal(alloc: Global, sample: &[u8], line: &str) -> Result<Option<Fault>, AllocError> {
     let mut shelf = MemShelf::new(alloc);
     let mut out = MemSink::new(alloc);
-    shelf.put_file("s", sample)?;
-    let said = answer(alloc, line, &mut shelf, &mut out)?;
-    if shelf.file("o").is_some() {
-        return Ok(None);
-    }
-    Ok(said.err())
+    let said = answer_of(alloc, sample, line, &mut shelf, &mut out)?;
+    let is_begun = shelf.file("o").is_some();
+    Ok(if is_begun { None } else { said.err() })
 }
 
 const NO_PICTURE: Fault = Fault::Form {

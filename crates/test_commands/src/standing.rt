@@ -1,15 +1,16 @@
 // Worked examples: the files of runs of cuts, of blocks and of a walk, and the same files with other bytes.
 ghost use Rattle.std.specs.Prelude.{IfOk};
+ghost use Rattle.cert_file.specs.RecordFiles.{IsRecordFile};
 ghost use Rattle.sample_files.specs.Several.{AreSoundSamples};
 
 use crate::expect::expect_none;
 use block_check::{FIT_RULE, OVERLAP_RULE};
-use cert_file::read_record_file;
+use cert_file::{RecordFile, read_record_file};
 use cut_check::{FILL_RULE, VALUE_RULE};
 use loop_walk::{DIAGONAL_RULE, TABLES_RULE, WALK_RULE};
 use sample_files::{Sample, Samples, read_sample};
 use shelf_core::MemShelf;
-use source_map::read_map;
+use source_map::{MapFile, read_map};
 use standing_files::Verdict::{Fails, Stands};
 use standing_files::{MAP_RULE, PICTURE_RULE, TOGETHER_RULE, Verdict, judge, judge_record_file};
 use std::alloc::{AllocError, Global};
@@ -66,24 +67,75 @@ fn put_files(
     shelf.put_file("r", record)
 }
 
-// The verdict on the files of a shelf, where each is read. That on the record file as it is read has to be
-// the same.
-fn verdict_of(alloc: Global, shelf: &mut MemShelf) -> Result<Verdict, AllocError> {
-    let samples = read_one(alloc, shelf)?;
-    let Ok(out) = read_sample(alloc, shelf, "o") else {
-        return Err(AllocError);
-    };
-    let Ok(map_file) = read_map(alloc, shelf, "m") else {
-        return Err(AllocError);
-    };
-    let Ok(record_file) = read_record_file(alloc, shelf, "r") else {
-        return Err(AllocError);
-    };
-    let verdict = judge(alloc, &samples, &out, &map_file, &record_file)?;
-    match judge_record_file(alloc, &samples, &out, &map_file, shelf, "r") {
+// The verdict on files that were read. That on the record file as it is read again has to be the same. (Each function
+// here owns one value and borrows the rest: each place where owned values end is long to prove.)
+fn verdict_of_all(
+    alloc: Global,
+    shelf: &mut MemShelf,
+    samples: &Samples,
+    out: &Sample,
+    map_file: &MapFile,
+    record_file: &RecordFile,
+) -> Result<Verdict, AllocError>
+    requires record_file { IsRecordFile record_file.now }
+    requires sound { AreSoundSamples samples.now }
+{
+    let verdict = judge(alloc, samples, out, map_file, record_file)?;
+    match judge_record_file(alloc, samples, out, map_file, shelf, "r") {
         Ok(as_read) if as_read == verdict => Ok(verdict),
         _ => Err(AllocError),
     }
+}
+
+// Reads the record file.
+fn verdict_of_three(
+    alloc: Global,
+    shelf: &mut MemShelf,
+    samples: &Samples,
+    out: &Sample,
+    map_file: &MapFile,
+) -> Result<Verdict, AllocError>
+    requires { AreSoundSamples samples.now }
+{
+    let Ok(record_file) = read_record_file(alloc, shelf, "r") else {
+        return Err(AllocError);
+    };
+    verdict_of_all(alloc, shelf, samples, out, map_file, &record_file)
+}
+
+// Reads the map and the record file.
+fn verdict_of_two(
+    alloc: Global,
+    shelf: &mut MemShelf,
+    samples: &Samples,
+    out: &Sample,
+) -> Result<Verdict, AllocError>
+    requires { AreSoundSamples samples.now }
+{
+    let Ok(map_file) = read_map(alloc, shelf, "m") else {
+        return Err(AllocError);
+    };
+    verdict_of_three(alloc, shelf, samples, out, &map_file)
+}
+
+// Reads all files but the sample.
+fn verdict_of_sample(
+    alloc: Global,
+    shelf: &mut MemShelf,
+    samples: &Samples,
+) -> Result<Verdict, AllocError>
+    requires { AreSoundSamples samples.now }
+{
+    let Ok(out) = read_sample(alloc, shelf, "o") else {
+        return Err(AllocError);
+    };
+    verdict_of_two(alloc, shelf, samples, &out)
+}
+
+// The verdict on the files of a shelf.
+fn verdict_of(alloc: Global, shelf: &mut MemShelf) -> Result<Verdict, AllocError> {
+    let samples = read_one(alloc, shelf)?;
+    verdict_of_sample(alloc, shelf, &samples)
 }
 
 // The verdict on these files.
@@ -110,13 +162,33 @@ type Row<'a> = (
     Verdict,
 );
 
+// The verdict on the files with a row's other bytes of the record.
+fn verdict_with_record(
+    alloc: Global,
+    files: &Files,
+    row: &Row,
+    out: &[u8],
+    map: &[u8],
+) -> Result<Verdict, AllocError> {
+    let record = with_others(alloc, files.3, row.2)?;
+    verdict_on(alloc, files.0, out, map, &record)
+}
+
+// And of the map.
+fn verdict_with_map(
+    alloc: Global,
+    files: &Files,
+    row: &Row,
+    out: &[u8],
+) -> Result<Verdict, AllocError> {
+    let map = with_others(alloc, files.2, row.1)?;
+    verdict_with_record(alloc, files, row, out, &map)
+}
+
 // Whether the verdict of a row is given on its files.
 fn is_judged(alloc: Global, files: &Files, row: &Row) -> Result<bool, AllocError> {
-    let (out, map, record, verdict) = row;
-    let out = with_others(alloc, files.1, *out)?;
-    let map = with_others(alloc, files.2, *map)?;
-    let record = with_others(alloc, files.3, *record)?;
-    Ok(verdict_on(alloc, files.0, &out, &map, &record)? == *verdict)
+    let out = with_others(alloc, files.1, row.0)?;
+    Ok(verdict_with_map(alloc, files, row, &out)? == row.3)
 }
 
 // The number of the first row, from 0, on whose files another verdict is given.

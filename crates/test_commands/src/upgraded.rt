@@ -42,16 +42,17 @@ fn answer_over(
     answer(alloc, LINE, shelf, out)
 }
 
+fn are_files(shelf: &MemShelf, out: &MemSink) -> bool {
+    shelf.file("n") == Some(NEW_MAP)
+        && shelf.file("s") == Some(NEW_RECORD)
+        && out.bytes() == b"upgrade 6 2\n".as_slice()
+}
+
 fn is_in_version_two(alloc: Global) -> Result<bool, AllocError> {
     let mut shelf = MemShelf::new(alloc);
     let mut out = MemSink::new(alloc);
     let found = answer_over(alloc, &mut shelf, &mut out, MAP, RECORD)?;
-    Ok(
-        found.is_ok()
-            && shelf.file("n") == Some(NEW_MAP)
-            && shelf.file("s") == Some(NEW_RECORD)
-            && out.bytes() == b"upgrade 6 2\n".as_slice(),
-    )
+    Ok(found.is_ok() && are_files(&shelf, &out))
 }
 
 #[test]

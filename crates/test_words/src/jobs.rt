@@ -244,10 +244,15 @@ fn is_asked(job: &Job, grown: &Grown) -> bool {
     }
 }
 
-// Whether words are read as a job that has what they say.
+// Whether words are read as a job that has what they say. (The end of a job, spelled out in this function, would be
+// most of the proof of all tests: `drop` has it proved by itself.)
 fn is_read(alloc: Global, words: &[&str], grown: &Grown) -> bool {
     match read(alloc, words) {
-        Ok(job) => is_asked(&job, grown),
+        Ok(job) => {
+            let is_asked = is_asked(&job, grown);
+            drop(job);
+            is_asked
+        }
         Err(_) => false,
     }
 }

@@ -1,4 +1,5 @@
 // Worked examples of search_squares: which places blocks of 2x2 cells rule out, and which only single cells do.
+ghost use Rattle.cells.specs.Places.{IsSmall};
 ghost use Rattle.map_canvas.specs.Canvases.{StandsOver};
 
 use crate::expect::expect_done;
@@ -100,15 +101,34 @@ fn are_gone(run: &Eliminated, covered: i32, limit: u64, gone: &[u32]) -> bool {
     true
 }
 
+// What is ruled out over a whole canvas of this size.
+fn eliminated_over(
+    rt: &impl Abort,
+    alloc: Global,
+    size: Size,
+    sample: &Volume,
+    all: &[bool],
+    limit: u64,
+) -> Result<Eliminated, AllocError>
+    requires { IsSmall size }
+{
+    let mut canvas = canvas_over(alloc, size, sample)?;
+    eliminated(rt, alloc, &mut canvas, sample, all, limit)
+}
+
 // A place x columns on has the error 16 * x * x, and so have its blocks of 2x2 cells.
-fn assert_places_of_a_sample(rt: &impl Abort, alloc: Global) -> Result<(), AllocError> {
-    let bytes = Vec::from_slice(alloc, RISING)?;
-    let sample = Volume::from_bytes(Size { w: 8, h: 4, f: 1 }, 1, bytes);
-    let mut canvas = canvas_over(alloc, Size { w: 4, h: 4, f: 1 }, &sample)?;
-    let run = eliminated(rt, alloc, &mut canvas, &sample, &[true; 16], 64)?;
+fn assert_places_over(rt: &impl Abort, alloc: Global, sample: &Volume) -> Result<(), AllocError> {
+    let size = Size { w: 4, h: 4, f: 1 };
+    let run = eliminated_over(rt, alloc, size, sample, &[true; 16], 64)?;
     assert!(rt; are_gone(&run, 5, 64, &[0, 0, 0, 2, 1, 0, 0, 0]));
     assert!(rt; are_gone(&run, 5, 65, &[0; 8]));
     Ok(())
+}
+
+fn assert_places_of_a_sample(rt: &impl Abort, alloc: Global) -> Result<(), AllocError> {
+    let bytes = Vec::from_slice(alloc, RISING)?;
+    let sample = Volume::from_bytes(Size { w: 8, h: 4, f: 1 }, 1, bytes);
+    assert_places_over(rt, alloc, &sample)
 }
 
 #[test]
@@ -119,13 +139,21 @@ fn places_of_a_sample(rt: HostRuntime) {
 // Every other place has the colours the other way round, and the error 4 * 100 * 100.
 const EVERY_OTHER: &[u32] = &[0, 1, 0, 1, 0, 1, 0, 1, 0, 1, 0, 1, 0, 1, 0, 1, 0, 1, 0, 0];
 
+fn assert_places_told_over(
+    rt: &impl Abort,
+    alloc: Global,
+    sample: &Volume,
+) -> Result<(), AllocError> {
+    let size = Size { w: 2, h: 2, f: 1 };
+    let run = eliminated_over(rt, alloc, size, sample, &[true; 4], 30_000)?;
+    assert!(rt; are_gone(&run, 19, 30_000, EVERY_OTHER));
+    Ok(())
+}
+
 fn assert_places_told_by_single_cells(rt: &impl Abort, alloc: Global) -> Result<(), AllocError> {
     let bytes = Vec::from_slice(alloc, BOARD)?;
     let sample = Volume::from_bytes(Size { w: 20, h: 2, f: 1 }, 1, bytes);
-    let mut canvas = canvas_over(alloc, Size { w: 2, h: 2, f: 1 }, &sample)?;
-    let run = eliminated(rt, alloc, &mut canvas, &sample, &[true; 4], 30_000)?;
-    assert!(rt; are_gone(&run, 19, 30_000, EVERY_OTHER));
-    Ok(())
+    assert_places_told_over(rt, alloc, &sample)
 }
 
 #[test]

@@ -75,11 +75,11 @@ fn assert_steps(
 
 // Over two greys the first patch has the cells 2 and 0 of a row of three, and the second the cells 0 and 1, of
 // which the first is kept. Then the row is full, and stays as it is.
-fn assert_row_of_three(rt: &impl Abort, alloc: Global) -> Result<(), AllocError> {
-    let bytes = Vec::from_slice(alloc, &[10, 10, 10, 20, 20, 20])?;
-    let sample = Volume::from_bytes(Size { w: 2, h: 1, f: 1 }, 3, bytes);
-    let mut canvas = canvas_over(alloc, Size { w: 3, h: 1, f: 1 }, &sample)?;
-    assert_steps(rt, alloc, &mut canvas, &sample)?;
+fn assert_row_over(rt: &impl Abort, alloc: Global, sample: &Volume) -> Result<(), AllocError>
+    requires { IsOnePart sample.now }
+{
+    let mut canvas = canvas_over(alloc, Size { w: 3, h: 1, f: 1 }, sample)?;
+    assert_steps(rt, alloc, &mut canvas, sample)?;
     assert!(rt;
         canvas
             .map()
@@ -89,6 +89,12 @@ fn assert_row_of_three(rt: &impl Abort, alloc: Global) -> Result<(), AllocError>
             .eq([Some(1), Some(1), Some(0)])
     );
     Ok(())
+}
+
+fn assert_row_of_three(rt: &impl Abort, alloc: Global) -> Result<(), AllocError> {
+    let bytes = Vec::from_slice(alloc, &[10, 10, 10, 20, 20, 20])?;
+    let sample = Volume::from_bytes(Size { w: 2, h: 1, f: 1 }, 3, bytes);
+    assert_row_over(rt, alloc, &sample)
 }
 
 #[test]
@@ -103,31 +109,27 @@ const LONGEST: TilePlan = TilePlan {
     tol: 0,
 };
 
+const LONG: Size = Size {
+    w: 4096,
+    h: 1,
+    f: 1,
+};
+
 // A patch of the longest axis is cut to two cells less than a volume may have.
-fn assert_longest_row(rt: &impl Abort, alloc: Global) -> Result<(), AllocError> {
-    let bytes = vec![in alloc; 7; 4096]?;
-    let sample = Volume::from_bytes(
-        Size {
-            w: 4096,
-            h: 1,
-            f: 1,
-        },
-        1,
-        bytes,
-    );
-    let mut canvas = canvas_over(
-        alloc,
-        Size {
-            w: 4096,
-            h: 1,
-            f: 1,
-        },
-        &sample,
-    )?;
+fn assert_longest_over(rt: &impl Abort, alloc: Global, sample: &Volume) -> Result<(), AllocError>
+    requires { IsOnePart sample.now }
+{
+    let mut canvas = canvas_over(alloc, LONG, sample)?;
     let mut draws = Draws::from_seed(0);
-    let first = next_of_row(rt, alloc, &LONGEST, &mut canvas, &sample, &mut draws)?;
+    let first = next_of_row(rt, alloc, &LONGEST, &mut canvas, sample, &mut draws)?;
     assert!(rt; first.map(|it| (it.0, it.1)) == Some((0, 4094)));
     Ok(())
+}
+
+fn assert_longest_row(rt: &impl Abort, alloc: Global) -> Result<(), AllocError> {
+    let bytes = vec![in alloc; 7; 4096]?;
+    let sample = Volume::from_bytes(LONG, 1, bytes);
+    assert_longest_over(rt, alloc, &sample)
 }
 
 #[test]

@@ -78,15 +78,19 @@ fn replaces_another(rt: &HostRuntime, folder: &str) -> Result<bool, Fail> {
     Ok(status == 0 && written)
 }
 
-fn keeps_to_one_name(rt: &HostRuntime) -> Result<bool, Fail> {
-    let folder = new_folder(rt, "links")?;
-    let folder = folder.as_str();
+fn keeps_to_one_name_in(rt: &HostRuntime, folder: &str) -> Result<bool, Fail> {
     put(rt, folder, "s", SAMPLE)?;
     make_links(rt, folder)?;
     let refused = refuses_each(rt, folder)?;
     let replaced = replaces_another(rt, folder)?;
-    fs::remove_dir_all(rt, folder)?;
     Ok(refused && replaced)
+}
+
+fn keeps_to_one_name(rt: &HostRuntime) -> Result<bool, Fail> {
+    let folder = new_folder(rt, "links")?;
+    let is_so = keeps_to_one_name_in(rt, folder.as_str())?;
+    fs::remove_dir_all(rt, folder.as_str())?;
+    Ok(is_so)
 }
 
 #[test]

@@ -54,16 +54,25 @@ fn goes_on_where_removed(
     Ok(added && !is_there(rt, folder, "m")?)
 }
 
+fn writes_on_by(rt: &HostRuntime, folder: &str, shelf: &mut RealShelf) -> Result<bool, Fail> {
+    let renamed = goes_on_where_renamed(rt, folder, shelf)?;
+    let cut = goes_on_where_cut(rt, folder, shelf)?;
+    let removed = goes_on_where_removed(rt, folder, shelf)?;
+    let whole = holds(rt, folder, "renamed", b"abcdef")?;
+    Ok(renamed && cut && removed && whole)
+}
+
+// (A function owns one value, and borrows the rest: each place where a shelf ends is long to prove.)
+fn writes_on_in(rt: &HostRuntime, folder: &str) -> Result<bool, Fail> {
+    let mut shelf = RealShelf::new(rt.clone()?, rt.alloc())?;
+    writes_on_by(rt, folder, &mut shelf)
+}
+
 fn writes_on(rt: &HostRuntime) -> Result<bool, Fail> {
     let folder = new_folder(rt, "began")?;
-    let folder = folder.as_str();
-    let mut shelf = RealShelf::new(rt.clone()?, rt.alloc())?;
-    let renamed = goes_on_where_renamed(rt, folder, &mut shelf)?;
-    let cut = goes_on_where_cut(rt, folder, &mut shelf)?;
-    let removed = goes_on_where_removed(rt, folder, &mut shelf)?;
-    let whole = holds(rt, folder, "renamed", b"abcdef")?;
-    fs::remove_dir_all(rt, folder)?;
-    Ok(renamed && cut && removed && whole)
+    let is_so = writes_on_in(rt, folder.as_str())?;
+    fs::remove_dir_all(rt, folder.as_str())?;
+    Ok(is_so)
 }
 
 #[test]
@@ -85,17 +94,25 @@ fn gets(
     Ok(n == Some(wanted.len()) && into.starts_with(wanted))
 }
 
-fn reads_on(rt: &HostRuntime) -> Result<bool, Fail> {
-    let folder = new_folder(rt, "opened")?;
-    let folder = folder.as_str();
+fn reads_on_by(rt: &HostRuntime, folder: &str, shelf: &mut RealShelf) -> Result<bool, Fail> {
+    let first = gets(rt, folder, shelf, 0, &mut [0u8; 3], b"abc")?;
+    rename(rt, folder, "other", "s")?;
+    let second = gets(rt, folder, shelf, 2, &mut [0u8; 9], b"cdef")?;
+    Ok(first && second)
+}
+
+fn reads_on_in(rt: &HostRuntime, folder: &str) -> Result<bool, Fail> {
     put(rt, folder, "s", b"abcdef")?;
     put(rt, folder, "other", b"ABCDEF")?;
     let mut shelf = RealShelf::new(rt.clone()?, rt.alloc())?;
-    let first = gets(rt, folder, &mut shelf, 0, &mut [0u8; 3], b"abc")?;
-    rename(rt, folder, "other", "s")?;
-    let second = gets(rt, folder, &mut shelf, 2, &mut [0u8; 9], b"cdef")?;
-    fs::remove_dir_all(rt, folder)?;
-    Ok(first && second)
+    reads_on_by(rt, folder, &mut shelf)
+}
+
+fn reads_on(rt: &HostRuntime) -> Result<bool, Fail> {
+    let folder = new_folder(rt, "opened")?;
+    let is_so = reads_on_in(rt, folder.as_str())?;
+    fs::remove_dir_all(rt, folder.as_str())?;
+    Ok(is_so)
 }
 
 #[test]
@@ -123,14 +140,17 @@ fn begins_after_removed(
     Ok(read && begun && begins(rt, folder, shelf, "r")?)
 }
 
-fn begins_in_a_place(rt: &HostRuntime) -> Result<bool, Fail> {
-    let folder = new_folder(rt, "removed")?;
-    let folder = folder.as_str();
+fn begins_in(rt: &HostRuntime, folder: &str) -> Result<bool, Fail> {
     put(rt, folder, "s", b"abc")?;
     put(rt, folder, "t", b"abc")?;
     let mut shelf = RealShelf::new(rt.clone()?, rt.alloc())?;
-    let begun = begins_after_removed(rt, folder, &mut shelf)?;
-    fs::remove_dir_all(rt, folder)?;
+    begins_after_removed(rt, folder, &mut shelf)
+}
+
+fn begins_in_a_place(rt: &HostRuntime) -> Result<bool, Fail> {
+    let folder = new_folder(rt, "removed")?;
+    let begun = begins_in(rt, folder.as_str())?;
+    fs::remove_dir_all(rt, folder.as_str())?;
     Ok(begun)
 }
 

@@ -51,25 +51,43 @@ fn add_file(
     Ok(())
 }
 
-// The words of a run in a folder.
-fn words_of(alloc: Global, folder: &str, names: Names<'_>) -> Result<Words, Fail> {
+// Adds the words of a run in a folder.
+fn add_run(words: &mut Words, alloc: Global, folder: &str, names: Names<'_>) -> Result<(), Fail> {
     let (sample, out, map, record) = names;
+    add_words(words, "grow\nwidth=3\nheight=1\nplace=grid\noverlap=0")?;
+    add_file(words, alloc, "sample", folder, sample)?;
+    add_file(words, alloc, "out", folder, out)?;
+    add_file(words, alloc, "map", folder, map)?;
+    add_file(words, alloc, "record", folder, record)
+}
+
+fn words_of(alloc: Global, folder: &str, names: Names<'_>) -> Result<Words, Fail> {
     let mut words = Words::new(alloc);
-    add_words(&mut words, "grow\nwidth=3\nheight=1\nplace=grid\noverlap=0")?;
-    add_file(&mut words, alloc, "sample", folder, sample)?;
-    add_file(&mut words, alloc, "out", folder, out)?;
-    add_file(&mut words, alloc, "map", folder, map)?;
-    add_file(&mut words, alloc, "record", folder, record)?;
+    add_run(&mut words, alloc, folder, names)?;
     Ok(words)
+}
+
+// Runs words. What a run promises goes no further.
+fn run_words(
+    alloc: Global,
+    words: &Words,
+    shelf: &mut RealShelf,
+    out: &mut Output,
+    err: &mut ErrorOutput,
+) -> u8 {
+    run(alloc, words, shelf, out, err)
+}
+
+fn status_over(rt: &HostRuntime, words: &Words, shelf: &mut RealShelf) -> Result<u8, Fail> {
+    let mut out = Output::new(rt.clone()?);
+    let mut err = ErrorOutput::new(rt.clone()?);
+    Ok(run_words(rt.alloc(), words, shelf, &mut out, &mut err))
 }
 
 // The status of a run over files of the system.
 fn status_of(rt: &HostRuntime, words: &Words) -> Result<u8, Fail> {
-    let alloc = rt.alloc();
-    let mut shelf = RealShelf::new(rt.clone()?, alloc)?;
-    let mut out = Output::new(rt.clone()?);
-    let mut err = ErrorOutput::new(rt.clone()?);
-    Ok(run(alloc, words, &mut shelf, &mut out, &mut err))
+    let mut shelf = RealShelf::new(rt.clone()?, rt.alloc())?;
+    status_over(rt, words, &mut shelf)
 }
 
 /// The status of a run in a folder.
@@ -93,9 +111,7 @@ fn is_written(rt: &HostRuntime, folder: &str) -> Result<bool, Fail> {
     Ok(picture && map && record && holds(rt, folder, "s", SAMPLE)?)
 }
 
-fn runs_over_files(rt: &HostRuntime) -> Result<bool, Fail> {
-    let folder = new_folder(rt, "files")?;
-    let folder = folder.as_str();
+fn runs_over_files_in(rt: &HostRuntime, folder: &str) -> Result<bool, Fail> {
     put(rt, folder, "s", SAMPLE)?;
     let faults = ends_with_faults(rt, folder)?;
 
@@ -103,8 +119,14 @@ fn runs_over_files(rt: &HostRuntime) -> Result<bool, Fail> {
     put(rt, folder, "o", MAP)?;
     let status = ran(rt, folder, ("s", "o", "m", "r"))?;
     let written = is_written(rt, folder)?;
-    fs::remove_dir_all(rt, folder)?;
     Ok(faults && status == 0 && written)
+}
+
+fn runs_over_files(rt: &HostRuntime) -> Result<bool, Fail> {
+    let folder = new_folder(rt, "files")?;
+    let is_so = runs_over_files_in(rt, folder.as_str())?;
+    fs::remove_dir_all(rt, folder.as_str())?;
+    Ok(is_so)
 }
 
 #[test]

@@ -142,7 +142,7 @@ def man_page(commands):
     for line in (ROOT / "docs/weave.1").read_text().split("\n"):
         if line.startswith(".It Cm "):
             keys = keys_of(re.sub(r"(\w+\d*)", r"`\1`", line[7:].replace(" No to Cm ", " TO ")).replace("`TO`", "to"))
-        entry = re.match(r"\.D1 ([a-z, ]+): (.+), (required|optional|default \w+)$", line)
+        entry = re.match(r"\.D\d ([a-z, ]+): (.+), (required|optional|default \w+)$", line)
         if entry:
             default = {"required": "required", "optional": "none"}.get(entry[3], entry[3].removeprefix("default "))
             for command in entry[1].split(", "):

@@ -1,11 +1,13 @@
--- A first word that names no command.
-use Rattle.std.proofs.Common.{◌≡◌, ◌≢◌, ℕ, ◌≤◌, List, [], ◌∷◌, length, get_or, refl, false, arith}
+-- A first word that names a command, and one that names none.
+use Rattle.std.proofs.Common.{◌≡◌, ◌≢◌, ℕ, ◌≤◌, List, [], ◌∷◌, length, get_or, take, drop, ◌-◌, refl, ap, subst, ◌∙◌, false, arith}
 use Rattle.std.specs.Prelude.{Result, Err, codes}
+use Rattle.std.proofs.lemmas.List.{take_all}
 use Rattle.job_words.specs.declared.job.Job.{Job}
 use Rattle.job_words.specs.declared.job.WordFault.{WordFault}
 use Rattle.job_words.specs.declared.job.WordFault.TheVariants.{UnknownCommand}
 use Rattle.job_words.specs.Texts.{same_text}
 use Rattle.job_words.specs.Jobs.{job_of}
+use Rattle.job_words.specs.Words.{AnswersAs}
 use Rattle.job_words.proofs.Texting.{same_not}
 
 pub record IsUnknown (command : List ℕ) : Type 0 where
@@ -35,3 +37,19 @@ unknown (command ∷ words) d le is =
     let merge : same_text command (codes "merge") ≡ false = same_not command (codes "merge") is.merge in
     let transfer : same_text command (codes "transfer") ≡ false = same_not command (codes "transfer") is.transfer in
     rw (grow, quilt, loops, check, trial, upgrade, tile, merge, transfer) refl
+
+-- the words after the first, as the pattern of a slice binds them
+abbrev after : List (List ℕ) → List (List ℕ)
+after words = take (length words - 1) (drop 1 words)
+
+after_first : (text : List ℕ) (ask : List (List ℕ) → Result Job WordFault) → ((rest : List (List ℕ)) → ask rest ≡ job_of (text ∷ rest)) → (words : List (List ℕ)) (d : List ℕ)
+    → 1 ≤ length words → text ≡ get_or words 0 d → ask (after words) ≡ job_of words
+after_first text ask is [] d le first = absurd (omega arith)
+after_first text ask is (word ∷ words) d le first =
+    ap ask (take_all (length (word ∷ words) - 1) words (omega arith)) ∙ is words ∙ ap (λ w. job_of (w ∷ words)) first
+
+-- what the words after a command ask for is what all words do
+pub answered : (text : List ℕ) (ask : List (List ℕ) → Result Job WordFault) → ((rest : List (List ℕ)) → ask rest ≡ job_of (text ∷ rest)) → (words all : List (List ℕ)) (d : List ℕ) (result : Result Job WordFault)
+    → 1 ≤ length words → text ≡ get_or words 0 d → words ≡ all → AnswersAs (ask (after words)) result → AnswersAs (job_of all) result
+answered text ask is words all d result le first same =
+    subst (λ asked. AnswersAs asked result) (after_first text ask is words d le first ∙ ap job_of same)

@@ -2,6 +2,7 @@ pub mod Digits
 pub mod Texting
 pub mod Keeping
 pub mod Keyed
+pub mod Comparing
 pub mod Accepting
 pub mod Counting
 pub mod Reading

@@ -15,7 +15,7 @@ use Rattle.job_words.specs.declared.settings.Value.TheVariants.{Named}
 use Rattle.job_words.specs.declared.settings.Setting.{Setting}
 use Rattle.job_words.specs.Keys.{key_text, same_key}
 use Rattle.job_words.specs.Texts.{same_text}
-use Rattle.job_words.specs.Words.{and_then, has_text, row_of, is_of, value_at, is_name, is_taken, setting_of, settings_of, default_of}
+use Rattle.job_words.specs.Words.{AnswersAs, and_then, has_text, row_of, is_of, value_at, is_name, is_taken, setting_of, settings_of, default_of}
 use Rattle.job_words.specs.Tables.{IsOfKind}
 use Rattle.job_words.proofs.Texting.{same_itself}
 use Rattle.job_words.proofs.Keyed.{key_exact, key_itself, value_at-append}
@@ -34,6 +34,17 @@ word_read rows settings words i n word new all lt is number ok so_far =
     ∙ ap (λ k. settings_of rows k settings (word ∷ drop (i + 1) words)) number
     ∙ ap (λ ws. settings_of rows (length settings + 2) settings ws) (sym tail)
     ∙ so_far
+
+-- a word that is refused is the answer of all words
+pub refused : (rows : List Row) (settings : List Setting) (words : List (List ℕ)) (i n : ℕ) (word : List ℕ) (fault : WordFault) (all : Result (List Setting) WordFault)
+    → i < length words → word ≡ get_or words i word → n ≡ length settings + 2 → AnswersAs (setting_of rows n settings word) (Err fault)
+    → settings_of rows (length settings + 2) settings (drop i words) ≡ all → (all ≡ Err fault) ⊎ (fault ≡ NoMemory)
+refused rows settings words i n word fault all lt is number (inl err) so_far =
+    let tail : drop i words ≡ word ∷ drop (i + 1) words = drop-cons words i word lt ∙ ap (λ w. w ∷ drop (suc i) words) (sym is) ∙ ap (λ k. word ∷ drop k words) (sym (add-one i)) in
+    inl (sym so_far ∙ ap (λ ws. settings_of rows (length settings + 2) settings ws) tail
+    ∙ ap (λ k. settings_of rows k settings (word ∷ drop (i + 1) words)) (sym number)
+    ∙ ap (and_then (λ (s : Setting). settings_of rows (n + 1) (settings ++ s ∷ []) (drop (i + 1) words))) (sym err))
+refused rows settings words i n word fault all lt is number (inr none) so_far = inr (let same : fault ≡ NoMemory = cc in same)
 
 -- the settings after the default of one row more
 pub default_added : (rows : List Row) (i : ℕ) (d : Row) (o : Option Setting) (start so_far now : List Setting) → i < length rows → o ≡ default_of (get_or rows i d)

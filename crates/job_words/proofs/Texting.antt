@@ -27,7 +27,7 @@ either false h = refl
 pub same_not : (a b : List ℕ) → a ≢ b → same_text a b ≡ false
 same_not a b apart = either (same_text a b) (λ e. apart (same_exact a b e))
 
-equal_tests : (a b : Bool) → (a ≡ true → b ≡ true) → (b ≡ true → a ≡ true) → a ≡ b
+pub equal_tests : (a b : Bool) → (a ≡ true → b ≡ true) → (b ≡ true → a ≡ true) → a ≡ b
 equal_tests true b there back = sym (there refl)
 equal_tests false true there back = back refl
 equal_tests false false there back = refl

@@ -1,6 +1,7 @@
-use Rattle.std.proofs.Common.{inl, subst, ◌∙◌, ap}
-use Rattle.job_words.specs.Jobs.{job_of}
-use Rattle.job_words.proofs.Commands.{IsUnknown, unknown}
+use Rattle.std.proofs.Common.{inl, refl, subst, sym, ◌∙◌, ap}
+use Rattle.std.specs.Prelude.{codes}
+use Rattle.job_words.specs.Jobs.{check_asked, grow_asked, job_of, loop_asked, merge_asked, quilt_asked, tile_asked, transfer_asked, trial_asked, upgrade_asked}
+use Rattle.job_words.proofs.Commands.{IsUnknown, answered, unknown}
 use Rattle.job_words.proofs.read.read_job.Goals as goal
 
 pub returns-in_default-as_text-clause-exact : goal.returns-in_default-as_text-clause-exact
@@ -8,3 +9,48 @@ returns-in_default-as_text-clause-exact c =
     let is = c.in_default-as_text in
     let its : IsUnknown c.as_text.result.now = record { grow = is.not-grow; quilt = is.not-quilt; loops = is.not-loop; check = is.not-check; trial = is.not-trial; upgrade = is.not-upgrade; tile = is.not-tile; merge = is.not-merge; transfer = is.not-transfer } in
     inl (unknown c.as_slice.result.now _ c.in-len1-up.len_at_least (subst IsUnknown (c.as_text.ensures ∙ c.command-item.is) its) ∙ ap job_of c.as_slice.ensures)
+
+pub returns-in-grow-clause-exact : goal.returns-in-grow-clause-exact
+returns-in-grow-clause-exact c =
+    answered (codes "grow") grow_asked (λ rest. refl) c.as_slice.result.now c.args.words.now _ c.grow_asked.result c.in-len1-up.len_at_least
+    (sym c.in-grow.is ∙ c.as_text.ensures ∙ c.command-item.is) c.as_slice.ensures c.grow_asked.ensures.exact
+
+pub returns-in-quilt-clause-exact : goal.returns-in-quilt-clause-exact
+returns-in-quilt-clause-exact c =
+    answered (codes "quilt") quilt_asked (λ rest. refl) c.as_slice.result.now c.args.words.now _ c.quilt_asked.result c.in-len1-up.len_at_least
+    (sym c.in-quilt.is ∙ c.as_text.ensures ∙ c.command-item.is) c.as_slice.ensures c.quilt_asked.ensures.exact
+
+pub returns-in-loop-clause-exact : goal.returns-in-loop-clause-exact
+returns-in-loop-clause-exact c =
+    answered (codes "loop") loop_asked (λ rest. refl) c.as_slice.result.now c.args.words.now _ c.loop_asked.result c.in-len1-up.len_at_least
+    (sym c.in-loop.is ∙ c.as_text.ensures ∙ c.command-item.is) c.as_slice.ensures c.loop_asked.ensures.exact
+
+pub returns-in-check-clause-exact : goal.returns-in-check-clause-exact
+returns-in-check-clause-exact c =
+    answered (codes "check") check_asked (λ rest. refl) c.as_slice.result.now c.args.words.now _ c.check_asked.result c.in-len1-up.len_at_least
+    (sym c.in-check.is ∙ c.as_text.ensures ∙ c.command-item.is) c.as_slice.ensures c.check_asked.ensures.exact
+
+pub returns-in-trial-clause-exact : goal.returns-in-trial-clause-exact
+returns-in-trial-clause-exact c =
+    answered (codes "trial") trial_asked (λ rest. refl) c.as_slice.result.now c.args.words.now _ c.trial_asked.result c.in-len1-up.len_at_least
+    (sym c.in-trial.is ∙ c.as_text.ensures ∙ c.command-item.is) c.as_slice.ensures c.trial_asked.ensures.exact
+
+pub returns-in-upgrade-clause-exact : goal.returns-in-upgrade-clause-exact
+returns-in-upgrade-clause-exact c =
+    answered (codes "upgrade") upgrade_asked (λ rest. refl) c.as_slice.result.now c.args.words.now _ c.upgrade_asked.result c.in-len1-up.len_at_least
+    (sym c.in-upgrade.is ∙ c.as_text.ensures ∙ c.command-item.is) c.as_slice.ensures c.upgrade_asked.ensures.exact
+
+pub returns-in-tile-clause-exact : goal.returns-in-tile-clause-exact
+returns-in-tile-clause-exact c =
+    answered (codes "tile") tile_asked (λ rest. refl) c.as_slice.result.now c.args.words.now _ c.tile_asked.result c.in-len1-up.len_at_least
+    (sym c.in-tile.is ∙ c.as_text.ensures ∙ c.command-item.is) c.as_slice.ensures c.tile_asked.ensures.exact
+
+pub returns-in-merge-clause-exact : goal.returns-in-merge-clause-exact
+returns-in-merge-clause-exact c =
+    answered (codes "merge") merge_asked (λ rest. refl) c.as_slice.result.now c.args.words.now _ c.merge_asked.result c.in-len1-up.len_at_least
+    (sym c.in-merge.is ∙ c.as_text.ensures ∙ c.command-item.is) c.as_slice.ensures c.merge_asked.ensures.exact
+
+pub returns-in-transfer-clause-exact : goal.returns-in-transfer-clause-exact
+returns-in-transfer-clause-exact c =
+    answered (codes "transfer") transfer_asked (λ rest. refl) c.as_slice.result.now c.args.words.now _ c.transfer_asked.result c.in-len1-up.len_at_least
+    (sym c.in-transfer.is ∙ c.as_text.ensures ∙ c.command-item.is) c.as_slice.ensures c.transfer_asked.ensures.exact

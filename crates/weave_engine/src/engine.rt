@@ -52,7 +52,8 @@ fn run_job<S: Shelf, O: Sink>(
     }
 }
 
-// What the command that the words ask for answers.
+// What the command that the words ask for answers. (The end of a job, spelled out in this function, would be most of
+// the crate's proof: `drop` has it proved by itself.)
 fn answer<S: Shelf, O: Sink>(
     alloc: Global,
     words: &Words,
@@ -63,7 +64,11 @@ fn answer<S: Shelf, O: Sink>(
         (S.state shelf.old) (S.state shelf.new) (O.state out.old) (O.state out.new) result }
 {
     match read_job(alloc, words) {
-        Ok(job) => run_job(alloc, &job, shelf, out),
+        Ok(job) => {
+            let answer = run_job(alloc, &job, shelf, out);
+            drop(job);
+            answer
+        }
         Err(fault) => Err(Fault::Words(fault)),
     }
 }

@@ -55,11 +55,11 @@ pub(crate) fn plan<S: Shelf>(alloc: Global, job: &GrowJob, shelf: &mut S) -> Res
     // The number of samples of a cell is taken for its contract only: it shows the prover that
     // these are a volume, here and of their turns.
     let _k = read.volume.samples();
-    let sizes = read.volume.sizes();
     match within_bounds(job.size, &read.form) {
         Ok(()) => {}
         Err(fault) => return Err(fault),
     }
+    let sizes = read.volume.sizes();
     let samples = match worked(alloc, job.turns, read) {
         Ok(samples) => samples,
         Err(_) => return Err(Fault::NoMemory),

@@ -29,5 +29,8 @@ pub fn grow<S: Shelf, O: Sink>(
         Ok(writer) => writer,
         Err(_) => return Err(Fault::NoMemory),
     };
-    write_growth(job, &growth, writer, shelf, out)
+    let answer = write_growth(job, &growth, writer, shelf, out);
+    // Given to `drop`, the end of all that was made is proved once, by itself.
+    drop(growth);
+    answer
 }

@@ -28,5 +28,8 @@ pub fn tile<S: Shelf, O: Sink>(
         Ok(writer) => writer,
         Err(_) => return Err(Fault::NoMemory),
     };
-    write_tiling(job, &made, writer, shelf, out)
+    let answer = write_tiling(job, &made, writer, shelf, out);
+    // Given to `drop`, the end of all that was made is proved once, by itself.
+    drop(made);
+    answer
 }

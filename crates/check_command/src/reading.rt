@@ -141,7 +141,12 @@ pub(crate) fn judge_files<S: Shelf>(
         Ok(samples) => samples,
         Err(_) => return Err(Fault::NoMemory),
     };
-    match judge_record(alloc, &samples, &out, &map, shelf, &names.record_file) {
+    let judged = judge_record(alloc, &samples, &out, &map, shelf, &names.record_file);
+    // Given to `drop`, each end is proved once, by itself.
+    drop(map);
+    drop(out);
+    drop(samples);
+    match judged {
         Ok(verdict) => Ok(verdict),
         Err(fault) => Err(fault),
     }

@@ -76,60 +76,60 @@ returns-in-Err-worked-clause-reads g c =
     map_only c.args.job.now a b few c.as_slice-more.ensures.names c.read_samples.ensures.reads c.in-Ok-read_samples.samples (c.in-Ok-read_samples.ensures {u = tt}).answer d c.read_out.ensures.reads
     c.in-Ok-read_out.out (c.in-Ok-read_out.ensures {u = tt}).answer e c.read_map_file.ensures.reads
 
-pub returns-clause-planned : goal.returns-clause-planned
-returns-clause-planned g c =
+pub returns-in-Err-judged-clause-planned : goal.returns-in-Err-judged-clause-planned
+returns-in-Err-judged-clause-planned g c =
     let a = g.S.Shelf.state c.args.shelf.now in
     let b = g.S.Shelf.state c.read_samples.new.shelf in
     let d = g.S.Shelf.state c.read_out.new.shelf in
     let e = g.S.Shelf.state c.read_map_file.new.shelf in
-    let f = g.S.Shelf.state c.judge_record.new.shelf in
+    let f = g.S.Shelf.state c.judge_record-judged.new.shelf in
     let few = subst (λ names. AsksParts c.args.job.now.turns (length names + 1) (Ok tt)) c.as_slice-more.ensures.names (c.in-Ok.ensures {u = tt}) in
     no_record c.args.job.now a b few c.as_slice-more.ensures.names c.read_samples.ensures.reads c.in-Ok-read_samples.samples (c.in-Ok-read_samples.ensures {u = tt}).answer d c.read_out.ensures.reads
     c.in-Ok-read_out.out (c.in-Ok-read_out.ensures {u = tt}).answer e c.read_map_file.ensures.reads
-    c.in-Ok-read_map_file.map (c.in-Ok-read_map_file.ensures {u = tt}).answer f c.judge_record.ensures.reads c.in-Err-judge_record.fault (c.in-Err-judge_record.ensures {u = tt}).answer
+    c.in-Ok-read_map_file.map (c.in-Ok-read_map_file.ensures {u = tt}).answer f c.judge_record-judged.ensures.reads c.in-Err-judged.fault (c.in-Err-judged.ensures {u = tt}).answer
 
-pub returns-clause-reads : goal.returns-clause-reads
-returns-clause-reads g c =
+pub returns-in-Err-judged-clause-reads : goal.returns-in-Err-judged-clause-reads
+returns-in-Err-judged-clause-reads g c =
     let a = g.S.Shelf.state c.args.shelf.now in
     let b = g.S.Shelf.state c.read_samples.new.shelf in
     let d = g.S.Shelf.state c.read_out.new.shelf in
     let e = g.S.Shelf.state c.read_map_file.new.shelf in
-    let f = g.S.Shelf.state c.judge_record.new.shelf in
+    let f = g.S.Shelf.state c.judge_record-judged.new.shelf in
     let few = subst (λ names. AsksParts c.args.job.now.turns (length names + 1) (Ok tt)) c.as_slice-more.ensures.names (c.in-Ok.ensures {u = tt}) in
     record_only c.args.job.now a b few c.as_slice-more.ensures.names c.read_samples.ensures.reads c.in-Ok-read_samples.samples (c.in-Ok-read_samples.ensures {u = tt}).answer d c.read_out.ensures.reads
     c.in-Ok-read_out.out (c.in-Ok-read_out.ensures {u = tt}).answer e c.read_map_file.ensures.reads
-    c.in-Ok-read_map_file.map (c.in-Ok-read_map_file.ensures {u = tt}).answer f c.judge_record.ensures.reads
+    c.in-Ok-read_map_file.map (c.in-Ok-read_map_file.ensures {u = tt}).answer f c.judge_record-judged.ensures.reads
 
-pub returns-in-Ok-judge_record-clause-planned : goal.returns-in-Ok-judge_record-clause-planned
-returns-in-Ok-judge_record-clause-planned g c =
+pub returns-in-Ok-judged-clause-planned : goal.returns-in-Ok-judged-clause-planned
+returns-in-Ok-judged-clause-planned g c =
     let a = g.S.Shelf.state c.args.shelf.now in
     let b = g.S.Shelf.state c.read_samples.new.shelf in
     let d = g.S.Shelf.state c.read_out.new.shelf in
     let e = g.S.Shelf.state c.read_map_file.new.shelf in
-    let f = g.S.Shelf.state c.judge_record.new.shelf in
+    let f = g.S.Shelf.state c.judge_record-judged.new.shelf in
     let few = subst (λ names. AsksParts c.args.job.now.turns (length names + 1) (Ok tt)) c.as_slice-more.ensures.names (c.in-Ok.ensures {u = tt}) in
-    let its = (c.in-Ok-judge_record.ensures {u = tt}).answer in
+    let its = (c.in-Ok-judged.ensures {u = tt}).answer in
     let all = c.in-Ok-worked.samples in
     let values : ReadFiles = record { samples = all; out = c.in-Ok-read_out.out; map = c.in-Ok-read_map_file.map; record_file = its.0 } in
     verdict_planned c.args.job.now a f
     (record_only c.args.job.now a b few c.as_slice-more.ensures.names c.read_samples.ensures.reads c.in-Ok-read_samples.samples (c.in-Ok-read_samples.ensures {u = tt}).answer d c.read_out.ensures.reads
     c.in-Ok-read_out.out (c.in-Ok-read_out.ensures {u = tt}).answer e c.read_map_file.ensures.reads
-    c.in-Ok-read_map_file.map (c.in-Ok-read_map_file.ensures {u = tt}).answer f c.judge_record.ensures.reads)
+    c.in-Ok-read_map_file.map (c.in-Ok-read_map_file.ensures {u = tt}).answer f c.judge_record-judged.ensures.reads)
     values
     (files_are c.args.job.now a b few c.as_slice-more.ensures.names c.read_samples.ensures.reads c.in-Ok-read_samples.samples (c.in-Ok-read_samples.ensures {u = tt}).answer d c.read_out.ensures.reads
     c.in-Ok-read_out.out (c.in-Ok-read_out.ensures {u = tt}).answer e c.read_map_file.ensures.reads
-    c.in-Ok-read_map_file.map (c.in-Ok-read_map_file.ensures {u = tt}).answer f c.judge_record.ensures.reads
+    c.in-Ok-read_map_file.map (c.in-Ok-read_map_file.ensures {u = tt}).answer f c.judge_record-judged.ensures.reads
     its.0 its.1 all (c.in-Ok-worked.ensures {u = tt}).is)
-    c.in-Ok-judge_record.verdict its.2
+    c.in-Ok-judged.verdict its.2
 
-pub returns-in-Ok-judge_record-clause-reads : goal.returns-in-Ok-judge_record-clause-reads
-returns-in-Ok-judge_record-clause-reads g c =
+pub returns-in-Ok-judged-clause-reads : goal.returns-in-Ok-judged-clause-reads
+returns-in-Ok-judged-clause-reads g c =
     let a = g.S.Shelf.state c.args.shelf.now in
     let b = g.S.Shelf.state c.read_samples.new.shelf in
     let d = g.S.Shelf.state c.read_out.new.shelf in
     let e = g.S.Shelf.state c.read_map_file.new.shelf in
-    let f = g.S.Shelf.state c.judge_record.new.shelf in
+    let f = g.S.Shelf.state c.judge_record-judged.new.shelf in
     let few = subst (λ names. AsksParts c.args.job.now.turns (length names + 1) (Ok tt)) c.as_slice-more.ensures.names (c.in-Ok.ensures {u = tt}) in
     record_only c.args.job.now a b few c.as_slice-more.ensures.names c.read_samples.ensures.reads c.in-Ok-read_samples.samples (c.in-Ok-read_samples.ensures {u = tt}).answer d c.read_out.ensures.reads
     c.in-Ok-read_out.out (c.in-Ok-read_out.ensures {u = tt}).answer e c.read_map_file.ensures.reads
-    c.in-Ok-read_map_file.map (c.in-Ok-read_map_file.ensures {u = tt}).answer f c.judge_record.ensures.reads
+    c.in-Ok-read_map_file.map (c.in-Ok-read_map_file.ensures {u = tt}).answer f c.judge_record-judged.ensures.reads

@@ -129,6 +129,40 @@ fn judge_records_to_end<S: Shelf>(
     }
 }
 
+// Judges files, where the record file is of cuts or of blocks and read from after its head on, over an empty canvas
+// of the output's size, and by what was found of whether they go together.
+fn judge_over<S: Shelf>(
+    alloc: Global,
+    canvas: &mut Canvas,
+    samples: &Samples,
+    out: &Sample,
+    map_file: &MapFile,
+    before: Verdict,
+    file: &mut FileReader,
+    none: &RecordFile,
+    shelf: &mut S,
+    name: &str,
+) -> Result<Verdict, ReadError>
+    requires follows { Follows name.now (S.state shelf.old) file.old }
+    requires room { file.old.at < 2 ^ 31 }
+    requires over { StandsOver canvas.old samples.now.volume }
+    requires canvas { IsCanvas canvas.old }
+    requires empty { canvas.old.map ≡ empty_map canvas.old.map.size }
+    requires cells { LeavesCells none.now }
+    requires sound { AreSoundSamples samples.now }
+    requires tried { TriesTogether samples.now out.now map_file.now none.now before }
+    requires sized { IsCanvasSize before map_file.now canvas.old.map.size }
+    ensures answer { JudgesToEnd (IsVerdict samples.now out.now map_file.now)
+        name.now file.old.at (S.state shelf.old) (S.state shelf.new) (read_as none.now) result }
+    ensures reads { OnlyReadsFile name.now (S.state shelf.old) (S.state shelf.new) }
+{
+    let volume = &samples.volume;
+    match judge_records_to_end(alloc, canvas, volume, before, file, none, shelf, name)? {
+        Verdict::Stands => Ok(judge_left(volume, &out.volume, map_file, canvas.map())),
+        fails => Ok(fails),
+    }
+}
+
 // Judges files whose record file is of cuts or of blocks and is read from after its head on. `none` has its
 // head and kind, and no record: whether files go together doesn't depend on the records.
 fn judge_cells<S: Shelf>(
@@ -149,17 +183,27 @@ fn judge_cells<S: Shelf>(
         name.now file.old.at (S.state shelf.old) (S.state shelf.new) (read_as none.now) result }
     ensures reads { OnlyReadsFile name.now (S.state shelf.old) (S.state shelf.new) }
 {
-    let volume = &samples.volume;
     let before = try_together(samples, out, map_file, none);
     let size = canvas_size(before, map_file);
-    let mut canvas = Canvas::empty(alloc, size, volume.samples())?;
-    match judge_records_to_end(alloc, &mut canvas, volume, before, file, none, shelf, name)? {
-        Verdict::Stands => Ok(judge_left(volume, &out.volume, map_file, canvas.map())),
-        fails => Ok(fails),
-    }
+    let mut canvas = Canvas::empty(alloc, size, samples.volume.samples())?;
+    let verdict = judge_over(
+        alloc,
+        &mut canvas,
+        samples,
+        out,
+        map_file,
+        before,
+        file,
+        none,
+        shelf,
+        name,
+    );
+    drop(canvas);
+    verdict
 }
 
-// Judges files, where the record file is read from after its head on.
+// Judges files, where the record file is read from after its head on. (The end of a record file, spelled out at each
+// way out of this function, would be long to prove: `drop` has it proved by itself.)
 fn judge_records_read<S: Shelf>(
     alloc: Global,
     samples: &Samples,
@@ -184,14 +228,20 @@ fn judge_records_read<S: Shelf>(
     if kind == CUTS {
         let cuts = Items::from_vec(Vec::new(alloc));
         let none = RecordFile::Cuts { head, cuts };
-        judge_cells(alloc, samples, out, map_file, file, &none, shelf, name)
+        let verdict = judge_cells(alloc, samples, out, map_file, file, &none, shelf, name);
+        drop(none);
+        verdict
     } else if kind == BLOCKS {
         let blocks = Items::from_vec(Vec::new(alloc));
         let none = RecordFile::Blocks { head, blocks };
-        judge_cells(alloc, samples, out, map_file, file, &none, shelf, name)
+        let verdict = judge_cells(alloc, samples, out, map_file, file, &none, shelf, name);
+        drop(none);
+        verdict
     } else {
         let record_file = read_walk_file(alloc, file, head, shelf, name)?;
-        let verdict = judge(alloc, samples, out, map_file, &record_file)?;
+        let judged = judge(alloc, samples, out, map_file, &record_file);
+        drop(record_file);
+        let verdict = judged?;
         Ok(verdict)
     }
 }

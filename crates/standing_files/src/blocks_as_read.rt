@@ -86,7 +86,9 @@ fn judge_each_block<S: Shelf>(
     for i in 0..count {
         let block = read_block(alloc, file, cells, shelf, name)?;
         cells += cells_of(block.placement.rect.size) as u64;
-        verdict = judge_block(alloc, canvas, samples, i, verdict, &block)?;
+        let judged = judge_block(alloc, canvas, samples, i, verdict, &block);
+        drop(block);
+        verdict = judged?;
     }
     Ok(verdict)
 }

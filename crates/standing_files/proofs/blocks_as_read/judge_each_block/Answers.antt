@@ -42,10 +42,10 @@ loop-i-preserved g c =
         found = each_more name c.args.file.now.at c.loop-i.i (λ front. read (block_cells front)) (state c.args.shelf.now) (state c.loop-i.shelf) (state c.read_block.new.shelf) c.loop-i.file c.read_block.new.file
             so.blocks block inv.reads ok.reads so.found
             (subst (λ n. Found name c.loop-i.file.at (state c.read_block.new.shelf) c.read_block.new.file (read n) block) so.cells_are ok.answer);
-        judged = block_found c.args.samples.now c.args.canvas.now.map.size so.blocks block c.loop-i.i so.count c.loop-i.canvas.map c.judge_block.new.canvas.map c.args.before c.loop-i.verdict c.in_ok-verdict.verdict
+        judged = block_found c.args.samples.now c.args.canvas.now.map.size so.blocks block c.loop-i.i so.count c.loop-i.canvas.map c.judge_block-judged.new.canvas.map c.args.before c.loop-i.verdict c.in_ok-verdict.verdict
             so.judged (c.in_ok-verdict.ensures {u = tt}).found;
       };
-      over = c.judge_block.ensures.over;
-      canvas = c.judge_block.ensures.canvas;
+      over = c.judge_block-judged.ensures.over;
+      canvas = c.judge_block-judged.ensures.canvas;
       reads = only_reads_then (state c.args.shelf.now) (state c.loop-i.shelf) (state c.read_block.new.shelf) inv.reads ok.reads;
     }

@@ -122,5 +122,8 @@ pub fn loop_clip<S: Shelf, O: Sink>(
         Ok(writer) => writer,
         Err(_) => return Err(Fault::NoMemory),
     };
-    write_loop(job, &looped, writer, shelf, out)
+    let answer = write_loop(job, &looped, writer, shelf, out);
+    // Given to `drop`, the end of all that was made is proved once, by itself.
+    drop(looped);
+    answer
 }

@@ -63,5 +63,9 @@ pub fn write_quilt<S: Shelf, O: Sink>(
         head: head_over(asked.size, volume),
         blocks: made.quilted.blocks.as_slice(),
     };
-    write_run(&mut Then(picture, Then(map, record)), summary, shelf, out)
+    let mut files = Then(picture, Then(map, record));
+    let answer = write_run(&mut files, summary, shelf, out);
+    // Given to `drop`, the end of the files is proved once, by itself.
+    drop(files);
+    answer
 }

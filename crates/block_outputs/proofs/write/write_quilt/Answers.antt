@@ -10,8 +10,8 @@ use Rattle.block_outputs.specs.BlockOutputs.{quilt_files, quilt_head}
 use Rattle.block_outputs.proofs.Ready.{map_ready, picture_ready, record_ready}
 use Rattle.block_outputs.proofs.write.write_quilt.Goals as goal
 
-pub write_run-requires : goal.write_run-requires
-write_run-requires g c =
+pub write_run-answer-requires : goal.write_run-answer-requires
+write_run-answer-requires g c =
     let asked = c.args.asked.now in
     let made = c.args.made.now in
     let rating = c.requires.made.0 in
@@ -29,9 +29,9 @@ returns-clause-wrote g c =
     let names = c.args.names.now in
     let made = c.args.made.now in
     let was = g.S.Shelf.state c.args.shelf.now in
-    let now = g.S.Shelf.state c.write_run.new.shelf in
+    let now = g.S.Shelf.state c.write_run-answer.new.shelf in
     let out = g.O.Sink.state c.args.out.now in
-    let out' = g.O.Sink.state c.write_run.new.out in
+    let out' = g.O.Sink.state c.write_run-answer.new.out in
     let given : List FileText =
     file_text part.Out names.out (p6_form made.sample.maxval c.picture.result.now) ∷ file_text part.Map names.map (cell_map_form c.map.result.now c.sizes.result One)
     ∷ file_text part.Record names.record_file (blocks_form c.head_over.result c.as_slice.result.now) ∷ [] in
@@ -39,4 +39,4 @@ returns-clause-wrote g c =
     λ i. file_text part.Out names.out (p6_form made.sample.maxval (c.picture.ensures.picture i))
     ∷ file_text part.Map names.map (cell_map_form (c.map.ensures.map i) (c.sizes.ensures i) One)
     ∷ file_text part.Record names.record_file (blocks_form (c.head_over.ensures i) (c.as_slice.ensures i)) ∷ [] in
-    subst (λ files. WritesRun files c.args.summary was now out out' c.write_run.result) same c.write_run.ensures.wrote
+    subst (λ files. WritesRun files c.args.summary was now out out' c.write_run-answer.result) same c.write_run-answer.ensures.wrote

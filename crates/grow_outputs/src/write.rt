@@ -75,5 +75,9 @@ pub fn write_growth<S: Shelf, O: Sink>(
         cuts: growth.grown.cuts.as_slice(),
     };
     let summary = summary_of(job, growth);
-    write_run(&mut Then(picture, Then(map, record)), summary, shelf, out)
+    let mut files = Then(picture, Then(map, record));
+    let answer = write_run(&mut files, summary, shelf, out);
+    // Given to `drop`, the end of the files is proved once, by itself.
+    drop(files);
+    answer
 }

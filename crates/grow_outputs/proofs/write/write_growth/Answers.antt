@@ -11,8 +11,8 @@ use Rattle.grow_outputs.specs.Growths.{growth_files, growth_summary, head_over}
 use Rattle.grow_outputs.proofs.Ready.{map_ready, picture_ready, record_ready}
 use Rattle.grow_outputs.proofs.write.write_growth.Goals as goal
 
-pub write_run-requires : goal.write_run-requires
-write_run-requires g c =
+pub write_run-answer-requires : goal.write_run-answer-requires
+write_run-answer-requires g c =
     let job = c.args.job.now in
     let growth = c.args.growth.now in
     let made = c.requires.made in
@@ -30,9 +30,9 @@ returns-clause-wrote g c =
     let job = c.args.job.now in
     let growth = c.args.growth.now in
     let was = g.S.Shelf.state c.args.shelf.now in
-    let now = g.S.Shelf.state c.write_run.new.shelf in
+    let now = g.S.Shelf.state c.write_run-answer.new.shelf in
     let out = g.O.Sink.state c.args.out.now in
-    let out' = g.O.Sink.state c.write_run.new.out in
+    let out' = g.O.Sink.state c.write_run-answer.new.out in
     let form = growth.samples.form in
     let picture = c.picture.result.now in
     let size : picture.size ≡ job.size = ap (λ (v : Cells). v.size) c.picture.ensures.picture ∙ c.requires.made.grown.canvas.size ∙ c.requires.made.grown.size in
@@ -45,5 +45,5 @@ returns-clause-wrote g c =
     λ i. file_text part.Out job.names.out (text i)
     ∷ file_text part.Map job.names.map (map_text job.turns (c.map.ensures.map i) growth.sizes)
     ∷ file_text part.Record job.names.record_file (cuts_form (c.head_over.ensures i) (c.as_slice.ensures i)) ∷ [] in
-    subst (λ files. WritesRun files (growth_summary job growth) was now out out' c.write_run.result) same
-    (subst (λ summary. WritesRun given summary was now out out' c.write_run.result) c.summary_of-summary.ensures c.write_run.ensures.wrote)
+    subst (λ files. WritesRun files (growth_summary job growth) was now out out' c.write_run-answer.result) same
+    (subst (λ summary. WritesRun given summary was now out out' c.write_run-answer.result) c.summary_of-summary.ensures c.write_run-answer.ensures.wrote)

@@ -54,5 +54,9 @@ pub fn write_tiling<S: Shelf, O: Sink>(
         version: Version::One,
     };
     let summary = summary_of(job, made);
-    write_run(&mut Then(picture, map), summary, shelf, out)
+    let mut files = Then(picture, map);
+    let answer = write_run(&mut files, summary, shelf, out);
+    // Given to `drop`, the end of the files is proved once, by itself.
+    drop(files);
+    answer
 }

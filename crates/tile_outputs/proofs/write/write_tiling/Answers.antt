@@ -11,8 +11,8 @@ use Rattle.tile_outputs.specs.Tilings.{tile_files, tile_summary}
 use Rattle.tile_outputs.proofs.TileReady.{map_ready, picture_ready}
 use Rattle.tile_outputs.proofs.write.write_tiling.Goals as goal
 
-pub write_run-requires : goal.write_run-requires
-write_run-requires g c =
+pub write_run-answer-requires : goal.write_run-answer-requires
+write_run-answer-requires g c =
     let job = c.args.job.now in
     let made = c.args.made.now in
     let its = c.requires.made in
@@ -28,9 +28,9 @@ returns-clause-wrote g c =
     let job = c.args.job.now in
     let made = c.args.made.now in
     let was = g.S.Shelf.state c.args.shelf.now in
-    let now = g.S.Shelf.state c.write_run.new.shelf in
+    let now = g.S.Shelf.state c.write_run-answer.new.shelf in
     let out = g.O.Sink.state c.args.out.now in
-    let out' = g.O.Sink.state c.write_run.new.out in
+    let out' = g.O.Sink.state c.write_run-answer.new.out in
     let form = made.sample.form in
     let picture = c.picture.result.now in
     let size : picture.size ≡ job.size = ap (λ (v : Cells). v.size) c.picture.ensures.picture ∙ c.requires.made.tiled.canvas.size ∙ c.requires.made.tiled.size in
@@ -41,5 +41,5 @@ returns-clause-wrote g c =
     let same : given ≡ tile_files job made =
     λ i. file_text part.Out job.out (text i)
     ∷ file_text part.Map job.map (cell_map_form (c.map.ensures.map i) (c.sizes.ensures i) One) ∷ [] in
-    subst (λ files. WritesRun files (tile_summary job made) was now out out' c.write_run.result) same
-    (subst (λ summary. WritesRun given summary was now out out' c.write_run.result) c.summary_of-summary.ensures c.write_run.ensures.wrote)
+    subst (λ files. WritesRun files (tile_summary job made) was now out out' c.write_run-answer.result) same
+    (subst (λ summary. WritesRun given summary was now out out' c.write_run-answer.result) c.summary_of-summary.ensures c.write_run-answer.ensures.wrote)

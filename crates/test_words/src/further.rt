@@ -153,8 +153,8 @@ const REFUSED: &[(&[&str], WordFault)] = &[
 ];
 
 // The number of the first words, from 0, that aren't refused so.
-fn wrong_words(alloc: Global) -> Option<usize> {
-    for (i, (words, fault)) in REFUSED.iter().enumerate() {
+fn wrong_words(alloc: Global, table: &[(&[&str], WordFault)]) -> Option<usize> {
+    for (i, (words, fault)) in table.iter().enumerate() {
         if fault_of(alloc, *words) != Some(*fault) {
             return Some(i);
         }
@@ -164,7 +164,7 @@ fn wrong_words(alloc: Global) -> Option<usize> {
 
 #[test]
 fn refusals(rt: HostRuntime) {
-    expect_no_row(&rt, wrong_words(rt.alloc()));
+    expect_no_row(&rt, wrong_words(rt.alloc(), REFUSED));
 }
 
 // The files of a transfer whose names are s, t, o, m and r.
@@ -187,13 +187,23 @@ fn has_numbers(job: &TransferJob, numbers: (u32, u32, u32, u32, u64)) -> bool {
         && job.seed == seed
 }
 
-// Whether words after `transfer` are read as a job of those files with these numbers.
+// Whether names after `transfer` are read as a job of those files with these numbers. (The end of a job, spelled out
+// here, would be most of the proof: `drop` has it proved by itself.)
+fn is_transfer(alloc: Global, words: &[Name], numbers: (u32, u32, u32, u32, u64)) -> bool {
+    match read_transfer(alloc, words) {
+        Ok(job) => {
+            let is_asked = has_files(&job) && has_numbers(&job, numbers);
+            drop(job);
+            is_asked
+        }
+        Err(_) => false,
+    }
+}
+
+// The same of the words' texts.
 fn is_transferred(alloc: Global, words: &[&str], numbers: (u32, u32, u32, u32, u64)) -> bool {
-    let Ok(list) = words_of(alloc, words) else {
-        return false;
-    };
-    match read_transfer(alloc, list.as_slice()) {
-        Ok(job) => has_files(&job) && has_numbers(&job, numbers),
+    match words_of(alloc, words) {
+        Ok(list) => is_transfer(alloc, list.as_slice(), numbers),
         Err(_) => false,
     }
 }
@@ -241,13 +251,21 @@ fn has_pictures(job: &MergeJob, more: &[&str]) -> bool {
         && is_name(&job.map, "m")
 }
 
-// Whether words after `merge` are read as a job with these further pictures.
+// Whether names after `merge` are read as a job with these further pictures.
+fn is_merge(alloc: Global, words: &[Name], more: &[&str]) -> bool {
+    match read_merge(alloc, words) {
+        Ok(job) => {
+            let is_asked = has_pictures(&job, more);
+            drop(job);
+            is_asked
+        }
+        Err(_) => false,
+    }
+}
+
 fn is_merged(alloc: Global, words: &[&str], more: &[&str]) -> bool {
-    let Ok(list) = words_of(alloc, words) else {
-        return false;
-    };
-    match read_merge(alloc, list.as_slice()) {
-        Ok(job) => has_pictures(&job, more),
+    match words_of(alloc, words) {
+        Ok(list) => is_merge(alloc, list.as_slice(), more),
         Err(_) => false,
     }
 }
@@ -281,7 +299,7 @@ struct Tiled {
     seed: u64,
 }
 
-fn is_tile(job: &TileJob, of: &Tiled) -> bool {
+fn has_tiled(job: &TileJob, of: &Tiled) -> bool {
     is_name(&job.sample, "a")
         && is_name(&job.out, "o")
         && is_name(&job.map, "m")
@@ -293,13 +311,21 @@ fn is_tile(job: &TileJob, of: &Tiled) -> bool {
         && job.seed == of.seed
 }
 
-// Whether words after `tile` are read as such a job.
+// Whether names after `tile` are read as such a job.
+fn is_tile(alloc: Global, words: &[Name], of: &Tiled) -> bool {
+    match read_tile(alloc, words) {
+        Ok(job) => {
+            let is_asked = has_tiled(&job, of);
+            drop(job);
+            is_asked
+        }
+        Err(_) => false,
+    }
+}
+
 fn is_tiled(alloc: Global, words: &[&str], of: &Tiled) -> bool {
-    let Ok(list) = words_of(alloc, words) else {
-        return false;
-    };
-    match read_tile(alloc, list.as_slice()) {
-        Ok(job) => is_tile(&job, of),
+    match words_of(alloc, words) {
+        Ok(list) => is_tile(alloc, list.as_slice(), of),
         Err(_) => false,
     }
 }
@@ -405,8 +431,8 @@ const WRAPPED: &[(&[&str], Size, Wrap)] = &[
 ];
 
 // The number of the first row, from 0, whose words aren't read so.
-fn wrong_wrap(alloc: Global) -> Option<usize> {
-    for (i, (words, size, wrap)) in WRAPPED.iter().enumerate() {
+fn wrong_wrap(alloc: Global, table: &[(&[&str], Size, Wrap)]) -> Option<usize> {
+    for (i, (words, size, wrap)) in table.iter().enumerate() {
         let of = Tiled {
             size: *size,
             wrap: *wrap,
@@ -421,5 +447,5 @@ fn wrong_wrap(alloc: Global) -> Option<usize> {
 
 #[test]
 fn wraps(rt: HostRuntime) {
-    expect_no_row(&rt, wrong_wrap(rt.alloc()));
+    expect_no_row(&rt, wrong_wrap(rt.alloc(), WRAPPED));
 }

@@ -52,15 +52,20 @@ const HELD: &[Row<'static>] = &[
     (Call::Begin, "f", "", true),
 ];
 
-fn are_held(alloc: Global) -> Result<bool, AllocError> {
-    let mut shelf = MemShelf::new(alloc);
+fn holds_files(shelf: &mut MemShelf) -> Result<bool, AllocError> {
     shelf.put_file("f", b"abcdefgh")?;
     shelf.put_file("f", b"abcdef")?;
-    let are_files = answers(&mut shelf, HELD)
+    let are_files = answers(shelf, HELD)
         && is_text(shelf.file("f"), Some(""))
         && is_text(shelf.file("g"), Some("xyz"))
         && is_text(shelf.file("k"), None);
     Ok(are_files && shelf.read_faults() == 1 && shelf.write_faults() == 0)
+}
+
+// (A store is owned by a function that only lends it: each place where it ends is long to prove.)
+fn are_held(alloc: Global) -> Result<bool, AllocError> {
+    let mut shelf = MemShelf::new(alloc);
+    holds_files(&mut shelf)
 }
 
 #[test]
@@ -86,11 +91,15 @@ fn list_calls(shelf: &mut MemShelf, kept: usize) -> Result<(), AllocError> {
 }
 
 // Whether the listed calls fail, and leave this text.
+fn fails_calls(shelf: &mut MemShelf, kept: usize, text: &str) -> Result<bool, AllocError> {
+    list_calls(shelf, kept)?;
+    let are_told = answers(shelf, FAILING) && is_text(shelf.file("f"), Some(text));
+    Ok(are_told && shelf.read_faults() == 1 && shelf.write_faults() == 2)
+}
+
 fn shelf_fails(alloc: Global, kept: usize, text: &str) -> Result<bool, AllocError> {
     let mut shelf = MemShelf::new(alloc);
-    list_calls(&mut shelf, kept)?;
-    let are_told = answers(&mut shelf, FAILING) && is_text(shelf.file("f"), Some(text));
-    Ok(are_told && shelf.read_faults() == 1 && shelf.write_faults() == 2)
+    fails_calls(&mut shelf, kept, text)
 }
 
 #[test]
@@ -101,8 +110,7 @@ fn listed_calls_of_a_shelf_fail(rt: HostRuntime) {
 }
 
 // Whether the second of three writes fails alone, and this text is left.
-fn sink_fails(alloc: Global, kept: usize, text: &str) -> Result<bool, AllocError> {
-    let mut sink = MemSink::new(alloc);
+fn fails_second(sink: &mut MemSink, kept: usize, text: &str) -> Result<bool, AllocError> {
     sink.fail_at(2, kept)?;
     sink.fail_at(2, 2)?;
     let first = sink.add(b"ab").is_ok();
@@ -110,6 +118,11 @@ fn sink_fails(alloc: Global, kept: usize, text: &str) -> Result<bool, AllocError
     let third = sink.add(b"ef").is_ok();
     let is_told = first && !second && third && sink.faults() == 1;
     Ok(is_told && is_text(Some(sink.bytes()), Some(text)))
+}
+
+fn sink_fails(alloc: Global, kept: usize, text: &str) -> Result<bool, AllocError> {
+    let mut sink = MemSink::new(alloc);
+    fails_second(&mut sink, kept, text)
 }
 
 #[test]
@@ -132,7 +145,17 @@ const SURE: &[Row<'static>] = &[
     (Call::Begin, "", "", true),
 ];
 
-// Whether a store with this room tells these texts.
+// Whether a store tells these texts.
+fn tells_files(shelf: &mut SureShelf, f: Option<&str>, g: Option<&str>) -> bool {
+    shelf.put_file("g", b"4321");
+    shelf.put_file("g", b"");
+    let are_files = answers(shelf, SURE)
+        && is_text(shelf.file("f"), f)
+        && is_text(shelf.file("g"), g);
+    are_files && is_text(shelf.file("k"), None)
+}
+
+// The same of a store with this room.
 fn shelf_tells(
     alloc: Global,
     room: usize,
@@ -140,19 +163,18 @@ fn shelf_tells(
     g: Option<&str>,
 ) -> Result<bool, AllocError> {
     let mut shelf = SureShelf::make(alloc, room)?;
-    shelf.put_file("g", b"4321");
-    shelf.put_file("g", b"");
-    let are_files = answers(&mut shelf, SURE)
-        && is_text(shelf.file("f"), f)
-        && is_text(shelf.file("g"), g);
-    Ok(are_files && is_text(shelf.file("k"), None))
+    Ok(tells_files(&mut shelf, f, g))
+}
+
+fn tells_writes(sink: &mut SureSink, text: Option<&str>) -> bool {
+    let first = sink.add(b"ab").is_ok();
+    let second = sink.add(b"cd").is_ok();
+    first && second && is_text(sink.bytes(), text)
 }
 
 fn sink_tells(alloc: Global, room: usize, text: Option<&str>) -> Result<bool, AllocError> {
     let mut sink = SureSink::make(alloc, room)?;
-    let first = sink.add(b"ab").is_ok();
-    let second = sink.add(b"cd").is_ok();
-    Ok(first && second && is_text(sink.bytes(), text))
+    Ok(tells_writes(&mut sink, text))
 }
 
 #[test]

@@ -99,12 +99,21 @@ fn are_files(shelf: &MemShelf, out: &MemSink) -> bool {
         && out.bytes() == REPORT
 }
 
+fn makes_a_loop(
+    alloc: Global,
+    shelf: &mut MemShelf,
+    out: &mut MemSink,
+) -> Result<bool, AllocError> {
+    let line = "loop sample=s out=o map=m record=r length=2 taps=0 gap=1";
+    let found = answer_of(alloc, FOUR, line, shelf, out)?;
+    Ok(found.is_ok() && are_files(shelf, out))
+}
+
+// (A store is owned by a function that only lends it: each place where it ends is long to prove.)
 fn are_files_of_a_loop(alloc: Global) -> Result<bool, AllocError> {
     let mut shelf = MemShelf::new(alloc);
     let mut out = MemSink::new(alloc);
-    let line = "loop sample=s out=o map=m record=r length=2 taps=0 gap=1";
-    let found = answer_of(alloc, FOUR, line, &mut shelf, &mut out)?;
-    Ok(found.is_ok() && are_files(&shelf, &out))
+    makes_a_loop(alloc, &mut shelf, &mut out)
 }
 
 #[test]

@@ -24,12 +24,21 @@ fn are_files(shelf: &MemShelf, out: &MemSink) -> bool {
         && shelf.file("r").unwrap_or(b"").len() == RECORD_BYTES
 }
 
+fn makes_two_blocks(
+    alloc: Global,
+    shelf: &mut MemShelf,
+    out: &mut MemSink,
+) -> Result<bool, AllocError> {
+    let line = "quilt sample=s out=o map=m record=r width=6 height=1 block=4 overlap=2";
+    let found = answer_of(alloc, ROW, line, shelf, out)?;
+    Ok(found.is_ok() && are_files(shelf, out))
+}
+
+// (A store is owned by a function that only lends it: each place where it ends is long to prove.)
 fn are_two_blocks(alloc: Global) -> Result<bool, AllocError> {
     let mut shelf = MemShelf::new(alloc);
     let mut out = MemSink::new(alloc);
-    let line = "quilt sample=s out=o map=m record=r width=6 height=1 block=4 overlap=2";
-    let found = answer_of(alloc, ROW, line, &mut shelf, &mut out)?;
-    Ok(found.is_ok() && are_files(&shelf, &out))
+    makes_two_blocks(alloc, &mut shelf, &mut out)
 }
 
 #[test]
@@ -38,12 +47,22 @@ fn two_blocks(rt: HostRuntime) {
 }
 
 // What a line of words answers over a sample, where it isn't begun with the out file.
+fn refusal_over(
+    alloc: Global,
+    sample: &[u8],
+    line: &str,
+    shelf: &mut MemShelf,
+    out: &mut MemSink,
+) -> Result<Option<Fault>, AllocError> {
+    let said = answer_of(alloc, sample, line, shelf, out)?;
+    let is_begun = shelf.file("o").is_some();
+    Ok(if is_begun { None } else { said.err() })
+}
+
 fn refusal(alloc: Global, sample: &[u8], line: &str) -> Result<Option<Fault>, AllocError> {
     let mut shelf = MemShelf::new(alloc);
     let mut out = MemSink::new(alloc);
-    let said = answer_of(alloc, sample, line, &mut shelf, &mut out)?;
-    let is_begun = shelf.file("o").is_some();
-    Ok(if is_begun { None } else { said.err() })
+    refusal_over(alloc, sample, line, &mut shelf, &mut out)
 }
 
 const NO_PICTURE: Fault = Fault::Form {

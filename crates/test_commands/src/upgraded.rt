@@ -48,11 +48,20 @@ fn are_files(shelf: &MemShelf, out: &MemSink) -> bool {
         && out.bytes() == b"upgrade 6 2\n".as_slice()
 }
 
+fn makes_version_two(
+    alloc: Global,
+    shelf: &mut MemShelf,
+    out: &mut MemSink,
+) -> Result<bool, AllocError> {
+    let found = answer_over(alloc, shelf, out, MAP, RECORD)?;
+    Ok(found.is_ok() && are_files(shelf, out))
+}
+
+// (A store is owned by a function that only lends it: each place where it ends is long to prove.)
 fn is_in_version_two(alloc: Global) -> Result<bool, AllocError> {
     let mut shelf = MemShelf::new(alloc);
     let mut out = MemSink::new(alloc);
-    let found = answer_over(alloc, &mut shelf, &mut out, MAP, RECORD)?;
-    Ok(found.is_ok() && are_files(&shelf, &out))
+    makes_version_two(alloc, &mut shelf, &mut out)
 }
 
 #[test]
@@ -70,11 +79,21 @@ const REFUSED: &[(&[u8], &[u8], FileOf, u64)] = &[
     (MAP, NEW_RECORD, FileOf::Record, 8),
 ];
 
-// Why two files are refused.
+// Why two files are refused over a shelf.
+fn refusal_over(
+    alloc: Global,
+    shelf: &mut MemShelf,
+    out: &mut MemSink,
+    map: &[u8],
+    record: &[u8],
+) -> Result<Option<Fault>, AllocError> {
+    Ok(answer_over(alloc, shelf, out, map, record)?.err())
+}
+
 fn refusal(alloc: Global, map: &[u8], record: &[u8]) -> Result<Option<Fault>, AllocError> {
     let mut shelf = MemShelf::new(alloc);
     let mut out = MemSink::new(alloc);
-    Ok(answer_over(alloc, &mut shelf, &mut out, map, record)?.err())
+    refusal_over(alloc, &mut shelf, &mut out, map, record)
 }
 
 // The number of the first pair, from 0, that isn't refused so.

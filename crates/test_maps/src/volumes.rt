@@ -1,8 +1,9 @@
 // Worked examples of cells: that the calls that take memory succeed while there is some, and what the
 // definitions give at the corners of small volumes.
 ghost use Rattle.std.specs.Prelude.{◌≡◌};
-ghost use Rattle.cells.specs.Cells.{HasRun, IsInsideOf};
+ghost use Rattle.cells.specs.Cells.{HasRun, IsInsideOf, blank};
 ghost use Rattle.cells.specs.Places.{SumFits, plus, spot};
+ghost use Rattle.test_maps.specs.declared.volumes.TheConstants.{TWELVE};
 
 use crate::expect::{expect_none, expect_true};
 use cells::{At, Axis, Box3, PartPlace, Size, Volume, cell_distance};
@@ -93,10 +94,11 @@ const LOWER_ROW: Box3 = Box3 {
     size: Size { w: 3, h: 1, f: 1 },
 };
 
-fn are_cells_and_rows(alloc: Global) -> Result<bool, AllocError> {
-    let size = Size { w: 3, h: 2, f: 2 };
-    let mut volume = Volume::make(alloc, size, 2)?;
-    let is_made = volume.size() == size && volume.samples() == 2 && volume.holds(&LOWER_ROW);
+// Sets cells and rows of a volume of zeros, and says whether its bytes are then as they are to be.
+fn sets_cells_and_rows(volume: &mut Volume) -> bool
+    requires { volume.old ≡ blank TWELVE 2 }
+{
+    let is_made = volume.size() == TWELVE && volume.samples() == 2 && volume.holds(&LOWER_ROW);
     volume.set_cell(at((2, 1, 1)), &[9, 10]);
     volume.set_cell(at((1, 1, 0)), &[7, 8]);
     let is_set = volume.bytes() == TWO_SET
@@ -105,7 +107,12 @@ fn are_cells_and_rows(alloc: Global) -> Result<bool, AllocError> {
     volume.fill_row(at((1, 1, 1)), 1, 5);
     let are_rows = volume.row(at((0, 0, 1)), 3) == [1, 2, 3, 4, 0, 0].as_slice()
         && volume.row(at((0, 1, 1)), 3) == [0, 0, 5, 5, 9, 10].as_slice();
-    Ok(is_made && is_set && are_rows)
+    is_made && is_set && are_rows
+}
+
+fn are_cells_and_rows(alloc: Global) -> Result<bool, AllocError> {
+    let mut volume = Volume::make(alloc, TWELVE, 2)?;
+    Ok(sets_cells_and_rows(&mut volume))
 }
 
 #[test]

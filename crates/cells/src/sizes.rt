@@ -1,8 +1,8 @@
 // The sizes of the parts of a volume, and the parts' places in it.
-ghost use Rattle.std.specs.Prelude.{◌≡◌, ◌<◌, ◌≤◌, ◌+◌, ◌*◌, ◌-◌, ◌++◌, ◌+ℤ◌, pos, ◌↔◌, IsTrue, length, [], ◌∷◌, Some, IsNone, IfSome};
+ghost use Rattle.std.specs.Prelude.{◌≡◌, ◌<◌, ◌≤◌, ◌+◌, ◌*◌, ◌-◌, ◌++◌, ◌+ℤ◌, pos, ◌↔◌, IsTrue, length, [], ◌∷◌, Some, IsNone, IsSome, IfSome};
 ghost use Rattle.cells.specs.declared.sizes.PartPlace.{PartPlace};
 ghost use Rattle.cells.specs.declared.place.Size.{Size};
-ghost use Rattle.cells.specs.Places.{HasAxes, IsInside};
+ghost use Rattle.cells.specs.Places.{HasAxes, IsInside, on_axis};
 ghost use Rattle.cells.specs.SizeLists.{AreSizes, IsInPart, IsPartFound, IsPartPlace, frames_to_part, size_of_part, stock_place};
 
 use crate::parts::{More, past};
@@ -132,16 +132,18 @@ impl Sizes {
     }
 }
 
+// Whether a coordinate is at least 0 and below an axis.
+fn is_on_axis(len: u32, place: i32) -> bool
+    ensures { IsTrue result ↔ IsSome (on_axis len place) }
+{
+    place >= 0 && (place as u32) < len
+}
+
 // Whether a place is inside a size, which may have more cells than a volume.
 fn has(size: Size, at: At) -> bool
     ensures { IsTrue result ↔ IsInside size at }
 {
-    at.x >= 0
-        && at.y >= 0
-        && at.f >= 0
-        && (at.x as u32) < size.w
-        && (at.y as u32) < size.h
-        && (at.f as u32) < size.f
+    is_on_axis(size.w, at.x) && is_on_axis(size.h, at.y) && is_on_axis(size.f, at.f)
 }
 
 // The part that has a place, among parts of which the first has the number.

@@ -98,6 +98,10 @@ quarters_outside zero size p inside = inside
 quarters_outside (suc r) size p inside =
     quarter_outside (quarters_size r size) p (quarters_outside r size (quarter_from (quarters_size r size) p) inside)
 
+pub quarters_to_inside : (r : ℕ) (size : Size) (p : At) → IsInside size p → IsInside (quarters_size r size) (quarters_to r size p)
+quarters_to_inside r size p inside =
+    quarters_outside r size (quarters_to r size p) (subst (IsInside size) (sym (quarters_back r size p)) inside)
+
 -- turns
 pub turn_back : (t : ℕ) (size : Size) (p : At) → turn_from t size (turn_to t size p) ≡ p
 turn_back t size p =

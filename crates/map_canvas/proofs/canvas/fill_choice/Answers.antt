@@ -1,11 +1,12 @@
 use Rattle.std.proofs.Common.{◌≡◌, ◌<◌, ◌+◌, ◌∙◌, ap, sym, subst, arith, take}
+use Rattle.std.proofs.lemmas.List.{take_all}
 use Rattle.std.specs.Prelude.{Some, unwrap_or}
 use Rattle.cells.specs.Places.{cell_count, index_in, place_of}
 use Rattle.cells.specs.Cells.{Cells, index_of}
 use Rattle.cells.proofs.Raster.{has_index, place_at}
 use Rattle.map_canvas.specs.Canvases.{CanvasState, filled_marks}
-use Rattle.map_canvas.specs.Choices.{Fits, box_cell, box_count, box_source}
-use Rattle.map_canvas.proofs.ChoiceLaws.{after_old}
+use Rattle.map_canvas.specs.Choices.{Fits, IsAfter, box_cell, box_count, box_source}
+use Rattle.map_canvas.proofs.ChoiceLaws.{after_none, after_old}
 use Rattle.map_canvas.proofs.Filling.{fits_cell}
 use Rattle.map_canvas.proofs.Runs.{run_below_count, run_in_sample}
 use Rattle.map_canvas.proofs.RunSteps.{IsSoFar, run_so_far}
@@ -52,3 +53,32 @@ runs-preserved c =
       marks = c.runs.invariant.marks;
       after = after_old c.args.map.now c.runs.map placement c.args.choice.now i (place_at placement.rect.size i c.requires.fits.some.w c.requires.fits.some.h below) c.runs.invariant.after c.if-choice-i.false;
     }
+
+pub runs-init : goal.runs-init
+runs-init c = record {
+  reached = omega arith;
+  canvas = c.requires.canvas;
+  stands = c.requires.stands;
+  marks = c.requires.marks;
+  after = after_none c.args.map.now c.args.placement.now;
+}
+
+pub fill_from-requires : goal.fill_from-requires
+fill_from-requires c = record {
+  canvas = c.runs.invariant.canvas;
+  samples = c.runs.invariant.stands.samples;
+  marks = c.runs.invariant.marks;
+  sample = c.requires.sample;
+  fits = subst (λ size. Fits size c.args.sample.now c.args.placement.now) (sym c.runs.invariant.after.size) c.requires.fits;
+  choices = c.requires.choices;
+  below = omega (arith, c.requires.choices, c.runs-test.true);
+  first = c.if-choice-i.true;
+}
+
+pub returns : goal.returns
+returns c = record {
+  canvas = c.runs.invariant.canvas;
+  stands = c.runs.invariant.stands;
+  marks = c.runs.invariant.marks;
+  after = subst (λ choice. IsAfter c.args.map.now c.args.placement.now choice c.runs.map) (take_all c.runs.i c.args.choice.now c.runs-test.false) c.runs.invariant.after;
+}

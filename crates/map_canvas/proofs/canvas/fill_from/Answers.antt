@@ -7,6 +7,7 @@ use Rattle.cells.specs.Places.{IsInside, SumFits, cell_count, place_of, plus, sp
 use Rattle.cells.specs.Cells.{HasRun}
 use Rattle.cells.proofs.Steps.{row_end}
 use Rattle.map_canvas.specs.Maps.{IsSource}
+use Rattle.map_canvas.specs.Runs.{put_copies, with_run}
 use Rattle.map_canvas.specs.Choices.{box_cell, box_source}
 use Rattle.map_canvas.proofs.Filling.{fits_small, fits_cell, fits_cell_sum, fits_source_sum}
 use Rattle.map_canvas.proofs.Runs.{run_below_count, run_in_sample, run_is_source, run_room}
@@ -57,3 +58,41 @@ pub fill_run-requires-clause-sources : goal.fill_run-requires-clause-sources
 fill_run-requires-clause-sources c = λ j lt.
     subst (λ from. IsSource (plus from (spot j 0 0))) (sym (from_is c))
     (run_is_source c.args.map.now.size c.args.sample.now c.args.placement.now c.requires.fits c.requires.sample c.args.i c.new_cells-n.result c.requires.below (row c) j lt)
+
+pub place_at-step-requires-clause-below : goal.place_at-step-requires-clause-below
+place_at-step-requires-clause-below c = c.requires.below
+
+pub new_cells-n-requires-clause-first : goal.new_cells-n-requires-clause-first
+new_cells-n-requires-clause-first c = c.requires.first
+
+pub fill_run-requires-clause-canvas : goal.fill_run-requires-clause-canvas
+fill_run-requires-clause-canvas c = c.requires.canvas
+
+pub fill_run-requires-clause-marks : goal.fill_run-requires-clause-marks
+fill_run-requires-clause-marks c = c.requires.marks
+
+pub fill_run-requires-clause-room : goal.fill_run-requires-clause-room
+fill_run-requires-clause-room c =
+    subst (λ (p : At). (p.x +ℤ pos c.new_cells-n.result) ≤ℤ pos c.args.map.now.size.w) (sym (c.plus-p.ensures ∙ ap (plus c.args.placement.now.rect.corner) c.place_at-step.ensures))
+    (run_room c.args.map.now.size c.args.sample.now c.args.placement.now c.requires.fits c.requires.sample c.args.i c.new_cells-n.result c.requires.below (row c))
+
+pub returns-clause-some : goal.returns-clause-some
+returns-clause-some c = c.new_cells-n.ensures.some
+
+pub returns-clause-new : goal.returns-clause-new
+returns-clause-new c = c.new_cells-n.ensures.new
+
+pub returns-clause-map : goal.returns-clause-map
+returns-clause-map c =
+    let cell : c.plus-p.result ≡ box_cell c.args.placement.now c.args.i = c.plus-p.ensures ∙ ap (plus c.args.placement.now.rect.corner) c.place_at-step.ensures in
+    let source : c.plus-from.result ≡ box_source c.args.placement.now c.args.i = c.plus-from.ensures ∙ ap (plus c.args.placement.now.from) c.place_at-step.ensures in
+    c.fill_run.ensures.map ∙ (λ k. with_run c.args.map.now (cell k) (source k) c.new_cells-n.result)
+
+pub returns-clause-picture : goal.returns-clause-picture
+returns-clause-picture c =
+    let cell : c.plus-p.result ≡ box_cell c.args.placement.now c.args.i = c.plus-p.ensures ∙ ap (plus c.args.placement.now.rect.corner) c.place_at-step.ensures in
+    let source : c.plus-from.result ≡ box_source c.args.placement.now c.args.i = c.plus-from.ensures ∙ ap (plus c.args.placement.now.from) c.place_at-step.ensures in
+    c.fill_run.ensures.picture ∙ (λ k. put_copies c.args.picture.now c.args.sample.now (cell k) (source k) c.new_cells-n.result)
+
+pub returns-clause-marks : goal.returns-clause-marks
+returns-clause-marks c = c.fill_run.ensures.marks

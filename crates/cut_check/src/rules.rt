@@ -22,7 +22,6 @@ pub fn is_marked(marks: &[bool], i: usize) -> bool
 }
 
 /// The cell of a placement's box at an index in raster order.
-#[tactic(auto, using(crate::proofs::Cells::counts_in, crate::proofs::Cells::holds_largest, costs::proofs::MarkLaws::cell_at))]
 pub fn box_cell(map: &Map, placement: &Placement, i: usize, at: Counts) -> At
     requires lies { LiesIn map.now placement.now }
     requires here { IsAt placement.now.rect.size i at }

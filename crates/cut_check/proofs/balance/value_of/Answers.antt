@@ -16,12 +16,21 @@ use Rattle.cut_check.specs.Records.{IsBalanced, setting}
 use Rattle.cut_check.proofs.Parts.{one_part}
 use Rattle.cut_check.proofs.balance.value_of.Goals as goal
 
+pub cells-i-end-requires : goal.cells-i-end-requires
+cells-i-end-requires c = c.requires.lies.small
+
+pub part_of-requires-clause-below : goal.part_of-requires-clause-below
+part_of-requires-clause-below c = omega (arith, c.cells-i-end.ensures, c.loop-i-test.true)
+
 pub returns-in_default-clause-balanced : goal.returns-in_default-clause-balanced
 returns-in_default-clause-balanced c = λ sample. record {
   below = omega (arith, c.cells-i-end.ensures, c.loop-i-test.true);
   before = c.loop-i.invariant.balanced sample;
   here = λ balanced. false≢true ((c.in_default.ensures.balanced sample).1 balanced);
 }
+
+pub next-walk-requires-clause-small : goal.next-walk-requires-clause-small
+next-walk-requires-clause-small c = c.requires.lies.small
 
 pub next-walk-requires-clause-inside : goal.next-walk-requires-clause-inside
 next-walk-requires-clause-inside c = walk_in c.args.cut.now.placement.rect.size c.loop-i.i c.loop-i.walk c.loop-i.invariant.walk (omega (arith, c.cells-i-end.ensures, c.loop-i-test.true))

@@ -11,6 +11,9 @@ minus-requires c =
     let fits = step_fits c.args.b c.args.axis c.requires.b in
     subst (DifferenceFits c.args.b) (sym c.unit-step.ensures) fits.back
 
+pub is_within-requires : goal.is_within-requires
+is_within-requires c = omega (arith, c.cell_distance-near.ensures.bound, c.cell_distance-near.ensures.volume.samples.1)
+
 pub plus-requires : goal.plus-requires
 plus-requires c =
     let fits = step_fits c.args.a c.args.axis c.requires.a in
@@ -24,6 +27,12 @@ returns-then-is_within c =
       λ _. let within = c.is_within.ensures.0 c.if-is_within.true in (omega (arith, ints, within.0, near), omega (arith, ints, within.1, near)),
       λ _. refl,
     )
+
+pub overflow_add-near : goal.overflow_add-near
+overflow_add-near c = omega (arith, c.cell_distance-near.ensures.bound, c.cell_distance.ensures.bound, c.cell_distance.ensures.volume.samples.1)
+
+pub is_within-requires-2 : goal.is_within-requires-2
+is_within-requires-2 c = omega (arith, c.cell_distance-near.ensures.bound, c.cell_distance.ensures.bound, c.cell_distance.ensures.volume.samples.1)
 
 pub returns : goal.returns
 returns c =

@@ -7,6 +7,24 @@ use Rattle.costs.specs.Lawful.{StaysOld}
 use Rattle.cut_check.proofs.Cells.{counts_in}
 use Rattle.cut_check.proofs.rules.first_new.Goals as goal
 
+pub cells-i-end-requires : goal.cells-i-end-requires
+cells-i-end-requires c = c.requires.lies.small
+
+pub loop-i-init : goal.loop-i-init
+loop-i-init c = record {
+  at = c.first-at.ensures.index c.args.cut.now.placement.rect.size c.requires.lies.some;
+  before = λ k lt. absurd (omega arith);
+}
+
+pub box_cell-p-requires-clause-below : goal.box_cell-p-requires-clause-below
+box_cell-p-requires-clause-below c = omega (arith, c.cells-i-end.ensures, c.loop-i-test.true)
+
+pub leaves_old-requires-clause-below : goal.leaves_old-requires-clause-below
+leaves_old-requires-clause-below c = omega (arith, c.cells-i-end.ensures, c.loop-i-test.true)
+
+pub leaves_old-requires-clause-cell : goal.leaves_old-requires-clause-cell
+leaves_old-requires-clause-cell c = c.box_cell-p.ensures
+
 pub returns-then-not-leaves_old-clause-broken : goal.returns-then-not-leaves_old-clause-broken
 returns-then-not-leaves_old-clause-broken c = λ sample.
     let m = c.args.canvas.now.map in
@@ -37,3 +55,6 @@ loop-i-preserved c =
           (subst (λ (choice : List Bool). StaysOld m cut.placement held c.box_cell-p.result → slice_index_or choice i false ≡ false) c.as_slice-choice.ensures
           (c.leaves_old.ensures.0 c.if-not-leaves_old.false)));
     }
+
+pub returns-clause-hold : goal.returns-clause-hold
+returns-clause-hold c = λ sample i lt. c.loop-i.invariant.before i (omega (arith, c.cells-i-end.ensures, c.loop-i-test.false))

@@ -163,7 +163,7 @@ fn is_bounded(
 }
 
 // What a cell of the box has: its source before the placement, and its new one.
-#[derive(Clone, Copy, Debug, Drop)]
+#[derive(Clone, Copy, Drop)]
 struct Laid {
     old: Option<At>,
     new: At,

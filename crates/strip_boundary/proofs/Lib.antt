@@ -1,3 +1,4 @@
 pub mod SumLaws
+pub mod RowLaws
 pub mod PathLaws
 pub mod OneAnswer

@@ -15,6 +15,7 @@ pub mod FrontLaws
 pub mod ClipLaws
 pub mod OneClip
 pub mod Laying
+pub mod Rows
 pub mod Writes
 pub mod FormLaws
 pub mod LineAgain

@@ -1,22 +1,23 @@
 -- What all frames of a file leave the reader with.
 use Rattle.std.proofs.Common.{◌≡◌, ℕ, zero, suc, ◌≤◌, ◌<◌, ◌+◌, ◌-◌, ◌*◌, ◌/◌, ◌⊎◌, List, [], ◌∷◌, ◌++◌, length, drop, refl, sym, ap, ◌∙◌, subst, arith, Bool, true, false, cond}
-use Rattle.std.specs.Prelude.{Some, Result, Ok, Err, Vec, ◌==◌}
+use Rattle.std.specs.Prelude.{Some, Result, Ok, Err, IfOk, Vec, ◌==◌}
 use Rattle.std.specs.declared.alloc.Global.{Global}
 use Rattle.std.proofs.lemmas.List.{length-append}
 use Rattle.std.proofs.Math.Nat.{mul-suc, add-div_left}
-use Rattle.std.proofs.lemmas.Bool.{eqb-true}
-use Rattle.limits.specs.declared.bounds.TheConstants.{MOST_LINE_BYTES}
-use Rattle.shelf_core.specs.Files.{ShelfState, OnlyReads, content_of}
+use Rattle.std.proofs.lemmas.Bool.{eqb-true, eqb-false}
+use Rattle.limits.specs.declared.bounds.TheConstants.{GREATEST_AXIS, MOST_LINE_BYTES}
+use Rattle.shelf_core.specs.Files.{ShelfState, OnlyReads, ReadsRose, content_of}
 use Rattle.shelf_core.specs.declared.fault.ReadError.{ReadError}
 use Rattle.shelf_core.specs.declared.fault.ReadError.TheVariants.{ReadFault, Bad, Limit, NoMemory}
 use Rattle.shelf_core.specs.declared.fault.FormFault.TheVariants.{Form, Depth, Space, Cell, NoFrames, Sample, Trailing}
 use Rattle.shelf_core.specs.declared.fault.What.TheVariants.{Axis, Cells as CellsLimit, Header, Frames, Output, Loop, Records, Parts}
 use Rattle.y4m_clip.specs.declared.form.SpaceKind.{SpaceKind}
 use Rattle.y4m_clip.specs.declared.frames.Filled.{Filled}
+use Rattle.y4m_clip.specs.declared.head.Front.{Front}
 use Rattle.y4m_clip.specs.Spaces.{samples_of}
 use Rattle.y4m_clip.specs.Clips.{Frame, frames_text, frame_cells, plane_bytes, most_frames}
 use Rattle.y4m_clip.specs.Refusals.{FrameLineBreaks, PlanesBreak, FrameLineTooLong}
-use Rattle.y4m_clip.specs.Frames.{HasFrame, ReadsFrameAs, FramesSeen, PassesFrames, FramesAs, StandsIf, finished}
+use Rattle.y4m_clip.specs.Frames.{HasFrame, ReadsFrameAs, FramesSeen, PassesFrames, FramesAs, StandsIf, finished, IsFilledSoFar}
 use Rattle.shelf_core.proofs.Sees.{Sees, sees_then, sees_all, fault_later}
 use Rattle.y4m_clip.proofs.FramesLaws.{nothing_seen, one_more}
 use Rattle.y4m_clip.proofs.Joined.{length-frame_cells}
@@ -119,3 +120,19 @@ some_frames w h most some least fits =
     let split : w * h + (most - w * h) ≡ most = omega arith in
     let more : most / (w * h) ≡ (most - w * h) / (w * h) + 1 = ap (λ m. m / (w * h)) (sym split) ∙ add-div_left (most - w * h) {k = w * h} n in
     omega arith
+
+pub most_few : (w h most : ℕ) → most_frames w h most ≤ GREATEST_AXIS
+most_few w h most = omega arith
+
+-- the cells of the frames are as many as they have to be
+pub filled_end : (front : Front) (most count : ℕ) (bytes : Vec ℕ Global) (r : Result Filled ReadError) → r ≡ finished bytes count → count ≤ most_frames front.w front.h most
+    → length bytes.items ≡ samples_of front.form.space * front.w * front.h * count → IfOk r (IsFilledSoFar front most)
+filled_end front most count bytes r is few whole = subst (λ t. IfOk t (IsFilledSoFar front most)) (sym is) (tested (count == 0) refl)
+  where
+    tested : (t : Bool) → (count == 0) ≡ t → IfOk (cond t (Err (Bad NoFrames)) (Ok (record { bytes = bytes; count = count }))) (IsFilledSoFar front most)
+    tested true e = tt
+    tested false e = record { some = omega (arith, eqb-false count 0 e); few = few; whole = whole }
+
+-- the byte after the frames can't be looked at
+pub end_unread : {names : List (List ℕ)} (kind : SpaceKind) (w h start most : ℕ) (name : List ℕ) (e : ReadError) (a b c : ShelfState) → OnlyReads names a b → e ≡ ReadFault → ReadsRose name b c → FramesAs kind w h start most name a c (Err e)
+end_unread kind w h start most name e a b c first is rose = subst (λ error. FramesAs kind w h start most name a c (Err error)) (sym is) (fault_later name a b c first rose)

@@ -1,6 +1,9 @@
-use Rattle.std.proofs.Common.{◌≡◌, ◌*◌, length, arith, refl}
+use Rattle.std.proofs.Common.{◌≡◌, ◌*◌, ◌∙◌, ◌++◌, length, ap, arith, refl}
 use Rattle.std.proofs.lemmas.Result.{err_from_is_err_and}
+use Rattle.shelf_core.proofs.FileLaws.{only_reads_then}
 use Rattle.y4m_clip.specs.Spaces.{samples_of}
+use Rattle.y4m_clip.specs.Clips.{frame_cells}
+use Rattle.y4m_clip.proofs.FramesLaws.{want_small}
 use Rattle.y4m_clip.proofs.FrameSteps.{line_refused, planes_refused, frame_read}
 use Rattle.y4m_clip.proofs.frame.read_frame.Goals as goal
 
@@ -24,3 +27,40 @@ returns-clause-frame g c =
     let whole : length c.fill_planes.new.planes ≡ samples_of c.args.front.now.form.space * (c.args.front.now.w * c.args.front.now.h) = omega (arith, c.requires.planes) in
     frame_read c.args.front.now.form.space c.args.front.now.w c.args.front.now.h c.args.name.now c.args.at c.in-Some.length _ c.fill_planes.new.planes
     (g.S.Shelf.state c.args.shelf.now) (g.S.Shelf.state c.find_frame.new.shelf) (g.S.Shelf.state c.fill_planes.new.shelf) whole refl c.in_ok-length.ensures.reads c.in_ok-fill_planes.ensures.reads found c.in_ok-fill_planes.ensures.fills
+
+pub find_frame-requires : goal.find_frame-requires
+find_frame-requires g c = omega (arith, c.requires.at)
+
+pub overflow_add-start : goal.overflow_add-start
+overflow_add-start g c =
+    let short = rw c.in-Some.is at c.in_ok-length.ensures.short in
+    omega (arith, c.requires.at, short)
+
+pub fill_planes-requires : goal.fill_planes-requires
+fill_planes-requires g c =
+    let short = rw c.in-Some.is at c.in_ok-length.ensures.short in
+    let want = want_small c.args.front.now.form.space (c.args.front.now.w * c.args.front.now.h) c.requires.few in
+    omega (arith, c.requires.at, c.requires.planes, short, want)
+
+pub add_frame-requires-clause-planes : goal.add_frame-requires-clause-planes
+add_frame-requires-clause-planes g c = omega (arith, c.requires.planes)
+
+pub add_frame-requires-clause-few : goal.add_frame-requires-clause-few
+add_frame-requires-clause-few g c = c.requires.few
+
+pub overflow_add-result : goal.overflow_add-result
+overflow_add-result g c =
+    let short = rw c.in-Some.is at c.in_ok-length.ensures.short in
+    let want = want_small c.args.front.now.form.space (c.args.front.now.w * c.args.front.now.h) c.requires.few in
+    omega (arith, c.requires.at, c.requires.planes, short, want)
+
+pub returns-clause-cells : goal.returns-clause-cells
+returns-clause-cells g c = c.in_ok-add_frame.ensures {u = tt} ∙ ap (λ cells. cells ++ frame_cells c.args.front.now.form.space c.args.front.now.w c.args.front.now.h c.fill_planes.new.planes) c.make_room.ensures
+
+pub returns-clause-next : goal.returns-clause-next
+returns-clause-next g c =
+    let short = rw c.in-Some.is at c.in_ok-length.ensures.short in
+    omega (arith, short)
+
+pub returns-clause-reads : goal.returns-clause-reads
+returns-clause-reads g c = only_reads_then (g.S.Shelf.state c.args.shelf.now) (g.S.Shelf.state c.find_frame.new.shelf) (g.S.Shelf.state c.fill_planes.new.shelf) c.in_ok-length.ensures.reads c.in_ok-fill_planes.ensures.reads

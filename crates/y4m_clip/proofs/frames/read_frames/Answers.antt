@@ -2,11 +2,12 @@ use Rattle.std.proofs.Common.{◌≡◌, ◌≤◌, ◌<◌, ◌*◌, [], length
 use Rattle.std.proofs.lemmas.Result.{err_from_is_err_and}
 use Rattle.shelf_core.specs.Files.{content_of}
 use Rattle.shelf_core.proofs.FileLaws.{only_reads_same, only_reads_then}
+use Rattle.limits.specs.declared.bounds.TheConstants.{GREATEST_AXIS}
 use Rattle.y4m_clip.specs.Spaces.{samples_of}
 use Rattle.y4m_clip.specs.Frames.{PassesFrames, FramesSeen, StandsIf}
 use Rattle.shelf_core.proofs.Sees.{Sees}
 use Rattle.y4m_clip.proofs.FramesLaws.{want_small}
-use Rattle.y4m_clip.proofs.FramesEnd.{seen_none, seen_more, whole_more, frame_refused, frames_end, frames_full, frames_past, some_frames}
+use Rattle.y4m_clip.proofs.FramesEnd.{seen_none, seen_more, whole_more, frame_refused, frames_end, frames_full, frames_past, some_frames, most_few, filled_end, end_unread}
 use Rattle.y4m_clip.proofs.frames.read_frames.Goals as goal
 
 pub loop-count-init : goal.loop-count-init
@@ -73,3 +74,62 @@ returns-clause-filled g c =
       few = omega (arith, c.bound_of-bound.ensures);
       whole = subst (λ n. length c.loop-count.bytes.items ≡ samples_of c.args.front.now.form.space * c.args.front.now.w * c.args.front.now.h * n) (sym all) c.loop-count.invariant.whole;
     }
+
+pub overflow_mul-n : goal.overflow_mul-n
+overflow_mul-n g c = omega (arith, c.requires.cells, c.requires.most_fits)
+
+pub bound_of-bound-requires-clause-w : goal.bound_of-bound-requires-clause-w
+bound_of-bound-requires-clause-w g c = (c.requires.w_some, c.requires.w_fits)
+
+pub bound_of-bound-requires-clause-h : goal.bound_of-bound-requires-clause-h
+bound_of-bound-requires-clause-h g c = (c.requires.h_some, c.requires.h_fits)
+
+pub next_frame-requires-clause-at : goal.next_frame-requires-clause-at
+next_frame-requires-clause-at g c =
+    let few : c.bound_of-bound.result ≤ GREATEST_AXIS = subst (λ n. n ≤ GREATEST_AXIS) (sym c.bound_of-bound.ensures) (most_few c.args.front.now.w c.args.front.now.h c.args.most) in
+    omega (arith, few, c.loop-count-test.true, c.loop-count.invariant.place)
+
+pub next_frame-requires-clause-planes : goal.next_frame-requires-clause-planes
+next_frame-requires-clause-planes g c = c.loop-count.invariant.planes
+
+pub next_frame-requires-clause-few : goal.next_frame-requires-clause-few
+next_frame-requires-clause-few g c = omega (arith, c.requires.cells, c.requires.most_fits)
+
+pub past-requires-clause-cells : goal.past-requires-clause-cells
+past-requires-clause-cells g c = omega (arith, c.requires.cells, c.requires.most_fits)
+
+pub past-requires-clause-count : goal.past-requires-clause-count
+past-requires-clause-count g c = subst (λ n. n ≤ GREATEST_AXIS) (sym c.bound_of-bound.ensures) (most_few c.args.front.now.w c.args.front.now.h c.args.most)
+
+pub overflow_cast-count : goal.overflow_cast-count
+overflow_cast-count g c =
+    let few : c.bound_of-bound.result ≤ GREATEST_AXIS = subst (λ n. n ≤ GREATEST_AXIS) (sym c.bound_of-bound.ensures) (most_few c.args.front.now.w c.args.front.now.h c.args.most) in
+    omega (arith, few, c.loop-count-test.true)
+
+pub returns-in-None-clause-filled : goal.returns-in-None-clause-filled
+returns-in-None-clause-filled g c =
+    let cells = rw c.in-None.is at c.in_ok-next.ensures.cells in
+    filled_end c.args.front.now c.args.most c.loop-count.count c.next_frame.new.cells c.finish.result c.finish.ensures
+    (subst (λ n. c.loop-count.count ≤ n) c.bound_of-bound.ensures (omega (arith, c.loop-count-test.true))) (ap length cells ∙ c.loop-count.invariant.whole)
+
+pub returns-in_err-goes_on-clause-frames : goal.returns-in_err-goes_on-clause-frames
+returns-in_err-goes_on-clause-frames g c =
+    let p = err_from_is_err_and c.from_residual-in_err-goes_on.result c.from_residual-in_err-goes_on.ensures.1 in
+    rw (p.1, p.2)
+    (end_unread c.args.front.now.form.space c.args.front.now.w c.args.front.now.h c.args.front.now.start c.args.most c.args.name.now c.in_err-goes_on.field-0.0
+    (g.S.Shelf.state c.args.shelf.now) (g.S.Shelf.state c.loop-count.shelf) (g.S.Shelf.state c.goes_on.new.shelf) c.loop-count.invariant.reads c.in_err-goes_on.ensures.failed.0 c.in_err-goes_on.ensures.failed.1)
+
+pub returns-in-None-clause-reads : goal.returns-in-None-clause-reads
+returns-in-None-clause-reads g c = only_reads_then (g.S.Shelf.state c.args.shelf.now) (g.S.Shelf.state c.loop-count.shelf) (g.S.Shelf.state c.next_frame.new.shelf) c.loop-count.invariant.reads c.in_ok-next.ensures.reads
+
+pub returns-in_err-next-clause-reads : goal.returns-in_err-next-clause-reads
+returns-in_err-next-clause-reads g c = only_reads_then (g.S.Shelf.state c.args.shelf.now) (g.S.Shelf.state c.loop-count.shelf) (g.S.Shelf.state c.next_frame.new.shelf) c.loop-count.invariant.reads c.in_err-next.ensures.reads
+
+pub returns-clause-reads : goal.returns-clause-reads
+returns-clause-reads g c = only_reads_then (g.S.Shelf.state c.args.shelf.now) (g.S.Shelf.state c.loop-count.shelf) (g.S.Shelf.state c.goes_on.new.shelf) c.loop-count.invariant.reads c.in_ok-goes_on.ensures.reads
+
+pub returns-then-branch-clause-reads : goal.returns-then-branch-clause-reads
+returns-then-branch-clause-reads g c = only_reads_then (g.S.Shelf.state c.args.shelf.now) (g.S.Shelf.state c.loop-count.shelf) (g.S.Shelf.state c.goes_on.new.shelf) c.loop-count.invariant.reads c.in_ok-goes_on.ensures.reads
+
+pub returns-in_err-goes_on-clause-reads : goal.returns-in_err-goes_on-clause-reads
+returns-in_err-goes_on-clause-reads g c = only_reads_then (g.S.Shelf.state c.args.shelf.now) (g.S.Shelf.state c.loop-count.shelf) (g.S.Shelf.state c.goes_on.new.shelf) c.loop-count.invariant.reads c.in_err-goes_on.ensures.reads

@@ -4,6 +4,8 @@ pub mod Accepts
 pub mod Shapes
 pub mod Headers
 pub mod RasterLaws
+pub mod Pieces
+pub mod Rasters
 pub mod HeaderLaws
 pub mod PictureLaws
 pub mod OneReading

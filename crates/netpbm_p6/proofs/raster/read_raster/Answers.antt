@@ -1,0 +1,41 @@
+use Rattle.std.proofs.Common.{◌≡◌, ◌≤◌, ◌*◌, length, sym, ap, ◌∙◌, subst, arith}
+use Rattle.std.specs.Prelude.{All}
+use Rattle.std.specs.Vec.{with_items}
+use Rattle.std.proofs.lemmas.List.{with_items_is}
+use Rattle.std.proofs.lemmas.Result.{err_from_is_err_and}
+use Rattle.cells.specs.Places.{cell_count}
+use Rattle.cells.specs.Cells.{Cells, volume_of}
+use Rattle.netpbm_p6.proofs.Rasters.{fill_refused, stop_refused, raster_read}
+use Rattle.netpbm_p6.proofs.raster.read_raster.Goals as goal
+
+pub returns-in_err-fill-clause-raster : goal.returns-in_err-fill-clause-raster
+returns-in_err-fill-clause-raster g c =
+    let p = err_from_is_err_and c.from_residual-in_err-fill.result c.from_residual-in_err-fill.ensures.1 in
+    let whole : length c.fill.new.raster ≡ 3 * cell_count c.args.size = omega (arith, c.in_ok-raster.ensures {u = tt}) in
+    rw (p.1, p.2)
+    (fill_refused c.args.name.now c.args.start c.args.maxval c.args.size c.fill.new.raster c.in_err-fill.field-0.0 (g.S.Shelf.state c.args.shelf.now) (g.S.Shelf.state c.fill.new.shelf) whole c.in_err-fill.ensures.fills)
+
+pub returns-in_err-stop-clause-raster : goal.returns-in_err-stop-clause-raster
+returns-in_err-stop-clause-raster g c =
+    let p = err_from_is_err_and c.from_residual-in_err-stop.result c.from_residual-in_err-stop.ensures.1 in
+    let whole : length c.fill.new.raster ≡ 3 * cell_count c.args.size = omega (arith, c.in_ok-raster.ensures {u = tt}) in
+    rw (p.1, p.2)
+    (stop_refused c.args.name.now c.args.start c.args.maxval _ c.args.size c.fill.new.raster c.in_err-stop.field-0.0 (g.S.Shelf.state c.args.shelf.now) (g.S.Shelf.state c.fill.new.shelf) (g.S.Shelf.state c.stop.new.shelf)
+    whole (omega (arith, whole, c.in_ok-raster.ensures {u = tt})) c.in_ok-fill.ensures.reads c.in_err-stop.ensures.reads c.in_ok-fill.ensures.fills c.in_err-stop.ensures.stops)
+
+pub returns-clause-raster : goal.returns-clause-raster
+returns-clause-raster g c =
+    let whole : length c.fill.new.raster ≡ 3 * cell_count c.args.size = omega (arith, c.in_ok-raster.ensures {u = tt}) in
+    let made : c.from_bytes.result ≡ volume_of c.args.size 3 c.fill.new.raster = c.from_bytes.ensures.volume ∙ ap (volume_of c.args.size 3) (with_items_is c.in_ok-raster.raster c.fill.new.raster (omega arith)) in
+    raster_read c.args.name.now c.args.start c.args.maxval _ c.args.size c.fill.new.raster c.from_bytes.result (g.S.Shelf.state c.args.shelf.now) (g.S.Shelf.state c.fill.new.shelf) (g.S.Shelf.state c.stop.new.shelf)
+    whole (omega (arith, whole, c.in_ok-raster.ensures {u = tt})) made c.in_ok-fill.ensures.reads c.in_ok-stop.ensures.reads c.in_ok-fill.ensures.fills c.in_ok-stop.ensures.stops
+
+pub returns-clause-made : goal.returns-clause-made
+returns-clause-made g c =
+    let items = with_items_is c.in_ok-raster.raster c.fill.new.raster (omega arith) in
+    record {
+      size_is = ap (λ (v : Cells). v.size) c.from_bytes.ensures.volume;
+      one = ap (λ (v : Cells). v.more) c.from_bytes.ensures.volume;
+      colours = ap (λ (v : Cells). v.k) c.from_bytes.ensures.volume;
+      samples = subst (All (λ b. b ≤ c.args.maxval)) (sym (c.from_bytes.ensures.bytes ∙ items)) c.in_ok-fill.ensures.samples;
+    }

@@ -1,4 +1,5 @@
 pub mod FieldLaws
+pub mod SourceLists
 pub mod HeadWriting
 pub mod PartLaws
 pub mod MapWriting

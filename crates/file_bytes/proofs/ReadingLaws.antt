@@ -1,5 +1,5 @@
 -- Laws of a file that is being read.
-use Rattle.std.proofs.Common.{◌≡◌, ℕ, ◌+◌, ◌-◌, ◌*◌, ◌≤◌, ◌<◌, List, [], ◌∷◌, ◌++◌, length, take, drop, min, refl, sym, ap, ◌∙◌, subst, arith, add_assoc}
+use Rattle.std.proofs.Common.{◌≡◌, ℕ, ◌+◌, ◌-◌, ◌*◌, ◌≤◌, ◌<◌, List, [], ◌∷◌, ◌++◌, length, take, drop, min, ◌/◌, refl, sym, ap, ◌∙◌, subst, arith}
 use Rattle.std.proofs.lemmas.List.{drop-take, drop-drop, length-append, length-take, length-take-le, length-drop, take-take, take_at, append-nil}
 use Rattle.std.proofs.lemmas.List.Concat.{flat_map-append}
 use Rattle.std.proofs.Math.Nat.{mul-add, mul-one}
@@ -7,14 +7,13 @@ use Rattle.std.specs.List.{flat_map}
 use Rattle.std.proofs.Math.Seq.{take-add, take-append-add}
 use Rattle.std.proofs.lemmas.Slice.{take-put_mid}
 use borrow.Rule.Slice.PartMut.{put_mid}
-use Rattle.std.specs.Prelude.{Option, Some, None}
-use Rattle.shelf_core.specs.Files.{Files, ShelfState, OnlyReads, Told, Rose, content_of}
-use Rattle.shelf_core.specs.declared.fault.FormFault.{FormFault}
+use Rattle.std.specs.Prelude.{Option, Some, None, max}
+use Rattle.shelf_core.specs.Files.{Files, ShelfState, OnlyReads, Told, content_of}
 use Rattle.shelf_core.specs.declared.fault.FormFault.TheVariants.{Form, Depth, Space, Cell, NoFrames, Sample, Trailing}
 use Rattle.shelf_core.specs.declared.fault.ReadError.{ReadError}
 use Rattle.shelf_core.specs.declared.fault.ReadError.TheVariants.{ReadFault, Bad, Limit, NoMemory}
 use Rattle.shelf_core.proofs.FileLaws.{rose_later}
-use Rattle.file_bytes.specs.Reading.{Reading, OfFile, IsAhead, Follows, StandsAt, Took, StopsShort, after_serving}
+use Rattle.file_bytes.specs.Reading.{Reading, OfFile, IsAhead, Follows, StandsAt, Took, StopsShort, StopsInList, after_serving}
 
 -- how many bytes wait
 pub waiting_count : (start end : ℕ) (buffer : List ℕ) → end ≤ length buffer → length (take (end - start) (drop start buffer)) ≡ end - start
@@ -153,3 +152,22 @@ took_number name field at numbers n a b r r' reads first second =
 -- the place after one field more
 pub one_wider : (width i : ℕ) → width * (i + 1) ≡ width * i + width
 one_wider width i = mul-add width i 1 ∙ ap (λ k. width * i + k) (mul-one width)
+
+-- the fields of a list end after each of them
+pub field_within : (width i count : ℕ) → i < count → width * i + width ≤ width * count
+field_within width i count lt =
+    let rest : count ≡ (i + 1) + (count - (i + 1)) = omega arith in
+    let whole : width * count ≡ width * (i + 1) + width * (count - (i + 1)) = ap (λ k. width * k) rest ∙ mul-add width (i + 1) (count - (i + 1)) in
+    omega (arith, whole, one_wider width i)
+
+-- a refusal of one number is one of the list
+pub stops_list : (name : List ℕ) (end : ℕ) (was now : ShelfState) (error : ReadError) → StopsShort name end was now error → StopsInList name end was now error
+stops_list name end was now ReadFault stops = stops
+stops_list name end was now (Bad fault) stops = stops
+stops_list name end was now (Limit what number bound) stops = absurd stops
+stops_list name end was now NoMemory stops = absurd stops
+
+-- a list has room for one more after room was made for some that are missing
+pub room_made : (len len' capacity capacity' missing : ℕ) → len' ≡ len → (len < capacity → capacity' ≡ capacity)
+    → (capacity ≤ len → capacity' ≡ len + min (max (len / 8) 1024) missing) → 0 < missing → len' < capacity'
+room_made len len' capacity capacity' missing same kept grown some = grind arith

@@ -9,7 +9,7 @@ use Rattle.shelf_core.specs.Files.{ShelfState, Changes, OnlyWritesFile, Rose, Gr
 use Rattle.shelf_core.specs.Written.{HoldsText, HoldsPart}
 use Rattle.shelf_core.proofs.FileLaws.{only_writes_then, rose_later}
 use Rattle.shelf_core.proofs.WrittenLaws.{shelf_added, shelf_added_part}
-use Rattle.file_bytes.specs.Writing.{HasPut, IsBehind, IsBroken, Pending, Puts, pending}
+use Rattle.file_bytes.specs.Writing.{HasPut, IsBroken, Pending, Puts, pending}
 use mathlib.Core.Bool.{false≢true}
 
 -- a broken file stays so, however the text goes on

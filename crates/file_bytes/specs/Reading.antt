@@ -1,6 +1,6 @@
 -- A reader has to trust this file. A file that is being read, in the words of contracts: how far it
 -- was read, and what is there. (Own.)
-use Rattle.std.specs.Prelude.{◌≡◌, ◌≤◌, ◌<◌, ◌+◌, ◌*◌, ℕ, List, length, take, drop, Bool, true, Option, Some, None, Result, Ok, Err}
+use Rattle.std.specs.Prelude.{◌≡◌, ◌≤◌, ◌<◌, ◌+◌, ℕ, List, length, take, drop, Bool, true, Option, Some, None, Result, Ok, Err}
 use Rattle.shelf_core.specs.Files.{Files, ShelfState, ReadsRose, content_of}
 use Rattle.shelf_core.specs.declared.fault.FormFault.TheVariants.{Form}
 use Rattle.shelf_core.specs.declared.fault.ReadError.{ReadError}

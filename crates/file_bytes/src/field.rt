@@ -42,6 +42,7 @@ impl Field for u16 {
         u16::from_be_bytes([bytes[0], bytes[1]])
     }
 
+    #[inline(always)]
     fn fill(self, bytes: &mut [u8]) {
         bytes.copy_from_slice(&self.to_be_bytes());
     }
@@ -62,6 +63,7 @@ impl Field for u32 {
         u32::from_be_bytes([bytes[0], bytes[1], bytes[2], bytes[3]])
     }
 
+    #[inline(always)]
     fn fill(self, bytes: &mut [u8]) {
         bytes.copy_from_slice(&self.to_be_bytes());
     }
@@ -84,6 +86,7 @@ impl Field for u64 {
         ])
     }
 
+    #[inline(always)]
     fn fill(self, bytes: &mut [u8]) {
         bytes.copy_from_slice(&self.to_be_bytes());
     }

@@ -187,6 +187,7 @@ impl FileReader {
 
     /// Reads as many bytes as the buffer has. Where the file ends before, it answers `Form` at the
     /// file's length.
+    #[inline(always)]
     pub fn take<S: Shelf>(
         &mut self,
         into: &mut [u8],
@@ -273,9 +274,7 @@ impl FileReader {
         for i in 0..count {
             make_room(&mut numbers, count - i)?;
             let number = self.number(shelf, name)?;
-            let Ok(()) = numbers.push(number) else {
-                return Err(ReadError::NoMemory);
-            };
+            numbers.push_reserved(number);
         }
         Ok(numbers)
     }

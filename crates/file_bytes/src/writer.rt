@@ -1,5 +1,5 @@
 // Writing a file through one buffer.
-ghost use Rattle.std.specs.Prelude.{◌≡◌, ◌≤◌, ◌<◌, ◌+◌, ◌++◌, [], ◌∷◌, List, ℕ, ◌⊎◌, length, take, drop, OnOk, OnErr};
+ghost use Rattle.std.specs.Prelude.{◌≡◌, ◌≤◌, ◌<◌, ◌+◌, ◌++◌, [], ◌∷◌, List, ℕ, length, take, drop, OnOk, OnErr};
 ghost use Rattle.std.specs.List.{flat_map};
 ghost use Rattle.shelf_core.specs.Files.{ShelfState, Changes, OnlyWritesFile, Rose};
 ghost use Rattle.shelf_core.specs.Written.{HoldsText, HoldsPart};
@@ -94,17 +94,23 @@ impl FileWriter {
         requires { length self.old.waiting + length piece.now ≤ ROOM }
         ensures { self.new ≡ pending (self.old.waiting ++ piece.now) self.old.failed }
     {
+        // Added up first, so that the length isn't loaded again after the bytes are written.
+        let end = self.len + piece.len();
         put_at(&mut self.buffer, self.len, piece);
-        self.len += piece.len();
+        self.len = end;
     }
 
-    // Makes room for so many bytes, where what waits leaves too little.
-    fn make_room<S: Shelf>(&mut self, n: usize, shelf: &mut S, name: &str)
-        ensures put { Keeps name.now (S.state shelf.old) (S.state shelf.new) self.old self.new }
-        ensures room { (length self.new.waiting + n ≤ ROOM) ⊎ (self.new.waiting ≡ []) }
+    // Puts a piece for which what waits leaves too little room.
+    #[inline(never)]
+    fn put_past<S: Shelf>(&mut self, piece: &[u8], shelf: &mut S, name: &str)
+        ensures { Puts name.now piece.now (S.state shelf.old)
+            (S.state shelf.new) self.old self.new }
     {
-        if n > ROOM - self.len {
-            self.flush(shelf, name);
+        self.flush(shelf, name);
+        if piece.len() <= ROOM {
+            self.keep(piece);
+        } else {
+            self.send(piece, shelf, name);
         }
     }
 
@@ -113,12 +119,23 @@ impl FileWriter {
         ensures { Puts name.now piece.now (S.state shelf.old)
             (S.state shelf.new) self.old self.new }
     {
-        self.make_room(piece.len(), shelf, name);
+        // Most pieces are short and find room.
         if piece.len() <= ROOM - self.len {
             self.keep(piece);
         } else {
-            self.send(piece, shelf, name);
+            self.put_past(piece, shelf, name);
         }
+    }
+
+    // Puts a number for which what waits leaves too little room.
+    #[inline(never)]
+    fn put_number_past<T: Field, S: Shelf>(&mut self, number: T, shelf: &mut S, name: &str)
+        ensures { Puts name.now (T.field number) (S.state shelf.old) (S.state shelf.new)
+            self.old self.new }
+    {
+        let mut field = [0; 8];
+        number.fill(&mut field[..T::WIDTH]);
+        self.put_past(&field[..T::WIDTH], shelf, name);
     }
 
     /// Puts a number as 2, 4 or 8 bytes.
@@ -126,9 +143,14 @@ impl FileWriter {
         ensures { Puts name.now (T.field number) (S.state shelf.old) (S.state shelf.new)
             self.old self.new }
     {
-        let mut field = [0; 8];
-        number.fill(&mut field[..T::WIDTH]);
-        self.put(&field[..T::WIDTH], shelf, name);
+        // The rare case has a field of its own, so that this one needs no memory.
+        if T::WIDTH <= ROOM - self.len {
+            let mut field = [0; 8];
+            number.fill(&mut field[..T::WIDTH]);
+            self.keep(&field[..T::WIDTH]);
+        } else {
+            self.put_number_past(number, shelf, name);
+        }
     }
 
     /// Puts numbers, one after another, each as [`FileWriter::put_number`] does.

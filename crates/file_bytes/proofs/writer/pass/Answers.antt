@@ -1,5 +1,4 @@
-use Rattle.std.proofs.Common.{◌≡◌, List, ℕ, subst, sym}
-use Rattle.std.specs.Prelude.{Bool, true, false}
+use Rattle.std.proofs.Common.{subst}
 use Rattle.file_bytes.specs.Writing.{HasPut, pending}
 use Rattle.file_bytes.proofs.WritingLaws.{passes, stops}
 use Rattle.file_bytes.proofs.writer.pass.Goals as goal

@@ -1,5 +1,4 @@
-use Rattle.std.proofs.Common.{◌+◌, ◌-◌, ◌++◌, ◌≤◌, length, take, subst, sym, arith}
-use Rattle.std.proofs.lemmas.List.{length-append}
+use Rattle.std.proofs.Common.{◌-◌, ◌≤◌, length, take, subst, sym, arith}
 use Rattle.file_bytes.specs.Reading.{Took}
 use Rattle.shelf_core.proofs.FileLaws.{only_reads_then}
 use Rattle.file_bytes.proofs.ReadingLaws.{filled_more, filled_within, took_along}

@@ -1,4 +1,4 @@
-use Rattle.std.proofs.Common.{◌≡◌, ◌≤◌, ◌+◌, ◌-◌, drop, ap, ◌∙◌, arith}
+use Rattle.std.proofs.Common.{◌≤◌, ◌+◌, ◌-◌, drop, ap, ◌∙◌, arith}
 use Rattle.file_bytes.specs.Reading.{Reading}
 use Rattle.file_bytes.proofs.ReadingLaws.{left_waits}
 use Rattle.file_bytes.proofs.reader.FileReader.serve.Goals as goal

@@ -1,6 +1,5 @@
-use Rattle.std.proofs.Common.{◌≡◌, List, ℕ, [], ◌++◌, take, ap, sym, ◌∙◌, subst}
-use Rattle.std.specs.Prelude.{Bool}
-use Rattle.file_bytes.specs.Writing.{HasPut, Pending, pending}
+use Rattle.std.proofs.Common.{◌≡◌, [], ◌++◌, take, sym, ◌∙◌, subst}
+use Rattle.file_bytes.specs.Writing.{HasPut, pending}
 use Rattle.file_bytes.proofs.WritingLaws.{more_waits}
 use Rattle.file_bytes.proofs.writer.FileWriter.send.Goals as goal
 

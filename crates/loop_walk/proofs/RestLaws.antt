@@ -15,6 +15,10 @@ use Rattle.loop_walk.proofs.ProductLaws.{get_or-put_before, get_or-put_inside}
 pub get_or-row : (table : List ℕ) (a n k : ℕ) → k < n → get_or (take (a + n - a) (drop a table)) k 0 ≡ get_or table (a + k) 0
 get_or-row table a n k lt = get_or-take (a + n - a) (drop a table) k 0 (omega arith) ∙ get_or-drop a table k 0
 
+-- a row of a table ends within it
+pub row_within : (n v : ℕ) → v < n → v * n + n ≤ n * n
+row_within n v lt = omega (arith, mul-le-mul_right n (let le : v + 1 ≤ n = omega arith in le))
+
 -- the rests of one more row of a table
 pub rests_row_more : (n v : ℕ) (nears bases rests row : List ℕ) → v < n → length rests ≡ n * n → length row ≡ n
     → ((u j : ℕ) → u < v → j < n → get_or rests (u * n + j) 0 ≡ rest_of (get_or bases u 0) (get_or nears (u * n + j) 0))

@@ -1,5 +1,5 @@
 -- Lists with a value for each pair, as they grow.
-use Rattle.std.proofs.Common.{◌≡◌, ℕ, ◌+◌, List, [], ◌∷◌, ◌++◌, length, sym, ap, ◌∙◌, subst, arith, ⊎_elim}
+use Rattle.std.proofs.Common.{◌≡◌, ℕ, ◌+◌, ◌<◌, List, [], ◌∷◌, ◌++◌, length, sym, ap, ◌∙◌, subst, arith, ⊎_elim}
 use Rattle.std.proofs.lemmas.Bool.{cases_lt}
 use Rattle.cells.specs.declared.place.Size.{Size}
 use Rattle.cells.specs.declared.place.Axis.{Axis}
@@ -7,8 +7,8 @@ use Rattle.boxes.proofs.PairNumbers.{SamePair, number_apart}
 use Rattle.boxes.specs.Pairs.{pair_number, IsPair}
 use Rattle.cut_graph.specs.declared.numbering.Numbering.{Numbering}
 use Rattle.cut_graph.specs.Building.{AreSeamNodes, Gives, IsSeamNode, are_filled}
-use Rattle.cut_graph.specs.Numberings.{AtPairs}
-use Rattle.cut_graph.proofs.Numbers.{get-end, get-left, length-end}
+use Rattle.cut_graph.specs.Numberings.{AtPairs, IsNumbering}
+use Rattle.cut_graph.proofs.Numbers.{get-end, get-left, length-end, numbering_none}
 
 pub at_none : (size : Size) (IsGood : Axis → ℕ → ℕ → ℕ → ℕ → Type 0) (values : List ℕ) → values ≡ [] → AtPairs size IsGood values
 at_none size IsGood values none = subst (AtPairs size IsGood) (sym none) (record { each = λ axis x y f is lt. absurd (omega arith) })
@@ -29,6 +29,14 @@ at_more size IsGood axis x y f v values is count good at = record {
       subst (IsGood other a b c) (sym (get-end values v (pair_number size other a b c) last))
       (of_same IsGood other axis a b c x y f v (number_apart size other axis a b c x y f is' is (last ∙ count)) good))
       (cases_lt (pair_number size other a b c) (length values));
+}
+
+-- no node yet
+pub no_seams : (cells : List ℕ) (size : Size) (first : ℕ) (seams : Numbering) → 0 < first → seams.nodes.items ≡ [] → seams.next ≡ first → AreSeamNodes cells size first 0 seams
+no_seams cells size first seams some none next = record {
+  count = ap length none;
+  numbering = subst (λ n. IsNumbering first n seams.nodes.items) (sym next) (numbering_none first seams.nodes.items some none);
+  each = at_none size (λ axis x y f. IsSeamNode first (are_filled cells size axis x y f)) seams.nodes.items none;
 }
 
 -- the nodes of one pair more

@@ -10,17 +10,19 @@ use Rattle.cells.specs.declared.place.Axis.{Axis}
 use Rattle.cells.specs.declared.place.Axis.TheVariants.{X, Y, F}
 use Rattle.cells.specs.declared.place.Box3.{Box3}
 use Rattle.cells.specs.declared.place.Size.{Size}
-use Rattle.cells.specs.Boxes.{IsInBox, cell_in}
+use Rattle.cells.specs.Boxes.{HoldsBox, IsInBox, cell_in}
 use Rattle.cells.specs.Distances.{distance}
 use Rattle.cells.specs.Neighbours.{unit_step}
 use Rattle.cells.specs.Places.{IsSmall, cell_count, plus, raster_index}
 use Rattle.map_canvas.specs.Choices.{new_source}
 use Rattle.map_canvas.specs.Maps.{map_at}
 use Rattle.cells.proofs.BoxLaws.{box_small}
+use Rattle.max_flow.specs.Networks.{empty_network}
 use Rattle.max_flow.specs.declared.network.Pipe.{Pipe}
 use Rattle.boxes.proofs.PairNumbers.{number_below, pairs_next}
 use Rattle.boxes.proofs.Indices.{at_counts}
-use Rattle.boxes.specs.Raster.{stride}
+use Rattle.boxes.specs.Raster.{largest, stride}
+use Rattle.costs.proofs.Near.{in_largest}
 use Rattle.boxes.specs.Pairs.{AreCounts, at_index, has_next, one_if, pair_count, pair_number, pairs_before, IsPair}
 use Rattle.cut_graph.specs.declared.piping.Piping.{Piping}
 use Rattle.cut_graph.specs.declared.plan.PairCell.{PairCell}
@@ -30,12 +32,31 @@ use Rattle.cut_graph.specs.Numberings.{AtPairs}
 use Rattle.cut_graph.specs.Building.{HasAllPipes}
 use Rattle.cut_graph.specs.Pipes.{first_or_none, first_pipe, joined, next_node, pair_pipes, pipes_between, pipes_from}
 use Rattle.cut_graph.specs.Plans.{IsCellAt, IsFirst, IsPiped, IsPipedPast, IsPipedTo, IsPlan, along, before, pipes_of_pair, places_of, up_to, with_pipes}
-use Rattle.cut_graph.proofs.AtPairs.{at_more}
+use Rattle.cut_graph.proofs.AtPairs.{at_more, at_none}
 use Rattle.cut_graph.proofs.Numbered.{in_box}
 use Rattle.cut_graph.proofs.Numbers.{length-end}
 
 pub plan_small : (plan : Plan) → IsPlan plan → IsSmall plan.placement.rect.size
 plan_small plan is = box_small plan.map.now.size plan.placement.rect.corner plan.placement.rect.size is.over.small is.fits.some is.fits.inside
+
+-- its box lies in the largest output
+pub plan_inside : (plan : Plan) → IsPlan plan → HoldsBox largest plan.placement.rect.corner plan.placement.rect.size
+plan_inside plan is = in_largest plan.map.now.size plan.placement.rect.corner plan.placement.rect.size is.over.small is.fits.inside
+
+-- no pipe yet
+pub none_piped : (plan : Plan) (nodes pairs : ℕ) (piping : Piping) → IsPlan plan → pairs ≡ length plan.seams.now → piping.network ≡ empty_network nodes 0 1 (3 * pairs) → piping.count ≡ 0
+    → piping.first.items ≡ [] → IsPiped plan nodes (before plan 0) 0 piping
+none_piped plan nodes pairs piping is same network count first = record {
+  size = ap (λ n. n.nodes) network;
+  source = ap (λ n. n.source) network;
+  sink = ap (λ n. n.sink) network;
+  pipes = ap (λ n. n.pipes) network;
+  room = omega (arith, ap (λ n. n.spare) network, same, is.seams_count);
+  total = count;
+  few = omega arith;
+  number = ap length first;
+  firsts = at_none plan.placement.rect.size (IsFirst plan) piping.first.items first;
+}
 
 -- a step by steps on two axes or three
 next_along : (z : ℤ) (n : ℕ) → z +ℤ pos (n + 1) ≡ (z +ℤ pos n) +ℤ pos 1

@@ -1,5 +1,5 @@
 -- Nodes given to cells: each with one more.
-use Rattle.std.proofs.Common.{◌≡◌, ℕ, ◌+◌, ◌<◌, List, length, get_or, refl, sym, ap, ◌∙◌, subst, arith, Bool, false, ⊎_elim}
+use Rattle.std.proofs.Common.{◌≡◌, ℕ, ◌+◌, ◌<◌, List, length, get_or, [], refl, sym, ap, ◌∙◌, subst, arith, Bool, false, ⊎_elim}
 use Rattle.std.proofs.lemmas.Bool.{cases_lt}
 use Rattle.std.specs.Prelude.{Some, IsSome, unwrap_or, option_map, slice_index_or}
 use Rattle.cells.specs.Places.{index_in, minus, spot, raster_index}
@@ -17,7 +17,7 @@ use Rattle.cut_graph.specs.declared.cell_nodes.Standing.{Standing}
 use Rattle.cut_graph.specs.declared.numbering.Numbering.{Numbering}
 use Rattle.cut_graph.specs.Building.{Adds, AreCellNodes, Gives, IsCellNode, IsNodeOf, IsStanding}
 use Rattle.cut_graph.specs.Numberings.{IsNumbering}
-use Rattle.cut_graph.proofs.Numbers.{get-end, get-left, length-end, numbering_end, numbering_own}
+use Rattle.cut_graph.proofs.Numbers.{get-end, get-left, length-end, numbering_end, numbering_none, numbering_own}
 
 -- one node more that others have too
 pub gives_end : (IsOne : ℕ → Type 0) (from node : ℕ) (was now : Numbering) → IsNumbering from was.next was.nodes.items → node < from → IsOne node → Adds node was.next was now → Gives IsOne from was now
@@ -48,6 +48,14 @@ in_box rect x y f at = subst IsSome (sym (index_in_box rect x y f at)) refl
 pub held_by_index : (placement : Placement) (held : List Bool) (x y f : ℕ) → AreCounts placement.rect.size x y f
     → is_held placement held (cell_in placement.rect x y f) ≡ slice_index_or held (raster_index placement.rect.size x y f) false
 held_by_index placement held x y f at = ap (λ o. unwrap_or (option_map (λ i. slice_index_or held i false) o) false) (index_in_box placement.rect x y f at)
+
+-- no cell yet
+pub no_cells : (m : SourceMap) (placement : Placement) (held : List Bool) (cells : Numbering) → cells.nodes.items ≡ [] → cells.next ≡ 2 → AreCellNodes m placement held 0 cells
+no_cells m placement held cells none next = record {
+  count = ap length none;
+  numbering = subst (λ n. IsNumbering 2 n cells.nodes.items) (sym next) (numbering_none 2 cells.nodes.items (omega arith) none);
+  each = λ i lt. absurd (omega arith);
+}
 
 -- the nodes of one cell more
 pub more_cells : (m : SourceMap) (placement : Placement) (held : List Bool) (x y f i : ℕ) (standing : Standing) (was now : Numbering)

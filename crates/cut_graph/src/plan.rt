@@ -26,7 +26,6 @@ pub(crate) struct PairCell {
 
 impl Plan<'_> {
     // The cell at a place and at an index of the box.
-    #[tactic(auto, using(crate::proofs::PlanCells::cell_fits))]
     pub(crate) fn cell(&self, p: At, i: usize) -> PairCell
         requires plan { IsPlan self.now }
         requires inside { IsInBox self.now.placement.rect p }

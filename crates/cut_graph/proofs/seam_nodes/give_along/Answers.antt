@@ -1,11 +1,22 @@
-use Rattle.std.proofs.Common.{◌≡◌, ◌+◌, true, sym, ap, ◌∙◌, subst, arith}
+use Rattle.std.proofs.Common.{◌≡◌, ◌+◌, true, false, sym, ap, ◌∙◌, subst, arith}
 use Rattle.std.specs.Prelude.{OnOk}
 use Rattle.std.proofs.lemmas.Result.{on_ok_weaker}
-use Rattle.boxes.proofs.Indices.{stride_below}
+use Rattle.boxes.proofs.Indices.{index_below, stride_below}
 use Rattle.boxes.specs.Pairs.{has_next, one_if, pair_number, IsPair}
 use Rattle.cut_graph.specs.Building.{AreSeamNodes, Gives, IsSeamNode, are_filled, both_filled}
 use Rattle.cut_graph.proofs.AtPairs.{more_seams}
 use Rattle.cut_graph.proofs.seam_nodes.give_along.Goals as goal
+
+pub overflow_add-i : goal.overflow_add-i
+overflow_add-i c =
+    let at = c.args.at in
+    let is : IsPair c.args.size c.args.axis at.x at.y at.f = record { counts = c.requires.counts; next = sym c.has_next.ensures ∙ c.if-has_next.true } in
+    omega (arith, stride_below c.args.size c.args.axis at.x at.y at.f is, c.requires.index, c.stride.ensures, c.requires.small.cells)
+
+pub are_filled-requires-clause-first : goal.are_filled-requires-clause-first
+are_filled-requires-clause-first c =
+    let at = c.args.at in
+    omega (arith, index_below c.args.size at.x at.y at.f c.requires.counts, c.requires.index, c.requires.cells)
 
 pub are_filled-requires-clause-second : goal.are_filled-requires-clause-second
 are_filled-requires-clause-second c =
@@ -28,3 +39,12 @@ returns-then-has_next-clause-seams c first some was =
     let gives = subst (λ b. OnOk result (Gives (IsSeamNode first b) first c.args.seams.now seams)) filled (c.give.ensures.seams first some was.numbering) in
     let more = on_ok_weaker result (more_seams cells size first axis at.x at.y at.f c.args.seams.now seams is was) gives in
     subst (λ n. OnOk result (AreSeamNodes cells size first (pair_number size axis at.x at.y at.f + n) seams)) (sym (ap one_if next)) more
+
+pub returns-else-has_next-clause-seams : goal.returns-else-has_next-clause-seams
+returns-else-has_next-clause-seams c first some was =
+    let at = c.args.at in
+    let size = c.args.size in
+    let axis = c.args.axis in
+    let none : has_next size axis at.x at.y at.f ≡ false = sym c.has_next.ensures ∙ c.if-has_next.false in
+    let number : pair_number size axis at.x at.y at.f ≡ pair_number size axis at.x at.y at.f + one_if (has_next size axis at.x at.y at.f) = omega (arith, ap one_if none) in
+    subst (λ n. AreSeamNodes c.args.cells.now size first n c.args.seams.now) number was

@@ -2,19 +2,37 @@ use Rattle.std.proofs.Common.{◌≡◌, ℕ, ◌+◌, ◌<◌, [], ◌∷◌, �
 use Rattle.std.specs.Prelude.{slice_index}
 use Rattle.cells.specs.Boxes.{IsInBox, cell_in}
 use Rattle.cells.specs.Neighbours.{unit_step}
-use Rattle.cells.specs.Places.{cell_count, plus}
+use Rattle.cells.specs.declared.place.At.{At}
+use Rattle.cells.specs.Places.{SumFits, cell_count, plus}
 use Rattle.boxes.proofs.PairNumbers.{number_below, pairs_few}
 use Rattle.boxes.proofs.Indices.{stride_below}
 use Rattle.boxes.specs.Pairs.{pair_number}
 use Rattle.costs.proofs.Copies.{new_next}
+use Rattle.costs.proofs.Near.{asked_step, cell_asked}
 use Rattle.map_canvas.specs.Choices.{new_source}
 use Rattle.cut_graph.specs.declared.piping.Piping.{Piping}
 use Rattle.cut_graph.specs.Plans.{IsCellAt, pipes_of_pair}
-use Rattle.cut_graph.proofs.Laying.{Grows, grown, has_room, pair_is, pipes_most, plan_small, second_in_box}
+use Rattle.cut_graph.proofs.Laying.{Grows, grown, has_room, pair_is, pipes_most, plan_inside, plan_small, second_in_box}
 use Rattle.cut_graph.proofs.piping.Piping.add_pair.Goals as goal
+
+pub cell-requires-clause-inside : goal.cell-requires-clause-inside
+cell-requires-clause-inside c = plan_inside c.args.plan.now c.requires.plan
+
+pub plus-place-requires : goal.plus-place-requires
+plus-place-requires c =
+    let rect = c.args.plan.now.placement.rect in
+    let at = c.args.at in
+    let step = asked_step (cell_in rect at.x at.y at.f) c.args.axis (cell_asked rect at.x at.y at.f (plan_inside c.args.plan.now c.requires.plan) c.requires.pair.counts) in
+    subst (SumFits c.cell.result) (sym c.unit.ensures) (subst (λ (p : At). SumFits p (unit_step c.args.axis)) (sym c.cell.ensures) step)
 
 pub stride-requires : goal.stride-requires
 stride-requires c = plan_small c.args.plan.now c.requires.plan
+
+pub overflow_add-i : goal.overflow_add-i
+overflow_add-i c =
+    let plan = c.args.plan.now in
+    let at = c.args.at in
+    omega (arith, stride_below plan.placement.rect.size c.args.axis at.x at.y at.f c.requires.pair, c.requires.index, c.stride.ensures, (plan_small plan c.requires.plan).cells)
 
 pub cell-second-requires-clause-inside : goal.cell-second-requires-clause-inside
 cell-second-requires-clause-inside c =
@@ -50,6 +68,18 @@ pub join-added-requires-clause-room : goal.join-added-requires-clause-room
 join-added-requires-clause-room c =
     let at = c.args.at in
     has_room c.args.plan.now c.args.self.now.network.nodes c.args.axis at.x at.y at.f c.args.self.now c.requires.pair c.requires.so_far
+
+pub join-added-requires-clause-first_in : goal.join-added-requires-clause-first_in
+join-added-requires-clause-first_in c = omega (arith, c.requires.first.own, c.requires.nodes.cells_in c.args.i)
+
+pub join-added-requires-clause-second_in : goal.join-added-requires-clause-second_in
+join-added-requires-clause-second_in c = omega (arith, c.cell-second.ensures.cell.own, c.requires.nodes.cells_in (c.args.i + c.stride.result))
+
+pub join-added-requires-clause-seam_in : goal.join-added-requires-clause-seam_in
+join-added-requires-clause-seam_in c = c.requires.nodes.seams_in c.len.result
+
+pub join-added-requires-clause-second_sources : goal.join-added-requires-clause-second_sources
+join-added-requires-clause-second_sources c = c.cell-second.ensures.sources
 
 small_fits : (n : ℕ) → n < 400000000 → Fits w32 n
 small_fits n lt = search rules

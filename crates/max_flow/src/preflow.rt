@@ -14,7 +14,7 @@ use std::collections::VecDeque;
 
 // A node: what has come to it and not left it, and the place of the arc from which it goes on. `after` is the next
 // node of its height that waits, or says that there is none or that it doesn't wait itself.
-#[derive(Clone, Copy, Debug)]
+#[derive(Clone, Copy)]
 struct Node {
     height: u32,
     excess: u32,
@@ -39,7 +39,7 @@ const EMPTY: Node = Node {
 };
 
 // How many nodes have a height, and the first of those that wait.
-#[derive(Clone, Copy, Debug)]
+#[derive(Clone, Copy)]
 struct Level {
     count: u32,
     first: u32,

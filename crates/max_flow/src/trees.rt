@@ -10,7 +10,7 @@ use crate::packed::{Arc, PackedArcs, other_way};
 use std::alloc::{AllocError, Global};
 use std::collections::VecDeque;
 
-#[derive(Clone, Copy, Debug, PartialEq, Eq)]
+#[derive(Clone, Copy, PartialEq, Eq)]
 enum Tree {
     Neither,
     Source,
@@ -18,7 +18,7 @@ enum Tree {
 }
 
 // What a node of a tree hangs on.
-#[derive(Clone, Copy, Debug, PartialEq, Eq)]
+#[derive(Clone, Copy, PartialEq, Eq)]
 enum Parent {
     Nothing,
     // It's an end of the network itself.
@@ -31,7 +31,7 @@ enum Parent {
 
 // How far a node is from the end of its tree was true at the time of its stamp. One that is farther than
 // its number can say has the greatest distance.
-#[derive(Clone, Copy, Debug)]
+#[derive(Clone, Copy)]
 struct Node {
     stamp: u32,
     distance: u16,

@@ -1,21 +1,17 @@
-use Rattle.std.proofs.Common.{ℕ, ◌+◌, List, [], ◌∷◌, ◌++◌, length, subst, sym, ap, ◌∙◌, arith}
+use Rattle.std.proofs.Common.{◌≡◌, ◌+◌, [], ◌∷◌, ◌++◌, length, subst, sym, ap, ◌∙◌, arith}
 use Rattle.std.proofs.lemmas.List.Elements.{All-push}
 use Rattle.std.proofs.lemmas.Result.{err_from_is_err_and}
-use Rattle.std.specs.Prelude.{Option, Result, Ok, Err, All, IfSome, IsSomeAnd}
-use Rattle.shelf_core.specs.declared.fault.ReadError.{ReadError}
+use Rattle.std.specs.Prelude.{Option, Err, All, IfSome, IsSomeAnd}
 use Rattle.shelf_core.proofs.FileLaws.{only_reads_then}
 use Rattle.cells.specs.declared.place.At.{At}
-use Rattle.cells.specs.declared.place.Size.{Size}
 use Rattle.cells.specs.Places.{cell_count}
-use Rattle.map_canvas.specs.Maps.{SourceMap, IsSource}
+use Rattle.map_canvas.specs.Maps.{SourceMap, IsMap, IsSource}
 use Rattle.source_map.specs.Readings.{Found, list_read}
 use Rattle.source_map.proofs.FieldLaws.{first_stops, lifted, list_more, list_stops}
+use Rattle.source_map.proofs.SourceLists.{map_end, sources_end}
 use Rattle.turned.specs.TurnedPlaces.{IsInTurned}
 use Rattle.turned_map.specs.TurnedFiles.{turned_source_read}
 use Rattle.turned_map.proofs.turned_reading.read_sources.Goals as goal
-
-abbrev end : Size → List (Option At) → ℕ → List ℕ → Result (SourceMap × ℕ) ReadError
-end size sources at bytes = Ok (record { size = size; sources = sources }, at)
 
 pub returns-in_err-source-clause-answer : goal.returns-in_err-source-clause-answer
 returns-in_err-source-clause-answer g c =
@@ -30,7 +26,7 @@ returns-in_err-source-clause-answer g c =
     let e = c.in_err-source.field-0.0 in
     let count = cell_count c.args.size in
     rw (p.1, p.2)
-    (first_stops (Unit {0}) name place (list_read read count) (end c.args.size) a d c.read_source.new.file e
+    (first_stops (Unit {0}) name place (list_read read count) (map_end c.args.size) a d c.read_source.new.file e
     (list_stops (Unit {0}) name place c.loop-i.i count read a b d c.loop-i.file c.read_source.new.file c.loop-i.sources.items e
     (rw c.cells-count.ensures at c.loop-i-test.true) c.loop-i.invariant.reads c.in_err-source.ensures.reads c.loop-i.invariant.found
     (lifted (Unit {0}) name c.loop-i.file.at read b d c.read_source.new.file (Err e) c.in_err-source.ensures.answer)))
@@ -59,3 +55,23 @@ loop-i-preserved g c =
       inside = subst (All IsIn) (sym all) (All-push IsIn front source so.inside ok.inside);
       reads = only_reads_then a b d so.reads ok.reads;
     }
+
+pub returns-clause-answer : goal.returns-clause-answer
+returns-clause-answer g c =
+    let state = g.S.Shelf.state in
+    let all : c.loop-i.i ≡ cell_count c.args.size = omega (arith, c.loop-i-test.false, c.loop-i.auto.i-end, c.cells-count.ensures) in
+    sources_end c.args.name.now c.args.file.now.at c.loop-i.i (cell_count c.args.size) (turned_source_read c.args.samples.now) c.args.size (state c.args.shelf.now) (state c.loop-i.shelf)
+    c.loop-i.file c.loop-i.sources.items c.from_sources.result all c.from_sources.ensures c.loop-i.invariant.reads c.loop-i.invariant.found
+
+pub from_sources-requires : goal.from_sources-requires
+from_sources-requires g c =
+    let all : c.loop-i.i ≡ cell_count c.args.size = omega (arith, c.loop-i-test.false, c.loop-i.auto.i-end, c.cells-count.ensures) in
+    record { small = c.requires.small; count = omega (arith, c.loop-i.invariant.count, all); sources = c.loop-i.invariant.sources }
+
+pub returns-clause-map : goal.returns-clause-map
+returns-clause-map g c =
+    let all : c.loop-i.i ≡ cell_count c.args.size = omega (arith, c.loop-i-test.false, c.loop-i.auto.i-end, c.cells-count.ensures) in
+    subst IsMap (sym c.from_sources.ensures) (record { small = c.requires.small; count = omega (arith, c.loop-i.invariant.count, all); sources = c.loop-i.invariant.sources })
+
+pub returns-clause-inside : goal.returns-clause-inside
+returns-clause-inside g c = subst (λ (m : SourceMap). All (λ source. IsSomeAnd source (IsInTurned c.args.samples.now)) m.sources) (sym c.from_sources.ensures) c.loop-i.invariant.inside

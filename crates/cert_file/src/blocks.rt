@@ -255,9 +255,7 @@ fn read_blocks<S: Shelf>(
         make_room(&mut blocks, (count - i) as usize)?;
         let block = read_block(alloc, file, before, shelf, name)?;
         before += cells_of(block.placement.rect.size) as u64;
-        let Ok(()) = blocks.push(block) else {
-            return Err(ReadError::NoMemory);
-        };
+        blocks.push_reserved(block);
     }
     Ok(Items::from_vec(blocks))
 }

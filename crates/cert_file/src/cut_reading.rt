@@ -68,9 +68,7 @@ fn read_flows<S: Shelf>(
     for i in 0..count {
         make_room(&mut flows, count - i)?;
         let flow = read_flow(file, shelf, name)?;
-        let Ok(()) = flows.push(flow) else {
-            return Err(ReadError::NoMemory);
-        };
+        flows.push_reserved(flow);
     }
     Ok(Items::from_vec(flows))
 }
@@ -157,9 +155,7 @@ pub(crate) fn read_cuts<S: Shelf>(
         make_room(&mut cuts, (count - i) as usize)?;
         let cut = read_cut(alloc, file, version, samples, before, shelf, name)?;
         before += cells_of(cut.placement.rect.size) as u64;
-        let Ok(()) = cuts.push(cut) else {
-            return Err(ReadError::NoMemory);
-        };
+        cuts.push_reserved(cut);
     }
     Ok(Items::from_vec(cuts))
 }

@@ -22,3 +22,13 @@ loop-j-preserved g c =
       };
       reads = only_reads_then (state c.args.shelf.now) (state c.loop-j.shelf) (state c.u8.new.shelf) c.loop-j.invariant.reads read.reads;
     }
+
+pub returns-in_err-byte-clause-reads : goal.returns-in_err-byte-clause-reads
+returns-in_err-byte-clause-reads g c =
+    let state = g.S.Shelf.state in
+    only_reads_then (state c.args.shelf.now) (state c.loop-j.shelf) (state c.u8.new.shelf) c.loop-j.invariant.reads c.in_err-byte.ensures.reads
+
+pub returns-in_err-push_bits-clause-reads : goal.returns-in_err-push_bits-clause-reads
+returns-in_err-push_bits-clause-reads g c =
+    let state = g.S.Shelf.state in
+    only_reads_then (state c.args.shelf.now) (state c.loop-j.shelf) (state c.u8.new.shelf) c.loop-j.invariant.reads (c.in_ok-byte.ensures {u = tt}).reads

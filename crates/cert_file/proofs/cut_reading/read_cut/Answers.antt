@@ -124,3 +124,28 @@ returns-clause-answer g c =
     (then_reads (Unit {0}) name c.read_choice.new.file.at (list_read flow_read (pair_count v1)) (λ (v4 : List Flow). end v0 v1 v2 v3 v4) (state c.read_choice.new.shelf) (state c.read_flows.new.shelf) (state c.read_flows.new.shelf) c.read_flows.new.file c.read_flows.new.file v4 (Ok value)
     ok4.reads (only_reads_same (state c.read_flows.new.shelf)) (subst (λ n. ReadsFrom (Unit {0}) name c.read_choice.new.file.at (state c.read_choice.new.shelf) (state c.read_flows.new.shelf) c.read_flows.new.file (list_read flow_read n) (Ok v4)) c.pairs_of.ensures.pairs ok4.answer)
     (made (Unit {0}) name (state c.read_flows.new.shelf) (state c.read_flows.new.shelf) c.read_flows.new.file value ok4.answer.follows)))))
+
+pub returns-in_err-size-clause-reads : goal.returns-in_err-size-clause-reads
+returns-in_err-size-clause-reads g c =
+    let state = g.S.Shelf.state in
+    only_reads_then (state c.args.shelf.now) (state c.read_corner.new.shelf) (state c.read_box_size.new.shelf) (c.in_ok-corner.ensures {u = tt}).reads c.in_err-size.ensures.reads
+
+pub returns-in_err-from-clause-reads : goal.returns-in_err-from-clause-reads
+returns-in_err-from-clause-reads g c =
+    let state = g.S.Shelf.state in
+    only_reads_then (state c.args.shelf.now) (state c.read_corner.new.shelf) (state c.read_from.new.shelf) (c.in_ok-corner.ensures {u = tt}).reads (only_reads_then (state c.read_corner.new.shelf) (state c.read_box_size.new.shelf) (state c.read_from.new.shelf) (c.in_ok-size.ensures {u = tt}).reads c.in_err-from.ensures.reads)
+
+pub returns-in_err-choice-clause-reads : goal.returns-in_err-choice-clause-reads
+returns-in_err-choice-clause-reads g c =
+    let state = g.S.Shelf.state in
+    only_reads_then (state c.args.shelf.now) (state c.read_corner.new.shelf) (state c.read_choice.new.shelf) (c.in_ok-corner.ensures {u = tt}).reads (only_reads_then (state c.read_corner.new.shelf) (state c.read_box_size.new.shelf) (state c.read_choice.new.shelf) (c.in_ok-size.ensures {u = tt}).reads (only_reads_then (state c.read_box_size.new.shelf) (state c.read_from.new.shelf) (state c.read_choice.new.shelf) (c.in_ok-from.ensures {u = tt}).reads c.in_err-choice.ensures.reads))
+
+pub returns-in_err-flows-clause-reads : goal.returns-in_err-flows-clause-reads
+returns-in_err-flows-clause-reads g c =
+    let state = g.S.Shelf.state in
+    only_reads_then (state c.args.shelf.now) (state c.read_corner.new.shelf) (state c.read_flows.new.shelf) (c.in_ok-corner.ensures {u = tt}).reads (only_reads_then (state c.read_corner.new.shelf) (state c.read_box_size.new.shelf) (state c.read_flows.new.shelf) (c.in_ok-size.ensures {u = tt}).reads (only_reads_then (state c.read_box_size.new.shelf) (state c.read_from.new.shelf) (state c.read_flows.new.shelf) (c.in_ok-from.ensures {u = tt}).reads (only_reads_then (state c.read_from.new.shelf) (state c.read_choice.new.shelf) (state c.read_flows.new.shelf) (c.in_ok-choice.ensures {u = tt}).reads c.in_err-flows.ensures.reads)))
+
+pub returns-clause-reads : goal.returns-clause-reads
+returns-clause-reads g c =
+    let state = g.S.Shelf.state in
+    only_reads_then (state c.args.shelf.now) (state c.read_corner.new.shelf) (state c.read_flows.new.shelf) (c.in_ok-corner.ensures {u = tt}).reads (only_reads_then (state c.read_corner.new.shelf) (state c.read_box_size.new.shelf) (state c.read_flows.new.shelf) (c.in_ok-size.ensures {u = tt}).reads (only_reads_then (state c.read_box_size.new.shelf) (state c.read_from.new.shelf) (state c.read_flows.new.shelf) (c.in_ok-from.ensures {u = tt}).reads (only_reads_then (state c.read_from.new.shelf) (state c.read_choice.new.shelf) (state c.read_flows.new.shelf) (c.in_ok-choice.ensures {u = tt}).reads (c.in_ok-flows.ensures {u = tt}).reads)))

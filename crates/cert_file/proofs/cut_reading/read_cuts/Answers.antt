@@ -1,9 +1,10 @@
-use Rattle.std.proofs.Common.{◌++◌, ◌∷◌, [], ◌+◌, ◌∙◌, length, ap, sym, subst, arith}
-use Rattle.std.specs.Prelude.{All, Err}
+use Rattle.std.proofs.Common.{◌-◌, ◌++◌, ◌∷◌, [], ◌+◌, ◌∙◌, length, ap, sym, subst, arith}
+use Rattle.std.specs.Prelude.{All, Err, vec_capacity, vec_len}
 use Rattle.std.proofs.lemmas.List.Elements.{All-push}
 use Rattle.std.proofs.lemmas.Result.{err_from_is_err_and}
 use Rattle.cut_check.specs.Records.{box_cells}
 use Rattle.shelf_core.proofs.FileLaws.{only_reads_then}
+use Rattle.file_bytes.proofs.ReadingLaws.{room_made}
 use Rattle.source_map.specs.Readings.{Found, ReadsFrom}
 use Rattle.cert_file.specs.CutForms.{IsCutInForm}
 use Rattle.cert_file.specs.CutReading.{cut_read, cuts_read}
@@ -30,9 +31,9 @@ loop-i-preserved g c =
     let cut = c.in_ok-cut.cut in
     let ok = c.in_ok-cut.ensures {u = tt} in
     let so = c.loop-i.invariant in
-    let all = (c.in-Ok.ensures {u = tt}).items ∙ ap (λ items. items ++ cut ∷ []) c.make_room.ensures.items in
+    let all = c.push_reserved.ensures.items ∙ ap (λ items. items ++ cut ∷ []) c.make_room.ensures.items in
     record {
-      count = omega (arith, (c.in-Ok.ensures {u = tt}).len, ap length c.make_room.ensures.items, so.count);
+      count = omega (arith, c.push_reserved.ensures.len, ap length c.make_room.ensures.items, so.count);
       at = omega (arith, ok.place, so.at, c.cells_of.ensures);
       few = omega (arith, ok.cells, c.cells_of.ensures);
       before = (λ k. so.before k + c.cells_of.ensures k) ∙ sym (box_cells-append c.loop-i.cuts.items cut) ∙ ap box_cells (sym all);
@@ -43,3 +44,14 @@ loop-i-preserved g c =
           (subst (λ n. Found name c.loop-i.file.at (state c.read_cut.new.shelf) c.read_cut.new.file (read n) cut) so.before ok.answer));
       reads = only_reads_then (state c.args.shelf.now) (state c.loop-i.shelf) (state c.read_cut.new.shelf) so.reads ok.reads;
     }
+
+pub push_reserved-requires : goal.push_reserved-requires
+push_reserved-requires g c =
+    let room = c.in_ok-make_room.ensures {u = tt} in
+    room_made (vec_len c.loop-i.cuts) (vec_len c.make_room.new.items) (vec_capacity c.loop-i.cuts) (vec_capacity c.make_room.new.items) (c.args.count - c.loop-i.i)
+    (omega (arith, ap length room.items)) room.kept room.grown (omega (arith, c.loop-i-test.true))
+
+pub returns-in_err-cut-clause-reads : goal.returns-in_err-cut-clause-reads
+returns-in_err-cut-clause-reads g c =
+    let state = g.S.Shelf.state in
+    only_reads_then (state c.args.shelf.now) (state c.loop-i.shelf) (state c.read_cut.new.shelf) c.loop-i.invariant.reads c.in_err-cut.ensures.reads

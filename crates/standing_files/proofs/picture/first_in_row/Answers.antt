@@ -1,4 +1,5 @@
-use Rattle.std.proofs.Common.{◌≡◌, ◌<◌, ◌≤◌, ◌∙◌, ap, sym, subst, arith, below_more}
+use Rattle.std.proofs.Common.{◌≡◌, ◌<◌, ◌≤◌, ◌+◌, ◌*◌, ◌∙◌, ℕ, List, [], ◌∷◌, ap, sym, subst, arith, below_more}
+use mathlib.Core.Bool.{false≢true}
 use Rattle.std.specs.Prelude.{Option}
 use Rattle.limits.specs.declared.bounds.TheConstants.{GREATEST_AXIS}
 use Rattle.cells.specs.declared.place.At.{At}
@@ -8,6 +9,16 @@ use Rattle.standing_files.specs.Standing.{IsCopied, IsCopiedAt, map_output, name
 use Rattle.standing_files.proofs.Sizes.{first_is}
 use Rattle.standing_files.proofs.RunLaws.{near_place, row_ends, row_more}
 use Rattle.standing_files.proofs.picture.first_in_row.Goals as goal
+
+one_part : (size other : Size) (more : List Size) → size ∷ more ≡ other ∷ [] → more ≡ []
+one_part size other more same = cc
+
+-- the cells of the rows with one more end where the row does
+row_end : (w row : ℕ) → w * (row + 1) ≡ w * row + w
+row_end w row = grind arith
+
+pub size-size-requires : goal.size-size-requires
+size-size-requires c = one_part _ _ _ c.requires.one
 
 pub place_at-requires-clause-below : goal.place_at-requires-clause-below
 place_at-requires-clause-below c =
@@ -33,6 +44,14 @@ returns-then-is_run_copied-clause-none c =
     row_more (map_output map_file) c.args.row (λ (p : At). IsCopied samples picture (named_source map_file p) p) c.requires.before
     (rw (c.place_at.ensures, same) at (c.is_run_copied.ensures c.if-is_run_copied.true))
 
+pub returns-then-is_run_copied-clause-some : goal.returns-then-is_run_copied-clause-some
+returns-then-is_run_copied-clause-some c = tt
+
+pub loop-i-init : goal.loop-i-init
+loop-i-init c =
+    let same = c.size-size.ensures.size ∙ first_is _ _ _ _ c.requires.one in
+    subst (λ (size : Size). (k : ℕ) → k < size.w * c.args.row → IsCopiedAt c.args.samples.now c.args.picture.now c.args.map_file.now k) (sym same) c.requires.before
+
 pub place_at-p-requires-clause-below : goal.place_at-p-requires-clause-below
 place_at-p-requires-clause-below c =
     let size = map_output c.args.map_file.now in
@@ -51,3 +70,32 @@ loop-i-preserved c =
     below_more (IsCopiedAt samples picture map_file) i c.loop-i.invariant
     (subst (λ (q : At). IsCopied samples picture (named_source map_file q) q) here
     (subst (λ (source : Option At). IsCopied samples picture source p) c.named_source.ensures (c.is_copied.ensures.0 c.if-not-is_copied.false)))
+
+pub returns-then-not-is_copied-clause-none : goal.returns-then-not-is_copied-clause-none
+returns-then-not-is_copied-clause-none c = tt
+
+pub returns-then-not-is_copied-clause-some : goal.returns-then-not-is_copied-clause-some
+returns-then-not-is_copied-clause-some c =
+    let samples = c.args.samples.now in
+    let picture = c.args.picture.now in
+    let map_file = c.args.map_file.now in
+    let i = c.loop-i.i in
+    let p = c.place_at-p.result in
+    let same = c.size-size.ensures.size ∙ first_is _ _ _ _ c.requires.one in
+    let inside = rw same at c.loop-i-test.true in
+    let here : p ≡ place_of (map_output map_file) i = c.place_at-p.ensures ∙ ap (λ size. place_of size i) same in
+    record {
+      below = omega (arith, row_end (map_output map_file).w c.args.row, inside);
+      before = c.loop-i.invariant;
+      here = λ copied. false≢true (sym c.if-not-is_copied.true ∙ c.is_copied.ensures.1
+          (subst (λ (source : Option At). IsCopied samples picture source p) (sym c.named_source.ensures)
+          (subst (λ (q : At). IsCopied samples picture (named_source map_file q) q) (sym here) copied)));
+    }
+
+pub returns-clause-none : goal.returns-clause-none
+returns-clause-none c = λ k lt.
+    let past = rw (c.size-size.ensures.size ∙ first_is _ _ _ _ c.requires.one) at c.loop-i-test.false in
+    c.loop-i.invariant k (omega (arith, row_end (map_output c.args.map_file.now).w c.args.row, past, lt))
+
+pub returns-clause-some : goal.returns-clause-some
+returns-clause-some c = tt

@@ -1,0 +1,38 @@
+use Rattle.std.proofs.Common.{◌≡◌, ◌∙◌, ℕ, ◌<◌, ap, sym, subst, arith, below_more}
+use mathlib.Core.Bool.{false≢true}
+use Rattle.cells.specs.declared.place.At.{At}
+use Rattle.cells.specs.declared.place.Size.{Size}
+use Rattle.cells.specs.Places.{cell_count, place_of}
+use Rattle.standing_files.specs.Standing.{HasOneSource}
+use Rattle.standing_files.proofs.records.first_other_source.Goals as goal
+
+pub returns-then-is_known_left : goal.returns-then-is_known_left
+returns-then-is_known_left c = c.is_known_left.ensures c.if-is_known_left.true
+
+pub returns-then-not-has_one_source : goal.returns-then-not-has_one_source
+returns-then-not-has_one_source c =
+    let left = c.args.left.now in
+    let m = c.args.map.now in
+    let i = c.loop-i.i in
+    let same = c.size-size.ensures.size in
+    let here : c.place_at.result ≡ place_of m.size i = c.place_at.ensures ∙ ap (λ (size : Size). place_of size i) same in
+    record {
+      below = subst (λ n. i < n) (c.cells-i-end.ensures ∙ ap (λ (size : Size). cell_count size) same) c.loop-i-test.true;
+      before = c.loop-i.invariant;
+      here = λ one. false≢true (sym c.if-not-has_one_source.true ∙ c.has_one_source.ensures.1 (subst (λ (p : At). HasOneSource left m p) (sym here) one));
+    }
+
+pub loop-i-preserved : goal.loop-i-preserved
+loop-i-preserved c =
+    let left = c.args.left.now in
+    let m = c.args.map.now in
+    let i = c.loop-i.i in
+    let here : c.place_at.result ≡ place_of m.size i = c.place_at.ensures ∙ ap (λ (size : Size). place_of size i) c.size-size.ensures.size in
+    below_more (λ k. HasOneSource left m (place_of m.size k)) i c.loop-i.invariant
+    (subst (λ (p : At). HasOneSource left m p) here (c.has_one_source.ensures.0 c.if-not-has_one_source.false))
+
+pub returns : goal.returns
+returns c = λ k lt.
+    let n_is : c.cells-i-end.result ≡ cell_count c.args.map.now.size = c.cells-i-end.ensures ∙ ap (λ (size : Size). cell_count size) c.size-size.ensures.size in
+    let below : k < c.cells-i-end.result = subst (λ n. k < n) (sym n_is) lt in
+    c.loop-i.invariant k (omega (arith, below, c.loop-i-test.false))

@@ -72,7 +72,7 @@ fn above_both(
     others: &BoxBlocks,
     other: &Term<'_>,
     sums: &BlockSums,
-    from: At,
+    at: At,
     n: u32,
     limit: u64,
 ) -> u32
@@ -85,13 +85,13 @@ fn above_both(
     requires side { blocks.now.side ≡ sums.now.side }
     requires other_side { others.now.side ≡ sums.now.side }
     requires few { n ≤ LANES }
-    requires laid { MayBeLaid one.now.canvas.now one.now.sample.now one.now.rect from n }
-    requires other_laid { MayBeLaid other.now.canvas.now other.now.sample.now other.now.rect from n }
+    requires laid { MayBeLaid one.now.canvas.now one.now.sample.now one.now.rect at n }
+    requires other_laid { MayBeLaid other.now.canvas.now other.now.sample.now other.now.rect at n }
     requires inside { (j : ℕ) → j < n
-        → IsBoxIn sums.now.rect (place_along from j) one.now.rect.size }
+        → IsBoxIn sums.now.rect (place_along at j) one.now.rect.size }
     requires other_inside { (j : ℕ) → j < n
-        → IsBoxIn sums.now.rect (place_along from j) other.now.rect.size }
-    ensures { AreAboveBoth one.now other.now from n limit result }
+        → IsBoxIn sums.now.rect (place_along at j) other.now.rect.size }
+    ensures { AreAboveBoth one.now other.now at n limit result }
 {
     if n == 0 {
         return 0;
@@ -109,16 +109,8 @@ fn above_both(
         factor: scale.factor,
         most: u16::MAX,
     };
-    let totals = blocks.totals(sums, one.canvas, one.sample, &one.rect, from, n, first);
-    let more = others.totals(
-        sums,
-        other.canvas,
-        other.sample,
-        &other.rect,
-        from,
-        n,
-        second,
-    );
+    let totals = blocks.totals(sums, one.canvas, one.sample, &one.rect, at, n, first);
+    let more = others.totals(sums, other.canvas, other.sample, &other.rect, at, n, second);
     marks_of_terms(totals, one.times, more, other.times, scale.most)
 }
 

@@ -220,6 +220,30 @@ impl BoxLevels {
         Ok(())
     }
 
+    // The blocks of all sizes.
+    fn add_all(
+        &mut self,
+        alloc: Global,
+        canvas: &Canvas,
+        rect: &Box3,
+        size: Size,
+        filled: &[bool],
+    ) -> Result<(), AllocError>
+        requires inside { HoldsBox canvas.now.map.size rect.now.corner rect.now.size }
+        requires cells { HasCells rect.now.size }
+        requires rows { HasShortRows size }
+        requires long { length filled.now ≡ cell_count rect.now.size }
+        requires filled { MarkFilled canvas.now.map rect.now filled.now }
+        requires levels { AreBoxLevels canvas.now rect.now self.old }
+        ensures { OnOk result (AreBoxLevels canvas.now rect.now self.new) }
+    {
+        let side = coarse_side(canvas.picture().samples());
+        self.add_level(alloc, canvas, rect, side, size, filled)?;
+        self.add_level(alloc, canvas, rect, MIDDLE_SIDE, size, filled)?;
+        self.add_level(alloc, canvas, rect, FINE_SIDE, size, filled)?;
+        self.add_level(alloc, canvas, rect, SINGLE_SIDE, size, filled)
+    }
+
     /// The blocks of the sizes that a sample's sums have; none where it has none. The one error is out
     /// of memory.
     pub fn gather(
@@ -242,11 +266,7 @@ impl BoxLevels {
         }
         let filled = filled_cells(alloc, canvas, rect)?;
         let size = short_rows(first.rect.size);
-        let side = coarse_side(canvas.picture().samples());
-        levels.add_level(alloc, canvas, rect, side, size, &filled)?;
-        levels.add_level(alloc, canvas, rect, MIDDLE_SIDE, size, &filled)?;
-        levels.add_level(alloc, canvas, rect, FINE_SIDE, size, &filled)?;
-        levels.add_level(alloc, canvas, rect, SINGLE_SIDE, size, &filled)?;
+        levels.add_all(alloc, canvas, rect, size, &filled)?;
         Ok(levels)
     }
 

@@ -21,7 +21,7 @@ returns c = λ j lj marked.
     let other = c.args.other.now in
     let side = c.args.sums.now.side in
     let scale = c.in-Some.scale in
-    let from = place_along c.args.from j in
+    let from = place_along c.args.at j in
     let most = subst (λ k. scale.factor * scale.factor * (block_bytes side k * c.args.limit) < 65536 * (scale.most + 1)) c.samples.ensures.samples c.in-Some.ensures in
     let first : blocks_difference c.args.blocks.now one.sample.now from ≤ block_bytes side one.sample.now.k * error_sum one.canvas.now.map one.sample.now (laid_from one.rect from) =
     subst (λ s. blocks_difference c.args.blocks.now one.sample.now from ≤ block_bytes s one.sample.now.k * error_sum one.canvas.now.map one.sample.now (laid_from one.rect from)) c.requires.side

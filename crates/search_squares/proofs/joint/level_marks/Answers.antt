@@ -2,8 +2,20 @@ use Rattle.std.proofs.Common.{arith}
 use Rattle.std.proofs.lemmas.Grind.{common_steps}
 use Rattle.search_squares.specs.Bounds.{place_along}
 use Rattle.search_squares.specs.Sums.{AreBlockSums}
-use Rattle.search_squares.proofs.PlaceRuns.{inner_held}
+use Rattle.search_squares.proofs.PlaceRuns.{inner_held, none_marked}
 use Rattle.search_squares.proofs.joint.level_marks.Goals as goal
+
+pub above_both-requires-clause-blocks : goal.above_both-requires-clause-blocks
+above_both-requires-clause-blocks c = grind (arith, common_steps)
+
+pub above_both-requires-clause-others : goal.above_both-requires-clause-others
+above_both-requires-clause-others c = grind (arith, common_steps)
+
+pub above_both-requires-clause-sums : goal.above_both-requires-clause-sums
+above_both-requires-clause-sums c = grind (arith, common_steps)
+
+pub above_both-requires-clause-other_sums : goal.above_both-requires-clause-other_sums
+above_both-requires-clause-other_sums c = grind (arith, common_steps)
 
 pub above_both-requires-clause-laid : goal.above_both-requires-clause-laid
 above_both-requires-clause-laid c = λ j lj.
@@ -38,3 +50,9 @@ above_both-requires-clause-inside c = c.holds_run.ensures.inside c.if-not-holds_
 
 pub above_both-requires-clause-other_inside : goal.above_both-requires-clause-other_inside
 above_both-requires-clause-other_inside c = c.holds_run-2.ensures.inside c.if-not-holds_run-2.false
+
+pub returns-then-k-other_k : goal.returns-then-k-other_k
+returns-then-k-other_k c = λ j _ marked. absurd (none_marked j marked)
+
+pub returns : goal.returns
+returns c = c.above_both.ensures

@@ -1,4 +1,5 @@
-use Rattle.std.proofs.Common.{◌≤◌, ◌<◌, ◌*◌, ◌^◌, [], refl, subst, sym}
+use Rattle.std.proofs.Common.{◌≤◌, ◌<◌, ◌*◌, ◌^◌, [], arith, refl, subst, sym}
+use Rattle.std.proofs.lemmas.Grind.{common_steps}
 use Rattle.cells.proofs.BoxLaws.{box_small}
 use Rattle.search_squares.specs.Blocks.{block_bytes}
 use Rattle.search_squares.specs.Gathered.{AreGathered, HasShortRows}
@@ -25,6 +26,16 @@ add_from-requires-clause-few c = subst (λ side. 255 * block_bytes side c.args.c
 
 pub add_from-requires-clause-rows : goal.add_from-requires-clause-rows
 add_from-requires-clause-rows c = subst HasShortRows (sym c.loop-i.invariant.size) c.requires.rows
+
+pub add_from-requires-clause-gathered : goal.add_from-requires-clause-gathered
+add_from-requires-clause-gathered c = grind (arith, common_steps)
+
+pub loop-i-preserved : goal.loop-i-preserved
+loop-i-preserved c = record {
+  gathered = grind (arith, common_steps);
+  side = grind (arith, common_steps);
+  size = grind (arith, common_steps);
+}
 
 pub returns-clause-blocks : goal.returns-clause-blocks
 returns-clause-blocks c =

@@ -16,7 +16,7 @@ use map_canvas::{Canvas, Placement};
 use std::alloc::{AllocError, Global};
 
 // What a cell of the box is to a choice.
-#[derive(Clone, Copy, Debug, Drop)]
+#[derive(Clone, Copy, Drop)]
 pub(crate) enum Standing {
     // It is filled, and kept or held.
     Old,

@@ -17,7 +17,7 @@ pub(crate) struct Plan<'a> {
 }
 
 // A cell of a pair: its source, if it is filled, the source that it would get, and its node.
-#[derive(Clone, Copy, Debug, Drop)]
+#[derive(Clone, Copy, Drop)]
 pub(crate) struct PairCell {
     pub before: Option<At>,
     pub after: At,

@@ -1,3 +1,4 @@
+use Rattle.std.proofs.lemmas.Grind.{common_steps}
 use Rattle.std.proofs.Common.{◌+◌, ◌/◌, ◌%◌, ◌∙◌, sym, subst, arith}
 use mathlib.Core.Bool.{false≢true}
 use Rattle.cells.specs.Boxes.{HasCells}
@@ -14,3 +15,12 @@ returns-else-has_cells-clause-put c = λ row k below lt.
       axis_none (distance c.args.sample.now) (map_at c.args.map.now) c.args.axis c.args.window (block.x.from + k) (block.y.from + row % block.y.len) (block.f.from + row / block.y.len)
           (λ some. false≢true (sym c.if-has_cells.false ∙ c.has_cells.ensures.1 (subst HasCells (sym c.less_one-less.ensures.less) some))),
     )
+
+pub put_axis-requires-clause-fits : goal.put_axis-requires-clause-fits
+put_axis-requires-clause-fits c = grind (arith, common_steps)
+
+pub returns-then-has_cells-clause-small : goal.returns-then-has_cells-clause-small
+returns-then-has_cells-clause-small c = grind (arith, common_steps)
+
+pub returns-then-has_cells-clause-put : goal.returns-then-has_cells-clause-put
+returns-then-has_cells-clause-put c = grind (arith, common_steps)

@@ -1,3 +1,4 @@
+use Rattle.std.proofs.lemmas.Grind.{common_steps}
 use Rattle.std.proofs.Common.{◌+◌, ◌-◌, ◌*◌, ◌/◌, ◌%◌, ◌≤◌, ◌≡◌, drop, length, arith, length-take, length-drop}
 use Rattle.std.proofs.Math.Nat.{mul-le-mul_left}
 use Rattle.cells.specs.Distances.{distance}
@@ -20,3 +21,9 @@ loop-row-preserved c =
           fits long c.loop-row.invariant.costs (λ k lt. c.fill_row.ensures.costs k (omega arith));
       small = rows_at_most w row most_of_pair made c.fill_row.new.costs fits long c.loop-row.invariant.small c.fill_row.ensures.small;
     }
+
+pub returns-clause-small : goal.returns-clause-small
+returns-clause-small c = grind (arith, common_steps)
+
+pub fill_row-requires-clause-counts : goal.fill_row-requires-clause-counts
+fill_row-requires-clause-counts c = grind (arith, common_steps)

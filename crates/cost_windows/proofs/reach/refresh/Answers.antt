@@ -1,3 +1,4 @@
+use Rattle.std.proofs.lemmas.Grind.{common_steps}
 use Rattle.std.proofs.Common.{◌≡◌, ◌<◌, ◌+◌, ◌-◌, ◌*◌, ◌/◌, ◌%◌, ℕ, get_or, ap, sym, ◌∙◌, arith}
 use Rattle.cells.specs.declared.place.Axis.TheVariants.{X, Y, F}
 use Rattle.cells.specs.Distances.{distance}
@@ -38,3 +39,9 @@ returns-clause-others c = λ i none.
     let out : (row k : ℕ) → row < block.y.len * block.f.len → k < block.x.len → i ≡ row_start size block row + k → ⊥ =
     λ row k below lt e. none (block.x.from + k) (block.y.from + row % block.y.len) (block.f.from + row / block.y.len) (cell_of_row block row k below lt) (e ∙ index_of_row size block row k) in
     c.add_axis-2.ensures.others i out ∙ c.add_axis.ensures.others i out ∙ c.put_axis.ensures.others i out
+
+pub add_axis-requires-2-clause-fits : goal.add_axis-requires-2-clause-fits
+add_axis-requires-2-clause-fits c = grind (arith, common_steps)
+
+pub add_axis-requires-clause-fits : goal.add_axis-requires-clause-fits
+add_axis-requires-clause-fits c = grind (arith, common_steps)

@@ -1,3 +1,5 @@
+use Rattle.std.proofs.Common.{arith}
+use Rattle.std.proofs.lemmas.Grind.{common_steps}
 use Rattle.std.proofs.Common.{ap, ◌∙◌, subst}
 use Rattle.cells.specs.Distances.{distance}
 use Rattle.map_canvas.specs.Maps.{map_at}
@@ -13,3 +15,6 @@ returns-clause-sums c =
     axis_of_runs d m c.args.axis c.args.window c.args.block.now c.fill.new.costs c.sum_boxes.new.buffer c.requires.window.some
     (subst (λ reach. AreCosts d m c.args.axis reach c.fill.new.costs) same c.fill.ensures.costs)
     (λ j. c.sum_boxes.ensures.sums j ∙ (λ i. box_run ((c.size-2.ensures ∙ ap block_size same) i) (c.less_one.ensures.less i) c.fill.new.costs j))
+
+pub sum_boxes-requires-clause-count : goal.sum_boxes-requires-clause-count
+sum_boxes-requires-clause-count c = grind (arith, common_steps)

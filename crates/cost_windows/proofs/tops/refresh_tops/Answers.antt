@@ -1,3 +1,4 @@
+use Rattle.std.proofs.lemmas.Grind.{common_steps}
 use Rattle.std.proofs.Common.{◌+◌, ◌-◌, ◌*◌, ◌∙◌, arith, ⊎_elim}
 use Rattle.std.proofs.lemmas.Bool.{cases_lt}
 use Rattle.cost_windows.proofs.RowTops.{after_block, before_block}
@@ -17,3 +18,6 @@ returns c =
           (cases_lt r (block.y.from + block.y.len - 1 + size.h * (block.f.from + block.f.len - 1) + 1)))
           (cases_lt r (block.y.from + size.h * block.f.from));
     }
+
+pub fill_tops-requires-clause-sums : goal.fill_tops-requires-clause-sums
+fill_tops-requires-clause-sums c = grind (arith, common_steps)

@@ -1,3 +1,4 @@
+use Rattle.std.proofs.lemmas.Grind.{common_steps}
 use Rattle.std.proofs.Common.{◌≡◌, ◌∙◌, get_or, ap, sym, subst, arith}
 use Rattle.std.proofs.lemmas.List.{with_items_is}
 use Rattle.cells.specs.Distances.{distance}
@@ -31,3 +32,30 @@ returns-clause-right c =
     (λ i none. c.refresh.ensures.others i (λ x y f inside e. none x y f inside (e ∙ ap (λ size. raster_index (corners size window) x y f) same)))
     (λ x y f are out. absurd (out (c.whole-block.ensures.each x y f (subst (λ size. AreCounts size x y f) (sym c.corners-corners.ensures.corners) are)))) in
     subst (λ xs. IsRight d m (record { output = output; window = window; sums = xs })) (sym (with_items_is c.in_ok-sums.sums sums (omega arith))) right
+
+pub invariant_of-result : goal.invariant_of-result
+invariant_of-result c = grind (arith, common_steps)
+
+pub refresh-requires-clause-sums : goal.refresh-requires-clause-sums
+refresh-requires-clause-sums c = grind (arith, common_steps)
+
+pub refresh-requires-clause-scratch : goal.refresh-requires-clause-scratch
+refresh-requires-clause-scratch c = grind (arith, common_steps)
+
+pub refresh-requires-clause-inside : goal.refresh-requires-clause-inside
+refresh-requires-clause-inside c = grind (arith, common_steps)
+
+pub refresh_tops-requires-clause-some : goal.refresh_tops-requires-clause-some
+refresh_tops-requires-clause-some c = grind (arith, common_steps)
+
+pub refresh-requires-clause-window : goal.refresh-requires-clause-window
+refresh-requires-clause-window c = grind (arith, common_steps)
+
+pub refresh_tops-requires-clause-small : goal.refresh_tops-requires-clause-small
+refresh_tops-requires-clause-small c = grind (arith, common_steps)
+
+pub refresh-requires-clause-some : goal.refresh-requires-clause-some
+refresh-requires-clause-some c = grind (arith, common_steps)
+
+pub cells-requires-2 : goal.cells-requires-2
+cells-requires-2 c = grind (arith, common_steps)

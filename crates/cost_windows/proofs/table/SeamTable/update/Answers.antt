@@ -1,3 +1,4 @@
+use Rattle.std.proofs.lemmas.Grind.{common_steps}
 use Rattle.std.proofs.Common.{◌≡◌, ◌∙◌, ◌<◌, ◌*◌, ℕ, length, get_or, refl, ap, sym, subst, arith}
 use Rattle.std.proofs.lemmas.List.{with_items_is}
 use mathlib.Core.Bool.{false≢true}
@@ -84,3 +85,30 @@ returns-else-has_cells-clause-right c =
     (λ i none. refl)
     (λ x y f are out. beside (spot x y f) (c.touched-block.ensures.others x y f (subst (λ size. AreCounts size x y f) (sym c.corners-size.ensures.corners) are) out)) in
     subst (IsRight d m) c.self.view_is right
+
+pub refresh_tops-requires-clause-sums : goal.refresh_tops-requires-clause-sums
+refresh_tops-requires-clause-sums c = grind (arith, common_steps)
+
+pub refresh_tops-requires-clause-tops : goal.refresh_tops-requires-clause-tops
+refresh_tops-requires-clause-tops c = grind (arith, common_steps)
+
+pub refresh-requires-clause-sums : goal.refresh-requires-clause-sums
+refresh-requires-clause-sums c = grind (arith, common_steps)
+
+pub refresh_tops-requires-clause-some : goal.refresh_tops-requires-clause-some
+refresh_tops-requires-clause-some c = grind (arith, common_steps)
+
+pub refresh-requires-clause-scratch : goal.refresh-requires-clause-scratch
+refresh-requires-clause-scratch c = grind (arith, common_steps)
+
+pub refresh_tops-requires-clause-small : goal.refresh_tops-requires-clause-small
+refresh_tops-requires-clause-small c = grind (arith, common_steps)
+
+pub refresh-requires-clause-window : goal.refresh-requires-clause-window
+refresh-requires-clause-window c = grind (arith, common_steps)
+
+pub refresh-requires-clause-inside : goal.refresh-requires-clause-inside
+refresh-requires-clause-inside c = grind (arith, common_steps)
+
+pub refresh-requires-clause-some : goal.refresh-requires-clause-some
+refresh-requires-clause-some c = grind (arith, common_steps)

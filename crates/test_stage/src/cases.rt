@@ -1,7 +1,6 @@
 // Runs that write a picture or clip, a map and a record: the words, what fails, and what is
 // expected afterwards.
-use crate::runs::{Run, leaves};
-use crate::stage::{Failing, Stage};
+use crate::stage::{Failing, File, Stage};
 use std::alloc::{AllocError, Global};
 
 /// What the files of a run hold before it.
@@ -23,32 +22,39 @@ pub struct Case<'a> {
     pub record: &'a [u8],
 }
 
+// The files that a run may write, before it.
+const OUTPUTS: &[File<'static>] = &[("o", BEFORE), ("m", BEFORE), ("r", BEFORE)];
+
+// Sets both samples, and the files that a run may write.
+fn put_before(stage: &mut Stage, sample: &[u8], second: &[u8]) -> Result<(), AllocError> {
+    stage.put_file("s", sample)?;
+    stage.put_file("t", second)?;
+    stage.put_files(OUTPUTS)
+}
+
+// Whether the samples stay, and the other files are as they are to be.
+fn has_after(stage: &Stage, case: &Case) -> bool {
+    stage.has_file("s", case.sample)
+        && stage.has_file("t", case.second)
+        && stage.has_file("o", case.picture)
+        && stage.has_file("m", case.map)
+        && stage.has_file("r", case.record)
+}
+
+// Runs a case over a stage without a file, and says whether all is as it is to be.
+fn holds_on(stage: &mut Stage, case: &Case) -> Result<bool, AllocError> {
+    put_before(stage, case.sample, case.second)?;
+    stage.fail(case.failing, 0)?;
+    let is_ended = stage.ends(case.words, case.status, case.report, case.line)?;
+    Ok(is_ended && has_after(stage, case))
+}
+
 /// Runs a case, and says whether all is as it is to be. The samples stay.
 pub fn holds(alloc: Global, case: &Case) -> Result<bool, AllocError> {
-    let before = [
-        ("s", case.sample),
-        ("t", case.second),
-        ("o", BEFORE),
-        ("m", BEFORE),
-        ("r", BEFORE),
-    ];
-    let after = [
-        ("s", case.sample),
-        ("t", case.second),
-        ("o", case.picture),
-        ("m", case.map),
-        ("r", case.record),
-    ];
-    let run = Run {
-        words: case.words,
-        before: &before,
-        failing: case.failing,
-        status: case.status,
-        report: case.report,
-        line: case.line,
-        after: &after,
-    };
-    leaves(alloc, &run)
+    let mut stage = Stage::new(alloc);
+    let found = holds_on(&mut stage, case);
+    drop(stage);
+    found
 }
 
 /// The number of the first case, from 0, that doesn't hold.
@@ -75,23 +81,18 @@ pub struct Made<'a> {
 
 // Runs both lines over a stage without a file, and says whether all is as it is to be.
 fn is_made_on(stage: &mut Stage, made: &Made) -> Result<bool, AllocError> {
-    let before = [
-        ("s", made.sample),
-        ("t", made.second),
-        ("o", BEFORE),
-        ("m", BEFORE),
-        ("r", BEFORE),
-    ];
-    stage.put_files(&before)?;
+    put_before(stage, made.sample, made.second)?;
     let is_reported = stage.reports(made.words, made.report)?;
-    let is_written = stage.has_files(&[("o", made.picture)]);
+    let is_written = stage.has_file("o", made.picture);
     Ok(is_reported && is_written && stage.reports(made.check, "stands\n")?)
 }
 
 /// Runs both lines, and says whether the report and the out file are these, and the files stand.
 pub fn is_made(alloc: Global, made: &Made) -> Result<bool, AllocError> {
     let mut stage = Stage::new(alloc);
-    is_made_on(&mut stage, made)
+    let found = is_made_on(&mut stage, made);
+    drop(stage);
+    found
 }
 
 /// The number of the first run, from 0, that doesn't leave what it is to leave.

@@ -26,7 +26,9 @@ fn leaves_on(stage: &mut Stage, run: &Run) -> Result<bool, AllocError> {
 /// Whether a run ends so, and leaves these files.
 pub fn leaves(alloc: Global, run: &Run) -> Result<bool, AllocError> {
     let mut stage = Stage::new(alloc);
-    leaves_on(&mut stage, run)
+    let found = leaves_on(&mut stage, run);
+    drop(stage);
+    found
 }
 
 /// The number of the first run, from 0, that ends otherwise or leaves other files.

@@ -67,7 +67,8 @@ pub enum Failing<'a> {
 }
 
 /// Files in memory, and what the last run over them wrote to its report and as its line. No call of it has a
-/// contract, so what a run promises is no part of the proofs of its callers.
+/// contract, so what a run promises is no part of the proofs of its callers. Where one is given to `drop`, its end is
+/// proved once, by itself.
 #[derive(Drop)]
 pub struct Stage {
     alloc: Global,

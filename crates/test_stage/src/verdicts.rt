@@ -55,16 +55,10 @@ fn put_changed(
 }
 
 fn put_all(alloc: Global, stage: &mut Stage, of: &Verdict) -> Result<(), AllocError> {
-    let files = [
-        ("s", of.sample),
-        ("o", of.picture),
-        ("m", of.map),
-        ("r", of.record),
-    ];
-    for (name, file) in files {
-        put_changed(alloc, stage, name, file, of.bytes)?;
-    }
-    Ok(())
+    put_changed(alloc, stage, "s", of.sample, of.bytes)?;
+    put_changed(alloc, stage, "o", of.picture, of.bytes)?;
+    put_changed(alloc, stage, "m", of.map, of.bytes)?;
+    put_changed(alloc, stage, "r", of.record, of.bytes)
 }
 
 // Checks the files of a stage by these words, and says whether all is as it is to be.
@@ -82,7 +76,9 @@ fn is_judged_on(
 // Checks the files by these words, and says whether status, report and line are these, and no file is written.
 fn is_judged_by(alloc: Global, words: &str, of: &Verdict) -> Result<bool, AllocError> {
     let mut stage = Stage::new(alloc);
-    is_judged_on(alloc, &mut stage, words, of)
+    let found = is_judged_on(alloc, &mut stage, words, of);
+    drop(stage);
+    found
 }
 
 /// Checks the files, and says whether status, report and line are these, and no file is written.

@@ -69,7 +69,9 @@ fn is_found_on(alloc: Global, stage: &mut Stage, row: &Row) -> Result<bool, Allo
 
 fn is_found(alloc: Global, row: &Row) -> Result<bool, AllocError> {
     let mut stage = Stage::new(alloc);
-    is_found_on(alloc, &mut stage, row)
+    let found = is_found_on(alloc, &mut stage, row);
+    drop(stage);
+    found
 }
 
 // The number of the first row, from 0, of which `check` finds something else.

@@ -166,7 +166,7 @@ fn line_of(alloc: Global, reader: &Reader, status: u8, why: &str) -> Result<Stri
 
 // Runs a command over a stage without a file, and says whether it ends with this status and this line, and leaves
 // every file as it was.
-fn is_refused_on(
+fn ends_so_on(
     stage: &mut Stage,
     reader: &Reader,
     bytes: &[u8],
@@ -179,6 +179,19 @@ fn is_refused_on(
     Ok(is_ended && stage.has_files(reader.others) && stage.has_file(reader.name, bytes))
 }
 
+fn ends_so(
+    alloc: Global,
+    reader: &Reader,
+    bytes: &[u8],
+    status: u8,
+    line: &str,
+) -> Result<bool, AllocError> {
+    let mut stage = Stage::new(alloc);
+    let found = ends_so_on(&mut stage, reader, bytes, status, line);
+    drop(stage);
+    found
+}
+
 // Whether a command that reads these bytes ends with this status and says why, and leaves every
 // file as it was.
 fn is_refused(
@@ -189,8 +202,7 @@ fn is_refused(
     why: &str,
 ) -> Result<bool, AllocError> {
     let line = line_of(alloc, reader, status, why)?;
-    let mut stage = Stage::new(alloc);
-    is_refused_on(&mut stage, reader, bytes, status, line.as_str())
+    ends_so(alloc, reader, bytes, status, line.as_str())
 }
 
 /// The number of the first command, from 0, that doesn't refuse these bytes so.

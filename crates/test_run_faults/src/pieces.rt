@@ -35,10 +35,21 @@ fn file_of<'a>(stage: &'a Stage, name: &str) -> &'a [u8] {
     stage.file(name).unwrap_or(b"")
 }
 
-// The same of a run of these words over one sample.
+// The same of a run of these words over one sample, on a stage without a file.
+fn is_made_and_checked(
+    alloc: Global,
+    stage: &mut Stage,
+    words: &str,
+    sample: &[u8],
+) -> Result<bool, AllocError> {
+    Ok(is_made(stage, words, sample)? && is_checked_on(alloc, stage)?)
+}
+
 fn is_checked(alloc: Global, words: &str, sample: &[u8]) -> Result<bool, AllocError> {
     let mut stage = Stage::new(alloc);
-    Ok(is_made(&mut stage, words, sample)? && is_checked_on(alloc, &stage)?)
+    let found = is_made_and_checked(alloc, &mut stage, words, sample);
+    drop(stage);
+    found
 }
 
 const GROWING: &str = "grow sample=s out=o map=m record=r width=64 height=22 place=grid overlap=0";
@@ -75,9 +86,15 @@ fn is_lifted_on(alloc: Global, stage: &Stage) -> Result<bool, AllocError> {
     fails_well(alloc, &of)
 }
 
+fn is_made_and_lifted(alloc: Global, stage: &mut Stage) -> Result<bool, AllocError> {
+    Ok(is_made(stage, GROWING, FOUR_CELLS)? && is_lifted_on(alloc, stage)?)
+}
+
 fn is_lifted(alloc: Global) -> Result<bool, AllocError> {
     let mut stage = Stage::new(alloc);
-    Ok(is_made(&mut stage, GROWING, FOUR_CELLS)? && is_lifted_on(alloc, &stage)?)
+    let found = is_made_and_lifted(alloc, &mut stage);
+    drop(stage);
+    found
 }
 
 #[test]

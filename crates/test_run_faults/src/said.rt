@@ -46,6 +46,18 @@ fn status_on(stage: &mut Stage, of: &Refused) -> Result<u8, AllocError> {
     stage.run(of.words)
 }
 
+// The same where a write of the line fails, after so many that go well.
+fn found_on(
+    stage: &mut Stage,
+    of: &Refused,
+    after: u8,
+    kept: usize,
+) -> Result<Option<bool>, AllocError> {
+    stage.fail_line(after, kept)?;
+    let status = status_on(stage, of)?;
+    Ok(found_of(of, status, stage, after, kept))
+}
+
 fn after_writes(
     alloc: Global,
     of: &Refused,
@@ -53,9 +65,9 @@ fn after_writes(
     kept: usize,
 ) -> Result<Option<bool>, AllocError> {
     let mut stage = Stage::new(alloc);
-    stage.fail_line(after, kept)?;
-    let status = status_on(&mut stage, of)?;
-    Ok(found_of(of, status, &stage, after, kept))
+    let found = found_on(&mut stage, of, after, kept);
+    drop(stage);
+    found
 }
 
 // Whether the status stays and the line is cut off where each write of it fails in turn.

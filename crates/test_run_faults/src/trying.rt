@@ -236,7 +236,9 @@ fn found_after(
     after: u8,
 ) -> Result<Found, AllocError> {
     let left = left_by(alloc, of, failing_of(fault), after)?;
-    found_of(alloc, of, whole, &left, fault, after)
+    let found = found_of(alloc, of, whole, &left, fault, after);
+    drop(left);
+    found
 }
 
 // Each call of a kind fails in turn.
@@ -300,11 +302,18 @@ fn each_fails(alloc: Global, of: &Trying, whole: &Left) -> Result<bool, AllocErr
     )
 }
 
+// Whether a run left what it is to leave without a fault, and does so with each call failing.
+fn fails_well_beside(alloc: Global, of: &Trying, whole: &Left) -> Result<bool, AllocError> {
+    Ok(is_well(of, whole, whole) && each_fails(alloc, of, whole)?)
+}
+
 /// Whether a run leaves what it is to leave, without a fault and with each read, begin and write
 /// failing in turn. A write that fails keeps nothing of its piece, or one byte.
 pub fn fails_well(alloc: Global, of: &Trying) -> Result<bool, AllocError> {
     let whole = left_by(alloc, of, Failing::Nothing, 0)?;
-    Ok(is_well(of, &whole, &whole) && each_fails(alloc, of, &whole)?)
+    let found = fails_well_beside(alloc, of, &whole);
+    drop(whole);
+    found
 }
 
 /// The number of the first run, from 0, that doesn't.

@@ -1,21 +1,37 @@
-//! Whole runs of `quilt`, `transfer`, `loop`, `tile` and `merge`: the files and the report, with files failing in turn; words,
-//! samples, targets, marks and sizes that are refused, in the order in which their refusals are tried; `check` of quilts,
-//! transfers and loops, with each rule of their records broken. What is expected is spelled by hand from the formats of the files
-//! and the texts of reports and faults. Costs and walks were found by trying each boundary and each walk, and picks of transfers
-//! by trying each candidate; maps and seams of tilings by hand, and by a plain program that tries every choice of each patch
-//! (checks/random_tiles.py).
+//! Whole runs of every command but `grow` and `trial`: the files and the report, with files failing in turn; words, samples,
+//! targets, marks and sizes that are refused, in the order in which their refusals are tried; `check` of files that stand, of files
+//! with each rule of their records broken, cut off or out of their forms; upgrades to the byte. Runs of `grow` and `check` over the
+//! turns of samples. What is expected is spelled by hand from the rules of records, the formats of the files and the texts of
+//! reports and faults. Costs and walks were found by trying each boundary and each walk, and picks of transfers by trying each
+//! candidate; maps and seams of tilings by hand, and by a plain program that tries every choice of each patch
+//! (checks/random_tiles.py). The patches that are drawn over turns are the program's own; a verifier that shares nothing with it
+//! (tools/verify.py) accepts each run.
 #![tactic(auto)]
 
 #[cfg(test)]
+mod block_forms;
+#[cfg(test)]
+mod block_rules;
+#[cfg(test)]
 mod blocks;
+#[cfg(test)]
+mod cut_files;
+#[cfg(test)]
+mod cut_forms;
+#[cfg(test)]
+mod cut_off;
+#[cfg(test)]
+mod cut_rules;
 #[cfg(test)]
 mod expect;
 #[cfg(test)]
 mod failing_merges;
 #[cfg(test)]
-mod forms;
-#[cfg(test)]
 mod great_clips;
+#[cfg(test)]
+mod lifted;
+#[cfg(test)]
+mod lifted_files;
 #[cfg(test)]
 mod loop_clips;
 #[cfg(test)]
@@ -31,6 +47,8 @@ mod merging;
 #[cfg(test)]
 mod quilting;
 #[cfg(test)]
+mod reading;
+#[cfg(test)]
 mod refused;
 #[cfg(test)]
 mod refused_loops;
@@ -41,7 +59,7 @@ mod refused_tiles;
 #[cfg(test)]
 mod refused_transfers;
 #[cfg(test)]
-mod rules;
+mod refused_upgrades;
 #[cfg(test)]
 mod square;
 #[cfg(test)]
@@ -52,3 +70,19 @@ mod tile_samples;
 mod tiled;
 #[cfg(test)]
 mod transferred;
+#[cfg(test)]
+mod turned_bounds;
+#[cfg(test)]
+mod turned_checked;
+#[cfg(test)]
+mod turned_grown;
+#[cfg(test)]
+mod turned_refused;
+#[cfg(test)]
+mod turned_samples;
+#[cfg(test)]
+mod turned_written;
+#[cfg(test)]
+mod upgrading;
+#[cfg(test)]
+mod verdicts;

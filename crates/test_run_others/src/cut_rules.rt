@@ -1,8 +1,8 @@
 // Files that stand, and files in their forms with the first rule that they break. The second record
 // begins at byte 69 of its file: the column of its source at 81, its choice at 87, and a flow of 4
 // bytes for each pair from 88 on.
+use crate::cut_files::STANDS;
 use crate::expect::expect_none;
-use crate::files::STANDS;
 use test_stage::{Verdict, wrong_verdict};
 
 const BROKEN: Verdict<'static> = Verdict {

@@ -1,6 +1,6 @@
 // Maps and records that are cut off or go on.
+use crate::cut_files::STANDS;
 use crate::expect::{expect_none, expect_true};
-use crate::files::STANDS;
 use std::alloc::{AllocError, Global};
 use test_stage::{
     OVERLAP_MAP, OVERLAP_RECORD, Verdict, is_judged, wrong_map_cut, wrong_record_cut,

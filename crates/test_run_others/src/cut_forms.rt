@@ -1,7 +1,7 @@
 // Files that aren't in their forms or pass a limit. The sizes of the output are at byte 10 of map
 // and record, the count of records at 34, and the first record at 38.
+use crate::cut_files::STANDS;
 use crate::expect::expect_none;
-use crate::files::STANDS;
 use test_stage::{Verdict, wrong_verdict};
 
 const FORM: Verdict<'static> = Verdict {

@@ -42,19 +42,43 @@ fn hold_streams(rt: &HostRuntime) -> [Option<File>; 3] {
     ]
 }
 
-fn main(rt: HostRuntime) -> io::Result<ExitCode> {
+// Says that there is no memory, and gives the status for that.
+fn no_memory(err: &mut ErrorOutput) -> u8 {
+    let _ = say_fault(&Fault::NoMemory, err);
+    NO_MEMORY
+}
+
+// Runs words. What a run promises goes no further.
+fn run_words(
+    alloc: Global,
+    words: &Words,
+    shelf: &mut RealShelf,
+    out: &mut Output,
+    err: &mut ErrorOutput,
+) -> u8 {
+    run(alloc, words, shelf, out, err)
+}
+
+// The status of these words over the files of the system.
+fn status_over(rt: HostRuntime, words: &Words, out: &mut Output, err: &mut ErrorOutput) -> u8 {
     let alloc = rt.alloc();
+    match RealShelf::new(rt, alloc) {
+        Ok(mut shelf) => run_words(alloc, words, &mut shelf, out, err),
+        Err(_) => no_memory(err),
+    }
+}
+
+// The status of the words of the command line.
+fn status_of(rt: HostRuntime, out: &mut Output, err: &mut ErrorOutput) -> u8 {
+    match words_of(&rt, rt.alloc()) {
+        Ok(words) => status_over(rt, &words, out, err),
+        Err(_) => no_memory(err),
+    }
+}
+
+fn main(rt: HostRuntime) -> io::Result<ExitCode> {
     let _held = hold_streams(&rt);
     let mut out = Output::new(rt.clone()?);
     let mut err = ErrorOutput::new(rt.clone()?);
-    let Ok(words) = words_of(&rt, alloc) else {
-        let _ = say_fault(&Fault::NoMemory, &mut err);
-        return Ok(ExitCode::from(NO_MEMORY));
-    };
-    let Ok(mut shelf) = RealShelf::new(rt, alloc) else {
-        let _ = say_fault(&Fault::NoMemory, &mut err);
-        return Ok(ExitCode::from(NO_MEMORY));
-    };
-    let status = run(alloc, &words, &mut shelf, &mut out, &mut err);
-    Ok(ExitCode::from(status))
+    Ok(ExitCode::from(status_of(rt, &mut out, &mut err)))
 }

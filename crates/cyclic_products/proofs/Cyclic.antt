@@ -9,7 +9,7 @@ use Rattle.std.proofs.lemmas.List.FromFn.{get_or-map-range_with_len, length-map-
 use Rattle.boxes.specs.Sums.{sum_to}
 use Rattle.boxes.proofs.Additions.{counts}
 use Rattle.boxes.proofs.Axes.{sum_equal, sum_first}
-use Rattle.cyclic_products.specs.Residues.{IsSame}
+use Rattle.cyclic_products.specs.Residues.{IsCongruent}
 use Rattle.cyclic_products.specs.Products.{cyclic, cyclic_at, index_to}
 use Rattle.cyclic_products.proofs.SameNumbers.{same_equal, same_plus, same_refl, same_sym, same_times, same_trans}
 use Rattle.cyclic_products.proofs.Values.{value, value-append}
@@ -89,7 +89,7 @@ value-plus a r (x ∷ xs) (y ∷ ys) (z ∷ zs) e f each =
     omega (arith, head, product)
 
 -- turned by one, a list has its value times r
-value-turned : (q r : ℕ) (g : List ℕ) → 1 ≤ length g → IsSame q (r ^ length g) 1 → IsSame q (value r (turned g)) (r * value r g)
+value-turned : (q r : ℕ) (g : List ℕ) → 1 ≤ length g → IsCongruent q (r ^ length g) 1 → IsCongruent q (value r (turned g)) (r * value r g)
 value-turned q r g some root =
     let m = length g - 1 in
     let init = take m g in
@@ -103,8 +103,8 @@ value-turned q r g some root =
     let power : r ^ length g ≡ r ^ m * r = ap (λ n. r ^ n) (omega (arith, some)) ∙ pow-suc r m in
     let product : r ^ length g * last ≡ (r ^ m * r) * last = ap (λ n. n * last) power in
     let whole : r * value r g ≡ r * value r init + r ^ length g * last = omega (arith, times_r, product) in
-    let one : IsSame q (r ^ length g * last) (1 * last) = same_times q _ _ last last root (same_refl q last) in
-    let back : IsSame q (r * value r init + r ^ length g * last) (r * value r init + 1 * last) = same_plus q _ _ _ _ (same_refl q (r * value r init)) one in
+    let one : IsCongruent q (r ^ length g * last) (1 * last) = same_times q _ _ last last root (same_refl q last) in
+    let back : IsCongruent q (r * value r init + r ^ length g * last) (r * value r init + 1 * last) = same_plus q _ _ _ _ (same_refl q (r * value r init)) one in
     same_sym q _ _ (same_trans q _ _ _ (same_equal q _ _ whole) (same_trans q _ _ _ back (same_equal q _ _ (omega arith))))
 
 pub length-cyclic : (f g : List ℕ) → length (cyclic f g) ≡ length g
@@ -115,7 +115,7 @@ cyclic_entry : (f g : List ℕ) (k : ℕ) → k < length g → get_or (cyclic f 
 unfolding cyclic
 cyclic_entry f g k below = get_or-map-range_with_len (cyclic_at f g) 0 (length g) k k 0 below (omega arith)
 
-pub value-cyclic : (q r : ℕ) (f g : List ℕ) → 1 ≤ length g → length f ≤ length g → IsSame q (r ^ length g) 1 → IsSame q (value r (cyclic f g)) (value r f * value r g)
+pub value-cyclic : (q r : ℕ) (f g : List ℕ) → 1 ≤ length g → length f ≤ length g → IsCongruent q (r ^ length g) 1 → IsCongruent q (value r (cyclic f g)) (value r f * value r g)
 value-cyclic q r [] g some fits root =
     let none : value r (cyclic [] g) ≡ 0 = value-zero r (cyclic [] g) (λ k lt. cyclic_entry [] g k (omega (arith, length-cyclic [] g, lt))) in
     same_equal q _ _ (omega (arith, none))
@@ -125,9 +125,9 @@ value-cyclic q r (a ∷ f) g some fits root =
     let sum : value r (cyclic (a ∷ f) g) ≡ a * value r g + value r (cyclic f h) =
     value-plus a r g (cyclic f h) (cyclic (a ∷ f) g) (length-cyclic f h ∙ size) (length-cyclic (a ∷ f) g)
     (λ k lt. cyclic_entry (a ∷ f) g k lt ∙ cyclic_more a f g k lt (omega (arith, fits)) ∙ ap (λ n. a * get_or g k 0 + n) (sym (cyclic_entry f h k (omega (arith, size, lt))))) in
-    let again : IsSame q (r ^ length h) 1 = same_trans q _ _ _ (same_equal q _ _ (ap (λ n. r ^ n) size)) root in
-    let rest : IsSame q (value r (cyclic f h)) (value r f * value r h) = value-cyclic q r f h (omega (arith, size, some)) (omega (arith, size, fits)) again in
-    let by_turn : IsSame q (value r f * value r h) (value r f * (r * value r g)) = same_times q _ _ _ _ (same_refl q (value r f)) (value-turned q r g some root) in
-    let both : IsSame q (a * value r g + value r (cyclic f h)) (a * value r g + value r f * (r * value r g)) =
+    let again : IsCongruent q (r ^ length h) 1 = same_trans q _ _ _ (same_equal q _ _ (ap (λ n. r ^ n) size)) root in
+    let rest : IsCongruent q (value r (cyclic f h)) (value r f * value r h) = value-cyclic q r f h (omega (arith, size, some)) (omega (arith, size, fits)) again in
+    let by_turn : IsCongruent q (value r f * value r h) (value r f * (r * value r g)) = same_times q _ _ _ _ (same_refl q (value r f)) (value-turned q r g some root) in
+    let both : IsCongruent q (a * value r g + value r (cyclic f h)) (a * value r g + value r f * (r * value r g)) =
     same_plus q _ _ _ _ (same_refl q (a * value r g)) (same_trans q _ _ _ rest by_turn) in
     same_trans q _ _ _ (same_equal q _ _ sum) (same_trans q _ _ _ both (same_equal q _ _ (omega arith)))

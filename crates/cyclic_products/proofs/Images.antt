@@ -4,7 +4,7 @@ use Rattle.std.specs.List.{AllZip}
 use Rattle.std.proofs.Math.Nat.{mul-le-mul_left, pow-suc, pow-zero, two-pow-succ}
 use Rattle.std.proofs.lemmas.Nat.{pow-add, pow_pos}
 use Rattle.std.proofs.lemmas.List.{take-append-drop, length-take-le, length-drop}
-use Rattle.cyclic_products.specs.Residues.{IsSame, mix}
+use Rattle.cyclic_products.specs.Residues.{IsCongruent, mix}
 use Rattle.cyclic_products.specs.Splits.{HasSquares, at, split_by}
 use Rattle.cyclic_products.proofs.SameNumbers.{same_by, same_equal, same_plus, same_refl, same_sym, same_times, same_trans}
 use Rattle.cyclic_products.proofs.Lists.{all_zip_append, all_zip_weaker, length-zip_with}
@@ -18,22 +18,22 @@ roots_of q table (suc k) j c =
 
 -- h is the value at r, a root of a polynomial
 pub record IsValueAt (q k c : ℕ) (f : List ℕ) (h r : ℕ) : Type 0 where
-  pub value : IsSame q h (value r f)
-  pub root : IsSame q (r ^ (2 ^ k)) c
+  pub value : IsCongruent q h (value r f)
+  pub root : IsCongruent q (r ^ (2 ^ k)) c
 
 -- the square of -a is that of a
-pub minus_squared : (q a c : ℕ) → IsSame q (a * a) c → IsSame q ((q * a) * (q * a)) c
+pub minus_squared : (q a c : ℕ) → IsCongruent q (a * a) c → IsCongruent q ((q * a) * (q * a)) c
 minus_squared q a c e =
     same_trans q _ (a * a) c (same_by q _ _ (a * a) (q * (a * a)) (omega arith)) e
 
 -- a value of a half's residue is one of the whole
-value_of_half : (q k a c h r : ℕ) (low high f : List ℕ) → low ++ high ≡ f → length low ≡ 2 ^ k → length high ≡ 2 ^ k → IsSame q (a * a) c → IsValueAt q k a (mix q 1 a low high) h r → IsValueAt q (suc k) c f h r
+value_of_half : (q k a c h r : ℕ) (low high f : List ℕ) → low ++ high ≡ f → length low ≡ 2 ^ k → length high ≡ 2 ^ k → IsCongruent q (a * a) c → IsValueAt q k a (mix q 1 a low high) h r → IsValueAt q (suc k) c f h r
 value_of_half q k a c h r low high f whole first second squared at_half =
     let parts : value r f ≡ value r low + r ^ (2 ^ k) * value r high =
     ap (λ g. value r g) (sym whole) ∙ value-append r low high ∙ ap (λ n. value r low + r ^ n * value r high) first in
-    let mixed_value : IsSame q (value r (mix q 1 a low high)) (1 * value r low + a * value r high) = value-mix q 1 a r low high (first ∙ sym second) in
-    let power : IsSame q (r ^ (2 ^ k) * value r high) (a * value r high) = same_times q _ a _ _ at_half.root (same_refl q (value r high)) in
-    let sum : IsSame q (1 * value r low + a * value r high) (value r low + r ^ (2 ^ k) * value r high) =
+    let mixed_value : IsCongruent q (value r (mix q 1 a low high)) (1 * value r low + a * value r high) = value-mix q 1 a r low high (first ∙ sym second) in
+    let power : IsCongruent q (r ^ (2 ^ k) * value r high) (a * value r high) = same_times q _ a _ _ at_half.root (same_refl q (value r high)) in
+    let sum : IsCongruent q (1 * value r low + a * value r high) (value r low + r ^ (2 ^ k) * value r high) =
     same_plus q _ _ _ _ (same_equal q _ _ (omega arith)) (same_sym q _ _ power) in
     let twice : r ^ (2 ^ suc k) ≡ r ^ (2 ^ k) * r ^ (2 ^ k) = ap (λ n. r ^ n) (two-pow-succ k) ∙ pow-add r (2 ^ k) (2 ^ k) in
     record {
@@ -62,7 +62,7 @@ first_power c =
     let whole : c ^ suc 0 ≡ c = omega (arith, one, none) in
     whole
 
-pub are_values : (q : ℕ) (table : List ℕ) → HasSquares q table → (k j c : ℕ) (f : List ℕ) → length f ≡ 2 ^ k → (j + 1) * 2 ^ k ≤ 2 * length table → (j < length table → IsSame q (at table j * at table j) c) → AllZip (IsValueAt q k c f) (split_by q table k j f) (roots_of q table k j c)
+pub are_values : (q : ℕ) (table : List ℕ) → HasSquares q table → (k j c : ℕ) (f : List ℕ) → length f ≡ 2 ^ k → (j + 1) * 2 ^ k ≤ 2 * length table → (j < length table → IsCongruent q (at table j * at table j) c) → AllZip (IsValueAt q k c f) (split_by q table k j f) (roots_of q table k j c)
 unfolding split_by roots_of
 are_values q table squares zero j c [] whole room squared = absurd (omega (arith, whole))
 are_values q table squares zero j c (x ∷ y ∷ f) whole room squared = absurd (omega (arith, whole))

@@ -1,7 +1,7 @@
 -- Lists that are read in step.
 use Rattle.std.proofs.Common.{◌≡◌, ℕ, ◌+◌, ◌%◌, ◌<◌, zero, suc, List, [], ◌∷◌, ◌++◌, length, get_or, take, drop, map, refl, subst, arith}
 use Rattle.std.specs.List.{AllZip}
-use Rattle.cyclic_products.specs.Residues.{AreSame, zip_with}
+use Rattle.cyclic_products.specs.Residues.{AreCongruent, zip_with}
 use Rattle.cyclic_products.proofs.SameNumbers.{same_refl}
 
 pub length-zip_with : (op : ℕ → ℕ → ℕ) (xs ys : List ℕ) → length xs ≡ length ys → length (zip_with op xs ys) ≡ length xs
@@ -103,7 +103,7 @@ all_zip_parts R (suc n) (a ∷ us) (x ∷ xs) ys e p =
     ((p.0, rest.0), rest.1)
 
 -- two lists that are the same modulo q + 1 have one list of residues
-pub residues_equal : (q : ℕ) (xs ys : List ℕ) → AreSame q xs ys → map (λ x. x % (q + 1)) xs ≡ map (λ x. x % (q + 1)) ys
+pub residues_equal : (q : ℕ) (xs ys : List ℕ) → AreCongruent q xs ys → map (λ x. x % (q + 1)) xs ≡ map (λ x. x % (q + 1)) ys
 residues_equal q [] [] p = refl
 residues_equal q [] (y ∷ ys) p = absurd p
 residues_equal q (x ∷ xs) [] p = absurd p
@@ -121,9 +121,9 @@ all_zip_meet R S T (u ∷ us) vs [] w p r = absurd p
 all_zip_meet R S T (u ∷ us) [] (x ∷ xs) w p r = absurd r
 all_zip_meet R S T (u ∷ us) (v ∷ vs) (x ∷ xs) w p r = (w u v x p.0 r.0, all_zip_meet R S T us vs xs w p.1 r.1)
 
-pub are_same : (q : ℕ) (xs ys : List ℕ) → xs ≡ ys → AreSame q xs ys
-are_same q xs ys e = subst (λ zs. AreSame q xs zs) e (itself xs)
+pub are_same : (q : ℕ) (xs ys : List ℕ) → xs ≡ ys → AreCongruent q xs ys
+are_same q xs ys e = subst (λ zs. AreCongruent q xs zs) e (itself xs)
   where
-    itself : (zs : List ℕ) → AreSame q zs zs
+    itself : (zs : List ℕ) → AreCongruent q zs zs
     itself [] = tt
     itself (z ∷ zs) = (same_refl q z, itself zs)

@@ -2,7 +2,7 @@
 use Rattle.std.proofs.Common.{◌≡◌, ℕ, ◌+◌, ◌*◌, ◌^◌, ◌%◌, ◌≤◌, List, length, sym, ◌∙◌, ap, arith}
 use Rattle.std.specs.List.{AllZip}
 use Rattle.std.proofs.lemmas.Nat.{pow_pos}
-use Rattle.cyclic_products.specs.Residues.{IsSame, mix, mixed, zip_with}
+use Rattle.cyclic_products.specs.Residues.{IsCongruent, mix, mixed, zip_with}
 use Rattle.cyclic_products.specs.Products.{cyclic}
 use Rattle.cyclic_products.specs.Splits.{AreImages, AreTables, Tables, at, split_by}
 use Rattle.cyclic_products.proofs.SameNumbers.{same_equal, same_mixed, same_mod, same_sym, same_times, same_trans}
@@ -21,7 +21,7 @@ module _ (q : ℕ) (t : Tables) (tables : AreTables q t) where
   pub room : (0 + 1) * 2 ^ t.levels ≤ 2 * length t.roots
   room = omega (arith, tables.whole)
 
-  first : IsSame q (at t.roots 0 * at t.roots 0) 1
+  first : IsCongruent q (at t.roots 0 * at t.roots 0) 1
   first = same_trans q _ _ _ (tables.squares.even 0 (omega (arith, tables.whole, pow_pos t.levels))) tables.squares.first
 
   of_split : (f : List ℕ) → length f ≡ 2 ^ t.levels → Values f (split_by q t.roots t.levels 0 f)
@@ -29,14 +29,14 @@ module _ (q : ℕ) (t : Tables) (tables : AreTables q t) where
 
   values_of : (f images : List ℕ) → AreImages q t f images → Values f images
   values_of f images are =
-      all_zip_compose (IsSame q) (IsValueAt q t.levels 1 f) (IsValueAt q t.levels 1 f) images _ roots
+      all_zip_compose (IsCongruent q) (IsValueAt q t.levels 1 f) (IsValueAt q t.levels 1 f) images _ roots
       (λ a b r same at_r. record { value = same_trans q _ _ _ same at_r.value; root = at_r.root }) are.split (of_split f are.whole)
 
   images_of : (f images : List ℕ) → length f ≡ 2 ^ t.levels → Values f images → AreImages q t f images
   images_of f images whole values = record {
     whole = whole;
     split =
-        all_zip_meet (IsValueAt q t.levels 1 f) (IsValueAt q t.levels 1 f) (IsSame q) images _ roots
+        all_zip_meet (IsValueAt q t.levels 1 f) (IsValueAt q t.levels 1 f) (IsCongruent q) images _ roots
         (λ a b r one other. same_trans q _ _ _ one.value (same_sym q _ _ other.value)) values (of_split f whole);
   }
 
@@ -48,8 +48,8 @@ module _ (q : ℕ) (t : Tables) (tables : AreTables q t) where
     where
       each : (a b r : ℕ) → IsValueAt q t.levels 1 f a r → IsValueAt q t.levels 1 g b r → IsValueAt q t.levels 1 (cyclic f g) ((a * b) % (q + 1)) r
       each a b r at_f at_g =
-          let root : IsSame q (r ^ length g) 1 = same_trans q _ _ _ (same_equal q _ _ (ap (λ n. r ^ n) of_g.whole)) at_f.root in
-          let whole : IsSame q (value r (cyclic f g)) (value r f * value r g) =
+          let root : IsCongruent q (r ^ length g) 1 = same_trans q _ _ _ (same_equal q _ _ (ap (λ n. r ^ n) of_g.whole)) at_f.root in
+          let whole : IsCongruent q (value r (cyclic f g)) (value r f * value r g) =
           value-cyclic q r f g (omega (arith, of_g.whole, pow_pos t.levels)) (omega (arith, of_f.whole, of_g.whole)) root in
           record {
             value =

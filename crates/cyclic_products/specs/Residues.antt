@@ -3,12 +3,12 @@ use Rattle.std.specs.Prelude.{◌≡◌, ℕ, ◌+◌, ◌*◌, ◌%◌, List, [
 use Rattle.std.specs.List.{AllZip}
 
 -- two numbers are the same modulo q + 1
-pub record IsSame (q a b : ℕ) : Type 0 where
+pub record IsCongruent (q a b : ℕ) : Type 0 where
   pub same : a % (q + 1) ≡ b % (q + 1)
 
 -- two lists have one length, and are the same number by number
-abbrev pub AreSame : ℕ → List ℕ → List ℕ → Type 0
-AreSame q xs ys = AllZip (IsSame q) xs ys
+abbrev pub AreCongruent : ℕ → List ℕ → List ℕ → Type 0
+AreCongruent q xs ys = AllZip (IsCongruent q) xs ys
 
 -- what an operation makes of two lists, number by number
 unfoldable pub zip_with : (ℕ → ℕ → ℕ) → List ℕ → List ℕ → List ℕ

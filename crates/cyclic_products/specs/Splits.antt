@@ -4,7 +4,7 @@
 -- and x^(m/2) + a for that number a, which have numbers 2 * j and 2 * j + 1 on the next level. (Bernstein 2001.)
 use Rattle.std.specs.Prelude.{ℕ, zero, suc, ◌≡◌, ◌≤◌, ◌<◌, ◌+◌, ◌*◌, ◌^◌, ◌%◌, List, [], ◌∷◌, ◌++◌, length, slice_index_or, take, drop}
 use Rattle.std.proofs.Common.{map}
-use Rattle.cyclic_products.specs.Residues.{AreSame, IsSame, mix}
+use Rattle.cyclic_products.specs.Residues.{AreCongruent, IsCongruent, mix}
 
 abbrev pub at : List ℕ → ℕ → ℕ
 at table j = slice_index_or table j 0
@@ -35,16 +35,16 @@ table_of q first ladder (suc k) =
 -- the numbers of a table have the squares that polynomials are split by: those of numbers 2 * j and
 -- 2 * j + 1 are number j and its negative
 pub record HasSquares (q : ℕ) (table : List ℕ) : Type 0 where
-  pub first : IsSame q (at table 0) 1
+  pub first : IsCongruent q (at table 0) 1
   pub even : (j : ℕ) → 2 * j < length table
-      → IsSame q (at table (2 * j) * at table (2 * j)) (at table j)
+      → IsCongruent q (at table (2 * j) * at table (2 * j)) (at table j)
   pub odd : (j : ℕ) → 2 * j + 1 < length table
-      → IsSame q (at table (2 * j + 1) * at table (2 * j + 1)) (q * at table j)
+      → IsCongruent q (at table (2 * j + 1) * at table (2 * j + 1)) (q * at table j)
 
 -- those of another are the halves of one over them
 pub record HasHalves (q : ℕ) (table halves : List ℕ) : Type 0 where
   pub inverse : (j : ℕ) → j < length table
-      → IsSame q (2 * (at table j * at halves j)) 1
+      → IsCongruent q (2 * (at table j * at halves j)) 1
 
 -- the tables of a transform of 2^levels numbers
 pub record Tables : Type 0 where
@@ -62,4 +62,4 @@ pub record AreTables (q : ℕ) (t : Tables) : Type 0 where
 -- numbers are, modulo q + 1, the images of a list
 pub record AreImages (q : ℕ) (t : Tables) (f images : List ℕ) : Type 0 where
   pub whole : length f ≡ 2 ^ t.levels
-  pub split : AreSame q images (split_by q t.roots t.levels 0 f)
+  pub split : AreCongruent q images (split_by q t.roots t.levels 0 f)

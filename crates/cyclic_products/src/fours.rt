@@ -1,6 +1,6 @@
 // Both levels of four numbers at once: a half of all calls would be for fewer.
 ghost use Rattle.std.specs.Prelude.{◌≡◌, ◌≤◌, ◌+◌, ◌*◌, length};
-ghost use Rattle.cyclic_products.specs.Residues.{AreSame};
+ghost use Rattle.cyclic_products.specs.Residues.{AreCongruent};
 ghost use Rattle.cyclic_products.specs.Splits.{join_by, split_by};
 
 use crate::passes::{join_pair, split_pair};
@@ -10,7 +10,7 @@ use crate::residues::{HALF, LAST};
 pub(crate) fn split_four(table: &[u64], j: usize, values: &mut [u64])
     requires whole { length values.old ≡ 4 }
     requires table { (j + 1) * 4 ≤ 2 * length table.now }
-    ensures { AreSame LAST values.new (split_by LAST table.now 2 j values.old) }
+    ensures { AreCongruent LAST values.new (split_by LAST table.now 2 j values.old) }
 {
     let (a, c) = split_pair(table[j], values[0], values[2]);
     let (b, d) = split_pair(table[j], values[1], values[3]);
@@ -26,7 +26,7 @@ pub(crate) fn split_four(table: &[u64], j: usize, values: &mut [u64])
 pub(crate) fn join_four(halves: &[u64], j: usize, values: &mut [u64])
     requires whole { length values.old ≡ 4 }
     requires table { (j + 1) * 4 ≤ 2 * length halves.now }
-    ensures { AreSame LAST values.new (join_by LAST HALF halves.now 2 j values.old) }
+    ensures { AreCongruent LAST values.new (join_by LAST HALF halves.now 2 j values.old) }
 {
     let (a, b) = join_pair(halves[2 * j], values[0], values[1]);
     let (c, d) = join_pair(halves[2 * j + 1], values[2], values[3]);

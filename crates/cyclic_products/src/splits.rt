@@ -1,6 +1,6 @@
 // The way down and the way back, level by level, in place, modulo the prime.
 ghost use Rattle.std.specs.Prelude.{◌≡◌, ◌≤◌, ◌+◌, ◌*◌, ◌^◌, length};
-ghost use Rattle.cyclic_products.specs.Residues.{AreSame};
+ghost use Rattle.cyclic_products.specs.Residues.{AreCongruent};
 ghost use Rattle.cyclic_products.specs.Splits.{join_by, split_by};
 
 use crate::fours::{join_four, split_four};
@@ -11,7 +11,7 @@ use crate::residues::{HALF, LAST};
 pub(crate) fn split(levels: u32, table: &[u64], j: usize, values: &mut [u64])
     requires whole { length values.old ≡ 2 ^ levels }
     requires table { (j + 1) * 2 ^ levels ≤ 2 * length table.now }
-    ensures { AreSame LAST values.new (split_by LAST table.now levels j values.old) }
+    ensures { AreCongruent LAST values.new (split_by LAST table.now levels j values.old) }
 {
     if levels == 2 {
         split_four(table, j, values);
@@ -30,7 +30,7 @@ pub(crate) fn split(levels: u32, table: &[u64], j: usize, values: &mut [u64])
 pub(crate) fn join(levels: u32, halves: &[u64], j: usize, values: &mut [u64])
     requires whole { length values.old ≡ 2 ^ levels }
     requires table { (j + 1) * 2 ^ levels ≤ 2 * length halves.now }
-    ensures { AreSame LAST values.new (join_by LAST HALF halves.now levels j values.old) }
+    ensures { AreCongruent LAST values.new (join_by LAST HALF halves.now levels j values.old) }
 {
     if levels == 2 {
         join_four(halves, j, values);

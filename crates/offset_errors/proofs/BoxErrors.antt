@@ -18,7 +18,7 @@ use Rattle.boxes.proofs.Axes.{sum_equal, sum_exchange}
 use Rattle.boxes.proofs.Boxes.{box_equal, box_related}
 use Rattle.cyclic_products.specs.declared.residues.TheConstants.{LAST, PRIME}
 use Rattle.cyclic_products.specs.Products.{offset_at}
-use Rattle.cyclic_products.specs.Residues.{IsSame}
+use Rattle.cyclic_products.specs.Residues.{IsCongruent}
 use Rattle.cyclic_products.proofs.SameNumbers.{same_equal, same_plus, same_refl, same_trans}
 use Rattle.map_canvas.specs.declared.canvas.Placement.{Placement}
 use Rattle.map_canvas.specs.CellErrors.{cell_error, spot_error}
@@ -28,7 +28,7 @@ use Rattle.map_canvas.proofs.Filling.{new_sources}
 use Rattle.match_error.specs.Errors.{error_sum}
 use Rattle.match_error.proofs.Bounds.{error_small}
 use Rattle.offset_errors.specs.Numbers.{box_number, new_number, part_number, source_number}
-use Rattle.offset_errors.specs.Offsets.{IsPlaced, box_list, part_list}
+use Rattle.offset_errors.specs.Offsets.{IsAtOffset, box_list, part_list}
 use Rattle.offset_errors.specs.Padded.{HoldsBoth}
 use Rattle.offset_errors.proofs.CellSums.{cell_sum}
 use Rattle.offset_errors.proofs.PlacedSums.{sum_at_offset}
@@ -64,7 +64,7 @@ module _ (m : SourceMap) (sample : Cells) (placement : Placement) (small : IsSma
   product_at j x y f =
       source_number sample j (map_at m (cell_in placement.rect x y f)) * new_number (sample_cell sample (Some (plus placement.from (spot x y f)))) j
 
-  spot_same : (x y f : ℕ) → AreCounts placement.rect.size x y f → IsSame LAST (sum_to (suc (suc sample.k)) (λ j. product_at j x y f)) (spot_error m sample placement x y f)
+  spot_same : (x y f : ℕ) → AreCounts placement.rect.size x y f → IsCongruent LAST (sum_to (suc (suc sample.k)) (λ j. product_at j x y f)) (spot_error m sample placement x y f)
   spot_same x y f are =
       let source = map_at m (cell_in placement.rect x y f) in
       let has = ((new_sources m.size sample placement fits is).steps (spot x y f) (subst IsSome (sym (index_of_spot placement.rect.size x y f are.column are.row are.frame)) refl)).cell in
@@ -73,17 +73,17 @@ module _ (m : SourceMap) (sample : Cells) (placement : Placement) (small : IsSma
       (cell_sum sample is source (plus placement.from (spot x y f)) (named m sample over (cell_in placement.rect x y f)) has)
       (same_equal LAST _ _ (ap (cell_error sample source) back))
 
-  products_same : IsSame LAST (sum_to (suc (suc sample.k)) (λ j. sum_box placement.rect.size (product_at j))) (error_sum m sample placement)
+  products_same : IsCongruent LAST (sum_to (suc (suc sample.k)) (λ j. sum_box placement.rect.size (product_at j))) (error_sum m sample placement)
   products_same =
       same_trans LAST _ (sum_box placement.rect.size (λ x y f. sum_to (suc (suc sample.k)) (λ j. product_at j x y f))) _
       (same_equal LAST _ _ (sums_exchange (suc (suc sample.k)) placement.rect.size product_at))
-      (box_related counts counts (IsSame LAST) (same_refl LAST 0) (λ a c b d p q. same_plus LAST a b c d p q) placement.rect.size
+      (box_related counts counts (IsCongruent LAST) (same_refl LAST 0) (λ a c b d p q. same_plus LAST a b c d p q) placement.rect.size
       (λ x y f. sum_to (suc (suc sample.k)) (λ j. product_at j x y f)) (spot_error m sample placement)
       (λ x y f lx ly lf. spot_same x y f (record { column = lx; row = ly; frame = lf })))
 
   -- the sums of all products at an offset add up to the overlap error there, modulo the prime
   pub error_at_offset : (n : ℕ) (pad : Size) (rect part : Box3) (dx dy df : ℕ) → HoldsBoth pad rect.size part.size → HasCells part.size → cell_count pad ≤ n
-      → IsPlaced pad rect part dx dy df placement
+      → IsAtOffset pad rect part dx dy df placement
       → sum_to (suc (suc sample.k)) (λ j. offset_at (box_list n pad m sample rect j) (part_list n pad rect.size sample part j) (raster_index pad dx dy df)) % PRIME
       ≡ error_sum m sample placement
   error_at_offset n pad rect part dx dy df both some enough at =

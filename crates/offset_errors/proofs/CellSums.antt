@@ -13,7 +13,7 @@ use Rattle.boxes.specs.Sums.{sum_to}
 use Rattle.boxes.proofs.Additions.{counts}
 use Rattle.boxes.proofs.Axes.{sum_first, sum_none}
 use Rattle.cyclic_products.specs.declared.residues.TheConstants.{LAST, PRIME}
-use Rattle.cyclic_products.specs.Residues.{IsSame}
+use Rattle.cyclic_products.specs.Residues.{IsCongruent}
 use Rattle.cyclic_products.proofs.SameNumbers.{same_by, same_equal}
 use Rattle.lane_kernels.specs.Sums.{squared_difference, sum_of_squared_differences}
 use Rattle.map_canvas.specs.CellErrors.{cell_error}
@@ -76,7 +76,7 @@ bytes_at v is p has = by (cell_at v p) (cell_is_cell v is p) has
 
 -- the products of all numbers of two cells add up to their squared difference
 pub cell_sum : (v : Cells) → IsVolume v → (source : Option At) (new : At) → IfSome source (HasCell v) → HasCell v new
-    → IsSame LAST (sum_to (suc (suc v.k)) (λ j. source_number v j source * new_number (sample_cell v (Some new)) j)) (cell_error v source new)
+    → IsCongruent LAST (sum_to (suc (suc v.k)) (λ j. source_number v j source * new_number (sample_cell v (Some new)) j)) (cell_error v source new)
 cell_sum v is None new over has =
     same_equal LAST _ 0 (sum_none counts (suc (suc v.k)) (λ j. 0 * new_number (sample_cell v (Some new)) j) (λ i less. omega arith))
 cell_sum v is (Some from) new over has =

@@ -5,7 +5,7 @@ use Rattle.std.proofs.lemmas.List.FromFn.{get_or-map-range_with_len, length-map-
 use Rattle.boxes.specs.Sums.{sum_to}
 use Rattle.cyclic_products.specs.declared.residues.TheConstants.{LAST}
 use Rattle.cyclic_products.specs.Products.{cyclic, cyclic_at, offset_at}
-use Rattle.cyclic_products.specs.Residues.{IsSame, mixed}
+use Rattle.cyclic_products.specs.Residues.{IsCongruent, mixed}
 use Rattle.cyclic_products.proofs.Lists.{get_or-zip_with, length-zip_with}
 use Rattle.cyclic_products.proofs.Offsets.{index_of_offset, reversed_product}
 use Rattle.cyclic_products.proofs.SameNumbers.{same_equal, same_mixed, same_trans}
@@ -39,7 +39,7 @@ module _ (n : ℕ) (f g : ℕ → List ℕ) (long : (j : ℕ) → length (f j) �
       let next : length (cyclic (reverse (f (suc j))) (g (suc j))) ≡ n = cyclic_length (reverse (f (suc j))) (g (suc j)) ∙ same (suc j) in
       length-zip_with (mixed LAST 1 1) (summed j f g) (cyclic (reverse (f (suc j))) (g (suc j))) (omega (arith, before, next)) ∙ before
 
-  pub summed_at : (last d : ℕ) → d < n → IsSame LAST (get_or (summed last f g) (index_of_offset n d) 0) (sum_to (suc last) (λ j. offset_at (f j) (g j) d))
+  pub summed_at : (last d : ℕ) → d < n → IsCongruent LAST (get_or (summed last f g) (index_of_offset n d) 0) (sum_to (suc last) (λ j. offset_at (f j) (g j) d))
   unfolding summed
   summed_at zero d below =
       let one = product_entry n (f 0) (g 0) d (long 0) (same 0) below in

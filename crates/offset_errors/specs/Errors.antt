@@ -11,7 +11,7 @@ use Rattle.map_canvas.specs.declared.canvas.Placement.{Placement}
 use Rattle.map_canvas.specs.Choices.{Fits}
 use Rattle.map_canvas.specs.Maps.{SourceMap}
 use Rattle.match_error.specs.Errors.{error_sum}
-use Rattle.offset_errors.specs.Offsets.{IsPlaced, box_list, part_list}
+use Rattle.offset_errors.specs.Offsets.{IsAtOffset, box_list, part_list}
 use Rattle.offset_errors.specs.Padded.{IsShared}
 use Rattle.offset_errors.specs.Summed.{summed}
 
@@ -54,7 +54,7 @@ sum_index n d = index_after n (n - 1) d
 -- at each offset stands the error of the placement that lays the part over the box there
 pub record AreErrors (m : SourceMap) (sample : Cells) (errors : OffsetSums) : Type 0 where
   pub each : (placement : Placement) (x y f : ℕ) → Fits m.size sample placement
-      → IsPlaced (padded errors.rect.size errors.part.size) errors.rect errors.part x y f placement
+      → IsAtOffset (padded errors.rect.size errors.part.size) errors.rect errors.part x y f placement
       → slice_get errors.sums (sum_index (length errors.sums)
       (raster_index (padded errors.rect.size errors.part.size) x y f))
       ≡ Some (error_sum m sample placement)

@@ -23,7 +23,7 @@ part_list n pad box sample part j =
 
 -- the placement lays the part over the output at the offset of three counts: its box has a cell of the
 -- box wherever the part has one there
-pub record IsPlaced (pad : Size) (rect part : Box3) (x y f : ℕ)
+pub record IsAtOffset (pad : Size) (rect part : Box3) (x y f : ℕ)
     (placement : Placement) : Type 0 where
   pub below : AreCounts pad x y f
   -- where the cells begin that both share: in the box, and in the part

@@ -19,7 +19,7 @@ fn taken_off(byte: u8) -> u64
 // The square of a byte.
 fn square(byte: u8) -> u64
     ensures square { result ≡ byte * byte }
-    ensures most { result ≤ 65025 }
+    ensures most { result ≤ 255 * 255 }
 {
     u64::from(byte) * u64::from(byte)
 }

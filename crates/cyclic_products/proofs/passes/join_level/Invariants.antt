@@ -1,11 +1,11 @@
 use Rattle.std.proofs.Common.{◌*◌}
 use Rattle.cyclic_products.specs.declared.residues.TheConstants.{HALF, LAST}
-use Rattle.cyclic_products.specs.Residues.{IsSame, mixed}
+use Rattle.cyclic_products.specs.Residues.{IsCongruent, mixed}
 use Rattle.cyclic_products.proofs.Walks.{IsWalked}
 use Rattle.cyclic_products.proofs.passes.join_level.Given as goal
 
 abbrev pub invariant-pairs : goal.invariant-pairs
 invariant-pairs l = record {
-  low : IsWalked (IsSame LAST) (mixed LAST HALF HALF) l.fn.low l.fn.high l.fn.low l.low l.i;
-  high : IsWalked (IsSame LAST) (mixed LAST l.b (LAST * l.b)) l.fn.low l.fn.high l.fn.high l.high l.i;
+  low : IsWalked (IsCongruent LAST) (mixed LAST HALF HALF) l.fn.low l.fn.high l.fn.low l.low l.i;
+  high : IsWalked (IsCongruent LAST) (mixed LAST l.b (LAST * l.b)) l.fn.low l.fn.high l.fn.high l.high l.i;
 }

@@ -1,6 +1,6 @@
 use Rattle.std.proofs.Common.{◌≡◌, ◌+◌, ◌-◌, ◌*◌, ◌^◌, ◌≤◌, ◌/◌, ◌++◌, suc, length, take, drop, refl, sym, ◌∙◌, ap, subst, arith}
 use Rattle.cyclic_products.specs.declared.residues.TheConstants.{HALF, LAST}
-use Rattle.cyclic_products.specs.Residues.{AreSame, IsSame, mix}
+use Rattle.cyclic_products.specs.Residues.{AreCongruent, IsCongruent, mix}
 use Rattle.cyclic_products.specs.Splits.{at, join_by}
 use Rattle.cyclic_products.proofs.Halvings.{half_length, here_below, join_one, left_room, rest_length, right_room}
 use Rattle.cyclic_products.proofs.Lists.{all_zip_append, are_same}
@@ -17,7 +17,7 @@ join_four-requires t c =
 
 pub returns-then-levels-eq2 : goal.returns-then-levels-eq2
 returns-then-levels-eq2 t c =
-    subst (λ k. AreSame LAST c.join_four.new.values (join_by LAST HALF c.args.halves.now k c.args.j c.args.values.now)) (sym c.if-levels-eq2.true) c.join_four.ensures
+    subst (λ k. AreCongruent LAST c.join_four.new.values (join_by LAST HALF c.args.halves.now k c.args.j c.args.values.now)) (sym c.if-levels-eq2.true) c.join_four.ensures
 
 pub returns-then-levels-eq0 : goal.returns-then-levels-eq0
 unfolding join_by
@@ -66,14 +66,14 @@ returns t c =
     let parts = c.split_at_mut-low.ensures in
     let first = join_by LAST HALF halves k (2 * j) (take (2 ^ k) f) in
     let second = join_by LAST HALF halves k (2 * j + 1) (drop (2 ^ k) f) in
-    let low : AreSame LAST c.join.new.values first =
-    subst (λ l. AreSame LAST c.join.new.values (join_by LAST HALF halves k (2 * j) l)) (parts.front ∙ ap (λ m. take m f) half) c.join.ensures in
-    let high : AreSame LAST c.join-2.new.values second =
-    subst (λ l. AreSame LAST c.join-2.new.values (join_by LAST HALF halves k (2 * j + 1) l)) (parts.back ∙ ap (λ m. drop m f) half) c.join-2.ensures in
-    let front : AreSame LAST c.join_level.new.low (mix LAST HALF HALF first second) =
+    let low : AreCongruent LAST c.join.new.values first =
+    subst (λ l. AreCongruent LAST c.join.new.values (join_by LAST HALF halves k (2 * j) l)) (parts.front ∙ ap (λ m. take m f) half) c.join.ensures in
+    let high : AreCongruent LAST c.join-2.new.values second =
+    subst (λ l. AreCongruent LAST c.join-2.new.values (join_by LAST HALF halves k (2 * j + 1) l)) (parts.back ∙ ap (λ m. drop m f) half) c.join-2.ensures in
+    let front : AreCongruent LAST c.join_level.new.low (mix LAST HALF HALF first second) =
     lists_trans LAST _ _ _ c.join_level.ensures.sum (same_mix LAST HALF HALF _ _ _ _ low high) in
-    let back : AreSame LAST c.join_level.new.high (mix LAST (at halves j) (LAST * at halves j) first second) =
+    let back : AreCongruent LAST c.join_level.new.high (mix LAST (at halves j) (LAST * at halves j) first second) =
     lists_trans LAST _ _ _ c.join_level.ensures.difference (same_mix LAST (at halves j) (LAST * at halves j) _ _ _ _ low high) in
-    subst (λ l. AreSame LAST (c.join_level.new.low ++ c.join_level.new.high) l)
+    subst (λ l. AreCongruent LAST (c.join_level.new.low ++ c.join_level.new.high) l)
     (join_one LAST HALF halves c.args.levels k j f first second more refl refl)
-    (all_zip_append (IsSame LAST) _ _ _ _ front back)
+    (all_zip_append (IsCongruent LAST) _ _ _ _ front back)

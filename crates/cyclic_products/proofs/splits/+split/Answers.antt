@@ -1,6 +1,6 @@
 use Rattle.std.proofs.Common.{◌≡◌, ◌+◌, ◌-◌, ◌*◌, ◌^◌, ◌≤◌, ◌/◌, ◌++◌, suc, length, take, drop, sym, ◌∙◌, ap, subst, arith}
 use Rattle.cyclic_products.specs.declared.residues.TheConstants.{LAST}
-use Rattle.cyclic_products.specs.Residues.{AreSame, IsSame, mix}
+use Rattle.cyclic_products.specs.Residues.{AreCongruent, IsCongruent, mix}
 use Rattle.cyclic_products.specs.Splits.{at, split_by}
 use Rattle.cyclic_products.proofs.Halvings.{half_length, here_below, left_room, rest_length, right_room, split_one}
 use Rattle.cyclic_products.proofs.Lists.{all_zip_append, are_same}
@@ -17,7 +17,7 @@ split_four-requires t c =
 
 pub returns-then-levels-eq2 : goal.returns-then-levels-eq2
 returns-then-levels-eq2 t c =
-    subst (λ k. AreSame LAST c.split_four.new.values (split_by LAST c.args.table.now k c.args.j c.args.values.now)) (sym c.if-levels-eq2.true) c.split_four.ensures
+    subst (λ k. AreCongruent LAST c.split_four.new.values (split_by LAST c.args.table.now k c.args.j c.args.values.now)) (sym c.if-levels-eq2.true) c.split_four.ensures
 
 pub returns-then-levels-eq0 : goal.returns-then-levels-eq0
 unfolding split_by
@@ -69,10 +69,10 @@ returns t c =
     let parts = c.split_at_mut-low.ensures in
     let low = c.split_at_mut-low.result.0.now in
     let high = c.split_at_mut-low.result.1.now in
-    let left : AreSame LAST c.split.new.values (split_by LAST table k (2 * j) (mix LAST 1 (at table j) low high)) =
+    let left : AreCongruent LAST c.split.new.values (split_by LAST table k (2 * j) (mix LAST 1 (at table j) low high)) =
     lists_trans LAST _ _ _ c.split.ensures (same_split LAST table k (2 * j) _ _ c.split_level.ensures.sum) in
-    let right : AreSame LAST c.split-2.new.values (split_by LAST table k (2 * j + 1) (mix LAST 1 (LAST * at table j) low high)) =
+    let right : AreCongruent LAST c.split-2.new.values (split_by LAST table k (2 * j + 1) (mix LAST 1 (LAST * at table j) low high)) =
     lists_trans LAST _ _ _ c.split-2.ensures (same_split LAST table k (2 * j + 1) _ _ c.split_level.ensures.difference) in
-    subst (λ l. AreSame LAST (c.split.new.values ++ c.split-2.new.values) l)
+    subst (λ l. AreCongruent LAST (c.split.new.values ++ c.split-2.new.values) l)
     (split_one LAST table c.args.levels k j f low high more (parts.front ∙ ap (λ m. take m f) half) (parts.back ∙ ap (λ m. drop m f) half))
-    (all_zip_append (IsSame LAST) _ _ _ _ left right)
+    (all_zip_append (IsCongruent LAST) _ _ _ _ left right)

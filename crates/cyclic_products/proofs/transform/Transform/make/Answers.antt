@@ -2,7 +2,7 @@ use Rattle.std.proofs.Common.{◌≡◌, ◌-◌, ◌*◌, ◌^◌, ◌≤◌, s
 use Rattle.cyclic_products.specs.declared.residues.TheConstants.{HALF, LAST}
 use Rattle.std.proofs.Math.Nat.{two-pow-succ}
 use Rattle.cyclic_products.specs.declared.tables.TheConstants.{INVERSES, ROOTS}
-use Rattle.cyclic_products.specs.Residues.{IsSame}
+use Rattle.cyclic_products.specs.Residues.{IsCongruent}
 use Rattle.cyclic_products.specs.Splits.{HasHalves, HasSquares, table_of}
 use Rattle.cyclic_products.proofs.Ladders.{roots_cancel, roots_climb}
 use Rattle.cyclic_products.proofs.Roots.{has_halves, has_squares, length-table_of}
@@ -19,7 +19,7 @@ invariant_of-result c =
     let power : 2 ^ c.args.levels ≡ 2 ^ suc k = ap (λ n. 2 ^ n) more in
     let size : length ROOTS ≡ 25 = refl in
     let fits : k ≤ length ROOTS = omega (arith, c.requires.few, size) in
-    let halved : IsSame LAST (2 * HALF) 1 = record { same = refl } in
+    let halved : IsCongruent LAST (2 * HALF) 1 = record { same = refl } in
     record {
       some = c.requires.some;
       whole = omega (arith, root_count, power, two-pow-succ k);

@@ -1,6 +1,6 @@
 use Rattle.std.proofs.Common.{◌∙◌, ap, subst}
 use Rattle.cyclic_products.specs.declared.residues.TheConstants.{LAST}
-use Rattle.cyclic_products.specs.Residues.{AreSame}
+use Rattle.cyclic_products.specs.Residues.{AreCongruent}
 use Rattle.cyclic_products.specs.Splits.{Tables, split_by}
 use Rattle.cyclic_products.proofs.transform.Transform.split.Goals as goal
 
@@ -11,7 +11,7 @@ returns c =
     record {
       whole = c.requires;
       split =
-          subst (λ s. AreSame LAST c.split.new.values s)
+          subst (λ s. AreCongruent LAST c.split.new.values s)
           (ap (λ r. split_by LAST r c.self.inside.levels 0 f) c.deref.ensures.value ∙ ap (λ (s : Tables). split_by LAST s.roots s.levels 0 f) c.self.view_is)
           c.split.ensures;
     }

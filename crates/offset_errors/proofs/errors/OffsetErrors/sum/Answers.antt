@@ -4,7 +4,7 @@ use Rattle.std.proofs.lemmas.Option.{get_or_from_slice_get}
 use Rattle.cells.specs.Places.{raster_index}
 use Rattle.match_error.specs.Errors.{error_sum}
 use Rattle.offset_errors.specs.Errors.{AreErrors, padded, sum_index}
-use Rattle.offset_errors.specs.Offsets.{IsPlaced}
+use Rattle.offset_errors.specs.Offsets.{IsAtOffset}
 use Rattle.offset_errors.proofs.errors.OffsetErrors.sum.Goals as goal
 
 pub returns-in-Some : goal.returns-in-Some
@@ -19,7 +19,7 @@ returns-in-Some c = λ m sample are fits.
     let on_y = c.in_ok-y.ensures {u = tt} in
     let on_f = c.in_ok-f.ensures {u = tt} in
     let to = c.args.placement.now in
-    let placed : IsPlaced pad at.rect at.part x y f to = record {
+    let placed : IsAtOffset pad at.rect at.part x y f to = record {
       below = record { column = on_x.below; row = on_y.below; frame = on_f.below };
       a = c.in_ok-a.a.x;
       b = c.in_ok-a.a.y;

@@ -5,7 +5,7 @@ use Rattle.std.proofs.lemmas.Int.{ints}
 use Rattle.cells.specs.declared.place.At.{At}
 use Rattle.cells.specs.declared.place.Box3.{Box3}
 use Rattle.cells.specs.declared.place.Size.{Size}
-use Rattle.cells.specs.Boxes.{HasCells, cell_in}
+use Rattle.cells.specs.Boxes.{cell_in}
 use Rattle.cells.specs.Cells.{Cells, IsVolume, HasCell}
 use Rattle.cells.specs.Places.{IsSmall, cell_count, plus, raster_index, spot}
 use Rattle.cells.proofs.BoxLaws.{plus_minus}
@@ -82,23 +82,23 @@ module _ (m : SourceMap) (sample : Cells) (placement : Placement) (small : IsSma
       (λ x y f lx ly lf. spot_same x y f (record { column = lx; row = ly; frame = lf })))
 
   -- the sums of all products at an offset add up to the overlap error there, modulo the prime
-  pub error_at_offset : (n : ℕ) (pad : Size) (rect part : Box3) (dx dy df : ℕ) → HoldsBoth pad rect.size part.size → HasCells part.size → cell_count pad ≤ n
-      → IsAtOffset pad rect part dx dy df placement
-      → sum_to (suc (suc sample.k)) (λ j. offset_at (box_list n pad m sample rect j) (part_list n pad rect.size sample part j) (raster_index pad dx dy df)) % PRIME
+  pub error_at_offset : (n : ℕ) (pad lead : Size) (rect part : Box3) (dx dy df : ℕ) → HoldsBoth pad rect.size lead part.size → cell_count pad ≤ n
+      → IsAtOffset pad lead rect part dx dy df placement
+      → sum_to (suc (suc sample.k)) (λ j. offset_at (box_list n pad m sample rect j) (part_list n pad lead sample part j) (raster_index pad dx dy df)) % PRIME
       ≡ error_sum m sample placement
-  error_at_offset n pad rect part dx dy df both some enough at =
+  error_at_offset n pad lead rect part dx dy df both enough at =
       let each : (j : ℕ) → j < suc (suc sample.k)
-      → offset_at (box_list n pad m sample rect j) (part_list n pad rect.size sample part j) (raster_index pad dx dy df) ≡ sum_box placement.rect.size (product_at j) =
+      → offset_at (box_list n pad m sample rect j) (part_list n pad lead sample part j) (raster_index pad dx dy df) ≡ sum_box placement.rect.size (product_at j) =
       λ j less.
-      sum_at_offset n pad rect.size part.size (box_number m sample rect j) (part_number sample part.corner j) both some enough
-      dx dy df at.a at.b at.c at.t at.u at.v placement.rect.size at.below at.on_x at.on_y at.on_f
+      sum_at_offset n pad rect.size lead part.size (box_number m sample rect j) (part_number sample part.corner j) both enough
+      dx dy df at.a at.b at.c at.t at.u at.v placement.rect.size at.below at.apart at.on_x at.on_y at.on_f
       ∙ box_equal counts placement.rect.size
       (λ x y f. box_number m sample rect j (at.a + x) (at.b + y) (at.c + f) * part_number sample part.corner j (at.t + x) (at.u + y) (at.v + f))
       (product_at j) (λ x y f lx ly lf. λ k.
       source_number sample j (map_at m ((further rect.corner at.a at.b at.c x y f ∙ ap (λ p. plus p (spot x y f)) (sym at.corner)) k))
       * new_number (sample_cell sample (Some ((further part.corner at.t at.u at.v x y f ∙ ap (λ p. plus p (spot x y f)) (sym at.from)) k))) j)
       in
-      let all = sum_equal counts (suc (suc sample.k)) (λ j. offset_at (box_list n pad m sample rect j) (part_list n pad rect.size sample part j) (raster_index pad dx dy df))
+      let all = sum_equal counts (suc (suc sample.k)) (λ j. offset_at (box_list n pad m sample rect j) (part_list n pad lead sample part j) (raster_index pad dx dy df))
       (λ j. sum_box placement.rect.size (product_at j)) each
       in
       let little = error_small m sample placement small is fits in

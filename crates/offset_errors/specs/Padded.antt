@@ -1,7 +1,7 @@
 -- What a reader has to trust: the cells of a box, and those of a part of the sample, as lists of n
 -- numbers. Both are padded with zeros to one size, and are written in its raster order. (Padding keeps
 -- a cyclic product from going round; the frames and rows of one list are own.)
-use Rattle.std.specs.Prelude.{◌≡◌, ◌≤◌, ◌⊎◌, ℕ, ◌+◌, ◌-◌, Bool, ◌&&◌, cond, nat_le, nat_lt, List}
+use Rattle.std.specs.Prelude.{◌≡◌, ◌≤◌, ◌<◌, ◌⊎◌, ℕ, ◌+◌, ◌-◌, Bool, ◌&&◌, cond, nat_le, nat_lt, List}
 use Rattle.std.proofs.Common.{map}
 use Rattle.std.specs.List.{range_with_len}
 use Rattle.cells.specs.declared.place.Size.{Size}
@@ -20,30 +20,41 @@ is_below size x y f = nat_lt x size.w && (nat_lt y size.h && nat_lt f size.f)
 abbrev pub in_box : Size → (ℕ → ℕ → ℕ → ℕ) → ℕ → ℕ → ℕ → ℕ
 in_box box g x y f = cond (is_below box x y f) (g x y f) 0
 
--- a count is of a cell of the part, where the part begins at the last cell of the box
+-- a count is of a cell of the part, where the part begins at the last of so many cells, its lead
 abbrev pub is_along : ℕ → ℕ → ℕ → Bool
-is_along b s x = nat_le b (x + 1) && nat_lt (x + 1) (b + s)
+is_along lead s x = nat_le lead (x + 1) && nat_lt (x + 1) (lead + s)
 
 abbrev pub is_moved : Size → Size → ℕ → ℕ → ℕ → Bool
-is_moved box part x y f =
-    is_along box.w part.w x && (is_along box.h part.h y && is_along box.f part.f f)
+is_moved lead part x y f =
+    is_along lead.w part.w x && (is_along lead.h part.h y && is_along lead.f part.f f)
 
--- the numbers of the cells of a part, which begins at the last cell of the box, and 0 outside it
+-- the numbers of the cells of a part, which begins at the last cell of its lead, and 0 outside it
 abbrev pub moved : Size → Size → (ℕ → ℕ → ℕ → ℕ) → ℕ → ℕ → ℕ → ℕ
-moved box part g x y f =
-    cond (is_moved box part x y f) (g (x + 1 - box.w) (y + 1 - box.h) (f + 1 - box.f)) 0
+moved lead part g x y f =
+    cond (is_moved lead part x y f) (g (x + 1 - lead.w) (y + 1 - lead.h) (f + 1 - lead.f)) 0
 
--- the padded size holds a box and a part after it that has its first cell on each axis
-pub record HoldsBoth (pad box part : Size) : Type 0 where
-  pub w : box.w + part.w ≤ pad.w + 1
-  pub h : box.h + part.h ≤ pad.h + 1
-  pub f : box.f + part.f ≤ pad.f + 1
+-- a padded axis of w cells holds a box of b cells, and a part of s cells after its lead
+pub record HoldsAlong (w b lead s : ℕ) : Type 0 where
+  pub box : b ≤ w
+  pub part : lead + s ≤ w + 1
+
+pub record HoldsBoth (pad box lead part : Size) : Type 0 where
+  pub on_x : HoldsAlong pad.w box.w lead.w part.w
+  pub on_y : HoldsAlong pad.h box.h lead.h part.h
+  pub on_f : HoldsAlong pad.f box.f lead.f part.f
+
+-- at an offset of three counts, the cells of the box that go past the end of a padded axis come to those
+-- before the part: they meet none of its cells
+pub record IsApart (pad box lead : Size) (x y f : ℕ) : Type 0 where
+  pub on_x : box.w + x < pad.w + lead.w
+  pub on_y : box.h + y < pad.h + lead.h
+  pub on_f : box.f + f < pad.f + lead.f
 
 -- along one axis, what a box of b cells and a part of s cells share at the offset d: l cells, from a on in
 -- the box and from t on in the part. They begin with one of both, and end with one of both.
-pub record IsShared (b s d a l t : ℕ) : Type 0 where
+pub record IsShared (b lead s d a l t : ℕ) : Type 0 where
   pub box : a + l ≤ b
   pub part : t + l ≤ s
-  pub offset : a + d + 1 ≡ b + t
+  pub offset : a + d + 1 ≡ lead + t
   pub first : (a ≡ 0) ⊎ (t ≡ 0)
   pub last : (a + l ≡ b) ⊎ (t + l ≡ s)

@@ -1,22 +1,24 @@
 // The overlap errors of a part of the sample at all its offsets.
-ghost use Rattle.std.specs.Prelude.{◌≡◌, ◌≤◌, ◌<◌, ◌+◌, ◌-◌, ◌*◌, ◌^◌, ◌+ℤ◌, ◌⊎◌, IfOk, IfSome, IsTrue, length, pos};
+ghost use Rattle.std.specs.Prelude.{◌≡◌, ◌≤◌, ◌<◌, ◌+◌, ◌*◌, ◌^◌, ◌+ℤ◌, ◌⊎◌, IfOk, IfSome, IsTrue, length, pos};
 ghost use Rattle.boxes.specs.Raster.{largest};
 ghost use Rattle.cells.specs.Boxes.{HoldsBox};
 ghost use Rattle.cells.specs.Cells.{Cells, Holds};
-ghost use Rattle.cells.specs.Places.{HasAxes, plus, raster_index, spot};
+ghost use Rattle.cells.specs.Places.{HasAxes, plus, spot};
 ghost use Rattle.cyclic_products.specs.Products.{cyclic};
 ghost use Rattle.cyclic_products.specs.Splits.{AreImages};
 ghost use Rattle.cyclic_products.specs.declared.residues.TheConstants.{LAST};
 ghost use Rattle.map_canvas.specs.Choices.{Fits};
 ghost use Rattle.map_canvas.specs.Maps.{IsOver, SourceMap};
 ghost use Rattle.match_error.specs.Errors.{error_sum};
-ghost use Rattle.offset_errors.specs.Errors.{AreErrors, IsEnough, IsOffset, listed_product, listed_sums, padded, sum_index};
+ghost use Rattle.offset_errors.specs.Errors.{AreErrors, IsEnough, IsOffset, listed_product, listed_sums, sum_index};
 ghost use Rattle.offset_errors.specs.Offsets.{IsInSample};
 
+use crate::Layout;
+use crate::layout::index_at;
 use crate::lists::{box_values, part_values};
 use boxes::Counts;
-use cells::{At, Box3, Size, Volume};
-use cyclic_products::{MOST_LEVELS, Transform};
+use cells::{At, Box3, Volume};
+use cyclic_products::Transform;
 use limits::GREATEST_AXIS;
 use map_canvas::{Map, Placement};
 use std::alloc::{AllocError, Global};
@@ -27,59 +29,26 @@ use std::marker::Model;
 pub struct OffsetErrors {
     rect: Box3,
     part: Box3,
+    layout: Layout,
     // at all offsets, in the order of a cyclic product
     sums: Vec<u64>,
 }
 
 impl Model for OffsetErrors {
     ghost use Rattle.cells.specs.Places.{HasAxes};
-    ghost use Rattle.offset_errors.specs.Errors.{OffsetSums};
+    ghost use Rattle.offset_errors.specs.Errors.{IsPadded, OffsetSums};
 
     ghost Value = { OffsetSums };
 
-    ghost view = { λ a. record { rect = a.rect; part = a.part; sums = a.sums.items } };
+    ghost view = { λ a. record {
+      rect = a.rect;
+      part = a.part;
+      layout = a.layout;
+      sums = a.sums.items;
+    } };
 
-    ghost invariant = { λ a. HasAxes a.rect.size × HasAxes a.part.size };
-}
-
-// The size that a box and a part have room in at each offset.
-fn padded(rect: Size, part: Size) -> Size
-    requires rect { HasAxes rect }
-    requires part { HasAxes part }
-    ensures { result ≡ padded rect part }
-{
-    Size {
-        w: rect.w + part.w - 1,
-        h: rect.h + part.h - 1,
-        f: rect.f + part.f - 1,
-    }
-}
-
-// The index of three counts in raster order.
-fn index_at(size: Size, x: u32, y: u32, f: u32) -> u64
-    requires size { (size.w ≤ 2 * GREATEST_AXIS) × (size.h ≤ 2 * GREATEST_AXIS) }
-    requires counts { (x ≤ 2 * GREATEST_AXIS) × (y ≤ 2 * GREATEST_AXIS) × (f ≤ 2 * GREATEST_AXIS) }
-    ensures { result ≡ raster_index size x y f }
-{
-    u64::from(x) + u64::from(size.w) * (u64::from(y) + u64::from(size.h) * u64::from(f))
-}
-
-/// How many levels a transform has for a box and a part of these sizes: it is of 2^levels numbers. None
-/// where no transform has so many.
-pub fn levels_for(rect: Size, part: Size) -> Option<u32>
-    requires rect { HasAxes rect }
-    requires part { HasAxes part }
-    ensures { IfSome result (IsEnough rect part) }
-{
-    let pad = padded(rect, part);
-    // as many as come before the first cell past the last frame
-    let cells = index_at(pad, 0, 0, pad.f);
-    'levels: for levels in 1..MOST_LEVELS + 1 {
-        if cells <= 1 << levels {
-            return Some(levels);
-        }
-    }
-    None
+    ghost invariant = { λ a. HasAxes a.rect.size × HasAxes a.part.size × HasAxes a.layout.lead
+        × IsPadded a.layout.pad };
 }
 
 // Puts the images of the cyclic product of two lists in the place of the first. Of the second its images
@@ -102,24 +71,23 @@ fn product(
     sample: &Volume,
     rect: &Box3,
     part: &Box3,
-    levels: u32,
+    layout: &Layout,
     j: u32,
 ) -> Result<Vec<u64>, AllocError>
     requires over { IsOver map.now sample.now }
     requires axes { HasAxes rect.now.size }
     requires inside { HoldsBox largest rect.now.corner rect.now.size }
     requires part { IsInSample sample.now part.now }
-    requires levels { transform.now.levels ≡ levels }
-    requires enough { IsEnough rect.now.size part.now.size levels }
+    requires levels { transform.now.levels ≡ layout.now.levels }
+    requires enough { IsEnough rect.now.size part.now.size layout.now }
     requires below { j < sample.now.k + 2 }
-    ensures size { IfOk result (λ images. length images.items ≡ 2 ^ levels) }
+    ensures size { IfOk result (λ images. length images.items ≡ 2 ^ layout.now.levels) }
     ensures images { IfOk result (λ images. AreImages LAST transform.now
-        (listed_product levels map.now sample.now rect.now part.now j) images.items) }
+        (listed_product layout.now map.now sample.now rect.now part.now j) images.items) }
 {
-    let pad = padded(rect.size, part.size);
-    let n = 1 << levels;
-    let mut images = box_values(alloc, map, sample, rect, pad, j, n)?;
-    let mut others = part_values(alloc, sample, rect.size, part, pad, j, n)?;
+    let n = 1 << layout.levels;
+    let mut images = box_values(alloc, map, sample, rect, layout.pad, j, n)?;
+    let mut others = part_values(alloc, sample, layout.lead, part, layout.pad, j, n)?;
     multiply(transform, &mut images, &mut others);
     Ok(images)
 }
@@ -132,22 +100,23 @@ fn summed_images(
     sample: &Volume,
     rect: &Box3,
     part: &Box3,
-    levels: u32,
+    layout: &Layout,
 ) -> Result<Vec<u64>, AllocError>
     requires over { IsOver map.now sample.now }
     requires axes { HasAxes rect.now.size }
     requires inside { HoldsBox largest rect.now.corner rect.now.size }
     requires part { IsInSample sample.now part.now }
-    requires levels { transform.now.levels ≡ levels }
-    requires enough { IsEnough rect.now.size part.now.size levels }
-    ensures size { IfOk result (λ images. length images.items ≡ 2 ^ levels) }
+    requires levels { transform.now.levels ≡ layout.now.levels }
+    requires enough { IsEnough rect.now.size part.now.size layout.now }
+    ensures size { IfOk result (λ images. length images.items ≡ 2 ^ layout.now.levels) }
     ensures images { IfOk result (λ images. AreImages LAST transform.now
-        (listed_sums levels map.now sample.now rect.now part.now (sample.now.k + 1)) images.items) }
+        (listed_sums layout.now map.now sample.now rect.now part.now (sample.now.k + 1))
+        images.items) }
 {
     let last = sample.samples() + 1;
-    let mut images = product(alloc, transform, map, sample, rect, part, levels, 0)?;
+    let mut images = product(alloc, transform, map, sample, rect, part, layout, 0)?;
     'numbers: for j in 0..last {
-        let next = product(alloc, transform, map, sample, rect, part, levels, j + 1)?;
+        let next = product(alloc, transform, map, sample, rect, part, layout, j + 1)?;
         transform.add(&mut images, &next);
     }
     Ok(images)
@@ -179,19 +148,35 @@ fn is_either(a: u32, b: u32, c: u32, d: u32) -> bool
     a == b || c == d
 }
 
-// The offset along one axis of a part of s cells to a box of b, where a placement of len cells begins at
-// cell t of the part and cell a of the box. None where it leaves out a cell that both have there.
-fn offset_on(b: u32, s: u32, a: u32, t: u32, len: u32) -> Option<u32>
-    requires { (1 ≤ b) × (b ≤ GREATEST_AXIS) × (1 ≤ s) × (s ≤ GREATEST_AXIS) }
-    ensures { IfSome result (IsOffset b s a t len) }
+// How far cell a of a box is before cell t of a part after its lead; None where it comes after it.
+fn offset_from(lead: u32, a: u32, t: u32) -> Option<u32>
+    requires { (lead ≤ GREATEST_AXIS) × (a ≤ GREATEST_AXIS) × (t ≤ GREATEST_AXIS) }
+    ensures { IfSome result (λ d. a + d + 1 ≡ lead + t) }
+{
+    if lead + t <= a {
+        None
+    } else {
+        Some(lead + t - a - 1)
+    }
+}
+
+// The offset along one axis of w cells of a part of s to a box of b, where a placement of len cells begins at
+// cell t of the part and cell a of the box. None where it leaves out a cell that both have there, or where a
+// cell of the box would meet one of the part by going round.
+fn offset_on(w: u32, b: u32, lead: u32, s: u32, a: u32, t: u32, len: u32) -> Option<u32>
+    requires rect { b ≤ GREATEST_AXIS }
+    requires part { (lead ≤ GREATEST_AXIS) × (s ≤ GREATEST_AXIS) }
+    requires axis { w ≤ 2 * GREATEST_AXIS }
+    ensures { IfSome result (IsOffset w b lead s a t len) }
 {
     if len == 0 || len > b || a > b - len || len > s || t > s - len {
         return None;
     }
+    let d = offset_from(lead, a, t)?;
     let begins = is_either(a, 0, t, 0);
     let ends = is_either(a + len, b, t + len, s);
-    if begins && ends {
-        Some(b - a + t - 1)
+    if begins && ends && d < w && b + d < w + lead {
+        Some(d)
     } else {
         None
     }
@@ -206,39 +191,41 @@ fn sum_index(n: u64, d: u64) -> u64
 }
 
 impl OffsetErrors {
-    /// The overlap errors of the part `part` of the sample at all offsets to the box `rect` of the output, by
-    /// a transform of 2^levels numbers, as many as `levels_for` says or more. It takes 32 bytes for each of
-    /// them, of which 8 are kept; the one error is out of memory.
+    /// The overlap errors of the part `part` of the sample at all offsets of a layout to the box `rect` of
+    /// the output. It takes 32 bytes for each number of its transform, of which 8 are kept; the one error is
+    /// out of memory.
     pub fn gather(
         alloc: Global,
         map: &Map,
         sample: &Volume,
         rect: &Box3,
         part: &Box3,
-        levels: u32,
+        layout: &Layout,
     ) -> Result<OffsetErrors, AllocError>
         requires over { IsOver map.now sample.now }
         requires rect { HasAxes rect.now.size }
         requires inside { HoldsBox largest rect.now.corner rect.now.size }
         requires part { HasAxes part.now.size }
         requires held { Holds sample.now part.now.corner part.now.size }
-        requires enough { IsEnough rect.now.size part.now.size levels }
+        requires enough { IsEnough rect.now.size part.now.size layout.now }
         ensures { IfOk result (AreErrors map.now sample.now) }
     {
         // Called for their contracts only: they show the prover that these are a map and a volume.
         let _size = map.size();
         let _samples = sample.samples();
-        let transform = Transform::make(alloc, levels)?;
-        let mut sums = summed_images(alloc, &transform, map, sample, rect, part, levels)?;
+        let transform = Transform::make(alloc, layout.levels)?;
+        let mut sums = summed_images(alloc, &transform, map, sample, rect, part, layout)?;
         transform.join(&mut sums);
         Ok(OffsetErrors {
             rect: *rect,
             part: *part,
+            layout: *layout,
             sums,
         })
     }
 
-    /// The error sum of a placement. None where its box leaves out a cell that the part and the box share.
+    /// The error sum of a placement. None where its box leaves out a cell that the part and the box share, or
+    /// where its offset is none of the layout's.
     pub fn sum(&self, placement: &Placement) -> Option<u64>
         ensures { (m : SourceMap) (sample : Cells) → AreErrors m sample self.now
             → Fits m.size sample placement.now
@@ -249,10 +236,11 @@ impl OffsetErrors {
         let size = placement.rect.size;
         let a = counts_after(placement.rect.corner, rect.corner)?;
         let t = counts_after(placement.from, part.corner)?;
-        let x = offset_on(rect.size.w, part.size.w, a.x, t.x, size.w)?;
-        let y = offset_on(rect.size.h, part.size.h, a.y, t.y, size.h)?;
-        let f = offset_on(rect.size.f, part.size.f, a.f, t.f, size.f)?;
-        let pad = padded(rect.size, part.size);
+        let pad = self.layout.pad;
+        let lead = self.layout.lead;
+        let x = offset_on(pad.w, rect.size.w, lead.w, part.size.w, a.x, t.x, size.w)?;
+        let y = offset_on(pad.h, rect.size.h, lead.h, part.size.h, a.y, t.y, size.h)?;
+        let f = offset_on(pad.f, rect.size.f, lead.f, part.size.f, a.f, t.f, size.f)?;
         let n = self.sums.len() as u64;
         if n == 0 {
             return None;

@@ -6,12 +6,14 @@
 //! cyclic product (crate cyclic_products) and gives exactly the errors of match_error (specs/Errors.antt).
 //! (Kwatra et al. 2003 take them by a fast Fourier transform; here they are numbers modulo a prime.)
 //!
-//! `errors` has the sums, `lists` the lists of a box of the output and of a part of the sample, `entries` the
-//! numbers of their cells.
+//! `errors` has the sums, `layout` how a box of the output and a part of the sample are laid out in lists,
+//! `lists` these lists, `entries` the numbers of their cells.
 #![tactic(auto)]
 
 mod entries;
 mod errors;
+mod layout;
 mod lists;
 
-pub use errors::{OffsetErrors, levels_for};
+pub use errors::OffsetErrors;
+pub use layout::Layout;

@@ -99,64 +99,64 @@ pub(crate) fn box_values(
     Ok(values)
 }
 
-// Whether a count is of a cell of the part, which begins at the last cell of the box.
-fn is_along_axis(b: u32, s: u32, x: u32) -> bool
-    requires { 1 ≤ b }
-    ensures { result ≡ is_along b s x }
+// Whether a count is of a cell of the part, which begins at the last cell of its lead.
+fn is_along_axis(lead: u32, s: u32, x: u32) -> bool
+    requires { 1 ≤ lead }
+    ensures { result ≡ is_along lead s x }
 {
-    b - 1 <= x && x - (b - 1) < s
+    lead - 1 <= x && x - (lead - 1) < s
 }
 
-// Whether counts are of a cell of the part, where it is beside a box of this size.
-fn is_in_part(rect: Size, part: Size, at: Counts) -> bool
-    requires { HasAxes rect }
-    ensures { result ≡ is_moved rect part at.x at.y at.f }
+// Whether counts are of a cell of the part, after its lead.
+fn is_in_part(lead: Size, part: Size, at: Counts) -> bool
+    requires { HasAxes lead }
+    ensures { result ≡ is_moved lead part at.x at.y at.f }
 {
-    is_along_axis(rect.w, part.w, at.x)
-        && (is_along_axis(rect.h, part.h, at.y) && is_along_axis(rect.f, part.f, at.f))
+    is_along_axis(lead.w, part.w, at.x)
+        && (is_along_axis(lead.h, part.h, at.y) && is_along_axis(lead.f, part.f, at.f))
 }
 
 // What the list of a part has at counts.
-fn part_entry(sample: &Volume, rect: Size, part: &Box3, j: u32, at: Counts) -> u64
-    requires rect { HasAxes rect }
+fn part_entry(sample: &Volume, lead: Size, part: &Box3, j: u32, at: Counts) -> u64
+    requires lead { HasAxes lead }
     requires part { IsInSample sample.now part.now }
     requires below { j < sample.now.k + 2 }
     ensures { result ≡
-        moved rect part.now.size (part_number sample.now part.now.corner j) at.x at.y at.f }
+        moved lead part.now.size (part_number sample.now part.now.corner j) at.x at.y at.f }
 {
-    if !is_in_part(rect, part.size, at) {
+    if !is_in_part(lead, part.size, at) {
         return 0;
     }
     let own = Counts {
-        x: at.x - (rect.w - 1),
-        y: at.y - (rect.h - 1),
-        f: at.f - (rect.f - 1),
+        x: at.x - (lead.w - 1),
+        y: at.y - (lead.h - 1),
+        f: at.f - (lead.f - 1),
     };
     sample_entry(sample, part.corner.plus(own.place()), j)
 }
 
-/// Number j of each cell of a part, in a list.
+/// Number j of each cell of a part after its lead, in a list.
 pub(crate) fn part_values(
     alloc: Global,
     sample: &Volume,
-    rect: Size,
+    lead: Size,
     part: &Box3,
     pad: Size,
     j: u32,
     n: u32,
 ) -> Result<Vec<u64>, AllocError>
-    requires rect { HasAxes rect }
+    requires lead { HasAxes lead }
     requires part { IsInSample sample.now part.now }
     requires pad { (1 ≤ pad.w) × (1 ≤ pad.h) }
     requires below { j < sample.now.k + 2 }
     ensures { IfOk result (λ values. values.items ≡
-        part_list n pad rect sample.now part.now j) }
+        part_list n pad lead sample.now part.now j) }
 {
     let rows = Size { f: n, ..pad };
     let mut values = Vec::with_capacity(alloc, n as usize)?;
     let mut at = Counts::first();
     'cells: for i in 0..n {
-        values.push(part_entry(sample, rect, part, j, at))?;
+        values.push(part_entry(sample, lead, part, j, at))?;
         // The size has a frame for each index, so that the walk doesn't leave it.
         at = at.next(rows);
     }

@@ -14,7 +14,7 @@ ghost use Rattle.patch_place.specs.Tables.{IsMore, IsShortlistOf, IsSoundShortli
 
 use crate::Overlaps;
 use crate::offsets::PartErrors;
-use crate::reach::{box_of_all, counts_for, rows_for};
+use crate::reach::{around_of, counts_for, rows_for};
 use crate::shortlist::Shortlist;
 use crate::walk::box_shortlist;
 use cells::{Box3, Volume};
@@ -120,13 +120,13 @@ fn squares_for(
     counts: &FilledCounts,
     mean: u64,
     canvas: &Canvas,
-    placement: &Placement,
+    at: &Placement,
 ) -> u64
     requires sound { IsSoundShortlist short.now }
     requires counts { AreFilledCounts canvas.now.map counts.now }
-    requires inside { HoldsBox canvas.now.map.size placement.now.rect.corner placement.now.rect.size }
+    requires inside { HoldsBox canvas.now.map.size at.now.rect.corner at.now.rect.size }
 {
-    let count = counts.count(canvas, &placement.rect);
+    let count = counts.count(canvas, &at.rect);
     if count == 0 {
         return 0;
     }
@@ -148,9 +148,9 @@ fn placed_shortlist(
 {
     let counts = counts_for(alloc, list, canvas, sample)?;
     let rows = rows_for(alloc, list, canvas, sample)?;
-    let rect = box_of_all(list, canvas.map().size(), sample);
-    let filled = counts.count(canvas, &rect);
-    let mut errors = PartErrors::begin(&rect, 0, canvas, sample);
+    let around = around_of(list, canvas.map().size(), sample);
+    let filled = counts.count(canvas, &around.rect);
+    let mut errors = PartErrors::begin(&around, 0, canvas, sample);
     let mean = mean_error(list, canvas, sample, errors.may_pay(u64::from(filled)));
     let mut short = Shortlist::unfilled(alloc, tol, 0);
     'entries: for i in 0..count_for(list, canvas, sample) {
@@ -160,7 +160,7 @@ fn placed_shortlist(
         } else {
             0
         };
-        errors.come_to(alloc, &rect, squares, canvas, sample, &placement)?;
+        errors.come_to(alloc, &around, squares, canvas, sample, &placement)?;
         short.add(&counts, &rows, &errors, canvas, sample, &placement)?;
     }
     Ok(short)

@@ -6,11 +6,12 @@ ghost use Rattle.cells.specs.Places.{HasAxes};
 ghost use Rattle.map_canvas.specs.Canvases.{StandsOver};
 ghost use Rattle.map_canvas.specs.Choices.{Fits};
 ghost use Rattle.match_error.specs.Errors.{error_sum};
-ghost use Rattle.offset_errors.specs.Errors.{AreErrors};
+ghost use Rattle.offset_errors.specs.Errors.{AreErrors, IsEnough};
 
+use crate::reach::Around;
 use cells::{At, Box3, Size, Volume};
 use map_canvas::{Canvas, Placement};
-use offset_errors::{OffsetErrors, levels_for};
+use offset_errors::{Layout, OffsetErrors};
 use patch_picks::{frames_before, part_after, parts_of, place_count};
 use spans::count_of;
 use std::alloc::{AllocError, Global};
@@ -35,13 +36,77 @@ pub(crate) struct PartErrors {
     left: u64,
 }
 
-// How many squares the transform for a box and a part is worth.
-fn worth_of(rect: Size, part: Size) -> u64
-    requires part { HasAxes part }
-    requires rect { HasAxes rect }
+// The first half of a part; of an odd number of cells, with the middle.
+fn first_half(part: Size) -> Size
+    requires { HasAxes part }
 {
-    match levels_for(rect, part) {
-        Some(levels) => (SQUARES_A_LEVEL * u64::from(levels)) << levels,
+    Size {
+        w: (part.w + 1) / 2,
+        h: (part.h + 1) / 2,
+        f: (part.f + 1) / 2,
+    }
+}
+
+// How many cells the box has up to the one that comes to the first half of each candidate.
+fn lead_of(around: &Around) -> Size {
+    let corner = around.rect.corner;
+    let q = around.q;
+    Size {
+        w: count_of(q.x)
+            .saturating_sub(count_of(corner.x))
+            .saturating_add(1),
+        h: count_of(q.y)
+            .saturating_sub(count_of(corner.y))
+            .saturating_add(1),
+        f: count_of(q.f)
+            .saturating_sub(count_of(corner.f))
+            .saturating_add(1),
+    }
+}
+
+// How many of s cells of a part come to a box of b at most, where the part begins at the last of the box's
+// first `lead` cells or less than `span` cells before.
+fn met_along(b: u32, s: u32, lead: u32, span: u32) -> u32
+    requires { 1 ≤ s }
+    ensures { (1 ≤ result) × (result ≤ s) }
+{
+    b.saturating_sub(lead).saturating_add(span).max(1).min(s)
+}
+
+// The first cells of a part: all that come to the box.
+fn met_part(around: &Around, part: Size) -> Size
+    requires { HasAxes part }
+    ensures axes { HasAxes result }
+    ensures within { (result.w ≤ part.w) × (result.h ≤ part.h) × (result.f ≤ part.f) }
+{
+    let rect = around.rect.size;
+    let lead = lead_of(around);
+    let span = first_half(part);
+    Size {
+        w: met_along(rect.w, part.w, lead.w, span.w),
+        h: met_along(rect.h, part.h, lead.h, span.h),
+        f: met_along(rect.f, part.f, lead.f, span.f),
+    }
+}
+
+// How the box and the first cells of a part are laid out, where a cell of the part's first half comes to one
+// of the box.
+fn layout_for(around: &Around, part: Size, met: Size) -> Option<Layout>
+    requires rect { HasAxes around.now.rect.size }
+    requires part { HasAxes part }
+    requires met { HasAxes met }
+    ensures { IfSome result (IsEnough around.now.rect.size met) }
+{
+    Layout::make(around.rect.size, met, lead_of(around), first_half(part))
+}
+
+// How many squares the transform for a part is worth.
+fn worth_of(around: &Around, part: Size) -> u64
+    requires part { HasAxes part }
+    requires rect { HasAxes around.now.rect.size }
+{
+    match layout_for(around, part, met_part(around, part)) {
+        Some(layout) => (SQUARES_A_LEVEL * u64::from(layout.levels())) << layout.levels(),
         None => u64::MAX,
     }
 }
@@ -56,33 +121,35 @@ fn has_cells(size: Size) -> bool
 // The errors of a part laid over a box of the output; None where no transform is large enough.
 fn errors_of(
     alloc: Global,
-    rect: &Box3,
+    around: &Around,
     n: u32,
     canvas: &Canvas,
     sample: &Volume,
 ) -> Result<Option<OffsetErrors>, AllocError>
     requires over { StandsOver canvas.now sample.now }
-    requires inside { HoldsBox canvas.now.map.size rect.now.corner rect.now.size }
+    requires held { HoldsBox canvas.now.map.size around.now.rect.corner around.now.rect.size }
     requires below { n < length (sizes_of sample.now) }
     ensures { IfOk result (λ errors. IfSome errors (AreErrors canvas.now.map sample.now)) }
 {
     // Called for their contracts only: they show the prover that these are a map and a volume.
     let map = canvas.map();
     let _sample = sample.samples();
+    let rect = &around.rect;
     if !has_cells(rect.size) {
         return Ok(None);
     }
     let sizes = parts_of(sample);
     let size = part_after(&sizes, n);
-    let Some(levels) = levels_for(rect.size, size) else {
+    let met = met_part(around, size);
+    let Some(layout) = layout_for(around, size, met) else {
         return Ok(None);
     };
     let f = frames_before(&sizes, n) as i32;
     let part = Box3 {
         corner: At { x: 0, y: 0, f },
-        size,
+        size: met,
     };
-    let errors = OffsetErrors::gather(alloc, map, sample, rect, &part, levels)?;
+    let errors = OffsetErrors::gather(alloc, map, sample, rect, &part, &layout)?;
     Ok(Some(errors))
 }
 
@@ -102,8 +169,8 @@ fn next_part(sample: &Volume, part: u32, placement: &Placement) -> Option<u32>
 
 impl PartErrors {
     /// Those of the part after the first n, none yet.
-    pub(crate) fn begin(rect: &Box3, n: u32, canvas: &Canvas, sample: &Volume) -> PartErrors
-        requires inside { HoldsBox canvas.now.map.size rect.now.corner rect.now.size }
+    pub(crate) fn begin(around: &Around, n: u32, canvas: &Canvas, sample: &Volume) -> PartErrors
+        requires held { HoldsBox canvas.now.map.size around.now.rect.corner around.now.rect.size }
         requires below { n < length (sizes_of sample.now) }
         ensures errors { result.errors ≡ None }
         ensures part { result.part ≡ n }
@@ -111,8 +178,8 @@ impl PartErrors {
         // Called for its contract only: it shows the prover that the map's size is small.
         let _map = canvas.map();
         let size = part_after(&parts_of(sample), n);
-        let worth = if has_cells(rect.size) {
-            worth_of(rect.size, size)
+        let worth = if has_cells(around.rect.size) {
+            worth_of(around, size)
         } else {
             u64::MAX
         };
@@ -147,24 +214,24 @@ impl PartErrors {
     pub(crate) fn come_to(
         &mut self,
         alloc: Global,
-        rect: &Box3,
+        around: &Around,
         squares: u64,
         canvas: &Canvas,
         sample: &Volume,
         placement: &Placement,
     ) -> Result<(), AllocError>
         requires over { StandsOver canvas.now sample.now }
-        requires inside { HoldsBox canvas.now.map.size rect.now.corner rect.now.size }
+        requires held { HoldsBox canvas.now.map.size around.now.rect.corner around.now.rect.size }
         requires errors { IfSome self.old.errors (AreErrors canvas.now.map sample.now) }
         requires part { self.old.part < length (sizes_of sample.now) }
-        ensures errors { OnOk result (IfSome self.new.errors (AreErrors canvas.now.map sample.now)) }
+        ensures sums { OnOk result (IfSome self.new.errors (AreErrors canvas.now.map sample.now)) }
         ensures part { OnOk result (self.new.part < length (sizes_of sample.now)) }
     {
         if let Some(next) = next_part(sample, self.part, placement) {
-            *self = PartErrors::begin(rect, next, canvas, sample);
+            *self = PartErrors::begin(around, next, canvas, sample);
         }
         if squares > 0 && self.is_due(squares) {
-            self.errors = errors_of(alloc, rect, self.part, canvas, sample)?;
+            self.errors = errors_of(alloc, around, self.part, canvas, sample)?;
         }
         Ok(())
     }
@@ -174,7 +241,7 @@ impl PartErrors {
         requires errors { IfSome self.now.errors (AreErrors canvas.now.map sample.now) }
         requires over { StandsOver canvas.now sample.now }
         requires fits { Fits canvas.now.map.size sample.now placement.now }
-        ensures sum { IfSome result (λ sum. sum ≡ error_sum canvas.now.map sample.now placement.now) }
+        ensures sum { IfSome result (λ n. n ≡ error_sum canvas.now.map sample.now placement.now) }
         ensures small { IfSome result (λ sum. sum ≤ 2 ^ 48) }
     {
         // Called for their contracts only: they show the prover that these are a map and a volume.

@@ -72,9 +72,9 @@ fn reach_of(output: Size, part: Size, q: At) -> Box3
     }
 }
 
-/// The box in which the filled cells of all candidates are. Where there is one candidate, sums and runs of
-/// it would cost more than they save: the box has no cell.
-pub(crate) fn box_of_all(list: &Candidates, output: Size, sample: &Volume) -> Box3
+// The box in which the filled cells of all candidates are. Where there is one candidate, sums and runs of
+// it would cost more than they save: the box has no cell.
+fn box_of_all(list: &Candidates, output: Size, sample: &Volume) -> Box3
     requires { IsSmall output }
     ensures { HoldsBox output result.corner result.size }
 {
@@ -85,6 +85,26 @@ pub(crate) fn box_of_all(list: &Candidates, output: Size, sample: &Volume) -> Bo
             size: Size { w: 0, h: 0, f: 0 },
         },
     }
+}
+
+/// Where all candidates are: the box of their filled cells, and the cell that comes to the first half of each.
+#[derive(Clone, Copy, Drop)]
+pub(crate) struct Around {
+    pub(crate) rect: Box3,
+    pub(crate) q: At,
+}
+
+/// Where all candidates of a list are.
+pub(crate) fn around_of(list: &Candidates, output: Size, sample: &Volume) -> Around
+    requires { IsSmall output }
+    ensures { HoldsBox output result.rect.corner result.rect.size }
+{
+    let rect = box_of_all(list, output, sample);
+    let q = match list {
+        Candidates::Laid { q } => *q,
+        Candidates::One(_) | Candidates::Fits { .. } => rect.corner,
+    };
+    Around { rect, q }
 }
 
 /// The filled cells of a canvas where the candidates are, summed up.

@@ -7,7 +7,7 @@ use crate::rows::{greys, row_at, row_of};
 use cells::{At, Box3, Size};
 use cyclic_products::Transform;
 use map_canvas::Placement;
-use offset_errors::{OffsetErrors, levels_for};
+use offset_errors::{Layout, OffsetErrors};
 use std::alloc::{AllocError, Global};
 use std::process::Abort;
 
@@ -37,25 +37,32 @@ fn along(w: u32) -> Box3
     }
 }
 
+// The first three cells of the sample, from a column on.
+fn three_at(x: i32) -> Placement {
+    let whole = row_at(x);
+    let mut rect = whole.rect;
+    rect.size.w = 3;
+    Placement {
+        rect,
+        from: whole.from,
+    }
+}
+
 // Over a row of six cells, of which four are the sample's: the sample that is laid from the third on differs in
 // two cells, by 20 in each of their three samples. A box of three of its cells leaves out one that both have.
+// The layout isn't made for the sample that is laid from the fourth on.
 fn assert_sums(rt: &impl Abort, alloc: Global) -> Result<(), AllocError> {
     let sample = greys(alloc)?;
     let canvas = row_of(rt, alloc, 6, &sample, &[0, 1, 2, 3])?;
     let (rect, part) = (along(6), along(4));
     assert!(rt; sample.holds(&part));
-    let levels = levels_for(rect.size, part.size);
-    assert!(rt; levels.is_some());
-    let levels = levels.unwrap();
-    let errors = OffsetErrors::gather(alloc, canvas.map(), &sample, &rect, &part, levels)?;
+    let layout = Layout::make(rect.size, part.size, along(3).size, along(2).size);
+    assert!(rt; layout.is_some());
+    let layout = layout.unwrap();
+    let errors = OffsetErrors::gather(alloc, canvas.map(), &sample, &rect, &part, &layout)?;
     let whole = row_at(2);
-    let mut rect = whole.rect;
-    rect.size.w = 3;
-    let shorter = Placement {
-        rect,
-        from: whole.from,
-    };
-    assert!(rt; errors.sum(&whole) == Some(2400) && errors.sum(&shorter).is_none());
+    assert!(rt; errors.sum(&whole) == Some(2400) && errors.sum(&three_at(2)).is_none());
+    assert!(rt; errors.sum(&three_at(3)).is_none());
     Ok(())
 }
 

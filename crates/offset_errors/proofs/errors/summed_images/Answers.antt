@@ -16,8 +16,8 @@ unfolding summed
 numbers-preserved c =
     let t = c.args.transform.now in
     let j = c.numbers.j in
-    let sums = λ (last : ℕ). listed_sums c.args.levels c.args.map.now c.args.sample.now c.args.rect.now c.args.part.now last in
-    let product = λ (n : ℕ). listed_product c.args.levels c.args.map.now c.args.sample.now c.args.rect.now c.args.part.now n in
+    let sums = λ (last : ℕ). listed_sums c.args.layout.now c.args.map.now c.args.sample.now c.args.rect.now c.args.part.now last in
+    let product = λ (n : ℕ). listed_product c.args.layout.now c.args.map.now c.args.sample.now c.args.rect.now c.args.part.now n in
     let items : (with_items c.numbers.images c.add.new.images).items ≡ c.add.new.images = with_items_is c.numbers.images c.add.new.images (omega arith) in
     let before : AreImages LAST t (sums j) c.deref_mut.result.now = subst (AreImages LAST t (sums j)) (sym c.deref_mut.ensures.value) c.numbers.invariant.images in
     let next : AreImages LAST t (product (suc j)) c.deref.result.now =
@@ -34,5 +34,5 @@ returns c =
     let end : c.numbers.j ≡ c.args.sample.now.k + 1 = omega arith in
     record {
       size = c.numbers.invariant.size;
-      images = subst (λ n. AreImages LAST c.args.transform.now (listed_sums c.args.levels c.args.map.now c.args.sample.now c.args.rect.now c.args.part.now n) c.numbers.images.items) end c.numbers.invariant.images;
+      images = subst (λ n. AreImages LAST c.args.transform.now (listed_sums c.args.layout.now c.args.map.now c.args.sample.now c.args.rect.now c.args.part.now n) c.numbers.images.items) end c.numbers.invariant.images;
     }

@@ -5,13 +5,13 @@ use Rattle.offset_errors.proofs.lists.part_entry.Goals as goal
 
 pub plus-requires : goal.plus-requires
 plus-requires c =
-    let rect = c.args.rect in
+    let lead = c.args.lead in
     let part = c.args.part.now in
     let at = c.args.at in
-    let is = moved_is rect part.size at.x at.y at.f (sym c.is_in_part.ensures ∙ c.if-not-is_in_part.false) in
+    let is = moved_is lead part.size at.x at.y at.f (sym c.is_in_part.ensures ∙ c.if-not-is_in_part.false) in
     subst (SumFits part.corner) (sym c.place.ensures)
     (c.requires.part.sums _ _ _ (record {
-      column = omega (arith, is.along_x.from, is.along_x.to, c.requires.rect.w.0);
-      row = omega (arith, is.along_y.from, is.along_y.to, c.requires.rect.h.0);
-      frame = omega (arith, is.along_f.from, is.along_f.to, c.requires.rect.f.0);
+      column = omega (arith, is.along_x.from, is.along_x.to, c.requires.lead.w.0);
+      row = omega (arith, is.along_y.from, is.along_y.to, c.requires.lead.h.0);
+      frame = omega (arith, is.along_f.from, is.along_f.to, c.requires.lead.f.0);
     }))

@@ -10,7 +10,7 @@ pub cells-preserved : goal.cells-preserved
 cells-preserved c =
     let at = c.cells.at in
     let was = c.cells.invariant.1 in
-    let g = moved c.args.rect c.args.part.now.size (part_number c.args.sample.now c.args.part.now.corner c.args.j) in
+    let g = moved c.args.lead c.args.part.now.size (part_number c.args.sample.now c.args.part.now.corner c.args.j) in
     let entry = c.part_entry.ensures ∙ sym (at_index_is c.args.pad g c.cells.i at.x at.y at.f was) in
     let next = c.next-at.ensures c.cells.i (record { column = was.column; row = was.row; index = was.index }) in (
       ◌∙◌ {A = List ℕ} c.in_ok-push.ensures.items (◌∙◌ {A = List ℕ} (λ k. c.cells.invariant.0 k ++ entry k ∷ [])

@@ -9,5 +9,5 @@ use Rattle.offset_errors.proofs.lists.part_values.Given as goal
 -- the entries before an index, and the walk is there
 abbrev pub invariant-cells : goal.invariant-cells
 invariant-cells l =
-    (l.values.items ≡ map (at_index l.fn.pad (moved l.rect l.part.size (part_number l.sample l.part.corner l.j))) (range_with_len 0 l.i))
+    (l.values.items ≡ map (at_index l.fn.pad (moved l.lead l.part.size (part_number l.sample l.part.corner l.j))) (range_with_len 0 l.i))
     × IsAtIndex l.fn.pad l.i l.at.x l.at.y l.at.f

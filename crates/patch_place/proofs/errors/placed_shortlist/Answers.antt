@@ -17,6 +17,6 @@ entries-preserved c =
       seen = omega (arith, c.in_ok-add.ensures.seen, c.entries.invariant.seen);
       tol = c.add.ensures.tol ∙ c.entries.invariant.tol;
       known = c.add.ensures.known ∙ c.entries.invariant.known;
-      errors = c.in_ok-come_to.ensures.errors;
+      errors = c.in_ok-come_to.ensures.sums;
       part = c.in_ok-come_to.ensures.part;
     }

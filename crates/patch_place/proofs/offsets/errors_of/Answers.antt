@@ -14,15 +14,17 @@ pub gather-requires-clause-held : goal.gather-requires-clause-held
 gather-requires-clause-held c =
     let n = c.args.n in
     let part = c.part_after-size.result in
+    let met = c.met_part-met.result in
+    let within = c.met_part-met.ensures.within in
     let sample = c.args.sample.now in
     let at : slice_get (sizes_of sample) n ≡ Some part = subst (λ sizes. slice_get sizes n ≡ Some part) c.parts_of-sizes.ensures.sizes c.part_after-size.ensures.size in
-    let whole : HoldsBox part (spot 0 0 0) part = record {
-      x = record { from = omega (arith, ints); to = omega (arith, ints) };
-      y = record { from = omega (arith, ints); to = omega (arith, ints) };
-      f = record { from = omega (arith, ints); to = omega (arith, ints) };
+    let whole : HoldsBox part (spot 0 0 0) met = record {
+      x = record { from = omega (arith, ints); to = omega (arith, ints, within.0) };
+      y = record { from = omega (arith, ints); to = omega (arith, ints, within.1) };
+      f = record { from = omega (arith, ints); to = omega (arith, ints, within.2) };
     } in
     let frames : c.frames_before-f.result ≡ frames_to_part (sizes_of sample) n = c.frames_before-f.ensures.frames ∙ ap (λ sizes. frames_to_part sizes n) c.parts_of-sizes.ensures.sizes in
     let signed : to_z w32 c.frames_before-f.result ≡ pos c.frames_before-f.result = to_z_pos w32 (omega (arith, c.frames_before-f.ensures.few)) in
     let f : pos 0 +ℤ pos (frames_to_part (sizes_of sample) n) ≡ to_z w32 c.frames_before-f.result = omega (arith, ints, frames, signed) in
-    subst (λ corner. Holds sample corner part) (stock_moved (sizes_of sample) (suc n) n (spot 0 0 0) refl ∙ (λ k. record { x = pos 0; y = pos 0; f = f k }))
-    (part_held sample (suc n) n part (spot 0 0 0) part refl at whole)
+    subst (λ corner. Holds sample corner met) (stock_moved (sizes_of sample) (suc n) n (spot 0 0 0) refl ∙ (λ k. record { x = pos 0; y = pos 0; f = f k }))
+    (part_held sample (suc n) n part (spot 0 0 0) met refl at whole)

@@ -11,7 +11,7 @@ summed_images-requires-clause-part c = in_sample c.args.sample.now c.args.part.n
 
 pub returns : goal.returns
 returns c =
-    let all = listed_sums c.args.levels c.args.map.now c.args.sample.now c.args.rect.now c.args.part.now (c.args.sample.now.k + 1) in
-    all_errors c.args.map.now c.args.sample.now c.args.rect.now c.args.part.now c.args.levels _ c.size-size.ensures.map.small c.samples-samples.ensures.volume c.requires.over c.requires.part c.requires.enough
+    let all = listed_sums c.args.layout.now c.args.map.now c.args.sample.now c.args.rect.now c.args.part.now (c.args.sample.now.k + 1) in
+    all_errors c.args.map.now c.args.sample.now c.args.rect.now c.args.part.now c.args.layout.now _ c.size-size.ensures.map.small c.samples-samples.ensures.volume c.requires.over c.requires.enough
     (with_items_is c.in_ok-sums.sums c.join.new.images (omega arith)
     ∙ c.join.ensures all (subst (AreImages LAST c.in_ok-transform.transform all) (sym c.deref_mut.ensures.value) c.in_ok-sums.ensures.images))

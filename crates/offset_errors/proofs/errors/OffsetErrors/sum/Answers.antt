@@ -1,9 +1,9 @@
-use Rattle.std.proofs.Common.{◌≡◌, ◌∙◌, ap, length, sym, subst}
+use Rattle.std.proofs.Common.{◌≡◌, ◌∙◌, length, sym, subst}
 use Rattle.std.specs.Prelude.{Some, slice_get}
 use Rattle.std.proofs.lemmas.Option.{get_or_from_slice_get}
 use Rattle.cells.specs.Places.{raster_index}
 use Rattle.match_error.specs.Errors.{error_sum}
-use Rattle.offset_errors.specs.Errors.{AreErrors, padded, sum_index}
+use Rattle.offset_errors.specs.Errors.{AreErrors, sum_index}
 use Rattle.offset_errors.specs.Offsets.{IsAtOffset}
 use Rattle.offset_errors.proofs.errors.OffsetErrors.sum.Goals as goal
 
@@ -13,14 +13,15 @@ returns-in-Some c = λ m sample are fits.
     let x = c.in_ok-x.x in
     let y = c.in_ok-y.y in
     let f = c.in_ok-f.f in
-    let pad = padded at.rect.size at.part.size in
-    let own : AreErrors m sample (record { rect = at.rect; part = at.part; sums = at.sums.items }) = subst (AreErrors m sample) (sym c.self.view_is) are in
+    let pad = at.layout.pad in
+    let own : AreErrors m sample (record { rect = at.rect; part = at.part; layout = at.layout; sums = at.sums.items }) = subst (AreErrors m sample) (sym c.self.view_is) are in
     let on_x = c.in_ok-x.ensures {u = tt} in
     let on_y = c.in_ok-y.ensures {u = tt} in
     let on_f = c.in_ok-f.ensures {u = tt} in
     let to = c.args.placement.now in
-    let placed : IsAtOffset pad at.rect at.part x y f to = record {
+    let placed : IsAtOffset pad at.layout.lead at.rect at.part x y f to = record {
       below = record { column = on_x.below; row = on_y.below; frame = on_f.below };
+      apart = record { on_x = on_x.apart; on_y = on_y.apart; on_f = on_f.apart };
       a = c.in_ok-a.a.x;
       b = c.in_ok-a.a.y;
       c = c.in_ok-a.a.f;
@@ -34,7 +35,7 @@ returns-in-Some c = λ m sample are fits.
       on_f = on_f.shared;
     } in
     let here = own.each to x y f fits placed in
-    let index : c.index_at.result ≡ raster_index pad x y f = c.index_at.ensures ∙ ap (λ p. raster_index p x y f) c.padded-pad.ensures in
+    let index : c.index_at.result ≡ raster_index pad x y f = c.index_at.ensures in
     let count : c.len-n.result ≡ length at.sums.items = c.len-n.ensures ∙ at.sums.ok.0 in
     let place : c.sum_index-i.result ≡ sum_index (length at.sums.items) (raster_index pad x y f) = c.sum_index-i.ensures ∙ (λ i. sum_index (count i) (index i)) in
     let there : slice_get c.deref.result.now c.sum_index-i.result ≡ Some (error_sum m sample to) = (λ i. slice_get (c.deref.ensures.value i) (place i)) ∙ here in

@@ -1,3 +1,4 @@
+use Rattle.std.proofs.lemmas.Grind.{common_steps}
 use Rattle.std.proofs.Common.{◌+◌, ◌-◌, ◌*◌, drop, ◌∙◌, arith, length-take, length-drop}
 use Rattle.std.proofs.Math.Nat.{mul-le-mul_right}
 use Rattle.loop_walk.proofs.ProductLaws.{product_row_more}
@@ -10,3 +11,30 @@ loop-i-preserved c =
     product_row_more n i c.args.left.now c.args.nears.now c.loop-i.made c.fill_row_of_rests.new.sums c.loop-i-test.true (c.loop-i.auto.made ∙ c.requires.made)
     (omega (arith, c.fill_row_of_rests.auto.sums, length-take (i * n + n - i * n) (drop (i * n) c.loop-i.made), length-drop (i * n) c.loop-i.made, c.loop-i.auto.made, c.requires.made, mul-le-mul_right n c.loop-i-test.true))
     c.loop-i.invariant c.fill_row_of_rests.ensures
+
+pub fill_row_of_rests-requires-clause-bases : goal.fill_row_of_rests-requires-clause-bases
+fill_row_of_rests-requires-clause-bases c = grind (arith, common_steps)
+
+pub fill_row_of_rests-requires-clause-left : goal.fill_row_of_rests-requires-clause-left
+fill_row_of_rests-requires-clause-left c = grind (arith, common_steps)
+
+pub slice_bounds-fill_row_of_rests-end-in-loop-i : goal.slice_bounds-fill_row_of_rests-end-in-loop-i
+slice_bounds-fill_row_of_rests-end-in-loop-i c = grind (arith, common_steps)
+
+pub returns : goal.returns
+returns c = grind (arith, common_steps)
+
+pub slice_bounds-bases-end-in-loop-i : goal.slice_bounds-bases-end-in-loop-i
+slice_bounds-bases-end-in-loop-i c = grind (arith, common_steps)
+
+pub fill_row_of_rests-requires-clause-near : goal.fill_row_of_rests-requires-clause-near
+fill_row_of_rests-requires-clause-near c = grind (arith, common_steps)
+
+pub slice_bounds-fill_row_of_rests-end-in-loop-i-2 : goal.slice_bounds-fill_row_of_rests-end-in-loop-i-2
+slice_bounds-fill_row_of_rests-end-in-loop-i-2 c = grind (arith, common_steps)
+
+pub loop-i-init : goal.loop-i-init
+loop-i-init c = grind (arith, common_steps)
+
+pub slice_bounds-fill_row_of_rests-end : goal.slice_bounds-fill_row_of_rests-end
+slice_bounds-fill_row_of_rests-end c = grind (arith, common_steps)

@@ -1,3 +1,4 @@
+use Rattle.std.proofs.lemmas.Grind.{common_steps}
 use Rattle.std.proofs.Common.{◌*◌, get_or, ap, ◌∙◌, arith}
 use Rattle.std.specs.Prelude.{min}
 use Rattle.loop_walk.specs.Products.{near_row_sum}
@@ -12,3 +13,9 @@ loop-h-preserved c = record {
       (omega arith) (c.loop-h.invariant.least j lt) (c.lower_through.ensures.lowered j lt ∙ ap (λ w. min (get_or c.loop-h.sums j 0) (min (near_row_sum c.args.n c.args.firsts.now c.args.nears.now j (2 * c.loop-h.h)) (near_row_sum c.args.n c.args.firsts.now c.args.nears.now j w))) c.min.ensures);
   near = c.lower_through.ensures.near;
 }
+
+pub loop-h-init : goal.loop-h-init
+loop-h-init c = grind (arith, common_steps)
+
+pub returns : goal.returns
+returns c = grind (arith, common_steps)

@@ -1,3 +1,4 @@
+use Rattle.std.proofs.lemmas.Grind.{common_steps}
 -- Both rows end within the table, and a number of a row is one of the table.
 use Rattle.std.proofs.Common.{◌*◌, ◌+◌, arith}
 use Rattle.loop_walk.proofs.RestLaws.{get_or-row, row_within}
@@ -64,3 +65,9 @@ returns-then-first-lt-FAR-clause-lowered c = λ j lt.
 
 pub returns-else-other-lt-FAR-clause-lowered : goal.returns-else-other-lt-FAR-clause-lowered
 returns-else-other-lt-FAR-clause-lowered c = λ j lt. omega (arith, c.requires.near j (omega (arith, c.requires.sums)), c.min-first.ensures, c.min-other.ensures)
+
+pub lower-requires-clause-near : goal.lower-requires-clause-near
+lower-requires-clause-near c = grind (arith, common_steps)
+
+pub returns-then-first-lt-FAR-clause-near : goal.returns-then-first-lt-FAR-clause-near
+returns-then-first-lt-FAR-clause-near c = grind (arith, common_steps)

@@ -1,3 +1,4 @@
+use Rattle.std.proofs.lemmas.Grind.{common_steps}
 use Rattle.std.proofs.Common.{◌*◌, length, ap, ◌∙◌, arith}
 use Rattle.loop_walk.specs.Products.{table_in}
 use Rattle.loop_walk.proofs.TableLaws.{length-table_in}
@@ -30,3 +31,6 @@ returns-clause-found c =
     c.first_frame-first.result (rw c.frames-n.ensures.frames at c.first_frame-first.ensures.below)
     (rw c.frames-n.ensures.frames at c.first_frame-first.ensures.least) (rw c.frames-n.ensures.frames at c.first_frame-first.ensures.first)
     (rw c.frames-n.ensures.frames at c.if-cost.false) c.in_ok-walk.walk.items c.in_ok-walk.ensures)
+
+pub bounds-last-first : goal.bounds-last-first
+bounds-last-first c = grind (arith, common_steps)

@@ -1,3 +1,4 @@
+use Rattle.std.proofs.lemmas.Grind.{common_steps}
 use Rattle.std.proofs.Common.{get_or, arith}
 use Rattle.loop_walk.proofs.RestLaws.{exact_below}
 use Rattle.loop_walk.proofs.rests.fill_quickly.Goals as goal
@@ -7,3 +8,9 @@ fill_sums-requires-clause-exact c = λ j lt.
     exact_below c.args.n j c.args.firsts.now c.args.nears.now c.args.bases.now c.args.rests.now c.raise.new.raised c.fill_rests.new.rests c.base_of-base.result
     (get_or c.fill_rest_row.new.sums j 0) c.requires.firsts (omega (arith, c.raise.auto.raised, c.requires.raised)) lt c.requires.left c.raise.ensures c.base_of-base.ensures.base
     c.fill_rests.ensures.rests (c.fill_rest_row.ensures j lt)
+
+pub returns-then-count_great-gt-MOST_SINGLE_SUMS : goal.returns-then-count_great-gt-MOST_SINGLE_SUMS
+returns-then-count_great-gt-MOST_SINGLE_SUMS c = grind (arith, common_steps)
+
+pub fill_sums-requires-clause-near : goal.fill_sums-requires-clause-near
+fill_sums-requires-clause-near c = grind (arith, common_steps)

@@ -1,3 +1,4 @@
+use Rattle.std.proofs.lemmas.Grind.{common_steps}
 use Rattle.std.proofs.Common.{◌≡◌, ◌+◌, ◌-◌, ◌*◌, ◌≤◌, drop, take, length, get_or, ap, ◌∙◌, arith, length-take, length-drop}
 use Rattle.std.proofs.Math.Nat.{mul-le-mul_right}
 use Rattle.loop_walk.specs.Rests.{rest_of}
@@ -25,3 +26,9 @@ returns c = record {
   small = small_rests c.args.n c.args.nears.now c.fill_bases.new.bases c.loop-v.rests (c.loop-v.auto.rests ∙ c.requires.rests)
       (λ v j lt column. c.loop-v.invariant v j (omega arith) column);
 }
+
+pub fill_rests-requires-clause-base : goal.fill_rests-requires-clause-base
+fill_rests-requires-clause-base c = grind (arith, common_steps)
+
+pub slice_bounds-fill_rests-end-in-loop-v : goal.slice_bounds-fill_rests-end-in-loop-v
+slice_bounds-fill_rests-end-in-loop-v c = grind (arith, common_steps)

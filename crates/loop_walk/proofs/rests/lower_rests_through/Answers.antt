@@ -1,3 +1,4 @@
+use Rattle.std.proofs.lemmas.Grind.{common_steps}
 -- Both rows end within the table, and a number of a row is one of the table.
 use Rattle.std.proofs.Common.{◌*◌, ◌+◌, arith}
 use Rattle.loop_walk.proofs.RestLaws.{get_or-row, row_within}
@@ -64,3 +65,9 @@ returns-then-first-lt-GREATEST_REST-clause-lowered c = λ j lt.
 
 pub returns-else-other-lt-GREATEST_REST-clause-lowered : goal.returns-else-other-lt-GREATEST_REST-clause-lowered
 returns-else-other-lt-GREATEST_REST-clause-lowered c = λ j lt. omega (arith, c.requires.small j (omega (arith, c.requires.sums)))
+
+pub lower_rests-requires-clause-small : goal.lower_rests-requires-clause-small
+lower_rests-requires-clause-small c = grind (arith, common_steps)
+
+pub returns-then-first-lt-GREATEST_REST-clause-small : goal.returns-then-first-lt-GREATEST_REST-clause-small
+returns-then-first-lt-GREATEST_REST-clause-small c = grind (arith, common_steps)

@@ -1,3 +1,5 @@
+use Rattle.std.proofs.Common.{arith}
+use Rattle.std.proofs.lemmas.Grind.{common_steps}
 use Rattle.std.proofs.Common.{◌+◌, ◌*◌, get_or, ap, ◌∙◌}
 use Rattle.std.specs.Prelude.{min}
 use Rattle.loop_walk.specs.declared.product.TheConstants.{FAR}
@@ -13,3 +15,6 @@ loop-v-preserved c =
     let nears = c.args.nears.now in
     least-more FAR v c.loop-v.sum c.min-sum.result (near_row_sum n c.args.firsts.now nears j) c.loop-v.invariant
     (c.min-sum.ensures ∙ ap (λ k. min c.loop-v.sum (k + get_or nears (v * n + j) 0)) c.min.ensures)
+
+pub returns : goal.returns
+returns c = grind (arith, common_steps)

@@ -1,3 +1,4 @@
+use Rattle.std.proofs.lemmas.Grind.{common_steps}
 use Rattle.std.proofs.Common.{◌≡◌, ◌+◌, ◌-◌, ◌*◌, ◌<◌, subst, arith, ⊎_elim}
 use Rattle.std.proofs.lemmas.Bool.{cases_lt}
 use Rattle.std.proofs.lemmas.Nat.{mul-add-lt}
@@ -48,3 +49,36 @@ loop-i-preserved c = λ place lt.
     subst (PlaceHolds costs m tables) here (place_from_row costs m tables t i k row less c.requires.last
     (subst (λ s. IsBelowProducts costs tables t s i k) c.second_table-second.ensures (c.in-None.ensures.hold k less))))
     (cases_lt place (t * (n * n) + i * n))
+
+pub returns-clause-hold : goal.returns-clause-hold
+returns-clause-hold c = grind (arith, common_steps)
+
+pub broken_in_row-requires-clause-left : goal.broken_in_row-requires-clause-left
+broken_in_row-requires-clause-left c = grind (arith, common_steps)
+
+pub broken_in_row-requires-clause-bases : goal.broken_in_row-requires-clause-bases
+broken_in_row-requires-clause-bases c = grind (arith, common_steps)
+
+pub slice_bounds-broken_in_row-end : goal.slice_bounds-broken_in_row-end
+slice_bounds-broken_in_row-end c = grind (arith, common_steps)
+
+pub loop-i-init : goal.loop-i-init
+loop-i-init c = grind (arith, common_steps)
+
+pub slice_bounds-bases-end-in-loop-i : goal.slice_bounds-bases-end-in-loop-i
+slice_bounds-bases-end-in-loop-i c = grind (arith, common_steps)
+
+pub overflow_add-result-in-Some : goal.overflow_add-result-in-Some
+overflow_add-result-in-Some c = grind (arith, common_steps)
+
+pub broken_in_row-requires-clause-entries : goal.broken_in_row-requires-clause-entries
+broken_in_row-requires-clause-entries c = grind (arith, common_steps)
+
+pub broken_in_row-requires-clause-second : goal.broken_in_row-requires-clause-second
+broken_in_row-requires-clause-second c = grind (arith, common_steps)
+
+pub broken_in_row-requires-clause-near : goal.broken_in_row-requires-clause-near
+broken_in_row-requires-clause-near c = grind (arith, common_steps)
+
+pub fill_rest_table-requires-clause-bases : goal.fill_rest_table-requires-clause-bases
+fill_rest_table-requires-clause-bases c = grind (arith, common_steps)

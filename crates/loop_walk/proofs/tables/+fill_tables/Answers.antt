@@ -1,3 +1,4 @@
+use Rattle.std.proofs.lemmas.Grind.{common_steps}
 use Rattle.std.proofs.Common.{◌≡◌, ℕ, ◌+◌, ◌*◌, ◌≤◌, length, ◌^◌, ap, sym, subst, ◌∙◌, arith}
 use Rattle.std.proofs.Math.Nat.{mul-le-mul_right}
 use Rattle.loop_walk.specs.declared.product.TheConstants.{GREATEST_NUMBER}
@@ -78,3 +79,27 @@ fill_product-requires-clause-small_right t c =
     subst (AreSmall GREATEST_NUMBER) (sym c.table_in-right.ensures)
     (small_table_in c.args.costs.now c.args.steps.now c.requires.steps c.fill_tables.new.tables (c.length_before-before.result * 2 ^ 46) GREATEST_NUMBER second (omega arith)
     (omega (arith, before.less, c.length_before-before.ensures, c.requires.length.1)) c.fill_tables.ensures.small fits)
+
+pub fill_product-requires-clause-nears : goal.fill_product-requires-clause-nears
+fill_product-requires-clause-nears t c = grind (arith, common_steps)
+
+pub fill_product-requires-clause-rests : goal.fill_product-requires-clause-rests
+fill_product-requires-clause-rests t c = grind (arith, common_steps)
+
+pub table_in-right-requires-clause-few : goal.table_in-right-requires-clause-few
+table_in-right-requires-clause-few t c = grind (arith, common_steps)
+
+pub table_in-left-requires-clause-few : goal.table_in-left-requires-clause-few
+table_in-left-requires-clause-few t c = grind (arith, common_steps)
+
+pub table_in-right-requires-clause-there : goal.table_in-right-requires-clause-there
+table_in-right-requires-clause-there t c = grind (arith, common_steps)
+
+pub table_in-left-requires-clause-there : goal.table_in-left-requires-clause-there
+table_in-left-requires-clause-there t c = grind (arith, common_steps)
+
+pub table_in-right-requires-clause-count : goal.table_in-right-requires-clause-count
+table_in-right-requires-clause-count t c = grind (arith, common_steps)
+
+pub table_in-left-requires-clause-count : goal.table_in-left-requires-clause-count
+table_in-left-requires-clause-count t c = grind (arith, common_steps)

@@ -1,3 +1,4 @@
+use Rattle.std.proofs.lemmas.Grind.{common_steps}
 use Rattle.std.proofs.Common.{◌-◌, ◌≤◌, length, ap, sym, ◌∙◌, subst, arith}
 use Rattle.std.specs.Prelude.{IsSome}
 use Rattle.loop_walk.specs.Walks.{sum_if_both}
@@ -94,3 +95,6 @@ returns t c =
     ways_joined costs m b (m - b) c.args.i v c.args.j (entry_at costs c.args.tables.now (table_count b) c.args.i v) (entry_at costs c.args.tables.now (table_count (m - b)) v c.args.j) (entry_at costs c.args.tables.now (table_count m) c.args.i c.args.j)
     c.args.walk.now.items c.add_way.new.walk.items c.push.new.self.items c.add_way-2.new.walk.items (omega (arith, lengths.less)) whole c.in_ok-add_way.ensures c.in_ok-push.ensures.items second)
     c.add_way-2.ensures
+
+pub overflow_sub-length : goal.overflow_sub-length
+overflow_sub-length t c = grind (arith, common_steps)

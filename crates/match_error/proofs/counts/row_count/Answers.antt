@@ -1,3 +1,5 @@
+use Rattle.std.proofs.Common.{arith}
+use Rattle.std.proofs.lemmas.Grind.{common_steps}
 use Rattle.std.proofs.Common.{◌∙◌, ◌/◌, ◌≤◌, ap, subst, sym}
 use Rattle.std.specs.Prelude.{sum}
 use Rattle.cells.specs.Cells.{row_at}
@@ -16,3 +18,6 @@ returns-clause-count c =
 pub returns-clause-small : goal.returns-clause-small
 returns-clause-small c =
     subst (λ n. n ≤ c.args.rect.now.size.w) (sym (returns-clause-count c)) (row_at_most c.args.canvas.now.map c.args.rect.now c.args.y c.args.f)
+
+pub mark_sum-requires : goal.mark_sum-requires
+mark_sum-requires c = grind (arith, common_steps)

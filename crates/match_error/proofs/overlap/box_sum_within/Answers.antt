@@ -1,3 +1,4 @@
+use Rattle.std.proofs.lemmas.Grind.{common_steps}
 use Rattle.std.proofs.Common.{◌≡◌, ◌<◌, ap, arith, subst, sym}
 use Rattle.std.specs.Prelude.{IfNone}
 use Rattle.boxes.specs.Sums.{sum_to}
@@ -29,3 +30,6 @@ returns-clause-small c =
     let whole : c.loop-f.f ≡ c.args.placement.now.rect.size.f = omega (arith, c.loop-f-test.false, c.loop-f.auto.f-end) in
     let sum = ap (λ n. sum_to n (frame_error c.args.canvas.now.map c.args.sample.now c.args.placement.now)) whole in
     omega (arith, returns-clause-bound c, c.loop-f.invariant.sum, sum)
+
+pub loop-f-preserved : goal.loop-f-preserved
+loop-f-preserved c = grind (arith, common_steps)

@@ -1,3 +1,5 @@
+use Rattle.std.proofs.Common.{arith}
+use Rattle.std.proofs.lemmas.Grind.{common_steps}
 use Rattle.std.proofs.Common.{◌*◌, ◌∙◌, ap, sym, subst}
 use Rattle.std.specs.Prelude.{IfSome}
 use Rattle.cells.specs.Boxes.{HoldsBox}
@@ -26,3 +28,6 @@ runs_sum-requires-clause-bytes c =
       old_long = c.box_row-old.ensures.len ∙ ap (λ (v : Cells). v.k * rect.size.w) c.picture.ensures.picture ∙ ap (λ k. k * rect.size.w) c.requires.over.samples;
       new_long = c.box_row-new.ensures.len;
     }
+
+pub runs_sum-requires-clause-runs : goal.runs_sum-requires-clause-runs
+runs_sum-requires-clause-runs c = grind (arith, common_steps)

@@ -1,3 +1,4 @@
+use Rattle.std.proofs.lemmas.Grind.{common_steps}
 use Rattle.std.proofs.Common.{◌≡◌, ◌≤◌, ℕ, ◌+◌, ◌-◌, ◌*◌, ◌∙◌, ap, sym, arith}
 use Rattle.std.proofs.Math.Nat.{mul-le-mul_left}
 use Rattle.std.proofs.lemmas.List.{length-take}
@@ -50,3 +51,18 @@ returns c =
     let none : c.column_in-end.result - c.column_in-first.result ≡ 0 = omega (arith, c.if-first-end.false) in
     sym (ap (λ n. sum_to n (λ i. spot_error m sample placement (c.column_in-first.result + i) c.args.y c.args.f)) none)
     ∙ (λ k. sum_to (c.column_in-end.ensures k - c.column_in-first.ensures k) (λ i. spot_error m sample placement (c.column_in-first.ensures k + i) c.args.y c.args.f))
+
+pub slice_bounds-squared_differences-start-then-first-end : goal.slice_bounds-squared_differences-start-then-first-end
+slice_bounds-squared_differences-start-then-first-end c = grind (arith, common_steps)
+
+pub slice_bounds-squared_differences-count-then-first-end : goal.slice_bounds-squared_differences-count-then-first-end
+slice_bounds-squared_differences-count-then-first-end c = grind (arith, common_steps)
+
+pub slice_bounds-squared_differences-start : goal.slice_bounds-squared_differences-start
+slice_bounds-squared_differences-start c = grind (arith, common_steps)
+
+pub slice_bounds-squared_differences-count : goal.slice_bounds-squared_differences-count
+slice_bounds-squared_differences-count c = grind (arith, common_steps)
+
+pub slice_bounds-squared_differences-end-then-first-end : goal.slice_bounds-squared_differences-end-then-first-end
+slice_bounds-squared_differences-end-then-first-end c = grind (arith, common_steps)

@@ -1,3 +1,4 @@
+use Rattle.std.proofs.lemmas.Grind.{common_steps}
 use Rattle.std.proofs.Common.{◌∙◌, ℕ, ap, arith, refl}
 use Rattle.std.proofs.lemmas.List.{take_all}
 use Rattle.std.specs.List.{sum_by}
@@ -33,3 +34,6 @@ returns-clause-sum c =
 pub returns-clause-small : goal.returns-clause-small
 returns-clause-small c =
     omega (arith, returns-clause-sum c, row_small c.args.canvas.now.map c.args.sample.now c.args.placement.now c.args.y c.args.f c.map-map.ensures.canvas.map.small c.samples-sample.ensures.volume c.requires.fits)
+
+pub runs-preserved : goal.runs-preserved
+runs-preserved c = grind (arith, common_steps)

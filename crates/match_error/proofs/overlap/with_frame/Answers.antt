@@ -1,3 +1,4 @@
+use Rattle.std.proofs.lemmas.Grind.{common_steps}
 use Rattle.std.proofs.Common.{arith}
 use Rattle.match_error.specs.Errors.{row_error}
 use Rattle.match_error.proofs.Bounds.{passed}
@@ -13,3 +14,6 @@ returns-then-sum-limit-clause-none c =
 
 pub returns-clause-small : goal.returns-clause-small
 returns-clause-small c = omega (arith, c.loop-y.invariant.fits, c.loop-y.auto.y-end, c.requires.small.axes.h)
+
+pub loop-y-preserved : goal.loop-y-preserved
+loop-y-preserved c = grind (arith, common_steps)

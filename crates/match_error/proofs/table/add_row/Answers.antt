@@ -1,3 +1,4 @@
+use Rattle.std.proofs.lemmas.Grind.{common_steps}
 use Rattle.std.proofs.Common.{◌≡◌, ◌≤◌, ◌+◌, ℕ, get_or, subst, sym, ◌∙◌, arith}
 use Rattle.std.proofs.lemmas.Int.{ints}
 use Rattle.limits.specs.declared.bounds.TheConstants.{GREATEST_AXIS, MOST_CELLS}
@@ -36,3 +37,12 @@ loop-x-preserved c =
       filled = filled;
       few = omega (arith, one, c.loop-x.invariant.few);
     }
+
+pub returns : goal.returns
+returns c = grind (arith, common_steps)
+
+pub overflow_add-filled : goal.overflow_add-filled
+overflow_add-filled c = grind (arith, common_steps)
+
+pub loop-x-init : goal.loop-x-init
+loop-x-init c = grind (arith, common_steps)

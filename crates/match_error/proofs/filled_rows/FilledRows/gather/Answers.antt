@@ -1,3 +1,4 @@
+use Rattle.std.proofs.lemmas.Grind.{common_steps}
 use Rattle.std.proofs.Common.{◌≡◌, ◌+◌, ◌*◌, ◌∷◌, ◌++◌, List, [], ℕ, length, ap, sym, subst, ◌∙◌, arith}
 use Rattle.match_error.specs.declared.filled_rows.RowRun.{RowRun}
 use Rattle.match_error.specs.Rows.{AreRunsTo}
@@ -29,3 +30,12 @@ returns c =
       inside = c.requires.inside;
       runs = subst (λ n. AreRunsTo c.args.canvas.now.map c.args.rect.now n c.loop-row.starts.items c.loop-row.runs.items) whole c.loop-row.invariant;
     }
+
+pub add_row-requires-clause-row : goal.add_row-requires-clause-row
+add_row-requires-clause-row c = grind (arith, common_steps)
+
+pub nonzero_rem-row : goal.nonzero_rem-row
+nonzero_rem-row c = grind (arith, common_steps)
+
+pub nonzero_div-row : goal.nonzero_div-row
+nonzero_div-row c = grind (arith, common_steps)

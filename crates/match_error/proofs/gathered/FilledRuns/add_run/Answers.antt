@@ -1,3 +1,5 @@
+use Rattle.std.proofs.Common.{arith}
+use Rattle.std.proofs.lemmas.Grind.{common_steps}
 use Rattle.std.proofs.Common.{◌≡◌, ◌*◌, ◌∙◌, ap, length, refl}
 use Rattle.cells.specs.Cells.{Cells, row_at}
 use Rattle.cells.specs.Places.{plus, spot}
@@ -29,3 +31,6 @@ returns-clause-runs c =
 pub returns-clause-adds : goal.returns-clause-adds
 returns-clause-adds c =
     more_error c.args.canvas.now c.args.rect.now c.args.x c.args.y c.args.f c.args.n c.args.self.now _ c.picture-picture.ensures.canvas (one_more c) c.requires.some c.requires.row c.requires.filled c.requires.runs
+
+pub row-old-requires : goal.row-old-requires
+row-old-requires c = grind (arith, common_steps)

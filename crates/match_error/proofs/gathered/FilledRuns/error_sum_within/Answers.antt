@@ -1,3 +1,4 @@
+use Rattle.std.proofs.lemmas.Grind.{common_steps}
 use Rattle.std.proofs.Common.{◌≡◌, arith}
 use Rattle.std.proofs.lemmas.List.Sums.{sum_by-take-le}
 use Rattle.std.specs.List.{sum_by}
@@ -41,3 +42,9 @@ returns-then-sum-limit-clause-bound c = error_small c.args.canvas.now.map c.args
 
 pub returns-clause-bound : goal.returns-clause-bound
 returns-clause-bound c = error_small c.args.canvas.now.map c.args.sample.now c.args.placement.now c.map-map.ensures.canvas.map.small c.samples-sample.ensures.volume c.requires.fits
+
+pub runs-preserved : goal.runs-preserved
+runs-preserved c = grind (arith, common_steps)
+
+pub returns-clause-some : goal.returns-clause-some
+returns-clause-some c = grind (arith, common_steps)

@@ -1,3 +1,5 @@
+use Rattle.std.proofs.Common.{arith}
+use Rattle.std.proofs.lemmas.Grind.{common_steps}
 use Rattle.std.proofs.Common.{◌≡◌, ◌≤◌, ◌+◌, ◌*◌, List, ℕ, get_or, ap, subst, sym, ◌∙◌}
 use Rattle.limits.specs.declared.bounds.TheConstants.{MOST_CELLS}
 use Rattle.match_error.specs.Tables.{filled_before}
@@ -12,3 +14,12 @@ returns-clause-small c =
     let is : get_or c.as_slice-entries.result.now i 0 ≡ filled_before m rect c.args.x c.args.row =
     ap (λ (xs : List ℕ). get_or xs i 0) c.as_slice-entries.ensures.value ∙ c.requires.counts.entries c.args.x c.args.row c.requires.column c.requires.row in
     subst (λ n. n ≤ MOST_CELLS) (sym is) (before_small m rect c.args.x c.args.row c.map-map.ensures.canvas.map.small c.requires.counts.inside c.requires.column c.requires.row)
+
+pub offset_bounds-entries-across : goal.offset_bounds-entries-across
+offset_bounds-entries-across c = grind (arith, common_steps)
+
+pub returns-clause-count : goal.returns-clause-count
+returns-clause-count c = grind (arith, common_steps)
+
+pub bounds-entries-across : goal.bounds-entries-across
+bounds-entries-across c = grind (arith, common_steps)

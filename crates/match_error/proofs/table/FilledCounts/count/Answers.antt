@@ -1,3 +1,4 @@
+use Rattle.std.proofs.lemmas.Grind.{common_steps}
 use Rattle.std.proofs.Common.{◌≡◌, ◌≤◌, ℕ, subst, sym, ◌∙◌, arith}
 use Rattle.std.proofs.lemmas.Int.{to_z-of_z}
 use Rattle.std.specs.Prelude.{pos, ◌+ℤ◌, IfSome, Option, Some}
@@ -24,3 +25,15 @@ returns-in-Some-Some-Some-clause-count c =
 pub returns-in-Some-Some-Some-clause-small : goal.returns-in-Some-Some-Some-clause-small
 returns-in-Some-Some-Some-clause-small c =
     subst (λ n. n ≤ cell_count c.args.rect.now.size) (sym (returns-in-Some-Some-Some-clause-count c)) (cells_small c.args.canvas.now.map c.args.rect.now)
+
+pub box_count-requires-clause-counts : goal.box_count-requires-clause-counts
+box_count-requires-clause-counts c = grind (arith, common_steps)
+
+pub box_count-requires-clause-columns : goal.box_count-requires-clause-columns
+box_count-requires-clause-columns c = grind (arith, common_steps)
+
+pub box_count-requires-clause-rows : goal.box_count-requires-clause-rows
+box_count-requires-clause-rows c = grind (arith, common_steps)
+
+pub box_count-requires-clause-frames : goal.box_count-requires-clause-frames
+box_count-requires-clause-frames c = grind (arith, common_steps)

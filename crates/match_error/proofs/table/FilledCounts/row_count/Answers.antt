@@ -1,3 +1,4 @@
+use Rattle.std.proofs.lemmas.Grind.{common_steps}
 use Rattle.std.proofs.Common.{arith}
 use Rattle.match_error.proofs.Tables.{four, piece_small}
 use Rattle.match_error.proofs.table.FilledCounts.row_count.Goals as goal
@@ -13,3 +14,9 @@ returns-clause-count c =
 pub returns-clause-small : goal.returns-clause-small
 returns-clause-small c =
     omega (arith, four c.args.canvas.now.map c.args.self.now.rect c.args.x c.args.w c.args.row c.args.h _ _ _ _ c.before-outer.ensures.count c.before-inner.ensures.count c.before-right.ensures.count c.before-below.ensures.count, piece_small c.args.canvas.now.map c.args.self.now.rect c.args.x c.args.w c.args.row c.args.h)
+
+pub overflow_add-row-2 : goal.overflow_add-row-2
+overflow_add-row-2 c = grind (arith, common_steps)
+
+pub overflow_add-row : goal.overflow_add-row
+overflow_add-row c = grind (arith, common_steps)

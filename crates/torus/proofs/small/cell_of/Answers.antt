@@ -1,0 +1,6 @@
+use Rattle.std.proofs.Common.{arith}
+use Rattle.std.proofs.lemmas.Grind.{common_steps}
+use Rattle.torus.proofs.small.cell_of.Goals as goal
+
+pub coordinate-requires-3 : goal.coordinate-requires-3
+coordinate-requires-3 c = grind (arith, common_steps)

@@ -1,3 +1,4 @@
+use Rattle.std.proofs.lemmas.Grind.{common_steps}
 use Rattle.std.proofs.Common.{◌≡◌, subst, arith}
 use Rattle.std.specs.Prelude.{option_copied}
 use Rattle.cells.specs.Places.{cell_count}
@@ -37,3 +38,6 @@ pub returns : goal.returns
 returns c =
     let end : c.loop-i.i ≡ cell_count c.args.placement.now.rect.size = omega (arith, c.cells-i-end.ensures, c.loop-i-test.false) in
     subst (λ n. AreCellNodes c.args.canvas.now.map c.args.placement.now (held_marks (option_copied c.args.held)) n c.loop-i.cells) end c.loop-i.invariant.cells
+
+pub give_at-requires-clause-marks : goal.give_at-requires-clause-marks
+give_at-requires-clause-marks c = grind (arith, common_steps)

@@ -1,3 +1,4 @@
+use Rattle.std.proofs.lemmas.Grind.{common_steps}
 use Rattle.std.proofs.Common.{sym, subst, arith}
 use Rattle.std.specs.Prelude.{option_copied}
 use Rattle.cells.specs.Distances.{distance}
@@ -44,3 +45,6 @@ returns c =
     let network = subst (IsNetworkOf d m placement (held_marks marks) piping.network)
     (λ k. record { cell_nodes = sym c.from_vec.ensures k; seam_nodes = sym c.from_vec-2.ensures k; pipes = sym c.from_vec-3.ensures k }) whole in
     record { network = network; cuts = choices_are_cuts d (distance_laws c.args.sample.now c.samples-samples.ensures.volume) m placement (held_marks marks) _ _ network }
+
+pub lay-requires-clause-seams : goal.lay-requires-clause-seams
+lay-requires-clause-seams c = grind (arith, common_steps)

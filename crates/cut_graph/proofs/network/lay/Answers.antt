@@ -1,3 +1,5 @@
+use Rattle.std.proofs.Common.{arith}
+use Rattle.std.proofs.lemmas.Grind.{common_steps}
 use Rattle.std.proofs.Common.{◌≡◌, length, ap, ◌∙◌, subst}
 use Rattle.std.proofs.lemmas.Result.{IfOk-weaker}
 use Rattle.cells.specs.Distances.{distance}
@@ -24,3 +26,6 @@ returns c =
     (subst (λ list. HasAllPipes d c.map.result.now placement list c.args.seams.now.nodes.items nodes piping) c.deref.ensures.value
     (subst (λ list. HasAllPipes d c.map.result.now placement c.deref.result.now list nodes piping) c.deref-2.ensures.value (laid plan nodes piping count piped))))
     c.lay_pipes.ensures
+
+pub lay_pipes-requires-clause-plan : goal.lay_pipes-requires-clause-plan
+lay_pipes-requires-clause-plan c = grind (arith, common_steps)

@@ -1,3 +1,4 @@
+use Rattle.std.proofs.lemmas.Grind.{common_steps}
 use Rattle.std.proofs.Common.{◌≡◌, ◌∙◌, ℕ, sym, subst, arith}
 use Rattle.std.specs.Prelude.{OnOk}
 use Rattle.std.proofs.lemmas.Result.{on_ok_weaker}
@@ -64,3 +65,6 @@ returns c =
     let nodes : c.add_along-2.new.self.network.nodes ≡ c.args.self.now.network.nodes = c.in_ok-add_along-2.ensures.size ∙ c.in_ok-add_along.ensures.size in
     on_ok_weaker c.add_along-3.result (past_cell plan c.args.self.now.network.nodes at.x at.y at.f c.args.i now c.requires.counts c.requires.index)
     (subst (λ n. OnOk c.add_along-3.result (IsPipedPast plan n F at.x at.y at.f now)) nodes c.add_along-3.ensures)
+
+pub add_along-requires-clause-nodes : goal.add_along-requires-clause-nodes
+add_along-requires-clause-nodes c = grind (arith, common_steps)

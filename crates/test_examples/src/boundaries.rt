@@ -49,12 +49,22 @@ const LEAST: &[Least<'static>] = &[
     (1, 1, &[195_075], &[0], &[195_075]),
 ];
 
+// Whether the first least boundary of a strip is this, and stands.
+fn is_first_least(
+    alloc: Global,
+    strip: &Strip,
+    path: &[u16],
+    sums: &[u32],
+) -> Result<bool, AllocError> {
+    let made = least_boundary(alloc, strip)?;
+    let is_made = made.path.as_slice() == path && made.sums.as_slice() == sums;
+    Ok(is_made && check_boundary(strip, &made).is_ok())
+}
+
 fn is_least(rt: &impl Abort, alloc: Global, of: &Least) -> Result<bool, AllocError> {
     let (rows, cols, errors, path, sums) = *of;
     let strip = strip_of(rt, alloc, rows, cols, errors)?;
-    let made = least_boundary(alloc, &strip)?;
-    let is_made = made.path.as_slice() == path && made.sums.as_slice() == sums;
-    Ok(is_made && check_boundary(&strip, &made).is_ok())
+    is_first_least(alloc, &strip, path, sums)
 }
 
 fn wrong_least(rt: &impl Abort, alloc: Global) -> Result<Option<usize>, AllocError> {

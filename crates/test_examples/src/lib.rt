@@ -1,7 +1,8 @@
 //! Worked examples, as tests alone: sums over rows, boundaries through strips, distances of frames and steps between them,
-//! loops, marks and steps of merges, turned samples and the files of their maps; and records and files that don't stand. No
-//! clause says what they show: that the definitions give the numbers that were computed by hand, and that none of all
-//! choices of a merge's step, tried one by one, costs less.
+//! loops, marks and steps of merges, transfers whole and block by block, turned samples and the files of their maps; and
+//! records and files that don't stand. No clause says what they show: that calls succeed where there is memory, that the
+//! definitions give the numbers that were computed by hand, and that none of all choices of a merge's step, tried one by
+//! one, costs less.
 #![tactic(auto)]
 
 #[cfg(test)]
@@ -17,7 +18,13 @@ mod marking;
 #[cfg(test)]
 mod merge_steps;
 #[cfg(test)]
+mod pictures;
+#[cfg(test)]
 mod rows;
+#[cfg(test)]
+mod transfer_steps;
+#[cfg(test)]
+mod transfers;
 #[cfg(test)]
 mod turned_files;
 #[cfg(test)]

@@ -4,7 +4,7 @@ ghost use Rattle.std.specs.Prelude.{◌≡◌, ◌≤◌, IfOk, length as length
 use crate::expect::{expect_none, expect_true};
 use cells::{Size, Taps, Volume};
 use frame_distance::{StepCosts, distances, filtered};
-use loop_walk::{LoopError, LoopFault, check_loop, least_loop, table_count};
+use loop_walk::{LoopError, LoopFault, LoopRecord, check_loop, least_loop, table_count};
 use std::alloc::{AllocError, Global};
 
 // The step costs of a clip of one byte a frame.
@@ -38,35 +38,47 @@ const NONE: u64 = u64::MAX;
 // The least costs of two steps between the frames 0, 3, 0 and 3.
 const TABLE: &[u64] = &[0, 9, 0, 9, 9, 0, 9, 0, 0, 9, 0, 9, NONE, NONE, NONE, NONE];
 
-// A least loop of this length: whether its cost and its first frame are these, and it stands.
-fn is_least(alloc: Global, costs: &StepCosts, length: u32, cost: u64) -> bool {
-    if length == 0 || length > 4096 {
-        return false;
-    }
-    let Ok(made) = least_loop(alloc, costs, length) else {
-        return false;
-    };
+// Whether the cost of a loop is this, it begins at frame 0, and it stands.
+fn is_made(costs: &StepCosts, made: &LoopRecord, cost: u64) -> bool {
     made.cost == cost
         && made.walk.as_slice().first() == Some(&0)
         && verdict(costs, made.walk.as_slice(), made.tables.as_slice()) == Some(Ok(()))
 }
 
-// The least loop of two frames, with its tables.
-fn is_of_two(alloc: Global, costs: &StepCosts) -> bool {
-    let Ok(two) = least_loop(alloc, costs, 2) else {
+// Whether that is so of a least loop of this length.
+fn is_least(alloc: Global, costs: &StepCosts, length: u32, cost: u64) -> bool {
+    if length == 0 || length > 4096 {
         return false;
-    };
+    }
+    match least_loop(alloc, costs, length) {
+        Ok(made) => is_made(costs, &made, cost),
+        Err(_) => false,
+    }
+}
+
+// Whether a loop goes through the frames 0 and 1, with these tables.
+fn is_through_two(two: &LoopRecord) -> bool {
     two.walk.as_slice() == [0u16, 1].as_slice() && two.tables.as_slice() == TABLE && two.cost == 0
+}
+
+// Whether that is so of the least loop of two frames.
+fn is_of_two(alloc: Global, costs: &StepCosts) -> bool {
+    match least_loop(alloc, costs, 2) {
+        Ok(two) => is_through_two(&two),
+        Err(_) => false,
+    }
+}
+
+fn are_least_of_four(alloc: Global, costs: &StepCosts) -> bool {
+    is_of_two(alloc, costs)
+        && is_least(alloc, costs, 1, 9)
+        && is_least(alloc, costs, 2, 0)
+        && is_least(alloc, costs, 3, 9)
 }
 
 fn are_least(alloc: Global) -> Result<bool, AllocError> {
     let costs = costs_of(alloc, &[0, 3, 0, 3], Taps::None0, 1)?;
-    Ok(
-        is_of_two(alloc, &costs)
-            && is_least(alloc, &costs, 1, 9)
-            && is_least(alloc, &costs, 2, 0)
-            && is_least(alloc, &costs, 3, 9),
-    )
+    Ok(are_least_of_four(alloc, &costs))
 }
 
 #[test]
@@ -81,16 +93,22 @@ fn has_none(alloc: Global, costs: &StepCosts, length: u32) -> bool {
     least_loop(alloc, costs, length).err() == Some(LoopError::NoLoop)
 }
 
-// Over the frames 0 and 3 with a gap of 3, and over three frames of which no step has four taps.
-fn have_none(alloc: Global) -> Result<bool, AllocError> {
+// Over the frames 0 and 3 with a gap of 3.
+fn has_none_apart(alloc: Global) -> Result<bool, AllocError> {
     let apart = costs_of(alloc, &[0, 3], Taps::None0, 3)?;
+    Ok(has_none(alloc, &apart, 2))
+}
+
+// Over three frames of which no step has four taps.
+fn has_none_filtered(alloc: Global) -> Result<bool, AllocError> {
     let filtered = costs_of(alloc, &[0, 1, 2], Taps::Four, 1)?;
-    Ok(has_none(alloc, &apart, 2) && has_none(alloc, &filtered, 3))
+    Ok(has_none(alloc, &filtered, 3))
 }
 
 #[test]
 fn no_loops(rt: HostRuntime) {
-    expect_true(&rt, have_none(rt.alloc()));
+    expect_true(&rt, has_none_apart(rt.alloc()));
+    expect_true(&rt, has_none_filtered(rt.alloc()));
 }
 
 // A walk, an entry of the table with another value, and what the checker says.

@@ -238,6 +238,28 @@ fn assert_labels(rt: &impl Abort, canvas: &Canvas, labels: &[u8; 12]) {
 }
 
 // Lays the picture of a step, and asserts which picture each cell comes from after it.
+fn placed_on(
+    rt: &impl Abort,
+    alloc: Global,
+    canvas: &mut Canvas,
+    pictures: &Volume,
+    step: &Step,
+) -> Result<CutRecord, AllocError>
+    requires { StandsOver canvas.old pictures.now }
+{
+    let rect = Box3 {
+        corner: FIRST,
+        size: TWELVE,
+    };
+    let from = place(0, step.number);
+    let placement = Placement { rect, from };
+    assert_fits(rt, canvas, pictures, &placement);
+    assert!(rt; are_marks(canvas, &placement, Some(&step.held)));
+    let cut = place_held(alloc, canvas, pictures, placement, Some(&step.held))?;
+    assert_labels(rt, canvas, &step.after);
+    Ok(cut)
+}
+
 fn placed(
     rt: &impl Abort,
     alloc: Global,
@@ -245,17 +267,7 @@ fn placed(
     step: &Step,
 ) -> Result<CutRecord, AllocError> {
     let mut canvas = laid(rt, alloc, pictures, &step.before)?;
-    let rect = Box3 {
-        corner: FIRST,
-        size: TWELVE,
-    };
-    let from = place(0, step.number);
-    let placement = Placement { rect, from };
-    assert_fits(rt, &canvas, pictures, &placement);
-    assert!(rt; are_marks(&canvas, &placement, Some(&step.held)));
-    let cut = place_held(alloc, &mut canvas, pictures, placement, Some(&step.held))?;
-    assert_labels(rt, &canvas, &step.after);
-    Ok(cut)
+    placed_on(rt, alloc, &mut canvas, pictures, step)
 }
 
 // Asserts that a size is that of a volume.
@@ -283,6 +295,20 @@ fn assert_least(rt: &impl Abort, before: &Canvas, pictures: &Volume, cut: &CutRe
     assert!(rt; is_least(before, pictures, &cut.placement, step, choice));
 }
 
+fn assert_step_over(
+    rt: &impl Abort,
+    alloc: Global,
+    before: &Canvas,
+    pictures: &Volume,
+    step: &Step,
+) -> Result<(), AllocError>
+    requires { StandsOver before.now pictures.now }
+{
+    let cut = placed(rt, alloc, pictures, step)?;
+    assert_least(rt, before, pictures, &cut, step);
+    Ok(())
+}
+
 fn assert_step(
     rt: &impl Abort,
     alloc: Global,
@@ -290,9 +316,7 @@ fn assert_step(
     step: &Step,
 ) -> Result<(), AllocError> {
     let before = laid(rt, alloc, pictures, &step.before)?;
-    let cut = placed(rt, alloc, pictures, step)?;
-    assert_least(rt, &before, pictures, &cut, step);
-    Ok(())
+    assert_step_over(rt, alloc, &before, pictures, step)
 }
 
 fn assert_steps(rt: &impl Abort, alloc: Global, pictures: &Volume) -> Result<(), AllocError> {

@@ -37,6 +37,14 @@ const TWO: [u8; 68] = [
 
 const FILES: &[&[u8]] = &[&ONE, &SIX, &TWO];
 
+// A store with one map. A function that owns a store and may end at several places is several times as long to prove as
+// one that lends it.
+fn shelf_with(alloc: Global, bytes: &[u8]) -> Result<MemShelf, AllocError> {
+    let mut shelf = MemShelf::new(alloc);
+    shelf.put_file("map", bytes)?;
+    Ok(shelf)
+}
+
 // Writes what was read.
 fn write_again(value: &TurnedFile, shelf: &mut MemShelf) -> Result<(), WriteFault>
     requires { IsTurnedFile value.now }
@@ -44,14 +52,18 @@ fn write_again(value: &TurnedFile, shelf: &mut MemShelf) -> Result<(), WriteFaul
     write_turned_map(&value.map, &value.samples, shelf, "again")
 }
 
+// Reads the map of a store and writes it again; None where it isn't read, and else whether all went well.
+fn writes_again(alloc: Global, shelf: &mut MemShelf) -> Option<bool> {
+    match read_turned_map(alloc, shelf, "map") {
+        Ok(value) => Some(write_again(&value, shelf).is_ok()),
+        Err(_) => None,
+    }
+}
+
 // Whether a map is read, and what was read is written again, byte by byte.
 fn is_written_again(alloc: Global, bytes: &[u8]) -> Result<bool, AllocError> {
-    let mut shelf = MemShelf::new(alloc);
-    shelf.put_file("map", bytes)?;
-    let Ok(value) = read_turned_map(alloc, &mut shelf, "map") else {
-        return Ok(false);
-    };
-    Ok(write_again(&value, &mut shelf).is_ok() && shelf.file("again") == Some(bytes))
+    let mut shelf = shelf_with(alloc, bytes)?;
+    Ok(writes_again(alloc, &mut shelf) == Some(true) && shelf.file("again") == Some(bytes))
 }
 
 // The number of the first file, from 0, that isn't written again.
@@ -84,14 +96,18 @@ fn has_sources(map: &Map, sources: &[Option<At>]) -> bool {
             .all(|(entry, source)| entry.source() == *source)
 }
 
+// Whether the map of a store has these sources.
+fn reads_sources(alloc: Global, shelf: &mut MemShelf, sources: &[Option<At>]) -> bool {
+    match read_turned_map(alloc, shelf, "map") {
+        Ok(value) => has_sources(&value.map, sources),
+        Err(_) => false,
+    }
+}
+
 // Whether a file is read as a map with these sources.
 fn is_read_as(alloc: Global, bytes: &[u8], sources: &[Option<At>]) -> Result<bool, AllocError> {
-    let mut shelf = MemShelf::new(alloc);
-    shelf.put_file("map", bytes)?;
-    let Ok(value) = read_turned_map(alloc, &mut shelf, "map") else {
-        return Ok(false);
-    };
-    Ok(has_sources(&value.map, sources))
+    let mut shelf = shelf_with(alloc, bytes)?;
+    Ok(reads_sources(alloc, &mut shelf, sources))
 }
 
 fn are_six_sources(alloc: Global) -> Result<bool, AllocError> {
@@ -118,16 +134,21 @@ fn sources_are_places_of_the_turned_samples(rt: HostRuntime) {
 }
 
 // Whether a write that fails leaves so many bytes of the map of one cell, and is answered so.
-fn fails_well(alloc: Global, call: Call, kept: usize) -> Result<bool, AllocError> {
-    let mut shelf = MemShelf::new(alloc);
-    shelf.put_file("map", &ONE)?;
+fn fails_over(
+    alloc: Global,
+    shelf: &mut MemShelf,
+    call: Call,
+    kept: usize,
+) -> Result<bool, AllocError> {
     shelf.fail_at(call, "again", 1, kept)?;
-    let Ok(value) = read_turned_map(alloc, &mut shelf, "map") else {
-        return Ok(false);
-    };
-    let is_answered = write_again(&value, &mut shelf).is_err() && shelf.write_faults() == 1;
+    let is_answered = writes_again(alloc, shelf) == Some(false) && shelf.write_faults() == 1;
     let left = shelf.file("again").unwrap_or(b"");
     Ok(is_answered && Some(left) == ONE.get(..kept))
+}
+
+fn fails_well(alloc: Global, call: Call, kept: usize) -> Result<bool, AllocError> {
+    let mut shelf = shelf_with(alloc, &ONE)?;
+    fails_over(alloc, &mut shelf, call, kept)
 }
 
 #[test]
@@ -139,9 +160,15 @@ fn writes_that_fail(rt: HostRuntime) {
 
 // Why bytes aren't read as a map over turned samples.
 fn refusal(alloc: Global, bytes: &[u8]) -> Result<Option<ReadError>, AllocError> {
-    let mut shelf = MemShelf::new(alloc);
-    shelf.put_file("map", bytes)?;
+    let mut shelf = shelf_with(alloc, bytes)?;
     Ok(read_turned_map(alloc, &mut shelf, "map").err())
+}
+
+// Why a map with a byte more isn't read.
+fn refusal_of_longer(alloc: Global, bytes: &[u8]) -> Result<Option<ReadError>, AllocError> {
+    let mut longer = Vec::from_slice(alloc, bytes)?;
+    longer.push(0)?;
+    refusal(alloc, &longer)
 }
 
 // How many bytes of a map are the first that aren't refused at their end, or with a byte more at its place; None where all are.
@@ -151,9 +178,7 @@ fn wrong_length(alloc: Global, bytes: &[u8]) -> Result<Option<usize>, AllocError
             return Ok(Some(n));
         }
     }
-    let mut longer = Vec::from_slice(alloc, bytes)?;
-    longer.push(0)?;
-    if refusal(alloc, &longer)? != Some(Bad(Form(bytes.len() as u64))) {
+    if refusal_of_longer(alloc, bytes)? != Some(Bad(Form(bytes.len() as u64))) {
         return Ok(Some(bytes.len()));
     }
     Ok(None)
@@ -238,11 +263,21 @@ const CHANGES: &[Change<'static>] = &[
     (&TWO, 52, &[0, 3], Bad(Form(52))),
 ];
 
+// Why a map with other bytes from a place on isn't read.
+fn refusal_of_changed(
+    alloc: Global,
+    bytes: &[u8],
+    at: usize,
+    new: &[u8],
+) -> Result<Option<ReadError>, AllocError> {
+    let other = changed(alloc, bytes, at, new)?;
+    refusal(alloc, &other)
+}
+
 // The number of the first change, from 0, that isn't refused so.
 fn wrong_change(alloc: Global, table: &[Change]) -> Result<Option<usize>, AllocError> {
     for (i, (bytes, at, new, refused)) in table.iter().enumerate() {
-        let other = changed(alloc, *bytes, *at, *new)?;
-        if refusal(alloc, &other)? != Some(*refused) {
+        if refusal_of_changed(alloc, *bytes, *at, *new)? != Some(*refused) {
             return Ok(Some(i));
         }
     }
@@ -254,11 +289,23 @@ fn changed_maps_are_refused(rt: HostRuntime) {
     expect_none(&rt, wrong_change(rt.alloc(), CHANGES));
 }
 
-// Whether each other value of a byte is refused, or is a map whose spelling the bytes are.
-fn is_refused_or_spelled(alloc: Global, bytes: &[u8], at: usize) -> Result<bool, AllocError> {
+// Whether bytes are refused, or are the spelling of a map.
+fn is_refused_or_spelled(alloc: Global, bytes: &[u8]) -> Result<bool, AllocError> {
+    if refusal(alloc, bytes)?.is_some() {
+        return Ok(true);
+    }
+    is_written_again(alloc, bytes)
+}
+
+fn is_value_well(alloc: Global, bytes: &[u8], at: usize, value: u8) -> Result<bool, AllocError> {
+    let other = changed(alloc, bytes, at, &[value])?;
+    is_refused_or_spelled(alloc, &other)
+}
+
+// Whether that is so with each other value of a byte.
+fn are_values_well(alloc: Global, bytes: &[u8], at: usize) -> Result<bool, AllocError> {
     for value in 0..=255u8 {
-        let other = changed(alloc, bytes, at, &[value])?;
-        if refusal(alloc, &other)?.is_none() && !is_written_again(alloc, &other)? {
+        if !is_value_well(alloc, bytes, at, value)? {
             return Ok(false);
         }
     }
@@ -268,7 +315,7 @@ fn is_refused_or_spelled(alloc: Global, bytes: &[u8], at: usize) -> Result<bool,
 // The first place of a file at which another byte is read as what it doesn't spell; None where there is none.
 fn wrong_byte(alloc: Global, bytes: &[u8]) -> Result<Option<usize>, AllocError> {
     for at in 0..bytes.len() {
-        if !is_refused_or_spelled(alloc, bytes, at)? {
+        if !are_values_well(alloc, bytes, at)? {
             return Ok(Some(at));
         }
     }
@@ -292,8 +339,7 @@ fn other_bytes_are_refused_or_spelled(rt: HostRuntime) {
 
 // Whether the reader of maps refuses the kind of a file.
 fn is_other_kind(alloc: Global, bytes: &[u8]) -> Result<bool, AllocError> {
-    let mut shelf = MemShelf::new(alloc);
-    shelf.put_file("map", bytes)?;
+    let mut shelf = shelf_with(alloc, bytes)?;
     Ok(read_map(alloc, &mut shelf, "map").err() == Some(Bad(Form(9))))
 }
 
@@ -312,11 +358,14 @@ fn a_reader_of_maps_refuses_the_kind(rt: HostRuntime) {
     expect_none(&rt, wrong_kind(rt.alloc()));
 }
 
-fn is_read_fault(alloc: Global) -> Result<bool, AllocError> {
-    let mut shelf = MemShelf::new(alloc);
-    shelf.put_file("map", &ONE)?;
+fn is_fault_over(alloc: Global, shelf: &mut MemShelf) -> Result<bool, AllocError> {
     shelf.fail_at(Call::Get, "map", 1, 0)?;
-    Ok(read_turned_map(alloc, &mut shelf, "map").err() == Some(ReadError::ReadFault))
+    Ok(read_turned_map(alloc, shelf, "map").err() == Some(ReadError::ReadFault))
+}
+
+fn is_read_fault(alloc: Global) -> Result<bool, AllocError> {
+    let mut shelf = shelf_with(alloc, &ONE)?;
+    is_fault_over(alloc, &mut shelf)
 }
 
 #[test]

@@ -26,11 +26,14 @@ fn are_of_six(sizes: &Sizes) -> bool {
     true
 }
 
+fn is_six_turned(turned: &Volume) -> bool {
+    turned.bytes() == SIX_TURNED && are_of_six(&turned.sizes())
+}
+
 fn are_turns_of_six(alloc: Global) -> Result<bool, AllocError> {
     let bytes = Vec::from_slice(alloc, &[1, 2, 3, 4, 5, 6])?;
     let sample = Volume::from_bytes(Size { w: 3, h: 2, f: 1 }, 1, bytes);
-    let turned = turn_all(alloc, &sample)?;
-    Ok(turned.bytes() == SIX_TURNED && are_of_six(&turned.sizes()))
+    Ok(is_six_turned(&turn_all(alloc, &sample)?))
 }
 
 #[test]
@@ -58,11 +61,14 @@ fn wrong_turn(bytes: &[u8]) -> Option<usize> {
     None
 }
 
+fn are_frames_turned(turned: &Volume) -> bool {
+    turned.bytes().len() == 96 && wrong_turn(turned.bytes()).is_none()
+}
+
 fn are_turns_of_frames(alloc: Global) -> Result<bool, AllocError> {
     let bytes = Vec::from_slice(alloc, KEPT)?;
     let sample = Volume::from_bytes(Size { w: 2, h: 1, f: 2 }, 3, bytes);
-    let turned = turn_all(alloc, &sample)?;
-    Ok(turned.bytes().len() == 96 && wrong_turn(turned.bytes()).is_none())
+    Ok(are_frames_turned(&turn_all(alloc, &sample)?))
 }
 
 #[test]
@@ -77,13 +83,16 @@ const BOTH_TURNED: &[u8] = &[
     1, 2, 3,
 ];
 
+fn are_both_turned(turned: &Volume) -> bool {
+    turned.bytes() == BOTH_TURNED && turned.sizes().len() == 16
+}
+
 fn are_turns_of_two(alloc: Global) -> Result<bool, AllocError> {
     let first = Vec::from_slice(alloc, &[10, 20, 30, 40])?;
     let mut samples = Volume::from_bytes(Size { w: 2, h: 2, f: 1 }, 1, first);
     let second = Vec::from_slice(alloc, &[1, 2, 3])?;
     samples.add_part(&Volume::from_bytes(Size { w: 3, h: 1, f: 1 }, 1, second))?;
-    let turned = turn_all(alloc, &samples)?;
-    Ok(turned.bytes() == BOTH_TURNED && turned.sizes().len() == 16)
+    Ok(are_both_turned(&turn_all(alloc, &samples)?))
 }
 
 #[test]

@@ -171,10 +171,10 @@ fn transferred(
         seed: case.seed,
     };
     assert!(rt; case.block >= 1 && case.alpha <= GREATEST_ALPHA);
-    let Ok(quilted) = transfer_canvas(alloc, &asked, case.alpha, target, &sample) else {
-        return Err(AllocError);
-    };
-    Ok(quilted)
+    match transfer_canvas(alloc, &asked, case.alpha, target, &sample) {
+        Ok(quilted) => Ok(quilted),
+        Err(_) => Err(AllocError),
+    }
 }
 
 // Asserts which places of the sample the cells of a picture of so many columns come from.
@@ -195,9 +195,10 @@ fn assert_sources(rt: &impl Abort, canvas: &Canvas, w: u32, sources: &[(i32, i32
     }
 }
 
-fn assert_case(rt: &impl Abort, alloc: Global, case: &Case) -> Result<(), AllocError> {
-    let target = picture(rt, alloc, case.target)?;
-    let quilted = transferred(rt, alloc, case, &target)?;
+// Asserts what comes out of a case.
+fn assert_made(rt: &impl Abort, case: &Case, quilted: &Quilted, target: &Volume)
+    requires { IsOnePart target.now }
+{
     assert!(rt; quilted.blocks.as_slice().len() == case.blocks);
     assert!(rt; quilted.boundaries == case.boundaries);
     assert!(rt; quilted.cost == case.cost);
@@ -205,7 +206,28 @@ fn assert_case(rt: &impl Abort, alloc: Global, case: &Case) -> Result<(), AllocE
     assert!(rt; made.len() == wanted.len() && made.len() < 1000);
     assert!(rt; ssd(made, wanted) == case.matched);
     assert_sources(rt, &quilted.canvas, target.size().w, case.sources);
+}
+
+// (Each function owns one value: each place where owned values end is long to prove.)
+fn assert_case_of(
+    rt: &impl Abort,
+    alloc: Global,
+    case: &Case,
+    target: &Volume,
+) -> Result<(), AllocError>
+    requires one { IsOnePart target.now }
+    requires samples { target.now.k ≡ 3 }
+    requires small { IsSmall target.now.size }
+    requires frame { target.now.size.f ≡ 1 }
+{
+    let quilted = transferred(rt, alloc, case, target)?;
+    assert_made(rt, case, &quilted, target);
     Ok(())
+}
+
+fn assert_case(rt: &impl Abort, alloc: Global, case: &Case) -> Result<(), AllocError> {
+    let target = picture(rt, alloc, case.target)?;
+    assert_case_of(rt, alloc, case, &target)
 }
 
 fn assert_cases(rt: &impl Abort, alloc: Global) -> Result<(), AllocError> {

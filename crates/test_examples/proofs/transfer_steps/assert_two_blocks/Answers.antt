@@ -1,7 +1,7 @@
 use Rattle.std.proofs.Common.{ap, sym}
 use Rattle.cells.specs.declared.place.Size.{Size}
 use Rattle.map_canvas.specs.Canvases.{CanvasState}
-use Rattle.test_transfers.proofs.steps.assert_two_blocks.Goals as goal
+use Rattle.test_examples.proofs.transfer_steps.assert_two_blocks.Goals as goal
 
 pub assert_blocks-requires-clause-pictures : goal.assert_blocks-requires-clause-pictures
 assert_blocks-requires-clause-pictures g c = record {

@@ -22,15 +22,12 @@ const ROW: Size = Size { w: 4, h: 1, f: 1 };
 
 const WANTED: Size = Size { w: 3, h: 1, f: 1 };
 
-// The column of the sample that a block comes from, and whether it has a boundary.
-fn laid(block: &BlockRecord) -> (i32, bool) {
-    (block.placement.from.x, block.left.is_some())
-}
-
-fn is_laid(block: &Option<BlockRecord>, expected: (i32, bool)) -> bool {
+// The column of the sample that a block comes from, and whether it has a boundary. (It ends the block: each place where
+// owned values end is long to prove.)
+fn laid(block: Option<BlockRecord>) -> Option<(i32, bool)> {
     match block {
-        Some(block) => laid(block) == expected,
-        None => false,
+        Some(block) => Some((block.placement.from.x, block.left.is_some())),
+        None => None,
     }
 }
 
@@ -54,13 +51,14 @@ fn assert_blocks(
     let size = target.size();
     let mut draws = Draws::from_seed(0);
     assert!(rt; canvas.map().size() == size);
-    let first = next_transfer(alloc, plan, target, canvas, sample, &mut draws)?;
-    assert!(rt; is_laid(&first, (2, false)) && draws.place() == 1);
+    let first = laid(next_transfer(alloc, plan, target, canvas, sample, &mut draws)?);
+    assert!(rt; first == Some((2, false)) && draws.place() == 1);
     assert!(rt; canvas.map().size() == size);
     let second = next_transfer_with(alloc, plan, target, search, canvas, sample, &mut draws)?;
-    assert!(rt; is_laid(&second, (2, true)) && draws.place() == 2);
+    let second = laid(second);
+    assert!(rt; second == Some((2, true)) && draws.place() == 2);
     assert!(rt; canvas.map().size() == size);
-    let more = next_transfer(alloc, plan, target, canvas, sample, &mut draws)?;
+    let more = laid(next_transfer(alloc, plan, target, canvas, sample, &mut draws)?);
     assert!(rt; more.is_none() && draws.place() == 2);
     Ok(())
 }

@@ -1,3 +1,5 @@
+use Rattle.std.proofs.Common.{arith}
+use Rattle.std.proofs.lemmas.Grind.{common_steps}
 use Rattle.std.proofs.Common.{ℕ, List, refl}
 use Rattle.std.proofs.lemmas.Result.{err_from_is_err_and}
 use Rattle.std.specs.Int.{w32}
@@ -78,3 +80,6 @@ returns-clause-answer g c =
           (ends (Unit {0}) name c.judge_each_block.new.file.at (state c.judge_each_block.new.shelf) (state c.end.new.shelf) (Blocks c.args.head.now blocks) ok2.stops)),
       (refl, ok1.answer.2),
     )
+
+pub returns-clause-reads : goal.returns-clause-reads
+returns-clause-reads g c = grind (arith, common_steps)

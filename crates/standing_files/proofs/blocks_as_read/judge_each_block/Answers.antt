@@ -1,3 +1,4 @@
+use Rattle.std.proofs.lemmas.Grind.{common_steps}
 use Rattle.std.proofs.Common.{◌++◌, ◌∷◌, [], ◌+◌, ◌∙◌, sym, subst, arith}
 use Rattle.std.specs.Prelude.{Err}
 use Rattle.std.proofs.lemmas.List.{length-append}
@@ -49,3 +50,9 @@ loop-i-preserved g c =
       canvas = c.judge_block-judged.ensures.canvas;
       reads = only_reads_then (state c.args.shelf.now) (state c.loop-i.shelf) (state c.read_block.new.shelf) inv.reads ok.reads;
     }
+
+pub judge_block-judged-requires-clause-colours : goal.judge_block-judged-requires-clause-colours
+judge_block-judged-requires-clause-colours g c = grind (arith, common_steps)
+
+pub loop-i-init : goal.loop-i-init
+loop-i-init g c = grind (arith, common_steps)

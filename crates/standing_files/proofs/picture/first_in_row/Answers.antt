@@ -1,3 +1,4 @@
+use Rattle.std.proofs.lemmas.Grind.{common_steps}
 use Rattle.std.proofs.Common.{◌≡◌, ◌<◌, ◌≤◌, ◌+◌, ◌*◌, ◌∙◌, ℕ, List, [], ◌∷◌, ap, sym, subst, arith, below_more}
 use mathlib.Core.Bool.{false≢true}
 use Rattle.std.specs.Prelude.{Option}
@@ -99,3 +100,6 @@ returns-clause-none c = λ k lt.
 
 pub returns-clause-some : goal.returns-clause-some
 returns-clause-some c = tt
+
+pub overflow_add-i-end : goal.overflow_add-i-end
+overflow_add-i-end c = grind (arith, common_steps)

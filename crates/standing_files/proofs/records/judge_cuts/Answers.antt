@@ -1,3 +1,5 @@
+use Rattle.std.proofs.Common.{arith}
+use Rattle.std.proofs.lemmas.Grind.{common_steps}
 use Rattle.std.proofs.Common.{◌≡◌, ◌∙◌, ap, sym, subst}
 use Rattle.map_canvas.specs.Canvases.{CanvasState}
 use Rattle.map_canvas.specs.Maps.{SourceMap, empty_map}
@@ -17,3 +19,6 @@ returns c =
     let both = subst (λ (was : SourceMap). EachStands samples was cuts × (left ≡ left_by was cuts)) was c.in_default.ensures.replayed in
     subst (λ (v : Verdict). JudgesCuts samples m cuts v) (sym c.verdict_on_map.ensures)
     (cuts_judged samples m c.map.result.now c.first_other_source.result c.first_other_source.ensures cuts both.0 (c.map.ensures.map ∙ both.1))
+
+pub overflow_add-result : goal.overflow_add-result
+overflow_add-result c = grind (arith, common_steps)

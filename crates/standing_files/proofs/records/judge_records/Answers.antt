@@ -1,3 +1,5 @@
+use Rattle.std.proofs.Common.{arith}
+use Rattle.std.proofs.lemmas.Grind.{common_steps}
 use Rattle.std.proofs.Common.{◌≡◌, ℕ, List, length, sym, subst}
 use Rattle.std.specs.Prelude.{All, IfOk}
 use Rattle.map_canvas.specs.Maps.{SourceMap}
@@ -52,3 +54,9 @@ returns-in-Frames-Walk c =
     subst (λ (map_file : MapFile). IfOk answer (JudgesRecords volume map_file c.args.record_file.now)) (sym at.is-0)
     (subst (λ (record_file : RecordFile). IfOk answer (JudgesRecords volume (Frames at.size-0 at.sample-0 at.frames) record_file)) (sym at.is-1)
     (subst (λ (n : ℕ). IfOk answer (JudgesBy (WalkStands costs at.walk at.tables) (IsBrokenWalk costs at.walk at.tables) n (HasOneFrame at.walk at.frames))) count judged))
+
+pub judge_walk-requires-clause-part : goal.judge_walk-requires-clause-part
+judge_walk-requires-clause-part c = grind (arith, common_steps)
+
+pub judge_walk-requires-clause-cells : goal.judge_walk-requires-clause-cells
+judge_walk-requires-clause-cells c = grind (arith, common_steps)

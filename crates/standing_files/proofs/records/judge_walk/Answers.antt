@@ -1,3 +1,5 @@
+use Rattle.std.proofs.Common.{arith}
+use Rattle.std.proofs.lemmas.Grind.{common_steps}
 use Rattle.std.proofs.Common.{◌≡◌, ◌∙◌, ap, sym, subst}
 use Rattle.frame_distance.specs.Steps.{Steps, steps_of}
 use Rattle.frame_distance.specs.Tables.{Distances}
@@ -17,3 +19,6 @@ returns-in-Ok c =
     let same : c.in_ok-costs.costs ≡ costs = c.in_ok-costs.ensures.steps ∙ ap (λ (table : Distances). steps_of table c.args.taps c.args.gap) c.in_ok-table.ensures.table in
     subst (λ (v : Verdict). JudgesWalk costs walk tables frames v) (sym c.verdict_on_map.ensures)
     (walk_judged costs walk tables frames (subst (λ (costs : Steps). WalkStands costs walk tables) same c.in-Ok.ensures.stands) c.first_other_frame.result c.first_other_frame.ensures)
+
+pub check_loop-requires-clause-tables : goal.check_loop-requires-clause-tables
+check_loop-requires-clause-tables c = grind (arith, common_steps)

@@ -1,3 +1,5 @@
+use Rattle.std.proofs.Common.{arith}
+use Rattle.std.proofs.lemmas.Grind.{common_steps}
 use Rattle.standing_files.proofs.Judging.{judged_before, stands_exactly}
 use Rattle.standing_files.proofs.verdict.judge.Goals as goal
 
@@ -10,3 +12,12 @@ returns-in_default-clause-stands c =
     let fails = c.in_ok-fails.fails in
     stands_exactly samples out map_file record_file fails
     (judged_before samples out map_file record_file (c.go_together.ensures.0 c.if-not-go_together.false) fails c.in_default.not-Stands (c.in_ok-fails.ensures {u = tt}))
+
+pub returns-in-None-clause-verdict : goal.returns-in-None-clause-verdict
+returns-in-None-clause-verdict c = grind (arith, common_steps)
+
+pub returns-in-Some-clause-stands : goal.returns-in-Some-clause-stands
+returns-in-Some-clause-stands c = grind (arith, common_steps)
+
+pub returns-in-None-clause-stands : goal.returns-in-None-clause-stands
+returns-in-None-clause-stands c = grind (arith, common_steps)

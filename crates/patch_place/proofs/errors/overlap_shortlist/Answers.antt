@@ -1,3 +1,5 @@
+use Rattle.std.proofs.Common.{arith}
+use Rattle.std.proofs.lemmas.Grind.{common_steps}
 use Rattle.std.proofs.Common.{map}
 use Rattle.patch_place.proofs.Limits.{box_has_cells, box_inside, overlaps_asked}
 use Rattle.patch_place.proofs.errors.overlap_shortlist.Goals as goal
@@ -15,3 +17,6 @@ pub box_shortlist-requires-clause-asked : goal.box_shortlist-requires-clause-ask
 box_shortlist-requires-clause-asked c =
     let is = c.in_ok-overlaps.ensures in
     overlaps_asked _ c.args.canvas.now c.args.sample.now c.args.rect.now is.canvas is.sample is.rect c.requires.fit
+
+pub box_shortlist-requires-clause-ready : goal.box_shortlist-requires-clause-ready
+box_shortlist-requires-clause-ready c = grind (arith, common_steps)

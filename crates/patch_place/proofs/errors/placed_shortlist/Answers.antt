@@ -1,3 +1,4 @@
+use Rattle.std.proofs.lemmas.Grind.{common_steps}
 use Rattle.std.proofs.Common.{map, take, sym, subst, ◌∙◌, arith}
 use Rattle.match_error.specs.Errors.{error_of}
 use Rattle.patch_picks.specs.Picks.{listed_on}
@@ -20,3 +21,12 @@ entries-preserved c =
       errors = c.in_ok-come_to.ensures.sums;
       part = c.in_ok-come_to.ensures.part;
     }
+
+pub returns : goal.returns
+returns c = grind (arith, common_steps)
+
+pub squares_for-squares-requires-clause-inside : goal.squares_for-squares-requires-clause-inside
+squares_for-squares-requires-clause-inside c = grind (arith, common_steps)
+
+pub add-requires-clause-fits : goal.add-requires-clause-fits
+add-requires-clause-fits c = grind (arith, common_steps)

@@ -1,3 +1,4 @@
+use Rattle.std.proofs.lemmas.Grind.{common_steps}
 use Rattle.std.proofs.Common.{◌≡◌, ◌<◌, ◌^◌, ◌∙◌, ℕ, suc, ap, refl, subst, sym, to_z, arith}
 use Rattle.std.proofs.Math.Facts.{to_z_pos}
 use Rattle.std.proofs.lemmas.Int.{ints}
@@ -28,3 +29,18 @@ gather-requires-clause-held c =
     let f : pos 0 +ℤ pos (frames_to_part (sizes_of sample) n) ≡ to_z w32 c.frames_before-f.result = omega (arith, ints, frames, signed) in
     subst (λ corner. Holds sample corner met) (stock_moved (sizes_of sample) (suc n) n (spot 0 0 0) refl ∙ (λ k. record { x = pos 0; y = pos 0; f = f k }))
     (part_held sample (suc n) n part (spot 0 0 0) met refl at whole)
+
+pub gather-requires-clause-inside : goal.gather-requires-clause-inside
+gather-requires-clause-inside c = grind (arith, common_steps)
+
+pub frames_before-f-requires-clause-below : goal.frames_before-f-requires-clause-below
+frames_before-f-requires-clause-below c = grind (arith, common_steps)
+
+pub gather-requires-clause-rect : goal.gather-requires-clause-rect
+gather-requires-clause-rect c = grind (arith, common_steps)
+
+pub part_after-size-requires-clause-below : goal.part_after-size-requires-clause-below
+part_after-size-requires-clause-below c = grind (arith, common_steps)
+
+pub gather-requires-clause-over : goal.gather-requires-clause-over
+gather-requires-clause-over c = grind (arith, common_steps)

@@ -1,3 +1,5 @@
+use Rattle.std.proofs.Common.{arith}
+use Rattle.std.proofs.lemmas.Grind.{common_steps}
 use Rattle.std.specs.Prelude.{All}
 use Rattle.std.proofs.lemmas.List.Elements.{All-contains}
 use Rattle.patch_place.specs.BoxErrors.{box_list}
@@ -21,3 +23,6 @@ returns-clause-listed g c = slice_get-Contains (box_list c.args.rect.now c.args.
 pub returns-clause-asked : goal.returns-clause-asked
 returns-clause-asked g c =
     All-contains (g.E.BoxErrors.MayAsk c.args.errors.now) (box_list c.args.rect.now c.args.sample.now) c.box_entry.result c.requires.asked (returns-clause-listed g c)
+
+pub picked-i-requires-clause-some : goal.picked-i-requires-clause-some
+picked-i-requires-clause-some g c = grind (arith, common_steps)

@@ -1,3 +1,5 @@
+use Rattle.std.proofs.Common.{arith}
+use Rattle.std.proofs.lemmas.Grind.{common_steps}
 use Rattle.std.proofs.Common.{map, sym, subst, ◌∙◌}
 use Rattle.std.specs.Prelude.{All, Contains, IfSome}
 use Rattle.patch_place.specs.BoxErrors.{box_list}
@@ -34,3 +36,6 @@ parts-preserved g c = record {
   known =
       subst (λ known. IfSome known (Contains (map (g.E.BoxErrors.error c.args.errors.now) (box_list c.args.rect.now c.args.sample.now)))) (sym c.add_part.ensures.known) c.parts.invariant.known;
 }
+
+pub returns : goal.returns
+returns g c = grind (arith, common_steps)

@@ -1,3 +1,4 @@
+use Rattle.std.proofs.lemmas.Grind.{common_steps}
 use Rattle.std.proofs.Common.{◌≡◌, ◌≤◌, ◌<◌, ◌+◌, ◌++◌, map, take, ap, rules, sym, subst, ◌∙◌, arith}
 use Rattle.std.specs.Prelude.{Some, slice_get}
 use Rattle.search_squares.specs.Eliminations.{AreEliminatedBy}
@@ -124,3 +125,24 @@ returns-clause-seen g c =
     let end : c.entries.self.seen ≡ c.args.self.now.seen + cell_count c.room-free.result = omega (arith, c.entries.invariant.seen, c.place_count-all.ensures, c.entries-test.false, c.entries.invariant.within) in
     subst (IsSeenTo c.args.rect.now c.args.sizes.now (c.args.n + 1)) (sym end)
     (box_step c.args.rect.now c.args.sizes.now c.args.n c.args.self.now.seen c.part_after.result c.room-free.result c.part_after.ensures.size c.room-free.ensures.room c.requires.seen)
+
+pub next-spot-requires-clause-rows : goal.next-spot-requires-clause-rows
+next-spot-requires-clause-rows g c = grind (arith, common_steps)
+
+pub after-spot-requires-clause-rows : goal.after-spot-requires-clause-rows
+after-spot-requires-clause-rows g c = grind (arith, common_steps)
+
+pub next-spot-requires-clause-f : goal.next-spot-requires-clause-f
+next-spot-requires-clause-f g c = grind (arith, common_steps)
+
+pub next-spot-requires-clause-y : goal.next-spot-requires-clause-y
+next-spot-requires-clause-y g c = grind (arith, common_steps)
+
+pub next-spot-requires-clause-x : goal.next-spot-requires-clause-x
+next-spot-requires-clause-x g c = grind (arith, common_steps)
+
+pub add_one-requires-clause-counted : goal.add_one-requires-clause-counted
+add_one-requires-clause-counted g c = grind (arith, common_steps)
+
+pub go_to-requires-clause-run : goal.go_to-requires-clause-run
+go_to-requires-clause-run g c = grind (arith, common_steps)

@@ -1,0 +1,6 @@
+use Rattle.std.proofs.Common.{arith}
+use Rattle.std.proofs.lemmas.Grind.{common_steps}
+use Rattle.patch_place.proofs.offsets.PartErrors.come_to.Goals as goal
+
+pub returns-in_ok-self-clause-part : goal.returns-in_ok-self-clause-part
+returns-in_ok-self-clause-part c = grind (arith, common_steps)

@@ -1,3 +1,5 @@
+use Rattle.std.proofs.Common.{arith}
+use Rattle.std.proofs.lemmas.Grind.{common_steps}
 use Rattle.std.proofs.Common.{refl, subst, inl, inr}
 use Rattle.cells.specs.Places.{cell_count}
 use Rattle.cells.specs.Firsts.{IsFirstWithout}
@@ -28,3 +30,9 @@ returns-in-Some-clause-checks c =
 
 pub returns-clause-least : goal.returns-clause-least
 returns-clause-least c = checked_is_least c.args.canvas.now.map c.args.sample.now c.args.block.now c.check_joins.result c.check_joins.ensures
+
+pub check_joins-requires-clause-right : goal.check_joins-requires-clause-right
+check_joins-requires-clause-right c = grind (arith, common_steps)
+
+pub first_unlike-requires : goal.first_unlike-requires
+first_unlike-requires c = grind (arith, common_steps)

@@ -1,3 +1,4 @@
+use Rattle.std.proofs.lemmas.Grind.{common_steps}
 use Rattle.std.proofs.Common.{◌≡◌, ℕ, ◌/◌, ◌%◌, ◌≤◌, ◌++◌, ◌∷◌, [], length, ap, sym, ◌∙◌, subst, arith}
 use Rattle.std.proofs.lemmas.List.Elements.{All-append, All-cons, All-nil}
 use Rattle.std.proofs.lemmas.List.FromFn.{length-map-range_with_len, map-range_with_len_more}
@@ -28,3 +29,9 @@ from_vec-requires c =
     strip_is c.args.canvas.now c.args.sample.now c.args.placement.now c.map-map.ensures.canvas c.requires.fits
     c.args.side c.rows-rows.result c.args.cols c.loop-i.errors.items c.rows-rows.ensures c.requires.some c.requires.most
     (omega (arith, long, c.loop-i-test.false, c.loop-i.auto.i-end)) c.loop-i.invariant.small
+
+pub strip_error-error-requires-clause-row : goal.strip_error-error-requires-clause-row
+strip_error-error-requires-clause-row c = grind (arith, common_steps)
+
+pub returns : goal.returns
+returns c = grind (arith, common_steps)

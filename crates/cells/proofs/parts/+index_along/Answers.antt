@@ -1,3 +1,4 @@
+use Rattle.std.proofs.lemmas.Grind.{common_steps}
 use Rattle.std.proofs.Common.{◌≡◌, ◌<◌, sym, arith}
 use Rattle.std.proofs.lemmas.Int.{ints, to_z-of_z}
 use Rattle.cells.proofs.PartLaws.{small_of, index_front, index_from_below, none_before}
@@ -15,3 +16,15 @@ returns-in-Some-clause-below t c =
 
 pub returns-then-at-lt0-clause-index : goal.returns-then-at-lt0-clause-index
 returns-then-at-lt0-clause-index t c = sym (none_before c.args.size c.args.more.now c.args.at (grind (arith, to_z-of_z, c.if-at-lt0.true)))
+
+pub overflow_add-result : goal.overflow_add-result
+overflow_add-result t c = grind (arith, common_steps)
+
+pub returns-clause-below : goal.returns-clause-below
+returns-clause-below t c = grind (arith, common_steps)
+
+pub cells-requires : goal.cells-requires
+cells-requires t c = grind (arith, common_steps)
+
+pub returns-in_err-next-clause-index : goal.returns-in_err-next-clause-index
+returns-in_err-next-clause-index t c = grind (arith, common_steps)

@@ -1,3 +1,4 @@
+use Rattle.std.proofs.lemmas.Grind.{common_steps}
 use Rattle.std.proofs.Common.{sym, ◌∙◌, arith}
 use Rattle.std.proofs.lemmas.Int.{to_z-of_z}
 use mathlib.Core.Bool.{false≢true}
@@ -20,3 +21,6 @@ returns-then-axis_holds-2 c =
           )
       | else-axis_holds w ↦ absurd (false≢true (sym w.if-axis_holds.false ∙ sym w.value-is ∙ c.if-axis_holds-2.true))
     ]
+
+pub returns-else-axis_holds-2 : goal.returns-else-axis_holds-2
+returns-else-axis_holds-2 c = grind (arith, common_steps)

@@ -1,3 +1,4 @@
+use Rattle.std.proofs.lemmas.Grind.{common_steps}
 use Rattle.std.proofs.Common.{◌≡◌, ◌≤◌, ◌<◌, ◌+◌, ◌*◌, ◌++◌, List, [], ◌∷◌, ℕ, length, ap, sym, ◌∙◌, subst, arith}
 use Rattle.cells.specs.declared.place.Size.{Size}
 use Rattle.limits.specs.declared.bounds.TheConstants.{MOST_CELLS, MOST_PARTS}
@@ -50,3 +51,6 @@ returns-clause-parts c =
     let count : length c.args.self.now.cells ≡ count_from c.args.self.now.size c.args.self.now.more =
     subst (λ (v : Cells). length v.cells ≡ count_from v.size v.more) c.self.view_is (length-cells_of me.k (count_from me.size me.more) me.bytes.items) in
     ap parts_of (returns-clause-ok c) ∙ joined_parts c.args.self.now c.args.part.now count c.requires.one c.requires.samples
+
+pub invariant_of-self : goal.invariant_of-self
+invariant_of-self c = grind (arith, common_steps)

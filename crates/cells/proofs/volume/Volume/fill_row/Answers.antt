@@ -1,3 +1,4 @@
+use Rattle.std.proofs.lemmas.Grind.{common_steps}
 use Rattle.std.proofs.Common.{◌≡◌, ◌≤◌, ◌+◌, ◌*◌, ◌++◌, ℕ, ap, sym, ◌∙◌, subst, length, take, drop, replicate, arith}
 use Rattle.std.specs.Prelude.{Some}
 use Rattle.std.proofs.lemmas.List.{length-replicate, with_items_is}
@@ -33,3 +34,6 @@ returns c =
     ∙ put_row_of size more k c.self.inside.bytes.items piece c.args.at i w c.self.invariant at (run_of_volume _ c.args.at i w at run) long
     ∙ ap (λ cells. put_row (volume_over size more k c.self.inside.bytes.items) c.args.at cells) (cells_of-same k w (k * w) c.args.byte (omega arith))
     ∙ ap (λ (v : Cells). put_row v c.args.at (replicate w (replicate v.k c.args.byte))) c.self.view_is
+
+pub invariant_of-self : goal.invariant_of-self
+invariant_of-self c = grind (arith, common_steps)

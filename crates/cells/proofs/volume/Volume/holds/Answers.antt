@@ -1,3 +1,5 @@
+use Rattle.std.proofs.Common.{arith}
+use Rattle.std.proofs.lemmas.Grind.{common_steps}
 use Rattle.std.proofs.Common.{sym, ◌∙◌, subst}
 use Rattle.std.specs.Prelude.{List}
 use Rattle.cells.specs.declared.place.Size.{Size}
@@ -19,3 +21,6 @@ returns-else-not-has_cells c =
           (subst (λ (more : List Size). HoldsFrom c.self.inside.size more rect.corner rect.size) (sym c.as_slice.ensures.sizes)
           (subst (λ (v : Cells). HoldsFrom v.size v.more rect.corner rect.size) (sym c.self.view_is) (of_held c.args.self.now rect.corner rect.size some each))),
     )
+
+pub returns-then-not-has_cells : goal.returns-then-not-has_cells
+returns-then-not-has_cells c = grind (arith, common_steps)

@@ -1,3 +1,4 @@
+use Rattle.std.proofs.lemmas.Grind.{common_steps}
 use Rattle.std.proofs.Common.{◌*◌, ◌∙◌, ap, arith, List, [], ℕ}
 use Rattle.std.specs.Prelude.{replicate}
 use Rattle.cells.specs.declared.place.Size.{Size}
@@ -13,3 +14,6 @@ returns c =
     ap (λ (more : List Size). volume_over c.args.size more c.args.k c.in_ok-bytes.bytes.items) c.none-more.ensures
     ∙ ap (λ bytes. volume (cells_of c.args.k count bytes)) (c.in_ok-bytes.ensures {u = tt} ∙ ap (λ n. replicate {A = ℕ} (c.args.k * n) 0) c.cells.ensures)
     ∙ ap volume (cells_of-same c.args.k count (c.args.k * count) 0 (omega arith))
+
+pub invariant_of-result : goal.invariant_of-result
+invariant_of-result c = grind (arith, common_steps)

@@ -1,3 +1,4 @@
+use Rattle.std.proofs.lemmas.Grind.{common_steps}
 use Rattle.std.proofs.Common.{◌≡◌, ◌≤◌, ◌+◌, ◌*◌, ◌++◌, ap, sym, ◌∙◌, subst, length, take, drop, arith}
 use Rattle.std.specs.Prelude.{Some}
 use Rattle.std.proofs.lemmas.List.{with_items_is}
@@ -33,3 +34,6 @@ returns c =
     ∙ c.put_at.ensures ∙ ap (λ bytes. take (k * i) bytes ++ c.args.bytes.now ++ drop (k * i + length c.args.bytes.now) bytes) c.deref_mut.ensures.value)
     ∙ put_of size more k c.self.inside.bytes.items c.args.bytes.now c.args.at i c.self.invariant at (index_from_below size more c.args.at i at) long
     ∙ ap (λ (v : Cells). put_cell v c.args.at c.args.bytes.now) c.self.view_is
+
+pub invariant_of-self : goal.invariant_of-self
+invariant_of-self c = grind (arith, common_steps)

@@ -1,0 +1,6 @@
+use Rattle.std.proofs.Common.{arith}
+use Rattle.std.proofs.lemmas.Grind.{common_steps}
+use Rattle.cells.proofs.place.is_on_run.Goals as goal
+
+pub returns-then-step-ge0 : goal.returns-then-step-ge0
+returns-then-step-ge0 c = grind (arith, common_steps)

@@ -1,0 +1,6 @@
+use Rattle.std.proofs.Common.{arith}
+use Rattle.std.proofs.lemmas.Grind.{common_steps}
+use Rattle.cells.proofs.sizes.+frames_before.Goals as goal
+
+pub returns-clause-frames : goal.returns-clause-frames
+returns-clause-frames t c = grind (arith, common_steps)

@@ -1,3 +1,4 @@
+use Rattle.std.proofs.lemmas.Grind.{common_steps}
 use Rattle.std.proofs.Common.{◌∙◌, sym, arith}
 use Rattle.cells.specs.Distances.{distance}
 use Rattle.map_canvas.proofs.Filling.{fits_small}
@@ -22,3 +23,6 @@ overflow_add-i c =
     let next = c.next_along-next.result in
     let small = fits_small after.map.now.size after.sample.now after.placement.now after.fits c.size-map.ensures.map.small in
     omega (arith, c.requires.index, c.stride.ensures, c.next_along-next.ensures.stride, index_below after.placement.now.rect.size next.x next.y next.f c.next_along-next.ensures.counts, small.cells)
+
+pub returns-clause-cost : goal.returns-clause-cost
+returns-clause-cost c = grind (arith, common_steps)

@@ -1,3 +1,5 @@
+use Rattle.std.proofs.Common.{arith}
+use Rattle.std.proofs.lemmas.Grind.{common_steps}
 use Rattle.std.proofs.Common.{◌≡◌, ◌∙◌, ap, sym, subst, get_or, true, false}
 use Rattle.std.specs.Prelude.{Some}
 use Rattle.cells.specs.Places.{SumFits, plus}
@@ -37,3 +39,6 @@ returns-else-is_new-clause-source c =
     let old = subst (λ n. get_or after.choice.now n false ≡ false) c.requires.index (sym c.is_new.ensures ∙ c.if-is_new.false) in
     c.at.ensures.named ∙ ap (map_at after.map.now) c.cell.ensures
     ∙ sym (within_old after.map.now after.placement.now after.choice.now at.x at.y at.f c.requires.counts old)
+
+pub place-requires : goal.place-requires
+place-requires c = grind (arith, common_steps)

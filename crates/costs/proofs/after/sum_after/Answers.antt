@@ -1,3 +1,4 @@
+use Rattle.std.proofs.lemmas.Grind.{common_steps}
 use Rattle.std.proofs.Common.{◌≡◌, ◌∙◌, ℕ, ap, arith}
 use Rattle.cells.specs.Distances.{distance}
 use Rattle.cells.specs.Places.{cell_count}
@@ -45,3 +46,9 @@ returns c =
     let g : ℕ → ℕ → ℕ → ℕ = λ x y f. pairs_at (distance after.sample.now) (within_after after.map.now after.placement.now after.choice.now) (cell_in rect x y f) in
     let end : c.loop-i.i ≡ cell_count rect.size = omega (arith, c.cells-i-end.ensures, c.loop-i-test.false) in
     c.loop-i.invariant.sum ∙ ap (λ n. sum_to n (at_index rect.size g)) end ∙ box_counts counts rect.size g
+
+pub next-at-requires : goal.next-at-requires
+next-at-requires c = grind (arith, common_steps)
+
+pub pairs_after-requires-clause-counts : goal.pairs_after-requires-clause-counts
+pairs_after-requires-clause-counts c = grind (arith, common_steps)

@@ -1,0 +1,6 @@
+use Rattle.std.proofs.Common.{arith}
+use Rattle.std.proofs.lemmas.Grind.{common_steps}
+use Rattle.costs.proofs.marks.coordinate_on.Goals as goal
+
+pub returns-else-z-ge0 : goal.returns-else-z-ge0
+returns-else-z-ge0 c = grind (arith, common_steps)

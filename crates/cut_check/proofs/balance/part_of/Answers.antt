@@ -1,3 +1,4 @@
+use Rattle.std.proofs.lemmas.Grind.{common_steps}
 use Rattle.std.proofs.Common.{◌≡◌, ◌∙◌, List, refl, sym, ap, subst, arith, w32, to_z, of_z}
 use Rattle.std.proofs.lemmas.Int.{ints}
 use Rattle.std.specs.Prelude.{pos}
@@ -80,3 +81,9 @@ returns-else-is_filled-clause-part c = record {
       absurd (false≢true (sym c.if-stays_old.false ∙ c.stays_old.ensures.1 (subst (StaysOld c.args.canvas.now.map c.args.cut.now.placement c.args.held.now) (sym c.box_cell-p.ensures) old)));
   elsewhere = λ _. refl;
 }
+
+pub box_cell-p-requires-clause-lies : goal.box_cell-p-requires-clause-lies
+box_cell-p-requires-clause-lies c = grind (arith, common_steps)
+
+pub returns-then-stays_old-clause-near : goal.returns-then-stays_old-clause-near
+returns-then-stays_old-clause-near c = grind (arith, common_steps)

@@ -1,3 +1,4 @@
+use Rattle.std.proofs.lemmas.Grind.{common_steps}
 use Rattle.std.proofs.Common.{◌≡◌, ◌∙◌, ◌/◌, ◌%◌, refl, ap, arith, below_more}
 use Rattle.std.proofs.lemmas.Int.{ints}
 use mathlib.Core.Bool.{false≢true}
@@ -69,3 +70,6 @@ returns-clause-near c = (
   omega (arith, ints, c.loop-i.invariant.low, c.cells-i-end.ensures, c.loop-i-test.false, c.requires.lies.small.cells),
   omega (arith, ints, c.loop-i.invariant.high, c.cells-i-end.ensures, c.loop-i-test.false, c.requires.lies.small.cells),
 )
+
+pub loop-i-init : goal.loop-i-init
+loop-i-init c = grind (arith, common_steps)

@@ -1,3 +1,4 @@
+use Rattle.std.proofs.lemmas.Grind.{common_steps}
 use Rattle.std.proofs.Common.{List, arith, subst}
 use Rattle.cells.specs.Distances.{distance}
 use Rattle.boxes.proofs.PairNumbers.{pairs_small}
@@ -16,3 +17,6 @@ returns-then-is_still-clause-hold c =
     let at = c.args.walk.at in
     still_holds (distance c.args.sample.now) c.args.map.now c.args.cut.now at.x at.y at.f c.args.walk.before c.requires.inside.before
     (subst (λ (flows : List Flow). IsStill flows c.args.walk.before) c.as_slice.ensures (c.is_still.ensures c.if-is_still.true))
+
+pub returns-then-not-holds_along_frames-clause-broken : goal.returns-then-not-holds_along_frames-clause-broken
+returns-then-not-holds_along_frames-clause-broken c = grind (arith, common_steps)

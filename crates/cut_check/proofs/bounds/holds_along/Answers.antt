@@ -1,3 +1,5 @@
+use Rattle.std.proofs.Common.{arith}
+use Rattle.std.proofs.lemmas.Grind.{common_steps}
 use Rattle.std.proofs.Common.{◌∙◌, refl, subst, ap, List}
 use Rattle.cells.specs.Distances.{distance}
 use Rattle.cells.specs.Neighbours.{unit_step}
@@ -22,3 +24,9 @@ returns-then-leaves_none c =
           (subst LeavesNone is (c.leaves_none.ensures.0 c.if-leaves_none.true)),
       λ _. refl,
     )
+
+pub returns : goal.returns
+returns c = grind (arith, common_steps)
+
+pub returns-then-not-has_next : goal.returns-then-not-has_next
+returns-then-not-has_next c = grind (arith, common_steps)

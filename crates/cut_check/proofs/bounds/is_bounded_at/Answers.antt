@@ -1,3 +1,5 @@
+use Rattle.std.proofs.Common.{arith}
+use Rattle.std.proofs.lemmas.Grind.{common_steps}
 use Rattle.std.proofs.Common.{◌∙◌, sym, ap}
 use Rattle.cells.specs.Neighbours.{unit_step}
 use Rattle.cells.specs.Places.{plus}
@@ -13,3 +15,6 @@ is_bounded-requires-clause-next c =
     let step = unit_step c.args.axis in
     c.lay-next.ensures.new ∙ ap (new_source placement) (sym (c.next_along.ensures.next placement.rect))
     ∙ new_next placement (cell_in placement.rect at.x at.y at.f) step ∙ ap (λ p. plus p step) (sym c.lay-first.ensures.new)
+
+pub returns : goal.returns
+returns c = grind (arith, common_steps)

@@ -1,3 +1,4 @@
+use Rattle.std.proofs.lemmas.Grind.{common_steps}
 use Rattle.std.proofs.Common.{◌≡◌, ◌∙◌, refl, sym, subst, ap, arith}
 use Rattle.std.proofs.lemmas.Int.{ints}
 use Rattle.cells.specs.Distances.{distance}
@@ -44,3 +45,6 @@ returns c =
       λ is. let within = c.is_within-2.ensures.0 is in (omega (arith, ints, within.0, near, far), omega (arith, ints, within.1, near, far)),
       λ between. c.is_within-2.ensures.1 (omega (arith, ints, between.0, near, far), omega (arith, ints, between.1, near, far)),
     )
+
+pub returns-then-z-eq0 : goal.returns-then-z-eq0
+returns-then-z-eq0 c = grind (arith, common_steps)

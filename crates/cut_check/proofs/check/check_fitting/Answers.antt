@@ -1,3 +1,5 @@
+use Rattle.std.proofs.Common.{arith}
+use Rattle.std.proofs.lemmas.Grind.{common_steps}
 use Rattle.std.proofs.Common.{refl, subst, inl, inr, []}
 use Rattle.cells.specs.Places.{cell_count}
 use Rattle.cells.specs.Firsts.{Each, IsFirstWithout}
@@ -39,3 +41,6 @@ check_flows-requires-clause-lawful c =
       unfilled = subst (λ (m : SourceMap). Each n (FillsUnfilled (record { map = m; sample = sample; held = [] }) cut)) c.map.ensures.map (c.in_default.ensures.hold sample);
       old = c.in_default-first_new.ensures.hold sample;
     }
+
+pub first_unfilled-requires : goal.first_unfilled-requires
+first_unfilled-requires c = grind (arith, common_steps)

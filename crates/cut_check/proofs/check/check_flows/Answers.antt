@@ -1,3 +1,4 @@
+use Rattle.std.proofs.lemmas.Grind.{common_steps}
 use Rattle.std.proofs.Common.{◌≡◌, ◌∙◌, List, Bool, refl, sym, ap, subst, inl, inr, arith, w64, to_z, of_z}
 use Rattle.std.proofs.lemmas.Int.{ints}
 use Rattle.std.specs.Prelude.{pos}
@@ -66,3 +67,6 @@ returns-else-is_window-clause-fault c =
       balanced = c.in-Ok.ensures.balanced sample;
       value = λ value. false≢true (sym c.if-is_window.false ∙ c.is_window.ensures.1 (exact ∙ c.in-Ok.ensures.value sample value.part value.parts ∙ value.sum ∙ ap pos (sym window)));
     })))))
+
+pub first_unbounded-requires : goal.first_unbounded-requires
+first_unbounded-requires c = grind (arith, common_steps)

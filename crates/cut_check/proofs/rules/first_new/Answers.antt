@@ -1,3 +1,4 @@
+use Rattle.std.proofs.lemmas.Grind.{common_steps}
 use Rattle.std.proofs.Common.{◌≡◌, ◌∙◌, List, Bool, sym, subst, arith, below_more}
 use Rattle.std.specs.Prelude.{false, slice_index_or}
 use mathlib.Core.Bool.{false≢true}
@@ -58,3 +59,6 @@ loop-i-preserved c =
 
 pub returns-clause-hold : goal.returns-clause-hold
 returns-clause-hold c = λ sample i lt. c.loop-i.invariant.before i (omega (arith, c.cells-i-end.ensures, c.loop-i-test.false))
+
+pub box_cell-p-requires-clause-lies : goal.box_cell-p-requires-clause-lies
+box_cell-p-requires-clause-lies c = grind (arith, common_steps)

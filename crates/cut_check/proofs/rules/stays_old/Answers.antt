@@ -1,3 +1,5 @@
+use Rattle.std.proofs.Common.{arith}
+use Rattle.std.proofs.lemmas.Grind.{common_steps}
 use Rattle.std.proofs.Common.{◌∙◌, sym, ap, inl, inr, ⊎_elim}
 use mathlib.Core.Bool.{false≢true}
 use Rattle.map_canvas.specs.Choices.{chosen}
@@ -23,3 +25,6 @@ returns-else-is_marked c =
           ⊎_elim c.is_kept_at.ensures.1
           (λ held. absurd (false≢true (sym c.if-is_marked.false ∙ c.is_marked.ensures ∙ sym (ap (chosen c.args.held.now) index) ∙ held))) old,
     )
+
+pub is_kept_at-requires-clause-counts : goal.is_kept_at-requires-clause-counts
+is_kept_at-requires-clause-counts c = grind (arith, common_steps)

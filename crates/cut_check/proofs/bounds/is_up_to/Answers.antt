@@ -1,0 +1,9 @@
+use Rattle.std.proofs.Common.{arith}
+use Rattle.std.proofs.lemmas.Grind.{common_steps}
+use Rattle.cut_check.proofs.bounds.is_up_to.Goals as goal
+
+pub returns-then-z-ge0 : goal.returns-then-z-ge0
+returns-then-z-ge0 c = grind (arith, common_steps)
+
+pub returns-else-z-ge0 : goal.returns-else-z-ge0
+returns-else-z-ge0 c = grind (arith, common_steps)

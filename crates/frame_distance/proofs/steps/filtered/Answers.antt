@@ -1,3 +1,4 @@
+use Rattle.std.proofs.lemmas.Grind.{common_steps}
 use Rattle.std.proofs.Common.{◌≡◌, ◌<◌, ◌*◌, ◌^◌, length, sym, ◌∙◌, ap, arith}
 use Rattle.std.specs.Prelude.{None, IfSome}
 use Rattle.std.proofs.lemmas.List.Elements.{All-push}
@@ -39,3 +40,9 @@ returns-clause-each c = λ i j row column.
     (λ t. step_at (record { frames = c.frames-n.ensures.frames t; costs = costs_are c t }) i j)
     ∙ step_at-inside (steps_of table c.args.taps c.args.gap) i j row column
     ∙ entries_of-inside table.frames (step_cost table c.args.taps c.args.gap) i j None row column
+
+pub step_cost-cost-requires-clause-from : goal.step_cost-cost-requires-clause-from
+step_cost-cost-requires-clause-from c = grind (arith, common_steps)
+
+pub returns-clause-steps : goal.returns-clause-steps
+returns-clause-steps c = grind (arith, common_steps)

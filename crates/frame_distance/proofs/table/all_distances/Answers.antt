@@ -1,3 +1,4 @@
+use Rattle.std.proofs.lemmas.Grind.{common_steps}
 use Rattle.std.proofs.Common.{◌≡◌, ℕ, List, ◌<◌, ◌^◌, length, sym, ◌∙◌, ap, arith}
 use Rattle.std.proofs.lemmas.List.Elements.{All-push}
 use Rattle.frame_distance.specs.Frames.{distance_in}
@@ -28,3 +29,6 @@ loop-k-preserved c =
           (sym (entries_of_more c.args.n f c.loop-k._k));
       small = rw c.in_ok-push.ensures.items (All-push (λ number. number < 2 ^ 43) _ _ c.loop-k.invariant.small c.next_distance-number.ensures.below);
     }
+
+pub returns-clause-numbers : goal.returns-clause-numbers
+returns-clause-numbers c = grind (arith, common_steps)

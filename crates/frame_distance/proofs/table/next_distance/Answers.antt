@@ -1,3 +1,5 @@
+use Rattle.std.proofs.Common.{arith}
+use Rattle.std.proofs.lemmas.Grind.{common_steps}
 use Rattle.std.proofs.Common.{◌*◌, ◌/◌, ◌%◌, ◌+◌, length, refl, sym, ◌∙◌, ap, get_or}
 use Rattle.frame_distance.specs.Frames.{distance_in, frame_in}
 use Rattle.frame_distance.proofs.EntryLaws.{entries_of-at, across_before, row_below}
@@ -20,3 +22,15 @@ returns-then-j-i-2-clause-distance c =
     let k = length c.args.so_far.now in
     let i = k / c.args.n in
     sym (ssd_same (frame_in c.args.bytes.now c.args.len i)) ∙ ap (distance_in c.args.bytes.now c.args.len i) (sym c.if-j-i-2.true)
+
+pub overflow_mul-result : goal.overflow_mul-result
+overflow_mul-result c = grind (arith, common_steps)
+
+pub bounds-so_far-j : goal.bounds-so_far-j
+bounds-so_far-j c = grind (arith, common_steps)
+
+pub overflow_add-result : goal.overflow_add-result
+overflow_add-result c = grind (arith, common_steps)
+
+pub returns-then-j-i-clause-below : goal.returns-then-j-i-clause-below
+returns-then-j-i-clause-below c = grind (arith, common_steps)

@@ -1,3 +1,4 @@
+use Rattle.std.proofs.lemmas.Grind.{common_steps}
 use Rattle.std.proofs.Common.{length, take, arith, ap, sym, ◌∙◌}
 use Rattle.std.proofs.lemmas.List.{append-nil, take_all}
 use Rattle.job_words.specs.Names.{name_if_set}
@@ -20,3 +21,6 @@ from_vec-requires c =
     let fewer = length-filter_map (name_if_set c.args.settings.now) (take c.loop-key.key-index keys) in
     let all = ap length (take_all c.loop-key.key-index keys c.loop-key-test.false) in
     omega (arith, fewer, all, ap length c.loop-key.invariant, ap length c.more_keys-keys.ensures)
+
+pub returns : goal.returns
+returns c = grind (arith, common_steps)

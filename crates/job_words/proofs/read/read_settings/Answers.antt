@@ -1,3 +1,4 @@
+use Rattle.std.proofs.lemmas.Grind.{common_steps}
 use Rattle.std.proofs.Common.{◌≡◌, ◌≤◌, ◌+◌, ◌++◌, ◌∷◌, [], length, arith, sym, ap, subst, ◌∙◌, length-append}
 use Rattle.std.specs.Prelude.{Ok, Err}
 use Rattle.std.proofs.lemmas.Result.{err_from_is_err_and}
@@ -40,3 +41,6 @@ returns-in_err-setting-clause-err c =
     rw (p.1, p.2)
     (refused rows settings c.args.words.now c.loop-word.word-index n word fault _ c.loop-word-test.true c.word-item.is (omega (arith, c.len.ensures))
     (subst (λ r. AnswersAs r (Err fault)) same (c.in_err-setting.ensures {u = tt})) c.loop-word.invariant.rest)
+
+pub returns-clause-ok : goal.returns-clause-ok
+returns-clause-ok c = grind (arith, common_steps)

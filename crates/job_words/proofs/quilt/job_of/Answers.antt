@@ -1,0 +1,21 @@
+use Rattle.std.proofs.Common.{arith}
+use Rattle.std.proofs.lemmas.Grind.{common_steps}
+use Rattle.job_words.proofs.quilt.job_of.Goals as goal
+
+pub overflow_cast-result-5 : goal.overflow_cast-result-5
+overflow_cast-result-5 c = grind (arith, common_steps)
+
+pub overflow_cast-result-4 : goal.overflow_cast-result-4
+overflow_cast-result-4 c = grind (arith, common_steps)
+
+pub overflow_cast-result-3 : goal.overflow_cast-result-3
+overflow_cast-result-3 c = grind (arith, common_steps)
+
+pub overflow_cast-result-2 : goal.overflow_cast-result-2
+overflow_cast-result-2 c = grind (arith, common_steps)
+
+pub overflow_cast-result : goal.overflow_cast-result
+overflow_cast-result c = grind (arith, common_steps)
+
+pub number_at-requires-6 : goal.number_at-requires-6
+number_at-requires-6 c = grind (arith, common_steps)

@@ -1,3 +1,4 @@
+use Rattle.std.proofs.lemmas.Grind.{common_steps}
 use Rattle.std.proofs.Common.{◌≡◌, ◌≤◌, ◌<◌, ◌+◌, ◌-◌, ◌%◌, ℕ, ap, sym, ◌∙◌, subst, arith, length}
 use Rattle.std.proofs.lemmas.Int.{ints}
 use Rattle.std.specs.Prelude.{ℤ, pos, ◌+ℤ◌, ◌≤ℤ◌}
@@ -96,3 +97,12 @@ returns-clause-picture c =
 
 pub returns-clause-marks : goal.returns-clause-marks
 returns-clause-marks c = c.fill_run.ensures.marks
+
+pub overflow_cast-step : goal.overflow_cast-step
+overflow_cast-step c = grind (arith, common_steps)
+
+pub returns-clause-row : goal.returns-clause-row
+returns-clause-row c = grind (arith, common_steps)
+
+pub new_cells-n-requires-clause-some : goal.new_cells-n-requires-clause-some
+new_cells-n-requires-clause-some c = grind (arith, common_steps)

@@ -1,3 +1,4 @@
+use Rattle.std.proofs.lemmas.Grind.{common_steps}
 use Rattle.std.proofs.Common.{◌≡◌, ◌≤◌, ◌+◌, ap, sym, ◌∙◌, arith, length, slice_set}
 use Rattle.std.proofs.lemmas.Int.{ints, to_z_pos}
 use Rattle.std.specs.Prelude.{Some, None, pos}
@@ -24,3 +25,6 @@ returns c =
     let run = source_run c.args.from c.args.w in
     let whole : c.loop-j.j ≡ length run = omega (arith, c.loop-j-test.false, c.loop-j.auto.j-end, length-source_run c.args.from c.args.w) in
     c.loop-j.invariant ∙ ap (paste c.args.sources.now c.args.start run) whole ∙ paste-whole c.args.sources.now run c.args.start
+
+pub new-requires : goal.new-requires
+new-requires c = grind (arith, common_steps)

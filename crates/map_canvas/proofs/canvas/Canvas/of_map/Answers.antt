@@ -1,3 +1,5 @@
+use Rattle.std.proofs.Common.{arith}
+use Rattle.std.proofs.lemmas.Grind.{common_steps}
 use Rattle.std.proofs.Common.{◌≡◌, ◌*◌, length, map, ap, sym, ◌∙◌, subst}
 use Rattle.std.specs.List.{concat}
 use Rattle.cells.specs.Cells.{Cells, volume_of}
@@ -53,3 +55,9 @@ returns-clause-stands c =
     c.from_bytes.ensures.volume ∙ ap (volume_of c.size-size.result c.samples-k.result) (c.in_ok-shown.ensures {u = tt} ∙ ap (λ sources. concat (map (shown_cell sample) sources)) c.sources.ensures)
     ∙ (λ i. volume_of (c.size-size.ensures.size i) (c.samples-k.ensures.samples i) (concat (map (shown_cell sample) m.sources))) ∙ picture_of_bytes m sample is volume c.requires in
     subst (λ v. StandsOver (record { map = m; picture = v }) sample) (sym shown) (map_stands m sample is volume c.requires)
+
+pub from_bytes-requires-clause-small : goal.from_bytes-requires-clause-small
+from_bytes-requires-clause-small c = grind (arith, common_steps)
+
+pub from_bytes-requires-2-clause-small : goal.from_bytes-requires-2-clause-small
+from_bytes-requires-2-clause-small c = grind (arith, common_steps)

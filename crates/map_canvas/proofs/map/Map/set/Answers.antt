@@ -1,3 +1,5 @@
+use Rattle.std.proofs.Common.{arith}
+use Rattle.std.proofs.lemmas.Grind.{common_steps}
 use Rattle.std.proofs.Common.{ap, sym, ◌∙◌, subst}
 use Rattle.std.proofs.Math.ListN.{set}
 use Rattle.std.specs.Prelude.{Some, IsSome}
@@ -15,3 +17,6 @@ returns c =
     (λ k. record { size = m.size; sources = set m.sources c.unwrap-i.result (c.new.ensures k) })
     ∙ (λ k. record { size = m.size; sources = set_nth m.sources ((sym c.unwrap-i.ensures ∙ c.index_of.ensures.index) k) (Some c.args.from) })
     ∙ ap (λ (n : SourceMap). with_source n c.args.p c.args.from) c.self.view_is
+
+pub invariant_of-self : goal.invariant_of-self
+invariant_of-self c = grind (arith, common_steps)

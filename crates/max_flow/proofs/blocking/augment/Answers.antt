@@ -1,6 +1,10 @@
+use Rattle.std.proofs.lemmas.Grind.{common_steps}
 use Rattle.std.proofs.Common.{arith}
 use Rattle.max_flow.proofs.Moving.{IsPushing_more}
 use Rattle.max_flow.proofs.blocking.augment.Goals as goal
 
 pub loop-arc-preserved : goal.loop-arc-preserved
 loop-arc-preserved c = IsPushing_more _ _ _ _ _ _ _ _ _ c.requires.path c.loop-arc.invariant (omega arith) c.push.ensures.residuals c.push.ensures.others c.push.ensures.moved
+
+pub returns-clause-moved : goal.returns-clause-moved
+returns-clause-moved c = grind (arith, common_steps)

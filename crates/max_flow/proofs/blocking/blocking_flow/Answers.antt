@@ -1,3 +1,4 @@
+use Rattle.std.proofs.lemmas.Grind.{common_steps}
 use Rattle.std.proofs.Common.{arith}
 use Rattle.max_flow.proofs.Limits.{Carries_more, value_limit, total_limit}
 use Rattle.max_flow.proofs.Walking.{IsPath-take}
@@ -21,3 +22,15 @@ paths-smaller c =
     let carries = Carries_more _ _ _ _ _ _ _ c.args.graph.now.ends_differ c.paths.invariant.0.carries c.augment.ensures.residuals c.augment.ensures.moved in
     let limit = value_limit _ _ _ _ _ carries in
     omega (arith, limit, c.augment.ensures.some, c.from-value.ensures)
+
+pub augment-requires-clause-sink : goal.augment-requires-clause-sink
+augment-requires-clause-sink c = grind (arith, common_steps)
+
+pub paths-preserved : goal.paths-preserved
+paths-preserved c = grind (arith, common_steps)
+
+pub augment-requires-clause-residuals : goal.augment-requires-clause-residuals
+augment-requires-clause-residuals c = grind (arith, common_steps)
+
+pub slice_bounds-augment-end-in-Some : goal.slice_bounds-augment-end-in-Some
+slice_bounds-augment-end-in-Some c = grind (arith, common_steps)

@@ -1,3 +1,4 @@
+use Rattle.std.proofs.lemmas.Grind.{common_steps}
 use Rattle.std.proofs.Common.{arith}
 use Rattle.max_flow.proofs.Counting.{AreCountedFrom_more, AreCountedFrom_all}
 use Rattle.max_flow.proofs.checking.count_pipes.Goals as goal
@@ -8,3 +9,6 @@ pipes-preserved c =
 
 pub returns : goal.returns
 returns c = AreCountedFrom_all _ _ _ _ c.requires.sized c.pipes.invariant.0 (omega arith)
+
+pub pipes-init : goal.pipes-init
+pipes-init c = grind (arith, common_steps)

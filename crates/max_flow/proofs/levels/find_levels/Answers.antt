@@ -1,3 +1,5 @@
+use Rattle.std.proofs.Common.{arith}
+use Rattle.std.proofs.lemmas.Grind.{common_steps}
 use Rattle.std.proofs.Common.{◌≡◌, ◌++◌, List, ℕ, [], ◌∷◌, set, subst, sym, ap, ◌∙◌}
 use Rattle.max_flow.specs.Levels.{IsSearch}
 use Rattle.max_flow.proofs.Searching.{IsSearch_begins, zeros}
@@ -11,3 +13,21 @@ nodes-init c =
     subst (λ (waiting : List ℕ). IsSearch c.args.graph.now.pipes.now c.args.graph.now.nodes c.args.graph.now.source c.args.backward.now (set c.fill.new.self c.args.graph.now.source 1) waiting) (sym items)
     (subst (λ (levels : List ℕ). IsSearch c.args.graph.now.pipes.now c.args.graph.now.nodes c.args.graph.now.source c.args.backward.now (set levels c.args.graph.now.source 1) (c.args.graph.now.source ∷ []))
     (sym filled) (IsSearch_begins _ _ _ _ c.args.graph.now.source_in))
+
+pub returns-clause-levels : goal.returns-clause-levels
+returns-clause-levels c = grind (arith, common_steps)
+
+pub returns-in_default-clause-levels : goal.returns-in_default-clause-levels
+returns-in_default-clause-levels c = grind (arith, common_steps)
+
+pub visit-requires-clause-search : goal.visit-requires-clause-search
+visit-requires-clause-search c = grind (arith, common_steps)
+
+pub nodes-smaller : goal.nodes-smaller
+nodes-smaller c = grind (arith, common_steps)
+
+pub returns-in_default-clause-closed : goal.returns-in_default-clause-closed
+returns-in_default-clause-closed c = grind (arith, common_steps)
+
+pub visit-requires-clause-residuals : goal.visit-requires-clause-residuals
+visit-requires-clause-residuals c = grind (arith, common_steps)

@@ -1,3 +1,4 @@
+use Rattle.std.proofs.lemmas.Grind.{common_steps}
 use Rattle.std.proofs.Common.{◌≡◌, ◌+◌, ◌∷◌, ◌++◌, [], List, ℕ, arith, rules, set, slice_index, sym, subst, Fits, w32}
 use Rattle.max_flow.specs.Levels.{IsSearch}
 use Rattle.max_flow.proofs.Searching.{enqueue, front_in, front_level, room_for}
@@ -23,3 +24,12 @@ returns-clause-search c =
     (set c.args.levels.now c.beyond-next.result (slice_index c.args.levels.now c.args.node + 1)) (c.args.node ∷ waiting)) (sym items)
     (enqueue _ _ _ _ _ _ c.requires.search c.args.arc c.args.node c.beyond-next.result c.requires.arc c.requires.leaves (front_level _ _ _ _ _ _ _ c.requires.search)
     c.beyond-next.ensures.value (omega arith) (omega arith) (omega (arith, c.residual.ensures, c.if-residual-eq0.false)))
+
+pub returns-clause-waits : goal.returns-clause-waits
+returns-clause-waits c = grind (arith, common_steps)
+
+pub returns-clause-kept : goal.returns-clause-kept
+returns-clause-kept c = grind (arith, common_steps)
+
+pub returns-clause-tried : goal.returns-clause-tried
+returns-clause-tried c = grind (arith, common_steps)

@@ -1,3 +1,4 @@
+use Rattle.std.proofs.lemmas.Grind.{common_steps}
 use Rattle.std.proofs.Common.{◌≡◌, ◌-◌, slice_index, set, arith, sym, ap, ◌∙◌}
 use Rattle.max_flow.proofs.Walking.{lowered, lower_at, forward, backwards, backwards_smaller, no_way}
 use Rattle.max_flow.proofs.paths.find_path.Goals as goal
@@ -30,3 +31,15 @@ returns-else-depth-gt0-clause-found c = λ are reached dead.
     absurd (no_way _ _ _ _ _ _ _ are (w.dead dead) reached c.args.graph.now.ends_differ
     (ap (slice_index (set c.steps.current c.steps.node c.next_admissible-cursor.result)) (sym here)
     ∙ lower_at _ _ c.steps.current c.steps.node c.next_admissible-cursor.result c.steps.invariant.sound c.steps.invariant.node_in e.low ∙ omega arith))
+
+pub steps-smaller-then-cursor-gt0 : goal.steps-smaller-then-cursor-gt0
+steps-smaller-then-cursor-gt0 c = grind (arith, common_steps)
+
+pub bounds-current-node-then-depth-gt0 : goal.bounds-current-node-then-depth-gt0
+bounds-current-node-then-depth-gt0 c = grind (arith, common_steps)
+
+pub bounds-graph-arc : goal.bounds-graph-arc
+bounds-graph-arc c = grind (arith, common_steps)
+
+pub tail-node-requires : goal.tail-node-requires
+tail-node-requires c = grind (arith, common_steps)

@@ -1,6 +1,16 @@
+use Rattle.std.proofs.lemmas.Grind.{common_steps}
 use Rattle.std.proofs.Common.{arith}
 use Rattle.max_flow.proofs.Limits.{value_limit}
 use Rattle.max_flow.proofs.solver.run.Goals as goal
 
 pub phases-smaller : goal.phases-smaller
 phases-smaller c = omega (arith, value_limit _ _ _ _ _ c.blocking_flow-value.ensures.carries, c.blocking_flow-value.ensures.rises)
+
+pub returns-then-not-is_thin-clause-closed : goal.returns-then-not-is_thin-clause-closed
+returns-then-not-is_thin-clause-closed c = grind (arith, common_steps)
+
+pub returns-clause-closed : goal.returns-clause-closed
+returns-clause-closed c = grind (arith, common_steps)
+
+pub blocking_flow-value-requires-clause-sink : goal.blocking_flow-value-requires-clause-sink
+blocking_flow-value-requires-clause-sink c = grind (arith, common_steps)

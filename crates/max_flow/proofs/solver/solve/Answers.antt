@@ -1,3 +1,4 @@
+use Rattle.std.proofs.lemmas.Grind.{common_steps}
 use Rattle.std.proofs.Common.{refl, ap, ◌∙◌, arith}
 use Rattle.std.proofs.lemmas.List.{with_items_is}
 use Rattle.max_flow.proofs.FlowLists.{Carries-at_rest, at_rest}
@@ -6,3 +7,18 @@ use Rattle.max_flow.proofs.solver.solve.Goals as goal
 
 pub level_graphs-requires-clause-carries : goal.level_graphs-requires-clause-carries
 level_graphs-requires-clause-carries c = Carries_same _ _ _ _ _ _ _ _ _ refl refl refl (c.deref_mut-3.ensures.value ∙ with_items_is c.in_ok-backward-2.backward c.empty.new.backward (omega (arith, c.empty.auto.backward, c.deref_mut-2.ensures.len)) ∙ c.empty.ensures ∙ ap at_rest c.pipes-pipes.ensures.value) (Carries-at_rest c.args.network.now.pipes c.args.network.now.source c.args.network.now.sink)
+
+pub finish-requires-2-clause-sized : goal.finish-requires-2-clause-sized
+finish-requires-2-clause-sized c = grind (arith, common_steps)
+
+pub finish-requires-2-clause-limit : goal.finish-requires-2-clause-limit
+finish-requires-2-clause-limit c = grind (arith, common_steps)
+
+pub returns-in-Some-2-clause-flow : goal.returns-in-Some-2-clause-flow
+returns-in-Some-2-clause-flow c = grind (arith, common_steps)
+
+pub returns-in-Some-2-clause-greatest : goal.returns-in-Some-2-clause-greatest
+returns-in-Some-2-clause-greatest c = grind (arith, common_steps)
+
+pub level_graphs-requires-clause-limit : goal.level_graphs-requires-clause-limit
+level_graphs-requires-clause-limit c = grind (arith, common_steps)

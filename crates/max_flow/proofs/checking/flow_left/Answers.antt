@@ -1,0 +1,6 @@
+use Rattle.std.proofs.Common.{arith}
+use Rattle.std.proofs.lemmas.Grind.{common_steps}
+use Rattle.max_flow.proofs.checking.flow_left.Goals as goal
+
+pub returns-else-value-lt0 : goal.returns-else-value-lt0
+returns-else-value-lt0 c = grind (arith, common_steps)

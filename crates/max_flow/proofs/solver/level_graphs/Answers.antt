@@ -1,0 +1,18 @@
+use Rattle.std.proofs.Common.{arith}
+use Rattle.std.proofs.lemmas.Grind.{common_steps}
+use Rattle.max_flow.proofs.solver.level_graphs.Goals as goal
+
+pub hand_out-requires-clause-closed : goal.hand_out-requires-clause-closed
+hand_out-requires-clause-closed c = grind (arith, common_steps)
+
+pub hand_out-requires-clause-levels : goal.hand_out-requires-clause-levels
+hand_out-requires-clause-levels c = grind (arith, common_steps)
+
+pub returns-then-index-gt0-clause-last : goal.returns-then-index-gt0-clause-last
+returns-then-index-gt0-clause-last c = grind (arith, common_steps)
+
+pub hand_out-requires-clause-sink : goal.hand_out-requires-clause-sink
+hand_out-requires-clause-sink c = grind (arith, common_steps)
+
+pub returns-clause-last : goal.returns-clause-last
+returns-clause-last c = grind (arith, common_steps)

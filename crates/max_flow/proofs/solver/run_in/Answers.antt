@@ -1,0 +1,21 @@
+use Rattle.std.proofs.Common.{arith}
+use Rattle.std.proofs.lemmas.Grind.{common_steps}
+use Rattle.max_flow.proofs.solver.run_in.Goals as goal
+
+pub invariant_of-graph : goal.invariant_of-graph
+invariant_of-graph c = grind (arith, common_steps)
+
+pub returns-clause-levels : goal.returns-clause-levels
+returns-clause-levels c = grind (arith, common_steps)
+
+pub returns-clause-closed : goal.returns-clause-closed
+returns-clause-closed c = grind (arith, common_steps)
+
+pub returns-clause-sink : goal.returns-clause-sink
+returns-clause-sink c = grind (arith, common_steps)
+
+pub link-requires-clause-empty : goal.link-requires-clause-empty
+link-requires-clause-empty c = grind (arith, common_steps)
+
+pub run-requires-clause-levels : goal.run-requires-clause-levels
+run-requires-clause-levels c = grind (arith, common_steps)

@@ -1,3 +1,4 @@
+use Rattle.std.proofs.lemmas.Grind.{common_steps}
 use Rattle.std.proofs.Common.{◌≡◌, ◌≤◌, ◌*◌, length, sym, ap, ◌∙◌, subst, arith}
 use Rattle.std.specs.Prelude.{All}
 use Rattle.std.specs.Vec.{with_items}
@@ -39,3 +40,9 @@ returns-clause-made g c =
       colours = ap (λ (v : Cells). v.k) c.from_bytes.ensures.volume;
       samples = subst (All (λ b. b ≤ c.args.maxval)) (sym (c.from_bytes.ensures.bytes ∙ items)) c.in_ok-fill.ensures.samples;
     }
+
+pub from_bytes-requires-clause-whole : goal.from_bytes-requires-clause-whole
+from_bytes-requires-clause-whole g c = grind (arith, common_steps)
+
+pub returns-clause-reads : goal.returns-clause-reads
+returns-clause-reads g c = grind (arith, common_steps)

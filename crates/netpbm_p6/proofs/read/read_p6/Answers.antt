@@ -1,3 +1,5 @@
+use Rattle.std.proofs.Common.{arith}
+use Rattle.std.proofs.lemmas.Grind.{common_steps}
 use Rattle.std.proofs.Common.{◌≤◌, ◌∙◌, ap, sym, subst}
 use Rattle.cells.specs.declared.place.Size.{Size}
 use Rattle.std.proofs.lemmas.Result.{err_from_is_err_and}
@@ -38,3 +40,6 @@ returns-clause-picture g c =
       };
       cells = cells_allowed c.in_ok-header.header c.in_ok-size.size c.in_ok-size.maxval c.in_ok-volume.volume fits made.size_is made.one;
     }
+
+pub returns-clause-reads : goal.returns-clause-reads
+returns-clause-reads g c = grind (arith, common_steps)

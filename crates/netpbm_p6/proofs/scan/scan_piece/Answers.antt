@@ -1,3 +1,4 @@
+use Rattle.std.proofs.lemmas.Grind.{common_steps}
 use Rattle.std.proofs.Common.{◌<◌, length, sym, ap, ◌∙◌, arith}
 use Rattle.std.specs.Prelude.{Some, None}
 use Rattle.shelf_core.specs.Decimals.{capped}
@@ -30,3 +31,6 @@ loop-i-preserved c =
       run = run_more capped c.args.start c.loop-i.scan (Some c.in-Some.next) c.args.piece.now c.loop-i.i inside c.loop-i.invariant.run (sym c.in-Some.ensures.step);
       is_open = still_open c.in-Some.next c.in-Some.ensures.sound c.in_default.not-Whole;
     }
+
+pub returns-in-Whole-clause-sound : goal.returns-in-Whole-clause-sound
+returns-in-Whole-clause-sound c = grind (arith, common_steps)

@@ -1,3 +1,5 @@
+use Rattle.std.proofs.Common.{arith}
+use Rattle.std.proofs.lemmas.Grind.{common_steps}
 use Rattle.std.proofs.Common.{ap, refl, [], ◌∷◌, ◌++◌, decimal}
 use Rattle.std.specs.Prelude.{codes}
 use Rattle.cells.specs.declared.place.Size.{Size}
@@ -50,3 +52,12 @@ returns-clause-ok g c =
     let h4 = number_added c.args.name.now ((([] ++ codes "P6\n") ++ (decimal c.args.volume.now.size.w) ++ codes " ") ++ (decimal c.args.volume.now.size.h) ++ codes "\n") (decimal c.from.result) (decimal c.args.maxval) (codes "\n") (g.S.Shelf.state c.args.shelf.now) (g.S.Shelf.state c.add_number-2.new.shelf) (g.S.Shelf.state c.add_number-3.new.shelf) (ap decimal c.from.ensures) h3 c.in_ok-add_number-3.ensures.added in
     let h5 = piece_added c.args.name.now (((([] ++ codes "P6\n") ++ (decimal c.args.volume.now.size.w) ++ codes " ") ++ (decimal c.args.volume.now.size.h) ++ codes "\n") ++ (decimal c.args.maxval) ++ codes "\n") c.bytes.result.now (bytes_of c.args.volume.now) (g.S.Shelf.state c.args.shelf.now) (g.S.Shelf.state c.add_number-3.new.shelf) (g.S.Shelf.state c.add-2.new.self) c.bytes.ensures h4 c.in_ok-add-2.ensures.added in
     h5
+
+pub returns-in_err-add-2-clause-writes : goal.returns-in_err-add-2-clause-writes
+returns-in_err-add-2-clause-writes g c = grind (arith, common_steps)
+
+pub returns-clause-writes : goal.returns-clause-writes
+returns-clause-writes g c = grind (arith, common_steps)
+
+pub returns-in_err-add-2-clause-failed : goal.returns-in_err-add-2-clause-failed
+returns-in_err-add-2-clause-failed g c = grind (arith, common_steps)

@@ -1,3 +1,5 @@
+use Rattle.std.proofs.Common.{arith}
+use Rattle.std.proofs.lemmas.Grind.{common_steps}
 use Rattle.std.proofs.Common.{◌+◌, ◌≤◌, inl, inr, refl, sym, subst, ◌∙◌}
 use mathlib.Core.Bool.{false≢true}
 use Rattle.limits.specs.declared.bounds.TheConstants.{MOST_SAMPLE_CELLS}
@@ -17,3 +19,12 @@ returns c =
     (subst (λ n. with_turns turns (c.cells_in.result + n) ≤ MOST_SAMPLE_CELLS) c.cells_in-2.ensures.count (c.in_ok-cells_within.ensures {u = tt})) in
     joined c.args.asked c.args.samples.now c.args.sample.now (record { form = c.args.samples.now.form; volume = c.add_part.new.self }) c.requires.so_far c.requires.next
     (c.goes_after.ensures.0 c.if-not-goes_after.false) fits refl added.ok added.parts
+
+pub add_part-requires-clause-room : goal.add_part-requires-clause-room
+add_part-requires-clause-room c = grind (arith, common_steps)
+
+pub add_part-requires-clause-samples : goal.add_part-requires-clause-samples
+add_part-requires-clause-samples c = grind (arith, common_steps)
+
+pub cells_within-requires : goal.cells_within-requires
+cells_within-requires c = grind (arith, common_steps)

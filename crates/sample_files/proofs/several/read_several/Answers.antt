@@ -1,3 +1,4 @@
+use Rattle.std.proofs.lemmas.Grind.{common_steps}
 use Rattle.std.proofs.Common.{suc, ◌+◌, [], ◌∷◌, length, arith, ap, subst, length-append}
 use Rattle.std.proofs.lemmas.Result.{err_from_is_err_and}
 use Rattle.shelf_core.proofs.FileLaws.{only_reads_then}
@@ -63,3 +64,6 @@ returns-in_err-read_next-clause-reads g c =
     let now = g.S.Shelf.state c.read_next.new.shelf in
     only_reads_then (g.S.Shelf.state c.args.shelf.now) mid now c.loop-i.invariant.reads
     (next_reads c.args.first.now c.args.more.now c.loop-i.i c.index-more-i.result c.as_text-in-loop-i.result.now c.loop-i-test.true c.index-more-i.is c.as_text-in-loop-i.ensures mid now c.read_next.ensures.reads)
+
+pub returns-clause-answer : goal.returns-clause-answer
+returns-clause-answer g c = grind (arith, common_steps)

@@ -1,3 +1,4 @@
+use Rattle.std.proofs.lemmas.Grind.{common_steps}
 use Rattle.std.proofs.Common.{◌<◌, ◌≤◌, ◌+◌, ◌*◌, ◌^◌, subst, sym, arith}
 use Rattle.match_error.specs.Errors.{error_sum}
 use Rattle.map_canvas.specs.Choices.{laid_from}
@@ -32,3 +33,9 @@ returns c = λ j lj marked.
     (c.requires.others.bound other.sample.now from (c.requires.other_laid j lj))) in
     joint_above scale.factor (block_bytes side one.sample.now.k) c.args.limit scale.most _ one.times _ _ _ other.times _ _ _ most (c.marks_of_terms.ensures j in_lanes marked) (omega arith)
     (c.totals-totals.ensures j lj) first (c.totals-more.ensures j lj) second
+
+pub totals-more-requires-clause-blocks : goal.totals-more-requires-clause-blocks
+totals-more-requires-clause-blocks c = grind (arith, common_steps)
+
+pub totals-totals-requires-clause-blocks : goal.totals-totals-requires-clause-blocks
+totals-totals-requires-clause-blocks c = grind (arith, common_steps)

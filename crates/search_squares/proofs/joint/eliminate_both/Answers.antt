@@ -1,3 +1,5 @@
+use Rattle.std.proofs.Common.{arith}
+use Rattle.std.proofs.lemmas.Grind.{common_steps}
 use Rattle.search_squares.specs.Terms.{both_sums}
 use Rattle.search_squares.proofs.joint.eliminate_both.Goals as goal
 
@@ -6,3 +8,6 @@ returns-in_default c = c.none.ensures (both_sums c.args.one.now c.args.other.now
 
 pub returns-then-n-eq0 : goal.returns-then-n-eq0
 returns-then-n-eq0 c = c.none-then-n-eq0.ensures (both_sums c.args.one.now c.args.other.now)
+
+pub returns : goal.returns
+returns c = grind (arith, common_steps)

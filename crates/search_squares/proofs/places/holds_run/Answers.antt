@@ -1,3 +1,4 @@
+use Rattle.std.proofs.lemmas.Grind.{common_steps}
 use Rattle.std.proofs.Common.{◌+◌, arith}
 use Rattle.std.proofs.lemmas.Int.{to_z-of_z}
 use Rattle.std.specs.Prelude.{◌-ℤ◌}
@@ -14,3 +15,6 @@ returns-clause-inside c = λ _.
     let y : AxisHolds outer.size.h (from.y -ℤ outer.corner.y) (inner.h + 0) = grind (arith, to_z-of_z, c.axis_holds-2.ensures c.if-not-axis_holds-2.false) in
     let f : AxisHolds outer.size.f (from.f -ℤ outer.corner.f) (inner.f + 0) = grind (arith, to_z-of_z, c.axis_holds-3.ensures c.if-not-axis_holds-3.false) in
     each_in outer inner from c.args.n c.saturating_sub.result (omega (arith, c.saturating_sub.ensures)) x y f
+
+pub returns-clause-some : goal.returns-clause-some
+returns-clause-some c = grind (arith, common_steps)

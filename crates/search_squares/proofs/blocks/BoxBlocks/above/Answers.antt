@@ -1,3 +1,4 @@
+use Rattle.std.proofs.lemmas.Grind.{common_steps}
 use Rattle.std.proofs.Common.{◌<◌, ◌+◌, ◌*◌, ◌^◌, subst, sym, arith}
 use Rattle.search_squares.specs.Blocks.{block_bytes}
 use Rattle.search_squares.proofs.PlaceRuns.{none_marked}
@@ -19,3 +20,6 @@ scale_of-requires-clause-few c =
 
 pub returns-in_default : goal.returns-in_default
 returns-in_default c = λ j _ marked. absurd (none_marked j marked)
+
+pub totals-totals-requires-clause-blocks : goal.totals-totals-requires-clause-blocks
+totals-totals-requires-clause-blocks c = grind (arith, common_steps)

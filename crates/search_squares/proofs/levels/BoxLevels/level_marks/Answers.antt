@@ -1,3 +1,5 @@
+use Rattle.std.proofs.Common.{arith}
+use Rattle.std.proofs.lemmas.Grind.{common_steps}
 use Rattle.search_squares.proofs.PlaceRuns.{none_marked}
 use Rattle.search_squares.proofs.levels.BoxLevels.level_marks.Goals as goal
 
@@ -6,3 +8,6 @@ returns-in_default c = λ j _ marked. absurd (none_marked j marked)
 
 pub returns-in_default-get : goal.returns-in_default-get
 returns-in_default-get c = λ j _ marked. absurd (none_marked j marked)
+
+pub marks_of-requires-clause-blocks : goal.marks_of-requires-clause-blocks
+marks_of-requires-clause-blocks c = grind (arith, common_steps)

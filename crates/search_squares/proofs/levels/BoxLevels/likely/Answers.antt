@@ -1,0 +1,6 @@
+use Rattle.std.proofs.Common.{arith}
+use Rattle.std.proofs.lemmas.Grind.{common_steps}
+use Rattle.search_squares.proofs.levels.BoxLevels.likely.Goals as goal
+
+pub nearest_in-requires-clause-blocks : goal.nearest_in-requires-clause-blocks
+nearest_in-requires-clause-blocks c = grind (arith, common_steps)

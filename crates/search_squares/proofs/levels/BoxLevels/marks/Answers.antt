@@ -1,0 +1,6 @@
+use Rattle.std.proofs.Common.{arith}
+use Rattle.std.proofs.lemmas.Grind.{common_steps}
+use Rattle.search_squares.proofs.levels.BoxLevels.marks.Goals as goal
+
+pub levels-preserved : goal.levels-preserved
+levels-preserved c = grind (arith, common_steps)

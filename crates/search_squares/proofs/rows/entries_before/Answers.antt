@@ -1,0 +1,12 @@
+use Rattle.std.proofs.Common.{arith}
+use Rattle.std.proofs.lemmas.Grind.{common_steps}
+use Rattle.search_squares.proofs.rows.entries_before.Goals as goal
+
+pub overflow_mul-result-2 : goal.overflow_mul-result-2
+overflow_mul-result-2 c = grind (arith, common_steps)
+
+pub overflow_cast-f : goal.overflow_cast-f
+overflow_cast-f c = grind (arith, common_steps)
+
+pub overflow_cast-y : goal.overflow_cast-y
+overflow_cast-y c = grind (arith, common_steps)

@@ -1,3 +1,4 @@
+use Rattle.std.proofs.lemmas.Grind.{common_steps}
 use Rattle.std.proofs.Common.{◌≡◌, ◌+◌, ◌-◌, ap, ◌∙◌, sym, arith, nat_eq, true, take, drop, get_or}
 use Rattle.std.specs.Cmp.Lexicographic.{pointwise}
 use Rattle.std.proofs.lemmas.Iterator.Adapters.{position_from-zero}
@@ -17,3 +18,15 @@ pub returns : goal.returns
 returns c =
     sym (find_end c.args.name.now c.loop-i.i c.args.spans.now _ c.loop-i-test.false)
     ∙ c.loop-i.invariant.found ∙ sym (position_from-zero (has_name c.args.name.now) (cut c.args.spans.now c.args.bytes.now))
+
+pub overflow_add-start-in-loop-i : goal.overflow_add-start-in-loop-i
+overflow_add-start-in-loop-i c = grind (arith, common_steps)
+
+pub overflow_add-start : goal.overflow_add-start
+overflow_add-start c = grind (arith, common_steps)
+
+pub loop-i-preserved : goal.loop-i-preserved
+loop-i-preserved c = grind (arith, common_steps)
+
+pub overflow_add-own : goal.overflow_add-own
+overflow_add-own c = grind (arith, common_steps)

@@ -1,3 +1,5 @@
+use Rattle.std.proofs.Common.{arith}
+use Rattle.std.proofs.lemmas.Grind.{common_steps}
 use Rattle.std.proofs.Common.{ℕ, List}
 use Rattle.std.proofs.lemmas.Result.{err_from_is_err_and}
 use Rattle.std.specs.Prelude.{Result, Ok, Err}
@@ -47,3 +49,6 @@ returns-clause-answer g c =
     (then_reads ⊥ name c.read_start.new.file.at (sizes_read v0.version) (λ (v1 : List Size). end v0 v1) (state c.read_start.new.shelf) (state c.read_samples.new.shelf) (state c.read_samples.new.shelf) c.read_samples.new.file c.read_samples.new.file v1 (Ok value)
     ok1.reads (only_reads_same (state c.read_samples.new.shelf)) ok1.answer
     (made ⊥ name (state c.read_samples.new.shelf) (state c.read_samples.new.shelf) c.read_samples.new.file value ok1.answer.follows))
+
+pub returns-clause-reads : goal.returns-clause-reads
+returns-clause-reads g c = grind (arith, common_steps)

@@ -1,3 +1,5 @@
+use Rattle.std.proofs.Common.{arith}
+use Rattle.std.proofs.lemmas.Grind.{common_steps}
 use Rattle.std.proofs.Common.{ℕ, List}
 use Rattle.std.proofs.lemmas.Result.{err_from_is_err_and}
 use Rattle.std.specs.Prelude.{Result, Ok, Err}
@@ -67,3 +69,6 @@ returns-clause-answer g c =
     (then_reads ⊥ name c.read_axis-2.new.file.at (number_read w32 axis_rule) (λ (v2 : ℕ). end v0 v1 v2) (state c.read_axis-2.new.shelf) (state c.read_axis-3.new.shelf) (state c.read_axis-3.new.shelf) c.read_axis-3.new.file c.read_axis-3.new.file v2 (Ok value)
     ok2.reads (only_reads_same (state c.read_axis-3.new.shelf)) ok2.answer
     (made ⊥ name (state c.read_axis-3.new.shelf) (state c.read_axis-3.new.shelf) c.read_axis-3.new.file value ok2.answer.follows)))
+
+pub returns-clause-reads : goal.returns-clause-reads
+returns-clause-reads g c = grind (arith, common_steps)

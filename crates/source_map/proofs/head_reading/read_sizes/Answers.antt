@@ -1,3 +1,4 @@
+use Rattle.std.proofs.lemmas.Grind.{common_steps}
 use Rattle.std.proofs.Common.{◌<◌, ◌+◌, [], ◌∷◌, length, subst, sym, ap, arith}
 use Rattle.std.proofs.lemmas.List.{length-append}
 use Rattle.std.proofs.lemmas.Result.{err_from_is_err_and}
@@ -44,3 +45,6 @@ loop-i-preserved g c =
       at = omega (arith, ok.place, so.at);
       reads = only_reads_then a b d so.reads ok.reads;
     }
+
+pub loop-i-init : goal.loop-i-init
+loop-i-init g c = grind (arith, common_steps)

@@ -1,3 +1,5 @@
+use Rattle.std.proofs.Common.{arith}
+use Rattle.std.proofs.lemmas.Grind.{common_steps}
 use Rattle.std.proofs.Common.{ℕ, List}
 use Rattle.std.proofs.lemmas.Result.{err_from_is_err_and}
 use Rattle.std.specs.Prelude.{Result, Ok, Err}
@@ -93,3 +95,9 @@ returns-clause-answer g c =
     (then_reads ⊥ name c.read_kind.new.file.at size_read (λ (v3 : Size). end v1 v2 v3) (state c.read_kind.new.shelf) (state c.read_size.new.shelf) (state c.read_size.new.shelf) c.read_size.new.file c.read_size.new.file v3 (Ok value)
     ok3.reads (only_reads_same (state c.read_size.new.shelf)) ok3.answer
     (made ⊥ name (state c.read_size.new.shelf) (state c.read_size.new.shelf) c.read_size.new.file value ok3.answer.follows))))
+
+pub returns-clause-reads : goal.returns-clause-reads
+returns-clause-reads g c = grind (arith, common_steps)
+
+pub returns-clause-place : goal.returns-clause-place
+returns-clause-place g c = grind (arith, common_steps)

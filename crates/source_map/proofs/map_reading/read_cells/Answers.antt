@@ -1,3 +1,5 @@
+use Rattle.std.proofs.Common.{arith}
+use Rattle.std.proofs.lemmas.Grind.{common_steps}
 use Rattle.std.proofs.Common.{ℕ, List}
 use Rattle.std.proofs.lemmas.Result.{err_from_is_err_and}
 use Rattle.std.specs.Prelude.{Result, Ok, Err}
@@ -62,3 +64,6 @@ returns-clause-lawful g c =
       writable_of c.in_ok-map.map c.in_ok-samples.samples c.args.version read.map before.samples
           (subst (λ (size : Size). cell_count size ≤ MOST_MAP_CELLS) (sym read.size) before.few) read.inside,
     )
+
+pub returns-clause-reads : goal.returns-clause-reads
+returns-clause-reads g c = grind (arith, common_steps)

@@ -1,3 +1,5 @@
+use Rattle.std.proofs.Common.{arith}
+use Rattle.std.proofs.lemmas.Grind.{common_steps}
 use Rattle.std.proofs.Common.{ℕ, List}
 use Rattle.std.proofs.lemmas.Result.{err_from_is_err_and}
 use Rattle.std.specs.Prelude.{Result, Ok, Err}
@@ -49,3 +51,6 @@ returns-clause-answer g c =
     (then_reads (Unit {0}) name c.read_sample.new.file.at (list_read (number_read w16 (below_rule v0.f)) c.args.size.f) (λ (v1 : List ℕ). end c.args.size v0 v1) (state c.read_sample.new.shelf) (state c.read_entries.new.shelf) (state c.read_entries.new.shelf) c.read_entries.new.file c.read_entries.new.file v1 (Ok value)
     ok1.reads (only_reads_same (state c.read_entries.new.shelf)) ok1.answer
     (made (Unit {0}) name (state c.read_entries.new.shelf) (state c.read_entries.new.shelf) c.read_entries.new.file value ok1.answer.follows))
+
+pub returns-clause-reads : goal.returns-clause-reads
+returns-clause-reads g c = grind (arith, common_steps)

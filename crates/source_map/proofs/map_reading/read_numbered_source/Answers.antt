@@ -1,3 +1,5 @@
+use Rattle.std.proofs.Common.{arith}
+use Rattle.std.proofs.lemmas.Grind.{common_steps}
 use Rattle.std.proofs.Common.{ℕ, List}
 use Rattle.std.proofs.lemmas.Result.{err_from_is_err_and}
 use Rattle.std.specs.Prelude.{Result, Ok, Err}
@@ -54,3 +56,12 @@ returns-clause-answer g c =
     (then_reads ⊥ name c.read_number.new.file.at (place_read (numbered_size c.args.samples.now v0)) (λ (v1 : At). end c.args.samples.now v0 v1) (state c.read_number.new.shelf) (state c.read_place_in.new.shelf) (state c.read_place_in.new.shelf) c.read_place_in.new.file c.read_place_in.new.file v1 (Ok value)
     ok1.reads (only_reads_same (state c.read_place_in.new.shelf)) ok1.answer
     (made ⊥ name (state c.read_place_in.new.shelf) (state c.read_place_in.new.shelf) c.read_place_in.new.file value ok1.answer.follows)))
+
+pub returns-clause-reads : goal.returns-clause-reads
+returns-clause-reads g c = grind (arith, common_steps)
+
+pub returns-clause-source : goal.returns-clause-source
+returns-clause-source g c = grind (arith, common_steps)
+
+pub returns-clause-inside : goal.returns-clause-inside
+returns-clause-inside g c = grind (arith, common_steps)

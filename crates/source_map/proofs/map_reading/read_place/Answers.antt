@@ -1,3 +1,5 @@
+use Rattle.std.proofs.Common.{arith}
+use Rattle.std.proofs.lemmas.Grind.{common_steps}
 use Rattle.std.proofs.Common.{ℕ, List}
 use Rattle.std.proofs.lemmas.Result.{err_from_is_err_and}
 use Rattle.std.specs.Prelude.{Result, Ok, Err}
@@ -78,3 +80,6 @@ pub returns-clause-inside : goal.returns-clause-inside
 returns-clause-inside g c =
     subst (IsInside c.args.size) (sym c.place_at.ensures) (spot_inside c.args.size c.in_ok-x.x c.in_ok-y.y c.in_ok-f.f
     (c.in_ok-x.ensures {u = tt}).below (c.in_ok-y.ensures {u = tt}).below (c.in_ok-f.ensures {u = tt}).below)
+
+pub returns-clause-reads : goal.returns-clause-reads
+returns-clause-reads g c = grind (arith, common_steps)

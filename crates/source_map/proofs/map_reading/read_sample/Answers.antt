@@ -1,3 +1,5 @@
+use Rattle.std.proofs.Common.{arith}
+use Rattle.std.proofs.lemmas.Grind.{common_steps}
 use Rattle.std.proofs.Common.{ℕ, List}
 use Rattle.std.proofs.lemmas.Result.{err_from_is_err_and}
 use Rattle.std.specs.Prelude.{Result, Ok, Err}
@@ -68,3 +70,6 @@ returns-clause-answer g c =
     (then_reads ⊥ name c.read_same-2.new.file.at (number_read w32 axis_rule) (λ (v2 : ℕ). end v0 v1 v2) (state c.read_same-2.new.shelf) (state c.read_axis.new.shelf) (state c.read_axis.new.shelf) c.read_axis.new.file c.read_axis.new.file v2 (Ok sample)
     ok2.reads (only_reads_same (state c.read_axis.new.shelf)) ok2.answer
     (made ⊥ name (state c.read_axis.new.shelf) (state c.read_axis.new.shelf) c.read_axis.new.file sample ok2.answer.follows)))
+
+pub returns-clause-reads : goal.returns-clause-reads
+returns-clause-reads g c = grind (arith, common_steps)

@@ -1,3 +1,5 @@
+use Rattle.std.proofs.Common.{arith}
+use Rattle.std.proofs.lemmas.Grind.{common_steps}
 use Rattle.strip_boundary.specs.Boundaries.{IsFirstLeast}
 use Rattle.strip_boundary.specs.Tables.{IsTracedFrom}
 use Rattle.strip_boundary.proofs.PathLaws.{stands_from_traced, first_least_from_traced}
@@ -21,3 +23,6 @@ returns-clause-stands c =
     stands_from_traced c.args.strip.now (record { path = c.from_vec.result; sums = c.from_vec-2.result })
     (rw c.from_vec-2.ensures c.in_ok-sums.ensures)
     (rw c.from_vec-2.ensures (traced c))
+
+pub returns-clause-tight : goal.returns-clause-tight
+returns-clause-tight c = grind (arith, common_steps)

@@ -1,3 +1,5 @@
+use Rattle.std.proofs.Common.{arith}
+use Rattle.std.proofs.lemmas.Grind.{common_steps}
 use Rattle.strip_boundary.proofs.PathLaws.{least_path}
 use Rattle.strip_boundary.proofs.check.check_boundary.Goals as goal
 
@@ -7,3 +9,12 @@ returns-clause-least c =
     (least_path c.args.strip.now c.as_slice-sums.result.now c.as_slice-path.result.now
     c.in_default.ensures c.in_default-first_bad_sum.ensures
     (c.has_least_cost.ensures.0 c.if-not-has_least_cost.false))
+
+pub returns-then-not-has_least_cost-clause-stands : goal.returns-then-not-has_least_cost-clause-stands
+returns-then-not-has_least_cost-clause-stands c = grind (arith, common_steps)
+
+pub returns-clause-stands : goal.returns-clause-stands
+returns-clause-stands c = grind (arith, common_steps)
+
+pub returns-then-not-has_least_cost-clause-broken : goal.returns-then-not-has_least_cost-clause-broken
+returns-then-not-has_least_cost-clause-broken c = grind (arith, common_steps)

@@ -1,3 +1,5 @@
+use Rattle.std.proofs.Common.{arith}
+use Rattle.std.proofs.lemmas.Grind.{common_steps}
 use Rattle.std.proofs.Common.{ℕ, ◌<◌, below_more}
 use Rattle.strip_boundary.specs.Records.{SumHolds}
 use Rattle.strip_boundary.proofs.check.first_bad_sum.Goals as goal
@@ -6,3 +8,6 @@ pub loop-row-preserved : goal.loop-row-preserved
 loop-row-preserved c =
     below_more (λ row. (col : ℕ) → col < c.args.strip.now.cols → SumHolds c.args.strip.now c.args.sums.now row col)
     _ c.loop-row.invariant c.in_default.ensures.none
+
+pub returns-in-Some : goal.returns-in-Some
+returns-in-Some c = grind (arith, common_steps)

@@ -1,3 +1,4 @@
+use Rattle.std.proofs.lemmas.Grind.{common_steps}
 use Rattle.strip_boundary.proofs.SumLaws.{more_tight, row_is_tight}
 use Rattle.std.proofs.Common.{◌≡◌, arith}
 use Rattle.strip_boundary.proofs.sums.add_row.Goals as goal
@@ -13,3 +14,6 @@ pub returns : goal.returns
 returns c =
     let whole : c.loop-col.col ≡ c.args.strip.now.cols = omega arith in
     row_is_tight c.args.strip.now c.loop-col.sums.items c.args.row (rw whole at c.loop-col.invariant)
+
+pub tight_sum-sum-requires-clause-above : goal.tight_sum-sum-requires-clause-above
+tight_sum-sum-requires-clause-above c = grind (arith, common_steps)

@@ -1,3 +1,4 @@
+use Rattle.std.proofs.lemmas.Grind.{common_steps}
 use Rattle.std.proofs.Common.{◌≡◌, ◌-◌, ◌+◌, ◌<◌, subst, arith}
 use Rattle.strip_boundary.specs.Strips.{at_cell}
 use Rattle.strip_boundary.specs.Tables.{IsFirstLeastNear, IsTracedFrom}
@@ -23,3 +24,6 @@ loop-row-preserved c =
     traced_more strip sums c.loop-row.path row near inner (subst (IsTracedFrom strip sums c.loop-row.path) same c.loop-row.invariant)
     (subst (λ below. IsFirstLeastNear (at_cell strip sums row) strip.cols below near) c.from-below.ensures
     (least_near strip sums c.row_of-in-loop-row.result.now row c.row_of-in-loop-row.ensures.cols c.row_of-in-loop-row.ensures.cells c.from-below.result near c.first_least_near.ensures))
+
+pub row_of-requires-in-loop-row : goal.row_of-requires-in-loop-row
+row_of-requires-in-loop-row c = grind (arith, common_steps)

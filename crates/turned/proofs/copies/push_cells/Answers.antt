@@ -1,3 +1,5 @@
+use Rattle.std.proofs.Common.{arith}
+use Rattle.std.proofs.lemmas.Grind.{common_steps}
 use Rattle.std.proofs.Common.{◌≡◌, ◌++◌, ◌∙◌, ap, sym, subst}
 use Rattle.std.proofs.lemmas.List.{append-nil, append_assoc}
 use Rattle.std.specs.List.{concat}
@@ -23,3 +25,6 @@ loop-x-preserved c =
     (c.in_ok-extend_from_slice.ensures {u = tt}).items ∙ (λ k. c.loop-x.invariant k ++ cell k)
     ∙ append_assoc c.args.bytes.now.items (concat (turned_row turn part c.args.y c.args.f x)) (turned_cell turn part (spot x c.args.y c.args.f))
     ∙ ap (λ xs. c.args.bytes.now.items ++ xs) (sym (row_more turn part c.args.y c.args.f x))
+
+pub returns : goal.returns
+returns c = grind (arith, common_steps)

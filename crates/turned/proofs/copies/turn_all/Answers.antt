@@ -1,3 +1,4 @@
+use Rattle.std.proofs.lemmas.Grind.{common_steps}
 use Rattle.std.proofs.Common.{◌≡◌, ◌∙◌, List, [], ◌∷◌, ap, arith, length, refl}
 use Rattle.cells.specs.declared.place.Size.{Size}
 use Rattle.cells.specs.Cells.{Cells}
@@ -26,3 +27,6 @@ returns c =
     ((c.in_ok-add_turns.ensures {u = tt}).parts
     ∙ ap (λ (v : Cells). with_parts v (turns_from (numbered_part samples 1) 1 7)) (c.in_ok-all.ensures {u = tt}).turned)
     ∙ turned_two samples count
+
+pub add_turns-requires-2-clause-room : goal.add_turns-requires-2-clause-room
+add_turns-requires-2-clause-room c = grind (arith, common_steps)

@@ -1,3 +1,5 @@
+use Rattle.std.proofs.Common.{arith}
+use Rattle.std.proofs.lemmas.Grind.{common_steps}
 use Rattle.std.proofs.Common.{◌/◌, ◌%◌, ◌++◌, ◌∙◌, ap, sym}
 use Rattle.std.specs.List.{concat}
 use Rattle.cells.proofs.Raster.{below_of_div}
@@ -18,3 +20,9 @@ loop-row-preserved c =
     c.in_ok-push_row.ensures {u = tt}
     ∙ ap (λ xs. xs ++ concat (turned_row turn part (row % size.h) (row / size.h) size.w)) c.loop-row.invariant
     ∙ sym (rows_more (turned_cell turn part) size row c.requires.small.axes.h.0 c.loop-row-test.true)
+
+pub returns : goal.returns
+returns c = grind (arith, common_steps)
+
+pub overflow_mul-row-end : goal.overflow_mul-row-end
+overflow_mul-row-end c = grind (arith, common_steps)

@@ -1,3 +1,4 @@
+use Rattle.std.proofs.lemmas.Grind.{common_steps}
 use Rattle.std.proofs.Common.{to_z, of_z, ◌≡◌, ◌∙◌, ap, arith, subst, sym}
 use Rattle.std.proofs.lemmas.Int.{ints}
 use Rattle.std.specs.Int.{w32}
@@ -68,3 +69,18 @@ pub returns-in_default-clause-inside : goal.returns-in_default-clause-inside
 returns-in_default-clause-inside c =
     let none : c.args.quarters ≡ 0 = omega arith in
     subst (λ n. IsInside (quarters_size n c.args.size) c.args.at) (sym none) c.requires.inside
+
+pub from_end-requires-in-2-2-clause-to : goal.from_end-requires-in-2-2-clause-to
+from_end-requires-in-2-2-clause-to c = grind (arith, common_steps)
+
+pub from_end-requires-clause-to : goal.from_end-requires-clause-to
+from_end-requires-clause-to c = grind (arith, common_steps)
+
+pub from_end-requires-in-3-clause-to : goal.from_end-requires-in-3-clause-to
+from_end-requires-in-3-clause-to c = grind (arith, common_steps)
+
+pub from_end-requires-in-2-clause-to : goal.from_end-requires-in-2-clause-to
+from_end-requires-in-2-clause-to c = grind (arith, common_steps)
+
+pub from_end-requires-in-2-2-clause-from : goal.from_end-requires-in-2-2-clause-from
+from_end-requires-in-2-2-clause-from c = grind (arith, common_steps)

@@ -1,3 +1,4 @@
+use Rattle.std.proofs.lemmas.Grind.{common_steps}
 use Rattle.std.proofs.Common.{◌≡◌, ◌-◌, length, take, drop, arith, subst}
 use Rattle.std.proofs.lemmas.List.{take_all, length-drop}
 use Rattle.y4m_clip.specs.Frames.{IsFirstEnd}
@@ -17,3 +18,12 @@ returns-in-Some-clause-scanned c =
       omega (arith, end.inside, length-drop 6 c.args.text.now),
       line_words c.args.text.now c.in-Some.i (with_byte c.args.text.now c.matched-n.result c.matched-n.ensures c.if-n-lt5.false (omega (arith, c.matched-n.ensures.inside, c.if-n-lt5.false))) c.in-32.is end,
     )
+
+pub returns-in-None-clause-scanned : goal.returns-in-None-clause-scanned
+returns-in-None-clause-scanned c = grind (arith, common_steps)
+
+pub returns-then-text-eq5-clause-scanned : goal.returns-then-text-eq5-clause-scanned
+returns-then-text-eq5-clause-scanned c = grind (arith, common_steps)
+
+pub returns-in-10-clause-scanned : goal.returns-in-10-clause-scanned
+returns-in-10-clause-scanned c = grind (arith, common_steps)

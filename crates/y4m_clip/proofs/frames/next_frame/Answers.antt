@@ -1,3 +1,4 @@
+use Rattle.std.proofs.lemmas.Grind.{common_steps}
 use Rattle.std.proofs.Common.{◌≡◌, ◌≤◌, ◌+◌, length, sym, subst, arith}
 use Rattle.std.specs.Prelude.{IfOk, IfSome}
 use Rattle.std.proofs.lemmas.List.{with_items_is}
@@ -22,3 +23,6 @@ pub returns-clause-next : goal.returns-clause-next
 returns-clause-next g c =
     let items = with_items_is c.args.planes.now c.read_frame.new.planes (omega arith) in
     subst (λ planes. IfOk c.read_frame.result (λ found. IfSome found (λ next. next ≤ c.args.at + MOST_LINE_BYTES + length planes))) (sym items) c.read_frame.ensures.next
+
+pub returns-clause-planes : goal.returns-clause-planes
+returns-clause-planes g c = grind (arith, common_steps)

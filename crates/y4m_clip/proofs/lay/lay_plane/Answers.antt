@@ -1,3 +1,4 @@
+use Rattle.std.proofs.lemmas.Grind.{common_steps}
 use Rattle.std.proofs.Common.{◌≡◌, ℕ, ◌+◌, ◌*◌, ◌<◌, List, sym, ap, ◌∙◌, subst, arith, pos, to_z, w32}
 use Rattle.std.proofs.lemmas.Int.{ints}
 use Rattle.cells.specs.declared.place.Size.{Size}
@@ -42,3 +43,9 @@ loop-y-preserved c =
           (laid_same _ (part y) c.loop-y.planes c.lay_rows-next.new.planes c.loop-y.next c.lay_rows-next.result laid c.lay_rows-next.ensures);
       place = omega (arith, whole, c.lay_rows-next.ensures.place, c.loop-y.invariant.place, length-rows row c.samples-k.result a.start a.count a.rows c.size-size.result.w (c.row-row.ensures.len ∙ (λ i. sym k i * c.size-size.result.w)) (omega arith), row_size);
     }
+
+pub row-row-requires : goal.row-row-requires
+row-row-requires c = grind (arith, common_steps)
+
+pub lay_rows-next-requires-clause-row : goal.lay_rows-next-requires-clause-row
+lay_rows-next-requires-clause-row c = grind (arith, common_steps)

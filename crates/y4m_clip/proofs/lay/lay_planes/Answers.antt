@@ -1,3 +1,4 @@
+use Rattle.std.proofs.lemmas.Grind.{common_steps}
 use Rattle.std.proofs.Common.{◌≡◌, ◌*◌, sym, ap, ◌∙◌, arith}
 use Rattle.y4m_clip.specs.declared.form.SpaceKind.{SpaceKind}
 use Rattle.y4m_clip.specs.Spaces.{cell_width, cell_height, samples_of}
@@ -58,3 +59,15 @@ returns-in_default c =
     planes_laid c.args.space c.args.volume.now c.args.f c.cell_width-width.result c.cell_height-height.result c.args.planes.now c.lay_plane-luma.new.planes c.lay_plane-blue.new.planes c.lay_plane.new.planes
     c.lay_plane-luma.result c.lay_plane-blue.result c.lay_plane.result c.cell_width-width.ensures c.cell_height-height.ensures c.in_default.not-Mono c.requires.room
     c.lay_plane-luma.ensures.lays c.lay_plane-luma.ensures.place c.lay_plane-blue.ensures.lays c.lay_plane-blue.ensures.place c.lay_plane.ensures.lays c.lay_plane.ensures.place
+
+pub lay_plane-luma-requires-clause-room : goal.lay_plane-luma-requires-clause-room
+lay_plane-luma-requires-clause-room c = grind (arith, common_steps)
+
+pub overflow_mul-width-in_default : goal.overflow_mul-width-in_default
+overflow_mul-width-in_default c = grind (arith, common_steps)
+
+pub overflow_add-width : goal.overflow_add-width
+overflow_add-width c = grind (arith, common_steps)
+
+pub overflow_mul-width : goal.overflow_mul-width
+overflow_mul-width c = grind (arith, common_steps)

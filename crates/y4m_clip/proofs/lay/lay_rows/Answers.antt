@@ -1,3 +1,4 @@
+use Rattle.std.proofs.lemmas.Grind.{common_steps}
 use Rattle.std.proofs.Common.{◌≡◌, ℕ, ◌+◌, ◌*◌, ◌≤◌, arith}
 use Rattle.y4m_clip.specs.Laying.{run_samples}
 use Rattle.y4m_clip.proofs.Laying.{in_runs, laid_more, length-run_samples}
@@ -13,3 +14,6 @@ loop-j-preserved c =
       lays = laid_more j (λ (i : ℕ). run_samples a.row.now a.k (a.start + a.count * i) a.count a.w) a.planes.now c.loop-j.planes c.lay_samples-next.new.planes a.at c.loop-j.next c.lay_samples-next.result c.loop-j.invariant.lays c.lay_samples-next.ensures;
       place = omega (arith, more, c.lay_samples-next.ensures.place, c.loop-j.invariant.place, length-run_samples a.row.now a.k (a.start + a.count * j) a.count a.w c.requires.row inside);
     }
+
+pub overflow_mul-count : goal.overflow_mul-count
+overflow_mul-count c = grind (arith, common_steps)

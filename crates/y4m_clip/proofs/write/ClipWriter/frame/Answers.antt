@@ -1,3 +1,4 @@
+use Rattle.std.proofs.lemmas.Grind.{common_steps}
 use Rattle.std.proofs.Common.{ap, ◌∙◌, arith}
 use Rattle.std.proofs.lemmas.List.{take_at}
 use Rattle.std.specs.Prelude.{codes}
@@ -20,3 +21,15 @@ pub returns-clause-ok : goal.returns-clause-ok
 returns-clause-ok g c =
     both_added c.args.name.now (codes "FRAME\n") c.deref.result.now (planes_of c.args.self.now.kind c.args.from.now c.args.f) (g.S.Shelf.state c.args.shelf.now) (g.S.Shelf.state c.add.new.self) (g.S.Shelf.state c.add-2.new.self)
     (c.deref.ensures.value ∙ take_at c.lay_planes.new.planes _ c.self.inside.planes.len (omega arith) ∙ c.lay_planes.ensures ∙ ap (λ (w : Writer). planes_of w.kind c.args.from.now c.args.f) c.self.view_is) c.in_ok-add.ensures.added c.in_ok-add-2.ensures.added
+
+pub invariant_of-self : goal.invariant_of-self
+invariant_of-self g c = grind (arith, common_steps)
+
+pub invariant_of-self-in_err-add-2 : goal.invariant_of-self-in_err-add-2
+invariant_of-self-in_err-add-2 g c = grind (arith, common_steps)
+
+pub invariant_of-self-2 : goal.invariant_of-self-2
+invariant_of-self-2 g c = grind (arith, common_steps)
+
+pub returns-clause-writes : goal.returns-clause-writes
+returns-clause-writes g c = grind (arith, common_steps)

@@ -1,3 +1,5 @@
+use Rattle.std.proofs.Common.{arith}
+use Rattle.std.proofs.lemmas.Grind.{common_steps}
 use Rattle.std.proofs.Common.{ap, ◌∙◌}
 use Rattle.y4m_clip.specs.Writing.{Writer}
 use Rattle.y4m_clip.proofs.Writes.{begun_with, begun_with_part, on_err}
@@ -13,3 +15,6 @@ pub returns-clause-ok : goal.returns-clause-ok
 returns-clause-ok g c =
     begun_with c.args.name.now c.deref.result.now c.args.self.now.line (g.S.Shelf.state c.args.shelf.now) (g.S.Shelf.state c.begin.new.self) (g.S.Shelf.state c.add.new.self)
     (c.deref.ensures.value ∙ ap (λ (w : Writer). w.line) c.self.view_is) c.in_ok-begin.ensures.begun c.in_ok-add.ensures.added
+
+pub returns-clause-writes : goal.returns-clause-writes
+returns-clause-writes g c = grind (arith, common_steps)

@@ -34,14 +34,14 @@ moved lead part g x y f =
     cond (is_moved lead part x y f) (g (x + 1 - lead.w) (y + 1 - lead.h) (f + 1 - lead.f)) 0
 
 -- a padded axis of w cells holds a box of b cells, and a part of s cells after its lead
-pub record HoldsAlong (w b lead s : ℕ) : Type 0 where
+pub record HoldsOnAxis (w b lead s : ℕ) : Type 0 where
   pub box : b ≤ w
   pub part : lead + s ≤ w + 1
 
 pub record HoldsBoth (pad box lead part : Size) : Type 0 where
-  pub on_x : HoldsAlong pad.w box.w lead.w part.w
-  pub on_y : HoldsAlong pad.h box.h lead.h part.h
-  pub on_f : HoldsAlong pad.f box.f lead.f part.f
+  pub on_x : HoldsOnAxis pad.w box.w lead.w part.w
+  pub on_y : HoldsOnAxis pad.h box.h lead.h part.h
+  pub on_f : HoldsOnAxis pad.f box.f lead.f part.f
 
 -- at an offset of three counts, the cells of the box that go past the end of a padded axis come to those
 -- before the part: they meet none of its cells

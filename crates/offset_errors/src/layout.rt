@@ -2,7 +2,7 @@
 ghost use Rattle.std.specs.Prelude.{◌≡◌, ◌≤◌, ◌+◌, ◌*◌, IfSome};
 ghost use Rattle.cells.specs.Places.{HasAxes, raster_index};
 ghost use Rattle.offset_errors.specs.Errors.{IsEnough, IsPadded};
-ghost use Rattle.offset_errors.specs.Padded.{HoldsAlong, HoldsBoth};
+ghost use Rattle.offset_errors.specs.Padded.{HoldsBoth, HoldsOnAxis};
 
 use cells::Size;
 use cyclic_products::MOST_LEVELS;
@@ -41,7 +41,7 @@ fn padded_along(b: u32, lead: u32, s: u32, span: u32) -> u32
     requires b { (1 ≤ b) × (b ≤ GREATEST_AXIS) }
     requires s { (1 ≤ s) × (s ≤ GREATEST_AXIS) }
     requires lead { (1 ≤ lead) × (lead ≤ b) }
-    ensures holds { HoldsAlong result b lead s }
+    ensures holds { HoldsOnAxis result b lead s }
     ensures small { (1 ≤ result) × (result ≤ 2 * GREATEST_AXIS) }
 {
     let apart = (b - lead).saturating_add(span).min(b + s - 1);

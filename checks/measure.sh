@@ -1,6 +1,6 @@
 #!/bin/sh
-# Prints the user time and the peak memory of the program, of `cp` of the same bytes, and for reading and transfers
-# also of plain C programs. Each line is the mean user time of 20 runs, of 3 for the textures and of one for the
+# Prints the user time and the peak memory of the program, of `cp` of the same bytes, and for reading, textures and
+# transfers also of plain C programs. Each line is the mean user time of 20 runs, of 3 for the textures and of one for the
 # transfers, and the most memory that one of them took.
 #
 #   checks/measure.sh
@@ -43,19 +43,22 @@ measure 'read 4096x2048' 4 "$weave" grow sample=great.ppm out=out.ppm map=out.ma
 measure 'plain C, reads and checks' 0 ./plain_read great.ppm
 measure 'cp of the bytes read' 0 cp great.ppm copy
 
-# texture NAME WORD..: grows from the pebbles.
+# texture NAME MODE WIDTH HEIGHT ROUNDS: grows from the pebbles. The plain program searches and cuts in the same way;
+# its files have to be those of weave.
+cc -O3 -march=native -o plain_grow "$top/checks/plain_grow.c"
 runs=3
 texture() {
-    name=$1
-    shift
-    measure "$name" 0 "$weave" grow sample="$top/examples/pebbles.ppm" out=out.ppm map=out.map \
-        record=out.record "$@"
+    measure "$1" 0 "$weave" grow sample="$top/examples/pebbles.ppm" out=out.ppm map=out.map \
+        record=out.record place="$2" width="$3" height="$4" rounds="$5"
+    set -- "$2" "$top/examples/pebbles.ppm" plain.ppm plain.map plain.record "$3" "$4" 32 8 10 0 "$5"
+    measure '  plain C' 0 ./plain_grow "$@"
+    for kind in ppm map record; do cmp out.$kind plain.$kind; done
 }
-texture 'sub, 512x512' width=512 height=512 place=sub
-texture 'whole, 512x512' width=512 height=512 place=whole
-texture 'random, 1024x1024' width=1024 height=1024 place=random
-texture 'grid, 1024x1024' width=1024 height=1024 place=grid
-texture 'sub, 256x256, 200 rounds' width=256 height=256 place=sub rounds=200
+texture 'sub, 512x512' sub 512 512 0
+texture 'whole, 512x512' whole 512 512 0
+texture 'random, 1024x1024' random 1024 1024 0
+texture 'grid, 1024x1024' grid 1024 1024 0
+texture 'sub, 256x256, 200 rounds' sub 256 256 200
 
 # Two such pictures are merged. The first 8 rows come from one of them, and the last 8 from the other.
 for seed in 1 2; do

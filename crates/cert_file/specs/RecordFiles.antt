@@ -150,6 +150,11 @@ abbrev pub AreVersionOneCuts : RecordFile → Type 0
 AreVersionOneCuts (Cuts head cuts) = head.version ≡ One
 AreVersionOneCuts file = ⊥
 
+-- it is the file of a walk
+abbrev pub IsWalkFile : RecordFile → Type 0
+IsWalkFile (Walk head taps gap walk tables) = Unit {0}
+IsWalkFile file = ⊥
+
 -- the bytes are in their form and within the limits, and stand for the value
 abbrev pub IsRecordFileOf : List ℕ → RecordFile → Type 0
 IsRecordFileOf bytes file = record_file_read bytes ≡ Ok file

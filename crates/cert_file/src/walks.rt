@@ -6,7 +6,7 @@ ghost use Rattle.file_bytes.specs.Reading.{Follows};
 ghost use Rattle.file_bytes.specs.Writing.{Puts};
 ghost use Rattle.loop_walk.specs.Tables.{IsLength, table_count};
 ghost use Rattle.source_map.specs.Heads.{IsHead};
-ghost use Rattle.cert_file.specs.RecordFiles.{IsRecordFile, IsRecordFileOf, ReadsToEnd, walk_file_form};
+ghost use Rattle.cert_file.specs.RecordFiles.{IsRecordFile, IsRecordFileOf, IsWalkFile, ReadsToEnd, walk_file_form};
 ghost use Rattle.cert_file.specs.WalkForms.{AreWide, IsHeadOfVersionOne, IsWalkInForm, frames_of, taps_number, walk_form, walk_start_form};
 ghost use Rattle.cert_file.specs.WalkReading.{walk_file_read};
 ghost use Rattle.cert_file.specs.declared.file.RecordFile.TheVariants.{Walk};
@@ -134,6 +134,7 @@ pub fn read_walk_file<S: Shelf>(
     ensures answer { ReadsToEnd (Unit {0}) name.now file.old.at (S.state shelf.old)
         (S.state shelf.new) (walk_file_read head) result }
     ensures form { IfOk result IsRecordFile }
+    ensures walk { IfOk result IsWalkFile }
     ensures reads { OnlyReadsFile name.now (S.state shelf.old) (S.state shelf.new) }
 {
     let n = sample_frames(&head);

@@ -1,3 +1,4 @@
+use Rattle.std.proofs.lemmas.Grind.{common_steps}
 use Rattle.std.proofs.Common.{◌≡◌, ◌<◌, ◌^◌, length, sym, subst, arith}
 use Rattle.std.specs.Prelude.{All}
 use Rattle.std.proofs.lemmas.Result.{err_from_is_err_and}
@@ -26,3 +27,6 @@ pub returns-clause-place : goal.returns-clause-place
 returns-clause-place g c =
     let ok = c.in_ok-numbers.ensures {u = tt} in
     omega (arith, ok.took.at_is, ok.count, long_16 c.in_ok-numbers.numbers.items)
+
+pub returns-clause-count : goal.returns-clause-count
+returns-clause-count g c = grind (arith, common_steps)

@@ -1,3 +1,4 @@
+use Rattle.std.proofs.lemmas.Grind.{common_steps}
 use Rattle.std.proofs.Common.{◌∙◌, ap, arith}
 use Rattle.std.proofs.lemmas.Result.{err_from_is_err_and}
 use Rattle.std.specs.Int.{w16}
@@ -16,3 +17,6 @@ pub returns-clause-answer : goal.returns-clause-answer
 returns-clause-answer g c =
     number_16 ⊥ c.args.name.now gap_rule c.args.file.now.at c.in_ok-n.n (g.S.Shelf.state c.args.shelf.now) (g.S.Shelf.state c.number.new.shelf) c.number.new.self c.lawful_gap.result
     (omega arith) (c.lawful_gap.ensures.gap ∙ ap (λ at. gap_rule at c.in_ok-n.n) c.place-at.ensures) c.lawful_gap.ensures.refusal (c.in_ok-n.ensures {u = tt}).took
+
+pub returns-clause-place : goal.returns-clause-place
+returns-clause-place g c = grind (arith, common_steps)

@@ -1,3 +1,4 @@
+use Rattle.std.proofs.lemmas.Grind.{common_steps}
 use Rattle.std.proofs.Common.{◌∙◌, ap, arith}
 use Rattle.std.proofs.lemmas.Result.{err_from_is_err_and}
 use Rattle.std.specs.Int.{w32}
@@ -16,3 +17,6 @@ pub returns-clause-answer : goal.returns-clause-answer
 returns-clause-answer g c =
     number_32 ⊥ c.args.name.now length_rule c.args.file.now.at c.in_ok-n.n (g.S.Shelf.state c.args.shelf.now) (g.S.Shelf.state c.number.new.shelf) c.number.new.self c.lawful_length.result
     (omega arith) (c.lawful_length.ensures.len ∙ ap (λ at. length_rule at c.in_ok-n.n) c.place-at.ensures) c.lawful_length.ensures.refusal (c.in_ok-n.ensures {u = tt}).took
+
+pub returns-clause-place : goal.returns-clause-place
+returns-clause-place g c = grind (arith, common_steps)

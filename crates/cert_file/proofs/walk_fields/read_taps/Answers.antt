@@ -1,3 +1,5 @@
+use Rattle.std.proofs.Common.{arith}
+use Rattle.std.proofs.lemmas.Grind.{common_steps}
 use Rattle.std.proofs.Common.{◌∙◌, ap}
 use Rattle.std.proofs.lemmas.Result.{err_from_is_err_and}
 use Rattle.std.specs.Int.{w8}
@@ -16,3 +18,6 @@ pub returns-clause-answer : goal.returns-clause-answer
 returns-clause-answer g c =
     number_8 ⊥ c.args.name.now taps_rule c.args.file.now.at c.in_ok-n.n (g.S.Shelf.state c.args.shelf.now) (g.S.Shelf.state c.u8.new.shelf) c.u8.new.self c.lawful_taps.result
     (c.lawful_taps.ensures.taps ∙ ap (λ at. taps_rule at c.in_ok-n.n) c.place-at.ensures) c.lawful_taps.ensures.refusal (c.in_ok-n.ensures {u = tt}).took
+
+pub returns-clause-place : goal.returns-clause-place
+returns-clause-place g c = grind (arith, common_steps)

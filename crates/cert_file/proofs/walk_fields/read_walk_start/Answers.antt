@@ -1,3 +1,5 @@
+use Rattle.std.proofs.Common.{arith}
+use Rattle.std.proofs.lemmas.Grind.{common_steps}
 use Rattle.std.proofs.Common.{ℕ, List}
 use Rattle.std.proofs.lemmas.Result.{err_from_is_err_and}
 use Rattle.std.specs.Prelude.{Result, Ok, Err}
@@ -68,3 +70,12 @@ returns-clause-answer g c =
     (then_reads ⊥ name c.read_taps.new.file.at (number_read w16 gap_rule) (λ (v2 : ℕ). end v0 v1 v2) (state c.read_taps.new.shelf) (state c.read_gap.new.shelf) (state c.read_gap.new.shelf) c.read_gap.new.file c.read_gap.new.file v2 (Ok value)
     ok2.reads (only_reads_same (state c.read_gap.new.shelf)) ok2.answer
     (made ⊥ name (state c.read_gap.new.shelf) (state c.read_gap.new.shelf) c.read_gap.new.file value ok2.answer.follows)))
+
+pub returns-clause-reads : goal.returns-clause-reads
+returns-clause-reads g c = grind (arith, common_steps)
+
+pub returns-in_err-gap-clause-reads : goal.returns-in_err-gap-clause-reads
+returns-in_err-gap-clause-reads g c = grind (arith, common_steps)
+
+pub returns-in_err-taps-clause-reads : goal.returns-in_err-taps-clause-reads
+returns-in_err-taps-clause-reads g c = grind (arith, common_steps)

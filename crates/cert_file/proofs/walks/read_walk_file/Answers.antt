@@ -1,3 +1,5 @@
+use Rattle.std.proofs.Common.{arith}
+use Rattle.std.proofs.lemmas.Grind.{common_steps}
 use Rattle.std.proofs.Common.{ℕ, List, ◌*◌, subst}
 use Rattle.std.proofs.lemmas.Result.{err_from_is_err_and}
 use Rattle.std.specs.Int.{w16, w64}
@@ -140,3 +142,21 @@ returns-clause-answer g c =
     (then_to_end (Unit {0}) name c.read_list_16.new.file.at (list_read (number_read w64 any_rule) (table_count v1.length * (n * n))) (λ (v3 : List ℕ). value_at_end (Walk c.args.head v1.taps v1.gap v2 v3)) (state c.read_list_16.new.shelf) (state c.read_list_64.new.shelf) (state c.end.new.shelf) c.read_list_64.new.file v3 (Ok value)
     ok3.reads ok4.reads (subst (λ m. ReadsFrom (Unit {0}) name c.read_list_16.new.file.at (state c.read_list_16.new.shelf) (state c.read_list_64.new.shelf) c.read_list_64.new.file (list_read (number_read w64 any_rule) m) (Ok v3)) c.entry_count.ensures.count ok3.answer)
     (ends (Unit {0}) name c.read_list_64.new.file.at (state c.read_list_64.new.shelf) (state c.end.new.shelf) value ok4.stops)))))
+
+pub returns-clause-form : goal.returns-clause-form
+returns-clause-form g c = grind (arith, common_steps)
+
+pub returns-clause-reads : goal.returns-clause-reads
+returns-clause-reads g c = grind (arith, common_steps)
+
+pub returns-in_err-end-clause-reads : goal.returns-in_err-end-clause-reads
+returns-in_err-end-clause-reads g c = grind (arith, common_steps)
+
+pub returns-in_err-tables-clause-reads : goal.returns-in_err-tables-clause-reads
+returns-in_err-tables-clause-reads g c = grind (arith, common_steps)
+
+pub returns-in_err-walk-clause-reads : goal.returns-in_err-walk-clause-reads
+returns-in_err-walk-clause-reads g c = grind (arith, common_steps)
+
+pub end-requires : goal.end-requires
+end-requires g c = grind (arith, common_steps)

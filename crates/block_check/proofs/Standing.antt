@@ -9,8 +9,10 @@ use Rattle.block_strips.specs.declared.side.Side.{Side}
 use Rattle.block_strips.specs.declared.side.Side.TheVariants.{Left, Top}
 use Rattle.block_check.specs.declared.block.BlockRecord.{BlockRecord}
 use Rattle.block_check.specs.declared.check.BlockError.{BlockError}
+use Rattle.block_check.specs.declared.check.BlockError.TheVariants.{Fault, NoMemory}
 use Rattle.block_check.specs.Blocks.{strip_on}
-use Rattle.block_check.specs.Records.{BlockIsLeast, Checks, JoinIsLeast, JoinStands, StandingBlockIsLeast}
+use Rattle.block_check.specs.Records.{BlockIsLeast, Checks, ChecksJoin, JoinIsLeast, JoinStands, StandingBlockIsLeast}
+use Rattle.block_check.specs.Steps.{ChecksStrip}
 
 pub join_least : (side : Side) (m : SourceMap) (sample : Cells) (placement : Placement) (boundary : Option BoundaryRecord) → JoinStands side m sample placement boundary → JoinIsLeast side m sample placement boundary
 join_least side m sample placement None stands = tt
@@ -25,3 +27,9 @@ standing_is_least m sample block stands = record {
 pub checked_is_least : (m : SourceMap) (sample : Cells) (block : BlockRecord) (answer : Result (Unit {0}) BlockError) → Checks m sample block answer → OnOk answer (BlockIsLeast m sample block)
 checked_is_least m sample block (Ok _) stands = standing_is_least m sample block stands
 checked_is_least m sample block (Err e) checks = tt
+
+-- the check of a boundary is that of its side
+pub join_checked : (side : Side) (m : SourceMap) (sample : Cells) (placement : Placement) (it : BoundaryRecord) (answer : Result (Unit {0}) BlockError) → ChecksStrip (strip_on side m sample placement (Some it)) it answer → ChecksJoin side m sample placement (Some it) answer
+join_checked side m sample placement it (Ok _) checks = checks
+join_checked side m sample placement it (Err (Fault fault)) checks = checks
+join_checked side m sample placement it (Err NoMemory) checks = tt

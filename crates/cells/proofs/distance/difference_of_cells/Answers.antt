@@ -7,3 +7,6 @@ returns-in-len3-len3 c = grind (arith, common_steps)
 
 pub returns-in-len1-len1 : goal.returns-in-len1-len1
 returns-in-len1-len1 c = grind (arith, common_steps)
+
+pub overflow_add-result-in-len3-len3 : goal.overflow_add-result-in-len3-len3
+overflow_add-result-in-len3-len3 c = grind (arith, common_steps)

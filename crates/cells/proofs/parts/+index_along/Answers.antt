@@ -1,6 +1,6 @@
 use Rattle.std.proofs.lemmas.Grind.{common_steps}
-use Rattle.std.proofs.Common.{◌≡◌, ◌<◌, sym, arith}
-use Rattle.std.proofs.lemmas.Int.{ints, to_z-of_z}
+use Rattle.std.proofs.Common.{sym, arith}
+use Rattle.std.proofs.lemmas.Int.{to_z-of_z}
 use Rattle.cells.proofs.PartLaws.{small_of, index_front, index_from_below, none_before}
 use Rattle.cells.proofs.parts.+index_along.Goals as goal
 
@@ -28,3 +28,12 @@ cells-requires t c = grind (arith, common_steps)
 
 pub returns-in_err-next-clause-index : goal.returns-in_err-next-clause-index
 returns-in_err-next-clause-index t c = grind (arith, common_steps)
+
+pub past-requires-clause-from : goal.past-requires-clause-from
+past-requires-clause-from t c = grind (arith, common_steps)
+
+pub index_along-requires : goal.index_along-requires
+index_along-requires t c = grind (arith, common_steps)
+
+pub returns-in_err-i-clause-below : goal.returns-in_err-i-clause-below
+returns-in_err-i-clause-below t c = grind (arith, common_steps)

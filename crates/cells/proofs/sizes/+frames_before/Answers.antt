@@ -4,3 +4,6 @@ use Rattle.cells.proofs.sizes.+frames_before.Goals as goal
 
 pub returns-clause-frames : goal.returns-clause-frames
 returns-clause-frames t c = grind (arith, common_steps)
+
+pub frames_before-requires : goal.frames_before-requires
+frames_before-requires t c = grind (arith, common_steps)

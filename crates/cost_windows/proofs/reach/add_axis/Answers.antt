@@ -24,3 +24,6 @@ returns-then-has_cells-clause-small c = grind (arith, common_steps)
 
 pub returns-then-has_cells-clause-put : goal.returns-then-has_cells-clause-put
 returns-then-has_cells-clause-put c = grind (arith, common_steps)
+
+pub returns-then-has_cells-clause-others : goal.returns-then-has_cells-clause-others
+returns-then-has_cells-clause-others c = grind (arith, common_steps)

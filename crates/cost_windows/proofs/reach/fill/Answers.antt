@@ -27,3 +27,12 @@ returns-clause-small c = grind (arith, common_steps)
 
 pub fill_row-requires-clause-counts : goal.fill_row-requires-clause-counts
 fill_row-requires-clause-counts c = grind (arith, common_steps)
+
+pub nonzero_div-f : goal.nonzero_div-f
+nonzero_div-f c = grind (arith, common_steps)
+
+pub nonzero_rem-y : goal.nonzero_rem-y
+nonzero_rem-y c = grind (arith, common_steps)
+
+pub offset_bounds-costs-start : goal.offset_bounds-costs-start
+offset_bounds-costs-start c = grind (arith, common_steps)

@@ -42,3 +42,12 @@ put_rows-requires-clause-reach c = grind (arith, common_steps)
 
 pub corners-requires-clause-small : goal.corners-requires-clause-small
 corners-requires-clause-small c = grind (arith, common_steps)
+
+pub slice_bounds-costs-end-2 : goal.slice_bounds-costs-end-2
+slice_bounds-costs-end-2 c = grind (arith, common_steps)
+
+pub slice_bounds-costs-end : goal.slice_bounds-costs-end
+slice_bounds-costs-end c = grind (arith, common_steps)
+
+pub cells-requires : goal.cells-requires
+cells-requires c = grind (arith, common_steps)

@@ -18,3 +18,15 @@ returns-clause-sums c =
 
 pub sum_boxes-requires-clause-count : goal.sum_boxes-requires-clause-count
 sum_boxes-requires-clause-count c = grind (arith, common_steps)
+
+pub sum_boxes-requires-clause-small : goal.sum_boxes-requires-clause-small
+sum_boxes-requires-clause-small c = grind (arith, common_steps)
+
+pub returns-clause-small : goal.returns-clause-small
+returns-clause-small c = grind (arith, common_steps)
+
+pub sum_boxes-requires-clause-size : goal.sum_boxes-requires-clause-size
+sum_boxes-requires-clause-size c = grind (arith, common_steps)
+
+pub fill-requires-clause-count : goal.fill-requires-clause-count
+fill-requires-clause-count c = grind (arith, common_steps)

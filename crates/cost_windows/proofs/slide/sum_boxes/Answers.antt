@@ -1,3 +1,4 @@
+use Rattle.std.proofs.lemmas.Grind.{common_steps}
 use Rattle.std.proofs.Common.{◌≡◌, ℕ, List, ◌+◌, ◌*◌, ◌≤◌, ◌∙◌, get_or, arith}
 use Rattle.limits.specs.declared.bounds.TheConstants.{GREATEST_AXIS}
 use Rattle.boxes.specs.Sums.{sum_to}
@@ -42,3 +43,6 @@ returns-clause-small c =
     third c.args.lens.f c.sum_runs-2.new.buffer c.sum_runs-3.new.buffer (c.args.size.w * c.args.size.h) c.requires.lens.f c.sum_runs-3.ensures
     (second c.args.lens.h c.sum_runs.new.buffer c.sum_runs-2.new.buffer c.args.size.w c.requires.lens.h c.sum_runs-2.ensures
     (first c.args.lens.w c.args.buffer.now c.sum_runs.new.buffer 1 c.requires.lens.w c.sum_runs.ensures c.requires.small))
+
+pub sum_runs-requires-3-clause-step_small : goal.sum_runs-requires-3-clause-step_small
+sum_runs-requires-3-clause-step_small c = grind (arith, common_steps)

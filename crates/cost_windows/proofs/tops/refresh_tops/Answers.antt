@@ -21,3 +21,12 @@ returns c =
 
 pub fill_tops-requires-clause-sums : goal.fill_tops-requires-clause-sums
 fill_tops-requires-clause-sums c = grind (arith, common_steps)
+
+pub fill_tops-requires-clause-from : goal.fill_tops-requires-clause-from
+fill_tops-requires-clause-from c = grind (arith, common_steps)
+
+pub fill_tops-requires-clause-end : goal.fill_tops-requires-clause-end
+fill_tops-requires-clause-end c = grind (arith, common_steps)
+
+pub fill_tops-requires-clause-rows : goal.fill_tops-requires-clause-rows
+fill_tops-requires-clause-rows c = grind (arith, common_steps)

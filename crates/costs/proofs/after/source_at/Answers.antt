@@ -42,3 +42,6 @@ returns-else-is_new-clause-source c =
 
 pub place-requires : goal.place-requires
 place-requires c = grind (arith, common_steps)
+
+pub cell-requires-clause-inside : goal.cell-requires-clause-inside
+cell-requires-clause-inside c = grind (arith, common_steps)

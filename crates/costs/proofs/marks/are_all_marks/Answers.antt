@@ -1,3 +1,4 @@
+use Rattle.std.proofs.lemmas.Grind.{common_steps}
 use Rattle.std.proofs.Common.{◌≡◌, ◌∙◌, get_or, sym, subst, arith, below_more, true, false}
 use mathlib.Core.Bool.{false≢true}
 use Rattle.map_canvas.specs.Choices.{box_cell}
@@ -36,3 +37,6 @@ returns c = (
       marks_if c.args.canvas.now.map c.args.placement.now c.args.held.now count (λ k lt. c.loop-i.invariant.each k (omega arith)),
   λ _. λ k. true,
 )
+
+pub next-at-requires : goal.next-at-requires
+next-at-requires c = grind (arith, common_steps)

@@ -1,3 +1,4 @@
+use Rattle.std.proofs.lemmas.Grind.{common_steps}
 use Rattle.std.proofs.Common.{◌≡◌, ◌+◌, ◌*◌, ◌%◌, ◌++◌, ◌∷◌, [], ℕ, List, length, get_or, map, take, sym, ◌∙◌, ap, add-one, arith}
 use Rattle.std.proofs.Math.Seq.{take-length}
 use Rattle.cyclic_products.specs.declared.residues.TheConstants.{LAST}
@@ -18,3 +19,12 @@ levels-preserved c =
     let all : take c.numbers.i table ≡ table = ap (λ n. take n table) whole ∙ take-length table in
     c.numbers.invariant.items ∙ ap (λ (t : List ℕ). table ++ map (λ x. (x * get_or ladder level 0) % (LAST + 1)) t) all
     ∙ ap (λ n. table_of LAST c.args.first ladder n) (sym (add-one level))
+
+pub numbers-preserved : goal.numbers-preserved
+numbers-preserved c = grind (arith, common_steps)
+
+pub index-requires : goal.index-requires
+index-requires c = grind (arith, common_steps)
+
+pub returns : goal.returns
+returns c = grind (arith, common_steps)

@@ -28,3 +28,12 @@ number_at-requires-3 c = grind (arith, common_steps)
 
 pub number_at-requires-2 : goal.number_at-requires-2
 number_at-requires-2 c = grind (arith, common_steps)
+
+pub number_at-requires : goal.number_at-requires
+number_at-requires c = grind (arith, common_steps)
+
+pub nth_at-requires : goal.nth_at-requires
+nth_at-requires c = grind (arith, common_steps)
+
+pub returns : goal.returns
+returns c = grind (arith, common_steps)

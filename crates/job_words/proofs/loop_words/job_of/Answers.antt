@@ -7,3 +7,12 @@ overflow_cast-result-2 c = grind (arith, common_steps)
 
 pub overflow_cast-result : goal.overflow_cast-result
 overflow_cast-result c = grind (arith, common_steps)
+
+pub number_at-requires-3 : goal.number_at-requires-3
+number_at-requires-3 c = grind (arith, common_steps)
+
+pub number_at-requires-2 : goal.number_at-requires-2
+number_at-requires-2 c = grind (arith, common_steps)
+
+pub number_at-requires : goal.number_at-requires
+number_at-requires c = grind (arith, common_steps)

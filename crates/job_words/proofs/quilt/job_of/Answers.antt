@@ -19,3 +19,21 @@ overflow_cast-result c = grind (arith, common_steps)
 
 pub number_at-requires-6 : goal.number_at-requires-6
 number_at-requires-6 c = grind (arith, common_steps)
+
+pub number_at-requires-5 : goal.number_at-requires-5
+number_at-requires-5 c = grind (arith, common_steps)
+
+pub number_at-requires-4 : goal.number_at-requires-4
+number_at-requires-4 c = grind (arith, common_steps)
+
+pub number_at-requires-3 : goal.number_at-requires-3
+number_at-requires-3 c = grind (arith, common_steps)
+
+pub number_at-requires-2 : goal.number_at-requires-2
+number_at-requires-2 c = grind (arith, common_steps)
+
+pub number_at-requires : goal.number_at-requires
+number_at-requires c = grind (arith, common_steps)
+
+pub returns : goal.returns
+returns c = grind (arith, common_steps)

@@ -1,3 +1,5 @@
+use Rattle.std.proofs.Common.{arith}
+use Rattle.std.proofs.lemmas.Grind.{common_steps}
 use Rattle.std.proofs.Common.{inl, refl, subst, sym, ◌∙◌, ap}
 use Rattle.std.specs.Prelude.{codes}
 use Rattle.job_words.specs.Jobs.{check_asked, grow_asked, job_of, loop_asked, merge_asked, quilt_asked, tile_asked, transfer_asked, trial_asked, upgrade_asked}
@@ -54,3 +56,6 @@ pub returns-in-transfer-clause-exact : goal.returns-in-transfer-clause-exact
 returns-in-transfer-clause-exact c =
     answered (codes "transfer") transfer_asked (λ rest. refl) c.as_slice.result.now c.args.words.now _ c.transfer_asked.result c.in-len1-up.len_at_least
     (sym c.in-transfer.is ∙ c.as_text.ensures ∙ c.command-item.is) c.as_slice.ensures c.transfer_asked.ensures.exact
+
+pub returns-in_default-clause-exact : goal.returns-in_default-clause-exact
+returns-in_default-clause-exact c = grind (arith, common_steps)

@@ -1,3 +1,5 @@
+use Rattle.std.proofs.Common.{arith}
+use Rattle.std.proofs.lemmas.Grind.{common_steps}
 use Rattle.job_words.proofs.TileLawful.{tile_values, tile_lawful}
 use Rattle.job_words.proofs.tile.read_tile.Goals as goal
 
@@ -8,3 +10,6 @@ pub returns-clause-lawful : goal.returns-clause-lawful
 returns-clause-lawful c =
     tile_lawful c.rows.result.now c.args.words.now _ c.deref.result.now c.rows.ensures (c.in_ok-settings.ensures {u = tt}).ok c.deref.ensures.value
     c.in_ok-job.job c.unless_narrow.result (c.in_ok-job.ensures {u = tt}) c.unless_narrow.ensures
+
+pub returns-clause-exact : goal.returns-clause-exact
+returns-clause-exact c = grind (arith, common_steps)

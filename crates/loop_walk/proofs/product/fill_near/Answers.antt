@@ -38,3 +38,12 @@ loop-i-init c = grind (arith, common_steps)
 
 pub slice_bounds-fill_row_of_rests-end : goal.slice_bounds-fill_row_of_rests-end
 slice_bounds-fill_row_of_rests-end c = grind (arith, common_steps)
+
+pub fill_row_of_rests-requires-clause-firsts : goal.fill_row_of_rests-requires-clause-firsts
+fill_row_of_rests-requires-clause-firsts c = grind (arith, common_steps)
+
+pub fill_row_of_rests-requires-clause-nears : goal.fill_row_of_rests-requires-clause-nears
+fill_row_of_rests-requires-clause-nears c = grind (arith, common_steps)
+
+pub fill_row_of_rests-requires-clause-rests : goal.fill_row_of_rests-requires-clause-rests
+fill_row_of_rests-requires-clause-rests c = grind (arith, common_steps)

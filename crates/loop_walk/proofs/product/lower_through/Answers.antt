@@ -71,3 +71,6 @@ lower-requires-clause-near c = grind (arith, common_steps)
 
 pub returns-then-first-lt-FAR-clause-near : goal.returns-then-first-lt-FAR-clause-near
 returns-then-first-lt-FAR-clause-near c = grind (arith, common_steps)
+
+pub returns-else-other-lt-FAR-clause-near : goal.returns-else-other-lt-FAR-clause-near
+returns-else-other-lt-FAR-clause-near c = grind (arith, common_steps)

@@ -4,3 +4,6 @@ use Rattle.loop_walk.proofs.record.first_frame.Goals as goal
 
 pub loop-i-preserved : goal.loop-i-preserved
 loop-i-preserved c = grind (arith, common_steps)
+
+pub bounds-table-first : goal.bounds-table-first
+bounds-table-first c = grind (arith, common_steps)

@@ -16,3 +16,6 @@ returns-clause-tight c = grind (arith, common_steps)
 
 pub returns-clause-first : goal.returns-clause-first
 returns-clause-first c = grind (arith, common_steps)
+
+pub made_tables-requires-clause-steps : goal.made_tables-requires-clause-steps
+made_tables-requires-clause-steps c = grind (arith, common_steps)

@@ -34,3 +34,6 @@ returns-clause-found c =
 
 pub bounds-last-first : goal.bounds-last-first
 bounds-last-first c = grind (arith, common_steps)
+
+pub walk_from-requires-clause-tables : goal.walk_from-requires-clause-tables
+walk_from-requires-clause-tables c = grind (arith, common_steps)

@@ -14,3 +14,18 @@ returns-then-count_great-gt-MOST_SINGLE_SUMS c = grind (arith, common_steps)
 
 pub fill_sums-requires-clause-near : goal.fill_sums-requires-clause-near
 fill_sums-requires-clause-near c = grind (arith, common_steps)
+
+pub fill_rest_row-requires-clause-small_firsts : goal.fill_rest_row-requires-clause-small_firsts
+fill_rest_row-requires-clause-small_firsts c = grind (arith, common_steps)
+
+pub fill_rest_row-requires-clause-small_rests : goal.fill_rest_row-requires-clause-small_rests
+fill_rest_row-requires-clause-small_rests c = grind (arith, common_steps)
+
+pub fill_sums-requires-clause-sums : goal.fill_sums-requires-clause-sums
+fill_sums-requires-clause-sums c = grind (arith, common_steps)
+
+pub fill_sums-requires-clause-firsts : goal.fill_sums-requires-clause-firsts
+fill_sums-requires-clause-firsts c = grind (arith, common_steps)
+
+pub fill_rests-requires-clause-base : goal.fill_rests-requires-clause-base
+fill_rests-requires-clause-base c = grind (arith, common_steps)

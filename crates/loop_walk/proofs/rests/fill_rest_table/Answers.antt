@@ -32,3 +32,6 @@ fill_rests-requires-clause-base c = grind (arith, common_steps)
 
 pub slice_bounds-fill_rests-end-in-loop-v : goal.slice_bounds-fill_rests-end-in-loop-v
 slice_bounds-fill_rests-end-in-loop-v c = grind (arith, common_steps)
+
+pub slice_bounds-fill_rests-end : goal.slice_bounds-fill_rests-end
+slice_bounds-fill_rests-end c = grind (arith, common_steps)

@@ -4,3 +4,15 @@ use Rattle.loop_walk.proofs.rests.fill_row_of_rests.Goals as goal
 
 pub returns-else-not-quick : goal.returns-else-not-quick
 returns-else-not-quick c = grind (arith, common_steps)
+
+pub fill_quickly-requires-clause-left : goal.fill_quickly-requires-clause-left
+fill_quickly-requires-clause-left c = grind (arith, common_steps)
+
+pub fill_quickly-requires-clause-lows : goal.fill_quickly-requires-clause-lows
+fill_quickly-requires-clause-lows c = grind (arith, common_steps)
+
+pub fill_quickly-requires-clause-halves : goal.fill_quickly-requires-clause-halves
+fill_quickly-requires-clause-halves c = grind (arith, common_steps)
+
+pub fill_quickly-requires-clause-raised : goal.fill_quickly-requires-clause-raised
+fill_quickly-requires-clause-raised c = grind (arith, common_steps)

@@ -7,3 +7,6 @@ loop-j-preserved c = grind (arith, common_steps)
 
 pub sum_of-requires-clause-exact : goal.sum_of-requires-clause-exact
 sum_of-requires-clause-exact c = grind (arith, common_steps)
+
+pub loop-j-init : goal.loop-j-init
+loop-j-init c = grind (arith, common_steps)

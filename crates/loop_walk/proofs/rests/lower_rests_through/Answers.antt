@@ -71,3 +71,12 @@ lower_rests-requires-clause-small c = grind (arith, common_steps)
 
 pub returns-then-first-lt-GREATEST_REST-clause-small : goal.returns-then-first-lt-GREATEST_REST-clause-small
 returns-then-first-lt-GREATEST_REST-clause-small c = grind (arith, common_steps)
+
+pub lower_rests-requires-clause-first : goal.lower_rests-requires-clause-first
+lower_rests-requires-clause-first c = grind (arith, common_steps)
+
+pub lower_rests-requires-clause-other : goal.lower_rests-requires-clause-other
+lower_rests-requires-clause-other c = grind (arith, common_steps)
+
+pub returns-else-other-lt-GREATEST_REST-clause-small : goal.returns-else-other-lt-GREATEST_REST-clause-small
+returns-else-other-lt-GREATEST_REST-clause-small c = grind (arith, common_steps)

@@ -18,3 +18,9 @@ loop-v-preserved c =
 
 pub returns : goal.returns
 returns c = grind (arith, common_steps)
+
+pub loop-v-init : goal.loop-v-init
+loop-v-init c = grind (arith, common_steps)
+
+pub bounds-nears-v : goal.bounds-nears-v
+bounds-nears-v c = grind (arith, common_steps)

@@ -82,3 +82,18 @@ broken_in_row-requires-clause-near c = grind (arith, common_steps)
 
 pub fill_rest_table-requires-clause-bases : goal.fill_rest_table-requires-clause-bases
 fill_rest_table-requires-clause-bases c = grind (arith, common_steps)
+
+pub overflow_add-result : goal.overflow_add-result
+overflow_add-result c = grind (arith, common_steps)
+
+pub overflow_mul-result : goal.overflow_mul-result
+overflow_mul-result c = grind (arith, common_steps)
+
+pub fill_rest_table-requires-clause-rests : goal.fill_rest_table-requires-clause-rests
+fill_rest_table-requires-clause-rests c = grind (arith, common_steps)
+
+pub fill_rest_table-requires-clause-nears : goal.fill_rest_table-requires-clause-nears
+fill_rest_table-requires-clause-nears c = grind (arith, common_steps)
+
+pub slice_bounds-fill_rest_table-end : goal.slice_bounds-fill_rest_table-end
+slice_bounds-fill_rest_table-end c = grind (arith, common_steps)

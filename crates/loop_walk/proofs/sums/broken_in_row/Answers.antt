@@ -28,3 +28,15 @@ fill_row_of_rests-requires-clause-left c = grind (arith, common_steps)
 
 pub fill_row_of_rests-requires-clause-rests : goal.fill_row_of_rests-requires-clause-rests
 fill_row_of_rests-requires-clause-rests c = grind (arith, common_steps)
+
+pub fill_row_of_rests-requires-clause-nears : goal.fill_row_of_rests-requires-clause-nears
+fill_row_of_rests-requires-clause-nears c = grind (arith, common_steps)
+
+pub slice_bounds-firsts-end-2 : goal.slice_bounds-firsts-end-2
+slice_bounds-firsts-end-2 c = grind (arith, common_steps)
+
+pub slice_bounds-fill_row_of_rests-end-2 : goal.slice_bounds-fill_row_of_rests-end-2
+slice_bounds-fill_row_of_rests-end-2 c = grind (arith, common_steps)
+
+pub fill_row_of_rests-requires-clause-near : goal.fill_row_of_rests-requires-clause-near
+fill_row_of_rests-requires-clause-near c = grind (arith, common_steps)

@@ -4,3 +4,6 @@ use Rattle.loop_walk.proofs.sums.is_below.Goals as goal
 
 pub returns-then-number-sum : goal.returns-then-number-sum
 returns-then-number-sum c = grind (arith, common_steps)
+
+pub bounds-tables-t : goal.bounds-tables-t
+bounds-tables-t c = grind (arith, common_steps)

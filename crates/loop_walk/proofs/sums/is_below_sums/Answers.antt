@@ -10,3 +10,6 @@ returns-then-not-is_at_most c = grind (arith, common_steps)
 
 pub returns : goal.returns
 returns c = grind (arith, common_steps)
+
+pub entry_in-other-requires-clause-enough : goal.entry_in-other-requires-clause-enough
+entry_in-other-requires-clause-enough c = grind (arith, common_steps)

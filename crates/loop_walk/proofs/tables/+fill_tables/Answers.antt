@@ -103,3 +103,6 @@ table_in-right-requires-clause-count t c = grind (arith, common_steps)
 
 pub table_in-left-requires-clause-count : goal.table_in-left-requires-clause-count
 table_in-left-requires-clause-count t c = grind (arith, common_steps)
+
+pub returns-then-length-eq1 : goal.returns-then-length-eq1
+returns-then-length-eq1 t c = grind (arith, common_steps)

@@ -98,3 +98,9 @@ returns t c =
 
 pub overflow_sub-length : goal.overflow_sub-length
 overflow_sub-length t c = grind (arith, common_steps)
+
+pub table_in-right-requires-clause-few : goal.table_in-right-requires-clause-few
+table_in-right-requires-clause-few t c = grind (arith, common_steps)
+
+pub table_in-left-requires-clause-few : goal.table_in-left-requires-clause-few
+table_in-left-requires-clause-few t c = grind (arith, common_steps)

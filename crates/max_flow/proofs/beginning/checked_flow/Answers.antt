@@ -16,3 +16,6 @@ flow_left-requires-clause-sized c = grind (arith, common_steps)
 
 pub returns-in-Some : goal.returns-in-Some
 returns-in-Some c = grind (arith, common_steps)
+
+pub flow_left-requires-clause-pipes : goal.flow_left-requires-clause-pipes
+flow_left-requires-clause-pipes c = grind (arith, common_steps)

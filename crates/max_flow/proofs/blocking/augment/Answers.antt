@@ -8,3 +8,12 @@ loop-arc-preserved c = IsPushing_more _ _ _ _ _ _ _ _ _ c.requires.path c.loop-a
 
 pub returns-clause-moved : goal.returns-clause-moved
 returns-clause-moved c = grind (arith, common_steps)
+
+pub push-requires-clause-residuals : goal.push-requires-clause-residuals
+push-requires-clause-residuals c = grind (arith, common_steps)
+
+pub push-requires-clause-arc : goal.push-requires-clause-arc
+push-requires-clause-arc c = grind (arith, common_steps)
+
+pub bottleneck-amount-requires-clause-arcs : goal.bottleneck-amount-requires-clause-arcs
+bottleneck-amount-requires-clause-arcs c = grind (arith, common_steps)

@@ -34,3 +34,12 @@ augment-requires-clause-residuals c = grind (arith, common_steps)
 
 pub slice_bounds-augment-end-in-Some : goal.slice_bounds-augment-end-in-Some
 slice_bounds-augment-end-in-Some c = grind (arith, common_steps)
+
+pub returns-clause-rises : goal.returns-clause-rises
+returns-clause-rises c = grind (arith, common_steps)
+
+pub find_path-requires-clause-residuals : goal.find_path-requires-clause-residuals
+find_path-requires-clause-residuals c = grind (arith, common_steps)
+
+pub find_path-requires-clause-current : goal.find_path-requires-clause-current
+find_path-requires-clause-current c = grind (arith, common_steps)

@@ -12,3 +12,6 @@ returns c = AreCountedFrom_all _ _ _ _ c.requires.sized c.pipes.invariant.0 (ome
 
 pub pipes-init : goal.pipes-init
 pipes-init c = grind (arith, common_steps)
+
+pub count_pipe-requires : goal.count_pipe-requires
+count_pipe-requires c = grind (arith, common_steps)

@@ -4,3 +4,6 @@ use Rattle.max_flow.proofs.checking.flow_left.Goals as goal
 
 pub returns-else-value-lt0 : goal.returns-else-value-lt0
 returns-else-value-lt0 c = grind (arith, common_steps)
+
+pub overflow_cast-result : goal.overflow_cast-result
+overflow_cast-result c = grind (arith, common_steps)

@@ -33,3 +33,6 @@ returns-clause-kept c = grind (arith, common_steps)
 
 pub returns-clause-tried : goal.returns-clause-tried
 returns-clause-tried c = grind (arith, common_steps)
+
+pub returns-then-levels-next-gt0-clause-tried : goal.returns-then-levels-next-gt0-clause-tried
+returns-then-levels-next-gt0-clause-tried c = grind (arith, common_steps)

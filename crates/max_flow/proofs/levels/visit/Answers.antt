@@ -1,3 +1,4 @@
+use Rattle.std.proofs.lemmas.Grind.{common_steps}
 use Rattle.std.proofs.Common.{◌≡◌, ℕ, arith, rules, subst, Fits, w32}
 use Rattle.max_flow.proofs.Searching.{IsVisiting, IsVisiting_begins, IsVisiting_more, IsVisiting_ends, front_in}
 use Rattle.max_flow.proofs.levels.visit.Goals as goal
@@ -24,3 +25,6 @@ returns-clause-search c =
     IsVisiting_ends _ _ _ _ _ _ _ _ _
     (subst (λ (cursor : ℕ). IsVisiting c.args.graph.now.pipes.now c.args.graph.now.nodes c.args.graph.now.source c.args.backward.now c.args.levels.now c.arcs.levels c.args.waiting.now c.arcs.waiting c.args.node cursor)
     none c.arcs.invariant)
+
+pub arcs-smaller : goal.arcs-smaller
+arcs-smaller c = grind (arith, common_steps)

@@ -43,3 +43,21 @@ bounds-graph-arc c = grind (arith, common_steps)
 
 pub tail-node-requires : goal.tail-node-requires
 tail-node-requires c = grind (arith, common_steps)
+
+pub returns-else-depth-gt0-clause-current : goal.returns-else-depth-gt0-clause-current
+returns-else-depth-gt0-clause-current c = grind (arith, common_steps)
+
+pub steps-init : goal.steps-init
+steps-init c = grind (arith, common_steps)
+
+pub bounds-path-depth-then-depth-gt0 : goal.bounds-path-depth-then-depth-gt0
+bounds-path-depth-then-depth-gt0 c = grind (arith, common_steps)
+
+pub head-node-requires : goal.head-node-requires
+head-node-requires c = grind (arith, common_steps)
+
+pub bounds-path-depth : goal.bounds-path-depth
+bounds-path-depth c = grind (arith, common_steps)
+
+pub next_admissible-cursor-requires-clause-residuals : goal.next_admissible-cursor-requires-clause-residuals
+next_admissible-cursor-requires-clause-residuals c = grind (arith, common_steps)

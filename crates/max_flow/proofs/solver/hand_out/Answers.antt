@@ -1,3 +1,4 @@
+use Rattle.std.proofs.lemmas.Grind.{common_steps}
 use Rattle.std.proofs.Common.{◌≡◌, ◌<◌, List, All, refl, ap, subst, ◌∙◌, arith, Bool, length, ⊎_elim}
 use Rattle.std.proofs.lemmas.Bool.{cases_lt}
 use Rattle.std.proofs.lemmas.List.{with_items_is, get_or_past}
@@ -21,3 +22,9 @@ returns c =
     (flows_is ∙ c.write_flows.ensures ∙ ap (λ (p : List Pipe). flows_of p c.args.backward.now) c.pipes-pipes.ensures.value)
     (ap length sides_is ∙ omega (arith, c.write_sides.auto.sides, c.deref_mut-2.ensures.len, c.in_ok-sides.ensures.len, levels.sized))
     (λ k. ap (λ (sides : List Bool). is_in sides k) sides_is ∙ c.write_sides.ensures k)
+
+pub write_flows-requires-clause-pipes : goal.write_flows-requires-clause-pipes
+write_flows-requires-clause-pipes c = grind (arith, common_steps)
+
+pub write_flows-requires-clause-residuals : goal.write_flows-requires-clause-residuals
+write_flows-requires-clause-residuals c = grind (arith, common_steps)

@@ -14,3 +14,12 @@ returns-clause-closed c = grind (arith, common_steps)
 
 pub blocking_flow-value-requires-clause-sink : goal.blocking_flow-value-requires-clause-sink
 blocking_flow-value-requires-clause-sink c = grind (arith, common_steps)
+
+pub returns-then-not-is_thin-clause-sink : goal.returns-then-not-is_thin-clause-sink
+returns-then-not-is_thin-clause-sink c = grind (arith, common_steps)
+
+pub blocking_flow-value-requires-clause-current : goal.blocking_flow-value-requires-clause-current
+blocking_flow-value-requires-clause-current c = grind (arith, common_steps)
+
+pub phases-preserved : goal.phases-preserved
+phases-preserved c = grind (arith, common_steps)

@@ -19,3 +19,12 @@ link-requires-clause-empty c = grind (arith, common_steps)
 
 pub run-requires-clause-levels : goal.run-requires-clause-levels
 run-requires-clause-levels c = grind (arith, common_steps)
+
+pub returns-clause-carries : goal.returns-clause-carries
+returns-clause-carries c = grind (arith, common_steps)
+
+pub link-requires-clause-pipes : goal.link-requires-clause-pipes
+link-requires-clause-pipes c = grind (arith, common_steps)
+
+pub link-requires-clause-limit : goal.link-requires-clause-limit
+link-requires-clause-limit c = grind (arith, common_steps)

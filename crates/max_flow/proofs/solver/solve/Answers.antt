@@ -22,3 +22,24 @@ returns-in-Some-2-clause-greatest c = grind (arith, common_steps)
 
 pub level_graphs-requires-clause-limit : goal.level_graphs-requires-clause-limit
 level_graphs-requires-clause-limit c = grind (arith, common_steps)
+
+pub returns-in-Some-2-clause-capacity : goal.returns-in-Some-2-clause-capacity
+returns-in-Some-2-clause-capacity c = grind (arith, common_steps)
+
+pub returns-clause-capacity : goal.returns-clause-capacity
+returns-clause-capacity c = grind (arith, common_steps)
+
+pub finish-requires-clause-limit : goal.finish-requires-clause-limit
+finish-requires-clause-limit c = grind (arith, common_steps)
+
+pub returns-clause-flow : goal.returns-clause-flow
+returns-clause-flow c = grind (arith, common_steps)
+
+pub returns-clause-smallest : goal.returns-clause-smallest
+returns-clause-smallest c = grind (arith, common_steps)
+
+pub returns-clause-least : goal.returns-clause-least
+returns-clause-least c = grind (arith, common_steps)
+
+pub returns-clause-cut : goal.returns-clause-cut
+returns-clause-cut c = grind (arith, common_steps)

@@ -1,3 +1,4 @@
+use Rattle.std.proofs.lemmas.Grind.{common_steps}
 use Rattle.std.proofs.Common.{◌≡◌, ◌+◌, ◌*◌, subst, arith, length}
 use Rattle.shelf_core.specs.Files.{content_of}
 use Rattle.shelf_core.proofs.FileLaws.{only_reads_then}
@@ -39,3 +40,15 @@ returns-clause-header g c =
     c.loop-piece.invariant.reads c.past_limit.ensures.reads
     (subst (λ n. Sees (g.S.Shelf.state c.args.shelf.now) (g.S.Shelf.state c.loop-piece.shelf) (λ files. Reached (content_of files c.args.name.now) n c.loop-piece.scan)) all c.loop-piece.invariant.reached)
     c.past_limit.ensures.refusal
+
+pub returns-in-Ended-clause-reads : goal.returns-in-Ended-clause-reads
+returns-in-Ended-clause-reads g c = grind (arith, common_steps)
+
+pub returns-in-Broken-clause-reads : goal.returns-in-Broken-clause-reads
+returns-in-Broken-clause-reads g c = grind (arith, common_steps)
+
+pub returns-in-Ended-clause-sound : goal.returns-in-Ended-clause-sound
+returns-in-Ended-clause-sound g c = grind (arith, common_steps)
+
+pub returns-clause-reads : goal.returns-clause-reads
+returns-clause-reads g c = grind (arith, common_steps)

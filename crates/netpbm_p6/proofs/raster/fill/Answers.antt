@@ -1,3 +1,5 @@
+use Rattle.std.proofs.Common.{arith}
+use Rattle.std.proofs.lemmas.Grind.{common_steps}
 use Rattle.std.proofs.Common.{◌+◌, length, drop}
 use Rattle.shelf_core.specs.Files.{Reads, content_of}
 use Rattle.shelf_core.proofs.FileLaws.{told_weaker}
@@ -25,3 +27,6 @@ returns-clause-fills g c =
 
 pub returns-clause-samples : goal.returns-clause-samples
 returns-clause-samples g c = all_within c.args.maxval c.in_ok-count.count c.get.new.into c.if-count-raster.false c.in_default.ensures.none
+
+pub overflow_add-result : goal.overflow_add-result
+overflow_add-result g c = grind (arith, common_steps)

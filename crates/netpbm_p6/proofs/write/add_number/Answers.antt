@@ -1,3 +1,5 @@
+use Rattle.std.proofs.Common.{arith}
+use Rattle.std.proofs.lemmas.Grind.{common_steps}
 use Rattle.std.proofs.Common.{◌∙◌, decimal}
 use Rattle.std.proofs.lemmas.Result.{on_ok_weaker, on_err_weaker}
 use Rattle.shelf_core.specs.Files.{Changes}
@@ -23,3 +25,9 @@ returns-clause-part g c =
     (two_added_part c.args.name.now c.as_bytes.result.now (decimal c.args.number) c.args.end.now (g.S.Shelf.state c.args.shelf.now) (g.S.Shelf.state c.add.new.self) (g.S.Shelf.state c.add-2.new.self)
     (c.as_bytes.ensures.value ∙ c.format.ensures.text) c.in_ok-add.ensures.added)
     c.add-2.ensures.part
+
+pub returns-clause-writes : goal.returns-clause-writes
+returns-clause-writes g c = grind (arith, common_steps)
+
+pub returns-clause-failed : goal.returns-clause-failed
+returns-clause-failed g c = grind (arith, common_steps)

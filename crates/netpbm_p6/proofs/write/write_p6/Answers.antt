@@ -61,3 +61,18 @@ returns-clause-writes g c = grind (arith, common_steps)
 
 pub returns-in_err-add-2-clause-failed : goal.returns-in_err-add-2-clause-failed
 returns-in_err-add-2-clause-failed g c = grind (arith, common_steps)
+
+pub returns-in_err-add_number-3-clause-writes : goal.returns-in_err-add_number-3-clause-writes
+returns-in_err-add_number-3-clause-writes g c = grind (arith, common_steps)
+
+pub returns-in_err-add_number-3-clause-failed : goal.returns-in_err-add_number-3-clause-failed
+returns-in_err-add_number-3-clause-failed g c = grind (arith, common_steps)
+
+pub returns-in_err-add_number-2-clause-writes : goal.returns-in_err-add_number-2-clause-writes
+returns-in_err-add_number-2-clause-writes g c = grind (arith, common_steps)
+
+pub returns-in_err-add_number-2-clause-failed : goal.returns-in_err-add_number-2-clause-failed
+returns-in_err-add_number-2-clause-failed g c = grind (arith, common_steps)
+
+pub returns-in_err-add_number-clause-writes : goal.returns-in_err-add_number-clause-writes
+returns-in_err-add_number-clause-writes g c = grind (arith, common_steps)

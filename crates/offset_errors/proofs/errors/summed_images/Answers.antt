@@ -1,3 +1,4 @@
+use Rattle.std.proofs.lemmas.Grind.{common_steps}
 use Rattle.std.proofs.Common.{◌≡◌, ◌+◌, ℕ, suc, add-one, length, ap, sym, subst, ◌∙◌, arith}
 use Rattle.std.specs.Vec.{with_items}
 use Rattle.std.proofs.lemmas.List.{with_items_is}
@@ -36,3 +37,9 @@ returns c =
       size = c.numbers.invariant.size;
       images = subst (λ n. AreImages LAST c.args.transform.now (listed_sums c.args.layout.now c.args.map.now c.args.sample.now c.args.rect.now c.args.part.now n) c.numbers.images.items) end c.numbers.invariant.images;
     }
+
+pub add-requires-clause-images : goal.add-requires-clause-images
+add-requires-clause-images c = grind (arith, common_steps)
+
+pub add-requires-clause-others : goal.add-requires-clause-others
+add-requires-clause-others c = grind (arith, common_steps)

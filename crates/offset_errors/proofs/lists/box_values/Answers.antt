@@ -1,3 +1,4 @@
+use Rattle.std.proofs.lemmas.Grind.{common_steps}
 use Rattle.std.proofs.Common.{ℕ, ◌≡◌, ◌+◌, ◌-◌, ◌++◌, ◌∷◌, List, [], sym, ◌∙◌, subst, arith}
 use Rattle.boxes.specs.Pairs.{at_index}
 use Rattle.boxes.specs.Walks.{IsAtIndex}
@@ -22,3 +23,6 @@ cells-preserved c =
           (sym (one_before (at_index c.args.pad g) n i c.cells-test.true))),
       here,
     )
+
+pub returns : goal.returns
+returns c = grind (arith, common_steps)

@@ -1,3 +1,4 @@
+use Rattle.std.proofs.lemmas.Grind.{common_steps}
 use Rattle.std.proofs.Common.{sym, ◌∙◌, subst, arith}
 use Rattle.cells.specs.Places.{SumFits}
 use Rattle.offset_errors.proofs.Meetings.{moved_is}
@@ -15,3 +16,6 @@ plus-requires c =
       row = omega (arith, is.along_y.from, is.along_y.to, c.requires.lead.h.0);
       frame = omega (arith, is.along_f.from, is.along_f.to, c.requires.lead.f.0);
     }))
+
+pub returns : goal.returns
+returns c = grind (arith, common_steps)

@@ -1,3 +1,4 @@
+use Rattle.std.proofs.lemmas.Grind.{common_steps}
 use Rattle.std.proofs.Common.{ℕ, ◌++◌, ◌∷◌, List, [], sym, ◌∙◌, arith}
 use Rattle.std.proofs.lemmas.List.FromFn.{map-range_with_len_more}
 use Rattle.boxes.specs.Pairs.{at_index}
@@ -17,3 +18,9 @@ cells-preserved c =
           (sym (map-range_with_len_more (at_index c.args.pad g) 0 c.cells.i c.cells.i (omega arith)))),
       record { column = next.column; row = next.row; index = next.index },
     )
+
+pub next-at-requires : goal.next-at-requires
+next-at-requires c = grind (arith, common_steps)
+
+pub returns : goal.returns
+returns c = grind (arith, common_steps)

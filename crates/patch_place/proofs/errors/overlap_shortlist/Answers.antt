@@ -1,6 +1,5 @@
 use Rattle.std.proofs.Common.{arith}
 use Rattle.std.proofs.lemmas.Grind.{common_steps}
-use Rattle.std.proofs.Common.{map}
 use Rattle.patch_place.proofs.Limits.{box_has_cells, box_inside, overlaps_asked}
 use Rattle.patch_place.proofs.errors.overlap_shortlist.Goals as goal
 
@@ -20,3 +19,6 @@ box_shortlist-requires-clause-asked c =
 
 pub box_shortlist-requires-clause-ready : goal.box_shortlist-requires-clause-ready
 box_shortlist-requires-clause-ready c = grind (arith, common_steps)
+
+pub returns : goal.returns
+returns c = grind (arith, common_steps)

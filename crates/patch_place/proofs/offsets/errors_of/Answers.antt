@@ -1,13 +1,13 @@
 use Rattle.std.proofs.lemmas.Grind.{common_steps}
-use Rattle.std.proofs.Common.{◌≡◌, ◌<◌, ◌^◌, ◌∙◌, ℕ, suc, ap, refl, subst, sym, to_z, arith}
+use Rattle.std.proofs.Common.{◌≡◌, ◌∙◌, suc, ap, refl, subst, to_z, arith}
 use Rattle.std.proofs.Math.Facts.{to_z_pos}
 use Rattle.std.proofs.lemmas.Int.{ints}
 use Rattle.std.specs.Int.{w32}
-use Rattle.std.specs.Prelude.{ℤ, pos, ◌+ℤ◌, Some, slice_get}
+use Rattle.std.specs.Prelude.{pos, ◌+ℤ◌, Some, slice_get}
 use Rattle.cells.specs.Boxes.{HoldsBox}
 use Rattle.cells.specs.Cells.{Holds, sizes_of}
 use Rattle.cells.specs.Places.{spot}
-use Rattle.cells.specs.SizeLists.{frames_to_part, stock_place}
+use Rattle.cells.specs.SizeLists.{frames_to_part}
 use Rattle.patch_picks.proofs.Stocks.{part_held, stock_moved}
 use Rattle.patch_place.proofs.offsets.errors_of.Goals as goal
 
@@ -44,3 +44,6 @@ part_after-size-requires-clause-below c = grind (arith, common_steps)
 
 pub gather-requires-clause-over : goal.gather-requires-clause-over
 gather-requires-clause-over c = grind (arith, common_steps)
+
+pub layout_for-requires-clause-rect : goal.layout_for-requires-clause-rect
+layout_for-requires-clause-rect c = grind (arith, common_steps)

@@ -1,3 +1,5 @@
+use Rattle.std.proofs.Common.{arith}
+use Rattle.std.proofs.lemmas.Grind.{common_steps}
 use Rattle.cells.specs.Distances.{distance}
 use Rattle.cost_windows.proofs.Besides.{right_beside_choice}
 use Rattle.refine_seams.proofs.Rounding.{each_fits, some_entry}
@@ -13,3 +15,15 @@ pub update-requires-clause-beside : goal.update-requires-clause-beside
 update-requires-clause-beside c =
     right_beside_choice (distance c.args.sample.now) c.args.canvas.now.map c.place.new.canvas.map c.in_ok-placement.placement c.in-Ok.cut.choice c.args.table.now
     c.in-Ok.ensures.placed.each c.requires.table.right
+
+pub returns-clause-lower : goal.returns-clause-lower
+returns-clause-lower c = grind (arith, common_steps)
+
+pub returns-in_default-place-clause-full : goal.returns-in_default-place-clause-full
+returns-in_default-place-clause-full c = grind (arith, common_steps)
+
+pub returns-in_default-place-clause-lower : goal.returns-in_default-place-clause-lower
+returns-in_default-place-clause-lower c = grind (arith, common_steps)
+
+pub returns-in_default-place-clause-made : goal.returns-in_default-place-clause-made
+returns-in_default-place-clause-made c = grind (arith, common_steps)

@@ -1,3 +1,5 @@
+use Rattle.std.proofs.Common.{arith}
+use Rattle.std.proofs.lemmas.Grind.{common_steps}
 -- The piece comes after the bytes that were found, or in a file of its own where none was.
 use Rattle.std.proofs.Common.{ap, sym, ◌∙◌, refl}
 use Rattle.std.specs.Prelude.{List, position, Result, Ok, Err, OnOk}
@@ -19,3 +21,6 @@ returns-in-Some-clause-ok c = ok_then c.extend.result c.extend.ensures.ok (λ gr
 pub returns-in_ok-push-in-None-clause-ok : goal.returns-in_ok-push-in-None-clause-ok
 returns-in_ok-push-in-None-clause-ok c = ap files_of (c.in_ok-push-in-None.ensures {u = tt}).items ∙ added_behind c.args.name.now c.args.piece.now _ c.args.files.now.items
     (ap (λ (l : List MemFile). position (is_named c.args.name.now) l) (sym c.deref.ensures.value) ∙ sym (c.in-None.ensures {u = tt})) c.in_ok-name-in-None.ensures c.in_ok-bytes-in-None.ensures
+
+pub returns-in-Some-clause-err : goal.returns-in-Some-clause-err
+returns-in-Some-clause-err c = grind (arith, common_steps)

@@ -18,3 +18,12 @@ returns-clause-stands c = grind (arith, common_steps)
 
 pub returns-then-not-has_least_cost-clause-broken : goal.returns-then-not-has_least_cost-clause-broken
 returns-then-not-has_least_cost-clause-broken c = grind (arith, common_steps)
+
+pub returns-in-Some-first_bad_sum-clause-stands : goal.returns-in-Some-first_bad_sum-clause-stands
+returns-in-Some-first_bad_sum-clause-stands c = grind (arith, common_steps)
+
+pub returns-in-Some-clause-stands : goal.returns-in-Some-clause-stands
+returns-in-Some-clause-stands c = grind (arith, common_steps)
+
+pub has_least_cost-requires-clause-sums : goal.has_least_cost-requires-clause-sums
+has_least_cost-requires-clause-sums c = grind (arith, common_steps)

@@ -30,3 +30,9 @@ returns c =
 
 pub add_turns-requires-2-clause-room : goal.add_turns-requires-2-clause-room
 add_turns-requires-2-clause-room c = grind (arith, common_steps)
+
+pub add_turns-requires-2-clause-few : goal.add_turns-requires-2-clause-few
+add_turns-requires-2-clause-few c = grind (arith, common_steps)
+
+pub add_turns-requires-clause-room : goal.add_turns-requires-clause-room
+add_turns-requires-clause-room c = grind (arith, common_steps)

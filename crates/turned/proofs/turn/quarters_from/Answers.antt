@@ -87,3 +87,12 @@ from_end-requires-clause-to c = grind (arith, common_steps)
 
 pub from_end-requires-in-2-2-clause-from : goal.from_end-requires-in-2-2-clause-from
 from_end-requires-in-2-2-clause-from c = grind (arith, common_steps)
+
+pub from_end-requires-in-3-clause-from : goal.from_end-requires-in-3-clause-from
+from_end-requires-in-3-clause-from c = grind (arith, common_steps)
+
+pub from_end-requires-in-2-clause-from : goal.from_end-requires-in-2-clause-from
+from_end-requires-in-2-clause-from c = grind (arith, common_steps)
+
+pub from_end-requires-clause-from : goal.from_end-requires-clause-from
+from_end-requires-clause-from c = grind (arith, common_steps)

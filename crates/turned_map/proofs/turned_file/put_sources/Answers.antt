@@ -1,3 +1,4 @@
+use Rattle.std.proofs.lemmas.Grind.{common_steps}
 use Rattle.std.proofs.Common.{◌∙◌, ◌++◌, take, sym, subst, ap, arith}
 use Rattle.std.specs.List.{flat_map}
 use Rattle.std.specs.Prelude.{Some, IsSomeAnd}
@@ -26,3 +27,9 @@ loop-source-preserved g c =
     subst (λ all. Puts name all (state c.args.shelf.now) (state c.put_turned.new.shelf) c.args.file.now c.put_turned.new.file) (sym all)
     (put_next name front (field (Some c.unwrap.result)) (state c.loop-source.shelf) (state c.put_turned.new.shelf)
     c.loop-source.file c.put_turned.new.file c.args.file.now (state c.args.shelf.now) c.loop-source.invariant put)
+
+pub returns : goal.returns
+returns g c = grind (arith, common_steps)
+
+pub loop-source-init : goal.loop-source-init
+loop-source-init g c = grind (arith, common_steps)

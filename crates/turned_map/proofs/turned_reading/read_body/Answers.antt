@@ -1,8 +1,10 @@
+use Rattle.std.proofs.Common.{arith}
+use Rattle.std.proofs.lemmas.Grind.{common_steps}
 use Rattle.std.proofs.Common.{ℕ, List}
 use Rattle.std.proofs.lemmas.Result.{err_from_is_err_and}
-use Rattle.std.specs.Prelude.{Option, Some, Result, Ok, Err}
+use Rattle.std.specs.Prelude.{Result, Ok, Err}
 use Rattle.shelf_core.specs.declared.fault.ReadError.{ReadError}
-use Rattle.shelf_core.proofs.FileLaws.{only_reads_same, only_reads_then}
+use Rattle.shelf_core.proofs.FileLaws.{only_reads_same}
 use Rattle.cells.specs.declared.place.Size.{Size}
 use Rattle.source_map.proofs.FieldLaws.{chain, first_stops, lifted, made, then_reads}
 use Rattle.std.proofs.Common.{◌≤◌, subst, sym}
@@ -57,3 +59,6 @@ returns-clause-lawful g c =
     let before = c.in_ok-samples.ensures {u = tt} in
     turned_map_of c.in_ok-map.map c.in_ok-samples.samples read.map before.sizes before.few
     (subst (λ (size : Size). cell_count size ≤ 1048576) (sym read.size) before.cells) read.inside
+
+pub returns-clause-reads : goal.returns-clause-reads
+returns-clause-reads g c = grind (arith, common_steps)

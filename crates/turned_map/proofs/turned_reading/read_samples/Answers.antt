@@ -1,10 +1,8 @@
-use Rattle.std.proofs.Common.{ℕ, List}
+use Rattle.std.proofs.Common.{arith}
+use Rattle.std.proofs.lemmas.Grind.{common_steps}
+use Rattle.std.proofs.Common.{ℕ}
 use Rattle.std.proofs.lemmas.Result.{err_from_is_err_and}
-use Rattle.std.specs.Prelude.{Option, Some, Result, Ok, Err}
-use Rattle.shelf_core.specs.declared.fault.ReadError.{ReadError}
-use Rattle.shelf_core.proofs.FileLaws.{only_reads_same, only_reads_then}
-use Rattle.cells.specs.declared.place.Size.{Size}
-use Rattle.source_map.proofs.FieldLaws.{chain, first_stops, lifted, made, then_reads}
+use Rattle.source_map.proofs.FieldLaws.{first_stops, then_reads}
 use Rattle.std.specs.Int.{w16}
 use Rattle.source_map.specs.Heads.{size_read}
 use Rattle.source_map.specs.MapFiles.{part_rule}
@@ -28,3 +26,6 @@ returns-clause-answer g c =
     then_reads ⊥ name c.args.file.now.at (number_read w16 (part_rule 2)) (λ (v0 : ℕ). list_read size_read v0) (state c.args.shelf.now) (state c.read_part.new.shelf) (state c.read_sizes.new.shelf) c.read_part.new.file c.read_sizes.new.file v0 c.read_sizes.result
     ok0.reads c.read_sizes.ensures.reads ok0.answer
     c.read_sizes.ensures.answer
+
+pub returns-clause-reads : goal.returns-clause-reads
+returns-clause-reads g c = grind (arith, common_steps)

@@ -1,10 +1,12 @@
+use Rattle.std.proofs.Common.{arith}
+use Rattle.std.proofs.lemmas.Grind.{common_steps}
 use Rattle.std.proofs.Common.{ℕ, List}
 use Rattle.std.proofs.lemmas.Result.{err_from_is_err_and}
 use Rattle.std.specs.Prelude.{Option, Some, Result, Ok, Err}
 use Rattle.shelf_core.specs.declared.fault.ReadError.{ReadError}
 use Rattle.shelf_core.proofs.FileLaws.{only_reads_same, only_reads_then}
 use Rattle.cells.specs.declared.place.Size.{Size}
-use Rattle.source_map.proofs.FieldLaws.{chain, first_stops, lifted, made, then_reads}
+use Rattle.source_map.proofs.FieldLaws.{chain, first_stops, made, then_reads}
 use Rattle.std.proofs.Common.{ap, length, subst, sym}
 use Rattle.std.specs.Int.{w16}
 use Rattle.cells.specs.declared.place.At.{At}
@@ -79,3 +81,9 @@ moved-requires-clause-turned g c = record {
   turn = (c.in_ok-turn.ensures {u = tt}).below;
   inside = (c.in_ok-at.ensures {u = tt}).inside;
 }
+
+pub returns-clause-reads : goal.returns-clause-reads
+returns-clause-reads g c = grind (arith, common_steps)
+
+pub returns-in_err-at-clause-reads : goal.returns-in_err-at-clause-reads
+returns-in_err-at-clause-reads g c = grind (arith, common_steps)

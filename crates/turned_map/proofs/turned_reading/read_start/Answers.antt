@@ -1,10 +1,10 @@
-use Rattle.std.proofs.Common.{ℕ, List}
+use Rattle.std.proofs.Common.{arith}
+use Rattle.std.proofs.lemmas.Grind.{common_steps}
+use Rattle.std.proofs.Common.{ℕ}
 use Rattle.std.proofs.lemmas.Result.{err_from_is_err_and}
-use Rattle.std.specs.Prelude.{Option, Some, Result, Ok, Err}
-use Rattle.shelf_core.specs.declared.fault.ReadError.{ReadError}
-use Rattle.shelf_core.proofs.FileLaws.{only_reads_same, only_reads_then}
-use Rattle.cells.specs.declared.place.Size.{Size}
-use Rattle.source_map.proofs.FieldLaws.{chain, first_stops, lifted, made, then_reads}
+use Rattle.std.specs.Prelude.{Err}
+use Rattle.shelf_core.proofs.FileLaws.{only_reads_then}
+use Rattle.source_map.proofs.FieldLaws.{chain, first_stops, then_reads}
 use Rattle.std.specs.Int.{w8}
 use Rattle.source_map.specs.Heads.{magic_rule, size_read}
 use Rattle.source_map.specs.MapFiles.{map_magic, same_rule}
@@ -64,3 +64,12 @@ returns-clause-answer g c =
     (then_reads ⊥ name c.read_mark.new.file.at (number_read w8 (same_rule 2)) (λ (v2 : ℕ). size_read) (state c.read_mark.new.shelf) (state c.read_mark-2.new.shelf) (state c.read_size.new.shelf) c.read_mark-2.new.file c.read_size.new.file v2 c.read_size.result
     ok2.reads c.read_size.ensures.reads ok2.answer
     c.read_size.ensures.answer))
+
+pub returns-clause-reads : goal.returns-clause-reads
+returns-clause-reads g c = grind (arith, common_steps)
+
+pub returns-clause-place : goal.returns-clause-place
+returns-clause-place g c = grind (arith, common_steps)
+
+pub returns-in_err-_kind-clause-reads : goal.returns-in_err-_kind-clause-reads
+returns-in_err-_kind-clause-reads g c = grind (arith, common_steps)

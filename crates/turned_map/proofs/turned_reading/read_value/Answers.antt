@@ -1,10 +1,9 @@
-use Rattle.std.proofs.Common.{ℕ, List}
+use Rattle.std.proofs.Common.{arith}
+use Rattle.std.proofs.lemmas.Grind.{common_steps}
 use Rattle.std.proofs.lemmas.Result.{err_from_is_err_and}
-use Rattle.std.specs.Prelude.{Option, Some, Result, Ok, Err}
-use Rattle.shelf_core.specs.declared.fault.ReadError.{ReadError}
-use Rattle.shelf_core.proofs.FileLaws.{only_reads_same, only_reads_then}
+use Rattle.std.specs.Prelude.{Err}
 use Rattle.cells.specs.declared.place.Size.{Size}
-use Rattle.source_map.proofs.FieldLaws.{chain, first_stops, lifted, made, then_reads}
+use Rattle.source_map.proofs.FieldLaws.{first_stops, lifted, then_reads}
 use Rattle.turned_map.specs.TurnedFiles.{turned_body_read, turned_start_read}
 use Rattle.turned_map.proofs.turned_reading.read_value.Goals as goal
 
@@ -25,3 +24,6 @@ returns-clause-answer g c =
     then_reads (Unit {0}) name c.args.file.now.at turned_start_read (λ (v0 : Size). turned_body_read v0) (state c.args.shelf.now) (state c.read_start.new.shelf) (state c.read_body.new.shelf) c.read_start.new.file c.read_body.new.file v0 c.read_body.result
     ok0.reads c.read_body.ensures.reads ok0.answer
     c.read_body.ensures.answer
+
+pub returns-clause-reads : goal.returns-clause-reads
+returns-clause-reads g c = grind (arith, common_steps)

@@ -27,3 +27,6 @@ returns-then-text-eq5-clause-scanned c = grind (arith, common_steps)
 
 pub returns-in-10-clause-scanned : goal.returns-in-10-clause-scanned
 returns-in-10-clause-scanned c = grind (arith, common_steps)
+
+pub returns-in_default-clause-scanned : goal.returns-in_default-clause-scanned
+returns-in_default-clause-scanned c = grind (arith, common_steps)

@@ -4,3 +4,9 @@ use Rattle.y4m_clip.proofs.head.front_of.Goals as goal
 
 pub returns : goal.returns
 returns c = grind (arith, common_steps)
+
+pub returns-in_err-w : goal.returns-in_err-w
+returns-in_err-w c = grind (arith, common_steps)
+
+pub returns-then-number-gt-MOST_TAG_BYTES : goal.returns-then-number-gt-MOST_TAG_BYTES
+returns-then-number-gt-MOST_TAG_BYTES c = grind (arith, common_steps)

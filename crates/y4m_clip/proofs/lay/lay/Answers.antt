@@ -7,3 +7,6 @@ returns-then-piece-eq2 c = grind (arith, common_steps)
 
 pub returns : goal.returns
 returns c = grind (arith, common_steps)
+
+pub returns-then-piece-eq1 : goal.returns-then-piece-eq1
+returns-then-piece-eq1 c = grind (arith, common_steps)

@@ -49,3 +49,9 @@ row-row-requires c = grind (arith, common_steps)
 
 pub lay_rows-next-requires-clause-row : goal.lay_rows-next-requires-clause-row
 lay_rows-next-requires-clause-row c = grind (arith, common_steps)
+
+pub returns-clause-place : goal.returns-clause-place
+returns-clause-place c = grind (arith, common_steps)
+
+pub overflow_cast-place : goal.overflow_cast-place
+overflow_cast-place c = grind (arith, common_steps)

@@ -17,3 +17,12 @@ loop-j-preserved c =
 
 pub overflow_mul-count : goal.overflow_mul-count
 overflow_mul-count c = grind (arith, common_steps)
+
+pub lay_samples-next-requires-clause-inside : goal.lay_samples-next-requires-clause-inside
+lay_samples-next-requires-clause-inside c = grind (arith, common_steps)
+
+pub overflow_add-start : goal.overflow_add-start
+overflow_add-start c = grind (arith, common_steps)
+
+pub lay_samples-next-requires-clause-room : goal.lay_samples-next-requires-clause-room
+lay_samples-next-requires-clause-room c = grind (arith, common_steps)

@@ -1,3 +1,4 @@
+use Rattle.std.proofs.lemmas.Grind.{common_steps}
 use Rattle.std.proofs.Common.{subst, sym, arith, length, take, ◌≡◌, ◌≤◌, ◌+◌}
 use Rattle.std.specs.Prelude.{IfOk}
 use Rattle.limits.specs.declared.bounds.TheConstants.{MOST_LINE_BYTES}
@@ -18,3 +19,6 @@ pub returns-clause-line : goal.returns-clause-line
 returns-clause-line g c =
     let room : length c.get.new.into ≡ MOST_LINE_BYTES + 1 = omega arith in
     subst (λ r. IfOk r (λ n. IsLineOf (take n c.get.new.into))) (sym c.judge.ensures) (judged_line c.get.new.into c.in_ok-count.count c.scan_stream.result c.scan_stream.ensures.scanned (omega (arith, c.in_ok-count.ensures.within)))
+
+pub returns-clause-front : goal.returns-clause-front
+returns-clause-front g c = grind (arith, common_steps)

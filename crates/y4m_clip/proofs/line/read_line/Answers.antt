@@ -1,3 +1,4 @@
+use Rattle.std.proofs.lemmas.Grind.{common_steps}
 use Rattle.std.proofs.Common.{◌≡◌, take, ◌≤◌, arith, length, ◌∙◌}
 use Rattle.shelf_core.specs.Files.{content_of}
 use Rattle.y4m_clip.specs.Reading.{HasShortLine, HasLine}
@@ -15,3 +16,6 @@ returns-clause-line g c =
 
 pub returns-clause-tags : goal.returns-clause-tags
 returns-clause-tags g c = are_tags c.find_line.new.buffer c.in_ok-length.length c.from_vec.result c.in_ok-length.ensures.sound.0 c.in_ok-length.ensures.line (c.from_vec.ensures ∙ c.in_ok-tags.ensures)
+
+pub returns-clause-short : goal.returns-clause-short
+returns-clause-short g c = grind (arith, common_steps)

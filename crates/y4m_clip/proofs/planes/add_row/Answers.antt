@@ -1,3 +1,5 @@
+use Rattle.std.proofs.Common.{arith}
+use Rattle.std.proofs.lemmas.Grind.{common_steps}
 use Rattle.std.proofs.Common.{◌≡◌, ◌+◌, ◌-◌, ◌*◌, ◌++◌, ◌∙◌, subst}
 use Rattle.std.specs.Prelude.{OnOk}
 use Rattle.y4m_clip.specs.Spaces.{cell_width, cell_height, cell_bytes, joined_to}
@@ -36,3 +38,12 @@ returns c =
     let blue : c.span-blue.result.now ≡ span planes (pixels_of kind n + before) w = c.span-blue.ensures ∙ (λ i. span planes (wide i * high i * n + before) w) in
     let red : c.span-red.result.now ≡ span planes (pixels_of kind n + n + before) w = c.span-red.ensures ∙ (λ i. span planes (wide i * high i * n + n + before) w) in
     subst (λ cells. OnOk c.add_cells.result (c.add_cells.new.cells.items ≡ c.args.cells.now.items ++ cells)) (λ i. joined_to w (cell_bytes kind (upper i) (lower i) (blue i) (red i))) c.add_cells.ensures
+
+pub overflow_add-start : goal.overflow_add-start
+overflow_add-start c = grind (arith, common_steps)
+
+pub overflow_add-chroma-3 : goal.overflow_add-chroma-3
+overflow_add-chroma-3 c = grind (arith, common_steps)
+
+pub overflow_add-chroma : goal.overflow_add-chroma
+overflow_add-chroma c = grind (arith, common_steps)

@@ -4,3 +4,6 @@ use Rattle.cells.proofs.place.At.plus.Goals as goal
 
 pub sum_of-requires-3 : goal.sum_of-requires-3
 sum_of-requires-3 c = grind (arith, common_steps)
+
+pub sum_of-requires-2 : goal.sum_of-requires-2
+sum_of-requires-2 c = grind (arith, common_steps)

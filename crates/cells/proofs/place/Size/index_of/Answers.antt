@@ -16,3 +16,9 @@ overflow_add-result c = grind (arith, common_steps)
 
 pub overflow_mul-result : goal.overflow_mul-result
 overflow_mul-result c = grind (arith, common_steps)
+
+pub returns-then-x-self-clause-index : goal.returns-then-x-self-clause-index
+returns-then-x-self-clause-index c = grind (arith, common_steps)
+
+pub returns-clause-index : goal.returns-clause-index
+returns-clause-index c = grind (arith, common_steps)

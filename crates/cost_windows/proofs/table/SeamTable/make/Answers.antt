@@ -59,3 +59,12 @@ refresh-requires-clause-some c = grind (arith, common_steps)
 
 pub cells-requires-2 : goal.cells-requires-2
 cells-requires-2 c = grind (arith, common_steps)
+
+pub overflow_mul-corners : goal.overflow_mul-corners
+overflow_mul-corners c = grind (arith, common_steps)
+
+pub returns-clause-sizes : goal.returns-clause-sizes
+returns-clause-sizes c = grind (arith, common_steps)
+
+pub refresh_tops-requires-clause-sums : goal.refresh_tops-requires-clause-sums
+refresh_tops-requires-clause-sums c = grind (arith, common_steps)

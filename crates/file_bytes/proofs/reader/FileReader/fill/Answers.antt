@@ -1,3 +1,4 @@
+use Rattle.std.proofs.lemmas.Grind.{common_steps}
 use Rattle.std.proofs.Common.{◌-◌, ◌≤◌, length, take, subst, sym, arith}
 use Rattle.file_bytes.specs.Reading.{Took}
 use Rattle.shelf_core.proofs.FileLaws.{only_reads_then}
@@ -22,3 +23,9 @@ filling-preserved g c =
           some.reads c.filling.invariant.took some.took);
       reads = only_reads_then (state c.args.shelf.now) (state c.filling.shelf) (state c.take_some.new.shelf) c.filling.invariant.reads some.reads;
     }
+
+pub returns-in_err-filled-clause-stops : goal.returns-in_err-filled-clause-stops
+returns-in_err-filled-clause-stops g c = grind (arith, common_steps)
+
+pub returns-clause-took : goal.returns-clause-took
+returns-clause-took g c = grind (arith, common_steps)

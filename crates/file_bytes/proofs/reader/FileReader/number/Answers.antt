@@ -1,3 +1,4 @@
+use Rattle.std.proofs.lemmas.Grind.{common_steps}
 -- The room for a field is as wide as it.
 use Rattle.std.proofs.Common.{◌≡◌, ◌≤◌, ◌+◌, ℕ, List, ◌∷◌, [], ◌∙◌, length, take, subst, sym, arith}
 use Rattle.std.proofs.lemmas.List.{length-take-le, take_at}
@@ -28,3 +29,12 @@ returns-clause-took g c =
     c.take.auto.into ∙ field_room c.WIDTH.result g.T.Field.WIDTH c.WIDTH.ensures g.met.T.Field.few ∙ sym c.WIDTH-2.ensures in
     subst (λ piece. Took c.args.name.now c.args.self.now.at piece (g.S.Shelf.state c.take.new.shelf) c.take.new.self)
     (sym (c.of.ensures ∙ take_at c.take.new.into _ c.WIDTH-2.result width)) (c.in_ok-take.ensures {u = tt}).took
+
+pub slice_bounds-of-end : goal.slice_bounds-of-end
+slice_bounds-of-end g c = grind (arith, common_steps)
+
+pub of-requires : goal.of-requires
+of-requires g c = grind (arith, common_steps)
+
+pub slice_bounds-field-end-2 : goal.slice_bounds-field-end-2
+slice_bounds-field-end-2 g c = grind (arith, common_steps)

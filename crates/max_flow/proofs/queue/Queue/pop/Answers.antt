@@ -4,3 +4,6 @@ use Rattle.max_flow.proofs.queue.Queue.pop.Goals as goal
 
 pub returns : goal.returns
 returns c = grind (arith, common_steps)
+
+pub returns-then-is_empty : goal.returns-then-is_empty
+returns-then-is_empty c = grind (arith, common_steps)

@@ -1,3 +1,4 @@
+use Rattle.std.proofs.lemmas.Grind.{common_steps}
 use Rattle.std.proofs.Common.{◌+◌, ◌∙◌, sym, subst, arith}
 use Rattle.std.proofs.lemmas.List.{with_items_is}
 use Rattle.cyclic_products.specs.Splits.{AreImages}
@@ -15,3 +16,9 @@ returns c =
     all_errors c.args.map.now c.args.sample.now c.args.rect.now c.args.part.now c.args.layout.now _ c.size-size.ensures.map.small c.samples-samples.ensures.volume c.requires.over c.requires.enough
     (with_items_is c.in_ok-sums.sums c.join.new.images (omega arith)
     ∙ c.join.ensures all (subst (AreImages LAST c.in_ok-transform.transform all) (sym c.deref_mut.ensures.value) c.in_ok-sums.ensures.images))
+
+pub invariant_of-result : goal.invariant_of-result
+invariant_of-result c = grind (arith, common_steps)
+
+pub join-requires : goal.join-requires
+join-requires c = grind (arith, common_steps)

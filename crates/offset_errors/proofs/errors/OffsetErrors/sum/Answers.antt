@@ -1,3 +1,5 @@
+use Rattle.std.proofs.Common.{arith}
+use Rattle.std.proofs.lemmas.Grind.{common_steps}
 use Rattle.std.proofs.Common.{◌≡◌, ◌∙◌, length, sym, subst}
 use Rattle.std.specs.Prelude.{Some, slice_get}
 use Rattle.std.proofs.lemmas.Option.{get_or_from_slice_get}
@@ -40,3 +42,27 @@ returns-in-Some c = λ m sample are fits.
     let place : c.sum_index-i.result ≡ sum_index (length at.sums.items) (raster_index pad x y f) = c.sum_index-i.ensures ∙ (λ i. sum_index (count i) (index i)) in
     let there : slice_get c.deref.result.now c.sum_index-i.result ≡ Some (error_sum m sample to) = (λ i. slice_get (c.deref.ensures.value i) (place i)) ∙ here in
     (c.in-Some.ensures {u = tt}).lookup.1 ∙ get_or_from_slice_get c.deref.result.now c.sum_index-i.result (error_sum m sample to) _ there
+
+pub index_at-requires-clause-size : goal.index_at-requires-clause-size
+index_at-requires-clause-size c = grind (arith, common_steps)
+
+pub index_at-requires-clause-counts : goal.index_at-requires-clause-counts
+index_at-requires-clause-counts c = grind (arith, common_steps)
+
+pub offset_on-requires-3-clause-axis : goal.offset_on-requires-3-clause-axis
+offset_on-requires-3-clause-axis c = grind (arith, common_steps)
+
+pub returns-in_err-f : goal.returns-in_err-f
+returns-in_err-f c = grind (arith, common_steps)
+
+pub returns-in_err-y : goal.returns-in_err-y
+returns-in_err-y c = grind (arith, common_steps)
+
+pub returns-in_err-x : goal.returns-in_err-x
+returns-in_err-x c = grind (arith, common_steps)
+
+pub sum_index-i-requires : goal.sum_index-i-requires
+sum_index-i-requires c = grind (arith, common_steps)
+
+pub returns-in_err-t : goal.returns-in_err-t
+returns-in_err-t c = grind (arith, common_steps)

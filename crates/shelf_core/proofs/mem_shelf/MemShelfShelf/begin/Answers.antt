@@ -10,3 +10,15 @@ returns-clause-ok c = grind (arith, common_steps)
 
 pub returns-clause-begun : goal.returns-clause-begun
 returns-clause-begun c = grind (arith, common_steps)
+
+pub returns-2-clause-writes : goal.returns-2-clause-writes
+returns-2-clause-writes c = grind (arith, common_steps)
+
+pub returns-clause-asked : goal.returns-clause-asked
+returns-clause-asked c = grind (arith, common_steps)
+
+pub returns-2-clause-err : goal.returns-2-clause-err
+returns-2-clause-err c = grind (arith, common_steps)
+
+pub returns-2-clause-asked : goal.returns-2-clause-asked
+returns-2-clause-asked c = grind (arith, common_steps)

@@ -10,3 +10,18 @@ returns-clause-reads c = grind (arith, common_steps)
 
 pub returns-clause-ok : goal.returns-clause-ok
 returns-clause-ok c = grind (arith, common_steps)
+
+pub returns-clause-asked : goal.returns-clause-asked
+returns-clause-asked c = grind (arith, common_steps)
+
+pub returns-2-clause-err : goal.returns-2-clause-err
+returns-2-clause-err c = grind (arith, common_steps)
+
+pub returns-2-clause-reads : goal.returns-2-clause-reads
+returns-2-clause-reads c = grind (arith, common_steps)
+
+pub returns-2-clause-fails : goal.returns-2-clause-fails
+returns-2-clause-fails c = grind (arith, common_steps)
+
+pub returns-2-clause-asked : goal.returns-2-clause-asked
+returns-2-clause-asked c = grind (arith, common_steps)

@@ -33,3 +33,9 @@ invariant_of-self-2 g c = grind (arith, common_steps)
 
 pub returns-clause-writes : goal.returns-clause-writes
 returns-clause-writes g c = grind (arith, common_steps)
+
+pub returns-in_err-add-2-clause-writes : goal.returns-in_err-add-2-clause-writes
+returns-in_err-add-2-clause-writes g c = grind (arith, common_steps)
+
+pub returns-in_err-add-2-clause-failed : goal.returns-in_err-add-2-clause-failed
+returns-in_err-add-2-clause-failed g c = grind (arith, common_steps)

@@ -1,0 +1,6 @@
+use Rattle.std.proofs.Common.{arith}
+use Rattle.std.proofs.lemmas.Grind.{common_steps}
+use Rattle.cells.proofs.sizes.Sizes.at.Goals as goal
+
+pub returns-clause-axes : goal.returns-clause-axes
+returns-clause-axes c = grind (arith, common_steps)

@@ -1,0 +1,9 @@
+use Rattle.std.proofs.Common.{arith}
+use Rattle.std.proofs.lemmas.Grind.{common_steps}
+use Rattle.y4m_clip.proofs.head.value_of.Goals as goal
+
+pub loop-tag-preserved : goal.loop-tag-preserved
+loop-tag-preserved c = grind (arith, common_steps)
+
+pub returns-then-tag-letter : goal.returns-then-tag-letter
+returns-then-tag-letter c = grind (arith, common_steps)

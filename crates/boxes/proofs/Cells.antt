@@ -1,7 +1,7 @@
 -- The cells of a box at counts from its corner, and the next one along an axis.
-use Rattle.std.proofs.Common.{◌≡◌, ℕ, suc, ◌+◌, ◌<◌, ◌≤◌, refl, ap, sym, ◌∙◌, subst, arith, rules, Bool, true, false}
+use Rattle.std.proofs.Common.{◌≡◌, ℕ, suc, ◌+◌, ◌<◌, ◌≤◌, refl, ap, ◌∙◌, arith, rules, Bool, true, false}
 use Rattle.std.proofs.lemmas.Int.{ints}
-use Rattle.std.specs.Prelude.{ℤ, pos, negsuc, ◌+ℤ◌, ◌≤ℤ◌, Some, None, is_some, if◌then◌else◌, nat_lt, FitsSigned}
+use Rattle.std.specs.Prelude.{ℤ, pos, negsuc, ◌+ℤ◌, Some, None, is_some, if◌then◌else◌, nat_lt, FitsSigned}
 use Rattle.std.specs.Int.{w32}
 use borrow.Author.Tests.{ltb-true}
 use Rattle.cells.specs.declared.place.At.{At}

@@ -1,10 +1,10 @@
 -- What a buffer tells once a part is put after the others.
-use Rattle.std.proofs.Common.{◌≡◌, ℕ, zero, suc, ◌+◌, ◌*◌, ◌<◌, ◌≤◌, List, [], ◌∷◌, length, take, drop, ◌++◌, refl, sym, ap, ◌∙◌, subst, arith, append_assoc}
+use Rattle.std.proofs.Common.{◌≡◌, ℕ, zero, suc, ◌+◌, ◌*◌, ◌<◌, ◌≤◌, List, [], ◌∷◌, length, take, drop, ◌++◌, refl, ap, ◌∙◌, arith}
 use Rattle.std.proofs.lemmas.List.{length-append, take-append-le, drop-append-le, length-drop}
 use Rattle.std.specs.List.{AllByRecursion}
 use Rattle.cells.specs.declared.place.Size.{Size}
 use Rattle.limits.specs.declared.bounds.TheConstants.{MOST_CELLS, MOST_PARTS}
-use Rattle.cells.specs.Places.{HasAxes, IsSmall, cell_count}
+use Rattle.cells.specs.Places.{HasAxes, cell_count}
 use Rattle.cells.specs.Parts.{AreParts, count_from}
 use Rattle.cells.specs.Buffers.{IsBuffer}
 use Rattle.cells.specs.Cells.{Cells, cells_of, volume_of, volume_over, with_part}

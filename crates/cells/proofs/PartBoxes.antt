@@ -1,13 +1,12 @@
 -- Boxes and runs along parts.
-use Rattle.std.proofs.Common.{◌≡◌, ℕ, zero, suc, ◌+◌, ◌*◌, ◌-◌, ◌<◌, ◌≤◌, List, [], ◌∷◌, inl, inr, refl, ap, sym, ◌∙◌, subst, arith, rules}
+use Rattle.std.proofs.Common.{◌≡◌, ℕ, zero, suc, ◌+◌, ◌*◌, ◌<◌, ◌≤◌, List, [], ◌∷◌, inl, inr, refl, ap, sym, ◌∙◌, subst, arith, rules}
 use Rattle.std.proofs.lemmas.Int.{ints}
-use Rattle.std.specs.Prelude.{◌⊎◌, ◌↔◌, ℤ, pos, negsuc, ◌+ℤ◌, ◌-ℤ◌, ◌≤ℤ◌, ◌<ℤ◌, FitsSigned, Option, Some, None, IsSome, unwrap_or, length}
-use mathlib.Core.Bool.{false≢true}
+use Rattle.std.specs.Prelude.{◌⊎◌, ℤ, pos, negsuc, ◌+ℤ◌, ◌-ℤ◌, ◌≤ℤ◌, ◌<ℤ◌, FitsSigned, Option, Some, None, IsSome, unwrap_or, length}
 use Rattle.cells.specs.declared.place.At.{At}
 use Rattle.cells.specs.declared.place.Box3.{Box3}
 use Rattle.cells.specs.declared.place.Size.{Size}
 use Rattle.cells.specs.Places.{HasAxes, IsInside, IsSmall, SumFits, index_in, place_of, cell_count, on_axis, plus, minus, spot}
-use Rattle.cells.specs.Boxes.{AxisHolds, HasCells, HoldsBox, HoldsEach, IsInBox}
+use Rattle.cells.specs.Boxes.{HasCells, HoldsBox, HoldsEach, IsInBox}
 use Rattle.cells.specs.Parts.{AreParts, HoldsFrom, count_from, index_from, or_later, past}
 use Rattle.cells.specs.Cells.{Cells, HasCell, HasRun, Holds, IsInsideOf, IsOnePart, IsVolume, index_of}
 use Rattle.cells.proofs.Raster.{has_index, index_below, index_of_spot, index_parts, place_at, run_below}
@@ -15,7 +14,7 @@ use Rattle.std.specs.List.{AllByRecursion}
 use Rattle.std.specs.Int.{w32}
 use Rattle.limits.specs.declared.bounds.TheConstants.{GREATEST_AXIS}
 use Rattle.cells.proofs.BoxLaws.{box_small, plus_minus}
-use Rattle.cells.proofs.BoxTests.{OnAxes, axes_of_each, box_has_cells, each_of_axes, inside_of, of_inside, on_axis_bounds, on_axis_some}
+use Rattle.cells.proofs.BoxTests.{OnAxes, axes_of_each, each_of_axes, inside_of, of_inside, on_axis_bounds, on_axis_some}
 use Rattle.cells.proofs.CellLaws.{cell_has_index, indexed_has_cell, inside_part}
 use Rattle.cells.proofs.PartLaws.{IsBehind, from_frame, index_back, index_front, parts_behind, small_of, split_from}
 

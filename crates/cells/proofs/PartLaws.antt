@@ -1,13 +1,13 @@
 -- Places along parts: indices are below the count, and two places with one index are one place.
-use Rattle.std.proofs.Common.{◌≡◌, ℕ, ◌+◌, ◌-◌, ◌<◌, ◌≤◌, List, [], ◌∷◌, inl, inr, refl, ap, sym, ◌∙◌, subst, arith}
+use Rattle.std.proofs.Common.{◌≡◌, ℕ, ◌+◌, ◌<◌, ◌≤◌, List, [], ◌∷◌, inl, inr, refl, ap, sym, ◌∙◌, arith}
 use Rattle.std.proofs.lemmas.Int.{ints}
-use Rattle.std.specs.Prelude.{◌⊎◌, ℤ, pos, negsuc, ◌+ℤ◌, ◌-ℤ◌, ◌≤ℤ◌, ◌<ℤ◌, Option, Some, None, IsSome, length}
+use Rattle.std.specs.Prelude.{◌⊎◌, ℤ, pos, ◌-ℤ◌, ◌≤ℤ◌, ◌<ℤ◌, Option, Some, None, length}
 use Rattle.cells.specs.declared.place.At.{At}
 use Rattle.cells.specs.declared.place.Size.{Size}
 use Rattle.limits.specs.declared.bounds.TheConstants.{MOST_CELLS, MOST_PARTS}
-use Rattle.cells.specs.Places.{IsSmall, index_in, cell_count, on_axis, plus, spot}
+use Rattle.cells.specs.Places.{IsSmall, index_in, cell_count}
 use Rattle.cells.specs.Parts.{AreParts, count_from, index_from, or_later, past}
-use Rattle.cells.proofs.Raster.{index_parts, index_below, one_place, run_below}
+use Rattle.cells.proofs.Raster.{index_parts, index_below, one_place}
 
 -- the first part is small
 pub small_of : (size : Size) (more : List Size) → AreParts size more → IsSmall size

@@ -1,26 +1,24 @@
 -- The parts of a volume by themselves, and the places that they have in it.
-use Rattle.std.proofs.Common.{◌≡◌, ℕ, zero, suc, ◌+◌, ◌*◌, ◌<◌, ◌≤◌, List, [], ◌∷◌, ◌++◌, length, take, drop, inl, inr, refl, ap, sym, ◌∙◌, subst, arith, get_or}
+use Rattle.std.proofs.Common.{◌≡◌, ℕ, zero, suc, ◌+◌, ◌<◌, ◌≤◌, List, [], ◌∷◌, ◌++◌, length, take, drop, inl, inr, refl, ap, sym, ◌∙◌, subst, arith}
 use Rattle.std.proofs.lemmas.Int.{ints}
 use Rattle.std.proofs.lemmas.List.{length-drop, take-append-le, drop-append-le, length-take-le, take_at, drop_at}
 use Rattle.std.proofs.lemmas.List.Elements.{All-drop, All-take}
 use Rattle.limits.specs.declared.bounds.TheConstants.{MOST_CHANNELS}
-use Rattle.std.specs.Prelude.{◌⊎◌, ◌↔◌, ℤ, pos, ◌+ℤ◌, ◌-ℤ◌, ◌≤ℤ◌, ◌<ℤ◌, Option, Some, None, IsSome, All, option_and_then, slice_get, unwrap_or}
-use Rattle.std.specs.List.{AllByRecursion}
+use Rattle.std.specs.Prelude.{ℤ, pos, ◌+ℤ◌, ◌-ℤ◌, ◌≤ℤ◌, Option, Some, None, IsSome, All, option_and_then, slice_get}
 use mathlib.Core.Bool.{false≢true}
 use Rattle.cells.specs.declared.place.At.{At}
 use Rattle.cells.specs.declared.place.Size.{Size}
 use Rattle.cells.specs.declared.sizes.PartPlace.{PartPlace}
-use Rattle.cells.specs.Places.{HasAxes, IsInside, IsSmall, cell_count, index_in}
+use Rattle.cells.specs.Places.{IsInside, IsSmall, cell_count, index_in}
 use Rattle.cells.specs.Parts.{AreParts, count_from, index_from, or_later, past}
-use Rattle.cells.specs.Cells.{Cells, IsCell, IsInsideOf, IsOnePart, IsVolume, cell_at, sizes_of, with_part}
-use Rattle.cells.specs.SizeLists.{IsPartAlong, IsPartPlace, frames_to_part, size_of_part, stock_place}
+use Rattle.cells.specs.Cells.{Cells, IsCell, IsOnePart, IsVolume, cell_at, sizes_of, with_part}
+use Rattle.cells.specs.SizeLists.{IsPartAlong, IsPartPlace, frames_to_part, stock_place}
 use Rattle.cells.specs.PartLists.{HasOnePart, IsPartOf, StandsIn, one_part_of, part_numbered, parts_from, parts_of}
 use Rattle.cells.proofs.Raster.{has_index, index_below}
 use Rattle.cells.proofs.BoxTests.{of_inside, on_axis_bounds}
-use Rattle.cells.proofs.PartLaws.{IsBehind, index_back, index_front, one_part, parts_behind, small_of, split_from}
+use Rattle.cells.proofs.PartLaws.{index_back, index_front, one_part, parts_behind, small_of}
 use Rattle.cells.proofs.PartBoxes.{found}
 use Rattle.cells.proofs.PartPlaces.{behind_of, in_front, none_behind, of_behind}
-use Rattle.cells.proofs.Joining.{count_behind}
 
 -- reads of a piece of a list
 get_drop : {X : Type 0} (xs : List X) (n j : ℕ) → slice_get xs (n + j) ≡ slice_get (drop n xs) j

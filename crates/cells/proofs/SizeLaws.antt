@@ -1,5 +1,5 @@
 -- Places of parts, as the joined volume counts them.
-use Rattle.std.proofs.Common.{to_z, of_z, ◌≡◌, ◌≤◌, ◌<◌, ◌*◌, ◌-◌, ◌+◌, ◌∷◌, List, ℕ, zero, suc, refl, ap, sym, ◌∙◌, subst, arith, rules}
+use Rattle.std.proofs.Common.{to_z, of_z, ◌≡◌, ◌≤◌, ◌<◌, ◌-◌, List, ℕ, zero, suc, ap, ◌∙◌, arith, rules}
 use Rattle.std.proofs.lemmas.Int.{ints, to_z-of_z}
 use Rattle.std.specs.Prelude.{ℤ, pos, negsuc, ◌+ℤ◌, ◌≤ℤ◌, ◌<ℤ◌, FitsSigned}
 use Rattle.std.specs.Int.{w32}

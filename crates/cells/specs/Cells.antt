@@ -5,7 +5,6 @@ use Rattle.std.specs.Prelude.{◌≡◌, ◌≤◌, ◌<◌, ◌+◌, ◌++◌, 
 use Rattle.std.specs.List.{concat}
 use Rattle.cells.specs.declared.place.At.{At}
 use Rattle.cells.specs.declared.place.Size.{Size}
-use Rattle.cells.specs.declared.place.Box3.{Box3}
 use Rattle.limits.specs.declared.bounds.TheConstants.{MOST_CHANNELS}
 use Rattle.cells.specs.Places.{IsSmall, cell_count, plus, spot}
 use Rattle.cells.specs.Boxes.{IsInBox}

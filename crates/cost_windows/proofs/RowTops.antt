@@ -1,5 +1,5 @@
 -- The greatest numbers of rows, and the greatest of all by them.
-use Rattle.std.proofs.Common.{◌≡◌, ◌≤◌, ◌<◌, ◌⊎◌, ◌+◌, ◌-◌, ◌*◌, ◌/◌, ◌%◌, ℕ, zero, suc, List, length, get_or, take, drop, refl, ap, sym, ◌∙◌, subst, arith, ⊎_elim, length-take, length-drop}
+use Rattle.std.proofs.Common.{◌≡◌, ◌≤◌, ◌<◌, ◌+◌, ◌-◌, ◌*◌, ◌/◌, ◌%◌, ℕ, zero, suc, List, length, get_or, take, drop, refl, ap, sym, ◌∙◌, subst, arith, ⊎_elim, length-take, length-drop}
 use Rattle.std.specs.Prelude.{max}
 use Rattle.std.proofs.Math.Nat.{mul-le-mul_left}
 use Rattle.std.proofs.lemmas.Bool.{cases_lt}

@@ -6,7 +6,6 @@ use Rattle.std.specs.Prelude.{ℤ, pos, ◌+ℤ◌, None, is_some, if◌then◌e
 use mathlib.Core.Bool.{false≢true}
 use Rattle.cells.specs.declared.place.At.{At}
 use Rattle.cells.specs.declared.place.Box3.{Box3}
-use Rattle.cells.specs.declared.place.Size.{Size}
 use Rattle.cells.specs.Boxes.{AxisHolds, HasCells, HoldsBox, IsInBox, cell_in}
 use Rattle.cells.specs.Places.{IsInside, index_in, plus, spot}
 use Rattle.cells.proofs.BoxTests.{of_inside, on_axis_bounds}

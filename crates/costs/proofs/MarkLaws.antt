@@ -1,11 +1,10 @@
 -- Marks by the indices of the cells.
-use Rattle.std.proofs.Common.{◌≡◌, ℕ, ◌+◌, ◌<◌, List, length, get_or, ap, sym, ◌∙◌, subst, Bool, true, false}
-use Rattle.std.specs.Prelude.{Some}
+use Rattle.std.proofs.Common.{◌≡◌, ℕ, ◌<◌, List, length, get_or, ap, sym, ◌∙◌, subst, Bool, true, false}
 use Rattle.cells.specs.Boxes.{HasCells, cell_in}
 use Rattle.cells.specs.Places.{plus}
 use Rattle.cells.proofs.Raster.{place_at}
 use Rattle.map_canvas.specs.declared.canvas.Placement.{Placement}
-use Rattle.map_canvas.specs.Choices.{box_cell, box_count, box_index, chosen}
+use Rattle.map_canvas.specs.Choices.{box_cell, box_count, chosen}
 use Rattle.map_canvas.specs.Maps.{SourceMap, IsFilled}
 use Rattle.map_canvas.proofs.ChoiceLaws.{box_index_of}
 use Rattle.boxes.specs.Walks.{IsAtIndex}

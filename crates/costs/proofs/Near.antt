@@ -1,17 +1,17 @@
 -- Sources, cells of an output, and the places beside them have coordinates of 32 bits.
 use Rattle.std.proofs.Common.{◌≡◌, ℕ, ◌+◌, ◌<◌, ◌≤◌, refl, ap, ◌∙◌, sym, subst, arith, rules}
 use Rattle.std.proofs.lemmas.Int.{ints}
-use Rattle.std.specs.Prelude.{ℤ, pos, negsuc, ◌+ℤ◌, ◌-ℤ◌, ◌≤ℤ◌, Option, Some, None, IfSome, FitsSigned}
+use Rattle.std.specs.Prelude.{ℤ, pos, negsuc, ◌+ℤ◌, ◌-ℤ◌, ◌≤ℤ◌, Option, Some, None, FitsSigned}
 use Rattle.std.specs.Int.{w32}
 use Rattle.cells.specs.declared.place.At.{At}
 use Rattle.cells.specs.declared.place.Size.{Size}
 use Rattle.cells.specs.declared.place.Box3.{Box3}
 use Rattle.cells.specs.declared.place.Axis.{Axis}
 use Rattle.cells.specs.declared.place.Axis.TheVariants.{X, Y, F}
-use Rattle.cells.specs.Places.{DifferenceFits, IsNearAxis, IsSmall, SumFits, index_in, plus, spot}
+use Rattle.cells.specs.Places.{DifferenceFits, IsNearAxis, IsSmall, SumFits, index_in, plus}
 use Rattle.cells.specs.Neighbours.{unit_step}
 use Rattle.cells.specs.Boxes.{AxisHolds, HoldsBox, cell_in}
-use Rattle.cells.proofs.Raster.{OnAxis, index_below, index_parts}
+use Rattle.cells.proofs.Raster.{OnAxis, index_parts}
 use Rattle.map_canvas.specs.Maps.{SourceMap, IsCoordinate, IsMap, IsSource, map_at, source_at}
 use Rattle.boxes.specs.Pairs.{AreCounts}
 use Rattle.boxes.specs.Raster.{largest}

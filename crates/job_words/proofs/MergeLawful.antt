@@ -1,12 +1,11 @@
 -- The job of `merge`: its names differ, and it has a second picture.
-use Rattle.std.proofs.Common.{◌≡◌, ◌≤◌, ℕ, List, [], ◌∷◌, ◌++◌, length, refl, sym, ap, subst, arith}
+use Rattle.std.proofs.Common.{◌≡◌, ℕ, List, [], ◌∷◌, ◌++◌, refl, sym, subst}
 use Rattle.std.specs.Prelude.{Ok}
-use Rattle.std.specs.List.{cons_option}
 use Rattle.job_words.specs.declared.keys.Key.TheVariants as key
 use Rattle.job_words.specs.declared.merge.MergeJob.{MergeJob}
 use Rattle.job_words.specs.declared.table.Row.{Row}
 use Rattle.job_words.specs.declared.settings.Setting.{Setting}
-use Rattle.job_words.specs.Names.{AreNames, more_keys, more_names}
+use Rattle.job_words.specs.Names.{AreNames, more_keys}
 use Rattle.job_words.specs.Words.{value_at, all_settings, HasAllValues}
 use Rattle.job_words.specs.MergeWords.{HasMergeNames, IsMergeJob, merge_of, merge_rows}
 use Rattle.job_words.proofs.Full.{AreAll, AreSound, all_of_words, are_names, full, given_at, is_named, names_listed, second_set, sound}

@@ -1,7 +1,7 @@
 -- A reader has to trust this file. The header of a P6 picture. (Netpbm's PPM, binary form; where a
 -- comment may come is this project's choice: after the magic, the width and the height, with or
 -- without white space before it.)
-use Rattle.std.specs.Prelude.{◌≡◌, ◌≢◌, ◌≤◌, ◌⊎◌, ◌+◌, ◌-◌, ℕ, List, [], ◌∷◌, ◌++◌, length, All, codes}
+use Rattle.std.specs.Prelude.{◌≡◌, ◌≢◌, ◌≤◌, ◌⊎◌, ℕ, List, [], ◌∷◌, ◌++◌, length, All, codes}
 use Rattle.std.specs.List.{AllByRecursion, concat}
 use Rattle.shelf_core.specs.Decimals.{IsDigit, value_behind}
 

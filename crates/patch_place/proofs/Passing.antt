@@ -1,7 +1,7 @@
 -- Many candidates that a walk passes over at once.
 use Rattle.std.proofs.Common.{◌≡◌, ℕ, zero, suc, ◌+◌, ◌<◌, ◌≤◌, List, ◌++◌, map, take, ap, refl, sym, subst, ◌∙◌, arith}
 use Rattle.std.proofs.lemmas.Int.{ints}
-use Rattle.std.specs.Prelude.{ℤ, pos, ◌+ℤ◌, All, Some, slice_get}
+use Rattle.std.specs.Prelude.{pos, ◌+ℤ◌, All, Some, slice_get}
 use Rattle.search_squares.specs.Bounds.{place_along}
 use Rattle.search_squares.specs.Eliminations.{AreEliminatedBy, IsEliminated}
 use Rattle.search_squares.specs.declared.eliminated.Eliminated.{Eliminated}

@@ -1,17 +1,16 @@
 -- The entries of a map over turned samples.
-use Rattle.std.proofs.Common.{◌≡◌, ℕ, zero, suc, ◌+◌, ◌-◌, ◌<◌, ◌≤◌, ◌^◌, List, length, refl, sym, ap, ◌∙◌, subst, arith}
+use Rattle.std.proofs.Common.{◌≡◌, ℕ, suc, ◌<◌, ◌≤◌, ◌^◌, List, length, sym, subst, arith}
 use Rattle.std.proofs.lemmas.Int.{ints}
-use Rattle.std.specs.Prelude.{ℤ, pos, ◌≤ℤ◌, ◌<ℤ◌, All, IsSomeAnd, Some}
+use Rattle.std.specs.Prelude.{ℤ, pos, ◌≤ℤ◌, ◌<ℤ◌, All, IsSomeAnd}
 use Rattle.cells.specs.declared.place.At.{At}
 use Rattle.cells.specs.declared.place.Size.{Size}
-use Rattle.cells.specs.declared.sizes.PartPlace.{PartPlace}
-use Rattle.cells.specs.Places.{HasAxes, IsInside, cell_count, on_axis}
-use Rattle.cells.specs.SizeLists.{AreSizes, IsPartPlace, stock_place}
+use Rattle.cells.specs.Places.{cell_count}
+use Rattle.cells.specs.SizeLists.{AreSizes}
 use Rattle.cells.proofs.BoxTests.{of_inside, on_axis_bounds}
 use Rattle.map_canvas.specs.Maps.{IsMap, IsSource, SourceMap}
 use Rattle.source_map.specs.declared.head.Version.TheVariants.{Two}
 use Rattle.source_map.specs.Heads.{AreSamples}
-use Rattle.source_map.specs.MapFiles.{IsInSamples, IsShort, IsShortCoordinate, part_from}
+use Rattle.source_map.specs.MapFiles.{IsShort, IsShortCoordinate}
 use Rattle.source_map.proofs.MapWriting.{axes_of}
 use Rattle.source_map.proofs.PartLaws.{part_is}
 use Rattle.source_map.proofs.Sources.{stock_source, writable_of}

@@ -1,4 +1,4 @@
-use Rattle.std.proofs.Common.{◌∙◌, sym, subst, ap}
+use Rattle.std.proofs.Common.{◌∙◌, sym, subst}
 use Rattle.cells.specs.declared.place.At.{At}
 use Rattle.cells.specs.Neighbours.{unit_step}
 use Rattle.cells.specs.Places.{SumFits, plus}

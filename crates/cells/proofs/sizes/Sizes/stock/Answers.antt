@@ -1,11 +1,10 @@
 use Rattle.std.proofs.lemmas.Int.{ints}
 use Rattle.cells.proofs.BoxTests.{of_inside, on_axis_bounds}
-use Rattle.std.proofs.Common.{to_z, of_z, ◌≡◌, ◌≤◌, ◌<◌, ◌*◌, ◌-◌, ◌+◌, ◌∷◌, List, ℕ, ap, sym, ◌∙◌, subst, arith}
-use Rattle.std.specs.Prelude.{ℤ, pos, ◌+ℤ◌, FitsSigned, length}
+use Rattle.std.proofs.Common.{to_z, of_z, ◌≡◌, ◌≤◌, ◌-◌, ◌∷◌, List, ℕ, ap, sym, ◌∙◌, subst, arith}
+use Rattle.std.specs.Prelude.{pos, ◌+ℤ◌, FitsSigned, length}
 use Rattle.std.specs.Int.{w32}
 use Rattle.cells.specs.declared.place.Size.{Size}
 use Rattle.cells.specs.declared.place.At.{At}
-use Rattle.cells.specs.Places.{IsInside}
 use Rattle.cells.specs.SizeLists.{frames_to_part, stock_place}
 use Rattle.cells.proofs.SizeLaws.{near_back, stock_fits, stock_is, stock_sum}
 use Rattle.cells.proofs.sizes.Sizes.stock.Goals as goal

@@ -1,6 +1,5 @@
-use Rattle.std.proofs.Common.{◌≡◌, ◌<◌, ◌∙◌, sym, ap, subst}
-use Rattle.std.specs.Prelude.{Some}
-use Rattle.cells.specs.Parts.{count_from, index_from}
+use Rattle.std.proofs.Common.{◌<◌, ◌∙◌, sym, ap, subst}
+use Rattle.cells.specs.Parts.{count_from}
 use Rattle.cells.specs.Cells.{Cells, index_of}
 use Rattle.cells.proofs.PartLaws.{small_of, index_front, index_from_below}
 use Rattle.cells.proofs.volume.Volume.index_of.Goals as goal

@@ -1,6 +1,6 @@
 use Rattle.std.proofs.Common.{◌≡◌, ◌≤◌, ◌+◌, ◌*◌, ap, sym, ◌∙◌, subst, length, take, drop}
 use Rattle.std.specs.Prelude.{Some}
-use Rattle.cells.specs.Parts.{count_from, index_from}
+use Rattle.cells.specs.Parts.{index_from}
 use Rattle.cells.specs.Cells.{Cells, HasRun, index_of, row_at}
 use Rattle.cells.proofs.Buffering.{fits_run, row_of}
 use Rattle.cells.proofs.PartBoxes.{run_of_volume}

@@ -1,7 +1,6 @@
-use Rattle.std.proofs.Common.{◌≡◌, ◌≤◌, ◌^◌, subst, arith}
+use Rattle.std.proofs.Common.{subst, arith}
 use Rattle.std.specs.Prelude.{IfSome}
 use Rattle.std.proofs.lemmas.Option.{IfSome_then}
-use Rattle.match_error.specs.Errors.{error_sum}
 use Rattle.match_error.proofs.Bounds.{error_small}
 use Rattle.offset_errors.specs.Errors.{AreErrors}
 use Rattle.patch_place.proofs.offsets.PartErrors.sum.Goals as goal

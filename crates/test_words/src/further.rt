@@ -17,145 +17,120 @@ fn fault_after(alloc: Global, command: &str, words: &[Name]) -> Option<WordFault
     }
 }
 
-fn fault_of(alloc: Global, words: &[&str]) -> Option<WordFault> {
-    let Ok(list) = words_of(alloc, words) else {
-        return Some(WordFault::NoMemory);
-    };
-    match list.as_slice() {
+fn fault_in(alloc: Global, words: &[Name]) -> Option<WordFault> {
+    match words {
         [command, words @ ..] => fault_after(alloc, command.as_text(), words),
         [] => Some(WordFault::NoCommand),
     }
 }
 
+fn fault_of(alloc: Global, line: &str) -> Option<WordFault> {
+    match words_of(alloc, line) {
+        Ok(words) => fault_in(alloc, words.as_slice()),
+        Err(_) => Some(WordFault::NoMemory),
+    }
+}
+
 // Words, the command first, and why they are refused.
-const REFUSED: &[(&[&str], WordFault)] = &[
-    (&["transfer"], WordFault::Missing(Key::Sample)),
-    (&["transfer", "sample=a"], WordFault::Missing(Key::Target)),
+const REFUSED: &[(&str, WordFault)] = &[
+    ("transfer", WordFault::Missing(Key::Sample)),
+    ("transfer sample=a", WordFault::Missing(Key::Target)),
+    ("transfer target=b sample=a", WordFault::Missing(Key::Out)),
     (
-        &["transfer", "target=b", "sample=a"],
-        WordFault::Missing(Key::Out),
-    ),
-    (
-        &["transfer", "out=c", "target=b", "sample=a"],
+        "transfer out=c target=b sample=a",
         WordFault::Missing(Key::Map),
     ),
     (
-        &["transfer", "map=d", "out=c", "target=b", "sample=a"],
+        "transfer map=d out=c target=b sample=a",
         WordFault::Missing(Key::Record),
     ),
+    ("transfer target=a sample=a", WordFault::SameName(3)),
+    ("transfer target=a out=a", WordFault::SameName(3)),
+    ("transfer target=a map=a", WordFault::SameName(3)),
+    ("transfer record=a target=a", WordFault::SameName(3)),
+    ("transfer alpha=101", WordFault::OutOfRange(2)),
+    ("transfer alpha=0101", WordFault::OutOfRange(2)),
+    ("transfer alpha=-1", WordFault::BadValue(2)),
+    ("transfer alpha=half", WordFault::BadValue(2)),
+    ("transfer alpha=", WordFault::BadWord(2)),
+    ("transfer alpha=050 alpha=50", WordFault::Repeated(3)),
+    ("transfer block=0", WordFault::OutOfRange(2)),
+    ("transfer overlap=4096", WordFault::OutOfRange(2)),
+    ("transfer width=7", WordFault::UnknownKey(2)),
+    ("transfer sample2=b", WordFault::UnknownKey(2)),
+    ("merge", WordFault::Missing(Key::Sample)),
+    ("merge sample=a", WordFault::Missing(Key::More(2))),
+    ("merge sample3=c sample=a", WordFault::Missing(Key::More(2))),
     (
-        &["transfer", "target=a", "sample=a"],
-        WordFault::SameName(3),
-    ),
-    (&["transfer", "target=a", "out=a"], WordFault::SameName(3)),
-    (&["transfer", "target=a", "map=a"], WordFault::SameName(3)),
-    (
-        &["transfer", "record=a", "target=a"],
-        WordFault::SameName(3),
-    ),
-    (&["transfer", "alpha=101"], WordFault::OutOfRange(2)),
-    (&["transfer", "alpha=0101"], WordFault::OutOfRange(2)),
-    (&["transfer", "alpha=-1"], WordFault::BadValue(2)),
-    (&["transfer", "alpha=half"], WordFault::BadValue(2)),
-    (&["transfer", "alpha="], WordFault::BadWord(2)),
-    (
-        &["transfer", "alpha=050", "alpha=50"],
-        WordFault::Repeated(3),
-    ),
-    (&["transfer", "block=0"], WordFault::OutOfRange(2)),
-    (&["transfer", "overlap=4096"], WordFault::OutOfRange(2)),
-    (&["transfer", "width=7"], WordFault::UnknownKey(2)),
-    (&["transfer", "sample2=b"], WordFault::UnknownKey(2)),
-    (&["merge"], WordFault::Missing(Key::Sample)),
-    (&["merge", "sample=a"], WordFault::Missing(Key::More(2))),
-    (
-        &["merge", "sample3=c", "sample=a"],
-        WordFault::Missing(Key::More(2)),
-    ),
-    (
-        &["merge", "sample4=d", "sample2=b", "sample=a"],
+        "merge sample4=d sample2=b sample=a",
         WordFault::Missing(Key::More(3)),
     ),
+    ("merge sample=a sample2=b", WordFault::Missing(Key::Marks)),
     (
-        &["merge", "sample=a", "sample2=b"],
-        WordFault::Missing(Key::Marks),
-    ),
-    (
-        &["merge", "sample=a", "sample2=b", "marks=m"],
+        "merge sample=a sample2=b marks=m",
         WordFault::Missing(Key::Out),
     ),
     (
-        &["merge", "sample=a", "sample2=b", "marks=m", "out=o"],
+        "merge sample=a sample2=b marks=m out=o",
         WordFault::Missing(Key::Map),
     ),
-    (&["merge", "sample2=a", "marks=a"], WordFault::SameName(3)),
-    (&["merge", "marks=a", "out=a"], WordFault::SameName(3)),
-    (&["merge", "record=r"], WordFault::UnknownKey(2)),
-    (&["merge", "sample17=q"], WordFault::UnknownKey(2)),
-    (&["tile"], WordFault::Missing(Key::Sample)),
-    (&["tile", "sample=a"], WordFault::Missing(Key::Out)),
-    (&["tile", "sample=a", "out=o"], WordFault::Missing(Key::Map)),
+    ("merge sample2=a marks=a", WordFault::SameName(3)),
+    ("merge marks=a out=a", WordFault::SameName(3)),
+    ("merge record=r", WordFault::UnknownKey(2)),
+    ("merge sample17=q", WordFault::UnknownKey(2)),
+    ("tile", WordFault::Missing(Key::Sample)),
+    ("tile sample=a", WordFault::Missing(Key::Out)),
+    ("tile sample=a out=o", WordFault::Missing(Key::Map)),
+    ("tile sample=a out=o map=m", WordFault::Missing(Key::Width)),
     (
-        &["tile", "sample=a", "out=o", "map=m"],
-        WordFault::Missing(Key::Width),
-    ),
-    (
-        &["tile", "sample=a", "out=o", "map=m", "width=2", "wrap=x"],
+        "tile sample=a out=o map=m width=2 wrap=x",
         WordFault::Missing(Key::Height),
     ),
-    (&["tile", "out=a", "map=a"], WordFault::SameName(3)),
-    (&["tile", "wrap=yx"], WordFault::BadValue(2)),
-    (&["tile", "wrap=none"], WordFault::BadValue(2)),
-    (&["tile", "wrap=X"], WordFault::BadValue(2)),
-    (&["tile", "wrap="], WordFault::BadWord(2)),
-    (&["tile", "wrap=x", "wrap=y"], WordFault::Repeated(3)),
-    (&["tile", "box=4097"], WordFault::OutOfRange(2)),
-    (&["tile", "record=r"], WordFault::UnknownKey(2)),
-    (&["tile", "rounds=1"], WordFault::UnknownKey(2)),
-    (&["tile", "place=sub"], WordFault::UnknownKey(2)),
-    (&["tile", "turns=all"], WordFault::UnknownKey(2)),
+    ("tile out=a map=a", WordFault::SameName(3)),
+    ("tile wrap=yx", WordFault::BadValue(2)),
+    ("tile wrap=none", WordFault::BadValue(2)),
+    ("tile wrap=X", WordFault::BadValue(2)),
+    ("tile wrap=", WordFault::BadWord(2)),
+    ("tile wrap=x wrap=y", WordFault::Repeated(3)),
+    ("tile box=4097", WordFault::OutOfRange(2)),
+    ("tile record=r", WordFault::UnknownKey(2)),
+    ("tile rounds=1", WordFault::UnknownKey(2)),
+    ("tile place=sub", WordFault::UnknownKey(2)),
+    ("tile turns=all", WordFault::UnknownKey(2)),
     (
-        &["tile", "sample=a", "out=o", "map=m", "width=2", "height=3"],
+        "tile sample=a out=o map=m width=2 height=3",
         WordFault::Narrow(Axis::X),
     ),
     (
-        &["tile", "sample=a", "out=o", "map=m", "width=3", "height=2"],
+        "tile sample=a out=o map=m width=3 height=2",
         WordFault::Narrow(Axis::Y),
     ),
     (
-        &[
-            "tile", "sample=a", "out=o", "map=m", "width=2", "height=1", "wrap=y",
-        ],
+        "tile sample=a out=o map=m width=2 height=1 wrap=y",
         WordFault::Narrow(Axis::Y),
     ),
     (
-        &[
-            "tile", "sample=a", "out=o", "map=m", "width=9", "height=9", "wrap=f",
-        ],
+        "tile sample=a out=o map=m width=9 height=9 wrap=f",
         WordFault::Narrow(Axis::F),
     ),
     (
-        &[
-            "tile", "sample=a", "out=o", "map=m", "width=1", "height=1", "wrap=xyf",
-        ],
+        "tile sample=a out=o map=m width=1 height=1 wrap=xyf",
         WordFault::Narrow(Axis::X),
     ),
     (
-        &[
-            "tile", "frames=2", "sample=a", "out=o", "map=m", "width=3", "height=3", "wrap=xyf",
-        ],
+        "tile frames=2 sample=a out=o map=m width=3 height=3 wrap=xyf",
         WordFault::Narrow(Axis::F),
     ),
     (
-        &["tile", "width=2", "height=2", "wrap=xy", "seed=-1"],
+        "tile width=2 height=2 wrap=xy seed=-1",
         WordFault::BadValue(5),
     ),
 ];
 
 // The number of the first words, from 0, that aren't refused so.
-fn wrong_words(alloc: Global, table: &[(&[&str], WordFault)]) -> Option<usize> {
-    for (i, (words, fault)) in table.iter().enumerate() {
-        if fault_of(alloc, *words) != Some(*fault) {
+fn wrong_words(alloc: Global, table: &[(&str, WordFault)]) -> Option<usize> {
+    for (i, (line, fault)) in table.iter().enumerate() {
+        if fault_of(alloc, line) != Some(*fault) {
             return Some(i);
         }
     }
@@ -201,39 +176,21 @@ fn is_transfer(alloc: Global, words: &[Name], numbers: (u32, u32, u32, u32, u64)
 }
 
 // The same of the words' texts.
-fn is_transferred(alloc: Global, words: &[&str], numbers: (u32, u32, u32, u32, u64)) -> bool {
-    match words_of(alloc, words) {
-        Ok(list) => is_transfer(alloc, list.as_slice(), numbers),
+fn is_transferred(alloc: Global, line: &str, numbers: (u32, u32, u32, u32, u64)) -> bool {
+    match words_of(alloc, line) {
+        Ok(words) => is_transfer(alloc, words.as_slice(), numbers),
         Err(_) => false,
     }
 }
 
-const FEW_OF_TRANSFER: &[&str] = &["record=r", "map=m", "out=o", "target=t", "sample=s"];
+const FEW_OF_TRANSFER: &str = "record=r map=m out=o target=t sample=s";
 
-const ALL_OF_TRANSFER: &[&str] = &[
-    "seed=18446744073709551615",
-    "alpha=100",
-    "tol=1000",
-    "overlap=4095",
-    "block=4096",
-    "sample=s",
-    "target=t",
-    "out=o",
-    "map=m",
-    "record=r",
-];
+const ALL_OF_TRANSFER: &str =
+    "seed=18446744073709551615 alpha=100 tol=1000 overlap=4095 block=4096 sample=s \
+    target=t out=o map=m record=r";
 
-const SMALL_OF_TRANSFER: &[&str] = &[
-    "sample=s",
-    "target=t",
-    "out=o",
-    "map=m",
-    "record=r",
-    "block=1",
-    "overlap=0",
-    "tol=0",
-    "alpha=070",
-];
+const SMALL_OF_TRANSFER: &str =
+    "sample=s target=t out=o map=m record=r block=1 overlap=0 tol=0 alpha=070";
 
 #[test]
 fn transfers(rt: HostRuntime) {
@@ -263,24 +220,16 @@ fn is_merge(alloc: Global, words: &[Name], more: &[&str]) -> bool {
     }
 }
 
-fn is_merged(alloc: Global, words: &[&str], more: &[&str]) -> bool {
-    match words_of(alloc, words) {
-        Ok(list) => is_merge(alloc, list.as_slice(), more),
+fn is_merged(alloc: Global, line: &str, more: &[&str]) -> bool {
+    match words_of(alloc, line) {
+        Ok(words) => is_merge(alloc, words.as_slice(), more),
         Err(_) => false,
     }
 }
 
-const TWO_OF_MERGE: &[&str] = &["map=m", "out=o", "marks=k", "sample2=b", "sample=a"];
+const TWO_OF_MERGE: &str = "map=m out=o marks=k sample2=b sample=a";
 
-const FOUR_OF_MERGE: &[&str] = &[
-    "sample4=d",
-    "sample3=c",
-    "map=m",
-    "out=o",
-    "marks=k",
-    "sample2=b",
-    "sample=a",
-];
+const FOUR_OF_MERGE: &str = "sample4=d sample3=c map=m out=o marks=k sample2=b sample=a";
 
 #[test]
 fn merges(rt: HostRuntime) {
@@ -323,9 +272,9 @@ fn is_tile(alloc: Global, words: &[Name], of: &Tiled) -> bool {
     }
 }
 
-fn is_tiled(alloc: Global, words: &[&str], of: &Tiled) -> bool {
-    match words_of(alloc, words) {
-        Ok(list) => is_tile(alloc, list.as_slice(), of),
+fn is_tiled(alloc: Global, line: &str, of: &Tiled) -> bool {
+    match words_of(alloc, line) {
+        Ok(words) => is_tile(alloc, words.as_slice(), of),
         Err(_) => false,
     }
 }
@@ -360,21 +309,11 @@ const WHOLE: Tiled = Tiled {
     seed: u64::MAX,
 };
 
-const FEW_OF_TILE: &[&str] = &["height=3", "width=3", "map=m", "out=o", "sample=a"];
+const FEW_OF_TILE: &str = "height=3 width=3 map=m out=o sample=a";
 
-const ALL_OF_TILE: &[&str] = &[
-    "seed=18446744073709551615",
-    "tol=1000",
-    "overlap=4095",
-    "box=4096",
-    "wrap=xyf",
-    "frames=3",
-    "height=4096",
-    "width=3",
-    "map=m",
-    "out=o",
-    "sample=a",
-];
+const ALL_OF_TILE: &str =
+    "seed=18446744073709551615 tol=1000 overlap=4095 box=4096 wrap=xyf frames=3 \
+    height=4096 width=3 map=m out=o sample=a";
 
 #[test]
 fn tiles(rt: HostRuntime) {
@@ -383,11 +322,9 @@ fn tiles(rt: HostRuntime) {
 }
 
 // The text of each set of axes, a size that is as small as it may be, and what is then asked for.
-const WRAPPED: &[(&[&str], Size, Wrap)] = &[
+const WRAPPED: &[(&str, Size, Wrap)] = &[
     (
-        &[
-            "sample=a", "out=o", "map=m", "wrap=x", "width=3", "height=1", "frames=1",
-        ],
+        "sample=a out=o map=m wrap=x width=3 height=1 frames=1",
         Size { w: 3, h: 1, f: 1 },
         Wrap {
             x: true,
@@ -396,9 +333,7 @@ const WRAPPED: &[(&[&str], Size, Wrap)] = &[
         },
     ),
     (
-        &[
-            "sample=a", "out=o", "map=m", "wrap=y", "width=1", "height=3", "frames=1",
-        ],
+        "sample=a out=o map=m wrap=y width=1 height=3 frames=1",
         Size { w: 1, h: 3, f: 1 },
         Wrap {
             x: false,
@@ -407,9 +342,7 @@ const WRAPPED: &[(&[&str], Size, Wrap)] = &[
         },
     ),
     (
-        &[
-            "sample=a", "out=o", "map=m", "wrap=xy", "width=3", "height=3", "frames=1",
-        ],
+        "sample=a out=o map=m wrap=xy width=3 height=3 frames=1",
         Size { w: 3, h: 3, f: 1 },
         Wrap {
             x: true,
@@ -418,9 +351,7 @@ const WRAPPED: &[(&[&str], Size, Wrap)] = &[
         },
     ),
     (
-        &[
-            "sample=a", "out=o", "map=m", "wrap=f", "width=1", "height=1", "frames=3",
-        ],
+        "sample=a out=o map=m wrap=f width=1 height=1 frames=3",
         Size { w: 1, h: 1, f: 3 },
         Wrap {
             x: false,
@@ -431,14 +362,14 @@ const WRAPPED: &[(&[&str], Size, Wrap)] = &[
 ];
 
 // The number of the first row, from 0, whose words aren't read so.
-fn wrong_wrap(alloc: Global, table: &[(&[&str], Size, Wrap)]) -> Option<usize> {
-    for (i, (words, size, wrap)) in table.iter().enumerate() {
+fn wrong_wrap(alloc: Global, table: &[(&str, Size, Wrap)]) -> Option<usize> {
+    for (i, (line, size, wrap)) in table.iter().enumerate() {
         let of = Tiled {
             size: *size,
             wrap: *wrap,
             ..DEFAULTS
         };
-        if !is_tiled(alloc, *words, &of) {
+        if !is_tiled(alloc, line, &of) {
             return Some(i);
         }
     }

@@ -1,3 +1,4 @@
+use crate::expect::expect_no_row;
 use cells::Size;
 use job_words::{
     GrowJob, Job, Key, LoopJob, Name, Place, QuiltJob, Taps, TileJob, UpgradeJob, WordFault, Words,
@@ -5,114 +6,105 @@ use job_words::{
 };
 use std::alloc::{AllocError, Global};
 
-pub fn words_of(alloc: Global, words: &[&str]) -> Result<Words, AllocError> {
-    let mut list = Words::new(alloc);
-    for word in words {
-        list.push(word)?;
+fn add_line(words: &mut Words, line: &str) -> Result<(), AllocError> {
+    for word in line.split(' ') {
+        words.push(word)?;
     }
-    Ok(list)
+    Ok(())
 }
 
-fn read(alloc: Global, words: &[&str]) -> Result<Job, WordFault> {
-    let list = words_of(alloc, words)?;
-    read_job(alloc, &list)
+/// The words of a line, which are parted by spaces. (A list of words as a constant is several times as long to prove as
+/// one text.)
+pub fn words_of(alloc: Global, line: &str) -> Result<Words, AllocError> {
+    let mut words = Words::new(alloc);
+    add_line(&mut words, line)?;
+    Ok(words)
+}
+
+fn read(alloc: Global, line: &str) -> Result<Job, WordFault> {
+    let words = words_of(alloc, line)?;
+    read_job(alloc, &words)
 }
 
 // Words, and why they are refused.
-const REFUSED: &[(&[&str], WordFault)] = &[
-    (&[], WordFault::NoCommand),
-    (&["transfer "], WordFault::UnknownCommand),
-    (&["transfer"], WordFault::Missing(Key::Sample)),
-    (&["transfer", "turns=all"], WordFault::UnknownKey(2)),
-    (&["merge"], WordFault::Missing(Key::Sample)),
-    (&["merge", "sample=a"], WordFault::Missing(Key::More(2))),
-    (&["merge", "record=r"], WordFault::UnknownKey(2)),
-    (&["grow "], WordFault::UnknownCommand),
-    (&[""], WordFault::UnknownCommand),
-    (&["tile"], WordFault::Missing(Key::Sample)),
-    (&["tile "], WordFault::UnknownCommand),
-    (&["grow"], WordFault::Missing(Key::Sample)),
-    (&["grow", "sample"], WordFault::BadWord(2)),
-    (&["grow", "sample="], WordFault::BadWord(2)),
-    (&["grow", "=x"], WordFault::BadWord(2)),
-    (&["grow", ""], WordFault::BadWord(2)),
-    (&["grow", "block=4"], WordFault::UnknownKey(2)),
-    (&["grow", "turns=yes"], WordFault::BadValue(2)),
-    (&["grow", "turns=ALL"], WordFault::BadValue(2)),
-    (&["grow", "turns="], WordFault::BadWord(2)),
-    (&["grow", "turns=all", "turns=none"], WordFault::Repeated(3)),
-    (&["check", "turns=1"], WordFault::BadValue(2)),
-    (&["quilt", "turns=all"], WordFault::UnknownKey(2)),
-    (&["loop", "turns=none"], WordFault::UnknownKey(2)),
-    (&["trial", "turns=all"], WordFault::UnknownKey(2)),
-    (&["upgrade", "turns=all"], WordFault::UnknownKey(2)),
-    (&["tile", "turns=all"], WordFault::UnknownKey(2)),
-    (&["merge", "turns=all"], WordFault::UnknownKey(2)),
-    (&["grow", "sample1=a"], WordFault::UnknownKey(2)),
-    (&["grow", "sample02=a"], WordFault::UnknownKey(2)),
-    (&["grow", "sample17=a"], WordFault::UnknownKey(2)),
-    (&["grow", "Sample=a"], WordFault::UnknownKey(2)),
-    (&["grow", "größe=7"], WordFault::UnknownKey(2)),
-    (&["grow", "width=7", "width=8"], WordFault::Repeated(3)),
-    (&["grow", "width=7", "width=x"], WordFault::Repeated(3)),
-    (&["grow", "place=best"], WordFault::BadValue(2)),
-    (&["grow", "height=+7"], WordFault::BadValue(2)),
-    (&["grow", "height=7 "], WordFault::BadValue(2)),
-    (&["grow", "width=0"], WordFault::OutOfRange(2)),
-    (&["grow", "width=4097"], WordFault::OutOfRange(2)),
-    (&["grow", "frames=4097"], WordFault::OutOfRange(2)),
-    (&["grow", "box=0"], WordFault::OutOfRange(2)),
-    (&["grow", "overlap=4096"], WordFault::OutOfRange(2)),
-    (&["grow", "tol=1001"], WordFault::OutOfRange(2)),
-    (&["grow", "rounds=1001"], WordFault::OutOfRange(2)),
+const REFUSED: &[(&str, WordFault)] = &[
+    ("transfer", WordFault::Missing(Key::Sample)),
+    ("transfer turns=all", WordFault::UnknownKey(2)),
+    ("merge", WordFault::Missing(Key::Sample)),
+    ("merge sample=a", WordFault::Missing(Key::More(2))),
+    ("merge record=r", WordFault::UnknownKey(2)),
+    ("tile", WordFault::Missing(Key::Sample)),
+    ("grow", WordFault::Missing(Key::Sample)),
+    ("grow sample", WordFault::BadWord(2)),
+    ("grow sample=", WordFault::BadWord(2)),
+    ("grow =x", WordFault::BadWord(2)),
+    ("grow block=4", WordFault::UnknownKey(2)),
+    ("grow turns=yes", WordFault::BadValue(2)),
+    ("grow turns=ALL", WordFault::BadValue(2)),
+    ("grow turns=", WordFault::BadWord(2)),
+    ("grow turns=all turns=none", WordFault::Repeated(3)),
+    ("check turns=1", WordFault::BadValue(2)),
+    ("quilt turns=all", WordFault::UnknownKey(2)),
+    ("loop turns=none", WordFault::UnknownKey(2)),
+    ("trial turns=all", WordFault::UnknownKey(2)),
+    ("upgrade turns=all", WordFault::UnknownKey(2)),
+    ("tile turns=all", WordFault::UnknownKey(2)),
+    ("merge turns=all", WordFault::UnknownKey(2)),
+    ("grow sample1=a", WordFault::UnknownKey(2)),
+    ("grow sample02=a", WordFault::UnknownKey(2)),
+    ("grow sample17=a", WordFault::UnknownKey(2)),
+    ("grow Sample=a", WordFault::UnknownKey(2)),
+    ("grow größe=7", WordFault::UnknownKey(2)),
+    ("grow width=7 width=8", WordFault::Repeated(3)),
+    ("grow width=7 width=x", WordFault::Repeated(3)),
+    ("grow place=best", WordFault::BadValue(2)),
+    ("grow height=+7", WordFault::BadValue(2)),
+    ("grow width=0", WordFault::OutOfRange(2)),
+    ("grow width=4097", WordFault::OutOfRange(2)),
+    ("grow frames=4097", WordFault::OutOfRange(2)),
+    ("grow box=0", WordFault::OutOfRange(2)),
+    ("grow overlap=4096", WordFault::OutOfRange(2)),
+    ("grow tol=1001", WordFault::OutOfRange(2)),
+    ("grow rounds=1001", WordFault::OutOfRange(2)),
+    ("grow seed=18446744073709551616", WordFault::OutOfRange(2)),
+    ("grow out=a map=a", WordFault::SameName(3)),
+    ("grow sample16=a sample2=a", WordFault::SameName(3)),
+    ("grow width=0 sample", WordFault::OutOfRange(2)),
+    ("grow sample width=0", WordFault::BadWord(2)),
+    ("grow sample2=b", WordFault::Missing(Key::Sample)),
+    ("grow sample=a sample3=c", WordFault::Missing(Key::More(2))),
+    ("grow sample=a sample2=b", WordFault::Missing(Key::Out)),
     (
-        &["grow", "seed=18446744073709551616"],
-        WordFault::OutOfRange(2),
-    ),
-    (&["grow", "out=a", "map=a"], WordFault::SameName(3)),
-    (&["grow", "sample16=a", "sample2=a"], WordFault::SameName(3)),
-    (&["grow", "width=0", "sample"], WordFault::OutOfRange(2)),
-    (&["grow", "sample", "width=0"], WordFault::BadWord(2)),
-    (&["grow", "sample2=b"], WordFault::Missing(Key::Sample)),
-    (
-        &["grow", "sample=a", "sample3=c"],
-        WordFault::Missing(Key::More(2)),
-    ),
-    (
-        &["grow", "sample=a", "sample2=b"],
+        "grow record=d map=c sample=a width=1",
         WordFault::Missing(Key::Out),
     ),
     (
-        &["grow", "record=d", "map=c", "sample=a", "width=1"],
-        WordFault::Missing(Key::Out),
-    ),
-    (
-        &["grow", "record=d", "map=c", "sample=a", "out=b", "width=1"],
+        "grow record=d map=c sample=a out=b width=1",
         WordFault::Missing(Key::Height),
     ),
-    (&["quilt", "sample2=b"], WordFault::UnknownKey(2)),
-    (&["quilt", "frames=1"], WordFault::UnknownKey(2)),
-    (&["quilt", "block=4097"], WordFault::OutOfRange(2)),
-    (&["loop", "taps=3"], WordFault::OutOfRange(2)),
-    (&["loop", "taps=two"], WordFault::BadValue(2)),
-    (&["loop", "gap=0"], WordFault::OutOfRange(2)),
-    (&["loop", "gap=257"], WordFault::OutOfRange(2)),
+    ("quilt sample2=b", WordFault::UnknownKey(2)),
+    ("quilt frames=1", WordFault::UnknownKey(2)),
+    ("quilt block=4097", WordFault::OutOfRange(2)),
+    ("loop taps=3", WordFault::OutOfRange(2)),
+    ("loop taps=two", WordFault::BadValue(2)),
+    ("loop gap=0", WordFault::OutOfRange(2)),
+    ("loop gap=257", WordFault::OutOfRange(2)),
     (
-        &["loop", "sample=a", "out=b", "map=c", "record=d"],
+        "loop sample=a out=b map=c record=d",
         WordFault::Missing(Key::Length),
     ),
-    (&["upgrade", "sample=a"], WordFault::UnknownKey(2)),
-    (&["upgrade", "newmap=m", "map=m"], WordFault::SameName(3)),
+    ("upgrade sample=a", WordFault::UnknownKey(2)),
+    ("upgrade newmap=m map=m", WordFault::SameName(3)),
     (
-        &["upgrade", "newrecord=d", "map=a", "record=b"],
+        "upgrade newrecord=d map=a record=b",
         WordFault::Missing(Key::NewMap),
     ),
 ];
 
 // The number of the first words, from 0, that aren't refused so.
-fn wrong_words(alloc: Global, table: &[(&[&str], WordFault)]) -> Option<usize> {
-    for (i, (words, fault)) in table.iter().enumerate() {
-        if read(alloc, *words).err() != Some(*fault) {
+fn wrong_words(alloc: Global, table: &[(&str, WordFault)]) -> Option<usize> {
+    for (i, (line, fault)) in table.iter().enumerate() {
+        if read(alloc, line).err() != Some(*fault) {
             return Some(i);
         }
     }
@@ -121,18 +113,57 @@ fn wrong_words(alloc: Global, table: &[(&[&str], WordFault)]) -> Option<usize> {
 
 #[test]
 fn refusals(rt: HostRuntime) {
-    assert_eq!(rt; wrong_words(rt.alloc(), REFUSED), None);
+    expect_no_row(&rt, wrong_words(rt.alloc(), REFUSED));
+}
+
+// Words that no line shows well: none, an empty one, and words with a space. And why they are refused.
+const REFUSED_LISTS: &[(&[&str], WordFault)] = &[
+    (&[], WordFault::NoCommand),
+    (&[""], WordFault::UnknownCommand),
+    (&["transfer "], WordFault::UnknownCommand),
+    (&["grow "], WordFault::UnknownCommand),
+    (&["tile "], WordFault::UnknownCommand),
+    (&["grow", ""], WordFault::BadWord(2)),
+    (&["grow", "height=7 "], WordFault::BadValue(2)),
+];
+
+fn add_list(words: &mut Words, list: &[&str]) -> Result<(), AllocError> {
+    for word in list {
+        words.push(word)?;
+    }
+    Ok(())
+}
+
+fn read_list(alloc: Global, list: &[&str]) -> Result<Job, WordFault> {
+    let mut words = Words::new(alloc);
+    add_list(&mut words, list)?;
+    read_job(alloc, &words)
+}
+
+// The number of the first of them, from 0, that isn't refused so.
+fn wrong_list(alloc: Global, table: &[(&[&str], WordFault)]) -> Option<usize> {
+    for (i, (list, fault)) in table.iter().enumerate() {
+        if read_list(alloc, *list).err() != Some(*fault) {
+            return Some(i);
+        }
+    }
+    None
+}
+
+#[test]
+fn refusals_of_lists(rt: HostRuntime) {
+    expect_no_row(&rt, wrong_list(rt.alloc(), REFUSED_LISTS));
 }
 
 // Numbers of 400 digits.
-const NINES: &str = "width=\
+const NINES: &str = "grow width=\
     99999999999999999999999999999999999999999999999999999999999999999999999999999999\
     99999999999999999999999999999999999999999999999999999999999999999999999999999999\
     99999999999999999999999999999999999999999999999999999999999999999999999999999999\
     99999999999999999999999999999999999999999999999999999999999999999999999999999999\
     99999999999999999999999999999999999999999999999999999999999999999999999999999999";
 
-const ZEROS: &str = "width=\
+const ZEROS: &str = "grow width=\
     00000000000000000000000000000000000000000000000000000000000000000000000000000000\
     00000000000000000000000000000000000000000000000000000000000000000000000000000000\
     00000000000000000000000000000000000000000000000000000000000000000000000000000000\
@@ -141,19 +172,12 @@ const ZEROS: &str = "width=\
 
 #[test]
 fn long_numbers_out_of_range(rt: HostRuntime) {
-    let fault = read(rt.alloc(), &["grow", NINES]).err();
-    assert!(rt; fault == Some(WordFault::OutOfRange(2)));
-    let fault = read(rt.alloc(), &["grow", ZEROS]).err();
-    assert!(rt; fault == Some(WordFault::OutOfRange(2)));
+    let table = [
+        (NINES, WordFault::OutOfRange(2)),
+        (ZEROS, WordFault::OutOfRange(2)),
+    ];
+    expect_no_row(&rt, wrong_words(rt.alloc(), &table));
 }
-
-// A height of 7, with 399 zeros before it.
-const SEVEN: &str = "height=\
-    00000000000000000000000000000000000000000000000000000000000000000000000000000000\
-    00000000000000000000000000000000000000000000000000000000000000000000000000000000\
-    00000000000000000000000000000000000000000000000000000000000000000000000000000000\
-    00000000000000000000000000000000000000000000000000000000000000000000000000000000\
-    00000000000000000000000000000000000000000000000000000000000000000000000000000007";
 
 // A name has this text.
 pub fn is_name(name: &Name, text: &str) -> bool {
@@ -246,8 +270,8 @@ fn is_asked(job: &Job, grown: &Grown) -> bool {
 
 // Whether words are read as a job that has what they say. (The end of a job, spelled out in this function, would be
 // most of the proof of all tests: `drop` has it proved by itself.)
-fn is_read(alloc: Global, words: &[&str], grown: &Grown) -> bool {
-    match read(alloc, words) {
+fn is_read(alloc: Global, line: &str, grown: &Grown) -> bool {
+    match read(alloc, line) {
         Ok(job) => {
             let is_asked = is_asked(&job, grown);
             drop(job);
@@ -293,65 +317,34 @@ const WHOLE: Grown<'static> = Grown {
     turns: true,
 };
 
-const DEFAULT_WORDS: &[&str] = &[
-    "grow",
-    "width=4096",
-    "record=d",
-    SEVEN,
-    "map=größe=x",
-    "sample=a",
-    "out=place",
-];
+// With a height of 7 that has 399 zeros before it.
+const DEFAULT_WORDS: &str = "grow width=4096 record=d height=\
+    00000000000000000000000000000000000000000000000000000000000000000000000000000000\
+    00000000000000000000000000000000000000000000000000000000000000000000000000000000\
+    00000000000000000000000000000000000000000000000000000000000000000000000000000000\
+    00000000000000000000000000000000000000000000000000000000000000000000000000000000\
+    00000000000000000000000000000000000000000000000000000000000000000000000000000007 \
+    map=größe=x sample=a out=place";
 
 #[test]
 fn defaults(rt: HostRuntime) {
     assert!(rt; is_read(rt.alloc(), DEFAULT_WORDS, &DEFAULTS));
 }
 
-const ALL_KEYS: &[&str] = &[
-    "grow",
-    "seed=18446744073709551615",
-    "rounds=1000",
-    "tol=01000",
-    "overlap=4095",
-    "box=4096",
-    "place=random",
-    "frames=3",
-    "height=1",
-    "width=2",
-    "record=r",
-    "map=m",
-    "out=o",
-    "sample3=c",
-    "sample=a",
-    "sample2=b",
-    "turns=all",
-];
+const ALL_KEYS: &str = "grow seed=18446744073709551615 rounds=1000 tol=01000 overlap=4095 box=4096 \
+    place=random frames=3 height=1 width=2 record=r map=m out=o sample3=c sample=a \
+    sample2=b turns=all";
 
 #[test]
 fn all_keys(rt: HostRuntime) {
     assert!(rt; is_read(rt.alloc(), ALL_KEYS, &WHOLE));
 }
 
-const CHECK_WORDS: &[&str] = &["check", "sample=a", "out=o", "map=m", "record=r"];
+const CHECK_WORDS: &str = "check sample=a out=o map=m record=r";
 
-const WITHOUT_TURNS: &[&str] = &[
-    "check",
-    "sample=a",
-    "out=o",
-    "map=m",
-    "record=r",
-    "turns=none",
-];
+const WITHOUT_TURNS: &str = "check sample=a out=o map=m record=r turns=none";
 
-const WITH_TURNS: &[&str] = &[
-    "check",
-    "turns=all",
-    "sample=a",
-    "out=o",
-    "map=m",
-    "record=r",
-];
+const WITH_TURNS: &str = "check turns=all sample=a out=o map=m record=r";
 
 #[test]
 fn turns_of_checks(rt: HostRuntime) {
@@ -360,32 +353,28 @@ fn turns_of_checks(rt: HostRuntime) {
     assert!(rt; is_read(rt.alloc(), WITH_TURNS, &WHOLE));
 }
 
-const QUILT_WORDS: &[&str] = &[
-    "quilt", "sample=a", "height=2", "out=o", "map=m", "record=r", "width=3",
-];
+const QUILT_WORDS: &str = "quilt sample=a height=2 out=o map=m record=r width=3";
 
 #[test]
 fn defaults_of_quilts(rt: HostRuntime) {
     assert!(rt; is_read(rt.alloc(), QUILT_WORDS, &DEFAULTS));
 }
 
-const LOOP_WORDS: &[&str] = &["loop", "sample=a", "out=o", "map=m", "record=r", "length=7"];
+const LOOP_WORDS: &str = "loop sample=a out=o map=m record=r length=7";
 
 #[test]
 fn defaults_of_loops(rt: HostRuntime) {
     assert!(rt; is_read(rt.alloc(), LOOP_WORDS, &DEFAULTS));
 }
 
-const UPGRADE_WORDS: &[&str] = &["upgrade", "newrecord=d", "newmap=c", "record=b", "map=a"];
+const UPGRADE_WORDS: &str = "upgrade newrecord=d newmap=c record=b map=a";
 
 #[test]
 fn files_of_upgrades(rt: HostRuntime) {
     assert!(rt; is_read(rt.alloc(), UPGRADE_WORDS, &DEFAULTS));
 }
 
-const TILE_WORDS: &[&str] = &[
-    "tile", "sample=a", "out=o", "map=m", "width=3", "height=3", "seed=7",
-];
+const TILE_WORDS: &str = "tile sample=a out=o map=m width=3 height=3 seed=7";
 
 #[test]
 fn words_of_a_tile(rt: HostRuntime) {

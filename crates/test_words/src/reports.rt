@@ -204,12 +204,20 @@ const LINES: &[(Fault, u8, &str)] = &[
     ),
 ];
 
+// Whether this line is said of a fault.
+fn is_said(fault: &Fault, sink: &mut MemSink, line: &str) -> bool {
+    say_fault(fault, sink).is_ok() && sink.bytes() == line.as_bytes()
+}
+
+fn has_line(alloc: Global, fault: &Fault, line: &str) -> bool {
+    let mut sink = MemSink::new(alloc);
+    is_said(fault, &mut sink, line)
+}
+
 // The number of the first fault, from 0, that has another status or another line.
 fn wrong_line(alloc: Global, table: &[(Fault, u8, &str)]) -> Option<usize> {
     for (i, (fault, number, line)) in table.iter().enumerate() {
-        let mut sink = MemSink::new(alloc);
-        let is_said = say_fault(fault, &mut sink).is_ok();
-        if !is_said || sink.bytes() != line.as_bytes() || status(fault) != *number {
+        if !has_line(alloc, fault, line) || status(fault) != *number {
             return Some(i);
         }
     }
@@ -230,24 +238,35 @@ const SUMMARY: Summary = Summary::Grow {
 
 const REPORT: &[u8] = b"grow 3x2x1\nplacements 6\nrounds 0\nseams 10710\n";
 
+fn is_reported(sink: &mut MemSink) -> bool {
+    report(&SUMMARY, sink).is_ok() && sink.bytes() == REPORT
+}
+
+fn is_report(alloc: Global) -> bool {
+    let mut sink = MemSink::new(alloc);
+    is_reported(&mut sink)
+}
+
 #[test]
 fn reports(rt: HostRuntime) {
-    let mut sink = MemSink::new(rt.alloc());
-    let is_said = report(&SUMMARY, &mut sink).is_ok();
-    assert!(rt; is_said && sink.bytes() == REPORT);
+    assert!(rt; is_report(rt.alloc()));
 }
 
 const REPEATED: Fault = Fault::Words(WordFault::Repeated(3));
 
-// A sink that fails in mid-line has the front of the line, and the call tells.
-fn is_front(alloc: Global) -> Result<bool, AllocError> {
-    let mut sink = MemSink::new(alloc);
+// A sink that fails in mid-line has a prefix of the line, and the call reports it.
+fn leaves_prefix(sink: &mut MemSink) -> Result<bool, AllocError> {
     sink.fail_at(4, 3)?;
-    let is_told = say_fault(&REPEATED, &mut sink).is_err() && sink.faults() == 1;
-    Ok(is_told && sink.bytes() == b"weave: word 3: rep".as_slice())
+    let is_reported = say_fault(&REPEATED, sink).is_err() && sink.faults() == 1;
+    Ok(is_reported && sink.bytes() == b"weave: word 3: rep".as_slice())
+}
+
+fn is_prefix(alloc: Global) -> Result<bool, AllocError> {
+    let mut sink = MemSink::new(alloc);
+    leaves_prefix(&mut sink)
 }
 
 #[test]
 fn failing_sink(rt: HostRuntime) {
-    expect_true(&rt, is_front(rt.alloc()));
+    expect_true(&rt, is_prefix(rt.alloc()));
 }

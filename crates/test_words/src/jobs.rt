@@ -326,57 +326,40 @@ const DEFAULT_WORDS: &str = "grow width=4096 record=d height=\
     00000000000000000000000000000000000000000000000000000000000000000000000000000007 \
     map=größe=x sample=a out=place";
 
-#[test]
-fn defaults(rt: HostRuntime) {
-    assert!(rt; is_read(rt.alloc(), DEFAULT_WORDS, &DEFAULTS));
-}
-
 const ALL_KEYS: &str = "grow seed=18446744073709551615 rounds=1000 tol=01000 overlap=4095 box=4096 \
     place=random frames=3 height=1 width=2 record=r map=m out=o sample3=c sample=a \
     sample2=b turns=all";
 
-#[test]
-fn all_keys(rt: HostRuntime) {
-    assert!(rt; is_read(rt.alloc(), ALL_KEYS, &WHOLE));
+// Words, and what `grow` is then asked for, or with which turns `check` is. What the others are asked for, `is_asked` has.
+const READ: &[(&str, &Grown<'static>)] = &[
+    (DEFAULT_WORDS, &DEFAULTS),
+    (ALL_KEYS, &WHOLE),
+    ("check sample=a out=o map=m record=r", &DEFAULTS),
+    ("check sample=a out=o map=m record=r turns=none", &DEFAULTS),
+    ("check turns=all sample=a out=o map=m record=r", &WHOLE),
+    (
+        "quilt sample=a height=2 out=o map=m record=r width=3",
+        &DEFAULTS,
+    ),
+    ("loop sample=a out=o map=m record=r length=7", &DEFAULTS),
+    ("upgrade newrecord=d newmap=c record=b map=a", &DEFAULTS),
+    (
+        "tile sample=a out=o map=m width=3 height=3 seed=7",
+        &DEFAULTS,
+    ),
+];
+
+// The number of the first words, from 0, that aren't read so.
+fn wrong_read(alloc: Global, table: &[(&str, &Grown)]) -> Option<usize> {
+    for (i, (line, grown)) in table.iter().enumerate() {
+        if !is_read(alloc, line, grown) {
+            return Some(i);
+        }
+    }
+    None
 }
 
-const CHECK_WORDS: &str = "check sample=a out=o map=m record=r";
-
-const WITHOUT_TURNS: &str = "check sample=a out=o map=m record=r turns=none";
-
-const WITH_TURNS: &str = "check turns=all sample=a out=o map=m record=r";
-
 #[test]
-fn turns_of_checks(rt: HostRuntime) {
-    assert!(rt; is_read(rt.alloc(), CHECK_WORDS, &DEFAULTS));
-    assert!(rt; is_read(rt.alloc(), WITHOUT_TURNS, &DEFAULTS));
-    assert!(rt; is_read(rt.alloc(), WITH_TURNS, &WHOLE));
-}
-
-const QUILT_WORDS: &str = "quilt sample=a height=2 out=o map=m record=r width=3";
-
-#[test]
-fn defaults_of_quilts(rt: HostRuntime) {
-    assert!(rt; is_read(rt.alloc(), QUILT_WORDS, &DEFAULTS));
-}
-
-const LOOP_WORDS: &str = "loop sample=a out=o map=m record=r length=7";
-
-#[test]
-fn defaults_of_loops(rt: HostRuntime) {
-    assert!(rt; is_read(rt.alloc(), LOOP_WORDS, &DEFAULTS));
-}
-
-const UPGRADE_WORDS: &str = "upgrade newrecord=d newmap=c record=b map=a";
-
-#[test]
-fn files_of_upgrades(rt: HostRuntime) {
-    assert!(rt; is_read(rt.alloc(), UPGRADE_WORDS, &DEFAULTS));
-}
-
-const TILE_WORDS: &str = "tile sample=a out=o map=m width=3 height=3 seed=7";
-
-#[test]
-fn words_of_a_tile(rt: HostRuntime) {
-    assert!(rt; is_read(rt.alloc(), TILE_WORDS, &DEFAULTS));
+fn jobs_that_words_ask_for(rt: HostRuntime) {
+    expect_no_row(&rt, wrong_read(rt.alloc(), READ));
 }

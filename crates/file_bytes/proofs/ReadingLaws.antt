@@ -75,7 +75,7 @@ stops_later name end end' a b c (Limit what number bound) le reads stops = absur
 stops_later name end end' a b c NoMemory le reads stops = absurd stops
 
 -- after so many of the bytes that wait were given, the others are those of the file from there on
-ahead_still : (r : Reading) (n : ℕ) (bytes : List ℕ) → n ≤ length r.waiting → IsAhead r bytes → IsAhead (after_serving r n) bytes
+pub ahead_still : (r : Reading) (n : ℕ) (bytes : List ℕ) → n ≤ length r.waiting → IsAhead r bytes → IsAhead (after_serving r n) bytes
 ahead_still r n bytes le ahead =
     let left : length (drop n r.waiting) ≡ length r.waiting - n = length-drop n r.waiting in
     let whole : length r.waiting ≡ n + length (drop n r.waiting) = omega arith in

@@ -83,6 +83,23 @@ impl FileReader {
         self.at
     }
 
+    /// The bytes that wait: those from the place on that were asked for, and have not been read.
+    pub fn waiting(&self) -> &[u8]
+        ensures { result.now ≡ self.now.waiting }
+    {
+        &self.buffer[self.start..self.end]
+    }
+
+    /// Goes past so many of the bytes that wait.
+    pub fn skip(&mut self, n: usize)
+        requires waits { n ≤ length self.old.waiting }
+        requires room { self.old.at + n < 2 ^ 63 }
+        ensures { self.new ≡ after_serving self.old n }
+    {
+        self.start += n;
+        self.at += n as u64;
+    }
+
     // Asks for the next bytes, where none wait and the file isn't known to have ended.
     fn refill<S: Shelf>(&mut self, shelf: &mut S, name: &str) -> Result<(), Failed>
         requires follows { Follows name.now (S.state shelf.old) self.old }

@@ -1,5 +1,6 @@
 pub mod FieldLaws
 pub mod SourceLists
+pub mod WaitingLaws
 pub mod HeadWriting
 pub mod PartLaws
 pub mod MapWriting

@@ -1,3 +1,4 @@
 pub mod Readings
 pub mod Heads
 pub mod MapFiles
+pub mod Waiting

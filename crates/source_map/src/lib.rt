@@ -9,6 +9,8 @@ mod head_reading;
 mod law;
 mod map_file;
 mod map_reading;
+mod source_reading;
+mod waiting;
 
 pub use head::{Head, Version, put_head};
 pub use head_reading::{read_head, read_size, read_sizes};

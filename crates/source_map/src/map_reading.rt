@@ -5,19 +5,19 @@ ghost use Rattle.shelf_core.specs.Files.{OnlyReadsFile};
 ghost use Rattle.cells.specs.Places.{HasAxes, IsInside, IsSmall, cell_count, spot};
 ghost use Rattle.cells.specs.SizeLists.{AreSizes, IsInPart, stock_place};
 ghost use Rattle.file_bytes.specs.Reading.{Follows};
-ghost use Rattle.map_canvas.specs.Maps.{IsMap, IsSource};
+ghost use Rattle.map_canvas.specs.Maps.{IsSource};
 ghost use Rattle.source_map.specs.Heads.{AreSamples};
-ghost use Rattle.source_map.specs.MapFiles.{IsInSamples, IsMapFile, IsVersionOneMap, MapReadsAs, MapReadsBy, below_rule, body_read, cells_read, cells_rule, frames_read, numbered_size, part_rule, place_read, same_rule, sample_read, samples_read, source_read, sources_read, value_read, version_one_map_read, version_one_value_read};
+ghost use Rattle.source_map.specs.MapFiles.{IsInSamples, IsMapFile, IsVersionOneMap, MapReadsAs, MapReadsBy, below_rule, body_read, cells_read, cells_rule, frames_read, numbered_size, part_rule, place_read, same_rule, sample_read, samples_read, source_read, value_read, version_one_map_read, version_one_value_read};
 ghost use Rattle.source_map.specs.Readings.{IsRefusal, ReadsFrom, list_read, number_read};
 
 use crate::head::Version;
 use crate::head_reading::{Start, form, read_axis, read_samples, read_start};
 use crate::map_file::{MAGIC, MapFile};
+use crate::source_reading::read_sources;
 use cells::{At, Size, Sizes};
 use file_bytes::{FileReader, make_room};
 use items::Items;
 use limits::MOST_MAP_CELLS;
-use map_canvas::{Entry, Map};
 use shelf_core::{ReadError, Shelf, What};
 use std::alloc::Global;
 
@@ -148,7 +148,7 @@ fn read_part<S: Shelf>(
 
 // The place of three counts.
 #[inline(always)]
-fn place_at(x: u16, y: u16, f: u16) -> At
+pub(crate) fn place_at(x: u16, y: u16, f: u16) -> At
     ensures { result ≡ spot x y f }
 {
     At {
@@ -272,7 +272,7 @@ fn read_numbered_source<S: Shelf>(
 }
 
 // Reads the source of a cell.
-fn read_source<S: Shelf>(
+pub(crate) fn read_source<S: Shelf>(
     file: &mut FileReader,
     version: Version,
     samples: &Sizes,
@@ -293,41 +293,6 @@ fn read_source<S: Shelf>(
         Version::One => read_place_source(file, samples, shelf, name),
         Version::Two => read_numbered_source(file, samples, shelf, name),
     }
-}
-
-// Reads the sources of all cells of an output.
-fn read_sources<S: Shelf>(
-    alloc: Global,
-    file: &mut FileReader,
-    version: Version,
-    samples: &Sizes,
-    size: Size,
-    shelf: &mut S,
-    name: &str,
-) -> Result<Map, ReadError>
-    requires follows { Follows name.now (S.state shelf.old) file.old }
-    requires room { file.old.at ≤ 216 }
-    requires samples { AreSizes samples.now }
-    requires small { IsSmall size }
-    ensures answer { ReadsFrom (Unit {0}) name.now file.old.at (S.state shelf.old)
-        (S.state shelf.new) file.new (sources_read version samples.now size) result }
-    ensures map { IfOk result IsMap }
-    ensures size { IfOk result (λ m. m.size ≡ size) }
-    ensures inside { IfOk result (λ m.
-        All (λ source. IsSomeAnd source (IsInSamples samples.now)) m.sources) }
-    ensures place { OnOk result (file.new.at ≤ file.old.at + 8 * cell_count size) }
-    ensures reads { OnlyReadsFile name.now (S.state shelf.old) (S.state shelf.new) }
-{
-    let count = size.cells();
-    let mut sources = Vec::new(alloc);
-    for i in 0..count {
-        make_room(&mut sources, count - i)?;
-        let source = read_source(file, version, samples, shelf, name)?;
-        let Ok(()) = sources.push(Entry::new(source)) else {
-            return Err(ReadError::NoMemory);
-        };
-    }
-    Ok(Map::from_sources(size, sources))
 }
 
 // Reads the samples' sizes of a map, and tries the limit on the output's cells.

@@ -1,17 +1,18 @@
 // The check of a block record against the canvas before it.
 ghost use Rattle.std.specs.Prelude.{◌≡◌, ◌≤◌, ◌<◌, ◌/◌, ◌%◌, ◌⊎◌, ◌↔◌, ◌*◌, IsTrue, OnOk, length};
 ghost use Rattle.cells.specs.Boxes.{HasCells};
-ghost use Rattle.cells.specs.Places.{IsSmall, cell_count};
+ghost use Rattle.cells.specs.Places.{IsSmall, cell_count, plus, spot};
 ghost use Rattle.cells.specs.Firsts.{FirstWithout};
 ghost use Rattle.map_canvas.specs.Canvases.{StandsOver};
-ghost use Rattle.map_canvas.specs.Choices.{Fits, box_cell};
+ghost use Rattle.map_canvas.specs.Choices.{Fits};
 ghost use Rattle.block_check.specs.Blocks.{HasColumnsOn, IsFormedBlock, cols_on};
 ghost use Rattle.block_check.specs.Records.{BlockIsLeast, Checks, ChecksJoin, OverlapsRight};
-ghost use Rattle.block_check.specs.Steps.{AreColumnsOn, ChecksStrip, IsSharedAt};
+ghost use Rattle.block_check.specs.Steps.{AreColumnsOn, ChecksStrip, IsSharedAt, IsSharedCell};
 
 use crate::BlockRecord;
 use block_strips::{Side, strip_of};
 use cells::{At, Box3, Volume};
+use limits::GREATEST_AXIS;
 use map_canvas::{Canvas, Map, Placement};
 use std::alloc::{AllocError, Global};
 use strip_boundary::{BlockFault, BoundaryRecord, Strip, check_boundary};
@@ -73,38 +74,75 @@ pub(crate) fn cols_on(side: Side, placement: &Placement, boundary: &Option<Bound
     }
 }
 
-// The cell of a block at an index.
-fn cell_at(placement: &Placement, i: usize, canvas: &Canvas, sample: &Volume) -> At
+// The step from a block's first cell to that in a column and a row.
+fn step_to(x: u32, y: u32) -> At
+    requires { (x < GREATEST_AXIS) × (y < GREATEST_AXIS) }
+    ensures { result ≡ spot x y 0 }
+{
+    At {
+        x: x as i32,
+        y: y as i32,
+        f: 0,
+    }
+}
+
+// The cell of a block in a column and a row.
+fn cell_at(placement: &Placement, x: u32, y: u32, canvas: &Canvas, sample: &Volume) -> At
     requires fits { Fits canvas.now.map.size sample.now placement.now }
-    requires below { i < cell_count placement.now.rect.size }
-    ensures { result ≡ box_cell placement.now i }
+    requires column { x < placement.now.rect.size.w }
+    requires row { y < placement.now.rect.size.h }
+    ensures { result ≡ plus placement.now.rect.corner (spot x y 0) }
 {
     // Called for its contract only: it shows the prover that this is a canvas.
     let _map = canvas.map();
-    placement.rect.corner.plus(placement.rect.size.place_at(i))
+    placement.rect.corner.plus(step_to(x, y))
 }
 
-// Whether the cell of a block at an index is filled exactly where a strip has it.
+// Whether the cell of a block in a column and a row is filled exactly where a strip has it.
 fn is_shared(
     canvas: &Canvas,
     sample: &Volume,
     placement: &Placement,
     left: u32,
     top: u32,
-    i: usize,
+    x: u32,
+    y: u32,
 ) -> bool
     requires fits { Fits canvas.now.map.size sample.now placement.now }
-    requires below { i < cell_count placement.now.rect.size }
-    ensures { IsTrue result ↔ IsSharedAt canvas.now.map placement.now left top i }
+    requires column { x < placement.now.rect.size.w }
+    requires row { y < placement.now.rect.size.h }
+    ensures { IsTrue result ↔ IsSharedCell canvas.now.map placement.now left top x y }
 {
-    let w = placement.rect.size.w as usize;
-    let h = placement.rect.size.h as usize;
-    let filled = canvas.is_filled(cell_at(placement, i, canvas, sample));
-    let in_strip = i % w < left as usize || i / w % h < top as usize;
+    let filled = canvas.is_filled(cell_at(placement, x, y, canvas, sample));
+    let in_strip = x < left || y < top;
     filled == in_strip
 }
 
-// The first cell of a block, by its index, that is in a strip and isn't filled, or filled in no strip.
+// The first cell of a row of a block, by its column, that is in a strip and isn't filled, or filled in
+// no strip.
+fn first_unlike_in(
+    canvas: &Canvas,
+    sample: &Volume,
+    placement: &Placement,
+    left: u32,
+    top: u32,
+    y: u32,
+) -> Option<u32>
+    requires fits { Fits canvas.now.map.size sample.now placement.now }
+    requires row { y < placement.now.rect.size.h }
+    ensures { FirstWithout placement.now.rect.size.w
+        (λ x. IsSharedCell canvas.now.map placement.now left top x y) result }
+{
+    for x in 0..placement.rect.size.w {
+        if !is_shared(canvas, sample, placement, left, top, x, y) {
+            return Some(x);
+        }
+    }
+    None
+}
+
+// The first cell of a block of one frame, by its index, that is in a strip and isn't filled, or filled
+// in no strip.
 fn first_unlike(
     canvas: &Canvas,
     sample: &Volume,
@@ -113,14 +151,14 @@ fn first_unlike(
     top: u32,
 ) -> Option<usize>
     requires fits { Fits canvas.now.map.size sample.now placement.now }
+    requires frame { placement.now.rect.size.f ≡ 1 }
     ensures { FirstWithout (cell_count placement.now.rect.size)
         (IsSharedAt canvas.now.map placement.now left top) result }
 {
-    // Called for its contract only: it shows the prover that this is a canvas.
-    let _map = canvas.map();
-    for i in 0..placement.rect.size.cells() {
-        if !is_shared(canvas, sample, placement, left, top, i) {
-            return Some(i);
+    let w = placement.rect.size.w as usize;
+    for y in 0..placement.rect.size.h {
+        if let Some(x) = first_unlike_in(canvas, sample, placement, left, top, y) {
+            return Some(x as usize + w * y as usize);
         }
     }
     None

@@ -1,11 +1,11 @@
 // The new cells of a block.
-ghost use Rattle.std.specs.Prelude.{◌≡◌, IfOk, OnErr, OnOk};
+ghost use Rattle.std.specs.Prelude.{◌≡◌, ◌<◌, ◌+◌, IfOk, OnErr, OnOk};
 ghost use Rattle.cells.specs.Places.{IsSmall};
 ghost use Rattle.map_canvas.specs.Canvases.{IsCanvas, StandsOver};
 ghost use Rattle.block_strips.specs.declared.side.Side.TheVariants.{Left, Top};
-ghost use Rattle.block_check.specs.Blocks.{FillsBlock, IsFormedBlock, after_block, is_new_at, lets_new, new_cells, strip_cols};
+ghost use Rattle.block_check.specs.Blocks.{FillsBlock, IsFormedBlock, after_block, block_lets_new, lets_new, new_cells, strip_cols};
 ghost use Rattle.block_check.specs.Records.{BlockStands};
-ghost use Rattle.block_check.specs.Steps.{HasColumnIn, HasRowsOn};
+ghost use Rattle.block_check.specs.Steps.{HasColumnIn, HasRowsOn, first_rows};
 
 use crate::BlockRecord;
 use crate::check::cols_on;
@@ -27,19 +27,39 @@ fn lets_new(cols: u32, boundary: &Option<BoundaryRecord>, row: u32, col: u32) ->
     }
 }
 
-// Whether the cell of a block at an index is new, where its strips have so many columns.
-fn is_new_at(block: &BlockRecord, left: u32, top: u32, i: u32) -> bool
-    requires small { IsSmall block.now.placement.rect.size }
+// Whether the cell of a block in a column and a row is new, where its strips have so many columns.
+fn is_new(block: &BlockRecord, left: u32, top: u32, x: u32, y: u32) -> bool
     requires left { left ≡ strip_cols Left block.now }
     requires top { top ≡ strip_cols Top block.now }
     requires left_rows { HasRowsOn Left block.now.placement block.now.left }
     requires top_rows { HasRowsOn Top block.now.placement block.now.top }
-    ensures { result ≡ is_new_at block.now i }
+    requires column { x < block.now.placement.rect.size.w }
+    requires row { y < block.now.placement.rect.size.h }
+    ensures { result ≡ block_lets_new block.now x y }
 {
-    let size = block.placement.rect.size;
-    let x = i % size.w;
-    let y = i / size.w % size.h;
     lets_new(left, &block.left, y, x) && lets_new(top, &block.top, x, y)
+}
+
+// Puts of each cell of a row of a block whether it is new, where its strips have so many columns.
+fn put_row(
+    choice: &mut Vec<bool>,
+    block: &BlockRecord,
+    left: u32,
+    top: u32,
+    y: u32,
+) -> Result<(), AllocError>
+    requires left { left ≡ strip_cols Left block.now }
+    requires top { top ≡ strip_cols Top block.now }
+    requires left_rows { HasRowsOn Left block.now.placement block.now.left }
+    requires top_rows { HasRowsOn Top block.now.placement block.now.top }
+    requires row { y < block.now.placement.rect.size.h }
+    requires before { choice.old.items ≡ first_rows block.now y }
+    ensures { OnOk result (choice.new.items ≡ first_rows block.now (y + 1)) }
+{
+    for x in 0..block.placement.rect.size.w {
+        choice.push(is_new(block, left, top, x, y))?;
+    }
+    Ok(())
 }
 
 // Of each cell of a block, in raster order, whether it is new.
@@ -53,10 +73,9 @@ fn new_cells(alloc: Global, block: &BlockRecord) -> Result<Vec<bool>, AllocError
     let placement = &block.placement;
     let left = cols_on(Side::Left, placement, &block.left);
     let top = cols_on(Side::Top, placement, &block.top);
-    let count = placement.rect.size.cells() as u32;
-    let mut choice = Vec::with_capacity(alloc, count as usize)?;
-    for i in 0..count {
-        choice.push(is_new_at(block, left, top, i))?;
+    let mut choice = Vec::with_capacity(alloc, placement.rect.size.cells())?;
+    for y in 0..placement.rect.size.h {
+        put_row(&mut choice, block, left, top, y)?;
     }
     Ok(choice)
 }

@@ -34,5 +34,5 @@ returns-clause-least c = checked_is_least c.args.canvas.now.map c.args.sample.no
 pub check_joins-requires-clause-right : goal.check_joins-requires-clause-right
 check_joins-requires-clause-right c = grind (arith, common_steps)
 
-pub first_unlike-requires : goal.first_unlike-requires
-first_unlike-requires c = grind (arith, common_steps)
+pub first_unlike-requires-clause-fits : goal.first_unlike-requires-clause-fits
+first_unlike-requires-clause-fits c = c.fits.ensures.0 c.if-not-fits.false

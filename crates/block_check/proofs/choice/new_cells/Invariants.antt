@@ -1,7 +1,6 @@
-use Rattle.std.proofs.Common.{◌≡◌, map}
-use Rattle.std.specs.List.{range_with_len}
-use Rattle.block_check.specs.Blocks.{is_new_at}
+use Rattle.std.proofs.Common.{◌≡◌}
+use Rattle.block_check.specs.Steps.{first_rows}
 use Rattle.block_check.proofs.choice.new_cells.Given as goal
 
-abbrev pub invariant-loop-i : goal.invariant-loop-i
-invariant-loop-i l = l.choice.items ≡ map (is_new_at l.block) (range_with_len 0 l.i)
+abbrev pub invariant-loop-y : goal.invariant-loop-y
+invariant-loop-y l = l.choice.items ≡ first_rows l.block l.y

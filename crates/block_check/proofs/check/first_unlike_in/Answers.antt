@@ -1,0 +1,8 @@
+use Rattle.std.proofs.Common.{below_more}
+use Rattle.block_check.specs.Steps.{IsSharedCell}
+use Rattle.block_check.proofs.check.first_unlike_in.Goals as goal
+
+pub loop-x-preserved : goal.loop-x-preserved
+loop-x-preserved c =
+    below_more (λ x. IsSharedCell c.args.canvas.now.map c.args.placement.now c.args.left c.args.top x c.args.y) c.loop-x.x c.loop-x.invariant
+    (c.is_shared.ensures.0 c.if-not-is_shared.false)

@@ -1,15 +1,13 @@
 -- What a step leaves: a map, with one more of its first cells filled.
-use Rattle.std.proofs.Common.{◌≡◌, ℕ, ◌+◌, ◌<◌, ◌≤◌, ◌⊎◌, inl, inr, ⊎_elim, List, length, map, get_or, refl, ap, sym, ◌∙◌, subst, arith, Bool, true, false, cond}
+use Rattle.std.proofs.Common.{◌≡◌, ℕ, ◌+◌, ◌<◌, ◌≤◌, ◌⊎◌, inl, inr, List, length, map, get_or, refl, ap, sym, ◌∙◌, subst, arith, Bool, true, false, cond}
 use borrow.Author.Tests.{ltb-true}
 use mathlib.Core.Bool.{false≢true}
 use Rattle.std.proofs.lemmas.Bool.{cases_lt}
 use Rattle.std.proofs.lemmas.Int.{ints}
 use Rattle.std.proofs.lemmas.Option.{get_or_from_slice_get, none-some, same_Some}
-use Rattle.std.specs.Prelude.{ℤ, pos, ◌+ℤ◌, ◌≤ℤ◌, Option, Some, None, IsSome, IfSome, is_none, is_some, nat_lt, not, option_map, if◌then◌else◌}
+use Rattle.std.specs.Prelude.{pos, Option, Some, None, IsSome, IfSome, is_none, is_some, nat_lt, not, option_map, if◌then◌else◌}
 use Rattle.std.specs.List.{position_or_len}
 use Rattle.cells.specs.declared.place.At.{At}
-use Rattle.cells.specs.declared.place.Box3.{Box3}
-use Rattle.cells.specs.declared.place.Size.{Size}
 use Rattle.cells.specs.Boxes.{AxisHolds, HasCells}
 use Rattle.cells.specs.Cells.{Cells, Holds, IsVolume}
 use Rattle.cells.specs.Places.{IsInside, cell_count, index_in, place_of, places, plus, spot}
@@ -20,12 +18,11 @@ use Rattle.map_canvas.specs.Choices.{Fits, chosen}
 use Rattle.map_canvas.specs.Maps.{IsFilled, IsFull, IsMap, IsSource, SourceMap, first_unfilled, map_at, source_at}
 use Rattle.map_canvas.proofs.AfterLaws.{filled_of, source_of_place}
 use Rattle.map_canvas.proofs.Filling.{new_sources}
-use Rattle.map_canvas.proofs.Fronts.{front_in, front_passes, front_reaches, front_stops}
+use Rattle.map_canvas.proofs.Fronts.{front_passes, front_reaches, front_stops}
 use Rattle.job_words.specs.declared.tile.TilePlan.{TilePlan}
 use Rattle.job_words.specs.declared.tile.Wrap.{Wrap}
-use Rattle.torus.specs.Steps.{IsNextTile, TileStep, TilesBy, Tiling, map_after_around}
+use Rattle.torus.specs.Steps.{TileStep, TilesBy, Tiling, map_after_around}
 use Rattle.torus.specs.Tiles.{IsInTile, IsKeptAround, IsLawfulAround, after_around, is_new_around, step_around}
-use Rattle.torus.proofs.Fillings.{inside_is}
 
 -- a source of a map is one
 source_is : (m : SourceMap) → IsMap m → (p : At) → IfSome (map_at m p) IsSource

@@ -1,5 +1,5 @@
 -- What is picked and chosen on the small canvas is what is picked and chosen on the torus.
-use Rattle.std.proofs.Common.{◌≡◌, ℕ, ◌≤◌, refl, ap, sym, ◌∙◌, subst, Bool, true, false, List, []}
+use Rattle.std.proofs.Common.{◌≡◌, ℕ, ◌≤◌, refl, ap, sym, ◌∙◌, subst, Bool, false, List, []}
 use mathlib.Core.Bool.{false≢true}
 use Rattle.std.specs.Prelude.{Contains, Option, Some, None, length, not}
 use Rattle.cells.specs.declared.place.At.{At}
@@ -17,7 +17,6 @@ use Rattle.map_canvas.specs.declared.canvas.Placement.{Placement}
 use Rattle.map_canvas.specs.CellErrors.{cell_error}
 use Rattle.map_canvas.specs.Choices.{Fits, box_index, chosen, laid_from}
 use Rattle.map_canvas.specs.Maps.{SourceMap, map_at}
-use Rattle.match_error.specs.declared.error.Error.{Error}
 use Rattle.match_error.specs.Errors.{error_of, one_filled}
 use Rattle.patch_picks.specs.Draws.{DrawState}
 use Rattle.patch_picks.specs.Lists.{fit_list, part_lists}
@@ -29,7 +28,7 @@ use Rattle.job_words.specs.declared.tile.TilePlan.{TilePlan}
 use Rattle.job_words.specs.declared.tile.Wrap.{Wrap}
 use Rattle.torus.specs.Choosing.{IsChosenAround, placed_around}
 use Rattle.torus.specs.Steps.{AreSameAround, IsFewestAround, source_around, tile_error}
-use Rattle.torus.specs.Tiles.{IsInTile, IsLeastAround, IsSmallMap, Takes, is_new_around, small_box, small_placement, step_around}
+use Rattle.torus.specs.Tiles.{IsLeastAround, IsSmallMap, Takes, small_box, step_around}
 use Rattle.torus.specs.Wraps.{around}
 use Rattle.torus.proofs.Picks.{listed_rect, pick_carried}
 use Rattle.torus.proofs.Smalls.{box_inside, source_is}

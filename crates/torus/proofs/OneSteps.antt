@@ -2,14 +2,13 @@
 use Rattle.std.proofs.Common.{◌≡◌, ℕ, ◌<◌, List, length, map, get_or, refl, ap, sym, ◌∙◌, subst, arith, Bool, false}
 use Rattle.std.proofs.lemmas.List.{ext_get_or}
 use Rattle.std.proofs.lemmas.Option.{get_or_from_slice_get, same_Some}
-use Rattle.std.specs.Prelude.{Option, Some, None, IsSome}
+use Rattle.std.specs.Prelude.{Option, None, IsSome}
 use Rattle.cells.specs.declared.place.At.{At}
 use Rattle.cells.specs.Boxes.{HasCells}
 use Rattle.cells.specs.Cells.{Cells}
 use Rattle.cells.specs.Distances.{distance}
 use Rattle.cells.specs.Places.{cell_count, place_of, places}
 use Rattle.cells.proofs.PlaceLists.{count_over, entry_over}
-use Rattle.cells.proofs.Raster.{place_at}
 use Rattle.map_canvas.specs.declared.canvas.Placement.{Placement}
 use Rattle.map_canvas.specs.Choices.{chosen}
 use Rattle.map_canvas.specs.Maps.{IsMap, SourceMap, map_at}
@@ -18,7 +17,7 @@ use Rattle.patch_picks.proofs.OnePick.{one_pick}
 use Rattle.job_words.specs.declared.tile.TilePlan.{TilePlan}
 use Rattle.job_words.specs.declared.tile.Wrap.{Wrap}
 use Rattle.torus.specs.Boxes.{tile_box}
-use Rattle.torus.specs.Steps.{AreSameAround, IsFewestAround, IsNextTile, IsTilePick, ThereIsOneTile, TileStep, TilesBy, Tiling, map_after_around}
+use Rattle.torus.specs.Steps.{AreSameAround, IsFewestAround, IsNextTile, IsTilePick, ThereIsOneTile, Tiling, map_after_around}
 use Rattle.torus.specs.Tiles.{IsAfterAround, Takes, after_around}
 use Rattle.torus.proofs.Fillings.{inside_is}
 use Rattle.torus.proofs.Puts.{cell_inside, cell_of, index_is}

@@ -1,6 +1,6 @@
 -- The box of the next patch: it takes a run of each axis, leaves a cell of each wrapped one out, has the first
 -- unfilled cell, and has a small canvas.
-use Rattle.std.proofs.Common.{◌≡◌, ℕ, ◌+◌, ◌-◌, ◌*◌, ◌<◌, ◌≤◌, ◌⊎◌, inl, inr, min, refl, ap, sym, ◌∙◌, subst, arith, Bool, true, false}
+use Rattle.std.proofs.Common.{◌≡◌, ℕ, ◌+◌, ◌-◌, ◌*◌, ◌<◌, ◌≤◌, inl, inr, min, refl, ap, sym, ◌∙◌, subst, arith, Bool, true, false}
 use Rattle.std.proofs.Math.Nat.{mul-le-mul}
 use Rattle.std.proofs.lemmas.Int.{ints}
 use Rattle.std.specs.Prelude.{ℤ, pos, negsuc, ◌+ℤ◌, ◌-ℤ◌, ◌≤ℤ◌, ◌<ℤ◌, nat_lt, IsSome}
@@ -23,7 +23,7 @@ use Rattle.torus.specs.Filling.{IsTileBox}
 use Rattle.torus.specs.Tiles.{AxisTakes, IsInTile, Takes, has_before, small_axis, small_box, small_size}
 use Rattle.torus.specs.Wraps.{around_axis, on_turn}
 use Rattle.torus.proofs.Axes.{IsApart, IsTurned, turn_is, turned}
-use Rattle.torus.proofs.SmallAxes.{IsSmallAxis, small_axis_of}
+use Rattle.torus.proofs.SmallAxes.{small_axis_of}
 
 -- one axis of a box that is laid for a coordinate q
 pub record IsTileAxis (wrapped : Bool) (n S : ℕ) (corner : ℤ) (len : ℕ) (q : ℤ) : Type 0 where

@@ -32,3 +32,9 @@ loop-k-preserved c =
 
 pub returns-clause-numbers : goal.returns-clause-numbers
 returns-clause-numbers c = grind (arith, common_steps)
+
+pub next_distance-number-requires-clause-small : goal.next_distance-number-requires-clause-small
+next_distance-number-requires-clause-small c = grind (arith, common_steps)
+
+pub returns-clause-small : goal.returns-clause-small
+returns-clause-small c = grind (arith, common_steps)

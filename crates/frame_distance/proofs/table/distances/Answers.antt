@@ -1,3 +1,5 @@
+use Rattle.std.proofs.Common.{arith}
+use Rattle.std.proofs.lemmas.Grind.{common_steps}
 use Rattle.std.proofs.Common.{◌≡◌, ◌*◌, ◌+◌, length, ◌∙◌, ap, get_or}
 use Rattle.cells.specs.declared.place.Size.{Size}
 use Rattle.cells.specs.Cells.{bytes_of}
@@ -39,3 +41,9 @@ returns-clause-each c = λ i j row column.
     let frames = ap (λ (s : Size). s.f) c.size-size.ensures.size in
     (λ t. get_or (numbers_are c t) (i * frames t + j) 0)
     ∙ entries_of-inside clip.size.f (frame_distance clip) i j 0 row column
+
+pub all_distances-requires-clause-len : goal.all_distances-requires-clause-len
+all_distances-requires-clause-len c = grind (arith, common_steps)
+
+pub overflow_mul-len-2 : goal.overflow_mul-len-2
+overflow_mul-len-2 c = grind (arith, common_steps)

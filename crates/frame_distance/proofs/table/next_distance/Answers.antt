@@ -34,3 +34,6 @@ overflow_add-result c = grind (arith, common_steps)
 
 pub returns-then-j-i-clause-below : goal.returns-then-j-i-clause-below
 returns-then-j-i-clause-below c = grind (arith, common_steps)
+
+pub offset_bounds-so_far-j : goal.offset_bounds-so_far-j
+offset_bounds-so_far-j c = grind (arith, common_steps)

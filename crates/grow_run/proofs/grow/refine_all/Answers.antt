@@ -1,3 +1,5 @@
+use Rattle.std.proofs.Common.{arith}
+use Rattle.std.proofs.lemmas.Grind.{common_steps}
 use mathlib.Core.Bool.{false≢true}
 use Rattle.std.proofs.Common.{sym}
 use Rattle.grow_run.proofs.grow.refine_all.Goals as goal
@@ -11,3 +13,15 @@ refining-init c = record {
   };
   calm = λ e. absurd (false≢true (sym e));
 }
+
+pub refining-preserved : goal.refining-preserved
+refining-preserved c = grind (arith, common_steps)
+
+pub refining-smaller : goal.refining-smaller
+refining-smaller c = grind (arith, common_steps)
+
+pub returns : goal.returns
+returns c = grind (arith, common_steps)
+
+pub returns-then-plan-eq0 : goal.returns-then-plan-eq0
+returns-then-plan-eq0 c = grind (arith, common_steps)

@@ -1,3 +1,4 @@
+use Rattle.std.proofs.lemmas.Grind.{common_steps}
 use Rattle.std.proofs.Common.{◌≡◌, ◌+◌, ◌∙◌, ap, refl, sym, arith}
 use Rattle.std.specs.Prelude.{None}
 use Rattle.map_canvas.specs.Maps.{first_unfilled}
@@ -43,3 +44,12 @@ returns c =
       },
       refl,
     )
+
+pub returns-in_default : goal.returns-in_default
+returns-in_default c = grind (arith, common_steps)
+
+pub overflow_add-work : goal.overflow_add-work
+overflow_add-work c = grind (arith, common_steps)
+
+pub overflow_add-cells : goal.overflow_add-cells
+overflow_add-cells c = grind (arith, common_steps)

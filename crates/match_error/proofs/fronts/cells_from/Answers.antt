@@ -1,3 +1,4 @@
+use Rattle.std.proofs.lemmas.Grind.{common_steps}
 use Rattle.std.proofs.Common.{◌≡◌, ◌+◌, ◌-◌, ◌*◌, ◌∙◌, ap, length, take, drop, arith}
 use Rattle.match_error.proofs.Offsets.{few_bytes, run_in_volume, within_bytes}
 use Rattle.match_error.proofs.fronts.cells_from.Goals as goal
@@ -25,3 +26,6 @@ returns-clause-bytes c =
     ap (λ n. take n (drop start c.bytes-bytes.result.now)) (let e : (start + len) - start ≡ len = omega arith in e)
     ∙ (λ t. take (c.samples-k.ensures.samples t * c.args.n) (drop (c.samples-k.ensures.samples t * c.args.i) (c.bytes-bytes.ensures t)))
     ∙ run_in_volume c.args.sample.now c.samples-k.ensures.volume c.args.i c.args.n c.requires
+
+pub overflow_add-result : goal.overflow_add-result
+overflow_add-result c = grind (arith, common_steps)

@@ -33,3 +33,9 @@ returns-clause-small c =
 
 pub loop-f-preserved : goal.loop-f-preserved
 loop-f-preserved c = grind (arith, common_steps)
+
+pub returns-clause-some : goal.returns-clause-some
+returns-clause-some c = grind (arith, common_steps)
+
+pub returns-in_err-sum-clause-some : goal.returns-in_err-sum-clause-some
+returns-in_err-sum-clause-some c = grind (arith, common_steps)

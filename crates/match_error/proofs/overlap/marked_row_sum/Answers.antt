@@ -1,3 +1,4 @@
+use Rattle.std.proofs.lemmas.Grind.{common_steps}
 use Rattle.std.proofs.Common.{◌*◌, ◌∙◌, ap, sym, subst, arith}
 use Rattle.cells.specs.Cells.{Cells, HasRun, row_at}
 use Rattle.lane_kernels.specs.Sums.{masked_sum_of_squared_differences}
@@ -33,3 +34,15 @@ returns-clause-sum c =
     ((c.row-new.ensures.bytes ∙ (λ j. row_at sample (c.row_start-from.ensures j) w)) k)
     ((c.filled_row-marks.ensures.marks ∙ (λ j. row_at (filled_marks canvas.map canvas.picture.k) (c.row_start-at.ensures j) w)) k))
     ∙ row_is_error canvas sample placement c.picture-picture.ensures.canvas c.samples-sample.ensures.volume c.requires.over c.requires.fits c.args.y c.args.f c.requires.counts.0 c.requires.counts.1
+
+pub filled_row-marks-requires-clause-inside : goal.filled_row-marks-requires-clause-inside
+filled_row-marks-requires-clause-inside c = grind (arith, common_steps)
+
+pub ssd_masked-requires-clause-same_length : goal.ssd_masked-requires-clause-same_length
+ssd_masked-requires-clause-same_length c = grind (arith, common_steps)
+
+pub ssd_masked-requires-clause-mask_length : goal.ssd_masked-requires-clause-mask_length
+ssd_masked-requires-clause-mask_length c = grind (arith, common_steps)
+
+pub filled_row-marks-requires-clause-room : goal.filled_row-marks-requires-clause-room
+filled_row-marks-requires-clause-room c = grind (arith, common_steps)

@@ -66,3 +66,9 @@ slice_bounds-squared_differences-count c = grind (arith, common_steps)
 
 pub slice_bounds-squared_differences-end-then-first-end : goal.slice_bounds-squared_differences-end-then-first-end
 slice_bounds-squared_differences-end-then-first-end c = grind (arith, common_steps)
+
+pub overflow_cast-stop : goal.overflow_cast-stop
+overflow_cast-stop c = grind (arith, common_steps)
+
+pub overflow_cast-start : goal.overflow_cast-start
+overflow_cast-start c = grind (arith, common_steps)

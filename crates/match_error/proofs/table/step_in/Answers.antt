@@ -10,3 +10,6 @@ returns-clause-room c = grind (arith, common_steps)
 
 pub overflow_cast-result : goal.overflow_cast-result
 overflow_cast-result c = grind (arith, common_steps)
+
+pub overflow_add-step : goal.overflow_add-step
+overflow_add-step c = grind (arith, common_steps)

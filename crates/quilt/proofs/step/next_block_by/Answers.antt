@@ -1,3 +1,5 @@
+use Rattle.std.proofs.Common.{arith}
+use Rattle.std.proofs.lemmas.Grind.{common_steps}
 use Rattle.std.proofs.Common.{◌≡◌, ap, sym, ◌∙◌, subst}
 use Rattle.std.specs.Prelude.{Some}
 use Rattle.cells.specs.declared.place.Box3.{Box3}
@@ -26,3 +28,9 @@ returns-in-Ok-clause-next g c =
       map = c.in-Ok.ensures.map;
       draws = c.in_ok-placement.ensures.next;
     }
+
+pub returns-in_err-placement-clause-next : goal.returns-in_err-placement-clause-next
+returns-in_err-placement-clause-next g c = grind (arith, common_steps)
+
+pub returns-in-Err-clause-next : goal.returns-in-Err-clause-next
+returns-in-Err-clause-next g c = grind (arith, common_steps)

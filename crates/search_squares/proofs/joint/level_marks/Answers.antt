@@ -56,3 +56,21 @@ returns-then-k-other_k c = λ j _ marked. absurd (none_marked j marked)
 
 pub returns : goal.returns
 returns c = c.above_both.ensures
+
+pub above_both-requires-clause-times : goal.above_both-requires-clause-times
+above_both-requires-clause-times c = grind (arith, common_steps)
+
+pub returns-then-not-holds_run : goal.returns-then-not-holds_run
+returns-then-not-holds_run c = grind (arith, common_steps)
+
+pub above_both-requires-clause-few : goal.above_both-requires-clause-few
+above_both-requires-clause-few c = grind (arith, common_steps)
+
+pub returns-then-not-holds_run-2 : goal.returns-then-not-holds_run-2
+returns-then-not-holds_run-2 c = grind (arith, common_steps)
+
+pub above_both-requires-clause-samples : goal.above_both-requires-clause-samples
+above_both-requires-clause-samples c = grind (arith, common_steps)
+
+pub above_both-requires-clause-side : goal.above_both-requires-clause-side
+above_both-requires-clause-side c = grind (arith, common_steps)

@@ -1,3 +1,5 @@
+use Rattle.std.proofs.Common.{arith}
+use Rattle.std.proofs.lemmas.Grind.{common_steps}
 use Rattle.search_squares.specs.Bounds.{place_along}
 use Rattle.search_squares.proofs.PlaceRuns.{inner_held, none_marked}
 use Rattle.search_squares.proofs.levels.marks_of.Goals as goal
@@ -18,3 +20,9 @@ above-requires-clause-laid c = λ j lj. record {
 
 pub above-requires-clause-inside : goal.above-requires-clause-inside
 above-requires-clause-inside c = c.holds_run.ensures.inside c.if-not-holds_run.false
+
+pub returns : goal.returns
+returns c = grind (arith, common_steps)
+
+pub above-requires-clause-blocks : goal.above-requires-clause-blocks
+above-requires-clause-blocks c = grind (arith, common_steps)

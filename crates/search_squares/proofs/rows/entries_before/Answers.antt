@@ -10,3 +10,12 @@ overflow_cast-f c = grind (arith, common_steps)
 
 pub overflow_cast-y : goal.overflow_cast-y
 overflow_cast-y c = grind (arith, common_steps)
+
+pub returns : goal.returns
+returns c = grind (arith, common_steps)
+
+pub overflow_cast-x : goal.overflow_cast-x
+overflow_cast-x c = grind (arith, common_steps)
+
+pub overflow_add-result : goal.overflow_add-result
+overflow_add-result c = grind (arith, common_steps)

@@ -1,3 +1,5 @@
+use Rattle.std.proofs.Common.{arith}
+use Rattle.std.proofs.lemmas.Grind.{common_steps}
 use Rattle.std.proofs.Common.{Bool, ◌<◌, ◌+◌, ◌-◌, subst, sym}
 use Rattle.std.specs.Prelude.{if◌then◌else◌}
 use Rattle.cells.specs.Places.{cell_count}
@@ -26,3 +28,12 @@ laying-smaller c =
     let after = if c.in_ok-more.more then cell_count size - reached c.step.new.work.canvas.map + 1 else 0 in
     subst (λ (b : Bool). after < (if b then cell_count size - reached c.laying.work.canvas.map + 1 else 0)) (sym c.laying-test.true)
     (smaller c.args.plan.now c.args.sample.now c.laying.work c.step.new.work c.in_ok-more.more c.in_ok-more.ensures)
+
+pub laying-preserved : goal.laying-preserved
+laying-preserved c = grind (arith, common_steps)
+
+pub step-requires-clause-plan : goal.step-requires-clause-plan
+step-requires-clause-plan c = grind (arith, common_steps)
+
+pub laying-init : goal.laying-init
+laying-init c = grind (arith, common_steps)

@@ -1,3 +1,5 @@
+use Rattle.std.proofs.Common.{arith}
+use Rattle.std.proofs.lemmas.Grind.{common_steps}
 use Rattle.std.proofs.Common.{ap, ◌∙◌}
 use Rattle.cells.specs.Distances.{distance}
 use Rattle.cells.specs.Places.{spot}
@@ -15,3 +17,6 @@ returns c =
     c.pairs_of_box.ensures
     ∙ (λ k. pairs_of_box d (map_around c.args.wrap.now (c.map-map.ensures.map k).size (map_at (c.map-map.ensures.map k))) (record { corner = spot 0 0 0; size = size k }))
     ∙ pairs_whole d m.size (map_around c.args.wrap.now m.size (map_at m))
+
+pub pairs_of_box-requires : goal.pairs_of_box-requires
+pairs_of_box-requires c = grind (arith, common_steps)

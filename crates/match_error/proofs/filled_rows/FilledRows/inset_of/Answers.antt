@@ -1,3 +1,4 @@
+use Rattle.std.proofs.lemmas.Grind.{common_steps}
 use Rattle.std.proofs.Common.{◌≡◌, arith}
 use Rattle.std.proofs.lemmas.Int.{to_z-of_z}
 use Rattle.std.specs.Prelude.{pos, ◌+ℤ◌}
@@ -18,3 +19,6 @@ returns c =
       rows_in = c.in_ok-down.ensures.room;
       frames_in = c.in_ok-frames.ensures.room;
     }
+
+pub returns-in_err-frames : goal.returns-in_err-frames
+returns-in_err-frames c = grind (arith, common_steps)

@@ -1,3 +1,4 @@
+use Rattle.std.proofs.lemmas.Grind.{common_steps}
 use Rattle.std.proofs.Common.{◌≡◌, ◌+◌, ap, sym, subst, ◌∙◌, arith}
 use Rattle.cells.specs.Places.{plus, spot}
 use Rattle.map_canvas.specs.Maps.{IsFilled}
@@ -33,3 +34,6 @@ cells-preserved c =
           row_none c.args.canvas.now c.args.rect.now c.args.self.now c.cells.self c.cells.x c.args.y c.args.f c.cells.invariant.adds
           (λ filled. c.filled_from-n.ensures.end (omega (arith, none, c.cells-test.true)) (subst (IsFilled c.args.canvas.now.map) (sym here) filled));
     }
+
+pub returns-clause-adds : goal.returns-clause-adds
+returns-clause-adds c = grind (arith, common_steps)

@@ -34,3 +34,6 @@ returns-clause-adds c =
 
 pub row-old-requires : goal.row-old-requires
 row-old-requires c = grind (arith, common_steps)
+
+pub plus-requires : goal.plus-requires
+plus-requires c = grind (arith, common_steps)

@@ -48,3 +48,12 @@ runs-preserved c = grind (arith, common_steps)
 
 pub returns-clause-some : goal.returns-clause-some
 returns-clause-some c = grind (arith, common_steps)
+
+pub is_exact-requires-clause-cells : goal.is_exact-requires-clause-cells
+is_exact-requires-clause-cells c = grind (arith, common_steps)
+
+pub returns-then-is_exact-clause-bound : goal.returns-then-is_exact-clause-bound
+returns-then-is_exact-clause-bound c = grind (arith, common_steps)
+
+pub run_sum-sum-requires-clause-run : goal.run_sum-sum-requires-clause-run
+run_sum-sum-requires-clause-run c = grind (arith, common_steps)

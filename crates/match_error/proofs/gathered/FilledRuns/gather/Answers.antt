@@ -7,3 +7,6 @@ loop-f-preserved c = grind (arith, common_steps)
 
 pub returns : goal.returns
 returns c = grind (arith, common_steps)
+
+pub loop-f-init : goal.loop-f-init
+loop-f-init c = grind (arith, common_steps)

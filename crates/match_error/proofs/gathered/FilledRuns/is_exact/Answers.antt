@@ -7,3 +7,6 @@ runs-preserved c = grind (arith, common_steps)
 
 pub returns : goal.returns
 returns c = grind (arith, common_steps)
+
+pub is_same-requires-clause-run : goal.is_same-requires-clause-run
+is_same-requires-clause-run c = grind (arith, common_steps)

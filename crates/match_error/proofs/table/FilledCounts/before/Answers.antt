@@ -23,3 +23,6 @@ returns-clause-count c = grind (arith, common_steps)
 
 pub bounds-entries-across : goal.bounds-entries-across
 bounds-entries-across c = grind (arith, common_steps)
+
+pub overflow_add-result : goal.overflow_add-result
+overflow_add-result c = grind (arith, common_steps)

@@ -1,3 +1,4 @@
+use Rattle.std.proofs.lemmas.Grind.{common_steps}
 use Rattle.std.proofs.Common.{◌≡◌, ◌≤◌, ◌+◌, ◌*◌, ℕ, ap, sym, ◌∙◌, arith}
 use Rattle.std.proofs.Math.Nat.{mul-le-mul, mul-le-mul_left}
 use Rattle.boxes.specs.Sums.{sum_to}
@@ -51,3 +52,6 @@ returns c =
     let outer = c.args.self.now.rect in
     let whole : c.loop-k.k ≡ size.f = omega (arith, c.loop-k-test.false, c.loop-k.auto.k-end) in
     c.loop-k.invariant.count ∙ ap (λ n. sum_to n (λ k. sum_to size.h (λ j. sum_to size.w (λ i. one_in_row c.args.canvas.now.map outer (c.args.x + i) ((c.args.y + outer.size.h * (c.args.f + k)) + j))))) whole
+
+pub overflow_add-row : goal.overflow_add-row
+overflow_add-row c = grind (arith, common_steps)

@@ -20,3 +20,6 @@ overflow_add-row-2 c = grind (arith, common_steps)
 
 pub overflow_add-row : goal.overflow_add-row
 overflow_add-row c = grind (arith, common_steps)
+
+pub overflow_add-x-2 : goal.overflow_add-x-2
+overflow_add-x-2 c = grind (arith, common_steps)

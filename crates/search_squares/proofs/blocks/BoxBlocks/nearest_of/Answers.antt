@@ -1,3 +1,5 @@
+use Rattle.std.proofs.Common.{arith}
+use Rattle.std.proofs.lemmas.Grind.{common_steps}
 use Rattle.search_squares.specs.Bounds.{place_along}
 use Rattle.search_squares.proofs.PlaceRuns.{inner_held}
 use Rattle.search_squares.proofs.blocks.BoxBlocks.nearest_of.Goals as goal
@@ -15,3 +17,6 @@ totals-totals-requires-clause-laid c = λ j lj. record {
 
 pub totals-totals-requires-clause-inside : goal.totals-totals-requires-clause-inside
 totals-totals-requires-clause-inside c = c.holds_run.ensures.inside c.if-not-holds_run.false
+
+pub totals-totals-requires-clause-blocks : goal.totals-totals-requires-clause-blocks
+totals-totals-requires-clause-blocks c = grind (arith, common_steps)

@@ -1,3 +1,5 @@
+use Rattle.std.proofs.Common.{arith}
+use Rattle.std.proofs.lemmas.Grind.{common_steps}
 use Rattle.search_squares.specs.Eliminations.{error_from}
 use Rattle.search_squares.proofs.levels.BoxLevels.eliminate.Goals as goal
 
@@ -6,3 +8,6 @@ returns-in_default c = c.none.ensures (error_from c.args.canvas.now c.args.sampl
 
 pub returns-then-n-eq0 : goal.returns-then-n-eq0
 returns-then-n-eq0 c = c.none-then-n-eq0.ensures (error_from c.args.canvas.now c.args.sample.now c.args.rect.now)
+
+pub returns : goal.returns
+returns c = grind (arith, common_steps)

@@ -16,3 +16,6 @@ returns-in_default c = grind (arith, common_steps)
 
 pub returns-then-not-has_cells : goal.returns-then-not-has_cells
 returns-then-not-has_cells c = grind (arith, common_steps)
+
+pub add_all-requires-clause-levels : goal.add_all-requires-clause-levels
+add_all-requires-clause-levels c = grind (arith, common_steps)

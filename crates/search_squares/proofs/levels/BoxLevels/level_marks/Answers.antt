@@ -11,3 +11,6 @@ returns-in_default-get c = λ j _ marked. absurd (none_marked j marked)
 
 pub marks_of-requires-clause-blocks : goal.marks_of-requires-clause-blocks
 marks_of-requires-clause-blocks c = grind (arith, common_steps)
+
+pub returns : goal.returns
+returns c = grind (arith, common_steps)

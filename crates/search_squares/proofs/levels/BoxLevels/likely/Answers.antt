@@ -4,3 +4,6 @@ use Rattle.search_squares.proofs.levels.BoxLevels.likely.Goals as goal
 
 pub nearest_in-requires-clause-blocks : goal.nearest_in-requires-clause-blocks
 nearest_in-requires-clause-blocks c = grind (arith, common_steps)
+
+pub nearest_in-requires-clause-sums : goal.nearest_in-requires-clause-sums
+nearest_in-requires-clause-sums c = grind (arith, common_steps)

@@ -10,3 +10,6 @@ around_axis-requires-2 c = grind (arith, common_steps)
 
 pub around_axis-requires : goal.around_axis-requires
 around_axis-requires c = grind (arith, common_steps)
+
+pub returns-clause-source : goal.returns-clause-source
+returns-clause-source c = grind (arith, common_steps)

@@ -1,7 +1,6 @@
 // Least boundaries of strips.
-ghost use Rattle.std.specs.Prelude.{◌≡◌, ◌≤◌, ◌*◌, IfOk, All, length};
+ghost use Rattle.std.specs.Prelude.{◌≤◌, ◌*◌};
 ghost use Rattle.limits.specs.declared.bounds.TheConstants.{GREATEST_AXIS};
-ghost use Rattle.strip_boundary.specs.Strips.{IsStrip};
 
 use crate::samples::mixed;
 use std::alloc::{AllocError, Global};

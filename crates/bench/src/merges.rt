@@ -1,5 +1,5 @@
 // Merges.
-ghost use Rattle.std.specs.Prelude.{◌≡◌, IfOk};
+ghost use Rattle.std.specs.Prelude.{IfOk};
 ghost use Rattle.cells.specs.Places.{IsSmall};
 ghost use Rattle.photo_merge.specs.Merges.{AreOneSize};
 

@@ -1,6 +1,5 @@
 // Networks that are hard for some solvers.
-ghost use Rattle.std.specs.Prelude.{◌≡◌, ◌≤◌, ◌<◌, ◌+◌, ◌-◌, ◌*◌, IfOk};
-ghost use Rattle.max_flow.specs.Networks.{IsPipeOf};
+ghost use Rattle.std.specs.Prelude.{◌≡◌, ◌≤◌, ◌<◌, ◌+◌, ◌-◌, ◌*◌};
 ghost use Rattle.bench.specs.declared.networks.TheConstants.{MOST_DRAWN, MOST_GIVERS, MOST_ROWS, MOST_RUNGS, MOST_STEPS, RAILS, WIDE};
 
 use crate::samples::mixed;

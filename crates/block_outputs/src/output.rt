@@ -1,6 +1,5 @@
 // What is made of a sample, its bound, and why nothing is made.
 ghost use Rattle.std.specs.Prelude.{◌≡◌};
-ghost use Rattle.cells.specs.Places.{HasAxes};
 ghost use Rattle.sample_files.specs.Outputs.{AsksOutput};
 ghost use Rattle.block_outputs.specs.BlockOutputs.{fault_of_quilting};
 

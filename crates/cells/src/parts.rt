@@ -1,5 +1,5 @@
 // The sizes of the parts of a volume, and places along them.
-ghost use Rattle.std.specs.Prelude.{◌≡◌, ◌<◌, ◌≤◌, ◌++◌, ◌↔◌, ◌<ℤ◌, ◌≤ℤ◌, pos, length, [], ◌∷◌, IsTrue, IfSome};
+ghost use Rattle.std.specs.Prelude.{◌≡◌, ◌<◌, ◌≤◌, ◌++◌, ◌↔◌, ◌≤ℤ◌, pos, length, [], ◌∷◌, IsTrue, IfSome};
 ghost use Rattle.cells.specs.Places.{HasAxes};
 ghost use Rattle.cells.specs.Parts.{AreParts, HoldsFrom, count_from, index_from, past};
 

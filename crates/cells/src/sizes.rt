@@ -1,5 +1,5 @@
 // The sizes of the parts of a volume, and the parts' places in it.
-ghost use Rattle.std.specs.Prelude.{◌≡◌, ◌<◌, ◌≤◌, ◌+◌, ◌*◌, ◌-◌, ◌++◌, ◌+ℤ◌, pos, ◌↔◌, IsTrue, length, [], ◌∷◌, Some, IsNone, IsSome, IfSome};
+ghost use Rattle.std.specs.Prelude.{◌≡◌, ◌<◌, ◌≤◌, ◌+◌, ◌*◌, ◌-◌, ◌++◌, pos, ◌↔◌, IsTrue, length, [], ◌∷◌, Some, IsNone, IsSome, IfSome};
 ghost use Rattle.cells.specs.declared.sizes.PartPlace.{PartPlace};
 ghost use Rattle.cells.specs.declared.place.Size.{Size};
 ghost use Rattle.cells.specs.Places.{HasAxes, IsInside, on_axis};

@@ -1,14 +1,12 @@
 // Files of block records.
-ghost use Rattle.std.specs.Prelude.{◌≡◌, ◌≤◌, ◌<◌, ◌+◌, ◌*◌, ◌^◌, All, IfErr, IfOk, IfSome, OnErr, OnOk, length, pos};
+ghost use Rattle.std.specs.Prelude.{◌≡◌, ◌≤◌, ◌<◌, ◌+◌, ◌*◌, ◌^◌, All, IfOk, IfSome, OnErr, OnOk, length};
 ghost use Rattle.std.specs.List.{flat_map};
 ghost use Rattle.shelf_core.specs.Files.{Changes, OnlyReadsFile, OnlyWritesFile, WritesRose};
 ghost use Rattle.shelf_core.specs.Written.{HoldsPart, HoldsText};
 ghost use Rattle.file_bytes.specs.Reading.{Follows};
 ghost use Rattle.file_bytes.specs.Writing.{Puts};
 ghost use Rattle.cells.specs.Places.{cell_count};
-ghost use Rattle.block_strips.specs.Strips.{most_cols, strip_rows};
-ghost use Rattle.block_strips.specs.declared.side.Side.TheVariants.{Left, Top};
-ghost use Rattle.block_check.specs.Blocks.{HasColumns, HasColumnsOn, block_cells, boundary_on, cols_of};
+ghost use Rattle.block_check.specs.Blocks.{HasColumns, block_cells, cols_of};
 ghost use Rattle.source_map.specs.Readings.{ReadsFrom};
 ghost use Rattle.cert_file.specs.BlockForms.{IsBlockInForm, IsWideBlock, IsWideBoundary, block_form, block_start_form, boundary_form, flags_of, spot_field};
 ghost use Rattle.cert_file.specs.BlockReading.{IsBoundaryRead, IsSpot, block_read, blocks_read, side_read};

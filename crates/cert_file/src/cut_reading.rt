@@ -4,7 +4,7 @@ ghost use Rattle.shelf_core.specs.Files.{OnlyReadsFile};
 ghost use Rattle.cells.specs.Places.{cell_count};
 ghost use Rattle.boxes.specs.Pairs.{pair_count};
 ghost use Rattle.file_bytes.specs.Reading.{Follows};
-ghost use Rattle.source_map.specs.Readings.{IsRefusal, ReadsFrom, field_read, list_read};
+ghost use Rattle.source_map.specs.Readings.{IsRefusal, ReadsFrom, list_read};
 ghost use Rattle.cert_file.specs.CutForms.{IsBoxSize, IsCutInForm};
 ghost use Rattle.cert_file.specs.CutReading.{cut_read, cuts_read, flow_read, flow_rule};
 ghost use Rattle.limits.specs.declared.bounds.TheConstants.{MOST_BOX_CELLS};

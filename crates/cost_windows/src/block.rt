@@ -1,6 +1,6 @@
 // Blocks: boxes inside an output, by counts from its first cell. The corners of the windows that a
 // change touches are a block, and so are the cells of those windows.
-ghost use Rattle.std.specs.Prelude.{◌≡◌, ◌≤◌, ◌<◌, ◌⊎◌, ◌+◌, ◌*◌, ◌+ℤ◌, ◌≤ℤ◌, ℕ, pos};
+ghost use Rattle.std.specs.Prelude.{◌≡◌, ◌≤◌, ◌+◌, ◌*◌, ℕ};
 ghost use Rattle.cells.specs.Boxes.{HasCells};
 ghost use Rattle.cells.specs.Places.{IsSmall, cell_count, spot};
 ghost use Rattle.boxes.specs.Pairs.{AreCounts};

@@ -7,7 +7,6 @@ ghost use Rattle.cells.specs.Places.{IsSmall, cell_count, raster_index, spot};
 ghost use Rattle.map_canvas.specs.Maps.{map_at};
 ghost use Rattle.costs.specs.Costs.{most_of_pair, pair_at};
 ghost use Rattle.cost_windows.specs.Windows.{window_at};
-ghost use Rattle.boxes.specs.Pairs.{AreCounts};
 ghost use Rattle.cost_windows.specs.Slides.{AreAtMost, AreCosts, AreRowCosts, EachOfRows, HoldsBlock, IsInBlock, SameElsewhere, added, at_row, axis_sum, block_size, less_one, IsLens, most_after_three, number_if, reach_of, row_offset, row_start};
 ghost use Rattle.cost_windows.specs.Tables.{IsWindow, corners};
 

@@ -1,5 +1,5 @@
 // Sums of runs of entries, in place: of each entry and those after it at equal steps.
-ghost use Rattle.std.specs.Prelude.{◌≡◌, ◌≤◌, ◌<◌, ℕ, ◌+◌, ◌*◌, length, slice_index};
+ghost use Rattle.std.specs.Prelude.{◌≡◌, ◌≤◌, ℕ, ◌+◌, ◌*◌, length, slice_index};
 ghost use Rattle.cells.specs.Places.{IsSmall, cell_count};
 ghost use Rattle.boxes.specs.Sums.{sum_to};
 ghost use Rattle.costs.specs.Costs.{most_of_pair};

@@ -1,5 +1,5 @@
 // What an output has of a box that may lie anywhere.
-ghost use Rattle.std.specs.Prelude.{◌≡◌, ◌≤◌, ◌<◌, ◌⊎◌, ◌+◌, ◌+ℤ◌, ◌<ℤ◌, ◌≤ℤ◌, ℕ, pos, FitsSigned};
+ghost use Rattle.std.specs.Prelude.{◌≡◌, ◌≤◌, ◌<◌, ◌⊎◌, ◌+◌, ◌+ℤ◌, ℕ, pos, FitsSigned};
 ghost use Rattle.std.specs.Int.{w32};
 ghost use Rattle.costs.specs.Intersections.{IsIntersection, IsOff, IsOn};
 

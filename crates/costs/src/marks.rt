@@ -1,5 +1,5 @@
 // Whether marks are those of cells that may be held.
-ghost use Rattle.std.specs.Prelude.{◌≡◌, ◌≤◌, ◌↔◌, ◌+ℤ◌, IfSome, IsTrue, MatchOption, pos, length, option_copied, true};
+ghost use Rattle.std.specs.Prelude.{◌≡◌, ◌≤◌, ◌↔◌, ◌+ℤ◌, IfSome, IsTrue, MatchOption, pos, option_copied, true};
 ghost use Rattle.cells.specs.Boxes.{HasCells, cell_in};
 ghost use Rattle.cells.specs.Places.{IsInside, IsSmall, cell_count};
 ghost use Rattle.map_canvas.specs.Maps.{IsFilled};

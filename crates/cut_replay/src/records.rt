@@ -1,5 +1,5 @@
 // Records over one another.
-ghost use Rattle.std.specs.Prelude.{◌≡◌, All, OnErr, OnOk};
+ghost use Rattle.std.specs.Prelude.{All, OnErr, OnOk};
 ghost use Rattle.map_canvas.specs.Canvases.{IsCanvas, StandsOver};
 ghost use Rattle.cut_replay.specs.Replay.{EachLeast, EachOver, EachStands, IsFormed, KeepsFixed, Replays};
 

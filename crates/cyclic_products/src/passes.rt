@@ -1,5 +1,5 @@
 // Walks over two lists in step: each number becomes what an operation makes of the pair, modulo the prime.
-ghost use Rattle.std.specs.Prelude.{◌≡◌, ◌+◌, ◌*◌, ◌%◌, length, map};
+ghost use Rattle.std.specs.Prelude.{◌≡◌, ◌*◌, ◌%◌, length, map};
 ghost use Rattle.cyclic_products.specs.Residues.{AreCongruent, IsCongruent, mix, mixed, zip_with};
 
 use crate::residues::{HALF, LAST, PRIME, half, minus, plus, reduced, times};

@@ -1,5 +1,5 @@
 // The transform with its tables: what the crate is for.
-ghost use Rattle.std.specs.Prelude.{◌≡◌, ◌≤◌, ◌<◌, ◌+◌, ◌*◌, ◌%◌, ◌^◌, List, ℕ, IfOk, length, map};
+ghost use Rattle.std.specs.Prelude.{◌≡◌, ◌≤◌, ◌<◌, ◌%◌, ◌^◌, List, ℕ, IfOk, length, map};
 ghost use Rattle.cyclic_products.specs.Products.{cyclic};
 ghost use Rattle.cyclic_products.specs.Residues.{mix};
 ghost use Rattle.cyclic_products.specs.Splits.{AreImages};

@@ -1,5 +1,5 @@
 // Writing a file through one buffer.
-ghost use Rattle.std.specs.Prelude.{◌≡◌, ◌≤◌, ◌<◌, ◌+◌, ◌++◌, [], ◌∷◌, List, ℕ, length, take, drop, OnOk, OnErr};
+ghost use Rattle.std.specs.Prelude.{◌≡◌, ◌≤◌, ◌<◌, ◌+◌, ◌++◌, [], List, ℕ, length, take, drop, OnOk, OnErr};
 ghost use Rattle.std.specs.List.{flat_map};
 ghost use Rattle.shelf_core.specs.Files.{ShelfState, Changes, OnlyWritesFile, Rose};
 ghost use Rattle.shelf_core.specs.Written.{HoldsText, HoldsPart};

@@ -1,5 +1,5 @@
 // The costs of steps from frame to frame.
-ghost use Rattle.std.specs.Prelude.{◌≡◌, ◌≤◌, ◌<◌, ℕ, ◌+◌, ◌-◌, ◌^◌, true, IfOk, IfSome};
+ghost use Rattle.std.specs.Prelude.{◌≡◌, ◌≤◌, ◌<◌, ◌+◌, ◌-◌, ◌^◌, true, IfOk, IfSome};
 ghost use Rattle.frame_distance.specs.Steps.{AreSteps, AreStepsOf, has_terms, filter_sum, filtered_distance, step_cost, step_at, steps_of};
 
 use crate::table::Table;

@@ -1,5 +1,5 @@
 // A run, step by step.
-ghost use Rattle.std.specs.Prelude.{◌≡◌, ◌≤◌, ◌<◌, IfOk};
+ghost use Rattle.std.specs.Prelude.{◌≤◌, ◌<◌, IfOk};
 ghost use Rattle.cells.specs.Places.{IsSmall};
 ghost use Rattle.search_squares.specs.Eliminations.{AreSampleSums};
 ghost use Rattle.patch_picks.specs.Fitting.{HasPatch};

@@ -1,5 +1,4 @@
 // What the definitions mean.
-ghost use Rattle.std.specs.Prelude.{◌≤◌};
 ghost use Rattle.cells.specs.Places.{IsSmall};
 ghost use Rattle.patch_picks.specs.Fitting.{HasPatch};
 ghost use Rattle.grown.specs.BoxLimit.{RunPassesThere};

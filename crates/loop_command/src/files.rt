@@ -1,10 +1,8 @@
 // The files that a loop writes.
-ghost use Rattle.std.specs.Prelude.{◌≡◌, ◌<◌, [], ◌∷◌, All, OnErr, OnOk};
-ghost use Rattle.cells.specs.Cells.{IsOnePart};
+ghost use Rattle.std.specs.Prelude.{◌<◌, [], ◌∷◌, OnErr, OnOk};
 ghost use Rattle.shelf_core.specs.Files.{Changes, OnlyWritesFile, WritesRose};
 ghost use Rattle.shelf_core.specs.Written.{HoldsPart, HoldsText};
 ghost use Rattle.source_map.specs.MapFiles.{IsFrameMap, frame_map_form};
-ghost use Rattle.y4m_clip.specs.Spaces.{samples_of};
 ghost use Rattle.cert_file.specs.RecordFiles.{walk_file_form};
 ghost use Rattle.cert_file.specs.WalkForms.{IsWalkInForm};
 ghost use Rattle.synth_report.specs.declared.fault.FileOf.TheVariants as part;

@@ -1,5 +1,5 @@
 // The least closed walk of a length, and its record.
-ghost use Rattle.std.specs.Prelude.{◌≡◌, ◌≤◌, ◌<◌, ℕ, ◌+◌, ◌*◌, Some, IfOk, IfErr, IsSome, slice_index, length as length_of};
+ghost use Rattle.std.specs.Prelude.{◌≡◌, ◌≤◌, ◌<◌, ℕ, ◌+◌, ◌*◌, Some, IfOk, IfErr, IsSome, length as length_of};
 ghost use Rattle.loop_walk.specs.Walks.{BeginsFirst, HasNoWalk, IsLeastWalk, walk_cost};
 ghost use Rattle.loop_walk.specs.Tables.{AreTightTables, IsLength, entry_at, table_count};
 ghost use Rattle.loop_walk.specs.Records.{WalkStands};

@@ -1,6 +1,6 @@
 // Rows of least sums in lanes of 32 bits. From each row its least number is taken away, and most of what is left
 // fits such a lane. What doesn't is lowered to the greatest rest, and a sum that reaches that is made in 64 bits.
-ghost use Rattle.std.specs.Prelude.{◌≡◌, ◌≤◌, ◌<◌, ℕ, ◌+◌, ◌*◌, ◌^◌, min, IsTrue, length, slice_index};
+ghost use Rattle.std.specs.Prelude.{◌≡◌, ◌≤◌, ◌<◌, ℕ, ◌+◌, ◌*◌, min, IsTrue, length, slice_index};
 ghost use Rattle.loop_walk.specs.Products.{AreAtMostFar, IsLeastOf, near_row_sum};
 ghost use Rattle.loop_walk.specs.Rests.{AreBases, AreRaised, AreRests, AreRestsOfRow, AreSmallRests, IsBase, IsExactBelow, rest_of, rest_sum};
 

@@ -1,8 +1,8 @@
 // The filled cells of a box as runs along X, gathered once for all placements of the box.
 ghost use Rattle.std.specs.Prelude.{◌≡◌, ◌≤◌, ◌<◌, ◌+◌, ◌*◌, ◌^◌, ℕ, IfNone, IfOk, IfSome, IsTrue, OnOk, Some, length};
 ghost use Rattle.cells.specs.Boxes.{HasCells, HoldsBox};
-ghost use Rattle.cells.specs.Cells.{Holds, IsVolume, row_at, run_from};
-ghost use Rattle.cells.specs.Places.{HasAxes, IsSmall, SumFits, plus, raster_index, spot};
+ghost use Rattle.cells.specs.Cells.{Holds, IsVolume, row_at};
+ghost use Rattle.cells.specs.Places.{SumFits, plus, spot};
 ghost use Rattle.map_canvas.specs.Canvases.{StandsOver};
 ghost use Rattle.map_canvas.specs.Choices.{Fits};
 ghost use Rattle.map_canvas.specs.Maps.{IsFilled};

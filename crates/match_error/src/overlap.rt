@@ -7,7 +7,6 @@ ghost use Rattle.map_canvas.specs.CellErrors.{spot_error};
 ghost use Rattle.match_error.specs.Errors.{error_of, error_sum, frame_error, most_frame_error, most_row_error, row_error};
 ghost use Rattle.match_error.specs.LaidRows.{AreFronts, AreRowBytes};
 ghost use Rattle.match_error.specs.Rows.{AreFilledRows, AreLaidRuns, IsInset, IsLaidRun, column_in, run_part};
-ghost use Rattle.boxes.specs.Sums.{sum_to};
 
 use crate::bytes::squared_differences;
 use crate::counts::filled_count;

@@ -1,6 +1,6 @@
 // How many cells are filled, summed up once for many boxes.
-ghost use Rattle.std.specs.Prelude.{◌≡◌, ◌≤◌, ◌<◌, ◌+◌, ◌*◌, ◌+ℤ◌, pos, ℕ, IfNone, IfOk, IfSome, OnOk, length, slice_index};
-ghost use Rattle.cells.specs.Boxes.{AxisHolds, HoldsBox, cell_in};
+ghost use Rattle.std.specs.Prelude.{◌≡◌, ◌≤◌, ◌<◌, ◌+◌, ◌*◌, ◌+ℤ◌, pos, ℕ, IfOk, IfSome, OnOk, length, slice_index};
+ghost use Rattle.cells.specs.Boxes.{HoldsBox, cell_in};
 ghost use Rattle.cells.specs.Places.{cell_count};
 ghost use Rattle.map_canvas.specs.Maps.{map_at};
 ghost use Rattle.boxes.specs.Sums.{sum_to};

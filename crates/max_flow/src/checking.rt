@@ -1,7 +1,7 @@
 // Whether what a search left for the arcs is a flow: each pipe can carry its part, and as much leaves as
 // enters at each node but the ends.
 
-ghost use Rattle.std.specs.Prelude.{◌≡◌, ◌<◌, ℤ, All, IfSome, length};
+ghost use Rattle.std.specs.Prelude.{◌≡◌, ◌<◌, All, IfSome, length};
 ghost use Rattle.std.specs.Bool.{OnTrue};
 ghost use Rattle.max_flow.specs.Networks.{IsPipeOf};
 ghost use Rattle.max_flow.specs.Residual.{Carries};

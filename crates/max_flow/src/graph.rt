@@ -1,6 +1,6 @@
 // The residual network: its arcs, what they can still carry, and the chain of the arcs of each node.
 
-ghost use Rattle.std.specs.Prelude.{◌≡◌, ◌≢◌, ◌<◌, ◌≤◌, ◌^◌, ℕ, All, length, slice_index};
+ghost use Rattle.std.specs.Prelude.{◌≡◌, ◌≢◌, ◌<◌, ◌^◌, ℕ, All, length, slice_index};
 ghost use Rattle.max_flow.specs.Networks.{IsPipeOf};
 ghost use Rattle.max_flow.specs.Residual.{arc_count, tail, head, residual, AreResiduals, AreChains};
 

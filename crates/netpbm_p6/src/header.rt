@@ -1,5 +1,5 @@
 // Reading the header of a picture, and its limits.
-ghost use Rattle.std.specs.Prelude.{◌≡◌, ◌≤◌, ◌<◌, length, drop, IfOk, OnErr};
+ghost use Rattle.std.specs.Prelude.{◌≡◌, ◌<◌, length, drop, IfOk, OnErr};
 ghost use Rattle.shelf_core.specs.Files.{InFile, OnlyReadsFile, ReadsRose};
 ghost use Rattle.netpbm_p6.specs.Scanning.{IsOpenScan, IsSoundScanned, IsSoundHeader};
 ghost use Rattle.netpbm_p6.specs.Reading.{ScansOn, cut_at, past_of, HeadsAs, PassesAs, IsAllowed};

@@ -1,5 +1,5 @@
 // Writing a picture.
-ghost use Rattle.std.specs.Prelude.{◌≡◌, ◌++◌, ◌⊎◌, OnOk, OnErr, decimal};
+ghost use Rattle.std.specs.Prelude.{◌++◌, OnOk, OnErr, decimal};
 ghost use Rattle.shelf_core.specs.Files.{Changes, WritesRose, OnlyWritesFile, Appends, AppendsPart};
 ghost use Rattle.shelf_core.specs.Written.{HoldsText, HoldsPart};
 ghost use Rattle.netpbm_p6.specs.Pictures.{IsPicture, p6_form};

@@ -2,7 +2,6 @@
 ghost use Rattle.std.specs.Prelude.{◌≡◌, ◌≤◌, ◌<◌, ◌*◌, ◌^◌, nat_lt, ◌++◌, [], ◌∷◌, List, All, IfSome, length};
 ghost use Rattle.std.specs.List.{count_by};
 ghost use Rattle.match_error.specs.declared.error.Error.{Error};
-ghost use Rattle.patch_picks.specs.Picks.{is_eligible};
 ghost use Rattle.patch_place.specs.BoxErrors.{IsLow};
 ghost use Rattle.patch_place.specs.Tables.{IsBestOf, IsFilledLow, IsLowEntry, IsNth, entry_error, is_near};
 

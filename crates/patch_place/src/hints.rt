@@ -1,5 +1,5 @@
 // The least error of a few likely candidates of a box.
-ghost use Rattle.std.specs.Prelude.{◌≡◌, ◌≤◌, map, All, Contains, IfSome};
+ghost use Rattle.std.specs.Prelude.{◌≤◌, map, All, Contains, IfSome};
 ghost use Rattle.cells.specs.Boxes.{HasCells};
 ghost use Rattle.patch_place.specs.BoxErrors.{AreCounted, box_list};
 ghost use Rattle.patch_place.specs.Tables.{IsFilledLow, IsHeld};

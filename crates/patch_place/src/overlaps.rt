@@ -1,9 +1,9 @@
 // The overlap errors of the placements of one box.
-ghost use Rattle.std.specs.Prelude.{◌≡◌, ◌≤◌, ◌<◌, ◌+◌, ◌*◌, ◌≤ℤ◌, pos, IfNone, IfOk, IfSome};
+ghost use Rattle.std.specs.Prelude.{◌≡◌, ◌≤◌, ◌<◌, ◌+◌, ◌*◌, ◌≤ℤ◌, pos, IfOk};
 ghost use Rattle.cells.specs.Boxes.{HasCells, HoldsBox};
 ghost use Rattle.cells.specs.Places.{HasAxes};
 ghost use Rattle.map_canvas.specs.Canvases.{StandsOver};
-ghost use Rattle.match_error.specs.Errors.{error_of, error_sum};
+ghost use Rattle.match_error.specs.Errors.{error_of};
 ghost use Rattle.search_squares.specs.declared.joint.TheConstants.{MOST_TIMES};
 ghost use Rattle.search_squares.specs.Eliminations.{AreEliminatedBy, AreSampleSums, error_from};
 ghost use Rattle.patch_place.specs.Tables.{IsShortStep};

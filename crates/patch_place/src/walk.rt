@@ -1,7 +1,6 @@
 // The walk over the places that a box may be laid from.
 ghost use Rattle.std.specs.Prelude.{◌≡◌, ◌≤◌, ◌<◌, ◌+◌, ◌^◌, map, All, IfOk, OnOk, length};
 ghost use Rattle.cells.specs.Boxes.{HasCells};
-ghost use Rattle.cells.specs.Cells.{sizes_of};
 ghost use Rattle.patch_place.specs.BoxErrors.{AreCounted, box_list};
 ghost use Rattle.patch_picks.specs.Counts.{AreVolumeParts};
 ghost use Rattle.patch_picks.specs.Lists.{fit_list, lists_from};

@@ -1,6 +1,5 @@
 // A step of quilting.
-ghost use Rattle.std.specs.Prelude.{◌≡◌, ◌≤◌, IfOk, IfSome, OnErr, OnOk, Some};
-ghost use Rattle.map_canvas.specs.Canvases.{IsCanvas, StandsOver};
+ghost use Rattle.std.specs.Prelude.{◌≡◌, ◌≤◌, IfOk, IfSome, OnErr, Some};
 ghost use Rattle.map_canvas.specs.Choices.{Fits};
 ghost use Rattle.search_squares.specs.Eliminations.{AreSampleSums};
 ghost use Rattle.block_strips.specs.Blocks.{next_box};

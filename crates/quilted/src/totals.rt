@@ -3,7 +3,7 @@ ghost use Rattle.std.specs.Prelude.{◌≡◌, ◌≤◌, ◌<◌, ◌+◌, ◌-
 ghost use Rattle.block_strips.specs.Strips.{strip_rows};
 ghost use Rattle.block_check.specs.Blocks.{HasColumnsOn, IsFormedBlock};
 ghost use Rattle.quilted.specs.Costs.{block_boundaries, side_count};
-ghost use Rattle.quilted.specs.Totals.{BlockCostsSo, CostsSo, HasBlockWidths, HasSideWidths, HasWidths, IsLeastAt, SideCostsSo};
+ghost use Rattle.quilted.specs.Totals.{BlockCostsSo, CostsSo, HasBlockWidths, HasSideWidths, IsLeastAt, SideCostsSo};
 
 use block_check::BlockRecord;
 use block_strips::Side;

@@ -1,6 +1,5 @@
 // Rounds of refinement.
-ghost use Rattle.std.specs.Prelude.{◌≡◌, ◌≤◌, IfOk, IfSome};
-ghost use Rattle.cells.specs.Boxes.{HasCells};
+ghost use Rattle.std.specs.Prelude.{◌≤◌, IfOk, IfSome};
 ghost use Rattle.map_canvas.specs.Canvases.{IsCanvas, StandsOver};
 ghost use Rattle.map_canvas.specs.Maps.{IsFull};
 ghost use Rattle.search_squares.specs.Eliminations.{AreSampleSums};

@@ -1,5 +1,5 @@
 // Sums over a run of places or of entries at once, one a lane.
-ghost use Rattle.std.specs.Prelude.{◌≡◌, ◌≤◌, ◌<◌, ◌+◌, ◌-◌, ◌*◌, ◌^◌, ℕ, length, replicate, slice_index, map, take};
+ghost use Rattle.std.specs.Prelude.{◌≡◌, ◌≤◌, ◌<◌, ◌+◌, ◌-◌, ◌*◌, ◌^◌, ℕ, length, replicate, slice_index, map};
 ghost use Rattle.std.specs.Int.{abs_diff, bit_at, cast_signed, w16};
 ghost use Rattle.search_squares.specs.Blocks.{square_of_difference};
 ghost use Rattle.search_squares.specs.Bounds.{IsMarked};

@@ -1,7 +1,7 @@
 // Blocks of several sizes, of a whole sample and of one box of the output.
 ghost use Rattle.std.specs.Prelude.{◌≡◌, ◌≤◌, ◌<◌, ◌*◌, ◌^◌, IfOk, IsTrue, OnErr, OnOk, length};
 ghost use Rattle.cells.specs.Boxes.{HasCells, HoldsBox};
-ghost use Rattle.cells.specs.Cells.{Cells, sizes_of};
+ghost use Rattle.cells.specs.Cells.{Cells};
 ghost use Rattle.cells.specs.Places.{cell_count};
 ghost use Rattle.map_canvas.specs.Canvases.{StandsOver};
 ghost use Rattle.search_squares.specs.Blocks.{AreBoxBlocks, block_bytes};

@@ -1,5 +1,5 @@
 // Likely places to lay a box from: of some rows of places, the one where its blocks come closest.
-ghost use Rattle.std.specs.Prelude.{◌≡◌, ◌≤◌};
+ghost use Rattle.std.specs.Prelude.{◌≤◌};
 ghost use Rattle.cells.specs.Boxes.{HoldsBox};
 ghost use Rattle.map_canvas.specs.Canvases.{StandsOver};
 ghost use Rattle.search_squares.specs.Blocks.{AreBoxBlocks};

@@ -1,5 +1,5 @@
 // A shelf in memory, which always tells its files.
-ghost use Rattle.std.specs.Prelude.{◌≡◌, ◌≤◌, ◌⊎◌, ◌++◌, ◌∷◌, [], ◌↔◌, Some, IfOk, OnOk, OnErr, IsErr, IsSome, option_copied, position, length};
+ghost use Rattle.std.specs.Prelude.{◌≡◌, ◌≤◌, ◌++◌, ◌∷◌, [], ◌↔◌, Some, IfOk, OnOk, OnErr, IsErr, IsSome, option_copied, position, length};
 ghost use Rattle.std.specs.FinMap as map;
 ghost use Rattle.shelf_core.specs.Files.{Changes, Rose, Reads, AsksFor, OnlyReadsFile, OnlyWritesFile, content_of, Begins, BeginsPart, Appends, AppendsPart};
 ghost use Rattle.shelf_core.specs.Listings.{due, one_more};

@@ -1,5 +1,5 @@
 // Reading the head of map and record files.
-ghost use Rattle.std.specs.Prelude.{◌≡◌, ◌≤◌, ◌<◌, ◌+◌, ◌^◌, IfOk, IfErr, OnOk, IsTrue, length, ◌*◌};
+ghost use Rattle.std.specs.Prelude.{◌≡◌, ◌≤◌, ◌<◌, ◌+◌, ◌^◌, IfOk, IfErr, OnOk, length, ◌*◌};
 ghost use Rattle.std.specs.Int.{w8, w16, w32};
 ghost use Rattle.shelf_core.specs.Files.{OnlyReadsFile};
 ghost use Rattle.cells.specs.Places.{HasAxes};

@@ -1,5 +1,5 @@
 // Whether the records of a run stand, and leave the map of its map file.
-ghost use Rattle.std.specs.Prelude.{◌≡◌, ◌≤◌, ◌<◌, ◌*◌, ◌^◌, ◌↔◌, All, IfOk, IfSome, IfNone, IsTrue, length};
+ghost use Rattle.std.specs.Prelude.{◌≡◌, ◌≤◌, ◌<◌, ◌*◌, ◌^◌, ◌↔◌, All, IfOk, IsTrue, length};
 ghost use Rattle.cells.specs.Cells.{IsOnePart};
 ghost use Rattle.cells.specs.Places.{cell_count, place_of};
 ghost use Rattle.cells.specs.Firsts.{Each, FirstWithout};

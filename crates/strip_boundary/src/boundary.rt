@@ -1,5 +1,5 @@
 // Boundaries and their records.
-ghost use Rattle.std.specs.Prelude.{IfOk, List, ◌≡◌};
+ghost use Rattle.std.specs.Prelude.{IfOk};
 ghost use Rattle.strip_boundary.specs.Boundaries.{IsBoundary, IsLeastBoundary, IsFirstLeast};
 ghost use Rattle.strip_boundary.specs.Records.{BoundaryStands, AreTightSums};
 

@@ -1,5 +1,5 @@
 // The check of a boundary record against its strip.
-ghost use Rattle.std.specs.Prelude.{◌≡◌, ◌+◌, ◌*◌, ◌<◌, ◌≤◌, ◌↔◌, length, IsTrue, IsOk, IfErr, IfSome, IfNone, OnOk, MatchOption, ℕ, slice_index};
+ghost use Rattle.std.specs.Prelude.{◌≡◌, ◌+◌, ◌*◌, ◌<◌, ◌↔◌, length, IsTrue, IsOk, IfErr, IfSome, IfNone, OnOk, MatchOption, ℕ};
 ghost use Rattle.strip_boundary.specs.Boundaries.{IsBoundary, IsLeastBoundary, boundary_cost};
 ghost use Rattle.strip_boundary.specs.Records.{BoundaryStands, IsFirstBoundaryFault, SumHolds, SumsHold, IsLeastOfLastRow, ColumnHolds, FirstBadColumn, FirstBadSum};
 

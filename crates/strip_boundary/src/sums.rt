@@ -1,5 +1,5 @@
 // The running sums of a strip: the cost of the cheapest way from the first row to each cell.
-ghost use Rattle.std.specs.Prelude.{◌≡◌, ◌+◌, ◌*◌, ◌<◌, ◌≤◌, IfOk, OnOk, length, slice_index};
+ghost use Rattle.std.specs.Prelude.{◌+◌, ◌*◌, ◌<◌, ◌≤◌, IfOk, OnOk, length, slice_index};
 ghost use Rattle.strip_boundary.specs.Records.{AreTightSums, IsTightSum};
 ghost use Rattle.strip_boundary.specs.Tables.{IsFirstLeastWithin, IsFirstLeastNear, AreTightUpTo};
 

@@ -1,5 +1,5 @@
 // The way back through the running sums, from the last row to the first.
-ghost use Rattle.std.specs.Prelude.{◌≡◌, ◌+◌, ◌*◌, ◌<◌, ◌≤◌, IfOk, length};
+ghost use Rattle.std.specs.Prelude.{◌≡◌, ◌+◌, ◌*◌, ◌<◌, IfOk, length};
 ghost use Rattle.strip_boundary.specs.Tables.{IsTracedFrom};
 
 use crate::strip::Strip;

@@ -1,5 +1,5 @@
 // A sample with a target as its second part.
-ghost use Rattle.std.specs.Prelude.{◌≡◌, ◌≤◌, ◌+◌, true, IfOk, length};
+ghost use Rattle.std.specs.Prelude.{◌≡◌, ◌≤◌, ◌+◌, true, IfOk};
 ghost use Rattle.cells.specs.Boxes.{HasCells, HoldsBox};
 ghost use Rattle.cells.specs.Cells.{IsOnePart, count_of, with_part};
 ghost use Rattle.limits.specs.declared.bounds.TheConstants.{MOST_CELLS};

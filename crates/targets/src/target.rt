@@ -1,7 +1,5 @@
 // How far the cells of a placement are from those of a target.
-ghost use Rattle.std.specs.Prelude.{◌≡◌, ◌≤◌, ◌<◌, ◌*◌, ◌^◌};
-ghost use Rattle.cells.specs.Boxes.{HoldsBox};
-ghost use Rattle.cells.specs.Cells.{IsOnePart};
+ghost use Rattle.std.specs.Prelude.{◌≡◌, ◌≤◌, ◌<◌, ◌*◌};
 ghost use Rattle.cells.specs.Places.{SumFits, cell_count, plus, spot};
 ghost use Rattle.map_canvas.specs.Choices.{Fits};
 ghost use Rattle.match_error.specs.Errors.{most_cell_error, most_frame_error, most_row_error};

@@ -1,5 +1,5 @@
 // Worked examples: what the definitions mean on strips that are small enough to work by hand.
-ghost use Rattle.std.specs.Prelude.{◌≡◌, ◌*◌, IfOk, length};
+ghost use Rattle.std.specs.Prelude.{◌≡◌, ◌*◌, IfOk};
 
 use crate::expect::expect_none;
 use std::alloc::{AllocError, Global};

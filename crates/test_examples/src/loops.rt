@@ -1,5 +1,5 @@
 // Worked examples, and records that don't stand.
-ghost use Rattle.std.specs.Prelude.{◌≡◌, ◌≤◌, IfOk, length as length_of};
+ghost use Rattle.std.specs.Prelude.{◌≤◌, length as length_of};
 
 use crate::expect::{expect_none, expect_true};
 use cells::{Size, Taps, Volume};

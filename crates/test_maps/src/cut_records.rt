@@ -1,6 +1,6 @@
 // Worked examples of cut_check: records along each axis, with a held cell, over all choices, and boxes on two
 // and three axes whose flows are forced.
-ghost use Rattle.std.specs.Prelude.{◌≡◌, IfOk, length};
+ghost use Rattle.std.specs.Prelude.{IfOk};
 ghost use Rattle.cells.specs.Places.{IsSmall};
 ghost use Rattle.map_canvas.specs.Canvases.{StandsOver};
 

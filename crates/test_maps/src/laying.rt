@@ -1,5 +1,5 @@
 // Canvases over samples, and cells that are laid on them, for the worked examples.
-ghost use Rattle.std.specs.Prelude.{◌≡◌, IfOk, IsTrue, pos};
+ghost use Rattle.std.specs.Prelude.{IfOk, IsTrue};
 ghost use Rattle.cells.specs.Boxes.{AxisHolds, HoldsBox};
 ghost use Rattle.cells.specs.Places.{IsSmall};
 ghost use Rattle.map_canvas.specs.Canvases.{StandsOver};

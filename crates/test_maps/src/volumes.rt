@@ -1,8 +1,8 @@
 // Worked examples of cells: that the calls that take memory succeed while there is some, and what the
 // definitions give at the corners of small volumes.
 ghost use Rattle.std.specs.Prelude.{◌≡◌};
-ghost use Rattle.cells.specs.Cells.{HasRun, IsInsideOf, blank};
-ghost use Rattle.cells.specs.Places.{SumFits, plus, spot};
+ghost use Rattle.cells.specs.Cells.{blank};
+ghost use Rattle.cells.specs.Places.{plus};
 ghost use Rattle.test_maps.specs.declared.volumes.TheConstants.{TWELVE};
 
 use crate::expect::{expect_none, expect_true};

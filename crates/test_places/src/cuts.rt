@@ -1,5 +1,4 @@
 // Worked examples of cut_graph: the nodes and pipes of networks over a row, and their values.
-ghost use Rattle.std.specs.Prelude.{option_copied};
 ghost use Rattle.map_canvas.specs.Canvases.{StandsOver};
 
 use crate::expect::expect_done;

@@ -1,6 +1,6 @@
 // Worked examples of patch_picks and patch_place: the lists of small samples and outputs, and picks and steps
 // over a row.
-ghost use Rattle.std.specs.Prelude.{◌≡◌, ◌<◌, ◌≤◌, ◌+◌, All, IfOk, IsTrue};
+ghost use Rattle.std.specs.Prelude.{◌≡◌, ◌<◌, ◌+◌, All, IfOk, IsTrue};
 ghost use Rattle.cells.specs.Cells.{blank};
 ghost use Rattle.cells.specs.Places.{IsInside, IsSmall, cell_count};
 ghost use Rattle.map_canvas.specs.Canvases.{StandsOver};

@@ -1,7 +1,6 @@
 // Coordinates and maps that go on past the edges of wrapped axes.
-ghost use Rattle.std.specs.Prelude.{◌≡◌, ◌≤◌, ◌*◌, ◌+ℤ◌, ◌≤ℤ◌, pos, IfSome};
-ghost use Rattle.map_canvas.specs.Maps.{IsSource, map_at};
-ghost use Rattle.costs.specs.Costs.{IsAsked};
+ghost use Rattle.std.specs.Prelude.{◌≡◌, ◌≤◌, ◌*◌, ◌+ℤ◌, ◌≤ℤ◌, pos};
+ghost use Rattle.map_canvas.specs.Maps.{map_at};
 ghost use Rattle.torus.specs.Wraps.{around_axis, map_around};
 
 use cells::At;

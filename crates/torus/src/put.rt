@@ -1,7 +1,6 @@
 // A choice over a box that may pass the edge, put into the output.
-ghost use Rattle.std.specs.Prelude.{◌≡◌, ◌≤◌, ◌<◌, ◌*◌, ◌≤ℤ◌, ◌<ℤ◌, ◌+ℤ◌, ℕ, pos, true, false, slice_index_or, length};
+ghost use Rattle.std.specs.Prelude.{◌≡◌, ◌≤◌, ◌<◌, ◌*◌, ◌≤ℤ◌, ◌+ℤ◌, pos, true, false, length};
 ghost use Rattle.cells.specs.declared.place.Size.{Size};
-ghost use Rattle.cells.specs.Cells.{IsVolume};
 ghost use Rattle.cells.specs.Places.{cell_count, place_of, plus};
 ghost use Rattle.map_canvas.specs.Canvases.{IsCanvas, StandsOver};
 ghost use Rattle.map_canvas.specs.Choices.{Fits};

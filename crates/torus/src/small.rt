@@ -1,11 +1,9 @@
 // The small canvas of a box.
-ghost use Rattle.std.specs.Prelude.{◌≡◌, ◌≤◌, ◌<◌, ◌≤ℤ◌, ◌<ℤ◌, ◌+ℤ◌, ◌-ℤ◌, ◌+◌, ◌*◌, ℕ, pos, negsuc, IfOk, IfSome, Some, None};
-ghost use Rattle.cells.specs.Boxes.{HasCells};
+ghost use Rattle.std.specs.Prelude.{◌≡◌, ◌≤◌, ◌<◌, ◌≤ℤ◌, ◌<ℤ◌, ◌+ℤ◌, ◌-ℤ◌, ◌+◌, ◌*◌, pos, negsuc, IfOk, Some, None};
 ghost use Rattle.cells.specs.Cells.{HasCell};
 ghost use Rattle.cells.specs.Places.{IsInside, IsSmall, cell_count, place_of};
 ghost use Rattle.boxes.specs.Pairs.{one_if};
 ghost use Rattle.map_canvas.specs.Canvases.{IsCanvas, StandsOver};
-ghost use Rattle.map_canvas.specs.Maps.{IsSource, map_at};
 ghost use Rattle.torus.specs.Tiles.{IsSmallMap, Takes, has_after, has_before, output_cell, small_axis, small_box, small_size};
 ghost use Rattle.torus.specs.Wraps.{around_axis};
 ghost use Rattle.torus.specs.Filling.{IsFilledTo, IsNamedAt};

@@ -1,11 +1,11 @@
 // The sizes of turned samples, and their places.
-ghost use Rattle.std.specs.Prelude.{◌≡◌, ◌≤◌, ◌<◌, ◌+◌, ◌-◌, ◌*◌, ◌++◌, length, map};
+ghost use Rattle.std.specs.Prelude.{◌≡◌, ◌≤◌, ◌+◌, ◌-◌, ◌*◌, ◌++◌, length, map};
 ghost use Rattle.std.specs.List.{range_with_len};
 ghost use Rattle.cells.specs.Places.{HasAxes};
 ghost use Rattle.cells.specs.SizeLists.{IsPartPlace};
 ghost use Rattle.turned.specs.Turns.{turn_size};
-ghost use Rattle.turned.specs.TurnedParts.{turn_sizes, turned_sizes_of};
-ghost use Rattle.turned.specs.TurnedPlaces.{IsInTurned, IsTurned, IsUntouched, turned_number, turned_place};
+ghost use Rattle.turned.specs.TurnedParts.{turned_sizes_of};
+ghost use Rattle.turned.specs.TurnedPlaces.{IsInTurned, IsTurned, IsUntouched, turned_place};
 
 use crate::turn::{TURNS, turn_from, turn_to, turned_size};
 use cells::{At, PartPlace, Size, Sizes};

@@ -1,5 +1,5 @@
 // What the form of maps over turned samples promises, whoever reads or writes.
-ghost use Rattle.std.specs.Prelude.{◌≡◌, ◌++◌, ℕ, List, Ok, Err};
+ghost use Rattle.std.specs.Prelude.{◌≡◌, ℕ, List, Ok, Err};
 ghost use Rattle.shelf_core.specs.declared.fault.ReadError.{ReadError};
 ghost use Rattle.source_map.specs.Readings.{AreBytes};
 ghost use Rattle.turned_map.specs.declared.turned_file.TurnedFile.{TurnedFile};

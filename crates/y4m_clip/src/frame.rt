@@ -1,7 +1,7 @@
 // Reading the frames of a clip.
-ghost use Rattle.std.specs.Prelude.{◌≡◌, ◌≤◌, ◌<◌, ◌+◌, ◌*◌, ◌^◌, ◌++◌, length, take, drop, IfOk, IfSome, IfNone, ◌≢◌};
+ghost use Rattle.std.specs.Prelude.{◌≡◌, ◌≤◌, ◌<◌, ◌+◌, ◌*◌, ◌^◌, length, IfOk, IfSome, IfNone, ◌≢◌};
 ghost use Rattle.std.specs.List.{AllByRecursion};
-ghost use Rattle.shelf_core.specs.Files.{InFile, OnlyReadsFile};
+ghost use Rattle.shelf_core.specs.Files.{OnlyReadsFile};
 ghost use Rattle.y4m_clip.specs.Frames.{IsFirstEnd, IsEarly, IsFrameScanned, frame_judged, FindsFrameAs, FillsPlanesAs, ReadsFrameAs, grown_by};
 ghost use Rattle.y4m_clip.specs.Clips.{frame_cells};
 ghost use Rattle.y4m_clip.specs.Spaces.{samples_of};

@@ -1,7 +1,7 @@
 // What a stream line says of its frames, and its limits.
-ghost use Rattle.std.specs.Prelude.{◌≡◌, ◌≢◌, ◌≤◌, ◌<◌, ◌*◌, ◌+◌, ◌%◌, ◌/◌, ◌⊎◌, [], length, IfOk, IfSome, IfNone, IsTrue, ◌↔◌, option_copied, codes};
+ghost use Rattle.std.specs.Prelude.{◌≡◌, ◌≢◌, ◌<◌, ◌*◌, ◌+◌, ◌%◌, ◌/◌, ◌⊎◌, length, IfOk, IfSome, IfNone, IsTrue, ◌↔◌, option_copied, codes};
 ghost use Rattle.y4m_clip.specs.declared.form.SpaceKind.{SpaceKind};
-ghost use Rattle.y4m_clip.specs.Spaces.{IsSpelling, GivesSpace, GivesInterlace, cell_width, cell_height, samples_of};
+ghost use Rattle.y4m_clip.specs.Spaces.{IsSpelling, cell_width, cell_height, samples_of};
 ghost use Rattle.shelf_core.specs.Decimals.{capped, value_behind};
 ghost use Rattle.y4m_clip.specs.Clips.{tag_value, tag_number, carried, spaced, HasSpaceKind};
 ghost use Rattle.y4m_clip.specs.Heads.{IsCounted, IsCellNumber, IsAllowedSize, FrontAs};

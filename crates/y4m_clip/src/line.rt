@@ -1,7 +1,7 @@
 // Reading the stream line of a clip.
-ghost use Rattle.std.specs.Prelude.{◌≡◌, ◌≤◌, ◌<◌, ◌+◌, ◌++◌, length, take, drop, IfOk, OnOk, OnErr, IsTrue, [], ◌∷◌, codes};
+ghost use Rattle.std.specs.Prelude.{◌≡◌, ◌≤◌, ◌<◌, ◌+◌, ◌++◌, length, take, IfOk, OnOk, []};
 ghost use Rattle.shelf_core.specs.Files.{InFile, OnlyReadsFile};
-ghost use Rattle.y4m_clip.specs.Scanning.{line_kind, IsSoundLine};
+ghost use Rattle.y4m_clip.specs.Scanning.{IsSoundLine};
 ghost use Rattle.y4m_clip.specs.Reading.{Matches, IsStreamScanned, flushed, gathered, Gathers, line_limit, line_judged, FindsLineAs, IsLineOf, AreTags, LinesAs};
 
 use crate::form::Tags;

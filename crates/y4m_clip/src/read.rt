@@ -1,6 +1,6 @@
 // Reading a clip.
-ghost use Rattle.std.specs.Prelude.{◌≡◌, ◌≤◌, [], IfOk};
-ghost use Rattle.cells.specs.Cells.{volume_of, IsOnePart};
+ghost use Rattle.std.specs.Prelude.{◌≡◌, ◌≤◌, IfOk};
+ghost use Rattle.cells.specs.Cells.{volume_of};
 ghost use Rattle.shelf_core.specs.Files.{OnlyReadsFile};
 ghost use Rattle.y4m_clip.specs.Spaces.{samples_of};
 ghost use Rattle.y4m_clip.specs.Refusals.{ReadsClipAs, IsSoundClip};

@@ -1,5 +1,5 @@
 // The scanner of a stream line after its magic: a machine of small steps, one for each byte.
-ghost use Rattle.std.specs.Prelude.{◌≡◌, ◌≤◌, length};
+ghost use Rattle.std.specs.Prelude.{◌≡◌, length};
 ghost use Rattle.y4m_clip.specs.Scanning.{line_kind, no_letters, with_letter, may_follow, line_ended, tag_entered, after_number_digit, in_gap, in_value, in_number, line_step, IsLineScanned, IsSoundLine};
 
 /// What a byte is in a stream line.

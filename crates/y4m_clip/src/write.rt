@@ -1,5 +1,5 @@
 // Writing a clip, frame by frame.
-ghost use Rattle.std.specs.Prelude.{◌≡◌, ◌<◌, ◌≤◌, ◌*◌, ◌++◌, length, decimal, IfOk, OnOk, OnErr};
+ghost use Rattle.std.specs.Prelude.{◌≡◌, ◌<◌, ◌*◌, ◌++◌, length, decimal, IfOk, OnOk, OnErr};
 ghost use Rattle.cells.specs.Places.{HasAxes};
 ghost use Rattle.cells.specs.Cells.{IsOnePart};
 ghost use Rattle.shelf_core.specs.Files.{Changes, Appends, AppendsPart, OnlyWritesFile, WritesRose};

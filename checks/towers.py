@@ -12,7 +12,7 @@ import pathlib
 import re
 import sys
 
-JUDGE = ["costs", "cut_check", "cut_replay", "strip_boundary", "block_strips", "block_check", "block_replay", "frame_distance", "loop_walk"]
+JUDGE = ["costs", "cut_check", "cut_replay", "strip_boundary", "block_strips", "block_check", "frame_distance", "loop_walk"]
 JUDGE += ["cert_file", "standing_files", "check_command"]
 SEARCH = ["match_error", "offset_errors", "patch_picks", "search_squares", "patch_place", "trial_sample", "least_choice", "cost_windows", "grown", "max_flow", "cut_graph"]
 SEARCH += ["graph_place", "refine_seams", "grow_run", "quilted", "quilt", "quilt_run", "targets", "transfer", "torus", "tile_run"]

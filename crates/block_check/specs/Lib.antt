@@ -1,3 +1,4 @@
 pub mod Blocks
 pub mod Records
+pub mod Several
 pub mod Steps

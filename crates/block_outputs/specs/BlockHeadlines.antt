@@ -14,7 +14,7 @@ use Rattle.patch_picks.specs.Draws.{DrawState}
 use Rattle.block_check.specs.declared.block.BlockRecord.{BlockRecord}
 use Rattle.quilted.specs.Runs.{IsQuilted, Rating, quilting}
 use Rattle.quilted.specs.declared.asked.QuiltRun.{QuiltRun}
-use Rattle.block_replay.specs.BlockReplay.{EachBlockIsLeast, EachBlockStands, left_by_blocks}
+use Rattle.block_check.specs.Several.{EachBlockIsLeast, EachBlockStands, left_by_blocks}
 use Rattle.cert_file.specs.RecordFiles.{blocks_form}
 use Rattle.job_words.specs.declared.job.Names.{Names}
 use Rattle.check_command.specs.Checks.{Stand}

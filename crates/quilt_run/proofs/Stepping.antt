@@ -19,7 +19,7 @@ use Rattle.block_check.specs.declared.block.BlockRecord.{BlockRecord}
 use Rattle.block_check.specs.Blocks.{IsFormedBlock, block_cells}
 use Rattle.block_check.specs.Records.{BlockStands, JoinStands}
 use Rattle.quilted.specs.Runs.{HaveOneFrame, QuiltsBy, QuiltsTo, Quilting, Rating, first_quilting, quilting}
-use Rattle.block_replay.specs.BlockReplay.{left_by_blocks}
+use Rattle.block_check.specs.Several.{left_by_blocks}
 use Rattle.quilted.proofs.Laying.{HasJoins, laid_formed}
 use Rattle.quilted.proofs.Runs.{quilts_replay}
 use Rattle.limits.specs.declared.bounds.TheConstants.{MOST_BOX_CELLS}

@@ -7,7 +7,7 @@ use Rattle.block_strips.specs.declared.plan.QuiltPlan.{QuiltPlan}
 use Rattle.block_check.specs.declared.block.BlockRecord.{BlockRecord}
 use Rattle.block_check.specs.Blocks.{after_block, block_cells}
 use Rattle.quilted.specs.Runs.{QuiltsBy, QuiltsTo, Quilting, Rating}
-use Rattle.block_replay.specs.BlockReplay.{left_by_blocks}
+use Rattle.block_check.specs.Several.{left_by_blocks}
 use Rattle.quilted.specs.Costs.{all_boundaries, block_boundaries, block_cost, quilt_cost}
 
 pub quilts_more : (rating : Rating) (plan : QuiltPlan) (sample : Cells) (s : Quilting) (blocks : List BlockRecord) (t : Quilting) (block : BlockRecord) (u : Quilting) → QuiltsTo rating plan sample s blocks t → QuiltsBy rating plan sample t block u → QuiltsTo rating plan sample s (blocks ++ block ∷ []) u

@@ -27,7 +27,7 @@ use Rattle.block_strips.specs.Laid.{IsLaidByBlocks}
 use Rattle.block_strips.specs.Strips.{strip_of}
 use Rattle.block_check.specs.declared.block.BlockRecord.{BlockRecord}
 use Rattle.block_check.specs.Blocks.{after_block}
-use Rattle.block_replay.specs.BlockReplay.{EachBlockIsLeast, EachBlockStands, left_by_blocks}
+use Rattle.block_check.specs.Several.{EachBlockIsLeast, EachBlockStands, left_by_blocks}
 
 -- a canvas and a sample of one frame, with cells of three samples, where the canvas stands over the
 -- sample

@@ -8,7 +8,7 @@ use Rattle.source_map.specs.declared.map_file.MapFile.{MapFile}
 use Rattle.cert_file.specs.declared.file.RecordFile.{RecordFile}
 use Rattle.cert_file.specs.declared.file.RecordFile.TheVariants.{Blocks, Cuts, Walk}
 use Rattle.cut_replay.proofs.Standing.{stands_not}
-use Rattle.block_replay.proofs.FirstBroken as quilted
+use Rattle.block_check.proofs.FirstBroken as quilted
 use Rattle.loop_walk.proofs.OneAnswer.{no_fault}
 use Rattle.sample_files.specs.declared.sample.Sample.{Sample}
 use Rattle.sample_files.specs.declared.several.Samples.{Samples}

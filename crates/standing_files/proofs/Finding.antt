@@ -19,7 +19,7 @@ use Rattle.strip_boundary.specs.declared.check.BlockFault.{BlockFault}
 use Rattle.block_check.specs.declared.block.BlockRecord.{BlockRecord}
 use Rattle.block_check.specs.Blocks.{after_block, block_cells}
 use Rattle.block_check.specs.Records.{BlockStands, IsFirstBlockFault}
-use Rattle.block_replay.specs.BlockReplay.{EachBlockStands, left_by_blocks}
+use Rattle.block_check.specs.Several.{EachBlockStands, left_by_blocks}
 use Rattle.cert_file.specs.BlockReading.{blocks_read}
 use Rattle.cert_file.specs.CutReading.{cuts_read}
 use Rattle.standing_files.specs.declared.verdict.Verdict.{Verdict}

@@ -1,31 +1,22 @@
 -- The answers of the calls that judge.
-use Rattle.std.proofs.Common.{◌≡◌, ◌∙◌, ◌↔◌, ◌≤◌, ◌<◌, ◌*◌, ℕ, List, [], ◌∷◌, length, inl, inr, refl, sym, ap, subst, arith}
-use Rattle.std.proofs.lemmas.Option.{slice_get_within}
-use Rattle.std.specs.Prelude.{All, Option, Some, None, Err}
+use Rattle.std.proofs.Common.{◌≡◌, ◌∙◌, ◌≤◌, ◌*◌, ℕ, List, [], ◌∷◌, length, inl, inr, refl, sym, ap, subst, arith}
+use Rattle.std.specs.Prelude.{Option, Some, None}
 use Rattle.cells.specs.declared.place.Size.{Size}
 use Rattle.cells.specs.declared.place.Taps.{Taps}
 use Rattle.cells.specs.Cells.{Cells, IsOnePart, sizes_of}
 use Rattle.cells.specs.Parts.{count_from}
 use Rattle.cells.specs.Places.{cell_count}
 use Rattle.cells.specs.Firsts.{FirstWithout}
-use Rattle.map_canvas.specs.Maps.{SourceMap, empty_map}
 use Rattle.source_map.specs.declared.head.Head.{Head}
 use Rattle.source_map.specs.declared.map_file.MapFile.{MapFile}
 use Rattle.source_map.specs.MapFiles.{numbered_size}
-use Rattle.cut_check.specs.declared.record.CutRecord.{CutRecord}
-use Rattle.cut_replay.specs.Replay.{EachStands, IsFormed, left_by}
 use Rattle.block_check.specs.declared.block.BlockRecord.{BlockRecord}
-use Rattle.block_check.specs.Blocks.{IsFormedBlock}
-use Rattle.block_replay.specs.declared.records.BlocksError.{BlocksError}
-use Rattle.block_replay.specs.declared.records.BlocksError.TheVariants.{Broken as BrokenAt}
-use Rattle.block_replay.specs.declared.records.BrokenBlock.{BrokenBlock}
-use Rattle.block_replay.specs.BlockReplay.{EachBlockStands, ReplaysBlocks, left_by_blocks}
 use Rattle.frame_distance.specs.Steps.{Steps}
 use Rattle.limits.specs.declared.bounds.TheConstants.{MOST_LOOP_FRAMES, MOST_SAMPLE_CELLS}
 use Rattle.loop_walk.specs.Records.{WalkStands}
-use Rattle.loop_walk.specs.Tables.{table_count}
+use Rattle.loop_walk.specs.Tables.{IsLength, table_count}
 use Rattle.cert_file.specs.declared.file.RecordFile.{RecordFile}
-use Rattle.cert_file.specs.declared.file.RecordFile.TheVariants.{Blocks, Cuts, Walk}
+use Rattle.cert_file.specs.declared.file.RecordFile.TheVariants.{Blocks, Walk}
 use Rattle.cert_file.specs.RecordFiles.{IsRecordFile}
 use Rattle.cert_file.specs.WalkForms.{frames_of}
 use Rattle.sample_files.specs.declared.form.Form.{Form}
@@ -36,19 +27,11 @@ use Rattle.sample_files.specs.Samples.{AreSoundIn}
 use Rattle.sample_files.specs.Several.{AreSoundSamples}
 use Rattle.standing_files.specs.declared.verdict.Verdict.{Verdict}
 use Rattle.standing_files.specs.declared.verdict.Verdict.TheVariants.{Stands, Fails}
-use Rattle.standing_files.specs.Standing.{FilesStand, GoTogether, HasOneFrame, IsBrokenBlock, IsBrokenCut, IsBrokenWalk, IsLeftAt, IsVerdict, TakesForm}
-use Rattle.standing_files.specs.Steps.{JudgesBlocks, JudgesBy, JudgesCuts, JudgesRecords, JudgesWalk, Suit, verdict_on_map}
-use Rattle.standing_files.proofs.Breaking.{breaks_none}
+use Rattle.standing_files.specs.Standing.{GoTogether, HasOneFrame, IsBrokenWalk, IsVerdict, TakesForm}
+use Rattle.standing_files.specs.Steps.{JudgesBy, JudgesRecords, JudgesWalk, Suit, verdict_on_map}
+use Rattle.standing_files.specs.AsRead.{JudgesPicture, TriesTogether}
 
 -- what is asked of the records of a file that was read
-
-pub cuts_formed : (head : Head) (cuts : List CutRecord) → IsRecordFile (Cuts head cuts) → All IsFormed cuts
-cuts_formed head cuts is = λ i d lt.
-    let one = is.form.each i d lt in
-    record { cells = record { w = one.size.w.0; h = one.size.h.0; f = one.size.f.0 }; choice = one.choice; flows = one.flows }
-
-pub blocks_formed : (head : Head) (blocks : List BlockRecord) → IsRecordFile (Blocks head blocks) → All IsFormedBlock blocks
-blocks_formed head blocks is = λ i d lt. (is.form.each i d lt).formed
 
 pub block_colours : (head : Head) (blocks : List BlockRecord) (form : Form) (cells : Cells) → TakesForm (Blocks head blocks) form → AreSoundIn form cells → cells.k ≡ 3
 block_colours head blocks (Picture maxval) cells takes sound = sound.colours
@@ -61,6 +44,7 @@ one_size size (other ∷ more) one = absurd (omega arith)
 -- the sample of a walk record
 pub record IsWalkSample (sample : Cells) (walk tables : List ℕ) : Type 0 where
   pub part : IsOnePart sample
+  pub len : IsLength (length walk)
   pub few : sample.size.f ≤ MOST_LOOP_FRAMES
   pub cells : cell_count sample.size ≤ MOST_SAMPLE_CELLS
   pub whole : length tables ≡ table_count (length walk) * (sample.size.f * sample.size.f)
@@ -73,6 +57,7 @@ walk_sample samples map_file head taps gap walk tables is sound suit =
     let frames : samples.volume.size.f ≡ frames_of head = ap (λ (sizes : List Size). (numbered_size sizes 1).f) sizes in
     record {
       part = part;
+      len = is.len;
       few = subst (λ n. n ≤ MOST_LOOP_FRAMES) (sym frames) is.frames;
       cells = subst (λ (more : List Size). count_from samples.volume.size more ≤ MOST_SAMPLE_CELLS) part sound.fits;
       whole = is.entries ∙ ap (λ n. table_count (length walk) * (n * n)) (sym frames);
@@ -86,21 +71,6 @@ map_judged Stand Broken n Leave stand (Some place) first = inr (record { whole =
 pub walk_judged : (costs : Steps) (walk tables frames : List ℕ) → WalkStands costs walk tables → (first : Option ℕ) → FirstWithout (length walk) (HasOneFrame walk frames) first → JudgesWalk costs walk tables frames (verdict_on_map first)
 walk_judged costs walk tables frames = map_judged (WalkStands costs walk tables) (IsBrokenWalk costs walk tables) (length walk) (HasOneFrame walk frames)
 
--- the number of a broken block is below that of all
-pub broken_below : (sample : Cells) (m : SourceMap) (blocks : List BlockRecord) (left : SourceMap) (error : BlocksError) (broken : BrokenBlock) → error ≡ BrokenAt broken → ReplaysBlocks sample m blocks left (Err error) → broken.number < length blocks
-broken_below sample m blocks left error broken is replayed =
-    let first = (subst (λ (error : BlocksError). ReplaysBlocks sample m blocks left (Err error)) is replayed).0 in
-    slice_get_within blocks broken.number first.block first.at
-
-module _ (samples : Cells) (m left : SourceMap) (first : Option ℕ) (found : FirstWithout (cell_count m.size) (IsLeftAt left m) first) where
-  pub cuts_judged : (cuts : List CutRecord) → EachStands samples (empty_map m.size) cuts → left ≡ left_by (empty_map m.size) cuts → JudgesCuts samples m cuts (verdict_on_map first)
-  cuts_judged cuts stand same = map_judged (EachStands samples (empty_map m.size) cuts) (IsBrokenCut samples m.size cuts) (cell_count m.size) (IsLeftAt (left_by (empty_map m.size) cuts) m) stand first
-      (subst (λ (left : SourceMap). FirstWithout (cell_count m.size) (IsLeftAt left m) first) same found)
-
-  pub blocks_judged : (blocks : List BlockRecord) → EachBlockStands samples (empty_map m.size) blocks → left ≡ left_by_blocks (empty_map m.size) blocks → JudgesBlocks samples m blocks (verdict_on_map first)
-  blocks_judged blocks stand same = map_judged (EachBlockStands samples (empty_map m.size) blocks) (IsBrokenBlock samples m.size blocks) (cell_count m.size) (IsLeftAt (left_by_blocks (empty_map m.size) blocks) m) stand first
-      (subst (λ (left : SourceMap). FirstWithout (cell_count m.size) (IsLeftAt left m) first) same found)
-
 module _ (samples : Samples) (out : Sample) (map_file : MapFile) (record_file : RecordFile) where
   pub suits : GoTogether samples out map_file record_file → Suit samples map_file record_file
   suits together = record { kinds = together.kinds; takes = together.takes; samples_are = together.record_file_sizes.samples_are }
@@ -111,7 +81,12 @@ module _ (samples : Samples) (out : Sample) (map_file : MapFile) (record_file : 
   judged_before together (Fails number rule place) fails (inl broken) = inr (inl (record { together = together; broken = broken }))
   judged_before together (Fails number rule place) fails (inr left) = inr (inr (inl (record { whole = left.whole; together = together; records = left.records; first = left.first })))
 
-  -- the verdict is that they stand exactly where they do
-  pub stands_exactly : (v : Verdict) → IsVerdict samples out map_file record_file v → (v ≡ Stands) ↔ FilesStand samples out map_file record_file
-  stands_exactly Stands is = (λ same. is, λ stand. refl)
-  stands_exactly (Fails number rule place) is = (λ same. absurd (cc), λ stand. absurd (breaks_none samples out map_file record_file number rule place stand is))
+  -- files that don't go together break the first rule
+  pub apart : (v : Verdict) → (v ≡ Stands → ⊥) → TriesTogether samples out map_file record_file v → IsVerdict samples out map_file record_file v
+  apart Stands fails tried = absurd (fails refl)
+  apart (Fails number rule place) fails tried = inl tried
+
+  -- records that stand leave the verdict to the picture
+  pub judged_last : GoTogether samples out map_file record_file → JudgesRecords samples.volume map_file record_file Stands → (v : Verdict) → JudgesPicture samples.volume out.volume map_file v → IsVerdict samples out map_file record_file v
+  judged_last together judged Stands copied = record { together = together; records = judged.0; left = judged.1; copied = copied }
+  judged_last together judged (Fails number rule place) copied = inr (inr (inr (record { whole = copied.whole; together = together; records = judged.0; left = judged.1; first = copied.first })))

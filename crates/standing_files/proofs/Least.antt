@@ -7,7 +7,7 @@ use Rattle.loop_walk.specs.Tables.{entry_at, table_count}
 use Rattle.loop_walk.specs.Records.{WalkStands}
 use Rattle.loop_walk.proofs.WayLaws.{closed_cost, least_from}
 use Rattle.cut_replay.proofs.Standing.{each_least}
-use Rattle.block_replay.proofs.Standing as blocks_standing
+use Rattle.block_check.proofs.Several as several_blocks
 use Rattle.cert_file.specs.declared.file.RecordFile.TheVariants.{Blocks, Cuts, Walk}
 use Rattle.standing_files.specs.Standing.{StandingRecordsAreLeast, walk_costs}
 
@@ -25,5 +25,5 @@ walk_least costs (first ∷ rest) tables stand =
 
 pub records_least : StandingRecordsAreLeast
 records_least samples output (Cuts head cuts) stand = each_least samples (empty_map output) cuts stand
-records_least samples output (Blocks head blocks) stand = blocks_standing.each_least samples (empty_map output) blocks stand
+records_least samples output (Blocks head blocks) stand = several_blocks.each_least samples (empty_map output) blocks stand
 records_least samples output (Walk head taps gap walk tables) stand = walk_least (walk_costs samples taps gap) walk tables stand

@@ -11,7 +11,7 @@ use Rattle.cells.proofs.Raster.{below_of_div, has_index, place_at}
 use Rattle.map_canvas.specs.Maps.{SourceMap, IsFull, IsMap, empty_map, map_at}
 use Rattle.source_map.specs.MapFiles.{frame_source}
 use Rattle.cut_replay.specs.Replay.{EachStands, left_by}
-use Rattle.block_replay.specs.BlockReplay.{EachBlockStands, left_by_blocks}
+use Rattle.block_check.specs.Several.{EachBlockStands, left_by_blocks}
 use Rattle.y4m_clip.specs.declared.form.SpaceKind.{SpaceKind}
 use Rattle.y4m_clip.specs.declared.form.SpaceKind.TheVariants.{Mono, C444, C422, C411, C420}
 use Rattle.sample_files.specs.declared.form.Form.{Form}

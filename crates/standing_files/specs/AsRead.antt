@@ -22,7 +22,7 @@ use Rattle.strip_boundary.specs.declared.check.BlockFault.{BlockFault}
 use Rattle.block_check.specs.declared.block.BlockRecord.{BlockRecord}
 use Rattle.block_check.specs.Blocks.{after_block}
 use Rattle.block_check.specs.Records.{BlockStands, IsFirstBlockFault}
-use Rattle.block_replay.specs.BlockReplay.{EachBlockStands, left_by_blocks}
+use Rattle.block_check.specs.Several.{EachBlockStands, left_by_blocks}
 use Rattle.cert_file.specs.declared.file.RecordFile.{RecordFile}
 use Rattle.cert_file.specs.declared.file.RecordFile.TheVariants.{Blocks, Cuts, Walk}
 use Rattle.cert_file.specs.RecordFiles.{ReadsRecordFile, ReadsToEnd, blocks_file_read, cuts_file_read}

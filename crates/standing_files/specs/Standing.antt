@@ -17,8 +17,7 @@ use Rattle.cut_check.specs.declared.record.CutRecord.{CutRecord}
 use Rattle.cut_replay.specs.declared.records.Broken.{Broken}
 use Rattle.cut_replay.specs.Replay.{EachLeast, EachStands, IsFirstBroken, left_by}
 use Rattle.block_check.specs.declared.block.BlockRecord.{BlockRecord}
-use Rattle.block_replay.specs.declared.records.BrokenBlock.{BrokenBlock}
-use Rattle.block_replay.specs.BlockReplay.{EachBlockIsLeast, EachBlockStands, IsFirstBrokenBlock, left_by_blocks}
+use Rattle.block_check.specs.Several.{BrokenBlock, EachBlockIsLeast, EachBlockStands, IsFirstBrokenBlock, left_by_blocks}
 use Rattle.frame_distance.specs.Steps.{Steps, steps_of}
 use Rattle.frame_distance.specs.Tables.{distances_of}
 use Rattle.loop_walk.specs.declared.fault.LoopFault.{LoopFault}

@@ -3,14 +3,9 @@
 use Rattle.std.specs.Prelude.{◌≡◌, ◌⊎◌, ◌<◌, ℕ, List, length, slice_get, Option, Some, None}
 use Rattle.cells.specs.declared.place.At.{At}
 use Rattle.cells.specs.Cells.{Cells, cell_at, sizes_of}
-use Rattle.cells.specs.Places.{cell_count, plus, spot}
+use Rattle.cells.specs.Places.{plus, spot}
 use Rattle.cells.specs.Firsts.{Each, IsFirstWithout}
-use Rattle.map_canvas.specs.Maps.{SourceMap, empty_map}
 use Rattle.source_map.specs.declared.map_file.MapFile.{MapFile}
-use Rattle.cut_check.specs.declared.record.CutRecord.{CutRecord}
-use Rattle.cut_replay.specs.Replay.{EachStands, left_by}
-use Rattle.block_check.specs.declared.block.BlockRecord.{BlockRecord}
-use Rattle.block_replay.specs.BlockReplay.{EachBlockStands, left_by_blocks}
 use Rattle.frame_distance.specs.Steps.{Steps}
 use Rattle.loop_walk.specs.Records.{WalkStands}
 use Rattle.cert_file.specs.declared.file.RecordFile.{RecordFile}
@@ -18,7 +13,7 @@ use Rattle.sample_files.specs.declared.several.Samples.{Samples}
 use Rattle.standing_files.specs.declared.verdict.TheConstants.{MAP_RULE}
 use Rattle.standing_files.specs.declared.verdict.Verdict.{Verdict}
 use Rattle.standing_files.specs.declared.verdict.Verdict.TheVariants.{Stands, Fails}
-use Rattle.standing_files.specs.Standing.{AreKindsOfOneRun, HasOneFrame, IsBrokenBlock, IsBrokenCut, IsBrokenRecord, IsBrokenWalk, IsCopied, IsLeftAt, IsWholeRule, LeaveAt, RecordsStand, TakesForm, record_file_head, map_entries, map_output}
+use Rattle.standing_files.specs.Standing.{AreKindsOfOneRun, HasOneFrame, IsBrokenRecord, IsBrokenWalk, IsCopied, IsWholeRule, LeaveAt, RecordsStand, TakesForm, record_file_head, map_entries, map_output}
 
 -- each cell of a run is that of another run
 abbrev pub IsRunSame : Cells → Cells → At → At → ℕ → Type 0
@@ -73,19 +68,7 @@ abbrev pub verdict_on_map : Option ℕ → Verdict
 verdict_on_map None = Stands
 verdict_on_map (Some place) = Fails 0 MAP_RULE place
 
--- the rules of cut records, and the map that they leave
-abbrev pub JudgesCuts : Cells → SourceMap → List CutRecord → Verdict → Type 0
-JudgesCuts samples m cuts =
-    JudgesBy (EachStands samples (empty_map m.size) cuts) (IsBrokenCut samples m.size cuts)
-    (cell_count m.size) (IsLeftAt (left_by (empty_map m.size) cuts) m)
-
--- the same of block records
-abbrev pub JudgesBlocks : Cells → SourceMap → List BlockRecord → Verdict → Type 0
-JudgesBlocks sample m blocks =
-    JudgesBy (EachBlockStands sample (empty_map m.size) blocks) (IsBrokenBlock sample m.size blocks)
-    (cell_count m.size) (IsLeftAt (left_by_blocks (empty_map m.size) blocks) m)
-
--- and of a walk record, beside the frames of a frame map
+-- the rules of a walk record, beside the frames of a frame map
 abbrev pub JudgesWalk : Steps → List ℕ → List ℕ → List ℕ → Verdict → Type 0
 JudgesWalk costs walk tables frames =
     JudgesBy (WalkStands costs walk tables) (IsBrokenWalk costs walk tables)

@@ -1,5 +1,5 @@
 // A record file judged as it is read, so that its records are never in memory together.
-ghost use Rattle.std.specs.Prelude.{◌≡◌, ◌<◌, ◌^◌, ◌∷◌, []};
+ghost use Rattle.std.specs.Prelude.{◌≡◌, ◌<◌, ◌^◌, ◌∷◌, [], IfOk};
 ghost use Rattle.shelf_core.specs.Files.{OnlyReadsFile};
 ghost use Rattle.file_bytes.specs.Reading.{Follows};
 ghost use Rattle.cells.specs.Cells.{sizes_of};
@@ -7,7 +7,7 @@ ghost use Rattle.cells.specs.Places.{IsSmall};
 ghost use Rattle.map_canvas.specs.Canvases.{IsCanvas, StandsOver};
 ghost use Rattle.map_canvas.specs.Maps.{empty_map};
 ghost use Rattle.source_map.specs.Heads.{IsHead, IsKind};
-ghost use Rattle.cert_file.specs.RecordFiles.{kinds, records_read};
+ghost use Rattle.cert_file.specs.RecordFiles.{IsRecordFile, IsWalkFile, kinds, records_read};
 ghost use Rattle.sample_files.specs.Several.{AreSoundSamples};
 ghost use Rattle.standing_files.specs.AsRead.{FindsInRecords, IsCanvasSize, IsOfColours, JudgesLeft, JudgesPicture, JudgesRecordFile, JudgesToEnd, LeavesCells, TriesTogether, read_as};
 ghost use Rattle.standing_files.specs.Standing.{IsVerdict, map_output};
@@ -16,9 +16,9 @@ ghost use Rattle.standing_files.specs.declared.verdict.Verdict.TheVariants.{Stan
 use crate::blocks_as_read::judge_blocks_to_end;
 use crate::cuts_as_read::judge_cuts_to_end;
 use crate::picture::first_not_copied;
-use crate::records::first_other_source;
+use crate::records::{first_other_source, judge_walk_record};
 use crate::together::go_together;
-use crate::verdict::{MAP_RULE, PICTURE_RULE, TOGETHER_RULE, Verdict, judge};
+use crate::verdict::{MAP_RULE, PICTURE_RULE, TOGETHER_RULE, Verdict};
 use cells::{Size, Volume};
 use cert_file::{BLOCKS, CUTS, Items, RecordFile, read_record_head, read_walk_file};
 use file_bytes::FileReader;
@@ -26,7 +26,7 @@ use map_canvas::{Canvas, Map};
 use sample_files::{Sample, Samples};
 use shelf_core::{ReadError, Shelf};
 use source_map::{Head, MapFile};
-use std::alloc::Global;
+use std::alloc::{AllocError, Global};
 
 // What rule 15 says of files.
 fn try_together(
@@ -92,6 +92,29 @@ fn judge_left(samples: &Volume, picture: &Volume, map_file: &MapFile, left: &Map
         }
     }
     judge_picture(samples, picture, map_file)
+}
+
+// Judges files whose record file is of a walk.
+fn judge_walk_file(
+    alloc: Global,
+    samples: &Samples,
+    out: &Sample,
+    map_file: &MapFile,
+    record_file: &RecordFile,
+) -> Result<Verdict, AllocError>
+    requires record_file { IsRecordFile record_file.now }
+    requires walk { IsWalkFile record_file.now }
+    requires sound { AreSoundSamples samples.now }
+    ensures { IfOk result (IsVerdict samples.now out.now map_file.now record_file.now) }
+{
+    match try_together(samples, out, map_file, record_file) {
+        Verdict::Stands => {}
+        fails => return Ok(fails),
+    }
+    match judge_walk_record(alloc, samples, map_file, record_file)? {
+        Verdict::Stands => Ok(judge_picture(&samples.volume, &out.volume, map_file)),
+        fails => Ok(fails),
+    }
 }
 
 // Reads the records of a file with the head and kind of another, to the end of the file, and judges each
@@ -239,17 +262,18 @@ fn judge_records_read<S: Shelf>(
         verdict
     } else {
         let record_file = read_walk_file(alloc, file, head, shelf, name)?;
-        let judged = judge(alloc, samples, out, map_file, &record_file);
+        let judged = judge_walk_file(alloc, samples, out, map_file, &record_file);
         drop(record_file);
         let verdict = judged?;
         Ok(verdict)
     }
 }
 
-/// Reads a record file to its end, and tries whether the files stand, as `judge` does. Each record of cuts
-/// or of blocks is judged as it comes and then dropped; only a walk is read whole before. After the first
-/// broken rule the file is still read: what `read_record_file` refuses is refused here, whatever its records
-/// are. It takes one canvas, and memory for one record.
+/// Reads a record file to its end, and tries whether the files stand: first whether they go together, then each
+/// record over the map that the records before it leave, then whether the records leave the map of the map file,
+/// and last each cell of the out picture. Each record of cuts or of blocks is judged as it comes and then dropped;
+/// only a walk is read whole before. After the first broken rule the file is still read: what `read_record_file`
+/// refuses is refused here, whatever its records are. It takes one canvas, and memory for one record.
 pub fn judge_record_file<S: Shelf>(
     alloc: Global,
     samples: &Samples,

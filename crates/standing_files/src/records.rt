@@ -1,27 +1,21 @@
-// Whether the records of a run stand, and leave the map of its map file.
-ghost use Rattle.std.specs.Prelude.{◌≡◌, ◌≤◌, ◌<◌, ◌*◌, ◌^◌, ◌↔◌, All, IfOk, IsTrue, length};
+// Whether a map is the one that records leave, and whether a walk record stands.
+ghost use Rattle.std.specs.Prelude.{◌≡◌, ◌≤◌, ◌*◌, ◌↔◌, IfOk, IsTrue, length};
 ghost use Rattle.cells.specs.Cells.{IsOnePart};
 ghost use Rattle.cells.specs.Places.{cell_count, place_of};
 ghost use Rattle.cells.specs.Firsts.{Each, FirstWithout};
-ghost use Rattle.cut_replay.specs.Replay.{IsFormed};
-ghost use Rattle.block_check.specs.Blocks.{IsFormedBlock};
 ghost use Rattle.limits.specs.declared.bounds.TheConstants.{MOST_LOOP_FRAMES, MOST_SAMPLE_CELLS};
 ghost use Rattle.loop_walk.specs.Tables.{IsLength, table_count};
-ghost use Rattle.cert_file.specs.RecordFiles.{IsRecordFile};
+ghost use Rattle.cert_file.specs.RecordFiles.{IsRecordFile, IsWalkFile};
 ghost use Rattle.sample_files.specs.Several.{AreSoundSamples};
 ghost use Rattle.standing_files.specs.Standing.{HasOneFrame, HasOneSource, walk_costs};
-ghost use Rattle.standing_files.specs.Steps.{AreOneSource, HaveOneEntry, JudgesBlocks, JudgesCuts, JudgesRecords, JudgesWalk, Suit, verdict_on_map};
+ghost use Rattle.standing_files.specs.Steps.{AreOneSource, HaveOneEntry, JudgesRecords, JudgesWalk, Suit, verdict_on_map};
 
 use crate::verdict::{MAP_RULE, Verdict};
-use block_check::BlockRecord;
-use block_replay::{BlocksError, replay_blocks};
 use cells::{At, Taps, Volume};
 use cert_file::RecordFile;
-use cut_check::CutRecord;
-use cut_replay::replay_cuts;
 use frame_distance::{distances, filtered};
 use loop_walk::check_loop;
-use map_canvas::{Canvas, Entry, Map};
+use map_canvas::{Entry, Map};
 use sample_files::Samples;
 use source_map::MapFile;
 use std::alloc::{AllocError, Global};
@@ -126,52 +120,6 @@ fn verdict_on_map(first: Option<usize>) -> Verdict
     }
 }
 
-// Judges cut records over an output, and the map that they leave.
-fn judge_cuts(
-    alloc: Global,
-    samples: &Volume,
-    map: &Map,
-    cuts: &[CutRecord],
-) -> Result<Verdict, AllocError>
-    requires formed { All IsFormed cuts.now }
-    requires few { length cuts.now < 2 ^ 32 }
-    ensures { IfOk result (JudgesCuts samples.now map.now cuts.now) }
-{
-    let mut canvas = Canvas::empty(alloc, map.size(), samples.samples())?;
-    if let Err(broken) = replay_cuts(&mut canvas, samples, cuts) {
-        return Ok(Verdict::Fails {
-            number: broken.number as u64 + 1,
-            rule: broken.fault.kind,
-            place: broken.fault.place,
-        });
-    }
-    Ok(verdict_on_map(first_other_source(canvas.map(), map)))
-}
-
-// Judges block records over an output, and the map that they leave.
-fn judge_blocks(
-    alloc: Global,
-    sample: &Volume,
-    map: &Map,
-    blocks: &[BlockRecord],
-) -> Result<Verdict, AllocError>
-    requires colours { sample.now.k ≡ 3 }
-    requires formed { All IsFormedBlock blocks.now }
-    requires few { length blocks.now < 2 ^ 32 }
-    ensures { IfOk result (JudgesBlocks sample.now map.now blocks.now) }
-{
-    let mut canvas = Canvas::empty(alloc, map.size(), sample.samples())?;
-    match replay_blocks(alloc, &mut canvas, sample, blocks) {
-        Ok(()) => Ok(verdict_on_map(first_other_source(canvas.map(), map))),
-        Err(BlocksError::Broken(broken)) => Ok(Verdict::Fails {
-            number: broken.number as u64 + 1,
-            rule: broken.fault.kind,
-            place: broken.fault.place,
-        }),
-        Err(BlocksError::NoMemory) => Err(AllocError),
-    }
-}
-
 // Judges a walk record over a sample, and the frames that it leaves.
 fn judge_walk(
     alloc: Global,
@@ -203,28 +151,21 @@ fn judge_walk(
     }
 }
 
-/// Judges the records of a record file, and what they leave beside the map file: records of cuts and of
-/// blocks each over the map that the records before it leave, and a walk over the step costs of the sample.
-/// The one error is out of memory; it takes one canvas, or the tables of the distances and of the steps.
-pub(crate) fn judge_records(
+/// Judges the walk of a record file over the step costs of the sample, and the frames that it leaves beside those of
+/// the map file. The one error is out of memory; it takes the tables of the distances and of the steps.
+pub(crate) fn judge_walk_record(
     alloc: Global,
     samples: &Samples,
     map_file: &MapFile,
     record_file: &RecordFile,
 ) -> Result<Verdict, AllocError>
     requires record_file { IsRecordFile record_file.now }
+    requires walk { IsWalkFile record_file.now }
     requires sound { AreSoundSamples samples.now }
     requires suit { Suit samples.now map_file.now record_file.now }
     ensures { IfOk result (JudgesRecords samples.now.volume map_file.now record_file.now) }
 {
-    let volume = &samples.volume;
     match (map_file, record_file) {
-        (MapFile::Cells { map, .. }, RecordFile::Cuts { cuts, .. }) => {
-            judge_cuts(alloc, volume, map, cuts.as_slice())
-        }
-        (MapFile::Cells { map, .. }, RecordFile::Blocks { blocks, .. }) => {
-            judge_blocks(alloc, volume, map, blocks.as_slice())
-        }
         (
             MapFile::Frames { frames, .. },
             RecordFile::Walk {
@@ -236,7 +177,7 @@ pub(crate) fn judge_records(
             },
         ) => judge_walk(
             alloc,
-            volume,
+            &samples.volume,
             *taps,
             *gap,
             walk.as_slice(),

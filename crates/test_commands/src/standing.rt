@@ -1,18 +1,16 @@
 // Worked examples: the files of runs of cuts, of blocks and of a walk, and the same files with other bytes.
 ghost use Rattle.std.specs.Prelude.{IfOk};
-ghost use Rattle.cert_file.specs.RecordFiles.{IsRecordFile};
 ghost use Rattle.sample_files.specs.Several.{AreSoundSamples};
 
 use crate::expect::expect_none;
 use block_check::{FIT_RULE, OVERLAP_RULE};
-use cert_file::{RecordFile, read_record_file};
 use cut_check::{FILL_RULE, VALUE_RULE};
 use loop_walk::{DIAGONAL_RULE, TABLES_RULE, WALK_RULE};
 use sample_files::{Sample, Samples, read_sample};
 use shelf_core::MemShelf;
 use source_map::{MapFile, read_map};
 use standing_files::Verdict::{Fails, Stands};
-use standing_files::{MAP_RULE, PICTURE_RULE, TOGETHER_RULE, Verdict, judge, judge_record_file};
+use standing_files::{MAP_RULE, PICTURE_RULE, TOGETHER_RULE, Verdict, judge_record_file};
 use std::alloc::{AllocError, Global};
 use strip_boundary::{COST_RULE, PATH_RULE, SUMS_RULE};
 
@@ -67,27 +65,8 @@ fn put_files(
     shelf.put_file("r", record)
 }
 
-// The verdict on files that were read. That on the record file as it is read again has to be the same. (Each function
-// here owns one value and borrows the rest: each place where owned values end is long to prove.)
-fn verdict_of_all(
-    alloc: Global,
-    shelf: &mut MemShelf,
-    samples: &Samples,
-    out: &Sample,
-    map_file: &MapFile,
-    record_file: &RecordFile,
-) -> Result<Verdict, AllocError>
-    requires record_file { IsRecordFile record_file.now }
-    requires sound { AreSoundSamples samples.now }
-{
-    let verdict = judge(alloc, samples, out, map_file, record_file)?;
-    match judge_record_file(alloc, samples, out, map_file, shelf, "r") {
-        Ok(as_read) if as_read == verdict => Ok(verdict),
-        _ => Err(AllocError),
-    }
-}
-
-// Reads the record file.
+// The verdict on files that were read, and on the record file. (Each function here owns one value and borrows the
+// rest: each place where owned values end is long to prove.)
 fn verdict_of_three(
     alloc: Global,
     shelf: &mut MemShelf,
@@ -97,13 +76,13 @@ fn verdict_of_three(
 ) -> Result<Verdict, AllocError>
     requires { AreSoundSamples samples.now }
 {
-    let Ok(record_file) = read_record_file(alloc, shelf, "r") else {
-        return Err(AllocError);
-    };
-    verdict_of_all(alloc, shelf, samples, out, map_file, &record_file)
+    match judge_record_file(alloc, samples, out, map_file, shelf, "r") {
+        Ok(verdict) => Ok(verdict),
+        Err(_) => Err(AllocError),
+    }
 }
 
-// Reads the map and the record file.
+// Reads the map.
 fn verdict_of_two(
     alloc: Global,
     shelf: &mut MemShelf,

@@ -16,7 +16,7 @@ returns-in_ok-verdict-clause-answer g c =
     let file = c.in_ok-record_file.record_file in
     let is_walk = weaker c.args.name.now (λ bytes. walk_file_read head place bytes ≡ Ok file) (λ bytes. records_read kind head place bytes ≡ Ok file) (g.S.Shelf.state c.read_walk_file.new.shelf).files
     (λ bytes is. read_as_walk kind head place bytes c.if-kind-eq-CUTS.false c.if-kind-eq-BLOCKS.false ∙ is) (c.in_ok-record_file.ensures {u = tt}).answer in
-    (file, is_walk, (c.in_ok-verdict.ensures {u = tt}).verdict)
+    (file, is_walk, c.in_ok-verdict.ensures {u = tt})
 
 pub returns-in_err-record_file-clause-answer : goal.returns-in_err-record_file-clause-answer
 returns-in_err-record_file-clause-answer g c = grind (arith, common_steps)

@@ -1,18 +1,12 @@
--- A reader has to trust this file. What block records leave, put in one after another, and the
--- first of them that doesn't stand. (Own.)
-use Rattle.std.specs.Prelude.{◌≡◌, ℕ, List, [], ◌∷◌, take, Some, slice_get, Result, Ok, Err}
+-- A reader has to trust this file. What several block records leave, put in one after another, and
+-- the first of them that doesn't stand. (Own.)
+use Rattle.std.specs.Prelude.{◌≡◌, ℕ, List, [], ◌∷◌, take, Some, slice_get}
 use Rattle.cells.specs.Cells.{Cells}
-use Rattle.map_canvas.specs.Canvases.{CanvasState}
 use Rattle.map_canvas.specs.Maps.{SourceMap}
 use Rattle.strip_boundary.specs.declared.check.BlockFault.{BlockFault}
 use Rattle.block_check.specs.declared.block.BlockRecord.{BlockRecord}
-use Rattle.block_check.specs.declared.check.BlockError.{BlockError}
-use Rattle.block_check.specs.declared.check.BlockError.TheVariants as one
 use Rattle.block_check.specs.Blocks.{after_block}
 use Rattle.block_check.specs.Records.{BlockIsLeast, BlockStands, IsFirstBlockFault}
-use Rattle.block_replay.specs.declared.records.BlocksError.{BlocksError}
-use Rattle.block_replay.specs.declared.records.BlocksError.TheVariants.{Broken, NoMemory}
-use Rattle.block_replay.specs.declared.records.BrokenBlock.{BrokenBlock}
 
 -- the map that block records leave, put in one after another
 abbrev pub left_by_blocks : SourceMap → List BlockRecord → SourceMap
@@ -33,6 +27,11 @@ EachBlockStands sample = EachBlockOver (λ m block. BlockStands m sample block)
 abbrev pub EachBlockIsLeast : Cells → SourceMap → List BlockRecord → Type 0
 EachBlockIsLeast sample = EachBlockOver (λ m block. BlockIsLeast m sample block)
 
+-- a record by its number in the list, from 0, and its first fault
+pub record BrokenBlock : Type 0 where
+  pub number : ℕ
+  pub fault : BlockFault
+
 -- the first record that doesn't stand over the map that the records before it leave, and its first
 -- fault
 pub record IsFirstBrokenBlock (sample : Cells) (m : SourceMap) (blocks : List BlockRecord)
@@ -42,27 +41,6 @@ pub record IsFirstBrokenBlock (sample : Cells) (m : SourceMap) (blocks : List Bl
   pub at : slice_get blocks broken.number ≡ Some block
   pub breaks : IsFirstBlockFault (left_by_blocks m (take broken.number blocks)) sample block
       broken.fault
-
--- what the answer of a replay means, and the map that it leaves; out of memory has no cause, and
--- leaves what some of the first records leave
-abbrev pub ReplaysBlocks : Cells → SourceMap → List BlockRecord → SourceMap
-    → Result (Unit {0}) BlocksError → Type 0
-ReplaysBlocks sample m blocks left (Ok _) =
-    EachBlockStands sample m blocks × (left ≡ left_by_blocks m blocks)
-ReplaysBlocks sample m blocks left (Err (Broken broken)) =
-    IsFirstBrokenBlock sample m blocks broken
-    × (left ≡ left_by_blocks m (take broken.number blocks))
-ReplaysBlocks sample m blocks left (Err NoMemory) =
-    (n : ℕ) × (left ≡ left_by_blocks m (take n blocks))
-
--- the same of one record over a canvas, which an error leaves as it was
-abbrev pub ReplaysBlock : CanvasState → Cells → BlockRecord → CanvasState
-    → Result (Unit {0}) BlockError → Type 0
-ReplaysBlock before sample block after (Ok _) =
-    BlockStands before.map sample block × (after.map ≡ after_block before.map block)
-ReplaysBlock before sample block after (Err (one.Fault fault)) =
-    IsFirstBlockFault before.map sample block fault × (after ≡ before)
-ReplaysBlock before sample block after (Err one.NoMemory) = after ≡ before
 
 -- Laws.
 

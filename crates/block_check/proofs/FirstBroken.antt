@@ -8,10 +8,9 @@ use Rattle.map_canvas.specs.Maps.{SourceMap}
 use Rattle.block_check.specs.declared.block.BlockRecord.{BlockRecord}
 use Rattle.block_check.specs.Records.{BlockStands, IsFirstBlockFault}
 use Rattle.block_check.proofs.Faults.{standing_breaks_none}
-use Rattle.block_replay.specs.declared.records.BrokenBlock.{BrokenBlock}
-use Rattle.block_replay.specs.BlockReplay.{AreOneBlockFault, BrokenBlockStandsNot, IsFirstBrokenBlock, OneFirstBrokenBlock, left_by_blocks}
-use Rattle.block_replay.proofs.Faults.{one_block_fault}
-use Rattle.block_replay.proofs.RunLaws.{each_at, each_before}
+use Rattle.block_check.specs.Several.{AreOneBlockFault, BrokenBlock, BrokenBlockStandsNot, IsFirstBrokenBlock, OneFirstBrokenBlock, left_by_blocks}
+use Rattle.block_check.proofs.OneFault.{one_block_fault}
+use Rattle.block_check.proofs.Several.{each_at, each_before}
 
 pub stands_not : BrokenBlockStandsNot
 stands_not sample m blocks broken first each =

@@ -17,7 +17,7 @@ use Rattle.block_check.specs.declared.block.BlockRecord.{BlockRecord}
 use Rattle.block_check.specs.Blocks.{strip_on}
 use Rattle.block_check.specs.Records.{BlockBreaksFit, BreaksLeft, BreaksOverlap, BreaksTop, IsFirstBlockFault, IsJoinFault, OverlapsAt}
 use Rattle.block_check.proofs.Faults.{no_bad_column, no_join_fault}
-use Rattle.block_replay.specs.BlockReplay.{AreOneBlockFault}
+use Rattle.block_check.specs.Several.{AreOneBlockFault}
 
 -- of a first property of faults and others, of which at most one holds, and for one fault
 either : (P Q : BlockFault → Type 0) → ((f g : BlockFault) → P f → P g → AreOneBlockFault f g) → ((f g : BlockFault) → P f → Q g → ⊥) → ((f g : BlockFault) → Q f → Q g → AreOneBlockFault f g)

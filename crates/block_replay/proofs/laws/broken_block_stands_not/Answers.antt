@@ -1,5 +1,0 @@
-use Rattle.block_replay.proofs.FirstBroken.{stands_not}
-use Rattle.block_replay.proofs.laws.broken_block_stands_not.Goals as goal
-
-pub returns : goal.returns
-returns c = stands_not

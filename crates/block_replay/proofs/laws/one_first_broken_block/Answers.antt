@@ -1,5 +1,0 @@
-use Rattle.block_replay.proofs.FirstBroken.{one_broken}
-use Rattle.block_replay.proofs.laws.one_first_broken_block.Goals as goal
-
-pub returns : goal.returns
-returns c = one_broken

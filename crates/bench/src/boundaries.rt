@@ -20,6 +20,14 @@ fn strip_of(alloc: Global, rows: u32, cols: u32) -> Result<Strip, AllocError>
     Ok(Strip::from_vec(rows, cols, errors))
 }
 
+// A number of another one and these columns.
+fn with_columns(mut number: u64, columns: &[u16]) -> u64 {
+    for col in columns {
+        number = number.wrapping_mul(31).wrapping_add(u64::from(*col));
+    }
+    number
+}
+
 /// Finds the least boundary of a strip of that size so often. The number is of its columns.
 pub fn least_boundaries(alloc: Global, rows: u32, cols: u32, times: u32) -> Result<u64, AllocError>
     requires some_rows { 1 ≤ rows }
@@ -31,9 +39,7 @@ pub fn least_boundaries(alloc: Global, rows: u32, cols: u32, times: u32) -> Resu
     let mut number = 0u64;
     for _time in 0..times {
         let made = least_boundary(alloc, &strip)?;
-        for col in made.path.as_slice() {
-            number = number.wrapping_mul(31).wrapping_add(u64::from(*col));
-        }
+        number = with_columns(number, made.path.as_slice());
     }
     Ok(number)
 }

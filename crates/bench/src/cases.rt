@@ -198,16 +198,43 @@ fn growth_of(case: Case) -> GrowthCase
     }
 }
 
+// Moves the record file of so many placements so often.
+fn move_cuts(alloc: Global, count: u32, way: Way, times: u32) -> Result<u64, AllocError> {
+    let cuts = cuts_of(alloc, count)?;
+    move_records(alloc, &cuts, way, times)
+}
+
+// Moves the record file of a block whose left strip has so many columns so often.
+fn move_strip(alloc: Global, columns: u16, way: Way, times: u32) -> Result<u64, AllocError> {
+    let strip = strip_of(alloc, columns)?;
+    move_records(alloc, &strip, way, times)
+}
+
+// The stream lines of clips of 640x360 pixels.
+const LINE_420: &[u8] = b"YUV4MPEG2 W640 H360 C420jpeg\n";
+
+const LINE_444: &[u8] = b"YUV4MPEG2 W640 H360 C444\n";
+
+// Moves the clip of a stream line, so many frames and so many bytes a frame so often.
+fn move_frames(
+    alloc: Global,
+    line: &[u8],
+    frames: u32,
+    planes: u32,
+    way: Way,
+    times: u32,
+) -> Result<u64, AllocError> {
+    let bytes = clip_bytes(alloc, line, frames, planes)?;
+    move_clip(alloc, &bytes, way, times)
+}
+
 // A little of the files.
 fn run_files(alloc: Global) -> Result<u64, AllocError> {
-    let cuts = cuts_of(alloc, 2)?;
-    let strip = strip_of(alloc, 3)?;
-    let clip = clip_bytes(alloc, LINE_420, 2, 345600)?;
-    let read = move_records(alloc, &cuts, Way::Read, 1)?;
-    let written = move_records(alloc, &strip, Way::Write, 1)?;
-    let copied = move_records(alloc, &strip, Way::Copy, 1)?;
-    let shown = move_clip(alloc, &clip, Way::Read, 1)?;
-    let filmed = move_clip(alloc, &clip, Way::Write, 1)?;
+    let read = move_cuts(alloc, 2, Way::Read, 1)?;
+    let written = move_strip(alloc, 3, Way::Write, 1)?;
+    let copied = move_strip(alloc, 3, Way::Copy, 1)?;
+    let shown = move_frames(alloc, LINE_420, 2, 345600, Way::Read, 1)?;
+    let filmed = move_frames(alloc, LINE_420, 2, 345600, Way::Write, 1)?;
     Ok(read ^ written ^ copied ^ shown ^ filmed)
 }
 
@@ -243,23 +270,6 @@ fn run_quick(alloc: Global) -> Result<u64, AllocError> {
     Ok(grown ^ checked ^ looped ^ bounded ^ quilted ^ painted ^ merged ^ solved ^ moved)
 }
 
-// The stream lines of clips of 640x360 pixels.
-const LINE_420: &[u8] = b"YUV4MPEG2 W640 H360 C420jpeg\n";
-
-const LINE_444: &[u8] = b"YUV4MPEG2 W640 H360 C444\n";
-
-// Moves the clip of a stream line and so many bytes a frame so often.
-fn move_frames(
-    alloc: Global,
-    line: &[u8],
-    planes: u32,
-    way: Way,
-    times: u32,
-) -> Result<u64, AllocError> {
-    let bytes = clip_bytes(alloc, line, 64, planes)?;
-    move_clip(alloc, &bytes, way, times)
-}
-
 /// Runs a case so often, and gives a number of what comes out.
 pub fn run_case(alloc: Global, case: Case, times: u32) -> Result<u64, AllocError> {
     match case {
@@ -279,10 +289,10 @@ pub fn run_case(alloc: Global, case: Case, times: u32) -> Result<u64, AllocError
         Case::QuiltNoise => quilt_often(alloc, Texture::Noise, 512, times),
         Case::Transfer => transfer_often(alloc, 256, 512, times),
         Case::Merge => merge_often(alloc, 512, times),
-        Case::Records(way) => move_records(alloc, &cuts_of(alloc, 200)?, way, times),
-        Case::Strip(way) => move_records(alloc, &strip_of(alloc, 1023)?, way, times),
-        Case::Clip420(way) => move_frames(alloc, LINE_420, 345600, way, times),
-        Case::Clip444(way) => move_frames(alloc, LINE_444, 691200, way, times),
+        Case::Records(way) => move_cuts(alloc, 200, way, times),
+        Case::Strip(way) => move_strip(alloc, 1023, way, times),
+        Case::Clip420(way) => move_frames(alloc, LINE_420, 64, 345600, way, times),
+        Case::Clip444(way) => move_frames(alloc, LINE_444, 64, 691200, way, times),
         _ => grow_often(alloc, &growth_of(case), times),
     }
 }

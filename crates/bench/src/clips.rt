@@ -12,6 +12,22 @@ use y4m_clip::{Clip, ClipWriter, read_clip};
 // The most cells that a clip may have.
 const MOST: u64 = 33554432;
 
+// Adds a frame of so many bytes.
+fn add_frame(f: u32, planes: u32, bytes: &mut Vec<u8>) -> Result<(), AllocError> {
+    bytes.extend_from_slice(b"FRAME\n")?;
+    for i in 0..planes {
+        bytes.push((mixed(i, f) >> 24) as u8)?;
+    }
+    Ok(())
+}
+
+fn add_frames(frames: u32, planes: u32, bytes: &mut Vec<u8>) -> Result<(), AllocError> {
+    for f in 0..frames {
+        add_frame(f, planes, bytes)?;
+    }
+    Ok(())
+}
+
 /// A clip of so many frames of so many bytes, with this stream line.
 pub fn clip_bytes(
     alloc: Global,
@@ -20,12 +36,7 @@ pub fn clip_bytes(
     planes: u32,
 ) -> Result<Vec<u8>, AllocError> {
     let mut bytes = Vec::from_slice(alloc, line)?;
-    for f in 0..frames {
-        bytes.extend_from_slice(b"FRAME\n")?;
-        for i in 0..planes {
-            bytes.push((mixed(i, f) >> 24) as u8)?;
-        }
-    }
+    add_frames(frames, planes, &mut bytes)?;
     Ok(bytes)
 }
 

@@ -59,6 +59,16 @@ fn grown(alloc: Global, plan: &GrowPlan, sample: &Volume) -> Result<Grown, Alloc
     Ok(grown)
 }
 
+// Grows once. The number is of the picture's bytes.
+fn grow_once(alloc: Global, plan: &GrowPlan, sample: &Volume) -> Result<u64, AllocError>
+    requires small { IsSmall plan.now.size }
+    requires patch { HasPatch plan.now.mode }
+    requires side { 1 ≤ plan.now.side }
+{
+    let grown = grown(alloc, plan, sample)?;
+    Ok(u64::from(sum_of(grown.canvas.picture().bytes())))
+}
+
 /// Grows so often. The number is of the picture's bytes.
 pub fn grow_often(alloc: Global, growth: &GrowthCase, times: u32) -> Result<u64, AllocError>
     requires { IsGrowthCase growth.now }
@@ -67,10 +77,54 @@ pub fn grow_often(alloc: Global, growth: &GrowthCase, times: u32) -> Result<u64,
     let plan = plan_of(growth);
     let mut number = 0u64;
     for _time in 0..times {
-        let grown = grown(alloc, &plan, &sample)?;
-        number = u64::from(sum_of(grown.canvas.picture().bytes()));
+        number = grow_once(alloc, &plan, &sample)?;
     }
     Ok(number)
+}
+
+// Checks all records once. The number counts them where they stand.
+fn check_once(alloc: Global, size: Size, sample: &Volume, grown: &Grown) -> Result<u64, AllocError>
+    requires size { IsSmall size }
+    requires formed { All IsFormed grown.now.cuts }
+{
+    let mut canvas = Canvas::empty(alloc, size, sample.samples())?;
+    let cuts = grown.cuts.as_slice();
+    match replay_cuts(&mut canvas, sample, cuts) {
+        Ok(()) => Ok(cuts.len() as u64),
+        Err(_) => Ok(0),
+    }
+}
+
+fn check_often(
+    alloc: Global,
+    size: Size,
+    sample: &Volume,
+    grown: &Grown,
+    times: u32,
+) -> Result<u64, AllocError>
+    requires size { IsSmall size }
+    requires formed { All IsFormed grown.now.cuts }
+{
+    let mut number = 0u64;
+    for _time in 0..times {
+        number = number.wrapping_add(check_once(alloc, size, sample, grown)?);
+    }
+    Ok(number)
+}
+
+// The same of what is grown of a sample.
+fn check_grown(
+    alloc: Global,
+    plan: &GrowPlan,
+    sample: &Volume,
+    times: u32,
+) -> Result<u64, AllocError>
+    requires small { IsSmall plan.now.size }
+    requires patch { HasPatch plan.now.mode }
+    requires side { 1 ≤ plan.now.side }
+{
+    let grown = grown(alloc, plan, sample)?;
+    check_often(alloc, plan.size, sample, &grown, times)
 }
 
 /// Grows once, and checks all records so often. The number counts the records that stand.
@@ -78,14 +132,5 @@ pub fn check_records(alloc: Global, growth: &GrowthCase, times: u32) -> Result<u
     requires { IsGrowthCase growth.now }
 {
     let sample = sample_of(alloc, growth.texture, growth.sample)?;
-    let plan = plan_of(growth);
-    let grown = grown(alloc, &plan, &sample)?;
-    let mut number = 0u64;
-    for _time in 0..times {
-        let mut canvas = Canvas::empty(alloc, plan.size, sample.samples())?;
-        if replay_cuts(&mut canvas, &sample, grown.cuts.as_slice()).is_ok() {
-            number = number.wrapping_add(grown.cuts.as_slice().len() as u64);
-        }
-    }
-    Ok(number)
+    check_grown(alloc, &plan_of(growth), &sample, times)
 }

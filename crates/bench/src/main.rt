@@ -23,18 +23,31 @@ mod samples;
 use cases::{Case, case_of, run_case};
 use std::{env, io};
 
+// The case that a word names; a little of everything where there is no word.
+fn case_named(word: Option<String>) -> Case {
+    match word {
+        Some(word) => case_of(word.as_str()),
+        None => Case::Quick,
+    }
+}
+
+// How often a word says that the case is run.
+fn times_of(word: Option<String>) -> u32 {
+    match word {
+        Some(word) => word.as_str().parse::<u32>().unwrap_or(1),
+        None => 1,
+    }
+}
+
+// The case that is run, and how often.
+fn asked(rt: &HostRuntime) -> io::Result<(Case, u32)> {
+    let mut words = env::args(rt)?.skip(1);
+    let case = case_named(words.next());
+    Ok((case, times_of(words.next())))
+}
+
 fn main(rt: HostRuntime) -> io::Result<()> {
-    let alloc = rt.alloc();
-    let mut words = env::args(&rt)?.skip(1);
-    let mut case = Case::Quick;
-    let mut times = 1;
-    if let Some(word) = words.next() {
-        case = case_of(word.as_str());
-    }
-    if let Some(word) = words.next() {
-        times = word.as_str().parse::<u32>().unwrap_or(1);
-    }
-    let number = run_case(alloc, case, times)?;
-    println!(rt; "{number}")?;
-    Ok(())
+    let (case, times) = asked(&rt)?;
+    let number = run_case(rt.alloc(), case, times)?;
+    println!(rt; "{number}")
 }

@@ -44,17 +44,37 @@ fn two_pictures(alloc: Global, side: u32) -> Result<Volume, AllocError>
     Ok(pictures)
 }
 
+// Merges once. The number is of the merged picture's bytes.
+fn merge_once(alloc: Global, pictures: &Volume, marks: &Volume) -> Result<u64, AllocError>
+    requires { AreOneSize pictures.now }
+{
+    let merged = merge_canvas(alloc, pictures, marks)?;
+    Ok(u64::from(sum_of(merged.picture().bytes())))
+}
+
+// Merges these pictures so often.
+fn merge_pictures(
+    alloc: Global,
+    pictures: &Volume,
+    side: u32,
+    times: u32,
+) -> Result<u64, AllocError>
+    requires side { IsSmall (record { w = side; h = side; f = 1 }) }
+    requires pictures { AreOneSize pictures.now }
+{
+    let marks = marks_of(alloc, side)?;
+    let mut number = 0u64;
+    for _time in 0..times {
+        number = merge_once(alloc, pictures, &marks)?;
+    }
+    Ok(number)
+}
+
 /// Merges two pictures of lumps of a side so often, of which the first rows come from one and the last ones from the other. The
 /// number is of the merged picture's bytes.
 pub fn merge_often(alloc: Global, side: u32, times: u32) -> Result<u64, AllocError>
     requires { IsSmall (record { w = side; h = side; f = 1 }) }
 {
     let pictures = two_pictures(alloc, side)?;
-    let marks = marks_of(alloc, side)?;
-    let mut number = 0u64;
-    for _time in 0..times {
-        let merged = merge_canvas(alloc, &pictures, &marks)?;
-        number = u64::from(sum_of(merged.picture().bytes()));
-    }
-    Ok(number)
+    merge_pictures(alloc, &pictures, side, times)
 }

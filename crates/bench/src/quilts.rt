@@ -1,13 +1,24 @@
 // Quilts and transfers.
 ghost use Rattle.cells.specs.Places.{IsSmall};
+ghost use Rattle.quilted.specs.Quilted.{CanBeQuilted};
 
 use crate::samples::{Texture, sample_of, sum_of};
 use block_strips::QuiltPlan;
-use cells::Size;
+use cells::{Size, Volume};
 use quilt_run::quilt_canvas;
 use quilted::QuiltRun;
 use std::alloc::{AllocError, Global};
 use transfer::transfer_canvas;
+
+// Quilts once. The number is of the picture's bytes.
+fn quilt_once(alloc: Global, asked: &QuiltRun, sample: &Volume) -> Result<u64, AllocError>
+    requires { CanBeQuilted asked.now sample.now }
+{
+    match quilt_canvas(alloc, asked, sample) {
+        Ok(quilted) => Ok(u64::from(sum_of(quilted.canvas.picture().bytes()))),
+        Err(_) => Err(AllocError),
+    }
+}
 
 /// Quilts a picture of that side so often, of blocks of 64x64 cells with overlaps of 16, from a sample of the same
 /// side. The number is of the picture's bytes.
@@ -35,10 +46,7 @@ pub fn quilt_often(
     };
     let mut number = 0u64;
     for _time in 0..times {
-        let Ok(quilted) = quilt_canvas(alloc, &asked, &sample) else {
-            return Err(AllocError);
-        };
-        number = u64::from(sum_of(quilted.canvas.picture().bytes()));
+        number = quilt_once(alloc, &asked, &sample)?;
     }
     Ok(number)
 }

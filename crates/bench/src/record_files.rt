@@ -39,29 +39,40 @@ fn add_head(kind: u8, count: u32, bytes: &mut Vec<u8>) -> Result<(), AllocError>
     Ok(())
 }
 
+// Adds the record of a placement of 32x32 cells.
+fn add_cut(i: u32, bytes: &mut Vec<u8>) -> Result<(), AllocError> {
+    let row = (i / 32 % 32 * 24) as u16;
+    add_all(&[(i % 32 * 24) as u16, row, 0, 32, 32, 1, 7, 9, 0], bytes)?;
+    add_drawn(128 + 4 * 1984, bytes)
+}
+
+fn add_cuts(count: u32, bytes: &mut Vec<u8>) -> Result<(), AllocError> {
+    add_head(0, count, bytes)?;
+    for i in 0..count {
+        add_cut(i, bytes)?;
+    }
+    Ok(())
+}
+
 /// The record file of so many placements of 32x32 cells, of 8,082 bytes each.
 pub fn cuts_of(alloc: Global, count: u32) -> Result<Vec<u8>, AllocError> {
     let mut bytes = Vec::new(alloc);
-    add_head(0, count, &mut bytes)?;
-    for i in 0..count {
-        let row = (i / 32 % 32 * 24) as u16;
-        add_all(
-            &[(i % 32 * 24) as u16, row, 0, 32, 32, 1, 7, 9, 0],
-            &mut bytes,
-        )?;
-        add_drawn(128 + 4 * 1984, &mut bytes)?;
-    }
+    add_cuts(count, &mut bytes)?;
     Ok(bytes)
+}
+
+fn add_strip(columns: u16, bytes: &mut Vec<u8>) -> Result<(), AllocError> {
+    add_head(1, 1, bytes)?;
+    add_all(&[1, 0, 1024, 1024, 0, 0], bytes)?;
+    bytes.push(1)?;
+    add_all(&[columns], bytes)?;
+    add_drawn(2 * 1024 + 4 * 1024 * u32::from(columns), bytes)
 }
 
 /// The record file of a block of 1024x1024 cells, whose left strip has so many columns.
 pub fn strip_of(alloc: Global, columns: u16) -> Result<Vec<u8>, AllocError> {
     let mut bytes = Vec::new(alloc);
-    add_head(1, 1, &mut bytes)?;
-    add_all(&[1, 0, 1024, 1024, 0, 0], &mut bytes)?;
-    bytes.push(1)?;
-    add_all(&[columns], &mut bytes)?;
-    add_drawn(2 * 1024 + 4 * 1024 * u32::from(columns), &mut bytes)?;
+    add_strip(columns, &mut bytes)?;
     Ok(bytes)
 }
 

@@ -71,55 +71,55 @@ pub enum Case {
     Clip444(Way),
 }
 
-// The case of a name that is of a network or a file.
-fn other_case_of(name: &str) -> Case {
-    match name {
-        "network-grid" => Case::NetworkGrid,
-        "network-ladder" => Case::NetworkLadder,
-        "network-thin" => Case::NetworkThin,
-        "network-drawn" => Case::NetworkDrawn,
-        "network-comb" => Case::NetworkComb,
-        "records-read" => Case::Records(Way::Read),
-        "records-write" => Case::Records(Way::Write),
-        "records-copy" => Case::Records(Way::Copy),
-        "strip-read" => Case::Strip(Way::Read),
-        "strip-write" => Case::Strip(Way::Write),
-        "strip-copy" => Case::Strip(Way::Copy),
-        "clip-420-read" => Case::Clip420(Way::Read),
-        "clip-420-write" => Case::Clip420(Way::Write),
-        "clip-444-read" => Case::Clip444(Way::Read),
-        "clip-444-write" => Case::Clip444(Way::Write),
-        _ => Case::Quick,
-    }
-}
+// The cases, by their names.
+const CASES: &[(&str, Case)] = &[
+    ("sub", Case::Sub),
+    ("sub-256", Case::SubWide),
+    ("rounds", Case::Rounds),
+    ("noise", Case::Noise),
+    ("equal-means", Case::EqualMeans),
+    ("plain", Case::Plain),
+    ("sub-64", Case::SubBroad),
+    ("quilt", Case::Quilt),
+    ("quilt-noise", Case::QuiltNoise),
+    ("transfer", Case::Transfer),
+    ("merge", Case::Merge),
+    ("sub-2048", Case::SubGreat),
+    ("whole", Case::Whole),
+    ("random", Case::Random),
+    ("grid", Case::Grid),
+    ("check", Case::Check),
+    ("check-random", Case::CheckRandom),
+    ("loop-100", Case::Loop100),
+    ("loop-4095", Case::Loop4095),
+    ("boundary-5", Case::Boundary5),
+    ("boundary-10", Case::Boundary10),
+    ("boundary-100", Case::Boundary100),
+    ("network-grid", Case::NetworkGrid),
+    ("network-ladder", Case::NetworkLadder),
+    ("network-thin", Case::NetworkThin),
+    ("network-drawn", Case::NetworkDrawn),
+    ("network-comb", Case::NetworkComb),
+    ("records-read", Case::Records(Way::Read)),
+    ("records-write", Case::Records(Way::Write)),
+    ("records-copy", Case::Records(Way::Copy)),
+    ("strip-read", Case::Strip(Way::Read)),
+    ("strip-write", Case::Strip(Way::Write)),
+    ("strip-copy", Case::Strip(Way::Copy)),
+    ("clip-420-read", Case::Clip420(Way::Read)),
+    ("clip-420-write", Case::Clip420(Way::Write)),
+    ("clip-444-read", Case::Clip444(Way::Read)),
+    ("clip-444-write", Case::Clip444(Way::Write)),
+];
 
 /// The case of a name; of any other word it's that of no word.
 pub fn case_of(name: &str) -> Case {
-    match name {
-        "sub" => Case::Sub,
-        "sub-256" => Case::SubWide,
-        "rounds" => Case::Rounds,
-        "noise" => Case::Noise,
-        "equal-means" => Case::EqualMeans,
-        "plain" => Case::Plain,
-        "sub-64" => Case::SubBroad,
-        "quilt" => Case::Quilt,
-        "quilt-noise" => Case::QuiltNoise,
-        "transfer" => Case::Transfer,
-        "merge" => Case::Merge,
-        "sub-2048" => Case::SubGreat,
-        "whole" => Case::Whole,
-        "random" => Case::Random,
-        "grid" => Case::Grid,
-        "check" => Case::Check,
-        "check-random" => Case::CheckRandom,
-        "loop-100" => Case::Loop100,
-        "loop-4095" => Case::Loop4095,
-        "boundary-5" => Case::Boundary5,
-        "boundary-10" => Case::Boundary10,
-        "boundary-100" => Case::Boundary100,
-        _ => other_case_of(name),
+    for (known, case) in CASES.iter() {
+        if *known == name {
+            return *case;
+        }
     }
+    Case::Quick
 }
 
 const SUB: Mode = Mode::Sub {

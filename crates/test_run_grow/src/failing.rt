@@ -90,12 +90,18 @@ fn the_files_after_each_fault(rt: HostRuntime) {
 
 // A refusal of words, said on an `err` that keeps so many bytes of its first piece and fails: it has
 // exactly these.
-fn says_a_prefix(alloc: Global, kept: usize) -> Result<bool, AllocError> {
-    let mut stage = Stage::new(alloc);
+fn says_a_prefix_on(stage: &mut Stage, kept: usize) -> Result<bool, AllocError> {
     stage.fail_line(0, kept)?;
     let status = stage.run("grow sample")?;
     let said = b"weave: word 2: not key=value\n".get(..kept);
     Ok(status == 2 && stage.line_faults() == 1 && said == Some(stage.line()))
+}
+
+fn says_a_prefix(alloc: Global, kept: usize) -> Result<bool, AllocError> {
+    let mut stage = Stage::new(alloc);
+    let found = says_a_prefix_on(&mut stage, kept);
+    drop(stage);
+    found
 }
 
 #[test]

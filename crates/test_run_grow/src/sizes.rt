@@ -64,13 +64,18 @@ fn tiles(alloc: Global) -> Result<Vec<u8>, AllocError> {
     picture(alloc, b"P6\n1024 1024\n255\n", &tiles)
 }
 
+// Whether the run over this sample leaves these tiles, and their map and record.
+fn are_tiles(alloc: Global, sample: &[u8], wanted: &[u8]) -> Result<bool, AllocError> {
+    let map = tiled_map(alloc, (1024, 1024), (64, 64))?;
+    let record = tiled_record(alloc, (1024, 1024), (64, 64))?;
+    leaves(alloc, TILED, OF_TILES, sample, wanted, &map, &record)
+}
+
 // 256 tiles on 1024 x 1024 cells.
 fn is_greatest(alloc: Global) -> Result<bool, AllocError> {
     let sample = tile(alloc)?;
     let wanted = tiles(alloc)?;
-    let map = tiled_map(alloc, (1024, 1024), (64, 64))?;
-    let record = tiled_record(alloc, (1024, 1024), (64, 64))?;
-    leaves(alloc, TILED, OF_TILES, &sample, &wanted, &map, &record)
+    are_tiles(alloc, &sample, &wanted)
 }
 
 #[test]
@@ -88,7 +93,20 @@ const WITH_A_COMMENT: &[u8] = b"P6\n# made by a paint program\n640 480\n255\n";
 
 const WITHOUT: &[u8] = b"P6\n640 480\n255\n";
 
-// Whether one copy of the picture with a comment leaves this report and this record.
+// Whether one copy of this sample leaves this picture, this report and this record.
+fn is_copy_of(
+    alloc: Global,
+    words: &str,
+    report: &str,
+    record: &[u8],
+    sample: &[u8],
+    wanted: &[u8],
+) -> Result<bool, AllocError> {
+    let map = tiled_map(alloc, (640, 480), (640, 480))?;
+    leaves(alloc, words, report, sample, wanted, &map, record)
+}
+
+// The same of the picture with a comment.
 fn is_one_copy(
     alloc: Global,
     words: &str,
@@ -97,8 +115,7 @@ fn is_one_copy(
 ) -> Result<bool, AllocError> {
     let sample = great_picture(alloc, WITH_A_COMMENT)?;
     let wanted = great_picture(alloc, WITHOUT)?;
-    let map = tiled_map(alloc, (640, 480), (640, 480))?;
-    leaves(alloc, words, report, &sample, &wanted, &map, record)
+    is_copy_of(alloc, words, report, record, &sample, &wanted)
 }
 
 const COPIED: &str = "grow sample=s out=o map=m record=r width=640 height=480 place=grid overlap=0";

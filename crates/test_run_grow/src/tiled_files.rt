@@ -69,9 +69,9 @@ fn whole_tile(alloc: Global, sample: (u16, u16)) -> Result<Vec<u8>, AllocError> 
     let (w, h) = (u32::from(sample.0).max(1), u32::from(sample.1).max(1));
     let across = (w - 1).wrapping_mul(h);
     let pairs = across.wrapping_add((h - 1).wrapping_mul(w));
-    let flows = vec![in alloc; 0u8; pairs.wrapping_mul(4) as usize]?;
-    let mut tile = vec![in alloc; 0xffu8; (w.wrapping_mul(h) / 8) as usize]?;
-    tile.extend_from_slice(&flows)?;
+    let choice = (w.wrapping_mul(h) / 8) as usize;
+    let mut tile = vec![in alloc; 0xffu8; choice]?;
+    tile.resize(choice.saturating_add(pairs.wrapping_mul(4) as usize), 0)?;
     Ok(tile)
 }
 
@@ -117,18 +117,28 @@ fn put_tiles(
     Ok(())
 }
 
+// The record file of these tiles.
+fn record_of(
+    alloc: Global,
+    output: (u16, u16),
+    sample: (u16, u16),
+    tile: &[u8],
+) -> Result<Vec<u8>, AllocError> {
+    let columns = output.0.checked_div(sample.0).unwrap_or(0);
+    let rows = output.1.checked_div(sample.1).unwrap_or(0);
+    let mut bytes = head(alloc, b"WEAVEREC\x01\x00", output, sample)?;
+    put_tiles(&mut bytes, columns, rows, sample, tile)?;
+    Ok(bytes)
+}
+
 // The record file of whole tiles, which share no cell.
 pub fn tiled_record(
     alloc: Global,
     output: (u16, u16),
     sample: (u16, u16),
 ) -> Result<Vec<u8>, AllocError> {
-    let columns = output.0.checked_div(sample.0).unwrap_or(0);
-    let rows = output.1.checked_div(sample.1).unwrap_or(0);
     let tile = whole_tile(alloc, sample)?;
-    let mut bytes = head(alloc, b"WEAVEREC\x01\x00", output, sample)?;
-    put_tiles(&mut bytes, columns, rows, sample, &tile)?;
-    Ok(bytes)
+    record_of(alloc, output, sample, &tile)
 }
 
 // Byte i is i mod 251, so that no two cells near each other are alike.

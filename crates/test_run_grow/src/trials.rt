@@ -19,7 +19,18 @@ fn is_well(stage: &mut Stage, words: &str, beginning: &[u8]) -> Result<bool, All
     Ok(status == 0 && stage.line().is_empty() && are_ends)
 }
 
-// Whether both lines of words have one report, which begins and ends as given.
+// Whether both lines of words have one report, which begins and ends as given, each on a stage of its own.
+fn is_one_report_on(
+    one: &mut Stage,
+    other: &mut Stage,
+    first: &str,
+    second: &str,
+    beginning: &[u8],
+) -> Result<bool, AllocError> {
+    let are_well = is_well(one, first, beginning)? && is_well(other, second, beginning)?;
+    Ok(are_well && one.report() == other.report())
+}
+
 fn is_one_report(
     alloc: Global,
     first: &str,
@@ -28,8 +39,10 @@ fn is_one_report(
 ) -> Result<bool, AllocError> {
     let mut one = Stage::new(alloc);
     let mut other = Stage::new(alloc);
-    let are_well = is_well(&mut one, first, beginning)? && is_well(&mut other, second, beginning)?;
-    Ok(are_well && one.report() == other.report())
+    let found = is_one_report_on(&mut one, &mut other, first, second, beginning);
+    drop(one);
+    drop(other);
+    found
 }
 
 #[test]

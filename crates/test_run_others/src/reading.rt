@@ -36,12 +36,20 @@ fn surely_stands(alloc: Global, shelf: &mut SureShelf) -> Result<bool, AllocErro
     Ok(status == 0 && out.bytes() == Some(b"stands\n".as_slice()))
 }
 
+// The status of a growth over stores that take no memory.
+fn surely_grew(alloc: Global, shelf: &mut SureShelf) -> Result<u8, AllocError> {
+    let mut out = SureSink::make(alloc, 4096)?;
+    surely_ran(alloc, OVERLAPPING, shelf, &mut out)
+}
+
+fn is_accepted_on(alloc: Global, shelf: &mut SureShelf) -> Result<bool, AllocError> {
+    shelf.put_file("s", FOUR_CELLS);
+    Ok(surely_grew(alloc, shelf)? == 0 && surely_stands(alloc, shelf)?)
+}
+
 fn is_surely_accepted(alloc: Global) -> Result<bool, AllocError> {
     let mut shelf = SureShelf::make(alloc, 4096)?;
-    shelf.put_file("s", FOUR_CELLS);
-    let mut out = SureSink::make(alloc, 4096)?;
-    let status = surely_ran(alloc, OVERLAPPING, &mut shelf, &mut out)?;
-    Ok(status == 0 && surely_stands(alloc, &mut shelf)?)
+    is_accepted_on(alloc, &mut shelf)
 }
 
 #[test]

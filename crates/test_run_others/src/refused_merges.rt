@@ -220,13 +220,19 @@ fn is_refused<'a>(
 }
 
 // Bad marks come before the bound of an output.
+fn are_bad_marks(alloc: Global, picture: &[u8]) -> Result<bool, AllocError> {
+    let marks = broad(alloc, 1)?;
+    is_refused(alloc, picture, &marks, 3, "weave: marks: mark at 2097151\n")
+}
+
+fn is_too_broad(alloc: Global, picture: &[u8]) -> Result<bool, AllocError> {
+    let over = "weave: limit output 2097152 over 1048576\n";
+    Ok(are_bad_marks(alloc, picture)? && is_refused(alloc, picture, picture, 4, over)?)
+}
+
 fn are_too_broad(alloc: Global) -> Result<bool, AllocError> {
     let picture = broad(alloc, 0)?;
-    let marks = broad(alloc, 1)?;
-    let bad = "weave: marks: mark at 2097151\n";
-    let over = "weave: limit output 2097152 over 1048576\n";
-    let is_bad = is_refused(alloc, &picture, &marks, 3, bad)?;
-    Ok(is_bad && is_refused(alloc, &picture, &picture, 4, over)?)
+    is_too_broad(alloc, &picture)
 }
 
 #[test]

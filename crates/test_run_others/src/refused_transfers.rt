@@ -112,12 +112,16 @@ fn is_refused<'a>(
 }
 
 // A target of more cells than an output has; its maxval comes before that.
-fn are_too_broad(alloc: Global) -> Result<bool, AllocError> {
-    let target = filled(alloc, b"P6\n1025 1024\n200\n", 0, 3 * 1025 * 1024, b"")?;
+fn is_too_broad(alloc: Global, target: &[u8]) -> Result<bool, AllocError> {
     let unlike = "weave: target: unlike\n";
     let over = "weave: limit output 1049600 over 1048576\n";
-    let is_unlike = is_refused(alloc, TWO.words, FOUR_CELLS, &target, 3, unlike)?;
-    Ok(is_unlike && is_refused(alloc, TWO.words, DARK, &target, 4, over)?)
+    let is_unlike = is_refused(alloc, TWO.words, FOUR_CELLS, target, 3, unlike)?;
+    Ok(is_unlike && is_refused(alloc, TWO.words, DARK, target, 4, over)?)
+}
+
+fn are_too_broad(alloc: Global) -> Result<bool, AllocError> {
+    let target = filled(alloc, b"P6\n1025 1024\n200\n", 0, 3 * 1025 * 1024, b"")?;
+    is_too_broad(alloc, &target)
 }
 
 #[test]

@@ -34,27 +34,52 @@ fn fault(dice: &mut Dice) -> Fault {
     }
 }
 
+// Leaves out the last of the files in one of sixteen cases, and changes some in two of three.
+fn change_some(files: &mut Vec<File>, worlds: &[World], dice: &mut Dice) -> Result<(), AllocError> {
+    if dice.is_one_in(16) {
+        files.truncate(dice.below(files.len()));
+    }
+    if dice.is_one_in(3) {
+        return Ok(());
+    }
+    change_files(files, worlds, dice)
+}
+
+fn changed_copy(
+    alloc: Global,
+    world: &World,
+    worlds: &[World],
+    dice: &mut Dice,
+) -> Result<Vec<File>, AllocError> {
+    let mut files = copy_of(alloc, &world.files)?;
+    change_some(&mut files, worlds, dice)?;
+    Ok(files)
+}
+
+// A case that begins with the words and the files of a run.
+fn case_from(
+    alloc: Global,
+    world: &World,
+    worlds: &[World],
+    dice: &mut Dice,
+) -> Result<Case, AllocError> {
+    let texts = texts(alloc, world, dice)?;
+    let files = changed_copy(alloc, world, worlds, dice)?;
+    Ok(Case {
+        texts,
+        files,
+        fault: fault(dice),
+    })
+}
+
 /// The case of these draws; None where there is no run to begin with.
 pub fn case_of(
     alloc: Global,
     worlds: &[World],
     mut dice: Dice,
 ) -> Result<Option<Case>, AllocError> {
-    let Some(world) = worlds.get(dice.below(worlds.len())) else {
-        return Ok(None);
-    };
-    let texts = texts(alloc, world, &mut dice)?;
-    let mut files = copy_of(alloc, &world.files)?;
-    if dice.is_one_in(16) {
-        files.truncate(dice.below(files.len()));
+    match worlds.get(dice.below(worlds.len())) {
+        Some(world) => Ok(Some(case_from(alloc, world, worlds, &mut dice)?)),
+        None => Ok(None),
     }
-    if !dice.is_one_in(3) {
-        change_files(&mut files, worlds, &mut dice)?;
-    }
-    let fault = fault(&mut dice);
-    Ok(Some(Case {
-        texts,
-        files,
-        fault,
-    }))
 }

@@ -119,16 +119,20 @@ struct Said {
     line: Vec<u8>,
 }
 
-fn is_same(a: &Said, b: &Said) -> bool {
-    a.status == b.status
-        && a.report.as_slice() == b.report.as_slice()
-        && a.line.as_slice() == b.line.as_slice()
+// Runs `check` over the sample `s`, the out file `o`, and these two, and gives the status.
+fn check_pair(alloc: Global, stage: &mut Stage, map: &str, record: &str) -> Result<u8, AllocError> {
+    let line = format!(in alloc; "check sample=s out=o map={map} record={record}")?;
+    stage.clear();
+    stage.run(line.as_str())
 }
 
-// What is said of a line.
-fn said_of(alloc: Global, stage: &mut Stage, line: &str) -> Result<Said, AllocError> {
-    stage.clear();
-    let status = stage.run(line)?;
+fn said_of_pair(
+    alloc: Global,
+    stage: &mut Stage,
+    map: &str,
+    record: &str,
+) -> Result<Said, AllocError> {
+    let status = check_pair(alloc, stage, map, record)?;
     let report = Vec::from_slice(alloc, stage.report())?;
     let line = Vec::from_slice(alloc, stage.line())?;
     Ok(Said {
@@ -138,15 +142,20 @@ fn said_of(alloc: Global, stage: &mut Stage, line: &str) -> Result<Said, AllocEr
     })
 }
 
-// What `check` says of the sample `s`, the out file `o`, and these two.
-fn said_of_pair(
+// Whether `check` says the same of these two.
+fn is_said_again(
     alloc: Global,
     stage: &mut Stage,
+    old: &Said,
     map: &str,
     record: &str,
-) -> Result<Said, AllocError> {
-    let line = format!(in alloc; "check sample=s out=o map={map} record={record}")?;
-    said_of(alloc, stage, line.as_str())
+) -> Result<bool, AllocError> {
+    let status = check_pair(alloc, stage, map, record)?;
+    Ok(
+        status == old.status
+            && stage.report() == old.report.as_slice()
+            && stage.line() == old.line.as_slice(),
+    )
 }
 
 // The name of a key's file; that of the sample where there is none.
@@ -166,8 +175,7 @@ fn is_same_pair(alloc: Global, case: &Case, stage: &mut Stage) -> Result<bool, A
         return Ok(true);
     }
     let old = said_of_pair(alloc, stage, map, record)?;
-    let new = said_of_pair(alloc, stage, new_map, new_record)?;
-    Ok(is_same(&old, &new))
+    is_said_again(alloc, stage, &old, new_map, new_record)
 }
 
 // What `check` says after a run that ended with status 0.
@@ -255,22 +263,53 @@ fn failed_promise(case: &Case, before: &Stage, whole: &Left, run: &Left) -> Opti
     None
 }
 
-/// Runs a case, with nothing failing and with what it names failing, and says how it ends and
-/// which promise it breaks.
-pub fn judge_case(alloc: Global, case: &Case) -> Result<Judged, AllocError> {
-    let before = stage_of(alloc, &case.files)?;
-    let mut whole = left_by(alloc, &case.texts, &case.files, NO_FAULT)?;
-    let run = left_by(alloc, &case.texts, &case.files, case.fault)?;
-    let mut broken = whole_promise(case, &before, &whole);
+// How both runs of a case end, and which promise they break.
+fn judge_runs(
+    alloc: Global,
+    case: &Case,
+    before: &Stage,
+    whole: &mut Left,
+    run: &Left,
+) -> Result<Judged, AllocError> {
+    let mut broken = whole_promise(case, before, whole);
     if broken.is_none() {
-        broken = failed_promise(case, &before, &whole, &run);
+        broken = failed_promise(case, before, whole, run);
     }
     if broken.is_none() {
-        broken = check_promise(alloc, case, &mut whole)?;
+        broken = check_promise(alloc, case, whole)?;
     }
     Ok(Judged {
         status: whole.status,
         failed: run.status,
         broken,
     })
+}
+
+// (A function owns one stage, and borrows the rest: each place where a stage ends is long to prove.)
+fn judge_failing(
+    alloc: Global,
+    case: &Case,
+    before: &Stage,
+    whole: &mut Left,
+) -> Result<Judged, AllocError> {
+    let run = left_by(alloc, &case.texts, &case.files, case.fault)?;
+    let judged = judge_runs(alloc, case, before, whole, &run);
+    drop(run);
+    judged
+}
+
+fn judge_from(alloc: Global, case: &Case, before: &Stage) -> Result<Judged, AllocError> {
+    let mut whole = left_by(alloc, &case.texts, &case.files, NO_FAULT)?;
+    let judged = judge_failing(alloc, case, before, &mut whole);
+    drop(whole);
+    judged
+}
+
+/// Runs a case, with nothing failing and with what it names failing, and says how it ends and
+/// which promise it breaks.
+pub fn judge_case(alloc: Global, case: &Case) -> Result<Judged, AllocError> {
+    let before = stage_of(alloc, &case.files)?;
+    let judged = judge_from(alloc, case, &before);
+    drop(before);
+    judged
 }

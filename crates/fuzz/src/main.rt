@@ -74,6 +74,32 @@ fn line_of(alloc: Global, case: &Case) -> Result<String, AllocError> {
     Ok(line)
 }
 
+// Says which promise a case breaks.
+fn say_broken(
+    rt: &HostRuntime,
+    case: &Case,
+    number: u64,
+    status: u8,
+    broken: &str,
+) -> io::Result<()> {
+    let line = line_of(rt.alloc(), case)?;
+    println!(rt; "case {number}: {broken}; status {status}: {line}")
+}
+
+// Judges one case.
+fn try_case(rt: &HostRuntime, case: &Case, number: u64, counts: &mut Counts) -> io::Result<()> {
+    let found = judge_case(rt.alloc(), case)?;
+    count_one(&mut counts.ended, found.status);
+    count_one(&mut counts.failed, found.failed);
+    match found.broken {
+        Some(broken) => {
+            counts.broken = counts.broken.saturating_add(1);
+            say_broken(rt, case, number, found.status, broken)
+        }
+        None => Ok(()),
+    }
+}
+
 // Runs one case.
 fn run_case(
     rt: &HostRuntime,
@@ -82,20 +108,10 @@ fn run_case(
     number: u64,
     counts: &mut Counts,
 ) -> io::Result<()> {
-    let alloc = rt.alloc();
-    let Some(case) = case_of(alloc, worlds, Dice::of(seed, number))? else {
-        return Ok(());
-    };
-    let found = judge_case(alloc, &case)?;
-    count_one(&mut counts.ended, found.status);
-    count_one(&mut counts.failed, found.failed);
-    if let Some(broken) = found.broken {
-        counts.broken = counts.broken.saturating_add(1);
-        let line = line_of(alloc, &case)?;
-        let status = found.status;
-        println!(rt; "case {number}: {broken}; status {status}: {line}")?;
+    match case_of(rt.alloc(), worlds, Dice::of(seed, number))? {
+        Some(case) => try_case(rt, &case, number, counts),
+        None => Ok(()),
     }
-    Ok(())
 }
 
 fn print_counts(rt: &HostRuntime, counts: &Counts) -> io::Result<()> {
@@ -106,10 +122,15 @@ fn print_counts(rt: &HostRuntime, counts: &Counts) -> io::Result<()> {
     println!(rt; "broken: {broken}")
 }
 
-// Draws cases from a seed and runs them.
-fn run_cases(rt: &HostRuntime, seed: u64, runs: u64, first: u64) -> io::Result<ExitCode> {
-    let worlds = pool(rt.alloc())?;
-    if !all_stand(rt.alloc(), &worlds)? {
+// Draws cases over these files from a seed, and runs them.
+fn run_over(
+    rt: &HostRuntime,
+    worlds: &[World],
+    seed: u64,
+    runs: u64,
+    first: u64,
+) -> io::Result<ExitCode> {
+    if !all_stand(rt.alloc(), worlds)? {
         println!(rt; "the files to begin with don't stand")?;
         return Ok(ExitCode::from(1));
     }
@@ -119,10 +140,18 @@ fn run_cases(rt: &HostRuntime, seed: u64, runs: u64, first: u64) -> io::Result<E
         broken: 0,
     };
     for number in first..first.saturating_add(runs) {
-        run_case(rt, &worlds, seed, number, &mut counts)?;
+        run_case(rt, worlds, seed, number, &mut counts)?;
     }
     print_counts(rt, &counts)?;
     Ok(ExitCode::from(u8::from(counts.broken > 0)))
+}
+
+// Draws cases from a seed, and runs them.
+fn run_cases(rt: &HostRuntime, seed: u64, runs: u64, first: u64) -> io::Result<ExitCode> {
+    let worlds = pool(rt.alloc())?;
+    let ended = run_over(rt, &worlds, seed, runs, first);
+    drop(worlds);
+    ended
 }
 
 // Does one run over stores that take no memory.

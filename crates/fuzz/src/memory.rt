@@ -198,21 +198,48 @@ fn judged(
     Surely::Wrong
 }
 
-// Runs words over stores of its own.
-fn ended(alloc: Global, words: &str, files: &[File], report: &str) -> Result<Surely, AllocError> {
-    let mut shelf = SureShelf::make(alloc, 8192)?;
-    put_files(&mut shelf, files);
-    let mut out = SureSink::make(alloc, 256)?;
+// Does a run over these stores.
+fn ended_with(
+    alloc: Global,
+    run: &Sure,
+    shelf: &mut SureShelf,
+    out: &mut SureSink,
+    err: &mut SureSink,
+) -> Result<Surely, AllocError> {
+    let (words, files, report) = *run;
+    let status = ran(alloc, words, shelf, out, err)?;
+    Ok(judged(status, shelf, out, err, files, report))
+}
+
+// (A function owns one store, and borrows the rest: each place where one ends is long to prove.)
+fn ended_into(
+    alloc: Global,
+    run: &Sure,
+    shelf: &mut SureShelf,
+    out: &mut SureSink,
+) -> Result<Surely, AllocError> {
     let mut err = SureSink::make(alloc, 256)?;
-    let status = ran(alloc, words, &mut shelf, &mut out, &mut err)?;
-    Ok(judged(status, &shelf, &out, &err, files, report))
+    ended_with(alloc, run, shelf, out, &mut err)
+}
+
+fn ended_over(alloc: Global, run: &Sure, shelf: &mut SureShelf) -> Result<Surely, AllocError> {
+    let mut out = SureSink::make(alloc, 256)?;
+    ended_into(alloc, run, shelf, &mut out)
+}
+
+// Does a run over stores of its own.
+fn ended(alloc: Global, run: &Sure) -> Result<Surely, AllocError> {
+    let mut shelf = SureShelf::make(alloc, 8192)?;
+    let (_, files, _) = *run;
+    put_files(&mut shelf, files);
+    ended_over(alloc, run, &mut shelf)
 }
 
 /// Does the run of a number. The one error is that there is no memory for its stores and its
 /// words.
 pub fn end_of(alloc: Global, number: usize) -> Result<Surely, AllocError> {
-    let Some((line, files, report)) = RUNS.get(number) else {
-        return Ok(Surely::Wrong);
-    };
-    ended(alloc, *line, *files, *report)
+    match RUNS.get(number) {
+        Some(run) => ended(alloc, run),
+        None => Ok(Surely::Wrong),
+    }
 }

@@ -151,22 +151,26 @@ const MADE: &[(&str, &str, &[u8], &[u8])] = &[
 const UPGRADE: &str = "upgrade map=m record=r newmap=n newrecord=q";
 
 // Runs both lines over these samples; where one is refused, the files are as before it.
-fn made_on<'a>(
+fn made_on(
+    alloc: Global,
     stage: &mut Stage,
     words: &str,
-    sample: &'a [u8],
-    second: &'a [u8],
-) -> Result<(), AllocError> {
-    stage.put_files(&[("s", sample), ("t", second), ("u", MARKS)])?;
+    sample: &[u8],
+    second: &[u8],
+) -> Result<Vec<File>, AllocError> {
+    stage.put_file("s", sample)?;
+    stage.put_file("t", second)?;
+    stage.put_file("u", MARKS)?;
     stage.run(words)?;
     stage.run(UPGRADE)?;
-    Ok(())
+    files_of(alloc, stage)
 }
 
 fn made(alloc: Global, words: &str, sample: &[u8], second: &[u8]) -> Result<Vec<File>, AllocError> {
     let mut stage = Stage::new(alloc);
-    made_on(&mut stage, words, sample, second)?;
-    files_of(alloc, &stage)
+    let files = made_on(alloc, &mut stage, words, sample, second);
+    drop(stage);
+    files
 }
 
 fn add_worlds(alloc: Global, worlds: &mut Vec<World>) -> Result<(), AllocError> {
@@ -188,11 +192,17 @@ pub fn pool(alloc: Global) -> Result<Vec<World>, AllocError> {
     Ok(worlds)
 }
 
+// Whether a line ends with status 0.
+fn ends_well(stage: &mut Stage, line: &str) -> Result<bool, AllocError> {
+    Ok(stage.run(line)? == 0)
+}
+
 // Whether `check` finds that the files of a run stand.
 fn stands(alloc: Global, world: &World) -> Result<bool, AllocError> {
     let mut stage = stage_of(alloc, &world.files)?;
-    let status = stage.run(world.check)?;
-    Ok(status == 0)
+    let found = ends_well(&mut stage, world.check);
+    drop(stage);
+    found
 }
 
 /// Whether `check` finds that the files of every run stand.

@@ -28,6 +28,12 @@ fn set_fault(stage: &mut Stage, fault: Fault) -> Result<(), AllocError> {
     }
 }
 
+// The status of words over a stage, on which a call fails.
+fn status_on(stage: &mut Stage, texts: &[String], fault: Fault) -> Result<u8, AllocError> {
+    set_fault(stage, fault)?;
+    stage.run_texts(texts)
+}
+
 /// Runs words over files.
 pub fn left_by(
     alloc: Global,
@@ -36,7 +42,6 @@ pub fn left_by(
     fault: Fault,
 ) -> Result<Left, AllocError> {
     let mut stage = stage_of(alloc, files)?;
-    set_fault(&mut stage, fault)?;
-    let status = stage.run_texts(texts)?;
+    let status = status_on(&mut stage, texts, fault)?;
     Ok(Left { status, stage })
 }

@@ -103,6 +103,10 @@ const ODD_WORDS: &[&str] = &[
     "a b=c d",
 ];
 
+fn odd_word(dice: &mut Dice) -> &'static str {
+    dice.text(ODD_WORDS)
+}
+
 // The words before they are changed.
 fn line(world: &World, dice: &mut Dice) -> &'static str {
     match dice.below(12) {
@@ -148,9 +152,9 @@ fn put_changed(
             put(alloc, texts, word)?;
             put(alloc, texts, word)
         }
-        2 => put(alloc, texts, dice.text(ODD_WORDS)),
+        2 => put(alloc, texts, odd_word(dice)),
         3 => {
-            put(alloc, texts, dice.text(ODD_WORDS))?;
+            put(alloc, texts, odd_word(dice))?;
             put(alloc, texts, word)
         }
         _ => put_value(alloc, texts, word, dice),

@@ -47,9 +47,3 @@ returns c =
 
 pub returns-in_default : goal.returns-in_default
 returns-in_default c = grind (arith, common_steps)
-
-pub overflow_add-work : goal.overflow_add-work
-overflow_add-work c = grind (arith, common_steps)
-
-pub overflow_add-cells : goal.overflow_add-cells
-overflow_add-cells c = grind (arith, common_steps)

@@ -1,4 +1,3 @@
-use Rattle.std.proofs.lemmas.Grind.{common_steps}
 use Rattle.std.proofs.Common.{◌≡◌, ◌+◌, ◌∙◌, ap, arith}
 use Rattle.cells.specs.Places.{IsSmall}
 use Rattle.map_canvas.proofs.Filling.{fits_small}
@@ -43,6 +42,3 @@ returns c =
           c.in_ok-cut.ensures.placed c.place.ensures.canvas c.in-Ok.ensures.items (ap (λ n. c.args.work.now.cells + n) c.cells.ensures) c.if-cells-gt-MOST_BOX_CELLS.false c.requires.work.rounds,
       omega (arith, some_cells c.in-Some.placement.rect.size at.fits.fits.some, c.cells.ensures),
     )
-
-pub returns-in_default : goal.returns-in_default
-returns-in_default c = grind (arith, common_steps)

@@ -19,6 +19,3 @@ box_shortlist-requires-clause-asked c =
 
 pub box_shortlist-requires-clause-ready : goal.box_shortlist-requires-clause-ready
 box_shortlist-requires-clause-ready c = grind (arith, common_steps)
-
-pub returns : goal.returns
-returns c = grind (arith, common_steps)

@@ -33,12 +33,3 @@ add-requires-clause-fits c = grind (arith, common_steps)
 
 pub around_of-around-requires : goal.around_of-around-requires
 around_of-around-requires c = grind (arith, common_steps)
-
-pub come_to-requires-clause-held : goal.come_to-requires-clause-held
-come_to-requires-clause-held c = grind (arith, common_steps)
-
-pub begin-errors-requires-clause-held : goal.begin-errors-requires-clause-held
-begin-errors-requires-clause-held c = grind (arith, common_steps)
-
-pub count-filled-requires-clause-inside : goal.count-filled-requires-clause-inside
-count-filled-requires-clause-inside c = grind (arith, common_steps)

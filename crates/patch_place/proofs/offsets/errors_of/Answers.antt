@@ -44,6 +44,3 @@ part_after-size-requires-clause-below c = grind (arith, common_steps)
 
 pub gather-requires-clause-over : goal.gather-requires-clause-over
 gather-requires-clause-over c = grind (arith, common_steps)
-
-pub layout_for-requires-clause-rect : goal.layout_for-requires-clause-rect
-layout_for-requires-clause-rect c = grind (arith, common_steps)

@@ -4,6 +4,3 @@ use Rattle.patch_place.proofs.picks.pick_with.Goals as goal
 
 pub returns-clause-picked : goal.returns-clause-picked
 returns-clause-picked c = grind (arith, common_steps)
-
-pub returns-clause-fits : goal.returns-clause-fits
-returns-clause-fits c = grind (arith, common_steps)

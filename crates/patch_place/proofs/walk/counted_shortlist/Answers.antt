@@ -39,6 +39,3 @@ parts-preserved g c = record {
 
 pub returns : goal.returns
 returns g c = grind (arith, common_steps)
-
-pub add_part-requires-clause-counted : goal.add_part-requires-clause-counted
-add_part-requires-clause-counted g c = grind (arith, common_steps)

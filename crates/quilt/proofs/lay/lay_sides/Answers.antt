@@ -1,5 +1,3 @@
-use Rattle.std.proofs.Common.{arith}
-use Rattle.std.proofs.lemmas.Grind.{common_steps}
 use Rattle.std.proofs.Common.{◌≡◌, refl, ap, ◌∙◌, subst}
 use Rattle.map_canvas.specs.Maps.{SourceMap}
 use Rattle.block_strips.specs.declared.side.Side.TheVariants.{Left, Top}
@@ -24,9 +22,3 @@ returns c =
       left = subst (λ cols. JoinsBy (strip_of Left m sample placement cols) c.in_ok-left.left) left (c.in_ok-left.ensures {u = tt});
       top = subst (λ cols. JoinsBy (strip_of Top m sample placement cols) c.in_ok-top.top) top (c.in_ok-top.ensures {u = tt});
     }
-
-pub join-requires-2-clause-most : goal.join-requires-2-clause-most
-join-requires-2-clause-most c = grind (arith, common_steps)
-
-pub join-requires-clause-most : goal.join-requires-clause-most
-join-requires-clause-most c = grind (arith, common_steps)

@@ -1,5 +1,3 @@
-use Rattle.std.proofs.Common.{arith}
-use Rattle.std.proofs.lemmas.Grind.{common_steps}
 use Rattle.std.proofs.Common.{◌⊎◌, ap, subst}
 use Rattle.std.specs.Prelude.{◌↔◌}
 use Rattle.cells.specs.Boxes.{IsInBox}
@@ -13,6 +11,3 @@ returns-clause-laid c =
     let after = c.put_block.new.canvas.map in
     c.next_block_shares_strips.ensures.more after (ap (λ (m : SourceMap). m.size) c.in_ok-put_block.ensures.map)
     (λ p inside. subst (λ (placement : Placement). IsFilled after p ↔ (IsFilled m p ⊎ IsInBox placement.rect p)) c.in_ok-block.ensures.block.placed (c.in_ok-put_block.ensures.filled p))
-
-pub returns-clause-pictures : goal.returns-clause-pictures
-returns-clause-pictures c = grind (arith, common_steps)

@@ -31,6 +31,3 @@ returns-in-Ok-clause-next g c =
 
 pub returns-in_err-placement-clause-next : goal.returns-in_err-placement-clause-next
 returns-in_err-placement-clause-next g c = grind (arith, common_steps)
-
-pub returns-in-Err-clause-next : goal.returns-in-Err-clause-next
-returns-in-Err-clause-next g c = grind (arith, common_steps)

@@ -21,9 +21,3 @@ returns-clause-lower c = grind (arith, common_steps)
 
 pub returns-in_default-place-clause-full : goal.returns-in_default-place-clause-full
 returns-in_default-place-clause-full c = grind (arith, common_steps)
-
-pub returns-in_default-place-clause-lower : goal.returns-in_default-place-clause-lower
-returns-in_default-place-clause-lower c = grind (arith, common_steps)
-
-pub returns-in_default-place-clause-made : goal.returns-in_default-place-clause-made
-returns-in_default-place-clause-made c = grind (arith, common_steps)

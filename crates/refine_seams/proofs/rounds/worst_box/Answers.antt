@@ -1,4 +1,3 @@
-use Rattle.std.proofs.lemmas.Grind.{common_steps}
 use Rattle.std.proofs.Common.{◌∙◌, ap, sym, subst, arith}
 use Rattle.cells.specs.declared.place.Size.{Size}
 use Rattle.cells.specs.Boxes.{HasCells}
@@ -35,6 +34,3 @@ returns-clause-worst c =
           (c.worst-worst.ensures.worst d m c.requires.table.right) (c.worst-worst.ensures.cost d m c.requires.table.right);
       some = omega (arith, c.if-worst-eq0.false);
     }
-
-pub returns-clause-room : goal.returns-clause-room
-returns-clause-room c = grind (arith, common_steps)

@@ -1,5 +1,3 @@
-use Rattle.std.proofs.Common.{arith}
-use Rattle.std.proofs.lemmas.Grind.{common_steps}
 use Rattle.std.proofs.Common.{◌<◌, length, refl, sym, subst}
 use Rattle.std.specs.Prelude.{All}
 use Rattle.cells.specs.Boxes.{HoldsBox}
@@ -34,6 +32,3 @@ returns-clause-chosen c =
     let placed = c.in-Ok.ensures.placed in
     chosen_around c.args.plan.now c.args.canvas.now.map c.args.sample.now c.args.draws.now c.args.rect.now c.small_box-inner.result c.in_ok-small.small.map c.in_ok-placement.placement c.in-Ok.cut
     c.requires.tile.takes c.in_ok-small.ensures.small c.small_box-inner.ensures picked.picked picked.listed picked.fits placed.same_placement placed.choice_count placed.fewest
-
-pub returns-in_default-clause-kept : goal.returns-in_default-clause-kept
-returns-in_default-clause-kept c = grind (arith, common_steps)

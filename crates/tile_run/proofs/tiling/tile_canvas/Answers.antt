@@ -31,9 +31,3 @@ laying-smaller c =
 
 pub laying-preserved : goal.laying-preserved
 laying-preserved c = grind (arith, common_steps)
-
-pub step-requires-clause-plan : goal.step-requires-clause-plan
-step-requires-clause-plan c = grind (arith, common_steps)
-
-pub laying-init : goal.laying-init
-laying-init c = grind (arith, common_steps)

@@ -1,7 +1,8 @@
 // Files that claim far more than they hold. Their readers take memory as bytes come, and not by what is claimed: the memory
 // of the process is counted.
 use crate::expect::expect_none;
-use crate::records::{joined, refusal};
+use crate::files::joined;
+use crate::records::refusal;
 use shelf_core::FormFault::Form;
 use shelf_core::ReadError::Bad;
 use std::alloc::{AllocError, Global};
@@ -28,7 +29,9 @@ const BLOCKS: &[u8] = b"\x01\0\0\0\x06\0\0\0\x01\0\0\0\x01\0\0\0\x04\0\0\0\x01\0
 const WALK: &[u8] = b"\x02\0\0\0\x01\0\0\0\x01\0\0\x10\0\0\0\0\x01\0\0\0\x01\0\0\x01\0";
 
 // A file that ends after a claim: its sizes, what follows them, how many zeros come then, and how many KiB a reader may take.
-const CLAIMS: &[(&[u8], &[u8], usize, u64)] = &[
+type Claim<'a> = (&'a [u8], &'a [u8], usize, u64);
+
+const CLAIMS: &[Claim<'static>] = &[
     // 2^32 - 1 records.
     (CUTS, b"\xff\xff\xff\xff", 0, 1024),
     (BLOCKS, b"\xff\xff\xff\xff", 0, 1024),
@@ -72,11 +75,17 @@ fn is_modest(rt: &HostRuntime, bytes: &[u8], room: u64) -> Result<bool, AllocErr
     Ok(is_refused && after.saturating_sub(before) <= room)
 }
 
+// The same of the file of a claim.
+fn is_modest_claim(rt: &HostRuntime, claim: &Claim) -> Result<bool, AllocError> {
+    let (sizes, fields, zeros, room) = *claim;
+    let bytes = claiming(rt.alloc(), sizes, fields, zeros)?;
+    is_modest(rt, &bytes, room)
+}
+
 // The number of the first claim, from 0, that takes more.
 fn wrong_claim(rt: &HostRuntime) -> Result<Option<usize>, AllocError> {
-    for (i, (sizes, fields, zeros, room)) in CLAIMS.iter().enumerate() {
-        let bytes = claiming(rt.alloc(), *sizes, *fields, *zeros)?;
-        if !is_modest(rt, &bytes, *room)? {
+    for (i, claim) in CLAIMS.iter().enumerate() {
+        if !is_modest_claim(rt, claim)? {
             return Ok(Some(i));
         }
     }

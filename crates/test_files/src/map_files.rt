@@ -3,7 +3,7 @@
 ghost use Rattle.source_map.specs.MapFiles.{IsMapFile};
 
 use crate::expect::{expect_none, expect_true};
-use crate::records::changed;
+use crate::files::{changed, joined, shelf_with};
 use shelf_core::FormFault::Form;
 use shelf_core::ReadError::{Bad, Limit};
 use shelf_core::{Call, MemShelf, ReadError, What, WriteFault};
@@ -57,14 +57,18 @@ fn write_again(value: &MapFile, shelf: &mut MemShelf) -> Result<(), WriteFault>
 
 const FILES: &[&[u8]] = &[&COPIES, &PLAIN, &NUMBERED, &FRAMES];
 
+// Reads the map of a store and writes it again; None where it isn't read, and else whether all went well.
+fn writes_again(alloc: Global, shelf: &mut MemShelf) -> Option<bool> {
+    match read_map(alloc, shelf, "map") {
+        Ok(value) => Some(write_again(&value, shelf).is_ok()),
+        Err(_) => None,
+    }
+}
+
 // Whether a map is read, and what was read is written again, byte by byte.
 fn is_written_again(alloc: Global, bytes: &[u8]) -> Result<bool, AllocError> {
-    let mut shelf = MemShelf::new(alloc);
-    shelf.put_file("map", bytes)?;
-    let Ok(value) = read_map(alloc, &mut shelf, "map") else {
-        return Ok(false);
-    };
-    Ok(write_again(&value, &mut shelf).is_ok() && shelf.file("again") == Some(bytes))
+    let mut shelf = shelf_with(alloc, "map", bytes)?;
+    Ok(writes_again(alloc, &mut shelf) == Some(true) && shelf.file("again") == Some(bytes))
 }
 
 // The number of the first map, from 0, that isn't written again.
@@ -83,16 +87,21 @@ fn maps_are_read_and_written_again(rt: HostRuntime) {
 }
 
 // Whether a write that fails leaves so many bytes of the map of copies, and tells.
-fn fails_well(alloc: Global, call: Call, kept: usize) -> Result<bool, AllocError> {
-    let mut shelf = MemShelf::new(alloc);
-    shelf.put_file("map", &COPIES)?;
+fn fails_so(
+    alloc: Global,
+    shelf: &mut MemShelf,
+    call: Call,
+    kept: usize,
+) -> Result<bool, AllocError> {
     shelf.fail_at(call, "again", 1, kept)?;
-    let Ok(value) = read_map(alloc, &mut shelf, "map") else {
-        return Ok(false);
-    };
-    let is_told = write_again(&value, &mut shelf).is_err() && shelf.write_faults() == 1;
+    let is_told = writes_again(alloc, shelf) == Some(false) && shelf.write_faults() == 1;
     let left = shelf.file("again").unwrap_or(b"");
     Ok(is_told && Some(left) == COPIES.get(..kept))
+}
+
+fn fails_well(alloc: Global, call: Call, kept: usize) -> Result<bool, AllocError> {
+    let mut shelf = shelf_with(alloc, "map", &COPIES)?;
+    fails_so(alloc, &mut shelf, call, kept)
 }
 
 #[test]
@@ -104,9 +113,14 @@ fn writes_that_fail(rt: HostRuntime) {
 
 // Why bytes aren't read as a map.
 fn refusal(alloc: Global, bytes: &[u8]) -> Result<Option<ReadError>, AllocError> {
-    let mut shelf = MemShelf::new(alloc);
-    shelf.put_file("map", bytes)?;
+    let mut shelf = shelf_with(alloc, "map", bytes)?;
     Ok(read_map(alloc, &mut shelf, "map").err())
+}
+
+// Why a map with a byte more isn't read.
+fn refusal_of_longer(alloc: Global, bytes: &[u8]) -> Result<Option<ReadError>, AllocError> {
+    let longer = joined(alloc, &[bytes, b"\0"])?;
+    refusal(alloc, &longer)
 }
 
 // How many bytes of a map are the first that aren't refused at their end, or with a byte more at its place; None where all are.
@@ -116,9 +130,7 @@ fn wrong_length(alloc: Global, bytes: &[u8]) -> Result<Option<usize>, AllocError
             return Ok(Some(n));
         }
     }
-    let mut longer = Vec::from_slice(alloc, bytes)?;
-    longer.push(0)?;
-    if refusal(alloc, &longer)? != Some(Bad(Form(bytes.len() as u64))) {
+    if refusal_of_longer(alloc, bytes)? != Some(Bad(Form(bytes.len() as u64))) {
         return Ok(Some(bytes.len()));
     }
     Ok(None)
@@ -175,11 +187,21 @@ const CHANGES: &[Change<'static>] = &[
     (&FRAMES, 36, &[0, 2], Bad(Form(36))),
 ];
 
+// Why a map with other bytes from a place on isn't read.
+fn refusal_of_changed(
+    alloc: Global,
+    bytes: &[u8],
+    at: usize,
+    new: &[u8],
+) -> Result<Option<ReadError>, AllocError> {
+    let other = changed(alloc, bytes, at, new)?;
+    refusal(alloc, &other)
+}
+
 // The number of the first change, from 0, that isn't refused so.
 fn wrong_change(alloc: Global, table: &[Change]) -> Result<Option<usize>, AllocError> {
     for (i, (bytes, at, new, refused)) in table.iter().enumerate() {
-        let other = changed(alloc, *bytes, *at, *new)?;
-        if refusal(alloc, &other)? != Some(*refused) {
+        if refusal_of_changed(alloc, *bytes, *at, *new)? != Some(*refused) {
             return Ok(Some(i));
         }
     }

@@ -187,17 +187,15 @@ fn add_walk(
     add_all_64(tables, numbers)
 }
 
-/// The numbers of a record file.
-pub fn numbers_of_record(alloc: Global, file: &RecordFile) -> Result<Vec<i128>, AllocError> {
-    let mut numbers = Vec::new(alloc);
+fn add_record(file: &RecordFile, numbers: &mut Vec<i128>) -> Result<(), AllocError> {
     match file {
         RecordFile::Cuts { head, cuts } => {
-            add_head(head, 0, &mut numbers)?;
-            add_cuts(head, cuts.as_slice(), &mut numbers)?;
+            add_head(head, 0, numbers)?;
+            add_cuts(head, cuts.as_slice(), numbers)
         }
         RecordFile::Blocks { head, blocks } => {
-            add_head(head, 1, &mut numbers)?;
-            add_blocks(blocks.as_slice(), &mut numbers)?;
+            add_head(head, 1, numbers)?;
+            add_blocks(blocks.as_slice(), numbers)
         }
         RecordFile::Walk {
             head,
@@ -206,16 +204,16 @@ pub fn numbers_of_record(alloc: Global, file: &RecordFile) -> Result<Vec<i128>, 
             walk,
             tables,
         } => {
-            add_head(head, 2, &mut numbers)?;
-            add_walk(
-                *taps,
-                *gap,
-                walk.as_slice(),
-                tables.as_slice(),
-                &mut numbers,
-            )?;
+            add_head(head, 2, numbers)?;
+            add_walk(*taps, *gap, walk.as_slice(), tables.as_slice(), numbers)
         }
     }
+}
+
+/// The numbers of a record file.
+pub fn numbers_of_record(alloc: Global, file: &RecordFile) -> Result<Vec<i128>, AllocError> {
+    let mut numbers = Vec::new(alloc);
+    add_record(file, &mut numbers)?;
     Ok(numbers)
 }
 
@@ -248,26 +246,37 @@ fn add_map(
     add_sources(version, samples, map.sources(), numbers)
 }
 
-/// The numbers of a map file.
-pub fn numbers_of_map(alloc: Global, file: &MapFile) -> Result<Vec<i128>, AllocError> {
-    let mut numbers = Vec::new(alloc);
+fn add_frames(
+    size: Size,
+    sample: Size,
+    frames: &[u16],
+    numbers: &mut Vec<i128>,
+) -> Result<(), AllocError> {
+    numbers.push(1)?;
+    numbers.push(1)?;
+    add_size(size, numbers)?;
+    add_size(sample, numbers)?;
+    add_all_16(frames, numbers)
+}
+
+fn add_file(file: &MapFile, numbers: &mut Vec<i128>) -> Result<(), AllocError> {
     match file {
         MapFile::Cells {
             map,
             samples,
             version,
-        } => add_map(*version, samples, map, &mut numbers)?,
+        } => add_map(*version, samples, map, numbers),
         MapFile::Frames {
             size,
             sample,
             frames,
-        } => {
-            numbers.push(1)?;
-            numbers.push(1)?;
-            add_size(*size, &mut numbers)?;
-            add_size(*sample, &mut numbers)?;
-            add_all_16(frames.as_slice(), &mut numbers)?;
-        }
+        } => add_frames(*size, *sample, frames.as_slice(), numbers),
     }
+}
+
+/// The numbers of a map file.
+pub fn numbers_of_map(alloc: Global, file: &MapFile) -> Result<Vec<i128>, AllocError> {
+    let mut numbers = Vec::new(alloc);
+    add_file(file, &mut numbers)?;
     Ok(numbers)
 }

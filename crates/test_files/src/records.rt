@@ -2,6 +2,7 @@
 ghost use Rattle.cert_file.specs.RecordFiles.{IsRecordFile};
 
 use crate::expect::{expect_none, expect_true};
+use crate::files::{changed, joined, shelf_with};
 use cert_file::{
     BlockRecord, BoundaryRecord, CutRecord, Flow, RecordFile, Taps, read_record_file, write_blocks,
     write_cuts, write_walk,
@@ -37,54 +38,44 @@ const ONE: &[u8] = b"WEAVEREC\x01\x00\0\0\0\x06\0\0\0\x01\0\0\0\x01\0\0\0\x04\0\
     \0\0\0\x01\
     \0\x02\0\0\0\0\0\x04\0\x01\0\x01\0\0\0\0\0\0\xe0\0\0\0\0\0\0\0\0\0\0\xff\x88";
 
-pub(crate) fn joined(alloc: Global, parts: &[&[u8]]) -> Result<Vec<u8>, AllocError> {
-    let mut bytes = Vec::new(alloc);
-    for part in parts {
-        bytes.extend_from_slice(*part)?;
-    }
-    Ok(bytes)
-}
-
-// The bytes with others from a place on.
-pub(crate) fn changed(
-    alloc: Global,
-    bytes: &[u8],
-    at: usize,
-    new: &[u8],
-) -> Result<Vec<u8>, AllocError> {
-    let mut result = Vec::from_slice(alloc, bytes)?;
-    for (old, byte) in result.iter_mut().skip(at).zip(new) {
-        *old = *byte;
-    }
-    Ok(result)
-}
-
 // The answer to a file of these bytes, where it is a refusal.
 pub(crate) fn refusal(alloc: Global, bytes: &[u8]) -> Result<Option<ReadError>, AllocError> {
-    let mut shelf = MemShelf::new(alloc);
-    shelf.put_file("record", bytes)?;
+    let mut shelf = shelf_with(alloc, "record", bytes)?;
     Ok(read_record_file(alloc, &mut shelf, "record").err())
 }
 
-// Whether a file of cuts has this length, and is read and written again, byte by byte.
-fn is_written_again(alloc: Global, bytes: &[u8], length: usize) -> Result<bool, AllocError> {
-    let mut shelf = MemShelf::new(alloc);
-    shelf.put_file("record", bytes)?;
-    let Ok(file) = read_record_file(alloc, &mut shelf, "record") else {
-        return Ok(false);
-    };
-    let RecordFile::Cuts { head, cuts } = &file else {
-        return Ok(false);
-    };
-    let is_written = write_cuts(head, cuts.as_slice(), &mut shelf, "again").is_ok();
-    Ok(is_written && bytes.len() == length && shelf.file("again") == Some(bytes))
+// Whether what was read is written again. Blocks and a walk have to be those of the examples.
+fn is_written(file: &RecordFile, shelf: &mut MemShelf) -> bool
+    requires { IsRecordFile file.now }
+{
+    match file {
+        RecordFile::Cuts { head, cuts } => {
+            write_cuts(head, cuts.as_slice(), shelf, "again").is_ok()
+        }
+        RecordFile::Blocks { .. } => are_blocks_written(file, shelf),
+        RecordFile::Walk { .. } => is_walk_written(file, shelf),
+    }
+}
+
+fn writes_again(alloc: Global, shelf: &mut MemShelf) -> bool {
+    match read_record_file(alloc, shelf, "record") {
+        Ok(file) => is_written(&file, shelf),
+        Err(_) => false,
+    }
+}
+
+// Whether a file is read, and what was read is written again, byte by byte.
+fn is_written_again(alloc: Global, bytes: &[u8]) -> Result<bool, AllocError> {
+    let mut shelf = shelf_with(alloc, "record", bytes)?;
+    Ok(writes_again(alloc, &mut shelf) && shelf.file("again") == Some(bytes))
 }
 
 #[test]
 fn written_again(rt: HostRuntime) {
-    expect_true(&rt, is_written_again(rt.alloc(), TWO, 100));
-    expect_true(&rt, is_written_again(rt.alloc(), THREE, 131));
-    expect_true(&rt, is_written_again(rt.alloc(), NUMBERED, 106));
+    assert!(rt; TWO.len() == 100 && THREE.len() == 131 && NUMBERED.len() == 106);
+    expect_true(&rt, is_written_again(rt.alloc(), TWO));
+    expect_true(&rt, is_written_again(rt.alloc(), THREE));
+    expect_true(&rt, is_written_again(rt.alloc(), NUMBERED));
 }
 
 // The record of one placement, at the third cell.
@@ -106,13 +97,16 @@ fn is_one(file: &RecordFile) -> bool {
     }
 }
 
-fn has_fields(alloc: Global) -> Result<bool, AllocError> {
-    let mut shelf = MemShelf::new(alloc);
-    shelf.put_file("record", ONE)?;
-    match read_record_file(alloc, &mut shelf, "record") {
-        Ok(file) => Ok(is_one(&file)),
-        Err(_) => Ok(false),
+fn reads_one(alloc: Global, shelf: &mut MemShelf) -> bool {
+    match read_record_file(alloc, shelf, "record") {
+        Ok(file) => is_one(&file),
+        Err(_) => false,
     }
+}
+
+fn has_fields(alloc: Global) -> Result<bool, AllocError> {
+    let mut shelf = shelf_with(alloc, "record", ONE)?;
+    Ok(reads_one(alloc, &mut shelf))
 }
 
 #[test]
@@ -123,11 +117,21 @@ fn fields(rt: HostRuntime) {
 // A place in a file, the bytes put there, and the refusal if there is one.
 type Change<'a> = (usize, &'a [u8], Option<ReadError>);
 
+// The answer to a file with other bytes from a place on.
+fn refusal_of_changed(
+    alloc: Global,
+    file: &[u8],
+    at: usize,
+    new: &[u8],
+) -> Result<Option<ReadError>, AllocError> {
+    let other = changed(alloc, file, at, new)?;
+    refusal(alloc, &other)
+}
+
 // The number of the first change, from 0, that has another answer.
 fn wrong_change(alloc: Global, file: &[u8], table: &[Change]) -> Result<Option<usize>, AllocError> {
     for (i, (at, new, want)) in table.iter().enumerate() {
-        let other = changed(alloc, file, *at, *new)?;
-        if refusal(alloc, &other)? != *want {
+        if refusal_of_changed(alloc, file, *at, *new)? != *want {
             return Ok(Some(i));
         }
     }
@@ -169,6 +173,12 @@ fn refusals(rt: HostRuntime) {
     expect_none(&rt, wrong_change(rt.alloc(), TWO, REFUSED));
 }
 
+// The answer to a file with a byte more.
+fn refusal_of_longer(alloc: Global, bytes: &[u8]) -> Result<Option<ReadError>, AllocError> {
+    let longer = joined(alloc, &[bytes, b"x"])?;
+    refusal(alloc, &longer)
+}
+
 // How many bytes of a file are the first that aren't refused at their end, or with a byte more at its place; None where all are.
 fn wrong_length(alloc: Global, bytes: &[u8]) -> Result<Option<usize>, AllocError> {
     for n in 0..bytes.len() {
@@ -176,8 +186,7 @@ fn wrong_length(alloc: Global, bytes: &[u8]) -> Result<Option<usize>, AllocError
             return Ok(Some(n));
         }
     }
-    let longer = joined(alloc, &[bytes, b"x"])?;
-    if refusal(alloc, &longer)? != Some(Bad(Form(bytes.len() as u64))) {
+    if refusal_of_longer(alloc, bytes)? != Some(Bad(Form(bytes.len() as u64))) {
         return Ok(Some(bytes.len()));
     }
     Ok(None)
@@ -200,7 +209,7 @@ const WALK: &[u8] = b"WEAVEREC\x01\x02\0\0\0\x01\0\0\0\x01\0\0\0\x03\0\0\0\x01\0
     \0\0\0\0\0\0\0\x0a\0\0\0\0\0\0\0\x05\xff\xff\xff\xff\xff\xff\xff\xff\0\0\0\0\0\0\0\x0a\
     \0\0\0\0\0\0\0\x0f\0\0\0\0\0\0\0\x0a\0\0\0\0\0\0\0\x14\x01\x02\x03\x04\x05\x06\x07\x08";
 
-// Whether the file is that walk, and is written again, byte by byte.
+// Whether a file is that walk, and is written again.
 fn is_walk_written(file: &RecordFile, shelf: &mut MemShelf) -> bool
     requires { IsRecordFile file.now }
 {
@@ -232,21 +241,10 @@ fn is_walk_written(file: &RecordFile, shelf: &mut MemShelf) -> bool
         && numbers.last() == Some(&72623859790382856)
 }
 
-// A walk is read, and what was read is written again, byte by byte.
-fn is_walk_written_again(alloc: Global) -> Result<bool, AllocError> {
-    let mut shelf = MemShelf::new(alloc);
-    shelf.put_file("record", WALK)?;
-    let Ok(file) = read_record_file(alloc, &mut shelf, "record") else {
-        return Ok(false);
-    };
-    let is_written = is_walk_written(&file, &mut shelf);
-    Ok(is_written && shelf.file("again") == Some(WALK))
-}
-
 #[test]
 fn walk_written_again(rt: HostRuntime) {
     assert!(rt; WALK.len() == 111);
-    expect_true(&rt, is_walk_written_again(rt.alloc()));
+    expect_true(&rt, is_written_again(rt.alloc(), WALK));
 }
 
 const REFUSED_WALKS: &[Change<'static>] = &[
@@ -327,21 +325,10 @@ fn are_blocks_written(file: &RecordFile, shelf: &mut MemShelf) -> bool
     }
 }
 
-// Blocks are read, and what was read is written again, byte by byte.
-fn are_blocks_written_again(alloc: Global) -> Result<bool, AllocError> {
-    let mut shelf = MemShelf::new(alloc);
-    shelf.put_file("record", BLOCKS)?;
-    let Ok(file) = read_record_file(alloc, &mut shelf, "record") else {
-        return Ok(false);
-    };
-    let are_written = are_blocks_written(&file, &mut shelf);
-    Ok(are_written && shelf.file("again") == Some(BLOCKS))
-}
-
 #[test]
 fn blocks_written_again(rt: HostRuntime) {
     assert!(rt; BLOCKS.len() == 126);
-    expect_true(&rt, are_blocks_written_again(rt.alloc()));
+    expect_true(&rt, is_written_again(rt.alloc(), BLOCKS));
 }
 
 const REFUSED_BLOCKS: &[Change<'static>] = &[

@@ -1,4 +1,5 @@
 // The rows of a table, and whether the readers answer as they say.
+use crate::files::{changed, shelf_with};
 use crate::numbers::{numbers_of_map, numbers_of_record};
 use cert_file::read_record_file;
 use shelf_core::{FormFault, MemShelf, ReadError, What};
@@ -44,27 +45,34 @@ enum Found {
     Refused(ReadError),
 }
 
+fn found_numbers(numbers: Result<Vec<i128>, AllocError>) -> Result<Found, AllocError> {
+    Ok(Found::Numbers(numbers?))
+}
+
 fn read_as_map(alloc: Global, shelf: &mut MemShelf) -> Result<Found, AllocError> {
     match read_map(alloc, shelf, "file") {
-        Ok(file) => Ok(Found::Numbers(numbers_of_map(alloc, &file)?)),
+        Ok(file) => found_numbers(numbers_of_map(alloc, &file)),
         Err(error) => Ok(Found::Refused(error)),
     }
 }
 
 fn read_as_record(alloc: Global, shelf: &mut MemShelf) -> Result<Found, AllocError> {
     match read_record_file(alloc, shelf, "file") {
-        Ok(file) => Ok(Found::Numbers(numbers_of_record(alloc, &file)?)),
+        Ok(file) => found_numbers(numbers_of_record(alloc, &file)),
         Err(error) => Ok(Found::Refused(error)),
     }
 }
 
-fn read_as(alloc: Global, reader: Reader, bytes: &[u8]) -> Result<Found, AllocError> {
-    let mut shelf = MemShelf::new(alloc);
-    shelf.put_file("file", bytes)?;
+fn read_by(alloc: Global, reader: Reader, shelf: &mut MemShelf) -> Result<Found, AllocError> {
     match reader {
-        Reader::OfMaps => read_as_map(alloc, &mut shelf),
-        Reader::OfRecords => read_as_record(alloc, &mut shelf),
+        Reader::OfMaps => read_as_map(alloc, shelf),
+        Reader::OfRecords => read_as_record(alloc, shelf),
     }
+}
+
+fn read_as(alloc: Global, reader: Reader, bytes: &[u8]) -> Result<Found, AllocError> {
+    let mut shelf = shelf_with(alloc, "file", bytes)?;
+    read_by(alloc, reader, &mut shelf)
 }
 
 fn limit(what: What, number: u64, bound: u64) -> Option<ReadError> {
@@ -118,20 +126,17 @@ fn step_of(answer: Answer, shift: u32) -> i128 {
     1i128.wrapping_shl(shift)
 }
 
-// The file with another byte.
-fn changed(alloc: Global, file: &[u8], place: usize, value: u8) -> Result<Vec<u8>, AllocError> {
-    let mut bytes = Vec::from_slice(alloc, file)?;
-    if let Some(byte) = bytes.get_mut(place) {
-        *byte = value;
-    }
-    Ok(bytes)
-}
-
 /// How many files were tried, and the place and the value of one that isn't read as its row says.
 #[derive(Clone, Copy, Debug, Drop, PartialEq, Eq)]
 pub struct Tried {
     pub count: usize,
     pub wrong: Option<(usize, u8)>,
+}
+
+// The numbers or the refusal of a file with another value of one byte.
+fn found_with(alloc: Global, of: &Table, place: usize, value: u8) -> Result<Found, AllocError> {
+    let bytes = changed(alloc, of.file, place, &[value])?;
+    read_as(alloc, of.reader, &bytes)
 }
 
 // Whether a file with another value of one byte is read so.
@@ -143,8 +148,7 @@ fn is_read_so(
     answer: Answer,
     number: i128,
 ) -> Result<bool, AllocError> {
-    let bytes = changed(alloc, of.file, place, value)?;
-    let found = read_as(alloc, of.reader, &bytes)?;
+    let found = found_with(alloc, of, place, value)?;
     Ok(is_answer(&found, of.numbers, answer, number))
 }
 

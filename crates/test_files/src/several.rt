@@ -1,6 +1,6 @@
 // Samples that are joined, and why and which are refused.
 use crate::expect::{expect_none, expect_true};
-use crate::reading::read_words;
+use crate::reading::{read_all, refusal};
 use cells::{At, Size};
 use sample_files::{Form, Samples};
 use shelf_core::{FormFault, MemShelf};
@@ -19,17 +19,19 @@ const OF_444: &[u8] = b"YUV4MPEG2 W1 H1 C444\nFRAME\n\x01\x02\x03";
 
 const OF_MAXVAL_15: &[u8] = b"P6\n1 1\n15\n\x01\x02\x03";
 
-const WORDS: &[&str] = &[
-    "grow",
-    "sample3=u",
-    "sample=s",
-    "sample2=t",
-    "out=o",
-    "map=m",
-    "record=r",
-    "width=1",
-    "height=1",
-];
+const NAMES: &[&str] = &["s", "t", "u"];
+
+// Gives a store three samples.
+fn put_three(
+    shelf: &mut MemShelf,
+    first: &[u8],
+    second: &[u8],
+    third: &[u8],
+) -> Result<(), AllocError> {
+    shelf.put_file("s", first)?;
+    shelf.put_file("t", second)?;
+    shelf.put_file("u", third)
+}
 
 // Whether these are pictures of two cells, of three below one another, and of two.
 fn are_pictures(samples: &Samples) -> bool {
@@ -43,15 +45,17 @@ fn are_pictures(samples: &Samples) -> bool {
         && last_of_third == Some(b"\x14\x14\x14".as_slice())
 }
 
-fn are_joined(alloc: Global) -> Result<bool, AllocError> {
-    let mut shelf = MemShelf::new(alloc);
-    shelf.put_file("s", TWO_GREY)?;
-    shelf.put_file("t", THREE_COLOURS)?;
-    shelf.put_file("u", TWO_GREY)?;
-    match read_words(alloc, &mut shelf, WORDS, false)? {
+fn joins_pictures(alloc: Global, shelf: &mut MemShelf) -> Result<bool, AllocError> {
+    put_three(shelf, TWO_GREY, THREE_COLOURS, TWO_GREY)?;
+    match read_all(alloc, shelf, NAMES, false)? {
         Ok(samples) => Ok(are_pictures(&samples)),
         Err(_) => Ok(false),
     }
+}
+
+fn are_joined(alloc: Global) -> Result<bool, AllocError> {
+    let mut shelf = MemShelf::new(alloc);
+    joins_pictures(alloc, &mut shelf)
 }
 
 #[test]
@@ -77,15 +81,17 @@ fn are_clips(samples: &Samples) -> bool {
         && last == Some(b"\x28".as_slice())
 }
 
-fn are_clips_joined(alloc: Global) -> Result<bool, AllocError> {
-    let mut shelf = MemShelf::new(alloc);
-    shelf.put_file("s", MONO)?;
-    shelf.put_file("t", MONO_WITH_TAGS)?;
-    shelf.put_file("u", MONO)?;
-    match read_words(alloc, &mut shelf, WORDS, false)? {
+fn joins_clips(alloc: Global, shelf: &mut MemShelf) -> Result<bool, AllocError> {
+    put_three(shelf, MONO, MONO_WITH_TAGS, MONO)?;
+    match read_all(alloc, shelf, NAMES, false)? {
         Ok(samples) => Ok(are_clips(&samples)),
         Err(_) => Ok(false),
     }
+}
+
+fn are_clips_joined(alloc: Global) -> Result<bool, AllocError> {
+    let mut shelf = MemShelf::new(alloc);
+    joins_clips(alloc, &mut shelf)
 }
 
 #[test]
@@ -123,21 +129,13 @@ const REFUSED: &[(&[u8], &[u8], Fault)] = &[
     (TWO_GREY, TWO_GREY, Fault::Read(FileOf::More(3))),
 ];
 
-// Why the samples `s` and `t` are refused, and the third that is missing.
-fn refusal(alloc: Global, first: &[u8], next: &[u8]) -> Result<Option<Fault>, AllocError> {
-    let mut shelf = MemShelf::new(alloc);
-    shelf.put_file("s", first)?;
-    shelf.put_file("t", next)?;
-    Ok(read_words(alloc, &mut shelf, WORDS, false)?.err())
-}
-
 // The number of the first samples, from 0, that aren't refused so.
 fn wrong_refusal(
     alloc: Global,
     table: &[(&[u8], &[u8], Fault)],
 ) -> Result<Option<usize>, AllocError> {
     for (i, (first, next, fault)) in table.iter().enumerate() {
-        if refusal(alloc, *first, *next)? != Some(*fault) {
+        if refusal(alloc, NAMES, (*first, *next), false)? != Some(*fault) {
             return Ok(Some(i));
         }
     }

@@ -1,6 +1,8 @@
 // Targets: pictures that have the sample's maxval, of any size.
 use crate::expect::expect_none;
-use crate::reading::words_of;
+use crate::files::shelf_with;
+use crate::reading::names_of;
+use job_words::Name;
 use sample_files::read_target;
 use shelf_core::{FormFault, MemShelf};
 use std::alloc::{AllocError, Global};
@@ -28,15 +30,28 @@ const TARGETS: &[(&[u8], Option<Fault>)] = &[
     (b"YUV4MPEG2 W1 H1 Cmono\nFRAME\n\x01", Some(CLIP)),
 ];
 
-// Why a target of these bytes is refused.
-fn refusal(alloc: Global, bytes: &[u8]) -> Result<Option<Fault>, AllocError> {
-    let words = words_of(alloc, &["t"])?;
-    let mut shelf = MemShelf::new(alloc);
-    shelf.put_file("t", bytes)?;
-    match words.as_slice() {
-        [name, ..] => Ok(read_target(alloc, &mut shelf, 15, name).err()),
+// Why a target of this name is refused.
+fn refusal_of(
+    alloc: Global,
+    shelf: &mut MemShelf,
+    names: &[Name],
+) -> Result<Option<Fault>, AllocError> {
+    match names {
+        [name, ..] => Ok(read_target(alloc, shelf, 15, name).err()),
         [] => Err(AllocError),
     }
+}
+
+// The same of the target `t`.
+fn refusal_in(alloc: Global, shelf: &mut MemShelf) -> Result<Option<Fault>, AllocError> {
+    let names = names_of(alloc, &["t"])?;
+    refusal_of(alloc, shelf, names.as_slice())
+}
+
+// Why a target of these bytes is refused.
+fn refusal(alloc: Global, bytes: &[u8]) -> Result<Option<Fault>, AllocError> {
+    let mut shelf = shelf_with(alloc, "t", bytes)?;
+    refusal_in(alloc, &mut shelf)
 }
 
 // The number of the first of them that isn't answered so, from 0.

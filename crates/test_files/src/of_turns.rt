@@ -1,8 +1,8 @@
 // Samples that are turned, and the same as they are: why they are refused.
 use crate::expect::{expect_none, expect_true};
-use crate::reading::read_words;
+use crate::reading::refusal;
 use sample_files::parts_within;
-use shelf_core::{FormFault, MemShelf, What};
+use shelf_core::{FormFault, What};
 use std::alloc::{AllocError, Global};
 use synth_report::{Fault, FileOf};
 
@@ -18,30 +18,7 @@ const OF_411: &[u8] = b"YUV4MPEG2 W4 H1 C411\nFRAME\n\x01\x02\x03\x04\x05\x06";
 
 const OF_420: &[u8] = b"YUV4MPEG2 W2 H2 C420\nFRAME\n\x01\x02\x03\x04\x05\x06";
 
-const WORDS: &[&str] = &[
-    "grow",
-    "sample=s",
-    "sample2=t",
-    "out=o",
-    "map=m",
-    "record=r",
-    "width=1",
-    "height=1",
-    "turns=all",
-];
-
-// Why the samples `s` and `t` are refused.
-fn refusal(
-    alloc: Global,
-    first: &[u8],
-    next: &[u8],
-    turns: bool,
-) -> Result<Option<Fault>, AllocError> {
-    let mut shelf = MemShelf::new(alloc);
-    shelf.put_file("s", first)?;
-    shelf.put_file("t", next)?;
-    Ok(read_words(alloc, &mut shelf, WORDS, turns)?.err())
-}
+const NAMES: &[&str] = &["s", "t"];
 
 const NO_TURN: Option<Fault> = Some(Fault::Form {
     file: FileOf::Sample,
@@ -75,8 +52,8 @@ fn are_refused(
     turned: Option<Fault>,
     as_they_are: Option<Fault>,
 ) -> Result<bool, AllocError> {
-    let with_turns = refusal(alloc, samples.0, samples.1, true)?;
-    let without = refusal(alloc, samples.0, samples.1, false)?;
+    let with_turns = refusal(alloc, NAMES, samples, true)?;
+    let without = refusal(alloc, NAMES, samples, false)?;
     Ok(with_turns == turned && without == as_they_are)
 }
 

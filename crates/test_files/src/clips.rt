@@ -3,6 +3,7 @@ ghost use Rattle.std.specs.Prelude.{◌≤◌};
 ghost use Rattle.y4m_clip.specs.Writing.{IsForm};
 
 use crate::expect::{expect_none, expect_true};
+use crate::files::shelf_with;
 use cells::{Size, Volume};
 use shelf_core::FormFault::{Cell, Form, NoFrames, Space};
 use shelf_core::ReadError::{Bad, Limit};
@@ -16,8 +17,7 @@ const TWO_CELLS: &[u8] =
 
 // The answer to a file of these bytes, of which at most 8 cells are read, where it is a refusal.
 fn refusal(alloc: Global, bytes: &[u8]) -> Result<Option<ReadError>, AllocError> {
-    let mut shelf = MemShelf::new(alloc);
-    shelf.put_file("sample", bytes)?;
+    let mut shelf = shelf_with(alloc, "sample", bytes)?;
     Ok(read_clip(alloc, &mut shelf, "sample", 8).err())
 }
 
@@ -125,13 +125,17 @@ fn is_of_two(clip: &Clip) -> bool {
         && clip.volume.bytes() == cells
 }
 
-fn are_two_read(alloc: Global) -> Result<bool, AllocError> {
-    let mut shelf = MemShelf::new(alloc);
-    shelf.put_file("sample", TWO_CELLS)?;
-    match read_clip(alloc, &mut shelf, "sample", 2) {
-        Ok(clip) => Ok(is_of_two(&clip)),
-        Err(_) => Ok(false),
+// Whether that clip is read.
+fn reads_two(alloc: Global, shelf: &mut MemShelf) -> bool {
+    match read_clip(alloc, shelf, "sample", 2) {
+        Ok(clip) => is_of_two(&clip),
+        Err(_) => false,
     }
+}
+
+fn are_two_read(alloc: Global) -> Result<bool, AllocError> {
+    let mut shelf = shelf_with(alloc, "sample", TWO_CELLS)?;
+    Ok(reads_two(alloc, &mut shelf))
 }
 
 #[test]
@@ -186,12 +190,15 @@ const COPIES: &[(&[u8], &[u8])] = &[
     ),
 ];
 
-// Whether this is written of a clip.
-fn is_copied(alloc: Global, bytes: &[u8], want: &[u8]) -> Result<bool, AllocError> {
-    let mut shelf = MemShelf::new(alloc);
-    shelf.put_file("sample", bytes)?;
-    let has_failed = copy(alloc, &mut shelf)?;
+// Whether the copy of a store's clip is this file.
+fn leaves(alloc: Global, shelf: &mut MemShelf, want: &[u8]) -> Result<bool, AllocError> {
+    let has_failed = copy(alloc, shelf)?;
     Ok(!has_failed && shelf.file("out") == Some(want))
+}
+
+fn is_copied(alloc: Global, bytes: &[u8], want: &[u8]) -> Result<bool, AllocError> {
+    let mut shelf = shelf_with(alloc, "sample", bytes)?;
+    leaves(alloc, &mut shelf, want)
 }
 
 // The number of the first clip, from 0, that isn't written so.
@@ -231,15 +238,22 @@ fn write_wider(
     Ok(is_begun && writer.frame(&volume, 0, shelf, "out").is_ok())
 }
 
-// What is written in the form of the clip that is read.
-fn are_wider_written(rt: &impl Abort, alloc: Global) -> Result<bool, AllocError> {
-    let mut shelf = MemShelf::new(alloc);
-    shelf.put_file("sample", TWO_CELLS)?;
-    let Ok(clip) = read_clip(alloc, &mut shelf, "sample", 2) else {
-        return Ok(false);
-    };
-    let is_written = write_wider(rt, alloc, &clip.form, &mut shelf)?;
+// The same in the form of the clip that is read.
+fn writes_wider(rt: &impl Abort, alloc: Global, shelf: &mut MemShelf) -> Result<bool, AllocError> {
+    match read_clip(alloc, shelf, "sample", 2) {
+        Ok(clip) => write_wider(rt, alloc, &clip.form, shelf),
+        Err(_) => Ok(false),
+    }
+}
+
+fn leaves_wider(rt: &impl Abort, alloc: Global, shelf: &mut MemShelf) -> Result<bool, AllocError> {
+    let is_written = writes_wider(rt, alloc, shelf)?;
     Ok(is_written && shelf.file("out") == Some(WIDER))
+}
+
+fn are_wider_written(rt: &impl Abort, alloc: Global) -> Result<bool, AllocError> {
+    let mut shelf = shelf_with(alloc, "sample", TWO_CELLS)?;
+    leaves_wider(rt, alloc, &mut shelf)
 }
 
 #[test]
@@ -256,6 +270,22 @@ const WRITE_FAULTS: &[(Call, u32, usize, usize)] = &[
 ];
 
 // Whether the copy tells a write that fails, and leaves so many bytes.
+fn fails_so(
+    alloc: Global,
+    shelf: &mut MemShelf,
+    call: Call,
+    nth: u32,
+    kept: usize,
+    left: usize,
+) -> Result<bool, AllocError>
+    requires { 1 ≤ nth }
+{
+    shelf.fail_at(call, "out", nth, kept)?;
+    let is_told = copy(alloc, shelf)? && shelf.write_faults() == 1;
+    let stands = shelf.file("out").unwrap_or(b"");
+    Ok(is_told && Some(stands) == TWO_CELLS.get(..left))
+}
+
 fn tells_fault(
     alloc: Global,
     call: Call,
@@ -265,12 +295,8 @@ fn tells_fault(
 ) -> Result<bool, AllocError>
     requires { 1 ≤ nth }
 {
-    let mut shelf = MemShelf::new(alloc);
-    shelf.put_file("sample", TWO_CELLS)?;
-    shelf.fail_at(call, "out", nth, kept)?;
-    let is_told = copy(alloc, &mut shelf)? && shelf.write_faults() == 1;
-    let stands = shelf.file("out").unwrap_or(b"");
-    Ok(is_told && Some(stands) == TWO_CELLS.get(..left))
+    let mut shelf = shelf_with(alloc, "sample", TWO_CELLS)?;
+    fails_so(alloc, &mut shelf, call, nth, kept, left)
 }
 
 // The number of the first fault, from 0, after which the file is another, or which the

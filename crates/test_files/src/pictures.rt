@@ -1,5 +1,6 @@
 // Worked examples: the bytes of a file and the answer, spelled from the grammar by hand.
 use crate::expect::{expect_none, expect_true};
+use crate::files::{joined, shelf_with};
 use cells::{Size, Volume};
 use netpbm_p6::{Picture, read_p6, write_p6};
 use shelf_core::FormFault::{Depth, Form, Sample, Trailing};
@@ -11,8 +12,7 @@ const FOUR_BY_ONE: &[u8] = b"P6\n4 1\n255\nabcdefghijkl";
 
 // The answer to a file of these bytes, where it is a refusal.
 fn refusal(alloc: Global, bytes: &[u8]) -> Result<Option<ReadError>, AllocError> {
-    let mut shelf = MemShelf::new(alloc);
-    shelf.put_file("sample", bytes)?;
+    let mut shelf = shelf_with(alloc, "sample", bytes)?;
     Ok(read_p6(alloc, &mut shelf, "sample").err())
 }
 
@@ -155,11 +155,8 @@ fn answers(rt: HostRuntime) {
 
 // A header that goes on through `count` bytes of a comment.
 fn long_comment(alloc: Global, count: usize, end: &[u8]) -> Result<Vec<u8>, AllocError> {
-    let mut bytes = Vec::from_slice(alloc, b"P6\n#")?;
     let words = vec![in alloc; b'a'; count]?;
-    bytes.extend_from_slice(&words)?;
-    bytes.extend_from_slice(end)?;
-    Ok(bytes)
+    joined(alloc, &[b"P6\n#", &words, end])
 }
 
 // How long a comment is, what comes after it, and the answer.
@@ -197,11 +194,20 @@ const LONG_HEADERS: &[(usize, &[u8], Option<ReadError>)] = &[
     (65524, b"\n1 1 255#abc", Some(Bad(Form(65536)))),
 ];
 
+// The answer to such a header.
+fn refusal_of_long(
+    alloc: Global,
+    count: usize,
+    end: &[u8],
+) -> Result<Option<ReadError>, AllocError> {
+    let bytes = long_comment(alloc, count, end)?;
+    refusal(alloc, &bytes)
+}
+
 // The number of the first header, from 0, that has another answer.
 fn wrong_header(alloc: Global) -> Result<Option<usize>, AllocError> {
     for (i, (count, end, want)) in LONG_HEADERS.iter().enumerate() {
-        let bytes = long_comment(alloc, *count, *end)?;
-        if refusal(alloc, &bytes)? != *want {
+        if refusal_of_long(alloc, *count, *end)? != *want {
             return Ok(Some(i));
         }
     }
@@ -224,13 +230,19 @@ fn is_of_four(picture: &Picture) -> bool {
         && volume.bytes() == b"abcdefghijkl".as_slice()
 }
 
-fn are_four_read(alloc: Global) -> Result<bool, AllocError> {
-    let mut shelf = MemShelf::new(alloc);
-    shelf.put_file("sample", b"P6 # four cells\n 4 01\n0255\rabcdefghijkl")?;
-    match read_p6(alloc, &mut shelf, "sample") {
-        Ok(picture) => Ok(is_of_four(&picture)),
-        Err(_) => Ok(false),
+// Whether that picture is read.
+fn reads_four(alloc: Global, shelf: &mut MemShelf) -> bool {
+    match read_p6(alloc, shelf, "sample") {
+        Ok(picture) => is_of_four(&picture),
+        Err(_) => false,
     }
+}
+
+const FOUR_WITH_COMMENT: &[u8] = b"P6 # four cells\n 4 01\n0255\rabcdefghijkl";
+
+fn are_four_read(alloc: Global) -> Result<bool, AllocError> {
+    let mut shelf = shelf_with(alloc, "sample", FOUR_WITH_COMMENT)?;
+    Ok(reads_four(alloc, &mut shelf))
 }
 
 // What is in the picture that was read.
@@ -240,11 +252,14 @@ fn fields(rt: HostRuntime) {
 }
 
 // Whether a read fault is reported where a get fails after so many others.
-fn tells_read_fault(alloc: Global, after: u8) -> Result<bool, AllocError> {
-    let mut shelf = MemShelf::new(alloc);
-    shelf.put_file("sample", FOUR_BY_ONE)?;
+fn fails_so(alloc: Global, shelf: &mut MemShelf, after: u8) -> Result<bool, AllocError> {
     shelf.fail_at(Call::Get, "sample", u32::from(after) + 1, 0)?;
-    Ok(read_p6(alloc, &mut shelf, "sample").err() == Some(ReadFault))
+    Ok(read_p6(alloc, shelf, "sample").err() == Some(ReadFault))
+}
+
+fn tells_read_fault(alloc: Global, after: u8) -> Result<bool, AllocError> {
+    let mut shelf = shelf_with(alloc, "sample", FOUR_BY_ONE)?;
+    fails_so(alloc, &mut shelf, after)
 }
 
 #[test]
@@ -255,16 +270,20 @@ fn read_faults(rt: HostRuntime) {
 }
 
 // What is written of a picture with the bytes of four cells, and what a write that fails in mid-stream leaves.
-fn is_written(alloc: Global) -> Result<bool, AllocError> {
+fn writes_so(alloc: Global, shelf: &mut MemShelf) -> Result<bool, AllocError> {
     let bytes = Vec::from_slice(alloc, b"abcdefghijkl")?;
     let volume = Volume::from_bytes(Size { w: 4, h: 1, f: 1 }, 3, bytes);
-    let mut shelf = MemShelf::new(alloc);
-    let is_whole = write_p6(255, &volume, &mut shelf, "out").is_ok()
+    let is_whole = write_p6(255, &volume, shelf, "out").is_ok()
         && shelf.file("out") == Some(FOUR_BY_ONE);
     shelf.fail_at(Call::Add, "out", 8, 2)?;
-    let is_told = write_p6(255, &volume, &mut shelf, "out").is_err();
+    let is_told = write_p6(255, &volume, shelf, "out").is_err();
     let left = b"P6\n4 1\n255\nab".as_slice();
     Ok(is_whole && is_told && shelf.file("out") == Some(left))
+}
+
+fn is_written(alloc: Global) -> Result<bool, AllocError> {
+    let mut shelf = MemShelf::new(alloc);
+    writes_so(alloc, &mut shelf)
 }
 
 #[test]

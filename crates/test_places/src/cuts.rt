@@ -54,6 +54,17 @@ fn is_expected(
     Ok(are_places && solved.value == expected.value)
 }
 
+fn assert_expected(
+    rt: &impl Abort,
+    alloc: Global,
+    network: &Network,
+    places: &Places,
+    expected: &Expected,
+) -> Result<(), AllocError> {
+    assert!(rt; is_expected(alloc, network, places, expected)?);
+    Ok(())
+}
+
 // Asserts that the network of a placement is so.
 fn assert_is(
     rt: &impl Abort,
@@ -67,8 +78,22 @@ fn assert_is(
     requires { StandsOver canvas.now sample.now }
 {
     let (network, places) = network_of(rt, alloc, canvas, sample, placement, held)?;
-    assert!(rt; is_expected(alloc, &network, &places, expected)?);
-    Ok(())
+    assert_expected(rt, alloc, &network, &places, expected)
+}
+
+// The same of four cells from a column on, over a row of six whose first cells have these sources. (Each function owns one
+// value: each place where owned values end is long to prove.)
+fn assert_over(
+    rt: &impl Abort,
+    alloc: Global,
+    sample: &Volume,
+    sources: &[i32],
+    x: i32,
+    held: Option<&[bool]>,
+    expected: &Expected,
+) -> Result<(), AllocError> {
+    let canvas = row_of(rt, alloc, 6, sample, sources)?;
+    assert_is(rt, alloc, &canvas, sample, &row_at(x), held, expected)
 }
 
 const SECOND_HELD: Option<&[bool]> = Some(&[false, true, false, false]);
@@ -83,8 +108,7 @@ const ALL_NEW: Expected<'static> = Expected {
 // Every cell of the box is unfilled, and there is no pipe.
 fn assert_row_without_old_cells(rt: &impl Abort, alloc: Global) -> Result<(), AllocError> {
     let sample = greys(alloc)?;
-    let canvas = row_of(rt, alloc, 6, &sample, &[])?;
-    assert_is(rt, alloc, &canvas, &sample, &row_at(0), None, &ALL_NEW)
+    assert_over(rt, alloc, &sample, &[], 0, None, &ALL_NEW)
 }
 
 #[test]
@@ -110,17 +134,9 @@ const NONE_FREE: Expected<'static> = Expected {
 // new after it.
 fn assert_row_half_filled(rt: &impl Abort, alloc: Global) -> Result<(), AllocError> {
     let sample = greys(alloc)?;
-    let canvas = row_of(rt, alloc, 6, &sample, &[0, 1, 2, 3])?;
-    assert_is(rt, alloc, &canvas, &sample, &row_at(2), None, &ONE_FREE)?;
-    assert_is(
-        rt,
-        alloc,
-        &canvas,
-        &sample,
-        &row_at(2),
-        SECOND_HELD,
-        &NONE_FREE,
-    )
+    let sources = [0, 1, 2, 3];
+    assert_over(rt, alloc, &sample, &sources, 2, None, &ONE_FREE)?;
+    assert_over(rt, alloc, &sample, &sources, 2, SECOND_HELD, &NONE_FREE)
 }
 
 #[test]
@@ -138,8 +154,8 @@ const THREE_FREE: Expected<'static> = Expected {
 // The last cell of the box is kept, and its seam stays as it was.
 fn assert_row_filled(rt: &impl Abort, alloc: Global) -> Result<(), AllocError> {
     let sample = greys(alloc)?;
-    let canvas = row_of(rt, alloc, 6, &sample, &[0, 1, 2, 1, 2, 3])?;
-    assert_is(rt, alloc, &canvas, &sample, &row_at(0), None, &THREE_FREE)
+    let sources = [0, 1, 2, 1, 2, 3];
+    assert_over(rt, alloc, &sample, &sources, 0, None, &THREE_FREE)
 }
 
 #[test]

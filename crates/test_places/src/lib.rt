@@ -31,4 +31,6 @@ mod rounds;
 #[cfg(test)]
 mod rows;
 #[cfg(test)]
+mod steps;
+#[cfg(test)]
 mod tilings;

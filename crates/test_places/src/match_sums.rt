@@ -1,5 +1,6 @@
 // Worked examples of match_error.
 ghost use Rattle.cells.specs.Boxes.{HoldsBox};
+ghost use Rattle.map_canvas.specs.Canvases.{StandsOver};
 
 use crate::expect::expect_done;
 use crate::rows::{assert_fits, greys, row_at, row_of};
@@ -27,7 +28,50 @@ fn assert_count(
     Ok(())
 }
 
-// Of a row with these sources, what the box of four cells from the third on differs by.
+// Asserts the sum of a placement by the runs of the whole row.
+fn assert_sum_over_runs(
+    rt: &impl Abort,
+    alloc: Global,
+    canvas: &Canvas,
+    sample: &Volume,
+    sum: u64,
+) -> Result<(), AllocError>
+    requires { StandsOver canvas.now sample.now }
+{
+    let placement = row_at(2);
+    assert_fits(rt, canvas, sample, &placement);
+    let whole = Box3 {
+        corner: At { x: 0, y: 0, f: 0 },
+        size: canvas.map().size(),
+    };
+    let rows = FilledRows::gather(alloc, canvas, &whole)?;
+    let found = error_sum_within(Some(&rows), canvas, sample, &placement, 2400);
+    assert!(rt; found == Some(sum));
+    Ok(())
+}
+
+// What the box of four cells from the third on differs by.
+fn assert_error_over(
+    rt: &impl Abort,
+    alloc: Global,
+    canvas: &Canvas,
+    sample: &Volume,
+    error: Error,
+) -> Result<(), AllocError>
+    requires { StandsOver canvas.now sample.now }
+{
+    let placement = row_at(2);
+    let Error { sum, count } = error;
+    assert_fits(rt, canvas, sample, &placement);
+    assert_count(rt, alloc, canvas, &placement.rect, count)?;
+    let found = overlap_error(canvas, sample, &placement);
+    let within = error_sum_within(None, canvas, sample, &placement, 2400);
+    let below = error_sum_within(None, canvas, sample, &placement, 2399);
+    assert!(rt; found == error && within == Some(sum) && below.is_none() == (sum > 2399));
+    assert_sum_over_runs(rt, alloc, canvas, sample, sum)
+}
+
+// The same of a row with these sources.
 fn assert_error(
     rt: &impl Abort,
     alloc: Global,
@@ -36,19 +80,11 @@ fn assert_error(
     error: Error,
 ) -> Result<(), AllocError> {
     let canvas = row_of(rt, alloc, 6, sample, sources)?;
-    let placement = row_at(2);
-    let Error { sum, count } = error;
-    assert_fits(rt, &canvas, sample, &placement);
-    assert_count(rt, alloc, &canvas, &placement.rect, count)?;
-    let found = overlap_error(&canvas, sample, &placement);
-    let within = error_sum_within(None, &canvas, sample, &placement, 2400);
-    let below = error_sum_within(None, &canvas, sample, &placement, 2399);
-    assert!(rt; found == error && within == Some(sum) && below.is_none() == (sum > 2399));
-    Ok(())
+    assert_error_over(rt, alloc, &canvas, sample, error)
 }
 
 // Over an empty row, and over one of which two cells of the box are filled, with 30 and 40 where the sample
-// has 10 and 20.
+// has 10 and 20. Of the runs of that row the box has the last two cells.
 fn assert_errors_of_a_row(rt: &impl Abort, alloc: Global) -> Result<(), AllocError> {
     let sample = greys(alloc)?;
     let two = Error {
@@ -62,27 +98,6 @@ fn assert_errors_of_a_row(rt: &impl Abort, alloc: Global) -> Result<(), AllocErr
 #[test]
 fn errors_of_a_row(rt: HostRuntime) {
     expect_done(&rt, assert_errors_of_a_row(&rt, rt.alloc()));
-}
-
-// Over the second of these rows, by the runs of the whole row: the box has the last two of their cells.
-fn assert_error_over_runs(rt: &impl Abort, alloc: Global) -> Result<(), AllocError> {
-    let sample = greys(alloc)?;
-    let canvas = row_of(rt, alloc, 6, &sample, &[0, 1, 2, 3])?;
-    let placement = row_at(2);
-    assert_fits(rt, &canvas, &sample, &placement);
-    let whole = Box3 {
-        corner: At { x: 0, y: 0, f: 0 },
-        size: canvas.map().size(),
-    };
-    let rows = FilledRows::gather(alloc, &canvas, &whole)?;
-    let sum = error_sum_within(Some(&rows), &canvas, &sample, &placement, 2400);
-    assert!(rt; sum == Some(2400));
-    Ok(())
-}
-
-#[test]
-fn error_over_runs(rt: HostRuntime) {
-    expect_done(&rt, assert_error_over_runs(&rt, rt.alloc()));
 }
 
 // A tolerance, an error, and whether it is within that of the best one, whose sum is 2400 over 2 cells.

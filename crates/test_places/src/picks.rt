@@ -1,6 +1,5 @@
-// Worked examples of patch_picks and patch_place: the lists of small samples and outputs, and picks and steps
-// over a row.
-ghost use Rattle.std.specs.Prelude.{◌≡◌, ◌<◌, ◌+◌, All, IfOk, IsTrue};
+// Worked examples of patch_picks and patch_place: the lists of small samples and outputs, and picks over a row.
+ghost use Rattle.std.specs.Prelude.{◌≡◌, ◌<◌, ◌+◌, All, IfOk};
 ghost use Rattle.cells.specs.Cells.{blank};
 ghost use Rattle.cells.specs.Places.{IsInside, IsSmall, cell_count};
 ghost use Rattle.map_canvas.specs.Canvases.{StandsOver};
@@ -9,13 +8,12 @@ ghost use Rattle.patch_picks.specs.Lists.{IsWithin};
 ghost use Rattle.patch_picks.specs.Picks.{AllFit, HasEntries, listed_on};
 
 use crate::expect::expect_done;
-use crate::rows::{assert_fits, greys, row_of, two_parts};
-use cells::{At, Box3, PartPlace, Size, Volume};
-use costs::total;
-use graph_place::place;
+use crate::rows::{greys, row_of};
+use crate::steps::{PATCH, step_at};
+use cells::{At, Box3, Size, Volume};
 use map_canvas::{Canvas, Placement};
 use patch_picks::{Candidates, Draws, Mode, window_size};
-use patch_place::{next_placement, pick};
+use patch_place::pick;
 use std::alloc::{AllocError, Global};
 use std::process::Abort;
 
@@ -92,12 +90,6 @@ fn expect_listings(rt: &impl Abort, table: &[Listing], output: Size, sample: &Vo
 }
 
 const WHOLE: Mode = Mode::Whole { tol: 30 };
-
-const PATCH: Mode = Mode::Sub {
-    side: 2,
-    overlap: 1,
-    tol: 0,
-};
 
 const AT_THE_FIRST: &[Row] = &[((0, 0), (3, 2), (0, 0, 0)), ((0, 0), (2, 2), (1, 0, 0))];
 
@@ -277,29 +269,6 @@ fn lists_of_frames(rt: HostRuntime) {
     expect_done(&rt, assert_lists_of_frames(&rt, rt.alloc()));
 }
 
-// The next placement over a row by the draw of a number, as its corner, its length and its column of the
-// sample; and the number of the draw after it.
-type Step = ((i32, u32, i32), u64);
-
-fn step_at(
-    alloc: Global,
-    mode: &Mode,
-    canvas: &Canvas,
-    sample: &Volume,
-    number: u64,
-) -> Result<(Option<(i32, u32, i32)>, u64), AllocError>
-    requires over { StandsOver canvas.now sample.now }
-    requires patch { HasPatch mode.now }
-{
-    let mut draws = Draws::from_seed(0);
-    draws.go_to(number);
-    let next = next_placement(alloc, mode, canvas, sample, &mut draws)?;
-    Ok((
-        next.map(|p| (p.rect.corner.x, p.rect.size.w, p.from.x)),
-        draws.place(),
-    ))
-}
-
 // What is picked of the candidates for the first unfilled cell by the draw of a number, as its column of the sample.
 fn picked_at(
     alloc: Global,
@@ -426,161 +395,4 @@ fn assert_picks_within_a_tolerance(rt: &impl Abort, alloc: Global) -> Result<(),
 #[test]
 fn picks_within_a_tolerance(rt: HostRuntime) {
     expect_done(&rt, assert_picks_within_a_tolerance(&rt, rt.alloc()));
-}
-
-const BROAD: Mode = Mode::Sub {
-    side: 3,
-    overlap: 2,
-    tol: 0,
-};
-
-// A mode, the number of a draw, and the steps on an empty row and on one of 20 and 10.
-//
-// The draws of numbers 0 and 1 are 0 and 1 of 2; the draw of number 2^64 - 1 is 1 of 2, and number 0 comes after
-// it. On the row of 20 and 10 the sample laid from cell 2 on covers no filled cell, so mode `Whole` always lays
-// it from cell 1 on.
-const STEPS: &[(Mode, u64, Step, Step)] = &[
-    (Mode::Grid { overlap: 1 }, 1, ((0, 4, 0), 1), ((0, 4, 0), 1)),
-    (Mode::Random, 1, ((0, 3, 1), 2), ((1, 4, 0), 2)),
-    (Mode::Whole { tol: 0 }, 1, ((0, 3, 1), 2), ((1, 4, 0), 2)),
-    (Mode::Whole { tol: 0 }, 0, ((0, 4, 0), 1), ((1, 4, 0), 1)),
-    (BROAD, 1, ((0, 3, 1), 2), ((0, 3, 0), 2)),
-    (BROAD, u64::MAX, ((0, 3, 1), 0), ((0, 3, 0), 0)),
-];
-
-fn expect_steps(
-    rt: &impl Abort,
-    alloc: Global,
-    empty: &Canvas,
-    begun: &Canvas,
-    sample: &Volume,
-) -> Result<(), AllocError>
-    requires empty { StandsOver empty.now sample.now }
-    requires begun { StandsOver begun.now sample.now }
-{
-    for (mode, number, on_empty, on_begun) in STEPS.iter() {
-        expect_step(rt, alloc, mode, *number, empty, sample, on_empty)?;
-        expect_step(rt, alloc, mode, *number, begun, sample, on_begun)?;
-    }
-    Ok(())
-}
-
-fn assert_steps_of_each_mode(rt: &impl Abort, alloc: Global) -> Result<(), AllocError> {
-    let sample = greys(alloc)?;
-    let empty = row_of(rt, alloc, 6, &sample, &[])?;
-    let begun = row_of(rt, alloc, 6, &sample, &[1, 0])?;
-    expect_steps(rt, alloc, &empty, &begun, &sample)
-}
-
-#[test]
-fn steps_of_each_mode(rt: HostRuntime) {
-    expect_done(&rt, assert_steps_of_each_mode(&rt, rt.alloc()));
-}
-
-// Asserts the step of a mode by the draw of a number.
-fn expect_step(
-    rt: &impl Abort,
-    alloc: Global,
-    mode: &Mode,
-    number: u64,
-    canvas: &Canvas,
-    sample: &Volume,
-    expected: &Step,
-) -> Result<(), AllocError>
-    requires { StandsOver canvas.now sample.now }
-{
-    assert!(rt; has_patch(mode));
-    let step = step_at(alloc, mode, canvas, sample, number)?;
-    assert!(rt; step == (Some(expected.0), expected.1), "{mode:?}");
-    Ok(())
-}
-
-// Whether the patches that a mode takes have a cell.
-fn has_patch(mode: &Mode) -> bool
-    ensures { IsTrue result → HasPatch mode.now }
-{
-    match mode {
-        Mode::Grid { .. } | Mode::Random | Mode::Whole { .. } => true,
-        Mode::Sub { side, .. } => *side > 0,
-    }
-}
-
-fn assert_no_step_on_a_full_row(rt: &impl Abort, alloc: Global) -> Result<(), AllocError> {
-    let sample = greys(alloc)?;
-    let canvas = row_of(rt, alloc, 6, &sample, &[1, 0, 0, 0, 3, 2])?;
-    let step = step_at(alloc, &Mode::Random, &canvas, &sample, 9)?;
-    assert!(rt; step == (None, 9));
-    Ok(())
-}
-
-#[test]
-fn no_step_on_a_full_row(rt: HostRuntime) {
-    expect_done(&rt, assert_no_step_on_a_full_row(&rt, rt.alloc()));
-}
-
-// The next placement by the draw of a number.
-fn next_by(
-    alloc: Global,
-    canvas: &Canvas,
-    sample: &Volume,
-    number: u64,
-) -> Result<Option<Placement>, AllocError>
-    requires { StandsOver canvas.now sample.now }
-{
-    let mut draws = Draws::from_seed(0);
-    draws.go_to(number);
-    next_placement(alloc, &PATCH, canvas, sample, &mut draws)
-}
-
-// Puts a placement in, and asserts that the third cell comes from the second cell of the second part.
-fn assert_of_second(
-    rt: &impl Abort,
-    alloc: Global,
-    canvas: &mut Canvas,
-    sample: &Volume,
-    placement: Placement,
-) -> Result<(), AllocError>
-    requires { StandsOver canvas.old sample.now }
-{
-    assert_fits(rt, canvas, sample, &placement);
-    place(alloc, canvas, sample, placement)?;
-    let from = canvas.map().at(At { x: 2, y: 0, f: 0 });
-    let part = from.and_then(|from| sample.sizes().part_of(from));
-    let at = At { x: 1, y: 0, f: 0 };
-    assert!(rt; part == Some(PartPlace { part: 2, at }));
-    Ok(())
-}
-
-// Two parts of 2x1, of the greys 10 and 20 and of 20 and 30. Cells 0 and 1 of three are from the first part; the
-// patch of the second one has 20 on cell 1 too.
-fn expect_second_part(
-    rt: &impl Abort,
-    alloc: Global,
-    sample: &Volume,
-    number: u64,
-) -> Result<(), AllocError> {
-    let mut canvas = row_of(rt, alloc, 3, sample, &[0, 1])?;
-    let next = next_by(alloc, &canvas, sample, number)?;
-    let second = picture(&((1, 0), (2, 1), (0, 0, 2)));
-    assert!(rt; next == Some(second));
-    assert_of_second(rt, alloc, &mut canvas, sample, second)?;
-    assert!(rt; total(&canvas, sample) == 765);
-    Ok(())
-}
-
-fn expect_second_parts(rt: &impl Abort, alloc: Global, sample: &Volume) -> Result<(), AllocError> {
-    for number in 0..8 {
-        expect_second_part(rt, alloc, sample, number)?;
-    }
-    Ok(())
-}
-
-fn assert_a_patch_of_the_second_part(rt: &impl Abort, alloc: Global) -> Result<(), AllocError> {
-    let sample = two_parts(alloc)?;
-    expect_second_parts(rt, alloc, &sample)
-}
-
-#[test]
-fn a_patch_of_the_second_part(rt: HostRuntime) {
-    expect_done(&rt, assert_a_patch_of_the_second_part(&rt, rt.alloc()));
 }

@@ -93,6 +93,7 @@ fn lay_steps(
     'steps: for (x, choice, flows, sum) in STEPS.iter() {
         assert_placed(rt, alloc, canvas, sample, row_at(*x), *choice, *flows, *sum)?;
     }
+    assert!(rt; has_columns(canvas.map(), &[0, 1, 2, 1, 2, 3]));
     Ok(())
 }
 
@@ -114,12 +115,14 @@ fn has_columns(map: &Map, columns: &[i32]) -> bool {
     true
 }
 
+fn assert_rows_over(rt: &impl Abort, alloc: Global, sample: &Volume) -> Result<(), AllocError> {
+    let mut canvas = row_of(rt, alloc, 6, sample, &[])?;
+    lay_steps(rt, alloc, &mut canvas, sample)
+}
+
 fn assert_rows_of_greys(rt: &impl Abort, alloc: Global) -> Result<(), AllocError> {
     let sample = greys(alloc)?;
-    let mut canvas = row_of(rt, alloc, 6, &sample, &[])?;
-    lay_steps(rt, alloc, &mut canvas, &sample)?;
-    assert!(rt; has_columns(canvas.map(), &[0, 1, 2, 1, 2, 3]));
-    Ok(())
+    assert_rows_over(rt, alloc, &sample)
 }
 
 #[test]
@@ -150,18 +153,19 @@ fn place_over_held(
     assert_fits(rt, canvas, sample, &placement);
     assert!(rt; are_marks(canvas, &placement, held));
     let cut = place_held(alloc, canvas, sample, placement, held)?;
-    assert!(rt; is_held(&cut));
+    assert!(rt; is_held(&cut) && window(canvas, sample, &placement.rect) == 825);
     Ok(())
+}
+
+fn assert_held_over(rt: &impl Abort, alloc: Global, sample: &Volume) -> Result<(), AllocError> {
+    let mut canvas = row_of(rt, alloc, 6, sample, &[0, 1, 2, 3])?;
+    place_over_held(rt, alloc, &mut canvas, sample, row_at(2))
 }
 
 // With its second cell held, two cells of the box stay old; what comes to the one goes on to the other.
 fn assert_row_with_a_held_cell(rt: &impl Abort, alloc: Global) -> Result<(), AllocError> {
     let sample = greys(alloc)?;
-    let mut canvas = row_of(rt, alloc, 6, &sample, &[0, 1, 2, 3])?;
-    let placement = row_at(2);
-    place_over_held(rt, alloc, &mut canvas, &sample, placement)?;
-    assert!(rt; window(&canvas, &sample, &placement.rect) == 825);
-    Ok(())
+    assert_held_over(rt, alloc, &sample)
 }
 
 #[test]
@@ -169,15 +173,13 @@ fn row_with_a_held_cell(rt: HostRuntime) {
     expect_done(&rt, assert_row_with_a_held_cell(&rt, rt.alloc()));
 }
 
-// A box of two rows with one kept cell: what leaves it along X and along Y.
-fn assert_flows_of_two_axes(rt: &impl Abort, alloc: Global) -> Result<(), AllocError> {
-    let bytes = Vec::from_slice(alloc, &[0, 10, 50, 30, 70, 100])?;
-    let size = Size { w: 3, h: 2, f: 1 };
-    let sample = Volume::from_bytes(size, 1, bytes);
-    let mut canvas = canvas_over(alloc, size, &sample)?;
-    put(rt, &mut canvas, &sample, FIRST, At { x: 1, y: 1, f: 0 });
+const SIX: Size = Size { w: 3, h: 2, f: 1 };
+
+fn assert_two_axes_over(rt: &impl Abort, alloc: Global, sample: &Volume) -> Result<(), AllocError> {
+    let mut canvas = canvas_over(alloc, SIX, sample)?;
+    put(rt, &mut canvas, sample, FIRST, At { x: 1, y: 1, f: 0 });
     let second = At { x: 1, y: 0, f: 0 };
-    put(rt, &mut canvas, &sample, second, At { x: 2, y: 0, f: 0 });
+    put(rt, &mut canvas, sample, second, At { x: 2, y: 0, f: 0 });
     let placement = Placement {
         rect: Box3 {
             corner: second,
@@ -189,7 +191,7 @@ fn assert_flows_of_two_axes(rt: &impl Abort, alloc: Global) -> Result<(), AllocE
         rt,
         alloc,
         &mut canvas,
-        &sample,
+        sample,
         placement,
         &[false, true, true, true],
         &[flow(305, 0), flow(120, 0), flow(0, 0), flow(0, 0)],
@@ -197,25 +199,33 @@ fn assert_flows_of_two_axes(rt: &impl Abort, alloc: Global) -> Result<(), AllocE
     )
 }
 
+// A box of two rows with one kept cell: what leaves it along X and along Y.
+fn assert_flows_of_two_axes(rt: &impl Abort, alloc: Global) -> Result<(), AllocError> {
+    let bytes = Vec::from_slice(alloc, &[0, 10, 50, 30, 70, 100])?;
+    let sample = Volume::from_bytes(SIX, 1, bytes);
+    assert_two_axes_over(rt, alloc, &sample)
+}
+
 #[test]
 fn flows_of_two_axes(rt: HostRuntime) {
     expect_done(&rt, assert_flows_of_two_axes(&rt, rt.alloc()));
 }
 
-// A box of two cells on each axis whose last cell is kept: what leaves it along F, Y and X, by the numbers 7,
-// 10 and 11 of these pairs.
-fn assert_flows_of_three_axes(rt: &impl Abort, alloc: Global) -> Result<(), AllocError> {
-    let bytes = Vec::from_slice(alloc, &[0, 10, 30, 70, 150, 200, 90, 255])?;
-    let cube = Size { w: 2, h: 2, f: 2 };
-    let sample = Volume::from_bytes(cube, 1, bytes);
-    let mut canvas = canvas_over(alloc, Size { w: 3, h: 2, f: 2 }, &sample)?;
-    put(rt, &mut canvas, &sample, At { x: 2, y: 1, f: 1 }, FIRST);
+const CUBE: Size = Size { w: 2, h: 2, f: 2 };
+
+fn assert_three_axes_over(
+    rt: &impl Abort,
+    alloc: Global,
+    sample: &Volume,
+) -> Result<(), AllocError> {
+    let mut canvas = canvas_over(alloc, Size { w: 3, h: 2, f: 2 }, sample)?;
+    put(rt, &mut canvas, sample, At { x: 2, y: 1, f: 1 }, FIRST);
     let last = At { x: 1, y: 1, f: 1 };
-    put(rt, &mut canvas, &sample, last, At { x: 0, y: 1, f: 1 });
+    put(rt, &mut canvas, sample, last, At { x: 0, y: 1, f: 1 });
     let placement = Placement {
         rect: Box3 {
             corner: FIRST,
-            size: cube,
+            size: CUBE,
         },
         from: FIRST,
     };
@@ -228,12 +238,20 @@ fn assert_flows_of_three_axes(rt: &impl Abort, alloc: Global) -> Result<(), Allo
         rt,
         alloc,
         &mut canvas,
-        &sample,
+        sample,
         placement,
         &choice,
         &flows,
         840,
     )
+}
+
+// A box of two cells on each axis whose last cell is kept: what leaves it along F, Y and X, by the numbers 7,
+// 10 and 11 of these pairs.
+fn assert_flows_of_three_axes(rt: &impl Abort, alloc: Global) -> Result<(), AllocError> {
+    let bytes = Vec::from_slice(alloc, &[0, 10, 30, 70, 150, 200, 90, 255])?;
+    let sample = Volume::from_bytes(CUBE, 1, bytes);
+    assert_three_axes_over(rt, alloc, &sample)
 }
 
 #[test]

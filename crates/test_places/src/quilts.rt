@@ -1,5 +1,5 @@
 // Worked examples of whole quilted runs over a row of four cells.
-ghost use Rattle.std.specs.Prelude.{◌≤◌};
+ghost use Rattle.std.specs.Prelude.{◌≡◌, ◌≤◌, []};
 ghost use Rattle.block_strips.specs.Laid.{IsLaidByBlocks};
 ghost use Rattle.quilted.specs.Runs.{HaveOneFrame};
 
@@ -33,14 +33,18 @@ fn assert_columns(rt: &impl Abort, canvas: &Canvas, columns: &[i32]) {
 // What is reported of a quilt: how many blocks and boundaries it has, and what these cost.
 type Report = (usize, u64, u64);
 
-// A quilt of a row of so many cells.
-fn quilted_row(
+// A quilt of a row of so many cells over a sample of one row.
+fn quilted_over(
     rt: &impl Abort,
     alloc: Global,
     plan: QuiltPlan,
     w: usize,
+    sample: &Volume,
 ) -> Result<Quilted, AllocError>
-    requires { 1 ≤ plan.block }
+    requires block { 1 ≤ plan.block }
+    requires samples { sample.now.k ≡ 3 }
+    requires part { sample.now.more ≡ [] }
+    requires frame { sample.now.size.f ≡ 1 }
 {
     assert!(rt; 1 <= w && w < 100);
     let size = Size {
@@ -49,12 +53,23 @@ fn quilted_row(
         f: 1,
     };
     let seed = 0;
+    let sums = SampleSums::make(alloc, sample)?;
+    match quilt_by(alloc, &QuiltRun { size, plan, seed }, sample, &sums) {
+        Ok(quilted) => Ok(quilted),
+        Err(_) => Err(AllocError),
+    }
+}
+
+fn quilted_row(
+    rt: &impl Abort,
+    alloc: Global,
+    plan: QuiltPlan,
+    w: usize,
+) -> Result<Quilted, AllocError>
+    requires { 1 ≤ plan.block }
+{
     let sample = greys(alloc)?;
-    let sums = SampleSums::make(alloc, &sample)?;
-    let Ok(quilted) = quilt_by(alloc, &QuiltRun { size, plan, seed }, &sample, &sums) else {
-        return Err(AllocError);
-    };
-    Ok(quilted)
+    quilted_over(rt, alloc, plan, w, &sample)
 }
 
 // Sees which columns of the sample the cells of such a quilt have, and what is reported of it.

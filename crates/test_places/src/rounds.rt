@@ -28,12 +28,16 @@ fn assert_round(
     Ok(())
 }
 
+fn assert_round_over(rt: &impl Abort, alloc: Global, sample: &Volume) -> Result<(), AllocError> {
+    let mut canvas = row_of(rt, alloc, 6, sample, &[0, 1, 2, 1, 2, 3])?;
+    assert_round(rt, alloc, &mut canvas, sample)
+}
+
 // A row of two copies that overlap by two cells. Its first window is laid again by one draw: nothing but the sample's
 // own place fits, and what it leaves costs no less.
 fn assert_one_round(rt: &impl Abort, alloc: Global) -> Result<(), AllocError> {
     let sample = greys(alloc)?;
-    let mut canvas = row_of(rt, alloc, 6, &sample, &[0, 1, 2, 1, 2, 3])?;
-    assert_round(rt, alloc, &mut canvas, &sample)
+    assert_round_over(rt, alloc, &sample)
 }
 
 #[test]

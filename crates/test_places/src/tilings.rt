@@ -70,16 +70,6 @@ fn assert_steps(
     assert!(rt; second == Some((0, 2, 0)));
     let third = next_of_row(rt, alloc, &GREEDY, canvas, sample, &mut draws)?;
     assert!(rt; third == None && draws.place() == 2);
-    Ok(())
-}
-
-// Over two greys the first patch has the cells 2 and 0 of a row of three, and the second the cells 0 and 1, of
-// which the first is kept. Then the row is full, and stays as it is.
-fn assert_row_over(rt: &impl Abort, alloc: Global, sample: &Volume) -> Result<(), AllocError>
-    requires { IsOnePart sample.now }
-{
-    let mut canvas = canvas_over(alloc, Size { w: 3, h: 1, f: 1 }, sample)?;
-    assert_steps(rt, alloc, &mut canvas, sample)?;
     assert!(rt;
         canvas
             .map()
@@ -89,6 +79,15 @@ fn assert_row_over(rt: &impl Abort, alloc: Global, sample: &Volume) -> Result<()
             .eq([Some(1), Some(1), Some(0)])
     );
     Ok(())
+}
+
+// Over two greys the first patch has the cells 2 and 0 of a row of three, and the second the cells 0 and 1, of
+// which the first is kept. Then the row is full, and stays as it is.
+fn assert_row_over(rt: &impl Abort, alloc: Global, sample: &Volume) -> Result<(), AllocError>
+    requires { IsOnePart sample.now }
+{
+    let mut canvas = canvas_over(alloc, Size { w: 3, h: 1, f: 1 }, sample)?;
+    assert_steps(rt, alloc, &mut canvas, sample)
 }
 
 fn assert_row_of_three(rt: &impl Abort, alloc: Global) -> Result<(), AllocError> {
@@ -116,14 +115,26 @@ const LONG: Size = Size {
 };
 
 // A patch of the longest axis is cut to two cells less than a volume may have.
+fn assert_longest_on(
+    rt: &impl Abort,
+    alloc: Global,
+    canvas: &mut Canvas,
+    sample: &Volume,
+) -> Result<(), AllocError>
+    requires over { StandsOver canvas.old sample.now }
+    requires part { IsOnePart sample.now }
+{
+    let mut draws = Draws::from_seed(0);
+    let first = next_of_row(rt, alloc, &LONGEST, canvas, sample, &mut draws)?;
+    assert!(rt; first.map(|it| (it.0, it.1)) == Some((0, 4094)));
+    Ok(())
+}
+
 fn assert_longest_over(rt: &impl Abort, alloc: Global, sample: &Volume) -> Result<(), AllocError>
     requires { IsOnePart sample.now }
 {
     let mut canvas = canvas_over(alloc, LONG, sample)?;
-    let mut draws = Draws::from_seed(0);
-    let first = next_of_row(rt, alloc, &LONGEST, &mut canvas, sample, &mut draws)?;
-    assert!(rt; first.map(|it| (it.0, it.1)) == Some((0, 4094)));
-    Ok(())
+    assert_longest_on(rt, alloc, &mut canvas, sample)
 }
 
 fn assert_longest_row(rt: &impl Abort, alloc: Global) -> Result<(), AllocError> {
@@ -193,6 +204,26 @@ fn is_share(plain: u64, torus: u64, whole: u64, half: u64, cost: bool) -> bool
     plain <= torus && (plain < torus) == cost && is_share
 }
 
+// Lays an output twice, and asserts what share its plain total is of the output's two totals.
+fn assert_share(
+    rt: &impl Abort,
+    alloc: Global,
+    output: &Canvas,
+    sample: &Volume,
+    twice: Size,
+    totals: (u64, u64),
+    half: u64,
+    cost: bool,
+) -> Result<(), AllocError>
+    requires twice { IsSmall twice }
+    requires half { 1 ≤ half }
+{
+    let laid = laid_twice(rt, alloc, output, sample, twice)?;
+    let whole = total(&laid, sample);
+    assert!(rt; is_share(totals.0, totals.1, whole, half, cost));
+    Ok(())
+}
+
 // Tiles an output and lays it twice along each axis on which its edges meet. Each edge lies between two copies as
 // often as half the copies are, so that the plain total of what is laid is that share of the copies' plain totals
 // and torus totals together. `cost` says whether these edges cost something.
@@ -214,9 +245,7 @@ fn assert_twice(
     let output = &tiled.canvas;
     let plain = total(output, sample);
     let torus = torus_total(output, sample, &plan.tile.wrap);
-    let laid = laid_twice(rt, alloc, output, sample, twice)?;
-    assert!(rt; is_share(plain, torus, total(&laid, sample), half, cost));
-    Ok(())
+    assert_share(rt, alloc, output, sample, twice, (plain, torus), half, cost)
 }
 
 const ROW: RunPlan = RunPlan {

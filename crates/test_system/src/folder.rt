@@ -1,6 +1,5 @@
 // A folder of the system, and the files in it.
 use std::alloc::Global;
-use std::fs::OpenOptions;
 use std::test::Fail;
 use std::{env, fs, process};
 
@@ -26,42 +25,32 @@ pub fn put(rt: &HostRuntime, folder: &str, name: &str, bytes: &[u8]) -> Result<(
     Ok(())
 }
 
+/// Whether the file of a path has these bytes.
+pub fn has_bytes(rt: &HostRuntime, path: &str, wanted: &[u8]) -> bool {
+    match fs::read(rt, path) {
+        Ok(bytes) => bytes.as_slice() == wanted,
+        Err(_) => false,
+    }
+}
+
 /// Whether the file of that name has these bytes.
 pub fn holds(rt: &HostRuntime, folder: &str, name: &str, wanted: &[u8]) -> Result<bool, Fail> {
     let path = path_of(rt.alloc(), folder, name)?;
-    match fs::read(rt, path.as_str()) {
-        Ok(bytes) => Ok(bytes.as_slice() == wanted),
-        Err(_) => Ok(false),
+    Ok(has_bytes(rt, path.as_str(), wanted))
+}
+
+/// Whether all files of these names have these bytes.
+pub fn hold(rt: &HostRuntime, folder: &str, files: &[(&str, &[u8])]) -> Result<bool, Fail> {
+    for (name, bytes) in files {
+        if !holds(rt, folder, name, bytes)? {
+            return Ok(false);
+        }
     }
+    Ok(true)
 }
 
 /// Whether there is a file of that name.
 pub fn is_there(rt: &HostRuntime, folder: &str, name: &str) -> Result<bool, Fail> {
     let path = path_of(rt.alloc(), folder, name)?;
     Ok(fs::read(rt, path.as_str()).is_ok())
-}
-
-/// Removes the file of that name.
-pub fn remove(rt: &HostRuntime, folder: &str, name: &str) -> Result<(), Fail> {
-    let path = path_of(rt.alloc(), folder, name)?;
-    fs::remove_file(rt, path.as_str())?;
-    Ok(())
-}
-
-/// Drops all bytes of the file of that name.
-pub fn cut(rt: &HostRuntime, folder: &str, name: &str) -> Result<(), Fail> {
-    let path = path_of(rt.alloc(), folder, name)?;
-    let _cut = OpenOptions::new()
-        .write(true)
-        .truncate(true)
-        .open(rt, path.as_str())?;
-    Ok(())
-}
-
-/// Gives a file another name.
-pub fn rename(rt: &HostRuntime, folder: &str, name: &str, other: &str) -> Result<(), Fail> {
-    let path = path_of(rt.alloc(), folder, name)?;
-    let other = path_of(rt.alloc(), folder, other)?;
-    fs::rename(rt, path.as_str(), other.as_str())?;
-    Ok(())
 }

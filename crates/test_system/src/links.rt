@@ -1,6 +1,6 @@
 // That no file is begun that another name of the run leads to.
 use crate::expect::expect_true;
-use crate::folder::{holds, new_folder, path_of, put};
+use crate::folder::{hold, holds, new_folder, path_of, put};
 use crate::runs::{MAP, Names, PICTURE, RECORD, SAMPLE, ran};
 use std::fs;
 use std::os::unix::fs::symlink;
@@ -74,7 +74,7 @@ fn make_links(rt: &HostRuntime, folder: &str) -> Result<(), Fail> {
 // Whether a file that isn't of this run is replaced, whatever leads to it.
 fn replaces_another(rt: &HostRuntime, folder: &str) -> Result<bool, Fail> {
     let status = ran(rt, folder, ("s", "here/later", "here/m", "r"))?;
-    let written = holds(rt, folder, "later", PICTURE)? && holds(rt, folder, "m", MAP)?;
+    let written = hold(rt, folder, &[("later", PICTURE), ("m", MAP)])?;
     Ok(status == 0 && written)
 }
 

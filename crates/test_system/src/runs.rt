@@ -1,6 +1,6 @@
 // Whole runs over files of the system.
 use crate::expect::expect_true;
-use crate::folder::{holds, is_there, new_folder, put};
+use crate::folder::{hold, is_there, new_folder, put};
 use job_words::Words;
 use std::alloc::{AllocError, Global};
 use std::fs;
@@ -96,29 +96,33 @@ pub fn ran(rt: &HostRuntime, folder: &str, names: Names<'_>) -> Result<u8, Fail>
     status_of(rt, &words)
 }
 
-// Whether runs end with their faults: a sample that isn't there, and a picture in a folder that isn't there.
-fn ends_with_faults(rt: &HostRuntime, folder: &str) -> Result<bool, Fail> {
-    let unread = ran(rt, folder, ("none", "o", "m", "r"))?;
-    let unwritten = ran(rt, folder, ("s", "none/o", "m", "r"))?;
-    Ok(unread == 5 && unwritten == 6 && !is_there(rt, folder, "m")?)
+// A sample that isn't there, and a picture in a folder that isn't there, with the status of the run.
+const FAULTS: &[(Names<'static>, u8)] = &[
+    (("none", "o", "m", "r"), 5),
+    (("s", "none/o", "m", "r"), 6),
+];
+
+// Whether runs end with these faults, and write no map.
+fn end_with_faults(rt: &HostRuntime, folder: &str) -> Result<bool, Fail> {
+    for (names, status) in FAULTS {
+        if ran(rt, folder, *names)? != *status {
+            return Ok(false);
+        }
+    }
+    Ok(!is_there(rt, folder, "m")?)
 }
 
-// Whether the files of a run hold what it is to write, and its sample what it held.
-fn is_written(rt: &HostRuntime, folder: &str) -> Result<bool, Fail> {
-    let picture = holds(rt, folder, "o", PICTURE)?;
-    let map = holds(rt, folder, "m", MAP)?;
-    let record = holds(rt, folder, "r", RECORD)?;
-    Ok(picture && map && record && holds(rt, folder, "s", SAMPLE)?)
-}
+// What the files of a run hold once it has ended.
+const WRITTEN: &[(&str, &[u8])] = &[("o", PICTURE), ("m", MAP), ("r", RECORD), ("s", SAMPLE)];
 
 fn runs_over_files_in(rt: &HostRuntime, folder: &str) -> Result<bool, Fail> {
     put(rt, folder, "s", SAMPLE)?;
-    let faults = ends_with_faults(rt, folder)?;
+    let faults = end_with_faults(rt, folder)?;
 
     // A file that had more bytes than the picture has them no longer.
     put(rt, folder, "o", MAP)?;
     let status = ran(rt, folder, ("s", "o", "m", "r"))?;
-    let written = is_written(rt, folder)?;
+    let written = hold(rt, folder, WRITTEN)?;
     Ok(faults && status == 0 && written)
 }
 

@@ -6,7 +6,7 @@ use mathlib.Core.Bool.{false≢true}
 use Rattle.cells.specs.declared.place.At.{At}
 use Rattle.cells.specs.declared.place.Box3.{Box3}
 use Rattle.cells.specs.declared.place.Size.{Size}
-use Rattle.cells.specs.Boxes.{HasCells, IsInBox}
+use Rattle.cells.specs.Boxes.{HasCells, IsInBox, IsInOne}
 use Rattle.cells.specs.Cells.{Cells}
 use Rattle.cells.specs.Places.{HasAxes, IsInside, cell_count, place_of, spot}
 use Rattle.cells.proofs.Raster.{place_at}
@@ -17,7 +17,7 @@ use Rattle.map_canvas.proofs.EmptyAndFull.{map_at-empty}
 use Rattle.map_canvas.proofs.Fronts.{front_passes, front_stops}
 use Rattle.block_strips.specs.declared.plan.QuiltPlan.{QuiltPlan}
 use Rattle.block_strips.specs.Blocks.{FitsBlock, block_at, block_len, block_overlap, next_box, shared_on}
-use Rattle.block_strips.specs.Laid.{AreFirstBlocks, IsFirstPlaceWithout, IsInOne, IsLaidByBlocks, SharesStrips, StaysLaid}
+use Rattle.block_strips.specs.Laid.{AreFirstBlocks, IsFirstPlaceWithout, IsLaidByBlocks, SharesStrips, StaysLaid}
 use Rattle.block_strips.proofs.Along.{Reaches, corner_of, shared_of}
 use Rattle.block_strips.proofs.Boxes.{block_fits, grid_box, spot_inside, spot_of_index}
 use Rattle.block_strips.proofs.Fronts.{Front, Grid, IsGrid, first_is_next, front_box, front_more, front_none}

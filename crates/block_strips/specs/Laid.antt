@@ -3,18 +3,13 @@ use Rattle.std.specs.Prelude.{◌≡◌, ◌<◌, ◌⊎◌, ◌↔◌, ℕ, Lis
 use Rattle.cells.specs.declared.place.At.{At}
 use Rattle.cells.specs.declared.place.Box3.{Box3}
 use Rattle.cells.specs.declared.place.Size.{Size}
-use Rattle.cells.specs.Boxes.{IsInBox, cell_in}
+use Rattle.cells.specs.Boxes.{IsInBox, IsInOne, cell_in}
 use Rattle.cells.specs.Cells.{Cells}
 use Rattle.cells.specs.Places.{IsInside, cell_count, place_of}
 use Rattle.map_canvas.specs.Maps.{SourceMap, IsFilled, empty_map}
 use Rattle.block_strips.specs.declared.plan.QuiltPlan.{QuiltPlan}
 use Rattle.block_strips.specs.declared.side.Side.TheVariants.{Left, Top}
 use Rattle.block_strips.specs.Blocks.{block_at, shared_cols}
-
--- one of the boxes has the place
-abbrev pub IsInOne : List Box3 → At → Type 0
-IsInOne [] p = ⊥
-IsInOne (rect ∷ rects) p = IsInBox rect p ⊎ IsInOne rects p
 
 -- the first place in raster order without a property
 pub record IsFirstPlaceWithout (size : Size) (Holds : At → Type 0) (q : At) : Type 0 where

@@ -1,5 +1,5 @@
 -- What a reader has to trust: boxes inside a size. (Own.)
-use Rattle.std.specs.Prelude.{◌≤◌, ℕ, ℤ, pos, ◌+ℤ◌, ◌≤ℤ◌}
+use Rattle.std.specs.Prelude.{◌≤◌, ◌⊎◌, ◌∷◌, ℕ, ℤ, pos, ◌+ℤ◌, ◌≤ℤ◌, List, []}
 use Rattle.cells.specs.declared.place.At.{At}
 use Rattle.cells.specs.declared.place.Box3.{Box3}
 use Rattle.cells.specs.declared.place.Size.{Size}
@@ -33,3 +33,8 @@ IsInBox rect p = IsInside rect.size (minus p rect.corner)
 -- each place of the box is inside the size, as each of a box without cells is
 abbrev pub HoldsEach : Size → Box3 → Type 0
 HoldsEach size rect = (p : At) → IsInBox rect p → IsInside size p
+
+-- one of the boxes has the place
+abbrev pub IsInOne : List Box3 → At → Type 0
+IsInOne [] p = ⊥
+IsInOne (rect ∷ rects) p = IsInBox rect p ⊎ IsInOne rects p

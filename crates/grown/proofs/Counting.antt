@@ -3,6 +3,7 @@
 use Rattle.std.proofs.Common.{◌≡◌, ◌⊎◌, ℕ, ◌+◌, ◌-◌, ◌*◌, ◌<◌, ◌≤◌, List, [], ◌∷◌, min, refl, ap, sym, ◌∙◌, subst, arith, inl, inr, ⊎_elim}
 use Rattle.std.proofs.lemmas.Bool.{cases_lt}
 use Rattle.std.specs.Prelude.{Option, Some}
+use Rattle.cells.specs.Boxes.{IsInOne}
 use Rattle.cells.specs.declared.place.At.{At}
 use Rattle.cells.specs.declared.place.Box3.{Box3}
 use Rattle.cells.specs.declared.place.Size.{Size}
@@ -17,7 +18,7 @@ use Rattle.least_choice.proofs.Digits.{lex, lex_less}
 use Rattle.grown.specs.declared.limit.Boxes.{Boxes}
 use Rattle.grown.specs.declared.limit.Kind.{Kind}
 use Rattle.grown.specs.declared.limit.Kind.TheVariants.{Copies, Patches}
-use Rattle.grown.specs.BoxLimit.{AreFirstBoxes, BoxesPassAt, IsBoxAfter, IsInOne, cells_of_boxes}
+use Rattle.grown.specs.BoxLimit.{AreFirstBoxes, BoxesPassAt, IsBoxAfter, cells_of_boxes}
 use Rattle.grown.specs.Counted.{AreBoxes, HasLen, HasLens, box_at, span_on}
 use Rattle.grown.proofs.FirstBoxes.{whole_within}
 use Rattle.grown.proofs.Spots.{IsSpot, in_box, of_box, spot_at}

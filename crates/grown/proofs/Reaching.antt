@@ -7,7 +7,7 @@ use Rattle.std.specs.Prelude.{◌↔◌, Option, Some, None, IsSome, is_none, is
 use Rattle.cells.specs.declared.place.At.{At}
 use Rattle.cells.specs.declared.place.Box3.{Box3}
 use Rattle.cells.specs.declared.place.Size.{Size}
-use Rattle.cells.specs.Boxes.{IsInBox}
+use Rattle.cells.specs.Boxes.{IsInBox, IsInOne}
 use Rattle.cells.specs.Cells.{Cells, IsVolume}
 use Rattle.cells.specs.Distances.{distance}
 use Rattle.cells.specs.Places.{IsInside, IsSmall, cell_count, place_of}
@@ -28,7 +28,7 @@ use Rattle.cut_check.specs.Records.{box_cells}
 use Rattle.cut_replay.proofs.RunLaws.{cells_more}
 use Rattle.limits.specs.declared.bounds.TheConstants.{MOST_BOX_CELLS}
 use Rattle.grown.specs.declared.plan.GrowPlan.{GrowPlan}
-use Rattle.grown.specs.BoxLimit.{AreFirstBoxes, IsBoxAfter, IsInOne, RunPassesThere, box_for, cells_of_boxes, plan_box}
+use Rattle.grown.specs.BoxLimit.{AreFirstBoxes, IsBoxAfter, RunPassesThere, box_for, cells_of_boxes, plan_box}
 use Rattle.grown.specs.Grown.{Growth, GrowsBy, IsRun, draws_left, first_growth, rounds_made}
 use Rattle.least_choice.proofs.LeastCuts.{least_cut, least_cut_count, least_cut_is}
 use Rattle.grown.proofs.SomePick.{NextInBox, next_in_box}

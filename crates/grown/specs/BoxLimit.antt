@@ -1,11 +1,11 @@
 -- A reader has to trust this file. How many cells the boxes of placements have, in the modes in
 -- which sizes alone say which box is laid for a cell. A placement fills its box, so the next box is
 -- that for the first cell outside those before it, whatever is picked. (Own.)
-use Rattle.std.specs.Prelude.{◌≡◌, ◌≤◌, ◌<◌, ◌+◌, ◌⊎◌, ℕ, List, [], ◌∷◌, Option, Some, None}
+use Rattle.std.specs.Prelude.{◌≡◌, ◌≤◌, ◌<◌, ◌+◌, ℕ, List, [], ◌∷◌, Option, Some, None}
 use Rattle.cells.specs.declared.place.At.{At}
 use Rattle.cells.specs.declared.place.Box3.{Box3}
 use Rattle.cells.specs.declared.place.Size.{Size}
-use Rattle.cells.specs.Boxes.{IsInBox}
+use Rattle.cells.specs.Boxes.{IsInBox, IsInOne}
 use Rattle.cells.specs.Cells.{Cells}
 use Rattle.cells.specs.Firsts.{IsFirstWithout}
 use Rattle.cells.specs.Places.{cell_count, place_of}
@@ -24,11 +24,6 @@ box_for (Grid overlap) output sample q =
 box_for Random output sample q = None
 box_for (Whole tol) output sample q = None
 box_for (Sub side overlap tol) output sample q = Some (patch_box output sample side overlap q)
-
--- one of the boxes has the place
-abbrev pub IsInOne : List Box3 → At → Type 0
-IsInOne [] p = ⊥
-IsInOne (rect ∷ rects) p = IsInBox rect p ⊎ IsInOne rects p
 
 -- how many cells boxes have, all together
 abbrev pub cells_of_boxes : List Box3 → ℕ

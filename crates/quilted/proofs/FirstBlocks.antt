@@ -1,13 +1,14 @@
 -- Of a number of blocks there is one list of the first blocks of a plan, so their limit is one number.
 use Rattle.std.proofs.Common.{◌≡◌, ℕ, ◌<◌, ◌≤◌, List, [], ◌∷◌, length, refl, ap, sym, ◌∙◌, subst, arith, ⊎_elim}
 use Rattle.std.proofs.lemmas.Bool.{cases_lt}
+use Rattle.cells.specs.Boxes.{IsInOne}
 use Rattle.cells.specs.declared.place.At.{At}
 use Rattle.cells.specs.declared.place.Box3.{Box3}
 use Rattle.cells.specs.declared.place.Size.{Size}
 use Rattle.cells.specs.Places.{place_of}
 use Rattle.block_strips.specs.declared.plan.QuiltPlan.{QuiltPlan}
 use Rattle.block_strips.specs.Blocks.{block_at}
-use Rattle.block_strips.specs.Laid.{AreFirstBlocks, IsBlockAfter, IsFirstPlaceWithout, IsInOne}
+use Rattle.block_strips.specs.Laid.{AreFirstBlocks, IsBlockAfter, IsFirstPlaceWithout}
 use Rattle.limits.specs.declared.bounds.TheConstants.{MOST_BOX_CELLS}
 use Rattle.quilted.specs.PlanLimit.{PlanPassesAt, PlanStaysWithin, box_cells}
 

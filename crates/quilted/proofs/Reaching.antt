@@ -6,7 +6,7 @@ use Rattle.std.specs.Prelude.{◌↔◌, All, Option, Some, None, IsSome, option
 use Rattle.cells.specs.declared.place.At.{At}
 use Rattle.cells.specs.declared.place.Box3.{Box3}
 use Rattle.cells.specs.declared.place.Size.{Size}
-use Rattle.cells.specs.Boxes.{IsInBox}
+use Rattle.cells.specs.Boxes.{IsInBox, IsInOne}
 use Rattle.cells.specs.Cells.{Cells, IsVolume}
 use Rattle.cells.specs.Places.{IsInside, cell_count, place_of}
 use Rattle.map_canvas.specs.declared.canvas.Placement.{Placement}
@@ -24,7 +24,7 @@ use Rattle.patch_picks.proofs.Counting.{All-each, All-slice_get, first_at}
 use Rattle.block_strips.specs.declared.plan.QuiltPlan.{QuiltPlan}
 use Rattle.block_strips.specs.declared.side.Side.TheVariants.{Left, Top}
 use Rattle.block_strips.specs.Blocks.{FitsBlock, block_at, next_box}
-use Rattle.block_strips.specs.Laid.{AreFirstBlocks, IsBlockAfter, IsFirstPlaceWithout, IsInOne, IsLaidByBlocks}
+use Rattle.block_strips.specs.Laid.{AreFirstBlocks, IsBlockAfter, IsFirstPlaceWithout, IsLaidByBlocks}
 use Rattle.block_strips.proofs.Laying.{first_is, next_fits}
 use Rattle.block_check.specs.declared.block.BlockRecord.{BlockRecord}
 use Rattle.block_check.specs.Blocks.{after_block, block_cells, new_cells}

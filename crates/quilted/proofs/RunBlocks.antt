@@ -1,6 +1,7 @@
 -- The blocks of a run are the first blocks of its plan, whatever rates their places.
 use Rattle.std.proofs.Common.{◌≡◌, ℕ, ◌+◌, ◌<◌, ◌≤◌, List, [], ◌∷◌, refl, ap, sym, ◌∙◌, subst, arith, inl, inr, ⊎_elim}
 use Rattle.std.specs.Prelude.{IsSome, Some}
+use Rattle.cells.specs.Boxes.{IsInOne}
 use Rattle.cells.specs.declared.place.At.{At}
 use Rattle.cells.specs.declared.place.Box3.{Box3}
 use Rattle.cells.specs.declared.place.Size.{Size}
@@ -11,7 +12,7 @@ use Rattle.map_canvas.specs.Maps.{IsFull, IsMap, SourceMap}
 use Rattle.map_canvas.proofs.MapsAfter.{after_is_map}
 use Rattle.block_strips.specs.declared.plan.QuiltPlan.{QuiltPlan}
 use Rattle.block_strips.specs.Blocks.{next_box}
-use Rattle.block_strips.specs.Laid.{IsBlockAfter, IsFirstPlaceWithout, IsInOne, IsLaidByBlocks}
+use Rattle.block_strips.specs.Laid.{IsBlockAfter, IsFirstPlaceWithout, IsLaidByBlocks}
 use Rattle.block_strips.proofs.Laying.{first_is, next_is}
 use Rattle.block_check.specs.declared.block.BlockRecord.{BlockRecord}
 use Rattle.block_check.specs.Blocks.{after_block, block_cells, new_cells}

@@ -19,7 +19,7 @@ use Rattle.file_bytes.proofs.ReadingLaws.{ahead_still, both}
 use Rattle.source_map.specs.declared.head.Version.TheVariants.{One}
 use Rattle.source_map.specs.MapFiles.{below_rule, no_size, place_read, source_read}
 use Rattle.source_map.specs.Readings.{◌>>=◌, list_read, number_read, number_rule}
-use Rattle.source_map.specs.Waiting.{AreSourcesIn, Grows, GrowsIn, PlaceWaits, ReadsMore}
+use Rattle.source_map.specs.Waiting.{AreSourcesIn, Extends, ExtendsIn, PlaceWaits, ReadsMore}
 use Rattle.source_map.proofs.FieldLaws.{field_whole, weaker}
 
 -- a part of a piece that is in the bytes
@@ -59,14 +59,14 @@ place_waits size waiting i x y f le x_small y_small f_small x_below y_below f_be
     ∙ ap (λ (k : ℕ). Ok (spot x y f, k)) end
 
 -- no value more
-pub grows_none : {A : Type 0} (read : ℕ → List ℕ → Result (A × ℕ) ReadError) (waiting : List ℕ) (front : List A) → GrowsIn read waiting (6 * 0) front front
+pub grows_none : {A : Type 0} (read : ℕ → List ℕ → Result (A × ℕ) ReadError) (waiting : List ℕ) (front : List A) → ExtendsIn read waiting (6 * 0) front front
 grows_none read waiting front start at bytes stands is =
     let same : at ≡ at + 6 * 0 = omega arith in
     is ∙ ap (λ (k : ℕ). Ok (front, k)) same
 
 -- one source more
 pub grows_more : (samples : List Size) (size : Size) (waiting : List ℕ) (n : ℕ) (front longer : List (Option At)) (p : At) → Some size ≡ size_of_part samples 1
-    → GrowsIn (source_read One samples) waiting (6 * n) front longer → PlaceWaits size waiting (6 * n) p → GrowsIn (source_read One samples) waiting (6 * (n + 1)) front (longer ++ Some p ∷ [])
+    → ExtendsIn (source_read One samples) waiting (6 * n) front longer → PlaceWaits size waiting (6 * n) p → ExtendsIn (source_read One samples) waiting (6 * (n + 1)) front (longer ++ Some p ∷ [])
 grows_more samples size waiting n front longer p sized grows waits start at bytes stands is =
     let read = source_read One samples in
     let place = at + 6 * n in
@@ -86,8 +86,8 @@ pub follows_after : (name : List ℕ) (now : ShelfState) (r : Reading) (n : ℕ)
 follows_after name now r n le follows = weaker name (IsAhead r) (IsAhead (after_serving r n)) now.files (λ bytes ahead. ahead_still r n bytes le ahead) follows
 
 -- what was read of the bytes that wait was read of the file
-pub grows_found : {A : Type 0} (read : ℕ → List ℕ → Result (A × ℕ) ReadError) (r : Reading) (n : ℕ) (front longer : List A) → n ≤ length r.waiting → GrowsIn read r.waiting n front longer
-    → (name : List ℕ) (now : ShelfState) → Grows read name now r front now (after_serving r n) longer
+pub grows_found : {A : Type 0} (read : ℕ → List ℕ → Result (A × ℕ) ReadError) (r : Reading) (n : ℕ) (front longer : List A) → n ≤ length r.waiting → ExtendsIn read r.waiting n front longer
+    → (name : List ℕ) (now : ShelfState) → Extends read name now r front now (after_serving r n) longer
 grows_found read r n front longer le grows name now start found = record {
   follows = follows_after name now r n le found.follows;
   is = both name (IsAhead r) (λ bytes. list_read read (length front) start bytes ≡ Ok (front, r.at)) (λ bytes. list_read read (length longer) start bytes ≡ Ok (longer, r.at + n)) now.files
@@ -96,7 +96,7 @@ grows_found read r n front longer le grows name now start found = record {
 
 -- more sources that were read after none that waited
 pub more_after : (samples : List Size) (most : ℕ) (name : List ℕ) (was now : ShelfState) (r r' later : Reading) (front middle longer : List (Option At)) (result : Result (Unit {0}) ReadError) → 1 ≤ most
-    → length middle ≡ length front → r'.at ≡ r.at → Grows (source_read One samples) name was r front was r' middle → (AreSourcesIn samples front → AreSourcesIn samples middle)
+    → length middle ≡ length front → r'.at ≡ r.at → Extends (source_read One samples) name was r front was r' middle → (AreSourcesIn samples front → AreSourcesIn samples middle)
     → OnOk result (ReadsMore One samples 1 name was r' middle now later longer) → OnOk result (ReadsMore One samples most name was r front now later longer)
 more_after samples most name was now r r' later front middle longer (Err e) some count at grows sources more = tt
 more_after samples most name was now r r' later front middle longer (Ok x) some count at grows sources more = record {

@@ -19,17 +19,17 @@ PlaceWaits size waiting i p =
 
 -- a list of values that were read ends where the bytes that wait begin; with more values it ends so
 -- many bytes later
-abbrev pub GrowsIn : {A : Type 0} → (ℕ → List ℕ → Result (A × ℕ) ReadError)
+abbrev pub ExtendsIn : {A : Type 0} → (ℕ → List ℕ → Result (A × ℕ) ReadError)
     → List ℕ → ℕ → List A → List A → Type 0
-GrowsIn read waiting n front longer =
+ExtendsIn read waiting n front longer =
     (start at : ℕ) (bytes : List ℕ) → StandsAt at waiting bytes
     → list_read read (length front) start bytes ≡ Ok (front, at)
     → list_read read (length longer) start bytes ≡ Ok (longer, at + n)
 
 -- a reader that has read a list of values has read a longer one
-abbrev pub Grows : {A : Type 0} → (ℕ → List ℕ → Result (A × ℕ) ReadError)
+abbrev pub Extends : {A : Type 0} → (ℕ → List ℕ → Result (A × ℕ) ReadError)
     → List ℕ → ShelfState → Reading → List A → ShelfState → Reading → List A → Type 0
-Grows read name was r front now later longer =
+Extends read name was r front now later longer =
     (start : ℕ) → Found name start was r (list_read read (length front)) front
     → Found name start now later (list_read read (length longer)) longer
 
@@ -45,5 +45,5 @@ pub record ReadsMore (version : Version) (samples : List Size) (most : ℕ) (nam
   pub some : length front < length longer
   pub most_of : length longer ≤ length front + most
   pub place : later.at + 8 * length front ≤ r.at + 8 * length longer
-  pub grows : Grows (source_read version samples) name was r front now later longer
+  pub grows : Extends (source_read version samples) name was r front now later longer
   pub sources : AreSourcesIn samples front → AreSourcesIn samples longer

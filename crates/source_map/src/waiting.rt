@@ -6,7 +6,7 @@ ghost use Rattle.cells.specs.SizeLists.{AreSizes};
 ghost use Rattle.file_bytes.specs.Reading.{Follows};
 ghost use Rattle.source_map.specs.declared.head.Version.TheVariants as version;
 ghost use Rattle.source_map.specs.MapFiles.{source_read};
-ghost use Rattle.source_map.specs.Waiting.{AreSourcesIn, Grows, GrowsIn, PlaceWaits};
+ghost use Rattle.source_map.specs.Waiting.{AreSourcesIn, Extends, ExtendsIn, PlaceWaits};
 
 use crate::map_reading::place_at;
 use cells::{At, Size, Sizes};
@@ -39,7 +39,7 @@ fn take_places(waiting: &[u8], samples: &Sizes, most: usize, sources: &mut Vec<E
     ensures most { result ≤ most }
     ensures count { vec_len sources.new ≡ vec_len sources.old + result }
     ensures capacity { vec_capacity sources.new ≡ vec_capacity sources.old }
-    ensures grows { GrowsIn (source_read version.One samples.now) waiting.now (6 * result)
+    ensures grows { ExtendsIn (source_read version.One samples.now) waiting.now (6 * result)
         sources.old.items sources.new.items }
     ensures sources { AreSourcesIn samples.now sources.old.items →
         AreSourcesIn samples.now sources.new.items }
@@ -71,7 +71,7 @@ pub(crate) fn take_sources(
     ensures follows { (name : List ℕ) (now : ShelfState) →
         Follows name now file.old → Follows name now file.new }
     ensures grows { (name : List ℕ) (now : ShelfState) →
-        Grows (source_read version.One samples.now)
+        Extends (source_read version.One samples.now)
         name now file.old sources.old.items now file.new sources.new.items }
     ensures sources { AreSourcesIn samples.now sources.old.items →
         AreSourcesIn samples.now sources.new.items }

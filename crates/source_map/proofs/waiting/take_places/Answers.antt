@@ -5,7 +5,7 @@ use Rattle.cells.specs.declared.place.At.{At}
 use Rattle.map_canvas.specs.Maps.{IsSource}
 use Rattle.source_map.specs.declared.head.Version.TheVariants.{One}
 use Rattle.source_map.specs.MapFiles.{IsInSamples, source_read}
-use Rattle.source_map.specs.Waiting.{GrowsIn}
+use Rattle.source_map.specs.Waiting.{ExtendsIn}
 use Rattle.source_map.proofs.Sources.{inside_source, one_in}
 use Rattle.source_map.proofs.WaitingLaws.{grows_more}
 use Rattle.source_map.proofs.waiting.take_places.Goals as goal
@@ -23,7 +23,7 @@ loop-n-preserved c =
     record {
       count = omega (arith, c.push_reserved.ensures.len, so.count);
       capacity = c.push_reserved.ensures.capacity ∙ so.capacity;
-      grows = subst (GrowsIn (source_read One samples) c.args.waiting.now (6 * (c.loop-n.n + 1)) c.args.sources.now.items) (sym all)
+      grows = subst (ExtendsIn (source_read One samples) c.args.waiting.now (6 * (c.loop-n.n + 1)) c.args.sources.now.items) (sym all)
           (grows_more samples size c.args.waiting.now c.loop-n.n c.args.sources.now.items longer from c.at-size.ensures.size so.grows c.in-Some.ensures.waits);
       sources = λ sound. (
         subst (All IsSound) (sym all) (All-push IsSound longer (Some from) (so.sources sound).0 (inside_source size c.at-size.ensures.axes from c.in-Some.ensures.inside)),

@@ -6,5 +6,6 @@ pub mod Existence
 pub mod Windows
 pub mod Copies
 pub mod Inside
+pub mod Enclosed
 pub mod MarkLaws
 mod Choosing

@@ -1,4 +1,5 @@
 pub mod Costs
 pub mod Lawful
 pub mod Intersections
+pub mod Enclosures
 pub mod Choosing

@@ -13,6 +13,7 @@
 
 mod after;
 mod intersection;
+mod kept;
 mod laws;
 mod marks;
 mod pairs;
@@ -20,6 +21,7 @@ mod sources;
 mod sums;
 
 pub use after::window_after;
+pub use kept::is_kept_at;
 pub use laws::{choices_change_the_total_as_their_window, some_choice_is_lawful};
 pub use marks::are_marks;
 pub use pairs::{pair_cost, seam_of};

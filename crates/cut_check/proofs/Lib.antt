@@ -8,6 +8,5 @@ pub mod Parts
 pub mod Fitting
 pub mod NoFault
 pub mod OneFrame
-pub mod Enclosed
 pub mod Still
 pub mod Above

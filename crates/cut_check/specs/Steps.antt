@@ -1,11 +1,10 @@
 -- A reader need not trust this file: it says what each rule takes as known, and how far a walk has
 -- come. (Own.)
-use Rattle.std.specs.Prelude.{◌≡◌, ◌<◌, ◌≤◌, ◌⊎◌, ◌+◌, ◌-◌, ◌*◌, ◌^◌, ◌+ℤ◌, ◌≤ℤ◌, ⊤, ℕ, ℤ, pos, true, List, IfSome, nat_lt, slice_index_or, if◌then◌else◌}
+use Rattle.std.specs.Prelude.{◌≡◌, ◌<◌, ◌+◌, ◌-◌, ◌*◌, ◌^◌, ⊤, ℕ, ℤ, true, List, IfSome, nat_lt, slice_index_or, if◌then◌else◌}
 use Rattle.limits.specs.declared.bounds.TheConstants.{MOST_CELLS}
 use Rattle.cells.specs.declared.place.At.{At}
 use Rattle.cells.specs.declared.place.Axis.{Axis}
 use Rattle.cells.specs.declared.place.Axis.TheVariants.{X, Y, F}
-use Rattle.cells.specs.declared.place.Box3.{Box3}
 use Rattle.cells.specs.declared.place.Size.{Size}
 use Rattle.cells.specs.Boxes.{HasCells, HoldsBox, cell_in}
 use Rattle.cells.specs.Places.{IsSmall, raster_index}
@@ -73,18 +72,6 @@ pub record IsLaid (m : SourceMap) (placement : Placement) (x y f : ℕ) (laid : 
   pub new : laid.new ≡ new_source placement (cell_in placement.rect x y f)
   pub near_old : IfSome laid.old IsSource
   pub near_new : IsSource laid.new
-
--- both neighbours along an axis of n cells, of the cell so many cells from the corner of a run, are
--- cells of the run or off the axis
-pub record IsEnclosedAlong (n : ℕ) (corner : ℤ) (len count : ℕ) : Type 0 where
-  pub back : (1 ≤ count) ⊎ (corner +ℤ pos count ≡ pos 0)
-  pub ahead : (count + 1 < len) ⊎ (pos n ≤ℤ (corner +ℤ pos (count + 1)))
-
--- all neighbours of the cell of a box are cells of the box or outside the output
-pub record IsEnclosed (output : Size) (rect : Box3) (x y f : ℕ) : Type 0 where
-  pub on_x : IsEnclosedAlong output.w rect.corner.x rect.size.w x
-  pub on_y : IsEnclosedAlong output.h rect.corner.y rect.size.h y
-  pub on_f : IsEnclosedAlong output.f rect.corner.f rect.size.f f
 
 -- something holds of each axis
 abbrev pub EachAxis : (Axis → Type 0) → Type 0

@@ -6,16 +6,15 @@
 //! is least among all admissible choices without a held cell, whoever made it: the flow of the record bounds
 //! the cost of every choice (proofs/Least.antt). No memory is taken.
 //!
-//! `record` has the types, `check` the rules in their order, `rules` those of the choice, with `kept` for
-//! the cells that have to stay old, `bounds` that of pairs, `balance` that of free cells with the value, and
-//! `flows` the flows of the pairs of a cell. All of them go over the box by the walk of the crate `boxes`.
+//! `record` has the types, `check` the rules in their order, `rules` those of the choice,
+//! `bounds` that of pairs, `balance` that of free cells with the value, and `flows` the flows of the pairs of
+//! a cell. All of them go over the box by the walk of the crate `boxes`.
 #![tactic(auto)]
 
 mod balance;
 mod bounds;
 mod check;
 mod flows;
-mod kept;
 mod laws;
 mod record;
 mod rules;

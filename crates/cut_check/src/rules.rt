@@ -8,10 +8,10 @@ ghost use Rattle.costs.specs.Lawful.{StaysOld};
 ghost use Rattle.cut_check.specs.Records.{FillsAll, IsFirstNotOld, IsFirstUnfilled, LeavesAllOld, setting};
 ghost use Rattle.cut_check.specs.Steps.{IsAt, LiesIn};
 
-use crate::kept::is_kept_at;
 use crate::record::CutRecord;
 use boxes::Counts;
 use cells::At;
+use costs::is_kept_at;
 use map_canvas::{Canvas, Map, Placement};
 
 /// What a list of marks says of the cell at an index: past its end it says no.

@@ -15,8 +15,8 @@ use Rattle.map_canvas.specs.Maps.{SourceMap}
 use Rattle.map_canvas.proofs.Keeping.{filled_inside, meets_third}
 use Rattle.boxes.specs.Pairs.{AreCounts}
 use Rattle.boxes.proofs.Cells.{cell_inside, next_x, next_y, next_f}
-use Rattle.cut_check.specs.Steps.{IsEnclosed}
-use Rattle.cut_check.proofs.PairBounds.{step_back}
+use Rattle.costs.specs.Enclosures.{IsEnclosed}
+use Rattle.costs.proofs.Copies.{plus_back}
 
 -- a coordinate past an axis, or before it, is none of the axis
 past : (n c : ℕ) (z corner : ℤ) → IsSome (on_axis n z) → z ≡ (corner +ℤ pos c) +ℤ pos 1 → pos n ≤ℤ (corner +ℤ pos (c + 1)) → ⊥
@@ -40,13 +40,13 @@ module _ (m : SourceMap) (rect : Box3) (x y f : ℕ) (are : AreCounts rect.size 
   axes q outside = of_inside m.size q (filled_inside m q outside.0)
 
   back_x : 1 ≤ x → minus p (unit_step X) ≡ cell_in rect (x - 1) y f
-  back_x some = ap (λ n. minus (cell_in rect n y f) (unit_step X)) (sym (one_less x some)) ∙ ap (λ q. minus q (unit_step X)) (sym (next_x rect (x - 1) y f)) ∙ step_back (cell_in rect (x - 1) y f) (unit_step X)
+  back_x some = ap (λ n. minus (cell_in rect n y f) (unit_step X)) (sym (one_less x some)) ∙ ap (λ q. minus q (unit_step X)) (sym (next_x rect (x - 1) y f)) ∙ plus_back (cell_in rect (x - 1) y f) (unit_step X)
 
   back_y : 1 ≤ y → minus p (unit_step Y) ≡ cell_in rect x (y - 1) f
-  back_y some = ap (λ n. minus (cell_in rect x n f) (unit_step Y)) (sym (one_less y some)) ∙ ap (λ q. minus q (unit_step Y)) (sym (next_y rect x (y - 1) f)) ∙ step_back (cell_in rect x (y - 1) f) (unit_step Y)
+  back_y some = ap (λ n. minus (cell_in rect x n f) (unit_step Y)) (sym (one_less y some)) ∙ ap (λ q. minus q (unit_step Y)) (sym (next_y rect x (y - 1) f)) ∙ plus_back (cell_in rect x (y - 1) f) (unit_step Y)
 
   back_f : 1 ≤ f → minus p (unit_step F) ≡ cell_in rect x y (f - 1)
-  back_f some = ap (λ n. minus (cell_in rect x y n) (unit_step F)) (sym (one_less f some)) ∙ ap (λ q. minus q (unit_step F)) (sym (next_f rect x y (f - 1))) ∙ step_back (cell_in rect x y (f - 1)) (unit_step F)
+  back_f some = ap (λ n. minus (cell_in rect x y n) (unit_step F)) (sym (one_less f some)) ∙ ap (λ q. minus q (unit_step F)) (sym (next_f rect x y (f - 1))) ∙ plus_back (cell_in rect x y (f - 1)) (unit_step F)
 
   none_x : MeetsAlong m rect p X → ⊥
   none_x (inl out) = ⊎_elim

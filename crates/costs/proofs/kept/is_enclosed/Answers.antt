@@ -1,7 +1,7 @@
 use Rattle.std.proofs.Common.{arith}
 use Rattle.std.proofs.lemmas.Int.{to_z-of_z}
-use Rattle.cut_check.specs.Steps.{IsEnclosedAlong}
-use Rattle.cut_check.proofs.kept.is_enclosed.Goals as goal
+use Rattle.costs.specs.Enclosures.{IsEnclosedAlong}
+use Rattle.costs.proofs.kept.is_enclosed.Goals as goal
 
 pub returns : goal.returns
 returns c is =

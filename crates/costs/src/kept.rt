@@ -3,7 +3,7 @@ ghost use Rattle.std.specs.Prelude.{◌≡◌, ◌<◌, ◌↔◌, IsTrue};
 ghost use Rattle.cells.specs.Boxes.{AxisHolds, HoldsBox, cell_in};
 ghost use Rattle.map_canvas.specs.Canvases.{IsKept};
 ghost use Rattle.boxes.specs.Pairs.{AreCounts};
-ghost use Rattle.cut_check.specs.Steps.{IsEnclosed, IsEnclosedAlong};
+ghost use Rattle.costs.specs.Enclosures.{IsEnclosed, IsEnclosedAlong};
 
 use boxes::Counts;
 use cells::{At, Box3, Size};

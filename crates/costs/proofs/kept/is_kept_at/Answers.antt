@@ -4,9 +4,9 @@ use Rattle.cells.specs.declared.place.Size.{Size}
 use Rattle.cells.specs.Boxes.{HoldsBox}
 use Rattle.map_canvas.specs.Canvases.{IsKept}
 use Rattle.map_canvas.specs.Maps.{SourceMap}
-use Rattle.cut_check.specs.Steps.{IsEnclosed}
-use Rattle.cut_check.proofs.Enclosed.{enclosed_free}
-use Rattle.cut_check.proofs.kept.is_kept_at.Goals as goal
+use Rattle.costs.specs.Enclosures.{IsEnclosed}
+use Rattle.costs.proofs.Enclosed.{enclosed_free}
+use Rattle.costs.proofs.kept.is_kept_at.Goals as goal
 
 pub is_enclosed-requires-clause-holds : goal.is_enclosed-requires-clause-holds
 is_enclosed-requires-clause-holds c =

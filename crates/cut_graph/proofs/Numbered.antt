@@ -26,6 +26,7 @@ gives_end IsOne from node was now is low one adds = record {
   one = one;
   items = adds.items;
   numbering = subst (λ next. IsNumbering from next now.nodes.items) (sym adds.free) (subst (IsNumbering from was.next) (sym adds.items) (numbering_end from was.next node was.nodes.items low is));
+  room = adds.room;
 }
 
 -- and one of its own
@@ -35,6 +36,7 @@ gives_own IsOne from was now is some one adds = record {
   one = one;
   items = adds.items;
   numbering = subst (λ next. IsNumbering from next now.nodes.items) (sym adds.free) (subst (IsNumbering from (was.next + 1)) (sym adds.items) (numbering_own from was.next was.nodes.items some is));
+  room = adds.room;
 }
 
 -- the index of a cell in its box

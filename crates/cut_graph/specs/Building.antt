@@ -1,7 +1,7 @@
 -- For the contracts within the crate; nobody has to trust this file. How far the network of a
 -- placement has come: the nodes of its first cells, of its first pairs, and the pipes of its
 -- first pairs. (Own.)
-use Rattle.std.specs.Prelude.{◌≡◌, ◌≤◌, ◌<◌, ◌+◌, ◌==◌, ℕ, Bool, true, false, not, List, [], ◌∷◌, ◌++◌, length, slice_index, None, if◌then◌else◌}
+use Rattle.std.specs.Prelude.{◌≡◌, ◌≤◌, ◌<◌, ◌+◌, ◌==◌, ℕ, Bool, true, false, not, List, [], ◌∷◌, ◌++◌, length, slice_index, None, if◌then◌else◌, vec_capacity, vec_len}
 use Rattle.cells.specs.declared.place.At.{At}
 use Rattle.cells.specs.declared.place.Size.{Size}
 use Rattle.cells.specs.declared.place.Axis.{Axis}
@@ -19,17 +19,20 @@ use Rattle.cells.specs.Places.{raster_index}
 use Rattle.cells.specs.Boxes.{cell_in}
 use Rattle.cut_graph.specs.Numberings.{AtPairs, IsNumbering}
 
--- a numbering with one node more, and the next number that is free then
+-- a numbering with one node more, in the same room, and the next number that is free then
 pub record Adds (node next : ℕ) (was now : Numbering) : Type 0 where
   pub items : now.nodes.items ≡ was.nodes.items ++ node ∷ []
   pub free : now.next ≡ next
+  pub len : vec_len now.nodes ≡ vec_len was.nodes + 1
+  pub room : vec_capacity now.nodes ≡ vec_capacity was.nodes
 
--- a numbering with one node more, of a kind
+-- a numbering with one node more, of a kind, in the same room
 pub record Gives (IsOne : ℕ → Type 0) (from : ℕ) (was now : Numbering) : Type 0 where
   pub node : ℕ
   pub one : IsOne node
   pub items : now.nodes.items ≡ was.nodes.items ++ node ∷ []
   pub numbering : IsNumbering from now.next now.nodes.items
+  pub room : vec_capacity now.nodes ≡ vec_capacity was.nodes
 
 -- what a cell of the box is to a choice
 abbrev pub IsStanding : SourceMap → Placement → List Bool → At → Standing → Type 0

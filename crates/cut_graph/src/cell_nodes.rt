@@ -1,6 +1,6 @@
 // The nodes of the cells of a placement's box.
-ghost use Rattle.std.specs.Prelude.{◌≡◌, ◌<◌, ◌+◌, Bool, List, IfOk, IfSome, OnOk, option_copied, length, false, slice_index_or};
-ghost use Rattle.cells.specs.Boxes.{HoldsBox, IsInBox};
+ghost use Rattle.std.specs.Prelude.{◌≡◌, ◌<◌, ◌+◌, Bool, List, IfOk, IfSome, option_copied, length, false, slice_index_or, vec_capacity, vec_len};
+ghost use Rattle.cells.specs.Boxes.{HoldsBox, cell_in};
 ghost use Rattle.cells.specs.Places.{IsSmall, cell_count, raster_index};
 ghost use Rattle.costs.specs.Lawful.{held_marks, is_held};
 ghost use Rattle.boxes.specs.Pairs.{AreCounts};
@@ -11,6 +11,7 @@ use crate::numbering::Numbering;
 use crate::places::{SINK, SOURCE};
 use boxes::Counts;
 use cells::At;
+use costs::is_kept_at;
 use limits::MOST_CELLS;
 use map_canvas::{Canvas, Placement};
 use std::alloc::{AllocError, Global};
@@ -38,14 +39,17 @@ fn is_marked(held: Option<&[bool]>, i: usize) -> bool
 }
 
 // What a cell of the box is to a choice, by whether it is held.
-fn standing_of(canvas: &Canvas, placement: &Placement, p: At, held: bool) -> Standing
-    requires { IsInBox placement.now.rect p }
+fn standing_of(canvas: &Canvas, placement: &Placement, at: Counts, p: At, held: bool) -> Standing
+    requires inside { HoldsBox canvas.now.map.size
+        placement.now.rect.corner placement.now.rect.size }
+    requires counts { AreCounts placement.now.rect.size at.x at.y at.f }
+    requires cell { p ≡ cell_in placement.now.rect at.x at.y at.f }
     ensures { (marks : List Bool) → is_held placement.now marks p ≡ held →
         IsStanding canvas.now.map placement.now marks p result }
 {
     if !canvas.is_filled(p) {
         Standing::Unfilled
-    } else if held || canvas.is_kept(&placement.rect, p) {
+    } else if held || is_kept_at(canvas, &placement.rect, at, p) {
         Standing::Old
     } else {
         Standing::Free
@@ -53,10 +57,11 @@ fn standing_of(canvas: &Canvas, placement: &Placement, p: At, held: bool) -> Sta
 }
 
 // Gives a cell a node.
-fn give(cells: &mut Numbering, standing: Standing) -> Result<(), AllocError>
-    requires room { cells.old.next < u32.MAX }
+fn give(cells: &mut Numbering, standing: Standing)
+    requires room { vec_len cells.old.nodes < vec_capacity cells.old.nodes }
+    requires few { cells.old.next < u32.MAX }
     requires numbering { IsNumbering 2 cells.old.next cells.old.nodes.items }
-    ensures { OnOk result (Gives (IsNodeOf standing) 2 cells.old cells.new) }
+    ensures { Gives (IsNodeOf standing) 2 cells.old cells.new }
 {
     match standing {
         Standing::Old => cells.give(SOURCE),
@@ -73,22 +78,24 @@ fn give_at(
     held: Option<&[bool]>,
     at: Counts,
     i: usize,
-) -> Result<(), AllocError>
+)
     requires inside { HoldsBox canvas.now.map.size
         placement.now.rect.corner placement.now.rect.size }
     requires counts { AreCounts placement.now.rect.size at.x at.y at.f }
     requires index { raster_index placement.now.rect.size at.x at.y at.f ≡ i }
     requires marks { IfSome (option_copied held) (λ marks. i < length marks) }
     requires few { i < MOST_CELLS }
+    requires room { vec_capacity cells.old.nodes ≡ cell_count placement.now.rect.size }
     requires cells { AreCellNodes canvas.now.map placement.now
         (held_marks (option_copied held)) i cells.old }
-    ensures { OnOk result (AreCellNodes canvas.now.map placement.now
-        (held_marks (option_copied held.entry)) (i + 1) cells.new) }
+    ensures cells { AreCellNodes canvas.now.map placement.now
+        (held_marks (option_copied held.entry)) (i + 1) cells.new }
+    ensures room { vec_capacity cells.new.nodes ≡ cell_count placement.now.rect.size }
 {
     let _size = canvas.map().size();
     let p = at.cell(&placement.rect);
-    let standing = standing_of(canvas, placement, p, is_marked(held, i));
-    give(cells, standing)
+    let standing = standing_of(canvas, placement, at, p, is_marked(held, i));
+    give(cells, standing);
 }
 
 // The nodes of all cells of the box, in raster order.
@@ -110,7 +117,7 @@ pub(crate) fn number_cells(
     let mut cells = Numbering::begin(alloc, SINK + 1, size.cells())?;
     let mut at = Counts::first();
     for i in 0..size.cells() {
-        give_at(&mut cells, canvas, placement, held, at, i)?;
+        give_at(&mut cells, canvas, placement, held, at, i);
         at = at.next(size);
     }
     Ok(cells)

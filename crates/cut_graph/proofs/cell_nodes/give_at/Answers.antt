@@ -1,19 +1,19 @@
-use Rattle.std.proofs.Common.{◌≡◌, false, sym, ap, ◌∙◌, subst}
+use Rattle.std.proofs.Common.{◌≡◌, false, sym, ap, ◌∙◌, subst, arith}
 use Rattle.std.specs.Prelude.{option_copied, slice_index_or}
-use Rattle.std.proofs.lemmas.Result.{on_ok_weaker}
-use Rattle.cells.specs.Boxes.{IsInBox}
+use Rattle.boxes.proofs.Indices.{index_below}
 use Rattle.costs.specs.Lawful.{is_held, held_marks}
 use Rattle.cut_graph.specs.Building.{IsStanding}
-use Rattle.cut_graph.proofs.Numbered.{held_by_index, in_box, more_cells}
+use Rattle.cut_graph.proofs.Numbered.{held_by_index, more_cells}
 use Rattle.cut_graph.proofs.cell_nodes.give_at.Goals as goal
 
-pub standing_of-standing-requires : goal.standing_of-standing-requires
-standing_of-standing-requires c =
+pub give-requires-clause-room : goal.give-requires-clause-room
+give-requires-clause-room c =
     let at = c.args.at in
-    subst (IsInBox c.args.placement.now.rect) (sym c.cell-p.ensures) (in_box c.args.placement.now.rect at.x at.y at.f c.requires.counts)
+    let nodes = c.args.cells.now.nodes in
+    omega (arith, nodes.ok, c.requires.cells.count, c.requires.room, c.requires.index, index_below c.args.placement.now.rect.size at.x at.y at.f c.requires.counts)
 
-pub returns : goal.returns
-returns c =
+pub returns-clause-cells : goal.returns-clause-cells
+returns-clause-cells c =
     let m = c.args.canvas.now.map in
     let placement = c.args.placement.now in
     let at = c.args.at in
@@ -23,4 +23,7 @@ returns c =
     ap (is_held placement marks) c.cell-p.ensures ∙ held_by_index placement marks at.x at.y at.f c.requires.counts
     ∙ ap (λ i. slice_index_or marks i false) c.requires.index ∙ sym c.is_marked.ensures in
     let is = subst (λ p. IsStanding m placement marks p standing) c.cell-p.ensures (c.standing_of-standing.ensures marks held) in
-    on_ok_weaker c.give.result (more_cells m placement marks at.x at.y at.f c.args.i standing c.args.cells.now c.give.new.cells c.requires.counts c.requires.index is c.requires.cells) c.give.ensures
+    more_cells m placement marks at.x at.y at.f c.args.i standing c.args.cells.now c.give.new.cells c.requires.counts c.requires.index is c.requires.cells c.give.ensures
+
+pub returns-clause-room : goal.returns-clause-room
+returns-clause-room c = c.give.ensures.room ∙ c.requires.room

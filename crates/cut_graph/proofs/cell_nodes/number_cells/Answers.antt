@@ -1,5 +1,5 @@
 use Rattle.std.proofs.lemmas.Grind.{common_steps}
-use Rattle.std.proofs.Common.{◌≡◌, subst, arith}
+use Rattle.std.proofs.Common.{◌≡◌, ◌∙◌, subst, arith}
 use Rattle.std.specs.Prelude.{option_copied}
 use Rattle.cells.specs.Places.{cell_count}
 use Rattle.costs.specs.Lawful.{held_marks}
@@ -16,6 +16,7 @@ loop-i-init c =
       cells =
           no_cells c.args.canvas.now.map c.args.placement.now (held_marks (option_copied c.args.held)) c.in_ok-cells.cells
           c.in_ok-cells.ensures.items c.in_ok-cells.ensures.next;
+      room = c.in_ok-cells.ensures.room ∙ c.cells.ensures;
     }
 
 pub give_at-requires-clause-counts : goal.give_at-requires-clause-counts
@@ -32,7 +33,7 @@ next-at-requires c =
     counts_below c.args.placement.now.rect.size c.loop-i.i at.x at.y at.f c.loop-i.invariant.at (omega (arith, c.cells-i-end.ensures, c.loop-i-test.true))
 
 pub loop-i-preserved : goal.loop-i-preserved
-loop-i-preserved c = record { at = c.next-at.ensures c.loop-i.i c.loop-i.invariant.at; cells = c.in_ok-give_at.ensures }
+loop-i-preserved c = record { at = c.next-at.ensures c.loop-i.i c.loop-i.invariant.at; cells = c.give_at.ensures.cells; room = c.give_at.ensures.room }
 
 pub returns : goal.returns
 returns c =

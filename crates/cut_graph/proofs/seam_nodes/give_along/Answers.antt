@@ -1,7 +1,6 @@
 use Rattle.std.proofs.Common.{◌≡◌, ◌+◌, true, false, sym, ap, ◌∙◌, subst, arith}
-use Rattle.std.specs.Prelude.{OnOk}
-use Rattle.std.proofs.lemmas.Result.{on_ok_weaker}
 use Rattle.boxes.proofs.Indices.{index_below, stride_below}
+use Rattle.boxes.proofs.PairNumbers.{number_below}
 use Rattle.boxes.specs.Pairs.{has_next, one_if, pair_number, IsPair}
 use Rattle.cut_graph.specs.Building.{AreSeamNodes, Gives, IsSeamNode, are_filled, both_filled}
 use Rattle.cut_graph.proofs.AtPairs.{more_seams}
@@ -30,15 +29,35 @@ returns-then-has_next-clause-seams c first some was =
     let size = c.args.size in
     let axis = c.args.axis in
     let cells = c.args.cells.now in
-    let result = c.give.result in
     let seams = c.give.new.seams in
     let next : has_next size axis at.x at.y at.f ≡ true = sym c.has_next.ensures ∙ c.if-has_next.true in
     let is : IsPair size axis at.x at.y at.f = record { counts = c.requires.counts; next = next } in
     let filled : c.are_filled.result ≡ are_filled cells size axis at.x at.y at.f =
     c.are_filled.ensures ∙ (λ k. both_filled cells (sym c.requires.index k) (sym c.requires.index k + c.stride.ensures k)) in
-    let gives = subst (λ b. OnOk result (Gives (IsSeamNode first b) first c.args.seams.now seams)) filled (c.give.ensures.seams first some was.numbering) in
-    let more = on_ok_weaker result (more_seams cells size first axis at.x at.y at.f c.args.seams.now seams is was) gives in
-    subst (λ n. OnOk result (AreSeamNodes cells size first (pair_number size axis at.x at.y at.f + n) seams)) (sym (ap one_if next)) more
+    let gives = subst (λ b. Gives (IsSeamNode first b) first c.args.seams.now seams) filled (c.give.ensures.seams first some was.numbering) in
+    let more = more_seams cells size first axis at.x at.y at.f c.args.seams.now seams is was gives in
+    subst (λ n. AreSeamNodes cells size first (pair_number size axis at.x at.y at.f + n) seams) (sym (ap one_if next)) more
+
+pub give-requires-clause-room : goal.give-requires-clause-room
+give-requires-clause-room c =
+    let at = c.args.at in
+    let is : IsPair c.args.size c.args.axis at.x at.y at.f = record { counts = c.requires.counts; next = sym c.has_next.ensures ∙ c.if-has_next.true } in
+    omega (arith, number_below c.args.size c.args.axis at.x at.y at.f is, c.requires.number, c.requires.room)
+
+pub returns-then-has_next-clause-number : goal.returns-then-has_next-clause-number
+returns-then-has_next-clause-number c =
+    let at = c.args.at in
+    let more : one_if (has_next c.args.size c.args.axis at.x at.y at.f) ≡ 1 = ap one_if (sym c.has_next.ensures ∙ c.if-has_next.true) in
+    omega (arith, c.give.ensures.len, c.requires.number, more)
+
+pub returns-then-has_next-clause-room : goal.returns-then-has_next-clause-room
+returns-then-has_next-clause-room c = c.give.ensures.room ∙ c.requires.room
+
+pub returns-else-has_next-clause-number : goal.returns-else-has_next-clause-number
+returns-else-has_next-clause-number c =
+    let at = c.args.at in
+    let none : one_if (has_next c.args.size c.args.axis at.x at.y at.f) ≡ 0 = ap one_if (sym c.has_next.ensures ∙ c.if-has_next.false) in
+    omega (arith, c.requires.number, none)
 
 pub returns-else-has_next-clause-seams : goal.returns-else-has_next-clause-seams
 returns-else-has_next-clause-seams c first some was =

@@ -3,7 +3,7 @@ use Rattle.std.proofs.Common.{◌≡◌, ℕ, ◌+◌, ◌*◌, ◌≤◌, List,
 use Rattle.std.proofs.Math.Numerals.{add-one}
 use Rattle.std.proofs.lemmas.Int.{ints}
 use Rattle.std.proofs.lemmas.List.{length-append}
-use Rattle.std.specs.Prelude.{ℤ, pos, ◌+ℤ◌, Option, Some, None, slice_index, if◌then◌else◌}
+use Rattle.std.specs.Prelude.{ℤ, pos, ◌+ℤ◌, Option, Some, None, slice_index, if◌then◌else◌, vec_capacity}
 use borrow.Author.Tests.{ltb-true}
 use Rattle.cells.specs.declared.place.At.{At}
 use Rattle.cells.specs.declared.place.Axis.{Axis}
@@ -45,8 +45,8 @@ plan_inside plan is = in_largest plan.map.now.size plan.placement.rect.corner pl
 
 -- no pipe yet
 pub none_piped : (plan : Plan) (nodes pairs : ℕ) (piping : Piping) → IsPlan plan → pairs ≡ length plan.seams.now → piping.network ≡ empty_network nodes 0 1 (3 * pairs) → piping.count ≡ 0
-    → piping.first.items ≡ [] → IsPiped plan nodes (before plan 0) 0 piping
-none_piped plan nodes pairs piping is same network count first = record {
+    → piping.first.items ≡ [] → vec_capacity piping.first ≡ pairs → IsPiped plan nodes (before plan 0) 0 piping
+none_piped plan nodes pairs piping is same network count first space = record {
   size = ap (λ n. n.nodes) network;
   source = ap (λ n. n.source) network;
   sink = ap (λ n. n.sink) network;
@@ -55,6 +55,7 @@ none_piped plan nodes pairs piping is same network count first = record {
   total = count;
   few = omega arith;
   number = ap length first;
+  space = space ∙ same ∙ is.seams_count;
   firsts = at_none plan.placement.rect.size (IsFirst plan) piping.first.items first;
 }
 
@@ -149,6 +150,33 @@ module _ (plan : Plan) (axis : Axis) (x y f i : ℕ) (p : At) (first second : Pa
       ((is_second.new ∙ ap (new_source plan.placement) place) k) (first_node k) (second_node k) (is_seam k))
       ∙ sym (ap (λ b. if b then between else []) next)
 
+-- two cells whose nodes are the sink have no pipes
+pub none_along : (plan : Plan) (axis : Axis) (x y f i j : ℕ) → IsPlan plan → IsPair plan.placement.rect.size axis x y f → raster_index plan.placement.rect.size x y f ≡ i
+    → i + stride plan.placement.rect.size axis ≡ j → slice_index plan.cells.now i ≡ 1 → slice_index plan.cells.now j ≡ 1 → [] ≡ along plan axis x y f
+none_along plan axis x y f i j is pair index next first second =
+    sym (ap (λ b. if b then between else []) pair.next
+    ∙ (λ k. pair_pipes (distance plan.sample.now) axis (first_none k) (second_none k) (new_source plan.placement p) (new_source plan.placement q)
+    (cell_node (places_of plan) plan.placement.rect.size x y f) (next_node (places_of plan) plan.placement.rect.size axis x y f) (seam_node (places_of plan) plan.placement.rect.size axis x y f)))
+  where
+    p : At
+    p = cell_in plan.placement.rect x y f
+
+    q : At
+    q = plus p (unit_step axis)
+
+    between : List Pipe
+    between = pipes_between (distance plan.sample.now) plan.map.now plan.placement axis p q
+        (cell_node (places_of plan) plan.placement.rect.size x y f) (next_node (places_of plan) plan.placement.rect.size axis x y f) (seam_node (places_of plan) plan.placement.rect.size axis x y f)
+
+    first_none : map_at plan.map.now p ≡ None
+    first_none = is.unfilled.each x y f pair.counts (ap (slice_index plan.cells.now) index ∙ first)
+
+    second_none : map_at plan.map.now q ≡ None
+    second_none =
+        let behind = behind_of plan.placement.rect axis x y f pair in
+        ap (map_at plan.map.now) (sym behind.place)
+        ∙ is.unfilled.each behind.a behind.b behind.c behind.counts (ap (slice_index plan.cells.now) (behind.index ∙ ap (λ n. n + stride plan.placement.rect.size axis) index ∙ next) ∙ second)
+
 -- a pair has three pipes at most
 pub pipes_most : (plan : Plan) (axis : Axis) (first second : PairCell) (seam : ℕ) → length (pipes_of_pair plan axis first second seam) ≤ 3
 pipes_most plan axis first second seam = by first.before second.before
@@ -168,6 +196,7 @@ pub record Grows (plan : Plan) (made : List Pipe) (was now : Piping) : Type 0 wh
   pub network : now.network ≡ with_pipes was.network made
   pub total : now.count ≡ was.count + length made
   pub firsts : now.first.items ≡ was.first.items ++ first_or_none made was.count ∷ []
+  pub space : vec_capacity now.first ≡ vec_capacity was.first
   pub few : length made ≤ 3
 
 pub grown : (plan : Plan) (nodes : ℕ) (axis : Axis) (x y f : ℕ) (made : List Pipe) (was now : Piping) → IsPair plan.placement.rect.size axis x y f → made ≡ along plan axis x y f
@@ -181,6 +210,7 @@ grown plan nodes axis x y f made was now is same grows so_far = record {
   total = omega (arith, grows.total, so_far.total, ap length same, lengths);
   few = omega (arith, so_far.few, grows.few, ap length same, lengths, more);
   number = ap length grows.firsts ∙ length-end was.first.items (first_or_none made was.count) ∙ (λ k. so_far.number k + sym more k);
+  space = grows.space ∙ so_far.space;
   firsts = subst (AtPairs plan.placement.rect.size (IsFirst plan)) (sym grows.firsts)
       (at_more plan.placement.rect.size (IsFirst plan) axis x y f (first_or_none made was.count) was.first.items is so_far.number (λ k. first_or_none (same k) (so_far.total k)) so_far.firsts);
 }

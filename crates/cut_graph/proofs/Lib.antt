@@ -6,4 +6,5 @@ pub mod Numbered
 pub mod AtPairs
 pub mod PlanCells
 pub mod Laying
+pub mod MapIndices
 pub mod Whole

@@ -25,6 +25,7 @@ use Rattle.cut_graph.specs.declared.piping.Piping.{Piping}
 use Rattle.map_canvas.specs.Choices.{box_index, chosen}
 use Rattle.cut_graph.specs.Cuts.{IsNetworkOf}
 use Rattle.cut_graph.specs.Building.{HasAllPipes, AreCellNodes, AreSeamNodes, IsCellNode, IsNodeOf, IsSeamNode, IsStanding, are_filled, both_filled}
+use Rattle.cut_graph.specs.Plans.{AreSinksUnfilled}
 use Rattle.cut_graph.specs.Nodes.{AreNodes, HasSeam, IsFreeAt, StandsForCell, StandsForSeam, cell_node, seam_node}
 use Rattle.cut_graph.proofs.Laying.{behind_of}
 
@@ -69,6 +70,14 @@ module _ (m : SourceMap) (placement : Placement) (held : List Bool) (p : At) (n 
       by Unfilled is node = absurd (omega arith)
       by Free is node = is
 
+  pub unfilled_of : n ≡ 1 → map_at m p ≡ None
+  unfilled_of sink = by cell.standing cell.is cell.node
+    where
+      by : (s : Standing) → IsStanding m placement held p s → IsNodeOf s n → map_at m p ≡ None
+      by Old is node = absurd (omega arith)
+      by Unfilled is node = is
+      by Free is node = absurd (omega arith)
+
   pub filled_of : n ≢ 1 → IsFilled m p
   filled_of other = by cell.standing cell.is cell.node
     where
@@ -84,6 +93,17 @@ module _ (m : SourceMap) (placement : Placement) (held : List Bool) (p : At) (n 
       by Old is node = omega arith
       by Unfilled is node = absurd (not_filled is filled)
       by Free is node = omega arith
+
+-- the sink is the node of unfilled cells alone
+pub sinks_unfilled : (m : SourceMap) (placement : Placement) (held : List Bool) (cells : Numbering) → AreCellNodes m placement held (cell_count placement.rect.size) cells
+    → AreSinksUnfilled m placement cells.nodes.items
+sinks_unfilled m placement held cells are = record {
+  each = λ x y f at sink.
+      let index = raster_index placement.rect.size x y f in
+      let cell = subst (λ p. IsCellNode m placement held p (slice_index cells.nodes.items index)) (at_counts placement.rect.size (cell_in placement.rect) x y f at.column at.row)
+      (are.each index (index_below placement.rect.size x y f at)) in
+      unfilled_of m placement held (cell_in placement.rect x y f) (slice_index cells.nodes.items index) cell sink;
+}
 
 -- both cells of a pair are filled, or not
 not_one : (n : ℕ) → n ≢ 1 → eqb n 1 ≡ false

@@ -1,6 +1,6 @@
 -- For the contracts within the crate; nobody has to trust this file. What the pipes of a placement
 -- are made from, and how far they have come. (Own.)
-use Rattle.std.specs.Prelude.{◌≡◌, ◌≤◌, ◌<◌, ◌+◌, ◌-◌, ◌*◌, ℕ, List, [], ◌++◌, length, slice_index, IfSome}
+use Rattle.std.specs.Prelude.{◌≡◌, ◌≤◌, ◌<◌, ◌+◌, ◌-◌, ◌*◌, ℕ, List, [], ◌++◌, None, length, slice_index, IfSome, vec_capacity}
 use Rattle.cells.specs.declared.place.At.{At}
 use Rattle.cells.specs.declared.place.Axis.{Axis}
 use Rattle.cells.specs.declared.place.Axis.TheVariants.{X, Y, F}
@@ -8,8 +8,10 @@ use Rattle.cells.specs.Cells.{IsVolume}
 use Rattle.cells.specs.Distances.{distance}
 use Rattle.cells.specs.Places.{cell_count, raster_index}
 use Rattle.map_canvas.specs.Choices.{Fits, new_source}
-use Rattle.map_canvas.specs.Maps.{IsMap, IsSource, map_at}
-use Rattle.boxes.specs.Pairs.{has_next, one_if, pair_count, pair_number}
+use Rattle.map_canvas.specs.declared.canvas.Placement.{Placement}
+use Rattle.map_canvas.specs.Maps.{SourceMap, IsMap, IsSource, map_at}
+use Rattle.cells.specs.Boxes.{cell_in}
+use Rattle.boxes.specs.Pairs.{AreCounts, has_next, one_if, pair_count, pair_number}
 use Rattle.max_flow.specs.Networks.{FlowNetwork}
 use Rattle.max_flow.specs.declared.network.Pipe.{Pipe}
 use Rattle.cut_graph.specs.declared.places.Places.{Places}
@@ -19,6 +21,13 @@ use Rattle.cut_graph.specs.declared.piping.Piping.{Piping}
 use Rattle.cut_graph.specs.Pipes.{first_or_none, pair_pipes, pipes_along, pipes_before}
 use Rattle.cut_graph.specs.Numberings.{AtPairs}
 
+-- each cell whose node is the sink is unfilled
+pub record AreSinksUnfilled (m : SourceMap) (placement : Placement)
+    (cells : List ℕ) : Type 0 where
+  pub each : (x y f : ℕ) → AreCounts placement.rect.size x y f →
+      slice_index cells (raster_index placement.rect.size x y f) ≡ 1
+      → map_at m (cell_in placement.rect x y f) ≡ None
+
 -- the placement fits, and each cell and each pair of its box has an entry
 pub record IsPlan (plan : Plan) : Type 0 where
   pub over : IsMap plan.map.now
@@ -26,6 +35,7 @@ pub record IsPlan (plan : Plan) : Type 0 where
   pub fits : Fits plan.map.now.size plan.sample.now plan.placement
   pub cells_count : length plan.cells.now ≡ cell_count plan.placement.rect.size
   pub seams_count : length plan.seams.now ≡ pair_count plan.placement.rect.size
+  pub unfilled : AreSinksUnfilled plan.map.now plan.placement plan.cells.now
 
 -- the entries are nodes
 pub record HasNodes (plan : Plan) (nodes : ℕ) : Type 0 where
@@ -81,7 +91,8 @@ abbrev pub IsFirst : Plan → Axis → ℕ → ℕ → ℕ → ℕ → Type 0
 IsFirst plan axis x y f n = n ≡ first_or_none (along plan axis x y f)
     (length (up_to plan axis x y f))
 
--- the network has these pipes, which are those of the first n pairs, and room for the others
+-- the network has these pipes, which are those of the first n pairs, and there is room for the
+-- others
 pub record IsPiped (plan : Plan) (nodes : ℕ) (made : List Pipe) (n : ℕ)
     (piping : Piping) : Type 0 where
   pub size : piping.network.nodes ≡ nodes
@@ -92,6 +103,7 @@ pub record IsPiped (plan : Plan) (nodes : ℕ) (made : List Pipe) (n : ℕ)
   pub total : piping.count ≡ length made
   pub few : length made ≤ 3 * n
   pub number : length piping.first.items ≡ n
+  pub space : vec_capacity piping.first ≡ pair_count plan.placement.rect.size
   pub firsts : AtPairs plan.placement.rect.size (IsFirst plan) piping.first.items
 
 -- those of all pairs before one

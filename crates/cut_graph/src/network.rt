@@ -9,6 +9,7 @@ ghost use Rattle.cells.specs.Places.{cell_count};
 ghost use Rattle.cut_graph.specs.Building.{AreSeamNodes, HasAllPipes};
 ghost use Rattle.cut_graph.specs.Cuts.{ChoicesAreCuts, IsNetworkOf};
 ghost use Rattle.cut_graph.specs.Numberings.{IsNumbering};
+ghost use Rattle.cut_graph.specs.Plans.{AreSinksUnfilled};
 
 use crate::cell_nodes::number_cells;
 use crate::numbering::Numbering;
@@ -34,6 +35,7 @@ fn lay(
     requires fits { Fits canvas.now.map.size sample.now placement.now }
     requires cells { IsNumbering 2 cells.now.next cells.now.nodes.items }
     requires cells_count { length cells.now.nodes.items ≡ cell_count placement.now.rect.size }
+    requires unfilled { AreSinksUnfilled canvas.now.map placement.now cells.now.nodes.items }
     requires seams { AreSeamNodes cells.now.nodes.items placement.now.rect.size cells.now.next
         (pair_count placement.now.rect.size) seams.now }
     ensures { IfOk result (HasAllPipes (distance sample.now) canvas.now.map placement.now

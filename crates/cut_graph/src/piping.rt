@@ -1,17 +1,17 @@
 // The pipes of the pairs of a placement's box, one pair after another.
-ghost use Rattle.std.specs.Prelude.{◌≡◌, ◌≤◌, ◌<◌, ◌+◌, ◌*◌, ◌∷◌, ◌↔◌, IsTrue, List, [], length, IfOk, OnOk, Some};
+ghost use Rattle.std.specs.Prelude.{◌≡◌, ◌≤◌, ◌<◌, ◌+◌, ◌*◌, ◌∷◌, ◌↔◌, IsTrue, List, [], length, slice_index, IfOk, Some, vec_capacity};
 ghost use Rattle.cells.specs.Distances.{distance};
 ghost use Rattle.cells.specs.Neighbours.{unit_step};
 ghost use Rattle.cells.specs.Places.{cell_count, plus, raster_index};
-ghost use Rattle.cells.specs.Boxes.{cell_in};
 ghost use Rattle.max_flow.specs.Networks.{empty_network};
 ghost use Rattle.max_flow.specs.declared.network.Pipe.{Pipe};
 ghost use Rattle.map_canvas.specs.Maps.{IsSource};
 ghost use Rattle.boxes.specs.Pairs.{AreCounts, pair_count, pairs_before, IsPair};
+ghost use Rattle.boxes.specs.Raster.{stride};
 ghost use Rattle.boxes.specs.Walks.{most_pairs};
 ghost use Rattle.costs.specs.Costs.{most_of_pair, seam};
 ghost use Rattle.cut_graph.specs.Pipes.{first_or_none, pair_pipes};
-ghost use Rattle.cut_graph.specs.Plans.{HasNodes, HasSources, IsCellAt, IsPiped, IsPipedPast, IsPipedTo, IsPlan, before, with_pipes};
+ghost use Rattle.cut_graph.specs.Plans.{HasNodes, HasSources, IsPiped, IsPipedPast, IsPipedTo, IsPlan, before, with_pipes};
 
 use crate::places::{NO_PIPE, SINK, SOURCE};
 use crate::plan::{PairCell, Plan};
@@ -55,26 +55,33 @@ fn follows(axis: Axis, a: At, b: At) -> bool
     a.plus(axis.unit()) == b
 }
 
-// The cost of the new source of a cell and the old one of the next, from that of the old and the new one.
-// Where the old sources are next to one another, as most are, the two costs are one.
-fn new_old(sample: &Volume, axis: Axis, a: At, b: At, new_a: At, old_new: u32) -> u32
+// The costs of the new and of the old source of a cell with the old one of the next, from that of the
+// old and the new one. Where the old sources are next to one another, as most are, the first is that one
+// and the second 0.
+#[inline(always)]
+fn costs_of_old(sample: &Volume, axis: Axis, a: At, b: At, new_a: At, old_new: u32) -> (u32, u32)
     requires a { IsSource a }
     requires b { IsSource b }
     requires new_a { IsSource new_a }
     requires cost { old_new ≡ seam (distance sample.now) axis a (plus new_a (unit_step axis)) }
     requires small { old_new ≤ most_of_pair }
-    ensures cost { result ≡ seam (distance sample.now) axis new_a b }
-    ensures small { result ≤ most_of_pair }
+    ensures new { result.0 ≡ seam (distance sample.now) axis new_a b }
+    ensures old { result.1 ≡ seam (distance sample.now) axis a b }
+    ensures small { (result.0 ≤ most_of_pair) × (result.1 ≤ most_of_pair) }
 {
     if follows(axis, a, b) {
-        old_new
+        (old_new, 0)
     } else {
-        seam_of(sample, axis, Some(new_a), Some(b))
+        (
+            seam_of(sample, axis, Some(new_a), Some(b)),
+            seam_of(sample, axis, Some(a), Some(b)),
+        )
     }
 }
 
 // Adds the pipes of two filled cells, of sources a and b: through the seam node as much both ways as old
 // meets new, and from there to the sink what old meets old.
+#[inline(always)]
 fn join_filled(
     network: &mut Network,
     sample: &Volume,
@@ -106,18 +113,18 @@ fn join_filled(
         ahead,
         back: ahead,
     });
-    let back = new_old(sample, axis, a, b, first.after, ahead);
+    let (back, old) = costs_of_old(sample, axis, a, b, first.after, ahead);
     network.add_pipe(Pipe {
         from: seam,
         to: second.node,
         ahead: back,
         back,
     });
-    let old = seam_of(sample, axis, Some(a), Some(b));
     join_sink(network, seam, old);
 }
 
 // Adds the pipes of a pair, and says how many they are.
+#[inline(always)]
 fn join(
     network: &mut Network,
     sample: &Volume,
@@ -160,6 +167,16 @@ fn join(
     }
 }
 
+// Whether two cells are both unfilled, by their nodes.
+fn are_unfilled(cells: &[u32], i: usize, j: usize) -> bool
+    requires first { i < length cells.now }
+    requires second { j < length cells.now }
+    ensures { IsTrue result →
+        (slice_index cells.now i ≡ 1) × (slice_index cells.now j ≡ 1) }
+{
+    cells[i] == SINK && cells[j] == SINK
+}
+
 // Where so many pipes more begin.
 fn first_of(count: u32, added: u32) -> u32
     ensures { (pipes : List Pipe) → added ≡ length pipes → result ≡ first_or_none pipes count }
@@ -173,7 +190,7 @@ impl Piping {
         requires nodes { 2 ≤ nodes }
         requires pairs { pairs ≤ most_pairs }
         ensures { IfOk result (λ made. (made.network ≡ empty_network nodes 0 1 (3 * pairs))
-            × (made.count ≡ 0) × (made.first.items ≡ [])) }
+            × (made.count ≡ 0) × (made.first.items ≡ []) × (vec_capacity made.first ≡ pairs)) }
     {
         let network = Network::make(alloc, nodes, SOURCE, SINK, 3 * pairs)?;
         let first = Vec::with_capacity(alloc, pairs)?;
@@ -184,77 +201,59 @@ impl Piping {
         })
     }
 
-    // Adds the pipes of the pair of a cell, at an index, and the next one along an axis.
-    fn add_pair(
-        &mut self,
-        plan: &Plan,
-        axis: Axis,
-        at: Counts,
-        i: usize,
-        first: &PairCell,
-    ) -> Result<(), AllocError>
+    // Adds the pipes of the pair of a cell, at an index, and the next one along an axis, at another.
+    #[inline(always)]
+    fn add_pair(&mut self, plan: &Plan, axis: Axis, at: Counts, i: usize, j: usize)
         requires plan { IsPlan plan.now }
         requires nodes { HasNodes plan.now self.old.network.nodes }
         requires pair { IsPair plan.now.placement.rect.size axis at.x at.y at.f }
         requires index { raster_index plan.now.placement.rect.size at.x at.y at.f ≡ i }
-        requires first { IsCellAt plan.now
-            (cell_in plan.now.placement.rect at.x at.y at.f) i first.now }
-        requires sources { HasSources first.now }
+        requires next { i + stride plan.now.placement.rect.size axis ≡ j }
         requires so_far { IsPipedTo plan.now self.old.network.nodes axis at.x at.y at.f self.old }
-        ensures { OnOk result
-            (IsPipedPast plan.now self.old.network.nodes axis at.x at.y at.f self.new) }
+        ensures { IsPipedPast plan.now self.old.network.nodes axis at.x at.y at.f self.new }
     {
-        let place = at.cell(&plan.placement.rect).plus(axis.unit());
-        let second = plan.cell(place, i + stride(plan.placement.rect.size, axis));
+        let (first, second) = plan.pair(axis, at, i, j);
         let seam = plan.seams[self.first.len()];
-        let added = join(&mut self.network, plan.sample, axis, first, &second, seam);
-        self.first.push(first_of(self.count, added))?;
+        let added = join(&mut self.network, plan.sample, axis, &first, &second, seam);
+        self.first.push_reserved(first_of(self.count, added));
         self.count += added;
-        Ok(())
     }
 
-    // The same where the box has the next cell.
-    fn add_along(
-        &mut self,
-        plan: &Plan,
-        axis: Axis,
-        at: Counts,
-        i: usize,
-        first: &PairCell,
-    ) -> Result<(), AllocError>
+    // The same where the box has the next cell. Two unfilled cells have no pipes, and their nodes tell.
+    #[inline(always)]
+    fn add_along(&mut self, plan: &Plan, axis: Axis, at: Counts, i: usize)
         requires plan { IsPlan plan.now }
         requires nodes { HasNodes plan.now self.old.network.nodes }
         requires counts { AreCounts plan.now.placement.rect.size at.x at.y at.f }
         requires index { raster_index plan.now.placement.rect.size at.x at.y at.f ≡ i }
-        requires first { IsCellAt plan.now
-            (cell_in plan.now.placement.rect at.x at.y at.f) i first.now }
-        requires sources { HasSources first.now }
         requires so_far { IsPipedTo plan.now self.old.network.nodes axis at.x at.y at.f self.old }
-        ensures { OnOk result
-            (IsPipedPast plan.now self.old.network.nodes axis at.x at.y at.f self.new) }
+        ensures { IsPipedPast plan.now self.old.network.nodes axis at.x at.y at.f self.new }
     {
-        if at.has_next(plan.placement.rect.size, axis) {
-            self.add_pair(plan, axis, at, i, first)
-        } else {
-            Ok(())
+        let size = plan.placement.rect.size;
+        if at.has_next(size, axis) {
+            let j = i + stride(size, axis);
+            if are_unfilled(plan.cells, i, j) {
+                self.first.push_reserved(NO_PIPE);
+            } else {
+                self.add_pair(plan, axis, at, i, j);
+            }
         }
     }
 
     // Adds the pipes of a cell, at an index, and the next ones.
-    fn add_next(&mut self, plan: &Plan, at: Counts, i: usize) -> Result<(), AllocError>
+    fn add_next(&mut self, plan: &Plan, at: Counts, i: usize)
         requires plan { IsPlan plan.now }
         requires nodes { HasNodes plan.now self.old.network.nodes }
         requires counts { AreCounts plan.now.placement.rect.size at.x at.y at.f }
         requires index { raster_index plan.now.placement.rect.size at.x at.y at.f ≡ i }
         requires so_far { IsPiped plan.now self.old.network.nodes (before plan.now i)
             (pairs_before plan.now.placement.rect.size i) self.old }
-        ensures { OnOk result (IsPiped plan.now self.old.network.nodes (before plan.now (i + 1))
-            (pairs_before plan.now.placement.rect.size (i + 1)) self.new) }
+        ensures { IsPiped plan.now self.old.network.nodes (before plan.now (i + 1))
+            (pairs_before plan.now.placement.rect.size (i + 1)) self.new }
     {
-        let first = plan.cell(at.cell(&plan.placement.rect), i);
-        self.add_along(plan, Axis::X, at, i, &first)?;
-        self.add_along(plan, Axis::Y, at, i, &first)?;
-        self.add_along(plan, Axis::F, at, i, &first)
+        self.add_along(plan, Axis::X, at, i);
+        self.add_along(plan, Axis::Y, at, i);
+        self.add_along(plan, Axis::F, at, i);
     }
 }
 
@@ -270,7 +269,7 @@ pub(crate) fn lay_pipes(alloc: Global, plan: &Plan, nodes: u32) -> Result<Piping
     let size = plan.placement.rect.size;
     let mut at = Counts::first();
     for i in 0..plan.cells.len() {
-        piping.add_next(plan, at, i)?;
+        piping.add_next(plan, at, i);
         at = at.next(size);
     }
     Ok(piping)

@@ -6,7 +6,7 @@ use Rattle.costs.specs.Lawful.{held_marks}
 use Rattle.boxes.specs.Pairs.{pair_count}
 use Rattle.cut_graph.specs.Building.{AreSeamNodes}
 use Rattle.cut_graph.specs.Cuts.{IsNetworkOf}
-use Rattle.cut_graph.proofs.Whole.{are_nodes, held_filled, is_network}
+use Rattle.cut_graph.proofs.Whole.{are_nodes, held_filled, is_network, sinks_unfilled}
 use Rattle.cells.proofs.BoxLaws.{box_small}
 use Rattle.cells.proofs.DistanceLaws.{distance_laws}
 use Rattle.cut_graph.proofs.Cutting.{choices_are_cuts}
@@ -29,6 +29,9 @@ number_seams-requires-clause-first c =
     let numbering = c.in_ok-cells.ensures.numbering in
     let small = number_seams-requires-clause-small c in
     (omega (arith, numbering.order), omega (arith, numbering.short, c.in_ok-cells.ensures.count, small.cells))
+
+pub lay-requires-clause-unfilled : goal.lay-requires-clause-unfilled
+lay-requires-clause-unfilled c = sinks_unfilled c.args.canvas.now.map c.args.placement.now (held_marks (option_copied c.args.held)) c.in_ok-cells.cells c.in_ok-cells.ensures
 
 pub returns : goal.returns
 returns c =

@@ -19,7 +19,7 @@ loop-i-init c =
     let begun = c.in_ok-piping.ensures in
     record {
       at = c.first-at.ensures.index plan.placement.rect.size c.requires.plan.fits.some;
-      piping = none_piped plan c.args.nodes _ c.in_ok-piping.piping c.requires.plan refl begun.0 begun.1 begun.2;
+      piping = none_piped plan c.args.nodes _ c.in_ok-piping.piping c.requires.plan refl begun.0 begun.1 begun.2 begun.3;
     }
 
 pub add_next-requires-clause-nodes : goal.add_next-requires-clause-nodes
@@ -45,7 +45,7 @@ loop-i-preserved c =
     let plan = c.args.plan.now in
     record {
       at = c.next-at.ensures c.loop-i.i c.loop-i.invariant.at;
-      piping = subst (λ nodes. IsPiped plan nodes (before plan (c.loop-i.i + 1)) (pairs_before plan.placement.rect.size (c.loop-i.i + 1)) c.add_next.new.self) c.loop-i.invariant.piping.size c.in_ok-add_next.ensures;
+      piping = subst (λ nodes. IsPiped plan nodes (before plan (c.loop-i.i + 1)) (pairs_before plan.placement.rect.size (c.loop-i.i + 1)) c.add_next.new.self) c.loop-i.invariant.piping.size c.add_next.ensures;
     }
 
 pub returns : goal.returns

@@ -1,50 +1,15 @@
-use Rattle.std.proofs.Common.{◌≡◌, ℕ, ◌+◌, ◌<◌, [], ◌∷◌, ◌++◌, sym, ap, ◌∙◌, subst, arith, rules, Fits, w32}
+use Rattle.std.proofs.Common.{◌≡◌, ℕ, ◌+◌, ◌<◌, [], ◌∷◌, ◌++◌, refl, sym, ap, ◌∙◌, subst, arith, rules, Fits, w32}
 use Rattle.std.specs.Prelude.{slice_index}
-use Rattle.cells.specs.Boxes.{IsInBox, cell_in}
+use Rattle.cells.specs.Boxes.{cell_in}
 use Rattle.cells.specs.Neighbours.{unit_step}
-use Rattle.cells.specs.declared.place.At.{At}
-use Rattle.cells.specs.Places.{SumFits, cell_count, plus}
+use Rattle.cells.specs.Places.{cell_count, plus}
 use Rattle.boxes.proofs.PairNumbers.{number_below, pairs_few}
-use Rattle.boxes.proofs.Indices.{stride_below}
 use Rattle.boxes.specs.Pairs.{pair_number}
 use Rattle.costs.proofs.Copies.{new_next}
-use Rattle.costs.proofs.Near.{asked_step, cell_asked}
-use Rattle.map_canvas.specs.Choices.{new_source}
 use Rattle.cut_graph.specs.declared.piping.Piping.{Piping}
 use Rattle.cut_graph.specs.Plans.{IsCellAt, pipes_of_pair}
-use Rattle.cut_graph.proofs.Laying.{Grows, grown, has_room, pair_is, pipes_most, plan_inside, plan_small, second_in_box}
+use Rattle.cut_graph.proofs.Laying.{Grows, grown, has_room, pair_is, pipes_most, plan_small}
 use Rattle.cut_graph.proofs.piping.Piping.add_pair.Goals as goal
-
-pub cell-requires-clause-inside : goal.cell-requires-clause-inside
-cell-requires-clause-inside c = plan_inside c.args.plan.now c.requires.plan
-
-pub plus-place-requires : goal.plus-place-requires
-plus-place-requires c =
-    let rect = c.args.plan.now.placement.rect in
-    let at = c.args.at in
-    let step = asked_step (cell_in rect at.x at.y at.f) c.args.axis (cell_asked rect at.x at.y at.f (plan_inside c.args.plan.now c.requires.plan) c.requires.pair.counts) in
-    subst (SumFits c.cell.result) (sym c.unit.ensures) (subst (λ (p : At). SumFits p (unit_step c.args.axis)) (sym c.cell.ensures) step)
-
-pub stride-requires : goal.stride-requires
-stride-requires c = plan_small c.args.plan.now c.requires.plan
-
-pub overflow_add-i : goal.overflow_add-i
-overflow_add-i c =
-    let plan = c.args.plan.now in
-    let at = c.args.at in
-    omega (arith, stride_below plan.placement.rect.size c.args.axis at.x at.y at.f c.requires.pair, c.requires.index, c.stride.ensures, (plan_small plan c.requires.plan).cells)
-
-pub cell-second-requires-clause-inside : goal.cell-second-requires-clause-inside
-cell-second-requires-clause-inside c =
-    let rect = c.args.plan.now.placement.rect in
-    let at = c.args.at in
-    let place : c.plus-place.result ≡ plus (cell_in rect at.x at.y at.f) (unit_step c.args.axis) = c.plus-place.ensures ∙ (λ k. plus (c.cell.ensures k) (c.unit.ensures k)) in
-    subst (IsInBox rect) (sym place) (second_in_box rect c.args.axis at.x at.y at.f c.requires.pair)
-
-pub cell-second-requires-clause-below : goal.cell-second-requires-clause-below
-cell-second-requires-clause-below c =
-    let at = c.args.at in
-    omega (arith, stride_below c.args.plan.now.placement.rect.size c.args.axis at.x at.y at.f c.requires.pair, c.requires.index, c.stride.ensures, c.requires.plan.cells_count)
 
 pub bounds-plan-len : goal.bounds-plan-len
 bounds-plan-len c =
@@ -60,9 +25,7 @@ join-added-requires-clause-next c =
     let placement = c.args.plan.now.placement in
     let at = c.args.at in
     let step = unit_step c.args.axis in
-    let place : c.plus-place.result ≡ plus (cell_in placement.rect at.x at.y at.f) step = c.plus-place.ensures ∙ (λ k. plus (c.cell.ensures k) (c.unit.ensures k)) in
-    c.cell-second.ensures.cell.new ∙ ap (new_source placement) place
-    ∙ new_next placement (cell_in placement.rect at.x at.y at.f) step ∙ ap (λ p. plus p step) (sym c.requires.first.new)
+    c.pair.ensures.second.new ∙ new_next placement (cell_in placement.rect at.x at.y at.f) step ∙ ap (λ p. plus p step) (sym c.pair.ensures.first.new)
 
 pub join-added-requires-clause-room : goal.join-added-requires-clause-room
 join-added-requires-clause-room c =
@@ -70,16 +33,19 @@ join-added-requires-clause-room c =
     has_room c.args.plan.now c.args.self.now.network.nodes c.args.axis at.x at.y at.f c.args.self.now c.requires.pair c.requires.so_far
 
 pub join-added-requires-clause-first_in : goal.join-added-requires-clause-first_in
-join-added-requires-clause-first_in c = omega (arith, c.requires.first.own, c.requires.nodes.cells_in c.args.i)
+join-added-requires-clause-first_in c = omega (arith, c.pair.ensures.first.own, c.requires.nodes.cells_in c.args.i)
 
 pub join-added-requires-clause-second_in : goal.join-added-requires-clause-second_in
-join-added-requires-clause-second_in c = omega (arith, c.cell-second.ensures.cell.own, c.requires.nodes.cells_in (c.args.i + c.stride.result))
+join-added-requires-clause-second_in c = omega (arith, c.pair.ensures.second.own, c.requires.nodes.cells_in c.args.j)
 
 pub join-added-requires-clause-seam_in : goal.join-added-requires-clause-seam_in
 join-added-requires-clause-seam_in c = c.requires.nodes.seams_in c.len.result
 
-pub join-added-requires-clause-second_sources : goal.join-added-requires-clause-second_sources
-join-added-requires-clause-second_sources c = c.cell-second.ensures.sources
+pub push_reserved-requires : goal.push_reserved-requires
+push_reserved-requires c =
+    let at = c.args.at in
+    let first = c.args.self.now.first in
+    omega (arith, number_below c.args.plan.now.placement.rect.size c.args.axis at.x at.y at.f c.requires.pair, c.requires.so_far.number, c.requires.so_far.space, first.ok)
 
 small_fits : (n : ℕ) → n < 400000000 → Fits w32 n
 small_fits n lt = search rules
@@ -90,7 +56,7 @@ overflow_add-self c =
     let size = plan.placement.rect.size in
     let at = c.args.at in
     let so_far = c.requires.so_far in
-    let most = pipes_most plan c.args.axis c.args.first.now c.cell-second.result (slice_index plan.seams.now c.len.result) in
+    let most = pipes_most plan c.args.axis c.pair.result.0 c.pair.result.1 (slice_index plan.seams.now c.len.result) in
     let few : c.args.self.now.count + c.join-added.result < 400000000 =
     omega (arith, so_far.total, so_far.few, number_below size c.args.axis at.x at.y at.f c.requires.pair, pairs_few size (cell_count size), (plan_small plan c.requires.plan).cells, c.join-added.ensures.count, most) in
     small_fits (c.args.self.now.count + c.join-added.result) few
@@ -102,20 +68,21 @@ returns c =
     let rect = plan.placement.rect in
     let at = c.args.at in
     let axis = c.args.axis in
-    let first = c.args.first.now in
-    let second = c.cell-second.result in
+    let first = c.pair.result.0 in
+    let second = c.pair.result.1 in
     let was = c.args.self.now in
-    let now : Piping = record { network = c.join-added.new.network; count = was.count + c.join-added.result; first = c.push.new.self } in
+    let now : Piping = record { network = c.join-added.new.network; count = was.count + c.join-added.result; first = c.push_reserved.new.self } in
     let seam = slice_index plan.seams.now c.len.result in
     let made = pipes_of_pair plan axis first second seam in
     let number : c.len.result ≡ pair_number size axis at.x at.y at.f = omega (arith, c.len.ensures, was.first.ok, c.requires.so_far.number) in
-    let place : c.plus-place.result ≡ plus (cell_in rect at.x at.y at.f) (unit_step axis) = c.plus-place.ensures ∙ (λ k. plus (c.cell.ensures k) (c.unit.ensures k)) in
-    let is_second = subst (λ n. IsCellAt plan c.plus-place.result (c.args.i + n) second) c.stride.ensures c.cell-second.ensures.cell in
-    let same = pair_is plan axis at.x at.y at.f c.args.i c.plus-place.result first second seam c.requires.index place c.requires.pair.next c.requires.first is_second (ap (slice_index plan.seams.now) number) in
+    let place = plus (cell_in rect at.x at.y at.f) (unit_step axis) in
+    let is_second = subst (λ n. IsCellAt plan place n second) (sym c.requires.next) c.pair.ensures.second in
+    let same = pair_is plan axis at.x at.y at.f c.args.i place first second seam c.requires.index refl c.requires.pair.next c.pair.ensures.first is_second (ap (slice_index plan.seams.now) number) in
     let grows : Grows plan made was now = record {
       network = c.join-added.ensures.network;
       total = ap (λ n. was.count + n) c.join-added.ensures.count;
-      firsts = c.in_ok-push.ensures.items ∙ ap (λ v. was.first.items ++ v ∷ []) (c.first_of.ensures made c.join-added.ensures.count);
+      firsts = c.push_reserved.ensures.items ∙ ap (λ v. was.first.items ++ v ∷ []) (c.first_of.ensures made c.join-added.ensures.count);
+      space = c.push_reserved.ensures.capacity;
       few = pipes_most plan axis first second seam;
     } in
     grown plan was.network.nodes axis at.x at.y at.f made was now c.requires.pair same grows c.requires.so_far

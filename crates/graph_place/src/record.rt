@@ -1,14 +1,13 @@
 // The record of a solved network.
-ghost use Rattle.std.specs.Prelude.{◌≡◌, ◌<◌, ◌++◌, ℕ, IfOk, OnOk, length, slice_index, vec_len};
-ghost use Rattle.cells.specs.Boxes.{HasCells, HoldsBox};
-ghost use Rattle.cells.specs.Places.{IsSmall, cell_count, raster_index};
-ghost use Rattle.boxes.specs.Pairs.{AreCounts, pair_number, pairs_before};
-ghost use Rattle.boxes.specs.Raster.{largest};
+ghost use Rattle.std.specs.Prelude.{◌≡◌, ◌<◌, ◌++◌, ℕ, IfOk, Some, length, slice_index, vec_capacity, vec_len};
+ghost use Rattle.cells.specs.Boxes.{HasCells, HoldsBox, cell_in};
+ghost use Rattle.cells.specs.Places.{IsSmall, cell_count, index_in, raster_index};
+ghost use Rattle.boxes.specs.Pairs.{AreCounts, pair_count, pair_number, pairs_before};
 ghost use Rattle.max_flow.specs.Flows.{pipe_flow};
 ghost use Rattle.graph_place.specs.Parts.{IsChoiceOf, flow_along, flows_before, flows_from};
 ghost use Rattle.graph_place.specs.Records.{HasFlows, IsRecordOf, IsSmallFlow, IsSolvedFor, flow_of, pipe_count, source_in};
 
-use boxes::Counts;
+use boxes::{Counts, stride};
 use cells::{At, Axis};
 use cut_check::{CutRecord, Flow};
 use cut_graph::Places;
@@ -60,7 +59,9 @@ fn flow_of(a: Option<At>, b: Option<At>, flows: &[i32], first: usize) -> Flow
     }
 }
 
-// Adds the flow of a cell of this source and the next one along an axis, where the box has it.
+// Adds the flow of a cell of this source, at an index of the map, and the next one along an axis, where
+// the box has it.
+#[inline(always)]
 fn add_pair(
     flows: &mut Vec<Flow>,
     map: &Map,
@@ -69,25 +70,27 @@ fn add_pair(
     solved: &Solved,
     axis: Axis,
     at: Counts,
+    k: usize,
     source: Option<At>,
-) -> Result<(), AllocError>
+)
     requires small { IsSmall placement.now.rect.size }
-    requires inside { HoldsBox largest placement.now.rect.corner placement.now.rect.size }
+    requires inside { HoldsBox map.now.size placement.now.rect.corner placement.now.rect.size }
     requires solved { IsSolvedFor map.now placement.now places.now solved.now }
     requires counts { AreCounts placement.now.rect.size at.x at.y at.f }
+    requires index { index_in map.now.size (cell_in placement.now.rect at.x at.y at.f) ≡ Some k }
     requires source { source ≡ source_in map.now placement.now at.x at.y at.f }
     requires number { vec_len flows.old ≡ pair_number placement.now.rect.size axis at.x at.y at.f }
-    ensures { OnOk result (flows.new.items ≡ flows.old.items
-        ++ flow_along map.now placement.now places.now solved.now.flow axis at.x at.y at.f) }
+    requires room { vec_capacity flows.old ≡ pair_count placement.now.rect.size }
+    ensures flows { flows.new.items ≡ flows.old.items
+        ++ flow_along map.now placement.now places.now solved.now.flow axis at.x at.y at.f }
+    ensures room { vec_capacity flows.new ≡ pair_count placement.now.rect.size }
 {
-    let size = placement.rect.size;
-    if !at.has_next(size, axis) {
-        return Ok(());
+    if !at.has_next(placement.rect.size, axis) {
+        return;
     }
-    let next = map.at(at.next_along(size, axis).cell(&placement.rect));
+    let next = map.sources()[k + stride(map.size(), axis)].source();
     let first = places.pipes.as_slice()[flows.len()] as usize;
-    flows.push(flow_of(source, next, solved.flow.as_slice(), first))?;
-    Ok(())
+    flows.push_reserved(flow_of(source, next, solved.flow.as_slice(), first));
 }
 
 // Adds the flows of a cell and the next ones along X, Y and F.
@@ -98,20 +101,54 @@ fn add_pairs(
     places: &Places,
     solved: &Solved,
     at: Counts,
-) -> Result<(), AllocError>
+)
     requires small { IsSmall placement.now.rect.size }
-    requires inside { HoldsBox largest placement.now.rect.corner placement.now.rect.size }
+    requires inside { HoldsBox map.now.size placement.now.rect.corner placement.now.rect.size }
     requires solved { IsSolvedFor map.now placement.now places.now solved.now }
     requires counts { AreCounts placement.now.rect.size at.x at.y at.f }
     requires number { vec_len flows.old ≡
         pairs_before placement.now.rect.size (raster_index placement.now.rect.size at.x at.y at.f) }
-    ensures { OnOk result (flows.new.items ≡ flows.old.items
-        ++ flows_from map.now placement.now places.now solved.now.flow at.x at.y at.f) }
+    requires room { vec_capacity flows.old ≡ pair_count placement.now.rect.size }
+    ensures flows { flows.new.items ≡ flows.old.items
+        ++ flows_from map.now placement.now places.now solved.now.flow at.x at.y at.f }
+    ensures room { vec_capacity flows.new ≡ pair_count placement.now.rect.size }
 {
-    let source = map.at(at.cell(&placement.rect));
-    add_pair(flows, map, placement, places, solved, Axis::X, at, source)?;
-    add_pair(flows, map, placement, places, solved, Axis::Y, at, source)?;
-    add_pair(flows, map, placement, places, solved, Axis::F, at, source)
+    let size = map.size();
+    let k = size.index_of(at.cell(&placement.rect)).unwrap();
+    let source = map.sources()[k].source();
+    add_pair(
+        flows,
+        map,
+        placement,
+        places,
+        solved,
+        Axis::X,
+        at,
+        k,
+        source,
+    );
+    add_pair(
+        flows,
+        map,
+        placement,
+        places,
+        solved,
+        Axis::Y,
+        at,
+        k,
+        source,
+    );
+    add_pair(
+        flows,
+        map,
+        placement,
+        places,
+        solved,
+        Axis::F,
+        at,
+        k,
+        source,
+    );
 }
 
 // The flows of all pairs.
@@ -134,7 +171,7 @@ fn flows_of(
     let mut flows = Vec::with_capacity(alloc, places.pipes.as_slice().len())?;
     let mut at = Counts::first();
     for i in 0..size.cells() {
-        add_pairs(&mut flows, map, placement, places, solved, at)?;
+        add_pairs(&mut flows, map, placement, places, solved, at);
         at = at.next(size);
     }
     Ok(flows)

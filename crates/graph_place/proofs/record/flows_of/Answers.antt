@@ -4,7 +4,7 @@ use Rattle.cells.proofs.BoxLaws.{box_small}
 use Rattle.map_canvas.specs.Maps.{SourceMap}
 use Rattle.boxes.specs.Pairs.{pairs_before}
 use Rattle.boxes.proofs.Indices.{at_index_is, counts_below}
-use Rattle.costs.proofs.Near.{in_largest}
+use Rattle.cells.specs.Boxes.{HoldsBox}
 use Rattle.graph_place.specs.Parts.{flows_before, flows_from}
 use Rattle.graph_place.specs.Records.{IsSolvedFor}
 use Rattle.graph_place.proofs.Recording.{before_more, length-before}
@@ -17,12 +17,13 @@ pub loop-i-init : goal.loop-i-init
 loop-i-init c = record {
   at = c.first-at.ensures.index c.args.placement.now.rect.size c.requires.cells;
   flows = c.in_ok-flows.ensures.items;
+  room = omega (arith, c.in_ok-flows.ensures.exact, ap length c.as_slice.ensures, c.requires.solved.first.count, c.requires.solved.nodes.seam_nodes);
 }
 
 pub add_pairs-requires-clause-inside : goal.add_pairs-requires-clause-inside
 add_pairs-requires-clause-inside c =
     let rect = c.args.placement.now.rect in
-    in_largest c.args.canvas.now.map.size rect.corner rect.size c.map-map.ensures.canvas.map.small c.requires.inside
+    subst (λ (m : SourceMap). HoldsBox m.size rect.corner rect.size) (sym c.map-map.ensures.map) c.requires.inside
 
 pub add_pairs-requires-clause-solved : goal.add_pairs-requires-clause-solved
 add_pairs-requires-clause-solved c = subst (λ (m : SourceMap). IsSolvedFor m c.args.placement.now c.args.places.now c.args.solved.now) (sym c.map-map.ensures.map) c.requires.solved
@@ -58,10 +59,11 @@ loop-i-preserved c =
     record {
       at = c.next-at.ensures c.loop-i.i c.loop-i.invariant.at;
       flows =
-          c.in_ok-add_pairs.ensures
+          c.add_pairs.ensures.flows
           ∙ ap (λ fs. fs ++ flows_from m placement c.args.places.now flows at.x at.y at.f) c.loop-i.invariant.flows
           ∙ ap (λ more. flows_before m placement c.args.places.now flows c.loop-i.i ++ more) (sym (at_index_is placement.rect.size (flows_from m placement c.args.places.now flows) c.loop-i.i at.x at.y at.f c.loop-i.invariant.at))
           ∙ sym (before_more m placement c.args.places.now flows c.loop-i.i);
+      room = c.add_pairs.ensures.room;
     }
 
 pub returns : goal.returns

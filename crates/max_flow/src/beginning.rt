@@ -8,7 +8,7 @@ use crate::network::{Network, Pipe};
 use crate::packed::PackedArcs;
 use crate::preflow::Preflow;
 use crate::trees::Trees;
-use crate::triangles::{Stars, may_be_many};
+use crate::triangles::Shorter;
 use std::alloc::{AllocError, Global};
 
 // How many arcs the search trees look at, at most, for each pipe. Level graphs that finish in their place take many
@@ -59,21 +59,6 @@ fn send_excess(
     Ok(preflow.into_arcs())
 }
 
-/// The stars of a network, if they are many.
-pub fn many_stars(alloc: Global, network: &Network) -> Result<Option<Stars>, AllocError> {
-    let pipes = network.pipes();
-    let (source, sink) = (network.source(), network.sink());
-    if !may_be_many(pipes, sink) {
-        return Ok(None);
-    }
-    let stars = Stars::find(alloc, network.nodes() as usize, source, sink, pipes)?;
-    Ok(if stars.are_many(pipes) {
-        Some(stars)
-    } else {
-        None
-    })
-}
-
 /// Writes what search trees leave for the arc against each pipe, where they go on from what `backward` has.
 pub fn propose(alloc: Global, network: &Network, backward: &mut [u32]) -> Result<(), AllocError> {
     let mut arcs = PackedArcs::pack(alloc, network.nodes() as usize, network.pipes())?;
@@ -81,12 +66,6 @@ pub fn propose(alloc: Global, network: &Network, backward: &mut [u32]) -> Result
     let (arcs, _) = grow_trees(alloc, network, arcs, WORK)?;
     arcs.write_backward(backward);
     Ok(())
-}
-
-// The arcs of the shorter network, with nothing flowing. Its pipes are given back.
-fn short_arcs(alloc: Global, pipes: &[Pipe], stars: &Stars) -> Result<PackedArcs, AllocError> {
-    let short = stars.shorten(alloc, pipes)?;
-    PackedArcs::pack(alloc, stars.nodes_of(&short), &short)
 }
 
 // Sends flow over the arcs of a shorter network: by search trees, and by an excess where they give up.
@@ -103,14 +82,17 @@ fn search_short(
     }
 }
 
-/// What the search leaves for the arc against each pipe of a network with many stars, where it goes over the
-/// shorter network and begins with nothing. The table is made once those of the search are given back.
-pub fn propose_short(alloc: Global, network: &Network, stars: Stars) -> Result<Vec<u32>, AllocError>
+/// What the search leaves for the arc against each pipe of a network, where it goes over the shorter one and begins
+/// with nothing. The table is made once those of the search are given back.
+pub fn propose_short(
+    alloc: Global,
+    network: &Network,
+    shorter: Shorter,
+) -> Result<Vec<u32>, AllocError>
     ensures { IfOk result (λ backward. vec_len backward ≡ length network.now.pipes) }
 {
-    let mut stars = stars;
     let pipes = network.pipes();
-    let arcs = short_arcs(alloc, pipes, &stars)?;
+    let (arcs, mut stars) = shorter.pack(alloc)?;
     let arcs = search_short(alloc, network, arcs)?;
     let mut backward = vec![in alloc; 0u32; pipes.len()]?;
     arcs.write_backward(&mut backward);

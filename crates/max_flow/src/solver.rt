@@ -11,11 +11,12 @@ ghost use Rattle.max_flow.specs.Residual.{AreResiduals, Carries, flows_of};
 ghost use Rattle.max_flow.specs.Levels.{AreLevels, IsClosed, level_of};
 ghost use Rattle.max_flow.specs.Solutions.{IsSolution};
 
-use crate::beginning::{checked_flow, empty, many_stars, propose, propose_short};
+use crate::beginning::{checked_flow, empty, propose, propose_short};
 use crate::blocking::blocking_flow;
 use crate::graph::{Graph, link};
 use crate::levels::find_levels;
 use crate::network::{Network, Pipe};
+use crate::triangles::Shorter;
 use items::Items;
 use std::alloc::{AllocError, Global};
 
@@ -229,8 +230,8 @@ pub fn solve(alloc: Global, network: &Network) -> Result<Solved, AllocError>
     if pipes.len() >= LIMIT {
         return Err(AllocError);
     }
-    if let Some(stars) = many_stars(alloc, network)? {
-        let mut backward = propose_short(alloc, network, stars)?;
+    if let Some(shorter) = Shorter::find(alloc, network)? {
+        let mut backward = propose_short(alloc, network, shorter)?;
         return Ok(finish(alloc, network, &mut backward)?);
     }
     let mut backward = vec![in alloc; 0u32; pipes.len()]?;

@@ -1,23 +1,27 @@
 // A shorter network that can carry as much: triangles in the place of stars.
 //
-// A star is a node with three pipes: from a first node, to a second node, as much both ways, and to
-// the sink. The old seams of a placement are stars (Kwatra et al. 2003). What a cut costs at a star
-// depends on the sides of the two nodes alone, and it costs as much at a triangle: a pipe from the
-// first node to the second, and one from each to the sink. The pipes of a node to the sink are made
-// one, so that a network of seams is left with its cells.
+// A star is three pipes, one after another, that meet in a node, its middle: from a first node, to a
+// second node, as much both ways, and to the sink. The old seams of a placement are stars (Kwatra et
+// al. 2003). What a cut costs at a star depends on the sides of the two nodes alone, and it costs as
+// much at a triangle: a pipe from the first node to the second, and one from each to the sink. The
+// pipes of a node to the sink are made one, so that a network of seams is left with its cells.
+//
+// The middles have to be the last nodes, in the order of their pipes. Then no other pipe can meet
+// them, a node's number tells whether it's one, and no table is needed for it.
 //
 // A flow of the shorter network is turned back into one of the stars: what leaves the two nodes
 // goes through the middle. Nothing is promised of either, as nothing is of the search.
 
-use crate::network::Pipe;
+ghost use Rattle.std.specs.Prelude.{◌≡◌, length};
+
+use crate::network::{Network, Pipe};
+use crate::packed::PackedArcs;
 use std::alloc::{AllocError, Global};
 
-// A triangle that stands for a star: its two nodes, what its pipe can carry between them both ways,
-// and what the pipes from each of them to the sink can.
+// A triangle that stands for a star: what its pipe can carry between its two nodes both ways, and
+// what the pipes from each of them to the sink can.
 #[derive(Clone, Copy)]
 struct Triangle {
-    from: u32,
-    to: u32,
     ahead: u32,
     back: u32,
     from_first: u32,
@@ -29,15 +33,13 @@ impl Triangle {
     // A cut costs at the triangle what it costs at the star: `from_first` and `from_second`
     // together the leg to the sink, `ahead` and `from_first` that of the first node, `back` and
     // `from_second` that of the second.
-    fn of_legs(first: &Pipe, second: &Pipe, down: &Pipe) -> Triangle {
-        let a = first.ahead.min(second.ahead.wrapping_add(down.ahead));
-        let b = second.ahead.min(first.ahead.wrapping_add(down.ahead));
-        let c = down.ahead.min(first.ahead.wrapping_add(second.ahead));
+    fn of_legs(first: u32, second: u32, down: u32) -> Triangle {
+        let a = first.min(second.wrapping_add(down));
+        let b = second.min(first.wrapping_add(down));
+        let c = down.min(first.wrapping_add(second));
         let from_first = a.wrapping_add(c).wrapping_sub(b) / 2;
         let from_second = c.wrapping_sub(from_first);
         Triangle {
-            from: first.from,
-            to: second.to,
             ahead: a.wrapping_sub(from_first),
             back: b.wrapping_sub(from_second),
             from_first,
@@ -52,182 +54,55 @@ fn meet(first: &Pipe, second: &Pipe, down: &Pipe, sink: u32) -> bool {
     second.from == middle && down.from == middle && down.to == sink
 }
 
-/// Whether so many pipes lie as those of a star do that the shorter network may have fewer pipes by a
-/// fifth or more. It takes no tables, so that networks of another kind lose little time.
-pub fn may_be_many(pipes: &[Pipe], sink: u32) -> bool {
+// The first middle, where so many pipes lie as those of a star do that the shorter network may have
+// fewer pipes by a fifth or more. It takes no tables, so that networks of another kind lose little
+// time.
+fn first_middle(pipes: &[Pipe], sink: u32) -> Option<u32> {
+    let mut found = None;
     let mut number = 0usize;
-    for index in 2..pipes.len() {
-        if meet(&pipes[index - 2], &pipes[index - 1], &pipes[index], sink) {
+    let mut rest = pipes;
+    'pipes: while let [first, after @ ..] = rest {
+        rest = after;
+        if let [second, down, beyond @ ..] = after
+            && meet(first, second, down, sink)
+        {
+            found = found.or(Some(first.to));
             number = number.wrapping_add(1);
+            rest = beyond;
         }
     }
-    number >= pipes.len() / 10
-}
-
-// Writes what a flow leaves for the arc against the pipe at an index.
-fn write_flow(pipes: &[Pipe], index: usize, flow: u32, backward: &mut [u32]) {
-    if let (Some(pipe), Some(entry)) = (pipes.get(index), backward.get_mut(index)) {
-        *entry = pipe.back.wrapping_add(flow);
+    if number >= pipes.len() / 10 {
+        found
+    } else {
+        None
     }
 }
 
-/// The stars of a network, and the shorter network without them.
+/// The stars of a network.
 #[derive(Drop)]
 pub struct Stars {
-    source: u32,
-    sink: u32,
-    // How many arcs leave each node, or 255 for more.
-    degrees: Vec<u8>,
-    // What the triangles can send to the sink from each node. `turn_back` counts in it what they
+    // The first middle. The nodes before it are those of the shorter network.
+    middle: u32,
+    // What the triangles can send to the sink from each of these. `turn_back` counts in it what they
     // have to send.
     to_sink: Vec<u32>,
-    // How many stars there are.
-    number: usize,
+}
+
+/// The shorter network of one with many stars: each pipe that's in no star, and for each star that
+/// between its two nodes, in the order of the network, and then those to the sink in the order of
+/// the nodes.
+#[derive(Drop)]
+pub struct Shorter {
+    pipes: Vec<Pipe>,
+    stars: Stars,
 }
 
 impl Stars {
-    /// Finds the stars of a network with that many nodes, these ends and these pipes.
-    pub fn find(
-        alloc: Global,
-        nodes: usize,
-        source: u32,
-        sink: u32,
-        pipes: &[Pipe],
-    ) -> Result<Stars, AllocError> {
-        let degrees = vec![in alloc; 0u8; nodes]?;
-        let to_sink = vec![in alloc; 0u32; nodes]?;
-        let mut stars = Stars {
-            source,
-            sink,
-            degrees,
-            to_sink,
-            number: 0,
-        };
-        stars.count_arcs(pipes);
-        stars.count_triangles(pipes);
-        Ok(stars)
-    }
-
-    fn count_arc(&mut self, node: u32) {
-        if let Some(degree) = self.degrees.get_mut(node as usize) {
-            *degree = degree.saturating_add(1);
-        }
-    }
-
-    fn count_arcs(&mut self, pipes: &[Pipe]) {
-        for pipe in pipes {
-            self.count_arc(pipe.from);
-            self.count_arc(pipe.to);
-        }
-    }
-
     // Adds to what a node can send to the sink.
     fn add_to_sink(&mut self, node: u32, amount: u32) {
         if let Some(entry) = self.to_sink.get_mut(node as usize) {
             *entry = entry.saturating_add(amount);
         }
-    }
-
-    fn count_triangles(&mut self, pipes: &[Pipe]) {
-        for index in 0..pipes.len() {
-            if let Some(triangle) = self.triangle_at(pipes, index) {
-                self.number = self.number.wrapping_add(1);
-                self.add_to_sink(triangle.from, triangle.from_first);
-                self.add_to_sink(triangle.to, triangle.from_second);
-            }
-        }
-    }
-
-    // Whether a node has three arcs and isn't an end.
-    fn is_middle(&self, node: u32) -> bool {
-        self.degrees.get(node as usize).copied() == Some(3)
-            && node != self.source
-            && node != self.sink
-    }
-
-    // The triangle for the star whose three pipes begin at an index, if they do. No two stars share
-    // a pipe.
-    fn triangle_at(&self, pipes: &[Pipe], index: usize) -> Option<Triangle> {
-        let first = pipes.get(index)?;
-        let second = pipes.get(index.wrapping_add(1))?;
-        let down = pipes.get(index.wrapping_add(2))?;
-        let is_star = meet(first, second, down, self.sink)
-            && first.ahead == first.back
-            && second.ahead == second.back
-            && self.is_middle(first.to);
-        if is_star {
-            Some(Triangle::of_legs(first, second, down))
-        } else {
-            None
-        }
-    }
-
-    // How many pipes the shorter network has.
-    fn count_short(&self, pipes: &[Pipe]) -> usize {
-        let mut count = pipes.len().wrapping_sub(self.number.wrapping_mul(2));
-        for amount in self.to_sink.iter() {
-            if *amount > 0 {
-                count = count.wrapping_add(1);
-            }
-        }
-        count
-    }
-
-    /// Whether the shorter network has fewer pipes by a fifth or more.
-    pub fn are_many(&self, pipes: &[Pipe]) -> bool {
-        self.count_short(pipes) <= pipes.len() - pipes.len() / 5
-    }
-
-    // Adds the pipes to the sink to the shorter network.
-    fn join_sink(&self, short: &mut Vec<Pipe>) -> Result<(), AllocError> {
-        let mut node = 0u32;
-        for amount in self.to_sink.iter() {
-            if *amount > 0 {
-                short.push(Pipe {
-                    from: node,
-                    to: self.sink,
-                    ahead: *amount,
-                    back: 0,
-                })?;
-            }
-            node = node.wrapping_add(1);
-        }
-        Ok(())
-    }
-
-    /// The pipes of the shorter network: each pipe that's in no star, and for each star that
-    /// between its two nodes, in the order of the network, and then those to the sink in the order
-    /// of the nodes.
-    pub fn shorten(&self, alloc: Global, pipes: &[Pipe]) -> Result<Vec<Pipe>, AllocError> {
-        let mut short = Vec::with_capacity(alloc, self.count_short(pipes))?;
-        let mut inside = 0u32;
-        for index in 0..pipes.len() {
-            if let Some(triangle) = self.triangle_at(pipes, index) {
-                short.push(Pipe {
-                    from: triangle.from,
-                    to: triangle.to,
-                    ahead: triangle.ahead,
-                    back: triangle.back,
-                })?;
-                inside = 2;
-            } else if inside > 0 {
-                inside = inside.wrapping_sub(1);
-            } else {
-                short.push(pipes[index])?;
-            }
-        }
-        self.join_sink(&mut short)?;
-        Ok(short)
-    }
-
-    /// How many nodes the shorter network has: those up to the last one that a pipe or an end
-    /// names.
-    pub fn nodes_of(&self, short: &[Pipe]) -> usize {
-        let mut last = self.source.max(self.sink);
-        for pipe in short {
-            last = last.max(pipe.from).max(pipe.to);
-        }
-        (last as usize).wrapping_add(1)
     }
 
     // Takes from what a node has to send to the sink, at most so much. Returns how much that is.
@@ -240,6 +115,16 @@ impl Stars {
             }
             None => 0,
         }
+    }
+
+    // Whether three pipes are a star whose middle comes after another.
+    fn is_star(&self, first: &Pipe, second: &Pipe, down: &Pipe, after: u32, sink: u32) -> bool {
+        meet(first, second, down, sink)
+            && first.to > after
+            && first.from < self.middle
+            && second.to < self.middle
+            && first.ahead == first.back
+            && second.ahead == second.back
     }
 
     // Reads what the nodes send to the sink, from what is left for the arcs against the last pipes
@@ -256,45 +141,143 @@ impl Stars {
         left
     }
 
-    // Writes what a flow leaves for the arcs against the pipes of a star, where it leaves so much
-    // for the arc against the pipe between the two nodes.
-    fn write_star(
-        &mut self,
-        pipes: &[Pipe],
-        index: usize,
-        triangle: Triangle,
-        against: u32,
-        backward: &mut [u32],
-    ) {
+    // What a flow leaves for the arcs against the pipes of a star, where it leaves so much for the
+    // arc against the pipe between the two nodes.
+    fn left_at(&mut self, first: &Pipe, second: &Pipe, down: &Pipe, against: u32) -> [u32; 3] {
+        let triangle = Triangle::of_legs(first.ahead, second.ahead, down.ahead);
         let across = against.wrapping_sub(triangle.back);
-        let first = self.take(triangle.from, triangle.from_first);
-        let second = self.take(triangle.to, triangle.from_second);
-        let [first_leg, second_leg, down] = [index, index.wrapping_add(1), index.wrapping_add(2)];
-        write_flow(pipes, first_leg, across.wrapping_add(first), backward);
-        write_flow(pipes, second_leg, across.wrapping_sub(second), backward);
-        write_flow(pipes, down, first.wrapping_add(second), backward);
+        let from_first = self.take(first.from, triangle.from_first);
+        let from_second = self.take(second.to, triangle.from_second);
+        let into = across.wrapping_add(from_first);
+        [
+            first.back.wrapping_add(into),
+            second.back.wrapping_add(across.wrapping_sub(from_second)),
+            down.back.wrapping_add(from_first.wrapping_add(from_second)),
+        ]
     }
 
     /// Turns a flow of the shorter network into one of the network. `backward` begins with what it
     /// leaves for the arc against each of so many pipes of the shorter one, and then has it for
     /// each pipe of the network.
-    pub fn turn_back(&mut self, pipes: &[Pipe], short: usize, backward: &mut [u32]) {
+    pub fn turn_back(&mut self, pipes: &[Pipe], short: usize, backward: &mut [u32])
+        requires { length backward.old ≡ length pipes.now }
+    {
         let mut left = self.read_sent(short, backward);
-        let mut inside = 0u32;
-        for index in (0..pipes.len()).rev() {
-            if inside > 0 {
-                inside = inside.wrapping_sub(1);
-                continue;
-            }
+        let mut index = pipes.len();
+        'pipes: while index > 0 {
+            index -= 1;
             left = left.wrapping_sub(1);
             let against = backward.get(left).copied().unwrap_or(0);
-            let begin = index.wrapping_sub(2);
-            if let Some(triangle) = self.triangle_at(pipes, begin) {
-                self.write_star(pipes, begin, triangle, against, backward);
-                inside = 2;
-            } else if let Some(entry) = backward.get_mut(index) {
-                *entry = against;
+            if pipes[index].from < self.middle || index < 2 {
+                backward[index] = against;
+            } else {
+                index -= 2;
+                let [first, second, down] = self.left_at(
+                    &pipes[index],
+                    &pipes[index + 1],
+                    &pipes[index + 2],
+                    against,
+                );
+                backward[index] = first;
+                backward[index + 1] = second;
+                backward[index + 2] = down;
             }
         }
+    }
+}
+
+impl Shorter {
+    // A network without pipes, with room for so many, of the nodes before the first middle.
+    fn begin(alloc: Global, middle: u32, pipes: usize) -> Result<Shorter, AllocError> {
+        let to_sink = vec![in alloc; 0u32; middle as usize]?;
+        let pipes = Vec::with_capacity(alloc, pipes)?;
+        let stars = Stars { middle, to_sink };
+        Ok(Shorter { pipes, stars })
+    }
+
+    // Adds the triangle for a star, but for its pipes to the sink.
+    fn add_star(&mut self, first: &Pipe, second: &Pipe, down: &Pipe) -> Result<(), AllocError> {
+        let triangle = Triangle::of_legs(first.ahead, second.ahead, down.ahead);
+        self.stars.add_to_sink(first.from, triangle.from_first);
+        self.stars.add_to_sink(second.to, triangle.from_second);
+        self.pipes.push(Pipe {
+            from: first.from,
+            to: second.to,
+            ahead: triangle.ahead,
+            back: triangle.back,
+        })?;
+        Ok(())
+    }
+
+    // Reads the pipes of a network. Returns whether all of them that meet a middle are stars in the
+    // order of the middles.
+    fn read(&mut self, pipes: &[Pipe], sink: u32) -> Result<bool, AllocError> {
+        let mut last = self.stars.middle.wrapping_sub(1);
+        let mut rest = pipes;
+        'pipes: while let [first, after @ ..] = rest {
+            if first.from.max(first.to) < self.stars.middle {
+                self.pipes.push(*first)?;
+                rest = after;
+                continue;
+            }
+            let [second, down, beyond @ ..] = after else {
+                return Ok(false);
+            };
+            if !self.stars.is_star(first, second, down, last, sink) {
+                return Ok(false);
+            }
+            self.add_star(first, second, down)?;
+            last = first.to;
+            rest = beyond;
+        }
+        Ok(true)
+    }
+
+    // Adds the pipes to the sink.
+    fn join_sink(&mut self, sink: u32) -> Result<(), AllocError> {
+        let mut node = 0u32;
+        for amount in self.stars.to_sink.iter() {
+            if *amount > 0 {
+                self.pipes.push(Pipe {
+                    from: node,
+                    to: sink,
+                    ahead: *amount,
+                    back: 0,
+                })?;
+            }
+            node = node.wrapping_add(1);
+        }
+        Ok(())
+    }
+
+    // Makes the network shorter. Returns whether it has fewer pipes by a fifth or more.
+    fn shorten(&mut self, pipes: &[Pipe], sink: u32) -> Result<bool, AllocError> {
+        if !self.read(pipes, sink)? {
+            return Ok(false);
+        }
+        self.join_sink(sink)?;
+        Ok(self.pipes.len() <= pipes.len() - pipes.len() / 5)
+    }
+
+    /// The shorter network of one, where it has fewer pipes by a fifth or more.
+    pub fn find(alloc: Global, network: &Network) -> Result<Option<Shorter>, AllocError> {
+        let pipes = network.pipes();
+        let (source, sink) = (network.source(), network.sink());
+        let Some(middle) = first_middle(pipes, sink) else {
+            return Ok(None);
+        };
+        if source.max(sink) >= middle {
+            return Ok(None);
+        }
+        let mut shorter = Shorter::begin(alloc, middle, pipes.len())?;
+        let is_short = shorter.shorten(pipes, sink)?;
+        Ok(if is_short { Some(shorter) } else { None })
+    }
+
+    /// The arcs of the shorter network, with nothing flowing, and the stars. Its pipes are given
+    /// back.
+    pub fn pack(self, alloc: Global) -> Result<(PackedArcs, Stars), AllocError> {
+        let arcs = PackedArcs::pack(alloc, self.stars.middle as usize, &self.pipes)?;
+        Ok((arcs, self.stars))
     }
 }

@@ -1,9 +1,9 @@
 // The sums of all windows of a block of corners, from the costs of the pairs of all their cells.
 ghost use Rattle.std.specs.Prelude.{◌≡◌, ◌≤◌, ◌<◌, ℕ, ◌+◌, ◌*◌, ◌/◌, ◌%◌, ◌^◌, length, slice_index};
-ghost use Rattle.cells.specs.declared.place.Axis.TheVariants.{X};
 ghost use Rattle.cells.specs.Boxes.{HasCells};
 ghost use Rattle.cells.specs.Distances.{distance};
 ghost use Rattle.cells.specs.Places.{IsSmall, cell_count, raster_index, spot};
+ghost use Rattle.boxes.specs.Pairs.{AreCounts};
 ghost use Rattle.map_canvas.specs.Maps.{map_at};
 ghost use Rattle.costs.specs.Costs.{most_of_pair, pair_at};
 ghost use Rattle.cost_windows.specs.Windows.{window_at};
@@ -12,73 +12,50 @@ ghost use Rattle.cost_windows.specs.Tables.{IsWindow, corners};
 
 use crate::block::{Block, corners};
 use crate::slide::sum_boxes;
-use boxes::{Counts, has_cells};
+use boxes::{Counts, has_cells, stride};
 use cells::{Axis, Size, Volume};
-use costs::{Sources, seam_of};
-use limits::GREATEST_AXIS;
+use costs::seam_of;
 use map_canvas::Map;
 
-// The costs of the cells of a row and the next ones in it, from a cell on. The source of each is asked
-// for once: it is the second of one pair, and the first of the next.
-#[tactic(auto, using(crate::proofs::Fills::pair_along))]
-fn fill_along(costs: &mut [u64], map: &Map, sample: &Volume, x: u32, y: u32, f: u32)
-    requires row { x + length costs.old ≤ GREATEST_AXIS }
-    requires counts { (y < GREATEST_AXIS) × (f < GREATEST_AXIS) }
-    ensures costs { AreRowCosts (distance sample.now) (map_at map.now) X x y f costs.new }
-    ensures small { AreAtMost most_of_pair costs.new }
-{
-    let mut source = map.source(Counts { x, y, f }.place());
-    for k in 0..costs.len() {
-        let x = x + k as u32 + 1;
-        let next = map.source(Counts { x, y, f }.place());
-        costs[k] = u64::from(seam_of(sample, Axis::X, source, next));
-        source = next;
-    }
-}
-
-// The cost of a cell and the next one along an axis.
-fn pair_at(map: &Map, sample: &Volume, at: Counts, axis: Axis) -> u32
-    requires { (at.x < GREATEST_AXIS) × (at.y < GREATEST_AXIS) × (at.f < GREATEST_AXIS) }
+// The cost of the cell at an index and the next one along an axis.
+fn pair_at(map: &Map, sample: &Volume, at: Counts, i: usize, axis: Axis) -> u32
+    requires counts { AreCounts map.now.size at.x at.y at.f }
+    requires index { i ≡ raster_index map.now.size at.x at.y at.f }
     ensures cost { result ≡ pair_at (distance sample.now) (map_at map.now) axis
         (spot at.x at.y at.f) }
     ensures small { result ≤ most_of_pair }
 {
-    let p = at.place();
-    match map.source(p) {
-        Some(a) => seam_of(sample, axis, Some(a), map.source(p.plus(axis.unit()))),
-        None => 0,
+    let size = map.size();
+    if !at.has_next(size, axis) {
+        return 0;
     }
+    let sources = map.sources();
+    let next = i + stride(size, axis);
+    seam_of(sample, axis, sources[i].source(), sources[next].source())
 }
 
 // The costs of the cells of a row and the next ones along an axis, from a cell on.
-fn fill_across(costs: &mut [u64], map: &Map, sample: &Volume, x: u32, y: u32, f: u32, axis: Axis)
-    requires row { x + length costs.old ≤ GREATEST_AXIS }
-    requires counts { (y < GREATEST_AXIS) × (f < GREATEST_AXIS) }
-    ensures costs { AreRowCosts (distance sample.now) (map_at map.now) axis x y f costs.new }
+fn fill_row(costs: &mut [u64], map: &Map, sample: &Volume, first: Counts, axis: Axis)
+    requires counts { AreCounts map.now.size first.x first.y first.f }
+    requires row { first.x + length costs.old ≤ map.now.size.w }
+    ensures costs { AreRowCosts (distance sample.now) (map_at map.now) axis
+        first.x first.y first.f costs.new }
     ensures small { AreAtMost most_of_pair costs.new }
 {
+    let start = first.index(map.size());
     for k in 0..costs.len() {
-        let x = x + k as u32;
-        costs[k] = u64::from(pair_at(map, sample, Counts { x, y, f }, axis));
-    }
-}
-
-// The costs of the cells of a row and the next ones along an axis, from a cell on.
-fn fill_row(costs: &mut [u64], map: &Map, sample: &Volume, x: u32, y: u32, f: u32, axis: Axis)
-    requires row { x + length costs.old ≤ GREATEST_AXIS }
-    requires counts { (y < GREATEST_AXIS) × (f < GREATEST_AXIS) }
-    ensures costs { AreRowCosts (distance sample.now) (map_at map.now) axis x y f costs.new }
-    ensures small { AreAtMost most_of_pair costs.new }
-{
-    match axis {
-        Axis::X => fill_along(costs, map, sample, x, y, f),
-        _ => fill_across(costs, map, sample, x, y, f, axis),
+        let at = Counts {
+            x: first.x + k as u32,
+            ..first
+        };
+        costs[k] = u64::from(pair_at(map, sample, at, start + k, axis));
     }
 }
 
 // The costs of the cells of a block and the next ones along an axis, in raster order of the block.
 fn fill(costs: &mut [u64], map: &Map, sample: &Volume, block: &Block, axis: Axis)
     requires inside { HoldsBlock map.now.size block.now }
+    requires some { 1 ≤ block.now.x.len }
     requires count { length costs.old ≡ cell_count (block_size block.now) }
     ensures costs { AreCosts (distance sample.now) (map_at map.now) axis block.now costs.new }
     ensures small { AreAtMost most_of_pair costs.new }
@@ -88,17 +65,12 @@ fn fill(costs: &mut [u64], map: &Map, sample: &Volume, block: &Block, axis: Axis
     let rows = block.y.len * block.f.len;
     for row in 0..rows {
         let start = w * row as usize;
-        let y = block.y.from + row % block.y.len;
-        let f = block.f.from + row / block.y.len;
-        fill_row(
-            &mut costs[start..start + w],
-            map,
-            sample,
-            block.x.from,
-            y,
-            f,
-            axis,
-        );
+        let first = Counts {
+            x: block.x.from,
+            y: block.y.from + row % block.y.len,
+            f: block.f.from + row / block.y.len,
+        };
+        fill_row(&mut costs[start..start + w], map, sample, first, axis);
     }
 }
 

@@ -1,11 +1,11 @@
 use Rattle.std.proofs.lemmas.Grind.{common_steps}
-use Rattle.std.proofs.Common.{◌+◌, ◌-◌, ◌*◌, ◌/◌, ◌%◌, ◌≤◌, ◌≡◌, drop, length, arith, length-take, length-drop}
+use Rattle.std.proofs.Common.{◌+◌, ◌-◌, ◌*◌, ◌/◌, ◌%◌, ◌≤◌, ◌<◌, ◌≡◌, drop, length, arith, length-take, length-drop}
 use Rattle.std.proofs.Math.Nat.{mul-le-mul_left}
 use Rattle.cells.specs.Distances.{distance}
 use Rattle.cells.specs.Places.{spot}
 use Rattle.map_canvas.specs.Maps.{map_at}
 use Rattle.costs.specs.Costs.{most_of_pair, pair_at}
-use Rattle.cost_windows.proofs.Rows.{rows_at_most, rows_filled}
+use Rattle.cost_windows.proofs.Rows.{frame_below, row_below, rows_at_most, rows_filled}
 use Rattle.cost_windows.proofs.reach.fill.Goals as goal
 
 pub loop-row-preserved : goal.loop-row-preserved
@@ -26,13 +26,16 @@ pub returns-clause-small : goal.returns-clause-small
 returns-clause-small c = grind (arith, common_steps)
 
 pub fill_row-requires-clause-counts : goal.fill_row-requires-clause-counts
-fill_row-requires-clause-counts c = grind (arith, common_steps)
-
-pub nonzero_div-f : goal.nonzero_div-f
-nonzero_div-f c = grind (arith, common_steps)
-
-pub nonzero_rem-y : goal.nonzero_rem-y
-nonzero_rem-y c = grind (arith, common_steps)
+fill_row-requires-clause-counts c =
+    let block = c.args.block.now in
+    let holds = c.requires.inside in
+    let row = c.loop-row.row in
+    let lt : row < block.y.len * block.f.len = omega (arith, c.loop-row-test.true) in
+    record {
+      column = omega (arith, holds.x, c.requires.some);
+      row = omega (arith, holds.y, row_below block.y.len block.f.len row lt);
+      frame = omega (arith, holds.f, frame_below block.y.len block.f.len row lt);
+    }
 
 pub offset_bounds-costs-start : goal.offset_bounds-costs-start
 offset_bounds-costs-start c = grind (arith, common_steps)

@@ -1,6 +1,60 @@
-use Rattle.std.proofs.Common.{arith}
-use Rattle.std.proofs.lemmas.Grind.{common_steps}
+use Rattle.std.proofs.Common.{◌≡◌, ◌<◌, ◌+◌, length, get_or, sym, ap, ◌∙◌, subst, arith}
+use Rattle.std.specs.Prelude.{None, true, false, IfSome}
+use Rattle.std.proofs.lemmas.List.{get_or_default}
+use Rattle.cells.specs.declared.place.Size.{Size}
+use Rattle.cells.specs.Distances.{distance}
+use Rattle.boxes.specs.Pairs.{IsPair, has_next}
+use Rattle.boxes.specs.Raster.{stride}
+use Rattle.boxes.proofs.Indices.{stride_below}
+use Rattle.map_canvas.specs.Maps.{IsSource}
+use Rattle.cost_windows.proofs.Fills.{no_pair, pair_by_index}
 use Rattle.cost_windows.proofs.reach.pair_at.Goals as goal
 
-pub source-requires-in-Some : goal.source-requires-in-Some
-source-requires-in-Some c = grind (arith, common_steps)
+pub returns-then-not-has_next-clause-cost : goal.returns-then-not-has_next-clause-cost
+returns-then-not-has_next-clause-cost c =
+    let at = c.args.at in
+    let none : has_next c.args.map.now.size c.args.axis at.x at.y at.f ≡ false =
+    ap (λ (size : Size). has_next size c.args.axis at.x at.y at.f) (sym c.size-size.ensures.size) ∙ sym c.has_next.ensures ∙ c.if-not-has_next.true in
+    sym (no_pair (distance c.args.sample.now) c.args.map.now c.args.axis at.x at.y at.f none)
+
+pub bounds-sources-next : goal.bounds-sources-next
+bounds-sources-next c =
+    let m = c.args.map.now in
+    let at = c.args.at in
+    let next : has_next m.size c.args.axis at.x at.y at.f ≡ true =
+    ap (λ (size : Size). has_next size c.args.axis at.x at.y at.f) (sym c.size-size.ensures.size) ∙ sym c.has_next.ensures ∙ c.if-not-has_next.false in
+    let pair : IsPair m.size c.args.axis at.x at.y at.f = record { counts = c.requires.counts; next = next } in
+    let step : c.stride.result ≡ stride m.size c.args.axis = c.stride.ensures ∙ ap (λ (size : Size). stride size c.args.axis) c.size-size.ensures.size in
+    omega (arith, c.requires.index, step, stride_below m.size c.args.axis at.x at.y at.f pair, c.size-size.ensures.map.count, ap length c.sources-sources.ensures)
+
+pub seam_of-requires-clause-b : goal.seam_of-requires-clause-b
+seam_of-requires-clause-b c =
+    let m = c.args.map.now in
+    let at = c.args.at in
+    let next : has_next m.size c.args.axis at.x at.y at.f ≡ true =
+    ap (λ (size : Size). has_next size c.args.axis at.x at.y at.f) (sym c.size-size.ensures.size) ∙ sym c.has_next.ensures ∙ c.if-not-has_next.false in
+    let pair : IsPair m.size c.args.axis at.x at.y at.f = record { counts = c.requires.counts; next = next } in
+    let step : c.stride.result ≡ stride m.size c.args.axis = c.stride.ensures ∙ ap (λ (size : Size). stride size c.args.axis) c.size-size.ensures.size in
+    let below : c.args.i + c.stride.result < length m.sources =
+    omega (arith, c.requires.index, step, stride_below m.size c.args.axis at.x at.y at.f pair, c.size-size.ensures.map.count) in
+    let is : c.source-2.result ≡ get_or m.sources (c.args.i + c.stride.result) c.index-sources-next.result =
+    c.source-2.ensures ∙ c.index-sources-next.is ∙ ap (λ sources. get_or sources (c.args.i + c.stride.result) c.index-sources-next.result) c.sources-sources.ensures in
+    subst (λ source. IfSome source IsSource) (sym is) (c.size-size.ensures.map.sources (c.args.i + c.stride.result) c.index-sources-next.result below)
+
+pub returns-clause-cost : goal.returns-clause-cost
+returns-clause-cost c =
+    let m = c.args.map.now in
+    let at = c.args.at in
+    let next : has_next m.size c.args.axis at.x at.y at.f ≡ true =
+    ap (λ (size : Size). has_next size c.args.axis at.x at.y at.f) (sym c.size-size.ensures.size) ∙ sym c.has_next.ensures ∙ c.if-not-has_next.false in
+    let pair : IsPair m.size c.args.axis at.x at.y at.f = record { counts = c.requires.counts; next = next } in
+    let step : c.stride.result ≡ stride m.size c.args.axis = c.stride.ensures ∙ ap (λ (size : Size). stride size c.args.axis) c.size-size.ensures.size in
+    let below : c.args.i + c.stride.result < length c.sources-sources.result.now =
+    omega (arith, c.requires.index, step, stride_below m.size c.args.axis at.x at.y at.f pair, c.size-size.ensures.map.count, ap length c.sources-sources.ensures) in
+    let first : c.args.i < length c.sources-sources.result.now = omega (arith, below) in
+    c.seam_of.ensures.cost
+    ∙ pair_by_index (distance c.args.sample.now) m c.args.axis at.x at.y at.f c.args.i c.source.result c.source-2.result pair c.requires.index
+    (c.source.ensures ∙ c.index-sources-i.is ∙ get_or_default c.sources-sources.result.now c.args.i c.index-sources-i.result None first
+    ∙ ap (λ sources. get_or sources c.args.i None) c.sources-sources.ensures)
+    (c.source-2.ensures ∙ c.index-sources-next.is ∙ get_or_default c.sources-sources.result.now (c.args.i + c.stride.result) c.index-sources-next.result None below
+    ∙ (λ k. get_or (c.sources-sources.ensures k) (c.args.i + step k) None))

@@ -30,3 +30,8 @@ sum_boxes-requires-clause-size c = grind (arith, common_steps)
 
 pub fill-requires-clause-count : goal.fill-requires-clause-count
 fill-requires-clause-count c = grind (arith, common_steps)
+
+pub fill-requires-clause-some : goal.fill-requires-clause-some
+fill-requires-clause-some c =
+    let same = c.reach-reach.ensures.reach in
+    omega (arith, ap (λ reach. reach.x.len) same, c.requires.some.w, c.requires.window.some.w)

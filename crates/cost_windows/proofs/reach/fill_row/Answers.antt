@@ -1,12 +1,9 @@
 use Rattle.std.proofs.Common.{arith}
 use Rattle.std.proofs.lemmas.Grind.{common_steps}
-use Rattle.cost_windows.proofs.reach.fill_along.Goals as goal
+use Rattle.cost_windows.proofs.reach.fill_row.Goals as goal
 
 pub loop-k-preserved : goal.loop-k-preserved
 loop-k-preserved c = grind (arith, common_steps)
 
 pub returns-clause-small : goal.returns-clause-small
 returns-clause-small c = grind (arith, common_steps)
-
-pub loop-k-init : goal.loop-k-init
-loop-k-init c = grind (arith, common_steps)

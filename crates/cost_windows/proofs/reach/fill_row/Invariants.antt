@@ -3,10 +3,10 @@ use Rattle.cells.specs.Distances.{distance}
 use Rattle.cells.specs.Places.{spot}
 use Rattle.map_canvas.specs.Maps.{map_at}
 use Rattle.costs.specs.Costs.{most_of_pair, pair_at}
-use Rattle.cost_windows.proofs.reach.fill_across.Given as goal
+use Rattle.cost_windows.proofs.reach.fill_row.Given as goal
 
 abbrev pub invariant-loop-k : goal.invariant-loop-k
 invariant-loop-k l = record {
-  costs : (i : ℕ) → i < l.k → get_or l.costs i 0 ≡ pair_at (distance l.sample) (map_at l.map) l.axis (spot (l.x + i) l.y l.f);
+  costs : (i : ℕ) → i < l.k → get_or l.costs i 0 ≡ pair_at (distance l.sample) (map_at l.map) l.axis (spot (l.first.x + i) l.first.y l.first.f);
   small : (i : ℕ) → i < l.k → get_or l.costs i 0 ≤ most_of_pair;
 }

@@ -129,6 +129,24 @@ module _ (sample : Cells) (volume : IsVolume sample) (rect : Box3) (holds : Hold
     pub entries_of_cells : AreBlockEntries sample rect side now
     entries_of_cells = record { long = down.long ∙ along.long ∙ cells.long; each = block_entry }
 
+-- a cell is a block by itself
+cell_block : (sample : Cells) (p : At) → sum (row_at sample p 1) ≡ block_sum sample 1 p
+cell_block sample p =
+    ap (λ at. sum (row_at sample at 1)) (λ k. record { x = stays p.x k; y = stays p.y k; f = stays p.f k })
+    ∙ first (sum (row_at sample (plus p (spot 0 0 0)) 1))
+  where
+    stays : (z : ℤ) → z ≡ z +ℤ pos 0
+    stays z = omega (arith, ints)
+
+    first : (m : ℕ) → m ≡ 0 + m
+    first m = omega arith
+
+pub cell_blocks : (sample : Cells) (rect : Box3) (cells : List ℕ) → AreCellSums sample rect cells → AreBlockEntries sample rect 1 cells
+cell_blocks sample rect cells are = record {
+  long = are.long;
+  each = λ x y f lx ly lf. are.each x y f (omega (arith, lx)) (omega (arith, ly)) lf ∙ cell_block sample (plus rect.corner (spot x y f));
+}
+
 -- a block has no fewer bytes than a run of its cells
 run_bytes : (side k : ℕ) → 1 ≤ side → k * side ≤ block_bytes side k
 run_bytes side k some = omega (arith, mul-le-mul_left (k * side) some)

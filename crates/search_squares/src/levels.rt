@@ -8,7 +8,7 @@ ghost use Rattle.search_squares.specs.Blocks.{AreBoxBlocks, block_bytes};
 ghost use Rattle.search_squares.specs.Bounds.{AreAbove};
 ghost use Rattle.search_squares.specs.Eliminations.{AreBoxLevels, AreEliminated, AreSampleSums};
 ghost use Rattle.search_squares.specs.Gathered.{HasShortRows, MarkFilled};
-ghost use Rattle.search_squares.specs.Sums.{AreBlockSums};
+ghost use Rattle.search_squares.specs.Sums.{AreBlockSums, AreCellSums};
 
 use crate::blocks::{BoxBlocks, filled_cells};
 use crate::eliminated::Eliminated;
@@ -58,7 +58,9 @@ fn coarse_side(k: u32) -> u32
 
 // The box that has sums of all levels, of that of a part: all of it, or no cell of it where the sample is
 // too great.
-fn box_of_all(sample: &Volume, part: &Box3) -> Box3 {
+fn box_of_all(sample: &Volume, part: &Box3) -> Box3
+    ensures { HasCells result.size → result ≡ part.now }
+{
     if sample.bytes().len() <= MOST_BYTES_OF_ALL {
         return *part;
     }
@@ -96,25 +98,47 @@ impl SampleSums {
         }
     }
 
-    // The sums of the blocks of one size more, of one part.
+    // The sums of the blocks of one size more, of one part, by those of its cells.
     fn add_level(
         &mut self,
         alloc: Global,
         sample: &Volume,
         rect: &Box3,
         side: u32,
+        cells: &BlockSums,
     ) -> Result<(), AllocError>
         requires some { 1 ≤ side }
         requires few { 255 * block_bytes side sample.now.k < 2 ^ 16 }
+        requires cells { HasCells rect.now.size
+            → AreCellSums sample.now rect.now cells.now.sums.items }
         requires sums { AreSampleSums sample.now self.old }
         ensures { OnOk result (AreSampleSums sample.now self.new) }
     {
         if !sample.holds(rect) {
             return Ok(());
         }
-        let sums = BlockSums::make(alloc, sample, rect, side)?;
+        let sums = BlockSums::make(alloc, sample, rect, side, &cells.sums)?;
         self.levels.push(sums)?;
         Ok(())
+    }
+
+    // The sums of the blocks of more than a cell, of one part, by those of its cells.
+    fn add_wider(
+        &mut self,
+        alloc: Global,
+        sample: &Volume,
+        rect: &Box3,
+        cells: &BlockSums,
+    ) -> Result<(), AllocError>
+        requires cells { AreCellSums sample.now rect.now cells.now.sums.items }
+        requires sums { AreSampleSums sample.now self.old }
+        ensures { OnOk result (AreSampleSums sample.now self.new) }
+    {
+        let side = coarse_side(sample.samples());
+        let all = box_of_all(sample, rect);
+        self.add_level(alloc, sample, rect, side, cells)?;
+        self.add_level(alloc, sample, &all, MIDDLE_SIDE, cells)?;
+        self.add_level(alloc, sample, &all, FINE_SIDE, cells)
     }
 
     // The sums of the blocks of all sizes, of one part.
@@ -122,12 +146,13 @@ impl SampleSums {
         requires sums { AreSampleSums sample.now self.old }
         ensures { OnOk result (AreSampleSums sample.now self.new) }
     {
-        let side = coarse_side(sample.samples());
-        let all = box_of_all(sample, rect);
-        self.add_level(alloc, sample, rect, side)?;
-        self.add_level(alloc, sample, &all, MIDDLE_SIDE)?;
-        self.add_level(alloc, sample, &all, FINE_SIDE)?;
-        self.add_level(alloc, sample, rect, SINGLE_SIDE)
+        if !has_cells(rect.size) || !sample.holds(rect) {
+            return Ok(());
+        }
+        let cells = BlockSums::of_cells(alloc, sample, rect)?;
+        self.add_wider(alloc, sample, rect, &cells)?;
+        self.levels.push(cells)?;
+        Ok(())
     }
 
     /// The sums of all parts of a sample. They take 8 bytes a cell, or 4 where the sample has more than

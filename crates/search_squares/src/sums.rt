@@ -1,5 +1,6 @@
 // The sums of the blocks of a box of the sample.
 ghost use Rattle.std.specs.Prelude.{◌≡◌, ◌≤◌, ◌<◌, ◌+◌, ◌*◌, ◌^◌, ℕ, IfOk, OnOk, Some, drop, length, replicate, slice_index, take};
+ghost use Rattle.cells.specs.Boxes.{HasCells};
 ghost use Rattle.cells.specs.Cells.{Holds, IsVolume};
 ghost use Rattle.cells.specs.Places.{DifferenceFits, IsInside, IsSmall, index_in, minus};
 ghost use Rattle.search_squares.specs.Blocks.{block_bytes};
@@ -146,22 +147,24 @@ fn add_up(entries: &mut [u16], step: usize, n: u32)
 }
 
 // The sums of the blocks of a box with cells, in raster order, and LANES entries more. They are made in
-// the place of the sums of its cells: first along the rows, then down the columns. A sum that runs past
-// the end of a row or of a frame is no block's.
+// the place of a copy of the sums of its cells: first along the rows, then down the columns. A sum that
+// runs past the end of a row or of a frame is no block's.
 fn sums_of_cells(
     alloc: Global,
     sample: &Volume,
     rect: &Box3,
     side: u32,
+    cells: &[u16],
 ) -> Result<Vec<u16>, AllocError>
     requires volume { IsVolume sample.now }
     requires small { IsSmall rect.now.size }
     requires inside { Holds sample.now rect.now.corner rect.now.size }
     requires some { 1 ≤ side }
     requires few { 255 * block_bytes side sample.now.k < 2 ^ 16 }
+    requires cells { AreCellSums sample.now rect.now cells.now }
     ensures { IfOk result (λ sums. AreBlockEntries sample.now rect.now side sums.items) }
 {
-    let mut sums = cell_sums(alloc, sample, rect)?;
+    let mut sums = Vec::from_slice(alloc, cells)?;
     add_up(&mut sums, 1, side);
     add_up(&mut sums, rect.size.w as usize, side);
     Ok(sums)
@@ -180,10 +183,12 @@ fn block_sums(
     sample: &Volume,
     rect: &Box3,
     side: u32,
+    cells: &[u16],
 ) -> Result<Vec<u16>, AllocError>
     requires inside { Holds sample.now rect.now.corner rect.now.size }
     requires some { 1 ≤ side }
     requires few { 255 * block_bytes side sample.now.k < 2 ^ 16 }
+    requires cells { HasCells rect.now.size → AreCellSums sample.now rect.now cells.now }
     ensures { IfOk result (λ sums. AreBlockEntries sample.now rect.now side sums.items) }
 {
     if !has_cells(rect.size) {
@@ -191,26 +196,49 @@ fn block_sums(
     }
     // Called for its contract only: it shows the prover that the sample is a volume.
     let _sample = sample.samples();
-    sums_of_cells(alloc, sample, rect, side)
+    sums_of_cells(alloc, sample, rect, side, cells)
 }
 
 impl BlockSums {
-    /// The sums of the blocks of a box inside the sample. They take 2 bytes a cell, and no more
-    /// while they are made. The one error is out of memory.
+    /// The sums of the cells of a box with cells inside the sample, each a block by itself. They take 2
+    /// bytes a cell, and no more while they are made. The one error is out of memory.
+    pub(crate) fn of_cells(
+        alloc: Global,
+        sample: &Volume,
+        rect: &Box3,
+    ) -> Result<BlockSums, AllocError>
+        requires inside { Holds sample.now rect.now.corner rect.now.size }
+        requires some { HasCells rect.now.size }
+        ensures sums { IfOk result (AreBlockSums sample.now) }
+        ensures cells { IfOk result (λ sums. AreCellSums sample.now rect.now sums.sums.items) }
+    {
+        // Called for its contract only: it shows the prover that the sample is a volume.
+        let _sample = sample.samples();
+        let sums = cell_sums(alloc, sample, rect)?;
+        Ok(BlockSums {
+            rect: *rect,
+            side: 1,
+            sums,
+        })
+    }
+
+    /// The sums of the blocks of a box inside the sample, of so many cells on each side: made of those
+    /// of its cells, if it has any. They take 2 bytes a cell, and no more while they are made. The one
+    /// error is out of memory.
     pub(crate) fn make(
         alloc: Global,
         sample: &Volume,
         rect: &Box3,
         side: u32,
+        cells: &[u16],
     ) -> Result<BlockSums, AllocError>
         requires inside { Holds sample.now rect.now.corner rect.now.size }
         requires some { 1 ≤ side }
         requires few { 255 * block_bytes side sample.now.k < 2 ^ 16 }
-        ensures sums { IfOk result (AreBlockSums sample.now) }
-        ensures rect { IfOk result (λ sums. sums.rect ≡ rect.now) }
-        ensures side { IfOk result (λ sums. sums.side ≡ side) }
+        requires cells { HasCells rect.now.size → AreCellSums sample.now rect.now cells.now }
+        ensures { IfOk result (AreBlockSums sample.now) }
     {
-        let sums = block_sums(alloc, sample, rect, side)?;
+        let sums = block_sums(alloc, sample, rect, side, cells)?;
         Ok(BlockSums {
             rect: *rect,
             side,

@@ -18,3 +18,6 @@ returns-then-not-has_cells c =
 pub sums_of_cells-requires-clause-small : goal.sums_of_cells-requires-clause-small
 sums_of_cells-requires-clause-small c =
     held_small c.args.sample.now c.args.rect.now.corner c.args.rect.now.size c.samples-sample.ensures.volume (c.has_cells.ensures.0 c.if-not-has_cells.false) c.requires.inside
+
+pub sums_of_cells-requires-clause-cells : goal.sums_of_cells-requires-clause-cells
+sums_of_cells-requires-clause-cells c = c.requires.cells (c.has_cells.ensures.0 c.if-not-has_cells.false)

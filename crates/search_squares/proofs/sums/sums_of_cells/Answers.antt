@@ -9,7 +9,7 @@ pub add_up-requires-clause-fits : goal.add_up-requires-clause-fits
 add_up-requires-clause-fits c =
     let sample = c.args.sample.now in
     let rect = c.args.rect.now in
-    row_sums_fit sample rect c.args.side c.requires.some c.requires.few c.deref_mut.result.now (subst (AreCellSums sample rect) (sym c.deref_mut.ensures.value) c.in_ok-sums.ensures)
+    row_sums_fit sample rect c.args.side c.requires.some c.requires.few c.deref_mut.result.now (subst (AreCellSums sample rect) (sym (c.deref_mut.ensures.value ∙ c.in_ok-sums.ensures.items)) c.requires.cells)
 
 pub add_up-requires-2-clause-reach : goal.add_up-requires-2-clause-reach
 add_up-requires-2-clause-reach c = rows_near c.args.side c.args.sample.now.k c.args.rect.now.size.w c.requires.few c.requires.some c.requires.volume.samples.0 c.requires.small.axes.w.1
@@ -19,7 +19,7 @@ add_up-requires-2-clause-fits c =
     let sample = c.args.sample.now in
     let rect = c.args.rect.now in
     let mid_is : c.deref_mut-2.result.now ≡ c.add_up.new.entries = c.deref_mut-2.ensures.value ∙ with_items_is c.in_ok-sums.sums c.add_up.new.entries (omega (arith, c.add_up.ensures.long, c.deref_mut.ensures.len)) in
-    column_sums_fit sample rect c.args.side c.requires.some c.requires.few c.deref_mut.result.now (subst (AreCellSums sample rect) (sym c.deref_mut.ensures.value) c.in_ok-sums.ensures) c.deref_mut-2.result.now rect.size.w
+    column_sums_fit sample rect c.args.side c.requires.some c.requires.few c.deref_mut.result.now (subst (AreCellSums sample rect) (sym (c.deref_mut.ensures.value ∙ c.in_ok-sums.ensures.items)) c.requires.cells) c.deref_mut-2.result.now rect.size.w
     (subst (AreAdded 1 c.args.side c.deref_mut.result.now) (sym mid_is) c.add_up.ensures)
 
 pub returns : goal.returns
@@ -29,4 +29,4 @@ returns c =
     let mid_is : c.deref_mut-2.result.now ≡ c.add_up.new.entries = c.deref_mut-2.ensures.value ∙ with_items_is c.in_ok-sums.sums c.add_up.new.entries (omega (arith, c.add_up.ensures.long, c.deref_mut.ensures.len)) in
     subst (AreBlockEntries sample rect c.args.side) (sym (take_at c.add_up-2.new.entries _ c.in_ok-sums.sums.len (omega (arith, c.add_up-2.ensures.long, c.deref_mut-2.ensures.len))))
     (entries_of_cells sample c.requires.volume rect c.requires.inside c.args.side c.requires.some c.deref_mut.result.now c.deref_mut-2.result.now c.add_up-2.new.entries
-    (subst (AreCellSums sample rect) (sym c.deref_mut.ensures.value) c.in_ok-sums.ensures) (subst (AreAdded 1 c.args.side c.deref_mut.result.now) (sym mid_is) c.add_up.ensures) c.add_up-2.ensures)
+    (subst (AreCellSums sample rect) (sym (c.deref_mut.ensures.value ∙ c.in_ok-sums.ensures.items)) c.requires.cells) (subst (AreAdded 1 c.args.side c.deref_mut.result.now) (sym mid_is) c.add_up.ensures) c.add_up-2.ensures)

@@ -7,4 +7,4 @@ use Rattle.search_squares.proofs.levels.SampleSums.add_level.Goals as goal
 pub returns : goal.returns
 returns c =
     subst (All (AreBlockSums c.args.sample.now)) (sym c.in_ok-push.ensures.items)
-    (All-push (AreBlockSums c.args.sample.now) c.args.self.now.levels.items _ c.requires.sums c.in_ok-sums.ensures.sums)
+    (All-push (AreBlockSums c.args.sample.now) c.args.self.now.levels.items _ c.requires.sums c.in_ok-sums.ensures)

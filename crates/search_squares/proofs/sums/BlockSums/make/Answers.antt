@@ -1,7 +1,7 @@
 use Rattle.search_squares.proofs.sums.BlockSums.make.Goals as goal
 
-pub returns-clause-sums : goal.returns-clause-sums
-returns-clause-sums c = record {
+pub returns : goal.returns
+returns c = record {
   some = c.requires.some;
   few = c.requires.few;
   inside = c.requires.inside;

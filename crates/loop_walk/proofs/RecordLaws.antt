@@ -7,6 +7,7 @@ use Rattle.limits.specs.declared.bounds.TheConstants.{LONGEST_LOOP}
 use Rattle.frame_distance.specs.Steps.{Steps}
 use Rattle.loop_walk.specs.Walks.{AtMost, HasNoWalk, walk_cost}
 use Rattle.loop_walk.specs.Tables.{EntriesHold, entry_at, table_entry, table_count}
+use Rattle.loop_walk.specs.Records.{WalkStands}
 use Rattle.loop_walk.specs.Products.{AllowsCost, AreFilled, FindsLeast, GoesRound, IsNoneOrAtMost, IsStepTable, table_in}
 use Rattle.loop_walk.proofs.Numbers.{at_most, entry_of-none, entry_of-some}
 use Rattle.loop_walk.proofs.TableLaws.{holds_from_tight, table_in-entry, table_in-small}
@@ -68,3 +69,13 @@ module _ (costs : Steps) (m : ℕ) (some : 1 ≤ m) (few : m ≤ LONGEST_LOOP) (
           cost_is = cost_is;
           diagonals = allows;
         }
+
+-- a least walk stands over the tables that it was found in
+pub least_stands : (costs : Steps) (len : ℕ) (tables walk : List ℕ) (cost : ℕ) → AreFilled costs len tables → FindsLeast costs len tables walk cost → WalkStands costs walk tables
+least_stands costs len tables walk cost filled found = record {
+  closed = found.least.closed;
+  entries = subst (λ n. EntriesHold costs n tables) (sym found.least.frames) (holds_from_tight costs len tables filled.made.tight);
+  diagonals = λ i lt.
+      subst (λ n. AtMost (walk_cost costs walk) (entry_at costs tables (table_count n) i i)) (sym found.least.frames)
+      (subst (λ c. AtMost c (entry_at costs tables (table_count len) i i)) (sym found.cost_is) (found.diagonals i lt));
+}

@@ -1,7 +1,8 @@
 use Rattle.std.proofs.lemmas.Grind.{common_steps}
-use Rattle.std.proofs.Common.{◌≡◌, ◌+◌, ◌-◌, ◌*◌, ◌<◌, subst, arith, ⊎_elim}
+use Rattle.std.proofs.Common.{◌≡◌, ◌+◌, ◌-◌, ◌*◌, ◌<◌, ◌≤◌, subst, arith, ⊎_elim}
 use Rattle.std.proofs.lemmas.Bool.{cases_lt}
 use Rattle.std.proofs.lemmas.Nat.{mul-add-lt}
+use Rattle.std.proofs.Math.Nat.{mul-le-mul_right}
 use Rattle.loop_walk.specs.Records.{IsFirstPlace, PlaceHolds}
 use Rattle.loop_walk.specs.Products.{IsBelowProducts}
 use Rattle.loop_walk.proofs.NearLaws.{place_from_row, row_from_place}
@@ -51,7 +52,9 @@ loop-i-preserved c = λ place lt.
     (cases_lt place (t * (n * n) + i * n))
 
 pub returns-clause-hold : goal.returns-clause-hold
-returns-clause-hold c = grind (arith, common_steps)
+returns-clause-hold c = λ place lt.
+    let all : c.args.costs.now.frames ≤ c.loop-i.i = omega (arith, c.frames-n.ensures.frames) in
+    c.loop-i.invariant place (omega (arith, lt, mul-le-mul_right c.args.costs.now.frames all))
 
 pub broken_in_row-requires-clause-left : goal.broken_in_row-requires-clause-left
 broken_in_row-requires-clause-left c = grind (arith, common_steps)

@@ -1,4 +1,6 @@
-use Rattle.std.proofs.Common.{arith}
+use Rattle.std.proofs.Common.{◌∙◌, sym, arith, below_more}
+use mathlib.Core.Bool.{false≢true}
+use Rattle.loop_walk.specs.Products.{IsBelowProducts}
 use Rattle.std.proofs.lemmas.Grind.{common_steps}
 use Rattle.loop_walk.proofs.sums.broken_in_row.Goals as goal
 
@@ -9,7 +11,11 @@ pub returns-clause-hold : goal.returns-clause-hold
 returns-clause-hold c = grind (arith, common_steps)
 
 pub returns-then-not-is_below-clause-broken : goal.returns-then-not-is_below-clause-broken
-returns-then-not-is_below-clause-broken c = grind (arith, common_steps)
+returns-then-not-is_below-clause-broken c = record {
+  below = omega (arith, c.frames-j-end.ensures.frames, c.loop-j-test.true);
+  before = c.loop-j.invariant;
+  broken = λ holds. false≢true (sym c.if-not-is_below.true ∙ c.is_below.ensures.1 holds);
+}
 
 pub fill_row_of_rests-requires-clause-firsts : goal.fill_row_of_rests-requires-clause-firsts
 fill_row_of_rests-requires-clause-firsts c = grind (arith, common_steps)
@@ -40,3 +46,8 @@ slice_bounds-fill_row_of_rests-end-2 c = grind (arith, common_steps)
 
 pub fill_row_of_rests-requires-clause-near : goal.fill_row_of_rests-requires-clause-near
 fill_row_of_rests-requires-clause-near c = grind (arith, common_steps)
+
+pub loop-j-preserved : goal.loop-j-preserved
+loop-j-preserved c =
+    below_more (IsBelowProducts c.args.costs.now c.args.tables.now c.args.t c.args.second c.args.i) c.loop-j.j c.loop-j.invariant
+    (c.is_below.ensures.0 c.if-not-is_below.false)

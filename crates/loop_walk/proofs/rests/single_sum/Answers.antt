@@ -1,6 +1,7 @@
 use Rattle.std.proofs.Common.{arith}
 use Rattle.std.proofs.lemmas.Grind.{common_steps}
 use Rattle.std.proofs.Common.{◌+◌, ◌*◌, get_or, ap, ◌∙◌}
+use Rattle.std.proofs.lemmas.Nat.{mul-add-lt}
 use Rattle.std.specs.Prelude.{min}
 use Rattle.loop_walk.specs.declared.product.TheConstants.{FAR}
 use Rattle.loop_walk.specs.Products.{near_row_sum}
@@ -23,4 +24,4 @@ pub loop-v-init : goal.loop-v-init
 loop-v-init c = grind (arith, common_steps)
 
 pub bounds-nears-v : goal.bounds-nears-v
-bounds-nears-v c = grind (arith, common_steps)
+bounds-nears-v c = omega (arith, c.requires.nears, mul-add-lt c.loop-v.v c.args.n c.args.j c.args.n c.loop-v-test.true c.requires.column)

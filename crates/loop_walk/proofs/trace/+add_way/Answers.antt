@@ -1,5 +1,6 @@
 use Rattle.std.proofs.lemmas.Grind.{common_steps}
-use Rattle.std.proofs.Common.{◌-◌, ◌≤◌, length, ap, sym, ◌∙◌, subst, arith}
+use Rattle.std.proofs.Common.{◌-◌, ℕ, ◌*◌, ◌≤◌, length, ap, sym, ◌∙◌, subst, arith}
+use Rattle.std.proofs.Math.Nat.{mul-le-mul_right}
 use Rattle.std.specs.Prelude.{IsSome}
 use Rattle.loop_walk.specs.Walks.{sum_if_both}
 use Rattle.loop_walk.specs.Tables.{entry_at, table_count, second_table}
@@ -96,11 +97,15 @@ returns t c =
     c.args.walk.now.items c.add_way.new.walk.items c.push.new.self.items c.add_way-2.new.walk.items (omega (arith, lengths.less)) whole c.in_ok-add_way.ensures c.in_ok-push.ensures.items second)
     c.add_way-2.ensures
 
+-- a table of so many frames at most is short
+table_few : (n : ℕ) → n ≤ 256 → n * n ≤ 65536
+table_few n few = omega (arith, mul-le-mul_right n few)
+
 pub overflow_sub-length : goal.overflow_sub-length
 overflow_sub-length t c = grind (arith, common_steps)
 
 pub table_in-right-requires-clause-few : goal.table_in-right-requires-clause-few
-table_in-right-requires-clause-few t c = grind (arith, common_steps)
+table_in-right-requires-clause-few t c = rw c.requires.steps.whole (table_few c.args.costs.now.frames c.frames-n.ensures.steps.frames.1)
 
 pub table_in-left-requires-clause-few : goal.table_in-left-requires-clause-few
-table_in-left-requires-clause-few t c = grind (arith, common_steps)
+table_in-left-requires-clause-few t c = rw c.requires.steps.whole (table_few c.args.costs.now.frames c.frames-n.ensures.steps.frames.1)

@@ -48,6 +48,7 @@ impl Plan<'_> {
             node: self.cells[i],
         }
     }
+
     // The cell at an index of the box and the next one along an axis, at another index.
     #[inline(always)]
     pub(crate) fn pair(&self, axis: Axis, at: Counts, i: usize, j: usize) -> (PairCell, PairCell)

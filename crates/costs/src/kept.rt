@@ -35,6 +35,7 @@ fn is_enclosed(output: Size, rect: &Box3, at: Counts) -> bool
 
 /// Whether a cell of a box is kept, by its counts. Where all its neighbours are in the box or outside the
 /// output, it isn't, whatever is filled.
+#[inline(always)]
 pub fn is_kept_at(canvas: &Canvas, rect: &Box3, at: Counts, p: At) -> bool
     requires holds { HoldsBox canvas.now.map.size rect.now.corner rect.now.size }
     requires counts { AreCounts rect.now.size at.x at.y at.f }

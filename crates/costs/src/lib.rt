@@ -8,7 +8,8 @@
 //!
 //! One walk over a box (`sums`) adds the costs of its pairs, wherever the sources of the cells come from
 //! (`Sources`): a map, or a map as far as a box goes. What a choice over a placement would leave (`after`) is
-//! summed by a walk of its own, which reads no source for two new cells: they cost nothing.
+//! summed by a walk of its own, which reads no source for two new cells: they cost nothing. Whether a cell of a
+//! box is kept (`kept`) is asked of the map at the border of the box alone.
 #![tactic(auto)]
 
 mod after;

@@ -9,7 +9,8 @@
 //!
 //! The network is built in three passes over the cells of the box in raster order by the walk of the crate `boxes`: the nodes of
 //! the cells (`cell_nodes`), the seam nodes of the pairs (`seam_nodes`), both given out by a `Numbering`,
-//! and the pipes between them (`plan`, `piping`). specs/Numberings.antt, specs/Building.antt and
+//! and the pipes between them (`plan`, `piping`). For the pipes the map is read only
+//! at pairs with a filled cell: the nodes of two unfilled ones tell that they have none. specs/Numberings.antt, specs/Building.antt and
 //! specs/Plans.antt say how far each pass has come; nothing outside this crate has to read them.
 #![tactic(auto)]
 

@@ -6,9 +6,10 @@
 // from there. The search gives up once it has looked at more arcs than it may. An excess may go on then
 // (`preflow.rt`).
 
-use crate::packed::{Arc, PackedArcs, other_way};
+use crate::packed::{Arc, PackedArcs, other_way, push_over};
 use std::alloc::{AllocError, Global};
 use std::collections::VecDeque;
+use std::ops::Range;
 
 #[derive(Clone, Copy, PartialEq, Eq)]
 enum Tree {
@@ -17,34 +18,45 @@ enum Tree {
     Sink,
 }
 
-// What a node of a tree hangs on.
-#[derive(Clone, Copy, PartialEq, Eq)]
-enum Parent {
-    Nothing,
-    // It's an end of the network itself.
-    End,
-    // Its arc can carry no more, and it waits for another.
-    Lost,
-    // The node that the arc with this number enters.
-    Arc { number: u32, node: u32 },
-}
-
-// How far a node is from the end of its tree was true at the time of its stamp. One that is farther than
-// its number can say has the greatest distance.
+// A node of a tree hangs on its parent, over the arc to it that has this number. How far it is from the end of its
+// tree was true at its stamp. One that is farther than its number can say has the greatest distance.
 #[derive(Clone, Copy)]
 struct Node {
+    parent: u32,
+    number: u32,
     stamp: u32,
     distance: u16,
     tree: Tree,
     active: bool,
 }
 
+// What stands in the place of a parent: for a node that hangs on none, for one whose arc can carry no more, so that
+// it waits for another parent, and for an end of the network itself. The table of nodes is shorter than these.
+const NOTHING: u32 = u32::MAX;
+
+const LOST: u32 = u32::MAX - 1;
+
+const END: u32 = u32::MAX - 2;
+
 const LOOSE: Node = Node {
+    parent: NOTHING,
+    number: 0,
     stamp: 0,
     distance: 0,
     tree: Tree::Neither,
     active: false,
 };
+
+impl Node {
+    // Hangs it on another node, over the arc to that with a number, at a distance that is true at a stamp.
+    #[inline(always)]
+    fn hang(&mut self, parent: u32, number: u32, distance: u16, stamp: u32) {
+        self.parent = parent;
+        self.number = number;
+        self.distance = distance;
+        self.stamp = stamp;
+    }
+}
 
 // So many arcs of a node are looked at again after a path through it: what hangs on it may then hang nearer
 // to the end of its tree.
@@ -54,8 +66,6 @@ const FEW: u32 = 16;
 #[derive(Drop)]
 pub struct Trees {
     arcs: PackedArcs,
-    // The parents are kept apart, since paths are followed more often than all else is read.
-    parents: Vec<Parent>,
     nodes: Vec<Node>,
     // Nodes from which a tree may grow.
     active: VecDeque<u32>,
@@ -69,15 +79,12 @@ pub struct Trees {
 impl Trees {
     /// Makes the tables for a network with these arcs.
     pub fn make(alloc: Global, arcs: PackedArcs) -> Result<Trees, AllocError> {
-        let nodes = arcs.nodes();
-        let parents = vec![in alloc; Parent::Nothing; nodes]?;
-        let list = vec![in alloc; LOOSE; nodes]?;
-        let active = VecDeque::with_capacity(alloc, nodes)?;
-        let lost = VecDeque::with_capacity(alloc, nodes)?;
+        let nodes = vec![in alloc; LOOSE; arcs.nodes()]?;
+        let active = VecDeque::with_capacity(alloc, nodes.len())?;
+        let lost = VecDeque::with_capacity(alloc, nodes.len())?;
         Ok(Trees {
             arcs,
-            parents,
-            nodes: list,
+            nodes,
             active,
             lost,
             time: 0,
@@ -93,34 +100,17 @@ impl Trees {
         }
     }
 
-    #[inline(always)]
-    fn parent(&self, node: u32) -> Parent {
-        match self.parents.get(node as usize) {
-            Some(parent) => *parent,
-            None => Parent::Nothing,
-        }
-    }
-
-    #[inline(always)]
-    fn set_parent(&mut self, node: u32, parent: Parent) {
-        if let Some(entry) = self.parents.get_mut(node as usize) {
-            *entry = parent;
-        }
-    }
-
-    #[inline(always)]
-    fn set_node(&mut self, node: u32, value: Node) {
+    // Notes that a node is an end's distance from it.
+    fn note_end(&mut self, node: u32) {
         if let Some(entry) = self.nodes.get_mut(node as usize) {
-            *entry = value;
+            entry.distance = 1;
+            entry.stamp = self.time;
         }
     }
 
-    #[inline(always)]
-    fn set_distance(&mut self, node: u32, distance: u16, stamp: u32) {
-        if let Some(entry) = self.nodes.get_mut(node as usize) {
-            entry.distance = distance;
-            entry.stamp = stamp;
-        }
+    // Counts arcs that were looked at.
+    fn count(&mut self, looked: u32) {
+        self.work = self.work.wrapping_add(u64::from(looked));
     }
 
     fn activate(&mut self, node: u32) {
@@ -141,113 +131,105 @@ impl Trees {
         Some(node)
     }
 
-    // Of an arc that leaves a node and the one the other way, the one over which the tree grows.
+    // What the number of an arc that leaves a node has to be turned by for that of the one over which its tree grows.
     #[inline(always)]
-    fn outward(tree: Tree, number: u32) -> u32 {
-        if tree == Tree::Source {
-            number
+    fn outward(tree: Tree) -> u32 {
+        if tree == Tree::Source { 0 } else { 1 }
+    }
+
+    // What the number of an arc from a node to its parent has to be turned by for that of the one over which flow goes.
+    #[inline(always)]
+    fn inward(tree: Tree) -> u32 {
+        if tree == Tree::Source { 1 } else { 0 }
+    }
+
+    // The places of a node's arcs over which its tree grows, from a place on, or of all of them where few come before it.
+    fn places_from(&self, number: u32, from: u32) -> Range<u32> {
+        let places = self.arcs.places_of(number);
+        if from > places.start.wrapping_add(FEW) {
+            from..places.end
         } else {
-            other_way(number)
+            places
         }
     }
 
-    // Of an arc from a node to its parent and the one the other way, the one over which flow goes.
-    #[inline(always)]
-    fn inward(tree: Tree, number: u32) -> u32 {
-        if tree == Tree::Source {
-            other_way(number)
-        } else {
-            number
-        }
-    }
-
-    // Lets a node's tree grow over one of its arcs. Returns whether the arc leads to the other tree.
-    #[inline(always)]
-    fn grow_over(&mut self, number: u32, node: Node, arc: Arc) -> bool {
-        let other = self.node(arc.head);
-        let distance = node.distance.saturating_add(1);
-        let parent = Parent::Arc {
-            number: other_way(arc.number),
-            node: number,
-        };
-        if other.tree == Tree::Neither {
-            let grown = Node {
-                stamp: node.stamp,
-                distance,
-                tree: node.tree,
-                active: other.active,
-            };
-            self.set_parent(arc.head, parent);
-            self.set_node(arc.head, grown);
-            self.activate(arc.head);
-            return false;
-        }
-        if other.tree != node.tree {
-            return true;
-        }
-        let is_farther = other.stamp <= node.stamp && other.distance > distance;
-        if is_farther && self.parent(arc.head) != Parent::End {
-            self.set_parent(arc.head, parent);
-            self.set_distance(arc.head, distance, node.stamp);
-        }
-        false
-    }
-
-    // Lets a tree grow from a node, over its arcs from a place on, or over all of them where few come
-    // before it. Returns the place of the arc where the trees meet.
+    // Lets a tree grow from a node, over its arcs from a place on. Returns the place of the arc where the trees meet.
     fn grow(&mut self, number: u32, from: u32) -> Option<u32> {
         let node = self.node(number);
-        let places = self.arcs.places_of(number);
-        let first = if from > places.start.wrapping_add(FEW) {
-            from
-        } else {
-            places.start
-        };
-        for place in first..places.end {
-            self.work = self.work.wrapping_add(1);
-            let arc = self.arcs.at(place);
-            let open = Trees::outward(node.tree, arc.number);
-            if self.arcs.room(open) > 0 && self.grow_over(number, node, arc) {
-                return Some(place);
+        let distance = node.distance.saturating_add(1);
+        let outward = Trees::outward(node.tree);
+        let places = self.places_from(number, from);
+        let mut next = places.start;
+        let mut meeting = None;
+        for arc in self.arcs.over(&places) {
+            let place = next;
+            next = place.wrapping_add(1);
+            if self.arcs.room(arc.number ^ outward) == 0 {
+                continue;
+            }
+            let Some(other) = self.nodes.get_mut(arc.head as usize) else {
+                continue;
+            };
+            if other.tree == node.tree {
+                if other.stamp <= node.stamp && other.distance > distance {
+                    other.hang(number, other_way(arc.number), distance, node.stamp);
+                }
+            } else if other.tree == Tree::Neither {
+                other.tree = node.tree;
+                other.hang(number, other_way(arc.number), distance, node.stamp);
+                if !other.active {
+                    other.active = true;
+                    let _ = self.active.push_back(arc.head);
+                }
+            } else {
+                meeting = Some(place);
+                break;
             }
         }
-        None
+        self.count(next.wrapping_sub(places.start));
+        meeting
     }
 
     // The least that the arcs between a node and the end of its tree can carry, at most `most`, or 0 where the
     // node hangs on no end.
     fn least_room(&self, from: u32, tree: Tree, most: u32) -> u32 {
+        let inward = Trees::inward(tree);
         let mut least = most;
-        let mut last = from;
+        let mut last = self.node(from);
         for _ in 0..self.nodes.len() {
-            let Parent::Arc { number, node } = self.parent(last) else {
+            let Some(parent) = self.nodes.get(last.parent as usize) else {
                 break;
             };
-            least = least.min(self.arcs.room(Trees::inward(tree, number)));
-            last = node;
+            least = least.min(self.arcs.room(last.number ^ inward));
+            last = *parent;
         }
-        if self.parent(last) == Parent::End {
-            least
-        } else {
-            0
-        }
+        if last.parent == END { least } else { 0 }
     }
 
     // Sends an amount over the arcs between a node and the end of its tree. Nodes whose arc can carry no
     // more lose their parent.
     fn push_along(&mut self, from: u32, tree: Tree, amount: u32) {
+        let inward = Trees::inward(tree);
+        let nodes = self.nodes.as_mut_slice();
+        let rooms = self.arcs.rooms_mut();
         let mut last = from;
-        for _ in 0..self.nodes.len() {
-            let Parent::Arc { number, node } = self.parent(last) else {
+        let mut steps = 0u32;
+        for _ in 0..nodes.len() {
+            let Some(node) = nodes.get_mut(last as usize) else {
                 break;
             };
-            self.work = self.work.wrapping_add(1);
-            if self.arcs.push(Trees::inward(tree, number), amount) {
-                self.set_parent(last, Parent::Lost);
+            let parent = node.parent;
+            if parent >= END {
+                break;
+            }
+            if push_over(rooms, node.number ^ inward, amount) {
+                node.parent = LOST;
                 let _ = self.lost.push_front(last);
             }
-            last = node;
+            last = parent;
+            steps = steps.wrapping_add(1);
         }
+        self.count(steps);
     }
 
     // Sends as much as it can carry, at most `most`, over an arc from a node of a tree to the other one, and
@@ -258,7 +240,7 @@ impl Trees {
         } else {
             Tree::Source
         };
-        let meeting = Trees::outward(tree, arc.number);
+        let meeting = arc.number ^ Trees::outward(tree);
         let most = most.min(self.arcs.room(meeting));
         let amount = self.least_room(arc.head, beyond, most);
         self.arcs.push(meeting, amount);
@@ -266,110 +248,143 @@ impl Trees {
         amount
     }
 
+    // The node at which the way from one to the end of its tree comes to a distance that was noted at this time, or
+    // stops, and how many steps lead there.
+    fn way_to_noted(&self, from: u32) -> (u32, u32) {
+        let mut last = from;
+        let mut steps = 0u32;
+        for _ in 0..self.nodes.len() {
+            let Some(node) = self.nodes.get(last as usize) else {
+                break;
+            };
+            if node.stamp == self.time || node.parent >= END {
+                break;
+            }
+            last = node.parent;
+            steps = steps.wrapping_add(1);
+        }
+        (last, steps)
+    }
+
     // How far a node is from the end of its tree, or None where it hangs on none.
     fn distance(&mut self, from: u32) -> Option<u16> {
-        let mut steps = 0u16;
+        let (last, steps) = self.way_to_noted(from);
+        self.count(steps.wrapping_add(1));
+        let node = self.node(last);
+        let noted = if node.stamp == self.time {
+            node.distance
+        } else if node.parent == END {
+            self.note_end(last);
+            1
+        } else {
+            return None;
+        };
+        let all = steps.wrapping_add(u32::from(noted));
+        Some(all.min(u32::from(u16::MAX)) as u16)
+    }
+
+    // Notes the distances of the nodes from one to the first whose distance was noted at this time.
+    fn note_distances(&mut self, from: u32, distance: u16) {
+        let time = self.time;
+        let nodes = self.nodes.as_mut_slice();
+        let mut left = distance;
         let mut last = from;
-        for _ in 0..self.nodes.len() {
-            self.work = self.work.wrapping_add(1);
-            let entry = self.node(last);
-            if entry.stamp == self.time {
-                return Some(steps.saturating_add(entry.distance));
+        for _ in 0..nodes.len() {
+            let Some(node) = nodes.get_mut(last as usize) else {
+                return;
+            };
+            if node.stamp == time {
+                return;
             }
-            match self.parent(last) {
-                Parent::End => {
-                    self.set_distance(last, 1, self.time);
-                    return Some(steps.saturating_add(1));
-                }
-                Parent::Arc { node, .. } => last = node,
-                _ => return None,
+            node.distance = left;
+            node.stamp = time;
+            left = left.saturating_sub(1);
+            last = node.parent;
+        }
+    }
+
+    // The first of the places of a node's arcs from which flow can come from, or go to, another node of a tree.
+    fn next_inward(&self, tree: Tree, places: Range<u32>) -> Option<u32> {
+        let inward = Trees::inward(tree);
+        for place in places {
+            let arc = self.arcs.at(place);
+            if self.arcs.room(arc.number ^ inward) > 0 && self.node(arc.head).tree == tree {
+                return Some(place);
             }
-            steps = steps.saturating_add(1);
         }
         None
     }
 
-    // Notes the distances of the nodes from one to the end of its tree.
-    fn note_distances(&mut self, from: u32, distance: u16) {
-        let mut left = distance;
-        let mut last = from;
-        for _ in 0..self.nodes.len() {
-            if self.node(last).stamp == self.time {
-                return;
-            }
-            let Parent::Arc { node, .. } = self.parent(last) else {
-                return;
-            };
-            self.set_distance(last, left, self.time);
-            left = left.saturating_sub(1);
-            last = node;
-        }
-    }
-
     // The arc over which a node that lost its parent hangs nearest to the end of its tree, or the first over which
-    // it hangs no farther from it than it did.
-    fn nearest_parent(&mut self, number: u32, tree: Tree) -> Option<(Parent, u16)> {
+    // it hangs no farther from it than it did, and how far the node is that it enters.
+    fn nearest_parent(&mut self, number: u32, tree: Tree) -> Option<(Arc, u16)> {
         let mut best = None;
         let mut least = u16::MAX;
         let before = self.node(number).distance.max(2);
-        for place in self.arcs.places_of(number) {
-            self.work = self.work.wrapping_add(1);
+        let places = self.arcs.places_of(number);
+        let mut next = places.start;
+        for _ in places.start..places.end {
+            let Some(place) = self.next_inward(tree, next..places.end) else {
+                next = places.end;
+                break;
+            };
+            next = place.wrapping_add(1);
             let arc = self.arcs.at(place);
-            let over = Trees::inward(tree, arc.number);
-            if self.arcs.room(over) == 0 || self.node(arc.head).tree != tree {
-                continue;
-            }
             if let Some(distance) = self.distance(arc.head) {
                 self.note_distances(arc.head, distance);
                 if best.is_none() || distance < least {
                     least = distance;
-                    let parent = Parent::Arc {
-                        number: arc.number,
-                        node: arc.head,
-                    };
-                    best = Some((parent, distance));
+                    best = Some((arc, distance));
                 }
                 if distance < before {
                     break;
                 }
             }
         }
+        self.count(next.wrapping_sub(places.start));
         best
+    }
+
+    // Takes its parent from a node, which waits for another.
+    fn lose(&mut self, node: u32) {
+        if let Some(entry) = self.nodes.get_mut(node as usize) {
+            entry.parent = LOST;
+            let _ = self.lost.push_back(node);
+        }
     }
 
     // Takes a node out of its tree. What hangs on it loses its parent, and its other neighbours may grow.
     fn set_loose(&mut self, number: u32, tree: Tree) {
-        for place in self.arcs.places_of(number) {
-            self.work = self.work.wrapping_add(1);
+        let inward = Trees::inward(tree);
+        let places = self.arcs.places_of(number);
+        self.count(places.end.saturating_sub(places.start));
+        for place in places {
             let arc = self.arcs.at(place);
             let other = self.node(arc.head);
             if other.tree != tree {
                 continue;
             }
-            let over = Trees::inward(tree, arc.number);
-            if self.arcs.room(over) > 0 {
+            if !other.active && self.arcs.room(arc.number ^ inward) > 0 {
                 self.activate(arc.head);
             }
-            let child = Parent::Arc {
-                number: other_way(arc.number),
-                node: number,
-            };
-            if self.parent(arc.head) == child {
-                self.set_parent(arc.head, Parent::Lost);
-                let _ = self.lost.push_back(arc.head);
+            if other.parent == number && other.number == other_way(arc.number) {
+                self.lose(arc.head);
             }
         }
-        let active = self.node(number).active;
-        self.set_parent(number, Parent::Nothing);
-        self.set_node(number, Node { active, ..LOOSE });
+        if let Some(entry) = self.nodes.get_mut(number as usize) {
+            let active = entry.active;
+            *entry = Node { active, ..LOOSE };
+        }
     }
 
     // Finds a parent for a node that lost it, or takes the node out of its tree.
     fn adopt(&mut self, number: u32) {
         let tree = self.node(number).tree;
-        if let Some((parent, distance)) = self.nearest_parent(number, tree) {
-            self.set_parent(number, parent);
-            self.set_distance(number, distance.saturating_add(1), self.time);
+        if let Some((arc, distance)) = self.nearest_parent(number, tree) {
+            let time = self.time;
+            if let Some(node) = self.nodes.get_mut(number as usize) {
+                node.hang(arc.head, arc.number, distance.saturating_add(1), time);
+            }
         } else {
             self.set_loose(number, tree);
         }
@@ -454,14 +469,14 @@ impl Trees {
 
     // Makes an end of the network the beginning of its tree.
     fn plant(&mut self, number: u32, tree: Tree) {
-        let node = Node {
-            stamp: 0,
-            distance: 1,
-            tree,
-            active: false,
-        };
-        self.set_parent(number, Parent::End);
-        self.set_node(number, node);
+        if let Some(entry) = self.nodes.get_mut(number as usize) {
+            *entry = Node {
+                parent: END,
+                distance: 1,
+                tree,
+                ..LOOSE
+            };
+        }
         self.activate(number);
     }
 

@@ -10,3 +10,4 @@ pub mod NoFault
 pub mod OneFrame
 pub mod Still
 pub mod Above
+mod RowCells

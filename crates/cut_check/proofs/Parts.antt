@@ -1,7 +1,9 @@
 -- What leaves the cells that have to stay old is one sum, and there is one for each record.
-use Rattle.std.proofs.Common.{◌≡◌, ℕ, zero, suc, refl, arith, ⊎_elim, ◌⊎◌, inl, inr, Bool, true, false, List}
+use Rattle.std.proofs.Common.{◌≡◌, ◌≤◌, ◌*◌, ℕ, zero, suc, refl, arith, rules, ⊎_elim, ◌⊎◌, inl, inr, Bool, true, false, List, neg_ℤ}
 use Rattle.std.proofs.lemmas.Int.{ints}
-use Rattle.std.specs.Prelude.{ℤ, pos, negsuc, ◌-ℤ◌}
+use Rattle.std.specs.Prelude.{ℤ, pos, negsuc, ◌+ℤ◌, ◌-ℤ◌, ◌≤ℤ◌, FitsSigned}
+use Rattle.std.specs.Int.{w64}
+use Rattle.limits.specs.declared.bounds.TheConstants.{MOST_CELLS}
 use mathlib.Core.Bool.{false≢true}
 use Rattle.cells.specs.declared.place.At.{At}
 use Rattle.cells.specs.declared.place.Axis.{Axis}
@@ -18,7 +20,7 @@ use Rattle.costs.specs.Lawful.{StaysOld, is_held}
 use Rattle.cut_check.specs.declared.record.CutRecord.{CutRecord}
 use Rattle.cut_check.specs.Flows.{leaving}
 use Rattle.cut_check.specs.Records.{IsPartWhere, Setting}
-use Rattle.cut_check.specs.Steps.{ArePartsOfValue}
+use Rattle.cut_check.specs.Steps.{ArePartsOfValue, most_leaving}
 
 -- a signed number that can't but be 0 is 0
 stable : (d : ℤ) → ((d ≡ pos 0 → ⊥) → ⊥) → d ≡ pos 0
@@ -35,6 +37,14 @@ one_part Holds z a b first second = omega (
       let none : Holds → ⊥ = λ holds. apart (omega (arith, ints, first.here holds, second.here holds)) in
       apart (omega (arith, ints, first.elsewhere none, second.elsewhere none))),
 )
+
+-- the sum with one part more is a number of 64 bits
+pub sum_fits : (n : ℕ) (sum part : ℤ) → n ≤ MOST_CELLS → neg_ℤ (pos (most_leaving * n)) ≤ℤ sum → sum ≤ℤ pos (most_leaving * n)
+    → neg_ℤ (pos most_leaving) ≤ℤ part → part ≤ℤ pos most_leaving → FitsSigned w64 (sum +ℤ part)
+sum_fits n sum part few low high part_low part_high = small (sum +ℤ part) (omega (arith, ints, few, low, part_low)) (omega (arith, ints, few, high, part_high))
+  where
+    small : (z : ℤ) → neg_ℤ (pos 1000000000000000) ≤ℤ z → z ≤ℤ pos 1000000000000000 → FitsSigned w64 z
+    small z from to = search rules
 
 -- whether a cell has to stay old is decided
 abbrev Sure : Type 0 → Type 0

@@ -1,5 +1,5 @@
 // The rules of what leaves the cells: nothing leaves a free cell, and what leaves the others is the value.
-ghost use Rattle.std.specs.Prelude.{◌≡◌, ◌<◌, ◌↔◌, IfOk, IfSome, IsSome, IsTrue, MatchResult, ℕ, ℤ, pos};
+ghost use Rattle.std.specs.Prelude.{◌≡◌, ◌<◌, ◌+◌, ◌*◌, ◌↔◌, IfErr, IfOk, IfSome, IsSome, IsTrue, MatchResult, ℕ, ℤ, pos};
 ghost use Rattle.cells.specs.Cells.{Cells};
 ghost use Rattle.cells.specs.Places.{cell_count};
 ghost use Rattle.boxes.specs.Sums.{signed_sum_box};
@@ -9,10 +9,11 @@ ghost use Rattle.boxes.specs.Walks.{IsWalkAt};
 ghost use Rattle.costs.specs.Lawful.{StaysOld};
 ghost use Rattle.cut_check.specs.Flows.{IsBetween, leaving, minus_of};
 ghost use Rattle.cut_check.specs.Records.{BalancesAll, IsBalanced, IsFirstUnbalanced, IsPartWhere, setting};
-ghost use Rattle.cut_check.specs.Steps.{ArePartsOfValue, LiesIn, most_leaving, most_value};
+ghost use Rattle.cut_check.specs.Steps.{ArePartsOfValue, IsRow, IsSummed, LiesIn, most_leaving, most_value};
 
 use crate::flows::leaving;
 use crate::record::CutRecord;
+use crate::rows::cell_of_row;
 use crate::rules::{box_cell, stays_old};
 use boxes::Walk;
 use map_canvas::Canvas;
@@ -45,6 +46,42 @@ fn part_of(canvas: &Canvas, cut: &CutRecord, held: &[bool], i: usize, walk: Walk
     }
 }
 
+// The sum of what leaves the cells before a row that have to stay old, and those of the row.
+fn add_row(
+    canvas: &Canvas,
+    cut: &CutRecord,
+    held: &[bool],
+    sum: i64,
+    row: u32,
+) -> Result<i64, usize>
+    requires lies { LiesIn canvas.now.map cut.now.placement }
+    requires row { IsRow cut.now.placement.rect.size row }
+    requires summed { IsSummed canvas.now.map cut.now held.now
+        (cut.now.placement.rect.size.w * row) sum }
+    ensures summed { IfOk result (IsSummed canvas.now.map cut.now held.now
+        (cut.now.placement.rect.size.w * row + cut.now.placement.rect.size.w)) }
+    ensures broken { (sample : Cells) → IfErr result
+        (IsFirstUnbalanced (setting canvas.now.map sample held.now) cut.now) }
+{
+    let size = cut.placement.rect.size;
+    let w = size.w as usize;
+    let start = w * row as usize;
+    let mut before = cell_of_row(size, row, start).pairs_before(size);
+    let mut sum = sum;
+    for i in start..start + w {
+        let walk = Walk {
+            at: cell_of_row(size, row, i),
+            before,
+        };
+        let Some(part) = part_of(canvas, cut, held, i, walk) else {
+            return Err(i);
+        };
+        sum += i64::from(part);
+        before = walk.next(size).before;
+    }
+    Ok(sum)
+}
+
 /// Rule 5: the index of the first free cell of the box that more leaves than comes to it, or less. Where there
 /// is none, the value of the flow: the sum of what leaves the cells that have to stay old.
 pub fn value_of(canvas: &Canvas, cut: &CutRecord, held: &[bool]) -> Result<i64, usize>
@@ -58,14 +95,9 @@ pub fn value_of(canvas: &Canvas, cut: &CutRecord, held: &[bool]) -> Result<i64, 
     ensures near { IfOk result (IsBetween (minus_of most_value) (pos most_value)) }
 {
     let size = cut.placement.rect.size;
-    let mut walk = Walk::first();
     let mut sum: i64 = 0;
-    for i in 0..size.cells() {
-        let Some(part) = part_of(canvas, cut, held, i, walk) else {
-            return Err(i);
-        };
-        sum += i64::from(part);
-        walk = walk.next(size);
+    for row in 0..size.h * size.f {
+        sum = add_row(canvas, cut, held, sum, row)?;
     }
     Ok(sum)
 }

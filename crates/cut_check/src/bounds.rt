@@ -1,5 +1,5 @@
 // Rule 4: the flow of each pair is within its bounds.
-ghost use Rattle.std.specs.Prelude.{◌≡◌, ◌≤◌, ◌-ℤ◌, ◌↔◌, IfNone, IfSome, IsTrue, List, Bool, pos};
+ghost use Rattle.std.specs.Prelude.{◌≡◌, ◌≤◌, ◌+◌, ◌*◌, ◌-ℤ◌, ◌↔◌, IfNone, IfSome, IsTrue, List, Bool, pos};
 ghost use Rattle.cells.specs.Cells.{Holds, IsVolume};
 ghost use Rattle.cells.specs.Distances.{distance};
 ghost use Rattle.cells.specs.Neighbours.{unit_step};
@@ -12,10 +12,11 @@ ghost use Rattle.boxes.specs.Walks.{IsWalkIn, most_pairs};
 ghost use Rattle.costs.specs.Costs.{most_of_pair, seam};
 ghost use Rattle.cut_check.specs.Flows.{IsBetween, IsBetweenOld, IsBounded, IsBoundedOn, LeavesFirst, LeavesNone, LeavesSecond, minus_of};
 ghost use Rattle.cut_check.specs.Records.{BoundsAll, IsFirstUnbounded, setting};
-ghost use Rattle.cut_check.specs.Steps.{EachAxis, HoldsAlong, IsFirstAxis, IsLaid, IsStill, LiesOver};
+ghost use Rattle.cut_check.specs.Steps.{EachAxis, EachBefore, HoldsAlong, HoldsAt, IsFirstAxis, IsLaid, IsRow, IsStill, LiesOver};
 
 use crate::flows::{flow_at, flow_of};
 use crate::record::{CutRecord, Flow};
+use crate::rows::cell_of_row;
 use boxes::{Counts, Walk};
 use cells::{At, Axis, Volume, cell_distance};
 use costs::seam_of;
@@ -302,6 +303,36 @@ fn first_axis(map: &Map, sample: &Volume, cut: &CutRecord, walk: Walk) -> Option
     None
 }
 
+// The number of the first pair of the cells of a row whose flow isn't within its bounds, where those of the rows
+// before are.
+fn first_of_row(map: &Map, sample: &Volume, cut: &CutRecord, row: u32) -> Option<u64>
+    requires lies { LiesOver map.now sample.now cut.now.placement }
+    requires row { IsRow cut.now.placement.rect.size row }
+    requires before { EachBefore cut.now.placement.rect.size (cut.now.placement.rect.size.w * row)
+        (HoldsAt (distance sample.now) map.now cut.now) }
+    ensures hold { IfNone result (EachBefore cut.now.placement.rect.size
+        (cut.now.placement.rect.size.w * row + cut.now.placement.rect.size.w)
+        (HoldsAt (distance sample.now) map.now cut.now)) }
+    ensures broken { (held : List Bool) →
+        IfSome result (IsFirstUnbounded (setting map.now sample.now held) cut.now) }
+{
+    let size = cut.placement.rect.size;
+    let w = size.w as usize;
+    let start = w * row as usize;
+    let mut before = cell_of_row(size, row, start).pairs_before(size);
+    for i in start..start + w {
+        let walk = Walk {
+            at: cell_of_row(size, row, i),
+            before,
+        };
+        if let Some(axis) = first_axis(map, sample, cut, walk) {
+            return Some(walk.pair_number(size, axis));
+        }
+        before = walk.next(size).before;
+    }
+    None
+}
+
 /// Rule 4: the number of the first pair of the box whose flow isn't within its bounds.
 pub fn first_unbounded(map: &Map, sample: &Volume, cut: &CutRecord) -> Option<u64>
     requires lies { LiesOver map.now sample.now cut.now.placement }
@@ -311,12 +342,10 @@ pub fn first_unbounded(map: &Map, sample: &Volume, cut: &CutRecord) -> Option<u6
         IfSome result (IsFirstUnbounded (setting map.now sample.now held) cut.now) }
 {
     let size = cut.placement.rect.size;
-    let mut walk = Walk::first();
-    'cells: for _ in 0..size.cells() {
-        if let Some(axis) = first_axis(map, sample, cut, walk) {
-            return Some(walk.pair_number(size, axis));
+    for row in 0..size.h * size.f {
+        if let Some(number) = first_of_row(map, sample, cut, row) {
+            return Some(number);
         }
-        walk = walk.next(size);
     }
     None
 }

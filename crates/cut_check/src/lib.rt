@@ -6,9 +6,9 @@
 //! is least among all admissible choices without a held cell, whoever made it: the flow of the record bounds
 //! the cost of every choice (proofs/Least.antt). No memory is taken.
 //!
-//! `record` has the types, `check` the rules in their order, `rules` those of the choice,
-//! `bounds` that of pairs, `balance` that of free cells with the value, and `flows` the flows of the pairs of
-//! a cell. All of them go over the box by the walk of the crate `boxes`.
+//! `record` has the types, `check` the rules in their order, `rules` those of the choice, `bounds` that of
+//! pairs, `balance` that of free cells with the value, and `flows` the flows of the pairs of a cell. All of
+//! them go over the box in raster order, most row by row (`rows`).
 #![tactic(auto)]
 
 mod balance;
@@ -17,6 +17,7 @@ mod check;
 mod flows;
 mod laws;
 mod record;
+mod rows;
 mod rules;
 
 pub use check::{check_cut, check_held};

@@ -1,14 +1,16 @@
 // The rules of the choice: each unfilled cell is new, and no cell that has to stay old.
-ghost use Rattle.std.specs.Prelude.{◌≡◌, ◌<◌, ◌↔◌, IfNone, IfSome, IsTrue, None, slice_index_or, true, false, []};
+ghost use Rattle.std.specs.Prelude.{◌≡◌, ◌<◌, ◌+◌, ◌*◌, ◌↔◌, IfNone, IfSome, IsTrue, None, slice_index_or, true, false, []};
 ghost use Rattle.cells.specs.Cells.{Cells};
+ghost use Rattle.cells.specs.Firsts.{Each};
 ghost use Rattle.cells.specs.Places.{cell_count};
 ghost use Rattle.map_canvas.specs.Choices.{box_cell};
 ghost use Rattle.map_canvas.specs.Maps.{map_at};
 ghost use Rattle.costs.specs.Lawful.{StaysOld};
 ghost use Rattle.cut_check.specs.Records.{FillsAll, IsFirstNotOld, IsFirstUnfilled, LeavesAllOld, setting};
-ghost use Rattle.cut_check.specs.Steps.{IsAt, LiesIn};
+ghost use Rattle.cut_check.specs.Steps.{IsAt, IsRow, KeepsOld, LiesIn};
 
 use crate::record::CutRecord;
+use crate::rows::cell_of_row;
 use boxes::Counts;
 use cells::At;
 use costs::is_kept_at;
@@ -95,6 +97,31 @@ fn leaves_old(
     !is_marked(choice, i) || !stays_old(canvas, placement, held, i, at, p)
 }
 
+// The index of the first cell of a row that has to stay old and is new, where no cell of the rows before is.
+fn first_new_of_row(canvas: &Canvas, cut: &CutRecord, held: &[bool], row: u32) -> Option<usize>
+    requires lies { LiesIn canvas.now.map cut.now.placement }
+    requires row { IsRow cut.now.placement.rect.size row }
+    requires before { Each (cut.now.placement.rect.size.w * row)
+        (KeepsOld canvas.now.map cut.now held.now) }
+    ensures hold { IfNone result (Each (cut.now.placement.rect.size.w * row
+        + cut.now.placement.rect.size.w) (KeepsOld canvas.now.map cut.now held.now)) }
+    ensures broken { (sample : Cells) → IfSome result
+        (IsFirstNotOld (setting canvas.now.map sample held.now) cut.now) }
+{
+    let size = cut.placement.rect.size;
+    let w = size.w as usize;
+    let start = w * row as usize;
+    let choice = cut.choice.as_slice();
+    for i in start..start + w {
+        let at = cell_of_row(size, row, i);
+        let p = box_cell(canvas.map(), &cut.placement, i, at);
+        if !leaves_old(canvas, &cut.placement, choice, held, i, at, p) {
+            return Some(i);
+        }
+    }
+    None
+}
+
 /// Rule 3: the index of the first cell of the box that has to stay old and is new.
 pub fn first_new(canvas: &Canvas, cut: &CutRecord, held: &[bool]) -> Option<usize>
     requires lies { LiesIn canvas.now.map cut.now.placement }
@@ -104,14 +131,10 @@ pub fn first_new(canvas: &Canvas, cut: &CutRecord, held: &[bool]) -> Option<usiz
         (IsFirstNotOld (setting canvas.now.map sample held.now) cut.now) }
 {
     let size = cut.placement.rect.size;
-    let choice = cut.choice.as_slice();
-    let mut at = Counts::first();
-    for i in 0..size.cells() {
-        let p = box_cell(canvas.map(), &cut.placement, i, at);
-        if !leaves_old(canvas, &cut.placement, choice, held, i, at, p) {
+    for row in 0..size.h * size.f {
+        if let Some(i) = first_new_of_row(canvas, cut, held, row) {
             return Some(i);
         }
-        at = at.next(size);
     }
     None
 }

@@ -1,18 +1,6 @@
-use Rattle.std.proofs.Common.{◌≡◌, ℕ, ◌*◌, ◌<◌, neg_ℤ, pos, ◌≤ℤ◌, ℤ}
-use Rattle.cells.specs.Cells.{Cells}
-use Rattle.boxes.specs.Sums.{signed_sum_to}
-use Rattle.boxes.specs.Pairs.{at_index}
-use Rattle.boxes.specs.Walks.{IsWalkAt}
-use Rattle.cut_check.specs.Records.{IsBalanced, setting}
-use Rattle.cut_check.specs.Steps.{ArePartsOfValue, most_leaving}
+use Rattle.std.proofs.Common.{◌*◌}
+use Rattle.cut_check.specs.Steps.{IsSummed}
 use Rattle.cut_check.proofs.balance.value_of.Given as goal
 
-abbrev pub invariant-loop-i : goal.invariant-loop-i
-invariant-loop-i l = record {
-  walk : IsWalkAt l.cut.placement.rect.size l.i l.walk;
-  balanced : (sample : Cells) (k : ℕ) → k < l.i → IsBalanced (setting l.canvas.map sample l.held) l.cut k;
-  sum : (sample : Cells) (part : ℕ → ℕ → ℕ → ℤ) → ArePartsOfValue (setting l.canvas.map sample l.held) l.cut part
-      → l.sum ≡ signed_sum_to l.i (at_index l.cut.placement.rect.size part);
-  low : neg_ℤ (pos (most_leaving * l.i)) ≤ℤ l.sum;
-  high : l.sum ≤ℤ pos (most_leaving * l.i);
-}
+abbrev pub invariant-loop-row : goal.invariant-loop-row
+invariant-loop-row l = IsSummed l.canvas.map l.cut l.held (l.cut.placement.rect.size.w * l.row) l.sum

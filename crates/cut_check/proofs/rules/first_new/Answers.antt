@@ -1,64 +1,14 @@
-use Rattle.std.proofs.lemmas.Grind.{common_steps}
-use Rattle.std.proofs.Common.{◌≡◌, ◌∙◌, List, Bool, sym, subst, arith, below_more}
-use Rattle.std.specs.Prelude.{false, slice_index_or}
-use mathlib.Core.Bool.{false≢true}
-use Rattle.cells.specs.declared.place.At.{At}
-use Rattle.map_canvas.specs.Choices.{box_cell}
-use Rattle.costs.specs.Lawful.{StaysOld}
-use Rattle.cut_check.proofs.Cells.{counts_in}
+use Rattle.std.proofs.Common.{arith}
+use Rattle.std.proofs.Math.Nat.{mul-le-mul_left}
 use Rattle.cut_check.proofs.rules.first_new.Goals as goal
 
-pub cells-i-end-requires : goal.cells-i-end-requires
-cells-i-end-requires c = c.requires.lies.small
+pub loop-row-init : goal.loop-row-init
+loop-row-init c = λ k lt. absurd (omega arith)
 
-pub loop-i-init : goal.loop-i-init
-loop-i-init c = record {
-  at = c.first-at.ensures.index c.args.cut.now.placement.rect.size c.requires.lies.some;
-  before = λ k lt. absurd (omega arith);
-}
-
-pub box_cell-p-requires-clause-below : goal.box_cell-p-requires-clause-below
-box_cell-p-requires-clause-below c = omega (arith, c.cells-i-end.ensures, c.loop-i-test.true)
-
-pub leaves_old-requires-clause-below : goal.leaves_old-requires-clause-below
-leaves_old-requires-clause-below c = omega (arith, c.cells-i-end.ensures, c.loop-i-test.true)
-
-pub leaves_old-requires-clause-cell : goal.leaves_old-requires-clause-cell
-leaves_old-requires-clause-cell c = c.box_cell-p.ensures
-
-pub returns-then-not-leaves_old-clause-broken : goal.returns-then-not-leaves_old-clause-broken
-returns-then-not-leaves_old-clause-broken c = λ sample.
-    let m = c.args.canvas.now.map in
-    let cut = c.args.cut.now in
-    let held = c.args.held.now in
-    let i = c.loop-i.i in
-    record {
-      below = omega (arith, c.cells-i-end.ensures, c.loop-i-test.true);
-      before = c.loop-i.invariant.before;
-      here = λ leaves. false≢true (sym c.if-not-leaves_old.true ∙ c.leaves_old.ensures.1
-          (subst (λ (choice : List Bool). StaysOld m cut.placement held c.box_cell-p.result → slice_index_or choice i false ≡ false) (sym c.as_slice-choice.ensures)
-          (subst (λ (p : At). StaysOld m cut.placement held p → slice_index_or cut.choice i false ≡ false) (sym c.box_cell-p.ensures) leaves)));
-    }
-
-pub next-at-requires : goal.next-at-requires
-next-at-requires c = counts_in c.args.cut.now.placement c.loop-i.i c.loop-i.at c.loop-i.invariant.at (omega (arith, c.cells-i-end.ensures, c.loop-i-test.true))
-
-pub loop-i-preserved : goal.loop-i-preserved
-loop-i-preserved c =
-    let m = c.args.canvas.now.map in
-    let cut = c.args.cut.now in
-    let held = c.args.held.now in
-    let i = c.loop-i.i in
-    record {
-      at = c.next-at.ensures i c.loop-i.invariant.at;
-      before = below_more (λ k. StaysOld m cut.placement held (box_cell cut.placement k) → slice_index_or cut.choice k false ≡ false) i c.loop-i.invariant.before
-          (subst (λ (p : At). StaysOld m cut.placement held p → slice_index_or cut.choice i false ≡ false) c.box_cell-p.ensures
-          (subst (λ (choice : List Bool). StaysOld m cut.placement held c.box_cell-p.result → slice_index_or choice i false ≡ false) c.as_slice-choice.ensures
-          (c.leaves_old.ensures.0 c.if-not-leaves_old.false)));
-    }
+pub loop-row-preserved : goal.loop-row-preserved
+loop-row-preserved c = λ k lt. c.in_default.ensures.hold k (omega (arith, lt))
 
 pub returns-clause-hold : goal.returns-clause-hold
-returns-clause-hold c = λ sample i lt. c.loop-i.invariant.before i (omega (arith, c.cells-i-end.ensures, c.loop-i-test.false))
-
-pub box_cell-p-requires-clause-lies : goal.box_cell-p-requires-clause-lies
-box_cell-p-requires-clause-lies c = grind (arith, common_steps)
+returns-clause-hold c = λ sample k lt.
+    let size = c.args.cut.now.placement.rect.size in
+    c.loop-row.invariant k (omega (arith, lt, mul-le-mul_left size.w c.loop-row-test.false))

@@ -1,12 +1,7 @@
-use Rattle.std.proofs.Common.{◌≡◌, ℕ, ◌<◌}
-use Rattle.std.specs.Prelude.{slice_index_or, false}
-use Rattle.map_canvas.specs.Choices.{box_cell}
-use Rattle.costs.specs.Lawful.{StaysOld}
-use Rattle.cut_check.specs.Steps.{IsAt}
+use Rattle.std.proofs.Common.{◌*◌}
+use Rattle.cells.specs.Firsts.{Each}
+use Rattle.cut_check.specs.Steps.{KeepsOld}
 use Rattle.cut_check.proofs.rules.first_new.Given as goal
 
-abbrev pub invariant-loop-i : goal.invariant-loop-i
-invariant-loop-i l = record {
-  at : IsAt l.cut.placement.rect.size l.i l.at;
-  before : (k : ℕ) → k < l.i → StaysOld l.canvas.map l.cut.placement l.held (box_cell l.cut.placement k) → slice_index_or l.cut.choice k false ≡ false;
-}
+abbrev pub invariant-loop-row : goal.invariant-loop-row
+invariant-loop-row l = Each (l.cut.placement.rect.size.w * l.row) (KeepsOld l.canvas.map l.cut l.held)

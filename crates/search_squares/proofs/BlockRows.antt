@@ -130,7 +130,7 @@ module _ (sample : Cells) (volume : IsVolume sample) (rect : Box3) (holds : Hold
     entries_of_cells = record { long = down.long ∙ along.long ∙ cells.long; each = block_entry }
 
 -- a cell is a block by itself
-cell_block : (sample : Cells) (p : At) → sum (row_at sample p 1) ≡ block_sum sample 1 p
+pub cell_block : (sample : Cells) (p : At) → sum (row_at sample p 1) ≡ block_sum sample 1 p
 cell_block sample p =
     ap (λ at. sum (row_at sample at 1)) (λ k. record { x = stays p.x k; y = stays p.y k; f = stays p.f k })
     ∙ first (sum (row_at sample (plus p (spot 0 0 0)) 1))

@@ -8,6 +8,7 @@ pub mod Reordered
 pub mod SumRows
 pub mod AddedSums
 pub mod BlockRows
+pub mod OneCells
 pub mod Vectors
 pub mod SignedLanes
 pub mod RunEntries

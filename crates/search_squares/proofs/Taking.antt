@@ -32,7 +32,7 @@ none_taken end part free none = record {
 }
 
 -- one is
-one_taken : (free : List Bool) (i end : ℕ) → i < length free → i < end → IsUntaken free i → IsTaken end (λ g. g i) free (set free i false)
+pub one_taken : (free : List Bool) (i end : ℕ) → i < length free → i < end → IsUntaken free i → IsTaken end (λ g. g i) free (set free i false)
 one_taken free i end lt before is = record {
   long = length-set free i false;
   after = λ j le. get_or-set_other free i j false false (λ e. absurd (omega arith));

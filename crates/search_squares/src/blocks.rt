@@ -13,7 +13,7 @@ use map_canvas::Canvas;
 use std::alloc::{AllocError, Global};
 
 // The most blocks of a box, so that they never take much memory. Fewer bound the error as well, if by less.
-const MOST_BLOCKS: usize = 1 << 16;
+pub(crate) const MOST_BLOCKS: usize = 1 << 16;
 
 /// A block of filled cells.
 #[derive(Clone, Copy, Drop)]
@@ -224,6 +224,9 @@ impl BoxBlocks {
         ensures blocks { IfOk result (AreBoxBlocks canvas.now rect.now) }
         ensures side { IfOk result (λ blocks. blocks.side ≡ side) }
     {
+        if side == 1 {
+            return BoxBlocks::singles_of(alloc, canvas, rect, size, filled);
+        }
         // Called for its contract only: it shows the prover that this is a canvas.
         let _picture = canvas.picture();
         let mut blocks = BoxBlocks {

@@ -16,11 +16,11 @@
 //! `Pauses` keeps for a walk over many runs which sizes are of little use to it. `BoxLevels::likely` gives places
 //! to begin with, whose errors may be a first limit.
 //!
-//! `blocks` has the blocks of a box, `order` which of them come first, `sums` the sums of the sample's blocks,
-//! `lanes` the sums over a run of places or of entries at once, `bound` what they rule out, `places` how far a
-//! run goes, `likely` which places may be close, `levels` all sizes together, `pauses` when one of them is left
-//! out, `eliminated` what a search is given. specs/Blocks.antt defines blocks and what they bound,
-//! specs/Eliminations.antt what a search may leave out.
+//! `blocks` has the blocks of a box, `singles` those of one cell, `order` which of them come first, `sums` the
+//! sums of the sample's blocks, `lanes` the sums over a run of places or of entries at once, `bound` what they
+//! rule out, `places` how far a run goes, `likely` which places may be close, `levels` all sizes together,
+//! `pauses` when one of them is left out, `eliminated` what a search is given. specs/Blocks.antt defines blocks
+//! and what they bound, specs/Eliminations.antt what a search may leave out.
 #![tactic(auto)]
 
 mod blocks;
@@ -34,6 +34,7 @@ mod order;
 mod pauses;
 mod places;
 mod rows;
+mod singles;
 mod sums;
 
 pub use eliminated::Eliminated;

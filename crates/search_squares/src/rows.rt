@@ -1,6 +1,6 @@
 // What the blocks of a box and the sums of the sample are both made with: cells by their counts, where
 // they come in raster order, and the bytes of a row.
-ghost use Rattle.std.specs.Prelude.{◌≡◌, ◌≤◌, ◌<◌, ◌*◌, ◌^◌, ◌↔◌, ℕ, IsTrue, length, sum};
+ghost use Rattle.std.specs.Prelude.{◌≡◌, ◌≤◌, ◌<◌, ◌+◌, ◌*◌, ◌^◌, ◌↔◌, ℕ, IsTrue, drop, length, sum, take};
 ghost use Rattle.cells.specs.Boxes.{HasCells};
 ghost use Rattle.cells.specs.Places.{raster_index, spot};
 ghost use Rattle.search_squares.specs.Gathered.{HasShortRows, IsCellStep};
@@ -48,6 +48,16 @@ pub(crate) fn entries_before(size: Size, step: At) -> usize
 {
     let (x, y, f) = (step.x as usize, step.y as usize, step.f as usize);
     x + size.w as usize * (y + size.h as usize * f)
+}
+
+/// The bytes of a cell of a row, by its number in it.
+pub(crate) fn cell_of(row: &[u8], k: usize, x: usize) -> &[u8]
+    requires { k * x + k ≤ length row.now }
+    ensures bytes { result.now ≡ take k (drop (k * x) row.now) }
+    ensures long { length result.now ≡ k }
+{
+    let start = k * x;
+    &row[start..start + k]
 }
 
 /// The sum of the bytes of a row.

@@ -7,7 +7,7 @@ ghost use Rattle.search_squares.specs.Blocks.{block_bytes};
 ghost use Rattle.search_squares.specs.Sums.{AreAdded, AreBlockSums, AreCellSums, AreBlockEntries, ArePut, AreRows, IsCellSum, stepped_sum};
 
 use crate::lanes::{no_sums, with_run};
-use crate::rows::{byte_sum, has_cells, step_to};
+use crate::rows::{byte_sum, cell_of, has_cells, step_to};
 use cells::{At, Box3, Size, Volume};
 use std::alloc::{AllocError, Global};
 use std::simd::prelude::*;
@@ -23,16 +23,6 @@ pub(crate) struct BlockSums {
     pub(crate) side: u32,
     // in raster order, and LANES more
     pub(crate) sums: Vec<u16>,
-}
-
-// The bytes of a cell of a row, by its number in it.
-fn cell_of(row: &[u8], k: usize, x: usize) -> &[u8]
-    requires { k * x + k ≤ length row.now }
-    ensures bytes { result.now ≡ take k (drop (k * x) row.now) }
-    ensures long { length result.now ≡ k }
-{
-    let start = k * x;
-    &row[start..start + k]
 }
 
 // The sums of the cells of one more row of the box.

@@ -8,7 +8,7 @@ use shelf_core::{FormFault, What};
 use std::alloc::AllocError;
 
 /// A file of a run, by its part in it. `Report` is the sink that the report is written to.
-#[derive(Clone, Copy, Debug, Drop, PartialEq, Eq)]
+#[derive(Clone, Copy, Drop, PartialEq, Eq)]
 pub enum FileOf {
     Sample,
     /// A further sample, by its number from 2 to 16.
@@ -58,7 +58,7 @@ impl FileOf {
 }
 
 /// Why a run ends without its result.
-#[derive(Clone, Copy, Debug, Drop, PartialEq, Eq)]
+#[derive(Clone, Copy, Drop, PartialEq, Eq)]
 pub enum Fault {
     /// The words ask for no job.
     Words(WordFault),

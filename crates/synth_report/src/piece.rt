@@ -14,19 +14,25 @@ pub enum Piece<'a> {
     Maybe(Option<u8>),
 }
 
+fn tell_bytes<E: Sink>(bytes: &[u8], sink: &mut E) -> Result<(), WriteFault>
+    ensures { TellsText bytes.now (E.state sink.old) (E.state sink.new) result }
+{
+    sink.add(bytes)?;
+    Ok(())
+}
+
 // Tells one piece.
 fn tell_piece<E: Sink>(piece: Piece<'_>, sink: &mut E) -> Result<(), WriteFault>
     ensures { TellsText (piece_text piece.entry) (E.state sink.old) (E.state sink.new) result }
 {
     let mut buffer = Buffer::new();
     match piece {
-        Piece::Text(text) => sink.add(text.as_bytes())?,
-        Piece::Number(number) => sink.add(buffer.format(number).as_bytes())?,
-        Piece::Short(number) => sink.add(buffer.format(number).as_bytes())?,
-        Piece::Maybe(Some(number)) => sink.add(buffer.format(number).as_bytes())?,
-        Piece::Maybe(None) => sink.add(b"")?,
+        Piece::Text(text) => tell_bytes(text.as_bytes(), sink),
+        Piece::Number(number) => tell_bytes(buffer.format(number).as_bytes(), sink),
+        Piece::Short(number) => tell_bytes(buffer.format(number).as_bytes(), sink),
+        Piece::Maybe(Some(number)) => tell_bytes(buffer.format(number).as_bytes(), sink),
+        Piece::Maybe(None) => tell_bytes(b"", sink),
     }
-    Ok(())
 }
 
 /// Tells pieces one after another, up to a failure.

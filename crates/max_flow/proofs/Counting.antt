@@ -1,13 +1,13 @@
 -- What leaves each node, counted pipe by pipe from the last.
-use Rattle.std.proofs.Common.{◌≡◌, ◌<◌, ◌≤◌, ◌+◌, ◌==◌, ℕ, List, ◌∷◌, length, slice_index, drop, replicate, refl, ap, sym, ◌∙◌, subst, arith, ⊎_elim, Bool, true, false, ℤ, pos, ◌+ℤ◌, ◌-ℤ◌}
+use Rattle.std.proofs.Common.{◌≡◌, ◌<◌, ◌≤◌, ◌+◌, ◌==◌, ℕ, List, ◌∷◌, length, slice_index, drop, replicate, refl, ap, sym, ◌∙◌, subst, arith, ⊎_elim, Bool, true, false, ℤ, pos, ◌+ℤ◌, ◌-ℤ◌, ◌≤ℤ◌}
 use Rattle.std.proofs.lemmas.Bool.{cases_eq, cases_lt}
 use Rattle.std.proofs.lemmas.Int.{ints}
 use Rattle.std.proofs.lemmas.List.{get_or-replicate, get_or_past, length-replicate, drop_all, drop_more}
 use Rattle.max_flow.specs.declared.network.Pipe.{Pipe}
-use Rattle.max_flow.specs.Networks.{pipe_at, no_pipe}
+use Rattle.max_flow.specs.Networks.{IsPipeOf, pipe_at, no_pipe}
 use Rattle.max_flow.specs.Flows.{part_if, net_leaving}
 use Rattle.max_flow.specs.Residual.{Carries, flows_of, excess}
-use Rattle.max_flow.specs.Checking.{excess_at, AddsAt, CountsPipe, AreExcesses, IsBalancedBetween}
+use Rattle.max_flow.specs.Checking.{excess_at, AddsAt, AreWithin, CountsPipe, AreExcesses, IsBalancedBetween}
 
 part_opposite : (b : Bool) (y z : ℤ) → y +ℤ z ≡ pos 0 → part_if b y +ℤ part_if b z ≡ pos 0
 part_opposite true y z e = e
@@ -26,14 +26,40 @@ pub record AreCountedFrom (pipes : List Pipe) (backward : List ℕ) (table : Lis
   pub fits : (j : ℕ) → left ≤ j → j < length pipes → slice_index backward j ≤ (pipe_at pipes j).ahead + (pipe_at pipes j).back
   pub counted : (n : ℕ) → excess_at table n ≡ net_leaving (λ k. k == n) (drop left pipes) (flows_of (drop left pipes) (drop left backward))
 
-zero_at : (nodes n : ℕ) → excess_at (replicate nodes (pos 0)) n ≡ pos 0
+pub zero_at : (nodes n : ℕ) → excess_at (replicate nodes (pos 0)) n ≡ pos 0
 zero_at nodes n = ⊎_elim (λ lt. get_or-replicate nodes n (pos 0) (pos 0) lt) (λ past. get_or_past (replicate nodes (pos 0)) n (pos 0) (omega (arith, length-replicate {A = ℤ} nodes (pos 0)))) (cases_lt n nodes)
 
-pub AreCountedFrom_none : (pipes : List Pipe) (backward : List ℕ) (nodes left : ℕ) → length pipes ≤ left → AreCountedFrom pipes backward (replicate nodes (pos 0)) left
-AreCountedFrom_none pipes backward nodes left past = record {
+pub AreCountedFrom_none : (pipes : List Pipe) (backward : List ℕ) (table : List ℤ) (left : ℕ) → length pipes ≤ left → ((n : ℕ) → excess_at table n ≡ pos 0) → AreCountedFrom pipes backward table left
+AreCountedFrom_none pipes backward table left past clear = record {
   fits = λ j low lt. absurd (omega arith);
-  counted = λ n. zero_at nodes n ∙ sym (ap (λ ps. net_leaving (λ k. k == n) ps (flows_of ps (drop left backward))) (drop_all left pipes past));
+  counted = λ n. clear n ∙ sym (ap (λ ps. net_leaving (λ k. k == n) ps (flows_of ps (drop left backward))) (drop_all left pipes past));
 }
+
+-- a part of a flow is no farther from 0 than the flow
+pub part_low : (b : Bool) (flow : ℤ) (most : ℕ) → (pos 0 -ℤ pos most) ≤ℤ flow → (pos 0 -ℤ pos most) ≤ℤ part_if b flow
+part_low true flow most h = h
+part_low false flow most h = omega (arith, ints)
+
+pub part_high : (b : Bool) (flow : ℤ) (most : ℕ) → flow ≤ℤ pos most → part_if b flow ≤ℤ pos most
+part_high true flow most h = h
+part_high false flow most h = omega (arith, ints)
+
+-- a pipe takes no entry farther from 0 than twice what it can carry
+pub AreWithin_more : (pipe : Pipe) (nodes against most larger : ℕ) (before after : List ℤ) → IsPipeOf nodes pipe → AreWithin most before → CountsPipe pipe against before after → most + 131072 ≤ larger → AreWithin larger after
+AreWithin_more pipe nodes against most larger before after sound h counts rises =
+    let flow = pos against -ℤ pos pipe.back in
+    let low : (pos 0 -ℤ pos 65536) ≤ℤ flow = omega (arith, ints, sound.back_limit) in
+    let high : flow ≤ℤ pos 65536 = omega (arith, ints, sound.ahead_limit, counts.within) in
+    record {
+      low = λ n. omega (arith, ints, rises, h.low n, counts.counted n, part_low (pipe.from == n) flow 65536 low, part_high (pipe.to == n) flow 65536 high);
+      high = λ n. omega (arith, ints, rises, h.high n, counts.counted n, part_high (pipe.from == n) flow 65536 high, part_low (pipe.to == n) flow 65536 low);
+    }
+
+pub AreWithin_larger : (most larger : ℕ) (table : List ℤ) → AreWithin most table → most ≤ larger → AreWithin larger table
+AreWithin_larger most larger table h fits = record { low = λ n. omega (arith, ints, fits, h.low n); high = λ n. omega (arith, ints, fits, h.high n) }
+
+pub AreWithin_none : (table : List ℤ) → ((n : ℕ) → excess_at table n ≡ pos 0) → AreWithin 0 table
+AreWithin_none table clear = record { low = λ n. omega (arith, ints, clear n); high = λ n. omega (arith, ints, clear n) }
 
 -- one pipe more
 module _ (pipes : List Pipe) (backward : List ℕ) (left : ℕ) (left_in : left < length pipes) (sized : length backward ≡ length pipes) where

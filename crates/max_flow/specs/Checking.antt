@@ -1,5 +1,5 @@
 -- The state of the solver: what leaves each node, counted pipe by pipe.
-use Rattle.std.specs.Prelude.{◌≡◌, ◌≢◌, ◌≤◌, ◌+◌, ◌==◌, ℕ, ℤ, pos, ◌+ℤ◌, ◌-ℤ◌, List, slice_index_or}
+use Rattle.std.specs.Prelude.{◌≡◌, ◌≢◌, ◌≤◌, ◌+◌, ◌==◌, ℕ, ℤ, pos, ◌+ℤ◌, ◌-ℤ◌, ◌≤ℤ◌, List, slice_index_or}
 use Rattle.max_flow.specs.declared.network.Pipe.{Pipe}
 use Rattle.max_flow.specs.Flows.{part_if}
 use Rattle.max_flow.specs.Residual.{AreResiduals, excess}
@@ -7,6 +7,11 @@ use Rattle.max_flow.specs.Residual.{AreResiduals, excess}
 -- what a table says of a node
 abbrev pub excess_at : List ℤ → ℕ → ℤ
 excess_at table n = slice_index_or table n (pos 0)
+
+-- no entry is farther from 0 than this
+pub record AreWithin (most : ℕ) (table : List ℤ) : Type 0 where
+  pub low : (n : ℕ) → (pos 0 -ℤ pos most) ≤ℤ excess_at table n
+  pub high : (n : ℕ) → excess_at table n ≤ℤ pos most
 
 -- an amount is added at one node
 abbrev pub AddsAt : ℕ → ℤ → List ℤ → List ℤ → Type 0

@@ -1,11 +1,14 @@
-use Rattle.std.proofs.lemmas.Grind.{common_steps}
-use Rattle.std.proofs.Common.{arith}
+use Rattle.std.proofs.Common.{arith, ◌==◌, ◌-ℤ◌, to_z, of_z, w64}
 use Rattle.std.proofs.lemmas.Int.{ints}
-use Rattle.max_flow.proofs.Counting.{CountsPipe_at}
+use Rattle.max_flow.proofs.Counting.{CountsPipe_at, part_high}
 use Rattle.max_flow.proofs.checking.count_pipe.Goals as goal
 
-pub returns : goal.returns
-returns c = CountsPipe_at _ _ _ _ _ c.add_at.new.excess _ c.if-not-add_at.ensures c.if-not-add_at-2.ensures (omega arith) (omega (arith, ints)) (omega (arith, ints))
+pub add_at-requires-2-clause-high : goal.add_at-requires-2-clause-high
+add_at-requires-2-clause-high c =
+    let pipe = c.args.pipe.now in
+    let flow = to_z w64 (of_z w64 (to_z w64 (of_z w64 c.from.result) -ℤ to_z w64 (of_z w64 c.from-2.result))) in
+    omega (arith, ints, c.requires.room.high pipe.to, c.add_at.ensures pipe.to, c.requires.pipe.ahead_limit, c.requires.pipe.back_limit,
+    part_high (pipe.from == pipe.to) flow 65536 (omega (arith, ints, c.requires.pipe.ahead_limit)))
 
-pub overflow_sub-flow-else-not-add_at : goal.overflow_sub-flow-else-not-add_at
-overflow_sub-flow-else-not-add_at c = grind (arith, common_steps)
+pub returns : goal.returns
+returns c = CountsPipe_at _ _ _ _ _ c.add_at.new.excess _ c.add_at.ensures c.add_at-2.ensures (omega arith) (omega (arith, ints)) (omega (arith, ints))

@@ -6,3 +6,4 @@ pub mod Levels
 pub mod Paths
 pub mod Solutions
 pub mod Checking
+pub mod Rooms

@@ -12,7 +12,8 @@
 // A flow of the shorter network is turned back into one of the stars: what leaves the two nodes
 // goes through the middle. Nothing is promised of either, as nothing is of the search.
 
-ghost use Rattle.std.specs.Prelude.{◌≡◌, length};
+ghost use Rattle.std.specs.Prelude.{◌≡◌, ◌+◌, IfOk, length, vec_capacity, vec_len};
+ghost use Rattle.max_flow.specs.Rooms.{HasRoom};
 
 use crate::network::{Network, Pipe};
 use crate::packed::PackedArcs;
@@ -101,7 +102,7 @@ impl Stars {
     // Adds to what a node can send to the sink.
     fn add_to_sink(&mut self, node: u32, amount: u32) {
         if let Some(entry) = self.to_sink.get_mut(node as usize) {
-            *entry = entry.saturating_add(amount);
+            *entry = entry.wrapping_add(amount);
         }
     }
 
@@ -188,7 +189,9 @@ impl Stars {
 
 impl Shorter {
     // A network without pipes, with room for so many, of the nodes before the first middle.
-    fn begin(alloc: Global, middle: u32, pipes: usize) -> Result<Shorter, AllocError> {
+    fn begin(alloc: Global, middle: u32, pipes: usize) -> Result<Shorter, AllocError>
+        ensures { IfOk result (λ made. HasRoom pipes made.pipes) }
+    {
         let to_sink = vec![in alloc; 0u32; middle as usize]?;
         let pipes = Vec::with_capacity(alloc, pipes)?;
         let stars = Stars { middle, to_sink };
@@ -196,41 +199,46 @@ impl Shorter {
     }
 
     // Adds the triangle for a star, but for its pipes to the sink.
-    fn add_star(&mut self, first: &Pipe, second: &Pipe, down: &Pipe) -> Result<(), AllocError> {
+    fn add_star(&mut self, first: &Pipe, second: &Pipe, down: &Pipe)
+        requires { HasRoom 1 self.old.pipes }
+        ensures len { vec_len self.new.pipes ≡ vec_len self.old.pipes + 1 }
+        ensures capacity { vec_capacity self.new.pipes ≡ vec_capacity self.old.pipes }
+    {
         let triangle = Triangle::of_legs(first.ahead, second.ahead, down.ahead);
         self.stars.add_to_sink(first.from, triangle.from_first);
         self.stars.add_to_sink(second.to, triangle.from_second);
-        self.pipes.push(Pipe {
+        self.pipes.push_reserved(Pipe {
             from: first.from,
             to: second.to,
             ahead: triangle.ahead,
             back: triangle.back,
-        })?;
-        Ok(())
+        });
     }
 
     // Reads the pipes of a network. Returns whether all of them that meet a middle are stars in the
     // order of the middles.
-    fn read(&mut self, pipes: &[Pipe], sink: u32) -> Result<bool, AllocError> {
+    fn read(&mut self, pipes: &[Pipe], sink: u32) -> bool
+        requires { HasRoom (length pipes.now) self.old.pipes }
+    {
         let mut last = self.stars.middle.wrapping_sub(1);
         let mut rest = pipes;
         'pipes: while let [first, after @ ..] = rest {
             if first.from.max(first.to) < self.stars.middle {
-                self.pipes.push(*first)?;
+                self.pipes.push_reserved(*first);
                 rest = after;
                 continue;
             }
             let [second, down, beyond @ ..] = after else {
-                return Ok(false);
+                return false;
             };
             if !self.stars.is_star(first, second, down, last, sink) {
-                return Ok(false);
+                return false;
             }
-            self.add_star(first, second, down)?;
+            self.add_star(first, second, down);
             last = first.to;
             rest = beyond;
         }
-        Ok(true)
+        true
     }
 
     // Adds the pipes to the sink.
@@ -251,8 +259,10 @@ impl Shorter {
     }
 
     // Makes the network shorter. Returns whether it has fewer pipes by a fifth or more.
-    fn shorten(&mut self, pipes: &[Pipe], sink: u32) -> Result<bool, AllocError> {
-        if !self.read(pipes, sink)? {
+    fn shorten(&mut self, pipes: &[Pipe], sink: u32) -> Result<bool, AllocError>
+        requires { HasRoom (length pipes.now) self.old.pipes }
+    {
+        if !self.read(pipes, sink) {
             return Ok(false);
         }
         self.join_sink(sink)?;

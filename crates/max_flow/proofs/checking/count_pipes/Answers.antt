@@ -10,10 +10,11 @@ pipes-init c =
 
 pub pipes-preserved : goal.pipes-preserved
 pipes-preserved c =
-    let left_in : c.pipes.left - 1 < length c.args.pipes.now = omega (arith, c.requires.sized, c.pipes.invariant.1) in
-    (AreCountedFrom_more _ _ _ (omega (arith, c.requires.sized)) c.requires.sized _ _ _ (omega arith) c.pipes.invariant.0 c.if-not-count_pipe.ensures,
-    omega arith,
-    AreWithin_more _ c.args.nodes _ _ _ _ _ (c.requires.pipes _ no_pipe left_in) c.pipes.invariant.2 c.if-not-count_pipe.ensures (omega (arith, c.pipes.invariant.1)))
+    let left_in : c.pipes.left - 1 < length c.args.pipes.now = omega (arith, c.requires.sized, c.pipes.invariant.1) in (
+      AreCountedFrom_more _ _ _ (omega (arith, c.requires.sized)) c.requires.sized _ _ _ (omega arith) c.pipes.invariant.0 c.if-not-count_pipe.ensures,
+      omega arith,
+      AreWithin_more _ c.args.nodes _ _ _ _ _ (c.requires.pipes _ no_pipe left_in) c.pipes.invariant.2 c.if-not-count_pipe.ensures (omega (arith, c.pipes.invariant.1)),
+    )
 
 pub returns : goal.returns
 returns c = AreCountedFrom_all _ _ _ _ c.requires.sized c.pipes.invariant.0 (omega arith)

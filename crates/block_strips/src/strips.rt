@@ -1,7 +1,8 @@
 // The errors of strips.
-ghost use Rattle.std.specs.Prelude.{◌≡◌, ◌≤◌, ◌<◌, IfOk, Some, length};
+ghost use Rattle.std.specs.Prelude.{◌≡◌, ◌≤◌, ◌<◌, ◌*◌, IfOk, Some, length};
 ghost use Rattle.cells.specs.Cells.{HasCell};
 ghost use Rattle.cells.specs.Places.{SumFits, plus, spot};
+ghost use Rattle.lane_kernels.specs.Sums.{squared_difference, sum_of_squared_differences};
 ghost use Rattle.map_canvas.specs.Maps.{sample_cell};
 ghost use Rattle.map_canvas.specs.Canvases.{StandsOver};
 ghost use Rattle.map_canvas.specs.Choices.{Fits};
@@ -10,7 +11,6 @@ ghost use Rattle.block_strips.specs.Strips.{most_cols, strip_error, strip_of, st
 
 use crate::Side;
 use cells::{At, Volume};
-use lane_kernels::ssd;
 use limits::GREATEST_AXIS;
 use map_canvas::{Canvas, Placement};
 use std::alloc::{AllocError, Global};
@@ -39,6 +39,29 @@ fn cell_of(sample: &Volume, at: At) -> &[u8]
     sample.cell(at).unwrap()
 }
 
+// The square of the difference of two bytes.
+#[inline(always)]
+fn square(a: u8, b: u8) -> u32
+    ensures is { result ≡ squared_difference (a, b) }
+    ensures small { result ≤ 255 * 255 }
+{
+    let apart = u32::from(a.abs_diff(b));
+    apart * apart
+}
+
+// The sum of the squared differences of the three samples of two cells, without a loop.
+#[inline(always)]
+fn squares(a: &[u8], b: &[u8]) -> u32
+    requires lengths { (length a.now ≡ 3) × (length b.now ≡ 3) }
+    ensures sum { result ≡ sum_of_squared_differences a.now b.now }
+    ensures small { result ≤ GREATEST_ERROR }
+{
+    match (a, b) {
+        ([a0, a1, a2], [b0, b1, b2]) => square(*a0, *b0) + square(*a1, *b1) + square(*a2, *b2),
+        _ => unreachable!(),
+    }
+}
+
 // The squared difference of two cells of a sample.
 fn squared_difference(sample: &Volume, old: At, new: At) -> u32
     requires samples { sample.now.k ≡ 3 }
@@ -47,11 +70,12 @@ fn squared_difference(sample: &Volume, old: At, new: At) -> u32
     ensures error { result ≡ cell_error sample.now (Some old) new }
     ensures small { result ≤ GREATEST_ERROR }
 {
-    ssd(cell_of(sample, old), cell_of(sample, new)) as u32
+    squares(cell_of(sample, old), cell_of(sample, new))
 }
 
 // The squared difference of what is at a cell of a block, by its column and row, and what comes
 // there; 0 where nothing is there.
+#[inline(always)]
 fn error_at(canvas: &Canvas, sample: &Volume, placement: &Placement, x: u32, y: u32) -> u32
     requires over { StandsOver canvas.now sample.now }
     requires samples { sample.now.k ≡ 3 }
@@ -117,7 +141,7 @@ pub fn strip_of(
     let mut errors = Vec::with_capacity(alloc, count as usize)?;
     for i in 0..count {
         let error = strip_error(canvas, sample, placement, side, i / cols, i % cols);
-        errors.push(error)?;
+        errors.push_reserved(error);
     }
     Ok(Strip::from_vec(rows, cols, errors))
 }

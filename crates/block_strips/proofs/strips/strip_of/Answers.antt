@@ -15,12 +15,17 @@ loop-i-preserved c =
     let Small : ℕ → Type 0 = λ error. error ≤ GREATEST_ERROR in
     let error = c.strip_error-error.result in
     record {
-      errors = c.in_ok-push.ensures.items
+      errors = c.push_reserved.ensures.items
           ∙ (λ k. c.loop-i.invariant.errors k ++ c.strip_error-error.ensures.error k ∷ [])
           ∙ sym (map-range_with_len_more f 0 i i (omega arith));
-      small = subst (All Small) (sym c.in_ok-push.ensures.items)
+      len = omega (arith, c.push_reserved.ensures.len, c.loop-i.invariant.len);
+      room = omega (arith, c.push_reserved.ensures.capacity, c.loop-i.invariant.room);
+      small = subst (All Small) (sym c.push_reserved.ensures.items)
           (All-append Small c.loop-i.errors.items (error ∷ []) c.loop-i.invariant.small (All-cons Small error [] c.strip_error-error.ensures.small (All-nil Small)));
     }
+
+pub push_reserved-requires : goal.push_reserved-requires
+push_reserved-requires c = omega (arith, c.loop-i.invariant.len, c.loop-i.invariant.room, c.loop-i-test.true)
 
 pub from_vec-requires : goal.from_vec-requires
 from_vec-requires c =

@@ -1,6 +1,5 @@
 // A walk over the cells of a box that counts pairs.
 ghost use Rattle.std.specs.Prelude.{◌≡◌, ◌+◌, ℕ};
-ghost use Rattle.cells.specs.Boxes.{HasCells};
 ghost use Rattle.cells.specs.Places.{IsSmall};
 ghost use Rattle.boxes.specs.Pairs.{pair_number};
 ghost use Rattle.boxes.specs.Walks.{IsWalkAt, IsWalkIn};
@@ -19,16 +18,6 @@ pub struct Walk {
 }
 
 impl Walk {
-    /// At the first cell.
-    pub fn first() -> Walk
-        ensures { (size : Size) → HasCells size → IsWalkAt size 0 result }
-    {
-        Walk {
-            at: Counts::first(),
-            before: 0,
-        }
-    }
-
     /// At the next cell in raster order; after the last one, past the box.
     #[tactic(auto, using(crate::proofs::PairNumbers::pairs_small))]
     pub fn next(self, size: Size) -> Walk

@@ -100,7 +100,7 @@ impl Trees {
         }
     }
 
-    // Notes that a node is an end's distance from it.
+    // Notes the distance of an end of the network.
     fn note_end(&mut self, node: u32) {
         if let Some(entry) = self.nodes.get_mut(node as usize) {
             entry.distance = 1;
@@ -131,13 +131,13 @@ impl Trees {
         Some(node)
     }
 
-    // What the number of an arc that leaves a node has to be turned by for that of the one over which its tree grows.
+    // The bit to turn in the number of an arc that leaves a node, for the arc over which the node's tree grows.
     #[inline(always)]
     fn outward(tree: Tree) -> u32 {
         if tree == Tree::Source { 0 } else { 1 }
     }
 
-    // What the number of an arc from a node to its parent has to be turned by for that of the one over which flow goes.
+    // The bit to turn in the number of an arc from a node to its parent, for the arc over which flow goes.
     #[inline(always)]
     fn inward(tree: Tree) -> u32 {
         if tree == Tree::Source { 1 } else { 0 }

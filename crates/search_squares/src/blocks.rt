@@ -37,6 +37,31 @@ pub(crate) struct BoxBlocks {
     pub(crate) blocks: Vec<Block>,
 }
 
+// Whether each cell of one row of the box is filled, by the row's number through all frames.
+fn add_filled_row(
+    cells: &mut Vec<bool>,
+    canvas: &Canvas,
+    rect: &Box3,
+    row: u32,
+) -> Result<(), AllocError>
+    requires inside { HoldsBox canvas.now.map.size rect.now.corner rect.now.size }
+    requires some { HasCells rect.now.size }
+    requires below { row < rect.now.size.h * rect.now.size.f }
+    requires long { length cells.old.items ≡ rect.now.size.w * row }
+    requires filled { MarkFilled canvas.now.map rect.now cells.old.items }
+    ensures long { OnOk result (length cells.new.items ≡ rect.now.size.w * (row + 1)) }
+    ensures filled { OnOk result (MarkFilled canvas.now.map rect.now cells.new.items) }
+{
+    // The map is taken for its contract only: it shows the prover that its size is small.
+    let _map = canvas.map();
+    let (y, f) = (row % rect.size.h, row / rect.size.h);
+    for x in 0..rect.size.w {
+        let at = rect.corner.plus(step_to(x, y, f));
+        cells.push(canvas.is_filled(at))?;
+    }
+    Ok(())
+}
+
 /// Of each cell of the box, in raster order, whether it is filled.
 pub(crate) fn filled_cells(
     alloc: Global,
@@ -50,11 +75,9 @@ pub(crate) fn filled_cells(
 {
     // The map is taken for its contract only: it shows the prover that its size is small.
     let _map = canvas.map();
-    let count = rect.size.cells();
-    let mut cells = Vec::with_capacity(alloc, count)?;
-    for i in 0..count {
-        let at = rect.corner.plus(rect.size.place_at(i));
-        cells.push(canvas.is_filled(at))?;
+    let mut cells = Vec::with_capacity(alloc, rect.size.cells())?;
+    for row in 0..rect.size.h * rect.size.f {
+        add_filled_row(&mut cells, canvas, rect, row)?;
     }
     Ok(cells)
 }

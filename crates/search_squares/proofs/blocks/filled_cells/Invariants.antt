@@ -1,9 +1,9 @@
-use Rattle.std.proofs.Common.{◌≡◌, length}
+use Rattle.std.proofs.Common.{◌≡◌, ◌*◌, length}
 use Rattle.search_squares.specs.Gathered.{MarkFilled}
 use Rattle.search_squares.proofs.blocks.filled_cells.Given as goal
 
-abbrev pub invariant-loop-i : goal.invariant-loop-i
-invariant-loop-i l = record {
-  long : length l.cells.items ≡ l.i;
+abbrev pub invariant-loop-row : goal.invariant-loop-row
+invariant-loop-row l = record {
+  long : length l.cells.items ≡ l.rect.size.w * l.row;
   filled : MarkFilled l.canvas.map l.rect l.cells.items;
 }

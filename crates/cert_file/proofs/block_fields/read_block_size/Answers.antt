@@ -1,3 +1,5 @@
+use Rattle.std.proofs.Common.{arith}
+use Rattle.std.proofs.lemmas.Grind.{common_steps}
 use Rattle.std.proofs.Common.{ℕ, List}
 use Rattle.std.proofs.lemmas.Result.{err_from_is_err_and}
 use Rattle.std.specs.Prelude.{Result, Err}
@@ -52,3 +54,6 @@ returns-clause-answer g c =
     (then_reads ⊥ name c.read_box_axis.new.file.at (number_read w16 box_axis_rule) (after_1 c.args.before v0) (state c.read_box_axis.new.shelf) (state c.read_box_axis-2.new.shelf) (state c.read_box_axis-2.new.shelf) c.read_box_axis-2.new.file c.read_box_axis-2.new.file v1 c.lawful_box.result
     ok1.reads (only_reads_same (state c.read_box_axis-2.new.shelf)) ok1.answer
     (by_rule ⊥ name (state c.read_box_axis-2.new.shelf) (state c.read_box_axis-2.new.shelf) c.read_box_axis-2.new.file (box_cells_rule c.args.before (record { w = v0; h = v1; f = 1 })) c.lawful_box.result c.lawful_box.ensures.size c.lawful_box.ensures.refusal ok1.answer.follows)))
+
+pub returns-clause-reads : goal.returns-clause-reads
+returns-clause-reads g c = grind (arith, common_steps)

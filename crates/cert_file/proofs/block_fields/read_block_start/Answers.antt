@@ -1,3 +1,5 @@
+use Rattle.std.proofs.Common.{arith}
+use Rattle.std.proofs.lemmas.Grind.{common_steps}
 use Rattle.std.proofs.Common.{ℕ, List}
 use Rattle.std.proofs.lemmas.Result.{err_from_is_err_and}
 use Rattle.std.specs.Prelude.{Result, Ok, Err}
@@ -106,3 +108,12 @@ returns-clause-answer g c =
     (then_reads ⊥ name c.read_spot-2.new.file.at (number_read w8 flags_rule) (after_3 c.args.before v0 v1 v2) (state c.read_spot-2.new.shelf) (state c.read_flags.new.shelf) (state c.read_flags.new.shelf) c.read_flags.new.file c.read_flags.new.file v3 (Ok value)
     ok3.reads (only_reads_same (state c.read_flags.new.shelf)) ok3.answer
     (made ⊥ name (state c.read_flags.new.shelf) (state c.read_flags.new.shelf) c.read_flags.new.file value ok3.answer.follows)))))
+
+pub returns-clause-within : goal.returns-clause-within
+returns-clause-within g c = grind (arith, common_steps)
+
+pub returns-clause-reads : goal.returns-clause-reads
+returns-clause-reads g c = grind (arith, common_steps)
+
+pub returns-clause-place : goal.returns-clause-place
+returns-clause-place g c = grind (arith, common_steps)

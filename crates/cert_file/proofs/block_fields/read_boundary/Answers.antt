@@ -1,3 +1,5 @@
+use Rattle.std.proofs.Common.{arith}
+use Rattle.std.proofs.lemmas.Grind.{common_steps}
 use Rattle.std.proofs.Common.{ℕ, List, ◌*◌}
 use Rattle.std.proofs.lemmas.Result.{err_from_is_err_and}
 use Rattle.std.specs.Prelude.{Result, Ok, Err}
@@ -77,3 +79,12 @@ returns-clause-answer g c =
     (then_reads (Unit {0}) name c.read_list_16.new.file.at (list_read (number_read w32 any_rule) (c.args.rows * v0)) (after_2 c.args.rows c.args.most v0 v1) (state c.read_list_16.new.shelf) (state c.read_list_32.new.shelf) (state c.read_list_32.new.shelf) c.read_list_32.new.file c.read_list_32.new.file v2 (Ok value)
     ok2.reads (only_reads_same (state c.read_list_32.new.shelf)) ok2.answer
     (made (Unit {0}) name (state c.read_list_32.new.shelf) (state c.read_list_32.new.shelf) c.read_list_32.new.file value ok2.answer.follows))))
+
+pub returns-clause-place : goal.returns-clause-place
+returns-clause-place g c = grind (arith, common_steps)
+
+pub returns-clause-reads : goal.returns-clause-reads
+returns-clause-reads g c = grind (arith, common_steps)
+
+pub read_list_32-requires-clause-room : goal.read_list_32-requires-clause-room
+read_list_32-requires-clause-room g c = grind (arith, common_steps)

@@ -1,3 +1,5 @@
+use Rattle.std.proofs.Common.{arith}
+use Rattle.std.proofs.lemmas.Grind.{common_steps}
 use Rattle.std.proofs.Common.{ℕ, List}
 use Rattle.std.proofs.lemmas.Result.{err_from_is_err_and}
 use Rattle.std.specs.Prelude.{Result, Ok, Err, Option}
@@ -76,3 +78,24 @@ returns-clause-answer g c =
     (then_reads (Unit {0}) name c.read_side.new.file.at (top_read v0) (after_2 c.args.before v0 v1) (state c.read_side.new.shelf) (state c.read_side-2.new.shelf) (state c.read_side-2.new.shelf) c.read_side-2.new.file c.read_side-2.new.file v2 (Ok value)
     ok2.reads (only_reads_same (state c.read_side-2.new.shelf)) ok2.answer
     (made (Unit {0}) name (state c.read_side-2.new.shelf) (state c.read_side-2.new.shelf) c.read_side-2.new.file value ok2.answer.follows))))
+
+pub returns-clause-place : goal.returns-clause-place
+returns-clause-place g c = grind (arith, common_steps)
+
+pub returns-in_err-top-clause-reads : goal.returns-in_err-top-clause-reads
+returns-in_err-top-clause-reads g c = grind (arith, common_steps)
+
+pub read_side-requires-2-clause-few : goal.read_side-requires-2-clause-few
+read_side-requires-2-clause-few g c = grind (arith, common_steps)
+
+pub returns-clause-form : goal.returns-clause-form
+returns-clause-form g c = grind (arith, common_steps)
+
+pub returns-clause-reads : goal.returns-clause-reads
+returns-clause-reads g c = grind (arith, common_steps)
+
+pub read_side-requires-clause-few : goal.read_side-requires-clause-few
+read_side-requires-clause-few g c = grind (arith, common_steps)
+
+pub read_side-requires-2-clause-room : goal.read_side-requires-2-clause-room
+read_side-requires-2-clause-room g c = grind (arith, common_steps)

@@ -1,3 +1,5 @@
+use Rattle.std.proofs.Common.{arith}
+use Rattle.std.proofs.lemmas.Grind.{common_steps}
 use Rattle.std.proofs.Common.{ℕ, List}
 use Rattle.std.proofs.lemmas.Result.{err_from_is_err_and}
 use Rattle.std.specs.Int.{w32}
@@ -75,3 +77,6 @@ returns-clause-answer g c =
     (then_to_end (Unit {0}) name c.read_count.new.file.at (blocks_read count) (end c.args.head) (state c.read_count.new.shelf) (state c.read_blocks.new.shelf) (state c.end.new.shelf) c.read_blocks.new.file blocks (Ok (Blocks c.args.head blocks))
     ok1.reads ok2.reads ok1.answer
     (ends (Unit {0}) name c.read_blocks.new.file.at (state c.read_blocks.new.shelf) (state c.end.new.shelf) (Blocks c.args.head blocks) ok2.stops))
+
+pub returns-clause-form : goal.returns-clause-form
+returns-clause-form g c = grind (arith, common_steps)

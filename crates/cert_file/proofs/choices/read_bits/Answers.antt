@@ -1,3 +1,4 @@
+use Rattle.std.proofs.lemmas.Grind.{common_steps}
 use Rattle.std.proofs.Common.{◌++◌, ◌∷◌, [], ◌∙◌, sym, ap, arith}
 use Rattle.std.proofs.lemmas.List.{append-nil, length-append}
 use Rattle.std.proofs.lemmas.List.Concat.{flat_map-append}
@@ -32,3 +33,9 @@ pub returns-in_err-push_bits-clause-reads : goal.returns-in_err-push_bits-clause
 returns-in_err-push_bits-clause-reads g c =
     let state = g.S.Shelf.state in
     only_reads_then (state c.args.shelf.now) (state c.loop-j.shelf) (state c.u8.new.shelf) c.loop-j.invariant.reads (c.in_ok-byte.ensures {u = tt}).reads
+
+pub returns-in_err-byte-clause-stops : goal.returns-in_err-byte-clause-stops
+returns-in_err-byte-clause-stops g c = grind (arith, common_steps)
+
+pub returns-clause-took : goal.returns-clause-took
+returns-clause-took g c = grind (arith, common_steps)

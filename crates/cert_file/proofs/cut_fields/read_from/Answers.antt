@@ -1,3 +1,5 @@
+use Rattle.std.proofs.Common.{arith}
+use Rattle.std.proofs.lemmas.Grind.{common_steps}
 use Rattle.std.proofs.Common.{◌≡◌, ◌≤◌, ◌∙◌, ap, sym, subst}
 use Rattle.cells.specs.SizeLists.{size_of_part, stock_place}
 use Rattle.source_map.specs.MapFiles.{IsInSamples}
@@ -14,3 +16,9 @@ returns-clause-inside g c =
     let some : 1 ≤ part = read.within.0 in
     subst (IsInSamples samples) (ap (λ n. stock_place samples n c.in_ok-p.p) (sym second) ∙ sym c.stock.ensures)
     (stock_in samples part c.at-size.result c.in_ok-p.p some (c.at-size.ensures.size ∙ ap (size_of_part samples) first) (c.in_ok-p.ensures {u = tt}).inside)
+
+pub returns-clause-reads : goal.returns-clause-reads
+returns-clause-reads g c = grind (arith, common_steps)
+
+pub returns-clause-answer : goal.returns-clause-answer
+returns-clause-answer g c = grind (arith, common_steps)

@@ -1,3 +1,5 @@
+use Rattle.std.proofs.Common.{arith}
+use Rattle.std.proofs.lemmas.Grind.{common_steps}
 use Rattle.std.proofs.Common.{ℕ, List, subst}
 use Rattle.std.proofs.lemmas.Result.{err_from_is_err_and}
 use Rattle.std.specs.Prelude.{Result, Ok, Err}
@@ -149,3 +151,15 @@ pub returns-clause-reads : goal.returns-clause-reads
 returns-clause-reads g c =
     let state = g.S.Shelf.state in
     only_reads_then (state c.args.shelf.now) (state c.read_corner.new.shelf) (state c.read_flows.new.shelf) (c.in_ok-corner.ensures {u = tt}).reads (only_reads_then (state c.read_corner.new.shelf) (state c.read_box_size.new.shelf) (state c.read_flows.new.shelf) (c.in_ok-size.ensures {u = tt}).reads (only_reads_then (state c.read_box_size.new.shelf) (state c.read_from.new.shelf) (state c.read_flows.new.shelf) (c.in_ok-from.ensures {u = tt}).reads (only_reads_then (state c.read_from.new.shelf) (state c.read_choice.new.shelf) (state c.read_flows.new.shelf) (c.in_ok-choice.ensures {u = tt}).reads (c.in_ok-flows.ensures {u = tt}).reads)))
+
+pub returns-clause-form : goal.returns-clause-form
+returns-clause-form g c = grind (arith, common_steps)
+
+pub returns-clause-place : goal.returns-clause-place
+returns-clause-place g c = grind (arith, common_steps)
+
+pub returns-clause-cells : goal.returns-clause-cells
+returns-clause-cells g c = grind (arith, common_steps)
+
+pub read_flows-requires-clause-room : goal.read_flows-requires-clause-room
+read_flows-requires-clause-room g c = grind (arith, common_steps)

@@ -1,3 +1,4 @@
+use Rattle.std.proofs.lemmas.Grind.{common_steps}
 use Rattle.std.proofs.Common.{◌-◌, ◌++◌, ◌∷◌, [], ◌+◌, ◌∙◌, length, ap, sym, subst, arith}
 use Rattle.std.specs.Prelude.{All, Err, vec_capacity, vec_len}
 use Rattle.std.proofs.lemmas.List.Elements.{All-push}
@@ -55,3 +56,9 @@ pub returns-in_err-cut-clause-reads : goal.returns-in_err-cut-clause-reads
 returns-in_err-cut-clause-reads g c =
     let state = g.S.Shelf.state in
     only_reads_then (state c.args.shelf.now) (state c.loop-i.shelf) (state c.read_cut.new.shelf) c.loop-i.invariant.reads c.in_err-cut.ensures.reads
+
+pub returns-clause-form : goal.returns-clause-form
+returns-clause-form g c = subst (All (IsCutInForm c.args.samples.now)) (sym c.from_vec.ensures) c.loop-i.invariant.each
+
+pub loop-i-init : goal.loop-i-init
+loop-i-init g c = grind (arith, common_steps)

@@ -1,3 +1,4 @@
+use Rattle.std.proofs.lemmas.Grind.{common_steps}
 use Rattle.std.proofs.Common.{◌+◌, ◌-◌, [], ◌∷◌, ◌++◌, length, subst, sym, ap, ◌∙◌, arith}
 use Rattle.std.specs.Prelude.{Err, vec_capacity, vec_len}
 use Rattle.std.proofs.lemmas.Result.{err_from_is_err_and}
@@ -48,3 +49,6 @@ pub returns-in_err-flow-clause-reads : goal.returns-in_err-flow-clause-reads
 returns-in_err-flow-clause-reads g c =
     let state = g.S.Shelf.state in
     only_reads_then (state c.args.shelf.now) (state c.loop-i.shelf) (state c.read_flow.new.shelf) c.loop-i.invariant.reads c.in_err-flow.ensures.reads
+
+pub returns-clause-answer : goal.returns-clause-answer
+returns-clause-answer g c = grind (arith, common_steps)

@@ -1,3 +1,4 @@
+use Rattle.std.proofs.lemmas.Grind.{common_steps}
 use Rattle.std.proofs.Common.{take, get_or, subst, sym, arith}
 use Rattle.std.proofs.lemmas.List.{take_all, take_more}
 use Rattle.std.proofs.lemmas.List.Elements.{All-push}
@@ -38,3 +39,6 @@ returns-clause-put g c =
 
 pub returns-clause-short : goal.returns-clause-short
 returns-clause-short g c = subst (All HasShortFlows) (take_all c.loop-cut.cut-index c.args.cuts.now c.loop-cut-test.false) c.loop-cut.invariant.short
+
+pub put_cut-requires-clause-cut : goal.put_cut-requires-clause-cut
+put_cut-requires-clause-cut g c = grind (arith, common_steps)

@@ -1,3 +1,5 @@
+use Rattle.std.proofs.Common.{arith}
+use Rattle.std.proofs.lemmas.Grind.{common_steps}
 use Rattle.std.proofs.Common.{ℕ, List}
 use Rattle.std.proofs.lemmas.Result.{err_from_is_err_and}
 use Rattle.std.specs.Int.{w32}
@@ -75,3 +77,6 @@ returns-clause-answer g c =
     (then_to_end (Unit {0}) name c.read_count.new.file.at (cuts_read c.args.head.version c.args.head.samples count) (end c.args.head) (state c.read_count.new.shelf) (state c.read_cuts.new.shelf) (state c.end.new.shelf) c.read_cuts.new.file cuts (Ok (Cuts c.args.head cuts))
     ok1.reads ok2.reads ok1.answer
     (ends (Unit {0}) name c.read_cuts.new.file.at (state c.read_cuts.new.shelf) (state c.end.new.shelf) (Cuts c.args.head cuts) ok2.stops))
+
+pub returns-clause-form : goal.returns-clause-form
+returns-clause-form g c = grind (arith, common_steps)

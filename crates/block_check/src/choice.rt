@@ -1,5 +1,5 @@
 // The new cells of a block.
-ghost use Rattle.std.specs.Prelude.{◌≡◌, ◌<◌, ◌+◌, IfOk, OnErr, OnOk};
+ghost use Rattle.std.specs.Prelude.{◌≡◌, ◌<◌, ◌≤◌, ◌+◌, IfOk, OnErr, OnOk, vec_capacity, vec_len};
 ghost use Rattle.cells.specs.Places.{IsSmall};
 ghost use Rattle.map_canvas.specs.Canvases.{IsCanvas, StandsOver};
 ghost use Rattle.block_strips.specs.declared.side.Side.TheVariants.{Left, Top};
@@ -40,26 +40,23 @@ fn is_new(block: &BlockRecord, left: u32, top: u32, x: u32, y: u32) -> bool
     lets_new(left, &block.left, y, x) && lets_new(top, &block.top, x, y)
 }
 
-// Puts of each cell of a row of a block whether it is new, where its strips have so many columns.
-fn put_row(
-    choice: &mut Vec<bool>,
-    block: &BlockRecord,
-    left: u32,
-    top: u32,
-    y: u32,
-) -> Result<(), AllocError>
+// Puts of each cell of a row of a block whether it is new, where its strips have so many columns. There is room
+// for all of them.
+fn put_row(choice: &mut Vec<bool>, block: &BlockRecord, left: u32, top: u32, y: u32)
     requires left { left ≡ strip_cols Left block.now }
     requires top { top ≡ strip_cols Top block.now }
     requires left_rows { HasRowsOn Left block.now.placement block.now.left }
     requires top_rows { HasRowsOn Top block.now.placement block.now.top }
     requires row { y < block.now.placement.rect.size.h }
     requires before { choice.old.items ≡ first_rows block.now y }
-    ensures { OnOk result (choice.new.items ≡ first_rows block.now (y + 1)) }
+    requires room { vec_len choice.old + block.now.placement.rect.size.w ≤ vec_capacity choice.old }
+    ensures rows { choice.new.items ≡ first_rows block.now (y + 1) }
+    ensures len { vec_len choice.new ≡ vec_len choice.old + block.now.placement.rect.size.w }
+    ensures capacity { vec_capacity choice.new ≡ vec_capacity choice.old }
 {
     for x in 0..block.placement.rect.size.w {
-        choice.push(is_new(block, left, top, x, y))?;
+        choice.push_reserved(is_new(block, left, top, x, y));
     }
-    Ok(())
 }
 
 // Of each cell of a block, in raster order, whether it is new.
@@ -75,7 +72,7 @@ fn new_cells(alloc: Global, block: &BlockRecord) -> Result<Vec<bool>, AllocError
     let top = cols_on(Side::Top, placement, &block.top);
     let mut choice = Vec::with_capacity(alloc, placement.rect.size.cells())?;
     for y in 0..placement.rect.size.h {
-        put_row(&mut choice, block, left, top, y)?;
+        put_row(&mut choice, block, left, top, y);
     }
     Ok(choice)
 }

@@ -96,7 +96,8 @@ pub record AreGathered (canvas : CanvasState) (rect : Box3) (side : ℕ) (size :
   pub disjoint : (g : At → ℕ) → sum_by (place_sum side g) blocks
       + free_sum free (λ i. g (place_of rect.size i)) ≤ box_sum rect.size g
 
--- blocks of one cell each, of some of the first n cells of the box that are marked: the cells after those are still free
+-- blocks of one cell each, of some of the first n cells of the box that are marked: the cells after
+-- those are still free
 pub record AreSingles (canvas : CanvasState) (rect : Box3) (size : Size) (filled : List Bool) (n : ℕ)
     (blocks : List Block) : Type 0 where
   pub free : List Bool

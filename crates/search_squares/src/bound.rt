@@ -119,7 +119,7 @@ impl BoxBlocks {
                 totals = with_block(totals, block.sum, run, scale.factor);
             }
             done = end;
-            if left_in(marks(totals, scale.most), n) == 0 {
+            if done < blocks.len() && left_in(marks(totals, scale.most), n) == 0 {
                 return totals;
             }
         }

@@ -173,6 +173,9 @@ fn all_marks(
     requires few { n ≤ LANES }
     ensures { AreAboveBoth one.now other.now from n limit result }
 {
+    if n <= FEW_PLACES[0] {
+        return 0;
+    }
     let mut marks = level_marks(0, one, other, sums, part, from, n, limit);
     'levels: for level in 1..LEVELS {
         let left = left_in(marks, n);

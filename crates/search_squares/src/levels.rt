@@ -40,8 +40,8 @@ const SINGLE_SIDE: u32 = 1;
 const MOST_BYTES_OF_ALL: usize = 1 << 22;
 
 // The most places of a run for which each level isn't tried: that takes about as long as to sum up so
-// many errors.
-pub(crate) const FEW_PLACES: [u32; LEVELS] = [0, 3, 3, 16];
+// many errors. The last run of a row often has a single place.
+pub(crate) const FEW_PLACES: [u32; LEVELS] = [1, 3, 3, 16];
 
 // The cells of a block of the coarse level on each side: not so many that the bytes of a block can
 // add up to 2^16.
@@ -347,6 +347,9 @@ impl BoxLevels {
         requires few { n ≤ LANES }
         ensures { AreAbove canvas.now sample.now rect.now from n limit result }
     {
+        if n <= FEW_PLACES[0] {
+            return 0;
+        }
         let mut marks = self.level_marks(0, sums, canvas, sample, rect, part, from, n, limit);
         'levels: for level in 1..LEVELS {
             let left = left_in(marks, n);

@@ -82,7 +82,54 @@ impl Block {
 
 impl BoxBlocks {
     // For each of the places a total that is at most how far the blocks are from those of the sample, in
-    // units of 2^16 and by the factor squared. It stops where all of them are above the most.
+    // units of 2^16 and by the factor squared. It stops where all of them are above the most. It is inlined
+    // for the blocks' own entries and for others, so that the inner loop doesn't ask which they are.
+    #[inline(always)]
+    fn totals_by(
+        &self,
+        sums: &BlockSums,
+        canvas: &Canvas,
+        sample: &Volume,
+        rect: &Box3,
+        from: At,
+        n: u32,
+        scale: Scale,
+        own: bool,
+    ) -> u16x32
+        requires blocks { AreBoxBlocks canvas.now rect.now self.now }
+        requires sums { AreBlockSums sample.now sums.now }
+        requires side { self.now.side ≡ sums.now.side }
+        requires some { 1 ≤ n }
+        requires few { n ≤ LANES }
+        requires own { IsTrue own → self.now.size ≡ sums.now.rect.size }
+        requires laid { MayBeLaid canvas.now sample.now rect.now from n }
+        requires inside { (j : ℕ) → j < n
+            → IsBoxIn sums.now.rect (place_along from j) rect.now.size }
+        ensures { (j : ℕ) → j < n → 2 ^ 16 * slice_index result j ≤ scale.factor * scale.factor
+            * blocks_difference self.now sample.now (place_along from j) }
+    {
+        let first = sums.index_of(from);
+        let size = sums.rect.size;
+        let blocks = self.blocks.as_slice();
+        let stretch = (blocks.len() / STRETCHES).max(LEAST_STRETCH);
+        let mut totals = no_sums();
+        let mut done = 0;
+        'stretches: while done < blocks.len() {
+            let end = done.saturating_add(stretch).min(blocks.len());
+            for i in done..end {
+                let block = &blocks[i];
+                let run = sums.run(first + block.entry_in(size, own));
+                totals = with_block(totals, block.sum, run, scale.factor);
+            }
+            done = end;
+            if done < blocks.len() && left_in(marks(totals, scale.most), n) == 0 {
+                return totals;
+            }
+        }
+        totals
+    }
+
+    // The same, by the blocks' own entries where those are counted by the size of the sums' box.
     pub(crate) fn totals(
         &self,
         sums: &BlockSums,
@@ -104,26 +151,10 @@ impl BoxBlocks {
         ensures { (j : ℕ) → j < n → 2 ^ 16 * slice_index result j ≤ scale.factor * scale.factor
             * blocks_difference self.now sample.now (place_along from j) }
     {
-        let first = sums.index_of(from);
-        let size = sums.rect.size;
-        let own = self.size == size;
-        let blocks = self.blocks.as_slice();
-        let stretch = (blocks.len() / STRETCHES).max(LEAST_STRETCH);
-        let mut totals = no_sums();
-        let mut done = 0;
-        'stretches: while done < blocks.len() {
-            let end = done.saturating_add(stretch).min(blocks.len());
-            for i in done..end {
-                let block = &blocks[i];
-                let run = sums.run(first + block.entry_in(size, own));
-                totals = with_block(totals, block.sum, run, scale.factor);
-            }
-            done = end;
-            if done < blocks.len() && left_in(marks(totals, scale.most), n) == 0 {
-                return totals;
-            }
+        if self.size == sums.rect.size {
+            return self.totals_by(sums, canvas, sample, rect, from, n, scale, true);
         }
-        totals
+        self.totals_by(sums, canvas, sample, rect, from, n, scale, false)
     }
 
     /// Of n places along X from one on, marks those that the box can't be laid from with an error up to the

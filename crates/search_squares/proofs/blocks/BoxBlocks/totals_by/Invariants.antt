@@ -1,7 +1,7 @@
 use Rattle.std.proofs.Common.{◌≤◌, ◌<◌, ◌-◌, ◌*◌, ℕ, get_or, length, take}
 use Rattle.std.specs.List.{sum_by}
 use Rattle.search_squares.proofs.RunEntries.{difference_at}
-use Rattle.search_squares.proofs.blocks.BoxBlocks.totals.Given as goal
+use Rattle.search_squares.proofs.blocks.BoxBlocks.totals_by.Given as goal
 
 abbrev pub invariant-loop-i : goal.invariant-loop-i
 invariant-loop-i l = record {

@@ -1,5 +1,5 @@
 // The words of `transfer`, `merge` and `tile`, by the calls that read them.
-use crate::expect::expect_no_row;
+use crate::expect::{expect_no_pair, expect_no_row};
 use crate::jobs::{are_names, is_name, words_of};
 use cells::{Axis, Size};
 use job_words::{
@@ -31,107 +31,129 @@ fn fault_of(alloc: Global, line: &str) -> Option<WordFault> {
     }
 }
 
-// Words, the command first, and why they are refused.
-const REFUSED: &[(&str, WordFault)] = &[
-    ("transfer", WordFault::Missing(Key::Sample)),
-    ("transfer sample=a", WordFault::Missing(Key::Target)),
-    ("transfer target=b sample=a", WordFault::Missing(Key::Out)),
+// Why words are refused, and lines of such words, the command first, one below another.
+const REFUSED: &[(WordFault, &str)] = &[
     (
-        "transfer out=c target=b sample=a",
-        WordFault::Missing(Key::Map),
+        WordFault::Missing(Key::Sample),
+        "transfer\n\
+        merge\n\
+        tile",
     ),
+    (WordFault::Missing(Key::Target), "transfer sample=a"),
     (
-        "transfer map=d out=c target=b sample=a",
-        WordFault::Missing(Key::Record),
-    ),
-    ("transfer target=a sample=a", WordFault::SameName(3)),
-    ("transfer target=a out=a", WordFault::SameName(3)),
-    ("transfer target=a map=a", WordFault::SameName(3)),
-    ("transfer record=a target=a", WordFault::SameName(3)),
-    ("transfer alpha=101", WordFault::OutOfRange(2)),
-    ("transfer alpha=0101", WordFault::OutOfRange(2)),
-    ("transfer alpha=-1", WordFault::BadValue(2)),
-    ("transfer alpha=half", WordFault::BadValue(2)),
-    ("transfer alpha=", WordFault::BadWord(2)),
-    ("transfer alpha=050 alpha=50", WordFault::Repeated(3)),
-    ("transfer block=0", WordFault::OutOfRange(2)),
-    ("transfer overlap=4096", WordFault::OutOfRange(2)),
-    ("transfer width=7", WordFault::UnknownKey(2)),
-    ("transfer sample2=b", WordFault::UnknownKey(2)),
-    ("merge", WordFault::Missing(Key::Sample)),
-    ("merge sample=a", WordFault::Missing(Key::More(2))),
-    ("merge sample3=c sample=a", WordFault::Missing(Key::More(2))),
-    (
-        "merge sample4=d sample2=b sample=a",
-        WordFault::Missing(Key::More(3)),
-    ),
-    ("merge sample=a sample2=b", WordFault::Missing(Key::Marks)),
-    (
-        "merge sample=a sample2=b marks=m",
         WordFault::Missing(Key::Out),
+        "transfer target=b sample=a\n\
+        merge sample=a sample2=b marks=m\n\
+        tile sample=a",
     ),
     (
-        "merge sample=a sample2=b marks=m out=o",
         WordFault::Missing(Key::Map),
+        "transfer out=c target=b sample=a\n\
+        merge sample=a sample2=b marks=m out=o\n\
+        tile sample=a out=o",
     ),
-    ("merge sample2=a marks=a", WordFault::SameName(3)),
-    ("merge marks=a out=a", WordFault::SameName(3)),
-    ("merge record=r", WordFault::UnknownKey(2)),
-    ("merge sample17=q", WordFault::UnknownKey(2)),
-    ("tile", WordFault::Missing(Key::Sample)),
-    ("tile sample=a", WordFault::Missing(Key::Out)),
-    ("tile sample=a out=o", WordFault::Missing(Key::Map)),
-    ("tile sample=a out=o map=m", WordFault::Missing(Key::Width)),
     (
-        "tile sample=a out=o map=m width=2 wrap=x",
+        WordFault::Missing(Key::Record),
+        "transfer map=d out=c target=b sample=a",
+    ),
+    (
+        WordFault::SameName(3),
+        "transfer target=a sample=a\n\
+        transfer target=a out=a\n\
+        transfer target=a map=a\n\
+        transfer record=a target=a\n\
+        merge sample2=a marks=a\n\
+        merge marks=a out=a\n\
+        tile out=a map=a",
+    ),
+    (
+        WordFault::OutOfRange(2),
+        "transfer alpha=101\n\
+        transfer alpha=0101\n\
+        transfer block=0\n\
+        transfer overlap=4096\n\
+        tile box=4097",
+    ),
+    (
+        WordFault::BadValue(2),
+        "transfer alpha=-1\n\
+        transfer alpha=half\n\
+        tile wrap=yx\n\
+        tile wrap=none\n\
+        tile wrap=X",
+    ),
+    (
+        WordFault::BadWord(2),
+        "transfer alpha=\n\
+        tile wrap=",
+    ),
+    (
+        WordFault::Repeated(3),
+        "transfer alpha=050 alpha=50\n\
+        tile wrap=x wrap=y",
+    ),
+    (
+        WordFault::UnknownKey(2),
+        "transfer width=7\n\
+        transfer sample2=b\n\
+        merge record=r\n\
+        merge sample17=q\n\
+        tile record=r\n\
+        tile rounds=1\n\
+        tile place=sub\n\
+        tile turns=all",
+    ),
+    (
+        WordFault::Missing(Key::More(2)),
+        "merge sample=a\n\
+        merge sample3=c sample=a",
+    ),
+    (
+        WordFault::Missing(Key::More(3)),
+        "merge sample4=d sample2=b sample=a",
+    ),
+    (WordFault::Missing(Key::Marks), "merge sample=a sample2=b"),
+    (WordFault::Missing(Key::Width), "tile sample=a out=o map=m"),
+    (
         WordFault::Missing(Key::Height),
+        "tile sample=a out=o map=m width=2 wrap=x",
     ),
-    ("tile out=a map=a", WordFault::SameName(3)),
-    ("tile wrap=yx", WordFault::BadValue(2)),
-    ("tile wrap=none", WordFault::BadValue(2)),
-    ("tile wrap=X", WordFault::BadValue(2)),
-    ("tile wrap=", WordFault::BadWord(2)),
-    ("tile wrap=x wrap=y", WordFault::Repeated(3)),
-    ("tile box=4097", WordFault::OutOfRange(2)),
-    ("tile record=r", WordFault::UnknownKey(2)),
-    ("tile rounds=1", WordFault::UnknownKey(2)),
-    ("tile place=sub", WordFault::UnknownKey(2)),
-    ("tile turns=all", WordFault::UnknownKey(2)),
     (
-        "tile sample=a out=o map=m width=2 height=3",
         WordFault::Narrow(Axis::X),
+        "tile sample=a out=o map=m width=2 height=3\n\
+        tile sample=a out=o map=m width=1 height=1 wrap=xyf",
     ),
     (
-        "tile sample=a out=o map=m width=3 height=2",
         WordFault::Narrow(Axis::Y),
+        "tile sample=a out=o map=m width=3 height=2\n\
+        tile sample=a out=o map=m width=2 height=1 wrap=y",
     ),
     (
-        "tile sample=a out=o map=m width=2 height=1 wrap=y",
-        WordFault::Narrow(Axis::Y),
-    ),
-    (
-        "tile sample=a out=o map=m width=9 height=9 wrap=f",
         WordFault::Narrow(Axis::F),
+        "tile sample=a out=o map=m width=9 height=9 wrap=f\n\
+        tile frames=2 sample=a out=o map=m width=3 height=3 wrap=xyf",
     ),
     (
-        "tile sample=a out=o map=m width=1 height=1 wrap=xyf",
-        WordFault::Narrow(Axis::X),
-    ),
-    (
-        "tile frames=2 sample=a out=o map=m width=3 height=3 wrap=xyf",
-        WordFault::Narrow(Axis::F),
-    ),
-    (
-        "tile width=2 height=2 wrap=xy seed=-1",
         WordFault::BadValue(5),
+        "tile width=2 height=2 wrap=xy seed=-1",
     ),
 ];
 
-// The number of the first words, from 0, that aren't refused so.
-fn wrong_words(alloc: Global, table: &[(&str, WordFault)]) -> Option<usize> {
-    for (i, (line, fault)) in table.iter().enumerate() {
-        if fault_of(alloc, line) != Some(*fault) {
+// The number of the first of some lines, from 0, that isn't refused so.
+fn wrong_line(alloc: Global, lines: &str, fault: WordFault) -> Option<usize> {
+    for (i, line) in lines.split('\n').enumerate() {
+        if fault_of(alloc, line) != Some(fault) {
             return Some(i);
+        }
+    }
+    None
+}
+
+// The numbers of the first row and of its first line, from 0, that isn't refused so.
+fn wrong_words(alloc: Global, table: &[(WordFault, &str)]) -> Option<(usize, usize)> {
+    for (i, (fault, lines)) in table.iter().enumerate() {
+        if let Some(j) = wrong_line(alloc, lines, *fault) {
+            return Some((i, j));
         }
     }
     None
@@ -139,7 +161,7 @@ fn wrong_words(alloc: Global, table: &[(&str, WordFault)]) -> Option<usize> {
 
 #[test]
 fn refusals(rt: HostRuntime) {
-    expect_no_row(&rt, wrong_words(rt.alloc(), REFUSED));
+    expect_no_pair(&rt, wrong_words(rt.alloc(), REFUSED));
 }
 
 // The files of a transfer whose names are s, t, o, m and r.

@@ -1,4 +1,4 @@
-use crate::expect::expect_no_row;
+use crate::expect::{expect_no_pair, expect_no_row};
 use cells::Size;
 use job_words::{
     GrowJob, Job, Key, LoopJob, Name, Place, QuiltJob, Taps, TileJob, UpgradeJob, WordFault, Words,
@@ -26,86 +26,120 @@ fn read(alloc: Global, line: &str) -> Result<Job, WordFault> {
     read_job(alloc, &words)
 }
 
-// Words, and why they are refused.
-const REFUSED: &[(&str, WordFault)] = &[
-    ("transfer", WordFault::Missing(Key::Sample)),
-    ("transfer turns=all", WordFault::UnknownKey(2)),
-    ("merge", WordFault::Missing(Key::Sample)),
-    ("merge sample=a", WordFault::Missing(Key::More(2))),
-    ("merge record=r", WordFault::UnknownKey(2)),
-    ("tile", WordFault::Missing(Key::Sample)),
-    ("grow", WordFault::Missing(Key::Sample)),
-    ("grow sample", WordFault::BadWord(2)),
-    ("grow sample=", WordFault::BadWord(2)),
-    ("grow =x", WordFault::BadWord(2)),
-    ("grow block=4", WordFault::UnknownKey(2)),
-    ("grow turns=yes", WordFault::BadValue(2)),
-    ("grow turns=ALL", WordFault::BadValue(2)),
-    ("grow turns=", WordFault::BadWord(2)),
-    ("grow turns=all turns=none", WordFault::Repeated(3)),
-    ("check turns=1", WordFault::BadValue(2)),
-    ("quilt turns=all", WordFault::UnknownKey(2)),
-    ("loop turns=none", WordFault::UnknownKey(2)),
-    ("trial turns=all", WordFault::UnknownKey(2)),
-    ("upgrade turns=all", WordFault::UnknownKey(2)),
-    ("tile turns=all", WordFault::UnknownKey(2)),
-    ("merge turns=all", WordFault::UnknownKey(2)),
-    ("grow sample1=a", WordFault::UnknownKey(2)),
-    ("grow sample02=a", WordFault::UnknownKey(2)),
-    ("grow sample17=a", WordFault::UnknownKey(2)),
-    ("grow Sample=a", WordFault::UnknownKey(2)),
-    ("grow größe=7", WordFault::UnknownKey(2)),
-    ("grow width=7 width=8", WordFault::Repeated(3)),
-    ("grow width=7 width=x", WordFault::Repeated(3)),
-    ("grow place=best", WordFault::BadValue(2)),
-    ("grow height=+7", WordFault::BadValue(2)),
-    ("grow width=0", WordFault::OutOfRange(2)),
-    ("grow width=4097", WordFault::OutOfRange(2)),
-    ("grow frames=4097", WordFault::OutOfRange(2)),
-    ("grow box=0", WordFault::OutOfRange(2)),
-    ("grow overlap=4096", WordFault::OutOfRange(2)),
-    ("grow tol=1001", WordFault::OutOfRange(2)),
-    ("grow rounds=1001", WordFault::OutOfRange(2)),
-    ("grow seed=18446744073709551616", WordFault::OutOfRange(2)),
-    ("grow out=a map=a", WordFault::SameName(3)),
-    ("grow sample16=a sample2=a", WordFault::SameName(3)),
-    ("grow width=0 sample", WordFault::OutOfRange(2)),
-    ("grow sample width=0", WordFault::BadWord(2)),
-    ("grow sample2=b", WordFault::Missing(Key::Sample)),
-    ("grow sample=a sample3=c", WordFault::Missing(Key::More(2))),
-    ("grow sample=a sample2=b", WordFault::Missing(Key::Out)),
+// Why words are refused, and lines of such words, one below another.
+const REFUSED: &[(WordFault, &str)] = &[
     (
-        "grow record=d map=c sample=a width=1",
+        WordFault::Missing(Key::Sample),
+        "transfer\n\
+        merge\n\
+        tile\n\
+        grow\n\
+        grow sample2=b",
+    ),
+    (
+        WordFault::UnknownKey(2),
+        "transfer turns=all\n\
+        merge record=r\n\
+        grow block=4\n\
+        quilt turns=all\n\
+        loop turns=none\n\
+        trial turns=all\n\
+        upgrade turns=all\n\
+        tile turns=all\n\
+        merge turns=all\n\
+        grow sample1=a\n\
+        grow sample02=a\n\
+        grow sample17=a\n\
+        grow Sample=a\n\
+        grow größe=7\n\
+        quilt sample2=b\n\
+        quilt frames=1\n\
+        upgrade sample=a",
+    ),
+    (
+        WordFault::Missing(Key::More(2)),
+        "merge sample=a\n\
+        grow sample=a sample3=c",
+    ),
+    (
+        WordFault::BadWord(2),
+        "grow sample\n\
+        grow sample=\n\
+        grow =x\n\
+        grow turns=\n\
+        grow sample width=0",
+    ),
+    (
+        WordFault::BadValue(2),
+        "grow turns=yes\n\
+        grow turns=ALL\n\
+        check turns=1\n\
+        grow place=best\n\
+        grow height=+7\n\
+        loop taps=two",
+    ),
+    (
+        WordFault::Repeated(3),
+        "grow turns=all turns=none\n\
+        grow width=7 width=8\n\
+        grow width=7 width=x",
+    ),
+    (
+        WordFault::OutOfRange(2),
+        "grow width=0\n\
+        grow width=4097\n\
+        grow frames=4097\n\
+        grow box=0\n\
+        grow overlap=4096\n\
+        grow tol=1001\n\
+        grow rounds=1001\n\
+        grow seed=18446744073709551616\n\
+        grow width=0 sample\n\
+        quilt block=4097\n\
+        loop taps=3\n\
+        loop gap=0\n\
+        loop gap=257",
+    ),
+    (
+        WordFault::SameName(3),
+        "grow out=a map=a\n\
+        grow sample16=a sample2=a\n\
+        upgrade newmap=m map=m",
+    ),
+    (
         WordFault::Missing(Key::Out),
+        "grow sample=a sample2=b\n\
+        grow record=d map=c sample=a width=1",
     ),
     (
-        "grow record=d map=c sample=a out=b width=1",
         WordFault::Missing(Key::Height),
+        "grow record=d map=c sample=a out=b width=1",
     ),
-    ("quilt sample2=b", WordFault::UnknownKey(2)),
-    ("quilt frames=1", WordFault::UnknownKey(2)),
-    ("quilt block=4097", WordFault::OutOfRange(2)),
-    ("loop taps=3", WordFault::OutOfRange(2)),
-    ("loop taps=two", WordFault::BadValue(2)),
-    ("loop gap=0", WordFault::OutOfRange(2)),
-    ("loop gap=257", WordFault::OutOfRange(2)),
     (
-        "loop sample=a out=b map=c record=d",
         WordFault::Missing(Key::Length),
+        "loop sample=a out=b map=c record=d",
     ),
-    ("upgrade sample=a", WordFault::UnknownKey(2)),
-    ("upgrade newmap=m map=m", WordFault::SameName(3)),
     (
-        "upgrade newrecord=d map=a record=b",
         WordFault::Missing(Key::NewMap),
+        "upgrade newrecord=d map=a record=b",
     ),
 ];
 
-// The number of the first words, from 0, that aren't refused so.
-fn wrong_words(alloc: Global, table: &[(&str, WordFault)]) -> Option<usize> {
-    for (i, (line, fault)) in table.iter().enumerate() {
-        if read(alloc, line).err() != Some(*fault) {
+// The number of the first of some lines, from 0, that isn't refused so.
+fn wrong_line(alloc: Global, lines: &str, fault: WordFault) -> Option<usize> {
+    for (i, line) in lines.split('\n').enumerate() {
+        if read(alloc, line).err() != Some(fault) {
             return Some(i);
+        }
+    }
+    None
+}
+
+// The numbers of the first row and of its first line, from 0, that isn't refused so.
+fn wrong_words(alloc: Global, table: &[(WordFault, &str)]) -> Option<(usize, usize)> {
+    for (i, (fault, lines)) in table.iter().enumerate() {
+        if let Some(j) = wrong_line(alloc, lines, *fault) {
+            return Some((i, j));
         }
     }
     None
@@ -113,7 +147,7 @@ fn wrong_words(alloc: Global, table: &[(&str, WordFault)]) -> Option<usize> {
 
 #[test]
 fn refusals(rt: HostRuntime) {
-    expect_no_row(&rt, wrong_words(rt.alloc(), REFUSED));
+    expect_no_pair(&rt, wrong_words(rt.alloc(), REFUSED));
 }
 
 // Words that no line shows well: none, an empty one, and words with a space. And why they are refused.
@@ -172,11 +206,9 @@ const ZEROS: &str = "grow width=\
 
 #[test]
 fn long_numbers_out_of_range(rt: HostRuntime) {
-    let table = [
-        (NINES, WordFault::OutOfRange(2)),
-        (ZEROS, WordFault::OutOfRange(2)),
-    ];
-    expect_no_row(&rt, wrong_words(rt.alloc(), &table));
+    let fault = WordFault::OutOfRange(2);
+    expect_no_row(&rt, wrong_line(rt.alloc(), NINES, fault));
+    expect_no_row(&rt, wrong_line(rt.alloc(), ZEROS, fault));
 }
 
 // A name has this text.

@@ -1,5 +1,5 @@
 use Rattle.std.proofs.lemmas.Grind.{common_steps}
-use Rattle.std.proofs.Common.{map, take, sym, subst, ◌∙◌, arith}
+use Rattle.std.proofs.Common.{[], map, take, refl, sym, subst, ◌∙◌, arith, rules}
 use Rattle.match_error.specs.Errors.{error_of}
 use Rattle.patch_picks.specs.Picks.{listed_on}
 use Rattle.patch_place.specs.Tables.{IsShortlist}
@@ -26,10 +26,21 @@ pub returns : goal.returns
 returns c = grind (arith, common_steps)
 
 pub squares_for-squares-requires-clause-inside : goal.squares_for-squares-requires-clause-inside
-squares_for-squares-requires-clause-inside c = grind (arith, common_steps)
+squares_for-squares-requires-clause-inside c = (c.entry_for-placement.ensures.fits c.requires.fit).inside
 
 pub add-requires-clause-fits : goal.add-requires-clause-fits
-add-requires-clause-fits c = grind (arith, common_steps)
+add-requires-clause-fits c = c.entry_for-placement.ensures.fits c.requires.fit
 
 pub around_of-around-requires : goal.around_of-around-requires
 around_of-around-requires c = grind (arith, common_steps)
+
+pub entries-init : goal.entries-init
+entries-init c = record {
+  short = c.unfilled-short.ensures.short [] (search rules) refl;
+  sound = c.unfilled-short.ensures.sound;
+  seen = c.unfilled-short.ensures.seen;
+  tol = c.unfilled-short.ensures.tol;
+  known = c.unfilled-short.ensures.known;
+  errors = grind (arith, common_steps);
+  part = grind (arith, common_steps);
+}

@@ -10,6 +10,7 @@ use Rattle.patch_place.specs.BoxErrors.{sum_from}
 use Rattle.patch_picks.specs.Counts.{entries_before}
 use Rattle.patch_place.specs.Spots.{room_entries}
 use Rattle.patch_picks.specs.Lists.{fit_list}
+use Rattle.patch_picks.proofs.BoxLists.{cells_of_index}
 use Rattle.patch_place.specs.Tables.{IsLimitOf, IsSeenTo, IsShortlist}
 use Rattle.patch_place.proofs.Passing.{in_row, run_passed, spot_asked}
 use Rattle.patch_place.proofs.Walking.{row_within}
@@ -127,10 +128,10 @@ returns-clause-seen g c =
     (box_step c.args.rect.now c.args.sizes.now c.args.n c.args.self.now.seen c.part_after.result c.room-free.result c.part_after.ensures.size c.room-free.ensures.room c.requires.seen)
 
 pub next-spot-requires-clause-rows : goal.next-spot-requires-clause-rows
-next-spot-requires-clause-rows g c = grind (arith, common_steps)
+next-spot-requires-clause-rows g c = let has = cells_of_index c.room-free.result c.entries.done (omega (arith, c.place_count-all.ensures, c.entries-test.true)) in (has.w, has.h)
 
 pub after-spot-requires-clause-rows : goal.after-spot-requires-clause-rows
-after-spot-requires-clause-rows g c = grind (arith, common_steps)
+after-spot-requires-clause-rows g c = let has = cells_of_index c.room-free.result c.entries.done (omega (arith, c.place_count-all.ensures, c.entries-test.true)) in (has.w, has.h)
 
 pub next-spot-requires-clause-f : goal.next-spot-requires-clause-f
 next-spot-requires-clause-f g c = grind (arith, common_steps)

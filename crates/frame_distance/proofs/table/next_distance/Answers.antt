@@ -1,6 +1,7 @@
 use Rattle.std.proofs.Common.{arith}
 use Rattle.std.proofs.lemmas.Grind.{common_steps}
-use Rattle.std.proofs.Common.{◌*◌, ◌/◌, ◌%◌, ◌+◌, length, refl, sym, ◌∙◌, ap, get_or}
+use Rattle.std.proofs.Common.{ℕ, ◌<◌, ◌≤◌, ◌*◌, ◌/◌, ◌%◌, ◌+◌, length, refl, sym, ◌∙◌, ap, get_or}
+use Rattle.std.proofs.Math.Nat.{mul-le-mul_right}
 use Rattle.frame_distance.specs.Frames.{distance_in, frame_in}
 use Rattle.frame_distance.proofs.EntryLaws.{entries_of-at, across_before, row_below}
 use Rattle.frame_distance.proofs.FrameLaws.{ssd_same, ssd_turned}
@@ -37,3 +38,20 @@ returns-then-j-i-clause-below c = grind (arith, common_steps)
 
 pub offset_bounds-so_far-j : goal.offset_bounds-so_far-j
 offset_bounds-so_far-j c = grind (arith, common_steps)
+
+-- a frame below n ends within the bytes of n frames
+frame_inside : (len i n : ℕ) → i < n → len * i + len ≤ len * n
+frame_inside len i n below = omega (arith, mul-le-mul_right len below)
+
+pub frame-requires : goal.frame-requires
+frame-requires c =
+    let k = length c.args.so_far.now in
+    let row = row_below c.args.n k c.requires.more in
+    omega (arith, c.requires.frames, frame_inside c.args.len (k / c.args.n) c.args.n row)
+
+pub frame-requires-else-j-i-2 : goal.frame-requires-else-j-i-2
+frame-requires-else-j-i-2 c =
+    let k = length c.args.so_far.now in
+    let row = row_below c.args.n k c.requires.more in
+    let column : k % c.args.n < c.args.n = omega arith in
+    omega (arith, c.requires.frames, frame_inside c.args.len (k % c.args.n) c.args.n column)

@@ -39,3 +39,21 @@ returns-clause-inside c = subst (IsInTurned c.args.samples.now) (sym (placed c))
 pub returns-clause-untouched : goal.returns-clause-untouched
 returns-clause-untouched c =
     subst (λ (p : At). IsUntouched c.args.samples.now p c.args.there) (sym (placed c)) (place_untouched c.args.samples.now c.args.there c.requires.turned)
+
+pub overflow_mul-part : goal.overflow_mul-part
+overflow_mul-part c =
+    let there = c.args.there in
+    let bounds = sample_bounds c.args.samples.now there.sample (sample_size c.args.samples.now there.sample) c.requires.turned.sample in
+    omega (arith, bounds.0, bounds.1, c.requires.few, c.requires.turned.turn)
+
+pub overflow_add-part : goal.overflow_add-part
+overflow_add-part c =
+    let there = c.args.there in
+    let bounds = sample_bounds c.args.samples.now there.sample (sample_size c.args.samples.now there.sample) c.requires.turned.sample in
+    omega (arith, bounds.0, bounds.1, c.requires.few, c.requires.turned.turn)
+
+pub overflow_add-part-2 : goal.overflow_add-part-2
+overflow_add-part-2 c =
+    let there = c.args.there in
+    let bounds = sample_bounds c.args.samples.now there.sample (sample_size c.args.samples.now there.sample) c.requires.turned.sample in
+    omega (arith, bounds.0, bounds.1, c.requires.few, c.requires.turned.turn)

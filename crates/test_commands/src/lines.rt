@@ -17,7 +17,8 @@ fn add_words(words: &mut Words, line: &str) -> Result<(), AllocError> {
     Ok(())
 }
 
-fn words_of(alloc: Global, line: &str) -> Result<Words, AllocError> {
+// The words of a line. (A list of words as a constant is several times as long to prove as one text.)
+pub(crate) fn words_of(alloc: Global, line: &str) -> Result<Words, AllocError> {
     let mut words = Words::new(alloc);
     add_words(&mut words, line)?;
     Ok(words)

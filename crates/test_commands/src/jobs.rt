@@ -1,25 +1,12 @@
+// The words of all commands, by the call that reads any of them.
 use crate::expect::{expect_no_pair, expect_no_row};
+use crate::lines::words_of;
 use cells::Size;
 use job_words::{
     GrowJob, Job, Key, LoopJob, Name, Place, QuiltJob, Taps, TileJob, UpgradeJob, WordFault, Words,
     read_job,
 };
 use std::alloc::{AllocError, Global};
-
-fn add_line(words: &mut Words, line: &str) -> Result<(), AllocError> {
-    for word in line.split(' ') {
-        words.push(word)?;
-    }
-    Ok(())
-}
-
-/// The words of a line, which are parted by spaces. (A list of words as a constant is several times as long to prove as
-/// one text.)
-pub fn words_of(alloc: Global, line: &str) -> Result<Words, AllocError> {
-    let mut words = Words::new(alloc);
-    add_line(&mut words, line)?;
-    Ok(words)
-}
 
 fn read(alloc: Global, line: &str) -> Result<Job, WordFault> {
     let words = words_of(alloc, line)?;

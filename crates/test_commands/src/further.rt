@@ -1,6 +1,7 @@
 // The words of `transfer`, `merge` and `tile`, by the calls that read them.
 use crate::expect::{expect_no_pair, expect_no_row};
-use crate::jobs::{are_names, is_name, words_of};
+use crate::jobs::{are_names, is_name};
+use crate::lines::words_of;
 use cells::{Axis, Size};
 use job_words::{
     Key, MergeJob, Name, TileJob, TransferJob, WordFault, Wrap, read_merge, read_tile,

@@ -24,18 +24,18 @@ fn clip_of(alloc: Global, frames: &[u8]) -> Result<Volume, AllocError>
 // Two frames of two cells, of three bytes each.
 const PAIR: &[u8] = &[1, 2, 3, 4, 5, 6, 2, 2, 3, 5, 5, 9];
 
+fn is_of_pair(table: &Table) -> bool {
+    table.frames() == 2
+        && table.at(0, 0) == 0
+        && table.at(0, 1) == 11
+        && table.at(1, 0) == 11
+        && table.at(1, 1) == 0
+}
+
 fn are_distances(alloc: Global) -> Result<bool, AllocError> {
     let bytes = Vec::from_slice(alloc, PAIR)?;
     let clip = Volume::from_bytes(Size { w: 2, h: 1, f: 2 }, 3, bytes);
-    let table = distances(alloc, &clip)?;
-    let are_two = table.frames() == 2;
-    Ok(
-        are_two
-            && table.at(0, 0) == 0
-            && table.at(0, 1) == 11
-            && table.at(1, 0) == 11
-            && table.at(1, 1) == 0,
-    )
+    Ok(is_of_pair(&distances(alloc, &clip)?))
 }
 
 #[test]

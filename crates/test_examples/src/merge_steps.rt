@@ -1,18 +1,16 @@
 // The steps of merges of three pictures of twelve cells: their records, and all choices beside theirs.
-ghost use Rattle.std.specs.Prelude.{◌≡◌, IfOk, IsTrue};
-ghost use Rattle.cells.specs.Boxes.{AxisHolds, HoldsBox};
+ghost use Rattle.std.specs.Prelude.{◌≡◌, IfOk};
 ghost use Rattle.cells.specs.Cells.{IsOnePart, count_of};
-ghost use Rattle.cells.specs.Places.{IsSmall};
 ghost use Rattle.map_canvas.specs.Canvases.{StandsOver};
 ghost use Rattle.map_canvas.specs.Choices.{Fits};
 
 use crate::expect::expect_done;
+use crate::pictures::{assert_fits, assert_small};
 use boxes::pair_count;
 use cells::{At, Box3, Size, Volume};
 use costs::{are_marks, window_after};
 use cut_check::{CutRecord, check_held};
 use graph_place::place_held;
-use limits::{GREATEST_AXIS, MOST_CELLS};
 use map_canvas::{Canvas, Placement};
 use std::alloc::{AllocError, Global};
 use std::process::Abort;
@@ -52,37 +50,6 @@ fn place(i: u32, picture: u8) -> At {
     }
 }
 
-// A run of cells lies within one axis.
-fn holds_axis(n: u32, corner: i32, len: u32) -> bool
-    ensures { IsTrue result → AxisHolds n corner len }
-{
-    corner >= 0 && len <= n && corner as u32 <= n - len
-}
-
-// Asserts that a box lies within a size.
-fn assert_holds(rt: &impl Abort, size: Size, corner: At, inner: Size)
-    ensures { HoldsBox size corner inner }
-{
-    assert!(rt; holds_axis(size.w, corner.x, inner.w));
-    assert!(rt; holds_axis(size.h, corner.y, inner.h));
-    assert!(rt; holds_axis(size.f, corner.f, inner.f));
-}
-
-// Asserts that a placement fits.
-fn assert_fits(rt: &impl Abort, canvas: &Canvas, pictures: &Volume, placement: &Placement)
-    ensures { Fits canvas.now.map.size pictures.now placement.now }
-{
-    let size = placement.rect.size;
-    assert!(rt; size.w > 0 && size.h > 0 && size.f > 0);
-    assert_holds(rt, canvas.map().size(), placement.rect.corner, size);
-    assert!(rt;
-        pictures.holds(&Box3 {
-            corner: placement.from,
-            size
-        })
-    );
-}
-
 // Gives a cell the same cell of a picture as its source.
 fn put(rt: &impl Abort, canvas: &mut Canvas, pictures: &Volume, i: u32, label: u8)
     requires { StandsOver canvas.old pictures.now }
@@ -95,7 +62,7 @@ fn put(rt: &impl Abort, canvas: &mut Canvas, pictures: &Volume, i: u32, label: u
     };
     let from = place(i, label);
     let placement = Placement { rect, from };
-    assert_fits(rt, canvas, pictures, &placement);
+    assert_fits(rt, canvas.map().size(), pictures, &placement);
     canvas.put_choice(pictures, &placement, &[true]);
 }
 
@@ -253,7 +220,7 @@ fn placed_on(
     };
     let from = place(0, step.number);
     let placement = Placement { rect, from };
-    assert_fits(rt, canvas, pictures, &placement);
+    assert_fits(rt, canvas.map().size(), pictures, &placement);
     assert!(rt; are_marks(canvas, &placement, Some(&step.held)));
     let cut = place_held(alloc, canvas, pictures, placement, Some(&step.held))?;
     assert_labels(rt, canvas, &step.after);
@@ -270,16 +237,6 @@ fn placed(
     placed_on(rt, alloc, &mut canvas, pictures, step)
 }
 
-// Asserts that a size is that of a volume.
-fn assert_small(rt: &impl Abort, size: Size)
-    ensures { IsSmall size }
-{
-    assert!(rt; 1 <= size.w && size.w <= GREATEST_AXIS);
-    assert!(rt; 1 <= size.h && size.h <= GREATEST_AXIS);
-    assert!(rt; 1 <= size.f && size.f <= GREATEST_AXIS);
-    assert!(rt; size.w as usize * (size.h as usize * size.f as usize) <= MOST_CELLS);
-}
-
 // Asserts that the record of a step is accepted over the canvas before it, and that no choice costs less.
 fn assert_least(rt: &impl Abort, before: &Canvas, pictures: &Volume, cut: &CutRecord, step: &Step)
     requires { StandsOver before.now pictures.now }
@@ -289,7 +246,7 @@ fn assert_least(rt: &impl Abort, before: &Canvas, pictures: &Volume, cut: &CutRe
     assert_small(rt, size);
     assert!(rt; choice.len() == size.cells());
     assert!(rt; cut.flows.as_slice().len() as u64 == pair_count(size));
-    assert_fits(rt, before, pictures, &cut.placement);
+    assert_fits(rt, before.map().size(), pictures, &cut.placement);
     assert!(rt; are_marks(before, &cut.placement, Some(&step.held)));
     assert!(rt; check_held(before, pictures, cut, Some(&step.held)).is_ok());
     assert!(rt; is_least(before, pictures, &cut.placement, step, choice));

@@ -11,8 +11,8 @@ use map_canvas::Placement;
 use std::alloc::{AllocError, Global};
 use std::process::Abort;
 
-// Asserts that a size is that of a picture.
-fn assert_small(rt: &impl Abort, size: Size)
+/// Asserts that a size is that of a picture.
+pub fn assert_small(rt: &impl Abort, size: Size)
     ensures small { IsSmall size }
     ensures frame { size.f ≡ 1 }
 {

@@ -100,11 +100,17 @@ fn error_at(rt: &impl Abort, target: &Volume, sample: &Volume, x: i32) -> u64
 }
 
 // The first two cells are the target's own, and the next two are 3 * (10 * 10 + 30 * 30) from it.
+fn assert_errors_of(rt: &impl Abort, target: &Volume, sample: &Volume)
+    requires { IsTargetOf target.now.size sample.now target.now }
+{
+    assert!(rt; error_at(rt, target, sample, 0) == 0);
+    assert!(rt; error_at(rt, target, sample, 1) == 3000);
+}
+
 fn assert_errors(rt: &impl Abort, alloc: Global) -> Result<(), AllocError> {
     let sample = greys(rt, alloc, ROW, &[10, 20, 30, 40])?;
     let target = greys(rt, alloc, WANTED, &[30, 40, 10])?;
-    assert!(rt; error_at(rt, &target, &sample, 0) == 0);
-    assert!(rt; error_at(rt, &target, &sample, 1) == 3000);
+    assert_errors_of(rt, &target, &sample);
     Ok(())
 }
 

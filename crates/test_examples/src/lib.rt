@@ -1,16 +1,22 @@
-//! Worked examples, as tests alone: sums over rows, boundaries through strips, distances of frames and steps between them,
-//! loops, marks and steps of merges, transfers whole and block by block, turned samples and the files of their maps; and
-//! records and files that don't stand. No clause says what they show: that calls succeed where there is memory, that the
-//! definitions give the numbers that were computed by hand, and that none of all choices of a merge's step, tried one by
-//! one, costs less.
+//! Worked examples, as tests alone: volumes, maps and canvases, seam costs and their sums, and cut records; sums over rows,
+//! boundaries through strips, distances of frames and steps between them, loops, marks and steps of merges, transfers whole
+//! and block by block, turned samples and the files of their maps; and records and files that don't stand. No clause says
+//! what they show: that calls succeed where there is memory, that the definitions give the numbers that were computed by
+//! hand or by another program, and that none of all choices of a merge's step, tried one by one, costs less.
 #![tactic(auto)]
 
 #[cfg(test)]
 mod boundaries;
 #[cfg(test)]
+mod canvases;
+#[cfg(test)]
+mod cut_records;
+#[cfg(test)]
 mod expect;
 #[cfg(test)]
 mod frames;
+#[cfg(test)]
+mod laying;
 #[cfg(test)]
 mod loops;
 #[cfg(test)]
@@ -20,7 +26,11 @@ mod merge_steps;
 #[cfg(test)]
 mod pictures;
 #[cfg(test)]
+mod remade;
+#[cfg(test)]
 mod rows;
+#[cfg(test)]
+mod seam_sums;
 #[cfg(test)]
 mod transfer_steps;
 #[cfg(test)]
@@ -29,3 +39,5 @@ mod transfers;
 mod turned_files;
 #[cfg(test)]
 mod turns;
+#[cfg(test)]
+mod volumes;

@@ -1,4 +1,4 @@
-// Grey pictures of a few cells, and boxes of them.
+// Grey pictures of a few cells, and asserts of sizes and placements.
 ghost use Rattle.std.specs.Prelude.{◌≡◌, IfOk, IsTrue};
 ghost use Rattle.cells.specs.Boxes.{AxisHolds, HoldsBox};
 ghost use Rattle.cells.specs.Cells.{IsOnePart};
@@ -11,14 +11,13 @@ use map_canvas::Placement;
 use std::alloc::{AllocError, Global};
 use std::process::Abort;
 
-/// Asserts that a size is that of a picture.
+/// Asserts that a size is that of a volume.
 pub fn assert_small(rt: &impl Abort, size: Size)
-    ensures small { IsSmall size }
-    ensures frame { size.f ≡ 1 }
+    ensures { IsSmall size }
 {
     assert!(rt; 1 <= size.w && size.w <= GREATEST_AXIS);
     assert!(rt; 1 <= size.h && size.h <= GREATEST_AXIS);
-    assert!(rt; size.f == 1);
+    assert!(rt; 1 <= size.f && size.f <= GREATEST_AXIS);
     assert!(rt; size.w as usize * (size.h as usize * size.f as usize) <= MOST_CELLS);
 }
 
@@ -31,6 +30,7 @@ pub fn greys(rt: &impl Abort, alloc: Global, size: Size, cells: &[u8]) -> Result
     ensures frame { size.f ≡ 1 }
 {
     assert_small(rt, size);
+    assert!(rt; size.f == 1);
     let mut bytes = Vec::new(alloc);
     'cells: for cell in cells {
         bytes.push(*cell)?;
@@ -41,8 +41,8 @@ pub fn greys(rt: &impl Abort, alloc: Global, size: Size, cells: &[u8]) -> Result
     Ok(Volume::from_bytes(size, 3, bytes))
 }
 
-// A run of cells lies within one axis.
-fn holds_axis(n: u32, corner: i32, len: u32) -> bool
+/// A run of cells lies within one axis.
+pub fn holds_axis(n: u32, corner: i32, len: u32) -> bool
     ensures { IsTrue result → AxisHolds n corner len }
 {
     corner >= 0 && len <= n && corner as u32 <= n - len

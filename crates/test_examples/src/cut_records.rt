@@ -1,11 +1,11 @@
 // Worked examples of cut_check: records along each axis, with a held cell, over all choices, and boxes on two
 // and three axes whose flows are forced.
 ghost use Rattle.std.specs.Prelude.{IfOk};
-ghost use Rattle.cells.specs.Places.{IsSmall};
 ghost use Rattle.map_canvas.specs.Canvases.{StandsOver};
 
 use crate::expect::expect_done;
-use crate::laying::{assert_fits, canvas_over, put};
+use crate::laying::{canvas_over, put};
+use crate::pictures::{assert_fits, assert_small};
 use boxes::pair_count;
 use cells::{At, Axis, Box3, Size, Volume};
 use costs::{are_marks, window_after};
@@ -14,7 +14,6 @@ use cut_check::{
     check_cut, check_held,
 };
 use items::Items;
-use limits::{GREATEST_AXIS, MOST_CELLS};
 use map_canvas::{Canvas, Placement};
 use std::alloc::{AllocError, Global};
 use std::process::Abort;
@@ -38,16 +37,6 @@ fn along(axis: Axis, n: i32) -> At {
         Axis::Y => At { x: 0, y: n, f: 0 },
         Axis::F => At { x: 0, y: 0, f: n },
     }
-}
-
-// Asserts that a size is that of a volume.
-fn assert_small(rt: &impl Abort, size: Size)
-    ensures { IsSmall size }
-{
-    assert!(rt; 1 <= size.w && size.w <= GREATEST_AXIS);
-    assert!(rt; 1 <= size.h && size.h <= GREATEST_AXIS);
-    assert!(rt; 1 <= size.f && size.f <= GREATEST_AXIS);
-    assert!(rt; size.w as usize * (size.h as usize * size.f as usize) <= MOST_CELLS);
 }
 
 // A sample of one byte a cell, or of three that are equal.

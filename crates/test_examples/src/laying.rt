@@ -1,10 +1,9 @@
 // Canvases over samples, and cells that are laid on them, for the worked examples.
-ghost use Rattle.std.specs.Prelude.{IfOk, IsTrue};
-ghost use Rattle.cells.specs.Boxes.{AxisHolds, HoldsBox};
+ghost use Rattle.std.specs.Prelude.{IfOk};
 ghost use Rattle.cells.specs.Places.{IsSmall};
 ghost use Rattle.map_canvas.specs.Canvases.{StandsOver};
-ghost use Rattle.map_canvas.specs.Choices.{Fits};
 
+use crate::pictures::assert_fits;
 use cells::{At, Box3, Size, Volume};
 use map_canvas::{Canvas, Placement};
 use std::alloc::{AllocError, Global};
@@ -23,36 +22,6 @@ pub(crate) fn canvas_over(alloc: Global, size: Size, sample: &Volume) -> Result<
     ensures { IfOk result (λ canvas. StandsOver canvas sample.now) }
 {
     Canvas::empty(alloc, size, sample.samples())
-}
-
-// A run of cells lies within one axis.
-pub(crate) fn holds_axis(n: u32, corner: i32, len: u32) -> bool
-    ensures { IsTrue result → AxisHolds n corner len }
-{
-    corner >= 0 && len <= n && corner as u32 <= n - len
-}
-
-// Asserts that a box lies within a size.
-fn assert_holds(rt: &impl Abort, size: Size, corner: At, inner: Size)
-    ensures { HoldsBox size corner inner }
-{
-    assert!(rt; holds_axis(size.w, corner.x, inner.w));
-    assert!(rt; holds_axis(size.h, corner.y, inner.h));
-    assert!(rt; holds_axis(size.f, corner.f, inner.f));
-}
-
-// Asserts that a placement fits.
-pub(crate) fn assert_fits(rt: &impl Abort, output: Size, sample: &Volume, placement: &Placement)
-    ensures { Fits output sample.now placement.now }
-{
-    let rect = placement.rect;
-    assert!(rt; 1 <= rect.size.w && 1 <= rect.size.h && 1 <= rect.size.f);
-    assert_holds(rt, output, rect.corner, rect.size);
-    let sources = Box3 {
-        corner: placement.from,
-        size: rect.size,
-    };
-    assert!(rt; sample.holds(&sources));
 }
 
 // Gives a cell its source.

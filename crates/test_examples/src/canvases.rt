@@ -4,7 +4,8 @@ ghost use Rattle.std.specs.Prelude.{◌≡◌, pos, IfOk};
 ghost use Rattle.map_canvas.specs.Canvases.{StandsOver};
 
 use crate::expect::{expect_done, expect_none, expect_true};
-use crate::laying::{canvas_over, column, holds_axis, put_choice};
+use crate::laying::{canvas_over, column, put_choice};
+use crate::pictures::holds_axis;
 use cells::{At, Box3, Size, Volume};
 use map_canvas::{Canvas, Map};
 use std::alloc::{AllocError, Global};

@@ -1,6 +1,6 @@
 use Rattle.cells.specs.Distances.{distance}
 use Rattle.cost_windows.proofs.Besides.{right_beside_choice}
-use Rattle.test_maps.proofs.seam_sums.put_box.Goals as goal
+use Rattle.test_examples.proofs.seam_sums.put_box.Goals as goal
 
 pub update-requires-clause-beside : goal.update-requires-clause-beside
 update-requires-clause-beside g c =

@@ -7,7 +7,8 @@ ghost use Rattle.map_canvas.specs.Maps.{map_at};
 ghost use Rattle.cost_windows.specs.Tables.{IsRight, IsWindow};
 
 use crate::expect::{expect_none, expect_true};
-use crate::laying::{ONE, assert_fits, canvas_over, column, put_copies, put_row};
+use crate::laying::{ONE, canvas_over, column, put_copies, put_row};
+use crate::pictures::assert_fits;
 use cells::{At, Axis, Box3, Size, Volume};
 use cost_windows::SeamTable;
 use costs::{are_marks, pair_cost, total, window};

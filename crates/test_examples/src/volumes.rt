@@ -3,7 +3,7 @@
 ghost use Rattle.std.specs.Prelude.{◌≡◌};
 ghost use Rattle.cells.specs.Cells.{blank};
 ghost use Rattle.cells.specs.Places.{plus};
-ghost use Rattle.test_maps.specs.declared.volumes.TheConstants.{TWELVE};
+ghost use Rattle.test_examples.specs.declared.volumes.TheConstants.{TWELVE};
 
 use crate::expect::{expect_none, expect_true};
 use cells::{At, Axis, Box3, PartPlace, Size, Volume, cell_distance};

@@ -21,6 +21,14 @@ pub fn assert_small(rt: &impl Abort, size: Size)
     assert!(rt; size.w as usize * (size.h as usize * size.f as usize) <= MOST_CELLS);
 }
 
+// Adds each grey three times.
+fn add_greys(bytes: &mut Vec<u8>, cells: &[u8]) -> Result<(), AllocError> {
+    for cell in cells {
+        bytes.extend_from_slice(&[*cell; 3])?;
+    }
+    Ok(())
+}
+
 /// A picture of this size whose cells have these greys, three times each.
 pub fn greys(rt: &impl Abort, alloc: Global, size: Size, cells: &[u8]) -> Result<Volume, AllocError>
     ensures one { IfOk result IsOnePart }
@@ -32,11 +40,7 @@ pub fn greys(rt: &impl Abort, alloc: Global, size: Size, cells: &[u8]) -> Result
     assert_small(rt, size);
     assert!(rt; size.f == 1);
     let mut bytes = Vec::new(alloc);
-    'cells: for cell in cells {
-        bytes.push(*cell)?;
-        bytes.push(*cell)?;
-        bytes.push(*cell)?;
-    }
+    add_greys(&mut bytes, cells)?;
     assert!(rt; bytes.len() == 3 * size.cells());
     Ok(Volume::from_bytes(size, 3, bytes))
 }

@@ -1,5 +1,5 @@
 -- The values of all keys of a table: each is of its kind, and no two keys have the same file name.
-use Rattle.std.proofs.Common.{◌≡◌, ◌≢◌, ℕ, ◌≤◌, List, [], ◌∷◌, ◌++◌, length, refl, sym, ap, ◌∙◌, subst, arith, Bool, true, false, cond, not, ◌&&◌, ◌||◌, eqb-true}
+use Rattle.std.proofs.Common.{◌≡◌, ◌≢◌, ℕ, ◌≤◌, ◌<◌, List, [], ◌∷◌, ◌++◌, length, refl, sym, ap, ◌∙◌, subst, arith, Bool, true, false, cond, not, ◌&&◌, ◌||◌, eqb-true}
 use Rattle.std.specs.Prelude.{Option, Some, None, All, AllPairs, find, filter_map, is_none, map, option_map, nat_eq, nat_lt, Result, Ok, Err}
 use Rattle.std.specs.List.{list_any, cons_option}
 use Rattle.std.specs.Option.{option_or, IsSomeAnd}
@@ -23,7 +23,7 @@ use Rattle.job_words.specs.declared.settings.Value.TheVariants.{Named, Chosen}
 use Rattle.job_words.specs.declared.settings.Setting.{Setting}
 use Rattle.job_words.specs.Keys.{same_key}
 use Rattle.job_words.specs.Tables.{IsOfKind, texts_of}
-use Rattle.job_words.specs.Words.{lies_within, is_among, IsNamed, and_then, value_at, settings_of, default_of, with_defaults, is_missing, is_needed, first_missing, unless_missing, complete, all_settings, text_in, text_of, number_in, IsGivenAs, HasAllValues}
+use Rattle.job_words.specs.Words.{lies_within, is_among, IsNamed, IsNumeric, IsPosition, and_then, value_at, settings_of, default_of, with_defaults, is_missing, is_needed, first_missing, unless_missing, complete, all_settings, text_in, text_of, nth_in, number_in, IsGivenAs, HasAllValues}
 use Rattle.job_words.specs.Names.{AreNames, HasNames, more_keys, more_names, name_if_set, name_in, name_list, names_of, with_files, with_one_sample}
 use Rattle.job_words.proofs.Accepting.{both, one_of}
 use Rattle.job_words.proofs.Keyed.{value_at-append, key_exact, key_itself}
@@ -406,3 +406,15 @@ number_within least most None h = absurd h
 number_within least most (Some (Named name)) h = absurd h
 number_within least most (Some (Chosen (Number n))) h = h
 number_within least most (Some (Chosen (Nth n))) h = absurd h
+
+pub numeric : (least most : ℕ) (o : Option Value) → IsSomeAnd o (IsOfKind (Within least most)) → IsNumeric o
+numeric least most None h = absurd h
+numeric least most (Some (Named name)) h = absurd h
+numeric least most (Some (Chosen (Number n))) h = tt
+numeric least most (Some (Chosen (Nth n))) h = absurd h
+
+pub position : (texts : Texts) (o : Option Value) → IsSomeAnd o (IsOfKind (OneOf texts)) → IsPosition o × (nth_in o < length (texts_of texts))
+position texts None h = absurd h
+position texts (Some (Named name)) h = absurd h
+position texts (Some (Chosen (Number n))) h = absurd h
+position texts (Some (Chosen (Nth n))) h = (tt, h)

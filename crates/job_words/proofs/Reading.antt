@@ -147,13 +147,19 @@ word_more rows settings new a s = record { kinds = kinds; apart = apart }
       ]
     ]
 
+no_ok : (fault : WordFault) (all : List Setting) → Err fault ≡ Ok all → ⊥
+no_ok fault all e = cc
+
+same_ok : (r : Result (List Setting) WordFault) (some all : List Setting) → r ≡ Ok some → r ≡ Ok all → some ≡ all
+same_ok r some all is e = cc
+
 words_more : (rows : List Row) (i : ℕ) (settings all : List Setting) (words : List (List ℕ)) → AreSettings rows settings → settings_of rows i settings words ≡ Ok all → AreSettings rows all
-words_more rows i settings all [] s e = let is : settings ≡ all = cc in subst (AreSettings rows) is s
+words_more rows i settings all [] s e = subst (AreSettings rows) (same_ok (Ok settings) settings all refl e) s
 words_more rows i settings all (word ∷ words) s e = tried (setting_of rows i settings word) refl e (λ new. words_more rows (i + 1) (settings ++ new ∷ []) all words)
   where
     tried : (r : Result Setting WordFault) → setting_of rows i settings word ≡ r → and_then (λ (new : Setting). settings_of rows (i + 1) (settings ++ new ∷ []) words) r ≡ Ok all
         → ((new : Setting) → AreSettings rows (settings ++ new ∷ []) → settings_of rows (i + 1) (settings ++ new ∷ []) words ≡ Ok all → AreSettings rows all) → AreSettings rows all
-    tried (Err fault) was rest later = absurd (cc)
+    tried (Err fault) was rest later = absurd (no_ok fault all rest)
     tried (Ok new) was rest later = later new (word_more rows settings new (accepted rows i settings word new was) s) rest
 
 pub settings_of_words : (rows : List Row) (words : List (List ℕ)) (all : List Setting) → settings_of rows 2 [] words ≡ Ok all → AreSettings rows all

@@ -18,7 +18,7 @@ use limits::GREATEST_AXIS;
 use std::alloc::{AllocError, Global};
 
 /// How the places of patches are chosen.
-#[derive(Clone, Copy, Debug, Drop, PartialEq, Eq)]
+#[derive(Clone, Copy, Drop, PartialEq, Eq)]
 pub enum Place {
     /// Copies of the whole first sample in a grid, of which neighbouring ones share `overlap` cells.
     Grid,

@@ -46,7 +46,7 @@ pub enum Job {
 }
 
 /// Why words ask for no job. Words are counted from 1; the command is number 1.
-#[derive(Clone, Copy, Debug, Drop, PartialEq, Eq)]
+#[derive(Clone, Copy, Drop, PartialEq, Eq)]
 pub enum WordFault {
     /// There is no word.
     NoCommand,

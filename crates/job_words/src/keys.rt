@@ -6,7 +6,7 @@ ghost use Rattle.job_words.specs.Texts.{same_text};
 use itoa::Buffer;
 
 /// The keys of all commands, in the order in which missing ones are looked for.
-#[derive(Clone, Copy, Debug, Drop, PartialEq, Eq)]
+#[derive(Clone, Copy, Drop, PartialEq, Eq)]
 pub enum Key {
     Sample,
     /// The key `sample` with a number, from 2 to 16.

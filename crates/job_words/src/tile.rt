@@ -17,7 +17,7 @@ use limits::{GREATEST_AXIS, LEAST_WRAPPED_AXIS};
 use std::alloc::{AllocError, Global};
 
 /// The axes on which an output's edges meet.
-#[derive(Clone, Copy, Debug, Drop, PartialEq, Eq)]
+#[derive(Clone, Copy, Drop, PartialEq, Eq)]
 pub struct Wrap {
     pub x: bool,
     pub y: bool,

@@ -10,3 +10,6 @@ same-result c = grind (arith, common_steps)
 
 pub same-result-2 : goal.same-result-2
 same-result-2 c = grind (arith, common_steps)
+
+pub same-result-3 : goal.same-result-3
+same-result-3 c = grind (arith, common_steps)

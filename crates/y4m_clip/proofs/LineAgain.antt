@@ -1,4 +1,5 @@
 -- The writer's stream line of a form and a size is a stream line, with the form's tags after W and H.
+use mathlib.Core.Bool.{false≢true}
 use Rattle.std.proofs.Common.{◌≡◌, ℕ, ◌≤◌, ◌<◌, ◌+◌, ◌*◌, ◌-◌, ◌/◌, ◌%◌, ◌^◌, List, [], ◌∷◌, ◌++◌, length, refl, sym, ap, ◌∙◌, arith, append_assoc, decimal, Bool, true, false, cond}
 use Rattle.std.specs.Prelude.{◌==◌, ◌&&◌, ◌||◌, not, nat_lt, codes}
 use Rattle.std.specs.List.{AllByRecursion, list_any}
@@ -117,11 +118,11 @@ axes_shut letters letter both axis = tested (letter == 87) (letter == 72) (has_s
   where
     tested : (p q a b : Bool) → a && b ≡ true → p || q ≡ true
         → not (p && a || q && b || again letters letter 70 || again letters letter 73 || again letters letter 65 || again letters letter 67) ≡ false
-    tested p q false b e f = cc
-    tested p q true false e f = cc
+    tested p q false b e f = absurd (false≢true e)
+    tested p q true false e f = absurd (false≢true e)
     tested true q true true e f = refl
     tested false true true true e f = refl
-    tested false false true true e f = cc
+    tested false false true true e f = absurd (false≢true f)
 
 pub carried_same : (letters : List ℕ) (tags : List (List ℕ)) (text : List ℕ) → has_axes letters ≡ true → Continues letters tags text → carried tags ≡ tags
 carried_same letters [] text both goes = refl
@@ -129,15 +130,15 @@ carried_same letters ([] ∷ tags) text both goes = absurd goes
 carried_same letters ((letter ∷ value) ∷ tags) text both (ink, may, valued, n, rest, is, goes) = tested (is_axis letter) refl (λ more. carried_same (letter ∷ letters) tags rest more goes)
   where
     stay : (p q a b : Bool) → a && b ≡ true → (p || a) && (q || b) ≡ true
-    stay p q false b e = cc
-    stay p q true false e = cc
+    stay p q false b e = absurd (false≢true e)
+    stay p q true false e = absurd (false≢true e)
     stay true true true true e = refl
     stay true false true true e = refl
     stay false true true true e = refl
     stay false false true true e = refl
 
     tested : (t : Bool) → is_axis letter ≡ t → (has_axes (letter ∷ letters) ≡ true → carried tags ≡ tags) → cond t (carried tags) ((letter ∷ value) ∷ carried tags) ≡ (letter ∷ value) ∷ tags
-    tested true axis more = let shut = axes_shut letters letter both axis in cc
+    tested true axis more = absurd (false≢true (sym (axes_shut letters letter both axis) ∙ may))
     tested false axis more = ap (λ t. (letter ∷ value) ∷ t) (more (stay (letter == 87) (letter == 72) (has_stood letters 87) (has_stood letters 72) both))
 
 -- What the line says.

@@ -5,7 +5,7 @@ use items::Items;
 
 /// How the pixels of a frame make cells: 1x1 pixels of luma alone, 1x1 of luma and two chroma samples,
 /// or 2x1, 4x1 or 2x2 pixels that share their chroma samples.
-#[derive(Clone, Copy, Debug, Drop, PartialEq, Eq)]
+#[derive(Clone, Copy, Drop, PartialEq, Eq)]
 pub enum SpaceKind {
     Mono,
     C444,

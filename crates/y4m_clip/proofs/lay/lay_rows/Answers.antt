@@ -19,10 +19,14 @@ pub overflow_mul-count : goal.overflow_mul-count
 overflow_mul-count c = grind (arith, common_steps)
 
 pub lay_samples-next-requires-clause-inside : goal.lay_samples-next-requires-clause-inside
-lay_samples-next-requires-clause-inside c = grind (arith, common_steps)
+lay_samples-next-requires-clause-inside c =
+    let a = c.args in
+    omega (arith, c.requires.inside, in_runs a.count c.loop-j.j a.rows a.count c.loop-j-test.true (omega arith))
 
 pub overflow_add-start : goal.overflow_add-start
 overflow_add-start c = grind (arith, common_steps)
 
 pub lay_samples-next-requires-clause-room : goal.lay_samples-next-requires-clause-room
-lay_samples-next-requires-clause-room c = grind (arith, common_steps)
+lay_samples-next-requires-clause-room c =
+    let a = c.args in
+    omega (arith, c.loop-j.invariant.place, c.loop-j.invariant.lays.room, c.requires.room, in_runs (a.count * a.w) c.loop-j.j a.rows (a.count * a.w) c.loop-j-test.true (omega arith))

@@ -1,6 +1,4 @@
-use Rattle.std.proofs.Common.{arith}
-use Rattle.std.proofs.lemmas.Grind.{common_steps}
-use Rattle.std.proofs.Common.{◌≡◌, ◌++◌, ◌≤◌, length, sym, subst}
+use Rattle.std.proofs.Common.{◌≡◌, ◌++◌, ◌≤◌, length, sym, subst, arith}
 use Rattle.std.proofs.lemmas.List.{append-nil}
 use Rattle.y4m_clip.specs.Spaces.{cell_bytes, joined_to}
 use Rattle.y4m_clip.specs.Planes.{HasRow}
@@ -26,4 +24,6 @@ pub loop-x-preserved : goal.loop-x-preserved
 loop-x-preserved c = joined_step c.args.cells.now.items c.loop-x.cells.items c.add_cell.new.cells.items c.loop-x.x (cell_bytes c.args.space c.args.upper.now c.args.lower.now c.args.blue.now c.args.red.now) c.loop-x.invariant c.in_ok-add_cell-in_default.ensures
 
 pub returns-after-loop-x : goal.returns-after-loop-x
-returns-after-loop-x c = grind (arith, common_steps)
+returns-after-loop-x c =
+    let all : c.loop-x.x ≡ c.args.w = omega (arith, c.loop-x-test.false, c.loop-x.auto.x-end) in
+    subst (λ n. c.loop-x.cells.items ≡ c.args.cells.now.items ++ joined_to n (cell_bytes c.args.space c.args.upper.now c.args.lower.now c.args.blue.now c.args.red.now)) all c.loop-x.invariant

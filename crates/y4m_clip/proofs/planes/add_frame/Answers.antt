@@ -15,6 +15,9 @@ loop-y-init c = sym (append-nil c.args.cells.now.items)
 pub overflow_mul-n : goal.overflow_mul-n
 overflow_mul-n c = omega (arith, c.requires.few)
 
+pub overflow_mul-w : goal.overflow_mul-w
+overflow_mul-w c = omega (arith, c.requires.few, in_runs c.args.w c.loop-y.y c.args.h c.args.w c.loop-y-test.true (omega arith))
+
 pub add_row-requires-clause-planes : goal.add_row-requires-clause-planes
 add_row-requires-clause-planes c = c.requires.planes
 

@@ -2,6 +2,7 @@ use Rattle.std.proofs.lemmas.Grind.{common_steps}
 use Rattle.std.proofs.Common.{ap, ◌∙◌, arith}
 use Rattle.std.proofs.lemmas.List.{take_at}
 use Rattle.std.specs.Prelude.{codes}
+use Rattle.shelf_core.proofs.FileLaws.{only_writes_then}
 use Rattle.y4m_clip.specs.Writing.{Writer, planes_of}
 use Rattle.y4m_clip.proofs.Writes.{both_added, second_in_part, first_in_part, on_err}
 use Rattle.y4m_clip.proofs.write.ClipWriter.frame.Goals as goal
@@ -32,10 +33,12 @@ pub invariant_of-self-2 : goal.invariant_of-self-2
 invariant_of-self-2 g c = grind (arith, common_steps)
 
 pub returns-clause-writes : goal.returns-clause-writes
-returns-clause-writes g c = grind (arith, common_steps)
+returns-clause-writes g c =
+    only_writes_then (g.S.Shelf.state c.args.shelf.now) (g.S.Shelf.state c.add.new.self) (g.S.Shelf.state c.add-2.new.self) c.in_ok-add.ensures.writes c.in_ok-add-2.ensures.writes
 
 pub returns-in_err-add-2-clause-writes : goal.returns-in_err-add-2-clause-writes
-returns-in_err-add-2-clause-writes g c = grind (arith, common_steps)
+returns-in_err-add-2-clause-writes g c =
+    only_writes_then (g.S.Shelf.state c.args.shelf.now) (g.S.Shelf.state c.add.new.self) (g.S.Shelf.state c.add-2.new.self) c.in_ok-add.ensures.writes c.in_err-add-2.ensures.writes
 
 pub returns-in_err-add-2-clause-failed : goal.returns-in_err-add-2-clause-failed
 returns-in_err-add-2-clause-failed g c = grind (arith, common_steps)

@@ -1,15 +1,14 @@
 -- A run of new cells is put in as if cell by cell.
-use Rattle.std.proofs.Common.{◌≡◌, ℕ, zero, suc, ◌+◌, ◌%◌, ◌<◌, ◌≤◌, List, [], length, take, drop, get_or, refl, ap, sym, ◌∙◌, subst, arith, Bool, true, false}
+use Rattle.std.proofs.Common.{◌≡◌, ℕ, zero, suc, ◌+◌, ◌%◌, ◌<◌, ◌≤◌, List, [], length, take, drop, get_or, ap, sym, ◌∙◌, subst, arith, Bool}
 use Rattle.std.proofs.Math.Seq.{paste}
 use Rattle.std.proofs.lemmas.List.{get_or-drop, get_or-take, length-drop, length-take-le}
 use Rattle.std.proofs.lemmas.List.Edits.{paste_more, paste_none}
-use Rattle.std.specs.Prelude.{Option, Some, None, IsSome, slice_set, unwrap_or}
+use Rattle.std.specs.Prelude.{Option, Some, None, unwrap_or}
 use Rattle.cells.specs.declared.place.At.{At}
-use Rattle.cells.specs.declared.place.Size.{Size}
-use Rattle.cells.specs.Places.{IsInside, cell_count, index_in, place_of, plus, spot}
+use Rattle.cells.specs.Places.{IsInside, cell_count, index_in}
 use Rattle.cells.specs.Parts.{count_from, index_from}
-use Rattle.cells.specs.Cells.{Cells, HasCell, HasRun, IsVolume, cells_of, index_of, put_row, put_run, row_at, set_nth}
-use Rattle.cells.proofs.Raster.{has_index, index_below, place_at}
+use Rattle.cells.specs.Cells.{Cells, HasRun, IsVolume, cells_of, index_of, put_row, put_run, row_at, set_nth}
+use Rattle.cells.proofs.Raster.{index_below, place_at}
 use Rattle.cells.proofs.PartBoxes.{run_cells, run_index, run_of_volume}
 use Rattle.cells.proofs.CellLaws.{cell_by_index}
 use Rattle.cells.proofs.Rows.{paste-whole}

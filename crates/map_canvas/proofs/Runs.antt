@@ -1,30 +1,25 @@
 -- What a run of new cells does: to the map, to its marks, and to a canvas, cell by cell.
-use Rattle.std.proofs.Common.{◌≡◌, ℕ, zero, suc, ◌+◌, ◌*◌, ◌/◌, ◌%◌, ◌<◌, ◌≤◌, List, [], length, take, drop, get_or, map, replicate, refl, ap, sym, ◌∙◌, subst, arith, ◌++◌, Bool, true, false}
-use Rattle.std.proofs.Math.Seq.{paste}
+use Rattle.std.proofs.Common.{◌≡◌, ℕ, ◌+◌, ◌%◌, ◌<◌, ◌≤◌, List, [], length, take, drop, get_or, map, replicate, refl, ap, sym, ◌∙◌, subst, arith, ◌++◌}
 use Rattle.std.proofs.lemmas.Int.{ints}
-use Rattle.std.proofs.lemmas.List.{get_or-drop, get_or-replicate, get_or-take, length-drop, length-map, length-replicate, length-take-le, take-map, drop-map, map-append}
-use Rattle.std.proofs.lemmas.List.Edits.{paste_more, paste_none}
+use Rattle.std.proofs.lemmas.List.{get_or-replicate, length-drop, length-map, length-replicate, length-take-le, take-map, drop-map, map-append}
 use Rattle.std.proofs.lemmas.List.Elements.{All-drop, All-from_get_or, All-take}
 use Rattle.std.proofs.lemmas.List.FromFn.{fill_by_all, get_or-map-range_with_len, length-map-range_with_len}
 use Rattle.std.proofs.lemmas.Simd.{map-map}
-use Rattle.std.specs.Prelude.{ℤ, pos, ◌+ℤ◌, ◌≤ℤ◌, All, Option, Some, None, IsSome, IfSome, option_and_then, slice_get, slice_set, unwrap_or}
+use Rattle.std.specs.Prelude.{pos, ◌+ℤ◌, ◌≤ℤ◌, Option, Some, None, IsSome, IfSome}
 use Rattle.std.specs.List.{concat, range_with_len}
 use Rattle.cells.specs.declared.place.At.{At}
 use Rattle.cells.specs.declared.place.Size.{Size}
 use Rattle.cells.specs.Places.{IsInside, cell_count, index_in, place_of, plus, spot}
 use Rattle.cells.specs.Cells.{Cells, HasRun, IsCell, IsInsideOf, IsVolume, cells_of, index_of, put_row, put_run, row_at, run_from}
-use Rattle.cells.proofs.Raster.{has_index, index_below, place_at, run_below}
-use Rattle.cells.proofs.PartBoxes.{run_cells, run_index, run_of_volume}
-use Rattle.cells.proofs.CellLaws.{cell_by_index}
-use Rattle.cells.proofs.Rows.{All-put_run, cells_of-concat, length-put_run, paste-whole}
+use Rattle.cells.proofs.Raster.{place_at}
+use Rattle.cells.proofs.Rows.{All-put_run, cells_of-concat, length-put_run}
 use Rattle.cells.proofs.Steps.{place_along, plus_assoc, row_end}
 use Rattle.map_canvas.specs.declared.canvas.Placement.{Placement}
-use Rattle.map_canvas.specs.Maps.{IsMap, IsSource, SourceMap, sample_cell}
-use Rattle.map_canvas.specs.Runs.{AreNew, source_run, with_run}
-use Rattle.map_canvas.specs.Canvases.{CanvasState, IsCanvas, StandsOver, filled_marks, mark_of}
-use Rattle.map_canvas.specs.Choices.{Fits, IsAfter, box_cell, box_count, box_source}
-use Rattle.map_canvas.proofs.ChoiceLaws.{after_new}
-use Rattle.map_canvas.proofs.Filling.{cell_is_source, filled, filled_is, filled_stands, fits_cell, fits_source, step_inside}
+use Rattle.map_canvas.specs.Maps.{IsMap, IsSource, SourceMap}
+use Rattle.map_canvas.specs.Runs.{source_run, with_run}
+use Rattle.map_canvas.specs.Canvases.{filled_marks, mark_of}
+use Rattle.map_canvas.specs.Choices.{Fits, box_cell, box_count, box_source}
+use Rattle.map_canvas.proofs.Filling.{cell_is_source, fits_source, step_inside}
 
 pub length-source_run : (from : At) (w : ℕ) → length (source_run from w) ≡ w
 length-source_run from w = length-map-range_with_len (λ j. Some (plus from (spot j 0 0))) 0 w

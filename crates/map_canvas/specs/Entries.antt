@@ -1,5 +1,5 @@
 -- The numbers that entries of maps are kept as, which no public contract names. (Own.)
-use Rattle.std.specs.Prelude.{◌≡◌, ◌+◌, ◌*◌, ◌/◌, ◌%◌, ℕ, zero, nat_abs, nat_eq, Option, Some, None, if◌then◌else◌}
+use Rattle.std.specs.Prelude.{◌≡◌, ◌+◌, ◌*◌, ◌/◌, ◌%◌, ℕ, nat_abs, nat_eq, Option, Some, None, if◌then◌else◌}
 use Rattle.cells.specs.declared.place.At.{At}
 use Rattle.cells.specs.Places.{spot}
 

@@ -1,10 +1,10 @@
-use Rattle.std.proofs.Common.{◌≡◌, ◌<◌, ◌+◌, ◌∙◌, ap, sym, subst, arith, take}
+use Rattle.std.proofs.Common.{◌≡◌, ◌<◌, ◌+◌, sym, subst, arith}
 use Rattle.std.proofs.lemmas.List.{take_all}
 use Rattle.std.specs.Prelude.{Some, unwrap_or}
-use Rattle.cells.specs.Places.{cell_count, index_in, place_of}
-use Rattle.cells.specs.Cells.{Cells, index_of}
+use Rattle.cells.specs.Places.{index_in}
+use Rattle.cells.specs.Cells.{index_of}
 use Rattle.cells.proofs.Raster.{has_index, place_at}
-use Rattle.map_canvas.specs.Canvases.{CanvasState, filled_marks}
+use Rattle.map_canvas.specs.Canvases.{CanvasState}
 use Rattle.map_canvas.specs.Choices.{Fits, IsAfter, box_cell, box_count, box_source}
 use Rattle.map_canvas.proofs.ChoiceLaws.{after_none, after_old}
 use Rattle.map_canvas.proofs.Filling.{fits_cell}

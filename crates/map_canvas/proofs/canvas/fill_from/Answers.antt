@@ -1,17 +1,16 @@
 use Rattle.std.proofs.lemmas.Grind.{common_steps}
-use Rattle.std.proofs.Common.{◌≡◌, ◌≤◌, ◌<◌, ◌+◌, ◌-◌, ◌%◌, ℕ, ap, sym, ◌∙◌, subst, arith, length}
+use Rattle.std.proofs.Common.{◌≡◌, ◌≤◌, ◌+◌, ◌-◌, ◌%◌, ap, sym, ◌∙◌, subst, arith}
 use Rattle.std.proofs.lemmas.Int.{ints}
-use Rattle.std.specs.Prelude.{ℤ, pos, ◌+ℤ◌, ◌≤ℤ◌}
-use Rattle.std.specs.Int.{w32}
+use Rattle.std.specs.Prelude.{pos, ◌+ℤ◌, ◌≤ℤ◌}
 use Rattle.cells.specs.declared.place.At.{At}
-use Rattle.cells.specs.Places.{IsInside, SumFits, cell_count, place_of, plus, spot}
+use Rattle.cells.specs.Places.{IsInside, SumFits, cell_count, plus, spot}
 use Rattle.cells.specs.Cells.{HasRun}
 use Rattle.cells.proofs.Steps.{row_end}
 use Rattle.map_canvas.specs.Maps.{IsSource}
 use Rattle.map_canvas.specs.Runs.{put_copies, with_run}
 use Rattle.map_canvas.specs.Choices.{box_cell, box_source}
 use Rattle.map_canvas.proofs.Filling.{fits_small, fits_cell, fits_cell_sum, fits_source_sum}
-use Rattle.map_canvas.proofs.Runs.{run_below_count, run_in_sample, run_is_source, run_room}
+use Rattle.map_canvas.proofs.Runs.{run_in_sample, run_is_source, run_room}
 use Rattle.map_canvas.proofs.canvas.fill_from.Goals as goal
 
 pub place_at-step-requires-clause-small : goal.place_at-step-requires-clause-small
@@ -106,3 +105,6 @@ returns-clause-row c = grind (arith, common_steps)
 
 pub new_cells-n-requires-clause-some : goal.new_cells-n-requires-clause-some
 new_cells-n-requires-clause-some c = grind (arith, common_steps)
+
+pub overflow_sub-placement : goal.overflow_sub-placement
+overflow_sub-placement c = grind (arith, common_steps)

@@ -28,3 +28,9 @@ returns c =
 
 pub new-requires : goal.new-requires
 new-requires c = grind (arith, common_steps)
+
+pub plus-requires : goal.plus-requires
+plus-requires c = grind (arith, common_steps)
+
+pub loop-j-init : goal.loop-j-init
+loop-j-init c = grind (arith, common_steps)

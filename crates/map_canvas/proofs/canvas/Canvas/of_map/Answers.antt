@@ -61,3 +61,12 @@ from_bytes-requires-clause-small c = grind (arith, common_steps)
 
 pub from_bytes-requires-2-clause-small : goal.from_bytes-requires-2-clause-small
 from_bytes-requires-2-clause-small c = grind (arith, common_steps)
+
+pub overflow_mul-n : goal.overflow_mul-n
+overflow_mul-n c = grind (arith, common_steps)
+
+pub cells-requires : goal.cells-requires
+cells-requires c = grind (arith, common_steps)
+
+pub same-map : goal.same-map
+same-map c = grind (arith, common_steps)

@@ -1,3 +1,5 @@
+use Rattle.std.proofs.Common.{arith}
+use Rattle.std.proofs.lemmas.Grind.{common_steps}
 use Rattle.std.proofs.Common.{subst, sym, ap, ◌∙◌, ◌≤◌}
 use Rattle.std.specs.Prelude.{is_none}
 use Rattle.std.specs.List.{position_or_len}
@@ -16,3 +18,6 @@ pub returns-clause-map : goal.returns-clause-map
 returns-clause-map c =
     after_one c.self.inside.map c.fill_choice.new.map c.args.placement.now c.args.choice.now c.self.invariant.0.map c.fill_choice.ensures.canvas.map c.fill_choice.ensures.after
     ∙ ap (λ (s : CanvasState). map_after s.map c.args.placement.now c.args.choice.now) c.self.view_is
+
+pub fill_choice-requires-clause-fits : goal.fill_choice-requires-clause-fits
+fill_choice-requires-clause-fits c = grind (arith, common_steps)

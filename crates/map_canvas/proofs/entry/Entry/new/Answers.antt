@@ -19,3 +19,15 @@ overflow_cast-code-in-Some c = grind (arith, common_steps)
 
 pub overflow_cast-code : goal.overflow_cast-code
 overflow_cast-code c = grind (arith, common_steps)
+
+pub overflow_mul-code-in-Some : goal.overflow_mul-code-in-Some
+overflow_mul-code-in-Some c = grind (arith, common_steps)
+
+pub overflow_add-code-in-Some : goal.overflow_add-code-in-Some
+overflow_add-code-in-Some c = grind (arith, common_steps)
+
+pub overflow_mul-code : goal.overflow_mul-code
+overflow_mul-code c = grind (arith, common_steps)
+
+pub overflow_add-code : goal.overflow_add-code
+overflow_add-code c = grind (arith, common_steps)

@@ -3,7 +3,7 @@ use Rattle.std.specs.Vec.{with_items}
 use Rattle.std.specs.Prelude.{List, Option, Some, pos, ◌+ℤ◌, ◌≤ℤ◌}
 use Rattle.std.proofs.lemmas.List.{with_items_is}
 use Rattle.cells.specs.declared.place.At.{At}
-use Rattle.cells.specs.Places.{IsInside, cell_count, index_in}
+use Rattle.cells.specs.Places.{cell_count, index_in}
 use Rattle.cells.specs.Cells.{put_run}
 use Rattle.cells.proofs.Raster.{run_below}
 use Rattle.map_canvas.specs.Maps.{IsMap, SourceMap}

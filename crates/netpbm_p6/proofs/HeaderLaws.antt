@@ -115,7 +115,25 @@ header_more name at room scan next scanned a b c is first second reached scans =
     (λ files came goes. let on = subst (ScansOn (drop at (content_of files name)) scan room) is goes in reached_more (content_of files name) at room scan next came on.0 on.1)
     first second reached scans
 
--- what follows the first 65,536 bytes of a header
+-- what follows the first 65,536 bytes of a header, by what the scanner makes of the next one
+refuses_open : (bytes : List ℕ) (scan next : Scan) → IsOpenScan scan → ScansOn (drop MOST_HEADER_BYTES bytes) scan 1 (Open next) → Reached bytes MOST_HEADER_BYTES scan → Refuses bytes (past_of (Open next))
+refuses_open bytes scan next is_open on came = (too_long bytes scan next is_open came on.0 on.1, refl, refl)
+
+refuses_broken : (bytes : List ℕ) (scan : Scan) (i : ℕ) → i < 1 → ScansOn (drop MOST_HEADER_BYTES bytes) scan 1 (Broken i) → Reached bytes MOST_HEADER_BYTES scan → Refuses bytes (past_of (Broken i))
+refuses_broken bytes scan i below off came =
+    inl (breaks_at bytes MOST_HEADER_BYTES 0 scan (omega arith) came (subst (BreaksOff (drop MOST_HEADER_BYTES bytes) scan) (none i below) off))
+  where
+    none : (k : ℕ) → k < 1 → k ≡ 0
+    none k lt = omega arith
+
+refuses_ended : (bytes : List ℕ) (scan : Scan) (header : Header) → header.length ≡ 1 → IsOpenScan scan → ScansOn (drop MOST_HEADER_BYTES bytes) scan 1 (Ended header) → Reached bytes MOST_HEADER_BYTES scan → Refuses bytes (past_of (Ended header))
+refuses_ended bytes scan header one is_open ends came = (
+  too_long bytes scan (Whole header.width header.height header.maxval) is_open came (subst (λ n. n ≤ length (drop MOST_HEADER_BYTES bytes)) one ends.inside)
+      (subst (λ n. run_of capped scan (take n (drop MOST_HEADER_BYTES bytes)) ≡ Some (Whole header.width header.height header.maxval)) one ends.run),
+  refl,
+  refl,
+)
+
 pub passes : (name : List ℕ) (scan : Scan) (scanned : Scanned) (r : ReadError) (a b : ShelfState) → IsOpenScan scan → IsSoundScanned 1 scanned → r ≡ past_of scanned
     → Sees a b (λ files. ScansOn (drop MOST_HEADER_BYTES (content_of files name)) scan 1 scanned) → PassesAs name scan a b r
 passes name scan scanned r a b is_open sound is scans = subst (PassesAs name scan a b) (sym is) (by_scanned scanned sound scans)
@@ -123,23 +141,17 @@ passes name scan scanned r a b is_open sound is scans = subst (PassesAs name sca
     by_scanned : (s : Scanned) → IsSoundScanned 1 s → Sees a b (λ files. ScansOn (drop MOST_HEADER_BYTES (content_of files name)) scan 1 s) → PassesAs name scan a b (past_of s)
     by_scanned (Open next) sound' scans' =
         sees_weaker (λ files. ScansOn (drop MOST_HEADER_BYTES (content_of files name)) scan 1 (Open next)) (λ files. Reached (content_of files name) MOST_HEADER_BYTES scan → Refuses (content_of files name) (past_of (Open next))) a b
-        (λ files on came. (too_long (content_of files name) scan next is_open came on.0 on.1, refl, refl)) scans'
+        (λ files on came. refuses_open (content_of files name) scan next is_open on came) scans'
     by_scanned (Broken i) sound' scans' =
         sees_weaker (λ files. ScansOn (drop MOST_HEADER_BYTES (content_of files name)) scan 1 (Broken i)) (λ files. Reached (content_of files name) MOST_HEADER_BYTES scan → Refuses (content_of files name) (past_of (Broken i))) a b
-        (λ files off came.
-        let none : i ≡ 0 = omega arith in
-        inl (breaks_at (content_of files name) MOST_HEADER_BYTES 0 scan (omega arith) came (subst (BreaksOff (drop MOST_HEADER_BYTES (content_of files name)) scan) none off)))
-        scans'
+        (λ files off came. refuses_broken (content_of files name) scan i sound' off came) scans'
     by_scanned (Ended header) sound' scans' =
-        let one : header.length ≡ 1 = omega (arith, sound'.some, sound'.fits) in
+        let one : header.length ≡ 1 = only_one header.length sound'.some sound'.fits in
         sees_weaker (λ files. ScansOn (drop MOST_HEADER_BYTES (content_of files name)) scan 1 (Ended header)) (λ files. Reached (content_of files name) MOST_HEADER_BYTES scan → Refuses (content_of files name) (past_of (Ended header))) a b
-        (λ files ends came. (
-          too_long (content_of files name) scan (Whole header.width header.height header.maxval) is_open came (omega (arith, one, ends.inside))
-              (subst (λ n. run_of capped scan (take n (drop MOST_HEADER_BYTES (content_of files name))) ≡ Some (Whole header.width header.height header.maxval)) one ends.run),
-          refl,
-          refl,
-        ))
-        scans'
+        (λ files ends came. refuses_ended (content_of files name) scan header one is_open ends came) scans'
+      where
+        only_one : (n : ℕ) → 1 ≤ n → n ≤ 1 → n ≡ 1
+        only_one n some fits = omega arith
 
 pub passed : {names : List (List ℕ)} (name : List ℕ) (scan : Scan) (r : ReadError) (a b c : ShelfState) → OnlyReads names a b → OnlyReads names b c → Sees a b (λ files. Reached (content_of files name) MOST_HEADER_BYTES scan) → PassesAs name scan b c r → ReadsAs name a c (Err r)
 passed name scan ReadFault a b c first second reached passes' = fault_later name a b c first passes'

@@ -13,7 +13,7 @@ use cells::{At, Axis, Box3, Size};
 use limits::GREATEST_AXIS;
 
 /// A cell of a box, by how far it is from the box's corner on each axis.
-#[derive(Clone, Copy, Debug, Drop, PartialEq, Eq)]
+#[derive(Clone, Copy, Drop)]
 pub struct Counts {
     /// The column, from the box's left.
     pub x: u32,

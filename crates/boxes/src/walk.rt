@@ -9,7 +9,7 @@ use cells::{Axis, Size};
 
 /// A cell of a box to which a walk in raster order has come, and how many pairs the cells before it are the
 /// first of.
-#[derive(Clone, Copy, Debug, Drop, PartialEq, Eq)]
+#[derive(Clone, Copy, Drop)]
 pub struct Walk {
     /// The cell.
     pub at: Counts,
@@ -19,7 +19,6 @@ pub struct Walk {
 
 impl Walk {
     /// At the next cell in raster order; after the last one, past the box.
-    #[tactic(auto, using(crate::proofs::PairNumbers::pairs_small))]
     pub fn next(self, size: Size) -> Walk
         requires small { IsSmall size }
         requires inside { IsWalkIn size self }
@@ -32,7 +31,6 @@ impl Walk {
     }
 
     /// The number of the pair of the cell and the next one along an axis.
-    #[tactic(auto, using(crate::proofs::PairNumbers::pairs_small))]
     pub fn pair_number(self, size: Size, axis: Axis) -> u64
         requires small { IsSmall size }
         requires inside { IsWalkIn size self }

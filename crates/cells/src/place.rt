@@ -6,7 +6,7 @@ ghost use Rattle.cells.specs.Neighbours.{unit_step};
 ghost use Rattle.cells.specs.Boxes.{AxisHolds, HasCells, HoldsBox, IsInBox};
 
 /// A place in a volume: column, row and frame, each counted from 0. Places outside are allowed.
-#[derive(Clone, Copy, Debug, Drop, PartialEq, Eq)]
+#[derive(Clone, Copy, Drop, PartialEq, Eq)]
 pub struct At {
     /// The column, from the left.
     pub x: i32,
@@ -59,7 +59,7 @@ impl At {
 }
 
 /// The size of a volume or a box, in cells on each axis. A picture has one frame.
-#[derive(Clone, Copy, Debug, Drop, PartialEq, Eq)]
+#[derive(Clone, Copy, Drop, PartialEq, Eq)]
 pub struct Size {
     /// The width: how many columns.
     pub w: u32,
@@ -110,7 +110,7 @@ impl Size {
 }
 
 /// The axes of a volume: columns, rows, frames.
-#[derive(Clone, Copy, Debug, Drop, PartialEq, Eq)]
+#[derive(Clone, Copy, Drop, PartialEq, Eq)]
 pub enum Axis {
     /// From column to column.
     X,
@@ -134,7 +134,7 @@ impl Axis {
 }
 
 /// The cells from a corner on, as far as a size goes.
-#[derive(Clone, Copy, Debug, Drop, PartialEq, Eq)]
+#[derive(Clone, Copy, Drop, PartialEq, Eq)]
 pub struct Box3 {
     /// The first cell in raster order: the least column, row and frame.
     pub corner: At,
@@ -193,7 +193,7 @@ impl Box3 {
 
 /// The filter of frame distances, which compares the frames around two frames too (the binomial
 /// filters of Schödl et al. 2000).
-#[derive(Clone, Copy, Debug, Drop, PartialEq, Eq)]
+#[derive(Clone, Copy, Drop, PartialEq, Eq)]
 pub enum Taps {
     /// No filter.
     None0,

@@ -12,7 +12,7 @@ use limits::{GREATEST_AXIS, MOST_PARTS};
 use std::marker::Model;
 
 /// A place of one part of a volume.
-#[derive(Clone, Copy, Debug, Drop, PartialEq, Eq)]
+#[derive(Clone, Copy, Drop, PartialEq, Eq)]
 pub struct PartPlace {
     /// The number of the part, from 1.
     pub part: u32,

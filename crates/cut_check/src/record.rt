@@ -13,7 +13,7 @@ pub struct Flow {
 
 /// A placement, a choice between old and new for each cell of its box, and a flow that shows that the
 /// choice costs the least.
-#[derive(Debug, Drop)]
+#[derive(Drop)]
 pub struct CutRecord {
     /// The box, and where its new sources begin.
     pub placement: Placement,

@@ -14,7 +14,7 @@ pub(crate) const NO_SEAM: u32 = 0;
 pub(crate) const NO_PIPE: u32 = 0;
 
 /// For each cell and each pair of a placement's box, its nodes and pipes in the network.
-#[derive(Debug, Drop)]
+#[derive(Drop)]
 pub struct Places {
     /// The node of each cell, in raster order: 0, the source, for one that has to stay old, 1, the sink,
     /// for an unfilled one, and a node of its own for any other.

@@ -6,7 +6,7 @@
 use std::marker::Model;
 
 /// A list that is made once and then read.
-#[derive(Debug, Drop)]
+#[derive(Drop)]
 pub struct Items<T> {
     items: Vec<T>,
 }

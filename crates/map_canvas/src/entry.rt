@@ -9,7 +9,7 @@ use std::marker::Model;
 const SPAN: u64 = 1_048_576;
 
 /// What a map has for one cell: its source, or nothing. It takes 8 bytes.
-#[derive(Clone, Copy, Debug, Drop, PartialEq, Eq)]
+#[derive(Clone, Copy, Drop, PartialEq, Eq)]
 pub struct Entry {
     // 0 without a source, else the 20 bits of x, y and f, from the lowest on, and a 1 above them
     code: u64,

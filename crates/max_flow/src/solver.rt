@@ -32,7 +32,7 @@ const PHASES: u32 = 6;
 const WIDTH: u64 = 4;
 
 /// A flow of greatest value, and the least cut with the fewest nodes on the source's side.
-#[derive(Debug, Drop)]
+#[derive(Drop)]
 pub struct Solved {
     /// The flow of each pipe, from its `from` to its `to`.
     pub flow: Items<i32>,

@@ -7,7 +7,7 @@ use map_canvas::Canvas;
 use std::alloc::AllocError;
 
 /// A quilt that is asked for.
-#[derive(Clone, Copy, Debug, Drop, PartialEq, Eq)]
+#[derive(Clone, Copy, Drop, PartialEq, Eq)]
 pub struct QuiltRun {
     /// The size of the output, in cells, of one frame.
     pub size: Size,

@@ -3,7 +3,7 @@ ghost use Rattle.std.specs.Prelude.{◌≡◌, ◌≤◌, ◌++◌, length, IfOk
 ghost use Rattle.shelf_core.specs.Files.{ShelfState, SinkState, Told, Changes, Rose, ReadsRose, WritesRose, Reads, AsksFor, OnlyReadsFile, OnlyWritesFile, content_of, IsPrefixAdded, Begins, BeginsPart, Appends, AppendsPart};
 
 /// A call to the outside that failed. The count of faults of its kind tells that it did.
-#[derive(Clone, Copy, Debug, Drop, PartialEq, Eq)]
+#[derive(Clone, Copy, Drop)]
 pub struct Failed;
 
 /// Something that bytes are written to, one piece after another.

@@ -14,7 +14,7 @@ use cells::{At, PartPlace, Size, Sizes};
 pub const MOST_TURNED: u32 = 2;
 
 /// A cell of a sample, and a turn of that sample.
-#[derive(Clone, Copy, Debug, Drop, PartialEq, Eq)]
+#[derive(Clone, Copy, Drop, PartialEq, Eq)]
 pub struct Turned {
     /// The number of the sample, from 1.
     pub sample: u32,

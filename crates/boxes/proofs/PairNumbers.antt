@@ -136,6 +136,9 @@ find_pair size (suc i) n some le lt = ⊎_elim (λ under. find_pair size i n som
 pub pairs_small : (size : Size) (x y f : ℕ) → IsSmall size → AreCounts size x y f → pairs_before size (raster_index size x y f) ≤ most_pairs
 pairs_small size x y f small are = omega (arith, pairs_few size (raster_index size x y f), index_below size x y f are, small.cells)
 
+pub walk_small : (size : Size) (walk : Walk) → IsSmall size → IsWalkIn size walk → walk.before ≤ most_pairs
+walk_small size walk small is = omega (arith, is.before, pairs_small size walk.at.x walk.at.y walk.at.f small is.counts)
+
 -- a walk that hasn't come to the end is at a cell
 pub walk_in : (size : Size) (i : ℕ) (walk : Walk) → IsWalkAt size i walk → i < cell_count size → IsWalkIn size walk
 walk_in size i walk is lt = record {

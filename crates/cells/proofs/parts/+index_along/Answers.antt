@@ -37,3 +37,6 @@ index_along-requires t c = grind (arith, common_steps)
 
 pub returns-in_err-i-clause-below : goal.returns-in_err-i-clause-below
 returns-in_err-i-clause-below t c = grind (arith, common_steps)
+
+pub returns-in_err-next-clause-below : goal.returns-in_err-next-clause-below
+returns-in_err-next-clause-below t c = grind (arith, common_steps)

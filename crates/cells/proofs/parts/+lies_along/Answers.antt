@@ -23,3 +23,6 @@ returns-in-None t c = grind (arith, common_steps)
 
 pub lies_along-requires : goal.lies_along-requires
 lies_along-requires t c = grind (arith, common_steps)
+
+pub past-requires-clause-from : goal.past-requires-clause-from
+past-requires-clause-from t c = grind (arith, common_steps)

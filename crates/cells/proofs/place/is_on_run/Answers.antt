@@ -4,3 +4,6 @@ use Rattle.cells.proofs.place.is_on_run.Goals as goal
 
 pub returns-then-step-ge0 : goal.returns-then-step-ge0
 returns-then-step-ge0 c = grind (arith, common_steps)
+
+pub returns-else-step-ge0 : goal.returns-else-step-ge0
+returns-else-step-ge0 c = grind (arith, common_steps)

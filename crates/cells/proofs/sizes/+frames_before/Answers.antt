@@ -7,3 +7,6 @@ returns-clause-frames t c = grind (arith, common_steps)
 
 pub frames_before-requires : goal.frames_before-requires
 frames_before-requires t c = grind (arith, common_steps)
+
+pub overflow_add-result-2 : goal.overflow_add-result-2
+overflow_add-result-2 t c = grind (arith, common_steps)

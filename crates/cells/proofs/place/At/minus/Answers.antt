@@ -1,4 +1,6 @@
-use Rattle.std.proofs.Common.{arith}
+use Rattle.std.proofs.Common.{◌≡◌, to_z, of_z, w32, arith}
+use Rattle.std.proofs.lemmas.Int.{to_z-of_z}
+use Rattle.std.specs.Prelude.{◌-ℤ◌}
 use Rattle.std.proofs.lemmas.Grind.{common_steps}
 use Rattle.cells.proofs.place.At.minus.Goals as goal
 
@@ -7,3 +9,15 @@ difference_of-requires-3 c = grind (arith, common_steps)
 
 pub difference_of-requires-2 : goal.difference_of-requires-2
 difference_of-requires-2 c = grind (arith, common_steps)
+
+pub returns : goal.returns
+returns c =
+    let a = c.args.self in
+    let b = c.args.by in
+    let x : to_z w32 (of_z w32 c.difference_of.result) ≡ a.x -ℤ b.x = grind (arith, to_z-of_z, c.difference_of.ensures) in
+    let y : to_z w32 (of_z w32 c.difference_of-2.result) ≡ a.y -ℤ b.y = grind (arith, to_z-of_z, c.difference_of-2.ensures) in
+    let f : to_z w32 (of_z w32 c.difference_of-3.result) ≡ a.f -ℤ b.f = grind (arith, to_z-of_z, c.difference_of-3.ensures) in
+    (λ i. record { x = x i; y = y i; f = f i })
+
+pub difference_of-requires : goal.difference_of-requires
+difference_of-requires c = grind (arith, common_steps)

@@ -1,3 +1,5 @@
+use Rattle.std.proofs.Common.{arith}
+use Rattle.std.proofs.lemmas.Grind.{common_steps}
 use Rattle.std.proofs.Common.{ap, ◌∙◌}
 use Rattle.std.specs.Prelude.{List}
 use Rattle.cells.specs.declared.place.Size.{Size}
@@ -13,3 +15,6 @@ pub returns-clause-bytes : goal.returns-clause-bytes
 returns-clause-bytes c =
     ap (λ (more : List Size). bytes_of (volume_over c.args.size more c.args.k c.args.bytes.items)) c.none-more.ensures
     ∙ concat-cells_of_all c.args.k (cell_count c.args.size) c.args.bytes.items c.requires.whole
+
+pub invariant_of-result : goal.invariant_of-result
+invariant_of-result c = grind (arith, common_steps)

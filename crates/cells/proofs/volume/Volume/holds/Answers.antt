@@ -24,3 +24,6 @@ returns-else-not-has_cells c =
 
 pub returns-then-not-has_cells : goal.returns-then-not-has_cells
 returns-then-not-has_cells c = grind (arith, common_steps)
+
+pub lies_along-requires : goal.lies_along-requires
+lies_along-requires c = grind (arith, common_steps)

@@ -4,3 +4,6 @@ use Rattle.shelf_core.proofs.pieces.copy_out.Goals as goal
 
 pub returns-clause-read : goal.returns-clause-read
 returns-clause-read c = grind (arith, common_steps)
+
+pub copy_from_slice-requires : goal.copy_from_slice-requires
+copy_from_slice-requires c = grind (arith, common_steps)

@@ -1,3 +1,4 @@
+use Rattle.std.proofs.lemmas.Grind.{common_steps}
 use Rattle.std.proofs.Common.{sym, ap, ◌∙◌, subst, arith, List, ℕ, le-leb}
 use Rattle.std.proofs.lemmas.Bool.{lt-leb}
 use Rattle.shelf_core.specs.Tapes.{TapeState}
@@ -27,3 +28,6 @@ pub returns-clause-stored : goal.returns-clause-stored
 returns-clause-stored c =
     ap (λ (t : TapeState). map_of t.files) c.append.ensures
     ∙ stored c.args.tape.now.files c.open.new.tape.files c.args.name.now c.args.piece.now c.args.keeps c.in-Some.i (c.in-Some.ensures {u = tt}).opened
+
+pub append-requires-clause-within : goal.append-requires-clause-within
+append-requires-clause-within c = grind (arith, common_steps)

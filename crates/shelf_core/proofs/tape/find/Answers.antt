@@ -30,3 +30,6 @@ loop-i-preserved c = grind (arith, common_steps)
 
 pub overflow_add-own : goal.overflow_add-own
 overflow_add-own c = grind (arith, common_steps)
+
+pub slice_bounds-own-end : goal.slice_bounds-own-end
+slice_bounds-own-end c = grind (arith, common_steps)

@@ -7,3 +7,9 @@ returns-clause-items c = grind (arith, common_steps)
 
 pub rotate_right-requires : goal.rotate_right-requires
 rotate_right-requires c = grind (arith, common_steps)
+
+pub slice_bounds-rotate_right-count : goal.slice_bounds-rotate_right-count
+slice_bounds-rotate_right-count c = grind (arith, common_steps)
+
+pub slice_bounds-rotate_right-start : goal.slice_bounds-rotate_right-start
+slice_bounds-rotate_right-start c = grind (arith, common_steps)

@@ -27,3 +27,6 @@ returns-in-Some-clause-stands c = grind (arith, common_steps)
 
 pub has_least_cost-requires-clause-sums : goal.has_least_cost-requires-clause-sums
 has_least_cost-requires-clause-sums c = grind (arith, common_steps)
+
+pub first_bad_sum-requires : goal.first_bad_sum-requires
+first_bad_sum-requires c = grind (arith, common_steps)

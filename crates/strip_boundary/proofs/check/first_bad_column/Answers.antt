@@ -7,3 +7,6 @@ returns-then-path-rows c = grind (arith, common_steps)
 
 pub returns : goal.returns
 returns c = grind (arith, common_steps)
+
+pub returns-then-not-column_holds : goal.returns-then-not-column_holds
+returns-then-not-column_holds c = grind (arith, common_steps)

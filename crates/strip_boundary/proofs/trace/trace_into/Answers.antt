@@ -27,3 +27,6 @@ loop-row-preserved c =
 
 pub row_of-requires-in-loop-row : goal.row_of-requires-in-loop-row
 row_of-requires-in-loop-row c = grind (arith, common_steps)
+
+pub first_least_near-requires : goal.first_least_near-requires
+first_least_near-requires c = grind (arith, common_steps)

@@ -22,3 +22,6 @@ returns-2-clause-err c = grind (arith, common_steps)
 
 pub returns-2-clause-asked : goal.returns-2-clause-asked
 returns-2-clause-asked c = grind (arith, common_steps)
+
+pub returns-clause-listed : goal.returns-clause-listed
+returns-clause-listed c = grind (arith, common_steps)

@@ -25,3 +25,6 @@ returns-2-clause-fails c = grind (arith, common_steps)
 
 pub returns-2-clause-asked : goal.returns-2-clause-asked
 returns-2-clause-asked c = grind (arith, common_steps)
+
+pub returns-2-clause-failed : goal.returns-2-clause-failed
+returns-2-clause-failed c = grind (arith, common_steps)

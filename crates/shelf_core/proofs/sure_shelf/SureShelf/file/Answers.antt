@@ -1,3 +1,5 @@
+use Rattle.std.proofs.Common.{arith}
+use Rattle.std.proofs.lemmas.Grind.{common_steps}
 use Rattle.std.proofs.Common.{◌≡◌, sym, ap, ◌∙◌, cond}
 use Rattle.std.specs.Prelude.{Some, None, position, option_copied, option_and_then}
 use Rattle.std.specs.FinMap.{get}
@@ -21,3 +23,6 @@ returns c =
     let told : c.args.self.now.files ≡ Some files = sym (ap (λ (s : SureShelfState). s.files) c.self.view_is) ∙ ap (λ b. cond b (Some files) None) c.if-not-self.false in
     let there = file_found c.args.name.now c.self.inside.tape.files c.in_ok-i.i (ap (λ name. position (has_name name) c.self.inside.tape.files) (sym c.as_bytes.ensures.value) ∙ sym (c.in_ok-i.ensures {u = tt})) in
     ap Some c.content.ensures ∙ sym (ap (option_and_then (λ (m : Files). get m c.args.name.now)) told ∙ there)
+
+pub content-requires : goal.content-requires
+content-requires c = grind (arith, common_steps)

@@ -1,0 +1,6 @@
+use Rattle.std.proofs.Common.{arith}
+use Rattle.std.proofs.lemmas.Grind.{common_steps}
+use Rattle.strip_boundary.proofs.check.column_holds.Goals as goal
+
+pub returns-else-row-eq0 : goal.returns-else-row-eq0
+returns-else-row-eq0 c = grind (arith, common_steps)

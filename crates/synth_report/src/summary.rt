@@ -2,7 +2,7 @@
 use cells::Size;
 
 /// What a run has done. Sizes are in cells.
-#[derive(Clone, Copy, Drop, PartialEq, Eq)]
+#[derive(Clone, Copy, Drop)]
 pub enum Summary {
     /// An output was grown by so many placements and rounds of refinement. Its seams cost so much in
     /// all.

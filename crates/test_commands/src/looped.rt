@@ -63,9 +63,16 @@ const LENGTHS: &[Row<'static>] = &[
 // Whether an answer is that of a row. Each loop begins at frame 0.
 fn is_answer(found: Result<Summary, Fault>, wanted: &Result<(u32, u64), Fault>) -> bool {
     match (found, wanted) {
-        (Ok(Summary::Loop { length, start, cost }), Ok(of)) => {
-            start == 0 && (length, cost) == *of
-        }
+        (
+            Ok(
+                Summary::Loop {
+                    length,
+                    start,
+                    cost,
+                },
+            ),
+            Ok(of),
+        ) => { start == 0 && (length, cost) == *of }
         (Err(fault), Err(other)) => fault == *other,
         _ => false,
     }

@@ -13,3 +13,6 @@ same-result-2 c = grind (arith, common_steps)
 
 pub same-result-3 : goal.same-result-3
 same-result-3 c = grind (arith, common_steps)
+
+pub same-result-4 : goal.same-result-4
+same-result-4 c = grind (arith, common_steps)

@@ -4,3 +4,6 @@ use Rattle.job_words.proofs.read.merge_asked.Goals as goal
 
 pub returns-clause-exact : goal.returns-clause-exact
 returns-clause-exact c = grind (arith, common_steps)
+
+pub returns-clause-lawful : goal.returns-clause-lawful
+returns-clause-lawful c = grind (arith, common_steps)

@@ -1,3 +1,4 @@
+use Rattle.std.proofs.lemmas.Grind.{common_steps}
 use Rattle.std.proofs.Common.{arith}
 use Rattle.limits.specs.declared.bounds.TheConstants.{GREATEST_AXIS, GREATEST_OVERLAP, GREATEST_TOLERANCE}
 use Rattle.job_words.specs.declared.keys.Key.TheVariants as key
@@ -22,3 +23,6 @@ number_at-requires-3 c = numeric 0 GREATEST_TOLERANCE (value_at key.Tol c.args.s
 
 pub overflow_cast-result-3 : goal.overflow_cast-result-3
 overflow_cast-result-3 c = omega (arith, number_within 0 GREATEST_TOLERANCE (value_at key.Tol c.args.settings.now) c.requires.tol)
+
+pub wrap_nth-requires : goal.wrap_nth-requires
+wrap_nth-requires c = grind (arith, common_steps)

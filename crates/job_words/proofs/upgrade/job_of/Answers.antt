@@ -4,3 +4,9 @@ use Rattle.job_words.proofs.upgrade.job_of.Goals as goal
 
 pub same-result : goal.same-result
 same-result c = grind (arith, common_steps)
+
+pub returns : goal.returns
+returns c = grind (arith, common_steps)
+
+pub same-result-2 : goal.same-result-2
+same-result-2 c = grind (arith, common_steps)

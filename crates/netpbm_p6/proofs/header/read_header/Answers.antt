@@ -52,3 +52,12 @@ returns-in-Ended-clause-sound g c = grind (arith, common_steps)
 
 pub returns-clause-reads : goal.returns-clause-reads
 returns-clause-reads g c = grind (arith, common_steps)
+
+pub overflow_add-result-in-Ended : goal.overflow_add-result-in-Ended
+overflow_add-result-in-Ended g c = grind (arith, common_steps)
+
+pub overflow_add-result : goal.overflow_add-result
+overflow_add-result g c = grind (arith, common_steps)
+
+pub loop-piece-init : goal.loop-piece-init
+loop-piece-init g c = grind (arith, common_steps)

@@ -1,3 +1,4 @@
+use Rattle.std.proofs.lemmas.Grind.{common_steps}
 use Rattle.std.proofs.Common.{◌≡◌, ◌≤◌, length, drop, sym, subst, arith}
 use Rattle.std.proofs.lemmas.List.{length-take-le}
 use Rattle.shelf_core.specs.Files.{content_of}
@@ -23,3 +24,6 @@ returns-clause-sound g c =
     (subst (IsSoundScanned (length c.get.new.into)) (sym c.cut_off.ensures)
     (cut_sound c.in_ok-count.count (length c.get.new.into) c.scan_piece-scanned.result within
     (subst (λ n. IsSoundScanned n c.scan_piece-scanned.result) (length-take-le c.in_ok-count.count c.get.new.into within) c.scan_piece-scanned.ensures.sound)))
+
+pub slice_bounds-scan_piece-end-2 : goal.slice_bounds-scan_piece-end-2
+slice_bounds-scan_piece-end-2 g c = grind (arith, common_steps)

@@ -30,3 +30,6 @@ returns-clause-samples g c = all_within c.args.maxval c.in_ok-count.count c.get.
 
 pub overflow_add-result : goal.overflow_add-result
 overflow_add-result g c = grind (arith, common_steps)
+
+pub slice_bounds-first_above-end-2 : goal.slice_bounds-first_above-end-2
+slice_bounds-first_above-end-2 g c = grind (arith, common_steps)

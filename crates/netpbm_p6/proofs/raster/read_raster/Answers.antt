@@ -3,6 +3,7 @@ use Rattle.std.proofs.Common.{◌≡◌, ◌≤◌, ◌*◌, length, sym, ap, �
 use Rattle.std.specs.Prelude.{All}
 use Rattle.std.proofs.lemmas.List.{with_items_is}
 use Rattle.std.proofs.lemmas.Result.{err_from_is_err_and}
+use Rattle.shelf_core.proofs.FileLaws.{only_reads_then}
 use Rattle.cells.specs.Places.{cell_count}
 use Rattle.cells.specs.Cells.{Cells, volume_of}
 use Rattle.netpbm_p6.proofs.Rasters.{fill_refused, stop_refused, raster_read}
@@ -44,7 +45,7 @@ pub from_bytes-requires-clause-whole : goal.from_bytes-requires-clause-whole
 from_bytes-requires-clause-whole g c = grind (arith, common_steps)
 
 pub returns-clause-reads : goal.returns-clause-reads
-returns-clause-reads g c = grind (arith, common_steps)
+returns-clause-reads g c = only_reads_then (g.S.Shelf.state c.args.shelf.now) (g.S.Shelf.state c.fill.new.shelf) (g.S.Shelf.state c.stop.new.shelf) c.in_ok-fill.ensures.reads c.in_ok-stop.ensures.reads
 
 pub returns-in_err-stop-clause-reads : goal.returns-in_err-stop-clause-reads
-returns-in_err-stop-clause-reads g c = grind (arith, common_steps)
+returns-in_err-stop-clause-reads g c = only_reads_then (g.S.Shelf.state c.args.shelf.now) (g.S.Shelf.state c.fill.new.shelf) (g.S.Shelf.state c.stop.new.shelf) c.in_ok-fill.ensures.reads c.in_err-stop.ensures.reads

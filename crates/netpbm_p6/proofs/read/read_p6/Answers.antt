@@ -3,6 +3,7 @@ use Rattle.std.proofs.lemmas.Grind.{common_steps}
 use Rattle.std.proofs.Common.{◌≤◌, ◌∙◌, ap, sym, subst}
 use Rattle.cells.specs.declared.place.Size.{Size}
 use Rattle.std.proofs.lemmas.Result.{err_from_is_err_and}
+use Rattle.shelf_core.proofs.FileLaws.{only_reads_then}
 use Rattle.netpbm_p6.proofs.PictureLaws.{cells_allowed, limits_as, raster_as, read_as}
 use Rattle.netpbm_p6.proofs.read.read_p6.Goals as goal
 
@@ -42,4 +43,12 @@ returns-clause-picture g c =
     }
 
 pub returns-clause-reads : goal.returns-clause-reads
-returns-clause-reads g c = grind (arith, common_steps)
+returns-clause-reads g c =
+    only_reads_then (g.S.Shelf.state c.args.shelf.now) (g.S.Shelf.state c.read_header.new.shelf) (g.S.Shelf.state c.read_raster.new.shelf) c.in_ok-header.ensures.reads c.in_ok-volume.ensures.reads
+
+pub returns-in_err-volume-clause-reads : goal.returns-in_err-volume-clause-reads
+returns-in_err-volume-clause-reads g c =
+    only_reads_then (g.S.Shelf.state c.args.shelf.now) (g.S.Shelf.state c.read_header.new.shelf) (g.S.Shelf.state c.read_raster.new.shelf) c.in_ok-header.ensures.reads c.in_err-volume.ensures.reads
+
+pub read_raster-requires-clause-small : goal.read_raster-requires-clause-small
+read_raster-requires-clause-small g c = grind (arith, common_steps)

@@ -34,3 +34,6 @@ loop-i-preserved c =
 
 pub returns-in-Whole-clause-sound : goal.returns-in-Whole-clause-sound
 returns-in-Whole-clause-sound c = grind (arith, common_steps)
+
+pub returns-clause-scanned : goal.returns-clause-scanned
+returns-clause-scanned c = grind (arith, common_steps)

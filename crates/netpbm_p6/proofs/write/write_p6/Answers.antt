@@ -1,9 +1,8 @@
-use Rattle.std.proofs.Common.{arith}
-use Rattle.std.proofs.lemmas.Grind.{common_steps}
 use Rattle.std.proofs.Common.{ap, refl, [], ◌∷◌, ◌++◌, decimal}
 use Rattle.std.specs.Prelude.{codes}
 use Rattle.cells.specs.declared.place.Size.{Size}
 use Rattle.cells.specs.Cells.{bytes_of}
+use Rattle.shelf_core.proofs.FileLaws.{only_writes_then, rose_later}
 use Rattle.shelf_core.proofs.WrittenLaws.{shelf_begun}
 use Rattle.netpbm_p6.proofs.Writing.{piece_added, number_added, stopped, number_stopped, on_err}
 use Rattle.netpbm_p6.proofs.write.write_p6.Goals as goal
@@ -54,25 +53,62 @@ returns-clause-ok g c =
     h5
 
 pub returns-in_err-add-2-clause-writes : goal.returns-in_err-add-2-clause-writes
-returns-in_err-add-2-clause-writes g c = grind (arith, common_steps)
+returns-in_err-add-2-clause-writes g c =
+    let w2 = only_writes_then (g.S.Shelf.state c.args.shelf.now) (g.S.Shelf.state c.begin.new.self) (g.S.Shelf.state c.add.new.self) c.in_ok-begin.ensures.writes c.in_ok-add.ensures.writes in
+    let w3 = only_writes_then (g.S.Shelf.state c.args.shelf.now) (g.S.Shelf.state c.add.new.self) (g.S.Shelf.state c.add_number.new.shelf) w2 c.in_ok-add_number.ensures.writes in
+    let w4 = only_writes_then (g.S.Shelf.state c.args.shelf.now) (g.S.Shelf.state c.add_number.new.shelf) (g.S.Shelf.state c.add_number-2.new.shelf) w3 c.in_ok-add_number-2.ensures.writes in
+    let w5 = only_writes_then (g.S.Shelf.state c.args.shelf.now) (g.S.Shelf.state c.add_number-2.new.shelf) (g.S.Shelf.state c.add_number-3.new.shelf) w4 c.in_ok-add_number-3.ensures.writes in
+    only_writes_then (g.S.Shelf.state c.args.shelf.now) (g.S.Shelf.state c.add_number-3.new.shelf) (g.S.Shelf.state c.add-2.new.self) w5 c.in_err-add-2.ensures.writes
 
 pub returns-clause-writes : goal.returns-clause-writes
-returns-clause-writes g c = grind (arith, common_steps)
+returns-clause-writes g c =
+    let w2 = only_writes_then (g.S.Shelf.state c.args.shelf.now) (g.S.Shelf.state c.begin.new.self) (g.S.Shelf.state c.add.new.self) c.in_ok-begin.ensures.writes c.in_ok-add.ensures.writes in
+    let w3 = only_writes_then (g.S.Shelf.state c.args.shelf.now) (g.S.Shelf.state c.add.new.self) (g.S.Shelf.state c.add_number.new.shelf) w2 c.in_ok-add_number.ensures.writes in
+    let w4 = only_writes_then (g.S.Shelf.state c.args.shelf.now) (g.S.Shelf.state c.add_number.new.shelf) (g.S.Shelf.state c.add_number-2.new.shelf) w3 c.in_ok-add_number-2.ensures.writes in
+    let w5 = only_writes_then (g.S.Shelf.state c.args.shelf.now) (g.S.Shelf.state c.add_number-2.new.shelf) (g.S.Shelf.state c.add_number-3.new.shelf) w4 c.in_ok-add_number-3.ensures.writes in
+    let w6 = only_writes_then (g.S.Shelf.state c.args.shelf.now) (g.S.Shelf.state c.add_number-3.new.shelf) (g.S.Shelf.state c.add-2.new.self) w5 c.in_ok-add-2.ensures.writes in
+    w6
 
 pub returns-in_err-add-2-clause-failed : goal.returns-in_err-add-2-clause-failed
-returns-in_err-add-2-clause-failed g c = grind (arith, common_steps)
+returns-in_err-add-2-clause-failed g c =
+    let w2 = only_writes_then (g.S.Shelf.state c.args.shelf.now) (g.S.Shelf.state c.begin.new.self) (g.S.Shelf.state c.add.new.self) c.in_ok-begin.ensures.writes c.in_ok-add.ensures.writes in
+    let w3 = only_writes_then (g.S.Shelf.state c.args.shelf.now) (g.S.Shelf.state c.add.new.self) (g.S.Shelf.state c.add_number.new.shelf) w2 c.in_ok-add_number.ensures.writes in
+    let w4 = only_writes_then (g.S.Shelf.state c.args.shelf.now) (g.S.Shelf.state c.add_number.new.shelf) (g.S.Shelf.state c.add_number-2.new.shelf) w3 c.in_ok-add_number-2.ensures.writes in
+    let w5 = only_writes_then (g.S.Shelf.state c.args.shelf.now) (g.S.Shelf.state c.add_number-2.new.shelf) (g.S.Shelf.state c.add_number-3.new.shelf) w4 c.in_ok-add_number-3.ensures.writes in
+    on_err _ _ (rose_later ((g.S.Shelf.state c.args.shelf.now).writes c.args.name.now) ((g.S.Shelf.state c.add_number-3.new.shelf).writes c.args.name.now) ((g.S.Shelf.state c.add-2.new.self).writes c.args.name.now) (w5.writes c.args.name.now) c.in_err-add-2.ensures.failed)
 
 pub returns-in_err-add_number-3-clause-writes : goal.returns-in_err-add_number-3-clause-writes
-returns-in_err-add_number-3-clause-writes g c = grind (arith, common_steps)
+returns-in_err-add_number-3-clause-writes g c =
+    let w2 = only_writes_then (g.S.Shelf.state c.args.shelf.now) (g.S.Shelf.state c.begin.new.self) (g.S.Shelf.state c.add.new.self) c.in_ok-begin.ensures.writes c.in_ok-add.ensures.writes in
+    let w3 = only_writes_then (g.S.Shelf.state c.args.shelf.now) (g.S.Shelf.state c.add.new.self) (g.S.Shelf.state c.add_number.new.shelf) w2 c.in_ok-add_number.ensures.writes in
+    let w4 = only_writes_then (g.S.Shelf.state c.args.shelf.now) (g.S.Shelf.state c.add_number.new.shelf) (g.S.Shelf.state c.add_number-2.new.shelf) w3 c.in_ok-add_number-2.ensures.writes in
+    only_writes_then (g.S.Shelf.state c.args.shelf.now) (g.S.Shelf.state c.add_number-2.new.shelf) (g.S.Shelf.state c.add_number-3.new.shelf) w4 c.in_err-add_number-3.ensures.writes
 
 pub returns-in_err-add_number-3-clause-failed : goal.returns-in_err-add_number-3-clause-failed
-returns-in_err-add_number-3-clause-failed g c = grind (arith, common_steps)
+returns-in_err-add_number-3-clause-failed g c =
+    let w2 = only_writes_then (g.S.Shelf.state c.args.shelf.now) (g.S.Shelf.state c.begin.new.self) (g.S.Shelf.state c.add.new.self) c.in_ok-begin.ensures.writes c.in_ok-add.ensures.writes in
+    let w3 = only_writes_then (g.S.Shelf.state c.args.shelf.now) (g.S.Shelf.state c.add.new.self) (g.S.Shelf.state c.add_number.new.shelf) w2 c.in_ok-add_number.ensures.writes in
+    let w4 = only_writes_then (g.S.Shelf.state c.args.shelf.now) (g.S.Shelf.state c.add_number.new.shelf) (g.S.Shelf.state c.add_number-2.new.shelf) w3 c.in_ok-add_number-2.ensures.writes in
+    on_err _ _ (rose_later ((g.S.Shelf.state c.args.shelf.now).writes c.args.name.now) ((g.S.Shelf.state c.add_number-2.new.shelf).writes c.args.name.now) ((g.S.Shelf.state c.add_number-3.new.shelf).writes c.args.name.now) (w4.writes c.args.name.now) c.in_err-add_number-3.ensures.failed)
 
 pub returns-in_err-add_number-2-clause-writes : goal.returns-in_err-add_number-2-clause-writes
-returns-in_err-add_number-2-clause-writes g c = grind (arith, common_steps)
+returns-in_err-add_number-2-clause-writes g c =
+    let w2 = only_writes_then (g.S.Shelf.state c.args.shelf.now) (g.S.Shelf.state c.begin.new.self) (g.S.Shelf.state c.add.new.self) c.in_ok-begin.ensures.writes c.in_ok-add.ensures.writes in
+    let w3 = only_writes_then (g.S.Shelf.state c.args.shelf.now) (g.S.Shelf.state c.add.new.self) (g.S.Shelf.state c.add_number.new.shelf) w2 c.in_ok-add_number.ensures.writes in
+    only_writes_then (g.S.Shelf.state c.args.shelf.now) (g.S.Shelf.state c.add_number.new.shelf) (g.S.Shelf.state c.add_number-2.new.shelf) w3 c.in_err-add_number-2.ensures.writes
 
 pub returns-in_err-add_number-2-clause-failed : goal.returns-in_err-add_number-2-clause-failed
-returns-in_err-add_number-2-clause-failed g c = grind (arith, common_steps)
+returns-in_err-add_number-2-clause-failed g c =
+    let w2 = only_writes_then (g.S.Shelf.state c.args.shelf.now) (g.S.Shelf.state c.begin.new.self) (g.S.Shelf.state c.add.new.self) c.in_ok-begin.ensures.writes c.in_ok-add.ensures.writes in
+    let w3 = only_writes_then (g.S.Shelf.state c.args.shelf.now) (g.S.Shelf.state c.add.new.self) (g.S.Shelf.state c.add_number.new.shelf) w2 c.in_ok-add_number.ensures.writes in
+    on_err _ _ (rose_later ((g.S.Shelf.state c.args.shelf.now).writes c.args.name.now) ((g.S.Shelf.state c.add_number.new.shelf).writes c.args.name.now) ((g.S.Shelf.state c.add_number-2.new.shelf).writes c.args.name.now) (w3.writes c.args.name.now) c.in_err-add_number-2.ensures.failed)
 
 pub returns-in_err-add_number-clause-writes : goal.returns-in_err-add_number-clause-writes
-returns-in_err-add_number-clause-writes g c = grind (arith, common_steps)
+returns-in_err-add_number-clause-writes g c =
+    let w2 = only_writes_then (g.S.Shelf.state c.args.shelf.now) (g.S.Shelf.state c.begin.new.self) (g.S.Shelf.state c.add.new.self) c.in_ok-begin.ensures.writes c.in_ok-add.ensures.writes in
+    only_writes_then (g.S.Shelf.state c.args.shelf.now) (g.S.Shelf.state c.add.new.self) (g.S.Shelf.state c.add_number.new.shelf) w2 c.in_err-add_number.ensures.writes
+
+pub returns-in_err-add_number-clause-failed : goal.returns-in_err-add_number-clause-failed
+returns-in_err-add_number-clause-failed g c =
+    let w2 = only_writes_then (g.S.Shelf.state c.args.shelf.now) (g.S.Shelf.state c.begin.new.self) (g.S.Shelf.state c.add.new.self) c.in_ok-begin.ensures.writes c.in_ok-add.ensures.writes in
+    on_err _ _ (rose_later ((g.S.Shelf.state c.args.shelf.now).writes c.args.name.now) ((g.S.Shelf.state c.add.new.self).writes c.args.name.now) ((g.S.Shelf.state c.add_number.new.shelf).writes c.args.name.now) (w2.writes c.args.name.now) c.in_err-add_number.ensures.failed)

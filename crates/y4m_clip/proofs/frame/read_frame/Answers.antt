@@ -67,13 +67,16 @@ pub returns-clause-reads : goal.returns-clause-reads
 returns-clause-reads g c = only_reads_then (g.S.Shelf.state c.args.shelf.now) (g.S.Shelf.state c.find_frame.new.shelf) (g.S.Shelf.state c.fill_planes.new.shelf) c.in_ok-length.ensures.reads c.in_ok-fill_planes.ensures.reads
 
 pub returns-in_err-add_frame-clause-reads : goal.returns-in_err-add_frame-clause-reads
-returns-in_err-add_frame-clause-reads g c = grind (arith, common_steps)
+returns-in_err-add_frame-clause-reads g c =
+    only_reads_then (g.S.Shelf.state c.args.shelf.now) (g.S.Shelf.state c.find_frame.new.shelf) (g.S.Shelf.state c.fill_planes.new.shelf) c.in_ok-length.ensures.reads c.in_ok-fill_planes.ensures.reads
 
 pub returns-in_err-make_room-clause-reads : goal.returns-in_err-make_room-clause-reads
-returns-in_err-make_room-clause-reads g c = grind (arith, common_steps)
+returns-in_err-make_room-clause-reads g c =
+    only_reads_then (g.S.Shelf.state c.args.shelf.now) (g.S.Shelf.state c.find_frame.new.shelf) (g.S.Shelf.state c.fill_planes.new.shelf) c.in_ok-length.ensures.reads c.in_ok-fill_planes.ensures.reads
 
 pub returns-in_err-fill_planes-clause-reads : goal.returns-in_err-fill_planes-clause-reads
-returns-in_err-fill_planes-clause-reads g c = grind (arith, common_steps)
+returns-in_err-fill_planes-clause-reads g c =
+    only_reads_then (g.S.Shelf.state c.args.shelf.now) (g.S.Shelf.state c.find_frame.new.shelf) (g.S.Shelf.state c.fill_planes.new.shelf) c.in_ok-length.ensures.reads c.in_err-fill_planes.ensures.reads
 
 pub returns-in_default-clause-frame : goal.returns-in_default-clause-frame
 returns-in_default-clause-frame g c = grind (arith, common_steps)

@@ -30,3 +30,6 @@ returns-in-10-clause-scanned c = grind (arith, common_steps)
 
 pub returns-in_default-clause-scanned : goal.returns-in_default-clause-scanned
 returns-in_default-clause-scanned c = grind (arith, common_steps)
+
+pub returns-then-n-eq0-clause-scanned : goal.returns-then-n-eq0-clause-scanned
+returns-then-n-eq0-clause-scanned c = grind (arith, common_steps)

@@ -1,3 +1,4 @@
+use Rattle.std.proofs.lemmas.Grind.{common_steps}
 use Rattle.std.proofs.Common.{◌≡◌, ◌≤◌, ◌<◌, ◌*◌, [], length, drop, arith, sym, ap, ◌∙◌, subst}
 use Rattle.std.proofs.lemmas.Result.{err_from_is_err_and}
 use Rattle.shelf_core.specs.Files.{content_of}
@@ -133,3 +134,6 @@ returns-then-branch-clause-reads g c = only_reads_then (g.S.Shelf.state c.args.s
 
 pub returns-in_err-goes_on-clause-reads : goal.returns-in_err-goes_on-clause-reads
 returns-in_err-goes_on-clause-reads g c = only_reads_then (g.S.Shelf.state c.args.shelf.now) (g.S.Shelf.state c.loop-count.shelf) (g.S.Shelf.state c.goes_on.new.shelf) c.loop-count.invariant.reads c.in_err-goes_on.ensures.reads
+
+pub overflow_cast-result : goal.overflow_cast-result
+overflow_cast-result g c = grind (arith, common_steps)

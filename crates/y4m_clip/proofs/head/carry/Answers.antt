@@ -7,3 +7,9 @@ loop-tag-preserved c = grind (arith, common_steps)
 
 pub returns : goal.returns
 returns c = grind (arith, common_steps)
+
+pub bounds-tag-0-then-tag-ne87 : goal.bounds-tag-0-then-tag-ne87
+bounds-tag-0-then-tag-ne87 c = grind (arith, common_steps)
+
+pub bounds-tag-0 : goal.bounds-tag-0
+bounds-tag-0 c = grind (arith, common_steps)

@@ -10,3 +10,6 @@ returns c = grind (arith, common_steps)
 
 pub returns-then-piece-eq1 : goal.returns-then-piece-eq1
 returns-then-piece-eq1 c = grind (arith, common_steps)
+
+pub bounds-planes-at-then-piece-eq2-2 : goal.bounds-planes-at-then-piece-eq2-2
+bounds-planes-at-then-piece-eq2-2 c = grind (arith, common_steps)

@@ -55,3 +55,6 @@ returns-clause-place c = grind (arith, common_steps)
 
 pub overflow_cast-place : goal.overflow_cast-place
 overflow_cast-place c = grind (arith, common_steps)
+
+pub lay_rows-next-requires-clause-inside : goal.lay_rows-next-requires-clause-inside
+lay_rows-next-requires-clause-inside c = grind (arith, common_steps)

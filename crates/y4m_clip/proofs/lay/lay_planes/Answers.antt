@@ -71,3 +71,6 @@ overflow_add-width c = grind (arith, common_steps)
 
 pub overflow_mul-width : goal.overflow_mul-width
 overflow_mul-width c = grind (arith, common_steps)
+
+pub lay_plane-luma-requires-clause-inside : goal.lay_plane-luma-requires-clause-inside
+lay_plane-luma-requires-clause-inside c = grind (arith, common_steps)

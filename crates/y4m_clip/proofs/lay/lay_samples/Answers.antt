@@ -24,3 +24,15 @@ loop-x-preserved c =
 
 pub overflow_mul-from : goal.overflow_mul-from
 overflow_mul-from c = grind (arith, common_steps)
+
+pub lay-next-requires : goal.lay-next-requires
+lay-next-requires c = grind (arith, common_steps)
+
+pub slice_bounds-lay-end : goal.slice_bounds-lay-end
+slice_bounds-lay-end c = grind (arith, common_steps)
+
+pub overflow_add-from-in-loop-x : goal.overflow_add-from-in-loop-x
+overflow_add-from-in-loop-x c = grind (arith, common_steps)
+
+pub overflow_add-from : goal.overflow_add-from
+overflow_add-from c = grind (arith, common_steps)

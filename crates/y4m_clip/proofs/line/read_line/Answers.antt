@@ -19,3 +19,12 @@ returns-clause-tags g c = are_tags c.find_line.new.buffer c.in_ok-length.length 
 
 pub returns-clause-short : goal.returns-clause-short
 returns-clause-short g c = grind (arith, common_steps)
+
+pub slice_bounds-gather_all-end : goal.slice_bounds-gather_all-end
+slice_bounds-gather_all-end g c = grind (arith, common_steps)
+
+pub slice_bounds-gather_all-count : goal.slice_bounds-gather_all-count
+slice_bounds-gather_all-count g c = grind (arith, common_steps)
+
+pub slice_bounds-gather_all-start : goal.slice_bounds-gather_all-start
+slice_bounds-gather_all-start g c = grind (arith, common_steps)

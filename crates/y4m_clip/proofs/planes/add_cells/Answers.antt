@@ -1,3 +1,4 @@
+use Rattle.std.proofs.lemmas.Grind.{common_steps}
 use Rattle.std.proofs.Common.{◌≡◌, ◌++◌, ◌≤◌, length, sym, subst, arith}
 use Rattle.std.proofs.lemmas.List.{append-nil}
 use Rattle.y4m_clip.specs.Spaces.{cell_bytes, joined_to}
@@ -27,3 +28,6 @@ pub returns-after-loop-x : goal.returns-after-loop-x
 returns-after-loop-x c =
     let all : c.loop-x.x ≡ c.args.w = omega (arith, c.loop-x-test.false, c.loop-x.auto.x-end) in
     subst (λ n. c.loop-x.cells.items ≡ c.args.cells.now.items ++ joined_to n (cell_bytes c.args.space c.args.upper.now c.args.lower.now c.args.blue.now c.args.red.now)) all c.loop-x.invariant
+
+pub slice_bounds-extend_from_slice-end : goal.slice_bounds-extend_from_slice-end
+slice_bounds-extend_from_slice-end c = grind (arith, common_steps)

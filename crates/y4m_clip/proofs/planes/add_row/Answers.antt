@@ -47,3 +47,21 @@ overflow_add-chroma-3 c = grind (arith, common_steps)
 
 pub overflow_add-chroma : goal.overflow_add-chroma
 overflow_add-chroma c = grind (arith, common_steps)
+
+pub overflow_add-chroma-2 : goal.overflow_add-chroma-2
+overflow_add-chroma-2 c = grind (arith, common_steps)
+
+pub overflow_mul-width-3 : goal.overflow_mul-width-3
+overflow_mul-width-3 c = grind (arith, common_steps)
+
+pub overflow_mul-chroma-2 : goal.overflow_mul-chroma-2
+overflow_mul-chroma-2 c = grind (arith, common_steps)
+
+pub overflow_mul-start-2 : goal.overflow_mul-start-2
+overflow_mul-start-2 c = grind (arith, common_steps)
+
+pub overflow_sub-height : goal.overflow_sub-height
+overflow_sub-height c = grind (arith, common_steps)
+
+pub overflow_mul-width-4 : goal.overflow_mul-width-4
+overflow_mul-width-4 c = grind (arith, common_steps)

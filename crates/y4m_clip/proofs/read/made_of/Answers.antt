@@ -16,3 +16,6 @@ returns-clause-clip c = grind (arith, common_steps)
 
 pub from_bytes-volume-requires-clause-small : goal.from_bytes-volume-requires-clause-small
 from_bytes-volume-requires-clause-small c = grind (arith, common_steps)
+
+pub from_bytes-volume-requires-clause-samples : goal.from_bytes-volume-requires-clause-samples
+from_bytes-volume-requires-clause-samples c = grind (arith, common_steps)

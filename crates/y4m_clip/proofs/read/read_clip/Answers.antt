@@ -1,3 +1,5 @@
+use Rattle.std.proofs.Common.{arith}
+use Rattle.std.proofs.lemmas.Grind.{common_steps}
 use Rattle.std.proofs.lemmas.Result.{err_from_is_err_and}
 use Rattle.shelf_core.proofs.FileLaws.{only_reads_then}
 use Rattle.y4m_clip.proofs.FrontLaws.{front_as, sound_front}
@@ -38,3 +40,6 @@ returns-clause-reads g c =
 pub returns-in_err-filled-clause-reads : goal.returns-in_err-filled-clause-reads
 returns-in_err-filled-clause-reads g c =
     only_reads_then (g.S.Shelf.state c.args.shelf.now) (g.S.Shelf.state c.read_line.new.shelf) (g.S.Shelf.state c.read_frames.new.shelf) c.in_ok-line.ensures.reads c.in_err-filled.ensures.reads
+
+pub made_of-requires-clause-filled : goal.made_of-requires-clause-filled
+made_of-requires-clause-filled g c = grind (arith, common_steps)

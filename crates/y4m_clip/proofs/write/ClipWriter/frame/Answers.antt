@@ -2,7 +2,7 @@ use Rattle.std.proofs.lemmas.Grind.{common_steps}
 use Rattle.std.proofs.Common.{ap, ◌∙◌, arith}
 use Rattle.std.proofs.lemmas.List.{take_at}
 use Rattle.std.specs.Prelude.{codes}
-use Rattle.shelf_core.proofs.FileLaws.{only_writes_then}
+use Rattle.shelf_core.proofs.FileLaws.{only_writes_then, rose_later}
 use Rattle.y4m_clip.specs.Writing.{Writer, planes_of}
 use Rattle.y4m_clip.proofs.Writes.{both_added, second_in_part, first_in_part, on_err}
 use Rattle.y4m_clip.proofs.write.ClipWriter.frame.Goals as goal
@@ -41,4 +41,8 @@ returns-in_err-add-2-clause-writes g c =
     only_writes_then (g.S.Shelf.state c.args.shelf.now) (g.S.Shelf.state c.add.new.self) (g.S.Shelf.state c.add-2.new.self) c.in_ok-add.ensures.writes c.in_err-add-2.ensures.writes
 
 pub returns-in_err-add-2-clause-failed : goal.returns-in_err-add-2-clause-failed
-returns-in_err-add-2-clause-failed g c = grind (arith, common_steps)
+returns-in_err-add-2-clause-failed g c =
+    on_err _ _ (rose_later ((g.S.Shelf.state c.args.shelf.now).writes c.args.name.now) ((g.S.Shelf.state c.add.new.self).writes c.args.name.now) ((g.S.Shelf.state c.add-2.new.self).writes c.args.name.now) (c.in_ok-add.ensures.writes.writes c.args.name.now) c.in_err-add-2.ensures.failed)
+
+pub lay_planes-requires-clause-room : goal.lay_planes-requires-clause-room
+lay_planes-requires-clause-room g c = grind (arith, common_steps)

@@ -1,5 +1,5 @@
 -- Entries put after those of the row above, one after another.
-use Rattle.std.proofs.Common.{◌≡◌, ℕ, ◌+◌, ◌<◌, List, [], ◌∷◌, ◌++◌, length, get_or, ap, sym, ◌∙◌, arith, ⊎_elim, length-append}
+use Rattle.std.proofs.Common.{◌≡◌, ℕ, ◌+◌, ◌<◌, List, [], ◌∷◌, ◌++◌, length, get_or, ap, sym, ◌∙◌, arith, ⊎_elim, add-zero, length-append}
 use Rattle.std.proofs.lemmas.Bool.{cases_eq}
 use Rattle.std.proofs.lemmas.List.{get_or_append_left, get_or-append-add}
 
@@ -31,6 +31,9 @@ one_put was now above count v g put is = record {
 
     last : get_or (now ++ v ∷ []) (length was + count) 0 ≡ v
     last = ap (λ n. get_or (now ++ v ∷ []) n 0) here ∙ get_or-append-add now (v ∷ []) 0 0
+
+pub first_put : (was : List ℕ) (above v : ℕ) (g : ℕ → ℕ) → v ≡ get_or was above 0 → g 0 ≡ 0 → ArePut was (was ++ v ∷ []) above 1 g
+first_put was above v g is none = one_put was was above 0 v g (none_put was above g) (omega (arith, is, none, ap (λ n. get_or was n 0) (add-zero above)))
 
 -- the entry of the row above is still the same
 pub above_kept : (was now read : List ℕ) (above w x : ℕ) (g : ℕ → ℕ) → ArePut was now above (x + 1) g → read ≡ now → length was ≡ above + (w + 1) → x < w → get_or read (above + 1 + x) 0 ≡ get_or was (above + (x + 1)) 0

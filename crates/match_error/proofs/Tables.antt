@@ -1,5 +1,5 @@
 -- The sums of a table of counts, and what their differences are.
-use Rattle.std.proofs.Common.{◌≡◌, ℕ, ◌+◌, ◌*◌, ◌/◌, ◌%◌, ◌<◌, ◌≤◌, List, length, get_or, ap, sym, ◌∙◌, arith, ⊎_elim}
+use Rattle.std.proofs.Common.{◌≡◌, ℕ, zero, suc, ◌+◌, ◌^◌, ◌*◌, ◌/◌, ◌%◌, ◌<◌, ◌≤◌, List, length, get_or, ap, sym, ◌∙◌, arith, ⊎_elim}
 use Rattle.std.proofs.Math.Nat.{mul-le-mul, mul-le-mul_left}
 use Rattle.std.proofs.lemmas.Bool.{cases_eq}
 use Rattle.std.proofs.lemmas.Int.{ints}
@@ -10,6 +10,7 @@ use Rattle.limits.specs.declared.bounds.TheConstants.{GREATEST_AXIS, MOST_CELLS}
 use Rattle.cells.specs.declared.place.Box3.{Box3}
 use Rattle.cells.specs.Boxes.{HoldsBox, cell_in}
 use Rattle.cells.specs.Places.{IsSmall, cell_count}
+use Rattle.cells.proofs.Raster.{below_of_div}
 use Rattle.boxes.specs.Sums.{sum_to}
 use Rattle.boxes.proofs.Additions.{counts}
 use Rattle.boxes.proofs.Axes.{sum_equal, sum_more, sum_plus, sum_split}
@@ -17,6 +18,7 @@ use Rattle.boxes.proofs.Bounds.{box_bound, sum_bound}
 use Rattle.boxes.proofs.Boxes.{box_equal}
 use Rattle.map_canvas.specs.Maps.{SourceMap, map_at}
 use Rattle.match_error.specs.Errors.{filled_cells, one_filled}
+use Rattle.match_error.specs.Runs.{IsInRow}
 use Rattle.match_error.specs.Tables.{AreEntries, AreMoreEntries, filled_before, one_in_row}
 use Rattle.match_error.proofs.Filled.{box_cells, one_at_most}
 
@@ -30,6 +32,27 @@ few_rows m rect small inside =
     let h : rect.size.h ≤ GREATEST_AXIS = omega (arith, ints, inside.y.from, inside.y.to, small.axes.h.1) in
     let f : rect.size.f ≤ GREATEST_AXIS = omega (arith, ints, inside.f.from, inside.f.to, small.axes.f.1) in
     mul-le-mul h f
+
+-- and few columns and entries
+pub few_columns : (m : SourceMap) (rect : Box3) → IsSmall m.size → HoldsBox m.size rect.corner rect.size → rect.size.w ≤ GREATEST_AXIS
+few_columns m rect small inside = omega (arith, ints, inside.x.from, inside.x.to, small.axes.w.1)
+
+pub few_entries : (m : SourceMap) (rect : Box3) (x row : ℕ) → IsSmall m.size → HoldsBox m.size rect.corner rect.size → x ≤ rect.size.w → row ≤ rect.size.h * rect.size.f
+    → (rect.size.w + 1) * row + x ≤ 2 ^ 37
+few_entries m rect x row small inside lx lr =
+    let across : rect.size.w + 1 ≤ 4097 = omega (arith, few_columns m rect small inside) in
+    let down : row ≤ 16777216 = omega (arith, few_rows m rect small inside) in
+    omega (arith, mul-le-mul across down)
+
+-- a row that is counted on through all frames is a row of one of them
+pub has_rows : (h f row : ℕ) → row < h * f → 0 < h
+has_rows zero f row lt = absurd (omega arith)
+has_rows (suc h) f row lt = omega arith
+
+pub row_within : (rect : Box3) (row : ℕ) → row < rect.size.h * rect.size.f → IsInRow rect 0 (row % rect.size.h) (row / rect.size.h)
+row_within rect row lt =
+    let some = has_rows rect.size.h rect.size.f row lt in
+    record { columns_in = omega arith; row_in = omega (arith, some); frame_in = below_of_div rect.size.h rect.size.f row some lt }
 
 -- no count is greater than the output
 pub before_small : (m : SourceMap) (rect : Box3) (x row : ℕ) → IsSmall m.size → HoldsBox m.size rect.corner rect.size → x ≤ rect.size.w → row ≤ rect.size.h * rect.size.f → filled_before m rect x row ≤ MOST_CELLS

@@ -1,7 +1,6 @@
-use Rattle.std.proofs.Common.{arith}
-use Rattle.std.proofs.lemmas.Grind.{common_steps}
-use Rattle.std.proofs.Common.{◌∙◌, ◌/◌, ◌≤◌, ap, subst, sym}
+use Rattle.std.proofs.Common.{arith, ◌∙◌, ◌/◌, ◌≤◌, ap, subst, sym}
 use Rattle.std.specs.Prelude.{sum}
+use Rattle.match_error.proofs.Overlaps.{row_short}
 use Rattle.cells.specs.Cells.{row_at}
 use Rattle.map_canvas.specs.Canvases.{filled_marks}
 use Rattle.match_error.proofs.Filled.{row_at_most, row_marks}
@@ -20,4 +19,4 @@ returns-clause-small c =
     subst (λ n. n ≤ c.args.rect.now.size.w) (sym (returns-clause-count c)) (row_at_most c.args.canvas.now.map c.args.rect.now c.args.y c.args.f)
 
 pub mark_sum-requires : goal.mark_sum-requires
-mark_sum-requires c = grind (arith, common_steps)
+mark_sum-requires c = omega (arith, c.filled_row.ensures.len, row_short c.args.canvas.now c.args.rect.now c.picture.ensures.canvas c.requires.inside)

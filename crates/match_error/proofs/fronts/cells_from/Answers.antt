@@ -1,4 +1,3 @@
-use Rattle.std.proofs.lemmas.Grind.{common_steps}
 use Rattle.std.proofs.Common.{◌≡◌, ◌+◌, ◌-◌, ◌*◌, ◌∙◌, ap, length, take, drop, arith}
 use Rattle.match_error.proofs.Offsets.{few_bytes, run_in_volume, within_bytes}
 use Rattle.match_error.proofs.fronts.cells_from.Goals as goal
@@ -28,4 +27,7 @@ returns-clause-bytes c =
     ∙ run_in_volume c.args.sample.now c.samples-k.ensures.volume c.args.i c.args.n c.requires
 
 pub overflow_add-result : goal.overflow_add-result
-overflow_add-result c = grind (arith, common_steps)
+overflow_add-result c =
+    let k = c.samples-k.ensures.samples in
+    let few = few_bytes c.args.sample.now c.samples-k.ensures.volume in
+    omega (arith, ap (λ n. n * c.args.i) k, ap (λ n. n * c.args.n) k, few c.args.i (omega (arith, c.requires)), few c.args.n (omega (arith, c.requires)))

@@ -1,4 +1,3 @@
-use Rattle.std.proofs.lemmas.Grind.{common_steps}
 use Rattle.std.proofs.Common.{◌≡◌, ◌≤◌, ℕ, ◌+◌, ◌-◌, ◌*◌, ◌∙◌, ap, sym, arith}
 use Rattle.std.proofs.Math.Nat.{mul-le-mul_left}
 use Rattle.std.proofs.lemmas.List.{length-take}
@@ -53,22 +52,52 @@ returns c =
     ∙ (λ k. sum_to (c.column_in-end.ensures k - c.column_in-first.ensures k) (λ i. spot_error m sample placement (c.column_in-first.ensures k + i) c.args.y c.args.f))
 
 pub slice_bounds-squared_differences-start-then-first-end : goal.slice_bounds-squared_differences-start-then-first-end
-slice_bounds-squared_differences-start-then-first-end c = grind (arith, common_steps)
+slice_bounds-squared_differences-start-then-first-end c = mul-le-mul_left c.samples-k.result (let before : c.column_in-first.result ≤ c.column_in-end.result = omega (arith, c.if-first-end.true) in before)
 
 pub slice_bounds-squared_differences-count-then-first-end : goal.slice_bounds-squared_differences-count-then-first-end
-slice_bounds-squared_differences-count-then-first-end c = grind (arith, common_steps)
+slice_bounds-squared_differences-count-then-first-end c = mul-le-mul_left c.samples-k.result (let before : c.column_in-first.result ≤ c.column_in-end.result = omega (arith, c.if-first-end.true) in before)
 
 pub slice_bounds-squared_differences-start : goal.slice_bounds-squared_differences-start
-slice_bounds-squared_differences-start c = grind (arith, common_steps)
+slice_bounds-squared_differences-start c = mul-le-mul_left c.samples-k.result (let before : c.column_in-first.result ≤ c.column_in-end.result = omega (arith, c.if-first-end.true) in before)
 
 pub slice_bounds-squared_differences-count : goal.slice_bounds-squared_differences-count
-slice_bounds-squared_differences-count c = grind (arith, common_steps)
+slice_bounds-squared_differences-count c = mul-le-mul_left c.samples-k.result (let before : c.column_in-first.result ≤ c.column_in-end.result = omega (arith, c.if-first-end.true) in before)
 
 pub slice_bounds-squared_differences-end-then-first-end : goal.slice_bounds-squared_differences-end-then-first-end
-slice_bounds-squared_differences-end-then-first-end c = grind (arith, common_steps)
+slice_bounds-squared_differences-end-then-first-end c =
+    let k = c.samples-k.result in
+    let w = c.args.placement.now.rect.size.w in
+    let within : c.column_in-end.result ≤ w = omega (arith, c.column_in-end.ensures) in
+    omega (arith, mul-le-mul_left k within, ap (λ n. n * w) c.samples-k.ensures.samples, ap (λ n. n * w) c.requires.over.samples, c.requires.bytes.new_long)
+
+pub overflow_mul-stop : goal.overflow_mul-stop
+overflow_mul-stop c =
+    let k = c.samples-k.result in
+    let w = c.args.placement.now.rect.size.w in
+    let within : c.column_in-end.result ≤ w = omega (arith, c.column_in-end.ensures, c.if-first-end.true) in
+    omega (
+      arith,
+      mul-le-mul_left k within,
+      row_short c.args.canvas.now c.args.placement.now.rect c.picture-picture.ensures.canvas c.requires.fits.inside,
+      ap (λ n. n * w) c.samples-k.ensures.samples,
+      ap (λ n. n * w) c.requires.over.samples,
+    )
+
+pub overflow_mul-start : goal.overflow_mul-start
+overflow_mul-start c =
+    let k = c.samples-k.result in
+    let w = c.args.placement.now.rect.size.w in
+    let within : c.column_in-first.result ≤ w = omega (arith, c.column_in-end.ensures, c.if-first-end.true) in
+    omega (
+      arith,
+      mul-le-mul_left k within,
+      row_short c.args.canvas.now c.args.placement.now.rect c.picture-picture.ensures.canvas c.requires.fits.inside,
+      ap (λ n. n * w) c.samples-k.ensures.samples,
+      ap (λ n. n * w) c.requires.over.samples,
+    )
 
 pub overflow_cast-stop : goal.overflow_cast-stop
-overflow_cast-stop c = grind (arith, common_steps)
+overflow_cast-stop c = omega (arith, overflow_mul-stop c)
 
 pub overflow_cast-start : goal.overflow_cast-start
-overflow_cast-start c = grind (arith, common_steps)
+overflow_cast-start c = omega (arith, overflow_mul-start c)

@@ -1,6 +1,8 @@
-use Rattle.std.proofs.lemmas.Grind.{common_steps}
-use Rattle.std.proofs.Common.{◌≡◌, ◌≤◌, ◌+◌, ℕ, get_or, subst, sym, ◌∙◌, arith}
+use Rattle.std.proofs.lemmas.List.{get_or_read}
+use Rattle.std.proofs.Common.{refl, ◌≡◌, ◌≤◌, ◌+◌, ℕ, get_or, subst, sym, ◌∙◌, arith}
 use Rattle.std.proofs.lemmas.Int.{ints}
+use Rattle.match_error.proofs.Entries.{first_put, ArePut, above_kept, one_put}
+use Rattle.match_error.proofs.Tables.{few_columns}
 use Rattle.limits.specs.declared.bounds.TheConstants.{GREATEST_AXIS, MOST_CELLS}
 use Rattle.cells.specs.Boxes.{cell_in}
 use Rattle.boxes.specs.Sums.{sum_to}
@@ -8,7 +10,6 @@ use Rattle.boxes.proofs.Additions.{counts}
 use Rattle.boxes.proofs.Axes.{sum_more}
 use Rattle.map_canvas.specs.Maps.{map_at}
 use Rattle.match_error.specs.Errors.{one_filled}
-use Rattle.match_error.proofs.Entries.{ArePut, above_kept, one_put}
 use Rattle.match_error.proofs.Filled.{one_at_most}
 use Rattle.match_error.proofs.table.add_row.Goals as goal
 
@@ -39,10 +40,26 @@ loop-x-preserved c =
     }
 
 pub returns : goal.returns
-returns c = grind (arith, common_steps)
+returns c =
+    let whole : c.loop-x.x ≡ c.args.rect.now.size.w = omega (arith, c.loop-x-test.false, c.loop-x.auto.x-end) in
+    record {
+      long = omega (arith, c.loop-x.invariant.put.long, whole);
+      kept = c.loop-x.invariant.put.kept;
+      more = λ x lx. c.loop-x.invariant.put.more x (omega (arith, whole));
+    }
 
 pub overflow_add-filled : goal.overflow_add-filled
-overflow_add-filled c = grind (arith, common_steps)
+overflow_add-filled c =
+    let one : c.one_filled-filled.result ≤ 1 = subst (λ n. n ≤ 1) (sym c.one_filled-filled.ensures) (one_at_most _) in
+    omega (arith, one, few_columns c.args.canvas.now.map c.args.rect.now c.map-map.ensures.canvas.map.small c.requires.inside, c.loop-x.invariant.few, c.loop-x-test.true)
 
 pub loop-x-init : goal.loop-x-init
-loop-x-init c = grind (arith, common_steps)
+loop-x-init c =
+    let was = c.args.entries.now.items in
+    let cell = λ (i : ℕ). one_filled (map_at c.args.canvas.now.map (cell_in c.args.rect.now i c.args.y c.args.f)) in
+    let g = λ (n : ℕ). sum_to n cell in
+    record {
+      put = subst (λ xs. ArePut was xs c.args.above 1 g) (sym c.in_ok-push.ensures.items) (first_put was c.args.above c.index.result.now g (get_or_read was c.args.above _ (omega (arith, c.requires.above)) c.index.ensures 0) refl);
+      filled = refl;
+      few = omega arith;
+    }

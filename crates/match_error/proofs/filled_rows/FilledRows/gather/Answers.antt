@@ -1,5 +1,5 @@
-use Rattle.std.proofs.lemmas.Grind.{common_steps}
 use Rattle.std.proofs.Common.{◌≡◌, ◌+◌, ◌*◌, ◌∷◌, ◌++◌, List, [], ℕ, length, ap, sym, subst, ◌∙◌, arith}
+use Rattle.match_error.proofs.Tables.{few_rows, has_rows, row_within}
 use Rattle.match_error.specs.declared.filled_rows.RowRun.{RowRun}
 use Rattle.match_error.specs.Rows.{AreRunsTo}
 use Rattle.match_error.proofs.RowRuns.{no_rows_yet, runs_to_more}
@@ -32,10 +32,13 @@ returns c =
     }
 
 pub add_row-requires-clause-row : goal.add_row-requires-clause-row
-add_row-requires-clause-row c = grind (arith, common_steps)
+add_row-requires-clause-row c = row_within c.args.rect.now c.loop-row.row c.loop-row-test.true
 
 pub nonzero_rem-row : goal.nonzero_rem-row
-nonzero_rem-row c = grind (arith, common_steps)
+nonzero_rem-row c = has_rows c.args.rect.now.size.h c.args.rect.now.size.f c.loop-row.row c.loop-row-test.true
 
 pub nonzero_div-row : goal.nonzero_div-row
-nonzero_div-row c = grind (arith, common_steps)
+nonzero_div-row c = has_rows c.args.rect.now.size.h c.args.rect.now.size.f c.loop-row.row c.loop-row-test.true
+
+pub overflow_mul-row-end : goal.overflow_mul-row-end
+overflow_mul-row-end c = omega (arith, few_rows c.args.canvas.now.map c.args.rect.now c.map-map.ensures.canvas.map.small c.requires.inside)

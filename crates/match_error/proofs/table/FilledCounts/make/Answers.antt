@@ -1,7 +1,9 @@
-use Rattle.std.proofs.lemmas.Grind.{common_steps}
-use Rattle.std.proofs.Common.{◌≤◌, subst, sym, arith}
+use Rattle.std.proofs.Common.{◌≡◌, ℕ, ◌+◌, ◌*◌, length, ap, ◌∙◌, ◌≤◌, subst, sym, arith}
+use Rattle.std.proofs.Math.ListN.{length-replicate}
+use Rattle.std.specs.Prelude.{replicate}
+use Rattle.match_error.specs.Tables.{AreEntries}
+use Rattle.match_error.proofs.Tables.{few_rows, has_rows, row_within, no_rows, before_small, row_more}
 use Rattle.limits.specs.declared.bounds.TheConstants.{MOST_CELLS}
-use Rattle.match_error.proofs.Tables.{before_small, row_more}
 use Rattle.match_error.proofs.table.FilledCounts.make.Goals as goal
 
 pub add_row-requires-clause-small : goal.add_row-requires-clause-small
@@ -16,16 +18,32 @@ loop-row-preserved c = record {
 }
 
 pub add_row-requires-clause-row : goal.add_row-requires-clause-row
-add_row-requires-clause-row c = grind (arith, common_steps)
+add_row-requires-clause-row c = row_within c.args.rect.now c.loop-row.row c.loop-row-test.true
 
 pub loop-row-init : goal.loop-row-init
-loop-row-init c = grind (arith, common_steps)
+loop-row-init c =
+    let rect = c.args.rect.now in
+    let zeros : c.in_ok-entries.entries.items ≡ replicate (rect.size.w + 1) 0 = c.in_ok-entries.ensures.items_if_clones_equal (λ y e. e) in
+    record {
+      long = omega (arith, ap length zeros, length-replicate {A = ℕ} (rect.size.w + 1) 0);
+      are = subst (AreEntries c.args.canvas.now.map rect 0) (sym zeros) (no_rows c.args.canvas.now.map rect);
+    }
 
 pub returns : goal.returns
-returns c = grind (arith, common_steps)
+returns c =
+    let rect = c.args.rect.now in
+    let whole : c.loop-row.row ≡ rect.size.h * rect.size.f = omega (arith, c.loop-row-test.false, c.loop-row.auto.row-end) in
+    record {
+      inside = c.requires.inside;
+      long = c.loop-row.invariant.long ∙ ap (λ n. (rect.size.w + 1) * (n + 1)) whole;
+      entries = subst (λ n. AreEntries c.args.canvas.now.map rect n c.loop-row.entries.items) whole c.loop-row.invariant.are;
+    }
 
 pub nonzero_div-row : goal.nonzero_div-row
-nonzero_div-row c = grind (arith, common_steps)
+nonzero_div-row c = has_rows c.args.rect.now.size.h c.args.rect.now.size.f c.loop-row.row c.loop-row-test.true
 
 pub nonzero_rem-row : goal.nonzero_rem-row
-nonzero_rem-row c = grind (arith, common_steps)
+nonzero_rem-row c = has_rows c.args.rect.now.size.h c.args.rect.now.size.f c.loop-row.row c.loop-row-test.true
+
+pub overflow_mul-row-end : goal.overflow_mul-row-end
+overflow_mul-row-end c = omega (arith, few_rows c.args.canvas.now.map c.args.rect.now c.map-map.ensures.canvas.map.small c.requires.inside)

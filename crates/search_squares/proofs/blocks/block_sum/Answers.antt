@@ -1,5 +1,6 @@
-use Rattle.std.proofs.Common.{◌+◌, ℕ, ap, sym, subst, ◌∙◌, arith}
+use Rattle.std.proofs.Common.{◌≡◌, ◌*◌, ◌+◌, ℕ, ap, sym, subst, ◌∙◌, arith}
 use Rattle.std.specs.Prelude.{sum}
+use Rattle.boxes.specs.Sums.{sum_to}
 use Rattle.cells.specs.Cells.{HasRun, row_at}
 use Rattle.cells.specs.Places.{SumFits, plus, spot}
 use Rattle.cells.proofs.PartBoxes.{inside_sum_fits}
@@ -36,3 +37,13 @@ loop-y-preserved c =
           ∙ sym (sum_more counts y rows);
       small = (rows_small c.args.side c.args.picture.now.k y c.loop-y.sum _ _ c.requires.few c.loop-y-test.true c.loop-y.invariant.small c.row-row.ensures.len (omega (arith, c.from-sum.ensures, c.byte_sum.ensures.small))).0;
     }
+
+pub returns : goal.returns
+returns c =
+    let whole : c.loop-y.y ≡ c.args.side = omega (arith, c.loop-y-test.false, c.loop-y.auto.y-end) in
+    c.loop-y.invariant.so_far ∙ ap (λ n. sum_to n (λ y. sum (row_at c.args.picture.now (plus c.args.at (spot 0 y 0)) c.args.side))) whole
+
+pub overflow_cast-result : goal.overflow_cast-result
+overflow_cast-result c =
+    let whole : c.loop-y.y ≡ c.args.side = omega (arith, c.loop-y-test.false, c.loop-y.auto.y-end) in
+    omega (arith, c.loop-y.invariant.small, c.requires.few, ap (λ n. 255 * (c.args.picture.now.k * c.args.side) * n) whole)

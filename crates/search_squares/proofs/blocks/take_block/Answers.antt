@@ -21,3 +21,6 @@ pub returns : goal.returns
 returns c =
     let whole : c.loop-j.j ≡ c.args.side = omega (arith, c.loop-j-test.false, c.loop-j.auto.j-end) in
     subst (λ n. IsTaken (c.args.start + c.args.w * n) (rows_sum c.args.start c.args.w c.args.side n) c.args.free.now c.loop-j.free) whole c.loop-j.invariant
+
+pub overflow_add-start : goal.overflow_add-start
+overflow_add-start c = omega arith

@@ -39,3 +39,39 @@ totals-more-requires-clause-blocks c = grind (arith, common_steps)
 
 pub totals-totals-requires-clause-blocks : goal.totals-totals-requires-clause-blocks
 totals-totals-requires-clause-blocks c = grind (arith, common_steps)
+
+pub totals-more-requires-clause-inside : goal.totals-more-requires-clause-inside
+totals-more-requires-clause-inside c = c.requires.other_inside
+
+pub totals-more-requires-clause-some : goal.totals-more-requires-clause-some
+totals-more-requires-clause-some c = omega arith
+
+pub totals-more-requires-clause-laid : goal.totals-more-requires-clause-laid
+totals-more-requires-clause-laid c = c.requires.other_laid
+
+pub totals-more-requires-clause-few : goal.totals-more-requires-clause-few
+totals-more-requires-clause-few c = c.requires.few
+
+pub totals-more-requires-clause-sums : goal.totals-more-requires-clause-sums
+totals-more-requires-clause-sums c = c.requires.other_sums
+
+pub totals-more-requires-clause-side : goal.totals-more-requires-clause-side
+totals-more-requires-clause-side c = c.requires.other_side
+
+pub totals-totals-requires-clause-some : goal.totals-totals-requires-clause-some
+totals-totals-requires-clause-some c = omega arith
+
+pub totals-totals-requires-clause-inside : goal.totals-totals-requires-clause-inside
+totals-totals-requires-clause-inside c = c.requires.inside
+
+pub totals-totals-requires-clause-few : goal.totals-totals-requires-clause-few
+totals-totals-requires-clause-few c = c.requires.few
+
+pub totals-totals-requires-clause-laid : goal.totals-totals-requires-clause-laid
+totals-totals-requires-clause-laid c = c.requires.laid
+
+pub totals-totals-requires-clause-sums : goal.totals-totals-requires-clause-sums
+totals-totals-requires-clause-sums c = c.requires.sums
+
+pub totals-totals-requires-clause-side : goal.totals-totals-requires-clause-side
+totals-totals-requires-clause-side c = c.requires.side

@@ -1,5 +1,3 @@
-use Rattle.std.proofs.Common.{arith}
-use Rattle.std.proofs.lemmas.Grind.{common_steps}
 use Rattle.search_squares.specs.Terms.{both_sums}
 use Rattle.search_squares.proofs.joint.eliminate_both.Goals as goal
 
@@ -10,4 +8,10 @@ pub returns-then-n-eq0 : goal.returns-then-n-eq0
 returns-then-n-eq0 c = c.none-then-n-eq0.ensures (both_sums c.args.one.now c.args.other.now)
 
 pub returns : goal.returns
-returns c = grind (arith, common_steps)
+returns c = c.all_marks-above.ensures
+
+pub all_marks-above-requires-clause-other : goal.all_marks-above-requires-clause-other
+all_marks-above-requires-clause-other c = c.requires.other
+
+pub all_marks-above-requires-clause-one : goal.all_marks-above-requires-clause-one
+all_marks-above-requires-clause-one c = c.requires.one

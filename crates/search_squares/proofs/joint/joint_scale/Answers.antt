@@ -16,3 +16,6 @@ overflow_mul-cells c = grind (arith, common_steps)
 
 pub overflow_mul-square : goal.overflow_mul-square
 overflow_mul-square c = grind (arith, common_steps)
+
+pub overflow_cast-result : goal.overflow_cast-result
+overflow_cast-result c = omega arith

@@ -58,13 +58,13 @@ pub returns : goal.returns
 returns c = c.above_both.ensures
 
 pub above_both-requires-clause-times : goal.above_both-requires-clause-times
-above_both-requires-clause-times c = grind (arith, common_steps)
+above_both-requires-clause-times c = omega arith
 
 pub returns-then-not-holds_run : goal.returns-then-not-holds_run
 returns-then-not-holds_run c = grind (arith, common_steps)
 
 pub above_both-requires-clause-few : goal.above_both-requires-clause-few
-above_both-requires-clause-few c = grind (arith, common_steps)
+above_both-requires-clause-few c = c.requires.few
 
 pub returns-then-not-holds_run-2 : goal.returns-then-not-holds_run-2
 returns-then-not-holds_run-2 c = grind (arith, common_steps)
@@ -74,3 +74,24 @@ above_both-requires-clause-samples c = grind (arith, common_steps)
 
 pub above_both-requires-clause-side : goal.above_both-requires-clause-side
 above_both-requires-clause-side c = grind (arith, common_steps)
+
+pub above_both-requires-clause-other_side : goal.above_both-requires-clause-other_side
+above_both-requires-clause-other_side c = c.if-others-sums.false
+
+pub returns-then-blocks-sums : goal.returns-then-blocks-sums
+returns-then-blocks-sums c = omega arith
+
+pub returns-in_default-get-2 : goal.returns-in_default-get-2
+returns-in_default-get-2 c = omega arith
+
+pub returns-in_default-get : goal.returns-in_default-get
+returns-in_default-get c = omega arith
+
+pub returns-in_default : goal.returns-in_default
+returns-in_default c = omega arith
+
+pub overflow_add-part : goal.overflow_add-part
+overflow_add-part c = omega arith
+
+pub overflow_mul-part : goal.overflow_mul-part
+overflow_mul-part c = omega arith

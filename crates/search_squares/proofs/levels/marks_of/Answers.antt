@@ -26,3 +26,6 @@ returns c = grind (arith, common_steps)
 
 pub above-requires-clause-blocks : goal.above-requires-clause-blocks
 above-requires-clause-blocks c = grind (arith, common_steps)
+
+pub above-requires-clause-few : goal.above-requires-clause-few
+above-requires-clause-few c = c.requires.few

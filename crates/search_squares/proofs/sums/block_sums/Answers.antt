@@ -21,3 +21,9 @@ sums_of_cells-requires-clause-small c =
 
 pub sums_of_cells-requires-clause-cells : goal.sums_of_cells-requires-clause-cells
 sums_of_cells-requires-clause-cells c = c.requires.cells (c.has_cells.ensures.0 c.if-not-has_cells.false)
+
+pub sums_of_cells-requires-clause-few : goal.sums_of_cells-requires-clause-few
+sums_of_cells-requires-clause-few c = c.requires.few
+
+pub sums_of_cells-requires-clause-some : goal.sums_of_cells-requires-clause-some
+sums_of_cells-requires-clause-some c = c.requires.some

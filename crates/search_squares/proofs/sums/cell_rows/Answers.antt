@@ -1,3 +1,4 @@
+use Rattle.std.proofs.Math.Nat.{mul-le-mul}
 use Rattle.std.proofs.Common.{◌≡◌, ◌*◌, sym, subst, arith}
 use Rattle.cells.proofs.Raster.{below_of_div}
 use Rattle.search_squares.specs.Sums.{AreRows, IsCellSum}
@@ -23,3 +24,21 @@ returns c =
     let size = c.args.rect.now.size in
     let whole : c.loop-row.row ≡ size.h * size.f = omega (arith, c.loop-row-test.false, c.loop-row.auto.row-end) in
     subst (λ n. AreRows (IsCellSum c.args.sample.now c.args.rect.now) size n c.loop-row.sums.items) whole c.loop-row.invariant
+
+pub add_cell_sums-requires-clause-small : goal.add_cell_sums-requires-clause-small
+add_cell_sums-requires-clause-small c = c.requires.small
+
+pub nonzero_rem-row : goal.nonzero_rem-row
+nonzero_rem-row c = omega arith
+
+pub nonzero_div-row : goal.nonzero_div-row
+nonzero_div-row c = omega arith
+
+pub add_cell_sums-requires-clause-inside : goal.add_cell_sums-requires-clause-inside
+add_cell_sums-requires-clause-inside c = c.requires.inside
+
+pub add_cell_sums-requires-clause-volume : goal.add_cell_sums-requires-clause-volume
+add_cell_sums-requires-clause-volume c = c.requires.volume
+
+pub overflow_mul-row-end : goal.overflow_mul-row-end
+overflow_mul-row-end c = omega (arith, mul-le-mul c.requires.small.axes.h.1 c.requires.small.axes.f.1)

@@ -25,3 +25,6 @@ pub returns-clause-sums : goal.returns-clause-sums
 returns-clause-sums c = λ i lt.
     let whole : c.loop-j.j ≡ c.args.n = omega (arith, c.loop-j-test.false, c.loop-j.auto.j-end) in
     c.loop-j.invariant.sums i lt ∙ ap (λ n. stepped_sum c.args.entries.now c.args.step n (c.args.first + i)) whole
+
+pub run_at-requires : goal.run_at-requires
+run_at-requires c = omega arith

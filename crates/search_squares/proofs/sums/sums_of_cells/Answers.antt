@@ -30,3 +30,6 @@ returns c =
     subst (AreBlockEntries sample rect c.args.side) (sym (take_at c.add_up-2.new.entries _ c.in_ok-sums.sums.len (omega (arith, c.add_up-2.ensures.long, c.deref_mut-2.ensures.len))))
     (entries_of_cells sample c.requires.volume rect c.requires.inside c.args.side c.requires.some c.deref_mut.result.now c.deref_mut-2.result.now c.add_up-2.new.entries
     (subst (AreCellSums sample rect) (sym (c.deref_mut.ensures.value ∙ c.in_ok-sums.ensures.items)) c.requires.cells) (subst (AreAdded 1 c.args.side c.deref_mut.result.now) (sym mid_is) c.add_up.ensures) c.add_up-2.ensures)
+
+pub add_up-requires-2-clause-some : goal.add_up-requires-2-clause-some
+add_up-requires-2-clause-some c = c.requires.some

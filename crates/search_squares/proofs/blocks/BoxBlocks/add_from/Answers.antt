@@ -13,3 +13,21 @@ is_block_free-requires c = λ j lj.
 
 pub add_block-requires-clause-few : goal.add_block-requires-clause-few
 add_block-requires-clause-few c = grind (arith, common_steps)
+
+pub add_block-requires-clause-below : goal.add_block-requires-clause-below
+add_block-requires-clause-below c = c.requires.below
+
+pub add_block-requires-clause-inside : goal.add_block-requires-clause-inside
+add_block-requires-clause-inside c = c.requires.inside
+
+pub returns-clause-side : goal.returns-clause-side
+returns-clause-side c = c.add_block.ensures.side
+
+pub add_block-requires-clause-gathered : goal.add_block-requires-clause-gathered
+add_block-requires-clause-gathered c = c.requires.gathered
+
+pub returns-clause-gathered : goal.returns-clause-gathered
+returns-clause-gathered c = c.add_block.ensures.gathered
+
+pub returns-clause-size : goal.returns-clause-size
+returns-clause-size c = c.add_block.ensures.size

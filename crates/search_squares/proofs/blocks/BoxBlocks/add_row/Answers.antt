@@ -1,5 +1,6 @@
 use Rattle.std.proofs.Common.{◌≡◌, ◌<◌, ◌+◌, ◌*◌, ◌/◌, ◌%◌, ap, sym, subst, ◌∙◌, arith, refl, ◌≤◌}
 use Rattle.std.proofs.Math.Nat.{mul-le-mul_left}
+use Rattle.search_squares.specs.Gathered.{HasShortRows}
 use Rattle.cells.specs.Cells.{Cells, HasRun, row_at}
 use Rattle.cells.specs.Places.{SumFits, plus}
 use Rattle.cells.proofs.BoxLaws.{box_small}
@@ -114,3 +115,36 @@ cells-preserved c =
       side = c.cells.invariant.side;
       size = c.cells.invariant.size;
     }
+
+pub byte_sum-sum-requires : goal.byte_sum-sum-requires
+byte_sum-sum-requires c = omega arith
+
+pub overflow_cast-x-in-cells : goal.overflow_cast-x-in-cells
+overflow_cast-x-in-cells c = omega arith
+
+pub overflow_mul-first : goal.overflow_mul-first
+overflow_mul-first c =
+    let size = c.args.rect.now.size in
+    let small = box_small c.args.canvas.now.map.size c.args.rect.now.corner size c.picture-picture.ensures.canvas.map.small c.requires.some c.requires.inside in
+    omega (arith, mul-le-mul_left size.w (let le : c.args.row ≤ size.h * size.f = omega (arith, c.requires.below) in le), small.cells)
+
+pub overflow_add-first : goal.overflow_add-first
+overflow_add-first c =
+    let size = c.args.rect.now.size in
+    let small = box_small c.args.canvas.now.map.size c.args.rect.now.corner size c.picture-picture.ensures.canvas.map.small c.requires.some c.requires.inside in
+    omega (arith, in_rows size.w (size.h * size.f) c.args.row c.cells.x (omega (arith, c.cells-test.true)) c.requires.below, small.cells)
+
+pub entries_before-entry-requires-clause-rows : goal.entries_before-entry-requires-clause-rows
+entries_before-entry-requires-clause-rows c = subst HasShortRows (sym c.cells.invariant.size) c.requires.rows
+
+pub returns-in_err-push-clause-size : goal.returns-in_err-push-clause-size
+returns-in_err-push-clause-size c = c.cells.invariant.size
+
+pub returns-in_err-push-clause-side : goal.returns-in_err-push-clause-side
+returns-in_err-push-clause-side c = c.cells.invariant.side
+
+pub returns-clause-size : goal.returns-clause-size
+returns-clause-size c = c.cells.invariant.size
+
+pub returns-clause-side : goal.returns-clause-side
+returns-clause-side c = c.cells.invariant.side

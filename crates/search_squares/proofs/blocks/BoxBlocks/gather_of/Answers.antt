@@ -1,4 +1,5 @@
-use Rattle.std.proofs.Common.{◌≤◌, ◌<◌, ◌*◌, ◌^◌, [], arith, refl, subst, sym}
+use Rattle.std.proofs.Common.{◌≡◌, ◌≤◌, ◌<◌, ◌*◌, ◌^◌, [], arith, refl, subst, sym}
+use Rattle.std.specs.Prelude.{IfOk}
 use Rattle.std.proofs.lemmas.Grind.{common_steps}
 use Rattle.cells.proofs.BoxLaws.{box_small}
 use Rattle.search_squares.specs.Blocks.{block_bytes}
@@ -49,3 +50,12 @@ returns-clause-blocks c =
       bound = λ sample from laid.
           gathered_bound c.args.canvas.now c.picture-picture.ensures.canvas c.args.rect.now sample from laid blocks.side some blocks.size blocks.blocks.items c.loop-i.free.items c.loop-i.invariant.gathered;
     }
+
+pub add_from-requires-clause-inside : goal.add_from-requires-clause-inside
+add_from-requires-clause-inside c = c.requires.inside
+
+pub returns-clause-side : goal.returns-clause-side
+returns-clause-side c = c.loop-i.invariant.side
+
+pub returns-then-side-eq1-clause-side : goal.returns-then-side-eq1-clause-side
+returns-then-side-eq1-clause-side c = subst (λ side. IfOk c.singles_of.result (λ blocks. blocks.side ≡ side)) (sym c.if-side-eq1.true) c.singles_of.ensures.side

@@ -20,3 +20,9 @@ totals-totals-requires-clause-inside c = c.holds_run.ensures.inside c.if-not-hol
 
 pub totals-totals-requires-clause-blocks : goal.totals-totals-requires-clause-blocks
 totals-totals-requires-clause-blocks c = grind (arith, common_steps)
+
+pub totals-totals-requires-clause-some : goal.totals-totals-requires-clause-some
+totals-totals-requires-clause-some c = omega arith
+
+pub totals-totals-requires-clause-few : goal.totals-totals-requires-clause-few
+totals-totals-requires-clause-few c = c.requires.few

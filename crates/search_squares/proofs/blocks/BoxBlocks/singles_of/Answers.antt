@@ -1,11 +1,12 @@
-use Rattle.std.proofs.Common.{◌≡◌, ◌≤◌, ◌*◌, [], arith, refl, subst, sym}
+use Rattle.std.proofs.Common.{◌∙◌, ◌≡◌, ◌≤◌, ◌*◌, [], arith, refl, subst, sym}
 use Rattle.std.specs.Prelude.{All}
 use Rattle.std.specs.List.{sum_by}
+use Rattle.match_error.proofs.Tables.{few_rows}
+use Rattle.search_squares.specs.Gathered.{HasShortRows, AreSingles}
 use Rattle.cells.specs.Places.{plus}
 use Rattle.map_canvas.specs.Choices.{laid_from}
 use Rattle.match_error.specs.Errors.{error_sum}
 use Rattle.search_squares.specs.Blocks.{HasSumOf, IsBlockIn, block_bytes, block_sum, square_of_difference}
-use Rattle.search_squares.specs.Gathered.{AreSingles}
 use Rattle.search_squares.proofs.BlockErrors.{gathered_bound}
 use Rattle.search_squares.proofs.OneCells.{none_single, recounted}
 use Rattle.search_squares.proofs.blocks.BoxBlocks.singles_of.Goals as goal
@@ -37,3 +38,20 @@ returns-clause-blocks c =
           subst (λ side. sum_by (λ block. square_of_difference block.sum (block_sum sample side (plus from block.step))) blocks.blocks.items ≤ block_bytes side sample.k * error_sum c.args.canvas.now.map sample (laid_from c.args.rect.now from)) one
           (gathered_bound c.args.canvas.now c.picture-picture.ensures.canvas c.args.rect.now sample from laid 1 (omega arith) blocks.size blocks.blocks.items c.loop-row.invariant.singles.free gathered);
     }
+
+pub add_row-requires-clause-long : goal.add_row-requires-clause-long
+add_row-requires-clause-long c = c.requires.long
+
+pub loop-row-preserved : goal.loop-row-preserved
+loop-row-preserved c =
+    record {
+      singles = c.in_ok-add_row.ensures.singles;
+      side = c.add_row.ensures.side ∙ c.loop-row.invariant.side;
+      size = c.add_row.ensures.size ∙ c.loop-row.invariant.size;
+    }
+
+pub overflow_mul-row-end : goal.overflow_mul-row-end
+overflow_mul-row-end c = omega (arith, few_rows c.args.canvas.now.map c.args.rect.now c.picture-picture.ensures.canvas.map.small c.requires.inside)
+
+pub add_row-requires-clause-rows : goal.add_row-requires-clause-rows
+add_row-requires-clause-rows c = subst HasShortRows (sym c.loop-row.invariant.size) c.requires.rows

@@ -113,3 +113,15 @@ pub returns : goal.returns
 returns c = λ j lj.
     let whole = mul-le-mul_left (c.args.scale.factor * c.args.scale.factor) (sum_by-take-le (difference_at c.args.sample.now c.args.self.now.side c.args.from j) c.args.self.now.blocks.items c.stretches.done) in
     omega (arith, c.stretches.invariant j lj, whole)
+
+pub with_block-totals-requires : goal.with_block-totals-requires
+with_block-totals-requires c = omega arith
+
+pub bounds-blocks-i : goal.bounds-blocks-i
+bounds-blocks-i c = omega arith
+
+pub offset_bounds-blocks-i : goal.offset_bounds-blocks-i
+offset_bounds-blocks-i c = omega arith
+
+pub left_in-requires : goal.left_in-requires
+left_in-requires c = omega arith

@@ -11,3 +11,15 @@ returns-then-n-eq0 c = c.none-then-n-eq0.ensures (error_from c.args.canvas.now c
 
 pub returns : goal.returns
 returns c = grind (arith, common_steps)
+
+pub marks-above-requires-clause-inside : goal.marks-above-requires-clause-inside
+marks-above-requires-clause-inside c = c.requires.inside
+
+pub marks-above-requires-clause-over : goal.marks-above-requires-clause-over
+marks-above-requires-clause-over c = c.requires.over
+
+pub marks-above-requires-clause-sums : goal.marks-above-requires-clause-sums
+marks-above-requires-clause-sums c = c.requires.sums
+
+pub marks-above-requires-clause-levels : goal.marks-above-requires-clause-levels
+marks-above-requires-clause-levels c = c.requires.levels

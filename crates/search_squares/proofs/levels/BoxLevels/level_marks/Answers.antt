@@ -14,3 +14,12 @@ marks_of-requires-clause-blocks c = grind (arith, common_steps)
 
 pub returns : goal.returns
 returns c = grind (arith, common_steps)
+
+pub marks_of-requires-clause-inside : goal.marks_of-requires-clause-inside
+marks_of-requires-clause-inside c = c.requires.inside
+
+pub marks_of-requires-clause-over : goal.marks_of-requires-clause-over
+marks_of-requires-clause-over c = c.requires.over
+
+pub marks_of-requires-clause-few : goal.marks_of-requires-clause-few
+marks_of-requires-clause-few c = c.requires.few

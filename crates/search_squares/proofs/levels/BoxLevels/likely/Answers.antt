@@ -7,3 +7,9 @@ nearest_in-requires-clause-blocks c = grind (arith, common_steps)
 
 pub nearest_in-requires-clause-sums : goal.nearest_in-requires-clause-sums
 nearest_in-requires-clause-sums c = grind (arith, common_steps)
+
+pub nearest_in-requires-clause-inside : goal.nearest_in-requires-clause-inside
+nearest_in-requires-clause-inside c = c.requires.inside
+
+pub nearest_in-requires-clause-over : goal.nearest_in-requires-clause-over
+nearest_in-requires-clause-over c = c.requires.over

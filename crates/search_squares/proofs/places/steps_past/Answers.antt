@@ -1,0 +1,9 @@
+use Rattle.std.proofs.Common.{arith}
+use Rattle.std.proofs.lemmas.Int.{ints}
+use Rattle.search_squares.proofs.places.steps_past.Goals as goal
+
+pub returns : goal.returns
+returns c = omega (arith, ints)
+
+pub overflow_cast-result : goal.overflow_cast-result
+overflow_cast-result c = omega (arith, ints)

@@ -4,5 +4,5 @@ use Rattle.std.specs.Prelude.{Vec, ◌≤◌, ◌+◌, ℕ, vec_len, vec_capacit
 use Rattle.max_flow.specs.declared.network.Pipe.{Pipe}
 
 -- so many pipes more have room
-abbrev pub HasRoom : ℕ → Vec Pipe Global → Type 0
-HasRoom more pipes = vec_len pipes + more ≤ vec_capacity pipes
+abbrev pub HasRoomForPipes : ℕ → Vec Pipe Global → Type 0
+HasRoomForPipes more pipes = vec_len pipes + more ≤ vec_capacity pipes

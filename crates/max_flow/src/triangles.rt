@@ -13,7 +13,7 @@
 // goes through the middle. Nothing is promised of either, as nothing is of the search.
 
 ghost use Rattle.std.specs.Prelude.{◌≡◌, ◌+◌, IfOk, length, vec_capacity, vec_len};
-ghost use Rattle.max_flow.specs.Rooms.{HasRoom};
+ghost use Rattle.max_flow.specs.Rooms.{HasRoomForPipes};
 
 use crate::network::{Network, Pipe};
 use crate::packed::PackedArcs;
@@ -190,7 +190,7 @@ impl Stars {
 impl Shorter {
     // A network without pipes, with room for so many, of the nodes before the first middle.
     fn begin(alloc: Global, middle: u32, pipes: usize) -> Result<Shorter, AllocError>
-        ensures { IfOk result (λ made. HasRoom pipes made.pipes) }
+        ensures { IfOk result (λ made. HasRoomForPipes pipes made.pipes) }
     {
         let to_sink = vec![in alloc; 0u32; middle as usize]?;
         let pipes = Vec::with_capacity(alloc, pipes)?;
@@ -200,7 +200,7 @@ impl Shorter {
 
     // Adds the triangle for a star, but for its pipes to the sink.
     fn add_star(&mut self, first: &Pipe, second: &Pipe, down: &Pipe)
-        requires { HasRoom 1 self.old.pipes }
+        requires { HasRoomForPipes 1 self.old.pipes }
         ensures len { vec_len self.new.pipes ≡ vec_len self.old.pipes + 1 }
         ensures capacity { vec_capacity self.new.pipes ≡ vec_capacity self.old.pipes }
     {
@@ -218,7 +218,7 @@ impl Shorter {
     // Reads the pipes of a network. Returns whether all of them that meet a middle are stars in the
     // order of the middles.
     fn read(&mut self, pipes: &[Pipe], sink: u32) -> bool
-        requires { HasRoom (length pipes.now) self.old.pipes }
+        requires { HasRoomForPipes (length pipes.now) self.old.pipes }
     {
         let mut last = self.stars.middle.wrapping_sub(1);
         let mut rest = pipes;
@@ -260,7 +260,7 @@ impl Shorter {
 
     // Makes the network shorter. Returns whether it has fewer pipes by a fifth or more.
     fn shorten(&mut self, pipes: &[Pipe], sink: u32) -> Result<bool, AllocError>
-        requires { HasRoom (length pipes.now) self.old.pipes }
+        requires { HasRoomForPipes (length pipes.now) self.old.pipes }
     {
         if !self.read(pipes, sink) {
             return Ok(false);

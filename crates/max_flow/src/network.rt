@@ -6,7 +6,7 @@ use std::alloc::{AllocError, Global};
 use std::marker::Model;
 
 /// A pipe between two nodes. Its flow is counted from `from` to `to`, so flow the other way is negative.
-#[derive(Clone, Copy, Debug, PartialEq, Eq)]
+#[derive(Clone, Copy)]
 pub struct Pipe {
     /// The node at which the pipe begins.
     pub from: u32,
@@ -19,7 +19,7 @@ pub struct Pipe {
 }
 
 /// A flow network: nodes numbered from 0, a source, a sink, and a list of pipes with room for more.
-#[derive(Debug, Drop)]
+#[derive(Drop)]
 pub struct Network {
     nodes: u32,
     source: u32,

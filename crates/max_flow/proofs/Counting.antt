@@ -1,7 +1,7 @@
 -- What leaves each node, counted pipe by pipe from the last.
-use Rattle.std.proofs.Common.{◌≡◌, ◌<◌, ◌≤◌, ◌+◌, ◌==◌, ℕ, List, ◌∷◌, length, slice_index, drop, replicate, refl, ap, sym, ◌∙◌, subst, arith, ⊎_elim, Bool, true, false, ℤ, pos, ◌+ℤ◌, ◌-ℤ◌, ◌≤ℤ◌}
+use Rattle.std.proofs.Common.{◌≡◌, ◌<◌, ◌≤◌, ◌+◌, ◌==◌, ℕ, List, ◌∷◌, length, slice_index, drop, replicate, refl, ap, sym, ◌∙◌, subst, arith, ⊎_elim, Bool, true, false, ℤ, pos, ◌+ℤ◌, ◌-ℤ◌, ◌≤ℤ◌, to_z, of_z, w64}
 use Rattle.std.proofs.lemmas.Bool.{cases_eq, cases_lt}
-use Rattle.std.proofs.lemmas.Int.{ints}
+use Rattle.std.proofs.lemmas.Int.{ints, to_z-of_z}
 use Rattle.std.proofs.lemmas.List.{get_or-replicate, get_or_past, length-replicate, drop_all, drop_more}
 use Rattle.max_flow.specs.declared.network.Pipe.{Pipe}
 use Rattle.max_flow.specs.Networks.{IsPipeOf, pipe_at, no_pipe}
@@ -43,6 +43,31 @@ part_low false flow most h = omega (arith, ints)
 pub part_high : (b : Bool) (flow : ℤ) (most : ℕ) → flow ≤ℤ pos most → part_if b flow ≤ℤ pos most
 part_high true flow most h = h
 part_high false flow most h = omega (arith, ints)
+
+-- the flow of a pipe, and the same taken away, as 64 bits hold them
+pub flow_is : (against back : ℕ) (a b : ℤ) → a ≡ pos against → b ≡ pos back → against ≤ 131072 → back ≤ 65536
+    → to_z w64 (of_z w64 (to_z w64 (of_z w64 a) -ℤ to_z w64 (of_z w64 b))) ≡ pos against -ℤ pos back
+flow_is against back a b is other la lb =
+    let first : to_z w64 (of_z w64 a) ≡ pos against = to_z-of_z w64 a (omega (arith, ints, is)) ∙ is in
+    let second : to_z w64 (of_z w64 b) ≡ pos back = to_z-of_z w64 b (omega (arith, ints, other)) ∙ other in
+    (λ t. to_z w64 (of_z w64 (first t -ℤ second t))) ∙ to_z-of_z w64 (pos against -ℤ pos back) (omega (arith, ints))
+
+pub less_is : (flow : ℤ) → (pos 0 -ℤ pos 65536) ≤ℤ flow → flow ≤ℤ pos 131072 → to_z w64 (of_z w64 (pos 0 -ℤ flow)) ≡ pos 0 -ℤ flow
+less_is flow low high = to_z-of_z w64 (pos 0 -ℤ flow) (omega (arith, ints))
+
+pub less_opposite : (less flow : ℤ) → less ≡ pos 0 -ℤ flow → less +ℤ flow ≡ pos 0
+less_opposite less flow is = omega (arith, ints)
+
+-- where it was perhaps added before it is taken away
+pub taken_low : (b : Bool) (before between flow : ℤ) → between ≡ before +ℤ part_if b flow → (pos 0 -ℤ pos 2305843009213693952) ≤ℤ before → (pos 0 -ℤ pos 65536) ≤ℤ flow → flow ≤ℤ pos 131072
+    → (pos 0 -ℤ pos 4611686018427387904) ≤ℤ (between +ℤ (pos 0 -ℤ flow))
+taken_low true before between flow is within low high = omega (arith, ints)
+taken_low false before between flow is within low high = omega (arith, ints)
+
+pub taken_high : (b : Bool) (before between flow : ℤ) → between ≡ before +ℤ part_if b flow → before ≤ℤ pos 2305843009213693952 → (pos 0 -ℤ pos 65536) ≤ℤ flow → flow ≤ℤ pos 131072
+    → (between +ℤ (pos 0 -ℤ flow)) ≤ℤ pos 4611686018427387904
+taken_high true before between flow is within low high = omega (arith, ints)
+taken_high false before between flow is within low high = omega (arith, ints)
 
 -- a pipe takes no entry farther from 0 than twice what it can carry
 pub AreWithin_more : (pipe : Pipe) (nodes against most larger : ℕ) (before after : List ℤ) → IsPipeOf nodes pipe → AreWithin most before → CountsPipe pipe against before after → most + 131072 ≤ larger → AreWithin larger after

@@ -17,3 +17,12 @@ push-requires-clause-arc c = grind (arith, common_steps)
 
 pub bottleneck-amount-requires-clause-arcs : goal.bottleneck-amount-requires-clause-arcs
 bottleneck-amount-requires-clause-arcs c = grind (arith, common_steps)
+
+pub push-requires-clause-amount : goal.push-requires-clause-amount
+push-requires-clause-amount c = omega arith
+
+pub returns-clause-residuals : goal.returns-clause-residuals
+returns-clause-residuals c = c.loop-arc.invariant.residuals
+
+pub bottleneck-amount-requires-clause-residuals : goal.bottleneck-amount-requires-clause-residuals
+bottleneck-amount-requires-clause-residuals c = c.requires.residuals

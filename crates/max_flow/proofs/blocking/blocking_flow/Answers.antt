@@ -43,3 +43,12 @@ find_path-requires-clause-residuals c = grind (arith, common_steps)
 
 pub find_path-requires-clause-current : goal.find_path-requires-clause-current
 find_path-requires-clause-current c = grind (arith, common_steps)
+
+pub find_path-requires-clause-levels : goal.find_path-requires-clause-levels
+find_path-requires-clause-levels c = c.requires.levels.numbers
+
+pub find_path-requires-clause-path : goal.find_path-requires-clause-path
+find_path-requires-clause-path c = omega arith
+
+pub copy_from_slice-requires : goal.copy_from_slice-requires
+copy_from_slice-requires c = omega arith

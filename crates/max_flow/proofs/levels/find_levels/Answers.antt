@@ -1,6 +1,5 @@
-use Rattle.std.proofs.Common.{arith}
+use Rattle.std.proofs.Common.{arith, ◌≡◌, ◌++◌, List, ℕ, [], ◌∷◌, set, subst, sym, ap, ◌∙◌}
 use Rattle.std.proofs.lemmas.Grind.{common_steps}
-use Rattle.std.proofs.Common.{◌≡◌, ◌++◌, List, ℕ, [], ◌∷◌, set, subst, sym, ap, ◌∙◌}
 use Rattle.max_flow.specs.Levels.{IsSearch}
 use Rattle.max_flow.proofs.Searching.{IsSearch_begins, zeros}
 use Rattle.max_flow.proofs.levels.find_levels.Goals as goal
@@ -30,4 +29,16 @@ pub returns-in_default-clause-closed : goal.returns-in_default-clause-closed
 returns-in_default-clause-closed c = grind (arith, common_steps)
 
 pub visit-requires-clause-residuals : goal.visit-requires-clause-residuals
-visit-requires-clause-residuals c = grind (arith, common_steps)
+visit-requires-clause-residuals c = c.requires.residuals
+
+pub nodes-preserved : goal.nodes-preserved
+nodes-preserved c = c.in_ok-visit.ensures.search
+
+pub overflow_cast-node : goal.overflow_cast-node
+overflow_cast-node c = omega arith
+
+pub bounds-levels-graph-in-nodes : goal.bounds-levels-graph-in-nodes
+bounds-levels-graph-in-nodes c = omega arith
+
+pub offset_bounds-levels-graph-in-nodes : goal.offset_bounds-levels-graph-in-nodes
+offset_bounds-levels-graph-in-nodes c = omega arith

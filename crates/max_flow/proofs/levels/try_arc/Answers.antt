@@ -36,3 +36,15 @@ returns-clause-tried c = grind (arith, common_steps)
 
 pub returns-then-levels-next-gt0-clause-tried : goal.returns-then-levels-next-gt0-clause-tried
 returns-then-levels-next-gt0-clause-tried c = grind (arith, common_steps)
+
+pub residual-requires-clause-residuals : goal.residual-requires-clause-residuals
+residual-requires-clause-residuals c = c.requires.residuals
+
+pub bounds-levels-next-2 : goal.bounds-levels-next-2
+bounds-levels-next-2 c = omega arith
+
+pub overflow_cast-next : goal.overflow_cast-next
+overflow_cast-next c = omega arith
+
+pub offset_bounds-levels-next-2 : goal.offset_bounds-levels-next-2
+offset_bounds-levels-next-2 c = omega arith

@@ -28,3 +28,15 @@ returns-clause-search c =
 
 pub arcs-smaller : goal.arcs-smaller
 arcs-smaller c = grind (arith, common_steps)
+
+pub try_arc-requires-clause-residuals : goal.try_arc-requires-clause-residuals
+try_arc-requires-clause-residuals c = c.requires.residuals
+
+pub try_arc-requires-clause-leaves : goal.try_arc-requires-clause-leaves
+try_arc-requires-clause-leaves c = omega arith
+
+pub bounds-graph-cursor : goal.bounds-graph-cursor
+bounds-graph-cursor c = omega arith
+
+pub offset_bounds-graph-cursor : goal.offset_bounds-graph-cursor
+offset_bounds-graph-cursor c = omega arith

@@ -61,3 +61,54 @@ bounds-path-depth c = grind (arith, common_steps)
 
 pub next_admissible-cursor-requires-clause-residuals : goal.next_admissible-cursor-requires-clause-residuals
 next_admissible-cursor-requires-clause-residuals c = grind (arith, common_steps)
+
+pub overflow_add-depth : goal.overflow_add-depth
+overflow_add-depth c = omega arith
+
+pub offset_bounds-path-depth-then-depth-gt0 : goal.offset_bounds-path-depth-then-depth-gt0
+offset_bounds-path-depth-then-depth-gt0 c = omega arith
+
+pub offset_bounds-path-depth : goal.offset_bounds-path-depth
+offset_bounds-path-depth c = omega arith
+
+pub returns-clause-current : goal.returns-clause-current
+returns-clause-current c = c.steps.invariant.sound
+
+pub next_admissible-cursor-requires-clause-levels : goal.next_admissible-cursor-requires-clause-levels
+next_admissible-cursor-requires-clause-levels c = c.requires.levels
+
+pub next_admissible-cursor-requires-clause-low : goal.next_admissible-cursor-requires-clause-low
+next_admissible-cursor-requires-clause-low c = omega arith
+
+pub next_admissible-cursor-requires-clause-here : goal.next_admissible-cursor-requires-clause-here
+next_admissible-cursor-requires-clause-here c = omega arith
+
+pub returns-clause-sink : goal.returns-clause-sink
+returns-clause-sink c = omega arith
+
+pub returns-clause-path : goal.returns-clause-path
+returns-clause-path c = c.steps.invariant.steps
+
+pub returns-clause-within : goal.returns-clause-within
+returns-clause-within c = omega arith
+
+pub offset_bounds-graph-arc : goal.offset_bounds-graph-arc
+offset_bounds-graph-arc c = omega arith
+
+pub offset_bounds-current-node-then-depth-gt0 : goal.offset_bounds-current-node-then-depth-gt0
+offset_bounds-current-node-then-depth-gt0 c = omega arith
+
+pub overflow_cast-cursor : goal.overflow_cast-cursor
+overflow_cast-cursor c = omega arith
+
+pub overflow_sub-cursor : goal.overflow_sub-cursor
+overflow_sub-cursor c = c.if-cursor-gt0.true
+
+pub overflow_sub-depth : goal.overflow_sub-depth
+overflow_sub-depth c = c.if-depth-gt0.true
+
+pub bounds-current-node-in-steps : goal.bounds-current-node-in-steps
+bounds-current-node-in-steps c = omega arith
+
+pub overflow_sub-path : goal.overflow_sub-path
+overflow_sub-path c = c.if-cursor-gt0.true

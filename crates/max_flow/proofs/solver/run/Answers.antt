@@ -23,3 +23,15 @@ blocking_flow-value-requires-clause-current c = grind (arith, common_steps)
 
 pub phases-preserved : goal.phases-preserved
 phases-preserved c = grind (arith, common_steps)
+
+pub blocking_flow-value-requires-clause-levels : goal.blocking_flow-value-requires-clause-levels
+blocking_flow-value-requires-clause-levels c = c.in_ok-find_levels.ensures.levels
+
+pub is_thin-requires : goal.is_thin-requires
+is_thin-requires c = omega arith
+
+pub find_levels-requires-clause-residuals : goal.find_levels-requires-clause-residuals
+find_levels-requires-clause-residuals c = omega arith
+
+pub returns-clause-levels : goal.returns-clause-levels
+returns-clause-levels c = c.in_ok-find_levels.ensures.levels

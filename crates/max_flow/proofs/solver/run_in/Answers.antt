@@ -28,3 +28,9 @@ link-requires-clause-pipes c = grind (arith, common_steps)
 
 pub link-requires-clause-limit : goal.link-requires-clause-limit
 link-requires-clause-limit c = grind (arith, common_steps)
+
+pub overflow_cast-graph-2 : goal.overflow_cast-graph-2
+overflow_cast-graph-2 c = omega arith
+
+pub overflow_cast-graph : goal.overflow_cast-graph
+overflow_cast-graph c = omega arith

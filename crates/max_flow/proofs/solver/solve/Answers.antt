@@ -43,3 +43,6 @@ returns-clause-least c = grind (arith, common_steps)
 
 pub returns-clause-cut : goal.returns-clause-cut
 returns-clause-cut c = grind (arith, common_steps)
+
+pub finish-requires-clause-sized : goal.finish-requires-clause-sized
+finish-requires-clause-sized c = omega arith

@@ -78,10 +78,14 @@ pub returns-clause-inside : goal.returns-clause-inside
 returns-clause-inside g c = subst (λ (m : SourceMap). All (λ source. IsSomeAnd source (IsInTurned c.args.samples.now)) m.sources) (sym c.from_sources.ensures) c.loop-i.invariant.inside
 
 pub returns-in_default-clause-reads : goal.returns-in_default-clause-reads
-returns-in_default-clause-reads g c = grind (arith, common_steps)
+returns-in_default-clause-reads g c =
+    let state = g.S.Shelf.state in
+    only_reads_then (state c.args.shelf.now) (state c.loop-i.shelf) (state c.read_source.new.shelf) c.loop-i.invariant.reads (c.in_ok-source.ensures {u = tt}).reads
 
 pub returns-in_err-source-clause-reads : goal.returns-in_err-source-clause-reads
-returns-in_err-source-clause-reads g c = grind (arith, common_steps)
+returns-in_err-source-clause-reads g c =
+    let state = g.S.Shelf.state in
+    only_reads_then (state c.args.shelf.now) (state c.loop-i.shelf) (state c.read_source.new.shelf) c.loop-i.invariant.reads c.in_err-source.ensures.reads
 
 pub loop-i-init : goal.loop-i-init
 loop-i-init g c = grind (arith, common_steps)

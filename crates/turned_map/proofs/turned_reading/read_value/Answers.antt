@@ -1,7 +1,6 @@
-use Rattle.std.proofs.Common.{arith}
-use Rattle.std.proofs.lemmas.Grind.{common_steps}
 use Rattle.std.proofs.lemmas.Result.{err_from_is_err_and}
 use Rattle.std.specs.Prelude.{Err}
+use Rattle.shelf_core.proofs.FileLaws.{only_reads_then}
 use Rattle.cells.specs.declared.place.Size.{Size}
 use Rattle.source_map.proofs.FieldLaws.{first_stops, lifted, then_reads}
 use Rattle.turned_map.specs.TurnedFiles.{turned_body_read, turned_start_read}
@@ -26,4 +25,6 @@ returns-clause-answer g c =
     c.read_body.ensures.answer
 
 pub returns-clause-reads : goal.returns-clause-reads
-returns-clause-reads g c = grind (arith, common_steps)
+returns-clause-reads g c =
+    let state = g.S.Shelf.state in
+    only_reads_then (state c.args.shelf.now) (state c.read_start.new.shelf) (state c.read_body.new.shelf) (c.in_ok-output.ensures {u = tt}).reads c.read_body.ensures.reads

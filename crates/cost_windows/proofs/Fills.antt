@@ -1,7 +1,7 @@
 -- The pairs of cells, by the indices of the two in a map.
-use Rattle.std.proofs.Common.{◌≡◌, ℕ, ◌+◌, get_or, refl, ap, sym, ◌∙◌, arith, true, false}
+use Rattle.std.proofs.Common.{◌≡◌, ◌<◌, ℕ, ◌+◌, get_or, refl, ap, sym, ◌∙◌, arith, true, false}
 use Rattle.std.proofs.lemmas.Int.{ints}
-use Rattle.std.specs.Prelude.{pos, ◌+ℤ◌, Option, Some, None}
+use Rattle.std.specs.Prelude.{Bool, pos, ◌+ℤ◌, Option, Some, None}
 use borrow.Author.Tests.{lt-ltb}
 use mathlib.Core.Bool.{false≢true}
 use Rattle.cells.specs.declared.place.At.{At}
@@ -9,11 +9,12 @@ use Rattle.cells.specs.declared.place.Axis.{Axis}
 use Rattle.cells.specs.declared.place.Axis.TheVariants.{X, Y, F}
 use Rattle.cells.specs.declared.place.Size.{Size}
 use Rattle.cells.specs.Neighbours.{unit_step}
-use Rattle.cells.specs.Places.{index_in, plus, raster_index, spot}
+use Rattle.cells.specs.Places.{cell_count, index_in, plus, raster_index, spot}
 use Rattle.cells.proofs.Raster.{index_of_spot, index_parts}
-use Rattle.boxes.specs.Pairs.{IsPair, has_next}
+use Rattle.boxes.specs.Pairs.{AreCounts, IsPair, has_next}
 use Rattle.boxes.specs.Raster.{stride}
 use Rattle.boxes.proofs.Cells.{counts_f, counts_x, counts_y}
+use Rattle.boxes.proofs.Indices.{stride_below}
 use Rattle.map_canvas.specs.Maps.{SourceMap, map_at, source_at}
 use Rattle.costs.specs.Costs.{pair_at, seam_of}
 
@@ -34,6 +35,13 @@ next_index size Y x y f pair =
 next_index size F x y f pair =
     let at = counts_f size x y f pair in
     ap (index_in size) (λ k. record { x = none_on x k; y = none_on y k; f = one_on f k }) ∙ index_of_spot size x y (f + 1) at.column at.row at.frame ∙ ap Some (omega arith)
+
+-- the next cell is among those of the map, by the size and the step that the code has
+pub next_below : (size known : Size) (axis : Axis) (x y f i step : ℕ) (has : Bool) → known ≡ size → AreCounts size x y f → i ≡ raster_index size x y f → has ≡ has_next known axis x y f → has ≡ true
+    → step ≡ stride known axis → i + step < cell_count size
+next_below size known axis x y f i step has same counts at next on is =
+    let pair : IsPair size axis x y f = record { counts = counts; next = ap (λ (s : Size). has_next s axis x y f) (sym same) ∙ sym next ∙ on } in
+    omega (arith, at, is ∙ ap (λ (s : Size). stride s axis) same, stride_below size axis x y f pair)
 
 -- the cost of a pair by the sources of the two
 pub pair_by_index : (d : At → At → ℕ) (m : SourceMap) (axis : Axis) (x y f i : ℕ) (a b : Option At) → IsPair m.size axis x y f → i ≡ raster_index m.size x y f

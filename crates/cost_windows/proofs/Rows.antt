@@ -1,9 +1,9 @@
 -- Rows of a block: their counts, their places in raster order, and a row written into a list.
-use Rattle.std.proofs.Common.{◌≡◌, ℕ, ◌+◌, ◌-◌, ◌*◌, ◌/◌, ◌%◌, ◌<◌, ◌≤◌, List, ◌++◌, length, get_or, take, drop, ap, sym, ◌∙◌, subst, arith, ⊎_elim, get_or-take, get_or-drop}
+use Rattle.std.proofs.Common.{◌≡◌, ℕ, ◌+◌, ◌-◌, ◌*◌, ◌/◌, ◌%◌, ◌<◌, ◌≤◌, List, ◌++◌, length, get_or, set, take, drop, ap, sym, ◌∙◌, subst, arith, below_more, ⊎_elim, get_or-take, get_or-drop}
 use Rattle.std.specs.Prelude.{Bool}
 use Rattle.std.proofs.Math.Nat.{mul-le-mul_left}
 use Rattle.std.proofs.lemmas.Bool.{cases_lt}
-use Rattle.std.proofs.lemmas.List.{get_or_append_left, get_or-append-add, length-take-le}
+use Rattle.std.proofs.lemmas.List.{get_or_append_left, get_or-append-add, get_or-set_other, get_or-set_same, length-take-le}
 use borrow.Rule.Slice.PartMut.{put_mid, post_of}
 use Rattle.cells.specs.declared.place.Size.{Size}
 use Rattle.cells.specs.Places.{cell_count}
@@ -42,6 +42,15 @@ after_row made row a k q le long fits =
     ∙ subst (λ p. get_or (put_mid a k made row) (p + (k + r)) 0 ≡ get_or (row ++ post_of a k made) (k + r) 0) (length-take-le a made (omega arith)) (get_or-append-add (take a made) (row ++ post_of a k made) (k + r) 0)
     ∙ subst (λ p. get_or (row ++ post_of a k made) (p + r) 0 ≡ get_or (post_of a k made) r 0) long (get_or-append-add row (post_of a k made) r 0)
     ∙ get_or-drop k (drop a made) r 0 ∙ get_or-drop a made (k + r) 0 ∙ ap (λ p. get_or made p 0) (sym place)
+
+-- what holds of each entry so far, and of one that is put in
+pub set_more : (P : ℕ → ℕ → Type 0) (xs : List ℕ) (k x : ℕ) → k < length xs → ((i : ℕ) → i < k → P i (get_or xs i 0)) → P k x → (i : ℕ) → i < k + 1 → P i (get_or (set xs k x) i 0)
+set_more P xs k x inside before here = below_more (λ i. P i (get_or (set xs k x) i 0)) k
+    (λ i lt. subst (P i) (sym (get_or-set_other xs k i x 0 (apart i lt))) (before i lt))
+    (subst (P k) (sym (get_or-set_same xs k x 0 inside)) here)
+  where
+    apart : (i : ℕ) → i < k → i ≡ k → ⊥
+    apart i lt is = omega arith
 
 -- an entry of a part of a list
 pub in_part : (xs : List ℕ) (a w k : ℕ) → k < w → get_or (take (a + w - a) (drop a xs)) k 0 ≡ get_or xs (a + k) 0

@@ -12,7 +12,7 @@ use cells::{Box3, Size};
 use limits::GREATEST_AXIS;
 
 /// A run of cells along one axis.
-#[derive(Clone, Copy, Debug, Drop, PartialEq, Eq)]
+#[derive(Clone, Copy, Drop)]
 pub(crate) struct Run {
     /// The first, counted from the first of the axis.
     pub from: u32,
@@ -34,7 +34,7 @@ impl Run {
 }
 
 /// The cells whose counts lie on three runs.
-#[derive(Clone, Copy, Debug, Drop, PartialEq, Eq)]
+#[derive(Clone, Copy, Drop)]
 pub(crate) struct Block {
     /// The columns.
     pub x: Run,

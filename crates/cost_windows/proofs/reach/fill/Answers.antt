@@ -22,6 +22,9 @@ loop-row-preserved c =
       small = rows_at_most w row most_of_pair made c.fill_row.new.costs fits long c.loop-row.invariant.small c.fill_row.ensures.small;
     }
 
+pub slice_bounds-fill_row-end : goal.slice_bounds-fill_row-end
+slice_bounds-fill_row-end c = omega (arith, c.loop-row.auto.costs, c.requires.count, mul-le-mul_left c.args.block.now.x.len c.loop-row-test.true)
+
 pub returns-clause-small : goal.returns-clause-small
 returns-clause-small c = grind (arith, common_steps)
 

@@ -1,6 +1,7 @@
--- How many pairs a box has, also one whose axes are longer than those of a volume.
-use Rattle.std.proofs.Common.{◌≡◌, ◌≤◌, ◌+◌, ◌-◌, ◌*◌, ℕ, zero, suc, refl, ◌∙◌, arith}
+-- How many cells and pairs a box has, also one whose axes are longer than those of a volume.
+use Rattle.std.proofs.Common.{◌≡◌, ◌≤◌, ◌+◌, ◌-◌, ◌*◌, ℕ, zero, suc, refl, ap, ◌∙◌, arith}
 use Rattle.std.specs.Prelude.{if◌then◌else◌}
+use Rattle.std.proofs.Math.Nat.{mul-le-mul_right}
 use borrow.Author.Tests.{le-ltb}
 use Rattle.cells.specs.declared.place.Size.{Size}
 use Rattle.cells.specs.Boxes.{HasCells}
@@ -8,6 +9,15 @@ use Rattle.cells.specs.Places.{cell_count}
 use Rattle.boxes.specs.Pairs.{AreCounts, pair_count}
 use Rattle.boxes.proofs.ClosedForm.{closed_is}
 use Rattle.boxes.proofs.PairNumbers.{pairs_before_last}
+use Rattle.cert_file.specs.CutForms.{IsBoxSize}
+
+pub some_cells : (size : Size) → IsBoxSize size → 1 ≤ cell_count size
+some_cells size axes =
+    let layer : 1 ≤ size.h * size.f = omega (arith, mul-le-mul_right size.f axes.h.0, axes.f.0) in
+    omega (arith, layer, mul-le-mul_right (size.h * size.f) axes.w.0)
+
+pub flat_cells : (size : Size) → size.f ≡ 1 → cell_count size ≡ size.w * size.h
+flat_cells size one = ap (λ f. size.w * (size.h * f)) one ∙ omega arith
 
 -- on each axis, the cells less those of the last layer
 pub pairs_by_layers : (size : Size) → HasCells size → pair_count size ≡ (cell_count size - size.h * size.f) + (cell_count size - size.w * size.f) + (cell_count size - size.w * size.h)

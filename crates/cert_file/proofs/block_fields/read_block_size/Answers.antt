@@ -1,10 +1,8 @@
-use Rattle.std.proofs.Common.{arith}
-use Rattle.std.proofs.lemmas.Grind.{common_steps}
 use Rattle.std.proofs.Common.{ℕ, List}
 use Rattle.std.proofs.lemmas.Result.{err_from_is_err_and}
 use Rattle.std.specs.Prelude.{Result, Err}
 use Rattle.shelf_core.specs.declared.fault.ReadError.{ReadError}
-use Rattle.shelf_core.proofs.FileLaws.{only_reads_same}
+use Rattle.shelf_core.proofs.FileLaws.{only_reads_same, only_reads_then}
 use Rattle.std.specs.Int.{w16}
 use Rattle.cells.specs.declared.place.Size.{Size}
 use Rattle.source_map.proofs.FieldLaws.{chain, first_stops, then_reads}
@@ -56,4 +54,6 @@ returns-clause-answer g c =
     (by_rule ⊥ name (state c.read_box_axis-2.new.shelf) (state c.read_box_axis-2.new.shelf) c.read_box_axis-2.new.file (box_cells_rule c.args.before (record { w = v0; h = v1; f = 1 })) c.lawful_box.result c.lawful_box.ensures.size c.lawful_box.ensures.refusal ok1.answer.follows)))
 
 pub returns-clause-reads : goal.returns-clause-reads
-returns-clause-reads g c = grind (arith, common_steps)
+returns-clause-reads g c =
+    let state = g.S.Shelf.state in
+    only_reads_then (state c.args.shelf.now) (state c.read_box_axis.new.shelf) (state c.read_box_axis-2.new.shelf) (c.in_ok-w.ensures {u = tt}).reads (c.in_ok-h.ensures {u = tt}).reads

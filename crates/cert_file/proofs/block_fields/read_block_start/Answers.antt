@@ -110,10 +110,17 @@ returns-clause-answer g c =
     (made ⊥ name (state c.read_flags.new.shelf) (state c.read_flags.new.shelf) c.read_flags.new.file value ok3.answer.follows)))))
 
 pub returns-clause-within : goal.returns-clause-within
-returns-clause-within g c = grind (arith, common_steps)
+returns-clause-within g c = record { corner = (c.in_ok-corner.ensures {u = tt}).short; box = (c.in_ok-size.ensures {u = tt}).within; frame = (c.in_ok-size.ensures {u = tt}).frame; from = (c.in_ok-from.ensures {u = tt}).short }
 
 pub returns-clause-reads : goal.returns-clause-reads
-returns-clause-reads g c = grind (arith, common_steps)
+returns-clause-reads g c =
+    let state = g.S.Shelf.state in
+    only_reads_then (state c.args.shelf.now) (state c.read_spot.new.shelf) (state c.read_flags.new.shelf) (c.in_ok-corner.ensures {u = tt}).reads (only_reads_then (state c.read_spot.new.shelf) (state c.read_block_size.new.shelf) (state c.read_flags.new.shelf) (c.in_ok-size.ensures {u = tt}).reads (only_reads_then (state c.read_block_size.new.shelf) (state c.read_spot-2.new.shelf) (state c.read_flags.new.shelf) (c.in_ok-from.ensures {u = tt}).reads (c.in_ok-flags.ensures {u = tt}).reads))
 
 pub returns-clause-place : goal.returns-clause-place
 returns-clause-place g c = grind (arith, common_steps)
+
+pub returns-in_err-flags-clause-reads : goal.returns-in_err-flags-clause-reads
+returns-in_err-flags-clause-reads g c =
+    let state = g.S.Shelf.state in
+    only_reads_then (state c.args.shelf.now) (state c.read_spot.new.shelf) (state c.read_flags.new.shelf) (c.in_ok-corner.ensures {u = tt}).reads (only_reads_then (state c.read_spot.new.shelf) (state c.read_block_size.new.shelf) (state c.read_flags.new.shelf) (c.in_ok-size.ensures {u = tt}).reads (only_reads_then (state c.read_block_size.new.shelf) (state c.read_spot-2.new.shelf) (state c.read_flags.new.shelf) (c.in_ok-from.ensures {u = tt}).reads c.in_err-flags.ensures.reads))

@@ -1,4 +1,4 @@
-use Rattle.std.proofs.Common.{arith}
+use Rattle.std.proofs.Common.{arith, ◌≤◌}
 use Rattle.std.proofs.lemmas.Grind.{common_steps}
 use Rattle.std.proofs.Common.{ℕ, List, ◌*◌}
 use Rattle.std.proofs.lemmas.Result.{err_from_is_err_and}
@@ -11,6 +11,7 @@ use Rattle.source_map.proofs.FieldLaws.{chain, first_stops, lifted, made, then_r
 use Rattle.source_map.specs.Readings.{list_read, number_read}
 use Rattle.cert_file.specs.BlockReading.{cols_rule}
 use Rattle.cert_file.specs.Rules.{any_rule}
+use Rattle.std.proofs.Math.Nat.{mul-le-mul_left}
 use Rattle.cert_file.proofs.block_fields.read_boundary.Goals as goal
 
 abbrev after_2 : ℕ → ℕ → ℕ → List ℕ → List ℕ → ℕ → List ℕ → Result (BoundaryRecord × ℕ) ReadError
@@ -81,10 +82,20 @@ returns-clause-answer g c =
     (made (Unit {0}) name (state c.read_list_32.new.shelf) (state c.read_list_32.new.shelf) c.read_list_32.new.file value ok2.answer.follows))))
 
 pub returns-clause-place : goal.returns-clause-place
-returns-clause-place g c = grind (arith, common_steps)
+returns-clause-place g c =
+    let cols = (c.in_ok-cols.ensures {u = tt}).within in
+    let one : 1 ≤ c.args.most = omega (arith, cols.0, cols.1) in
+    omega (arith, (c.in_ok-cols.ensures {u = tt}).place, (c.in_ok-path.ensures {u = tt}).place, (c.in_ok-sums.ensures {u = tt}).place, mul-le-mul_left c.args.rows cols.1, mul-le-mul_left c.args.rows one, c.requires.some)
 
 pub returns-clause-reads : goal.returns-clause-reads
-returns-clause-reads g c = grind (arith, common_steps)
+returns-clause-reads g c =
+    let state = g.S.Shelf.state in
+    only_reads_then (state c.args.shelf.now) (state c.read_cols.new.shelf) (state c.read_list_32.new.shelf) (c.in_ok-cols.ensures {u = tt}).reads (only_reads_then (state c.read_cols.new.shelf) (state c.read_list_16.new.shelf) (state c.read_list_32.new.shelf) (c.in_ok-path.ensures {u = tt}).reads (c.in_ok-sums.ensures {u = tt}).reads)
 
 pub read_list_32-requires-clause-room : goal.read_list_32-requires-clause-room
 read_list_32-requires-clause-room g c = grind (arith, common_steps)
+
+pub returns-in_err-sums-clause-reads : goal.returns-in_err-sums-clause-reads
+returns-in_err-sums-clause-reads g c =
+    let state = g.S.Shelf.state in
+    only_reads_then (state c.args.shelf.now) (state c.read_cols.new.shelf) (state c.read_list_32.new.shelf) (c.in_ok-cols.ensures {u = tt}).reads (only_reads_then (state c.read_cols.new.shelf) (state c.read_list_16.new.shelf) (state c.read_list_32.new.shelf) (c.in_ok-path.ensures {u = tt}).reads c.in_err-sums.ensures.reads)

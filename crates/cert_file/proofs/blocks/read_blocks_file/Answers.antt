@@ -80,3 +80,13 @@ returns-clause-answer g c =
 
 pub returns-clause-form : goal.returns-clause-form
 returns-clause-form g c = grind (arith, common_steps)
+
+pub returns-clause-reads : goal.returns-clause-reads
+returns-clause-reads g c =
+    let state = g.S.Shelf.state in
+    only_reads_then (state c.args.shelf.now) (state c.read_count.new.shelf) (state c.end.new.shelf) (c.in_ok-count.ensures {u = tt}).reads (only_reads_then (state c.read_count.new.shelf) (state c.read_blocks.new.shelf) (state c.end.new.shelf) (c.in_ok-blocks.ensures {u = tt}).reads (c.in_ok-end.ensures {u = tt}).reads)
+
+pub returns-in_err-end-clause-reads : goal.returns-in_err-end-clause-reads
+returns-in_err-end-clause-reads g c =
+    let state = g.S.Shelf.state in
+    only_reads_then (state c.args.shelf.now) (state c.read_count.new.shelf) (state c.end.new.shelf) (c.in_ok-count.ensures {u = tt}).reads (only_reads_then (state c.read_count.new.shelf) (state c.read_blocks.new.shelf) (state c.end.new.shelf) (c.in_ok-blocks.ensures {u = tt}).reads c.in_err-end.ensures.reads)

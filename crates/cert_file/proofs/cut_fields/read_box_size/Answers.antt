@@ -1,5 +1,3 @@
-use Rattle.std.proofs.Common.{arith}
-use Rattle.std.proofs.lemmas.Grind.{common_steps}
 use Rattle.std.proofs.Common.{ℕ, List}
 use Rattle.std.proofs.lemmas.Result.{err_from_is_err_and}
 use Rattle.std.specs.Prelude.{Result, Err}
@@ -71,4 +69,6 @@ returns-clause-answer g c =
     (by_rule ⊥ name (state c.read_box_axis-3.new.shelf) (state c.read_box_axis-3.new.shelf) c.read_box_axis-3.new.file (box_cells_rule c.args.before (record { w = v0; h = v1; f = v2 })) c.lawful_box.result c.lawful_box.ensures.size c.lawful_box.ensures.refusal ok2.answer.follows)))
 
 pub returns-clause-reads : goal.returns-clause-reads
-returns-clause-reads g c = grind (arith, common_steps)
+returns-clause-reads g c =
+    let state = g.S.Shelf.state in
+    only_reads_then (state c.args.shelf.now) (state c.read_box_axis.new.shelf) (state c.read_box_axis-3.new.shelf) (c.in_ok-w.ensures {u = tt}).reads (only_reads_then (state c.read_box_axis.new.shelf) (state c.read_box_axis-2.new.shelf) (state c.read_box_axis-3.new.shelf) (c.in_ok-h.ensures {u = tt}).reads (c.in_ok-f.ensures {u = tt}).reads)

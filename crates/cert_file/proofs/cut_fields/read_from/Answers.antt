@@ -4,6 +4,7 @@ use Rattle.std.proofs.Common.{◌≡◌, ◌≤◌, ◌∙◌, ap, sym, subst}
 use Rattle.cells.specs.SizeLists.{size_of_part, stock_place}
 use Rattle.source_map.specs.MapFiles.{IsInSamples}
 use Rattle.source_map.proofs.Sources.{stock_in}
+use Rattle.shelf_core.proofs.FileLaws.{only_reads_then}
 use Rattle.cert_file.proofs.cut_fields.read_from.Goals as goal
 
 pub returns-clause-inside : goal.returns-clause-inside
@@ -18,7 +19,9 @@ returns-clause-inside g c =
     (stock_in samples part c.at-size.result c.in_ok-p.p some (c.at-size.ensures.size ∙ ap (size_of_part samples) first) (c.in_ok-p.ensures {u = tt}).inside)
 
 pub returns-clause-reads : goal.returns-clause-reads
-returns-clause-reads g c = grind (arith, common_steps)
+returns-clause-reads g c =
+    let state = g.S.Shelf.state in
+    only_reads_then (state c.args.shelf.now) (state c.read_part.new.shelf) (state c.read_place.new.shelf) (c.in_ok-part.ensures {u = tt}).reads (c.in_ok-p.ensures {u = tt}).reads
 
 pub returns-clause-answer : goal.returns-clause-answer
 returns-clause-answer g c = grind (arith, common_steps)

@@ -1,5 +1,4 @@
-use Rattle.std.proofs.Common.{arith}
-use Rattle.std.proofs.lemmas.Grind.{common_steps}
+use Rattle.std.proofs.Common.{arith, ◌∙◌}
 use Rattle.std.proofs.Common.{ℕ, List, subst}
 use Rattle.std.proofs.lemmas.Result.{err_from_is_err_and}
 use Rattle.std.specs.Prelude.{Result, Ok, Err}
@@ -15,6 +14,7 @@ use Rattle.cut_check.specs.declared.record.Flow.{Flow}
 use Rattle.std.specs.Prelude.{Bool}
 use Rattle.source_map.specs.Readings.{ReadsFrom, field_read, list_read}
 use Rattle.cert_file.specs.CutReading.{box_size_read, choice_read, corner_rule, flow_read, from_read}
+use Rattle.cert_file.proofs.PairCounts.{some_cells}
 use Rattle.cert_file.proofs.cut_reading.read_cut.Goals as goal
 
 abbrev end : At → Size → At → List Bool → List Flow → ℕ → List ℕ → Result (CutRecord × ℕ) ReadError
@@ -153,13 +153,22 @@ returns-clause-reads g c =
     only_reads_then (state c.args.shelf.now) (state c.read_corner.new.shelf) (state c.read_flows.new.shelf) (c.in_ok-corner.ensures {u = tt}).reads (only_reads_then (state c.read_corner.new.shelf) (state c.read_box_size.new.shelf) (state c.read_flows.new.shelf) (c.in_ok-size.ensures {u = tt}).reads (only_reads_then (state c.read_box_size.new.shelf) (state c.read_from.new.shelf) (state c.read_flows.new.shelf) (c.in_ok-from.ensures {u = tt}).reads (only_reads_then (state c.read_from.new.shelf) (state c.read_choice.new.shelf) (state c.read_flows.new.shelf) (c.in_ok-choice.ensures {u = tt}).reads (c.in_ok-flows.ensures {u = tt}).reads)))
 
 pub returns-clause-form : goal.returns-clause-form
-returns-clause-form g c = grind (arith, common_steps)
+returns-clause-form g c =
+    record {
+      corner = (c.in_ok-corner.ensures {u = tt}).short;
+      size = (c.in_ok-size.ensures {u = tt}).within.axes;
+      from = (c.in_ok-from.ensures {u = tt}).inside;
+      choice = (c.in_ok-choice.ensures {u = tt}).count ∙ c.cells_of.ensures;
+      flows = (c.in_ok-flows.ensures {u = tt}).count ∙ c.pairs_of.ensures.pairs;
+    }
 
 pub returns-clause-place : goal.returns-clause-place
-returns-clause-place g c = grind (arith, common_steps)
+returns-clause-place g c =
+    omega (arith, (c.in_ok-corner.ensures {u = tt}).place, (c.in_ok-size.ensures {u = tt}).place, (c.in_ok-from.ensures {u = tt}).place, (c.in_ok-choice.ensures {u = tt}).place, (c.in_ok-flows.ensures {u = tt}).place, c.cells_of.ensures, c.pairs_of.ensures.few, some_cells c.in_ok-size.size (c.in_ok-size.ensures {u = tt}).within.axes)
 
 pub returns-clause-cells : goal.returns-clause-cells
-returns-clause-cells g c = grind (arith, common_steps)
+returns-clause-cells g c = (c.in_ok-size.ensures {u = tt}).within.cells
 
 pub read_flows-requires-clause-room : goal.read_flows-requires-clause-room
-read_flows-requires-clause-room g c = grind (arith, common_steps)
+read_flows-requires-clause-room g c =
+    omega (arith, (c.in_ok-corner.ensures {u = tt}).place, (c.in_ok-size.ensures {u = tt}).place, (c.in_ok-from.ensures {u = tt}).place, (c.in_ok-choice.ensures {u = tt}).place, c.cells_of.ensures, c.pairs_of.ensures.few, (c.in_ok-size.ensures {u = tt}).within.cells, c.requires.room)

@@ -1,5 +1,5 @@
 use Rattle.std.proofs.lemmas.Grind.{common_steps}
-use Rattle.std.proofs.Common.{◌-◌, ◌++◌, ◌∷◌, [], ◌+◌, ◌∙◌, length, ap, sym, subst, arith}
+use Rattle.std.proofs.Common.{◌-◌, ◌++◌, ◌∷◌, [], ◌+◌, ◌∙◌, length, ap, sym, subst, arith, ◌≡◌}
 use Rattle.std.specs.Prelude.{All, Err, vec_capacity, vec_len}
 use Rattle.std.proofs.lemmas.List.Elements.{All-push}
 use Rattle.std.proofs.lemmas.Result.{err_from_is_err_and}
@@ -62,3 +62,10 @@ returns-clause-form g c = subst (All (IsCutInForm c.args.samples.now)) (sym c.fr
 
 pub loop-i-init : goal.loop-i-init
 loop-i-init g c = grind (arith, common_steps)
+
+pub returns-clause-answer : goal.returns-clause-answer
+returns-clause-answer g c =
+    let state = g.S.Shelf.state in
+    let all : c.loop-i.i ≡ c.args.count = omega (arith, c.loop-i-test.false, c.loop-i.auto.i-end) in
+    subst (Found c.args.name.now c.args.file.now.at (state c.loop-i.shelf) c.loop-i.file (cuts_read c.args.version c.args.samples.now c.args.count)) (sym c.from_vec.ensures)
+    (subst (λ n. Found c.args.name.now c.args.file.now.at (state c.loop-i.shelf) c.loop-i.file (cuts_read c.args.version c.args.samples.now n) c.loop-i.cuts.items) all c.loop-i.invariant.found)

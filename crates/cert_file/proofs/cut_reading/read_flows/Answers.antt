@@ -1,5 +1,4 @@
-use Rattle.std.proofs.lemmas.Grind.{common_steps}
-use Rattle.std.proofs.Common.{◌+◌, ◌-◌, [], ◌∷◌, ◌++◌, length, subst, sym, ap, ◌∙◌, arith}
+use Rattle.std.proofs.Common.{◌+◌, ◌-◌, [], ◌∷◌, ◌++◌, length, subst, sym, ap, ◌∙◌, arith, ◌≡◌}
 use Rattle.std.specs.Prelude.{Err, vec_capacity, vec_len}
 use Rattle.std.proofs.lemmas.Result.{err_from_is_err_and}
 use Rattle.shelf_core.proofs.FileLaws.{only_reads_then}
@@ -51,4 +50,8 @@ returns-in_err-flow-clause-reads g c =
     only_reads_then (state c.args.shelf.now) (state c.loop-i.shelf) (state c.read_flow.new.shelf) c.loop-i.invariant.reads c.in_err-flow.ensures.reads
 
 pub returns-clause-answer : goal.returns-clause-answer
-returns-clause-answer g c = grind (arith, common_steps)
+returns-clause-answer g c =
+    let state = g.S.Shelf.state in
+    let all : c.loop-i.i ≡ c.args.count = omega (arith, c.loop-i-test.false, c.loop-i.auto.i-end) in
+    subst (Found c.args.name.now c.args.file.now.at (state c.loop-i.shelf) c.loop-i.file (list_read flow_read c.args.count)) (sym c.from_vec.ensures)
+    (subst (λ n. Found c.args.name.now c.args.file.now.at (state c.loop-i.shelf) c.loop-i.file (list_read flow_read n) c.loop-i.flows.items) all c.loop-i.invariant.found)

@@ -1,5 +1,3 @@
-use Rattle.std.proofs.Common.{arith}
-use Rattle.std.proofs.lemmas.Grind.{common_steps}
 use Rattle.std.proofs.Common.{ℕ, List}
 use Rattle.std.proofs.lemmas.Result.{err_from_is_err_and}
 use Rattle.std.specs.Prelude.{Result, Ok, Err}
@@ -72,10 +70,16 @@ returns-clause-answer g c =
     (made ⊥ name (state c.read_gap.new.shelf) (state c.read_gap.new.shelf) c.read_gap.new.file value ok2.answer.follows)))
 
 pub returns-clause-reads : goal.returns-clause-reads
-returns-clause-reads g c = grind (arith, common_steps)
+returns-clause-reads g c =
+    let state = g.S.Shelf.state in
+    only_reads_then (state c.args.shelf.now) (state c.read_length.new.shelf) (state c.read_gap.new.shelf) (c.in_ok-length.ensures {u = tt}).reads (only_reads_then (state c.read_length.new.shelf) (state c.read_taps.new.shelf) (state c.read_gap.new.shelf) (c.in_ok-taps.ensures {u = tt}).reads (c.in_ok-gap.ensures {u = tt}).reads)
 
 pub returns-in_err-gap-clause-reads : goal.returns-in_err-gap-clause-reads
-returns-in_err-gap-clause-reads g c = grind (arith, common_steps)
+returns-in_err-gap-clause-reads g c =
+    let state = g.S.Shelf.state in
+    only_reads_then (state c.args.shelf.now) (state c.read_length.new.shelf) (state c.read_gap.new.shelf) (c.in_ok-length.ensures {u = tt}).reads (only_reads_then (state c.read_length.new.shelf) (state c.read_taps.new.shelf) (state c.read_gap.new.shelf) (c.in_ok-taps.ensures {u = tt}).reads c.in_err-gap.ensures.reads)
 
 pub returns-in_err-taps-clause-reads : goal.returns-in_err-taps-clause-reads
-returns-in_err-taps-clause-reads g c = grind (arith, common_steps)
+returns-in_err-taps-clause-reads g c =
+    let state = g.S.Shelf.state in
+    only_reads_then (state c.args.shelf.now) (state c.read_length.new.shelf) (state c.read_taps.new.shelf) (c.in_ok-length.ensures {u = tt}).reads c.in_err-taps.ensures.reads

@@ -1,11 +1,11 @@
-use Rattle.std.proofs.Common.{arith}
+use Rattle.std.proofs.Common.{arith, ◌≤◌, ◌*◌, ◌∙◌, sym, subst}
 use Rattle.std.proofs.lemmas.Grind.{common_steps}
 use Rattle.std.proofs.Common.{ℕ, List, ◌*◌, subst}
 use Rattle.std.proofs.lemmas.Result.{err_from_is_err_and}
 use Rattle.std.specs.Int.{w16, w64}
 use Rattle.std.specs.Prelude.{Ok, Err}
 use Rattle.shelf_core.proofs.FileLaws.{only_reads_same, only_reads_then}
-use Rattle.loop_walk.specs.Tables.{table_count}
+use Rattle.loop_walk.specs.Tables.{table_count, IsLength}
 use Rattle.source_map.specs.Readings.{ReadsFrom, list_read, number_read}
 use Rattle.source_map.proofs.FieldLaws.{lifted}
 use Rattle.cert_file.specs.declared.file.RecordFile.TheVariants.{Walk}
@@ -15,6 +15,7 @@ use Rattle.cert_file.specs.Rules.{any_rule}
 use Rattle.cert_file.specs.WalkReading.{few_frames_read, frames_rule, walk_start_read}
 use Rattle.cert_file.proofs.Readings.{by_rule}
 use Rattle.cert_file.proofs.RecordReading.{chain_to_end, ends, ends_not, then_to_end, to_end_stops, value_at_end}
+use Rattle.limits.specs.declared.bounds.TheConstants.{MOST_LOOP_FRAMES}
 use Rattle.cert_file.proofs.walks.read_walk_file.Goals as goal
 
 pub returns-in_err-lawful_frames-clause-answer : goal.returns-in_err-lawful_frames-clause-answer
@@ -144,19 +145,38 @@ returns-clause-answer g c =
     (ends (Unit {0}) name c.read_list_64.new.file.at (state c.read_list_64.new.shelf) (state c.end.new.shelf) value ok4.stops)))))
 
 pub returns-clause-form : goal.returns-clause-form
-returns-clause-form g c = grind (arith, common_steps)
+returns-clause-form g c =
+    let start = (c.in_ok-start.ensures {u = tt}).within in
+    let count = (c.in_ok-walk.ensures {u = tt}).count in
+    record {
+      head_is = c.requires.head.0;
+      version = c.requires.head.1;
+      frames = subst (λ n. n ≤ MOST_LOOP_FRAMES) c.sample_frames-n.ensures (c.in_ok-lawful_frames.ensures {u = tt}).few;
+      len = subst IsLength (sym count) start.len;
+      gap_from = start.gap.0;
+      gap_to = start.gap.1;
+      entries = (c.in_ok-tables.ensures {u = tt}).count ∙ c.entry_count.ensures.count ∙ (λ k. table_count (sym count k) * (c.sample_frames-n.ensures k * c.sample_frames-n.ensures k));
+    }
 
 pub returns-clause-reads : goal.returns-clause-reads
-returns-clause-reads g c = grind (arith, common_steps)
+returns-clause-reads g c =
+    let state = g.S.Shelf.state in
+    only_reads_then (state c.args.shelf.now) (state c.read_walk_start.new.shelf) (state c.end.new.shelf) (c.in_ok-start.ensures {u = tt}).reads (only_reads_then (state c.read_walk_start.new.shelf) (state c.read_list_16.new.shelf) (state c.end.new.shelf) (c.in_ok-walk.ensures {u = tt}).reads (only_reads_then (state c.read_list_16.new.shelf) (state c.read_list_64.new.shelf) (state c.end.new.shelf) (c.in_ok-tables.ensures {u = tt}).reads (c.in_ok-end.ensures {u = tt}).reads))
 
 pub returns-in_err-end-clause-reads : goal.returns-in_err-end-clause-reads
-returns-in_err-end-clause-reads g c = grind (arith, common_steps)
+returns-in_err-end-clause-reads g c =
+    let state = g.S.Shelf.state in
+    only_reads_then (state c.args.shelf.now) (state c.read_walk_start.new.shelf) (state c.end.new.shelf) (c.in_ok-start.ensures {u = tt}).reads (only_reads_then (state c.read_walk_start.new.shelf) (state c.read_list_16.new.shelf) (state c.end.new.shelf) (c.in_ok-walk.ensures {u = tt}).reads (only_reads_then (state c.read_list_16.new.shelf) (state c.read_list_64.new.shelf) (state c.end.new.shelf) (c.in_ok-tables.ensures {u = tt}).reads c.in_err-end.ensures.reads))
 
 pub returns-in_err-tables-clause-reads : goal.returns-in_err-tables-clause-reads
-returns-in_err-tables-clause-reads g c = grind (arith, common_steps)
+returns-in_err-tables-clause-reads g c =
+    let state = g.S.Shelf.state in
+    only_reads_then (state c.args.shelf.now) (state c.read_walk_start.new.shelf) (state c.read_list_64.new.shelf) (c.in_ok-start.ensures {u = tt}).reads (only_reads_then (state c.read_walk_start.new.shelf) (state c.read_list_16.new.shelf) (state c.read_list_64.new.shelf) (c.in_ok-walk.ensures {u = tt}).reads c.in_err-tables.ensures.reads)
 
 pub returns-in_err-walk-clause-reads : goal.returns-in_err-walk-clause-reads
-returns-in_err-walk-clause-reads g c = grind (arith, common_steps)
+returns-in_err-walk-clause-reads g c =
+    let state = g.S.Shelf.state in
+    only_reads_then (state c.args.shelf.now) (state c.read_walk_start.new.shelf) (state c.read_list_16.new.shelf) (c.in_ok-start.ensures {u = tt}).reads c.in_err-walk.ensures.reads
 
 pub end-requires : goal.end-requires
 end-requires g c = grind (arith, common_steps)

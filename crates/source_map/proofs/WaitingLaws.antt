@@ -16,6 +16,7 @@ use Rattle.cells.specs.SizeLists.{size_of_part}
 use Rattle.file_bytes.specs.Fields.{field_16}
 use Rattle.file_bytes.specs.Reading.{Follows, IsAhead, Reading, StandsAt, after_serving}
 use Rattle.file_bytes.proofs.ReadingLaws.{ahead_still, both}
+use Rattle.source_map.specs.declared.head.Version.{Version}
 use Rattle.source_map.specs.declared.head.Version.TheVariants.{One}
 use Rattle.source_map.specs.MapFiles.{below_rule, no_size, place_read, source_read}
 use Rattle.source_map.specs.Readings.{◌>>=◌, list_read, number_read, number_rule}
@@ -105,4 +106,16 @@ more_after samples most name was now r r' later front middle longer (Ok x) some 
   place = omega (arith, more.place, count, at);
   grows = λ start found. more.grows start (grows start found);
   sources = λ are. more.sources (sources are);
+}
+
+-- one source more is as many as may be
+pub more_of_one : (version : Version) (samples : List Size) (most : ℕ) (name : List ℕ) (was now : ShelfState) (r later : Reading) (front longer : List (Option At)) (result : Result (Unit {0}) ReadError) → 1 ≤ most
+    → OnOk result (ReadsMore version samples 1 name was r front now later longer) → OnOk result (ReadsMore version samples most name was r front now later longer)
+more_of_one version samples most name was now r later front longer (Err e) some more = tt
+more_of_one version samples most name was now r later front longer (Ok x) some more = record {
+  some = more.some;
+  most_of = omega (arith, more.most_of, some);
+  place = more.place;
+  grows = more.grows;
+  sources = more.sources;
 }

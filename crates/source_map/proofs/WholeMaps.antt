@@ -1,14 +1,16 @@
 -- A map is read whole, to the end of its file.
-use Rattle.std.proofs.Common.{◌≡◌, true, ℕ, List, length, refl, ap, ◌∙◌, subst}
-use Rattle.std.proofs.lemmas.Bool.{eq-eqb}
-use Rattle.std.specs.Prelude.{Option, Some, None, Result, Ok, nat_eq}
+use Rattle.std.proofs.Common.{◌≡◌, ◌<◌, true, false, ℕ, List, length, refl, ap, sym, ◌∙◌, subst, arith}
+use Rattle.std.proofs.lemmas.Bool.{eq-eqb, ne_eqb}
+use Rattle.std.specs.Prelude.{Option, Some, None, Result, Ok, Err, nat_eq}
 use Rattle.shelf_core.specs.Files.{Files, ShelfState, InFile, OnlyReads, Told, content_of}
+use Rattle.shelf_core.specs.declared.fault.FormFault.TheVariants.{Depth, Space, Cell, NoFrames, Sample, Form, Trailing}
 use Rattle.shelf_core.specs.declared.fault.ReadError.{ReadError}
-use Rattle.shelf_core.proofs.FileLaws.{only_reads_then}
-use Rattle.file_bytes.specs.Reading.{OfFile, Reading}
+use Rattle.shelf_core.specs.declared.fault.ReadError.TheVariants.{ReadFault, Bad, Limit, NoMemory}
+use Rattle.shelf_core.proofs.FileLaws.{only_reads_then, rose_later}
+use Rattle.file_bytes.specs.Reading.{OfFile, Reading, Stops}
 use Rattle.file_bytes.proofs.ReadingLaws.{still, both}
 use Rattle.source_map.specs.declared.map_file.MapFile.{MapFile}
-use Rattle.source_map.specs.MapFiles.{end_read}
+use Rattle.source_map.specs.MapFiles.{MapReadsBy, end_read}
 use Rattle.source_map.specs.Readings.{◌>>=◌, Found}
 
 -- a value after which the bytes end
@@ -34,3 +36,29 @@ read_whole name read a b c r value first second found end =
     (λ bytes. (read 0 bytes >>= λ v. end_read v.1 bytes >>= λ end. Ok v.0) ≡ Ok value) c.files
     (λ bytes is whole. ends read value r.at bytes is whole)
     (still name (λ bytes. read 0 bytes ≡ Ok (value, r.at)) b.files c.files second.files found.is) end)
+
+-- a value after which the bytes go on
+goes_on : (read : ℕ → List ℕ → Result (MapFile × ℕ) ReadError) (value : MapFile) (at place : ℕ) (bytes : List ℕ) → read 0 bytes ≡ Ok (value, at) → place ≡ at → at < length bytes
+    → (read 0 bytes >>= λ v. end_read v.1 bytes >>= λ end. Ok v.0) ≡ Err (Bad (Form place))
+goes_on read value at place bytes is here more =
+    let past : nat_eq (length bytes) at ≡ false = ne_eqb (length bytes) at (λ whole. omega arith) in
+    ap (λ r. r >>= λ v. end_read v.1 bytes >>= λ end. Ok v.0) is ∙ rw past (ap (λ k. Err (Bad (Form k))) (sym here))
+
+pub read_on : {names : List (List ℕ)} (name : List ℕ) (read : ℕ → List ℕ → Result (MapFile × ℕ) ReadError) (a b c : ShelfState) (r : Reading) (value : MapFile) (error : ReadError)
+    → OnlyReads names a b → OnlyReads names b c → Found name 0 b r read value → Stops name r.at b c (Err error)
+    → MapReadsBy (λ bytes. read 0 bytes >>= λ v. end_read v.1 bytes >>= λ end. Ok v.0) name a c (Err error)
+read_on name read a b c r value ReadFault first second found stops = rose_later (a.reads name) (b.reads name) (c.reads name) (first.reads name) stops
+read_on name read a b c r value (Bad (Form place)) first second found stops =
+    of_entry name (λ bytes. (read 0 bytes >>= λ v. end_read v.1 bytes >>= λ end. Ok v.0) ≡ Err (Bad (Form place))) a.files c.files (only_reads_then a b c first second).files
+    (both name (λ bytes. read 0 bytes ≡ Ok (value, r.at)) (λ bytes. r.at < length bytes)
+    (λ bytes. (read 0 bytes >>= λ v. end_read v.1 bytes >>= λ end. Ok v.0) ≡ Err (Bad (Form place))) c.files
+    (λ bytes is more. goes_on read value r.at place bytes is stops.0 more)
+    (still name (λ bytes. read 0 bytes ≡ Ok (value, r.at)) b.files c.files second.files found.is) stops.1)
+read_on name read a b c r value (Bad Depth) first second found stops = absurd stops
+read_on name read a b c r value (Bad Space) first second found stops = absurd stops
+read_on name read a b c r value (Bad Cell) first second found stops = absurd stops
+read_on name read a b c r value (Bad NoFrames) first second found stops = absurd stops
+read_on name read a b c r value (Bad (Sample place)) first second found stops = absurd stops
+read_on name read a b c r value (Bad (Trailing place)) first second found stops = absurd stops
+read_on name read a b c r value (Limit what number bound) first second found stops = absurd stops
+read_on name read a b c r value NoMemory first second found stops = absurd stops

@@ -9,7 +9,7 @@ use file_bytes::FileWriter;
 use shelf_core::Shelf;
 
 /// The version of a map or record file.
-#[derive(Clone, Copy, Debug, Drop, PartialEq, Eq)]
+#[derive(Clone, Copy, Drop, PartialEq, Eq)]
 pub enum Version {
     /// Over one sample.
     One,

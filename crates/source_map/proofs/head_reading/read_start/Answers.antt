@@ -97,7 +97,19 @@ returns-clause-answer g c =
     (made ⊥ name (state c.read_size.new.shelf) (state c.read_size.new.shelf) c.read_size.new.file value ok3.answer.follows))))
 
 pub returns-clause-reads : goal.returns-clause-reads
-returns-clause-reads g c = grind (arith, common_steps)
+returns-clause-reads g c =
+    let state = g.S.Shelf.state in
+    only_reads_then (state c.args.shelf.now) (state c.read_magic.new.shelf) (state c.read_size.new.shelf) (c.in_ok-read_magic.ensures {u = tt}).reads (only_reads_then (state c.read_magic.new.shelf) (state c.read_version.new.shelf) (state c.read_size.new.shelf) (c.in_ok-version.ensures {u = tt}).reads (only_reads_then (state c.read_version.new.shelf) (state c.read_kind.new.shelf) (state c.read_size.new.shelf) (c.in_ok-kind.ensures {u = tt}).reads (c.in_ok-output.ensures {u = tt}).reads))
 
 pub returns-clause-place : goal.returns-clause-place
 returns-clause-place g c = grind (arith, common_steps)
+
+pub returns-in_err-output-clause-reads : goal.returns-in_err-output-clause-reads
+returns-in_err-output-clause-reads g c =
+    let state = g.S.Shelf.state in
+    only_reads_then (state c.args.shelf.now) (state c.read_magic.new.shelf) (state c.read_size.new.shelf) (c.in_ok-read_magic.ensures {u = tt}).reads (only_reads_then (state c.read_magic.new.shelf) (state c.read_version.new.shelf) (state c.read_size.new.shelf) (c.in_ok-version.ensures {u = tt}).reads (only_reads_then (state c.read_version.new.shelf) (state c.read_kind.new.shelf) (state c.read_size.new.shelf) (c.in_ok-kind.ensures {u = tt}).reads c.in_err-output.ensures.reads))
+
+pub returns-in_err-kind-clause-reads : goal.returns-in_err-kind-clause-reads
+returns-in_err-kind-clause-reads g c =
+    let state = g.S.Shelf.state in
+    only_reads_then (state c.args.shelf.now) (state c.read_magic.new.shelf) (state c.read_kind.new.shelf) (c.in_ok-read_magic.ensures {u = tt}).reads (only_reads_then (state c.read_magic.new.shelf) (state c.read_version.new.shelf) (state c.read_kind.new.shelf) (c.in_ok-version.ensures {u = tt}).reads c.in_err-kind.ensures.reads)

@@ -1,5 +1,5 @@
 use Rattle.std.proofs.lemmas.Grind.{common_steps}
-use Rattle.std.proofs.Common.{◌+◌, ◌<◌, [], ◌∷◌, ◌++◌, length, subst, sym, ap, ◌∙◌, arith}
+use Rattle.std.proofs.Common.{◌+◌, ◌<◌, [], ◌∷◌, ◌++◌, length, subst, sym, ap, ◌∙◌, arith, ◌≡◌}
 use Rattle.std.proofs.lemmas.List.Elements.{All-push}
 use Rattle.std.proofs.lemmas.Result.{err_from_is_err_and}
 use Rattle.std.specs.Int.{w16}
@@ -49,13 +49,22 @@ loop-i-preserved g c =
     }
 
 pub returns-in_err-frame-clause-reads : goal.returns-in_err-frame-clause-reads
-returns-in_err-frame-clause-reads g c = grind (arith, common_steps)
+returns-in_err-frame-clause-reads g c =
+    let state = g.S.Shelf.state in
+    only_reads_then (state c.args.shelf.now) (state c.loop-i.shelf) (state c.read_below.new.shelf) c.loop-i.invariant.reads c.in_err-frame.ensures.reads
 
 pub returns-in_default-clause-reads : goal.returns-in_default-clause-reads
-returns-in_default-clause-reads g c = grind (arith, common_steps)
+returns-in_default-clause-reads g c =
+    let state = g.S.Shelf.state in
+    only_reads_then (state c.args.shelf.now) (state c.loop-i.shelf) (state c.read_below.new.shelf) c.loop-i.invariant.reads (c.in_ok-frame.ensures {u = tt}).reads
 
 pub returns-clause-answer : goal.returns-clause-answer
-returns-clause-answer g c = grind (arith, common_steps)
+returns-clause-answer g c =
+    let state = g.S.Shelf.state in
+    let read = number_read w16 (below_rule c.args.bound) in
+    let all : c.loop-i.i ≡ c.args.count = omega (arith, c.loop-i-test.false, c.loop-i.auto.i-end) in
+    subst (Found c.args.name.now c.args.file.now.at (state c.loop-i.shelf) c.loop-i.file (list_read read c.args.count)) (sym c.from_vec.ensures)
+    (subst (λ n. Found c.args.name.now c.args.file.now.at (state c.loop-i.shelf) c.loop-i.file (list_read read n) c.loop-i.frames.items) all c.loop-i.invariant.found)
 
 pub loop-i-init : goal.loop-i-init
 loop-i-init g c = grind (arith, common_steps)

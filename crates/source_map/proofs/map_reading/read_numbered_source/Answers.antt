@@ -4,7 +4,7 @@ use Rattle.std.proofs.Common.{ℕ, List}
 use Rattle.std.proofs.lemmas.Result.{err_from_is_err_and}
 use Rattle.std.specs.Prelude.{Result, Ok, Err}
 use Rattle.shelf_core.specs.declared.fault.ReadError.{ReadError}
-use Rattle.shelf_core.proofs.FileLaws.{only_reads_same}
+use Rattle.shelf_core.proofs.FileLaws.{only_reads_same, only_reads_then}
 use Rattle.cells.specs.declared.place.Size.{Size}
 use Rattle.source_map.proofs.FieldLaws.{chain, first_stops, made, then_reads}
 use Rattle.std.proofs.Common.{ap, subst, sym}
@@ -58,7 +58,9 @@ returns-clause-answer g c =
     (made ⊥ name (state c.read_place_in.new.shelf) (state c.read_place_in.new.shelf) c.read_place_in.new.file value ok1.answer.follows)))
 
 pub returns-clause-reads : goal.returns-clause-reads
-returns-clause-reads g c = grind (arith, common_steps)
+returns-clause-reads g c =
+    let state = g.S.Shelf.state in
+    only_reads_then (state c.args.shelf.now) (state c.read_number.new.shelf) (state c.read_place_in.new.shelf) (c.in_ok-part.ensures {u = tt}).reads (c.in_ok-at.ensures {u = tt}).reads
 
 pub returns-clause-source : goal.returns-clause-source
 returns-clause-source g c = grind (arith, common_steps)

@@ -1,5 +1,3 @@
-use Rattle.std.proofs.Common.{arith}
-use Rattle.std.proofs.lemmas.Grind.{common_steps}
 use Rattle.std.proofs.Common.{ℕ, List}
 use Rattle.std.proofs.lemmas.Result.{err_from_is_err_and}
 use Rattle.std.specs.Prelude.{Result, Ok, Err}
@@ -72,4 +70,11 @@ returns-clause-answer g c =
     (made ⊥ name (state c.read_axis.new.shelf) (state c.read_axis.new.shelf) c.read_axis.new.file sample ok2.answer.follows)))
 
 pub returns-clause-reads : goal.returns-clause-reads
-returns-clause-reads g c = grind (arith, common_steps)
+returns-clause-reads g c =
+    let state = g.S.Shelf.state in
+    only_reads_then (state c.args.shelf.now) (state c.read_same.new.shelf) (state c.read_axis.new.shelf) (c.in_ok-w.ensures {u = tt}).reads (only_reads_then (state c.read_same.new.shelf) (state c.read_same-2.new.shelf) (state c.read_axis.new.shelf) (c.in_ok-h.ensures {u = tt}).reads (c.in_ok-f.ensures {u = tt}).reads)
+
+pub returns-in_err-f-clause-reads : goal.returns-in_err-f-clause-reads
+returns-in_err-f-clause-reads g c =
+    let state = g.S.Shelf.state in
+    only_reads_then (state c.args.shelf.now) (state c.read_same.new.shelf) (state c.read_axis.new.shelf) (c.in_ok-w.ensures {u = tt}).reads (only_reads_then (state c.read_same.new.shelf) (state c.read_same-2.new.shelf) (state c.read_axis.new.shelf) (c.in_ok-h.ensures {u = tt}).reads c.in_err-f.ensures.reads)

@@ -8,6 +8,7 @@ use Rattle.source_map.specs.declared.map_file.MapFile.{MapFile}
 use Rattle.source_map.specs.Heads.{start_read}
 use Rattle.source_map.specs.MapFiles.{cells_read, map_magic}
 use Rattle.source_map.proofs.FieldLaws.{first_stops, lifted, then_reads}
+use Rattle.shelf_core.proofs.FileLaws.{only_reads_then}
 use Rattle.source_map.proofs.map_reading.read_version_one_value.Goals as goal
 
 abbrev rest : Start → ℕ → List ℕ → Result (MapFile × ℕ) ReadError
@@ -30,3 +31,8 @@ returns-clause-answer g c =
     let ok = c.in_ok-start.ensures {u = tt} in
     then_reads (Unit {0}) c.args.name.now c.args.file.now.at (start_read map_magic 1 1) rest (state c.args.shelf.now) (state c.read_start.new.shelf) (state c.read_cells.new.shelf)
     c.read_start.new.file c.read_cells.new.file c.in_ok-start.start c.read_cells.result ok.reads c.read_cells.ensures.reads ok.answer c.read_cells.ensures.answer
+
+pub returns-clause-reads : goal.returns-clause-reads
+returns-clause-reads g c =
+    let state = g.S.Shelf.state in
+    only_reads_then (state c.args.shelf.now) (state c.read_start.new.shelf) (state c.read_cells.new.shelf) (c.in_ok-start.ensures {u = tt}).reads c.read_cells.ensures.reads

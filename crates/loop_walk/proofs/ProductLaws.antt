@@ -1,10 +1,10 @@
 -- The least of numbers, one number more at a time, and a row written into a table.
-use Rattle.std.proofs.Common.{◌≡◌, ℕ, ◌+◌, ◌-◌, ◌*◌, ◌<◌, ◌≤◌, List, ◌++◌, length, get_or, take, drop, refl, ap, sym, ◌∙◌, subst, arith, ⊎_elim, inl, inr, get_or-take, get_or-drop}
+use Rattle.std.proofs.Common.{◌≡◌, ℕ, ◌+◌, ◌-◌, ◌*◌, ◌<◌, ◌≤◌, List, ◌++◌, length, get_or, set, take, drop, refl, ap, sym, ◌∙◌, subst, arith, below_more, ⊎_elim, inl, inr, get_or-take, get_or-drop}
 use Rattle.std.specs.Prelude.{min}
 use Rattle.std.proofs.Math.Nat.{mul-le-mul_right}
-use Rattle.std.proofs.lemmas.Bool.{cases_lt}
+use Rattle.std.proofs.lemmas.Bool.{cases_eq, cases_lt}
 use Rattle.std.proofs.lemmas.Nat.{mul-add-lt}
-use Rattle.std.proofs.lemmas.List.{get_or_append_left, get_or-append-add, length-take-le}
+use Rattle.std.proofs.lemmas.List.{get_or_append_left, get_or-append-add, get_or-set_other, get_or-set_same, length-set, length-take-le}
 use borrow.Rule.Slice.PartMut.{put_mid, post_of}
 use Rattle.loop_walk.specs.declared.product.TheConstants.{FAR, GREATEST_NUMBER}
 use Rattle.loop_walk.specs.Products.{AreBroughtNear, AreRestored, AreSmall, IsLeastNumber, IsLeastOf, IsNearProduct, IsNoneOrAtMost, IsProduct, IsRestored, brought_near, near_row_sum, near_sum_through, stopped_sum}
@@ -119,3 +119,33 @@ product_restored n left right nears made restored whole_left whole_right whole s
     (λ v lt. ap (λ second. brought_near (get_or left (i * n + v) 0) + second) (brought (v * n + j) (omega (arith, mul-add-lt v n j n lt column))))
     (product i j row column))
     (is (i * n + j) (omega (arith, mul-add-lt i n j n row column)))
+
+-- what holds of each number of a list so far, and of one that is put in
+pub set_more : (P : ℕ → ℕ → Type 0) (xs : List ℕ) (j x : ℕ) → j < length xs → ((k : ℕ) → k < j → P k (get_or xs k 0)) → P j x → (k : ℕ) → k < j + 1 → P k (get_or (set xs j x) k 0)
+set_more P xs j x inside before here = below_more (λ k. P k (get_or (set xs j x) k 0)) j
+    (λ k lt. subst (P k) (sym (get_or-set_other xs j k x 0 (apart k lt))) (before k lt))
+    (subst (P j) (sym (get_or-set_same xs j x 0 inside)) here)
+  where
+    apart : (k : ℕ) → k < j → k ≡ j → ⊥
+    apart k lt is = omega arith
+
+-- numbers that are lowered one by one
+pub lowered_more : (start sums : List ℕ) (j x : ℕ) (low : ℕ → ℕ) → j < length sums → ((k : ℕ) → k < j → get_or sums k 0 ≡ min (get_or start k 0) (low k)) → ((k : ℕ) → j ≤ k → get_or sums k 0 ≡ get_or start k 0)
+    → x ≡ min (get_or sums j 0) (low j) → (k : ℕ) → k < j + 1 → get_or (set sums j x) k 0 ≡ min (get_or start k 0) (low k)
+lowered_more start sums j x low inside before same is =
+    set_more (λ k y. y ≡ min (get_or start k 0) (low k)) sums j x inside before (is ∙ ap (λ y. min y (low j)) (same j (at_least j)))
+  where
+    at_least : (k : ℕ) → k ≤ k
+    at_least k = omega arith
+
+pub same_after : (start sums : List ℕ) (j x : ℕ) → ((k : ℕ) → j ≤ k → get_or sums k 0 ≡ get_or start k 0) → (k : ℕ) → j + 1 ≤ k → get_or (set sums j x) k 0 ≡ get_or start k 0
+same_after start sums j x same k le = get_or-set_other sums j k x 0 (apart k le) ∙ same k (omega arith)
+  where
+    apart : (k : ℕ) → j + 1 ≤ k → k ≡ j → ⊥
+    apart k le is = omega arith
+
+pub bounded_more : (bound : ℕ) (xs : List ℕ) (j x : ℕ) → j < length xs → x ≤ bound → ((k : ℕ) → k < length xs → get_or xs k 0 ≤ bound) → (k : ℕ) → k < length (set xs j x) → get_or (set xs j x) k 0 ≤ bound
+bounded_more bound xs j x inside le all k lt = ⊎_elim
+    (λ (here : k ≡ j). subst (λ i. get_or (set xs j x) i 0 ≤ bound) (sym here) (subst (λ y. y ≤ bound) (sym (get_or-set_same xs j x 0 inside)) le))
+    (λ other. subst (λ y. y ≤ bound) (sym (get_or-set_other xs j k x 0 other)) (all k (omega (arith, length-set xs j x))))
+    (cases_eq k j)

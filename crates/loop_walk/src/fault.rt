@@ -11,7 +11,7 @@ pub const TABLES_RULE: u32 = 13;
 pub const DIAGONAL_RULE: u32 = 14;
 
 /// The first rule that a record of a walk breaks, and the first place where it does.
-#[derive(Clone, Copy, Debug, Drop, PartialEq, Eq)]
+#[derive(Clone, Copy, Drop, PartialEq, Eq)]
 pub struct LoopFault {
     pub kind: u32,
     pub place: u64,

@@ -34,4 +34,4 @@ pub slice_bounds-fill_rests-end-in-loop-v : goal.slice_bounds-fill_rests-end-in-
 slice_bounds-fill_rests-end-in-loop-v c = grind (arith, common_steps)
 
 pub slice_bounds-fill_rests-end : goal.slice_bounds-fill_rests-end
-slice_bounds-fill_rests-end c = grind (arith, common_steps)
+slice_bounds-fill_rests-end c = omega (arith, c.loop-v.auto.rests, c.requires.rests, mul-le-mul_right c.args.n c.loop-v-test.true)

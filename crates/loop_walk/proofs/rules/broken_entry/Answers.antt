@@ -2,7 +2,7 @@ use Rattle.std.proofs.lemmas.Grind.{common_steps}
 use Rattle.std.proofs.Common.{◌≡◌, ◌+◌, ◌-◌, ◌*◌, ◌<◌, ◌≤◌, subst, arith, ⊎_elim}
 use Rattle.std.proofs.lemmas.Bool.{cases_lt}
 use Rattle.std.proofs.lemmas.Nat.{mul-add-lt}
-use Rattle.std.proofs.Math.Nat.{mul-le-mul_right}
+use Rattle.std.proofs.Math.Nat.{mul-le-mul_right, mul-le-mul_left}
 use Rattle.loop_walk.specs.Records.{IsFirstPlace, PlaceHolds}
 use Rattle.loop_walk.specs.Products.{IsBelowProducts}
 use Rattle.loop_walk.proofs.NearLaws.{place_from_row, row_from_place}
@@ -72,7 +72,13 @@ pub slice_bounds-bases-end-in-loop-i : goal.slice_bounds-bases-end-in-loop-i
 slice_bounds-bases-end-in-loop-i c = grind (arith, common_steps)
 
 pub overflow_add-result-in-Some : goal.overflow_add-result-in-Some
-overflow_add-result-in-Some c = grind (arith, common_steps)
+overflow_add-result-in-Some c =
+    let n = c.frames-n.result in
+    let frames = c.frames-n.ensures in
+    let least : n ≤ 256 = omega (arith, frames.frames, frames.steps.frames.1) in
+    let row : c.loop-i.i ≤ 256 = omega (arith, least, c.loop-i-test.true) in
+    let table : n * n ≤ 65536 = omega (arith, mul-le-mul_right n least, least) in
+    omega (arith, least, mul-le-mul_right n row, frames.frames, c.in-Some.ensures.broken.below, c.requires.number, mul-le-mul_left c.args.t table)
 
 pub broken_in_row-requires-clause-entries : goal.broken_in_row-requires-clause-entries
 broken_in_row-requires-clause-entries c = grind (arith, common_steps)
@@ -87,10 +93,20 @@ pub fill_rest_table-requires-clause-bases : goal.fill_rest_table-requires-clause
 fill_rest_table-requires-clause-bases c = grind (arith, common_steps)
 
 pub overflow_add-result : goal.overflow_add-result
-overflow_add-result c = grind (arith, common_steps)
+overflow_add-result c =
+    let n = c.frames-n.result in
+    let frames = c.frames-n.ensures in
+    let least : n ≤ 256 = omega (arith, frames.frames, frames.steps.frames.1) in
+    let row : c.loop-i.i ≤ 256 = omega (arith, least, c.loop-i-test.true) in
+    omega (arith, least, mul-le-mul_right n row, frames.frames, c.in-Some.ensures.broken.below)
 
 pub overflow_mul-result : goal.overflow_mul-result
-overflow_mul-result c = grind (arith, common_steps)
+overflow_mul-result c =
+    let n = c.frames-n.result in
+    let frames = c.frames-n.ensures in
+    let least : n ≤ 256 = omega (arith, frames.frames, frames.steps.frames.1) in
+    let row : c.loop-i.i ≤ 256 = omega (arith, least, c.loop-i-test.true) in
+    omega (arith, least, mul-le-mul_right n row)
 
 pub fill_rest_table-requires-clause-rests : goal.fill_rest_table-requires-clause-rests
 fill_rest_table-requires-clause-rests c = grind (arith, common_steps)

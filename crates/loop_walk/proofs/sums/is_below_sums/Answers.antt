@@ -1,8 +1,9 @@
-use Rattle.std.proofs.Common.{suc, ◌+◌, ◌*◌, ◌∙◌, ap, subst, arith, below_more}
+use Rattle.std.proofs.Common.{suc, ◌+◌, ◌*◌, ◌∙◌, ap, subst, arith, below_more, ◌≤◌}
 use Rattle.std.specs.Prelude.{slice_index}
-use Rattle.loop_walk.specs.Walks.{AtMost, sum_if_both}
-use Rattle.loop_walk.specs.Tables.{entry_at, table_entry}
 use Rattle.std.proofs.lemmas.Grind.{common_steps}
+use Rattle.std.proofs.Math.Nat.{mul-le-mul_right}
+use Rattle.loop_walk.specs.Walks.{AtMost, sum_if_both}
+use Rattle.loop_walk.specs.Tables.{entry_at, table_entry, table_size}
 use Rattle.loop_walk.proofs.sums.is_below_sums.Goals as goal
 
 pub loop-v-preserved : goal.loop-v-preserved
@@ -29,4 +30,6 @@ pub returns : goal.returns
 returns c = grind (arith, common_steps)
 
 pub entry_in-other-requires-clause-enough : goal.entry_in-other-requires-clause-enough
-entry_in-other-requires-clause-enough c = grind (arith, common_steps)
+entry_in-other-requires-clause-enough c =
+    let le : c.args.second ≤ c.args.t + 1 = omega (arith, c.requires.second) in
+    omega (arith, c.requires.enough, mul-le-mul_right (table_size c.args.costs.now) le)

@@ -8,7 +8,7 @@ pub const MAP_RULE: u32 = 16;
 pub const PICTURE_RULE: u32 = 17;
 
 /// Whether the files of a run stand.
-#[derive(Clone, Copy, Debug, Drop, PartialEq, Eq)]
+#[derive(Clone, Copy, Drop, PartialEq, Eq)]
 pub enum Verdict {
     /// They stand.
     Stands,

@@ -1,5 +1,3 @@
-use Rattle.std.proofs.Common.{arith}
-use Rattle.std.proofs.lemmas.Grind.{common_steps}
 use Rattle.std.proofs.Common.{ℕ, List, refl}
 use Rattle.std.proofs.lemmas.Result.{err_from_is_err_and}
 use Rattle.std.specs.Int.{w32}
@@ -82,4 +80,11 @@ returns-clause-answer g c =
     )
 
 pub returns-clause-reads : goal.returns-clause-reads
-returns-clause-reads g c = grind (arith, common_steps)
+returns-clause-reads g c =
+    let state = g.S.Shelf.state in
+    only_reads_then (state c.args.shelf.now) (state c.read_count.new.shelf) (state c.end.new.shelf) (c.in_ok-count.ensures {u = tt}).reads (only_reads_then (state c.read_count.new.shelf) (state c.judge_each_block.new.shelf) (state c.end.new.shelf) (c.in_ok-verdict.ensures {u = tt}).reads (c.in_ok-end.ensures {u = tt}).reads)
+
+pub returns-in_err-end-clause-reads : goal.returns-in_err-end-clause-reads
+returns-in_err-end-clause-reads g c =
+    let state = g.S.Shelf.state in
+    only_reads_then (state c.args.shelf.now) (state c.read_count.new.shelf) (state c.end.new.shelf) (c.in_ok-count.ensures {u = tt}).reads (only_reads_then (state c.read_count.new.shelf) (state c.judge_each_block.new.shelf) (state c.end.new.shelf) (c.in_ok-verdict.ensures {u = tt}).reads c.in_err-end.ensures.reads)

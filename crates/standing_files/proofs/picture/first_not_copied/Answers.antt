@@ -1,6 +1,13 @@
-use Rattle.std.proofs.Common.{arith}
-use Rattle.std.proofs.lemmas.Grind.{common_steps}
+use Rattle.std.proofs.Common.{arith, ◌<◌, ◌*◌, ◌∙◌, subst}
+use Rattle.std.proofs.Math.Nat.{mul-le-mul_left}
+use Rattle.cells.specs.declared.place.Size.{Size}
+use Rattle.standing_files.specs.Standing.{map_output}
+use Rattle.standing_files.proofs.Sizes.{first_is}
 use Rattle.standing_files.proofs.picture.first_not_copied.Goals as goal
 
 pub returns-in-Some : goal.returns-in-Some
-returns-in-Some c = grind (arith, common_steps)
+returns-in-Some c =
+    let size = map_output c.args.map_file.now in
+    let first = c.in-Some.ensures.some in
+    let row : c.loop-row.row < size.h * size.f = subst (λ (s : Size). c.loop-row.row < s.h * s.f) (c.size-size.ensures.size ∙ first_is _ _ _ _ c.requires) c.loop-row-test.true in
+    record { below = omega (arith, first.below, mul-le-mul_left size.w row); before = first.before; here = first.here }

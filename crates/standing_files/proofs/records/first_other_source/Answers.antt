@@ -1,4 +1,4 @@
-use Rattle.std.proofs.Common.{◌≡◌, ◌∙◌, ℕ, ◌<◌, ap, sym, subst, arith, below_more}
+use Rattle.std.proofs.Common.{◌≡◌, ◌∙◌, ◌<◌, ap, sym, subst, arith, below_more}
 use mathlib.Core.Bool.{false≢true}
 use Rattle.cells.specs.declared.place.At.{At}
 use Rattle.cells.specs.declared.place.Size.{Size}
@@ -36,3 +36,7 @@ returns c = λ k lt.
     let n_is : c.cells-i-end.result ≡ cell_count c.args.map.now.size = c.cells-i-end.ensures ∙ ap (λ (size : Size). cell_count size) c.size-size.ensures.size in
     let below : k < c.cells-i-end.result = subst (λ n. k < n) (sym n_is) lt in
     c.loop-i.invariant k (omega (arith, below, c.loop-i-test.false))
+
+pub loop-i-init : goal.loop-i-init
+loop-i-init c =
+    λ k lt. let none : ⊥ = omega arith in absurd none

@@ -11,3 +11,4 @@ pub mod OneFrame
 pub mod Still
 pub mod Above
 mod RowCells
+pub mod Held

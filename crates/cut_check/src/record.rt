@@ -3,7 +3,7 @@ use items::Items;
 use map_canvas::Placement;
 
 /// The flow of a pair: two neighbours of a placement's box.
-#[derive(Clone, Copy, Debug, Drop, PartialEq, Eq)]
+#[derive(Clone, Copy, Drop, PartialEq, Eq)]
 pub struct Flow {
     /// What flows out of the first cell towards the second.
     pub x: i16,
@@ -38,7 +38,7 @@ pub const BALANCE_RULE: u32 = 5;
 pub const VALUE_RULE: u32 = 6;
 
 /// The first rule that a cut record breaks.
-#[derive(Clone, Copy, Debug, Drop, PartialEq, Eq)]
+#[derive(Clone, Copy, Drop, PartialEq, Eq)]
 pub struct CutFault {
     /// The number of the rule, from `FIT_RULE` to `VALUE_RULE`.
     pub kind: u32,

@@ -1,13 +1,13 @@
-use Rattle.std.proofs.Common.{◌≡◌, ◌∙◌, ◌*◌, ◌+◌, ap, arith, w64, to_z, of_z}
-use Rattle.std.proofs.lemmas.Int.{ints}
+use Rattle.std.proofs.Common.{◌≡◌, ◌∙◌, ◌*◌, ◌+◌, ap, arith, w64, to_z, of_z, rules, sym, subst}
+use Rattle.std.proofs.lemmas.Int.{ints, to_z-of_z}
 use Rattle.std.proofs.Math.Nat.{mul-le-mul_left}
 use Rattle.cells.specs.Places.{cell_count}
 use Rattle.boxes.specs.Pairs.{at_index}
 use Rattle.boxes.specs.Sums.{signed_sum_to}
 use Rattle.boxes.proofs.Additions.{integers}
 use Rattle.boxes.proofs.Boxes.{box_counts}
-use Rattle.cut_check.specs.Steps.{IsRow}
-use Rattle.cut_check.proofs.RowCells.{row_ends}
+use Rattle.cut_check.specs.Steps.{IsSummed}
+use mir.Val.{SFits}
 use Rattle.cut_check.proofs.balance.value_of.Goals as goal
 
 pub loop-row-init : goal.loop-row-init
@@ -22,18 +22,15 @@ loop-row-init c = record {
 
 pub loop-row-preserved : goal.loop-row-preserved
 loop-row-preserved c =
-    let size = c.args.cut.now.placement.rect.size in
+    let m = c.args.canvas.now.map in
+    let cut = c.args.cut.now in
+    let held = c.args.held.now in
+    let sum = c.in_ok-sum.sum in
+    let w = cut.placement.rect.size.w in
     let row = c.loop-row.row in
-    let here : IsRow size row = (c.requires.lies.some, omega (arith, c.loop-row-test.true)) in
-    let was = c.in_ok-sum.ensures.summed in
-    let next : size.w * row + size.w ≡ size.w * (row + 1) = omega arith in
-    let exact : to_z w64 (of_z w64 c.in_ok-sum.sum) ≡ c.in_ok-sum.sum = omega (arith, ints, was.low, was.high, row_ends size row here, c.requires.lies.small.cells) in
-    record {
-      balanced = λ sample k lt. was.balanced sample k (omega (arith, lt));
-      total = λ sample part parts. exact ∙ was.total sample part parts ∙ ap (λ n. signed_sum_to n (at_index size part)) next;
-      low = omega (arith, ints, exact, was.low);
-      high = omega (arith, ints, exact, was.high);
-    }
+    let next : w * row + w ≡ w * (row + 1) = omega arith in
+    let fits : SFits w64 sum = search rules in
+    subst (λ n. IsSummed m cut held n (to_z w64 (of_z w64 sum))) next (subst (IsSummed m cut held (w * row + w)) (sym (to_z-of_z w64 sum fits)) c.in_ok-sum.ensures.summed)
 
 pub returns-clause-balanced : goal.returns-clause-balanced
 returns-clause-balanced c = λ sample i lt.

@@ -1,11 +1,12 @@
-use Rattle.std.proofs.Common.{◌≡◌, ◌∙◌, refl, sym, arith}
-use Rattle.std.proofs.lemmas.Int.{ints}
-use Rattle.std.specs.Prelude.{pos}
+use Rattle.std.proofs.Common.{◌≡◌, ◌∙◌, refl, sym, arith, rules, subst, w16, ℕ}
+use Rattle.std.proofs.lemmas.Int.{ints, to_z-of_z}
+use Rattle.std.specs.Prelude.{pos, ◌-ℤ◌}
 use mathlib.Core.Bool.{false≢true}
 use Rattle.cells.specs.Distances.{distance}
 use Rattle.costs.specs.Costs.{seam}
 use Rattle.cut_check.specs.Flows.{IsBetween, minus_of}
 use Rattle.cut_check.proofs.PairBounds.{passes_between}
+use mir.Val.{SFits}
 use Rattle.cut_check.proofs.bounds.is_between_old.Goals as goal
 
 pub returns-then-passes_on : goal.returns-then-passes_on
@@ -22,19 +23,29 @@ returns-then-passes_on c =
 pub returns-then-is_within_seam : goal.returns-then-is_within_seam
 returns-then-is_within_seam c =
     let v = c.args.sample.now in
+    let flow = c.args.flow in
+    let x_fits : SFits w16 flow.x = search rules in
+    let y_fits : SFits w16 flow.y = search rules in
+    let x = to_z-of_z w16 flow.x x_fits in
+    let y = to_z-of_z w16 flow.y y_fits in
+    let seam_x = seam (distance v) c.args.axis c.args.a c.args.new_b in
+    let seam_y = seam (distance v) c.args.axis c.args.new_a c.args.b in
     let cost : c.seam_of-old_old.result ≡ seam (distance v) c.args.axis c.args.a c.args.b = c.seam_of-old_old.ensures.cost in
-    let first = c.is_within_seam.ensures.0 c.if-not-is_within_seam.false in
-    let second = c.is_within_seam-2.ensures.0 c.if-is_within_seam.true in (
-      λ is. let ends = c.ends_up_to.ensures.0 is in record {
-        x = (omega (arith, ints, first.0), omega (arith, ints, first.1));
-        y = (omega (arith, ints, second.0), omega (arith, ints, second.1));
-        seam = (omega (arith, ints, ends.0), omega (arith, ints, ends.1, cost));
+    let UpTo : ℕ → Type 0 = λ n. IsBetween (pos 0) (pos n) (flow.x -ℤ flow.y) in (
+      λ is. record {
+        x = subst (IsBetween (minus_of seam_x) (pos seam_x)) x (c.is_within_seam.ensures.0 c.if-not-is_within_seam.false);
+        y = subst (IsBetween (minus_of seam_y) (pos seam_y)) y (c.is_within_seam-2.ensures.0 c.if-is_within_seam.true);
+        seam = subst UpTo cost (c.ends_up_to.ensures.0 is);
       },
-      λ old. c.ends_up_to.ensures.1 (omega (arith, ints, old.seam.0), omega (arith, ints, old.seam.1, cost)),
+      λ old. c.ends_up_to.ensures.1 (subst UpTo (sym cost) old.seam),
     )
 
 pub returns-else-is_within_seam : goal.returns-else-is_within_seam
 returns-else-is_within_seam c = (
   λ is. absurd (false≢true (sym c.if-is_within_seam.false ∙ is)),
-  λ old. c.is_within_seam-2.ensures.1 (omega (arith, ints, old.y.0), omega (arith, ints, old.y.1)),
+  λ old.
+      let flow = c.args.flow in
+      let fits : SFits w16 flow.y = search rules in
+      let cost = seam (distance c.args.sample.now) c.args.axis c.args.new_a c.args.b in
+      c.is_within_seam-2.ensures.1 (subst (IsBetween (minus_of cost) (pos cost)) (sym (to_z-of_z w16 flow.y fits)) old.y),
 )

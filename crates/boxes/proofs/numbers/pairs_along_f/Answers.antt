@@ -16,3 +16,15 @@ overflow_add-result-then-at-size c = grind (arith, common_steps)
 
 pub overflow_mul-result-else-at-size-2 : goal.overflow_mul-result-else-at-size-2
 overflow_mul-result-else-at-size-2 c = grind (arith, common_steps)
+
+pub returns-then-at-size-clause-is : goal.returns-then-at-size-clause-is
+returns-then-at-size-clause-is c = grind (arith, common_steps)
+
+pub returns-else-at-size-clause-is : goal.returns-else-at-size-clause-is
+returns-else-at-size-clause-is c = grind (arith, common_steps)
+
+pub overflow_add-result : goal.overflow_add-result
+overflow_add-result c = grind (arith, common_steps)
+
+pub overflow_mul-result : goal.overflow_mul-result
+overflow_mul-result c = grind (arith, common_steps)

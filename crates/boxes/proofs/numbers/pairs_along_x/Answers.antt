@@ -10,3 +10,6 @@ returns-clause-few c = grind (arith, common_steps)
 
 pub overflow_add-result-2 : goal.overflow_add-result-2
 overflow_add-result-2 c = grind (arith, common_steps)
+
+pub returns-clause-is : goal.returns-clause-is
+returns-clause-is c = grind (arith, common_steps)

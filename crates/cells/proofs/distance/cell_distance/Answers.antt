@@ -1,3 +1,4 @@
+use Rattle.std.proofs.lemmas.Grind.{common_steps}
 use Rattle.std.proofs.Common.{◌≡◌, ◌∙◌, arith}
 use Rattle.cells.specs.Distances.{distance, distance_of}
 use Rattle.cells.proofs.DistanceLaws.{distance_bound, distance_laws}
@@ -18,3 +19,12 @@ returns-in-None-None-clause-laws c = distance_laws c.args.v.now c.samples-k.ensu
 
 pub returns-in_default-clause-laws : goal.returns-in_default-clause-laws
 returns-in_default-clause-laws c = distance_laws c.args.v.now c.samples-k.ensures.volume
+
+pub returns-in-Some-Some-clause-distance : goal.returns-in-Some-Some-clause-distance
+returns-in-Some-Some-clause-distance c = grind (arith, common_steps)
+
+pub returns-in_default-clause-distance : goal.returns-in_default-clause-distance
+returns-in_default-clause-distance c = grind (arith, common_steps)
+
+pub returns-in-None-None-clause-distance : goal.returns-in-None-None-clause-distance
+returns-in-None-None-clause-distance c = grind (arith, common_steps)

@@ -7,3 +7,6 @@ returns-then-corner-ge0 c = grind (arith, common_steps)
 
 pub returns-else-corner-ge0 : goal.returns-else-corner-ge0
 returns-else-corner-ge0 c = grind (arith, common_steps)
+
+pub overflow_add-result : goal.overflow_add-result
+overflow_add-result c = grind (arith, common_steps)

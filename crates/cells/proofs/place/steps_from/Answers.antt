@@ -4,3 +4,6 @@ use Rattle.cells.proofs.place.steps_from.Goals as goal
 
 pub returns : goal.returns
 returns c = grind (arith, common_steps)
+
+pub overflow_sub-result : goal.overflow_sub-result
+overflow_sub-result c = grind (arith, common_steps)

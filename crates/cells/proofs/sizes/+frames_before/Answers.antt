@@ -10,3 +10,9 @@ frames_before-requires t c = grind (arith, common_steps)
 
 pub overflow_add-result-2 : goal.overflow_add-result-2
 overflow_add-result-2 t c = grind (arith, common_steps)
+
+pub returns-clause-small : goal.returns-clause-small
+returns-clause-small t c = grind (arith, common_steps)
+
+pub overflow_add-result : goal.overflow_add-result
+overflow_add-result t c = grind (arith, common_steps)

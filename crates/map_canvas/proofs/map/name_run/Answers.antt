@@ -34,3 +34,6 @@ plus-requires c = grind (arith, common_steps)
 
 pub loop-j-init : goal.loop-j-init
 loop-j-init c = grind (arith, common_steps)
+
+pub overflow_cast-step : goal.overflow_cast-step
+overflow_cast-step c = grind (arith, common_steps)

@@ -1,3 +1,5 @@
+use Rattle.std.proofs.Common.{arith}
+use Rattle.std.proofs.lemmas.Grind.{common_steps}
 use Rattle.std.proofs.Common.{ap, sym, ◌∙◌}
 use Rattle.std.specs.Prelude.{Some, option_copied}
 use Rattle.shelf_core.specs.declared.mem_shelf.MemFile.{MemFile}
@@ -11,3 +13,6 @@ pub returns : goal.returns
 returns c =
     ap Some c.as_slice.ensures ∙ ap (λ (f : MemFile). Some f.bytes) (sym c.index-files-i.is)
     ∙ sym (found c.args.name.now c.index-files-i.result c.args.files.now c.in_ok-i.i (sym (c.in_ok-i.ensures {u = tt})) c.index-files-i.is)
+
+pub bounds-files-i : goal.bounds-files-i
+bounds-files-i c = grind (arith, common_steps)

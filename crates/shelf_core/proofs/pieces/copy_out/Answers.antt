@@ -7,3 +7,6 @@ returns-clause-read c = grind (arith, common_steps)
 
 pub copy_from_slice-requires : goal.copy_from_slice-requires
 copy_from_slice-requires c = grind (arith, common_steps)
+
+pub slice_bounds-copy_from_slice-end-2 : goal.slice_bounds-copy_from_slice-end-2
+slice_bounds-copy_from_slice-end-2 c = grind (arith, common_steps)

@@ -1,3 +1,4 @@
+use Rattle.std.proofs.lemmas.Grind.{common_steps}
 use Rattle.std.proofs.Common.{sym, ap, subst, arith, Bool, List, [], ◌∷◌, ◌++◌, ℕ, get_or}
 use Rattle.std.proofs.Math.ListN.{set}
 use Rattle.shelf_core.specs.Tapes.{TapeState}
@@ -34,3 +35,9 @@ returns-else-name-free-clause-opened c =
     let P : List (List ℕ × List ℕ) → Type 0 = λ files. Opens c.args.tape.now.files files c.args.name.now c.args.keeps c.push.result in
     let Q : ℕ → Type 0 = λ i. Opens c.args.tape.now.files (c.args.tape.now.files ++ (c.args.name.now, []) ∷ []) c.args.name.now c.args.keeps i in
     subst P (sym (ap (λ (t : TapeState). t.files) c.push.ensures.files)) (subst Q (sym c.push.ensures.place) (opens_new c.args.name.now c.args.keeps c.args.tape.now.files (sym (c.in-None.ensures {u = tt}))))
+
+pub clear-requires : goal.clear-requires
+clear-requires c = grind (arith, common_steps)
+
+pub returns-else-name-free-clause-room : goal.returns-else-name-free-clause-room
+returns-else-name-free-clause-room c = grind (arith, common_steps)

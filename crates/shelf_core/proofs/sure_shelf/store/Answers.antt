@@ -31,3 +31,6 @@ returns-clause-stored c =
 
 pub append-requires-clause-within : goal.append-requires-clause-within
 append-requires-clause-within c = grind (arith, common_steps)
+
+pub returns-clause-room : goal.returns-clause-room
+returns-clause-room c = grind (arith, common_steps)

@@ -30,3 +30,9 @@ has_least_cost-requires-clause-sums c = grind (arith, common_steps)
 
 pub first_bad_sum-requires : goal.first_bad_sum-requires
 first_bad_sum-requires c = grind (arith, common_steps)
+
+pub returns-in-Some-first_bad_sum-clause-broken : goal.returns-in-Some-first_bad_sum-clause-broken
+returns-in-Some-first_bad_sum-clause-broken c = grind (arith, common_steps)
+
+pub returns-in-Some-clause-broken : goal.returns-in-Some-clause-broken
+returns-in-Some-clause-broken c = grind (arith, common_steps)

@@ -4,3 +4,6 @@ use Rattle.strip_boundary.proofs.check.column_holds.Goals as goal
 
 pub returns-else-row-eq0 : goal.returns-else-row-eq0
 returns-else-row-eq0 c = grind (arith, common_steps)
+
+pub bounds-path-row-else-row-eq0-2 : goal.bounds-path-row-else-row-eq0-2
+bounds-path-row-else-row-eq0-2 c = grind (arith, common_steps)

@@ -1,5 +1,10 @@
+use Rattle.std.proofs.Common.{arith}
+use Rattle.std.proofs.lemmas.Grind.{common_steps}
 use Rattle.std.proofs.Common.{below_more}
 use Rattle.strip_boundary.proofs.check.first_bad_sum_of.Goals as goal
 
 pub loop-col-preserved : goal.loop-col-preserved
 loop-col-preserved c = below_more _ _ c.loop-col.invariant (c.sum_holds.ensures.0 c.if-not-sum_holds.false)
+
+pub returns-then-not-sum_holds-clause-here : goal.returns-then-not-sum_holds-clause-here
+returns-then-not-sum_holds-clause-here c = grind (arith, common_steps)

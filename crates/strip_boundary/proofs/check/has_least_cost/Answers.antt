@@ -1,3 +1,4 @@
+use Rattle.std.proofs.lemmas.Grind.{common_steps}
 use Rattle.std.proofs.Common.{◌≡◌, ◌+◌, ◌-◌, slice_index, arith, ◌∙◌, sym}
 use Rattle.std.proofs.lemmas.Bool.Decides.{Decides-eqb, Decides-like}
 use Rattle.strip_boundary.specs.Boundaries.{boundary_cost}
@@ -19,3 +20,6 @@ returns c =
     c.cost.ensures ∙ least_is_one strip c.args.sums.now row (c.rows.result - 1) c.first_least.result (boundary_cost strip c.args.path.now) is_last
     c.row_of-last.ensures.cells first h in
     Decides-like _ least one (Decides-eqb c.cost.result (slice_index row c.first_least.result))
+
+pub cost-requires : goal.cost-requires
+cost-requires c = grind (arith, common_steps)

@@ -30,3 +30,6 @@ row_of-requires-in-loop-row c = grind (arith, common_steps)
 
 pub first_least_near-requires : goal.first_least_near-requires
 first_least_near-requires c = grind (arith, common_steps)
+
+pub returns : goal.returns
+returns c = grind (arith, common_steps)

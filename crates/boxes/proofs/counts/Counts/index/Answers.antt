@@ -4,3 +4,9 @@ use Rattle.boxes.proofs.counts.Counts.index.Goals as goal
 
 pub overflow_mul-result-2 : goal.overflow_mul-result-2
 overflow_mul-result-2 c = grind (arith, common_steps)
+
+pub overflow_add-result-2 : goal.overflow_add-result-2
+overflow_add-result-2 c = grind (arith, common_steps)
+
+pub returns-clause-below : goal.returns-clause-below
+returns-clause-below c = grind (arith, common_steps)

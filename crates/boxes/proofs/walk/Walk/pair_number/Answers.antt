@@ -12,3 +12,9 @@ overflow_add-result-in-F c = let few : c.args.self.before ≤ most_pairs = walk_
 
 pub overflow_add-result-in-F-2 : goal.overflow_add-result-in-F-2
 overflow_add-result-in-F-2 c = let few : c.args.self.before ≤ most_pairs = walk_small c.args.size c.args.self c.requires.small c.requires.inside in grind (arith, common_steps)
+
+pub returns-in-F : goal.returns-in-F
+returns-in-F c = grind (arith, common_steps)
+
+pub returns-in-Y : goal.returns-in-Y
+returns-in-Y c = grind (arith, common_steps)

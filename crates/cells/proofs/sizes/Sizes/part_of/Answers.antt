@@ -1,3 +1,5 @@
+use Rattle.std.proofs.Common.{arith}
+use Rattle.std.proofs.lemmas.Grind.{common_steps}
 use Rattle.std.proofs.Common.{◌∷◌, List, subst}
 use Rattle.cells.specs.declared.place.Size.{Size}
 use Rattle.cells.specs.SizeLists.{IsPartFound}
@@ -14,3 +16,6 @@ returns-clause-none c = none_found 1 c.args.self.now c.args.at c.part_along.resu
 
 pub returns-clause-some : goal.returns-clause-some
 returns-clause-some c = some_found 1 c.args.self.now c.args.at c.part_along.result (found c)
+
+pub part_along-requires-clause-sizes : goal.part_along-requires-clause-sizes
+part_along-requires-clause-sizes c = grind (arith, common_steps)

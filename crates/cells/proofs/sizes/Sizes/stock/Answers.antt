@@ -1,3 +1,4 @@
+use Rattle.std.proofs.lemmas.Grind.{common_steps}
 use Rattle.std.proofs.lemmas.Int.{ints}
 use Rattle.cells.proofs.BoxTests.{of_inside, on_axis_bounds}
 use Rattle.std.proofs.Common.{to_z, of_z, ◌≡◌, ◌≤◌, ◌-◌, ◌∷◌, List, ℕ, ap, sym, ◌∙◌, subst, arith}
@@ -40,3 +41,9 @@ returns c =
   where
     at_frames : At → ℕ → At
     at_frames p n = record { x = p.x; y = p.y; f = p.f +ℤ pos n }
+
+pub frames_before-before-requires-clause-sizes : goal.frames_before-before-requires-clause-sizes
+frames_before-before-requires-clause-sizes c = grind (arith, common_steps)
+
+pub frames_before-before-requires-clause-parts : goal.frames_before-before-requires-clause-parts
+frames_before-before-requires-clause-parts c = grind (arith, common_steps)

@@ -1,3 +1,5 @@
+use Rattle.std.proofs.Common.{arith}
+use Rattle.std.proofs.lemmas.Grind.{common_steps}
 use Rattle.std.proofs.Common.{◌≡◌, ◌<◌, ◌≤◌, ◌+◌, ◌*◌, ap, sym, ◌∙◌, subst, length, take, drop}
 use Rattle.std.specs.Prelude.{Some}
 use Rattle.cells.specs.Parts.{count_from, index_from}
@@ -24,3 +26,9 @@ returns-clause-bytes c =
 
 pub returns-clause-samples : goal.returns-clause-samples
 returns-clause-samples c = c.piece_of.ensures.len ∙ ap (λ (v : Cells). v.k) c.self.view_is
+
+pub overflow_mul-k : goal.overflow_mul-k
+overflow_mul-k c = grind (arith, common_steps)
+
+pub returns-in_err-i-clause-samples : goal.returns-in_err-i-clause-samples
+returns-in_err-i-clause-samples c = grind (arith, common_steps)

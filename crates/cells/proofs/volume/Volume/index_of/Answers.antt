@@ -1,3 +1,5 @@
+use Rattle.std.proofs.Common.{arith}
+use Rattle.std.proofs.lemmas.Grind.{common_steps}
 use Rattle.std.proofs.Common.{◌<◌, ◌∙◌, sym, ap, subst}
 use Rattle.cells.specs.Parts.{count_from}
 use Rattle.cells.specs.Cells.{Cells, index_of}
@@ -17,3 +19,9 @@ returns-in-Some-clause-below c =
     subst (λ (v : Cells). c.in-Some.i < count_from v.size v.more) c.self.view_is
     (index_from_below c.self.inside.size c.self.inside.more c.args.at c.in-Some.i
     (index_front c.self.inside.size c.self.inside.more c.args.at c.in-Some.i (sym c.in-Some.ensures.index)))
+
+pub index_along-requires : goal.index_along-requires
+index_along-requires c = grind (arith, common_steps)
+
+pub returns-in-None-clause-below : goal.returns-in-None-clause-below
+returns-in-None-clause-below c = grind (arith, common_steps)

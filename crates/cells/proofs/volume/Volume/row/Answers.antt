@@ -1,3 +1,5 @@
+use Rattle.std.proofs.Common.{arith}
+use Rattle.std.proofs.lemmas.Grind.{common_steps}
 use Rattle.std.proofs.Common.{◌≡◌, ◌≤◌, ◌+◌, ◌*◌, ap, sym, ◌∙◌, subst, length, take, drop}
 use Rattle.std.specs.Prelude.{Some}
 use Rattle.cells.specs.Parts.{index_from}
@@ -25,3 +27,9 @@ returns-clause-bytes c =
 
 pub returns-clause-len : goal.returns-clause-len
 returns-clause-len c = c.piece_of.ensures.len ∙ ap (λ (v : Cells). v.k * c.args.w) c.self.view_is
+
+pub overflow_mul-k : goal.overflow_mul-k
+overflow_mul-k c = grind (arith, common_steps)
+
+pub overflow_mul-k-2 : goal.overflow_mul-k-2
+overflow_mul-k-2 c = grind (arith, common_steps)

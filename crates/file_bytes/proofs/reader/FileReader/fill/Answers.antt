@@ -29,3 +29,6 @@ returns-in_err-filled-clause-stops g c = grind (arith, common_steps)
 
 pub returns-clause-took : goal.returns-clause-took
 returns-clause-took g c = grind (arith, common_steps)
+
+pub filling-init : goal.filling-init
+filling-init g c = grind (arith, common_steps)

@@ -7,3 +7,6 @@ returns-in_ok-count-clause-ended g c = grind (arith, common_steps)
 
 pub returns-in_ok-count-clause-follows : goal.returns-in_ok-count-clause-follows
 returns-in_ok-count-clause-follows g c = grind (arith, common_steps)
+
+pub returns-in_ok-count-clause-at : goal.returns-in_ok-count-clause-at
+returns-in_ok-count-clause-at g c = grind (arith, common_steps)

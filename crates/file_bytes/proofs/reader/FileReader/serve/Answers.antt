@@ -19,3 +19,6 @@ returns-clause-into c = grind (arith, common_steps)
 
 pub copy_from_slice-requires : goal.copy_from_slice-requires
 copy_from_slice-requires c = grind (arith, common_steps)
+
+pub overflow_add-self-2 : goal.overflow_add-self-2
+overflow_add-self-2 c = grind (arith, common_steps)

@@ -1,3 +1,4 @@
+use Rattle.std.proofs.lemmas.Grind.{common_steps}
 use Rattle.std.proofs.Common.{◌≤◌, ◌+◌, ◌-◌, length, drop, ap, ◌∙◌, arith}
 use Rattle.std.proofs.lemmas.List.{length-take}
 use Rattle.file_bytes.specs.Reading.{Reading}
@@ -13,3 +14,6 @@ returns c =
     let le : n ≤ whole = omega (arith, c.requires.waits, count, same) in
     let waiting = left_waits c.self.inside.start c.self.inside.end n c.self.inside.buffer le ∙ ap (λ (r : Reading). drop n r.waiting) c.self.view_is in
     λ i. record { at = (c.self.view_is i).at + n; waiting = waiting i; ended = (c.self.view_is i).ended }
+
+pub invariant_of-self : goal.invariant_of-self
+invariant_of-self c = grind (arith, common_steps)

@@ -1,3 +1,4 @@
+use Rattle.std.proofs.lemmas.Grind.{common_steps}
 use Rattle.std.proofs.Common.{◌≡◌, ◌∙◌, ◌-◌, length, take, ap, subst, sym, arith}
 use Rattle.std.proofs.Math.Seq.{take-length}
 use Rattle.file_bytes.specs.Reading.{Reading, Took, after_serving}
@@ -19,3 +20,6 @@ returns-then-into-self-clause-took g c =
     subst (λ (after : Reading). Took name r.at into now after) (sym c.serve.ensures.left)
     (subst (λ piece. Took name r.at piece now (after_serving r n)) (ap (λ k. take k into) all ∙ take-length into)
     (took_served name now r n c.args.into.now into c.serve.ensures.count c.serve.ensures.into c.requires.follows))
+
+pub returns-then-into-self-clause-reads : goal.returns-then-into-self-clause-reads
+returns-then-into-self-clause-reads g c = grind (arith, common_steps)

@@ -7,3 +7,6 @@ slice_bounds-put_past-end g c = grind (arith, common_steps)
 
 pub returns : goal.returns
 returns g c = grind (arith, common_steps)
+
+pub slice_bounds-field-end-2 : goal.slice_bounds-field-end-2
+slice_bounds-field-end-2 g c = grind (arith, common_steps)

@@ -1,3 +1,5 @@
+use Rattle.std.proofs.Common.{arith}
+use Rattle.std.proofs.lemmas.Grind.{common_steps}
 use Rattle.std.proofs.Common.{sym, subst}
 use Rattle.std.specs.Prelude.{pos, ◌+ℤ◌, ◌≤ℤ◌}
 use Rattle.cells.specs.Places.{IsInside}
@@ -13,3 +15,6 @@ row-requires c =
     (run_of_part (filled_marks map c.self.inside.picture.k) c.args.at c.args.w
     (subst (λ (s : CanvasState). IsInside s.map.size c.args.at) (sym c.self.view_is) c.requires.inside)
     (subst (λ (s : CanvasState). (c.args.at.x +ℤ pos c.args.w) ≤ℤ pos s.map.size.w) (sym c.self.view_is) c.requires.room))
+
+pub returns-clause-len : goal.returns-clause-len
+returns-clause-len c = grind (arith, common_steps)

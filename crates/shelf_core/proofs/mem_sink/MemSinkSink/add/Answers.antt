@@ -7,3 +7,24 @@ returns-in-Some-clause-part c = grind (arith, common_steps)
 
 pub returns-in_default-extend-clause-part : goal.returns-in_default-extend-clause-part
 returns-in_default-extend-clause-part c = grind (arith, common_steps)
+
+pub returns-in-Some-clause-kept : goal.returns-in-Some-clause-kept
+returns-in-Some-clause-kept c = grind (arith, common_steps)
+
+pub returns-in_default-extend-clause-counted : goal.returns-in_default-extend-clause-counted
+returns-in_default-extend-clause-counted c = grind (arith, common_steps)
+
+pub returns-in-Some-clause-counted : goal.returns-in-Some-clause-counted
+returns-in-Some-clause-counted c = grind (arith, common_steps)
+
+pub returns-in-Some-clause-failed : goal.returns-in-Some-clause-failed
+returns-in-Some-clause-failed c = grind (arith, common_steps)
+
+pub returns-clause-counted : goal.returns-clause-counted
+returns-clause-counted c = grind (arith, common_steps)
+
+pub returns-in_default-extend-clause-failed : goal.returns-in_default-extend-clause-failed
+returns-in_default-extend-clause-failed c = grind (arith, common_steps)
+
+pub returns-in_default-extend-clause-kept : goal.returns-in_default-extend-clause-kept
+returns-in_default-extend-clause-kept c = grind (arith, common_steps)

@@ -1,3 +1,4 @@
+use Rattle.std.proofs.lemmas.Grind.{common_steps}
 use Rattle.std.proofs.Common.{ap, ◌∙◌, refl, arith, ◌<◌, ◌+◌, List, [], ◌++◌, length, take, get_or}
 use Rattle.std.proofs.Math.ListN.{set}
 use Rattle.shelf_core.specs.declared.tape.TapeSpan.{TapeSpan}
@@ -42,3 +43,6 @@ returns c =
           c.put_in.ensures.items) j;
     })
     ∙ ap (λ (t : TapeState). record { room = t.room; files = set t.files c.args.i ((get_or t.files c.args.i ([], [])).0, (get_or t.files c.args.i ([], [])).1 ++ c.args.piece.now) }) c.self.view_is
+
+pub put_in-requires-clause-within : goal.put_in-requires-clause-within
+put_in-requires-clause-within c = grind (arith, common_steps)

@@ -7,7 +7,7 @@ use patch_picks::Mode;
 use std::alloc::AllocError;
 
 /// How an output is grown and refined.
-#[derive(Clone, Copy, Drop, PartialEq, Eq)]
+#[derive(Clone, Copy, Drop)]
 pub struct GrowPlan {
     /// The size of the output, in cells.
     pub size: Size,

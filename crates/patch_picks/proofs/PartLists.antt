@@ -178,3 +178,8 @@ below_there list output part steps sizes n i at e le lt =
       part_count list output part sizes (n + 1),
       ap cell_count e,
     )
+
+-- a list that isn't of one candidate has its entries in all parts
+pub listed_in_parts : (list : Candidates) (output : Size) (sample : Cells) → (((q : At) × (list ≡ Laid q)) ⊎ ((rect : Box3) × (list ≡ Fits rect))) → listed list output sample ≡ all_entries list output (sizes_of sample)
+listed_in_parts list output sample (inl is) = subst (λ l. listed l output sample ≡ all_entries l output (sizes_of sample)) (sym is.1) refl
+listed_in_parts list output sample (inr is) = subst (λ l. listed l output sample ≡ all_entries l output (sizes_of sample)) (sym is.1) refl

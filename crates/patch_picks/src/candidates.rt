@@ -11,7 +11,7 @@ use map_canvas::Placement;
 use spans::{Span, count_of, laid_on};
 
 /// Placements that may be taken, in an order; no list of them is kept.
-#[derive(Clone, Copy, Drop, PartialEq, Eq)]
+#[derive(Clone, Copy, Drop)]
 pub enum Candidates {
     /// This one alone.
     One(Placement),

@@ -14,13 +14,12 @@ use Rattle.map_canvas.specs.declared.canvas.Placement.{Placement}
 use Rattle.map_canvas.specs.Choices.{laid_from}
 use Rattle.match_error.specs.declared.error.Error.{Error}
 use Rattle.patch_place.specs.declared.spots.Spot.{Spot}
-use Rattle.patch_picks.specs.Counts.{FitsCount, entries_after, entries_before}
+use Rattle.patch_picks.specs.Counts.{FitsCount, entries_after, entries_before, AreVolumeParts}
 use Rattle.patch_place.specs.Spots.{IsSpotAt, room_entries}
 use Rattle.patch_picks.specs.Lists.{fit_list, from_part, lists_from, room}
 use Rattle.patch_picks.proofs.BoxLists.{cells_of_index}
 use Rattle.patch_picks.proofs.Counting.{map_more, slice_get-Contains}
 use Rattle.patch_picks.specs.declared.candidates.Candidates.TheVariants.{Fits}
-use Rattle.patch_picks.specs.Counts.{AreVolumeParts}
 use Rattle.patch_place.specs.Tables.{IsSeenTo}
 use Rattle.patch_picks.proofs.PartLists.{before_step, count_step, entries_few, entry_of_all}
 use Rattle.patch_picks.proofs.Stocks.{stock_moved}

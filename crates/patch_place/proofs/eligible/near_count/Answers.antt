@@ -2,8 +2,5 @@ use Rattle.std.proofs.Common.{arith}
 use Rattle.std.proofs.lemmas.Grind.{common_steps}
 use Rattle.patch_place.proofs.eligible.near_count.Goals as goal
 
-pub overflow_add-n : goal.overflow_add-n
-overflow_add-n c = grind (arith, common_steps)
-
 pub entries-preserved : goal.entries-preserved
 entries-preserved c = grind (arith, common_steps)

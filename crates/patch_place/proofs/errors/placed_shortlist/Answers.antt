@@ -28,8 +28,8 @@ returns c = grind (arith, common_steps)
 pub squares_for-squares-requires-clause-inside : goal.squares_for-squares-requires-clause-inside
 squares_for-squares-requires-clause-inside c = (c.entry_for-placement.ensures.fits c.requires.fit).inside
 
-pub add-requires-clause-fits : goal.add-requires-clause-fits
-add-requires-clause-fits c = c.entry_for-placement.ensures.fits c.requires.fit
+pub add-requires : goal.add-requires
+add-requires c = record { over = c.requires.over; fits = c.entry_for-placement.ensures.fits c.requires.fit; counts = c.in_ok-counts.ensures; rows = c.in_ok-rows.ensures; errors = c.in_ok-come_to.ensures.sums; few = omega (arith, c.entries.invariant.seen, c.entries-test.true); sound = c.entries.invariant.sound }
 
 pub around_of-around-requires : goal.around_of-around-requires
 around_of-around-requires c = grind (arith, common_steps)
@@ -44,3 +44,6 @@ entries-init c = record {
   errors = grind (arith, common_steps);
   part = grind (arith, common_steps);
 }
+
+pub come_to-requires : goal.come_to-requires
+come_to-requires c = record { over = c.requires.over; held = rw (c.size.ensures.size ∙ (λ t. (c.map.ensures.map t).size)) at c.around_of-around.ensures; errors = c.entries.invariant.errors; part = c.entries.invariant.part }

@@ -1,6 +1,5 @@
-use Rattle.std.proofs.Common.{arith}
+use Rattle.std.proofs.Common.{arith, subst, sym}
 use Rattle.std.proofs.lemmas.Grind.{common_steps}
-use Rattle.std.proofs.Common.{subst, sym}
 use Rattle.match_error.specs.Errors.{error_of}
 use Rattle.patch_picks.specs.Picks.{listed_on}
 use Rattle.patch_place.specs.Tables.{IsPickAt}

@@ -1,6 +1,5 @@
-use Rattle.std.proofs.Common.{arith}
+use Rattle.std.proofs.Common.{arith, map, sym, subst, ◌∙◌}
 use Rattle.std.proofs.lemmas.Grind.{common_steps}
-use Rattle.std.proofs.Common.{map, sym, subst, ◌∙◌}
 use Rattle.std.specs.Prelude.{All, Contains, IfSome}
 use Rattle.patch_place.specs.BoxErrors.{box_list}
 use Rattle.patch_picks.specs.Lists.{fit_list, lists_from}

@@ -1,6 +1,5 @@
-use Rattle.std.proofs.Common.{arith}
+use Rattle.std.proofs.Common.{arith, refl}
 use Rattle.std.proofs.lemmas.Grind.{common_steps}
-use Rattle.std.proofs.Common.{refl}
 use Rattle.patch_place.proofs.Shortlists.{short_keep}
 use Rattle.patch_place.proofs.shortlist.Shortlist.keep.Goals as goal
 

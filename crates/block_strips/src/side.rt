@@ -8,7 +8,7 @@ use crate::blocks::shared_on;
 use cells::{Box3, Size};
 
 /// A side of a block.
-#[derive(Clone, Copy, Debug, Drop, PartialEq, Eq)]
+#[derive(Clone, Copy, Drop)]
 pub enum Side {
     /// The left side: a strip row is a row of the block, a strip column a column.
     Left,

@@ -1,11 +1,13 @@
-use Rattle.std.proofs.lemmas.Grind.{common_steps}
-use Rattle.std.proofs.Common.{◌≡◌, ℕ, ◌/◌, ◌%◌, ◌≤◌, ◌++◌, ◌∷◌, [], length, ap, sym, ◌∙◌, subst, arith}
+use Rattle.std.proofs.Common.{◌≡◌, ℕ, ◌/◌, ◌%◌, ◌≤◌, ◌++◌, ◌∷◌, [], length, ap, sym, ◌∙◌, subst, arith, ◌*◌, ◌<◌}
 use Rattle.std.proofs.lemmas.List.Elements.{All-append, All-cons, All-nil}
 use Rattle.std.proofs.lemmas.List.FromFn.{length-map-range_with_len, map-range_with_len_more}
-use Rattle.std.specs.Prelude.{All}
+use Rattle.std.specs.Prelude.{All, map}
+use Rattle.std.specs.List.{range_with_len}
+use Rattle.std.proofs.Math.Nat.{div-lt_iff_lt-mul}
 use Rattle.strip_boundary.specs.declared.strip.TheConstants.{GREATEST_ERROR}
-use Rattle.block_strips.specs.Strips.{strip_error}
+use Rattle.block_strips.specs.Strips.{strip_error, strip_rows}
 use Rattle.block_strips.proofs.Errors.{strip_is}
+use Rattle.strip_boundary.specs.Strips.{table_of}
 use Rattle.block_strips.proofs.strips.strip_of.Goals as goal
 
 pub loop-i-preserved : goal.loop-i-preserved
@@ -36,7 +38,16 @@ from_vec-requires c =
     (omega (arith, long, c.loop-i-test.false, c.loop-i.auto.i-end)) c.loop-i.invariant.small
 
 pub strip_error-error-requires-clause-row : goal.strip_error-error-requires-clause-row
-strip_error-error-requires-clause-row c = grind (arith, common_steps)
+strip_error-error-requires-clause-row c =
+    let rows : c.loop-i.i / c.args.cols < c.rows-rows.result = (div-lt_iff_lt-mul c.requires.some).1 c.loop-i-test.true in
+    subst (λ n. c.loop-i.i / c.args.cols < n) c.rows-rows.ensures rows
 
 pub returns : goal.returns
-returns c = grind (arith, common_steps)
+returns c =
+    let side = c.args.side in
+    let cols = c.args.cols in
+    let f : ℕ → ℕ = λ i. strip_error side c.args.canvas.now.map c.args.sample.now c.args.placement.now (i / cols) (i % cols) in
+    let rows = strip_rows side c.args.placement.now.rect.size in
+    let all : c.loop-i.i ≡ rows * cols = omega (arith, c.loop-i-test.false, c.loop-i.auto.i-end) ∙ ap (λ n. n * cols) c.rows-rows.ensures in
+    let errors : c.loop-i.errors.items ≡ map f (range_with_len 0 (rows * cols)) = c.loop-i.invariant.errors ∙ ap (λ n. map f (range_with_len 0 n)) all in
+    c.from_vec.ensures ∙ (λ k. table_of (c.rows-rows.ensures k) cols (errors k))

@@ -7,7 +7,7 @@ use boxes::clipped;
 use cells::{At, Box3, Size};
 
 // Cells of a run that an axis has: how many of the run come before them, and how many they are.
-#[derive(Clone, Copy, Debug, Drop)]
+#[derive(Clone, Copy, Drop)]
 struct Taken {
     skipped: u32,
     taken: u32,

@@ -1,5 +1,5 @@
 use Rattle.std.proofs.lemmas.Grind.{common_steps}
-use Rattle.std.proofs.Common.{◌≡◌, ◌∙◌, ℕ, ap, arith}
+use Rattle.std.proofs.Common.{◌≡◌, ◌∙◌, ℕ, ap, arith, ◌<◌}
 use Rattle.cells.specs.Distances.{distance}
 use Rattle.cells.specs.Places.{cell_count}
 use Rattle.cells.specs.Boxes.{cell_in}
@@ -9,7 +9,7 @@ use Rattle.boxes.proofs.Axes.{sum_more}
 use Rattle.boxes.proofs.Boxes.{box_counts}
 use Rattle.map_canvas.proofs.Filling.{fits_small}
 use Rattle.boxes.specs.Pairs.{at_index}
-use Rattle.boxes.proofs.Indices.{at_index_is}
+use Rattle.boxes.proofs.Indices.{at_index_is, counts_below}
 use Rattle.costs.specs.Choosing.{within_after}
 use Rattle.costs.specs.Costs.{pairs_at}
 use Rattle.costs.proofs.after.sum_after.Goals as goal
@@ -51,4 +51,8 @@ pub next-at-requires : goal.next-at-requires
 next-at-requires c = grind (arith, common_steps)
 
 pub pairs_after-requires-clause-counts : goal.pairs_after-requires-clause-counts
-pairs_after-requires-clause-counts c = grind (arith, common_steps)
+pairs_after-requires-clause-counts c =
+    let size = c.args.after.now.placement.now.rect.size in
+    let at = c.loop-i.at in
+    let below : c.loop-i.i < cell_count size = omega (arith, c.loop-i-test.true, c.cells-i-end.ensures) in
+    counts_below size c.loop-i.i at.x at.y at.f c.loop-i.invariant.at below

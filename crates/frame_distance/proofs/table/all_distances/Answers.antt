@@ -1,5 +1,5 @@
 use Rattle.std.proofs.lemmas.Grind.{common_steps}
-use Rattle.std.proofs.Common.{◌≡◌, ℕ, List, ◌<◌, ◌^◌, length, sym, ◌∙◌, ap, arith}
+use Rattle.std.proofs.Common.{◌≡◌, ℕ, List, ◌<◌, ◌^◌, length, sym, ◌∙◌, ap, arith, ◌*◌}
 use Rattle.std.proofs.lemmas.List.Elements.{All-push}
 use Rattle.frame_distance.specs.Frames.{distance_in}
 use Rattle.frame_distance.specs.Tables.{entries_of}
@@ -31,7 +31,10 @@ loop-k-preserved c =
     }
 
 pub returns-clause-numbers : goal.returns-clause-numbers
-returns-clause-numbers c = grind (arith, common_steps)
+returns-clause-numbers c =
+    let n = c.args.n in
+    let all : c.loop-k._k ≡ n * n = omega (arith, c.loop-k-test.false, c.loop-k.auto._k-end) in
+    c.loop-k.invariant.so_far ∙ ap (entries_of n (distance_in c.args.bytes.now c.args.len)) all
 
 pub next_distance-number-requires-clause-small : goal.next_distance-number-requires-clause-small
 next_distance-number-requires-clause-small c = grind (arith, common_steps)

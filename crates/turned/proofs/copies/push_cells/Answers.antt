@@ -1,6 +1,4 @@
-use Rattle.std.proofs.Common.{arith}
-use Rattle.std.proofs.lemmas.Grind.{common_steps}
-use Rattle.std.proofs.Common.{◌≡◌, ◌++◌, ◌∙◌, ap, sym, subst}
+use Rattle.std.proofs.Common.{arith, ◌≡◌, ◌++◌, ◌∙◌, ap, sym, subst}
 use Rattle.std.proofs.lemmas.List.{append-nil, append_assoc}
 use Rattle.std.specs.List.{concat}
 use Rattle.cells.specs.Places.{IsInside, spot}
@@ -27,4 +25,7 @@ loop-x-preserved c =
     ∙ ap (λ xs. c.args.bytes.now.items ++ xs) (sym (row_more turn part c.args.y c.args.f x))
 
 pub returns : goal.returns
-returns c = grind (arith, common_steps)
+returns c =
+    let part = numbered_part c.args.samples.now c.args.it.number in
+    let all : c.loop-x.x ≡ c.args.it.size.w = omega (arith, c.loop-x-test.false, c.loop-x.auto.x-end) in
+    subst (λ n. c.loop-x.bytes.items ≡ c.args.bytes.now.items ++ concat (turned_row c.args.it.turn part c.args.y c.args.f n)) all c.loop-x.invariant

@@ -1,11 +1,12 @@
-use Rattle.std.proofs.Common.{arith}
+use Rattle.std.proofs.Common.{arith, ◌≡◌, ◌*◌, ◌/◌, ◌%◌, ◌++◌, ◌∙◌, ap, sym}
 use Rattle.std.proofs.lemmas.Grind.{common_steps}
-use Rattle.std.proofs.Common.{◌/◌, ◌%◌, ◌++◌, ◌∙◌, ap, sym}
-use Rattle.std.specs.List.{concat}
+use Rattle.std.specs.List.{concat, range_with_len}
+use Rattle.std.specs.Prelude.{map}
 use Rattle.cells.proofs.Raster.{below_of_div}
 use Rattle.turned.specs.Copies.{numbered_part, turned_row}
 use Rattle.turned.specs.TurnedParts.{turned_cell}
 use Rattle.turned.proofs.Copying.{rows_more}
+use Rattle.cells.specs.Places.{place_of}
 use Rattle.turned.proofs.copies.turned_bytes.Goals as goal
 
 pub push_row-requires-clause-frame : goal.push_row-requires-clause-frame
@@ -22,7 +23,11 @@ loop-row-preserved c =
     ∙ sym (rows_more (turned_cell turn part) size row c.requires.small.axes.h.0 c.loop-row-test.true)
 
 pub returns : goal.returns
-returns c = grind (arith, common_steps)
+returns c =
+    let size = c.args.it.size in
+    let cell = turned_cell c.args.it.turn (numbered_part c.args.samples.now c.args.it.number) in
+    let all : c.loop-row.row ≡ size.h * size.f = omega (arith, c.loop-row-test.false, c.loop-row.auto.row-end) in
+    c.loop-row.invariant ∙ ap (λ rows. concat (map cell (map (place_of size) (range_with_len 0 (size.w * rows))))) all
 
 pub overflow_mul-row-end : goal.overflow_mul-row-end
 overflow_mul-row-end c = grind (arith, common_steps)

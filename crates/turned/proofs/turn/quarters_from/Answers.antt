@@ -1,26 +1,21 @@
 use Rattle.std.proofs.lemmas.Grind.{common_steps}
-use Rattle.std.proofs.Common.{to_z, of_z, ◌≡◌, ◌∙◌, ap, arith, subst, sym}
-use Rattle.std.proofs.lemmas.Int.{ints}
-use Rattle.std.specs.Int.{w32}
-use Rattle.cells.specs.declared.place.At.{At}
+use Rattle.std.proofs.Common.{◌≡◌, ◌∙◌, ap, arith, subst, sym, rules, w32}
+use Rattle.std.proofs.lemmas.Int.{to_z-of_z}
 use Rattle.cells.specs.Places.{IsInside}
-use Rattle.cells.proofs.BoxTests.{of_inside, on_axis_bounds}
-use Rattle.turned.specs.Turns.{quarters_from, quarters_size}
-use Rattle.turned.proofs.Turns.{quarters_inside, same_place}
+use Rattle.turned.specs.Turns.{quarters_from, quarters_size, from_end}
+use Rattle.turned.proofs.Turns.{end_twice, quarters_inside, same_place}
+use mir.Val.{SFits}
 use Rattle.turned.proofs.turn.quarters_from.Goals as goal
 
 pub returns-in-1-clause-from : goal.returns-in-1-clause-from
 returns-in-1-clause-from c =
     let size = c.args.size in
     let at = c.args.at in
-    let there : IsInside (quarters_size 1 size) at = subst (λ n. IsInside (quarters_size n size) at) c.in-1.is c.requires.inside in
-    let on = of_inside (quarters_size 1 size) at there in
-    let x = on_axis_bounds size.h at.x on.x in
-    let y = on_axis_bounds size.w at.y on.y in
-    let f = on_axis_bounds size.f at.f on.f in
-    let axes = c.requires.axes in
-    let result : At = record { x = to_z w32 (of_z w32 at.y); y = to_z w32 (of_z w32 c.from_end.result); f = to_z w32 (of_z w32 at.f) } in
-    same_place result (quarters_from 1 size at) (omega (arith, ints, y.0, y.1, axes.w.1)) (omega (arith, ints, c.from_end.ensures, x.0, x.1, axes.h.1)) (omega (arith, ints, f.0, f.1, axes.f.1))
+    let x : SFits w32 at.x = search rules in
+    let y : SFits w32 at.y = search rules in
+    let f : SFits w32 at.f = search rules in
+    let end_x : SFits w32 c.from_end.result = search rules in
+    same_place _ (quarters_from 1 size at) (to_z-of_z w32 at.y y) (to_z-of_z w32 c.from_end.result end_x ∙ c.from_end.ensures ∙ ap (from_end size.h) (to_z-of_z w32 at.x x)) (to_z-of_z w32 at.f f)
     ∙ ap (λ n. quarters_from n size at) (sym c.in-1.is)
 
 pub returns-in-1-clause-inside : goal.returns-in-1-clause-inside
@@ -31,14 +26,12 @@ pub returns-in-2-clause-from : goal.returns-in-2-clause-from
 returns-in-2-clause-from c =
     let size = c.args.size in
     let at = c.args.at in
-    let there : IsInside (quarters_size 2 size) at = subst (λ n. IsInside (quarters_size n size) at) c.in-2.is c.requires.inside in
-    let on = of_inside (quarters_size 2 size) at there in
-    let x = on_axis_bounds size.w at.x on.x in
-    let y = on_axis_bounds size.h at.y on.y in
-    let f = on_axis_bounds size.f at.f on.f in
-    let axes = c.requires.axes in
-    let result : At = record { x = to_z w32 (of_z w32 c.from_end-in-2.result); y = to_z w32 (of_z w32 c.from_end-in-2-2.result); f = to_z w32 (of_z w32 at.f) } in
-    same_place result (quarters_from 2 size at) (omega (arith, ints, c.from_end-in-2.ensures, x.0, x.1, axes.w.1)) (omega (arith, ints, c.from_end-in-2-2.ensures, y.0, y.1, axes.h.1)) (omega (arith, ints, f.0, f.1, axes.f.1))
+    let x : SFits w32 at.x = search rules in
+    let y : SFits w32 at.y = search rules in
+    let f : SFits w32 at.f = search rules in
+    let end_x : SFits w32 c.from_end-in-2.result = search rules in
+    let end_y : SFits w32 c.from_end-in-2-2.result = search rules in
+    same_place _ (quarters_from 2 size at) (to_z-of_z w32 c.from_end-in-2.result end_x ∙ c.from_end-in-2.ensures ∙ ap (from_end size.w) (to_z-of_z w32 at.x x)) (to_z-of_z w32 c.from_end-in-2-2.result end_y ∙ c.from_end-in-2-2.ensures ∙ ap (from_end size.h) (to_z-of_z w32 at.y y)) (to_z-of_z w32 at.f f)
     ∙ ap (λ n. quarters_from n size at) (sym c.in-2.is)
 
 pub returns-in-2-clause-inside : goal.returns-in-2-clause-inside
@@ -49,14 +42,11 @@ pub returns-in-3-clause-from : goal.returns-in-3-clause-from
 returns-in-3-clause-from c =
     let size = c.args.size in
     let at = c.args.at in
-    let there : IsInside (quarters_size 3 size) at = subst (λ n. IsInside (quarters_size n size) at) c.in-3.is c.requires.inside in
-    let on = of_inside (quarters_size 3 size) at there in
-    let x = on_axis_bounds size.h at.x on.x in
-    let y = on_axis_bounds size.w at.y on.y in
-    let f = on_axis_bounds size.f at.f on.f in
-    let axes = c.requires.axes in
-    let result : At = record { x = to_z w32 (of_z w32 c.from_end-in-3.result); y = to_z w32 (of_z w32 at.x); f = to_z w32 (of_z w32 at.f) } in
-    same_place result (quarters_from 3 size at) (omega (arith, ints, c.from_end-in-3.ensures, y.0, y.1, axes.w.1)) (omega (arith, ints, x.0, x.1, axes.h.1)) (omega (arith, ints, f.0, f.1, axes.f.1))
+    let x : SFits w32 at.x = search rules in
+    let y : SFits w32 at.y = search rules in
+    let f : SFits w32 at.f = search rules in
+    let end_y : SFits w32 c.from_end-in-3.result = search rules in
+    same_place _ (quarters_from 3 size at) (to_z-of_z w32 c.from_end-in-3.result end_y ∙ c.from_end-in-3.ensures ∙ ap (from_end size.w) (to_z-of_z w32 at.y y)) (to_z-of_z w32 at.x x ∙ sym (end_twice size.h at.x)) (to_z-of_z w32 at.f f)
     ∙ ap (λ n. quarters_from n size at) (sym c.in-3.is)
 
 pub returns-in-3-clause-inside : goal.returns-in-3-clause-inside

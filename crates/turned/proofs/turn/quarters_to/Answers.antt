@@ -1,25 +1,21 @@
 use Rattle.std.proofs.lemmas.Grind.{common_steps}
-use Rattle.std.proofs.Common.{to_z, of_z, ◌≡◌, ◌∙◌, ap, arith, subst, sym}
-use Rattle.std.proofs.lemmas.Int.{ints}
-use Rattle.std.specs.Int.{w32}
-use Rattle.cells.specs.declared.place.At.{At}
+use Rattle.std.proofs.Common.{◌≡◌, ◌∙◌, ap, arith, subst, sym, rules, w32}
+use Rattle.std.proofs.lemmas.Int.{to_z-of_z}
 use Rattle.cells.specs.Places.{IsInside}
-use Rattle.cells.proofs.BoxTests.{of_inside, on_axis_bounds}
-use Rattle.turned.specs.Turns.{quarters_size, quarters_to}
-use Rattle.turned.proofs.Turns.{quarters_to_inside, same_place}
+use Rattle.turned.specs.Turns.{quarters_size, quarters_to, from_end}
+use Rattle.turned.proofs.Turns.{end_twice, quarters_to_inside, same_place}
+use mir.Val.{SFits}
 use Rattle.turned.proofs.turn.quarters_to.Goals as goal
 
 pub returns-in-1-clause-to : goal.returns-in-1-clause-to
 returns-in-1-clause-to c =
     let size = c.args.size in
     let at = c.args.at in
-    let on = of_inside size at c.requires.inside in
-    let x = on_axis_bounds size.w at.x on.x in
-    let y = on_axis_bounds size.h at.y on.y in
-    let f = on_axis_bounds size.f at.f on.f in
-    let axes = c.requires.axes in
-    let result : At = record { x = to_z w32 (of_z w32 c.from_end.result); y = to_z w32 (of_z w32 at.x); f = to_z w32 (of_z w32 at.f) } in
-    same_place result (quarters_to 1 size at) (omega (arith, ints, c.from_end.ensures, y.0, y.1, axes.h.1)) (omega (arith, ints, x.0, x.1, axes.w.1)) (omega (arith, ints, f.0, f.1, axes.f.1))
+    let x : SFits w32 at.x = search rules in
+    let y : SFits w32 at.y = search rules in
+    let f : SFits w32 at.f = search rules in
+    let end_y : SFits w32 c.from_end.result = search rules in
+    same_place _ (quarters_to 1 size at) (to_z-of_z w32 c.from_end.result end_y ∙ c.from_end.ensures ∙ ap (from_end size.h) (to_z-of_z w32 at.y y)) (to_z-of_z w32 at.x x) (to_z-of_z w32 at.f f)
     ∙ ap (λ n. quarters_to n size at) (sym c.in-1.is)
 
 pub returns-in-1-clause-inside : goal.returns-in-1-clause-inside
@@ -30,13 +26,12 @@ pub returns-in-2-clause-to : goal.returns-in-2-clause-to
 returns-in-2-clause-to c =
     let size = c.args.size in
     let at = c.args.at in
-    let on = of_inside size at c.requires.inside in
-    let x = on_axis_bounds size.w at.x on.x in
-    let y = on_axis_bounds size.h at.y on.y in
-    let f = on_axis_bounds size.f at.f on.f in
-    let axes = c.requires.axes in
-    let result : At = record { x = to_z w32 (of_z w32 c.from_end-in-2.result); y = to_z w32 (of_z w32 c.from_end-in-2-2.result); f = to_z w32 (of_z w32 at.f) } in
-    same_place result (quarters_to 2 size at) (omega (arith, ints, c.from_end-in-2.ensures, x.0, x.1, axes.w.1)) (omega (arith, ints, c.from_end-in-2-2.ensures, y.0, y.1, axes.h.1)) (omega (arith, ints, f.0, f.1, axes.f.1))
+    let x : SFits w32 at.x = search rules in
+    let y : SFits w32 at.y = search rules in
+    let f : SFits w32 at.f = search rules in
+    let end_x : SFits w32 c.from_end-in-2.result = search rules in
+    let end_y : SFits w32 c.from_end-in-2-2.result = search rules in
+    same_place _ (quarters_to 2 size at) (to_z-of_z w32 c.from_end-in-2.result end_x ∙ c.from_end-in-2.ensures ∙ ap (from_end size.w) (to_z-of_z w32 at.x x)) (to_z-of_z w32 c.from_end-in-2-2.result end_y ∙ c.from_end-in-2-2.ensures ∙ ap (from_end size.h) (to_z-of_z w32 at.y y)) (to_z-of_z w32 at.f f)
     ∙ ap (λ n. quarters_to n size at) (sym c.in-2.is)
 
 pub returns-in-2-clause-inside : goal.returns-in-2-clause-inside
@@ -47,13 +42,11 @@ pub returns-in-3-clause-to : goal.returns-in-3-clause-to
 returns-in-3-clause-to c =
     let size = c.args.size in
     let at = c.args.at in
-    let on = of_inside size at c.requires.inside in
-    let x = on_axis_bounds size.w at.x on.x in
-    let y = on_axis_bounds size.h at.y on.y in
-    let f = on_axis_bounds size.f at.f on.f in
-    let axes = c.requires.axes in
-    let result : At = record { x = to_z w32 (of_z w32 at.y); y = to_z w32 (of_z w32 c.from_end-in-3.result); f = to_z w32 (of_z w32 at.f) } in
-    same_place result (quarters_to 3 size at) (omega (arith, ints, y.0, y.1, axes.h.1)) (omega (arith, ints, c.from_end-in-3.ensures, x.0, x.1, axes.w.1)) (omega (arith, ints, f.0, f.1, axes.f.1))
+    let x : SFits w32 at.x = search rules in
+    let y : SFits w32 at.y = search rules in
+    let f : SFits w32 at.f = search rules in
+    let end_x : SFits w32 c.from_end-in-3.result = search rules in
+    same_place _ (quarters_to 3 size at) (to_z-of_z w32 at.y y ∙ sym (end_twice size.h at.y)) (to_z-of_z w32 c.from_end-in-3.result end_x ∙ c.from_end-in-3.ensures ∙ ap (from_end size.w) (to_z-of_z w32 at.x x)) (to_z-of_z w32 at.f f)
     ∙ ap (λ n. quarters_to n size at) (sym c.in-3.is)
 
 pub returns-in-3-clause-inside : goal.returns-in-3-clause-inside

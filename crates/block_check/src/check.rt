@@ -25,7 +25,7 @@ pub const FIT_RULE: u32 = 7;
 pub const OVERLAP_RULE: u32 = 8;
 
 /// Why a block isn't accepted.
-#[derive(Clone, Copy, Debug, Drop, PartialEq, Eq, Error)]
+#[derive(Clone, Copy, Debug, Drop, Error)]
 pub enum BlockError {
     /// It breaks a rule.
     #[error("the block breaks a rule")]

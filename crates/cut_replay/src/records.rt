@@ -8,7 +8,7 @@ use cut_check::{CutFault, CutRecord, check_cut};
 use map_canvas::Canvas;
 
 /// The first record that doesn't stand over the map that the records before it leave.
-#[derive(Clone, Copy, Debug, Drop, PartialEq, Eq)]
+#[derive(Clone, Copy, Drop, PartialEq, Eq)]
 pub struct Broken {
     /// Its number in the list, from 0.
     pub number: usize,

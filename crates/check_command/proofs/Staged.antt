@@ -25,7 +25,7 @@ use Rattle.sample_files.specs.declared.sample.Sample.{Sample}
 use Rattle.sample_files.specs.declared.several.Samples.{Samples}
 use Rattle.sample_files.specs.Several.{AsksParts, MayRefuseSamples, SamplesReadAs, StandForSamples, contents, of_samples, read_samples, sample_files}
 use Rattle.sample_files.proofs.Commands.{parts_are_one, parts_made, parts_make, parts_passed, parts_refused, samples_are_one, samples_not_read}
-use Rattle.worked.specs.Worked.{worked_samples}
+use Rattle.sample_files.specs.Worked.{worked_samples}
 use Rattle.turned.specs.declared.turn.TheConstants.{TURNS}
 use Rattle.std.proofs.lemmas.List.{length-map}
 use Rattle.sample_files.proofs.OneSample.{one_sample, one_sample_refusal, stands_or_refused}

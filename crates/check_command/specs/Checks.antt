@@ -10,7 +10,7 @@ use Rattle.source_map.specs.MapFiles.{map_read}
 use Rattle.turned.specs.TurnedParts.{turned_sizes_of}
 use Rattle.turned_map.specs.declared.turned_file.TurnedFile.{TurnedFile}
 use Rattle.turned_map.specs.TurnedFiles.{turned_map_read}
-use Rattle.worked.specs.Worked.{worked_samples}
+use Rattle.sample_files.specs.Worked.{worked_samples}
 use Rattle.cert_file.specs.declared.file.RecordFile.{RecordFile}
 use Rattle.cert_file.specs.RecordFiles.{IsRecordFileOf, RefusesRecordFile}
 use Rattle.job_words.specs.declared.check.CheckJob.{CheckJob}

@@ -13,7 +13,7 @@ ghost use Rattle.command.specs.Faults.{ReadsPart};
 use command::read_fault;
 use job_words::{CheckJob, Name};
 use limits::MOST_OUT_CLIP_CELLS;
-use sample_files::{Sample, Samples, parts_within, read_sample_within, read_samples};
+use sample_files::{Sample, Samples, parts_within, read_sample_within, read_samples, worked};
 use shelf_core::{ReadError, Shelf};
 use source_map::{MapFile, Version, read_map};
 use standing_files::{Verdict, judge_record_file};
@@ -21,7 +21,6 @@ use std::alloc::Global;
 use synth_report::{Fault, FileOf};
 use turned::turned_sizes;
 use turned_map::{TurnedFile, read_turned_map};
-use worked::worked;
 
 // Reads the out file.
 fn read_out<S: Shelf>(alloc: Global, shelf: &mut S, name: &Name) -> Result<Sample, Fault>

@@ -13,11 +13,10 @@ use grow_outputs::{Growth, growing_fault, mode_for};
 use grow_run::grow_canvas;
 use grown::GrowPlan;
 use job_words::GrowJob;
-use sample_files::{parts_within, read_samples, within_bounds};
+use sample_files::{parts_within, read_samples, within_bounds, worked};
 use shelf_core::Shelf;
 use std::alloc::Global;
 use synth_report::Fault;
-use worked::worked;
 
 // How an output is grown and refined.
 fn plan_of(job: &GrowJob) -> GrowPlan

@@ -12,7 +12,7 @@ use Rattle.map_canvas.specs.Maps.{IsMap, SourceMap}
 use Rattle.cells.specs.declared.place.Size.{Size}
 use Rattle.turned.specs.TurnedParts.{turned_sizes_of}
 use Rattle.turned_map.proofs.TurnedAgain.{read_again}
-use Rattle.worked.specs.Worked.{worked_sizes}
+use Rattle.sample_files.specs.Worked.{worked_sizes}
 use Rattle.grow_outputs.specs.GrownMaps.{IsReadyMap, map_text, version_of}
 use Rattle.source_map.proofs.MapsAgain as maps
 use Rattle.cert_file.specs.CutForms.{HasShortFlows}

@@ -33,8 +33,8 @@ use Rattle.sample_files.proofs.Commands.{parts_made}
 use Rattle.sample_files.proofs.Sound.{as_many_parts, stand_sound}
 use Rattle.limits.specs.declared.bounds.TheConstants.{MOST_PARTS}
 use Rattle.turned.specs.declared.turn.TheConstants.{TURNS}
-use Rattle.worked.specs.Worked.{worked}
-use Rattle.worked.proofs.WorkedLaws.{sizes_worked, worked_sound}
+use Rattle.sample_files.specs.Worked.{worked}
+use Rattle.sample_files.proofs.WorkedLaws.{sizes_worked, worked_sound}
 use Rattle.grow_outputs.specs.Growths.{AreSamplesIn, IsGrowSummary, IsGrownOver, IsMade, grow_command, grow_over, grow_stages, growth_files, growth_of, growth_summary, head_over, plan_of}
 use Rattle.grow_outputs.specs.GrownMaps.{map_text}
 use Rattle.grow_outputs.proofs.NamedCells.{named_cell}

@@ -28,8 +28,8 @@ use Rattle.sample_files.specs.declared.several.Samples.{Samples}
 use Rattle.sample_files.specs.Outputs.{IsWithinBounds, PassesBounds}
 use Rattle.sample_files.specs.Several.{AreSoundSamples, AsksParts, MayRefuseSamples, SamplesReadAs, StandForSamples, contents, of_samples, read_samples, sample_files}
 use Rattle.sample_files.proofs.Commands.{parts_are_one, parts_passed, parts_refused, samples_are_one, samples_not_read}
-use Rattle.worked.specs.Worked.{worked, worked_samples, worked_sizes}
-use Rattle.worked.proofs.WorkedLaws.{sizes_worked}
+use Rattle.sample_files.specs.Worked.{worked, worked_samples, worked_sizes}
+use Rattle.sample_files.proofs.WorkedLaws.{sizes_worked}
 use Rattle.grow_outputs.specs.declared.growth.Growth.{Growth}
 use Rattle.grow_outputs.specs.Growths.{IsGrowSummary, IsGrownOver, IsMade, fault_of_growing, grow_command, grow_over, grow_stages, growth_files, growth_of, growth_summary, plan_of}
 use Rattle.grow_outputs.proofs.Ready.{volume_sizes}

@@ -11,7 +11,7 @@ use Rattle.turned.proofs.TurnedCells.{sizes_turned}
 use Rattle.turned.proofs.TurnedPlaces.{same_cell_of}
 use Rattle.turned_map.specs.TurnedFiles.{untouched_of}
 use Rattle.turned_map.proofs.Entries.{untouched_is}
-use Rattle.worked.specs.Worked.{worked}
+use Rattle.sample_files.specs.Worked.{worked}
 use Rattle.grow_outputs.specs.GrownMaps.{named_place}
 
 pub named_cell : (turns : Bool) (v : Cells) → IsVolume v → (from : At) → HasCell (worked turns v) from → cell_at (worked turns v) from ≡ cell_at v (named_place turns (sizes_of v) from)

@@ -16,7 +16,7 @@ use Rattle.sample_files.specs.declared.several.Samples.{Samples}
 use Rattle.sample_files.specs.Samples.{form_text}
 use Rattle.sample_files.specs.Several.{StandForSamples, contents, of_samples}
 use Rattle.sample_files.proofs.OneAnswer.{one_value}
-use Rattle.worked.specs.Worked.{worked}
+use Rattle.sample_files.specs.Worked.{worked}
 use Rattle.grow_outputs.specs.GrownMaps.{map_text}
 use Rattle.grow_outputs.specs.Growths.{plan_of}
 use Rattle.grow_outputs.specs.GrowHeadlines.{HaveSameOutput, HaveSameSamples, IsGrownRun, IsOneReport, IsToldOfGrown, told_of_cuts}

@@ -35,7 +35,7 @@ use Rattle.grow_outputs.specs.declared.growth.Growth.{Growth}
 use Rattle.turned.specs.declared.turn.TheConstants.{TURNS}
 use Rattle.turned.specs.TurnedParts.{turned_sizes_of}
 use Rattle.limits.specs.declared.bounds.TheConstants.{MOST_PARTS}
-use Rattle.worked.specs.Worked.{worked_sizes}
+use Rattle.sample_files.specs.Worked.{worked_sizes}
 use Rattle.grow_outputs.specs.GrownMaps.{IsReadyMap, version_for, version_of}
 use Rattle.grow_outputs.specs.Growths.{IsMade, head_over, version_over}
 use Rattle.source_map.specs.declared.head.Version.TheVariants.{One, Two}

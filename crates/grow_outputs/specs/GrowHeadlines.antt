@@ -22,7 +22,7 @@ use Rattle.command.specs.Writing.{Reported}
 use Rattle.sample_files.specs.declared.several.Samples.{Samples}
 use Rattle.sample_files.specs.Samples.{form_text}
 use Rattle.sample_files.specs.Several.{contents}
-use Rattle.worked.specs.Worked.{worked}
+use Rattle.sample_files.specs.Worked.{worked}
 use Rattle.check_command.specs.Checks.{AreRunFiles, ReadFiles, Stand}
 use Rattle.grow_outputs.specs.GrownMaps.{map_text, named_place}
 use Rattle.grow_outputs.specs.Growths.{AreSamplesIn, head_over, plan_of}

@@ -36,7 +36,7 @@ use Rattle.sample_files.specs.declared.several.Samples.{Samples}
 use Rattle.sample_files.specs.Outputs.{IsWithinBounds, bounded_in}
 use Rattle.sample_files.specs.Samples.{form_text}
 use Rattle.sample_files.specs.Several.{StandForSamples, AreSoundSamples, MayRefuseSamples, contents, parts_within, read_samples, sample_files}
-use Rattle.worked.specs.Worked.{worked, worked_samples, worked_sizes}
+use Rattle.sample_files.specs.Worked.{worked, worked_samples, worked_sizes}
 use Rattle.grow_outputs.specs.declared.growth.Growth.{Growth}
 use Rattle.grow_outputs.specs.GrownMaps.{map_text, version_for}
 

@@ -7,3 +7,6 @@ pub mod OneAnswer
 pub mod Reading
 pub mod Commands
 pub mod Sound
+pub mod WorkedBytes
+pub mod WorkedLaws
+pub mod WorkedVolumes

@@ -3,3 +3,4 @@ pub mod Outputs
 pub mod Several
 pub mod Steps
 pub mod Targets
+pub mod Worked

@@ -1,12 +1,13 @@
 // The samples that a run works over.
-ghost use Rattle.std.specs.Prelude.{◌≡◌, ◌≤◌, ◌*◌, true, IfOk, length};
-ghost use Rattle.cells.specs.Cells.{count_of, sizes_of};
-ghost use Rattle.limits.specs.declared.bounds.TheConstants.{MOST_PARTS, MOST_SAMPLE_CELLS};
+ghost use Rattle.std.specs.Prelude.{◌≡◌, ◌≤◌, ◌*◌, Bool, true, IfOk, List, length};
+ghost use Rattle.cells.specs.declared.place.Size.{Size};
+ghost use Rattle.cells.specs.Cells.{Cells, IsVolume, count_of, sizes_of};
+ghost use Rattle.limits.specs.declared.bounds.TheConstants.{MOST_CELLS, MOST_PARTS, MOST_SAMPLE_CELLS};
 ghost use Rattle.turned.specs.declared.turn.TheConstants.{TURNS};
 ghost use Rattle.sample_files.specs.Several.{AreSoundSamples, with_turns};
-ghost use Rattle.worked.specs.Worked.{worked_samples};
+ghost use Rattle.sample_files.specs.Worked.{worked, worked_samples, worked_sizes};
 
-use sample_files::Samples;
+use crate::several::Samples;
 use std::alloc::{AllocError, Global};
 use turned::turn_all;
 
@@ -26,3 +27,14 @@ pub fn worked(alloc: Global, turns: bool, samples: Samples) -> Result<Samples, A
     let volume = turn_all(alloc, &volume)?;
     Ok(Samples { form, volume })
 }
+
+/// The worked samples are a volume with the sizes of the turns, and those tell the sizes of the samples.
+pub fn worked_is_told()
+    ensures volume { (turns : Bool) (v : Cells) → IsVolume v →
+        with_turns turns (length (sizes_of v)) ≤ MOST_PARTS →
+        with_turns turns (count_of v) ≤ MOST_CELLS → IsVolume (worked turns v) }
+    ensures sizes { (turns : Bool) (v : Cells) →
+        sizes_of (worked turns v) ≡ worked_sizes turns (sizes_of v) }
+    ensures tell { (turns : Bool) (sizes other : List Size) →
+        worked_sizes turns sizes ≡ worked_sizes turns other → sizes ≡ other }
+{}

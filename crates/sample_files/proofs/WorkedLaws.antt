@@ -16,8 +16,8 @@ use Rattle.sample_files.specs.declared.form.Form.TheVariants.{Picture, Clip}
 use Rattle.sample_files.specs.declared.several.Samples.{Samples}
 use Rattle.sample_files.specs.Samples.{AreSoundIn}
 use Rattle.sample_files.specs.Several.{AreSoundSamples, with_turns}
-use Rattle.worked.specs.Worked.{worked, worked_samples, worked_sizes}
-use Rattle.worked.proofs.WorkedBytes.{turned_all}
+use Rattle.sample_files.specs.Worked.{worked, worked_samples, worked_sizes}
+use Rattle.sample_files.proofs.WorkedBytes.{turned_all}
 
 pub sizes_worked : (turns : Bool) (v : Cells) → sizes_of (worked turns v) ≡ worked_sizes turns (sizes_of v)
 sizes_worked false v = refl

@@ -2,8 +2,8 @@ use Rattle.std.proofs.Common.{◌≡◌, ◌≤◌, true, rules, ap, subst, sym}
 use Rattle.cells.specs.Cells.{Cells, count_of}
 use Rattle.limits.specs.declared.bounds.TheConstants.{MOST_SAMPLE_CELLS}
 use Rattle.sample_files.specs.Several.{AreSoundSamples, with_turns}
-use Rattle.worked.proofs.WorkedLaws.{worked_sound}
-use Rattle.worked.proofs.samples.worked.Goals as goal
+use Rattle.sample_files.proofs.WorkedLaws.{worked_sound}
+use Rattle.sample_files.proofs.working.worked.Goals as goal
 
 pub returns-clause-sound : goal.returns-clause-sound
 returns-clause-sound c =

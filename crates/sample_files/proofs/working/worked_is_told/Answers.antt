@@ -1,6 +1,6 @@
-use Rattle.worked.proofs.WorkedLaws.{sizes_worked, worked_tell}
-use Rattle.worked.proofs.WorkedVolumes.{worked_volume}
-use Rattle.worked.proofs.laws.worked_is_told.Goals as goal
+use Rattle.sample_files.proofs.WorkedLaws.{sizes_worked, worked_tell}
+use Rattle.sample_files.proofs.WorkedVolumes.{worked_volume}
+use Rattle.sample_files.proofs.working.worked_is_told.Goals as goal
 
 pub returns-clause-volume : goal.returns-clause-volume
 returns-clause-volume c = worked_volume

@@ -22,8 +22,8 @@ use Rattle.turned.proofs.Turns.{turn_inside}
 use Rattle.turned.proofs.TurnedCells.{part_sizes, samples_from, sizes_of_parts, sizes_of_turned, sizes_turned}
 use Rattle.turned.proofs.TurnedLists.{turned_are}
 use Rattle.sample_files.specs.Several.{with_turns}
-use Rattle.worked.specs.Worked.{worked}
-use Rattle.worked.proofs.WorkedLaws.{count_is, sizes_count, worked_count}
+use Rattle.sample_files.specs.Worked.{worked}
+use Rattle.sample_files.proofs.WorkedLaws.{count_is, sizes_count, worked_count}
 
 -- What holds of each place holds of all.
 

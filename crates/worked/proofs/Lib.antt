@@ -1,3 +1,0 @@
-pub mod WorkedBytes
-pub mod WorkedLaws
-pub mod WorkedVolumes

@@ -5,11 +5,11 @@ ghost use Rattle.job_words.specs.GrowWords.{IsGrowJob};
 ghost use Rattle.command.specs.Commands.{names_in};
 ghost use Rattle.command.specs.Outcomes.{Plans};
 ghost use Rattle.sample_files.specs.Several.{sample_files};
-ghost use Rattle.grow_outputs.specs.Growths.{IsMade, grow_command, growth_files, growth_summary, plan_of};
+ghost use Rattle.outputs.specs.Growths.{IsMade, grow_command, growth_files, growth_summary, plan_of};
 
 use command_files::records_fit;
 use costs::total;
-use grow_outputs::{Growth, growing_fault, mode_for};
+use outputs::{Growth, growing_fault, mode_for};
 use grow_run::grow_canvas;
 use grown::GrowPlan;
 use job_words::GrowJob;

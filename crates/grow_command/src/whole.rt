@@ -1,11 +1,11 @@
 // The command that grows a texture from samples.
 ghost use Rattle.job_words.specs.GrowWords.{IsGrowJob};
 ghost use Rattle.command.specs.Outcomes.{Leaves};
-ghost use Rattle.grow_outputs.specs.Growths.{grow_command};
+ghost use Rattle.outputs.specs.Growths.{grow_command};
 
 use crate::plan::plan;
 use command_files::writer_for;
-use grow_outputs::write_growth;
+use outputs::write_growth;
 use job_words::GrowJob;
 use shelf_core::{Shelf, Sink};
 use std::alloc::Global;

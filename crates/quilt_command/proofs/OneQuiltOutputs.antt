@@ -6,8 +6,8 @@ use Rattle.job_words.specs.declared.quilt.QuiltJob.{QuiltJob}
 use Rattle.job_words.specs.QuiltWords.{IsQuiltJob}
 use Rattle.synth_report.specs.declared.summary.Summary.{Summary}
 use Rattle.command.specs.Outcomes.{WritesAll}
-use Rattle.block_outputs.specs.BlockHeadlines.{HaveSameQuilt}
-use Rattle.block_outputs.proofs.OneOutputs.{one_record, one_sample, same_output}
+use Rattle.outputs.specs.BlockHeadlines.{HaveSameQuilt}
+use Rattle.outputs.proofs.OneQuilts.{one_record, one_sample, same_output}
 use Rattle.quilt_command.specs.Quilts.{quilt_command, quilt_run_of}
 use Rattle.quilt_command.specs.QuiltHeadlines.{IsOneQuiltReport, IsQuiltedRun, told_of_blocks}
 use Rattle.quilt_command.proofs.Planning.{small_quilt}

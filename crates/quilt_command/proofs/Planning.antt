@@ -19,8 +19,8 @@ use Rattle.command.proofs.Staging.{AreOne, file_is_one}
 use Rattle.command.proofs.Planning.{StandsBefore, begin, file_read, part_not_read}
 use Rattle.sample_files.specs.Outputs.{FitsOutput, PassesOutput}
 use Rattle.sample_files.proofs.OnePicture.{picture_is_one}
-use Rattle.block_outputs.specs.BlockOutputs.{fault_of_quilting, quilt_files, quilt_of}
-use Rattle.block_outputs.proofs.Planning as rest
+use Rattle.outputs.specs.BlockOutputs.{fault_of_quilting, quilt_files, quilt_of}
+use Rattle.outputs.proofs.BlocksPlanned as rest
 use Rattle.quilt_command.specs.Quilts.{IsQuiltSummary, MayRefuseQuilt, quilt_command, quilt_rest, quilt_run_of, quilt_size, quilt_stages, quilt_summary}
 
 pub small_quilt : (job : QuiltJob) → IsQuiltJob job → FitsOutput (quilt_size job) → IsSmall (quilt_size job)

@@ -15,8 +15,8 @@ use Rattle.command.specs.Outcomes.{WritesAll}
 use Rattle.command.specs.Writing.{pieces, texts_in}
 use Rattle.command.proofs.Staging.{one_answer}
 use Rattle.sample_files.specs.Outputs.{FitsOutput}
-use Rattle.block_outputs.specs.BlockOutputs.{quilt_files, quilt_of}
-use Rattle.block_outputs.proofs.Written.{quilted_by}
+use Rattle.outputs.specs.BlockOutputs.{quilt_files, quilt_of}
+use Rattle.outputs.proofs.BlocksWritten.{quilted_by}
 use Rattle.quilt_command.specs.Quilts.{IsPictureIn, IsQuiltSummary, MayRefuseQuilt, quilt_command, quilt_run_of, quilt_size, quilt_stages, quilt_summary}
 use Rattle.quilt_command.specs.QuiltHeadlines.{IsQuiltedRun, IsToldOfRun}
 use Rattle.quilt_command.proofs.Planning.{are_one, small_quilt}

@@ -13,7 +13,7 @@ use Rattle.job_words.specs.Jobs.{job_of}
 use Rattle.synth_report.specs.declared.summary.Summary.{Summary}
 use Rattle.synth_report.specs.declared.summary.Summary.TheVariants.{Quilt}
 use Rattle.command.specs.Writing.{Reported}
-use Rattle.block_outputs.specs.BlockHeadlines.{HaveSameQuilt, IsQuiltedBy}
+use Rattle.outputs.specs.BlockHeadlines.{HaveSameQuilt, IsQuiltedBy}
 use Rattle.quilt_command.specs.Quilts.{quilt_run_of, quilt_size}
 
 -- the sample file stands for a picture. Out file, map file and record file are those of the quilted run

@@ -16,8 +16,8 @@ use Rattle.synth_report.specs.declared.summary.Summary.{Summary}
 use Rattle.synth_report.specs.declared.summary.Summary.TheVariants.{Quilt}
 use Rattle.command.specs.Commands.{Command, named}
 use Rattle.command.specs.Stages.{Stages, of_stages, read_file}
-use Rattle.block_outputs.specs.declared.output.PictureQuilt.{PictureQuilt}
-use Rattle.block_outputs.specs.BlockOutputs.{IsMadeQuilt, quilt_over}
+use Rattle.outputs.specs.declared.quilt.PictureQuilt.{PictureQuilt}
+use Rattle.outputs.specs.BlockOutputs.{IsMadeQuilt, quilt_over}
 
 -- What is asked of quilting.
 

@@ -2,13 +2,13 @@
 ghost use Rattle.std.specs.Prelude.{◌≡◌, IfOk};
 ghost use Rattle.shelf_core.specs.Files.{OnlyReads};
 ghost use Rattle.job_words.specs.QuiltWords.{IsQuiltJob};
-ghost use Rattle.block_outputs.specs.declared.output.PictureQuilt.{PictureQuilt};
-ghost use Rattle.block_outputs.specs.BlockOutputs.{quilt_files};
+ghost use Rattle.outputs.specs.declared.quilt.PictureQuilt.{PictureQuilt};
+ghost use Rattle.outputs.specs.BlockOutputs.{quilt_files};
 ghost use Rattle.command.specs.Commands.{names_in};
 ghost use Rattle.command.specs.Outcomes.{Plans};
 ghost use Rattle.quilt_command.specs.Quilts.{IsMadeQuiltOf, quilt_command, quilt_run_of, quilt_size, quilt_summary};
 
-use block_outputs::{PictureQuilt, quilt_fault, within_output};
+use outputs::{PictureQuilt, quilt_fault, within_output};
 use block_strips::QuiltPlan;
 use cells::Size;
 use job_words::QuiltJob;

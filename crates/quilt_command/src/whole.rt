@@ -2,13 +2,13 @@
 ghost use Rattle.std.specs.Prelude.{◌≡◌};
 ghost use Rattle.shelf_core.specs.Files.{OnlyWrites};
 ghost use Rattle.job_words.specs.QuiltWords.{IsQuiltJob};
-ghost use Rattle.block_outputs.specs.BlockOutputs.{quilt_files};
+ghost use Rattle.outputs.specs.BlockOutputs.{quilt_files};
 ghost use Rattle.command.specs.Outcomes.{Leaves};
 ghost use Rattle.command.specs.Writing.{WritesRun, text_names};
 ghost use Rattle.quilt_command.specs.Quilts.{IsMadeQuiltOf, quilt_command, quilt_size, quilt_summary};
 
 use crate::plan::{plan, quilt_size, run_of};
-use block_outputs::{PictureQuilt, write_quilt};
+use outputs::{PictureQuilt, write_quilt};
 use job_words::QuiltJob;
 use quilted::Quilted;
 use shelf_core::{Shelf, Sink};

@@ -2,7 +2,7 @@
 use crate::expect::expect_none;
 use cells::At;
 use std::alloc::{AllocError, Global};
-use trial_sample::trial_sample;
+use outputs::trial_sample;
 
 const FIRST: At = At { x: 0, y: 0, f: 0 };
 

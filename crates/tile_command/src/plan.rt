@@ -4,7 +4,7 @@ ghost use Rattle.shelf_core.specs.Files.{OnlyReads};
 ghost use Rattle.job_words.specs.TileWords.{IsTileJob};
 ghost use Rattle.command.specs.Commands.{names_in};
 ghost use Rattle.command.specs.Outcomes.{Plans};
-ghost use Rattle.tile_outputs.specs.Tilings.{IsTilingMade, plan_of, tile_command, tile_files, tile_summary};
+ghost use Rattle.outputs.specs.Tilings.{IsTilingMade, plan_of, tile_command, tile_files, tile_summary};
 
 use command::read_fault;
 use job_words::TileJob;
@@ -12,7 +12,7 @@ use sample_files::{read_sample, within_bounds};
 use shelf_core::Shelf;
 use std::alloc::Global;
 use synth_report::{Fault, FileOf};
-use tile_outputs::TiledSample;
+use outputs::TiledSample;
 use tile_run::tile_canvas;
 use torus::{RunPlan, torus_total};
 

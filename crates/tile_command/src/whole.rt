@@ -1,7 +1,7 @@
 // The command that tiles an output whose edges meet.
 ghost use Rattle.job_words.specs.TileWords.{IsTileJob};
 ghost use Rattle.command.specs.Outcomes.{Leaves};
-ghost use Rattle.tile_outputs.specs.Tilings.{tile_command};
+ghost use Rattle.outputs.specs.Tilings.{tile_command};
 
 use crate::plan::plan;
 use command_files::writer_for;
@@ -9,7 +9,7 @@ use job_words::TileJob;
 use shelf_core::{Shelf, Sink};
 use std::alloc::Global;
 use synth_report::{Fault, Summary};
-use tile_outputs::write_tiling;
+use outputs::write_tiling;
 
 /// Tiles an output whose edges meet: reads the sample, computes the output, and writes the picture, then the map,
 /// and the report. All is computed before the first file is begun, and no memory is taken after it.

@@ -8,8 +8,8 @@ use Rattle.job_words.specs.declared.transfer.TransferJob.{TransferJob}
 use Rattle.job_words.specs.TransferWords.{IsTransferJob}
 use Rattle.synth_report.specs.declared.summary.Summary.{Summary}
 use Rattle.command.specs.Outcomes.{WritesAll}
-use Rattle.block_outputs.specs.BlockHeadlines.{HaveSameQuilt, IsQuiltedBy}
-use Rattle.block_outputs.proofs.OneOutputs as quilts
+use Rattle.outputs.specs.BlockHeadlines.{HaveSameQuilt, IsQuiltedBy}
+use Rattle.outputs.proofs.OneQuilts as quilts
 use Rattle.transfer_command.specs.Transfers.{transfer_command, transfer_rating, transfer_run_of}
 use Rattle.transfer_command.specs.TransferHeadlines.{HaveSamePictures, IsOneTransferReport, IsTransferredRun, told_of_transfer}
 use Rattle.transfer_command.proofs.TransferLaws.{small_target, transfer_told, transferred_run}

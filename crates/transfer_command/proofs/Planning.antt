@@ -22,8 +22,8 @@ use Rattle.command.proofs.Planning.{StandsBefore, begin, file_read, part_not_rea
 use Rattle.sample_files.specs.Outputs.{FitsOutput, PassesOutput}
 use Rattle.sample_files.specs.Targets.{IsTargetRead, TargetReadsAs, read_target}
 use Rattle.sample_files.proofs.OnePicture.{picture_is_one, target_is_one, target_not_taken, target_only, target_passed}
-use Rattle.block_outputs.specs.BlockOutputs.{fault_of_quilting, quilt_files, quilt_of}
-use Rattle.block_outputs.proofs.Planning as rest
+use Rattle.outputs.specs.BlockOutputs.{fault_of_quilting, quilt_files, quilt_of}
+use Rattle.outputs.proofs.BlocksPlanned as rest
 use Rattle.transfer_command.specs.Transfers.{IsTransferSummary, MayRefuseTransfer, transfer_command, transfer_rating, transfer_rest, transfer_run_of, transfer_stages, transfer_summary}
 
 -- one frame of this width and height

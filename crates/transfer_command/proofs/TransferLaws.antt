@@ -18,8 +18,8 @@ use Rattle.command.specs.Writing.{pieces, texts_in}
 use Rattle.command.proofs.Staging.{one_answer}
 use Rattle.sample_files.specs.Outputs.{FitsOutput}
 use Rattle.sample_files.proofs.Sound.{read_is_sound, read_is_volume}
-use Rattle.block_outputs.specs.BlockOutputs.{quilt_files, quilt_of}
-use Rattle.block_outputs.proofs.Written.{quilted_by}
+use Rattle.outputs.specs.BlockOutputs.{quilt_files, quilt_of}
+use Rattle.outputs.proofs.BlocksWritten.{quilted_by}
 use Rattle.transfer_command.specs.Transfers.{IsTargetIn, IsTransferSummary, MayRefuseTransfer, transfer_command, transfer_rating, transfer_run_of, transfer_stages, transfer_summary}
 use Rattle.transfer_command.specs.TransferHeadlines.{IsToldOfTransfer, IsTransferredRun}
 use Rattle.transfer_command.proofs.Naming.{file_names}

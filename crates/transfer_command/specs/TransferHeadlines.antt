@@ -15,7 +15,7 @@ use Rattle.synth_report.specs.declared.summary.Summary.{Summary}
 use Rattle.synth_report.specs.declared.summary.Summary.TheVariants.{Transfer}
 use Rattle.command.specs.Writing.{Reported}
 use Rattle.sample_files.specs.Outputs.{FitsOutput}
-use Rattle.block_outputs.specs.BlockHeadlines.{HaveSameQuilt, IsQuiltedBy}
+use Rattle.outputs.specs.BlockHeadlines.{HaveSameQuilt, IsQuiltedBy}
 use Rattle.transfer_command.specs.Transfers.{IsTargetIn, transfer_rating, transfer_run_of}
 
 -- the target file stands for a picture of the sample's maxval, whose cells are within the bound of

@@ -20,7 +20,7 @@ use Rattle.command.specs.Commands.{Command, named}
 use Rattle.command.specs.Stages.{Stages, of_stages, read_file}
 use Rattle.command.specs.Writing.{FileText}
 use Rattle.sample_files.specs.Targets.{read_target}
-use Rattle.block_outputs.specs.BlockOutputs.{IsMadeQuilt, quilt_files, quilt_over}
+use Rattle.outputs.specs.BlockOutputs.{IsMadeQuilt, quilt_files, quilt_over}
 use Rattle.transfer_command.specs.declared.plan.Transferred.{Transferred}
 
 -- What is asked of a transfer.

@@ -7,7 +7,7 @@ ghost use Rattle.command.specs.Commands.{names_in};
 ghost use Rattle.command.specs.Outcomes.{Plans};
 ghost use Rattle.transfer_command.specs.Transfers.{IsMadeTransfer, made_summary, transfer_command, transfer_files, transfer_run_of};
 
-use block_outputs::{PictureQuilt, quilt_fault, within_output};
+use outputs::{PictureQuilt, quilt_fault, within_output};
 use block_strips::QuiltPlan;
 use job_words::TransferJob;
 use netpbm_p6::Picture;

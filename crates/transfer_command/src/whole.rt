@@ -9,7 +9,7 @@ ghost use Rattle.targets.specs.Targets.{matched};
 ghost use Rattle.transfer_command.specs.Transfers.{IsMadeTransfer, made_summary, transfer_command, transfer_files};
 
 use crate::plan::{Transferred, plan, run_of};
-use block_outputs::write_quilt;
+use outputs::write_quilt;
 use cells::Volume;
 use job_words::TransferJob;
 use lane_kernels::ssd;

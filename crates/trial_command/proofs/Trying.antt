@@ -5,8 +5,8 @@ use Rattle.cells.specs.Places.{IsSmall, cell_count}
 use Rattle.shelf_core.specs.Files.{Files, ShelfState}
 use Rattle.shelf_core.specs.declared.fault.What.TheVariants.{Output}
 use Rattle.least_choice.specs.Totals.{map_total}
-use Rattle.trial_sample.specs.TrialSamples.{trial_sample}
-use Rattle.trial_sample.proofs.Volumes.{trial_is_volume}
+use Rattle.outputs.specs.TrialSamples.{trial_sample}
+use Rattle.outputs.proofs.TrialVolumes.{trial_is_volume}
 use Rattle.limits.specs.declared.bounds.TheConstants.{MOST_OUTPUT_CELLS}
 use Rattle.grown.specs.declared.plan.GrowError.{GrowError}
 use Rattle.grown.specs.declared.plan.GrowError.TheVariants as error
@@ -23,14 +23,14 @@ use Rattle.command.specs.Outcomes.{IsPlanned, NotMade, WritesAll}
 use Rattle.command.specs.Stages.{PassesBound}
 use Rattle.command.proofs.Staging.{AreOne, bound_is_one, one_answer, passing_is_one}
 use Rattle.command.proofs.Planning.{StandsBefore, begin, limit_passed, pass_on, plan_made}
-use Rattle.grow_outputs.specs.Growths.{fault_of_growing}
+use Rattle.outputs.specs.Growths.{fault_of_growing}
 use Rattle.trial_command.specs.Trials.{IsTrialOf, IsTrialRefused, NotTried, trial_command, trial_plan, trial_stages, trial_summary}
 
 -- the output has no more cells than one may have
 abbrev TheWithin : TrialJob → Type 0
 TheWithin job = cell_count job.size ≤ MOST_OUTPUT_CELLS
 
-small_trial : (job : TrialJob) → IsTrialJob job → TheWithin job → IsSmall job.size
+pub small_trial : (job : TrialJob) → IsTrialJob job → TheWithin job → IsSmall job.size
 small_trial job lawful within = record { axes = lawful.axes; cells = omega (arith, within) }
 
 -- what is grown, as its run leaves it

@@ -4,7 +4,7 @@ use Rattle.std.specs.Prelude.{◌≡◌, ◌≤◌, ◌⊎◌, ◌-◌, ℕ, [],
 use Rattle.cells.specs.Places.{cell_count}
 use Rattle.shelf_core.specs.declared.fault.What.TheVariants.{Output, Records as RecordsLimit}
 use Rattle.least_choice.specs.Totals.{map_total}
-use Rattle.trial_sample.specs.TrialSamples.{trial_sample}
+use Rattle.outputs.specs.TrialSamples.{trial_sample}
 use Rattle.limits.specs.declared.bounds.TheConstants.{MOST_BOX_CELLS, MOST_OUTPUT_CELLS}
 use Rattle.grown.specs.declared.plan.GrowPlan.{GrowPlan}
 use Rattle.grown.specs.declared.plan.Grown.{Grown}
@@ -17,7 +17,7 @@ use Rattle.synth_report.specs.declared.summary.Summary.TheVariants.{Trial}
 use Rattle.command.specs.Commands.{Command}
 use Rattle.command.specs.Stages.{PassesBound, Stages, bounded, never_passed, of_stages}
 use Rattle.command.specs.Stages.Stages.{make}
-use Rattle.grow_outputs.specs.Growths.{mode_for}
+use Rattle.outputs.specs.Growths.{mode_for}
 
 -- how the output is grown and refined
 abbrev pub trial_plan : TrialJob → GrowPlan

@@ -3,22 +3,21 @@ ghost use Rattle.std.specs.Prelude.{◌≡◌, ◌≤◌, IfOk, IfErr};
 ghost use Rattle.cells.specs.Places.{cell_count};
 ghost use Rattle.grown.specs.Grown.{IsGrown};
 ghost use Rattle.job_words.specs.TrialWords.{IsTrialJob};
-ghost use Rattle.trial_sample.specs.TrialSamples.{trial_sample};
+ghost use Rattle.outputs.specs.TrialSamples.{trial_sample};
 ghost use Rattle.trial_command.specs.Trials.{IsTrialOf, NotTried, trial_plan, trial_summary};
 
 use cells::Volume;
 use costs::total;
 use cut_replay::replay_cuts;
-use grow_outputs::{growing_fault, mode_for};
 use grow_run::grow_canvas;
 use grown::{GrowPlan, Grown};
 use job_words::TrialJob;
 use limits::MOST_OUTPUT_CELLS;
 use map_canvas::Canvas;
+use outputs::{growing_fault, mode_for, trial_sample};
 use shelf_core::What;
 use std::alloc::{AllocError, Global};
 use synth_report::{Fault, Summary};
-use trial_sample::trial_sample;
 
 // How the output is grown and refined.
 fn plan_of(job: &TrialJob) -> GrowPlan

@@ -4,9 +4,9 @@ use Rattle.cert_file.specs.CutForms.{HasShortFlows}
 use Rattle.command.specs.Outcomes.{NotMade}
 use Rattle.sample_files.specs.declared.several.Samples.{Samples}
 use Rattle.sample_files.specs.Several.{AsksParts}
-use Rattle.grow_outputs.specs.Growths.{grow_command, plan_of}
+use Rattle.outputs.specs.Growths.{grow_command, plan_of}
 use Rattle.grown.specs.Grown.{IsGrowFault, IsGrown}
-use Rattle.grow_outputs.proofs.Growing.{growth_is, growth_made, grown_over, is_made, no_samples, not_grown, output_refused, parts_pass}
+use Rattle.outputs.proofs.Growing.{growth_is, growth_made, grown_over, is_made, no_samples, not_grown, output_refused, parts_pass}
 use Rattle.grow_command.proofs.plan.plan.Goals as goal
 
 pub returns-in-Err-clause-planned : goal.returns-in-Err-clause-planned

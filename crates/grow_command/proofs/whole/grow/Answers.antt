@@ -1,8 +1,8 @@
 use Rattle.std.proofs.lemmas.Result.{err_from_is_err_and}
 use Rattle.synth_report.specs.declared.fault.Fault.TheVariants.{NoMemory}
 use Rattle.command.proofs.Halves.{not_planned, planned}
-use Rattle.grow_outputs.specs.Growths.{grow_command, growth_files, growth_summary}
-use Rattle.grow_outputs.proofs.Growing.{samples_only}
+use Rattle.outputs.specs.Growths.{grow_command, growth_files, growth_summary}
+use Rattle.outputs.proofs.Growing.{samples_only}
 use Rattle.grow_command.proofs.whole.grow.Goals as goal
 
 pub returns-in_err-growth : goal.returns-in_err-growth

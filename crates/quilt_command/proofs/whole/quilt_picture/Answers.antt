@@ -1,6 +1,6 @@
 use Rattle.std.proofs.lemmas.Result.{err_from_is_err_and}
 use Rattle.command.proofs.Halves.{not_planned, planned}
-use Rattle.block_outputs.specs.BlockOutputs.{quilt_files}
+use Rattle.outputs.specs.BlockOutputs.{quilt_files}
 use Rattle.quilt_command.specs.Quilts.{quilt_command, quilt_size, quilt_summary}
 use Rattle.quilt_command.proofs.whole.quilt_picture.Goals as goal
 

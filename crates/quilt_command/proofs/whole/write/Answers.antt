@@ -2,7 +2,7 @@ use Rattle.std.proofs.Common.{subst, sym}
 use Rattle.shelf_core.specs.Files.{OnlyWrites}
 use Rattle.quilted.specs.Runs.{by_overlap}
 use Rattle.command.specs.Writing.{WritesRun, text_names}
-use Rattle.block_outputs.specs.BlockOutputs.{IsMadeQuilt, quilt_files}
+use Rattle.outputs.specs.BlockOutputs.{IsMadeQuilt, quilt_files}
 use Rattle.quilt_command.specs.Quilts.{quilt_size}
 use Rattle.quilt_command.proofs.whole.write.Goals as goal
 

@@ -3,8 +3,8 @@ use Rattle.command.specs.Outcomes.{NotMade}
 use Rattle.sample_files.proofs.OneSample.{sound_alone}
 use Rattle.job_words.specs.TileWords.{IsWide}
 use Rattle.torus.specs.Tilings.{IsRunPlan, IsTiledTo}
-use Rattle.tile_outputs.specs.Tilings.{tile_command}
-use Rattle.tile_outputs.proofs.Tiling.{bounds_passed, run_plan, sample_not_read, tiling_made}
+use Rattle.outputs.specs.Tilings.{tile_command}
+use Rattle.outputs.proofs.Tiling.{bounds_passed, run_plan, sample_not_read, tiling_made}
 use Rattle.tile_command.proofs.plan.plan.Goals as goal
 
 pub returns-in-Err-clause-planned : goal.returns-in-Err-clause-planned

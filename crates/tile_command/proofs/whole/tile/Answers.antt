@@ -1,7 +1,7 @@
 use Rattle.std.proofs.lemmas.Result.{err_from_is_err_and}
 use Rattle.synth_report.specs.declared.fault.Fault.TheVariants.{NoMemory}
 use Rattle.command.proofs.Halves.{not_planned, planned}
-use Rattle.tile_outputs.specs.Tilings.{tile_command, tile_files, tile_summary}
+use Rattle.outputs.specs.Tilings.{tile_command, tile_files, tile_summary}
 use Rattle.tile_command.proofs.whole.tile.Goals as goal
 
 pub returns-in_err-made : goal.returns-in_err-made

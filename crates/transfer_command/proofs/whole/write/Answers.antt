@@ -1,7 +1,7 @@
 use Rattle.std.proofs.Common.{subst, sym}
 use Rattle.shelf_core.specs.Files.{OnlyWrites}
 use Rattle.command.specs.Writing.{WritesRun, text_names}
-use Rattle.block_outputs.specs.BlockOutputs.{IsMadeQuilt, quilt_files}
+use Rattle.outputs.specs.BlockOutputs.{IsMadeQuilt, quilt_files}
 use Rattle.transfer_command.specs.Transfers.{transfer_files, transfer_rating}
 use Rattle.transfer_command.proofs.whole.write.Goals as goal
 

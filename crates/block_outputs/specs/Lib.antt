@@ -1,2 +1,0 @@
-pub mod BlockOutputs
-pub mod BlockHeadlines

@@ -1,3 +1,0 @@
-pub mod GrownMaps
-pub mod Growths
-pub mod GrowHeadlines

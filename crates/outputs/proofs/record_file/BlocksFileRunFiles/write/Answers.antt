@@ -1,0 +1,19 @@
+use Rattle.std.proofs.Common.{subst}
+use Rattle.shelf_core.specs.Files.{Changes}
+use Rattle.shelf_core.specs.Written.{HoldsText}
+use Rattle.cert_file.specs.RecordFiles.{blocks_form}
+use Rattle.synth_report.specs.declared.fault.FileOf.TheVariants.{Record}
+use Rattle.command.proofs.WritingLaws.{stops_at_one}
+use Rattle.outputs.proofs.record_file.BlocksFileRunFiles.write.Goals as goal
+
+pub returns-in-Err-clause-wrote : goal.returns-in-Err-clause-wrote
+returns-in-Err-clause-wrote g c =
+    let file = c.args.self.now in
+    let failed = c.in-Err.ensures {u = tt} in
+    stops_at_one Record file.name.now c.as_text.result.now (blocks_form file.head file.blocks.now)
+    (g.S.Shelf.state c.args.shelf.now) (g.S.Shelf.state c.write_blocks.new.shelf) c.as_text.ensures failed.err failed.failed
+
+pub returns-in-Ok-clause-wrote : goal.returns-in-Ok-clause-wrote
+returns-in-Ok-clause-wrote g c =
+    let file = c.args.self.now in
+    subst (λ name. Changes (g.S.Shelf.state c.args.shelf.now) (g.S.Shelf.state c.write_blocks.new.shelf) (HoldsText name (blocks_form file.head file.blocks.now))) c.as_text.ensures (c.in-Ok.ensures {u = tt}).ok

@@ -1,5 +1,0 @@
-pub mod TwoFiles
-pub mod TileReady
-pub mod Tiling
-pub mod TileLaws
-pub mod OneTiles

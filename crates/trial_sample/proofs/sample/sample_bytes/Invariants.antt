@@ -1,7 +1,0 @@
-use Rattle.std.proofs.Common.{◌≡◌}
-use Rattle.trial_sample.specs.TrialSamples.{trial_bytes}
-use Rattle.trial_sample.proofs.sample.sample_bytes.Given as goal
-
--- the bytes so far, and the draw that comes next
-abbrev pub invariant-loop-j : goal.invariant-loop-j
-invariant-loop-j l = (l.bytes.items ≡ trial_bytes l.n l.j) × (l.draws.place ≡ l.j) × (l.draws.seed ≡ l.n)

@@ -57,7 +57,6 @@ pub fn round_windows(
 /// `window_size` gives, before and after. None where no window costs anything; nothing is changed then. The
 /// one error is that there is no memory, also for the sums of the sample's blocks, which are made again in each
 /// call; it changes nothing.
-#[tactic(auto, using(grown::proofs::Splitting::stays_full))]
 pub fn round(
     alloc: Global,
     canvas: &mut Canvas,
@@ -88,7 +87,6 @@ pub fn round(
 }
 
 /// The same round as `round`, of a sample whose sums of blocks are made.
-#[tactic(auto, using(grown::proofs::Splitting::stays_full))]
 pub fn round_with(
     alloc: Global,
     canvas: &mut Canvas,

@@ -1,7 +1,8 @@
 -- The steps of a run, as the code makes them.
-use Rattle.std.proofs.Common.{◌≡◌, ℕ, ◌+◌, ◌≤◌, ◌<◌, [], ◌∷◌, ◌++◌, ap, sym, ◌∙◌, subst, arith}
+use mathlib.Core.Bool.{false≢true}
+use Rattle.std.proofs.Common.{◌≡◌, ℕ, ◌+◌, ◌≤◌, ◌<◌, Bool, true, false, [], ◌∷◌, ◌++◌, ap, sym, ◌∙◌, subst, arith}
 use Rattle.std.proofs.lemmas.List.Elements.{All-nil, All-push}
-use Rattle.std.specs.Prelude.{All}
+use Rattle.std.specs.Prelude.{All, Ok}
 use Rattle.cells.specs.Boxes.{HasCells}
 use Rattle.cells.specs.Cells.{Cells}
 use Rattle.cells.specs.Distances.{distance}
@@ -20,7 +21,9 @@ use Rattle.cut_replay.proofs.RunLaws.{cells_more, each_more, left_more}
 use Rattle.grown.specs.declared.plan.GrowPlan.{GrowPlan}
 use Rattle.grow_run.specs.declared.steps.Work.{Work}
 use Rattle.grown.specs.Grown.{ComesNext, GrowsBy, IsRun, PassesAt, draws_left, first_growth, rounds_made}
-use Rattle.grow_run.specs.Work.{IsWork, growth_of}
+use Rattle.cost_windows.specs.Tables.{WindowSums}
+use Rattle.grown.specs.Rounds.{NoWindowCosts}
+use Rattle.grow_run.specs.Work.{IsRefining, IsWork, Refines, growth_of}
 use Rattle.grown.proofs.Stepping.{leads_more}
 
 -- a placement that is put in is one step more
@@ -90,3 +93,8 @@ passes plan sample was placement number work next cells past = record {
   cells = cells ∙ ap (λ n. n + box_count placement) work.cells;
   past = past;
 }
+
+pub refined : (plan : GrowPlan) (sample : Cells) (was now : Work) (table : WindowSums) (more : Bool) → Refines plan sample was now table (Ok more)
+    → IsRefining plan sample now table × (more ≡ false → NoWindowCosts plan.side now.canvas.map sample)
+refined plan sample was now table true step = (step.0, λ e. absurd (false≢true (sym e)))
+refined plan sample was now table false step = (step.0, λ e. step.1)

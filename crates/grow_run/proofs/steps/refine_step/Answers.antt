@@ -47,3 +47,11 @@ returns c =
 
 pub returns-in_default : goal.returns-in_default
 returns-in_default c = grind (arith, common_steps)
+
+pub overflow_add-work : goal.overflow_add-work
+overflow_add-work c = omega (arith, c.requires.left, c.fits-plan)
+
+pub overflow_add-cells : goal.overflow_add-cells
+overflow_add-cells c =
+    let small = fits_small c.args.work.now.canvas.map.size c.args.sample.now c.in-Some.cut.placement (made (goal.at.overflow_add-cells c).In-Some).next.fits c.requires.work.so_far.canvas.map.small in
+    omega (arith, c.requires.work.so_far.within, c.cells.ensures, small.cells)

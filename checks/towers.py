@@ -19,7 +19,7 @@ SEARCH += ["graph_place", "refine_seams", "grow_run", "quilted", "quilt", "quilt
 
 # The most lines of the crates that stand on a crate, for an edit of that crate. What a run is stands apart from what searches for
 # it, so that these are the searches of `grow`, `quilt`, `transfer` and `tile`, and the commands.
-MOST = {"search_squares": 10_000, "patch_place": 6_500}
+MOST = {"search_squares": 10_100, "patch_place": 6_500}
 
 
 def lines_of(folder):

@@ -18,7 +18,10 @@ use Rattle.cert_file.specs.CutForms.{HasShortFlows}
 use Rattle.grown.specs.Grown.{IsGrowFault, IsGrown}
 use Rattle.grown.proofs.OneRuns.{ends_within, limits_are_one}
 use Rattle.job_words.specs.declared.grow.GrowJob.{GrowJob}
+use Rattle.job_words.specs.declared.grow.Place.{Place}
+use Rattle.job_words.specs.declared.grow.Place.TheVariants as place
 use Rattle.job_words.specs.GrowWords.{IsGrowJob}
+use Rattle.patch_picks.specs.Fitting.{HasPatch}
 use Rattle.synth_report.specs.declared.fault.Fault.{Fault}
 use Rattle.command.specs.Commands.{names_in}
 use Rattle.command.specs.Outcomes.{IsPlanned, NotMade}
@@ -31,8 +34,15 @@ use Rattle.sample_files.proofs.Commands.{parts_are_one, parts_passed, parts_refu
 use Rattle.sample_files.specs.Worked.{worked, worked_samples, worked_sizes}
 use Rattle.sample_files.proofs.WorkedLaws.{sizes_worked}
 use Rattle.outputs.specs.declared.growth.Growth.{Growth}
-use Rattle.outputs.specs.Growths.{IsGrowSummary, IsGrownOver, IsMade, fault_of_growing, grow_command, grow_over, grow_stages, growth_files, growth_of, growth_summary, plan_of}
+use Rattle.outputs.specs.Growths.{IsGrowSummary, IsGrownOver, IsMade, fault_of_growing, grow_command, grow_over, grow_stages, growth_files, growth_of, growth_summary, mode_for, plan_of}
 use Rattle.outputs.proofs.GrowReady.{volume_sizes}
+
+-- the mode that words ask for has a patch
+pub has_patch : (p : Place) (side overlap tol : ℕ) → 1 ≤ side → HasPatch (mode_for p side overlap tol)
+has_patch place.Grid side overlap tol some = tt
+has_patch place.Random side overlap tol some = tt
+has_patch place.Whole side overlap tol some = tt
+has_patch place.Sub side overlap tol some = some
 
 pub small_output : (job : GrowJob) → IsGrowJob job → cell_count job.size ≤ MOST_OUTPUT_CELLS → IsSmall job.size
 small_output job lawful cells = record { axes = lawful.axes; cells = omega (arith, cells) }

@@ -9,10 +9,10 @@ ghost use Rattle.outputs.specs.Growths.{IsMade, grow_command, growth_files, grow
 
 use command_files::records_fit;
 use costs::total;
-use outputs::{Growth, growing_fault, mode_for};
 use grow_run::grow_canvas;
 use grown::GrowPlan;
 use job_words::GrowJob;
+use outputs::{Growth, growing_fault, mode_for};
 use sample_files::{parts_within, read_samples, within_bounds, worked};
 use shelf_core::Shelf;
 use std::alloc::Global;

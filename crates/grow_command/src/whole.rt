@@ -5,8 +5,8 @@ ghost use Rattle.outputs.specs.Growths.{grow_command};
 
 use crate::plan::plan;
 use command_files::writer_for;
-use outputs::write_growth;
 use job_words::GrowJob;
+use outputs::write_growth;
 use shelf_core::{Shelf, Sink};
 use std::alloc::Global;
 use synth_report::{Fault, Summary};

@@ -16,7 +16,7 @@ use map_canvas::Placement;
 use spans::{count_of, grid_on, patch_corner, patch_len};
 
 /// How an output is grown from its first unfilled cell on.
-#[derive(Clone, Copy, Drop)]
+#[derive(Clone, Copy, Debug, Drop)]
 pub enum Mode {
     /// Copies of part 1 of the sample in a grid.
     Grid {

@@ -8,10 +8,10 @@ ghost use Rattle.command.specs.Commands.{names_in};
 ghost use Rattle.command.specs.Outcomes.{Plans};
 ghost use Rattle.quilt_command.specs.Quilts.{IsMadeQuiltOf, quilt_command, quilt_run_of, quilt_size, quilt_summary};
 
-use outputs::{PictureQuilt, quilt_fault, within_output};
 use block_strips::QuiltPlan;
 use cells::Size;
 use job_words::QuiltJob;
+use outputs::{PictureQuilt, quilt_fault, within_output};
 use quilt_run::quilt_canvas;
 use quilted::QuiltRun;
 use sample_files::read_picture;

@@ -8,8 +8,8 @@ ghost use Rattle.command.specs.Writing.{WritesRun, text_names};
 ghost use Rattle.quilt_command.specs.Quilts.{IsMadeQuiltOf, quilt_command, quilt_size, quilt_summary};
 
 use crate::plan::{plan, quilt_size, run_of};
-use outputs::{PictureQuilt, write_quilt};
 use job_words::QuiltJob;
+use outputs::{PictureQuilt, write_quilt};
 use quilted::Quilted;
 use shelf_core::{Shelf, Sink};
 use std::alloc::Global;

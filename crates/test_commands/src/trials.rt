@@ -1,8 +1,8 @@
 // The sample of a number, against bytes that a program of another language made of ChaCha8's words.
 use crate::expect::expect_none;
 use cells::At;
-use std::alloc::{AllocError, Global};
 use outputs::trial_sample;
+use std::alloc::{AllocError, Global};
 
 const FIRST: At = At { x: 0, y: 0, f: 0 };
 

@@ -8,11 +8,11 @@ ghost use Rattle.outputs.specs.Tilings.{IsTilingMade, plan_of, tile_command, til
 
 use command::read_fault;
 use job_words::TileJob;
+use outputs::TiledSample;
 use sample_files::{read_sample, within_bounds};
 use shelf_core::Shelf;
 use std::alloc::Global;
 use synth_report::{Fault, FileOf};
-use outputs::TiledSample;
 use tile_run::tile_canvas;
 use torus::{RunPlan, torus_total};
 

@@ -6,10 +6,10 @@ ghost use Rattle.outputs.specs.Tilings.{tile_command};
 use crate::plan::plan;
 use command_files::writer_for;
 use job_words::TileJob;
+use outputs::write_tiling;
 use shelf_core::{Shelf, Sink};
 use std::alloc::Global;
 use synth_report::{Fault, Summary};
-use outputs::write_tiling;
 
 /// Tiles an output whose edges meet: reads the sample, computes the output, and writes the picture, then the map,
 /// and the report. All is computed before the first file is begun, and no memory is taken after it.

@@ -7,10 +7,10 @@ ghost use Rattle.command.specs.Commands.{names_in};
 ghost use Rattle.command.specs.Outcomes.{Plans};
 ghost use Rattle.transfer_command.specs.Transfers.{IsMadeTransfer, made_summary, transfer_command, transfer_files, transfer_run_of};
 
-use outputs::{PictureQuilt, quilt_fault, within_output};
 use block_strips::QuiltPlan;
 use job_words::TransferJob;
 use netpbm_p6::Picture;
+use outputs::{PictureQuilt, quilt_fault, within_output};
 use quilted::QuiltRun;
 use sample_files::{read_picture, read_target};
 use shelf_core::Shelf;

@@ -9,10 +9,10 @@ ghost use Rattle.targets.specs.Targets.{matched};
 ghost use Rattle.transfer_command.specs.Transfers.{IsMadeTransfer, made_summary, transfer_command, transfer_files};
 
 use crate::plan::{Transferred, plan, run_of};
-use outputs::write_quilt;
 use cells::Volume;
 use job_words::TransferJob;
 use lane_kernels::ssd;
+use outputs::write_quilt;
 use shelf_core::{Shelf, Sink};
 use std::alloc::Global;
 use synth_report::{Fault, Summary};

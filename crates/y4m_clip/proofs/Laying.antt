@@ -1,6 +1,6 @@
 -- Laws of pieces that are laid into a buffer one after another, and of the samples of a row of cells.
-use Rattle.std.proofs.Common.{◌≡◌, ℕ, zero, suc, ◌≤◌, ◌<◌, ◌+◌, ◌*◌, List, [], ◌∷◌, ◌++◌, length, take, drop, get_or, refl, sym, ap, ◌∙◌, subst, arith, append_assoc}
-use Rattle.std.specs.Prelude.{Some, IsSome, unwrap_or}
+use Rattle.std.proofs.Common.{◌≡◌, ℕ, zero, suc, ◌≤◌, ◌<◌, ◌+◌, ◌*◌, List, [], ◌∷◌, ◌++◌, length, take, drop, get_or, refl, sym, ap, ◌∙◌, subst, arith, append_assoc, to_z, w32}
+use Rattle.std.specs.Prelude.{pos, Some, IsSome, unwrap_or}
 use Rattle.std.specs.List.{AllByRecursion, concat}
 use Rattle.std.proofs.lemmas.Int.{ints}
 use Rattle.std.proofs.Math.Nat.{mul-le-mul_left}
@@ -8,6 +8,7 @@ use Rattle.std.proofs.lemmas.List.{length-append, length-set, length-take-le, le
 use Rattle.std.proofs.Math.ListN.{set}
 use Rattle.std.proofs.Math.Seq.{take-add, take-suc}
 use Rattle.std.proofs.lemmas.List.Elements.{All-take, All-drop, recursion_from_All}
+use Rattle.limits.specs.declared.bounds.TheConstants.{GREATEST_AXIS}
 use Rattle.cells.specs.Places.{IsInside, spot, index_in}
 use Rattle.cells.specs.Cells.{Cells, HasRun, IsCell, IsVolume, index_of, row_at, run_from}
 use Rattle.cells.proofs.Raster.{index_of_spot}
@@ -91,6 +92,10 @@ same_joined (suc n) p q each = λ i. same_joined n p q (λ j lt. each j (omega a
 
 pub length-span : (bytes : List ℕ) (start count : ℕ) → start + count ≤ length bytes → length (span bytes start count) ≡ count
 length-span bytes start count fits = length-take-le count (drop start bytes) (omega (arith, length-drop start bytes))
+
+-- a coordinate of a cell is the same as a signed number
+pub signed_same : (n : ℕ) → n ≤ GREATEST_AXIS → to_z w32 n ≡ pos n
+signed_same n le = omega (arith, ints)
 
 -- a run of k bytes lies among w of them
 pub in_runs : (k x w m : ℕ) → x < w → m ≤ k → k * x + m ≤ k * w

@@ -1,3 +1,4 @@
+use Rattle.std.proofs.lemmas.Grind.{common_steps}
 use Rattle.std.proofs.Common.{◌∙◌, arith}
 use Rattle.lane_kernels.specs.declared.block.TheConstants.{LANES}
 use Rattle.lane_kernels.specs.Sums.{squared_difference}
@@ -21,3 +22,6 @@ returns c =
     let b = c.args.b.now in
     let whole = total_whole squared_difference a b c.by_block.at c.by_block.total c.from.result c.by_block.invariant.so_far (c.from.ensures ∙ c.ssd_tail.ensures) in
     record { sum = whole; bound = omega (arith, whole, ssd_bound a b (bytes_of_row a c.type_inv.a) (bytes_of_row b c.type_inv.b)) }
+
+pub ssd_tail-requires-clause-same_length : goal.ssd_tail-requires-clause-same_length
+ssd_tail-requires-clause-same_length c = grind (arith, common_steps)

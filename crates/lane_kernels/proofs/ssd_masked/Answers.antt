@@ -1,3 +1,4 @@
+use Rattle.std.proofs.lemmas.Grind.{common_steps}
 use Rattle.std.proofs.Common.{◌∙◌, arith}
 use Rattle.lane_kernels.specs.declared.block.TheConstants.{LANES}
 use Rattle.lane_kernels.proofs.Bounds.{ssd_masked_bound}
@@ -22,3 +23,30 @@ returns c =
     let mask = c.args.mask.now in
     let whole = masked_total_whole a b mask c.by_block.at c.by_block.total c.from.result c.by_block.invariant.so_far (c.from.ensures ∙ c.ssd_masked_tail.ensures) in
     record { sum = whole; bound = omega (arith, whole, ssd_masked_bound a b (bytes_of_row a c.type_inv.a) (bytes_of_row b c.type_inv.b) mask) }
+
+pub ssd_masked_tail-requires-clause-same_length : goal.ssd_masked_tail-requires-clause-same_length
+ssd_masked_tail-requires-clause-same_length c = grind (arith, common_steps)
+
+pub ssd_masked_tail-requires-clause-mask_length : goal.ssd_masked_tail-requires-clause-mask_length
+ssd_masked_tail-requires-clause-mask_length c = grind (arith, common_steps)
+
+pub ssd_masked_tail-requires-clause-few : goal.ssd_masked_tail-requires-clause-few
+ssd_masked_tail-requires-clause-few c = grind (arith, common_steps)
+
+pub overflow_add-result : goal.overflow_add-result
+overflow_add-result c = grind (arith, common_steps)
+
+pub ssd_masked_block-requires-clause-b_block : goal.ssd_masked_block-requires-clause-b_block
+ssd_masked_block-requires-clause-b_block c = grind (arith, common_steps)
+
+pub ssd_masked_block-requires-clause-a_block : goal.ssd_masked_block-requires-clause-a_block
+ssd_masked_block-requires-clause-a_block c = grind (arith, common_steps)
+
+pub ssd_masked_block-requires-clause-mask_block : goal.ssd_masked_block-requires-clause-mask_block
+ssd_masked_block-requires-clause-mask_block c = grind (arith, common_steps)
+
+pub overflow_add-at : goal.overflow_add-at
+overflow_add-at c = grind (arith, common_steps)
+
+pub overflow_add-total : goal.overflow_add-total
+overflow_add-total c = grind (arith, common_steps)

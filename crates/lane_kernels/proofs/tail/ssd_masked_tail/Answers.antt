@@ -1,3 +1,4 @@
+use Rattle.std.proofs.lemmas.Grind.{common_steps}
 use Rattle.std.proofs.Common.{◌+◌, arith}
 use Rattle.lane_kernels.specs.declared.block.TheConstants.{SHORT}
 use Rattle.lane_kernels.proofs.Bounds.{ssd_masked_bound}
@@ -41,3 +42,15 @@ pub returns : goal.returns
 returns c =
     masked_total_whole c.args.a.now c.args.b.now c.args.mask.now c.by_block.at c.by_block.total c.ssd_masked_rest.result
     c.by_block.invariant.so_far c.ssd_masked_rest.ensures
+
+pub ssd_masked_block-total-requires-clause-b_block : goal.ssd_masked_block-total-requires-clause-b_block
+ssd_masked_block-total-requires-clause-b_block c = grind (arith, common_steps)
+
+pub ssd_masked_block-total-requires-clause-a_block : goal.ssd_masked_block-total-requires-clause-a_block
+ssd_masked_block-total-requires-clause-a_block c = grind (arith, common_steps)
+
+pub ssd_masked_block-total-requires-clause-mask_block : goal.ssd_masked_block-total-requires-clause-mask_block
+ssd_masked_block-total-requires-clause-mask_block c = grind (arith, common_steps)
+
+pub overflow_add-at : goal.overflow_add-at
+overflow_add-at c = grind (arith, common_steps)

@@ -41,3 +41,6 @@ clear-requires c = grind (arith, common_steps)
 
 pub returns-else-name-free-clause-room : goal.returns-else-name-free-clause-room
 returns-else-name-free-clause-room c = grind (arith, common_steps)
+
+pub returns-then-not-keeps-clause-room : goal.returns-then-not-keeps-clause-room
+returns-then-not-keeps-clause-room c = grind (arith, common_steps)

@@ -7,3 +7,6 @@ loop-i-preserved c = grind (arith, common_steps)
 
 pub returns-then-byte-eq10-clause-some : goal.returns-then-byte-eq10-clause-some
 returns-then-byte-eq10-clause-some c = grind (arith, common_steps)
+
+pub returns-clause-none : goal.returns-clause-none
+returns-clause-none c = grind (arith, common_steps)

@@ -19,3 +19,6 @@ cells_on-requires-2 c = grind (arith, common_steps)
 
 pub returns-in_default-cells_on : goal.returns-in_default-cells_on
 returns-in_default-cells_on c = grind (arith, common_steps)
+
+pub cells_on-requires : goal.cells_on-requires
+cells_on-requires c = grind (arith, common_steps)

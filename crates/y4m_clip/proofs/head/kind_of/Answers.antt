@@ -10,3 +10,6 @@ returns-in-Some-value_of-clause-some c = grind (arith, common_steps)
 
 pub returns-in-None-clause-some : goal.returns-in-None-clause-some
 returns-in-None-clause-some c = grind (arith, common_steps)
+
+pub returns-in-Some-value_of-clause-none : goal.returns-in-Some-value_of-clause-none
+returns-in-Some-value_of-clause-none c = grind (arith, common_steps)

@@ -4,3 +4,6 @@ use Rattle.y4m_clip.proofs.head.spelled.Goals as goal
 
 pub returns-clause-none : goal.returns-clause-none
 returns-clause-none c = grind (arith, common_steps)
+
+pub returns-then-is_420-clause-some : goal.returns-then-is_420-clause-some
+returns-then-is_420-clause-some c = grind (arith, common_steps)

@@ -1,13 +1,12 @@
 use Rattle.std.proofs.lemmas.Grind.{common_steps}
 use Rattle.std.proofs.Common.{◌≡◌, ℕ, ◌+◌, ◌*◌, ◌<◌, List, sym, ap, ◌∙◌, subst, arith, pos, to_z, w32}
-use Rattle.std.proofs.lemmas.Int.{ints}
 use Rattle.cells.specs.declared.place.Size.{Size}
 use Rattle.cells.specs.Places.{spot}
 use Rattle.cells.specs.Cells.{row_at}
 use Rattle.y4m_clip.specs.Spaces.{joined_to}
 use Rattle.y4m_clip.specs.Writing.{row_samples}
 use Rattle.y4m_clip.specs.Laying.{run_samples}
-use Rattle.y4m_clip.proofs.Laying.{in_runs, laid_same, laid_more, length-rows, rows_laid}
+use Rattle.y4m_clip.proofs.Laying.{in_runs, laid_same, laid_more, length-rows, rows_laid, signed_same}
 use Rattle.y4m_clip.proofs.lay.lay_plane.Goals as goal
 
 pub lay_rows-next-requires-clause-room : goal.lay_rows-next-requires-clause-room
@@ -29,8 +28,8 @@ loop-y-preserved c =
     let row = c.row-row.result.now in
     let below : y < v.size.h = subst (λ (s : Size). y < s.h) size c.loop-y-test.true in
     let axes = c.size-size.ensures.volume.small.axes in
-    let y_is : to_z w32 y ≡ pos y = omega (arith, ints, axes.h) in
-    let f_is : to_z w32 a.f ≡ pos a.f = omega (arith, ints, axes.f, c.requires.frame) in
+    let y_is : to_z w32 y ≡ pos y = signed_same y (omega (arith, axes.h, below)) in
+    let f_is : to_z w32 a.f ≡ pos a.f = signed_same a.f (omega (arith, axes.f, c.requires.frame)) in
     let bytes : row ≡ row_at v (spot 0 y a.f) v.size.w
     = c.row-row.ensures.bytes ∙ (λ i. row_at v (record { x = pos 0; y = y_is i; f = f_is i }) (size i).w) in
     let part : ℕ → List ℕ = λ (j : ℕ). joined_to a.rows (λ (i : ℕ). row_samples v a.f j (a.start + a.count * i) a.count) in
@@ -58,3 +57,6 @@ overflow_cast-place c = grind (arith, common_steps)
 
 pub lay_rows-next-requires-clause-inside : goal.lay_rows-next-requires-clause-inside
 lay_rows-next-requires-clause-inside c = grind (arith, common_steps)
+
+pub overflow_cast-size : goal.overflow_cast-size
+overflow_cast-size c = grind (arith, common_steps)

@@ -74,3 +74,6 @@ overflow_mul-width c = grind (arith, common_steps)
 
 pub lay_plane-luma-requires-clause-inside : goal.lay_plane-luma-requires-clause-inside
 lay_plane-luma-requires-clause-inside c = grind (arith, common_steps)
+
+pub lay_plane-luma-requires-clause-few : goal.lay_plane-luma-requires-clause-few
+lay_plane-luma-requires-clause-few c = grind (arith, common_steps)

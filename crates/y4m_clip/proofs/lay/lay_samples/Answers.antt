@@ -36,3 +36,6 @@ overflow_add-from-in-loop-x c = grind (arith, common_steps)
 
 pub overflow_add-from : goal.overflow_add-from
 overflow_add-from c = grind (arith, common_steps)
+
+pub lay-requires : goal.lay-requires
+lay-requires c = grind (arith, common_steps)

@@ -82,3 +82,36 @@ overflow_mul-x-in-C420-3 c = grind (arith, common_steps)
 
 pub overflow_mul-x-in-C411-3 : goal.overflow_mul-x-in-C411-3
 overflow_mul-x-in-C411-3 c = grind (arith, common_steps)
+
+pub bounds-upper-x-in-C420 : goal.bounds-upper-x-in-C420
+bounds-upper-x-in-C420 c = grind (arith, common_steps)
+
+pub bounds-upper-x-in-C444 : goal.bounds-upper-x-in-C444
+bounds-upper-x-in-C444 c = grind (arith, common_steps)
+
+pub bounds-upper-x-in-C411 : goal.bounds-upper-x-in-C411
+bounds-upper-x-in-C411 c = grind (arith, common_steps)
+
+pub bounds-upper-x-in-C422 : goal.bounds-upper-x-in-C422
+bounds-upper-x-in-C422 c = grind (arith, common_steps)
+
+pub overflow_add-x-in-C420 : goal.overflow_add-x-in-C420
+overflow_add-x-in-C420 c = grind (arith, common_steps)
+
+pub overflow_add-x-in-C411 : goal.overflow_add-x-in-C411
+overflow_add-x-in-C411 c = grind (arith, common_steps)
+
+pub overflow_mul-x-in-C420-2 : goal.overflow_mul-x-in-C420-2
+overflow_mul-x-in-C420-2 c = grind (arith, common_steps)
+
+pub overflow_mul-x-in-C422 : goal.overflow_mul-x-in-C422
+overflow_mul-x-in-C422 c = grind (arith, common_steps)
+
+pub overflow_mul-x-in-C411-2 : goal.overflow_mul-x-in-C411-2
+overflow_mul-x-in-C411-2 c = grind (arith, common_steps)
+
+pub overflow_mul-x-in-C420 : goal.overflow_mul-x-in-C420
+overflow_mul-x-in-C420 c = grind (arith, common_steps)
+
+pub overflow_mul-x-in-C411 : goal.overflow_mul-x-in-C411
+overflow_mul-x-in-C411 c = grind (arith, common_steps)

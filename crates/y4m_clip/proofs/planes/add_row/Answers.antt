@@ -65,3 +65,6 @@ overflow_sub-height c = grind (arith, common_steps)
 
 pub overflow_mul-width-4 : goal.overflow_mul-width-4
 overflow_mul-width-4 c = grind (arith, common_steps)
+
+pub overflow_mul-width-2 : goal.overflow_mul-width-2
+overflow_mul-width-2 c = grind (arith, common_steps)

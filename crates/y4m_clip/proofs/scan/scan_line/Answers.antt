@@ -1,3 +1,4 @@
+use Rattle.std.proofs.lemmas.Grind.{common_steps}
 use Rattle.std.proofs.Common.{◌≡◌, ◌<◌, ◌+◌, ◌-◌, length, take, sym, ap, ◌∙◌, arith}
 use Rattle.std.specs.Prelude.{Some, None}
 use Rattle.y4m_clip.specs.declared.scan.LineScan.TheVariants.{Magic, Whole}
@@ -32,3 +33,6 @@ loop-i-preserved c =
       run = run_more Magic c.loop-i.scan (Some c.in-Some.next) c.args.text.now c.loop-i.i inside c.loop-i.invariant.run (sym c.in-Some.ensures);
       is_open = c.in_default.not-Whole;
     }
+
+pub returns-clause-scanned : goal.returns-clause-scanned
+returns-clause-scanned c = grind (arith, common_steps)

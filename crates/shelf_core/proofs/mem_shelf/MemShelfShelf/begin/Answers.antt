@@ -25,3 +25,6 @@ returns-2-clause-asked c = grind (arith, common_steps)
 
 pub returns-clause-listed : goal.returns-clause-listed
 returns-clause-listed c = grind (arith, common_steps)
+
+pub returns-2-clause-failed : goal.returns-2-clause-failed
+returns-2-clause-failed c = grind (arith, common_steps)

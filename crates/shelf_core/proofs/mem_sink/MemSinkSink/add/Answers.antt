@@ -28,3 +28,9 @@ returns-in_default-extend-clause-failed c = grind (arith, common_steps)
 
 pub returns-in_default-extend-clause-kept : goal.returns-in_default-extend-clause-kept
 returns-in_default-extend-clause-kept c = grind (arith, common_steps)
+
+pub returns-clause-ok : goal.returns-clause-ok
+returns-clause-ok c = grind (arith, common_steps)
+
+pub returns-clause-added : goal.returns-clause-added
+returns-clause-added c = grind (arith, common_steps)

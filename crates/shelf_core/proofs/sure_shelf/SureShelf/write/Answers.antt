@@ -7,3 +7,6 @@ returns-then-not-store-clause-after c = grind (arith, common_steps)
 
 pub returns-else-self-clause-after : goal.returns-else-self-clause-after
 returns-else-self-clause-after c = grind (arith, common_steps)
+
+pub returns-else-self-clause-told : goal.returns-else-self-clause-told
+returns-else-self-clause-told c = grind (arith, common_steps)

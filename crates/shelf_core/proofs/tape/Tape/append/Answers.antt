@@ -46,3 +46,9 @@ returns c =
 
 pub put_in-requires-clause-within : goal.put_in-requires-clause-within
 put_in-requires-clause-within c = grind (arith, common_steps)
+
+pub overflow_add-own : goal.overflow_add-own
+overflow_add-own c = grind (arith, common_steps)
+
+pub place_of-own-requires-clause-fits : goal.place_of-own-requires-clause-fits
+place_of-own-requires-clause-fits c = grind (arith, common_steps)

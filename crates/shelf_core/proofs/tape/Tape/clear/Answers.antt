@@ -1,3 +1,4 @@
+use Rattle.std.proofs.lemmas.Grind.{common_steps}
 use Rattle.std.proofs.Common.{ap, ◌∙◌, refl, arith, ◌<◌, ◌+◌, List, [], length, take, get_or}
 use Rattle.std.proofs.Math.ListN.{set}
 use Rattle.shelf_core.specs.declared.tape.TapeSpan.{TapeSpan}
@@ -35,3 +36,9 @@ returns c =
           c.take_out.ensures.items) j;
     })
     ∙ ap (λ (t : TapeState). record { room = t.room; files = set t.files c.args.i ((get_or t.files c.args.i ([], [])).0, []) }) c.self.view_is
+
+pub take_out-requires : goal.take_out-requires
+take_out-requires c = grind (arith, common_steps)
+
+pub place_of-own-requires-clause-fits : goal.place_of-own-requires-clause-fits
+place_of-own-requires-clause-fits c = grind (arith, common_steps)

@@ -46,3 +46,6 @@ returns-in_err-add-2-clause-failed g c =
 
 pub lay_planes-requires-clause-room : goal.lay_planes-requires-clause-room
 lay_planes-requires-clause-room g c = grind (arith, common_steps)
+
+pub lay_planes-requires-clause-samples : goal.lay_planes-requires-clause-samples
+lay_planes-requires-clause-samples g c = grind (arith, common_steps)

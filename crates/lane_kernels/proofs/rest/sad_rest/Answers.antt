@@ -1,0 +1,6 @@
+use Rattle.std.proofs.Common.{arith}
+use Rattle.std.proofs.lemmas.Grind.{common_steps}
+use Rattle.lane_kernels.proofs.rest.sad_rest.Goals as goal
+
+pub sum-requires-clause-can : goal.sum-requires-clause-can
+sum-requires-clause-can c = grind (arith, common_steps)

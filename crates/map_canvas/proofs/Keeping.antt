@@ -32,6 +32,13 @@ step_fits : (n c : ℕ) (z by' : ℤ) → OnAxis n z c → n ≤ GREATEST_AXIS �
 step_fits n c z by' on le low high =
     (near_fits (z +ℤ by') (omega (arith, ints, on.is)) (omega (arith, ints, on.is, on.below)), near_fits (z -ℤ by') (omega (arith, ints, on.is)) (omega (arith, ints, on.is, on.below)))
 
+-- the steps of a neighbour on each axis
+still : (pos 0 ≤ℤ pos 0) × (pos 0 ≤ℤ pos 1)
+still = (omega (arith, ints), omega (arith, ints))
+
+onward : (pos 0 ≤ℤ pos 1) × (pos 1 ≤ℤ pos 1)
+onward = (omega (arith, ints), omega (arith, ints))
+
 module _ (m : SourceMap) (is : IsMap m) (p : At) (filled : IsFilled m p) where
   fits : (by' : At) → (pos 0 ≤ℤ by'.x) × (by'.x ≤ℤ pos 1) → (pos 0 ≤ℤ by'.y) × (by'.y ≤ℤ pos 1) → (pos 0 ≤ℤ by'.f) × (by'.f ≤ℤ pos 1) → SumFits p by' × DifferenceFits p by'
   fits by' x y f =
@@ -42,9 +49,9 @@ module _ (m : SourceMap) (is : IsMap m) (p : At) (filled : IsFilled m p) where
       (record { x = in_x.0; y = in_y.0; f = in_f.0 }, record { x = in_x.1; y = in_y.1; f = in_f.1 })
 
   pub neighbours_fit : (axis : Axis) → SumFits p (unit_step axis) × DifferenceFits p (unit_step axis)
-  neighbours_fit X = fits (unit_step X) (omega (arith, ints), omega (arith, ints)) (omega (arith, ints), omega (arith, ints)) (omega (arith, ints), omega (arith, ints))
-  neighbours_fit Y = fits (unit_step Y) (omega (arith, ints), omega (arith, ints)) (omega (arith, ints), omega (arith, ints)) (omega (arith, ints), omega (arith, ints))
-  neighbours_fit F = fits (unit_step F) (omega (arith, ints), omega (arith, ints)) (omega (arith, ints), omega (arith, ints)) (omega (arith, ints), omega (arith, ints))
+  neighbours_fit X = fits (unit_step X) onward still still
+  neighbours_fit Y = fits (unit_step Y) still onward still
+  neighbours_fit F = fits (unit_step F) still still onward
 
 back : (a b : ℤ) → a ≡ (a -ℤ b) +ℤ b
 back a b = omega (arith, ints)

@@ -7,3 +7,15 @@ returns-else-row-eq0 c = grind (arith, common_steps)
 
 pub bounds-path-row-else-row-eq0-2 : goal.bounds-path-row-else-row-eq0-2
 bounds-path-row-else-row-eq0-2 c = grind (arith, common_steps)
+
+pub bounds-path-row-else-row-eq0 : goal.bounds-path-row-else-row-eq0
+bounds-path-row-else-row-eq0 c = grind (arith, common_steps)
+
+pub overflow_sub-row : goal.overflow_sub-row
+overflow_sub-row c = grind (arith, common_steps)
+
+pub offset_bounds-path-row-else-row-eq0-2 : goal.offset_bounds-path-row-else-row-eq0-2
+offset_bounds-path-row-else-row-eq0-2 c = grind (arith, common_steps)
+
+pub offset_bounds-path-row-else-row-eq0 : goal.offset_bounds-path-row-else-row-eq0
+offset_bounds-path-row-else-row-eq0 c = grind (arith, common_steps)

@@ -8,3 +8,12 @@ loop-col-preserved c = below_more _ _ c.loop-col.invariant (c.sum_holds.ensures.
 
 pub returns-then-not-sum_holds-clause-here : goal.returns-then-not-sum_holds-clause-here
 returns-then-not-sum_holds-clause-here c = grind (arith, common_steps)
+
+pub returns-then-not-sum_holds-clause-before : goal.returns-then-not-sum_holds-clause-before
+returns-then-not-sum_holds-clause-before c = grind (arith, common_steps)
+
+pub returns-clause-none : goal.returns-clause-none
+returns-clause-none c = grind (arith, common_steps)
+
+pub returns-then-not-sum_holds-clause-inside : goal.returns-then-not-sum_holds-clause-inside
+returns-then-not-sum_holds-clause-inside c = grind (arith, common_steps)

@@ -23,3 +23,6 @@ returns c =
 
 pub cost-requires : goal.cost-requires
 cost-requires c = grind (arith, common_steps)
+
+pub row_of-last-requires : goal.row_of-last-requires
+row_of-last-requires c = grind (arith, common_steps)

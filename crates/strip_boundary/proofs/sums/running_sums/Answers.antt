@@ -1,3 +1,4 @@
+use Rattle.std.proofs.lemmas.Grind.{common_steps}
 use Rattle.std.proofs.Common.{◌≡◌, ◌≤◌, arith}
 use Rattle.std.proofs.lemmas.Nat.{mul-le}
 use Rattle.limits.specs.declared.bounds.TheConstants.{GREATEST_AXIS}
@@ -20,3 +21,6 @@ pub returns : goal.returns
 returns c =
     let all : c.loop-row.row ≡ c.args.strip.now.rows = omega (arith, c.loop-row-test.false, c.loop-row.auto.row-end, c.rows-row-end.ensures.rows) in
     tight_for_all c.args.strip.now c.loop-row.sums.items c.loop-row.row all c.loop-row.invariant
+
+pub add_row-requires-clause-row : goal.add_row-requires-clause-row
+add_row-requires-clause-row c = grind (arith, common_steps)

@@ -33,3 +33,15 @@ first_least_near-requires c = grind (arith, common_steps)
 
 pub returns : goal.returns
 returns c = grind (arith, common_steps)
+
+pub row_of-requires : goal.row_of-requires
+row_of-requires c = grind (arith, common_steps)
+
+pub bounds-path-row-in-loop-row : goal.bounds-path-row-in-loop-row
+bounds-path-row-in-loop-row c = grind (arith, common_steps)
+
+pub offset_bounds-path-row-in-loop-row : goal.offset_bounds-path-row-in-loop-row
+offset_bounds-path-row-in-loop-row c = grind (arith, common_steps)
+
+pub overflow_cast-path-in-loop-row : goal.overflow_cast-path-in-loop-row
+overflow_cast-path-in-loop-row c = grind (arith, common_steps)

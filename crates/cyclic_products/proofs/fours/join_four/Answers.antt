@@ -21,3 +21,24 @@ bounds-values-1-2 c = grind (arith, common_steps)
 
 pub bounds-values-0-2 : goal.bounds-values-0-2
 bounds-values-0-2 c = grind (arith, common_steps)
+
+pub bounds-halves-j-4 : goal.bounds-halves-j-4
+bounds-halves-j-4 c = omega arith
+
+pub offset_bounds-halves-j-4 : goal.offset_bounds-halves-j-4
+offset_bounds-halves-j-4 c = omega arith
+
+pub bounds-halves-j-3 : goal.bounds-halves-j-3
+bounds-halves-j-3 c = omega arith
+
+pub offset_bounds-halves-j-3 : goal.offset_bounds-halves-j-3
+offset_bounds-halves-j-3 c = omega arith
+
+pub bounds-values-3 : goal.bounds-values-3
+bounds-values-3 c = omega arith
+
+pub bounds-values-2 : goal.bounds-values-2
+bounds-values-2 c = omega arith
+
+pub bounds-halves-j-2 : goal.bounds-halves-j-2
+bounds-halves-j-2 c = omega arith

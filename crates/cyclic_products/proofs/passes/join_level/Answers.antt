@@ -19,3 +19,6 @@ returns-clause-sum c =
 pub returns-clause-difference : goal.returns-clause-difference
 returns-clause-difference c =
     walked_all _ _ c.args.low.now c.args.high.now c.args.high.now c.pairs.high c.pairs.i c.pairs.invariant.high (omega (arith, c.pairs-test.false, c.requires)) c.requires refl
+
+pub bounds-high-i-in-pairs : goal.bounds-high-i-in-pairs
+bounds-high-i-in-pairs c = omega arith

@@ -27,4 +27,9 @@ pub index-requires : goal.index-requires
 index-requires c = grind (arith, common_steps)
 
 pub returns : goal.returns
-returns c = grind (arith, common_steps)
+returns c =
+    let whole : c.levels.level ≡ c.args.levels = omega (arith, c.levels-test.false, c.levels.auto.level-end) in
+    c.levels.invariant ∙ ap (table_of LAST c.args.first c.args.ladder.now) whole
+
+pub bounds-ladder-level : goal.bounds-ladder-level
+bounds-ladder-level c = omega arith

@@ -1,7 +1,7 @@
 use Rattle.std.proofs.Common.{arith, ◌≡◌, ◌++◌, List, ℕ, [], ◌∷◌, set, subst, sym, ap, ◌∙◌}
 use Rattle.std.proofs.lemmas.Grind.{common_steps}
+use Rattle.max_flow.proofs.Searching.{IsSearch_levels, IsSearch_closed, IsSearch_begins, zeros}
 use Rattle.max_flow.specs.Levels.{IsSearch}
-use Rattle.max_flow.proofs.Searching.{IsSearch_begins, zeros}
 use Rattle.max_flow.proofs.levels.find_levels.Goals as goal
 
 pub nodes-init : goal.nodes-init
@@ -14,10 +14,10 @@ nodes-init c =
     (sym filled) (IsSearch_begins _ _ _ _ c.args.graph.now.source_in))
 
 pub returns-clause-levels : goal.returns-clause-levels
-returns-clause-levels c = grind (arith, common_steps)
+returns-clause-levels c = IsSearch_levels _ _ _ _ _ c.nodes.waiting c.nodes.invariant
 
 pub returns-in_default-clause-levels : goal.returns-in_default-clause-levels
-returns-in_default-clause-levels c = grind (arith, common_steps)
+returns-in_default-clause-levels c = IsSearch_levels _ _ _ _ _ c.nodes.waiting c.nodes.invariant
 
 pub visit-requires-clause-search : goal.visit-requires-clause-search
 visit-requires-clause-search c = grind (arith, common_steps)
@@ -26,7 +26,7 @@ pub nodes-smaller : goal.nodes-smaller
 nodes-smaller c = grind (arith, common_steps)
 
 pub returns-in_default-clause-closed : goal.returns-in_default-clause-closed
-returns-in_default-clause-closed c = grind (arith, common_steps)
+returns-in_default-clause-closed c = IsSearch_closed c.args.graph.now.pipes.now c.args.graph.now.nodes c.args.graph.now.source c.args.backward.now c.nodes.levels (subst (IsSearch c.args.graph.now.pipes.now c.args.graph.now.nodes c.args.graph.now.source c.args.backward.now c.nodes.levels) c.in_default.ensures c.nodes.invariant)
 
 pub visit-requires-clause-residuals : goal.visit-requires-clause-residuals
 visit-requires-clause-residuals c = c.requires.residuals

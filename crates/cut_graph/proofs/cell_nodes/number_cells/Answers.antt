@@ -1,12 +1,16 @@
-use Rattle.std.proofs.lemmas.Grind.{common_steps}
-use Rattle.std.proofs.Common.{◌≡◌, ◌∙◌, subst, arith}
-use Rattle.std.specs.Prelude.{option_copied}
+use Rattle.std.proofs.Common.{◌≡◌, ◌<◌, ℕ, List, length, ◌∙◌, subst, arith}
+use Rattle.std.specs.Prelude.{Bool, IfSome, Option, Some, None, option_copied}
 use Rattle.cells.specs.Places.{cell_count}
 use Rattle.costs.specs.Lawful.{held_marks}
 use Rattle.boxes.proofs.Indices.{counts_below}
 use Rattle.cut_graph.specs.Building.{AreCellNodes}
 use Rattle.cut_graph.proofs.Numbered.{no_cells}
 use Rattle.cut_graph.proofs.cell_nodes.number_cells.Goals as goal
+
+-- marks that are there have one for each index below their number
+marks_past : (held : Option (List Bool)) (n i : ℕ) → i < n → IfSome held (λ marks. length marks ≡ n) → IfSome held (λ marks. i < length marks)
+marks_past None n i lt is = tt
+marks_past (Some marks) n i lt is = omega (arith, is)
 
 pub loop-i-init : goal.loop-i-init
 loop-i-init c =
@@ -41,4 +45,16 @@ returns c =
     subst (λ n. AreCellNodes c.args.canvas.now.map c.args.placement.now (held_marks (option_copied c.args.held)) n c.loop-i.cells) end c.loop-i.invariant.cells
 
 pub give_at-requires-clause-marks : goal.give_at-requires-clause-marks
-give_at-requires-clause-marks c = grind (arith, common_steps)
+give_at-requires-clause-marks c = marks_past (option_copied c.args.held) (cell_count c.args.placement.now.rect.size) c.loop-i.i (omega (arith, c.cells-i-end.ensures, c.loop-i-test.true)) c.requires.marks
+
+pub give_at-requires-clause-room : goal.give_at-requires-clause-room
+give_at-requires-clause-room c = c.loop-i.invariant.room
+
+pub give_at-requires-clause-index : goal.give_at-requires-clause-index
+give_at-requires-clause-index c = omega arith
+
+pub give_at-requires-clause-inside : goal.give_at-requires-clause-inside
+give_at-requires-clause-inside c = c.requires.inside
+
+pub give_at-requires-clause-cells : goal.give_at-requires-clause-cells
+give_at-requires-clause-cells c = c.loop-i.invariant.cells

@@ -51,3 +51,6 @@ returns c =
 
 pub lay-requires-clause-seams : goal.lay-requires-clause-seams
 lay-requires-clause-seams c = grind (arith, common_steps)
+
+pub lay-requires-clause-fits : goal.lay-requires-clause-fits
+lay-requires-clause-fits c = c.requires.fits

@@ -54,3 +54,6 @@ returns c =
     let size = plan.placement.rect.size in
     let end : c.loop-i.i ≡ cell_count size = omega (arith, c.loop-i-test.false, c.requires.plan.cells_count) in
     subst (λ n. IsPiped plan c.args.nodes (before plan n) (pairs_before size n) c.loop-i.piping) end c.loop-i.invariant.piping
+
+pub add_next-requires-clause-plan : goal.add_next-requires-clause-plan
+add_next-requires-clause-plan c = c.requires.plan

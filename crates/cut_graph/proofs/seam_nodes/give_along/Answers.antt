@@ -67,3 +67,6 @@ returns-else-has_next-clause-seams c first some was =
     let none : has_next size axis at.x at.y at.f ≡ false = sym c.has_next.ensures ∙ c.if-has_next.false in
     let number : pair_number size axis at.x at.y at.f ≡ pair_number size axis at.x at.y at.f + one_if (has_next size axis at.x at.y at.f) = omega (arith, ap one_if none) in
     subst (λ n. AreSeamNodes c.args.cells.now size first n c.args.seams.now) number was
+
+pub give-requires-clause-few : goal.give-requires-clause-few
+give-requires-clause-few c = c.requires.few

@@ -25,3 +25,12 @@ returns-clause-number c =
     let at = c.args.at in
     let size = c.args.size in
     omega (arith, c.give_along-3.ensures.number, pairs_next size at.x at.y at.f c.requires.counts, ap (λ i. pairs_before size (i + 1)) c.requires.index)
+
+pub give_along-requires-3-clause-cells : goal.give_along-requires-3-clause-cells
+give_along-requires-3-clause-cells c = c.requires.cells
+
+pub returns-clause-room : goal.returns-clause-room
+returns-clause-room c = c.give_along-3.ensures.room
+
+pub give_along-requires-2-clause-cells : goal.give_along-requires-2-clause-cells
+give_along-requires-2-clause-cells c = c.requires.cells

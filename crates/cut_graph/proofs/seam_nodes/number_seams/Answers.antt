@@ -40,3 +40,6 @@ returns c =
     let size = c.args.size in
     let end : c.loop-i.i ≡ cell_count size = omega (arith, c.loop-i-test.false, c.requires.cells) in
     subst (λ n. AreSeamNodes c.args.cells.now size c.args.first (pairs_before size n) c.loop-i.seams) end c.loop-i.invariant.seams
+
+pub give_next-requires-clause-cells : goal.give_next-requires-clause-cells
+give_next-requires-clause-cells c = c.requires.cells

@@ -43,3 +43,21 @@ add-requires-clause-images c = grind (arith, common_steps)
 
 pub add-requires-clause-others : goal.add-requires-clause-others
 add-requires-clause-others c = grind (arith, common_steps)
+
+pub product-requires-in-numbers-clause-enough : goal.product-requires-in-numbers-clause-enough
+product-requires-in-numbers-clause-enough c = c.requires.enough
+
+pub product-requires-in-numbers-clause-below : goal.product-requires-in-numbers-clause-below
+product-requires-in-numbers-clause-below c = omega arith
+
+pub product-requires-in-numbers-clause-over : goal.product-requires-in-numbers-clause-over
+product-requires-in-numbers-clause-over c = c.requires.over
+
+pub overflow_add-j : goal.overflow_add-j
+overflow_add-j c = omega arith
+
+pub product-requires-in-numbers-clause-inside : goal.product-requires-in-numbers-clause-inside
+product-requires-in-numbers-clause-inside c = c.requires.inside
+
+pub product-requires-in-numbers-clause-levels : goal.product-requires-in-numbers-clause-levels
+product-requires-in-numbers-clause-levels c = c.requires.levels

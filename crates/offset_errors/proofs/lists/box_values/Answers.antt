@@ -1,5 +1,6 @@
-use Rattle.std.proofs.lemmas.Grind.{common_steps}
-use Rattle.std.proofs.Common.{ℕ, ◌≡◌, ◌+◌, ◌-◌, ◌++◌, ◌∷◌, List, [], sym, ◌∙◌, subst, arith}
+use Rattle.std.proofs.Common.{map, ℕ, ◌≡◌, ◌+◌, ◌-◌, ◌++◌, ◌∷◌, List, [], sym, ◌∙◌, subst, arith}
+use Rattle.std.specs.Prelude.{reverse}
+use Rattle.std.specs.List.{range_with_len}
 use Rattle.boxes.specs.Pairs.{at_index}
 use Rattle.boxes.specs.Walks.{IsAtIndex}
 use Rattle.boxes.proofs.Indices.{at_index_is}
@@ -25,4 +26,23 @@ cells-preserved c =
     )
 
 pub returns : goal.returns
-returns c = grind (arith, common_steps)
+returns c =
+    let g = in_box c.args.rect.now.size (box_number c.args.map.now c.args.sample.now c.args.rect.now c.args.j) in
+    let whole : c.cells.i ≡ c.args.n = omega (arith, c.cells-test.false, c.cells.auto.i-end) in
+    let low : c.args.n - c.cells.i ≡ 0 = omega (arith, whole) in
+    c.cells.invariant.0 ∙ (λ t. reverse (map (at_index c.args.pad g) (range_with_len (low t) (whole t))))
+
+pub before-at-requires-clause-later : goal.before-at-requires-clause-later
+before-at-requires-clause-later c = omega arith
+
+pub box_entry-requires-clause-below : goal.box_entry-requires-clause-below
+box_entry-requires-clause-below c = c.requires.below
+
+pub box_entry-requires-clause-over : goal.box_entry-requires-clause-over
+box_entry-requires-clause-over c = c.requires.over
+
+pub box_entry-requires-clause-inside : goal.box_entry-requires-clause-inside
+box_entry-requires-clause-inside c = c.requires.inside
+
+pub before-at-requires-clause-size : goal.before-at-requires-clause-size
+before-at-requires-clause-size c = omega arith

@@ -19,3 +19,15 @@ plus-requires c =
 
 pub returns : goal.returns
 returns c = grind (arith, common_steps)
+
+pub sample_entry-requires-clause-below : goal.sample_entry-requires-clause-below
+sample_entry-requires-clause-below c = c.requires.below
+
+pub overflow_sub-own-5 : goal.overflow_sub-own-5
+overflow_sub-own-5 c = omega arith
+
+pub overflow_sub-own-3 : goal.overflow_sub-own-3
+overflow_sub-own-3 c = omega arith
+
+pub overflow_sub-own : goal.overflow_sub-own
+overflow_sub-own c = omega arith

@@ -1,5 +1,6 @@
-use Rattle.std.proofs.lemmas.Grind.{common_steps}
-use Rattle.std.proofs.Common.{ℕ, ◌++◌, ◌∷◌, List, [], sym, ◌∙◌, arith}
+use Rattle.std.proofs.Common.{◌+◌, ◌≡◌, ◌≤◌, ◌*◌, ap, map, ℕ, ◌++◌, ◌∷◌, List, [], sym, ◌∙◌, arith}
+use Rattle.std.proofs.Math.Nat.{mul-le-mul}
+use Rattle.std.specs.List.{range_with_len}
 use Rattle.std.proofs.lemmas.List.FromFn.{map-range_with_len_more}
 use Rattle.boxes.specs.Pairs.{at_index}
 use Rattle.boxes.proofs.Indices.{at_index_is}
@@ -20,7 +21,21 @@ cells-preserved c =
     )
 
 pub next-at-requires : goal.next-at-requires
-next-at-requires c = grind (arith, common_steps)
+next-at-requires c =
+    let at = c.cells.at in
+    let is = c.cells.invariant.1 in
+    let rows : 1 * at.f ≤ c.args.pad.h * at.f = mul-le-mul (omega (arith, is.row)) (omega arith) in
+    let all : 1 * (at.y + c.args.pad.h * at.f) ≤ c.args.pad.w * (at.y + c.args.pad.h * at.f) = mul-le-mul (omega (arith, is.column)) (omega arith) in
+    record { column = is.column; row = is.row; frame = omega (arith, rows, all, is.index, c.cells-test.true) }
 
 pub returns : goal.returns
-returns c = grind (arith, common_steps)
+returns c =
+    let g = moved c.args.lead c.args.part.now.size (part_number c.args.sample.now c.args.part.now.corner c.args.j) in
+    let whole : c.cells.i ≡ c.args.n = omega (arith, c.cells-test.false, c.cells.auto.i-end) in
+    c.cells.invariant.0 ∙ ap (λ n. map (at_index c.args.pad g) (range_with_len 0 n)) whole
+
+pub part_entry-requires-clause-below : goal.part_entry-requires-clause-below
+part_entry-requires-clause-below c = c.requires.below
+
+pub part_entry-requires-clause-part : goal.part_entry-requires-clause-part
+part_entry-requires-clause-part c = c.requires.part

@@ -62,3 +62,6 @@ returns-then-are_unfilled c =
 
 pub add_pair-requires-clause-nodes : goal.add_pair-requires-clause-nodes
 add_pair-requires-clause-nodes c = grind (arith, common_steps)
+
+pub add_pair-requires-clause-plan : goal.add_pair-requires-clause-plan
+add_pair-requires-clause-plan c = c.requires.plan

@@ -39,3 +39,9 @@ returns c =
     let nodes : c.add_along-2.new.self.network.nodes ≡ c.args.self.now.network.nodes = c.add_along-2.ensures.size ∙ c.add_along.ensures.size in
     past_cell plan c.args.self.now.network.nodes at.x at.y at.f c.args.i now c.requires.counts c.requires.index
     (subst (λ n. IsPipedPast plan n F at.x at.y at.f now) nodes c.add_along-3.ensures)
+
+pub add_along-requires-3-clause-plan : goal.add_along-requires-3-clause-plan
+add_along-requires-3-clause-plan c = c.requires.plan
+
+pub add_along-requires-3-clause-index : goal.add_along-requires-3-clause-index
+add_along-requires-3-clause-index c = c.requires.index

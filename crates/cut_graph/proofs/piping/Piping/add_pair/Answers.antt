@@ -86,3 +86,6 @@ returns c =
       few = pipes_most plan axis first second seam;
     } in
     grown plan was.network.nodes axis at.x at.y at.f made was now c.requires.pair same grows c.requires.so_far
+
+pub join-added-requires-clause-ends : goal.join-added-requires-clause-ends
+join-added-requires-clause-ends c = c.requires.nodes.ends

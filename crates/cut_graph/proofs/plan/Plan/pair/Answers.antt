@@ -94,3 +94,6 @@ returns-clause-second c =
     let at = c.args.at in
     let place : c.plus-next.result ≡ plus (cell_in rect at.x at.y at.f) (unit_step c.args.axis) = c.plus-next.ensures ∙ (λ k. plus (c.cell-place.ensures k) (c.unit.ensures k)) in
     subst (λ (p : At). IsCellAt c.args.self.now p c.args.j c.cell-second.result) place c.cell-second.ensures.cell
+
+pub cell-second-requires-clause-plan : goal.cell-second-requires-clause-plan
+cell-second-requires-clause-plan c = c.requires.plan

@@ -18,7 +18,16 @@ returns c =
     ∙ c.join.ensures all (subst (AreImages LAST c.in_ok-transform.transform all) (sym c.deref_mut.ensures.value) c.in_ok-sums.ensures.images))
 
 pub invariant_of-result : goal.invariant_of-result
-invariant_of-result c = grind (arith, common_steps)
+invariant_of-result c = omega arith
 
 pub join-requires : goal.join-requires
 join-requires c = grind (arith, common_steps)
+
+pub summed_images-requires-clause-enough : goal.summed_images-requires-clause-enough
+summed_images-requires-clause-enough c = c.requires.enough
+
+pub summed_images-requires-clause-over : goal.summed_images-requires-clause-over
+summed_images-requires-clause-over c = c.requires.over
+
+pub summed_images-requires-clause-inside : goal.summed_images-requires-clause-inside
+summed_images-requires-clause-inside c = c.requires.inside

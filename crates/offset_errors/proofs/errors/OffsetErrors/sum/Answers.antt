@@ -1,6 +1,5 @@
-use Rattle.std.proofs.Common.{arith}
+use Rattle.std.proofs.Common.{arith, ◌≡◌, ◌∙◌, length, sym, subst}
 use Rattle.std.proofs.lemmas.Grind.{common_steps}
-use Rattle.std.proofs.Common.{◌≡◌, ◌∙◌, length, sym, subst}
 use Rattle.std.specs.Prelude.{Some, slice_get}
 use Rattle.std.proofs.lemmas.Option.{get_or_from_slice_get}
 use Rattle.cells.specs.Places.{raster_index}
@@ -44,13 +43,13 @@ returns-in-Some c = λ m sample are fits.
     (c.in-Some.ensures {u = tt}).lookup.1 ∙ get_or_from_slice_get c.deref.result.now c.sum_index-i.result (error_sum m sample to) _ there
 
 pub index_at-requires-clause-size : goal.index_at-requires-clause-size
-index_at-requires-clause-size c = grind (arith, common_steps)
+index_at-requires-clause-size c = omega arith
 
 pub index_at-requires-clause-counts : goal.index_at-requires-clause-counts
 index_at-requires-clause-counts c = grind (arith, common_steps)
 
 pub offset_on-requires-3-clause-axis : goal.offset_on-requires-3-clause-axis
-offset_on-requires-3-clause-axis c = grind (arith, common_steps)
+offset_on-requires-3-clause-axis c = omega arith
 
 pub returns-in_err-f : goal.returns-in_err-f
 returns-in_err-f c = grind (arith, common_steps)
@@ -66,3 +65,27 @@ sum_index-i-requires c = grind (arith, common_steps)
 
 pub returns-in_err-t : goal.returns-in_err-t
 returns-in_err-t c = grind (arith, common_steps)
+
+pub offset_on-requires-2-clause-axis : goal.offset_on-requires-2-clause-axis
+offset_on-requires-2-clause-axis c = omega arith
+
+pub offset_on-requires-3-clause-rect : goal.offset_on-requires-3-clause-rect
+offset_on-requires-3-clause-rect c = omega arith
+
+pub offset_on-requires-3-clause-part : goal.offset_on-requires-3-clause-part
+offset_on-requires-3-clause-part c = omega arith
+
+pub offset_on-requires-2-clause-rect : goal.offset_on-requires-2-clause-rect
+offset_on-requires-2-clause-rect c = omega arith
+
+pub offset_on-requires-clause-axis : goal.offset_on-requires-clause-axis
+offset_on-requires-clause-axis c = omega arith
+
+pub offset_on-requires-2-clause-part : goal.offset_on-requires-2-clause-part
+offset_on-requires-2-clause-part c = omega arith
+
+pub offset_on-requires-clause-rect : goal.offset_on-requires-clause-rect
+offset_on-requires-clause-rect c = omega arith
+
+pub offset_on-requires-clause-part : goal.offset_on-requires-clause-part
+offset_on-requires-clause-part c = omega arith

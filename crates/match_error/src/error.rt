@@ -3,7 +3,7 @@ ghost use Rattle.std.specs.Prelude.{◌≡◌, ◌≤◌, ◌^◌};
 ghost use Rattle.match_error.specs.Errors.{is_within};
 
 /// How far the cells of a placement are from what is there already.
-#[derive(Clone, Copy, Debug, Drop, PartialEq, Eq)]
+#[derive(Clone, Copy, Drop)]
 pub struct Error {
     /// The sum over the filled cells of the box, and the samples of each, of the squared differences.
     pub sum: u64,

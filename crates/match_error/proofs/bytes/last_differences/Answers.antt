@@ -1,6 +1,5 @@
-use Rattle.std.proofs.Common.{arith}
+use Rattle.std.proofs.Common.{arith, ◌∙◌}
 use Rattle.std.proofs.lemmas.Grind.{common_steps}
-use Rattle.std.proofs.Common.{◌∙◌}
 use Rattle.match_error.proofs.Blocks.{last_block}
 use Rattle.match_error.proofs.bytes.last_differences.Goals as goal
 
@@ -9,3 +8,6 @@ returns-clause-sum c = c.ssd_masked.ensures.sum ∙ last_block c.args.old.now c.
 
 pub ssd_masked-requires-clause-mask_length : goal.ssd_masked-requires-clause-mask_length
 ssd_masked-requires-clause-mask_length c = grind (arith, common_steps)
+
+pub ssd_masked-requires-clause-same_length : goal.ssd_masked-requires-clause-same_length
+ssd_masked-requires-clause-same_length c = omega arith

@@ -11,3 +11,6 @@ pub returns : goal.returns
 returns c =
     let len = length c.args.old.now in
     both_parts c.args.old.now c.args.new.now (len - len % 32) (len % 32) c.ssd-sum.result c.last_differences.result c.requires.same_length (let e : (len - len % 32) + len % 32 ≡ len = omega arith in e) c.ssd-sum.ensures.sum c.last_differences.ensures.sum
+
+pub last_differences-requires-clause-same_length : goal.last_differences-requires-clause-same_length
+last_differences-requires-clause-same_length c = c.requires.same_length

@@ -46,3 +46,12 @@ pub returns : goal.returns
 returns c =
     let whole : c.cells.x ≡ c.args.rect.now.size.w = omega (arith, c.cells-test.false, c.cells.invariant.most) in
     subst (λ n. AreMoreRuns (IsFilledAt c.args.canvas.now.map c.args.rect.now c.args.y c.args.f) n c.args.runs.now.items c.cells.runs.items) whole c.cells.invariant.runs
+
+pub cells-smaller-then-n-gt0 : goal.cells-smaller-then-n-gt0
+cells-smaller-then-n-gt0 c = omega arith
+
+pub overflow_add-x-then-n-gt0 : goal.overflow_add-x-then-n-gt0
+overflow_add-x-then-n-gt0 c = omega arith
+
+pub overflow_add-x-else-n-gt0 : goal.overflow_add-x-else-n-gt0
+overflow_add-x-else-n-gt0 c = omega arith

@@ -1,6 +1,5 @@
-use Rattle.std.proofs.Common.{arith}
+use Rattle.std.proofs.Common.{arith, ◌*◌, ◌∙◌, ap, sym, subst}
 use Rattle.std.proofs.lemmas.Grind.{common_steps}
-use Rattle.std.proofs.Common.{◌*◌, ◌∙◌, ap, sym, subst}
 use Rattle.std.specs.Prelude.{IfSome}
 use Rattle.cells.specs.Boxes.{HoldsBox}
 use Rattle.cells.specs.Cells.{Cells, Holds, row_at}
@@ -31,3 +30,21 @@ runs_sum-requires-clause-bytes c =
 
 pub runs_sum-requires-clause-runs : goal.runs_sum-requires-clause-runs
 runs_sum-requires-clause-runs c = grind (arith, common_steps)
+
+pub runs_sum-requires-clause-fits : goal.runs_sum-requires-clause-fits
+runs_sum-requires-clause-fits c = c.requires.fits
+
+pub runs_sum-requires-clause-over : goal.runs_sum-requires-clause-over
+runs_sum-requires-clause-over c = c.requires.over
+
+pub box_row-new-requires-clause-front : goal.box_row-new-requires-clause-front
+box_row-new-requires-clause-front c = c.requires.fronts.new
+
+pub box_row-new-requires-clause-held : goal.box_row-new-requires-clause-held
+box_row-new-requires-clause-held c = c.requires.fits.sources
+
+pub returns-in-Some-clause-small : goal.returns-in-Some-clause-small
+returns-in-Some-clause-small c = c.runs_sum.ensures.small
+
+pub returns-in-Some-clause-sum : goal.returns-in-Some-clause-sum
+returns-in-Some-clause-sum c = c.runs_sum.ensures.sum

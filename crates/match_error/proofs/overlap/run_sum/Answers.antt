@@ -101,3 +101,6 @@ overflow_cast-stop c = omega (arith, overflow_mul-stop c)
 
 pub overflow_cast-start : goal.overflow_cast-start
 overflow_cast-start c = omega (arith, overflow_mul-start c)
+
+pub squared_differences-requires-clause-same_length : goal.squared_differences-requires-clause-same_length
+squared_differences-requires-clause-same_length c = omega arith

@@ -37,3 +37,6 @@ returns-clause-small c =
 
 pub runs-preserved : goal.runs-preserved
 runs-preserved c = grind (arith, common_steps)
+
+pub run_sum-sum-requires-clause-run : goal.run_sum-sum-requires-clause-run
+run_sum-sum-requires-clause-run c = omega arith

@@ -63,3 +63,24 @@ loop-x-init c =
       filled = refl;
       few = omega arith;
     }
+
+pub bounds-as_slice-above : goal.bounds-as_slice-above
+bounds-as_slice-above c = omega arith
+
+pub one_filled-filled-requires-clause-inside : goal.one_filled-filled-requires-clause-inside
+one_filled-filled-requires-clause-inside c = c.requires.inside
+
+pub offset_bounds-as_slice-above : goal.offset_bounds-as_slice-above
+offset_bounds-as_slice-above c = omega arith
+
+pub overflow_cast-before : goal.overflow_cast-before
+overflow_cast-before c = omega arith
+
+pub overflow_add-before-in-loop-x : goal.overflow_add-before-in-loop-x
+overflow_add-before-in-loop-x c = omega arith
+
+pub overflow_add-before : goal.overflow_add-before
+overflow_add-before c = omega arith
+
+pub one_filled-filled-requires-clause-row : goal.one_filled-filled-requires-clause-row
+one_filled-filled-requires-clause-row c = omega arith

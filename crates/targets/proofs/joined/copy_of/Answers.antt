@@ -1,7 +1,7 @@
-use Rattle.std.proofs.Common.{◌≡◌, ◌∙◌, ◌*◌, ◌++◌, length, ap, sym}
+use Rattle.std.proofs.Common.{subst, sym, ◌≡◌, ◌∙◌, ◌*◌, ◌++◌, length, ap}
+use Rattle.cells.specs.Places.{IsSmall, cell_count}
 use Rattle.cells.specs.Cells.{bytes_of, volume_of}
 use Rattle.cells.specs.Parts.{count_from}
-use Rattle.cells.specs.Places.{cell_count}
 use Rattle.map_canvas.proofs.FromMaps.{bytes_count, volume_of_cells}
 use Rattle.targets.proofs.Joining.{single}
 use Rattle.targets.proofs.joined.copy_of.Goals as goal
@@ -24,3 +24,6 @@ returns c =
     ∙ (λ i. volume_of (c.size-size.ensures.size i) (c.samples-k.ensures.samples i) (items i))
     ∙ volume_of_cells v.size v.k v.cells volume.cells (volume.count ∙ ap (count_from v.size) c.requires)
     ∙ sym (single v c.requires)
+
+pub from_bytes-requires-clause-small : goal.from_bytes-requires-clause-small
+from_bytes-requires-clause-small c = subst IsSmall (sym c.size-size.ensures.size) c.size-size.ensures.volume.small

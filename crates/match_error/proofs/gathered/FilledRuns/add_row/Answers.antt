@@ -37,3 +37,15 @@ cells-preserved c =
 
 pub returns-clause-adds : goal.returns-clause-adds
 returns-clause-adds c = grind (arith, common_steps)
+
+pub cells-smaller-then-n-gt0 : goal.cells-smaller-then-n-gt0
+cells-smaller-then-n-gt0 c = omega arith
+
+pub add_run-requires-clause-runs : goal.add_run-requires-clause-runs
+add_run-requires-clause-runs c = c.cells.invariant.runs
+
+pub overflow_add-x : goal.overflow_add-x
+overflow_add-x c = omega arith
+
+pub overflow_add-x-else-n-gt0 : goal.overflow_add-x-else-n-gt0
+overflow_add-x-else-n-gt0 c = omega arith

@@ -57,3 +57,9 @@ returns-then-is_exact-clause-bound c = grind (arith, common_steps)
 
 pub run_sum-sum-requires-clause-run : goal.run_sum-sum-requires-clause-run
 run_sum-sum-requires-clause-run c = grind (arith, common_steps)
+
+pub run_sum-sum-requires-clause-sources : goal.run_sum-sum-requires-clause-sources
+run_sum-sum-requires-clause-sources c = c.requires.fits.sources
+
+pub run_sum-sum-requires-clause-front : goal.run_sum-sum-requires-clause-front
+run_sum-sum-requires-clause-front c = c.front_index-front.ensures

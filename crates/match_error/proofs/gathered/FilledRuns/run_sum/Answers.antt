@@ -12,3 +12,6 @@ ssd-requires-clause-within_limit c =
     let few : c.args.run.now.w ≤ GREATEST_AXIS = omega (arith, run.row.columns_in, small.axes.w) in
     let long : length c.new_bytes-new.result.now ≤ 24576 = omega (arith, c.new_bytes-new.ensures.len, mul-le-mul c.requires.volume.samples.1 few) in
     omega (arith, long, length-take {A = ℕ})
+
+pub ssd-requires-clause-same_length : goal.ssd-requires-clause-same_length
+ssd-requires-clause-same_length c = omega arith

@@ -37,3 +37,9 @@ box_count-requires-clause-rows c = grind (arith, common_steps)
 
 pub box_count-requires-clause-frames : goal.box_count-requires-clause-frames
 box_count-requires-clause-frames c = grind (arith, common_steps)
+
+pub returns-in_default-clause-small : goal.returns-in_default-clause-small
+returns-in_default-clause-small c = c.filled_count.ensures.small
+
+pub returns-in_default-clause-count : goal.returns-in_default-clause-count
+returns-in_default-clause-count c = c.filled_count.ensures.count

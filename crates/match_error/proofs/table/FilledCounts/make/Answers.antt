@@ -47,3 +47,12 @@ nonzero_rem-row c = has_rows c.args.rect.now.size.h c.args.rect.now.size.f c.loo
 
 pub overflow_mul-row-end : goal.overflow_mul-row-end
 overflow_mul-row-end c = omega (arith, few_rows c.args.canvas.now.map c.args.rect.now c.map-map.ensures.canvas.map.small c.requires.inside)
+
+pub add_row-requires-clause-above : goal.add_row-requires-clause-above
+add_row-requires-clause-above c = omega arith
+
+pub overflow_mul-across : goal.overflow_mul-across
+overflow_mul-across c = omega arith
+
+pub overflow_cast-row : goal.overflow_cast-row
+overflow_cast-row c = omega arith

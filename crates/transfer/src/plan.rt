@@ -2,7 +2,7 @@
 use block_strips::QuiltPlan;
 
 /// How blocks are laid.
-#[derive(Clone, Copy, Drop, PartialEq, Eq)]
+#[derive(Clone, Copy, Drop)]
 pub struct TransferPlan {
     /// Where blocks lie, and by how much more than the best a block may differ.
     pub quilt: QuiltPlan,

@@ -1,4 +1,3 @@
-use Rattle.std.proofs.lemmas.Grind.{common_steps}
 use Rattle.std.proofs.Common.{◌≡◌, ◌<◌, ◌+◌, ◌-◌, drop, length, sym, subst, arith, length-take, length-drop}
 use Rattle.cost_windows.specs.Slides.{number_if, row_offset, row_start}
 use Rattle.cost_windows.proofs.Rows.{row_before, row_more, rows_apart, rows_put}
@@ -35,4 +34,4 @@ pub returns-clause-others : goal.returns-clause-others
 returns-clause-others c = λ i none. c.loop-row.invariant.others i (λ r k less lt e. none r k (omega (arith, c.loop-row.auto.row-end)) lt e)
 
 pub returns-clause-put : goal.returns-clause-put
-returns-clause-put c = grind (arith, common_steps)
+returns-clause-put c = λ row k below lt. c.loop-row.invariant.put row k (omega (arith, below, c.loop-row-test.false)) lt

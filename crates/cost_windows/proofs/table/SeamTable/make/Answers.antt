@@ -3,13 +3,15 @@ use Rattle.std.proofs.Common.{◌≡◌, ◌∙◌, get_or, ap, sym, subst, arit
 use Rattle.std.proofs.lemmas.List.{with_items_is}
 use Rattle.cells.specs.Distances.{distance}
 use Rattle.cells.specs.Places.{raster_index, spot}
-use Rattle.map_canvas.specs.Maps.{map_at}
+use Rattle.map_canvas.specs.Maps.{map_at, SourceMap}
 use Rattle.cost_windows.specs.Windows.{window_at}
 use Rattle.boxes.specs.Pairs.{AreCounts}
 use Rattle.cost_windows.specs.Slides.{HoldsBlock}
-use Rattle.cost_windows.specs.Tables.{IsRight, corners}
+use Rattle.cost_windows.specs.Tables.{IsRight, corners, IsWindow}
 use Rattle.cost_windows.proofs.Changes.{right_of}
 use Rattle.cost_windows.proofs.RowTops.{no_row_beside_all}
+use Rattle.cells.specs.declared.place.Size.{Size}
+use Rattle.cells.specs.Boxes.{HasCells}
 use Rattle.cost_windows.proofs.table.SeamTable.make.Goals as goal
 
 pub refresh_tops-requires-clause-others : goal.refresh_tops-requires-clause-others
@@ -43,19 +45,25 @@ pub refresh-requires-clause-scratch : goal.refresh-requires-clause-scratch
 refresh-requires-clause-scratch c = grind (arith, common_steps)
 
 pub refresh-requires-clause-inside : goal.refresh-requires-clause-inside
-refresh-requires-clause-inside c = grind (arith, common_steps)
+refresh-requires-clause-inside c =
+    subst (λ (size : Size). HoldsBlock size c.whole-block.result) (c.corners-corners.ensures.corners ∙ ap (λ (output : Size). corners output c.args.window) c.size-output.ensures.size) c.whole-block.ensures.inside
 
 pub refresh_tops-requires-clause-some : goal.refresh_tops-requires-clause-some
-refresh_tops-requires-clause-some c = grind (arith, common_steps)
+refresh_tops-requires-clause-some c =
+    let axes = c.corners-corners.ensures.small.axes in
+    subst HasCells (sym c.whole-block.ensures.size) (record { w = axes.w.0; h = axes.h.0; f = axes.f.0 })
 
 pub refresh-requires-clause-window : goal.refresh-requires-clause-window
-refresh-requires-clause-window c = grind (arith, common_steps)
+refresh-requires-clause-window c =
+    subst (λ (m : SourceMap). IsWindow m.size c.args.window) (sym c.map-map.ensures.map) c.requires.window
 
 pub refresh_tops-requires-clause-small : goal.refresh_tops-requires-clause-small
-refresh_tops-requires-clause-small c = grind (arith, common_steps)
+refresh_tops-requires-clause-small c = c.corners-corners.ensures.small
 
 pub refresh-requires-clause-some : goal.refresh-requires-clause-some
-refresh-requires-clause-some c = grind (arith, common_steps)
+refresh-requires-clause-some c =
+    let axes = c.corners-corners.ensures.small.axes in
+    subst HasCells (sym c.whole-block.ensures.size) (record { w = axes.w.0; h = axes.h.0; f = axes.f.0 })
 
 pub cells-requires-2 : goal.cells-requires-2
 cells-requires-2 c = grind (arith, common_steps)

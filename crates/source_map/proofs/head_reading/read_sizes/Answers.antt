@@ -1,5 +1,5 @@
 use Rattle.std.proofs.lemmas.Grind.{common_steps}
-use Rattle.std.proofs.Common.{◌<◌, ◌+◌, [], ◌∷◌, length, subst, sym, ap, arith}
+use Rattle.std.proofs.Common.{◌<◌, ◌+◌, [], ◌∷◌, length, subst, sym, ap, arith, ◌≡◌}
 use Rattle.std.proofs.lemmas.List.{length-append}
 use Rattle.std.proofs.lemmas.Result.{err_from_is_err_and}
 use Rattle.shelf_core.proofs.FileLaws.{only_reads_same, only_reads_then}
@@ -48,3 +48,9 @@ loop-i-preserved g c =
 
 pub loop-i-init : goal.loop-i-init
 loop-i-init g c = grind (arith, common_steps)
+
+pub returns-clause-answer : goal.returns-clause-answer
+returns-clause-answer g c =
+    let state = g.S.Shelf.state in
+    let all : c.loop-i.i ≡ c.args.count = omega (arith, c.loop-i-test.false, c.loop-i.auto.i-end c.requires.some) in
+    subst (λ n. Found c.args.name.now c.args.file.now.at (state c.loop-i.shelf) c.loop-i.file (list_read size_read n) c.loop-i.sizes) all c.loop-i.invariant.found

@@ -1,13 +1,14 @@
-use Rattle.std.proofs.Common.{◌<◌, length, ap, subst, sym, arith}
+use Rattle.std.proofs.Common.{◌<◌, length, ap, subst, sym, arith, ◌≡◌}
 use Rattle.std.proofs.lemmas.Result.{err_from_is_err_and}
-use Rattle.std.specs.Prelude.{Err}
+use Rattle.std.specs.Prelude.{Err, All, IsSomeAnd}
 use Rattle.shelf_core.proofs.FileLaws.{only_reads_then}
 use Rattle.cells.specs.Places.{cell_count}
-use Rattle.source_map.specs.MapFiles.{source_read}
+use Rattle.source_map.specs.MapFiles.{source_read, IsInSamples}
 use Rattle.source_map.specs.Readings.{Found, list_read}
 use Rattle.source_map.specs.Waiting.{AreSourcesIn}
 use Rattle.source_map.proofs.FieldLaws.{first_stops, lifted, list_stops}
-use Rattle.source_map.proofs.SourceLists.{map_end}
+use Rattle.source_map.proofs.SourceLists.{map_end, sources_end}
+use Rattle.map_canvas.specs.Maps.{IsMap, SourceMap}
 use Rattle.source_map.proofs.source_reading.read_sources.Goals as goal
 
 pub reading-preserved : goal.reading-preserved
@@ -50,3 +51,19 @@ returns-in_err-read_more-clause-answer g c =
     (list_stops (Unit {0}) name place (length front) count read a b d c.reading.file c.read_more.new.file front e
     more c.reading.invariant.reads stops.reads c.reading.invariant.found
     (lifted (Unit {0}) name c.reading.file.at read b d c.read_more.new.file (Err e) stops.stops)))
+
+pub returns-clause-map : goal.returns-clause-map
+returns-clause-map g c =
+    let all : length c.reading.sources.items ≡ cell_count c.args.size = omega (arith, c.reading.invariant.few, c.len.ensures, c.reading-test.false, c.cells-count.ensures) in
+    subst IsMap (sym c.from_sources.ensures) (record { small = c.requires.small; count = all; sources = c.reading.invariant.sources.0 })
+
+pub returns-clause-inside : goal.returns-clause-inside
+returns-clause-inside g c =
+    subst (λ (m : SourceMap). All (λ source. IsSomeAnd source (IsInSamples c.args.samples.now)) m.sources) (sym c.from_sources.ensures) c.reading.invariant.sources.1
+
+pub returns-clause-answer : goal.returns-clause-answer
+returns-clause-answer g c =
+    let state = g.S.Shelf.state in
+    let all : length c.reading.sources.items ≡ cell_count c.args.size = omega (arith, c.reading.invariant.few, c.len.ensures, c.reading-test.false, c.cells-count.ensures) in
+    sources_end c.args.name.now c.args.file.now.at (length c.reading.sources.items) (cell_count c.args.size) (source_read c.args.version c.args.samples.now) c.args.size (state c.args.shelf.now) (state c.reading.shelf)
+    c.reading.file c.reading.sources.items c.from_sources.result all c.from_sources.ensures c.reading.invariant.reads c.reading.invariant.found

@@ -1,4 +1,4 @@
-use Rattle.std.proofs.Common.{◌*◌, ◌+◌, ◌++◌, [], ◌∷◌, refl, sym, ap, ◌∙◌, subst, arith}
+use Rattle.std.proofs.Common.{◌*◌, ◌+◌, ◌++◌, [], ◌∷◌, refl, sym, ap, ◌∙◌, subst, arith, ◌≡◌}
 use Rattle.std.proofs.lemmas.List.Elements.{All-push}
 use Rattle.std.specs.Prelude.{Option, Some, All, IfSome, IsSomeAnd}
 use Rattle.cells.specs.declared.place.At.{At}
@@ -30,3 +30,12 @@ loop-n-preserved c =
         subst (All IsIn) (sym all) (All-push IsIn longer (Some from) (so.sources sound).1 (one_in samples 1 size from refl c.at-size.ensures.size c.in-Some.ensures.inside)),
       );
     }
+
+pub new-requires : goal.new-requires
+new-requires c =
+    inside_source c.at-size.result c.at-size.ensures.axes c.in-Some.from c.in-Some.ensures.inside
+
+pub returns-clause-grows : goal.returns-clause-grows
+returns-clause-grows c =
+    let all : c.loop-n.n ≡ c.args.most = omega (arith, c.loop-n-test.false, c.loop-n.auto.n-end) in
+    subst (λ n. ExtendsIn (source_read One c.args.samples.now) c.args.waiting.now (6 * n) c.args.sources.now.items c.loop-n.sources.items) all c.loop-n.invariant.grows

@@ -1,6 +1,7 @@
-use Rattle.std.proofs.Common.{◌≡◌, ◌<◌, ◌+◌, ◌*◌, ◌/◌, ◌%◌, ◌≤◌, ◌∙◌, refl, ap, arith, below_more, w64, to_z, of_z}
-use Rattle.std.proofs.lemmas.Int.{ints}
+use Rattle.std.proofs.Common.{◌≡◌, ◌<◌, ◌+◌, ◌*◌, ◌/◌, ◌%◌, ◌≤◌, ◌∙◌, refl, ap, arith, below_more, w64, to_z, of_z, rules, sym, subst}
+use Rattle.std.proofs.lemmas.Int.{ints, to_z-of_z}
 use mathlib.Core.Bool.{false≢true}
+use Rattle.std.specs.Prelude.{pos, ◌≤ℤ◌}
 use Rattle.limits.specs.declared.bounds.TheConstants.{MOST_CELLS}
 use Rattle.cells.specs.Places.{cell_count}
 use Rattle.boxes.specs.Pairs.{at_index, pairs_before}
@@ -16,6 +17,8 @@ use Rattle.cut_check.specs.Records.{IsBalanced, setting}
 use Rattle.cut_check.proofs.Cells.{counts_in}
 use Rattle.cut_check.proofs.Parts.{one_part, sum_fits}
 use Rattle.cut_check.proofs.RowCells.{row_ends}
+use mir.Val.{SFits}
+use Rattle.cut_check.specs.Steps.{most_leaving}
 use Rattle.cut_check.proofs.balance.add_row.Goals as goal
 
 pub pairs_before-before-requires-clause-counts : goal.pairs_before-before-requires-clause-counts
@@ -29,7 +32,8 @@ loop-i-init c =
     let size = c.args.cut.now.placement.rect.size in
     let was = c.requires.summed in
     let few : size.w * c.args.row + size.w ≤ MOST_CELLS = omega (arith, row_ends size c.args.row c.requires.row, c.requires.lies.small.cells) in
-    let exact : to_z w64 (of_z w64 c.args.sum) ≡ c.args.sum = omega (arith, ints, was.low, was.high, few) in
+    let fits : SFits w64 c.args.sum = search rules in
+    let exact = to_z-of_z w64 c.args.sum fits in
     record {
       from = omega arith;
       few = few;
@@ -37,7 +41,7 @@ loop-i-init c =
       balanced = was.balanced;
       sum = λ sample part parts. exact ∙ was.total sample part parts;
       low = omega (arith, ints, exact, was.low);
-      high = omega (arith, ints, exact, was.high);
+      high = subst (λ sum. sum ≤ℤ pos (most_leaving * (size.w * c.args.row))) (sym exact) was.high;
     }
 
 pub part_of-requires-clause-here : goal.part_of-requires-clause-here

@@ -1,6 +1,5 @@
-use Rattle.std.proofs.lemmas.Grind.{common_steps}
-use Rattle.std.proofs.Common.{◌≡◌, ◌∙◌, List, refl, sym, ap, subst, arith, w32, to_z, of_z}
-use Rattle.std.proofs.lemmas.Int.{ints}
+use Rattle.std.proofs.Common.{◌≡◌, ◌∙◌, List, refl, sym, ap, subst, w32, to_z, of_z, rules}
+use Rattle.std.proofs.lemmas.Int.{to_z-of_z}
 use Rattle.std.specs.Prelude.{pos}
 use mathlib.Core.Bool.{false≢true}
 use Rattle.map_canvas.specs.Maps.{IsFilled}
@@ -9,8 +8,10 @@ use Rattle.boxes.proofs.Indices.{at_index_is}
 use Rattle.boxes.proofs.PairNumbers.{walk_in}
 use Rattle.costs.specs.Lawful.{StaysOld}
 use Rattle.cut_check.specs.declared.record.Flow.{Flow}
-use Rattle.cut_check.specs.Flows.{leaving}
+use Rattle.cut_check.specs.Flows.{leaving, IsBetween, minus_of}
 use Rattle.cut_check.proofs.Cells.{in_box_at, unbalanced_free}
+use mir.Val.{SFits}
+use Rattle.cut_check.specs.Steps.{most_leaving, LiesIn}
 use Rattle.cut_check.proofs.balance.part_of.Goals as goal
 
 pub leaving-out-requires-clause-inside : goal.leaving-out-requires-clause-inside
@@ -23,7 +24,8 @@ returns-then-out-eq0-clause-balanced c = λ sample. (
       let cut = c.args.cut.now in
       let size = cut.placement.rect.size in
       let at = c.args.walk.at in
-      let near : to_z w32 (of_z w32 c.leaving-out.result) ≡ c.leaving-out.result = omega (arith, ints, c.leaving-out.ensures.near) in
+      let fits : SFits w32 c.leaving-out.result = search rules in
+      let near = to_z-of_z w32 c.leaving-out.result fits in
       let is = c.leaving-out.ensures.is ∙ ap (λ (flows : List Flow). leaving size flows at.x at.y at.f) c.as_slice.ensures ∙ sym (at_index_is size (leaving size cut.flows) c.args.i at.x at.y at.f c.requires.here.at) in
       sym is ∙ sym near ∙ ap (to_z w32) c.if-out-eq0.true,
   λ _. refl,
@@ -34,7 +36,8 @@ returns-then-out-eq0-clause-part c =
     let cut = c.args.cut.now in
     let size = cut.placement.rect.size in
     let at = c.args.walk.at in
-    let near : to_z w32 (of_z w32 c.leaving-out.result) ≡ c.leaving-out.result = omega (arith, ints, c.leaving-out.ensures.near) in
+    let fits : SFits w32 c.leaving-out.result = search rules in
+    let near = to_z-of_z w32 c.leaving-out.result fits in
     let is = c.leaving-out.ensures.is ∙ ap (λ (flows : List Flow). leaving size flows at.x at.y at.f) c.as_slice.ensures ∙ sym (at_index_is size (leaving size cut.flows) c.args.i at.x at.y at.f c.requires.here.at) in
     record { here = λ _. sym (sym is ∙ sym near ∙ ap (to_z w32) c.if-out-eq0.true); elsewhere = λ _. refl }
 
@@ -50,7 +53,8 @@ returns-then-stays_old-clause-part c =
     let cut = c.args.cut.now in
     let size = cut.placement.rect.size in
     let at = c.args.walk.at in
-    let near : to_z w32 (of_z w32 c.leaving-out.result) ≡ c.leaving-out.result = omega (arith, ints, c.leaving-out.ensures.near) in
+    let fits : SFits w32 c.leaving-out.result = search rules in
+    let near = to_z-of_z w32 c.leaving-out.result fits in
     let is = c.leaving-out.ensures.is ∙ ap (λ (flows : List Flow). leaving size flows at.x at.y at.f) c.as_slice.ensures ∙ sym (at_index_is size (leaving size cut.flows) c.args.i at.x at.y at.f c.requires.here.at) in
     let old = subst (StaysOld c.args.canvas.now.map cut.placement c.args.held.now) c.box_cell-p.ensures (c.stays_old.ensures.0 c.if-stays_old.true) in
     record { here = λ _. near ∙ is; elsewhere = λ none. absurd (none old) }
@@ -83,7 +87,10 @@ returns-else-is_filled-clause-part c = record {
 }
 
 pub box_cell-p-requires-clause-lies : goal.box_cell-p-requires-clause-lies
-box_cell-p-requires-clause-lies c = grind (arith, common_steps)
+box_cell-p-requires-clause-lies c =
+    subst (λ m. LiesIn m c.args.cut.now.placement) (sym c.map.ensures.map) c.requires.lies
 
 pub returns-then-stays_old-clause-near : goal.returns-then-stays_old-clause-near
-returns-then-stays_old-clause-near c = grind (arith, common_steps)
+returns-then-stays_old-clause-near c =
+    let fits : SFits w32 c.leaving-out.result = search rules in
+    subst (IsBetween (minus_of most_leaving) (pos most_leaving)) (sym (to_z-of_z w32 c.leaving-out.result fits)) c.leaving-out.ensures.near

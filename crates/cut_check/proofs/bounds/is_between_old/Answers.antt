@@ -1,5 +1,5 @@
-use Rattle.std.proofs.Common.{◌≡◌, ◌∙◌, refl, sym, arith, rules, subst, w16, ℕ}
-use Rattle.std.proofs.lemmas.Int.{ints, to_z-of_z}
+use Rattle.std.proofs.Common.{◌≡◌, ◌∙◌, refl, sym, rules, subst, w16, ℕ}
+use Rattle.std.proofs.lemmas.Int.{to_z-of_z}
 use Rattle.std.specs.Prelude.{pos, ◌-ℤ◌}
 use mathlib.Core.Bool.{false≢true}
 use Rattle.cells.specs.Distances.{distance}
@@ -14,7 +14,8 @@ returns-then-passes_on c =
     let v = c.args.sample.now in
     let cost = seam (distance v) c.args.axis c.args.a c.args.new_b in
     let within = c.is_within_seam.ensures.0 c.if-not-is_within_seam.false in
-    let between : IsBetween (minus_of cost) (pos cost) c.args.flow.x = (omega (arith, ints, within.0), omega (arith, ints, within.1)) in
+    let fits : SFits w16 c.args.flow.x = search rules in
+    let between = subst (IsBetween (minus_of cost) (pos cost)) (to_z-of_z w16 c.args.flow.x fits) within in
     let is = c.passes_on.ensures.0 c.if-passes_on.true in (
       λ _. passes_between v c.args.axis c.args.a c.args.b c.args.new_a c.args.new_b c.args.flow is.1 c.requires.next is.0 between,
       λ _. refl,

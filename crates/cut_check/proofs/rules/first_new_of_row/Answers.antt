@@ -5,6 +5,7 @@ use Rattle.cells.specs.declared.place.At.{At}
 use Rattle.map_canvas.specs.Choices.{box_cell}
 use Rattle.costs.specs.Lawful.{StaysOld}
 use Rattle.cut_check.proofs.RowCells.{row_ends}
+use Rattle.cut_check.specs.Steps.{LiesIn}
 use Rattle.cut_check.proofs.rules.first_new_of_row.Goals as goal
 
 pub loop-i-init : goal.loop-i-init
@@ -52,3 +53,7 @@ loop-i-preserved c =
 
 pub returns-clause-hold : goal.returns-clause-hold
 returns-clause-hold c = λ k lt. c.loop-i.invariant.before k (omega (arith, lt, c.loop-i-test.false))
+
+pub box_cell-p-requires-clause-lies : goal.box_cell-p-requires-clause-lies
+box_cell-p-requires-clause-lies c =
+    subst (λ m. LiesIn m c.args.cut.now.placement) (sym c.map.ensures.map) c.requires.lies

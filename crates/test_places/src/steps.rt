@@ -115,7 +115,7 @@ fn expect_step(
 {
     assert!(rt; has_patch(mode));
     let step = step_at(alloc, mode, canvas, sample, number)?;
-    assert!(rt; step == *expected, "draw {number}: {step:?}");
+    assert!(rt; step == *expected, "{mode:?}");
     Ok(())
 }
 

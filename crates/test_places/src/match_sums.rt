@@ -67,7 +67,8 @@ fn assert_error_over(
     let found = overlap_error(canvas, sample, &placement);
     let within = error_sum_within(None, canvas, sample, &placement, 2400);
     let below = error_sum_within(None, canvas, sample, &placement, 2399);
-    assert!(rt; found == error && within == Some(sum) && below.is_none() == (sum > 2399));
+    assert!(rt; found.sum == sum && found.count == count);
+    assert!(rt; within == Some(sum) && below.is_none() == (sum > 2399));
     assert_sum_over_runs(rt, alloc, canvas, sample, sum)
 }
 

@@ -30,3 +30,6 @@ past-requires-clause-from t c = grind (arith, common_steps)
 
 pub returns-then-has : goal.returns-then-has
 returns-then-has t c = grind (arith, common_steps)
+
+pub overflow_add-number : goal.overflow_add-number
+overflow_add-number t c = grind (arith, common_steps)

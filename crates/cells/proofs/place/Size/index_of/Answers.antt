@@ -22,3 +22,15 @@ returns-then-x-self-clause-index c = grind (arith, common_steps)
 
 pub returns-clause-index : goal.returns-clause-index
 returns-clause-index c = grind (arith, common_steps)
+
+pub overflow_cast-result-4 : goal.overflow_cast-result-4
+overflow_cast-result-4 c = grind (arith, common_steps)
+
+pub overflow_cast-result-2 : goal.overflow_cast-result-2
+overflow_cast-result-2 c = grind (arith, common_steps)
+
+pub overflow_cast-result-5 : goal.overflow_cast-result-5
+overflow_cast-result-5 c = grind (arith, common_steps)
+
+pub overflow_cast-result-3 : goal.overflow_cast-result-3
+overflow_cast-result-3 c = grind (arith, common_steps)

@@ -4,3 +4,6 @@ use Rattle.cells.proofs.sizes.Sizes.at.Goals as goal
 
 pub returns-clause-axes : goal.returns-clause-axes
 returns-clause-axes c = grind (arith, common_steps)
+
+pub bounds-as_slice-part : goal.bounds-as_slice-part
+bounds-as_slice-part c = grind (arith, common_steps)

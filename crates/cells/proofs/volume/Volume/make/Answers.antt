@@ -17,3 +17,6 @@ returns c =
 
 pub invariant_of-result : goal.invariant_of-result
 invariant_of-result c = grind (arith, common_steps)
+
+pub overflow_mul-k : goal.overflow_mul-k
+overflow_mul-k c = grind (arith, common_steps)

@@ -37,3 +37,6 @@ returns c =
 
 pub invariant_of-self : goal.invariant_of-self
 invariant_of-self c = grind (arith, common_steps)
+
+pub overflow_mul-k : goal.overflow_mul-k
+overflow_mul-k c = grind (arith, common_steps)

@@ -1,5 +1,4 @@
 use Rattle.std.proofs.Common.{arith, ◌≡◌, ◌<◌, length, get_or}
-use Rattle.std.proofs.lemmas.Grind.{common_steps}
 use Rattle.loop_walk.specs.Rests.{rest_of}
 use Rattle.loop_walk.proofs.ProductLaws.{set_more}
 use Rattle.loop_walk.proofs.rests.fill_rests.Goals as goal

@@ -53,14 +53,10 @@ fn set_against(job: &LoopJob, sample: &Volume) -> Result<(), Fault>
     Ok(())
 }
 
-// The frames of a walk are numbers of 16 bits, by their type, and the entries of tables are numbers of 64.
-// They are read only to show that to the check.
+// Shows that the frames of a walk have 16 bits and the entries of tables 64, as their types say.
 fn are_wide(walk: &[u16], tables: &[u64])
     ensures { AreWide walk.now tables.now }
-{
-    let _walk = walk;
-    let _tables = tables;
-}
+{}
 
 // The least closed walk of the asked length through the frames of a sample, with its record.
 fn find_loop(alloc: Global, job: &LoopJob, sample: &Volume) -> Result<LoopRecord, LoopError>
@@ -74,6 +70,7 @@ fn find_loop(alloc: Global, job: &LoopJob, sample: &Volume) -> Result<LoopRecord
 {
     let table = distances(alloc, sample)?;
     let costs = filtered(alloc, &table, job.taps, job.gap)?;
+    drop(table);
     let found = least_loop(alloc, &costs, job.length)?;
     are_wide(found.walk.as_slice(), found.tables.as_slice());
     Ok(found)

@@ -36,7 +36,7 @@ pub struct Grown {
 }
 
 /// Why nothing is grown.
-#[derive(Clone, Copy, Debug, Drop, PartialEq, Eq)]
+#[derive(Clone, Copy, Drop)]
 pub enum GrowError {
     /// The boxes have more than `limits::MOST_BOX_CELLS` cells, all together: so many with the first box
     /// that is too much.

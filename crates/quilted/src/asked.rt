@@ -7,7 +7,7 @@ use map_canvas::Canvas;
 use std::alloc::AllocError;
 
 /// A quilt that is asked for.
-#[derive(Clone, Copy, Drop, PartialEq, Eq)]
+#[derive(Clone, Copy, Drop)]
 pub struct QuiltRun {
     /// The size of the output, in cells, of one frame.
     pub size: Size,
@@ -31,7 +31,7 @@ pub struct Quilted {
 }
 
 /// Why nothing is quilted.
-#[derive(Clone, Copy, Debug, Drop, PartialEq, Eq)]
+#[derive(Clone, Copy, Drop)]
 pub enum QuiltError {
     /// The boxes have more than `limits::MOST_BOX_CELLS` cells, all together: so many with the first box
     /// that is too much.

@@ -68,8 +68,8 @@ module _ (n c len : ℕ) (lt : c < n) (less : len < n) where
     room = omega arith;
     on = λ i le. let t = at i le in on_axis_some n (coordinate true n (pos c) 1 (pos i)) t.from t.to;
     steps = steps_wrapped;
-    follows = λ i le. let t = at i (omega arith) in
-        same_turn n (pos c +ℤ ((pos i +ℤ pos 1) -ℤ pos 1)) (coordinate true n (pos c) 1 (pos i) +ℤ pos 1) (omega (arith, ints)) (omega (arith, ints)) (omega (arith, ints, t.from)) (omega (arith, ints, t.to)) (next_apart (pos c +ℤ (pos i -ℤ pos 1)) (coordinate true n (pos c) 1 (pos i)) (pos c +ℤ ((pos i +ℤ pos 1) -ℤ pos 1)) (omega (arith, ints)) t.by);
+    follows = λ i le. let t = at i (omega arith) in let w = one_on (coordinate true n (pos c) 1 (pos i)) t.from t.to in
+        same_turn n (pos c +ℤ ((pos i +ℤ pos 1) -ℤ pos 1)) (coordinate true n (pos c) 1 (pos i) +ℤ pos 1) (omega (arith, ints)) (omega (arith, ints)) w.0 w.1 (next_apart (pos c +ℤ (pos i -ℤ pos 1)) (coordinate true n (pos c) 1 (pos i)) (pos c +ℤ ((pos i +ℤ pos 1) -ℤ pos 1)) (omega (arith, ints)) t.by);
     stays = λ q on. let b = on_axis_bounds n q on in turn_is n (q +ℤ pos 0) q (omega (arith, ints, b.0)) (omega (arith, ints, b.1)) b.0 b.1 (inl (omega (arith, ints)));
     place = λ q j on e less'. place_of q j on e less';
     next = λ q r j on on' e s less'. let b = on_axis_bounds n q on in let b' = on_axis_bounds n r on' in
@@ -78,6 +78,13 @@ module _ (n c len : ℕ) (lt : c < n) (less : len < n) where
         back_of q r j b.0 b.1 b'.0 b'.1 (step_apart r b'.0 b'.1) e s less' (cases_lt 0 j);
   }
     where
+      -- said of plain numbers, for what is asked of a turn and of a step
+      one_on : (q : ℤ) → pos 0 ≤ℤ q → q <ℤ pos n → ((pos 0 -ℤ pos n) ≤ℤ (q +ℤ pos 1)) × ((q +ℤ pos 1) <ℤ pos (n + n))
+      one_on q from to = (omega (arith, ints), omega (arith, ints))
+
+      in_box : (j : ℕ) → j < len → (pos 0 ≤ℤ pos j) × ((pos j +ℤ pos 1) ≤ℤ pos len) × (pos j <ℤ pos n)
+      in_box j less' = (omega (arith, ints), omega (arith, ints), omega (arith, ints))
+
       next_apart : (z q w : ℤ) → w ≡ z +ℤ pos 1 → IsApart n q z → IsApart n w (q +ℤ pos 1)
       next_apart z q w is (inl e) = inl (omega (arith, ints))
       next_apart z q w is (inr (inl e)) = inr (inr (omega (arith, ints)))
@@ -98,66 +105,70 @@ module _ (n c len : ℕ) (lt : c < n) (less : len < n) where
           moved : IsApart n q (pos c +ℤ step_of true n (pos c) q) → IsApart n q (pos c +ℤ ((pos 1 +ℤ pos j) -ℤ pos 1))
           moved = subst (λ z. IsApart n q (pos c +ℤ z)) (e ∙ (omega (arith, ints)))
 
+      -- what is a step from a coordinate is so far from where that is taken, too
+      moved_on : (q r w d z : ℤ) → z ≡ w +ℤ d → pos 0 ≤ℤ r → r <ℤ pos n → (pos 0 -ℤ pos n) ≤ℤ z → z <ℤ pos (n + n) → IsApart n r (q +ℤ d) → IsApart n q w → IsApart n r z
+      moved_on q r w d z is a b low high (inl e) (inl g) = inl (omega (arith, ints))
+      moved_on q r w d z is a b low high (inl e) (inr (inl g)) = inr (inl (omega (arith, ints)))
+      moved_on q r w d z is a b low high (inl e) (inr (inr g)) = inr (inr (omega (arith, ints)))
+      moved_on q r w d z is a b low high (inr (inl e)) (inl g) = inr (inl (omega (arith, ints)))
+      moved_on q r w d z is a b low high (inr (inl e)) (inr (inl g)) = absurd (omega (arith, ints))
+      moved_on q r w d z is a b low high (inr (inl e)) (inr (inr g)) = inl (omega (arith, ints))
+      moved_on q r w d z is a b low high (inr (inr e)) (inl g) = inr (inr (omega (arith, ints)))
+      moved_on q r w d z is a b low high (inr (inr e)) (inr (inl g)) = inl (omega (arith, ints))
+      moved_on q r w d z is a b low high (inr (inr e)) (inr (inr g)) = absurd (omega (arith, ints))
+
       -- the step of the next coordinate
-      step_next : (q r s t : ℤ) → pos 0 ≤ℤ q → q <ℤ pos n → pos 0 ≤ℤ r → r <ℤ pos n → pos 0 ≤ℤ t → t <ℤ pos n → pos 0 ≤ℤ s → (s +ℤ pos 1) ≤ℤ pos len → IsApart n r (q +ℤ pos 1) → IsApart n s (q -ℤ pos c) → IsApart n t (r -ℤ pos c) → t ≡ s +ℤ pos 1
-      step_next q r s t a b a' b' a'' b'' from to (inl e) (inl g) (inl h) = omega (arith, ints)
-      step_next q r s t a b a' b' a'' b'' from to (inl e) (inl g) (inr (inl h)) = absurd (omega (arith, ints))
-      step_next q r s t a b a' b' a'' b'' from to (inl e) (inl g) (inr (inr h)) = absurd (omega (arith, ints))
-      step_next q r s t a b a' b' a'' b'' from to (inl e) (inr (inl g)) h = absurd (omega (arith, ints))
-      step_next q r s t a b a' b' a'' b'' from to (inl e) (inr (inr g)) (inl h) = absurd (omega (arith, ints))
-      step_next q r s t a b a' b' a'' b'' from to (inl e) (inr (inr g)) (inr (inl h)) = absurd (omega (arith, ints))
-      step_next q r s t a b a' b' a'' b'' from to (inl e) (inr (inr g)) (inr (inr h)) = omega (arith, ints)
-      step_next q r s t a b a' b' a'' b'' from to (inr (inl e)) (inl g) (inl h) = absurd (omega (arith, ints))
-      step_next q r s t a b a' b' a'' b'' from to (inr (inl e)) (inl g) (inr (inl h)) = absurd (omega (arith, ints))
-      step_next q r s t a b a' b' a'' b'' from to (inr (inl e)) (inl g) (inr (inr h)) = omega (arith, ints)
-      step_next q r s t a b a' b' a'' b'' from to (inr (inl e)) (inr (inl g)) h = absurd (omega (arith, ints))
-      step_next q r s t a b a' b' a'' b'' from to (inr (inl e)) (inr (inr g)) h = absurd (omega (arith, ints))
-      step_next q r s t a b a' b' a'' b'' from to (inr (inr e)) g h = absurd (omega (arith, ints))
+      step_next : (q r s t : ℤ) → pos 0 ≤ℤ r → r <ℤ pos n → pos 0 ≤ℤ t → t <ℤ pos n → pos 0 ≤ℤ s → (s +ℤ pos 1) ≤ℤ pos len → IsApart n r (q +ℤ pos 1) → IsApart n s (q -ℤ pos c) → IsApart n t (r -ℤ pos c) → t ≡ s +ℤ pos 1
+      step_next q r s t a b a' b' from to e g h =
+          let on = moved_on q r (pos c +ℤ s) (pos 1) (pos c +ℤ (s +ℤ pos 1)) (omega (arith, ints)) a b (omega (arith, ints)) (omega (arith, ints)) e (by_step q s g) in
+          ⊎_elim (λ is. is) (λ is. absurd (omega (arith, ints))) (combine r t (s +ℤ pos 1) a b (omega (arith, ints)) (omega (arith, ints)) a' b' on h)
+
+      next_by : (r t : ℤ) (j : ℕ) → pos 0 ≤ℤ r → r <ℤ pos n → IsTurned n (r -ℤ pos c) t → t ≡ pos j +ℤ pos 1 → j < len → (j + 1 < len) ⊎ (len ≤ j + 1)
+          → IsSome (on_axis len t) ⊎ ((1 + len < 1 + (len + 1)) × (j + 1 ≡ len) × (r ≡ coordinate true n (pos c) 1 (pos (1 + len))))
+      next_by r t j a b step is less' (inl under) = inl (on_axis_some len t step.from (omega (arith, ints)))
+      next_by r t j a b step is less' (inr last) =
+          inr (omega arith, omega arith, sym (turn_is n (pos c +ℤ (pos (1 + len) -ℤ pos 1)) r (omega (arith, ints)) (omega (arith, ints)) a b (subst (λ z. IsApart n r (pos c +ℤ z)) (is ∙ (omega (arith, ints))) (by_step r t step.by))))
 
       next_of : (q r : ℤ) (j : ℕ) → pos 0 ≤ℤ q → q <ℤ pos n → pos 0 ≤ℤ r → r <ℤ pos n → IsTurned n (r -ℤ pos c) (step_of true n (pos c) r) → r ≡ on_turn n (q +ℤ pos 1) → step_of true n (pos c) q ≡ pos j → j < len → (j + 1 < len) ⊎ (len ≤ j + 1)
           → IsSome (on_axis len (step_of true n (pos c) r)) ⊎ ((1 + len < 1 + (len + 1)) × (j + 1 ≡ len) × (r ≡ coordinate true n (pos c) 1 (pos (1 + len))))
       next_of q r j a b a' b' t e s less' more =
-          let u = turned n (q +ℤ pos 1) (omega (arith, ints)) (omega (arith, ints)) in
+          let w = one_on q a b in
+          let u = turned n (q +ℤ pos 1) w.0 w.1 in
+          let k = in_box j less' in
           let v = step_apart q a b in
-          let is : step_of true n (pos c) r ≡ pos j +ℤ pos 1 = step_next q r (pos j) (step_of true n (pos c) r) a b a' b' t.from t.to (omega (arith, ints)) (omega (arith, ints)) (subst (λ z. IsApart n z (q +ℤ pos 1)) (sym e) u.by) (subst (λ z. IsApart n z (q -ℤ pos c)) s v.by) t.by in
-          ⊎_elim (λ under. inl (on_axis_some len (step_of true n (pos c) r) t.from (omega (arith, ints, is))))
-          (λ last. inr (omega arith, omega arith, sym (turn_is n (pos c +ℤ (pos (1 + len) -ℤ pos 1)) r (omega (arith, ints)) (omega (arith, ints)) a' b' (subst (λ z. IsApart n r (pos c +ℤ z)) (is ∙ (omega (arith, ints))) (by_step r (step_of true n (pos c) r) t.by))))) more
+          let is : step_of true n (pos c) r ≡ pos j +ℤ pos 1 = step_next q r (pos j) (step_of true n (pos c) r) a' b' t.from t.to k.0 k.1 (subst (λ z. IsApart n z (q +ℤ pos 1)) (sym e) u.by) (subst (λ z. IsApart n z (q -ℤ pos c)) s v.by) t.by in
+          next_by r (step_of true n (pos c) r) j a' b' t is less' more
 
       -- that of the one before
-      step_back : (q r s t : ℤ) → pos 0 ≤ℤ q → q <ℤ pos n → pos 0 ≤ℤ r → r <ℤ pos n → pos 0 ≤ℤ t → t <ℤ pos n → pos 0 ≤ℤ s → s <ℤ pos n → IsApart n q (r +ℤ pos 1) → IsApart n s (q -ℤ pos c) → IsApart n t (r -ℤ pos c) → (t +ℤ pos 1 ≡ s) ⊎ ((s ≡ pos 0) × (t +ℤ pos 1 ≡ pos n))
-      step_back q r s t a b a' b' a'' b'' from to (inl e) (inl g) (inl h) = inl (omega (arith, ints))
-      step_back q r s t a b a' b' a'' b'' from to (inl e) (inl g) (inr (inl h)) = absurd (omega (arith, ints))
-      step_back q r s t a b a' b' a'' b'' from to (inl e) (inl g) (inr (inr h)) = inr (omega (arith, ints), omega (arith, ints))
-      step_back q r s t a b a' b' a'' b'' from to (inl e) (inr (inl g)) h = absurd (omega (arith, ints))
-      step_back q r s t a b a' b' a'' b'' from to (inl e) (inr (inr g)) (inl h) = absurd (omega (arith, ints))
-      step_back q r s t a b a' b' a'' b'' from to (inl e) (inr (inr g)) (inr (inl h)) = absurd (omega (arith, ints))
-      step_back q r s t a b a' b' a'' b'' from to (inl e) (inr (inr g)) (inr (inr h)) = inl (omega (arith, ints))
-      step_back q r s t a b a' b' a'' b'' from to (inr (inl e)) (inl g) (inl h) = inr (omega (arith, ints), omega (arith, ints))
-      step_back q r s t a b a' b' a'' b'' from to (inr (inl e)) (inl g) (inr (inl h)) = absurd (omega (arith, ints))
-      step_back q r s t a b a' b' a'' b'' from to (inr (inl e)) (inl g) (inr (inr h)) = absurd (omega (arith, ints))
-      step_back q r s t a b a' b' a'' b'' from to (inr (inl e)) (inr (inl g)) h = absurd (omega (arith, ints))
-      step_back q r s t a b a' b' a'' b'' from to (inr (inl e)) (inr (inr g)) (inl h) = inl (omega (arith, ints))
-      step_back q r s t a b a' b' a'' b'' from to (inr (inl e)) (inr (inr g)) (inr (inl h)) = absurd (omega (arith, ints))
-      step_back q r s t a b a' b' a'' b'' from to (inr (inl e)) (inr (inr g)) (inr (inr h)) = absurd (omega (arith, ints))
-      step_back q r s t a b a' b' a'' b'' from to (inr (inr e)) g h = absurd (omega (arith, ints))
+      turned_back : (q r : ℤ) → IsApart n q (r +ℤ pos 1) → IsApart n r (q +ℤ negsuc 0)
+      turned_back q r (inl e) = inl (omega (arith, ints))
+      turned_back q r (inr (inl e)) = inr (inr (omega (arith, ints)))
+      turned_back q r (inr (inr e)) = inr (inl (omega (arith, ints)))
+
+      step_back : (q r s t : ℤ) → pos 0 ≤ℤ r → r <ℤ pos n → pos 0 ≤ℤ t → t <ℤ pos n → pos 0 ≤ℤ s → s <ℤ pos n → IsApart n q (r +ℤ pos 1) → IsApart n s (q -ℤ pos c) → IsApart n t (r -ℤ pos c) → (t +ℤ pos 1 ≡ s) ⊎ ((s ≡ pos 0) × (t +ℤ pos 1 ≡ pos n))
+      step_back q r s t a b a' b' from to e g h =
+          let on = moved_on q r (pos c +ℤ s) (negsuc 0) (pos c +ℤ (s -ℤ pos 1)) (omega (arith, ints)) a b (omega (arith, ints)) (omega (arith, ints)) (turned_back q r e) (by_step q s g) in
+          ⊎_elim (λ is. inl (omega (arith, ints))) (λ is. inr (omega (arith, ints), omega (arith, ints))) (combine r t (s -ℤ pos 1) a b (omega (arith, ints)) (omega (arith, ints)) a' b' on h)
+
+      back_by : (r t : ℤ) (j : ℕ) → pos 0 ≤ℤ r → r <ℤ pos n → IsTurned n (r -ℤ pos c) t → (t +ℤ pos 1 ≡ pos j) ⊎ ((pos j ≡ pos 0) × (t +ℤ pos 1 ≡ pos n)) → j < len → (0 < j) ⊎ (j ≤ 0)
+          → IsSome (on_axis len t) ⊎ ((1 ≤ 1) × (j ≡ 0) × (r ≡ coordinate true n (pos c) 1 (pos 1 -ℤ pos 1)))
+      back_by r t j a b step (inl is) less' some = inl (on_axis_some len t step.from (omega (arith, ints)))
+      back_by r t j a b step (inr is) less' (inl some) = absurd (omega (arith, ints, is.0))
+      back_by r t j a b step (inr is) less' (inr none) = inr (omega arith, omega arith, sym (turn_is n (pos c +ℤ ((pos 1 -ℤ pos 1) -ℤ pos 1)) r (omega (arith, ints)) (omega (arith, ints)) a b (far (by_step r t step.by))))
+        where
+          far : IsApart n r (pos c +ℤ t) → IsApart n r (pos c +ℤ ((pos 1 -ℤ pos 1) -ℤ pos 1))
+          far (inl g) = inr (inr (omega (arith, ints, is.1)))
+          far (inr (inl g)) = inl (omega (arith, ints, is.1))
+          far (inr (inr g)) = absurd (omega (arith, ints, is.1))
 
       back_of : (q r : ℤ) (j : ℕ) → pos 0 ≤ℤ q → q <ℤ pos n → pos 0 ≤ℤ r → r <ℤ pos n → IsTurned n (r -ℤ pos c) (step_of true n (pos c) r) → q ≡ on_turn n (r +ℤ pos 1) → step_of true n (pos c) q ≡ pos j → j < len → (0 < j) ⊎ (j ≤ 0)
           → IsSome (on_axis len (step_of true n (pos c) r)) ⊎ ((1 ≤ 1) × (j ≡ 0) × (r ≡ coordinate true n (pos c) 1 (pos 1 -ℤ pos 1)))
       back_of q r j a b a' b' t e s less' some =
-          let u = turned n (r +ℤ pos 1) (omega (arith, ints)) (omega (arith, ints)) in
+          let w = one_on r a' b' in
+          let u = turned n (r +ℤ pos 1) w.0 w.1 in
+          let k = in_box j less' in
           let v = step_apart q a b in
-          by (step_back q r (pos j) (step_of true n (pos c) r) a b a' b' t.from t.to (omega (arith, ints)) (omega (arith, ints)) (subst (λ z. IsApart n z (r +ℤ pos 1)) (sym e) u.by) (subst (λ z. IsApart n z (q -ℤ pos c)) s v.by) t.by) some
-        where
-          by : (step_of true n (pos c) r +ℤ pos 1 ≡ pos j) ⊎ ((pos j ≡ pos 0) × (step_of true n (pos c) r +ℤ pos 1 ≡ pos n)) → (0 < j) ⊎ (j ≤ 0)
-              → IsSome (on_axis len (step_of true n (pos c) r)) ⊎ ((1 ≤ 1) × (j ≡ 0) × (r ≡ coordinate true n (pos c) 1 (pos 1 -ℤ pos 1)))
-          by (inl is) some = inl (on_axis_some len (step_of true n (pos c) r) t.from (omega (arith, ints, is)))
-          by (inr is) (inl some) = absurd (omega (arith, ints, is.0))
-          by (inr is) (inr none) = inr (omega arith, omega arith, sym (turn_is n (pos c +ℤ ((pos 1 -ℤ pos 1) -ℤ pos 1)) r (omega (arith, ints)) (omega (arith, ints)) a' b' (far (by_step r (step_of true n (pos c) r) t.by))))
-            where
-              far : IsApart n r (pos c +ℤ step_of true n (pos c) r) → IsApart n r (pos c +ℤ ((pos 1 -ℤ pos 1) -ℤ pos 1))
-              far (inl g) = inr (inr (omega (arith, ints, is.1)))
-              far (inr (inl g)) = inl (omega (arith, ints, is.1))
-              far (inr (inr g)) = absurd (omega (arith, ints, is.1))
+          back_by r (step_of true n (pos c) r) j a' b' t (step_back q r (pos j) (step_of true n (pos c) r) a' b' t.from t.to k.0 k.2 (subst (λ z. IsApart n z (r +ℤ pos 1)) (sym e) u.by) (subst (λ z. IsApart n z (q -ℤ pos c)) s v.by) t.by) less' some
 
 -- an axis that isn't wrapped: a cells before the box, where there are any, and b after it
 module _ (n c len a b : ℕ) (room : c + len + b ≤ n) (few : a ≤ c) (one : a ≤ 1) (some : (1 ≤ a) ⊎ (c ≡ 0)) (more : (b ≡ 1) ⊎ ((b ≡ 0) × (c + len ≡ n))) where

@@ -1,7 +1,7 @@
 // What is asked of a quilt.
 
 /// How blocks are laid.
-#[derive(Clone, Copy, Drop, PartialEq, Eq)]
+#[derive(Clone, Copy, Drop)]
 pub struct QuiltPlan {
     /// The cells of a block on each axis, at most those of the output and of the sample; at least 1.
     pub block: u32,

@@ -6,7 +6,7 @@ use limits::GREATEST_AXIS;
 
 /// The box of a placement along one axis: where it begins, how long it is, and which coordinate of
 /// the sample's part comes to its beginning.
-#[derive(Clone, Copy, Debug, Drop, PartialEq, Eq)]
+#[derive(Clone, Copy, Drop)]
 pub struct Span {
     /// Its first coordinate in the output.
     pub corner: u32,

@@ -8,7 +8,7 @@ use Rattle.std.specs.Int.{w8, w16, w32}
 use Rattle.std.specs.List.{flat_map}
 use Rattle.std.specs.Prelude.{pos, All, IfSome, Option, Some, None, Result, Ok, nat_le, nat_lt}
 use Rattle.limits.specs.declared.bounds.TheConstants.{MOST_BOX_CELLS}
-use Rattle.shelf_core.specs.declared.fault.ReadError.{ReadError}
+use Rattle.shelf_traits.specs.declared.fault.ReadError.{ReadError}
 use Rattle.cells.specs.declared.place.At.{At}
 use Rattle.cells.specs.declared.place.Size.{Size}
 use Rattle.cells.specs.Places.{cell_count}

@@ -3,8 +3,8 @@ use Rattle.std.proofs.Common.{◌≡◌, true, ℕ, zero, suc, List, length, ref
 use Rattle.std.proofs.lemmas.Bool.{eqb-true, ltb-true}
 use Rattle.std.specs.Int.{w16, w32, w64}
 use Rattle.std.specs.Prelude.{Ok, nat_le}
-use Rattle.shelf_core.specs.declared.fault.FormFault.TheVariants.{Form}
-use Rattle.shelf_core.specs.declared.fault.ReadError.TheVariants.{Bad}
+use Rattle.shelf_traits.specs.declared.fault.FormFault.TheVariants.{Form}
+use Rattle.shelf_traits.specs.declared.fault.ReadError.TheVariants.{Bad}
 use Rattle.cells.specs.declared.place.Taps.{Taps}
 use Rattle.cut_check.specs.declared.record.CutRecord.{CutRecord}
 use Rattle.block_check.specs.declared.block.BlockRecord.{BlockRecord}

@@ -6,10 +6,10 @@ use Rattle.std.proofs.lemmas.Nat.{from_be_bytes-to_be_bytes_8}
 use Rattle.std.specs.Int.{Width, byte_len, from_be_bytes, w16, w32, w64}
 use Rattle.std.specs.List.{flat_map}
 use Rattle.std.specs.Prelude.{All, Result, Ok, Err, nat_le}
-use Rattle.shelf_core.specs.Files.{OnlyReads, ShelfState}
-use Rattle.shelf_core.specs.declared.fault.FormFault.TheVariants.{Form, Depth, Space, Cell, NoFrames, Sample, Trailing}
-use Rattle.shelf_core.specs.declared.fault.ReadError.{ReadError}
-use Rattle.shelf_core.specs.declared.fault.ReadError.TheVariants.{ReadFault, Bad, Limit, NoMemory}
+use Rattle.shelf_traits.specs.Files.{OnlyReads, ShelfState}
+use Rattle.shelf_traits.specs.declared.fault.FormFault.TheVariants.{Form, Depth, Space, Cell, NoFrames, Sample, Trailing}
+use Rattle.shelf_traits.specs.declared.fault.ReadError.{ReadError}
+use Rattle.shelf_traits.specs.declared.fault.ReadError.TheVariants.{ReadFault, Bad, Limit, NoMemory}
 use Rattle.file_bytes.specs.Fields.{field_16, field_32, field_64, fields_16, fields_32, fields_64}
 use Rattle.file_bytes.specs.Reading.{Reading, EndsBefore, Follows, IsAhead, StandsAt, StopsInList, Took}
 use Rattle.file_bytes.proofs.ReadingLaws.{both, still}

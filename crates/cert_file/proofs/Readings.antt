@@ -2,10 +2,10 @@
 use Rattle.std.proofs.Common.{◌≡◌, ◌+◌, ◌-◌, ◌<◌, ◌++◌, ◌∷◌, [], zero, suc, ℕ, List, refl, sym, ap, subst, arith}
 use Rattle.std.proofs.Math.Numerals.{add-one}
 use Rattle.std.specs.Prelude.{Option, Some, None, Result, Ok, Err, IfErr}
-use Rattle.shelf_core.specs.Files.{Files, OnlyReads, ShelfState}
-use Rattle.shelf_core.specs.declared.fault.ReadError.{ReadError}
-use Rattle.shelf_core.specs.declared.fault.ReadError.TheVariants.{ReadFault, Bad, Limit, NoMemory}
-use Rattle.shelf_core.proofs.FileLaws.{only_reads_same}
+use Rattle.shelf_traits.specs.Files.{Files, OnlyReads, ShelfState}
+use Rattle.shelf_traits.specs.declared.fault.ReadError.{ReadError}
+use Rattle.shelf_traits.specs.declared.fault.ReadError.TheVariants.{ReadFault, Bad, Limit, NoMemory}
+use Rattle.shelf_traits.proofs.FileLaws.{only_reads_same}
 use Rattle.file_bytes.specs.Reading.{Reading, OfFile, Follows, StopsInList}
 use Rattle.source_map.specs.Readings.{◌>>=◌, Found, IsRefusal, ReadsFrom, field_read}
 use Rattle.source_map.proofs.FieldLaws.{behind, chain, field_stops, first_stops, made, then_reads, weaker}

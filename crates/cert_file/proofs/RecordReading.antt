@@ -2,11 +2,11 @@
 use Rattle.std.proofs.Common.{◌≡◌, ◌<◌, ◌∙◌, ℕ, List, true, false, refl, length, ap, sym, arith}
 use Rattle.std.proofs.lemmas.Bool.{le-leb, lt-leb}
 use Rattle.std.specs.Prelude.{nat_le, Result, Ok, Err}
-use Rattle.shelf_core.specs.Files.{OnlyReads, ShelfState}
-use Rattle.shelf_core.specs.declared.fault.FormFault.TheVariants.{Form, Depth, Space, Cell, NoFrames, Sample, Trailing}
-use Rattle.shelf_core.specs.declared.fault.ReadError.{ReadError}
-use Rattle.shelf_core.specs.declared.fault.ReadError.TheVariants.{ReadFault, Bad, Limit, NoMemory}
-use Rattle.shelf_core.proofs.FileLaws.{rose_later}
+use Rattle.shelf_traits.specs.Files.{OnlyReads, ShelfState}
+use Rattle.shelf_traits.specs.declared.fault.FormFault.TheVariants.{Form, Depth, Space, Cell, NoFrames, Sample, Trailing}
+use Rattle.shelf_traits.specs.declared.fault.ReadError.{ReadError}
+use Rattle.shelf_traits.specs.declared.fault.ReadError.TheVariants.{ReadFault, Bad, Limit, NoMemory}
+use Rattle.shelf_traits.proofs.FileLaws.{rose_later}
 use Rattle.file_bytes.specs.Reading.{Reading, OfFile, Stops}
 use Rattle.file_bytes.proofs.ReadingLaws.{still, both}
 use Rattle.source_map.specs.Heads.{head_read}

@@ -6,7 +6,7 @@ use Rattle.std.specs.Bool.{nat_eq}
 use Rattle.std.specs.Int.{w8, w16, w32, w64}
 use Rattle.std.specs.Prelude.{Result, Ok, nat_le, nat_lt}
 use Rattle.limits.specs.declared.bounds.TheConstants.{LONGEST_LOOP, MOST_LOOP_FRAMES, WIDEST_GAP}
-use Rattle.shelf_core.specs.declared.fault.ReadError.{ReadError}
+use Rattle.shelf_traits.specs.declared.fault.ReadError.{ReadError}
 use Rattle.cells.specs.declared.place.Taps.{Taps}
 use Rattle.cells.specs.declared.place.Taps.TheVariants.{Four, None0, Two}
 use Rattle.file_bytes.specs.Fields.{field_16, field_32, fields_16, fields_64}

@@ -6,10 +6,10 @@ use Rattle.std.specs.Bool.{nat_eq}
 use Rattle.std.specs.Int.{w8, w16, w32, w64}
 use Rattle.std.specs.Prelude.{◌||◌, Result, Ok, Err, nat_lt, nat_le, if◌then◌else◌}
 use Rattle.limits.specs.declared.bounds.TheConstants.{LONGEST_LOOP, WIDEST_GAP}
-use Rattle.shelf_core.specs.declared.fault.FormFault.TheVariants.{Form}
-use Rattle.shelf_core.specs.declared.fault.ReadError.{ReadError}
-use Rattle.shelf_core.specs.declared.fault.ReadError.TheVariants.{Bad, Limit}
-use Rattle.shelf_core.specs.declared.fault.What.TheVariants.{Loop}
+use Rattle.shelf_traits.specs.declared.fault.FormFault.TheVariants.{Form}
+use Rattle.shelf_traits.specs.declared.fault.ReadError.{ReadError}
+use Rattle.shelf_traits.specs.declared.fault.ReadError.TheVariants.{Bad, Limit}
+use Rattle.shelf_traits.specs.declared.fault.What.TheVariants.{Loop}
 use Rattle.cells.specs.declared.place.Taps.{Taps}
 use Rattle.cells.specs.declared.place.Taps.TheVariants.{Four, None0, Two}
 use Rattle.file_bytes.specs.Fields.{field_16, field_32, field_64, fields_16, fields_64}

@@ -2,10 +2,10 @@
 use Rattle.std.specs.Prelude.{◌≤◌, ◌+◌, ◌/◌, ◌%◌, ◌==◌, ◌++◌, ℕ, zero, suc, pos, nat_le, Bool, true, false, if◌then◌else◌, List, [], ◌∷◌, length, take, drop, slice_index, Result, Ok, Err}
 use Rattle.std.specs.Int.{cast_signed, from_be_bytes, w16}
 use Rattle.std.specs.List.{flat_map}
-use Rattle.shelf_core.specs.declared.fault.FormFault.TheVariants.{Form}
-use Rattle.shelf_core.specs.declared.fault.ReadError.{ReadError}
-use Rattle.shelf_core.specs.declared.fault.ReadError.TheVariants.{Bad, Limit}
-use Rattle.shelf_core.specs.declared.fault.What.TheVariants.{Records}
+use Rattle.shelf_traits.specs.declared.fault.FormFault.TheVariants.{Form}
+use Rattle.shelf_traits.specs.declared.fault.ReadError.{ReadError}
+use Rattle.shelf_traits.specs.declared.fault.ReadError.TheVariants.{Bad, Limit}
+use Rattle.shelf_traits.specs.declared.fault.What.TheVariants.{Records}
 use Rattle.cells.specs.declared.place.At.{At}
 use Rattle.cells.specs.declared.place.Size.{Size}
 use Rattle.cells.specs.Places.{cell_count}

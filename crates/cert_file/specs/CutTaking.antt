@@ -1,6 +1,6 @@
 -- A reader need not trust this file: it says how the bits of a choice are taken. (Own.)
 use Rattle.std.specs.Prelude.{◌≡◌, ℕ, List, Bool, length}
-use Rattle.shelf_core.specs.Files.{ShelfState}
+use Rattle.shelf_traits.specs.Files.{ShelfState}
 use Rattle.file_bytes.specs.Reading.{Reading, Took}
 use Rattle.cert_file.specs.CutReading.{bits_of}
 

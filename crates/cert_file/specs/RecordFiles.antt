@@ -2,9 +2,9 @@
 use Rattle.std.specs.Prelude.{◌≡◌, ◌≤◌, ◌<◌, ◌^◌, ℕ, List, ◌++◌, length, All, ◌==◌, codes, if◌then◌else◌, Result, Ok, Err}
 use Rattle.std.specs.Int.{w32}
 use Rattle.std.specs.List.{flat_map}
-use Rattle.shelf_core.specs.Files.{ReadsRose, ShelfState}
-use Rattle.shelf_core.specs.declared.fault.ReadError.{ReadError}
-use Rattle.shelf_core.specs.declared.fault.ReadError.TheVariants.{NoMemory, ReadFault}
+use Rattle.shelf_traits.specs.Files.{ReadsRose, ShelfState}
+use Rattle.shelf_traits.specs.declared.fault.ReadError.{ReadError}
+use Rattle.shelf_traits.specs.declared.fault.ReadError.TheVariants.{NoMemory, ReadFault}
 use Rattle.file_bytes.specs.Fields.{field_32}
 use Rattle.file_bytes.specs.Reading.{OfFile}
 use Rattle.cells.specs.declared.place.Taps.{Taps}

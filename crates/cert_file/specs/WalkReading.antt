@@ -1,10 +1,10 @@
 -- What a reader has to trust: how a walk record is read, field by field. (Own.)
 use Rattle.std.specs.Prelude.{◌≤◌, ◌==◌, ◌||◌, ℕ, List, nat_lt, nat_le, if◌then◌else◌, Result, Ok, Err}
 use Rattle.std.specs.Int.{w8, w16, w32, w64}
-use Rattle.shelf_core.specs.declared.fault.FormFault.TheVariants.{Form}
-use Rattle.shelf_core.specs.declared.fault.ReadError.{ReadError}
-use Rattle.shelf_core.specs.declared.fault.ReadError.TheVariants.{Bad, Limit}
-use Rattle.shelf_core.specs.declared.fault.What.TheVariants.{Frames, Loop}
+use Rattle.shelf_traits.specs.declared.fault.FormFault.TheVariants.{Form}
+use Rattle.shelf_traits.specs.declared.fault.ReadError.{ReadError}
+use Rattle.shelf_traits.specs.declared.fault.ReadError.TheVariants.{Bad, Limit}
+use Rattle.shelf_traits.specs.declared.fault.What.TheVariants.{Frames, Loop}
 use Rattle.cells.specs.declared.place.Taps.{Taps}
 use Rattle.cells.specs.declared.place.Taps.TheVariants.{Four, None0, Two}
 use Rattle.limits.specs.declared.bounds.TheConstants.{LONGEST_LOOP, MOST_LOOP_FRAMES, WIDEST_GAP}

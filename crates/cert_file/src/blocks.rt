@@ -1,8 +1,8 @@
 // Files of block records.
 ghost use Rattle.std.specs.Prelude.{◌≡◌, ◌≤◌, ◌<◌, ◌+◌, ◌*◌, ◌^◌, All, IfOk, IfSome, OnErr, OnOk, length};
 ghost use Rattle.std.specs.List.{flat_map};
-ghost use Rattle.shelf_core.specs.Files.{Changes, OnlyReadsFile, OnlyWritesFile, WritesRose};
-ghost use Rattle.shelf_core.specs.Written.{HoldsPart, HoldsText};
+ghost use Rattle.shelf_traits.specs.Files.{Changes, OnlyReadsFile, OnlyWritesFile, WritesRose};
+ghost use Rattle.shelf_traits.specs.Written.{HoldsPart, HoldsText};
 ghost use Rattle.file_bytes.specs.Reading.{Follows};
 ghost use Rattle.file_bytes.specs.Writing.{Puts};
 ghost use Rattle.cells.specs.Places.{cell_count};
@@ -23,7 +23,7 @@ use block_check::BlockRecord;
 use cells::At;
 use file_bytes::{FileReader, FileWriter, make_room};
 use items::Items;
-use shelf_core::{ReadError, Shelf, WriteFault};
+use shelf_traits::{ReadError, Shelf, WriteFault};
 use source_map::{Head, put_head};
 use std::alloc::Global;
 use strip_boundary::BoundaryRecord;

@@ -1,6 +1,6 @@
 // Choices, as they are read.
 ghost use Rattle.std.specs.Prelude.{◌≡◌, ◌≤◌, ◌<◌, ◌+◌, ◌*◌, ◌^◌, ◌++◌, List, ℕ, IfOk, IfErr, OnOk, length};
-ghost use Rattle.shelf_core.specs.Files.{OnlyReadsFile};
+ghost use Rattle.shelf_traits.specs.Files.{OnlyReadsFile};
 ghost use Rattle.file_bytes.specs.Reading.{Follows, StopsInList};
 ghost use Rattle.source_map.specs.Readings.{IsRefusal, ReadsFrom};
 ghost use Rattle.cert_file.specs.CutForms.{choice_bytes};
@@ -9,7 +9,7 @@ ghost use Rattle.cert_file.specs.CutTaking.{TookBits};
 
 use file_bytes::{FileReader, make_room};
 use items::Items;
-use shelf_core::{FormFault, ReadError, Shelf};
+use shelf_traits::{FormFault, ReadError, Shelf};
 use std::alloc::{AllocError, Global};
 
 // The bits of a byte, from the highest on.

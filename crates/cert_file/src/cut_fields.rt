@@ -1,7 +1,7 @@
 // The fields of a cut record, as they are read.
 ghost use Rattle.std.specs.Prelude.{◌≡◌, ◌≤◌, ◌<◌, ◌+◌, ◌*◌, ◌^◌, IfOk, IfErr, OnOk};
 ghost use Rattle.std.specs.Int.{w16};
-ghost use Rattle.shelf_core.specs.Files.{OnlyReadsFile};
+ghost use Rattle.shelf_traits.specs.Files.{OnlyReadsFile};
 ghost use Rattle.file_bytes.specs.Reading.{Follows};
 ghost use Rattle.source_map.specs.MapFiles.{IsInSamples, IsShort, part_rule};
 ghost use Rattle.source_map.specs.Readings.{IsRefusal, ReadsFrom, field_read, number_read};
@@ -10,7 +10,7 @@ ghost use Rattle.cert_file.specs.CutReading.{IsBoxAfter, box_axis_rule, box_cell
 use cells::{At, Size, Sizes};
 use file_bytes::FileReader;
 use limits::MOST_BOX_CELLS;
-use shelf_core::{FormFault, ReadError, Shelf, What};
+use shelf_traits::{FormFault, ReadError, Shelf, What};
 use source_map::{Version, read_place};
 
 // The refusal of a field at its place.

@@ -1,6 +1,6 @@
 // Cut records, as they are read.
 ghost use Rattle.std.specs.Prelude.{◌≡◌, ◌≤◌, ◌<◌, ◌+◌, ◌*◌, ◌^◌, All, length, IfOk, IfErr, OnOk};
-ghost use Rattle.shelf_core.specs.Files.{OnlyReadsFile};
+ghost use Rattle.shelf_traits.specs.Files.{OnlyReadsFile};
 ghost use Rattle.cells.specs.Places.{cell_count};
 ghost use Rattle.boxes.specs.Pairs.{pair_count};
 ghost use Rattle.file_bytes.specs.Reading.{Follows};
@@ -17,7 +17,7 @@ use cut_check::{CutRecord, Flow};
 use file_bytes::{FileReader, make_room};
 use items::Items;
 use map_canvas::Placement;
-use shelf_core::{ReadError, Shelf};
+use shelf_traits::{ReadError, Shelf};
 use source_map::Version;
 use std::alloc::Global;
 

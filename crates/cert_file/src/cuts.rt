@@ -8,7 +8,7 @@ ghost use Rattle.cert_file.specs.CutForms.{HasShortFlows, IsBoxSize, IsCutInForm
 use cells::{Size, Sizes};
 use cut_check::{CutRecord, Flow};
 use file_bytes::FileWriter;
-use shelf_core::Shelf;
+use shelf_traits::Shelf;
 use source_map::{Version, place_bytes, put_source};
 
 // The size of a box in the file's form.

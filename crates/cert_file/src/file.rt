@@ -1,8 +1,8 @@
 // Whole record files.
 ghost use Rattle.std.specs.Prelude.{◌≡◌, ◌≤◌, ◌<◌, ◌+◌, ◌^◌, IfOk, OnOk, OnErr};
 ghost use Rattle.std.specs.Int.{w32};
-ghost use Rattle.shelf_core.specs.Files.{Changes, OnlyReadsFile, OnlyWritesFile, WritesRose};
-ghost use Rattle.shelf_core.specs.Written.{HoldsPart, HoldsText};
+ghost use Rattle.shelf_traits.specs.Files.{Changes, OnlyReadsFile, OnlyWritesFile, WritesRose};
+ghost use Rattle.shelf_traits.specs.Written.{HoldsPart, HoldsText};
 ghost use Rattle.file_bytes.specs.Reading.{Follows};
 ghost use Rattle.source_map.specs.Heads.{IsHead, IsKind, head_read};
 ghost use Rattle.source_map.specs.Readings.{ReadsFrom, number_read};
@@ -19,7 +19,7 @@ use cells::Taps;
 use cut_check::CutRecord;
 use file_bytes::{FileReader, FileWriter};
 use items::Items;
-use shelf_core::{ReadError, Shelf, WriteFault};
+use shelf_traits::{ReadError, Shelf, WriteFault};
 use source_map::{Head, put_head, read_head};
 use std::alloc::Global;
 

@@ -1,6 +1,6 @@
 // What the form promises, whoever reads or writes.
 ghost use Rattle.std.specs.Prelude.{◌≡◌, ◌++◌, ℕ, List};
-ghost use Rattle.shelf_core.specs.declared.fault.ReadError.{ReadError};
+ghost use Rattle.shelf_traits.specs.declared.fault.ReadError.{ReadError};
 ghost use Rattle.cert_file.specs.declared.file.RecordFile.{RecordFile};
 ghost use Rattle.cells.specs.declared.place.Taps.{Taps};
 ghost use Rattle.cut_check.specs.declared.record.CutRecord.{CutRecord};

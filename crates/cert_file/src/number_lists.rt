@@ -1,14 +1,14 @@
 // Lists of numbers, as they are read.
 ghost use Rattle.std.specs.Prelude.{◌≡◌, ◌<◌, ◌+◌, ◌*◌, ◌^◌, All, IfOk, OnOk, length};
 ghost use Rattle.std.specs.Int.{w16, w32, w64};
-ghost use Rattle.shelf_core.specs.Files.{OnlyReadsFile};
+ghost use Rattle.shelf_traits.specs.Files.{OnlyReadsFile};
 ghost use Rattle.file_bytes.specs.Reading.{Follows};
 ghost use Rattle.source_map.specs.Readings.{ReadsFrom, list_read, number_read};
 ghost use Rattle.cert_file.specs.Rules.{any_rule};
 
 use file_bytes::FileReader;
 use items::Items;
-use shelf_core::{ReadError, Shelf};
+use shelf_traits::{ReadError, Shelf};
 use std::alloc::Global;
 
 // Shows that the numbers of a list have 16 bits, as its type says.

@@ -1,7 +1,7 @@
 // The fields of a walk record, as they are read.
 ghost use Rattle.std.specs.Prelude.{◌≡◌, ◌≤◌, ◌<◌, ◌+◌, ◌^◌, IfOk, IfErr, OnOk};
 ghost use Rattle.std.specs.Int.{w8, w16, w32};
-ghost use Rattle.shelf_core.specs.Files.{OnlyReadsFile};
+ghost use Rattle.shelf_traits.specs.Files.{OnlyReadsFile};
 ghost use Rattle.file_bytes.specs.Reading.{Follows};
 ghost use Rattle.source_map.specs.Readings.{IsRefusal, ReadsFrom, number_read};
 ghost use Rattle.cert_file.specs.WalkReading.{IsStart, frames_rule, gap_rule, length_rule, taps_rule, walk_start_read};
@@ -9,7 +9,7 @@ ghost use Rattle.cert_file.specs.WalkReading.{IsStart, frames_rule, gap_rule, le
 use cells::Taps;
 use file_bytes::FileReader;
 use limits::{LONGEST_LOOP, MOST_LOOP_FRAMES, WIDEST_GAP};
-use shelf_core::{FormFault, ReadError, Shelf, What};
+use shelf_traits::{FormFault, ReadError, Shelf, What};
 
 // What comes before the frames of a walk.
 #[derive(Clone, Copy, Drop)]

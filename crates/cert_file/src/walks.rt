@@ -1,7 +1,7 @@
 // Files of a walk record.
 ghost use Rattle.std.specs.Prelude.{◌≡◌, ◌≤◌, ◌<◌, ◌*◌, ◌^◌, IfOk, OnErr, OnOk, length};
-ghost use Rattle.shelf_core.specs.Files.{Changes, OnlyReadsFile, OnlyWritesFile, WritesRose};
-ghost use Rattle.shelf_core.specs.Written.{HoldsPart, HoldsText};
+ghost use Rattle.shelf_traits.specs.Files.{Changes, OnlyReadsFile, OnlyWritesFile, WritesRose};
+ghost use Rattle.shelf_traits.specs.Written.{HoldsPart, HoldsText};
 ghost use Rattle.file_bytes.specs.Reading.{Follows};
 ghost use Rattle.file_bytes.specs.Writing.{Puts};
 ghost use Rattle.loop_walk.specs.Tables.{IsLength, table_count};
@@ -18,7 +18,7 @@ use crate::walk_fields::{lawful_frames, read_walk_start};
 use cells::Taps;
 use file_bytes::{FileReader, FileWriter};
 use loop_walk::table_count;
-use shelf_core::{ReadError, Shelf, WriteFault};
+use shelf_traits::{ReadError, Shelf, WriteFault};
 use source_map::{Head, put_head};
 use std::alloc::Global;
 

@@ -1,8 +1,8 @@
 -- What `check` made of files, by its status.
 use Rattle.std.proofs.Common.{◌≡◌, ℕ, Bool, List, [], sym, ap, ◌∙◌, subst, arith}
-use Rattle.shelf_core.specs.Files.{Files, ShelfState, SinkState, Changes}
-use Rattle.shelf_core.specs.Written.{written}
-use Rattle.shelf_core.proofs.FileLaws.{told_weaker}
+use Rattle.shelf_traits.specs.Files.{Files, ShelfState, SinkState, Changes}
+use Rattle.shelf_traits.specs.Written.{written}
+use Rattle.shelf_traits.proofs.FileLaws.{told_weaker}
 use Rattle.job_words.specs.declared.check.CheckJob.{CheckJob}
 use Rattle.job_words.specs.declared.job.Names.{Names}
 use Rattle.synth_report.specs.declared.summary.Summary.{Summary}

@@ -2,9 +2,9 @@
 use Rattle.std.proofs.Common.{◌≡◌, ℕ, ◌+◌, ◌*◌, ◌≤◌, Bool, List, [], ◌∷◌, length, refl, ap, ◌∙◌, subst}
 use Rattle.std.specs.Prelude.{Ok, Err}
 use Rattle.limits.specs.declared.bounds.TheConstants.{MOST_OUT_CLIP_CELLS, MOST_PARTS}
-use Rattle.shelf_core.specs.Files.{Files, InFile, OnlyReads, OnlyReadsFile, ShelfState, content_of}
-use Rattle.shelf_core.proofs.FileLaws.{told_both, told_weaker}
-use Rattle.shelf_core.proofs.Sees.{Sees, sees_then}
+use Rattle.shelf_traits.specs.Files.{Files, InFile, OnlyReads, OnlyReadsFile, ShelfState, content_of}
+use Rattle.shelf_traits.proofs.FileLaws.{told_both, told_weaker}
+use Rattle.shelf_traits.proofs.Sees.{Sees, sees_then}
 use Rattle.source_map.specs.declared.map_file.MapFile.{MapFile}
 use Rattle.cert_file.specs.declared.file.RecordFile.{RecordFile}
 use Rattle.cert_file.specs.RecordFiles.{IsRecordFileOf, RefusesRecordFile, record_file_read}

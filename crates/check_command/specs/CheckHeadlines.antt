@@ -1,7 +1,7 @@
 -- The headline of `check`: what its statuses say of the files. To be trusted: contracts cite these
 -- words. (Own.)
 use Rattle.std.specs.Prelude.{◌≡◌, ◌⊎◌, ℕ, Bool, List}
-use Rattle.shelf_core.specs.Files.{Files, ShelfState, SinkState, Changes}
+use Rattle.shelf_traits.specs.Files.{Files, ShelfState, SinkState, Changes}
 use Rattle.job_words.specs.declared.check.CheckJob.{CheckJob}
 use Rattle.job_words.specs.declared.job.Names.{Names}
 use Rattle.job_words.specs.declared.job.Job.TheVariants.{Check}

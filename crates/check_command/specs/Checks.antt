@@ -1,8 +1,8 @@
 -- `check` as a command: what it reads and refuses, and what it says of the files. To be trusted:
 -- contracts cite these words. (Own.)
 use Rattle.std.specs.Prelude.{◌≡◌, ◌+◌, ◌++◌, ℕ, Bool, true, false, List, [], ◌∷◌, length, Result, Ok, Err}
-use Rattle.shelf_core.specs.Files.{Files, InFile, ShelfState, content_of}
-use Rattle.shelf_core.specs.declared.fault.ReadError.{ReadError}
+use Rattle.shelf_traits.specs.Files.{Files, InFile, ShelfState, content_of}
+use Rattle.shelf_traits.specs.declared.fault.ReadError.{ReadError}
 use Rattle.source_map.specs.declared.head.Version.TheVariants.{Two}
 use Rattle.source_map.specs.declared.map_file.MapFile.{MapFile}
 use Rattle.source_map.specs.declared.map_file.MapFile.TheVariants.{Cells as CellsFile}

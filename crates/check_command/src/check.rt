@@ -6,7 +6,7 @@ ghost use Rattle.check_command.specs.Checks.{check_command, summary_of};
 use crate::reading::judge_files;
 use command::report_run;
 use job_words::CheckJob;
-use shelf_core::{Shelf, Sink};
+use shelf_traits::{Shelf, Sink};
 use standing_files::Verdict;
 use std::alloc::Global;
 use synth_report::{Fault, Summary};

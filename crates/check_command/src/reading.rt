@@ -1,6 +1,6 @@
 // The files of a run, read in their order and judged.
 ghost use Rattle.std.specs.Prelude.{◌≡◌, []};
-ghost use Rattle.shelf_core.specs.Files.{OnlyReads, OnlyReadsFile};
+ghost use Rattle.shelf_traits.specs.Files.{OnlyReads, OnlyReadsFile};
 ghost use Rattle.source_map.specs.MapFiles.{MapReadsBy};
 ghost use Rattle.turned_map.specs.TurnedFiles.{IsTurnedFile};
 ghost use Rattle.sample_files.specs.Several.{AreSoundSamples};
@@ -14,7 +14,7 @@ use command::read_fault;
 use job_words::{CheckJob, Name};
 use limits::MOST_OUT_CLIP_CELLS;
 use sample_files::{Sample, Samples, parts_within, read_sample_within, read_samples, worked};
-use shelf_core::{ReadError, Shelf};
+use shelf_traits::{ReadError, Shelf};
 use source_map::{MapFile, Version, read_map};
 use standing_files::{Verdict, judge_record_file};
 use std::alloc::Global;

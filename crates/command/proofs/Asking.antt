@@ -4,8 +4,8 @@ use Rattle.std.proofs.Math.Bool.{◌||◌}
 use Rattle.std.proofs.lemmas.Cmp.{nat_list_eq_equiv}
 use Rattle.std.specs.Prelude.{Some}
 use Rattle.std.specs.Cmp.Lexicographic.{pointwise, same_text}
-use Rattle.shelf_core.specs.Files.{is_one_of}
-use Rattle.shelf_core.proofs.FileLaws.{AreAmong, among_head, among_left, among_rest, among_right, among_then}
+use Rattle.shelf_traits.specs.Files.{is_one_of}
+use Rattle.shelf_traits.proofs.FileLaws.{AreAmong, among_head, among_left, among_rest, among_right, among_then}
 use Rattle.synth_report.specs.declared.fault.FileOf.{FileOf}
 use Rattle.command.specs.Commands.{HasTurn, NamedFile, named, names_in}
 use Rattle.command.specs.Writing.{FileText, text_names}

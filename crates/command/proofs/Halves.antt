@@ -1,9 +1,9 @@
 -- A command in two halves: what it reads and computes, and the writing of what it made.
 use Rattle.std.proofs.Common.{◌≡◌, ℕ, ◌⊎◌, inl, inr, List, ap, sym, ◌∙◌, subst}
 use Rattle.std.specs.Prelude.{Result, Ok, Err}
-use Rattle.shelf_core.specs.Files.{Files, ShelfState, SinkState, OnlyReads, OnlyWrites, Changes, Rose}
-use Rattle.shelf_core.specs.Written.{Untouched, StoppedAt, written}
-use Rattle.shelf_core.proofs.FileLaws.{AreAmong, among_left, among_right, asks_of_more, asks_then, told_same, told_then}
+use Rattle.shelf_traits.specs.Files.{Files, ShelfState, SinkState, OnlyReads, OnlyWrites, Changes, Rose}
+use Rattle.shelf_traits.specs.Written.{Untouched, StoppedAt, written}
+use Rattle.shelf_traits.proofs.FileLaws.{AreAmong, among_left, among_right, asks_of_more, asks_then, told_same, told_then}
 use Rattle.synth_report.specs.declared.fault.FileOf.{FileOf}
 use Rattle.synth_report.specs.declared.fault.Fault.{Fault}
 use Rattle.synth_report.specs.declared.fault.Fault.TheVariants.{Words, Form, Unlike, Mark, Limit, Read, Write, NoMemory, NoLoop}

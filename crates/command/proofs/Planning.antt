@@ -3,13 +3,13 @@
 use Rattle.std.proofs.Common.{◌≡◌, ℕ, zero, suc, ◌+◌, ◌<◌, inl, inr, List, [], ◌∷◌, ◌++◌, length, refl, ap, sym, ◌∙◌, subst, arith}
 use Rattle.std.specs.Prelude.{Some, slice_get}
 use Rattle.std.proofs.lemmas.Option.{slice_get_within}
-use Rattle.shelf_core.specs.Files.{Files, ShelfState, OnlyReads, content_of}
-use Rattle.shelf_core.specs.declared.fault.FormFault.{FormFault}
-use Rattle.shelf_core.specs.declared.fault.What.{What}
-use Rattle.shelf_core.specs.declared.fault.ReadError.{ReadError}
-use Rattle.shelf_core.specs.declared.fault.ReadError.TheVariants as error
-use Rattle.shelf_core.proofs.FileLaws.{AreAmong, only_reads_of_more, only_reads_same, only_reads_then, rose_later, told_both, told_weaker}
-use Rattle.shelf_core.proofs.Sees.{Sees, sees_all, sees_then, sees_weaker}
+use Rattle.shelf_traits.specs.Files.{Files, ShelfState, OnlyReads, content_of}
+use Rattle.shelf_traits.specs.declared.fault.FormFault.{FormFault}
+use Rattle.shelf_traits.specs.declared.fault.What.{What}
+use Rattle.shelf_traits.specs.declared.fault.ReadError.{ReadError}
+use Rattle.shelf_traits.specs.declared.fault.ReadError.TheVariants as error
+use Rattle.shelf_traits.proofs.FileLaws.{AreAmong, only_reads_of_more, only_reads_same, only_reads_then, rose_later, told_both, told_weaker}
+use Rattle.shelf_traits.proofs.Sees.{Sees, sees_all, sees_then, sees_weaker}
 use Rattle.synth_report.specs.declared.fault.FileOf.{FileOf}
 use Rattle.synth_report.specs.declared.fault.Fault.{Fault}
 use Rattle.synth_report.specs.declared.fault.Fault.TheVariants.{Words, Form, Unlike, Mark, Limit, Read, Write, NoMemory, NoLoop}

@@ -2,9 +2,9 @@
 use Rattle.std.proofs.Common.{◌≡◌, ◌≢◌, ℕ, zero, suc, ◌≤◌, ◌⊎◌, inl, inr, List, [], ◌∷◌, drop, take, ap, sym, ◌∙◌, subst, refl, arith}
 use Rattle.std.specs.Prelude.{Result, Ok, Err, Option, Some, None, slice_get}
 use Rattle.std.specs.FinMap.{get, insert}
-use Rattle.shelf_core.specs.Files.{Files, ShelfState, SinkState, AsksOnly, Changes, Told, Rose}
-use Rattle.shelf_core.specs.Written.{HoldsPart, Says, StoppedAt, Untouched, written}
-use Rattle.shelf_core.proofs.FileLaws.{among_none, asks_of_more, get_beside, told_weaker}
+use Rattle.shelf_traits.specs.Files.{Files, ShelfState, SinkState, AsksOnly, Changes, Told, Rose}
+use Rattle.shelf_traits.specs.Written.{HoldsPart, Says, StoppedAt, Untouched, written}
+use Rattle.shelf_traits.proofs.FileLaws.{among_none, asks_of_more, get_beside, told_weaker}
 use Rattle.job_words.specs.declared.job.Job.{Job}
 use Rattle.job_words.specs.declared.job.WordFault.{WordFault}
 use Rattle.job_words.specs.declared.job.WordFault.TheVariants as word

@@ -3,8 +3,8 @@ use Rattle.std.proofs.Common.{◌≡◌, ◌≢◌, ℕ, ◌≤◌, ◌<◌, ◌
 use Rattle.std.specs.Prelude.{Result, Ok, Err, Option, Some, None, IsSome}
 use Rattle.std.proofs.lemmas.Bool.{cases_lt}
 use mathlib.Core.Bool.{false≢true}
-use Rattle.shelf_core.specs.Files.{Files, ShelfState, SinkState, Told}
-use Rattle.shelf_core.specs.Written.{Untouched}
+use Rattle.shelf_traits.specs.Files.{Files, ShelfState, SinkState, Told}
+use Rattle.shelf_traits.specs.Written.{Untouched}
 use Rattle.job_words.specs.declared.job.WordFault.{WordFault}
 use Rattle.job_words.specs.declared.job.WordFault.TheVariants as word
 use Rattle.synth_report.specs.declared.fault.FileOf.{FileOf}

@@ -2,9 +2,9 @@
 use Rattle.std.proofs.Common.{◌≡◌, ℕ, zero, suc, ◌⊎◌, inl, inr, List, [], ◌∷◌, ◌++◌, length, take, drop, refl, sym, ap, ◌∙◌, subst}
 use Rattle.std.specs.Prelude.{Option, Some, None, slice_get, Result, Ok, Err}
 use Rattle.std.proofs.Math.Seq.{take-length}
-use Rattle.shelf_core.specs.Files.{Files, ShelfState, SinkState, OnlyWrites, Changes, Told, Rose, IsPrefixAdded}
-use Rattle.shelf_core.specs.Written.{HoldsPart, written, StoppedAt, Says}
-use Rattle.shelf_core.proofs.FileLaws.{told_same, told_then, told_weaker, rose_then, rose_later}
+use Rattle.shelf_traits.specs.Files.{Files, ShelfState, SinkState, OnlyWrites, Changes, Told, Rose, IsPrefixAdded}
+use Rattle.shelf_traits.specs.Written.{HoldsPart, written, StoppedAt, Says}
+use Rattle.shelf_traits.proofs.FileLaws.{told_same, told_then, told_weaker, rose_then, rose_later}
 use Rattle.synth_report.specs.declared.fault.FileOf.{FileOf}
 use Rattle.synth_report.specs.declared.fault.Fault.{Fault}
 use Rattle.synth_report.specs.declared.fault.Fault.TheVariants.{Words, Form, Unlike, Mark, Limit, Read, Write, NoMemory, NoLoop}

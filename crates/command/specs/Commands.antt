@@ -1,7 +1,7 @@
 -- What a command is for the promises of a run: the files that it reads and writes, what it refuses
 -- and what it makes of them. To be trusted: contracts cite these words. (Own.)
 use Rattle.std.specs.Prelude.{◌≡◌, ◌++◌, ℕ, List, map, slice_get, Some}
-use Rattle.shelf_core.specs.Files.{Files}
+use Rattle.shelf_traits.specs.Files.{Files}
 use Rattle.synth_report.specs.declared.fault.FileOf.{FileOf}
 use Rattle.synth_report.specs.declared.fault.Fault.{Fault}
 use Rattle.synth_report.specs.declared.summary.Summary.{Summary}

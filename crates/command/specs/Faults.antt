@@ -1,10 +1,10 @@
 -- The faults of files that weren't read. To be trusted: contracts cite these words. (Own.)
 use Rattle.std.specs.Prelude.{◌≡◌, ℕ, List, Result, Ok, Err}
-use Rattle.shelf_core.specs.Files.{ShelfState, Changes, InFile, Rose, content_of}
-use Rattle.shelf_core.specs.declared.fault.FormFault.{FormFault}
-use Rattle.shelf_core.specs.declared.fault.What.{What}
-use Rattle.shelf_core.specs.declared.fault.ReadError.{ReadError}
-use Rattle.shelf_core.specs.declared.fault.ReadError.TheVariants as error
+use Rattle.shelf_traits.specs.Files.{ShelfState, Changes, InFile, Rose, content_of}
+use Rattle.shelf_traits.specs.declared.fault.FormFault.{FormFault}
+use Rattle.shelf_traits.specs.declared.fault.What.{What}
+use Rattle.shelf_traits.specs.declared.fault.ReadError.{ReadError}
+use Rattle.shelf_traits.specs.declared.fault.ReadError.TheVariants as error
 use Rattle.synth_report.specs.declared.fault.FileOf.{FileOf}
 use Rattle.synth_report.specs.declared.fault.Fault.{Fault}
 use Rattle.synth_report.specs.declared.fault.Fault.TheVariants.{Form, Limit, Read, NoMemory}

@@ -1,8 +1,8 @@
 -- What a run leaves, by its answer: for any command, one line for each answer. To be trusted:
 -- contracts cite these words. (Own.)
 use Rattle.std.specs.Prelude.{◌≡◌, ◌≤◌, ◌⊎◌, ℕ, List, [], map, Result, Ok, Err}
-use Rattle.shelf_core.specs.Files.{Files, ShelfState, SinkState, AsksOnly, Changes, Rose}
-use Rattle.shelf_core.specs.Written.{written, StoppedAt, Untouched, Says}
+use Rattle.shelf_traits.specs.Files.{Files, ShelfState, SinkState, AsksOnly, Changes, Rose}
+use Rattle.shelf_traits.specs.Written.{written, StoppedAt, Untouched, Says}
 use Rattle.job_words.specs.declared.job.Job.{Job}
 use Rattle.job_words.specs.declared.job.WordFault.{WordFault}
 use Rattle.job_words.specs.declared.job.WordFault.TheVariants as word

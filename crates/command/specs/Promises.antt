@@ -2,8 +2,8 @@
 -- contracts cite these words. (Own.)
 use Rattle.std.specs.Prelude.{◌≡◌, ◌⊎◌, ℕ, List, [], Option, Some, IsSome, Ok, Err}
 use Rattle.std.specs.FinMap as fin
-use Rattle.shelf_core.specs.Files.{Files, ShelfState, SinkState, AsksOnly, Changes, Rose}
-use Rattle.shelf_core.specs.Written.{Untouched, Says}
+use Rattle.shelf_traits.specs.Files.{Files, ShelfState, SinkState, AsksOnly, Changes, Rose}
+use Rattle.shelf_traits.specs.Written.{Untouched, Says}
 use Rattle.job_words.specs.declared.job.Job.{Job}
 use Rattle.job_words.specs.declared.job.WordFault.{WordFault}
 use Rattle.job_words.specs.Jobs.{IsJob, job_of}

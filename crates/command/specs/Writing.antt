@@ -1,8 +1,8 @@
 -- The writing of the files of a run, and of its report. To be trusted: contracts cite these words.
 -- (Own.)
 use Rattle.std.specs.Prelude.{◌≡◌, ◌⊎◌, ◌++◌, ℕ, List, [], ◌∷◌, map, Result, Ok, Err}
-use Rattle.shelf_core.specs.Files.{ShelfState, SinkState, Changes, Told, Rose, IsPrefixAdded}
-use Rattle.shelf_core.specs.Written.{written, StoppedAt}
+use Rattle.shelf_traits.specs.Files.{ShelfState, SinkState, Changes, Told, Rose, IsPrefixAdded}
+use Rattle.shelf_traits.specs.Written.{written, StoppedAt}
 use Rattle.synth_report.specs.declared.fault.FileOf.{FileOf}
 use Rattle.synth_report.specs.declared.fault.FileOf.TheVariants.{Report}
 use Rattle.synth_report.specs.declared.fault.Fault.{Fault}

@@ -3,7 +3,7 @@ ghost use Rattle.std.specs.Prelude.{◌≡◌};
 ghost use Rattle.command.specs.Faults.{fault_of_read};
 ghost use Rattle.command.specs.Outcomes.{SaysAnswer, answer_status};
 
-use shelf_core::{ReadError, Sink};
+use shelf_traits::{ReadError, Sink};
 use synth_report::{Fault, FileOf, Summary, say_fault, status};
 
 /// The fault of a file that wasn't read.

@@ -1,9 +1,9 @@
 // The files of a run, written one after another.
 ghost use Rattle.std.specs.Prelude.{List, ◌++◌};
-ghost use Rattle.shelf_core.specs.Files.{OnlyWrites};
+ghost use Rattle.shelf_traits.specs.Files.{OnlyWrites};
 ghost use Rattle.command.specs.Writing.{FileText, WritesFiles, text_names};
 
-use shelf_core::Shelf;
+use shelf_traits::Shelf;
 use synth_report::FileOf;
 
 /// The files that a command writes, with the texts that it made.

@@ -1,10 +1,10 @@
 // The second half of a command: its files are written, and then its report.
 ghost use Rattle.std.specs.Prelude.{[]};
-ghost use Rattle.shelf_core.specs.Files.{OnlyWrites, ShelfState};
+ghost use Rattle.shelf_traits.specs.Files.{OnlyWrites, ShelfState};
 ghost use Rattle.command.specs.Writing.{WritesRun, text_names};
 
 use crate::files::RunFiles;
-use shelf_core::{Shelf, Sink};
+use shelf_traits::{Shelf, Sink};
 use synth_report::{Fault, FileOf, Summary, report};
 
 /// Writes the files of a run in their order, and then its report. A file that can't be written whole

@@ -4,10 +4,10 @@ use Rattle.std.proofs.Math.Seq.{take-append_seam}
 use Rattle.std.proofs.lemmas.List.{take-append-drop, append-nil}
 use Rattle.std.specs.Prelude.{drop}
 use Rattle.std.specs.FinMap.{insert}
-use Rattle.shelf_core.specs.Files.{Files, ShelfState, Changes, Appends, AppendsPart}
-use Rattle.shelf_core.specs.Written.{HoldsText, HoldsPart}
-use Rattle.shelf_core.proofs.FileLaws.{told_weaker}
-use Rattle.shelf_core.proofs.WrittenLaws.{shelf_added, shelf_added_part}
+use Rattle.shelf_traits.specs.Files.{Files, ShelfState, Changes, Appends, AppendsPart}
+use Rattle.shelf_traits.specs.Written.{HoldsText, HoldsPart}
+use Rattle.shelf_traits.proofs.FileLaws.{told_weaker}
+use Rattle.shelf_traits.proofs.WrittenLaws.{shelf_added, shelf_added_part}
 use Rattle.y4m_clip.specs.Spaces.{joined_to}
 
 -- the last lists of several, from one on

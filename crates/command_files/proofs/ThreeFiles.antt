@@ -3,8 +3,8 @@ use Rattle.std.proofs.Common.{◌≡◌, ◌≢◌, ℕ, suc, ◌<◌, ◌+◌, 
 use Rattle.std.proofs.lemmas.List.{get_or-append-add, get_or_append_left}
 use Rattle.std.specs.Prelude.{get_or, unwrap_or}
 use Rattle.std.specs.FinMap.{get, insert}
-use Rattle.shelf_core.specs.Files.{Files, content_of}
-use Rattle.shelf_core.proofs.FileLaws.{content_beside, content_inserted, get_beside}
+use Rattle.shelf_traits.specs.Files.{Files, content_of}
+use Rattle.shelf_traits.proofs.FileLaws.{content_beside, content_inserted, get_beside}
 use Rattle.job_words.specs.declared.job.Names.{Names}
 use Rattle.job_words.specs.Names.{AreNames, name_list}
 use Rattle.sample_files.specs.Several.{contents}

@@ -8,7 +8,7 @@ use cells::Sizes;
 use cert_file::{CutRecord, Head, write_cuts};
 use command::RunFiles;
 use job_words::Name;
-use shelf_core::{Shelf, WriteFault};
+use shelf_traits::{Shelf, WriteFault};
 use source_map::{Map, Version, write_cell_map};
 use synth_report::FileOf;
 

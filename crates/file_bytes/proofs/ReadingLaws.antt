@@ -8,11 +8,11 @@ use Rattle.std.proofs.Math.Seq.{take-add, take-append-add}
 use Rattle.std.proofs.lemmas.Slice.{take-put_mid}
 use borrow.Rule.Slice.PartMut.{put_mid}
 use Rattle.std.specs.Prelude.{Option, Some, None, max}
-use Rattle.shelf_core.specs.Files.{Files, ShelfState, OnlyReads, Told, content_of}
-use Rattle.shelf_core.specs.declared.fault.FormFault.TheVariants.{Form, Depth, Space, Cell, NoFrames, Sample, Trailing}
-use Rattle.shelf_core.specs.declared.fault.ReadError.{ReadError}
-use Rattle.shelf_core.specs.declared.fault.ReadError.TheVariants.{ReadFault, Bad, Limit, NoMemory}
-use Rattle.shelf_core.proofs.FileLaws.{rose_later}
+use Rattle.shelf_traits.specs.Files.{Files, ShelfState, OnlyReads, Told, content_of}
+use Rattle.shelf_traits.specs.declared.fault.FormFault.TheVariants.{Form, Depth, Space, Cell, NoFrames, Sample, Trailing}
+use Rattle.shelf_traits.specs.declared.fault.ReadError.{ReadError}
+use Rattle.shelf_traits.specs.declared.fault.ReadError.TheVariants.{ReadFault, Bad, Limit, NoMemory}
+use Rattle.shelf_traits.proofs.FileLaws.{rose_later}
 use Rattle.file_bytes.specs.Reading.{Reading, OfFile, IsAhead, Follows, StandsAt, Took, StopsShort, StopsInList, after_serving}
 
 -- how many bytes wait

@@ -5,10 +5,10 @@ use Rattle.std.proofs.lemmas.List.Concat.{flat_map-append}
 use Rattle.std.specs.List.{flat_map}
 use Rattle.std.specs.Prelude.{Bool, true, false, ◌⊎◌}
 use Rattle.std.specs.FinMap.{insert}
-use Rattle.shelf_core.specs.Files.{ShelfState, Changes, OnlyWritesFile, Rose, GrowsByPrefix, content_of}
-use Rattle.shelf_core.specs.Written.{HoldsText, HoldsPart}
-use Rattle.shelf_core.proofs.FileLaws.{only_writes_then, rose_later}
-use Rattle.shelf_core.proofs.WrittenLaws.{shelf_added, shelf_added_part}
+use Rattle.shelf_traits.specs.Files.{ShelfState, Changes, OnlyWritesFile, Rose, GrowsByPrefix, content_of}
+use Rattle.shelf_traits.specs.Written.{HoldsText, HoldsPart}
+use Rattle.shelf_traits.proofs.FileLaws.{only_writes_then, rose_later}
+use Rattle.shelf_traits.proofs.WrittenLaws.{shelf_added, shelf_added_part}
 use Rattle.file_bytes.specs.Writing.{HasPut, IsBroken, Pending, Puts, pending}
 use mathlib.Core.Bool.{false≢true}
 

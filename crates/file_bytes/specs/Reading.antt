@@ -1,10 +1,10 @@
 -- A reader has to trust this file. A file that is being read, in the words of contracts: how far it
 -- was read, and what is there. (Own.)
 use Rattle.std.specs.Prelude.{◌≡◌, ◌≤◌, ◌<◌, ◌+◌, ℕ, List, length, take, drop, Bool, true, Option, Some, None, Result, Ok, Err}
-use Rattle.shelf_core.specs.Files.{Files, ShelfState, ReadsRose, content_of}
-use Rattle.shelf_core.specs.declared.fault.FormFault.TheVariants.{Form}
-use Rattle.shelf_core.specs.declared.fault.ReadError.{ReadError}
-use Rattle.shelf_core.specs.declared.fault.ReadError.TheVariants.{ReadFault, Bad, NoMemory}
+use Rattle.shelf_traits.specs.Files.{Files, ShelfState, ReadsRose, content_of}
+use Rattle.shelf_traits.specs.declared.fault.FormFault.TheVariants.{Form}
+use Rattle.shelf_traits.specs.declared.fault.ReadError.{ReadError}
+use Rattle.shelf_traits.specs.declared.fault.ReadError.TheVariants.{ReadFault, Bad, NoMemory}
 
 -- what a reader holds: the place of the next byte, the bytes from there on that it has asked for,
 -- and whether it knows that the file ends after them

@@ -1,8 +1,8 @@
 -- A reader has to trust this file. A file that is being written, in the words of contracts: the
 -- text so far, of which the last bytes may still wait, until a write fails. (Own.)
 use Rattle.std.specs.Prelude.{◌≡◌, ℕ, List, ◌++◌, Bool, true, false}
-use Rattle.shelf_core.specs.Files.{ShelfState, Changes, OnlyWritesFile, Rose}
-use Rattle.shelf_core.specs.Written.{HoldsText, HoldsPart}
+use Rattle.shelf_traits.specs.Files.{ShelfState, Changes, OnlyWritesFile, Rose}
+use Rattle.shelf_traits.specs.Written.{HoldsText, HoldsPart}
 
 -- what a writer holds: the bytes that wait, and whether a write has failed
 pub record Pending : Type 0 where

@@ -1,12 +1,12 @@
 // Reading a file through one buffer.
 ghost use Rattle.std.specs.Prelude.{◌≡◌, ◌≤◌, ◌<◌, ◌+◌, ◌*◌, ◌^◌, ◌++◌, [], ◌∷◌, length, take, drop, ◌/◌, min, max, IsTrue, ◌↔◌, OnOk, OnErr, IfOk, IfErr, true, false, vec_len, vec_capacity};
-ghost use Rattle.shelf_core.specs.Files.{OnlyReadsFile, ReadsRose};
+ghost use Rattle.shelf_traits.specs.Files.{OnlyReadsFile, ReadsRose};
 ghost use Rattle.std.specs.List.{flat_map};
 ghost use Rattle.file_bytes.specs.declared.reader.TheConstants.{LEAST_ROOM};
 ghost use Rattle.file_bytes.specs.Reading.{Follows, Stops, StopsInList, StopsShort, Took, after_serving};
 
 use crate::field::Field;
-use shelf_core::{Failed, FormFault, ReadError, Shelf};
+use shelf_traits::{Failed, FormFault, ReadError, Shelf};
 use std::alloc::{AllocError, Global};
 use std::marker::Model;
 

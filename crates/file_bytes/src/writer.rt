@@ -1,12 +1,12 @@
 // Writing a file through one buffer.
 ghost use Rattle.std.specs.Prelude.{◌≡◌, ◌≤◌, ◌<◌, ◌+◌, ◌++◌, [], List, ℕ, length, take, drop, OnOk, OnErr};
 ghost use Rattle.std.specs.List.{flat_map};
-ghost use Rattle.shelf_core.specs.Files.{ShelfState, Changes, OnlyWritesFile, Rose};
-ghost use Rattle.shelf_core.specs.Written.{HoldsText, HoldsPart};
+ghost use Rattle.shelf_traits.specs.Files.{ShelfState, Changes, OnlyWritesFile, Rose};
+ghost use Rattle.shelf_traits.specs.Written.{HoldsText, HoldsPart};
 ghost use Rattle.file_bytes.specs.Writing.{HasPut, Keeps, Puts, pending};
 
 use crate::field::Field;
-use shelf_core::{Shelf, WriteFault};
+use shelf_traits::{Shelf, WriteFault};
 use std::marker::Model;
 
 // How many bytes may wait.

@@ -1,6 +1,6 @@
 // What is read and computed before a file is begun.
 ghost use Rattle.std.specs.Prelude.{◌≡◌, IfOk};
-ghost use Rattle.shelf_core.specs.Files.{OnlyReads};
+ghost use Rattle.shelf_traits.specs.Files.{OnlyReads};
 ghost use Rattle.job_words.specs.GrowWords.{IsGrowJob};
 ghost use Rattle.command.specs.Commands.{names_in};
 ghost use Rattle.command.specs.Outcomes.{Plans};
@@ -14,7 +14,7 @@ use grown::GrowPlan;
 use job_words::GrowJob;
 use outputs::{Growth, growing_fault, mode_for};
 use sample_files::{parts_within, read_samples, within_bounds, worked};
-use shelf_core::Shelf;
+use shelf_traits::Shelf;
 use std::alloc::Global;
 use synth_report::Fault;
 

@@ -5,7 +5,7 @@ use Rattle.cells.specs.Cells.{Cells, cell_at}
 use Rattle.cells.specs.declared.place.Size.{Size}
 use Rattle.cells.specs.declared.place.At.{At}
 use Rattle.cells.specs.Places.{IsInside, cell_count}
-use Rattle.shelf_core.specs.Files.{Files, content_of}
+use Rattle.shelf_traits.specs.Files.{Files, content_of}
 use Rattle.source_map.specs.declared.head.Version.TheVariants.{One}
 use Rattle.source_map.specs.declared.map_file.MapFile.TheVariants.{Frames}
 use Rattle.source_map.specs.MapFiles.{frame_map_form, frame_source, map_read}

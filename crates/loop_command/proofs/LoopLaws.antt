@@ -1,7 +1,7 @@
 -- `loop` has one answer to files, and its headline.
 use Rattle.std.proofs.Common.{◌≡◌, refl, ap, sym, ◌∙◌, subst}
-use Rattle.shelf_core.specs.Files.{Files, content_of}
-use Rattle.shelf_core.specs.Written.{written}
+use Rattle.shelf_traits.specs.Files.{Files, content_of}
+use Rattle.shelf_traits.specs.Written.{written}
 use Rattle.source_map.specs.MapFiles.{frame_map_form}
 use Rattle.y4m_clip.specs.Refusals.{IsReadClip}
 use Rattle.y4m_clip.specs.Writing.{clip_form}

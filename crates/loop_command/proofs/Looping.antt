@@ -2,9 +2,9 @@
 use Rattle.std.proofs.Common.{◌≡◌, ◌∙◌, ℕ, List, sym, inl, inr, refl, subst}
 use Rattle.std.specs.Prelude.{Err}
 use Rattle.limits.specs.declared.bounds.TheConstants.{MOST_SAMPLE_CELLS}
-use Rattle.shelf_core.specs.Files.{Files, InFile, OnlyReadsFile, ShelfState}
-use Rattle.shelf_core.specs.declared.fault.ReadError.{ReadError}
-use Rattle.shelf_core.specs.declared.fault.ReadError.TheVariants.{ReadFault, Bad, Limit as ReadLimit, NoMemory as ReadMemory}
+use Rattle.shelf_traits.specs.Files.{Files, InFile, OnlyReadsFile, ShelfState}
+use Rattle.shelf_traits.specs.declared.fault.ReadError.{ReadError}
+use Rattle.shelf_traits.specs.declared.fault.ReadError.TheVariants.{ReadFault, Bad, Limit as ReadLimit, NoMemory as ReadMemory}
 use Rattle.y4m_clip.specs.declared.form.Clip.{Clip}
 use Rattle.y4m_clip.specs.Refusals.{IsReadClip, ReadsClipAs, RefusesClip}
 use Rattle.y4m_clip.proofs.OneClip.{one_clip}

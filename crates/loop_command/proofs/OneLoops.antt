@@ -1,7 +1,7 @@
 -- The report of a loop and the tables of its record are a function of the words and the sample file.
 use Rattle.std.proofs.Common.{◌≡◌, ℕ, ◌≤◌, List, length, ap, sym, ◌∙◌, subst, arith}
 use Rattle.std.specs.Prelude.{Some, slice_index}
-use Rattle.shelf_core.specs.Files.{Files, content_of}
+use Rattle.shelf_traits.specs.Files.{Files, content_of}
 use Rattle.y4m_clip.specs.declared.form.Clip.{Clip}
 use Rattle.y4m_clip.specs.Refusals.{IsReadClip}
 use Rattle.y4m_clip.proofs.OneClip.{one_clip}

@@ -5,7 +5,7 @@ use Rattle.std.specs.FinMap as fin
 use Rattle.cells.specs.declared.place.At.{At}
 use Rattle.cells.specs.Cells.{Cells, IsOnePart, IsVolume, cell_at}
 use Rattle.cells.specs.Places.{IsInside}
-use Rattle.shelf_core.specs.Files.{Files, ShelfState, SinkState, Changes, content_of}
+use Rattle.shelf_traits.specs.Files.{Files, ShelfState, SinkState, Changes, content_of}
 use Rattle.source_map.specs.MapFiles.{IsFrameMap, frame_map_form, frame_source}
 use Rattle.y4m_clip.specs.declared.form.Clip.{Clip}
 use Rattle.y4m_clip.specs.Writing.{clip_form}

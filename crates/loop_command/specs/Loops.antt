@@ -5,8 +5,8 @@ use Rattle.std.specs.Prelude.{◌≡◌, ◌≤◌, ◌⊎◌, ℕ, List, [], �
 use Rattle.cells.specs.declared.place.Size.{Size}
 use Rattle.cells.specs.Cells.{Cells, IsVolume, sizes_of}
 use Rattle.cells.specs.Places.{cell_count, places}
-use Rattle.shelf_core.specs.Files.{Files, content_of}
-use Rattle.shelf_core.specs.declared.fault.What.TheVariants.{Frames, Loop as LoopLimit}
+use Rattle.shelf_traits.specs.Files.{Files, content_of}
+use Rattle.shelf_traits.specs.declared.fault.What.TheVariants.{Frames, Loop as LoopLimit}
 use Rattle.map_canvas.specs.Maps.{SourceMap, picture_of}
 use Rattle.source_map.specs.declared.head.Head.{Head}
 use Rattle.source_map.specs.declared.head.Version.TheVariants.{One}

@@ -1,7 +1,7 @@
 // The files that a loop writes.
 ghost use Rattle.std.specs.Prelude.{◌<◌, [], ◌∷◌, OnErr, OnOk};
-ghost use Rattle.shelf_core.specs.Files.{Changes, OnlyWritesFile, WritesRose};
-ghost use Rattle.shelf_core.specs.Written.{HoldsPart, HoldsText};
+ghost use Rattle.shelf_traits.specs.Files.{Changes, OnlyWritesFile, WritesRose};
+ghost use Rattle.shelf_traits.specs.Written.{HoldsPart, HoldsText};
 ghost use Rattle.source_map.specs.MapFiles.{IsFrameMap, frame_map_form};
 ghost use Rattle.cert_file.specs.RecordFiles.{walk_file_form};
 ghost use Rattle.cert_file.specs.WalkForms.{IsWalkInForm};
@@ -13,7 +13,7 @@ use cells::{Size, Taps, Volume};
 use cert_file::{Head, write_walk};
 use command::RunFiles;
 use job_words::Name;
-use shelf_core::{Shelf, WriteFault};
+use shelf_traits::{Shelf, WriteFault};
 use source_map::write_frame_map;
 use synth_report::FileOf;
 use y4m_clip::ClipWriter;

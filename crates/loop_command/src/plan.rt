@@ -2,7 +2,7 @@
 ghost use Rattle.std.specs.Prelude.{◌≡◌, ◌≤◌, IfErr, IfOk};
 ghost use Rattle.cells.specs.Cells.{IsOnePart};
 ghost use Rattle.cells.specs.Places.{cell_count};
-ghost use Rattle.shelf_core.specs.Files.{OnlyReads};
+ghost use Rattle.shelf_traits.specs.Files.{OnlyReads};
 ghost use Rattle.loop_walk.specs.Walks.{HasNoWalk};
 ghost use Rattle.cert_file.specs.WalkForms.{AreWide};
 ghost use Rattle.command.specs.Commands.{names_in};
@@ -16,7 +16,7 @@ use frame_distance::{distances, filtered};
 use job_words::LoopJob;
 use limits::{MOST_LOOP_CELLS, MOST_LOOP_FRAMES, MOST_SAMPLE_CELLS};
 use loop_walk::{LoopError, LoopRecord, least_loop};
-use shelf_core::{Shelf, What};
+use shelf_traits::{Shelf, What};
 use std::alloc::Global;
 use synth_report::{Fault, FileOf};
 use y4m_clip::{Clip, read_clip};

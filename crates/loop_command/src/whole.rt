@@ -1,7 +1,7 @@
 // The command that makes a loop of a clip.
 ghost use Rattle.std.specs.Prelude.{◌≡◌};
 ghost use Rattle.cells.specs.Cells.{IsOnePart};
-ghost use Rattle.shelf_core.specs.Files.{OnlyWrites};
+ghost use Rattle.shelf_traits.specs.Files.{OnlyWrites};
 ghost use Rattle.y4m_clip.specs.Writing.{writer_of};
 ghost use Rattle.command.specs.Outcomes.{Leaves};
 ghost use Rattle.command.specs.Writing.{WritesRun, text_names};
@@ -14,7 +14,7 @@ use cells::{Size, Volume};
 use cert_file::Head;
 use command::{Then, write_run};
 use job_words::LoopJob;
-use shelf_core::{Shelf, Sink};
+use shelf_traits::{Shelf, Sink};
 use source_map::Version;
 use std::alloc::Global;
 use synth_report::{Fault, Summary};

@@ -4,9 +4,9 @@ use Rattle.std.proofs.lemmas.List.{get_or-append-add}
 use Rattle.std.specs.Prelude.{get_or}
 use Rattle.std.specs.FinMap.{get, insert}
 use Rattle.cells.specs.Cells.{sizes_of}
-use Rattle.shelf_core.specs.Files.{Files, content_of}
-use Rattle.shelf_core.specs.Written.{written}
-use Rattle.shelf_core.proofs.FileLaws.{content_beside, content_inserted, get_beside}
+use Rattle.shelf_traits.specs.Files.{Files, content_of}
+use Rattle.shelf_traits.specs.Written.{written}
+use Rattle.shelf_traits.proofs.FileLaws.{content_beside, content_inserted, get_beside}
 use Rattle.netpbm_p6.specs.declared.picture.Picture.{Picture}
 use Rattle.netpbm_p6.specs.Pictures.{IsRead, p6_form}
 use Rattle.map_canvas.specs.Canvases.{CanvasState}

@@ -1,8 +1,8 @@
 -- The stages of `merge`: each has one answer, and what is planned goes by them.
 use Rattle.std.proofs.Common.{◌≡◌, ℕ, ◌+◌, inl, inr, List, [], ◌∷◌, length, refl, ap, sym, ◌∙◌, subst}
 use Rattle.std.specs.Prelude.{Err}
-use Rattle.shelf_core.specs.Files.{Files, InFile, OnlyReads, OnlyReadsFile, ShelfState, content_of}
-use Rattle.shelf_core.proofs.Sees.{Sees}
+use Rattle.shelf_traits.specs.Files.{Files, InFile, OnlyReads, OnlyReadsFile, ShelfState, content_of}
+use Rattle.shelf_traits.proofs.Sees.{Sees}
 use Rattle.netpbm_p6.specs.declared.picture.Picture.{Picture}
 use Rattle.netpbm_p6.specs.Pictures.{IsRead, Refuses}
 use Rattle.map_canvas.specs.Canvases.{CanvasState}

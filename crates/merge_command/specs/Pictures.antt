@@ -4,7 +4,7 @@
 use Rattle.std.specs.Prelude.{◌≤◌, ◌++◌, ℕ, true, false, List, Result, Ok, Err}
 use Rattle.limits.specs.declared.bounds.TheConstants.{MOST_SAMPLE_CELLS}
 use Rattle.cells.specs.Cells.{count_of}
-use Rattle.shelf_core.specs.Files.{ShelfState, Changes, content_of}
+use Rattle.shelf_traits.specs.Files.{ShelfState, Changes, content_of}
 use Rattle.synth_report.specs.declared.fault.Fault.{Fault}
 use Rattle.command.specs.Commands.{NamedFile}
 use Rattle.command.specs.Stages.{Stages}

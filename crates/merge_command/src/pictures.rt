@@ -1,7 +1,7 @@
 // Several pictures of one size and one maxval.
 ghost use Rattle.std.specs.Prelude.{◌<◌, length, IfOk};
 ghost use Rattle.limits.specs.declared.bounds.TheConstants.{MOST_PARTS};
-ghost use Rattle.shelf_core.specs.Files.{OnlyReads};
+ghost use Rattle.shelf_traits.specs.Files.{OnlyReads};
 ghost use Rattle.command.specs.Commands.{names_in};
 ghost use Rattle.sample_files.specs.Several.{sample_files};
 ghost use Rattle.merge_command.specs.Pictures.{ArePicturesRead, AreSoundPictures};
@@ -9,7 +9,7 @@ ghost use Rattle.merge_command.specs.Pictures.{ArePicturesRead, AreSoundPictures
 use cells::Volume;
 use job_words::Name;
 use sample_files::{Asked, Form, Samples, read_several};
-use shelf_core::Shelf;
+use shelf_traits::Shelf;
 use std::alloc::Global;
 use synth_report::Fault;
 

@@ -2,7 +2,7 @@
 ghost use Rattle.std.specs.Prelude.{◌≡◌, ◌↔◌, IfOk, IsTrue};
 ghost use Rattle.cells.specs.Cells.{IsOnePart};
 ghost use Rattle.netpbm_p6.specs.Pictures.{IsSound};
-ghost use Rattle.shelf_core.specs.Files.{OnlyReads};
+ghost use Rattle.shelf_traits.specs.Files.{OnlyReads};
 ghost use Rattle.job_words.specs.MergeWords.{IsMergeJob};
 ghost use Rattle.command.specs.Commands.{names_in};
 ghost use Rattle.command.specs.Outcomes.{Plans};
@@ -17,7 +17,7 @@ use map_canvas::Canvas;
 use netpbm_p6::Picture;
 use photo_merge::{first_bad_mark, merge_canvas};
 use sample_files::read_part;
-use shelf_core::{Shelf, What};
+use shelf_traits::{Shelf, What};
 use std::alloc::Global;
 use synth_report::{Fault, FileOf};
 

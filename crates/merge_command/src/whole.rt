@@ -1,6 +1,6 @@
 // The command that merges pictures.
 ghost use Rattle.std.specs.Prelude.{◌≡◌};
-ghost use Rattle.shelf_core.specs.Files.{OnlyWrites};
+ghost use Rattle.shelf_traits.specs.Files.{OnlyWrites};
 ghost use Rattle.job_words.specs.MergeWords.{IsMergeJob};
 ghost use Rattle.command.specs.Outcomes.{Leaves};
 ghost use Rattle.command.specs.Writing.{WritesRun, text_names};
@@ -10,7 +10,7 @@ use crate::plan::{Merged, plan};
 use command::{Then, write_run};
 use command_files::{CellMapFile, OutFile, OutWriter};
 use job_words::MergeJob;
-use shelf_core::{Shelf, Sink};
+use shelf_traits::{Shelf, Sink};
 use source_map::Version;
 use std::alloc::Global;
 use synth_report::{Fault, FileOf, Summary};

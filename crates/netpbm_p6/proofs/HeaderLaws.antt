@@ -5,20 +5,20 @@ use Rattle.std.proofs.lemmas.List.{length-take-le, length-drop, take-append-drop
 use Rattle.std.proofs.Math.Seq.{take-add}
 use Rattle.std.specs.Prelude.{Err}
 use Rattle.limits.specs.declared.bounds.TheConstants.{MOST_HEADER_BYTES}
-use Rattle.shelf_core.specs.Files.{ShelfState, OnlyReads, content_of}
-use Rattle.shelf_core.specs.declared.fault.ReadError.{ReadError}
-use Rattle.shelf_core.specs.declared.fault.ReadError.TheVariants.{ReadFault, Bad, Limit, NoMemory}
+use Rattle.shelf_traits.specs.Files.{ShelfState, OnlyReads, content_of}
+use Rattle.shelf_traits.specs.declared.fault.ReadError.{ReadError}
+use Rattle.shelf_traits.specs.declared.fault.ReadError.TheVariants.{ReadFault, Bad, Limit, NoMemory}
 use Rattle.netpbm_p6.specs.declared.scan.Scan.{Scan}
 use Rattle.netpbm_p6.specs.declared.scan.Scan.TheVariants.{Start, Whole}
 use Rattle.netpbm_p6.specs.declared.scan.Header.{Header}
 use Rattle.netpbm_p6.specs.declared.scan.Scanned.{Scanned}
 use Rattle.netpbm_p6.specs.declared.scan.Scanned.TheVariants.{Open, Broken, Ended}
 use Rattle.netpbm_p6.specs.Header.{IsPrefix}
-use Rattle.shelf_core.specs.Decimals.{capped}
+use Rattle.shelf_traits.specs.Decimals.{capped}
 use Rattle.netpbm_p6.specs.Pictures.{BreaksAt, EndsEarly, HeaderTooLong, Refuses, ReadsAs}
 use Rattle.netpbm_p6.specs.Scanning.{run_of, IsOpenScan, EndsIn, IsSoundHeader, IsSoundScanned}
 use Rattle.netpbm_p6.specs.Reading.{Reached, BreaksOff, HasHeader, ScansOn, PassesAs, past_of}
-use Rattle.shelf_core.proofs.Sees.{Sees, sees_weaker, sees_then, fault_later}
+use Rattle.shelf_traits.proofs.Sees.{Sees, sees_weaker, sees_then, fault_later}
 use Rattle.netpbm_p6.proofs.Runs.{run_then}
 use Rattle.netpbm_p6.proofs.Headers.{open_proper, run_is_prefix, broken_none, whole_header}
 

@@ -9,7 +9,7 @@ use Rattle.netpbm_p6.specs.declared.scan.Numbers.TheVariants.{Nothing, Width, Bo
 use Rattle.netpbm_p6.specs.declared.scan.Scan.{Scan}
 use Rattle.netpbm_p6.specs.declared.scan.Scan.TheVariants.{Start, Letter, Magic, Between, Comment, Digits, Whole}
 use Rattle.netpbm_p6.specs.Header.{IsHeader, IsPrefix, IsProperPrefix}
-use Rattle.shelf_core.specs.Decimals.{capped}
+use Rattle.shelf_traits.specs.Decimals.{capped}
 use Rattle.netpbm_p6.specs.Scanning.{run_of, IsOpenScan}
 use Rattle.netpbm_p6.proofs.Runs.{exact, run_then, run_front, run_over, test_positive, capped_scan, run_exact, run_to_capped}
 use Rattle.netpbm_p6.proofs.Accepts.{header_run}

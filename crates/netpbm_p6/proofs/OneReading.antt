@@ -8,13 +8,13 @@ use Rattle.std.proofs.lemmas.List.Elements.{recursion_from_All}
 use Rattle.std.proofs.Math.Seq.{take-append_seam, drop-append_seam}
 use Rattle.limits.specs.declared.bounds.TheConstants.{GREATEST_AXIS, MOST_HEADER_BYTES, MOST_SAMPLE_CELLS}
 use Rattle.cells.specs.Cells.{volume_of}
-use Rattle.shelf_core.specs.declared.fault.ReadError.{ReadError}
-use Rattle.shelf_core.specs.declared.fault.ReadError.TheVariants.{ReadFault, Bad, Limit, NoMemory}
-use Rattle.shelf_core.specs.declared.fault.FormFault.TheVariants.{Form, Depth, Space, Cell, NoFrames, Sample, Trailing}
-use Rattle.shelf_core.specs.declared.fault.What.TheVariants.{Axis, Cells as CellsLimit, Header as HeaderLimit, Frames, Output, Loop, Records, Parts}
+use Rattle.shelf_traits.specs.declared.fault.ReadError.{ReadError}
+use Rattle.shelf_traits.specs.declared.fault.ReadError.TheVariants.{ReadFault, Bad, Limit, NoMemory}
+use Rattle.shelf_traits.specs.declared.fault.FormFault.TheVariants.{Form, Depth, Space, Cell, NoFrames, Sample, Trailing}
+use Rattle.shelf_traits.specs.declared.fault.What.TheVariants.{Axis, Cells as CellsLimit, Header as HeaderLimit, Frames, Output, Loop, Records, Parts}
 use Rattle.netpbm_p6.specs.declared.picture.Picture.{Picture}
 use Rattle.netpbm_p6.specs.Header.{IsHeader, IsPrefix, IsProperPrefix}
-use Rattle.shelf_core.specs.Decimals.{capped}
+use Rattle.shelf_traits.specs.Decimals.{capped}
 use Rattle.netpbm_p6.specs.Pictures.{picture_size, Headed, raster_length, IsPictureOf, IsRead, ShortHeaded, Within, BreaksAt, HeaderTooLong, AxisPasses, Refuses}
 use Rattle.netpbm_p6.proofs.Headers.{same_header, same_numbers}
 

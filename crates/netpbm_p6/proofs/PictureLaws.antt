@@ -7,17 +7,17 @@ use Rattle.cells.specs.declared.place.Size.{Size}
 use Rattle.cells.specs.Places.{cell_count}
 use Rattle.cells.specs.Cells.{Cells, IsOnePart, count_of, volume_of}
 use Rattle.cells.specs.Parts.{count_from}
-use Rattle.shelf_core.specs.Files.{ShelfState, OnlyReads, content_of}
-use Rattle.shelf_core.specs.declared.fault.ReadError.{ReadError}
-use Rattle.shelf_core.specs.declared.fault.ReadError.TheVariants.{ReadFault, Bad, Limit, NoMemory}
-use Rattle.shelf_core.specs.declared.fault.FormFault.TheVariants.{Form, Depth, Space, Cell, NoFrames, Sample, Trailing}
-use Rattle.shelf_core.specs.declared.fault.What.TheVariants.{Axis, Cells as CellsLimit, Header as HeaderLimit, Frames, Output, Loop, Records, Parts}
+use Rattle.shelf_traits.specs.Files.{ShelfState, OnlyReads, content_of}
+use Rattle.shelf_traits.specs.declared.fault.ReadError.{ReadError}
+use Rattle.shelf_traits.specs.declared.fault.ReadError.TheVariants.{ReadFault, Bad, Limit, NoMemory}
+use Rattle.shelf_traits.specs.declared.fault.FormFault.TheVariants.{Form, Depth, Space, Cell, NoFrames, Sample, Trailing}
+use Rattle.shelf_traits.specs.declared.fault.What.TheVariants.{Axis, Cells as CellsLimit, Header as HeaderLimit, Frames, Output, Loop, Records, Parts}
 use Rattle.limits.specs.declared.bounds.TheConstants.{GREATEST_AXIS, MOST_SAMPLE_CELLS}
 use Rattle.netpbm_p6.specs.declared.scan.Header.{Header}
-use Rattle.shelf_core.specs.Decimals.{capped}
+use Rattle.shelf_traits.specs.Decimals.{capped}
 use Rattle.netpbm_p6.specs.Pictures.{picture_size, Headed, raster_length, IsRead, Within, AxisPasses, Refuses, ReadsAs}
 use Rattle.netpbm_p6.specs.Reading.{HasHeader, Exceeds, HeaderFits, IsFirstAbove, RasterRefuses, IsRaster, RastersAs}
-use Rattle.shelf_core.proofs.Sees.{Sees, sees_weaker, sees_then, fault_later}
+use Rattle.shelf_traits.proofs.Sees.{Sees, sees_weaker, sees_then, fault_later}
 
 -- a number that passes a small bound as far as a u64 goes passes it, and one within it stands as it is
 capped_above : (n bound : ℕ) → bound < capped n → bound < n

@@ -3,10 +3,10 @@ use Rattle.std.proofs.Common.{◌≡◌, ℕ, ◌≤◌, ◌<◌, ◌+◌, inl, 
 use Rattle.std.specs.Prelude.{Some, nat_lt}
 use Rattle.std.proofs.lemmas.Bool.{ltb-true, ltb-false}
 use Rattle.std.proofs.lemmas.List.{length-take-le, length-drop, take-take}
-use Rattle.shelf_core.specs.Files.{ShelfState, Reads, Changes, content_of}
-use Rattle.shelf_core.specs.Decimals.{capped}
-use Rattle.shelf_core.proofs.FileLaws.{told_weaker}
-use Rattle.shelf_core.proofs.Sees.{Sees}
+use Rattle.shelf_traits.specs.Files.{ShelfState, Reads, Changes, content_of}
+use Rattle.shelf_traits.specs.Decimals.{capped}
+use Rattle.shelf_traits.proofs.FileLaws.{told_weaker}
+use Rattle.shelf_traits.proofs.Sees.{Sees}
 use Rattle.netpbm_p6.specs.declared.scan.Scan.{Scan}
 use Rattle.netpbm_p6.specs.declared.scan.Scanned.{Scanned}
 use Rattle.netpbm_p6.specs.declared.scan.Scanned.TheVariants.{Open, Broken, Ended}

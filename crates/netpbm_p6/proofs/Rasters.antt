@@ -5,12 +5,12 @@ use Rattle.std.proofs.lemmas.List.{length-drop, length-take-le, take_all, take-t
 use Rattle.cells.specs.declared.place.Size.{Size}
 use Rattle.cells.specs.Places.{cell_count}
 use Rattle.cells.specs.Cells.{Cells, volume_of}
-use Rattle.shelf_core.specs.Files.{ShelfState, OnlyReads, Reads, content_of}
-use Rattle.shelf_core.specs.declared.fault.ReadError.{ReadError}
-use Rattle.shelf_core.specs.declared.fault.ReadError.TheVariants.{ReadFault, Bad, Limit, NoMemory}
-use Rattle.shelf_core.specs.declared.fault.FormFault.TheVariants.{Form, Depth, Space, Cell, NoFrames, Sample, Trailing}
+use Rattle.shelf_traits.specs.Files.{ShelfState, OnlyReads, Reads, content_of}
+use Rattle.shelf_traits.specs.declared.fault.ReadError.{ReadError}
+use Rattle.shelf_traits.specs.declared.fault.ReadError.TheVariants.{ReadFault, Bad, Limit, NoMemory}
+use Rattle.shelf_traits.specs.declared.fault.FormFault.TheVariants.{Form, Depth, Space, Cell, NoFrames, Sample, Trailing}
 use Rattle.netpbm_p6.specs.Reading.{IsFirstAbove, IsAboveIn, EndsShort, RasterRefuses, BeginsWith, GoesPast, FillsAs, StopsAs, IsRaster, RastersAs}
-use Rattle.shelf_core.proofs.Sees.{Sees, sees_then, fault_later}
+use Rattle.shelf_traits.proofs.Sees.{Sees, sees_then, fault_later}
 
 -- A read of the raster.
 

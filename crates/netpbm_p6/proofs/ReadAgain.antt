@@ -10,7 +10,7 @@ use Rattle.cells.specs.Places.{cell_count}
 use Rattle.cells.specs.Parts.{count_from}
 use Rattle.cells.specs.Cells.{Cells, IsCell, IsOnePart, IsVolume, cells_of, volume_of, bytes_of}
 use Rattle.limits.specs.declared.bounds.TheConstants.{MOST_HEADER_BYTES, MOST_SAMPLE_CELLS}
-use Rattle.shelf_core.specs.Decimals.{IsDigit}
+use Rattle.shelf_traits.specs.Decimals.{IsDigit}
 use Rattle.netpbm_p6.specs.Header.{digits_number, IsNumber, IsGroup, IsHeader, IsWhite}
 use Rattle.netpbm_p6.specs.Pictures.{picture_size, IsPictureOf, IsRead, IsPicture, p6_form}
 use Rattle.netpbm_p6.proofs.Shapes.{AllByRecursion-push, length-push, value-push, one_item, white_item}

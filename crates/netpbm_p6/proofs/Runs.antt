@@ -10,7 +10,7 @@ use Rattle.netpbm_p6.specs.declared.scan.Numbers.{Numbers}
 use Rattle.netpbm_p6.specs.declared.scan.Numbers.TheVariants.{Nothing, Width, Both}
 use Rattle.netpbm_p6.specs.declared.scan.Scan.{Scan}
 use Rattle.netpbm_p6.specs.declared.scan.Scan.TheVariants.{Start, Letter, Magic, Between, Comment, Digits, Whole}
-use Rattle.shelf_core.specs.Decimals.{IsDigit, capped}
+use Rattle.shelf_traits.specs.Decimals.{IsDigit, capped}
 use Rattle.netpbm_p6.specs.Scanning.{kind_of, opened, separated, commented, completed, ended, number_end, after_digit, step_of, run_of, IsOpenScan, HasPositiveNumbers}
 
 -- a number as it is

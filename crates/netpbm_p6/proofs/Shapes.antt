@@ -13,7 +13,7 @@ use Rattle.netpbm_p6.specs.declared.scan.Numbers.{Numbers}
 use Rattle.netpbm_p6.specs.declared.scan.Numbers.TheVariants.{Nothing, Width, Both}
 use Rattle.netpbm_p6.specs.declared.scan.Scan.{Scan}
 use Rattle.netpbm_p6.specs.declared.scan.Scan.TheVariants.{Start, Letter, Magic, Between, Comment, Digits, Whole}
-use Rattle.shelf_core.specs.Decimals.{IsDigit, value_behind}
+use Rattle.shelf_traits.specs.Decimals.{IsDigit, value_behind}
 use Rattle.netpbm_p6.specs.Header.{IsWhite, EndsLine, IsItem, IsSeparator, digits_number, IsGroup, IsHeader}
 use Rattle.netpbm_p6.specs.Scanning.{kind_of, opened, separated, commented, completed, ended, number_end, after_digit, step_of, run_of}
 use Rattle.netpbm_p6.proofs.Runs.{exact, digit_bounds}

@@ -3,7 +3,7 @@
 -- without white space before it.)
 use Rattle.std.specs.Prelude.{◌≡◌, ◌≢◌, ◌≤◌, ◌⊎◌, ℕ, List, [], ◌∷◌, ◌++◌, length, All, codes}
 use Rattle.std.specs.List.{AllByRecursion, concat}
-use Rattle.shelf_core.specs.Decimals.{IsDigit, value_behind}
+use Rattle.shelf_traits.specs.Decimals.{IsDigit, value_behind}
 
 -- blank, TAB, CR or LF
 abbrev pub IsWhite : ℕ → Type 0

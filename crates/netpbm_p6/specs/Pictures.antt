@@ -2,14 +2,14 @@
 -- refusal comes at which place. (Netpbm's
 -- PPM, binary form, with a maxval of at most 255; the bounds are this project's own.)
 use Rattle.std.specs.Prelude.{◌≡◌, ◌≤◌, ◌<◌, ◌⊎◌, ◌+◌, ◌*◌, ℕ, List, ◌++◌, length, take, slice_index, All, codes, decimal, Result, Ok, Err}
-use Rattle.shelf_core.specs.Decimals.{capped}
+use Rattle.shelf_traits.specs.Decimals.{capped}
 use Rattle.cells.specs.declared.place.Size.{Size}
 use Rattle.cells.specs.Cells.{Cells, IsOnePart, IsVolume, volume_of, bytes_of, count_of}
-use Rattle.shelf_core.specs.Files.{ShelfState, InFile, ReadsRose}
-use Rattle.shelf_core.specs.declared.fault.ReadError.{ReadError}
-use Rattle.shelf_core.specs.declared.fault.ReadError.TheVariants.{ReadFault, Bad, Limit, NoMemory}
-use Rattle.shelf_core.specs.declared.fault.FormFault.TheVariants.{Form, Depth, Sample, Trailing}
-use Rattle.shelf_core.specs.declared.fault.What.TheVariants.{Axis, Cells as CellsLimit, Header}
+use Rattle.shelf_traits.specs.Files.{ShelfState, InFile, ReadsRose}
+use Rattle.shelf_traits.specs.declared.fault.ReadError.{ReadError}
+use Rattle.shelf_traits.specs.declared.fault.ReadError.TheVariants.{ReadFault, Bad, Limit, NoMemory}
+use Rattle.shelf_traits.specs.declared.fault.FormFault.TheVariants.{Form, Depth, Sample, Trailing}
+use Rattle.shelf_traits.specs.declared.fault.What.TheVariants.{Axis, Cells as CellsLimit, Header}
 use Rattle.netpbm_p6.specs.declared.picture.Picture.{Picture}
 use Rattle.limits.specs.declared.bounds.TheConstants.{GREATEST_AXIS, MOST_HEADER_BYTES, MOST_SAMPLE_CELLS}
 use Rattle.netpbm_p6.specs.Header.{IsHeader, IsPrefix, IsProperPrefix}

@@ -4,17 +4,17 @@ use Rattle.std.specs.Prelude.{◌≡◌, ◌≤◌, ◌<◌, ◌⊎◌, ◌+◌,
 use Rattle.cells.specs.declared.place.Size.{Size}
 use Rattle.cells.specs.Places.{cell_count}
 use Rattle.cells.specs.Cells.{Cells, IsOnePart, bytes_of, volume_of}
-use Rattle.shelf_core.specs.Files.{ShelfState, InFile, ReadsRose}
-use Rattle.shelf_core.specs.declared.fault.ReadError.{ReadError}
-use Rattle.shelf_core.specs.declared.fault.ReadError.TheVariants.{ReadFault, Bad, Limit, NoMemory}
-use Rattle.shelf_core.specs.declared.fault.FormFault.TheVariants.{Form, Depth, Sample, Trailing}
-use Rattle.shelf_core.specs.declared.fault.What.TheVariants.{Axis, Cells as CellsLimit, Header as HeaderLimit}
+use Rattle.shelf_traits.specs.Files.{ShelfState, InFile, ReadsRose}
+use Rattle.shelf_traits.specs.declared.fault.ReadError.{ReadError}
+use Rattle.shelf_traits.specs.declared.fault.ReadError.TheVariants.{ReadFault, Bad, Limit, NoMemory}
+use Rattle.shelf_traits.specs.declared.fault.FormFault.TheVariants.{Form, Depth, Sample, Trailing}
+use Rattle.shelf_traits.specs.declared.fault.What.TheVariants.{Axis, Cells as CellsLimit, Header as HeaderLimit}
 use Rattle.netpbm_p6.specs.declared.scan.Scan.{Scan}
 use Rattle.netpbm_p6.specs.declared.scan.Scan.TheVariants.{Start}
 use Rattle.netpbm_p6.specs.declared.scan.Header.{Header}
 use Rattle.netpbm_p6.specs.declared.scan.Scanned.{Scanned}
 use Rattle.netpbm_p6.specs.declared.scan.Scanned.TheVariants.{Open, Broken, Ended}
-use Rattle.shelf_core.specs.Decimals.{capped}
+use Rattle.shelf_traits.specs.Decimals.{capped}
 use Rattle.netpbm_p6.specs.Pictures.{picture_size, CellsPass, ShortHeaded, Refuses, ReadsAs}
 use Rattle.limits.specs.declared.bounds.TheConstants.{GREATEST_AXIS, MOST_HEADER_BYTES, MOST_SAMPLE_CELLS}
 use Rattle.netpbm_p6.specs.Scanning.{run_of, RunsOn, EndsIn}

@@ -11,7 +11,7 @@ use Rattle.netpbm_p6.specs.declared.scan.Scan.TheVariants.{Start, Letter, Magic,
 use Rattle.netpbm_p6.specs.declared.scan.Header.{Header}
 use Rattle.netpbm_p6.specs.declared.scan.Scanned.{Scanned}
 use Rattle.netpbm_p6.specs.declared.scan.Scanned.TheVariants.{Open, Broken, Ended}
-use Rattle.shelf_core.specs.Decimals.{capped}
+use Rattle.shelf_traits.specs.Decimals.{capped}
 
 abbrev pub kind_of : ℕ → ByteKind
 kind_of b =

@@ -1,13 +1,13 @@
 // Reading the header of a picture, and its limits.
 ghost use Rattle.std.specs.Prelude.{◌≡◌, ◌<◌, length, drop, IfOk, OnErr};
-ghost use Rattle.shelf_core.specs.Files.{InFile, OnlyReadsFile, ReadsRose};
+ghost use Rattle.shelf_traits.specs.Files.{InFile, OnlyReadsFile, ReadsRose};
 ghost use Rattle.netpbm_p6.specs.Scanning.{IsOpenScan, IsSoundScanned, IsSoundHeader};
 ghost use Rattle.netpbm_p6.specs.Reading.{ScansOn, cut_at, past_of, HeadsAs, PassesAs, IsAllowed};
 
 use crate::scan::{Header, Scan, Scanned, scan_piece};
 use cells::Size;
 use limits::{GREATEST_AXIS, MOST_HEADER_BYTES, MOST_SAMPLE_CELLS};
-use shelf_core::{Failed, FormFault, ReadError, Shelf, What};
+use shelf_traits::{Failed, FormFault, ReadError, Shelf, What};
 
 /// How many bytes of a header are read at once, and how often for a header of `MOST_HEADER_BYTES`.
 const PIECE: usize = 4096;

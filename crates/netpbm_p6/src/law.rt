@@ -2,7 +2,7 @@
 ghost use Rattle.std.specs.Prelude.{◌≡◌, ◌≤◌, ℕ, List};
 ghost use Rattle.cells.specs.Cells.{Cells};
 ghost use Rattle.cells.specs.Places.{cell_count};
-ghost use Rattle.shelf_core.specs.declared.fault.ReadError.{ReadError};
+ghost use Rattle.shelf_traits.specs.declared.fault.ReadError.{ReadError};
 ghost use Rattle.limits.specs.declared.bounds.TheConstants.{MOST_SAMPLE_CELLS};
 ghost use Rattle.netpbm_p6.specs.declared.picture.Picture.{Picture};
 ghost use Rattle.netpbm_p6.specs.Pictures.{IsPictureOf, Refuses, IsRead, IsPicture, p6_form};

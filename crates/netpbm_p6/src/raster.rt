@@ -1,12 +1,12 @@
 // Reading the raster of a picture, straight into the volume's buffer.
 ghost use Rattle.std.specs.Prelude.{◌≡◌, ◌≤◌, ◌<◌, ◌+◌, ◌*◌, ◌^◌, length, All, IfSome, IfNone, IfOk, OnOk, IsTrue, ◌↔◌, vec_len};
-ghost use Rattle.shelf_core.specs.Files.{OnlyReadsFile};
+ghost use Rattle.shelf_traits.specs.Files.{OnlyReadsFile};
 ghost use Rattle.cells.specs.Places.{IsSmall, cell_count};
 ghost use Rattle.netpbm_p6.specs.Reading.{IsFirstAbove, IsMadeOf, FillsAs, StopsAs, RastersAs};
 
 use cells::{Size, Volume};
 use limits::MOST_HEADER_BYTES;
-use shelf_core::{FormFault, ReadError, Shelf};
+use shelf_traits::{FormFault, ReadError, Shelf};
 use std::alloc::{AllocError, Global};
 
 // No byte is above maxval. It looks at all of them, so that many can be compared at once.

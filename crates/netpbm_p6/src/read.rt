@@ -1,12 +1,12 @@
 // Reading a picture.
 ghost use Rattle.std.specs.Prelude.{IfOk};
-ghost use Rattle.shelf_core.specs.Files.{OnlyReadsFile};
+ghost use Rattle.shelf_traits.specs.Files.{OnlyReadsFile};
 ghost use Rattle.netpbm_p6.specs.Pictures.{IsSound, ReadsAs};
 
 use crate::Picture;
 use crate::header::{read_header, within_limits};
 use crate::raster::read_raster;
-use shelf_core::{ReadError, Shelf};
+use shelf_traits::{ReadError, Shelf};
 use std::alloc::Global;
 
 /// Reads a picture from the named file, to the file's end.

@@ -1,6 +1,6 @@
 // The scanner of a header: a machine of small steps, one for each byte.
 ghost use Rattle.std.specs.Prelude.{◌≡◌, length, IfSome};
-ghost use Rattle.shelf_core.specs.Decimals.{capped};
+ghost use Rattle.shelf_traits.specs.Decimals.{capped};
 ghost use Rattle.netpbm_p6.specs.Scanning.{kind_of, opened, separated, commented, completed, ended, after_digit, step_of, IsOpenScan, HasPositiveNumbers, IsScanned, IsSoundScanned};
 
 /// What a byte is in a header.

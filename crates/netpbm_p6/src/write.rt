@@ -1,12 +1,12 @@
 // Writing a picture.
 ghost use Rattle.std.specs.Prelude.{◌++◌, OnOk, OnErr, decimal};
-ghost use Rattle.shelf_core.specs.Files.{Changes, WritesRose, OnlyWritesFile, Appends, AppendsPart};
-ghost use Rattle.shelf_core.specs.Written.{HoldsText, HoldsPart};
+ghost use Rattle.shelf_traits.specs.Files.{Changes, WritesRose, OnlyWritesFile, Appends, AppendsPart};
+ghost use Rattle.shelf_traits.specs.Written.{HoldsText, HoldsPart};
 ghost use Rattle.netpbm_p6.specs.Pictures.{IsPicture, p6_form};
 
 use cells::Volume;
 use itoa::Buffer;
-use shelf_core::{Failed, Shelf, WriteFault};
+use shelf_traits::{Failed, Shelf, WriteFault};
 
 // Adds a number in decimal, and what ends it.
 fn add_number<S: Shelf>(shelf: &mut S, name: &str, number: u32, end: &[u8]) -> Result<(), Failed>

@@ -3,7 +3,7 @@ use Rattle.std.proofs.Common.{◌≡◌, ◌≤◌, [], ap, sym, ◌∙◌, subs
 use Rattle.std.specs.Prelude.{Ok}
 use Rattle.cells.specs.Cells.{sizes_of}
 use Rattle.cells.specs.Places.{cell_count}
-use Rattle.shelf_core.specs.Files.{Files, content_of}
+use Rattle.shelf_traits.specs.Files.{Files, content_of}
 use Rattle.netpbm_p6.specs.Pictures.{IsRead, p6_form}
 use Rattle.netpbm_p6.proofs.ReadAgain.{written_is_read}
 use Rattle.source_map.specs.declared.head.Version.TheVariants.{One}

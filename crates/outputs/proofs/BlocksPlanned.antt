@@ -2,8 +2,8 @@
 use Rattle.std.proofs.Common.{◌≡◌, ℕ, refl}
 use Rattle.cells.specs.Cells.{IsVolume}
 use Rattle.cells.specs.Places.{IsSmall}
-use Rattle.shelf_core.specs.Files.{Files, ShelfState}
-use Rattle.shelf_core.specs.declared.fault.What.TheVariants.{Output, Records as RecordsLimit}
+use Rattle.shelf_traits.specs.Files.{Files, ShelfState}
+use Rattle.shelf_traits.specs.declared.fault.What.TheVariants.{Output, Records as RecordsLimit}
 use Rattle.limits.specs.declared.bounds.TheConstants.{MOST_BOX_CELLS, MOST_OUTPUT_CELLS}
 use Rattle.netpbm_p6.specs.declared.picture.Picture.{Picture}
 use Rattle.netpbm_p6.specs.Pictures.{IsSound}

@@ -3,7 +3,7 @@ use Rattle.std.proofs.Common.{◌≡◌, [], ap, sym, ◌∙◌, subst}
 use Rattle.std.specs.FinMap.{insert}
 use Rattle.cells.specs.Cells.{Cells, sizes_of}
 use Rattle.cells.specs.Places.{IsSmall}
-use Rattle.shelf_core.specs.Files.{Files, content_of}
+use Rattle.shelf_traits.specs.Files.{Files, content_of}
 use Rattle.netpbm_p6.specs.declared.picture.Picture.{Picture}
 use Rattle.netpbm_p6.specs.Pictures.{IsRead, p6_form}
 use Rattle.map_canvas.proofs.Pictures.{full_picture}

@@ -3,7 +3,7 @@ use Rattle.std.proofs.Common.{◌≡◌, ◌≤◌, Bool, true, false, List, len
 use Rattle.std.specs.Prelude.{All, Ok}
 use Rattle.cells.specs.Cells.{Cells, sizes_of}
 use Rattle.cells.specs.Places.{cell_count}
-use Rattle.shelf_core.specs.Files.{Files, content_of}
+use Rattle.shelf_traits.specs.Files.{Files, content_of}
 use Rattle.netpbm_p6.proofs.ReadAgain.{written_is_read}
 use Rattle.y4m_clip.proofs.ClipAgain as clip
 use Rattle.source_map.specs.declared.map_file.MapFile.TheVariants.{Cells as CellMap}

@@ -1,8 +1,8 @@
 -- `grow` has one answer to files, and its headline.
 use Rattle.std.proofs.Common.{◌≡◌, ℕ, ◌+◌, ◌*◌, ◌≤◌, true, List, [], ◌∷◌, length, ap, refl, sym, ◌∙◌, subst}
 use Rattle.cells.specs.Cells.{Cells, IsVolume, sizes_of}
-use Rattle.shelf_core.specs.Files.{Files, content_of}
-use Rattle.shelf_core.specs.Written.{written}
+use Rattle.shelf_traits.specs.Files.{Files, content_of}
+use Rattle.shelf_traits.specs.Written.{written}
 use Rattle.map_canvas.specs.Maps.{IsMap}
 use Rattle.map_canvas.proofs.Pictures.{full_picture}
 use Rattle.cut_check.specs.declared.record.CutRecord.{CutRecord}

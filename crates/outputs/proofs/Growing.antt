@@ -7,8 +7,8 @@ use Rattle.cells.specs.declared.place.Size.{Size}
 use Rattle.cells.specs.Cells.{IsVolume, sizes_of}
 use Rattle.cells.specs.SizeLists.{AreSizes}
 use Rattle.cells.specs.Places.{IsSmall, cell_count}
-use Rattle.shelf_core.specs.Files.{Files, OnlyReads, ShelfState, content_of}
-use Rattle.shelf_core.proofs.Sees.{Sees}
+use Rattle.shelf_traits.specs.Files.{Files, OnlyReads, ShelfState, content_of}
+use Rattle.shelf_traits.proofs.Sees.{Sees}
 use Rattle.grown.specs.declared.plan.GrowError.{GrowError}
 use Rattle.grown.specs.declared.plan.GrowError.TheVariants as error
 use Rattle.grown.specs.declared.plan.Grown.{Grown}

@@ -3,7 +3,7 @@ use Rattle.std.proofs.Common.{◌≡◌, ℕ, ◌-◌, List, length, ap, sym, �
 use Rattle.std.proofs.lemmas.List.Elements.{length_all_zip}
 use Rattle.cells.specs.Cells.{sizes_of}
 use Rattle.cells.specs.Places.{IsSmall}
-use Rattle.shelf_core.specs.Files.{Files, content_of}
+use Rattle.shelf_traits.specs.Files.{Files, content_of}
 use Rattle.map_canvas.specs.Maps.{SourceMap, picture_of}
 use Rattle.least_choice.specs.Totals.{map_total}
 use Rattle.grown.specs.Grown.{Growth, IsDone, IsRun}

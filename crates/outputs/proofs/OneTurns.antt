@@ -8,9 +8,9 @@ use Rattle.std.specs.Prelude.{Result, Ok, Err}
 use Rattle.cells.specs.declared.place.Size.{Size}
 use Rattle.file_bytes.specs.Reading.{StandsAt}
 use Rattle.map_canvas.specs.Maps.{SourceMap}
-use Rattle.shelf_core.specs.declared.fault.FormFault.TheVariants.{Form}
-use Rattle.shelf_core.specs.declared.fault.ReadError.{ReadError}
-use Rattle.shelf_core.specs.declared.fault.ReadError.TheVariants.{Bad}
+use Rattle.shelf_traits.specs.declared.fault.FormFault.TheVariants.{Form}
+use Rattle.shelf_traits.specs.declared.fault.ReadError.{ReadError}
+use Rattle.shelf_traits.specs.declared.fault.ReadError.TheVariants.{Bad}
 use Rattle.source_map.specs.declared.head.Version.{Version}
 use Rattle.source_map.specs.declared.head.Version.TheVariants.{One, Two}
 use Rattle.source_map.specs.declared.head_reading.Start.{Start}

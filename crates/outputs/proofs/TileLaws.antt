@@ -2,8 +2,8 @@
 use Rattle.std.proofs.Common.{◌≡◌, ℕ, List, ap, ◌∙◌}
 use Rattle.std.specs.FinMap.{insert}
 use Rattle.cells.specs.Cells.{sizes_of}
-use Rattle.shelf_core.specs.Files.{Files}
-use Rattle.shelf_core.specs.Written.{written}
+use Rattle.shelf_traits.specs.Files.{Files}
+use Rattle.shelf_traits.specs.Written.{written}
 use Rattle.map_canvas.proofs.Pictures.{full_picture}
 use Rattle.source_map.specs.MapFiles.{cell_map_form}
 use Rattle.source_map.specs.declared.head.Version.TheVariants.{One}

@@ -1,8 +1,8 @@
 -- The stages of `tile`: each has one answer, and what is planned goes by them.
 use Rattle.std.proofs.Common.{◌≡◌, ℕ, inl, inr, List, refl, sym, subst, arith}
 use Rattle.std.specs.Prelude.{Err}
-use Rattle.shelf_core.specs.Files.{Files, InFile, OnlyReadsFile, ShelfState}
-use Rattle.shelf_core.specs.declared.fault.ReadError.{ReadError}
+use Rattle.shelf_traits.specs.Files.{Files, InFile, OnlyReadsFile, ShelfState}
+use Rattle.shelf_traits.specs.declared.fault.ReadError.{ReadError}
 use Rattle.synth_report.specs.declared.fault.Fault.{Fault}
 use Rattle.synth_report.specs.declared.fault.FileOf.TheVariants as part
 use Rattle.command.specs.Faults.{fault_of_read}

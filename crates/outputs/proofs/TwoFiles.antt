@@ -1,8 +1,8 @@
 -- The two files that a run writes: each holds its text, and all others are as before.
 use Rattle.std.proofs.Common.{◌≡◌, ◌≢◌, ℕ, List, [], ap, ◌∙◌, arith}
 use Rattle.std.specs.FinMap.{get, insert}
-use Rattle.shelf_core.specs.Files.{Files, content_of}
-use Rattle.shelf_core.proofs.FileLaws.{content_beside, content_inserted, get_beside}
+use Rattle.shelf_traits.specs.Files.{Files, content_of}
+use Rattle.shelf_traits.proofs.FileLaws.{content_beside, content_inserted, get_beside}
 use Rattle.job_words.specs.declared.tile.TileJob.{TileJob}
 use Rattle.job_words.specs.TileWords.{IsTileJob}
 

@@ -4,7 +4,7 @@ use Rattle.std.specs.FinMap as fin
 use Rattle.cells.specs.declared.place.At.{At}
 use Rattle.cells.specs.declared.place.Size.{Size}
 use Rattle.cells.specs.Cells.{Cells, IsOnePart, IsVolume, cell_at, sizes_of}
-use Rattle.shelf_core.specs.Files.{Files, content_of}
+use Rattle.shelf_traits.specs.Files.{Files, content_of}
 use Rattle.netpbm_p6.specs.declared.picture.Picture.{Picture}
 use Rattle.netpbm_p6.specs.Pictures.{IsRead, p6_form}
 use Rattle.map_canvas.specs.Maps.{SourceMap, IsFull, IsMap, IsOver, empty_map, map_at, picture_of}

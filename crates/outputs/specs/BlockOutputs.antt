@@ -4,7 +4,7 @@ use Rattle.std.specs.Prelude.{◌≡◌, List, [], ◌∷◌}
 use Rattle.cells.specs.declared.place.Size.{Size}
 use Rattle.cells.specs.Cells.{Cells, IsVolume, sizes_of}
 use Rattle.cells.specs.Places.{IsSmall}
-use Rattle.shelf_core.specs.declared.fault.What.TheVariants.{Records as RecordsLimit}
+use Rattle.shelf_traits.specs.declared.fault.What.TheVariants.{Records as RecordsLimit}
 use Rattle.netpbm_p6.specs.declared.picture.Picture.{Picture}
 use Rattle.netpbm_p6.specs.Pictures.{IsSound, p6_form}
 use Rattle.source_map.specs.MapFiles.{cell_map_form}

@@ -5,8 +5,8 @@ use Rattle.cells.specs.declared.place.Size.{Size}
 use Rattle.cells.specs.Cells.{Cells, IsVolume, sizes_of}
 use Rattle.cells.specs.SizeLists.{AreSizes}
 use Rattle.limits.specs.declared.bounds.TheConstants.{MOST_BOX_CELLS, MOST_PARTS}
-use Rattle.shelf_core.specs.Files.{Files, content_of}
-use Rattle.shelf_core.specs.declared.fault.What.TheVariants.{Records as RecordsLimit}
+use Rattle.shelf_traits.specs.Files.{Files, content_of}
+use Rattle.shelf_traits.specs.declared.fault.What.TheVariants.{Records as RecordsLimit}
 use Rattle.source_map.specs.declared.head.Head.{Head}
 use Rattle.source_map.specs.declared.head.Version.{Version}
 use Rattle.turned.specs.declared.turn.TheConstants.{TURNS}

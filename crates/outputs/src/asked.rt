@@ -6,7 +6,7 @@ use grown::GrowError;
 use job_words::Place;
 use limits::MOST_BOX_CELLS;
 use patch_picks::Mode;
-use shelf_core::What;
+use shelf_traits::What;
 use synth_report::Fault;
 
 /// The mode of growing, by what the words ask for.

@@ -1,6 +1,6 @@
 // The files of a growth, and the report.
 ghost use Rattle.std.specs.Prelude.{◌≡◌};
-ghost use Rattle.shelf_core.specs.Files.{OnlyWrites};
+ghost use Rattle.shelf_traits.specs.Files.{OnlyWrites};
 ghost use Rattle.job_words.specs.GrowWords.{IsGrowJob};
 ghost use Rattle.command.specs.Writing.{WritesRun, text_names};
 ghost use Rattle.command_files.specs.Outs.{out_writer};
@@ -13,7 +13,7 @@ use cert_file::Head;
 use command::{Then, write_run};
 use command_files::{CutsFile, OutFile, OutWriter};
 use job_words::GrowJob;
-use shelf_core::{Shelf, Sink};
+use shelf_traits::{Shelf, Sink};
 use synth_report::{Fault, FileOf, Summary};
 
 // The summary of a growth.

@@ -1,7 +1,7 @@
 // The map file of a run.
 ghost use Rattle.std.specs.Prelude.{◌≡◌, [], ◌∷◌, OnErr, OnOk};
-ghost use Rattle.shelf_core.specs.Files.{Changes, OnlyWritesFile, WritesRose};
-ghost use Rattle.shelf_core.specs.Written.{HoldsPart, HoldsText};
+ghost use Rattle.shelf_traits.specs.Files.{Changes, OnlyWritesFile, WritesRose};
+ghost use Rattle.shelf_traits.specs.Written.{HoldsPart, HoldsText};
 ghost use Rattle.synth_report.specs.declared.fault.FileOf.TheVariants as part;
 ghost use Rattle.command.specs.Writing.{file_text};
 ghost use Rattle.outputs.specs.GrownMaps.{IsReadyMap, map_text, version_of};
@@ -9,7 +9,7 @@ ghost use Rattle.outputs.specs.GrownMaps.{IsReadyMap, map_text, version_of};
 use cells::Sizes;
 use command::RunFiles;
 use job_words::Name;
-use shelf_core::{Shelf, WriteFault};
+use shelf_traits::{Shelf, WriteFault};
 use source_map::{Map, Version, write_cell_map};
 use synth_report::FileOf;
 use turned_map::write_turned_map;

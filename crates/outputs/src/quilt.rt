@@ -7,7 +7,7 @@ use cells::Size;
 use limits::{MOST_BOX_CELLS, MOST_OUTPUT_CELLS};
 use netpbm_p6::Picture;
 use quilted::{QuiltError, Quilted};
-use shelf_core::What;
+use shelf_traits::What;
 use synth_report::Fault;
 
 /// The picture that was read, and the output quilted from its blocks.

@@ -1,6 +1,6 @@
 // The files of a quilt, and the report.
 ghost use Rattle.std.specs.Prelude.{◌≡◌};
-ghost use Rattle.shelf_core.specs.Files.{OnlyWrites};
+ghost use Rattle.shelf_traits.specs.Files.{OnlyWrites};
 ghost use Rattle.command.specs.Writing.{WritesRun, text_names};
 ghost use Rattle.outputs.specs.BlockOutputs.{CanBeWritten, quilt_files, quilt_head};
 
@@ -12,7 +12,7 @@ use command::{Then, write_run};
 use command_files::{CellMapFile, OutFile, OutWriter};
 use job_words::Names;
 use quilted::QuiltRun;
-use shelf_core::{Shelf, Sink};
+use shelf_traits::{Shelf, Sink};
 use source_map::Version;
 use synth_report::{Fault, FileOf, Summary};
 

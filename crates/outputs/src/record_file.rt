@@ -8,7 +8,7 @@ use block_check::BlockRecord;
 use cert_file::{Head, write_blocks};
 use command::RunFiles;
 use job_words::Name;
-use shelf_core::{Shelf, WriteFault};
+use shelf_traits::{Shelf, WriteFault};
 use synth_report::FileOf;
 
 /// The record file of blocks, in the order in which they are laid.

@@ -1,6 +1,6 @@
 // The files of a tiling, and the report.
 ghost use Rattle.std.specs.Prelude.{◌≡◌};
-ghost use Rattle.shelf_core.specs.Files.{OnlyWrites};
+ghost use Rattle.shelf_traits.specs.Files.{OnlyWrites};
 ghost use Rattle.job_words.specs.TileWords.{IsTileJob};
 ghost use Rattle.command.specs.Writing.{WritesRun, text_names};
 ghost use Rattle.command_files.specs.Outs.{out_writer};
@@ -10,7 +10,7 @@ use crate::tiled::TiledSample;
 use command::{Then, write_run};
 use command_files::{CellMapFile, OutFile, OutWriter};
 use job_words::TileJob;
-use shelf_core::{Shelf, Sink};
+use shelf_traits::{Shelf, Sink};
 use source_map::Version;
 use synth_report::{Fault, FileOf, Summary};
 

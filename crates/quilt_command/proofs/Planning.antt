@@ -2,7 +2,7 @@
 use Rattle.std.proofs.Common.{refl, arith}
 use Rattle.cells.specs.Cells.{IsVolume}
 use Rattle.cells.specs.Places.{HasAxes, IsSmall}
-use Rattle.shelf_core.specs.Files.{Files, InFile, OnlyReadsFile, ShelfState, content_of}
+use Rattle.shelf_traits.specs.Files.{Files, InFile, OnlyReadsFile, ShelfState, content_of}
 use Rattle.netpbm_p6.specs.declared.picture.Picture.{Picture}
 use Rattle.netpbm_p6.specs.Pictures.{IsRead, IsSound, Refuses}
 use Rattle.quilted.specs.Runs.{by_overlap}

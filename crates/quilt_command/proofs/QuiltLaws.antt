@@ -1,7 +1,7 @@
 -- `quilt` has one answer to files, and its headline.
 use Rattle.std.proofs.Common.{◌≡◌, length, refl, ap, ◌∙◌}
-use Rattle.shelf_core.specs.Files.{Files}
-use Rattle.shelf_core.specs.Written.{written}
+use Rattle.shelf_traits.specs.Files.{Files}
+use Rattle.shelf_traits.specs.Written.{written}
 use Rattle.netpbm_p6.specs.declared.picture.Picture.{Picture}
 use Rattle.quilted.specs.Runs.{by_overlap}
 use Rattle.quilted.specs.declared.asked.Quilted.{Quilted}

@@ -2,7 +2,7 @@
 -- these words. (Own.)
 use Rattle.std.specs.Prelude.{◌≡◌, ℕ, List, length, Ok}
 use Rattle.cells.specs.Cells.{Cells}
-use Rattle.shelf_core.specs.Files.{Files, ShelfState, SinkState, Changes, content_of}
+use Rattle.shelf_traits.specs.Files.{Files, ShelfState, SinkState, Changes, content_of}
 use Rattle.map_canvas.specs.Maps.{empty_map}
 use Rattle.block_check.specs.declared.block.BlockRecord.{BlockRecord}
 use Rattle.quilted.specs.Runs.{by_overlap}

@@ -2,7 +2,7 @@
 -- be trusted: contracts cite these words. (Own.)
 use Rattle.std.specs.Prelude.{◌≡◌, ℕ, List, [], ◌∷◌, length}
 use Rattle.cells.specs.declared.place.Size.{Size}
-use Rattle.shelf_core.specs.Files.{Files, content_of}
+use Rattle.shelf_traits.specs.Files.{Files, content_of}
 use Rattle.netpbm_p6.specs.declared.picture.Picture.{Picture}
 use Rattle.netpbm_p6.specs.Pictures.{IsRead, Refuses}
 use Rattle.quilted.specs.Runs.{by_overlap}

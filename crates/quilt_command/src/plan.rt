@@ -1,6 +1,6 @@
 // What is read and computed before a file is begun.
 ghost use Rattle.std.specs.Prelude.{◌≡◌, IfOk};
-ghost use Rattle.shelf_core.specs.Files.{OnlyReads};
+ghost use Rattle.shelf_traits.specs.Files.{OnlyReads};
 ghost use Rattle.job_words.specs.QuiltWords.{IsQuiltJob};
 ghost use Rattle.outputs.specs.declared.quilt.PictureQuilt.{PictureQuilt};
 ghost use Rattle.outputs.specs.BlockOutputs.{quilt_files};
@@ -15,7 +15,7 @@ use outputs::{PictureQuilt, quilt_fault, within_output};
 use quilt_run::quilt_canvas;
 use quilted::QuiltRun;
 use sample_files::read_picture;
-use shelf_core::Shelf;
+use shelf_traits::Shelf;
 use std::alloc::Global;
 use synth_report::Fault;
 

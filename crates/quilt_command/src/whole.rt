@@ -1,6 +1,6 @@
 // The command that quilts a picture from blocks of a sample.
 ghost use Rattle.std.specs.Prelude.{◌≡◌};
-ghost use Rattle.shelf_core.specs.Files.{OnlyWrites};
+ghost use Rattle.shelf_traits.specs.Files.{OnlyWrites};
 ghost use Rattle.job_words.specs.QuiltWords.{IsQuiltJob};
 ghost use Rattle.outputs.specs.BlockOutputs.{quilt_files};
 ghost use Rattle.command.specs.Outcomes.{Leaves};
@@ -11,7 +11,7 @@ use crate::plan::{plan, quilt_size, run_of};
 use job_words::QuiltJob;
 use outputs::{PictureQuilt, write_quilt};
 use quilted::Quilted;
-use shelf_core::{Shelf, Sink};
+use shelf_traits::{Shelf, Sink};
 use std::alloc::Global;
 use synth_report::{Fault, Summary};
 

@@ -1,10 +1,10 @@
 -- A file is read by its first byte, and what is seen of it then holds of it at the entry.
 use Rattle.std.proofs.Common.{◌≡◌, ℕ, List, ◌++◌, Bool, true, false, sym, ap, ◌∙◌, subst}
 use Rattle.std.specs.Prelude.{Result, Ok, Err}
-use Rattle.shelf_core.specs.Files.{ShelfState, InFile, OnlyReads, content_of}
-use Rattle.shelf_core.specs.declared.fault.ReadError.{ReadError}
-use Rattle.shelf_core.specs.declared.fault.ReadError.TheVariants as error
-use Rattle.shelf_core.proofs.Sees.{fault_later, sees_later, sees_then}
+use Rattle.shelf_traits.specs.Files.{ShelfState, InFile, OnlyReads, content_of}
+use Rattle.shelf_traits.specs.declared.fault.ReadError.{ReadError}
+use Rattle.shelf_traits.specs.declared.fault.ReadError.TheVariants as error
+use Rattle.shelf_traits.proofs.Sees.{fault_later, sees_later, sees_then}
 use Rattle.netpbm_p6.specs.declared.picture.Picture.{Picture as PictureRead}
 use Rattle.netpbm_p6.specs.Pictures.{IsPictureOf}
 use Rattle.y4m_clip.specs.declared.form.Clip.{Clip as ClipRead}

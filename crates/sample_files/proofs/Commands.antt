@@ -6,9 +6,9 @@ use Rattle.limits.specs.declared.bounds.TheConstants.{MOST_PARTS, MOST_SAMPLE_CE
 use Rattle.turned.specs.declared.turn.TheConstants.{TURNS}
 use Rattle.cells.specs.Cells.{Cells, IsOnePart, count_of}
 use Rattle.cells.specs.PartLists.{parts_of}
-use Rattle.shelf_core.specs.Files.{Files, OnlyReads, ShelfState, content_of}
-use Rattle.shelf_core.specs.declared.fault.What.{What}
-use Rattle.shelf_core.proofs.FileLaws.{told_weaker}
+use Rattle.shelf_traits.specs.Files.{Files, OnlyReads, ShelfState, content_of}
+use Rattle.shelf_traits.specs.declared.fault.What.{What}
+use Rattle.shelf_traits.proofs.FileLaws.{told_weaker}
 use Rattle.synth_report.specs.declared.fault.FileOf.{FileOf}
 use Rattle.synth_report.specs.declared.fault.Fault.{Fault}
 use Rattle.synth_report.specs.declared.fault.Fault.TheVariants.{Words, Form as FormFault, Unlike, Mark, Limit, Read, Write, NoMemory, NoLoop}

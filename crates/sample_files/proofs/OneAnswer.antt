@@ -6,7 +6,7 @@ use Rattle.cells.specs.declared.place.Size.{Size}
 use Rattle.cells.specs.Places.{cell_count}
 use Rattle.cells.specs.Cells.{Cells, count_of}
 use Rattle.cells.specs.PartLists.{parts_of}
-use Rattle.shelf_core.specs.declared.fault.What.TheVariants.{Cells as CellsLimit}
+use Rattle.shelf_traits.specs.declared.fault.What.TheVariants.{Cells as CellsLimit}
 use Rattle.synth_report.specs.declared.fault.FileOf.TheVariants as part
 use Rattle.synth_report.specs.declared.fault.Fault.{Fault}
 use Rattle.synth_report.specs.declared.fault.Fault.TheVariants.{Limit}

@@ -1,11 +1,11 @@
 -- Pictures that a run reads alone: their bytes have one answer, and what their reader answers.
 use Rattle.std.proofs.Common.{◌≡◌, ℕ, ◌+◌, inl, inr, List, [], ◌∷◌, sym, ◌∙◌, subst}
 use Rattle.std.specs.Prelude.{Err}
-use Rattle.shelf_core.specs.Files.{Files, OnlyReads, OnlyReadsFile, ShelfState}
-use Rattle.shelf_core.specs.declared.fault.FormFault.{FormFault}
-use Rattle.shelf_core.specs.declared.fault.What.{What}
-use Rattle.shelf_core.specs.declared.fault.ReadError.{ReadError}
-use Rattle.shelf_core.specs.declared.fault.ReadError.TheVariants.{Bad, Limit, NoMemory, ReadFault}
+use Rattle.shelf_traits.specs.Files.{Files, OnlyReads, OnlyReadsFile, ShelfState}
+use Rattle.shelf_traits.specs.declared.fault.FormFault.{FormFault}
+use Rattle.shelf_traits.specs.declared.fault.What.{What}
+use Rattle.shelf_traits.specs.declared.fault.ReadError.{ReadError}
+use Rattle.shelf_traits.specs.declared.fault.ReadError.TheVariants.{Bad, Limit, NoMemory, ReadFault}
 use Rattle.netpbm_p6.specs.declared.picture.Picture.{Picture}
 use Rattle.netpbm_p6.specs.Pictures.{IsRead, ReadsAs, Refuses}
 use Rattle.netpbm_p6.proofs.OneReading as p6

@@ -9,7 +9,7 @@ use Rattle.cells.specs.declared.place.Size.{Size}
 use Rattle.cells.specs.Places.{cell_count}
 use Rattle.cells.specs.Parts.{count_from}
 use Rattle.cells.specs.Cells.{Cells, IsCell, IsOnePart, IsVolume, bytes_of, count_of, sizes_of, with_part}
-use Rattle.shelf_core.specs.declared.fault.ReadError.{ReadError}
+use Rattle.shelf_traits.specs.declared.fault.ReadError.{ReadError}
 use Rattle.netpbm_p6.proofs.OneReading.{not_both, one_picture, one_refusal}
 use Rattle.y4m_clip.specs.declared.form.ClipForm.{ClipForm}
 use Rattle.y4m_clip.specs.declared.form.SpaceKind.{SpaceKind}

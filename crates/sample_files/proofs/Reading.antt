@@ -12,8 +12,8 @@ use Rattle.cells.specs.declared.place.Size.{Size}
 use Rattle.cells.specs.Cells.{Cells, count_of, sizes_of, with_part}
 use Rattle.cells.specs.PartLists.{parts_of}
 use Rattle.cells.proofs.Joining.{count_behind}
-use Rattle.shelf_core.specs.Files.{Files, ShelfState, OnlyReads, OnlyReadsFile, Changes, content_of}
-use Rattle.shelf_core.proofs.FileLaws.{among_head, only_reads_of_more, rose_later, told_both, told_then, told_weaker}
+use Rattle.shelf_traits.specs.Files.{Files, ShelfState, OnlyReads, OnlyReadsFile, Changes, content_of}
+use Rattle.shelf_traits.proofs.FileLaws.{among_head, only_reads_of_more, rose_later, told_both, told_then, told_weaker}
 use Rattle.synth_report.specs.declared.fault.FileOf.TheVariants as part
 use Rattle.synth_report.specs.declared.fault.Fault.{Fault}
 use Rattle.synth_report.specs.declared.fault.Fault.TheVariants.{Words, Form as FormFault, Unlike, Mark, Limit, Read, Write, NoMemory, NoLoop}

@@ -2,13 +2,13 @@
 use Rattle.std.proofs.Common.{◌≡◌, ℕ, ◌*◌, ◌≤◌, inl, inr, List, ap, ◌∙◌, sym, arith, Bool, true, false, refl}
 use Rattle.limits.specs.declared.bounds.TheConstants.{MOST_SAMPLE_CELLS}
 use Rattle.cells.specs.Cells.{Cells, count_of}
-use Rattle.shelf_core.specs.declared.fault.What.TheVariants.{Cells as CellsLimit}
+use Rattle.shelf_traits.specs.declared.fault.What.TheVariants.{Cells as CellsLimit}
 use Rattle.turned.specs.declared.turn.TheConstants.{TURNS}
 use Rattle.synth_report.specs.declared.fault.FileOf.TheVariants as part
 use Rattle.synth_report.specs.declared.fault.Fault.{Fault}
 use Rattle.synth_report.specs.declared.fault.Fault.TheVariants.{Limit}
 use Rattle.command.specs.Faults.{fault_of_read}
-use Rattle.shelf_core.specs.declared.fault.ReadError.{ReadError}
+use Rattle.shelf_traits.specs.declared.fault.ReadError.{ReadError}
 use Rattle.sample_files.specs.declared.form.Form.{Form}
 use Rattle.sample_files.specs.declared.several.Asked.{Asked}
 use Rattle.sample_files.specs.Samples.{RefusesIn, StandsIn, can_turn}

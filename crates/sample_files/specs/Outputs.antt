@@ -4,7 +4,7 @@ use Rattle.std.specs.Prelude.{◌≤◌, ◌⊎◌, ℕ, List, Result, Ok, Err}
 use Rattle.limits.specs.declared.bounds.TheConstants.{GREATEST_AXIS, MOST_OUTPUT_CELLS, MOST_PICTURE_FRAMES}
 use Rattle.cells.specs.declared.place.Size.{Size}
 use Rattle.cells.specs.Places.{cell_count}
-use Rattle.shelf_core.specs.declared.fault.What.TheVariants.{Frames, Output}
+use Rattle.shelf_traits.specs.declared.fault.What.TheVariants.{Frames, Output}
 use Rattle.synth_report.specs.declared.fault.Fault.{Fault}
 use Rattle.command.specs.Commands.{NamedFile}
 use Rattle.command.specs.Stages.{AsksBound, PassesBound, Stages, bounded}

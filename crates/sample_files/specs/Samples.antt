@@ -4,8 +4,8 @@
 use Rattle.std.specs.Prelude.{◌≡◌, ◌≤◌, ◌==◌, ℕ, Bool, true, false, List, [], ◌∷◌, All, Result, Ok, Err}
 use Rattle.std.specs.List.{AllByRecursion}
 use Rattle.cells.specs.Cells.{Cells, bytes_of, sizes_of}
-use Rattle.shelf_core.specs.Files.{ShelfState, Changes, content_of}
-use Rattle.shelf_core.specs.declared.fault.ReadError.{ReadError}
+use Rattle.shelf_traits.specs.Files.{ShelfState, Changes, content_of}
+use Rattle.shelf_traits.specs.declared.fault.ReadError.{ReadError}
 use Rattle.netpbm_p6.specs.Pictures.{IsPicture, IsRead, IsSound, Refuses, p6_form}
 use Rattle.y4m_clip.specs.declared.form.ClipForm.{ClipForm}
 use Rattle.y4m_clip.specs.declared.form.SpaceKind.{SpaceKind}

@@ -7,9 +7,9 @@ use Rattle.std.specs.List.{AllByRecursion}
 use Rattle.cells.specs.declared.place.Size.{Size}
 use Rattle.cells.specs.Cells.{Cells, count_of}
 use Rattle.cells.specs.PartLists.{parts_of}
-use Rattle.shelf_core.specs.Files.{Files, ShelfState, Changes, Rose, content_of}
-use Rattle.shelf_core.specs.declared.fault.FormFault.TheVariants.{Space}
-use Rattle.shelf_core.specs.declared.fault.What.TheVariants.{Cells as CellsLimit, Parts as PartsLimit}
+use Rattle.shelf_traits.specs.Files.{Files, ShelfState, Changes, Rose, content_of}
+use Rattle.shelf_traits.specs.declared.fault.FormFault.TheVariants.{Space}
+use Rattle.shelf_traits.specs.declared.fault.What.TheVariants.{Cells as CellsLimit, Parts as PartsLimit}
 use Rattle.synth_report.specs.declared.fault.FileOf.{FileOf}
 use Rattle.synth_report.specs.declared.fault.FileOf.TheVariants as part
 use Rattle.synth_report.specs.declared.fault.Fault.{Fault}

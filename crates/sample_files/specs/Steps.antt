@@ -3,10 +3,10 @@
 use Rattle.std.specs.Prelude.{◌≡◌, ◌⊎◌, ◌+◌, ◌++◌, ℕ, Bool, true, false, List, [], ◌∷◌, Result, Ok, Err}
 use Rattle.cells.specs.Cells.{IsOnePart, count_of, sizes_of}
 use Rattle.cells.specs.PartLists.{parts_of}
-use Rattle.shelf_core.specs.Files.{ShelfState, Changes, Rose, content_of}
-use Rattle.shelf_core.specs.declared.fault.ReadError.{ReadError}
-use Rattle.shelf_core.specs.declared.fault.FormFault.TheVariants.{Space}
-use Rattle.shelf_core.specs.declared.fault.What.TheVariants.{Cells as CellsLimit}
+use Rattle.shelf_traits.specs.Files.{ShelfState, Changes, Rose, content_of}
+use Rattle.shelf_traits.specs.declared.fault.ReadError.{ReadError}
+use Rattle.shelf_traits.specs.declared.fault.FormFault.TheVariants.{Space}
+use Rattle.shelf_traits.specs.declared.fault.What.TheVariants.{Cells as CellsLimit}
 use Rattle.synth_report.specs.declared.fault.FileOf.TheVariants as part
 use Rattle.synth_report.specs.declared.fault.Fault.{Fault}
 use Rattle.synth_report.specs.declared.fault.Fault.TheVariants.{Form as FormFault, Unlike, Read, NoMemory}

@@ -1,7 +1,7 @@
 -- The target of a run, a picture that is read after its sample and has the sample's maxval. To be
 -- trusted: contracts cite these words. (Own.)
 use Rattle.std.specs.Prelude.{◌≡◌, ◌⊎◌, ℕ, List, ◌∷◌, Result, Ok, Err}
-use Rattle.shelf_core.specs.Files.{ShelfState, InFile}
+use Rattle.shelf_traits.specs.Files.{ShelfState, InFile}
 use Rattle.netpbm_p6.specs.declared.picture.Picture.{Picture}
 use Rattle.netpbm_p6.specs.Pictures.{IsRead, Refuses}
 use Rattle.synth_report.specs.declared.fault.FileOf.TheVariants as part

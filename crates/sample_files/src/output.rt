@@ -6,7 +6,7 @@ ghost use Rattle.sample_files.specs.Outputs.{AsksBounds, frames_allowed};
 use crate::form::Form;
 use cells::Size;
 use limits::{GREATEST_AXIS, MOST_OUTPUT_CELLS, MOST_PICTURE_FRAMES};
-use shelf_core::What;
+use shelf_traits::What;
 use synth_report::Fault;
 
 // The most frames of an output in this form.

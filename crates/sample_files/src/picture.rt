@@ -1,7 +1,7 @@
 // Pictures that a run reads by themselves: its sample, its marks, its target.
 ghost use Rattle.std.specs.Prelude.{◌≡◌, IfOk};
 ghost use Rattle.cells.specs.Cells.{IsVolume};
-ghost use Rattle.shelf_core.specs.Files.{OnlyReadsFile};
+ghost use Rattle.shelf_traits.specs.Files.{OnlyReadsFile};
 ghost use Rattle.netpbm_p6.specs.Pictures.{IsRead, IsSound, Refuses};
 ghost use Rattle.synth_report.specs.declared.fault.FileOf.TheVariants as part;
 ghost use Rattle.command.specs.Faults.{ReadsPart};
@@ -10,7 +10,7 @@ ghost use Rattle.sample_files.specs.Targets.{TargetReadsAs};
 use command::read_fault;
 use job_words::Name;
 use netpbm_p6::{Picture, read_p6};
-use shelf_core::Shelf;
+use shelf_traits::Shelf;
 use std::alloc::Global;
 use synth_report::{Fault, FileOf};
 

@@ -1,6 +1,6 @@
 // One sample: what its bytes are, whatever its form.
 ghost use Rattle.std.specs.Prelude.{◌≡◌, ◌≤◌, true, false, IfOk, OnErr};
-ghost use Rattle.shelf_core.specs.Files.{InFile, OnlyReadsFile, ReadsRose};
+ghost use Rattle.shelf_traits.specs.Files.{InFile, OnlyReadsFile, ReadsRose};
 ghost use Rattle.limits.specs.declared.bounds.TheConstants.{MOST_CELLS};
 ghost use Rattle.sample_files.specs.Samples.{IsPictureForm, IsSoundSample, IsSoundSampleWithin, SampleReadsAs, SampleReadsWithin, begins_clip};
 ghost use Rattle.sample_files.specs.Steps.{ReadsInForm, SampleReadsIn};
@@ -9,7 +9,7 @@ use crate::form::Form;
 use cells::Volume;
 use limits::MOST_SAMPLE_CELLS;
 use netpbm_p6::{Picture, read_p6};
-use shelf_core::{Failed, ReadError, Shelf};
+use shelf_traits::{Failed, ReadError, Shelf};
 use std::alloc::Global;
 use y4m_clip::{Clip, read_clip};
 

@@ -13,7 +13,7 @@ use Rattle.std.proofs.lemmas.Iterator.Adapters.{position_from-zero}
 use Rattle.std.proofs.lemmas.List.{map-append}
 use Rattle.shelf_core.specs.declared.mem_shelf.MemFile.{MemFile}
 use Rattle.shelf_core.specs.Entries.{map_of, files_of, is_named}
-use Rattle.shelf_core.specs.Files.{content_of}
+use Rattle.shelf_traits.specs.Files.{content_of}
 
 abbrev same : List ℕ → List ℕ → Bool
 same a b = eq_by_cmp (slice_cmp nat_cmp) a b

@@ -12,11 +12,11 @@ use Rattle.std.specs.declared.cmp.Ordering.TheVariants.{Less, Equal, Greater}
 use Rattle.std.specs.Cmp.Lexicographic.{slice_cmp, texts_ties, nat_list_cmp_total}
 use Rattle.std.specs.FinMap.{find, get, insert, empty, len-entries, len-empty, put, is_sorted, entries, entries_sorted, entries-insert, get-entries, slice_cmp-IsAntisymmetric, nat_cmp-IsAntisymmetric}
 use Rattle.std.specs.FinMap.Entries.{below_all, by_order}
-use Rattle.shelf_core.specs.Files.{Files, content_of, Told}
+use Rattle.shelf_traits.specs.Files.{Files, content_of, Told}
 use Rattle.shelf_core.specs.Entries.{map_of}
 use Rattle.shelf_core.specs.Tapes.{spent, has_name}
 use Rattle.shelf_core.specs.SureStates.{size_of, fitting, kept_bytes, written_over, HasNamesOnce, Opens}
-use Rattle.shelf_core.proofs.FileLaws.{name_itself, content_inserted, insert_again, insert_same}
+use Rattle.shelf_traits.proofs.FileLaws.{name_itself, content_inserted, insert_again, insert_same}
 use Rattle.shelf_core.proofs.EntryLaws.{name_found, entry_found, entry_missing, entry_over, entry_behind}
 
 -- The bytes of all names and files.

@@ -5,7 +5,7 @@ use Rattle.std.specs.Coded.{Coded, code_by, coded×, coded_ℕ, coded_list, code
 use Rattle.std.specs.Ordering.{nat_cmp}
 use Rattle.std.specs.Cmp.Lexicographic.{slice_cmp}
 use Rattle.std.specs.FinMap as fin
-use Rattle.shelf_core.specs.Files.{Files}
+use Rattle.shelf_traits.specs.Files.{Files}
 use Rattle.shelf_core.specs.MemStates.{MemShelfState}
 use Rattle.shelf_core.specs.SureStates.{SureShelfState}
 use Rattle.shelf_core.specs.declared.listing.Call.{Call}

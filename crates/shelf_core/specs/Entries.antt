@@ -3,7 +3,7 @@
 use Rattle.std.specs.Prelude.{ℕ, Bool, List, map, nat_eq}
 use Rattle.std.specs.Cmp.Lexicographic.{pointwise}
 use Rattle.std.specs.FinMap.{from_entries}
-use Rattle.shelf_core.specs.Files.{Files}
+use Rattle.shelf_traits.specs.Files.{Files}
 use Rattle.shelf_core.specs.declared.mem_shelf.MemFile.{MemFile}
 
 -- a list of files, each a name and its bytes, as a map; of two files of one name it has the first

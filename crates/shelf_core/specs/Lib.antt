@@ -1,9 +1,6 @@
-pub mod Files
-pub mod Written
 pub mod Listings
 pub mod MemStates
 pub mod Entries
 pub mod Tapes
 pub mod SureStates
 pub mod Codes
-pub mod Decimals

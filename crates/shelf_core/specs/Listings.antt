@@ -1,7 +1,7 @@
 -- A reader has to trust this file for the stores in memory. Calls that are listed to fail. (Own.)
 use Rattle.std.specs.Prelude.{◌&&◌, ◌+◌, ◌-◌, ℕ, Bool, true, false, List, map, nat_eq, min, Option, option_map, find, if◌then◌else◌}
 use Rattle.std.specs.Cmp.Lexicographic.{pointwise}
-use Rattle.shelf_core.specs.Files.{last_count}
+use Rattle.shelf_traits.specs.Files.{last_count}
 use Rattle.shelf_core.specs.declared.listing.Call.{Call}
 use Rattle.shelf_core.specs.declared.listing.Call.TheVariants.{Get, Begin, Add}
 use Rattle.shelf_core.specs.declared.listing.Listing.{Listing}

@@ -1,7 +1,7 @@
 -- A reader has to trust this file for the stores in memory. What the stores in memory mean. (Own.)
 use Rattle.std.specs.Prelude.{◌≡◌, ◌⊎◌, ℕ, List, [], ◌++◌, take, Option, Some, None, IsSome}
 use Rattle.std.specs.FinMap as fin
-use Rattle.shelf_core.specs.Files.{Files, ShelfState, SinkState, content_of}
+use Rattle.shelf_traits.specs.Files.{Files, ShelfState, SinkState, content_of}
 use Rattle.shelf_core.specs.Listings.{due, after_call, one_more}
 use Rattle.shelf_core.specs.declared.listing.Call.{Call}
 use Rattle.shelf_core.specs.declared.listing.Call.TheVariants.{Get, Add}

@@ -2,7 +2,7 @@
 -- (Own.)
 use Rattle.std.specs.Prelude.{◌≡◌, ℕ, Bool, nat_le, List, [], ◌++◌, length, Option, Some, None, option_map, option_and_then, unwrap_or, position, if◌then◌else◌}
 use Rattle.std.specs.FinMap as fin
-use Rattle.shelf_core.specs.Files.{Files, ShelfState, SinkState, content_of}
+use Rattle.shelf_traits.specs.Files.{Files, ShelfState, SinkState, content_of}
 use Rattle.shelf_core.specs.Entries.{map_of}
 use Rattle.shelf_core.specs.Tapes.{spent, has_name}
 

@@ -1,7 +1,7 @@
 // The names that calls were for.
 ghost use Rattle.std.specs.Prelude.{◌≡◌, ◌++◌, ◌∷◌, [], Some};
 ghost use Rattle.std.specs.Bool.{OnTrue};
-ghost use Rattle.shelf_core.specs.Files.{Told, calls_beside};
+ghost use Rattle.shelf_traits.specs.Files.{Told, calls_beside};
 
 use crate::bytes::Bytes;
 use std::alloc::Global;

@@ -1,6 +1,6 @@
 // Calls that a store in memory is to fail.
 ghost use Rattle.std.specs.Prelude.{◌≡◌, ◌≤◌, ◌++◌, [], ◌∷◌, OnOk, OnErr};
-ghost use Rattle.shelf_core.specs.Files.{Rose};
+ghost use Rattle.shelf_traits.specs.Files.{Rose};
 ghost use Rattle.shelf_core.specs.Listings.{due, one_call_less, after_call, is_about, is_due, one_more};
 
 use crate::bytes::Bytes;

@@ -1,7 +1,7 @@
 // A shelf in memory, which always tells its files.
 ghost use Rattle.std.specs.Prelude.{◌≡◌, ◌≤◌, ◌++◌, ◌∷◌, [], ◌↔◌, Some, IfOk, OnOk, OnErr, IsErr, IsSome, option_copied, position, length};
 ghost use Rattle.std.specs.FinMap as map;
-ghost use Rattle.shelf_core.specs.Files.{Changes, Rose, Reads, AsksFor, OnlyReadsFile, OnlyWritesFile, content_of, Begins, BeginsPart, Appends, AppendsPart};
+ghost use Rattle.shelf_traits.specs.Files.{Changes, Rose, Reads, AsksFor, OnlyReadsFile, OnlyWritesFile, content_of, Begins, BeginsPart, Appends, AppendsPart};
 ghost use Rattle.shelf_core.specs.Listings.{due, one_more};
 ghost use Rattle.shelf_core.specs.MemStates.{mem_shelf_state, well, unread, unwritten, FailsToGet, KeptBy};
 ghost use Rattle.shelf_core.specs.Entries.{files_of, is_named};
@@ -10,7 +10,7 @@ use crate::bytes::Bytes;
 use crate::calls::Calls;
 use crate::listing::{Call, Listing, Listings, raised};
 use crate::pieces::{copy_out, front_of};
-use crate::{Failed, Shelf};
+use shelf_traits::{Failed, Shelf};
 use std::alloc::{AllocError, Global};
 use std::marker::Model;
 

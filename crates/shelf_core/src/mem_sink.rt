@@ -1,13 +1,13 @@
 // A sink in memory, which always tells its bytes.
 ghost use Rattle.std.specs.Prelude.{◌≡◌, ◌≤◌, ◌++◌, [], ◌∷◌, OnOk, OnErr, IsErr, IsSome};
 ghost use Rattle.shelf_core.specs.Listings.{due, one_more};
-ghost use Rattle.shelf_core.specs.Files.{Told, Rose, IsPrefixAdded};
+ghost use Rattle.shelf_traits.specs.Files.{Told, Rose, IsPrefixAdded};
 ghost use Rattle.shelf_core.specs.MemStates.{mem_sink_state, told_whole, untold, SinkKeptBy};
 
 use crate::bytes::Bytes;
 use crate::listing::{Call, Listing, Listings, raised};
 use crate::pieces::front_of;
-use crate::{Failed, Sink};
+use shelf_traits::{Failed, Sink};
 use std::alloc::{AllocError, Global};
 use std::marker::Model;
 

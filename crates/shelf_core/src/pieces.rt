@@ -1,6 +1,6 @@
 // Parts of bytes that calls read and keep.
 ghost use Rattle.std.specs.Prelude.{◌≡◌, ◌≤◌, take, length};
-ghost use Rattle.shelf_core.specs.Files.{Reads};
+ghost use Rattle.shelf_traits.specs.Files.{Reads};
 
 // The bytes of a file from a place on, as far as the buffer goes.
 pub fn copy_out(bytes: &[u8], at: u64, into: &mut [u8]) -> usize

@@ -2,13 +2,13 @@
 ghost use Rattle.std.specs.Prelude.{◌≡◌, ◌≤◌, ◌<◌, ◌++◌, [], Some, None, IfOk, IsOk, IfSome, IfNone, OnOk, nat_le, length, option_copied, option_and_then};
 ghost use Rattle.std.specs.Bool.{OnTrue};
 ghost use Rattle.std.specs.FinMap as map;
-ghost use Rattle.shelf_core.specs.Files.{Told, Changes, Reads, OnlyReadsFile, OnlyWritesFile, content_of, Begins, Appends};
+ghost use Rattle.shelf_traits.specs.Files.{Told, Changes, Reads, OnlyReadsFile, OnlyWritesFile, content_of, Begins, Appends};
 ghost use Rattle.shelf_core.specs.Entries.{map_of};
 ghost use Rattle.shelf_core.specs.SureStates.{sure_shelf_state, size_of, after_write, told_content, kept_bytes, written_over, Opens, HasNamesOnce};
 
 use crate::pieces::copy_out;
 use crate::tape::Tape;
-use crate::{Failed, Shelf};
+use shelf_traits::{Failed, Shelf};
 use std::alloc::{AllocError, Global};
 use std::marker::Model;
 

@@ -1,9 +1,9 @@
 // A sink in memory that never fails.
 ghost use Rattle.std.specs.Prelude.{◌≡◌, ◌≤◌, ◌++◌, [], Some, IfOk, IsOk, OnOk, option_copied};
-ghost use Rattle.shelf_core.specs.Files.{Told};
+ghost use Rattle.shelf_traits.specs.Files.{Told};
 ghost use Rattle.shelf_core.specs.SureStates.{sure_sink_state, after_piece};
 
-use crate::{Failed, Sink};
+use shelf_traits::{Failed, Sink};
 use std::alloc::{AllocError, Global};
 use std::marker::Model;
 

@@ -7,7 +7,7 @@ use Rattle.std.proofs.lemmas.Nat.{from_be_bytes-to_be_bytes_2, from_be_bytes-to_
 use Rattle.std.specs.Int.{w8, w16, w32, from_be_bytes}
 use Rattle.std.specs.List.{flat_map}
 use Rattle.std.specs.Prelude.{All, Result, Ok, nat_eq}
-use Rattle.shelf_core.specs.declared.fault.ReadError.{ReadError}
+use Rattle.shelf_traits.specs.declared.fault.ReadError.{ReadError}
 use Rattle.file_bytes.specs.Fields.{field_16, field_32}
 use Rattle.file_bytes.specs.Reading.{StandsAt}
 use Rattle.file_bytes.proofs.WritingLaws.{fields_next}

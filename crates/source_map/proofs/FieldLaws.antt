@@ -5,11 +5,11 @@ use Rattle.std.proofs.Math.Numerals.{add-one}
 use Rattle.std.proofs.lemmas.Nat.{from_be_bytes-to_be_bytes_2, from_be_bytes-to_be_bytes_4}
 use Rattle.std.specs.Int.{w8, w16, w32, from_be_bytes}
 use Rattle.std.specs.Prelude.{Option, Some, None, Result, Ok, Err, IfErr, nat_le}
-use Rattle.shelf_core.specs.Files.{Files, ShelfState, OnlyReads, content_of}
-use Rattle.shelf_core.specs.declared.fault.FormFault.TheVariants.{Form, Depth, Space, Cell, NoFrames, Sample, Trailing}
-use Rattle.shelf_core.specs.declared.fault.ReadError.{ReadError}
-use Rattle.shelf_core.specs.declared.fault.ReadError.TheVariants.{ReadFault, Bad, Limit, NoMemory}
-use Rattle.shelf_core.proofs.FileLaws.{only_reads_same, rose_later}
+use Rattle.shelf_traits.specs.Files.{Files, ShelfState, OnlyReads, content_of}
+use Rattle.shelf_traits.specs.declared.fault.FormFault.TheVariants.{Form, Depth, Space, Cell, NoFrames, Sample, Trailing}
+use Rattle.shelf_traits.specs.declared.fault.ReadError.{ReadError}
+use Rattle.shelf_traits.specs.declared.fault.ReadError.TheVariants.{ReadFault, Bad, Limit, NoMemory}
+use Rattle.shelf_traits.proofs.FileLaws.{only_reads_same, rose_later}
 use Rattle.file_bytes.specs.Fields.{field_16, field_32}
 use Rattle.file_bytes.specs.Reading.{Reading, OfFile, Follows, StandsAt, StopsShort, Took}
 use Rattle.file_bytes.proofs.ReadingLaws.{still, both}

@@ -9,9 +9,9 @@ use Rattle.std.specs.Int.{w8, w16, w32}
 use Rattle.std.specs.List.{flat_map, AllByRecursion}
 use Rattle.std.specs.Prelude.{Result, Ok, Err, nat_lt, nat_le, if◌then◌else◌}
 use Rattle.limits.specs.declared.bounds.TheConstants.{GREATEST_AXIS}
-use Rattle.shelf_core.specs.declared.fault.FormFault.TheVariants.{Form}
-use Rattle.shelf_core.specs.declared.fault.ReadError.{ReadError}
-use Rattle.shelf_core.specs.declared.fault.ReadError.TheVariants.{Bad}
+use Rattle.shelf_traits.specs.declared.fault.FormFault.TheVariants.{Form}
+use Rattle.shelf_traits.specs.declared.fault.ReadError.{ReadError}
+use Rattle.shelf_traits.specs.declared.fault.ReadError.TheVariants.{Bad}
 use Rattle.cells.specs.declared.place.Size.{Size}
 use Rattle.cells.specs.Places.{HasAxes}
 use Rattle.file_bytes.specs.Fields.{field_16, field_32}

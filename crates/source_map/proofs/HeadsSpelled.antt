@@ -8,10 +8,10 @@ use Rattle.std.specs.List.{flat_map}
 use Rattle.std.specs.Prelude.{◌||◌, Bool, Result, Ok, Err, nat_lt, nat_le, if◌then◌else◌}
 use Rattle.limits.specs.declared.bounds.TheConstants.{GREATEST_AXIS}
 use lib.Pointwise.{bytes_decides}
-use Rattle.shelf_core.specs.declared.fault.FormFault.TheVariants.{Form}
-use Rattle.shelf_core.specs.declared.fault.ReadError.{ReadError}
-use Rattle.shelf_core.specs.declared.fault.ReadError.TheVariants.{Bad, Limit}
-use Rattle.shelf_core.specs.declared.fault.What.TheVariants.{Axis}
+use Rattle.shelf_traits.specs.declared.fault.FormFault.TheVariants.{Form}
+use Rattle.shelf_traits.specs.declared.fault.ReadError.{ReadError}
+use Rattle.shelf_traits.specs.declared.fault.ReadError.TheVariants.{Bad, Limit}
+use Rattle.shelf_traits.specs.declared.fault.What.TheVariants.{Axis}
 use Rattle.cells.specs.declared.place.Size.{Size}
 use Rattle.file_bytes.specs.Fields.{field_16, field_32}
 use Rattle.source_map.specs.declared.head.Head.{Head}

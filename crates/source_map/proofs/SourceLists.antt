@@ -1,9 +1,9 @@
 -- The map that is made of the sources of all cells, when the last one was read.
 use Rattle.std.proofs.Common.{◌≡◌, ℕ, List, sym, subst}
 use Rattle.std.specs.Prelude.{Option, Result, Ok}
-use Rattle.shelf_core.specs.Files.{ShelfState, OnlyReads}
-use Rattle.shelf_core.specs.declared.fault.ReadError.{ReadError}
-use Rattle.shelf_core.proofs.FileLaws.{only_reads_same}
+use Rattle.shelf_traits.specs.Files.{ShelfState, OnlyReads}
+use Rattle.shelf_traits.specs.declared.fault.ReadError.{ReadError}
+use Rattle.shelf_traits.proofs.FileLaws.{only_reads_same}
 use Rattle.file_bytes.specs.Reading.{Reading}
 use Rattle.cells.specs.declared.place.At.{At}
 use Rattle.cells.specs.declared.place.Size.{Size}

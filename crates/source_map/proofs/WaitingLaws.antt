@@ -5,10 +5,10 @@ use Rattle.std.proofs.lemmas.List.{drop-take, drop-drop, length-append, length-d
 use Rattle.std.proofs.lemmas.Nat.{from_be_bytes-to_be_bytes_2}
 use Rattle.std.specs.Int.{w16}
 use Rattle.std.specs.Prelude.{Option, Some, OnOk, Result, Ok, Err, if◌then◌else◌, unwrap_or}
-use Rattle.shelf_core.specs.Files.{ShelfState}
-use Rattle.shelf_core.specs.declared.fault.FormFault.TheVariants.{Form}
-use Rattle.shelf_core.specs.declared.fault.ReadError.{ReadError}
-use Rattle.shelf_core.specs.declared.fault.ReadError.TheVariants.{Bad}
+use Rattle.shelf_traits.specs.Files.{ShelfState}
+use Rattle.shelf_traits.specs.declared.fault.FormFault.TheVariants.{Form}
+use Rattle.shelf_traits.specs.declared.fault.ReadError.{ReadError}
+use Rattle.shelf_traits.specs.declared.fault.ReadError.TheVariants.{Bad}
 use Rattle.cells.specs.declared.place.At.{At}
 use Rattle.cells.specs.declared.place.Size.{Size}
 use Rattle.cells.specs.Places.{spot}

@@ -2,11 +2,11 @@
 use Rattle.std.proofs.Common.{◌≡◌, ◌<◌, true, false, ℕ, List, length, refl, ap, sym, ◌∙◌, subst, arith}
 use Rattle.std.proofs.lemmas.Bool.{eq-eqb, ne_eqb}
 use Rattle.std.specs.Prelude.{Option, Some, None, Result, Ok, Err, nat_eq}
-use Rattle.shelf_core.specs.Files.{Files, ShelfState, InFile, OnlyReads, Told, content_of}
-use Rattle.shelf_core.specs.declared.fault.FormFault.TheVariants.{Depth, Space, Cell, NoFrames, Sample, Form, Trailing}
-use Rattle.shelf_core.specs.declared.fault.ReadError.{ReadError}
-use Rattle.shelf_core.specs.declared.fault.ReadError.TheVariants.{ReadFault, Bad, Limit, NoMemory}
-use Rattle.shelf_core.proofs.FileLaws.{only_reads_then, rose_later}
+use Rattle.shelf_traits.specs.Files.{Files, ShelfState, InFile, OnlyReads, Told, content_of}
+use Rattle.shelf_traits.specs.declared.fault.FormFault.TheVariants.{Depth, Space, Cell, NoFrames, Sample, Form, Trailing}
+use Rattle.shelf_traits.specs.declared.fault.ReadError.{ReadError}
+use Rattle.shelf_traits.specs.declared.fault.ReadError.TheVariants.{ReadFault, Bad, Limit, NoMemory}
+use Rattle.shelf_traits.proofs.FileLaws.{only_reads_then, rose_later}
 use Rattle.file_bytes.specs.Reading.{OfFile, Reading, Stops}
 use Rattle.file_bytes.proofs.ReadingLaws.{still, both}
 use Rattle.source_map.specs.declared.map_file.MapFile.{MapFile}

@@ -11,11 +11,11 @@ use Rattle.cells.specs.Parts.{past}
 use Rattle.cells.specs.SizeLists.{IsPartPlace, size_of_part, stock_place}
 use Rattle.file_bytes.specs.Fields.{field_16, fields_16}
 use Rattle.map_canvas.specs.Maps.{SourceMap, IsFull, IsMap, map_at}
-use Rattle.shelf_core.specs.Files.{ShelfState, InFile, ReadsRose}
-use Rattle.shelf_core.specs.declared.fault.FormFault.TheVariants.{Form}
-use Rattle.shelf_core.specs.declared.fault.ReadError.{ReadError}
-use Rattle.shelf_core.specs.declared.fault.ReadError.TheVariants.{ReadFault, Bad, Limit, NoMemory}
-use Rattle.shelf_core.specs.declared.fault.What.TheVariants.{Cells as CellsLimit}
+use Rattle.shelf_traits.specs.Files.{ShelfState, InFile, ReadsRose}
+use Rattle.shelf_traits.specs.declared.fault.FormFault.TheVariants.{Form}
+use Rattle.shelf_traits.specs.declared.fault.ReadError.{ReadError}
+use Rattle.shelf_traits.specs.declared.fault.ReadError.TheVariants.{ReadFault, Bad, Limit, NoMemory}
+use Rattle.shelf_traits.specs.declared.fault.What.TheVariants.{Cells as CellsLimit}
 use Rattle.source_map.specs.declared.head.Version.{Version}
 use Rattle.source_map.specs.declared.head.Version.TheVariants.{One, Two}
 use Rattle.source_map.specs.declared.head_reading.Start.{Start}

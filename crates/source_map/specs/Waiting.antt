@@ -1,8 +1,8 @@
 -- Sources that are read from bytes which wait in the reader, for the contracts within the crate.
 -- Nobody has to trust this file. (Own.)
 use Rattle.std.specs.Prelude.{◌≡◌, ◌≤◌, ◌<◌, ◌+◌, ◌*◌, ℕ, List, length, All, Option, IfSome, IsSomeAnd, Result, Ok}
-use Rattle.shelf_core.specs.Files.{ShelfState}
-use Rattle.shelf_core.specs.declared.fault.ReadError.{ReadError}
+use Rattle.shelf_traits.specs.Files.{ShelfState}
+use Rattle.shelf_traits.specs.declared.fault.ReadError.{ReadError}
 use Rattle.cells.specs.declared.place.At.{At}
 use Rattle.cells.specs.declared.place.Size.{Size}
 use Rattle.file_bytes.specs.Reading.{Reading, StandsAt}

@@ -6,7 +6,7 @@ ghost use Rattle.source_map.specs.Heads.{IsHead, count_field, head_form, size_fi
 
 use cells::{Size, Sizes};
 use file_bytes::FileWriter;
-use shelf_core::Shelf;
+use shelf_traits::Shelf;
 
 /// The version of a map or record file.
 #[derive(Clone, Copy, Drop, PartialEq, Eq)]

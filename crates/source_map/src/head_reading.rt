@@ -1,7 +1,7 @@
 // Reading the head of map and record files.
 ghost use Rattle.std.specs.Prelude.{◌≡◌, ◌≤◌, ◌<◌, ◌+◌, ◌^◌, IfOk, IfErr, OnOk, length, ◌*◌};
 ghost use Rattle.std.specs.Int.{w8, w16, w32};
-ghost use Rattle.shelf_core.specs.Files.{OnlyReadsFile};
+ghost use Rattle.shelf_traits.specs.Files.{OnlyReadsFile};
 ghost use Rattle.cells.specs.Places.{HasAxes};
 ghost use Rattle.cells.specs.SizeLists.{AreSizes};
 ghost use Rattle.file_bytes.specs.Reading.{Follows};
@@ -12,7 +12,7 @@ use crate::head::{Head, Version};
 use cells::{Size, Sizes};
 use file_bytes::FileReader;
 use limits::{GREATEST_AXIS, MOST_PARTS};
-use shelf_core::{FormFault, ReadError, Shelf, What};
+use shelf_traits::{FormFault, ReadError, Shelf, What};
 
 // What comes before the sizes of the samples.
 #[derive(Clone, Copy, Drop)]

@@ -1,6 +1,6 @@
 // What the forms of maps promise, whoever reads or writes.
 ghost use Rattle.std.specs.Prelude.{◌≡◌, ◌++◌, ℕ, List, Ok, Err};
-ghost use Rattle.shelf_core.specs.declared.fault.ReadError.{ReadError};
+ghost use Rattle.shelf_traits.specs.declared.fault.ReadError.{ReadError};
 ghost use Rattle.source_map.specs.declared.map_file.MapFile.{MapFile};
 ghost use Rattle.source_map.specs.MapFiles.{IsMapFile, IsMapOf, map_form, map_read, version_one_map_read};
 ghost use Rattle.source_map.specs.Readings.{AreBytes};

@@ -2,8 +2,8 @@
 ghost use Rattle.std.specs.Prelude.{◌≡◌, ◌<◌, ◌^◌, All, Some, IsSomeAnd, OnOk, OnErr};
 ghost use Rattle.std.specs.List.{flat_map};
 ghost use Rattle.cells.specs.SizeLists.{IsPartPlace};
-ghost use Rattle.shelf_core.specs.Files.{Changes, WritesRose, OnlyWritesFile};
-ghost use Rattle.shelf_core.specs.Written.{HoldsText, HoldsPart};
+ghost use Rattle.shelf_traits.specs.Files.{Changes, WritesRose, OnlyWritesFile};
+ghost use Rattle.shelf_traits.specs.Written.{HoldsText, HoldsPart};
 ghost use Rattle.file_bytes.specs.Writing.{Puts};
 ghost use Rattle.source_map.specs.Heads.{AreSamples};
 ghost use Rattle.source_map.specs.MapFiles.{IsFrameMap, IsInSamples, IsShort, IsShortCoordinate, IsWritable, cell_map_form, coordinate_field, frame_map_form, numbered_field, part_from, place_field, source_field};
@@ -13,7 +13,7 @@ use cells::{At, PartPlace, Size, Sizes};
 use file_bytes::FileWriter;
 use items::Items;
 use map_canvas::{Entry, Map};
-use shelf_core::{Shelf, WriteFault};
+use shelf_traits::{Shelf, WriteFault};
 
 // What a map file begins with.
 pub(crate) const MAGIC: [u8; 8] = *b"WEAVEMAP";

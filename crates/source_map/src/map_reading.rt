@@ -1,7 +1,7 @@
 // Reading the files of maps.
 ghost use Rattle.std.specs.Prelude.{◌≡◌, ◌≤◌, ◌<◌, ◌+◌, ◌*◌, ◌^◌, IfOk, IfErr, IfSome, IsSomeAnd, OnOk, length, All};
 ghost use Rattle.std.specs.Int.{w16, w32};
-ghost use Rattle.shelf_core.specs.Files.{OnlyReadsFile};
+ghost use Rattle.shelf_traits.specs.Files.{OnlyReadsFile};
 ghost use Rattle.cells.specs.Places.{HasAxes, IsInside, IsSmall, cell_count, spot};
 ghost use Rattle.cells.specs.SizeLists.{AreSizes, IsInPart, stock_place};
 ghost use Rattle.file_bytes.specs.Reading.{Follows};
@@ -18,7 +18,7 @@ use cells::{At, Size, Sizes};
 use file_bytes::{FileReader, make_room};
 use items::Items;
 use limits::MOST_MAP_CELLS;
-use shelf_core::{ReadError, Shelf, What};
+use shelf_traits::{ReadError, Shelf, What};
 use std::alloc::Global;
 
 // The number, if it is that.

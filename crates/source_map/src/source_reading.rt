@@ -1,6 +1,6 @@
 // Reading the sources of the cells of a map.
 ghost use Rattle.std.specs.Prelude.{◌≡◌, ◌≤◌, ◌<◌, ◌+◌, ◌*◌, ◌^◌, Err, IfErr, IfOk, IsSomeAnd, OnOk, All, vec_len, vec_capacity};
-ghost use Rattle.shelf_core.specs.Files.{OnlyReadsFile};
+ghost use Rattle.shelf_traits.specs.Files.{OnlyReadsFile};
 ghost use Rattle.cells.specs.Places.{IsSmall, cell_count};
 ghost use Rattle.cells.specs.SizeLists.{AreSizes};
 ghost use Rattle.file_bytes.specs.Reading.{Follows};
@@ -16,7 +16,7 @@ use crate::waiting::take_sources;
 use cells::{Size, Sizes};
 use file_bytes::{FileReader, make_room};
 use map_canvas::{Entry, Map};
-use shelf_core::{ReadError, Shelf};
+use shelf_traits::{ReadError, Shelf};
 use std::alloc::Global;
 
 // Reads the next source.

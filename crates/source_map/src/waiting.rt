@@ -1,6 +1,6 @@
 // Sources of version 1 whose bytes wait in the reader: they are taken without a call for each number.
 ghost use Rattle.std.specs.Prelude.{◌≡◌, ◌≤◌, ◌<◌, ◌+◌, ◌*◌, ◌^◌, ℕ, List, length, IfSome, vec_len, vec_capacity};
-ghost use Rattle.shelf_core.specs.Files.{ShelfState};
+ghost use Rattle.shelf_traits.specs.Files.{ShelfState};
 ghost use Rattle.cells.specs.Places.{IsInside};
 ghost use Rattle.cells.specs.SizeLists.{AreSizes};
 ghost use Rattle.file_bytes.specs.Reading.{Follows};

@@ -2,7 +2,7 @@
 use Rattle.std.proofs.Common.{◌≡◌, ◌∙◌, ◌≤◌, ◌<◌, ◌+◌, ℕ, zero, suc, List, [], ◌∷◌, ◌++◌, length, take, refl, sym, ap, subst, arith}
 use Rattle.std.proofs.lemmas.Option.{none-some, slice_get_within}
 use Rattle.std.specs.Prelude.{Some, slice_get}
-use Rattle.shelf_core.specs.Files.{ShelfState}
+use Rattle.shelf_traits.specs.Files.{ShelfState}
 use Rattle.file_bytes.specs.Reading.{Reading}
 use Rattle.cells.specs.declared.place.Size.{Size}
 use Rattle.cells.specs.Cells.{Cells}

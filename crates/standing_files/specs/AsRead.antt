@@ -1,8 +1,8 @@
 -- A reader has to trust the first word of this file: what is answered of a record file that is
 -- judged as it is read. The others are words of private functions. (Own.)
 use Rattle.std.specs.Prelude.{◌≡◌, ◌⊎◌, ◌+◌, ℕ, List, [], Result, Ok, Err}
-use Rattle.shelf_core.specs.Files.{ShelfState}
-use Rattle.shelf_core.specs.declared.fault.ReadError.{ReadError}
+use Rattle.shelf_traits.specs.Files.{ShelfState}
+use Rattle.shelf_traits.specs.declared.fault.ReadError.{ReadError}
 use Rattle.file_bytes.specs.Reading.{Reading}
 use Rattle.cells.specs.declared.place.Size.{Size}
 use Rattle.cells.specs.Cells.{Cells}

@@ -1,6 +1,6 @@
 // A record file judged as it is read, so that its records are never in memory together.
 ghost use Rattle.std.specs.Prelude.{◌≡◌, ◌<◌, ◌^◌, ◌∷◌, [], IfOk};
-ghost use Rattle.shelf_core.specs.Files.{OnlyReadsFile};
+ghost use Rattle.shelf_traits.specs.Files.{OnlyReadsFile};
 ghost use Rattle.file_bytes.specs.Reading.{Follows};
 ghost use Rattle.cells.specs.Cells.{sizes_of};
 ghost use Rattle.cells.specs.Places.{IsSmall};
@@ -24,7 +24,7 @@ use cert_file::{BLOCKS, CUTS, Items, RecordFile, read_record_head, read_walk_fil
 use file_bytes::FileReader;
 use map_canvas::{Canvas, Map};
 use sample_files::{Sample, Samples};
-use shelf_core::{ReadError, Shelf};
+use shelf_traits::{ReadError, Shelf};
 use source_map::{Head, MapFile};
 use std::alloc::{AllocError, Global};
 

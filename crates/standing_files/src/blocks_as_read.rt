@@ -1,6 +1,6 @@
 // Block records, judged as they are read.
 ghost use Rattle.std.specs.Prelude.{◌≡◌, ◌<◌, ◌^◌, IfOk};
-ghost use Rattle.shelf_core.specs.Files.{OnlyReadsFile};
+ghost use Rattle.shelf_traits.specs.Files.{OnlyReadsFile};
 ghost use Rattle.file_bytes.specs.Reading.{Follows};
 ghost use Rattle.map_canvas.specs.Canvases.{IsCanvas, StandsOver};
 ghost use Rattle.map_canvas.specs.Maps.{empty_map};
@@ -16,7 +16,7 @@ use cells::Volume;
 use cert_file::{cells_of, read_block, read_count};
 use file_bytes::FileReader;
 use map_canvas::Canvas;
-use shelf_core::{ReadError, Shelf};
+use shelf_traits::{ReadError, Shelf};
 use source_map::Head;
 use std::alloc::{AllocError, Global};
 

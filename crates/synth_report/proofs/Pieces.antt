@@ -3,11 +3,11 @@ use Rattle.std.proofs.Common.{◌≡◌, ℕ, zero, suc, ◌+◌, ◌≤◌, ◌
 use Rattle.std.specs.Prelude.{Result, Ok, Err, IsErr}
 use Rattle.std.proofs.lemmas.List.{append-nil, take_all}
 use Rattle.std.proofs.Math.Seq.{take-length}
-use Rattle.shelf_core.specs.declared.fault.WriteFault.{WriteFault}
-use Rattle.shelf_core.specs.Files.{SinkState, Told, IsPrefixAdded}
-use Rattle.shelf_core.specs.Written.{Says}
-use Rattle.shelf_core.proofs.FileLaws.{told_weaker, rose_later}
-use Rattle.shelf_core.proofs.WrittenLaws.{told_nothing, told_more, says_whole, says_stopped}
+use Rattle.shelf_traits.specs.declared.fault.WriteFault.{WriteFault}
+use Rattle.shelf_traits.specs.Files.{SinkState, Told, IsPrefixAdded}
+use Rattle.shelf_traits.specs.Written.{Says}
+use Rattle.shelf_traits.proofs.FileLaws.{told_weaker, rose_later}
+use Rattle.shelf_traits.proofs.WrittenLaws.{told_nothing, told_more, says_whole, says_stopped}
 use Rattle.synth_report.specs.Telling.{joined_texts, TellsText}
 
 -- a piece that was said is there whole or in part

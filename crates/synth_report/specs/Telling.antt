@@ -1,8 +1,8 @@
 -- A sink that is given a text in pieces. To be trusted: contracts cite it. (Own.)
 use Rattle.std.specs.Prelude.{◌≡◌, ◌≤◌, ℕ, List, [], ◌∷◌, ◌++◌, Option, Some, None, Result, OnOk, OnErr, decimal}
-use Rattle.shelf_core.specs.declared.fault.WriteFault.{WriteFault}
-use Rattle.shelf_core.specs.Files.{SinkState, Told, Rose}
-use Rattle.shelf_core.specs.Written.{Says}
+use Rattle.shelf_traits.specs.declared.fault.WriteFault.{WriteFault}
+use Rattle.shelf_traits.specs.Files.{SinkState, Told, Rose}
+use Rattle.shelf_traits.specs.Written.{Says}
 use Rattle.job_words.specs.Keys.{number_text}
 use Rattle.synth_report.specs.declared.piece.Piece.{Piece}
 use Rattle.synth_report.specs.declared.piece.Piece.TheVariants.{Text, Number, Short, Maybe}

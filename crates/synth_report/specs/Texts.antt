@@ -5,10 +5,10 @@ use Rattle.std.specs.List.{concat}
 use Rattle.cells.specs.declared.place.Axis.{Axis}
 use Rattle.cells.specs.declared.place.Axis.TheVariants.{X, Y, F}
 use Rattle.cells.specs.declared.place.Size.{Size}
-use Rattle.shelf_core.specs.declared.fault.What.{What}
-use Rattle.shelf_core.specs.declared.fault.What.TheVariants as what
-use Rattle.shelf_core.specs.declared.fault.FormFault.{FormFault}
-use Rattle.shelf_core.specs.declared.fault.FormFault.TheVariants as form
+use Rattle.shelf_traits.specs.declared.fault.What.{What}
+use Rattle.shelf_traits.specs.declared.fault.What.TheVariants as what
+use Rattle.shelf_traits.specs.declared.fault.FormFault.{FormFault}
+use Rattle.shelf_traits.specs.declared.fault.FormFault.TheVariants as form
 use Rattle.job_words.specs.declared.job.WordFault.{WordFault}
 use Rattle.job_words.specs.declared.job.WordFault.TheVariants as word
 use Rattle.job_words.specs.Keys.{key_number, key_stem, number_text}

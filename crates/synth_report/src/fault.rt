@@ -4,7 +4,7 @@ ghost use Rattle.synth_report.specs.declared.fault.Fault.TheVariants as of;
 ghost use Rattle.synth_report.specs.Texts.{file_stem, file_number, status_of};
 
 use job_words::WordFault;
-use shelf_core::{FormFault, What};
+use shelf_traits::{FormFault, What};
 use std::alloc::AllocError;
 
 /// A file of a run, by its part in it. `Report` is the sink that the report is written to.

@@ -2,7 +2,7 @@
 ghost use Rattle.synth_report.specs.Telling.{piece_text, joined_texts, TellsText};
 
 use itoa::Buffer;
-use shelf_core::{Sink, WriteFault};
+use shelf_traits::{Sink, WriteFault};
 
 /// A piece of a text: bytes as they are, or a number in decimal.
 #[derive(Clone, Copy)]

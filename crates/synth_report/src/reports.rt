@@ -1,7 +1,7 @@
 // The reports.
 ghost use Rattle.std.specs.Prelude.{◌≡◌, ◌≤◌, ◌++◌, OnOk, OnErr};
-ghost use Rattle.shelf_core.specs.Files.{Told, Rose};
-ghost use Rattle.shelf_core.specs.Written.{Says};
+ghost use Rattle.shelf_traits.specs.Files.{Told, Rose};
+ghost use Rattle.shelf_traits.specs.Written.{Says};
 ghost use Rattle.synth_report.specs.Texts.{fails_line, report_of, size_line, upgrade_line};
 ghost use Rattle.synth_report.specs.Lines.{line_text};
 ghost use Rattle.synth_report.specs.Telling.{TellsText, joined_texts};
@@ -9,7 +9,7 @@ ghost use Rattle.synth_report.specs.Telling.{TellsText, joined_texts};
 use crate::piece::{Piece, tell};
 use crate::summary::Summary;
 use cells::Size;
-use shelf_core::{Sink, WriteFault};
+use shelf_traits::{Sink, WriteFault};
 
 // A line of a report.
 #[derive(Clone, Copy)]

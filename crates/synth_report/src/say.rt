@@ -1,7 +1,7 @@
 // The lines of faults.
 ghost use Rattle.std.specs.Prelude.{◌≡◌, ◌≤◌, ◌++◌, OnOk, OnErr};
-ghost use Rattle.shelf_core.specs.Files.{Told, Rose};
-ghost use Rattle.shelf_core.specs.Written.{Says};
+ghost use Rattle.shelf_traits.specs.Files.{Told, Rose};
+ghost use Rattle.shelf_traits.specs.Written.{Says};
 ghost use Rattle.synth_report.specs.Texts.{axis_text, what_text, word_line, file_line, place_line, plain_line, words_line, form_line, limit_line, fault_line};
 ghost use Rattle.synth_report.specs.Telling.{TellsText};
 
@@ -9,7 +9,7 @@ use crate::fault::{Fault, FileOf};
 use crate::piece::{Piece, tell};
 use cells::Axis;
 use job_words::{Key, WordFault};
-use shelf_core::{FormFault, Sink, What, WriteFault};
+use shelf_traits::{FormFault, Sink, What, WriteFault};
 
 // What is counted, as a line names it.
 fn text_of_what(what: What) -> &'static str

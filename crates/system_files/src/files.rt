@@ -4,7 +4,7 @@ ghost use Rattle.system_files.specs.Nodes.{Adds, IsBegun};
 
 use crate::nodes::Known;
 use crate::pieces::{read_full, write_all_of};
-use shelf_core::Failed;
+use shelf_traits::Failed;
 use std::alloc::{AllocError, Global};
 use std::fs::{self, File, Metadata, OpenOptions};
 use std::io::{self, Seek, SeekFrom};

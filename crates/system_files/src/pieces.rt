@@ -1,7 +1,7 @@
 // Reading and writing whole pieces. A call that a signal broke off is tried again.
 ghost use Rattle.std.specs.Prelude.{◌≤◌, length, IfOk};
 
-use shelf_core::Failed;
+use shelf_traits::Failed;
 use std::io::{self, ErrorKind, Read, Write};
 
 // One read, of as many bytes as there are at once.

@@ -2,7 +2,7 @@
 // of faults of each kind for all names.
 use crate::files::{Source, Target};
 use crate::nodes::Known;
-use shelf_core::{Failed, Shelf};
+use shelf_traits::{Failed, Shelf};
 use std::alloc::{AllocError, Global};
 
 /// The files of the system, by their paths. The file that was read last and the one that was begun last

@@ -1,6 +1,6 @@
 // The standard output and the standard error as sinks. They tell no content, and count their faults.
 use crate::pieces::write_all_of;
-use shelf_core::{Failed, Sink};
+use shelf_traits::{Failed, Sink};
 
 /// The standard output.
 #[derive(Drop)]

@@ -1,6 +1,6 @@
 // What is read and computed before a file is begun.
 ghost use Rattle.std.specs.Prelude.{◌≡◌, IfOk};
-ghost use Rattle.shelf_core.specs.Files.{OnlyReads};
+ghost use Rattle.shelf_traits.specs.Files.{OnlyReads};
 ghost use Rattle.job_words.specs.TileWords.{IsTileJob};
 ghost use Rattle.command.specs.Commands.{names_in};
 ghost use Rattle.command.specs.Outcomes.{Plans};
@@ -10,7 +10,7 @@ use command::read_fault;
 use job_words::TileJob;
 use outputs::TiledSample;
 use sample_files::{read_sample, within_bounds};
-use shelf_core::Shelf;
+use shelf_traits::Shelf;
 use std::alloc::Global;
 use synth_report::{Fault, FileOf};
 use tile_run::tile_canvas;

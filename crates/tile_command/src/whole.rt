@@ -7,7 +7,7 @@ use crate::plan::plan;
 use command_files::writer_for;
 use job_words::TileJob;
 use outputs::write_tiling;
-use shelf_core::{Shelf, Sink};
+use shelf_traits::{Shelf, Sink};
 use std::alloc::Global;
 use synth_report::{Fault, Summary};
 

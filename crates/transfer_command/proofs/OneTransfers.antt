@@ -1,6 +1,6 @@
 -- The three files and the report are a function of the words, the sample file and the target file.
 use Rattle.std.proofs.Common.{◌≡◌, sym, ◌∙◌, subst}
-use Rattle.shelf_core.specs.Files.{Files, content_of}
+use Rattle.shelf_traits.specs.Files.{Files, content_of}
 use Rattle.netpbm_p6.specs.declared.picture.Picture.{Picture}
 use Rattle.netpbm_p6.specs.Pictures.{IsRead}
 use Rattle.netpbm_p6.proofs.OneReading.{one_picture}

@@ -3,7 +3,7 @@ use Rattle.std.proofs.Common.{◌≡◌, ℕ, [], ◌∷◌, refl, sym, ◌∙�
 use Rattle.std.specs.Prelude.{Err}
 use Rattle.cells.specs.declared.place.Size.{Size}
 use Rattle.cells.specs.Cells.{IsVolume}
-use Rattle.shelf_core.specs.Files.{Files, InFile, OnlyReads, OnlyReadsFile, ShelfState}
+use Rattle.shelf_traits.specs.Files.{Files, InFile, OnlyReads, OnlyReadsFile, ShelfState}
 use Rattle.netpbm_p6.specs.declared.picture.Picture.{Picture}
 use Rattle.netpbm_p6.specs.Pictures.{IsRead, IsSound, Refuses}
 use Rattle.quilted.specs.declared.asked.Quilted.{Quilted}

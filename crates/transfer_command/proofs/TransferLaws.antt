@@ -1,8 +1,8 @@
 -- `transfer` has one answer to files, and its headline.
 use Rattle.std.proofs.Common.{◌≡◌, length, ap, ◌∙◌}
 use Rattle.cells.specs.Places.{IsSmall}
-use Rattle.shelf_core.specs.Files.{Files, content_of}
-use Rattle.shelf_core.specs.Written.{written}
+use Rattle.shelf_traits.specs.Files.{Files, content_of}
+use Rattle.shelf_traits.specs.Written.{written}
 use Rattle.netpbm_p6.specs.declared.picture.Picture.{Picture}
 use Rattle.netpbm_p6.specs.Pictures.{IsRead}
 use Rattle.quilted.specs.declared.asked.Quilted.{Quilted}

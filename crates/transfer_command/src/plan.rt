@@ -1,6 +1,6 @@
 // What is read and computed before a file is begun.
 ghost use Rattle.std.specs.Prelude.{◌≡◌, IfOk};
-ghost use Rattle.shelf_core.specs.Files.{OnlyReads};
+ghost use Rattle.shelf_traits.specs.Files.{OnlyReads};
 ghost use Rattle.job_words.specs.TransferWords.{IsTransferJob};
 ghost use Rattle.netpbm_p6.specs.Pictures.{IsSound};
 ghost use Rattle.command.specs.Commands.{names_in};
@@ -13,7 +13,7 @@ use netpbm_p6::Picture;
 use outputs::{PictureQuilt, quilt_fault, within_output};
 use quilted::QuiltRun;
 use sample_files::{read_picture, read_target};
-use shelf_core::Shelf;
+use shelf_traits::Shelf;
 use std::alloc::Global;
 use synth_report::Fault;
 use transfer::transfer_canvas;

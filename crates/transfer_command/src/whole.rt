@@ -1,7 +1,7 @@
 // The command that paints a target with blocks of a sample.
 ghost use Rattle.std.specs.Prelude.{◌≡◌, ◌≤◌, ◌^◌, length};
 ghost use Rattle.cells.specs.Cells.{bytes_of};
-ghost use Rattle.shelf_core.specs.Files.{OnlyWrites};
+ghost use Rattle.shelf_traits.specs.Files.{OnlyWrites};
 ghost use Rattle.job_words.specs.TransferWords.{IsTransferJob};
 ghost use Rattle.command.specs.Outcomes.{Leaves};
 ghost use Rattle.command.specs.Writing.{WritesRun, text_names};
@@ -13,7 +13,7 @@ use cells::Volume;
 use job_words::TransferJob;
 use lane_kernels::ssd;
 use outputs::write_quilt;
-use shelf_core::{Shelf, Sink};
+use shelf_traits::{Shelf, Sink};
 use std::alloc::Global;
 use synth_report::{Fault, Summary};
 

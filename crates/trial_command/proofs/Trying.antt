@@ -2,8 +2,8 @@
 use Rattle.std.proofs.Common.{◌≡◌, ℕ, ◌-◌, ◌≤◌, inl, inr, [], refl, ap, sym, ◌∙◌, subst, arith}
 use Rattle.std.proofs.lemmas.List.Elements.{length_all_zip}
 use Rattle.cells.specs.Places.{IsSmall, cell_count}
-use Rattle.shelf_core.specs.Files.{Files, ShelfState}
-use Rattle.shelf_core.specs.declared.fault.What.TheVariants.{Output}
+use Rattle.shelf_traits.specs.Files.{Files, ShelfState}
+use Rattle.shelf_traits.specs.declared.fault.What.TheVariants.{Output}
 use Rattle.least_choice.specs.Totals.{map_total}
 use Rattle.outputs.specs.TrialSamples.{trial_sample}
 use Rattle.outputs.proofs.TrialVolumes.{trial_is_volume}

@@ -1,7 +1,7 @@
 -- The headline of `trial`: what is reported when it ends with status 0. To be trusted: contracts cite
 -- these words. (Own.)
 use Rattle.std.specs.Prelude.{◌≡◌, ℕ, List}
-use Rattle.shelf_core.specs.Files.{ShelfState, SinkState, Changes}
+use Rattle.shelf_traits.specs.Files.{ShelfState, SinkState, Changes}
 use Rattle.job_words.specs.declared.trial.TrialJob.{TrialJob}
 use Rattle.job_words.specs.declared.job.Job.TheVariants.{Trial}
 use Rattle.synth_report.specs.declared.summary.Summary.{Summary}

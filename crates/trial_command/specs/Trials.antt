@@ -2,7 +2,7 @@
 -- says what came of it. To be trusted: contracts cite these words. (Own.)
 use Rattle.std.specs.Prelude.{◌≡◌, ◌≤◌, ◌⊎◌, ◌-◌, ℕ, [], length}
 use Rattle.cells.specs.Places.{cell_count}
-use Rattle.shelf_core.specs.declared.fault.What.TheVariants.{Output, Records as RecordsLimit}
+use Rattle.shelf_traits.specs.declared.fault.What.TheVariants.{Output, Records as RecordsLimit}
 use Rattle.least_choice.specs.Totals.{map_total}
 use Rattle.outputs.specs.TrialSamples.{trial_sample}
 use Rattle.limits.specs.declared.bounds.TheConstants.{MOST_BOX_CELLS, MOST_OUTPUT_CELLS}

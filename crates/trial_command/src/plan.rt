@@ -15,7 +15,7 @@ use job_words::TrialJob;
 use limits::MOST_OUTPUT_CELLS;
 use map_canvas::Canvas;
 use outputs::{growing_fault, mode_for, trial_sample};
-use shelf_core::What;
+use shelf_traits::What;
 use std::alloc::{AllocError, Global};
 use synth_report::{Fault, Summary};
 

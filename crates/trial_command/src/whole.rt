@@ -1,5 +1,5 @@
 // The command that grows an output from a sample that it makes of a number.
-ghost use Rattle.shelf_core.specs.Files.{ShelfState};
+ghost use Rattle.shelf_traits.specs.Files.{ShelfState};
 ghost use Rattle.job_words.specs.TrialWords.{IsTrialJob};
 ghost use Rattle.command.specs.Outcomes.{Leaves};
 ghost use Rattle.trial_command.specs.Trials.{trial_command};
@@ -7,7 +7,7 @@ ghost use Rattle.trial_command.specs.Trials.{trial_command};
 use crate::plan::plan;
 use command::report_run;
 use job_words::TrialJob;
-use shelf_core::Sink;
+use shelf_traits::Sink;
 use std::alloc::Global;
 use synth_report::{Fault, Summary};
 

@@ -10,9 +10,9 @@ use Rattle.cells.specs.Places.{cell_count}
 use Rattle.cells.specs.SizeLists.{AreSizes}
 use Rattle.file_bytes.specs.Fields.{field_16}
 use Rattle.map_canvas.specs.Maps.{IsMap, SourceMap}
-use Rattle.shelf_core.specs.Files.{InFile, ReadsRose, ShelfState}
-use Rattle.shelf_core.specs.declared.fault.ReadError.{ReadError}
-use Rattle.shelf_core.specs.declared.fault.ReadError.TheVariants.{NoMemory, ReadFault}
+use Rattle.shelf_traits.specs.Files.{InFile, ReadsRose, ShelfState}
+use Rattle.shelf_traits.specs.declared.fault.ReadError.{ReadError}
+use Rattle.shelf_traits.specs.declared.fault.ReadError.TheVariants.{NoMemory, ReadFault}
 use Rattle.source_map.specs.declared.head.Head.{Head}
 use Rattle.source_map.specs.declared.head.Version.TheVariants.{Two}
 use Rattle.source_map.specs.Heads.{head_form, magic_rule, size_read}

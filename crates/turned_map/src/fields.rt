@@ -1,7 +1,7 @@
 // The fields of the file of a map over turned samples, and its limit, each read by its rule.
 ghost use Rattle.std.specs.Prelude.{◌≡◌, ◌≤◌, ◌<◌, ◌+◌, ◌^◌, IfErr, IfOk, OnOk};
 ghost use Rattle.std.specs.Int.{w16, w8};
-ghost use Rattle.shelf_core.specs.Files.{OnlyReadsFile};
+ghost use Rattle.shelf_traits.specs.Files.{OnlyReadsFile};
 ghost use Rattle.cells.specs.Places.{HasAxes, IsSmall, cell_count};
 ghost use Rattle.file_bytes.specs.Reading.{Follows};
 ghost use Rattle.source_map.specs.Heads.{magic_rule};
@@ -12,7 +12,7 @@ use crate::turned_file::MAGIC;
 use cells::Size;
 use file_bytes::FileReader;
 use limits::MOST_MAP_CELLS;
-use shelf_core::{FormFault, ReadError, Shelf, What};
+use shelf_traits::{FormFault, ReadError, Shelf, What};
 use turned::TURNS;
 
 // The refusal of a field at its place.

@@ -1,6 +1,6 @@
 // What the form of maps over turned samples promises, whoever reads or writes.
 ghost use Rattle.std.specs.Prelude.{◌≡◌, ℕ, List, Ok, Err};
-ghost use Rattle.shelf_core.specs.declared.fault.ReadError.{ReadError};
+ghost use Rattle.shelf_traits.specs.declared.fault.ReadError.{ReadError};
 ghost use Rattle.source_map.specs.Readings.{AreBytes};
 ghost use Rattle.turned_map.specs.declared.turned_file.TurnedFile.{TurnedFile};
 ghost use Rattle.turned_map.specs.TurnedFiles.{IsTurnedFile, IsTurnedFileOf, turned_map_form, turned_map_read};

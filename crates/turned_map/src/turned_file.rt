@@ -2,8 +2,8 @@
 ghost use Rattle.std.specs.Prelude.{◌≡◌, ◌≤◌, ◌<◌, ◌^◌, All, IsSomeAnd, OnErr, OnOk, length};
 ghost use Rattle.std.specs.List.{flat_map};
 ghost use Rattle.cells.specs.SizeLists.{AreSizes};
-ghost use Rattle.shelf_core.specs.Files.{Changes, OnlyWritesFile, WritesRose};
-ghost use Rattle.shelf_core.specs.Written.{HoldsPart, HoldsText};
+ghost use Rattle.shelf_traits.specs.Files.{Changes, OnlyWritesFile, WritesRose};
+ghost use Rattle.shelf_traits.specs.Written.{HoldsPart, HoldsText};
 ghost use Rattle.file_bytes.specs.Writing.{Puts};
 ghost use Rattle.source_map.specs.MapFiles.{IsShort};
 ghost use Rattle.turned.specs.TurnedParts.{turned_sizes_of};
@@ -13,7 +13,7 @@ ghost use Rattle.turned_map.specs.TurnedFiles.{IsTurnedMap, turned_field, turned
 use cells::{At, Sizes};
 use file_bytes::FileWriter;
 use map_canvas::{Entry, Map};
-use shelf_core::{Shelf, WriteFault};
+use shelf_traits::{Shelf, WriteFault};
 use source_map::{Head, Version, place_bytes, put_head};
 use turned::{MOST_TURNED, Turned, turned_sizes, untouched_with};
 

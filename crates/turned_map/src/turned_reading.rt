@@ -1,6 +1,6 @@
 // The file of a map over turned samples, read.
 ghost use Rattle.std.specs.Prelude.{◌≡◌, ◌≤◌, ◌<◌, ◌+◌, ◌^◌, All, IfOk, IfSome, IsSomeAnd, OnOk, length};
-ghost use Rattle.shelf_core.specs.Files.{OnlyReadsFile};
+ghost use Rattle.shelf_traits.specs.Files.{OnlyReadsFile};
 ghost use Rattle.cells.specs.Places.{HasAxes, IsInside, IsSmall, cell_count};
 ghost use Rattle.cells.specs.SizeLists.{AreSizes};
 ghost use Rattle.file_bytes.specs.Reading.{Follows};
@@ -18,7 +18,7 @@ use cells::{At, Size, Sizes};
 use file_bytes::{FileReader, make_room};
 use limits::MOST_MAP_CELLS;
 use map_canvas::{Entry, Map};
-use shelf_core::{ReadError, Shelf};
+use shelf_traits::{ReadError, Shelf};
 use source_map::{read_place, read_size, read_sizes};
 use std::alloc::Global;
 use turned::{MOST_TURNED, Turned, turned_place, turned_sizes};

@@ -3,10 +3,10 @@ use Rattle.std.proofs.Common.{◌≡◌, ◌≢◌, ℕ, ◌<◌, List, [], ◌�
 use Rattle.std.specs.Prelude.{Result, Ok, unwrap_or}
 use Rattle.std.specs.FinMap.{get, insert}
 use Rattle.cells.specs.declared.place.Size.{Size}
-use Rattle.shelf_core.specs.Files.{Files, ShelfState, SinkState, Changes, content_of}
-use Rattle.shelf_core.specs.declared.fault.ReadError.{ReadError}
-use Rattle.shelf_core.specs.Written.{written}
-use Rattle.shelf_core.proofs.FileLaws.{content_beside, content_inserted, get_beside, told_weaker}
+use Rattle.shelf_traits.specs.Files.{Files, ShelfState, SinkState, Changes, content_of}
+use Rattle.shelf_traits.specs.declared.fault.ReadError.{ReadError}
+use Rattle.shelf_traits.specs.Written.{written}
+use Rattle.shelf_traits.proofs.FileLaws.{content_beside, content_inserted, get_beside, told_weaker}
 use Rattle.map_canvas.specs.Maps.{SourceMap}
 use Rattle.source_map.specs.declared.head.Head.{Head}
 use Rattle.source_map.specs.declared.head.Version.{Version}

@@ -1,7 +1,7 @@
 -- The stages of `upgrade`: each has one answer, and what is planned goes by them.
 use Rattle.std.proofs.Common.{◌≡◌, [], ◌∷◌, refl, subst}
 use Rattle.std.specs.Prelude.{All}
-use Rattle.shelf_core.specs.Files.{Files, InFile, OnlyReads, OnlyReadsFile, ShelfState}
+use Rattle.shelf_traits.specs.Files.{Files, InFile, OnlyReads, OnlyReadsFile, ShelfState}
 use Rattle.source_map.specs.declared.head.Version.TheVariants.{One}
 use Rattle.source_map.specs.declared.map_file.MapFile.{MapFile}
 use Rattle.source_map.specs.declared.map_file.MapFile.TheVariants.{Cells as CellMap}

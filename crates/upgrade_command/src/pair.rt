@@ -1,6 +1,6 @@
 // A map and cut records of version 1, as they are read.
 ghost use Rattle.std.specs.Prelude.{◌≡◌, IfOk};
-ghost use Rattle.shelf_core.specs.Files.{OnlyReadsFile};
+ghost use Rattle.shelf_traits.specs.Files.{OnlyReadsFile};
 ghost use Rattle.source_map.specs.declared.map_file.MapFile.TheVariants.{Cells as CellMap};
 ghost use Rattle.source_map.specs.MapFiles.{IsMapFile, IsVersionOneMap};
 ghost use Rattle.cert_file.specs.declared.file.RecordFile.TheVariants.{Cuts};
@@ -13,7 +13,7 @@ use cells::Sizes;
 use cert_file::{CutRecord, Head, Items, RecordFile, read_version_one_cuts};
 use command::read_fault;
 use job_words::Name;
-use shelf_core::Shelf;
+use shelf_traits::Shelf;
 use source_map::{Map, MapFile, Version, read_version_one_map};
 use std::alloc::Global;
 use synth_report::{Fault, FileOf};

@@ -1,6 +1,6 @@
 // The command that tells a map and a record in version 2.
 ghost use Rattle.std.specs.Prelude.{◌≡◌, IfOk};
-ghost use Rattle.shelf_core.specs.Files.{OnlyReads, OnlyWrites};
+ghost use Rattle.shelf_traits.specs.Files.{OnlyReads, OnlyWrites};
 ghost use Rattle.command.specs.Commands.{names_in};
 ghost use Rattle.command.specs.Outcomes.{Leaves, Plans};
 ghost use Rattle.command.specs.Writing.{WritesRun, text_names};
@@ -11,7 +11,7 @@ use cert_file::Head;
 use command::{Then, write_run};
 use command_files::{CellMapFile, CutsFile, records_fit};
 use job_words::UpgradeJob;
-use shelf_core::{Shelf, Sink};
+use shelf_traits::{Shelf, Sink};
 use source_map::Version;
 use std::alloc::Global;
 use synth_report::{Fault, FileOf, Summary};

@@ -1,8 +1,8 @@
 -- Each command has one answer, no status is another's, and the headlines.
 use Rattle.std.proofs.Common.{◌≡◌, ℕ, inl, inr, List, [], sym, ◌∙◌, subst}
 use Rattle.std.specs.Prelude.{Ok}
-use Rattle.shelf_core.specs.Files.{Files, ShelfState, SinkState, Changes, content_of}
-use Rattle.shelf_core.proofs.FileLaws.{told_weaker}
+use Rattle.shelf_traits.specs.Files.{Files, ShelfState, SinkState, Changes, content_of}
+use Rattle.shelf_traits.proofs.FileLaws.{told_weaker}
 use Rattle.job_words.specs.declared.job.Job.{Job}
 use Rattle.job_words.specs.declared.check.CheckJob.{CheckJob}
 use Rattle.job_words.specs.declared.trial.TrialJob.{TrialJob}

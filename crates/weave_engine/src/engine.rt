@@ -20,7 +20,7 @@ use job_words::{Job, Words, read_job};
 use loop_command::loop_clip;
 use merge_command::merge_pictures;
 use quilt_command::quilt_picture;
-use shelf_core::{Shelf, Sink};
+use shelf_traits::{Shelf, Sink};
 use std::alloc::Global;
 use synth_report::{Fault, Summary};
 use tile_command::tile;

@@ -5,11 +5,11 @@ use Rattle.std.proofs.lemmas.List.{length-append, append-nil}
 use Rattle.std.proofs.Math.Seq.{drop-append_seam}
 use Rattle.limits.specs.declared.bounds.TheConstants.{GREATEST_AXIS, MOST_LINE_BYTES}
 use Rattle.cells.specs.Cells.{volume_of}
-use Rattle.shelf_core.specs.Files.{ShelfState, OnlyReads, content_of}
-use Rattle.shelf_core.specs.declared.fault.ReadError.{ReadError}
-use Rattle.shelf_core.specs.declared.fault.ReadError.TheVariants.{ReadFault, Bad, Limit, NoMemory}
-use Rattle.shelf_core.specs.declared.fault.FormFault.TheVariants.{Form, Depth, Space, Cell, NoFrames, Sample, Trailing}
-use Rattle.shelf_core.specs.declared.fault.What.TheVariants.{Axis, Cells as CellsLimit, Header, Frames, Output, Loop, Records, Parts}
+use Rattle.shelf_traits.specs.Files.{ShelfState, OnlyReads, content_of}
+use Rattle.shelf_traits.specs.declared.fault.ReadError.{ReadError}
+use Rattle.shelf_traits.specs.declared.fault.ReadError.TheVariants.{ReadFault, Bad, Limit, NoMemory}
+use Rattle.shelf_traits.specs.declared.fault.FormFault.TheVariants.{Form, Depth, Space, Cell, NoFrames, Sample, Trailing}
+use Rattle.shelf_traits.specs.declared.fault.What.TheVariants.{Axis, Cells as CellsLimit, Header, Frames, Output, Loop, Records, Parts}
 use Rattle.y4m_clip.specs.declared.head.Front.{Front}
 use Rattle.y4m_clip.specs.declared.line.Line.{Line}
 use Rattle.y4m_clip.specs.declared.form.Clip.{Clip}
@@ -20,7 +20,7 @@ use Rattle.y4m_clip.specs.Refusals.{Framed, FrameLineBreaks, PlanesBreak, FrameL
 use Rattle.y4m_clip.specs.Reading.{HasLine}
 use Rattle.y4m_clip.specs.Heads.{HasFront}
 use Rattle.y4m_clip.specs.Frames.{FramesSeen, After, PassesFrames, FramesAs, IsFilledSoFar, frames_size}
-use Rattle.shelf_core.proofs.Sees.{Sees, sees_weaker, sees_then, fault_later}
+use Rattle.shelf_traits.proofs.Sees.{Sees, sees_weaker, sees_then, fault_later}
 use Rattle.y4m_clip.proofs.FrontLaws.{FrontSeen, front_seen}
 
 pub fronts_seen : (name : List ℕ) (line : Line) (most : ℕ) (front : Front) (a b : ShelfState) → Sees a b (λ files. HasLine (content_of files name) line) → HasFront line most front → Sees a b (λ files. FrontSeen (content_of files name) most front)

@@ -4,10 +4,10 @@ use Rattle.std.specs.Prelude.{Some, None, nat_lt, replicate, Ok, Err, IfOk}
 use Rattle.std.proofs.lemmas.List.{append-nil, length-append, take-append-drop, length-take-le, take-take, length-drop}
 use Rattle.std.proofs.lemmas.Bool.{ltb-true, ltb-false}
 use Rattle.limits.specs.declared.bounds.TheConstants.{MOST_LINE_BYTES}
-use Rattle.shelf_core.specs.declared.fault.ReadError.TheVariants.{Bad, Limit}
-use Rattle.shelf_core.specs.declared.fault.FormFault.TheVariants.{Form}
-use Rattle.shelf_core.specs.declared.fault.What.TheVariants.{Header}
-use Rattle.shelf_core.specs.Files.{ShelfState, Reads, content_of, Changes}
+use Rattle.shelf_traits.specs.declared.fault.ReadError.TheVariants.{Bad, Limit}
+use Rattle.shelf_traits.specs.declared.fault.FormFault.TheVariants.{Form}
+use Rattle.shelf_traits.specs.declared.fault.What.TheVariants.{Header}
+use Rattle.shelf_traits.specs.Files.{ShelfState, Reads, content_of, Changes}
 use Rattle.y4m_clip.specs.declared.scan.LineScan.TheVariants.{Magic, Whole}
 use Rattle.y4m_clip.specs.declared.scan.ScannedLine.{ScannedLine}
 use Rattle.y4m_clip.specs.declared.scan.ScannedLine.TheVariants.{Open, Broken, Ended}
@@ -17,7 +17,7 @@ use Rattle.y4m_clip.specs.Reading.{GoesWrong, EndsAfter, IsStreamScanned, IsLine
 use Rattle.y4m_clip.specs.Refusals.{LineBreaks}
 use Rattle.y4m_clip.proofs.Runs.{run_then}
 use Rattle.y4m_clip.proofs.Prefixes.{magic, line_runs}
-use Rattle.shelf_core.proofs.Sees.{Sees, sees_weaker}
+use Rattle.shelf_traits.proofs.Sees.{Sees, sees_weaker}
 
 -- No stream line is the front of another.
 

@@ -8,14 +8,14 @@ use Rattle.std.proofs.Math.Seq.{take-append-add, take-append_seam}
 use Rattle.limits.specs.declared.bounds.TheConstants.{MOST_LINE_BYTES}
 use Rattle.y4m_clip.specs.Clips.{IsFrameLine, IsOpenFrameLine, IsFrameLinePrefix}
 use Rattle.y4m_clip.specs.Reading.{Matches}
-use Rattle.shelf_core.specs.declared.fault.ReadError.TheVariants.{Bad, Limit}
-use Rattle.shelf_core.specs.declared.fault.FormFault.TheVariants.{Form}
-use Rattle.shelf_core.specs.declared.fault.What.TheVariants.{Header}
-use Rattle.shelf_core.specs.Files.{ShelfState, Reads, content_of, Changes}
+use Rattle.shelf_traits.specs.declared.fault.ReadError.TheVariants.{Bad, Limit}
+use Rattle.shelf_traits.specs.declared.fault.FormFault.TheVariants.{Form}
+use Rattle.shelf_traits.specs.declared.fault.What.TheVariants.{Header}
+use Rattle.shelf_traits.specs.Files.{ShelfState, Reads, content_of, Changes}
 use Rattle.y4m_clip.specs.declared.frame.FrameScan.{FrameScan}
 use Rattle.y4m_clip.specs.declared.frame.FrameScan.TheVariants.{Nothing, Open, Wrong, Whole}
 use Rattle.y4m_clip.specs.Frames.{IsFirstEnd, IsEarly, WrongInFrame, IsFrameScanned, frame_judged, IsFrameFound, FindsFrameAs}
-use Rattle.shelf_core.proofs.Sees.{Sees, sees_weaker}
+use Rattle.shelf_traits.proofs.Sees.{Sees, sees_weaker}
 use Rattle.y4m_clip.proofs.Prefixes.{front-index}
 
 abbrev pub word : List ℕ

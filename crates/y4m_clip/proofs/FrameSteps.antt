@@ -2,16 +2,16 @@
 use Rattle.std.proofs.Common.{◌≡◌, ℕ, ◌<◌, ◌+◌, ◌-◌, inl, inr, List, ◌++◌, length, take, drop, refl, sym, ap, ◌∙◌, subst, arith, append_assoc}
 use Rattle.std.specs.Prelude.{Some, Ok, Err}
 use Rattle.std.proofs.lemmas.List.{length-append, take-append-drop, length-take-le, length-drop, drop-drop}
-use Rattle.shelf_core.specs.Files.{ShelfState, OnlyReads, content_of}
-use Rattle.shelf_core.specs.declared.fault.ReadError.{ReadError}
-use Rattle.shelf_core.specs.declared.fault.ReadError.TheVariants.{ReadFault, Bad, Limit, NoMemory}
-use Rattle.shelf_core.specs.declared.fault.FormFault.TheVariants.{Form, Depth, Space, Cell, NoFrames, Sample, Trailing}
-use Rattle.shelf_core.specs.declared.fault.What.TheVariants.{Axis, Cells as CellsLimit, Header, Frames, Output, Loop, Records, Parts}
+use Rattle.shelf_traits.specs.Files.{ShelfState, OnlyReads, content_of}
+use Rattle.shelf_traits.specs.declared.fault.ReadError.{ReadError}
+use Rattle.shelf_traits.specs.declared.fault.ReadError.TheVariants.{ReadFault, Bad, Limit, NoMemory}
+use Rattle.shelf_traits.specs.declared.fault.FormFault.TheVariants.{Form, Depth, Space, Cell, NoFrames, Sample, Trailing}
+use Rattle.shelf_traits.specs.declared.fault.What.TheVariants.{Axis, Cells as CellsLimit, Header, Frames, Output, Loop, Records, Parts}
 use Rattle.y4m_clip.specs.declared.form.SpaceKind.{SpaceKind}
 use Rattle.y4m_clip.specs.Clips.{plane_bytes}
 use Rattle.y4m_clip.specs.Refusals.{PlanesBreak}
 use Rattle.y4m_clip.specs.Frames.{HasFrameLine, IsFrameFound, FindsFrameAs, HasPlanes, FillsPlanesAs, HasFrame, ReadsFrameAs}
-use Rattle.shelf_core.proofs.Sees.{sees_weaker, sees_then, fault_later}
+use Rattle.shelf_traits.proofs.Sees.{sees_weaker, sees_then, fault_later}
 
 -- a frame line that is refused
 pub line_refused : (kind : SpaceKind) (w h : ℕ) (name : List ℕ) (at : ℕ) (planes : List ℕ) (e : ReadError) (a b : ShelfState) → FindsFrameAs name at a b (Err e) → ReadsFrameAs kind w h name at planes a b (Err e)

@@ -6,11 +6,11 @@ use Rattle.std.proofs.lemmas.List.{length-append}
 use Rattle.std.proofs.Math.Nat.{mul-suc, add-div_left}
 use Rattle.std.proofs.lemmas.Bool.{eqb-true, eqb-false}
 use Rattle.limits.specs.declared.bounds.TheConstants.{GREATEST_AXIS, MOST_LINE_BYTES}
-use Rattle.shelf_core.specs.Files.{ShelfState, OnlyReads, ReadsRose, content_of}
-use Rattle.shelf_core.specs.declared.fault.ReadError.{ReadError}
-use Rattle.shelf_core.specs.declared.fault.ReadError.TheVariants.{ReadFault, Bad, Limit, NoMemory}
-use Rattle.shelf_core.specs.declared.fault.FormFault.TheVariants.{Form, Depth, Space, Cell, NoFrames, Sample, Trailing}
-use Rattle.shelf_core.specs.declared.fault.What.TheVariants.{Axis, Cells as CellsLimit, Header, Frames, Output, Loop, Records, Parts}
+use Rattle.shelf_traits.specs.Files.{ShelfState, OnlyReads, ReadsRose, content_of}
+use Rattle.shelf_traits.specs.declared.fault.ReadError.{ReadError}
+use Rattle.shelf_traits.specs.declared.fault.ReadError.TheVariants.{ReadFault, Bad, Limit, NoMemory}
+use Rattle.shelf_traits.specs.declared.fault.FormFault.TheVariants.{Form, Depth, Space, Cell, NoFrames, Sample, Trailing}
+use Rattle.shelf_traits.specs.declared.fault.What.TheVariants.{Axis, Cells as CellsLimit, Header, Frames, Output, Loop, Records, Parts}
 use Rattle.y4m_clip.specs.declared.form.SpaceKind.{SpaceKind}
 use Rattle.y4m_clip.specs.declared.frames.Filled.{Filled}
 use Rattle.y4m_clip.specs.declared.head.Front.{Front}
@@ -18,7 +18,7 @@ use Rattle.y4m_clip.specs.Spaces.{samples_of}
 use Rattle.y4m_clip.specs.Clips.{Frame, frames_text, frame_cells, plane_bytes, most_frames}
 use Rattle.y4m_clip.specs.Refusals.{FrameLineBreaks, PlanesBreak, FrameLineTooLong}
 use Rattle.y4m_clip.specs.Frames.{HasFrame, ReadsFrameAs, FramesSeen, PassesFrames, FramesAs, StandsIf, finished, IsFilledSoFar}
-use Rattle.shelf_core.proofs.Sees.{Sees, sees_then, sees_all, fault_later}
+use Rattle.shelf_traits.proofs.Sees.{Sees, sees_then, sees_all, fault_later}
 use Rattle.y4m_clip.proofs.FramesLaws.{nothing_seen, one_more}
 use Rattle.y4m_clip.proofs.Joined.{length-frame_cells}
 

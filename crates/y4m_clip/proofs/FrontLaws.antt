@@ -2,23 +2,23 @@
 use Rattle.std.proofs.Common.{◌≡◌, ℕ, ◌≤◌, ◌<◌, ◌*◌, ◌/◌, ◌%◌, ◌⊎◌, inl, inr, List, length, refl, sym, ap, ◌∙◌, subst, arith}
 use Rattle.std.specs.Prelude.{Err}
 use Rattle.limits.specs.declared.bounds.TheConstants.{GREATEST_AXIS, MOST_CELLS, MOST_LINE_BYTES, MOST_TAG_BYTES}
-use Rattle.shelf_core.specs.Files.{ShelfState, content_of}
-use Rattle.shelf_core.specs.declared.fault.ReadError.{ReadError}
-use Rattle.shelf_core.specs.declared.fault.ReadError.TheVariants.{ReadFault, Bad, Limit, NoMemory}
-use Rattle.shelf_core.specs.declared.fault.FormFault.TheVariants.{Form, Depth, Space, Cell, NoFrames, Sample, Trailing}
-use Rattle.shelf_core.specs.declared.fault.What.TheVariants.{Axis, Cells as CellsLimit, Header, Frames, Output, Loop, Records, Parts}
+use Rattle.shelf_traits.specs.Files.{ShelfState, content_of}
+use Rattle.shelf_traits.specs.declared.fault.ReadError.{ReadError}
+use Rattle.shelf_traits.specs.declared.fault.ReadError.TheVariants.{ReadFault, Bad, Limit, NoMemory}
+use Rattle.shelf_traits.specs.declared.fault.FormFault.TheVariants.{Form, Depth, Space, Cell, NoFrames, Sample, Trailing}
+use Rattle.shelf_traits.specs.declared.fault.What.TheVariants.{Axis, Cells as CellsLimit, Header, Frames, Output, Loop, Records, Parts}
 use Rattle.y4m_clip.specs.declared.form.SpaceKind.{SpaceKind}
 use Rattle.y4m_clip.specs.declared.form.SpaceKind.TheVariants.{Mono, C444, C422, C411, C420}
 use Rattle.y4m_clip.specs.declared.line.Line.{Line}
 use Rattle.y4m_clip.specs.declared.head.Front.{Front}
 use Rattle.y4m_clip.specs.Spaces.{cell_width, cell_height}
-use Rattle.shelf_core.specs.Decimals.{capped}
+use Rattle.shelf_traits.specs.Decimals.{capped}
 use Rattle.y4m_clip.specs.Clips.{pixels_w, pixels_h, cells_w, cells_h, carried, spaced, HasSpaceKind, IsWhole, Fronted}
 use Rattle.y4m_clip.specs.Refusals.{ShortLined, ShortSized, width_of, height_of, RefusesClip, ReadsClipAs}
 use Rattle.y4m_clip.specs.Reading.{AreTags, HasLine}
 use Rattle.y4m_clip.specs.Heads.{IsCellNumber, carried_number, HasFront, SizeRefused, TagsRefused, FrontAs}
 use Rattle.y4m_clip.specs.Frames.{IsSoundFront}
-use Rattle.shelf_core.proofs.Sees.{Sees, sees_weaker}
+use Rattle.shelf_traits.proofs.Sees.{Sees, sees_weaker}
 use Rattle.y4m_clip.proofs.FormLaws.{form_of_line}
 use Rattle.y4m_clip.proofs.TagLaws.{tags_fit_line, width_positive, height_positive}
 

@@ -12,7 +12,7 @@ use Rattle.cells.specs.Places.{HasAxes}
 use Rattle.y4m_clip.specs.declared.form.ClipForm.{ClipForm}
 use Rattle.y4m_clip.specs.declared.form.SpaceKind.{SpaceKind}
 use Rattle.y4m_clip.specs.declared.form.SpaceKind.TheVariants.{Mono, C444, C422, C411, C420}
-use Rattle.shelf_core.specs.Decimals.{IsDigit, value_behind}
+use Rattle.shelf_traits.specs.Decimals.{IsDigit, value_behind}
 use Rattle.y4m_clip.specs.StreamLine.{IsCount, is_axis, has_stood, again, may_stand, has_axes, Continues, IsStreamLine}
 use Rattle.y4m_clip.specs.Spaces.{cell_width, cell_height}
 use Rattle.y4m_clip.specs.Clips.{pixels_w, pixels_h, cells_w, cells_h, carried, spaced, IsWhole}

@@ -9,7 +9,7 @@ use Rattle.y4m_clip.specs.declared.scan.LineKind.TheVariants.{Ink}
 use Rattle.y4m_clip.specs.declared.scan.Letters.{Letters}
 use Rattle.y4m_clip.specs.declared.scan.LineScan.{LineScan}
 use Rattle.y4m_clip.specs.declared.scan.LineScan.TheVariants.{Magic, Gap, Value, Number, Whole}
-use Rattle.shelf_core.specs.Decimals.{IsDigit}
+use Rattle.shelf_traits.specs.Decimals.{IsDigit}
 use Rattle.y4m_clip.specs.StreamLine.{IsInk, is_axis, MayHaveValue, IsTagValue, has_stood, Continues}
 use Rattle.y4m_clip.specs.Scanning.{line_kind, no_letters, with_letter, may_follow, line_ended, tag_entered, in_gap, in_value, in_number, line_step, line_run}
 

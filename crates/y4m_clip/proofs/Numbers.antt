@@ -1,7 +1,7 @@
 -- Numbers in decimal.
 use Rattle.std.proofs.Common.{◌≡◌, ℕ, ◌<◌, ◌+◌, ◌*◌, ◌-◌, List, [], ◌∷◌, ◌++◌, length, take, get_or, refl, ap, ◌∙◌}
 use Rattle.std.proofs.lemmas.List.{take_more}
-use Rattle.shelf_core.specs.Decimals.{value_behind}
+use Rattle.shelf_traits.specs.Decimals.{value_behind}
 
 pub value-push : (n : ℕ) (digits : List ℕ) (b : ℕ) → value_behind n (digits ++ b ∷ []) ≡ 10 * value_behind n digits + (b - 48)
 value-push n [] b = refl

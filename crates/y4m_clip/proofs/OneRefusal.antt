@@ -5,15 +5,15 @@ use Rattle.std.proofs.lemmas.Bool.{cases_lt, cases_Bool, and_parts, and_from, eq
 use Rattle.std.proofs.lemmas.List.{length-append, append-nil, take-append-drop, take-take, length-take-le}
 use Rattle.std.proofs.Math.Seq.{take-append_seam}
 use Rattle.limits.specs.declared.bounds.TheConstants.{GREATEST_AXIS, MOST_LINE_BYTES, MOST_TAG_BYTES}
-use Rattle.shelf_core.specs.declared.fault.ReadError.{ReadError}
-use Rattle.shelf_core.specs.declared.fault.ReadError.TheVariants.{ReadFault, Bad, Limit, NoMemory}
-use Rattle.shelf_core.specs.declared.fault.FormFault.TheVariants.{Form, Depth, Space, Cell, NoFrames, Sample, Trailing}
-use Rattle.shelf_core.specs.declared.fault.What.TheVariants.{Axis, Cells as CellsLimit, Header, Frames, Output, Loop, Records, Parts}
+use Rattle.shelf_traits.specs.declared.fault.ReadError.{ReadError}
+use Rattle.shelf_traits.specs.declared.fault.ReadError.TheVariants.{ReadFault, Bad, Limit, NoMemory}
+use Rattle.shelf_traits.specs.declared.fault.FormFault.TheVariants.{Form, Depth, Space, Cell, NoFrames, Sample, Trailing}
+use Rattle.shelf_traits.specs.declared.fault.What.TheVariants.{Axis, Cells as CellsLimit, Header, Frames, Output, Loop, Records, Parts}
 use Rattle.y4m_clip.specs.declared.form.SpaceKind.{SpaceKind}
 use Rattle.y4m_clip.specs.declared.form.Clip.{Clip}
 use Rattle.y4m_clip.specs.StreamLine.{IsStreamLine, IsLinePrefix, IsProperLinePrefix}
 use Rattle.y4m_clip.specs.Spaces.{GivesSpace, cell_width, cell_height}
-use Rattle.shelf_core.specs.Decimals.{capped}
+use Rattle.shelf_traits.specs.Decimals.{capped}
 use Rattle.y4m_clip.specs.Clips.{tag_value, carried, spaced, Lined, HasSpaceKind, IsWhole, pixels_w, pixels_h, cells_w, cells_h, LineFits, Fronted}
 use Rattle.y4m_clip.specs.Refusals.{LineBreaks, LineTooLong, ShortLined, KindLined, ShortSized, SizePasses, width_of, height_of, bound_of, RefusesClip, IsReadClip}
 use Rattle.y4m_clip.specs.Reading.{line_limit}

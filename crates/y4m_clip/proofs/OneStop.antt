@@ -4,10 +4,10 @@ use Rattle.std.specs.List.{AllByRecursion}
 use Rattle.std.proofs.lemmas.Bool.{cases_lt}
 use Rattle.std.proofs.lemmas.List.{length-append, length-drop, append-nil}
 use Rattle.limits.specs.declared.bounds.TheConstants.{GREATEST_AXIS}
-use Rattle.shelf_core.specs.declared.fault.ReadError.{ReadError}
-use Rattle.shelf_core.specs.declared.fault.ReadError.TheVariants.{Bad, Limit}
-use Rattle.shelf_core.specs.declared.fault.FormFault.TheVariants.{Form, NoFrames}
-use Rattle.shelf_core.specs.declared.fault.What.TheVariants.{Axis, Cells as CellsLimit}
+use Rattle.shelf_traits.specs.declared.fault.ReadError.{ReadError}
+use Rattle.shelf_traits.specs.declared.fault.ReadError.TheVariants.{Bad, Limit}
+use Rattle.shelf_traits.specs.declared.fault.FormFault.TheVariants.{Form, NoFrames}
+use Rattle.shelf_traits.specs.declared.fault.What.TheVariants.{Axis, Cells as CellsLimit}
 use Rattle.y4m_clip.specs.declared.form.SpaceKind.{SpaceKind}
 use Rattle.y4m_clip.specs.Clips.{IsFrameLinePrefix, Frame, IsFrame, IsShortFrame, frame_text, frames_text, plane_bytes, most_frames}
 use Rattle.y4m_clip.specs.Refusals.{Framed, FrameLineBreaks, PlanesBreak, FrameLineTooLong}

@@ -5,7 +5,7 @@ use Rattle.std.specs.List.{list_any}
 use Rattle.std.proofs.lemmas.Bool.{eqb-true, ltb-true}
 use Rattle.std.proofs.lemmas.List.{length-append}
 use Rattle.y4m_clip.specs.StreamLine.{is_axis, IsCount, MayHaveValue, has_stood, has_axes, Continues, IsStreamLine}
-use Rattle.shelf_core.specs.Decimals.{value_behind}
+use Rattle.shelf_traits.specs.Decimals.{value_behind}
 use Rattle.y4m_clip.specs.Clips.{tag_value, tag_number, carried, spaced}
 
 -- A number of a tag is at least 1.

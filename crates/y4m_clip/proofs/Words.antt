@@ -3,7 +3,7 @@ use Rattle.std.proofs.Common.{◌≡◌, ℕ, zero, suc, ◌≤◌, ◌+◌, ◌
 use Rattle.std.specs.Prelude.{replicate}
 use Rattle.std.specs.List.{AllByRecursion}
 use Rattle.std.proofs.lemmas.List.{append-nil, length-take-le, drop-take, take-append-drop}
-use Rattle.shelf_core.specs.Decimals.{IsDigit}
+use Rattle.shelf_traits.specs.Decimals.{IsDigit}
 use Rattle.y4m_clip.specs.StreamLine.{IsInk, is_axis, MayHaveValue, IsStreamLine, Continues}
 use Rattle.y4m_clip.specs.Reading.{IsLineOf, AreTags, gathered_on, gathered, HasShortLine, HasLine}
 use Rattle.y4m_clip.proofs.Lines.{ink_kind, digit_ink}

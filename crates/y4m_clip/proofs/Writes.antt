@@ -4,10 +4,10 @@ use Rattle.std.proofs.Math.Seq.{take-append_seam}
 use Rattle.std.proofs.lemmas.List.{take-append-drop, append-nil}
 use Rattle.std.specs.Prelude.{drop, Result, Ok, Err, OnErr}
 use Rattle.std.specs.FinMap.{insert}
-use Rattle.shelf_core.specs.Files.{Files, ShelfState, content_of, Changes, Appends, AppendsPart}
-use Rattle.shelf_core.specs.Written.{HoldsText, HoldsPart}
-use Rattle.shelf_core.proofs.FileLaws.{content_inserted, insert_again, told_then, told_weaker}
-use Rattle.shelf_core.proofs.WrittenLaws.{shelf_added, shelf_added_part}
+use Rattle.shelf_traits.specs.Files.{Files, ShelfState, content_of, Changes, Appends, AppendsPart}
+use Rattle.shelf_traits.specs.Written.{HoldsText, HoldsPart}
+use Rattle.shelf_traits.proofs.FileLaws.{content_inserted, insert_again, told_then, told_weaker}
+use Rattle.shelf_traits.proofs.WrittenLaws.{shelf_added, shelf_added_part}
 
 front : (first rest : List ℕ) → first ≡ take (length first) (first ++ rest)
 front first rest = sym (take-append_seam first rest)

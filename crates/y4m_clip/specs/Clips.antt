@@ -2,7 +2,7 @@
 -- at which place. (YUV4MPEG2, with planes of 8 bits; the bounds are this project's own.)
 use Rattle.std.specs.Prelude.{◌≡◌, ◌≢◌, ◌≤◌, ◌⊎◌, ◌+◌, ◌-◌, ◌*◌, ◌/◌, ◌%◌, ℕ, ◌==◌, if◌then◌else◌, List, [], ◌∷◌, ◌++◌, length, take, drop, min, Option, Some, None, unwrap_or, codes}
 use Rattle.std.specs.List.{AllByRecursion, flat_map}
-use Rattle.shelf_core.specs.Decimals.{value_behind}
+use Rattle.shelf_traits.specs.Decimals.{value_behind}
 use Rattle.cells.specs.Cells.{volume_of}
 use Rattle.y4m_clip.specs.declared.form.SpaceKind.{SpaceKind}
 use Rattle.y4m_clip.specs.declared.form.Clip.{Clip}

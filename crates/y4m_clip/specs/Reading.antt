@@ -1,11 +1,11 @@
 -- The state of the reader: what its parts make of a file. The public promise speaks of Refusals.antt
 -- alone. (Own.)
 use Rattle.std.specs.Prelude.{◌≡◌, ◌≢◌, ◌≤◌, ◌<◌, ◌+◌, ◌-◌, ℕ, List, [], ◌∷◌, ◌++◌, length, take, slice_index, nat_lt, if◌then◌else◌, Result, Ok, Err}
-use Rattle.shelf_core.specs.Files.{ShelfState, InFile, ReadsRose}
-use Rattle.shelf_core.specs.declared.fault.ReadError.{ReadError}
-use Rattle.shelf_core.specs.declared.fault.ReadError.TheVariants.{ReadFault, Bad, Limit, NoMemory}
-use Rattle.shelf_core.specs.declared.fault.FormFault.TheVariants.{Form}
-use Rattle.shelf_core.specs.declared.fault.What.TheVariants.{Header}
+use Rattle.shelf_traits.specs.Files.{ShelfState, InFile, ReadsRose}
+use Rattle.shelf_traits.specs.declared.fault.ReadError.{ReadError}
+use Rattle.shelf_traits.specs.declared.fault.ReadError.TheVariants.{ReadFault, Bad, Limit, NoMemory}
+use Rattle.shelf_traits.specs.declared.fault.FormFault.TheVariants.{Form}
+use Rattle.shelf_traits.specs.declared.fault.What.TheVariants.{Header}
 use Rattle.limits.specs.declared.bounds.TheConstants.{MOST_LINE_BYTES}
 use Rattle.y4m_clip.specs.declared.scan.LineKind.{LineKind}
 use Rattle.y4m_clip.specs.declared.scan.LineKind.TheVariants.{Blank, LineEnd, Ink}

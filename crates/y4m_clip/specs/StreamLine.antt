@@ -3,7 +3,7 @@
 -- may be empty, is this project's choice.)
 use Rattle.std.specs.Prelude.{◌≡◌, ◌≢◌, ℕ, suc, ◌==◌, nat_lt, Bool, true, false, not, ◌&&◌, ◌||◌, List, [], ◌∷◌, ◌++◌, replicate, codes}
 use Rattle.std.specs.List.{AllByRecursion, list_any}
-use Rattle.shelf_core.specs.Decimals.{IsDigit}
+use Rattle.shelf_traits.specs.Decimals.{IsDigit}
 
 -- neither blank nor LF
 abbrev pub IsInk : ℕ → Type 0

@@ -1,7 +1,7 @@
 // Reading the frames of a clip.
 ghost use Rattle.std.specs.Prelude.{◌≡◌, ◌≤◌, ◌<◌, ◌+◌, ◌*◌, ◌^◌, length, IfOk, IfSome, IfNone, ◌≢◌};
 ghost use Rattle.std.specs.List.{AllByRecursion};
-ghost use Rattle.shelf_core.specs.Files.{OnlyReadsFile};
+ghost use Rattle.shelf_traits.specs.Files.{OnlyReadsFile};
 ghost use Rattle.y4m_clip.specs.Frames.{IsFirstEnd, IsEarly, IsFrameScanned, frame_judged, FindsFrameAs, FillsPlanesAs, ReadsFrameAs, grown_by};
 ghost use Rattle.y4m_clip.specs.Clips.{frame_cells};
 ghost use Rattle.y4m_clip.specs.Spaces.{samples_of};
@@ -10,7 +10,7 @@ use crate::head::Front;
 use crate::line::{LINE_ROOM, matched, too_long};
 use crate::planes::add_frame;
 use limits::{MOST_CELLS, MOST_LINE_BYTES};
-use shelf_core::{FormFault, ReadError, Shelf};
+use shelf_traits::{FormFault, ReadError, Shelf};
 use std::alloc::AllocError;
 
 /// What the front of a frame is.

@@ -1,6 +1,6 @@
 // Reading all frames of a clip.
 ghost use Rattle.std.specs.Prelude.{◌≡◌, ◌≤◌, ◌<◌, ◌+◌, ◌*◌, ◌/◌, ◌^◌, length, min, drop, IfOk, IfErr, IfSome};
-ghost use Rattle.shelf_core.specs.Files.{InFile, OnlyReadsFile, ReadsRose};
+ghost use Rattle.shelf_traits.specs.Files.{InFile, OnlyReadsFile, ReadsRose};
 ghost use Rattle.y4m_clip.specs.Frames.{ReadsFrameAs, grown_by, FramesAs, PassesFrames, StandsIf, finished, IsSoundFront, IsFilledSoFar};
 ghost use Rattle.y4m_clip.specs.Clips.{frame_cells, most_frames};
 ghost use Rattle.y4m_clip.specs.Spaces.{samples_of};
@@ -9,7 +9,7 @@ use crate::form::SpaceKind;
 use crate::frame::read_frame;
 use crate::head::Front;
 use limits::{GREATEST_AXIS, MOST_CELLS, MOST_LINE_BYTES};
-use shelf_core::{FormFault, ReadError, Shelf, What};
+use shelf_traits::{FormFault, ReadError, Shelf, What};
 use std::alloc::{AllocError, Global};
 
 /// The bytes of the cells of some frames, and how many frames there are.

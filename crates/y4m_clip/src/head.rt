@@ -2,7 +2,7 @@
 ghost use Rattle.std.specs.Prelude.{◌≡◌, ◌≢◌, ◌<◌, ◌*◌, ◌+◌, ◌%◌, ◌/◌, ◌⊎◌, length, IfOk, IfSome, IfNone, IsTrue, ◌↔◌, option_copied, codes};
 ghost use Rattle.y4m_clip.specs.declared.form.SpaceKind.{SpaceKind};
 ghost use Rattle.y4m_clip.specs.Spaces.{IsSpelling, cell_width, cell_height, samples_of};
-ghost use Rattle.shelf_core.specs.Decimals.{capped, value_behind};
+ghost use Rattle.shelf_traits.specs.Decimals.{capped, value_behind};
 ghost use Rattle.y4m_clip.specs.Clips.{tag_value, tag_number, carried, spaced, HasSpaceKind};
 ghost use Rattle.y4m_clip.specs.Heads.{IsCounted, IsCellNumber, IsAllowedSize, FrontAs};
 
@@ -10,7 +10,7 @@ use crate::form::{ClipForm, SpaceKind, Tags};
 use crate::line::Line;
 use items::Items;
 use limits::{GREATEST_AXIS, MOST_LINE_BYTES, MOST_TAG_BYTES};
-use shelf_core::{FormFault, ReadError, What};
+use shelf_traits::{FormFault, ReadError, What};
 use std::alloc::{AllocError, Global};
 
 impl SpaceKind {

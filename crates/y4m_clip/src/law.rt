@@ -2,9 +2,9 @@
 ghost use Rattle.std.specs.Prelude.{◌≡◌, ◌≤◌, ◌<◌, ◌+◌, ◌++◌, ℕ, List};
 ghost use Rattle.cells.specs.Cells.{Cells};
 ghost use Rattle.cells.specs.Places.{cell_count};
-ghost use Rattle.shelf_core.specs.Files.{Files, Appends};
-ghost use Rattle.shelf_core.specs.Written.{HoldsText};
-ghost use Rattle.shelf_core.specs.declared.fault.ReadError.{ReadError};
+ghost use Rattle.shelf_traits.specs.Files.{Files, Appends};
+ghost use Rattle.shelf_traits.specs.Written.{HoldsText};
+ghost use Rattle.shelf_traits.specs.declared.fault.ReadError.{ReadError};
 ghost use Rattle.y4m_clip.specs.declared.form.Clip.{Clip};
 ghost use Rattle.y4m_clip.specs.declared.form.ClipForm.{ClipForm};
 ghost use Rattle.y4m_clip.specs.Spaces.{joined_to};

@@ -1,6 +1,6 @@
 // Reading the stream line of a clip.
 ghost use Rattle.std.specs.Prelude.{◌≡◌, ◌≤◌, ◌<◌, ◌+◌, ◌++◌, length, take, IfOk, OnOk, []};
-ghost use Rattle.shelf_core.specs.Files.{InFile, OnlyReadsFile};
+ghost use Rattle.shelf_traits.specs.Files.{InFile, OnlyReadsFile};
 ghost use Rattle.y4m_clip.specs.Scanning.{IsSoundLine};
 ghost use Rattle.y4m_clip.specs.Reading.{Matches, IsStreamScanned, flushed, gathered, Gathers, line_limit, line_judged, FindsLineAs, IsLineOf, AreTags, LinesAs};
 
@@ -8,7 +8,7 @@ use crate::form::Tags;
 use crate::scan::{LineKind, ScannedLine, classify, scan_line};
 use items::Items;
 use limits::MOST_LINE_BYTES;
-use shelf_core::{FormFault, ReadError, Shelf, What};
+use shelf_traits::{FormFault, ReadError, Shelf, What};
 use std::alloc::{AllocError, Global};
 
 /// The most bytes of a line, and one more.

@@ -1,7 +1,7 @@
 // Reading a clip.
 ghost use Rattle.std.specs.Prelude.{◌≡◌, ◌≤◌, IfOk};
 ghost use Rattle.cells.specs.Cells.{volume_of};
-ghost use Rattle.shelf_core.specs.Files.{OnlyReadsFile};
+ghost use Rattle.shelf_traits.specs.Files.{OnlyReadsFile};
 ghost use Rattle.y4m_clip.specs.Spaces.{samples_of};
 ghost use Rattle.y4m_clip.specs.Refusals.{ReadsClipAs, IsSoundClip};
 ghost use Rattle.y4m_clip.specs.Frames.{IsSoundFront, IsFilledSoFar, frames_size};
@@ -12,7 +12,7 @@ use crate::head::{Front, front_of};
 use crate::line::read_line;
 use cells::{Size, Volume};
 use limits::MOST_CELLS;
-use shelf_core::{ReadError, Shelf};
+use shelf_traits::{ReadError, Shelf};
 use std::alloc::Global;
 
 // The clip of a front and the cells of its frames.

@@ -2,8 +2,8 @@
 ghost use Rattle.std.specs.Prelude.{◌≡◌, ◌<◌, ◌*◌, ◌++◌, length, decimal, IfOk, OnOk, OnErr};
 ghost use Rattle.cells.specs.Places.{HasAxes};
 ghost use Rattle.cells.specs.Cells.{IsOnePart};
-ghost use Rattle.shelf_core.specs.Files.{Changes, Appends, AppendsPart, OnlyWritesFile, WritesRose};
-ghost use Rattle.shelf_core.specs.Written.{HoldsText, HoldsPart};
+ghost use Rattle.shelf_traits.specs.Files.{Changes, Appends, AppendsPart, OnlyWritesFile, WritesRose};
+ghost use Rattle.shelf_traits.specs.Written.{HoldsText, HoldsPart};
 ghost use Rattle.y4m_clip.specs.Spaces.{samples_of};
 ghost use Rattle.y4m_clip.specs.Clips.{spaced};
 ghost use Rattle.y4m_clip.specs.Writing.{IsForm, line_form, frame_form, writer_of};
@@ -14,7 +14,7 @@ use crate::lay::lay_planes;
 use cells::{Size, Volume};
 use items::Items;
 use itoa::Buffer;
-use shelf_core::{Shelf, WriteFault};
+use shelf_traits::{Shelf, WriteFault};
 use std::alloc::{AllocError, Global};
 use std::marker::Model;
 

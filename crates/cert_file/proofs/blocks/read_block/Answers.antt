@@ -3,8 +3,8 @@ use Rattle.std.proofs.lemmas.Grind.{common_steps}
 use Rattle.std.proofs.Common.{ℕ, List}
 use Rattle.std.proofs.lemmas.Result.{err_from_is_err_and}
 use Rattle.std.specs.Prelude.{Result, Ok, Err, Option, Some, None, IfSome}
-use Rattle.shelf_core.specs.declared.fault.ReadError.{ReadError}
-use Rattle.shelf_core.proofs.FileLaws.{only_reads_same, only_reads_then}
+use Rattle.shelf_traits.specs.declared.fault.ReadError.{ReadError}
+use Rattle.shelf_traits.proofs.FileLaws.{only_reads_same, only_reads_then}
 use Rattle.strip_boundary.specs.declared.boundary.BoundaryRecord.{BoundaryRecord}
 use Rattle.block_check.specs.declared.block.BlockRecord.{BlockRecord}
 use Rattle.source_map.proofs.FieldLaws.{chain, first_stops, lifted, made, then_reads, value_alone}

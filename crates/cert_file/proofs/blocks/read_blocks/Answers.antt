@@ -3,7 +3,7 @@ use Rattle.std.proofs.Common.{◌-◌, ◌++◌, ◌∷◌, [], ◌+◌, ◌∙�
 use Rattle.std.specs.Prelude.{All, Err, vec_capacity, vec_len}
 use Rattle.std.proofs.lemmas.List.Elements.{All-push}
 use Rattle.std.proofs.lemmas.Result.{err_from_is_err_and}
-use Rattle.shelf_core.proofs.FileLaws.{only_reads_then}
+use Rattle.shelf_traits.proofs.FileLaws.{only_reads_then}
 use Rattle.file_bytes.proofs.ReadingLaws.{room_made}
 use Rattle.source_map.specs.Readings.{Found, ReadsFrom}
 use Rattle.cert_file.specs.BlockForms.{IsBlockInForm}

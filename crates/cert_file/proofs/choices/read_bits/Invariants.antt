@@ -1,4 +1,4 @@
-use Rattle.shelf_core.specs.Files.{OnlyReadsFile}
+use Rattle.shelf_traits.specs.Files.{OnlyReadsFile}
 use Rattle.cert_file.specs.CutTaking.{TookBits}
 use Rattle.cert_file.proofs.choices.read_bits.Given as goal
 

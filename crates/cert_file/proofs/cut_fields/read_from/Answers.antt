@@ -4,7 +4,7 @@ use Rattle.std.proofs.Common.{◌≡◌, ◌≤◌, ◌∙◌, ap, sym, subst}
 use Rattle.cells.specs.SizeLists.{size_of_part, stock_place}
 use Rattle.source_map.specs.MapFiles.{IsInSamples}
 use Rattle.source_map.proofs.Sources.{stock_in}
-use Rattle.shelf_core.proofs.FileLaws.{only_reads_then}
+use Rattle.shelf_traits.proofs.FileLaws.{only_reads_then}
 use Rattle.cert_file.proofs.cut_fields.read_from.Goals as goal
 
 pub returns-clause-inside : goal.returns-clause-inside

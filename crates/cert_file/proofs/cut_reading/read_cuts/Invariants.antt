@@ -2,7 +2,7 @@ use Rattle.std.proofs.Common.{◌≡◌, ◌≤◌, ◌+◌, ◌*◌}
 use Rattle.std.specs.Prelude.{All, vec_len}
 use Rattle.limits.specs.declared.bounds.TheConstants.{MOST_BOX_CELLS}
 use Rattle.cut_check.specs.Records.{box_cells}
-use Rattle.shelf_core.specs.Files.{OnlyReadsFile}
+use Rattle.shelf_traits.specs.Files.{OnlyReadsFile}
 use Rattle.source_map.specs.Readings.{Found}
 use Rattle.cert_file.specs.CutForms.{IsCutInForm}
 use Rattle.cert_file.specs.CutReading.{cuts_read}

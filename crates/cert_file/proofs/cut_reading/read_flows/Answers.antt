@@ -1,7 +1,7 @@
 use Rattle.std.proofs.Common.{◌+◌, ◌-◌, [], ◌∷◌, ◌++◌, length, subst, sym, ap, ◌∙◌, arith, ◌≡◌}
 use Rattle.std.specs.Prelude.{Err, vec_capacity, vec_len}
 use Rattle.std.proofs.lemmas.Result.{err_from_is_err_and}
-use Rattle.shelf_core.proofs.FileLaws.{only_reads_then}
+use Rattle.shelf_traits.proofs.FileLaws.{only_reads_then}
 use Rattle.file_bytes.proofs.ReadingLaws.{room_made}
 use Rattle.source_map.specs.Readings.{Found, list_read}
 use Rattle.source_map.proofs.FieldLaws.{lifted, list_more, list_stops}

@@ -4,7 +4,7 @@ use Rattle.std.proofs.Common.{ℕ, List, ◌*◌, subst}
 use Rattle.std.proofs.lemmas.Result.{err_from_is_err_and}
 use Rattle.std.specs.Int.{w16, w64}
 use Rattle.std.specs.Prelude.{Ok, Err}
-use Rattle.shelf_core.proofs.FileLaws.{only_reads_same, only_reads_then}
+use Rattle.shelf_traits.proofs.FileLaws.{only_reads_same, only_reads_then}
 use Rattle.loop_walk.specs.Tables.{table_count, IsLength}
 use Rattle.source_map.specs.Readings.{ReadsFrom, list_read, number_read}
 use Rattle.source_map.proofs.FieldLaws.{lifted}

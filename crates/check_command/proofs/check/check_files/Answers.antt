@@ -1,6 +1,6 @@
 use Rattle.std.proofs.Common.{[], subst}
 use Rattle.std.proofs.lemmas.Result.{err_from_is_err_and}
-use Rattle.shelf_core.proofs.FileLaws.{only_writes_same}
+use Rattle.shelf_traits.proofs.FileLaws.{only_writes_same}
 use Rattle.command.specs.Writing.{WritesRun}
 use Rattle.command.proofs.Halves.{not_planned, planned}
 use Rattle.check_command.specs.Checks.{check_command, summary_of}

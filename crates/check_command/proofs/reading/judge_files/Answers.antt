@@ -1,6 +1,6 @@
 use Rattle.std.proofs.Common.{◌+◌, length, subst}
 use Rattle.std.specs.Prelude.{Ok, Err}
-use Rattle.shelf_core.proofs.FileLaws.{only_reads_same}
+use Rattle.shelf_traits.proofs.FileLaws.{only_reads_same}
 use Rattle.sample_files.specs.Several.{AsksParts}
 use Rattle.check_command.specs.Checks.{ReadFiles}
 use Rattle.check_command.proofs.Staged.{files_are, map_only, no_map, no_out, no_record, no_samples, out_only, parts_pass, record_only, samples_only, verdict_planned}

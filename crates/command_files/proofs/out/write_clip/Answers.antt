@@ -1,8 +1,8 @@
 use Rattle.std.proofs.Common.{◌∙◌, ap, subst, sym, arith}
 use Rattle.std.proofs.lemmas.List.{append-nil}
-use Rattle.shelf_core.specs.Files.{Changes, Appends, AppendsPart}
-use Rattle.shelf_core.specs.Written.{HoldsText}
-use Rattle.shelf_core.proofs.FileLaws.{only_writes_then}
+use Rattle.shelf_traits.specs.Files.{Changes, Appends, AppendsPart}
+use Rattle.shelf_traits.specs.Written.{HoldsText}
+use Rattle.shelf_traits.proofs.FileLaws.{only_writes_then}
 use Rattle.y4m_clip.specs.Spaces.{joined_to, samples_of}
 use Rattle.y4m_clip.specs.Writing.{Writer, frame_form}
 use Rattle.y4m_clip.proofs.Writes.{on_err}

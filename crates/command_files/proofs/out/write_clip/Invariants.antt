@@ -1,6 +1,6 @@
 use Rattle.std.proofs.Common.{◌≡◌, ◌++◌}
-use Rattle.shelf_core.specs.Files.{Changes, OnlyWritesFile}
-use Rattle.shelf_core.specs.Written.{HoldsText}
+use Rattle.shelf_traits.specs.Files.{Changes, OnlyWritesFile}
+use Rattle.shelf_traits.specs.Written.{HoldsText}
 use Rattle.y4m_clip.specs.Spaces.{joined_to, samples_of}
 use Rattle.y4m_clip.specs.Writing.{frame_form}
 use Rattle.command_files.proofs.out.write_clip.Given as goal

@@ -1,6 +1,6 @@
 use Rattle.std.proofs.Common.{◌≡◌, ◌++◌, slice_index}
-use Rattle.shelf_core.specs.Files.{Changes, OnlyWritesFile}
-use Rattle.shelf_core.specs.Written.{HoldsText}
+use Rattle.shelf_traits.specs.Files.{Changes, OnlyWritesFile}
+use Rattle.shelf_traits.specs.Written.{HoldsText}
 use Rattle.y4m_clip.specs.Spaces.{joined_to}
 use Rattle.y4m_clip.specs.Writing.{frame_form}
 use Rattle.loop_command.specs.LoopOuts.{CanWriteFrames}

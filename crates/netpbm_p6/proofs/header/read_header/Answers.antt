@@ -1,10 +1,10 @@
 use Rattle.std.proofs.lemmas.Grind.{common_steps}
 use Rattle.std.proofs.Common.{◌≡◌, ◌+◌, ◌*◌, subst, arith, length}
-use Rattle.shelf_core.specs.Files.{content_of}
-use Rattle.shelf_core.proofs.FileLaws.{only_reads_then}
+use Rattle.shelf_traits.specs.Files.{content_of}
+use Rattle.shelf_traits.proofs.FileLaws.{only_reads_then}
 use Rattle.netpbm_p6.specs.Scanning.{IsSoundScanned}
 use Rattle.netpbm_p6.specs.Reading.{Reached}
-use Rattle.shelf_core.proofs.Sees.{Sees}
+use Rattle.shelf_traits.proofs.Sees.{Sees}
 use Rattle.netpbm_p6.proofs.HeaderLaws.{header_broken, header_ended, header_more, passed}
 use Rattle.netpbm_p6.proofs.header.read_header.Goals as goal
 

@@ -1,5 +1,5 @@
 use Rattle.std.proofs.Common.{◌≡◌, ◌*◌, length}
-use Rattle.shelf_core.specs.Files.{Changes, OnlyReadsFile, content_of}
+use Rattle.shelf_traits.specs.Files.{Changes, OnlyReadsFile, content_of}
 use Rattle.netpbm_p6.specs.Scanning.{IsOpenScan}
 use Rattle.netpbm_p6.specs.Reading.{Reached}
 use Rattle.netpbm_p6.proofs.header.read_header.Given as goal

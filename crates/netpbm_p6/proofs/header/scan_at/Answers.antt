@@ -1,8 +1,8 @@
 use Rattle.std.proofs.lemmas.Grind.{common_steps}
 use Rattle.std.proofs.Common.{◌≡◌, ◌≤◌, length, drop, sym, subst, arith}
 use Rattle.std.proofs.lemmas.List.{length-take-le}
-use Rattle.shelf_core.specs.Files.{content_of}
-use Rattle.shelf_core.proofs.Sees.{Sees}
+use Rattle.shelf_traits.specs.Files.{content_of}
+use Rattle.shelf_traits.proofs.Sees.{Sees}
 use Rattle.netpbm_p6.specs.Scanning.{IsSoundScanned}
 use Rattle.netpbm_p6.specs.Reading.{ScansOn}
 use Rattle.netpbm_p6.proofs.Pieces.{piece_scanned, cut_sound}

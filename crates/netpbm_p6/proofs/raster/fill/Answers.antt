@@ -1,8 +1,8 @@
 use Rattle.std.proofs.Common.{arith}
 use Rattle.std.proofs.lemmas.Grind.{common_steps}
 use Rattle.std.proofs.Common.{◌+◌, length, drop}
-use Rattle.shelf_core.specs.Files.{Reads, content_of}
-use Rattle.shelf_core.proofs.FileLaws.{told_weaker}
+use Rattle.shelf_traits.specs.Files.{Reads, content_of}
+use Rattle.shelf_traits.proofs.FileLaws.{told_weaker}
 use Rattle.netpbm_p6.specs.Reading.{IsAboveIn, EndsShort, BeginsWith}
 use Rattle.netpbm_p6.proofs.Rasters.{above_in, ends_short, begins_with, all_within}
 use Rattle.netpbm_p6.proofs.raster.fill.Goals as goal

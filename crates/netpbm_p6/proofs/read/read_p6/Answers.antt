@@ -3,7 +3,7 @@ use Rattle.std.proofs.lemmas.Grind.{common_steps}
 use Rattle.std.proofs.Common.{◌≤◌, ◌∙◌, ap, sym, subst}
 use Rattle.cells.specs.declared.place.Size.{Size}
 use Rattle.std.proofs.lemmas.Result.{err_from_is_err_and}
-use Rattle.shelf_core.proofs.FileLaws.{only_reads_then}
+use Rattle.shelf_traits.proofs.FileLaws.{only_reads_then}
 use Rattle.netpbm_p6.proofs.PictureLaws.{cells_allowed, limits_as, raster_as, read_as}
 use Rattle.netpbm_p6.proofs.read.read_p6.Goals as goal
 

@@ -1,7 +1,7 @@
 use Rattle.std.proofs.lemmas.Grind.{common_steps}
 use Rattle.std.proofs.Common.{◌<◌, length, sym, ap, ◌∙◌, arith}
 use Rattle.std.specs.Prelude.{Some, None}
-use Rattle.shelf_core.specs.Decimals.{capped}
+use Rattle.shelf_traits.specs.Decimals.{capped}
 use Rattle.netpbm_p6.specs.declared.scan.Scan.TheVariants.{Whole}
 use Rattle.netpbm_p6.proofs.Runs.{run_more, still_open}
 use Rattle.netpbm_p6.proofs.scan.scan_piece.Goals as goal

@@ -1,6 +1,6 @@
 use Rattle.std.proofs.Common.{◌≡◌, take}
 use Rattle.std.specs.Prelude.{Some}
-use Rattle.shelf_core.specs.Decimals.{capped}
+use Rattle.shelf_traits.specs.Decimals.{capped}
 use Rattle.netpbm_p6.specs.Scanning.{run_of, IsOpenScan}
 use Rattle.netpbm_p6.proofs.scan.scan_piece.Given as goal
 

@@ -2,7 +2,7 @@ use Rattle.std.proofs.Common.{arith}
 use Rattle.std.proofs.lemmas.Grind.{common_steps}
 use Rattle.std.proofs.Common.{◌∙◌, decimal}
 use Rattle.std.proofs.lemmas.Result.{on_ok_weaker, on_err_weaker}
-use Rattle.shelf_core.specs.Files.{Changes}
+use Rattle.shelf_traits.specs.Files.{Changes}
 use Rattle.netpbm_p6.proofs.Writing.{Adds, AddsPart, one_added_part, two_added, two_added_part, on_err}
 use Rattle.netpbm_p6.proofs.write.add_number.Goals as goal
 

@@ -2,8 +2,8 @@ use Rattle.std.proofs.Common.{ap, refl, [], ◌∷◌, ◌++◌, decimal}
 use Rattle.std.specs.Prelude.{codes}
 use Rattle.cells.specs.declared.place.Size.{Size}
 use Rattle.cells.specs.Cells.{bytes_of}
-use Rattle.shelf_core.proofs.FileLaws.{only_writes_then, rose_later}
-use Rattle.shelf_core.proofs.WrittenLaws.{shelf_begun}
+use Rattle.shelf_traits.proofs.FileLaws.{only_writes_then, rose_later}
+use Rattle.shelf_traits.proofs.WrittenLaws.{shelf_begun}
 use Rattle.netpbm_p6.proofs.Writing.{piece_added, number_added, stopped, number_stopped, on_err}
 use Rattle.netpbm_p6.proofs.write.write_p6.Goals as goal
 

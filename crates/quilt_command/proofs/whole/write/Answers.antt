@@ -1,5 +1,5 @@
 use Rattle.std.proofs.Common.{subst, sym}
-use Rattle.shelf_core.specs.Files.{OnlyWrites}
+use Rattle.shelf_traits.specs.Files.{OnlyWrites}
 use Rattle.quilted.specs.Runs.{by_overlap}
 use Rattle.command.specs.Writing.{WritesRun, text_names}
 use Rattle.outputs.specs.BlockOutputs.{IsMadeQuilt, quilt_files}

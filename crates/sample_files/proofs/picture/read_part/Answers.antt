@@ -1,6 +1,6 @@
 use Rattle.std.proofs.Common.{subst}
 use Rattle.std.specs.Prelude.{Err}
-use Rattle.shelf_core.specs.Files.{Changes, content_of}
+use Rattle.shelf_traits.specs.Files.{Changes, content_of}
 use Rattle.netpbm_p6.specs.Pictures.{IsRead, ReadsAs}
 use Rattle.sample_files.proofs.OnePicture.{picture_fails}
 use Rattle.sample_files.proofs.picture.read_part.Goals as goal

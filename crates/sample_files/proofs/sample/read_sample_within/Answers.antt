@@ -1,5 +1,5 @@
 use Rattle.std.proofs.Common.{◌≡◌, true, false, subst}
-use Rattle.shelf_core.specs.Files.{InFile}
+use Rattle.shelf_traits.specs.Files.{InFile}
 use Rattle.sample_files.specs.Samples.{begins_clip}
 use Rattle.sample_files.proofs.Begins.{read_by_first}
 use Rattle.sample_files.proofs.sample.read_sample_within.Goals as goal

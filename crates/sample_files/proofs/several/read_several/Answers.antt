@@ -1,7 +1,7 @@
 use Rattle.std.proofs.lemmas.Grind.{common_steps}
 use Rattle.std.proofs.Common.{suc, ◌+◌, [], ◌∷◌, length, arith, ap, subst, length-append}
 use Rattle.std.proofs.lemmas.Result.{err_from_is_err_and}
-use Rattle.shelf_core.proofs.FileLaws.{only_reads_then}
+use Rattle.shelf_traits.proofs.FileLaws.{only_reads_then}
 use Rattle.sample_files.specs.Steps.{IsFirstRead, IsNextRead, NotFirst, NotNext}
 use Rattle.sample_files.proofs.Reading.{first_reads, first_unread, next_reads, next_unread, read_more, read_one}
 use Rattle.sample_files.proofs.several.read_several.Goals as goal

@@ -1,6 +1,6 @@
 use Rattle.std.proofs.Common.{◌≡◌, ◌+◌, length, take}
 use Rattle.cells.specs.Cells.{sizes_of}
-use Rattle.shelf_core.specs.Files.{OnlyReads}
+use Rattle.shelf_traits.specs.Files.{OnlyReads}
 use Rattle.command.specs.Commands.{names_in}
 use Rattle.sample_files.specs.Several.{AreSoundSeveral, sample_files}
 use Rattle.sample_files.proofs.Reading.{AreReadSoFar}

@@ -2,7 +2,7 @@ use Rattle.std.proofs.lemmas.Grind.{common_steps}
 use Rattle.std.proofs.Common.{◌<◌, ◌+◌, [], ◌∷◌, length, subst, sym, ap, arith, ◌≡◌}
 use Rattle.std.proofs.lemmas.List.{length-append}
 use Rattle.std.proofs.lemmas.Result.{err_from_is_err_and}
-use Rattle.shelf_core.proofs.FileLaws.{only_reads_same, only_reads_then}
+use Rattle.shelf_traits.proofs.FileLaws.{only_reads_same, only_reads_then}
 use Rattle.source_map.specs.Heads.{size_read}
 use Rattle.source_map.specs.Readings.{Found, list_read}
 use Rattle.source_map.proofs.FieldLaws.{list_more, list_stops, made}

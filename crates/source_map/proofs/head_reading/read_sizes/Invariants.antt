@@ -1,5 +1,5 @@
 use Rattle.std.proofs.Common.{◌≡◌, ◌+◌, ◌*◌, length}
-use Rattle.shelf_core.specs.Files.{OnlyReadsFile}
+use Rattle.shelf_traits.specs.Files.{OnlyReadsFile}
 use Rattle.source_map.specs.Heads.{size_read}
 use Rattle.source_map.specs.Readings.{Found, list_read}
 use Rattle.source_map.proofs.head_reading.read_sizes.Given as goal

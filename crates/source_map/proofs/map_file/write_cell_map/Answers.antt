@@ -4,7 +4,7 @@ use Rattle.std.specs.Prelude.{All, IsSomeAnd, Option}
 use Rattle.source_map.specs.MapFiles.{IsInSamples, cell_map_form, map_magic, source_field}
 use Rattle.source_map.proofs.MapWriting.{all_inside}
 use Rattle.std.specs.List.{flat_map}
-use Rattle.shelf_core.specs.Files.{ShelfState}
+use Rattle.shelf_traits.specs.Files.{ShelfState}
 use Rattle.file_bytes.specs.Writing.{HasPut, Pending}
 use Rattle.cells.specs.declared.place.At.{At}
 use Rattle.cells.specs.declared.place.Size.{Size}

@@ -4,7 +4,7 @@ use Rattle.std.proofs.lemmas.List.Elements.{All-push}
 use Rattle.std.proofs.lemmas.Result.{err_from_is_err_and}
 use Rattle.std.specs.Int.{w16}
 use Rattle.std.specs.Prelude.{Err, All}
-use Rattle.shelf_core.proofs.FileLaws.{only_reads_then}
+use Rattle.shelf_traits.proofs.FileLaws.{only_reads_then}
 use Rattle.source_map.specs.MapFiles.{below_rule}
 use Rattle.source_map.specs.Readings.{Found, list_read, number_read}
 use Rattle.source_map.proofs.FieldLaws.{lifted, list_more, list_stops}

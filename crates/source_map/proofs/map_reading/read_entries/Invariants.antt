@@ -1,7 +1,7 @@
 use Rattle.std.proofs.Common.{◌≡◌, ◌≤◌, ◌<◌, ◌+◌, ◌*◌}
 use Rattle.std.specs.Int.{w16}
 use Rattle.std.specs.Prelude.{vec_len, All}
-use Rattle.shelf_core.specs.Files.{OnlyReadsFile}
+use Rattle.shelf_traits.specs.Files.{OnlyReadsFile}
 use Rattle.source_map.specs.MapFiles.{below_rule}
 use Rattle.source_map.specs.Readings.{Found, list_read, number_read}
 use Rattle.source_map.proofs.map_reading.read_entries.Given as goal

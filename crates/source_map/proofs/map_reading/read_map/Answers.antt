@@ -3,7 +3,7 @@ use Rattle.file_bytes.specs.Reading.{Reading}
 use Rattle.source_map.specs.MapFiles.{value_read}
 use Rattle.source_map.specs.Readings.{Found}
 use Rattle.source_map.proofs.WholeMaps.{read_whole, read_on}
-use Rattle.shelf_core.proofs.FileLaws.{only_reads_then}
+use Rattle.shelf_traits.proofs.FileLaws.{only_reads_then}
 use Rattle.std.proofs.lemmas.Result.{err_from_is_err_and}
 use Rattle.source_map.proofs.map_reading.read_map.Goals as goal
 

@@ -1,6 +1,6 @@
 use Rattle.std.proofs.Common.{ap, subst}
 use Rattle.std.specs.Prelude.{IfOk, Result, Ok, Err, unwrap_or}
-use Rattle.shelf_core.specs.declared.fault.ReadError.{ReadError}
+use Rattle.shelf_traits.specs.declared.fault.ReadError.{ReadError}
 use Rattle.cells.specs.declared.place.At.{At}
 use Rattle.cells.specs.declared.place.Size.{Size}
 use Rattle.cells.specs.Places.{IsInside}

@@ -3,7 +3,7 @@ use Rattle.std.specs.Prelude.{Err}
 use Rattle.source_map.specs.Heads.{start_read}
 use Rattle.source_map.specs.MapFiles.{body_read, map_magic}
 use Rattle.source_map.proofs.FieldLaws.{first_stops, lifted, then_reads}
-use Rattle.shelf_core.proofs.FileLaws.{only_reads_then}
+use Rattle.shelf_traits.proofs.FileLaws.{only_reads_then}
 use Rattle.source_map.proofs.map_reading.read_value.Goals as goal
 
 pub returns-in_err-start-clause-answer : goal.returns-in_err-start-clause-answer

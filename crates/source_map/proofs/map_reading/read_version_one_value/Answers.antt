@@ -1,14 +1,14 @@
 use Rattle.std.proofs.Common.{ℕ, List}
 use Rattle.std.proofs.lemmas.Result.{err_from_is_err_and}
 use Rattle.std.specs.Prelude.{Result, Err}
-use Rattle.shelf_core.specs.declared.fault.ReadError.{ReadError}
+use Rattle.shelf_traits.specs.declared.fault.ReadError.{ReadError}
 use Rattle.source_map.specs.declared.head.Version.TheVariants.{One}
 use Rattle.source_map.specs.declared.head_reading.Start.{Start}
 use Rattle.source_map.specs.declared.map_file.MapFile.{MapFile}
 use Rattle.source_map.specs.Heads.{start_read}
 use Rattle.source_map.specs.MapFiles.{cells_read, map_magic}
 use Rattle.source_map.proofs.FieldLaws.{first_stops, lifted, then_reads}
-use Rattle.shelf_core.proofs.FileLaws.{only_reads_then}
+use Rattle.shelf_traits.proofs.FileLaws.{only_reads_then}
 use Rattle.source_map.proofs.map_reading.read_version_one_value.Goals as goal
 
 abbrev rest : Start → ℕ → List ℕ → Result (MapFile × ℕ) ReadError

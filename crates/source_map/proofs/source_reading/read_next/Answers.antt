@@ -2,7 +2,7 @@ use Rattle.std.proofs.Common.{◌≡◌, ◌+◌, ◌++◌, [], ◌∷◌, lengt
 use Rattle.std.proofs.lemmas.List.{length-append}
 use Rattle.std.proofs.lemmas.List.Elements.{All-push}
 use Rattle.std.specs.Prelude.{Option, All, IfSome, IsSomeAnd}
-use Rattle.shelf_core.proofs.FileLaws.{only_reads_same}
+use Rattle.shelf_traits.proofs.FileLaws.{only_reads_same}
 use Rattle.cells.specs.declared.place.At.{At}
 use Rattle.map_canvas.specs.Maps.{IsSource}
 use Rattle.source_map.specs.MapFiles.{IsInSamples, source_read}

@@ -1,7 +1,7 @@
 use Rattle.std.proofs.Common.{◌<◌, length, ap, subst, sym, arith, ◌≡◌}
 use Rattle.std.proofs.lemmas.Result.{err_from_is_err_and}
 use Rattle.std.specs.Prelude.{Err, All, IsSomeAnd}
-use Rattle.shelf_core.proofs.FileLaws.{only_reads_then}
+use Rattle.shelf_traits.proofs.FileLaws.{only_reads_then}
 use Rattle.cells.specs.Places.{cell_count}
 use Rattle.source_map.specs.MapFiles.{source_read, IsInSamples}
 use Rattle.source_map.specs.Readings.{Found, list_read}

@@ -1,6 +1,6 @@
 use Rattle.std.proofs.Common.{◌≤◌, ◌+◌, ◌-◌, ◌*◌, length}
 use Rattle.std.specs.Prelude.{vec_len}
-use Rattle.shelf_core.specs.Files.{OnlyReadsFile}
+use Rattle.shelf_traits.specs.Files.{OnlyReadsFile}
 use Rattle.source_map.specs.MapFiles.{source_read}
 use Rattle.source_map.specs.Readings.{Found, list_read}
 use Rattle.source_map.specs.Waiting.{AreSourcesIn}

@@ -1,6 +1,6 @@
 use Rattle.std.proofs.Common.{arith}
 use Rattle.std.proofs.lemmas.Grind.{common_steps}
-use Rattle.shelf_core.proofs.FileLaws.{only_reads_then}
+use Rattle.shelf_traits.proofs.FileLaws.{only_reads_then}
 use Rattle.standing_files.proofs.as_read.judge_record_file.Goals as goal
 
 pub returns-clause-answer : goal.returns-clause-answer

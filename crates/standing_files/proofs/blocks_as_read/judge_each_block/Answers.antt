@@ -4,7 +4,7 @@ use Rattle.std.specs.Prelude.{Err}
 use Rattle.std.proofs.lemmas.List.{length-append}
 use Rattle.std.proofs.lemmas.Result.{err_from_is_err_and}
 use Rattle.block_check.specs.Blocks.{block_cells}
-use Rattle.shelf_core.proofs.FileLaws.{only_reads_then}
+use Rattle.shelf_traits.proofs.FileLaws.{only_reads_then}
 use Rattle.source_map.specs.Readings.{Found, ReadsFrom}
 use Rattle.cert_file.specs.BlockReading.{block_read}
 use Rattle.cert_file.proofs.Bits.{block_cells-append}

@@ -1,6 +1,6 @@
 use Rattle.std.proofs.Common.{◌≤◌, ◌+◌, ◌*◌}
 use Rattle.limits.specs.declared.bounds.TheConstants.{MOST_BOX_CELLS}
-use Rattle.shelf_core.specs.Files.{OnlyReadsFile}
+use Rattle.shelf_traits.specs.Files.{OnlyReadsFile}
 use Rattle.map_canvas.specs.Canvases.{IsCanvas, StandsOver}
 use Rattle.standing_files.proofs.Finding.{BlocksSoFar}
 use Rattle.standing_files.proofs.blocks_as_read.judge_each_block.Given as goal

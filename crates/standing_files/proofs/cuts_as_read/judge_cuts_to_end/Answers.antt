@@ -2,8 +2,8 @@ use Rattle.std.proofs.Common.{ℕ, List, refl}
 use Rattle.std.proofs.lemmas.Result.{err_from_is_err_and}
 use Rattle.std.specs.Int.{w32}
 use Rattle.std.specs.Prelude.{Result, Ok, Err}
-use Rattle.shelf_core.specs.declared.fault.ReadError.{ReadError}
-use Rattle.shelf_core.proofs.FileLaws.{only_reads_then}
+use Rattle.shelf_traits.specs.declared.fault.ReadError.{ReadError}
+use Rattle.shelf_traits.proofs.FileLaws.{only_reads_then}
 use Rattle.cut_check.specs.declared.record.CutRecord.{CutRecord}
 use Rattle.source_map.specs.Readings.{number_read}
 use Rattle.source_map.proofs.FieldLaws.{lifted}

@@ -4,7 +4,7 @@ use Rattle.std.specs.Prelude.{Err}
 use Rattle.std.proofs.lemmas.List.{length-append}
 use Rattle.std.proofs.lemmas.Result.{err_from_is_err_and}
 use Rattle.cut_check.specs.Records.{box_cells}
-use Rattle.shelf_core.proofs.FileLaws.{only_reads_then}
+use Rattle.shelf_traits.proofs.FileLaws.{only_reads_then}
 use Rattle.source_map.specs.Readings.{Found, ReadsFrom}
 use Rattle.cert_file.specs.CutReading.{cut_read}
 use Rattle.cert_file.proofs.Bits.{box_cells-append}

@@ -1,5 +1,5 @@
 use Rattle.std.proofs.Common.{◌≡◌, sym, ap, ◌∙◌, subst}
-use Rattle.shelf_core.specs.Files.{SinkState}
+use Rattle.shelf_traits.specs.Files.{SinkState}
 use Rattle.synth_report.specs.declared.summary.Summary.{Summary}
 use Rattle.synth_report.specs.declared.summary.Summary.TheVariants.{Loop, Merge, Trial}
 use Rattle.synth_report.specs.Telling.{TellsText, WriteResult}

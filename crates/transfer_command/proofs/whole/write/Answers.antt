@@ -1,5 +1,5 @@
 use Rattle.std.proofs.Common.{subst, sym}
-use Rattle.shelf_core.specs.Files.{OnlyWrites}
+use Rattle.shelf_traits.specs.Files.{OnlyWrites}
 use Rattle.command.specs.Writing.{WritesRun, text_names}
 use Rattle.outputs.specs.BlockOutputs.{IsMadeQuilt, quilt_files}
 use Rattle.transfer_command.specs.Transfers.{transfer_files, transfer_rating}

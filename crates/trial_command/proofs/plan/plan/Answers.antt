@@ -1,6 +1,6 @@
 use Rattle.std.proofs.Common.{◌<◌, ap, inl, inr, subst}
 use Rattle.limits.specs.declared.bounds.TheConstants.{MOST_OUTPUT_CELLS}
-use Rattle.shelf_core.specs.declared.fault.What.TheVariants.{Output}
+use Rattle.shelf_traits.specs.declared.fault.What.TheVariants.{Output}
 use Rattle.synth_report.specs.declared.fault.Fault.TheVariants.{Limit}
 use Rattle.trial_command.proofs.plan.plan.Goals as goal
 

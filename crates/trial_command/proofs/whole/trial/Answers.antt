@@ -1,6 +1,6 @@
 use Rattle.std.proofs.Common.{[], subst, sym}
 use Rattle.std.proofs.lemmas.Result.{err_from_is_err_and}
-use Rattle.shelf_core.proofs.FileLaws.{only_reads_same, only_writes_same}
+use Rattle.shelf_traits.proofs.FileLaws.{only_reads_same, only_writes_same}
 use Rattle.command.specs.Outcomes.{Leaves}
 use Rattle.command.proofs.Halves.{not_planned, planned}
 use Rattle.trial_command.specs.Trials.{NotTried, trial_command}

@@ -2,7 +2,7 @@ use Rattle.std.proofs.Common.{◌≡◌, ℕ, List, [], ◌++◌, subst, sym, ar
 use Rattle.std.proofs.lemmas.Grind.{common_steps}
 use Rattle.std.specs.Prelude.{Option, All, IsSomeAnd}
 use Rattle.std.specs.List.{flat_map}
-use Rattle.shelf_core.specs.Files.{ShelfState}
+use Rattle.shelf_traits.specs.Files.{ShelfState}
 use Rattle.file_bytes.specs.Writing.{HasPut, Pending}
 use Rattle.cells.specs.declared.place.At.{At}
 use Rattle.cells.specs.declared.place.Size.{Size}

@@ -1,6 +1,6 @@
 use Rattle.std.proofs.Common.{◌≡◌, ◌+◌, ◌*◌}
 use Rattle.std.specs.Prelude.{vec_len, All, IfSome, IsSomeAnd}
-use Rattle.shelf_core.specs.Files.{OnlyReadsFile}
+use Rattle.shelf_traits.specs.Files.{OnlyReadsFile}
 use Rattle.map_canvas.specs.Maps.{IsSource}
 use Rattle.source_map.specs.Readings.{Found, list_read}
 use Rattle.turned.specs.TurnedPlaces.{IsInTurned}

@@ -1,6 +1,6 @@
 use Rattle.std.proofs.Common.{arith}
 use Rattle.std.proofs.lemmas.Grind.{common_steps}
-use Rattle.shelf_core.proofs.FileLaws.{only_reads_then}
+use Rattle.shelf_traits.proofs.FileLaws.{only_reads_then}
 use Rattle.turned_map.proofs.turned_reading.read_turned_map.Goals as goal
 
 pub returns-clause-answer : goal.returns-clause-answer

@@ -1,6 +1,6 @@
 use Rattle.std.proofs.lemmas.Result.{err_from_is_err_and}
 use Rattle.std.specs.Prelude.{Err}
-use Rattle.shelf_core.proofs.FileLaws.{only_reads_then}
+use Rattle.shelf_traits.proofs.FileLaws.{only_reads_then}
 use Rattle.cells.specs.declared.place.Size.{Size}
 use Rattle.source_map.proofs.FieldLaws.{first_stops, lifted, then_reads}
 use Rattle.turned_map.specs.TurnedFiles.{turned_body_read, turned_start_read}

@@ -1,12 +1,12 @@
 use Rattle.std.proofs.lemmas.Grind.{common_steps}
 use Rattle.std.proofs.Common.{◌≡◌, ◌≤◌, ◌<◌, ◌*◌, [], length, drop, arith, sym, ap, ◌∙◌, subst}
 use Rattle.std.proofs.lemmas.Result.{err_from_is_err_and}
-use Rattle.shelf_core.specs.Files.{content_of}
-use Rattle.shelf_core.proofs.FileLaws.{only_reads_same, only_reads_then}
+use Rattle.shelf_traits.specs.Files.{content_of}
+use Rattle.shelf_traits.proofs.FileLaws.{only_reads_same, only_reads_then}
 use Rattle.limits.specs.declared.bounds.TheConstants.{GREATEST_AXIS}
 use Rattle.y4m_clip.specs.Spaces.{samples_of}
 use Rattle.y4m_clip.specs.Frames.{PassesFrames, FramesSeen, StandsIf}
-use Rattle.shelf_core.proofs.Sees.{Sees}
+use Rattle.shelf_traits.proofs.Sees.{Sees}
 use Rattle.y4m_clip.proofs.FramesLaws.{want_small}
 use Rattle.y4m_clip.proofs.FramesEnd.{seen_none, seen_more, whole_more, frame_refused, frames_end, frames_full, frames_past, some_frames, most_few, filled_end, end_unread}
 use Rattle.y4m_clip.proofs.frames.read_frames.Goals as goal

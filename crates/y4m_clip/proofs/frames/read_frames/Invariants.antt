@@ -1,6 +1,6 @@
 use Rattle.std.proofs.Common.{◌≡◌, ◌≤◌, ◌+◌, ◌*◌, length}
 use Rattle.limits.specs.declared.bounds.TheConstants.{MOST_LINE_BYTES}
-use Rattle.shelf_core.specs.Files.{InFile, OnlyReadsFile}
+use Rattle.shelf_traits.specs.Files.{InFile, OnlyReadsFile}
 use Rattle.y4m_clip.specs.Spaces.{samples_of}
 use Rattle.y4m_clip.specs.Frames.{FramesSeen}
 use Rattle.y4m_clip.proofs.frames.read_frames.Given as goal

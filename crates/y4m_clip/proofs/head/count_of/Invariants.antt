@@ -1,5 +1,5 @@
 use Rattle.std.proofs.Common.{◌≡◌, take, ◌%◌}
-use Rattle.shelf_core.specs.Decimals.{capped, value_behind}
+use Rattle.shelf_traits.specs.Decimals.{capped, value_behind}
 use Rattle.y4m_clip.proofs.head.count_of.Given as goal
 
 abbrev pub invariant-loop-digit : goal.invariant-loop-digit

@@ -1,5 +1,5 @@
 use Rattle.std.proofs.Common.{◌≡◌, take, length}
-use Rattle.shelf_core.specs.Decimals.{capped}
+use Rattle.shelf_traits.specs.Decimals.{capped}
 use Rattle.y4m_clip.specs.Clips.{spaced}
 use Rattle.y4m_clip.proofs.head.spaced_length.Given as goal
 

@@ -1,8 +1,8 @@
 use Rattle.std.proofs.Common.{◌≡◌, ℕ, zero, suc, ◌<◌, ◌+◌, List, ◌++◌, sym, subst, arith, append_assoc}
 use Rattle.std.proofs.lemmas.List.{append-nil}
-use Rattle.shelf_core.specs.Files.{Files, Appends}
-use Rattle.shelf_core.specs.Written.{HoldsText}
-use Rattle.shelf_core.proofs.WrittenLaws.{added}
+use Rattle.shelf_traits.specs.Files.{Files, Appends}
+use Rattle.shelf_traits.specs.Written.{HoldsText}
+use Rattle.shelf_traits.proofs.WrittenLaws.{added}
 use Rattle.y4m_clip.specs.Spaces.{joined_to}
 use Rattle.y4m_clip.proofs.law.frames_follow.Goals as goal
 

@@ -1,8 +1,8 @@
 use Rattle.std.proofs.lemmas.Grind.{common_steps}
 use Rattle.std.proofs.Common.{◌≡◌, take, ◌≤◌, arith, length, ◌∙◌}
-use Rattle.shelf_core.specs.Files.{content_of}
+use Rattle.shelf_traits.specs.Files.{content_of}
 use Rattle.y4m_clip.specs.Reading.{HasShortLine, HasLine}
-use Rattle.shelf_core.proofs.Sees.{sees_both}
+use Rattle.shelf_traits.proofs.Sees.{sees_both}
 use Rattle.y4m_clip.proofs.Words.{has_line, are_tags}
 use Rattle.y4m_clip.proofs.line.read_line.Goals as goal
 

@@ -1,7 +1,7 @@
 use Rattle.std.proofs.Common.{arith}
 use Rattle.std.proofs.lemmas.Grind.{common_steps}
 use Rattle.std.proofs.lemmas.Result.{err_from_is_err_and}
-use Rattle.shelf_core.proofs.FileLaws.{only_reads_then}
+use Rattle.shelf_traits.proofs.FileLaws.{only_reads_then}
 use Rattle.y4m_clip.proofs.FrontLaws.{front_as, sound_front}
 use Rattle.y4m_clip.proofs.ClipLaws.{fronts_seen, frames_as, read_as}
 use Rattle.y4m_clip.proofs.read.read_clip.Goals as goal

@@ -1,5 +1,5 @@
 use Rattle.std.proofs.lemmas.Result.{err_from_is_err_and}
-use Rattle.shelf_core.proofs.FileLaws.{only_writes_of_more, only_writes_then}
+use Rattle.shelf_traits.proofs.FileLaws.{only_writes_of_more, only_writes_then}
 use Rattle.command.proofs.Asking.{first_texts, second_texts}
 use Rattle.command.proofs.WritingLaws.{both_written, stops_first}
 use Rattle.command.proofs.files.ThenRunFiles.write.Goals as goal

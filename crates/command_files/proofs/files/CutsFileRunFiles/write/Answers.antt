@@ -1,6 +1,6 @@
 use Rattle.std.proofs.Common.{subst}
-use Rattle.shelf_core.specs.Files.{Changes}
-use Rattle.shelf_core.specs.Written.{HoldsText}
+use Rattle.shelf_traits.specs.Files.{Changes}
+use Rattle.shelf_traits.specs.Written.{HoldsText}
 use Rattle.cert_file.specs.RecordFiles.{cuts_form}
 use Rattle.command.proofs.WritingLaws.{stops_at_one}
 use Rattle.command_files.proofs.files.CutsFileRunFiles.write.Goals as goal

@@ -1,7 +1,7 @@
 use Rattle.std.proofs.lemmas.Grind.{common_steps}
 use Rattle.std.proofs.Common.{◌-◌, ◌≤◌, length, take, subst, sym, arith}
 use Rattle.file_bytes.specs.Reading.{Took}
-use Rattle.shelf_core.proofs.FileLaws.{only_reads_then}
+use Rattle.shelf_traits.proofs.FileLaws.{only_reads_then}
 use Rattle.file_bytes.proofs.ReadingLaws.{filled_more, filled_within, took_along}
 use Rattle.file_bytes.proofs.reader.FileReader.fill.Goals as goal
 

@@ -1,5 +1,5 @@
 use Rattle.std.proofs.Common.{◌-◌, ◌≤◌, length, take}
-use Rattle.shelf_core.specs.Files.{OnlyReadsFile}
+use Rattle.shelf_traits.specs.Files.{OnlyReadsFile}
 use Rattle.file_bytes.specs.Reading.{Took}
 use Rattle.file_bytes.proofs.reader.FileReader.fill.Given as goal
 

@@ -1,7 +1,7 @@
 use Rattle.std.proofs.Common.{◌≡◌, ◌+◌, ◌*◌}
 use Rattle.std.specs.List.{flat_map}
 use Rattle.std.specs.Prelude.{vec_len}
-use Rattle.shelf_core.specs.Files.{OnlyReadsFile}
+use Rattle.shelf_traits.specs.Files.{OnlyReadsFile}
 use Rattle.file_bytes.specs.Reading.{Took}
 use Rattle.file_bytes.proofs.reader.FileReader.list.Given as goal
 

@@ -3,8 +3,8 @@ use Rattle.std.proofs.lemmas.Grind.{common_steps}
 use Rattle.std.proofs.Common.{◌≡◌, [], sym, ◌∙◌, subst}
 use Rattle.std.proofs.lemmas.List.{append-nil}
 use Rattle.std.specs.Prelude.{true}
-use Rattle.shelf_core.specs.Files.{Changes}
-use Rattle.shelf_core.specs.Written.{HoldsPart}
+use Rattle.shelf_traits.specs.Files.{Changes}
+use Rattle.shelf_traits.specs.Written.{HoldsPart}
 use Rattle.file_bytes.proofs.writer.FileWriter.finish.Goals as goal
 
 pub returns-then-self-clause-err : goal.returns-then-self-clause-err

@@ -1,6 +1,6 @@
 use Rattle.std.proofs.Common.{subst}
-use Rattle.shelf_core.specs.Files.{Changes}
-use Rattle.shelf_core.specs.Written.{HoldsText}
+use Rattle.shelf_traits.specs.Files.{Changes}
+use Rattle.shelf_traits.specs.Written.{HoldsText}
 use Rattle.source_map.specs.MapFiles.{frame_map_form}
 use Rattle.synth_report.specs.declared.fault.FileOf.TheVariants.{Map}
 use Rattle.command.proofs.WritingLaws.{stops_at_one}

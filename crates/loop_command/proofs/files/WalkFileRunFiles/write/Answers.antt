@@ -1,6 +1,6 @@
 use Rattle.std.proofs.Common.{subst}
-use Rattle.shelf_core.specs.Files.{Changes}
-use Rattle.shelf_core.specs.Written.{HoldsText}
+use Rattle.shelf_traits.specs.Files.{Changes}
+use Rattle.shelf_traits.specs.Written.{HoldsText}
 use Rattle.cert_file.specs.RecordFiles.{walk_file_form}
 use Rattle.synth_report.specs.declared.fault.FileOf.TheVariants.{Record}
 use Rattle.command.proofs.WritingLaws.{stops_at_one}

@@ -1,4 +1,4 @@
-use Rattle.shelf_core.proofs.FileLaws.{asks_one}
+use Rattle.shelf_traits.proofs.FileLaws.{asks_one}
 use Rattle.shelf_core.proofs.calls.Calls.note.Goals as goal
 
 pub returns-clause-only : goal.returns-clause-only

@@ -3,7 +3,7 @@ use Rattle.std.proofs.lemmas.Grind.{common_steps}
 use Rattle.std.proofs.Common.{◌≡◌, sym, ap, ◌∙◌, cond}
 use Rattle.std.specs.Prelude.{Some, None, position, option_copied, option_and_then}
 use Rattle.std.specs.FinMap.{get}
-use Rattle.shelf_core.specs.Files.{Files}
+use Rattle.shelf_traits.specs.Files.{Files}
 use Rattle.shelf_core.specs.Tapes.{has_name}
 use Rattle.shelf_core.specs.Entries.{map_of}
 use Rattle.shelf_core.specs.SureStates.{SureShelfState}

@@ -2,7 +2,7 @@ use Rattle.std.proofs.lemmas.Grind.{common_steps}
 use Rattle.std.proofs.Common.{ap, ◌∙◌, arith}
 use Rattle.std.proofs.lemmas.List.{take_at}
 use Rattle.std.specs.Prelude.{codes}
-use Rattle.shelf_core.proofs.FileLaws.{only_writes_then, rose_later}
+use Rattle.shelf_traits.proofs.FileLaws.{only_writes_then, rose_later}
 use Rattle.y4m_clip.specs.Writing.{Writer, planes_of}
 use Rattle.y4m_clip.proofs.Writes.{both_added, second_in_part, first_in_part, on_err}
 use Rattle.y4m_clip.proofs.write.ClipWriter.frame.Goals as goal

@@ -1,6 +1,6 @@
 // The traits of the outside, and what a caller may rely on.
 ghost use Rattle.std.specs.Prelude.{◌≡◌, ◌≤◌, ◌++◌, length, IfOk, OnOk, OnErr};
-ghost use Rattle.shelf_core.specs.Files.{ShelfState, SinkState, Told, Changes, Rose, ReadsRose, WritesRose, Reads, AsksFor, OnlyReadsFile, OnlyWritesFile, content_of, IsPrefixAdded, Begins, BeginsPart, Appends, AppendsPart};
+ghost use Rattle.shelf_traits.specs.Files.{ShelfState, SinkState, Told, Changes, Rose, ReadsRose, WritesRose, Reads, AsksFor, OnlyReadsFile, OnlyWritesFile, content_of, IsPrefixAdded, Begins, BeginsPart, Appends, AppendsPart};
 
 /// A call to the outside that failed. The count of faults of its kind tells that it did.
 #[derive(Clone, Copy, Drop)]

@@ -2,7 +2,7 @@
 -- another, and what a sink was given. (Own.)
 use Rattle.std.specs.Prelude.{◌≡◌, ◌⊎◌, ℕ, List, [], ◌∷◌, ◌++◌, take, drop}
 use Rattle.std.specs.FinMap as map
-use Rattle.shelf_core.specs.Files.{Files, ShelfState, SinkState, Told, Changes, Rose, IsPrefixAdded}
+use Rattle.shelf_traits.specs.Files.{Files, ShelfState, SinkState, Told, Changes, Rose, IsPrefixAdded}
 
 -- the named file holds the text, and all others are as before
 abbrev pub HoldsText : List ℕ → List ℕ → Files → Files → Type 0

@@ -1,6 +1,6 @@
 // The answers that readers and writers of files share.
 ghost use Rattle.std.specs.Prelude.{◌≡◌};
-ghost use Rattle.shelf_core.specs.declared.fault.ReadError.TheVariants as read;
+ghost use Rattle.shelf_traits.specs.declared.fault.ReadError.TheVariants as read;
 
 use crate::Failed;
 use std::alloc::AllocError;

@@ -10,7 +10,7 @@ use Rattle.std.specs.Ordering.{nat_cmp, eq_by_cmp}
 use Rattle.std.specs.Cmp.{eq_by_cmp_equiv, Equal-is}
 use Rattle.std.specs.Cmp.Lexicographic.{pointwise, slice_cmp, nat_list_cmp_total}
 use Rattle.std.specs.FinMap.{get, insert, get-insert, same_map, slice_cmp-IsAntisymmetric, nat_cmp-IsAntisymmetric}
-use Rattle.shelf_core.specs.Files.{Files, ShelfState, AsksOnly, OnlyReads, OnlyWrites, calls_beside, content_of, is_one_of, Told, Rose}
+use Rattle.shelf_traits.specs.Files.{Files, ShelfState, AsksOnly, OnlyReads, OnlyWrites, calls_beside, content_of, is_one_of, Told, Rose}
 
 -- a name ties with itself
 pub name_itself : (name : List ℕ) → eq_by_cmp (slice_cmp nat_cmp) name name ≡ true

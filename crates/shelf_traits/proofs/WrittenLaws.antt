@@ -3,9 +3,9 @@ use Rattle.std.proofs.Common.{◌≡◌, ℕ, ◌≤◌, ◌⊎◌, inl, inr, Li
 use Rattle.std.proofs.lemmas.List.{take-append-drop, append-nil}
 use Rattle.std.proofs.Math.Seq.{take-append_seam}
 use Rattle.std.specs.FinMap.{insert}
-use Rattle.shelf_core.specs.Files.{Files, ShelfState, SinkState, content_of, Told, Changes, Rose, IsPrefixAdded, GrowsByPrefix}
-use Rattle.shelf_core.specs.Written.{HoldsText, HoldsPart, Says}
-use Rattle.shelf_core.proofs.FileLaws.{content_inserted, insert_again, told_then, told_weaker, told_same, rose_later}
+use Rattle.shelf_traits.specs.Files.{Files, ShelfState, SinkState, content_of, Told, Changes, Rose, IsPrefixAdded, GrowsByPrefix}
+use Rattle.shelf_traits.specs.Written.{HoldsText, HoldsPart, Says}
+use Rattle.shelf_traits.proofs.FileLaws.{content_inserted, insert_again, told_then, told_weaker, told_same, rose_later}
 
 -- a front of a text is one of its prefixes
 front : (first rest text : List ℕ) → first ++ rest ≡ text → first ≡ take (length first) text

@@ -1,7 +1,7 @@
 -- What several reads see of the files, which none of them changes.
 use Rattle.std.proofs.Common.{◌≡◌, ℕ, List, subst}
-use Rattle.shelf_core.specs.Files.{Files, ShelfState, OnlyReads, Changes, Rose}
-use Rattle.shelf_core.proofs.FileLaws.{told_then, told_weaker, told_both, rose_later}
+use Rattle.shelf_traits.specs.Files.{Files, ShelfState, OnlyReads, Changes, Rose}
+use Rattle.shelf_traits.proofs.FileLaws.{told_then, told_weaker, told_both, rose_later}
 
 -- it holds of the files at the entry
 abbrev pub Sees : ShelfState → ShelfState → (Files → Type 0) → Type 0

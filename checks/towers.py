@@ -15,7 +15,7 @@ import sys
 JUDGE = ["costs", "cut_check", "cut_replay", "strip_boundary", "block_strips", "block_check", "frame_distance", "loop_walk"]
 JUDGE += ["cert_file", "standing_files", "check_command"]
 SEARCH = ["match_error", "offset_errors", "patch_picks", "search_squares", "patch_place", "least_choice", "cost_windows", "grown", "max_flow", "cut_graph"]
-SEARCH += ["graph_place", "refine_seams", "grow_run", "quilted", "quilt", "quilt_run", "targets", "transfer", "torus", "tile_run"]
+SEARCH += ["graph_place", "refine_seams", "grow_run", "quilted", "quilt", "targets", "transfer", "torus", "tile_run"]
 
 # The most lines of the crates that stand on a crate, for an edit of that crate. What a run is stands apart from what searches for
 # it, so that these are the searches of `grow`, `quilt`, `transfer` and `tile`, and the commands.

@@ -5,7 +5,7 @@ ghost use Rattle.quilted.specs.Quilted.{CanBeQuilted};
 use crate::samples::{Texture, sample_of, sum_of};
 use block_strips::QuiltPlan;
 use cells::{Size, Volume};
-use quilt_run::quilt_canvas;
+use quilt::quilt_canvas;
 use quilted::QuiltRun;
 use std::alloc::{AllocError, Global};
 use transfer::transfer_canvas;

@@ -12,7 +12,7 @@ use block_strips::QuiltPlan;
 use cells::Size;
 use job_words::QuiltJob;
 use outputs::{PictureQuilt, quilt_fault, within_output};
-use quilt_run::quilt_canvas;
+use quilt::quilt_canvas;
 use quilted::QuiltRun;
 use sample_files::read_picture;
 use shelf_traits::Shelf;

@@ -6,8 +6,8 @@
 //! alone (`first_past`). `laws` says what the definitions mean: records over one another leave the map, there is one
 //! run, and one number at the limit, which a run passes.
 //!
-//! `asked` has the types, `limit` the count of boxes, `totals` what is reported of a record. The crates quilt and
-//! quilt_run lay blocks; those that write what they lay stand on this one alone.
+//! `asked` has the types, `limit` the count of boxes, `totals` what is reported of a record. The crate quilt
+//! lays blocks; those that write what they lay stand on this one alone.
 #![tactic(auto)]
 
 mod asked;

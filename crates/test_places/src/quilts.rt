@@ -10,7 +10,7 @@ use cells::{At, Size, Volume};
 use map_canvas::Canvas;
 use patch_picks::Draws;
 use quilt::next_block;
-use quilt_run::quilt_by;
+use quilt::quilt_by;
 use quilted::{QuiltRun, Quilted};
 use search_squares::SampleSums;
 use std::alloc::{AllocError, Global};

@@ -24,12 +24,12 @@ use Rattle.quilted.proofs.Laying.{HasJoins, laid_formed}
 use Rattle.quilted.proofs.Runs.{quilts_replay}
 use Rattle.limits.specs.declared.bounds.TheConstants.{MOST_BOX_CELLS}
 use Rattle.quilted.specs.declared.asked.QuiltRun.{QuiltRun}
-use Rattle.quilt_run.specs.declared.steps.QuiltWork.{QuiltWork}
+use Rattle.quilt.specs.declared.work.QuiltWork.{QuiltWork}
 use Rattle.quilted.specs.Costs.{IsFileBlock, IsFileSide, all_boundaries, block_boundaries, block_cost, quilt_cost}
 use Rattle.quilted.specs.PlanLimit.{PlanStaysWithin}
 use Rattle.quilted.specs.Quilted.{CanBeQuilted}
 use Rattle.quilted.specs.Totals.{BlockCostsSo, HasBlockWidths, HasSideWidths}
-use Rattle.quilt_run.specs.QuiltWork.{IsQuiltWork}
+use Rattle.quilt.specs.QuiltWork.{IsQuiltWork}
 use Rattle.quilted.proofs.More.{boundaries_more, cells_more, cost_more, quilts_more}
 use Rattle.quilted.proofs.OneLimits.{passes_there}
 

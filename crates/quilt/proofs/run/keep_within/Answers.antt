@@ -1,6 +1,6 @@
 use Rattle.std.proofs.Common.{subst}
 use Rattle.quilted.specs.PlanLimit.{PlanStaysWithin}
-use Rattle.quilt_run.proofs.lay.keep_within.Goals as goal
+use Rattle.quilt.proofs.run.keep_within.Goals as goal
 
 pub returns-in-None : goal.returns-in-None
 returns-in-None c =

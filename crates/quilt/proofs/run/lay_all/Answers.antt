@@ -1,6 +1,6 @@
 use Rattle.std.proofs.Common.{sym}
 use Rattle.std.proofs.lemmas.Bool.{false≢true}
-use Rattle.quilt_run.proofs.lay.lay_all.Goals as goal
+use Rattle.quilt.proofs.run.lay_all.Goals as goal
 
 pub laying-init : goal.laying-init
 laying-init g c = record {

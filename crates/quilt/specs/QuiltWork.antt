@@ -11,7 +11,7 @@ use Rattle.limits.specs.declared.bounds.TheConstants.{MOST_BOX_CELLS}
 use Rattle.quilted.specs.declared.asked.QuiltRun.{QuiltRun}
 use Rattle.quilted.specs.declared.asked.QuiltError.{QuiltError}
 use Rattle.quilted.specs.declared.asked.QuiltError.TheVariants.{Records, NoMemory}
-use Rattle.quilt_run.specs.declared.steps.QuiltWork.{QuiltWork}
+use Rattle.quilt.specs.declared.work.QuiltWork.{QuiltWork}
 use Rattle.quilted.specs.Costs.{IsFileBlock, all_boundaries, quilt_cost}
 use Rattle.block_check.specs.Blocks.{block_cells}
 use Rattle.quilted.specs.PlanLimit.{PlanStaysWithin}

@@ -2,8 +2,8 @@ use Rattle.std.proofs.Common.{◌+◌, ap, arith, refl}
 use Rattle.block_check.specs.Records.{BlockStands}
 use Rattle.quilted.specs.Runs.{QuiltsBy, quilting}
 use Rattle.quilted.proofs.Spots.{some_cells}
-use Rattle.quilt_run.proofs.Stepping.{block_formed, more_cells, one_more}
-use Rattle.quilt_run.proofs.steps.step.Goals as goal
+use Rattle.quilt.proofs.Stepping.{block_formed, more_cells, one_more}
+use Rattle.quilt.proofs.work.step.Goals as goal
 
 pub block_cost-requires : goal.block_cost-requires
 block_cost-requires g c =

@@ -1,7 +1,7 @@
 use Rattle.std.proofs.Common.{◌∙◌, ap, refl, sym}
 use Rattle.map_canvas.specs.Canvases.{empty_canvas}
-use Rattle.quilt_run.proofs.Stepping.{none_made}
-use Rattle.quilt_run.proofs.steps.begin.Goals as goal
+use Rattle.quilt.proofs.Stepping.{none_made}
+use Rattle.quilt.proofs.work.begin.Goals as goal
 
 pub returns : goal.returns
 returns c rating = none_made rating c.args.asked.now c.args.sample.now _ c.requires c.in_ok-canvas.ensures.canvas

@@ -3,12 +3,12 @@ ghost use Rattle.std.specs.Prelude.{IfOk};
 ghost use Rattle.quilted.specs.Runs.{by_overlap};
 ghost use Rattle.quilted.specs.PlanLimit.{PlanStaysWithin};
 ghost use Rattle.quilted.specs.Quilted.{CanBeQuilted, IsQuilt, Quilts};
-ghost use Rattle.quilt_run.specs.QuiltWork.{IsWithinOrPast, LaysQuilt};
+ghost use Rattle.quilt.specs.QuiltWork.{IsWithinOrPast, LaysQuilt};
 
-use crate::steps::{QuiltWork, begin, step};
+use crate::work::{QuiltWork, begin, step};
 use cells::Volume;
 use items::Items;
-use quilt::BlockPicks;
+use crate::BlockPicks;
 use quilted::{QuiltError, QuiltRun, Quilted, first_past};
 use search_squares::SampleSums;
 use std::alloc::{AllocError, Global};

@@ -2,8 +2,8 @@ use Rattle.std.specs.Prelude.{◌≡◌, ◌+◌, ◌-◌, false, if◌then◌el
 use Rattle.map_canvas.specs.Maps.{IsFull}
 use Rattle.block_check.specs.Blocks.{block_cells}
 use Rattle.limits.specs.declared.bounds.TheConstants.{MOST_BOX_CELLS}
-use Rattle.quilt_run.specs.QuiltWork.{IsQuiltWork}
-use Rattle.quilt_run.proofs.lay.lay_all.Given as goal
+use Rattle.quilt.specs.QuiltWork.{IsQuiltWork}
+use Rattle.quilt.proofs.run.lay_all.Given as goal
 
 abbrev pub invariant-laying : goal.invariant-laying
 invariant-laying g l = record {

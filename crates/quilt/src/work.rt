@@ -3,14 +3,14 @@ ghost use Rattle.std.specs.Prelude.{IfOk};
 ghost use Rattle.quilted.specs.Runs.{Rating};
 ghost use Rattle.quilted.specs.PlanLimit.{PlanStaysWithin};
 ghost use Rattle.quilted.specs.Quilted.{CanBeQuilted};
-ghost use Rattle.quilt_run.specs.QuiltWork.{QuiltAdvances, IsQuiltWork};
+ghost use Rattle.quilt.specs.QuiltWork.{QuiltAdvances, IsQuiltWork};
 
 use block_check::BlockRecord;
 use block_strips::empty_map_is_laid;
 use cells::Volume;
 use map_canvas::Canvas;
 use patch_picks::Draws;
-use quilt::{BlockPicks, next_block_by};
+use crate::{BlockPicks, next_block_by};
 use quilted::{QuiltRun, block_boundaries, block_cost, block_fits};
 use std::alloc::{AllocError, Global};
 

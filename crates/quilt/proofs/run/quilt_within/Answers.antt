@@ -6,8 +6,8 @@ use Rattle.quilted.proofs.Runs.{quilts_replay}
 use Rattle.limits.specs.declared.bounds.TheConstants.{MOST_BOX_CELLS}
 use Rattle.quilted.specs.Costs.{IsFileBlock, all_boundaries, quilt_cost}
 use Rattle.block_check.specs.Blocks.{block_cells}
-use Rattle.quilt_run.specs.QuiltWork.{IsQuiltWork}
-use Rattle.quilt_run.proofs.lay.quilt_within.Goals as goal
+use Rattle.quilt.specs.QuiltWork.{IsQuiltWork}
+use Rattle.quilt.proofs.run.quilt_within.Goals as goal
 
 pub returns : goal.returns
 returns g c =

@@ -9,9 +9,9 @@ use Rattle.cells.specs.Boxes.{AxisHolds, HasCells, IsInBox}
 use Rattle.cells.specs.Places.{IsInside, index_in, minus, spot}
 use Rattle.cells.proofs.BoxTests.{inside_of, of_inside, on_axis_bounds, on_axis_some}
 use Rattle.cells.proofs.Raster.{has_index, index_of_spot, index_parts}
-use Rattle.spans.specs.Axes.{SpanFits}
-use Rattle.spans.proofs.Spans.{grid_fits}
-use Rattle.spans.specs.declared.axis.Span.{Span}
+use Rattle.boxes.specs.Spans.{SpanFits}
+use Rattle.boxes.proofs.SpanLaws.{grid_fits}
+use Rattle.boxes.specs.declared.spans.Span.{Span}
 use Rattle.block_strips.specs.declared.plan.QuiltPlan.{QuiltPlan}
 use Rattle.block_strips.specs.Blocks.{FitsBlock, block_at, block_len, block_on, box_of}
 

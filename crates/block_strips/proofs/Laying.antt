@@ -10,7 +10,7 @@ use Rattle.cells.specs.Boxes.{HasCells, IsInBox, IsInOne}
 use Rattle.cells.specs.Cells.{Cells}
 use Rattle.cells.specs.Places.{HasAxes, IsInside, cell_count, place_of, spot}
 use Rattle.cells.proofs.Raster.{place_at}
-use Rattle.spans.specs.Axes.{grid_step}
+use Rattle.boxes.specs.Spans.{grid_step}
 use Rattle.map_canvas.specs.Maps.{IsFilled, IsMap, SourceMap, empty_map, first_unfilled}
 use Rattle.map_canvas.proofs.AfterLaws.{filled_of, source_of_place}
 use Rattle.map_canvas.proofs.EmptyAndFull.{map_at-empty}

@@ -7,9 +7,9 @@ use Rattle.cells.specs.declared.place.Box3.{Box3}
 use Rattle.cells.specs.declared.place.Size.{Size}
 use Rattle.cells.specs.Boxes.{HasCells, HoldsBox}
 use Rattle.cells.specs.Cells.{Cells}
-use Rattle.spans.specs.declared.axis.Span.{Span}
-use Rattle.spans.specs.Axes.{at_least_0, grid_on, grid_overlap}
-use Rattle.spans.specs.Rooms.{HasRoom}
+use Rattle.boxes.specs.declared.spans.Span.{Span}
+use Rattle.boxes.specs.Spans.{at_least_0, grid_on, grid_overlap}
+use Rattle.boxes.specs.Rooms.{HasRoom}
 use Rattle.map_canvas.specs.Maps.{SourceMap, first_unfilled}
 use Rattle.block_strips.specs.declared.plan.QuiltPlan.{QuiltPlan}
 use Rattle.block_strips.specs.declared.side.Side.{Side}

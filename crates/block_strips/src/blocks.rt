@@ -1,15 +1,15 @@
 // Where the next block is laid.
 ghost use Rattle.std.specs.Prelude.{◌≡◌, ◌≤◌, ◌<◌, ◌↔◌, IfSome, None};
 ghost use Rattle.cells.specs.Cells.{IsOnePart};
-ghost use Rattle.spans.specs.Axes.{SpanFits};
+ghost use Rattle.boxes.specs.Spans.{SpanFits};
 ghost use Rattle.map_canvas.specs.Maps.{IsFull};
 ghost use Rattle.block_strips.specs.Blocks.{FitsBlock, block_len, block_on, box_of, next_box, shared_on};
 
 use crate::QuiltPlan;
+use boxes::{Span, count_of, grid_on};
 use cells::{At, Box3, Size, Volume};
 use limits::GREATEST_AXIS;
 use map_canvas::Canvas;
-use spans::{Span, count_of, grid_on};
 
 // How long a block is along an axis.
 fn block_len(output: u32, part: u32, plan: &QuiltPlan) -> u32

@@ -6,3 +6,4 @@ pub mod Cells
 pub mod Indices
 pub mod PairNumbers
 pub mod ClosedForm
+pub mod SpanLaws

@@ -2,3 +2,5 @@ pub mod Sums
 pub mod Raster
 pub mod Pairs
 pub mod Walks
+pub mod Spans
+pub mod Rooms

@@ -10,9 +10,9 @@ use Rattle.cells.specs.declared.place.Size.{Size}
 use Rattle.cells.specs.Firsts.{IsFirstWithout}
 use Rattle.cells.specs.Places.{HasAxes, cell_count, index_in, place_of, spot}
 use Rattle.cells.proofs.Raster.{index_below, index_of_spot, one_place, place_at}
-use Rattle.spans.specs.declared.axis.Span.{Span}
-use Rattle.spans.specs.Axes.{SpanFits, patch_corner}
-use Rattle.spans.proofs.Spans.{difference, grid_fits}
+use Rattle.boxes.specs.declared.spans.Span.{Span}
+use Rattle.boxes.specs.Spans.{SpanFits, patch_corner}
+use Rattle.boxes.proofs.SpanLaws.{difference, grid_fits}
 use Rattle.limits.specs.declared.bounds.TheConstants.{MOST_BOX_CELLS}
 use Rattle.least_choice.proofs.Digits.{lex, lex_less}
 use Rattle.grown.specs.declared.limit.Boxes.{Boxes}

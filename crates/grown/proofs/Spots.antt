@@ -8,7 +8,7 @@ use Rattle.cells.specs.Boxes.{IsInBox}
 use Rattle.cells.specs.Places.{HasAxes, cell_count, index_in, minus, place_of, spot}
 use Rattle.cells.proofs.BoxTests.{inside_of, of_inside, on_axis_bounds, on_axis_some}
 use Rattle.cells.proofs.Raster.{index_parts, place_at}
-use Rattle.spans.specs.declared.axis.Span.{Span}
+use Rattle.boxes.specs.declared.spans.Span.{Span}
 use Rattle.patch_picks.specs.Lists.{placed}
 
 -- which places the box of three spans has

@@ -6,8 +6,8 @@ use Rattle.cells.specs.declared.place.Box3.{Box3}
 use Rattle.cells.specs.declared.place.Size.{Size}
 use Rattle.cells.specs.Cells.{Cells}
 use Rattle.cells.specs.Places.{spot}
-use Rattle.spans.specs.declared.axis.Span.{Span}
-use Rattle.spans.specs.Axes.{grid_on, patch_corner}
+use Rattle.boxes.specs.declared.spans.Span.{Span}
+use Rattle.boxes.specs.Spans.{grid_on, patch_corner}
 use Rattle.limits.specs.declared.bounds.TheConstants.{GREATEST_AXIS}
 use Rattle.patch_picks.specs.Lists.{placed}
 use Rattle.grown.specs.declared.limit.Kind.{Kind}

@@ -3,17 +3,17 @@ ghost use Rattle.std.specs.Prelude.{◌≡◌, ◌≤◌, ◌<◌, ◌*◌, Opti
 ghost use Rattle.cells.specs.declared.place.At.{At};
 ghost use Rattle.cells.specs.declared.place.Box3.{Box3};
 ghost use Rattle.cells.specs.Places.{HasAxes, IsSmall, cell_count};
-ghost use Rattle.spans.specs.Axes.{SpanFits};
+ghost use Rattle.boxes.specs.Spans.{SpanFits};
 ghost use Rattle.patch_picks.specs.Fitting.{HasPatch};
 ghost use Rattle.patch_picks.specs.Lists.{placed};
 ghost use Rattle.grown.specs.BoxLimit.{IsFirstPast, PlanIsFirstPast};
 ghost use Rattle.grown.specs.Counted.{AreBoxes, AreBoxesOf, HasLen, HasLens, span_on};
 
 use crate::plan::GrowPlan;
+use boxes::{Span, grid_on, patch_corner};
 use cells::{Size, Volume};
 use limits::{GREATEST_AXIS, MOST_BOX_CELLS};
 use patch_picks::{Mode, window_size};
-use spans::{Span, grid_on, patch_corner};
 
 // How boxes lie along an axis.
 #[derive(Clone, Copy, Drop)]

@@ -12,7 +12,7 @@ use Rattle.cells.specs.Places.{cell_count, index_in, place_of, spot}
 use Rattle.cells.specs.SizeLists.{size_of_part, stock_place}
 use Rattle.cells.proofs.BoxLaws.{step_of}
 use Rattle.cells.proofs.Raster.{index_below, index_of_spot, one_place, place_at}
-use Rattle.spans.specs.Rooms.{HasRoom}
+use Rattle.boxes.specs.Rooms.{HasRoom}
 use Rattle.map_canvas.specs.Choices.{Fits, laid_from}
 use Rattle.patch_picks.specs.Lists.{fit_list, from_part, part_lists, room}
 use Rattle.patch_picks.proofs.Counting.{Contains-slice_get, slice_get-Contains}

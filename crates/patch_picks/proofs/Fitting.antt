@@ -13,9 +13,9 @@ use Rattle.cells.specs.Places.{HasAxes, IsInside, cell_count, index_in, minus, p
 use Rattle.cells.proofs.BoxLaws.{step_of}
 use Rattle.cells.proofs.PartBoxes.{box_held}
 use Rattle.cells.proofs.Raster.{has_index, index_of_spot, index_parts}
-use Rattle.spans.specs.declared.axis.Span.{Span}
-use Rattle.spans.specs.Axes.{SpanFits, grid_on}
-use Rattle.spans.proofs.Spans.{laid_fits, grid_fits, patch_fits}
+use Rattle.boxes.specs.declared.spans.Span.{Span}
+use Rattle.boxes.specs.Spans.{SpanFits, grid_on}
+use Rattle.boxes.proofs.SpanLaws.{laid_fits, grid_fits, patch_fits}
 use Rattle.map_canvas.specs.declared.canvas.Placement.{Placement}
 use Rattle.map_canvas.specs.Choices.{laid_from}
 use Rattle.patch_picks.specs.declared.mode.Mode.{Mode}

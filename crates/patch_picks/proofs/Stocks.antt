@@ -12,7 +12,7 @@ use Rattle.cells.specs.Parts.{HoldsFrom, past}
 use Rattle.cells.specs.Places.{HasAxes}
 use Rattle.cells.specs.SizeLists.{frames_to_part, stock_place}
 use Rattle.cells.proofs.PartBoxes.{held, holds_front, of_held}
-use Rattle.spans.specs.Rooms.{HasRoom}
+use Rattle.boxes.specs.Rooms.{HasRoom}
 use Rattle.patch_picks.specs.Fitting.{HasRoomInEach}
 use Rattle.patch_picks.specs.Modes.{least_of, least_part, lesser}
 use Rattle.patch_picks.proofs.PartLists.{drop_part}

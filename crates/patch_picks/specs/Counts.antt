@@ -5,7 +5,7 @@ use Rattle.limits.specs.declared.bounds.TheConstants.{GREATEST_AXIS, MOST_CELLS,
 use Rattle.cells.specs.declared.place.At.{At}
 use Rattle.cells.specs.declared.place.Size.{Size}
 use Rattle.cells.specs.Places.{HasAxes, cell_count, places}
-use Rattle.spans.specs.Axes.{at_least_0}
+use Rattle.boxes.specs.Spans.{at_least_0}
 use Rattle.map_canvas.specs.declared.canvas.Placement.{Placement}
 use Rattle.map_canvas.specs.Choices.{laid_from}
 use Rattle.patch_picks.specs.declared.candidates.Candidates.{Candidates}

@@ -5,7 +5,7 @@ use Rattle.cells.specs.declared.place.Size.{Size}
 use Rattle.cells.specs.Places.{IsInside, minus}
 use Rattle.cells.specs.Cells.{Cells, sizes_of}
 use Rattle.cells.specs.SizeLists.{size_of_part}
-use Rattle.spans.specs.Rooms.{HasRoom}
+use Rattle.boxes.specs.Rooms.{HasRoom}
 use Rattle.map_canvas.specs.declared.canvas.Placement.{Placement}
 use Rattle.map_canvas.specs.Choices.{Fits}
 use Rattle.patch_picks.specs.declared.mode.Mode.{Mode}

@@ -8,8 +8,8 @@ use Rattle.cells.specs.declared.place.Box3.{Box3}
 use Rattle.cells.specs.Cells.{Cells, sizes_of}
 use Rattle.cells.specs.Places.{IsInside, places}
 use Rattle.cells.specs.SizeLists.{stock_place}
-use Rattle.spans.specs.declared.axis.Span.{Span}
-use Rattle.spans.specs.Axes.{at_least_0, laid_on}
+use Rattle.boxes.specs.declared.spans.Span.{Span}
+use Rattle.boxes.specs.Spans.{at_least_0, laid_on}
 use Rattle.map_canvas.specs.declared.canvas.Placement.{Placement}
 use Rattle.map_canvas.specs.Choices.{laid_from}
 use Rattle.patch_picks.specs.declared.candidates.Candidates.{Candidates}

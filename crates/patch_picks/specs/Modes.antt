@@ -6,7 +6,7 @@ use Rattle.cells.specs.declared.place.At.{At}
 use Rattle.cells.specs.declared.place.Size.{Size}
 use Rattle.cells.specs.declared.place.Box3.{Box3}
 use Rattle.cells.specs.Cells.{Cells}
-use Rattle.spans.specs.Axes.{at_least_0, grid_on, patch_len, patch_corner}
+use Rattle.boxes.specs.Spans.{at_least_0, grid_on, patch_len, patch_corner}
 use Rattle.map_canvas.specs.declared.canvas.Placement.{Placement}
 use Rattle.patch_picks.specs.declared.mode.Mode.{Mode}
 use Rattle.patch_picks.specs.declared.mode.Mode.TheVariants.{Grid, Random, Whole, Sub}

@@ -6,9 +6,9 @@ ghost use Rattle.cells.specs.SizeLists.{frames_to_part};
 ghost use Rattle.patch_picks.specs.Lists.{IsWithin, first_half, from_part, laid, listed, placed, room};
 ghost use Rattle.patch_picks.specs.Counts.{AreVolumeParts, FitsCount, IsBelowSize, IsOverParts, all_entries, entries_in, steps_in};
 
+use boxes::{Span, count_of, laid_on};
 use cells::{At, Box3, Size, Sizes, Volume};
 use map_canvas::Placement;
-use spans::{Span, count_of, laid_on};
 
 /// Placements that may be taken, in an order; no list of them is kept.
 #[derive(Clone, Copy, Drop)]

@@ -4,7 +4,7 @@ ghost use Rattle.cells.specs.declared.place.At.{At};
 ghost use Rattle.cells.specs.Boxes.{HasCells, HoldsBox};
 ghost use Rattle.cells.specs.Cells.{sizes_of};
 ghost use Rattle.cells.specs.SizeLists.{size_of_part};
-ghost use Rattle.spans.specs.Rooms.{HasRoom};
+ghost use Rattle.boxes.specs.Rooms.{HasRoom};
 ghost use Rattle.map_canvas.specs.Choices.{Fits, laid_from};
 ghost use Rattle.patch_picks.specs.Lists.{fit_list, part_lists};
 ghost use Rattle.patch_picks.specs.Picks.{ThereIsOnePick};

@@ -12,7 +12,7 @@
 //! here makes a pick or a step: those that do are in the crate patch_place, so that whoever says what a
 //! run is stands on no search.
 //!
-//! What happens along one axis is that of the crate spans, and errors are those of match_error.
+//! What happens along one axis is that of the crate boxes, and errors are those of match_error.
 //! `candidates` has the lists over the parts of a sample, with the sizes and counts of its parts, `mode` the
 //! modes and the size of a window, `draws` the draws, and `laws` what follows from the definitions.
 //! README.md says the definitions and the promises in words.

@@ -2,7 +2,7 @@
 ghost use Rattle.std.specs.Prelude.{◌≡◌, ◌≤◌, ◌<◌, All, length};
 ghost use Rattle.cells.specs.Boxes.{HasCells};
 ghost use Rattle.cells.specs.Places.{IsInside, IsSmall};
-ghost use Rattle.spans.specs.Rooms.{HasRoom};
+ghost use Rattle.boxes.specs.Rooms.{HasRoom};
 ghost use Rattle.patch_picks.specs.Counts.{IsBelowSize};
 ghost use Rattle.patch_picks.specs.Fitting.{FitsAndCovers, HasPatch, HasRoomInEach};
 ghost use Rattle.patch_picks.specs.Lists.{IsWithin, listed};
@@ -11,9 +11,9 @@ ghost use Rattle.patch_picks.specs.Steps.{tolerance};
 
 use crate::Candidates;
 use crate::candidates::{part_after, parts_of, placed};
+use boxes::{count_of, grid_on, patch_corner, patch_len};
 use cells::{At, Box3, Size, Volume};
 use map_canvas::Placement;
-use spans::{count_of, grid_on, patch_corner, patch_len};
 
 /// How an output is grown from its first unfilled cell on.
 #[derive(Clone, Copy, Debug, Drop)]

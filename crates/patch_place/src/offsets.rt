@@ -9,11 +9,11 @@ ghost use Rattle.match_error.specs.Errors.{error_sum};
 ghost use Rattle.offset_errors.specs.Errors.{AreErrors, IsEnough};
 
 use crate::reach::Around;
+use boxes::count_of;
 use cells::{At, Box3, Size, Volume};
 use map_canvas::{Canvas, Placement};
 use offset_errors::{Layout, OffsetErrors};
 use patch_picks::{frames_before, part_after, parts_of, place_count};
-use spans::count_of;
 use std::alloc::{AllocError, Global};
 
 // How many squares of single sums a number takes on each level of a transform, as measured.

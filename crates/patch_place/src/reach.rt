@@ -5,11 +5,11 @@ ghost use Rattle.cells.specs.Places.{IsSmall};
 ghost use Rattle.match_error.specs.Rows.{AreFilledRows};
 ghost use Rattle.match_error.specs.Tables.{AreFilledCounts};
 
+use boxes::count_of;
 use cells::{At, Box3, Size, Volume};
 use map_canvas::Canvas;
 use match_error::{FilledCounts, FilledRows};
 use patch_picks::{Candidates, part_after, parts_of};
-use spans::count_of;
 use std::alloc::{AllocError, Global};
 
 // A run of cells along one axis.

@@ -5,10 +5,10 @@ ghost use Rattle.quilted.specs.PlanLimit.{PlanStaysWithin};
 ghost use Rattle.quilted.specs.Quilted.{CanBeQuilted, IsQuilt, Quilts};
 ghost use Rattle.quilt.specs.QuiltWork.{IsWithinOrPast, LaysQuilt};
 
+use crate::BlockPicks;
 use crate::work::{QuiltWork, begin, step};
 use cells::Volume;
 use items::Items;
-use crate::BlockPicks;
 use quilted::{QuiltError, QuiltRun, Quilted, first_past};
 use search_squares::SampleSums;
 use std::alloc::{AllocError, Global};

@@ -5,12 +5,12 @@ ghost use Rattle.quilted.specs.PlanLimit.{PlanStaysWithin};
 ghost use Rattle.quilted.specs.Quilted.{CanBeQuilted};
 ghost use Rattle.quilt.specs.QuiltWork.{QuiltAdvances, IsQuiltWork};
 
+use crate::{BlockPicks, next_block_by};
 use block_check::BlockRecord;
 use block_strips::empty_map_is_laid;
 use cells::Volume;
 use map_canvas::Canvas;
 use patch_picks::Draws;
-use crate::{BlockPicks, next_block_by};
 use quilted::{QuiltRun, block_boundaries, block_cost, block_fits};
 use std::alloc::{AllocError, Global};
 

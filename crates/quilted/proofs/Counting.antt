@@ -9,8 +9,8 @@ use Rattle.cells.specs.declared.place.Size.{Size}
 use Rattle.cells.specs.Boxes.{HasCells, IsInOne}
 use Rattle.cells.specs.Places.{HasAxes, cell_count, index_in, place_of, spot}
 use Rattle.cells.proofs.Raster.{in_rows, index_of_spot, one_place, place_at}
-use Rattle.spans.specs.Axes.{SpanFits}
-use Rattle.spans.proofs.Spans.{grid_fits}
+use Rattle.boxes.specs.Spans.{SpanFits}
+use Rattle.boxes.proofs.SpanLaws.{grid_fits}
 use Rattle.block_strips.specs.declared.plan.QuiltPlan.{QuiltPlan}
 use Rattle.block_strips.specs.Blocks.{block_at, block_len, block_on}
 use Rattle.block_strips.specs.Laid.{AreFirstBlocks, IsBlockAfter, IsFirstPlaceWithout}

@@ -2,14 +2,14 @@
 ghost use Rattle.std.specs.Prelude.{◌≡◌, ◌≤◌, ◌<◌, ◌+◌, ◌*◌};
 ghost use Rattle.cells.specs.Boxes.{HasCells};
 ghost use Rattle.cells.specs.Places.{HasAxes, cell_count};
-ghost use Rattle.spans.specs.Axes.{SpanFits};
+ghost use Rattle.boxes.specs.Spans.{SpanFits};
 ghost use Rattle.block_strips.specs.Blocks.{block_len, block_on, box_of};
 ghost use Rattle.quilted.specs.PlanLimit.{IsFirstPast};
 
 use block_strips::QuiltPlan;
+use boxes::{Span, grid_on};
 use cells::Size;
 use limits::{GREATEST_AXIS, MOST_BOX_CELLS};
-use spans::{Span, grid_on};
 
 // Along an axis, the block that has the coordinate q.
 fn block_on(output: u32, part: u32, plan: &QuiltPlan, q: u32) -> Span

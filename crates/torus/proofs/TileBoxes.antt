@@ -12,8 +12,8 @@ use Rattle.cells.specs.Boxes.{HoldsBox}
 use Rattle.cells.specs.Cells.{Cells}
 use Rattle.cells.specs.Places.{IsInside, IsSmall, cell_count, on_axis}
 use Rattle.cells.proofs.BoxTests.{inside_of, of_inside, on_axis_bounds, on_axis_some}
-use Rattle.spans.specs.Axes.{at_least_0, patch_corner, patch_len}
-use Rattle.spans.proofs.Spans.{patch_fits}
+use Rattle.boxes.specs.Spans.{at_least_0, patch_corner, patch_len}
+use Rattle.boxes.proofs.SpanLaws.{patch_fits}
 use Rattle.boxes.specs.Pairs.{one_if}
 use Rattle.job_words.specs.declared.tile.TilePlan.{TilePlan}
 use Rattle.job_words.specs.declared.tile.Wrap.{Wrap}

@@ -6,7 +6,7 @@ use Rattle.limits.specs.declared.bounds.TheConstants.{GREATEST_AXIS}
 use Rattle.cells.specs.declared.place.At.{At}
 use Rattle.cells.specs.declared.place.Box3.{Box3}
 use Rattle.cells.specs.declared.place.Size.{Size}
-use Rattle.spans.specs.Axes.{at_least_0, patch_corner, patch_len}
+use Rattle.boxes.specs.Spans.{at_least_0, patch_corner, patch_len}
 use Rattle.job_words.specs.declared.tile.TilePlan.{TilePlan}
 use Rattle.torus.specs.Wraps.{on_turn}
 

@@ -7,7 +7,7 @@ use Rattle.cells.specs.declared.place.Size.{Size}
 use Rattle.cells.specs.Boxes.{HasCells}
 use Rattle.cells.specs.Cells.{Cells}
 use Rattle.cells.specs.Places.{IsInside, IsSmall, index_in}
-use Rattle.spans.specs.Rooms.{HasRoom}
+use Rattle.boxes.specs.Rooms.{HasRoom}
 use Rattle.map_canvas.specs.declared.canvas.Placement.{Placement}
 use Rattle.map_canvas.specs.Maps.{SourceMap, map_at}
 use Rattle.job_words.specs.declared.tile.Wrap.{Wrap}

@@ -1,14 +1,14 @@
 // The box of the next patch.
 ghost use Rattle.std.specs.Prelude.{◌≡◌, ◌≤◌, ◌≤ℤ◌, ◌<ℤ◌, pos};
 ghost use Rattle.cells.specs.Places.{HasAxes, IsInside};
-ghost use Rattle.spans.specs.Axes.{at_least_0};
+ghost use Rattle.boxes.specs.Spans.{at_least_0};
 ghost use Rattle.torus.specs.Boxes.{tile_box, tile_corner, tile_inner, tile_len};
 
 use crate::around::around_axis;
+use boxes::{count_of, patch_corner, patch_len};
 use cells::{At, Box3, Size};
 use job_words::TilePlan;
 use limits::GREATEST_AXIS;
-use spans::{count_of, patch_corner, patch_len};
 
 // The length of a patch along an axis of n cells, from a part of so many.
 fn tile_len(wrapped: bool, n: u32, part: u32, side: u32) -> u32

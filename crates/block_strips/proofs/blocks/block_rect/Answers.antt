@@ -4,7 +4,7 @@ use Rattle.std.specs.Prelude.{Some, option_map}
 use Rattle.std.proofs.lemmas.Int.{to_z-of_z}
 use mir.Val.{SFits}
 use Rattle.map_canvas.specs.Maps.{SourceMap}
-use Rattle.spans.specs.Axes.{at_least_0}
+use Rattle.boxes.specs.Spans.{at_least_0}
 use Rattle.block_strips.specs.Blocks.{block_at, block_on, box_of, FitsBlock, block_len}
 use Rattle.cells.specs.declared.place.Size.{Size}
 use Rattle.block_strips.proofs.Boxes.{spans_fit}

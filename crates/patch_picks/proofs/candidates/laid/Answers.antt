@@ -1,7 +1,7 @@
 use Rattle.std.proofs.Common.{◌≡◌, ◌≤◌, ap, subst, sym, ◌∙◌, to_z, of_z, w32, arith}
 use Rattle.std.proofs.lemmas.Int.{ints}
 use Rattle.cells.specs.Places.{IsNearAxis}
-use Rattle.spans.specs.Axes.{at_least_0, laid_on}
+use Rattle.boxes.specs.Spans.{at_least_0, laid_on}
 use Rattle.map_canvas.specs.declared.canvas.Placement.{Placement}
 use Rattle.patch_picks.specs.Lists.{placed}
 use Rattle.patch_picks.proofs.candidates.laid.Goals as goal

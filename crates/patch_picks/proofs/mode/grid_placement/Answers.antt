@@ -1,6 +1,6 @@
 use Rattle.std.proofs.Common.{◌≡◌, ap, ◌∙◌, to_z, of_z, w32, arith}
 use Rattle.std.proofs.lemmas.Int.{ints}
-use Rattle.spans.specs.Axes.{at_least_0, grid_on}
+use Rattle.boxes.specs.Spans.{at_least_0, grid_on}
 use Rattle.patch_picks.specs.Lists.{placed}
 use Rattle.patch_picks.proofs.mode.grid_placement.Goals as goal
 

@@ -1,6 +1,6 @@
 use Rattle.std.proofs.Common.{◌≡◌, ◌+◌, ◌<◌, ◌≤◌, ap, ◌∙◌, subst}
 use Rattle.cells.specs.Places.{cell_count}
-use Rattle.spans.specs.declared.axis.Span.{Span}
+use Rattle.boxes.specs.declared.spans.Span.{Span}
 use Rattle.block_strips.specs.Blocks.{block_on, box_of}
 use Rattle.quilted.proofs.Counting.{CanBeCounted, all_counted, counted_past, one_more}
 use Rattle.quilted.proofs.limit.first_past.Goals as goal

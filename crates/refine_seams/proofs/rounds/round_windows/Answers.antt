@@ -1,7 +1,7 @@
 use Rattle.std.proofs.Common.{◌∙◌, ap, sym, subst}
 use Rattle.cells.specs.declared.place.Size.{Size}
 use Rattle.cells.specs.Boxes.{HasCells}
-use Rattle.spans.specs.Rooms.{HasRoom}
+use Rattle.boxes.specs.Rooms.{HasRoom}
 use Rattle.map_canvas.specs.Maps.{SourceMap}
 use Rattle.patch_picks.specs.Modes.{window}
 use Rattle.refine_seams.proofs.Rounding.{small_cells}

@@ -2,7 +2,7 @@
 -- sample S, and where the first unfilled cell has the coordinate q. (Kwatra et al. 2003 lay the
 -- whole sample or a patch of it; the grid, and where a patch is laid, are own.)
 use Rattle.std.specs.Prelude.{◌≡◌, ◌≤◌, ◌<◌, ◌+◌, ◌-◌, ◌*◌, ◌/◌, ℕ, ℤ, pos, negsuc, ◌+ℤ◌, ◌-ℤ◌, ◌<ℤ◌, min}
-use Rattle.spans.specs.declared.axis.Span.{Span}
+use Rattle.boxes.specs.declared.spans.Span.{Span}
 
 -- the greater of a number and 0
 abbrev pub at_least_0 : ℤ → ℕ

@@ -1,6 +1,6 @@
 // What the definitions mean.
 ghost use Rattle.std.specs.Prelude.{◌≤◌};
-ghost use Rattle.spans.specs.Axes.{IsGridCorner, grid_corner};
+ghost use Rattle.boxes.specs.Spans.{IsGridCorner, grid_corner};
 
 /// A law, with nothing to run: along an axis of this size, the grid's corner is the least multiple of the
 /// step, counted from 0, that is greater than q less the size.

@@ -1,6 +1,6 @@
 // Placements along one axis.
 ghost use Rattle.std.specs.Prelude.{◌≡◌, ◌≤◌, ◌<◌};
-ghost use Rattle.spans.specs.Axes.{IsGridCorner, SpanFits, at_least_0, grid_on, grid_step, laid_on, patch_corner, patch_len};
+ghost use Rattle.boxes.specs.Spans.{IsGridCorner, SpanFits, at_least_0, grid_on, grid_step, laid_on, patch_corner, patch_len};
 
 use limits::GREATEST_AXIS;
 

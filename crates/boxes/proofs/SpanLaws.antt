@@ -5,7 +5,7 @@ use Rattle.std.proofs.lemmas.Bool.{cases_lt}
 use Rattle.std.proofs.lemmas.Int.{ints}
 use Rattle.std.proofs.lemmas.Nat.{div-add-mod', mod_below}
 use Rattle.std.specs.Prelude.{ℤ, pos, negsuc, ◌+ℤ◌, ◌-ℤ◌, ◌≤ℤ◌}
-use Rattle.spans.specs.Axes.{IsGridCorner, SpanFits, at_least_0, grid_corner, grid_on, grid_overlap, grid_step, laid_on, patch_corner, patch_len}
+use Rattle.boxes.specs.Spans.{IsGridCorner, SpanFits, at_least_0, grid_corner, grid_on, grid_overlap, grid_step, laid_on, patch_corner, patch_len}
 
 -- a number that is at least 0 stands, and a lesser one becomes 0
 at_least_pos : (z : ℤ) (n : ℕ) → z ≡ pos n → at_least_0 z ≡ n

@@ -150,9 +150,10 @@ impl FileReader {
         ensures failed { OnErr result (ReadsRose name.now (S.state shelf.old) (S.state shelf.new)) }
     {
         if self.is_empty() {
-            self.refill(shelf, name)?;
+            self.refill(shelf, name)
+        } else {
+            Ok(())
         }
-        Ok(())
     }
 
     // Reads some of the bytes that are wanted, and tells how many.
@@ -238,8 +239,10 @@ impl FileReader {
         ensures reads { OnlyReadsFile name.now (S.state shelf.old) (S.state shelf.new) }
     {
         let mut field = [0; 1];
-        self.take(&mut field, shelf, name)?;
-        Ok(field[0])
+        match self.take(&mut field, shelf, name) {
+            Ok(()) => Ok(field[0]),
+            Err(error) => Err(error),
+        }
     }
 
     /// Reads a number of 2, 4 or 8 bytes.
@@ -253,8 +256,10 @@ impl FileReader {
         ensures reads { OnlyReadsFile name.now (S.state shelf.old) (S.state shelf.new) }
     {
         let mut field = [0; 8];
-        self.take(&mut field[..T::WIDTH], shelf, name)?;
-        Ok(T::of(&field[..T::WIDTH]))
+        match self.take(&mut field[..T::WIDTH], shelf, name) {
+            Ok(()) => Ok(T::of(&field[..T::WIDTH])),
+            Err(error) => Err(error),
+        }
     }
 
     /// Whether the file ends here. A byte that is here is answered by `Form` at its place.

@@ -1,16 +1,16 @@
 // The words of `check`.
 ghost use Rattle.std.specs.Prelude.{◌≡◌, IfOk};
 ghost use Rattle.job_words.specs.Words as by;
-ghost use Rattle.job_words.specs.CheckWords.{HasCheckValues, IsCheckJob, check_job_of, check_of, check_rows};
+ghost use Rattle.job_words.specs.Jobs.{IsJob, check_asked};
+ghost use Rattle.job_words.specs.CheckWords.{check_rows};
 
 use crate::fields::{names_at, turns_at};
-use crate::job::{Names, WordFault};
+use crate::job::{Job, Names, WordFault};
 use crate::keys::Key;
 use crate::name::Name;
 use crate::read::all_settings;
-use crate::settings::Setting;
 use crate::table::{Choice, Kind, Need, Row, Texts, file_row, sample_row, turns_row, with_files};
-use std::alloc::{AllocError, Global};
+use std::alloc::Global;
 
 /// Checking the files of a run.
 #[derive(Drop)]
@@ -29,23 +29,13 @@ fn rows() -> &'static [Row]
     &ROWS
 }
 
-// The job of the values of all keys.
-fn job_of(alloc: Global, settings: &[Setting]) -> Result<CheckJob, AllocError>
-    requires { HasCheckValues settings.now }
-    ensures { IfOk result (λ job. job ≡ check_of settings.now) }
-{
-    Ok(CheckJob {
-        names: names_at(alloc, settings)?,
-        turns: turns_at(settings),
-    })
-}
-
 /// The job of the words after the command, or their first refusal.
-pub fn read_check(alloc: Global, words: &[Name]) -> Result<CheckJob, WordFault>
-    ensures exact { by.AnswersAs (check_job_of words.now) result }
-    ensures lawful { IfOk result IsCheckJob }
+pub fn read_check(alloc: Global, words: &[Name]) -> Result<Job, WordFault>
+    ensures exact { by.AnswersAs (check_asked words.now) result }
+    ensures lawful { IfOk result IsJob }
 {
     let settings = all_settings(alloc, rows(), words)?;
-    let job = job_of(alloc, &settings)?;
-    Ok(job)
+    let names = names_at(alloc, &settings)?;
+    let turns = turns_at(&settings);
+    Ok(Job::Check(CheckJob { names, turns }))
 }

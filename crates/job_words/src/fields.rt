@@ -4,7 +4,7 @@ ghost use Rattle.job_words.specs.Words as by;
 ghost use Rattle.job_words.specs.Words.{IsNamed, IsNumeric, IsPosition};
 ghost use Rattle.job_words.specs.Names.{HasNames, more_keys, more_names, name_if_set, names_of};
 ghost use Rattle.job_words.specs.OutputSize.{HasSize, size_of};
-ghost use Rattle.job_words.specs.TurnWords.{HasTurns, turns_nth, turns_of};
+ghost use Rattle.job_words.specs.TurnWords.{HasTurns, turns_of};
 
 use crate::job::Names;
 use crate::keys::Key;
@@ -23,6 +23,22 @@ pub fn name_at(alloc: Global, settings: &[Setting], key: Key) -> Result<Name, Al
         unreachable!();
     };
     Name::copy(alloc, name.as_text())
+}
+
+/// The file names of two keys.
+pub fn two_names_at(
+    alloc: Global,
+    settings: &[Setting],
+    first: Key,
+    second: Key,
+) -> Result<(Name, Name), AllocError>
+    requires first { IsNamed (by.value_at first settings.now) }
+    requires second { IsNamed (by.value_at second settings.now) }
+    ensures { IfOk result (λ names.
+        names ≡ (by.text_of first settings.now, by.text_of second settings.now)) }
+{
+    let name = name_at(alloc, settings, first)?;
+    Ok((name, name_at(alloc, settings, second)?))
 }
 
 /// The number of a key whose value is of a kind of numbers.
@@ -59,19 +75,12 @@ pub fn nth_at(settings: &[Setting], key: Key) -> usize
     *n
 }
 
-// The value at a position of the list of `none` and `all`.
-fn turns_nth(n: usize) -> bool
-    ensures { result ≡ turns_nth n }
-{
-    n == 1
-}
-
-/// Whether the samples are turned.
+/// Whether the samples are turned: the list of texts has `none`, and then `all`.
 pub fn turns_at(settings: &[Setting]) -> bool
     requires { HasTurns settings.now }
     ensures { result ≡ turns_of settings.now }
 {
-    turns_nth(nth_at(settings, Key::Turns))
+    nth_at(settings, Key::Turns) == 1
 }
 
 const MORE_KEYS: [Key; 15] = [
@@ -135,11 +144,13 @@ pub fn names_at(alloc: Global, settings: &[Setting]) -> Result<Names, AllocError
     requires { HasNames settings.now }
     ensures { IfOk result (λ names. names ≡ names_of settings.now) }
 {
+    let (sample, out) = two_names_at(alloc, settings, Key::Sample, Key::Out)?;
+    let (map, record_file) = two_names_at(alloc, settings, Key::Map, Key::Record)?;
     Ok(Names {
-        sample: name_at(alloc, settings, Key::Sample)?,
+        sample,
         more: more_at(alloc, settings)?,
-        out: name_at(alloc, settings, Key::Out)?,
-        map: name_at(alloc, settings, Key::Map)?,
-        record_file: name_at(alloc, settings, Key::Record)?,
+        out,
+        map,
+        record_file,
     })
 }

@@ -1,10 +1,11 @@
 // The words of `grow`.
 ghost use Rattle.std.specs.Prelude.{◌≡◌, ◌<◌, IfOk};
 ghost use Rattle.job_words.specs.Words as by;
-ghost use Rattle.job_words.specs.GrowWords.{HasGrowValues, IsGrowJob, grow_job_of, grow_of, grow_rows, place_nth};
+ghost use Rattle.job_words.specs.Jobs.{IsJob, grow_asked};
+ghost use Rattle.job_words.specs.GrowWords.{grow_rows, place_nth};
 
 use crate::fields::{names_at, nth_at, number_at, size_at, turns_at};
-use crate::job::{Names, WordFault};
+use crate::job::{Job, Names, WordFault};
 use crate::keys::Key;
 use crate::name::Name;
 use crate::read::all_settings;
@@ -15,7 +16,7 @@ use crate::table::{
 };
 use cells::Size;
 use limits::GREATEST_AXIS;
-use std::alloc::{AllocError, Global};
+use std::alloc::Global;
 
 /// How the places of patches are chosen.
 #[derive(Clone, Copy, Drop, PartialEq, Eq)]
@@ -78,30 +79,22 @@ pub fn place_nth(n: usize) -> Place
     [Place::Grid, Place::Random, Place::Whole, Place::Sub][n]
 }
 
-// The job of the values of all keys.
-fn job_of(alloc: Global, settings: &[Setting]) -> Result<GrowJob, AllocError>
-    requires { HasGrowValues settings.now }
-    ensures { IfOk result (λ job. job ≡ grow_of settings.now) }
-{
-    Ok(GrowJob {
-        names: names_at(alloc, settings)?,
-        size: size_at(settings),
-        place: place_nth(nth_at(settings, Key::Place)),
-        side: number_at(settings, Key::Side) as u32,
-        overlap: number_at(settings, Key::Overlap) as u32,
-        tol: number_at(settings, Key::Tol) as u32,
-        rounds: number_at(settings, Key::Rounds) as u32,
-        seed: number_at(settings, Key::Seed),
-        turns: turns_at(settings),
-    })
-}
-
 /// The job of the words after the command, or their first refusal.
-pub fn read_grow(alloc: Global, words: &[Name]) -> Result<GrowJob, WordFault>
-    ensures exact { by.AnswersAs (grow_job_of words.now) result }
-    ensures lawful { IfOk result IsGrowJob }
+pub fn read_grow(alloc: Global, words: &[Name]) -> Result<Job, WordFault>
+    ensures exact { by.AnswersAs (grow_asked words.now) result }
+    ensures lawful { IfOk result IsJob }
 {
     let settings = all_settings(alloc, rows(), words)?;
-    let job = job_of(alloc, &settings)?;
-    Ok(job)
+    let values: &[Setting] = &settings;
+    Ok(Job::Grow(GrowJob {
+        names: names_at(alloc, values)?,
+        size: size_at(values),
+        place: place_nth(nth_at(values, Key::Place)),
+        side: number_at(values, Key::Side) as u32,
+        overlap: number_at(values, Key::Overlap) as u32,
+        tol: number_at(values, Key::Tol) as u32,
+        rounds: number_at(values, Key::Rounds) as u32,
+        seed: number_at(values, Key::Seed),
+        turns: turns_at(values),
+    }))
 }

@@ -1,10 +1,11 @@
 // The words of `loop`.
 ghost use Rattle.std.specs.Prelude.{◌≡◌, IfOk};
 ghost use Rattle.job_words.specs.Words as by;
-ghost use Rattle.job_words.specs.LoopWords.{HasLoopValues, IsLoopJob, loop_job_of, loop_of, loop_rows, taps_of};
+ghost use Rattle.job_words.specs.Jobs.{IsJob, loop_asked};
+ghost use Rattle.job_words.specs.LoopWords.{loop_rows, taps_of};
 
 use crate::fields::{names_at, number_at};
-use crate::job::{Names, WordFault};
+use crate::job::{Job, Names, WordFault};
 use crate::keys::Key;
 use crate::name::Name;
 use crate::read::all_settings;
@@ -12,7 +13,7 @@ use crate::settings::Setting;
 use crate::table::{Choice, Kind, Need, Row, file_row, number_row, with_one_sample};
 use cells::Taps;
 use limits::{LONGEST_LOOP, WIDEST_GAP};
-use std::alloc::{AllocError, Global};
+use std::alloc::Global;
 
 /// Looping the frames of one clip.
 #[derive(Drop)]
@@ -54,25 +55,17 @@ fn taps_of(number: u64) -> Taps
     }
 }
 
-// The job of the values of all keys.
-fn job_of(alloc: Global, settings: &[Setting]) -> Result<LoopJob, AllocError>
-    requires { HasLoopValues settings.now }
-    ensures { IfOk result (λ job. job ≡ loop_of settings.now) }
-{
-    Ok(LoopJob {
-        names: names_at(alloc, settings)?,
-        length: number_at(settings, Key::Length) as u32,
-        taps: taps_of(number_at(settings, Key::Taps)),
-        gap: number_at(settings, Key::Gap) as u32,
-    })
-}
-
 /// The job of the words after the command, or their first refusal.
-pub fn read_loop(alloc: Global, words: &[Name]) -> Result<LoopJob, WordFault>
-    ensures exact { by.AnswersAs (loop_job_of words.now) result }
-    ensures lawful { IfOk result IsLoopJob }
+pub fn read_loop(alloc: Global, words: &[Name]) -> Result<Job, WordFault>
+    ensures exact { by.AnswersAs (loop_asked words.now) result }
+    ensures lawful { IfOk result IsJob }
 {
     let settings = all_settings(alloc, rows(), words)?;
-    let job = job_of(alloc, &settings)?;
-    Ok(job)
+    let values: &[Setting] = &settings;
+    Ok(Job::Loop(LoopJob {
+        names: names_at(alloc, values)?,
+        length: number_at(values, Key::Length) as u32,
+        taps: taps_of(number_at(values, Key::Taps)),
+        gap: number_at(values, Key::Gap) as u32,
+    }))
 }

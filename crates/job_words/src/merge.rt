@@ -1,16 +1,16 @@
 // The words of `merge`.
 ghost use Rattle.std.specs.Prelude.{◌≡◌, IfOk};
 ghost use Rattle.job_words.specs.Words as by;
-ghost use Rattle.job_words.specs.MergeWords.{HasMergeNames, IsMergeJob, merge_job_of, merge_of, merge_rows};
+ghost use Rattle.job_words.specs.MergeWords.{IsMergeJob, merge_job_of, merge_rows};
 
-use crate::fields::{more_at, name_at};
+use crate::fields::{more_at, two_names_at};
 use crate::job::WordFault;
 use crate::keys::Key;
 use crate::name::{Name, Names16};
 use crate::read::all_settings;
 use crate::settings::Setting;
 use crate::table::{Kind, Need, Row, file_row, sample_row};
-use std::alloc::{AllocError, Global};
+use std::alloc::Global;
 
 /// Joining pictures of one size along least seams, where marks say what comes from which.
 #[derive(Drop)]
@@ -59,26 +59,20 @@ fn rows() -> &'static [Row]
     &ROWS
 }
 
-// The job of the values of all keys.
-fn job_of(alloc: Global, settings: &[Setting]) -> Result<MergeJob, AllocError>
-    requires { HasMergeNames settings.now }
-    ensures { IfOk result (λ job. job ≡ merge_of settings.now) }
-{
-    Ok(MergeJob {
-        sample: name_at(alloc, settings, Key::Sample)?,
-        more: more_at(alloc, settings)?,
-        marks: name_at(alloc, settings, Key::Marks)?,
-        out: name_at(alloc, settings, Key::Out)?,
-        map: name_at(alloc, settings, Key::Map)?,
-    })
-}
-
 /// The job of the words after the command, or their first refusal.
 pub fn read_merge(alloc: Global, words: &[Name]) -> Result<MergeJob, WordFault>
     ensures exact { by.AnswersAs (merge_job_of words.now) result }
     ensures lawful { IfOk result IsMergeJob }
 {
     let settings = all_settings(alloc, rows(), words)?;
-    let job = job_of(alloc, &settings)?;
-    Ok(job)
+    let values: &[Setting] = &settings;
+    let (sample, marks) = two_names_at(alloc, values, Key::Sample, Key::Marks)?;
+    let (out, map) = two_names_at(alloc, values, Key::Out, Key::Map)?;
+    Ok(MergeJob {
+        sample,
+        more: more_at(alloc, values)?,
+        marks,
+        out,
+        map,
+    })
 }

@@ -1,10 +1,11 @@
 // The words of `quilt`.
 ghost use Rattle.std.specs.Prelude.{◌≡◌, IfOk};
 ghost use Rattle.job_words.specs.Words as by;
-ghost use Rattle.job_words.specs.QuiltWords.{HasQuiltValues, IsQuiltJob, quilt_job_of, quilt_of, quilt_rows};
+ghost use Rattle.job_words.specs.Jobs.{IsJob, quilt_asked};
+ghost use Rattle.job_words.specs.QuiltWords.{quilt_rows};
 
 use crate::fields::{names_at, number_at};
-use crate::job::{Names, WordFault};
+use crate::job::{Job, Names, WordFault};
 use crate::keys::Key;
 use crate::name::Name;
 use crate::read::all_settings;
@@ -14,7 +15,7 @@ use crate::table::{
     with_one_sample,
 };
 use limits::GREATEST_AXIS;
-use std::alloc::{AllocError, Global};
+use std::alloc::Global;
 
 /// Quilting an output from the blocks of one picture.
 #[derive(Drop)]
@@ -50,28 +51,20 @@ fn rows() -> &'static [Row]
     &ROWS
 }
 
-// The job of the values of all keys.
-fn job_of(alloc: Global, settings: &[Setting]) -> Result<QuiltJob, AllocError>
-    requires { HasQuiltValues settings.now }
-    ensures { IfOk result (λ job. job ≡ quilt_of settings.now) }
-{
-    Ok(QuiltJob {
-        names: names_at(alloc, settings)?,
-        w: number_at(settings, Key::Width) as u32,
-        h: number_at(settings, Key::Height) as u32,
-        block: number_at(settings, Key::Block) as u32,
-        overlap: number_at(settings, Key::Overlap) as u32,
-        tol: number_at(settings, Key::Tol) as u32,
-        seed: number_at(settings, Key::Seed),
-    })
-}
-
 /// The job of the words after the command, or their first refusal.
-pub fn read_quilt(alloc: Global, words: &[Name]) -> Result<QuiltJob, WordFault>
-    ensures exact { by.AnswersAs (quilt_job_of words.now) result }
-    ensures lawful { IfOk result IsQuiltJob }
+pub fn read_quilt(alloc: Global, words: &[Name]) -> Result<Job, WordFault>
+    ensures exact { by.AnswersAs (quilt_asked words.now) result }
+    ensures lawful { IfOk result IsJob }
 {
     let settings = all_settings(alloc, rows(), words)?;
-    let job = job_of(alloc, &settings)?;
-    Ok(job)
+    let values: &[Setting] = &settings;
+    Ok(Job::Quilt(QuiltJob {
+        names: names_at(alloc, values)?,
+        w: number_at(values, Key::Width) as u32,
+        h: number_at(values, Key::Height) as u32,
+        block: number_at(values, Key::Block) as u32,
+        overlap: number_at(values, Key::Overlap) as u32,
+        tol: number_at(values, Key::Tol) as u32,
+        seed: number_at(values, Key::Seed),
+    }))
 }

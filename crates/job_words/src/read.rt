@@ -1,7 +1,7 @@
 // All words of a run, in the order in which their refusals are tried.
 ghost use Rattle.std.specs.Prelude.{◌≡◌, ◌⊎◌, ◌<◌, ◌++◌, ◌∷◌, [], Ok, Err, IfOk, IfErr, OnOk, length, option_copied};
 ghost use Rattle.job_words.specs.Words as by;
-ghost use Rattle.job_words.specs.Jobs.{IsJob, check_asked, grow_asked, job_of, loop_asked, merge_asked, quilt_asked, tile_asked, transfer_asked, trial_asked, upgrade_asked};
+ghost use Rattle.job_words.specs.Jobs.{IsJob, job_of, merge_asked, tile_asked, transfer_asked};
 
 use crate::check::read_check;
 use crate::grow::read_grow;
@@ -12,7 +12,7 @@ use crate::merge::read_merge;
 use crate::name::{Name, Words};
 use crate::quilt::read_quilt;
 use crate::settings::{Setting, Value, read_setting, value_at};
-use crate::table::{Choice, Need, Row};
+use crate::table::{Need, Row};
 use crate::tile::read_tile;
 use crate::transfer::read_transfer;
 use crate::trial::read_trial;
@@ -44,24 +44,17 @@ fn read_settings(alloc: Global, rows: &[Row], words: &[Name]) -> Result<Vec<Sett
     Ok(settings)
 }
 
-fn default_in(need: Need) -> Option<Choice>
-    ensures { result ≡ by.default_in need }
-{
-    match need {
-        Need::Default(choice) => Some(choice),
-        _ => None,
-    }
-}
-
 // The setting that a default makes.
 fn default_of(row: &Row) -> Option<Setting>
     ensures { result ≡ by.default_of row.now }
 {
-    let choice = default_in(row.need)?;
-    Some(Setting {
-        key: row.key,
-        value: Value::Chosen(choice),
-    })
+    match row.need {
+        Need::Default(choice) => Some(Setting {
+            key: row.key,
+            value: Value::Chosen(choice),
+        }),
+        _ => None,
+    }
 }
 
 // Puts the defaults after the settings of the words.
@@ -132,54 +125,6 @@ pub fn all_settings(alloc: Global, rows: &[Row], words: &[Name]) -> Result<Vec<S
     }
 }
 
-// The job of the words after `grow`.
-fn grow_asked(alloc: Global, words: &[Name]) -> Result<Job, WordFault>
-    ensures exact { by.AnswersAs (grow_asked words.now) result }
-    ensures lawful { IfOk result IsJob }
-{
-    Ok(Job::Grow(read_grow(alloc, words)?))
-}
-
-// The job of the words after `quilt`.
-fn quilt_asked(alloc: Global, words: &[Name]) -> Result<Job, WordFault>
-    ensures exact { by.AnswersAs (quilt_asked words.now) result }
-    ensures lawful { IfOk result IsJob }
-{
-    Ok(Job::Quilt(read_quilt(alloc, words)?))
-}
-
-// The job of the words after `loop`.
-fn loop_asked(alloc: Global, words: &[Name]) -> Result<Job, WordFault>
-    ensures exact { by.AnswersAs (loop_asked words.now) result }
-    ensures lawful { IfOk result IsJob }
-{
-    Ok(Job::Loop(read_loop(alloc, words)?))
-}
-
-// The job of the words after `check`.
-fn check_asked(alloc: Global, words: &[Name]) -> Result<Job, WordFault>
-    ensures exact { by.AnswersAs (check_asked words.now) result }
-    ensures lawful { IfOk result IsJob }
-{
-    Ok(Job::Check(read_check(alloc, words)?))
-}
-
-// The job of the words after `trial`.
-fn trial_asked(alloc: Global, words: &[Name]) -> Result<Job, WordFault>
-    ensures exact { by.AnswersAs (trial_asked words.now) result }
-    ensures lawful { IfOk result IsJob }
-{
-    Ok(Job::Trial(read_trial(alloc, words)?))
-}
-
-// The job of the words after `upgrade`.
-fn upgrade_asked(alloc: Global, words: &[Name]) -> Result<Job, WordFault>
-    ensures exact { by.AnswersAs (upgrade_asked words.now) result }
-    ensures lawful { IfOk result IsJob }
-{
-    Ok(Job::Upgrade(read_upgrade(alloc, words)?))
-}
-
 // The job of the words after `tile`.
 fn tile_asked(alloc: Global, words: &[Name]) -> Result<Job, WordFault>
     ensures exact { by.AnswersAs (tile_asked words.now) result }
@@ -215,12 +160,12 @@ pub fn read_job(alloc: Global, words: &Words) -> Result<Job, WordFault>
         return Err(WordFault::NoCommand);
     };
     match command.as_text() {
-        "grow" => grow_asked(alloc, words),
-        "quilt" => quilt_asked(alloc, words),
-        "loop" => loop_asked(alloc, words),
-        "check" => check_asked(alloc, words),
-        "trial" => trial_asked(alloc, words),
-        "upgrade" => upgrade_asked(alloc, words),
+        "grow" => read_grow(alloc, words),
+        "quilt" => read_quilt(alloc, words),
+        "loop" => read_loop(alloc, words),
+        "check" => read_check(alloc, words),
+        "trial" => read_trial(alloc, words),
+        "upgrade" => read_upgrade(alloc, words),
         "tile" => tile_asked(alloc, words),
         "merge" => merge_asked(alloc, words),
         "transfer" => transfer_asked(alloc, words),

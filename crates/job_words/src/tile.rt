@@ -1,9 +1,9 @@
 // The words of `tile`.
 ghost use Rattle.std.specs.Prelude.{◌≡◌, ◌<◌, IfOk};
 ghost use Rattle.job_words.specs.Words as by;
-ghost use Rattle.job_words.specs.TileWords.{HasTileValues, IsTileJob, is_narrow, narrow_axis, tile_job_of, tile_of, tile_plan, tile_rows, unless_narrow, wrap_nth};
+ghost use Rattle.job_words.specs.TileWords.{HasTileValues, IsTileJob, is_narrow, narrow_axis, tile_job_of, tile_plan, tile_rows, wrap_nth};
 
-use crate::fields::{name_at, nth_at, number_at, size_at};
+use crate::fields::{name_at, nth_at, number_at, size_at, two_names_at};
 use crate::job::WordFault;
 use crate::keys::Key;
 use crate::name::Name;
@@ -14,7 +14,7 @@ use crate::table::{
 };
 use cells::{Axis, Size};
 use limits::{GREATEST_AXIS, LEAST_WRAPPED_AXIS};
-use std::alloc::{AllocError, Global};
+use std::alloc::Global;
 
 /// The axes on which an output's edges meet.
 #[derive(Clone, Copy, Drop, PartialEq, Eq)]
@@ -101,21 +101,6 @@ fn plan_of(settings: &[Setting]) -> TilePlan
     }
 }
 
-// The job of the values of all keys.
-fn job_of(alloc: Global, settings: &[Setting]) -> Result<TileJob, AllocError>
-    requires { HasTileValues settings.now }
-    ensures { IfOk result (λ job. job ≡ tile_of settings.now) }
-{
-    Ok(TileJob {
-        sample: name_at(alloc, settings, Key::Sample)?,
-        out: name_at(alloc, settings, Key::Out)?,
-        map: name_at(alloc, settings, Key::Map)?,
-        size: size_at(settings),
-        plan: plan_of(settings),
-        seed: number_at(settings, Key::Seed),
-    })
-}
-
 fn is_narrow(wrapped: bool, n: u32) -> bool
     ensures { result ≡ is_narrow wrapped n }
 {
@@ -138,16 +123,6 @@ fn narrow_axis(wrap: Wrap, size: Size) -> Option<Axis>
     None
 }
 
-// The job, unless an axis is too narrow.
-fn unless_narrow(job: TileJob) -> Result<TileJob, WordFault>
-    ensures { result ≡ unless_narrow (narrow_axis job.plan.wrap job.size) job }
-{
-    match narrow_axis(job.plan.wrap, job.size) {
-        None => Ok(job),
-        Some(axis) => Err(WordFault::Narrow(axis)),
-    }
-}
-
 /// The job of the words after the command, or their first refusal. That an axis is too narrow is refused
 /// last, of the words alone.
 pub fn read_tile(alloc: Global, words: &[Name]) -> Result<TileJob, WordFault>
@@ -155,6 +130,19 @@ pub fn read_tile(alloc: Global, words: &[Name]) -> Result<TileJob, WordFault>
     ensures lawful { IfOk result IsTileJob }
 {
     let settings = all_settings(alloc, rows(), words)?;
-    let job = job_of(alloc, &settings)?;
-    unless_narrow(job)
+    let values: &[Setting] = &settings;
+    let size = size_at(values);
+    let plan = plan_of(values);
+    if let Some(axis) = narrow_axis(plan.wrap, size) {
+        return Err(WordFault::Narrow(axis));
+    }
+    let (out, map) = two_names_at(alloc, values, Key::Out, Key::Map)?;
+    Ok(TileJob {
+        sample: name_at(alloc, values, Key::Sample)?,
+        out,
+        map,
+        size,
+        plan,
+        seed: number_at(values, Key::Seed),
+    })
 }

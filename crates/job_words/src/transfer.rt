@@ -1,7 +1,7 @@
 // The words of `transfer`.
 ghost use Rattle.std.specs.Prelude.{◌≡◌, IfOk};
 ghost use Rattle.job_words.specs.Words as by;
-ghost use Rattle.job_words.specs.TransferWords.{HasTransferValues, IsTransferJob, transfer_job_of, transfer_of, transfer_rows};
+ghost use Rattle.job_words.specs.TransferWords.{IsTransferJob, transfer_job_of, transfer_rows};
 
 use crate::fields::{name_at, names_at, number_at};
 use crate::job::{Names, WordFault};
@@ -13,7 +13,7 @@ use crate::table::{
     Choice, Kind, Need, Row, block_row, file_row, number_row, overlap_row, seed_row, tol_row,
 };
 use limits::GREATEST_ALPHA;
-use std::alloc::{AllocError, Global};
+use std::alloc::Global;
 
 /// Painting a target picture with blocks of another one.
 #[derive(Drop)]
@@ -53,28 +53,20 @@ fn rows() -> &'static [Row]
     &ROWS
 }
 
-// The job of the values of all keys.
-fn job_of(alloc: Global, settings: &[Setting]) -> Result<TransferJob, AllocError>
-    requires { HasTransferValues settings.now }
-    ensures { IfOk result (λ job. job ≡ transfer_of settings.now) }
-{
-    Ok(TransferJob {
-        names: names_at(alloc, settings)?,
-        target: name_at(alloc, settings, Key::Target)?,
-        block: number_at(settings, Key::Block) as u32,
-        overlap: number_at(settings, Key::Overlap) as u32,
-        tol: number_at(settings, Key::Tol) as u32,
-        alpha: number_at(settings, Key::Alpha) as u32,
-        seed: number_at(settings, Key::Seed),
-    })
-}
-
 /// The job of the words after the command, or their first refusal.
 pub fn read_transfer(alloc: Global, words: &[Name]) -> Result<TransferJob, WordFault>
     ensures exact { by.AnswersAs (transfer_job_of words.now) result }
     ensures lawful { IfOk result IsTransferJob }
 {
     let settings = all_settings(alloc, rows(), words)?;
-    let job = job_of(alloc, &settings)?;
-    Ok(job)
+    let values: &[Setting] = &settings;
+    Ok(TransferJob {
+        target: name_at(alloc, values, Key::Target)?,
+        names: names_at(alloc, values)?,
+        block: number_at(values, Key::Block) as u32,
+        overlap: number_at(values, Key::Overlap) as u32,
+        tol: number_at(values, Key::Tol) as u32,
+        alpha: number_at(values, Key::Alpha) as u32,
+        seed: number_at(values, Key::Seed),
+    })
 }

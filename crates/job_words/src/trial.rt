@@ -1,11 +1,12 @@
 // The words of `trial`.
 ghost use Rattle.std.specs.Prelude.{◌≡◌, IfOk};
 ghost use Rattle.job_words.specs.Words as by;
-ghost use Rattle.job_words.specs.TrialWords.{HasTrialValues, IsTrialJob, trial_job_of, trial_of, trial_rows, trial_size};
+ghost use Rattle.job_words.specs.Jobs.{IsJob, trial_asked};
+ghost use Rattle.job_words.specs.TrialWords.{HasTrialValues, trial_rows, trial_size};
 
 use crate::fields::{nth_at, number_at};
 use crate::grow::{Place, place_nth};
-use crate::job::WordFault;
+use crate::job::{Job, WordFault};
 use crate::keys::Key;
 use crate::name::Name;
 use crate::read::all_settings;
@@ -63,28 +64,21 @@ fn size_at(settings: &[Setting]) -> Size
     }
 }
 
-// The job of the values of all keys.
-fn job_of(settings: &[Setting]) -> TrialJob
-    requires { HasTrialValues settings.now }
-    ensures { result ≡ trial_of settings.now }
-{
-    TrialJob {
-        n: number_at(settings, Key::N) as u32,
-        size: size_at(settings),
-        place: place_nth(nth_at(settings, Key::Place)),
-        side: number_at(settings, Key::Side) as u32,
-        overlap: number_at(settings, Key::Overlap) as u32,
-        tol: number_at(settings, Key::Tol) as u32,
-        rounds: number_at(settings, Key::Rounds) as u32,
-        seed: number_at(settings, Key::Seed),
-    }
-}
-
 /// The job of the words after the command, or their first refusal.
-pub fn read_trial(alloc: Global, words: &[Name]) -> Result<TrialJob, WordFault>
-    ensures exact { by.AnswersAs (trial_job_of words.now) result }
-    ensures lawful { IfOk result IsTrialJob }
+pub fn read_trial(alloc: Global, words: &[Name]) -> Result<Job, WordFault>
+    ensures exact { by.AnswersAs (trial_asked words.now) result }
+    ensures lawful { IfOk result IsJob }
 {
     let settings = all_settings(alloc, rows(), words)?;
-    Ok(job_of(&settings))
+    let values: &[Setting] = &settings;
+    Ok(Job::Trial(TrialJob {
+        n: number_at(values, Key::N) as u32,
+        size: size_at(values),
+        place: place_nth(nth_at(values, Key::Place)),
+        side: number_at(values, Key::Side) as u32,
+        overlap: number_at(values, Key::Overlap) as u32,
+        tol: number_at(values, Key::Tol) as u32,
+        rounds: number_at(values, Key::Rounds) as u32,
+        seed: number_at(values, Key::Seed),
+    }))
 }

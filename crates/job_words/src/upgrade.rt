@@ -1,16 +1,17 @@
 // The words of `upgrade`.
 ghost use Rattle.std.specs.Prelude.{◌≡◌, IfOk};
 ghost use Rattle.job_words.specs.Words as by;
-ghost use Rattle.job_words.specs.UpgradeWords.{HasUpgradeNames, IsUpgradeJob, upgrade_job_of, upgrade_of, upgrade_rows};
+ghost use Rattle.job_words.specs.Jobs.{IsJob, upgrade_asked};
+ghost use Rattle.job_words.specs.UpgradeWords.{upgrade_rows};
 
-use crate::fields::name_at;
-use crate::job::WordFault;
+use crate::fields::two_names_at;
+use crate::job::{Job, WordFault};
 use crate::keys::Key;
 use crate::name::Name;
 use crate::read::all_settings;
 use crate::settings::Setting;
 use crate::table::{Kind, Need, Row, file_row};
-use std::alloc::{AllocError, Global};
+use std::alloc::Global;
 
 /// Writing a map and a record of one sample in the form of those of several samples.
 #[derive(Drop)]
@@ -38,25 +39,19 @@ fn rows() -> &'static [Row]
     &ROWS
 }
 
-// The job of the values of all keys.
-fn job_of(alloc: Global, settings: &[Setting]) -> Result<UpgradeJob, AllocError>
-    requires { HasUpgradeNames settings.now }
-    ensures { IfOk result (λ job. job ≡ upgrade_of settings.now) }
-{
-    Ok(UpgradeJob {
-        map: name_at(alloc, settings, Key::Map)?,
-        record_file: name_at(alloc, settings, Key::Record)?,
-        new_map: name_at(alloc, settings, Key::NewMap)?,
-        new_record_file: name_at(alloc, settings, Key::NewRecord)?,
-    })
-}
-
 /// The job of the words after the command, or their first refusal.
-pub fn read_upgrade(alloc: Global, words: &[Name]) -> Result<UpgradeJob, WordFault>
-    ensures exact { by.AnswersAs (upgrade_job_of words.now) result }
-    ensures lawful { IfOk result IsUpgradeJob }
+pub fn read_upgrade(alloc: Global, words: &[Name]) -> Result<Job, WordFault>
+    ensures exact { by.AnswersAs (upgrade_asked words.now) result }
+    ensures lawful { IfOk result IsJob }
 {
     let settings = all_settings(alloc, rows(), words)?;
-    let job = job_of(alloc, &settings)?;
-    Ok(job)
+    let values: &[Setting] = &settings;
+    let (map, record_file) = two_names_at(alloc, values, Key::Map, Key::Record)?;
+    let (new_map, new_record_file) = two_names_at(alloc, values, Key::NewMap, Key::NewRecord)?;
+    Ok(Job::Upgrade(UpgradeJob {
+        map,
+        record_file,
+        new_map,
+        new_record_file,
+    }))
 }

@@ -4,15 +4,3 @@ use Rattle.job_words.proofs.fields.names_at.Goals as goal
 
 pub returns : goal.returns
 returns c = grind (arith, common_steps)
-
-pub same-result : goal.same-result
-same-result c = grind (arith, common_steps)
-
-pub same-result-2 : goal.same-result-2
-same-result-2 c = grind (arith, common_steps)
-
-pub same-result-3 : goal.same-result-3
-same-result-3 c = grind (arith, common_steps)
-
-pub same-result-4 : goal.same-result-4
-same-result-4 c = grind (arith, common_steps)

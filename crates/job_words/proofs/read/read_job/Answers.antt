@@ -14,33 +14,33 @@ returns-in_default-as_text-clause-exact c =
 
 pub returns-in-grow-clause-exact : goal.returns-in-grow-clause-exact
 returns-in-grow-clause-exact c =
-    answered (codes "grow") grow_asked (λ rest. refl) c.as_slice.result.now c.args.words.now _ c.grow_asked.result c.in-len1-up.len_at_least
-    (sym c.in-grow.is ∙ c.as_text.ensures ∙ c.command-item.is) c.as_slice.ensures c.grow_asked.ensures.exact
+    answered (codes "grow") grow_asked (λ rest. refl) c.as_slice.result.now c.args.words.now _ c.read_grow.result c.in-len1-up.len_at_least
+    (sym c.in-grow.is ∙ c.as_text.ensures ∙ c.command-item.is) c.as_slice.ensures c.read_grow.ensures.exact
 
 pub returns-in-quilt-clause-exact : goal.returns-in-quilt-clause-exact
 returns-in-quilt-clause-exact c =
-    answered (codes "quilt") quilt_asked (λ rest. refl) c.as_slice.result.now c.args.words.now _ c.quilt_asked.result c.in-len1-up.len_at_least
-    (sym c.in-quilt.is ∙ c.as_text.ensures ∙ c.command-item.is) c.as_slice.ensures c.quilt_asked.ensures.exact
+    answered (codes "quilt") quilt_asked (λ rest. refl) c.as_slice.result.now c.args.words.now _ c.read_quilt.result c.in-len1-up.len_at_least
+    (sym c.in-quilt.is ∙ c.as_text.ensures ∙ c.command-item.is) c.as_slice.ensures c.read_quilt.ensures.exact
 
 pub returns-in-loop-clause-exact : goal.returns-in-loop-clause-exact
 returns-in-loop-clause-exact c =
-    answered (codes "loop") loop_asked (λ rest. refl) c.as_slice.result.now c.args.words.now _ c.loop_asked.result c.in-len1-up.len_at_least
-    (sym c.in-loop.is ∙ c.as_text.ensures ∙ c.command-item.is) c.as_slice.ensures c.loop_asked.ensures.exact
+    answered (codes "loop") loop_asked (λ rest. refl) c.as_slice.result.now c.args.words.now _ c.read_loop.result c.in-len1-up.len_at_least
+    (sym c.in-loop.is ∙ c.as_text.ensures ∙ c.command-item.is) c.as_slice.ensures c.read_loop.ensures.exact
 
 pub returns-in-check-clause-exact : goal.returns-in-check-clause-exact
 returns-in-check-clause-exact c =
-    answered (codes "check") check_asked (λ rest. refl) c.as_slice.result.now c.args.words.now _ c.check_asked.result c.in-len1-up.len_at_least
-    (sym c.in-check.is ∙ c.as_text.ensures ∙ c.command-item.is) c.as_slice.ensures c.check_asked.ensures.exact
+    answered (codes "check") check_asked (λ rest. refl) c.as_slice.result.now c.args.words.now _ c.read_check.result c.in-len1-up.len_at_least
+    (sym c.in-check.is ∙ c.as_text.ensures ∙ c.command-item.is) c.as_slice.ensures c.read_check.ensures.exact
 
 pub returns-in-trial-clause-exact : goal.returns-in-trial-clause-exact
 returns-in-trial-clause-exact c =
-    answered (codes "trial") trial_asked (λ rest. refl) c.as_slice.result.now c.args.words.now _ c.trial_asked.result c.in-len1-up.len_at_least
-    (sym c.in-trial.is ∙ c.as_text.ensures ∙ c.command-item.is) c.as_slice.ensures c.trial_asked.ensures.exact
+    answered (codes "trial") trial_asked (λ rest. refl) c.as_slice.result.now c.args.words.now _ c.read_trial.result c.in-len1-up.len_at_least
+    (sym c.in-trial.is ∙ c.as_text.ensures ∙ c.command-item.is) c.as_slice.ensures c.read_trial.ensures.exact
 
 pub returns-in-upgrade-clause-exact : goal.returns-in-upgrade-clause-exact
 returns-in-upgrade-clause-exact c =
-    answered (codes "upgrade") upgrade_asked (λ rest. refl) c.as_slice.result.now c.args.words.now _ c.upgrade_asked.result c.in-len1-up.len_at_least
-    (sym c.in-upgrade.is ∙ c.as_text.ensures ∙ c.command-item.is) c.as_slice.ensures c.upgrade_asked.ensures.exact
+    answered (codes "upgrade") upgrade_asked (λ rest. refl) c.as_slice.result.now c.args.words.now _ c.read_upgrade.result c.in-len1-up.len_at_least
+    (sym c.in-upgrade.is ∙ c.as_text.ensures ∙ c.command-item.is) c.as_slice.ensures c.read_upgrade.ensures.exact
 
 pub returns-in-tile-clause-exact : goal.returns-in-tile-clause-exact
 returns-in-tile-clause-exact c =

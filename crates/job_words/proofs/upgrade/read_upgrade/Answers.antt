@@ -3,11 +3,20 @@ use Rattle.std.proofs.lemmas.Grind.{common_steps}
 use Rattle.job_words.proofs.UpgradeLawful.{upgrade_values, upgrade_lawful}
 use Rattle.job_words.proofs.upgrade.read_upgrade.Goals as goal
 
-pub job_of-requires : goal.job_of-requires
-job_of-requires c = upgrade_values c.rows.result.now c.args.words.now _ c.deref.result.now c.rows.ensures (c.in_ok-settings.ensures {u = tt}).ok c.deref.ensures.value
+pub two_names_at-requires-clause-first : goal.two_names_at-requires-clause-first
+two_names_at-requires-clause-first c = (upgrade_values c.rows.result.now c.args.words.now _ c.deref-values.result.now c.rows.ensures (c.in_ok-settings.ensures {u = tt}).ok c.deref-values.ensures.value).map
+
+pub two_names_at-requires-clause-second : goal.two_names_at-requires-clause-second
+two_names_at-requires-clause-second c = (upgrade_values c.rows.result.now c.args.words.now _ c.deref-values.result.now c.rows.ensures (c.in_ok-settings.ensures {u = tt}).ok c.deref-values.ensures.value).record_file
+
+pub two_names_at-requires-2-clause-first : goal.two_names_at-requires-2-clause-first
+two_names_at-requires-2-clause-first c = (upgrade_values c.rows.result.now c.args.words.now _ c.deref-values.result.now c.rows.ensures (c.in_ok-settings.ensures {u = tt}).ok c.deref-values.ensures.value).new_map
+
+pub two_names_at-requires-2-clause-second : goal.two_names_at-requires-2-clause-second
+two_names_at-requires-2-clause-second c = (upgrade_values c.rows.result.now c.args.words.now _ c.deref-values.result.now c.rows.ensures (c.in_ok-settings.ensures {u = tt}).ok c.deref-values.ensures.value).new_record_file
 
 pub returns-clause-lawful : goal.returns-clause-lawful
-returns-clause-lawful c = upgrade_lawful c.rows.result.now c.args.words.now _ c.deref.result.now c.rows.ensures (c.in_ok-settings.ensures {u = tt}).ok c.deref.ensures.value c.in_ok-job.job (c.in_ok-job.ensures {u = tt})
+returns-clause-lawful c = upgrade_lawful c.rows.result.now c.args.words.now _ c.deref-values.result.now c.rows.ensures (c.in_ok-settings.ensures {u = tt}).ok c.deref-values.ensures.value _ (grind (arith, common_steps))
 
 pub returns-clause-exact : goal.returns-clause-exact
 returns-clause-exact c = grind (arith, common_steps)

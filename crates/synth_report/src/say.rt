@@ -2,7 +2,7 @@
 ghost use Rattle.std.specs.Prelude.{◌≡◌, ◌≤◌, ◌++◌, OnOk, OnErr};
 ghost use Rattle.shelf_traits.specs.Files.{Told, Rose};
 ghost use Rattle.shelf_traits.specs.Written.{Says};
-ghost use Rattle.synth_report.specs.Texts.{axis_text, what_text, word_line, file_line, place_line, plain_line, words_line, form_line, limit_line, fault_line};
+ghost use Rattle.synth_report.specs.Texts.{axis_text, what_text, word_line, file_line, place_line, plain_line, words_line, form_line, fault_line};
 ghost use Rattle.synth_report.specs.Telling.{TellsText};
 
 use crate::fault::{Fault, FileOf};
@@ -96,35 +96,6 @@ fn tell_place<E: Sink>(file: FileOf, why: &str, at: u64, sink: &mut E) -> Result
     )
 }
 
-fn tell_missing<E: Sink>(key: Key, sink: &mut E) -> Result<(), WriteFault>
-    ensures { TellsText (words_line (WordFault.Missing key))
-        (E.state sink.old) (E.state sink.new) result }
-{
-    tell(
-        &[
-            Piece::Text("weave: missing key "),
-            Piece::Text(key.stem()),
-            Piece::Maybe(key.number()),
-            Piece::Text("\n"),
-        ],
-        sink,
-    )
-}
-
-fn tell_narrow<E: Sink>(axis: Axis, sink: &mut E) -> Result<(), WriteFault>
-    ensures { TellsText (words_line (WordFault.Narrow axis))
-        (E.state sink.old) (E.state sink.new) result }
-{
-    tell(
-        &[
-            Piece::Text("weave: wrapped axis "),
-            Piece::Text(text_of_axis(axis)),
-            Piece::Text(" under 3\n"),
-        ],
-        sink,
-    )
-}
-
 fn tell_words<E: Sink>(fault: WordFault, sink: &mut E) -> Result<(), WriteFault>
     ensures { TellsText (words_line fault) (E.state sink.old) (E.state sink.new) result }
 {
@@ -134,12 +105,27 @@ fn tell_words<E: Sink>(fault: WordFault, sink: &mut E) -> Result<(), WriteFault>
         WordFault::BadWord(i) => tell_word(i, "not key=value", sink),
         WordFault::UnknownKey(i) => tell_word(i, "unknown key", sink),
         WordFault::Repeated(i) => tell_word(i, "repeated key", sink),
-        WordFault::Missing(key) => tell_missing(key, sink),
+        WordFault::Missing(key) => tell(
+            &[
+                Piece::Text("weave: missing key "),
+                Piece::Text(key.stem()),
+                Piece::Maybe(key.number()),
+                Piece::Text("\n"),
+            ],
+            sink,
+        ),
         WordFault::BadValue(i) => tell_word(i, "bad value", sink),
         WordFault::OutOfRange(i) => tell_word(i, "out of range", sink),
         WordFault::SameName(i) => tell_word(i, "name already used", sink),
         WordFault::NoMemory => tell_plain("no memory", sink),
-        WordFault::Narrow(axis) => tell_narrow(axis, sink),
+        WordFault::Narrow(axis) => tell(
+            &[
+                Piece::Text("weave: wrapped axis "),
+                Piece::Text(text_of_axis(axis)),
+                Piece::Text(" under 3\n"),
+            ],
+            sink,
+        ),
     }
 }
 
@@ -157,38 +143,6 @@ fn tell_form<E: Sink>(file: FileOf, why: FormFault, sink: &mut E) -> Result<(), 
     }
 }
 
-fn tell_limit<E: Sink>(what: What, number: u64, bound: u64, sink: &mut E) -> Result<(), WriteFault>
-    ensures { TellsText (limit_line what number bound)
-        (E.state sink.old) (E.state sink.new) result }
-{
-    tell(
-        &[
-            Piece::Text("weave: limit "),
-            Piece::Text(text_of_what(what)),
-            Piece::Text(" "),
-            Piece::Number(number),
-            Piece::Text(" over "),
-            Piece::Number(bound),
-            Piece::Text("\n"),
-        ],
-        sink,
-    )
-}
-
-fn tell_no_loop<E: Sink>(length: u32, sink: &mut E) -> Result<(), WriteFault>
-    ensures { TellsText (fault_line (Fault.NoLoop length))
-        (E.state sink.old) (E.state sink.new) result }
-{
-    tell(
-        &[
-            Piece::Text("weave: no loop of length "),
-            Piece::Short(length),
-            Piece::Text("\n"),
-        ],
-        sink,
-    )
-}
-
 fn tell_fault<E: Sink>(fault: Fault, sink: &mut E) -> Result<(), WriteFault>
     ensures { TellsText (fault_line fault) (E.state sink.old) (E.state sink.new) result }
 {
@@ -201,11 +155,29 @@ fn tell_fault<E: Sink>(fault: Fault, sink: &mut E) -> Result<(), WriteFault>
             what,
             number,
             bound,
-        } => tell_limit(what, number, bound, sink),
+        } => tell(
+            &[
+                Piece::Text("weave: limit "),
+                Piece::Text(text_of_what(what)),
+                Piece::Text(" "),
+                Piece::Number(number),
+                Piece::Text(" over "),
+                Piece::Number(bound),
+                Piece::Text("\n"),
+            ],
+            sink,
+        ),
         Fault::Read(file) => tell_file(file, "read fault", sink),
         Fault::Write(file) => tell_file(file, "write fault", sink),
         Fault::NoMemory => tell_plain("no memory", sink),
-        Fault::NoLoop(length) => tell_no_loop(length, sink),
+        Fault::NoLoop(length) => tell(
+            &[
+                Piece::Text("weave: no loop of length "),
+                Piece::Short(length),
+                Piece::Text("\n"),
+            ],
+            sink,
+        ),
     }
 }
 

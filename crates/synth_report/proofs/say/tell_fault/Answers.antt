@@ -1,4 +1,5 @@
 use Rattle.std.proofs.Common.{◌≡◌}
+use Rattle.synth_report.specs.Texts.{what_text}
 use Rattle.synth_report.proofs.say.tell_fault.Goals as goal
 
 pub returns-in-Mark : goal.returns-in-Mark
@@ -7,7 +8,9 @@ returns-in-Mark g c =
     rw (c.in-Mark.is, ← same) c.tell_place.ensures
 
 pub returns-in-Limit : goal.returns-in-Limit
-returns-in-Limit g c = rw c.in-Limit.is c.tell_limit.ensures
+returns-in-Limit g c =
+    let same : c.text_of_what.result.now ≡ what_text c.in-Limit.what = c.text_of_what.ensures in
+    rw (c.in-Limit.is, ← same) c.tell.ensures
 
 pub returns-in-Read : goal.returns-in-Read
 returns-in-Read g c = rw c.in-Read.is c.tell_file-in-Read.ensures
@@ -19,4 +22,4 @@ pub returns-in-NoMemory : goal.returns-in-NoMemory
 returns-in-NoMemory g c = rw c.in-NoMemory.is c.tell_plain.ensures
 
 pub returns-in-NoLoop : goal.returns-in-NoLoop
-returns-in-NoLoop g c = rw c.in-NoLoop.is c.tell_no_loop.ensures
+returns-in-NoLoop g c = rw c.in-NoLoop.is c.tell-in-NoLoop.ensures

@@ -1,3 +1,6 @@
+use Rattle.std.proofs.Common.{◌≡◌}
+use Rattle.job_words.specs.Keys.{key_number, key_stem}
+use Rattle.synth_report.specs.Texts.{axis_text}
 use Rattle.synth_report.proofs.say.tell_words.Goals as goal
 
 pub returns-in-NoCommand : goal.returns-in-NoCommand
@@ -16,7 +19,10 @@ pub returns-in-Repeated : goal.returns-in-Repeated
 returns-in-Repeated g c = rw c.in-Repeated.is c.tell_word-in-Repeated.ensures
 
 pub returns-in-Missing : goal.returns-in-Missing
-returns-in-Missing g c = rw c.in-Missing.is c.tell_missing.ensures
+returns-in-Missing g c =
+    let stem : c.stem.result.now ≡ key_stem c.in-Missing.key = c.stem.ensures in
+    let number : c.number.result ≡ key_number c.in-Missing.key = c.number.ensures in
+    rw (c.in-Missing.is, ← stem, ← number) c.tell.ensures
 
 pub returns-in-BadValue : goal.returns-in-BadValue
 returns-in-BadValue g c = rw c.in-BadValue.is c.tell_word-in-BadValue.ensures
@@ -31,4 +37,6 @@ pub returns-in-NoMemory : goal.returns-in-NoMemory
 returns-in-NoMemory g c = rw c.in-NoMemory.is c.tell_plain-in-NoMemory.ensures
 
 pub returns-in-Narrow : goal.returns-in-Narrow
-returns-in-Narrow g c = rw c.in-Narrow.is c.tell_narrow.ensures
+returns-in-Narrow g c =
+    let same : c.text_of_axis.result.now ≡ axis_text c.in-Narrow.axis = c.text_of_axis.ensures in
+    rw (c.in-Narrow.is, ← same) c.tell-in-Narrow.ensures

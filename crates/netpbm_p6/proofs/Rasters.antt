@@ -10,7 +10,7 @@ use Rattle.shelf_traits.specs.declared.fault.ReadError.{ReadError}
 use Rattle.shelf_traits.specs.declared.fault.ReadError.TheVariants.{ReadFault, Bad, Limit, NoMemory}
 use Rattle.shelf_traits.specs.declared.fault.FormFault.TheVariants.{Form, Depth, Space, Cell, NoFrames, Sample, Trailing}
 use Rattle.netpbm_p6.specs.Reading.{IsFirstAbove, IsAboveIn, EndsShort, RasterRefuses, BeginsWith, GoesPast, FillsAs, StopsAs, IsRaster, RastersAs}
-use Rattle.shelf_traits.proofs.Sees.{Sees, sees_then, fault_later}
+use Rattle.shelf_traits.proofs.Sees.{Sees, sees_then, sees_weaker, fault_later}
 
 -- A read of the raster.
 
@@ -72,6 +72,12 @@ goes_past bytes raster start maxval want place whole begins more is = record {
 }
 
 -- a raster that something follows
+pub stops_there : (name : List ℕ) (end n : ℕ) (next : List ℕ) (a b : ShelfState) → length next ≡ 1 → n ≤ 0 → Sees a b (λ files. Reads (content_of files name) end next n) → StopsAs name end a b (Ok tt)
+stops_there name end n next a b one none read = sees_weaker (λ files. Reads (content_of files name) end next n) (λ files. length (content_of files name) ≤ end) a b (λ files reads. omega (arith, reads.count, one, none)) read
+
+pub goes_on : (name : List ℕ) (end n : ℕ) (next : List ℕ) (a b : ShelfState) → length next ≡ 1 → 0 < n → Sees a b (λ files. Reads (content_of files name) end next n) → StopsAs name end a b (Err (Bad (Trailing end)))
+goes_on name end n next a b one some read = (refl, sees_weaker (λ files. Reads (content_of files name) end next n) (λ files. end < length (content_of files name)) a b (λ files reads. omega (arith, reads.count, one, some)) read)
+
 pub stop_refused : {names : List (List ℕ)} (name : List ℕ) (start maxval end : ℕ) (size : Size) (raster : List ℕ) (e : ReadError) (a b c : ShelfState) → length raster ≡ 3 * cell_count size → end ≡ start + length raster
     → OnlyReads names a b → OnlyReads names b c → FillsAs name start maxval raster a b (Ok tt) → StopsAs name end b c (Err e) → RastersAs name start maxval size a c (Err e)
 stop_refused name start maxval end size raster ReadFault a b c whole is first second fills stops = fault_later name a b c first stops

@@ -2,7 +2,7 @@
 ghost use Rattle.std.specs.Prelude.{◌≡◌, ◌<◌, length, drop, IfOk, OnErr};
 ghost use Rattle.shelf_traits.specs.Files.{InFile, OnlyReadsFile, ReadsRose};
 ghost use Rattle.netpbm_p6.specs.Scanning.{IsOpenScan, IsSoundScanned, IsSoundHeader};
-ghost use Rattle.netpbm_p6.specs.Reading.{ScansOn, cut_at, past_of, HeadsAs, PassesAs, IsAllowed};
+ghost use Rattle.netpbm_p6.specs.Reading.{ScansOn, cut_at, past_of, HeadsAs, IsAllowed};
 
 use crate::scan::{Header, Scan, Scanned, scan_piece};
 use cells::Size;
@@ -60,19 +60,6 @@ fn past(scanned: Scanned) -> ReadError
     }
 }
 
-// The refusal of a file whose header is still open after `MOST_HEADER_BYTES` bytes.
-fn past_limit<S: Shelf>(shelf: &mut S, name: &str, scan: Scan) -> ReadError
-    requires { IsOpenScan scan }
-    ensures refusal { PassesAs name.now scan (S.state shelf.old) (S.state shelf.new) result }
-    ensures reads { OnlyReadsFile name.now (S.state shelf.old) (S.state shelf.new) }
-{
-    let mut next = [0u8; 1];
-    match scan_at(shelf, name, MOST_HEADER_BYTES, scan, &mut next) {
-        Err(Failed) => ReadError::ReadFault,
-        Ok(scanned) => past(scanned),
-    }
-}
-
 /// Reads the header of the named file, in pieces.
 pub fn read_header<S: Shelf>(shelf: &mut S, name: &str) -> Result<Header, ReadError>
     ensures header { HeadsAs name.now (S.state shelf.old) (S.state shelf.new) result }
@@ -94,7 +81,9 @@ pub fn read_header<S: Shelf>(shelf: &mut S, name: &str) -> Result<Header, ReadEr
             Scanned::Open(next) => scan = next,
         }
     }
-    Err(past_limit(shelf, name, scan))
+    let mut next = [0u8; 1];
+    let scanned = scan_at(shelf, name, MOST_HEADER_BYTES, scan, &mut next)?;
+    Err(past(scanned))
 }
 
 /// The size and the maxval of a header within the limits: the depth is tried first, then the width,

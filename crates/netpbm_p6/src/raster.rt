@@ -2,7 +2,7 @@
 ghost use Rattle.std.specs.Prelude.{◌≡◌, ◌≤◌, ◌<◌, ◌+◌, ◌*◌, ◌^◌, length, All, IfSome, IfNone, IfOk, OnOk, IsTrue, ◌↔◌, vec_len};
 ghost use Rattle.shelf_traits.specs.Files.{OnlyReadsFile};
 ghost use Rattle.cells.specs.Places.{IsSmall, cell_count};
-ghost use Rattle.netpbm_p6.specs.Reading.{IsFirstAbove, IsMadeOf, FillsAs, StopsAs, RastersAs};
+ghost use Rattle.netpbm_p6.specs.Reading.{IsFirstAbove, IsMadeOf, FillsAs, RastersAs};
 
 use cells::{Size, Volume};
 use limits::MOST_HEADER_BYTES;
@@ -55,18 +55,6 @@ fn fill<S: Shelf>(
     Ok(())
 }
 
-// The file has no byte from a place on.
-fn stop<S: Shelf>(shelf: &mut S, name: &str, end: u64) -> Result<(), ReadError>
-    ensures stops { StopsAs name.now end (S.state shelf.old) (S.state shelf.new) result }
-    ensures reads { OnlyReadsFile name.now (S.state shelf.old) (S.state shelf.new) }
-{
-    let mut next = [0u8; 1];
-    if shelf.get(name, end, &mut next)? > 0 {
-        return Err(ReadError::Bad(FormFault::Trailing(end)));
-    }
-    Ok(())
-}
-
 // A buffer for the cells of a size.
 fn room_for(alloc: Global, size: Size) -> Result<Vec<u8>, AllocError>
     requires { IsSmall size }
@@ -94,6 +82,10 @@ pub fn read_raster<S: Shelf>(
 {
     let mut raster = room_for(alloc, size)?;
     fill(shelf, name, start, maxval, &mut raster)?;
-    stop(shelf, name, start + raster.len() as u64)?;
+    let end = start + raster.len() as u64;
+    let mut next = [0u8; 1];
+    if shelf.get(name, end, &mut next)? > 0 {
+        return Err(ReadError::Bad(FormFault::Trailing(end)));
+    }
     Ok(Volume::from_bytes(size, 3, raster))
 }

@@ -5,7 +5,7 @@ use Rattle.shelf_traits.proofs.FileLaws.{only_reads_then}
 use Rattle.netpbm_p6.specs.Scanning.{IsSoundScanned}
 use Rattle.netpbm_p6.specs.Reading.{Reached}
 use Rattle.shelf_traits.proofs.Sees.{Sees}
-use Rattle.netpbm_p6.proofs.HeaderLaws.{header_broken, header_ended, header_more, passed}
+use Rattle.netpbm_p6.proofs.HeaderLaws.{header_broken, header_ended, header_more, passed, passes}
 use Rattle.netpbm_p6.proofs.header.read_header.Goals as goal
 
 pub returns-in-Broken-clause-header : goal.returns-in-Broken-clause-header
@@ -36,10 +36,10 @@ loop-piece-preserved g c =
 pub returns-clause-header : goal.returns-clause-header
 returns-clause-header g c =
     let all : c.loop-piece.piece * 4096 ≡ 65536 = omega arith in
-    passed c.args.name.now c.loop-piece.scan c.past_limit.result (g.S.Shelf.state c.args.shelf.now) (g.S.Shelf.state c.loop-piece.shelf) (g.S.Shelf.state c.past_limit.new.shelf)
-    c.loop-piece.invariant.reads c.past_limit.ensures.reads
+    passed c.args.name.now c.loop-piece.scan c.past.result (g.S.Shelf.state c.args.shelf.now) (g.S.Shelf.state c.loop-piece.shelf) (g.S.Shelf.state c.scan_at-2.new.shelf)
+    c.loop-piece.invariant.reads c.in_ok-scanned.ensures.reads
     (subst (λ n. Sees (g.S.Shelf.state c.args.shelf.now) (g.S.Shelf.state c.loop-piece.shelf) (λ files. Reached (content_of files c.args.name.now) n c.loop-piece.scan)) all c.loop-piece.invariant.reached)
-    c.past_limit.ensures.refusal
+    (passes c.args.name.now c.loop-piece.scan c.in_ok-scanned.scanned c.past.result (g.S.Shelf.state c.loop-piece.shelf) (g.S.Shelf.state c.scan_at-2.new.shelf) c.loop-piece.invariant.is_open c.in_ok-scanned.ensures.sound c.past.ensures c.in_ok-scanned.ensures.scanned)
 
 pub returns-in-Ended-clause-reads : goal.returns-in-Ended-clause-reads
 returns-in-Ended-clause-reads g c = grind (arith, common_steps)

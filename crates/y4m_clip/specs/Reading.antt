@@ -57,11 +57,6 @@ abbrev pub gathered : List ℕ → List ℕ → List (List ℕ)
 gathered word [] = flushed word []
 gathered word (b ∷ text) = gathered_on (line_kind b) word b (λ next. gathered next text)
 
--- tags and a word that has begun, before a byte and after it
-abbrev pub Gathers : List (List ℕ) → List ℕ → ℕ → List (List ℕ) → List ℕ → Type 0
-Gathers tags word b tags' word' = (text : List ℕ)
-    → tags' ++ gathered word' text ≡ tags ++ gathered word (b ∷ text)
-
 -- the file has this stream line
 pub record HasLine (bytes : List ℕ) (line : Line) : Type 0 where
   pub short : ShortLined bytes

@@ -133,19 +133,21 @@ pub fn read_frame<S: Shelf>(
     name: &str,
     at: u64,
     front: &Front,
-    planes: &mut [u8],
+    planes: &mut Vec<u8>,
     cells: &mut Vec<u8>,
 ) -> Result<Option<u64>, ReadError>
     requires at { at < 2 ^ 61 }
-    requires planes { length planes.old ≡
+    requires planes { length planes.old.items ≡
         samples_of front.now.form.space * (front.now.w * front.now.h) }
     requires few { front.now.w * front.now.h ≤ MOST_CELLS }
-    ensures frame { ReadsFrameAs front.now.form.space front.now.w front.now.h name.now at planes.new
-        (S.state shelf.old) (S.state shelf.new) result }
+    ensures frame { ReadsFrameAs front.now.form.space front.now.w front.now.h name.now at
+        planes.new.items (S.state shelf.old) (S.state shelf.new) result }
     ensures cells { IfOk result (λ next. cells.new.items ≡ grown_by cells.old.items
-        (frame_cells front.now.form.space front.now.w front.now.h planes.new) next) }
+        (frame_cells front.now.form.space front.now.w front.now.h planes.new.items) next) }
     ensures next { IfOk result (λ found. IfSome found
-        (λ next. next ≤ at + MOST_LINE_BYTES + length planes.new)) }
+        (λ next. next ≤ at + MOST_LINE_BYTES + length planes.new.items)) }
+    ensures planes { length planes.new.items ≡
+        samples_of front.now.form.space * (front.now.w * front.now.h) }
     ensures reads { OnlyReadsFile name.now (S.state shelf.old) (S.state shelf.new) }
 {
     let mut buffer = [0u8; LINE_ROOM];

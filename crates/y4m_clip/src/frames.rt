@@ -63,32 +63,6 @@ fn goes_on<S: Shelf>(shelf: &mut S, name: &str, at: u64) -> Result<bool, ReadErr
     }
 }
 
-// The frame at a place of the file, into a buffer for its planes.
-fn next_frame<S: Shelf>(
-    shelf: &mut S,
-    name: &str,
-    at: u64,
-    front: &Front,
-    planes: &mut Vec<u8>,
-    cells: &mut Vec<u8>,
-) -> Result<Option<u64>, ReadError>
-    requires at { at < 2 ^ 61 }
-    requires planes { length planes.old.items ≡
-        samples_of front.now.form.space * (front.now.w * front.now.h) }
-    requires few { front.now.w * front.now.h ≤ MOST_CELLS }
-    ensures frame { ReadsFrameAs front.now.form.space front.now.w front.now.h name.now at
-        planes.new.items (S.state shelf.old) (S.state shelf.new) result }
-    ensures cells { IfOk result (λ next. cells.new.items ≡ grown_by cells.old.items
-        (frame_cells front.now.form.space front.now.w front.now.h planes.new.items) next) }
-    ensures next { IfOk result (λ found. IfSome found
-        (λ next. next ≤ at + MOST_LINE_BYTES + length planes.new.items)) }
-    ensures planes { length planes.new.items ≡
-        samples_of front.now.form.space * (front.now.w * front.now.h) }
-    ensures reads { OnlyReadsFile name.now (S.state shelf.old) (S.state shelf.new) }
-{
-    read_frame(shelf, name, at, front, planes, cells)
-}
-
 /// A buffer for the planes of a frame of n cells.
 pub fn room_for(alloc: Global, space: SpaceKind, n: usize) -> Result<Vec<u8>, AllocError>
     requires { n ≤ MOST_CELLS }
@@ -117,7 +91,7 @@ pub fn read_frames<S: Shelf>(
     let mut bytes = Vec::new(alloc);
     let mut at = front.start;
     for count in 0..bound {
-        match next_frame(shelf, name, at, front, &mut planes, &mut bytes)? {
+        match read_frame(shelf, name, at, front, &mut planes, &mut bytes)? {
             Some(next) => at = next,
             None => return finish(bytes, count as u32),
         }

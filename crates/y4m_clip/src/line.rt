@@ -2,7 +2,7 @@
 ghost use Rattle.std.specs.Prelude.{◌≡◌, ◌≤◌, ◌<◌, ◌+◌, ◌++◌, length, take, IfOk, OnOk, []};
 ghost use Rattle.shelf_traits.specs.Files.{InFile, OnlyReadsFile};
 ghost use Rattle.y4m_clip.specs.Scanning.{IsSoundLine};
-ghost use Rattle.y4m_clip.specs.Reading.{Matches, IsStreamScanned, flushed, gathered, Gathers, line_limit, line_judged, FindsLineAs, IsLineOf, AreTags, LinesAs};
+ghost use Rattle.y4m_clip.specs.Reading.{Matches, IsStreamScanned, flushed, gathered, line_limit, line_judged, FindsLineAs, IsLineOf, AreTags, LinesAs};
 
 use crate::form::Tags;
 use crate::scan::{LineKind, ScannedLine, classify, scan_line};
@@ -109,29 +109,6 @@ fn flush(tags: &mut Vec<Items<u8>>, word: Vec<u8>) -> Result<(), AllocError>
     Ok(())
 }
 
-// One byte more of the line, after a word that has begun. It gives the word that has begun after it.
-fn gather(
-    alloc: Global,
-    tags: &mut Vec<Items<u8>>,
-    word: Vec<u8>,
-    byte: u8,
-) -> Result<Vec<u8>, AllocError>
-    ensures { IfOk result (λ next. Gathers tags.old.items word.items byte
-        tags.new.items next.items) }
-{
-    let mut word = word;
-    match classify(byte) {
-        LineKind::Ink => {
-            word.push(byte)?;
-            Ok(word)
-        }
-        _ => {
-            flush(tags, word)?;
-            Ok(Vec::new(alloc))
-        }
-    }
-}
-
 // The tags of what comes after the magic of a stream line.
 fn gather_all(alloc: Global, text: &[u8]) -> Result<Vec<Items<u8>>, AllocError>
     ensures { IfOk result (λ tags. tags.items ≡ gathered [] text.now) }
@@ -139,7 +116,13 @@ fn gather_all(alloc: Global, text: &[u8]) -> Result<Vec<Items<u8>>, AllocError>
     let mut tags = Vec::new(alloc);
     let mut word = Vec::new(alloc);
     for byte in text {
-        word = gather(alloc, &mut tags, word, *byte)?;
+        match classify(*byte) {
+            LineKind::Ink => word.push(*byte)?,
+            _ => {
+                flush(&mut tags, word)?;
+                word = Vec::new(alloc);
+            }
+        }
     }
     flush(&mut tags, word)?;
     Ok(tags)

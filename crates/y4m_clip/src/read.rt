@@ -1,40 +1,16 @@
 // Reading a clip.
-ghost use Rattle.std.specs.Prelude.{◌≡◌, ◌≤◌, IfOk};
-ghost use Rattle.cells.specs.Cells.{volume_of};
+ghost use Rattle.std.specs.Prelude.{◌≤◌, IfOk};
 ghost use Rattle.shelf_traits.specs.Files.{OnlyReadsFile};
-ghost use Rattle.y4m_clip.specs.Spaces.{samples_of};
 ghost use Rattle.y4m_clip.specs.Refusals.{ReadsClipAs, IsSoundClip};
-ghost use Rattle.y4m_clip.specs.Frames.{IsSoundFront, IsFilledSoFar, frames_size};
 
 use crate::form::Clip;
-use crate::frames::{Filled, read_frames};
-use crate::head::{Front, front_of};
+use crate::frames::read_frames;
+use crate::head::front_of;
 use crate::line::read_line;
 use cells::{Size, Volume};
 use limits::MOST_CELLS;
 use shelf_traits::{ReadError, Shelf};
 use std::alloc::Global;
-
-// The clip of a front and the cells of its frames.
-fn made_of(front: Front, filled: Filled, most: u64) -> Clip
-    requires sound { IsSoundFront front most }
-    requires filled { IsFilledSoFar front most filled }
-    ensures form { result.form ≡ front.form }
-    ensures volume { result.volume ≡
-        volume_of (frames_size front filled) (samples_of front.form.space) filled.bytes.items }
-    ensures clip { IsSoundClip most result }
-{
-    let size = Size {
-        w: front.w,
-        h: front.h,
-        f: filled.count,
-    };
-    let volume = Volume::from_bytes(size, front.form.space.samples(), filled.bytes);
-    Clip {
-        form: front.form,
-        volume,
-    }
-}
 
 /// Reads a clip of at most `most` cells from the named file, to the file's end.
 ///
@@ -59,6 +35,16 @@ pub fn read_clip<S: Shelf>(
 {
     let line = read_line(alloc, shelf, name)?;
     let front = front_of(alloc, &line, most)?;
+    drop(line);
     let filled = read_frames(alloc, shelf, name, &front, most)?;
-    Ok(made_of(front, filled, most))
+    let size = Size {
+        w: front.w,
+        h: front.h,
+        f: filled.count,
+    };
+    let volume = Volume::from_bytes(size, front.form.space.samples(), filled.bytes);
+    Ok(Clip {
+        form: front.form,
+        volume,
+    })
 }

@@ -1,9 +1,12 @@
 use Rattle.std.proofs.lemmas.Grind.{common_steps}
-use Rattle.std.proofs.Common.{◌≡◌, ◌*◌, ◌∙◌, ◌++◌, length, ap, arith, refl}
+use Rattle.std.proofs.Common.{◌≡◌, ◌≤◌, ◌+◌, ◌*◌, ◌∙◌, ◌++◌, length, ap, arith, sym, subst}
+use Rattle.std.specs.Prelude.{Ok, Err, Some}
+use Rattle.std.proofs.lemmas.List.{with_items_is}
 use Rattle.std.proofs.lemmas.Result.{err_from_is_err_and}
 use Rattle.shelf_traits.proofs.FileLaws.{only_reads_then}
 use Rattle.y4m_clip.specs.Spaces.{samples_of}
 use Rattle.y4m_clip.specs.Clips.{frame_cells}
+use Rattle.y4m_clip.specs.Frames.{ReadsFrameAs}
 use Rattle.y4m_clip.proofs.FramesLaws.{want_small}
 use Rattle.y4m_clip.proofs.FrameSteps.{line_refused, planes_refused, frame_read}
 use Rattle.y4m_clip.proofs.frame.read_frame.Goals as goal
@@ -12,22 +15,26 @@ pub returns-in_err-length-clause-frame : goal.returns-in_err-length-clause-frame
 returns-in_err-length-clause-frame g c =
     let p = err_from_is_err_and c.from_residual.result c.from_residual.ensures.1 in
     rw (p.1, p.2)
-    (line_refused c.args.front.now.form.space c.args.front.now.w c.args.front.now.h c.args.name.now c.args.at c.args.planes.now c.in_err-length.field-0.0 (g.S.Shelf.state c.args.shelf.now) (g.S.Shelf.state c.find_frame.new.shelf) c.in_err-length.ensures.found)
+    (line_refused c.args.front.now.form.space c.args.front.now.w c.args.front.now.h c.args.name.now c.args.at c.args.planes.now.items c.in_err-length.field-0.0 (g.S.Shelf.state c.args.shelf.now) (g.S.Shelf.state c.find_frame.new.shelf) c.in_err-length.ensures.found)
 
 pub returns-in_err-fill_planes-clause-frame : goal.returns-in_err-fill_planes-clause-frame
 returns-in_err-fill_planes-clause-frame g c =
     let p = err_from_is_err_and c.from_residual-in_err-fill_planes.result c.from_residual-in_err-fill_planes.ensures.1 in
     let found = rw c.in-Some.is at c.in_ok-length.ensures.found in
+    let items = with_items_is c.args.planes.now c.fill_planes.new.planes (omega arith) in
     rw (p.1, p.2)
+    (subst (λ planes. ReadsFrameAs c.args.front.now.form.space c.args.front.now.w c.args.front.now.h c.args.name.now c.args.at planes (g.S.Shelf.state c.args.shelf.now) (g.S.Shelf.state c.fill_planes.new.shelf) (Err c.in_err-fill_planes.field-0.0)) (sym items)
     (planes_refused c.args.front.now.form.space c.args.front.now.w c.args.front.now.h c.args.name.now c.args.at c.in-Some.length c.fill_planes.new.planes c.in_err-fill_planes.field-0.0
-    (g.S.Shelf.state c.args.shelf.now) (g.S.Shelf.state c.find_frame.new.shelf) (g.S.Shelf.state c.fill_planes.new.shelf) c.in_ok-length.ensures.reads c.in_err-fill_planes.ensures.reads found c.in_err-fill_planes.ensures.fills)
+    (g.S.Shelf.state c.args.shelf.now) (g.S.Shelf.state c.find_frame.new.shelf) (g.S.Shelf.state c.fill_planes.new.shelf) c.in_ok-length.ensures.reads c.in_err-fill_planes.ensures.reads found c.in_err-fill_planes.ensures.fills))
 
 pub returns-clause-frame : goal.returns-clause-frame
 returns-clause-frame g c =
     let found = rw c.in-Some.is at c.in_ok-length.ensures.found in
     let whole : length c.fill_planes.new.planes ≡ samples_of c.args.front.now.form.space * (c.args.front.now.w * c.args.front.now.h) = omega (arith, c.requires.planes) in
-    frame_read c.args.front.now.form.space c.args.front.now.w c.args.front.now.h c.args.name.now c.args.at c.in-Some.length _ c.fill_planes.new.planes
-    (g.S.Shelf.state c.args.shelf.now) (g.S.Shelf.state c.find_frame.new.shelf) (g.S.Shelf.state c.fill_planes.new.shelf) whole refl c.in_ok-length.ensures.reads c.in_ok-fill_planes.ensures.reads found c.in_ok-fill_planes.ensures.fills
+    let items = with_items_is c.args.planes.now c.fill_planes.new.planes (omega arith) in
+    subst (λ planes. ReadsFrameAs c.args.front.now.form.space c.args.front.now.w c.args.front.now.h c.args.name.now c.args.at planes (g.S.Shelf.state c.args.shelf.now) (g.S.Shelf.state c.fill_planes.new.shelf) (Ok (Some (c.args.at + c.in-Some.length + c.len-2.result)))) (sym items)
+    (frame_read c.args.front.now.form.space c.args.front.now.w c.args.front.now.h c.args.name.now c.args.at c.in-Some.length (c.args.at + c.in-Some.length + c.len-2.result) c.fill_planes.new.planes
+    (g.S.Shelf.state c.args.shelf.now) (g.S.Shelf.state c.find_frame.new.shelf) (g.S.Shelf.state c.fill_planes.new.shelf) whole (omega (arith, c.len-2.ensures, ap length items)) c.in_ok-length.ensures.reads c.in_ok-fill_planes.ensures.reads found c.in_ok-fill_planes.ensures.fills)
 
 pub find_frame-requires : goal.find_frame-requires
 find_frame-requires g c = omega (arith, c.requires.at)
@@ -44,7 +51,9 @@ fill_planes-requires g c =
     omega (arith, c.requires.at, c.requires.planes, short, want)
 
 pub add_frame-requires-clause-planes : goal.add_frame-requires-clause-planes
-add_frame-requires-clause-planes g c = omega (arith, c.requires.planes)
+add_frame-requires-clause-planes g c =
+    let items = with_items_is c.args.planes.now c.fill_planes.new.planes (omega arith) in
+    omega (arith, c.requires.planes, ap length items)
 
 pub add_frame-requires-clause-few : goal.add_frame-requires-clause-few
 add_frame-requires-clause-few g c = c.requires.few
@@ -53,15 +62,18 @@ pub overflow_add-result : goal.overflow_add-result
 overflow_add-result g c =
     let short = rw c.in-Some.is at c.in_ok-length.ensures.short in
     let want = want_small c.args.front.now.form.space (c.args.front.now.w * c.args.front.now.h) c.requires.few in
-    omega (arith, c.requires.at, c.requires.planes, short, want)
+    let items = with_items_is c.args.planes.now c.fill_planes.new.planes (omega arith) in
+    omega (arith, c.requires.at, c.requires.planes, short, want, ap length items)
 
 pub returns-clause-cells : goal.returns-clause-cells
-returns-clause-cells g c = c.in_ok-add_frame.ensures {u = tt} ∙ ap (λ cells. cells ++ frame_cells c.args.front.now.form.space c.args.front.now.w c.args.front.now.h c.fill_planes.new.planes) c.make_room.ensures
+returns-clause-cells g c =
+    c.in_ok-add_frame.ensures {u = tt} ∙ (λ i. c.make_room.ensures i ++ frame_cells c.args.front.now.form.space c.args.front.now.w c.args.front.now.h (c.deref.ensures.value i))
 
 pub returns-clause-next : goal.returns-clause-next
 returns-clause-next g c =
     let short = rw c.in-Some.is at c.in_ok-length.ensures.short in
-    omega (arith, short)
+    let items = with_items_is c.args.planes.now c.fill_planes.new.planes (omega arith) in
+    omega (arith, short, ap length items)
 
 pub returns-clause-reads : goal.returns-clause-reads
 returns-clause-reads g c = only_reads_then (g.S.Shelf.state c.args.shelf.now) (g.S.Shelf.state c.find_frame.new.shelf) (g.S.Shelf.state c.fill_planes.new.shelf) c.in_ok-length.ensures.reads c.in_ok-fill_planes.ensures.reads

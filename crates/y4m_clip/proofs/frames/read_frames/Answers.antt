@@ -25,16 +25,16 @@ pub returns-in_err-next-clause-frames : goal.returns-in_err-next-clause-frames
 returns-in_err-next-clause-frames g c =
     let p = err_from_is_err_and c.from_residual-in_err-next.result c.from_residual-in_err-next.ensures.1 in
     rw (p.1, p.2)
-    (frame_refused c.args.front.now.form.space c.args.front.now.w c.args.front.now.h c.args.front.now.start c.args.most c.args.name.now c.loop-count.count c.loop-count.at c.loop-count.bytes.items c.next_frame.new.planes.items c.in_err-next.field-0.0
-    (g.S.Shelf.state c.args.shelf.now) (g.S.Shelf.state c.loop-count.shelf) (g.S.Shelf.state c.next_frame.new.shelf) c.loop-count.invariant.reads c.in_err-next.ensures.reads
+    (frame_refused c.args.front.now.form.space c.args.front.now.w c.args.front.now.h c.args.front.now.start c.args.most c.args.name.now c.loop-count.count c.loop-count.at c.loop-count.bytes.items c.read_frame.new.planes.items c.in_err-next.field-0.0
+    (g.S.Shelf.state c.args.shelf.now) (g.S.Shelf.state c.loop-count.shelf) (g.S.Shelf.state c.read_frame.new.shelf) c.loop-count.invariant.reads c.in_err-next.ensures.reads
     (subst (λ n. c.loop-count.count < n) c.bound_of-bound.ensures c.loop-count-test.true) c.in_err-next.ensures.planes c.loop-count.invariant.seen c.in_err-next.ensures.frame)
 
 pub returns-in-None-clause-frames : goal.returns-in-None-clause-frames
 returns-in-None-clause-frames g c =
     let frame = rw c.in-None.is at c.in_ok-next.ensures.frame in
     let cells = rw c.in-None.is at c.in_ok-next.ensures.cells in
-    frames_end c.args.front.now.form.space c.args.front.now.w c.args.front.now.h c.args.front.now.start c.args.most c.args.name.now c.loop-count.count c.loop-count.at c.loop-count.bytes.items c.next_frame.new.cells c.finish.result
-    (g.S.Shelf.state c.args.shelf.now) (g.S.Shelf.state c.loop-count.shelf) (g.S.Shelf.state c.next_frame.new.shelf) c.loop-count.invariant.reads c.in_ok-next.ensures.reads c.finish.ensures cells c.loop-count.invariant.seen frame
+    frames_end c.args.front.now.form.space c.args.front.now.w c.args.front.now.h c.args.front.now.start c.args.most c.args.name.now c.loop-count.count c.loop-count.at c.loop-count.bytes.items c.read_frame.new.cells c.finish.result
+    (g.S.Shelf.state c.args.shelf.now) (g.S.Shelf.state c.loop-count.shelf) (g.S.Shelf.state c.read_frame.new.shelf) c.loop-count.invariant.reads c.in_ok-next.ensures.reads c.finish.ensures cells c.loop-count.invariant.seen frame
 
 pub loop-count-preserved : goal.loop-count-preserved
 loop-count-preserved g c =
@@ -43,10 +43,10 @@ loop-count-preserved g c =
     let next = rw c.in-Some.is at c.in_ok-next.ensures.next in
     let want = want_small c.args.front.now.form.space (c.args.front.now.w * c.args.front.now.h) (omega (arith, c.requires.cells, c.requires.most_fits)) in
     record {
-      reads = only_reads_then (g.S.Shelf.state c.args.shelf.now) (g.S.Shelf.state c.loop-count.shelf) (g.S.Shelf.state c.next_frame.new.shelf) c.loop-count.invariant.reads c.in_ok-next.ensures.reads;
-      seen = seen_more c.args.front.now.form.space c.args.front.now.w c.args.front.now.h c.args.front.now.start c.args.name.now c.loop-count.count c.loop-count.at c.in-Some.next c.loop-count.bytes.items c.next_frame.new.cells.items c.next_frame.new.planes.items
-          (g.S.Shelf.state c.args.shelf.now) (g.S.Shelf.state c.loop-count.shelf) (g.S.Shelf.state c.next_frame.new.shelf) c.loop-count.invariant.reads c.in_ok-next.ensures.reads c.loop-count.invariant.seen frame cells;
-      whole = whole_more c.args.front.now.form.space c.args.front.now.w c.args.front.now.h c.loop-count.count c.loop-count.bytes.items c.next_frame.new.cells.items c.next_frame.new.planes.items c.loop-count.invariant.whole cells;
+      reads = only_reads_then (g.S.Shelf.state c.args.shelf.now) (g.S.Shelf.state c.loop-count.shelf) (g.S.Shelf.state c.read_frame.new.shelf) c.loop-count.invariant.reads c.in_ok-next.ensures.reads;
+      seen = seen_more c.args.front.now.form.space c.args.front.now.w c.args.front.now.h c.args.front.now.start c.args.name.now c.loop-count.count c.loop-count.at c.in-Some.next c.loop-count.bytes.items c.read_frame.new.cells.items c.read_frame.new.planes.items
+          (g.S.Shelf.state c.args.shelf.now) (g.S.Shelf.state c.loop-count.shelf) (g.S.Shelf.state c.read_frame.new.shelf) c.loop-count.invariant.reads c.in_ok-next.ensures.reads c.loop-count.invariant.seen frame cells;
+      whole = whole_more c.args.front.now.form.space c.args.front.now.w c.args.front.now.h c.loop-count.count c.loop-count.bytes.items c.read_frame.new.cells.items c.read_frame.new.planes.items c.loop-count.invariant.whole cells;
       planes = c.in_ok-next.ensures.planes;
       place = omega (arith, next, want, c.in_ok-next.ensures.planes, c.loop-count.invariant.place);
     }
@@ -85,16 +85,16 @@ bound_of-bound-requires-clause-w g c = (c.requires.w_some, c.requires.w_fits)
 pub bound_of-bound-requires-clause-h : goal.bound_of-bound-requires-clause-h
 bound_of-bound-requires-clause-h g c = (c.requires.h_some, c.requires.h_fits)
 
-pub next_frame-requires-clause-at : goal.next_frame-requires-clause-at
-next_frame-requires-clause-at g c =
+pub read_frame-requires-clause-at : goal.read_frame-requires-clause-at
+read_frame-requires-clause-at g c =
     let few : c.bound_of-bound.result ≤ GREATEST_AXIS = subst (λ n. n ≤ GREATEST_AXIS) (sym c.bound_of-bound.ensures) (most_few c.args.front.now.w c.args.front.now.h c.args.most) in
     omega (arith, few, c.loop-count-test.true, c.loop-count.invariant.place)
 
-pub next_frame-requires-clause-planes : goal.next_frame-requires-clause-planes
-next_frame-requires-clause-planes g c = c.loop-count.invariant.planes
+pub read_frame-requires-clause-planes : goal.read_frame-requires-clause-planes
+read_frame-requires-clause-planes g c = c.loop-count.invariant.planes
 
-pub next_frame-requires-clause-few : goal.next_frame-requires-clause-few
-next_frame-requires-clause-few g c = omega (arith, c.requires.cells, c.requires.most_fits)
+pub read_frame-requires-clause-few : goal.read_frame-requires-clause-few
+read_frame-requires-clause-few g c = omega (arith, c.requires.cells, c.requires.most_fits)
 
 pub past-requires-clause-cells : goal.past-requires-clause-cells
 past-requires-clause-cells g c = omega (arith, c.requires.cells, c.requires.most_fits)
@@ -110,7 +110,7 @@ overflow_cast-count g c =
 pub returns-in-None-clause-filled : goal.returns-in-None-clause-filled
 returns-in-None-clause-filled g c =
     let cells = rw c.in-None.is at c.in_ok-next.ensures.cells in
-    filled_end c.args.front.now c.args.most c.loop-count.count c.next_frame.new.cells c.finish.result c.finish.ensures
+    filled_end c.args.front.now c.args.most c.loop-count.count c.read_frame.new.cells c.finish.result c.finish.ensures
     (subst (λ n. c.loop-count.count ≤ n) c.bound_of-bound.ensures (omega (arith, c.loop-count-test.true))) (ap length cells ∙ c.loop-count.invariant.whole)
 
 pub returns-in_err-goes_on-clause-frames : goal.returns-in_err-goes_on-clause-frames
@@ -121,10 +121,10 @@ returns-in_err-goes_on-clause-frames g c =
     (g.S.Shelf.state c.args.shelf.now) (g.S.Shelf.state c.loop-count.shelf) (g.S.Shelf.state c.goes_on.new.shelf) c.loop-count.invariant.reads c.in_err-goes_on.ensures.failed.0 c.in_err-goes_on.ensures.failed.1)
 
 pub returns-in-None-clause-reads : goal.returns-in-None-clause-reads
-returns-in-None-clause-reads g c = only_reads_then (g.S.Shelf.state c.args.shelf.now) (g.S.Shelf.state c.loop-count.shelf) (g.S.Shelf.state c.next_frame.new.shelf) c.loop-count.invariant.reads c.in_ok-next.ensures.reads
+returns-in-None-clause-reads g c = only_reads_then (g.S.Shelf.state c.args.shelf.now) (g.S.Shelf.state c.loop-count.shelf) (g.S.Shelf.state c.read_frame.new.shelf) c.loop-count.invariant.reads c.in_ok-next.ensures.reads
 
 pub returns-in_err-next-clause-reads : goal.returns-in_err-next-clause-reads
-returns-in_err-next-clause-reads g c = only_reads_then (g.S.Shelf.state c.args.shelf.now) (g.S.Shelf.state c.loop-count.shelf) (g.S.Shelf.state c.next_frame.new.shelf) c.loop-count.invariant.reads c.in_err-next.ensures.reads
+returns-in_err-next-clause-reads g c = only_reads_then (g.S.Shelf.state c.args.shelf.now) (g.S.Shelf.state c.loop-count.shelf) (g.S.Shelf.state c.read_frame.new.shelf) c.loop-count.invariant.reads c.in_err-next.ensures.reads
 
 pub returns-clause-reads : goal.returns-clause-reads
 returns-clause-reads g c = only_reads_then (g.S.Shelf.state c.args.shelf.now) (g.S.Shelf.state c.loop-count.shelf) (g.S.Shelf.state c.goes_on.new.shelf) c.loop-count.invariant.reads c.in_ok-goes_on.ensures.reads

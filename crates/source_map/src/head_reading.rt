@@ -124,8 +124,10 @@ fn read_magic<S: Shelf>(
 {
     let at = file.place();
     let mut piece = [0; 8];
-    file.take(&mut piece, shelf, name)?;
-    lawful_magic(piece, magic, at)
+    match file.take(&mut piece, shelf, name) {
+        Ok(()) => lawful_magic(piece, magic, at),
+        Err(error) => Err(error),
+    }
 }
 
 // Reads the version.
@@ -143,8 +145,10 @@ fn read_version<S: Shelf>(
     ensures reads { OnlyReadsFile name.now (S.state shelf.old) (S.state shelf.new) }
 {
     let at = file.place();
-    let n = file.u8(shelf, name)?;
-    lawful_version(n, versions, at)
+    match file.u8(shelf, name) {
+        Ok(n) => lawful_version(n, versions, at),
+        Err(error) => Err(error),
+    }
 }
 
 // Reads the kind.
@@ -164,8 +168,10 @@ fn read_kind<S: Shelf>(
     ensures reads { OnlyReadsFile name.now (S.state shelf.old) (S.state shelf.new) }
 {
     let at = file.place();
-    let n = file.u8(shelf, name)?;
-    lawful_kind(n, kinds, version, at)
+    match file.u8(shelf, name) {
+        Ok(n) => lawful_kind(n, kinds, version, at),
+        Err(error) => Err(error),
+    }
 }
 
 // Reads an axis.
@@ -183,8 +189,10 @@ pub(crate) fn read_axis<S: Shelf>(
     ensures reads { OnlyReadsFile name.now (S.state shelf.old) (S.state shelf.new) }
 {
     let at = file.place();
-    let n: u32 = file.number(shelf, name)?;
-    lawful_axis(n, at)
+    match file.number(shelf, name) {
+        Ok(n) => lawful_axis(n, at),
+        Err(error) => Err(error),
+    }
 }
 
 // Reads the count of the samples.
@@ -198,8 +206,10 @@ fn read_count<S: Shelf>(file: &mut FileReader, shelf: &mut S, name: &str) -> Res
     ensures reads { OnlyReadsFile name.now (S.state shelf.old) (S.state shelf.new) }
 {
     let at = file.place();
-    let n: u16 = file.number(shelf, name)?;
-    lawful_count(n, at)
+    match file.number(shelf, name) {
+        Ok(n) => lawful_count(n, at),
+        Err(error) => Err(error),
+    }
 }
 
 /// Reads a size: w, h, f, 4 bytes each. `Bad(Form)` comes at an axis that is 0 or within which the file ends,

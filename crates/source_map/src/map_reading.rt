@@ -101,8 +101,10 @@ fn read_same<S: Shelf>(
     ensures reads { OnlyReadsFile name.now (S.state shelf.old) (S.state shelf.new) }
 {
     let at = file.place();
-    let n: u32 = file.number(shelf, name)?;
-    lawful_same(n, wanted, at)
+    match file.number(shelf, name) {
+        Ok(n) => lawful_same(n, wanted, at),
+        Err(error) => Err(error),
+    }
 }
 
 // Reads a number below a bound.
@@ -122,8 +124,10 @@ fn read_below<S: Shelf>(
     ensures reads { OnlyReadsFile name.now (S.state shelf.old) (S.state shelf.new) }
 {
     let at = file.place();
-    let n: u16 = file.number(shelf, name)?;
-    lawful_below(n, bound, at)
+    match file.number(shelf, name) {
+        Ok(n) => lawful_below(n, bound, at),
+        Err(error) => Err(error),
+    }
 }
 
 // Reads the number of a sample.
@@ -142,8 +146,10 @@ fn read_part<S: Shelf>(
     ensures reads { OnlyReadsFile name.now (S.state shelf.old) (S.state shelf.new) }
 {
     let at = file.place();
-    let n: u16 = file.number(shelf, name)?;
-    lawful_part(n, count, at)
+    match file.number(shelf, name) {
+        Ok(n) => lawful_part(n, count, at),
+        Err(error) => Err(error),
+    }
 }
 
 // The place of three counts.
@@ -179,24 +185,6 @@ pub fn read_place<S: Shelf>(
     let y = read_below(file, size.h, shelf, name)?;
     let f = read_below(file, size.f, shelf, name)?;
     Ok(place_at(x, y, f))
-}
-
-// Reads the number of one of these samples.
-fn read_number<S: Shelf>(
-    file: &mut FileReader,
-    samples: &Sizes,
-    shelf: &mut S,
-    name: &str,
-) -> Result<u32, ReadError>
-    requires follows { Follows name.now (S.state shelf.old) file.old }
-    requires room { file.old.at + 2 < 2 ^ 63 }
-    ensures answer { ReadsFrom ⊥ name.now file.old.at (S.state shelf.old) (S.state shelf.new)
-        file.new (number_read w16 (part_rule (length samples.now))) result }
-    ensures within { IfOk result (λ n. (1 ≤ n) × (n ≤ length samples.now)) }
-    ensures place { OnOk result (file.new.at ≡ file.old.at + 2) }
-    ensures reads { OnlyReadsFile name.now (S.state shelf.old) (S.state shelf.new) }
-{
-    read_part(file, samples.len(), shelf, name)
 }
 
 // Reads a place in a sample.
@@ -245,8 +233,10 @@ fn read_place_source<S: Shelf>(
     ensures place { OnOk result (file.new.at ≡ file.old.at + 6) }
     ensures reads { OnlyReadsFile name.now (S.state shelf.old) (S.state shelf.new) }
 {
-    let from = read_place_in(file, samples, 1, shelf, name)?;
-    Ok(Some(from))
+    match read_place_in(file, samples, 1, shelf, name) {
+        Ok(from) => Ok(Some(from)),
+        Err(error) => Err(error),
+    }
 }
 
 // Reads the source of a cell, in version 2.
@@ -266,7 +256,7 @@ fn read_numbered_source<S: Shelf>(
     ensures place { OnOk result (file.new.at ≡ file.old.at + 8) }
     ensures reads { OnlyReadsFile name.now (S.state shelf.old) (S.state shelf.new) }
 {
-    let part = read_number(file, samples, shelf, name)?;
+    let part = read_part(file, samples.len(), shelf, name)?;
     let at = read_place_in(file, samples, part, shelf, name)?;
     Ok(Some(samples.stock(part, at)))
 }
@@ -460,8 +450,10 @@ fn read_value<S: Shelf>(
     ensures lawful { IfOk result IsMapFile }
     ensures reads { OnlyReadsFile name.now (S.state shelf.old) (S.state shelf.new) }
 {
-    let start = read_start(file, MAGIC, 2, 2, shelf, name)?;
-    read_body(alloc, file, start, shelf, name)
+    match read_start(file, MAGIC, 2, 2, shelf, name) {
+        Ok(start) => read_body(alloc, file, start, shelf, name),
+        Err(error) => Err(error),
+    }
 }
 
 /// Reads a map from the named file, of either kind and version, to the file's end. It takes memory as
@@ -498,8 +490,10 @@ fn read_version_one_value<S: Shelf>(
     ensures version { IfOk result IsVersionOneMap }
     ensures reads { OnlyReadsFile name.now (S.state shelf.old) (S.state shelf.new) }
 {
-    let start = read_start(file, MAGIC, 1, 1, shelf, name)?;
-    read_cells(alloc, file, Version::One, start.output, shelf, name)
+    match read_start(file, MAGIC, 1, 1, shelf, name) {
+        Ok(start) => read_cells(alloc, file, Version::One, start.output, shelf, name),
+        Err(error) => Err(error),
+    }
 }
 
 /// Reads a cell map of version 1 from the named file, to the file's end: as `read_map` does, but every

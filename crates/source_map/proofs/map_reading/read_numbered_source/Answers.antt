@@ -27,7 +27,7 @@ returns-in_err-part-clause-answer g c =
     let name = c.args.name.now in
     let p = err_from_is_err_and c.from_residual.result c.from_residual.ensures.1 in
     rw (p.1, p.2)
-    (first_stops ⊥ name c.args.file.now.at (number_read w16 (part_rule (length c.args.samples.now))) (λ (v0 : ℕ). chain (place_read (numbered_size c.args.samples.now v0)) (λ (v1 : At). end c.args.samples.now v0 v1)) (state c.args.shelf.now) (state c.read_number.new.shelf) c.read_number.new.file c.in_err-part.field-0.0 c.in_err-part.ensures.answer)
+    (first_stops ⊥ name c.args.file.now.at (number_read w16 (part_rule (length c.args.samples.now))) (λ (v0 : ℕ). chain (place_read (numbered_size c.args.samples.now v0)) (λ (v1 : At). end c.args.samples.now v0 v1)) (state c.args.shelf.now) (state c.read_part.new.shelf) c.read_part.new.file c.in_err-part.field-0.0 (subst (λ n. ReadsFrom ⊥ name c.args.file.now.at (state c.args.shelf.now) (state c.read_part.new.shelf) c.read_part.new.file (number_read w16 (part_rule n)) (Err c.in_err-part.field-0.0)) c.len.ensures.len c.in_err-part.ensures.answer))
 
 pub returns-in_err-at-clause-answer : goal.returns-in_err-at-clause-answer
 returns-in_err-at-clause-answer g c =
@@ -37,9 +37,9 @@ returns-in_err-at-clause-answer g c =
     let v0 : ℕ = c.in_ok-part.part in
     let ok0 = c.in_ok-part.ensures {u = tt} in
     rw (p.1, p.2)
-    (then_reads ⊥ name c.args.file.now.at (number_read w16 (part_rule (length c.args.samples.now))) (λ (v0 : ℕ). chain (place_read (numbered_size c.args.samples.now v0)) (λ (v1 : At). end c.args.samples.now v0 v1)) (state c.args.shelf.now) (state c.read_number.new.shelf) (state c.read_place_in.new.shelf) c.read_number.new.file c.read_place_in.new.file v0 (Err c.in_err-at.field-0.0)
-    ok0.reads c.in_err-at.ensures.reads ok0.answer
-    (first_stops ⊥ name c.read_number.new.file.at (place_read (numbered_size c.args.samples.now v0)) (λ (v1 : At). end c.args.samples.now v0 v1) (state c.read_number.new.shelf) (state c.read_place_in.new.shelf) c.read_place_in.new.file c.in_err-at.field-0.0 c.in_err-at.ensures.answer))
+    (then_reads ⊥ name c.args.file.now.at (number_read w16 (part_rule (length c.args.samples.now))) (λ (v0 : ℕ). chain (place_read (numbered_size c.args.samples.now v0)) (λ (v1 : At). end c.args.samples.now v0 v1)) (state c.args.shelf.now) (state c.read_part.new.shelf) (state c.read_place_in.new.shelf) c.read_part.new.file c.read_place_in.new.file v0 (Err c.in_err-at.field-0.0)
+    ok0.reads c.in_err-at.ensures.reads (subst (λ n. ReadsFrom ⊥ name c.args.file.now.at (state c.args.shelf.now) (state c.read_part.new.shelf) c.read_part.new.file (number_read w16 (part_rule n)) (Ok v0)) c.len.ensures.len ok0.answer)
+    (first_stops ⊥ name c.read_part.new.file.at (place_read (numbered_size c.args.samples.now v0)) (λ (v1 : At). end c.args.samples.now v0 v1) (state c.read_part.new.shelf) (state c.read_place_in.new.shelf) c.read_place_in.new.file c.in_err-at.field-0.0 c.in_err-at.ensures.answer))
 
 pub returns-clause-answer : goal.returns-clause-answer
 returns-clause-answer g c =
@@ -51,16 +51,16 @@ returns-clause-answer g c =
     let ok1 = c.in_ok-at.ensures {u = tt} in
     let value : Option At = Some (stock_place c.args.samples.now v0 v1) in
     subst (λ (v : Option At). ReadsFrom ⊥ name c.args.file.now.at (state c.args.shelf.now) (state c.read_place_in.new.shelf) c.read_place_in.new.file (chain (number_read w16 (part_rule (length c.args.samples.now))) (λ (v0 : ℕ). chain (place_read (numbered_size c.args.samples.now v0)) (λ (v1 : At). end c.args.samples.now v0 v1))) (Ok v)) (sym (ap Some c.stock.ensures))
-    (then_reads ⊥ name c.args.file.now.at (number_read w16 (part_rule (length c.args.samples.now))) (λ (v0 : ℕ). chain (place_read (numbered_size c.args.samples.now v0)) (λ (v1 : At). end c.args.samples.now v0 v1)) (state c.args.shelf.now) (state c.read_number.new.shelf) (state c.read_place_in.new.shelf) c.read_number.new.file c.read_place_in.new.file v0 (Ok value)
-    ok0.reads ok1.reads ok0.answer
-    (then_reads ⊥ name c.read_number.new.file.at (place_read (numbered_size c.args.samples.now v0)) (λ (v1 : At). end c.args.samples.now v0 v1) (state c.read_number.new.shelf) (state c.read_place_in.new.shelf) (state c.read_place_in.new.shelf) c.read_place_in.new.file c.read_place_in.new.file v1 (Ok value)
+    (then_reads ⊥ name c.args.file.now.at (number_read w16 (part_rule (length c.args.samples.now))) (λ (v0 : ℕ). chain (place_read (numbered_size c.args.samples.now v0)) (λ (v1 : At). end c.args.samples.now v0 v1)) (state c.args.shelf.now) (state c.read_part.new.shelf) (state c.read_place_in.new.shelf) c.read_part.new.file c.read_place_in.new.file v0 (Ok value)
+    ok0.reads ok1.reads (subst (λ n. ReadsFrom ⊥ name c.args.file.now.at (state c.args.shelf.now) (state c.read_part.new.shelf) c.read_part.new.file (number_read w16 (part_rule n)) (Ok v0)) c.len.ensures.len ok0.answer)
+    (then_reads ⊥ name c.read_part.new.file.at (place_read (numbered_size c.args.samples.now v0)) (λ (v1 : At). end c.args.samples.now v0 v1) (state c.read_part.new.shelf) (state c.read_place_in.new.shelf) (state c.read_place_in.new.shelf) c.read_place_in.new.file c.read_place_in.new.file v1 (Ok value)
     ok1.reads (only_reads_same (state c.read_place_in.new.shelf)) ok1.answer
     (made ⊥ name (state c.read_place_in.new.shelf) (state c.read_place_in.new.shelf) c.read_place_in.new.file value ok1.answer.follows)))
 
 pub returns-clause-reads : goal.returns-clause-reads
 returns-clause-reads g c =
     let state = g.S.Shelf.state in
-    only_reads_then (state c.args.shelf.now) (state c.read_number.new.shelf) (state c.read_place_in.new.shelf) (c.in_ok-part.ensures {u = tt}).reads (c.in_ok-at.ensures {u = tt}).reads
+    only_reads_then (state c.args.shelf.now) (state c.read_part.new.shelf) (state c.read_place_in.new.shelf) (c.in_ok-part.ensures {u = tt}).reads (c.in_ok-at.ensures {u = tt}).reads
 
 pub returns-clause-source : goal.returns-clause-source
 returns-clause-source g c = grind (arith, common_steps)

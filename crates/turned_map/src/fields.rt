@@ -107,8 +107,10 @@ pub(crate) fn read_magic<S: Shelf>(
 {
     let at = file.place();
     let mut piece = [0; 8];
-    file.take(&mut piece, shelf, name)?;
-    lawful_magic(piece, at)
+    match file.take(&mut piece, shelf, name) {
+        Ok(()) => lawful_magic(piece, at),
+        Err(error) => Err(error),
+    }
 }
 
 // Reads a version or a kind, of which one alone is taken.
@@ -126,8 +128,10 @@ pub(crate) fn read_mark<S: Shelf>(
     ensures reads { OnlyReadsFile name.now (S.state shelf.old) (S.state shelf.new) }
 {
     let at = file.place();
-    let n = file.u8(shelf, name)?;
-    lawful_mark(n, wanted, at)
+    match file.u8(shelf, name) {
+        Ok(n) => lawful_mark(n, wanted, at),
+        Err(error) => Err(error),
+    }
 }
 
 // Reads a number from 1 to another.
@@ -146,8 +150,10 @@ pub(crate) fn read_part<S: Shelf>(
     ensures reads { OnlyReadsFile name.now (S.state shelf.old) (S.state shelf.new) }
 {
     let at = file.place();
-    let n: u16 = file.number(shelf, name)?;
-    lawful_part(n, count, at)
+    match file.number(shelf, name) {
+        Ok(n) => lawful_part(n, count, at),
+        Err(error) => Err(error),
+    }
 }
 
 // Reads the number of a turn.
@@ -165,6 +171,8 @@ pub(crate) fn read_turn<S: Shelf>(
     ensures reads { OnlyReadsFile name.now (S.state shelf.old) (S.state shelf.new) }
 {
     let at = file.place();
-    let n: u16 = file.number(shelf, name)?;
-    lawful_turn(n, at)
+    match file.number(shelf, name) {
+        Ok(n) => lawful_turn(n, at),
+        Err(error) => Err(error),
+    }
 }

@@ -54,8 +54,10 @@ fn read_samples<S: Shelf>(
     ensures place { OnOk result (file.new.at ≤ file.old.at + 26) }
     ensures reads { OnlyReadsFile name.now (S.state shelf.old) (S.state shelf.new) }
 {
-    let count = read_part(file, MOST_TURNED, shelf, name)?;
-    read_sizes(file, count, shelf, name)
+    match read_part(file, MOST_TURNED, shelf, name) {
+        Ok(count) => read_sizes(file, count, shelf, name),
+        Err(error) => Err(error),
+    }
 }
 
 // Reads the sizes of the samples, and tries the limit on the output's cells.
@@ -230,8 +232,10 @@ fn read_value<S: Shelf>(
     ensures lawful { IfOk result IsTurnedFile }
     ensures reads { OnlyReadsFile name.now (S.state shelf.old) (S.state shelf.new) }
 {
-    let output = read_start(file, shelf, name)?;
-    read_body(alloc, file, output, shelf, name)
+    match read_start(file, shelf, name) {
+        Ok(output) => read_body(alloc, file, output, shelf, name),
+        Err(error) => Err(error),
+    }
 }
 
 /// Reads a map over turned samples from the named file, to the file's end. It takes memory as the sources

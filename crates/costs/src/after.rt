@@ -98,23 +98,6 @@ fn pair_after(after: &After, axis: Axis, at: Counts, i: usize, a: Option<At>) ->
     seam_of(after.sample, axis, a, b)
 }
 
-// Whether a cell costs nothing with the next ones along the three axes.
-fn all_cost_nothing(after: &After, at: Counts, i: usize) -> bool
-    requires counts { AreCounts after.now.placement.now.rect.size at.x at.y at.f }
-    requires index { i ≡ raster_index after.now.placement.now.rect.size at.x at.y at.f }
-    ensures { IsTrue result → pairs_at (distance after.now.sample.now)
-        (within_after after.now.map.now after.now.placement.now after.now.choice.now)
-        (cell_in after.now.placement.now.rect at.x at.y at.f) ≡ 0 }
-{
-    if !costs_nothing(after, Axis::X, at, i) {
-        return false;
-    }
-    if !costs_nothing(after, Axis::Y, at, i) {
-        return false;
-    }
-    costs_nothing(after, Axis::F, at, i)
-}
-
 // The costs of a cell of the box and the next one along each axis. Of most cells no source is read.
 fn pairs_after(after: &After, at: Counts, i: usize) -> u32
     requires counts { AreCounts after.now.placement.now.rect.size at.x at.y at.f }
@@ -124,7 +107,10 @@ fn pairs_after(after: &After, at: Counts, i: usize) -> u32
         (cell_in after.now.placement.now.rect at.x at.y at.f) }
     ensures small { result ≤ most_of_cell }
 {
-    if all_cost_nothing(after, at, i) {
+    if costs_nothing(after, Axis::X, at, i)
+        && costs_nothing(after, Axis::Y, at, i)
+        && costs_nothing(after, Axis::F, at, i)
+    {
         return 0;
     }
     let a = source_at(after, at, i);

@@ -58,14 +58,6 @@ fn is_filled_at(canvas: &Canvas, rect: &Box3, at: Counts) -> bool
     }
 }
 
-// Whether a cell of a box is filled, if it is marked.
-fn is_filled_if(canvas: &Canvas, rect: &Box3, marked: bool, at: Counts) -> bool
-    ensures { IsTrue result ↔ (marked ≡ true →
-        IsFilled canvas.now.map (cell_in rect.now at.x at.y at.f)) }
-{
-    !marked || is_filled_at(canvas, rect, at)
-}
-
 // Whether there is a mark for each cell of a placement's box, and each marked cell is filled.
 fn are_all_marks(canvas: &Canvas, placement: &Placement, held: &[bool]) -> bool
     requires { HasCells placement.now.rect.size }
@@ -77,7 +69,7 @@ fn are_all_marks(canvas: &Canvas, placement: &Placement, held: &[bool]) -> bool
     }
     let mut at = Counts::first();
     for i in 0..held.len() {
-        if !is_filled_if(canvas, &placement.rect, held[i], at) {
+        if held[i] && !is_filled_at(canvas, &placement.rect, at) {
             return false;
         }
         at = at.next(size);

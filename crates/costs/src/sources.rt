@@ -26,7 +26,7 @@ impl Sources for Map {
     }
 }
 
-/// A map, as far as a box goes.
+/// A map, as far as a box goes: a cell outside the box has no source.
 #[derive(Drop)]
 pub(crate) struct Within<'a> {
     /// The map.
@@ -35,18 +35,14 @@ pub(crate) struct Within<'a> {
     pub rect: Box3,
 }
 
-// The source of a cell of a box; none outside the box.
-fn source_within(map: &Map, rect: &Box3, p: At) -> Option<At>
-    ensures source { result ≡ map_within rect.now (map_at map.now) p }
-    ensures near { IfSome result IsSource }
-{
-    if rect.contains(p) { map.at(p) } else { None }
-}
-
 impl Sources for Within<'_> {
     ghost source_at = { λ s. map_within s.rect (map_at s.map.now) };
 
     fn source(&self, p: At) -> Option<At> {
-        source_within(self.map, &self.rect, p)
+        if self.rect.contains(p) {
+            self.map.at(p)
+        } else {
+            None
+        }
     }
 }

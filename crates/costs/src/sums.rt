@@ -7,7 +7,7 @@ ghost use Rattle.cells.specs.Places.{plus};
 ghost use Rattle.map_canvas.specs.Maps.{IsSource, map_at};
 ghost use Rattle.boxes.specs.Pairs.{AreCounts};
 ghost use Rattle.boxes.specs.Raster.{largest};
-ghost use Rattle.costs.specs.Costs.{most_of_cell, most_of_frame, most_of_pair, most_of_row, pair_at, pairs_at, pairs_of_box, pairs_of_frame, pairs_of_row, total_of, window_of};
+ghost use Rattle.costs.specs.Costs.{most_of_cell, most_of_frame, most_of_row, pairs_at, pairs_of_box, pairs_of_frame, pairs_of_row, total_of, window_of};
 
 use crate::intersection::intersection;
 use crate::pairs::seam_of;
@@ -27,26 +27,6 @@ fn next_source<S: Sources>(sources: &S, rect: &Box3, at: Counts, axis: Axis) -> 
 {
     let next = at.cell(rect).plus(axis.unit());
     sources.source(next)
-}
-
-// The cost of a cell of source `a` and the next one along an axis.
-fn pair<S: Sources>(
-    sources: &S,
-    sample: &Volume,
-    rect: &Box3,
-    at: Counts,
-    a: Option<At>,
-    axis: Axis,
-) -> u32
-    requires inside { HoldsBox largest rect.now.corner rect.now.size }
-    requires counts { AreCounts rect.now.size at.x at.y at.f }
-    requires source { a ≡ S.source_at sources.now (cell_in rect.now at.x at.y at.f) }
-    requires near { IfSome a IsSource }
-    ensures cost { result ≡ pair_at (distance sample.now) (S.source_at sources.now) axis
-        (cell_in rect.now at.x at.y at.f) }
-    ensures small { result ≤ most_of_pair }
-{
-    seam_of(sample, axis, a, next_source(sources, rect, at, axis))
 }
 
 // The costs of a cell of source `a` and the next one along each axis, of which that along X has source
@@ -70,9 +50,11 @@ fn pairs<S: Sources>(
         (cell_in rect.now at.x at.y at.f) }
     ensures small { result ≤ most_of_cell }
 {
+    let below = next_source(sources, rect, at, Axis::Y);
+    let later = next_source(sources, rect, at, Axis::F);
     seam_of(sample, Axis::X, a, next)
-        + pair(sources, sample, rect, at, a, Axis::Y)
-        + pair(sources, sample, rect, at, a, Axis::F)
+        + seam_of(sample, Axis::Y, a, below)
+        + seam_of(sample, Axis::F, a, later)
 }
 
 // The costs of a row. Its cells are asked for one after another, each once.

@@ -4,10 +4,11 @@ use mathlib.Core.Bool.{false≢true}
 use Rattle.map_canvas.specs.Choices.{box_cell}
 use Rattle.map_canvas.specs.Maps.{IsFilled}
 use Rattle.costs.proofs.MarkLaws.{cell_at, marked_filled, marks_if}
+use Rattle.costs.proofs.marks.are_all_marks.Goals.{else-held-i-via-then-held-i+else-not-is_filled_at, else-held-i-via-else-held-i}
 use Rattle.costs.proofs.marks.are_all_marks.Goals as goal
 
-pub returns-then-not-is_filled_if : goal.returns-then-not-is_filled_if
-returns-then-not-is_filled_if c = (
+pub returns-then-not-is_filled_at : goal.returns-then-not-is_filled_at
+returns-then-not-is_filled_at c = (
   λ false'. absurd (false≢true false'),
   λ marks.
       let m = c.args.canvas.now.map in
@@ -15,8 +16,8 @@ returns-then-not-is_filled_if c = (
       let i = c.loop-i.i in
       let at = c.loop-i.at in
       let count = c.has_count.ensures.0 c.if-not-has_count.false in
-      absurd (false≢true (sym c.if-not-is_filled_if.true ∙ c.is_filled_if.ensures.1
-      (λ marked. subst (IsFilled m) (cell_at placement i at.x at.y at.f c.loop-i.invariant.at) (marked_filled m placement c.args.held.now i c.requires (omega arith) marks marked)))),
+      absurd (false≢true (sym c.if-not-is_filled_at.true ∙ c.is_filled_at.ensures.1
+      (subst (IsFilled m) (cell_at placement i at.x at.y at.f c.loop-i.invariant.at) (marked_filled m placement c.args.held.now i c.requires (omega arith) marks c.if-held-i.true)))),
 )
 
 pub loop-i-preserved : goal.loop-i-preserved
@@ -28,7 +29,10 @@ loop-i-preserved c =
     record {
       at = c.next-at.ensures i c.loop-i.invariant.at;
       each = below_more (λ k. get_or c.args.held.now k false ≡ true → IsFilled m (box_cell placement k)) i c.loop-i.invariant.each
-          (λ marked. subst (IsFilled m) (sym (cell_at placement i at.x at.y at.f c.loop-i.invariant.at)) (c.is_filled_if.ensures.0 c.if-not-is_filled_if.false marked));
+          (λ marked. elim c.else-held-i.branch [
+            | else-held-i-via-then-held-i+else-not-is_filled_at w ↦ subst (IsFilled m) (sym (cell_at placement i at.x at.y at.f c.loop-i.invariant.at)) (w.is_filled_at.ensures.0 w.if-not-is_filled_at.false)
+            | else-held-i-via-else-held-i w ↦ absurd (false≢true (sym w.if-held-i.false ∙ marked))
+          ]);
     }
 
 pub returns : goal.returns

@@ -1,5 +1,5 @@
 -- What leaves the cells that have to stay old is one sum, and there is one for each record.
-use Rattle.std.proofs.Common.{◌≡◌, ◌≤◌, ◌*◌, ℕ, zero, suc, refl, arith, rules, ⊎_elim, ◌⊎◌, inl, inr, Bool, true, false, List, neg_ℤ}
+use Rattle.std.proofs.Common.{◌≡◌, ◌≤◌, ◌+◌, ◌*◌, ℕ, zero, suc, refl, arith, rules, ⊎_elim, ◌⊎◌, inl, inr, Bool, true, false, List, neg_ℤ}
 use Rattle.std.proofs.lemmas.Int.{ints}
 use Rattle.std.specs.Prelude.{ℤ, pos, negsuc, ◌+ℤ◌, ◌-ℤ◌, ◌≤ℤ◌, FitsSigned}
 use Rattle.std.specs.Int.{w64}
@@ -45,6 +45,14 @@ sum_fits n sum part few low high part_low part_high = small (sum +ℤ part) (ome
   where
     small : (z : ℤ) → neg_ℤ (pos 1000000000000000) ≤ℤ z → z ≤ℤ pos 1000000000000000 → FitsSigned w64 z
     small z from to = search rules
+
+-- and the bounds grow with it
+pub low_more : (n : ℕ) (sum part : ℤ) → neg_ℤ (pos (most_leaving * n)) ≤ℤ sum → neg_ℤ (pos most_leaving) ≤ℤ part
+    → neg_ℤ (pos (most_leaving * (n + 1))) ≤ℤ (sum +ℤ part)
+low_more n sum part low part_low = omega (arith, ints, low, part_low)
+
+pub high_more : (n : ℕ) (sum part : ℤ) → sum ≤ℤ pos (most_leaving * n) → part ≤ℤ pos most_leaving → (sum +ℤ part) ≤ℤ pos (most_leaving * (n + 1))
+high_more n sum part high part_high = omega (arith, ints, high, part_high)
 
 -- whether a cell has to stay old is decided
 abbrev Sure : Type 0 → Type 0

@@ -1,10 +1,9 @@
 // The rules of the choice: each unfilled cell is new, and no cell that has to stay old.
-ghost use Rattle.std.specs.Prelude.{◌≡◌, ◌<◌, ◌+◌, ◌*◌, ◌↔◌, IfNone, IfSome, IsTrue, None, slice_index_or, true, false, []};
+ghost use Rattle.std.specs.Prelude.{◌≡◌, ◌<◌, ◌+◌, ◌*◌, ◌↔◌, IfNone, IfSome, IsTrue, None, slice_index_or, false, []};
 ghost use Rattle.cells.specs.Cells.{Cells};
 ghost use Rattle.cells.specs.Firsts.{Each};
 ghost use Rattle.cells.specs.Places.{cell_count};
 ghost use Rattle.map_canvas.specs.Choices.{box_cell};
-ghost use Rattle.map_canvas.specs.Maps.{map_at};
 ghost use Rattle.costs.specs.Lawful.{StaysOld};
 ghost use Rattle.cut_check.specs.Records.{FillsAll, IsFirstNotOld, IsFirstUnfilled, LeavesAllOld, setting};
 ghost use Rattle.cut_check.specs.Steps.{IsAt, IsRow, KeepsOld, LiesIn};
@@ -51,13 +50,6 @@ pub fn stays_old(
     is_marked(held, i) || is_kept_at(canvas, &placement.rect, at, p)
 }
 
-// Rule 2 at a cell.
-fn fills_unfilled(map: &Map, choice: &[bool], i: usize, p: At) -> bool
-    ensures { IsTrue result ↔ (map_at map.now p ≡ None → slice_index_or choice.now i false ≡ true) }
-{
-    is_marked(choice, i) || map.at(p).is_some()
-}
-
 /// Rule 2: the index of the first unfilled cell of the box that isn't new.
 pub fn first_unfilled(map: &Map, cut: &CutRecord) -> Option<usize>
     requires lies { LiesIn map.now cut.now.placement }
@@ -69,32 +61,13 @@ pub fn first_unfilled(map: &Map, cut: &CutRecord) -> Option<usize>
     let choice = cut.choice.as_slice();
     let mut at = Counts::first();
     for i in 0..size.cells() {
-        if !fills_unfilled(map, choice, i, box_cell(map, &cut.placement, i, at)) {
+        let p = box_cell(map, &cut.placement, i, at);
+        if !is_marked(choice, i) && map.at(p).is_none() {
             return Some(i);
         }
         at = at.next(size);
     }
     None
-}
-
-// Rule 3 at a cell.
-fn leaves_old(
-    canvas: &Canvas,
-    placement: &Placement,
-    choice: &[bool],
-    held: &[bool],
-    i: usize,
-    at: Counts,
-    p: At,
-) -> bool
-    requires lies { LiesIn canvas.now.map placement.now }
-    requires here { IsAt placement.now.rect.size i at }
-    requires below { i < cell_count placement.now.rect.size }
-    requires cell { p ≡ box_cell placement.now i }
-    ensures { IsTrue result ↔ (StaysOld canvas.now.map placement.now held.now p →
-        slice_index_or choice.now i false ≡ false) }
-{
-    !is_marked(choice, i) || !stays_old(canvas, placement, held, i, at, p)
 }
 
 // The index of the first cell of a row that has to stay old and is new, where no cell of the rows before is.
@@ -115,7 +88,7 @@ fn first_new_of_row(canvas: &Canvas, cut: &CutRecord, held: &[bool], row: u32) -
     for i in start..start + w {
         let at = cell_of_row(size, row, i);
         let p = box_cell(canvas.map(), &cut.placement, i, at);
-        if !leaves_old(canvas, &cut.placement, choice, held, i, at, p) {
+        if is_marked(choice, i) && stays_old(canvas, &cut.placement, held, i, at, p) {
             return Some(i);
         }
     }

@@ -1,7 +1,7 @@
-use Rattle.std.proofs.Common.{◌≡◌, ◌<◌, ◌+◌, ◌*◌, ◌/◌, ◌%◌, ◌≤◌, ◌∙◌, refl, ap, arith, below_more, w64, to_z, of_z, rules, sym, subst}
+use Rattle.std.proofs.Common.{◌≡◌, ◌<◌, ◌+◌, ◌*◌, ◌/◌, ◌%◌, ◌≤◌, ◌∙◌, refl, ap, arith, below_more, w64, to_z, of_z, neg_ℤ, rules, sym, subst}
 use Rattle.std.proofs.lemmas.Int.{ints, to_z-of_z}
 use mathlib.Core.Bool.{false≢true}
-use Rattle.std.specs.Prelude.{pos, ◌≤ℤ◌}
+use Rattle.std.specs.Prelude.{pos, ◌+ℤ◌, ◌≤ℤ◌}
 use Rattle.limits.specs.declared.bounds.TheConstants.{MOST_CELLS}
 use Rattle.cells.specs.Places.{cell_count}
 use Rattle.boxes.specs.Pairs.{at_index, pairs_before}
@@ -15,7 +15,7 @@ use Rattle.costs.specs.Lawful.{StaysOld}
 use Rattle.cut_check.specs.Flows.{leaving}
 use Rattle.cut_check.specs.Records.{IsBalanced, setting}
 use Rattle.cut_check.proofs.Cells.{counts_in}
-use Rattle.cut_check.proofs.Parts.{one_part, sum_fits}
+use Rattle.cut_check.proofs.Parts.{high_more, low_more, one_part, sum_fits}
 use Rattle.cut_check.proofs.RowCells.{row_ends}
 use mir.Val.{SFits}
 use Rattle.cut_check.specs.Steps.{most_leaving}
@@ -72,6 +72,8 @@ loop-i-preserved c =
     let i = c.loop-i.i in
     let was = c.loop-i.invariant in
     let below : i < cell_count size = omega (arith, row_ends size c.args.row c.requires.row, c.loop-i-test.true) in
+    let more = to_z w64 c.loop-i.sum-bits +ℤ c.in-Some.part in
+    let added : to_z w64 (of_z w64 (to_z w64 c.loop-i.sum-bits +ℤ to_z w64 (of_z w64 c.from-sum.result))) ≡ more = omega (arith, ints, c.in-Some.ensures.near) in
     record {
       from = omega (arith, was.from);
       few = was.few;
@@ -82,9 +84,9 @@ loop-i-preserved c =
           let old = StaysOld m cut.placement held (box_cell cut.placement i) in
           let same = one_part old (at_index size (leaving size cut.flows) i) c.in-Some.part (at_index size part i) c.in-Some.ensures.part
           (parts (i % size.w) (i / size.w % size.h) (i / size.w / size.h) at.counts) in
-          omega (arith, ints, sum_more integers i (at_index size part), was.sum sample part parts, same, c.in-Some.ensures.near);
-      low = omega (arith, ints, c.in-Some.ensures.near);
-      high = omega (arith, ints, c.in-Some.ensures.near);
+          added ∙ (let e : more ≡ signed_sum_to (i + 1) (at_index size part) = omega (arith, ints, sum_more integers i (at_index size part), was.sum sample part parts, same) in e);
+      low = subst (λ z. neg_ℤ (pos (most_leaving * (i + 1))) ≤ℤ z) (sym added) (low_more i (to_z w64 c.loop-i.sum-bits) c.in-Some.part was.low c.in-Some.ensures.near.0);
+      high = subst (λ z. z ≤ℤ pos (most_leaving * (i + 1))) (sym added) (high_more i (to_z w64 c.loop-i.sum-bits) c.in-Some.part was.high c.in-Some.ensures.near.1);
     }
 
 pub returns-clause-summed : goal.returns-clause-summed

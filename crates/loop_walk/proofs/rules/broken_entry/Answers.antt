@@ -116,3 +116,9 @@ fill_rest_table-requires-clause-nears c = grind (arith, common_steps)
 
 pub slice_bounds-fill_rest_table-end : goal.slice_bounds-fill_rest_table-end
 slice_bounds-fill_rest_table-end c = grind (arith, common_steps)
+
+pub broken_in_row-requires-clause-nears : goal.broken_in_row-requires-clause-nears
+broken_in_row-requires-clause-nears c = grind (arith, common_steps)
+
+pub broken_in_row-requires-clause-rests : goal.broken_in_row-requires-clause-rests
+broken_in_row-requires-clause-rests c = grind (arith, common_steps)

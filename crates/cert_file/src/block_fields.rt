@@ -71,8 +71,10 @@ fn read_spot<S: Shelf>(file: &mut FileReader, shelf: &mut S, name: &str) -> Resu
 {
     let at = file.place();
     let mut piece = [0; 4];
-    file.take(&mut piece, shelf, name)?;
-    spot_of(piece, at)
+    match file.take(&mut piece, shelf, name) {
+        Ok(()) => spot_of(piece, at),
+        Err(error) => Err(error),
+    }
 }
 
 // Reads the size of a block, after boxes of so many cells.
@@ -107,8 +109,10 @@ fn read_flags<S: Shelf>(file: &mut FileReader, shelf: &mut S, name: &str) -> Res
     ensures reads { OnlyReadsFile name.now (S.state shelf.old) (S.state shelf.new) }
 {
     let at = file.place();
-    let n = file.u8(shelf, name)?;
-    lawful_flags(n, at)
+    match file.u8(shelf, name) {
+        Ok(n) => lawful_flags(n, at),
+        Err(error) => Err(error),
+    }
 }
 
 // Reads what a block record begins with, after boxes of so many cells.
@@ -154,8 +158,10 @@ fn read_cols<S: Shelf>(
     ensures reads { OnlyReadsFile name.now (S.state shelf.old) (S.state shelf.new) }
 {
     let at = file.place();
-    let n: u16 = file.number(shelf, name)?;
-    lawful_cols(n, most, at)
+    match file.number(shelf, name) {
+        Ok(n) => lawful_cols(n, most, at),
+        Err(error) => Err(error),
+    }
 }
 
 // Reads a boundary through a strip of so many strip rows, and of so many strip columns at most.

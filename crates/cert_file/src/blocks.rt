@@ -191,8 +191,10 @@ fn read_side<S: Shelf>(
     ensures reads { OnlyReadsFile name.now (S.state shelf.old) (S.state shelf.new) }
 {
     if present {
-        let boundary = read_boundary(alloc, file, rows, most, shelf, name)?;
-        Ok(Some(boundary))
+        match read_boundary(alloc, file, rows, most, shelf, name) {
+            Ok(boundary) => Ok(Some(boundary)),
+            Err(error) => Err(error),
+        }
     } else {
         Ok(None)
     }

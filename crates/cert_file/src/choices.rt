@@ -118,6 +118,8 @@ pub(crate) fn read_choice<S: Shelf>(
     ensures reads { OnlyReadsFile name.now (S.state shelf.old) (S.state shelf.new) }
 {
     let at = file.place();
-    let bits = read_bits(alloc, file, cells.div_ceil(8), shelf, name)?;
-    lawful_choice(bits, cells, at)
+    match read_bits(alloc, file, cells.div_ceil(8), shelf, name) {
+        Ok(bits) => lawful_choice(bits, cells, at),
+        Err(error) => Err(error),
+    }
 }

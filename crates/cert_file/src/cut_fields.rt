@@ -98,8 +98,10 @@ pub(crate) fn read_corner<S: Shelf>(
 {
     let at = file.place();
     let mut piece = [0; 6];
-    file.take(&mut piece, shelf, name)?;
-    corner_of(piece, at)
+    match file.take(&mut piece, shelf, name) {
+        Ok(()) => corner_of(piece, at),
+        Err(error) => Err(error),
+    }
 }
 
 // Reads an axis of a box.
@@ -117,8 +119,10 @@ pub(crate) fn read_box_axis<S: Shelf>(
     ensures reads { OnlyReadsFile name.now (S.state shelf.old) (S.state shelf.new) }
 {
     let at = file.place();
-    let n: u16 = file.number(shelf, name)?;
-    lawful_box_axis(n, at)
+    match file.number(shelf, name) {
+        Ok(n) => lawful_box_axis(n, at),
+        Err(error) => Err(error),
+    }
 }
 
 // Reads the size of a box, after boxes of so many cells.
@@ -164,8 +168,10 @@ fn read_part<S: Shelf>(
         Version::One => Ok(1),
         Version::Two => {
             let at = file.place();
-            let n: u16 = file.number(shelf, name)?;
-            lawful_part(n, count, at)
+            match file.number(shelf, name) {
+                Ok(n) => lawful_part(n, count, at),
+                Err(error) => Err(error),
+            }
         }
     }
 }

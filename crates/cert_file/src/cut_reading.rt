@@ -44,8 +44,10 @@ fn read_flow<S: Shelf>(file: &mut FileReader, shelf: &mut S, name: &str) -> Resu
 {
     let at = file.place();
     let mut piece = [0; 4];
-    file.take(&mut piece, shelf, name)?;
-    flow_of(piece, at)
+    match file.take(&mut piece, shelf, name) {
+        Ok(()) => flow_of(piece, at),
+        Err(error) => Err(error),
+    }
 }
 
 // Reads so many flows.

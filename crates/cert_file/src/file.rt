@@ -197,8 +197,10 @@ pub fn read_record_file<S: Shelf>(
     ensures reads { OnlyReadsFile name.now (S.state shelf.old) (S.state shelf.new) }
 {
     let mut file = FileReader::new();
-    let (head, kind) = read_record_head(&mut file, shelf, name)?;
-    read_records(alloc, &mut file, head, kind, shelf, name)
+    match read_record_head(&mut file, shelf, name) {
+        Ok((head, kind)) => read_records(alloc, &mut file, head, kind, shelf, name),
+        Err(error) => Err(error),
+    }
 }
 
 /// Reads a file of cut records of version 1, to its end: as `read_record_file` does, but every other
@@ -215,6 +217,8 @@ pub fn read_version_one_cuts<S: Shelf>(
     ensures reads { OnlyReadsFile name.now (S.state shelf.old) (S.state shelf.new) }
 {
     let mut file = FileReader::new();
-    let (head, _) = read_head(&mut file, MAGIC, 1, 1, shelf, name)?;
-    read_cuts_file(alloc, &mut file, head, shelf, name)
+    match read_head(&mut file, MAGIC, 1, 1, shelf, name) {
+        Ok((head, _)) => read_cuts_file(alloc, &mut file, head, shelf, name),
+        Err(error) => Err(error),
+    }
 }

@@ -42,9 +42,13 @@ pub(crate) fn read_list_16<S: Shelf>(
     ensures place { OnOk result (file.new.at ≡ file.old.at + 2 * count) }
     ensures reads { OnlyReadsFile name.now (S.state shelf.old) (S.state shelf.new) }
 {
-    let numbers: Vec<u16> = file.list(alloc, count, shelf, name)?;
-    fit_16(&numbers);
-    Ok(Items::from_vec(numbers))
+    match file.list(alloc, count, shelf, name) {
+        Ok(numbers) => {
+            fit_16(&numbers);
+            Ok(Items::from_vec(numbers))
+        }
+        Err(error) => Err(error),
+    }
 }
 
 // Reads so many numbers of 4 bytes.
@@ -63,9 +67,13 @@ pub(crate) fn read_list_32<S: Shelf>(
     ensures place { OnOk result (file.new.at ≡ file.old.at + 4 * count) }
     ensures reads { OnlyReadsFile name.now (S.state shelf.old) (S.state shelf.new) }
 {
-    let numbers: Vec<u32> = file.list(alloc, count, shelf, name)?;
-    fit_32(&numbers);
-    Ok(Items::from_vec(numbers))
+    match file.list(alloc, count, shelf, name) {
+        Ok(numbers) => {
+            fit_32(&numbers);
+            Ok(Items::from_vec(numbers))
+        }
+        Err(error) => Err(error),
+    }
 }
 
 // Reads so many numbers of 8 bytes.
@@ -84,7 +92,11 @@ pub(crate) fn read_list_64<S: Shelf>(
     ensures place { OnOk result (file.new.at ≡ file.old.at + 8 * count) }
     ensures reads { OnlyReadsFile name.now (S.state shelf.old) (S.state shelf.new) }
 {
-    let numbers: Vec<u64> = file.list(alloc, count, shelf, name)?;
-    fit_64(&numbers);
-    Ok(Items::from_vec(numbers))
+    match file.list(alloc, count, shelf, name) {
+        Ok(numbers) => {
+            fit_64(&numbers);
+            Ok(Items::from_vec(numbers))
+        }
+        Err(error) => Err(error),
+    }
 }

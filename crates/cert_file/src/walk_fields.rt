@@ -95,8 +95,10 @@ fn read_length<S: Shelf>(file: &mut FileReader, shelf: &mut S, name: &str) -> Re
     ensures reads { OnlyReadsFile name.now (S.state shelf.old) (S.state shelf.new) }
 {
     let at = file.place();
-    let n: u32 = file.number(shelf, name)?;
-    lawful_length(n, at)
+    match file.number(shelf, name) {
+        Ok(n) => lawful_length(n, at),
+        Err(error) => Err(error),
+    }
 }
 
 // Reads a filter.
@@ -109,8 +111,10 @@ fn read_taps<S: Shelf>(file: &mut FileReader, shelf: &mut S, name: &str) -> Resu
     ensures reads { OnlyReadsFile name.now (S.state shelf.old) (S.state shelf.new) }
 {
     let at = file.place();
-    let n = file.u8(shelf, name)?;
-    lawful_taps(n, at)
+    match file.u8(shelf, name) {
+        Ok(n) => lawful_taps(n, at),
+        Err(error) => Err(error),
+    }
 }
 
 // Reads a gap.
@@ -124,8 +128,10 @@ fn read_gap<S: Shelf>(file: &mut FileReader, shelf: &mut S, name: &str) -> Resul
     ensures reads { OnlyReadsFile name.now (S.state shelf.old) (S.state shelf.new) }
 {
     let at = file.place();
-    let n: u16 = file.number(shelf, name)?;
-    lawful_gap(n, at)
+    match file.number(shelf, name) {
+        Ok(n) => lawful_gap(n, at),
+        Err(error) => Err(error),
+    }
 }
 
 // Reads what comes before the frames of a walk.

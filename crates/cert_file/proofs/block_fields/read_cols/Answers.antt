@@ -1,18 +1,15 @@
 use Rattle.std.proofs.Common.{◌∙◌, ap, arith}
-use Rattle.std.proofs.lemmas.Result.{err_from_is_err_and}
 use Rattle.std.specs.Int.{w16}
 use Rattle.source_map.specs.Readings.{number_rule}
 use Rattle.source_map.proofs.FieldLaws.{field_stops, number_16}
 use Rattle.cert_file.specs.BlockReading.{cols_rule}
 use Rattle.cert_file.proofs.block_fields.read_cols.Goals as goal
 
-pub returns-in_err-n-clause-answer : goal.returns-in_err-n-clause-answer
-returns-in_err-n-clause-answer g c =
-    let p = err_from_is_err_and c.from_residual.result c.from_residual.ensures.1 in
-    rw (p.1, p.2)
-    (field_stops ⊥ c.args.name.now 2 (number_rule w16 (cols_rule c.args.most)) c.args.file.now.at (g.S.Shelf.state c.args.shelf.now) (g.S.Shelf.state c.number.new.shelf) c.number.new.self c.in_err-n.field-0.0 c.in_err-n.ensures.stops)
+pub returns-in-Err-clause-answer : goal.returns-in-Err-clause-answer
+returns-in-Err-clause-answer g c =
+    field_stops ⊥ c.args.name.now 2 (number_rule w16 (cols_rule c.args.most)) c.args.file.now.at (g.S.Shelf.state c.args.shelf.now) (g.S.Shelf.state c.number.new.shelf) c.number.new.self c.in-Err.error (c.in-Err.ensures {u = tt}).stops
 
-pub returns-clause-answer : goal.returns-clause-answer
-returns-clause-answer g c =
-    number_16 ⊥ c.args.name.now (cols_rule c.args.most) c.args.file.now.at c.in_ok-n.n (g.S.Shelf.state c.args.shelf.now) (g.S.Shelf.state c.number.new.shelf) c.number.new.self c.lawful_cols.result
-    (omega arith) (c.lawful_cols.ensures.cols ∙ ap (λ at. cols_rule c.args.most at c.in_ok-n.n) c.place-at.ensures) c.lawful_cols.ensures.refusal (c.in_ok-n.ensures {u = tt}).took
+pub returns-in-Ok-clause-answer : goal.returns-in-Ok-clause-answer
+returns-in-Ok-clause-answer g c =
+    number_16 ⊥ c.args.name.now (cols_rule c.args.most) c.args.file.now.at c.in-Ok.n (g.S.Shelf.state c.args.shelf.now) (g.S.Shelf.state c.number.new.shelf) c.number.new.self c.lawful_cols.result
+    (omega arith) (c.lawful_cols.ensures.cols ∙ ap (λ at. cols_rule c.args.most at c.in-Ok.n) c.place-at.ensures) c.lawful_cols.ensures.refusal (c.in-Ok.ensures {u = tt}).took

@@ -1,16 +1,13 @@
 use Rattle.std.proofs.Common.{◌∙◌, ap, arith}
-use Rattle.std.proofs.lemmas.Result.{err_from_is_err_and}
 use Rattle.source_map.proofs.FieldLaws.{field_ruled, field_stops}
 use Rattle.cert_file.specs.BlockReading.{spot_rule}
 use Rattle.cert_file.proofs.block_fields.read_spot.Goals as goal
 
-pub returns-in_err-take-clause-answer : goal.returns-in_err-take-clause-answer
-returns-in_err-take-clause-answer g c =
-    let p = err_from_is_err_and c.from_residual.result c.from_residual.ensures.1 in
-    rw (p.1, p.2)
-    (field_stops ⊥ c.args.name.now 4 spot_rule c.args.file.now.at (g.S.Shelf.state c.args.shelf.now) (g.S.Shelf.state c.take.new.shelf) c.take.new.self c.in_err-take.field-0.0 c.in_err-take.ensures.stops)
+pub returns-in-Err-clause-answer : goal.returns-in-Err-clause-answer
+returns-in-Err-clause-answer g c =
+    field_stops ⊥ c.args.name.now 4 spot_rule c.args.file.now.at (g.S.Shelf.state c.args.shelf.now) (g.S.Shelf.state c.take.new.shelf) c.take.new.self c.in-Err.error (c.in-Err.ensures {u = tt}).stops
 
-pub returns-clause-answer : goal.returns-clause-answer
-returns-clause-answer g c =
+pub returns-in-Ok-clause-answer : goal.returns-in-Ok-clause-answer
+returns-in-Ok-clause-answer g c =
     field_ruled ⊥ c.args.name.now 4 spot_rule c.args.file.now.at c.take.new.into (g.S.Shelf.state c.args.shelf.now) (g.S.Shelf.state c.take.new.shelf) c.take.new.self c.spot_of.result
-    (omega arith) (c.spot_of.ensures.spot ∙ ap (λ at. spot_rule at c.take.new.into) c.place-at.ensures) c.spot_of.ensures.refusal (c.in_ok-take.ensures {u = tt}).took
+    (omega arith) (c.spot_of.ensures.spot ∙ ap (λ at. spot_rule at c.take.new.into) c.place-at.ensures) c.spot_of.ensures.refusal (c.in-Ok.ensures {u = tt}).took

@@ -1,5 +1,5 @@
 // The sum of the squared differences of two runs of bytes.
-ghost use Rattle.std.specs.Prelude.{◌≡◌, ◌≤◌, ◌-◌, ◌*◌, ◌^◌, ◌++◌, drop, length, replicate};
+ghost use Rattle.std.specs.Prelude.{◌≡◌, ◌≤◌, ◌-◌, ◌*◌, ◌^◌, drop, length};
 ghost use Rattle.lane_kernels.specs.Sums.{sum_of_squared_differences};
 
 use lane_kernels::{ssd, ssd_masked};
@@ -7,19 +7,11 @@ use lane_kernels::{ssd, ssd_masked};
 // How many bytes a block has: as many as the sums of `lane_kernels` take at once.
 const BLOCK: usize = 32;
 
-// A block of 0 and a block of 1.
+// A block of 0 and a block of 1: as many bytes as a block has, from number n on, end with n of 1.
 const MARKS: [u8; 64] = [
     0, 0, 0, 0, 0, 0, 0, 0, 0, 0, 0, 0, 0, 0, 0, 0, 0, 0, 0, 0, 0, 0, 0, 0, 0, 0, 0, 0, 0, 0, 0, 0,
     1, 1, 1, 1, 1, 1, 1, 1, 1, 1, 1, 1, 1, 1, 1, 1, 1, 1, 1, 1, 1, 1, 1, 1, 1, 1, 1, 1, 1, 1, 1, 1,
 ];
-
-// The marks of a block, of which the last n bytes count.
-fn last_marks(n: usize) -> &'static [u8]
-    requires { n ≤ BLOCK }
-    ensures { result.now ≡ replicate (BLOCK - n) 0 ++ replicate n 1 }
-{
-    &MARKS[n..n + BLOCK]
-}
 
 // The sum over the last n bytes, as a block whose other bytes don't count.
 fn last_differences(old: &[u8], new: &[u8], n: usize) -> u64
@@ -31,7 +23,7 @@ fn last_differences(old: &[u8], new: &[u8], n: usize) -> u64
     ensures small { result ≤ 255 * 255 * BLOCK }
 {
     let start = old.len() - BLOCK;
-    ssd_masked(&old[start..], &new[start..], last_marks(n))
+    ssd_masked(&old[start..], &new[start..], &MARKS[n..n + BLOCK])
 }
 
 /// The sum of the squared differences of two runs of bytes. Where they have a block or more, what is left

@@ -90,9 +90,9 @@ impl FilledRows {
         // The map is taken for its contract only: it shows the prover that its size is small.
         let _map = canvas.map();
         let h = rect.size.h;
-        let mut runs = Vec::new(alloc);
         let mut starts = Vec::new(alloc);
         starts.push(0)?;
+        let mut runs = Vec::new(alloc);
         for row in 0..h * rect.size.f {
             add_row(&mut runs, canvas, rect, row % h, row / h)?;
             let end = runs.as_slice().len();
@@ -120,23 +120,6 @@ impl FilledRows {
         })
     }
 
-    // The runs of one row, by its number through all frames.
-    fn row_runs(&self, canvas: &Canvas, row: u32) -> &[RowRun]
-        requires rows { AreFilledRows canvas.now.map self.now }
-        requires row { row < self.now.rect.size.h * self.now.rect.size.f }
-        ensures { AreRunsOf (IsFilledAt canvas.now.map self.now.rect
-            (row % self.now.rect.size.h) (row / self.now.rect.size.h))
-            0 self.now.rect.size.w result.now }
-    {
-        // The map is taken for its contract only: it shows the prover that its size is small.
-        let _map = canvas.map();
-        let starts = self.starts.as_slice();
-        let start = starts[row as usize];
-        let end = starts[row as usize + 1];
-        let all = self.runs.as_slice();
-        runs_between(all, start, end)
-    }
-
     /// The runs of that row in which a row of another box lies, which is so far in theirs. Its row
     /// begins at column `inset.x` of the runs.
     pub(crate) fn runs_of(
@@ -155,6 +138,10 @@ impl FilledRows {
         // The map is taken for its contract only: it shows the prover that its size is small.
         let _map = canvas.map();
         let row = inset.y + self.rect.size.h * (inset.f + f) + y;
-        self.row_runs(canvas, row)
+        let starts = self.starts.as_slice();
+        let start = starts[row as usize];
+        let end = starts[row as usize + 1];
+        let all = self.runs.as_slice();
+        runs_between(all, start, end)
     }
 }

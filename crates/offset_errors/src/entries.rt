@@ -9,13 +9,6 @@ use cyclic_products::PRIME;
 use limits::MOST_CHANNELS;
 use map_canvas::Map;
 
-// A number that takes the product with a byte off twice, modulo the prime.
-fn taken_off(byte: u8) -> u64
-    ensures { result ≡ PRIME - 2 * byte }
-{
-    PRIME - 2 * u64::from(byte)
-}
-
 // The square of a byte.
 fn square(byte: u8) -> u64
     ensures square { result ≡ byte * byte }
@@ -45,20 +38,8 @@ fn old_entry(cell: &[u8], j: u32) -> u64
     match j {
         0 => squares_of(cell),
         1 => 1,
-        _ => taken_off(cell[j as usize - 2]),
-    }
-}
-
-// Number j of a cell of the sample.
-fn new_entry(cell: &[u8], j: u32) -> u64
-    requires few { length cell.now ≤ MOST_CHANNELS }
-    requires below { j < length cell.now + 2 }
-    ensures { result ≡ new_number cell.now j }
-{
-    match j {
-        0 => 1,
-        1 => squares_of(cell),
-        _ => u64::from(cell[j as usize - 2]),
+        // takes the product with the byte off twice, modulo the prime
+        _ => PRIME - 2 * u64::from(cell[j as usize - 2]),
     }
 }
 
@@ -92,5 +73,10 @@ pub(crate) fn sample_entry(sample: &Volume, at: At, j: u32) -> u64
     requires below { j < sample.now.k + 2 }
     ensures { result ≡ new_number (sample_cell sample.now (Some at)) j }
 {
-    new_entry(cell_of(sample, at), j)
+    let cell = cell_of(sample, at);
+    match j {
+        0 => 1,
+        1 => squares_of(cell),
+        _ => u64::from(cell[j as usize - 2]),
+    }
 }

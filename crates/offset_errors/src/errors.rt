@@ -148,18 +148,6 @@ fn is_either(a: u32, b: u32, c: u32, d: u32) -> bool
     a == b || c == d
 }
 
-// How far cell a of a box is before cell t of a part after its lead; None where it comes after it.
-fn offset_from(lead: u32, a: u32, t: u32) -> Option<u32>
-    requires { (lead ≤ GREATEST_AXIS) × (a ≤ GREATEST_AXIS) × (t ≤ GREATEST_AXIS) }
-    ensures { IfSome result (λ d. a + d + 1 ≡ lead + t) }
-{
-    if lead + t <= a {
-        None
-    } else {
-        Some(lead + t - a - 1)
-    }
-}
-
 // The offset along one axis of w cells of a part of s to a box of b, where a placement of len cells begins at
 // cell t of the part and cell a of the box. None where it leaves out a cell that both have there, or where a
 // cell of the box would meet one of the part by going round.
@@ -172,7 +160,10 @@ fn offset_on(w: u32, b: u32, lead: u32, s: u32, a: u32, t: u32, len: u32) -> Opt
     if len == 0 || len > b || a > b - len || len > s || t > s - len {
         return None;
     }
-    let d = offset_from(lead, a, t)?;
+    if lead + t <= a {
+        return None;
+    }
+    let d = lead + t - a - 1;
     let begins = is_either(a, 0, t, 0);
     let ends = is_either(a + len, b, t + len, s);
     if begins && ends && d < w && b + d < w + lead {

@@ -183,33 +183,6 @@ impl SampleSums {
     }
 }
 
-// Of n places along X from one on, those that blocks of one size eliminate. None where the box, laid
-// from one of them, isn't in that of the sums.
-fn marks_of(
-    blocks: &BoxBlocks,
-    sums: &BlockSums,
-    canvas: &Canvas,
-    sample: &Volume,
-    rect: &Box3,
-    from: At,
-    n: u32,
-    limit: u64,
-) -> u32
-    requires over { StandsOver canvas.now sample.now }
-    requires inside { HoldsBox canvas.now.map.size rect.now.corner rect.now.size }
-    requires blocks { AreBoxBlocks canvas.now rect.now blocks.now }
-    requires sums { AreBlockSums sample.now sums.now }
-    requires few { n ≤ LANES }
-    ensures { AreAbove canvas.now sample.now rect.now from n limit result }
-{
-    // Called for its contract only: it shows the prover that the sample is a volume.
-    let _sample = sample.samples();
-    if blocks.side != sums.side || !holds_run(&sums.rect, rect.size, from, n) {
-        return 0;
-    }
-    blocks.above(sums, canvas, sample, rect, from, n, limit)
-}
-
 /// Disjoint blocks of the filled cells of one box, of several sizes. They serve all placements of the
 /// box, as long as the canvas stays as it is.
 #[derive(Drop)]
@@ -295,7 +268,8 @@ impl BoxLevels {
         Ok(levels)
     }
 
-    // Those that the blocks of one level eliminate, by the sums of one part.
+    // Those that the blocks of one level eliminate, by the sums of one part. None where the box, laid from one of
+    // the places, isn't in that of the sums.
     fn level_marks(
         &self,
         level: usize,
@@ -322,7 +296,12 @@ impl BoxLevels {
         let Some(sums) = sums.levels.get(LEVELS * part as usize + level) else {
             return 0;
         };
-        marks_of(blocks, sums, canvas, sample, rect, from, n, limit)
+        // Called for its contract only: it shows the prover that the sample is a volume.
+        let _sample = sample.samples();
+        if blocks.side != sums.side || !holds_run(&sums.rect, rect.size, from, n) {
+            return 0;
+        }
+        blocks.above(sums, canvas, sample, rect, from, n, limit)
     }
 
     // Those that the blocks of one of the levels eliminate. A finer level is left out where the coarser ones

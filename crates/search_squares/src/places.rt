@@ -7,18 +7,11 @@ use crate::rows::has_cells;
 use crate::sums::LANES;
 use cells::{At, Box3, Size};
 
-// How far a coordinate lies past another.
-fn steps_from(start: i32, z: i32) -> i64
-    ensures { result ≡ z -ℤ start }
-{
-    i64::from(z) - i64::from(start)
-}
-
 /// How many cells there are from a coordinate to one past it or the same; None before it.
 pub(crate) fn steps_past(start: i32, z: i32) -> Option<u32>
     ensures { IfSome result (λ steps. z -ℤ start ≡ pos steps) }
 {
-    let steps = steps_from(start, z);
+    let steps = i64::from(z) - i64::from(start);
     if steps < 0 {
         return None;
     }

@@ -48,30 +48,18 @@ fn add_cell_sums(
     Ok(())
 }
 
-// The sums of the cells of a box, in raster order. There is room for LANES more.
-fn cell_rows(alloc: Global, sample: &Volume, rect: &Box3) -> Result<Vec<u16>, AllocError>
-    requires volume { IsVolume sample.now }
-    requires small { IsSmall rect.now.size }
-    requires inside { Holds sample.now rect.now.corner rect.now.size }
-    ensures { IfOk result (λ sums. AreRows (IsCellSum sample.now rect.now) rect.now.size
-        (rect.now.size.h * rect.now.size.f) sums.items) }
-{
-    let h = rect.size.h;
-    let mut sums = Vec::with_capacity(alloc, rect.size.cells() + LANES)?;
-    for row in 0..h * rect.size.f {
-        add_cell_sums(&mut sums, sample, rect, row % h, row / h)?;
-    }
-    Ok(sums)
-}
-
-// The same, and LANES entries of 0 after them.
+// The sums of the cells of a box, in raster order, and LANES entries of 0 after them.
 fn cell_sums(alloc: Global, sample: &Volume, rect: &Box3) -> Result<Vec<u16>, AllocError>
     requires volume { IsVolume sample.now }
     requires small { IsSmall rect.now.size }
     requires inside { Holds sample.now rect.now.corner rect.now.size }
     ensures { IfOk result (λ sums. AreCellSums sample.now rect.now sums.items) }
 {
-    let mut sums = cell_rows(alloc, sample, rect)?;
+    let h = rect.size.h;
+    let mut sums = Vec::with_capacity(alloc, rect.size.cells() + LANES)?;
+    for row in 0..h * rect.size.f {
+        add_cell_sums(&mut sums, sample, rect, row % h, row / h)?;
+    }
     sums.extend_from_slice(&[0; LANES])?;
     Ok(sums)
 }

@@ -1,9 +1,45 @@
-use Rattle.std.proofs.Common.{sym, subst}
-use Rattle.search_squares.specs.Sums.{AreCellSums}
-use Rattle.search_squares.proofs.SumRows.{cell_entries}
+use Rattle.std.proofs.Math.Nat.{mul-le-mul}
+use Rattle.std.proofs.Common.{◌≡◌, ◌*◌, sym, subst, arith}
+use Rattle.cells.proofs.Raster.{below_of_div}
+use Rattle.search_squares.specs.Sums.{AreCellSums, AreRows, IsCellSum}
+use Rattle.search_squares.proofs.SumRows.{cell_entries, no_rows, row_more}
 use Rattle.search_squares.proofs.sums.cell_sums.Goals as goal
+
+pub add_cell_sums-requires-clause-row : goal.add_cell_sums-requires-clause-row
+add_cell_sums-requires-clause-row c =
+    let size = c.args.rect.now.size in
+    (omega (arith, c.requires.small.axes.h), below_of_div size.h size.f c.loop-row.row (omega (arith, c.requires.small.axes.h)) (omega (arith, c.loop-row-test.true)))
+
+pub loop-row-init : goal.loop-row-init
+loop-row-init c =
+    let Is = IsCellSum c.args.sample.now c.args.rect.now in
+    subst (AreRows Is c.args.rect.now.size 0) (sym c.in_ok-sums.ensures.items) (no_rows Is c.args.rect.now.size)
+
+pub loop-row-preserved : goal.loop-row-preserved
+loop-row-preserved c =
+    row_more (IsCellSum c.args.sample.now c.args.rect.now) c.args.rect.now.size c.loop-row.row c.loop-row.sums.items _ c.loop-row.invariant c.in_ok-add_cell_sums.ensures
 
 pub returns : goal.returns
 returns c =
-    subst (AreCellSums c.args.sample.now c.args.rect.now) (sym c.in_ok-extend_from_slice.ensures.items)
-    (cell_entries c.args.sample.now c.args.rect.now _ c.requires.small c.in_ok-sums.ensures)
+    let rect = c.args.rect.now in
+    let whole : c.loop-row.row ≡ rect.size.h * rect.size.f = omega (arith, c.loop-row-test.false, c.loop-row.auto.row-end) in
+    subst (AreCellSums c.args.sample.now rect) (sym c.in_ok-extend_from_slice.ensures.items)
+    (cell_entries c.args.sample.now rect _ c.requires.small (subst (λ n. AreRows (IsCellSum c.args.sample.now rect) rect.size n c.loop-row.sums.items) whole c.loop-row.invariant))
+
+pub add_cell_sums-requires-clause-small : goal.add_cell_sums-requires-clause-small
+add_cell_sums-requires-clause-small c = c.requires.small
+
+pub nonzero_rem-row : goal.nonzero_rem-row
+nonzero_rem-row c = omega arith
+
+pub nonzero_div-row : goal.nonzero_div-row
+nonzero_div-row c = omega arith
+
+pub add_cell_sums-requires-clause-inside : goal.add_cell_sums-requires-clause-inside
+add_cell_sums-requires-clause-inside c = c.requires.inside
+
+pub add_cell_sums-requires-clause-volume : goal.add_cell_sums-requires-clause-volume
+add_cell_sums-requires-clause-volume c = c.requires.volume
+
+pub overflow_mul-row-end : goal.overflow_mul-row-end
+overflow_mul-row-end c = omega (arith, mul-le-mul c.requires.small.axes.h.1 c.requires.small.axes.f.1)

@@ -14,7 +14,7 @@ ghost use Rattle.patch_place.specs.Tables.{IsMore, IsShortlistOf, IsSoundShortli
 
 use crate::Overlaps;
 use crate::offsets::PartErrors;
-use crate::reach::{around_of, counts_for, rows_for};
+use crate::reach::around_of;
 use crate::shortlist::Shortlist;
 use crate::walk::box_shortlist;
 use cells::{Box3, Volume};
@@ -146,9 +146,9 @@ fn placed_shortlist(
     requires fit { AllFit canvas.now sample.now list.now }
     ensures { IfOk result (IsShortlistOf tol (errors_on canvas.now sample.now list.now)) }
 {
-    let counts = counts_for(alloc, list, canvas, sample)?;
-    let rows = rows_for(alloc, list, canvas, sample)?;
     let around = around_of(list, canvas.map().size(), sample);
+    let counts = FilledCounts::make(alloc, canvas, &around.rect)?;
+    let rows = FilledRows::gather(alloc, canvas, &around.rect)?;
     let filled = counts.count(canvas, &around.rect);
     let mut errors = PartErrors::begin(&around, 0, canvas, sample);
     let mean = mean_error(list, canvas, sample, errors.may_pay(u64::from(filled)));
@@ -164,26 +164,6 @@ fn placed_shortlist(
         short.add(&counts, &rows, &errors, canvas, sample, &placement)?;
     }
     Ok(short)
-}
-
-// The shortlist of one box, by its overlap errors.
-fn overlap_shortlist(
-    alloc: Global,
-    rect: &Box3,
-    tol: u32,
-    canvas: &Canvas,
-    sample: &Volume,
-    sums: &SampleSums,
-) -> Result<Shortlist, AllocError>
-    requires over { StandsOver canvas.now sample.now }
-    requires sums { AreSampleSums sample.now sums.now }
-    requires some { 0 < length (listed_on canvas.now sample.now (Candidates.Fits rect.now)) }
-    requires fit { AllFit canvas.now sample.now (Candidates.Fits rect.now) }
-    ensures { IfOk result (IsShortlistOf tol
-        (errors_on canvas.now sample.now (Candidates.Fits rect.now))) }
-{
-    let overlaps = Overlaps::gather(alloc, canvas, sample, sums, rect)?;
-    box_shortlist(alloc, &overlaps, rect, tol, sample)
 }
 
 // The shortlist of all candidates.
@@ -203,7 +183,10 @@ pub(crate) fn shortlist_of(
     ensures { IfOk result (IsShortlistOf tol (errors_on canvas.now sample.now list.now)) }
 {
     match list {
-        Candidates::Fits { rect } => overlap_shortlist(alloc, rect, tol, canvas, sample, sums),
+        Candidates::Fits { rect } => {
+            let overlaps = Overlaps::gather(alloc, canvas, sample, sums, rect)?;
+            box_shortlist(alloc, &overlaps, rect, tol, sample)
+        }
         Candidates::One(_) | Candidates::Laid { .. } => {
             placed_shortlist(alloc, list, tol, canvas, sample)
         }

@@ -1,16 +1,11 @@
-// The filled cells around a cell, summed up and gathered once for all candidates that cover it.
-ghost use Rattle.std.specs.Prelude.{◌≤◌, ◌+◌, IfOk};
+// The box around a cell in which the filled cells of all candidates that cover it are.
+ghost use Rattle.std.specs.Prelude.{◌≤◌, ◌+◌};
 ghost use Rattle.cells.specs.Boxes.{HoldsBox};
 ghost use Rattle.cells.specs.Places.{IsSmall};
-ghost use Rattle.match_error.specs.Rows.{AreFilledRows};
-ghost use Rattle.match_error.specs.Tables.{AreFilledCounts};
 
 use boxes::count_of;
 use cells::{At, Box3, Size, Volume};
-use map_canvas::Canvas;
-use match_error::{FilledCounts, FilledRows};
 use patch_picks::{Candidates, part_after, parts_of};
-use std::alloc::{AllocError, Global};
 
 // A run of cells along one axis.
 #[derive(Clone, Copy, Drop)]
@@ -72,21 +67,6 @@ fn reach_of(output: Size, part: Size, q: At) -> Box3
     }
 }
 
-// The box in which the filled cells of all candidates are. Where there is one candidate, sums and runs of
-// it would cost more than they save: the box has no cell.
-fn box_of_all(list: &Candidates, output: Size, sample: &Volume) -> Box3
-    requires { IsSmall output }
-    ensures { HoldsBox output result.corner result.size }
-{
-    match list {
-        Candidates::Laid { q } => reach_of(output, greatest_part(sample), *q),
-        Candidates::One(_) | Candidates::Fits { .. } => Box3 {
-            corner: At { x: 0, y: 0, f: 0 },
-            size: Size { w: 0, h: 0, f: 0 },
-        },
-    }
-}
-
 /// Where all candidates are: the box of their filled cells, and the cell that comes to the first half of each.
 #[derive(Clone, Copy, Drop)]
 pub(crate) struct Around {
@@ -94,41 +74,24 @@ pub(crate) struct Around {
     pub(crate) q: At,
 }
 
-/// Where all candidates of a list are.
+/// Where all candidates of a list are. Where there is one candidate, sums and runs of its filled cells would
+/// cost more than they save: the box has no cell.
 pub(crate) fn around_of(list: &Candidates, output: Size, sample: &Volume) -> Around
     requires { IsSmall output }
     ensures { HoldsBox output result.rect.corner result.rect.size }
 {
-    let rect = box_of_all(list, output, sample);
-    let q = match list {
-        Candidates::Laid { q } => *q,
-        Candidates::One(_) | Candidates::Fits { .. } => rect.corner,
-    };
-    Around { rect, q }
-}
-
-/// The filled cells of a canvas where the candidates are, summed up.
-pub(crate) fn counts_for(
-    alloc: Global,
-    list: &Candidates,
-    canvas: &Canvas,
-    sample: &Volume,
-) -> Result<FilledCounts, AllocError>
-    ensures { IfOk result (AreFilledCounts canvas.now.map) }
-{
-    let rect = box_of_all(list, canvas.map().size(), sample);
-    FilledCounts::make(alloc, canvas, &rect)
-}
-
-/// The same cells, row by row as runs.
-pub(crate) fn rows_for(
-    alloc: Global,
-    list: &Candidates,
-    canvas: &Canvas,
-    sample: &Volume,
-) -> Result<FilledRows, AllocError>
-    ensures { IfOk result (AreFilledRows canvas.now.map) }
-{
-    let rect = box_of_all(list, canvas.map().size(), sample);
-    FilledRows::gather(alloc, canvas, &rect)
+    match list {
+        Candidates::Laid { q } => Around {
+            rect: reach_of(output, greatest_part(sample), *q),
+            q: *q,
+        },
+        Candidates::One(_) | Candidates::Fits { .. } => {
+            let corner = At { x: 0, y: 0, f: 0 };
+            let size = Size { w: 0, h: 0, f: 0 };
+            Around {
+                rect: Box3 { corner, size },
+                q: corner,
+            }
+        }
+    }
 }

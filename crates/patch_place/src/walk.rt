@@ -112,32 +112,6 @@ impl Shortlist {
     }
 }
 
-// The shortlist of one box, whose sums are divided by a count that isn't 0.
-fn counted_shortlist<E: BoxErrors>(
-    alloc: Global,
-    errors: &E,
-    rect: &Box3,
-    count: u32,
-    tol: u32,
-    sample: &Volume,
-) -> Result<Shortlist, AllocError>
-    requires ready { E.IsReady errors.now }
-    requires cells { HasCells rect.now.size }
-    requires asked { All (E.MayAsk errors.now) (box_list rect.now sample.now) }
-    requires counted { AreCounted (E.error errors.now) (E.MayAsk errors.now) count }
-    requires filled { 1 ≤ count }
-    ensures { IfOk result (IsShortlistOf tol
-        (map (E.error errors.now) (box_list rect.now sample.now))) }
-{
-    let sizes = parts_of(sample);
-    let known = least_hint(errors, rect, sample, count);
-    let mut short = Shortlist::begun(alloc, tol, known);
-    'parts: for n in 0..sizes.len() {
-        short.add_part(errors, rect, count, &sizes, n)?;
-    }
-    Ok(short)
-}
-
 /// The shortlist of one box.
 pub(crate) fn box_shortlist<E: BoxErrors>(
     alloc: Global,
@@ -153,8 +127,14 @@ pub(crate) fn box_shortlist<E: BoxErrors>(
         (map (E.error errors.now) (box_list rect.now sample.now))) }
 {
     let count = errors.count();
-    if count > 0 {
-        return counted_shortlist(alloc, errors, rect, count, tol, sample);
+    if count == 0 {
+        return Ok(Shortlist::unfilled(alloc, tol, box_count(rect, sample)));
     }
-    Ok(Shortlist::unfilled(alloc, tol, box_count(rect, sample)))
+    let sizes = parts_of(sample);
+    let known = least_hint(errors, rect, sample, count);
+    let mut short = Shortlist::begun(alloc, tol, known);
+    'parts: for n in 0..sizes.len() {
+        short.add_part(errors, rect, count, &sizes, n)?;
+    }
+    Ok(short)
 }

@@ -1,4 +1,6 @@
 use Rattle.std.proofs.lemmas.Grind.{common_steps}
+use Rattle.std.specs.Prelude.{Contains, IfSome}
+use Rattle.std.proofs.lemmas.List.{take_all}
 use Rattle.std.proofs.Common.{[], map, take, refl, sym, subst, ◌∙◌, arith, rules}
 use Rattle.match_error.specs.Errors.{error_of}
 use Rattle.patch_picks.specs.Picks.{listed_on}
@@ -23,7 +25,21 @@ entries-preserved c =
     }
 
 pub returns : goal.returns
-returns c = grind (arith, common_steps)
+returns c =
+    let list = listed_on c.args.canvas.now c.args.sample.now c.args.list.now in
+    let f = error_of c.args.canvas.now.map c.args.sample.now in
+    record {
+      short = subst (λ all. IsShortlist c.entries.short (map f all)) (take_all c.entries.i list (omega (arith, c.count_for-i-end.ensures, c.entries-test.false))) c.entries.invariant.short;
+      sound = c.entries.invariant.sound;
+      tolerance = c.entries.invariant.tol;
+      known = subst (λ known. IfSome known (Contains (map f list))) (sym c.entries.invariant.known) tt;
+    }
+
+pub begin-errors-requires-clause-held : goal.begin-errors-requires-clause-held
+begin-errors-requires-clause-held c = rw (c.size.ensures.size ∙ (λ t. (c.map.ensures.map t).size)) at c.around_of-around.ensures
+
+pub count-filled-requires-clause-inside : goal.count-filled-requires-clause-inside
+count-filled-requires-clause-inside c = rw (c.size.ensures.size ∙ (λ t. (c.map.ensures.map t).size)) at c.around_of-around.ensures
 
 pub squares_for-squares-requires-clause-inside : goal.squares_for-squares-requires-clause-inside
 squares_for-squares-requires-clause-inside c = (c.entry_for-placement.ensures.fits c.requires.fit).inside
@@ -47,3 +63,9 @@ entries-init c = record {
 
 pub come_to-requires : goal.come_to-requires
 come_to-requires c = record { over = c.requires.over; held = rw (c.size.ensures.size ∙ (λ t. (c.map.ensures.map t).size)) at c.around_of-around.ensures; errors = c.entries.invariant.errors; part = c.entries.invariant.part }
+
+pub make-requires : goal.make-requires
+make-requires c = record { inside = rw (c.size.ensures.size ∙ (λ t. (c.map.ensures.map t).size)) at c.around_of-around.ensures }
+
+pub gather-requires : goal.gather-requires
+gather-requires c = record { inside = rw (c.size.ensures.size ∙ (λ t. (c.map.ensures.map t).size)) at c.around_of-around.ensures }

@@ -1,4 +1,4 @@
-use Rattle.std.proofs.Common.{sym, arith}
+use Rattle.std.proofs.Common.{inl, sym, arith, ◌∙◌}
 use Rattle.std.proofs.lemmas.Grind.{common_steps}
 use Rattle.match_error.specs.Errors.{error_of}
 use Rattle.patch_place.proofs.Shortlists.{past_for}
@@ -12,3 +12,6 @@ returns-in-Some-clause-more c = grind (arith, common_steps)
 
 pub returns-in-None-clause-more : goal.returns-in-None-clause-more
 returns-in-None-clause-more c = c.skip-in-None.ensures.more _ (past_for c.args.self.now c.count-count.result c.limit_for.result (error_of c.args.canvas.now.map c.args.sample.now c.args.placement.now) c.limit_for.ensures (sym c.count-count.ensures.count) (omega (arith, c.error_sum_within.ensures.bound)) c.in-None.ensures.none)
+
+pub returns-then-count-eq0-clause-more : goal.returns-then-count-eq0-clause-more
+returns-then-count-eq0-clause-more c = c.skip.ensures.more _ (inl (sym c.count-count.ensures.count ∙ c.if-count-eq0.true))

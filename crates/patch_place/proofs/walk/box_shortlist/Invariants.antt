@@ -2,7 +2,7 @@ use Rattle.std.proofs.Common.{◌≡◌, map}
 use Rattle.std.specs.Prelude.{Contains, IfSome}
 use Rattle.patch_place.specs.BoxErrors.{box_list}
 use Rattle.patch_place.specs.Tables.{IsBoxDone, IsSeenTo, IsSoundShortlist}
-use Rattle.patch_place.proofs.walk.counted_shortlist.Given as goal
+use Rattle.patch_place.proofs.walk.box_shortlist.Given as goal
 
 abbrev pub invariant-parts : goal.invariant-parts
 invariant-parts g l = record {

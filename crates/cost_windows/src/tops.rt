@@ -28,16 +28,6 @@ fn top_of(row: &[u64]) -> u64
     top
 }
 
-// The greatest number of row r of numbers in rows of one width.
-fn top_of_row(sums: &[u64], w: usize, r: usize) -> u64
-    requires width { w ≤ MOST_CELLS }
-    requires row { r ≤ MOST_CELLS }
-    requires inside { w * r + w ≤ length sums.now }
-    ensures { result ≡ row_top w sums.now r }
-{
-    top_of(&sums[w * r..w * r + w])
-}
-
 // Makes right the greatest numbers of the rows of a range.
 fn fill_tops(sums: &[u64], tops: &mut [u64], w: usize, from: usize, end: usize)
     requires width { w ≤ MOST_CELLS }
@@ -50,7 +40,7 @@ fn fill_tops(sums: &[u64], tops: &mut [u64], w: usize, from: usize, end: usize)
     ensures after { (r : ℕ) → end ≤ r → slice_index tops.new r ≡ slice_index tops.old r }
 {
     for r in from..end {
-        tops[r] = top_of_row(sums, w, r);
+        tops[r] = top_of(&sums[w * r..w * r + w]);
     }
 }
 

@@ -140,37 +140,40 @@ fn run_in(
         last: &last,
         previous: &previous,
     };
-    let value = run(alloc, &graph, backward, levels, first, is_last)?;
-    Ok(value)
+    run(alloc, &graph, backward, levels, first, is_last)
 }
 
-// The flow of that value, and the cut of the nodes with a level.
+// The flow of that value, and the cut of the nodes with a level. There is none while the sink has one.
 fn hand_out(
     alloc: Global,
     network: &Network,
     backward: &[u32],
     levels: &[u32],
     value: u64,
-) -> Result<Solved, AllocError>
+) -> Result<Option<Solved>, AllocError>
     requires carries { Carries network.now.pipes network.now.source network.now.sink backward.now
         value }
     requires levels { AreLevels network.now.pipes network.now.nodes network.now.source
         backward.now levels.now }
-    requires closed { IsClosed network.now.pipes backward.now levels.now }
-    requires sink { level_of levels.now network.now.sink ≡ 0 }
-    ensures { IfOk result (λ solved.
-        IsSolution network.now solved.flow solved.source_side solved.value) }
+    requires closed { level_of levels.now network.now.sink ≡ 0
+        → IsClosed network.now.pipes backward.now levels.now }
+    ensures solved { IfOk result (λ option. IfSome option (λ solved.
+        IsSolution network.now solved.flow solved.source_side solved.value)) }
+    ensures some { level_of levels.now network.now.sink ≡ 0 → IfOk result IsSome }
 {
+    if levels[network.sink() as usize] > 0 {
+        return Ok(None);
+    }
     let pipes = network.pipes();
     let mut flow = vec![in alloc; 0i32; pipes.len()]?;
     write_flows(pipes, network.nodes(), backward, &mut flow);
     let mut sides = vec![in alloc; false; levels.len()]?;
     write_sides(levels, &mut sides);
-    Ok(Solved {
+    Ok(Some(Solved {
         flow: Items::from_vec(flow),
         source_side: Items::from_vec(sides),
         value,
-    })
+    }))
 }
 
 // Solves the network by level graphs, from a flow of that value. Unless it's the last time, it may stop before,
@@ -192,10 +195,7 @@ fn level_graphs(
 {
     let mut levels = vec![in alloc; 0u32; network.nodes() as usize]?;
     let value = run_in(alloc, network, backward, &mut levels, first, is_last)?;
-    if levels[network.sink() as usize] > 0 {
-        return Ok(None);
-    }
-    Ok(Some(hand_out(alloc, network, backward, &levels, value)?))
+    hand_out(alloc, network, backward, &levels, value)
 }
 
 // Solves the network by level graphs, from the flow that a search left, or from none where it isn't one.
@@ -207,6 +207,35 @@ fn finish(alloc: Global, network: &Network, backward: &mut [u32]) -> Result<Solv
 {
     let value = checked_flow(alloc, network, backward)?;
     Ok(level_graphs(alloc, network, backward, value, true)?.unwrap())
+}
+
+// Solves the network from no flow, in a table of what the arcs against the pipes can carry.
+fn solve_in(alloc: Global, network: &Network, backward: &mut [u32]) -> Result<Solved, AllocError>
+    requires limit { length network.now.pipes < 2 ^ 31 }
+    requires sized { length backward.old ≡ length network.now.pipes }
+    ensures { IfOk result (λ solved.
+        IsSolution network.now solved.flow solved.source_side solved.value) }
+{
+    empty(network.pipes(), backward);
+    if let Some(solved) = level_graphs(alloc, network, backward, 0, false)? {
+        return Ok(solved);
+    }
+    propose(alloc, network, backward)?;
+    finish(alloc, network, backward)
+}
+
+// Solves the network, from the flow of a shorter one where there is one.
+fn solution(alloc: Global, network: &Network) -> Result<Solved, AllocError>
+    requires { length network.now.pipes < 2 ^ 31 }
+    ensures { IfOk result (λ solved.
+        IsSolution network.now solved.flow solved.source_side solved.value) }
+{
+    if let Some(shorter) = Shorter::find(alloc, network)? {
+        let mut backward = propose_short(alloc, network, shorter)?;
+        return finish(alloc, network, &mut backward);
+    }
+    let mut backward = vec![in alloc; 0u32; network.pipes().len()]?;
+    solve_in(alloc, network, &mut backward)
 }
 
 /// Finds a flow of greatest value, and of all least cuts the one whose source side is contained in that of
@@ -226,19 +255,8 @@ pub fn solve(alloc: Global, network: &Network) -> Result<Solved, AllocError>
     ensures smallest { IfOk result (λ solved. (other : List Bool) → IsLeastCut network.now other
         → IsContained solved.source_side other) }
 {
-    let pipes = network.pipes();
-    if pipes.len() >= LIMIT {
+    if network.pipes().len() >= LIMIT {
         return Err(AllocError);
     }
-    if let Some(shorter) = Shorter::find(alloc, network)? {
-        let mut backward = propose_short(alloc, network, shorter)?;
-        return Ok(finish(alloc, network, &mut backward)?);
-    }
-    let mut backward = vec![in alloc; 0u32; pipes.len()]?;
-    empty(pipes, &mut backward);
-    if let Some(solved) = level_graphs(alloc, network, &mut backward, 0, false)? {
-        return Ok(solved);
-    }
-    propose(alloc, network, &mut backward)?;
-    Ok(finish(alloc, network, &mut backward)?)
+    solution(alloc, network)
 }

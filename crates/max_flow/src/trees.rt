@@ -194,17 +194,13 @@ impl Trees {
     // node hangs on no end.
     fn least_room(&self, from: u32, tree: Tree, most: u32) -> u32 {
         let inward = Trees::inward(tree);
-        let rooms = self.arcs.rooms();
         let mut least = most;
         let mut last = self.node(from);
         for _ in 0..self.nodes.len() {
             let Some(parent) = self.nodes.get(last.parent as usize) else {
                 break;
             };
-            let Some(room) = rooms.get((last.number ^ inward) as usize) else {
-                return 0;
-            };
-            least = least.min(*room);
+            least = least.min(self.arcs.room(last.number ^ inward));
             last = *parent;
         }
         if last.parent == END { least } else { 0 }

@@ -1,5 +1,7 @@
-use Rattle.std.proofs.Common.{arith}
+use Rattle.std.proofs.Common.{◌≡◌, arith, subst, sym}
 use Rattle.std.proofs.lemmas.Grind.{common_steps}
+use Rattle.std.proofs.lemmas.Result.{IfOk-weaker}
+use Rattle.max_flow.specs.Levels.{IsClosed, level_of}
 use Rattle.max_flow.proofs.solver.run_in.Goals as goal
 
 pub invariant_of-graph : goal.invariant_of-graph
@@ -9,7 +11,11 @@ pub returns-clause-levels : goal.returns-clause-levels
 returns-clause-levels c = grind (arith, common_steps)
 
 pub returns-clause-closed : goal.returns-clause-closed
-returns-clause-closed c = grind (arith, common_steps)
+returns-clause-closed c =
+    IfOk-weaker c.run.result _ _
+    (λ _ closed zero. subst (λ pipes. IsClosed pipes c.run.new.backward c.run.new.levels) c.pipes-pipes.ensures.value
+    (closed (subst (λ s. level_of c.run.new.levels s ≡ 0) (sym c.sink.ensures.value) zero)))
+    c.run.ensures.closed
 
 pub returns-clause-sink : goal.returns-clause-sink
 returns-clause-sink c = grind (arith, common_steps)

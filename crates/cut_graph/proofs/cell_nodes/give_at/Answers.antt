@@ -3,6 +3,7 @@ use Rattle.std.specs.Prelude.{option_copied, slice_index_or}
 use Rattle.boxes.proofs.Indices.{index_below}
 use Rattle.costs.specs.Lawful.{is_held, held_marks}
 use Rattle.cut_graph.specs.Building.{IsStanding}
+use Rattle.costs.proofs.Near.{in_largest}
 use Rattle.cut_graph.proofs.Numbered.{held_by_index, more_cells}
 use Rattle.cut_graph.proofs.cell_nodes.give_at.Goals as goal
 
@@ -27,3 +28,9 @@ returns-clause-cells c =
 
 pub returns-clause-room : goal.returns-clause-room
 returns-clause-room c = c.give.ensures.room ∙ c.requires.room
+
+pub cell-p-requires-clause-inside : goal.cell-p-requires-clause-inside
+cell-p-requires-clause-inside c =
+    let m = c.args.canvas.now.map in
+    let rect = c.args.placement.now.rect in
+    in_largest m.size rect.corner rect.size c.map.ensures.canvas.map.small c.requires.inside

@@ -1,6 +1,7 @@
 use Rattle.std.proofs.Common.{arith}
 use Rattle.std.proofs.lemmas.Grind.{common_steps}
-use Rattle.std.proofs.Common.{◌≡◌, length, ap, ◌∙◌, subst}
+use Rattle.std.proofs.Common.{◌≡◌, ◌<◌, length, ap, sym, ◌∙◌, subst}
+use Rattle.std.specs.Prelude.{slice_index}
 use Rattle.std.proofs.lemmas.Result.{IfOk-weaker}
 use Rattle.cells.specs.Distances.{distance}
 use Rattle.cells.specs.Places.{cell_count}
@@ -29,3 +30,12 @@ returns c =
 
 pub lay_pipes-requires-clause-plan : goal.lay_pipes-requires-clause-plan
 lay_pipes-requires-clause-plan c = grind (arith, common_steps)
+
+pub lay_pipes-requires-clause-nodes : goal.lay_pipes-requires-clause-nodes
+lay_pipes-requires-clause-nodes c =
+    let numbering = c.requires.seams.numbering in
+    record {
+      ends = omega (arith, c.requires.cells.order, numbering.order);
+      cells_in = λ k. omega (arith, subst (λ list. slice_index list k < c.args.cells.now.next) (sym c.deref.ensures.value) (c.requires.cells.below k), numbering.order);
+      seams_in = λ k. subst (λ list. slice_index list k < c.args.seams.now.next) (sym c.deref-2.ensures.value) (numbering.below k);
+    }

@@ -1,6 +1,5 @@
--- How far a record has come, for the contracts within the crate: the choice of a list of nodes, and
--- the
--- flows of the first cells' pairs. Nobody has to trust this file.
+-- How far a record has come, for the contracts within the crate: the choice of a list of nodes, the
+-- flows of the first cells' pairs, and the record of a solution. Nobody has to trust this file.
 use Rattle.std.specs.Prelude.{◌≡◌, ◌<◌, ℕ, ℤ, Bool, false, not, List, [], ◌∷◌, ◌++◌, length, slice_index, slice_index_or, if◌then◌else◌}
 use Rattle.cells.specs.declared.place.Axis.{Axis}
 use Rattle.cells.specs.declared.place.Axis.TheVariants.{X, Y, F}
@@ -8,12 +7,15 @@ use Rattle.cells.specs.Places.{cell_count}
 use Rattle.map_canvas.specs.declared.canvas.Placement.{Placement}
 use Rattle.map_canvas.specs.Maps.{SourceMap}
 use Rattle.boxes.specs.Pairs.{at_index, has_next, pair_count}
+use Rattle.max_flow.specs.declared.solver.Solved.{Solved}
 use Rattle.max_flow.specs.Flows.{is_in}
+use Rattle.max_flow.specs.Networks.{FlowNetwork}
+use Rattle.max_flow.specs.Solutions.{IsSolution}
 use Rattle.cut_graph.specs.declared.places.Places.{Places}
 use Rattle.cut_graph.specs.Pipes.{joined}
 use Rattle.cut_check.specs.declared.record.CutRecord.{CutRecord}
 use Rattle.cut_check.specs.declared.record.Flow.{Flow}
-use Rattle.graph_place.specs.Records.{flow_at_pair}
+use Rattle.graph_place.specs.Records.{flow_at_pair, IsRecordOf}
 
 -- each entry says whether its node isn't on the source's side
 pub record IsChoiceOf (nodes : List ℕ) (sides choice : List Bool) : Type 0 where
@@ -42,3 +44,10 @@ flows_before m placement places flows =
 pub record IsSizedRecord (cut : CutRecord) : Type 0 where
   pub choice : length cut.choice ≡ cell_count cut.placement.rect.size
   pub flows : length cut.flows ≡ pair_count cut.placement.rect.size
+
+-- a solution of the network gives the record
+pub record IsSolvedRecord (network : FlowNetwork) (m : SourceMap) (placement : Placement)
+    (places : Places) (cut : CutRecord) : Type 0 where
+  pub solved : Solved
+  pub is : IsSolution network solved.flow solved.source_side solved.value
+  pub gives : IsRecordOf m placement places solved cut

@@ -64,7 +64,9 @@ fn map_without(
 ) -> Result<Map, AllocError>
     ensures { IfOk result (λ m. m ≡ without canvas.map marks.now number) }
 {
-    without(alloc, canvas.map(), marks, number)
+    let map = without(alloc, canvas.map(), marks, number);
+    drop(canvas);
+    map
 }
 
 // The whole output, laid from the same place of a picture.
@@ -110,10 +112,12 @@ pub fn merge_step(
 {
     let map = map_without(alloc, canvas, marks, number)?;
     let size = map.size();
-    let mut next = Canvas::of_map(alloc, map, pictures)?;
     let held = earlier_marks(alloc, marks, size, number)?;
+    let mut next = Canvas::of_map(alloc, map, pictures)?;
     let placement = whole_from(pictures, number, size);
-    place_held(alloc, &mut next, pictures, placement, Some(&held))?;
+    let placed = place_held(alloc, &mut next, pictures, placement, Some(&held));
+    drop(held);
+    placed?;
     Ok(next)
 }
 

@@ -42,3 +42,6 @@ returns-clause-merge c =
       count = omega (arith, led.1, c.loop-number-test.false, c.loop-number.auto.number-end, c.len-number-end.ensures.len, ap length c.sizes.ensures);
       lead = led.2;
     }
+
+pub merge_step-requires-clause-to : goal.merge_step-requires-clause-to
+merge_step-requires-clause-to c = omega (arith, c.loop-number-test.true, c.len-number-end.ensures.len, ap length c.sizes.ensures)

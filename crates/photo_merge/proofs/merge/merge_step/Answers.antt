@@ -1,4 +1,5 @@
 use Rattle.std.proofs.Common.{◌≡◌, ap, ◌∙◌, sym, subst}
+use Rattle.map_canvas.specs.Choices.{Fits}
 use Rattle.map_canvas.specs.Maps.{IsOver, SourceMap}
 use Rattle.photo_merge.specs.Marks.{earlier_marks}
 use Rattle.photo_merge.specs.Merges.{MergesNext, whole_from, without}
@@ -30,22 +31,28 @@ of_map-requires c =
     subst (λ m. IsOver m c.args.pictures.now) (sym (c.in_ok-map.ensures {u = tt}))
     (without_over c.args.canvas.map c.args.marks.now c.args.number c.args.pictures.now c.requires.stands.over)
 
-pub place_held-requires-clause-held : goal.place_held-requires-clause-held
-place_held-requires-clause-held c =
-    let d = (goal.at.place_held-requires-clause-held c).After-deref in
+pub place_held-placed-requires-clause-held : goal.place_held-placed-requires-clause-held
+place_held-placed-requires-clause-held c =
+    let d = (goal.at.place_held-placed-requires-clause-held c).After-deref in
     held_there c.args.pictures.now c.args.marks.now c.args.number c.args.canvas.map c.in_ok-next.next.map c.whole_from-placement.result c.deref.result.now
     c.requires.full (next_is d) (placement_is d) (held_is d)
 
 pub returns-clause-next : goal.returns-clause-next
 returns-clause-next c =
     let d = (goal.at.returns-clause-next c).After-deref in
-    placed_next c.args.pictures.now c.args.marks.now c.args.number c.args.canvas.map c.in_ok-next.next c.place_held.new.canvas c.whole_from-placement.result c.deref.result.now
-    c.in_ok-place_held.field-0 (next_is d) (placement_is d) (held_is d) (c.in_ok-place_held.ensures {u = tt}).placed
+    placed_next c.args.pictures.now c.args.marks.now c.args.number c.args.canvas.map c.in_ok-next.next c.place_held-placed.new.canvas c.whole_from-placement.result c.deref.result.now
+    c.in_ok-placed.field-0 (next_is d) (placement_is d) (held_is d) (c.in_ok-placed.ensures {u = tt}).placed
 
 pub returns-clause-full : goal.returns-clause-full
 returns-clause-full c =
     let d = (goal.at.returns-clause-full c).After-deref in
-    let next : MergesNext c.args.pictures.now c.args.marks.now c.args.number c.args.canvas.map c.place_held.new.canvas.map =
-    placed_next c.args.pictures.now c.args.marks.now c.args.number c.args.canvas.map c.in_ok-next.next c.place_held.new.canvas c.whole_from-placement.result c.deref.result.now
-    c.in_ok-place_held.field-0 (next_is d) (placement_is d) (held_is d) (c.in_ok-place_held.ensures {u = tt}).placed in
-    stays_full c.args.pictures.now c.args.marks.now c.args.number c.args.canvas.map c.place_held.new.canvas.map next c.requires.full
+    let next : MergesNext c.args.pictures.now c.args.marks.now c.args.number c.args.canvas.map c.place_held-placed.new.canvas.map =
+    placed_next c.args.pictures.now c.args.marks.now c.args.number c.args.canvas.map c.in_ok-next.next c.place_held-placed.new.canvas c.whole_from-placement.result c.deref.result.now
+    c.in_ok-placed.field-0 (next_is d) (placement_is d) (held_is d) (c.in_ok-placed.ensures {u = tt}).placed in
+    stays_full c.args.pictures.now c.args.marks.now c.args.number c.args.canvas.map c.place_held-placed.new.canvas.map next c.requires.full
+
+pub place_held-placed-requires-clause-fits : goal.place_held-placed-requires-clause-fits
+place_held-placed-requires-clause-fits c =
+    subst (λ size. Fits size c.args.pictures.now c.whole_from-placement.result)
+    (c.size-size.ensures.size ∙ ap (λ (m : SourceMap). m.size) (sym (c.in_ok-next.ensures {u = tt}).map))
+    c.whole_from-placement.ensures.fits

@@ -72,10 +72,9 @@ pub(crate) fn step(
     if cells > MOST_BOX_CELLS {
         return Err(GrowError::Records(cells));
     }
+    work.cuts.reserve(1)?;
     let cut = place(alloc, &mut work.canvas, sample, placement)?;
-    let Ok(()) = work.cuts.push(cut) else {
-        return Err(GrowError::NoMemory);
-    };
+    work.cuts.push_reserved(cut);
     work.cells = cells;
     Ok(true)
 }

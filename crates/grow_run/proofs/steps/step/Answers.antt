@@ -1,4 +1,4 @@
-use Rattle.std.proofs.Common.{◌≡◌, ◌+◌, ◌∙◌, ap, arith}
+use Rattle.std.proofs.Common.{◌≡◌, ◌+◌, ◌∷◌, ◌++◌, [], ◌∙◌, ap, arith}
 use Rattle.cells.specs.Places.{IsSmall}
 use Rattle.map_canvas.proofs.Filling.{fits_small}
 use Rattle.patch_picks.specs.Steps.{IsNextAt, draws_after}
@@ -39,6 +39,6 @@ returns c =
           at.fits.fits.some
           ((next this).1 ∙ draws_laid c.args.plan.now c.args.sample.now was c.in-Some.placement at)
           (rounds_laid c.args.plan.now c.args.sample.now was c.in-Some.placement at)
-          c.in_ok-cut.ensures.placed c.place.ensures.canvas c.in-Ok.ensures.items (ap (λ n. c.args.work.now.cells + n) c.cells.ensures) c.if-cells-gt-MOST_BOX_CELLS.false c.requires.work.rounds,
+          c.in_ok-cut.ensures.placed c.place.ensures.canvas (c.push_reserved.ensures.items ∙ ap (λ cuts. cuts ++ c.in_ok-cut.cut ∷ []) c.reserve.ensures.items) (ap (λ n. c.args.work.now.cells + n) c.cells.ensures) c.if-cells-gt-MOST_BOX_CELLS.false c.requires.work.rounds,
       omega (arith, some_cells c.in-Some.placement.rect.size at.fits.fits.some, c.cells.ensures),
     )

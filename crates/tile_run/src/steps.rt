@@ -46,7 +46,9 @@ fn choose(
     let list = Candidates::Fits { rect: inner };
     let number = draws.place();
     let placement = pick_with(alloc, &list, Some(plan.tol), &small, sample, sums, draws)?;
-    let Ok(cut) = place(alloc, &mut small, sample, placement) else {
+    let placed = place(alloc, &mut small, sample, placement);
+    drop(small);
+    let Ok(cut) = placed else {
         draws.go_to(number);
         return Err(AllocError);
     };

@@ -1,6 +1,5 @@
-use Rattle.std.proofs.Common.{arith}
 use Rattle.std.proofs.lemmas.Grind.{common_steps}
-use Rattle.std.proofs.Common.{Bool, ◌<◌, ◌+◌, ◌-◌, subst, sym}
+use Rattle.std.proofs.Common.{Bool, ◌<◌, ◌+◌, ◌-◌, subst, sym, arith}
 use Rattle.std.specs.Prelude.{if◌then◌else◌}
 use Rattle.cells.specs.Places.{cell_count}
 use Rattle.map_canvas.proofs.EmptyAndFull.{whole_is_full}
@@ -31,3 +30,6 @@ laying-smaller c =
 
 pub laying-preserved : goal.laying-preserved
 laying-preserved c = grind (arith, common_steps)
+
+pub step-requires-clause-plan : goal.step-requires-clause-plan
+step-requires-clause-plan c = c.requires.plan

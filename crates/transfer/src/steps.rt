@@ -15,8 +15,7 @@ use block_check::BlockRecord;
 use cells::Volume;
 use map_canvas::Canvas;
 use patch_picks::Draws;
-use quilt::next_block_by;
-use quilt::quilt_by;
+use quilt::{next_block_by, quilt_by};
 use quilted::{QuiltError, QuiltRun, Quilted, first_past};
 use std::alloc::{AllocError, Global};
 

@@ -101,7 +101,9 @@ fn pick_weighed<'a>(
 {
     box_list_is_all_that_fit(rect, canvas.map().size(), sample);
     let errors = weighing(alloc, alpha, target, search, rect, aim, canvas, sample)?;
-    pick_by(alloc, &errors, rect, tol, sample, draws)
+    let placement = pick_by(alloc, &errors, rect, tol, sample, draws);
+    drop(errors);
+    placement
 }
 
 impl BlockPicks for Weighed<'_> {
@@ -119,7 +121,7 @@ impl BlockPicks for Weighed<'_> {
         draws: &mut Draws,
     ) -> Result<Placement, AllocError> {
         let aim = target_box(alloc, sample, self.target, &self.search.joined, rect)?;
-        pick_weighed(
+        let placement = pick_weighed(
             alloc,
             self.alpha,
             self.target,
@@ -130,6 +132,8 @@ impl BlockPicks for Weighed<'_> {
             canvas,
             sample,
             draws,
-        )
+        );
+        drop(aim);
+        placement
     }
 }

@@ -11,7 +11,7 @@ use limits::MOST_SAMPLE_CELLS;
 use netpbm_p6::{Picture, read_p6};
 use shelf_traits::{Failed, ReadError, Shelf};
 use std::alloc::Global;
-use y4m_clip::{Clip, read_clip};
+use y4m_clip::read_clip;
 
 /// A sample: its form, and its cells.
 #[derive(Drop)]
@@ -30,27 +30,6 @@ fn begins_clip<S: Shelf>(shelf: &mut S, name: &str) -> Result<bool, Failed>
     let mut first = [0u8; 1];
     let count = shelf.get(name, 0, &mut first)?;
     Ok(count == 1 && first[0] == b'Y')
-}
-
-// Reads a clip of at most so many cells.
-fn read_as_clip<S: Shelf>(
-    alloc: Global,
-    shelf: &mut S,
-    name: &str,
-    most: u64,
-) -> Result<Sample, ReadError>
-    requires { most ≤ MOST_CELLS }
-    ensures answer { ReadsInForm true most name.now (S.state shelf.old) (S.state shelf.new) result }
-    ensures sound { IfOk result (IsSoundSampleWithin most) }
-    ensures reads { OnlyReadsFile name.now (S.state shelf.old) (S.state shelf.new) }
-{
-    match read_clip(alloc, shelf, name, most) {
-        Ok(Clip { form, volume }) => Ok(Sample {
-            form: Form::Clip { form },
-            volume,
-        }),
-        Err(error) => Err(error),
-    }
 }
 
 // Reads a picture.
@@ -87,7 +66,13 @@ pub fn read_sample_within<S: Shelf>(
     ensures reads { OnlyReadsFile name.now (S.state shelf.old) (S.state shelf.new) }
 {
     if begins_clip(shelf, name)? {
-        return read_as_clip(alloc, shelf, name, most);
+        return match read_clip(alloc, shelf, name, most) {
+            Ok(clip) => Ok(Sample {
+                form: Form::Clip { form: clip.form },
+                volume: clip.volume,
+            }),
+            Err(error) => Err(error),
+        };
     }
     read_as_picture(alloc, shelf, name)
 }

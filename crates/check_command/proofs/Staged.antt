@@ -1,6 +1,6 @@
 -- The stages of `check`: each has one answer, and what is read goes by them.
 use Rattle.std.proofs.Common.{◌≡◌, ℕ, ◌+◌, ◌*◌, ◌≤◌, Bool, List, [], ◌∷◌, length, refl, ap, ◌∙◌, subst}
-use Rattle.std.specs.Prelude.{Ok, Err}
+use Rattle.std.specs.Prelude.{Result, Ok, Err}
 use Rattle.limits.specs.declared.bounds.TheConstants.{MOST_OUT_CLIP_CELLS, MOST_PARTS}
 use Rattle.shelf_traits.specs.Files.{Files, InFile, OnlyReads, OnlyReadsFile, ShelfState, content_of}
 use Rattle.shelf_traits.proofs.FileLaws.{told_both, told_weaker}
@@ -17,7 +17,7 @@ use Rattle.synth_report.specs.declared.summary.Summary.{Summary}
 use Rattle.synth_report.specs.Texts.{summary_status}
 use Rattle.command.specs.Commands.{HasOneAnswer, named, names_in}
 use Rattle.command.specs.Faults.{IsNotRead}
-use Rattle.command.specs.Outcomes.{IsPlanned, NotMade}
+use Rattle.command.specs.Outcomes.{IsPlanned, NotMade, Plans}
 use Rattle.command.specs.Stages.{AllMake}
 use Rattle.command.proofs.Staging.{AreOne, ReadsOne, file_is_one, one_answer, read_by}
 use Rattle.command.proofs.Planning.{StandsBefore, begin, file_read, part_not_read, read_on, reads_on}
@@ -33,7 +33,7 @@ use Rattle.standing_files.specs.declared.verdict.Verdict.{Verdict}
 use Rattle.standing_files.specs.declared.verdict.Verdict.TheVariants.{Stands, Fails}
 use Rattle.standing_files.specs.Standing.{IsVerdict}
 use Rattle.standing_files.proofs.Breaking.{breaks_none}
-use Rattle.check_command.specs.Checks.{AreRunFiles, IsCheckSummary, IsOut, IsReadMap, MayRefuseFiles, ReadFiles, RefusesMap, RefusesOutBytes, check_command, check_stages, run_map_read, stages_over, summary_of}
+use Rattle.check_command.specs.Checks.{AreRunFiles, IsCheckSummary, IsOut, IsReadMap, JudgesRecord, MayRefuseFiles, ReadFiles, RefusesMap, RefusesOutBytes, check_command, check_stages, run_map_read, stages_over, summary_of}
 
 known_samples : (n : ℕ) (fault : Fault) → MayRefuseSamples n fault → MayRefuseFiles n fault
 known_samples n (Form part.Out why) may = tt
@@ -185,7 +185,7 @@ judged_of turns names files texts summary all = by (parts_made turns (length nam
       summary_is = summary_is;
     }
 
-pub verdict_planned : {names : List (List ℕ)} (job : CheckJob) (a b : ShelfState) → OnlyReads names a b → (values : ReadFiles) → Sees a b (λ files. AreRunFiles job.turns job.names files values) → (verdict : Verdict) → IsVerdict values.samples values.out values.map values.record_file verdict
+verdict_planned : {names : List (List ℕ)} (job : CheckJob) (a b : ShelfState) → OnlyReads names a b → (values : ReadFiles) → Sees a b (λ files. AreRunFiles job.turns job.names files values) → (verdict : Verdict) → IsVerdict values.samples values.out values.map values.record_file verdict
     → IsPlanned (check_command job) [] (summary_of verdict) a b
 verdict_planned job a b reads values are verdict judged = record {
   known = (verdict, refl);
@@ -193,3 +193,12 @@ verdict_planned job a b reads values are verdict judged = record {
   made = told_weaker (λ before after. (after ≡ before) × AreRunFiles job.turns job.names before values) (λ before after. (after ≡ before) × AllMake (check_stages job.turns job.names) before [] (summary_of verdict)) a.files b.files
       (λ before after seen. (seen.0, made_of job.turns job.names before values seen.1 verdict judged)) (told_both (λ before after. after ≡ before) (λ before after. AreRunFiles job.turns job.names before values) a.files b.files reads.files are);
 }
+
+pub judged_planned : {names : List (List ℕ)} (job : CheckJob) (a b : ShelfState) → OnlyReads names a b → (samples : Samples) (out : Sample) (map_file : MapFile) (now : ShelfState)
+    → ((fault : Fault) → IsNotRead RefusesRecordFile part.Record job.names.record_file now b fault → NotMade (check_command job) a b fault)
+    → ((record_file : RecordFile) → InFile job.names.record_file now b (λ bytes. IsRecordFileOf bytes record_file)
+    → Sees a b (λ files. AreRunFiles job.turns job.names files (record { samples = samples; out = out; map = map_file; record_file = record_file })))
+    → (result : Result Verdict Fault) → JudgesRecord samples out map_file job.names.record_file now b result → Plans (check_command job) (λ verdict. []) summary_of a b result
+judged_planned job a b reads samples out map_file now not are (Ok verdict) its =
+    verdict_planned job a b reads (record { samples = samples; out = out; map = map_file; record_file = its.0 }) (are its.0 its.1) verdict its.2
+judged_planned job a b reads samples out map_file now not are (Err fault) its = not fault its

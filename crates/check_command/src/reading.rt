@@ -107,7 +107,7 @@ fn judge_record<S: Shelf>(
 
 /// Reads the samples in the order of their numbers, then the out file, the map and the record, whose records
 /// are judged as they come. With turns the number of parts is asked for before, and the samples are turned
-/// before the record is read.
+/// once they are read.
 pub(crate) fn judge_files<S: Shelf>(
     alloc: Global,
     job: &CheckJob,
@@ -128,25 +128,29 @@ pub(crate) fn judge_files<S: Shelf>(
         Ok(samples) => samples,
         Err(fault) => return Err(fault),
     };
-    let out = match read_out(alloc, shelf, &names.out) {
-        Ok(out) => out,
-        Err(fault) => return Err(fault),
-    };
-    let map = match read_map_file(alloc, shelf, job.turns, &names.map) {
-        Ok(map) => map,
-        Err(fault) => return Err(fault),
-    };
     let samples = match worked(alloc, job.turns, samples) {
         Ok(samples) => samples,
         Err(_) => return Err(Fault::NoMemory),
     };
+    let out = match read_out(alloc, shelf, &names.out) {
+        Ok(out) => out,
+        // Given to `drop`, each end is proved once, by itself.
+        Err(fault) => {
+            drop(samples);
+            return Err(fault);
+        }
+    };
+    let map = match read_map_file(alloc, shelf, job.turns, &names.map) {
+        Ok(map) => map,
+        Err(fault) => {
+            drop(out);
+            drop(samples);
+            return Err(fault);
+        }
+    };
     let judged = judge_record(alloc, &samples, &out, &map, shelf, &names.record_file);
-    // Given to `drop`, each end is proved once, by itself.
     drop(map);
     drop(out);
     drop(samples);
-    match judged {
-        Ok(verdict) => Ok(verdict),
-        Err(fault) => Err(fault),
-    }
+    judged
 }

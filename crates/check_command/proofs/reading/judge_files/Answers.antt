@@ -2,8 +2,7 @@ use Rattle.std.proofs.Common.{◌+◌, length, subst}
 use Rattle.std.specs.Prelude.{Ok, Err}
 use Rattle.shelf_traits.proofs.FileLaws.{only_reads_same}
 use Rattle.sample_files.specs.Several.{AsksParts}
-use Rattle.check_command.specs.Checks.{ReadFiles}
-use Rattle.check_command.proofs.Staged.{files_are, map_only, no_map, no_out, no_record, no_samples, out_only, parts_pass, record_only, samples_only, verdict_planned}
+use Rattle.check_command.proofs.Staged.{files_are, judged_planned, map_only, no_map, no_out, no_record, no_samples, out_only, parts_pass, record_only, samples_only}
 use Rattle.check_command.proofs.reading.judge_files.Goals as goal
 
 pub returns-in-Err-clause-planned : goal.returns-in-Err-clause-planned
@@ -70,60 +69,34 @@ pub returns-in-Err-worked-clause-reads : goal.returns-in-Err-worked-clause-reads
 returns-in-Err-worked-clause-reads g c =
     let a = g.S.Shelf.state c.args.shelf.now in
     let b = g.S.Shelf.state c.read_samples.new.shelf in
-    let d = g.S.Shelf.state c.read_out.new.shelf in
-    let e = g.S.Shelf.state c.read_map_file.new.shelf in
     let few = subst (λ names. AsksParts c.args.job.now.turns (length names + 1) (Ok tt)) c.as_slice-more.ensures.names (c.in-Ok.ensures {u = tt}) in
-    map_only c.args.job.now a b few c.as_slice-more.ensures.names c.read_samples.ensures.reads c.in-Ok-read_samples.samples (c.in-Ok-read_samples.ensures {u = tt}).answer d c.read_out.ensures.reads
-    c.in-Ok-read_out.out (c.in-Ok-read_out.ensures {u = tt}).answer e c.read_map_file.ensures.reads
+    samples_only c.args.job.now a b few c.as_slice-more.ensures.names c.read_samples.ensures.reads
 
-pub returns-in-Err-judged-clause-planned : goal.returns-in-Err-judged-clause-planned
-returns-in-Err-judged-clause-planned g c =
+pub returns-clause-planned : goal.returns-clause-planned
+returns-clause-planned g c =
     let a = g.S.Shelf.state c.args.shelf.now in
     let b = g.S.Shelf.state c.read_samples.new.shelf in
     let d = g.S.Shelf.state c.read_out.new.shelf in
     let e = g.S.Shelf.state c.read_map_file.new.shelf in
     let f = g.S.Shelf.state c.judge_record-judged.new.shelf in
     let few = subst (λ names. AsksParts c.args.job.now.turns (length names + 1) (Ok tt)) c.as_slice-more.ensures.names (c.in-Ok.ensures {u = tt}) in
-    no_record c.args.job.now a b few c.as_slice-more.ensures.names c.read_samples.ensures.reads c.in-Ok-read_samples.samples (c.in-Ok-read_samples.ensures {u = tt}).answer d c.read_out.ensures.reads
-    c.in-Ok-read_out.out (c.in-Ok-read_out.ensures {u = tt}).answer e c.read_map_file.ensures.reads
-    c.in-Ok-read_map_file.map (c.in-Ok-read_map_file.ensures {u = tt}).answer f c.judge_record-judged.ensures.reads c.in-Err-judged.fault (c.in-Err-judged.ensures {u = tt}).answer
-
-pub returns-in-Err-judged-clause-reads : goal.returns-in-Err-judged-clause-reads
-returns-in-Err-judged-clause-reads g c =
-    let a = g.S.Shelf.state c.args.shelf.now in
-    let b = g.S.Shelf.state c.read_samples.new.shelf in
-    let d = g.S.Shelf.state c.read_out.new.shelf in
-    let e = g.S.Shelf.state c.read_map_file.new.shelf in
-    let f = g.S.Shelf.state c.judge_record-judged.new.shelf in
-    let few = subst (λ names. AsksParts c.args.job.now.turns (length names + 1) (Ok tt)) c.as_slice-more.ensures.names (c.in-Ok.ensures {u = tt}) in
-    record_only c.args.job.now a b few c.as_slice-more.ensures.names c.read_samples.ensures.reads c.in-Ok-read_samples.samples (c.in-Ok-read_samples.ensures {u = tt}).answer d c.read_out.ensures.reads
-    c.in-Ok-read_out.out (c.in-Ok-read_out.ensures {u = tt}).answer e c.read_map_file.ensures.reads
-    c.in-Ok-read_map_file.map (c.in-Ok-read_map_file.ensures {u = tt}).answer f c.judge_record-judged.ensures.reads
-
-pub returns-in-Ok-judged-clause-planned : goal.returns-in-Ok-judged-clause-planned
-returns-in-Ok-judged-clause-planned g c =
-    let a = g.S.Shelf.state c.args.shelf.now in
-    let b = g.S.Shelf.state c.read_samples.new.shelf in
-    let d = g.S.Shelf.state c.read_out.new.shelf in
-    let e = g.S.Shelf.state c.read_map_file.new.shelf in
-    let f = g.S.Shelf.state c.judge_record-judged.new.shelf in
-    let few = subst (λ names. AsksParts c.args.job.now.turns (length names + 1) (Ok tt)) c.as_slice-more.ensures.names (c.in-Ok.ensures {u = tt}) in
-    let its = (c.in-Ok-judged.ensures {u = tt}).answer in
     let all = c.in-Ok-worked.samples in
-    let values : ReadFiles = record { samples = all; out = c.in-Ok-read_out.out; map = c.in-Ok-read_map_file.map; record_file = its.0 } in
-    verdict_planned c.args.job.now a f
+    judged_planned c.args.job.now a f
     (record_only c.args.job.now a b few c.as_slice-more.ensures.names c.read_samples.ensures.reads c.in-Ok-read_samples.samples (c.in-Ok-read_samples.ensures {u = tt}).answer d c.read_out.ensures.reads
     c.in-Ok-read_out.out (c.in-Ok-read_out.ensures {u = tt}).answer e c.read_map_file.ensures.reads
     c.in-Ok-read_map_file.map (c.in-Ok-read_map_file.ensures {u = tt}).answer f c.judge_record-judged.ensures.reads)
-    values
-    (files_are c.args.job.now a b few c.as_slice-more.ensures.names c.read_samples.ensures.reads c.in-Ok-read_samples.samples (c.in-Ok-read_samples.ensures {u = tt}).answer d c.read_out.ensures.reads
+    all c.in-Ok-read_out.out c.in-Ok-read_map_file.map e
+    (no_record c.args.job.now a b few c.as_slice-more.ensures.names c.read_samples.ensures.reads c.in-Ok-read_samples.samples (c.in-Ok-read_samples.ensures {u = tt}).answer d c.read_out.ensures.reads
+    c.in-Ok-read_out.out (c.in-Ok-read_out.ensures {u = tt}).answer e c.read_map_file.ensures.reads
+    c.in-Ok-read_map_file.map (c.in-Ok-read_map_file.ensures {u = tt}).answer f c.judge_record-judged.ensures.reads)
+    (λ record_file is_its. files_are c.args.job.now a b few c.as_slice-more.ensures.names c.read_samples.ensures.reads c.in-Ok-read_samples.samples (c.in-Ok-read_samples.ensures {u = tt}).answer d c.read_out.ensures.reads
     c.in-Ok-read_out.out (c.in-Ok-read_out.ensures {u = tt}).answer e c.read_map_file.ensures.reads
     c.in-Ok-read_map_file.map (c.in-Ok-read_map_file.ensures {u = tt}).answer f c.judge_record-judged.ensures.reads
-    its.0 its.1 all (c.in-Ok-worked.ensures {u = tt}).is)
-    c.in-Ok-judged.verdict its.2
+    record_file is_its all (c.in-Ok-worked.ensures {u = tt}).is)
+    c.judge_record-judged.result c.judge_record-judged.ensures.answer
 
-pub returns-in-Ok-judged-clause-reads : goal.returns-in-Ok-judged-clause-reads
-returns-in-Ok-judged-clause-reads g c =
+pub returns-clause-reads : goal.returns-clause-reads
+returns-clause-reads g c =
     let a = g.S.Shelf.state c.args.shelf.now in
     let b = g.S.Shelf.state c.read_samples.new.shelf in
     let d = g.S.Shelf.state c.read_out.new.shelf in

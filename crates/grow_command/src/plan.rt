@@ -54,9 +54,10 @@ pub(crate) fn plan<S: Shelf>(alloc: Global, job: &GrowJob, shelf: &mut S) -> Res
     // The number of samples of a cell is taken for its contract only: it shows the prover that
     // these are a volume, here and of their turns.
     let _k = read.volume.samples();
-    match within_bounds(job.size, &read.form) {
-        Ok(()) => {}
-        Err(fault) => return Err(fault),
+    // Given to `drop`, the end of samples is proved once, by itself.
+    if let Err(fault) = within_bounds(job.size, &read.form) {
+        drop(read);
+        return Err(fault);
     }
     let sizes = read.volume.sizes();
     let samples = match worked(alloc, job.turns, read) {
@@ -66,7 +67,10 @@ pub(crate) fn plan<S: Shelf>(alloc: Global, job: &GrowJob, shelf: &mut S) -> Res
     let _n = samples.volume.samples();
     let grown = match grow_canvas(alloc, &plan_of(job), &samples.volume) {
         Ok(grown) => grown,
-        Err(error) => return Err(growing_fault(error)),
+        Err(error) => {
+            drop(samples);
+            return Err(growing_fault(error));
+        }
     };
     records_fit(grown.cuts.as_slice());
     let seams = total(&grown.canvas, &samples.volume);

@@ -27,10 +27,13 @@ pub fn grow<S: Shelf, O: Sink>(
     let growth = plan(alloc, job, shelf)?;
     let writer = match writer_for(alloc, &growth.samples.form, job.size) {
         Ok(writer) => writer,
-        Err(_) => return Err(Fault::NoMemory),
+        // Given to `drop`, the end of all that was made is proved once, by itself.
+        Err(_) => {
+            drop(growth);
+            return Err(Fault::NoMemory);
+        }
     };
     let answer = write_growth(job, &growth, writer, shelf, out);
-    // Given to `drop`, the end of all that was made is proved once, by itself.
     drop(growth);
     answer
 }

@@ -40,7 +40,7 @@ returns-in-Err-grow_canvas-clause-planned g c =
     let read = c.in-Ok-read_samples.read in
     let few = subst (λ names. AsksParts job.turns (length names + 1) (Ok tt)) c.as_slice-more.ensures.names (c.in-Ok.ensures {u = tt}) in
     subst (NotMade (grow_command job) a b) (sym c.growing_fault.ensures)
-    (not_grown job a b few c.as_slice-more.ensures.names c.read_samples.ensures.reads read (c.in-Ok-read_samples.ensures {u = tt}).answer (c.in-Ok-within_bounds.ensures {u = tt}) c.in-Err-grow_canvas.error
+    (not_grown job a b few c.as_slice-more.ensures.names c.read_samples.ensures.reads read (c.in-Ok-read_samples.ensures {u = tt}).answer (c.in_default.ensures) c.in-Err-grow_canvas.error
     (subst (λ (s : Samples). IsGrowFault (plan_of job) s.volume c.in-Err-grow_canvas.error) (c.in-Ok-worked.ensures {u = tt}).is
     (subst (λ plan. IsGrowFault plan c.in-Ok-worked.samples.volume c.in-Err-grow_canvas.error) c.plan_of.ensures (c.in-Err-grow_canvas.ensures {u = tt}))))
 
@@ -55,7 +55,7 @@ returns-clause-planned g c =
     let is = (c.in-Ok-worked.ensures {u = tt}).is in
     let few = subst (λ names. AsksParts job.turns (length names + 1) (Ok tt)) c.as_slice-more.ensures.names (c.in-Ok.ensures {u = tt}) in
     let run = subst (λ plan. IsGrown plan all.volume grown) c.plan_of.ensures (c.in-Ok-grow_canvas.ensures {u = tt}) in
-    growth_made job a b few c.as_slice-more.ensures.names c.read_samples.ensures.reads read (c.in-Ok-read_samples.ensures {u = tt}).answer c.requires (c.in-Ok-within_bounds.ensures {u = tt}) grown
+    growth_made job a b few c.as_slice-more.ensures.names c.read_samples.ensures.reads read (c.in-Ok-read_samples.ensures {u = tt}).answer c.requires (c.in_default.ensures) grown
     (grown_over job read all is c.sizes-sizes.result c.sizes-sizes.ensures grown c.total-seams.result c.samples-k.ensures.volume c.samples-n.ensures.volume run (subst (All HasShortFlows) c.as_slice.ensures c.records_fit.ensures))
     (record { samples = all; sizes = c.sizes-sizes.result; grown = grown; seams = c.total-seams.result })
     (growth_is job read all is c.sizes-sizes.result c.sizes-sizes.ensures grown c.total-seams.result c.total-seams.ensures)
@@ -67,5 +67,5 @@ returns-clause-made g c =
     let all = c.in-Ok-worked.samples in
     let grown = c.in-Ok-grow_canvas.grown in
     is_made job read all (c.in-Ok-worked.ensures {u = tt}).is c.sizes-sizes.result c.sizes-sizes.ensures grown c.total-seams.result (length c.as_slice-more.result.now + 1) (c.in-Ok.ensures {u = tt}) (c.in-Ok-read_samples.ensures {u = tt}).count
-    c.samples-k.ensures.volume c.samples-n.ensures.volume (c.in-Ok-worked.ensures {u = tt}).sound (c.in-Ok-within_bounds.ensures {u = tt})
+    c.samples-k.ensures.volume c.samples-n.ensures.volume (c.in-Ok-worked.ensures {u = tt}).sound (c.in_default.ensures)
     (subst (λ plan. IsGrown plan all.volume grown) c.plan_of.ensures (c.in-Ok-grow_canvas.ensures {u = tt}))

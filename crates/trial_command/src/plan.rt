@@ -75,8 +75,14 @@ fn grown_from(alloc: Global, job: &TrialJob, sample: &Volume) -> Result<Summary,
         Ok(grown) => grown,
         Err(error) => return Err(growing_fault(error)),
     };
-    let left = checked(alloc, sample, &grown)?;
-    Ok(summary_of(job, sample, &grown, &left))
+    // Given to `drop`, the end of what was grown is proved once, by itself.
+    let Ok(left) = checked(alloc, sample, &grown) else {
+        drop(grown);
+        return Err(Fault::NoMemory);
+    };
+    let summary = summary_of(job, sample, &grown, &left);
+    drop(grown);
+    Ok(summary)
 }
 
 /// Makes the sample, grows the output from it, and checks its records.

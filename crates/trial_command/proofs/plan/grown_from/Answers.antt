@@ -17,8 +17,8 @@ grow_canvas-requires-clause-patch c =
     let job = c.args.job.now in
     subst (λ (plan : GrowPlan). HasPatch plan.mode) (sym c.plan_of.ensures) (has_patch job.place job.side job.overlap job.tol c.requires.job.side.0)
 
-pub summary_of-requires-clause-grown : goal.summary_of-requires-clause-grown
-summary_of-requires-clause-grown c =
+pub summary_of-summary-requires-clause-grown : goal.summary_of-summary-requires-clause-grown
+summary_of-summary-requires-clause-grown c =
     subst (λ plan. IsGrown plan c.args.sample.now c.in-Ok.grown) c.plan_of.ensures (c.in-Ok.ensures {u = tt})
 
 pub returns-in-Err-clause-failed : goal.returns-in-Err-clause-failed
@@ -34,5 +34,5 @@ returns-clause-made c = record {
   within = c.requires.within;
   grown = c.in-Ok.grown;
   is_grown = subst (λ sample. IsGrown (trial_plan c.args.job.now) sample c.in-Ok.grown) c.requires.sample (subst (λ plan. IsGrown plan c.args.sample.now c.in-Ok.grown) c.plan_of.ensures (c.in-Ok.ensures {u = tt}));
-  summary_is = c.summary_of.ensures;
+  summary_is = c.summary_of-summary.ensures;
 }

@@ -63,13 +63,17 @@ pub(crate) fn plan<S: Shelf>(
         Ok(sample) => sample,
         Err(fault) => return Err(fault),
     };
-    match within_output(job.w, job.h) {
-        Ok(()) => {}
-        Err(fault) => return Err(fault),
+    // Given to `drop`, the end of the sample is proved once, by itself.
+    if let Err(fault) = within_output(job.w, job.h) {
+        drop(sample);
+        return Err(fault);
     }
     let quilted = match quilt_canvas(alloc, &run_of(job), &sample.volume) {
         Ok(quilted) => quilted,
-        Err(error) => return Err(quilt_fault(error)),
+        Err(error) => {
+            drop(sample);
+            return Err(quilt_fault(error));
+        }
     };
     Ok(PictureQuilt { sample, quilted })
 }

@@ -22,7 +22,7 @@ returns-in-Err-within_output-clause-planned g c =
 
 pub quilt_canvas-requires : goal.quilt_canvas-requires
 quilt_canvas-requires g c =
-    subst (λ asked. CanBeQuilted asked c.in-Ok.sample.volume) (sym c.run_of.ensures) (can_quilt c.args.job.now c.in-Ok.sample c.requires (c.in-Ok-within_output.ensures {u = tt}) (c.in-Ok.ensures {u = tt}).sound)
+    subst (λ asked. CanBeQuilted asked c.in-Ok.sample.volume) (sym c.run_of.ensures) (can_quilt c.args.job.now c.in-Ok.sample c.requires (c.in_default.ensures) (c.in-Ok.ensures {u = tt}).sound)
 
 pub returns-in-Err-quilt_canvas-clause-planned : goal.returns-in-Err-quilt_canvas-clause-planned
 returns-in-Err-quilt_canvas-clause-planned g c =
@@ -31,8 +31,8 @@ returns-in-Err-quilt_canvas-clause-planned g c =
     let job = c.args.job.now in
     let error = c.in-Err-quilt_canvas.error in
     subst (NotMade (quilt_command job) a b) (sym c.quilt_fault.ensures)
-    (not_quilted job a b c.read_picture.ensures.reads c.in-Ok.sample (c.in-Ok.ensures {u = tt}).answer (c.in-Ok-within_output.ensures {u = tt}) (c.in-Ok.ensures {u = tt}).volume
-    (can_quilt job c.in-Ok.sample c.requires (c.in-Ok-within_output.ensures {u = tt}) (c.in-Ok.ensures {u = tt}).sound) error
+    (not_quilted job a b c.read_picture.ensures.reads c.in-Ok.sample (c.in-Ok.ensures {u = tt}).answer (c.in_default.ensures) (c.in-Ok.ensures {u = tt}).volume
+    (can_quilt job c.in-Ok.sample c.requires (c.in_default.ensures) (c.in-Ok.ensures {u = tt}).sound) error
     (subst (λ asked. IsQuiltFault asked c.in-Ok.sample.volume error) c.run_of.ensures (c.in-Err-quilt_canvas.ensures {u = tt})))
 
 pub returns-clause-planned : goal.returns-clause-planned
@@ -42,7 +42,7 @@ returns-clause-planned g c =
     let job = c.args.job.now in
     let quilted = c.in-Ok-quilt_canvas.quilted in
     quilt_made job a b c.read_picture.ensures.reads c.in-Ok.sample (c.in-Ok.ensures {u = tt}).answer
-    (c.in-Ok-within_output.ensures {u = tt}) (c.in-Ok.ensures {u = tt}).volume (can_quilt job c.in-Ok.sample c.requires (c.in-Ok-within_output.ensures {u = tt}) (c.in-Ok.ensures {u = tt}).sound)
+    (c.in_default.ensures) (c.in-Ok.ensures {u = tt}).volume (can_quilt job c.in-Ok.sample c.requires (c.in_default.ensures) (c.in-Ok.ensures {u = tt}).sound)
     quilted (subst (λ asked. IsQuilt (by_overlap c.in-Ok.sample.volume) asked c.in-Ok.sample.volume quilted) c.run_of.ensures (c.in-Ok-quilt_canvas.ensures {u = tt}))
 
 pub returns-clause-made : goal.returns-clause-made
@@ -51,8 +51,8 @@ returns-clause-made g c =
     record {
       volume = (c.in-Ok.ensures {u = tt}).volume;
       sound = (c.in-Ok.ensures {u = tt}).sound;
-      small = small_quilt c.args.job.now c.requires (c.in-Ok-within_output.ensures {u = tt});
+      small = small_quilt c.args.job.now c.requires (c.in_default.ensures);
       frame = refl;
-      within = c.in-Ok-within_output.ensures {u = tt};
+      within = c.in_default.ensures;
       quilt = subst (λ asked. IsQuilt (by_overlap sample.volume) asked sample.volume c.in-Ok-quilt_canvas.quilted) c.run_of.ensures (c.in-Ok-quilt_canvas.ensures {u = tt});
     }

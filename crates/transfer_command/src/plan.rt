@@ -60,16 +60,25 @@ pub(crate) fn plan<S: Shelf>(
     };
     let target = match read_target(alloc, shelf, sample.maxval, &job.target) {
         Ok(target) => target,
-        Err(fault) => return Err(fault),
+        // Given to `drop`, each end is proved once, by itself.
+        Err(fault) => {
+            drop(sample);
+            return Err(fault);
+        }
     };
     let asked = run_of(job, &target);
-    match within_output(asked.size.w, asked.size.h) {
-        Ok(()) => {}
-        Err(fault) => return Err(fault),
+    if let Err(fault) = within_output(asked.size.w, asked.size.h) {
+        drop(target);
+        drop(sample);
+        return Err(fault);
     }
     let quilted = match transfer_canvas(alloc, &asked, job.alpha, &target.volume, &sample.volume) {
         Ok(quilted) => quilted,
-        Err(error) => return Err(quilt_fault(error)),
+        Err(error) => {
+            drop(target);
+            drop(sample);
+            return Err(quilt_fault(error));
+        }
     };
     Ok(Transferred {
         target,

@@ -96,7 +96,7 @@ returns-in-Err-transfer_canvas-clause-planned g c =
     let target = c.in-Ok-read_target.target in
     let its = c.in-Ok-read_target.ensures {u = tt} in
     let is = c.run_of-asked.ensures in
-    let fits : FitsOutput target.volume.size = subst FitsOutput (target_size target its.sound c.run_of-asked.result.size (ap (λ (asked : QuiltRun). asked.size) is)) (c.in-Ok-within_output.ensures {u = tt}) in
+    let fits : FitsOutput target.volume.size = subst FitsOutput (target_size target its.sound c.run_of-asked.result.size (ap (λ (asked : QuiltRun). asked.size) is)) (c.in_default.ensures) in
     let error = c.in-Err-transfer_canvas.error in
     subst (NotMade (transfer_command job) a d) (sym c.quilt_fault.ensures)
     (not_quilted job a b c.read_picture.ensures.reads c.in-Ok.sample (c.in-Ok.ensures {u = tt}).answer d c.read_target.ensures.reads target its.answer fits (c.in-Ok.ensures {u = tt}).volume
@@ -113,7 +113,7 @@ returns-clause-planned g c =
     let target = c.in-Ok-read_target.target in
     let its = c.in-Ok-read_target.ensures {u = tt} in
     let is = c.run_of-asked.ensures in
-    let fits : FitsOutput target.volume.size = subst FitsOutput (target_size target its.sound c.run_of-asked.result.size (ap (λ (asked : QuiltRun). asked.size) is)) (c.in-Ok-within_output.ensures {u = tt}) in
+    let fits : FitsOutput target.volume.size = subst FitsOutput (target_size target its.sound c.run_of-asked.result.size (ap (λ (asked : QuiltRun). asked.size) is)) (c.in_default.ensures) in
     let quilted = c.in-Ok-transfer_canvas.quilted in
     quilt_made job a b c.read_picture.ensures.reads c.in-Ok.sample (c.in-Ok.ensures {u = tt}).answer d c.read_target.ensures.reads target its.answer fits (c.in-Ok.ensures {u = tt}).volume
     (can_transfer job sample target c.requires (c.in-Ok.ensures {u = tt}).sound its.sound) quilted
@@ -126,7 +126,7 @@ returns-clause-made g c =
     let target = c.in-Ok-read_target.target in
     let its = c.in-Ok-read_target.ensures {u = tt} in
     let is = c.run_of-asked.ensures in
-    let fits : FitsOutput target.volume.size = subst FitsOutput (target_size target its.sound c.run_of-asked.result.size (ap (λ (asked : QuiltRun). asked.size) is)) (c.in-Ok-within_output.ensures {u = tt}) in
+    let fits : FitsOutput target.volume.size = subst FitsOutput (target_size target its.sound c.run_of-asked.result.size (ap (λ (asked : QuiltRun). asked.size) is)) (c.in_default.ensures) in
     let quilted = c.in-Ok-transfer_canvas.quilted in
     record {
       target = its.sound;

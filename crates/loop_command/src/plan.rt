@@ -107,11 +107,18 @@ pub(crate) fn plan<S: Shelf>(
     let _k = clip.volume.samples();
     match set_against(job, &clip.volume) {
         Ok(()) => {}
-        Err(fault) => return Err(fault),
+        // Given to `drop`, the end of the clip is proved once, by itself.
+        Err(fault) => {
+            drop(clip);
+            return Err(fault);
+        }
     }
     let found = match find_loop(alloc, job, &clip.volume) {
         Ok(found) => found,
-        Err(error) => return Err(looping_fault(job, error)),
+        Err(error) => {
+            drop(clip);
+            return Err(looping_fault(job, error));
+        }
     };
     Ok(LoopedClip { clip, found })
 }

@@ -120,10 +120,13 @@ pub fn loop_clip<S: Shelf, O: Sink>(
     let size = loop_size(job, &looped.clip.volume);
     let writer = match ClipWriter::make(alloc, &looped.clip.form, size) {
         Ok(writer) => writer,
-        Err(_) => return Err(Fault::NoMemory),
+        // Given to `drop`, the end of all that was made is proved once, by itself.
+        Err(_) => {
+            drop(looped);
+            return Err(Fault::NoMemory);
+        }
     };
     let answer = write_loop(job, &looped, writer, shelf, out);
-    // Given to `drop`, the end of all that was made is proved once, by itself.
     drop(looped);
     answer
 }

@@ -78,17 +78,27 @@ pub(crate) fn plan<S: Shelf>(alloc: Global, job: &MergeJob, shelf: &mut S) -> Re
     };
     let marks = match read_part(alloc, shelf, FileOf::Marks, &job.marks) {
         Ok(marks) => marks,
-        Err(fault) => return Err(fault),
+        // Given to `drop`, each end is proved once, by itself.
+        Err(fault) => {
+            drop(pictures);
+            return Err(fault);
+        }
     };
     // Called for its contract only: it shows the prover that the pictures are a volume.
     let _k = pictures.volume.samples();
-    match set_against(&pictures, &marks) {
-        Ok(()) => {}
-        Err(fault) => return Err(fault),
+    if let Err(fault) = set_against(&pictures, &marks) {
+        drop(marks);
+        drop(pictures);
+        return Err(fault);
     }
-    let canvas = match merge_canvas(alloc, &pictures.volume, &marks.volume) {
+    let merged = merge_canvas(alloc, &pictures.volume, &marks.volume);
+    drop(marks);
+    let canvas = match merged {
         Ok(canvas) => canvas,
-        Err(_) => return Err(Fault::NoMemory),
+        Err(_) => {
+            drop(pictures);
+            return Err(Fault::NoMemory);
+        }
     };
     let seams = total(&canvas, &pictures.volume);
     Ok(Merged {

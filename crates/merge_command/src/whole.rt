@@ -73,5 +73,8 @@ pub fn merge_pictures<S: Shelf, O: Sink>(
         (S.state shelf.old) (S.state shelf.new) (O.state out.old) (O.state out.new) result }
 {
     let made = plan(alloc, job, shelf)?;
-    write_merge(job, &made, shelf, out)
+    let answer = write_merge(job, &made, shelf, out);
+    // Given to `drop`, the end of all that was made is proved once, by itself.
+    drop(made);
+    answer
 }

@@ -46,8 +46,8 @@ returns-in-Err-set_against-clause-reads g c =
     let d = g.S.Shelf.state c.read_part.new.shelf in
     marks_only c.args.job.now a b c.as_slice.ensures.names c.read_pictures.ensures.reads c.in-Ok.pictures (c.in-Ok.ensures {u = tt}).answer d c.read_part.ensures.reads
 
-pub returns-in-Err-merge_canvas-clause-reads : goal.returns-in-Err-merge_canvas-clause-reads
-returns-in-Err-merge_canvas-clause-reads g c =
+pub returns-in-Err-merged-clause-reads : goal.returns-in-Err-merged-clause-reads
+returns-in-Err-merged-clause-reads g c =
     let a = g.S.Shelf.state c.args.shelf.now in
     let b = g.S.Shelf.state c.read_pictures.new.shelf in
     let d = g.S.Shelf.state c.read_part.new.shelf in
@@ -59,10 +59,10 @@ returns-clause-planned g c =
     let b = g.S.Shelf.state c.read_pictures.new.shelf in
     let d = g.S.Shelf.state c.read_part.new.shelf in
     let pictures = c.in-Ok.pictures in
-    let canvas = c.in-Ok-merge_canvas.canvas in
-    let merged = c.in-Ok-merge_canvas.ensures {u = tt} in
+    let canvas = c.in-Ok-merged.canvas in
+    let merged = c.in-Ok-merged.ensures {u = tt} in
     merge_made c.args.job.now a b c.as_slice.ensures.names c.read_pictures.ensures.reads pictures (c.in-Ok.ensures {u = tt}).answer d c.read_part.ensures.reads
-    c.in-Ok-read_part.marks (c.in-Ok-read_part.ensures {u = tt}).answer (c.in-Ok-set_against.ensures {u = tt}) canvas
+    c.in-Ok-read_part.marks (c.in-Ok-read_part.ensures {u = tt}).answer (c.in_default.ensures) canvas
     (record {
       volume = c.samples-k.ensures.volume;
       merge = merged.merge;
@@ -75,13 +75,13 @@ returns-clause-planned g c =
 pub returns-clause-made : goal.returns-clause-made
 returns-clause-made g c =
     let pictures = c.in-Ok.pictures in
-    let set = c.in-Ok-set_against.ensures {u = tt} in
-    let merged = c.in-Ok-merge_canvas.ensures {u = tt} in
+    let set = c.in_default.ensures in
+    let merged = c.in-Ok-merged.ensures {u = tt} in
     record {
       volume = c.samples-k.ensures.volume;
       sound = (c.in-Ok.ensures {u = tt}).sound;
       within = set.within;
-      size = (merges_are_merged pictures.volume c.in-Ok-read_part.marks.volume c.in-Ok-merge_canvas.canvas.map merged.merge).size;
+      size = (merges_are_merged pictures.volume c.in-Ok-read_part.marks.volume c.in-Ok-merged.canvas.map merged.merge).size;
       full = merged.full;
       canvas = merged.canvas;
       stands = merged.stands;

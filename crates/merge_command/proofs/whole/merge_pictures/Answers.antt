@@ -8,12 +8,12 @@ returns-in_err-made g c =
     let p = err_from_is_err_and c.from_residual.result c.from_residual.ensures.1 in
     rw (p.1, p.2) (not_planned (merge_command c.args.job.now) (g.S.Shelf.state c.args.shelf.now) (g.S.Shelf.state c.plan.new.shelf) c.plan.ensures.reads (g.O.Sink.state c.args.out.now) c.in_err-made.field-0.0 (c.in_err-made.ensures {u = tt}).planned)
 
-pub write_merge-requires : goal.write_merge-requires
-write_merge-requires g c = (c.in_ok-made.ensures {u = tt}).made
+pub write_merge-answer-requires : goal.write_merge-answer-requires
+write_merge-answer-requires g c = (c.in_ok-made.ensures {u = tt}).made
 
 pub returns : goal.returns
 returns g c =
     let job = c.args.job.now in
     let made = c.in_ok-made.made in
-    planned (merge_command job) (merge_files job made) (merge_summary made) (g.S.Shelf.state c.args.shelf.now) (g.S.Shelf.state c.plan.new.shelf) (g.S.Shelf.state c.write_merge.new.shelf)
-    (g.O.Sink.state c.args.out.now) (g.O.Sink.state c.write_merge.new.out) c.plan.ensures.reads (c.in_ok-made.ensures {u = tt}).planned c.write_merge.ensures.writes c.write_merge.result c.write_merge.ensures.wrote
+    planned (merge_command job) (merge_files job made) (merge_summary made) (g.S.Shelf.state c.args.shelf.now) (g.S.Shelf.state c.plan.new.shelf) (g.S.Shelf.state c.write_merge-answer.new.shelf)
+    (g.O.Sink.state c.args.out.now) (g.O.Sink.state c.write_merge-answer.new.out) c.plan.ensures.reads (c.in_ok-made.ensures {u = tt}).planned c.write_merge-answer.ensures.writes c.write_merge-answer.result c.write_merge-answer.ensures.wrote

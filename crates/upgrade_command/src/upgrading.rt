@@ -30,7 +30,11 @@ fn plan<S: Shelf>(alloc: Global, job: &UpgradeJob, shelf: &mut S) -> Result<Pair
     };
     let record_file = match read_first_cuts(alloc, shelf, &job.record_file) {
         Ok(record_file) => record_file,
-        Err(fault) => return Err(fault),
+        // Given to `drop`, the end of the map is proved once, by itself.
+        Err(fault) => {
+            drop(map_file);
+            return Err(fault);
+        }
     };
     let pair = pair_of(map_file, record_file);
     records_fit(pair.cuts.as_slice());

@@ -46,11 +46,13 @@ pub(crate) fn plan<S: Shelf>(
     };
     // Called for its contract only: it shows the prover that the sample is a volume.
     let _k = sample.volume.samples();
-    match within_bounds(job.size, &sample.form) {
-        Ok(()) => {}
-        Err(fault) => return Err(fault),
+    // Given to `drop`, the end of the sample is proved once, by itself.
+    if let Err(fault) = within_bounds(job.size, &sample.form) {
+        drop(sample);
+        return Err(fault);
     }
     let Ok(tiled) = tile_canvas(alloc, &plan_of(job), &sample.volume) else {
+        drop(sample);
         return Err(Fault::NoMemory);
     };
     let seams = torus_total(&tiled.canvas, &sample.volume, &job.plan.wrap);

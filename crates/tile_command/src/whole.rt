@@ -26,10 +26,13 @@ pub fn tile<S: Shelf, O: Sink>(
     let made = plan(alloc, job, shelf)?;
     let writer = match writer_for(alloc, &made.sample.form, job.size) {
         Ok(writer) => writer,
-        Err(_) => return Err(Fault::NoMemory),
+        // Given to `drop`, the end of all that was made is proved once, by itself.
+        Err(_) => {
+            drop(made);
+            return Err(Fault::NoMemory);
+        }
     };
     let answer = write_tiling(job, &made, writer, shelf, out);
-    // Given to `drop`, the end of all that was made is proved once, by itself.
     drop(made);
     answer
 }

@@ -33,7 +33,7 @@ returns-clause-planned g c =
       volume = c.samples-k.ensures.volume;
       one = sound_alone sample.form sample.volume (c.in-Ok.ensures {u = tt}).sound;
       sound = (c.in-Ok.ensures {u = tt}).sound;
-      bounds = c.in-Ok-within_bounds.ensures {u = tt};
+      bounds = c.in_default.ensures;
       tiled = subst (λ plan. IsTiledTo plan sample.volume tiled) c.plan_of.ensures (c.in-Ok-tile_canvas.ensures {u = tt});
     })
     (record { sample = sample; tiled = tiled; seams = c.torus_total-seams.result }) (λ i. record { sample = sample; tiled = tiled; seams = c.torus_total-seams.ensures i })
@@ -43,12 +43,12 @@ returns-clause-made g c = record {
   volume = c.samples-k.ensures.volume;
   one = sound_alone c.in-Ok.sample.form c.in-Ok.sample.volume (c.in-Ok.ensures {u = tt}).sound;
   sound = (c.in-Ok.ensures {u = tt}).sound;
-  bounds = c.in-Ok-within_bounds.ensures {u = tt};
+  bounds = c.in_default.ensures;
   tiled = subst (λ plan. IsTiledTo plan c.in-Ok.sample.volume c.in-Ok-tile_canvas.tiled) c.plan_of.ensures (c.in-Ok-tile_canvas.ensures {u = tt});
 }
 
 pub tile_canvas-requires-clause-plan : goal.tile_canvas-requires-clause-plan
-tile_canvas-requires-clause-plan g c = subst IsRunPlan (sym c.plan_of.ensures) (run_plan c.args.job.now c.requires c.in-Ok.sample.form (c.in-Ok-within_bounds.ensures {u = tt}))
+tile_canvas-requires-clause-plan g c = subst IsRunPlan (sym c.plan_of.ensures) (run_plan c.args.job.now c.requires c.in-Ok.sample.form (c.in_default.ensures))
 
 pub tile_canvas-requires-clause-part : goal.tile_canvas-requires-clause-part
 tile_canvas-requires-clause-part g c = sound_alone c.in-Ok.sample.form c.in-Ok.sample.volume (c.in-Ok.ensures {u = tt}).sound

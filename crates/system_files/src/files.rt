@@ -7,7 +7,7 @@ use crate::pieces::{read_full, write_all_of};
 use shelf_traits::Failed;
 use std::alloc::{AllocError, Global};
 use std::fs::{self, File, Metadata, OpenOptions};
-use std::io::{self, Seek, SeekFrom};
+use std::io::{Seek, SeekFrom};
 
 // The most bytes of a path that the system takes.
 const PATH_BYTES: usize = 4096;
@@ -54,23 +54,14 @@ pub struct Source {
     kept: usize,
 }
 
-// As many bytes as two lists of them have from a place of the first on are copied.
-fn copy_from(kept: &[u8], start: usize, into: &mut [u8]) -> usize
-    requires { start ≤ length kept.now }
-    ensures { result ≤ length into.old }
-{
-    let n = (kept.len() - start).min(into.len());
-    into[..n].copy_from_slice(&kept[start..start + n]);
-    n
-}
-
 impl Source {
     /// No file.
     pub fn none(alloc: Global) -> Result<Source, AllocError> {
+        let last = vec![in alloc; 0u8; KEPT_BYTES]?;
         Ok(Source {
             opened: Opened::none(alloc)?,
             place: 0,
-            last: vec![in alloc; 0u8; KEPT_BYTES]?,
+            last,
             kept: 0,
         })
     }
@@ -103,7 +94,10 @@ impl Source {
         if back > kept.len() as u64 {
             return 0;
         }
-        copy_from(kept, kept.len() - back as usize, into)
+        let start = kept.len() - back as usize;
+        let n = (kept.len() - start).min(into.len());
+        into[..n].copy_from_slice(&kept[start..start + n]);
+        n
     }
 
     // Keeps the end of the bytes that were read before and of those that were read now, right after them.
@@ -117,13 +111,21 @@ impl Source {
         self.place = self.place.saturating_add(read.len() as u64);
     }
 
-    // Reads the open file on.
-    fn read_on(&mut self, into: &mut [u8]) -> Result<usize, Failed>
+    // Reads the open file from a place on. It goes there only where it has been read to another.
+    fn read_on(&mut self, at: u64, into: &mut [u8]) -> Result<usize, Failed>
         ensures { IfOk result (λ n. n ≤ length into.old) }
     {
         let Some(file) = &mut self.opened.file else {
             return Err(Failed);
         };
+        if at != self.place {
+            let Ok(_) = file.seek(SeekFrom::Start(at)) else {
+                self.opened.file = None;
+                return Err(Failed);
+            };
+            self.place = at;
+            self.kept = 0;
+        }
         let Ok(n) = read_full(file, into) else {
             // How far it was read isn't known.
             self.opened.file = None;
@@ -131,20 +133,6 @@ impl Source {
         };
         self.keep_end(&into[..n]);
         Ok(n)
-    }
-
-    // Goes to a place of the open file.
-    fn go_to(&mut self, at: u64) -> Result<(), Failed> {
-        let Some(file) = &mut self.opened.file else {
-            return Err(Failed);
-        };
-        let Ok(_) = file.seek(SeekFrom::Start(at)) else {
-            self.opened.file = None;
-            return Err(Failed);
-        };
-        self.place = at;
-        self.kept = 0;
-        Ok(())
     }
 
     /// Reads from a place on until the buffer is full or the file ends. A file that it opens is known
@@ -166,21 +154,9 @@ impl Source {
         if n == into.len() {
             return Ok(n);
         }
-        let from = at.saturating_add(n as u64);
-        if from != self.place {
-            self.go_to(from)?;
-        }
-        let more = self.read_on(&mut into[n..])?;
+        let more = self.read_on(at.saturating_add(n as u64), &mut into[n..])?;
         Ok(n + more)
     }
-}
-
-// Drops all bytes of an open file with this metadata. A pipe and a device have none to drop.
-fn cut_to_nothing(file: &File, metadata: &Metadata) -> io::Result<()> {
-    if !metadata.is_file() {
-        return Ok(());
-    }
-    file.set_len(0)
 }
 
 /// The file that was begun last.
@@ -210,9 +186,10 @@ impl Target {
         let Ok(true) = known.add(&file, metadata) else {
             return Err(Failed);
         };
-        let Ok(()) = cut_to_nothing(&file, metadata) else {
+        // A pipe and a device have no bytes to drop.
+        if metadata.is_file() && file.set_len(0).is_err() {
             return Err(Failed);
-        };
+        }
         let Ok(()) = self.opened.keep(name, file) else {
             return Err(Failed);
         };
@@ -236,21 +213,15 @@ impl Target {
         self.take(name, file, &metadata, known)
     }
 
-    // Opens a file that isn't the one begun last, to add to it.
-    fn open(&mut self, rt: &HostRuntime, name: &str) -> Result<(), Failed> {
-        let Ok(file) = OpenOptions::new().append(true).create(true).open(rt, name) else {
-            return Err(Failed);
-        };
-        let Ok(()) = self.opened.keep(name, file) else {
-            return Err(Failed);
-        };
-        Ok(())
-    }
-
     /// Writes a piece after the bytes of a file.
     pub fn add(&mut self, rt: &HostRuntime, name: &str, piece: &[u8]) -> Result<(), Failed> {
         if !self.opened.is_of(name) {
-            self.open(rt, name)?;
+            let Ok(file) = OpenOptions::new().append(true).create(true).open(rt, name) else {
+                return Err(Failed);
+            };
+            let Ok(()) = self.opened.keep(name, file) else {
+                return Err(Failed);
+            };
         }
         let Some(file) = &mut self.opened.file else {
             return Err(Failed);

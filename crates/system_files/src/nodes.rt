@@ -1,7 +1,7 @@
 // Which files a run has read or begun, by what tells one file from another whatever its name is.
 ghost use Rattle.std.specs.Prelude.{◌≡◌, ◌↔◌, IfOk, OnErr, IsSome};
 ghost use Rattle.std.specs.Fs.{file_type, IsFile};
-ghost use Rattle.system_files.specs.Nodes.{is_known, Adds};
+ghost use Rattle.system_files.specs.Nodes.{Adds};
 
 use std::alloc::{AllocError, Global};
 use std::fs::{self, File, Metadata};
@@ -56,21 +56,14 @@ impl Known {
     /// The standard output, if it is a regular file. It takes all the memory that the files of a run
     /// need; the one error is out of memory.
     pub fn new(rt: &HostRuntime, alloc: Global) -> Result<Known, AllocError> {
+        let held = Vec::with_capacity(alloc, MOST_FILES)?;
         let mut nodes = Vec::with_capacity(alloc, MOST_FILES)?;
         if let Ok(metadata) = fs::metadata(rt, OUTPUT)
             && let Some(node) = node_of(&metadata)
         {
             nodes.push(node)?;
         }
-        let held = Vec::with_capacity(alloc, MOST_FILES)?;
         Ok(Known { nodes, held })
-    }
-
-    // Whether a file is among these.
-    fn has(&self, node: Node) -> bool
-        ensures { result ≡ is_known self.now node }
-    {
-        self.nodes.as_slice().contains(&node)
     }
 
     /// Adds an open file with its metadata, if it is a regular one that isn't known. It says whether
@@ -82,7 +75,7 @@ impl Known {
         let Some(node) = node_of(metadata) else {
             return Ok(true);
         };
-        if self.has(node) {
+        if self.nodes.as_slice().contains(&node) {
             return Ok(false);
         }
         if let Ok(held) = file.try_clone() {

@@ -28,9 +28,9 @@ impl RealShelf {
         ensures reads { IfOk result (λ shelf. shelf.reads ≡ 0) }
         ensures writes { IfOk result (λ shelf. shelf.writes ≡ 0) }
     {
-        let source = Source::none(alloc)?;
         let target = Target::none(alloc)?;
         let known = Known::new(&rt, alloc)?;
+        let source = Source::none(alloc)?;
         Ok(RealShelf {
             rt,
             source,

@@ -1,14 +1,17 @@
--- The numbers of the pairs of a cell with the ones before it in its row and above it.
-use Rattle.std.proofs.Common.{◌≡◌, ℕ, zero, suc, ◌+◌, ◌-◌, ◌*◌, ◌≤◌, refl, ap, sym, ◌∙◌, arith, Bool, true, false}
-use Rattle.std.specs.Prelude.{if◌then◌else◌, nat_lt}
+-- The pairs of a cell with the ones before it in its row and above it: their numbers and their flows.
+use Rattle.std.proofs.Common.{◌≡◌, ℕ, zero, suc, ◌+◌, ◌-◌, ◌*◌, ◌≤◌, refl, ap, sym, ◌∙◌, arith, Bool, true, false, List}
+use Rattle.std.specs.Prelude.{if◌then◌else◌, nat_lt, slice_index_or}
 use borrow.Author.Tests.{lt-ltb}
-use Rattle.cells.specs.declared.place.Axis.TheVariants.{X, Y}
+use mathlib.Core.Bool.{false≢true}
+use Rattle.cells.specs.declared.place.Axis.TheVariants.{X, Y, F}
 use Rattle.cells.specs.declared.place.Size.{Size}
 use Rattle.cells.specs.Boxes.{HasCells}
 use Rattle.cells.specs.Places.{raster_index}
 use Rattle.boxes.specs.Pairs.{AreCounts, has_next, one_if, pair_number, pairs_before}
 use Rattle.boxes.proofs.ClosedForm.{closed_is, pairs_closed}
 use Rattle.boxes.proofs.PairNumbers.{pairs_back}
+use Rattle.cut_check.specs.declared.record.Flow.{Flow}
+use Rattle.cut_check.specs.Flows.{flow_into, no_flow, pair_flow}
 use Rattle.cut_check.specs.Steps.{pairs_since_above, pairs_since_last}
 
 -- along each axis alone
@@ -51,3 +54,24 @@ pairs_last size x y f some are =
 
 pub number_above : (size : Size) (x y f : ℕ) → pair_number size Y x (y - 1) f ≡ pairs_before size (raster_index size x (y - 1) f) + (if nat_lt (x + 1) size.w then 1 else 0)
 number_above size x y f = ap (λ n. pairs_before size (raster_index size x (y - 1) f) + n) (one_if_is (nat_lt (x + 1) size.w))
+
+-- the flow of a number is that of the pair, where there is one
+at_number : (b : Bool) (flows : List Flow) (number n : ℕ) → b ≡ true → number ≡ n → slice_index_or flows number no_flow ≡ (if b then slice_index_or flows n no_flow else no_flow)
+at_number true flows number n next is = ap (λ k. slice_index_or flows k no_flow) is
+at_number false flows number n next is = absurd (false≢true next)
+
+pub flow_of_last : (size : Size) (flows : List Flow) (x y f number : ℕ) → 1 ≤ x → AreCounts size x y f → number ≡ pair_number size X (x - 1) y f
+    → slice_index_or flows number no_flow ≡ flow_into size flows X x y f
+flow_of_last size flows zero y f number some are is = absurd (omega (arith, some))
+flow_of_last size flows (suc x) y f number some are is =
+    at_number (has_next size X x y f) flows number (pair_number size X x y f) (lt-ltb (x + 1) size.w (omega (arith, are.column))) (is ∙ ap (λ n. pair_number size X n y f) (let less : suc x - 1 ≡ x = omega arith in less))
+
+pub flow_of_above : (size : Size) (flows : List Flow) (x y f number : ℕ) → 1 ≤ y → AreCounts size x y f → number ≡ pair_number size Y x (y - 1) f
+    → slice_index_or flows number no_flow ≡ flow_into size flows Y x y f
+flow_of_above size flows x zero f number some are is = absurd (omega (arith, some))
+flow_of_above size flows x (suc y) f number some are is =
+    at_number (has_next size Y x y f) flows number (pair_number size Y x y f) (lt-ltb (y + 1) size.h (omega (arith, are.row))) (is ∙ ap (λ n. pair_number size Y x n f) (let less : suc y - 1 ≡ y = omega arith in less))
+
+pub flow_before : (size : Size) (flows : List Flow) (x y f : ℕ) → 1 ≤ f → pair_flow size flows F x y (f - 1) ≡ flow_into size flows F x y f
+flow_before size flows x y zero some = absurd (omega (arith, some))
+flow_before size flows x y (suc f) some = ap (pair_flow size flows F x y) (let less : suc f - 1 ≡ f = omega arith in less)

@@ -2,7 +2,7 @@
 -- follow one another before and after, two of the three costs are one.
 use Rattle.std.proofs.Common.{◌≡◌, ℕ, ◌+◌, ◌∙◌, sym, ap, subst, arith}
 use Rattle.std.proofs.lemmas.Int.{ints}
-use Rattle.std.specs.Prelude.{ℤ, pos, ◌+ℤ◌, ◌-ℤ◌, Option, Some, None}
+use Rattle.std.specs.Prelude.{Bool, IsTrue, ◌↔◌, ℤ, pos, ◌+ℤ◌, ◌-ℤ◌, Option, Some, None}
 use Rattle.cells.specs.declared.place.At.{At}
 use Rattle.cells.specs.declared.place.Axis.{Axis}
 use Rattle.cells.specs.Cells.{Cells}
@@ -14,7 +14,8 @@ use Rattle.map_canvas.specs.declared.canvas.Placement.{Placement}
 use Rattle.map_canvas.specs.Choices.{new_source}
 use Rattle.costs.specs.Costs.{seam}
 use Rattle.cut_check.specs.declared.record.Flow.{Flow}
-use Rattle.cut_check.specs.Flows.{IsBetween, IsBetweenOld, IsBounded, LeavesNone, minus_of}
+use Rattle.map_canvas.specs.Maps.{SourceMap, map_at}
+use Rattle.cut_check.specs.Flows.{IsBetween, IsBetweenOld, IsBounded, IsBoundedOn, LeavesNone, minus_of}
 
 -- 0 is within a cost
 zero_within : (n : ℕ) (z : ℤ) → z ≡ pos 0 → IsBetween (minus_of n) (pos n) z
@@ -71,3 +72,13 @@ passes_between v axis a b new_a new_b flow old new same within = record {
   where
     nothing : (n : ℕ) (x y : ℤ) → x ≡ y → IsBetween (pos 0) (pos n) (x -ℤ y)
     nothing n x y same = (omega (arith, ints), omega (arith, ints))
+
+-- a test of the bounds by what two cells have is one of the pair of the cells
+pub bounded_on : (d : At → At → ℕ) (m : SourceMap) (placement : Placement) (axis : Axis) (s t : At) (flow : Flow) (a b : Option At) (new_a new_b : At) (answer : Bool)
+    → a ≡ map_at m s → b ≡ map_at m t → new_a ≡ new_source placement s → new_b ≡ new_source placement t
+    → (IsTrue answer ↔ IsBounded d axis a b new_a new_b flow) → (IsTrue answer ↔ IsBoundedOn d m placement axis s t flow)
+bounded_on d m placement axis s t flow a b new_a new_b answer old next new new_next is =
+    subst (λ p. IsTrue answer ↔ IsBounded d axis p (map_at m t) (new_source placement s) (new_source placement t) flow) old
+    (subst (λ p. IsTrue answer ↔ IsBounded d axis a p (new_source placement s) (new_source placement t) flow) next
+    (subst (λ p. IsTrue answer ↔ IsBounded d axis a b p (new_source placement t) flow) new
+    (subst (λ p. IsTrue answer ↔ IsBounded d axis a b new_a p flow) new_next is)))

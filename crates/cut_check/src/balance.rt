@@ -1,5 +1,5 @@
 // The rules of what leaves the cells: nothing leaves a free cell, and what leaves the others is the value.
-ghost use Rattle.std.specs.Prelude.{◌≡◌, ◌<◌, ◌+◌, ◌*◌, ◌↔◌, IfErr, IfOk, IfSome, IsSome, IsTrue, MatchResult, ℕ, ℤ, pos};
+ghost use Rattle.std.specs.Prelude.{◌≡◌, ◌<◌, ◌+◌, ◌*◌, ◌↔◌, IfErr, IfOk, IfSome, IsSome, MatchResult, ℕ, ℤ, pos};
 ghost use Rattle.cells.specs.Cells.{Cells};
 ghost use Rattle.cells.specs.Places.{cell_count};
 ghost use Rattle.boxes.specs.Sums.{signed_sum_box};
@@ -100,11 +100,4 @@ pub fn value_of(canvas: &Canvas, cut: &CutRecord, held: &[bool]) -> Result<i64, 
         sum = add_row(canvas, cut, held, sum, row)?;
     }
     Ok(sum)
-}
-
-/// Whether a value is a window sum.
-pub fn is_window(value: i64, window: u64) -> bool
-    ensures { IsTrue result ↔ (value ≡ pos window) }
-{
-    0 <= value && value as u64 == window
 }

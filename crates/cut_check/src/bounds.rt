@@ -1,16 +1,14 @@
 // Rule 4: the flow of each pair is within its bounds.
-ghost use Rattle.std.specs.Prelude.{◌≡◌, ◌≤◌, ◌+◌, ◌*◌, ◌-ℤ◌, ◌↔◌, IfNone, IfSome, IsTrue, List, Bool, pos};
-ghost use Rattle.cells.specs.Cells.{Holds, IsVolume};
+ghost use Rattle.std.specs.Prelude.{◌≡◌, ◌≤◌, ◌+◌, ◌*◌, ◌↔◌, IfNone, IfSome, IsTrue, List, Bool, pos};
 ghost use Rattle.cells.specs.Distances.{distance};
 ghost use Rattle.cells.specs.Neighbours.{unit_step};
 ghost use Rattle.cells.specs.Places.{plus};
 ghost use Rattle.cells.specs.Boxes.{cell_in};
-ghost use Rattle.map_canvas.specs.Choices.{new_source};
 ghost use Rattle.map_canvas.specs.Maps.{IsSource};
 ghost use Rattle.boxes.specs.Pairs.{AreCounts, IsPair, pair_number};
 ghost use Rattle.boxes.specs.Walks.{IsWalkIn, most_pairs};
 ghost use Rattle.costs.specs.Costs.{most_of_pair, seam};
-ghost use Rattle.cut_check.specs.Flows.{IsBetween, IsBetweenOld, IsBounded, IsBoundedOn, LeavesFirst, LeavesNone, LeavesSecond, minus_of};
+ghost use Rattle.cut_check.specs.Flows.{IsBetween, IsBetweenOld, IsBoundedOn, LeavesFirst, LeavesNone, LeavesSecond, minus_of};
 ghost use Rattle.cut_check.specs.Records.{BoundsAll, IsFirstUnbounded, setting};
 ghost use Rattle.cut_check.specs.Steps.{EachAxis, EachBefore, HoldsAlong, HoldsAt, IsFirstAxis, IsLaid, IsRow, IsStill, LiesOver};
 
@@ -40,23 +38,6 @@ fn is_up_to(cost: u32, z: i32) -> bool
     0 <= z && z <= cost as i32
 }
 
-// A number between minus a cost and 0.
-fn is_down_to(cost: u32, z: i16) -> bool
-    requires { cost ≤ most_of_pair }
-    ensures { IsTrue result ↔ IsBetween (minus_of cost) (pos 0) z }
-{
-    let z = i32::from(z);
-    -(cost as i32) <= z && z <= 0
-}
-
-// What ends between the two cells is between 0 and a cost.
-fn ends_up_to(cost: u32, flow: Flow) -> bool
-    requires { cost ≤ most_of_pair }
-    ensures { IsTrue result ↔ IsBetween (pos 0) (pos cost) (flow.x -ℤ flow.y) }
-{
-    is_up_to(cost, i32::from(flow.x) - i32::from(flow.y))
-}
-
 // A number between minus the cost of a pair of sources and the cost. A cost is the sum of two distances, and
 // where the first of them is enough to tell, the second isn't computed.
 fn is_within_seam(sample: &Volume, axis: Axis, a: At, b: At, z: i16) -> bool
@@ -76,18 +57,9 @@ fn is_within_seam(sample: &Volume, axis: Axis, a: At, b: At, z: i16) -> bool
     is_within(near + cell_distance(sample, a.plus(step), b), z)
 }
 
-// All that leaves the first cell comes to the second, and the source of the second is the next one after that of
-// the first.
-#[tactic(auto, using(costs::proofs::Near::step_fits))]
-fn passes_on(axis: Axis, a: At, b: At, flow: Flow) -> bool
-    requires { IsSource a }
-    ensures { IsTrue result ↔ (flow.x ≡ flow.y) × (plus a (unit_step axis) ≡ b) }
-{
-    flow.x == flow.y && a.plus(axis.unit()) == b
-}
-
 // The bounds of a pair with both cells filled. Where the old sources are next to one another, as the new ones
-// are, the cost of the old and the new one is that of the new and the old one.
+// are, the cost of the old and the new one is that of the new and the old one: a flow that all comes to the second
+// cell is within both bounds then, or within neither. What doesn't come to it ends between the two.
 fn is_between_old(
     sample: &Volume,
     axis: Axis,
@@ -108,14 +80,15 @@ fn is_between_old(
     if !is_within_seam(sample, axis, a, new_b, flow.x) {
         return false;
     }
-    if passes_on(axis, a, b, flow) {
+    if flow.x == flow.y && a.plus(axis.unit()) == b {
         return true;
     }
     let old_old = seam_of(sample, axis, Some(a), Some(b));
-    is_within_seam(sample, axis, new_a, b, flow.y) && ends_up_to(old_old, flow)
+    is_within_seam(sample, axis, new_a, b, flow.y)
+        && is_up_to(old_old, i32::from(flow.x) - i32::from(flow.y))
 }
 
-// Those of a pair with the first cell filled alone.
+// The bounds of a pair with the first cell filled alone.
 fn leaves_first(old_new: u32, flow: Flow) -> bool
     requires { old_new ≤ most_of_pair }
     ensures { IsTrue result ↔ LeavesFirst old_new flow }
@@ -128,7 +101,7 @@ fn leaves_second(new_old: u32, flow: Flow) -> bool
     requires { new_old ≤ most_of_pair }
     ensures { IsTrue result ↔ LeavesSecond new_old flow }
 {
-    flow.x == 0 && is_down_to(new_old, flow.y)
+    flow.x == 0 && is_up_to(new_old, -i32::from(flow.y))
 }
 
 // Those of a pair with neither filled.
@@ -138,31 +111,6 @@ fn leaves_none(flow: Flow) -> bool
     flow.x == 0 && flow.y == 0
 }
 
-// Those of a pair by the sources of its cells and their new ones.
-fn is_bounded(
-    sample: &Volume,
-    axis: Axis,
-    a: Option<At>,
-    b: Option<At>,
-    new_a: At,
-    new_b: At,
-    flow: Flow,
-) -> bool
-    requires a { IfSome a IsSource }
-    requires b { IfSome b IsSource }
-    requires new_a { IsSource new_a }
-    requires new_b { IsSource new_b }
-    requires next { new_b ≡ plus new_a (unit_step axis) }
-    ensures { IsTrue result ↔ IsBounded (distance sample.now) axis a b new_a new_b flow }
-{
-    match (a, b) {
-        (Some(a), Some(b)) => is_between_old(sample, axis, a, b, new_a, new_b, flow),
-        (Some(a), None) => leaves_first(seam_of(sample, axis, Some(a), Some(new_b)), flow),
-        (None, Some(b)) => leaves_second(seam_of(sample, axis, Some(new_a), Some(b)), flow),
-        (None, None) => leaves_none(flow),
-    }
-}
-
 // What a cell of the box has: its source before the placement, and its new one.
 #[derive(Clone, Copy, Drop)]
 struct Laid {
@@ -170,20 +118,8 @@ struct Laid {
     new: At,
 }
 
-// The new source of a cell of the box.
-#[tactic(auto, using(crate::proofs::Cells::source_sum_fits))]
-fn new_source(sample: &Volume, placement: &Placement, at: Counts) -> At
-    requires volume { IsVolume sample.now }
-    requires sources { Holds sample.now placement.now.from placement.now.rect.size }
-    requires counts { AreCounts placement.now.rect.size at.x at.y at.f }
-    ensures source { result ≡ new_source placement.now (cell_in placement.now.rect at.x at.y at.f) }
-    ensures near { IsSource result }
-{
-    placement.from.plus(at.place())
-}
-
 // What the cell of the box at some counts has.
-#[tactic(auto, using(crate::proofs::Cells::holds_largest))]
+#[tactic(auto, using(crate::proofs::Cells::holds_largest, crate::proofs::Cells::source_sum_fits))]
 fn lay(map: &Map, sample: &Volume, placement: &Placement, at: Counts) -> Laid
     requires lies { LiesOver map.now sample.now placement.now }
     requires counts { AreCounts placement.now.rect.size at.x at.y at.f }
@@ -191,7 +127,7 @@ fn lay(map: &Map, sample: &Volume, placement: &Placement, at: Counts) -> Laid
 {
     Laid {
         old: map.at(at.cell(&placement.rect)),
-        new: new_source(sample, placement, at),
+        new: placement.from.plus(at.place()),
     }
 }
 
@@ -219,7 +155,12 @@ fn is_bounded_at(
         placement,
         at.next_along(placement.rect.size, axis),
     );
-    is_bounded(sample, axis, first.old, next.old, first.new, next.new, flow)
+    match (first.old, next.old) {
+        (Some(a), Some(b)) => is_between_old(sample, axis, a, b, first.new, next.new, flow),
+        (Some(a), None) => leaves_first(seam_of(sample, axis, Some(a), Some(next.new)), flow),
+        (None, Some(b)) => leaves_second(seam_of(sample, axis, Some(first.new), Some(b)), flow),
+        (None, None) => leaves_none(flow),
+    }
 }
 
 // The pair of a cell along an axis, if it has one, is within its bounds. Most pairs have no flow, which is
@@ -248,21 +189,6 @@ fn holds_along(
         return true;
     }
     is_bounded_at(map, sample, &cut.placement, axis, at, flow)
-}
-
-// The same along F, along which a box of one frame has no pair.
-fn holds_along_frames(map: &Map, sample: &Volume, cut: &CutRecord, walk: Walk) -> bool
-    requires lies { LiesOver map.now sample.now cut.now.placement }
-    requires inside { IsWalkIn cut.now.placement.rect.size walk }
-    ensures { IsTrue result ↔ HoldsAlong (distance sample.now) map.now cut.now
-        walk.at.x walk.at.y walk.at.f Axis.F }
-{
-    let size = cut.placement.rect.size;
-    if size.f == 1 {
-        return true;
-    }
-    let number = walk.pair_number(size, Axis::F);
-    holds_along(map, sample, cut, Axis::F, walk.at, number)
 }
 
 // Whether none of the pairs of a cell, which are three at most, has a flow. Where they are fewer, pairs of the
@@ -297,7 +223,12 @@ fn first_axis(map: &Map, sample: &Volume, cut: &CutRecord, walk: Walk) -> Option
     if !holds_along(map, sample, cut, Axis::Y, walk.at, number) {
         return Some(Axis::Y);
     }
-    if !holds_along_frames(map, sample, cut, walk) {
+    // A box of one frame has no pair along F.
+    if size.f == 1 {
+        return None;
+    }
+    let number = walk.pair_number(size, Axis::F);
+    if !holds_along(map, sample, cut, Axis::F, walk.at, number) {
         return Some(Axis::F);
     }
     None

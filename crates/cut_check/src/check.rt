@@ -10,7 +10,7 @@ ghost use Rattle.boxes.specs.Pairs.{pair_count};
 ghost use Rattle.cut_check.specs.Records.{CutStands, IsFirstCutFault, IsLawfulCut, setting};
 ghost use Rattle.cut_check.specs.Steps.{LiesOver};
 
-use crate::balance::{is_window, value_of};
+use crate::balance::value_of;
 use crate::bounds::first_unbounded;
 use crate::record::{
     BALANCE_RULE, BOUNDS_RULE, CutFault, CutRecord, FILL_RULE, FIT_RULE, KEEP_RULE, VALUE_RULE,
@@ -71,7 +71,7 @@ fn check_flows(
         }
     };
     let window = window_after(canvas, sample, &cut.placement, cut.choice.as_slice());
-    if is_window(value, window) {
+    if 0 <= value && value as u64 == window {
         Ok(())
     } else {
         Err(CutFault {

@@ -1,5 +1,5 @@
 // The flows of the pairs of a cell, and what leaves it.
-ghost use Rattle.std.specs.Prelude.{◌≡◌, ◌≤◌, ◌+◌, ◌-◌, pos, ◌+ℤ◌, nat_lt, slice_index_or, if◌then◌else◌};
+ghost use Rattle.std.specs.Prelude.{◌≡◌, ◌+◌, ◌-◌, pos, ◌+ℤ◌, nat_lt, slice_index_or, if◌then◌else◌};
 ghost use Rattle.cells.specs.Places.{IsSmall};
 ghost use Rattle.boxes.specs.Pairs.{AreCounts, pair_number};
 ghost use Rattle.boxes.specs.Walks.{IsWalkIn};
@@ -60,15 +60,6 @@ fn pairs_since_above(size: Size, walk: Walk) -> u64
     (w - 1) + along_y + along_f
 }
 
-// The number of the pair of the cell before this one in its row, and this one.
-fn number_from_last(size: Size, walk: Walk) -> u64
-    requires inside { IsWalkIn size walk }
-    requires some { 1 ≤ walk.at.x }
-    ensures { result ≡ pair_number size Axis.X (walk.at.x - 1) walk.at.y walk.at.f }
-{
-    walk.before - pairs_since_last(size, walk)
-}
-
 // How many pairs along X the cell above this one is the first of.
 fn one_along_x(size: Size, walk: Walk) -> u64
     requires inside { IsWalkIn size walk }
@@ -77,59 +68,27 @@ fn one_along_x(size: Size, walk: Walk) -> u64
     if walk.at.x + 1 < size.w { 1 } else { 0 }
 }
 
-// The number of the pair of the cell above this one, and this one.
-fn number_from_above(size: Size, walk: Walk) -> u64
-    requires small { IsSmall size }
-    requires inside { IsWalkIn size walk }
-    requires some { 1 ≤ walk.at.y }
-    ensures { result ≡ pair_number size Axis.Y walk.at.x (walk.at.y - 1) walk.at.f }
-{
-    walk.before - pairs_since_above(size, walk) + one_along_x(size, walk)
-}
-
-// What leaves a cell towards the next one along X, and what comes to it from the one before.
-fn out_along_x(size: Size, flows: &[Flow], walk: Walk) -> i16
-    requires inside { IsWalkIn size walk }
-    ensures { result ≡ (pair_flow size flows.now Axis.X walk.at.x walk.at.y walk.at.f).x }
-{
-    if walk.at.x + 1 < size.w {
-        flow_of(flows, walk.before).x
-    } else {
-        0
-    }
-}
-
+// What comes to a cell from the one before it along X.
 fn into_along_x(size: Size, flows: &[Flow], walk: Walk) -> i16
     requires inside { IsWalkIn size walk }
     ensures { result ≡ (flow_into size flows.now Axis.X walk.at.x walk.at.y walk.at.f).y }
 {
     if walk.at.x > 0 {
-        flow_of(flows, number_from_last(size, walk)).y
+        flow_of(flows, walk.before - pairs_since_last(size, walk)).y
     } else {
         0
     }
 }
 
 // The same along Y.
-fn out_along_y(size: Size, flows: &[Flow], walk: Walk) -> i16
-    requires small { IsSmall size }
-    requires inside { IsWalkIn size walk }
-    ensures { result ≡ (pair_flow size flows.now Axis.Y walk.at.x walk.at.y walk.at.f).x }
-{
-    if walk.at.y + 1 < size.h {
-        flow_of(flows, walk.pair_number(size, Axis::Y)).x
-    } else {
-        0
-    }
-}
-
 fn into_along_y(size: Size, flows: &[Flow], walk: Walk) -> i16
     requires small { IsSmall size }
     requires inside { IsWalkIn size walk }
     ensures { result ≡ (flow_into size flows.now Axis.Y walk.at.x walk.at.y walk.at.f).y }
 {
     if walk.at.y > 0 {
-        flow_of(flows, number_from_above(size, walk)).y
+        let above = walk.before - pairs_since_above(size, walk);
+        flow_of(flows, above + one_along_x(size, walk)).y
     } else {
         0
     }
@@ -141,7 +100,8 @@ fn leaving_along_x(size: Size, flows: &[Flow], walk: Walk) -> i32
     ensures is { result ≡ leaving_along size flows.now Axis.X walk.at.x walk.at.y walk.at.f }
     ensures near { IsBetween (minus_of most_along) (pos most_along) result }
 {
-    i32::from(out_along_x(size, flows, walk)) - i32::from(into_along_x(size, flows, walk))
+    let out = flow_at(size, flows, Axis::X, walk.at, walk.before).x;
+    i32::from(out) - i32::from(into_along_x(size, flows, walk))
 }
 
 fn leaving_along_y(size: Size, flows: &[Flow], walk: Walk) -> i32
@@ -150,19 +110,12 @@ fn leaving_along_y(size: Size, flows: &[Flow], walk: Walk) -> i32
     ensures is { result ≡ leaving_along size flows.now Axis.Y walk.at.x walk.at.y walk.at.f }
     ensures near { IsBetween (minus_of most_along) (pos most_along) result }
 {
-    i32::from(out_along_y(size, flows, walk)) - i32::from(into_along_y(size, flows, walk))
+    let number = walk.pair_number(size, Axis::Y);
+    let out = flow_at(size, flows, Axis::Y, walk.at, number).x;
+    i32::from(out) - i32::from(into_along_y(size, flows, walk))
 }
 
-// The same along F.
-fn out_along_frames(size: Size, flows: &[Flow], walk: Walk) -> i16
-    requires small { IsSmall size }
-    requires inside { IsWalkIn size walk }
-    ensures { result ≡ (pair_flow size flows.now Axis.F walk.at.x walk.at.y walk.at.f).x }
-{
-    let number = walk.pair_number(size, Axis::F);
-    flow_at(size, flows, Axis::F, walk.at, number).x
-}
-
+// What comes to a cell from the one before it along F.
 fn into_along_frames(size: Size, flows: &[Flow], walk: Walk) -> i16
     requires small { IsSmall size }
     requires inside { IsWalkIn size walk }
@@ -187,7 +140,9 @@ fn leaving_along_frames(size: Size, flows: &[Flow], walk: Walk) -> i32
     if size.f == 1 {
         return 0;
     }
-    i32::from(out_along_frames(size, flows, walk)) - i32::from(into_along_frames(size, flows, walk))
+    let number = walk.pair_number(size, Axis::F);
+    let out = flow_at(size, flows, Axis::F, walk.at, number).x;
+    i32::from(out) - i32::from(into_along_frames(size, flows, walk))
 }
 
 // The sum of three numbers, apart so that the check adds numbers alone.

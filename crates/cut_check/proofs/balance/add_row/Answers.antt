@@ -1,3 +1,4 @@
+use Rattle.std.proofs.lemmas.Grind.{common_steps}
 use Rattle.std.proofs.Common.{◌≡◌, ◌<◌, ◌+◌, ◌*◌, ◌/◌, ◌%◌, ◌≤◌, ◌∙◌, refl, ap, arith, below_more, w64, to_z, of_z, neg_ℤ, rules, sym, subst}
 use Rattle.std.proofs.lemmas.Int.{ints, to_z-of_z}
 use mathlib.Core.Bool.{false≢true}
@@ -108,3 +109,6 @@ overflow_add-sum c =
     let few : c.loop-i.i ≤ MOST_CELLS = omega (arith, was.few, c.loop-i-test.true) in
     sum_fits c.loop-i.i (to_z w64 c.loop-i.sum-bits) (to_z w64 (of_z w64 c.from-sum.result)) few (omega (arith, ints, was.low, c.loop-i.sum-is)) (omega (arith, ints, was.high, c.loop-i.sum-is))
     (omega (arith, ints, near.0, c.from-sum.ensures)) (omega (arith, ints, near.1, c.from-sum.ensures))
+
+pub overflow_mul-start : goal.overflow_mul-start
+overflow_mul-start c = grind (arith, common_steps)

@@ -1,3 +1,4 @@
+use Rattle.std.proofs.lemmas.Grind.{common_steps}
 use Rattle.std.proofs.Common.{◌≡◌, ◌∙◌, ◌*◌, ◌+◌, ap, arith, w64, to_z, of_z, rules, sym, subst}
 use Rattle.std.proofs.lemmas.Int.{ints, to_z-of_z}
 use Rattle.std.proofs.Math.Nat.{mul-le-mul_left}
@@ -51,3 +52,6 @@ returns-clause-near c =
       omega (arith, ints, c.loop-row.invariant.low, all, c.requires.lies.small.cells),
       omega (arith, ints, c.loop-row.invariant.high, all, c.requires.lies.small.cells),
     )
+
+pub add_row-requires-clause-summed : goal.add_row-requires-clause-summed
+add_row-requires-clause-summed c = grind (arith, common_steps)

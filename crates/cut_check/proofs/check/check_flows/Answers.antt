@@ -2,13 +2,13 @@ use Rattle.std.proofs.lemmas.Grind.{common_steps}
 use Rattle.std.proofs.Common.{◌≡◌, ◌∙◌, List, Bool, refl, sym, ap, subst, inl, inr, arith, w64, to_z, of_z}
 use Rattle.std.proofs.lemmas.Int.{ints}
 use Rattle.std.specs.Prelude.{pos}
-use mathlib.Core.Bool.{false≢true}
 use Rattle.cells.specs.Distances.{distance}
 use Rattle.map_canvas.specs.Maps.{SourceMap}
 use Rattle.costs.specs.Lawful.{window_after}
 use Rattle.cut_check.specs.Records.{BoundsAll, IsFirstUnbounded, Setting, setting}
 use Rattle.cut_check.proofs.Parts.{part_at, parts_are}
 use Rattle.cut_check.proofs.check.check_flows.Goals as goal
+use Rattle.cut_check.proofs.check.check_flows.Goals.{else-value-ge0-via-then-value-ge0+else-value-window, else-value-ge0-via-else-value-ge0}
 
 pub returns-in-Some-clause-fault : goal.returns-in-Some-clause-fault
 returns-in-Some-clause-fault c =
@@ -33,8 +33,8 @@ returns-in-Err-clause-fault c =
       place = c.in-Err.ensures.balanced sample;
     })))))
 
-pub returns-then-is_window-clause-stands : goal.returns-then-is_window-clause-stands
-returns-then-is_window-clause-stands c =
+pub returns-then-value-window-clause-stands : goal.returns-then-value-window-clause-stands
+returns-then-value-window-clause-stands c =
     let cut = c.args.cut.now in
     let sample = c.args.sample.now in
     let held = c.args.held.now in
@@ -48,12 +48,12 @@ returns-then-is_window-clause-stands c =
       value = record {
         part = part_at s cut;
         parts = parts_are s cut;
-        sum = sym (c.in-Ok.ensures.value sample (part_at s cut) (parts_are s cut)) ∙ sym exact ∙ c.is_window.ensures.0 c.if-is_window.true ∙ ap pos window;
+        sum = sym (c.in-Ok.ensures.value sample (part_at s cut) (parts_are s cut)) ∙ sym exact ∙ omega (arith, ints, c.if-value-ge0.true, c.if-value-window.true) ∙ ap pos window;
       };
     }
 
-pub returns-else-is_window-clause-fault : goal.returns-else-is_window-clause-fault
-returns-else-is_window-clause-fault c =
+pub returns-else-value-ge0-clause-fault : goal.returns-else-value-ge0-clause-fault
+returns-else-value-ge0-clause-fault c =
     let cut = c.args.cut.now in
     let sample = c.args.sample.now in
     let held = c.args.held.now in
@@ -65,8 +65,15 @@ returns-else-is_window-clause-fault c =
       lawful = c.requires.lawful;
       bounded = subst (λ (m : SourceMap). BoundsAll (setting m sample held) cut) c.map.ensures.map (c.in_default.ensures.hold held);
       balanced = c.in-Ok.ensures.balanced sample;
-      value = λ value. false≢true (sym c.if-is_window.false ∙ c.is_window.ensures.1 (exact ∙ c.in-Ok.ensures.value sample value.part value.parts ∙ value.sum ∙ ap pos (sym window)));
+      value = λ value. let is = exact ∙ c.in-Ok.ensures.value sample value.part value.parts ∙ value.sum ∙ ap pos (sym window) in
+          elim c.else-value-ge0.branch [
+            | else-value-ge0-via-then-value-ge0+else-value-window w ↦ w.if-value-window.false (omega (arith, ints, is, w.if-value-ge0.true))
+            | else-value-ge0-via-else-value-ge0 w ↦ absurd (omega (arith, ints, is, w.if-value-ge0.false))
+          ];
     })))))
 
 pub first_unbounded-requires : goal.first_unbounded-requires
 first_unbounded-requires c = grind (arith, common_steps)
+
+pub overflow_cast-value : goal.overflow_cast-value
+overflow_cast-value c = grind (arith, common_steps)

@@ -1,10 +1,13 @@
-use Rattle.std.proofs.Common.{rules, sym, subst, w16, ◌∙◌}
+use Rattle.std.proofs.Common.{arith}
+use Rattle.std.proofs.lemmas.Grind.{common_steps}
+use Rattle.std.proofs.Common.{ap, rules, sym, subst, w16, ◌∙◌}
 use Rattle.std.specs.Prelude.{◌-ℤ◌, pos}
 use Rattle.cut_check.proofs.OneFrame.{none_leaves}
 use mir.Val.{SFits}
 use Rattle.cut_check.specs.Flows.{IsBetween, minus_of}
 use Rattle.cut_check.specs.Steps.{most_along}
 use Rattle.cut_check.proofs.Held.{held_difference, near_difference}
+use Rattle.cut_check.specs.declared.record.Flow.{Flow}
 use Rattle.cut_check.proofs.flows.leaving_along_frames.Goals as goal
 
 pub returns-then-size-eq1-clause-is : goal.returns-then-size-eq1-clause-is
@@ -12,7 +15,7 @@ returns-then-size-eq1-clause-is c = sym (none_leaves c.args.size c.args.flows.no
 
 pub returns-clause-near : goal.returns-clause-near
 returns-clause-near c =
-    let out = c.out_along_frames.result in
+    let out = c.flow_at-out.result.x in
     let into = c.into_along_frames.result in
     let out_fits : SFits w16 out = search rules in
     let into_fits : SFits w16 into = search rules in
@@ -20,8 +23,11 @@ returns-clause-near c =
 
 pub returns-clause-is : goal.returns-clause-is
 returns-clause-is c =
-    let out = c.out_along_frames.result in
+    let out = c.flow_at-out.result.x in
     let into = c.into_along_frames.result in
     let out_fits : SFits w16 out = search rules in
     let into_fits : SFits w16 into = search rules in
-    held_difference out into c.from.result c.from-2.result out_fits into_fits c.from.ensures c.from-2.ensures ∙ (λ k. c.out_along_frames.ensures k -ℤ c.into_along_frames.ensures k)
+    held_difference out into c.from.result c.from-2.result out_fits into_fits c.from.ensures c.from-2.ensures ∙ (λ k. ap (λ (flow : Flow). flow.x) c.flow_at-out.ensures k -ℤ c.into_along_frames.ensures k)
+
+pub overflow_sub-result : goal.overflow_sub-result
+overflow_sub-result c = grind (arith, common_steps)

@@ -1,10 +1,8 @@
-use Rattle.std.proofs.Common.{arith}
-use Rattle.std.proofs.lemmas.Grind.{common_steps}
 use Rattle.std.proofs.Common.{◌∙◌, sym, ap, inl, inr, ⊎_elim}
 use mathlib.Core.Bool.{false≢true}
 use Rattle.map_canvas.specs.Choices.{chosen}
 use Rattle.costs.proofs.MarkLaws.{cell_at}
-use Rattle.cut_check.proofs.Cells.{index_at}
+use Rattle.cut_check.proofs.Cells.{counts_in, index_at}
 use Rattle.cut_check.proofs.rules.stays_old.Goals as goal
 
 pub is_kept_at-requires-clause-cell : goal.is_kept_at-requires-clause-cell
@@ -27,4 +25,4 @@ returns-else-is_marked c =
     )
 
 pub is_kept_at-requires-clause-counts : goal.is_kept_at-requires-clause-counts
-is_kept_at-requires-clause-counts c = grind (arith, common_steps)
+is_kept_at-requires-clause-counts c = counts_in c.args.placement.now c.args.i c.args.at c.requires.here c.requires.below

@@ -1,0 +1,20 @@
+use Rattle.std.proofs.Common.{ap, arith, rules, w16, ◌∙◌}
+use Rattle.std.proofs.lemmas.Int.{to_z-of_z}
+use mir.Val.{SFits}
+use Rattle.cut_check.specs.declared.record.Flow.{Flow}
+use Rattle.cut_check.proofs.Above.{flow_of_last, pairs_last}
+use Rattle.cut_check.proofs.flows.into_along_x.Goals as goal
+
+pub overflow_sub-walk : goal.overflow_sub-walk
+overflow_sub-walk c =
+    let at = c.args.walk.at in
+    omega (arith, pairs_last c.args.size at.x at.y at.f c.if-walk-gt0.true c.requires.inside.counts, c.requires.inside.before, c.pairs_since_last.ensures)
+
+pub returns-then-walk-gt0 : goal.returns-then-walk-gt0
+returns-then-walk-gt0 c =
+    let at = c.args.walk.at in
+    let some = c.if-walk-gt0.true in
+    let fits : SFits w16 c.flow_of.result.y = search rules in
+    to_z-of_z w16 c.flow_of.result.y fits
+    ∙ ap (λ (flow : Flow). flow.y) (c.flow_of.ensures ∙ flow_of_last c.args.size c.args.flows.now at.x at.y at.f _ some c.requires.inside.counts
+    (omega (arith, pairs_last c.args.size at.x at.y at.f some c.requires.inside.counts, c.requires.inside.before, c.pairs_since_last.ensures)))

@@ -1,8 +1,7 @@
 // The words of `check`.
-ghost use Rattle.std.specs.Prelude.{◌≡◌, IfOk};
+ghost use Rattle.std.specs.Prelude.{IfOk};
 ghost use Rattle.job_words.specs.Words as by;
 ghost use Rattle.job_words.specs.Jobs.{IsJob, check_asked};
-ghost use Rattle.job_words.specs.CheckWords.{check_rows};
 
 use crate::fields::{names_at, turns_at};
 use crate::job::{Job, Names, WordFault};
@@ -23,18 +22,12 @@ pub struct CheckJob {
 
 const ROWS: [Row; 20] = with_files![turns_row!()];
 
-fn rows() -> &'static [Row]
-    ensures { result.now ≡ check_rows }
-{
-    &ROWS
-}
-
 /// The job of the words after the command, or their first refusal.
 pub fn read_check(alloc: Global, words: &[Name]) -> Result<Job, WordFault>
     ensures exact { by.AnswersAs (check_asked words.now) result }
     ensures lawful { IfOk result IsJob }
 {
-    let settings = all_settings(alloc, rows(), words)?;
+    let settings = all_settings(alloc, &ROWS, words)?;
     let names = names_at(alloc, &settings)?;
     let turns = turns_at(&settings);
     Ok(Job::Check(CheckJob { names, turns }))

@@ -2,7 +2,7 @@
 ghost use Rattle.std.specs.Prelude.{◌≡◌, ◌<◌, IfOk};
 ghost use Rattle.job_words.specs.Words as by;
 ghost use Rattle.job_words.specs.Jobs.{IsJob, grow_asked};
-ghost use Rattle.job_words.specs.GrowWords.{grow_rows, place_nth};
+ghost use Rattle.job_words.specs.GrowWords.{place_nth};
 
 use crate::fields::{names_at, nth_at, number_at, size_at, turns_at};
 use crate::job::{Job, Names, WordFault};
@@ -65,12 +65,6 @@ const ROWS: [Row; 29] = with_files![
     turns_row!(),
 ];
 
-fn rows() -> &'static [Row]
-    ensures { result.now ≡ grow_rows }
-{
-    &ROWS
-}
-
 /// The mode at a position of their list.
 pub fn place_nth(n: usize) -> Place
     requires { n < 4 }
@@ -84,7 +78,7 @@ pub fn read_grow(alloc: Global, words: &[Name]) -> Result<Job, WordFault>
     ensures exact { by.AnswersAs (grow_asked words.now) result }
     ensures lawful { IfOk result IsJob }
 {
-    let settings = all_settings(alloc, rows(), words)?;
+    let settings = all_settings(alloc, &ROWS, words)?;
     let values: &[Setting] = &settings;
     Ok(Job::Grow(GrowJob {
         names: names_at(alloc, values)?,

@@ -2,7 +2,7 @@
 ghost use Rattle.std.specs.Prelude.{◌≡◌, IfOk};
 ghost use Rattle.job_words.specs.Words as by;
 ghost use Rattle.job_words.specs.Jobs.{IsJob, loop_asked};
-ghost use Rattle.job_words.specs.LoopWords.{loop_rows, taps_of};
+ghost use Rattle.job_words.specs.LoopWords.{taps_of};
 
 use crate::fields::{names_at, number_at};
 use crate::job::{Job, Names, WordFault};
@@ -38,12 +38,6 @@ const ROWS: [Row; 7] = with_one_sample![
     number_row!(Gap, 1, WIDEST_GAP as u64, 1),
 ];
 
-fn rows() -> &'static [Row]
-    ensures { result.now ≡ loop_rows }
-{
-    &ROWS
-}
-
 // The filter of so many taps.
 fn taps_of(number: u64) -> Taps
     ensures { result ≡ taps_of number }
@@ -60,7 +54,7 @@ pub fn read_loop(alloc: Global, words: &[Name]) -> Result<Job, WordFault>
     ensures exact { by.AnswersAs (loop_asked words.now) result }
     ensures lawful { IfOk result IsJob }
 {
-    let settings = all_settings(alloc, rows(), words)?;
+    let settings = all_settings(alloc, &ROWS, words)?;
     let values: &[Setting] = &settings;
     Ok(Job::Loop(LoopJob {
         names: names_at(alloc, values)?,

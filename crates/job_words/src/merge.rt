@@ -1,7 +1,7 @@
 // The words of `merge`.
-ghost use Rattle.std.specs.Prelude.{◌≡◌, IfOk};
+ghost use Rattle.std.specs.Prelude.{IfOk};
 ghost use Rattle.job_words.specs.Words as by;
-ghost use Rattle.job_words.specs.MergeWords.{IsMergeJob, merge_job_of, merge_rows};
+ghost use Rattle.job_words.specs.MergeWords.{IsMergeJob, merge_job_of};
 
 use crate::fields::{more_at, two_names_at};
 use crate::job::WordFault;
@@ -53,18 +53,12 @@ const ROWS: [Row; 19] = [
     file_row!(Map),
 ];
 
-fn rows() -> &'static [Row]
-    ensures { result.now ≡ merge_rows }
-{
-    &ROWS
-}
-
 /// The job of the words after the command, or their first refusal.
 pub fn read_merge(alloc: Global, words: &[Name]) -> Result<MergeJob, WordFault>
     ensures exact { by.AnswersAs (merge_job_of words.now) result }
     ensures lawful { IfOk result IsMergeJob }
 {
-    let settings = all_settings(alloc, rows(), words)?;
+    let settings = all_settings(alloc, &ROWS, words)?;
     let values: &[Setting] = &settings;
     let (sample, marks) = two_names_at(alloc, values, Key::Sample, Key::Marks)?;
     let (out, map) = two_names_at(alloc, values, Key::Out, Key::Map)?;

@@ -1,8 +1,7 @@
 // The words of `quilt`.
-ghost use Rattle.std.specs.Prelude.{◌≡◌, IfOk};
+ghost use Rattle.std.specs.Prelude.{IfOk};
 ghost use Rattle.job_words.specs.Words as by;
 ghost use Rattle.job_words.specs.Jobs.{IsJob, quilt_asked};
-ghost use Rattle.job_words.specs.QuiltWords.{quilt_rows};
 
 use crate::fields::{names_at, number_at};
 use crate::job::{Job, Names, WordFault};
@@ -45,18 +44,12 @@ const ROWS: [Row; 10] = with_one_sample![
     seed_row!(),
 ];
 
-fn rows() -> &'static [Row]
-    ensures { result.now ≡ quilt_rows }
-{
-    &ROWS
-}
-
 /// The job of the words after the command, or their first refusal.
 pub fn read_quilt(alloc: Global, words: &[Name]) -> Result<Job, WordFault>
     ensures exact { by.AnswersAs (quilt_asked words.now) result }
     ensures lawful { IfOk result IsJob }
 {
-    let settings = all_settings(alloc, rows(), words)?;
+    let settings = all_settings(alloc, &ROWS, words)?;
     let values: &[Setting] = &settings;
     Ok(Job::Quilt(QuiltJob {
         names: names_at(alloc, values)?,

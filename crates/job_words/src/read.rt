@@ -87,20 +87,17 @@ fn is_below_another(settings: &[Setting], key: Key) -> bool
         .any(|setting| is_greater(key.number(), setting.key.number()))
 }
 
-fn is_needed(settings: &[Setting], key: Key, need: Need) -> bool
-    ensures { result ≡ by.is_needed settings.now key need }
-{
-    match need {
-        Need::BelowAnother => is_below_another(settings, key),
-        Need::Always | Need::Default(_) => true,
-    }
-}
-
 // The row has no value, and needs one.
 fn is_missing(row: &Row, settings: &[Setting]) -> bool
     ensures { result ≡ by.is_missing settings.now row.now }
 {
-    value_at(settings, row.key).is_none() && is_needed(settings, row.key, row.need)
+    if value_at(settings, row.key).is_some() {
+        return false;
+    }
+    match row.need {
+        Need::BelowAnother => is_below_another(settings, row.key),
+        Need::Always | Need::Default(_) => true,
+    }
 }
 
 // The first key that is missing.

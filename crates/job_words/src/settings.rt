@@ -129,16 +129,6 @@ fn read_one(i: u32, a: u64, b: u64, c: u64, text: &str) -> Result<Value, WordFau
     }
 }
 
-// One of the texts of a list.
-fn read_text(i: u32, texts: Texts, text: &str) -> Result<Value, WordFault>
-    ensures { result ≡ by.text_value i texts text.now }
-{
-    match texts.position(text) {
-        Some(n) => Ok(Value::Chosen(Choice::Nth(n))),
-        None => Err(WordFault::BadValue(i)),
-    }
-}
-
 // A text as a value of its kind.
 fn read_value(
     alloc: Global,
@@ -153,47 +143,18 @@ fn read_value(
         Kind::FileName => read_name(alloc, i, settings, text),
         Kind::Within { least, most } => read_number(i, least, most, text),
         Kind::Among(a, b, c) => read_one(i, a, b, c, text),
-        Kind::OneOf(texts) => read_text(i, texts, text),
+        Kind::OneOf(texts) => match texts.position(text) {
+            Some(n) => Ok(Value::Chosen(Choice::Nth(n))),
+            None => Err(WordFault::BadValue(i)),
+        },
     }
-}
-
-// The row is that of the key with this text.
-fn has_text(row: &Row, text: &str) -> bool
-    ensures { result ≡ by.has_text text.now row.now }
-{
-    row.key.has_text(text)
 }
 
 // The key with this text.
 fn row_of<'a>(rows: &'a [Row], text: &str) -> Option<&'a Row>
     ensures { option_copied result ≡ by.row_of rows.now text.now }
 {
-    rows.iter().find(|row| has_text(row, text))
-}
-
-// A key that has no setting yet, with its value.
-fn read_pair(
-    alloc: Global,
-    rows: &[Row],
-    i: u32,
-    settings: &[Setting],
-    key: &str,
-    value: &str,
-) -> Result<Setting, WordFault>
-    ensures { by.AnswersAs (by.setting_by i settings.now (by.row_of rows.now key.now) value.now)
-        result }
-{
-    let Some(row) = row_of(rows, key) else {
-        return Err(WordFault::UnknownKey(i));
-    };
-    if value_at(settings, row.key).is_some() {
-        return Err(WordFault::Repeated(i));
-    }
-    let value = read_value(alloc, i, settings, row.kind, value)?;
-    Ok(Setting {
-        key: row.key,
-        value,
-    })
+    rows.iter().find(|row| row.key.has_text(text))
 }
 
 /// Word number `i` as a setting that comes after others.
@@ -212,5 +173,15 @@ pub fn read_setting(
     if key.is_empty() || value.is_empty() {
         return Err(WordFault::BadWord(i));
     }
-    read_pair(alloc, rows, i, settings, key, value)
+    let Some(row) = row_of(rows, key) else {
+        return Err(WordFault::UnknownKey(i));
+    };
+    if value_at(settings, row.key).is_some() {
+        return Err(WordFault::Repeated(i));
+    }
+    let value = read_value(alloc, i, settings, row.kind, value)?;
+    Ok(Setting {
+        key: row.key,
+        value,
+    })
 }

@@ -1,7 +1,7 @@
 // The words of `tile`.
 ghost use Rattle.std.specs.Prelude.{◌≡◌, ◌<◌, IfOk};
 ghost use Rattle.job_words.specs.Words as by;
-ghost use Rattle.job_words.specs.TileWords.{HasTileValues, IsTileJob, is_narrow, narrow_axis, tile_job_of, tile_plan, tile_rows, wrap_nth};
+ghost use Rattle.job_words.specs.TileWords.{IsTileJob, is_narrow, narrow_axis, tile_job_of, wrap_nth};
 
 use crate::fields::{name_at, nth_at, number_at, size_at, two_names_at};
 use crate::job::WordFault;
@@ -70,12 +70,6 @@ const ROWS: [Row; 11] = [
     seed_row!(),
 ];
 
-fn rows() -> &'static [Row]
-    ensures { result.now ≡ tile_rows }
-{
-    &ROWS
-}
-
 // The axes at a position of the list of their texts: `x`, `y`, `xy`, `f`, `xyf`.
 fn wrap_nth(n: usize) -> Wrap
     requires { n < 5 }
@@ -85,19 +79,6 @@ fn wrap_nth(n: usize) -> Wrap
         x: [true, false, true, false, true][n],
         y: [false, true, true, false, true][n],
         f: [false, false, false, true, true][n],
-    }
-}
-
-// The plan of the values of all keys.
-fn plan_of(settings: &[Setting]) -> TilePlan
-    requires { HasTileValues settings.now }
-    ensures { result ≡ tile_plan settings.now }
-{
-    TilePlan {
-        wrap: wrap_nth(nth_at(settings, Key::Wrap)),
-        side: number_at(settings, Key::Side) as u32,
-        overlap: number_at(settings, Key::Overlap) as u32,
-        tol: number_at(settings, Key::Tol) as u32,
     }
 }
 
@@ -129,10 +110,15 @@ pub fn read_tile(alloc: Global, words: &[Name]) -> Result<TileJob, WordFault>
     ensures exact { by.AnswersAs (tile_job_of words.now) result }
     ensures lawful { IfOk result IsTileJob }
 {
-    let settings = all_settings(alloc, rows(), words)?;
+    let settings = all_settings(alloc, &ROWS, words)?;
     let values: &[Setting] = &settings;
     let size = size_at(values);
-    let plan = plan_of(values);
+    let plan = TilePlan {
+        wrap: wrap_nth(nth_at(values, Key::Wrap)),
+        side: number_at(values, Key::Side) as u32,
+        overlap: number_at(values, Key::Overlap) as u32,
+        tol: number_at(values, Key::Tol) as u32,
+    };
     if let Some(axis) = narrow_axis(plan.wrap, size) {
         return Err(WordFault::Narrow(axis));
     }

@@ -1,7 +1,7 @@
 // The words of `transfer`.
-ghost use Rattle.std.specs.Prelude.{◌≡◌, IfOk};
+ghost use Rattle.std.specs.Prelude.{IfOk};
 ghost use Rattle.job_words.specs.Words as by;
-ghost use Rattle.job_words.specs.TransferWords.{IsTransferJob, transfer_job_of, transfer_rows};
+ghost use Rattle.job_words.specs.TransferWords.{IsTransferJob, transfer_job_of};
 
 use crate::fields::{name_at, names_at, number_at};
 use crate::job::{Names, WordFault};
@@ -47,18 +47,12 @@ const ROWS: [Row; 10] = [
     seed_row!(),
 ];
 
-fn rows() -> &'static [Row]
-    ensures { result.now ≡ transfer_rows }
-{
-    &ROWS
-}
-
 /// The job of the words after the command, or their first refusal.
 pub fn read_transfer(alloc: Global, words: &[Name]) -> Result<TransferJob, WordFault>
     ensures exact { by.AnswersAs (transfer_job_of words.now) result }
     ensures lawful { IfOk result IsTransferJob }
 {
-    let settings = all_settings(alloc, rows(), words)?;
+    let settings = all_settings(alloc, &ROWS, words)?;
     let values: &[Setting] = &settings;
     Ok(TransferJob {
         target: name_at(alloc, values, Key::Target)?,

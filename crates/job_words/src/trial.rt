@@ -2,7 +2,7 @@
 ghost use Rattle.std.specs.Prelude.{◌≡◌, IfOk};
 ghost use Rattle.job_words.specs.Words as by;
 ghost use Rattle.job_words.specs.Jobs.{IsJob, trial_asked};
-ghost use Rattle.job_words.specs.TrialWords.{HasTrialValues, trial_rows, trial_size};
+ghost use Rattle.job_words.specs.TrialWords.{HasTrialValues, trial_size};
 
 use crate::fields::{nth_at, number_at};
 use crate::grow::{Place, place_nth};
@@ -46,12 +46,6 @@ const ROWS: [Row; 9] = [
     seed_row!(),
 ];
 
-fn rows() -> &'static [Row]
-    ensures { result.now ≡ trial_rows }
-{
-    &ROWS
-}
-
 // The output's size.
 fn size_at(settings: &[Setting]) -> Size
     requires { HasTrialValues settings.now }
@@ -69,7 +63,7 @@ pub fn read_trial(alloc: Global, words: &[Name]) -> Result<Job, WordFault>
     ensures exact { by.AnswersAs (trial_asked words.now) result }
     ensures lawful { IfOk result IsJob }
 {
-    let settings = all_settings(alloc, rows(), words)?;
+    let settings = all_settings(alloc, &ROWS, words)?;
     let values: &[Setting] = &settings;
     Ok(Job::Trial(TrialJob {
         n: number_at(values, Key::N) as u32,

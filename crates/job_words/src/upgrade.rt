@@ -1,8 +1,7 @@
 // The words of `upgrade`.
-ghost use Rattle.std.specs.Prelude.{◌≡◌, IfOk};
+ghost use Rattle.std.specs.Prelude.{IfOk};
 ghost use Rattle.job_words.specs.Words as by;
 ghost use Rattle.job_words.specs.Jobs.{IsJob, upgrade_asked};
-ghost use Rattle.job_words.specs.UpgradeWords.{upgrade_rows};
 
 use crate::fields::two_names_at;
 use crate::job::{Job, WordFault};
@@ -33,18 +32,12 @@ const ROWS: [Row; 4] = [
     file_row!(NewRecord),
 ];
 
-fn rows() -> &'static [Row]
-    ensures { result.now ≡ upgrade_rows }
-{
-    &ROWS
-}
-
 /// The job of the words after the command, or their first refusal.
 pub fn read_upgrade(alloc: Global, words: &[Name]) -> Result<Job, WordFault>
     ensures exact { by.AnswersAs (upgrade_asked words.now) result }
     ensures lawful { IfOk result IsJob }
 {
-    let settings = all_settings(alloc, rows(), words)?;
+    let settings = all_settings(alloc, &ROWS, words)?;
     let values: &[Setting] = &settings;
     let (map, record_file) = two_names_at(alloc, values, Key::Map, Key::Record)?;
     let (new_map, new_record_file) = two_names_at(alloc, values, Key::NewMap, Key::NewRecord)?;

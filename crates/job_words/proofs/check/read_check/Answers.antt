@@ -1,19 +1,20 @@
 use Rattle.std.proofs.Common.{arith, refl, subst, sym}
 use Rattle.std.proofs.lemmas.Grind.{common_steps}
+use Rattle.job_words.specs.CheckWords.{check_rows}
 use Rattle.job_words.specs.Names.{AreNames, name_list}
 use Rattle.job_words.proofs.CheckLawful.{check_lawful, check_values}
 use Rattle.job_words.proofs.check.read_check.Goals as goal
 
 pub names_at-requires : goal.names_at-requires
-names_at-requires c = (check_values c.rows.result.now c.args.words.now _ c.deref.result.now c.rows.ensures (c.in_ok-settings.ensures {u = tt}).ok c.deref.ensures.value).names
+names_at-requires c = (check_values check_rows c.args.words.now _ c.deref.result.now refl (c.in_ok-settings.ensures {u = tt}).ok c.deref.ensures.value).names
 
 pub turns_at-turns-requires : goal.turns_at-turns-requires
-turns_at-turns-requires c = (check_values c.rows.result.now c.args.words.now _ c.deref-2.result.now c.rows.ensures (c.in_ok-settings.ensures {u = tt}).ok c.deref-2.ensures.value).turns
+turns_at-turns-requires c = (check_values check_rows c.args.words.now _ c.deref-2.result.now refl (c.in_ok-settings.ensures {u = tt}).ok c.deref-2.ensures.value).turns
 
 pub returns-clause-lawful : goal.returns-clause-lawful
 returns-clause-lawful c = record {
   names = subst (λ names. AreNames (name_list names)) (sym (c.in_ok-names.ensures {u = tt}))
-      (check_lawful c.rows.result.now c.args.words.now _ c.deref.result.now c.rows.ensures (c.in_ok-settings.ensures {u = tt}).ok c.deref.ensures.value _ refl).names;
+      (check_lawful check_rows c.args.words.now _ c.deref.result.now refl (c.in_ok-settings.ensures {u = tt}).ok c.deref.ensures.value _ refl).names;
 }
 
 pub returns-clause-exact : goal.returns-clause-exact

@@ -1,33 +1,56 @@
-use Rattle.std.proofs.Common.{arith}
+use Rattle.std.proofs.Common.{arith, refl}
 use Rattle.std.proofs.lemmas.Grind.{common_steps}
 use Rattle.std.specs.Prelude.{Ok}
-use Rattle.limits.specs.declared.bounds.TheConstants.{GREATEST_SEED}
+use Rattle.limits.specs.declared.bounds.TheConstants.{GREATEST_AXIS, GREATEST_OVERLAP, GREATEST_SEED, GREATEST_TOLERANCE}
 use Rattle.job_words.specs.declared.keys.Key.TheVariants as key
+use Rattle.job_words.specs.declared.table.Texts.TheVariants.{Wraps}
 use Rattle.job_words.specs.Words.{value_at}
 use Rattle.job_words.specs.declared.tile.TileJob.{TileJob}
-use Rattle.job_words.proofs.Full.{numeric}
+use Rattle.job_words.specs.TileWords.{tile_rows}
+use Rattle.job_words.proofs.Full.{number_within, numeric, position}
 use Rattle.job_words.proofs.TileLawful.{tile_values, tile_lawful}
 use Rattle.job_words.proofs.tile.read_tile.Goals as goal
 
 pub size_at-size-requires : goal.size_at-size-requires
-size_at-size-requires c = (tile_values c.rows.result.now c.args.words.now _ c.deref-values.result.now c.rows.ensures (c.in_ok-settings.ensures {u = tt}).ok c.deref-values.ensures.value).size
-
-pub plan_of-plan-requires : goal.plan_of-plan-requires
-plan_of-plan-requires c = (tile_values c.rows.result.now c.args.words.now _ c.deref-values.result.now c.rows.ensures (c.in_ok-settings.ensures {u = tt}).ok c.deref-values.ensures.value)
+size_at-size-requires c = (tile_values tile_rows c.args.words.now _ c.deref-values.result.now refl (c.in_ok-settings.ensures {u = tt}).ok c.deref-values.ensures.value).size
 
 pub two_names_at-requires-clause-first : goal.two_names_at-requires-clause-first
-two_names_at-requires-clause-first c = (tile_values c.rows.result.now c.args.words.now _ c.deref-values.result.now c.rows.ensures (c.in_ok-settings.ensures {u = tt}).ok c.deref-values.ensures.value).out
+two_names_at-requires-clause-first c = (tile_values tile_rows c.args.words.now _ c.deref-values.result.now refl (c.in_ok-settings.ensures {u = tt}).ok c.deref-values.ensures.value).out
 
 pub two_names_at-requires-clause-second : goal.two_names_at-requires-clause-second
-two_names_at-requires-clause-second c = (tile_values c.rows.result.now c.args.words.now _ c.deref-values.result.now c.rows.ensures (c.in_ok-settings.ensures {u = tt}).ok c.deref-values.ensures.value).map
+two_names_at-requires-clause-second c = (tile_values tile_rows c.args.words.now _ c.deref-values.result.now refl (c.in_ok-settings.ensures {u = tt}).ok c.deref-values.ensures.value).map
 
 pub name_at-requires : goal.name_at-requires
-name_at-requires c = (tile_values c.rows.result.now c.args.words.now _ c.deref-values.result.now c.rows.ensures (c.in_ok-settings.ensures {u = tt}).ok c.deref-values.ensures.value).sample
+name_at-requires c = (tile_values tile_rows c.args.words.now _ c.deref-values.result.now refl (c.in_ok-settings.ensures {u = tt}).ok c.deref-values.ensures.value).sample
 
-pub number_at-requires : goal.number_at-requires
-number_at-requires c = numeric 0 GREATEST_SEED (value_at key.Seed c.deref-values.result.now) (tile_values c.rows.result.now c.args.words.now _ c.deref-values.result.now c.rows.ensures (c.in_ok-settings.ensures {u = tt}).ok c.deref-values.ensures.value).seed
+pub number_at-requires-4 : goal.number_at-requires-4
+number_at-requires-4 c = numeric 0 GREATEST_SEED (value_at key.Seed c.deref-values.result.now) (tile_values tile_rows c.args.words.now _ c.deref-values.result.now refl (c.in_ok-settings.ensures {u = tt}).ok c.deref-values.ensures.value).seed
 
 pub returns-clause-lawful : goal.returns-clause-lawful
 returns-clause-lawful c =
-    let job : TileJob = record { sample = c.in_ok-name_at.field-0; out = c.in_ok-out.out; map = c.in_ok-out.map; size = c.size_at-size.result; plan = c.plan_of-plan.result; seed = c.number_at.result } in
-    tile_lawful c.rows.result.now c.args.words.now _ c.deref-values.result.now c.rows.ensures (c.in_ok-settings.ensures {u = tt}).ok c.deref-values.ensures.value job (Ok job) (grind (arith, common_steps)) (grind (arith, common_steps))
+    let job : TileJob = record { sample = c.in_ok-name_at.field-0; out = c.in_ok-out.out; map = c.in_ok-out.map; size = c.size_at-size.result; plan = _; seed = _ } in
+    tile_lawful tile_rows c.args.words.now _ c.deref-values.result.now refl (c.in_ok-settings.ensures {u = tt}).ok c.deref-values.ensures.value job (Ok job) (grind (arith, common_steps)) (grind (arith, common_steps))
+
+pub number_at-requires : goal.number_at-requires
+number_at-requires c = numeric 1 GREATEST_AXIS (value_at key.Side c.deref-values.result.now) (tile_values tile_rows c.args.words.now _ c.deref-values.result.now refl (c.in_ok-settings.ensures {u = tt}).ok c.deref-values.ensures.value).side
+
+pub overflow_cast-plan : goal.overflow_cast-plan
+overflow_cast-plan c = omega (arith, number_within 1 GREATEST_AXIS (value_at key.Side c.deref-values.result.now) (tile_values tile_rows c.args.words.now _ c.deref-values.result.now refl (c.in_ok-settings.ensures {u = tt}).ok c.deref-values.ensures.value).side)
+
+pub number_at-requires-2 : goal.number_at-requires-2
+number_at-requires-2 c = numeric 0 GREATEST_OVERLAP (value_at key.Overlap c.deref-values.result.now) (tile_values tile_rows c.args.words.now _ c.deref-values.result.now refl (c.in_ok-settings.ensures {u = tt}).ok c.deref-values.ensures.value).overlap
+
+pub overflow_cast-plan-2 : goal.overflow_cast-plan-2
+overflow_cast-plan-2 c = omega (arith, number_within 0 GREATEST_OVERLAP (value_at key.Overlap c.deref-values.result.now) (tile_values tile_rows c.args.words.now _ c.deref-values.result.now refl (c.in_ok-settings.ensures {u = tt}).ok c.deref-values.ensures.value).overlap)
+
+pub number_at-requires-3 : goal.number_at-requires-3
+number_at-requires-3 c = numeric 0 GREATEST_TOLERANCE (value_at key.Tol c.deref-values.result.now) (tile_values tile_rows c.args.words.now _ c.deref-values.result.now refl (c.in_ok-settings.ensures {u = tt}).ok c.deref-values.ensures.value).tol
+
+pub overflow_cast-plan-3 : goal.overflow_cast-plan-3
+overflow_cast-plan-3 c = omega (arith, number_within 0 GREATEST_TOLERANCE (value_at key.Tol c.deref-values.result.now) (tile_values tile_rows c.args.words.now _ c.deref-values.result.now refl (c.in_ok-settings.ensures {u = tt}).ok c.deref-values.ensures.value).tol)
+
+pub nth_at-requires : goal.nth_at-requires
+nth_at-requires c = (position Wraps (value_at key.Wrap c.deref-values.result.now) (tile_values tile_rows c.args.words.now _ c.deref-values.result.now refl (c.in_ok-settings.ensures {u = tt}).ok c.deref-values.ensures.value).wrap).0
+
+pub wrap_nth-requires : goal.wrap_nth-requires
+wrap_nth-requires c = omega (arith, (position Wraps (value_at key.Wrap c.deref-values.result.now) (tile_values tile_rows c.args.words.now _ c.deref-values.result.now refl (c.in_ok-settings.ensures {u = tt}).ok c.deref-values.ensures.value).wrap).1)

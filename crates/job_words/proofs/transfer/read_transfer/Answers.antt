@@ -1,47 +1,48 @@
-use Rattle.std.proofs.Common.{arith}
+use Rattle.std.proofs.Common.{arith, refl}
 use Rattle.std.proofs.lemmas.Grind.{common_steps}
 use Rattle.limits.specs.declared.bounds.TheConstants.{GREATEST_ALPHA, GREATEST_AXIS, GREATEST_OVERLAP, GREATEST_SEED, GREATEST_TOLERANCE}
 use Rattle.job_words.specs.declared.keys.Key.TheVariants as key
 use Rattle.job_words.specs.Words.{value_at}
+use Rattle.job_words.specs.TransferWords.{transfer_rows}
 use Rattle.job_words.proofs.Full.{number_within, numeric}
 use Rattle.job_words.proofs.TransferLawful.{transfer_values, transfer_lawful}
 use Rattle.job_words.proofs.transfer.read_transfer.Goals as goal
 
 pub number_at-requires : goal.number_at-requires
-number_at-requires c = numeric 1 GREATEST_AXIS (value_at key.Block c.deref-values.result.now) (transfer_values c.rows.result.now c.args.words.now _ c.deref-values.result.now c.rows.ensures (c.in_ok-settings.ensures {u = tt}).ok c.deref-values.ensures.value).block
+number_at-requires c = numeric 1 GREATEST_AXIS (value_at key.Block c.deref-values.result.now) (transfer_values transfer_rows c.args.words.now _ c.deref-values.result.now refl (c.in_ok-settings.ensures {u = tt}).ok c.deref-values.ensures.value).block
 
 pub overflow_cast-result : goal.overflow_cast-result
-overflow_cast-result c = omega (arith, number_within 1 GREATEST_AXIS (value_at key.Block c.deref-values.result.now) (transfer_values c.rows.result.now c.args.words.now _ c.deref-values.result.now c.rows.ensures (c.in_ok-settings.ensures {u = tt}).ok c.deref-values.ensures.value).block)
+overflow_cast-result c = omega (arith, number_within 1 GREATEST_AXIS (value_at key.Block c.deref-values.result.now) (transfer_values transfer_rows c.args.words.now _ c.deref-values.result.now refl (c.in_ok-settings.ensures {u = tt}).ok c.deref-values.ensures.value).block)
 
 pub number_at-requires-2 : goal.number_at-requires-2
-number_at-requires-2 c = numeric 0 GREATEST_OVERLAP (value_at key.Overlap c.deref-values.result.now) (transfer_values c.rows.result.now c.args.words.now _ c.deref-values.result.now c.rows.ensures (c.in_ok-settings.ensures {u = tt}).ok c.deref-values.ensures.value).overlap
+number_at-requires-2 c = numeric 0 GREATEST_OVERLAP (value_at key.Overlap c.deref-values.result.now) (transfer_values transfer_rows c.args.words.now _ c.deref-values.result.now refl (c.in_ok-settings.ensures {u = tt}).ok c.deref-values.ensures.value).overlap
 
 pub overflow_cast-result-2 : goal.overflow_cast-result-2
-overflow_cast-result-2 c = omega (arith, number_within 0 GREATEST_OVERLAP (value_at key.Overlap c.deref-values.result.now) (transfer_values c.rows.result.now c.args.words.now _ c.deref-values.result.now c.rows.ensures (c.in_ok-settings.ensures {u = tt}).ok c.deref-values.ensures.value).overlap)
+overflow_cast-result-2 c = omega (arith, number_within 0 GREATEST_OVERLAP (value_at key.Overlap c.deref-values.result.now) (transfer_values transfer_rows c.args.words.now _ c.deref-values.result.now refl (c.in_ok-settings.ensures {u = tt}).ok c.deref-values.ensures.value).overlap)
 
 pub number_at-requires-3 : goal.number_at-requires-3
-number_at-requires-3 c = numeric 0 GREATEST_TOLERANCE (value_at key.Tol c.deref-values.result.now) (transfer_values c.rows.result.now c.args.words.now _ c.deref-values.result.now c.rows.ensures (c.in_ok-settings.ensures {u = tt}).ok c.deref-values.ensures.value).tol
+number_at-requires-3 c = numeric 0 GREATEST_TOLERANCE (value_at key.Tol c.deref-values.result.now) (transfer_values transfer_rows c.args.words.now _ c.deref-values.result.now refl (c.in_ok-settings.ensures {u = tt}).ok c.deref-values.ensures.value).tol
 
 pub overflow_cast-result-3 : goal.overflow_cast-result-3
-overflow_cast-result-3 c = omega (arith, number_within 0 GREATEST_TOLERANCE (value_at key.Tol c.deref-values.result.now) (transfer_values c.rows.result.now c.args.words.now _ c.deref-values.result.now c.rows.ensures (c.in_ok-settings.ensures {u = tt}).ok c.deref-values.ensures.value).tol)
+overflow_cast-result-3 c = omega (arith, number_within 0 GREATEST_TOLERANCE (value_at key.Tol c.deref-values.result.now) (transfer_values transfer_rows c.args.words.now _ c.deref-values.result.now refl (c.in_ok-settings.ensures {u = tt}).ok c.deref-values.ensures.value).tol)
 
 pub number_at-requires-4 : goal.number_at-requires-4
-number_at-requires-4 c = numeric 0 GREATEST_ALPHA (value_at key.Alpha c.deref-values.result.now) (transfer_values c.rows.result.now c.args.words.now _ c.deref-values.result.now c.rows.ensures (c.in_ok-settings.ensures {u = tt}).ok c.deref-values.ensures.value).alpha
+number_at-requires-4 c = numeric 0 GREATEST_ALPHA (value_at key.Alpha c.deref-values.result.now) (transfer_values transfer_rows c.args.words.now _ c.deref-values.result.now refl (c.in_ok-settings.ensures {u = tt}).ok c.deref-values.ensures.value).alpha
 
 pub overflow_cast-result-4 : goal.overflow_cast-result-4
-overflow_cast-result-4 c = omega (arith, number_within 0 GREATEST_ALPHA (value_at key.Alpha c.deref-values.result.now) (transfer_values c.rows.result.now c.args.words.now _ c.deref-values.result.now c.rows.ensures (c.in_ok-settings.ensures {u = tt}).ok c.deref-values.ensures.value).alpha)
+overflow_cast-result-4 c = omega (arith, number_within 0 GREATEST_ALPHA (value_at key.Alpha c.deref-values.result.now) (transfer_values transfer_rows c.args.words.now _ c.deref-values.result.now refl (c.in_ok-settings.ensures {u = tt}).ok c.deref-values.ensures.value).alpha)
 
 pub number_at-requires-5 : goal.number_at-requires-5
-number_at-requires-5 c = numeric 0 GREATEST_SEED (value_at key.Seed c.deref-values.result.now) (transfer_values c.rows.result.now c.args.words.now _ c.deref-values.result.now c.rows.ensures (c.in_ok-settings.ensures {u = tt}).ok c.deref-values.ensures.value).seed
+number_at-requires-5 c = numeric 0 GREATEST_SEED (value_at key.Seed c.deref-values.result.now) (transfer_values transfer_rows c.args.words.now _ c.deref-values.result.now refl (c.in_ok-settings.ensures {u = tt}).ok c.deref-values.ensures.value).seed
 
 pub name_at-requires : goal.name_at-requires
-name_at-requires c = (transfer_values c.rows.result.now c.args.words.now _ c.deref-values.result.now c.rows.ensures (c.in_ok-settings.ensures {u = tt}).ok c.deref-values.ensures.value).target
+name_at-requires c = (transfer_values transfer_rows c.args.words.now _ c.deref-values.result.now refl (c.in_ok-settings.ensures {u = tt}).ok c.deref-values.ensures.value).target
 
 pub names_at-requires : goal.names_at-requires
-names_at-requires c = (transfer_values c.rows.result.now c.args.words.now _ c.deref-values.result.now c.rows.ensures (c.in_ok-settings.ensures {u = tt}).ok c.deref-values.ensures.value).names
+names_at-requires c = (transfer_values transfer_rows c.args.words.now _ c.deref-values.result.now refl (c.in_ok-settings.ensures {u = tt}).ok c.deref-values.ensures.value).names
 
 pub returns-clause-lawful : goal.returns-clause-lawful
-returns-clause-lawful c = transfer_lawful c.rows.result.now c.args.words.now _ c.deref-values.result.now c.rows.ensures (c.in_ok-settings.ensures {u = tt}).ok c.deref-values.ensures.value _ (grind (arith, common_steps))
+returns-clause-lawful c = transfer_lawful transfer_rows c.args.words.now _ c.deref-values.result.now refl (c.in_ok-settings.ensures {u = tt}).ok c.deref-values.ensures.value _ (grind (arith, common_steps))
 
 pub returns-clause-exact : goal.returns-clause-exact
 returns-clause-exact c = grind (arith, common_steps)

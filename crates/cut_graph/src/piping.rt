@@ -1,5 +1,5 @@
 // The pipes of the pairs of a placement's box, one pair after another.
-ghost use Rattle.std.specs.Prelude.{◌≡◌, ◌≤◌, ◌<◌, ◌+◌, ◌*◌, ◌∷◌, ◌↔◌, IsTrue, List, [], length, slice_index, IfOk, Some, vec_capacity};
+ghost use Rattle.std.specs.Prelude.{◌≡◌, ◌≤◌, ◌<◌, ◌+◌, ◌*◌, ◌∷◌, IsTrue, List, [], length, slice_index, IfOk, Some, vec_capacity};
 ghost use Rattle.cells.specs.Distances.{distance};
 ghost use Rattle.cells.specs.Neighbours.{unit_step};
 ghost use Rattle.cells.specs.Places.{cell_count, plus, raster_index};
@@ -46,15 +46,6 @@ fn join_sink(network: &mut Network, node: u32, cost: u32)
     });
 }
 
-// Whether a source is the next one along an axis after another.
-#[tactic(auto, using(costs::proofs::Near::step_fits))]
-fn follows(axis: Axis, a: At, b: At) -> bool
-    requires { IsSource a }
-    ensures { IsTrue result ↔ (plus a (unit_step axis) ≡ b) }
-{
-    a.plus(axis.unit()) == b
-}
-
 // The costs of the new and of the old source of a cell with the old one of the next, from that of the
 // old and the new one. Where the old sources are next to one another, as most are, the first is that one
 // and the second 0.
@@ -69,7 +60,7 @@ fn costs_of_old(sample: &Volume, axis: Axis, a: At, b: At, new_a: At, old_new: u
     ensures old { result.1 ≡ seam (distance sample.now) axis a b }
     ensures small { (result.0 ≤ most_of_pair) × (result.1 ≤ most_of_pair) }
 {
-    if follows(axis, a, b) {
+    if a.plus(axis.unit()) == b {
         (old_new, 0)
     } else {
         (

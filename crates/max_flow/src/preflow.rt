@@ -161,17 +161,6 @@ impl Preflow {
         }
     }
 
-    // Counts a node less at a height. Returns whether none is left there.
-    fn is_last_at(&mut self, height: u32) -> bool {
-        match self.levels.get_mut(height as usize) {
-            Some(level) => {
-                level.count = level.count.wrapping_sub(1);
-                level.count == 0
-            }
-            None => false,
-        }
-    }
-
     // Leaves all nodes at the top, where none waits, and all levels clear.
     fn lift_all(&mut self) {
         for node in self.nodes.as_mut_slice() {
@@ -228,22 +217,8 @@ impl Preflow {
         self.since = 0;
     }
 
-    // Sends over an arc what it can carry of an excess, if it leads down from a height. Returns how much.
-    #[inline(always)]
-    fn send_down(&mut self, arc: Arc, height: u32, excess: u32) -> u32 {
-        let amount = excess.min(self.arcs.room(arc.number));
-        let node = self.node(arc.head);
-        if amount == 0 || node.height.wrapping_add(1) != height {
-            return 0;
-        }
-        self.arcs.push(arc.number, amount);
-        let excess = node.excess.wrapping_add(amount);
-        self.set_node(arc.head, Node { excess, ..node });
-        self.wake(arc.head);
-        amount
-    }
-
-    // Hands on the excess of a node over its arcs from the current one on. Returns what is left.
+    // Hands on the excess of a node over its arcs from the current one on, by as much as each that leads down can
+    // carry. Returns what is left.
     fn hand_on(&mut self, number: u32) -> u32 {
         let node = self.node(number);
         let mut excess = node.excess;
@@ -251,7 +226,21 @@ impl Preflow {
         for place in node.current..self.arcs.places_of(number).end {
             self.since = self.since.wrapping_add(1);
             let arc = self.arcs.at(place);
-            excess = excess.wrapping_sub(self.send_down(arc, node.height, excess));
+            let amount = excess.min(self.arcs.room(arc.number));
+            let next = self.node(arc.head);
+            if amount > 0 && next.height.wrapping_add(1) == node.height {
+                self.arcs.push(arc.number, amount);
+                let more = next.excess.wrapping_add(amount);
+                self.set_node(
+                    arc.head,
+                    Node {
+                        excess: more,
+                        ..next
+                    },
+                );
+                self.wake(arc.head);
+                excess = excess.wrapping_sub(amount);
+            }
             current = place;
             if excess == 0 {
                 break;
@@ -288,10 +277,12 @@ impl Preflow {
         let node = self.node(number);
         let (next, current) = self.next_height(number);
         self.since = self.since.wrapping_add(RAISED);
-        let height = if self.is_last_at(node.height) {
-            TOP
-        } else {
-            next
+        let height = match self.levels.get_mut(node.height as usize) {
+            Some(level) => {
+                level.count = level.count.wrapping_sub(1);
+                if level.count == 0 { TOP } else { next }
+            }
+            None => next,
         };
         self.set_node(
             number,
@@ -328,8 +319,9 @@ impl Preflow {
         }
     }
 
-    // Sends all that the arcs of the source can carry.
-    fn open(&mut self, source: u32) {
+    /// Sends flow from the source to the sink, over at most about `limit` arcs, and back again what can't get there.
+    pub fn send(&mut self, source: u32, sink: u32, limit: u64) {
+        // At first the arcs of the source carry all that they can.
         for place in self.arcs.places_of(source) {
             let arc = self.arcs.at(place);
             let amount = self.arcs.room(arc.number);
@@ -340,11 +332,6 @@ impl Preflow {
                 self.set_node(arc.head, Node { excess, ..node });
             }
         }
-    }
-
-    /// Sends flow from the source to the sink, over at most about `limit` arcs, and back again what can't get there.
-    pub fn send(&mut self, source: u32, sink: u32, limit: u64) {
-        self.open(source);
         self.drain(source, sink, limit);
         self.drain(sink, source, limit);
     }

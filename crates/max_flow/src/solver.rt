@@ -64,13 +64,6 @@ fn write_sides(levels: &[u32], sides: &mut [bool])
     }
 }
 
-// Whether the nodes are few for the level of the sink.
-fn is_thin(graph: &Graph, levels: &[u32]) -> bool
-    requires { length levels.now ≡ graph.now.nodes }
-{
-    u64::from(levels[graph.sink]) * WIDTH > u64::from(graph.nodes)
-}
-
 // Adds blocking flows to a flow of the value `first`, until the sink has no level. Unless it's the last time,
 // it may stop before, since the search comes after it. Returns the value of the flow, and leaves the last
 // levels.
@@ -96,7 +89,8 @@ fn run(
     let mut value = first;
     let mut left = PHASES;
     'phases: while find_levels(alloc, graph, backward, levels)? {
-        if !is_last && left == 0 && !is_thin(graph, levels) {
+        let is_thin = u64::from(levels[graph.sink]) * WIDTH > u64::from(graph.nodes);
+        if !is_last && left == 0 && !is_thin {
             return Ok(value);
         }
         left = left.saturating_sub(1);

@@ -100,14 +100,6 @@ impl Trees {
         }
     }
 
-    // Notes the distance of an end of the network.
-    fn note_end(&mut self, node: u32) {
-        if let Some(entry) = self.nodes.get_mut(node as usize) {
-            entry.distance = 1;
-            entry.stamp = self.time;
-        }
-    }
-
     // Counts arcs that were looked at.
     fn count(&mut self, looked: u32) {
         self.work = self.work.wrapping_add(u64::from(looked));
@@ -120,15 +112,6 @@ impl Trees {
                 let _ = self.active.push_back(node);
             }
         }
-    }
-
-    // The next node from which a tree may grow.
-    fn next_active(&mut self) -> Option<u32> {
-        let node = self.active.pop_front()?;
-        if let Some(entry) = self.nodes.get_mut(node as usize) {
-            entry.active = false;
-        }
-        Some(node)
     }
 
     // The bit to turn in the number of an arc that leaves a node, for the arc over which the node's tree grows.
@@ -248,33 +231,28 @@ impl Trees {
         amount
     }
 
-    // The node at which the way from one to the end of its tree comes to a distance that was noted at this time, or
-    // stops, and how many steps lead there.
-    fn way_to_noted(&self, from: u32) -> (u32, u32) {
+    // How far a node is from the end of its tree, or None where it hangs on none: as many steps as lead to a node
+    // whose distance was noted at this time, or to the end itself, and what was noted there.
+    fn distance(&mut self, from: u32) -> Option<u16> {
         let mut last = from;
         let mut steps = 0u32;
         for _ in 0..self.nodes.len() {
-            let Some(node) = self.nodes.get(last as usize) else {
-                break;
-            };
+            let node = self.node(last);
             if node.stamp == self.time || node.parent >= END {
                 break;
             }
             last = node.parent;
             steps = steps.wrapping_add(1);
         }
-        (last, steps)
-    }
-
-    // How far a node is from the end of its tree, or None where it hangs on none.
-    fn distance(&mut self, from: u32) -> Option<u16> {
-        let (last, steps) = self.way_to_noted(from);
         self.count(steps.wrapping_add(1));
         let node = self.node(last);
         let noted = if node.stamp == self.time {
             node.distance
         } else if node.parent == END {
-            self.note_end(last);
+            if let Some(entry) = self.nodes.get_mut(last as usize) {
+                entry.distance = 1;
+                entry.stamp = self.time;
+            }
             1
         } else {
             return None;
@@ -345,15 +323,8 @@ impl Trees {
         best
     }
 
-    // Takes its parent from a node, which waits for another.
-    fn lose(&mut self, node: u32) {
-        if let Some(entry) = self.nodes.get_mut(node as usize) {
-            entry.parent = LOST;
-            let _ = self.lost.push_back(node);
-        }
-    }
-
-    // Takes a node out of its tree. What hangs on it loses its parent, and its other neighbours may grow.
+    // Takes a node out of its tree. What hangs on it loses its parent and waits for another, and its other neighbours
+    // may grow.
     fn set_loose(&mut self, number: u32, tree: Tree) {
         let inward = Trees::inward(tree);
         let places = self.arcs.places_of(number);
@@ -368,7 +339,10 @@ impl Trees {
                 self.activate(arc.head);
             }
             if other.parent == number && other.number == other_way(arc.number) {
-                self.lose(arc.head);
+                if let Some(entry) = self.nodes.get_mut(arc.head as usize) {
+                    entry.parent = LOST;
+                    let _ = self.lost.push_back(arc.head);
+                }
             }
         }
         if let Some(entry) = self.nodes.get_mut(number as usize) {
@@ -377,26 +351,21 @@ impl Trees {
         }
     }
 
-    // Finds a parent for a node that lost it, or takes the node out of its tree.
-    fn adopt(&mut self, number: u32) {
-        let tree = self.node(number).tree;
-        if let Some((arc, distance)) = self.nearest_parent(number, tree) {
-            let time = self.time;
-            if let Some(node) = self.nodes.get_mut(number as usize) {
-                node.hang(arc.head, arc.number, distance.saturating_add(1), time);
-            }
-        } else {
-            self.set_loose(number, tree);
-        }
-    }
-
-    // Adopts the nodes that lost their parents.
+    // Finds parents for the nodes that lost theirs, or takes them out of their tree.
     fn adopt_all(&mut self, limit: u64) {
         for _ in 0..limit {
             let Some(number) = self.lost.pop_front() else {
                 return;
             };
-            self.adopt(number);
+            let tree = self.node(number).tree;
+            if let Some((arc, distance)) = self.nearest_parent(number, tree) {
+                let time = self.time;
+                if let Some(node) = self.nodes.get_mut(number as usize) {
+                    node.hang(arc.head, arc.number, distance.saturating_add(1), time);
+                }
+            } else {
+                self.set_loose(number, tree);
+            }
         }
     }
 
@@ -409,7 +378,11 @@ impl Trees {
                 return last;
             }
         }
-        Some((self.next_active()?, 0))
+        let number = self.active.pop_front()?;
+        if let Some(entry) = self.nodes.get_mut(number as usize) {
+            entry.active = false;
+        }
+        Some((number, 0))
     }
 
     // Sends flow over a node's arcs to the other tree, from the arc in a place on, until there is none or the path

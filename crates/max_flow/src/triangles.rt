@@ -241,8 +241,13 @@ impl Shorter {
         true
     }
 
-    // Adds the pipes to the sink.
-    fn join_sink(&mut self, sink: u32) -> Result<(), AllocError> {
+    // Makes the network shorter. Returns whether it has fewer pipes by a fifth or more.
+    fn shorten(&mut self, pipes: &[Pipe], sink: u32) -> Result<bool, AllocError>
+        requires { HasRoomForPipes (length pipes.now) self.old.pipes }
+    {
+        if !self.read(pipes, sink) {
+            return Ok(false);
+        }
         let mut node = 0u32;
         for amount in self.stars.to_sink.iter() {
             if *amount > 0 {
@@ -255,17 +260,6 @@ impl Shorter {
             }
             node = node.wrapping_add(1);
         }
-        Ok(())
-    }
-
-    // Makes the network shorter. Returns whether it has fewer pipes by a fifth or more.
-    fn shorten(&mut self, pipes: &[Pipe], sink: u32) -> Result<bool, AllocError>
-        requires { HasRoomForPipes (length pipes.now) self.old.pipes }
-    {
-        if !self.read(pipes, sink) {
-            return Ok(false);
-        }
-        self.join_sink(sink)?;
         Ok(self.pipes.len() <= pipes.len() - pipes.len() / 5)
     }
 

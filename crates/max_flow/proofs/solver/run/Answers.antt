@@ -27,9 +27,6 @@ phases-preserved c = grind (arith, common_steps)
 pub blocking_flow-value-requires-clause-levels : goal.blocking_flow-value-requires-clause-levels
 blocking_flow-value-requires-clause-levels c = c.in_ok-find_levels.ensures.levels
 
-pub is_thin-requires : goal.is_thin-requires
-is_thin-requires c = omega arith
-
 pub find_levels-requires-clause-residuals : goal.find_levels-requires-clause-residuals
 find_levels-requires-clause-residuals c = omega arith
 

@@ -86,18 +86,6 @@ fn step_to(x: u32, y: u32) -> At
     }
 }
 
-// The cell of a block in a column and a row.
-fn cell_at(placement: &Placement, x: u32, y: u32, canvas: &Canvas, sample: &Volume) -> At
-    requires fits { Fits canvas.now.map.size sample.now placement.now }
-    requires column { x < placement.now.rect.size.w }
-    requires row { y < placement.now.rect.size.h }
-    ensures { result ≡ plus placement.now.rect.corner (spot x y 0) }
-{
-    // Called for its contract only: it shows the prover that this is a canvas.
-    let _map = canvas.map();
-    placement.rect.corner.plus(step_to(x, y))
-}
-
 // Whether the cell of a block in a column and a row is filled exactly where a strip has it.
 fn is_shared(
     canvas: &Canvas,
@@ -113,7 +101,9 @@ fn is_shared(
     requires row { y < placement.now.rect.size.h }
     ensures { IsTrue result ↔ IsSharedCell canvas.now.map placement.now left top x y }
 {
-    let filled = canvas.is_filled(cell_at(placement, x, y, canvas, sample));
+    // Called for its contract only: it shows the prover that this is a canvas.
+    let _map = canvas.map();
+    let filled = canvas.is_filled(placement.rect.corner.plus(step_to(x, y)));
     let in_strip = x < left || y < top;
     filled == in_strip
 }

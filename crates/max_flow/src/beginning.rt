@@ -47,18 +47,6 @@ fn grow_trees(
     Ok((trees.into_arcs(), is_greatest))
 }
 
-// Sends more flow over arcs with the ends of a network by an excess.
-fn send_excess(
-    alloc: Global,
-    network: &Network,
-    arcs: PackedArcs,
-) -> Result<PackedArcs, AllocError> {
-    let limit = EXCESS.saturating_mul(arcs.pipes() as u64);
-    let mut preflow = Preflow::make(alloc, arcs)?;
-    preflow.send(network.source(), network.sink(), limit);
-    Ok(preflow.into_arcs())
-}
-
 /// Writes what search trees leave for the arc against each pipe, where they go on from what `backward` has.
 pub fn propose(alloc: Global, network: &Network, backward: &mut [u32]) -> Result<(), AllocError> {
     let mut arcs = PackedArcs::pack(alloc, network.nodes() as usize, network.pipes())?;
@@ -76,10 +64,12 @@ fn search_short(
 ) -> Result<PackedArcs, AllocError> {
     let (arcs, is_greatest) = grow_trees(alloc, network, arcs, TREES)?;
     if is_greatest {
-        Ok(arcs)
-    } else {
-        send_excess(alloc, network, arcs)
+        return Ok(arcs);
     }
+    let limit = EXCESS.saturating_mul(arcs.pipes() as u64);
+    let mut preflow = Preflow::make(alloc, arcs)?;
+    preflow.send(network.source(), network.sink(), limit);
+    Ok(preflow.into_arcs())
 }
 
 /// What the search leaves for the arc against each pipe of a network, where it goes over the shorter one and begins

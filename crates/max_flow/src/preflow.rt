@@ -257,25 +257,20 @@ impl Preflow {
         excess
     }
 
-    // The least height to which a node can be raised so that an arc leads down, and the place of the arc.
-    fn next_height(&self, number: u32) -> (u32, u32) {
-        let mut height = TOP;
+    // Raises a node to the least height from which an arc leads down, or to the top if it leaves none at its height,
+    // and lets it wait again.
+    fn raise(&mut self, number: u32) {
+        let node = self.node(number);
+        let mut next = TOP;
         let mut current = 0u32;
         for place in self.arcs.places_of(number) {
             let arc = self.arcs.at(place);
             let above = self.node(arc.head).height.wrapping_add(1);
-            if above < height && self.arcs.room(arc.number) > 0 {
-                height = above;
+            if above < next && self.arcs.room(arc.number) > 0 {
+                next = above;
                 current = place;
             }
         }
-        (height, current)
-    }
-
-    // Raises a node, to the top if it leaves none at its height, and lets it wait again.
-    fn raise(&mut self, number: u32) {
-        let node = self.node(number);
-        let (next, current) = self.next_height(number);
         self.since = self.since.wrapping_add(RAISED);
         let height = match self.levels.get_mut(node.height as usize) {
             Some(level) => {

@@ -413,9 +413,24 @@ impl Trees {
         if sent > 0 { Some(last) } else { None }
     }
 
-    // Lets the trees grow and sends flow where they meet, until they're apart or the work is above the limit. Returns
-    // whether they are apart.
-    fn search(&mut self, limit: u64) -> bool {
+    // Makes an end of the network the beginning of its tree.
+    fn plant(&mut self, number: u32, tree: Tree) {
+        if let Some(entry) = self.nodes.get_mut(number as usize) {
+            *entry = Node {
+                parent: END,
+                distance: 1,
+                tree,
+                ..LOOSE
+            };
+        }
+        self.activate(number);
+    }
+
+    /// Sends flow from the source to the sink, over at most about `limit` arcs: lets the trees grow and sends flow where
+    /// they meet, until they are apart. Returns whether they are, so that no more can be sent.
+    pub fn send(&mut self, source: u32, sink: u32, limit: u64) -> bool {
+        self.plant(source, Tree::Source);
+        self.plant(sink, Tree::Sink);
         let mut last = None;
         for _ in 0..limit {
             if self.work > limit {
@@ -438,26 +453,6 @@ impl Trees {
             last = Some((number, place));
         }
         false
-    }
-
-    // Makes an end of the network the beginning of its tree.
-    fn plant(&mut self, number: u32, tree: Tree) {
-        if let Some(entry) = self.nodes.get_mut(number as usize) {
-            *entry = Node {
-                parent: END,
-                distance: 1,
-                tree,
-                ..LOOSE
-            };
-        }
-        self.activate(number);
-    }
-
-    /// Sends flow from the source to the sink, over at most about `limit` arcs. Returns whether no more can be sent.
-    pub fn send(&mut self, source: u32, sink: u32, limit: u64) -> bool {
-        self.plant(source, Tree::Source);
-        self.plant(sink, Tree::Sink);
-        self.search(limit)
     }
 
     /// The arcs with what they can still carry. The other tables are given back.

@@ -1,4 +1,5 @@
-use Rattle.std.proofs.Common.{arith, refl, subst, sym}
+use Rattle.std.proofs.Common.{Err, ap, arith, inr, refl, subst, sym, ◌∙◌}
+use Rattle.std.proofs.lemmas.Result.{err_from_is_err_and}
 use Rattle.std.proofs.lemmas.Grind.{common_steps}
 use Rattle.job_words.specs.CheckWords.{check_rows}
 use Rattle.job_words.specs.Names.{AreNames, name_list}
@@ -19,3 +20,8 @@ returns-clause-lawful c = record {
 
 pub returns-clause-exact : goal.returns-clause-exact
 returns-clause-exact c = grind (arith, common_steps)
+
+pub returns-in_err-names-clause-exact : goal.returns-in_err-names-clause-exact
+returns-in_err-names-clause-exact c =
+    let p = err_from_is_err_and c.from_residual-in_err-names.result c.from_residual-in_err-names.ensures.1 in
+    inr (p.1 ∙ ap Err p.2)

@@ -1,4 +1,5 @@
-use Rattle.std.proofs.Common.{arith, refl}
+use Rattle.std.proofs.Common.{Err, ap, arith, inr, refl, ◌∙◌}
+use Rattle.std.proofs.lemmas.Result.{err_from_is_err_and}
 use Rattle.std.proofs.lemmas.Grind.{common_steps}
 use Rattle.job_words.specs.MergeWords.{merge_rows}
 use Rattle.job_words.proofs.MergeLawful.{merge_values, merge_lawful}
@@ -21,3 +22,18 @@ returns-clause-lawful c = merge_lawful merge_rows c.args.words.now _ c.deref-val
 
 pub returns-clause-exact : goal.returns-clause-exact
 returns-clause-exact c = grind (arith, common_steps)
+
+pub returns-in_err-sample-clause-exact : goal.returns-in_err-sample-clause-exact
+returns-in_err-sample-clause-exact c =
+    let p = err_from_is_err_and c.from_residual-in_err-sample.result c.from_residual-in_err-sample.ensures.1 in
+    inr (p.1 ∙ ap Err p.2)
+
+pub returns-in_err-out-clause-exact : goal.returns-in_err-out-clause-exact
+returns-in_err-out-clause-exact c =
+    let p = err_from_is_err_and c.from_residual-in_err-out.result c.from_residual-in_err-out.ensures.1 in
+    inr (p.1 ∙ ap Err p.2)
+
+pub returns-in_err-more_at-clause-exact : goal.returns-in_err-more_at-clause-exact
+returns-in_err-more_at-clause-exact c =
+    let p = err_from_is_err_and c.from_residual-in_err-more_at.result c.from_residual-in_err-more_at.ensures.1 in
+    inr (p.1 ∙ ap Err p.2)

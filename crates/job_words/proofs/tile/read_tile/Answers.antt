@@ -1,4 +1,5 @@
-use Rattle.std.proofs.Common.{arith, refl}
+use Rattle.std.proofs.Common.{Err, ap, arith, inr, refl, ◌∙◌}
+use Rattle.std.proofs.lemmas.Result.{err_from_is_err_and}
 use Rattle.std.proofs.lemmas.Grind.{common_steps}
 use Rattle.std.specs.Prelude.{Ok}
 use Rattle.limits.specs.declared.bounds.TheConstants.{GREATEST_AXIS, GREATEST_OVERLAP, GREATEST_SEED, GREATEST_TOLERANCE}
@@ -54,3 +55,19 @@ nth_at-requires c = (position Wraps (value_at key.Wrap c.deref-values.result.now
 
 pub wrap_nth-requires : goal.wrap_nth-requires
 wrap_nth-requires c = omega (arith, (position Wraps (value_at key.Wrap c.deref-values.result.now) (tile_values tile_rows c.args.words.now _ c.deref-values.result.now refl (c.in_ok-settings.ensures {u = tt}).ok c.deref-values.ensures.value).wrap).1)
+
+pub returns-clause-exact : goal.returns-clause-exact
+returns-clause-exact c = grind (arith, common_steps)
+
+pub returns-in-Some-clause-exact : goal.returns-in-Some-clause-exact
+returns-in-Some-clause-exact c = grind (arith, common_steps)
+
+pub returns-in_err-name_at-clause-exact : goal.returns-in_err-name_at-clause-exact
+returns-in_err-name_at-clause-exact c =
+    let p = err_from_is_err_and c.from_residual-in_err-name_at.result c.from_residual-in_err-name_at.ensures.1 in
+    inr (p.1 ∙ ap Err p.2)
+
+pub returns-in_err-out-clause-exact : goal.returns-in_err-out-clause-exact
+returns-in_err-out-clause-exact c =
+    let p = err_from_is_err_and c.from_residual-in_err-out.result c.from_residual-in_err-out.ensures.1 in
+    inr (p.1 ∙ ap Err p.2)

@@ -1,4 +1,5 @@
-use Rattle.std.proofs.Common.{arith, refl}
+use Rattle.std.proofs.Common.{Err, ap, arith, inr, refl, ◌∙◌}
+use Rattle.std.proofs.lemmas.Result.{err_from_is_err_and}
 use Rattle.std.proofs.lemmas.Grind.{common_steps}
 use Rattle.limits.specs.declared.bounds.TheConstants.{GREATEST_ALPHA, GREATEST_AXIS, GREATEST_OVERLAP, GREATEST_SEED, GREATEST_TOLERANCE}
 use Rattle.job_words.specs.declared.keys.Key.TheVariants as key
@@ -46,3 +47,13 @@ returns-clause-lawful c = transfer_lawful transfer_rows c.args.words.now _ c.der
 
 pub returns-clause-exact : goal.returns-clause-exact
 returns-clause-exact c = grind (arith, common_steps)
+
+pub returns-in_err-name_at-clause-exact : goal.returns-in_err-name_at-clause-exact
+returns-in_err-name_at-clause-exact c =
+    let p = err_from_is_err_and c.from_residual-in_err-name_at.result c.from_residual-in_err-name_at.ensures.1 in
+    inr (p.1 ∙ ap Err p.2)
+
+pub returns-in_err-names_at-clause-exact : goal.returns-in_err-names_at-clause-exact
+returns-in_err-names_at-clause-exact c =
+    let p = err_from_is_err_and c.from_residual-in_err-names_at.result c.from_residual-in_err-names_at.ensures.1 in
+    inr (p.1 ∙ ap Err p.2)

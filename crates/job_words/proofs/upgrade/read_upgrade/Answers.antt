@@ -1,4 +1,5 @@
-use Rattle.std.proofs.Common.{arith, refl}
+use Rattle.std.proofs.Common.{Err, ap, arith, inr, refl, ◌∙◌}
+use Rattle.std.proofs.lemmas.Result.{err_from_is_err_and}
 use Rattle.std.proofs.lemmas.Grind.{common_steps}
 use Rattle.job_words.specs.UpgradeWords.{upgrade_rows}
 use Rattle.job_words.proofs.UpgradeLawful.{upgrade_values, upgrade_lawful}
@@ -21,3 +22,13 @@ returns-clause-lawful c = upgrade_lawful upgrade_rows c.args.words.now _ c.deref
 
 pub returns-clause-exact : goal.returns-clause-exact
 returns-clause-exact c = grind (arith, common_steps)
+
+pub returns-in_err-map-clause-exact : goal.returns-in_err-map-clause-exact
+returns-in_err-map-clause-exact c =
+    let p = err_from_is_err_and c.from_residual-in_err-map.result c.from_residual-in_err-map.ensures.1 in
+    inr (p.1 ∙ ap Err p.2)
+
+pub returns-in_err-new_map-clause-exact : goal.returns-in_err-new_map-clause-exact
+returns-in_err-new_map-clause-exact c =
+    let p = err_from_is_err_and c.from_residual-in_err-new_map.result c.from_residual-in_err-new_map.ensures.1 in
+    inr (p.1 ∙ ap Err p.2)

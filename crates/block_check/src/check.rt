@@ -154,17 +154,6 @@ fn first_unlike(
     None
 }
 
-// The rules of a boundary of a strip.
-fn check_strip(strip: &Strip, boundary: &BoundaryRecord) -> Result<(), BlockError>
-    requires { length boundary.now.sums ≡ strip.now.rows * strip.now.cols }
-    ensures { ChecksStrip strip.now boundary.now result }
-{
-    match check_boundary(strip, boundary) {
-        Ok(()) => Ok(()),
-        Err(fault) => Err(BlockError::Fault(fault)),
-    }
-}
-
 // The rules of one boundary, if there is one.
 fn check_join(
     alloc: Global,
@@ -187,7 +176,10 @@ fn check_join(
         return Ok(());
     };
     let strip = strip_of(alloc, canvas, sample, placement, side, cols)?;
-    check_strip(&strip, boundary)
+    match check_boundary(&strip, boundary) {
+        Ok(()) => Ok(()),
+        Err(fault) => Err(BlockError::Fault(fault)),
+    }
 }
 
 // The rules of boundaries, the left one first.

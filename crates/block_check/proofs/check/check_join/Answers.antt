@@ -1,9 +1,11 @@
-use Rattle.std.proofs.Common.{◌≡◌, ◌∙◌, ap, sym, subst}
-use Rattle.std.specs.Prelude.{Option, Some}
+use Rattle.std.proofs.Common.{Err, Ok, ◌≡◌, ◌∙◌, ap, refl, sym, subst}
+use Rattle.std.specs.Prelude.{Option, Result, Some}
 use Rattle.map_canvas.proofs.Filling.{fits_small}
 use Rattle.strip_boundary.specs.declared.boundary.BoundaryRecord.{BoundaryRecord}
 use Rattle.strip_boundary.specs.Strips.{ErrorTable}
 use Rattle.block_strips.specs.Strips.{strip_of}
+use Rattle.block_check.specs.declared.check.BlockError.{BlockError}
+use Rattle.block_check.specs.declared.check.BlockError.TheVariants.{Fault}
 use Rattle.block_check.specs.Blocks.{cols_on}
 use Rattle.block_check.specs.Records.{ChecksJoin}
 use Rattle.block_check.specs.Steps.{ChecksStrip}
@@ -20,8 +22,21 @@ returns c =
     let sample = c.args.sample.now in
     let placement = c.args.placement.now in
     let it = c.in-Some.boundary in
-    let answer = c.check_strip.result in
+    let answer : Result (Unit {0}) BlockError = Err (Fault c.in-Err.fault) in
     let cols : c.cols_on-cols.result ≡ cols_on side placement (Some it) = c.cols_on-cols.ensures.cols ∙ ap (cols_on side placement) c.in-Some.is in
     let strip = c.in_ok-strip.ensures {u = tt} ∙ ap (strip_of side m sample placement) cols in
     subst (λ (boundary : Option BoundaryRecord). ChecksJoin side m sample placement boundary answer) (sym c.in-Some.is)
-    (join_checked side m sample placement it answer (subst (λ (strip : ErrorTable). ChecksStrip strip it answer) strip c.check_strip.ensures))
+    (join_checked side m sample placement it answer (subst (λ (strip : ErrorTable). ChecksStrip strip it answer) strip c.in-Err.ensures.broken))
+
+pub returns-in-Ok : goal.returns-in-Ok
+returns-in-Ok c =
+    let side = c.args.side in
+    let m = c.args.canvas.now.map in
+    let sample = c.args.sample.now in
+    let placement = c.args.placement.now in
+    let it = c.in-Some.boundary in
+    let answer : Result (Unit {0}) BlockError = Ok tt in
+    let cols : c.cols_on-cols.result ≡ cols_on side placement (Some it) = c.cols_on-cols.ensures.cols ∙ ap (cols_on side placement) c.in-Some.is in
+    let strip = c.in_ok-strip.ensures {u = tt} ∙ ap (strip_of side m sample placement) cols in
+    subst (λ (boundary : Option BoundaryRecord). ChecksJoin side m sample placement boundary answer) (sym c.in-Some.is)
+    (join_checked side m sample placement it answer (subst (λ (strip : ErrorTable). ChecksStrip strip it answer) strip (c.in-Ok.ensures.stands.0 refl)))

@@ -36,3 +36,6 @@ check_joins-requires-clause-right c = grind (arith, common_steps)
 
 pub first_unlike-requires-clause-fits : goal.first_unlike-requires-clause-fits
 first_unlike-requires-clause-fits c = c.fits.ensures.0 c.if-not-fits.false
+
+pub returns-then-not-fits-clause-checks : goal.returns-then-not-fits-clause-checks
+returns-then-not-fits-clause-checks c = grind (arith, common_steps)

@@ -1,3 +1,5 @@
+use Rattle.std.proofs.Common.{arith}
+use Rattle.std.proofs.lemmas.Grind.{common_steps}
 use Rattle.std.proofs.Common.{Err, Ok, ◌≡◌, ◌∙◌, ap, refl, sym, subst}
 use Rattle.std.specs.Prelude.{Option, Result, Some}
 use Rattle.map_canvas.proofs.Filling.{fits_small}
@@ -40,3 +42,15 @@ returns-in-Ok c =
     let strip = c.in_ok-strip.ensures {u = tt} ∙ ap (strip_of side m sample placement) cols in
     subst (λ (boundary : Option BoundaryRecord). ChecksJoin side m sample placement boundary answer) (sym c.in-Some.is)
     (join_checked side m sample placement it answer (subst (λ (strip : ErrorTable). ChecksStrip strip it answer) strip (c.in-Ok.ensures.stands.0 refl)))
+
+pub check_boundary-requires : goal.check_boundary-requires
+check_boundary-requires c = grind (arith, common_steps)
+
+pub strip_of-requires-clause-most : goal.strip_of-requires-clause-most
+strip_of-requires-clause-most c = grind (arith, common_steps)
+
+pub strip_of-requires-clause-some : goal.strip_of-requires-clause-some
+strip_of-requires-clause-some c = grind (arith, common_steps)
+
+pub returns-in_default : goal.returns-in_default
+returns-in_default c = grind (arith, common_steps)

@@ -1,3 +1,5 @@
+use Rattle.std.proofs.Common.{arith}
+use Rattle.std.proofs.lemmas.Grind.{common_steps}
 use Rattle.std.proofs.Common.{◌/◌, ◌≤◌, List, ℕ, length, sym, subst, rules}
 use Rattle.std.specs.Prelude.{Some}
 use Rattle.limits.specs.declared.bounds.TheConstants.{GREATEST_AXIS}
@@ -26,3 +28,6 @@ returns-in-Some-clause-columns c =
     (subst (λ n. AreColumnsOn side placement boundary (length c.in-Some.boundary.sums / n)) (sym c.rows-rows.ensures)
     (subst (λ b. AreColumnsOn side placement b (length c.in-Some.boundary.sums / strip_rows side placement.rect.size)) (sym c.in-Some.is)
     (columns_on side placement (Some c.in-Some.boundary) (some_cells placement.rect.size c.requires.small) (subst (HasColumnsOn side placement) c.in-Some.is c.requires.formed))))
+
+pub nonzero_div-result : goal.nonzero_div-result
+nonzero_div-result c = grind (arith, common_steps)

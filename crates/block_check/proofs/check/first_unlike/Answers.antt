@@ -1,3 +1,4 @@
+use Rattle.std.proofs.lemmas.Grind.{common_steps}
 use Rattle.std.proofs.Common.{◌≡◌, ◌*◌, ap, sym, ◌∙◌, subst, arith}
 use Rattle.std.proofs.Math.Nat.{mul-one}
 use Rattle.cells.specs.Firsts.{Each}
@@ -16,3 +17,6 @@ returns c =
     let size = c.args.placement.now.rect.size in
     let height : c.loop-y.y ≡ size.h * size.f = (let e : c.loop-y.y ≡ size.h = omega (arith, c.loop-y-test.false, c.loop-y.auto.y-end) in e) ∙ sym (ap (λ f. size.h * f) c.requires.frame ∙ mul-one size.h) in
     subst (λ h. Each (size.w * h) (IsSharedAt c.args.canvas.now.map c.args.placement.now c.args.left c.args.top)) height c.loop-y.invariant
+
+pub loop-y-init : goal.loop-y-init
+loop-y-init c = grind (arith, common_steps)

@@ -1,3 +1,5 @@
+use Rattle.std.proofs.Common.{arith}
+use Rattle.std.proofs.lemmas.Grind.{common_steps}
 use Rattle.std.proofs.Common.{below_more, sym, ◌∙◌}
 use mathlib.Core.Bool.{false≢true}
 use Rattle.block_check.specs.Steps.{IsSharedCell}
@@ -14,3 +16,6 @@ returns-then-not-is_shared c = record {
   before = c.loop-x.invariant;
   here = λ shared. false≢true (sym c.if-not-is_shared.true ∙ c.is_shared.ensures.1 shared);
 }
+
+pub returns : goal.returns
+returns c = grind (arith, common_steps)

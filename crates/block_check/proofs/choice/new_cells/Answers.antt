@@ -1,3 +1,4 @@
+use Rattle.std.proofs.lemmas.Grind.{common_steps}
 use Rattle.std.proofs.Common.{◌≡◌, ◌≤◌, ◌+◌, ◌*◌, map, ap, sym, ◌∙◌, arith}
 use Rattle.std.proofs.Math.Nat.{mul-add, mul-le-mul_left, mul-one}
 use Rattle.std.specs.List.{range_with_len}
@@ -38,3 +39,6 @@ returns c =
     let end : c.loop-y.y ≡ size.h = omega (arith, c.loop-y-test.false, c.loop-y.auto.y-end) in
     let height : c.loop-y.y ≡ size.h * size.f = end ∙ sym (ap (λ f. size.h * f) c.requires.formed.one_frame ∙ mul-one size.h) in
     c.loop-y.invariant.rows ∙ ap (first_rows c.args.block.now) height
+
+pub put_row-requires-clause-row : goal.put_row-requires-clause-row
+put_row-requires-clause-row c = grind (arith, common_steps)

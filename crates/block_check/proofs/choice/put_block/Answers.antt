@@ -1,3 +1,5 @@
+use Rattle.std.proofs.Common.{arith}
+use Rattle.std.proofs.lemmas.Grind.{common_steps}
 use Rattle.std.proofs.Common.{◌≡◌, length, ap, sym, ◌∙◌, subst}
 use Rattle.std.proofs.lemmas.List.FromFn.{length-map-range_with_len}
 use Rattle.cells.specs.Places.{cell_count}
@@ -22,3 +24,9 @@ returns-clause-filled c =
     let left : c.put_choice.new.self.map ≡ after_block m block =
     c.put_choice.ensures.map ∙ ap (map_after m block.placement) (c.deref.ensures.value ∙ c.in_ok-choice.ensures {u = tt}) in
     subst (FillsBlock m block) (sym left) (fills_block m c.args.sample.now block c.map-map.ensures.canvas.map c.requires.stands.right)
+
+pub new_cells-requires-clause-top : goal.new_cells-requires-clause-top
+new_cells-requires-clause-top c = grind (arith, common_steps)
+
+pub new_cells-requires-clause-left : goal.new_cells-requires-clause-left
+new_cells-requires-clause-left c = grind (arith, common_steps)

@@ -4,3 +4,6 @@ use Rattle.max_flow.proofs.beginning.propose_short.Goals as goal
 
 pub returns : goal.returns
 returns c = grind (arith, common_steps)
+
+pub turn_back-requires : goal.turn_back-requires
+turn_back-requires c = grind (arith, common_steps)

@@ -29,3 +29,6 @@ returns-clause-residuals c = c.loop-arc.invariant.residuals
 
 pub bottleneck-amount-requires-clause-residuals : goal.bottleneck-amount-requires-clause-residuals
 bottleneck-amount-requires-clause-residuals c = c.requires.residuals
+
+pub bottleneck-amount-requires-clause-open_arcs : goal.bottleneck-amount-requires-clause-open_arcs
+bottleneck-amount-requires-clause-open_arcs c = grind (arith, common_steps)

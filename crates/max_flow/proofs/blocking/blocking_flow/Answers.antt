@@ -52,3 +52,9 @@ find_path-requires-clause-path c = omega arith
 
 pub copy_from_slice-requires : goal.copy_from_slice-requires
 copy_from_slice-requires c = omega arith
+
+pub returns-clause-carries : goal.returns-clause-carries
+returns-clause-carries c = grind (arith, common_steps)
+
+pub slice_bounds-augment-end : goal.slice_bounds-augment-end
+slice_bounds-augment-end c = grind (arith, common_steps)

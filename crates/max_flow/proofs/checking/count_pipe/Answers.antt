@@ -1,3 +1,4 @@
+use Rattle.std.proofs.lemmas.Grind.{common_steps}
 use Rattle.std.proofs.Common.{pos, ◌+ℤ◌, ◌-ℤ◌, ◌≤ℤ◌, ◌==◌, sym, subst, arith}
 use Rattle.std.proofs.lemmas.Int.{ints}
 use Rattle.max_flow.specs.Checking.{excess_at}
@@ -45,3 +46,9 @@ add_at-requires-2-clause-low c =
     let low = subst (λ f. (pos 0 -ℤ pos 65536) ≤ℤ f) (sym is) (omega (arith, ints, c.requires.pipe.back_limit)) in
     let high = subst (λ f. f ≤ℤ pos 131072) (sym is) (omega (arith, ints, c.if-against-pipe.false, c.requires.pipe.ahead_limit, c.requires.pipe.back_limit)) in
     subst (λ f. (pos 0 -ℤ pos 4611686018427387904) ≤ℤ (excess_at c.add_at.new.excess pipe.to +ℤ f)) (sym (less_is _ low high)) (taken_low (pipe.from == pipe.to) _ _ _ (c.add_at.ensures pipe.to) (c.requires.room.low pipe.to) low high)
+
+pub overflow_sub-flow-2 : goal.overflow_sub-flow-2
+overflow_sub-flow-2 c = grind (arith, common_steps)
+
+pub overflow_sub-flow : goal.overflow_sub-flow
+overflow_sub-flow c = grind (arith, common_steps)

@@ -16,3 +16,6 @@ offset_bounds-excess-source c = omega arith
 
 pub count_pipes-requires-clause-pipes : goal.count_pipes-requires-clause-pipes
 count_pipes-requires-clause-pipes c = c.requires.pipes
+
+pub slice_copy_out-value : goal.slice_copy_out-value
+slice_copy_out-value c = grind (arith, common_steps)

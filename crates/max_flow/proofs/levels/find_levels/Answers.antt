@@ -42,3 +42,9 @@ bounds-levels-graph-in-nodes c = omega arith
 
 pub offset_bounds-levels-graph-in-nodes : goal.offset_bounds-levels-graph-in-nodes
 offset_bounds-levels-graph-in-nodes c = omega arith
+
+pub returns-in_default-clause-reached : goal.returns-in_default-clause-reached
+returns-in_default-clause-reached c = grind (arith, common_steps)
+
+pub returns-clause-reached : goal.returns-clause-reached
+returns-clause-reached c = grind (arith, common_steps)

@@ -49,3 +49,6 @@ residual-requires-clause-arc c = omega arith
 
 pub offset_bounds-graph-arc : goal.offset_bounds-graph-arc
 offset_bounds-graph-arc c = omega arith
+
+pub returns-clause-passed : goal.returns-clause-passed
+returns-clause-passed c = grind (arith, common_steps)

@@ -31,3 +31,9 @@ write_flows-requires-clause-pipes c = grind (arith, common_steps)
 
 pub write_flows-requires-clause-residuals : goal.write_flows-requires-clause-residuals
 write_flows-requires-clause-residuals c = subst (λ (pipes : List Pipe). AreResiduals pipes c.args.backward.now) (sym c.pipes-pipes.ensures.value) c.requires.carries.residuals
+
+pub write_sides-requires : goal.write_sides-requires
+write_sides-requires c = grind (arith, common_steps)
+
+pub write_flows-requires-clause-sized : goal.write_flows-requires-clause-sized
+write_flows-requires-clause-sized c = grind (arith, common_steps)

@@ -16,3 +16,9 @@ hand_out-requires-clause-carries c = c.in_ok-value.ensures.carries
 
 pub run_in-requires-clause-limit : goal.run_in-requires-clause-limit
 run_in-requires-clause-limit c = c.requires.limit
+
+pub returns-clause-solved : goal.returns-clause-solved
+returns-clause-solved c = grind (arith, common_steps)
+
+pub returns-in_err-value-clause-last : goal.returns-in_err-value-clause-last
+returns-in_err-value-clause-last c = grind (arith, common_steps)

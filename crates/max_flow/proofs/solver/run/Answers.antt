@@ -32,3 +32,27 @@ find_levels-requires-clause-residuals c = omega arith
 
 pub returns-clause-levels : goal.returns-clause-levels
 returns-clause-levels c = c.in_ok-find_levels.ensures.levels
+
+pub returns-clause-sink : goal.returns-clause-sink
+returns-clause-sink c = grind (arith, common_steps)
+
+pub blocking_flow-value-requires-clause-path : goal.blocking_flow-value-requires-clause-path
+blocking_flow-value-requires-clause-path c = grind (arith, common_steps)
+
+pub blocking_flow-value-requires-clause-carries : goal.blocking_flow-value-requires-clause-carries
+blocking_flow-value-requires-clause-carries c = grind (arith, common_steps)
+
+pub returns-then-not-is_thin-clause-levels : goal.returns-then-not-is_thin-clause-levels
+returns-then-not-is_thin-clause-levels c = grind (arith, common_steps)
+
+pub returns-then-not-is_thin-clause-carries : goal.returns-then-not-is_thin-clause-carries
+returns-then-not-is_thin-clause-carries c = grind (arith, common_steps)
+
+pub overflow_mul-is_thin : goal.overflow_mul-is_thin
+overflow_mul-is_thin c = grind (arith, common_steps)
+
+pub bounds-levels-graph : goal.bounds-levels-graph
+bounds-levels-graph c = grind (arith, common_steps)
+
+pub returns-clause-carries : goal.returns-clause-carries
+returns-clause-carries c = grind (arith, common_steps)

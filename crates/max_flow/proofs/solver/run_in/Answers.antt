@@ -40,3 +40,9 @@ overflow_cast-graph-2 c = omega arith
 
 pub overflow_cast-graph : goal.overflow_cast-graph
 overflow_cast-graph c = omega arith
+
+pub run-requires-clause-carries : goal.run-requires-clause-carries
+run-requires-clause-carries c = grind (arith, common_steps)
+
+pub link-requires-clause-sized : goal.link-requires-clause-sized
+link-requires-clause-sized c = grind (arith, common_steps)

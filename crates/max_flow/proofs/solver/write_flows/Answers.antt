@@ -1,3 +1,4 @@
+use Rattle.std.proofs.lemmas.Grind.{common_steps}
 use Rattle.std.proofs.Common.{◌≡◌, ◌<◌, arith, length, sym, ◌∙◌, pos, below_more}
 use Rattle.std.proofs.lemmas.Int.{ints}
 use Rattle.std.proofs.lemmas.List.{same_lists, get_or-set_same, get_or-set_other, get_or_default}
@@ -21,3 +22,12 @@ returns c =
     let sized : length flows ≡ length c.args.pipes.now = length-flows_of c.args.pipes.now c.args.backward.now c.requires.residuals.sized in
     same_lists c.loop-j.flow flows (omega (arith, sized, c.requires.sized))
     (λ k d lt. get_or_default c.loop-j.flow k d (pos 0) lt ∙ c.loop-j.invariant k (omega arith) ∙ get_or_default flows k (pos 0) d (omega (arith, sized, c.requires.sized)))
+
+pub overflow_sub-flow : goal.overflow_sub-flow
+overflow_sub-flow c = grind (arith, common_steps)
+
+pub overflow_cast-flow-in-loop-j : goal.overflow_cast-flow-in-loop-j
+overflow_cast-flow-in-loop-j c = grind (arith, common_steps)
+
+pub overflow_cast-flow : goal.overflow_cast-flow
+overflow_cast-flow c = grind (arith, common_steps)

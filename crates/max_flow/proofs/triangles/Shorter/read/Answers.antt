@@ -19,3 +19,15 @@ push_reserved-requires c = omega arith
 
 pub slice_bounds-after-count : goal.slice_bounds-after-count
 slice_bounds-after-count c = omega arith
+
+pub pipes-smaller : goal.pipes-smaller
+pipes-smaller c = grind (arith, common_steps)
+
+pub bounds-after-0 : goal.bounds-after-0
+bounds-after-0 c = grind (arith, common_steps)
+
+pub slice_bounds-beyond-start : goal.slice_bounds-beyond-start
+slice_bounds-beyond-start c = grind (arith, common_steps)
+
+pub slice_bounds-beyond-count : goal.slice_bounds-beyond-count
+slice_bounds-beyond-count c = grind (arith, common_steps)

@@ -112,3 +112,6 @@ overflow_add-sum c =
 
 pub overflow_mul-start : goal.overflow_mul-start
 overflow_mul-start c = grind (arith, common_steps)
+
+pub part_of-requires-clause-lies : goal.part_of-requires-clause-lies
+part_of-requires-clause-lies c = grind (arith, common_steps)

@@ -1,3 +1,5 @@
+use Rattle.std.proofs.Common.{arith}
+use Rattle.std.proofs.lemmas.Grind.{common_steps}
 use Rattle.std.proofs.Common.{◌≡◌, ◌∙◌, List, refl, sym, ap, subst, w32, to_z, of_z, rules}
 use Rattle.std.proofs.lemmas.Int.{to_z-of_z}
 use Rattle.std.specs.Prelude.{pos}
@@ -94,3 +96,6 @@ pub returns-then-stays_old-clause-near : goal.returns-then-stays_old-clause-near
 returns-then-stays_old-clause-near c =
     let fits : SFits w32 c.leaving-out.result = search rules in
     subst (IsBetween (minus_of most_leaving) (pos most_leaving)) (sym (to_z-of_z w32 c.leaving-out.result fits)) c.leaving-out.ensures.near
+
+pub stays_old-requires-clause-lies : goal.stays_old-requires-clause-lies
+stays_old-requires-clause-lies c = grind (arith, common_steps)

@@ -1,3 +1,4 @@
+use Rattle.std.proofs.lemmas.Grind.{common_steps}
 use Rattle.std.proofs.Common.{List, arith, subst, sym, ◌∙◌}
 use Rattle.cells.specs.Distances.{distance}
 use Rattle.boxes.proofs.PairNumbers.{pairs_small}
@@ -42,3 +43,18 @@ returns-clause-hold c =
     let at = c.args.walk.at in
     each_axis (HoldsAlong (distance c.args.sample.now) c.args.map.now c.args.cut.now at.x at.y at.f) (c.holds_along.ensures.0 c.if-not-holds_along.false) (c.holds_along-2.ensures.0 c.if-not-holds_along-2.false)
     (c.holds_along-3.ensures.0 c.if-not-holds_along-3.false)
+
+pub returns-then-not-holds_along-clause-broken : goal.returns-then-not-holds_along-clause-broken
+returns-then-not-holds_along-clause-broken c = grind (arith, common_steps)
+
+pub holds_along-requires-3-clause-lies : goal.holds_along-requires-3-clause-lies
+holds_along-requires-3-clause-lies c = grind (arith, common_steps)
+
+pub holds_along-requires-3-clause-number : goal.holds_along-requires-3-clause-number
+holds_along-requires-3-clause-number c = grind (arith, common_steps)
+
+pub holds_along-requires-2-clause-lies : goal.holds_along-requires-2-clause-lies
+holds_along-requires-2-clause-lies c = grind (arith, common_steps)
+
+pub holds_along-requires-3-clause-counts : goal.holds_along-requires-3-clause-counts
+holds_along-requires-3-clause-counts c = grind (arith, common_steps)

@@ -1,3 +1,4 @@
+use Rattle.std.proofs.lemmas.Grind.{common_steps}
 use Rattle.std.proofs.Common.{arith}
 use Rattle.std.proofs.Math.Nat.{mul-le-mul_left}
 use Rattle.cut_check.specs.Records.{setting}
@@ -15,3 +16,6 @@ returns-clause-hold c = λ held.
     let size = c.args.cut.now.placement.rect.size in
     each_pair (setting c.args.map.now c.args.sample.now held) c.args.cut.now
     (λ x y f are lt. c.loop-row.invariant x y f are (omega (arith, lt, mul-le-mul_left size.w c.loop-row-test.false)))
+
+pub first_of_row-requires-clause-before : goal.first_of_row-requires-clause-before
+first_of_row-requires-clause-before c = grind (arith, common_steps)

@@ -68,3 +68,24 @@ overflow_sub-from c = grind (arith, common_steps)
 
 pub returns-then-not-is_within_seam : goal.returns-then-not-is_within_seam
 returns-then-not-is_within_seam c = grind (arith, common_steps)
+
+pub is_within_seam-requires-2-clause-b : goal.is_within_seam-requires-2-clause-b
+is_within_seam-requires-2-clause-b c = grind (arith, common_steps)
+
+pub is_within_seam-requires-2-clause-a : goal.is_within_seam-requires-2-clause-a
+is_within_seam-requires-2-clause-a c = grind (arith, common_steps)
+
+pub seam_of-old_old-requires-clause-b : goal.seam_of-old_old-requires-clause-b
+seam_of-old_old-requires-clause-b c = grind (arith, common_steps)
+
+pub seam_of-old_old-requires-clause-a : goal.seam_of-old_old-requires-clause-a
+seam_of-old_old-requires-clause-a c = grind (arith, common_steps)
+
+pub is_up_to-requires : goal.is_up_to-requires
+is_up_to-requires c = grind (arith, common_steps)
+
+pub is_within_seam-requires-clause-b : goal.is_within_seam-requires-clause-b
+is_within_seam-requires-clause-b c = grind (arith, common_steps)
+
+pub is_within_seam-requires-clause-a : goal.is_within_seam-requires-clause-a
+is_within_seam-requires-clause-a c = grind (arith, common_steps)

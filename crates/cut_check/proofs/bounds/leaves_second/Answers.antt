@@ -11,3 +11,6 @@ returns-then-flow-eq0 c = (
   λ is. let up = c.is_up_to.ensures.0 is in record { x = omega (arith, ints, c.if-flow-eq0.true); y = (omega (arith, ints, up.1), omega (arith, ints, up.0)) },
   λ leaves. c.is_up_to.ensures.1 (omega (arith, ints, leaves.y.1), omega (arith, ints, leaves.y.0)),
 )
+
+pub overflow_sub-from : goal.overflow_sub-from
+overflow_sub-from c = grind (arith, common_steps)

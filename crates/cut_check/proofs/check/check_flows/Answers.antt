@@ -77,3 +77,6 @@ first_unbounded-requires c = grind (arith, common_steps)
 
 pub overflow_cast-value : goal.overflow_cast-value
 overflow_cast-value c = grind (arith, common_steps)
+
+pub value_of-requires : goal.value_of-requires
+value_of-requires c = grind (arith, common_steps)

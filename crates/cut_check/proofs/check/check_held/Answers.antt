@@ -1,3 +1,5 @@
+use Rattle.std.proofs.Common.{arith}
+use Rattle.std.proofs.lemmas.Grind.{common_steps}
 use Rattle.std.proofs.Common.{subst}
 use Rattle.std.specs.Prelude.{OnOk, option_copied}
 use Rattle.std.proofs.lemmas.Result.{on_ok_weaker}
@@ -11,3 +13,12 @@ returns-clause-least c = on_ok_weaker c.check_fitting.result
     (stands_least c.args.canvas.now.map c.args.sample.now c.args.cut.now (option_copied c.args.held) c.requires.held)
     (subst (λ held. OnOk c.check_fitting.result (CutStands (record { map = c.args.canvas.now.map; sample = c.args.sample.now; held = held }) c.args.cut.now))
     c.marks.ensures c.check_fitting.ensures.stands)
+
+pub returns-then-not-fits-clause-fault : goal.returns-then-not-fits-clause-fault
+returns-then-not-fits-clause-fault c = grind (arith, common_steps)
+
+pub returns-clause-stands : goal.returns-clause-stands
+returns-clause-stands c = grind (arith, common_steps)
+
+pub returns-clause-fault : goal.returns-clause-fault
+returns-clause-fault c = grind (arith, common_steps)

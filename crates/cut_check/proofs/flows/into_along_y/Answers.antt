@@ -1,3 +1,4 @@
+use Rattle.std.proofs.lemmas.Grind.{common_steps}
 use Rattle.std.proofs.Common.{ap, arith, rules, w16, ◌∙◌}
 use Rattle.std.proofs.lemmas.Int.{to_z-of_z}
 use mir.Val.{SFits}
@@ -18,3 +19,9 @@ returns-then-walk-gt0 c =
     to_z-of_z w16 c.flow_of.result.y fits
     ∙ ap (λ (flow : Flow). flow.y) (c.flow_of.ensures ∙ flow_of_above c.args.size c.args.flows.now at.x at.y at.f _ some c.requires.inside.counts
     (omega (arith, pairs_above c.args.size at.x at.y at.f some c.requires.inside.counts, number_above c.args.size at.x at.y at.f, c.requires.inside.before, c.pairs_since_above.ensures, c.one_along_x.ensures)))
+
+pub overflow_add-above : goal.overflow_add-above
+overflow_add-above c = grind (arith, common_steps)
+
+pub returns-else-walk-gt0 : goal.returns-else-walk-gt0
+returns-else-walk-gt0 c = grind (arith, common_steps)

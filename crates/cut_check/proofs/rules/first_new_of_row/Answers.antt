@@ -1,3 +1,4 @@
+use Rattle.std.proofs.lemmas.Grind.{common_steps}
 use Rattle.std.proofs.Common.{◌≡◌, ◌∙◌, List, Bool, sym, subst, arith, below_more}
 use Rattle.std.specs.Prelude.{true, false, slice_index_or}
 use mathlib.Core.Bool.{false≢true}
@@ -62,3 +63,9 @@ loop-i-preserved c =
       from = omega (arith, c.loop-i.invariant.from);
       before = below_more (λ k. StaysOld m cut.placement held (box_cell cut.placement k) → slice_index_or cut.choice k false ≡ false) i c.loop-i.invariant.before here;
     }
+
+pub stays_old-requires-clause-lies : goal.stays_old-requires-clause-lies
+stays_old-requires-clause-lies c = grind (arith, common_steps)
+
+pub overflow_add-i-end : goal.overflow_add-i-end
+overflow_add-i-end c = grind (arith, common_steps)

@@ -14,5 +14,6 @@ pub mod NumberLists
 pub mod BlocksAgain
 pub mod BlocksSpelled
 pub mod VersionOne
+pub mod Putting
 pub mod StripColumns
 pub mod NoPrefix

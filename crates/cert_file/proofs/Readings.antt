@@ -1,5 +1,6 @@
 -- Laws of what is read field by field.
-use Rattle.std.proofs.Common.{◌≡◌, ◌+◌, ◌-◌, ◌<◌, ◌++◌, ◌∷◌, [], zero, suc, ℕ, List, refl, sym, ap, subst, arith}
+use Rattle.std.proofs.Common.{◌≡◌, ◌+◌, ◌-◌, ◌*◌, ◌≤◌, ◌<◌, ◌++◌, ◌∷◌, [], zero, suc, ℕ, List, refl, sym, ap, subst, arith}
+use Rattle.std.proofs.Math.Nat.{mul-add}
 use Rattle.std.proofs.Math.Numerals.{add-one}
 use Rattle.std.specs.Prelude.{Option, Some, None, Result, Ok, Err, IfErr}
 use Rattle.shelf_traits.specs.Files.{Files, OnlyReads, ShelfState}
@@ -78,3 +79,9 @@ field_lacks name n rule place was now r ReadFault stops = stops
 field_lacks name n rule place was now r NoMemory stops = tt
 field_lacks name n rule place was now r (Bad fault) stops = field_stops (Unit {0}) name n rule place was now r (Bad fault) stops
 field_lacks name n rule place was now r (Limit what number bound) stops = absurd stops
+
+-- the place after one record more, of which so many bytes at most stand for each cell
+pub place_more : (k start at new before cells added : ℕ) → added ≡ cells → at ≤ start + k * before → new ≤ at + k * cells → new ≤ start + k * (before + added)
+place_more k start at new before cells added same so one =
+    let apart = mul-add k before cells in
+    subst (λ n. new ≤ start + k * (before + n)) (sym same) (omega (arith, so, one, apart))

@@ -1,14 +1,13 @@
 // Files of block records.
 ghost use Rattle.std.specs.Prelude.{◌≡◌, ◌≤◌, ◌<◌, ◌+◌, ◌*◌, ◌^◌, All, IfOk, IfSome, OnErr, OnOk, length};
-ghost use Rattle.std.specs.List.{flat_map};
 ghost use Rattle.shelf_traits.specs.Files.{Changes, OnlyReadsFile, OnlyWritesFile, WritesRose};
 ghost use Rattle.shelf_traits.specs.Written.{HoldsPart, HoldsText};
 ghost use Rattle.file_bytes.specs.Reading.{Follows};
 ghost use Rattle.file_bytes.specs.Writing.{Puts};
 ghost use Rattle.cells.specs.Places.{cell_count};
-ghost use Rattle.block_check.specs.Blocks.{HasColumns, block_cells, cols_of};
+ghost use Rattle.block_check.specs.Blocks.{HasColumns, block_cells};
 ghost use Rattle.source_map.specs.Readings.{ReadsFrom};
-ghost use Rattle.cert_file.specs.BlockForms.{IsBlockInForm, IsWideBlock, IsWideBoundary, block_form, block_start_form, boundary_form, flags_of, spot_field};
+ghost use Rattle.cert_file.specs.BlockForms.{IsBlockInForm, IsWideBlock, IsWideBoundary, block_form, block_start_form, boundary_form, spot_field};
 ghost use Rattle.cert_file.specs.BlockReading.{IsBoundaryRead, IsSpot, block_read, blocks_read, side_read};
 ghost use Rattle.cert_file.specs.WalkForms.{IsHeadOfVersionOne};
 ghost use Rattle.cert_file.specs.RecordFiles.{AreBlocksInForm, AreBlocksInLimits, IsRecordFile, IsRecordFileOf, ReadsToEnd, blocks_file_read, blocks_form};
@@ -38,13 +37,6 @@ fn spot_bytes(p: At) -> [u8; 4]
     [a, b, c, d]
 }
 
-// Which boundaries a block has.
-fn flags_byte(block: &BlockRecord) -> u8
-    ensures { result ≡ flags_of block.now }
-{
-    u8::from(block.left.is_some()) + 2 * u8::from(block.top.is_some())
-}
-
 // What a block record begins with, in the file's form.
 fn start_bytes(block: &BlockRecord) -> [u8; 13]
     requires { IsBlockInForm block.now }
@@ -55,42 +47,8 @@ fn start_bytes(block: &BlockRecord) -> [u8; 13]
     let [e, f] = (size.w as u16).to_be_bytes();
     let [g, h] = (size.h as u16).to_be_bytes();
     let [i, j, k, l] = spot_bytes(block.placement.from);
-    [a, b, c, d, e, f, g, h, i, j, k, l, flags_byte(block)]
-}
-
-// The strip columns of a boundary.
-fn cols_number(rows: u32, most: u32, boundary: &BoundaryRecord) -> u16
-    requires columns { HasColumns rows most boundary.now }
-    requires some { 1 ≤ rows }
-    requires few { most < 2 ^ 16 }
-    ensures { result ≡ cols_of rows (Some boundary.now) }
-{
-    (boundary.sums.as_slice().len() / rows as usize) as u16
-}
-
-// Puts a boundary.
-fn put_boundary<S: Shelf>(
-    file: &mut FileWriter,
-    rows: u32,
-    most: u32,
-    boundary: &BoundaryRecord,
-    shelf: &mut S,
-    name: &str,
-)
-    requires columns { HasColumns rows most boundary.now }
-    requires some { 1 ≤ rows }
-    requires few { most < 2 ^ 16 }
-    ensures put { Puts name.now (boundary_form rows (Some boundary.now)) (S.state shelf.old)
-        (S.state shelf.new) file.old file.new }
-    ensures wide { IsWideBoundary boundary.now }
-{
-    let path = boundary.path.as_slice();
-    let sums = boundary.sums.as_slice();
-    fit_16(path);
-    fit_32(sums);
-    file.put_number(cols_number(rows, most, boundary), shelf, name);
-    file.put_all(path, shelf, name);
-    file.put_all(sums, shelf, name);
+    let flags = u8::from(block.left.is_some()) + 2 * u8::from(block.top.is_some());
+    [a, b, c, d, e, f, g, h, i, j, k, l, flags]
 }
 
 // Puts the boundary on a side, if there is one.
@@ -109,10 +67,17 @@ fn put_side<S: Shelf>(
         (S.state shelf.new) file.old file.new }
     ensures wide { IfSome boundary.now IsWideBoundary }
 {
-    match boundary {
-        Some(boundary) => put_boundary(file, rows, most, boundary, shelf, name),
-        None => {}
-    }
+    let Some(boundary) = boundary else {
+        return;
+    };
+    let path = boundary.path.as_slice();
+    let sums = boundary.sums.as_slice();
+    fit_16(path);
+    fit_32(sums);
+    let columns = (sums.len() / rows as usize) as u16;
+    file.put_number(columns, shelf, name);
+    file.put_all(path, shelf, name);
+    file.put_all(sums, shelf, name);
 }
 
 // Puts a block record.
@@ -127,18 +92,6 @@ fn put_block<S: Shelf>(file: &mut FileWriter, block: &BlockRecord, shelf: &mut S
     file.put(&start_bytes(block), shelf, name);
     put_side(file, size.h, size.w, &block.left, shelf, name);
     put_side(file, size.w, size.h, &block.top, shelf, name);
-}
-
-// Puts block records.
-fn put_blocks<S: Shelf>(file: &mut FileWriter, blocks: &[BlockRecord], shelf: &mut S, name: &str)
-    requires { All IsBlockInForm blocks.now }
-    ensures put { Puts name.now (flat_map block_form blocks.now) (S.state shelf.old)
-        (S.state shelf.new) file.old file.new }
-    ensures wide { All IsWideBlock blocks.now }
-{
-    for block in blocks {
-        put_block(file, block, shelf, name);
-    }
 }
 
 /// Writes the file of block records, in version 1: the head, how many there are, and of each record
@@ -165,7 +118,9 @@ pub fn write_blocks<S: Shelf>(
     let mut file = FileWriter::begin(shelf, name);
     put_head(&mut file, MAGIC, BLOCKS, head, shelf, name);
     file.put_number(blocks.len() as u32, shelf, name);
-    put_blocks(&mut file, blocks, shelf, name);
+    for block in blocks {
+        put_block(&mut file, block, shelf, name);
+    }
     file.finish(shelf, name)
 }
 

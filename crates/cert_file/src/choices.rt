@@ -1,22 +1,21 @@
 // Choices, as they are read.
 ghost use Rattle.std.specs.Prelude.{◌≡◌, ◌≤◌, ◌<◌, ◌+◌, ◌*◌, ◌^◌, ◌++◌, List, ℕ, IfOk, IfErr, OnOk, length};
 ghost use Rattle.shelf_traits.specs.Files.{OnlyReadsFile};
-ghost use Rattle.file_bytes.specs.Reading.{Follows, StopsInList};
+ghost use Rattle.file_bytes.specs.Reading.{Follows};
 ghost use Rattle.source_map.specs.Readings.{IsRefusal, ReadsFrom};
 ghost use Rattle.cert_file.specs.CutForms.{choice_bytes};
 ghost use Rattle.cert_file.specs.CutReading.{bits_of, byte_bits, choice_read, choice_rule, none_set};
-ghost use Rattle.cert_file.specs.CutTaking.{TookBits};
 
 use file_bytes::{FileReader, make_room};
 use items::Items;
 use shelf_traits::{FormFault, ReadError, Shelf};
 use std::alloc::{AllocError, Global};
 
-// The bits of a byte, from the highest on.
-fn bits_of_byte(byte: u8) -> [bool; 8]
-    ensures { result ≡ byte_bits byte }
+// Puts the bits of a byte, from the highest on, after others, of which so many are missing.
+fn push_bits(bits: &mut Vec<bool>, byte: u8, missing: usize) -> Result<(), AllocError>
+    ensures { OnOk result (bits.new.items ≡ bits.old.items ++ byte_bits byte) }
 {
-    [
+    let more = [
         byte / 128 % 2 == 1,
         byte / 64 % 2 == 1,
         byte / 32 % 2 == 1,
@@ -25,29 +24,15 @@ fn bits_of_byte(byte: u8) -> [bool; 8]
         byte / 4 % 2 == 1,
         byte / 2 % 2 == 1,
         byte % 2 == 1,
-    ]
-}
-
-// Puts bits after others one by one, and makes room for each. So many of all are missing.
-fn push_each(bits: &mut Vec<bool>, more: &[bool], missing: usize) -> Result<(), AllocError>
-    ensures { OnOk result (bits.new.items ≡ bits.old.items ++ more.now) }
-{
-    for bit in more {
+    ];
+    if bits.capacity() - bits.len() >= more.len() {
+        return bits.extend_from_slice(&more);
+    }
+    for bit in &more {
         make_room(bits, missing)?;
         bits.push(*bit)?;
     }
     Ok(())
-}
-
-// Puts the bits of a byte after others, of which so many are missing.
-fn push_bits(bits: &mut Vec<bool>, byte: u8, missing: usize) -> Result<(), AllocError>
-    ensures { OnOk result (bits.new.items ≡ bits.old.items ++ byte_bits byte) }
-{
-    let more = bits_of_byte(byte);
-    if bits.capacity() - bits.len() >= more.len() {
-        return bits.extend_from_slice(&more);
-    }
-    push_each(bits, &more, missing)
 }
 
 // Whether no bit is set.
@@ -58,31 +43,6 @@ fn none_set(bits: &[bool]) -> bool
         None => true,
         Some((bit, rest)) => !*bit && none_set(rest),
     }
-}
-
-// Reads the bits of so many bytes.
-fn read_bits<S: Shelf>(
-    alloc: Global,
-    file: &mut FileReader,
-    count: usize,
-    shelf: &mut S,
-    name: &str,
-) -> Result<Vec<bool>, ReadError>
-    requires follows { Follows name.now (S.state shelf.old) file.old }
-    requires room { file.old.at < 2 ^ 62 }
-    requires few { count < 2 ^ 32 }
-    ensures took { IfOk result (λ bits.
-        TookBits name.now file.old.at count bits.items (S.state shelf.new) file.new) }
-    ensures stops { IfErr result (StopsInList name.now (file.old.at + count)
-        (S.state shelf.old) (S.state shelf.new)) }
-    ensures reads { OnlyReadsFile name.now (S.state shelf.old) (S.state shelf.new) }
-{
-    let mut bits = Vec::new(alloc);
-    for j in 0..count {
-        let byte = file.u8(shelf, name)?;
-        push_bits(&mut bits, byte, 8 * (count - j))?;
-    }
-    Ok(bits)
 }
 
 // The choice for so many cells, if no unused bit is set.
@@ -118,8 +78,11 @@ pub(crate) fn read_choice<S: Shelf>(
     ensures reads { OnlyReadsFile name.now (S.state shelf.old) (S.state shelf.new) }
 {
     let at = file.place();
-    match read_bits(alloc, file, cells.div_ceil(8), shelf, name) {
-        Ok(bits) => lawful_choice(bits, cells, at),
-        Err(error) => Err(error),
+    let count = cells.div_ceil(8);
+    let mut bits = Vec::new(alloc);
+    for j in 0..count {
+        let byte = file.u8(shelf, name)?;
+        push_bits(&mut bits, byte, 8 * (count - j))?;
     }
+    lawful_choice(bits, cells, at)
 }

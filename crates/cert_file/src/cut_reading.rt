@@ -1,10 +1,10 @@
 // Cut records, as they are read.
-ghost use Rattle.std.specs.Prelude.{◌≡◌, ◌≤◌, ◌<◌, ◌+◌, ◌*◌, ◌^◌, All, length, IfOk, IfErr, OnOk};
+ghost use Rattle.std.specs.Prelude.{◌≡◌, ◌≤◌, ◌<◌, ◌+◌, ◌*◌, ◌^◌, ℕ, All, length, Ok, IfOk, OnOk};
 ghost use Rattle.shelf_traits.specs.Files.{OnlyReadsFile};
 ghost use Rattle.cells.specs.Places.{cell_count};
 ghost use Rattle.boxes.specs.Pairs.{pair_count};
 ghost use Rattle.file_bytes.specs.Reading.{Follows};
-ghost use Rattle.source_map.specs.Readings.{IsRefusal, ReadsFrom, list_read};
+ghost use Rattle.source_map.specs.Readings.{ReadsFrom, list_read};
 ghost use Rattle.cert_file.specs.CutForms.{IsBoxSize, IsCutInForm};
 ghost use Rattle.cert_file.specs.CutReading.{cut_read, cuts_read, flow_read, flow_rule};
 ghost use Rattle.limits.specs.declared.bounds.TheConstants.{MOST_BOX_CELLS};
@@ -22,31 +22,13 @@ use source_map::Version;
 use std::alloc::Global;
 
 // A flow, of two numbers.
-fn flow_of(piece: [u8; 4], at: u64) -> Result<Flow, ReadError>
-    ensures flow { result ≡ flow_rule at piece }
-    ensures refusal { IfErr result IsRefusal }
+fn flow_of(piece: [u8; 4]) -> Flow
+    ensures { (at : ℕ) → Ok result ≡ flow_rule at piece }
 {
     let [a, b, c, d] = piece;
-    Ok(Flow {
+    Flow {
         x: u16::from_be_bytes([a, b]).cast_signed(),
         y: u16::from_be_bytes([c, d]).cast_signed(),
-    })
-}
-
-// Reads a flow.
-fn read_flow<S: Shelf>(file: &mut FileReader, shelf: &mut S, name: &str) -> Result<Flow, ReadError>
-    requires follows { Follows name.now (S.state shelf.old) file.old }
-    requires room { file.old.at + 4 < 2 ^ 63 }
-    ensures answer { ReadsFrom ⊥ name.now file.old.at (S.state shelf.old) (S.state shelf.new)
-        file.new flow_read result }
-    ensures place { OnOk result (file.new.at ≡ file.old.at + 4) }
-    ensures reads { OnlyReadsFile name.now (S.state shelf.old) (S.state shelf.new) }
-{
-    let at = file.place();
-    let mut piece = [0; 4];
-    match file.take(&mut piece, shelf, name) {
-        Ok(()) => flow_of(piece, at),
-        Err(error) => Err(error),
     }
 }
 
@@ -69,8 +51,9 @@ fn read_flows<S: Shelf>(
     let mut flows = Vec::new(alloc);
     for i in 0..count {
         make_room(&mut flows, count - i)?;
-        let flow = read_flow(file, shelf, name)?;
-        flows.push_reserved(flow);
+        let mut piece = [0; 4];
+        file.take(&mut piece, shelf, name)?;
+        flows.push_reserved(flow_of(piece));
     }
     Ok(Items::from_vec(flows))
 }

@@ -81,7 +81,7 @@ fn put_flows<S: Shelf>(file: &mut FileWriter, flows: &[Flow], shelf: &mut S, nam
 
 // Puts a cut record.
 #[tactic(auto, unfolding(crate::specs::CutForms::cut_form))]
-fn put_cut<S: Shelf>(
+pub(crate) fn put_cut<S: Shelf>(
     file: &mut FileWriter,
     version: Version,
     samples: &Sizes,
@@ -100,24 +100,4 @@ fn put_cut<S: Shelf>(
     put_source(file, cut.placement.from, samples, version, shelf, name);
     put_choice(file, cut.choice.as_slice(), shelf, name);
     put_flows(file, cut.flows.as_slice(), shelf, name);
-}
-
-// Puts cut records.
-pub(crate) fn put_cuts<S: Shelf>(
-    file: &mut FileWriter,
-    version: Version,
-    samples: &Sizes,
-    cuts: &[CutRecord],
-    shelf: &mut S,
-    name: &str,
-)
-    requires samples { AreSamples version samples.now }
-    requires cuts { All (IsCutInForm samples.now) cuts.now }
-    ensures put { Puts name.now (flat_map (cut_form version samples.now) cuts.now)
-        (S.state shelf.old) (S.state shelf.new) file.old file.new }
-    ensures short { All HasShortFlows cuts.now }
-{
-    for cut in cuts {
-        put_cut(file, version, samples, cut, shelf, name);
-    }
 }

@@ -7,12 +7,12 @@ ghost use Rattle.file_bytes.specs.Reading.{Follows};
 ghost use Rattle.source_map.specs.Heads.{IsHead, IsKind, head_read};
 ghost use Rattle.source_map.specs.Readings.{ReadsFrom, number_read};
 ghost use Rattle.cert_file.specs.declared.file.RecordFile.TheVariants.{Cuts};
-ghost use Rattle.cert_file.specs.RecordFiles.{AreCuts, AreCutsInForm, AreCutsInLimits, IsRecordFile, IsRecordFileOf, ReadsRecordFile, ReadsRecordFileBy, ReadsToEnd, cuts_file_read, cuts_form, kinds, record_magic, records_read, version_one_cuts_read, versions};
+ghost use Rattle.cert_file.specs.RecordFiles.{AreCuts, AreCutsInForm, AreCutsInLimits, IsRecordFile, IsRecordFileOf, ReadsRecordFile, ReadsRecordFileBy, ReadsToEnd, cuts_file_read, cuts_form, kinds, record_magic, version_one_cuts_read, versions};
 ghost use Rattle.cert_file.specs.Rules.{any_rule};
 
 use crate::blocks::read_blocks_file;
 use crate::cut_reading::read_cuts;
-use crate::cuts::put_cuts;
+use crate::cuts::put_cut;
 use crate::walks::read_walk_file;
 use block_check::BlockRecord;
 use cells::Taps;
@@ -87,7 +87,9 @@ pub fn write_cuts<S: Shelf>(
     let mut file = FileWriter::begin(shelf, name);
     put_head(&mut file, MAGIC, CUTS, head, shelf, name);
     file.put_number(cuts.len() as u32, shelf, name);
-    put_cuts(&mut file, head.version, &head.samples, cuts, shelf, name);
+    for cut in cuts {
+        put_cut(&mut file, head.version, &head.samples, cut, shelf, name);
+    }
     file.finish(shelf, name)
 }
 
@@ -131,33 +133,6 @@ fn read_cuts_file<S: Shelf>(
     Ok(RecordFile::Cuts { head, cuts })
 }
 
-// Reads what follows a head, to the end of the file.
-fn read_records<S: Shelf>(
-    alloc: Global,
-    file: &mut FileReader,
-    head: Head,
-    kind: u8,
-    shelf: &mut S,
-    name: &str,
-) -> Result<RecordFile, ReadError>
-    requires follows { Follows name.now (S.state shelf.old) file.old }
-    requires room { file.old.at < 2 ^ 31 }
-    requires head { IsHead head }
-    requires kind { IsKind KINDS head.version kind }
-    ensures answer { ReadsToEnd (Unit {0}) name.now file.old.at (S.state shelf.old)
-        (S.state shelf.new) (records_read kind head) result }
-    ensures form { IfOk result IsRecordFile }
-    ensures reads { OnlyReadsFile name.now (S.state shelf.old) (S.state shelf.new) }
-{
-    if kind == CUTS {
-        read_cuts_file(alloc, file, head, shelf, name)
-    } else if kind == BLOCKS {
-        read_blocks_file(alloc, file, head, shelf, name)
-    } else {
-        read_walk_file(alloc, file, head, shelf, name)
-    }
-}
-
 /// Reads the head of a record file, and the number of its kind, from the first byte on. A caller that
 /// needs each record only as it comes reads on by `read_count` and then `read_cut` or `read_block`, or by
 /// `read_walk_file`, and is refused what `read_record_file` refuses. It takes no memory.
@@ -198,7 +173,15 @@ pub fn read_record_file<S: Shelf>(
 {
     let mut file = FileReader::new();
     match read_record_head(&mut file, shelf, name) {
-        Ok((head, kind)) => read_records(alloc, &mut file, head, kind, shelf, name),
+        Ok((head, kind)) => {
+            if kind == CUTS {
+                read_cuts_file(alloc, &mut file, head, shelf, name)
+            } else if kind == BLOCKS {
+                read_blocks_file(alloc, &mut file, head, shelf, name)
+            } else {
+                read_walk_file(alloc, &mut file, head, shelf, name)
+            }
+        }
         Err(error) => Err(error),
     }
 }

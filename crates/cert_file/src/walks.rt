@@ -3,14 +3,12 @@ ghost use Rattle.std.specs.Prelude.{◌≡◌, ◌≤◌, ◌<◌, ◌*◌, ◌^
 ghost use Rattle.shelf_traits.specs.Files.{Changes, OnlyReadsFile, OnlyWritesFile, WritesRose};
 ghost use Rattle.shelf_traits.specs.Written.{HoldsPart, HoldsText};
 ghost use Rattle.file_bytes.specs.Reading.{Follows};
-ghost use Rattle.file_bytes.specs.Writing.{Puts};
 ghost use Rattle.loop_walk.specs.Tables.{IsLength, table_count};
-ghost use Rattle.source_map.specs.Heads.{IsHead};
 ghost use Rattle.cert_file.specs.RecordFiles.{IsRecordFile, IsRecordFileOf, IsWalkFile, ReadsToEnd, walk_file_form};
-ghost use Rattle.cert_file.specs.WalkForms.{AreWide, IsHeadOfVersionOne, IsWalkInForm, frames_of, taps_number, walk_form, walk_start_form};
+ghost use Rattle.cert_file.specs.WalkForms.{IsHeadOfVersionOne, IsWalkInForm, taps_number};
 ghost use Rattle.cert_file.specs.WalkReading.{walk_file_read};
 ghost use Rattle.cert_file.specs.declared.file.RecordFile.TheVariants.{Walk};
-ghost use Rattle.limits.specs.declared.bounds.TheConstants.{MOST_LOOP_FRAMES, WIDEST_GAP};
+ghost use Rattle.limits.specs.declared.bounds.TheConstants.{MOST_LOOP_FRAMES};
 
 use crate::file::{MAGIC, RecordFile, WALK};
 use crate::number_lists::{read_list_16, read_list_64};
@@ -31,46 +29,6 @@ fn taps_byte(taps: Taps) -> u8
         Taps::Two => 2,
         Taps::Four => 4,
     }
-}
-
-// Puts length, filter and gap.
-fn put_walk_start<S: Shelf>(
-    file: &mut FileWriter,
-    len: u32,
-    taps: Taps,
-    gap: u32,
-    shelf: &mut S,
-    name: &str,
-)
-    requires gap { gap ≤ WIDEST_GAP }
-    ensures { Puts name.now (walk_start_form len taps gap) (S.state shelf.old) (S.state shelf.new)
-        file.old file.new }
-{
-    file.put_number(len, shelf, name);
-    file.put(&[taps_byte(taps)], shelf, name);
-    file.put_number(gap as u16, shelf, name);
-}
-
-// Puts a walk record.
-#[tactic(auto, unfolding(crate::specs::WalkForms::walk_form))]
-fn put_walk<S: Shelf>(
-    file: &mut FileWriter,
-    taps: Taps,
-    gap: u32,
-    walk: &[u16],
-    tables: &[u64],
-    shelf: &mut S,
-    name: &str,
-)
-    requires len { IsLength (length walk.now) }
-    requires gap { gap ≤ WIDEST_GAP }
-    ensures put { Puts name.now (walk_form taps gap walk.now tables.now) (S.state shelf.old)
-        (S.state shelf.new) file.old file.new }
-    ensures wide { AreWide walk.now tables.now }
-{
-    put_walk_start(file, walk.len() as u32, taps, gap, shelf, name);
-    file.put_all(walk, shelf, name);
-    file.put_all(tables, shelf, name);
 }
 
 /// Writes the file of a walk record, in version 1: the head, the walk's length, its filter and gap, its
@@ -97,16 +55,12 @@ pub fn write_walk<S: Shelf>(
 {
     let mut file = FileWriter::begin(shelf, name);
     put_head(&mut file, MAGIC, WALK, head, shelf, name);
-    put_walk(&mut file, taps, gap, walk, tables, shelf, name);
+    file.put_number(walk.len() as u32, shelf, name);
+    file.put(&[taps_byte(taps)], shelf, name);
+    file.put_number(gap as u16, shelf, name);
+    file.put_all(walk, shelf, name);
+    file.put_all(tables, shelf, name);
     file.finish(shelf, name)
-}
-
-// How many frames the one sample of a head has.
-fn sample_frames(head: &Head) -> u32
-    requires { IsHead head.now }
-    ensures { result ≡ frames_of head.now }
-{
-    head.samples.at(1).f
 }
 
 // How many entries the tables for a length have, of so many frames.
@@ -137,7 +91,8 @@ pub fn read_walk_file<S: Shelf>(
     ensures walk { IfOk result IsWalkFile }
     ensures reads { OnlyReadsFile name.now (S.state shelf.old) (S.state shelf.new) }
 {
-    let n = sample_frames(&head);
+    // The head has one sample.
+    let n = head.samples.at(1).f;
     lawful_frames(n)?;
     let start = read_walk_start(file, shelf, name)?;
     let walk = read_list_16(alloc, file, start.length as usize, shelf, name)?;

@@ -1,8 +1,10 @@
 use Rattle.std.proofs.lemmas.Grind.{common_steps}
-use Rattle.std.proofs.Common.{◌-◌, ◌++◌, ◌∷◌, [], ◌+◌, ◌∙◌, length, ap, sym, subst, arith, ◌≡◌}
+use Rattle.std.proofs.Common.{◌-◌, ◌++◌, ◌∷◌, [], ◌+◌, ◌∙◌, ◌≤◌, length, ap, sym, subst, arith, ◌≡◌}
 use Rattle.std.specs.Prelude.{All, Err, vec_capacity, vec_len}
 use Rattle.std.proofs.lemmas.List.Elements.{All-push}
 use Rattle.std.proofs.lemmas.Result.{err_from_is_err_and}
+use Rattle.cells.specs.Places.{cell_count}
+use Rattle.limits.specs.declared.bounds.TheConstants.{MOST_BOX_CELLS}
 use Rattle.shelf_traits.proofs.FileLaws.{only_reads_then}
 use Rattle.file_bytes.proofs.ReadingLaws.{room_made}
 use Rattle.source_map.specs.Readings.{Found, ReadsFrom}
@@ -10,7 +12,7 @@ use Rattle.cert_file.specs.BlockForms.{IsBlockInForm}
 use Rattle.cert_file.specs.BlockReading.{block_read, blocks_read}
 use Rattle.block_check.specs.Blocks.{block_cells}
 use Rattle.cert_file.proofs.Bits.{block_cells-append}
-use Rattle.cert_file.proofs.Readings.{each_more, each_stops}
+use Rattle.cert_file.proofs.Readings.{each_more, each_stops, place_more}
 use Rattle.cert_file.proofs.blocks.read_blocks.Goals as goal
 
 pub returns-in_err-block-clause-answer : goal.returns-in_err-block-clause-answer
@@ -35,8 +37,8 @@ loop-i-preserved g c =
     let all = c.push_reserved.ensures.items ∙ ap (λ items. items ++ block ∷ []) c.make_room.ensures.items in
     record {
       count = omega (arith, c.push_reserved.ensures.len, ap length c.make_room.ensures.items, so.count);
-      at = omega (arith, ok.place, so.at, c.cells_of.ensures);
-      few = omega (arith, ok.cells, c.cells_of.ensures);
+      at = place_more 29 c.args.file.now.at c.loop-i.file.at c.read_block.new.file.at c.loop-i.before (cell_count block.placement.rect.size) c.cells_of.result c.cells_of.ensures so.at ok.place;
+      few = subst (λ n. c.loop-i.before + n ≤ MOST_BOX_CELLS) (sym c.cells_of.ensures) ok.cells;
       before = (λ k. so.before k + c.cells_of.ensures k) ∙ sym (block_cells-append c.loop-i.blocks.items block) ∙ ap block_cells (sym all);
       each = subst (All IsBlockInForm) (sym all) (All-push IsBlockInForm c.loop-i.blocks.items block so.each ok.form);
       found = subst (λ items. Found name c.args.file.now.at (state c.read_block.new.shelf) c.read_block.new.file (blocks_read (c.loop-i.i + 1)) items) (sym all)

@@ -12,8 +12,8 @@ returns-clause-inside g c =
     let samples = c.args.samples.now in
     let part = c.in_ok-part.part in
     let read = c.in_ok-part.ensures {u = tt} in
-    let first : c.from.result ≡ part = cc in
-    let second : c.from-2.result ≡ part = cc in
+    let first : c.from.result ≡ part = c.from.ensures in
+    let second : c.from-2.result ≡ part = c.from-2.ensures in
     let some : 1 ≤ part = read.within.0 in
     subst (IsInSamples samples) (ap (λ n. stock_place samples n c.in_ok-p.p) (sym second) ∙ sym c.stock.ensures)
     (stock_in samples part c.at-size.result c.in_ok-p.p some (c.at-size.ensures.size ∙ ap (size_of_part samples) first) (c.in_ok-p.ensures {u = tt}).inside)

@@ -1,16 +1,18 @@
 use Rattle.std.proofs.lemmas.Grind.{common_steps}
-use Rattle.std.proofs.Common.{◌-◌, ◌++◌, ◌∷◌, [], ◌+◌, ◌∙◌, length, ap, sym, subst, arith, ◌≡◌}
+use Rattle.std.proofs.Common.{◌-◌, ◌++◌, ◌∷◌, [], ◌+◌, ◌∙◌, ◌≤◌, length, ap, sym, subst, arith, ◌≡◌}
 use Rattle.std.specs.Prelude.{All, Err, vec_capacity, vec_len}
 use Rattle.std.proofs.lemmas.List.Elements.{All-push}
 use Rattle.std.proofs.lemmas.Result.{err_from_is_err_and}
 use Rattle.cut_check.specs.Records.{box_cells}
+use Rattle.cells.specs.Places.{cell_count}
+use Rattle.limits.specs.declared.bounds.TheConstants.{MOST_BOX_CELLS}
 use Rattle.shelf_traits.proofs.FileLaws.{only_reads_then}
 use Rattle.file_bytes.proofs.ReadingLaws.{room_made}
 use Rattle.source_map.specs.Readings.{Found, ReadsFrom}
 use Rattle.cert_file.specs.CutForms.{IsCutInForm}
 use Rattle.cert_file.specs.CutReading.{cut_read, cuts_read}
 use Rattle.cert_file.proofs.Bits.{box_cells-append}
-use Rattle.cert_file.proofs.Readings.{each_more, each_stops}
+use Rattle.cert_file.proofs.Readings.{each_more, each_stops, place_more}
 use Rattle.cert_file.proofs.cut_reading.read_cuts.Goals as goal
 
 pub returns-in_err-cut-clause-answer : goal.returns-in_err-cut-clause-answer
@@ -35,8 +37,8 @@ loop-i-preserved g c =
     let all = c.push_reserved.ensures.items ∙ ap (λ items. items ++ cut ∷ []) c.make_room.ensures.items in
     record {
       count = omega (arith, c.push_reserved.ensures.len, ap length c.make_room.ensures.items, so.count);
-      at = omega (arith, ok.place, so.at, c.cells_of.ensures);
-      few = omega (arith, ok.cells, c.cells_of.ensures);
+      at = place_more 34 c.args.file.now.at c.loop-i.file.at c.read_cut.new.file.at c.loop-i.before (cell_count cut.placement.rect.size) c.cells_of.result c.cells_of.ensures so.at ok.place;
+      few = subst (λ n. c.loop-i.before + n ≤ MOST_BOX_CELLS) (sym c.cells_of.ensures) ok.cells;
       before = (λ k. so.before k + c.cells_of.ensures k) ∙ sym (box_cells-append c.loop-i.cuts.items cut) ∙ ap box_cells (sym all);
       each = subst (All (IsCutInForm c.args.samples.now)) (sym all) (All-push (IsCutInForm c.args.samples.now) c.loop-i.cuts.items cut so.each ok.form);
       found = subst (λ items. Found name c.args.file.now.at (state c.read_cut.new.shelf) c.read_cut.new.file (cuts_read c.args.version c.args.samples.now (c.loop-i.i + 1)) items) (sym all)

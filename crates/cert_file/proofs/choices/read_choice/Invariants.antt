@@ -1,6 +1,6 @@
 use Rattle.shelf_traits.specs.Files.{OnlyReadsFile}
 use Rattle.cert_file.specs.CutTaking.{TookBits}
-use Rattle.cert_file.proofs.choices.read_bits.Given as goal
+use Rattle.cert_file.proofs.choices.read_choice.Given as goal
 
 abbrev pub invariant-loop-j : goal.invariant-loop-j
 invariant-loop-j g l = record {

@@ -6,26 +6,25 @@ ghost use Rattle.cells.specs.Cells.{sizes_of};
 ghost use Rattle.cells.specs.Places.{IsSmall};
 ghost use Rattle.map_canvas.specs.Canvases.{IsCanvas, StandsOver};
 ghost use Rattle.map_canvas.specs.Maps.{empty_map};
-ghost use Rattle.source_map.specs.Heads.{IsHead, IsKind};
-ghost use Rattle.cert_file.specs.RecordFiles.{IsRecordFile, IsWalkFile, kinds, records_read};
+ghost use Rattle.cert_file.specs.RecordFiles.{IsRecordFile, IsWalkFile};
 ghost use Rattle.sample_files.specs.Several.{AreSoundSamples};
-ghost use Rattle.standing_files.specs.AsRead.{FindsInRecords, IsCanvasSize, IsOfColours, JudgesLeft, JudgesPicture, JudgesRecordFile, JudgesToEnd, LeavesCells, TriesTogether, read_as};
+ghost use Rattle.standing_files.specs.AsRead.{FindsInRecords, IsCanvasSize, IsOfColours, JudgesLeft, JudgesRecordFile, JudgesToEnd, LeavesCells, TriesTogether, read_as};
 ghost use Rattle.standing_files.specs.Standing.{IsVerdict, map_output};
 ghost use Rattle.standing_files.specs.declared.verdict.Verdict.TheVariants.{Stands};
 
 use crate::blocks_as_read::judge_blocks_to_end;
 use crate::cuts_as_read::judge_cuts_to_end;
-use crate::picture::first_not_copied;
+use crate::picture::judge_picture;
 use crate::records::{first_other_source, judge_walk_record};
 use crate::together::go_together;
-use crate::verdict::{MAP_RULE, PICTURE_RULE, TOGETHER_RULE, Verdict};
+use crate::verdict::{MAP_RULE, TOGETHER_RULE, Verdict};
 use cells::{Size, Volume};
 use cert_file::{BLOCKS, CUTS, Items, RecordFile, read_record_head, read_walk_file};
 use file_bytes::FileReader;
 use map_canvas::{Canvas, Map};
 use sample_files::{Sample, Samples};
 use shelf_traits::{ReadError, Shelf};
-use source_map::{Head, MapFile};
+use source_map::MapFile;
 use std::alloc::{AllocError, Global};
 
 // What rule 15 says of files.
@@ -56,21 +55,6 @@ fn canvas_size(before: Verdict, map_file: &MapFile) -> Size
     match (before, map_file) {
         (Verdict::Stands, MapFile::Cells { map, .. }) => map.size(),
         _ => Size { w: 1, h: 1, f: 1 },
-    }
-}
-
-// What rule 17 says of the picture.
-fn judge_picture(samples: &Volume, picture: &Volume, map_file: &MapFile) -> Verdict
-    requires one { sizes_of picture.now ≡ map_output map_file.now ∷ [] }
-    ensures { JudgesPicture samples.now picture.now map_file.now result }
-{
-    match first_not_copied(samples, picture, map_file) {
-        None => Verdict::Stands,
-        Some(i) => Verdict::Fails {
-            number: 0,
-            rule: PICTURE_RULE,
-            place: i as u64,
-        },
     }
 }
 
@@ -225,50 +209,6 @@ fn judge_cells<S: Shelf>(
     verdict
 }
 
-// Judges files, where the record file is read from after its head on. (The end of a record file, spelled out at each
-// way out of this function, would be long to prove: `drop` has it proved by itself.)
-fn judge_records_read<S: Shelf>(
-    alloc: Global,
-    samples: &Samples,
-    out: &Sample,
-    map_file: &MapFile,
-    file: &mut FileReader,
-    head: Head,
-    kind: u8,
-    shelf: &mut S,
-    name: &str,
-) -> Result<Verdict, ReadError>
-    requires follows { Follows name.now (S.state shelf.old) file.old }
-    requires room { file.old.at < 2 ^ 31 }
-    requires sound { AreSoundSamples samples.now }
-    requires head { IsHead head }
-    requires kind { IsKind kinds head.version kind }
-    ensures answer { JudgesToEnd (IsVerdict samples.now out.now map_file.now)
-        name.now file.old.at (S.state shelf.old) (S.state shelf.new)
-        (records_read kind head) result }
-    ensures reads { OnlyReadsFile name.now (S.state shelf.old) (S.state shelf.new) }
-{
-    if kind == CUTS {
-        let cuts = Items::from_vec(Vec::new(alloc));
-        let none = RecordFile::Cuts { head, cuts };
-        let verdict = judge_cells(alloc, samples, out, map_file, file, &none, shelf, name);
-        drop(none);
-        verdict
-    } else if kind == BLOCKS {
-        let blocks = Items::from_vec(Vec::new(alloc));
-        let none = RecordFile::Blocks { head, blocks };
-        let verdict = judge_cells(alloc, samples, out, map_file, file, &none, shelf, name);
-        drop(none);
-        verdict
-    } else {
-        let record_file = read_walk_file(alloc, file, head, shelf, name)?;
-        let judged = judge_walk_file(alloc, samples, out, map_file, &record_file);
-        drop(record_file);
-        let verdict = judged?;
-        Ok(verdict)
-    }
-}
-
 /// Reads a record file to its end, and tries whether the files stand: first whether they go together, then each
 /// record over the map that the records before it leave, then whether the records leave the map of the map file,
 /// and last each cell of the out picture. Each record of cuts or of blocks is judged as it comes and then dropped;
@@ -289,7 +229,24 @@ pub fn judge_record_file<S: Shelf>(
 {
     let mut file = FileReader::new();
     let (head, kind) = read_record_head(&mut file, shelf, name)?;
-    judge_records_read(
-        alloc, samples, out, map_file, &mut file, head, kind, shelf, name,
-    )
+    // Each record file ends in `drop`: its end, spelled out at each way out, would be long to prove.
+    if kind == CUTS {
+        let cuts = Items::from_vec(Vec::new(alloc));
+        let none = RecordFile::Cuts { head, cuts };
+        let verdict = judge_cells(alloc, samples, out, map_file, &mut file, &none, shelf, name);
+        drop(none);
+        verdict
+    } else if kind == BLOCKS {
+        let blocks = Items::from_vec(Vec::new(alloc));
+        let none = RecordFile::Blocks { head, blocks };
+        let verdict = judge_cells(alloc, samples, out, map_file, &mut file, &none, shelf, name);
+        drop(none);
+        verdict
+    } else {
+        let record_file = read_walk_file(alloc, &mut file, head, shelf, name)?;
+        let judged = judge_walk_file(alloc, samples, out, map_file, &record_file);
+        drop(record_file);
+        let verdict = judged?;
+        Ok(verdict)
+    }
 }

@@ -1,15 +1,17 @@
 // Whether the out picture is that of the map file.
-ghost use Rattle.std.specs.Prelude.{◌≡◌, ◌≤◌, ◌<◌, ◌+◌, ◌*◌, ◌≤ℤ◌, ◌↔◌, ◌∷◌, [], IfNone, IfSome, IsTrue, Some, pos};
+ghost use Rattle.std.specs.Prelude.{◌≡◌, ◌≤◌, ◌<◌, ◌+◌, ◌*◌, ◌≤ℤ◌, ◌↔◌, ◌∷◌, [], IfNone, IfSome, IsTrue, pos};
 ghost use Rattle.cells.specs.Cells.{sizes_of};
 ghost use Rattle.limits.specs.declared.bounds.TheConstants.{GREATEST_AXIS};
-ghost use Rattle.cells.specs.Places.{cell_count, plus, spot};
-ghost use Rattle.cells.specs.Firsts.{Each, FirstWithout, IsFirstWithout};
-ghost use Rattle.map_canvas.specs.Maps.{IsSource, map_at};
+ghost use Rattle.cells.specs.Places.{plus, spot};
+ghost use Rattle.cells.specs.Firsts.{Each, IsFirstWithout};
+ghost use Rattle.map_canvas.specs.Maps.{map_at};
 ghost use Rattle.map_canvas.specs.declared.map.TheConstants.{GREATEST_COORDINATE};
 ghost use Rattle.source_map.specs.MapFiles.{frame_source};
+ghost use Rattle.standing_files.specs.AsRead.{JudgesPicture};
 ghost use Rattle.standing_files.specs.Standing.{IsCopied, IsCopiedAt, map_output, named_source};
-ghost use Rattle.standing_files.specs.Steps.{IsRunCopied, IsRunFrom, IsRunSame};
+ghost use Rattle.standing_files.specs.Steps.{IsRunCopied, IsRunSame};
 
+use crate::verdict::{PICTURE_RULE, Verdict};
 use cells::{At, Box3, Size, Volume};
 use map_canvas::Map;
 use source_map::MapFile;
@@ -64,18 +66,6 @@ fn is_run_same(samples: &Volume, picture: &Volume, from: At, p: At, w: u32) -> b
     picture.row(p, w) == samples.row(from, w)
 }
 
-// Whether a run of cells of a picture is one of the samples' in the frame that a frame map names.
-fn is_in_frame(samples: &Volume, picture: &Volume, frames: &[u16], p: At, w: u32) -> bool
-    requires some { 1 ≤ w }
-    ensures { IsTrue result →
-        IsRunCopied samples.now picture.now (frame_source frames.now) p w }
-{
-    match frame_source(frames, p) {
-        None => false,
-        Some(from) => is_run_same(samples, picture, from, p, w),
-    }
-}
-
 // The place so many cells along X from another.
 fn along(p: At, n: u32) -> At
     requires few { n ≤ GREATEST_AXIS }
@@ -89,31 +79,6 @@ fn along(p: At, n: u32) -> At
     })
 }
 
-// Whether the source of a cell so many columns from another is as far from a source.
-fn is_next(map: &Map, p: At, from: At, n: u32) -> bool
-    requires few { n ≤ GREATEST_AXIS }
-    requires near { p.x ≤ℤ GREATEST_COORDINATE }
-    requires source { IsSource from }
-    ensures { IsTrue result → map_at map.now (plus p (spot n 0 0)) ≡ Some (plus from (spot n 0 0)) }
-{
-    map.at(along(p, n)) == Some(along(from, n))
-}
-
-// How many cells from one on have sources that follow one another from a source on, as far as so many.
-fn run_length(map: &Map, p: At, from: At, most: u32) -> u32
-    requires few { most ≤ GREATEST_AXIS }
-    requires near { p.x ≤ℤ GREATEST_COORDINATE }
-    requires source { IsSource from }
-    ensures most { result ≤ most }
-    ensures run { IsRunFrom (map_at map.now) p from result }
-{
-    let mut n = 0;
-    'run: while n < most && is_next(map, p, from, n) {
-        n += 1;
-    }
-    n
-}
-
 // How many cells from one on are known to be copied, as far as so many: those whose sources follow one
 // another. 0 where it isn't known.
 fn copied_run(samples: &Volume, picture: &Volume, map: &Map, p: At, most: u32) -> u32
@@ -125,7 +90,10 @@ fn copied_run(samples: &Volume, picture: &Volume, map: &Map, p: At, most: u32) -
     let Some(from) = map.at(p) else {
         return 0;
     };
-    let n = run_length(map, p, from, most);
+    let mut n = 0;
+    'run: while n < most && map.at(along(p, n)) == Some(along(from, n)) {
+        n += 1;
+    }
     if 0 < n && is_run_same(samples, picture, from, p, n) {
         n
     } else {
@@ -162,7 +130,10 @@ fn is_run_copied(samples: &Volume, picture: &Volume, map_file: &MapFile, p: At, 
 {
     match map_file {
         MapFile::Cells { map, .. } => is_in_runs(samples, picture, map, p, w),
-        MapFile::Frames { frames, .. } => is_in_frame(samples, picture, frames.as_slice(), p, w),
+        MapFile::Frames { frames, .. } => match frame_source(frames.as_slice(), p) {
+            None => false,
+            Some(from) => is_run_same(samples, picture, from, p, w),
+        },
     }
 }
 
@@ -192,23 +163,24 @@ fn first_in_row(samples: &Volume, picture: &Volume, map_file: &MapFile, row: usi
     None
 }
 
-/// The index of the first cell of the out picture that isn't the samples' cell that the map file
-/// names for it. The picture has the size of the map.
-pub(crate) fn first_not_copied(
-    samples: &Volume,
-    picture: &Volume,
-    map_file: &MapFile,
-) -> Option<usize>
-    requires { sizes_of picture.now ≡ map_output map_file.now ∷ [] }
-    ensures { FirstWithout (cell_count (map_output map_file.now))
-        (IsCopiedAt samples.now picture.now map_file.now) result }
+/// What rule 17 says of the picture: it has the size of the map, and each of its cells is the samples' cell that the
+/// map file names for it.
+pub(crate) fn judge_picture(samples: &Volume, picture: &Volume, map_file: &MapFile) -> Verdict
+    requires one { sizes_of picture.now ≡ map_output map_file.now ∷ [] }
+    ensures { JudgesPicture samples.now picture.now map_file.now result }
 {
     let size = picture.size();
     for row in 0..size.h as usize * size.f as usize {
         match first_in_row(samples, picture, map_file, row) {
-            Some(i) => return Some(i),
+            Some(i) => {
+                return Verdict::Fails {
+                    number: 0,
+                    rule: PICTURE_RULE,
+                    place: i as u64,
+                };
+            }
             None => {}
         }
     }
-    None
+    Verdict::Stands
 }

@@ -8,7 +8,7 @@ ghost use Rattle.loop_walk.specs.Tables.{IsLength, table_count};
 ghost use Rattle.cert_file.specs.RecordFiles.{IsRecordFile, IsWalkFile};
 ghost use Rattle.sample_files.specs.Several.{AreSoundSamples};
 ghost use Rattle.standing_files.specs.Standing.{HasOneFrame, HasOneSource, walk_costs};
-ghost use Rattle.standing_files.specs.Steps.{AreOneSource, HaveOneEntry, JudgesRecords, JudgesWalk, Suit, verdict_on_map};
+ghost use Rattle.standing_files.specs.Steps.{AreOneSource, HaveOneEntry, JudgesRecords, JudgesWalk, Suit};
 
 use crate::verdict::{MAP_RULE, Verdict};
 use cells::{At, Taps, Volume};
@@ -62,20 +62,13 @@ fn have_one_entry_each(left: &[Entry], entries: &[Entry]) -> bool
     true
 }
 
-// Whether two maps are known to have one source for each cell, without a look at the place of each.
-fn is_known_left(left: &Map, map: &Map) -> bool
-    ensures { IsTrue result → Each (cell_count map.now.size)
-        (λ i. HasOneSource left.now map.now (place_of map.now.size i)) }
-{
-    left.size() == map.size() && have_one_entry_each(left.sources(), map.sources())
-}
-
 /// The index of the first cell of a map that is unfilled in what is left, or has another source there.
 pub(crate) fn first_other_source(left: &Map, map: &Map) -> Option<usize>
     ensures { FirstWithout (cell_count map.now.size)
         (λ i. HasOneSource left.now map.now (place_of map.now.size i)) result }
 {
-    if is_known_left(left, map) {
+    // Maps of one size whose lists are the same need no look at the place of each cell.
+    if left.size() == map.size() && have_one_entry_each(left.sources(), map.sources()) {
         return None;
     }
     let size = map.size();
@@ -106,20 +99,6 @@ fn first_other_frame(walk: &[u16], frames: &[u16]) -> Option<usize>
     None
 }
 
-// The verdict on records that stand, by the first entry of the map file that they don't leave.
-fn verdict_on_map(first: Option<usize>) -> Verdict
-    ensures { result ≡ verdict_on_map first }
-{
-    match first {
-        None => Verdict::Stands,
-        Some(i) => Verdict::Fails {
-            number: 0,
-            rule: MAP_RULE,
-            place: i as u64,
-        },
-    }
-}
-
 // Judges a walk record over a sample, and the frames that it leaves.
 fn judge_walk(
     alloc: Global,
@@ -142,7 +121,14 @@ fn judge_walk(
     let table = distances(alloc, sample)?;
     let costs = filtered(alloc, &table, taps, gap)?;
     match check_loop(&costs, walk, tables) {
-        Ok(()) => Ok(verdict_on_map(first_other_frame(walk, frames))),
+        Ok(()) => match first_other_frame(walk, frames) {
+            None => Ok(Verdict::Stands),
+            Some(i) => Ok(Verdict::Fails {
+                number: 0,
+                rule: MAP_RULE,
+                place: i as u64,
+            }),
+        },
         Err(fault) => Ok(Verdict::Fails {
             number: 1,
             rule: fault.kind,

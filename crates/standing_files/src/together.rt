@@ -5,7 +5,7 @@ ghost use Rattle.standing_files.specs.Standing.{AreKindsOfOneRun, GoTogether, Na
 use cells::{Size, Sizes};
 use cert_file::RecordFile;
 use sample_files::{Form, Sample, Samples};
-use source_map::{Head, MapFile};
+use source_map::MapFile;
 
 // Whether two lists of sizes are the same.
 fn are_same(a: &Sizes, b: &Sizes) -> bool
@@ -44,24 +44,18 @@ fn map_names_sizes(map_file: &MapFile, samples: &Sizes, out: &Sizes) -> bool
     }
 }
 
-// The head of a record file.
-fn head_of(record_file: &RecordFile) -> &Head
-    ensures { result.now ≡ record_file_head record_file.now }
-{
-    match record_file {
-        RecordFile::Cuts { head, .. } => head,
-        RecordFile::Blocks { head, .. } => head,
-        RecordFile::Walk { head, .. } => head,
-    }
-}
-
 // Whether a record file names them.
 fn record_file_names_sizes(record_file: &RecordFile, samples: &Sizes, out: &Sizes) -> bool
     ensures { IsTrue result ↔ NamesSizes samples.now out.now
         (record_file_head record_file.now).output (record_file_head record_file.now).samples }
 {
-    let head = head_of(record_file);
-    is_one(out, head.output) && are_same(samples, &head.samples)
+    match record_file {
+        RecordFile::Cuts { head, .. }
+        | RecordFile::Blocks { head, .. }
+        | RecordFile::Walk { head, .. } => {
+            is_one(out, head.output) && are_same(samples, &head.samples)
+        }
+    }
 }
 
 // Whether a record file goes with samples of a form: block records with pictures alone.

@@ -1,13 +1,25 @@
-use Rattle.std.proofs.Common.{◌≡◌, ◌∙◌, ◌<◌, ap, sym, subst, arith, below_more}
+use Rattle.std.proofs.Common.{◌≡◌, ◌∙◌, ◌<◌, List, length, ap, sym, subst, arith, below_more}
 use mathlib.Core.Bool.{false≢true}
+use Rattle.std.specs.Prelude.{Option}
+use Rattle.cells.specs.Firsts.{Each}
 use Rattle.cells.specs.declared.place.At.{At}
 use Rattle.cells.specs.declared.place.Size.{Size}
 use Rattle.cells.specs.Places.{cell_count, place_of}
 use Rattle.standing_files.specs.Standing.{HasOneSource}
+use Rattle.standing_files.specs.Steps.{HaveOneEntry}
+use Rattle.standing_files.proofs.SameMaps.{one_source_each}
+use Rattle.standing_files.proofs.Sizes.{size_test}
 use Rattle.standing_files.proofs.records.first_other_source.Goals as goal
 
-pub returns-then-is_known_left : goal.returns-then-is_known_left
-returns-then-is_known_left c = c.is_known_left.ensures c.if-is_known_left.true
+pub returns-then-have_one_entry_each : goal.returns-then-have_one_entry_each
+returns-then-have_one_entry_each c =
+    let left = c.args.left.now in
+    let m = c.args.map.now in
+    let entries = c.sources-then-eq.result.now in
+    let same : left.size ≡ m.size = sym c.size.ensures.size ∙ (size_test c.size.result c.size-2.result).0 (sym c.eq.ensures ∙ c.if-eq.true) ∙ c.size-2.ensures.size in
+    one_source_each left m c.size-2.ensures.map same
+    (subst (λ (sources : List (Option At)). Each (length sources) (HaveOneEntry left.sources sources)) c.sources-then-eq.ensures
+    (subst (λ (lefts : List (Option At)). Each (length entries) (HaveOneEntry lefts entries)) c.sources.ensures (c.have_one_entry_each.ensures c.if-have_one_entry_each.true)))
 
 pub returns-then-not-has_one_source : goal.returns-then-not-has_one_source
 returns-then-not-has_one_source c =

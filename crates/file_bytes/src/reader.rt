@@ -100,25 +100,6 @@ impl FileReader {
         self.at += n as u64;
     }
 
-    // Asks for the next bytes, where none wait and the file isn't known to have ended.
-    fn refill<S: Shelf>(&mut self, shelf: &mut S, name: &str) -> Result<(), Failed>
-        requires follows { Follows name.now (S.state shelf.old) self.old }
-        requires empty { self.old.waiting ≡ [] }
-        ensures follows { OnOk result (Follows name.now (S.state shelf.new) self.new) }
-        ensures at { OnOk result (self.new.at ≡ self.old.at) }
-        ensures ended { OnOk result (self.new.waiting ≡ [] → self.new.ended ≡ true) }
-        ensures reads { OnlyReadsFile name.now (S.state shelf.old) (S.state shelf.new) }
-        ensures failed { OnErr result (ReadsRose name.now (S.state shelf.old) (S.state shelf.new)) }
-    {
-        if !self.ended {
-            let count = shelf.get(name, self.at, &mut self.buffer)?;
-            self.start = 0;
-            self.end = count;
-            self.ended = count < ROOM;
-        }
-        Ok(())
-    }
-
     // Copies what waits, as far as there is room for it, and tells how much that is.
     fn serve(&mut self, into: &mut [u8]) -> usize
         requires { self.old.at + length into.old < 2 ^ 63 }
@@ -149,35 +130,14 @@ impl FileReader {
         ensures reads { OnlyReadsFile name.now (S.state shelf.old) (S.state shelf.new) }
         ensures failed { OnErr result (ReadsRose name.now (S.state shelf.old) (S.state shelf.new)) }
     {
-        if self.is_empty() {
-            self.refill(shelf, name)
-        } else {
-            Ok(())
+        if !self.is_empty() || self.ended {
+            return Ok(());
         }
-    }
-
-    // Reads some of the bytes that are wanted, and tells how many.
-    fn take_some<S: Shelf>(
-        &mut self,
-        into: &mut [u8],
-        shelf: &mut S,
-        name: &str,
-    ) -> Result<usize, ReadError>
-        requires follows { Follows name.now (S.state shelf.old) self.old }
-        requires wanted { 0 < length into.old }
-        requires room { self.old.at + length into.old < 2 ^ 63 }
-        ensures count { IfOk result (λ n. (0 < n) × (n ≤ length into.old)) }
-        ensures took { IfOk result (λ n.
-            Took name.now self.old.at (take n into.new) (S.state shelf.new) self.new) }
-        ensures stops { IfErr result
-            (StopsShort name.now (self.old.at + 1) (S.state shelf.old) (S.state shelf.new)) }
-        ensures reads { OnlyReadsFile name.now (S.state shelf.old) (S.state shelf.new) }
-    {
-        self.look(shelf, name)?;
-        if self.is_empty() {
-            return Err(ReadError::Bad(FormFault::Form(self.at)));
-        }
-        Ok(self.serve(into))
+        let count = shelf.get(name, self.at, &mut self.buffer)?;
+        self.start = 0;
+        self.end = count;
+        self.ended = count < ROOM;
+        Ok(())
     }
 
     // Reads as many bytes as the buffer has, asking for more as often as it takes.
@@ -198,7 +158,11 @@ impl FileReader {
     {
         let mut filled = 0;
         'filling: while filled < into.len() {
-            filled += self.take_some(&mut into[filled..], shelf, name)?;
+            self.look(shelf, name)?;
+            if self.is_empty() {
+                return Err(ReadError::Bad(FormFault::Form(self.at)));
+            }
+            filled += self.serve(&mut into[filled..]);
         }
         Ok(())
     }

@@ -1,5 +1,5 @@
 // Writing a file through one buffer.
-ghost use Rattle.std.specs.Prelude.{◌≡◌, ◌≤◌, ◌<◌, ◌+◌, ◌++◌, [], List, ℕ, length, take, drop, OnOk, OnErr};
+ghost use Rattle.std.specs.Prelude.{◌≡◌, ◌≤◌, ◌<◌, ◌+◌, ◌++◌, [], List, ℕ, length, OnOk, OnErr};
 ghost use Rattle.std.specs.List.{flat_map};
 ghost use Rattle.shelf_traits.specs.Files.{ShelfState, Changes, OnlyWritesFile, Rose};
 ghost use Rattle.shelf_traits.specs.Written.{HoldsText, HoldsPart};
@@ -33,15 +33,6 @@ impl Model for FileWriter {
     ghost view = { λ a. record { waiting = take a.len a.buffer; failed = a.failed } };
 
     ghost invariant = { λ a. a.len ≤ ROOM };
-}
-
-// Writes a piece over the bytes from a place on.
-fn put_at(bytes: &mut [u8], start: usize, piece: &[u8])
-    requires { start + length piece.now ≤ length bytes.old }
-    ensures { bytes.new ≡ take start bytes.old ++ piece.now
-        ++ drop (start + length piece.now) bytes.old }
-{
-    bytes[start..start + piece.len()].copy_from_slice(piece);
 }
 
 // Adds a piece that waits to the file, unless a write has failed before. It tells whether one has.
@@ -80,15 +71,6 @@ impl FileWriter {
         self.len = 0;
     }
 
-    // Adds a piece to the file past the buffer, in which nothing waits.
-    fn send<S: Shelf>(&mut self, piece: &[u8], shelf: &mut S, name: &str)
-        requires { self.old.waiting ≡ [] }
-        ensures { Puts name.now piece.now (S.state shelf.old)
-            (S.state shelf.new) self.old self.new }
-    {
-        self.failed = pass(self.failed, piece, shelf, name);
-    }
-
     // Lets a piece wait for which there is room.
     fn keep(&mut self, piece: &[u8])
         requires { length self.old.waiting + length piece.now ≤ ROOM }
@@ -96,7 +78,7 @@ impl FileWriter {
     {
         // Added up first, so that the length isn't loaded again after the bytes are written.
         let end = self.len + piece.len();
-        put_at(&mut self.buffer, self.len, piece);
+        self.buffer[self.len..end].copy_from_slice(piece);
         self.len = end;
     }
 
@@ -110,7 +92,7 @@ impl FileWriter {
         if piece.len() <= ROOM {
             self.keep(piece);
         } else {
-            self.send(piece, shelf, name);
+            self.failed = pass(self.failed, piece, shelf, name);
         }
     }
 

@@ -2,7 +2,7 @@
 ghost use Rattle.std.specs.Prelude.{◌≡◌, ◌≤◌, ◌++◌, OnOk, OnErr};
 ghost use Rattle.shelf_traits.specs.Files.{Told, Rose};
 ghost use Rattle.shelf_traits.specs.Written.{Says};
-ghost use Rattle.synth_report.specs.Texts.{fails_line, report_of, size_line, upgrade_line};
+ghost use Rattle.synth_report.specs.Texts.{fails_line, report_of, upgrade_line};
 ghost use Rattle.synth_report.specs.Lines.{line_text};
 ghost use Rattle.synth_report.specs.Telling.{TellsText, joined_texts};
 
@@ -19,24 +19,6 @@ enum Line<'a> {
     Area(&'a str, Size),
 }
 
-fn tell_size<O: Sink>(name: &str, size: Size, sink: &mut O) -> Result<(), WriteFault>
-    ensures { TellsText (size_line name.now size) (O.state sink.old) (O.state sink.new) result }
-{
-    tell(
-        &[
-            Piece::Text(name),
-            Piece::Text(" "),
-            Piece::Short(size.w),
-            Piece::Text("x"),
-            Piece::Short(size.h),
-            Piece::Text("x"),
-            Piece::Short(size.f),
-            Piece::Text("\n"),
-        ],
-        sink,
-    )
-}
-
 fn tell_line<O: Sink>(line: Line<'_>, sink: &mut O) -> Result<(), WriteFault>
     ensures { TellsText (line_text line.entry) (O.state sink.old) (O.state sink.new) result }
 {
@@ -51,7 +33,19 @@ fn tell_line<O: Sink>(line: Line<'_>, sink: &mut O) -> Result<(), WriteFault>
             ],
             sink,
         ),
-        Line::Area(name, size) => tell_size(name, size, sink),
+        Line::Area(name, size) => tell(
+            &[
+                Piece::Text(name),
+                Piece::Text(" "),
+                Piece::Short(size.w),
+                Piece::Text("x"),
+                Piece::Short(size.h),
+                Piece::Text("x"),
+                Piece::Short(size.f),
+                Piece::Text("\n"),
+            ],
+            sink,
+        ),
     }
 }
 

@@ -48,14 +48,15 @@ fn byte_at(choice: &[bool], j: usize) -> u8
     requires { 8 * j + 7 < 2 ^ 63 }
     ensures { result ≡ choice_byte choice.now j }
 {
-    128 * bit_at(choice, 8 * j)
-        + 64 * bit_at(choice, 8 * j + 1)
-        + 32 * bit_at(choice, 8 * j + 2)
-        + 16 * bit_at(choice, 8 * j + 3)
-        + 8 * bit_at(choice, 8 * j + 4)
-        + 4 * bit_at(choice, 8 * j + 5)
-        + 2 * bit_at(choice, 8 * j + 6)
-        + bit_at(choice, 8 * j + 7)
+    let first = 8 * j;
+    128 * bit_at(choice, first)
+        + 64 * bit_at(choice, first + 1)
+        + 32 * bit_at(choice, first + 2)
+        + 16 * bit_at(choice, first + 3)
+        + 8 * bit_at(choice, first + 4)
+        + 4 * bit_at(choice, first + 5)
+        + 2 * bit_at(choice, first + 6)
+        + bit_at(choice, first + 7)
 }
 
 // Puts a choice, eight cells a byte.

@@ -25,12 +25,6 @@ abbrev pub IsRunCopied : Cells → Cells → (At → Option At) → At → ℕ �
 IsRunCopied samples picture source p w = (j : ℕ) → j < w →
     IsCopied samples picture (source (plus p (spot j 0 0))) (plus p (spot j 0 0))
 
--- two entries have one source
-pub record AreOneSource (left source : Option At) : Type 0 where
-  pub from : At
-  pub left_is : left ≡ Some from
-  pub is : source ≡ Some from
-
 -- two lists have one source at an index
 pub record HaveOneEntry (left sources : List (Option At)) (i : ℕ) : Type 0 where
   pub from : At

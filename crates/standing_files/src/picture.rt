@@ -31,20 +31,14 @@ fn frame_source(frames: &[u16], p: At) -> Option<At>
     })
 }
 
-// The source that a map file names for a cell.
-fn named_source(map_file: &MapFile, p: At) -> Option<At>
-    ensures { result ≡ named_source map_file.now p }
+// Whether a map file names a source for a cell of a picture, and the cell has the bytes of the samples' cell there.
+fn is_copied(samples: &Volume, picture: &Volume, map_file: &MapFile, p: At) -> bool
+    ensures { IsTrue result ↔ IsCopied samples.now picture.now (named_source map_file.now p) p }
 {
-    match map_file {
+    let source = match map_file {
         MapFile::Cells { map, .. } => map.at(p),
         MapFile::Frames { frames, .. } => frame_source(frames.as_slice(), p),
-    }
-}
-
-// Whether a cell of a picture has a source, and the bytes of the samples' cell there.
-fn is_copied(samples: &Volume, picture: &Volume, source: Option<At>, p: At) -> bool
-    ensures { IsTrue result ↔ IsCopied samples.now picture.now source p }
-{
+    };
     match source {
         None => false,
         Some(from) => picture.cell(p) == samples.cell(from),
@@ -156,7 +150,7 @@ fn first_in_row(samples: &Volume, picture: &Volume, map_file: &MapFile, row: usi
     }
     for i in start..start + w {
         let p = size.place_at(i);
-        if !is_copied(samples, picture, named_source(map_file, p), p) {
+        if !is_copied(samples, picture, map_file, p) {
             return Some(i);
         }
     }

@@ -8,7 +8,7 @@ ghost use Rattle.loop_walk.specs.Tables.{IsLength, table_count};
 ghost use Rattle.cert_file.specs.RecordFiles.{IsRecordFile, IsWalkFile};
 ghost use Rattle.sample_files.specs.Several.{AreSoundSamples};
 ghost use Rattle.standing_files.specs.Standing.{HasOneFrame, HasOneSource, walk_costs};
-ghost use Rattle.standing_files.specs.Steps.{AreOneSource, HaveOneEntry, JudgesRecords, JudgesWalk, Suit};
+ghost use Rattle.standing_files.specs.Steps.{HaveOneEntry, JudgesRecords, JudgesWalk, Suit};
 
 use crate::verdict::{MAP_RULE, Verdict};
 use cells::{At, Taps, Volume};
@@ -30,16 +30,6 @@ fn has_one_source(left: &Map, map: &Map, p: At) -> bool
     }
 }
 
-// Whether two entries have one source.
-fn are_one_source(left: Entry, entry: Entry) -> bool
-    ensures { IsTrue result → AreOneSource left entry }
-{
-    match entry.source() {
-        None => false,
-        Some(from) => left.source() == Some(from),
-    }
-}
-
 // Whether two lists have one source at an index.
 fn has_one_entry(left: &[Entry], entries: &[Entry], i: usize) -> bool
     ensures { IsTrue result → HaveOneEntry left.now entries.now i }
@@ -47,7 +37,10 @@ fn has_one_entry(left: &[Entry], entries: &[Entry], i: usize) -> bool
     if i >= left.len() || i >= entries.len() {
         return false;
     }
-    are_one_source(left[i], entries[i])
+    match entries[i].source() {
+        None => false,
+        Some(from) => left[i].source() == Some(from),
+    }
 }
 
 // Whether two lists have one source at each index of the second.
@@ -80,19 +73,12 @@ pub(crate) fn first_other_source(left: &Map, map: &Map) -> Option<usize>
     None
 }
 
-// Whether a walk and a frame map have one frame at a position.
-fn has_one_frame(walk: &[u16], frames: &[u16], i: usize) -> bool
-    ensures { IsTrue result ↔ HasOneFrame walk.now frames.now i }
-{
-    i < walk.len() && i < frames.len() && walk[i] == frames[i]
-}
-
 // The first position of a walk at which a frame map has no frame, or another one.
 fn first_other_frame(walk: &[u16], frames: &[u16]) -> Option<usize>
     ensures { FirstWithout (length walk.now) (HasOneFrame walk.now frames.now) result }
 {
     for i in 0..walk.len() {
-        if !has_one_frame(walk, frames, i) {
+        if i >= frames.len() || walk[i] != frames[i] {
             return Some(i);
         }
     }

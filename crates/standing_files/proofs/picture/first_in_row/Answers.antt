@@ -1,7 +1,6 @@
 use Rattle.std.proofs.lemmas.Grind.{common_steps}
 use Rattle.std.proofs.Common.{◌≡◌, ◌<◌, ◌≤◌, ◌+◌, ◌*◌, ◌∙◌, ℕ, List, [], ◌∷◌, ap, sym, subst, arith, below_more}
 use mathlib.Core.Bool.{false≢true}
-use Rattle.std.specs.Prelude.{Option}
 use Rattle.limits.specs.declared.bounds.TheConstants.{GREATEST_AXIS}
 use Rattle.cells.specs.declared.place.At.{At}
 use Rattle.cells.specs.declared.place.Size.{Size}
@@ -70,7 +69,7 @@ loop-i-preserved c =
     let here : p ≡ place_of (map_output map_file) i = c.place_at-p.ensures ∙ ap (λ size. place_of size i) (c.size-size.ensures.size ∙ first_is _ _ _ _ c.requires.one) in
     below_more (IsCopiedAt samples picture map_file) i c.loop-i.invariant
     (subst (λ (q : At). IsCopied samples picture (named_source map_file q) q) here
-    (subst (λ (source : Option At). IsCopied samples picture source p) c.named_source.ensures (c.is_copied.ensures.0 c.if-not-is_copied.false)))
+    (c.is_copied.ensures.0 c.if-not-is_copied.false))
 
 pub returns-then-not-is_copied-clause-none : goal.returns-then-not-is_copied-clause-none
 returns-then-not-is_copied-clause-none c = tt
@@ -89,8 +88,7 @@ returns-then-not-is_copied-clause-some c =
       below = omega (arith, row_end (map_output map_file).w c.args.row, inside);
       before = c.loop-i.invariant;
       here = λ copied. false≢true (sym c.if-not-is_copied.true ∙ c.is_copied.ensures.1
-          (subst (λ (source : Option At). IsCopied samples picture source p) (sym c.named_source.ensures)
-          (subst (λ (q : At). IsCopied samples picture (named_source map_file q) q) (sym here) copied)));
+          (subst (λ (q : At). IsCopied samples picture (named_source map_file q) q) (sym here) copied));
     }
 
 pub returns-clause-none : goal.returns-clause-none

@@ -122,9 +122,17 @@ pub list_32 : (name : List ℕ) (n place : ℕ) (xs : List ℕ) (now : ShelfStat
     → Found name place now r (list_read (number_read w32 any_rule) n) xs
 list_32 name n place xs now r count small took = found name w32 field_32 n place xs now r count (spells_all_32 xs small) took
 
+pub vec_32 : (name : List ℕ) (n place : ℕ) (xs ys : List ℕ) (now : ShelfState) (r : Reading) → ys ≡ xs → length xs ≡ n → All (λ n. n < 2 ^ 32) xs → Took name place (fields_32 xs) now r
+    → Found name place now r (list_read (number_read w32 any_rule) n) ys
+vec_32 name n place xs ys now r is count small took = subst (Found name place now r (list_read (number_read w32 any_rule) n)) (sym is) (list_32 name n place xs now r count small took)
+
 pub list_64 : (name : List ℕ) (n place : ℕ) (xs : List ℕ) (now : ShelfState) (r : Reading) → length xs ≡ n → All (λ n. n < 2 ^ 64) xs → Took name place (fields_64 xs) now r
     → Found name place now r (list_read (number_read w64 any_rule) n) xs
 list_64 name n place xs now r count small took = found name w64 field_64 n place xs now r count (spells_all_64 xs small) took
+
+pub vec_64 : (name : List ℕ) (n place : ℕ) (xs ys : List ℕ) (now : ShelfState) (r : Reading) → ys ≡ xs → length xs ≡ n → All (λ n. n < 2 ^ 64) xs → Took name place (fields_64 xs) now r
+    → Found name place now r (list_read (number_read w64 any_rule) n) ys
+vec_64 name n place xs ys now r is count small took = subst (Found name place now r (list_read (number_read w64 any_rule) n)) (sym is) (list_64 name n place xs now r count small took)
 
 -- the bytes of a list
 fields_long : (field : ℕ → List ℕ) (k : ℕ) → ((n : ℕ) → length (field n) ≡ k) → (xs : List ℕ) → length (flat_map field xs) ≡ k * length xs

@@ -9,9 +9,10 @@ ghost use Rattle.cert_file.specs.CutReading.{IsBoxAfter};
 ghost use Rattle.limits.specs.declared.bounds.TheConstants.{MOST_BOX_CELLS};
 
 use crate::cut_fields::{form, lawful_box, read_box_axis};
-use crate::number_lists::{read_list_16, read_list_32};
+use crate::number_lists::{fit_32, read_list_16};
 use cells::{At, Box3, Size};
 use file_bytes::FileReader;
+use items::Items;
 use map_canvas::Placement;
 use shelf_traits::{ReadError, Shelf};
 use std::alloc::Global;
@@ -186,6 +187,8 @@ pub(crate) fn read_boundary<S: Shelf>(
     let cols = read_cols(file, most, shelf, name)?;
     let path = read_list_16(alloc, file, rows as usize, shelf, name)?;
     let count = rows as usize * cols as usize;
-    let sums = read_list_32(alloc, file, count, shelf, name)?;
+    let sums = file.list(alloc, count, shelf, name)?;
+    fit_32(&sums);
+    let sums = Items::from_vec(sums);
     Ok(BoundaryRecord { path, sums })
 }

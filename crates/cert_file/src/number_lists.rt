@@ -1,6 +1,6 @@
 // Lists of numbers, as they are read.
 ghost use Rattle.std.specs.Prelude.{◌≡◌, ◌<◌, ◌+◌, ◌*◌, ◌^◌, All, IfOk, OnOk, length};
-ghost use Rattle.std.specs.Int.{w16, w32, w64};
+ghost use Rattle.std.specs.Int.{w16};
 ghost use Rattle.shelf_traits.specs.Files.{OnlyReadsFile};
 ghost use Rattle.file_bytes.specs.Reading.{Follows};
 ghost use Rattle.source_map.specs.Readings.{ReadsFrom, list_read, number_read};
@@ -45,56 +45,6 @@ pub(crate) fn read_list_16<S: Shelf>(
     match file.list(alloc, count, shelf, name) {
         Ok(numbers) => {
             fit_16(&numbers);
-            Ok(Items::from_vec(numbers))
-        }
-        Err(error) => Err(error),
-    }
-}
-
-// Reads so many numbers of 4 bytes.
-pub(crate) fn read_list_32<S: Shelf>(
-    alloc: Global,
-    file: &mut FileReader,
-    count: usize,
-    shelf: &mut S,
-    name: &str,
-) -> Result<Items<u32>, ReadError>
-    requires follows { Follows name.now (S.state shelf.old) file.old }
-    requires room { file.old.at + 4 * count < 2 ^ 63 }
-    ensures answer { ReadsFrom (Unit {0}) name.now file.old.at (S.state shelf.old)
-        (S.state shelf.new) file.new (list_read (number_read w32 any_rule) count) result }
-    ensures count { IfOk result (λ numbers. length numbers ≡ count) }
-    ensures place { OnOk result (file.new.at ≡ file.old.at + 4 * count) }
-    ensures reads { OnlyReadsFile name.now (S.state shelf.old) (S.state shelf.new) }
-{
-    match file.list(alloc, count, shelf, name) {
-        Ok(numbers) => {
-            fit_32(&numbers);
-            Ok(Items::from_vec(numbers))
-        }
-        Err(error) => Err(error),
-    }
-}
-
-// Reads so many numbers of 8 bytes.
-pub(crate) fn read_list_64<S: Shelf>(
-    alloc: Global,
-    file: &mut FileReader,
-    count: usize,
-    shelf: &mut S,
-    name: &str,
-) -> Result<Items<u64>, ReadError>
-    requires follows { Follows name.now (S.state shelf.old) file.old }
-    requires room { file.old.at + 8 * count < 2 ^ 63 }
-    ensures answer { ReadsFrom (Unit {0}) name.now file.old.at (S.state shelf.old)
-        (S.state shelf.new) file.new (list_read (number_read w64 any_rule) count) result }
-    ensures count { IfOk result (λ numbers. length numbers ≡ count) }
-    ensures place { OnOk result (file.new.at ≡ file.old.at + 8 * count) }
-    ensures reads { OnlyReadsFile name.now (S.state shelf.old) (S.state shelf.new) }
-{
-    match file.list(alloc, count, shelf, name) {
-        Ok(numbers) => {
-            fit_64(&numbers);
             Ok(Items::from_vec(numbers))
         }
         Err(error) => Err(error),

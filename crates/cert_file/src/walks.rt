@@ -11,10 +11,11 @@ ghost use Rattle.cert_file.specs.declared.file.RecordFile.TheVariants.{Walk};
 ghost use Rattle.limits.specs.declared.bounds.TheConstants.{MOST_LOOP_FRAMES};
 
 use crate::file::{MAGIC, RecordFile, WALK};
-use crate::number_lists::{read_list_16, read_list_64};
+use crate::number_lists::{fit_64, read_list_16};
 use crate::walk_fields::{lawful_frames, read_walk_start};
 use cells::Taps;
 use file_bytes::{FileReader, FileWriter};
+use items::Items;
 use loop_walk::table_count;
 use shelf_traits::{ReadError, Shelf, WriteFault};
 use source_map::{Head, put_head};
@@ -96,7 +97,9 @@ pub fn read_walk_file<S: Shelf>(
     lawful_frames(n)?;
     let start = read_walk_start(file, shelf, name)?;
     let walk = read_list_16(alloc, file, start.length as usize, shelf, name)?;
-    let tables = read_list_64(alloc, file, entry_count(n, start.length), shelf, name)?;
+    let tables = file.list(alloc, entry_count(n, start.length), shelf, name)?;
+    fit_64(&tables);
+    let tables = Items::from_vec(tables);
     file.end(shelf, name)?;
     Ok(RecordFile::Walk {
         head,

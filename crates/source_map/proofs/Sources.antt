@@ -7,7 +7,7 @@ use Rattle.limits.specs.declared.bounds.TheConstants.{GREATEST_AXIS, MOST_MAP_CE
 use Rattle.cells.specs.declared.place.At.{At}
 use Rattle.cells.specs.declared.place.Size.{Size}
 use Rattle.cells.specs.Places.{HasAxes, IsInside, cell_count, index_in, index_on_axes, on_axis, raster_index, spot}
-use Rattle.cells.specs.SizeLists.{AreSizes, IsInPart, frames_on, frames_to_part, size_of_part, stock_place}
+use Rattle.cells.specs.SizeLists.{AreSizes, frames_on, frames_to_part, size_of_part, stock_place}
 use Rattle.cells.proofs.Raster.{OnAxis, index_below, index_parts, has_index, on_axis_in}
 use Rattle.map_canvas.specs.Maps.{IsCoordinate, IsMap, IsSource, SourceMap, map_at, source_at}
 use Rattle.source_map.specs.declared.head.Version.{Version}
@@ -25,11 +25,6 @@ inside_source size axes p inside =
   where
     short : (z : ℤ) (c n : ℕ) → OnAxis n z c → n ≤ GREATEST_AXIS → IsCoordinate z
     short z c n on le = subst IsCoordinate (sym on.is) (omega (arith, ints), omega (arith, ints, on.below))
-
-pub part_inside : (samples : List Size) (part : ℕ) (size : Size) (p : At) → Some size ≡ size_of_part samples part → IsInside size p → IsInPart samples part p
-part_inside samples part size p is inside other other_is =
-    let same : size ≡ other = cc (is ∙ other_is) in
-    subst (λ s. IsInside s p) same inside
 
 few_frames : (sizes : List Size) (n : ℕ) → AllByRecursion HasAxes sizes → frames_to_part sizes n ≤ 4097 * length sizes
 few_frames [] n axes = omega arith

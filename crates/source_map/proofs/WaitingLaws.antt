@@ -96,11 +96,11 @@ grows_found read r n front longer le grows name now start found = record {
 }
 
 -- more sources that were read after none that waited
-pub more_after : (samples : List Size) (most : ℕ) (name : List ℕ) (was now : ShelfState) (r r' later : Reading) (front middle longer : List (Option At)) (result : Result (Unit {0}) ReadError) → 1 ≤ most
-    → length middle ≡ length front → r'.at ≡ r.at → Extends (source_read One samples) name was r front was r' middle → (AreSourcesIn samples front → AreSourcesIn samples middle)
-    → OnOk result (ReadsMore One samples 1 name was r' middle now later longer) → OnOk result (ReadsMore One samples most name was r front now later longer)
-more_after samples most name was now r r' later front middle longer (Err e) some count at grows sources more = tt
-more_after samples most name was now r r' later front middle longer (Ok x) some count at grows sources more = record {
+pub more_after : (version : Version) (samples : List Size) (most : ℕ) (name : List ℕ) (was now : ShelfState) (r r' later : Reading) (front middle longer : List (Option At)) (result : Result (Unit {0}) ReadError) → 1 ≤ most
+    → length middle ≡ length front → r'.at ≡ r.at → Extends (source_read version samples) name was r front was r' middle → (AreSourcesIn samples front → AreSourcesIn samples middle)
+    → OnOk result (ReadsMore version samples 1 name was r' middle now later longer) → OnOk result (ReadsMore version samples most name was r front now later longer)
+more_after version samples most name was now r r' later front middle longer (Err e) some count at grows sources more = tt
+more_after version samples most name was now r r' later front middle longer (Ok x) some count at grows sources more = record {
   some = omega (arith, more.some, count);
   most_of = omega (arith, more.most_of, count);
   place = omega (arith, more.place, count, at);

@@ -1,8 +1,7 @@
 // The head of map and record files.
 ghost use Rattle.std.specs.Prelude.{◌≡◌};
-ghost use Rattle.std.specs.List.{flat_map};
 ghost use Rattle.file_bytes.specs.Writing.{Puts};
-ghost use Rattle.source_map.specs.Heads.{IsHead, count_field, head_form, size_field, sizes_field, start_form, version_number};
+ghost use Rattle.source_map.specs.Heads.{IsHead, head_form, size_field, sizes_field, start_form, version_number};
 
 use cells::{Size, Sizes};
 use file_bytes::FileWriter;
@@ -50,16 +49,6 @@ pub(crate) fn put_size<S: Shelf>(file: &mut FileWriter, size: Size, shelf: &mut 
     file.put_number(size.f, shelf, name);
 }
 
-// Puts sizes, one after another.
-fn put_sizes<S: Shelf>(file: &mut FileWriter, sizes: &Sizes, shelf: &mut S, name: &str)
-    ensures { Puts name.now (flat_map size_field sizes.now) (S.state shelf.old) (S.state shelf.new)
-        file.old file.new }
-{
-    for part in 0..sizes.len() {
-        put_size(file, sizes.at(part + 1), shelf, name);
-    }
-}
-
 // Puts what comes before the sizes of the samples.
 pub(crate) fn put_start<S: Shelf>(
     file: &mut FileWriter,
@@ -78,24 +67,7 @@ pub(crate) fn put_start<S: Shelf>(
     put_size(file, output, shelf, name);
 }
 
-// Puts how many samples there are, where the version tells it.
-fn put_count<S: Shelf>(
-    file: &mut FileWriter,
-    version: Version,
-    count: u16,
-    shelf: &mut S,
-    name: &str,
-)
-    ensures { Puts name.now (count_field version count) (S.state shelf.old) (S.state shelf.new)
-        file.old file.new }
-{
-    match version {
-        Version::One => {}
-        Version::Two => file.put_number(count, shelf, name),
-    }
-}
-
-// Puts the sizes of the samples.
+// Puts the sizes of the samples, and before them how many they are where the version tells it.
 pub(crate) fn put_samples<S: Shelf>(
     file: &mut FileWriter,
     version: Version,
@@ -106,8 +78,14 @@ pub(crate) fn put_samples<S: Shelf>(
     ensures { Puts name.now (sizes_field version samples.now) (S.state shelf.old)
         (S.state shelf.new) file.old file.new }
 {
-    put_count(file, version, samples.len() as u16, shelf, name);
-    put_sizes(file, samples, shelf, name);
+    let count = samples.len();
+    match version {
+        Version::One => {}
+        Version::Two => file.put_number(count as u16, shelf, name),
+    }
+    for part in 0..count {
+        put_size(file, samples.at(part + 1), shelf, name);
+    }
 }
 
 /// Puts a head: the magic, the version and the kind, a byte each, the output's size, and the size of the

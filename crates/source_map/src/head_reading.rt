@@ -5,7 +5,8 @@ ghost use Rattle.shelf_traits.specs.Files.{OnlyReadsFile};
 ghost use Rattle.cells.specs.Places.{HasAxes};
 ghost use Rattle.cells.specs.SizeLists.{AreSizes};
 ghost use Rattle.file_bytes.specs.Reading.{Follows};
-ghost use Rattle.source_map.specs.Heads.{AreSamples, IsHead, IsKind, axis_rule, count_rule, head_read, is_kind, kind_rule, magic_rule, size_read, sizes_read, start_read, version_rule};
+ghost use Rattle.source_map.specs.Heads.{AreSamples, IsHead, IsKind, axis_rule, head_read, kind_rule, magic_rule, size_read, sizes_read, start_read, version_rule};
+ghost use Rattle.source_map.specs.MapFiles.{part_rule};
 ghost use Rattle.source_map.specs.Readings.{IsRefusal, ReadsFrom, field_read, list_read, number_read};
 
 use crate::head::{Head, Version};
@@ -53,26 +54,16 @@ fn lawful_version(n: u8, versions: u8, at: u64) -> Result<Version, ReadError>
     }
 }
 
-// Whether files of the version have a kind.
-fn has_kind(kinds: u8, version: Version, kind: u8) -> bool
-    ensures { result ≡ is_kind kinds version kind }
-{
-    match version {
-        Version::One => kind < kinds,
-        Version::Two => kind == 0,
-    }
-}
-
 // The kind, if files of the version have it.
 fn lawful_kind(n: u8, kinds: u8, version: Version, at: u64) -> Result<u8, ReadError>
     ensures rule { result ≡ kind_rule kinds version at n }
     ensures kind { IfOk result (IsKind kinds version) }
     ensures refusal { IfErr result IsRefusal }
 {
-    if has_kind(kinds, version, n) {
-        Ok(n)
-    } else {
-        form(at)
+    match version {
+        Version::One if n < kinds => Ok(n),
+        Version::Two if n == 0 => Ok(n),
+        _ => form(at),
     }
 }
 
@@ -95,21 +86,21 @@ fn lawful_axis(n: u32, at: u64) -> Result<u32, ReadError>
     }
 }
 
-// The count of samples, if it is from 1 to the most.
-fn lawful_count(n: u16, at: u64) -> Result<u16, ReadError>
-    ensures count { result ≡ count_rule at n }
-    ensures within { IfOk result (λ n. (1 ≤ n) × (n ≤ MOST_PARTS)) }
+// The number, if it is from 1 to another.
+fn lawful_part(n: u16, count: u32, at: u64) -> Result<u32, ReadError>
+    ensures rule { result ≡ part_rule count at n }
+    ensures within { IfOk result (λ n. (1 ≤ n) × (n ≤ count)) }
     ensures refusal { IfErr result IsRefusal }
 {
-    if n == 0 || u32::from(n) > MOST_PARTS {
+    if n == 0 || u32::from(n) > count {
         form(at)
     } else {
-        Ok(n)
+        Ok(u32::from(n))
     }
 }
 
-// Reads the magic.
-fn read_magic<S: Shelf>(
+/// Reads the 8 bytes with which a file begins. `Bad(Form)` comes at any others. It takes no memory.
+pub fn read_magic<S: Shelf>(
     file: &mut FileReader,
     magic: [u8; 8],
     shelf: &mut S,
@@ -195,19 +186,25 @@ pub(crate) fn read_axis<S: Shelf>(
     }
 }
 
-// Reads the count of the samples.
-fn read_count<S: Shelf>(file: &mut FileReader, shelf: &mut S, name: &str) -> Result<u16, ReadError>
+/// Reads a number from 1 to `count`, as that of a sample, in 2 bytes. `Bad(Form)` comes at any other. It
+/// takes no memory.
+pub fn read_part<S: Shelf>(
+    file: &mut FileReader,
+    count: u32,
+    shelf: &mut S,
+    name: &str,
+) -> Result<u32, ReadError>
     requires follows { Follows name.now (S.state shelf.old) file.old }
     requires room { file.old.at + 2 < 2 ^ 63 }
     ensures answer { ReadsFrom ⊥ name.now file.old.at (S.state shelf.old) (S.state shelf.new)
-        file.new (number_read w16 count_rule) result }
-    ensures within { IfOk result (λ n. (1 ≤ n) × (n ≤ MOST_PARTS)) }
+        file.new (number_read w16 (part_rule count)) result }
+    ensures within { IfOk result (λ n. (1 ≤ n) × (n ≤ count)) }
     ensures place { OnOk result (file.new.at ≡ file.old.at + 2) }
     ensures reads { OnlyReadsFile name.now (S.state shelf.old) (S.state shelf.new) }
 {
     let at = file.place();
     match file.number(shelf, name) {
-        Ok(n) => lawful_count(n, at),
+        Ok(n) => lawful_part(n, count, at),
         Err(error) => Err(error),
     }
 }
@@ -308,8 +305,8 @@ pub(crate) fn read_samples<S: Shelf>(
     match version {
         Version::One => read_sizes(file, 1, shelf, name),
         Version::Two => {
-            let count = read_count(file, shelf, name)?;
-            read_sizes(file, u32::from(count), shelf, name)
+            let count = read_part(file, MOST_PARTS, shelf, name)?;
+            read_sizes(file, count, shelf, name)
         }
     }
 }

@@ -3,15 +3,15 @@ ghost use Rattle.std.specs.Prelude.{◌≡◌, ◌≤◌, ◌<◌, ◌+◌, ◌*
 ghost use Rattle.std.specs.Int.{w16, w32};
 ghost use Rattle.shelf_traits.specs.Files.{OnlyReadsFile};
 ghost use Rattle.cells.specs.Places.{HasAxes, IsInside, IsSmall, cell_count, spot};
-ghost use Rattle.cells.specs.SizeLists.{AreSizes, IsInPart, stock_place};
+ghost use Rattle.cells.specs.SizeLists.{AreSizes};
 ghost use Rattle.file_bytes.specs.Reading.{Follows};
 ghost use Rattle.map_canvas.specs.Maps.{IsSource};
 ghost use Rattle.source_map.specs.Heads.{AreSamples};
-ghost use Rattle.source_map.specs.MapFiles.{IsInSamples, IsMapFile, IsVersionOneMap, MapReadsAs, MapReadsBy, below_rule, body_read, cells_read, cells_rule, frames_read, numbered_size, part_rule, place_read, same_rule, sample_read, samples_read, source_read, value_read, version_one_map_read, version_one_value_read};
+ghost use Rattle.source_map.specs.MapFiles.{IsInSamples, IsMapFile, IsVersionOneMap, MapReadsAs, MapReadsBy, below_rule, body_read, cells_read, cells_rule, frames_read, place_read, same_rule, sample_read, samples_read, source_read, version_one_map_read};
 ghost use Rattle.source_map.specs.Readings.{IsRefusal, ReadsFrom, list_read, number_read};
 
 use crate::head::Version;
-use crate::head_reading::{Start, form, read_axis, read_samples, read_start};
+use crate::head_reading::{Start, form, read_axis, read_part, read_samples, read_start};
 use crate::map_file::{MAGIC, MapFile};
 use crate::source_reading::read_sources;
 use cells::{At, Size, Sizes};
@@ -44,36 +44,15 @@ fn lawful_below(n: u16, bound: u32, at: u64) -> Result<u16, ReadError>
     }
 }
 
-// The number of a sample, if there are so many.
-fn lawful_part(n: u16, count: u32, at: u64) -> Result<u32, ReadError>
-    ensures rule { result ≡ part_rule count at n }
-    ensures within { IfOk result (λ n. (1 ≤ n) × (n ≤ count)) }
-    ensures refusal { IfErr result IsRefusal }
-{
-    if n == 0 || u32::from(n) > count {
-        form(at)
-    } else {
-        Ok(u32::from(n))
-    }
-}
-
-// How many cells an output has.
-fn cells_of(size: Size) -> u64
-    requires { HasAxes size }
-    ensures { result ≡ cell_count size }
-{
-    u64::from(size.w) * (u64::from(size.h) * u64::from(size.f))
-}
-
-// The limit on the cells of an output.
-fn few_cells(size: Size) -> Result<(), ReadError>
+/// Tries the limit on the cells of an output: `Limit Cells` comes above 2^20.
+pub fn few_cells(size: Size) -> Result<(), ReadError>
     requires { HasAxes size }
     ensures rule { result ≡ cells_rule size }
     ensures small { OnOk result (IsSmall size) }
     ensures few { OnOk result (cell_count size ≤ MOST_MAP_CELLS) }
     ensures refusal { IfErr result IsRefusal }
 {
-    let cells = cells_of(size);
+    let cells = u64::from(size.w) * (u64::from(size.h) * u64::from(size.f));
     if cells <= MOST_MAP_CELLS {
         Ok(())
     } else {
@@ -107,9 +86,9 @@ fn read_same<S: Shelf>(
     }
 }
 
-// Reads a number below a bound.
+/// Reads a number below a bound, in 2 bytes. `Bad(Form)` comes at any other. It takes no memory.
 #[inline(always)]
-fn read_below<S: Shelf>(
+pub fn read_below<S: Shelf>(
     file: &mut FileReader,
     bound: u32,
     shelf: &mut S,
@@ -126,28 +105,6 @@ fn read_below<S: Shelf>(
     let at = file.place();
     match file.number(shelf, name) {
         Ok(n) => lawful_below(n, bound, at),
-        Err(error) => Err(error),
-    }
-}
-
-// Reads the number of a sample.
-fn read_part<S: Shelf>(
-    file: &mut FileReader,
-    count: u32,
-    shelf: &mut S,
-    name: &str,
-) -> Result<u32, ReadError>
-    requires follows { Follows name.now (S.state shelf.old) file.old }
-    requires room { file.old.at + 2 < 2 ^ 63 }
-    ensures answer { ReadsFrom ⊥ name.now file.old.at (S.state shelf.old) (S.state shelf.new)
-        file.new (number_read w16 (part_rule count)) result }
-    ensures within { IfOk result (λ n. (1 ≤ n) × (n ≤ count)) }
-    ensures place { OnOk result (file.new.at ≡ file.old.at + 2) }
-    ensures reads { OnlyReadsFile name.now (S.state shelf.old) (S.state shelf.new) }
-{
-    let at = file.place();
-    match file.number(shelf, name) {
-        Ok(n) => lawful_part(n, count, at),
         Err(error) => Err(error),
     }
 }
@@ -187,80 +144,6 @@ pub fn read_place<S: Shelf>(
     Ok(place_at(x, y, f))
 }
 
-// Reads a place in a sample.
-#[inline(always)]
-fn read_place_in<S: Shelf>(
-    file: &mut FileReader,
-    samples: &Sizes,
-    part: u32,
-    shelf: &mut S,
-    name: &str,
-) -> Result<At, ReadError>
-    requires follows { Follows name.now (S.state shelf.old) file.old }
-    requires room { file.old.at + 6 < 2 ^ 63 }
-    requires samples { AreSizes samples.now }
-    requires from { 1 ≤ part }
-    requires to { part ≤ length samples.now }
-    ensures answer { ReadsFrom ⊥ name.now file.old.at (S.state shelf.old) (S.state shelf.new)
-        file.new (place_read (numbered_size samples.now part)) result }
-    ensures inside { IfOk result (IsInPart samples.now part) }
-    ensures source { IfOk result IsSource }
-    ensures stock { IfOk result (λ p. IsSource (stock_place samples.now part p)) }
-    ensures in_samples { IfOk result (λ p.
-        IsInSamples samples.now (stock_place samples.now part p)) }
-    ensures in_one { IfOk result (λ p. part ≡ 1 → IsInSamples samples.now p) }
-    ensures place { OnOk result (file.new.at ≡ file.old.at + 6) }
-    ensures reads { OnlyReadsFile name.now (S.state shelf.old) (S.state shelf.new) }
-{
-    read_place(file, samples.at(part), shelf, name)
-}
-
-// Reads the source of a cell, in version 1.
-#[inline(always)]
-fn read_place_source<S: Shelf>(
-    file: &mut FileReader,
-    samples: &Sizes,
-    shelf: &mut S,
-    name: &str,
-) -> Result<Option<At>, ReadError>
-    requires follows { Follows name.now (S.state shelf.old) file.old }
-    requires room { file.old.at + 6 < 2 ^ 63 }
-    requires samples { AreSizes samples.now }
-    ensures answer { ReadsFrom ⊥ name.now file.old.at (S.state shelf.old)
-        (S.state shelf.new) file.new (source_read Version.One samples.now) result }
-    ensures source { IfOk result (λ source. IfSome source IsSource) }
-    ensures inside { IfOk result (λ source. IsSomeAnd source (IsInSamples samples.now)) }
-    ensures place { OnOk result (file.new.at ≡ file.old.at + 6) }
-    ensures reads { OnlyReadsFile name.now (S.state shelf.old) (S.state shelf.new) }
-{
-    match read_place_in(file, samples, 1, shelf, name) {
-        Ok(from) => Ok(Some(from)),
-        Err(error) => Err(error),
-    }
-}
-
-// Reads the source of a cell, in version 2.
-fn read_numbered_source<S: Shelf>(
-    file: &mut FileReader,
-    samples: &Sizes,
-    shelf: &mut S,
-    name: &str,
-) -> Result<Option<At>, ReadError>
-    requires follows { Follows name.now (S.state shelf.old) file.old }
-    requires room { file.old.at + 8 < 2 ^ 63 }
-    requires samples { AreSizes samples.now }
-    ensures answer { ReadsFrom ⊥ name.now file.old.at (S.state shelf.old)
-        (S.state shelf.new) file.new (source_read Version.Two samples.now) result }
-    ensures source { IfOk result (λ source. IfSome source IsSource) }
-    ensures inside { IfOk result (λ source. IsSomeAnd source (IsInSamples samples.now)) }
-    ensures place { OnOk result (file.new.at ≡ file.old.at + 8) }
-    ensures reads { OnlyReadsFile name.now (S.state shelf.old) (S.state shelf.new) }
-{
-    let part = read_part(file, samples.len(), shelf, name)?;
-    let at = read_place_in(file, samples, part, shelf, name)?;
-    Ok(Some(samples.stock(part, at)))
-}
-
 // Reads the source of a cell.
 pub(crate) fn read_source<S: Shelf>(
     file: &mut FileReader,
@@ -280,8 +163,15 @@ pub(crate) fn read_source<S: Shelf>(
     ensures reads { OnlyReadsFile name.now (S.state shelf.old) (S.state shelf.new) }
 {
     match version {
-        Version::One => read_place_source(file, samples, shelf, name),
-        Version::Two => read_numbered_source(file, samples, shelf, name),
+        Version::One => {
+            let from = read_place(file, samples.at(1), shelf, name)?;
+            Ok(Some(from))
+        }
+        Version::Two => {
+            let part = read_part(file, samples.len(), shelf, name)?;
+            let at = read_place(file, samples.at(part), shelf, name)?;
+            Ok(Some(samples.stock(part, at)))
+        }
     }
 }
 
@@ -436,26 +326,6 @@ fn read_body<S: Shelf>(
     }
 }
 
-// Reads a map, and not whether the file ends after it.
-fn read_value<S: Shelf>(
-    alloc: Global,
-    file: &mut FileReader,
-    shelf: &mut S,
-    name: &str,
-) -> Result<MapFile, ReadError>
-    requires follows { Follows name.now (S.state shelf.old) file.old }
-    requires start { file.old.at ≡ 0 }
-    ensures answer { ReadsFrom (Unit {0}) name.now file.old.at (S.state shelf.old)
-        (S.state shelf.new) file.new value_read result }
-    ensures lawful { IfOk result IsMapFile }
-    ensures reads { OnlyReadsFile name.now (S.state shelf.old) (S.state shelf.new) }
-{
-    match read_start(file, MAGIC, 2, 2, shelf, name) {
-        Ok(start) => read_body(alloc, file, start, shelf, name),
-        Err(error) => Err(error),
-    }
-}
-
 /// Reads a map from the named file, of either kind and version, to the file's end. It takes memory as
 /// the sources come.
 ///
@@ -470,30 +340,10 @@ pub fn read_map<S: Shelf>(alloc: Global, shelf: &mut S, name: &str) -> Result<Ma
     ensures reads { OnlyReadsFile name.now (S.state shelf.old) (S.state shelf.new) }
 {
     let mut file = FileReader::new();
-    let value = read_value(alloc, &mut file, shelf, name)?;
+    let start = read_start(&mut file, MAGIC, 2, 2, shelf, name)?;
+    let value = read_body(alloc, &mut file, start, shelf, name)?;
     file.end(shelf, name)?;
     Ok(value)
-}
-
-// Reads a map of version 1 and kind 0, and not whether the file ends after it.
-fn read_version_one_value<S: Shelf>(
-    alloc: Global,
-    file: &mut FileReader,
-    shelf: &mut S,
-    name: &str,
-) -> Result<MapFile, ReadError>
-    requires follows { Follows name.now (S.state shelf.old) file.old }
-    requires start { file.old.at ≡ 0 }
-    ensures answer { ReadsFrom (Unit {0}) name.now file.old.at (S.state shelf.old)
-        (S.state shelf.new) file.new version_one_value_read result }
-    ensures lawful { IfOk result IsMapFile }
-    ensures version { IfOk result IsVersionOneMap }
-    ensures reads { OnlyReadsFile name.now (S.state shelf.old) (S.state shelf.new) }
-{
-    match read_start(file, MAGIC, 1, 1, shelf, name) {
-        Ok(start) => read_cells(alloc, file, Version::One, start.output, shelf, name),
-        Err(error) => Err(error),
-    }
 }
 
 /// Reads a cell map of version 1 from the named file, to the file's end: as `read_map` does, but every
@@ -510,7 +360,8 @@ pub fn read_version_one_map<S: Shelf>(
     ensures reads { OnlyReadsFile name.now (S.state shelf.old) (S.state shelf.new) }
 {
     let mut file = FileReader::new();
-    let value = read_version_one_value(alloc, &mut file, shelf, name)?;
+    let start = read_start(&mut file, MAGIC, 1, 1, shelf, name)?;
+    let value = read_cells(alloc, &mut file, Version::One, start.output, shelf, name)?;
     file.end(shelf, name)?;
     Ok(value)
 }

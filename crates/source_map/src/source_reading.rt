@@ -5,7 +5,6 @@ ghost use Rattle.cells.specs.Places.{IsSmall, cell_count};
 ghost use Rattle.cells.specs.SizeLists.{AreSizes};
 ghost use Rattle.file_bytes.specs.Reading.{Follows};
 ghost use Rattle.map_canvas.specs.Maps.{IsMap};
-ghost use Rattle.source_map.specs.declared.head.Version.TheVariants as version_word;
 ghost use Rattle.source_map.specs.MapFiles.{IsInSamples, source_read, sources_read};
 ghost use Rattle.source_map.specs.Readings.{ReadsFrom};
 ghost use Rattle.source_map.specs.Waiting.{ReadsMore};
@@ -44,34 +43,7 @@ fn read_next<S: Shelf>(
     Ok(())
 }
 
-// Reads the sources of version 1 that wait whole, or the next one where none does.
-fn read_places<S: Shelf>(
-    file: &mut FileReader,
-    samples: &Sizes,
-    sources: &mut Vec<Entry>,
-    missing: usize,
-    shelf: &mut S,
-    name: &str,
-) -> Result<(), ReadError>
-    requires follows { Follows name.now (S.state shelf.old) file.old }
-    requires room { file.old.at + 8 * missing < 2 ^ 63 }
-    requires some { 1 ≤ missing }
-    requires samples { AreSizes samples.now }
-    requires capacity { vec_len sources.old < vec_capacity sources.old }
-    ensures more { OnOk result (ReadsMore version_word.One samples.now missing
-        name.now (S.state shelf.old) file.old sources.old.items
-        (S.state shelf.new) file.new sources.new.items) }
-    ensures stops { IfErr result (λ error. ReadsFrom ⊥ name.now file.old.at (S.state shelf.old)
-        (S.state shelf.new) file.new (source_read version_word.One samples.now) (Err error)) }
-    ensures reads { OnlyReadsFile name.now (S.state shelf.old) (S.state shelf.new) }
-{
-    if take_sources(file, samples, sources, missing) > 0 {
-        return Ok(());
-    }
-    read_next(file, Version::One, samples, sources, shelf, name)
-}
-
-// Reads sources, one at least.
+// Reads sources, one at least: those of version 1 that wait whole, or the next one where none does.
 fn read_more<S: Shelf>(
     file: &mut FileReader,
     version: Version,
@@ -94,8 +66,8 @@ fn read_more<S: Shelf>(
     ensures reads { OnlyReadsFile name.now (S.state shelf.old) (S.state shelf.new) }
 {
     match version {
-        Version::One => read_places(file, samples, sources, missing, shelf, name),
-        Version::Two => read_next(file, version, samples, sources, shelf, name),
+        Version::One if take_sources(file, samples, sources, missing) > 0 => Ok(()),
+        _ => read_next(file, version, samples, sources, shelf, name),
     }
 }
 

@@ -67,3 +67,6 @@ returns-clause-answer g c =
     let all : length c.reading.sources.items ≡ cell_count c.args.size = omega (arith, c.reading.invariant.few, c.len.ensures, c.reading-test.false, c.cells-count.ensures) in
     sources_end c.args.name.now c.args.file.now.at (length c.reading.sources.items) (cell_count c.args.size) (source_read c.args.version c.args.samples.now) c.args.size (state c.args.shelf.now) (state c.reading.shelf)
     c.reading.file c.reading.sources.items c.from_sources.result all c.from_sources.ensures c.reading.invariant.reads c.reading.invariant.found
+
+pub reading-smaller : goal.reading-smaller
+reading-smaller g c = omega (arith, (c.in_ok-read_more.ensures {u = tt}).more.some, ap length c.make_room.ensures.items, c.reading-test.true, c.len-in-reading.ensures)

@@ -1,4 +1,4 @@
-use Rattle.std.proofs.Common.{◌*◌, ◌+◌, ◌++◌, [], ◌∷◌, refl, sym, ap, ◌∙◌, subst, arith, ◌≡◌}
+use Rattle.std.proofs.Common.{◌*◌, ◌+◌, ◌++◌, [], ◌∷◌, refl, sym, ◌∙◌, subst, arith, ◌≡◌}
 use Rattle.std.proofs.lemmas.List.Elements.{All-push}
 use Rattle.std.specs.Prelude.{Option, Some, All, IfSome, IsSomeAnd}
 use Rattle.cells.specs.declared.place.At.{At}

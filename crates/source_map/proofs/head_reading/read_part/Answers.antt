@@ -3,7 +3,7 @@ use Rattle.std.specs.Int.{w16}
 use Rattle.source_map.specs.MapFiles.{part_rule}
 use Rattle.source_map.specs.Readings.{number_rule}
 use Rattle.source_map.proofs.FieldLaws.{field_stops, number_16}
-use Rattle.turned_map.proofs.fields.read_part.Goals as goal
+use Rattle.source_map.proofs.head_reading.read_part.Goals as goal
 
 pub returns-in-Err-clause-answer : goal.returns-in-Err-clause-answer
 returns-in-Err-clause-answer g c =

@@ -2,11 +2,10 @@
 //!
 //! The map has places of the turned samples (crate turned); the file names for each output cell the cell of the
 //! sample as it is before the turn, and the turn. The contracts say which bytes the file has
-//! (specs/TurnedFiles.antt). `turned_file` writes, `fields` and `turned_reading` read, `law` has what holds of
-//! writing and reading together. README.md says the definitions and the promises in words.
+//! (specs/TurnedFiles.antt). `turned_file` writes, `turned_reading` reads, `law` has what holds of writing and
+//! reading together. README.md says the definitions and the promises in words.
 #![tactic(auto)]
 
-mod fields;
 mod law;
 mod turned_file;
 mod turned_reading;

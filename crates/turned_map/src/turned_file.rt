@@ -5,17 +5,16 @@ ghost use Rattle.cells.specs.SizeLists.{AreSizes};
 ghost use Rattle.shelf_traits.specs.Files.{Changes, OnlyWritesFile, WritesRose};
 ghost use Rattle.shelf_traits.specs.Written.{HoldsPart, HoldsText};
 ghost use Rattle.file_bytes.specs.Writing.{Puts};
-ghost use Rattle.source_map.specs.MapFiles.{IsShort};
 ghost use Rattle.turned.specs.TurnedParts.{turned_sizes_of};
 ghost use Rattle.turned.specs.TurnedPlaces.{IsInTurned};
-ghost use Rattle.turned_map.specs.TurnedFiles.{IsTurnedMap, turned_field, turned_map_form, turned_source, untouched_of};
+ghost use Rattle.turned_map.specs.TurnedFiles.{IsTurnedMap, turned_map_form, turned_source};
 
 use cells::{At, Sizes};
 use file_bytes::FileWriter;
 use map_canvas::{Entry, Map};
 use shelf_traits::{Shelf, WriteFault};
 use source_map::{Head, Version, place_bytes, put_head};
-use turned::{MOST_TURNED, Turned, turned_sizes, untouched_with};
+use turned::{MOST_TURNED, turned_sizes, untouched_with};
 
 /// The version of the file of a map over turned samples.
 pub const TURNED_VERSION: u8 = 2;
@@ -48,33 +47,6 @@ fn copy_of(samples: &Sizes) -> Sizes
     copy
 }
 
-// Puts a cell of a sample and its turn.
-fn put_turned<S: Shelf>(file: &mut FileWriter, there: Turned, shelf: &mut S, name: &str)
-    requires sample { there.sample < 2 ^ 16 }
-    requires turn { there.turn < 2 ^ 16 }
-    requires at { IsShort there.at }
-    ensures { Puts name.now (turned_field there) (S.state shelf.old) (S.state shelf.new)
-        file.old file.new }
-{
-    file.put_number(there.sample as u16, shelf, name);
-    file.put_number(there.turn as u16, shelf, name);
-    file.put(&place_bytes(there.at), shelf, name);
-}
-
-// The cell that is moved to a place of the turned samples.
-fn untouched_at(samples: &Sizes, sizes: &Sizes, from: At) -> Turned
-    requires few { length samples.now ≤ MOST_TURNED }
-    requires are { AreSizes samples.now }
-    requires sizes { sizes.now ≡ turned_sizes_of samples.now }
-    requires inside { IsInTurned samples.now from }
-    ensures untouched { result ≡ untouched_of samples.now from }
-    ensures sample { result.sample < 2 ^ 16 }
-    ensures turn { result.turn < 2 ^ 16 }
-    ensures at { IsShort result.at }
-{
-    untouched_with(samples, sizes, from)
-}
-
 // Puts the sources of filled cells.
 fn put_sources<S: Shelf>(
     file: &mut FileWriter,
@@ -92,8 +64,10 @@ fn put_sources<S: Shelf>(
         (S.state shelf.old) (S.state shelf.new) file.old file.new }
 {
     for source in sources {
-        let there = untouched_at(samples, sizes, source.source().unwrap());
-        put_turned(file, there, shelf, name);
+        let there = untouched_with(samples, sizes, source.source().unwrap());
+        file.put_number(there.sample as u16, shelf, name);
+        file.put_number(there.turn as u16, shelf, name);
+        file.put(&place_bytes(there.at), shelf, name);
     }
 }
 

@@ -1,27 +1,59 @@
 // The file of a map over turned samples, read.
-ghost use Rattle.std.specs.Prelude.{◌≡◌, ◌≤◌, ◌<◌, ◌+◌, ◌^◌, All, IfOk, IfSome, IsSomeAnd, OnOk, length};
+ghost use Rattle.std.specs.Prelude.{◌≡◌, ◌≤◌, ◌<◌, ◌+◌, ◌^◌, All, IfErr, IfOk, IfSome, IsSomeAnd, OnOk, length};
 ghost use Rattle.shelf_traits.specs.Files.{OnlyReadsFile};
-ghost use Rattle.cells.specs.Places.{HasAxes, IsInside, IsSmall, cell_count};
+ghost use Rattle.cells.specs.Places.{HasAxes, IsSmall, cell_count};
 ghost use Rattle.cells.specs.SizeLists.{AreSizes};
 ghost use Rattle.file_bytes.specs.Reading.{Follows};
 ghost use Rattle.map_canvas.specs.Maps.{IsMap, IsSource};
-ghost use Rattle.std.specs.Int.{w16};
-ghost use Rattle.source_map.specs.MapFiles.{part_rule, place_read};
-ghost use Rattle.source_map.specs.Readings.{ReadsFrom, number_read};
+ghost use Rattle.std.specs.Int.{w8};
+ghost use Rattle.source_map.specs.MapFiles.{same_rule};
+ghost use Rattle.source_map.specs.Readings.{IsRefusal, ReadsFrom, number_read};
 ghost use Rattle.turned.specs.TurnedParts.{turned_sizes_of};
-ghost use Rattle.turned.specs.TurnedPlaces.{IsInTurned, IsTurned, sample_size, turned_place};
-ghost use Rattle.turned_map.specs.TurnedFiles.{IsTurnedFile, TurnedReadsAs, turned_body_read, turned_samples_read, turned_sizes_read, turned_source_read, turned_sources_read, turned_start_read, turned_value_read};
+ghost use Rattle.turned.specs.TurnedPlaces.{IsInTurned};
+ghost use Rattle.turned_map.specs.TurnedFiles.{IsTurnedFile, TurnedReadsAs, turned_body_read, turned_samples_read, turned_source_read, turned_sources_read, turned_start_read};
 
-use crate::fields::{few_cells, read_magic, read_mark, read_part, read_turn};
-use crate::turned_file::{TURNED_KIND, TURNED_VERSION, TurnedFile};
+use crate::turned_file::{MAGIC, TURNED_KIND, TURNED_VERSION, TurnedFile};
 use cells::{At, Size, Sizes};
 use file_bytes::{FileReader, make_room};
 use limits::MOST_MAP_CELLS;
 use map_canvas::{Entry, Map};
-use shelf_traits::{ReadError, Shelf};
-use source_map::{read_place, read_size, read_sizes};
+use shelf_traits::{FormFault, ReadError, Shelf};
+use source_map::{few_cells, read_below, read_magic, read_part, read_place, read_size, read_sizes};
 use std::alloc::Global;
-use turned::{MOST_TURNED, Turned, turned_place, turned_sizes};
+use turned::{MOST_TURNED, TURNS, Turned, turned_place, turned_sizes};
+
+// The number, if it is that.
+fn lawful_mark(n: u8, wanted: u8, at: u64) -> Result<u8, ReadError>
+    ensures rule { result ≡ same_rule wanted at n }
+    ensures refusal { IfErr result IsRefusal }
+{
+    if n == wanted {
+        Ok(n)
+    } else {
+        Err(ReadError::Bad(FormFault::Form(at)))
+    }
+}
+
+// Reads a version or a kind, of which one alone is taken.
+fn read_mark<S: Shelf>(
+    file: &mut FileReader,
+    wanted: u8,
+    shelf: &mut S,
+    name: &str,
+) -> Result<u8, ReadError>
+    requires follows { Follows name.now (S.state shelf.old) file.old }
+    requires room { file.old.at + 1 < 2 ^ 63 }
+    ensures answer { ReadsFrom ⊥ name.now file.old.at (S.state shelf.old) (S.state shelf.new)
+        file.new (number_read w8 (same_rule wanted)) result }
+    ensures place { OnOk result (file.new.at ≡ file.old.at + 1) }
+    ensures reads { OnlyReadsFile name.now (S.state shelf.old) (S.state shelf.new) }
+{
+    let at = file.place();
+    match file.u8(shelf, name) {
+        Ok(n) => lawful_mark(n, wanted, at),
+        Err(error) => Err(error),
+    }
+}
 
 // Reads what comes before the sizes of the samples, of which the output's size is kept.
 fn read_start<S: Shelf>(file: &mut FileReader, shelf: &mut S, name: &str) -> Result<Size, ReadError>
@@ -33,35 +65,14 @@ fn read_start<S: Shelf>(file: &mut FileReader, shelf: &mut S, name: &str) -> Res
     ensures place { OnOk result (file.new.at ≡ file.old.at + 22) }
     ensures reads { OnlyReadsFile name.now (S.state shelf.old) (S.state shelf.new) }
 {
-    read_magic(file, shelf, name)?;
+    read_magic(file, MAGIC, shelf, name)?;
     let _version = read_mark(file, TURNED_VERSION, shelf, name)?;
     let _kind = read_mark(file, TURNED_KIND, shelf, name)?;
     read_size(file, shelf, name)
 }
 
-// Reads the sizes of the samples.
-fn read_samples<S: Shelf>(
-    file: &mut FileReader,
-    shelf: &mut S,
-    name: &str,
-) -> Result<Sizes, ReadError>
-    requires follows { Follows name.now (S.state shelf.old) file.old }
-    requires room { file.old.at + 194 < 2 ^ 63 }
-    ensures answer { ReadsFrom ⊥ name.now file.old.at (S.state shelf.old) (S.state shelf.new)
-        file.new turned_sizes_read result }
-    ensures sizes { IfOk result AreSizes }
-    ensures few { IfOk result (λ samples. length samples ≤ MOST_TURNED) }
-    ensures place { OnOk result (file.new.at ≤ file.old.at + 26) }
-    ensures reads { OnlyReadsFile name.now (S.state shelf.old) (S.state shelf.new) }
-{
-    match read_part(file, MOST_TURNED, shelf, name) {
-        Ok(count) => read_sizes(file, count, shelf, name),
-        Err(error) => Err(error),
-    }
-}
-
 // Reads the sizes of the samples, and tries the limit on the output's cells.
-fn read_samples_within<S: Shelf>(
+fn read_samples<S: Shelf>(
     file: &mut FileReader,
     output: Size,
     shelf: &mut S,
@@ -79,61 +90,10 @@ fn read_samples_within<S: Shelf>(
     ensures place { OnOk result (file.new.at ≤ file.old.at + 26) }
     ensures reads { OnlyReadsFile name.now (S.state shelf.old) (S.state shelf.new) }
 {
-    let samples = read_samples(file, shelf, name)?;
+    let count = read_part(file, MOST_TURNED, shelf, name)?;
+    let samples = read_sizes(file, count, shelf, name)?;
     few_cells(output)?;
     Ok(samples)
-}
-
-// The place of the turned samples to which a turn moves a cell that was read.
-fn moved(samples: &Sizes, sizes: &Sizes, there: Turned) -> At
-    requires few { length samples.now ≤ MOST_TURNED }
-    requires are { AreSizes samples.now }
-    requires sizes { sizes.now ≡ turned_sizes_of samples.now }
-    requires turned { IsTurned samples.now there }
-    ensures place { result ≡ turned_place samples.now there }
-    ensures inside { IsInTurned samples.now result }
-    ensures source { IsSource result }
-{
-    turned_place(samples, sizes, there)
-}
-
-// Reads a place in a sample.
-fn read_place_in<S: Shelf>(
-    file: &mut FileReader,
-    samples: &Sizes,
-    sample: u32,
-    shelf: &mut S,
-    name: &str,
-) -> Result<At, ReadError>
-    requires follows { Follows name.now (S.state shelf.old) file.old }
-    requires room { file.old.at + 6 < 2 ^ 63 }
-    requires from { 1 ≤ sample }
-    requires to { sample ≤ length samples.now }
-    ensures answer { ReadsFrom ⊥ name.now file.old.at (S.state shelf.old) (S.state shelf.new)
-        file.new (place_read (sample_size samples.now sample)) result }
-    ensures inside { IfOk result (IsInside (sample_size samples.now sample)) }
-    ensures place { OnOk result (file.new.at ≡ file.old.at + 6) }
-    ensures reads { OnlyReadsFile name.now (S.state shelf.old) (S.state shelf.new) }
-{
-    read_place(file, samples.at(sample), shelf, name)
-}
-
-// Reads the number of one of these samples.
-fn read_number<S: Shelf>(
-    file: &mut FileReader,
-    samples: &Sizes,
-    shelf: &mut S,
-    name: &str,
-) -> Result<u32, ReadError>
-    requires follows { Follows name.now (S.state shelf.old) file.old }
-    requires room { file.old.at + 2 < 2 ^ 63 }
-    ensures answer { ReadsFrom ⊥ name.now file.old.at (S.state shelf.old) (S.state shelf.new)
-        file.new (number_read w16 (part_rule (length samples.now))) result }
-    ensures within { IfOk result (λ n. (1 ≤ n) × (n ≤ length samples.now)) }
-    ensures place { OnOk result (file.new.at ≡ file.old.at + 2) }
-    ensures reads { OnlyReadsFile name.now (S.state shelf.old) (S.state shelf.new) }
-{
-    read_part(file, samples.len(), shelf, name)
 }
 
 // Reads the source of a cell.
@@ -156,10 +116,15 @@ fn read_source<S: Shelf>(
     ensures place { OnOk result (file.new.at ≡ file.old.at + 10) }
     ensures reads { OnlyReadsFile name.now (S.state shelf.old) (S.state shelf.new) }
 {
-    let sample = read_number(file, samples, shelf, name)?;
-    let turn = read_turn(file, shelf, name)?;
-    let at = read_place_in(file, samples, sample, shelf, name)?;
-    Ok(Some(moved(samples, sizes, Turned { sample, turn, at })))
+    let sample = read_part(file, samples.len(), shelf, name)?;
+    let turn = read_below(file, TURNS, shelf, name)?;
+    let at = read_place(file, samples.at(sample), shelf, name)?;
+    let there = Turned {
+        sample,
+        turn: u32::from(turn),
+        at,
+    };
+    Ok(Some(turned_place(samples, sizes, there)))
 }
 
 // Reads the sources of all cells of an output.
@@ -213,29 +178,9 @@ fn read_body<S: Shelf>(
     ensures lawful { IfOk result IsTurnedFile }
     ensures reads { OnlyReadsFile name.now (S.state shelf.old) (S.state shelf.new) }
 {
-    let samples = read_samples_within(file, output, shelf, name)?;
+    let samples = read_samples(file, output, shelf, name)?;
     let map = read_sources(alloc, file, &samples, output, shelf, name)?;
     Ok(TurnedFile { map, samples })
-}
-
-// Reads a map, and not whether the file ends after it.
-fn read_value<S: Shelf>(
-    alloc: Global,
-    file: &mut FileReader,
-    shelf: &mut S,
-    name: &str,
-) -> Result<TurnedFile, ReadError>
-    requires follows { Follows name.now (S.state shelf.old) file.old }
-    requires start { file.old.at ≡ 0 }
-    ensures answer { ReadsFrom (Unit {0}) name.now file.old.at (S.state shelf.old)
-        (S.state shelf.new) file.new turned_value_read result }
-    ensures lawful { IfOk result IsTurnedFile }
-    ensures reads { OnlyReadsFile name.now (S.state shelf.old) (S.state shelf.new) }
-{
-    match read_start(file, shelf, name) {
-        Ok(output) => read_body(alloc, file, output, shelf, name),
-        Err(error) => Err(error),
-    }
 }
 
 /// Reads a map over turned samples from the named file, to the file's end. It takes memory as the sources
@@ -257,7 +202,8 @@ pub fn read_turned_map<S: Shelf>(
     ensures reads { OnlyReadsFile name.now (S.state shelf.old) (S.state shelf.new) }
 {
     let mut file = FileReader::new();
-    let value = read_value(alloc, &mut file, shelf, name)?;
+    let output = read_start(&mut file, shelf, name)?;
+    let value = read_body(alloc, &mut file, output, shelf, name)?;
     file.end(shelf, name)?;
     Ok(value)
 }

@@ -22,7 +22,7 @@ returns-in_err-samples-clause-answer g c =
     let name = c.args.name.now in
     let p = err_from_is_err_and c.from_residual.result c.from_residual.ensures.1 in
     rw (p.1, p.2)
-    (first_stops (Unit {0}) name c.args.file.now.at (turned_samples_read c.args.output) (λ (v0 : List Size). chain (turned_sources_read v0 c.args.output) (λ (v1 : SourceMap). end v0 v1)) (state c.args.shelf.now) (state c.read_samples_within.new.shelf) c.read_samples_within.new.file c.in_err-samples.field-0.0 (lifted (Unit {0}) name c.args.file.now.at (turned_samples_read c.args.output) (state c.args.shelf.now) (state c.read_samples_within.new.shelf) c.read_samples_within.new.file (Err c.in_err-samples.field-0.0) c.in_err-samples.ensures.answer))
+    (first_stops (Unit {0}) name c.args.file.now.at (turned_samples_read c.args.output) (λ (v0 : List Size). chain (turned_sources_read v0 c.args.output) (λ (v1 : SourceMap). end v0 v1)) (state c.args.shelf.now) (state c.read_samples.new.shelf) c.read_samples.new.file c.in_err-samples.field-0.0 (lifted (Unit {0}) name c.args.file.now.at (turned_samples_read c.args.output) (state c.args.shelf.now) (state c.read_samples.new.shelf) c.read_samples.new.file (Err c.in_err-samples.field-0.0) c.in_err-samples.ensures.answer))
 
 pub returns-in_err-map-clause-answer : goal.returns-in_err-map-clause-answer
 returns-in_err-map-clause-answer g c =
@@ -32,9 +32,9 @@ returns-in_err-map-clause-answer g c =
     let v0 : List Size = c.in_ok-samples.samples in
     let ok0 = c.in_ok-samples.ensures {u = tt} in
     rw (p.1, p.2)
-    (then_reads (Unit {0}) name c.args.file.now.at (turned_samples_read c.args.output) (λ (v0 : List Size). chain (turned_sources_read v0 c.args.output) (λ (v1 : SourceMap). end v0 v1)) (state c.args.shelf.now) (state c.read_samples_within.new.shelf) (state c.read_sources.new.shelf) c.read_samples_within.new.file c.read_sources.new.file v0 (Err c.in_err-map.field-0.0)
+    (then_reads (Unit {0}) name c.args.file.now.at (turned_samples_read c.args.output) (λ (v0 : List Size). chain (turned_sources_read v0 c.args.output) (λ (v1 : SourceMap). end v0 v1)) (state c.args.shelf.now) (state c.read_samples.new.shelf) (state c.read_sources.new.shelf) c.read_samples.new.file c.read_sources.new.file v0 (Err c.in_err-map.field-0.0)
     ok0.reads c.in_err-map.ensures.reads ok0.answer
-    (first_stops (Unit {0}) name c.read_samples_within.new.file.at (turned_sources_read v0 c.args.output) (λ (v1 : SourceMap). end v0 v1) (state c.read_samples_within.new.shelf) (state c.read_sources.new.shelf) c.read_sources.new.file c.in_err-map.field-0.0 c.in_err-map.ensures.answer))
+    (first_stops (Unit {0}) name c.read_samples.new.file.at (turned_sources_read v0 c.args.output) (λ (v1 : SourceMap). end v0 v1) (state c.read_samples.new.shelf) (state c.read_sources.new.shelf) c.read_sources.new.file c.in_err-map.field-0.0 c.in_err-map.ensures.answer))
 
 pub returns-clause-answer : goal.returns-clause-answer
 returns-clause-answer g c =
@@ -45,9 +45,9 @@ returns-clause-answer g c =
     let v1 : SourceMap = c.in_ok-map.map in
     let ok1 = c.in_ok-map.ensures {u = tt} in
     let value : TurnedFile = record { map = v1; samples = v0 } in
-    then_reads (Unit {0}) name c.args.file.now.at (turned_samples_read c.args.output) (λ (v0 : List Size). chain (turned_sources_read v0 c.args.output) (λ (v1 : SourceMap). end v0 v1)) (state c.args.shelf.now) (state c.read_samples_within.new.shelf) (state c.read_sources.new.shelf) c.read_samples_within.new.file c.read_sources.new.file v0 (Ok value)
+    then_reads (Unit {0}) name c.args.file.now.at (turned_samples_read c.args.output) (λ (v0 : List Size). chain (turned_sources_read v0 c.args.output) (λ (v1 : SourceMap). end v0 v1)) (state c.args.shelf.now) (state c.read_samples.new.shelf) (state c.read_sources.new.shelf) c.read_samples.new.file c.read_sources.new.file v0 (Ok value)
     ok0.reads ok1.reads ok0.answer
-    (then_reads (Unit {0}) name c.read_samples_within.new.file.at (turned_sources_read v0 c.args.output) (λ (v1 : SourceMap). end v0 v1) (state c.read_samples_within.new.shelf) (state c.read_sources.new.shelf) (state c.read_sources.new.shelf) c.read_sources.new.file c.read_sources.new.file v1 (Ok value)
+    (then_reads (Unit {0}) name c.read_samples.new.file.at (turned_sources_read v0 c.args.output) (λ (v1 : SourceMap). end v0 v1) (state c.read_samples.new.shelf) (state c.read_sources.new.shelf) (state c.read_sources.new.shelf) c.read_sources.new.file c.read_sources.new.file v1 (Ok value)
     ok1.reads (only_reads_same (state c.read_sources.new.shelf)) ok1.answer
     (made (Unit {0}) name (state c.read_sources.new.shelf) (state c.read_sources.new.shelf) c.read_sources.new.file value ok1.answer.follows))
 
@@ -61,4 +61,4 @@ returns-clause-lawful g c =
 pub returns-clause-reads : goal.returns-clause-reads
 returns-clause-reads g c =
     let state = g.S.Shelf.state in
-    only_reads_then (state c.args.shelf.now) (state c.read_samples_within.new.shelf) (state c.read_sources.new.shelf) (c.in_ok-samples.ensures {u = tt}).reads (c.in_ok-map.ensures {u = tt}).reads
+    only_reads_then (state c.args.shelf.now) (state c.read_samples.new.shelf) (state c.read_sources.new.shelf) (c.in_ok-samples.ensures {u = tt}).reads (c.in_ok-map.ensures {u = tt}).reads

@@ -3,7 +3,7 @@ use Rattle.std.specs.Int.{w8}
 use Rattle.source_map.specs.MapFiles.{same_rule}
 use Rattle.source_map.specs.Readings.{number_rule}
 use Rattle.source_map.proofs.FieldLaws.{field_stops, number_8}
-use Rattle.turned_map.proofs.fields.read_mark.Goals as goal
+use Rattle.turned_map.proofs.turned_reading.read_mark.Goals as goal
 
 pub returns-in-Err-clause-answer : goal.returns-in-Err-clause-answer
 returns-in-Err-clause-answer g c =

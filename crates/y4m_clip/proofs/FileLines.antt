@@ -176,18 +176,22 @@ judged_sound text count (Ended n) is = tested (nat_lt MOST_LINE_BYTES n) refl
     tested false e = (omega (arith, length-take-le n text is.inside, ap length whole.is, length-append magic whole.rest, some_continues [] is.line.0 whole.rest whole.continues), ltb-false MOST_LINE_BYTES n e)
 
 -- the line that was found is in what was scanned
-pub judged_line : (buffer : List ℕ) (count : ℕ) (scanned : ScannedLine) → IsStreamScanned (take count buffer) scanned → count ≤ length buffer → IfOk (line_judged count scanned) (λ n. IsLineOf (take n buffer))
+pub judged_line : (buffer : List ℕ) (count : ℕ) (scanned : ScannedLine) → IsStreamScanned (take count buffer) scanned → count ≤ length buffer → IfOk (line_judged count scanned) (λ n. (n ≤ count) × IsLineOf (take n buffer))
 judged_line buffer count Open is le = tested (nat_lt MOST_LINE_BYTES count)
   where
-    tested : (past : Bool) → IfOk (cond past (Err (Limit Header (MOST_LINE_BYTES + 1) MOST_LINE_BYTES)) (Err (Bad (Form count)))) (λ n. IsLineOf (take n buffer))
+    tested : (past : Bool) → IfOk (cond past (Err (Limit Header (MOST_LINE_BYTES + 1) MOST_LINE_BYTES)) (Err (Bad (Form count)))) (λ n. (n ≤ count) × IsLineOf (take n buffer))
     tested true = tt
     tested false = tt
 judged_line buffer count (Broken i) is le = tt
 judged_line buffer count (Ended n) is le = tested (nat_lt MOST_LINE_BYTES n)
   where
-    front : take n (take count buffer) ≡ take n buffer
-    front = take-take n count buffer (omega (arith, is.inside, length-take-le count buffer le))
+    inside : n ≤ count
+    inside = omega (arith, is.inside, length-take-le count buffer le)
 
-    tested : (past : Bool) → IfOk (cond past (Err (Limit Header (MOST_LINE_BYTES + 1) MOST_LINE_BYTES)) (Ok n)) (λ m. IsLineOf (take m buffer))
+    tested : (past : Bool) → IfOk (cond past (Err (Limit Header (MOST_LINE_BYTES + 1) MOST_LINE_BYTES)) (Ok n)) (λ m. (m ≤ count) × IsLineOf (take m buffer))
     tested true = tt
-    tested false = (is.line.0, subst (λ t. IsStreamLine t is.line.0) front is.line.1)
+    tested false = (inside, (is.line.0, subst (λ t. IsStreamLine t is.line.0) (take-take n count buffer inside) is.line.1))
+
+-- what was read is the front of the file
+pub front_same : (bytes buffer : List ℕ) (count n : ℕ) → n ≤ count → Reads bytes 0 buffer count → take n buffer ≡ take n bytes
+front_same bytes buffer count n le reads = sym (take-take n count buffer le) ∙ ap (take n) reads.read ∙ take-take n count bytes le

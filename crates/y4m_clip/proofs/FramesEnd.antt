@@ -2,11 +2,11 @@
 use Rattle.std.proofs.Common.{◌≡◌, ℕ, zero, suc, ◌≤◌, ◌<◌, ◌+◌, ◌-◌, ◌*◌, ◌/◌, ◌⊎◌, List, [], ◌∷◌, ◌++◌, length, drop, refl, sym, ap, ◌∙◌, subst, arith, Bool, true, false, cond}
 use Rattle.std.specs.Prelude.{Some, Result, Ok, Err, IfOk, Vec, ◌==◌}
 use Rattle.std.specs.declared.alloc.Global.{Global}
-use Rattle.std.proofs.lemmas.List.{length-append}
+use Rattle.std.proofs.lemmas.List.{length-append, length-drop, nil_from_length}
 use Rattle.std.proofs.Math.Nat.{mul-suc, add-div_left}
 use Rattle.std.proofs.lemmas.Bool.{eqb-true, eqb-false}
 use Rattle.limits.specs.declared.bounds.TheConstants.{GREATEST_AXIS, MOST_LINE_BYTES}
-use Rattle.shelf_traits.specs.Files.{ShelfState, OnlyReads, ReadsRose, content_of}
+use Rattle.shelf_traits.specs.Files.{Changes, ShelfState, OnlyReads, Reads, ReadsRose, content_of}
 use Rattle.shelf_traits.specs.declared.fault.ReadError.{ReadError}
 use Rattle.shelf_traits.specs.declared.fault.ReadError.TheVariants.{ReadFault, Bad, Limit, NoMemory}
 use Rattle.shelf_traits.specs.declared.fault.FormFault.TheVariants.{Form, Depth, Space, Cell, NoFrames, Sample, Trailing}
@@ -17,8 +17,8 @@ use Rattle.y4m_clip.specs.declared.head.Front.{Front}
 use Rattle.y4m_clip.specs.Spaces.{samples_of}
 use Rattle.y4m_clip.specs.Clips.{Frame, frames_text, frame_cells, plane_bytes, most_frames}
 use Rattle.y4m_clip.specs.Refusals.{FrameLineBreaks, PlanesBreak, FrameLineTooLong}
-use Rattle.y4m_clip.specs.Frames.{HasFrame, ReadsFrameAs, FramesSeen, PassesFrames, FramesAs, StandsIf, finished, IsFilledSoFar}
-use Rattle.shelf_traits.proofs.Sees.{Sees, sees_then, sees_all, fault_later}
+use Rattle.y4m_clip.specs.Frames.{HasFrame, ReadsFrameAs, FramesSeen, PassesFrames, FramesAs, finished, IsFilledSoFar}
+use Rattle.shelf_traits.proofs.Sees.{Sees, sees_then, sees_weaker, sees_all, fault_later}
 use Rattle.y4m_clip.proofs.FramesLaws.{nothing_seen, one_more}
 use Rattle.y4m_clip.proofs.Joined.{length-frame_cells}
 
@@ -84,14 +84,24 @@ frames_end kind w h start most name count at cells bytes r a b c first second is
         sees_then (λ files. FramesSeen kind w h start (content_of files name) count at cells) (λ files. drop at (content_of files name) ≡ []) _ a b c
         (λ files so_far rest. (at, subst (FramesSeen kind w h start (content_of files name) count at) (sym same) so_far, rest)) first second seen ends
 
+-- whether a byte follows, by how many were read
+pub byte_stands : (name into : List ℕ) (at n : ℕ) (a b : ShelfState) → Changes a b (λ was now. Reads (content_of was name) at into n) → 0 < n → Sees a b (λ files. 1 ≤ length (drop at (content_of files name)))
+byte_stands name into at n a b reads some =
+    sees_weaker (λ files. Reads (content_of files name) at into n) (λ files. 1 ≤ length (drop at (content_of files name))) a b (λ files read. omega (arith, read.count, length-drop at (content_of files name), some)) reads
+
+pub no_byte_stands : (name into : List ℕ) (at n : ℕ) (a b : ShelfState) → length into ≡ 1 → Changes a b (λ was now. Reads (content_of was name) at into n) → n ≤ 0 → Sees a b (λ files. drop at (content_of files name) ≡ [])
+no_byte_stands name into at n a b one reads none =
+    sees_weaker (λ files. Reads (content_of files name) at into n) (λ files. drop at (content_of files name) ≡ []) a b
+    (λ files read. nil_from_length (drop at (content_of files name)) (omega (arith, read.count, length-drop at (content_of files name), one, none))) reads
+
 pub frames_full : {names : List (List ℕ)} (kind : SpaceKind) (w h start most : ℕ) (name : List ℕ) (count at : ℕ) (bytes : Vec ℕ Global) (a b c : ShelfState) → OnlyReads names a b → OnlyReads names b c
-    → Sees a b (λ files. FramesSeen kind w h start (content_of files name) count at bytes.items) → Sees b c (λ files. StandsIf false (drop at (content_of files name)))
+    → Sees a b (λ files. FramesSeen kind w h start (content_of files name) count at bytes.items) → Sees b c (λ files. drop at (content_of files name) ≡ [])
     → FramesAs kind w h start most name a c (Ok (record { bytes = bytes; count = count }))
 frames_full kind w h start most name count at bytes a b c first second seen ends =
     sees_then (λ files. FramesSeen kind w h start (content_of files name) count at bytes.items) (λ files. drop at (content_of files name) ≡ []) _ a b c (λ files so_far rest. (at, so_far, rest)) first second seen ends
 
 pub frames_past : {names : List (List ℕ)} (kind : SpaceKind) (w h start most : ℕ) (name : List ℕ) (count at : ℕ) (cells : List ℕ) (e : ReadError) (a b c : ShelfState) → OnlyReads names a b → OnlyReads names b c → count ≡ most_frames w h most
-    → Sees a b (λ files. FramesSeen kind w h start (content_of files name) count at cells) → Sees b c (λ files. StandsIf true (drop at (content_of files name))) → PassesFrames w h most count e
+    → Sees a b (λ files. FramesSeen kind w h start (content_of files name) count at cells) → Sees b c (λ files. 1 ≤ length (drop at (content_of files name))) → PassesFrames w h most count e
     → FramesAs kind w h start most name a c (Err e)
 frames_past kind w h start most name count at cells (Limit Axis number bound) a b c first second all seen more passes =
     sees_then (λ files. FramesSeen kind w h start (content_of files name) count at cells) (λ files. 1 ≤ length (drop at (content_of files name))) _ a b c

@@ -1,6 +1,6 @@
 -- The state of the reader: what it makes of the frames. (Own.)
 use Rattle.std.specs.declared.alloc.Global.{Global}
-use Rattle.std.specs.Prelude.{Vec, ◌==◌, Bool, true, false, ◌≡◌, ◌≢◌, ◌≤◌, ◌<◌, ◌⊎◌, ◌+◌, ◌*◌, ℕ, List, [], ◌∷◌, ◌++◌, length, take, drop, nat_lt, if◌then◌else◌, Option, Some, None, Result, Ok, Err}
+use Rattle.std.specs.Prelude.{Vec, ◌==◌, ◌≡◌, ◌≢◌, ◌≤◌, ◌<◌, ◌⊎◌, ◌+◌, ◌*◌, ℕ, List, [], ◌∷◌, ◌++◌, length, take, drop, nat_lt, if◌then◌else◌, Option, Some, None, Result, Ok, Err}
 use Rattle.std.specs.List.{AllByRecursion, flat_map}
 use Rattle.cells.specs.declared.place.Size.{Size}
 use Rattle.shelf_traits.specs.Files.{ShelfState, InFile, ReadsRose}
@@ -201,11 +201,6 @@ pub record IsFilledSoFar (front : Front) (most : ℕ) (filled : Filled) : Type 0
   pub few : filled.count ≤ most_frames front.w front.h most
   pub whole : length filled.bytes.items
       ≡ samples_of front.form.space * front.w * front.h * filled.count
-
--- whether the rest of a file has a byte
-abbrev pub StandsIf : Bool → List ℕ → Type 0
-StandsIf true rest = 1 ≤ length rest
-StandsIf false rest = rest ≡ []
 
 -- the answer of a file that ends after so many frames
 abbrev pub finished : Vec ℕ Global → ℕ → Result Filled ReadError

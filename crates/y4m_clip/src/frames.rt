@@ -1,8 +1,8 @@
 // Reading all frames of a clip.
-ghost use Rattle.std.specs.Prelude.{◌≡◌, ◌≤◌, ◌<◌, ◌+◌, ◌*◌, ◌/◌, ◌^◌, length, min, drop, IfOk, IfErr, IfSome};
-ghost use Rattle.shelf_traits.specs.Files.{InFile, OnlyReadsFile, ReadsRose};
-ghost use Rattle.y4m_clip.specs.Frames.{ReadsFrameAs, grown_by, FramesAs, PassesFrames, StandsIf, finished, IsSoundFront, IsFilledSoFar};
-ghost use Rattle.y4m_clip.specs.Clips.{frame_cells, most_frames};
+ghost use Rattle.std.specs.Prelude.{◌≡◌, ◌≤◌, ◌<◌, ◌+◌, ◌*◌, ◌/◌, length, min, IfOk};
+ghost use Rattle.shelf_traits.specs.Files.{OnlyReadsFile};
+ghost use Rattle.y4m_clip.specs.Frames.{FramesAs, PassesFrames, finished, IsSoundFront, IsFilledSoFar};
+ghost use Rattle.y4m_clip.specs.Clips.{most_frames};
 ghost use Rattle.y4m_clip.specs.Spaces.{samples_of};
 
 use crate::form::SpaceKind;
@@ -48,21 +48,6 @@ fn past(w: u32, h: u32, most: u64, count: u64) -> ReadError
     }
 }
 
-// Whether the file has a byte at a place.
-fn goes_on<S: Shelf>(shelf: &mut S, name: &str, at: u64) -> Result<bool, ReadError>
-    ensures stands { IfOk result (λ more. InFile name.now (S.state shelf.old) (S.state shelf.new)
-        (λ bytes. StandsIf more (drop at bytes))) }
-    ensures failed { IfErr result (λ error. (error ≡ ReadError.ReadFault)
-        × ReadsRose name.now (S.state shelf.old) (S.state shelf.new)) }
-    ensures reads { OnlyReadsFile name.now (S.state shelf.old) (S.state shelf.new) }
-{
-    let mut next = [0u8; 1];
-    match shelf.get(name, at, &mut next) {
-        Err(_) => Err(ReadError::ReadFault),
-        Ok(count) => Ok(count > 0),
-    }
-}
-
 /// A buffer for the planes of a frame of n cells.
 pub fn room_for(alloc: Global, space: SpaceKind, n: usize) -> Result<Vec<u8>, AllocError>
     requires { n ≤ MOST_CELLS }
@@ -96,7 +81,9 @@ pub fn read_frames<S: Shelf>(
             None => return finish(bytes, count as u32),
         }
     }
-    if goes_on(shelf, name, at)? {
+    let mut next = [0u8; 1];
+    let more = shelf.get(name, at, &mut next)?;
+    if more > 0 {
         return Err(past(front.w, front.h, most, bound));
     }
     Ok(Filled {

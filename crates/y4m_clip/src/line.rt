@@ -1,8 +1,8 @@
 // Reading the stream line of a clip.
-ghost use Rattle.std.specs.Prelude.{◌≡◌, ◌≤◌, ◌<◌, ◌+◌, ◌++◌, length, take, IfOk, OnOk, []};
-ghost use Rattle.shelf_traits.specs.Files.{InFile, OnlyReadsFile};
+ghost use Rattle.std.specs.Prelude.{◌≡◌, ◌≤◌, ◌<◌, ◌+◌, ◌++◌, length, IfOk, OnOk, []};
+ghost use Rattle.shelf_traits.specs.Files.{OnlyReadsFile};
 ghost use Rattle.y4m_clip.specs.Scanning.{IsSoundLine};
-ghost use Rattle.y4m_clip.specs.Reading.{Matches, IsStreamScanned, flushed, gathered, line_limit, line_judged, FindsLineAs, IsLineOf, AreTags, LinesAs};
+ghost use Rattle.y4m_clip.specs.Reading.{Matches, IsStreamScanned, flushed, gathered, line_limit, line_judged, AreTags, LinesAs};
 
 use crate::form::Tags;
 use crate::scan::{LineKind, ScannedLine, classify, scan_line};
@@ -82,23 +82,6 @@ fn judge(scanned: ScannedLine, count: usize) -> Result<usize, ReadError>
     }
 }
 
-// Finds the end of the stream line in the file's first bytes.
-fn find_line<S: Shelf>(
-    shelf: &mut S,
-    name: &str,
-    buffer: &mut [u8; LINE_ROOM],
-) -> Result<usize, ReadError>
-    ensures found { FindsLineAs name.now (S.state shelf.old) (S.state shelf.new) result }
-    ensures front { IfOk result (λ n. InFile name.now (S.state shelf.old) (S.state shelf.new)
-        (λ bytes. take n buffer.new ≡ take n bytes)) }
-    ensures sound { IfOk result (λ n. (10 ≤ n) × (n ≤ MOST_LINE_BYTES)) }
-    ensures line { IfOk result (λ n. IsLineOf (take n buffer.new)) }
-    ensures reads { OnlyReadsFile name.now (S.state shelf.old) (S.state shelf.new) }
-{
-    let count = shelf.get(name, 0, buffer)?;
-    judge(scan_stream(&buffer[..count]), count)
-}
-
 // Puts a word after the tags, where it isn't empty.
 fn flush(tags: &mut Vec<Items<u8>>, word: Vec<u8>) -> Result<(), AllocError>
     ensures { OnOk result (tags.new.items ≡ tags.old.items ++ flushed word.items []) }
@@ -136,7 +119,8 @@ pub fn read_line<S: Shelf>(alloc: Global, shelf: &mut S, name: &str) -> Result<L
     ensures reads { OnlyReadsFile name.now (S.state shelf.old) (S.state shelf.new) }
 {
     let mut buffer = [0u8; LINE_ROOM];
-    let length = find_line(shelf, name, &mut buffer)?;
+    let count = shelf.get(name, 0, &mut buffer)?;
+    let length = judge(scan_stream(&buffer[..count]), count)?;
     let tags = gather_all(alloc, &buffer[9..length])?;
     Ok(Line {
         tags: Items::from_vec(tags),

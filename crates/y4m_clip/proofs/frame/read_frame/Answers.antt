@@ -1,5 +1,5 @@
 use Rattle.std.proofs.lemmas.Grind.{common_steps}
-use Rattle.std.proofs.Common.{◌≡◌, ◌≤◌, ◌+◌, ◌*◌, ◌∙◌, ◌++◌, length, ap, arith, sym, subst}
+use Rattle.std.proofs.Common.{◌≡◌, ◌+◌, ◌*◌, ◌∙◌, ◌++◌, length, ap, arith, sym, subst}
 use Rattle.std.specs.Prelude.{Ok, Err, Some}
 use Rattle.std.proofs.lemmas.List.{with_items_is}
 use Rattle.std.proofs.lemmas.Result.{err_from_is_err_and}
@@ -92,3 +92,23 @@ returns-in_err-fill_planes-clause-reads g c =
 
 pub returns-in_default-clause-frame : goal.returns-in_default-clause-frame
 returns-in_default-clause-frame g c = grind (arith, common_steps)
+
+pub returns-in_err-make_room-clause-planes : goal.returns-in_err-make_room-clause-planes
+returns-in_err-make_room-clause-planes g c =
+    let items = with_items_is c.args.planes.now c.fill_planes.new.planes (omega arith) in
+    omega (arith, c.requires.planes, ap length items)
+
+pub returns-in_err-fill_planes-clause-planes : goal.returns-in_err-fill_planes-clause-planes
+returns-in_err-fill_planes-clause-planes g c =
+    let items = with_items_is c.args.planes.now c.fill_planes.new.planes (omega arith) in
+    omega (arith, c.requires.planes, ap length items)
+
+pub returns-clause-planes : goal.returns-clause-planes
+returns-clause-planes g c =
+    let items = with_items_is c.args.planes.now c.fill_planes.new.planes (omega arith) in
+    omega (arith, c.requires.planes, ap length items)
+
+pub returns-in_err-add_frame-clause-planes : goal.returns-in_err-add_frame-clause-planes
+returns-in_err-add_frame-clause-planes g c =
+    let items = with_items_is c.args.planes.now c.fill_planes.new.planes (omega arith) in
+    omega (arith, c.requires.planes, ap length items)

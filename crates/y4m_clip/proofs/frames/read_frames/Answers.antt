@@ -1,14 +1,14 @@
 use Rattle.std.proofs.lemmas.Grind.{common_steps}
-use Rattle.std.proofs.Common.{◌≡◌, ◌≤◌, ◌<◌, ◌*◌, [], length, drop, arith, sym, ap, ◌∙◌, subst}
+use Rattle.std.proofs.Common.{◌≡◌, ◌≤◌, ◌<◌, ◌*◌, [], length, arith, sym, ap, ◌∙◌, subst}
 use Rattle.std.proofs.lemmas.Result.{err_from_is_err_and}
 use Rattle.shelf_traits.specs.Files.{content_of}
 use Rattle.shelf_traits.proofs.FileLaws.{only_reads_same, only_reads_then}
 use Rattle.limits.specs.declared.bounds.TheConstants.{GREATEST_AXIS}
 use Rattle.y4m_clip.specs.Spaces.{samples_of}
-use Rattle.y4m_clip.specs.Frames.{PassesFrames, FramesSeen, StandsIf}
-use Rattle.shelf_traits.proofs.Sees.{Sees}
+use Rattle.y4m_clip.specs.Frames.{PassesFrames, FramesSeen}
+use Rattle.shelf_traits.proofs.Sees.{Sees, fault_later}
 use Rattle.y4m_clip.proofs.FramesLaws.{want_small}
-use Rattle.y4m_clip.proofs.FramesEnd.{seen_none, seen_more, whole_more, frame_refused, frames_end, frames_full, frames_past, some_frames, most_few, filled_end, end_unread}
+use Rattle.y4m_clip.proofs.FramesEnd.{seen_none, seen_more, whole_more, frame_refused, frames_end, frames_full, frames_past, some_frames, most_few, filled_end, byte_stands, no_byte_stands}
 use Rattle.y4m_clip.proofs.frames.read_frames.Goals as goal
 
 pub loop-count-init : goal.loop-count-init
@@ -51,21 +51,21 @@ loop-count-preserved g c =
       place = omega (arith, next, want, c.in_ok-next.ensures.planes, c.loop-count.invariant.place);
     }
 
-pub returns-then-branch-clause-frames : goal.returns-then-branch-clause-frames
-returns-then-branch-clause-frames g c =
+pub returns-then-more-gt0-clause-frames : goal.returns-then-more-gt0-clause-frames
+returns-then-more-gt0-clause-frames g c =
     let all : c.bound_of-bound.result ≡ c.loop-count.count = omega (arith, c.loop-count-test.false, c.loop-count.auto.count-end) in
     frames_past c.args.front.now.form.space c.args.front.now.w c.args.front.now.h c.args.front.now.start c.args.most c.args.name.now c.loop-count.count c.loop-count.at c.loop-count.bytes.items c.past.result
-    (g.S.Shelf.state c.args.shelf.now) (g.S.Shelf.state c.loop-count.shelf) (g.S.Shelf.state c.goes_on.new.shelf) c.loop-count.invariant.reads c.in_ok-goes_on.ensures.reads (sym all ∙ c.bound_of-bound.ensures) c.loop-count.invariant.seen
-    (subst (λ t. Sees (g.S.Shelf.state c.loop-count.shelf) (g.S.Shelf.state c.goes_on.new.shelf) (λ files. StandsIf t (drop c.loop-count.at (content_of files c.args.name.now)))) c.if-branch.true c.in_ok-goes_on.ensures.stands)
+    (g.S.Shelf.state c.args.shelf.now) (g.S.Shelf.state c.loop-count.shelf) (g.S.Shelf.state c.get.new.self) c.loop-count.invariant.reads c.in_ok-more.ensures.reads (sym all ∙ c.bound_of-bound.ensures) c.loop-count.invariant.seen
+    (byte_stands c.args.name.now c.get.new.into c.loop-count.at c.in_ok-more.more (g.S.Shelf.state c.loop-count.shelf) (g.S.Shelf.state c.get.new.self) c.in_ok-more.ensures.read c.if-more-gt0.true)
     (subst (λ n. PassesFrames c.args.front.now.w c.args.front.now.h c.args.most n c.past.result) all c.past.ensures)
 
 pub returns-clause-frames : goal.returns-clause-frames
 returns-clause-frames g c =
     let all : c.bound_of-bound.result ≡ c.loop-count.count = omega (arith, c.loop-count-test.false, c.loop-count.auto.count-end) in
     frames_full c.args.front.now.form.space c.args.front.now.w c.args.front.now.h c.args.front.now.start c.args.most c.args.name.now c.bound_of-bound.result c.loop-count.at c.loop-count.bytes
-    (g.S.Shelf.state c.args.shelf.now) (g.S.Shelf.state c.loop-count.shelf) (g.S.Shelf.state c.goes_on.new.shelf) c.loop-count.invariant.reads c.in_ok-goes_on.ensures.reads
+    (g.S.Shelf.state c.args.shelf.now) (g.S.Shelf.state c.loop-count.shelf) (g.S.Shelf.state c.get.new.self) c.loop-count.invariant.reads c.in_ok-more.ensures.reads
     (subst (λ n. Sees (g.S.Shelf.state c.args.shelf.now) (g.S.Shelf.state c.loop-count.shelf) (λ files. FramesSeen c.args.front.now.form.space c.args.front.now.w c.args.front.now.h c.args.front.now.start (content_of files c.args.name.now) n c.loop-count.at c.loop-count.bytes.items)) (sym all) c.loop-count.invariant.seen)
-    (subst (λ t. Sees (g.S.Shelf.state c.loop-count.shelf) (g.S.Shelf.state c.goes_on.new.shelf) (λ files. StandsIf t (drop c.loop-count.at (content_of files c.args.name.now)))) c.if-branch.false c.in_ok-goes_on.ensures.stands)
+    (no_byte_stands c.args.name.now c.get.new.into c.loop-count.at c.in_ok-more.more (g.S.Shelf.state c.loop-count.shelf) (g.S.Shelf.state c.get.new.self) (omega arith) c.in_ok-more.ensures.read c.if-more-gt0.false)
 
 pub returns-clause-filled : goal.returns-clause-filled
 returns-clause-filled g c =
@@ -113,13 +113,6 @@ returns-in-None-clause-filled g c =
     filled_end c.args.front.now c.args.most c.loop-count.count c.read_frame.new.cells c.finish.result c.finish.ensures
     (subst (λ n. c.loop-count.count ≤ n) c.bound_of-bound.ensures (omega (arith, c.loop-count-test.true))) (ap length cells ∙ c.loop-count.invariant.whole)
 
-pub returns-in_err-goes_on-clause-frames : goal.returns-in_err-goes_on-clause-frames
-returns-in_err-goes_on-clause-frames g c =
-    let p = err_from_is_err_and c.from_residual-in_err-goes_on.result c.from_residual-in_err-goes_on.ensures.1 in
-    rw (p.1, p.2)
-    (end_unread c.args.front.now.form.space c.args.front.now.w c.args.front.now.h c.args.front.now.start c.args.most c.args.name.now c.in_err-goes_on.field-0.0
-    (g.S.Shelf.state c.args.shelf.now) (g.S.Shelf.state c.loop-count.shelf) (g.S.Shelf.state c.goes_on.new.shelf) c.loop-count.invariant.reads c.in_err-goes_on.ensures.failed.0 c.in_err-goes_on.ensures.failed.1)
-
 pub returns-in-None-clause-reads : goal.returns-in-None-clause-reads
 returns-in-None-clause-reads g c = only_reads_then (g.S.Shelf.state c.args.shelf.now) (g.S.Shelf.state c.loop-count.shelf) (g.S.Shelf.state c.read_frame.new.shelf) c.loop-count.invariant.reads c.in_ok-next.ensures.reads
 
@@ -127,13 +120,19 @@ pub returns-in_err-next-clause-reads : goal.returns-in_err-next-clause-reads
 returns-in_err-next-clause-reads g c = only_reads_then (g.S.Shelf.state c.args.shelf.now) (g.S.Shelf.state c.loop-count.shelf) (g.S.Shelf.state c.read_frame.new.shelf) c.loop-count.invariant.reads c.in_err-next.ensures.reads
 
 pub returns-clause-reads : goal.returns-clause-reads
-returns-clause-reads g c = only_reads_then (g.S.Shelf.state c.args.shelf.now) (g.S.Shelf.state c.loop-count.shelf) (g.S.Shelf.state c.goes_on.new.shelf) c.loop-count.invariant.reads c.in_ok-goes_on.ensures.reads
+returns-clause-reads g c = only_reads_then (g.S.Shelf.state c.args.shelf.now) (g.S.Shelf.state c.loop-count.shelf) (g.S.Shelf.state c.get.new.self) c.loop-count.invariant.reads c.in_ok-more.ensures.reads
 
-pub returns-then-branch-clause-reads : goal.returns-then-branch-clause-reads
-returns-then-branch-clause-reads g c = only_reads_then (g.S.Shelf.state c.args.shelf.now) (g.S.Shelf.state c.loop-count.shelf) (g.S.Shelf.state c.goes_on.new.shelf) c.loop-count.invariant.reads c.in_ok-goes_on.ensures.reads
+pub returns-then-more-gt0-clause-reads : goal.returns-then-more-gt0-clause-reads
+returns-then-more-gt0-clause-reads g c = only_reads_then (g.S.Shelf.state c.args.shelf.now) (g.S.Shelf.state c.loop-count.shelf) (g.S.Shelf.state c.get.new.self) c.loop-count.invariant.reads c.in_ok-more.ensures.reads
 
-pub returns-in_err-goes_on-clause-reads : goal.returns-in_err-goes_on-clause-reads
-returns-in_err-goes_on-clause-reads g c = only_reads_then (g.S.Shelf.state c.args.shelf.now) (g.S.Shelf.state c.loop-count.shelf) (g.S.Shelf.state c.goes_on.new.shelf) c.loop-count.invariant.reads c.in_err-goes_on.ensures.reads
+pub returns-in_err-more-clause-reads : goal.returns-in_err-more-clause-reads
+returns-in_err-more-clause-reads g c = only_reads_then (g.S.Shelf.state c.args.shelf.now) (g.S.Shelf.state c.loop-count.shelf) (g.S.Shelf.state c.get.new.self) c.loop-count.invariant.reads c.in_err-more.ensures.reads
 
 pub overflow_cast-result : goal.overflow_cast-result
 overflow_cast-result g c = grind (arith, common_steps)
+
+pub returns-in_err-more-clause-frames : goal.returns-in_err-more-clause-frames
+returns-in_err-more-clause-frames g c =
+    let p = err_from_is_err_and c.from_residual-in_err-more.result c.from_residual-in_err-more.ensures.1 in
+    let rose = fault_later c.args.name.now (g.S.Shelf.state c.args.shelf.now) (g.S.Shelf.state c.loop-count.shelf) (g.S.Shelf.state c.get.new.self) c.loop-count.invariant.reads c.in_err-more.ensures.failed in
+    rw (p.1, p.2) rose

@@ -21,7 +21,7 @@ pub returns-in_err-fill_planes-clause-frame : goal.returns-in_err-fill_planes-cl
 returns-in_err-fill_planes-clause-frame g c =
     let p = err_from_is_err_and c.from_residual-in_err-fill_planes.result c.from_residual-in_err-fill_planes.ensures.1 in
     let found = rw c.in-Some.is at c.in_ok-length.ensures.found in
-    let items = with_items_is c.args.planes.now c.fill_planes.new.planes (omega arith) in
+    let items = with_items_is c.args.planes.now c.fill_planes.new.planes (c.fill_planes.auto.planes ∙ c.deref_mut.ensures.len) in
     rw (p.1, p.2)
     (subst (λ planes. ReadsFrameAs c.args.front.now.form.space c.args.front.now.w c.args.front.now.h c.args.name.now c.args.at planes (g.S.Shelf.state c.args.shelf.now) (g.S.Shelf.state c.fill_planes.new.shelf) (Err c.in_err-fill_planes.field-0.0)) (sym items)
     (planes_refused c.args.front.now.form.space c.args.front.now.w c.args.front.now.h c.args.name.now c.args.at c.in-Some.length c.fill_planes.new.planes c.in_err-fill_planes.field-0.0
@@ -31,7 +31,7 @@ pub returns-clause-frame : goal.returns-clause-frame
 returns-clause-frame g c =
     let found = rw c.in-Some.is at c.in_ok-length.ensures.found in
     let whole : length c.fill_planes.new.planes ≡ samples_of c.args.front.now.form.space * (c.args.front.now.w * c.args.front.now.h) = omega (arith, c.requires.planes) in
-    let items = with_items_is c.args.planes.now c.fill_planes.new.planes (omega arith) in
+    let items = with_items_is c.args.planes.now c.fill_planes.new.planes (c.fill_planes.auto.planes ∙ c.deref_mut.ensures.len) in
     subst (λ planes. ReadsFrameAs c.args.front.now.form.space c.args.front.now.w c.args.front.now.h c.args.name.now c.args.at planes (g.S.Shelf.state c.args.shelf.now) (g.S.Shelf.state c.fill_planes.new.shelf) (Ok (Some (c.args.at + c.in-Some.length + c.len-2.result)))) (sym items)
     (frame_read c.args.front.now.form.space c.args.front.now.w c.args.front.now.h c.args.name.now c.args.at c.in-Some.length (c.args.at + c.in-Some.length + c.len-2.result) c.fill_planes.new.planes
     (g.S.Shelf.state c.args.shelf.now) (g.S.Shelf.state c.find_frame.new.shelf) (g.S.Shelf.state c.fill_planes.new.shelf) whole (omega (arith, c.len-2.ensures, ap length items)) c.in_ok-length.ensures.reads c.in_ok-fill_planes.ensures.reads found c.in_ok-fill_planes.ensures.fills)
@@ -52,7 +52,7 @@ fill_planes-requires g c =
 
 pub add_frame-requires-clause-planes : goal.add_frame-requires-clause-planes
 add_frame-requires-clause-planes g c =
-    let items = with_items_is c.args.planes.now c.fill_planes.new.planes (omega arith) in
+    let items = with_items_is c.args.planes.now c.fill_planes.new.planes (c.fill_planes.auto.planes ∙ c.deref_mut.ensures.len) in
     omega (arith, c.requires.planes, ap length items)
 
 pub add_frame-requires-clause-few : goal.add_frame-requires-clause-few
@@ -62,7 +62,7 @@ pub overflow_add-result : goal.overflow_add-result
 overflow_add-result g c =
     let short = rw c.in-Some.is at c.in_ok-length.ensures.short in
     let want = want_small c.args.front.now.form.space (c.args.front.now.w * c.args.front.now.h) c.requires.few in
-    let items = with_items_is c.args.planes.now c.fill_planes.new.planes (omega arith) in
+    let items = with_items_is c.args.planes.now c.fill_planes.new.planes (c.fill_planes.auto.planes ∙ c.deref_mut.ensures.len) in
     omega (arith, c.requires.at, c.requires.planes, short, want, ap length items)
 
 pub returns-clause-cells : goal.returns-clause-cells
@@ -72,7 +72,7 @@ returns-clause-cells g c =
 pub returns-clause-next : goal.returns-clause-next
 returns-clause-next g c =
     let short = rw c.in-Some.is at c.in_ok-length.ensures.short in
-    let items = with_items_is c.args.planes.now c.fill_planes.new.planes (omega arith) in
+    let items = with_items_is c.args.planes.now c.fill_planes.new.planes (c.fill_planes.auto.planes ∙ c.deref_mut.ensures.len) in
     omega (arith, short, ap length items)
 
 pub returns-clause-reads : goal.returns-clause-reads
@@ -95,20 +95,20 @@ returns-in_default-clause-frame g c = grind (arith, common_steps)
 
 pub returns-in_err-make_room-clause-planes : goal.returns-in_err-make_room-clause-planes
 returns-in_err-make_room-clause-planes g c =
-    let items = with_items_is c.args.planes.now c.fill_planes.new.planes (omega arith) in
+    let items = with_items_is c.args.planes.now c.fill_planes.new.planes (c.fill_planes.auto.planes ∙ c.deref_mut.ensures.len) in
     omega (arith, c.requires.planes, ap length items)
 
 pub returns-in_err-fill_planes-clause-planes : goal.returns-in_err-fill_planes-clause-planes
 returns-in_err-fill_planes-clause-planes g c =
-    let items = with_items_is c.args.planes.now c.fill_planes.new.planes (omega arith) in
+    let items = with_items_is c.args.planes.now c.fill_planes.new.planes (c.fill_planes.auto.planes ∙ c.deref_mut.ensures.len) in
     omega (arith, c.requires.planes, ap length items)
 
 pub returns-clause-planes : goal.returns-clause-planes
 returns-clause-planes g c =
-    let items = with_items_is c.args.planes.now c.fill_planes.new.planes (omega arith) in
+    let items = with_items_is c.args.planes.now c.fill_planes.new.planes (c.fill_planes.auto.planes ∙ c.deref_mut.ensures.len) in
     omega (arith, c.requires.planes, ap length items)
 
 pub returns-in_err-add_frame-clause-planes : goal.returns-in_err-add_frame-clause-planes
 returns-in_err-add_frame-clause-planes g c =
-    let items = with_items_is c.args.planes.now c.fill_planes.new.planes (omega arith) in
+    let items = with_items_is c.args.planes.now c.fill_planes.new.planes (c.fill_planes.auto.planes ∙ c.deref_mut.ensures.len) in
     omega (arith, c.requires.planes, ap length items)

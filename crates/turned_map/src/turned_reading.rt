@@ -155,9 +155,7 @@ fn read_sources<S: Shelf>(
     for i in 0..count {
         make_room(&mut sources, count - i)?;
         let source = read_source(file, samples, &sizes, shelf, name)?;
-        let Ok(()) = sources.push(Entry::new(source)) else {
-            return Err(ReadError::NoMemory);
-        };
+        sources.push_reserved(Entry::new(source));
     }
     Ok(Map::from_sources(size, sources))
 }

@@ -46,11 +46,11 @@ loop-i-preserved g c =
     let source = c.in_ok-source.source in
     let IsSound : Option At → Type 0 = λ source. IfSome source IsSource in
     let IsIn : Option At → Type 0 = λ source. IsSomeAnd source (IsInTurned c.args.samples.now) in
-    let all = (c.in-Ok.ensures {u = tt}).items ∙ (λ k. c.make_room.ensures.items k ++ c.new.ensures k ∷ []) in
+    let all = c.push_reserved.ensures.items ∙ (λ k. c.make_room.ensures.items k ++ c.new.ensures k ∷ []) in
     record {
       found = subst (λ items. Found name c.args.file.now.at d c.read_source.new.file (list_read read (c.loop-i.i + 1)) items) (sym all)
           (list_more name c.args.file.now.at c.loop-i.i read a b d c.loop-i.file c.read_source.new.file front source so.reads ok.reads so.found ok.answer);
-      count = omega (arith, (c.in-Ok.ensures {u = tt}).len, ap length c.make_room.ensures.items, so.count);
+      count = omega (arith, c.push_reserved.ensures.len, ap length c.make_room.ensures.items, so.count);
       at = omega (arith, ok.place, so.at);
       sources = subst (All IsSound) (sym all) (All-push IsSound front source so.sources ok.source);
       inside = subst (All IsIn) (sym all) (All-push IsIn front source so.inside ok.inside);
@@ -76,11 +76,6 @@ returns-clause-map g c =
 
 pub returns-clause-inside : goal.returns-clause-inside
 returns-clause-inside g c = subst (λ (m : SourceMap). All (λ source. IsSomeAnd source (IsInTurned c.args.samples.now)) m.sources) (sym c.from_sources.ensures) c.loop-i.invariant.inside
-
-pub returns-in_default-clause-reads : goal.returns-in_default-clause-reads
-returns-in_default-clause-reads g c =
-    let state = g.S.Shelf.state in
-    only_reads_then (state c.args.shelf.now) (state c.loop-i.shelf) (state c.read_source.new.shelf) c.loop-i.invariant.reads (c.in_ok-source.ensures {u = tt}).reads
 
 pub returns-in_err-source-clause-reads : goal.returns-in_err-source-clause-reads
 returns-in_err-source-clause-reads g c =

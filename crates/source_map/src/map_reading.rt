@@ -244,9 +244,7 @@ fn read_entries<S: Shelf>(
     for i in 0..count {
         make_room(&mut frames, (count - i) as usize)?;
         let frame = read_below(file, bound, shelf, name)?;
-        let Ok(()) = frames.push(frame) else {
-            return Err(ReadError::NoMemory);
-        };
+        frames.push_reserved(frame);
     }
     Ok(Items::from_vec(frames))
 }

@@ -38,11 +38,11 @@ loop-i-preserved g c =
     let ok = c.in_ok-frame.ensures {u = tt} in
     let front = c.loop-i.frames.items in
     let frame = c.in_ok-frame.frame in
-    let all = (c.in-Ok.ensures {u = tt}).items ∙ (λ k. c.make_room.ensures.items k ++ frame ∷ []) in
+    let all = c.push_reserved.ensures.items ∙ (λ k. c.make_room.ensures.items k ++ frame ∷ []) in
     record {
       found = subst (λ items. Found name c.args.file.now.at d c.read_below.new.file (list_read read (c.loop-i.i + 1)) items) (sym all)
           (list_more name c.args.file.now.at c.loop-i.i read a b d c.loop-i.file c.read_below.new.file front frame so.reads ok.reads so.found ok.answer);
-      count = omega (arith, (c.in-Ok.ensures {u = tt}).len, ap length c.make_room.ensures.items, so.count);
+      count = omega (arith, c.push_reserved.ensures.len, ap length c.make_room.ensures.items, so.count);
       below = subst (All (λ e. e < c.args.bound)) (sym all) (All-push (λ e. e < c.args.bound) front frame so.below ok.below);
       at = omega (arith, ok.place, so.at);
       reads = only_reads_then a b d so.reads ok.reads;
@@ -52,11 +52,6 @@ pub returns-in_err-frame-clause-reads : goal.returns-in_err-frame-clause-reads
 returns-in_err-frame-clause-reads g c =
     let state = g.S.Shelf.state in
     only_reads_then (state c.args.shelf.now) (state c.loop-i.shelf) (state c.read_below.new.shelf) c.loop-i.invariant.reads c.in_err-frame.ensures.reads
-
-pub returns-in_default-clause-reads : goal.returns-in_default-clause-reads
-returns-in_default-clause-reads g c =
-    let state = g.S.Shelf.state in
-    only_reads_then (state c.args.shelf.now) (state c.loop-i.shelf) (state c.read_below.new.shelf) c.loop-i.invariant.reads (c.in_ok-frame.ensures {u = tt}).reads
 
 pub returns-clause-answer : goal.returns-clause-answer
 returns-clause-answer g c =

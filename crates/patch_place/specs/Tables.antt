@@ -8,18 +8,16 @@ use Rattle.cells.specs.declared.place.Size.{Size}
 use Rattle.cells.specs.Cells.{Cells, Holds}
 use Rattle.cells.specs.Places.{IsNearAxis}
 use Rattle.match_error.specs.declared.error.Error.{Error}
-use Rattle.match_error.specs.Errors.{error_of, is_within}
+use Rattle.match_error.specs.Errors.{is_within}
 use Rattle.map_canvas.specs.declared.canvas.Placement.{Placement}
-use Rattle.map_canvas.specs.Canvases.{CanvasState}
 use Rattle.map_canvas.specs.Choices.{laid_from}
-use Rattle.patch_picks.specs.declared.candidates.Candidates.{Candidates}
 use Rattle.patch_place.specs.declared.eligible.Entry.{Entry}
 use Rattle.patch_place.specs.declared.shortlist.Shortlist.{Shortlist}
 use Rattle.patch_place.specs.BoxErrors.{IsLow}
 use Rattle.patch_picks.specs.Counts.{entries_after, entries_before}
 use Rattle.patch_picks.specs.Draws.{DrawState, draw}
 use Rattle.patch_picks.specs.Lists.{fit_list, lists_from}
-use Rattle.patch_picks.specs.Picks.{IsBest, IsPick, is_eligible, listed_on}
+use Rattle.patch_picks.specs.Picks.{IsBest, IsPick, is_eligible}
 
 abbrev pub IsUnfilled : Error → Type 0
 IsUnfilled error = error.count ≡ 0
@@ -89,10 +87,6 @@ pub record IsPickAt (error : Placement → Error) (tol : Option ℕ) (list : Lis
   pub below : i < length list
   pub picked : (placement : Placement) → slice_get list i ≡ Some placement
       → IsPick error tol list draws placement
-
-abbrev pub IsPickAtOn : CanvasState → Cells → Candidates → Option ℕ → DrawState → ℕ → Type 0
-IsPickAtOn canvas sample list tol draws i =
-    IsPickAt (error_of canvas.map sample) tol (listed_on canvas sample list) draws i
 
 -- a sum over so many filled cells that is past the limit is outside the tolerance of an error
 abbrev pub IsSumLimit : ℕ → ℕ → ℕ → Error → Type 0

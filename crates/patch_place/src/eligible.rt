@@ -3,7 +3,7 @@ ghost use Rattle.std.specs.Prelude.{◌≡◌, ◌≤◌, ◌<◌, ◌*◌, ◌^
 ghost use Rattle.std.specs.List.{count_by};
 ghost use Rattle.match_error.specs.declared.error.Error.{Error};
 ghost use Rattle.patch_place.specs.BoxErrors.{IsLow};
-ghost use Rattle.patch_place.specs.Tables.{IsBestOf, IsFilledLow, IsLowEntry, IsNth, entry_error, is_near};
+ghost use Rattle.patch_place.specs.Tables.{IsBestOf, IsFilledLow, IsLowEntry, IsNth, is_near};
 
 use match_error::{Error, within};
 
@@ -13,17 +13,6 @@ pub(crate) struct Entry {
     pub(crate) sum: u64,
     pub(crate) count: u32,
     pub(crate) index: u32,
-}
-
-impl Entry {
-    fn error(&self) -> Error
-        ensures { result ≡ entry_error self.now }
-    {
-        Error {
-            sum: self.sum,
-            count: self.count,
-        }
-    }
 }
 
 // Whether an error is less than another per filled cell.
@@ -63,7 +52,8 @@ fn is_near(tol: u32, best: &Error, entry: &Entry) -> bool
     requires entry { IsLowEntry entry.now }
     ensures { result ≡ is_near tol best.now entry.now }
 {
-    entry.count > 0 && within(tol, best, &entry.error())
+    let &Entry { sum, count, .. } = entry;
+    count > 0 && within(tol, best, &Error { sum, count })
 }
 
 /// How many of some entries are about as good as the best.

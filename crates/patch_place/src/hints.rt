@@ -2,28 +2,15 @@
 ghost use Rattle.std.specs.Prelude.{◌≤◌, map, All, Contains, IfSome};
 ghost use Rattle.cells.specs.Boxes.{HasCells};
 ghost use Rattle.patch_place.specs.BoxErrors.{AreCounted, box_list};
-ghost use Rattle.patch_place.specs.Tables.{IsFilledLow, IsHeld};
+ghost use Rattle.patch_place.specs.Tables.{IsFilledLow};
 
 use crate::BoxErrors;
 use cells::{At, Box3, Volume};
 use map_canvas::Placement;
 use match_error::Error;
 
-// The candidate from a place of the sample; None where the box doesn't fit there.
-fn placed_at(rect: &Box3, sample: &Volume, from: At) -> Option<Placement>
-    ensures { IfSome result (IsHeld sample.now rect.now) }
-{
-    let there = Box3 {
-        corner: from,
-        size: rect.size,
-    };
-    if !sample.holds(&there) {
-        return None;
-    }
-    Some(Placement { rect: *rect, from })
-}
-
-// The lesser of an error that may be known and that of one more likely candidate, if it is one.
+// The lesser of an error that may be known and that of one more likely candidate, from a place of the sample
+// where the box may fit.
 fn lesser_hint<E: BoxErrors>(
     errors: &E,
     rect: &Box3,
@@ -44,9 +31,14 @@ fn lesser_hint<E: BoxErrors>(
         (Contains (map (E.error errors.now) (box_list rect.now sample.now))) }
     ensures low { IfSome result IsFilledLow }
 {
-    let Some(placement) = placed_at(rect, sample, from) else {
-        return known;
+    let there = Box3 {
+        corner: from,
+        size: rect.size,
     };
+    if !sample.holds(&there) {
+        return known;
+    }
+    let placement = Placement { rect: *rect, from };
     let limit = match &known {
         Some(error) => error.sum,
         None => u64::MAX,

@@ -100,17 +100,6 @@ fn layout_for(around: &Around, part: Size, met: Size) -> Option<Layout>
     Layout::make(around.rect.size, met, lead_of(around), first_half(part))
 }
 
-// How many squares the transform for a part is worth.
-fn worth_of(around: &Around, part: Size) -> u64
-    requires part { HasAxes part }
-    requires rect { HasAxes around.now.rect.size }
-{
-    match layout_for(around, part, met_part(around, part)) {
-        Some(layout) => (SQUARES_A_LEVEL * u64::from(layout.levels())) << layout.levels(),
-        None => u64::MAX,
-    }
-}
-
 // Whether a box has a cell.
 fn has_cells(size: Size) -> bool
     ensures { IsTrue result → HasCells size }
@@ -178,10 +167,14 @@ impl PartErrors {
         // Called for its contract only: it shows the prover that the map's size is small.
         let _map = canvas.map();
         let size = part_after(&parts_of(sample), n);
-        let worth = if has_cells(around.rect.size) {
-            worth_of(around, size)
+        let layout = if has_cells(around.rect.size) {
+            layout_for(around, size, met_part(around, size))
         } else {
-            u64::MAX
+            None
+        };
+        let worth = match layout {
+            Some(layout) => (SQUARES_A_LEVEL * u64::from(layout.levels())) << layout.levels(),
+            None => u64::MAX,
         };
         PartErrors {
             part: n,
@@ -196,17 +189,6 @@ impl PartErrors {
     /// Whether the candidates that are left may take more than the transform, each over so many cells.
     pub(crate) fn may_pay(&self, cells: u64) -> bool {
         self.errors.is_none() && self.left.saturating_mul(cells) > self.worth
-    }
-
-    // Counts one more candidate, with so many squares. Whether the errors at all offsets are due then: where
-    // single sums were tried, and the rest of them would take more.
-    fn is_due(&mut self, squares: u64) -> bool
-        ensures errors { self.new.errors ≡ self.old.errors }
-        ensures part { self.new.part ≡ self.old.part }
-    {
-        self.taken = self.taken.saturating_add(squares);
-        self.left = self.left.saturating_sub(1);
-        self.taken > self.worth / TRIED && self.may_pay(squares)
     }
 
     /// Comes to a candidate, whose single sum would take so many squares; 0 where that doesn't count. It goes
@@ -230,7 +212,13 @@ impl PartErrors {
         if let Some(next) = next_part(sample, self.part, placement) {
             *self = PartErrors::begin(around, next, canvas, sample);
         }
-        if squares > 0 && self.is_due(squares) {
+        if squares == 0 {
+            return Ok(());
+        }
+        self.taken = self.taken.saturating_add(squares);
+        self.left = self.left.saturating_sub(1);
+        // The errors at all offsets are due where single sums were tried, and the rest of them would take more.
+        if self.taken > self.worth / TRIED && self.may_pay(squares) {
             self.errors = errors_of(alloc, around, self.part, canvas, sample)?;
         }
         Ok(())

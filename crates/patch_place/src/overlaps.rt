@@ -55,20 +55,6 @@ fn spread_step(size: Size, i: u32) -> At
     }
 }
 
-// The place from which a box goes on with what is at one of 16 cells of it. None where the cell is
-// unfilled.
-fn hint_at(canvas: &Canvas, rect: &Box3, i: u32) -> Option<At>
-    requires some { HasCells rect.now.size }
-    requires inside { HoldsBox canvas.now.map.size rect.now.corner rect.now.size }
-    requires few { i < 16 }
-{
-    // Called for its contract only: it shows the prover that this is a map.
-    let map = canvas.map();
-    let step = spread_step(rect.size, i);
-    let source = map.at(rect.corner.plus(step))?;
-    Some(source.minus(step))
-}
-
 impl Overlaps<'_> {
     ghost use Rattle.patch_place.specs.Overlaps.{AreOverlaps, IsOverlap};
 
@@ -201,6 +187,10 @@ impl BoxErrors for Overlaps<'_> {
                 .levels
                 .likely(self.sums, self.canvas, self.sample, &self.rect, number);
         }
-        hint_at(self.canvas, &self.rect, i)
+        // The box goes on from there with what is at one of 16 cells of it, where that is filled.
+        let map = self.canvas.map();
+        let step = spread_step(self.rect.size, i);
+        let source = map.at(self.rect.corner.plus(step))?;
+        Some(source.minus(step))
     }
 }

@@ -1,5 +1,5 @@
 // Picks: one of the candidates that are about as good as the best, by a draw.
-ghost use Rattle.std.specs.Prelude.{◌≡◌, ◌<◌, All, Contains, IfOk, IsSome, IsTrue, OnErr, OnOk, Some, length};
+ghost use Rattle.std.specs.Prelude.{◌≡◌, ◌<◌, All, Contains, IfOk, IsSome, OnErr, OnOk, Some, length};
 ghost use Rattle.cells.specs.Boxes.{HasCells};
 ghost use Rattle.search_squares.specs.Eliminations.{AreSampleSums};
 ghost use Rattle.map_canvas.specs.Canvases.{StandsOver};
@@ -8,7 +8,6 @@ ghost use Rattle.patch_place.specs.BoxErrors.{box_list};
 ghost use Rattle.patch_picks.specs.Lists.{IsWithin};
 ghost use Rattle.patch_picks.specs.Picks.{AllFit, HasEntries, IsPick, IsPickOn, listed_on};
 ghost use Rattle.patch_picks.specs.Steps.{after_draw};
-ghost use Rattle.patch_place.specs.Tables.{IsPickAtOn};
 
 use crate::BoxErrors;
 use crate::box_list::box_entry;
@@ -19,44 +18,6 @@ use map_canvas::{Canvas, Placement};
 use patch_picks::{Candidates, Draws};
 use search_squares::SampleSums;
 use std::alloc::{AllocError, Global};
-
-// The index of the picked candidate.
-fn picked_at(
-    alloc: Global,
-    list: &Candidates,
-    tol: Option<u32>,
-    canvas: &Canvas,
-    sample: &Volume,
-    sums: &SampleSums,
-    draws: &mut Draws,
-) -> Result<u32, AllocError>
-    requires over { StandsOver canvas.now sample.now }
-    requires sums { AreSampleSums sample.now sums.now }
-    requires within { IsWithin list.now canvas.now.map.size }
-    requires some { HasEntries canvas.now sample.now list.now }
-    requires fit { AllFit canvas.now sample.now list.now }
-    ensures picked { IfOk result (IsPickAtOn canvas.now sample.now list.now tol draws.old) }
-    ensures next { OnOk result (draws.new ≡ after_draw draws.old) }
-    ensures kept { OnErr result (draws.new ≡ draws.old) }
-    ensures memory { OnErr result (IsSome tol) }
-{
-    let Some(tol) = tol else {
-        return Ok(draws.below(count_for(list, canvas, sample)));
-    };
-    let short = shortlist_of(alloc, list, tol, canvas, sample, sums)?;
-    Ok(short.picked(draws))
-}
-
-// Whether a pick from a list goes by the sums of the sample's blocks: where its candidates are those of one
-// box, and their errors are summed.
-fn goes_by_sums(list: &Candidates, tol: Option<u32>) -> bool
-    ensures { IsTrue result → IsSome tol }
-{
-    let Some(_) = tol else {
-        return false;
-    };
-    matches!(list, Candidates::Fits { .. })
-}
 
 /// Picks one of the candidates that are about as good as the best, by the next draw: those whose error
 /// per filled cell is at most that of the best and `tol` hundredths of it. All of them are where `tol` is
@@ -82,7 +43,9 @@ pub fn pick(
     ensures kept { OnErr result (draws.new ≡ draws.old) }
     ensures memory { OnErr result (IsSome tol) }
 {
-    let sums = SampleSums::make_if(alloc, sample, goes_by_sums(list, tol))?;
+    // A pick goes by these sums where its candidates are those of one box, and their errors are summed.
+    let go_by_sums = tol.is_some() && matches!(list, Candidates::Fits { .. });
+    let sums = SampleSums::make_if(alloc, sample, go_by_sums)?;
     pick_with(alloc, list, tol, canvas, sample, &sums, draws)
 }
 
@@ -109,7 +72,12 @@ pub fn pick_with(
     ensures kept { OnErr result (draws.new ≡ draws.old) }
     ensures memory { OnErr result (IsSome tol) }
 {
-    let i = picked_at(alloc, list, tol, canvas, sample, sums, draws)?;
+    let Some(tol) = tol else {
+        let i = draws.below(count_for(list, canvas, sample));
+        return Ok(entry_for(list, canvas, sample, i));
+    };
+    let short = shortlist_of(alloc, list, tol, canvas, sample, sums)?;
+    let i = short.picked(draws);
     Ok(entry_for(list, canvas, sample, i))
 }
 

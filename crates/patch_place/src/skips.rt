@@ -32,25 +32,6 @@ struct Pace {
 }
 
 impl Pace {
-    // Before the first run.
-    fn start() -> Pace {
-        Pace {
-            gone: 0,
-            left: 0,
-            passed: 0,
-            wait: 0,
-        }
-    }
-
-    // Whether a candidate is passed over.
-    fn waits(&mut self) -> bool {
-        if self.wait == 0 {
-            return false;
-        }
-        self.wait -= 1;
-        true
-    }
-
     // Counts so many candidates of the run at hand that were eliminated, or one that was left.
     fn count(&mut self, gone: u32) {
         if gone > 0 {
@@ -99,7 +80,12 @@ impl Skips {
         Skips {
             run: Eliminated::none(),
             serve: true,
-            pace: Pace::start(),
+            pace: Pace {
+                gone: 0,
+                left: 0,
+                passed: 0,
+                wait: 0,
+            },
             pauses: Pauses::none(),
         }
     }
@@ -123,7 +109,8 @@ impl Skips {
         if !self.serve || limit == u64::MAX {
             return;
         }
-        if self.pace.waits() {
+        if self.pace.wait > 0 {
+            self.pace.wait -= 1;
             return;
         }
         if self.run.covers(placement.from) {

@@ -17,14 +17,6 @@ use patch_picks::{Candidates, Draws, Mode};
 use search_squares::SampleSums;
 use std::alloc::{AllocError, Global};
 
-// Whether a mode's picks go by the sums of the sample's blocks: those of `Sub` alone, which picks among the
-// candidates of one box.
-fn goes_by_sums(mode: &Mode) -> bool
-    ensures { IsTrue result → IsSome (tolerance mode.now) }
-{
-    matches!(mode, Mode::Sub { .. })
-}
-
 // The candidates of a mode for the first unfilled cell.
 fn candidates_for(mode: &Mode, q: At, canvas: &Canvas, sample: &Volume) -> Candidates
     requires patch { HasPatch mode.now }
@@ -38,33 +30,6 @@ fn candidates_for(mode: &Mode, q: At, canvas: &Canvas, sample: &Volume) -> Candi
     ensures fit { AllFit canvas.now sample.now result }
 {
     mode.candidates(q, canvas.map().size(), sample)
-}
-
-// The placement that a mode makes for the first unfilled cell.
-fn placement_over(
-    alloc: Global,
-    mode: &Mode,
-    q: At,
-    canvas: &Canvas,
-    sample: &Volume,
-    sums: &SampleSums,
-    draws: &mut Draws,
-) -> Result<Placement, AllocError>
-    requires over { StandsOver canvas.now sample.now }
-    requires sums { AreSampleSums sample.now sums.now }
-    requires patch { HasPatch mode.now }
-    requires inside { IsInside canvas.now.map.size q }
-    ensures chosen { IfOk result (IsChosen mode.now canvas.now.map sample.now draws.old q) }
-    ensures fits { IfOk result (FitsAndCovers canvas.now.map.size sample.now q) }
-    ensures next { OnOk result (draws.new ≡ draws_after mode.now draws.old) }
-    ensures kept { OnErr result (draws.new ≡ draws.old) }
-    ensures memory { OnErr result (IsSome (tolerance mode.now)) }
-{
-    let list = candidates_for(mode, q, canvas, sample);
-    if let Mode::Grid { .. } = mode {
-        return Ok(entry_for(&list, canvas, sample, 0));
-    }
-    pick_with(alloc, &list, mode.tolerance(), canvas, sample, sums, draws)
 }
 
 /// The next placement of a mode, for the first unfilled cell, which it covers; None where the canvas is
@@ -86,7 +51,8 @@ pub fn next_placement(
     let Some(_) = canvas.first_unfilled() else {
         return Ok(None);
     };
-    let sums = SampleSums::make_if(alloc, sample, goes_by_sums(mode))?;
+    // The picks of `Sub` alone go by these sums: it picks among the candidates of one box.
+    let sums = SampleSums::make_if(alloc, sample, matches!(mode, Mode::Sub { .. }))?;
     next_placement_with(alloc, mode, canvas, sample, &sums, draws)
 }
 
@@ -107,6 +73,10 @@ pub fn next_placement_with(
     let Some(q) = canvas.first_unfilled() else {
         return Ok(None);
     };
-    let placement = placement_over(alloc, mode, q, canvas, sample, sums, draws)?;
+    let list = candidates_for(mode, q, canvas, sample);
+    if let Mode::Grid { .. } = mode {
+        return Ok(Some(entry_for(&list, canvas, sample, 0)));
+    }
+    let placement = pick_with(alloc, &list, mode.tolerance(), canvas, sample, sums, draws)?;
     Ok(Some(placement))
 }

@@ -11,3 +11,6 @@ returns-then-is_less-clause-best c = λ errors is.
 
 pub returns-else-is_less-clause-best : goal.returns-else-is_less-clause-best
 returns-else-is_less-clause-best c = grind (arith, common_steps)
+
+pub returns-in-None-clause-best : goal.returns-in-None-clause-best
+returns-in-None-clause-best c = grind (arith, common_steps)

@@ -19,3 +19,6 @@ box_shortlist-requires-clause-asked c =
 
 pub box_shortlist-requires-clause-ready : goal.box_shortlist-requires-clause-ready
 box_shortlist-requires-clause-ready c = grind (arith, common_steps)
+
+pub returns-in_ok-overlaps-in-Fits : goal.returns-in_ok-overlaps-in-Fits
+returns-in_ok-overlaps-in-Fits c = grind (arith, common_steps)

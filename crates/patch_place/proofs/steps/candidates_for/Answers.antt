@@ -1,3 +1,5 @@
+use Rattle.std.proofs.Common.{arith}
+use Rattle.std.proofs.lemmas.Grind.{common_steps}
 use Rattle.std.proofs.Common.{◌≡◌, subst}
 use Rattle.cells.specs.Places.{IsInside}
 use Rattle.patch_picks.specs.Picks.{listed_on}
@@ -16,3 +18,6 @@ returns-clause-over c =
 
 pub returns-clause-fit : goal.returns-clause-fit
 returns-clause-fit c = all_fit_over c.args.canvas.now.map.size c.args.sample.now c.args.q (listed_on c.args.canvas.now c.args.sample.now c.candidates.result) (returns-clause-over c)
+
+pub returns-clause-some : goal.returns-clause-some
+returns-clause-some c = grind (arith, common_steps)

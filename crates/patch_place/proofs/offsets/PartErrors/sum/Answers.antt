@@ -1,3 +1,4 @@
+use Rattle.std.proofs.lemmas.Grind.{common_steps}
 use Rattle.std.proofs.Common.{subst, arith}
 use Rattle.std.specs.Prelude.{IfSome}
 use Rattle.std.proofs.lemmas.Option.{IfSome_then}
@@ -11,3 +12,6 @@ returns-in-Some-clause-small c =
     let small = error_small m c.args.sample.now c.args.placement.now c.map-map.ensures.canvas.map.small c.samples-sample.ensures.volume c.requires.fits in
     let errors : AreErrors m c.args.sample.now c.in-Some.errors = subst (λ errors. IfSome errors (AreErrors m c.args.sample.now)) c.in-Some.is c.requires.errors in
     IfSome_then c.sum.result (c.sum.ensures m c.args.sample.now errors c.requires.fits) (λ sum is. omega (arith, is, small))
+
+pub returns-in-Some-clause-sum : goal.returns-in-Some-clause-sum
+returns-in-Some-clause-sum c = grind (arith, common_steps)

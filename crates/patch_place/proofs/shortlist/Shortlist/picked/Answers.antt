@@ -1,3 +1,4 @@
+use Rattle.std.proofs.lemmas.Grind.{common_steps}
 use Rattle.std.proofs.Common.{ap, length, inr, subst, ◌∙◌, arith}
 use Rattle.std.specs.List.{count_by}
 use Rattle.patch_place.specs.Tables.{IsNth, is_near}
@@ -24,3 +25,18 @@ returns-in-Some-clause-picked c = λ table is.
           (c.near_count.ensures ∙ ap (count_by test) c.deref.ensures.value) c.below-nth.ensures.drawn
           (subst (λ entries. IsNth test entries c.below-nth.result c.nth_near.result) c.deref-in-Some.ensures.value c.nth_near.ensures),
     )
+
+pub nth_near-requires-clause-low : goal.nth_near-requires-clause-low
+nth_near-requires-clause-low c = grind (arith, common_steps)
+
+pub nth_near-requires-clause-best : goal.nth_near-requires-clause-best
+nth_near-requires-clause-best c = grind (arith, common_steps)
+
+pub nth_near-requires-clause-below : goal.nth_near-requires-clause-below
+nth_near-requires-clause-below c = grind (arith, common_steps)
+
+pub nth_near-requires-clause-filled : goal.nth_near-requires-clause-filled
+nth_near-requires-clause-filled c = grind (arith, common_steps)
+
+pub near_count-requires-clause-low : goal.near_count-requires-clause-low
+near_count-requires-clause-low c = grind (arith, common_steps)

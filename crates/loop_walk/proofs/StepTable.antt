@@ -1,6 +1,7 @@
 -- The table of the step costs, made of the steps.
-use Rattle.std.proofs.Common.{◌≡◌, ℕ, ◌+◌, ◌*◌, ◌/◌, ◌%◌, ◌^◌, ◌<◌, List, length, get_or, ap, sym, ◌∙◌, subst, arith}
+use Rattle.std.proofs.Common.{◌≡◌, ℕ, ◌+◌, ◌*◌, ◌/◌, ◌%◌, ◌^◌, ◌<◌, List, length, get_or, refl, ap, sym, ◌∙◌, subst, arith}
 use Rattle.std.specs.Prelude.{Option, None, Some, IfSome}
+use Rattle.std.specs.Option.{unwrap_or}
 use Rattle.std.proofs.lemmas.Nat.{mul-add-lt}
 use Rattle.std.proofs.lemmas.List.FromFn.{get_or-map-range_with_len}
 use Rattle.frame_distance.specs.Tables.{entries_of}
@@ -8,12 +9,16 @@ use Rattle.frame_distance.specs.Steps.{Steps, AreSteps, step_at}
 use Rattle.frame_distance.proofs.EntryLaws.{entries_of-inside, length-entries_of, row_below, column_below}
 use Rattle.frame_distance.proofs.StepLaws.{step_at-inside}
 use Rattle.loop_walk.specs.Tables.{table_entry}
-use Rattle.loop_walk.specs.Products.{IsNoneOrAtMost, IsStepTable, step_numbers}
+use Rattle.loop_walk.specs.Products.{IsNoneOrAtMost, IsStepTable, step_number, step_numbers}
 use Rattle.loop_walk.proofs.Numbers.{entry_of-number_of, small-number_of}
 
 below_more : (o : Option ℕ) → IfSome o (λ x. x < 2 ^ 46) → IfSome o (λ x. x < 18446744073709551615)
 below_more None small = tt
 below_more (Some x) small = omega arith
+
+pub unwrapped : (o : Option ℕ) → unwrap_or o 18446744073709551615 ≡ step_number o
+unwrapped None = refl
+unwrapped (Some x) = refl
 
 module _ (costs : Steps) (are : AreSteps costs) where
   pub step_small : (i j : ℕ) → i < costs.frames → j < costs.frames → IfSome (step_at costs i j) (λ x. x < 2 ^ 46)

@@ -43,14 +43,6 @@ fn fill_bases(n: usize, nears: &[u64], bases: &mut [u64])
     }
 }
 
-// What is left of a number.
-fn rest_of(base: u64, number: u64) -> u32
-    requires { base ≤ number }
-    ensures { result ≡ rest_of base number }
-{
-    (number - base).min(u64::from(GREATEST_REST)) as u32
-}
-
 // What is left of the numbers of a row.
 fn fill_rests(base: u64, numbers: &[u64], rests: &mut [u32])
     requires base { IsBase numbers.now base }
@@ -59,7 +51,7 @@ fn fill_rests(base: u64, numbers: &[u64], rests: &mut [u32])
     ensures small { AreSmallRests rests.new }
 {
     for k in 0..numbers.len() {
-        rests[k] = rest_of(base, numbers[k]);
+        rests[k] = (numbers[k] - base).min(u64::from(GREATEST_REST)) as u32;
     }
 }
 

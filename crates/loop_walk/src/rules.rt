@@ -15,19 +15,7 @@ use limits::{LONGEST_LOOP, MOST_LOOP_FRAMES};
 // The most entries of a table.
 const GREATEST_TABLE: usize = MOST_LOOP_FRAMES as usize * MOST_LOOP_FRAMES as usize;
 
-// The frame after the one at a position, which is the first one after the last.
-fn frame_after(walk: &[u16], position: usize) -> u32
-    requires { position < length_of walk.now }
-    ensures { result ≡ (slice_index_or (steps_round walk.now) position (0, 0)).1 }
-{
-    if position + 1 < walk.len() {
-        u32::from(walk[position + 1])
-    } else {
-        u32::from(walk[0])
-    }
-}
-
-// The step from the frame at a position to the next one.
+// The step from the frame at a position to the next one, which is the first one after the last.
 fn step_round(costs: &StepCosts, walk: &[u16], position: usize) -> Option<u64>
     requires { position < length_of walk.now }
     ensures cost { result ≡ step_round_at costs.now walk.now position }
@@ -35,7 +23,11 @@ fn step_round(costs: &StepCosts, walk: &[u16], position: usize) -> Option<u64>
 {
     let n = costs.frames();
     let from = u32::from(walk[position]);
-    let to = frame_after(walk, position);
+    let to = if position + 1 < walk.len() {
+        u32::from(walk[position + 1])
+    } else {
+        u32::from(walk[0])
+    };
     if from < n && to < n {
         costs.step(from, to)
     } else {
@@ -162,16 +154,6 @@ pub fn check_tables(costs: &StepCosts, tables: &[u64], length: u32) -> Result<()
     }
 }
 
-// A diagonal entry says of no walk that it costs less.
-fn allows_cost(entry: Option<u64>, cost: u64) -> bool
-    ensures { IsTrue result ↔ AtMost (Some cost) entry }
-{
-    match entry {
-        None => true,
-        Some(least) => cost <= least,
-    }
-}
-
 /// Whether the cost is at most each diagonal entry of the last table.
 pub fn check_diagonal(
     costs: &StepCosts,
@@ -188,11 +170,14 @@ pub fn check_diagonal(
 {
     let t = table_count(length) as usize;
     for i in 0..costs.frames() {
-        if !allows_cost(entry_in(costs, tables, t, i, i), cost) {
-            return Err(LoopFault {
-                kind: DIAGONAL_RULE,
-                place: u64::from(i),
-            });
+        // None allows any cost.
+        if let Some(least) = entry_in(costs, tables, t, i, i) {
+            if cost > least {
+                return Err(LoopFault {
+                    kind: DIAGONAL_RULE,
+                    place: u64::from(i),
+                });
+            }
         }
     }
     Ok(())

@@ -38,15 +38,6 @@ pub fn second_table(length: u32, t: usize) -> usize
     if length % 2 == 1 { 0 } else { t }
 }
 
-// A step as a number.
-fn step_number(costs: &StepCosts, i: u32, j: u32) -> u64
-    requires from { i < costs.now.frames }
-    requires to { j < costs.now.frames }
-    ensures { result ≡ step_numbers costs.now i j }
-{
-    costs.step(i, j).unwrap_or(NONE)
-}
-
 /// The step costs as a table.
 pub fn step_table(alloc: Global, costs: &StepCosts) -> Result<Vec<u64>, AllocError>
     ensures { IfOk result (λ table. IsStepTable costs.now table.items) }
@@ -54,8 +45,8 @@ pub fn step_table(alloc: Global, costs: &StepCosts) -> Result<Vec<u64>, AllocErr
     let n = costs.frames();
     let mut table = Vec::with_capacity(alloc, n as usize * n as usize)?;
     for k in 0..n * n {
-        let number = step_number(costs, k / n, k % n);
-        table.push(number)?;
+        let step = costs.step(k / n, k % n);
+        table.push(step.unwrap_or(NONE))?;
     }
     Ok(table)
 }
